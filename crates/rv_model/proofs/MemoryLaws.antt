@@ -1,0 +1,179 @@
+-- What the definitions of a memory give at one address
+use Rattle.std.proofs.Common.{◌≡◌, ◌≢◌, ℕ, zero, suc, ◌+◌, ◌-◌, ◌*◌, ◌<◌, ◌≤◌, Bool, true, false, cond, eqb, ◌&&◌, List, [], ◌∷◌, ◌++◌, length, get_or, map, Option, Some, None, refl, sym, ◌∙◌, ap, subst, ◌⊎◌, inl, inr, arith, ne_eqb, eq-eqb, add-one}
+use Rattle.std.specs.Prelude.{is_some}
+use Rattle.std.specs.Ordering.{nat_cmp, eq_by_cmp}
+use Rattle.std.specs.Cmp.{unsigned_tied, nat_cmp_total}
+use Rattle.std.specs.List.{list_all, range_with_len}
+use Rattle.std.specs.Option.{option_map, option_map_or}
+use Rattle.std.specs.FinMap.{FinMap, empty, get, insert, len, contains_key, get-insert, len-insert, same_map, nat_cmp-IsAntisymmetric}
+use Rattle.std.proofs.lemmas.List.FromFn.{length-map-range_with_len, get_or-map-range_with_len, map-range_with_len_more}
+use Rattle.std.proofs.lemmas.Bool.{and_parts, and_from, cases_eq, cond-false, cond-true}
+use Rattle.rv_model.specs.declared.memory.Access.{Access}
+use Rattle.rv_model.specs.declared.memory.Permissions.{Permissions}
+use Rattle.rv_model.specs.Memory.{Cell, Memory, permits, byte_at, is_allowed, can_access, bytes_at, put_byte, put_bytes, add_cells, with_pages}
+
+-- two memories that answer alike are equal
+pub same_memory : (m n : Memory) → ((x : ℕ) → get m x ≡ get n x) → m ≡ n
+same_memory m n h = same_map nat_cmp_total nat_cmp-IsAntisymmetric m n h
+
+pub get-insert_same : {X : Type 0} (m : FinMap nat_cmp X) (a : ℕ) (c : X) → get (insert m a c) a ≡ Some c
+get-insert_same m a c =
+    get-insert nat_cmp_total m a c a ∙ ap (λ b. cond b (Some c) (get m a)) (unsigned_tied a a ∙ eq-eqb a a refl)
+
+pub get-insert_other : {X : Type 0} (m : FinMap nat_cmp X) (a : ℕ) (c : X) (x : ℕ) → x ≢ a → get (insert m a c) x ≡ get m x
+get-insert_other m a c x h =
+    get-insert nat_cmp_total m a c x ∙ ap (λ b. cond b (Some c) (get m x)) (unsigned_tied x a ∙ ne_eqb x a h)
+
+-- a cell with another byte
+abbrev pub with_byte : ℕ → Option Cell → Option Cell
+with_byte b o = option_map (λ c. record { byte = b; permissions = c.permissions }) o
+
+put_at : Memory → ℕ → ℕ → Option Cell → Memory
+put_at m a b o = option_map_or (λ c. insert m a (record { byte = b; permissions = c.permissions })) o m
+
+put_at_same : (m : Memory) (a b : ℕ) (o : Option Cell) → get m a ≡ o → get (put_at m a b o) a ≡ with_byte b o
+unfolding put_at
+put_at_same m a b None e = e
+put_at_same m a b (Some c) e = get-insert_same m a _
+
+put_at_other : (m : Memory) (a b x : ℕ) (o : Option Cell) → x ≢ a → get (put_at m a b o) x ≡ get m x
+unfolding put_at
+put_at_other m a b x None h = refl
+put_at_other m a b x (Some c) h = get-insert_other m a _ x h
+
+pub get-put_byte_same : (m : Memory) (a b : ℕ) → get (put_byte m a b) a ≡ with_byte b (get m a)
+unfolding put_byte put_at
+get-put_byte_same m a b = put_at_same m a b (get m a) refl
+
+pub get-put_byte_other : (m : Memory) (a b x : ℕ) → x ≢ a → get (put_byte m a b) x ≡ get m x
+unfolding put_byte put_at
+get-put_byte_other m a b x h = put_at_other m a b x (get m a) h
+
+pub get-put_bytes_outside : (m : Memory) (a : ℕ) (bs : List ℕ) (x : ℕ) → ((x < a) ⊎ (a + length bs ≤ x)) → get (put_bytes m a bs) x ≡ get m x
+unfolding put_bytes
+get-put_bytes_outside m a [] x h = refl
+get-put_bytes_outside m a (b ∷ bs) x h =
+    let apart : x ≢ a = λ e. elim h [ inl l ↦ omega arith | inr g ↦ omega arith ] in
+    let rest : ((x < a + 1) ⊎ ((a + 1) + length bs ≤ x)) = elim h [ inl l ↦ inl (omega arith) | inr g ↦ inr (omega arith) ] in
+    get-put_bytes_outside (put_byte m a b) (a + 1) bs x rest ∙ get-put_byte_other m a b x apart
+
+pub get-put_bytes_within : (m : Memory) (a : ℕ) (bs : List ℕ) (k x : ℕ) → k < length bs → x ≡ a + k → get (put_bytes m a bs) x ≡ with_byte (get_or bs k 0) (get m x)
+unfolding put_bytes
+get-put_bytes_within m a [] k x h e = absurd (omega arith)
+get-put_bytes_within m a (b ∷ bs) zero x h e =
+    let same : x ≡ a = omega arith in
+    get-put_bytes_outside (put_byte m a b) (a + 1) bs x (inl (omega arith))
+    ∙ subst (λ (y : ℕ). get (put_byte m a b) y ≡ with_byte b (get m y)) (sym same) (get-put_byte_same m a b)
+get-put_bytes_within m a (b ∷ bs) (suc k) x h e =
+    let apart : x ≢ a = λ q. omega arith in
+    get-put_bytes_within (put_byte m a b) (a + 1) bs k x (omega arith) (omega arith)
+    ∙ ap (with_byte (get_or bs k 0)) (get-put_byte_other m a b x apart)
+
+allowed_by : Access → Option Cell → Bool
+allowed_by access o = option_map_or (λ c. permits access c.permissions) o false
+
+allowed_by-with_byte : (access : Access) (b : ℕ) (o : Option Cell) → allowed_by access (with_byte b o) ≡ allowed_by access o
+unfolding allowed_by
+allowed_by-with_byte access b None = refl
+allowed_by-with_byte access b (Some c) = refl
+
+is_allowed-put_byte : (access : Access) (m : Memory) (a b x : ℕ) → is_allowed access (put_byte m a b) x ≡ is_allowed access m x
+unfolding is_allowed allowed_by
+is_allowed-put_byte access m a b x = elim (cases_eq x a) [
+  | inl e ↦ subst (λ (y : ℕ). allowed_by access (get (put_byte m a b) y) ≡ allowed_by access (get m y)) (sym e) (ap (allowed_by access) (get-put_byte_same m a b) ∙ allowed_by-with_byte access b (get m a))
+  | inr n ↦ ap (allowed_by access) (get-put_byte_other m a b x n)
+]
+
+-- permissions stay where bytes are written
+pub is_allowed-put_bytes : (access : Access) (m : Memory) (a : ℕ) (bs : List ℕ) (x : ℕ) → is_allowed access (put_bytes m a bs) x ≡ is_allowed access m x
+unfolding put_bytes
+is_allowed-put_bytes access m a [] x = refl
+is_allowed-put_bytes access m a (b ∷ bs) x = is_allowed-put_bytes access (put_byte m a b) (a + 1) bs x ∙ is_allowed-put_byte access m a b x
+
+pub put_bytes-append : (m : Memory) (a : ℕ) (bs cs : List ℕ) → put_bytes m a (bs ++ cs) ≡ put_bytes (put_bytes m a bs) (a + length bs) cs
+unfolding put_bytes
+put_bytes-append m a [] cs = ap (λ (x : ℕ). put_bytes m x cs) (omega arith)
+put_bytes-append m a (b ∷ bs) cs =
+    put_bytes-append (put_byte m a b) (a + 1) bs cs
+    ∙ ap (λ (x : ℕ). put_bytes (put_bytes (put_byte m a b) (a + 1) bs) x cs) (omega arith)
+
+pub get-add_cells_outside : (m : Memory) (a n : ℕ) (f : ℕ → Cell) (x : ℕ) → ((x < a) ⊎ (a + n ≤ x)) → get (add_cells m a n f) x ≡ get m x
+unfolding add_cells
+get-add_cells_outside m a zero f x h = refl
+get-add_cells_outside m a (suc n) f x h =
+    let apart : x ≢ a + n = λ e. elim h [ inl l ↦ omega arith | inr g ↦ omega arith ] in
+    let rest : ((x < a) ⊎ (a + n ≤ x)) = elim h [ inl l ↦ inl l | inr g ↦ inr (omega arith) ] in
+    get-insert_other (add_cells m a n f) (a + n) (f n) x apart ∙ get-add_cells_outside m a n f x rest
+
+pub get-add_cells_within : (m : Memory) (a n : ℕ) (f : ℕ → Cell) (k x : ℕ) → k < n → x ≡ a + k → get (add_cells m a n f) x ≡ Some (f k)
+unfolding add_cells
+get-add_cells_within m a zero f k x h e = absurd (omega arith)
+get-add_cells_within m a (suc n) f k x h e = elim (cases_eq k n) [
+  | inl same ↦
+      let here : a + n ≡ x = omega arith in
+      subst (λ (y : ℕ). get (insert (add_cells m a n f) (a + n) (f n)) y ≡ Some (f n)) here (get-insert_same (add_cells m a n f) (a + n) (f n))
+      ∙ ap (λ (j : ℕ). Some (f j)) (sym same)
+  | inr other ↦
+      let less : k < n = omega arith in
+      get-insert_other (add_cells m a n f) (a + n) (f n) x (λ q. other (omega arith)) ∙ get-add_cells_within m a n f k x less e
+]
+
+-- where none of the addresses was mapped
+pub len-add_cells : (m : Memory) (a n : ℕ) (f : ℕ → Cell) → ((k : ℕ) → k < n → get m (a + k) ≡ None) → len (add_cells m a n f) ≡ len m + n
+unfolding add_cells
+len-add_cells m a zero f h = omega arith
+len-add_cells m a (suc n) f h =
+    let rest = len-add_cells m a n f (λ k l. h k (omega arith)) in
+    let new : get (add_cells m a n f) (a + n) ≡ None = get-add_cells_outside m a n f (a + n) (inr (omega arith)) ∙ h n (omega arith) in
+    len-insert nat_cmp_total (add_cells m a n f) (a + n) (f n)
+    ∙ ap (λ (o : Option Cell). cond (is_some o) (len (add_cells m a n f)) (len (add_cells m a n f) + 1)) new
+    ∙ omega (arith, rest)
+
+pub length-bytes_at : (m : Memory) (a n : ℕ) → length (bytes_at m a n) ≡ n
+unfolding bytes_at
+length-bytes_at m a n = length-map-range_with_len (byte_at m) a n
+
+pub get_or-bytes_at : (m : Memory) (a n k x : ℕ) → k < n → x ≡ a + k → get_or (bytes_at m a n) k 0 ≡ byte_at m x
+unfolding bytes_at
+get_or-bytes_at m a n k x h e = get_or-map-range_with_len (byte_at m) a n k x 0 h (sym e)
+
+pub bytes_at_more : (m : Memory) (a n : ℕ) → bytes_at m a (n + 1) ≡ bytes_at m a n ++ byte_at m (a + n) ∷ []
+unfolding bytes_at
+bytes_at_more m a n = map-range_with_len_more (byte_at m) a n (a + n) refl
+
+pub can_access-at : (access : Access) (m : Memory) (a n k x : ℕ) → can_access access m a n ≡ true → k < n → x ≡ a + k → is_allowed access m x ≡ true
+unfolding can_access
+can_access-at access m a zero k x t h e = absurd (omega arith)
+can_access-at access m a (suc n) zero x t h e =
+    let same : x ≡ a = omega arith in ap (is_allowed access m) same ∙ (and_parts _ _ t).0
+can_access-at access m a (suc n) (suc k) x t h e =
+    can_access-at access m (a + 1) n k x (and_parts (is_allowed access m a) _ t).1 (omega arith) (omega arith)
+
+pub can_access_from : (access : Access) (m : Memory) (a n : ℕ) → ((k : ℕ) → k < n → is_allowed access m (a + k) ≡ true) → can_access access m a n ≡ true
+unfolding can_access
+can_access_from access m a zero h = refl
+can_access_from access m a (suc n) h =
+    let here : a + 0 ≡ a = omega arith in
+    and_from _ _ (ap (is_allowed access m) (sym here) ∙ h 0 (omega arith))
+    (can_access_from access m (a + 1) n (λ k l. let e : (a + 1) + k ≡ a + suc k = omega arith in ap (is_allowed access m) e ∙ h (suc k) (omega arith)))
+
+pub can_access_not : (access : Access) (m : Memory) (a n k x : ℕ) → k < n → x ≡ a + k → is_allowed access m x ≡ false → can_access access m a n ≡ false
+can_access_not access m a n k x h e refused = split (can_access access m a n) refl
+  where
+    split : (b : Bool) → can_access access m a n ≡ b → can_access access m a n ≡ false
+    split true t = absurd (let yes = can_access-at access m a n k x t h e in let bad : true ≡ false = sym yes ∙ refused in cc)
+    split false t = t
+
+-- ---- how many addresses are mapped
+
+len_put_at : (m : Memory) (a b : ℕ) (o : Option Cell) → get m a ≡ o → len (put_at m a b o) ≡ len m
+unfolding put_at
+len_put_at m a b None e = refl
+len_put_at m a b (Some c) e =
+    len-insert nat_cmp_total m a (record { byte = b; permissions = c.permissions })
+    ∙ ap (λ (o : Option Cell). cond (is_some o) (len m) (len m + 1)) e
+
+pub len-put_bytes : (m : Memory) (a : ℕ) (bs : List ℕ) → len (put_bytes m a bs) ≡ len m
+unfolding put_bytes put_byte put_at
+len-put_bytes m a [] = refl
+len-put_bytes m a (b ∷ bs) = len-put_bytes (put_byte m a b) (a + 1) bs ∙ len_put_at m a b (get m a) refl

@@ -1,0 +1,83 @@
+-- A user's memory as a finite map from addresses to (byte, permissions)
+use Rattle.std.specs.Prelude.{◌≡◌, ℕ, ◌+◌, ◌*◌, ◌/◌, ◌-◌, Bool, true, false, ◌&&◌, ◌||◌, cond, nat_lt, nat_le, List, [], ◌∷◌, zero, suc, map, Option, Some, None, refl}
+use Rattle.std.specs.List.{list_all, list_any, range_with_len}
+use Rattle.std.specs.Option.{option_map, option_map_or}
+use Rattle.std.specs.Ordering.{nat_cmp}
+use Rattle.std.specs.FinMap.{FinMap, empty, get, insert, len, contains_key, code}
+use Rattle.std.specs.Coded.{Coded, code_by, coded×, coded_ℕ, coded_bool}
+use Rattle.rv_model.specs.declared.memory.Permissions.{Permissions}
+use Rattle.rv_model.specs.declared.memory.Access.{Access}
+use Rattle.rv_model.specs.declared.memory.Access.TheVariants.{Fetch, Load, Store, Monitor}
+use Rattle.rv_model.specs.declared.memory.MapRefusal.{MapRefusal}
+use Rattle.rv_model.specs.declared.memory.MapRefusal.TheVariants.{Quota, AlreadyMapped}
+
+-- what stands at a mapped address
+pub record Cell : Type 0 where
+  pub byte : ℕ
+  pub permissions : Permissions
+
+abbrev pub Memory : Type 0
+Memory = FinMap nat_cmp Cell
+
+-- a cell is stored as the byte and three flags
+abbrev pub coded_cell : Coded Cell
+coded_cell =
+    code_by (ℕ × (Bool × (Bool × Bool))) (coded× coded_ℕ (coded× coded_bool (coded× coded_bool coded_bool)))
+    (λ c. (c.byte, (c.permissions.read, (c.permissions.write, c.permissions.execute))))
+    (λ p. record { byte = p.0; permissions = record { read = p.1.0; write = p.1.1.0; execute = p.1.1.1 } }) (λ _. refl)
+
+abbrev pub coded_memory : Coded Memory
+coded_memory = code coded_ℕ coded_cell
+
+abbrev pub permits : Access → Permissions → Bool
+permits Fetch p = p.execute
+permits Load p = p.read
+permits Store p = p.write
+permits Monitor p = true
+
+-- the byte at an address, 0 where none is mapped
+unfoldable pub byte_at : Memory → ℕ → ℕ
+byte_at m a = option_map_or (λ c. c.byte) (get m a) 0
+
+-- whether the byte at an address may be accessed
+unfoldable pub is_allowed : Access → Memory → ℕ → Bool
+is_allowed access m a = option_map_or (λ c. permits access c.permissions) (get m a) false
+
+-- whether each of the n bytes from a on may be
+unfoldable pub can_access : Access → Memory → ℕ → ℕ → Bool
+can_access access m a n = list_all (is_allowed access m) (range_with_len a n)
+
+-- the n bytes from a on
+unfoldable pub bytes_at : Memory → ℕ → ℕ → List ℕ
+bytes_at m a n = map (byte_at m) (range_with_len a n)
+
+-- b written at a mapped address; nothing happens at another
+unfoldable pub put_byte : Memory → ℕ → ℕ → Memory
+put_byte m a b = option_map_or (λ c. insert m a (record { byte = b; permissions = c.permissions })) (get m a) m
+
+-- these bytes written from a on
+unfoldable pub put_bytes : Memory → ℕ → List ℕ → Memory
+put_bytes m a [] = m
+put_bytes m a (b ∷ bs) = put_bytes (put_byte m a b) (a + 1) bs
+
+-- n cells from a on, given by their offset
+unfoldable pub add_cells : Memory → ℕ → ℕ → (ℕ → Cell) → Memory
+add_cells m a zero f = m
+add_cells m a (suc n) f = insert (add_cells m a n f) (a + n) (f n)
+
+-- pages of zeros
+unfoldable pub with_pages : Memory → ℕ → ℕ → Permissions → Memory
+with_pages m page count permissions = add_cells m (4096 * page) (4096 * count) (λ _. record { byte = 0; permissions = permissions })
+
+unfoldable pub page_count : Memory → ℕ
+page_count m = len m / 4096
+
+-- whether one of these pages is mapped
+unfoldable pub any_page_mapped : Memory → ℕ → ℕ → Bool
+any_page_mapped m page count = list_any (λ p. contains_key m (4096 * p)) (range_with_len page count)
+
+-- why these pages can't be mapped
+unfoldable pub map_refusal : Memory → ℕ → ℕ → Option MapRefusal
+map_refusal m page count =
+    cond (nat_lt 256 (page_count m + count)) (Some Quota)
+    (cond (any_page_mapped m page count) (Some AlreadyMapped) None)

@@ -1,0 +1,47 @@
+//! What a user's memory allows.
+ghost use Rattle.std.specs.Prelude.{◌≡◌};
+ghost use Rattle.rv_model.specs.Memory.{permits};
+
+/// What a page may be used for.
+#[derive(Clone, Copy, Debug, Default, PartialEq, Eq)]
+pub struct Permissions {
+    pub read: bool,
+    pub write: bool,
+    pub execute: bool,
+}
+
+/// Why memory is accessed. A program fetches, loads and stores; the monitor looks at any mapped page.
+#[derive(Clone, Copy, Debug, PartialEq, Eq)]
+pub enum Access {
+    Fetch,
+    Load,
+    Store,
+    Monitor,
+}
+
+/// An access that isn't wholly allowed, by its first address.
+#[derive(Clone, Copy, Debug, PartialEq, Eq)]
+pub struct Fault {
+    pub addr: u64,
+}
+
+/// Why pages can't be mapped: too many of the user's own, or one of them is there.
+#[derive(Clone, Copy, Debug, PartialEq, Eq)]
+pub enum MapRefusal {
+    Quota,
+    AlreadyMapped,
+}
+
+impl Access {
+    /// Whether a page with these permissions allows the access.
+    pub fn is_permitted(self, permissions: Permissions) -> bool
+        ensures { result ≡ permits self permissions }
+    {
+        match self {
+            Access::Fetch => permissions.execute,
+            Access::Load => permissions.read,
+            Access::Store => permissions.write,
+            Access::Monitor => true,
+        }
+    }
+}
