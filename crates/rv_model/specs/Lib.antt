@@ -1,1 +1,16 @@
+pub mod Arguments
+pub mod Causes
+pub mod Commands
+pub mod Immediates
+pub mod InstructionTable
 pub mod Memory
+pub mod PrivateMachine
+pub mod Replies
+pub mod Scalar
+pub mod Script
+pub mod Setup
+pub mod Step
+pub mod Text
+pub mod VectorConfiguration
+pub mod VectorState
+pub mod Words

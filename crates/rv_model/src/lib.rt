@@ -1,8 +1,26 @@
 //! The definitions that every contract of the monitor cites, and the small types they speak of.
 #![tactic(auto)]
 
+mod command;
+mod instruction;
 mod memory;
+mod operands;
+mod operations;
+mod policy;
+mod scalar;
+mod step_end;
 mod user;
+mod vector_state;
+mod vector_type;
 
+pub use command::{ByteString, Cmd, Refusal};
+pub use instruction::Instr;
 pub use memory::{Access, Fault, MapRefusal, Permissions};
+pub use operands::{Field, Reg};
+pub use operations::{OpImmOp, SystemOp};
+pub use policy::Policy;
+pub use scalar::Scalar;
+pub use step_end::{Cause, StepEnd, Stop};
 pub use user::User;
+pub use vector_state::{RoundingMode, Seat, VConf, VFile, VState};
+pub use vector_type::{Lmul, Sew, VType};
