@@ -1,0 +1,4 @@
+pub mod Feeding
+pub mod LineBuffer
+pub mod PrefixLaws
+pub mod Runs
