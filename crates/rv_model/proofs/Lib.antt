@@ -1,1 +1,4 @@
+pub mod EventLines
+pub mod Headline
+pub mod LineLaws
 pub mod MemoryLaws

@@ -1,8 +1,10 @@
 pub mod Arguments
 pub mod Causes
 pub mod Commands
+pub mod Examples
 pub mod Immediates
 pub mod InstructionTable
+pub mod Laws
 pub mod Memory
 pub mod PrivateMachine
 pub mod Replies

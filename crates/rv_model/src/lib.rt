@@ -3,6 +3,7 @@
 
 mod command;
 mod instruction;
+mod laws;
 mod memory;
 mod operands;
 mod operations;
@@ -15,6 +16,7 @@ mod vector_type;
 
 pub use command::{ByteString, Cmd, Refusal};
 pub use instruction::Instr;
+pub use laws::{each_user_alone, small_scripts_print};
 pub use memory::{Access, Fault, MapRefusal, Permissions};
 pub use operands::{Field, Reg};
 pub use operations::{OpImmOp, SystemOp};
