@@ -1,0 +1,67 @@
+//! How a program stops, and where it stands then.
+ghost use Rattle.std.specs.Prelude.{◌≡◌, [], ◌∷◌, ◌++◌, ◌+◌, ◌≤◌, length};
+ghost use Rattle.rv_model.specs.Replies.{stop_line as stop_text, step_line as step_text};
+ghost use Rattle.rv_model.specs.Text.{text};
+ghost use Rattle.monitor_cmds.specs.Tag.{tag_byte};
+
+use crate::numerals::{push_decimal, push_hex16};
+use crate::reply::Reply;
+use crate::tag::Tag;
+use rv_model::Stop;
+
+// Adds why a program stopped.
+#[tactic(auto, unfolding(rv_model::specs::Replies::stop_line))]
+fn push_stop(reply: &mut Reply, pc: u64, stop: Stop)
+    requires { length reply.old + 75 ≤ 4096 }
+    ensures text { reply.new ≡ reply.old ++ stop_text pc stop }
+    ensures bound { length reply.new ≤ length reply.old + 75 }
+{
+    match stop {
+        Stop::Breakpoint => reply.push(b"break pc="),
+        Stop::Exit(status) => {
+            reply.push(b"exit ");
+            push_decimal(reply, u64::from(status));
+            reply.push(b" pc=");
+        }
+        Stop::Fault { cause, .. } => {
+            reply.push(b"fault cause=");
+            push_decimal(reply, u64::from(cause.number()));
+            reply.push(b" pc=");
+        }
+    }
+    push_hex16(reply, pc);
+    if let Stop::Fault { value, .. } = stop {
+        reply.push(b" value=");
+        push_hex16(reply, value);
+    }
+}
+
+/// Adds why a program stopped, with the program counter.
+pub fn stop_line(reply: &mut Reply, tag: Tag, pc: u64, stop: Stop)
+    requires { length reply.old + 80 ≤ 4096 }
+    ensures text { reply.new ≡ reply.old ++ text (tag_byte tag) (stop_text pc stop ∷ []) }
+    ensures bound { length reply.new ≤ length reply.old + 80 }
+{
+    reply.push(&[tag.byte(), b' ']);
+    push_stop(reply, pc, stop);
+    reply.push(b"\n");
+}
+
+/// Adds the answer to `step N`: N instructions were carried out, or why the program stopped.
+#[tactic(auto, unfolding(rv_model::specs::Replies::step_line))]
+pub fn step_line(reply: &mut Reply, tag: Tag, count: usize, pc: u64, stop: Option<Stop>)
+    requires { length reply.old + 80 ≤ 4096 }
+    ensures text { reply.new ≡ reply.old ++ text (tag_byte tag) (step_text count pc stop ∷ []) }
+    ensures bound { length reply.new ≤ length reply.old + 80 }
+{
+    let Some(stop) = stop else {
+        reply.push(&[tag.byte(), b' ']);
+        reply.push(b"stepped ");
+        push_decimal(reply, count as u64);
+        reply.push(b" pc=");
+        push_hex16(reply, pc);
+        reply.push(b"\n");
+        return;
+    };
+    stop_line(reply, tag, pc, stop);
+}
