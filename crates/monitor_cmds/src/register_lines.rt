@@ -25,10 +25,10 @@ fn push_register(reply: &mut Reply, scalar: &Scalar, number: usize)
 
 // Adds a line of four registers.
 #[tactic(auto, unfolding(rv_model::specs::Replies::register_line))]
-fn push_register_line(reply: &mut Reply, tag: Tag, scalar: &Scalar, first: usize)
+fn push_register_line(reply: &mut Reply, tag: &Tag, scalar: &Scalar, first: usize)
     requires room { length reply.old + 158 ≤ 4096 }
     requires registers { first + 3 < 32 }
-    ensures text { reply.new ≡ reply.old ++ tagged (tag_byte tag) (register_line scalar.now first) }
+    ensures text { reply.new ≡ reply.old ++ tagged (tag_byte tag.now) (register_line scalar.now first) }
     ensures bound { length reply.new ≤ length reply.old + 158 }
 {
     reply.push(&[tag.byte(), b' ']);
@@ -63,6 +63,6 @@ pub fn registers(reply: &mut Reply, tag: Tag, scalar: &Scalar)
 {
     push_pc_line(reply, tag, scalar.pc);
     for line in 0..8 {
-        push_register_line(reply, tag, scalar, 4 * line);
+        push_register_line(reply, &tag, scalar, 4 * line);
     }
 }

@@ -1,13 +1,34 @@
 //! How a program stops, and where it stands then.
-ghost use Rattle.std.specs.Prelude.{◌≡◌, [], ◌∷◌, ◌++◌, ◌+◌, ◌≤◌, length};
-ghost use Rattle.rv_model.specs.Replies.{stop_line as stop_text, step_line as step_text};
+ghost use Rattle.std.specs.Prelude.{◌≡◌, [], ◌∷◌, ◌++◌, ◌+◌, ◌≤◌, length, codes, decimal};
+ghost use Rattle.rv_model.specs.Causes.{cause_number};
+ghost use Rattle.rv_model.specs.Replies.{hex16, stop_line as stop_text, step_line as step_text};
 ghost use Rattle.rv_model.specs.Text.{text};
 ghost use Rattle.monitor_cmds.specs.Tag.{tag_byte};
 
 use crate::numerals::{push_decimal, push_hex16};
 use crate::reply::Reply;
 use crate::tag::Tag;
-use rv_model::Stop;
+use rv_model::{Cause, Stop};
+
+// Adds where a program stands.
+fn push_pc(reply: &mut Reply, pc: u64)
+    requires { length reply.old + 20 ≤ 4096 }
+    ensures text { reply.new ≡ reply.old ++ codes " pc=" ++ hex16 pc }
+    ensures bound { length reply.new ≡ length reply.old + 20 }
+{
+    reply.push(b" pc=");
+    push_hex16(reply, pc);
+}
+
+// Adds why an instruction faults.
+fn push_cause(reply: &mut Reply, cause: Cause)
+    requires { length reply.old + 32 ≤ 4096 }
+    ensures text { reply.new ≡ reply.old ++ codes "fault cause=" ++ decimal (cause_number cause) }
+    ensures bound { length reply.new ≤ length reply.old + 32 }
+{
+    reply.push(b"fault cause=");
+    push_decimal(reply, u64::from(cause.number()));
+}
 
 // Adds why a program stopped.
 #[tactic(auto, unfolding(rv_model::specs::Replies::stop_line))]
@@ -17,22 +38,21 @@ fn push_stop(reply: &mut Reply, pc: u64, stop: Stop)
     ensures bound { length reply.new ≤ length reply.old + 75 }
 {
     match stop {
-        Stop::Breakpoint => reply.push(b"break pc="),
+        Stop::Breakpoint => {
+            reply.push(b"break pc=");
+            push_hex16(reply, pc);
+        }
         Stop::Exit(status) => {
             reply.push(b"exit ");
             push_decimal(reply, u64::from(status));
-            reply.push(b" pc=");
+            push_pc(reply, pc);
         }
-        Stop::Fault { cause, .. } => {
-            reply.push(b"fault cause=");
-            push_decimal(reply, u64::from(cause.number()));
-            reply.push(b" pc=");
+        Stop::Fault { cause, value } => {
+            push_cause(reply, cause);
+            push_pc(reply, pc);
+            reply.push(b" value=");
+            push_hex16(reply, value);
         }
-    }
-    push_hex16(reply, pc);
-    if let Stop::Fault { value, .. } = stop {
-        reply.push(b" value=");
-        push_hex16(reply, value);
     }
 }
 
@@ -58,8 +78,7 @@ pub fn step_line(reply: &mut Reply, tag: Tag, count: usize, pc: u64, stop: Optio
         reply.push(&[tag.byte(), b' ']);
         reply.push(b"stepped ");
         push_decimal(reply, count as u64);
-        reply.push(b" pc=");
-        push_hex16(reply, pc);
+        push_pc(reply, pc);
         reply.push(b"\n");
         return;
     };
