@@ -20,6 +20,16 @@ fn push_pc(reply: &mut Reply, pc: u64)
     push_hex16(reply, pc);
 }
 
+// Adds the address or the word that caused a fault.
+fn push_value(reply: &mut Reply, value: u64)
+    requires { length reply.old + 23 ≤ 4096 }
+    ensures text { reply.new ≡ reply.old ++ codes " value=" ++ hex16 value }
+    ensures bound { length reply.new ≡ length reply.old + 23 }
+{
+    reply.push(b" value=");
+    push_hex16(reply, value);
+}
+
 // Adds why an instruction faults.
 fn push_cause(reply: &mut Reply, cause: Cause)
     requires { length reply.old + 32 ≤ 4096 }
@@ -50,8 +60,7 @@ fn push_stop(reply: &mut Reply, pc: u64, stop: Stop)
         Stop::Fault { cause, value } => {
             push_cause(reply, cause);
             push_pc(reply, pc);
-            reply.push(b" value=");
-            push_hex16(reply, value);
+            push_value(reply, value);
         }
     }
 }
