@@ -7,6 +7,12 @@ use crate::arguments;
 use crate::words::Words;
 use rv_model::{ByteString, Cmd, Permissions, Refusal};
 
+// The bytes of a page.
+const PAGE: u64 = 4096;
+
+// No page ends beyond this address.
+const LAST_END: u64 = 1 << 48;
+
 // Each reader takes the next word: None where there is none, or where it is out of its form or range.
 
 fn address(words: &mut Words<'_>) -> Option<u64>
@@ -59,7 +65,7 @@ fn map_args(words: &mut Words<'_>) -> Option<Cmd>
     let addr = address(words)?;
     let pages = number(words, 1, 256)?;
     let permissions = permissions(words)?;
-    if addr % 4096 != 0 || addr > (1 << 48) || addr + 4096 * (pages as u64) > (1 << 48) {
+    if addr % PAGE != 0 || addr > LAST_END || addr + PAGE * (pages as u64) > LAST_END {
         return None;
     }
     done(
