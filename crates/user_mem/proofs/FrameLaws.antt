@@ -1,5 +1,5 @@
 -- What a new entry changes
-use Rattle.std.proofs.Common.{◌≡◌, ◌≢◌, ℕ, zero, suc, ◌+◌, ◌-◌, ◌*◌, ◌/◌, ◌%◌, ◌<◌, ◌≤◌, Bool, true, false, cond, eqb, List, [], ◌∷◌, ◌++◌, length, get_or, take, drop, Option, Some, None, refl, sym, ◌∙◌, ap, subst, ◌⊎◌, inl, inr, arith, ne_eqb, eq-eqb}
+use Rattle.std.proofs.Common.{◌≡◌, ◌≢◌, ℕ, zero, suc, ◌+◌, ◌-◌, ◌*◌, ◌/◌, ◌%◌, ◌<◌, ◌≤◌, ◌^◌, Bool, true, false, cond, eqb, List, [], ◌∷◌, ◌++◌, length, get_or, take, drop, Option, Some, None, refl, sym, ◌∙◌, ap, subst, ◌⊎◌, inl, inr, arith, ne_eqb, eq-eqb}
 use Rattle.std.specs.Prelude.{nat_eq}
 use Rattle.std.specs.List.{insert, sum_by}
 use Rattle.std.proofs.lemmas.List.Sums.{sum_by-insert, sum_by-append, sum_by-set}
@@ -9,7 +9,7 @@ use Rattle.rv_model.specs.declared.memory.Permissions.{Permissions}
 use Rattle.rv_model.specs.Memory.{Cell, Memory, with_pages}
 use Rattle.rv_model.proofs.MemoryLaws.{same_memory, get-add_cells_within, get-add_cells_outside}
 use Rattle.user_mem.specs.declared.entry.Entry.{Entry}
-use Rattle.user_mem.specs.Table.{entry_at, memory_of}
+use Rattle.user_mem.specs.Table.{entry_at, memory_of, AreBelow}
 use Rattle.user_mem.proofs.TableLaws.{cell_in, get-memory_of, memory_of_same}
 use Rattle.user_mem.specs.Frames.{uses, uses_of}
 
@@ -97,3 +97,14 @@ memory_of-page frames after es new e looked_up zeros kept unused = same_memory _
       ∙ sym (get-memory_of after es x)
       ∙ ap (λ (m : Memory). get m x) (unused_same frames after e.frame es kept unused)
       ∙ sym (get-add_cells_outside (memory_of frames es) (4096 * e.page) 4096 (λ _. record { byte = 0; permissions = e.permissions }) x (beside x n))
+
+-- a page added below the limit leaves all pages below it
+pub below_added : (es new : List Entry) (e : Entry) → e.page < 2 ^ 36 → AreBelow es → ((p : ℕ) → entry_at new p ≡ cond (nat_eq e.page p) (Some e) (entry_at es p)) → AreBelow new
+below_added es new e low below looked_up p f h = elim (cases_eq e.page p) [
+  | inl same ↦ omega arith
+  | inr differ ↦ below p f (ap (λ (b : Bool). cond b (Some e) (entry_at es p)) (sym (ne_eqb e.page p differ)) ∙ sym (looked_up p) ∙ h)
+]
+
+-- and the look-up of a higher page as it was
+pub elsewhere : (es new : List Entry) (e : Entry) (p : ℕ) → e.page < p → ((p : ℕ) → entry_at new p ≡ cond (nat_eq e.page p) (Some e) (entry_at es p)) → entry_at new p ≡ entry_at es p
+elsewhere es new e p above looked_up = looked_up p ∙ ap (λ (b : Bool). cond b (Some e) (entry_at es p)) (ne_eqb e.page p (λ same. omega arith))

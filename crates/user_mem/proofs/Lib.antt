@@ -1,3 +1,5 @@
 pub mod TableLaws
 pub mod SearchLaws
 pub mod FrameLaws
+pub mod CountLaws
+pub mod PoolLaws

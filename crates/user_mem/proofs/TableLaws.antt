@@ -146,13 +146,3 @@ others_unwritten frames entries other x b i apart ok place =
       let here = place some.0 some.1 in
       let differs = apart (x / 4096) p some.0 e some.1 h in
       get_or-set_other frames i (4096 * e.frame + k) b 0 (λ same. differs (omega arith)))
-
-pub put_bytes_more : (m : Memory) (a : ℕ) (bs : List ℕ) (k : ℕ) → k < length bs → put_bytes m a (take (k + 1) bs) ≡ put_byte (put_bytes m a (take k bs)) (a + k) (get_or bs k 0)
-unfolding put_bytes
-put_bytes_more m a bs k l =
-    ap (put_bytes m a) (take_more bs k 0 l) ∙ put_bytes-append m a (take k bs) (get_or bs k 0 ∷ [])
-    ∙ ap (λ (j : ℕ). put_byte (put_bytes m a (take k bs)) (a + j) (get_or bs k 0)) (length-take-le k bs (omega arith))
-
-pub bytes_read : (m : Memory) (a n : ℕ) (bs : List ℕ) → length bs ≡ n → ((j : ℕ) → j < n → get_or bs j 0 ≡ byte_at m (a + j)) → bs ≡ bytes_at m a n
-bytes_read m a n bs e h =
-    ext_get_or 0 bs (bytes_at m a n) (e ∙ sym (length-bytes_at m a n)) (λ j l. let g : j < n = omega arith in h j g ∙ sym (get_or-bytes_at m a n j (a + j) g refl))

@@ -1,8 +1,9 @@
 -- What the pool keeps: eight tables over 2,048 frames, of which each is free or used, once.
-use Rattle.std.specs.Prelude.{◌≡◌, ℕ, ◌+◌, ◌*◌, ◌<◌, ◌≤◌, cond, nat_lt, List, [], length, slice_index_or}
+use Rattle.std.specs.Prelude.{◌≡◌, ℕ, ◌+◌, ◌*◌, ◌<◌, ◌≤◌, cond, nat_lt, List, [], length, map, slice_index_or}
 use Rattle.std.specs.List.{sum_by}
 use Rattle.user_mem.specs.declared.entry.Entry.{Entry}
-use Rattle.user_mem.specs.Table.{IsSorted, AreBelow}
+use Rattle.rv_model.specs.Memory.{Memory}
+use Rattle.user_mem.specs.Table.{memory_of, IsSorted, AreBelow}
 use Rattle.user_mem.specs.Frames.{uses, uses_of}
 
 -- how often a frame is free or used
@@ -16,6 +17,10 @@ used_in_all tables = sum_by (λ t. length t) tables
 -- the table of the user at place u
 abbrev pub table_at : List (List Entry) → ℕ → List Entry
 table_at tables u = slice_index_or tables u []
+
+-- the memories that the tables give over the frames' bytes
+abbrev pub memories_of : List ℕ → List (List Entry) → List Memory
+memories_of frames tables = map (λ t. memory_of frames t) tables
 
 -- what holds of the tables, the free frames and the frames' bytes
 pub record IsPool (tables : List (List Entry)) (free frames : List ℕ) : Type 0 where

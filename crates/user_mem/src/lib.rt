@@ -3,5 +3,7 @@
 
 mod entry;
 mod frames;
+mod free;
 mod table;
+mod users;
 

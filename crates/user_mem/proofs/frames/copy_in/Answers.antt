@@ -2,8 +2,8 @@ use Rattle.std.proofs.Common.{ℕ, ◌≡◌, ◌<◌, ◌+◌, ◌^◌, ◌∙�
 use Rattle.rv_model.specs.declared.memory.Access.TheVariants.{Monitor}
 use Rattle.rv_model.specs.Memory.{Memory, is_allowed, put_byte, put_bytes}
 use Rattle.user_mem.specs.Table.{memory_of}
-use Rattle.rv_model.proofs.MemoryLaws.{can_access-at, is_allowed-put_bytes}
-use Rattle.user_mem.proofs.TableLaws.{access_below, byte_written, others_unwritten, put_bytes_more}
+use Rattle.rv_model.proofs.MemoryLaws.{can_access-at, is_allowed-put_bytes, put_bytes_more}
+use Rattle.user_mem.proofs.TableLaws.{access_below, byte_written, others_unwritten}
 use Rattle.user_mem.proofs.frames.copy_in.Goals as goal
 
 pub loop-k-init : goal.loop-k-init

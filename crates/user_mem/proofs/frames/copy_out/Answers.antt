@@ -2,8 +2,8 @@ use Rattle.std.proofs.Common.{ℕ, ◌≡◌, ◌<◌, ◌+◌, ◌^◌, ◌≢�
 use Rattle.std.proofs.lemmas.List.{ext_get_or}
 use Rattle.rv_model.specs.declared.memory.Access.TheVariants.{Monitor}
 use Rattle.user_mem.specs.Table.{memory_of}
-use Rattle.rv_model.proofs.MemoryLaws.{can_access-at}
-use Rattle.user_mem.proofs.TableLaws.{access_below, byte_read, bytes_read}
+use Rattle.rv_model.proofs.MemoryLaws.{can_access-at, bytes_read}
+use Rattle.user_mem.proofs.TableLaws.{access_below, byte_read}
 use Rattle.user_mem.proofs.frames.copy_out.Goals as goal
 
 pub overflow_add-at : goal.overflow_add-at
