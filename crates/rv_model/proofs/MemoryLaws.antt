@@ -10,6 +10,7 @@ use Rattle.std.proofs.lemmas.List.{take_more, length-take-le, ext_get_or}
 use Rattle.std.proofs.lemmas.List.FromFn.{length-map-range_with_len, get_or-map-range_with_len, map-range_with_len_more}
 use Rattle.std.proofs.lemmas.Bool.{and_parts, and_from, cases_eq, cond-false, cond-true}
 use Rattle.rv_model.specs.declared.memory.Access.{Access}
+use Rattle.rv_model.specs.declared.memory.Access.TheVariants.{Monitor}
 use Rattle.rv_model.specs.declared.memory.Permissions.{Permissions}
 use Rattle.rv_model.specs.Memory.{Cell, Memory, permits, byte_at, is_allowed, can_access, bytes_at, put_byte, put_bytes, add_cells, with_pages, page_count, any_page_mapped, map_refusal}
 use Rattle.rv_model.specs.declared.memory.MapRefusal.{MapRefusal}
@@ -166,6 +167,19 @@ can_access_not access m a n k x h e refused = split (can_access access m a n) re
     split : (b : Bool) → can_access access m a n ≡ b → can_access access m a n ≡ false
     split true t = absurd (let yes = can_access-at access m a n k x t h e in let bad : true ≡ false = sym yes ∙ refused in cc)
     split false t = t
+
+is_allowed_monitor : (access : Access) (m : Memory) (x : ℕ) → is_allowed access m x ≡ true → is_allowed Monitor m x ≡ true
+unfolding is_allowed
+is_allowed_monitor access m x t = through (get m x) t
+  where
+    through : (o : Option Cell) → option_map_or (λ c. permits access c.permissions) o false ≡ true → option_map_or (λ c. permits Monitor c.permissions) o false ≡ true
+    through None h = h
+    through (Some c) h = refl
+
+-- the monitor may access whatever a program may
+pub can_access_monitor : (access : Access) (m : Memory) (a n : ℕ) → can_access access m a n ≡ true → can_access Monitor m a n ≡ true
+can_access_monitor access m a n ok =
+    can_access_from Monitor m a n (λ k l. is_allowed_monitor access m (a + k) (can_access-at access m a n k (a + k) ok l refl))
 
 -- ---- how many addresses are mapped
 

@@ -74,3 +74,9 @@ below_next f n k e = grind (arith, nat_tests)
 
 pub one_more : (f n : ℕ) (free : List ℕ) → uses f free ≡ cond (nat_lt f n) 1 0 → uses f (free ++ n ∷ []) ≡ cond (nat_lt f (n + 1)) 1 0
 one_more f n free e = uses-append f free n ∙ below_next f n (uses f free) e
+
+pub none_before : (f : ℕ) (free : List ℕ) → free ≡ [] → uses f free ≡ cond (nat_lt f 0) 1 0
+none_before f free e = below_zero f (uses f free) (ap (uses f) e ∙ uses-none f)
+  where
+    below_zero : (f k : ℕ) → k ≡ 0 → k ≡ cond (nat_lt f 0) 1 0
+    below_zero f k e = grind (arith, nat_tests)

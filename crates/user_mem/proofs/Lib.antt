@@ -3,3 +3,5 @@ pub mod SearchLaws
 pub mod FrameLaws
 pub mod CountLaws
 pub mod PoolLaws
+pub mod PageLaws
+pub mod ViewLaws

@@ -1,5 +1,5 @@
 //! A user's page table: entries in the order of their pages, found by binary search.
-ghost use Rattle.std.specs.Prelude.{◌≡◌, ℕ, List, ◌≤◌, ◌<◌, ◌+◌, ◌*◌, ◌/◌, ◌^◌, cond, nat_eq, Some, None, IfOk, IfErr, length};
+ghost use Rattle.std.specs.Prelude.{◌≡◌, ℕ, List, ◌≤◌, ◌<◌, ◌+◌, ◌*◌, ◌/◌, ◌^◌, cond, nat_eq, false, Some, None, IfOk, IfErr, IfNone, length};
 ghost use Rattle.arrayvec.specs.ArrayVec.{array_vec_len};
 ghost use Rattle.rv_model.specs.Memory.{is_allowed, can_access, any_page_mapped, map_refusal};
 ghost use Rattle.user_mem.specs.declared.entry.Entry.{Entry};
@@ -62,6 +62,39 @@ pub(crate) fn allows(entries: &[Entry], access: Access, addr: u64, len: usize) -
         }
     }
     true
+}
+
+// Whether any of these pages is mapped.
+fn is_any_mapped(entries: &[Entry], page: u64, count: usize) -> bool
+    requires sorted { IsSorted entries.now }
+    requires ends { page + count ≤ 2 ^ 36 }
+    ensures mapped { (frames : List ℕ) → result ≡ any_page_mapped (memory_of frames entries.now) page count }
+    ensures new_pages { result ≡ false → (k : ℕ) → k < count → entry_at entries.now (page + k) ≡ None }
+{
+    for i in 0..count {
+        if locate(entries, page + i as u64).is_some() {
+            return true;
+        }
+    }
+    false
+}
+
+/// Why these pages can't be mapped, where they can't.
+pub(crate) fn refusal(entries: &[Entry], page: u64, count: usize) -> Option<MapRefusal>
+    requires few { length entries.now ≤ 256 }
+    requires sorted { IsSorted entries.now }
+    requires ends { page + count ≤ 2 ^ 36 }
+    ensures value { (frames : List ℕ) → result ≡ map_refusal (memory_of frames entries.now) page count }
+    ensures room { IfNone result (length entries.now + count ≤ 256) }
+    ensures new_pages { IfNone result ((k : ℕ) → k < count → entry_at entries.now (page + k) ≡ None) }
+{
+    if count > QUOTA - entries.len() {
+        return Some(MapRefusal::Quota);
+    }
+    if is_any_mapped(entries, page, count) {
+        return Some(MapRefusal::AlreadyMapped);
+    }
+    None
 }
 
 /// Adds the entry of a page that has none.
