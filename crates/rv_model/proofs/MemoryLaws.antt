@@ -1,6 +1,6 @@
 -- What the definitions of a memory give at one address
 use Rattle.std.proofs.Common.{◌≡◌, ◌≢◌, ℕ, zero, suc, ◌+◌, ◌-◌, ◌*◌, ◌<◌, ◌≤◌, Bool, true, false, cond, eqb, ◌&&◌, List, [], ◌∷◌, ◌++◌, length, get_or, map, Option, Some, None, refl, sym, ◌∙◌, ap, subst, ◌⊎◌, inl, inr, arith, ne_eqb, eq-eqb, add-one, add-zero, take, ◌||◌, rules}
-use Rattle.std.specs.Prelude.{is_some, nat_lt}
+use Rattle.std.specs.Prelude.{is_some, nat_lt, ◌↔◌}
 use Rattle.std.specs.Ordering.{nat_cmp, eq_by_cmp}
 use Rattle.std.specs.Cmp.{unsigned_tied, nat_cmp_total}
 use Rattle.std.specs.List.{list_all, range_with_len}
@@ -8,7 +8,7 @@ use Rattle.std.specs.Option.{option_map, option_map_or}
 use Rattle.std.specs.FinMap.{FinMap, empty, get, insert, len, contains_key, get-insert, len-insert, same_map, nat_cmp-IsAntisymmetric}
 use Rattle.std.proofs.lemmas.List.{take_more, length-take-le, ext_get_or}
 use Rattle.std.proofs.lemmas.List.FromFn.{length-map-range_with_len, get_or-map-range_with_len, map-range_with_len_more}
-use Rattle.std.proofs.lemmas.Bool.{and_parts, and_from, cases_eq, cond-false, cond-true}
+use Rattle.std.proofs.lemmas.Bool.{and_parts, and_from, cases_eq, cases_lt, cond-false, cond-true}
 use Rattle.rv_model.specs.declared.memory.Access.{Access}
 use Rattle.rv_model.specs.declared.memory.Access.TheVariants.{Monitor}
 use Rattle.rv_model.specs.declared.memory.Permissions.{Permissions}
@@ -266,3 +266,26 @@ map_refusal_mapped m page count room h = cond-false (nat_lt 256 (page_count m + 
 pub map_refusal_none : (m : Memory) (page count : ℕ) → page_count m + count ≤ 256 → any_page_mapped m page count ≡ false → map_refusal m page count ≡ None
 unfolding map_refusal
 map_refusal_none m page count room h = cond-false (nat_lt 256 (page_count m + count)) _ _ (search rules) ∙ cond-false (any_page_mapped m page count) _ _ h
+
+-- when each refusal comes
+pub map_refusal-Quota : (m : Memory) (page count : ℕ) → (map_refusal m page count ≡ Some Quota) ↔ (256 < page_count m + count)
+map_refusal-Quota m page count = (λ h. over h (cases_lt 256 (page_count m + count)), map_refusal_quota m page count)
+  where
+    over : map_refusal m page count ≡ Some Quota → ((256 < page_count m + count) ⊎ (page_count m + count ≤ 256)) → 256 < page_count m + count
+    over h (inl l) = l
+    over h (inr room) = split (any_page_mapped m page count) refl
+      where
+        split : (b : Bool) → any_page_mapped m page count ≡ b → 256 < page_count m + count
+        split true e = let other = map_refusal_mapped m page count room e in absurd (cc)
+        split false e = let other = map_refusal_none m page count room e in absurd (cc)
+
+pub map_refusal-AlreadyMapped : (m : Memory) (page count : ℕ) → (map_refusal m page count ≡ Some AlreadyMapped) ↔ ((page_count m + count ≤ 256) × (any_page_mapped m page count ≡ true))
+map_refusal-AlreadyMapped m page count = (λ h. within h (cases_lt 256 (page_count m + count)), λ h. map_refusal_mapped m page count h.0 h.1)
+  where
+    within : map_refusal m page count ≡ Some AlreadyMapped → ((256 < page_count m + count) ⊎ (page_count m + count ≤ 256)) → (page_count m + count ≤ 256) × (any_page_mapped m page count ≡ true)
+    within h (inl l) = let other = map_refusal_quota m page count l in absurd (cc)
+    within h (inr room) = split (any_page_mapped m page count) refl
+      where
+        split : (b : Bool) → any_page_mapped m page count ≡ b → (page_count m + count ≤ 256) × (any_page_mapped m page count ≡ true)
+        split true e = (room, e)
+        split false e = let other = map_refusal_none m page count room e in absurd (cc)

@@ -1,10 +1,11 @@
 -- The memories that callers see, and the tables and frames below them
-use Rattle.std.proofs.Common.{◌≡◌, ℕ, zero, suc, ◌+◌, ◌-◌, ◌<◌, ◌≤◌, List, [], ◌∷◌, cond, length, get_or, map, replicate, refl, sym, ◌∙◌, ap, subst, arith, add-zero}
-use Rattle.std.specs.Prelude.{nat_lt}
+use Rattle.std.proofs.Common.{Option, Some, None, Result, Ok, Err, ◌≡◌, ℕ, zero, suc, ◌+◌, ◌-◌, ◌<◌, ◌≤◌, List, [], ◌∷◌, cond, length, get_or, map, replicate, refl, sym, ◌∙◌, ap, subst, arith, add-zero}
+use Rattle.std.specs.Prelude.{nat_lt, ◌↔◌}
 use Rattle.std.specs.List.{sum_by}
 use Rattle.std.specs.FinMap.{empty}
 use Rattle.std.proofs.lemmas.List.{length-map}
-use Rattle.rv_model.specs.Memory.{Memory}
+use Rattle.rv_model.specs.declared.memory.MapRefusal.{MapRefusal}
+use Rattle.rv_model.specs.Memory.{Memory, map_refusal}
 use Rattle.user_mem.specs.declared.entry.Entry.{Entry}
 use Rattle.user_mem.specs.Table.{memory_of, IsSorted, AreBelow}
 use Rattle.user_mem.specs.Frames.{uses, uses_of}
@@ -53,3 +54,27 @@ fresh_pool tables free frames e size once len = subst (λ (ts : List (List Entry
 pub fresh_memories : (tables : List (List Entry)) (frames : List ℕ) → tables ≡ replicate 8 [] → memories_of frames tables ≡ no_memories
 unfolding memory_of
 fresh_memories tables frames e = ap (λ (ts : List (List Entry)). memories_of frames ts) e
+
+-- ---- why pages can't be mapped
+
+-- the refusal in an answer of `map`
+pub refusal_of : Result (Unit {0}) MapRefusal → Option MapRefusal
+refusal_of (Ok _) = None
+refusal_of (Err r) = Some r
+
+refusal_back : (result : Result (Unit {0}) MapRefusal) (r : MapRefusal) → refusal_of result ≡ Some r → result ≡ Err r
+unfolding refusal_of
+refusal_back (Ok _) r e = absurd (cc)
+refusal_back (Err x) r e = let same : x ≡ r = cc in ap (λ (y : MapRefusal). Err y) same
+
+pub refused_for : (result : Result (Unit {0}) MapRefusal) (m : Memory) (page count : ℕ) (r : MapRefusal) {P : Type 0} → refusal_of result ≡ map_refusal m page count → ((map_refusal m page count ≡ Some r) ↔ P) → (result ≡ Err r) ↔ P
+unfolding refusal_of
+refused_for result m page count r e why = (λ h. why.0 (sym e ∙ ap refusal_of h), λ p. refusal_back result r (e ∙ why.1 p))
+
+pub refused_is : (r : MapRefusal) (o : Option MapRefusal) → o ≡ Some r → refusal_of (Err r) ≡ o
+unfolding refusal_of
+refused_is r o e = sym e
+
+pub accepted_is : (o : Option MapRefusal) → o ≡ None → refusal_of (Ok tt) ≡ o
+unfolding refusal_of
+accepted_is o e = sym e

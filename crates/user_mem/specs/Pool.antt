@@ -2,6 +2,7 @@
 use Rattle.std.specs.Prelude.{◌≡◌, ℕ, ◌+◌, ◌*◌, ◌<◌, ◌≤◌, cond, nat_lt, List, [], length, map, slice_index_or}
 use Rattle.std.specs.List.{sum_by}
 use Rattle.user_mem.specs.declared.entry.Entry.{Entry}
+use Rattle.arrayvec.specs.ArrayVec.{ArrayVec}
 use Rattle.rv_model.specs.Memory.{Memory}
 use Rattle.user_mem.specs.Table.{memory_of, IsSorted, AreBelow}
 use Rattle.user_mem.specs.Frames.{uses, uses_of}
@@ -13,6 +14,10 @@ owners f free tables = uses f free + sum_by (uses_of f) tables
 -- how many frames are used
 unfoldable pub used_in_all : List (List Entry) → ℕ
 used_in_all tables = sum_by (λ t. length t) tables
+
+-- the entries of each table
+abbrev pub entries_of : List (ArrayVec Entry) → List (List Entry)
+entries_of tables = map (λ t. t.items) tables
 
 -- the table of the user at place u
 abbrev pub table_at : List (List Entry) → ℕ → List Entry

@@ -1,8 +1,9 @@
 //! The memories of all users.
-ghost use Rattle.std.specs.Prelude.{◌≡◌, ℕ, ◌<◌, ◌≤◌, ◌+◌, ◌*◌, ◌^◌, ◌↔◌, [], true, None, IsOk, IfOk, IfErr, OnOk, OnErr, length, map as list_map, replicate};
+ghost use Rattle.std.specs.Prelude.{◌≡◌, ℕ, ◌<◌, ◌≤◌, ◌+◌, ◌*◌, ◌^◌, ◌↔◌, [], true, None, IsOk, IfOk, IfErr, OnOk, OnErr, length, replicate};
 ghost use Rattle.std.specs.FinMap.{empty};
-ghost use Rattle.rv_model.specs.Memory.{can_access, bytes_at, put_bytes, with_pages, page_count, map_refusal};
+ghost use Rattle.rv_model.specs.Memory.{can_access, bytes_at, put_bytes, with_pages, page_count, any_page_mapped, map_refusal};
 ghost use Rattle.user_mem.specs.Users.{no_memories, memory_of_user, with_memory};
+ghost use Rattle.user_mem.specs.Pool.{entries_of};
 
 use std::alloc::{AllocError, Allocator, Global};
 use std::marker::Model;
@@ -32,18 +33,18 @@ pub struct Pool<A: Allocator = Global> {
 }
 
 impl<A: Allocator> Model for Pool<A> {
-    ghost use Rattle.std.specs.Prelude.{List, map};
+    ghost use Rattle.std.specs.Prelude.{List};
     ghost use Rattle.std.specs.Coded.{coded_list};
     ghost use Rattle.rv_model.specs.Memory.{Memory, coded_memory};
-    ghost use Rattle.user_mem.specs.Pool.{memories_of, IsPool};
+    ghost use Rattle.user_mem.specs.Pool.{entries_of, memories_of, IsPool};
 
     ghost Value = { List Memory };
 
     ghost coded = { coded_list coded_memory };
 
-    ghost view = { λ p. memories_of p.frames.items (map (λ t. t.items) p.tables) };
+    ghost view = { λ p. memories_of p.frames.items (entries_of p.tables) };
 
-    ghost invariant = { λ p. IsPool (map (λ t. t.items) p.tables) p.free.items p.frames.items };
+    ghost invariant = { λ p. IsPool (entries_of p.tables) p.free.items p.frames.items };
 }
 
 impl<A: Allocator> Pool<A> {
@@ -66,6 +67,9 @@ impl<A: Allocator> Pool<A> {
         requires { page + count ≤ 2 ^ 36 }
         ensures accepted { IsOk result ↔ (map_refusal (memory_of_user self.old user) page count ≡ None) }
         ensures refused { IfErr result (λ r. map_refusal (memory_of_user self.old user) page count ≡ Some r) }
+        ensures quota { (result ≡ Err MapRefusal.Quota) ↔ (256 < page_count (memory_of_user self.old user) + count) }
+        ensures already_mapped { (result ≡ Err MapRefusal.AlreadyMapped)
+            ↔ ((page_count (memory_of_user self.old user) + count ≤ 256) × (any_page_mapped (memory_of_user self.old user) page count ≡ true)) }
         ensures ok { OnOk result (self.new ≡ with_memory self.old user (with_pages (memory_of_user self.old user) page count permissions)) }
         ensures err { OnErr result (self.new ≡ self.old) }
     {
@@ -136,7 +140,7 @@ fn zeros<A: Allocator>(alloc: A, count: usize) -> Result<Vec<u8, A>, AllocError>
 
 // Eight tables with no page.
 fn no_tables() -> [ArrayVec<Entry, 256>; 8]
-    ensures { list_map (λ t. t.items) result ≡ replicate 8 [] }
+    ensures { entries_of result ≡ replicate 8 [] }
 {
     [
         ArrayVec::new(),

@@ -1,9 +1,9 @@
 //! The tables of all users over the pool's frames.
-ghost use Rattle.std.specs.Prelude.{◌≡◌, ℕ, ◌<◌, ◌≤◌, ◌+◌, ◌^◌, [], None, List, true, length, slice_set, map as list_map};
+ghost use Rattle.std.specs.Prelude.{◌≡◌, ℕ, ◌<◌, ◌≤◌, ◌+◌, ◌^◌, [], None, List, true, length, slice_set};
 ghost use Rattle.rv_model.specs.Memory.{can_access, put_bytes, with_pages};
 ghost use Rattle.user_mem.specs.declared.entry.Entry.{Entry};
 ghost use Rattle.user_mem.specs.Table.{entry_at, memory_of};
-ghost use Rattle.user_mem.specs.Pool.{IsPool, table_at, memories_of};
+ghost use Rattle.user_mem.specs.Pool.{IsPool, entries_of, table_at, memories_of};
 
 use arrayvec::ArrayVec;
 use rv_model::{Access, Permissions};
@@ -15,14 +15,14 @@ use crate::free::{give_back, take_pages};
 /// Maps pages of zeros for the user at a place.
 pub(crate) fn map_user(tables: &mut [ArrayVec<Entry, 256>; 8], user: usize, free: &mut ArrayVec<usize, 2048>, frames: &mut [u8], page: u64, count: usize, permissions: Permissions)
     requires user { user < 8 }
-    requires pool { IsPool (list_map (λ t. t.items) tables.old) free.old.items frames.old }
-    requires room { length (table_at (list_map (λ t. t.items) tables.old) user) + count ≤ 256 }
+    requires pool { IsPool (entries_of tables.old) free.old.items frames.old }
+    requires room { length (table_at (entries_of tables.old) user) + count ≤ 256 }
     requires ends { page + count ≤ 2 ^ 36 }
-    requires new_pages { (k : ℕ) → k < count → entry_at (table_at (list_map (λ t. t.items) tables.old) user) (page + k) ≡ None }
-    ensures pool { IsPool (list_map (λ t. t.items) tables.new) free.new.items frames.new }
-    ensures mapped { memories_of frames.new (list_map (λ t. t.items) tables.new)
-        ≡ slice_set (memories_of frames.old (list_map (λ t. t.items) tables.old)) user
-            (with_pages (memory_of frames.old (table_at (list_map (λ t. t.items) tables.old) user)) page count permissions) }
+    requires new_pages { (k : ℕ) → k < count → entry_at (table_at (entries_of tables.old) user) (page + k) ≡ None }
+    ensures pool { IsPool (entries_of tables.new) free.new.items frames.new }
+    ensures mapped { memories_of frames.new (entries_of tables.new)
+        ≡ slice_set (memories_of frames.old (entries_of tables.old)) user
+            (with_pages (memory_of frames.old (table_at (entries_of tables.old) user)) page count permissions) }
     ensures size { length frames.new ≡ length frames.old }
 {
     take_pages(&mut tables[user], free, frames, page, count, permissions);
@@ -31,9 +31,9 @@ pub(crate) fn map_user(tables: &mut [ArrayVec<Entry, 256>; 8], user: usize, free
 /// Unmaps all pages of the user at a place.
 pub(crate) fn drop_pages(tables: &mut [ArrayVec<Entry, 256>; 8], user: usize, free: &mut ArrayVec<usize, 2048>, frames: &[u8])
     requires user { user < 8 }
-    requires pool { IsPool (list_map (λ t. t.items) tables.old) free.old.items frames.now }
-    ensures pool { IsPool (list_map (λ t. t.items) tables.new) free.new.items frames.now }
-    ensures dropped { list_map (λ t. t.items) tables.new ≡ slice_set (list_map (λ t. t.items) tables.old) user [] }
+    requires pool { IsPool (entries_of tables.old) free.old.items frames.now }
+    ensures pool { IsPool (entries_of tables.new) free.new.items frames.now }
+    ensures dropped { entries_of tables.new ≡ slice_set (entries_of tables.old) user [] }
 {
     give_back(&mut tables[user], free);
 }
@@ -41,12 +41,12 @@ pub(crate) fn drop_pages(tables: &mut [ArrayVec<Entry, 256>; 8], user: usize, fr
 /// Writes bytes of the user at a place.
 pub(crate) fn write_user(tables: &[ArrayVec<Entry, 256>; 8], user: usize, free: &ArrayVec<usize, 2048>, frames: &mut [u8], addr: u64, bytes: &[u8])
     requires user { user < 8 }
-    requires pool { IsPool (list_map (λ t. t.items) tables.now) free.now.items frames.old }
-    requires mapped { can_access Access.Monitor (memory_of frames.old (table_at (list_map (λ t. t.items) tables.now) user)) addr (length bytes.now) ≡ true }
-    ensures pool { IsPool (list_map (λ t. t.items) tables.now) free.now.items frames.new }
-    ensures written { memories_of frames.new (list_map (λ t. t.items) tables.now)
-        ≡ slice_set (memories_of frames.old (list_map (λ t. t.items) tables.now)) user
-            (put_bytes (memory_of frames.old (table_at (list_map (λ t. t.items) tables.now) user)) addr bytes.now) }
+    requires pool { IsPool (entries_of tables.now) free.now.items frames.old }
+    requires mapped { can_access Access.Monitor (memory_of frames.old (table_at (entries_of tables.now) user)) addr (length bytes.now) ≡ true }
+    ensures pool { IsPool (entries_of tables.now) free.now.items frames.new }
+    ensures written { memories_of frames.new (entries_of tables.now)
+        ≡ slice_set (memories_of frames.old (entries_of tables.now)) user
+            (put_bytes (memory_of frames.old (table_at (entries_of tables.now) user)) addr bytes.now) }
     ensures size { length frames.new ≡ length frames.old }
 {
     copy_in(tables[user].as_slice(), frames, addr, bytes);
