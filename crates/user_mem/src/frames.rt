@@ -6,11 +6,13 @@ ghost use Rattle.user_mem.specs.declared.entry.Entry.{Entry};
 ghost use Rattle.user_mem.specs.Table.{entry_at, memory_of, IsSorted, AreBelow, FitIn, AreSeparate, AreApart};
 ghost use Rattle.user_mem.specs.Frames.{uses_of};
 
-use arrayvec::ArrayVec;
 use rv_model::{Access, Permissions};
 
 use crate::entry::Entry;
-use crate::table::{add_entry, locate};
+use crate::table::{PAGE_SIZE, Table, add_entry, locate};
+
+/// The bytes of a frame.
+pub(crate) const FRAME_SIZE: usize = 4096;
 
 // Where the byte of a mapped address lies.
 fn index_of(entries: &[Entry], frames: &[u8], addr: u64) -> usize
@@ -20,8 +22,8 @@ fn index_of(entries: &[Entry], frames: &[u8], addr: u64) -> usize
     ensures within { result < length frames.now }
     ensures place { (e : Entry) → entry_at entries.now (addr / 4096) ≡ Some e → result ≡ 4096 * e.frame + addr % 4096 }
 {
-    match locate(entries, addr / 4096) {
-        Some(entry) => 4096 * entry.frame + (addr % 4096) as usize,
+    match locate(entries, addr / PAGE_SIZE) {
+        Some(entry) => FRAME_SIZE * entry.frame + addr as usize % FRAME_SIZE,
         None => unreachable!(),
     }
 }
@@ -65,13 +67,13 @@ fn zero_frame(frames: &mut [u8], frame: usize)
     ensures zeros { (k : ℕ) → k < 4096 → slice_index frames.new (4096 * frame + k) ≡ 0 }
     ensures kept { (i : ℕ) → ((i < 4096 * frame) ⊎ (4096 * frame + 4096 ≤ i)) → slice_index frames.new i ≡ slice_index frames.old i }
 {
-    for k in 0..4096 {
-        frames[4096 * frame + k] = 0;
+    for k in 0..FRAME_SIZE {
+        frames[FRAME_SIZE * frame + k] = 0;
     }
 }
 
 /// Maps one page of zeros in a frame that nobody uses.
-pub(crate) fn map_page(table: &mut ArrayVec<Entry, 256>, frames: &mut [u8], frame: usize, page: u64, permissions: Permissions)
+pub(crate) fn map_page(table: &mut Table, frames: &mut [u8], frame: usize, page: u64, permissions: Permissions)
     requires room { array_vec_len table.old < 256 }
     requires sorted { IsSorted table.old.items }
     requires fits { 4096 * frame + 4096 ≤ length frames.old }

@@ -8,23 +8,29 @@ ghost use Rattle.user_mem.specs.Frames.{uses, uses_of, AreMine};
 use arrayvec::ArrayVec;
 use rv_model::Permissions;
 
-use crate::entry::Entry;
 use crate::frames::map_page;
+use crate::table::Table;
+
+/// How many frames there are, free and used.
+pub(crate) const FRAME_COUNT: usize = 2048;
+
+/// The numbers of the frames that no page has.
+pub(crate) type FreeFrames = ArrayVec<usize, FRAME_COUNT>;
 
 /// All 2,048 frames.
-pub(crate) fn all_free() -> ArrayVec<usize, 2048>
+pub(crate) fn all_free() -> FreeFrames
     ensures once { (f : ℕ) → uses f result.items ≡ cond (nat_lt f 2048) 1 0 }
     ensures len { length result.items ≡ 2048 }
 {
     let mut free = ArrayVec::new();
-    for frame in 0..2048 {
+    for frame in 0..FRAME_COUNT {
         free.push(frame);
     }
     free
 }
 
 // Maps one page of zeros in a free frame.
-fn take_page(table: &mut ArrayVec<Entry, 256>, free: &mut ArrayVec<usize, 2048>, frames: &mut [u8], page: u64, permissions: Permissions)
+fn take_page(table: &mut Table, free: &mut FreeFrames, frames: &mut [u8], page: u64, permissions: Permissions)
     requires room { length table.old.items < 256 }
     requires some { 0 < length free.old.items }
     requires sorted { IsSorted table.old.items }
@@ -48,7 +54,7 @@ fn take_page(table: &mut ArrayVec<Entry, 256>, free: &mut ArrayVec<usize, 2048>,
 }
 
 /// Maps pages of zeros in free frames.
-pub(crate) fn take_pages(table: &mut ArrayVec<Entry, 256>, free: &mut ArrayVec<usize, 2048>, frames: &mut [u8], page: u64, count: usize, permissions: Permissions)
+pub(crate) fn take_pages(table: &mut Table, free: &mut FreeFrames, frames: &mut [u8], page: u64, count: usize, permissions: Permissions)
     requires room { length table.old.items + count ≤ 256 }
     requires some { count ≤ length free.old.items }
     requires ends { page + count ≤ 2 ^ 36 }
@@ -71,7 +77,7 @@ pub(crate) fn take_pages(table: &mut ArrayVec<Entry, 256>, free: &mut ArrayVec<u
 }
 
 /// Gives the frames of a table back, and leaves it empty.
-pub(crate) fn give_back(table: &mut ArrayVec<Entry, 256>, free: &mut ArrayVec<usize, 2048>)
+pub(crate) fn give_back(table: &mut Table, free: &mut FreeFrames)
     requires { length free.old.items + length table.old.items ≤ 2048 }
     ensures empty { table.new.items ≡ [] }
     ensures owners { (f : ℕ) → uses f free.new.items ≡ uses f free.old.items + uses_of f table.old.items }

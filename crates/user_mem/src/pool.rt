@@ -11,11 +11,10 @@ use std::marker::Model;
 use arrayvec::ArrayVec;
 use rv_model::{Access, Fault, MapRefusal, Permissions, User};
 
-use crate::entry::Entry;
-use crate::frames::copy_out;
-use crate::free::all_free;
+use crate::frames::{FRAME_SIZE, copy_out};
+use crate::free::{FRAME_COUNT, FreeFrames, all_free};
 use crate::table::{allows, refusal};
-use crate::users::{drop_pages, map_user, write_user};
+use crate::users::{Tables, drop_pages, map_user, write_user};
 
 /// There is no memory for the pool.
 #[derive(Clone, Copy, Debug, PartialEq, Eq)]
@@ -27,8 +26,8 @@ pub struct NoMemory;
 /// Only `new` takes memory.
 #[derive(Drop)]
 pub struct Pool<A: Allocator = Global> {
-    tables: [ArrayVec<Entry, 256>; 8],
-    free: ArrayVec<usize, 2048>,
+    tables: Tables,
+    free: FreeFrames,
     frames: Vec<u8, A>,
 }
 
@@ -52,7 +51,7 @@ impl<A: Allocator> Pool<A> {
     pub fn new(alloc: A) -> Result<Self, NoMemory>
         ensures { IfOk result (λ pool. pool ≡ no_memories) }
     {
-        let Ok(frames) = zeros(alloc, 8388608) else {
+        let Ok(frames) = zeros(alloc, FRAME_COUNT * FRAME_SIZE) else {
             return Err(NoMemory);
         };
         Ok(Pool {
@@ -139,7 +138,7 @@ fn zeros<A: Allocator>(alloc: A, count: usize) -> Result<Vec<u8, A>, AllocError>
 }
 
 // Eight tables with no page.
-fn no_tables() -> [ArrayVec<Entry, 256>; 8]
+fn no_tables() -> Tables
     ensures { entries_of result ≡ replicate 8 [] }
 {
     [

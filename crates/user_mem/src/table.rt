@@ -14,6 +14,12 @@ use crate::entry::Entry;
 /// The most pages that a user may have.
 pub(crate) const QUOTA: usize = 256;
 
+/// The bytes of a page.
+pub(crate) const PAGE_SIZE: u64 = 4096;
+
+/// A user's mapped pages, by rising page.
+pub(crate) type Table = ArrayVec<Entry, QUOTA>;
+
 // Where the entry of a page is, or where it would go.
 fn search(entries: &[Entry], page: u64) -> Result<usize, usize>
     requires { IsSorted entries.now }
@@ -39,7 +45,7 @@ fn is_byte_allowed(entries: &[Entry], access: Access, addr: u64) -> bool
     requires { IsSorted entries.now }
     ensures { (frames : List ℕ) → result ≡ is_allowed access (memory_of frames entries.now) addr }
 {
-    match locate(entries, addr / 4096) {
+    match locate(entries, addr / PAGE_SIZE) {
         Some(entry) => access.is_permitted(entry.permissions),
         None => false,
     }
@@ -98,7 +104,7 @@ pub(crate) fn refusal(entries: &[Entry], page: u64, count: usize) -> Option<MapR
 }
 
 /// Adds the entry of a page that has none.
-pub(crate) fn add_entry(table: &mut ArrayVec<Entry, 256>, entry: Entry)
+pub(crate) fn add_entry(table: &mut Table, entry: Entry)
     requires room { array_vec_len table.old < 256 }
     requires sorted { IsSorted table.old.items }
     requires new_page { entry_at table.old.items entry.page ≡ None }

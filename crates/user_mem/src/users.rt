@@ -5,15 +5,20 @@ ghost use Rattle.user_mem.specs.declared.entry.Entry.{Entry};
 ghost use Rattle.user_mem.specs.Table.{entry_at, memory_of};
 ghost use Rattle.user_mem.specs.Pool.{IsPool, entries_of, table_at, memories_of};
 
-use arrayvec::ArrayVec;
 use rv_model::{Access, Permissions};
 
-use crate::entry::Entry;
 use crate::frames::copy_in;
-use crate::free::{give_back, take_pages};
+use crate::free::{FreeFrames, give_back, take_pages};
+use crate::table::Table;
+
+/// How many users there are.
+const USERS: usize = 8;
+
+/// The tables of all users, user 1 first.
+pub(crate) type Tables = [Table; USERS];
 
 /// Maps pages of zeros for the user at a place.
-pub(crate) fn map_user(tables: &mut [ArrayVec<Entry, 256>; 8], user: usize, free: &mut ArrayVec<usize, 2048>, frames: &mut [u8], page: u64, count: usize, permissions: Permissions)
+pub(crate) fn map_user(tables: &mut Tables, user: usize, free: &mut FreeFrames, frames: &mut [u8], page: u64, count: usize, permissions: Permissions)
     requires user { user < 8 }
     requires pool { IsPool (entries_of tables.old) free.old.items frames.old }
     requires room { length (table_at (entries_of tables.old) user) + count ≤ 256 }
@@ -29,7 +34,7 @@ pub(crate) fn map_user(tables: &mut [ArrayVec<Entry, 256>; 8], user: usize, free
 }
 
 /// Unmaps all pages of the user at a place.
-pub(crate) fn drop_pages(tables: &mut [ArrayVec<Entry, 256>; 8], user: usize, free: &mut ArrayVec<usize, 2048>, frames: &[u8])
+pub(crate) fn drop_pages(tables: &mut Tables, user: usize, free: &mut FreeFrames, frames: &[u8])
     requires user { user < 8 }
     requires pool { IsPool (entries_of tables.old) free.old.items frames.now }
     ensures pool { IsPool (entries_of tables.new) free.new.items frames.now }
@@ -39,7 +44,7 @@ pub(crate) fn drop_pages(tables: &mut [ArrayVec<Entry, 256>; 8], user: usize, fr
 }
 
 /// Writes bytes of the user at a place.
-pub(crate) fn write_user(tables: &[ArrayVec<Entry, 256>; 8], user: usize, free: &ArrayVec<usize, 2048>, frames: &mut [u8], addr: u64, bytes: &[u8])
+pub(crate) fn write_user(tables: &Tables, user: usize, free: &FreeFrames, frames: &mut [u8], addr: u64, bytes: &[u8])
     requires user { user < 8 }
     requires pool { IsPool (entries_of tables.now) free.now.items frames.old }
     requires mapped { can_access Access.Monitor (memory_of frames.old (table_at (entries_of tables.now) user)) addr (length bytes.now) ≡ true }
