@@ -152,3 +152,6 @@ fn no_tables() -> Tables
         ArrayVec::new(),
     ]
 }
+
+#[cfg(test)]
+mod tests;
