@@ -1,13 +1,12 @@
-// A library with one function.
+//! One instruction of one user: fetched, decoded and carried out.
 #![tactic(auto)]
 
-ghost use Rattle.std.specs.Prelude.{◌≡◌};
-ghost use Rattle.hart.specs.Echo.{echo_of};
+mod environment_call;
+mod instruction_cycle;
+mod integer;
+mod vectors;
+mod view;
 
-// The `ensures` clause is the contract: what `echo` returns is `echo_of` of its argument, a definition
-// in `specs/Echo.antt`, which a caller's clause can cite too.
-pub fn echo(x: usize) -> usize
-    ensures { result ≡ echo_of x }
-{
-    x
-}
+pub use instruction_cycle::step;
+pub use vectors::Vectors;
+pub use view::View;
