@@ -36,7 +36,8 @@ fn op_imm_result(op: OpImmOp, a: u64, imm: Field<12>) -> u64
 
 /// Carries out an operation of a register and an immediate.
 pub(crate) fn op_imm(op: OpImmOp, rd: Reg, rs1: Reg, imm: Field<12>, scalar: &mut Scalar)
-    ensures { IfSome (op_imm_value op (read_register scalar.old rs1) imm) (λ value. scalar.new ≡ advanced (with_register rd value scalar.old)) }
+    ensures { IfSome (op_imm_value op (read_register scalar.old rs1) imm)
+        (λ value. scalar.new ≡ advanced (with_register rd value scalar.old)) }
 {
     let value = op_imm_result(op, scalar.read(rs1), imm);
     scalar.write(rd, value);
