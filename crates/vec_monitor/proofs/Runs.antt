@@ -57,25 +57,6 @@ output_ends m0 s0 held0 m line s shown held held' none same p l t k =
     ∙ append_assoc held0 (fed m0 [] s0).output (line_output (fed m0 [] s0).machine (fed m0 [] s0).line)
     ∙ ap (λ (x : List ℕ). held0 ++ x) (from_start m0 s0).output
 
--- no event makes the parts more or fewer
-same_count_events : (s : Setup) (w : World) (es : List (ℕ × Event)) → length (after_events s w es).parts ≡ length w.parts
-same_count_events s w [] = refl
-same_count_events s w ((v, e) ∷ es) =
-    same_count_events s (with_part v (event s (part v w) e).next w) es ∙ length-set w.parts (v - 1) (event s (part v w) e).next
-
-same_count_line : (s : Setup) (w : World) (line : List ℕ) → length (after s w line).parts ≡ length w.parts
-unfolding after
-same_count_line s w line = same_count_events s w (events_of s w (kind_of line))
-
-same_count_all : (s : Setup) (w : World) (ls : List (List ℕ)) → length (after_all s w ls).parts ≡ length w.parts
-same_count_all s w [] = refl
-same_count_all s w (l ∷ ls) = same_count_all s (after s w l) ls ∙ same_count_line s w l
-
-pub eight_before : (m m' : MachineState) (s : List ℕ) → length m'.world.parts ≡ 8 → m'.world ≡ after_script m.setup m.world s → length m.world.parts ≡ 8
-unfolding after_script
-eight_before m m' s eight e =
-    sym (same_count_all m.setup m.world (pieces s)) ∙ sym (ap (λ (w : World). length w.parts) e) ∙ eight
-
 -- the headline, of the output that a sink got
 pub headline_of : (m : MachineState) (s0 held0 held' : List ℕ) → length m.world.parts ≡ 8 → held' ≡ held0 ++ whole_from m.setup m.world s0 → (output : List ℕ) → held' ≡ held0 ++ output → (u : ℕ) → 1 ≤ u → u ≤ 8 → lines u output ≡ solo_from m.setup (part u m.world) (own_from m.setup u m.world s0)
 headline_of m s0 held0 held' eight whole output got u low high =

@@ -10,7 +10,7 @@ pub struct Context {
 }
 
 impl Context {
-    ghost use Rattle.std.specs.Prelude.{◌≡◌, false};
+    ghost use Rattle.std.specs.Prelude.{◌≡◌, true, false};
     ghost use Rattle.vec_monitor.specs.Parts.{new_context};
 
     /// The context of an absent user.
@@ -24,6 +24,16 @@ impl Context {
                 state: VState::new(),
                 dirty: false,
             },
+        }
+    }
+
+    /// The context of a user who has just entered.
+    pub fn entered() -> Context
+        ensures { result ≡ record new_context { entered = true } }
+    {
+        Context {
+            entered: true,
+            ..Context::new()
         }
     }
 }

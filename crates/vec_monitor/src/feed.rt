@@ -8,6 +8,7 @@ use crate::device::{DeviceFault, Sink};
 use crate::line::Line;
 use crate::machine::Machine;
 use monitor_cmds::Reply;
+use std::alloc::Allocator;
 
 /// Writes all the bytes.
 pub fn write_all<K: Sink>(sink: &mut K, bytes: &[u8]) -> Result<(), DeviceFault>
@@ -25,14 +26,13 @@ pub fn write_all<K: Sink>(sink: &mut K, bytes: &[u8]) -> Result<(), DeviceFault>
 }
 
 /// Answers a line, and writes the answer.
-pub fn serve<K: Sink>(machine: &mut Machine<'_>, line: &[u8], reply: &mut Reply, sink: &mut K) -> Result<(), DeviceFault>
+pub fn serve<A: Allocator, K: Sink>(machine: &mut Machine<'_, A>, line: &[u8], reply: &mut Reply, sink: &mut K) -> Result<(), DeviceFault>
     ensures machine { machine.new ≡ after_line machine.old line.now }
     ensures setup { machine.new.setup ≡ machine.old.setup }
     ensures tells { K.tells sink.old → K.tells sink.new }
     ensures ok { K.tells sink.old → OnOk result (K.held sink.new ≡ K.held sink.old ++ line_output machine.old line.now) }
     ensures unfailed { OnOk result (K.failures sink.new ≡ K.failures sink.old) }
     ensures cause { OnErr result (Rose (K.failures sink.old) (K.failures sink.new)) }
-    ensures eight { length machine.new.world.parts ≡ 8 }
 {
     machine.answer(line, reply);
     write_all(sink, reply.as_slice())
@@ -40,7 +40,7 @@ pub fn serve<K: Sink>(machine: &mut Machine<'_>, line: &[u8], reply: &mut Reply,
 
 /// Takes one byte of a script.
 #[tactic(auto, unfolding(crate::specs::Feed::feed))]
-pub fn take_byte<K: Sink>(machine: &mut Machine<'_>, line: &mut Line, byte: u8, reply: &mut Reply, sink: &mut K) -> Result<(), DeviceFault>
+pub fn take_byte<A: Allocator, K: Sink>(machine: &mut Machine<'_, A>, line: &mut Line, byte: u8, reply: &mut Reply, sink: &mut K) -> Result<(), DeviceFault>
     ensures machine { OnOk result (machine.new ≡ (feed machine.old line.old byte).machine) }
     ensures setup { machine.new.setup ≡ machine.old.setup }
     ensures line { OnOk result (line.new ≡ (feed machine.old line.old byte).line) }
@@ -60,7 +60,7 @@ pub fn take_byte<K: Sink>(machine: &mut Machine<'_>, line: &mut Line, byte: u8, 
 
 /// Takes bytes of a script, and writes the answer to each line that ends in them before the next
 /// byte is taken.
-pub fn take_bytes<K: Sink>(machine: &mut Machine<'_>, line: &mut Line, bytes: &[u8], reply: &mut Reply, sink: &mut K) -> Result<(), DeviceFault>
+pub fn take_bytes<A: Allocator, K: Sink>(machine: &mut Machine<'_, A>, line: &mut Line, bytes: &[u8], reply: &mut Reply, sink: &mut K) -> Result<(), DeviceFault>
     ensures machine { OnOk result (machine.new ≡ (fed machine.old line.old bytes.now).machine) }
     ensures setup { machine.new.setup ≡ machine.old.setup }
     ensures line { OnOk result (line.new ≡ (fed machine.old line.old bytes.now).line) }

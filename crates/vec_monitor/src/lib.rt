@@ -2,17 +2,23 @@
 #![tactic(auto)]
 
 mod addressee;
+mod commands;
 mod context;
 mod device;
 mod feed;
 mod image;
+mod lenders;
 mod line;
 mod machine;
+mod new_fault;
 mod script;
+mod stepping;
 mod streams;
+mod users;
 
 pub use device::{DeviceFault, Sink, Source};
 pub use image::Image;
 pub use machine::Machine;
+pub use new_fault::NewFault;
 pub use script::{RunFault, run};
 pub use streams::{ReaderSource, WriterSink};

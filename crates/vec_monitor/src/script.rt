@@ -9,6 +9,7 @@ use crate::feed::{serve, take_bytes};
 use crate::line::Line;
 use crate::machine::Machine;
 use monitor_cmds::Reply;
+use std::alloc::Allocator;
 use thiserror::Error;
 
 /// Why a run stopped before the script's end.
@@ -30,7 +31,7 @@ pub const MAX_SCRIPT: usize = 16_777_216;
 
 /// Runs a script from the source to its end, and writes each line's answer to the sink before it
 /// reads on. The machine may be used again, also after a fault.
-pub fn run<S: Source, K: Sink>(machine: &mut Machine<'_>, source: &mut S, sink: &mut K) -> Result<(), RunFault>
+pub fn run<A: Allocator, S: Source, K: Sink>(machine: &mut Machine<'_, A>, source: &mut S, sink: &mut K) -> Result<(), RunFault>
     ensures end { S.tells source.old → OnOk result (S.rest source.new ≡ []) }
     ensures unfailed_source { OnOk result (S.failures source.new ≡ S.failures source.old) }
     ensures unfailed_sink { OnOk result (K.failures sink.new ≡ K.failures sink.old) }
@@ -52,6 +53,7 @@ pub fn run<S: Source, K: Sink>(machine: &mut Machine<'_>, source: &mut S, sink: 
     ensures write { result ≡ Err RunFault.Write → Rose (K.failures sink.old) (K.failures sink.new) }
     ensures too_long { S.tells source.old → result ≡ Err RunFault.TooLong → 16777216 < length (S.rest source.old) }
 {
+    let _ = machine.users();
     let mut left = MAX_SCRIPT;
     let mut line = Line::new();
     let mut reply = Reply::new();

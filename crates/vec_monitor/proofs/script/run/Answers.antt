@@ -3,7 +3,7 @@ use Rattle.rv_model.specs.PrivateMachine.{solo, solo_from, Private}
 use Rattle.rv_model.specs.Script.{World, whole_from, after_script, lines, part, own, own_from, new_world}
 use Rattle.vec_monitor.specs.MachineState.{MachineState}
 use Rattle.vec_monitor.specs.Feed.{Fed, fed}
-use Rattle.vec_monitor.proofs.Runs.{machine_goes_on, line_goes_on, output_goes_on, machine_ends, output_ends, eight_before, headline_of, new_headline_of}
+use Rattle.vec_monitor.proofs.Runs.{machine_goes_on, line_goes_on, output_goes_on, machine_ends, output_ends, headline_of, new_headline_of}
 use Rattle.vec_monitor.proofs.script.run.Goals as goal
 
 -- nothing is left at the end
@@ -33,7 +33,7 @@ returns-then-count-eq0-clause-world g c = left_machine g c
 
 pub returns-then-count-eq0-clause-used_headline : goal.returns-then-count-eq0-clause-used_headline
 returns-then-count-eq0-clause-used_headline g c = λ s k.
-    headline_of c.args.machine.now _ _ _ (eight_before c.args.machine.now c.serve.new.machine (g.S.Source.rest c.args.source.now) c.serve.ensures.eight (left_machine g c s)) (returns-then-count-eq0-clause-output g c s k)
+    headline_of c.args.machine.now _ _ _ (sym c.users.ensures.parts ∙ c.users.ensures.eight) (returns-then-count-eq0-clause-output g c s k)
 
 pub returns-then-count-eq0-clause-headline : goal.returns-then-count-eq0-clause-headline
 returns-then-count-eq0-clause-headline g c = λ new s k.
