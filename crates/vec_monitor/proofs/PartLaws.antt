@@ -43,9 +43,9 @@ part_is cs ms u i d at low eight =
 pub world_with : (cs : List Context) (ms ms' : List Memory) (u i : ℕ) (d c' : Context) (f : Private → Private) → i ≡ u - 1 → i < 8 → AreEight cs ms → private_of c' (memory_of_user ms' u) ≡ f (private_of (get_or cs i d) (memory_of_user ms u)) → ms' ≡ with_memory ms u (memory_of_user ms' u) → world_of (set cs i c') ms' ≡ with_part u (f (part u (world_of cs ms))) (world_of cs ms)
 world_with cs ms ms' u i d c' f at low eight next others =
     let done : private_of c' (memory_of_user ms' u) ≡ f (part u (world_of cs ms)) =
-        next ∙ ap f (sym (part_is cs ms u i d at low eight)) in
+    next ∙ ap f (sym (part_is cs ms u i d at low eight)) in
     let moved : parts_of (set cs (u - 1) c') ms' ≡ set (parts_of cs ms) (u - 1) (private_of c' (memory_of_user ms' u)) =
-        ap (parts_of (set cs (u - 1) c')) others ∙ parts_of-set cs ms (u - 1) c' (memory_of_user ms' u) (eight.contexts ∙ sym eight.memories) in
+    ap (parts_of (set cs (u - 1) c')) others ∙ parts_of-set cs ms (u - 1) c' (memory_of_user ms' u) (eight.contexts ∙ sym eight.memories) in
     ap (λ (j : ℕ). world_of (set cs j c') ms') at
     ∙ ap (λ (ps : List Private). let r : World = record { parts = ps; cursor = 8 } in r) moved
     ∙ ap (λ (p : Private). with_part u p (world_of cs ms)) done

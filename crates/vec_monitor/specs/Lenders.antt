@@ -43,6 +43,6 @@ outside memories user addr access (b ∷ bs) none allowed =
 -- a user's memory after a write that was allowed
 pub memory_written : (memories : List Memory) (user addr : ℕ) (access : Access) (bytes : List ℕ) → can_access access (memory_of_user memories user) addr (length bytes) ≡ true → memory_of_user (with_memory memories user (put_bytes (memory_of_user memories user) addr bytes)) user ≡ put_bytes (memory_of_user memories user) addr bytes
 memory_written memories user addr access bytes allowed = elim (cases_lt (user - 1) (length memories)) [
-    inl within ↦ memory_there memories user (put_bytes (memory_of_user memories user) addr bytes) within
+  | inl within ↦ memory_there memories user (put_bytes (memory_of_user memories user) addr bytes) within
   | inr past ↦ outside memories user addr access bytes (get_or-eq_default memories empty past) allowed
-  ]
+]

@@ -26,7 +26,12 @@ pub fn write_all<K: Sink>(sink: &mut K, bytes: &[u8]) -> Result<(), DeviceFault>
 }
 
 /// Answers a line, and writes the answer.
-pub fn serve<A: Allocator, K: Sink>(machine: &mut Machine<'_, A>, line: &[u8], reply: &mut Reply, sink: &mut K) -> Result<(), DeviceFault>
+pub fn serve<A: Allocator, K: Sink>(
+    machine: &mut Machine<'_, A>,
+    line: &[u8],
+    reply: &mut Reply,
+    sink: &mut K,
+) -> Result<(), DeviceFault>
     ensures machine { machine.new ≡ after_line machine.old line.now }
     ensures setup { machine.new.setup ≡ machine.old.setup }
     ensures tells { K.tells sink.old → K.tells sink.new }
@@ -40,7 +45,13 @@ pub fn serve<A: Allocator, K: Sink>(machine: &mut Machine<'_, A>, line: &[u8], r
 
 /// Takes one byte of a script.
 #[tactic(auto, unfolding(crate::specs::Feed::feed))]
-pub fn take_byte<A: Allocator, K: Sink>(machine: &mut Machine<'_, A>, line: &mut Line, byte: u8, reply: &mut Reply, sink: &mut K) -> Result<(), DeviceFault>
+pub fn take_byte<A: Allocator, K: Sink>(
+    machine: &mut Machine<'_, A>,
+    line: &mut Line,
+    byte: u8,
+    reply: &mut Reply,
+    sink: &mut K,
+) -> Result<(), DeviceFault>
     ensures machine { OnOk result (machine.new ≡ (feed machine.old line.old byte).machine) }
     ensures setup { machine.new.setup ≡ machine.old.setup }
     ensures line { OnOk result (line.new ≡ (feed machine.old line.old byte).line) }
@@ -60,7 +71,13 @@ pub fn take_byte<A: Allocator, K: Sink>(machine: &mut Machine<'_, A>, line: &mut
 
 /// Takes bytes of a script, and writes the answer to each line that ends in them before the next
 /// byte is taken.
-pub fn take_bytes<A: Allocator, K: Sink>(machine: &mut Machine<'_, A>, line: &mut Line, bytes: &[u8], reply: &mut Reply, sink: &mut K) -> Result<(), DeviceFault>
+pub fn take_bytes<A: Allocator, K: Sink>(
+    machine: &mut Machine<'_, A>,
+    line: &mut Line,
+    bytes: &[u8],
+    reply: &mut Reply,
+    sink: &mut K,
+) -> Result<(), DeviceFault>
     ensures machine { OnOk result (machine.new ≡ (fed machine.old line.old bytes.now).machine) }
     ensures setup { machine.new.setup ≡ machine.old.setup }
     ensures line { OnOk result (line.new ≡ (fed machine.old line.old bytes.now).line) }

@@ -18,6 +18,6 @@ returns-in-Step-clause-next g c =
 pub returns-in-Step-clause-reply : goal.returns-in-Step-clause-reply
 returns-in-Step-clause-reply g c =
     let same = ap (λ (o : Outcome). text (48 + c.args.user) o.lines)
-      (ap (outcome c.args.context.now (memory_of_user c.args.pool.now c.args.user)) c.in-Step.is
-      ∙ step_outcome c.args.context.now c.steps-stop.new.context (memory_of_user c.args.pool.now c.args.user) (memory_of_user c.steps-stop.new.pool c.args.user) c.in-Step.count c.steps-stop.result c.steps-stop.ensures.state c.steps-stop.ensures.stop) in
+    (ap (outcome c.args.context.now (memory_of_user c.args.pool.now c.args.user)) c.in-Step.is
+    ∙ step_outcome c.args.context.now c.steps-stop.new.context (memory_of_user c.args.pool.now c.args.user) (memory_of_user c.steps-stop.new.pool c.args.user) c.in-Step.count c.steps-stop.result c.steps-stop.ensures.state c.steps-stop.ensures.stop) in
     c.step_line.ensures.text ∙ ap (λ (r : List ℕ). r ++ text (48 + c.args.user) (step_line c.in-Step.count c.steps-stop.new.context.scalar.pc c.steps-stop.result ∷ [])) c.requires.clear ∙ sym same
