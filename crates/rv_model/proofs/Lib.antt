@@ -1,1 +1,4 @@
 pub mod MemoryLaws
+pub mod InstructionParts
+pub mod InstructionLaws
+pub mod InstructionRows
