@@ -35,8 +35,8 @@ len-memory_of frames [] sorted = len-empty nat_cmp Cell
 len-memory_of frames (x ∷ es) sorted =
     let rest = len-memory_of frames es (tail_is_sorted x es sorted) in
     let more = len-add_cells (memory_of frames es) (4096 * x.page) 4096 (λ k. cell_of frames x k) (λ k l.
-      let page : (4096 * x.page + k) / 4096 ≡ x.page = omega arith in
-      get-memory_of frames es (4096 * x.page + k) ∙ ap (cell_in frames (4096 * x.page + k)) (ap (entry_at es) page ∙ first_is_alone x es sorted)) in
+    let page : (4096 * x.page + k) / 4096 ≡ x.page = omega arith in
+    get-memory_of frames es (4096 * x.page + k) ∙ ap (cell_in frames (4096 * x.page + k)) (ap (entry_at es) page ∙ first_is_alone x es sorted)) in
     omega (arith, rest, more)
 
 pub page_count-memory_of : (frames : List ℕ) (es : List Entry) → IsSorted es → page_count (memory_of frames es) ≡ length es

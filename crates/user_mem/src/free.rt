@@ -5,11 +5,10 @@ ghost use Rattle.user_mem.specs.declared.entry.Entry.{Entry};
 ghost use Rattle.user_mem.specs.Table.{entry_at, memory_of, AreBelow, IsSorted};
 ghost use Rattle.user_mem.specs.Frames.{uses, uses_of, AreMine};
 
-use arrayvec::ArrayVec;
-use rv_model::Permissions;
-
 use crate::frames::map_page;
 use crate::table::Table;
+use arrayvec::ArrayVec;
+use rv_model::Permissions;
 
 /// How many frames there are, free and used.
 pub(crate) const FRAME_COUNT: usize = 2048;
@@ -30,7 +29,13 @@ pub(crate) fn all_free() -> FreeFrames
 }
 
 // Maps one page of zeros in a free frame.
-fn take_page(table: &mut Table, free: &mut FreeFrames, frames: &mut [u8], page: u64, permissions: Permissions)
+fn take_page(
+    table: &mut Table,
+    free: &mut FreeFrames,
+    frames: &mut [u8],
+    page: u64,
+    permissions: Permissions,
+)
     requires room { length table.old.items < 256 }
     requires some { 0 < length free.old.items }
     requires sorted { IsSorted table.old.items }
@@ -54,7 +59,14 @@ fn take_page(table: &mut Table, free: &mut FreeFrames, frames: &mut [u8], page: 
 }
 
 /// Maps pages of zeros in free frames.
-pub(crate) fn take_pages(table: &mut Table, free: &mut FreeFrames, frames: &mut [u8], page: u64, count: usize, permissions: Permissions)
+pub(crate) fn take_pages(
+    table: &mut Table,
+    free: &mut FreeFrames,
+    frames: &mut [u8],
+    page: u64,
+    count: usize,
+    permissions: Permissions,
+)
     requires room { length table.old.items + count ≤ 256 }
     requires some { count ≤ length free.old.items }
     requires ends { page + count ≤ 2 ^ 36 }

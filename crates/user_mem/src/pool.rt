@@ -5,16 +5,14 @@ ghost use Rattle.rv_model.specs.Memory.{can_access, bytes_at, put_bytes, with_pa
 ghost use Rattle.user_mem.specs.Users.{no_memories, memory_of_user, with_memory};
 ghost use Rattle.user_mem.specs.Pool.{entries_of};
 
-use std::alloc::{AllocError, Allocator, Global};
-use std::marker::Model;
-
-use arrayvec::ArrayVec;
-use rv_model::{Access, Fault, MapRefusal, Permissions, User};
-
 use crate::frames::{FRAME_SIZE, copy_out};
 use crate::free::{FRAME_COUNT, FreeFrames, all_free};
 use crate::table::{allows, refusal};
 use crate::users::{Tables, drop_pages, map_user, write_user};
+use arrayvec::ArrayVec;
+use rv_model::{Access, Fault, MapRefusal, Permissions, User};
+use std::alloc::{AllocError, Allocator, Global};
+use std::marker::Model;
 
 /// There is no memory for the pool.
 #[derive(Clone, Copy, Debug, PartialEq, Eq)]
@@ -62,7 +60,13 @@ impl<A: Allocator> Pool<A> {
     }
 
     /// Maps pages of zeros for a user: `count` pages from `page` on. The pages end at or below address 2^48.
-    pub fn map(&mut self, user: User, page: u64, count: usize, permissions: Permissions) -> Result<(), MapRefusal>
+    pub fn map(
+        &mut self,
+        user: User,
+        page: u64,
+        count: usize,
+        permissions: Permissions,
+    ) -> Result<(), MapRefusal>
         requires { page + count ≤ 2 ^ 36 }
         ensures accepted { IsOk result ↔ (map_refusal (memory_of_user self.old user) page count ≡ None) }
         ensures refused { IfErr result (λ r. map_refusal (memory_of_user self.old user) page count ≡ Some r) }
@@ -75,7 +79,15 @@ impl<A: Allocator> Pool<A> {
         if let Some(refusal) = refusal(self.tables[user.index()].as_slice(), page, count) {
             return Err(refusal);
         }
-        map_user(&mut self.tables, user.index(), &mut self.free, self.frames.as_mut_slice(), page, count, permissions);
+        map_user(
+            &mut self.tables,
+            user.index(),
+            &mut self.free,
+            self.frames.as_mut_slice(),
+            page,
+            count,
+            permissions,
+        );
         Ok(())
     }
 
@@ -83,7 +95,12 @@ impl<A: Allocator> Pool<A> {
     pub fn drop_user(&mut self, user: User)
         ensures { self.new ≡ with_memory self.old user empty }
     {
-        drop_pages(&mut self.tables, user.index(), &mut self.free, self.frames.as_slice());
+        drop_pages(
+            &mut self.tables,
+            user.index(),
+            &mut self.free,
+            self.frames.as_slice(),
+        );
     }
 
     /// How many pages a user has.
@@ -106,26 +123,50 @@ impl<A: Allocator> Pool<A> {
     }
 
     /// Reads a user's bytes from an address on. After a fault the buffer is as it was.
-    pub fn read(&self, user: User, addr: u64, access: Access, buffer: &mut [u8]) -> Result<(), Fault>
+    pub fn read(
+        &self,
+        user: User,
+        addr: u64,
+        access: Access,
+        buffer: &mut [u8],
+    ) -> Result<(), Fault>
         ensures allowed { IsOk result ↔ (can_access access (memory_of_user self.now user) addr (length buffer.old) ≡ true) }
         ensures ok { OnOk result (buffer.new ≡ bytes_at (memory_of_user self.now user) addr (length buffer.old)) }
         ensures err { OnErr result (buffer.new ≡ buffer.old) }
         ensures fault { IfErr result (λ fault. fault.addr ≡ addr) }
     {
         self.check(user, addr, buffer.len(), access)?;
-        copy_out(self.tables[user.index()].as_slice(), self.frames.as_slice(), addr, buffer);
+        copy_out(
+            self.tables[user.index()].as_slice(),
+            self.frames.as_slice(),
+            addr,
+            buffer,
+        );
         Ok(())
     }
 
     /// Writes a user's bytes from an address on. After a fault nothing has changed.
-    pub fn write(&mut self, user: User, addr: u64, access: Access, bytes: &[u8]) -> Result<(), Fault>
+    pub fn write(
+        &mut self,
+        user: User,
+        addr: u64,
+        access: Access,
+        bytes: &[u8],
+    ) -> Result<(), Fault>
         ensures allowed { IsOk result ↔ (can_access access (memory_of_user self.old user) addr (length bytes.now) ≡ true) }
         ensures ok { OnOk result (self.new ≡ with_memory self.old user (put_bytes (memory_of_user self.old user) addr bytes.now)) }
         ensures err { OnErr result (self.new ≡ self.old) }
         ensures fault { IfErr result (λ fault. fault.addr ≡ addr) }
     {
         self.check(user, addr, bytes.len(), access)?;
-        write_user(&self.tables, user.index(), &self.free, self.frames.as_mut_slice(), addr, bytes);
+        write_user(
+            &self.tables,
+            user.index(),
+            &self.free,
+            self.frames.as_mut_slice(),
+            addr,
+            bytes,
+        );
         Ok(())
     }
 }

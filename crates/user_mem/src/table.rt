@@ -1,15 +1,14 @@
 //! A user's page table: entries in the order of their pages, found by binary search.
-ghost use Rattle.std.specs.Prelude.{◌≡◌, ℕ, List, ◌≤◌, ◌<◌, ◌+◌, ◌*◌, ◌/◌, ◌^◌, cond, nat_eq, false, Some, None, IfOk, IfErr, IfNone, length};
+ghost use Rattle.std.specs.Prelude.{◌≡◌, ℕ, List, ◌≤◌, ◌<◌, ◌+◌, ◌-◌, ◌*◌, ◌/◌, ◌%◌, ◌^◌, min, cond, nat_eq, false, Some, None, IfOk, IfErr, IfNone, length};
 ghost use Rattle.arrayvec.specs.ArrayVec.{array_vec_len};
 ghost use Rattle.rv_model.specs.Memory.{is_allowed, can_access, any_page_mapped, map_refusal};
 ghost use Rattle.user_mem.specs.declared.entry.Entry.{Entry};
 ghost use Rattle.user_mem.specs.Table.{entry_at, memory_of, AreBelow, IsSorted, IsAt, IsGapFor};
 ghost use Rattle.user_mem.specs.Frames.{uses_of};
 
+use crate::entry::Entry;
 use arrayvec::ArrayVec;
 use rv_model::{Access, MapRefusal};
-
-use crate::entry::Entry;
 
 /// The most pages that a user may have.
 pub(crate) const QUOTA: usize = 256;
@@ -51,21 +50,28 @@ fn is_byte_allowed(entries: &[Entry], access: Access, addr: u64) -> bool
     }
 }
 
+/// How many of the next `left` bytes from an address on lie in its page.
+pub(crate) fn bytes_in_page(addr: u64, left: usize) -> usize
+    ensures { result ≡ min left (4096 - addr % 4096) }
+{
+    left.min((PAGE_SIZE - addr % PAGE_SIZE) as usize)
+}
+
 /// Whether all bytes of an access are allowed.
 pub(crate) fn allows(entries: &[Entry], access: Access, addr: u64, len: usize) -> bool
     requires sorted { IsSorted entries.now }
     requires below { AreBelow entries.now }
     ensures { (frames : List ℕ) → result ≡ can_access access (memory_of frames entries.now) addr len }
 {
-    for k in 0..len {
-        match addr.checked_add(k as u64) {
-            Some(next) => {
-                if !is_byte_allowed(entries, access, next) {
-                    return false;
-                }
-            }
-            None => return false,
+    let mut done = 0;
+    while done < len {
+        let Some(next) = addr.checked_add(done as u64) else {
+            return false;
+        };
+        if !is_byte_allowed(entries, access, next) {
+            return false;
         }
+        done += bytes_in_page(next, len - done);
     }
     true
 }
