@@ -4,5 +4,5 @@
 mod memory;
 mod user;
 
-pub use memory::{Access, Fault, MapRefusal, Permissions};
+pub use memory::{Access, Fault, MapRefusal, Permissions, memory_laws};
 pub use user::User;
