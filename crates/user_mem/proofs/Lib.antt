@@ -6,3 +6,4 @@ pub mod PoolLaws
 pub mod PageLaws
 pub mod ViewLaws
 pub mod RunLaws
+pub mod UserLaws

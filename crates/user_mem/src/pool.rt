@@ -20,8 +20,11 @@ pub struct NoMemory;
 
 /// The frames of all users, the pages that each has in them, and the frames that are free.
 ///
-/// A page has 4,096 bytes. A user has at most 256 pages, and the 2,048 frames are enough for eight users who have that many each.
-/// Only `new` takes memory.
+/// A page has 4,096 bytes. A user has at most 256 pages, and the 2,048 frames are enough for eight
+/// users who have that many each. Only `new` takes memory.
+///
+/// A page may be read, written and executed as its permissions say (Privileged Architecture,
+/// section 4.3), and the monitor may look at any mapped page.
 #[derive(Drop)]
 pub struct Pool<A: Allocator = Global> {
     tables: Tables,
@@ -59,7 +62,11 @@ impl<A: Allocator> Pool<A> {
         })
     }
 
-    /// Maps pages of zeros for a user: `count` pages from `page` on. The pages end at or below address 2^48.
+    /// Maps `count` pages of zeros for a user, from the page numbered `page` on (page p begins at
+    /// address 4,096 p). The pages end at or below address 2^48.
+    ///
+    /// `Quota` where the user would have more than 256 pages, else `AlreadyMapped` where one of the
+    /// pages is there. Then nothing has changed.
     pub fn map(
         &mut self,
         user: User,
@@ -68,12 +75,20 @@ impl<A: Allocator> Pool<A> {
         permissions: Permissions,
     ) -> Result<(), MapRefusal>
         requires { page + count ≤ 2 ^ 36 }
-        ensures accepted { IsOk result ↔ (map_refusal (memory_of_user self.old user) page count ≡ None) }
-        ensures refused { IfErr result (λ r. map_refusal (memory_of_user self.old user) page count ≡ Some r) }
-        ensures quota { (result ≡ Err MapRefusal.Quota) ↔ (256 < page_count (memory_of_user self.old user) + count) }
+        ensures users { length self.old ≡ 8 }
+        ensures accepted { IsOk result
+            ↔ (map_refusal (memory_of_user self.old user) page count ≡ None) }
+        ensures refused { IfErr result (λ refusal.
+            map_refusal (memory_of_user self.old user) page count ≡ Some refusal) }
+
+        ensures quota { (result ≡ Err MapRefusal.Quota)
+            ↔ (256 < page_count (memory_of_user self.old user) + count) }
         ensures already_mapped { (result ≡ Err MapRefusal.AlreadyMapped)
-            ↔ ((page_count (memory_of_user self.old user) + count ≤ 256) × (any_page_mapped (memory_of_user self.old user) page count ≡ true)) }
-        ensures ok { OnOk result (self.new ≡ with_memory self.old user (with_pages (memory_of_user self.old user) page count permissions)) }
+            ↔ ((page_count (memory_of_user self.old user) + count ≤ 256)
+            × (any_page_mapped (memory_of_user self.old user) page count ≡ true)) }
+
+        ensures ok { OnOk result (self.new ≡ with_memory self.old user
+            (with_pages (memory_of_user self.old user) page count permissions)) }
         ensures err { OnErr result (self.new ≡ self.old) }
     {
         if let Some(refusal) = refusal(self.tables[user.index()].as_slice(), page, count) {
@@ -93,7 +108,8 @@ impl<A: Allocator> Pool<A> {
 
     /// Unmaps all pages of a user.
     pub fn drop_user(&mut self, user: User)
-        ensures { self.new ≡ with_memory self.old user empty }
+        ensures users { length self.old ≡ 8 }
+        ensures dropped { self.new ≡ with_memory self.old user empty }
     {
         drop_pages(
             &mut self.tables,
@@ -103,16 +119,20 @@ impl<A: Allocator> Pool<A> {
         );
     }
 
-    /// How many pages a user has.
+    /// How many pages a user has, at most 256.
     pub fn pages(&self, user: User) -> usize
-        ensures { result ≡ page_count (memory_of_user self.now user) }
+        ensures users { length self.now ≡ 8 }
+        ensures value { result ≡ page_count (memory_of_user self.now user) }
     {
         self.tables[user.index()].len()
     }
 
-    /// Checks that each byte of an access is allowed.
+    /// Checks that each of `len` bytes from an address on may be accessed so. A fault names the
+    /// address of the first. An access of no bytes is allowed anywhere.
     pub fn check(&self, user: User, addr: u64, len: usize, access: Access) -> Result<(), Fault>
-        ensures allowed { IsOk result ↔ (can_access access (memory_of_user self.now user) addr len ≡ true) }
+        ensures users { length self.now ≡ 8 }
+        ensures allowed { IsOk result
+            ↔ (can_access access (memory_of_user self.now user) addr len ≡ true) }
         ensures fault { IfErr result (λ fault. fault.addr ≡ addr) }
     {
         if allows(self.tables[user.index()].as_slice(), access, addr, len) {
@@ -122,7 +142,8 @@ impl<A: Allocator> Pool<A> {
         }
     }
 
-    /// Reads a user's bytes from an address on. After a fault the buffer is as it was.
+    /// Reads a user's bytes from an address on, until the buffer is full. After a fault, as of
+    /// `check`, the buffer is as it was.
     pub fn read(
         &self,
         user: User,
@@ -130,8 +151,11 @@ impl<A: Allocator> Pool<A> {
         access: Access,
         buffer: &mut [u8],
     ) -> Result<(), Fault>
-        ensures allowed { IsOk result ↔ (can_access access (memory_of_user self.now user) addr (length buffer.old) ≡ true) }
-        ensures ok { OnOk result (buffer.new ≡ bytes_at (memory_of_user self.now user) addr (length buffer.old)) }
+        ensures users { length self.now ≡ 8 }
+        ensures allowed { IsOk result
+            ↔ (can_access access (memory_of_user self.now user) addr (length buffer.old) ≡ true) }
+        ensures ok { OnOk result (buffer.new
+            ≡ bytes_at (memory_of_user self.now user) addr (length buffer.old)) }
         ensures err { OnErr result (buffer.new ≡ buffer.old) }
         ensures fault { IfErr result (λ fault. fault.addr ≡ addr) }
     {
@@ -145,7 +169,7 @@ impl<A: Allocator> Pool<A> {
         Ok(())
     }
 
-    /// Writes a user's bytes from an address on. After a fault nothing has changed.
+    /// Writes bytes of a user from an address on. After a fault, as of `check`, nothing has changed.
     pub fn write(
         &mut self,
         user: User,
@@ -153,8 +177,11 @@ impl<A: Allocator> Pool<A> {
         access: Access,
         bytes: &[u8],
     ) -> Result<(), Fault>
-        ensures allowed { IsOk result ↔ (can_access access (memory_of_user self.old user) addr (length bytes.now) ≡ true) }
-        ensures ok { OnOk result (self.new ≡ with_memory self.old user (put_bytes (memory_of_user self.old user) addr bytes.now)) }
+        ensures users { length self.old ≡ 8 }
+        ensures allowed { IsOk result
+            ↔ (can_access access (memory_of_user self.old user) addr (length bytes.now) ≡ true) }
+        ensures ok { OnOk result (self.new ≡ with_memory self.old user
+            (put_bytes (memory_of_user self.old user) addr bytes.now)) }
         ensures err { OnErr result (self.new ≡ self.old) }
         ensures fault { IfErr result (λ fault. fault.addr ≡ addr) }
     {

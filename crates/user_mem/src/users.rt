@@ -30,11 +30,13 @@ pub(crate) fn map_user(
     requires pool { IsPool (entries_of tables.old) free.old.items frames.old }
     requires room { length (table_at (entries_of tables.old) user) + count ≤ 256 }
     requires ends { page + count ≤ 2 ^ 36 }
-    requires new_pages { (k : ℕ) → k < count → entry_at (table_at (entries_of tables.old) user) (page + k) ≡ None }
+    requires new_pages { (k : ℕ) → k < count
+        → entry_at (table_at (entries_of tables.old) user) (page + k) ≡ None }
     ensures pool { IsPool (entries_of tables.new) free.new.items frames.new }
     ensures mapped { memories_of frames.new (entries_of tables.new)
         ≡ slice_set (memories_of frames.old (entries_of tables.old)) user
-        (with_pages (memory_of frames.old (table_at (entries_of tables.old) user)) page count permissions) }
+        (with_pages (memory_of frames.old (table_at (entries_of tables.old) user))
+        page count permissions) }
     ensures size { length frames.new ≡ length frames.old }
 {
     take_pages(&mut tables[user], free, frames, page, count, permissions);
@@ -61,7 +63,9 @@ pub(crate) fn write_user(
 )
     requires user { user < 8 }
     requires pool { IsPool (entries_of tables.now) free.now.items frames.old }
-    requires mapped { can_access Access.Monitor (memory_of frames.old (table_at (entries_of tables.now) user)) addr (length bytes.now) ≡ true }
+    requires mapped { can_access Access.Monitor
+        (memory_of frames.old (table_at (entries_of tables.now) user)) addr (length bytes.now)
+        ≡ true }
     ensures pool { IsPool (entries_of tables.now) free.now.items frames.new }
     ensures written { memories_of frames.new (entries_of tables.now)
         ≡ slice_set (memories_of frames.old (entries_of tables.now)) user
