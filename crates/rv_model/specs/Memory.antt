@@ -1,11 +1,11 @@
 -- A user's memory: a finite map from addresses to a byte and what may be done with it. Memory is one space of bytes, by address
 -- (Unprivileged ISA, section 1.4), mapped in pages of 4,096 bytes with permissions to read, write and execute
 -- (Privileged Architecture, sections 4.3 and 4.4). An access is allowed where each of its bytes is.
-use Rattle.std.specs.Prelude.{◌≡◌, ◌↔◌, ◌<◌, length, slice_index, ℕ, ◌+◌, ◌*◌, ◌/◌, ◌-◌, Bool, true, false, ◌&&◌, ◌||◌, cond, nat_lt, nat_le, List, [], ◌∷◌, zero, suc, map, Option, Some, None, refl}
+use Rattle.std.specs.Prelude.{◌≡◌, ◌↔◌, ◌<◌, length, slice_index, ℕ, ◌+◌, ◌*◌, ◌/◌, ◌-◌, Bool, true, false, ◌&&◌, cond, nat_lt, nat_le, List, [], ◌∷◌, zero, suc, map, Option, Some, None, refl}
 use Rattle.std.specs.List.{list_all, list_any, range_with_len}
-use Rattle.std.specs.Option.{option_map, option_map_or}
+use Rattle.std.specs.Option.{option_map_or}
 use Rattle.std.specs.Ordering.{nat_cmp}
-use Rattle.std.specs.FinMap.{FinMap, empty, get, insert, len, contains_key, code}
+use Rattle.std.specs.FinMap.{FinMap, get, insert, len, contains_key, code}
 use Rattle.std.specs.Coded.{Coded, code_by, coded×, coded_ℕ, coded_bool}
 use Rattle.rv_model.specs.declared.memory.Permissions.{Permissions}
 use Rattle.rv_model.specs.declared.memory.Access.{Access}

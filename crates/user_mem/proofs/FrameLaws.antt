@@ -1,17 +1,16 @@
 -- What a new entry changes
-use Rattle.std.proofs.Common.{◌≡◌, ◌≢◌, ℕ, zero, suc, ◌+◌, ◌-◌, ◌*◌, ◌/◌, ◌%◌, ◌<◌, ◌≤◌, ◌^◌, Bool, true, false, cond, eqb, List, [], ◌∷◌, ◌++◌, length, get_or, take, drop, Option, Some, None, refl, sym, ◌∙◌, ap, subst, ◌⊎◌, inl, inr, arith, ne_eqb, eq-eqb}
+use Rattle.std.proofs.Common.{◌≡◌, ◌≢◌, ℕ, zero, suc, ◌+◌, ◌*◌, ◌/◌, ◌%◌, ◌<◌, ◌≤◌, ◌^◌, Bool, cond, List, [], ◌∷◌, get_or, Option, Some, None, refl, sym, ◌∙◌, ap, ◌⊎◌, inl, inr, arith, ne_eqb, eq-eqb}
 use Rattle.std.specs.Prelude.{nat_eq}
-use Rattle.std.specs.List.{insert, sum_by}
-use Rattle.std.proofs.lemmas.List.Sums.{sum_by-insert, sum_by-append, sum_by-set}
+use Rattle.std.specs.List.{insert}
+use Rattle.std.proofs.lemmas.List.Sums.{sum_by-insert, sum_by-append}
 use Rattle.std.proofs.lemmas.Bool.{cases_eq, cases_lt}
 use Rattle.std.specs.FinMap.{get}
-use Rattle.rv_model.specs.declared.memory.Permissions.{Permissions}
 use Rattle.rv_model.specs.Memory.{Cell, Memory, with_pages}
 use Rattle.rv_model.proofs.MemoryLaws.{same_memory, get-add_cells_within, get-add_cells_outside}
 use Rattle.user_mem.specs.declared.entry.Entry.{Entry}
 use Rattle.user_mem.specs.Table.{entry_at, memory_of, AreBelow}
 use Rattle.user_mem.proofs.TableLaws.{cell_in, get-memory_of, memory_of_same}
-use Rattle.user_mem.specs.Frames.{uses, uses_of}
+use Rattle.user_mem.specs.Frames.{uses_of}
 
 -- the look-up after an entry of a new page was put anywhere
 pub entry_at-insert : (es : List Entry) (i : ℕ) (e : Entry) (p : ℕ) → entry_at es e.page ≡ None → entry_at (insert es i e) p ≡ cond (nat_eq e.page p) (Some e) (entry_at es p)
@@ -47,7 +46,7 @@ used_at (x ∷ xs) p e h = elim (cases_eq x.page p) [
   | inl same ↦
       let here : Some x ≡ Some e = ap (λ (b : Bool). cond b (Some x) (entry_at xs p)) (sym (eq-eqb x.page p same)) ∙ h in
       let frame : x.frame ≡ e.frame = cc in
-      let one : cond (nat_eq x.frame e.frame) 1 0 ≡ 1 = ap (λ (b : Bool). cond b 1 0) (eq-eqb x.frame e.frame frame) in
+      let one : ◌≡◌ {A = ℕ} (cond (nat_eq x.frame e.frame) 1 0) 1 = ap (λ (b : Bool). cond b 1 0) (eq-eqb x.frame e.frame frame) in
       let sum : uses_of e.frame (x ∷ xs) ≡ 1 + uses_of e.frame xs = uses_of-cons e.frame x xs ∙ ap (λ (n : ℕ). n + uses_of e.frame xs) one in
       omega arith
   | inr differ ↦

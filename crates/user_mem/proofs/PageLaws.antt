@@ -1,9 +1,9 @@
 -- Which pages a table maps, and how many
-use Rattle.std.proofs.Common.{◌≡◌, ◌≢◌, ℕ, zero, suc, ◌+◌, ◌*◌, ◌/◌, ◌%◌, ◌<◌, ◌≤◌, Bool, true, false, List, [], ◌∷◌, length, get_or, Option, Some, None, refl, sym, ◌∙◌, ap, arith}
+use Rattle.std.proofs.Common.{◌≡◌, ℕ, suc, ◌+◌, ◌*◌, ◌/◌, List, [], ◌∷◌, length, Option, Some, None, refl, ◌∙◌, ap, arith}
 use Rattle.std.specs.Prelude.{is_some}
 use Rattle.std.specs.Ordering.{nat_cmp}
-use Rattle.std.specs.FinMap.{get, len, contains_key, len-empty}
-use Rattle.rv_model.specs.Memory.{Cell, Memory, page_count}
+use Rattle.std.specs.FinMap.{len, contains_key, len-empty}
+use Rattle.rv_model.specs.Memory.{Cell, page_count}
 use Rattle.rv_model.proofs.MemoryLaws.{len-add_cells}
 use Rattle.user_mem.specs.declared.entry.Entry.{Entry}
 use Rattle.user_mem.specs.Table.{entry_at, cell_of, memory_of, IsSorted}

@@ -1,16 +1,14 @@
 -- What a table means at one address, and what a write to a frame does to it
-use Rattle.std.proofs.Common.{◌≡◌, ◌≢◌, ℕ, zero, suc, ◌+◌, ◌-◌, ◌*◌, ◌/◌, ◌%◌, ◌<◌, ◌≤◌, ◌^◌, Bool, true, false, cond, eqb, List, [], ◌∷◌, ◌++◌, length, get_or, set, map, Option, Some, None, refl, sym, ◌∙◌, ap, subst, ◌⊎◌, inl, inr, arith, ne_eqb, eq-eqb, get_or-set_same, get_or-set_other, take}
-use Rattle.std.proofs.lemmas.List.{take_more, length-take-le, ext_get_or}
-use Rattle.rv_model.specs.declared.memory.Access.TheVariants.{Monitor}
+use Rattle.std.proofs.Common.{◌≡◌, ◌≢◌, ℕ, ◌+◌, ◌*◌, ◌/◌, ◌%◌, ◌<◌, ◌≤◌, ◌^◌, Bool, true, false, cond, List, [], ◌∷◌, get_or, Option, Some, None, refl, sym, ◌∙◌, ap, ◌⊎◌, inl, inr, arith, ne_eqb, eq-eqb}
 use Rattle.std.specs.Ordering.{nat_cmp}
 use Rattle.std.specs.Option.{option_map, option_map_or}
 use Rattle.std.specs.FinMap.{get, get-empty}
 use Rattle.std.proofs.lemmas.Bool.{cases_eq, cases_lt}
 use Rattle.rv_model.specs.declared.memory.Access.{Access}
-use Rattle.rv_model.specs.Memory.{Cell, Memory, permits, add_cells, put_byte, put_bytes, bytes_at, can_access, is_allowed, byte_at}
-use Rattle.rv_model.proofs.MemoryLaws.{same_memory, with_byte, get-add_cells_within, get-add_cells_outside, get-put_byte_same, get-put_byte_other, can_access-at, put_bytes-append, length-bytes_at, get_or-bytes_at}
+use Rattle.rv_model.specs.Memory.{Cell, permits, can_access, is_allowed, byte_at}
+use Rattle.rv_model.proofs.MemoryLaws.{same_memory, get-add_cells_within, get-add_cells_outside, can_access-at}
 use Rattle.user_mem.specs.declared.entry.Entry.{Entry}
-use Rattle.user_mem.specs.Table.{entry_at, cell_of, memory_of, AreBelow, FitIn, AreSeparate, AreApart}
+use Rattle.user_mem.specs.Table.{entry_at, cell_of, memory_of, AreBelow}
 
 -- the cell at address x of the page that an entry maps
 abbrev pub cell_in : List ℕ → ℕ → Option Entry → Option Cell

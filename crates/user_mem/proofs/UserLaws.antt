@@ -1,7 +1,6 @@
 -- One user's memory is replaced among those of all
-use Rattle.std.proofs.Common.{◌≡◌, ◌≢◌, ℕ, ◌-◌, ◌<◌, List, length, arith, get_or-set_same, get_or-set_other}
+use Rattle.std.proofs.Common.{◌-◌, arith, get_or-set_same, get_or-set_other}
 use Rattle.std.specs.FinMap.{empty}
-use Rattle.rv_model.specs.Memory.{Memory}
 use Rattle.user_mem.specs.Users.{ReplacesOwn, KeepsOthers}
 
 pub replaces_own : ReplacesOwn

@@ -1,7 +1,6 @@
 -- The memories that callers see, and the tables and frames below them
-use Rattle.std.proofs.Common.{Option, Some, None, Result, Ok, Err, ◌≡◌, ℕ, zero, suc, ◌+◌, ◌-◌, ◌<◌, ◌≤◌, List, [], ◌∷◌, cond, length, get_or, map, replicate, refl, sym, ◌∙◌, ap, subst, arith, add-zero}
+use Rattle.std.proofs.Common.{Option, Some, None, Result, Ok, Err, ◌≡◌, ℕ, zero, suc, ◌-◌, ◌<◌, ◌≤◌, List, [], cond, length, get_or, map, replicate, refl, sym, ◌∙◌, ap, subst, arith, add-zero}
 use Rattle.std.specs.Prelude.{nat_lt, ◌↔◌}
-use Rattle.std.specs.List.{sum_by}
 use Rattle.std.specs.FinMap.{empty}
 use Rattle.std.proofs.lemmas.List.{length-map}
 use Rattle.rv_model.specs.declared.memory.MapRefusal.{MapRefusal}
@@ -11,7 +10,7 @@ use Rattle.user_mem.specs.Table.{memory_of, IsSorted, AreBelow}
 use Rattle.user_mem.specs.Frames.{uses, uses_of}
 use Rattle.user_mem.specs.Pool.{IsPool, owners, used_in_all, table_at, memories_of}
 use Rattle.user_mem.specs.Users.{no_memories, memory_of_user}
-use Rattle.user_mem.proofs.PoolLaws.{IsTable, no_table, item_of}
+use Rattle.user_mem.proofs.PoolLaws.{no_table, item_of}
 
 -- a fact of all tables holds of the one at place i, as code reads it
 pub fact_at : {V : Type 0} (f : V → List Entry) (P : List Entry → Type 0) (tables : List V) (i : ℕ) (d : V) (es : List Entry) → i < length (map f tables) → es ≡ f (get_or tables i d) → P (table_at (map f tables) i) → P es

@@ -1,4 +1,4 @@
-use Rattle.std.proofs.Common.{ℕ, ◌≡◌, ◌<◌, ◌≤◌, ◌+◌, ◌-◌, ◌%◌, ◌^◌, ◌∙◌, sym, refl, ap, take, drop, arith, true, length}
+use Rattle.std.proofs.Common.{ℕ, ◌≡◌, ◌≤◌, ◌+◌, ◌-◌, ◌%◌, ◌∙◌, sym, refl, ap, take, drop, arith, true, length}
 use Rattle.rv_model.specs.declared.memory.Access.TheVariants.{Monitor}
 use Rattle.rv_model.specs.Memory.{Memory, is_allowed, put_bytes}
 use Rattle.rv_model.proofs.MemoryLaws.{can_access-at, is_allowed-put_bytes}

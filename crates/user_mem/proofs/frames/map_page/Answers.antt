@@ -1,4 +1,3 @@
-use Rattle.std.proofs.Common.{refl, ◌∙◌, ap}
 use Rattle.user_mem.proofs.FrameLaws.{memory_of-page, unused_same}
 use Rattle.user_mem.proofs.frames.map_page.Goals as goal
 

@@ -1,4 +1,4 @@
-use Rattle.std.proofs.Common.{◌≡◌, ◌+◌, ◌∙◌, refl, ap, arith, length}
+use Rattle.std.proofs.Common.{◌+◌, ◌∙◌, refl, ap, arith, length}
 use Rattle.rv_model.specs.Memory.{Memory, with_pages}
 use Rattle.user_mem.specs.Table.{memory_of}
 use Rattle.rv_model.proofs.MemoryLaws.{with_pages_more, with_pages_none}

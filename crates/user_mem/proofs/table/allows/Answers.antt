@@ -1,5 +1,5 @@
-use Rattle.std.proofs.Common.{ℕ, ◌≡◌, ◌<◌, ◌≤◌, ◌+◌, ◌^◌, List, true, false, sym, ◌∙◌, refl, arith}
-use Rattle.rv_model.specs.Memory.{is_allowed, can_access}
+use Rattle.std.proofs.Common.{◌≡◌, ◌≤◌, ◌+◌, ◌^◌, false, sym, ◌∙◌, refl, arith}
+use Rattle.rv_model.specs.Memory.{is_allowed}
 use Rattle.rv_model.proofs.MemoryLaws.{can_access_not, can_access_from}
 use Rattle.user_mem.specs.Table.{memory_of}
 use Rattle.user_mem.proofs.TableLaws.{not_allowed_beyond}

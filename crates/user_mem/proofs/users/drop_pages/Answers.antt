@@ -1,7 +1,7 @@
-use Rattle.std.proofs.Common.{◌≡◌, ◌+◌, ◌∙◌, refl, sym, ap, subst, arith, length, map, set, List, ℕ, []}
+use Rattle.std.proofs.Common.{◌∙◌, refl, sym, ap, subst, arith, length, map, set, List, []}
 use Rattle.std.proofs.lemmas.List.{map-set}
 use Rattle.user_mem.specs.declared.entry.Entry.{Entry}
-use Rattle.user_mem.specs.Frames.{uses, uses_of}
+use Rattle.user_mem.specs.Frames.{uses_of}
 use Rattle.user_mem.proofs.CountLaws.{uses_of-none}
 use Rattle.user_mem.proofs.PoolLaws.{IsTable, no_table, back_fits, item_of, pool_after}
 use Rattle.user_mem.proofs.users.drop_pages.Goals as goal

@@ -1,8 +1,8 @@
-use Rattle.std.proofs.Common.{◌≡◌, ◌+◌, ◌∙◌, refl, sym, ap, arith, length, map, List, ℕ, []}
+use Rattle.std.proofs.Common.{◌+◌, ◌∙◌, sym, ap, arith, length, map, List, []}
 use Rattle.std.proofs.lemmas.List.{map-set}
 use Rattle.rv_model.specs.Memory.{with_pages}
 use Rattle.user_mem.specs.declared.entry.Entry.{Entry}
-use Rattle.user_mem.specs.Table.{memory_of, IsSorted, AreBelow}
+use Rattle.user_mem.specs.Table.{memory_of}
 use Rattle.user_mem.specs.Frames.{uses, uses_of}
 use Rattle.user_mem.specs.Pool.{table_at}
 use Rattle.user_mem.proofs.PoolLaws.{frame_left, mine, item_of, pool_after, memories_after}

@@ -1,8 +1,8 @@
-use Rattle.std.proofs.Common.{◌≡◌, ◌≢◌, ◌+◌, ◌∙◌, refl, sym, ap, arith, length, map, set, get_or, List, ℕ, []}
+use Rattle.std.proofs.Common.{◌∙◌, sym, ap, arith, map, List, []}
 use Rattle.std.proofs.lemmas.List.{set-get_or}
 use Rattle.rv_model.specs.Memory.{put_bytes}
 use Rattle.user_mem.specs.declared.entry.Entry.{Entry}
-use Rattle.user_mem.specs.Table.{memory_of, AreApart}
+use Rattle.user_mem.specs.Table.{memory_of}
 use Rattle.user_mem.specs.Pool.{table_at, memories_of}
 use Rattle.user_mem.proofs.PoolLaws.{item_of, fit_in, separate, apart, pool_written, memories_after}
 use Rattle.user_mem.proofs.users.write_user.Goals as goal

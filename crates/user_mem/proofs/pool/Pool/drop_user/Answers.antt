@@ -1,4 +1,4 @@
-use Rattle.std.proofs.Common.{◌≡◌, ℕ, ◌∙◌, ap, set, map, List}
+use Rattle.std.proofs.Common.{ℕ, ◌∙◌, ap, set, map, List}
 use Rattle.std.specs.FinMap.{empty}
 use Rattle.rv_model.specs.Memory.{Memory}
 use Rattle.user_mem.specs.declared.entry.Entry.{Entry}
