@@ -54,7 +54,8 @@ fn push_pc_line(reply: &mut Reply, tag: Tag, pc: u64)
     reply.push(b"\n");
 }
 
-/// Adds the answer to `regs`: a line of the program counter, and eight lines of four registers.
+/// Adds the answer to `regs`: a line with the program counter, and eight lines of four registers, each value in 16
+/// hexadecimal digits.
 #[tactic(auto, unfolding(rv_model::specs::Replies::regs_lines))]
 pub fn registers(reply: &mut Reply, tag: Tag, scalar: &Scalar)
     requires { length reply.old + 1300 ≤ 4096 }

@@ -65,7 +65,7 @@ fn push_stop(reply: &mut Reply, pc: u64, stop: Stop)
     }
 }
 
-/// Adds why a program stopped, with the program counter.
+/// Adds the line that says why a program stopped and where it stands, as `exit 7 pc=0000000000000008`.
 pub fn stop_line(reply: &mut Reply, tag: Tag, pc: u64, stop: Stop)
     requires { length reply.old + 80 ≤ 4096 }
     ensures text { reply.new ≡ reply.old ++ text (tag_byte tag) (stop_text pc stop ∷ []) }
@@ -89,7 +89,8 @@ fn stepped_line(reply: &mut Reply, tag: Tag, count: usize, pc: u64)
     reply.push(b"\n");
 }
 
-/// Adds the answer to `step N`: N instructions were carried out, or why the program stopped.
+/// Adds the answer to `step N`: the line that says that N instructions were carried out, as
+/// `stepped 3 pc=000000000001000c`, or the line that says why the program stopped.
 #[tactic(auto, unfolding(rv_model::specs::Replies::step_line))]
 pub fn step_line(reply: &mut Reply, tag: Tag, count: usize, pc: u64, stop: Option<Stop>)
     requires { length reply.old + 80 ≤ 4096 }
