@@ -63,8 +63,8 @@ pub fn refused(reply: &mut Reply, tag: Tag, refusal: Refusal)
     plain(reply, tag, refusal_code(refusal));
 }
 
-/// Adds the line `* E01`: a line of the script begins neither with a digit from 1 to 8 nor with a star, or no space
-/// follows.
+/// Adds the line `* E01`: a line of the script begins neither with a digit from 1 to 8 nor with a
+/// star, or no space follows.
 pub fn bad_prefix(reply: &mut Reply)
     requires { length reply.old + 6 ≤ 4096 }
     ensures text { reply.new ≡ reply.old ++ text 42 (codes "E01" ∷ []) }

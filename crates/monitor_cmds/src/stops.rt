@@ -65,7 +65,8 @@ fn push_stop(reply: &mut Reply, pc: u64, stop: Stop)
     }
 }
 
-/// Adds the line that says why a program stopped and where it stands, as `exit 7 pc=0000000000000008`.
+/// Adds the line that says why a program stopped and where it stands, as
+/// `exit 7 pc=0000000000000008`.
 pub fn stop_line(reply: &mut Reply, tag: Tag, pc: u64, stop: Stop)
     requires { length reply.old + 80 ≤ 4096 }
     ensures text { reply.new ≡ reply.old ++ text (tag_byte tag) (stop_text pc stop ∷ []) }
@@ -79,7 +80,8 @@ pub fn stop_line(reply: &mut Reply, tag: Tag, pc: u64, stop: Stop)
 // Adds how many instructions were carried out, with the program counter.
 fn stepped_line(reply: &mut Reply, tag: Tag, count: usize, pc: u64)
     requires { length reply.old + 51 ≤ 4096 }
-    ensures text { reply.new ≡ reply.old ++ tagged (tag_byte tag) (codes "stepped " ++ decimal count ++ codes " pc=" ++ hex16 pc) }
+    ensures text { reply.new ≡ reply.old
+        ++ tagged (tag_byte tag) (codes "stepped " ++ decimal count ++ codes " pc=" ++ hex16 pc) }
     ensures bound { length reply.new ≤ length reply.old + 51 }
 {
     reply.push(&[tag.byte(), b' ']);

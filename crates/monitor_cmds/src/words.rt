@@ -60,7 +60,8 @@ fn cut(line: &[u8]) -> (&[u8], &[u8])
 // The first word and what follows it.
 #[tactic(auto, using(crate::proofs::WordLaws::no_words))]
 fn first_word(line: &[u8]) -> Option<(&[u8], &[u8])>
-    ensures { MatchOption result (words line.now ≡ []) (λ p. words line.now ≡ p.0.now ∷ words p.1.now) }
+    ensures { MatchOption result (words line.now ≡ [])
+        (λ p. words line.now ≡ p.0.now ∷ words p.1.now) }
 {
     let mut rest = line;
     while !rest.is_empty() {
