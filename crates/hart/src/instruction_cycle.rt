@@ -53,7 +53,7 @@ fn execute(instr: Option<Instr>, word: u32, scalar: &mut Scalar) -> StepEnd
 /// Carries out one instruction of a user within `limit` ticks, and answers how it ended and how many
 /// ticks it took. The vector state is lent once where the instruction touches it, and else not at all.
 #[tactic(auto, unfolding(rv_model::specs::Step::step))]
-pub fn step<M: UserBytes, V: Vectors>(view: &mut View<'_, M, V>, limit: usize) -> (StepEnd, usize)
+pub fn step<M: UserBytes, V: Vectors>(view: &mut View<'_, '_, '_, M, V>, limit: usize) -> (StepEnd, usize)
     requires ready { V.ready view.old.vectors.now }
     requires limit { 1 ≤ limit }
     ensures model { IsStep limit
