@@ -31,7 +31,7 @@ fn fetch<M: UserBytes>(memory: &M, pc: u64) -> Result<u32, Fault>
 fn execute(instr: Option<Instr>, word: u32, scalar: &mut Scalar) -> StepEnd
     ensures model { (limit : ℕ) (vector : VState) (memory : Memory) (policy : Policy) (output : List ℕ)
         → executed limit instr word (hart_state scalar.old vector memory policy output)
-            ≡ ends result (hart_state scalar.new vector memory policy output) }
+        ≡ ends result (hart_state scalar.new vector memory policy output) }
     ensures untouched { touches instr ≡ false }
 {
     let Some(instr) = instr else {
@@ -46,21 +46,26 @@ fn execute(instr: Option<Instr>, word: u32, scalar: &mut Scalar) -> StepEnd
             op_imm(op, rd, rs1, imm, scalar);
             StepEnd::Ran
         }
-        Instr::System { op: SystemOp::Ecall } => call_environment(scalar),
+        Instr::System {
+            op: SystemOp::Ecall,
+        } => call_environment(scalar),
     }
 }
 
 /// Carries out one instruction of a user within `limit` ticks, and answers how it ended and how many
 /// ticks it took. The vector state is lent once where the instruction touches it, and else not at all.
 #[tactic(auto, unfolding(rv_model::specs::Step::step))]
-pub fn step<M: UserBytes, V: Vectors>(view: &mut View<'_, '_, '_, M, V>, limit: usize) -> (StepEnd, usize)
+pub fn step<M: UserBytes, V: Vectors>(
+    view: &mut View<'_, '_, '_, M, V>,
+    limit: usize,
+) -> (StepEnd, usize)
     requires ready { V.ready view.old.vectors.now }
     requires limit { 1 ≤ limit }
     ensures model { IsStep limit
         (hart_state view.old.scalar.now (V.lent view.old.vectors.now).state
-            (M.memory view.old.memory.now) view.old.policy)
+        (M.memory view.old.memory.now) view.old.policy)
         (hart_state view.new.scalar.now (V.lent view.new.vectors.now).state
-            (M.memory view.new.memory.now) view.new.policy)
+        (M.memory view.new.memory.now) view.new.policy)
         result.0 result.1 }
     ensures policy { view.new.policy ≡ view.old.policy }
 
@@ -69,8 +74,8 @@ pub fn step<M: UserBytes, V: Vectors>(view: &mut View<'_, '_, '_, M, V>, limit: 
         ≡ M.with_memory view.old.memory.now (M.memory view.new.memory.now) }
     ensures vectors { view.new.vectors.now
         ≡ (if touches (fetched (M.memory view.old.memory.now) view.old.scalar.now.pc)
-            then V.back view.old.vectors.now (V.lent view.new.vectors.now)
-            else view.old.vectors.now) }
+        then V.back view.old.vectors.now (V.lent view.new.vectors.now)
+        else view.old.vectors.now) }
     ensures ready { V.ready view.new.vectors.now }
 
     // The view refers to the same parts as before.
