@@ -1,5 +1,5 @@
 -- What a scan of each family finds, and which families a word can be of
-use Rattle.std.proofs.Common.{◌≡◌, ◌≢◌, refl, ap, ap₂, ◌∙◌, sym, ℕ, ◌+◌, ◌*◌, ◌/◌, ◌%◌, ◌^◌, ◌<◌, List, [], ◌∷◌, ◌++◌, map, Option, Some, None, Bool, true, false, nat_eq, cond, ◌&&◌, inl, inr, arith}
+use Rattle.std.proofs.Common.{◌≡◌, refl, ap, ap₂, ◌∙◌, sym, ℕ, ◌+◌, ◌*◌, ◌/◌, ◌%◌, ◌^◌, ◌<◌, List, [], ◌∷◌, ◌++◌, map, Option, Some, None, Bool, true, false, nat_eq, cond, ◌&&◌, inl, inr, arith}
 use Rattle.std.specs.Int.Bits.{bit_and}
 use Rattle.std.proofs.lemmas.Nat.{and_mask}
 use Rattle.std.proofs.lemmas.Bool.Decides.{eqb_tells}
@@ -11,15 +11,15 @@ use Rattle.rv_model.specs.declared.operations.Line.{Line}
 use Rattle.rv_model.specs.declared.operations.Form.{Form}
 use Rattle.rv_model.specs.declared.operations.Form.TheVariants as form
 use Rattle.rv_model.specs.declared.instruction.Instr.{Instr}
-use Rattle.rv_model.specs.declared.instruction.Instr.TheVariants.{Upper, Jump, JumpRegister, Branch, Load, Store, OpImm, ShiftImm, ShiftImmWord, Op, Fence, System, Csr, CsrImmediate, SetVli, SetIvli, SetVl, VectorArith, VectorCarry, VectorMove, WholeMove, MaskLogic, Compress, MaskToScalar, VectorExtend, MaskUnary, ElementIndex, MoveToScalar, MoveToVector, VectorUnit, VectorStrided, VectorIndexed, WholeLoad, WholeStore, MaskMemory}
-use Rattle.rv_model.specs.BitFields.{Part, part, fixed}
+use Rattle.rv_model.specs.declared.instruction.Instr.TheVariants.{Upper, Branch, Load, Store, OpImm, ShiftImm, ShiftImmWord, Op, System, Csr, CsrImmediate, VectorArith, VectorCarry, WholeMove, MaskLogic, MaskToScalar, VectorExtend, MaskUnary, VectorUnit, VectorStrided, VectorIndexed, WholeLoad, WholeStore, MaskMemory}
+use Rattle.rv_model.specs.BitFields.{part, fixed}
 use Rattle.rv_model.specs.Sources.{form_of, source_of}
-use Rattle.rv_model.specs.FixedBits.{coded, vector_coded, upper_bits, branch_bits, load_bits, store_bits, op_imm_bits, shift_imm_bits, shift_imm_word_bits, op_bits, system_bits, csr_bits, csr_immediate_bits, move_bits, whole_move_bits, mask_logic_bits, mask_to_scalar_bits, extend_bits, mask_unary_bits, width_bits, direction_bits, unit_bits, order_bits, strided_bits, count_bits, mask_memory_bits, upper_ops, branch_ops, load_ops, store_ops, op_imm_ops, shift_imm_ops, shift_imm_word_ops, op_ops, system_ops, csr_ops, csr_immediate_ops, mask_logic_ops, mask_to_scalar_ops, extend_ops, mask_unary_ops, widths, directions, unit_ops, counts}
+use Rattle.rv_model.specs.FixedBits.{upper_bits, branch_bits, load_bits, store_bits, op_imm_bits, shift_imm_bits, shift_imm_word_bits, op_bits, system_bits, csr_bits, csr_immediate_bits, whole_move_bits, mask_logic_bits, mask_to_scalar_bits, extend_bits, mask_unary_bits, mask_memory_bits, upper_ops, branch_ops, load_ops, store_ops, op_imm_ops, shift_imm_ops, shift_imm_word_ops, op_ops, system_ops, csr_ops, csr_immediate_ops, mask_logic_ops, mask_to_scalar_ops, extend_ops, mask_unary_ops, directions, counts}
 use Rattle.rv_model.specs.Operations.{has_form, line, carry_line, line_bits, major_bits, same_major, those, vector_ops, carry_ops}
 use Rattle.rv_model.specs.InstructionLayout.{parts, bits, filled, unit_access_bits, strided_access_bits, indexed_access_bits, whole_load_bits, whole_store_bits}
-use Rattle.rv_model.specs.InstructionTable.{Row, row_of, rows, table, scan, find, find_at, unit_accesses, strided_accesses, indexed_accesses, whole_loads, Uppers, Jumps, JumpRegisters, Branches, Loads, Stores, OpImms, ShiftImms, ShiftImmWords, Ops, Fences, Systems, Csrs, CsrImmediates, SetVlis, SetIvlis, SetVls, Ariths, Carries, Moves, WholeMoves, MaskLogics, Compresses, MasksToScalar, Extends, MaskUnaries, ElementIndices, MovesToScalar, MovesToVector, Units, Strideds, Indexeds, WholeLoads, WholeStores, MaskMemories}
-use Rattle.rv_model.proofs.InstructionParts.{masked, of_word, share_none}
-use Rattle.rv_model.proofs.InstructionLaws.{scan_append, narrowed, scan_narrow, same_narrow, no_scan, DiffersFrom}
+use Rattle.rv_model.specs.InstructionTable.{row_of, rows, table, scan, find, find_at, unit_accesses, strided_accesses, indexed_accesses, whole_loads, Uppers, Jumps, JumpRegisters, Branches, Loads, Stores, OpImms, ShiftImms, ShiftImmWords, Ops, Fences, Systems, Csrs, CsrImmediates, SetVlis, SetIvlis, SetVls, Ariths, Carries, Moves, WholeMoves, MaskLogics, Compresses, MasksToScalar, Extends, MaskUnaries, ElementIndices, MovesToScalar, MovesToVector, Units, Strideds, Indexeds, WholeLoads, WholeStores, MaskMemories}
+use Rattle.rv_model.proofs.InstructionParts.{masked}
+use Rattle.rv_model.proofs.InstructionLaws.{narrowed, scan_narrow, same_narrow, no_scan, DiffersFrom}
 
 -- what a family's rows answer, by the operation that was found
 abbrev pub answer : {A : Type 0} → (A → Instr) → ℕ → Option A → Option Instr

@@ -16,8 +16,10 @@ pub fn encoded_again(word: u32) -> Option<u32>
     ensures same { IfSome result (λ again. again ≡ word) }
     ensures none { IfNone result ((r : Row) → IsRow word r → ⊥) }
 {
-    let instr = decode(word)?;
-    Some(encode(&instr))
+    match decode(word) {
+        Some(instr) => Some(encode(&instr)),
+        None => None,
+    }
 }
 
 /// The instruction of an instruction's word, which is that instruction.

@@ -1,16 +1,14 @@
 -- What a scan of the instruction table finds
-use Rattle.std.proofs.Common.{◌≡◌, ◌≢◌, refl, ap, ap₂, ◌∙◌, sym, subst, ℕ, zero, suc, ◌+◌, ◌-◌, ◌*◌, ◌/◌, ◌%◌, ◌^◌, ◌<◌, ◌≤◌, List, [], ◌∷◌, ◌++◌, map, Option, Some, None, Bool, true, false, nat_eq, cond, not, ◌&&◌, ◌||◌, inl, inr, ◌⊎◌, arith}
+use Rattle.std.proofs.Common.{◌≡◌, ◌≢◌, refl, ap, ◌∙◌, sym, subst, ℕ, List, [], ◌∷◌, ◌++◌, Option, Some, None, Bool, true, false, nat_eq, cond, not, ◌&&◌, ◌||◌, inl, inr, ◌⊎◌}
 use Rattle.std.specs.Prelude.{IfSome, IfNone}
 use Rattle.std.specs.List.{list_any, list_all}
 use Rattle.std.specs.Option.{option_or}
-use Rattle.std.specs.Int.Bits.{bit_and, and_comm, and_le_r}
-use Rattle.std.proofs.lemmas.Nat.{and_assoc, mod_below}
+use Rattle.std.specs.Int.Bits.{bit_and, and_comm}
+use Rattle.std.proofs.lemmas.Nat.{and_assoc}
 use Rattle.std.proofs.lemmas.Bool.Decides.{eqb_tells}
 use Rattle.std.proofs.lemmas.Bool.{eq-eqb, eqb-true}
 use Rattle.rv_model.specs.declared.instruction.Instr.{Instr}
-use Rattle.rv_model.specs.BitFields.{Part, mask_of, sum_of, AllFit, flag_bit, flag, field}
-use Rattle.rv_model.specs.InstructionTable.{Row, rows, joined, table, Matches, In, IsRow, scan}
-use Rattle.rv_model.proofs.InstructionParts.{share_none, inside_mask}
+use Rattle.rv_model.specs.InstructionTable.{Row, rows, table, Matches, In, IsRow, scan}
 
 -- no word can match both rows
 abbrev pub apart : Row → Row → Bool

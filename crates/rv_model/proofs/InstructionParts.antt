@@ -1,6 +1,6 @@
 -- Words as sums of parts that share no bits
 use Rattle.std.proofs.Common.{◌≡◌, refl, ap, ap₂, ◌∙◌, sym, ℕ, ◌+◌, ◌-◌, ◌*◌, ◌/◌, ◌%◌, ◌^◌, ◌<◌, List, [], ◌∷◌, Bool, true, false, nat_eq, ◌&&◌, min, max, arith, add-zero, zero-add}
-use Rattle.std.specs.Int.Bits.{bit_and, bit_or, and_comm, and_zero_r, and_self, or_disjoint, and_high, and_zero_l}
+use Rattle.std.specs.Int.Bits.{bit_and, bit_or, and_comm, and_zero_r, or_disjoint, and_high, and_zero_l}
 use Rattle.std.specs.Int.{bit_at}
 use Rattle.std.proofs.lemmas.Nat.Bits.{same_from_bits, bit_at_and, bit_at_or}
 use Rattle.std.proofs.lemmas.Nat.{and_assoc, and_mask, pow_pos}

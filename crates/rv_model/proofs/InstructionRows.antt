@@ -1,5 +1,5 @@
 -- Each instruction has its row, and word and instruction tell each other
-use Rattle.std.proofs.Common.{◌≡◌, refl, ap, ap₂, ◌∙◌, sym, subst, ℕ, zero, suc, ◌+◌, ◌-◌, ◌*◌, ◌/◌, ◌%◌, ◌^◌, ◌<◌, ◌≤◌, List, [], ◌∷◌, ◌++◌, map, Option, Some, None, Bool, true, false, nat_eq, cond, ◌&&◌, inl, inr, ◌⊎◌, arith}
+use Rattle.std.proofs.Common.{◌≡◌, refl, ap, ap₂, ◌∙◌, sym, subst, ℕ, zero, suc, ◌+◌, ◌-◌, ◌*◌, ◌/◌, ◌%◌, ◌^◌, ◌<◌, ◌≤◌, List, [], ◌∷◌, ◌++◌, map, Option, Some, None, Bool, true, false, nat_eq, cond, inl, inr, ◌⊎◌, arith}
 use Rattle.std.specs.Prelude.{IfSome}
 use Rattle.std.specs.Int.Bits.{bit_and, and_le_r}
 use Rattle.std.proofs.lemmas.Nat.{mod_below}
@@ -72,10 +72,10 @@ use Rattle.rv_model.specs.declared.operations.RegisterCount.{RegisterCount}
 use Rattle.rv_model.specs.declared.operations.RegisterCount.TheVariants as count
 use Rattle.rv_model.specs.declared.instruction.Instr.{Instr}
 use Rattle.rv_model.specs.declared.instruction.Instr.TheVariants.{Upper, Jump, JumpRegister, Branch, Load, Store, OpImm, ShiftImm, ShiftImmWord, Op, Fence, System, Csr, CsrImmediate, SetVli, SetIvli, SetVl, VectorArith, VectorCarry, VectorMove, WholeMove, MaskLogic, Compress, MaskToScalar, VectorExtend, MaskUnary, ElementIndex, MoveToScalar, MoveToVector, VectorUnit, VectorStrided, VectorIndexed, WholeLoad, WholeStore, MaskMemory}
-use Rattle.rv_model.specs.BitFields.{field, flag, flag_bit, Part, part, sum_of, mask_of, fixed, AllFit}
-use Rattle.rv_model.specs.Immediates.{store_immediate, branch_offset, jump_offset}
+use Rattle.rv_model.specs.BitFields.{field, flag, flag_bit, Part, sum_of, mask_of, fixed, AllFit}
+use Rattle.rv_model.specs.Immediates.{store_immediate}
 use Rattle.rv_model.specs.Sources.{form_of, number, source_of}
-use Rattle.rv_model.specs.FixedBits.{coded, vector_coded, upper_bits, branch_bits, load_bits, store_bits, op_imm_bits, shift_imm_bits, shift_imm_word_bits, op_bits, system_bits, csr_bits, csr_immediate_bits, move_bits, whole_move_bits, mask_logic_bits, mask_to_scalar_bits, extend_bits, mask_unary_bits, width_bits, direction_bits, unit_bits, order_bits, strided_bits, count_bits, mask_memory_bits, upper_ops, branch_ops, load_ops, store_ops, op_imm_ops, shift_imm_ops, shift_imm_word_ops, op_ops, system_ops, csr_ops, csr_immediate_ops, mask_logic_ops, mask_to_scalar_ops, extend_ops, mask_unary_ops, widths, directions, unit_ops, counts}
+use Rattle.rv_model.specs.FixedBits.{upper_bits, branch_bits, load_bits, store_bits, op_imm_bits, shift_imm_bits, shift_imm_word_bits, op_bits, system_bits, csr_bits, csr_immediate_bits, whole_move_bits, mask_logic_bits, mask_to_scalar_bits, extend_bits, mask_unary_bits, mask_memory_bits, upper_ops, branch_ops, load_ops, store_ops, op_imm_ops, shift_imm_ops, shift_imm_word_ops, op_ops, system_ops, csr_ops, csr_immediate_ops, mask_logic_ops, mask_to_scalar_ops, extend_ops, mask_unary_ops, directions, counts}
 use Rattle.rv_model.specs.Operations.{has_form, line, carry_line, line_bits, those, vector_ops, carry_ops, binary_line, compare_line, fixed_point_line, narrow_line, widen_line, multiply_add_line, reduce_line, permute_line}
 use Rattle.rv_model.specs.InstructionLayout.{parts, bits, filled, word_of, Allowed, unit_access_bits, strided_access_bits, indexed_access_bits, whole_load_bits, whole_store_bits}
 use Rattle.rv_model.specs.InstructionTable.{Row, row_of, Family, templates, families, rows, joined, table, Matches, In, scan, find, unit_accesses, strided_accesses, indexed_accesses, whole_loads, Ariths}

@@ -1,8 +1,5 @@
 -- The bits that each operation fixes in its word, as the manual's tables have them: opcode at bits 6 to 0, funct3 at 14 to 12, funct7 at 31 to 25
-use Rattle.std.specs.Prelude.{ℕ, ◌+◌, ◌*◌, ◌^◌, List, [], ◌∷◌, map, ◌++◌}
-use Rattle.rv_model.specs.declared.operations.Major.{Major}
-use Rattle.rv_model.specs.declared.operations.Major.TheVariants.{Opi, Opm}
-use Rattle.rv_model.specs.declared.operations.Line.{Line}
+use Rattle.std.specs.Prelude.{ℕ, ◌+◌, ◌*◌, ◌^◌, List, [], ◌∷◌}
 use Rattle.rv_model.specs.declared.operations.UpperOp.{UpperOp}
 use Rattle.rv_model.specs.declared.operations.UpperOp.TheVariants as upper
 use Rattle.rv_model.specs.declared.operations.BranchOp.{BranchOp}

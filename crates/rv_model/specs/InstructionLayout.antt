@@ -1,6 +1,6 @@
 -- The layout of each instruction's word: where its operands stand, and the bits that its operation fixes (Unprivileged ISA, "Base Instruction Formats"; V extension, "Vector Instruction Formats")
-use Rattle.std.specs.Prelude.{ℕ, ◌+◌, ◌-◌, ◌*◌, ◌/◌, ◌%◌, ◌^◌, ◌≡◌, List, [], ◌∷◌, true}
-use Rattle.rv_model.specs.BitFields.{field, flag, flag_bit, Part, part, sum_of, fixed}
+use Rattle.std.specs.Prelude.{ℕ, ◌+◌, ◌*◌, ◌/◌, ◌%◌, ◌^◌, ◌≡◌, List, [], ◌∷◌, true}
+use Rattle.rv_model.specs.BitFields.{field, flag, flag_bit, Part, part, sum_of}
 use Rattle.rv_model.specs.Immediates.{store_immediate, branch_offset, jump_offset}
 use Rattle.rv_model.specs.Sources.{form_of, number, source_of}
 use Rattle.rv_model.specs.FixedBits.{coded, vector_coded, upper_bits, branch_bits, load_bits, store_bits, op_imm_bits, shift_imm_bits, shift_imm_word_bits, op_bits, system_bits, csr_bits, csr_immediate_bits, move_bits, whole_move_bits, mask_logic_bits, mask_to_scalar_bits, extend_bits, mask_unary_bits, width_bits, direction_bits, unit_bits, order_bits, strided_bits, count_bits, mask_memory_bits}

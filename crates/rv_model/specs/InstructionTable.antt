@@ -1,5 +1,5 @@
 -- The instruction table: a row for each operation of the manual's tables, with the bits that it fixes and the instruction that a word of the row is. Its families stand in the order of the tables
-use Rattle.std.specs.Prelude.{◌⊎◌, ℕ, ◌≡◌, List, [], ◌∷◌, ◌++◌, map, Option, Some, None, Bool, true, ◌&&◌, nat_eq, bit_and, if◌then◌else◌}
+use Rattle.std.specs.Prelude.{◌⊎◌, ℕ, ◌≡◌, List, [], ◌∷◌, ◌++◌, map, Option, Some, None, true, ◌&&◌, nat_eq, bit_and, if◌then◌else◌}
 use Rattle.rv_model.specs.BitFields.{fixed}
 use Rattle.rv_model.specs.Sources.{source_of}
 use Rattle.rv_model.specs.FixedBits.{branch_ops, counts, csr_immediate_ops, csr_ops, directions, extend_ops, load_ops, mask_logic_ops, mask_to_scalar_ops, mask_unary_ops, op_imm_ops, op_ops, shift_imm_ops, shift_imm_word_ops, store_ops, system_ops, unit_ops, upper_ops, widths}

@@ -1,6 +1,10 @@
 //! The instructions, by operand shape.
 use crate::operands::{Field, Reg, VReg};
-use crate::operations::{BranchOp, CsrImmediateOp, CsrOp, Direction, ExtendOp, LoadOp, MaskLogicOp, MaskToScalarOp, MaskUnaryOp, OpImmOp, OpOp, Order, RegisterCount, ShiftImmOp, ShiftImmWordOp, StoreOp, SystemOp, UnitOp, UpperOp, Width};
+use crate::operations::{
+    BranchOp, CsrImmediateOp, CsrOp, Direction, ExtendOp, LoadOp, MaskLogicOp, MaskToScalarOp,
+    MaskUnaryOp, OpImmOp, OpOp, Order, RegisterCount, ShiftImmOp, ShiftImmWordOp, StoreOp,
+    SystemOp, UnitOp, UpperOp, Width,
+};
 use crate::pairs::{Arith, Carry};
 use crate::source::Source;
 
