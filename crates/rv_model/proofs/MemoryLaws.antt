@@ -1,14 +1,16 @@
 -- What the definitions of a memory give at one address
-use Rattle.std.proofs.Common.{◌≡◌, ◌≢◌, ℕ, zero, suc, ◌+◌, ◌<◌, ◌≤◌, Bool, true, false, cond, List, [], ◌∷◌, ◌++◌, length, get_or, Option, Some, None, refl, sym, ◌∙◌, ap, subst, ◌⊎◌, inl, inr, arith, ne_eqb, eq-eqb}
+use Rattle.std.proofs.Common.{◌≡◌, ◌≢◌, ℕ, zero, suc, ◌+◌, ◌-◌, ◌*◌, ◌<◌, ◌≤◌, Bool, true, false, cond, eqb, ◌&&◌, List, [], ◌∷◌, ◌++◌, length, get_or, map, Option, Some, None, refl, sym, ◌∙◌, ap, subst, ◌⊎◌, inl, inr, arith, ne_eqb, eq-eqb, add-one}
 use Rattle.std.specs.Prelude.{is_some}
-use Rattle.std.specs.Ordering.{nat_cmp}
+use Rattle.std.specs.Ordering.{nat_cmp, eq_by_cmp}
 use Rattle.std.specs.Cmp.{unsigned_tied, nat_cmp_total}
+use Rattle.std.specs.List.{list_all, range_with_len}
 use Rattle.std.specs.Option.{option_map, option_map_or}
-use Rattle.std.specs.FinMap.{FinMap, get, insert, len, get-insert, len-insert, same_map, nat_cmp-IsAntisymmetric}
+use Rattle.std.specs.FinMap.{FinMap, empty, get, insert, len, contains_key, get-insert, len-insert, same_map, nat_cmp-IsAntisymmetric}
 use Rattle.std.proofs.lemmas.List.FromFn.{length-map-range_with_len, get_or-map-range_with_len, map-range_with_len_more}
-use Rattle.std.proofs.lemmas.Bool.{and_parts, and_from, cases_eq}
+use Rattle.std.proofs.lemmas.Bool.{and_parts, and_from, cases_eq, cond-false, cond-true}
 use Rattle.rv_model.specs.declared.memory.Access.{Access}
-use Rattle.rv_model.specs.Memory.{Cell, Memory, permits, byte_at, is_allowed, can_access, bytes_at, put_byte, put_bytes, add_cells}
+use Rattle.rv_model.specs.declared.memory.Permissions.{Permissions}
+use Rattle.rv_model.specs.Memory.{Cell, Memory, permits, byte_at, is_allowed, can_access, bytes_at, put_byte, put_bytes, add_cells, with_pages}
 
 -- two memories that answer alike are equal
 pub same_memory : (m n : Memory) → ((x : ℕ) → get m x ≡ get n x) → m ≡ n
