@@ -25,7 +25,9 @@ fn is_same(word: u32) -> bool
 }
 
 /// How many of the generator's first words are instructions with another word.
-fn mismatches(count: u32) -> u32 {
+fn mismatches(count: u32) -> u32
+    ensures { result ≡ 0 }
+{
     let mut word = 0;
     let mut found = 0;
     for _ in 0..count {
