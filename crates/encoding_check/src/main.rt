@@ -1,5 +1,8 @@
 //! Decodes words and encodes their instructions: the words of standard input, written in hexadecimal,
 //! one a line, and 100,000 words of a fixed generator.
+//!
+//! `stdin` has words that the assemblers of GNU binutils 2.40 and LLVM 19.1.7 give for every row of the
+//! table, and then words that no row has: `yes` and the same word again, or `none`.
 #![tactic(auto)]
 
 ghost use Rattle.std.specs.Prelude.{◌≡◌, ◌+◌, ◌*◌, ◌%◌, ◌^◌, IsTrue};

@@ -9,6 +9,7 @@ use crate::scalar_operations::{
 use crate::word_fields::{bits, branch_offset, jump_offset, reg, store_immediate};
 use rv_model::{Field, Instr};
 
+/// LUI and AUIPC.
 #[tactic(auto, using(crate::proofs::Scan::scan_upper))]
 pub fn upper(word: u32) -> Option<Instr>
     ensures { result ≡ scan (rows Uppers) word }
@@ -21,6 +22,7 @@ pub fn upper(word: u32) -> Option<Instr>
     })
 }
 
+/// JAL.
 #[tactic(auto, unfolding(rv_model::specs::InstructionTable::scan, rv_model::specs::InstructionTable::rows))]
 pub fn jump(word: u32) -> Option<Instr>
     ensures { result ≡ scan (rows Jumps) word }
@@ -35,6 +37,7 @@ pub fn jump(word: u32) -> Option<Instr>
     }
 }
 
+/// JALR.
 #[tactic(auto, unfolding(rv_model::specs::InstructionTable::scan, rv_model::specs::InstructionTable::rows))]
 pub fn jump_register(word: u32) -> Option<Instr>
     ensures { result ≡ scan (rows JumpRegisters) word }
@@ -50,6 +53,7 @@ pub fn jump_register(word: u32) -> Option<Instr>
     }
 }
 
+/// BRANCH.
 #[tactic(auto, using(crate::proofs::Scan::scan_branch))]
 pub fn branch(word: u32) -> Option<Instr>
     ensures { result ≡ scan (rows Branches) word }
@@ -63,6 +67,7 @@ pub fn branch(word: u32) -> Option<Instr>
     })
 }
 
+/// LOAD.
 #[tactic(auto, using(crate::proofs::Scan::scan_load))]
 pub fn load(word: u32) -> Option<Instr>
     ensures { result ≡ scan (rows Loads) word }
@@ -76,6 +81,7 @@ pub fn load(word: u32) -> Option<Instr>
     })
 }
 
+/// STORE.
 #[tactic(auto, using(crate::proofs::Scan::scan_store))]
 pub fn store(word: u32) -> Option<Instr>
     ensures { result ≡ scan (rows Stores) word }
@@ -89,6 +95,7 @@ pub fn store(word: u32) -> Option<Instr>
     })
 }
 
+/// OP-IMM and OP-IMM-32 with an immediate of 12 bits.
 #[tactic(auto, using(crate::proofs::Scan::scan_op_imm))]
 pub fn op_imm(word: u32) -> Option<Instr>
     ensures { result ≡ scan (rows OpImms) word }
@@ -102,6 +109,7 @@ pub fn op_imm(word: u32) -> Option<Instr>
     })
 }
 
+/// OP-IMM with a shift amount.
 #[tactic(auto, using(crate::proofs::Scan::scan_shift_imm))]
 pub fn shift_imm(word: u32) -> Option<Instr>
     ensures { result ≡ scan (rows ShiftImms) word }
@@ -115,6 +123,7 @@ pub fn shift_imm(word: u32) -> Option<Instr>
     })
 }
 
+/// OP-IMM-32 with a shift amount.
 #[tactic(auto, using(crate::proofs::Scan::scan_shift_imm_word))]
 pub fn shift_imm_word(word: u32) -> Option<Instr>
     ensures { result ≡ scan (rows ShiftImmWords) word }
@@ -128,6 +137,7 @@ pub fn shift_imm_word(word: u32) -> Option<Instr>
     })
 }
 
+/// OP and OP-32.
 #[tactic(auto, using(crate::proofs::Scan::scan_op))]
 pub fn op(word: u32) -> Option<Instr>
     ensures { result ≡ scan (rows Ops) word }
@@ -141,6 +151,7 @@ pub fn op(word: u32) -> Option<Instr>
     })
 }
 
+/// FENCE of MISC-MEM.
 #[tactic(auto, unfolding(rv_model::specs::InstructionTable::scan, rv_model::specs::InstructionTable::rows))]
 pub fn fence(word: u32) -> Option<Instr>
     ensures { result ≡ scan (rows Fences) word }
@@ -156,6 +167,7 @@ pub fn fence(word: u32) -> Option<Instr>
     }
 }
 
+/// ECALL and EBREAK of SYSTEM.
 #[tactic(auto, using(crate::proofs::Scan::scan_system))]
 pub fn system(word: u32) -> Option<Instr>
     ensures { result ≡ scan (rows Systems) word }
@@ -164,6 +176,7 @@ pub fn system(word: u32) -> Option<Instr>
     Some(Instr::System { op })
 }
 
+/// Zicsr with a scalar register.
 #[tactic(auto, using(crate::proofs::Scan::scan_csr))]
 pub fn csr(word: u32) -> Option<Instr>
     ensures { result ≡ scan (rows Csrs) word }
@@ -177,6 +190,7 @@ pub fn csr(word: u32) -> Option<Instr>
     })
 }
 
+/// Zicsr with an immediate.
 #[tactic(auto, using(crate::proofs::Scan::scan_csr_immediate))]
 pub fn csr_immediate(word: u32) -> Option<Instr>
     ensures { result ≡ scan (rows CsrImmediates) word }

@@ -10,6 +10,7 @@ use crate::word_fields::{bits, is_unmasked, reg, source, vreg};
 use rv_model::operations::{Form, Major};
 use rv_model::{Arith, Carry, Field, Instr};
 
+/// An operation with a line of its own in the table, masked or not.
 #[tactic(auto, using(crate::proofs::Scan::scan_arith, crate::proofs::Scan::form_source_of))]
 pub fn arith(word: u32, major: Major, form: Form) -> Option<Instr>
     requires { bit_and word 0x707f ≡ major_bits major form }
@@ -27,6 +28,7 @@ pub fn arith(word: u32, major: Major, form: Form) -> Option<Instr>
     })
 }
 
+/// An operation that takes v0.
 #[tactic(auto, using(crate::proofs::Scan::scan_carry, crate::proofs::Scan::form_source_of))]
 pub fn carry(word: u32, form: Form) -> Option<Instr>
     ensures { result ≡ scan (rows (Carries form)) word }
@@ -39,6 +41,7 @@ pub fn carry(word: u32, form: Form) -> Option<Instr>
     })
 }
 
+/// `vmv.v.v`, `vmv.v.x` or `vmv.v.i`, whose vs2 is 0.
 #[tactic(auto, unfolding(rv_model::specs::InstructionTable::scan, rv_model::specs::InstructionTable::rows))]
 pub fn vector_move(word: u32, form: Form) -> Option<Instr>
     ensures { result ≡ scan (rows (Moves form)) word }
@@ -58,6 +61,7 @@ pub fn vector_move(word: u32, form: Form) -> Option<Instr>
     }
 }
 
+/// `vsetvli`.
 #[tactic(auto, unfolding(rv_model::specs::InstructionTable::scan, rv_model::specs::InstructionTable::rows))]
 pub fn set_vli(word: u32) -> Option<Instr>
     ensures { result ≡ scan (rows SetVlis) word }
@@ -73,6 +77,7 @@ pub fn set_vli(word: u32) -> Option<Instr>
     }
 }
 
+/// `vsetivli`.
 #[tactic(auto, unfolding(rv_model::specs::InstructionTable::scan, rv_model::specs::InstructionTable::rows))]
 pub fn set_ivli(word: u32) -> Option<Instr>
     ensures { result ≡ scan (rows SetIvlis) word }
@@ -88,6 +93,7 @@ pub fn set_ivli(word: u32) -> Option<Instr>
     }
 }
 
+/// `vsetvl`.
 #[tactic(auto, unfolding(rv_model::specs::InstructionTable::scan, rv_model::specs::InstructionTable::rows))]
 pub fn set_vl(word: u32) -> Option<Instr>
     ensures { result ≡ scan (rows SetVls) word }
@@ -103,6 +109,7 @@ pub fn set_vl(word: u32) -> Option<Instr>
     }
 }
 
+/// `vmv1r.v` to `vmv8r.v`.
 #[tactic(auto, using(crate::proofs::Scan::scan_whole_move))]
 pub fn whole_move(word: u32) -> Option<Instr>
     ensures { result ≡ scan (rows WholeMoves) word }
@@ -115,6 +122,7 @@ pub fn whole_move(word: u32) -> Option<Instr>
     })
 }
 
+/// Mask logic, which is never masked.
 #[tactic(auto, using(crate::proofs::Scan::scan_mask_logic))]
 pub fn mask_logic(word: u32) -> Option<Instr>
     ensures { result ≡ scan (rows MaskLogics) word }
@@ -128,6 +136,7 @@ pub fn mask_logic(word: u32) -> Option<Instr>
     })
 }
 
+/// `vcompress.vm`, which is never masked.
 #[tactic(auto, unfolding(rv_model::specs::InstructionTable::scan, rv_model::specs::InstructionTable::rows))]
 pub fn compress(word: u32) -> Option<Instr>
     ensures { result ≡ scan (rows Compresses) word }
@@ -143,6 +152,7 @@ pub fn compress(word: u32) -> Option<Instr>
     }
 }
 
+/// `vcpop.m` and `vfirst.m`.
 #[tactic(auto, using(crate::proofs::Scan::scan_mask_to_scalar))]
 pub fn mask_to_scalar(word: u32) -> Option<Instr>
     ensures { result ≡ scan (rows MasksToScalar) word }
@@ -156,6 +166,7 @@ pub fn mask_to_scalar(word: u32) -> Option<Instr>
     })
 }
 
+/// VXUNARY0.
 #[tactic(auto, using(crate::proofs::Scan::scan_extend))]
 pub fn extend(word: u32) -> Option<Instr>
     ensures { result ≡ scan (rows Extends) word }
@@ -169,6 +180,7 @@ pub fn extend(word: u32) -> Option<Instr>
     })
 }
 
+/// VMUNARY0 on a mask.
 #[tactic(auto, using(crate::proofs::Scan::scan_mask_unary))]
 pub fn mask_unary(word: u32) -> Option<Instr>
     ensures { result ≡ scan (rows MaskUnaries) word }
@@ -182,6 +194,7 @@ pub fn mask_unary(word: u32) -> Option<Instr>
     })
 }
 
+/// `vid.v`.
 #[tactic(auto, unfolding(rv_model::specs::InstructionTable::scan, rv_model::specs::InstructionTable::rows))]
 pub fn element_index(word: u32) -> Option<Instr>
     ensures { result ≡ scan (rows ElementIndices) word }
@@ -196,6 +209,7 @@ pub fn element_index(word: u32) -> Option<Instr>
     }
 }
 
+/// `vmv.x.s`.
 #[tactic(auto, unfolding(rv_model::specs::InstructionTable::scan, rv_model::specs::InstructionTable::rows))]
 pub fn move_to_scalar(word: u32) -> Option<Instr>
     ensures { result ≡ scan (rows MovesToScalar) word }
@@ -210,6 +224,7 @@ pub fn move_to_scalar(word: u32) -> Option<Instr>
     }
 }
 
+/// `vmv.s.x`.
 #[tactic(auto, unfolding(rv_model::specs::InstructionTable::scan, rv_model::specs::InstructionTable::rows))]
 pub fn move_to_vector(word: u32) -> Option<Instr>
     ensures { result ≡ scan (rows MovesToVector) word }
