@@ -1,5 +1,5 @@
 -- Each instruction has its row, and word and instruction tell each other
-use Rattle.std.proofs.Common.{◌≡◌, refl, ap, ap₂, ◌∙◌, sym, subst, ℕ, zero, suc, ◌+◌, ◌-◌, ◌*◌, ◌/◌, ◌%◌, ◌^◌, ◌<◌, ◌≤◌, List, [], ◌∷◌, ◌++◌, map, Option, Some, None, Bool, true, false, nat_eq, cond, inl, inr, ◌⊎◌, arith}
+use Rattle.std.proofs.Common.{◌≡◌, refl, ap, ap₂, ◌∙◌, sym, subst, ℕ, zero, suc, ◌+◌, ◌-◌, ◌*◌, ◌/◌, ◌%◌, ◌^◌, ◌<◌, ◌≤◌, List, [], ◌∷◌, ◌++◌, map, Option, Some, None, Bool, true, false, nat_eq, cond, inl, inr, ◌⊎◌, arith, add-zero, add_assoc}
 use Rattle.std.specs.Prelude.{IfSome}
 use Rattle.std.specs.Int.Bits.{bit_and, and_le_r}
 use Rattle.std.proofs.lemmas.Nat.{mod_below}
@@ -694,6 +694,14 @@ back i fit ok =
     let l : Laid (parts i) = laid i in
     found table table_apart (row_of i) (listed i ok) (word_of i) (fixed_bits (bits i) (fixed (parts i)) (inside i ok) (parts i) l.apart fit)
     ∙ ap Some (refilled i (word_of i) (reads (bits i) (fixed (parts i)) (inside i ok) (parts i) l.apart l.clear fit))
+
+sum-split : (code : ℕ) (ps : List Part) → sum_of code ps ≡ code + sum_of 0 ps
+sum-split code [] = sym (add-zero code)
+sum-split code (p ∷ ps) = ap (λ s. s + p.value * 2 ^ p.low) (sum-split code ps) ∙ add_assoc code (sum_of 0 ps) (p.value * 2 ^ p.low)
+
+-- a word is the fixed bits and the operands
+pub word_sum : (i : Instr) → word_of i ≡ bits i + sum_of 0 (parts i)
+word_sum i = sum-split (bits i) (parts i)
 
 -- a word has 32 bits
 pub small : (i : Instr) → AllFit (parts i) → Allowed i → word_of i < 2 ^ 32
