@@ -87,8 +87,6 @@ step limit s =
     if can_access Fetch s.memory s.scalar.pc 4 then executed limit (scan table word) word s
     else faults FetchAccess s.scalar.pc s
 
--- whether an instruction touches the vector unit; a word that is no instruction doesn't
+-- whether an instruction touches the vector unit; none that is carried out so far does
 abbrev pub touches : Option Instr → Bool
-touches None = false
-touches (Some (OpImm op rd rs1 imm)) = false
-touches (Some (System op)) = false
+touches i = false
