@@ -600,6 +600,10 @@ in_table : (k : ℕ) (r : Row) → In r (at_place (map rows families) k) → In 
 unfolding table
 in_table k r h = in_joined (map rows families) k r h
 
+listed_at : {A : Type 0} (k : ℕ) (code : A → ℕ) (t : A → Instr) (ops : List A) (op : A) → find code ops (code op) ≡ Some op → at_place (map rows families) k ≡ map row_of (map t ops) → In (row_of (t op)) table
+listed_at k code t ops op known same =
+    in_table k (row_of (t op)) (subst (In (row_of (t op))) (sym same) (in_rows code t ops op (code op) known))
+
 arith_in : (m : Major) (f : Form) (r : Row) → In r (rows (Ariths m f)) → In r table
 arith_in Opi form.V r h = in_table 17 r h
 arith_in Opi form.X r h = in_table 18 r h
@@ -647,41 +651,41 @@ listed_move (source.I n) vd = in_table 28 (row_of (VectorMove (source.I 0) 0)) (
 -- an instruction's row is in the table
 pub listed : (i : Instr) → Allowed i → In (row_of i) table
 unfolding rows
-listed (Upper op rd imm) h = in_table 0 (row_of (Upper op 0 0)) (in_rows upper_bits (λ op. Upper op 0 0) upper_ops op (upper_bits op) (known_upper op))
+listed (Upper op rd imm) h = listed_at 0 upper_bits (λ op. Upper op 0 0) upper_ops op (known_upper op) refl
 listed (Jump rd offset) h = in_table 1 (row_of (Jump 0 0)) (inl refl)
 listed (JumpRegister rd rs1 imm) h = in_table 2 (row_of (JumpRegister 0 0 0)) (inl refl)
-listed (Branch op rs1 rs2 offset) h = in_table 3 (row_of (Branch op 0 0 0)) (in_rows branch_bits (λ op. Branch op 0 0 0) branch_ops op (branch_bits op) (known_branch op))
-listed (Load op rd rs1 imm) h = in_table 4 (row_of (Load op 0 0 0)) (in_rows load_bits (λ op. Load op 0 0 0) load_ops op (load_bits op) (known_load op))
-listed (Store op rs1 rs2 imm) h = in_table 5 (row_of (Store op 0 0 0)) (in_rows store_bits (λ op. Store op 0 0 0) store_ops op (store_bits op) (known_store op))
-listed (OpImm op rd rs1 imm) h = in_table 6 (row_of (OpImm op 0 0 0)) (in_rows op_imm_bits (λ op. OpImm op 0 0 0) op_imm_ops op (op_imm_bits op) (known_op_imm op))
-listed (ShiftImm op rd rs1 amount) h = in_table 7 (row_of (ShiftImm op 0 0 0)) (in_rows shift_imm_bits (λ op. ShiftImm op 0 0 0) shift_imm_ops op (shift_imm_bits op) (known_shift_imm op))
-listed (ShiftImmWord op rd rs1 amount) h = in_table 8 (row_of (ShiftImmWord op 0 0 0)) (in_rows shift_imm_word_bits (λ op. ShiftImmWord op 0 0 0) shift_imm_word_ops op (shift_imm_word_bits op) (known_shift_imm_word op))
-listed (Op op rd rs1 rs2) h = in_table 9 (row_of (Op op 0 0 0)) (in_rows op_bits (λ op. Op op 0 0 0) op_ops op (op_bits op) (known_op op))
+listed (Branch op rs1 rs2 offset) h = listed_at 3 branch_bits (λ op. Branch op 0 0 0) branch_ops op (known_branch op) refl
+listed (Load op rd rs1 imm) h = listed_at 4 load_bits (λ op. Load op 0 0 0) load_ops op (known_load op) refl
+listed (Store op rs1 rs2 imm) h = listed_at 5 store_bits (λ op. Store op 0 0 0) store_ops op (known_store op) refl
+listed (OpImm op rd rs1 imm) h = listed_at 6 op_imm_bits (λ op. OpImm op 0 0 0) op_imm_ops op (known_op_imm op) refl
+listed (ShiftImm op rd rs1 amount) h = listed_at 7 shift_imm_bits (λ op. ShiftImm op 0 0 0) shift_imm_ops op (known_shift_imm op) refl
+listed (ShiftImmWord op rd rs1 amount) h = listed_at 8 shift_imm_word_bits (λ op. ShiftImmWord op 0 0 0) shift_imm_word_ops op (known_shift_imm_word op) refl
+listed (Op op rd rs1 rs2) h = listed_at 9 op_bits (λ op. Op op 0 0 0) op_ops op (known_op op) refl
 listed (Fence rd rs1 ordering) h = in_table 10 (row_of (Fence 0 0 0)) (inl refl)
-listed (System op) h = in_table 11 (row_of (System op)) (in_rows system_bits (λ op. System op) system_ops op (system_bits op) (known_system op))
-listed (Csr op rd rs1 csr) h = in_table 12 (row_of (Csr op 0 0 0)) (in_rows csr_bits (λ op. Csr op 0 0 0) csr_ops op (csr_bits op) (known_csr op))
-listed (CsrImmediate op rd imm csr) h = in_table 13 (row_of (CsrImmediate op 0 0 0)) (in_rows csr_immediate_bits (λ op. CsrImmediate op 0 0 0) csr_immediate_ops op (csr_immediate_bits op) (known_csr_immediate op))
+listed (System op) h = listed_at 11 system_bits (λ op. System op) system_ops op (known_system op) refl
+listed (Csr op rd rs1 csr) h = listed_at 12 csr_bits (λ op. Csr op 0 0 0) csr_ops op (known_csr op) refl
+listed (CsrImmediate op rd imm csr) h = listed_at 13 csr_immediate_bits (λ op. CsrImmediate op 0 0 0) csr_immediate_ops op (known_csr_immediate op) refl
 listed (SetVli rd rs1 vtype) h = in_table 14 (row_of (SetVli 0 0 0)) (inl refl)
 listed (SetIvli rd avl vtype) h = in_table 15 (row_of (SetIvli 0 0 0)) (inl refl)
 listed (SetVl rd rs1 rs2) h = in_table 16 (row_of (SetVl 0 0 0)) (inl refl)
 listed (VectorArith arith vd vs2 vm) h = listed_arith arith.0 arith.1 vd vs2 vm h
 listed (VectorCarry carry vd vs2) h = listed_carry carry.0 carry.1 vd vs2 h
 listed (VectorMove source vd) h = listed_move source vd
-listed (WholeMove count vd vs2) h = in_table 29 (row_of (WholeMove count 0 0)) (in_rows whole_move_bits (λ op. WholeMove op 0 0) counts count (whole_move_bits count) (known_whole_move count))
-listed (MaskLogic op vd vs1 vs2) h = in_table 30 (row_of (MaskLogic op 0 0 0)) (in_rows mask_logic_bits (λ op. MaskLogic op 0 0 0) mask_logic_ops op (mask_logic_bits op) (known_mask_logic op))
+listed (WholeMove count vd vs2) h = listed_at 29 whole_move_bits (λ op. WholeMove op 0 0) counts count (known_whole_move count) refl
+listed (MaskLogic op vd vs1 vs2) h = listed_at 30 mask_logic_bits (λ op. MaskLogic op 0 0 0) mask_logic_ops op (known_mask_logic op) refl
 listed (Compress vd vs1 vs2) h = in_table 31 (row_of (Compress 0 0 0)) (inl refl)
-listed (MaskToScalar op rd vs2 vm) h = in_table 32 (row_of (MaskToScalar op 0 0 true)) (in_rows mask_to_scalar_bits (λ op. MaskToScalar op 0 0 true) mask_to_scalar_ops op (mask_to_scalar_bits op) (known_mask_to_scalar op))
-listed (VectorExtend op vd vs2 vm) h = in_table 33 (row_of (VectorExtend op 0 0 true)) (in_rows extend_bits (λ op. VectorExtend op 0 0 true) extend_ops op (extend_bits op) (known_extend op))
-listed (MaskUnary op vd vs2 vm) h = in_table 34 (row_of (MaskUnary op 0 0 true)) (in_rows mask_unary_bits (λ op. MaskUnary op 0 0 true) mask_unary_ops op (mask_unary_bits op) (known_mask_unary op))
+listed (MaskToScalar op rd vs2 vm) h = listed_at 32 mask_to_scalar_bits (λ op. MaskToScalar op 0 0 true) mask_to_scalar_ops op (known_mask_to_scalar op) refl
+listed (VectorExtend op vd vs2 vm) h = listed_at 33 extend_bits (λ op. VectorExtend op 0 0 true) extend_ops op (known_extend op) refl
+listed (MaskUnary op vd vs2 vm) h = listed_at 34 mask_unary_bits (λ op. MaskUnary op 0 0 true) mask_unary_ops op (known_mask_unary op) refl
 listed (ElementIndex vd vm) h = in_table 35 (row_of (ElementIndex 0 true)) (inl refl)
 listed (MoveToScalar rd vs2) h = in_table 36 (row_of (MoveToScalar 0 0)) (inl refl)
 listed (MoveToVector vd rs1) h = in_table 37 (row_of (MoveToVector 0 0)) (inl refl)
-listed (VectorUnit op width nf vd rs1 vm) h = in_table 38 (row_of (VectorUnit op width 0 0 0 true)) (in_rows unit_access_bits (λ op. VectorUnit op.0 op.1 0 0 0 true) unit_accesses (op, width) (unit_access_bits (op, width)) (known_unit op width))
-listed (VectorStrided direction width nf vd rs1 rs2 vm) h = in_table 39 (row_of (VectorStrided direction width 0 0 0 0 true)) (in_rows strided_access_bits (λ op. VectorStrided op.0 op.1 0 0 0 0 true) strided_accesses (direction, width) (strided_access_bits (direction, width)) (known_strided direction width))
-listed (VectorIndexed direction order width nf vd rs1 vs2 vm) h = in_table 40 (row_of (VectorIndexed direction order width 0 0 0 0 true)) (in_rows indexed_access_bits (λ op. VectorIndexed op.0.0 op.0.1 op.1 0 0 0 0 true) indexed_accesses ((direction, order), width) (indexed_access_bits ((direction, order), width)) (known_indexed direction order width))
-listed (WholeLoad count width vd rs1) h = in_table 41 (row_of (WholeLoad count width 0 0)) (in_rows whole_load_bits (λ op. WholeLoad op.0 op.1 0 0) whole_loads (count, width) (whole_load_bits (count, width)) (known_whole_load count width))
-listed (WholeStore count vd rs1) h = in_table 42 (row_of (WholeStore count 0 0)) (in_rows whole_store_bits (λ op. WholeStore op 0 0) counts count (whole_store_bits count) (known_whole_store count))
-listed (MaskMemory direction vd rs1) h = in_table 43 (row_of (MaskMemory direction 0 0)) (in_rows mask_memory_bits (λ op. MaskMemory op 0 0) directions direction (mask_memory_bits direction) (known_mask_memory direction))
+listed (VectorUnit op width nf vd rs1 vm) h = listed_at 38 unit_access_bits (λ op. VectorUnit op.0 op.1 0 0 0 true) unit_accesses (op, width) (known_unit op width) refl
+listed (VectorStrided direction width nf vd rs1 rs2 vm) h = listed_at 39 strided_access_bits (λ op. VectorStrided op.0 op.1 0 0 0 0 true) strided_accesses (direction, width) (known_strided direction width) refl
+listed (VectorIndexed direction order width nf vd rs1 vs2 vm) h = listed_at 40 indexed_access_bits (λ op. VectorIndexed op.0.0 op.0.1 op.1 0 0 0 0 true) indexed_accesses ((direction, order), width) (known_indexed direction order width) refl
+listed (WholeLoad count width vd rs1) h = listed_at 41 whole_load_bits (λ op. WholeLoad op.0 op.1 0 0) whole_loads (count, width) (known_whole_load count width) refl
+listed (WholeStore count vd rs1) h = listed_at 42 whole_store_bits (λ op. WholeStore op 0 0) counts count (known_whole_store count) refl
+listed (MaskMemory direction vd rs1) h = listed_at 43 mask_memory_bits (λ op. MaskMemory op 0 0) directions direction (known_mask_memory direction) refl
 
 inside : (i : Instr) → Allowed i → bit_and (bits i) (fixed (parts i)) ≡ bits i
 inside i ok = eqb-true (bit_and (bits i) (fixed (parts i))) (bits i) (all_in is_inside table table_inside (row_of i) (listed i ok))
