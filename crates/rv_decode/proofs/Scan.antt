@@ -189,87 +189,87 @@ scan_mask_memory word = scan_map mask_memory_bits 0xfff0707f (λ op. MaskMemory 
 
 pub at_03 : (word : ℕ) → bit_and word 0x7f ≡ 0x03 → scan table word ≡ scan (rows Loads) word
 unfolding table rows
-at_03 word is = same_narrow 0x7f 0x03 word is table (rows Loads) refl
+at_03 word is = same_narrow 0x7f 0x03 word is table _ refl
 
 pub at_07 : (word : ℕ) → bit_and word 0x7f ≡ 0x07 → scan table word ≡ scan (rows Units ++ rows Strideds ++ rows Indexeds ++ rows WholeLoads ++ rows WholeStores ++ rows MaskMemories) word
 unfolding table rows
-at_07 word is = same_narrow 0x7f 0x07 word is table (rows Units ++ rows Strideds ++ rows Indexeds ++ rows WholeLoads ++ rows WholeStores ++ rows MaskMemories) refl
+at_07 word is = same_narrow 0x7f 0x07 word is table _ refl
 
 pub at_0f : (word : ℕ) → bit_and word 0x7f ≡ 0x0f → scan table word ≡ scan (rows Fences) word
 unfolding table rows
-at_0f word is = same_narrow 0x7f 0x0f word is table (rows Fences) refl
+at_0f word is = same_narrow 0x7f 0x0f word is table _ refl
 
 pub at_13 : (word : ℕ) → bit_and word 0x7f ≡ 0x13 → scan table word ≡ scan (rows OpImms ++ rows ShiftImms) word
 unfolding table rows
-at_13 word is = same_narrow 0x7f 0x13 word is table (rows OpImms ++ rows ShiftImms) refl
+at_13 word is = same_narrow 0x7f 0x13 word is table _ refl
 
 pub at_17 : (word : ℕ) → bit_and word 0x7f ≡ 0x17 → scan table word ≡ scan (rows Uppers) word
 unfolding table rows
-at_17 word is = same_narrow 0x7f 0x17 word is table (rows Uppers) refl
+at_17 word is = same_narrow 0x7f 0x17 word is table _ refl
 
 pub at_1b : (word : ℕ) → bit_and word 0x7f ≡ 0x1b → scan table word ≡ scan (rows OpImms ++ rows ShiftImmWords) word
 unfolding table rows
-at_1b word is = same_narrow 0x7f 0x1b word is table (rows OpImms ++ rows ShiftImmWords) refl
+at_1b word is = same_narrow 0x7f 0x1b word is table _ refl
 
 pub at_23 : (word : ℕ) → bit_and word 0x7f ≡ 0x23 → scan table word ≡ scan (rows Stores) word
 unfolding table rows
-at_23 word is = same_narrow 0x7f 0x23 word is table (rows Stores) refl
+at_23 word is = same_narrow 0x7f 0x23 word is table _ refl
 
 pub at_27 : (word : ℕ) → bit_and word 0x7f ≡ 0x27 → scan table word ≡ scan (rows Units ++ rows Strideds ++ rows Indexeds ++ rows WholeLoads ++ rows WholeStores ++ rows MaskMemories) word
 unfolding table rows
-at_27 word is = same_narrow 0x7f 0x27 word is table (rows Units ++ rows Strideds ++ rows Indexeds ++ rows WholeLoads ++ rows WholeStores ++ rows MaskMemories) refl
+at_27 word is = same_narrow 0x7f 0x27 word is table _ refl
 
 pub at_33 : (word : ℕ) → bit_and word 0x7f ≡ 0x33 → scan table word ≡ scan (rows Ops) word
 unfolding table rows
-at_33 word is = same_narrow 0x7f 0x33 word is table (rows Ops) refl
+at_33 word is = same_narrow 0x7f 0x33 word is table _ refl
 
 pub at_37 : (word : ℕ) → bit_and word 0x7f ≡ 0x37 → scan table word ≡ scan (rows Uppers) word
 unfolding table rows
-at_37 word is = same_narrow 0x7f 0x37 word is table (rows Uppers) refl
+at_37 word is = same_narrow 0x7f 0x37 word is table _ refl
 
 pub at_3b : (word : ℕ) → bit_and word 0x7f ≡ 0x3b → scan table word ≡ scan (rows Ops) word
 unfolding table rows
-at_3b word is = same_narrow 0x7f 0x3b word is table (rows Ops) refl
+at_3b word is = same_narrow 0x7f 0x3b word is table _ refl
 
 pub at_63 : (word : ℕ) → bit_and word 0x7f ≡ 0x63 → scan table word ≡ scan (rows Branches) word
 unfolding table rows
-at_63 word is = same_narrow 0x7f 0x63 word is table (rows Branches) refl
+at_63 word is = same_narrow 0x7f 0x63 word is table _ refl
 
 pub at_67 : (word : ℕ) → bit_and word 0x7f ≡ 0x67 → scan table word ≡ scan (rows JumpRegisters) word
 unfolding table rows
-at_67 word is = same_narrow 0x7f 0x67 word is table (rows JumpRegisters) refl
+at_67 word is = same_narrow 0x7f 0x67 word is table _ refl
 
 pub at_6f : (word : ℕ) → bit_and word 0x7f ≡ 0x6f → scan table word ≡ scan (rows Jumps) word
 unfolding table rows
-at_6f word is = same_narrow 0x7f 0x6f word is table (rows Jumps) refl
+at_6f word is = same_narrow 0x7f 0x6f word is table _ refl
 
 pub at_73 : (word : ℕ) → bit_and word 0x7f ≡ 0x73 → scan table word ≡ scan (rows Systems ++ rows Csrs ++ rows CsrImmediates) word
 unfolding table rows
-at_73 word is = same_narrow 0x7f 0x73 word is table (rows Systems ++ rows Csrs ++ rows CsrImmediates) refl
+at_73 word is = same_narrow 0x7f 0x73 word is table _ refl
 
 pub at_0057 : (word : ℕ) → bit_and word 0x707f ≡ 0x0057 → scan table word ≡ scan (rows (Ariths Opi form.V) ++ rows (Carries form.V) ++ rows (Moves form.V)) word
 unfolding table rows
-at_0057 word is = same_narrow 0x707f 0x0057 word is table (rows (Ariths Opi form.V) ++ rows (Carries form.V) ++ rows (Moves form.V)) refl
+at_0057 word is = same_narrow 0x707f 0x0057 word is table _ refl
 
 pub at_4057 : (word : ℕ) → bit_and word 0x707f ≡ 0x4057 → scan table word ≡ scan (rows (Ariths Opi form.X) ++ rows (Carries form.X) ++ rows (Moves form.X)) word
 unfolding table rows
-at_4057 word is = same_narrow 0x707f 0x4057 word is table (rows (Ariths Opi form.X) ++ rows (Carries form.X) ++ rows (Moves form.X)) refl
+at_4057 word is = same_narrow 0x707f 0x4057 word is table _ refl
 
 pub at_3057 : (word : ℕ) → bit_and word 0x707f ≡ 0x3057 → scan table word ≡ scan (rows (Ariths Opi form.I) ++ rows (Carries form.I) ++ rows (Moves form.I) ++ rows WholeMoves) word
 unfolding table rows
-at_3057 word is = same_narrow 0x707f 0x3057 word is table (rows (Ariths Opi form.I) ++ rows (Carries form.I) ++ rows (Moves form.I) ++ rows WholeMoves) refl
+at_3057 word is = same_narrow 0x707f 0x3057 word is table _ refl
 
 pub at_2057 : (word : ℕ) → bit_and word 0x707f ≡ 0x2057 → scan table word ≡ scan (rows (Ariths Opm form.V) ++ rows MaskLogics ++ rows Compresses ++ rows MasksToScalar ++ rows Extends ++ rows MaskUnaries ++ rows ElementIndices ++ rows MovesToScalar) word
 unfolding table rows
-at_2057 word is = same_narrow 0x707f 0x2057 word is table (rows (Ariths Opm form.V) ++ rows MaskLogics ++ rows Compresses ++ rows MasksToScalar ++ rows Extends ++ rows MaskUnaries ++ rows ElementIndices ++ rows MovesToScalar) refl
+at_2057 word is = same_narrow 0x707f 0x2057 word is table _ refl
 
 pub at_6057 : (word : ℕ) → bit_and word 0x707f ≡ 0x6057 → scan table word ≡ scan (rows (Ariths Opm form.X) ++ rows MovesToVector) word
 unfolding table rows
-at_6057 word is = same_narrow 0x707f 0x6057 word is table (rows (Ariths Opm form.X) ++ rows MovesToVector) refl
+at_6057 word is = same_narrow 0x707f 0x6057 word is table _ refl
 
 pub at_7057 : (word : ℕ) → bit_and word 0x707f ≡ 0x7057 → scan table word ≡ scan (rows SetVlis ++ rows SetIvlis ++ rows SetVls) word
 unfolding table rows
-at_7057 word is = same_narrow 0x707f 0x7057 word is table (rows SetVlis ++ rows SetIvlis ++ rows SetVls) refl
+at_7057 word is = same_narrow 0x707f 0x7057 word is table _ refl
 
 -- every opcode of the table
 abbrev pub opcodes : List ℕ

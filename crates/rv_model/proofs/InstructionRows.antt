@@ -6,6 +6,7 @@ use Rattle.std.proofs.lemmas.Nat.{mod_below}
 use Rattle.std.proofs.lemmas.Bool.{eqb-true}
 use Rattle.rv_model.specs.declared.source.Source.{Source}
 use Rattle.rv_model.specs.declared.source.Source.TheVariants as source
+use Rattle.rv_model.specs.declared.operations.Line.{Line}
 use Rattle.rv_model.specs.declared.operations.Major.{Major}
 use Rattle.rv_model.specs.declared.operations.Major.TheVariants.{Opi, Opm}
 use Rattle.rv_model.specs.declared.operations.Form.{Form}
@@ -490,7 +491,13 @@ known_indexed _ order.Ordered width.E32 = refl
 known_indexed direction.Load order.Ordered width.E64 = refl
 known_indexed _ order.Ordered width.E64 = refl
 
-known_binary : (op : BinaryOp) (f : Form) → cond (has_form (binary_line op).forms f) (find (λ o. line_bits (line o) f) (those line (binary_line op).major f vector_ops) (line_bits (binary_line op) f)) None ≡ cond (has_form (binary_line op).forms f) (Some (vector_op.Binary op)) None
+-- an operation with this line is found by the line's bits, in each form that it has
+abbrev IsKnown : VectorOp → Line → Form → Type 0
+IsKnown op l f =
+    cond (has_form l.forms f) (find (λ o. line_bits (line o) f) (those line l.major f vector_ops) (line_bits l f)) None
+    ≡ cond (has_form l.forms f) (Some op) None
+
+known_binary : (op : BinaryOp) (f : Form) → IsKnown (vector_op.Binary op) (binary_line op) f
 unfolding find
 known_binary binary.Vadd form.V = refl
 known_binary _ form.V = refl
@@ -499,7 +506,7 @@ known_binary _ form.X = refl
 known_binary binary.Vadd form.I = refl
 known_binary _ form.I = refl
 
-known_compare : (op : CompareOp) (f : Form) → cond (has_form (compare_line op).forms f) (find (λ o. line_bits (line o) f) (those line (compare_line op).major f vector_ops) (line_bits (compare_line op) f)) None ≡ cond (has_form (compare_line op).forms f) (Some (vector_op.Compare op)) None
+known_compare : (op : CompareOp) (f : Form) → IsKnown (vector_op.Compare op) (compare_line op) f
 unfolding find
 known_compare compare.Vmadc form.V = refl
 known_compare _ form.V = refl
@@ -508,7 +515,7 @@ known_compare _ form.X = refl
 known_compare compare.Vmadc form.I = refl
 known_compare _ form.I = refl
 
-known_fixed_point : (op : FixedPointOp) (f : Form) → cond (has_form (fixed_point_line op).forms f) (find (λ o. line_bits (line o) f) (those line (fixed_point_line op).major f vector_ops) (line_bits (fixed_point_line op) f)) None ≡ cond (has_form (fixed_point_line op).forms f) (Some (vector_op.FixedPoint op)) None
+known_fixed_point : (op : FixedPointOp) (f : Form) → IsKnown (vector_op.FixedPoint op) (fixed_point_line op) f
 unfolding find
 known_fixed_point fixed_point.Vsaddu form.V = refl
 known_fixed_point _ form.V = refl
@@ -517,7 +524,7 @@ known_fixed_point _ form.X = refl
 known_fixed_point fixed_point.Vsaddu form.I = refl
 known_fixed_point _ form.I = refl
 
-known_narrow : (op : NarrowOp) (f : Form) → cond (has_form (narrow_line op).forms f) (find (λ o. line_bits (line o) f) (those line (narrow_line op).major f vector_ops) (line_bits (narrow_line op) f)) None ≡ cond (has_form (narrow_line op).forms f) (Some (vector_op.Narrow op)) None
+known_narrow : (op : NarrowOp) (f : Form) → IsKnown (vector_op.Narrow op) (narrow_line op) f
 unfolding find
 known_narrow narrow.Vnsrl form.V = refl
 known_narrow _ form.V = refl
@@ -526,7 +533,7 @@ known_narrow _ form.X = refl
 known_narrow narrow.Vnsrl form.I = refl
 known_narrow _ form.I = refl
 
-known_widen : (op : WidenOp) (f : Form) → cond (has_form (widen_line op).forms f) (find (λ o. line_bits (line o) f) (those line (widen_line op).major f vector_ops) (line_bits (widen_line op) f)) None ≡ cond (has_form (widen_line op).forms f) (Some (vector_op.Widen op)) None
+known_widen : (op : WidenOp) (f : Form) → IsKnown (vector_op.Widen op) (widen_line op) f
 unfolding find
 known_widen widen.Vwaddu form.V = refl
 known_widen _ form.V = refl
@@ -535,7 +542,7 @@ known_widen _ form.X = refl
 known_widen widen.Vwaddu form.I = refl
 known_widen _ form.I = refl
 
-known_multiply_add : (op : MultiplyAddOp) (f : Form) → cond (has_form (multiply_add_line op).forms f) (find (λ o. line_bits (line o) f) (those line (multiply_add_line op).major f vector_ops) (line_bits (multiply_add_line op) f)) None ≡ cond (has_form (multiply_add_line op).forms f) (Some (vector_op.MultiplyAdd op)) None
+known_multiply_add : (op : MultiplyAddOp) (f : Form) → IsKnown (vector_op.MultiplyAdd op) (multiply_add_line op) f
 unfolding find
 known_multiply_add multiply_add.Vmadd form.V = refl
 known_multiply_add _ form.V = refl
@@ -544,7 +551,7 @@ known_multiply_add _ form.X = refl
 known_multiply_add multiply_add.Vmadd form.I = refl
 known_multiply_add _ form.I = refl
 
-known_reduce : (op : ReduceOp) (f : Form) → cond (has_form (reduce_line op).forms f) (find (λ o. line_bits (line o) f) (those line (reduce_line op).major f vector_ops) (line_bits (reduce_line op) f)) None ≡ cond (has_form (reduce_line op).forms f) (Some (vector_op.Reduce op)) None
+known_reduce : (op : ReduceOp) (f : Form) → IsKnown (vector_op.Reduce op) (reduce_line op) f
 unfolding find
 known_reduce reduce.Vredsum form.V = refl
 known_reduce _ form.V = refl
@@ -553,7 +560,7 @@ known_reduce _ form.X = refl
 known_reduce reduce.Vredsum form.I = refl
 known_reduce _ form.I = refl
 
-known_permute : (op : PermuteOp) (f : Form) → cond (has_form (permute_line op).forms f) (find (λ o. line_bits (line o) f) (those line (permute_line op).major f vector_ops) (line_bits (permute_line op) f)) None ≡ cond (has_form (permute_line op).forms f) (Some (vector_op.Permute op)) None
+known_permute : (op : PermuteOp) (f : Form) → IsKnown (vector_op.Permute op) (permute_line op) f
 unfolding find
 known_permute permute.Vrgather form.V = refl
 known_permute _ form.V = refl
@@ -571,7 +578,7 @@ known_carry _ form.X = refl
 known_carry carry.Vadc form.I = refl
 known_carry _ form.I = refl
 
-known_vector : (op : VectorOp) (f : Form) → cond (has_form (line op).forms f) (find (λ o. line_bits (line o) f) (those line (line op).major f vector_ops) (line_bits (line op) f)) None ≡ cond (has_form (line op).forms f) (Some op) None
+known_vector : (op : VectorOp) (f : Form) → IsKnown op (line op) f
 known_vector (vector_op.Binary op) f = known_binary op f
 known_vector (vector_op.Compare op) f = known_compare op f
 known_vector (vector_op.FixedPoint op) f = known_fixed_point op f
