@@ -1,4 +1,5 @@
--- The instruction table: a row for each operation of the manual's tables, with the bits that it fixes and the instruction that a word of the row is. Its families stand in the order of the tables
+-- The instruction table: a row for each operation of the manual's tables, with the bits that it fixes and the
+-- instruction that a word of the row is. Its families stand in the order of the tables
 use Rattle.std.specs.Prelude.{◌⊎◌, ℕ, ◌≡◌, List, [], ◌∷◌, ◌++◌, map, Option, Some, None, true, ◌&&◌, nat_eq, bit_and, if◌then◌else◌}
 use Rattle.rv_model.specs.BitFields.{fixed}
 use Rattle.rv_model.specs.Sources.{source_of}
