@@ -8,3 +8,4 @@ pub mod MachineState
 pub mod NewFaults
 pub mod ParsedCommands
 pub mod Parts
+pub mod Statuses
