@@ -18,7 +18,7 @@ const NO_SUCH_CALL: u64 = 38;
 pub(crate) fn call_environment(scalar: &mut Scalar) -> StepEnd
     ensures { (vector : VState) (memory : Memory) (policy : Policy) (output : List ℕ)
         → environment_call (hart_state scalar.old vector memory policy output)
-            ≡ ends result (hart_state scalar.new vector memory policy output) }
+        ≡ ends result (hart_state scalar.new vector memory policy output) }
 {
     let number = scalar.read(Reg::new(17));
     if number == 93 || number == 94 {

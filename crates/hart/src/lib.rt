@@ -10,3 +10,6 @@ mod view;
 pub use instruction_cycle::step;
 pub use vectors::Vectors;
 pub use view::View;
+
+#[cfg(test)]
+mod tests;

@@ -1,6 +1,8 @@
 //! What a word means as an argument of a command.
 ghost use Rattle.std.specs.Prelude.{◌≡◌, ◌≤◌, Some};
-ghost use Rattle.rv_model.specs.Arguments.{digit as digit_of, digits_after, decimal_number as decimal_of, number as number_of, address as address_of, allowing as permissions_of, permissions as named_permissions};
+ghost use Rattle.rv_model.specs.Arguments.{digit as digit_of, digits_after, decimal_number as decimal_of};
+ghost use Rattle.rv_model.specs.Arguments.{number as number_of, address as address_of};
+ghost use Rattle.rv_model.specs.Arguments.{allowing as permissions_of, permissions as named_permissions};
 ghost use Rattle.monitor_cmds.specs.Capped.{capped};
 
 use rv_model::Permissions;

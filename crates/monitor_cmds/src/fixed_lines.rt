@@ -1,4 +1,4 @@
-//! Replies of one fixed line.
+//! Lines of a reply that hold no number.
 ghost use Rattle.std.specs.Prelude.{◌≡◌, [], ◌∷◌, ◌++◌, ◌+◌, ◌≤◌, length, codes};
 ghost use Rattle.rv_model.specs.Replies.{refused as refusal_text};
 ghost use Rattle.rv_model.specs.Text.{text};
@@ -8,7 +8,7 @@ use crate::reply::Reply;
 use crate::tag::Tag;
 use rv_model::Refusal;
 
-// Adds one line of its own.
+// Adds a line.
 fn plain(reply: &mut Reply, tag: Tag, line: &[u8])
     requires { length reply.old + (length line.now + 3) ≤ 4096 }
     ensures text { reply.new ≡ reply.old ++ text (tag_byte tag) (line.now ∷ []) }
@@ -19,7 +19,7 @@ fn plain(reply: &mut Reply, tag: Tag, line: &[u8])
     reply.push(b"\n");
 }
 
-/// Adds the answer to `enter`.
+/// Adds the line `entered`, the answer to `enter`.
 pub fn entered(reply: &mut Reply, tag: Tag)
     requires { length reply.old + 10 ≤ 4096 }
     ensures text { reply.new ≡ reply.old ++ text (tag_byte tag) (codes "entered" ∷ []) }
@@ -28,7 +28,7 @@ pub fn entered(reply: &mut Reply, tag: Tag)
     plain(reply, tag, b"entered");
 }
 
-/// Adds the answer to a command that has nothing else to say.
+/// Adds the line `ok`, the answer to a command that shows nothing.
 pub fn ok(reply: &mut Reply, tag: Tag)
     requires { length reply.old + 5 ≤ 4096 }
     ensures text { reply.new ≡ reply.old ++ text (tag_byte tag) (codes "ok" ∷ []) }
@@ -54,7 +54,7 @@ fn refusal_code(refusal: Refusal) -> &'static [u8]
     }
 }
 
-/// Adds the code of a refusal.
+/// Adds a line with the code of a refusal, as `E04`.
 pub fn refused(reply: &mut Reply, tag: Tag, refusal: Refusal)
     requires { length reply.old + 6 ≤ 4096 }
     ensures text { reply.new ≡ reply.old ++ text (tag_byte tag) (refusal_text refusal ∷ []) }
@@ -63,8 +63,8 @@ pub fn refused(reply: &mut Reply, tag: Tag, refusal: Refusal)
     plain(reply, tag, refusal_code(refusal));
 }
 
-/// Adds E01, under the star: a line begins neither with a digit from 1 to 8 nor with a star, or without a space
-/// after it.
+/// Adds the line `* E01`: a line of the script begins neither with a digit from 1 to 8 nor with a
+/// star, or no space follows.
 pub fn bad_prefix(reply: &mut Reply)
     requires { length reply.old + 6 ≤ 4096 }
     ensures text { reply.new ≡ reply.old ++ text 42 (codes "E01" ∷ []) }
@@ -73,7 +73,7 @@ pub fn bad_prefix(reply: &mut Reply)
     plain(reply, Tag::Common, b"E01");
 }
 
-/// Adds E02, under the star: a line has more than 1,024 bytes.
+/// Adds the line `* E02`: a line of the script has more than 1,024 bytes.
 pub fn line_too_long(reply: &mut Reply)
     requires { length reply.old + 6 ≤ 4096 }
     ensures text { reply.new ≡ reply.old ++ text 42 (codes "E02" ∷ []) }
@@ -82,7 +82,7 @@ pub fn line_too_long(reply: &mut Reply)
     plain(reply, Tag::Common, b"E02");
 }
 
-/// Adds E03, under the star: the operator has no such command.
+/// Adds the line `* E03`: the operator has no such command.
 pub fn unknown_operator_command(reply: &mut Reply)
     requires { length reply.old + 6 ≤ 4096 }
     ensures text { reply.new ≡ reply.old ++ text 42 (codes "E03" ∷ []) }

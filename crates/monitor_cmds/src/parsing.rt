@@ -1,7 +1,10 @@
 //! The commands of a user, as words spell them.
 ghost use Rattle.std.specs.Prelude.{◌≡◌, Some, None, MatchOption};
-ghost use Rattle.rv_model.specs.Arguments.{number as number_of, address as address_of, permissions as named_permissions, byte_string as byte_string_of};
-ghost use Rattle.rv_model.specs.Commands.{parse as command_of, named as named_command, map_args as map_of, poke_args as poke_of, step_args as step_of, next, done as command_done, or_argument as command_or_argument};
+ghost use Rattle.rv_model.specs.Arguments.{number as number_of, address as address_of};
+ghost use Rattle.rv_model.specs.Arguments.{permissions as named_permissions, byte_string as byte_string_of};
+ghost use Rattle.rv_model.specs.Commands.{next, done as command_done, or_argument as command_or_argument};
+ghost use Rattle.rv_model.specs.Commands.{map_args as map_of, poke_args as poke_of, step_args as step_of};
+ghost use Rattle.rv_model.specs.Commands.{parse as command_of, named as named_command};
 
 use crate::arguments;
 use crate::words::Words;
@@ -13,7 +16,8 @@ const PAGE: u64 = 4096;
 // No page ends beyond this address.
 const LAST_END: u64 = 1 << 48;
 
-// Each reader takes the next word: None where there is none, or where it is out of its form or range.
+// Each reader takes the next word: None where there is none, or where it is out of its form or
+// range.
 
 fn address(words: &mut Words<'_>) -> Option<u64>
     ensures { MatchOption result (next address_of words.old ≡ None)
@@ -125,11 +129,11 @@ fn named(name: &[u8], words: &mut Words<'_>) -> Result<Cmd, Refusal>
     Err(Refusal::UnknownCommand)
 }
 
-/// The command that a user's line spells: a name and its arguments, with one or more spaces (byte 20) between
-/// words. The line comes without the user's digit and the space after it.
+/// The command that a user's line spells: a name and its arguments, with one or more spaces (byte
+/// 20) between words. The line comes without the user's digit and the space after it.
 ///
-/// Refused are a name that is no command's (E03), and then a wrong number of arguments or one out of its form or
-/// range (E04).
+/// Refused are a name that is no command's (E03), and then a wrong number of arguments or one out
+/// of its form or range (E04).
 #[tactic(auto, unfolding(rv_model::specs::Commands::parse))]
 pub fn parse(line: &[u8]) -> Result<Cmd, Refusal>
     ensures { result ≡ command_of line.now }

@@ -28,7 +28,8 @@ fn push_register(reply: &mut Reply, scalar: &Scalar, number: usize)
 fn push_register_line(reply: &mut Reply, tag: &Tag, scalar: &Scalar, first: usize)
     requires room { length reply.old + 158 ≤ 4096 }
     requires registers { first + 3 < 32 }
-    ensures text { reply.new ≡ reply.old ++ tagged (tag_byte tag.now) (register_line scalar.now first) }
+    ensures text { reply.new ≡ reply.old
+        ++ tagged (tag_byte tag.now) (register_line scalar.now first) }
     ensures bound { length reply.new ≤ length reply.old + 158 }
 {
     reply.push(&[tag.byte(), b' ']);
@@ -54,7 +55,8 @@ fn push_pc_line(reply: &mut Reply, tag: Tag, pc: u64)
     reply.push(b"\n");
 }
 
-/// Adds the answer to `regs`: a line of the program counter, and eight lines of four registers.
+/// Adds the answer to `regs`: a line with the program counter, and eight lines of four registers,
+/// each value in 16 hexadecimal digits.
 #[tactic(auto, unfolding(rv_model::specs::Replies::regs_lines))]
 pub fn registers(reply: &mut Reply, tag: Tag, scalar: &Scalar)
     requires { length reply.old + 1300 ≤ 4096 }

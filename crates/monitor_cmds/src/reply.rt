@@ -1,10 +1,10 @@
-//! What the monitor answers to one command.
+//! What the monitor answers.
 ghost use Rattle.std.specs.Prelude.{◌≡◌, ◌+◌, ◌≤◌, [], ◌++◌, length};
 
 use arrayvec::ArrayVec;
 use std::marker::Model;
 
-/// A text of at most 4,096 bytes.
+/// What the monitor answers to one command: whole lines, of at most 4,096 bytes together.
 #[derive(Drop)]
 pub struct Reply {
     bytes: ArrayVec<u8, 4096>,
@@ -28,14 +28,14 @@ impl Reply {
         }
     }
 
-    /// Drops the text.
+    /// Empties the reply.
     pub fn clear(&mut self)
         ensures { self.new ≡ [] }
     {
         self.bytes.clear();
     }
 
-    /// The text.
+    /// The bytes of the reply.
     pub fn as_slice(&self) -> &[u8]
         ensures value { result.now ≡ self.now }
         ensures bound { length result.now ≤ 4096 }

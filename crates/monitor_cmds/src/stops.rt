@@ -2,7 +2,7 @@
 ghost use Rattle.std.specs.Prelude.{◌≡◌, [], ◌∷◌, ◌++◌, ◌+◌, ◌≤◌, length, codes, decimal};
 ghost use Rattle.rv_model.specs.Causes.{cause_number};
 ghost use Rattle.rv_model.specs.Replies.{hex16, stop_line as stop_text, step_line as step_text};
-ghost use Rattle.rv_model.specs.Text.{text};
+ghost use Rattle.rv_model.specs.Text.{tagged, text};
 ghost use Rattle.monitor_cmds.specs.Tag.{tag_byte};
 
 use crate::numerals::{push_decimal, push_hex16};
@@ -65,7 +65,8 @@ fn push_stop(reply: &mut Reply, pc: u64, stop: Stop)
     }
 }
 
-/// Adds why a program stopped, with the program counter.
+/// Adds the line that says why a program stopped and where it stands, as
+/// `exit 7 pc=0000000000000008`.
 pub fn stop_line(reply: &mut Reply, tag: Tag, pc: u64, stop: Stop)
     requires { length reply.old + 80 ≤ 4096 }
     ensures text { reply.new ≡ reply.old ++ text (tag_byte tag) (stop_text pc stop ∷ []) }
@@ -76,20 +77,30 @@ pub fn stop_line(reply: &mut Reply, tag: Tag, pc: u64, stop: Stop)
     reply.push(b"\n");
 }
 
-/// Adds the answer to `step N`: N instructions were carried out, or why the program stopped.
+// Adds how many instructions were carried out, with the program counter.
+fn stepped_line(reply: &mut Reply, tag: Tag, count: usize, pc: u64)
+    requires { length reply.old + 51 ≤ 4096 }
+    ensures text { reply.new ≡ reply.old
+        ++ tagged (tag_byte tag) (codes "stepped " ++ decimal count ++ codes " pc=" ++ hex16 pc) }
+    ensures bound { length reply.new ≤ length reply.old + 51 }
+{
+    reply.push(&[tag.byte(), b' ']);
+    reply.push(b"stepped ");
+    push_decimal(reply, count as u64);
+    push_pc(reply, pc);
+    reply.push(b"\n");
+}
+
+/// Adds the answer to `step N`: the line that says that N instructions were carried out, as
+/// `stepped 3 pc=000000000001000c`, or the line that says why the program stopped.
 #[tactic(auto, unfolding(rv_model::specs::Replies::step_line))]
 pub fn step_line(reply: &mut Reply, tag: Tag, count: usize, pc: u64, stop: Option<Stop>)
     requires { length reply.old + 80 ≤ 4096 }
     ensures text { reply.new ≡ reply.old ++ text (tag_byte tag) (step_text count pc stop ∷ []) }
     ensures bound { length reply.new ≤ length reply.old + 80 }
 {
-    let Some(stop) = stop else {
-        reply.push(&[tag.byte(), b' ']);
-        reply.push(b"stepped ");
-        push_decimal(reply, count as u64);
-        push_pc(reply, pc);
-        reply.push(b"\n");
-        return;
-    };
-    stop_line(reply, tag, pc, stop);
+    match stop {
+        None => stepped_line(reply, tag, count, pc),
+        Some(stop) => stop_line(reply, tag, pc, stop),
+    }
 }

@@ -1,10 +1,12 @@
-//! Whose a line of output is.
+//! The byte that a line of output begins with.
 use rv_model::User;
 
-/// Whose a line of output is: it begins with the user's digit, or with a star.
+/// Whose a line of output is.
 #[derive(Clone, Copy)]
 pub enum Tag {
+    /// The user's own line: it begins with the user's digit.
     User(User),
+    /// A line for everyone: it begins with a star.
     Common,
 }
 

@@ -1,6 +1,5 @@
 //! The words of a command line.
-ghost use Rattle.std.specs.Prelude.{◌≡◌, ◌∷◌, [], length, ◌≤◌, ◌<◌, MatchOption};
-ghost use Rattle.std.specs.List.{position_or_len};
+ghost use Rattle.std.specs.Prelude.{◌≡◌, ◌∷◌, [], length, ◌<◌, position, IfSome, MatchOption};
 ghost use Rattle.rv_model.specs.Words.{words, is_space, with_piece};
 
 use std::marker::Model;
@@ -38,16 +37,12 @@ impl<'a> Words<'a> {
     }
 }
 
-// The place of the first space, or the line's length.
-fn first_space(line: &[u8]) -> usize
-    ensures bound { result ≤ length line.now }
-    ensures first { result ≡ position_or_len is_space line.now }
+// The place of the first space, if there is one.
+fn first_space(line: &[u8]) -> Option<usize>
+    ensures first { result ≡ position is_space line.now }
+    ensures bound { IfSome result (λ end. end < length line.now) }
 {
-    let mut end = 0;
-    while end < line.len() && line[end] != b' ' {
-        end += 1;
-    }
-    end
+    line.iter().position(|byte| *byte == b' ')
 }
 
 // What stands before the first space, and what follows that space.
@@ -56,18 +51,17 @@ fn cut(line: &[u8]) -> (&[u8], &[u8])
     ensures words { words line.now ≡ with_piece result.0.now (words result.1.now) }
     ensures shorter { 0 < length line.now → length result.1.now < length line.now }
 {
-    let end = first_space(line);
-    if end < line.len() {
-        (&line[..end], &line[end + 1..])
-    } else {
-        (line, &[])
+    match first_space(line) {
+        Some(end) => (&line[..end], &line[end + 1..]),
+        None => (line, &[]),
     }
 }
 
 // The first word and what follows it.
 #[tactic(auto, using(crate::proofs::WordLaws::no_words))]
 fn first_word(line: &[u8]) -> Option<(&[u8], &[u8])>
-    ensures { MatchOption result (words line.now ≡ []) (λ p. words line.now ≡ p.0.now ∷ words p.1.now) }
+    ensures { MatchOption result (words line.now ≡ [])
+        (λ p. words line.now ≡ p.0.now ∷ words p.1.now) }
 {
     let mut rest = line;
     while !rest.is_empty() {

@@ -1,12 +1,12 @@
 -- What a private machine prints are lines: no printed byte is a newline.
-use Rattle.std.proofs.Common.{◌≡◌, ℕ, zero, suc, ◌+◌, ◌*◌, ◌/◌, ◌%◌, ◌^◌, ◌<◌, ◌≤◌, List, [], ◌∷◌, ◌++◌, length, get_or, Bool, true, false, refl, ap, ◌∙◌, sym, subst, arith, eqb, cond, ltb, Option, Some, None, Ok, Err, lit<}
-use Rattle.std.specs.Prelude.{if◌then◌else◌, nat_lt, nat_le, not, ◌&&◌, decimal, codes, ◌||◌, ◌-◌, ◌==◌, slice_index, is_none}
+use Rattle.std.proofs.Common.{◌≡◌, ℕ, zero, suc, ◌+◌, ◌*◌, ◌/◌, ◌%◌, ◌^◌, ◌<◌, ◌≤◌, List, [], ◌∷◌, ◌++◌, get_or, Bool, true, false, refl, ap, arith, eqb, cond, Option, Some, None, Ok, Err, lit<}
+use Rattle.std.specs.Prelude.{nat_le, not, ◌&&◌, decimal, codes, ◌||◌, ◌-◌, ◌==◌, slice_index, is_none}
 use Rattle.std.specs.Str.{bytes_eq}
 use Rattle.std.specs.Int.{to_be_bytes, w64}
 use Rattle.std.proofs.lemmas.Bool.{leb-true}
 use Rattle.std.proofs.lemmas.Bool.Decides.{nat_tests}
 use Rattle.std.proofs.lemmas.Fmt.{decimal_by_steps}
-use Rattle.hex.specs.Hex.{encode_with, encode_lower, lower_digits}
+use Rattle.hex.specs.Hex.{encode_with, lower_digits}
 use Rattle.rv_model.specs.declared.command.Cmd.{Cmd}
 use Rattle.rv_model.specs.declared.command.Cmd.TheVariants.{Enter, Map, Poke, Regs, Step}
 use Rattle.rv_model.specs.declared.command.Refusal.{Refusal}
@@ -28,12 +28,12 @@ use Rattle.rv_model.specs.Causes.{cause_number}
 use Rattle.rv_model.specs.Commands.{parse, command, named, Parsed, or_argument, done, next, before, map_args, poke_args, step_args, are_pages, ◌>>=◌}
 use Rattle.rv_model.specs.InstructionTable.{scan, table}
 use Rattle.rv_model.specs.Memory.{can_access}
-use Rattle.rv_model.specs.PrivateMachine.{Private, Present, Outcome, Halted, Event, Command, Slice, steps, slice_steps, stop_of, at_breakpoint, own_refusal, needs_stopped, refusal_of, carried_out, accepted, refuses, decided, commanded, answers, sliced, slice_ends, event}
+use Rattle.rv_model.specs.PrivateMachine.{Private, Present, Outcome, Halted, Event, Command, Slice, steps, slice_steps, stop_of, at_breakpoint, refusal_of, carried_out, accepted, decided, commanded, sliced, slice_ends, event}
 use Rattle.rv_model.specs.Replies.{hex16, refused, register_text, register_line, register_lines, regs_lines, stop_line, step_line}
 use Rattle.rv_model.specs.Scalar.{read_register}
 use Rattle.rv_model.specs.Setup.{Setup}
 use Rattle.rv_model.specs.Step.{HartState, Stepped, step, executed, environment_call, system_step, op_imm_value, writes_or_faults, word_at}
-use Rattle.rv_model.specs.Text.{is_newline, is_line, IsLine, are_lines, AreLines}
+use Rattle.rv_model.specs.Text.{is_newline, is_line, IsLine, AreLines}
 use Rattle.rv_model.specs.Words.{words}
 use Rattle.rv_model.proofs.LineLaws.{both, both_of}
 
@@ -88,8 +88,8 @@ register_text_line : (s : Scalar) (i : ℕ) → i < 2 ^ 64 → IsLine (register_
 unfolding register_text
 register_text_line s i small =
     is_line-append (codes "x" ++ decimal i ++ codes " ") (hex16 (slice_index s.x i))
-      (is_line-append (codes "x" ++ decimal i) (codes " ") (is_line-append (codes "x") (decimal i) refl (decimal_line i small)) refl)
-      (hex16_line (slice_index s.x i))
+    (is_line-append (codes "x" ++ decimal i) (codes " ") (is_line-append (codes "x") (decimal i) refl (decimal_line i small)) refl)
+    (hex16_line (slice_index s.x i))
 
 spaced : (a b : List ℕ) → IsLine a → IsLine b → IsLine (a ++ codes " " ++ b)
 spaced a b h k = is_line-append (a ++ codes " ") b (is_line-append a (codes " ") h refl) k
@@ -131,22 +131,22 @@ unfolding stop_line
 stop_line_line pc stop.Breakpoint fits = is_line-append (codes "break pc=") (hex16 pc) refl (hex16_line pc)
 stop_line_line pc (stop.Exit status) fits =
     is_line-append (codes "exit " ++ decimal status ++ codes " pc=") (hex16 pc)
-      (is_line-append (codes "exit " ++ decimal status) (codes " pc=") (is_line-append (codes "exit ") (decimal status) refl (decimal_line status (omega (arith, fits)))) refl)
-      (hex16_line pc)
+    (is_line-append (codes "exit " ++ decimal status) (codes " pc=") (is_line-append (codes "exit ") (decimal status) refl (decimal_line status (omega (arith, fits)))) refl)
+    (hex16_line pc)
 stop_line_line pc (stop.Fault cause value) fits =
     let front = is_line-append (codes "fault cause=" ++ decimal (cause_number cause) ++ codes " pc=") (hex16 pc)
-          (is_line-append (codes "fault cause=" ++ decimal (cause_number cause)) (codes " pc=") (is_line-append (codes "fault cause=") (decimal (cause_number cause)) refl (cause_line cause)) refl)
-          (hex16_line pc) in
+    (is_line-append (codes "fault cause=" ++ decimal (cause_number cause)) (codes " pc=") (is_line-append (codes "fault cause=") (decimal (cause_number cause)) refl (cause_line cause)) refl)
+    (hex16_line pc) in
     is_line-append (codes "fault cause=" ++ decimal (cause_number cause) ++ codes " pc=" ++ hex16 pc ++ codes " value=") (hex16 value)
-      (is_line-append (codes "fault cause=" ++ decimal (cause_number cause) ++ codes " pc=" ++ hex16 pc) (codes " value=") front refl)
-      (hex16_line value)
+    (is_line-append (codes "fault cause=" ++ decimal (cause_number cause) ++ codes " pc=" ++ hex16 pc) (codes " value=") front refl)
+    (hex16_line value)
 
 step_line_line : (n pc : ℕ) (reason : Option Stop) → n < 2 ^ 64 → HaltFits reason → IsLine (step_line n pc reason)
 unfolding step_line
 step_line_line n pc None small fits =
     is_line-append (codes "stepped " ++ decimal n ++ codes " pc=") (hex16 pc)
-      (is_line-append (codes "stepped " ++ decimal n) (codes " pc=") (is_line-append (codes "stepped ") (decimal n) refl (decimal_line n small)) refl)
-      (hex16_line pc)
+    (is_line-append (codes "stepped " ++ decimal n) (codes " pc=") (is_line-append (codes "stepped ") (decimal n) refl (decimal_line n small)) refl)
+    (hex16_line pc)
 step_line_line n pc (Some reason) small fits = stop_line_line pc reason fits
 
 -- ---- an exit's status is below 256
@@ -162,14 +162,16 @@ writes_fits : (value : Option ℕ) (rd word : ℕ) (s : HartState) → Fits (wri
 writes_fits None rd word s = tt
 writes_fits (Some value) rd word s = tt
 
-system_fits : (op : SystemOp) (s : HartState) → Fits (system_step op s)
-system_fits system.Ecall s = environment_call_fits s
+system_fits : (op : SystemOp) (word : ℕ) (s : HartState) → Fits (system_step op word s)
+system_fits system.Ecall word s = environment_call_fits s
+system_fits system.Ebreak word s = tt
 
 executed_fits : (limit : ℕ) (i : Option Instr) (word : ℕ) (s : HartState) → Fits (executed limit i word s)
 unfolding executed
 executed_fits limit None word s = tt
 executed_fits limit (Some (OpImm op rd rs1 imm)) word s = writes_fits (op_imm_value op (read_register s.scalar rs1) imm) rd word s
-executed_fits limit (Some (System op)) word s = system_fits op s
+executed_fits limit (Some (System op)) word s = system_fits op word s
+executed_fits limit (Some _) word s = tt
 
 step_fits : (limit : ℕ) (s : HartState) → Fits (step limit s)
 unfolding step
@@ -189,15 +191,15 @@ steps_fit zero exempt p = tt
 steps_fit (suc n) exempt p =
     let one : Stepped = step 256 p.hart in
     of_either RunFits (not exempt && at_breakpoint p) _ _ tt
-      (of_either RunFits (is_none (stop_of one.end)) _ _ (steps_fit n false (record p { hart = one.state })) (stop_of_fits one.end (step_fits 256 p.hart)))
+    (of_either RunFits (is_none (stop_of one.end)) _ _ (steps_fit n false (record p { hart = one.state })) (stop_of_fits one.end (step_fits 256 p.hart)))
 
 slice_steps_fit : (n left : ℕ) (p : Present) → RunFits (slice_steps n left p)
 slice_steps_fit zero left p = tt
 slice_steps_fit (suc n) left p =
     let one : Stepped = step left p.hart in
     of_either RunFits (left == 0) _ _ tt
-      (of_either RunFits (not p.fresh && at_breakpoint p) _ _ tt
-        (of_either RunFits (is_none (stop_of one.end)) _ _ (slice_steps_fit n (left - one.ticks) (record p { hart = one.state; fresh = false })) (stop_of_fits one.end (step_fits left p.hart))))
+    (of_either RunFits (not p.fresh && at_breakpoint p) _ _ tt
+    (of_either RunFits (is_none (stop_of one.end)) _ _ (slice_steps_fit n (left - one.ticks) (record p { hart = one.state; fresh = false })) (stop_of_fits one.end (step_fits left p.hart))))
 
 -- ---- a command's numbers are those that its text allows
 

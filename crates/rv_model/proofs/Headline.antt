@@ -1,13 +1,13 @@
 -- Each user's lines are those of a run alone.
-use Rattle.std.proofs.Common.{◌≡◌, ◌≢◌, ◌⊎◌, inl, inr, ℕ, ◌+◌, ◌-◌, ◌<◌, ◌≤◌, List, [], ◌∷◌, ◌++◌, length, get_or, set, length-set, get_or-set_same, get_or-set_other, Bool, true, false, refl, ap, ◌∙◌, sym, subst, append_assoc, arith, eqb, cond, append-nil, Option, Some, None}
+use Rattle.std.proofs.Common.{◌≡◌, ◌≢◌, inl, inr, ℕ, ◌+◌, ◌-◌, ◌≤◌, List, [], ◌∷◌, ◌++◌, length, length-set, get_or-set_same, get_or-set_other, Bool, true, false, refl, ap, ◌∙◌, sym, subst, append_assoc, arith, eqb, cond, None}
 use Rattle.std.proofs.lemmas.List.{get_or-replicate}
 use Rattle.std.specs.Prelude.{if◌then◌else◌, ◌==◌, ◌&&◌, nat_le, nat_lt}
 use Rattle.std.proofs.lemmas.Bool.{cases_eq, leb-true}
 use Rattle.std.proofs.lemmas.Bool.Decides.{nat_tests}
-use Rattle.rv_model.specs.Text.{is_newline, pieces, tagged, text, AreLines}
+use Rattle.rv_model.specs.Text.{pieces, text, AreLines}
 use Rattle.rv_model.specs.Setup.{Setup}
-use Rattle.rv_model.specs.PrivateMachine.{Private, Outcome, Event, Command, event, solo_from, solo, end_of}
-use Rattle.rv_model.specs.Script.{World, new_world, part, with_part, Kind, Empty, Long, Bad, Operator, Of, prefixed, kind_of, events_of, common, after_events, told_by, after, told, after_all, told_all, schedule, whole_from, whole, after_script, mine, own_from, own, lines, of_user, AreUsers}
+use Rattle.rv_model.specs.PrivateMachine.{Private, Outcome, Event, event, solo_from, solo, end_of}
+use Rattle.rv_model.specs.Script.{World, new_world, part, with_part, Kind, Empty, Long, Bad, Operator, Of, prefixed, kind_of, events_of, common, after_events, told_by, after, told, after_all, told_all, schedule, whole_from, after_script, mine, own_from, own, lines, AreUsers}
 use Rattle.rv_model.specs.Laws.{EachUserAlone, EachNewUserAlone, EachUserEndsAlone, OthersChangeNothing, MachinesStayEight}
 use Rattle.rv_model.proofs.LineLaws.{lines_text, both}
 use Rattle.rv_model.proofs.EventLines.{event_lines}
@@ -47,8 +47,10 @@ splits_other s u others w e es v low low' ne =
 
 splits : (s : Setup) (u : ℕ) (others : List (List ℕ)) (w : World) (e : Event) (es : List (ℕ × Event)) (v : ℕ) → 1 ≤ u → u ≤ length w.parts → 1 ≤ v → Splits s u others w e es v
 splits s u others w e es v low high low' =
-    elim (cases_eq v u) [ inl h ↦ subst (Splits s u others w e es) (sym h) (splits_same s u others w e es low high)
-                        | inr ne ↦ splits_other s u others w e es v low low' ne ]
+    elim (cases_eq v u) [
+      | inl h ↦ subst (Splits s u others w e es) (sym h) (splits_same s u others w e es low high)
+      | inr ne ↦ splits_other s u others w e es v low low' ne
+    ]
 
 -- what events tell a user
 pub lines_told_by : (s : Setup) (u : ℕ) (w : World) (es : List (ℕ × Event)) (rest : List ℕ) → 1 ≤ u → u ≤ 8 → length w.parts ≡ 8 → AreUsers es → lines u (told_by s w es ++ rest) ≡ solo_from s (part u w) (mine u es) ++ lines u rest
@@ -79,8 +81,10 @@ part_after_events s u w [] low high eight users = refl
 part_after_events s u w ((v, e) ∷ es) low high eight users =
     let o : Outcome = event s (part v w) e in
     part_after_events s u (with_part v o.next w) es low high (length-set w.parts (v - 1) o.next ∙ eight) users.2
-    ∙ elim (cases_eq v u) [ inl h ↦ subst (Ends s u w e es) (sym h) (ends_same s u w e es low (omega (arith, high, eight)))
-                          | inr ne ↦ ends_other s u w e es v low users.0 ne ]
+    ∙ elim (cases_eq v u) [
+      | inl h ↦ subst (Ends s u w e es) (sym h) (ends_same s u w e es low (omega (arith, high, eight)))
+      | inr ne ↦ ends_other s u w e es v low users.0 ne
+    ]
 
 pub eight_after_events : (s : Setup) (w : World) (es : List (ℕ × Event)) → length w.parts ≡ 8 → length (after_events s w es).parts ≡ 8
 eight_after_events s w [] eight = eight

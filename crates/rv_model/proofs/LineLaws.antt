@@ -1,8 +1,6 @@
 -- How an output falls into lines.
-use Rattle.std.proofs.Common.{◌≡◌, ℕ, ◌+◌, ◌<◌, List, [], ◌∷◌, ◌++◌, Bool, true, false, refl, ap, ◌∙◌, sym, append_assoc, arith, eqb, cond, get_or, drop}
+use Rattle.std.proofs.Common.{◌≡◌, ℕ, ◌+◌, List, [], ◌∷◌, ◌++◌, Bool, true, false, refl, ap, ◌∙◌, append_assoc, eqb, cond, get_or, drop}
 use Rattle.std.specs.Prelude.{not, ◌&&◌, if◌then◌else◌, filter, map}
-use Rattle.std.specs.List.{slice_split, onto_first}
-use Rattle.std.proofs.lemmas.Bool.Decides.{nat_tests}
 use Rattle.rv_model.specs.Text.{is_newline, pieces, tagged, text, is_line, IsLine, are_lines, AreLines}
 use Rattle.rv_model.specs.Script.{lines, of_user}
 

@@ -1,6 +1,6 @@
 -- The laws that tie one user's lines of an output to that user's machine alone.
 use Rattle.std.specs.Prelude.{ℕ, ◌≡◌, ◌≤◌, List, length}
-use Rattle.rv_model.specs.PrivateMachine.{Event, solo_from, solo, end_of}
+use Rattle.rv_model.specs.PrivateMachine.{solo_from, solo, end_of}
 use Rattle.rv_model.specs.Script.{World, part, whole_from, whole, after_script, own_from, own, lines}
 use Rattle.rv_model.specs.Setup.{Setup}
 

@@ -54,6 +54,7 @@ word_at m addr = from_le_bytes w32 (bytes_at m addr 4)
 -- what an operation of a register and an immediate gives; no value where it isn't executed yet
 abbrev pub op_imm_value : OpImmOp → ℕ → ℕ → Option ℕ
 op_imm_value op_imm.Addi a imm = Some ((a + sign_extended 12 imm) % 2 ^ 64)
+op_imm_value _ a imm = None
 
 abbrev pub writes_or_faults : Option ℕ → ℕ → ℕ → HartState → Stepped
 writes_or_faults None rd word s = faults IllegalInstruction word s
@@ -66,14 +67,18 @@ environment_call s =
     if number == 93 || number == 94 then ends (Exit (read_register s.scalar 10 % 256)) s
     else runs_on (with_register 10 (2 ^ 64 - 38) s.scalar) s
 
-abbrev pub system_step : SystemOp → HartState → Stepped
-system_step system.Ecall s = environment_call s
+-- the instructions without operands
+abbrev pub system_step : SystemOp → ℕ → HartState → Stepped
+system_step system.Ecall word s = environment_call s
+system_step system.Ebreak word s = faults IllegalInstruction word s
 
--- an instruction, by the word that it is and the ticks that are left
+-- an instruction, by the word that it is and the ticks that are left; rows of the table that aren't carried out yet are
+-- illegal
 unfoldable pub executed : ℕ → Option Instr → ℕ → HartState → Stepped
 executed limit None word s = faults IllegalInstruction word s
 executed limit (Some (OpImm op rd rs1 imm)) word s = writes_or_faults (op_imm_value op (read_register s.scalar rs1) imm) rd word s
-executed limit (Some (System op)) word s = system_step op s
+executed limit (Some (System op)) word s = system_step op word s
+executed limit (Some _) word s = faults IllegalInstruction word s
 
 -- fetch, and the instruction that is there
 unfoldable pub step : ℕ → HartState → Stepped
@@ -82,8 +87,6 @@ step limit s =
     if can_access Fetch s.memory s.scalar.pc 4 then executed limit (scan table word) word s
     else faults FetchAccess s.scalar.pc s
 
--- whether an instruction touches the vector unit; a word that is no instruction doesn't
+-- whether an instruction touches the vector unit; none that is carried out so far does
 abbrev pub touches : Option Instr → Bool
-touches None = false
-touches (Some (OpImm op rd rs1 imm)) = false
-touches (Some (System op)) = false
+touches i = false

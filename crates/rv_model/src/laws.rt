@@ -10,11 +10,9 @@ pub fn each_user_alone()
     ensures end_state { EachUserEndsAlone }
     ensures others { OthersChangeNothing }
     ensures eight { MachinesStayEight }
-{
-}
+{}
 
 /// Small scripts print what a reader expects.
 pub fn small_scripts_print()
     ensures { SmallScriptsPrint }
-{
-}
+{}

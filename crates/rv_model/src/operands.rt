@@ -1,12 +1,12 @@
-//! Operands of instructions.
+//! The operands of instructions: registers, and bit fields of a word.
 ghost use Rattle.std.specs.Prelude.{◌≡◌, ◌<◌, ◌^◌};
 
 use std::marker::Model;
 
-/// A scalar register.
+/// One of the 32 scalar registers, x0 to x31.
 #[derive(Clone, Copy)]
 pub struct Reg {
-    number: u8,
+    number: u32,
 }
 
 impl Model for Reg {
@@ -22,16 +22,16 @@ impl Model for Reg {
 }
 
 impl Reg {
-    /// The register with this number, below 32.
-    pub fn new(number: u8) -> Reg
+    /// The scalar register with this number, 0 to 31.
+    pub fn new(number: u32) -> Reg
         requires { number < 32 }
         ensures { result ≡ number }
     {
         Reg { number }
     }
 
-    /// The register's number, below 32.
-    pub fn number(self) -> u8
+    /// The register's number, 0 to 31.
+    pub fn number(self) -> u32
         ensures value { result ≡ self }
         ensures small { self < 32 }
     {
@@ -39,7 +39,43 @@ impl Reg {
     }
 }
 
-/// A number of so many bits.
+/// One of the 32 vector registers, v0 to v31.
+#[derive(Clone, Copy)]
+pub struct VReg {
+    number: u32,
+}
+
+impl Model for VReg {
+    ghost use Rattle.std.specs.Prelude.{ℕ, ◌<◌};
+
+    ghost Value = { ℕ };
+
+    ghost view = { λ r. r.number };
+
+    ghost invariant = { λ r. r.number < 32 };
+
+    ghost inverse = { λ n. record { number = n } };
+}
+
+impl VReg {
+    /// The vector register with this number, 0 to 31.
+    pub fn new(number: u32) -> VReg
+        requires { number < 32 }
+        ensures { result ≡ number }
+    {
+        VReg { number }
+    }
+
+    /// The register's number, 0 to 31.
+    pub fn number(self) -> u32
+        ensures value { result ≡ self }
+        ensures small { self < 32 }
+    {
+        self.number
+    }
+}
+
+/// A bit field of a word, `BITS` bits wide, read as an unsigned number.
 #[derive(Clone, Copy)]
 pub struct Field<const BITS: u32> {
     value: u32,
@@ -58,7 +94,7 @@ impl<const BITS: u32> Model for Field<BITS> {
 }
 
 impl<const BITS: u32> Field<BITS> {
-    /// The field with this value, below 2 to the power of its width.
+    /// The field with this value, which has to fit.
     pub fn new(value: u32) -> Field<BITS>
         requires { value < 2 ^ BITS }
         ensures { result ≡ value }
@@ -66,7 +102,7 @@ impl<const BITS: u32> Field<BITS> {
         Field { value }
     }
 
-    /// The field's value, unsigned.
+    /// The field's value.
     pub fn value(self) -> u32
         ensures value { result ≡ self.entry }
         ensures small { self.entry < 2 ^ BITS }

@@ -1,13 +1,400 @@
-//! The operations of the instruction table, by the shape of their operands.
+//! The operations of each operand shape, by their names in the manual.
 
-/// Operations of a register and a 12-bit immediate (Unprivileged ISA 20191213, section 2.4.1).
-#[derive(Clone, Copy, PartialEq, Eq)]
-pub enum OpImmOp {
-    Addi,
+/// `lui` and `auipc` (Unprivileged ISA, RV32I, "Integer Register-Immediate Instructions").
+#[derive(Clone, Copy)]
+pub enum UpperOp {
+    Lui,
+    Auipc,
 }
 
-/// Operations without operands (section 2.8).
-#[derive(Clone, Copy, PartialEq, Eq)]
+/// Conditional branches (Unprivileged ISA, RV32I, "Conditional Branches").
+#[derive(Clone, Copy)]
+pub enum BranchOp {
+    Beq,
+    Bne,
+    Blt,
+    Bge,
+    Bltu,
+    Bgeu,
+}
+
+/// Loads to a scalar register (Unprivileged ISA, RV64I, "Load and Store Instructions").
+#[derive(Clone, Copy)]
+pub enum LoadOp {
+    Lb,
+    Lh,
+    Lw,
+    Ld,
+    Lbu,
+    Lhu,
+    Lwu,
+}
+
+/// Stores of a scalar register (Unprivileged ISA, RV64I, "Load and Store Instructions").
+#[derive(Clone, Copy)]
+pub enum StoreOp {
+    Sb,
+    Sh,
+    Sw,
+    Sd,
+}
+
+/// Operations on a register and a 12-bit immediate (Unprivileged ISA, RV64I, "Integer
+/// Register-Immediate Instructions").
+#[derive(Clone, Copy)]
+pub enum OpImmOp {
+    Addi,
+    Slti,
+    Sltiu,
+    Xori,
+    Ori,
+    Andi,
+    Addiw,
+}
+
+/// Shifts of 64 bits by an immediate (Unprivileged ISA, RV64I, "Integer Register-Immediate
+/// Instructions").
+#[derive(Clone, Copy)]
+pub enum ShiftImmOp {
+    Slli,
+    Srli,
+    Srai,
+}
+
+/// Shifts of the low 32 bits by an immediate (Unprivileged ISA, RV64I, "Integer
+/// Register-Immediate Instructions").
+#[derive(Clone, Copy)]
+pub enum ShiftImmWordOp {
+    Slliw,
+    Srliw,
+    Sraiw,
+}
+
+/// Operations on two registers (Unprivileged ISA, RV64I, "Integer Register-Register Operations",
+/// and "M" Extension).
+#[derive(Clone, Copy)]
+pub enum OpOp {
+    Add,
+    Sub,
+    Sll,
+    Slt,
+    Sltu,
+    Xor,
+    Srl,
+    Sra,
+    Or,
+    And,
+    Mul,
+    Mulh,
+    Mulhsu,
+    Mulhu,
+    Div,
+    Divu,
+    Rem,
+    Remu,
+    Addw,
+    Subw,
+    Sllw,
+    Srlw,
+    Sraw,
+    Mulw,
+    Divw,
+    Divuw,
+    Remw,
+    Remuw,
+}
+
+/// Calls of the environment (Unprivileged ISA, RV32I, "Environment Call and Breakpoints").
+#[derive(Clone, Copy)]
 pub enum SystemOp {
     Ecall,
+    Ebreak,
+}
+
+/// Accesses of a control register with a scalar register (Unprivileged ISA, "Zicsr").
+#[derive(Clone, Copy)]
+pub enum CsrOp {
+    Csrrw,
+    Csrrs,
+    Csrrc,
+}
+
+/// Accesses of a control register with a 5-bit immediate (Unprivileged ISA, "Zicsr").
+#[derive(Clone, Copy)]
+pub enum CsrImmediateOp {
+    Csrrwi,
+    Csrrsi,
+    Csrrci,
+}
+
+/// Integer operations whose result has the width of the operands (V extension, "Vector Integer
+/// Arithmetic Instructions").
+#[derive(Clone, Copy)]
+pub enum BinaryOp {
+    Vadd,
+    Vsub,
+    Vrsub,
+    Vminu,
+    Vmin,
+    Vmaxu,
+    Vmax,
+    Vand,
+    Vor,
+    Vxor,
+    Vsll,
+    Vsrl,
+    Vsra,
+    Vdivu,
+    Vdiv,
+    Vremu,
+    Vrem,
+    Vmulhu,
+    Vmul,
+    Vmulhsu,
+    Vmulh,
+}
+
+/// Operations whose result is a mask: comparisons, carries and borrows (V extension, "Vector
+/// Integer Compare Instructions" and "Vector Integer Add-with-Carry / Subtract-with-Borrow
+/// Instructions").
+#[derive(Clone, Copy)]
+pub enum CompareOp {
+    Vmadc,
+    Vmsbc,
+    Vmseq,
+    Vmsne,
+    Vmsltu,
+    Vmslt,
+    Vmsleu,
+    Vmsle,
+    Vmsgtu,
+    Vmsgt,
+}
+
+/// Operations of one width that saturate or round (V extension, "Vector Fixed-Point Arithmetic
+/// Instructions").
+#[derive(Clone, Copy)]
+pub enum FixedPointOp {
+    Vsaddu,
+    Vsadd,
+    Vssubu,
+    Vssub,
+    Vsmul,
+    Vssrl,
+    Vssra,
+    Vaaddu,
+    Vaadd,
+    Vasubu,
+    Vasub,
+}
+
+/// Shifts and clips of a source of twice the width (V extension, "Vector Narrowing Integer Right
+/// Shift Instructions" and "Vector Narrowing Fixed-Point Clip Instructions").
+#[derive(Clone, Copy)]
+pub enum NarrowOp {
+    Vnsrl,
+    Vnsra,
+    Vnclipu,
+    Vnclip,
+}
+
+/// Operations whose result has twice the width (V extension, "Vector Widening Integer Add/Subtract"
+/// and "Vector Widening Integer Multiply Instructions"). Where the name ends in `W`, the first source
+/// has twice the width too.
+#[derive(Clone, Copy)]
+pub enum WidenOp {
+    Vwaddu,
+    Vwadd,
+    Vwsubu,
+    Vwsub,
+    VwadduW,
+    VwaddW,
+    VwsubuW,
+    VwsubW,
+    Vwmulu,
+    Vwmulsu,
+    Vwmul,
+}
+
+/// Products added to a third operand (V extension, "Vector Single-Width Integer Multiply-Add
+/// Instructions" and "Vector Widening Integer Multiply-Add Instructions").
+#[derive(Clone, Copy)]
+pub enum MultiplyAddOp {
+    Vmadd,
+    Vnmsub,
+    Vmacc,
+    Vnmsac,
+    Vwmaccu,
+    Vwmacc,
+    Vwmaccus,
+    Vwmaccsu,
+}
+
+/// Reductions to element 0 (V extension, "Vector Reduction Operations").
+#[derive(Clone, Copy)]
+pub enum ReduceOp {
+    Vredsum,
+    Vredand,
+    Vredor,
+    Vredxor,
+    Vredminu,
+    Vredmin,
+    Vredmaxu,
+    Vredmax,
+    Vwredsumu,
+    Vwredsum,
+}
+
+/// Moves of elements to other indices (V extension, "Vector Permutation Instructions").
+#[derive(Clone, Copy)]
+pub enum PermuteOp {
+    Vrgather,
+    Vrgatherei16,
+    Vslideup,
+    Vslidedown,
+    Vslide1up,
+    Vslide1down,
+}
+
+/// An operation with a line of its own in the manual's table, for which bit 25 says whether it is
+/// masked.
+#[derive(Clone, Copy)]
+pub enum VectorOp {
+    Binary(BinaryOp),
+    Compare(CompareOp),
+    FixedPoint(FixedPointOp),
+    Narrow(NarrowOp),
+    Widen(WidenOp),
+    MultiplyAdd(MultiplyAddOp),
+    Reduce(ReduceOp),
+    Permute(PermuteOp),
+}
+
+/// Operations that take v0 as an operand and have no mask (V extension, "Vector Integer
+/// Add-with-Carry / Subtract-with-Borrow Instructions" and "Vector Integer Merge Instructions").
+#[derive(Clone, Copy)]
+pub enum CarryOp {
+    Vadc,
+    Vsbc,
+    Vmerge,
+}
+
+/// Logic on masks (V extension, "Vector Mask-Register Logical Instructions").
+#[derive(Clone, Copy)]
+pub enum MaskLogicOp {
+    Vmandn,
+    Vmand,
+    Vmor,
+    Vmxor,
+    Vmorn,
+    Vmnand,
+    Vmnor,
+    Vmxnor,
+}
+
+/// Counts and searches of a mask's bits, to a scalar register (V extension, "Vector Mask
+/// Instructions").
+#[derive(Clone, Copy)]
+pub enum MaskToScalarOp {
+    Vcpop,
+    Vfirst,
+}
+
+/// Zero and sign extensions (V extension, "Vector Integer Extension").
+#[derive(Clone, Copy)]
+pub enum ExtendOp {
+    VzextVf8,
+    VsextVf8,
+    VzextVf4,
+    VsextVf4,
+    VzextVf2,
+    VsextVf2,
+}
+
+/// Operations on one mask, to a vector register (V extension, "Vector Mask Instructions").
+#[derive(Clone, Copy)]
+pub enum MaskUnaryOp {
+    Vmsbf,
+    Vmsof,
+    Vmsif,
+    Viota,
+}
+
+/// A half of the vector opcode map: OPIVV, OPIVX and OPIVI, or OPMVV and OPMVX (V extension,
+/// "Vector Arithmetic Instruction encoding").
+#[derive(Clone, Copy)]
+pub enum Major {
+    Opi,
+    Opm,
+}
+
+/// Where the second operand of a vector operation comes from: a vector register, a scalar register
+/// or an immediate.
+#[derive(Clone, Copy)]
+pub enum Form {
+    V,
+    X,
+    I,
+}
+
+/// The forms that a line of the manual's table allows.
+#[derive(Clone, Copy)]
+pub enum Forms {
+    V,
+    X,
+    Vx,
+    Xi,
+    Vxi,
+}
+
+/// A line of the manual's table of vector operations: the half of the opcode map, the six bits of
+/// funct6, and the forms.
+#[derive(Clone, Copy)]
+pub struct Line {
+    pub major: Major,
+    pub funct6: u32,
+    pub forms: Forms,
+}
+
+/// The width of a memory element in bits, or of an index (V extension, "Vector Load/Store Width
+/// Encoding").
+#[derive(Clone, Copy)]
+pub enum Width {
+    E8,
+    E16,
+    E32,
+    E64,
+}
+
+/// Unit-stride accesses (V extension, "Vector Unit-Stride Instructions" and "Unit-stride
+/// Fault-Only-First Loads").
+#[derive(Clone, Copy)]
+pub enum UnitOp {
+    Load,
+    FaultOnlyFirst,
+    Store,
+}
+
+/// Whether memory is read or written.
+#[derive(Clone, Copy)]
+pub enum Direction {
+    Load,
+    Store,
+}
+
+/// The order of the accesses of an indexed instruction (V extension, "Vector Indexed Instructions").
+#[derive(Clone, Copy)]
+pub enum Order {
+    Unordered,
+    Ordered,
+}
+
+/// How many whole registers are moved (V extension, "Vector Load/Store Whole Register Instructions"
+/// and "Whole Vector Register Move").
+#[derive(Clone, Copy)]
+pub enum RegisterCount {
+    One,
+    Two,
+    Four,
+    Eight,
 }

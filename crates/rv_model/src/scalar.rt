@@ -25,14 +25,14 @@ impl Scalar {
     pub fn read(&self, register: Reg) -> u64
         ensures { result ≡ read_register self.now register }
     {
-        self.x[usize::from(register.number())]
+        self.x[register.number() as usize]
     }
 
     /// Writes a register; a write to x0 changes nothing.
     pub fn write(&mut self, register: Reg, value: u64)
         ensures { self.new ≡ with_register register value self.old }
     {
-        let number = usize::from(register.number());
+        let number = register.number() as usize;
         if number != 0 {
             self.x[number] = value;
         }

@@ -1,4 +1,4 @@
-//! One user's bytes, and the vector instructions that read and write them.
+//! One user's bytes, as its instructions read and write them.
 #![tactic(auto)]
 
 mod user_bytes;
