@@ -1,8 +1,8 @@
 -- Byte by byte a script comes to the same as line by line.
-use Rattle.std.proofs.Common.{◌≡◌, ℕ, ◌+◌, ◌<◌, ◌≤◌, ◌⊎◌, inl, inr, List, [], ◌∷◌, ◌++◌, length, take, length-append, Bool, true, false, refl, ap, ◌∙◌, sym, subst, append_assoc, append-nil, arith, eqb, cond, ltb}
+use Rattle.std.proofs.Common.{◌≡◌, ℕ, ◌+◌, ◌<◌, ◌≤◌, ◌⊎◌, inl, inr, List, [], ◌∷◌, ◌++◌, length, take, length-append, Bool, true, false, refl, ap, ◌∙◌, sym, subst, append_assoc, append-nil, arith, eqb, cond, ltb, get_or, drop, drop-cons, add-one}
 use Rattle.std.specs.Prelude.{if◌then◌else◌, nat_lt, not, ◌&&◌}
 use Rattle.std.proofs.lemmas.Bool.{cases_lt, lt-ltb, eqb-true}
-use Rattle.std.proofs.lemmas.List.{take_all, take-take, length-take-le, take-append-le, length_push}
+use Rattle.std.proofs.lemmas.List.{take_all, take-take, take_more, take-append-drop, length-take-le, take-append-le, length_push}
 use Rattle.rv_model.specs.Setup.{Setup}
 use Rattle.rv_model.specs.Text.{is_newline, pieces, text, is_line, IsLine}
 use Rattle.rv_model.specs.Script.{World, Kind, kind_of, prefixed, Long, events_of, common, after_events, told_by, after, told, after_all, told_all}
@@ -138,3 +138,26 @@ fed-append m line (c ∷ a) b =
       line = ih.line;
       output = ap (λ (t : List ℕ). one.output ++ t) ih.output ∙ sym (append_assoc one.output two.output (fed two.machine two.line b).output);
     }
+
+-- a machine that has taken a front of some bytes takes more of them
+pub goes_on : (m0 : MachineState) (line0 whole front read : List ℕ) (m : MachineState) (line : List ℕ) → whole ≡ front ++ read → m ≡ (fed m0 line0 front).machine → line ≡ (fed m0 line0 front).line → InTwo (fed m0 line0 whole) (fed m0 line0 front) (fed m line read)
+goes_on m0 line0 whole front read m line e p l =
+    let t : InTwo (fed m0 line0 (front ++ read)) (fed m0 line0 front) (fed (fed m0 line0 front).machine (fed m0 line0 front).line read) = fed-append m0 line0 front read in
+    let same : fed m line read ≡ fed (fed m0 line0 front).machine (fed m0 line0 front).line read = ap (λ (v : MachineState). fed v line read) p ∙ ap (λ (k : List ℕ). fed (fed m0 line0 front).machine k read) l in
+    record {
+      machine = ap (λ (x : List ℕ). (fed m0 line0 x).machine) e ∙ t.machine ∙ sym (ap (λ (f : Fed). f.machine) same);
+      line = ap (λ (x : List ℕ). (fed m0 line0 x).line) e ∙ t.line ∙ sym (ap (λ (f : Fed). f.line) same);
+      output = ap (λ (x : List ℕ). (fed m0 line0 x).output) e ∙ t.output ∙ ap (λ (x : List ℕ). (fed m0 line0 front).output ++ x) (sym (ap (λ (f : Fed). f.output) same));
+    }
+
+-- one byte more of some bytes
+pub one_more : (m0 : MachineState) (line0 bytes : List ℕ) (i : ℕ) (m : MachineState) (line : List ℕ) → i < length bytes → m ≡ (fed m0 line0 (take i bytes)).machine → line ≡ (fed m0 line0 (take i bytes)).line → InTwo (fed m0 line0 (take (i + 1) bytes)) (fed m0 line0 (take i bytes)) (fed m line (get_or bytes i 0 ∷ []))
+one_more m0 line0 bytes i m line within p l =
+    goes_on m0 line0 (take (i + 1) bytes) (take i bytes) (get_or bytes i 0 ∷ []) m line (take_more bytes i 0 within) p l
+
+-- bytes fall into those before one of them, this one, and those after it
+pub split_at_byte : (bytes : List ℕ) (i b : ℕ) → i < length bytes → get_or bytes i 0 ≡ b → bytes ≡ take i bytes ++ b ∷ drop (i + 1) bytes
+split_at_byte bytes i b within here =
+    sym (take-append-drop i bytes)
+    ∙ ap (λ (x : List ℕ). take i bytes ++ x) (rw (add-one) (drop-cons bytes i 0 within))
+    ∙ ap (λ (c : ℕ). take i bytes ++ c ∷ drop (i + 1) bytes) here

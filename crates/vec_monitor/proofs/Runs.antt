@@ -1,15 +1,15 @@
 -- A run of a script from read to read, and at its end.
-use Rattle.std.proofs.Common.{◌≡◌, ℕ, ◌+◌, ◌≤◌, ◌++◌, [], List, length, take, ap, ◌∙◌, sym, append_assoc, append-nil, refl, ◌-◌, None, arith}
-use Rattle.std.proofs.lemmas.List.{append_cancel_left, get_or-replicate, length-take-le, take-append-le, take-take}
+use Rattle.std.proofs.Common.{◌≡◌, ℕ, ◌+◌, ◌≤◌, ◌++◌, [], ◌∷◌, List, length, take, drop, ap, ◌∙◌, sym, append_assoc, append-nil, refl, ◌-◌, None, arith}
+use Rattle.std.proofs.lemmas.List.{append_cancel_left, get_or-replicate, length-take-le, take-append-le, take-append-drop, take-take}
 use Rattle.std.proofs.Math.Seq.{take-append-add}
-use Rattle.rv_model.specs.Script.{World, after_all, told_all, whole_from, after_script, lines, part, own, own_from, new_world}
+use Rattle.rv_model.specs.Script.{World, after, after_all, told, told_all, whole_from, after_script, lines, part, own, own_from, new_world}
 use Rattle.rv_model.specs.PrivateMachine.{Private, solo, solo_from}
 use Rattle.rv_model.proofs.Headline.{headline}
 use Rattle.vec_monitor.specs.MachineState.{MachineState, after_line, line_output}
 use Rattle.vec_monitor.specs.EndedLines.{ended_lines}
 use Rattle.vec_monitor.specs.Feed.{Fed, fed}
-use Rattle.vec_monitor.proofs.EndedLaws.{from_start_leaves}
-use Rattle.vec_monitor.proofs.Feeding.{InTwo, fed-append, from_start}
+use Rattle.vec_monitor.proofs.EndedLaws.{Leaves, from_start_leaves, ended_are}
+use Rattle.vec_monitor.proofs.Feeding.{InTwo, goes_on, from_start, after_clipped, output_clipped}
 
 -- the first a + n bytes of a script, of which the first a were read before
 pub first_bytes : (s0 rest : List ℕ) (a n : ℕ) → s0 ≡ take a s0 ++ rest → a + length rest ≡ length s0 → take (a + n) s0 ≡ take a s0 ++ take n rest
@@ -33,28 +33,17 @@ read_front s0 rest rest' buffer a n e len gave fits =
     ∙ ap (λ (x : List ℕ). (take a s0 ++ x) ++ rest') (sym (taken_bytes rest rest' buffer n n gave (omega arith) fits))
     ∙ ap (λ (x : List ℕ). x ++ rest') (sym (first_bytes s0 rest a n e len))
 
--- a machine that has taken a front of the script takes more of it
-goes_on : (m0 : MachineState) (whole front read : List ℕ) (m : MachineState) (line : List ℕ) → whole ≡ front ++ read → m ≡ (fed m0 [] front).machine → line ≡ (fed m0 [] front).line → InTwo (fed m0 [] whole) (fed m0 [] front) (fed m line read)
-goes_on m0 whole front read m line e p l =
-    let t : InTwo (fed m0 [] (front ++ read)) (fed m0 [] front) (fed (fed m0 [] front).machine (fed m0 [] front).line read) = fed-append m0 [] front read in
-    let same : fed m line read ≡ fed (fed m0 [] front).machine (fed m0 [] front).line read = ap (λ (v : MachineState). fed v line read) p ∙ ap (λ (k : List ℕ). fed (fed m0 [] front).machine k read) l in
-    record {
-      machine = ap (λ (x : List ℕ). (fed m0 [] x).machine) e ∙ t.machine ∙ sym (ap (λ (f : Fed). f.machine) same);
-      line = ap (λ (x : List ℕ). (fed m0 [] x).line) e ∙ t.line ∙ sym (ap (λ (f : Fed). f.line) same);
-      output = ap (λ (x : List ℕ). (fed m0 [] x).output) e ∙ t.output ∙ ap (λ (x : List ℕ). (fed m0 [] front).output ++ x) (sym (ap (λ (f : Fed). f.output) same));
-    }
-
 pub machine_goes_on : (m0 : MachineState) (whole front read : List ℕ) (m m' : MachineState) (line : List ℕ) → whole ≡ front ++ read → m ≡ (fed m0 [] front).machine → line ≡ (fed m0 [] front).line → m' ≡ (fed m line read).machine → m' ≡ (fed m0 [] whole).machine
-machine_goes_on m0 whole front read m m' line e p l h = h ∙ sym (goes_on m0 whole front read m line e p l).machine
+machine_goes_on m0 whole front read m m' line e p l h = h ∙ sym (goes_on m0 [] whole front read m line e p l).machine
 
 pub line_goes_on : (m0 : MachineState) (whole front read : List ℕ) (m : MachineState) (line line' : List ℕ) → whole ≡ front ++ read → m ≡ (fed m0 [] front).machine → line ≡ (fed m0 [] front).line → line' ≡ (fed m line read).line → line' ≡ (fed m0 [] whole).line
-line_goes_on m0 whole front read m line line' e p l h = h ∙ sym (goes_on m0 whole front read m line e p l).line
+line_goes_on m0 whole front read m line line' e p l h = h ∙ sym (goes_on m0 [] whole front read m line e p l).line
 
 pub output_goes_on : (m0 : MachineState) (whole front read : List ℕ) (m : MachineState) (line held0 held held' : List ℕ) → whole ≡ front ++ read → m ≡ (fed m0 [] front).machine → line ≡ (fed m0 [] front).line → held ≡ held0 ++ (fed m0 [] front).output → held' ≡ held ++ (fed m line read).output → held' ≡ held0 ++ (fed m0 [] whole).output
 output_goes_on m0 whole front read m line held0 held held' e p l h k =
     k ∙ ap (λ (x : List ℕ). x ++ (fed m line read).output) h
     ∙ append_assoc held0 (fed m0 [] front).output (fed m line read).output
-    ∙ ap (λ (x : List ℕ). held0 ++ x) (sym (goes_on m0 whole front read m line e p l).output)
+    ∙ ap (λ (x : List ℕ). held0 ++ x) (sym (goes_on m0 [] whole front read m line e p l).output)
 
 -- the machine after a script
 abbrev pub after_run : MachineState → List ℕ → MachineState
@@ -85,10 +74,44 @@ output_ends m0 s0 front m line shown held0 held held' all same p l h k =
 
 -- before the end of the script
 pub world_before_end : (m0 m : MachineState) (front : List ℕ) → m ≡ (fed m0 [] front).machine → m.world ≡ after_all m0.setup m0.world (ended_lines front)
-world_before_end m0 m front p = ap (λ (v : MachineState). v.world) (p ∙ (from_start_leaves m0 front).machine)
+world_before_end m0 m front p =
+    let l = from_start_leaves m0 front in
+    ap (λ (v : MachineState). v.world) (p ∙ l.machine) ∙ ap (after_all m0.setup m0.world) (sym (ended_are m0 front (fed m0 [] front) l))
 
 pub output_before_end : (m0 : MachineState) (front held0 held : List ℕ) → held ≡ held0 ++ (fed m0 [] front).output → held ≡ held0 ++ told_all m0.setup m0.world (ended_lines front)
-output_before_end m0 front held0 held h = h ∙ ap (λ (x : List ℕ). held0 ++ x) (from_start_leaves m0 front).output
+output_before_end m0 front held0 held h =
+    let l = from_start_leaves m0 front in
+    h ∙ ap (λ (x : List ℕ). held0 ++ x) (l.output ∙ ap (told_all m0.setup m0.world) (sym (ended_are m0 front (fed m0 [] front) l)))
+
+-- what the machine has taken when a line's answer can't be written
+abbrev pub taken_of : (m0 : MachineState) (front : List ℕ) → Leaves m0 [] front (fed m0 [] front)
+taken_of m0 front = from_start_leaves m0 front
+
+-- the world after a line whose answer can't be written
+pub world_at_cut : (m0 : MachineState) (front : List ℕ) (m m' : MachineState) (line shown : List ℕ) → m ≡ (fed m0 [] front).machine → line ≡ (fed m0 [] front).line → shown ≡ line → m' ≡ after_line m shown → m'.world ≡ after m0.setup (after_all m0.setup m0.world (taken_of m0 front).before) (taken_of m0 front).last
+world_at_cut m0 front m m' line shown p l same e =
+    let t = taken_of m0 front in
+    ap (λ (v : MachineState). v.world)
+    (e ∙ ap (after_line m) (same ∙ l ∙ t.line) ∙ after_clipped m t.last ∙ ap (λ (v : MachineState). after_line v t.last) (p ∙ t.machine))
+
+-- and what went out
+pub output_at_cut : (m0 : MachineState) (front : List ℕ) (m : MachineState) (line shown held0 held held' : List ℕ) (n : ℕ) → m ≡ (fed m0 [] front).machine → line ≡ (fed m0 [] front).line → shown ≡ line → held ≡ held0 ++ (fed m0 [] front).output → held' ≡ held ++ take n (line_output m shown) → held' ≡ (held0 ++ told_all m0.setup m0.world (taken_of m0 front).before) ++ take n (told m0.setup (after_all m0.setup m0.world (taken_of m0 front).before) (taken_of m0 front).last)
+output_at_cut m0 front m line shown held0 held held' n p l same h k =
+    let t = taken_of m0 front in
+    k
+    ∙ ap (λ (x : List ℕ). held ++ take n (line_output m x)) (same ∙ l ∙ t.line)
+    ∙ ap (λ (x : List ℕ). held ++ take n x) (output_clipped m t.last)
+    ∙ ap (λ (v : MachineState). held ++ take n (line_output v t.last)) (p ∙ t.machine)
+    ∙ ap (λ (x : List ℕ). x ++ take n (told m0.setup (after_all m0.setup m0.world t.before) t.last)) (h ∙ ap (λ (x : List ℕ). held0 ++ x) t.output)
+
+-- the script around the newline of a line whose answer can't be written
+pub script_at_cut : (s0 rest rest' buffer front back : List ℕ) (a n count : ℕ) → s0 ≡ take a s0 ++ rest → rest ≡ take count buffer ++ rest' → n ≤ count → count ≤ length buffer → take n buffer ≡ front ++ 10 ∷ back → s0 ≡ (take a s0 ++ front) ++ 10 ∷ (back ++ drop n rest)
+script_at_cut s0 rest rest' buffer front back a n count e gave few fits cut =
+    e
+    ∙ ap (λ (x : List ℕ). take a s0 ++ x) (sym (take-append-drop n rest))
+    ∙ ap (λ (x : List ℕ). take a s0 ++ (x ++ drop n rest)) (taken_bytes rest rest' buffer n count gave few fits ∙ cut)
+    ∙ ap (λ (x : List ℕ). take a s0 ++ x) (append_assoc front (10 ∷ back) (drop n rest))
+    ∙ sym (append_assoc (take a s0) front (10 ∷ (back ++ drop n rest)))
 
 -- the headline, of the output that a sink got
 pub headline_of : (m : MachineState) (s0 held0 held' : List ℕ) → length m.world.parts ≡ 8 → held' ≡ held0 ++ whole_from m.setup m.world s0 → (output : List ℕ) → held' ≡ held0 ++ output → (u : ℕ) → 1 ≤ u → u ≤ 8 → lines u output ≡ solo_from m.setup (part u m.world) (own_from m.setup u m.world s0)

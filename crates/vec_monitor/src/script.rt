@@ -1,7 +1,8 @@
 //! A whole script.
-ghost use Rattle.std.specs.Prelude.{◌≡◌, ℕ, ◌<◌, ◌≤◌, ◌++◌, [], List, Err, length, take, OnOk};
+ghost use Rattle.std.specs.Prelude.{◌≡◌, ℕ, ◌<◌, ◌≤◌, ◌++◌, [], ◌∷◌, List, Err, length, take, OnOk};
 ghost use Rattle.rv_model.specs.PrivateMachine.{solo, solo_from};
-ghost use Rattle.rv_model.specs.Script.{after_all, told_all, whole_from, after_script, lines, part, own, own_from, new_world};
+ghost use Rattle.rv_model.specs.Script.{after, after_all, told, told_all, whole_from, after_script, lines, part, own, own_from, new_world};
+ghost use Rattle.rv_model.specs.Text.{pieces};
 ghost use Rattle.vec_monitor.specs.Device.{Rose};
 ghost use Rattle.vec_monitor.specs.EndedLines.{ended_lines};
 
@@ -70,6 +71,15 @@ pub fn run<A: Allocator, S: Source, K: Sink>(
     ensures output_after_too_long { S.tells source.old → K.tells sink.old → result ≡ Err RunFault.TooLong →
         K.held sink.new ≡ K.held sink.old ++ told_all machine.old.setup machine.old.world
             (ended_lines (take 16777216 (S.rest source.old))) }
+    // After a failed write, the lines before some line have been carried out and answered whole; that
+    // line has been carried out, and a front of its answer has been written.
+    ensures after_write { S.tells source.old → result ≡ Err RunFault.Write →
+        (before : List (List ℕ)) × ((line : List ℕ) × ((more : List (List ℕ)) × (
+        (pieces (S.rest source.old) ≡ before ++ line ∷ more)
+        × (machine.new.world ≡ after machine.old.setup (after_all machine.old.setup machine.old.world before) line)
+        × (K.tells sink.old → (n : ℕ) × (K.held sink.new
+            ≡ (K.held sink.old ++ told_all machine.old.setup machine.old.world before)
+                ++ take n (told machine.old.setup (after_all machine.old.setup machine.old.world before) line)))))) }
 {
     let _ = machine.users();
     let mut left = MAX_SCRIPT;

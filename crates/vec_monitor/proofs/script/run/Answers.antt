@@ -1,7 +1,9 @@
-use Rattle.std.proofs.Common.{◌≡◌, ℕ, ◌+◌, ◌-◌, ◌<◌, ◌≤◌, ◌++◌, [], List, length, take, ap, ◌∙◌, sym, arith, length-append, length-take-le}
+use Rattle.std.proofs.Common.{◌≡◌, ℕ, ◌+◌, ◌-◌, ◌<◌, ◌≤◌, ◌++◌, [], List, length, take, drop, refl, ap, ◌∙◌, sym, arith, length-append, length-take-le}
 use Rattle.vec_monitor.specs.MachineState.{MachineState}
 use Rattle.vec_monitor.specs.Feed.{Fed, fed}
-use Rattle.vec_monitor.proofs.Runs.{first_bytes, taken_bytes, read_front, machine_goes_on, line_goes_on, output_goes_on, all_read, machine_ends, output_ends, world_before_end, output_before_end, headline_of, new_headline_of}
+use Rattle.rv_model.specs.Text.{pieces}
+use Rattle.vec_monitor.proofs.Feeding.{InTwo, goes_on}
+use Rattle.vec_monitor.proofs.Runs.{first_bytes, taken_bytes, read_front, machine_goes_on, line_goes_on, output_goes_on, all_read, machine_ends, output_ends, world_before_end, output_before_end, taken_of, world_at_cut, output_at_cut, script_at_cut, headline_of, new_headline_of}
 use Rattle.vec_monitor.proofs.script.run.Goals as goal
 
 -- nothing is left at the end
@@ -107,3 +109,51 @@ returns-then-taken-count-clause-output_after_too_long g c = λ s k fault.
       ∙ ap (λ (x : List ℕ). take before script ++ x) (taken_bytes _ _ c.read.new.buffer m c.in-Ok.count (c.in-Ok.ensures.gave (c.loop-count.invariant.source s)) few bound) in
     output_before_end c.args.machine.now (take 16777216 script) (g.K.Sink.held c.args.sink.now) (g.K.Sink.held c.take_bytes.new.sink)
       (output_goes_on c.args.machine.now (take 16777216 script) (take before script) (take m c.read.new.buffer) c.loop-count.machine c.loop-count.line (g.K.Sink.held c.args.sink.now) (g.K.Sink.held c.loop-count.sink) (g.K.Sink.held c.take_bytes.new.sink) front (c.loop-count.invariant.machine s) (c.loop-count.invariant.line s) (c.loop-count.invariant.output s k) (c.in-Ok-take_bytes.ensures.ok (c.loop-count.invariant.sink k)))
+
+pub returns-in_default-serve-clause-after_write : goal.returns-in_default-serve-clause-after_write
+returns-in_default-serve-clause-after_write g c = λ s fault.
+    let script : List ℕ = g.S.Source.rest c.args.source.now in
+    let front : List ℕ = take (16777216 - c.loop-count.left) script in
+    let zero : c.in-Ok.count ≡ 0 = c.if-count-eq0.true in
+    let s' = c.loop-count.invariant.source s in
+    let room : 0 < length c.read.new.buffer = omega arith in
+    let none = ended g.S.Source.rest _ _ _ _ zero (c.in-Ok.ensures.gave s') (c.in-Ok.ensures.end s' zero room) in
+    let all : front ≡ script = all_read _ _ _ (c.loop-count.invariant.rest s) none in
+    let t = taken_of c.args.machine.now front in
+    (t.before,
+     (t.last,
+      ([],
+       (sym (ap pieces all) ∙ t.all,
+        world_at_cut c.args.machine.now front c.loop-count.machine c.serve.new.machine c.loop-count.line c.as_slice.result.now (c.loop-count.invariant.machine s) (c.loop-count.invariant.line s) c.as_slice.ensures c.serve.ensures.machine,
+        λ k.
+          let part = c.in_default-serve.ensures.part (c.loop-count.invariant.sink k) in
+          (part.0, output_at_cut c.args.machine.now front c.loop-count.machine c.loop-count.line c.as_slice.result.now (g.K.Sink.held c.args.sink.now) (g.K.Sink.held c.loop-count.sink) (g.K.Sink.held c.serve.new.sink) part.0 (c.loop-count.invariant.machine s) (c.loop-count.invariant.line s) c.as_slice.ensures (c.loop-count.invariant.output s k) part.1)))))
+
+pub returns-in_default-take_bytes-clause-after_write : goal.returns-in_default-take_bytes-clause-after_write
+returns-in_default-take_bytes-clause-after_write g c = λ s fault.
+    let before : ℕ = 16777216 - c.loop-count.left in
+    let script : List ℕ = g.S.Source.rest c.args.source.now in
+    let n : ℕ = c.min-taken.result in
+    let bound = c.in-Ok.ensures.bound in
+    let few : n ≤ c.in-Ok.count = omega (arith, c.min-taken.ensures) in
+    let cut = c.in_default-take_bytes.ensures.part in
+    let read : List ℕ = cut.0 in
+    let back : List ℕ = cut.1.0 in
+    let rest : List ℕ = g.S.Source.rest c.loop-count.source in
+    let front : List ℕ = take before script ++ read in
+    let m : MachineState = c.loop-count.machine in
+    let line : List ℕ = c.loop-count.line in
+    let one : Fed = fed m line read in
+    let t = taken_of c.args.machine.now front in
+    let on : InTwo (fed c.args.machine.now [] front) (fed c.args.machine.now [] (take before script)) one =
+      goes_on c.args.machine.now [] front (take before script) read m line refl (c.loop-count.invariant.machine s) (c.loop-count.invariant.line s) in
+    (t.before,
+     (t.last,
+      (pieces (back ++ drop n rest),
+       (ap pieces (script_at_cut script rest (g.S.Source.rest c.read.new.self) c.read.new.buffer read back before n c.in-Ok.count (c.loop-count.invariant.rest s) (c.in-Ok.ensures.gave (c.loop-count.invariant.source s)) few bound cut.1.1.0)
+        ∙ t.more (back ++ drop n rest),
+        world_at_cut c.args.machine.now front one.machine c.take_bytes.new.machine one.line one.line (sym on.machine) (sym on.line) refl cut.1.1.1,
+        λ k.
+          let part = cut.1.1.2 (c.loop-count.invariant.sink k) in
+          let held : List ℕ = g.K.Sink.held c.loop-count.sink ++ one.output in
+          (part.0, output_at_cut c.args.machine.now front one.machine one.line one.line (g.K.Sink.held c.args.sink.now) held (g.K.Sink.held c.take_bytes.new.sink) part.0 (sym on.machine) (sym on.line) refl (output_goes_on c.args.machine.now front (take before script) read m line (g.K.Sink.held c.args.sink.now) (g.K.Sink.held c.loop-count.sink) held refl (c.loop-count.invariant.machine s) (c.loop-count.invariant.line s) (c.loop-count.invariant.output s k) refl) part.1)))))
