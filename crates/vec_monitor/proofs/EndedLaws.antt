@@ -39,9 +39,9 @@ at_newline m a s h ih =
       all = pieces_at a s h ∙ ap (λ (ps : List (List ℕ)). a ∷ ps) ih.all;
       more = λ back. ap pieces (append_assoc a (10 ∷ s) (10 ∷ back)) ∙ pieces_at a (s ++ 10 ∷ back) h ∙ ap (λ (ps : List (List ℕ)). a ∷ ps) (ih.more back);
       output =
-        ap (λ (v : MachineState). line_output m (take 1025 a) ++ (r v).output) (after_clipped m a)
-        ∙ ap (λ (t : List ℕ). t ++ (r (after_line m a)).output) (output_clipped m a)
-        ∙ ap (λ (t : List ℕ). line_output m a ++ t) ih.output;
+          ap (λ (v : MachineState). line_output m (take 1025 a) ++ (r v).output) (after_clipped m a)
+          ∙ ap (λ (t : List ℕ). t ++ (r (after_line m a)).output) (output_clipped m a)
+          ∙ ap (λ (t : List ℕ). line_output m a ++ t) ih.output;
       machine = ap (λ (v : MachineState). (r v).machine) (after_clipped m a) ∙ ih.machine;
       line = ap (λ (v : MachineState). (r v).line) (after_clipped m a) ∙ ih.line;
     }

@@ -94,7 +94,7 @@ pub fn take_bytes<A: Allocator, K: Sink>(
         (bytes.now ≡ front ++ 10 ∷ back)
         × (machine.new ≡ after_line (fed machine.old line.old front).machine (fed machine.old line.old front).line)
         × (K.tells sink.old → (n : ℕ) × (K.held sink.new ≡ (K.held sink.old ++ (fed machine.old line.old front).output)
-            ++ take n (line_output (fed machine.old line.old front).machine (fed machine.old line.old front).line)))))) }
+        ++ take n (line_output (fed machine.old line.old front).machine (fed machine.old line.old front).line)))))) }
     ensures unfailed { OnOk result (K.failures sink.new ≡ K.failures sink.old) }
     ensures cause { OnErr result (Rose (K.failures sink.old) (K.failures sink.new)) }
 {

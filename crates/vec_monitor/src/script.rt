@@ -63,14 +63,14 @@ pub fn run<A: Allocator, S: Source, K: Sink>(
         (S.rest source.old ≡ text ++ S.rest source.new)
         × (machine.new.world ≡ after_all machine.old.setup machine.old.world (ended_lines text))
         × (K.tells sink.old → K.held sink.new
-            ≡ K.held sink.old ++ told_all machine.old.setup machine.old.world (ended_lines text))) }
+        ≡ K.held sink.old ++ told_all machine.old.setup machine.old.world (ended_lines text))) }
     // After too long a script, the lines that end in its first 16,777,216 bytes.
     ensures after_too_long { S.tells source.old → result ≡ Err RunFault.TooLong →
         machine.new.world ≡ after_all machine.old.setup machine.old.world
-            (ended_lines (take 16777216 (S.rest source.old))) }
+        (ended_lines (take 16777216 (S.rest source.old))) }
     ensures output_after_too_long { S.tells source.old → K.tells sink.old → result ≡ Err RunFault.TooLong →
         K.held sink.new ≡ K.held sink.old ++ told_all machine.old.setup machine.old.world
-            (ended_lines (take 16777216 (S.rest source.old))) }
+        (ended_lines (take 16777216 (S.rest source.old))) }
     // After a failed write, the lines before some line have been carried out and answered whole; that
     // line has been carried out, and a front of its answer has been written.
     ensures after_write { S.tells source.old → result ≡ Err RunFault.Write →
@@ -78,9 +78,10 @@ pub fn run<A: Allocator, S: Source, K: Sink>(
         (pieces (S.rest source.old) ≡ before ++ line ∷ more)
         × (machine.new.world ≡ after machine.old.setup (after_all machine.old.setup machine.old.world before) line)
         × (K.tells sink.old → (n : ℕ) × (K.held sink.new
-            ≡ (K.held sink.old ++ told_all machine.old.setup machine.old.world before)
-                ++ take n (told machine.old.setup (after_all machine.old.setup machine.old.world before) line)))))) }
+        ≡ (K.held sink.old ++ told_all machine.old.setup machine.old.world before)
+        ++ take n (told machine.old.setup (after_all machine.old.setup machine.old.world before) line)))))) }
 {
+    // The headline rests on there being eight users.
     let _ = machine.users();
     let mut left = MAX_SCRIPT;
     let mut line = Line::new();
