@@ -35,10 +35,10 @@ number-source_of form.V n = refl
 number-source_of form.X n = refl
 number-source_of form.I n = refl
 
-form-source_of : (f : Form) (n : ℕ) → form_of (source_of f n) ≡ f
-form-source_of form.V n = refl
-form-source_of form.X n = refl
-form-source_of form.I n = refl
+pub form_source_of : (f : Form) (n : ℕ) → form_of (source_of f n) ≡ f
+form_source_of form.V n = refl
+form_source_of form.X n = refl
+form_source_of form.I n = refl
 
 low_again : (a b : ℕ) → a < 2 ^ 5 → (a + b * 2 ^ 5) % 2 ^ 5 ≡ a
 low_again a b h = omega arith
@@ -154,9 +154,9 @@ filled_bits (CsrImmediate op rd imm csr) w = refl
 filled_bits (SetVli rd rs1 vtype) w = refl
 filled_bits (SetIvli rd avl vtype) w = refl
 filled_bits (SetVl rd rs1 rs2) w = refl
-filled_bits (VectorArith arith vd vs2 vm) w = rw (form-source_of (form_of arith.1) (field 15 5 w)) refl
-filled_bits (VectorCarry carry vd vs2) w = rw (form-source_of (form_of carry.1) (field 15 5 w)) refl
-filled_bits (VectorMove source vd) w = rw (form-source_of (form_of source) (field 15 5 w)) refl
+filled_bits (VectorArith arith vd vs2 vm) w = rw (form_source_of (form_of arith.1) (field 15 5 w)) refl
+filled_bits (VectorCarry carry vd vs2) w = rw (form_source_of (form_of carry.1) (field 15 5 w)) refl
+filled_bits (VectorMove source vd) w = rw (form_source_of (form_of source) (field 15 5 w)) refl
 filled_bits (WholeMove count vd vs2) w = refl
 filled_bits (MaskLogic op vd vs1 vs2) w = refl
 filled_bits (Compress vd vs1 vs2) w = refl
