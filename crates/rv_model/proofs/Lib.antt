@@ -1,6 +1,9 @@
-pub mod MemoryLaws
-pub mod InstructionParts
+pub mod EventLines
+pub mod Headline
 pub mod InstructionLaws
-pub mod InstructionWords
-pub mod InstructionRows
+pub mod InstructionParts
 pub mod InstructionRoundTrips
+pub mod InstructionRows
+pub mod InstructionWords
+pub mod LineLaws
+pub mod MemoryLaws

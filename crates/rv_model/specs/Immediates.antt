@@ -38,3 +38,7 @@ branch_offset word = field 8 4 word + field 25 6 word * 2 ^ 4 + field 7 1 word *
 -- J: bits 10 to 1 of the distance stand at 30 to 21, bit 11 at 20, bits 19 to 12 at 19 to 12, bit 20 at 31
 abbrev pub jump_offset : ℕ → ℕ
 jump_offset word = field 21 10 word + field 20 1 word * 2 ^ 10 + field 12 8 word * 2 ^ 11 + field 31 1 word * 2 ^ 19
+
+-- an immediate of so many bits, sign-extended to a 64-bit word
+abbrev pub sign_extended : ℕ → ℕ → ℕ
+sign_extended bits value = if nat_lt value (2 ^ (bits - 1)) then value else value + (2 ^ 64 - 2 ^ bits)

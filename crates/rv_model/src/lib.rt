@@ -1,17 +1,31 @@
 //! The definitions that every contract of the monitor cites, and the small types they speak of.
 #![tactic(auto)]
 
+mod command;
 mod instruction;
+mod laws;
 mod memory;
 mod operands;
 pub mod operations;
 mod pairs;
+mod policy;
+mod scalar;
 mod source;
+mod step_end;
 mod user;
+mod vector_state;
+mod vector_type;
 
+pub use command::{ByteString, Cmd, Refusal};
 pub use instruction::Instr;
-pub use memory::{Access, Fault, MapRefusal, Permissions};
+pub use laws::{each_user_alone, small_scripts_print};
+pub use memory::{Access, Fault, MapRefusal, Permissions, memory_laws};
 pub use operands::{Field, Reg, VReg};
 pub use pairs::{Arith, Carry};
+pub use policy::Policy;
+pub use scalar::Scalar;
 pub use source::Source;
+pub use step_end::{Cause, StepEnd, Stop};
 pub use user::User;
+pub use vector_state::{RoundingMode, Seat, VConf, VFile, VState};
+pub use vector_type::{Lmul, Sew, VType};

@@ -1,0 +1,79 @@
+-- The grammar of a user's commands: a name and its arguments. Refusals are in the order of their numbers, so an unknown
+-- name (E03) comes before a wrong argument (E04).
+use Rattle.std.specs.Prelude.{ℕ, ◌+◌, ◌*◌, ◌%◌, ◌^◌, ◌==◌, ◌&&◌, nat_le, Bool, List, [], ◌∷◌, Option, Some, None, Result, Ok, Err, if◌then◌else◌, codes}
+use Rattle.std.specs.Str.{bytes_eq}
+use Rattle.rv_model.specs.declared.command.Cmd.{Cmd}
+use Rattle.rv_model.specs.declared.command.Cmd.TheVariants.{Enter, Map, Poke, Regs, Step}
+use Rattle.rv_model.specs.declared.command.Refusal.{Refusal}
+use Rattle.rv_model.specs.declared.command.Refusal.TheVariants.{UnknownCommand, Argument}
+use Rattle.rv_model.specs.Arguments.{number, address, permissions, byte_string}
+use Rattle.rv_model.specs.Words.{words}
+
+infixl 10 ◌>>=◌
+abbrev pub ◌>>=◌ : {A B : Type 0} → Option A → (A → Option B) → Option B
+(Some x) >>= f = f x
+None >>= f = None
+
+abbrev pub before : {A : Type 0} → List (List ℕ) → Option A → Option (A × List (List ℕ))
+before ws None = None
+before ws (Some a) = Some (a, ws)
+
+-- what the first word means as an argument, and the words after it
+abbrev pub next : {A : Type 0} → (List ℕ → Option A) → List (List ℕ) → Option (A × List (List ℕ))
+next meaning [] = None
+next meaning (w ∷ ws) = before ws (meaning w)
+
+-- the command, if no word is left
+abbrev pub done : Cmd → List (List ℕ) → Option Cmd
+done c [] = Some c
+done c (w ∷ ws) = None
+
+-- whole pages that end at 2 ^ 48 or below
+abbrev pub are_pages : ℕ → ℕ → Bool
+are_pages addr count = (addr % 4096 == 0) && nat_le (addr + 4096 * count) (2 ^ 48)
+
+-- ADDR PAGES PERM
+unfoldable pub map_args : List (List ℕ) → Option Cmd
+map_args ws = do
+  addr ← next address ws
+  pages ← next (number 1 256) addr.1
+  allowed ← next permissions pages.1
+  (if are_pages addr.0 pages.0 then done (Map addr.0 pages.0 allowed.0) allowed.1 else None)
+
+-- ADDR HEX
+unfoldable pub poke_args : List (List ℕ) → Option Cmd
+poke_args ws = do
+  addr ← next address ws
+  bytes ← next byte_string addr.1
+  done (Poke addr.0 bytes.0) bytes.1
+
+-- N
+unfoldable pub step_args : List (List ℕ) → Option Cmd
+step_args ws = do
+  count ← next (number 1 256) ws
+  done (Step count.0) count.1
+
+abbrev pub Parsed : Type 0
+Parsed = Result Cmd Refusal
+
+abbrev pub or_argument : Option Cmd → Parsed
+or_argument None = Err Argument
+or_argument (Some c) = Ok c
+
+-- a command by its name
+unfoldable pub named : List ℕ → List (List ℕ) → Parsed
+named name args =
+    if bytes_eq name (codes "enter") then or_argument (done Enter args)
+    else if bytes_eq name (codes "map") then or_argument (map_args args)
+    else if bytes_eq name (codes "poke") then or_argument (poke_args args)
+    else if bytes_eq name (codes "regs") then or_argument (done Regs args)
+    else if bytes_eq name (codes "step") then or_argument (step_args args)
+    else Err UnknownCommand
+
+abbrev pub command : List (List ℕ) → Parsed
+command [] = Err UnknownCommand
+command (name ∷ args) = named name args
+
+-- the command that a line spells, without the user's digit and the space after it
+unfoldable pub parse : List ℕ → Parsed
+parse line = command (words line)

@@ -1,0 +1,39 @@
+-- Small scripts with their outputs, for whatever quantum and images.
+use Rattle.std.specs.Prelude.{ℕ, ◌≡◌, List, [], ◌∷◌, ◌++◌, codes, replicate, map}
+use Rattle.rv_model.specs.Script.{whole}
+use Rattle.rv_model.specs.Setup.{Setup}
+
+-- a text with n spaces after it
+abbrev pub spaced_out : List ℕ → ℕ → List ℕ
+spaced_out text n = text ++ replicate n 32
+
+-- each script with what it prints
+abbrev pub small_scripts : List (List ℕ × List ℕ)
+small_scripts =
+    (codes "", codes "")
+    ∷ (codes "\n\n", codes "")
+    ∷ (codes "9 enter\n", codes "* E01\n")
+    ∷ (codes "0 enter\n", codes "* E01\n")
+    ∷ (codes "1\n", codes "* E01\n")
+    ∷ (codes " \n", codes "* E01\n")
+    ∷ (spaced_out (codes "1 enter") 1017, codes "1 entered\n")
+    ∷ (spaced_out (codes "1 enter") 1018, codes "* E02\n")
+    ∷ (codes "1 dance\n", codes "1 E03\n")
+    ∷ (codes "1 \n", codes "1 E03\n")
+    ∷ (codes "* list\n", codes "* E03\n")
+    ∷ (codes "1 enter now\n", codes "1 E04\n")
+    ∷ (codes "1 step 257\n", codes "1 E04\n")
+    ∷ (codes "1 step 01\n", codes "1 E04\n")
+    ∷ (codes "1 map fffffffff000 2 r\n", codes "1 E04\n")
+    ∷ (codes "1 regs\n", codes "1 E05\n")
+    ∷ (codes "1 enter\n", codes "1 entered\n")
+    ∷ (codes "1 enter\n1 enter\n", codes "1 entered\n1 E06\n")
+    ∷ (codes "1 enter\n1 enter", codes "1 entered\n1 E06\n")
+    ∷ (codes "8 enter\n1 regs\n", codes "8 entered\n1 E05\n")
+    ∷ (codes "2 regs\n2  enter \n2 enter\n", codes "2 E05\n2 entered\n2 E06\n")
+    ∷ (codes "1 enter\n9 x\n2 regs\n1 enter\n", codes "1 entered\n* E01\n2 E05\n1 E06\n")
+    ∷ []
+
+-- each prints just that
+abbrev pub SmallScriptsPrint : Type 0
+SmallScriptsPrint = (setup : Setup) → map (λ e. whole setup e.0) small_scripts ≡ map (λ e. e.1) small_scripts

@@ -1,0 +1,34 @@
+-- Lines of text, ended by a newline (byte 0A).
+use Rattle.std.specs.Prelude.{ℕ, ◌==◌, ◌≡◌, List, [], ◌∷◌, ◌++◌, Bool, true, not, ◌&&◌}
+use Rattle.std.specs.List.{slice_split}
+
+abbrev pub is_newline : ℕ → Bool
+is_newline b = b == 10
+
+-- the pieces between the newlines; where the text ends with one, the last piece is empty
+abbrev pub pieces : List ℕ → List (List ℕ)
+pieces text = slice_split is_newline text
+
+-- a line with its tag, a user's digit or a star
+abbrev pub tagged : ℕ → List ℕ → List ℕ
+tagged tag line = tag ∷ 32 ∷ (line ++ 10 ∷ [])
+
+-- lines of one tag, one after another
+abbrev pub text : ℕ → List (List ℕ) → List ℕ
+text tag [] = []
+text tag (line ∷ lines) = tagged tag line ++ text tag lines
+
+abbrev pub is_line : List ℕ → Bool
+is_line [] = true
+is_line (b ∷ bs) = not (is_newline b) && is_line bs
+
+-- no byte is a newline
+abbrev pub IsLine : List ℕ → Type 0
+IsLine line = is_line line ≡ true
+
+abbrev pub are_lines : List (List ℕ) → Bool
+are_lines [] = true
+are_lines (line ∷ lines) = is_line line && are_lines lines
+
+abbrev pub AreLines : List (List ℕ) → Type 0
+AreLines lines = are_lines lines ≡ true

@@ -1,0 +1,90 @@
+//! The commands of a user.
+ghost use Rattle.std.specs.Prelude.{◌≡◌};
+ghost use Rattle.rv_model.specs.Arguments.{byte_string};
+
+use crate::memory::Permissions;
+use arrayvec::ArrayVec;
+use std::marker::Model;
+
+/// A string of at most 256 bytes.
+#[derive(Drop)]
+pub struct ByteString {
+    bytes: ArrayVec<u8, 256>,
+}
+
+impl Model for ByteString {
+    ghost use Rattle.std.specs.Prelude.{List, ℕ};
+
+    ghost Value = { List ℕ };
+
+    ghost view = { λ b. b.bytes.items };
+}
+
+impl ByteString {
+    /// The 1 to 256 bytes that an even number of hexadecimal digits spells.
+    pub fn from_hex(text: &[u8]) -> Option<ByteString>
+        ensures { result ≡ byte_string text.now }
+    {
+        let len = text.len() / 2;
+        if len < 1 || len > 256 {
+            return None;
+        }
+        let mut buffer = [0; 256];
+        if hex::decode_to_slice(text, &mut buffer[..len]).is_err() {
+            return None;
+        }
+        let mut bytes = ArrayVec::new();
+        let _ = bytes.try_extend_from_slice(&buffer[..len]);
+        Some(ByteString { bytes })
+    }
+
+    /// The bytes.
+    pub fn as_slice(&self) -> &[u8]
+        ensures { result.now ≡ self.now }
+    {
+        self.bytes.as_slice()
+    }
+}
+
+/// A command of a user with its arguments.
+#[derive(Drop)]
+pub enum Cmd {
+    /// `enter`: the user's machine begins.
+    Enter,
+    /// `map ADDR PAGES PERM`: pages of zeros from an address that is a multiple of 4,096.
+    Map {
+        addr: u64,
+        pages: usize,
+        permissions: Permissions,
+    },
+    /// `poke ADDR HEX`: bytes written to mapped pages.
+    Poke {
+        addr: u64,
+        bytes: ByteString,
+    },
+    /// `regs`: the program counter and the registers are shown.
+    Regs,
+    /// `step N`: 1 to 256 instructions are carried out.
+    Step(usize),
+}
+
+/// Why a command is refused, in the order in which the reasons are tested.
+#[derive(Clone, Copy, Debug, PartialEq, Eq)]
+pub enum Refusal {
+    /// E03: there is no such command.
+    UnknownCommand,
+    /// E04: a wrong number of words, or a word out of its form or range.
+    Argument,
+    /// E05: the user has not entered.
+    NotEntered,
+    /// E06: the user has entered already.
+    AlreadyEntered,
+    /// E07: the user's program runs.
+    Running,
+    /// E10: the user would have more than 256 pages.
+    Quota,
+    /// E11: an address that isn't mapped.
+    NotMapped,
+    /// E16: a page that is mapped already.
+    AlreadyMapped,
+}

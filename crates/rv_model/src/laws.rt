@@ -1,0 +1,18 @@
+//! Laws of the definitions, and small examples of them.
+ghost use Rattle.rv_model.specs.Laws.{EachUserAlone, EachNewUserAlone, EachUserEndsAlone, OthersChangeNothing, MachinesStayEight};
+ghost use Rattle.rv_model.specs.Examples.{SmallScriptsPrint};
+
+/// Each user's lines are those of a private machine that is given the user's own commands and
+/// slices: from any eight machines, and from new ones.
+pub fn each_user_alone()
+    ensures from_any { EachUserAlone }
+    ensures from_new { EachNewUserAlone }
+    ensures end_state { EachUserEndsAlone }
+    ensures others { OthersChangeNothing }
+    ensures eight { MachinesStayEight }
+{}
+
+/// Small scripts print what a reader expects.
+pub fn small_scripts_print()
+    ensures { SmallScriptsPrint }
+{}

@@ -1,0 +1,122 @@
+//! The vector state of a machine ("V" Vector Extension 1.0, section 3).
+use crate::vector_type::VType;
+use std::marker::Model;
+
+/// The vector length `vl` in elements, at most VLMAX, and `vtype`, which is supported here or is
+/// `vill` alone (sections 3.4 and 3.5).
+#[derive(Clone, Copy)]
+pub struct VConf {
+    vl: u16,
+    vtype: Option<VType>,
+}
+
+impl Model for VConf {
+    ghost use Rattle.rv_model.specs.VectorConfiguration.{Configuration, IsConfiguration};
+
+    ghost Value = { Configuration };
+
+    ghost view = { λ c. record { vl = c.vl; vtype = c.vtype } };
+
+    ghost invariant = { λ c. IsConfiguration (record { vl = c.vl; vtype = c.vtype }) };
+
+    ghost inverse = { λ v. record { vl = v.vl; vtype = v.vtype } };
+}
+
+impl VConf {
+    ghost use Rattle.std.specs.Prelude.{◌≡◌};
+    ghost use Rattle.rv_model.specs.VectorConfiguration.{initial_configuration};
+
+    /// `vill` alone, with a length of 0.
+    pub fn vill() -> VConf
+        ensures { result ≡ initial_configuration }
+    {
+        VConf { vl: 0, vtype: None }
+    }
+
+    /// The vector length in elements, 0 to 256.
+    pub fn vl(self) -> u16
+        ensures value { result ≡ self.vl }
+    {
+        self.vl
+    }
+
+    /// The vector type; `None` is `vill`.
+    pub fn vtype(self) -> Option<VType>
+        ensures { result ≡ self.vtype }
+    {
+        self.vtype
+    }
+}
+
+/// The fixed-point rounding mode (section 3.8, `vxrm`).
+#[derive(Clone, Copy, PartialEq, Eq)]
+pub enum RoundingMode {
+    NearestUp,
+    NearestEven,
+    Down,
+    Odd,
+}
+
+/// The vector registers v0 to v31 of 32 bytes each, in order (section 3.2, VLEN 256).
+#[derive(Drop)]
+pub struct VFile {
+    bytes: [u8; 1024],
+}
+
+impl Model for VFile {
+    ghost use Rattle.std.specs.Prelude.{List, ℕ};
+
+    ghost Value = { List ℕ };
+
+    ghost view = { λ f. f.bytes };
+}
+
+impl VFile {
+    ghost use Rattle.std.specs.Prelude.{◌≡◌};
+    ghost use Rattle.rv_model.specs.VectorState.{zero_file};
+
+    /// All registers zero.
+    #[tactic(auto, unfolding(crate::specs::VectorState::zero_file))]
+    pub fn new() -> VFile
+        ensures { result ≡ zero_file }
+    {
+        VFile { bytes: [0; 1024] }
+    }
+}
+
+/// All of a machine's vector state: the registers, `vl` and `vtype`, `vstart` below 256, the
+/// rounding mode and the saturation flag `vxsat` (sections 3.2 to 3.9).
+#[derive(Drop)]
+pub struct VState {
+    pub file: VFile,
+    pub conf: VConf,
+    pub vstart: u8,
+    pub vxrm: RoundingMode,
+    pub vxsat: bool,
+}
+
+impl VState {
+    ghost use Rattle.std.specs.Prelude.{◌≡◌};
+    ghost use Rattle.rv_model.specs.VectorState.{initial_vector};
+
+    /// Zeros, with `vill` set.
+    #[tactic(auto, unfolding(crate::specs::VectorState::initial_vector))]
+    pub fn new() -> VState
+        ensures { result ≡ initial_vector }
+    {
+        VState {
+            file: VFile::new(),
+            conf: VConf::vill(),
+            vstart: 0,
+            vxrm: RoundingMode::NearestUp,
+            vxsat: false,
+        }
+    }
+}
+
+/// A vector state that is lent, and whether it was changed since it was last saved.
+#[derive(Drop)]
+pub struct Seat {
+    pub state: VState,
+    pub dirty: bool,
+}

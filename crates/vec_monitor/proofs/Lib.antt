@@ -1,0 +1,7 @@
+pub mod CommandLaws
+pub mod Feeding
+pub mod LineBuffer
+pub mod ParsedLaws
+pub mod PartLaws
+pub mod PrefixLaws
+pub mod Runs
