@@ -1,11 +1,11 @@
 -- Bytes of a script come to the lines among them that have ended, and a last line so far.
-use Rattle.std.proofs.Common.{◌≡◌, ℕ, suc, ◌+◌, ◌-◌, ◌≤◌, List, [], ◌∷◌, ◌++◌, length, length-append, take, Bool, true, false, refl, ap, ◌∙◌, sym, subst, append_assoc, append-nil, arith}
+use Rattle.std.proofs.Common.{◌≡◌, ℕ, ◌-◌, List, [], ◌∷◌, ◌++◌, length, length-append, take, Bool, true, false, refl, ap, ◌∙◌, sym, subst, append_assoc, append-nil, arith}
 use Rattle.std.proofs.lemmas.Bool.{eqb-true}
 use Rattle.std.proofs.Math.Seq.{take-append_seam}
 use Rattle.rv_model.specs.Text.{is_newline, pieces, IsLine}
 use Rattle.rv_model.proofs.LineLaws.{pieces_at, pieces_of_line}
 use Rattle.vec_monitor.specs.EndedLines.{ended_lines}
-use Rattle.vec_monitor.specs.Feed.{Fed, longer, feed, fed}
+use Rattle.vec_monitor.specs.Feed.{Fed, longer, fed}
 use Rattle.vec_monitor.specs.MachineState.{MachineState, after_line, line_output}
 use Rattle.vec_monitor.proofs.Feeding.{after_lines, lines_output, and_then, feed_newline, feed_other, after_clipped, output_clipped, longer_clipped, is_line_push}
 

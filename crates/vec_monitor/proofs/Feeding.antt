@@ -1,8 +1,8 @@
 -- Byte by byte a script comes to the same as line by line.
-use Rattle.std.proofs.Common.{◌≡◌, ℕ, ◌+◌, ◌<◌, ◌≤◌, ◌⊎◌, inl, inr, List, [], ◌∷◌, ◌++◌, length, take, length-append, Bool, true, false, refl, ap, ◌∙◌, sym, subst, append_assoc, append-nil, arith, eqb, cond, ltb, get_or, drop, drop-cons, add-one}
-use Rattle.std.specs.Prelude.{if◌then◌else◌, nat_lt, not, ◌&&◌}
+use Rattle.std.proofs.Common.{◌≡◌, ℕ, ◌+◌, ◌<◌, inl, inr, List, [], ◌∷◌, ◌++◌, length, take, Bool, true, false, refl, ap, ◌∙◌, sym, subst, append_assoc, append-nil, arith, eqb, cond, get_or, drop, drop-cons, add-one}
+use Rattle.std.specs.Prelude.{nat_lt, not}
 use Rattle.std.proofs.lemmas.Bool.{cases_lt, lt-ltb, eqb-true}
-use Rattle.std.proofs.lemmas.List.{take_all, take-take, take_more, take-append-drop, length-take-le, take-append-le, length_push}
+use Rattle.std.proofs.lemmas.List.{take_all, take-take, take_more, take-append-drop, length-take-le, take-append-le}
 use Rattle.rv_model.specs.Setup.{Setup}
 use Rattle.rv_model.specs.Text.{is_newline, pieces, text, is_line, IsLine}
 use Rattle.rv_model.specs.Script.{World, Kind, kind_of, prefixed, Long, events_of, common, after_events, told_by, after, told, after_all, told_all}

@@ -7,9 +7,9 @@ use Rattle.rv_model.specs.PrivateMachine.{Private, solo, solo_from}
 use Rattle.rv_model.proofs.Headline.{headline}
 use Rattle.vec_monitor.specs.MachineState.{MachineState, after_line, line_output}
 use Rattle.vec_monitor.specs.EndedLines.{ended_lines}
-use Rattle.vec_monitor.specs.Feed.{Fed, fed}
+use Rattle.vec_monitor.specs.Feed.{fed}
 use Rattle.vec_monitor.proofs.EndedLaws.{Leaves, from_start_leaves, ended_are}
-use Rattle.vec_monitor.proofs.Feeding.{InTwo, goes_on, from_start, after_clipped, output_clipped}
+use Rattle.vec_monitor.proofs.Feeding.{goes_on, from_start, after_clipped, output_clipped}
 
 -- the first a + n bytes of a script, of which the first a were read before
 pub first_bytes : (s0 rest : List ℕ) (a n : ℕ) → s0 ≡ take a s0 ++ rest → a + length rest ≡ length s0 → take (a + n) s0 ≡ take a s0 ++ take n rest

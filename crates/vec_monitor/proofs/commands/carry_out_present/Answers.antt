@@ -1,11 +1,9 @@
-use Rattle.std.proofs.Common.{rules, ◌≡◌, ◌+◌, ◌++◌, ◌∷◌, [], ℕ, List, ap, ◌∙◌, sym}
-use Rattle.rv_model.specs.declared.command.Cmd.{Cmd}
-use Rattle.rv_model.specs.PrivateMachine.{Outcome, answers}
+use Rattle.std.proofs.Common.{◌+◌, ◌++◌, ◌∷◌, [], ℕ, List, ap, ◌∙◌, sym}
+use Rattle.rv_model.specs.PrivateMachine.{Outcome}
 use Rattle.rv_model.specs.Replies.{step_line}
 use Rattle.rv_model.specs.Text.{text}
 use Rattle.user_mem.specs.Users.{memory_of_user}
 use Rattle.vec_monitor.specs.CommandOutcomes.{outcome}
-use Rattle.vec_monitor.specs.Parts.{present}
 use Rattle.vec_monitor.proofs.CommandLaws.{step_outcome}
 use Rattle.vec_monitor.proofs.commands.carry_out_present.Goals as goal
 

@@ -1,9 +1,8 @@
-use Rattle.std.proofs.Common.{◌≡◌, ℕ, suc, ◌+◌, ◌++◌, ◌∷◌, [], List, take, drop, get_or, Result, Ok, Err, ap, ◌∙◌, sym, append_assoc, append-nil, arith, add-one, drop-cons}
+use Rattle.std.proofs.Common.{ℕ, ◌+◌, ◌++◌, List, take, drop, get_or, Result, Ok, Err, ap, ◌∙◌, sym, append_assoc, append-nil}
 use Rattle.std.specs.Result.{OnErr}
-use Rattle.std.proofs.lemmas.List.{take-append-drop}
 use Rattle.vec_monitor.specs.Feed.{Fed, feed, fed}
 use Rattle.vec_monitor.specs.MachineState.{MachineState, after_line, line_output}
-use Rattle.vec_monitor.proofs.Feeding.{InTwo, one_more, split_at_byte}
+use Rattle.vec_monitor.proofs.Feeding.{one_more, split_at_byte}
 use Rattle.vec_monitor.proofs.feed.take_bytes.Goals as goal
 
 on_err : {T E P : Type 0} (r : Result T E) → P → OnErr r P

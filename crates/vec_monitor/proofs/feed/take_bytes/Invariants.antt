@@ -1,4 +1,4 @@
-use Rattle.std.proofs.Common.{◌≡◌, ℕ, ◌++◌, take}
+use Rattle.std.proofs.Common.{◌≡◌, ◌++◌, take}
 use Rattle.vec_monitor.specs.Feed.{fed}
 use Rattle.vec_monitor.proofs.feed.take_bytes.Given as goal
 
