@@ -44,7 +44,8 @@ fn step_parts<M: UserBytes, V: Vectors>(
     ensures end { (step_spec 256 (hart_state scalar.old (V.lent vectors.old).state (M.memory memory.old) Policy.Keep [])).end
         ≡ result }
     ensures others { memory.new ≡ M.with_memory memory.old (M.memory memory.new) }
-    ensures vectors { (vectors.new ≡ V.back vectors.old (V.lent vectors.new)) ⊎ (vectors.new ≡ vectors.old) }
+    ensures vectors { (vectors.new ≡ V.back vectors.old (V.lent vectors.new)) ⊎ (vectors.new
+        ≡ vectors.old) }
 {
     let mut view = View {
         scalar,

@@ -1,5 +1,5 @@
-//! Scripts with the answers that the monitor's description gives, devices that fail, and machines that
-//! there can't be.
+//! Scripts with the answers that the monitor's description gives, devices that fail, and machines
+//! that there can't be.
 ghost use Rattle.std.specs.Prelude.{◌≡◌, ◌-◌, ◌^◌, []};
 
 use super::*;
