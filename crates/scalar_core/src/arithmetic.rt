@@ -3,8 +3,8 @@ ghost use Rattle.std.specs.Prelude.{◌≡◌};
 ghost use Rattle.rv_model.specs.ScalarArithmetic.{op_value};
 
 use crate::extension::{low_word, sign_extend_word};
-use crate::multiplication::muldiv;
 use crate::muldiv_op::MulDivOp;
+use crate::multiplication::muldiv;
 use crate::shift;
 use rv_model::operations::OpOp;
 

@@ -1,7 +1,21 @@
 //! Division, of 64 and of 32 bits (Unprivileged ISA 20191213, section 7.2): no division traps.
 ghost use Rattle.std.specs.Prelude.{◌≡◌};
 ghost use Rattle.std.specs.Int.{w32, w64};
-ghost use Rattle.rv_model.specs.ScalarArithmetic.{quotient, remainder, signed_quotient, signed_remainder};
+ghost use Rattle.rv_model.specs.ScalarArithmetic.{overflows, quotient, remainder, signed_quotient, signed_remainder};
+
+// Whether the least number is divided by -1.
+fn overflows(a: u64, b: u64) -> bool
+    ensures { result ≡ overflows w64 a b }
+{
+    a == 1 << 63 && b == u64::MAX
+}
+
+// Whether the least number is divided by -1.
+fn overflows_word(a: u32, b: u32) -> bool
+    ensures { result ≡ overflows w32 a b }
+{
+    a == 1 << 31 && b == u32::MAX
+}
 
 /// The unsigned quotient; all ones for a divisor of zero.
 pub(crate) fn divide(a: u64, b: u64) -> u64
@@ -23,7 +37,7 @@ pub(crate) fn divide_signed(a: u64, b: u64) -> u64
 {
     if b == 0 {
         u64::MAX
-    } else if a == 1 << 63 && b == u64::MAX {
+    } else if overflows(a, b) {
         a
     } else {
         (a.cast_signed() / b.cast_signed()).cast_unsigned()
@@ -36,10 +50,12 @@ pub(crate) fn remainder_signed(a: u64, b: u64) -> u64
 {
     if b == 0 {
         a
-    } else if a == 1 << 63 && b == u64::MAX {
+    } else if overflows(a, b) {
         0
     } else {
-        a.cast_signed().wrapping_rem(b.cast_signed()).cast_unsigned()
+        a.cast_signed()
+            .wrapping_rem(b.cast_signed())
+            .cast_unsigned()
     }
 }
 
@@ -63,7 +79,7 @@ pub(crate) fn divide_signed_word(a: u32, b: u32) -> u32
 {
     if b == 0 {
         u32::MAX
-    } else if a == 1 << 31 && b == u32::MAX {
+    } else if overflows_word(a, b) {
         a
     } else {
         (a.cast_signed() / b.cast_signed()).cast_unsigned()
@@ -76,9 +92,11 @@ pub(crate) fn remainder_signed_word(a: u32, b: u32) -> u32
 {
     if b == 0 {
         a
-    } else if a == 1 << 31 && b == u32::MAX {
+    } else if overflows_word(a, b) {
         0
     } else {
-        a.cast_signed().wrapping_rem(b.cast_signed()).cast_unsigned()
+        a.cast_signed()
+            .wrapping_rem(b.cast_signed())
+            .cast_unsigned()
     }
 }

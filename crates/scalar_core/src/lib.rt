@@ -10,6 +10,8 @@ mod muldiv_op;
 mod multiplication;
 mod product;
 mod shift;
+#[cfg(test)]
+mod tests;
 
 pub use arithmetic::alu;
 pub use comparison::branch;

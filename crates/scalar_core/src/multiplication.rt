@@ -3,10 +3,9 @@ ghost use Rattle.std.specs.Prelude.{◌≡◌};
 ghost use Rattle.rv_model.specs.ScalarArithmetic.{op_value};
 ghost use Rattle.scalar_core.specs.Multiplications.{op_of};
 
-use crate::division;
 use crate::extension::{low_word, sign_extend_word};
 use crate::muldiv_op::MulDivOp;
-use crate::product;
+use crate::{division, product};
 
 /// What a multiplication or division of two registers gives.
 pub fn muldiv(op: MulDivOp, a: u64, b: u64) -> u64
@@ -24,7 +23,10 @@ pub fn muldiv(op: MulDivOp, a: u64, b: u64) -> u64
         MulDivOp::Mulw => sign_extend_word(low_word(a).wrapping_mul(low_word(b))),
         MulDivOp::Divw => sign_extend_word(division::divide_signed_word(low_word(a), low_word(b))),
         MulDivOp::Divuw => sign_extend_word(division::divide_word(low_word(a), low_word(b))),
-        MulDivOp::Remw => sign_extend_word(division::remainder_signed_word(low_word(a), low_word(b))),
+        MulDivOp::Remw => sign_extend_word(division::remainder_signed_word(
+            low_word(a),
+            low_word(b),
+        )),
         MulDivOp::Remuw => sign_extend_word(division::remainder_word(low_word(a), low_word(b))),
     }
 }
