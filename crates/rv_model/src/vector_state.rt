@@ -23,7 +23,7 @@ impl Model for VConf {
 }
 
 impl VConf {
-    ghost use Rattle.std.specs.Prelude.{◌≡◌, ◌≤◌};
+    ghost use Rattle.std.specs.Prelude.{◌≡◌, ◌≤◌, IfSome};
     ghost use Rattle.rv_model.specs.VectorConfiguration.{initial_configuration, IsSupported, vlmax};
 
     /// `vill` alone, with a length of 0.
@@ -54,7 +54,9 @@ impl VConf {
 
     /// The vector type; `None` is `vill`.
     pub fn vtype(self) -> Option<VType>
-        ensures { result ≡ self.vtype }
+        ensures value { result ≡ self.vtype }
+        ensures supported { IfSome result (λ t. IsSupported t) }
+        ensures length { IfSome result (λ t. self.vl ≤ vlmax t) }
     {
         self.vtype
     }
