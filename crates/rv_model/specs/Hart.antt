@@ -17,6 +17,11 @@ pub record HartState : Type 0 where
   pub output : List ℕ
   pub policy : Policy
 
+-- the state that has these parts and this output buffer
+abbrev pub hart_state : Scalar → VState → Memory → Policy → List ℕ → HartState
+hart_state scalar vector memory policy output =
+    record { scalar = scalar; vector = vector; memory = memory; output = output; policy = policy }
+
 -- a step's end, the state that it leaves, and the ticks that it takes
 pub record Stepped : Type 0 where
   pub state : HartState
