@@ -1,0 +1,118 @@
+//! The instruction cycle: fetch, decode, execute.
+ghost use Rattle.std.specs.Prelude.{◌≡◌, ◌≤◌, List, ℕ, Ok, Err, if◌then◌else◌};
+ghost use Rattle.rv_model.specs.declared.memory.Access.TheVariants.{Fetch};
+ghost use Rattle.rv_model.specs.Hart.{hart_state};
+ghost use Rattle.rv_model.specs.Memory.{can_access};
+ghost use Rattle.rv_model.specs.Step.{dirties, executed, touches, word_at};
+ghost use Rattle.hart.specs.States.{fetched, IsStep, Leads, seat_after};
+
+use crate::scalar_instructions::{execute_scalar, illegal};
+use crate::touches::is_touching;
+use crate::vector_instructions::execute_touching;
+use crate::vectors::Vectors;
+use crate::view::View;
+use rv_decode::decode;
+use rv_model::{Access, Cause, Fault, Instr, Policy, Scalar, StepEnd};
+use vector_memory::UserBytes;
+
+// The word at an address.
+fn fetch<M: UserBytes>(memory: &M, pc: u64) -> Result<u32, Fault>
+    ensures { result ≡ (if can_access Fetch (M.memory memory.now) pc 4
+        then Ok (word_at (M.memory memory.now) pc)
+        else Err (record { addr = pc })) }
+{
+    let mut bytes = [0; 4];
+    memory.read(pc, Access::Fetch, &mut bytes)?;
+    Ok(u32::from_le_bytes(bytes))
+}
+
+// Carries out an instruction; there is none where the word is no instruction.
+#[tactic(auto, unfolding(rv_model::specs::Step::executed, rv_model::specs::Step::dirties))]
+fn execute<M: UserBytes, V: Vectors>(
+    instr: Option<Instr>,
+    word: u32,
+    scalar: &mut Scalar,
+    memory: &mut M,
+    vectors: &mut V,
+    limit: usize,
+    policy: Policy,
+) -> StepEnd
+    requires { V.ready vectors.old }
+    ensures model { Leads (executed limit instr word)
+        (hart_state scalar.old (V.lent vectors.old).state (M.memory memory.old) policy)
+        (hart_state scalar.new (V.lent vectors.new).state (M.memory memory.new) policy) result }
+    ensures memory { memory.new ≡ M.with_memory memory.old (M.memory memory.new) }
+    ensures vectors { (output : List ℕ) → vectors.new
+        ≡ (if touches instr
+            then V.back vectors.old
+                (seat_after (dirties limit instr (hart_state scalar.old (V.lent vectors.old).state (M.memory memory.old) policy output))
+                    (V.lent vectors.new).state (V.lent vectors.old))
+            else vectors.old) }
+    ensures ready { V.ready vectors.new }
+{
+    let Some(instr) = instr else {
+        return illegal(word, scalar);
+    };
+    if is_touching(&instr) {
+        let seat = vectors.seat();
+        execute_touching(&instr, word, scalar, memory, seat, limit, policy)
+    } else {
+        execute_scalar(&instr, word, scalar, memory)
+    }
+}
+
+/// Carries out one instruction of a user within `limit` ticks, and answers how it ended and how many
+/// ticks it took. The vector state is lent once where the instruction touches it, and else not at all; it
+/// is marked as dirty where the instruction changed it.
+#[tactic(auto, unfolding(rv_model::specs::Step::step))]
+pub fn step<M: UserBytes, V: Vectors>(
+    view: &mut View<'_, '_, '_, M, V>,
+    limit: usize,
+) -> (StepEnd, usize)
+    requires ready { V.ready view.old.vectors.now }
+    requires limit { 1 ≤ limit }
+    ensures model { IsStep limit
+        (hart_state view.old.scalar.now (V.lent view.old.vectors.now).state
+        (M.memory view.old.memory.now) view.old.policy)
+        (hart_state view.new.scalar.now (V.lent view.new.vectors.now).state
+        (M.memory view.new.memory.now) view.new.policy)
+        result.0 result.1 }
+    ensures policy { view.new.policy ≡ view.old.policy }
+
+    // All else that the user's bytes and the lender hold stays.
+    ensures memory { view.new.memory.now
+        ≡ M.with_memory view.old.memory.now (M.memory view.new.memory.now) }
+    ensures vectors { (output : List ℕ) → view.new.vectors.now
+        ≡ (if touches (fetched (M.memory view.old.memory.now) view.old.scalar.now.pc)
+        then V.back view.old.vectors.now
+            (seat_after (dirties limit (fetched (M.memory view.old.memory.now) view.old.scalar.now.pc)
+                (hart_state view.old.scalar.now (V.lent view.old.vectors.now).state
+                (M.memory view.old.memory.now) view.old.policy output))
+                (V.lent view.new.vectors.now).state (V.lent view.old.vectors.now))
+        else view.old.vectors.now) }
+    ensures ready { V.ready view.new.vectors.now }
+
+    // The view refers to the same parts as before.
+    ensures same_scalar { view.new.scalar.ghost_name ≡ view.old.scalar.ghost_name }
+    ensures same_memory { view.new.memory.ghost_name ≡ view.old.memory.ghost_name }
+    ensures same_vectors { view.new.vectors.ghost_name ≡ view.old.vectors.ghost_name }
+{
+    let pc = view.scalar.pc;
+    let end = match fetch(&*view.memory, pc) {
+        Ok(word) => execute(
+            decode(word),
+            word,
+            &mut *view.scalar,
+            &mut *view.memory,
+            &mut *view.vectors,
+            limit,
+            view.policy,
+        ),
+        Err(_) => StepEnd::Fault {
+            cause: Cause::FetchAccess,
+            pc,
+            value: pc,
+        },
+    };
+    (end, 1)
+}
