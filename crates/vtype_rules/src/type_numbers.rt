@@ -37,7 +37,7 @@ fn lmul_number(lmul: Lmul) -> u64
 /// The number of a vector type; without one it is `vill` alone.
 pub fn vtype_number(vtype: Option<VType>) -> u64
     ensures value { result ≡ vtype_number vtype }
-    ensures type { IfSome vtype (λ t. IsSupported t → vector_type result ≡ Some t) }
+    ensures read_back { IfSome vtype (λ t. IsSupported t → vector_type result ≡ Some t) }
 {
     let Some(vtype) = vtype else {
         return VILL;
