@@ -1,10 +1,9 @@
 //! Instructions to words.
 ghost use Rattle.std.specs.Prelude.{◌≡◌, ◌<◌, ◌*◌, ◌+◌, ◌/◌, ◌%◌, ◌^◌, Some, true};
-ghost use Rattle.rv_model.specs.BitFields.{AllFit, flag_bit};
-ghost use Rattle.rv_model.specs.FixedBits.{move_bits};
+ghost use Rattle.rv_model.specs.BitFields.{AllFit, flag_bit, sum_of};
 ghost use Rattle.rv_model.specs.Sources.{form_of, number};
 ghost use Rattle.rv_model.specs.Operations.{has_form, line, carry_line, line_bits, major_bits};
-ghost use Rattle.rv_model.specs.InstructionLayout.{Allowed, parts, word_of};
+ghost use Rattle.rv_model.specs.InstructionLayout.{Allowed, bits, parts, word_of};
 ghost use Rattle.rv_model.specs.InstructionTable.{scan, table};
 
 use crate::fixed_bits::{
@@ -17,6 +16,7 @@ use crate::lines::{carry_line, line};
 use rv_model::operations::{Form, Line, Major};
 use rv_model::{Arith, Carry, Field, Instr, Reg, Source, VReg};
 
+/// Opcode and funct3 of a half of the opcode map, by form.
 fn major_bits(major: Major, form: Form) -> u64
     ensures value { result ≡ major_bits major form }
     ensures small { result < 2 ^ 32 }
@@ -31,6 +31,7 @@ fn major_bits(major: Major, form: Form) -> u64
     }
 }
 
+/// The bits that a line of the table fixes for one of its forms.
 fn line_bits(line: Line, form: Form) -> u64
     ensures value { result ≡ line_bits line form }
     ensures small { result < 2 ^ 60 }
@@ -38,6 +39,7 @@ fn line_bits(line: Line, form: Form) -> u64
     (u64::from(line.funct6) << 26) + major_bits(line.major, form)
 }
 
+/// Where a source comes from.
 fn form_of(source: &Source) -> Form
     ensures { result ≡ form_of source.now }
 {
@@ -98,7 +100,9 @@ fn store_part(imm: Field<12>) -> u64
 
 /// The distance of a branch, in its four pieces.
 fn branch_part(offset: Field<12>) -> u64
-    ensures value { result ≡ offset / 2 ^ 10 % 2 ^ 1 * 2 ^ 7 + offset % 2 ^ 4 * 2 ^ 8 + offset / 2 ^ 4 % 2 ^ 6 * 2 ^ 25 + offset / 2 ^ 11 * 2 ^ 31 }
+    ensures value { result
+        ≡ offset / 2 ^ 10 % 2 ^ 1 * 2 ^ 7 + offset % 2 ^ 4 * 2 ^ 8
+        + offset / 2 ^ 4 % 2 ^ 6 * 2 ^ 25 + offset / 2 ^ 11 * 2 ^ 31 }
     ensures fit { offset < 2 ^ 12 }
     ensures small { result < 2 ^ 40 }
 {
@@ -108,7 +112,9 @@ fn branch_part(offset: Field<12>) -> u64
 
 /// The distance of a jump, in its four pieces.
 fn jump_part(offset: Field<20>) -> u64
-    ensures value { result ≡ offset / 2 ^ 11 % 2 ^ 8 * 2 ^ 12 + offset / 2 ^ 10 % 2 ^ 1 * 2 ^ 20 + offset % 2 ^ 10 * 2 ^ 21 + offset / 2 ^ 19 * 2 ^ 31 }
+    ensures value { result
+        ≡ offset / 2 ^ 11 % 2 ^ 8 * 2 ^ 12 + offset / 2 ^ 10 % 2 ^ 1 * 2 ^ 20
+        + offset % 2 ^ 10 * 2 ^ 21 + offset / 2 ^ 19 * 2 ^ 31 }
     ensures fit { offset < 2 ^ 20 }
     ensures small { result < 2 ^ 40 }
 {
@@ -119,7 +125,7 @@ fn jump_part(offset: Field<20>) -> u64
         + ((bits / 524_288) << 31)
 }
 
-/// The second operand of a vector operation.
+/// The second operand of a vector operation, at bit 15.
 fn source_part(source: &Source) -> u64
     ensures value { result ≡ number source.now * 2 ^ 15 }
     ensures fit { number source.now < 2 ^ 5 }
@@ -131,185 +137,170 @@ fn source_part(source: &Source) -> u64
     }
 }
 
-fn arith_sum(arith: Arith) -> u64
-    ensures value { result ≡ line_bits (line arith.0) (form_of arith.1) + number arith.1 * 2 ^ 15 }
-    ensures small { result < 2 ^ 61 }
-    ensures fit { number arith.1 < 2 ^ 5 }
+/// The bits of an operation with a line of its own, in the form of its source.
+fn arith_bits(arith: Arith) -> u64
+    ensures value { result ≡ line_bits (line arith.0) (form_of arith.1) }
+    ensures small { result < 2 ^ 60 }
     ensures allowed { has_form (line arith.0).forms (form_of arith.1) ≡ true }
 {
     let (op, source) = arith.parts();
-    line_bits(line(op), form_of(&source)) + source_part(&source)
+    line_bits(line(op), form_of(&source))
 }
 
-fn carry_sum(carry: Carry) -> u64
-    ensures value { result ≡ line_bits (carry_line carry.0) (form_of carry.1) + number carry.1 * 2 ^ 15 }
-    ensures small { result < 2 ^ 61 }
-    ensures fit { number carry.1 < 2 ^ 5 }
+/// The bits of an operation that takes v0, in the form of its source.
+fn carry_bits(carry: Carry) -> u64
+    ensures value { result ≡ line_bits (carry_line carry.0) (form_of carry.1) }
+    ensures small { result < 2 ^ 60 }
     ensures allowed { has_form (carry_line carry.0).forms (form_of carry.1) ≡ true }
 {
     let (op, source) = carry.parts();
-    line_bits(carry_line(op), form_of(&source)) + source_part(&source)
+    line_bits(carry_line(op), form_of(&source))
 }
 
-fn move_sum(source: Source) -> u64
-    ensures value { result ≡ move_bits (form_of source) + number source * 2 ^ 15 }
+/// The bits that the operation fixes.
+fn code(instr: &Instr) -> u64
+    ensures value { result ≡ bits instr.now }
     ensures small { result < 2 ^ 61 }
-    ensures fit { number source < 2 ^ 5 }
-{
-    move_bits(form_of(&source)) + source_part(&source)
-}
-
-/// The fixed bits and the operands, added up.
-fn sum(instr: &Instr) -> u64
-    ensures value { result ≡ word_of instr.now }
-    ensures fit { AllFit (parts instr.now) }
     ensures allowed { Allowed instr.now }
 {
     match *instr {
-        Instr::Upper { op, rd, imm } => upper_bits(op) + reg(rd, 7) + put(imm, 12),
-        Instr::Jump { rd, offset } => 0x6f + reg(rd, 7) + jump_part(offset),
-        Instr::JumpRegister { rd, rs1, imm } => 0x67 + reg(rd, 7) + reg(rs1, 15) + put(imm, 20),
-        Instr::Branch {
-            op,
-            rs1,
-            rs2,
-            offset,
-        } => branch_bits(op) + reg(rs1, 15) + reg(rs2, 20) + branch_part(offset),
-        Instr::Load { op, rd, rs1, imm } => load_bits(op)
-            + reg(rd, 7)
-            + reg(rs1, 15)
-            + put(imm, 20),
-        Instr::Store { op, rs1, rs2, imm } => store_bits(op)
-            + reg(rs1, 15)
-            + reg(rs2, 20)
-            + store_part(imm),
-        Instr::OpImm { op, rd, rs1, imm } => op_imm_bits(op)
-            + reg(rd, 7)
-            + reg(rs1, 15)
-            + put(imm, 20),
-        Instr::ShiftImm {
-            op,
-            rd,
-            rs1,
-            amount,
-        } => shift_imm_bits(op) + reg(rd, 7) + reg(rs1, 15) + put(amount, 20),
-        Instr::ShiftImmWord {
-            op,
-            rd,
-            rs1,
-            amount,
-        } => shift_imm_word_bits(op) + reg(rd, 7) + reg(rs1, 15) + put(amount, 20),
-        Instr::Op { op, rd, rs1, rs2 } => op_bits(op) + reg(rd, 7) + reg(rs1, 15) + reg(rs2, 20),
-        Instr::Fence { rd, rs1, ordering } => 0x0f + reg(rd, 7) + reg(rs1, 15) + put(ordering, 20),
+        Instr::Upper { op, .. } => upper_bits(op),
+        Instr::Jump { .. } => 0x6f,
+        Instr::JumpRegister { .. } => 0x67,
+        Instr::Branch { op, .. } => branch_bits(op),
+        Instr::Load { op, .. } => load_bits(op),
+        Instr::Store { op, .. } => store_bits(op),
+        Instr::OpImm { op, .. } => op_imm_bits(op),
+        Instr::ShiftImm { op, .. } => shift_imm_bits(op),
+        Instr::ShiftImmWord { op, .. } => shift_imm_word_bits(op),
+        Instr::Op { op, .. } => op_bits(op),
+        Instr::Fence { .. } => 0x0f,
         Instr::System { op } => system_bits(op),
-        Instr::Csr { op, rd, rs1, csr } => csr_bits(op) + reg(rd, 7) + reg(rs1, 15) + put(csr, 20),
-        Instr::CsrImmediate { op, rd, imm, csr } => csr_immediate_bits(op)
-            + reg(rd, 7)
-            + put(imm, 15)
-            + put(csr, 20),
-        Instr::SetVli { rd, rs1, vtype } => 0x7057 + reg(rd, 7) + reg(rs1, 15) + put(vtype, 20),
-        Instr::SetIvli { rd, avl, vtype } => 0xc000_7057
-            + reg(rd, 7)
-            + put(avl, 15)
-            + put(vtype, 20),
-        Instr::SetVl { rd, rs1, rs2 } => 0x8000_7057 + reg(rd, 7) + reg(rs1, 15) + reg(rs2, 20),
-        Instr::VectorArith { arith, vd, vs2, vm } => arith_sum(arith)
-            + vreg(vd, 7)
-            + vreg(vs2, 20)
-            + unmasked(vm),
-        Instr::VectorCarry { carry, vd, vs2 } => carry_sum(carry) + vreg(vd, 7) + vreg(vs2, 20),
-        Instr::VectorMove { source, vd } => move_sum(source) + vreg(vd, 7),
-        Instr::WholeMove { count, vd, vs2 } => whole_move_bits(count) + vreg(vd, 7) + vreg(vs2, 20),
-        Instr::MaskLogic { op, vd, vs1, vs2 } => mask_logic_bits(op)
-            + vreg(vd, 7)
-            + vreg(vs1, 15)
-            + vreg(vs2, 20),
-        Instr::Compress { vd, vs1, vs2 } => 0x5e00_2057
-            + vreg(vd, 7)
-            + vreg(vs1, 15)
-            + vreg(vs2, 20),
-        Instr::MaskToScalar { op, rd, vs2, vm } => mask_to_scalar_bits(op)
-            + reg(rd, 7)
-            + vreg(vs2, 20)
-            + unmasked(vm),
-        Instr::VectorExtend { op, vd, vs2, vm } => extend_bits(op)
-            + vreg(vd, 7)
-            + vreg(vs2, 20)
-            + unmasked(vm),
-        Instr::MaskUnary { op, vd, vs2, vm } => mask_unary_bits(op)
-            + vreg(vd, 7)
-            + vreg(vs2, 20)
-            + unmasked(vm),
-        Instr::ElementIndex { vd, vm } => 0x5008_a057 + vreg(vd, 7) + unmasked(vm),
-        Instr::MoveToScalar { rd, vs2 } => 0x4200_2057 + reg(rd, 7) + vreg(vs2, 20),
-        Instr::MoveToVector { vd, rs1 } => 0x4200_6057 + vreg(vd, 7) + reg(rs1, 15),
-        Instr::VectorUnit {
-            op,
-            width,
-            nf,
-            vd,
-            rs1,
-            vm,
-        } => unit_bits(op)
-            + width_bits(width)
-            + put(nf, 29)
-            + vreg(vd, 7)
-            + reg(rs1, 15)
-            + unmasked(vm),
+        Instr::Csr { op, .. } => csr_bits(op),
+        Instr::CsrImmediate { op, .. } => csr_immediate_bits(op),
+        Instr::SetVli { .. } => 0x7057,
+        Instr::SetIvli { .. } => 0xc000_7057,
+        Instr::SetVl { .. } => 0x8000_7057,
+        Instr::VectorArith { arith, .. } => arith_bits(arith),
+        Instr::VectorCarry { carry, .. } => carry_bits(carry),
+        Instr::VectorMove { source, .. } => move_bits(form_of(&source)),
+        Instr::WholeMove { count, .. } => whole_move_bits(count),
+        Instr::MaskLogic { op, .. } => mask_logic_bits(op),
+        Instr::Compress { .. } => 0x5e00_2057,
+        Instr::MaskToScalar { op, .. } => mask_to_scalar_bits(op),
+        Instr::VectorExtend { op, .. } => extend_bits(op),
+        Instr::MaskUnary { op, .. } => mask_unary_bits(op),
+        Instr::ElementIndex { .. } => 0x5008_a057,
+        Instr::MoveToScalar { .. } => 0x4200_2057,
+        Instr::MoveToVector { .. } => 0x4200_6057,
+        Instr::VectorUnit { op, width, .. } => unit_bits(op) + width_bits(width),
         Instr::VectorStrided {
             direction,
             width,
-            nf,
-            vd,
-            rs1,
-            rs2,
-            vm,
-        } => direction_bits(direction)
-            + 0x0800_0000
-            + width_bits(width)
-            + put(nf, 29)
-            + vreg(vd, 7)
-            + reg(rs1, 15)
-            + reg(rs2, 20)
-            + unmasked(vm),
+            ..
+        } => direction_bits(direction) + 0x0800_0000 + width_bits(width),
         Instr::VectorIndexed {
             direction,
             order,
             width,
+            ..
+        } => direction_bits(direction) + order_bits(order) + width_bits(width),
+        Instr::WholeLoad { count, width, .. } => 0x07 + count_bits(count) + width_bits(width),
+        Instr::WholeStore { count, .. } => 0x27 + count_bits(count),
+        Instr::MaskMemory { direction, .. } => mask_memory_bits(direction),
+    }
+}
+
+/// The operands, each at its place.
+fn operands(instr: &Instr) -> u64
+    ensures value { result ≡ sum_of 0 (parts instr.now) }
+    ensures fit { AllFit (parts instr.now) }
+    ensures small { result < 2 ^ 61 }
+{
+    match *instr {
+        Instr::Upper { rd, imm, .. } => reg(rd, 7) + put(imm, 12),
+        Instr::Jump { rd, offset } => reg(rd, 7) + jump_part(offset),
+        Instr::JumpRegister { rd, rs1, imm } => reg(rd, 7) + reg(rs1, 15) + put(imm, 20),
+        Instr::Branch {
+            rs1,
+            rs2,
+            offset,
+            ..
+        } => reg(rs1, 15) + reg(rs2, 20) + branch_part(offset),
+        Instr::Load { rd, rs1, imm, .. } => reg(rd, 7) + reg(rs1, 15) + put(imm, 20),
+        Instr::Store { rs1, rs2, imm, .. } => reg(rs1, 15) + reg(rs2, 20) + store_part(imm),
+        Instr::OpImm { rd, rs1, imm, .. } => reg(rd, 7) + reg(rs1, 15) + put(imm, 20),
+        Instr::ShiftImm {
+            rd,
+            rs1,
+            amount,
+            ..
+        } => reg(rd, 7) + reg(rs1, 15) + put(amount, 20),
+        Instr::ShiftImmWord {
+            rd,
+            rs1,
+            amount,
+            ..
+        } => reg(rd, 7) + reg(rs1, 15) + put(amount, 20),
+        Instr::Op { rd, rs1, rs2, .. } => reg(rd, 7) + reg(rs1, 15) + reg(rs2, 20),
+        Instr::Fence { rd, rs1, ordering } => reg(rd, 7) + reg(rs1, 15) + put(ordering, 20),
+        Instr::System { .. } => 0,
+        Instr::Csr { rd, rs1, csr, .. } => reg(rd, 7) + reg(rs1, 15) + put(csr, 20),
+        Instr::CsrImmediate { rd, imm, csr, .. } => reg(rd, 7) + put(imm, 15) + put(csr, 20),
+        Instr::SetVli { rd, rs1, vtype } => reg(rd, 7) + reg(rs1, 15) + put(vtype, 20),
+        Instr::SetIvli { rd, avl, vtype } => reg(rd, 7) + put(avl, 15) + put(vtype, 20),
+        Instr::SetVl { rd, rs1, rs2 } => reg(rd, 7) + reg(rs1, 15) + reg(rs2, 20),
+        Instr::VectorArith { arith, vd, vs2, vm } => source_part(&arith.parts().1)
+            + vreg(vd, 7)
+            + vreg(vs2, 20)
+            + unmasked(vm),
+        Instr::VectorCarry { carry, vd, vs2 } => source_part(&carry.parts().1)
+            + vreg(vd, 7)
+            + vreg(vs2, 20),
+        Instr::VectorMove { source, vd } => source_part(&source) + vreg(vd, 7),
+        Instr::WholeMove { vd, vs2, .. } => vreg(vd, 7) + vreg(vs2, 20),
+        Instr::MaskLogic { vd, vs1, vs2, .. } => vreg(vd, 7) + vreg(vs1, 15) + vreg(vs2, 20),
+        Instr::Compress { vd, vs1, vs2 } => vreg(vd, 7) + vreg(vs1, 15) + vreg(vs2, 20),
+        Instr::MaskToScalar { rd, vs2, vm, .. } => reg(rd, 7) + vreg(vs2, 20) + unmasked(vm),
+        Instr::VectorExtend { vd, vs2, vm, .. } => vreg(vd, 7) + vreg(vs2, 20) + unmasked(vm),
+        Instr::MaskUnary { vd, vs2, vm, .. } => vreg(vd, 7) + vreg(vs2, 20) + unmasked(vm),
+        Instr::ElementIndex { vd, vm } => vreg(vd, 7) + unmasked(vm),
+        Instr::MoveToScalar { rd, vs2 } => reg(rd, 7) + vreg(vs2, 20),
+        Instr::MoveToVector { vd, rs1 } => vreg(vd, 7) + reg(rs1, 15),
+        Instr::VectorUnit {
+            nf,
+            vd,
+            rs1,
+            vm,
+            ..
+        } => put(nf, 29) + vreg(vd, 7) + reg(rs1, 15) + unmasked(vm),
+        Instr::VectorStrided {
+            nf,
+            vd,
+            rs1,
+            rs2,
+            vm,
+            ..
+        } => put(nf, 29) + vreg(vd, 7) + reg(rs1, 15) + reg(rs2, 20) + unmasked(vm),
+        Instr::VectorIndexed {
             nf,
             vd,
             rs1,
             vs2,
             vm,
-        } => direction_bits(direction)
-            + order_bits(order)
-            + width_bits(width)
-            + put(nf, 29)
-            + vreg(vd, 7)
-            + reg(rs1, 15)
-            + vreg(vs2, 20)
-            + unmasked(vm),
-        Instr::WholeLoad {
-            count,
-            width,
-            vd,
-            rs1,
-        } => 0x07 + count_bits(count) + width_bits(width) + vreg(vd, 7) + reg(rs1, 15),
-        Instr::WholeStore { count, vd, rs1 } => 0x27
-            + count_bits(count)
-            + vreg(vd, 7)
-            + reg(rs1, 15),
-        Instr::MaskMemory { direction, vd, rs1 } => mask_memory_bits(direction)
-            + vreg(vd, 7)
-            + reg(rs1, 15),
+            ..
+        } => put(nf, 29) + vreg(vd, 7) + reg(rs1, 15) + vreg(vs2, 20) + unmasked(vm),
+        Instr::WholeLoad { vd, rs1, .. } => vreg(vd, 7) + reg(rs1, 15),
+        Instr::WholeStore { vd, rs1, .. } => vreg(vd, 7) + reg(rs1, 15),
+        Instr::MaskMemory { vd, rs1, .. } => vreg(vd, 7) + reg(rs1, 15),
     }
 }
 
 /// The word of an instruction.
-#[tactic(auto, using(rv_model::proofs::InstructionRows::small, rv_model::proofs::InstructionRows::back))]
+#[tactic(auto, using(rv_model::proofs::InstructionRoundTrips::small, rv_model::proofs::InstructionRoundTrips::back, rv_model::proofs::InstructionRoundTrips::word_sum))]
 pub fn encode(instr: &Instr) -> u32
     ensures word { result ≡ word_of instr.now }
     ensures row { scan table result ≡ Some instr.now }
 {
-    sum(instr) as u32
+    (code(instr) + operands(instr)) as u32
 }

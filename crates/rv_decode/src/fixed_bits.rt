@@ -8,6 +8,7 @@ use rv_model::operations::{
     StoreOp, SystemOp, UnitOp, UpperOp, Width,
 };
 
+/// LUI, AUIPC.
 pub fn upper_bits(op: UpperOp) -> u64
     ensures value { result ≡ upper_bits op }
     ensures small { result < 2 ^ 32 }
@@ -18,6 +19,7 @@ pub fn upper_bits(op: UpperOp) -> u64
     }
 }
 
+/// BRANCH, by funct3.
 pub fn branch_bits(op: BranchOp) -> u64
     ensures value { result ≡ branch_bits op }
     ensures small { result < 2 ^ 32 }
@@ -32,6 +34,7 @@ pub fn branch_bits(op: BranchOp) -> u64
     }
 }
 
+/// LOAD, by funct3.
 pub fn load_bits(op: LoadOp) -> u64
     ensures value { result ≡ load_bits op }
     ensures small { result < 2 ^ 32 }
@@ -47,6 +50,7 @@ pub fn load_bits(op: LoadOp) -> u64
     }
 }
 
+/// STORE, by funct3.
 pub fn store_bits(op: StoreOp) -> u64
     ensures value { result ≡ store_bits op }
     ensures small { result < 2 ^ 32 }
@@ -59,6 +63,7 @@ pub fn store_bits(op: StoreOp) -> u64
     }
 }
 
+/// OP-IMM and OP-IMM-32, by funct3.
 pub fn op_imm_bits(op: OpImmOp) -> u64
     ensures value { result ≡ op_imm_bits op }
     ensures small { result < 2 ^ 32 }
@@ -74,6 +79,7 @@ pub fn op_imm_bits(op: OpImmOp) -> u64
     }
 }
 
+/// OP-IMM with a shift amount of six bits.
 pub fn shift_imm_bits(op: ShiftImmOp) -> u64
     ensures value { result ≡ shift_imm_bits op }
     ensures small { result < 2 ^ 32 }
@@ -85,6 +91,7 @@ pub fn shift_imm_bits(op: ShiftImmOp) -> u64
     }
 }
 
+/// OP-IMM-32 with a shift amount of five bits.
 pub fn shift_imm_word_bits(op: ShiftImmWordOp) -> u64
     ensures value { result ≡ shift_imm_word_bits op }
     ensures small { result < 2 ^ 32 }
@@ -96,6 +103,7 @@ pub fn shift_imm_word_bits(op: ShiftImmWordOp) -> u64
     }
 }
 
+/// OP and OP-32, by funct3 and funct7.
 pub fn op_bits(op: OpOp) -> u64
     ensures value { result ≡ op_bits op }
     ensures small { result < 2 ^ 32 }
@@ -132,6 +140,7 @@ pub fn op_bits(op: OpOp) -> u64
     }
 }
 
+/// SYSTEM with no operands: the whole word.
 pub fn system_bits(op: SystemOp) -> u64
     ensures value { result ≡ system_bits op }
     ensures small { result < 2 ^ 32 }
@@ -142,6 +151,7 @@ pub fn system_bits(op: SystemOp) -> u64
     }
 }
 
+/// SYSTEM with a scalar register.
 pub fn csr_bits(op: CsrOp) -> u64
     ensures value { result ≡ csr_bits op }
     ensures small { result < 2 ^ 32 }
@@ -153,6 +163,7 @@ pub fn csr_bits(op: CsrOp) -> u64
     }
 }
 
+/// SYSTEM with an immediate.
 pub fn csr_immediate_bits(op: CsrImmediateOp) -> u64
     ensures value { result ≡ csr_immediate_bits op }
     ensures small { result < 2 ^ 32 }
@@ -164,6 +175,7 @@ pub fn csr_immediate_bits(op: CsrImmediateOp) -> u64
     }
 }
 
+/// `vmv.v.v`, `vmv.v.x`, `vmv.v.i`.
 pub fn move_bits(form: Form) -> u64
     ensures value { result ≡ move_bits form }
     ensures small { result < 2 ^ 32 }
@@ -175,6 +187,7 @@ pub fn move_bits(form: Form) -> u64
     }
 }
 
+/// `vmv1r.v` to `vmv8r.v`.
 pub fn whole_move_bits(count: RegisterCount) -> u64
     ensures value { result ≡ whole_move_bits count }
     ensures small { result < 2 ^ 32 }
@@ -187,6 +200,7 @@ pub fn whole_move_bits(count: RegisterCount) -> u64
     }
 }
 
+/// Mask logic, with bit 25 set.
 pub fn mask_logic_bits(op: MaskLogicOp) -> u64
     ensures value { result ≡ mask_logic_bits op }
     ensures small { result < 2 ^ 32 }
@@ -203,6 +217,7 @@ pub fn mask_logic_bits(op: MaskLogicOp) -> u64
     }
 }
 
+/// `vcpop.m`, `vfirst.m`.
 pub fn mask_to_scalar_bits(op: MaskToScalarOp) -> u64
     ensures value { result ≡ mask_to_scalar_bits op }
     ensures small { result < 2 ^ 32 }
@@ -213,6 +228,7 @@ pub fn mask_to_scalar_bits(op: MaskToScalarOp) -> u64
     }
 }
 
+/// VXUNARY0.
 pub fn extend_bits(op: ExtendOp) -> u64
     ensures value { result ≡ extend_bits op }
     ensures small { result < 2 ^ 32 }
@@ -227,6 +243,7 @@ pub fn extend_bits(op: ExtendOp) -> u64
     }
 }
 
+/// VMUNARY0 on a mask.
 pub fn mask_unary_bits(op: MaskUnaryOp) -> u64
     ensures value { result ≡ mask_unary_bits op }
     ensures small { result < 2 ^ 32 }
@@ -239,6 +256,7 @@ pub fn mask_unary_bits(op: MaskUnaryOp) -> u64
     }
 }
 
+/// The width of a memory element or an index.
 pub fn width_bits(width: Width) -> u64
     ensures value { result ≡ width_bits width }
     ensures small { result < 2 ^ 32 }
@@ -251,6 +269,7 @@ pub fn width_bits(width: Width) -> u64
     }
 }
 
+/// LOAD-FP, STORE-FP.
 pub fn direction_bits(direction: Direction) -> u64
     ensures value { result ≡ direction_bits direction }
     ensures small { result < 2 ^ 32 }
@@ -261,6 +280,7 @@ pub fn direction_bits(direction: Direction) -> u64
     }
 }
 
+/// Unit stride, with lumop or sumop.
 pub fn unit_bits(op: UnitOp) -> u64
     ensures value { result ≡ unit_bits op }
     ensures small { result < 2 ^ 32 }
@@ -272,6 +292,7 @@ pub fn unit_bits(op: UnitOp) -> u64
     }
 }
 
+/// mop of an indexed access.
 pub fn order_bits(order: Order) -> u64
     ensures value { result ≡ order_bits order }
     ensures small { result < 2 ^ 32 }
@@ -282,6 +303,7 @@ pub fn order_bits(order: Order) -> u64
     }
 }
 
+/// nf of a whole-register access, with its lumop or sumop and bit 25.
 pub fn count_bits(count: RegisterCount) -> u64
     ensures value { result ≡ count_bits count }
     ensures small { result < 2 ^ 32 }
@@ -294,6 +316,7 @@ pub fn count_bits(count: RegisterCount) -> u64
     }
 }
 
+/// `vlm.v`, `vsm.v`.
 pub fn mask_memory_bits(direction: Direction) -> u64
     ensures value { result ≡ mask_memory_bits direction }
     ensures small { result < 2 ^ 32 }

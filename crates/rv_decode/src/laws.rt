@@ -14,6 +14,7 @@ pub fn one_row()
 /// The word of a word's instruction, which is that word.
 pub fn encoded_again(word: u32) -> Option<u32>
     ensures same { IfSome result (λ again. again ≡ word) }
+    ensures found { IfSome result (λ again. (r : Row) × IsRow word r) }
     ensures none { IfNone result ((r : Row) → IsRow word r → ⊥) }
 {
     match decode(word) {

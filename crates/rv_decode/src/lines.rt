@@ -41,6 +41,7 @@ pub fn has_form(forms: Forms, form: Form) -> bool
     }
 }
 
+/// Integer operations of one width.
 fn binary_line(op: BinaryOp) -> Line
     ensures { result ≡ binary_line op }
 {
@@ -69,6 +70,7 @@ fn binary_line(op: BinaryOp) -> Line
     }
 }
 
+/// Comparisons, carries and borrows.
 fn compare_line(op: CompareOp) -> Line
     ensures { result ≡ compare_line op }
 {
@@ -86,6 +88,7 @@ fn compare_line(op: CompareOp) -> Line
     }
 }
 
+/// Fixed-point operations of one width.
 fn fixed_point_line(op: FixedPointOp) -> Line
     ensures { result ≡ fixed_point_line op }
 {
@@ -104,6 +107,7 @@ fn fixed_point_line(op: FixedPointOp) -> Line
     }
 }
 
+/// Narrowing shifts and clips.
 fn narrow_line(op: NarrowOp) -> Line
     ensures { result ≡ narrow_line op }
 {
@@ -115,6 +119,7 @@ fn narrow_line(op: NarrowOp) -> Line
     }
 }
 
+/// Widening operations.
 fn widen_line(op: WidenOp) -> Line
     ensures { result ≡ widen_line op }
 {
@@ -133,6 +138,7 @@ fn widen_line(op: WidenOp) -> Line
     }
 }
 
+/// Multiply-adds.
 fn multiply_add_line(op: MultiplyAddOp) -> Line
     ensures { result ≡ multiply_add_line op }
 {
@@ -148,6 +154,7 @@ fn multiply_add_line(op: MultiplyAddOp) -> Line
     }
 }
 
+/// Reductions.
 fn reduce_line(op: ReduceOp) -> Line
     ensures { result ≡ reduce_line op }
 {
@@ -165,6 +172,7 @@ fn reduce_line(op: ReduceOp) -> Line
     }
 }
 
+/// Slides and gathers.
 fn permute_line(op: PermuteOp) -> Line
     ensures { result ≡ permute_line op }
 {

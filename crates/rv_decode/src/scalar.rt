@@ -1,4 +1,6 @@
 //! Words to scalar instructions, a function for each layout of operands.
+#![tactic(auto, unfolding(rv_model::specs::InstructionTable::scan, rv_model::specs::InstructionTable::rows))]
+
 ghost use Rattle.std.specs.Prelude.{◌≡◌};
 ghost use Rattle.rv_model.specs.InstructionTable.{scan, rows, Uppers, Jumps, JumpRegisters, Branches, Loads, Stores, OpImms, ShiftImms, ShiftImmWords, Ops, Fences, Systems, Csrs, CsrImmediates};
 
@@ -9,6 +11,7 @@ use crate::scalar_operations::{
 use crate::word_fields::{bits, branch_offset, jump_offset, reg, store_immediate};
 use rv_model::{Field, Instr};
 
+/// LUI and AUIPC.
 #[tactic(auto, using(crate::proofs::Scan::scan_upper))]
 pub fn upper(word: u32) -> Option<Instr>
     ensures { result ≡ scan (rows Uppers) word }
@@ -21,7 +24,7 @@ pub fn upper(word: u32) -> Option<Instr>
     })
 }
 
-#[tactic(auto, unfolding(rv_model::specs::InstructionTable::scan, rv_model::specs::InstructionTable::rows))]
+/// JAL.
 pub fn jump(word: u32) -> Option<Instr>
     ensures { result ≡ scan (rows Jumps) word }
 {
@@ -35,7 +38,7 @@ pub fn jump(word: u32) -> Option<Instr>
     }
 }
 
-#[tactic(auto, unfolding(rv_model::specs::InstructionTable::scan, rv_model::specs::InstructionTable::rows))]
+/// JALR.
 pub fn jump_register(word: u32) -> Option<Instr>
     ensures { result ≡ scan (rows JumpRegisters) word }
 {
@@ -50,6 +53,7 @@ pub fn jump_register(word: u32) -> Option<Instr>
     }
 }
 
+/// BRANCH.
 #[tactic(auto, using(crate::proofs::Scan::scan_branch))]
 pub fn branch(word: u32) -> Option<Instr>
     ensures { result ≡ scan (rows Branches) word }
@@ -63,6 +67,7 @@ pub fn branch(word: u32) -> Option<Instr>
     })
 }
 
+/// LOAD.
 #[tactic(auto, using(crate::proofs::Scan::scan_load))]
 pub fn load(word: u32) -> Option<Instr>
     ensures { result ≡ scan (rows Loads) word }
@@ -76,6 +81,7 @@ pub fn load(word: u32) -> Option<Instr>
     })
 }
 
+/// STORE.
 #[tactic(auto, using(crate::proofs::Scan::scan_store))]
 pub fn store(word: u32) -> Option<Instr>
     ensures { result ≡ scan (rows Stores) word }
@@ -89,6 +95,7 @@ pub fn store(word: u32) -> Option<Instr>
     })
 }
 
+/// OP-IMM and OP-IMM-32 with an immediate of 12 bits.
 #[tactic(auto, using(crate::proofs::Scan::scan_op_imm))]
 pub fn op_imm(word: u32) -> Option<Instr>
     ensures { result ≡ scan (rows OpImms) word }
@@ -102,6 +109,7 @@ pub fn op_imm(word: u32) -> Option<Instr>
     })
 }
 
+/// OP-IMM with a shift amount.
 #[tactic(auto, using(crate::proofs::Scan::scan_shift_imm))]
 pub fn shift_imm(word: u32) -> Option<Instr>
     ensures { result ≡ scan (rows ShiftImms) word }
@@ -115,6 +123,7 @@ pub fn shift_imm(word: u32) -> Option<Instr>
     })
 }
 
+/// OP-IMM-32 with a shift amount.
 #[tactic(auto, using(crate::proofs::Scan::scan_shift_imm_word))]
 pub fn shift_imm_word(word: u32) -> Option<Instr>
     ensures { result ≡ scan (rows ShiftImmWords) word }
@@ -128,6 +137,7 @@ pub fn shift_imm_word(word: u32) -> Option<Instr>
     })
 }
 
+/// OP and OP-32.
 #[tactic(auto, using(crate::proofs::Scan::scan_op))]
 pub fn op(word: u32) -> Option<Instr>
     ensures { result ≡ scan (rows Ops) word }
@@ -141,7 +151,7 @@ pub fn op(word: u32) -> Option<Instr>
     })
 }
 
-#[tactic(auto, unfolding(rv_model::specs::InstructionTable::scan, rv_model::specs::InstructionTable::rows))]
+/// FENCE of MISC-MEM.
 pub fn fence(word: u32) -> Option<Instr>
     ensures { result ≡ scan (rows Fences) word }
 {
@@ -156,6 +166,7 @@ pub fn fence(word: u32) -> Option<Instr>
     }
 }
 
+/// ECALL and EBREAK of SYSTEM.
 #[tactic(auto, using(crate::proofs::Scan::scan_system))]
 pub fn system(word: u32) -> Option<Instr>
     ensures { result ≡ scan (rows Systems) word }
@@ -164,6 +175,7 @@ pub fn system(word: u32) -> Option<Instr>
     Some(Instr::System { op })
 }
 
+/// Zicsr with a scalar register.
 #[tactic(auto, using(crate::proofs::Scan::scan_csr))]
 pub fn csr(word: u32) -> Option<Instr>
     ensures { result ≡ scan (rows Csrs) word }
@@ -177,6 +189,7 @@ pub fn csr(word: u32) -> Option<Instr>
     })
 }
 
+/// Zicsr with an immediate.
 #[tactic(auto, using(crate::proofs::Scan::scan_csr_immediate))]
 pub fn csr_immediate(word: u32) -> Option<Instr>
     ensures { result ≡ scan (rows CsrImmediates) word }

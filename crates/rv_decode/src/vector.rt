@@ -1,4 +1,6 @@
 //! Words to vector instructions on registers, a function for each layout of operands.
+#![tactic(auto, unfolding(rv_model::specs::InstructionTable::scan, rv_model::specs::InstructionTable::rows))]
+
 ghost use Rattle.std.specs.Prelude.{◌≡◌, bit_and};
 ghost use Rattle.rv_model.specs.Operations.{major_bits};
 ghost use Rattle.rv_model.specs.InstructionTable.{scan, rows, SetVlis, SetIvlis, SetVls, WholeMoves, MaskLogics, Compresses, MasksToScalar, Extends, MaskUnaries, ElementIndices, MovesToScalar, MovesToVector, Ariths, Carries, Moves};
@@ -10,7 +12,8 @@ use crate::word_fields::{bits, is_unmasked, reg, source, vreg};
 use rv_model::operations::{Form, Major};
 use rv_model::{Arith, Carry, Field, Instr};
 
-#[tactic(auto, using(crate::proofs::Scan::scan_arith, crate::proofs::Scan::form_source_of))]
+/// An operation with a line of its own in the table, masked or not.
+#[tactic(auto, using(crate::proofs::Scan::scan_arith, rv_model::proofs::InstructionWords::form_source_of))]
 pub fn arith(word: u32, major: Major, form: Form) -> Option<Instr>
     requires { bit_and word 0x707f ≡ major_bits major form }
     ensures { result ≡ scan (rows (Ariths major form)) word }
@@ -27,7 +30,8 @@ pub fn arith(word: u32, major: Major, form: Form) -> Option<Instr>
     })
 }
 
-#[tactic(auto, using(crate::proofs::Scan::scan_carry, crate::proofs::Scan::form_source_of))]
+/// An operation that takes v0.
+#[tactic(auto, using(crate::proofs::Scan::scan_carry, rv_model::proofs::InstructionWords::form_source_of))]
 pub fn carry(word: u32, form: Form) -> Option<Instr>
     ensures { result ≡ scan (rows (Carries form)) word }
 {
@@ -39,7 +43,7 @@ pub fn carry(word: u32, form: Form) -> Option<Instr>
     })
 }
 
-#[tactic(auto, unfolding(rv_model::specs::InstructionTable::scan, rv_model::specs::InstructionTable::rows))]
+/// `vmv.v.v`, `vmv.v.x` or `vmv.v.i`, whose vs2 is 0.
 pub fn vector_move(word: u32, form: Form) -> Option<Instr>
     ensures { result ≡ scan (rows (Moves form)) word }
 {
@@ -58,7 +62,7 @@ pub fn vector_move(word: u32, form: Form) -> Option<Instr>
     }
 }
 
-#[tactic(auto, unfolding(rv_model::specs::InstructionTable::scan, rv_model::specs::InstructionTable::rows))]
+/// `vsetvli`.
 pub fn set_vli(word: u32) -> Option<Instr>
     ensures { result ≡ scan (rows SetVlis) word }
 {
@@ -73,7 +77,7 @@ pub fn set_vli(word: u32) -> Option<Instr>
     }
 }
 
-#[tactic(auto, unfolding(rv_model::specs::InstructionTable::scan, rv_model::specs::InstructionTable::rows))]
+/// `vsetivli`.
 pub fn set_ivli(word: u32) -> Option<Instr>
     ensures { result ≡ scan (rows SetIvlis) word }
 {
@@ -88,7 +92,7 @@ pub fn set_ivli(word: u32) -> Option<Instr>
     }
 }
 
-#[tactic(auto, unfolding(rv_model::specs::InstructionTable::scan, rv_model::specs::InstructionTable::rows))]
+/// `vsetvl`.
 pub fn set_vl(word: u32) -> Option<Instr>
     ensures { result ≡ scan (rows SetVls) word }
 {
@@ -103,6 +107,7 @@ pub fn set_vl(word: u32) -> Option<Instr>
     }
 }
 
+/// `vmv1r.v` to `vmv8r.v`.
 #[tactic(auto, using(crate::proofs::Scan::scan_whole_move))]
 pub fn whole_move(word: u32) -> Option<Instr>
     ensures { result ≡ scan (rows WholeMoves) word }
@@ -115,6 +120,7 @@ pub fn whole_move(word: u32) -> Option<Instr>
     })
 }
 
+/// Mask logic, which is never masked.
 #[tactic(auto, using(crate::proofs::Scan::scan_mask_logic))]
 pub fn mask_logic(word: u32) -> Option<Instr>
     ensures { result ≡ scan (rows MaskLogics) word }
@@ -128,7 +134,7 @@ pub fn mask_logic(word: u32) -> Option<Instr>
     })
 }
 
-#[tactic(auto, unfolding(rv_model::specs::InstructionTable::scan, rv_model::specs::InstructionTable::rows))]
+/// `vcompress.vm`, which is never masked.
 pub fn compress(word: u32) -> Option<Instr>
     ensures { result ≡ scan (rows Compresses) word }
 {
@@ -143,6 +149,7 @@ pub fn compress(word: u32) -> Option<Instr>
     }
 }
 
+/// `vcpop.m` and `vfirst.m`.
 #[tactic(auto, using(crate::proofs::Scan::scan_mask_to_scalar))]
 pub fn mask_to_scalar(word: u32) -> Option<Instr>
     ensures { result ≡ scan (rows MasksToScalar) word }
@@ -156,6 +163,7 @@ pub fn mask_to_scalar(word: u32) -> Option<Instr>
     })
 }
 
+/// VXUNARY0.
 #[tactic(auto, using(crate::proofs::Scan::scan_extend))]
 pub fn extend(word: u32) -> Option<Instr>
     ensures { result ≡ scan (rows Extends) word }
@@ -169,6 +177,7 @@ pub fn extend(word: u32) -> Option<Instr>
     })
 }
 
+/// VMUNARY0 on a mask.
 #[tactic(auto, using(crate::proofs::Scan::scan_mask_unary))]
 pub fn mask_unary(word: u32) -> Option<Instr>
     ensures { result ≡ scan (rows MaskUnaries) word }
@@ -182,7 +191,7 @@ pub fn mask_unary(word: u32) -> Option<Instr>
     })
 }
 
-#[tactic(auto, unfolding(rv_model::specs::InstructionTable::scan, rv_model::specs::InstructionTable::rows))]
+/// `vid.v`.
 pub fn element_index(word: u32) -> Option<Instr>
     ensures { result ≡ scan (rows ElementIndices) word }
 {
@@ -196,7 +205,7 @@ pub fn element_index(word: u32) -> Option<Instr>
     }
 }
 
-#[tactic(auto, unfolding(rv_model::specs::InstructionTable::scan, rv_model::specs::InstructionTable::rows))]
+/// `vmv.x.s`.
 pub fn move_to_scalar(word: u32) -> Option<Instr>
     ensures { result ≡ scan (rows MovesToScalar) word }
 {
@@ -210,7 +219,7 @@ pub fn move_to_scalar(word: u32) -> Option<Instr>
     }
 }
 
-#[tactic(auto, unfolding(rv_model::specs::InstructionTable::scan, rv_model::specs::InstructionTable::rows))]
+/// `vmv.s.x`.
 pub fn move_to_vector(word: u32) -> Option<Instr>
     ensures { result ≡ scan (rows MovesToVector) word }
 {

@@ -9,6 +9,7 @@ use crate::memory_operations::{
 use crate::word_fields::{bits, is_unmasked, reg, vreg};
 use rv_model::{Field, Instr};
 
+/// Unit stride.
 #[tactic(auto, using(crate::proofs::Scan::scan_unit))]
 pub fn unit(word: u32) -> Option<Instr>
     ensures { result ≡ scan (rows Units) word }
@@ -24,6 +25,7 @@ pub fn unit(word: u32) -> Option<Instr>
     })
 }
 
+/// Strided.
 #[tactic(auto, using(crate::proofs::Scan::scan_strided))]
 pub fn strided(word: u32) -> Option<Instr>
     ensures { result ≡ scan (rows Strideds) word }
@@ -40,6 +42,7 @@ pub fn strided(word: u32) -> Option<Instr>
     })
 }
 
+/// Indexed.
 #[tactic(auto, using(crate::proofs::Scan::scan_indexed))]
 pub fn indexed(word: u32) -> Option<Instr>
     ensures { result ≡ scan (rows Indexeds) word }
@@ -57,6 +60,7 @@ pub fn indexed(word: u32) -> Option<Instr>
     })
 }
 
+/// Loads of whole registers.
 #[tactic(auto, using(crate::proofs::Scan::scan_whole_load))]
 pub fn whole_load(word: u32) -> Option<Instr>
     ensures { result ≡ scan (rows WholeLoads) word }
@@ -70,6 +74,7 @@ pub fn whole_load(word: u32) -> Option<Instr>
     })
 }
 
+/// Stores of whole registers.
 #[tactic(auto, using(crate::proofs::Scan::scan_whole_store))]
 pub fn whole_store(word: u32) -> Option<Instr>
     ensures { result ≡ scan (rows WholeStores) word }
@@ -82,6 +87,7 @@ pub fn whole_store(word: u32) -> Option<Instr>
     })
 }
 
+/// `vlm.v` and `vsm.v`.
 #[tactic(auto, using(crate::proofs::Scan::scan_mask_memory))]
 pub fn mask_memory(word: u32) -> Option<Instr>
     ensures { result ≡ scan (rows MaskMemories) word }
