@@ -7,3 +7,4 @@ pub mod InstructionRows
 pub mod InstructionWords
 pub mod LineLaws
 pub mod MemoryLaws
+pub mod StepLaws

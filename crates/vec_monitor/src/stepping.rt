@@ -24,6 +24,7 @@ fn stop_of(end: StepEnd) -> Option<Stop>
     match end {
         StepEnd::Ran => None,
         StepEnd::Exit(status) => Some(Stop::Exit(status)),
+        StepEnd::Ebreak => Some(Stop::Ebreak),
         StepEnd::Fault {
             cause,
             pc: _,
