@@ -252,8 +252,8 @@ any_page_mapped_none m page (suc count) h =
     let here : contains_key m (4096 * page) ≡ false = ap (λ (p : ℕ). contains_key m (4096 * p)) (sym (add-zero page)) ∙ h 0 (omega arith) in
     ap (λ (b : Bool). b || any_page_mapped m (page + 1) count) here
     ∙ any_page_mapped_none m (page + 1) count (λ k l.
-      let place : (page + 1) + k ≡ page + suc k = omega arith in
-      ap (λ (p : ℕ). contains_key m (4096 * p)) place ∙ h (suc k) (omega arith))
+    let place : (page + 1) + k ≡ page + suc k = omega arith in
+    ap (λ (p : ℕ). contains_key m (4096 * p)) place ∙ h (suc k) (omega arith))
 
 pub map_refusal_quota : (m : Memory) (page count : ℕ) → 256 < page_count m + count → map_refusal m page count ≡ Some Quota
 unfolding map_refusal

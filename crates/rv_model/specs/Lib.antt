@@ -2,8 +2,11 @@ pub mod Arguments
 pub mod BitFields
 pub mod Causes
 pub mod Commands
+pub mod ElfFaults
+pub mod ElfFields
 pub mod Examples
 pub mod FixedBits
+pub mod Image
 pub mod Immediates
 pub mod InstructionLayout
 pub mod InstructionTable

@@ -2,6 +2,7 @@
 #![tactic(auto)]
 
 mod command;
+mod elf;
 mod instruction;
 mod laws;
 mod memory;
@@ -17,6 +18,7 @@ mod vector_state;
 mod vector_type;
 
 pub use command::{ByteString, Cmd, Refusal};
+pub use elf::{ElfFault, ProgramHeader};
 pub use instruction::Instr;
 pub use laws::{each_user_alone, small_scripts_print};
 pub use memory::{Access, Fault, MapRefusal, Permissions};
