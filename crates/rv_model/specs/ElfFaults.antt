@@ -11,21 +11,17 @@ use Rattle.rv_model.specs.ElfFields.{class_of, data_of, type_of, machine_of, ent
 abbrev pub is_load : ProgramHeader → Bool
 is_load header = header.kind == 1
 
--- whether a program header is PT_INTERP
-abbrev pub is_interpreter : ProgramHeader → Bool
-is_interpreter header = header.kind == 3
+-- whether a program header by itself has a fault, in a file of so many bytes
+unfoldable pub header_has : ℕ → ElfFault → ProgramHeader → Bool
+header_has size BadInterp header = header.kind == 3
+header_has size BadFileSize header = is_load header && nat_lt header.memory_size header.file_size
+header_has size BadOutside header = is_load header && (not (header.file_size == 0) && nat_lt size (header.offset + header.file_size))
+header_has size BadAddress header = is_load header && nat_lt (2 ^ 48) (header.address + header.memory_size)
+header_has size _ header = false
 
--- whether a segment has more bytes in the file than in memory
-abbrev pub is_cut : ProgramHeader → Bool
-is_cut header = is_load header && nat_lt header.memory_size header.file_size
-
--- whether a segment's bytes run past the end of a file of so many bytes
-abbrev pub is_outside : ℕ → ProgramHeader → Bool
-is_outside size header = is_load header && (not (header.file_size == 0) && nat_lt size (header.offset + header.file_size))
-
--- whether a segment runs past address 2^48
-abbrev pub is_too_high : ProgramHeader → Bool
-is_too_high header = is_load header && nat_lt (2 ^ 48) (header.address + header.memory_size)
+-- whether some program header has it
+abbrev pub any_header_has : List ℕ → ElfFault → Bool
+any_header_has image fault = list_any (header_has (length image) fault) (program_headers image)
 
 -- whether an image has a fault, where it has none of those that come before
 unfoldable pub has_fault : List ℕ → ElfFault → Bool
@@ -37,10 +33,10 @@ has_fault image BadType = not (type_of image == 2)
 has_fault image BadMachine = not (machine_of image == 243)
 has_fault image BadHeaderSize = not (header_count image == 0) && not (header_size image == 56)
 has_fault image BadHeaderTable = not (header_count image == 0) && nat_lt (length image) (table_offset image + 56 * header_count image)
-has_fault image BadInterp = list_any is_interpreter (program_headers image)
-has_fault image BadFileSize = list_any is_cut (program_headers image)
-has_fault image BadOutside = list_any (is_outside (length image)) (program_headers image)
-has_fault image BadAddress = list_any is_too_high (program_headers image)
+has_fault image BadInterp = any_header_has image BadInterp
+has_fault image BadFileSize = any_header_has image BadFileSize
+has_fault image BadOutside = any_header_has image BadOutside
+has_fault image BadAddress = any_header_has image BadAddress
 has_fault image BadEntry = not (entry_of image % 4 == 0)
 
 -- those of the file header, in order

@@ -1,0 +1,4 @@
+pub mod FaultLaws
+pub mod HeaderLaws
+pub mod ImageLaws
+pub mod PageLaws

@@ -1,0 +1,10 @@
+//! ELF-64 images: what is wrong with one, the pages it takes, and its bytes placed in a user's memory.
+#![tactic(auto)]
+
+mod faults;
+mod fields;
+mod pages;
+mod plan;
+
+pub use plan::{Plan, check};
+pub use rv_model::ElfFault;
