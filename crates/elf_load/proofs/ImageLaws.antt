@@ -1,5 +1,5 @@
 -- The memory that an image describes, address by address, and how many pages it has
-use Rattle.std.proofs.Common.{◌≡◌, ◌≢◌, ℕ, zero, suc, ◌+◌, ◌*◌, ◌/◌, ◌<◌, ◌≤◌, Bool, true, false, cond, List, Option, Some, None, refl, sym, ◌∙◌, ap, subst, ◌⊎◌, inl, inr, arith}
+use Rattle.std.proofs.Common.{◌≡◌, ◌≢◌, ℕ, zero, suc, ◌+◌, ◌*◌, ◌/◌, ◌^◌, ◌<◌, ◌≤◌, Bool, true, false, cond, List, Option, Some, None, refl, sym, ◌∙◌, ap, subst, ◌⊎◌, inl, inr, arith}
 use Rattle.std.specs.Prelude.{is_some, nat_lt, ◌&&◌, if◌then◌else◌}
 use Rattle.std.specs.Cmp.{nat_cmp_total}
 use Rattle.std.specs.Ordering.{nat_cmp}
@@ -10,6 +10,7 @@ use Rattle.rv_model.specs.Memory.{Cell, Memory, page_count}
 use Rattle.rv_model.specs.Image.{placed, is_touched, cell_of, with_cell, memory_below, all_pages, memory_of_image}
 use Rattle.rv_model.proofs.MemoryLaws.{same_memory, get-insert_same, get-insert_other}
 use Rattle.elf_load.specs.Pages.{pages_below}
+use Rattle.elf_load.proofs.PageLaws.{pages_below_skipped, pages_below_le}
 
 -- ---- a memory that is given address by address
 
@@ -98,3 +99,28 @@ unfolding memory_of_image page_count cell_of
 page_count-image image =
     let size = len-memory_below_pages (cell_of image) (is_touched (placed image)) (λ x. is_some-cell (is_touched (placed image) (x / 4096)) _) all_pages in
     omega (arith, size)
+
+-- ---- counted page by page
+
+all_pages_are : all_pages ≡ 2 ^ 36
+unfolding all_pages
+all_pages_are = refl
+
+pub no_pages : (t : ℕ → Bool) → pages_below t 0 ≡ 0
+unfolding pages_below
+no_pages t = refl
+
+-- no page is left
+pub counted_all : (image image' : List ℕ) (from count : ℕ) → image ≡ image' → ((q : ℕ) → from ≤ q → is_touched (placed image) q ≡ false) → from ≤ 2 ^ 36 → pages_below (is_touched (placed image)) from ≡ count
+  → count ≡ page_count (memory_of_image image')
+counted_all image image' from count same none bound counted =
+    sym counted ∙ sym (pages_below_skipped (is_touched (placed image)) from all_pages (omega (arith, all_pages_are)) (λ q l m. none q l))
+    ∙ sym (page_count-image image) ∙ ap (λ (xs : List ℕ). page_count (memory_of_image xs)) same
+
+-- more pages than these
+pub counted_many : (image image' : List ℕ) (from : ℕ) → image ≡ image' → from ≤ 2 ^ 36 → pages_below (is_touched (placed image)) from ≤ page_count (memory_of_image image')
+counted_many image image' from same bound =
+    let le = pages_below_le (is_touched (placed image)) from all_pages (omega (arith, all_pages_are)) in
+    let total = page_count-image image ∙ refl in
+    let moved = ap (λ (xs : List ℕ). page_count (memory_of_image xs)) same in
+    omega (arith, le, total, moved)

@@ -5,6 +5,6 @@ use Rattle.elf_load.proofs.plan.Plan.pages.Given as goal
 
 abbrev pub invariant-loop-count : goal.invariant-loop-count
 invariant-loop-count l = record {
-  counted : pages_below (is_touched (placed l.self-inside.image)) l.from ≡ l.count;
+  counted : pages_below (is_touched (placed l.self-inside.image.now)) l.from ≡ l.count;
   bound : l.from ≤ 2 ^ 36;
 }
