@@ -1,19 +1,18 @@
 -- What the definitions of a memory give at one address
-use Rattle.std.proofs.Common.{◌≡◌, ◌≢◌, ℕ, zero, suc, ◌+◌, ◌-◌, ◌*◌, ◌<◌, ◌≤◌, Bool, true, false, cond, eqb, ◌&&◌, List, [], ◌∷◌, ◌++◌, length, get_or, map, Option, Some, None, refl, sym, ◌∙◌, ap, subst, ◌⊎◌, inl, inr, arith, ne_eqb, eq-eqb, add-one, add-zero, take, ◌||◌, rules}
+use Rattle.std.proofs.Common.{◌≡◌, ◌≢◌, ℕ, zero, suc, ◌+◌, ◌-◌, ◌*◌, ◌<◌, ◌≤◌, Bool, true, false, cond, ◌&&◌, List, [], ◌∷◌, ◌++◌, length, get_or, Option, Some, None, refl, sym, ◌∙◌, ap, subst, ◌⊎◌, inl, inr, arith, ne_eqb, eq-eqb, add-zero, take, ◌||◌, rules}
 use Rattle.std.specs.Prelude.{is_some, nat_lt, ◌↔◌}
-use Rattle.std.specs.Ordering.{nat_cmp, eq_by_cmp}
+use Rattle.std.specs.Ordering.{nat_cmp}
 use Rattle.std.specs.Cmp.{unsigned_tied, nat_cmp_total}
-use Rattle.std.specs.List.{list_all, range_with_len}
 use Rattle.std.specs.Option.{option_map, option_map_or}
-use Rattle.std.specs.FinMap.{FinMap, empty, get, insert, len, contains_key, get-insert, len-insert, same_map, nat_cmp-IsAntisymmetric}
+use Rattle.std.specs.FinMap.{FinMap, get, insert, len, contains_key, get-insert, len-insert, same_map, nat_cmp-IsAntisymmetric}
 use Rattle.std.proofs.lemmas.List.{take_more, length-take-le, ext_get_or}
 use Rattle.std.proofs.lemmas.List.FromFn.{length-map-range_with_len, get_or-map-range_with_len, map-range_with_len_more}
+use Rattle.std.proofs.lemmas.Bool.Decides.{nat_tests}
 use Rattle.std.proofs.lemmas.Bool.{and_parts, and_from, cases_eq, cases_lt, cond-false, cond-true}
 use Rattle.rv_model.specs.declared.memory.Access.{Access}
 use Rattle.rv_model.specs.declared.memory.Access.TheVariants.{Monitor}
 use Rattle.rv_model.specs.declared.memory.Permissions.{Permissions}
-use Rattle.rv_model.specs.Memory.{Cell, Memory, permits, byte_at, is_allowed, can_access, bytes_at, put_byte, put_bytes, add_cells, with_pages, page_count, any_page_mapped, map_refusal}
-use Rattle.rv_model.specs.declared.memory.MapRefusal.{MapRefusal}
+use Rattle.rv_model.specs.Memory.{Cell, Memory, permits, byte_at, is_allowed, can_access, bytes_at, put_byte, put_bytes, add_cells, with_pages, page_count, any_page_mapped, map_refusal, is_within, WritesBytes, MapsZeros, MapsPermissions, ReadsBytes, AllowsEachByte}
 use Rattle.rv_model.specs.declared.memory.MapRefusal.TheVariants.{Quota, AlreadyMapped}
 
 -- two memories that answer alike are equal
@@ -289,3 +288,72 @@ map_refusal-AlreadyMapped m page count = (λ h. within h (cases_lt 256 (page_cou
         split : (b : Bool) → any_page_mapped m page count ≡ b → (page_count m + count ≤ 256) × (any_page_mapped m page count ≡ true)
         split true e = (room, e)
         split false e = let other = map_refusal_none m page count room e in absurd (cc)
+
+-- ---- by address
+
+byte_by : Option Cell → ℕ
+byte_by o = option_map_or (λ c. c.byte) o 0
+
+byte_by-with_byte : (b : ℕ) (o : Option Cell) → byte_by (with_byte b o) ≡ cond (allowed_by Monitor o) b (byte_by o)
+unfolding byte_by allowed_by
+byte_by-with_byte b None = refl
+byte_by-with_byte b (Some c) = refl
+
+is_within_true : (a n x : ℕ) → a ≤ x → x < a + n → is_within a n x ≡ true
+is_within_true a n x l h = grind (arith, nat_tests)
+
+is_within_false : (a n x : ℕ) → ((x < a) ⊎ (a + n ≤ x)) → is_within a n x ≡ false
+is_within_false a n x (inl l) = grind (arith, nat_tests)
+is_within_false a n x (inr g) = grind (arith, nat_tests)
+
+-- an address is one of n from a on, the k-th, or lies beside them
+places : (a n x : ℕ) → ((a ≤ x) × (x < a + n)) ⊎ ((x < a) ⊎ (a + n ≤ x))
+places a n x = elim (cases_lt x a) [
+  | inl below ↦ inr (inl below)
+  | inr above ↦ elim (cases_lt x (a + n)) [ inl less ↦ inl (above, less) | inr past ↦ inr (inr past) ]
+]
+
+pub writes_bytes : WritesBytes
+unfolding byte_at is_allowed byte_by allowed_by
+writes_bytes m a bs x = elim (places a (length bs) x) [
+  | inl within ↦
+      let k : x - a < length bs = omega (arith, within.0, within.1) in
+      let place : x ≡ a + (x - a) = omega (arith, within.0) in
+      ap byte_by (get-put_bytes_within m a bs (x - a) x k place) ∙ byte_by-with_byte (get_or bs (x - a) 0) (get m x)
+      ∙ ap (λ (b : Bool). cond (b && is_allowed Monitor m x) (get_or bs (x - a) 0) (byte_at m x)) (sym (is_within_true a (length bs) x within.0 within.1))
+  | inr far ↦
+      ap byte_by (get-put_bytes_outside m a bs x far)
+      ∙ ap (λ (b : Bool). cond (b && is_allowed Monitor m x) (get_or bs (x - a) 0) (byte_at m x)) (sym (is_within_false a (length bs) x far))
+]
+
+pub maps_zeros : MapsZeros
+unfolding byte_at byte_by with_pages
+maps_zeros m page count permissions x = elim (places (4096 * page) (4096 * count) x) [
+  | inl within ↦
+      let k : x - 4096 * page < 4096 * count = omega (arith, within.0, within.1) in
+      let place : x ≡ 4096 * page + (x - 4096 * page) = omega (arith, within.0) in
+      ap byte_by (get-add_cells_within m (4096 * page) (4096 * count) (λ _. record { byte = 0; permissions = permissions }) (x - 4096 * page) x k place)
+      ∙ ap (λ (b : Bool). cond b 0 (byte_at m x)) (sym (is_within_true (4096 * page) (4096 * count) x within.0 within.1))
+  | inr far ↦
+      ap byte_by (get-add_cells_outside m (4096 * page) (4096 * count) (λ _. record { byte = 0; permissions = permissions }) x far)
+      ∙ ap (λ (b : Bool). cond b 0 (byte_at m x)) (sym (is_within_false (4096 * page) (4096 * count) x far))
+]
+
+pub maps_permissions : MapsPermissions
+unfolding is_allowed allowed_by with_pages
+maps_permissions access m page count permissions x = elim (places (4096 * page) (4096 * count) x) [
+  | inl within ↦
+      let k : x - 4096 * page < 4096 * count = omega (arith, within.0, within.1) in
+      let place : x ≡ 4096 * page + (x - 4096 * page) = omega (arith, within.0) in
+      ap (allowed_by access) (get-add_cells_within m (4096 * page) (4096 * count) (λ _. record { byte = 0; permissions = permissions }) (x - 4096 * page) x k place)
+      ∙ ap (λ (b : Bool). cond b (permits access permissions) (is_allowed access m x)) (sym (is_within_true (4096 * page) (4096 * count) x within.0 within.1))
+  | inr far ↦
+      ap (allowed_by access) (get-add_cells_outside m (4096 * page) (4096 * count) (λ _. record { byte = 0; permissions = permissions }) x far)
+      ∙ ap (λ (b : Bool). cond b (permits access permissions) (is_allowed access m x)) (sym (is_within_false (4096 * page) (4096 * count) x far))
+]
+
+pub reads_bytes : ReadsBytes
+reads_bytes m a n k l = get_or-bytes_at m a n k (a + k) l refl
+
+pub allows_each_byte : AllowsEachByte
+allows_each_byte access m a n = (λ ok k l. can_access-at access m a n k (a + k) ok l refl, can_access_from access m a n)

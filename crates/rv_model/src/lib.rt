@@ -21,7 +21,7 @@ pub use command::{ByteString, Cmd, Refusal};
 pub use elf::{ElfFault, ProgramHeader};
 pub use instruction::Instr;
 pub use laws::{each_user_alone, small_scripts_print};
-pub use memory::{Access, Fault, MapRefusal, Permissions};
+pub use memory::{Access, Fault, MapRefusal, Permissions, memory_laws};
 pub use operands::{Field, Reg, VReg};
 pub use pairs::{Arith, Carry};
 pub use policy::Policy;

@@ -1,7 +1,6 @@
 -- Counting how often a frame is free or used
-use Rattle.std.proofs.Common.{◌≡◌, ℕ, zero, suc, ◌+◌, ◌*◌, ◌<◌, ◌≤◌, Bool, true, false, cond, List, [], ◌∷◌, ◌++◌, length, get_or, take, refl, sym, ◌∙◌, ap, arith, eq-eqb}
+use Rattle.std.proofs.Common.{◌≡◌, ℕ, ◌+◌, ◌<◌, ◌≤◌, Bool, cond, List, [], ◌∷◌, ◌++◌, length, get_or, take, refl, ◌∙◌, ap, arith, eq-eqb}
 use Rattle.std.specs.Prelude.{nat_eq, nat_lt}
-use Rattle.std.specs.List.{sum_by}
 use Rattle.std.proofs.lemmas.Bool.Decides.{nat_tests}
 use Rattle.std.proofs.lemmas.List.Sums.{sum_by-append}
 use Rattle.std.proofs.lemmas.List.{take_more}
@@ -61,11 +60,11 @@ given_sums : (n k s t u o : ℕ) → n ≡ o + k → o ≡ s + t → u ≡ t + k
 given_sums n k s t u o a b c = omega arith
 
 pub given : (f : ℕ) (start free new : List ℕ) (t s : List Entry) (i : ℕ) (d : Entry) → s ≡ t → i < length t → new ≡ free ++ (get_or s i d).frame ∷ []
-  → uses f free ≡ uses f start + uses_of f (take i t) → uses f new ≡ uses f start + uses_of f (take (i + 1) t)
+    → uses f free ≡ uses f start + uses_of f (take i t) → uses f new ≡ uses f start + uses_of f (take (i + 1) t)
 given f start free new t s i d same lt e h =
     let here : new ≡ free ++ (get_or t i d).frame ∷ [] = e ∙ ap (λ (l : List Entry). free ++ (get_or l i d).frame ∷ []) same in
     given_sums (uses f new) (cond (nat_eq (get_or t i d).frame f) 1 0) (uses f start) (uses_of f (take i t)) (uses_of f (take (i + 1) t)) (uses f free)
-      (popped f new free (get_or t i d).frame here) h (ap (uses_of f) (take_more t i d lt) ∙ uses_of-append f (take i t) (get_or t i d))
+    (popped f new free (get_or t i d).frame here) h (ap (uses_of f) (take_more t i d lt) ∙ uses_of-append f (take i t) (get_or t i d))
 
 -- ---- all frames free, one after another
 

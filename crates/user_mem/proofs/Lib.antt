@@ -5,3 +5,5 @@ pub mod CountLaws
 pub mod PoolLaws
 pub mod PageLaws
 pub mod ViewLaws
+pub mod RunLaws
+pub mod UserLaws

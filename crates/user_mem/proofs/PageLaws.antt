@@ -1,9 +1,9 @@
 -- Which pages a table maps, and how many
-use Rattle.std.proofs.Common.{◌≡◌, ◌≢◌, ℕ, zero, suc, ◌+◌, ◌*◌, ◌/◌, ◌%◌, ◌<◌, ◌≤◌, Bool, true, false, List, [], ◌∷◌, length, get_or, Option, Some, None, refl, sym, ◌∙◌, ap, arith}
+use Rattle.std.proofs.Common.{◌≡◌, ℕ, suc, ◌+◌, ◌*◌, ◌/◌, List, [], ◌∷◌, length, Option, Some, None, refl, ◌∙◌, ap, arith}
 use Rattle.std.specs.Prelude.{is_some}
 use Rattle.std.specs.Ordering.{nat_cmp}
-use Rattle.std.specs.FinMap.{get, len, contains_key, len-empty}
-use Rattle.rv_model.specs.Memory.{Cell, Memory, page_count}
+use Rattle.std.specs.FinMap.{len, contains_key, len-empty}
+use Rattle.rv_model.specs.Memory.{Cell, page_count}
 use Rattle.rv_model.proofs.MemoryLaws.{len-add_cells}
 use Rattle.user_mem.specs.declared.entry.Entry.{Entry}
 use Rattle.user_mem.specs.Table.{entry_at, cell_of, memory_of, IsSorted}
@@ -35,8 +35,8 @@ len-memory_of frames [] sorted = len-empty nat_cmp Cell
 len-memory_of frames (x ∷ es) sorted =
     let rest = len-memory_of frames es (tail_is_sorted x es sorted) in
     let more = len-add_cells (memory_of frames es) (4096 * x.page) 4096 (λ k. cell_of frames x k) (λ k l.
-      let page : (4096 * x.page + k) / 4096 ≡ x.page = omega arith in
-      get-memory_of frames es (4096 * x.page + k) ∙ ap (cell_in frames (4096 * x.page + k)) (ap (entry_at es) page ∙ first_is_alone x es sorted)) in
+    let page : (4096 * x.page + k) / 4096 ≡ x.page = omega arith in
+    get-memory_of frames es (4096 * x.page + k) ∙ ap (cell_in frames (4096 * x.page + k)) (ap (entry_at es) page ∙ first_is_alone x es sorted)) in
     omega (arith, rest, more)
 
 pub page_count-memory_of : (frames : List ℕ) (es : List Entry) → IsSorted es → page_count (memory_of frames es) ≡ length es

@@ -1,5 +1,5 @@
 -- What follows from the pool's invariant, and what keeps it
-use Rattle.std.proofs.Common.{◌≡◌, ◌≢◌, ℕ, zero, suc, ◌+◌, ◌*◌, ◌/◌, ◌<◌, ◌≤◌, Bool, true, false, cond, List, [], ◌∷◌, ◌++◌, length, get_or, set, map, take, drop, Option, Some, None, refl, sym, ◌∙◌, ap, subst, ◌⊎◌, inl, inr, arith, ne_eqb, eq-eqb, rules, get_or-set_same, get_or-set_other, length-set}
+use Rattle.std.proofs.Common.{◌≡◌, ◌≢◌, ℕ, zero, suc, ◌+◌, ◌*◌, ◌<◌, ◌≤◌, Bool, true, false, cond, List, [], ◌∷◌, ◌++◌, length, get_or, set, map, take, drop, Some, refl, sym, ◌∙◌, ap, subst, inl, inr, arith, ne_eqb, eq-eqb, rules, get_or-set_same, get_or-set_other, length-set}
 use Rattle.std.specs.Prelude.{nat_lt}
 use Rattle.std.specs.List.{sum_by}
 use Rattle.std.specs.FinMap.{empty}
@@ -30,7 +30,7 @@ room_left (x ∷ xs) zero h few = let rest = all_few xs (λ v. few (suc v)) in o
 room_left (x ∷ xs) (suc u) h few = let rest = room_left xs u (omega arith) (λ v. few (suc v)) in let here = few 0 in omega (arith, sum_by-cons (λ (t : List Entry). length t) x xs)
 
 pub owners-set : (f : ℕ) (free after : List ℕ) (tables : List (List Entry)) (u : ℕ) (t : List Entry) → u < length tables
-  → uses f after + uses_of f t ≡ uses f free + uses_of f (table_at tables u) → owners f after (set tables u t) ≡ owners f free tables
+    → uses f after + uses_of f t ≡ uses f free + uses_of f (table_at tables u) → owners f after (set tables u t) ≡ owners f free tables
 unfolding owners
 owners-set f free after tables u t h e = let s = sum_by-set (uses_of f) tables u t [] h in omega arith
 
@@ -42,16 +42,16 @@ used_in_all-set tables u t h = sum_by-set (λ t. length t) tables u t [] h
 pub mine : (tables : List (List Entry)) (free frames : List ℕ) (u : ℕ) → IsPool tables free frames → u < 8 → AreMine free (length frames) (table_at tables u)
 unfolding owners
 mine tables free frames u p h = record {
-    once = λ f.
+  once = λ f.
       let at = get_or-le-sum_by (uses_of f) tables u [] (omega (arith, p.users)) in
       let o = p.once f in let few = most (nat_lt f 2048) in omega arith;
-    fit = λ f some. fits f some (nat_lt f 2048) refl;
-  }
+  fit = λ f some. fits f some (nat_lt f 2048) refl;
+}
   where
     fits : (f : ℕ) → 0 < uses f free → (b : Bool) → nat_lt f 2048 ≡ b → 4096 * f + 4096 ≤ length frames
     fits f some true e = let s = p.size in let l : f < 2048 = search rules in omega arith
     fits f some false e =
-      let o : uses f free + sum_by (uses_of f) tables ≡ 0 = p.once f ∙ ap (λ (b : Bool). cond b 1 0) e in absurd (omega arith)
+        let o : uses f free + sum_by (uses_of f) tables ≡ 0 = p.once f ∙ ap (λ (b : Bool). cond b 1 0) e in absurd (omega arith)
 
 pub frame_left : (tables : List (List Entry)) (free frames : List ℕ) (u count : ℕ) → IsPool tables free frames → u < 8 → length (table_at tables u) + count ≤ 256 → count ≤ length free
 frame_left tables free frames u count p h room =
@@ -82,10 +82,10 @@ no_table = record { few = omega arith; sorted = λ i j d l h. absurd (omega arit
 
 -- a user's table is another one, and the free frames are those that it left
 pub pool_after : (tables : List (List Entry)) (free after frames now : List ℕ) (u : ℕ) (t : List Entry) → IsPool tables free frames → u < 8
-  → length now ≡ length frames → IsTable t
-  → ((f : ℕ) → uses f after + uses_of f t ≡ uses f free + uses_of f (table_at tables u))
-  → length after + length t ≡ length free + length (table_at tables u)
-  → IsPool (set tables u t) after now
+    → length now ≡ length frames → IsTable t
+    → ((f : ℕ) → uses f after + uses_of f t ≡ uses f free + uses_of f (table_at tables u))
+    → length after + length t ≡ length free + length (table_at tables u)
+    → IsPool (set tables u t) after now
 pool_after tables free after frames now u t p h same own_table own len =
     let within : u < length tables = omega (arith, p.users) in
     record {
@@ -101,7 +101,13 @@ pool_after tables free after frames now u t p h same own_table own len =
 -- other bytes in the frames
 pub pool_written : (tables : List (List Entry)) (free frames now : List ℕ) → IsPool tables free frames → length now ≡ length frames → IsPool tables free now
 pool_written tables free frames now p same = record {
-  users = p.users; size = same ∙ p.size; few = p.few; sorted = p.sorted; below = p.below; once = p.once; total = p.total
+  users = p.users;
+  size = same ∙ p.size;
+  few = p.few;
+  sorted = p.sorted;
+  below = p.below;
+  once = p.once;
+  total = p.total;
 }
 
 pub once_of_one : (tables : List (List Entry)) (free frames : List ℕ) (u f : ℕ) → IsPool tables free frames → u < 8 → uses_of f (table_at tables u) ≤ 1
@@ -114,7 +120,7 @@ fit_in tables free frames u p h = λ q e s. let used = used_at (table_at tables 
     fits : (f : ℕ) → 0 < sum_by (uses_of f) tables → (b : Bool) → nat_lt f 2048 ≡ b → 4096 * f + 4096 ≤ length frames
     fits f some true e = let s = p.size in let l : f < 2048 = search rules in omega arith
     fits f some false e =
-      let o : uses f free + sum_by (uses_of f) tables ≡ 0 = p.once f ∙ ap (λ (b : Bool). cond b 1 0) e in absurd (omega arith)
+        let o : uses f free + sum_by (uses_of f) tables ≡ 0 = p.once f ∙ ap (λ (b : Bool). cond b 1 0) e in absurd (omega arith)
 
 pub used_twice : (es : List Entry) (p q : ℕ) (e g : Entry) → entry_at es p ≡ Some e → entry_at es q ≡ Some g → p ≢ q → e.frame ≡ g.frame → 2 ≤ uses_of e.frame es
 used_twice [] p q e g h k n s = absurd (cc)
@@ -172,8 +178,8 @@ map_same frames now (x ∷ xs) e =
 
 -- one table is another one, and all others mean what they did
 pub memories_after : (frames now : List ℕ) (tables : List (List Entry)) (u : ℕ) (t : List Entry) (m : Memory) → u < length tables
-  → ((v : ℕ) → v < length tables → v ≢ u → memory_of now (table_at tables v) ≡ memory_of frames (table_at tables v)) → memory_of now t ≡ m
-  → memories_of now (set tables u t) ≡ set (memories_of frames tables) u m
+    → ((v : ℕ) → v < length tables → v ≢ u → memory_of now (table_at tables v) ≡ memory_of frames (table_at tables v)) → memory_of now t ≡ m
+    → memories_of now (set tables u t) ≡ set (memories_of frames tables) u m
 memories_after frames now [] u t m l others e = absurd (omega arith)
 memories_after frames now (x ∷ xs) zero t m l others e =
     let rest : memories_of now xs ≡ memories_of frames xs = map_same frames now xs (λ v l. others (suc v) (omega arith) (λ q. omega arith)) in cc

@@ -1,16 +1,14 @@
 -- What a table means at one address, and what a write to a frame does to it
-use Rattle.std.proofs.Common.{◌≡◌, ◌≢◌, ℕ, zero, suc, ◌+◌, ◌-◌, ◌*◌, ◌/◌, ◌%◌, ◌<◌, ◌≤◌, ◌^◌, Bool, true, false, cond, eqb, List, [], ◌∷◌, ◌++◌, length, get_or, set, map, Option, Some, None, refl, sym, ◌∙◌, ap, subst, ◌⊎◌, inl, inr, arith, ne_eqb, eq-eqb, get_or-set_same, get_or-set_other, take}
-use Rattle.std.proofs.lemmas.List.{take_more, length-take-le, ext_get_or}
-use Rattle.rv_model.specs.declared.memory.Access.TheVariants.{Monitor}
+use Rattle.std.proofs.Common.{◌≡◌, ◌≢◌, ℕ, ◌+◌, ◌*◌, ◌/◌, ◌%◌, ◌<◌, ◌≤◌, ◌^◌, Bool, true, false, cond, List, [], ◌∷◌, get_or, Option, Some, None, refl, sym, ◌∙◌, ap, ◌⊎◌, inl, inr, arith, ne_eqb, eq-eqb}
 use Rattle.std.specs.Ordering.{nat_cmp}
 use Rattle.std.specs.Option.{option_map, option_map_or}
 use Rattle.std.specs.FinMap.{get, get-empty}
 use Rattle.std.proofs.lemmas.Bool.{cases_eq, cases_lt}
 use Rattle.rv_model.specs.declared.memory.Access.{Access}
-use Rattle.rv_model.specs.Memory.{Cell, Memory, permits, add_cells, put_byte, put_bytes, bytes_at, can_access, is_allowed, byte_at}
-use Rattle.rv_model.proofs.MemoryLaws.{same_memory, with_byte, get-add_cells_within, get-add_cells_outside, get-put_byte_same, get-put_byte_other, can_access-at, put_bytes-append, length-bytes_at, get_or-bytes_at}
+use Rattle.rv_model.specs.Memory.{Cell, permits, can_access, is_allowed, byte_at}
+use Rattle.rv_model.proofs.MemoryLaws.{same_memory, get-add_cells_within, get-add_cells_outside, can_access-at}
 use Rattle.user_mem.specs.declared.entry.Entry.{Entry}
-use Rattle.user_mem.specs.Table.{entry_at, cell_of, memory_of, AreBelow, FitIn, AreSeparate, AreApart}
+use Rattle.user_mem.specs.Table.{entry_at, cell_of, memory_of, AreBelow}
 
 -- the cell at address x of the page that an entry maps
 abbrev pub cell_in : List ℕ → ℕ → Option Entry → Option Cell
@@ -60,37 +58,9 @@ memory_of_same frames other entries h = same_memory _ _ (λ x.
     at : (x : ℕ) (o : Option Entry) → entry_at entries (x / 4096) ≡ o → cell_in other x (entry_at entries (x / 4096)) ≡ cell_in frames x (entry_at entries (x / 4096))
     at x None q = ap (cell_in other x) q ∙ sym (ap (cell_in frames x) q)
     at x (Some e) q =
-      ap (cell_in other x) q
-      ∙ ap (λ (b : ℕ). Some (record { byte = b; permissions = e.permissions })) (h (x / 4096) e (x % 4096) q (omega arith))
-      ∙ sym (ap (cell_in frames x) q)
-
--- a write to the byte of an address
-pub memory_of-set : (frames : List ℕ) (entries : List Entry) (a b i : ℕ) (e : Entry) → AreSeparate entries → entry_at entries (a / 4096) ≡ Some e → i ≡ 4096 * e.frame + a % 4096 → i < length frames → memory_of (set frames i b) entries ≡ put_byte (memory_of frames entries) a b
-memory_of-set frames entries a b i e separate here place within = same_memory _ _ (λ x. at x (cases_eq x a))
-  where
-    at_here : get (memory_of (set frames i b) entries) a ≡ get (put_byte (memory_of frames entries) a b) a
-    at_here =
-      let new : get_or (set frames i b) (4096 * e.frame + a % 4096) 0 ≡ b =
-        ap (λ (j : ℕ). get_or (set frames i b) j 0) (sym place) ∙ get_or-set_same frames i b 0 within in
-      get-memory_of (set frames i b) entries a ∙ ap (cell_in (set frames i b) a) here
-      ∙ ap (λ (v : ℕ). Some (record { byte = v; permissions = e.permissions })) new
-      ∙ ap (with_byte b) (sym (ap (cell_in frames a) here) ∙ sym (get-memory_of frames entries a))
-      ∙ sym (get-put_byte_same (memory_of frames entries) a b)
-    elsewhere : (x : ℕ) → x ≢ a → (o : Option Entry) → entry_at entries (x / 4096) ≡ o → cell_in (set frames i b) x (entry_at entries (x / 4096)) ≡ cell_in frames x (entry_at entries (x / 4096))
-    elsewhere x n None q = ap (cell_in (set frames i b) x) q ∙ sym (ap (cell_in frames x) q)
-    elsewhere x n (Some f) q =
-      let apart : 4096 * f.frame + x % 4096 ≢ i = λ same.
-        let frame : f.frame ≡ e.frame = omega arith in
-        let page = separate (x / 4096) (a / 4096) f e q here frame in
-        n (omega arith) in
-      ap (cell_in (set frames i b) x) q
-      ∙ ap (λ (v : ℕ). Some (record { byte = v; permissions = f.permissions })) (get_or-set_other frames i (4096 * f.frame + x % 4096) b 0 apart)
-      ∙ sym (ap (cell_in frames x) q)
-    at : (x : ℕ) → ((x ≡ a) ⊎ (x ≢ a)) → get (memory_of (set frames i b) entries) x ≡ get (put_byte (memory_of frames entries) a b) x
-    at x (inl q) = subst (λ (y : ℕ). get (memory_of (set frames i b) entries) y ≡ get (put_byte (memory_of frames entries) a b) y) (sym q) at_here
-    at x (inr n) =
-      get-memory_of (set frames i b) entries x ∙ elsewhere x n (entry_at entries (x / 4096)) refl
-      ∙ sym (get-memory_of frames entries x) ∙ sym (get-put_byte_other (memory_of frames entries) a b x n)
+        ap (cell_in other x) q
+        ∙ ap (λ (b : ℕ). Some (record { byte = b; permissions = e.permissions })) (h (x / 4096) e (x % 4096) q (omega arith))
+        ∙ sym (ap (cell_in frames x) q)
 
 pub allowed_by_entry : (access : Access) (frames : List ℕ) (entries : List Entry) (x : ℕ) (e : Entry) → entry_at entries (x / 4096) ≡ Some e → permits access e.permissions ≡ is_allowed access (memory_of frames entries) x
 allowed_by_entry access frames entries x e h =
@@ -128,21 +98,3 @@ not_allowed_beyond access frames entries x below far = split (is_allowed access 
 pub access_below : (access : Access) (frames : List ℕ) (entries : List Entry) (a n k : ℕ) → AreBelow entries → can_access access (memory_of frames entries) a n ≡ true → k < n → a + k < 2 ^ 48
 access_below access frames entries a n k below ok l =
     allowed_below access frames entries (a + k) below (can_access-at access (memory_of frames entries) a n k (a + k) ok l refl)
-
-pub byte_read : (frames : List ℕ) (entries : List Entry) (x i : ℕ) → is_allowed Monitor (memory_of frames entries) x ≡ true → ((e : Entry) → entry_at entries (x / 4096) ≡ Some e → i ≡ 4096 * e.frame + x % 4096) → get_or frames i 0 ≡ byte_at (memory_of frames entries) x
-byte_read frames entries x i ok place =
-    let some = entry_from_allowed Monitor frames entries x ok in
-    ap (λ (j : ℕ). get_or frames j 0) (place some.0 some.1) ∙ sym (byte_at-memory_of frames entries x some.0 some.1)
-
-pub byte_written : (frames : List ℕ) (entries : List Entry) (x b i : ℕ) → AreSeparate entries → is_allowed Monitor (memory_of frames entries) x ≡ true → ((e : Entry) → entry_at entries (x / 4096) ≡ Some e → i ≡ 4096 * e.frame + x % 4096) → i < length frames → memory_of (set frames i b) entries ≡ put_byte (memory_of frames entries) x b
-byte_written frames entries x b i separate ok place within =
-    let some = entry_from_allowed Monitor frames entries x ok in
-    memory_of-set frames entries x b i some.0 separate some.1 (place some.0 some.1) within
-
-pub others_unwritten : (frames : List ℕ) (entries other : List Entry) (x b i : ℕ) → AreApart entries other → is_allowed Monitor (memory_of frames entries) x ≡ true → ((e : Entry) → entry_at entries (x / 4096) ≡ Some e → i ≡ 4096 * e.frame + x % 4096) → memory_of (set frames i b) other ≡ memory_of frames other
-others_unwritten frames entries other x b i apart ok place =
-    let some = entry_from_allowed Monitor frames entries x ok in
-    memory_of_same frames (set frames i b) other (λ p e k h l.
-      let here = place some.0 some.1 in
-      let differs = apart (x / 4096) p some.0 e some.1 h in
-      get_or-set_other frames i (4096 * e.frame + k) b 0 (λ same. differs (omega arith)))

@@ -1,5 +1,5 @@
 -- What the pool keeps: eight tables over 2,048 frames, of which each is free or used, once.
-use Rattle.std.specs.Prelude.{◌≡◌, ℕ, ◌+◌, ◌*◌, ◌<◌, ◌≤◌, cond, nat_lt, List, [], length, map, slice_index_or}
+use Rattle.std.specs.Prelude.{◌≡◌, ℕ, ◌+◌, ◌*◌, ◌≤◌, cond, nat_lt, List, [], length, map, slice_index_or}
 use Rattle.std.specs.List.{sum_by}
 use Rattle.user_mem.specs.declared.entry.Entry.{Entry}
 use Rattle.arrayvec.specs.ArrayVec.{ArrayVec}

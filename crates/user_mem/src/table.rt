@@ -1,15 +1,14 @@
 //! A user's page table: entries in the order of their pages, found by binary search.
-ghost use Rattle.std.specs.Prelude.{◌≡◌, ℕ, List, ◌≤◌, ◌<◌, ◌+◌, ◌*◌, ◌/◌, ◌^◌, cond, nat_eq, false, Some, None, IfOk, IfErr, IfNone, length};
+ghost use Rattle.std.specs.Prelude.{◌≡◌, ℕ, List, ◌≤◌, ◌<◌, ◌+◌, ◌-◌, ◌*◌, ◌/◌, ◌%◌, ◌^◌, min, cond, nat_eq, false, Some, None, IfOk, IfErr, IfNone, length};
 ghost use Rattle.arrayvec.specs.ArrayVec.{array_vec_len};
 ghost use Rattle.rv_model.specs.Memory.{is_allowed, can_access, any_page_mapped, map_refusal};
 ghost use Rattle.user_mem.specs.declared.entry.Entry.{Entry};
 ghost use Rattle.user_mem.specs.Table.{entry_at, memory_of, AreBelow, IsSorted, IsAt, IsGapFor};
 ghost use Rattle.user_mem.specs.Frames.{uses_of};
 
+use crate::entry::Entry;
 use arrayvec::ArrayVec;
 use rv_model::{Access, MapRefusal};
-
-use crate::entry::Entry;
 
 /// The most pages that a user may have.
 pub(crate) const QUOTA: usize = 256;
@@ -51,21 +50,29 @@ fn is_byte_allowed(entries: &[Entry], access: Access, addr: u64) -> bool
     }
 }
 
+/// How many of the next `left` bytes from an address on lie in its page.
+pub(crate) fn bytes_in_page(addr: u64, left: usize) -> usize
+    ensures { result ≡ min left (4096 - addr % 4096) }
+{
+    left.min((PAGE_SIZE - addr % PAGE_SIZE) as usize)
+}
+
 /// Whether all bytes of an access are allowed.
 pub(crate) fn allows(entries: &[Entry], access: Access, addr: u64, len: usize) -> bool
     requires sorted { IsSorted entries.now }
     requires below { AreBelow entries.now }
-    ensures { (frames : List ℕ) → result ≡ can_access access (memory_of frames entries.now) addr len }
+    ensures { (frames : List ℕ) → result
+        ≡ can_access access (memory_of frames entries.now) addr len }
 {
-    for k in 0..len {
-        match addr.checked_add(k as u64) {
-            Some(next) => {
-                if !is_byte_allowed(entries, access, next) {
-                    return false;
-                }
-            }
-            None => return false,
+    let mut done = 0;
+    while done < len {
+        let Some(next) = addr.checked_add(done as u64) else {
+            return false;
+        };
+        if !is_byte_allowed(entries, access, next) {
+            return false;
         }
+        done += bytes_in_page(next, len - done);
     }
     true
 }
@@ -74,8 +81,10 @@ pub(crate) fn allows(entries: &[Entry], access: Access, addr: u64, len: usize) -
 fn is_any_mapped(entries: &[Entry], page: u64, count: usize) -> bool
     requires sorted { IsSorted entries.now }
     requires ends { page + count ≤ 2 ^ 36 }
-    ensures mapped { (frames : List ℕ) → result ≡ any_page_mapped (memory_of frames entries.now) page count }
-    ensures new_pages { result ≡ false → (k : ℕ) → k < count → entry_at entries.now (page + k) ≡ None }
+    ensures mapped { (frames : List ℕ) → result
+        ≡ any_page_mapped (memory_of frames entries.now) page count }
+    ensures new_pages { result
+        ≡ false → (k : ℕ) → k < count → entry_at entries.now (page + k) ≡ None }
 {
     for i in 0..count {
         if locate(entries, page + i as u64).is_some() {
@@ -90,9 +99,11 @@ pub(crate) fn refusal(entries: &[Entry], page: u64, count: usize) -> Option<MapR
     requires few { length entries.now ≤ 256 }
     requires sorted { IsSorted entries.now }
     requires ends { page + count ≤ 2 ^ 36 }
-    ensures value { (frames : List ℕ) → result ≡ map_refusal (memory_of frames entries.now) page count }
+    ensures value { (frames : List ℕ) → result
+        ≡ map_refusal (memory_of frames entries.now) page count }
     ensures room { IfNone result (length entries.now + count ≤ 256) }
-    ensures new_pages { IfNone result ((k : ℕ) → k < count → entry_at entries.now (page + k) ≡ None) }
+    ensures new_pages { IfNone result ((k : ℕ)
+        → k < count → entry_at entries.now (page + k) ≡ None) }
 {
     if count > QUOTA - entries.len() {
         return Some(MapRefusal::Quota);
@@ -110,8 +121,10 @@ pub(crate) fn add_entry(table: &mut Table, entry: Entry)
     requires new_page { entry_at table.old.items entry.page ≡ None }
     ensures sorted { IsSorted table.new.items }
     ensures len { length table.new.items ≡ length table.old.items + 1 }
-    ensures looked_up { (p : ℕ) → entry_at table.new.items p ≡ cond (nat_eq entry.page p) (Some entry) (entry_at table.old.items p) }
-    ensures used { (f : ℕ) → uses_of f table.new.items ≡ uses_of f table.old.items + cond (nat_eq entry.frame f) 1 0 }
+    ensures looked_up { (p : ℕ) → entry_at table.new.items p
+        ≡ cond (nat_eq entry.page p) (Some entry) (entry_at table.old.items p) }
+    ensures used { (f : ℕ) → uses_of f table.new.items
+        ≡ uses_of f table.old.items + cond (nat_eq entry.frame f) 1 0 }
 {
     match search(table.as_slice(), entry.page) {
         Ok(_) => unreachable!(),

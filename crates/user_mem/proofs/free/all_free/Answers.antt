@@ -1,4 +1,4 @@
-use Rattle.std.proofs.Common.{◌≡◌, ◌∙◌, [], ap, arith, rules}
+use Rattle.std.proofs.Common.{◌∙◌, ap, arith, rules}
 use Rattle.user_mem.specs.Frames.{uses}
 use Rattle.user_mem.proofs.CountLaws.{none_before, one_more}
 use Rattle.user_mem.proofs.free.all_free.Goals as goal

@@ -1,4 +1,4 @@
-use Rattle.std.proofs.Common.{◌≡◌, ◌+◌, ◌∙◌, refl, ap, arith, length}
+use Rattle.std.proofs.Common.{arith}
 use Rattle.user_mem.proofs.CountLaws.{uses_of-none, given}
 use Rattle.user_mem.proofs.free.give_back.Goals as goal
 

@@ -1,4 +1,4 @@
-use Rattle.std.proofs.Common.{◌≡◌, ℕ, ◌<◌, ◌≤◌, ◌+◌, take, length}
+use Rattle.std.proofs.Common.{◌≡◌, ℕ, ◌+◌, take, length}
 use Rattle.user_mem.specs.Frames.{uses, uses_of}
 use Rattle.user_mem.proofs.free.give_back.Given as goal
 

@@ -1,4 +1,4 @@
-use Rattle.std.proofs.Common.{arith, length, ◌≡◌, ◌≢◌, sym, ◌∙◌}
+use Rattle.std.proofs.Common.{length}
 use Rattle.user_mem.proofs.FrameLaws.{below_added, elsewhere}
 use Rattle.user_mem.proofs.CountLaws.{is_free, unused, moved, fewer}
 use Rattle.user_mem.proofs.free.take_page.Goals as goal

@@ -1,4 +1,4 @@
-use Rattle.std.proofs.Common.{◌≡◌, ◌+◌, ◌∙◌, refl, ap, arith, length}
+use Rattle.std.proofs.Common.{◌+◌, ◌∙◌, refl, ap, arith, length}
 use Rattle.rv_model.specs.Memory.{Memory, with_pages}
 use Rattle.user_mem.specs.Table.{memory_of}
 use Rattle.rv_model.proofs.MemoryLaws.{with_pages_more, with_pages_none}
@@ -22,12 +22,12 @@ loop-i-init c = record {
 pub loop-i-preserved : goal.loop-i-preserved
 loop-i-preserved c = record {
   mapped =
-    c.take_page.ensures.mapped
-    ∙ ap (λ (m : Memory). with_pages m (c.args.page + c.loop-i.i) 1 c.args.permissions) c.loop-i.invariant.mapped
-    ∙ with_pages_more (memory_of c.args.frames.now c.args.table.now.items) c.args.page c.loop-i.i c.args.permissions;
+      c.take_page.ensures.mapped
+      ∙ ap (λ (m : Memory). with_pages m (c.args.page + c.loop-i.i) 1 c.args.permissions) c.loop-i.invariant.mapped
+      ∙ with_pages_more (memory_of c.args.frames.now c.args.table.now.items) c.args.page c.loop-i.i c.args.permissions;
   others = λ other m.
-    c.take_page.ensures.others other (AreMine-fewer c.args.free.now.items c.loop-i.free.items (length c.args.frames.now) (length c.loop-i.frames) other c.loop-i.invariant.fewer c.loop-i.invariant.size m)
-    ∙ c.loop-i.invariant.others other m;
+      c.take_page.ensures.others other (AreMine-fewer c.args.free.now.items c.loop-i.free.items (length c.args.frames.now) (length c.loop-i.frames) other c.loop-i.invariant.fewer c.loop-i.invariant.size m)
+      ∙ c.loop-i.invariant.others other m;
   sorted = c.take_page.ensures.sorted;
   below = c.take_page.ensures.below (omega arith) c.loop-i.invariant.below;
   owners = λ f. c.take_page.ensures.owners f ∙ c.loop-i.invariant.owners f;

@@ -1,6 +1,3 @@
-use Rattle.std.proofs.Common.{◌≡◌, List, None, sym, ◌∙◌, ap, subst}
-use Rattle.user_mem.specs.declared.entry.Entry.{Entry}
-use Rattle.user_mem.specs.Table.{entry_at, IsGapFor}
 use Rattle.user_mem.proofs.SearchLaws.{no_entry, entry_at_place, sorted_insert}
 use Rattle.user_mem.proofs.FrameLaws.{entry_at-insert, uses_of-insert}
 use Rattle.user_mem.proofs.table.add_entry.Goals as goal

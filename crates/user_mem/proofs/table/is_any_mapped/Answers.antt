@@ -1,4 +1,4 @@
-use Rattle.std.proofs.Common.{◌≡◌, ◌+◌, ◌∙◌, sym, ap, arith}
+use Rattle.std.proofs.Common.{◌+◌, ◌∙◌, sym, ap, arith}
 use Rattle.std.specs.Prelude.{is_some}
 use Rattle.rv_model.proofs.MemoryLaws.{any_page_mapped_at, any_page_mapped_none}
 use Rattle.user_mem.specs.Table.{memory_of}

@@ -1,5 +1,4 @@
-use Rattle.std.proofs.Common.{◌≡◌, ◌<◌, ◌≤◌, ◌+◌, ◌∙◌, sym, true, false, length, arith}
-use Rattle.rv_model.specs.Memory.{page_count, any_page_mapped}
+use Rattle.std.proofs.Common.{◌∙◌, sym, arith}
 use Rattle.rv_model.proofs.MemoryLaws.{map_refusal_quota, map_refusal_mapped, map_refusal_none}
 use Rattle.user_mem.specs.Table.{memory_of}
 use Rattle.user_mem.proofs.PageLaws.{page_count-memory_of}

@@ -1,7 +1,6 @@
-use Rattle.std.proofs.Common.{◌≡◌, ◌∙◌, true, false, refl, sym, ap, arith}
+use Rattle.std.proofs.Common.{◌∙◌, refl, sym, ap, arith}
 use Rattle.rv_model.specs.Memory.{Memory, can_access}
 use Rattle.user_mem.specs.Table.{IsSorted, AreBelow}
-use Rattle.user_mem.specs.Users.{memory_of_user}
 use Rattle.user_mem.proofs.ViewLaws.{fact_at, memory_at}
 use Rattle.user_mem.proofs.pool.Pool.check.Goals as goal
 

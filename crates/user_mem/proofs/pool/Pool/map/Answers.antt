@@ -1,4 +1,4 @@
-use Rattle.std.proofs.Common.{◌≡◌, ◌∙◌, Option, Some, None, Ok, Err, true, false, refl, sym, ap, arith}
+use Rattle.std.proofs.Common.{◌∙◌, Ok, Err, refl, sym, ap, arith}
 use Rattle.rv_model.specs.declared.memory.MapRefusal.TheVariants.{Quota, AlreadyMapped}
 use Rattle.rv_model.specs.Memory.{Memory, map_refusal}
 use Rattle.rv_model.proofs.MemoryLaws.{map_refusal-Quota, map_refusal-AlreadyMapped}

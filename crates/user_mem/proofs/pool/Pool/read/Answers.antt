@@ -1,4 +1,4 @@
-use Rattle.std.proofs.Common.{◌≡◌, ◌∙◌, true, refl, sym, ap, length, map, arith, List, ℕ}
+use Rattle.std.proofs.Common.{◌∙◌, refl, sym, ap, length, map, arith, List, ℕ}
 use Rattle.rv_model.specs.declared.memory.Access.TheVariants.{Monitor}
 use Rattle.rv_model.specs.Memory.{Memory, can_access}
 use Rattle.rv_model.proofs.MemoryLaws.{can_access_monitor}
@@ -19,8 +19,8 @@ copy_out-requires-clause-below g c =
 pub copy_out-requires-clause-fit : goal.copy_out-requires-clause-fit
 copy_out-requires-clause-fit g c =
     rw c.as_slice-2.ensures.value
-      (fact_at (λ t. t.items) (λ t. FitIn t (length c.self.inside.frames.items)) c.self.inside.tables c.index.result c.index-self-index.result c.as_slice.result.now (omega (arith, c.self.invariant.users)) c.as_slice.ensures.value
-        (fit_in (map (λ t. t.items) c.self.inside.tables) c.self.inside.free.items c.self.inside.frames.items c.index.result c.self.invariant c.index.ensures.small))
+    (fact_at (λ t. t.items) (λ t. FitIn t (length c.self.inside.frames.items)) c.self.inside.tables c.index.result c.index-self-index.result c.as_slice.result.now (omega (arith, c.self.invariant.users)) c.as_slice.ensures.value
+    (fit_in (map (λ t. t.items) c.self.inside.tables) c.self.inside.free.items c.self.inside.frames.items c.index.result c.self.invariant c.index.ensures.small))
 
 pub copy_out-requires-clause-mapped : goal.copy_out-requires-clause-mapped
 copy_out-requires-clause-mapped g c =

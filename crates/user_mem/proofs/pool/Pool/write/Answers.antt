@@ -1,4 +1,4 @@
-use Rattle.std.proofs.Common.{◌≡◌, ◌∙◌, true, refl, sym, ap, length, map, arith, List, ℕ}
+use Rattle.std.proofs.Common.{◌∙◌, refl, sym, ap, length, map, arith, List, ℕ}
 use Rattle.rv_model.specs.declared.memory.Access.TheVariants.{Monitor}
 use Rattle.rv_model.specs.Memory.{Memory, can_access}
 use Rattle.rv_model.proofs.MemoryLaws.{can_access_monitor}
