@@ -2,3 +2,4 @@ pub mod FaultLaws
 pub mod HeaderLaws
 pub mod ImageLaws
 pub mod PageLaws
+pub mod PlacingLaws

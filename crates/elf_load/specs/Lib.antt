@@ -1,2 +1,3 @@
 pub mod Headers
 pub mod Pages
+pub mod Placing
