@@ -102,7 +102,7 @@ page_count-image image =
 
 -- ---- counted page by page
 
-all_pages_are : all_pages ≡ 2 ^ 36
+pub all_pages_are : all_pages ≡ 2 ^ 36
 unfolding all_pages
 all_pages_are = refl
 

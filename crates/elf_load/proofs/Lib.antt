@@ -3,3 +3,6 @@ pub mod HeaderLaws
 pub mod ImageLaws
 pub mod PageLaws
 pub mod PlacingLaws
+pub mod PoolLaws
+pub mod SegmentLaws
+pub mod UserLaws

@@ -7,10 +7,10 @@ use Rattle.rv_model.specs.declared.elf.ProgramHeader.{ProgramHeader}
 use Rattle.rv_model.specs.ElfFields.{header_count, program_header, program_headers}
 use Rattle.rv_model.specs.declared.elf.ElfFault.TheVariants.{BadAddress}
 use Rattle.rv_model.specs.ElfFaults.{is_load, header_has, first_fault}
-use Rattle.rv_model.specs.Image.{stack, placed, touches, is_touched}
+use Rattle.rv_model.specs.Image.{stack, placed, touches, is_touched, is_allowed_by}
 use Rattle.elf_load.specs.Headers.{first_headers}
-use Rattle.elf_load.specs.Pages.{IsFirst, IsFirstIfAny, earlier, pages_below, first_placed, EndsInMemory}
-use Rattle.elf_load.proofs.HeaderLaws.{any_none, any_more, none_at, first_headers_all}
+use Rattle.elf_load.specs.Pages.{IsFirst, IsFirstIfAny, earlier, pages_below, first_placed, EndsInMemory, allows}
+use Rattle.elf_load.proofs.HeaderLaws.{any_none, any_more, any_at, none_at, first_headers_all}
 use Rattle.elf_load.proofs.FaultLaws.{no_bad_address}
 
 -- ---- one segment
@@ -58,7 +58,7 @@ neither a b e f = ap (λ (x : Bool). x || b) e ∙ f
 on_left : (a b : Bool) → a ≡ true → (a || b) ≡ true
 on_left a b e = ap (λ (x : Bool). x || b) e
 
-on_right : (a b : Bool) → b ≡ true → (a || b) ≡ true
+pub on_right : (a b : Bool) → b ≡ true → (a || b) ≡ true
 on_right true b e = refl
 on_right false b e = e
 
@@ -179,3 +179,18 @@ low_enough size header e = λ kind. grind (arith, e, kind)
 
 pub header_ends : (image : List ℕ) (number : ℕ) → first_fault image ≡ None → number < header_count image → EndsInMemory (program_header image number)
 header_ends image number sound l = low_enough (length image) (program_header image number) (none_at (header_has (length image) BadAddress) image number l (no_bad_address image sound))
+
+-- ---- flags
+
+pub is_allowed_here : (image : List ℕ) (flag page : ℕ) → allows flag page stack ≡ true → is_allowed_by flag (placed image) page ≡ true
+unfolding is_allowed_by
+is_allowed_here image flag page e = on_left (allows flag page stack) _ e
+
+pub is_allowed_at : (image : List ℕ) (flag page number : ℕ) → number < header_count image → allows flag page (program_header image number) ≡ true → is_allowed_by flag (placed image) page ≡ true
+unfolding is_allowed_by
+is_allowed_at image flag page number l e = on_right (allows flag page stack) _ (any_at (allows flag page) image number l e)
+
+pub is_allowed_none : (image : List ℕ) (flag page number : ℕ) → number ≡ header_count image → allows flag page stack ≡ false → list_any (allows flag page) (first_headers image number) ≡ false
+  → is_allowed_by flag (placed image) page ≡ false
+unfolding is_allowed_by
+is_allowed_none image flag page number all e f = neither (allows flag page stack) _ e (ap (list_any (allows flag page)) (sym (first_headers_all image number all)) ∙ f)

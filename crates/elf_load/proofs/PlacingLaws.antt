@@ -9,7 +9,7 @@ use Rattle.std.proofs.lemmas.Bool.{cases_eq, cases_lt}
 use Rattle.rv_model.specs.declared.elf.ProgramHeader.{ProgramHeader}
 use Rattle.rv_model.specs.declared.memory.Permissions.{Permissions}
 use Rattle.rv_model.specs.declared.memory.Access.TheVariants.{Monitor}
-use Rattle.rv_model.specs.Memory.{Cell, Memory, add_cells, with_pages, page_count, any_page_mapped, map_refusal, put_bytes}
+use Rattle.rv_model.specs.Memory.{Cell, Memory, add_cells, with_pages, page_count, any_page_mapped, map_refusal, put_bytes, permits, is_allowed}
 use Rattle.rv_model.specs.ElfFields.{header_count, program_header}
 use Rattle.rv_model.specs.Image.{stack, covers, byte_in, placed, is_touched, permissions_of, byte_of, cell_of, memory_below, all_pages, memory_of_image}
 use Rattle.rv_model.proofs.MemoryLaws.{same_memory, get-add_cells_within, get-add_cells_outside, any_page_mapped_none, map_refusal_none, with_byte, get-put_bytes_within, get-put_bytes_outside}
@@ -185,7 +185,7 @@ byte_of_more image headers header x =
     split true rest = refl
     split false rest = refl
 
-byte_after : (image : List ℕ) (number x : ℕ)
+pub byte_after : (image : List ℕ) (number x : ℕ)
   → byte_of image (first_placed image (number + 1)) x ≡ cond (covers x (program_header image number)) (byte_in image x (program_header image number)) (byte_of image (first_placed image number) x)
 byte_after image number x =
     ap (λ (hs : List ProgramHeader). byte_of image hs x) (first_placed_more image number) ∙ byte_of_more image (first_placed image number) (program_header image number) x
@@ -200,7 +200,7 @@ byte_in_stack image x = split (covers x stack)
     split false = refl
 
 -- bytes that are the same everywhere
-same_bytes : (image : List ℕ) (bytes other : ℕ → ℕ) → ((x : ℕ) → bytes x ≡ other x) → memory_with image bytes all_pages ≡ memory_with image other all_pages
+pub same_bytes : (image : List ℕ) (bytes other : ℕ → ℕ) → ((x : ℕ) → bytes x ≡ other x) → memory_with image bytes all_pages ≡ memory_with image other all_pages
 unfolding cell_in
 same_bytes image bytes other same = is_memory_with (memory_with image bytes all_pages) image other all_pages (omega arith) (λ x.
     get-memory_with image bytes all_pages x (omega arith)
@@ -223,7 +223,7 @@ memory_after_all image number e =
       ∙ cells_with-is image (byte_of image (first_placed image number)) all_pages x false (past_end all_pages x (is_touched (placed image) (x / 4096)) (omega arith)))
 
 -- bytes written
-put_with : (image : List ℕ) (bytes other : ℕ → ℕ) (a : ℕ) (bs : List ℕ) → ((k : ℕ) → k < length bs → other (a + k) ≡ get_or bs k 0)
+pub put_with : (image : List ℕ) (bytes other : ℕ → ℕ) (a : ℕ) (bs : List ℕ) → ((k : ℕ) → k < length bs → other (a + k) ≡ get_or bs k 0)
   → ((x : ℕ) → ((x < a) ⊎ (a + length bs ≤ x)) → other x ≡ bytes x) → put_bytes (memory_with image bytes all_pages) a bs ≡ memory_with image other all_pages
 unfolding cell_in
 put_with image bytes other a bs inside outside = is_memory_with (put_bytes (memory_with image bytes all_pages) a bs) image other all_pages (omega arith) (λ x. elim (cases_lt x a) [
@@ -250,3 +250,11 @@ put_with image bytes other a bs inside outside = is_memory_with (put_bytes (memo
     replaced : (x n : ℕ) (b : Bool) → other x ≡ n → with_byte n (cell_in image bytes x b) ≡ cell_in image other x b
     replaced x n true e = ap (λ (v : ℕ). Some (record { byte = v; permissions = permissions_of (placed image) (x / 4096) })) (sym e)
     replaced x n false e = refl
+
+-- a mapped byte may be written
+pub allowed_with : (image : List ℕ) (bytes : ℕ → ℕ) (x : ℕ) → x < 4096 * all_pages → is_touched (placed image) (x / 4096) ≡ true → is_allowed Monitor (memory_with image bytes all_pages) x ≡ true
+unfolding is_allowed cell_in
+allowed_with image bytes x l touched =
+    ap (λ (o : Option Cell). option_map_or (λ c. permits Monitor c.permissions) o false)
+    (get-memory_with image bytes all_pages x (omega arith)
+    ∙ cells_with-is image bytes all_pages x true (before_end all_pages x (is_touched (placed image) (x / 4096)) (omega arith) ∙ touched))

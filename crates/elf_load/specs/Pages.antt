@@ -1,7 +1,7 @@
 -- The pages that an image touches, one after the other
-use Rattle.std.specs.Prelude.{◌≡◌, ℕ, zero, suc, ◌+◌, ◌^◌, ◌<◌, ◌≤◌, min, Bool, true, false, cond, Option, Some, None, List, ◌∷◌}
+use Rattle.std.specs.Prelude.{◌≡◌, ℕ, zero, suc, ◌+◌, ◌^◌, ◌<◌, ◌≤◌, min, Bool, true, false, cond, Option, Some, None, List, ◌∷◌, ◌&&◌, ◌==◌, not, bit_and}
 use Rattle.rv_model.specs.declared.elf.ProgramHeader.{ProgramHeader}
-use Rattle.rv_model.specs.Image.{stack}
+use Rattle.rv_model.specs.Image.{stack, touches}
 use Rattle.elf_load.specs.Headers.{first_headers}
 
 -- the first page from a page on that passes a test
@@ -33,3 +33,7 @@ first_placed image number = stack ∷ first_headers image number
 -- a loadable segment ends at or below address 2^48
 abbrev pub EndsInMemory : ProgramHeader → Type 0
 EndsInMemory header = header.kind ≡ 1 → header.address + header.memory_size ≤ 2 ^ 48
+
+-- whether a segment touches a page and has a flag
+abbrev pub allows : ℕ → ℕ → ProgramHeader → Bool
+allows flag page header = touches page header && not (bit_and header.flags flag == 0)

@@ -4,6 +4,8 @@
 mod faults;
 mod fields;
 mod pages;
+mod permissions;
+mod placing;
 mod plan;
 
 pub use plan::{Plan, check};

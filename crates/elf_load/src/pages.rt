@@ -9,7 +9,7 @@ use rv_model::ProgramHeader;
 use crate::faults::LOAD;
 use crate::fields::{header_count, program_header};
 
-const PAGE_SIZE: u64 = 4096;
+pub const PAGE_SIZE: u64 = 4096;
 
 // The stack as a segment.
 #[tactic(auto, unfolding(rv_model::specs::Image::stack))]
