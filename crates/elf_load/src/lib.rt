@@ -8,5 +8,5 @@ mod permissions;
 mod placing;
 mod plan;
 
-pub use plan::{Plan, check};
+pub use plan::{Plan, check, place};
 pub use rv_model::ElfFault;

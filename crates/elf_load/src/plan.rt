@@ -1,17 +1,21 @@
-//! An image that was checked.
-ghost use Rattle.std.specs.Prelude.{◌≡◌, ◌≤◌, ◌↔◌, None, Some, IsSome, IfSome, IfOk, IfErr, OnOk};
+//! An image that was checked, and its place in a user's memory.
+ghost use Rattle.std.specs.Prelude.{◌≡◌, ◌<◌, ◌≤◌, ◌↔◌, None, Some, Err, IsSome, IfSome, IfOk, IfErr, OnOk, OnErr};
 ghost use Rattle.rv_model.specs.ElfFields.{entry_of};
 ghost use Rattle.rv_model.specs.ElfFaults.{first_fault};
 ghost use Rattle.rv_model.specs.Image.{memory_of_image};
 ghost use Rattle.rv_model.specs.Memory.{page_count};
+ghost use Rattle.user_mem.specs.Users.{with_memory};
 
+use std::alloc::Allocator;
 use std::marker::Model;
 
-use rv_model::ElfFault;
+use rv_model::{ElfFault, MapRefusal, User};
+use user_mem::Pool;
 
 use crate::faults::first_fault;
 use crate::fields::entry;
 use crate::pages::next_page;
+use crate::placing::place_image;
 
 /// An image with no fault, and so where its segments go.
 ///
@@ -66,4 +70,21 @@ impl Plan<'_> {
         }
         None
     }
+}
+
+/// Gives a user the memory that an image describes in place of all the user's pages, and answers the entry.
+///
+/// `Quota` where the image takes more than 256 pages, and then nothing has changed. The old pages don't count.
+pub fn place<A: Allocator>(plan: &Plan<'_>, user: User, pool: &mut Pool<A>) -> Result<u64, MapRefusal>
+    ensures quota { (result ≡ Err MapRefusal.Quota) ↔ (256 < page_count (memory_of_image plan.now)) }
+    ensures only_quota { IfErr result (λ refusal. refusal ≡ MapRefusal.Quota) }
+    ensures refused { OnErr result (pool.new ≡ pool.old) }
+    ensures entry { IfOk result (λ entry. entry ≡ entry_of plan.now) }
+    ensures memory { OnOk result (pool.new ≡ with_memory pool.old user (memory_of_image plan.now)) }
+{
+    let Some(_) = plan.pages() else {
+        return Err(MapRefusal::Quota);
+    };
+    place_image(plan.image, user, pool);
+    Ok(plan.entry())
 }
