@@ -1,5 +1,5 @@
 -- Loops over the program headers
-use Rattle.std.proofs.Common.{◌≡◌, ℕ, ◌+◌, ◌<◌, ◌≤◌, Bool, true, false, List, [], ◌∷◌, ◌++◌, ◌||◌, length, get_or, map, refl, sym, ◌∙◌, ap, arith}
+use Rattle.std.proofs.Common.{◌≡◌, ℕ, zero, suc, ◌+◌, ◌<◌, ◌≤◌, Bool, true, false, List, [], ◌∷◌, ◌++◌, ◌||◌, length, get_or, map, refl, sym, ◌∙◌, ap, arith}
 use Rattle.std.specs.List.{list_any, range_with_len}
 use Rattle.std.proofs.lemmas.List.Folds.{list_any-append, list_any_at}
 use Rattle.std.proofs.lemmas.List.FromFn.{length-map-range_with_len, get_or-map-range_with_len, map-range_with_len_more}
@@ -46,3 +46,14 @@ none_at p image number l h = split (p (program_header image number)) refl
     split : (b : Bool) → p (program_header image number) ≡ b → p (program_header image number) ≡ false
     split true e = let found = any_at p image number l e in absurd (let bad : true ≡ false = sym found ∙ h in cc)
     split false e = e
+
+none_below : (p : ProgramHeader → Bool) (image : List ℕ) (number : ℕ) → ((k : ℕ) → k < number → p (program_header image k) ≡ false) → list_any p (first_headers image number) ≡ false
+none_below p image zero h = any_none p image
+none_below p image (suc number) h =
+    let next : suc number ≡ number + 1 = omega arith in
+    ap (λ (n : ℕ). list_any p (first_headers image n)) next ∙ any_more p image number
+    ∙ ap (λ (b : Bool). b || p (program_header image number)) (none_below p image number (λ k l. h k (omega arith))) ∙ h number (omega arith)
+
+-- where each of them fails
+pub none_of_all : (p : ProgramHeader → Bool) (image : List ℕ) → ((k : ℕ) → k < header_count image → p (program_header image k) ≡ false) → list_any p (program_headers image) ≡ false
+none_of_all p image h = ap (list_any p) (sym (first_headers_all image (header_count image) refl)) ∙ none_below p image (header_count image) h

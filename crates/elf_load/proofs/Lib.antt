@@ -1,3 +1,4 @@
+pub mod CellLaws
 pub mod FaultLaws
 pub mod HeaderLaws
 pub mod ImageLaws

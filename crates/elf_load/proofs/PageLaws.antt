@@ -52,7 +52,7 @@ touched_none header from page last some e f l q m = elim (cases_lt q (header.add
 
 -- ---- the first page
 
-neither : (a b : Bool) → a ≡ false → b ≡ false → (a || b) ≡ false
+pub neither : (a b : Bool) → a ≡ false → b ≡ false → (a || b) ≡ false
 neither a b e f = ap (λ (x : Bool). x || b) e ∙ f
 
 on_left : (a b : Bool) → a ≡ true → (a || b) ≡ true

@@ -81,7 +81,7 @@ put_no_zeros m a = refl
 
 -- ---- its bytes
 
-covers_within : (x : ℕ) (header : ProgramHeader) → header.kind ≡ 1 → header.address ≤ x → x < header.address + header.memory_size → covers x header ≡ true
+pub covers_within : (x : ℕ) (header : ProgramHeader) → header.kind ≡ 1 → header.address ≤ x → x < header.address + header.memory_size → covers x header ≡ true
 unfolding covers
 covers_within x header kind low high = grind (arith, kind, low, high)
 

@@ -3,10 +3,12 @@
 
 mod faults;
 mod fields;
+mod laws;
 mod pages;
 mod permissions;
 mod placing;
 mod plan;
 
+pub use laws::image_laws;
 pub use plan::{Plan, check, place};
 pub use rv_model::ElfFault;

@@ -19,7 +19,7 @@ use crate::fields::{header_count, program_header};
 use crate::pages::next_page;
 use crate::permissions::permissions_of;
 
-const CHUNK: usize = 64;
+const CHUNK: usize = 4096;
 
 // Writes bytes of a user, all of which are mapped.
 fn write_mapped<A: Allocator>(pool: &mut Pool<A>, user: User, addr: u64, bytes: &[u8])

@@ -88,3 +88,6 @@ pub fn place<A: Allocator>(plan: &Plan<'_>, user: User, pool: &mut Pool<A>) -> R
     place_image(plan.image, user, pool);
     Ok(plan.entry())
 }
+
+#[cfg(test)]
+mod tests;

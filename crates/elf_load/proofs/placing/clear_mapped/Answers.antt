@@ -7,10 +7,10 @@ loop-done-init g c = record { pool = clear_none c.args.pool.now c.args.user c.ar
 
 pub write_mapped-requires : goal.write_mapped-requires
 write_mapped-requires g c =
-    may_clear c.args.pool.now c.loop-done.pool c.args.user c.args.addr c.loop-done.done c.min-size.result 64 c.args.count c.requires.known (omega arith) (omega arith) c.loop-done.invariant.pool c.requires.mapped
+    may_clear c.args.pool.now c.loop-done.pool c.args.user c.args.addr c.loop-done.done c.min-size.result 4096 c.args.count c.requires.known (omega arith) (omega arith) c.loop-done.invariant.pool c.requires.mapped
 
 pub loop-done-preserved : goal.loop-done-preserved
 loop-done-preserved g c = record {
-  pool = clear_more c.args.pool.now c.loop-done.pool c.write_mapped.new.pool c.args.user c.args.addr c.loop-done.done c.min-size.result 64 c.requires.known (omega arith) c.loop-done.invariant.pool c.write_mapped.ensures;
+  pool = clear_more c.args.pool.now c.loop-done.pool c.write_mapped.new.pool c.args.user c.args.addr c.loop-done.done c.min-size.result 4096 c.requires.known (omega arith) c.loop-done.invariant.pool c.write_mapped.ensures;
   some = omega arith;
 }
