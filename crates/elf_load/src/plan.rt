@@ -1,6 +1,6 @@
 //! An image that was checked, and its place in a user's memory.
 ghost use Rattle.std.specs.Prelude.{◌≡◌, ◌<◌, ◌≤◌, ◌↔◌, None, Some, Err, IsSome, IfSome, IfOk, IfErr, OnOk, OnErr};
-ghost use Rattle.rv_model.specs.ElfFields.{entry_of};
+ghost use Rattle.rv_model.specs.ElfFields.{entry_of, header_count, program_header};
 ghost use Rattle.rv_model.specs.ElfFaults.{first_fault};
 ghost use Rattle.rv_model.specs.Image.{memory_of_image};
 ghost use Rattle.rv_model.specs.Memory.{page_count};
@@ -9,11 +9,11 @@ ghost use Rattle.user_mem.specs.Users.{with_memory};
 use std::alloc::Allocator;
 use std::marker::Model;
 
-use rv_model::{ElfFault, MapRefusal, User};
+use rv_model::{ElfFault, MapRefusal, ProgramHeader, User};
 use user_mem::Pool;
 
 use crate::faults::first_fault;
-use crate::fields::entry;
+use crate::fields::{entry, header_count, program_header};
 use crate::pages::next_page;
 use crate::placing::place_image;
 
@@ -54,6 +54,21 @@ impl Plan<'_> {
         ensures { result ≡ entry_of self.now }
     {
         entry(self.image)
+    }
+
+    /// How many program headers the image has.
+    pub fn header_count(&self) -> usize
+        ensures { result ≡ header_count self.now }
+    {
+        usize::from(header_count(self.image))
+    }
+
+    /// The program header of a number, from 0.
+    pub fn program_header(&self, number: usize) -> ProgramHeader
+        requires { number < header_count self.now }
+        ensures { result ≡ program_header self.now number }
+    {
+        program_header(self.image, number)
     }
 
     /// How many pages the image takes with its stack, and `None` above 256. It looks at 257 of them at most.
