@@ -1,12 +1,10 @@
 -- An image's memory by address, and its pages by address
-use Rattle.std.proofs.Common.{◌≡◌, ℕ, ◌+◌, ◌*◌, ◌/◌, ◌^◌, ◌<◌, ◌≤◌, min, max, Bool, true, false, List, ◌||◌, Option, Some, None, refl, sym, ◌∙◌, ap, ◌⊎◌, inl, inr, arith}
+use Rattle.std.proofs.Common.{◌≡◌, ℕ, ◌+◌, ◌*◌, ◌/◌, ◌^◌, ◌<◌, ◌≤◌, min, max, Bool, true, false, List, Some, None, sym, ◌∙◌, ap, inl, inr, arith}
 use Rattle.std.specs.Prelude.{if◌then◌else◌}
-use Rattle.std.specs.FinMap.{get}
 use Rattle.std.proofs.lemmas.Bool.{cases_eq, cases_lt}
 use Rattle.rv_model.specs.declared.elf.ProgramHeader.{ProgramHeader}
-use Rattle.rv_model.specs.ElfFields.{header_count, program_header}
+use Rattle.rv_model.specs.ElfFields.{program_header}
 use Rattle.rv_model.specs.ElfFaults.{first_fault}
-use Rattle.rv_model.specs.Memory.{Cell}
 use Rattle.rv_model.specs.Image.{stack, placed, covers, touches, is_touched, byte_of, permissions_of, cell_of, all_pages, memory_of_image}
 use Rattle.elf_load.specs.Pages.{EndsInMemory}
 use Rattle.elf_load.specs.Laws.{HoldsItsCells, TouchesWhatItCovers}
@@ -65,8 +63,9 @@ unfolding covers
 covers_high header x t = grind (arith, t)
 
 pub touches_what_it_covers : TouchesWhatItCovers
-touches_what_it_covers header page =
-    ( λ t. (let load = touches_load header page t in let below = touches_below header page t in
-        (max header.address (4096 * page), (omega arith, covers_within (max header.address (4096 * page)) header load (omega arith) (omega arith)))),
-      λ p. (let load = covers_load header p.0 p.1.1 in let low = covers_low header p.0 p.1.1 in let high = covers_high header p.0 p.1.1 in let place = p.1.0 in
-        touches_at header page load (omega arith) (omega arith) (omega arith)) )
+touches_what_it_covers header page = (
+  λ t. (let load = touches_load header page t in let below = touches_below header page t in
+      (max header.address (4096 * page), (omega arith, covers_within (max header.address (4096 * page)) header load (omega arith) (omega arith)))),
+  λ p. (let load = covers_load header p.0 p.1.1 in let low = covers_low header p.0 p.1.1 in let high = covers_high header p.0 p.1.1 in let place = p.1.0 in
+      touches_at header page load (omega arith) (omega arith) (omega arith)),
+)

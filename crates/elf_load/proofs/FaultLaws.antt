@@ -1,12 +1,11 @@
 -- What follows from the faults that an image hasn't
-use Rattle.std.proofs.Common.{◌≡◌, ℕ, zero, suc, ◌+◌, ◌*◌, ◌%◌, ◌<◌, ◌≤◌, Bool, true, false, List, [], ◌∷◌, ◌++◌, length, get_or, cond, Option, Some, None, refl, sym, ◌∙◌, ap, arith, rules}
-use Rattle.std.specs.Prelude.{find, nat_lt, not, ◌==◌, ◌&&◌}
+use Rattle.std.proofs.Common.{◌≡◌, ℕ, zero, suc, ◌+◌, ◌*◌, ◌%◌, ◌<◌, ◌≤◌, Bool, true, false, List, [], ◌∷◌, ◌++◌, length, get_or, cond, Some, None, refl, sym, ◌∙◌, ap, arith}
+use Rattle.std.specs.Prelude.{find}
 use Rattle.rv_model.specs.declared.elf.ElfFault.{ElfFault}
 use Rattle.rv_model.specs.declared.elf.ElfFault.TheVariants.{BadShort, BadHeaderTable, BadFileSize, BadOutside, BadAddress, BadEntry}
-use Rattle.rv_model.specs.ElfFields.{entry_of, table_offset, header_count, program_header}
-use Rattle.rv_model.specs.ElfFaults.{has_fault, header_has, any_header_has, file_faults, table_faults, segment_faults, all_faults, first_fault}
+use Rattle.rv_model.specs.ElfFields.{entry_of, table_offset, header_count}
+use Rattle.rv_model.specs.ElfFaults.{has_fault, any_header_has, file_faults, table_faults, segment_faults, all_faults, first_fault}
 use Rattle.elf_load.specs.Headers.{HasHeaders}
-use Rattle.elf_load.proofs.HeaderLaws.{none_at}
 
 -- ---- the first that passes
 
@@ -31,7 +30,7 @@ none_found p [] i d e l = absurd (omega arith)
 none_found p (x ∷ xs) i d e l = split (p x) refl (λ j h m. none_found p xs j d h m) e i l
   where
     split : (b : Bool) → p x ≡ b → ((j : ℕ) → find p xs ≡ None → j < length xs → p (get_or xs j d) ≡ false)
-      → cond b (Some x) (find p xs) ≡ None → (j : ℕ) → j < length (x ∷ xs) → p (get_or (x ∷ xs) j d) ≡ false
+        → cond b (Some x) (find p xs) ≡ None → (j : ℕ) → j < length (x ∷ xs) → p (get_or (x ∷ xs) j d) ≡ false
     split true q rest h j m = absurd (cc)
     split false q rest h zero m = q
     split false q rest h (suc j) m = rest j h (omega arith)
@@ -67,11 +66,11 @@ past_segments : (image : List ℕ) → find (has_fault image) file_faults ≡ No
 past_segments image e g h = past_table image e g ∙ found_later (has_fault image) segment_faults (BadEntry ∷ []) h
 
 pub first_is_entry : (image : List ℕ) (entry : ℕ) → find (has_fault image) file_faults ≡ None → find (has_fault image) table_faults ≡ None → find (has_fault image) segment_faults ≡ None
-  → entry ≡ entry_of image → (entry % 4 ≡ 0 → ⊥) → first_fault image ≡ Some BadEntry
+    → entry ≡ entry_of image → (entry % 4 ≡ 0 → ⊥) → first_fault image ≡ Some BadEntry
 first_is_entry image entry e g h v odd = past_segments image e g h ∙ ap (λ (b : Bool). cond b (Some BadEntry) None) (entry_is_bad image (λ q. odd (ap (λ (n : ℕ). n % 4) v ∙ q)))
 
 pub no_fault : (image : List ℕ) (entry : ℕ) → find (has_fault image) file_faults ≡ None → find (has_fault image) table_faults ≡ None → find (has_fault image) segment_faults ≡ None
-  → entry ≡ entry_of image → entry % 4 ≡ 0 → first_fault image ≡ None
+    → entry ≡ entry_of image → entry % 4 ≡ 0 → first_fault image ≡ None
 no_fault image entry e g h v even = past_segments image e g h ∙ ap (λ (b : Bool). cond b (Some BadEntry) None) (entry_is_good image (sym (ap (λ (n : ℕ). n % 4) v) ∙ even))
 
 -- ---- the headers are there

@@ -1,5 +1,5 @@
 -- Loops over the program headers
-use Rattle.std.proofs.Common.{◌≡◌, ℕ, zero, suc, ◌+◌, ◌<◌, ◌≤◌, Bool, true, false, List, [], ◌∷◌, ◌++◌, ◌||◌, length, get_or, map, refl, sym, ◌∙◌, ap, arith}
+use Rattle.std.proofs.Common.{◌≡◌, ℕ, zero, suc, ◌+◌, ◌<◌, Bool, true, false, List, [], ◌∷◌, ◌++◌, ◌||◌, map, refl, sym, ◌∙◌, ap, arith}
 use Rattle.std.specs.List.{list_any, range_with_len}
 use Rattle.std.proofs.lemmas.List.Folds.{list_any-append, list_any_at}
 use Rattle.std.proofs.lemmas.List.FromFn.{length-map-range_with_len, get_or-map-range_with_len, map-range_with_len_more}
@@ -24,7 +24,7 @@ unfolding first_headers
 any_none p image = refl
 
 pub any_more : (p : ProgramHeader → Bool) (image : List ℕ) (number : ℕ)
-  → list_any p (first_headers image (number + 1)) ≡ (list_any p (first_headers image number) || p (program_header image number))
+    → list_any p (first_headers image (number + 1)) ≡ (list_any p (first_headers image number) || p (program_header image number))
 any_more p image number =
     ap (list_any p) (first_headers_more image number)
     ∙ list_any-append p (first_headers image number) (program_header image number ∷ [])

@@ -1,11 +1,10 @@
 -- The memory that an image describes, address by address, and how many pages it has
-use Rattle.std.proofs.Common.{◌≡◌, ◌≢◌, ℕ, zero, suc, ◌+◌, ◌*◌, ◌/◌, ◌^◌, ◌<◌, ◌≤◌, Bool, true, false, cond, List, Option, Some, None, refl, sym, ◌∙◌, ap, subst, ◌⊎◌, inl, inr, arith}
-use Rattle.std.specs.Prelude.{is_some, nat_lt, ◌&&◌, if◌then◌else◌}
+use Rattle.std.proofs.Common.{◌≡◌, ◌≢◌, ℕ, zero, suc, ◌+◌, ◌*◌, ◌/◌, ◌^◌, ◌<◌, ◌≤◌, Bool, true, false, cond, List, Option, Some, None, refl, sym, ◌∙◌, ap, subst, inl, inr, arith}
+use Rattle.std.specs.Prelude.{is_some, if◌then◌else◌}
 use Rattle.std.specs.Cmp.{nat_cmp_total}
 use Rattle.std.specs.Ordering.{nat_cmp}
-use Rattle.std.specs.FinMap.{FinMap, empty, get, insert, len, get-empty, len-empty, len-insert}
+use Rattle.std.specs.FinMap.{get, len, get-empty, len-empty, len-insert}
 use Rattle.std.proofs.lemmas.Bool.{cases_eq, cases_lt}
-use Rattle.rv_model.specs.declared.elf.ProgramHeader.{ProgramHeader}
 use Rattle.rv_model.specs.Memory.{Cell, Memory, page_count}
 use Rattle.rv_model.specs.Image.{placed, is_touched, cell_of, with_cell, memory_below, all_pages, memory_of_image}
 use Rattle.rv_model.proofs.MemoryLaws.{same_memory, get-insert_same, get-insert_other}
@@ -57,7 +56,7 @@ len-memory_below cells n = len-with_cell (memory_below cells n) n (cells n) (get
 
 -- of one page
 len_in_page : (cells : ℕ → Option Cell) (t : ℕ → Bool) → ((x : ℕ) → is_some (cells x) ≡ t (x / 4096)) → (n k : ℕ) → k ≤ 4096
-  → len (memory_below cells (4096 * n + k)) ≡ len (memory_below cells (4096 * n)) + cond (t n) k 0
+    → len (memory_below cells (4096 * n + k)) ≡ len (memory_below cells (4096 * n)) + cond (t n) k 0
 len_in_page cells t same n zero l =
     ap (λ (y : ℕ). len (memory_below cells y)) (omega arith) ∙ none (len (memory_below cells (4096 * n))) (t n)
   where
@@ -112,7 +111,7 @@ no_pages t = refl
 
 -- no page is left
 pub counted_all : (image image' : List ℕ) (from count : ℕ) → image ≡ image' → ((q : ℕ) → from ≤ q → is_touched (placed image) q ≡ false) → from ≤ 2 ^ 36 → pages_below (is_touched (placed image)) from ≡ count
-  → count ≡ page_count (memory_of_image image')
+    → count ≡ page_count (memory_of_image image')
 counted_all image image' from count same none bound counted =
     sym counted ∙ sym (pages_below_skipped (is_touched (placed image)) from all_pages (omega (arith, all_pages_are)) (λ q l m. none q l))
     ∙ sym (page_count-image image) ∙ ap (λ (xs : List ℕ). page_count (memory_of_image xs)) same

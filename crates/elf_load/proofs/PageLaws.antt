@@ -1,12 +1,11 @@
 -- The pages that segments touch, and how many they are
-use Rattle.std.proofs.Common.{◌≡◌, ℕ, zero, suc, ◌+◌, ◌-◌, ◌*◌, ◌/◌, ◌^◌, ◌<◌, ◌≤◌, min, max, Bool, true, false, List, [], ◌∷◌, ◌++◌, ◌||◌, length, cond, Option, Some, None, IfSome, lit≤, refl, sym, ◌∙◌, ap, subst, arith, rules, ◌⊎◌, inl, inr}
-use Rattle.std.specs.Prelude.{nat_lt, ◌==◌, ◌&&◌}
+use Rattle.std.proofs.Common.{◌≡◌, ℕ, zero, suc, ◌+◌, ◌-◌, ◌*◌, ◌/◌, ◌<◌, ◌≤◌, min, max, Bool, true, false, List, ◌∷◌, ◌||◌, length, cond, Option, Some, None, IfSome, lit≤, refl, sym, ◌∙◌, ap, subst, arith, inl, inr}
 use Rattle.std.specs.List.{list_any}
 use Rattle.std.proofs.lemmas.Bool.{cases_eq, cases_lt}
 use Rattle.rv_model.specs.declared.elf.ProgramHeader.{ProgramHeader}
-use Rattle.rv_model.specs.ElfFields.{header_count, program_header, program_headers}
+use Rattle.rv_model.specs.ElfFields.{header_count, program_header}
 use Rattle.rv_model.specs.declared.elf.ElfFault.TheVariants.{BadAddress}
-use Rattle.rv_model.specs.ElfFaults.{is_load, header_has, first_fault}
+use Rattle.rv_model.specs.ElfFaults.{header_has, first_fault}
 use Rattle.rv_model.specs.Image.{stack, placed, touches, is_touched, is_allowed_by}
 use Rattle.elf_load.specs.Headers.{first_headers}
 use Rattle.elf_load.specs.Pages.{IsFirst, IsFirstIfAny, earlier, pages_below, first_placed, EndsInMemory, allows}
@@ -36,7 +35,7 @@ unfolding touches
 touches_after header page high = grind (arith, high)
 
 pub touched_first : (header : ProgramHeader) (from page last : ℕ) → header.kind ≡ 1 → (header.memory_size ≡ 0 → ⊥) → page ≡ max (header.address / 4096) from → last ≡ (header.address + header.memory_size - 1) / 4096 → page ≤ last
-  → IsFirst (λ p. touches p header) from page
+    → IsFirst (λ p. touches p header) from page
 touched_first header from page last kind some e f l = record {
   start = omega arith;
   passes = touches_at header page kind (omega arith) (omega arith) (omega arith);
@@ -44,7 +43,7 @@ touched_first header from page last kind some e f l = record {
 }
 
 pub touched_none : (header : ProgramHeader) (from page last : ℕ) → (header.memory_size ≡ 0 → ⊥) → page ≡ max (header.address / 4096) from → last ≡ (header.address + header.memory_size - 1) / 4096 → last < page
-  → (q : ℕ) → from ≤ q → touches q header ≡ false
+    → (q : ℕ) → from ≤ q → touches q header ≡ false
 touched_none header from page last some e f l q m = elim (cases_lt q (header.address / 4096)) [
   | inl low ↦ touches_before header q (omega arith)
   | inr high ↦ touches_after header q (omega arith)
@@ -63,7 +62,7 @@ on_right true b e = refl
 on_right false b e = e
 
 first_of_both : (t u : ℕ → Bool) (from page : ℕ) → from ≤ page → (t page || u page) ≡ true
-  → ((q : ℕ) → from ≤ q → q < page → t q ≡ false) → ((q : ℕ) → from ≤ q → q < page → u q ≡ false) → IsFirst (λ p. t p || u p) from page
+    → ((q : ℕ) → from ≤ q → q < page → t q ≡ false) → ((q : ℕ) → from ≤ q → q < page → u q ≡ false) → IsFirst (λ p. t p || u p) from page
 first_of_both t u from page start passes f g = record {
   start = start;
   passes = passes;
@@ -130,7 +129,7 @@ unfolding first_placed
 first_placed_all image number e = ap (λ (hs : List ProgramHeader). stack ∷ hs) (first_headers_all image number e)
 
 pub is_touched_more : (image : List ℕ) (number page : ℕ)
-  → is_touched (first_placed image (number + 1)) page ≡ (is_touched (first_placed image number) page || touches page (program_header image number))
+    → is_touched (first_placed image (number + 1)) page ≡ (is_touched (first_placed image number) page || touches page (program_header image number))
 unfolding first_placed is_touched
 is_touched_more image number page =
     ap (λ (b : Bool). touches page stack || b) (any_more (touches page) image number)
@@ -155,7 +154,7 @@ earlier_below (Some x) (Some y) n f g = omega (arith, f, g)
 
 -- one more program header
 pub next_more : (image : List ℕ) (number from : ℕ) (a b : Option ℕ) → IsFirstIfAny (is_touched (first_placed image number)) from a → IsFirstIfAny (λ p. touches p (program_header image number)) from b
-  → IsFirstIfAny (is_touched (first_placed image (number + 1))) from (earlier a b)
+    → IsFirstIfAny (is_touched (first_placed image (number + 1))) from (earlier a b)
 next_more image number from a b f g =
     first_along (λ p. is_touched (first_placed image number) p || touches p (program_header image number)) (is_touched (first_placed image (number + 1))) from (earlier a b)
     (λ p. sym (is_touched_more image number p))
@@ -191,6 +190,6 @@ unfolding is_allowed_by
 is_allowed_at image flag page number l e = on_right (allows flag page stack) _ (any_at (allows flag page) image number l e)
 
 pub is_allowed_none : (image : List ℕ) (flag page number : ℕ) → number ≡ header_count image → allows flag page stack ≡ false → list_any (allows flag page) (first_headers image number) ≡ false
-  → is_allowed_by flag (placed image) page ≡ false
+    → is_allowed_by flag (placed image) page ≡ false
 unfolding is_allowed_by
 is_allowed_none image flag page number all e f = neither (allows flag page stack) _ e (ap (list_any (allows flag page)) (sym (first_headers_all image number all)) ∙ f)

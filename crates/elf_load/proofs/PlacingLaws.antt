@@ -1,7 +1,7 @@
 -- How the memory of an image grows page by page and is filled segment by segment
-use Rattle.std.proofs.Common.{◌≡◌, ◌≢◌, ℕ, zero, suc, ◌+◌, ◌-◌, ◌*◌, ◌/◌, ◌^◌, ◌<◌, ◌≤◌, min, Bool, true, false, cond, List, [], ◌∷◌, ◌++◌, ◌||◌, length, get_or, take, drop, replicate, map, reverse, Option, Some, None, refl, sym, ◌∙◌, ap, subst, ◌⊎◌, inl, inr, arith, rules}
+use Rattle.std.proofs.Common.{◌≡◌, ◌≢◌, ℕ, zero, suc, ◌+◌, ◌-◌, ◌*◌, ◌/◌, ◌<◌, ◌≤◌, min, Bool, true, false, cond, List, [], ◌∷◌, ◌++◌, length, get_or, reverse, Option, Some, None, refl, sym, ◌∙◌, ap, ◌⊎◌, inl, inr, arith}
 use Rattle.std.specs.Prelude.{find, is_some, nat_lt, ◌&&◌, if◌then◌else◌}
-use Rattle.std.specs.FinMap.{FinMap, empty, get, len, contains_key, get-empty}
+use Rattle.std.specs.FinMap.{empty, get, contains_key, get-empty}
 use Rattle.std.specs.Ordering.{nat_cmp}
 use Rattle.std.specs.Option.{option_map_or}
 use Rattle.std.proofs.lemmas.List.{reverse-append}
@@ -9,15 +9,15 @@ use Rattle.std.proofs.lemmas.Bool.{cases_eq, cases_lt}
 use Rattle.rv_model.specs.declared.elf.ProgramHeader.{ProgramHeader}
 use Rattle.rv_model.specs.declared.memory.Permissions.{Permissions}
 use Rattle.rv_model.specs.declared.memory.Access.TheVariants.{Monitor}
-use Rattle.rv_model.specs.Memory.{Cell, Memory, add_cells, with_pages, page_count, any_page_mapped, map_refusal, put_bytes, permits, is_allowed}
+use Rattle.rv_model.specs.Memory.{Cell, Memory, with_pages, page_count, map_refusal, put_bytes, permits, is_allowed}
 use Rattle.rv_model.specs.ElfFields.{header_count, program_header}
-use Rattle.rv_model.specs.Image.{stack, covers, byte_in, placed, is_touched, permissions_of, byte_of, cell_of, memory_below, all_pages, memory_of_image}
+use Rattle.rv_model.specs.Image.{stack, covers, byte_in, placed, is_touched, permissions_of, byte_of, cell_of, all_pages, memory_of_image}
 use Rattle.rv_model.proofs.MemoryLaws.{same_memory, get-add_cells_within, get-add_cells_outside, any_page_mapped_none, map_refusal_none, with_byte, get-put_bytes_within, get-put_bytes_outside}
 use Rattle.elf_load.specs.Headers.{first_headers}
 use Rattle.elf_load.specs.Pages.{IsFirst, pages_below, first_placed}
 use Rattle.elf_load.specs.Placing.{cells_with, memory_with, blank_memory, memory_after}
 use Rattle.elf_load.proofs.HeaderLaws.{first_headers_more}
-use Rattle.elf_load.proofs.PageLaws.{first_placed_all, pages_below_skipped, pages_below_next, pages_below_le}
+use Rattle.elf_load.proofs.PageLaws.{first_placed_all, pages_below_next, pages_below_le}
 use Rattle.elf_load.proofs.ImageLaws.{get-memory_below, get-memory_below_outside, is_memory_below, len-memory_below_pages, page_count-image}
 
 -- ---- cells and memories with them
@@ -84,7 +84,7 @@ get-with_page_other m page permissions x e =
 
 -- one more page
 pub blank_more : (image : List ℕ) (from page : ℕ) → page < all_pages → IsFirst (is_touched (placed image)) from page
-  → with_pages (blank_memory image from) page 1 (permissions_of (placed image) page) ≡ blank_memory image (page + 1)
+    → with_pages (blank_memory image from) page 1 (permissions_of (placed image) page) ≡ blank_memory image (page + 1)
 unfolding cell_in
 blank_more image from page l first =
     is_memory_with (with_pages (blank_memory image from) page 1 (permissions_of (placed image) page)) image (λ _. 0) (page + 1) (omega arith) (λ x. elim (cases_eq (x / 4096) page) [
@@ -130,6 +130,7 @@ cut_at_end t end (suc n) = elim (cases_lt n end) [
   where
     within : n < end → (nat_lt n end && t n) ≡ t n
     within l = grind (arith, l)
+
     beyond : end ≤ n → (nat_lt n end && t n) ≡ false
     beyond l = grind (arith, l)
 
@@ -142,7 +143,7 @@ page_count-blank : (image : List ℕ) (end : ℕ) → end ≤ all_pages → page
 unfolding memory_with page_count below_end
 page_count-blank image end l =
     let size = len-memory_below_pages (cells_with image (λ _. 0) end) (below_end end (is_touched (placed image)))
-      (λ x. ap is_some (cells_with-is image (λ _. 0) end x _ refl) ∙ is_some-cell image (λ _. 0) x _) all_pages in
+    (λ x. ap is_some (cells_with-is image (λ _. 0) end x _ refl) ∙ is_some-cell image (λ _. 0) x _) all_pages in
     let cut = cut_at_end (is_touched (placed image)) end all_pages in
     let least : min all_pages end ≡ end = omega arith in
     omega (arith, size, cut, ap (pages_below (is_touched (placed image))) least)
@@ -154,19 +155,19 @@ not_there image from page l m =
     ∙ cells_with-is image (λ _. 0) from (4096 * page) false (past_end from (4096 * page) (is_touched (placed image) ((4096 * page) / 4096)) (omega arith)))
 
 pub blank_accepted : (image : List ℕ) (from page : ℕ) → page < all_pages → IsFirst (is_touched (placed image)) from page → page_count (memory_of_image image) ≤ 256
-  → map_refusal (blank_memory image from) page 1 ≡ None
+    → map_refusal (blank_memory image from) page 1 ≡ None
 blank_accepted image from page l first few =
     let room : page_count (blank_memory image from) + 1 ≤ 256 = (
-      let s = first.start in
-      let so_far = page_count-blank image from (omega arith) in
-      let next = pages_below_next (is_touched (placed image)) from page first in
-      let total = page_count-image image in
-      let le = pages_below_le (is_touched (placed image)) (page + 1) all_pages (omega arith) in
-      omega arith) in
+    let s = first.start in
+    let so_far = page_count-blank image from (omega arith) in
+    let next = pages_below_next (is_touched (placed image)) from page first in
+    let total = page_count-image image in
+    let le = pages_below_le (is_touched (placed image)) (page + 1) all_pages (omega arith) in
+    omega arith) in
     map_refusal_none (blank_memory image from) page 1 room
     (any_page_mapped_none (blank_memory image from) page 1 (λ k small.
-      let place : page + k ≡ page = omega arith in
-      ap (λ (p : ℕ). contains_key (blank_memory image from) (4096 * p)) place ∙ not_there image from page l first.start))
+    let place : page + k ≡ page = omega arith in
+    ap (λ (p : ℕ). contains_key (blank_memory image from) (4096 * p)) place ∙ not_there image from page l first.start))
 
 -- ---- segment by segment
 
@@ -175,7 +176,7 @@ unfolding first_placed
 first_placed_more image number = ap (λ (hs : List ProgramHeader). stack ∷ hs) (first_headers_more image number)
 
 byte_of_more : (image : List ℕ) (headers : List ProgramHeader) (header : ProgramHeader) (x : ℕ)
-  → byte_of image (headers ++ header ∷ []) x ≡ cond (covers x header) (byte_in image x header) (byte_of image headers x)
+    → byte_of image (headers ++ header ∷ []) x ≡ cond (covers x header) (byte_in image x header) (byte_of image headers x)
 unfolding byte_of
 byte_of_more image headers header x =
     ap (λ (hs : List ProgramHeader). option_map_or (byte_in image x) (find (covers x) hs) 0) (reverse-append headers (header ∷ []))
@@ -186,7 +187,7 @@ byte_of_more image headers header x =
     split false rest = refl
 
 pub byte_after : (image : List ℕ) (number x : ℕ)
-  → byte_of image (first_placed image (number + 1)) x ≡ cond (covers x (program_header image number)) (byte_in image x (program_header image number)) (byte_of image (first_placed image number) x)
+    → byte_of image (first_placed image (number + 1)) x ≡ cond (covers x (program_header image number)) (byte_in image x (program_header image number)) (byte_of image (first_placed image number) x)
 byte_after image number x =
     ap (λ (hs : List ProgramHeader). byte_of image hs x) (first_placed_more image number) ∙ byte_of_more image (first_placed image number) (program_header image number) x
 
@@ -217,28 +218,28 @@ unfolding memory_after memory_of_image cell_of cell_in
 memory_after_all image number e =
     is_memory_below (memory_after image number) (cell_of image) (4096 * all_pages)
     (λ x l. get-memory_with image (byte_of image (first_placed image number)) all_pages x (omega arith)
-      ∙ cells_with-is image (byte_of image (first_placed image number)) all_pages x (is_touched (placed image) (x / 4096)) (before_end all_pages x (is_touched (placed image) (x / 4096)) (omega arith))
-      ∙ ap (λ (hs : List ProgramHeader). cell_in image (byte_of image hs) x (is_touched (placed image) (x / 4096))) (first_placed_all image number e))
+    ∙ cells_with-is image (byte_of image (first_placed image number)) all_pages x (is_touched (placed image) (x / 4096)) (before_end all_pages x (is_touched (placed image) (x / 4096)) (omega arith))
+    ∙ ap (λ (hs : List ProgramHeader). cell_in image (byte_of image hs) x (is_touched (placed image) (x / 4096))) (first_placed_all image number e))
     (λ x g. get-memory_with image (byte_of image (first_placed image number)) all_pages x (omega arith)
-      ∙ cells_with-is image (byte_of image (first_placed image number)) all_pages x false (past_end all_pages x (is_touched (placed image) (x / 4096)) (omega arith)))
+    ∙ cells_with-is image (byte_of image (first_placed image number)) all_pages x false (past_end all_pages x (is_touched (placed image) (x / 4096)) (omega arith)))
 
 -- bytes written
 pub put_with : (image : List ℕ) (bytes other : ℕ → ℕ) (a : ℕ) (bs : List ℕ) → ((k : ℕ) → k < length bs → other (a + k) ≡ get_or bs k 0)
-  → ((x : ℕ) → ((x < a) ⊎ (a + length bs ≤ x)) → other x ≡ bytes x) → put_bytes (memory_with image bytes all_pages) a bs ≡ memory_with image other all_pages
+    → ((x : ℕ) → ((x < a) ⊎ (a + length bs ≤ x)) → other x ≡ bytes x) → put_bytes (memory_with image bytes all_pages) a bs ≡ memory_with image other all_pages
 unfolding cell_in
 put_with image bytes other a bs inside outside = is_memory_with (put_bytes (memory_with image bytes all_pages) a bs) image other all_pages (omega arith) (λ x. elim (cases_lt x a) [
-    | inl low ↦ kept x (inl low)
-    | inr from ↦ elim (cases_lt x (a + length bs)) [
-      | inl within ↦
-          let place : x ≡ a + (x - a) = omega arith in
-          let value : other x ≡ get_or bs (x - a) 0 = ap other place ∙ inside (x - a) (omega arith) in
-          get-put_bytes_within (memory_with image bytes all_pages) a bs (x - a) x (omega arith) place
-          ∙ ap (with_byte (get_or bs (x - a) 0)) (get-memory_with image bytes all_pages x (omega arith) ∙ cells_with-is image bytes all_pages x _ refl)
-          ∙ replaced x (get_or bs (x - a) 0) (nat_lt (x / 4096) all_pages && is_touched (placed image) (x / 4096)) value
-          ∙ sym (cells_with-is image other all_pages x _ refl)
-      | inr past ↦ kept x (inr past)
-    ]
-  ])
+  | inl low ↦ kept x (inl low)
+  | inr from ↦ elim (cases_lt x (a + length bs)) [
+    | inl within ↦
+        let place : x ≡ a + (x - a) = omega arith in
+        let value : other x ≡ get_or bs (x - a) 0 = ap other place ∙ inside (x - a) (omega arith) in
+        get-put_bytes_within (memory_with image bytes all_pages) a bs (x - a) x (omega arith) place
+        ∙ ap (with_byte (get_or bs (x - a) 0)) (get-memory_with image bytes all_pages x (omega arith) ∙ cells_with-is image bytes all_pages x _ refl)
+        ∙ replaced x (get_or bs (x - a) 0) (nat_lt (x / 4096) all_pages && is_touched (placed image) (x / 4096)) value
+        ∙ sym (cells_with-is image other all_pages x _ refl)
+    | inr past ↦ kept x (inr past)
+  ]
+])
   where
     kept : (x : ℕ) → ((x < a) ⊎ (a + length bs ≤ x)) → get (put_bytes (memory_with image bytes all_pages) a bs) x ≡ cells_with image other all_pages x
     kept x h =
@@ -247,6 +248,7 @@ put_with image bytes other a bs inside outside = is_memory_with (put_bytes (memo
         ∙ cells_with-is image bytes all_pages x _ refl
         ∙ ap (λ (n : ℕ). if (nat_lt (x / 4096) all_pages && is_touched (placed image) (x / 4096)) then Some (record { byte = n; permissions = permissions_of (placed image) (x / 4096) }) else None) (sym (outside x h))
         ∙ sym (cells_with-is image other all_pages x _ refl)
+
     replaced : (x n : ℕ) (b : Bool) → other x ≡ n → with_byte n (cell_in image bytes x b) ≡ cell_in image other x b
     replaced x n true e = ap (λ (v : ℕ). Some (record { byte = v; permissions = permissions_of (placed image) (x / 4096) })) (sym e)
     replaced x n false e = refl

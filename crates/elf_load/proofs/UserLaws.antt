@@ -1,5 +1,5 @@
 -- One user's memory replaced again and again
-use Rattle.std.proofs.Common.{◌≡◌, ℕ, ◌+◌, ◌-◌, ◌<◌, ◌≤◌, List, length, take, replicate, true, refl, sym, ◌∙◌, ap, subst, arith, length-set}
+use Rattle.std.proofs.Common.{◌≡◌, ℕ, ◌+◌, ◌-◌, ◌<◌, ◌≤◌, List, length, take, replicate, true, refl, sym, ◌∙◌, ap, arith}
 use Rattle.std.specs.FinMap.{empty}
 use Rattle.std.proofs.lemmas.List.{set-set, set-get_or, get_or-set_same, length-take-le, length-replicate}
 use Rattle.rv_model.specs.declared.memory.Access.TheVariants.{Monitor}
@@ -31,17 +31,17 @@ pub clear_none : (memories : List Memory) (user a : ℕ) → memories ≡ with_m
 clear_none memories user a = sym (ap (with_memory memories user) (sym (put_no_zeros (memory_of_user memories user) a)) ∙ with_own memories user)
 
 pub clear_more : (memories pool new : List Memory) (user a done size limit : ℕ) → user - 1 < length memories → size ≤ limit
-  → pool ≡ with_memory memories user (put_bytes (memory_of_user memories user) a (replicate done 0))
-  → new ≡ with_memory pool user (put_bytes (memory_of_user pool user) (a + done) (take size (replicate limit 0)))
-  → new ≡ with_memory memories user (put_bytes (memory_of_user memories user) a (replicate (done + size) 0))
+    → pool ≡ with_memory memories user (put_bytes (memory_of_user memories user) a (replicate done 0))
+    → new ≡ with_memory pool user (put_bytes (memory_of_user pool user) (a + done) (take size (replicate limit 0)))
+    → new ≡ with_memory memories user (put_bytes (memory_of_user memories user) a (replicate (done + size) 0))
 clear_more memories pool new user a done size limit l fits before after =
     next_memory memories pool new user (put_bytes (memory_of_user memories user) a (replicate done 0)) (put_bytes (memory_of_user pool user) (a + done) (take size (replicate limit 0))) _ l before after
     (ap (λ (m : Memory). put_bytes m (a + done) (take size (replicate limit 0))) (own_in memories pool user (put_bytes (memory_of_user memories user) a (replicate done 0)) l before)
     ∙ put_zeros_more (memory_of_user memories user) a done size (done + size) limit fits refl)
 
 pub may_clear : (memories pool : List Memory) (user a done size limit count : ℕ) → user - 1 < length memories → size ≤ limit → done + size ≤ count
-  → pool ≡ with_memory memories user (put_bytes (memory_of_user memories user) a (replicate done 0)) → can_access Monitor (memory_of_user memories user) a count ≡ true
-  → can_access Monitor (memory_of_user pool user) (a + done) (length {A = ℕ} (take size (replicate limit 0))) ≡ true
+    → pool ≡ with_memory memories user (put_bytes (memory_of_user memories user) a (replicate done 0)) → can_access Monitor (memory_of_user memories user) a count ≡ true
+    → can_access Monitor (memory_of_user pool user) (a + done) (length {A = ℕ} (take size (replicate limit 0))) ≡ true
 may_clear memories pool user a done size limit count l fits within before ok =
     ap (λ (m : Memory). can_access Monitor m (a + done) (length {A = ℕ} (take size (replicate limit 0)))) (own_in memories pool user (put_bytes (memory_of_user memories user) a (replicate done 0)) l before)
     ∙ ap (can_access Monitor (put_bytes (memory_of_user memories user) a (replicate done 0)) (a + done)) (length-take-le size (replicate limit 0) (omega (arith, length-replicate {A = ℕ} limit 0)))

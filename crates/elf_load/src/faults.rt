@@ -4,17 +4,25 @@ ghost use Rattle.rv_model.specs.ElfFields.{header_count};
 ghost use Rattle.rv_model.specs.ElfFaults.{has_fault, header_has, any_header_has, file_faults, table_faults, segment_faults, first_fault};
 ghost use Rattle.elf_load.specs.Headers.{HasHeaders};
 
+use crate::fields::{
+    entry, file_type, header_count, header_size, machine, program_header, table_offset,
+};
 use rv_model::{ElfFault, ProgramHeader};
 
-use crate::fields::{entry, file_type, header_count, header_size, machine, program_header, table_offset};
-
 const MAGIC: [u8; 4] = [0x7f, b'E', b'L', b'F'];
+
 const CLASS_64: u8 = 2;
+
 const LITTLE_ENDIAN: u8 = 1;
+
 const EXECUTABLE: u16 = 2;
+
 const RISC_V: u16 = 243;
+
 const HEADER_SIZE: u16 = 56;
+
 pub const LOAD: u32 = 1;
+
 const INTERPRETER: u32 = 3;
 
 // The first fault of the file header.

@@ -4,10 +4,9 @@ ghost use Rattle.rv_model.specs.ElfFaults.{first_fault};
 ghost use Rattle.rv_model.specs.Image.{stack, placed, touches, is_touched};
 ghost use Rattle.elf_load.specs.Pages.{IsFirstIfAny, EndsInMemory, earlier};
 
-use rv_model::ProgramHeader;
-
 use crate::faults::LOAD;
 use crate::fields::{header_count, program_header};
+use rv_model::ProgramHeader;
 
 pub const PAGE_SIZE: u64 = 4096;
 

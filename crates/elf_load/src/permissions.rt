@@ -4,14 +4,15 @@ ghost use Rattle.rv_model.specs.ElfFaults.{first_fault};
 ghost use Rattle.rv_model.specs.Image.{placed, touches, is_allowed_by, permissions_of};
 ghost use Rattle.elf_load.specs.Pages.{EndsInMemory, allows};
 
-use rv_model::{Permissions, ProgramHeader};
-
 use crate::faults::LOAD;
 use crate::fields::{header_count, program_header};
 use crate::pages::{PAGE_SIZE, stack};
+use rv_model::{Permissions, ProgramHeader};
 
 const EXECUTE: u32 = 1;
+
 const WRITE: u32 = 2;
+
 const READ: u32 = 4;
 
 // Whether one of a page's addresses is one of a segment's.

@@ -9,15 +9,13 @@ ghost use Rattle.rv_model.specs.Memory.{can_access, put_bytes, page_count};
 ghost use Rattle.user_mem.specs.Users.{memory_of_user, with_memory};
 ghost use Rattle.elf_load.specs.Placing.{blank_memory, memory_after};
 
-use std::alloc::Allocator;
-
-use rv_model::{Access, ProgramHeader, User};
-use user_mem::Pool;
-
 use crate::faults::LOAD;
 use crate::fields::{header_count, program_header};
 use crate::pages::next_page;
 use crate::permissions::permissions_of;
+use rv_model::{Access, ProgramHeader, User};
+use std::alloc::Allocator;
+use user_mem::Pool;
 
 const CHUNK: usize = 4096;
 

@@ -6,16 +6,14 @@ ghost use Rattle.rv_model.specs.Image.{memory_of_image};
 ghost use Rattle.rv_model.specs.Memory.{page_count};
 ghost use Rattle.user_mem.specs.Users.{with_memory};
 
-use std::alloc::Allocator;
-use std::marker::Model;
-
-use rv_model::{ElfFault, MapRefusal, ProgramHeader, User};
-use user_mem::Pool;
-
 use crate::faults::first_fault;
 use crate::fields::{entry, header_count, program_header};
 use crate::pages::next_page;
 use crate::placing::place_image;
+use rv_model::{ElfFault, MapRefusal, ProgramHeader, User};
+use std::alloc::Allocator;
+use std::marker::Model;
+use user_mem::Pool;
 
 /// An image with no fault, and so where its segments go.
 ///
@@ -90,7 +88,11 @@ impl Plan<'_> {
 /// Gives a user the memory that an image describes in place of all the user's pages, and answers the entry.
 ///
 /// `Quota` where the image takes more than 256 pages, and then nothing has changed. The old pages don't count.
-pub fn place<A: Allocator>(plan: &Plan<'_>, user: User, pool: &mut Pool<A>) -> Result<u64, MapRefusal>
+pub fn place<A: Allocator>(
+    plan: &Plan<'_>,
+    user: User,
+    pool: &mut Pool<A>,
+) -> Result<u64, MapRefusal>
     ensures quota { (result ≡ Err MapRefusal.Quota) ↔ (256 < page_count (memory_of_image plan.now)) }
     ensures only_quota { IfErr result (λ refusal. refusal ≡ MapRefusal.Quota) }
     ensures refused { OnErr result (pool.new ≡ pool.old) }

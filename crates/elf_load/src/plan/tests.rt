@@ -56,19 +56,43 @@ fn each_beginning_has_its_fault(rt: HostRuntime) {
 
 #[test]
 fn faults_of_changed_images(rt: HostRuntime) {
-    assert_eq!(rt; fault(&with_bytes(GOOD, 0, b"\x7fELG")), Some(ElfFault::BadMagic));
+    assert_eq!(rt;
+        fault(&with_bytes(GOOD, 0, b"\x7fELG")),
+        Some(ElfFault::BadMagic)
+    );
     assert_eq!(rt; fault(&with_bytes(GOOD, 4, &[1])), Some(ElfFault::BadClass));
     assert_eq!(rt; fault(&with_bytes(GOOD, 5, &[2])), Some(ElfFault::BadData));
     assert_eq!(rt; fault(&with_bytes(GOOD, 16, &[3])), Some(ElfFault::BadType));
-    assert_eq!(rt; fault(&with_bytes(GOOD, 18, &[62])), Some(ElfFault::BadMachine));
-    assert_eq!(rt; fault(&with_bytes(GOOD, 54, &[57])), Some(ElfFault::BadHeaderSize));
-    assert_eq!(rt; fault(&with_bytes(GOOD, 56, &[255, 255])), Some(ElfFault::BadHeaderTable));
-    assert_eq!(rt; fault(&with_bytes(GOOD, SEGMENT, &[3])), Some(ElfFault::BadInterp));
-    assert_eq!(rt; fault(&with_segment(0x10000, 128, 127)), Some(ElfFault::BadFileSize));
-    assert_eq!(rt; fault(&with_segment(0xffff_ffff_ffff_f000, 128, 128)), Some(ElfFault::BadAddress));
+    assert_eq!(rt;
+        fault(&with_bytes(GOOD, 18, &[62])),
+        Some(ElfFault::BadMachine)
+    );
+    assert_eq!(rt;
+        fault(&with_bytes(GOOD, 54, &[57])),
+        Some(ElfFault::BadHeaderSize)
+    );
+    assert_eq!(rt;
+        fault(&with_bytes(GOOD, 56, &[255, 255])),
+        Some(ElfFault::BadHeaderTable)
+    );
+    assert_eq!(rt;
+        fault(&with_bytes(GOOD, SEGMENT, &[3])),
+        Some(ElfFault::BadInterp)
+    );
+    assert_eq!(rt;
+        fault(&with_segment(0x10000, 128, 127)),
+        Some(ElfFault::BadFileSize)
+    );
+    assert_eq!(rt;
+        fault(&with_segment(0xffff_ffff_ffff_f000, 128, 128)),
+        Some(ElfFault::BadAddress)
+    );
     let outside = with_bytes(with_segment(0x10000, 1, 1), SEGMENT + 8, &[255; 8]);
     assert_eq!(rt; fault(&outside), Some(ElfFault::BadOutside));
-    assert_eq!(rt; fault(&with_bytes(GOOD, 24, &[0x7a])), Some(ElfFault::BadEntry));
+    assert_eq!(rt;
+        fault(&with_bytes(GOOD, 24, &[0x7a])),
+        Some(ElfFault::BadEntry)
+    );
     assert_eq!(rt; fault(&with_bytes(GOOD, 54, &[57, 0, 0, 0])), None);
 }
 
@@ -83,7 +107,10 @@ fn a_good_image_is_placed(rt: HostRuntime) -> Result<(), Fail> {
     let mut word = [0; 4];
     assert_eq!(rt; pool.read(user, 0x10078, Access::Fetch, &mut word), Ok(()));
     assert_eq!(rt; word, [0x93, 0x08, 0xd0, 0x05]);
-    assert_eq!(rt; pool.read(user, 0x7fff_effc, Access::Load, &mut word), Ok(()));
+    assert_eq!(rt;
+        pool.read(user, 0x7fff_effc, Access::Load, &mut word),
+        Ok(())
+    );
     assert_eq!(rt; word, [0; 4]);
     assert!(rt; pool.check(user, 0x10000, 1, Access::Store).is_err());
     assert!(rt; pool.check(user, 0x7fff_effd, 4, Access::Load).is_err());

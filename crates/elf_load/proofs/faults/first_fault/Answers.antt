@@ -1,6 +1,5 @@
-use Rattle.std.proofs.Common.{◌≡◌, ◌∙◌, sym, arith}
-use Rattle.rv_model.specs.ElfFaults.{has_fault}
-use Rattle.elf_load.proofs.FaultLaws.{first_of_file, first_of_table, first_of_segments, first_is_entry, no_fault, file_header_there, headers_there}
+use Rattle.std.proofs.Common.{◌∙◌, sym}
+use Rattle.elf_load.proofs.FaultLaws.{first_of_file, first_of_table, first_of_segments, first_is_entry, no_fault}
 use Rattle.elf_load.proofs.faults.first_fault.Goals as goal
 
 pub returns-in-Some : goal.returns-in-Some

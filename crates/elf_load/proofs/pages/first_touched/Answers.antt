@@ -1,6 +1,4 @@
 use Rattle.std.proofs.Common.{refl}
-use Rattle.rv_model.specs.Image.{touches}
-use Rattle.elf_load.specs.Pages.{IsFirstIfAny}
 use Rattle.elf_load.proofs.PageLaws.{touches_none, touches_empty, touched_first, touched_none}
 use Rattle.elf_load.proofs.pages.first_touched.Goals as goal
 

@@ -15,7 +15,7 @@ header_count-requires c = (sound_headers c.args.image.now c.requires).file
 pub loop-number-init : goal.loop-number-init
 loop-number-init c = record {
   first = next_stack c.args.image.now c.args.from c.first_touched-next.result
-    (subst (λ (h : ProgramHeader). IsFirstIfAny (λ p. touches p h) c.args.from c.first_touched-next.result) c.stack.ensures c.first_touched-next.ensures.first);
+      (subst (λ (h : ProgramHeader). IsFirstIfAny (λ p. touches p h) c.args.from c.first_touched-next.result) c.stack.ensures c.first_touched-next.ensures.first);
   bound = c.first_touched-next.ensures.bound;
 }
 
@@ -31,10 +31,10 @@ first_touched-requires c = subst (λ (h : ProgramHeader). EndsInMemory h) (sym c
 pub loop-number-preserved : goal.loop-number-preserved
 loop-number-preserved c = record {
   first = subst (λ (o : Option ℕ). IsFirstIfAny (is_touched (first_placed c.args.image.now (c.loop-number.number + 1))) c.args.from o) (sym c.earlier-next.ensures)
-    (next_more c.args.image.now c.loop-number.number c.args.from c.loop-number.next c.first_touched.result c.loop-number.invariant.first
-    (subst (λ (h : ProgramHeader). IsFirstIfAny (λ p. touches p h) c.args.from c.first_touched.result) c.program_header.ensures c.first_touched.ensures.first));
+      (next_more c.args.image.now c.loop-number.number c.args.from c.loop-number.next c.first_touched.result c.loop-number.invariant.first
+      (subst (λ (h : ProgramHeader). IsFirstIfAny (λ p. touches p h) c.args.from c.first_touched.result) c.program_header.ensures c.first_touched.ensures.first));
   bound = subst (λ (o : Option ℕ). IfSome o (λ p. p < 2 ^ 36)) (sym c.earlier-next.ensures)
-    (earlier_below c.loop-number.next c.first_touched.result (2 ^ 36) c.loop-number.invariant.bound c.first_touched.ensures.bound);
+      (earlier_below c.loop-number.next c.first_touched.result (2 ^ 36) c.loop-number.invariant.bound c.first_touched.ensures.bound);
 }
 
 pub returns-clause-first : goal.returns-clause-first

@@ -1,4 +1,4 @@
-use Rattle.std.proofs.Common.{◌≡◌, ◌∙◌, sym, ap, subst, Bool, true, false, ◌||◌, arith}
+use Rattle.std.proofs.Common.{◌∙◌, sym, ap, subst, Bool, ◌||◌, arith}
 use Rattle.rv_model.specs.declared.elf.ProgramHeader.{ProgramHeader}
 use Rattle.rv_model.specs.ElfFields.{program_header}
 use Rattle.elf_load.specs.Pages.{EndsInMemory, allows}

@@ -1,4 +1,4 @@
-use Rattle.std.proofs.Common.{◌≤◌, arith}
+use Rattle.std.proofs.Common.{arith}
 use Rattle.elf_load.proofs.UserLaws.{clear_none, clear_more, may_clear}
 use Rattle.elf_load.proofs.placing.clear_mapped.Goals as goal
 

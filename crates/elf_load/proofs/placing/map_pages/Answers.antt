@@ -13,7 +13,7 @@ unreachable-requires g c =
 pub loop-page-preserved : goal.loop-page-preserved
 loop-page-preserved g c = record {
   pool = map_more c.args.pool.now c.loop-page.pool c.map.new.self c.args.user c.args.image.now c.loop-page.from c.in-Some.page c.permissions_of.result c.requires.known c.loop-page.invariant.pool
-    c.in-Some.ensures.bound c.in-Some.ensures.first c.permissions_of.ensures c.in-Ok.ensures.ok;
+      c.in-Some.ensures.bound c.in-Some.ensures.first c.permissions_of.ensures c.in-Ok.ensures.ok;
   low = omega (arith, c.in-Some.ensures.bound);
 }
 

@@ -1,4 +1,4 @@
-use Rattle.std.proofs.Common.{◌≤◌, ◌+◌, ◌^◌, arith}
+use Rattle.std.proofs.Common.{arith}
 use Rattle.elf_load.proofs.FaultLaws.{sound_headers}
 use Rattle.elf_load.proofs.PoolLaws.{part_there, part_fits, segment_ends, part_open, rest_open, segment_done, segment_other}
 use Rattle.elf_load.proofs.placing.write_segment.Goals as goal
