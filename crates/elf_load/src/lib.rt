@@ -1,4 +1,5 @@
-//! ELF-64 images: what is wrong with one, the pages it takes, and its bytes placed in a user's memory.
+//! ELF-64 images: what is wrong with one, the pages that it takes, and its bytes placed in a user's
+//! memory.
 #![tactic(auto)]
 
 mod faults;

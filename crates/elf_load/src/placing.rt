@@ -1,8 +1,8 @@
 //! An image placed in a user's memory.
-ghost use Rattle.std.specs.Prelude.{◌≡◌, ℕ, ◌+◌, ◌-◌, ◌<◌, ◌≤◌, ◌^◌, ◌↔◌, None, true, IsErr, IfOk, IfErr, OnOk, OnErr, length, take, drop, replicate};
+ghost use Rattle.std.specs.Prelude.{◌≡◌, ◌+◌, ◌-◌, ◌<◌, ◌≤◌, ◌^◌, None, true, length, take, drop, replicate};
 ghost use Rattle.std.specs.FinMap.{empty};
 ghost use Rattle.rv_model.specs.declared.memory.Access.TheVariants.{Monitor};
-ghost use Rattle.rv_model.specs.ElfFields.{entry_of, header_count, program_header};
+ghost use Rattle.rv_model.specs.ElfFields.{header_count};
 ghost use Rattle.rv_model.specs.ElfFaults.{first_fault};
 ghost use Rattle.rv_model.specs.Image.{memory_of_image, all_pages};
 ghost use Rattle.rv_model.specs.Memory.{can_access, put_bytes, page_count};
@@ -17,12 +17,14 @@ use rv_model::{Access, ProgramHeader, User};
 use std::alloc::Allocator;
 use user_mem::Pool;
 
+// Zeros are written so many at a time.
 const CHUNK: usize = 4096;
 
 // Writes bytes of a user, all of which are mapped.
 fn write_mapped<A: Allocator>(pool: &mut Pool<A>, user: User, addr: u64, bytes: &[u8])
     requires { can_access Monitor (memory_of_user pool.old user) addr (length bytes.now) ≡ true }
-    ensures { pool.new ≡ with_memory pool.old user (put_bytes (memory_of_user pool.old user) addr bytes.now) }
+    ensures { pool.new ≡ with_memory pool.old user
+        (put_bytes (memory_of_user pool.old user) addr bytes.now) }
 {
     let Ok(()) = pool.write(user, addr, Access::Monitor, bytes) else {
         unreachable!();
@@ -34,7 +36,8 @@ fn clear_mapped<A: Allocator>(pool: &mut Pool<A>, user: User, addr: u64, count: 
     requires known { user - 1 < length pool.old }
     requires mapped { can_access Monitor (memory_of_user pool.old user) addr count ≡ true }
     requires bound { addr + count ≤ 2 ^ 48 }
-    ensures { pool.new ≡ with_memory pool.old user (put_bytes (memory_of_user pool.old user) addr (replicate count 0)) }
+    ensures { pool.new ≡ with_memory pool.old user
+        (put_bytes (memory_of_user pool.old user) addr (replicate count 0)) }
 {
     let zeros = [0; CHUNK];
     let mut done = 0;
@@ -111,6 +114,7 @@ pub fn place_image<A: Allocator>(image: &[u8], user: User, pool: &mut Pool<A>)
     requires few { page_count (memory_of_image image.now) ≤ 256 }
     ensures { pool.new ≡ with_memory pool.old user (memory_of_image image.now) }
 {
+    // Each user has a memory in the pool.
     prove!(user.index() < 8);
     pool.drop_user(user);
     map_pages(image, user, pool);

@@ -15,9 +15,9 @@ use std::alloc::Allocator;
 use std::marker::Model;
 use user_mem::Pool;
 
-/// An image with no fault, and so where its segments go.
+/// An image with no fault, ready to be placed.
 ///
-/// It borrows the image's bytes, which is what contracts see of it.
+/// It borrows the image's bytes, and contracts see it as these bytes.
 #[derive(Drop)]
 pub struct Plan<'a> {
     image: &'a [u8],
@@ -34,7 +34,9 @@ impl<'a> Model for Plan<'a> {
     ghost invariant = { λ p. first_fault p.image.now ≡ None };
 }
 
-/// Checks an image: its first fault in the order of `ElfFault`, or the plan to place it.
+/// Checks an ELF-64 image (ELF-64 Object File Format, "File header" and "Program header table"): its
+/// first fault in the order of `ElfFault`, each tested over all program headers, or the plan to
+/// place it.
 pub fn check(image: &[u8]) -> Result<Plan<'_>, ElfFault>
     ensures fault { IfErr result (λ fault. first_fault image.now ≡ Some fault) }
     ensures sound { OnOk result (first_fault image.now ≡ None) }
@@ -69,7 +71,8 @@ impl Plan<'_> {
         program_header(self.image, number)
     }
 
-    /// How many pages the image takes with its stack, and `None` above 256. It looks at 257 of them at most.
+    /// How many pages of 4,096 bytes the image takes with its stack, and `None` above 256. It looks
+    /// at 257 of them at most.
     pub fn pages(&self) -> Option<usize>
         ensures count { IfSome result (λ count. count ≡ page_count (memory_of_image self.now)) }
         ensures few { IsSome result ↔ (page_count (memory_of_image self.now) ≤ 256) }
@@ -85,15 +88,18 @@ impl Plan<'_> {
     }
 }
 
-/// Gives a user the memory that an image describes in place of all the user's pages, and answers the entry.
+/// Gives a user the memory that an image describes in place of all the user's pages, and answers
+/// the entry.
 ///
-/// `Quota` where the image takes more than 256 pages, and then nothing has changed. The old pages don't count.
+/// `Quota` where the image takes more than 256 pages, and then nothing has changed. The user's old
+/// pages don't count.
 pub fn place<A: Allocator>(
     plan: &Plan<'_>,
     user: User,
     pool: &mut Pool<A>,
 ) -> Result<u64, MapRefusal>
-    ensures quota { (result ≡ Err MapRefusal.Quota) ↔ (256 < page_count (memory_of_image plan.now)) }
+    ensures quota { (result ≡ Err MapRefusal.Quota)
+        ↔ (256 < page_count (memory_of_image plan.now)) }
     ensures only_quota { IfErr result (λ refusal. refusal ≡ MapRefusal.Quota) }
     ensures refused { OnErr result (pool.new ≡ pool.old) }
     ensures entry { IfOk result (λ entry. entry ≡ entry_of plan.now) }

@@ -1,6 +1,6 @@
-//! Prints what an ELF-64 image takes: `elf_pages FILE`. That is the fault of a bad image, or the entry in hexadecimal, how many
-//! pages a user needs for it with the stack, and of each loadable segment the offset, the address, the sizes in the file and in
-//! memory, and the flags.
+//! Prints what an ELF-64 image takes: `elf_pages FILE`. That is the fault of a bad image, or the entry
+//! in hexadecimal, how many pages a user needs for it with the stack, and of each loadable segment
+//! the offset, the address, the sizes in the file and in memory, and the flags.
 #![tactic(auto)]
 
 use anyhow::{Context, Result};
@@ -40,6 +40,9 @@ fn report_segment(rt: &impl Print, header: ProgramHeader) -> Result<()> {
     let read = if header.flags & 4 != 0 { "R" } else { " " };
     let write = if header.flags & 2 != 0 { "W" } else { " " };
     let execute = if header.flags & 1 != 0 { "E" } else { "" };
-    println!(rt; "LOAD {:x} {:x} {:x} {:x} {read}{write}{execute}", header.offset, header.address, header.file_size, header.memory_size)?;
+    println!(rt;
+        "LOAD {:x} {:x} {:x} {:x} {read}{write}{execute}",
+        header.offset, header.address, header.file_size, header.memory_size
+    )?;
     Ok(())
 }
