@@ -7,6 +7,11 @@ pub mod ControlTransfer
 pub mod Examples
 pub mod FixedBits
 pub mod Hart
+pub mod ElfFaults
+pub mod ElfFields
+pub mod Examples
+pub mod FixedBits
+pub mod Image
 pub mod Immediates
 pub mod InstructionEffects
 pub mod InstructionLayout
