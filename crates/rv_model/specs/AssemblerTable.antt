@@ -1,5 +1,5 @@
 -- The texts of words: each name has one form, a list of slots. A text spells a word if its tokens fit the slots of its name with that word's operands; the canonical text of a word is that of the name whose fixed bits it has
-use Rattle.std.specs.Prelude.{◌≡◌, ℕ, ◌+◌, ◌-◌, List, [], ◌∷◌, ◌++◌, length, replicate, Option, Some, None, Result, Ok, Err, nat_lt, nat_eq, bit_and, ◌==◌, if◌then◌else◌, position, unwrap_or, slice_index_or, codes}
+use Rattle.std.specs.Prelude.{◌≡◌, ℕ, ◌+◌, ◌-◌, List, [], ◌∷◌, ◌++◌, length, replicate, Option, Some, None, Result, Ok, Err, nat_lt, nat_eq, bit_and, ◌==◌, if◌then◌else◌, position, unwrap_or, slice_index_or}
 use Rattle.std.specs.Str.{bytes_eq}
 use Rattle.rv_model.specs.AssemblerTokens.{Token, tokens}
 use Rattle.rv_model.specs.AssemblerSlots.{◌>>=◌, read, printed}
@@ -66,9 +66,9 @@ abbrev pub unpadded : List ℕ → List ℕ
 unpadded [] = []
 unpadded (c ∷ cs) = if c == 32 then [] else c ∷ unpadded cs
 
--- the row at an index; past the table, that of `.word`
+-- the row at an index; past the table, a row with no name
 unfoldable pub row_at : ℕ → Mnemonic
-row_at row = slice_index_or MNEMONICS row (record { 0 = padded (codes ".word"); 1 = form.Word; 2 = 0 })
+row_at row = slice_index_or MNEMONICS row (record { 0 = []; 1 = form.Plain; 2 = 0 })
 
 -- its name, its slots and the bits that it fixes
 unfoldable pub name_at : ℕ → List ℕ
