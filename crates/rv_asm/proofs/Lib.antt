@@ -1,7 +1,9 @@
 pub mod FieldLaws
+pub mod FormLaws
 pub mod Loop
 pub mod NameLaws
 pub mod NumberLaws
 pub mod Numbers
+pub mod RowLaws
 pub mod SlotLaws
 pub mod Tokens
