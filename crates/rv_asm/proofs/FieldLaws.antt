@@ -84,9 +84,9 @@ branch_parts w =
     let c = field 7 1 w in
     let d = field 31 1 w in
     four (ap (part 31 1) (branch_12 a b c d (below 8 4 w) (below 25 6 w) (below 7 1 w) (below 31 1 w)))
-      (ap (part 25 6) (branch_10 a b c d (below 8 4 w) (below 25 6 w)))
-      (ap (part 8 4) (branch_4 a b c d (below 8 4 w)))
-      (ap (part 7 1) (branch_11 a b c d (below 8 4 w) (below 25 6 w) (below 7 1 w)))
+    (ap (part 25 6) (branch_10 a b c d (below 8 4 w) (below 25 6 w)))
+    (ap (part 8 4) (branch_4 a b c d (below 8 4 w)))
+    (ap (part 7 1) (branch_11 a b c d (below 8 4 w) (below 25 6 w) (below 7 1 w)))
 
 jump_parts : (w : ℕ) → parts_of (Signed signed.Jump) (jump_offset w) ≡ part 31 1 (field 31 1 w) ∷ part 21 10 (field 21 10 w) ∷ part 20 1 (field 20 1 w) ∷ part 12 8 (field 12 8 w) ∷ []
 jump_parts w =
@@ -95,9 +95,9 @@ jump_parts w =
     let c = field 12 8 w in
     let d = field 31 1 w in
     four (ap (part 31 1) (jump_20 a b c d (below 21 10 w) (below 20 1 w) (below 12 8 w) (below 31 1 w)))
-      (ap (part 21 10) (jump_10 a b c d (below 21 10 w)))
-      (ap (part 20 1) (jump_11 a b c d (below 21 10 w) (below 20 1 w)))
-      (ap (part 12 8) (jump_19 a b c d (below 21 10 w) (below 20 1 w) (below 12 8 w)))
+    (ap (part 21 10) (jump_10 a b c d (below 21 10 w)))
+    (ap (part 20 1) (jump_11 a b c d (below 21 10 w) (below 20 1 w)))
+    (ap (part 12 8) (jump_19 a b c d (below 21 10 w) (below 20 1 w) (below 12 8 w)))
 
 single : {a b : Part} → a ≡ b → a ∷ [] ≡ b ∷ []
 single h = ap (λ (x : Part). x ∷ []) h

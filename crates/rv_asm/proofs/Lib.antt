@@ -1,3 +1,4 @@
+pub mod Assembling
 pub mod FieldLaws
 pub mod FormLaws
 pub mod Loop
@@ -7,3 +8,4 @@ pub mod Numbers
 pub mod RowLaws
 pub mod SlotLaws
 pub mod Tokens
+pub mod WordLaws

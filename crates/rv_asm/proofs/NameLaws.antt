@@ -47,8 +47,8 @@ csr_digits v lt is =
     let d = is_decimal v (omega arith) in
     let not = λ (xs : List ℕ). not_letter 118 v (decimal v) xs (lit≤ tt) d in
     let value : csr (decimal v) ≡ Some v =
-        rw (not (115 ∷ 116 ∷ 97 ∷ 114 ∷ 116 ∷ []), not (120 ∷ 115 ∷ 97 ∷ 116 ∷ []), not (120 ∷ 114 ∷ 109 ∷ []), not (99 ∷ 115 ∷ 114 ∷ []), not (108 ∷ []), not (116 ∷ 121 ∷ 112 ∷ 101 ∷ []), not (108 ∷ 101 ∷ 110 ∷ 98 ∷ []))
-            (ap (at_most 4095) (number_again v (decimal v) d) ∙ cond-true _ (Some v) None (le-leb v 4095 (omega arith))) in
+    rw (not (115 ∷ 116 ∷ 97 ∷ 114 ∷ 116 ∷ []), not (120 ∷ 115 ∷ 97 ∷ 116 ∷ []), not (120 ∷ 114 ∷ 109 ∷ []), not (99 ∷ 115 ∷ 114 ∷ []), not (108 ∷ []), not (116 ∷ 121 ∷ 112 ∷ 101 ∷ []), not (108 ∷ 101 ∷ 110 ∷ 98 ∷ []))
+    (ap (at_most 4095) (number_again v (decimal v) d) ∙ cond-true _ (Some v) None (le-leb v 4095 (omega arith))) in
     record {
       run = ap all_run is ∙ all_run_dec (decimal v) d.digits;
       some = let P : List ℕ → Type 0 = λ t. 0 < length t in subst P (sym is) d.some;

@@ -96,3 +96,8 @@ text_again row w lt small is =
     ∙ ap (spelled_with end (record { column = 1; text = name_at row }) s.0) r.found
     ∙ s.2
     ∙ ap (λ (n : ℕ). Ok n) (ap₂ (λ (b : ℕ) (ps : List Part). sum_of b ps) (sym is) (operand_parts_of_word ss w) ∙ rebuilt w (fixed_mask ss) (operand_parts ss 0) small r.apart r.full)
+
+pub ascii_at : (name : List ℕ) → all_ascii name ≡ true → (k : ℕ) → k < 16 → get_or name k 0 < 128
+ascii_at [] h k lt = lit< tt
+ascii_at (c ∷ cs) h zero lt = ltb-true c 128 (and_parts (nat_lt c 128) (all_ascii cs) h).0
+ascii_at (c ∷ cs) h (suc k) lt = ascii_at cs (and_parts (nat_lt c 128) (all_ascii cs) h).1 k (omega arith)

@@ -89,9 +89,9 @@ signed_again s v p end more lt follows =
           let value : in_steps size (at_most (size * count - 1) (number (decimal n))) ≡ Some v = ap (λ o. in_steps size (at_most (size * count - 1) o)) (number_again n (decimal n) d) ∙ ap (in_steps size) (at_most_again (size * count - 1) n (steps_below s v small)) ∙ steps_back s v in
           let ts = tokens (p + length (decimal n)) more in
           let reads : Takes (signed_number end size count) (decimal n) v p more =
-              ap (signed_number end size count) (word p (decimal n) more (all_run_dec (decimal n) d.digits) d.some follows)
-              ∙ cond-false (bytes_eq (decimal n) (45 ∷ [])) (one end (λ t. negated count (steps size count t)) ts) (accept p ts (in_steps size (at_most (size * count - 1) (number (decimal n))))) (not_minus n (decimal n) d)
-              ∙ ap (accept p ts) value in
+          ap (signed_number end size count) (word p (decimal n) more (all_run_dec (decimal n) d.digits) d.some follows)
+          ∙ cond-false (bytes_eq (decimal n) (45 ∷ [])) (one end (λ t. negated count (steps size count t)) ts) (accept p ts (in_steps size (at_most (size * count - 1) (number (decimal n))))) (not_minus n (decimal n) d)
+          ∙ ap (accept p ts) value in
           subst (λ (t : List ℕ). Takes (signed_number end size count) t v p more) (sym text) reads
       | inr large ↦
           let k = 2 * count - v in
@@ -101,14 +101,14 @@ signed_again s v p end more lt follows =
           let text : signed_text size count v ≡ 45 ∷ decimal n = cond-false (ltb v count) (decimal (size * v)) (45 ∷ decimal n) (le-ltb v count large) in
           let back : 2 * count - k ≡ v = omega arith in
           let value : negated count (steps size count (decimal n)) ≡ Some v =
-              ap (λ o. negated count (in_steps size (at_most (size * count) o))) (number_again n (decimal n) d)
-              ∙ ap (λ o. negated count (in_steps size o)) (at_most_again (size * count) n (steps_up_to s k le))
-              ∙ ap (negated count) (steps_back s k)
-              ∙ ap (λ (x : ℕ). Some x) (cond-false (eqb k 0) 0 (2 * count - k) (ne_eqb k 0 (λ e. omega arith)) ∙ back) in
+          ap (λ o. negated count (in_steps size (at_most (size * count) o))) (number_again n (decimal n) d)
+          ∙ ap (λ o. negated count (in_steps size o)) (at_most_again (size * count) n (steps_up_to s k le))
+          ∙ ap (negated count) (steps_back s k)
+          ∙ ap (λ (x : ℕ). Some x) (cond-false (eqb k 0) 0 (2 * count - k) (ne_eqb k 0 (λ e. omega arith)) ∙ back) in
           let at : (p + 1) + length (decimal n) ≡ p + length (45 ∷ decimal n) = omega arith in
           let reads : Takes (signed_number end size count) (45 ∷ decimal n) v p more =
-              one_again (p + 1) end v (λ t. negated count (steps size count t)) (decimal n) more (record { run = all_run_dec (decimal n) d.digits; some = d.some; value = value }) follows
-              ∙ ap (λ (q : ℕ). Ok (v, tokens q more)) at in
+          one_again (p + 1) end v (λ t. negated count (steps size count t)) (decimal n) more (record { run = all_run_dec (decimal n) d.digits; some = d.some; value = value }) follows
+          ∙ ap (λ (q : ℕ). Ok (v, tokens q more)) at in
           subst (λ (t : List ℕ). Takes (signed_number end size count) t v p more) (sym text) reads
     ]
 
@@ -135,7 +135,7 @@ bind_ok r x f h = ap (λ (q : Result (ℕ × List Token) ℕ). q >>= f) h
 
 names_again : (end width multiplier tail inactive p : ℕ) (more : List ℕ) → multiplier < 8 → eqb multiplier 4 ≡ false → tail < 2 → inactive < 2 → runs_on more ≡ false
     → vtype_names end width (tokens p (44 ∷ 32 ∷ (vlmul_text multiplier ++ (44 ∷ 32 ∷ (vta_text tail ++ (44 ∷ 32 ∷ (vma_text inactive ++ more)))))))
-      ≡ Ok (multiplier + width * 8 + tail * 64 + inactive * 128, tokens (p + 2 + length (vlmul_text multiplier) + 2 + length (vta_text tail) + 2 + length (vma_text inactive)) more)
+    ≡ Ok (multiplier + width * 8 + tail * 64 + inactive * 128, tokens (p + 2 + length (vlmul_text multiplier) + 2 + length (vta_text tail) + 2 + length (vma_text inactive)) more)
 unfolding vtype_names
 names_again end width multiplier tail inactive p more lm lh lt li follows =
     let third = vma_text inactive ++ more in
@@ -200,10 +200,10 @@ vtype_again end count v p more lt small follows =
           let a = and_parts (ltb v 256) (not (eqb (v % 8) 4) && ltb (v / 8 % 8) 4) y in
           let b = and_parts (not (eqb (v % 8) 4)) (ltb (v / 8 % 8) 4) a.1 in
           subst (λ (t : List ℕ). Takes (vtype end count) t v p more) (sym (cond-true (has_names v) names (decimal v) y))
-            (named_vtype end count v p more (ltb-true v 256 a.0) (not_false (eqb (v % 8) 4) b.0) (ltb-true (v / 8 % 8) 4 b.1) follows)
+          (named_vtype end count v p more (ltb-true v 256 a.0) (not_false (eqb (v % 8) 4) b.0) (ltb-true (v / 8 % 8) 4 b.1) follows)
       | inr n ↦
           subst (λ (t : List ℕ). Takes (vtype end count) t v p more) (sym (cond-false (has_names v) names (decimal v) n))
-            (plain_vtype end count v p more lt small follows)
+          (plain_vtype end count v p more lt small follows)
     ]
 
 -- ---- slots

@@ -1,6 +1,7 @@
 //! Assembler text: the word that a text spells, and the canonical text of a word.
 #![tactic(auto)]
 
+mod assembler;
 mod fault;
 mod field;
 mod name;
@@ -12,9 +13,6 @@ mod table;
 mod token;
 mod vector_type;
 
+pub use assembler::{assemble, text_of};
 pub use fault::AsmFault;
-pub use field::{placed, value_of};
-pub use operands::{put_operands, read_operands};
-pub use print::{Text, put_name, put_slot};
-pub use read::read_slot;
-pub use table::{row_at, row_named, row_of_word, slots_of};
+pub use print::Text;

@@ -1,7 +1,8 @@
 //! The rows of the table of names: by name, and by word.
-ghost use Rattle.std.specs.Prelude.{◌≡◌, ◌≤◌, ◌<◌, ◌^◌, ◌+◌, length, IfSome, position, unwrap_or, nat_eq, bit_and, slice_index};
+ghost use Rattle.std.specs.Prelude.{ℕ, ◌≡◌, ◌≤◌, ◌<◌, ◌^◌, ◌+◌, length, IfSome, position, unwrap_or, nat_eq, bit_and, slice_index};
 ghost use Rattle.std.specs.Str.{bytes_eq};
 ghost use Rattle.rv_model.specs.AssemblerFields.{fixed_mask};
+ghost use Rattle.rv_asm.specs.Spans.{spans};
 ghost use Rattle.rv_model.specs.AssemblerTable.{slots_of, padded, row_named, row_of_word, row_at, slots_at, bits_at};
 
 use rv_model::assembler::{
@@ -153,10 +154,11 @@ pub fn row_of_word(word: u32) -> usize
 }
 
 /// A row of the table.
-#[tactic(auto, unfolding(rv_model::specs::AssemblerTable::row_at))]
 pub fn row_at(row: usize) -> Mnemonic
     requires { row < 598 }
-    ensures { result ≡ row_at row }
+    ensures value { result ≡ row_at row }
+    ensures ascii { (k : ℕ) → k < 16 → slice_index result.0 k < 128 }
+    ensures room { result.2 + spans (slots_of result.1) < 2 ^ 32 }
 {
     MNEMONICS[row]
 }
