@@ -3,6 +3,8 @@ pub mod FieldLaws
 pub mod FormLaws
 pub mod Loop
 pub mod NameLaws
+pub mod NamedWords
+pub mod Naming
 pub mod NumberLaws
 pub mod Numbers
 pub mod RowLaws

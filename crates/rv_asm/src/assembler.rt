@@ -2,6 +2,7 @@
 ghost use Rattle.std.specs.Prelude.{◌≡◌, ◌≤◌, ◌+◌, ◌*◌, ◌++◌, length, Ok, Err, IfOk, IfErr};
 ghost use Rattle.arrayvec.specs.ArrayString.{array_string_len};
 ghost use Rattle.rv_model.specs.AssemblerTable.{spelled, canonical, operands_text};
+ghost use Rattle.rv_model.specs.AssemblerNaming.{HasName, HasNoName, IsNamed, directive_text};
 
 use crate::fault::AsmFault;
 use crate::operands::{put_operands, read_operands};
@@ -39,6 +40,9 @@ pub fn text_of(word: u32, text: &mut Text)
     ensures text { text.new.bytes ≡ canonical word }
     // Assembling the text gives the word again.
     ensures again { spelled text.new.bytes ≡ Ok word }
+    // Every instruction has its name, but for fences other than `fence`; any other word is `.word` and 8 digits.
+    ensures named { HasName word → IsNamed word text.new.bytes }
+    ensures directive { HasNoName word → text.new.bytes ≡ directive_text word }
 {
     text.clear();
     let Mnemonic(name, form, _) = row_at(row_of_word(word));

@@ -1,5 +1,6 @@
 pub mod Arguments
 pub mod AssemblerFields
+pub mod AssemblerNaming
 pub mod AssemblerNumbers
 pub mod AssemblerSlots
 pub mod AssemblerTable

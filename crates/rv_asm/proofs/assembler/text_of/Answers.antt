@@ -1,7 +1,9 @@
-use Rattle.std.proofs.Common.{ap, ◌∙◌}
+use Rattle.std.proofs.Common.{ℕ, List, ap, sym, subst, ◌∙◌}
 use Rattle.rv_model.specs.AssemblerTable.{spelled}
 use Rattle.rv_asm.proofs.Assembling.{canonical_parts}
+use Rattle.rv_model.specs.AssemblerNaming.{IsNamed}
 use Rattle.rv_asm.proofs.WordLaws.{word_again}
+use Rattle.rv_asm.proofs.NamedWords.{is_named, is_directive}
 use Rattle.rv_asm.proofs.assembler.text_of.Goals as goal
 
 pub returns-clause-text : goal.returns-clause-text
@@ -9,3 +11,11 @@ returns-clause-text c = canonical_parts c.args.word c.row_of_word.result c.row_a
 
 pub returns-clause-again : goal.returns-clause-again
 returns-clause-again c = ap spelled (returns-clause-text c) ∙ word_again c.args.word c.ranges.word.fits
+
+pub returns-clause-named : goal.returns-clause-named
+returns-clause-named c h =
+    let P : List ℕ → Type 0 = λ t. IsNamed c.args.word t in
+    subst P (sym (returns-clause-text c)) (is_named c.args.word h)
+
+pub returns-clause-directive : goal.returns-clause-directive
+returns-clause-directive c h = returns-clause-text c ∙ is_directive c.args.word c.ranges.word.fits h
