@@ -221,6 +221,6 @@ fence_named n w small lt is fence =
           sym (and_mask w 32 ∙ mod-eq_of_lt small) ∙ ap (bit_and w) (sym (eqb-true name.0 (2 ^ 32 - 1) k.0)) ∙ is ∙ eqb-true name.1 0x0ff0000f k.1
       | inr other ↦
           let e : bit_and name.1 0x707f ≡ bit_and 0x0f name.0 =
-              ap (λ x. bit_and x 0x707f) (sym is) ∙ and_assoc 0x707f w name.0 ∙ ap (bit_and w) (and_comm name.0 0x707f) ∙ sym (and_assoc name.0 w 0x707f) ∙ ap (λ x. bit_and x name.0) fence in
+          ap (λ x. bit_and x 0x707f) (sym is) ∙ and_assoc 0x707f w name.0 ∙ ap (bit_and w) (and_comm name.0 0x707f) ∙ sym (and_assoc name.0 w 0x707f) ∙ ap (λ x. bit_and x name.0) fence in
           absurd (true_false same (eq-eqb (bit_and name.1 0x707f) (bit_and 0x0f name.0) e) (or_rest exact (not same) h other))
     ]

@@ -16,3 +16,6 @@ mod vector_type;
 pub use assembler::{assemble, text_of};
 pub use fault::AsmFault;
 pub use print::Text;
+
+#[cfg(test)]
+mod tests;

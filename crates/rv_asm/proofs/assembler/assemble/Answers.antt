@@ -18,13 +18,13 @@ returns-clause-ok c =
     let text = c.args.text.now in
     let ts = rest text c.in_ok-name.after in
     answers_ok c.read_operands.result (read_operands (length text + 1) c.row_at-form.result.2 c.slots_of.result.now ts) (spelled text)
-      (spelled_known text (record { column = c.in_ok-name.name.column; text = c.in_ok-name.name.text.now }) ts c.in-Some.row c.row_at-form.result c.slots_of.result.now c.in_ok-name.ensures.0 (sym c.in-Some.ensures.first) c.row_at-form.ensures.value c.slots_of.ensures.slots)
-      c.read_operands.ensures
+    (spelled_known text (record { column = c.in_ok-name.name.column; text = c.in_ok-name.name.text.now }) ts c.in-Some.row c.row_at-form.result c.slots_of.result.now c.in_ok-name.ensures.0 (sym c.in-Some.ensures.first) c.row_at-form.ensures.value c.slots_of.ensures.slots)
+    c.read_operands.ensures
 
 pub returns-clause-err : goal.returns-clause-err
 returns-clause-err c =
     let text = c.args.text.now in
     let ts = rest text c.in_ok-name.after in
     answers_err c.read_operands.result (read_operands (length text + 1) c.row_at-form.result.2 c.slots_of.result.now ts) (spelled text)
-      (spelled_known text (record { column = c.in_ok-name.name.column; text = c.in_ok-name.name.text.now }) ts c.in-Some.row c.row_at-form.result c.slots_of.result.now c.in_ok-name.ensures.0 (sym c.in-Some.ensures.first) c.row_at-form.ensures.value c.slots_of.ensures.slots)
-      c.read_operands.ensures
+    (spelled_known text (record { column = c.in_ok-name.name.column; text = c.in_ok-name.name.text.now }) ts c.in-Some.row c.row_at-form.result c.slots_of.result.now c.in_ok-name.ensures.0 (sym c.in-Some.ensures.first) c.row_at-form.ensures.value c.slots_of.ensures.slots)
+    c.read_operands.ensures
