@@ -160,24 +160,29 @@ names_whole w l t i more = simp append_assoc refl
 names_length : (w l t i : List ℕ) → length (w ++ 44 ∷ 32 ∷ [] ++ l ++ 44 ∷ 32 ∷ [] ++ t ++ 44 ∷ 32 ∷ [] ++ i) ≡ length w + 2 + length l + 2 + length t + 2 + length i
 names_length w l t i = simp length-append refl
 
-named_vtype : (end count v p : ℕ) (more : List ℕ) → v < 256 → eqb (v % 8) 4 ≡ false → v / 8 % 8 < 4 → runs_on more ≡ false
-    → Takes (vtype end count) (vsew_text (v / 8 % 8) ++ codes ", " ++ vlmul_text (v % 8) ++ codes ", " ++ vta_text (v / 64 % 2) ++ codes ", " ++ vma_text (v / 128 % 2)) v p more
-named_vtype end count v p more small reserved wide follows =
-    let width = v / 8 % 8 in
-    let multiplier = v % 8 in
-    let tail = v / 64 % 2 in
-    let inactive = v / 128 % 2 in
+-- the names of vtype's parts
+abbrev names_text : ℕ → ℕ → ℕ → ℕ → List ℕ
+names_text width multiplier tail inactive = vsew_text width ++ codes ", " ++ vlmul_text multiplier ++ codes ", " ++ vta_text tail ++ codes ", " ++ vma_text inactive
+
+named_parts : (end count width multiplier tail inactive p : ℕ) (more : List ℕ) → width < 4 → multiplier < 8 → eqb multiplier 4 ≡ false → tail < 2 → inactive < 2 → runs_on more ≡ false
+    → Takes (vtype end count) (names_text width multiplier tail inactive) (multiplier + width * 8 + tail * 64 + inactive * 128) p more
+named_parts end count width multiplier tail inactive p more lw lm lh lt li follows =
     let others = 44 ∷ 32 ∷ (vlmul_text multiplier ++ (44 ∷ 32 ∷ (vta_text tail ++ (44 ∷ 32 ∷ (vma_text inactive ++ more))))) in
-    let m = vsew_again width wide in
+    let m = vsew_again width lw in
     let q = p + length (vsew_text width) in
-    let is : multiplier + width * 8 + tail * 64 + inactive * 128 ≡ v = omega arith in
-    let at : q + 2 + length (vlmul_text multiplier) + 2 + length (vta_text tail) + 2 + length (vma_text inactive) ≡ p + length (vsew_text width ++ codes ", " ++ vlmul_text multiplier ++ codes ", " ++ vta_text tail ++ codes ", " ++ vma_text inactive) = omega (arith, names_length (vsew_text width) (vlmul_text multiplier) (vta_text tail) (vma_text inactive)) in
+    let at : q + 2 + length (vlmul_text multiplier) + 2 + length (vta_text tail) + 2 + length (vma_text inactive) ≡ p + length (names_text width multiplier tail inactive) = omega (arith, names_length (vsew_text width) (vlmul_text multiplier) (vta_text tail) (vma_text inactive)) in
     ap (λ (t : List ℕ). vtype end count (tokens p t)) (names_whole (vsew_text width) (vlmul_text multiplier) (vta_text tail) (vma_text inactive) more)
     ∙ ap (vtype end count) (word p (vsew_text width) others m.run m.some refl)
     ∙ ap (vtype_from end count (record { column = p; text = vsew_text width }) (tokens q others)) m.value
-    ∙ names_again end width multiplier tail inactive q more (omega arith) reserved (omega arith) (omega arith) follows
-    ∙ ap (λ (x : ℕ). Ok (x, tokens (q + 2 + length (vlmul_text multiplier) + 2 + length (vta_text tail) + 2 + length (vma_text inactive)) more)) is
-    ∙ ap (λ (k : ℕ). Ok (v, tokens k more)) at
+    ∙ names_again end width multiplier tail inactive q more lm lh lt li follows
+    ∙ ap (λ (k : ℕ). Ok (multiplier + width * 8 + tail * 64 + inactive * 128, tokens k more)) at
+
+named_vtype : (end count v p : ℕ) (more : List ℕ) → v < 256 → eqb (v % 8) 4 ≡ false → v / 8 % 8 < 4 → runs_on more ≡ false
+    → Takes (vtype end count) (names_text (v / 8 % 8) (v % 8) (v / 64 % 2) (v / 128 % 2)) v p more
+named_vtype end count v p more small reserved wide follows =
+    let is : v % 8 + v / 8 % 8 * 8 + v / 64 % 2 * 64 + v / 128 % 2 * 128 ≡ v = omega arith in
+    subst (λ (x : ℕ). Takes (vtype end count) (names_text (v / 8 % 8) (v % 8) (v / 64 % 2) (v / 128 % 2)) x p more) is
+    (named_parts end count (v / 8 % 8) (v % 8) (v / 64 % 2) (v / 128 % 2) p more wide (omega arith) reserved (omega arith) (omega arith) follows)
 
 plain_vtype : (end count v p : ℕ) (more : List ℕ) → v < count → count ≤ 2 ^ 32 → runs_on more ≡ false → Takes (vtype end count) (decimal v) v p more
 plain_vtype end count v p more lt small follows =
@@ -194,7 +199,7 @@ not_false false h = refl
 
 vtype_again : (end count v p : ℕ) (more : List ℕ) → v < count → count ≤ 2 ^ 32 → runs_on more ≡ false → Takes (vtype end count) (vtype_text v) v p more
 vtype_again end count v p more lt small follows =
-    let names = vsew_text (v / 8 % 8) ++ codes ", " ++ vlmul_text (v % 8) ++ codes ", " ++ vta_text (v / 64 % 2) ++ codes ", " ++ vma_text (v / 128 % 2) in
+    let names = names_text (v / 8 % 8) (v % 8) (v / 64 % 2) (v / 128 % 2) in
     elim (cases_Bool (has_names v)) [
       | inl y ↦
           let a = and_parts (ltb v 256) (not (eqb (v % 8) 4) && ltb (v / 8 % 8) 4) y in
