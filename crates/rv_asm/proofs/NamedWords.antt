@@ -15,11 +15,11 @@ use Rattle.rv_model.specs.declared.mnemonics.TheConstants.{MNEMONICS}
 use Rattle.rv_model.specs.AssemblerNumbers.{hex_digits}
 use Rattle.rv_model.specs.AssemblerFields.{fixed_mask}
 use Rattle.rv_model.specs.AssemblerTable.{slots_of, row_at, name_at, slots_at, bits_at, row_of_word, printed_operands, text_at, canonical}
-use Rattle.rv_model.specs.AssemblerNaming.{IsFence, HasName, HasNoName, IsNamed, directive_text}
+use Rattle.rv_model.specs.AssemblerNaming.{IsFence, HasBitsOf, HasName, HasNoName, IsNamed, directive_text}
 use Rattle.rv_model.specs.InstructionTable.{Row, In, Matches, table, scan}
 use Rattle.rv_model.proofs.InstructionLaws.{some_row, found, table_apart}
 use Rattle.rv_asm.proofs.WordLaws.{has_bits, row_matches}
-use Rattle.rv_asm.proofs.Naming.{Pattern, pattern_of, names, HasNameOf, row_named, name_of_row, fence_named}
+use Rattle.rv_asm.proofs.Naming.{Pattern, pattern_of, names, HasNameOf, row_named, name_of_row, fence_named, two_names}
 
 abbrev none : Mnemonic
 none = record { 0 = []; 1 = form.Plain; 2 = 0 }
@@ -71,14 +71,16 @@ named_below w h =
     let is : bit_and w (fixed_mask (slots_of (get_or MNEMONICS h.0 none).1)) ≡ (get_or MNEMONICS h.0 none).2 = subst P (name_at_row h.0 lt) h.2 in
     first_below w h.0 lt (eq-eqb (bit_and w (fixed_mask (slots_of (get_or MNEMONICS h.0 none).1))) (get_or MNEMONICS h.0 none).2 is)
 
+in_names : (row : ℕ) → row < 597 → row < length names
+in_names row lt = let P : ℕ → Type 0 = λ k. row < k in subst P (sym named_count) lt
+
+bits_of_name : (row w : ℕ) → row < 597 → HasBitsOf row w → bit_and w (get_or names row (0, 0)).0 ≡ (get_or names row (0, 0)).1
+unfolding slots_at bits_at row_at
+bits_of_name row w lt is = let P : Pattern → Type 0 = λ p. bit_and w p.0 ≡ p.1 in subst P (sym (name_at_row row lt)) is
+
 -- the row of a word's name is a name of the list
 has_name_of : (w : ℕ) → row_of_word w < 597 → HasNameOf names w
-unfolding slots_at bits_at row_at
-has_name_of w lt =
-    let row = row_of_word w in
-    let P : Pattern → Type 0 = λ p. bit_and w p.0 ≡ p.1 in
-    let within : row < length names = let Q : ℕ → Type 0 = λ k. row < k in subst Q (sym named_count) lt in
-    (row, within, subst P (sym (name_at_row row lt)) (row_matches w).bits)
+has_name_of w lt = (row_of_word w, in_names (row_of_word w) lt, bits_of_name (row_of_word w) w lt (row_matches w).bits)
 
 fence_row : row_of_word 0x0ff0000f < 597
 unfolding row_of_word fixed_mask
@@ -131,3 +133,13 @@ directive_is w small =
 pub is_directive : (w : ℕ) → w < 2 ^ 32 → HasNoName w → canonical w ≡ directive_text w
 unfolding canonical
 is_directive w small h = ap (λ (row : ℕ). text_at row w) (last_row (row_of_word w) (row_matches w).within (no_name_below w small h)) ∙ directive_is w small
+
+pub one_name : (w row other : ℕ) → row < 597 → other < 597 → HasBitsOf row w → HasBitsOf other w → row ≡ other
+one_name w row other lt less is also =
+    elim (cases_lt row other) [
+      | inl before ↦ absurd (two_names row other w before (in_names other less) (bits_of_name row w lt is) (bits_of_name other w less also))
+      | inr le ↦ elim (cases_lt other row) [
+        | inl before ↦ absurd (two_names other row w before (in_names row lt) (bits_of_name other w less also) (bits_of_name row w lt is))
+        | inr ge ↦ omega arith
+      ]
+    ]

@@ -66,8 +66,9 @@ pub fn slots_of(form: Form) -> &'static [Slot]
     }
 }
 
+/// Ones at the bits that a form leaves to the name.
 #[tactic(auto, unfolding(rv_model::specs::AssemblerFields::fixed_mask))]
-fn fixed_mask(form: Form) -> u32
+pub fn fixed_mask(form: Form) -> u32
     ensures { result ≡ fixed_mask (slots_of form) }
 {
     match form {
