@@ -84,15 +84,18 @@ vma text = if bytes_eq text (codes "ma") then Some 1 else (if bytes_eq text (cod
 unfoldable pub csr_text : ℕ → List ℕ
 csr_text n = if n == 0x008 then codes "vstart" else (if n == 0x009 then codes "vxsat" else (if n == 0x00a then codes "vxrm" else (if n == 0x00f then codes "vcsr" else (if n == 0xc20 then codes "vl" else (if n == 0xc21 then codes "vtype" else (if n == 0xc22 then codes "vlenb" else decimal n))))))
 
--- the names of the parts of vtype
+-- the name of an element width
 unfoldable pub vsew_text : ℕ → List ℕ
 vsew_text n = if n == 0 then codes "e8" else (if n == 1 then codes "e16" else (if n == 2 then codes "e32" else codes "e64"))
 
+-- the name of a group multiplier
 unfoldable pub vlmul_text : ℕ → List ℕ
 vlmul_text n = if n == 0 then codes "m1" else (if n == 1 then codes "m2" else (if n == 2 then codes "m4" else (if n == 3 then codes "m8" else (if n == 5 then codes "mf8" else (if n == 6 then codes "mf4" else codes "mf2")))))
 
+-- the name of a policy for the tail
 unfoldable pub vta_text : ℕ → List ℕ
 vta_text n = if n == 1 then codes "ta" else codes "tu"
 
+-- the name of a policy for masked-off elements
 unfoldable pub vma_text : ℕ → List ℕ
 vma_text n = if n == 1 then codes "ma" else codes "mu"

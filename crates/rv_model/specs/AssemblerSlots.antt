@@ -72,11 +72,12 @@ vtype_names end width ts = do
   inactive ← one end vma c.1
   Ok (multiplier.0 + width * 8 + tail.0 * 64 + inactive.0 * 128, inactive.1)
 
--- vtype by names where the first token is an element width, else a number
+-- vtype by names if the first token was an element width, else that token as a number
 abbrev pub vtype_from : ℕ → ℕ → Token → List Token → Option ℕ → Result (ℕ × List Token) ℕ
 vtype_from end count t ts (Some width) = vtype_names end width ts
 vtype_from end count t ts None = accept t.column ts (at_most (count - 1) (number t.text))
 
+-- vtype, as a number below count or by its names
 abbrev pub vtype : ℕ → ℕ → List Token → Result (ℕ × List Token) ℕ
 vtype end count [] = Err end
 vtype end count (t ∷ ts) = vtype_from end count t ts (vsew t.text)

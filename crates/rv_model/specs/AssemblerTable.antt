@@ -70,13 +70,15 @@ unpadded (c ∷ cs) = if c == 32 then [] else c ∷ unpadded cs
 unfoldable pub row_at : ℕ → Mnemonic
 row_at row = slice_index_or MNEMONICS row (record { 0 = []; 1 = form.Plain; 2 = 0 })
 
--- its name, its slots and the bits that it fixes
+-- the name of a row
 unfoldable pub name_at : ℕ → List ℕ
 name_at row = unpadded (row_at row).0
 
+-- the slots of its form
 unfoldable pub slots_at : ℕ → List Slot
 slots_at row = slots_of (row_at row).1
 
+-- the bits that it fixes
 unfoldable pub bits_at : ℕ → ℕ
 bits_at row = (row_at row).2
 
