@@ -1,7 +1,7 @@
 -- What a text spells, from its name and its operands; and the parts of a canonical text
-use Rattle.std.proofs.Common.{◌≡◌, ℕ, ◌+◌, List, [], ◌∷◌, ◌++◌, length, Option, Some, None, Result, Ok, Err, refl, sym, ap, ap₂, ◌∙◌}
+use Rattle.std.proofs.Common.{◌≡◌, ℕ, ◌+◌, List, [], ◌∷◌, ◌++◌, length, Some, None, Result, Ok, Err, sym, ap, ap₂, ◌∙◌}
 use Rattle.std.specs.Prelude.{IfOk, IfErr}
-use Rattle.rv_model.specs.AssemblerTokens.{Token, tokens}
+use Rattle.rv_model.specs.AssemblerTokens.{Token}
 use Rattle.rv_model.specs.declared.assembler.Slot.{Slot}
 use Rattle.rv_model.specs.declared.mnemonics.Mnemonic.{Mnemonic}
 use Rattle.rv_model.specs.AssemblerTable.{slots_of, unpadded, row_named, row_at, name_at, slots_at, bits_at, read_operands, spelled_with, spelled_by, spelled, row_of_word, operands_text, text_at, canonical}

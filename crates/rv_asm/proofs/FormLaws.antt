@@ -1,11 +1,11 @@
 -- A form reads the operands that it prints
-use Rattle.std.proofs.Common.{◌≡◌, ℕ, zero, suc, ◌+◌, ◌<◌, Bool, true, false, ◌&&◌, List, [], ◌∷◌, ◌++◌, length, Result, Ok, Err, refl, sym, ap, ◌∙◌, arith}
+use Rattle.std.proofs.Common.{◌≡◌, ℕ, zero, suc, ◌+◌, ◌<◌, Bool, true, false, ◌&&◌, List, [], ◌∷◌, ◌++◌, length, Result, Ok, refl, sym, ap, ◌∙◌, arith}
 use Rattle.std.proofs.lemmas.Bool.{and_parts}
 use Rattle.rv_model.specs.AssemblerTokens.{Token, runs_on, tokens}
 use Rattle.rv_model.specs.BitFields.{sum_of}
 use Rattle.rv_model.specs.declared.assembler.Slot.{Slot}
 use Rattle.rv_model.specs.declared.assembler.Slot.TheVariants.{Comma, Open, Close, V0, Scalar, Vector, Unsigned, Signed, Csr, VectorType, ShortVectorType, Mask, Word}
-use Rattle.rv_model.specs.AssemblerSlots.{◌>>=◌, read, printed}
+use Rattle.rv_model.specs.AssemblerSlots.{◌>>=◌, printed}
 use Rattle.rv_model.specs.AssemblerFields.{parts_of, placed, value_of, operand_parts}
 use Rattle.rv_model.specs.AssemblerTable.{read_operands, printed_operands}
 use Rattle.rv_asm.proofs.FieldLaws.{value_below, sum_of-append}

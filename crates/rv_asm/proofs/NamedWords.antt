@@ -1,10 +1,9 @@
 -- The canonical text of an instruction has its name, that of any other word is `.word` and digits
-use Rattle.std.proofs.Common.{◌≡◌, ◌≢◌, ◌⊎◌, ℕ, ◌+◌, ◌/◌, ◌%◌, ◌^◌, ◌<◌, ◌≤◌, Bool, true, false, nat_eq, nat_lt, List, [], ◌++◌, length, get_or, map, take, position, unwrap_or, Option, Some, None, refl, sym, ap, subst, ◌∙◌, arith, inl, inr, lit<}
+use Rattle.std.proofs.Common.{◌≡◌, ◌⊎◌, ℕ, ◌/◌, ◌%◌, ◌^◌, ◌<◌, true, false, nat_lt, List, [], ◌++◌, length, get_or, take, position, unwrap_or, Option, Some, None, refl, sym, ap, subst, ◌∙◌, arith, inl, inr, lit<}
 use Rattle.std.specs.Prelude.{IsSome, IsNone, codes}
 use Rattle.std.specs.List.{position_or_len}
 use Rattle.std.specs.Int.Bits.{bit_and}
-use Rattle.std.proofs.Math.Nat.{mod-eq_of_lt}
-use Rattle.std.proofs.lemmas.Bool.{cases_lt, cond-true, lt-ltb, eqb-true, eq-eqb}
+use Rattle.std.proofs.lemmas.Bool.{cases_lt, cond-true, lt-ltb, eq-eqb}
 use Rattle.std.proofs.lemmas.Bool.Decides.{eqb_tells}
 use Rattle.std.proofs.lemmas.List.Sums.{fails_before_first}
 use Rattle.std.proofs.lemmas.List.{get_or-map, get_or-take, append-nil}
@@ -16,7 +15,7 @@ use Rattle.rv_model.specs.AssemblerNumbers.{hex_digits}
 use Rattle.rv_model.specs.AssemblerFields.{fixed_mask}
 use Rattle.rv_model.specs.AssemblerTable.{slots_of, row_at, name_at, slots_at, bits_at, row_of_word, printed_operands, text_at, canonical}
 use Rattle.rv_model.specs.AssemblerNaming.{IsFence, HasBitsOf, HasName, HasNoName, IsNamed, directive_text}
-use Rattle.rv_model.specs.InstructionTable.{Row, In, Matches, table, scan}
+use Rattle.rv_model.specs.InstructionTable.{table, scan}
 use Rattle.rv_model.proofs.InstructionLaws.{some_row, found, table_apart}
 use Rattle.rv_asm.proofs.WordLaws.{has_bits, row_matches}
 use Rattle.rv_asm.proofs.Naming.{Pattern, pattern_of, names, HasNameOf, row_named, name_of_row, fence_named, two_names}

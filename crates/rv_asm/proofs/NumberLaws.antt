@@ -1,12 +1,12 @@
 -- The number or the register that is printed is the one that is read
-use Rattle.std.proofs.Common.{◌≡◌, ◌≢◌, ℕ, zero, suc, ◌+◌, ◌-◌, ◌*◌, ◌/◌, ◌%◌, ◌^◌, ◌<◌, ◌≤◌, Bool, true, false, cond, eqb, ltb, leb, ◌&&◌, List, [], ◌∷◌, ◌++◌, length, Option, Some, None, Result, Ok, Err, refl, sym, ap, subst, ◌∙◌, append_assoc, arith, inl, inr}
+use Rattle.std.proofs.Common.{◌≡◌, ℕ, zero, suc, ◌+◌, ◌-◌, ◌*◌, ◌/◌, ◌%◌, ◌^◌, ◌<◌, ◌≤◌, Bool, true, false, cond, eqb, ltb, leb, ◌&&◌, List, [], ◌∷◌, ◌++◌, length, Option, Some, None, refl, sym, ap, ◌∙◌, arith, inl, inr}
 use Rattle.std.specs.Fmt.{decimal}
 use Rattle.std.specs.Str.{bytes_eq}
 use Rattle.std.proofs.lemmas.Fmt.{decimal_by_steps, decimal_digit, decimal_step}
-use Rattle.std.proofs.lemmas.Bool.{agree_below_at, eqb-true, le-leb, lt-ltb, le-ltb, eq-eqb, ne_eqb, and_from, and_parts, and_left, and_right, or_left, or_right, leb-true, cond-true, cond-false, cases_lt, false≢true}
+use Rattle.std.proofs.lemmas.Bool.{agree_below_at, eqb-true, le-leb, lt-ltb, eq-eqb, ne_eqb, and_from, and_parts, and_left, and_right, or_left, or_right, leb-true, cond-true, cond-false, cases_lt}
 use Rattle.std.proofs.lemmas.List.{length-append}
 use Rattle.rv_model.specs.AssemblerTokens.{in_run}
-use Rattle.rv_model.specs.AssemblerNumbers.{digit, digits_after, digits_in, number, register, at_most, hex_digit, hex_digits}
+use Rattle.rv_model.specs.AssemblerNumbers.{digit, digits_after, digits_in, number, register, hex_digit, hex_digits}
 use Rattle.rv_asm.proofs.Tokens.{all_run}
 
 abbrev pub is_dec : ℕ → Bool

@@ -1,5 +1,5 @@
 -- The canonical text of a word spells that word
-use Rattle.std.proofs.Common.{◌≡◌, ℕ, ◌^◌, ◌<◌, Bool, true, nat_eq, List, [], length, get_or, position, unwrap_or, Option, Some, None, Result, Ok, refl, sym, ap, subst, ◌∙◌, lit<}
+use Rattle.std.proofs.Common.{◌≡◌, ℕ, ◌^◌, ◌<◌, Bool, nat_eq, [], length, get_or, position, unwrap_or, Option, Some, None, Ok, refl, sym, ap, subst, ◌∙◌, lit<}
 use Rattle.std.specs.Int.Bits.{bit_and, and_zero_r}
 use Rattle.std.proofs.lemmas.Bool.{eqb-true}
 use Rattle.std.proofs.lemmas.List.Quantifiers.{position-Some}
@@ -7,7 +7,7 @@ use Rattle.rv_model.specs.declared.assembler.Form.TheVariants as form
 use Rattle.rv_model.specs.declared.mnemonics.Mnemonic.{Mnemonic}
 use Rattle.rv_model.specs.declared.mnemonics.TheConstants.{MNEMONICS}
 use Rattle.rv_model.specs.AssemblerFields.{fixed_mask}
-use Rattle.rv_model.specs.AssemblerTable.{slots_of, row_at, slots_at, bits_at, row_of_word, spelled, text_at, canonical}
+use Rattle.rv_model.specs.AssemblerTable.{slots_of, row_at, slots_at, bits_at, row_of_word, spelled, canonical}
 use Rattle.rv_asm.proofs.RowLaws.{text_again}
 
 -- the word has the bits that a row fixes

@@ -1,6 +1,6 @@
 -- Where a slot's operand stands in the word (Unprivileged ISA, "Immediate Encoding Variants"; V extension, "Vector Instruction Formats")
-use Rattle.std.specs.Prelude.{ℕ, ◌+◌, ◌-◌, ◌*◌, ◌/◌, ◌%◌, ◌^◌, List, [], ◌∷◌, ◌++◌}
-use Rattle.rv_model.specs.BitFields.{field, Part, part, sum_of, mask_of, fixed}
+use Rattle.std.specs.Prelude.{ℕ, ◌/◌, ◌%◌, ◌^◌, List, [], ◌∷◌, ◌++◌}
+use Rattle.rv_model.specs.BitFields.{field, Part, part, sum_of, fixed}
 use Rattle.rv_model.specs.Immediates.{store_immediate, branch_offset, jump_offset}
 use Rattle.rv_model.specs.declared.assembler.Place.{Place}
 use Rattle.rv_model.specs.declared.assembler.Place.TheVariants.{Rd, Rs1, Rs2}

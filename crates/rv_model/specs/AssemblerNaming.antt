@@ -1,4 +1,4 @@
--- Which words have names: every instruction but the fences that order less than all memory and devices
+-- Which words have names: every instruction but the fences that order less than all memory and devices (this project's choice)
 use Rattle.std.specs.Prelude.{ℕ, ◌≡◌, ◌≢◌, ◌<◌, ◌⊎◌, ◌++◌, List, IsSome, IsNone, bit_and, codes}
 use Rattle.rv_model.specs.AssemblerNumbers.{hex_digits}
 use Rattle.rv_model.specs.AssemblerFields.{fixed_mask}

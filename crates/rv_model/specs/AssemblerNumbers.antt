@@ -1,4 +1,4 @@
--- What one token of assembler text means: a number, a register, a name
+-- What one token of assembler text means: a number; a register (Unprivileged ISA, "RISC-V Assembly Programmer's Handbook"); a name of a control register or of a part of vtype (V extension, "Vector Extension Programmer's Model")
 use Rattle.std.specs.Prelude.{ℕ, zero, suc, ◌+◌, ◌-◌, ◌*◌, ◌/◌, ◌%◌, ◌&&◌, List, [], ◌∷◌, ◌++◌, Option, Some, None, nat_le, nat_lt, ◌==◌, if◌then◌else◌, codes, decimal}
 use Rattle.std.specs.Str.{bytes_eq}
 

@@ -1,5 +1,5 @@
--- What the slots of a form take from the tokens, and the one text that each prints for an operand
-use Rattle.std.specs.Prelude.{ℕ, ◌+◌, ◌-◌, ◌*◌, ◌/◌, ◌%◌, ◌^◌, ◌<◌, Bool, true, false, ◌&&◌, not, List, [], ◌∷◌, ◌++◌, Option, Some, None, Result, Ok, Err, nat_lt, ◌==◌, if◌then◌else◌, codes, decimal}
+-- What the slots of a form take from the tokens, and the one text that each prints for an operand (V extension, "Vector Masking", "Configuration-Setting Instructions"; the ranges are those of the fields). That vtype has names exactly where no bit is reserved is this project's choice
+use Rattle.std.specs.Prelude.{ℕ, ◌+◌, ◌-◌, ◌*◌, ◌/◌, ◌%◌, ◌^◌, Bool, ◌&&◌, not, List, [], ◌∷◌, ◌++◌, Option, Some, None, Result, Ok, Err, nat_lt, ◌==◌, if◌then◌else◌, codes, decimal}
 use Rattle.std.specs.Str.{bytes_eq}
 use Rattle.rv_model.specs.AssemblerTokens.{Token}
 use Rattle.rv_model.specs.AssemblerNumbers.{literal, register, number, at_most, in_steps, negated, csr, vsew, vlmul, vta, vma, csr_text, vsew_text, vlmul_text, vta_text, vma_text, hex_digits}

@@ -1,5 +1,5 @@
--- The texts of words: each name has one form, a list of slots. A text spells a word if its tokens fit the slots of its name with that word's operands; the canonical text of a word is that of the name whose fixed bits it has
-use Rattle.std.specs.Prelude.{◌≡◌, ℕ, ◌+◌, ◌-◌, List, [], ◌∷◌, ◌++◌, length, replicate, Option, Some, None, Result, Ok, Err, nat_lt, nat_eq, bit_and, ◌==◌, if◌then◌else◌, position, unwrap_or, slice_index_or}
+-- The texts of words: each name has one form, a list of slots. A text spells a word if its tokens fit the slots of its name with that word's operands; the canonical text of a word is that of the name whose fixed bits it has (this project's choice)
+use Rattle.std.specs.Prelude.{ℕ, ◌+◌, ◌-◌, List, [], ◌∷◌, ◌++◌, length, replicate, Option, Some, None, Result, Ok, Err, nat_lt, nat_eq, bit_and, ◌==◌, if◌then◌else◌, position, unwrap_or, slice_index_or}
 use Rattle.std.specs.Str.{bytes_eq}
 use Rattle.rv_model.specs.AssemblerTokens.{Token, tokens}
 use Rattle.rv_model.specs.AssemblerSlots.{◌>>=◌, read, printed}

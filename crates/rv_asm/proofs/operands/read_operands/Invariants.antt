@@ -1,4 +1,4 @@
-use Rattle.std.proofs.Common.{◌≡◌, ◌≤◌, ◌<◌, ◌^◌, ◌+◌, ℕ, length, drop}
+use Rattle.std.proofs.Common.{◌≡◌, ◌≤◌, ◌<◌, ◌^◌, ◌+◌, length, drop}
 use Rattle.rv_model.specs.AssemblerTable.{read_operands}
 use Rattle.rv_asm.specs.Places.{rest}
 use Rattle.rv_asm.specs.Spans.{spans}
