@@ -1,4 +1,5 @@
--- The bits that each operation fixes in its word, as the manual's tables have them: opcode at bits 6 to 0, funct3 at 14 to 12, funct7 at 31 to 25
+-- The bits that each operation fixes in its word, as the manual's tables have them: opcode at bits 6 to 0, funct3 at
+-- 14 to 12, funct7 at 31 to 25
 use Rattle.std.specs.Prelude.{ℕ, ◌+◌, ◌*◌, ◌^◌, List, [], ◌∷◌}
 use Rattle.rv_model.specs.declared.operations.UpperOp.{UpperOp}
 use Rattle.rv_model.specs.declared.operations.UpperOp.TheVariants as upper
@@ -208,31 +209,32 @@ csr_immediate_bits csr_immediate.Csrrci = coded 0x73 7
 abbrev pub csr_immediate_ops : List CsrImmediateOp
 csr_immediate_ops = csr_immediate.Csrrwi ∷ csr_immediate.Csrrsi ∷ csr_immediate.Csrrci ∷ []
 
--- ---- vector operations with fewer operands (V extension, "Vector Instruction Listing"): funct3, funct6, bit 25 where it is fixed, vs1 where it is
+-- ---- vector operations with fewer operands (V extension, "Vector Instruction Listing"): funct3, funct6, bit 25
+-- where it is fixed, vs1 where it is
 
 -- vmv.v.v, vmv.v.x, vmv.v.i ("Vector Integer Move Instructions")
 abbrev pub move_bits : Form → ℕ
-move_bits form.V = vector_coded 0 0x17 1 0
-move_bits form.X = vector_coded 4 0x17 1 0
-move_bits form.I = vector_coded 3 0x17 1 0
+move_bits form.V = vector_coded 0 0x17 1 0  -- vmv.v.v
+move_bits form.X = vector_coded 4 0x17 1 0  -- vmv.v.x
+move_bits form.I = vector_coded 3 0x17 1 0  -- vmv.v.i
 
 -- vmv1r.v, vmv2r.v, vmv4r.v, vmv8r.v ("Whole Vector Register Move")
 abbrev pub whole_move_bits : RegisterCount → ℕ
-whole_move_bits count.One = vector_coded 3 0x27 1 0
-whole_move_bits count.Two = vector_coded 3 0x27 1 1
-whole_move_bits count.Four = vector_coded 3 0x27 1 3
-whole_move_bits count.Eight = vector_coded 3 0x27 1 7
+whole_move_bits count.One = vector_coded 3 0x27 1 0  -- vmv1r.v
+whole_move_bits count.Two = vector_coded 3 0x27 1 1  -- vmv2r.v
+whole_move_bits count.Four = vector_coded 3 0x27 1 3  -- vmv4r.v
+whole_move_bits count.Eight = vector_coded 3 0x27 1 7  -- vmv8r.v
 
 -- "Vector Mask-Register Logical Instructions"
 abbrev pub mask_logic_bits : MaskLogicOp → ℕ
-mask_logic_bits mask_logic.Vmandn = vector_coded 2 0x18 1 0
-mask_logic_bits mask_logic.Vmand = vector_coded 2 0x19 1 0
-mask_logic_bits mask_logic.Vmor = vector_coded 2 0x1a 1 0
-mask_logic_bits mask_logic.Vmxor = vector_coded 2 0x1b 1 0
-mask_logic_bits mask_logic.Vmorn = vector_coded 2 0x1c 1 0
-mask_logic_bits mask_logic.Vmnand = vector_coded 2 0x1d 1 0
-mask_logic_bits mask_logic.Vmnor = vector_coded 2 0x1e 1 0
-mask_logic_bits mask_logic.Vmxnor = vector_coded 2 0x1f 1 0
+mask_logic_bits mask_logic.Vmandn = vector_coded 2 0x18 1 0  -- vmandn.mm
+mask_logic_bits mask_logic.Vmand = vector_coded 2 0x19 1 0  -- vmand.mm
+mask_logic_bits mask_logic.Vmor = vector_coded 2 0x1a 1 0  -- vmor.mm
+mask_logic_bits mask_logic.Vmxor = vector_coded 2 0x1b 1 0  -- vmxor.mm
+mask_logic_bits mask_logic.Vmorn = vector_coded 2 0x1c 1 0  -- vmorn.mm
+mask_logic_bits mask_logic.Vmnand = vector_coded 2 0x1d 1 0  -- vmnand.mm
+mask_logic_bits mask_logic.Vmnor = vector_coded 2 0x1e 1 0  -- vmnor.mm
+mask_logic_bits mask_logic.Vmxnor = vector_coded 2 0x1f 1 0  -- vmxnor.mm
 
 -- their operations
 abbrev pub mask_logic_ops : List MaskLogicOp
@@ -242,8 +244,8 @@ mask_logic_ops =
 
 -- VWXUNARY0 on a mask: "Vector count population in mask vcpop.m", "vfirst find-first-set mask bit"
 abbrev pub mask_to_scalar_bits : MaskToScalarOp → ℕ
-mask_to_scalar_bits mask_to_scalar.Vcpop = vector_coded 2 0x10 0 16
-mask_to_scalar_bits mask_to_scalar.Vfirst = vector_coded 2 0x10 0 17
+mask_to_scalar_bits mask_to_scalar.Vcpop = vector_coded 2 0x10 0 16  -- vcpop.m
+mask_to_scalar_bits mask_to_scalar.Vfirst = vector_coded 2 0x10 0 17  -- vfirst.m
 
 -- its operations
 abbrev pub mask_to_scalar_ops : List MaskToScalarOp
@@ -251,12 +253,12 @@ mask_to_scalar_ops = mask_to_scalar.Vcpop ∷ mask_to_scalar.Vfirst ∷ []
 
 -- VXUNARY0: "Vector Integer Extension"
 abbrev pub extend_bits : ExtendOp → ℕ
-extend_bits extend.VzextVf8 = vector_coded 2 0x12 0 2
-extend_bits extend.VsextVf8 = vector_coded 2 0x12 0 3
-extend_bits extend.VzextVf4 = vector_coded 2 0x12 0 4
-extend_bits extend.VsextVf4 = vector_coded 2 0x12 0 5
-extend_bits extend.VzextVf2 = vector_coded 2 0x12 0 6
-extend_bits extend.VsextVf2 = vector_coded 2 0x12 0 7
+extend_bits extend.VzextVf8 = vector_coded 2 0x12 0 2  -- vzext.vf8
+extend_bits extend.VsextVf8 = vector_coded 2 0x12 0 3  -- vsext.vf8
+extend_bits extend.VzextVf4 = vector_coded 2 0x12 0 4  -- vzext.vf4
+extend_bits extend.VsextVf4 = vector_coded 2 0x12 0 5  -- vsext.vf4
+extend_bits extend.VzextVf2 = vector_coded 2 0x12 0 6  -- vzext.vf2
+extend_bits extend.VsextVf2 = vector_coded 2 0x12 0 7  -- vsext.vf2
 
 -- its operations
 abbrev pub extend_ops : List ExtendOp
@@ -266,16 +268,17 @@ extend_ops =
 
 -- VMUNARY0 on a mask: "vmsbf.m set-before-first mask bit" and the like, "Vector Iota Instruction"
 abbrev pub mask_unary_bits : MaskUnaryOp → ℕ
-mask_unary_bits mask_unary.Vmsbf = vector_coded 2 0x14 0 1
-mask_unary_bits mask_unary.Vmsof = vector_coded 2 0x14 0 2
-mask_unary_bits mask_unary.Vmsif = vector_coded 2 0x14 0 3
-mask_unary_bits mask_unary.Viota = vector_coded 2 0x14 0 16
+mask_unary_bits mask_unary.Vmsbf = vector_coded 2 0x14 0 1  -- vmsbf.m
+mask_unary_bits mask_unary.Vmsof = vector_coded 2 0x14 0 2  -- vmsof.m
+mask_unary_bits mask_unary.Vmsif = vector_coded 2 0x14 0 3  -- vmsif.m
+mask_unary_bits mask_unary.Viota = vector_coded 2 0x14 0 16  -- viota.m
 
 -- its operations
 abbrev pub mask_unary_ops : List MaskUnaryOp
 mask_unary_ops = mask_unary.Vmsbf ∷ mask_unary.Vmsof ∷ mask_unary.Vmsif ∷ mask_unary.Viota ∷ []
 
--- ---- vector memory (V extension, "Vector Load/Store Instruction Encoding": nf 31 to 29, mew 28, mop 27 to 26, width 14 to 12)
+-- ---- vector memory (V extension, "Vector Load/Store Instruction Encoding": nf 31 to 29, mew 28, mop 27 to 26, width
+-- 14 to 12)
 
 -- the width of a memory element or an index
 abbrev pub width_bits : Width → ℕ
@@ -299,9 +302,9 @@ directions = direction.Load ∷ direction.Store ∷ []
 
 -- unit stride, by what stands at lumop or sumop (bits 24 to 20)
 abbrev pub unit_bits : UnitOp → ℕ
-unit_bits unit.Load = direction_bits direction.Load
-unit_bits unit.FaultOnlyFirst = direction_bits direction.Load + 16 * 2 ^ 20
-unit_bits unit.Store = direction_bits direction.Store
+unit_bits unit.Load = direction_bits direction.Load  -- vle8.v, vlseg2e8.v and the like
+unit_bits unit.FaultOnlyFirst = direction_bits direction.Load + 16 * 2 ^ 20  -- vle8ff.v, vlseg2e8ff.v
+unit_bits unit.Store = direction_bits direction.Store  -- vse8.v, vsseg2e8.v
 
 -- its operations
 abbrev pub unit_ops : List UnitOp
@@ -309,19 +312,19 @@ unit_ops = unit.Load ∷ unit.FaultOnlyFirst ∷ unit.Store ∷ []
 
 -- mop of an indexed access
 abbrev pub order_bits : Order → ℕ
-order_bits order.Unordered = 1 * 2 ^ 26
-order_bits order.Ordered = 3 * 2 ^ 26
+order_bits order.Unordered = 1 * 2 ^ 26  -- vluxei8.v, vsuxei8.v, vluxseg2ei8.v, vsuxseg2ei8.v and the like
+order_bits order.Ordered = 3 * 2 ^ 26  -- vloxei8.v, vsoxei8.v, vloxseg2ei8.v, vsoxseg2ei8.v
 
--- mop of a strided access
+-- mop of a strided access: vlse8.v, vsse8.v, vlsseg2e8.v, vssseg2e8.v and the like
 abbrev pub strided_bits : ℕ
 strided_bits = 2 * 2 ^ 26
 
 -- nf of a whole-register access, one less than the count, with 01000 at lumop or sumop and bit 25 set
 abbrev pub count_bits : RegisterCount → ℕ
-count_bits count.One = 0 * 2 ^ 29 + 8 * 2 ^ 20 + 2 ^ 25
-count_bits count.Two = 1 * 2 ^ 29 + 8 * 2 ^ 20 + 2 ^ 25
-count_bits count.Four = 3 * 2 ^ 29 + 8 * 2 ^ 20 + 2 ^ 25
-count_bits count.Eight = 7 * 2 ^ 29 + 8 * 2 ^ 20 + 2 ^ 25
+count_bits count.One = 0 * 2 ^ 29 + 8 * 2 ^ 20 + 2 ^ 25  -- vl1re8.v, vs1r.v
+count_bits count.Two = 1 * 2 ^ 29 + 8 * 2 ^ 20 + 2 ^ 25  -- vl2re8.v, vs2r.v
+count_bits count.Four = 3 * 2 ^ 29 + 8 * 2 ^ 20 + 2 ^ 25  -- vl4re8.v, vs4r.v
+count_bits count.Eight = 7 * 2 ^ 29 + 8 * 2 ^ 20 + 2 ^ 25  -- vl8re8.v, vs8r.v
 
 -- each count
 abbrev pub counts : List RegisterCount

@@ -1,5 +1,7 @@
--- A user's memory as a finite map from addresses to (byte, permissions)
-use Rattle.std.specs.Prelude.{ℕ, ◌+◌, ◌*◌, ◌/◌, Bool, true, false, cond, nat_lt, List, [], ◌∷◌, zero, suc, map, Option, Some, None, refl}
+-- A user's memory: a finite map from addresses to a byte and what may be done with it. Memory is one space of bytes, by address
+-- (Unprivileged ISA, section 1.4). It is mapped in pages of 4,096 bytes, each with permissions to read, write and execute, as the
+-- leaf entries of page tables have them (Privileged Architecture, section 4.3.1). An access is allowed where each of its bytes is.
+use Rattle.std.specs.Prelude.{◌≡◌, ◌↔◌, ◌<◌, length, slice_index, ℕ, ◌+◌, ◌*◌, ◌/◌, ◌-◌, Bool, true, false, ◌&&◌, cond, nat_lt, nat_le, List, [], ◌∷◌, zero, suc, map, Option, Some, None, refl}
 use Rattle.std.specs.List.{list_all, list_any, range_with_len}
 use Rattle.std.specs.Option.{option_map_or}
 use Rattle.std.specs.Ordering.{nat_cmp}
@@ -16,6 +18,7 @@ pub record Cell : Type 0 where
   pub byte : ℕ
   pub permissions : Permissions
 
+-- the map; an address that it does not have is not mapped
 abbrev pub Memory : Type 0
 Memory = FinMap nat_cmp Cell
 
@@ -26,9 +29,11 @@ coded_cell =
     (λ c. (c.byte, (c.permissions.read, (c.permissions.write, c.permissions.execute))))
     (λ p. record { byte = p.0; permissions = record { read = p.1.0; write = p.1.1.0; execute = p.1.1.1 } }) (λ _. refl)
 
+-- how a memory is stored as a value
 abbrev pub coded_memory : Coded Memory
 coded_memory = code coded_ℕ coded_cell
 
+-- whether an access may touch a byte with these permissions
 abbrev pub permits : Access → Permissions → Bool
 permits Fetch p = p.execute
 permits Load p = p.read
@@ -69,6 +74,7 @@ add_cells m a (suc n) f = insert (add_cells m a n f) (a + n) (f n)
 unfoldable pub with_pages : Memory → ℕ → ℕ → Permissions → Memory
 with_pages m page count permissions = add_cells m (4096 * page) (4096 * count) (λ _. record { byte = 0; permissions = permissions })
 
+-- how many pages are mapped
 unfoldable pub page_count : Memory → ℕ
 page_count m = len m / 4096
 
@@ -81,3 +87,36 @@ unfoldable pub map_refusal : Memory → ℕ → ℕ → Option MapRefusal
 map_refusal m page count =
     cond (nat_lt 256 (page_count m + count)) (Some Quota)
     (cond (any_page_mapped m page count) (Some AlreadyMapped) None)
+
+-- ---- the same by address, as the laws of this crate say it
+
+-- whether an address is one of n from a on
+abbrev pub is_within : ℕ → ℕ → ℕ → Bool
+is_within a n x = nat_le a x && nat_lt x (a + n)
+
+-- each byte after a write: the new one where its address is written and mapped, else the one that was there
+abbrev pub WritesBytes : Type 0
+WritesBytes = (m : Memory) (a : ℕ) (bs : List ℕ) (x : ℕ)
+    → byte_at (put_bytes m a bs) x ≡ cond (is_within a (length bs) x && is_allowed Monitor m x) (slice_index bs (x - a)) (byte_at m x)
+
+-- no write maps an address or changes what is allowed
+abbrev pub KeepsPermissions : Type 0
+KeepsPermissions = (access : Access) (m : Memory) (a : ℕ) (bs : List ℕ) (x : ℕ) → is_allowed access (put_bytes m a bs) x ≡ is_allowed access m x
+
+-- new pages hold zeros, and all other bytes are as they were
+abbrev pub MapsZeros : Type 0
+MapsZeros = (m : Memory) (page count : ℕ) (permissions : Permissions) (x : ℕ)
+    → byte_at (with_pages m page count permissions) x ≡ cond (is_within (4096 * page) (4096 * count) x) 0 (byte_at m x)
+
+-- new pages allow what their permissions do, and all other addresses what they did
+abbrev pub MapsPermissions : Type 0
+MapsPermissions = (access : Access) (m : Memory) (page count : ℕ) (permissions : Permissions) (x : ℕ)
+    → is_allowed access (with_pages m page count permissions) x ≡ cond (is_within (4096 * page) (4096 * count) x) (permits access permissions) (is_allowed access m x)
+
+-- bytes are read one by one from the first address on
+abbrev pub ReadsBytes : Type 0
+ReadsBytes = (m : Memory) (a n k : ℕ) → k < n → slice_index (bytes_at m a n) k ≡ byte_at m (a + k)
+
+-- an access is allowed exactly where each of its bytes is
+abbrev pub AllowsEachByte : Type 0
+AllowsEachByte = (access : Access) (m : Memory) (a n : ℕ) → (can_access access m a n ≡ true) ↔ ((k : ℕ) → k < n → is_allowed access m (a + k) ≡ true)

@@ -1,6 +1,6 @@
 -- One instruction of one machine (Unprivileged ISA 20191213; which words are executed so far, and the choices that the
 -- standard leaves, stand in docs/DECISIONS.md). Nothing here knows of other users.
-use Rattle.std.specs.Prelude.{ℕ, ◌+◌, ◌-◌, ◌%◌, ◌^◌, ◌==◌, ◌||◌, List, Option, Some, None, if◌then◌else◌}
+use Rattle.std.specs.Prelude.{ℕ, ◌+◌, ◌-◌, ◌%◌, ◌^◌, ◌==◌, ◌||◌, Bool, false, List, Option, Some, None, if◌then◌else◌}
 use Rattle.std.specs.Int.{from_le_bytes, w32}
 use Rattle.rv_model.specs.declared.memory.Access.TheVariants.{Fetch}
 use Rattle.rv_model.specs.declared.operations.OpImmOp.{OpImmOp}
@@ -86,3 +86,7 @@ step limit s =
     let word = word_at s.memory s.scalar.pc in
     if can_access Fetch s.memory s.scalar.pc 4 then executed limit (scan table word) word s
     else faults FetchAccess s.scalar.pc s
+
+-- whether an instruction touches the vector unit; none that is carried out so far does
+abbrev pub touches : Option Instr → Bool
+touches i = false

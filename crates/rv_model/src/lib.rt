@@ -21,7 +21,7 @@ mod vector_type;
 pub use command::{ByteString, Cmd, Refusal};
 pub use instruction::Instr;
 pub use laws::{each_user_alone, small_scripts_print};
-pub use memory::{Access, Fault, MapRefusal, Permissions};
+pub use memory::{Access, Fault, MapRefusal, Permissions, memory_laws};
 pub use operands::{Field, Reg, VReg};
 pub use pairs::{Arith, Carry};
 pub use policy::Policy;

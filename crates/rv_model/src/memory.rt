@@ -1,6 +1,6 @@
 //! What a user's memory allows.
 ghost use Rattle.std.specs.Prelude.{◌≡◌};
-ghost use Rattle.rv_model.specs.Memory.{permits};
+ghost use Rattle.rv_model.specs.Memory.{permits, WritesBytes, KeepsPermissions, MapsZeros, MapsPermissions, ReadsBytes, AllowsEachByte};
 
 /// What a page may be used for.
 #[derive(Clone, Copy, Debug, Default, PartialEq, Eq)]
@@ -45,3 +45,13 @@ impl Access {
         }
     }
 }
+
+/// What a write, new pages, a read and a check mean at each address.
+pub fn memory_laws()
+    ensures written { WritesBytes }
+    ensures kept { KeepsPermissions }
+    ensures zeros { MapsZeros }
+    ensures permissions { MapsPermissions }
+    ensures read { ReadsBytes }
+    ensures allowed { AllowsEachByte }
+{}

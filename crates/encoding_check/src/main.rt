@@ -1,0 +1,61 @@
+//! Decodes words and encodes their instructions: the words of standard input, written in hexadecimal,
+//! one a line, and 100,000 words of a fixed generator.
+//!
+//! `stdin` has words that the assemblers of GNU binutils 2.40 and LLVM 19.1.7 give for every row of the
+//! table, and then words that no row has: `yes` and the same word again, or `none`.
+#![tactic(auto)]
+
+ghost use Rattle.std.specs.Prelude.{◌≡◌, ◌+◌, ◌*◌, ◌%◌, ◌^◌, IsTrue};
+
+use rv_decode::encoded_again;
+use std::io;
+
+/// The word after this one, of a linear congruential generator.
+fn next_word(word: u32) -> u32
+    ensures { result ≡ (word * 1664525 + 1013904223) % 2 ^ 32 }
+{
+    word.wrapping_mul(1_664_525).wrapping_add(1_013_904_223)
+}
+
+/// Whether a word is no instruction, or the word of its instruction.
+fn is_same(word: u32) -> bool
+    ensures { IsTrue result }
+{
+    match encoded_again(word) {
+        Some(again) => again == word,
+        None => true,
+    }
+}
+
+/// How many of the generator's first words are instructions with another word.
+fn mismatches(count: u32) -> u32
+    ensures { result ≡ 0 }
+{
+    let mut word = 0;
+    let mut found = 0;
+    for _ in 0..count {
+        word = next_word(word);
+        if !is_same(word) {
+            found += 1;
+        }
+    }
+    found
+}
+
+fn main(rt: HostRuntime) -> io::Result<()> {
+    for line in rt.lines(rt.alloc()) {
+        let line = line?;
+        let Ok(word) = u32::from_str_radix(line.as_str(), 16) else {
+            println!(rt; "not a word")?;
+            continue;
+        };
+        match encoded_again(word) {
+            Some(again) => println!(rt; "{word:08x} yes {again:08x}")?,
+            None => println!(rt; "{word:08x} none")?,
+        }
+    }
+    let count = 100_000;
+    let found = mismatches(count);
+    println!(rt; "{count} generated words, {found} mismatches")?;
+    Ok(())
+}

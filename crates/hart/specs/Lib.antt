@@ -1,0 +1,4 @@
+pub mod FlatMemory
+pub mod FlatMemoryLaws
+pub mod Seats
+pub mod States

@@ -1,0 +1,3 @@
+pub mod DigitLaws
+pub mod RegisterLines
+pub mod WordLaws

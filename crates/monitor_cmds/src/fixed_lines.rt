@@ -1,0 +1,92 @@
+//! Lines of a reply that hold no number.
+ghost use Rattle.std.specs.Prelude.{◌≡◌, [], ◌∷◌, ◌++◌, ◌+◌, ◌≤◌, length, codes};
+ghost use Rattle.rv_model.specs.Replies.{refused as refusal_text};
+ghost use Rattle.rv_model.specs.Text.{text};
+ghost use Rattle.monitor_cmds.specs.Tag.{tag_byte};
+
+use crate::reply::Reply;
+use crate::tag::Tag;
+use rv_model::Refusal;
+
+// Adds a line.
+fn plain(reply: &mut Reply, tag: Tag, line: &[u8])
+    requires { length reply.old + (length line.now + 3) ≤ 4096 }
+    ensures text { reply.new ≡ reply.old ++ text (tag_byte tag) (line.now ∷ []) }
+    ensures bound { length reply.new ≡ length reply.old + (length line.now + 3) }
+{
+    reply.push(&[tag.byte(), b' ']);
+    reply.push(line);
+    reply.push(b"\n");
+}
+
+/// Adds the line `entered`, the answer to `enter`.
+pub fn entered(reply: &mut Reply, tag: Tag)
+    requires { length reply.old + 10 ≤ 4096 }
+    ensures text { reply.new ≡ reply.old ++ text (tag_byte tag) (codes "entered" ∷ []) }
+    ensures bound { length reply.new ≡ length reply.old + 10 }
+{
+    plain(reply, tag, b"entered");
+}
+
+/// Adds the line `ok`, the answer to a command that shows nothing.
+pub fn ok(reply: &mut Reply, tag: Tag)
+    requires { length reply.old + 5 ≤ 4096 }
+    ensures text { reply.new ≡ reply.old ++ text (tag_byte tag) (codes "ok" ∷ []) }
+    ensures bound { length reply.new ≡ length reply.old + 5 }
+{
+    plain(reply, tag, b"ok");
+}
+
+#[tactic(auto, unfolding(rv_model::specs::Replies::refused))]
+fn refusal_code(refusal: Refusal) -> &'static [u8]
+    ensures value { result.now ≡ refusal_text refusal }
+    ensures len { length result.now ≡ 3 }
+{
+    match refusal {
+        Refusal::UnknownCommand => b"E03",
+        Refusal::Argument => b"E04",
+        Refusal::NotEntered => b"E05",
+        Refusal::AlreadyEntered => b"E06",
+        Refusal::Running => b"E07",
+        Refusal::Quota => b"E10",
+        Refusal::NotMapped => b"E11",
+        Refusal::AlreadyMapped => b"E16",
+    }
+}
+
+/// Adds a line with the code of a refusal, as `E04`.
+pub fn refused(reply: &mut Reply, tag: Tag, refusal: Refusal)
+    requires { length reply.old + 6 ≤ 4096 }
+    ensures text { reply.new ≡ reply.old ++ text (tag_byte tag) (refusal_text refusal ∷ []) }
+    ensures bound { length reply.new ≡ length reply.old + 6 }
+{
+    plain(reply, tag, refusal_code(refusal));
+}
+
+/// Adds the line `* E01`: a line of the script begins neither with a digit from 1 to 8 nor with a
+/// star, or no space follows.
+pub fn bad_prefix(reply: &mut Reply)
+    requires { length reply.old + 6 ≤ 4096 }
+    ensures text { reply.new ≡ reply.old ++ text 42 (codes "E01" ∷ []) }
+    ensures bound { length reply.new ≡ length reply.old + 6 }
+{
+    plain(reply, Tag::Common, b"E01");
+}
+
+/// Adds the line `* E02`: a line of the script has more than 1,024 bytes.
+pub fn line_too_long(reply: &mut Reply)
+    requires { length reply.old + 6 ≤ 4096 }
+    ensures text { reply.new ≡ reply.old ++ text 42 (codes "E02" ∷ []) }
+    ensures bound { length reply.new ≡ length reply.old + 6 }
+{
+    plain(reply, Tag::Common, b"E02");
+}
+
+/// Adds the line `* E03`: the operator has no such command.
+pub fn unknown_operator_command(reply: &mut Reply)
+    requires { length reply.old + 6 ≤ 4096 }
+    ensures text { reply.new ≡ reply.old ++ text 42 (codes "E03" ∷ []) }
+    ensures bound { length reply.new ≡ length reply.old + 6 }
+{
+    plain(reply, Tag::Common, b"E03");
+}

@@ -1,0 +1,21 @@
+//! The monitor's text: commands as they are read, and replies as they are printed.
+#![tactic(auto)]
+
+mod arguments;
+mod fixed_lines;
+mod numerals;
+mod parsing;
+mod register_lines;
+mod reply;
+mod stops;
+mod tag;
+#[cfg(test)]
+mod tests;
+mod words;
+
+pub use fixed_lines::{bad_prefix, entered, line_too_long, ok, refused, unknown_operator_command};
+pub use parsing::parse;
+pub use register_lines::registers;
+pub use reply::Reply;
+pub use stops::{step_line, stop_line};
+pub use tag::Tag;

@@ -1,0 +1,27 @@
+//! Numbers as replies show them.
+ghost use Rattle.std.specs.Prelude.{◌≡◌, ◌++◌, ◌+◌, ◌≤◌, length, decimal};
+ghost use Rattle.rv_model.specs.Replies.{hex16};
+
+use crate::reply::Reply;
+use itoa::Buffer;
+
+/// Adds 16 hexadecimal digits in lower case, the highest first.
+#[tactic(auto, unfolding(rv_model::specs::Replies::hex16))]
+pub fn push_hex16(reply: &mut Reply, number: u64)
+    requires { length reply.old + 16 ≤ 4096 }
+    ensures text { reply.new ≡ reply.old ++ hex16 number }
+    ensures bound { length reply.new ≡ length reply.old + 16 }
+{
+    let mut digits = [0; 16];
+    let _ = hex::encode_to_slice(number.to_be_bytes(), &mut digits);
+    reply.push(&digits);
+}
+
+/// Adds a decimal number.
+pub fn push_decimal(reply: &mut Reply, number: u64)
+    requires { length reply.old + 20 ≤ 4096 }
+    ensures text { reply.new ≡ reply.old ++ decimal number }
+    ensures bound { length reply.new ≤ length reply.old + 20 }
+{
+    reply.push(Buffer::new().format(number).as_bytes());
+}

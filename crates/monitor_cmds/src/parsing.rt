@@ -1,0 +1,146 @@
+//! The commands of a user, as words spell them.
+ghost use Rattle.std.specs.Prelude.{◌≡◌, Some, None, MatchOption};
+ghost use Rattle.rv_model.specs.Arguments.{number as number_of, address as address_of};
+ghost use Rattle.rv_model.specs.Arguments.{permissions as named_permissions, byte_string as byte_string_of};
+ghost use Rattle.rv_model.specs.Commands.{next, done as command_done, or_argument as command_or_argument};
+ghost use Rattle.rv_model.specs.Commands.{map_args as map_of, poke_args as poke_of, step_args as step_of};
+ghost use Rattle.rv_model.specs.Commands.{parse as command_of, named as named_command};
+
+use crate::arguments;
+use crate::words::Words;
+use rv_model::{ByteString, Cmd, Permissions, Refusal};
+
+// The bytes of a page.
+const PAGE: u64 = 4096;
+
+// No page ends beyond this address.
+const LAST_END: u64 = 1 << 48;
+
+// Each reader takes the next word: None where there is none, or where it is out of its form or
+// range.
+
+fn address(words: &mut Words<'_>) -> Option<u64>
+    ensures { MatchOption result (next address_of words.old ≡ None)
+        (λ value. next address_of words.old ≡ Some (value, words.new)) }
+{
+    let word = words.next_word()?;
+    arguments::address(word)
+}
+
+fn number(words: &mut Words<'_>, low: usize, high: usize) -> Option<usize>
+    ensures { MatchOption result (next (number_of low high) words.old ≡ None)
+        (λ value. next (number_of low high) words.old ≡ Some (value, words.new)) }
+{
+    let word = words.next_word()?;
+    arguments::number(low, high, word)
+}
+
+fn permissions(words: &mut Words<'_>) -> Option<Permissions>
+    ensures { MatchOption result (next named_permissions words.old ≡ None)
+        (λ value. next named_permissions words.old ≡ Some (value, words.new)) }
+{
+    let word = words.next_word()?;
+    arguments::permissions(word)
+}
+
+fn byte_string(words: &mut Words<'_>) -> Option<ByteString>
+    ensures { MatchOption result (next byte_string_of words.old ≡ None)
+        (λ value. next byte_string_of words.old ≡ Some (value, words.new)) }
+{
+    let word = words.next_word()?;
+    ByteString::from_hex(word)
+}
+
+// The command, if no word is left.
+fn done(words: &mut Words<'_>, command: Cmd) -> Option<Cmd>
+    ensures { result ≡ command_done command words.old }
+{
+    match words.next_word() {
+        None => Some(command),
+        Some(_) => None,
+    }
+}
+
+// `map ADDR PAGES PERM`
+#[tactic(auto, unfolding(rv_model::specs::Commands::map_args))]
+fn map_args(words: &mut Words<'_>) -> Option<Cmd>
+    ensures { result ≡ map_of words.old }
+{
+    let addr = address(words)?;
+    let pages = number(words, 1, 256)?;
+    let permissions = permissions(words)?;
+    if addr % PAGE != 0 || addr > LAST_END || addr + PAGE * (pages as u64) > LAST_END {
+        return None;
+    }
+    done(
+        words,
+        Cmd::Map {
+            addr,
+            pages,
+            permissions,
+        },
+    )
+}
+
+// `poke ADDR HEX`
+#[tactic(auto, unfolding(rv_model::specs::Commands::poke_args))]
+fn poke_args(words: &mut Words<'_>) -> Option<Cmd>
+    ensures { result ≡ poke_of words.old }
+{
+    let addr = address(words)?;
+    let bytes = byte_string(words)?;
+    done(words, Cmd::Poke { addr, bytes })
+}
+
+// `step N`
+#[tactic(auto, unfolding(rv_model::specs::Commands::step_args))]
+fn step_args(words: &mut Words<'_>) -> Option<Cmd>
+    ensures { result ≡ step_of words.old }
+{
+    let count = number(words, 1, 256)?;
+    done(words, Cmd::Step(count))
+}
+
+fn or_argument(command: Option<Cmd>) -> Result<Cmd, Refusal>
+    ensures { result ≡ command_or_argument command }
+{
+    command.ok_or(Refusal::Argument)
+}
+
+#[tactic(auto, unfolding(rv_model::specs::Commands::named))]
+fn named(name: &[u8], words: &mut Words<'_>) -> Result<Cmd, Refusal>
+    ensures { result ≡ named_command name.now words.old }
+{
+    if name == b"enter".as_slice() {
+        return or_argument(done(words, Cmd::Enter));
+    }
+    if name == b"map".as_slice() {
+        return or_argument(map_args(words));
+    }
+    if name == b"poke".as_slice() {
+        return or_argument(poke_args(words));
+    }
+    if name == b"regs".as_slice() {
+        return or_argument(done(words, Cmd::Regs));
+    }
+    if name == b"step".as_slice() {
+        return or_argument(step_args(words));
+    }
+    Err(Refusal::UnknownCommand)
+}
+
+/// The command that a user's line spells: a name and its arguments, with one or more spaces (byte
+/// 20) between words. The line comes without the user's digit and the space after it.
+///
+/// Refused are a name that is no command's (E03), and then a wrong number of arguments or one out
+/// of its form or range (E04).
+#[tactic(auto, unfolding(rv_model::specs::Commands::parse))]
+pub fn parse(line: &[u8]) -> Result<Cmd, Refusal>
+    ensures { result ≡ command_of line.now }
+{
+    let mut words = Words::new(line);
+    match words.next_word() {
+        Some(name) => named(name, &mut words),
+        None => Err(Refusal::UnknownCommand),
+    }
+}

@@ -1,0 +1,53 @@
+//! What the monitor answers.
+ghost use Rattle.std.specs.Prelude.{◌≡◌, ◌+◌, ◌≤◌, [], ◌++◌, length};
+
+use arrayvec::ArrayVec;
+use std::marker::Model;
+
+/// What the monitor answers to one command: whole lines, of at most 4,096 bytes together.
+#[derive(Drop)]
+pub struct Reply {
+    bytes: ArrayVec<u8, 4096>,
+}
+
+impl Model for Reply {
+    ghost use Rattle.std.specs.Prelude.{List, ℕ};
+
+    ghost Value = { List ℕ };
+
+    ghost view = { λ r. r.bytes.items };
+}
+
+impl Reply {
+    /// An empty reply.
+    pub fn new() -> Reply
+        ensures { result ≡ [] }
+    {
+        Reply {
+            bytes: ArrayVec::new(),
+        }
+    }
+
+    /// Empties the reply.
+    pub fn clear(&mut self)
+        ensures { self.new ≡ [] }
+    {
+        self.bytes.clear();
+    }
+
+    /// The bytes of the reply.
+    pub fn as_slice(&self) -> &[u8]
+        ensures value { result.now ≡ self.now }
+        ensures bound { length result.now ≤ 4096 }
+    {
+        self.bytes.as_slice()
+    }
+
+    /// Adds bytes at the end.
+    pub(crate) fn push(&mut self, bytes: &[u8])
+        requires { length self.old + length bytes.now ≤ 4096 }
+        ensures { self.new ≡ self.old ++ bytes.now }
+    {
+        let _ = self.bytes.try_extend_from_slice(bytes);
+    }
+}

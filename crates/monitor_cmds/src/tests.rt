@@ -1,0 +1,143 @@
+//! Lines of commands and of replies, as the monitor's description shows them.
+use super::*;
+use rv_model::{Cause, Cmd, Refusal, Scalar, Stop, User};
+use std::test::Fail;
+
+fn user(number: u8) -> Result<Tag, Fail> {
+    Ok(Tag::User(User::new(number).ok_or("no such user")?))
+}
+
+#[test]
+fn parses_each_command(rt: HostRuntime) {
+    assert!(rt; matches!(parse(b"enter"), Ok(Cmd::Enter)));
+    assert!(rt; matches!(parse(b"regs"), Ok(Cmd::Regs)));
+    assert!(rt; matches!(parse(b" step  256 "), Ok(Cmd::Step(256))));
+    match parse(b"map fffffffff000 1 rx") {
+        Ok(
+            Cmd::Map {
+                addr,
+                pages,
+                permissions,
+            },
+        ) => {
+            assert_eq!(rt; addr, 0xffff_ffff_f000);
+            assert_eq!(rt; pages, 1);
+            assert!(rt; permissions.read && !permissions.write && permissions.execute);
+        }
+        _ => assert!(rt; false, "map"),
+    }
+    match parse(b"poke 1FfE d772050d") {
+        Ok(Cmd::Poke { addr, bytes }) => {
+            assert_eq!(rt; addr, 0x1ffe);
+            assert_eq!(rt; bytes.as_slice(), [0xd7, 0x72, 0x05, 0x0d].as_slice());
+        }
+        _ => assert!(rt; false, "poke"),
+    }
+}
+
+#[test]
+fn refuses_arguments(rt: HostRuntime) {
+    let lines = [
+        b"enter 1".as_slice(),
+        b"regs 1".as_slice(),
+        b"step".as_slice(),
+        b"step 0".as_slice(),
+        b"step 257".as_slice(),
+        b"step 01".as_slice(),
+        b"step +1".as_slice(),
+        b"step 1 1".as_slice(),
+        b"map 1 1 r".as_slice(),
+        b"map fffffffff000 2 r".as_slice(),
+        b"map 1000000000000 1 r".as_slice(),
+        b"map 0x1000 1 r".as_slice(),
+        b"map 1000 1 wr".as_slice(),
+        b"poke 0 0".as_slice(),
+        b"poke 00000000000000000 00".as_slice(),
+    ];
+    for line in lines {
+        assert!(rt; matches!(parse(line), Err(Refusal::Argument)));
+    }
+}
+
+#[test]
+fn refuses_unknown_names(rt: HostRuntime) {
+    for line in [
+        b"".as_slice(),
+        b"  ".as_slice(),
+        b"Enter".as_slice(),
+        b"policy ones".as_slice(),
+    ] {
+        assert!(rt; matches!(parse(line), Err(Refusal::UnknownCommand)));
+    }
+}
+
+#[test]
+fn prints_fixed_lines(rt: HostRuntime) -> Result<(), Fail> {
+    let mut reply = Reply::new();
+    entered(&mut reply, user(1)?);
+    ok(&mut reply, user(8)?);
+    refused(&mut reply, user(2)?, Refusal::AlreadyMapped);
+    bad_prefix(&mut reply);
+    line_too_long(&mut reply);
+    unknown_operator_command(&mut reply);
+    assert_eq!(rt;
+        reply.as_slice(),
+        b"1 entered\n8 ok\n2 E16\n* E01\n* E02\n* E03\n".as_slice()
+    );
+    reply.clear();
+    assert_eq!(rt; reply.as_slice(), b"".as_slice());
+    Ok(())
+}
+
+#[test]
+fn prints_stops(rt: HostRuntime) -> Result<(), Fail> {
+    let mut reply = Reply::new();
+    step_line(&mut reply, user(1)?, 3, 0x1000c, None);
+    step_line(&mut reply, user(1)?, 3, 8, Some(Stop::Exit(7)));
+    assert_eq!(rt;
+        reply.as_slice(),
+        b"1 stepped 3 pc=000000000001000c\n1 exit 7 pc=0000000000000008\n".as_slice()
+    );
+    reply.clear();
+    let fault = Stop::Fault {
+        cause: Cause::IllegalInstruction,
+        value: 0x022180d7,
+    };
+    stop_line(&mut reply, user(1)?, 0x10000, fault);
+    stop_line(
+        &mut reply,
+        user(1)?,
+        0xffff_ffff_ffff_fffc,
+        Stop::Breakpoint,
+    );
+    assert_eq!(rt;
+        reply.as_slice(),
+        b"1 fault cause=2 pc=0000000000010000 value=00000000022180d7\n1 break pc=fffffffffffffffc\n".as_slice()
+    );
+    Ok(())
+}
+
+#[test]
+fn prints_registers(rt: HostRuntime) -> Result<(), Fail> {
+    let mut scalar = Scalar::new();
+    scalar.x[10] = 7;
+    scalar.x[31] = 0xab;
+    scalar.pc = 8;
+    let mut reply = Reply::new();
+    registers(&mut reply, user(1)?, &scalar);
+    assert_eq!(rt;
+        reply.as_slice(),
+        b"1 pc 0000000000000008
+1 x0 0000000000000000 x1 0000000000000000 x2 0000000000000000 x3 0000000000000000
+1 x4 0000000000000000 x5 0000000000000000 x6 0000000000000000 x7 0000000000000000
+1 x8 0000000000000000 x9 0000000000000000 x10 0000000000000007 x11 0000000000000000
+1 x12 0000000000000000 x13 0000000000000000 x14 0000000000000000 x15 0000000000000000
+1 x16 0000000000000000 x17 0000000000000000 x18 0000000000000000 x19 0000000000000000
+1 x20 0000000000000000 x21 0000000000000000 x22 0000000000000000 x23 0000000000000000
+1 x24 0000000000000000 x25 0000000000000000 x26 0000000000000000 x27 0000000000000000
+1 x28 0000000000000000 x29 0000000000000000 x30 0000000000000000 x31 00000000000000ab
+"
+            .as_slice()
+    );
+    Ok(())
+}

@@ -1,0 +1,75 @@
+//! The words of a command line.
+ghost use Rattle.std.specs.Prelude.{◌≡◌, ◌∷◌, [], length, ◌<◌, position, IfSome, MatchOption};
+ghost use Rattle.rv_model.specs.Words.{words, is_space, with_piece};
+
+use std::marker::Model;
+
+/// The words of a line that are still to be read. Words stand between spaces (byte 20).
+#[derive(Drop)]
+pub struct Words<'a> {
+    rest: &'a [u8],
+}
+
+impl<'a> Model for Words<'a> {
+    ghost use Rattle.std.specs.Prelude.{List, ℕ};
+    ghost use Rattle.rv_model.specs.Words.{words};
+
+    ghost Value = { List (List ℕ) };
+
+    ghost view = { λ w. words w.rest.now };
+}
+
+impl<'a> Words<'a> {
+    /// All words of a line.
+    pub fn new(line: &'a [u8]) -> Words<'a>
+        ensures { result ≡ words line.now }
+    {
+        Words { rest: line }
+    }
+
+    /// The next word, if one is left.
+    pub fn next_word(&mut self) -> Option<&'a [u8]>
+        ensures { MatchOption result (self.old ≡ []) (λ word. self.old ≡ word.now ∷ self.new) }
+    {
+        let (word, rest) = first_word(self.rest)?;
+        self.rest = rest;
+        Some(word)
+    }
+}
+
+// The place of the first space, if there is one.
+fn first_space(line: &[u8]) -> Option<usize>
+    ensures first { result ≡ position is_space line.now }
+    ensures bound { IfSome result (λ end. end < length line.now) }
+{
+    line.iter().position(|byte| *byte == b' ')
+}
+
+// What stands before the first space, and what follows that space.
+#[tactic(auto, using(crate::proofs::WordLaws::first_piece, crate::proofs::WordLaws::last_piece))]
+fn cut(line: &[u8]) -> (&[u8], &[u8])
+    ensures words { words line.now ≡ with_piece result.0.now (words result.1.now) }
+    ensures shorter { 0 < length line.now → length result.1.now < length line.now }
+{
+    match first_space(line) {
+        Some(end) => (&line[..end], &line[end + 1..]),
+        None => (line, &[]),
+    }
+}
+
+// The first word and what follows it.
+#[tactic(auto, using(crate::proofs::WordLaws::no_words))]
+fn first_word(line: &[u8]) -> Option<(&[u8], &[u8])>
+    ensures { MatchOption result (words line.now ≡ [])
+        (λ p. words line.now ≡ p.0.now ∷ words p.1.now) }
+{
+    let mut rest = line;
+    while !rest.is_empty() {
+        let (piece, after) = cut(rest);
+        if !piece.is_empty() {
+            return Some((piece, after));
+        }
+        rest = after;
+    }
+    None
+}

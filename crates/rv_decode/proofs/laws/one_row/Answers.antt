@@ -1,0 +1,5 @@
+use Rattle.rv_model.proofs.InstructionLaws.{no_two_rows}
+use Rattle.rv_decode.proofs.laws.one_row.Goals as goal
+
+pub returns : goal.returns
+returns c = no_two_rows

@@ -1,0 +1,31 @@
+//! Laws of the instruction table, of decoding and of encoding.
+ghost use Rattle.std.specs.Prelude.{◌≡◌, ℕ, IfSome, IfNone, Some};
+ghost use Rattle.rv_model.specs.InstructionTable.{Row, In, IsRow, Matches, table};
+
+use crate::decoder::decode;
+use crate::encoder::encode;
+use rv_model::Instr;
+
+/// No word matches two rows of the table.
+pub fn one_row()
+    ensures { (r s : Row) → In r table → In s table → (word : ℕ) → Matches r word → Matches s word → r ≡ s }
+{}
+
+/// The word of a word's instruction, which is that word.
+pub fn encoded_again(word: u32) -> Option<u32>
+    ensures same { IfSome result (λ again. again ≡ word) }
+    ensures found { IfSome result (λ again. (r : Row) × IsRow word r) }
+    ensures none { IfNone result ((r : Row) → IsRow word r → ⊥) }
+{
+    match decode(word) {
+        Some(instr) => Some(encode(&instr)),
+        None => None,
+    }
+}
+
+/// The instruction of an instruction's word, which is that instruction.
+pub fn decoded_again(instr: &Instr) -> Option<Instr>
+    ensures { result ≡ Some instr.now }
+{
+    decode(encode(instr))
+}

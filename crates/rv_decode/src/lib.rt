@@ -1,0 +1,19 @@
+//! Words to instructions, and instructions to words.
+#![tactic(auto)]
+
+mod decoder;
+mod encoder;
+mod fixed_bits;
+mod laws;
+mod lines;
+mod memory_operations;
+mod scalar;
+mod scalar_operations;
+mod vector;
+mod vector_memory;
+mod vector_operations;
+mod word_fields;
+
+pub use decoder::decode;
+pub use encoder::encode;
+pub use laws::{decoded_again, encoded_again, one_row};

@@ -1,0 +1,214 @@
+//! The lines of the manual's table of vector operations.
+ghost use Rattle.std.specs.Prelude.{◌≡◌, ◌<◌};
+ghost use Rattle.rv_model.specs.Operations.{binary_line, compare_line, fixed_point_line, narrow_line, widen_line, multiply_add_line, reduce_line, permute_line, carry_line, line, has_form, opi, opm};
+
+use rv_model::operations::{
+    BinaryOp, CarryOp, CompareOp, FixedPointOp, Form, Forms, Line, Major, MultiplyAddOp, NarrowOp,
+    PermuteOp, ReduceOp, VectorOp, WidenOp,
+};
+
+/// A line of OPIVV, OPIVX and OPIVI.
+fn opi(funct6: u32, forms: Forms) -> Line
+    ensures { result ≡ opi funct6 forms }
+{
+    Line {
+        major: Major::Opi,
+        funct6,
+        forms,
+    }
+}
+
+/// A line of OPMVV and OPMVX.
+fn opm(funct6: u32, forms: Forms) -> Line
+    ensures { result ≡ opm funct6 forms }
+{
+    Line {
+        major: Major::Opm,
+        funct6,
+        forms,
+    }
+}
+
+/// Whether a form is one of these.
+pub fn has_form(forms: Forms, form: Form) -> bool
+    ensures { result ≡ has_form forms form }
+{
+    match (forms, form) {
+        (Forms::Vxi, _) | (Forms::V, Form::V) | (Forms::X, Form::X) => true,
+        (Forms::Vx, Form::V) | (Forms::Vx, Form::X) => true,
+        (Forms::Xi, Form::X) | (Forms::Xi, Form::I) => true,
+        _ => false,
+    }
+}
+
+/// Integer operations of one width.
+fn binary_line(op: BinaryOp) -> Line
+    ensures { result ≡ binary_line op }
+{
+    match op {
+        BinaryOp::Vadd => opi(0x00, Forms::Vxi),
+        BinaryOp::Vsub => opi(0x02, Forms::Vx),
+        BinaryOp::Vrsub => opi(0x03, Forms::Xi),
+        BinaryOp::Vminu => opi(0x04, Forms::Vx),
+        BinaryOp::Vmin => opi(0x05, Forms::Vx),
+        BinaryOp::Vmaxu => opi(0x06, Forms::Vx),
+        BinaryOp::Vmax => opi(0x07, Forms::Vx),
+        BinaryOp::Vand => opi(0x09, Forms::Vxi),
+        BinaryOp::Vor => opi(0x0a, Forms::Vxi),
+        BinaryOp::Vxor => opi(0x0b, Forms::Vxi),
+        BinaryOp::Vsll => opi(0x25, Forms::Vxi),
+        BinaryOp::Vsrl => opi(0x28, Forms::Vxi),
+        BinaryOp::Vsra => opi(0x29, Forms::Vxi),
+        BinaryOp::Vdivu => opm(0x20, Forms::Vx),
+        BinaryOp::Vdiv => opm(0x21, Forms::Vx),
+        BinaryOp::Vremu => opm(0x22, Forms::Vx),
+        BinaryOp::Vrem => opm(0x23, Forms::Vx),
+        BinaryOp::Vmulhu => opm(0x24, Forms::Vx),
+        BinaryOp::Vmul => opm(0x25, Forms::Vx),
+        BinaryOp::Vmulhsu => opm(0x26, Forms::Vx),
+        BinaryOp::Vmulh => opm(0x27, Forms::Vx),
+    }
+}
+
+/// Comparisons, carries and borrows.
+fn compare_line(op: CompareOp) -> Line
+    ensures { result ≡ compare_line op }
+{
+    match op {
+        CompareOp::Vmadc => opi(0x11, Forms::Vxi),
+        CompareOp::Vmsbc => opi(0x13, Forms::Vx),
+        CompareOp::Vmseq => opi(0x18, Forms::Vxi),
+        CompareOp::Vmsne => opi(0x19, Forms::Vxi),
+        CompareOp::Vmsltu => opi(0x1a, Forms::Vx),
+        CompareOp::Vmslt => opi(0x1b, Forms::Vx),
+        CompareOp::Vmsleu => opi(0x1c, Forms::Vxi),
+        CompareOp::Vmsle => opi(0x1d, Forms::Vxi),
+        CompareOp::Vmsgtu => opi(0x1e, Forms::Xi),
+        CompareOp::Vmsgt => opi(0x1f, Forms::Xi),
+    }
+}
+
+/// Fixed-point operations of one width.
+fn fixed_point_line(op: FixedPointOp) -> Line
+    ensures { result ≡ fixed_point_line op }
+{
+    match op {
+        FixedPointOp::Vsaddu => opi(0x20, Forms::Vxi),
+        FixedPointOp::Vsadd => opi(0x21, Forms::Vxi),
+        FixedPointOp::Vssubu => opi(0x22, Forms::Vx),
+        FixedPointOp::Vssub => opi(0x23, Forms::Vx),
+        FixedPointOp::Vsmul => opi(0x27, Forms::Vx),
+        FixedPointOp::Vssrl => opi(0x2a, Forms::Vxi),
+        FixedPointOp::Vssra => opi(0x2b, Forms::Vxi),
+        FixedPointOp::Vaaddu => opm(0x08, Forms::Vx),
+        FixedPointOp::Vaadd => opm(0x09, Forms::Vx),
+        FixedPointOp::Vasubu => opm(0x0a, Forms::Vx),
+        FixedPointOp::Vasub => opm(0x0b, Forms::Vx),
+    }
+}
+
+/// Narrowing shifts and clips.
+fn narrow_line(op: NarrowOp) -> Line
+    ensures { result ≡ narrow_line op }
+{
+    match op {
+        NarrowOp::Vnsrl => opi(0x2c, Forms::Vxi),
+        NarrowOp::Vnsra => opi(0x2d, Forms::Vxi),
+        NarrowOp::Vnclipu => opi(0x2e, Forms::Vxi),
+        NarrowOp::Vnclip => opi(0x2f, Forms::Vxi),
+    }
+}
+
+/// Widening operations.
+fn widen_line(op: WidenOp) -> Line
+    ensures { result ≡ widen_line op }
+{
+    match op {
+        WidenOp::Vwaddu => opm(0x30, Forms::Vx),
+        WidenOp::Vwadd => opm(0x31, Forms::Vx),
+        WidenOp::Vwsubu => opm(0x32, Forms::Vx),
+        WidenOp::Vwsub => opm(0x33, Forms::Vx),
+        WidenOp::VwadduW => opm(0x34, Forms::Vx),
+        WidenOp::VwaddW => opm(0x35, Forms::Vx),
+        WidenOp::VwsubuW => opm(0x36, Forms::Vx),
+        WidenOp::VwsubW => opm(0x37, Forms::Vx),
+        WidenOp::Vwmulu => opm(0x38, Forms::Vx),
+        WidenOp::Vwmulsu => opm(0x3a, Forms::Vx),
+        WidenOp::Vwmul => opm(0x3b, Forms::Vx),
+    }
+}
+
+/// Multiply-adds.
+fn multiply_add_line(op: MultiplyAddOp) -> Line
+    ensures { result ≡ multiply_add_line op }
+{
+    match op {
+        MultiplyAddOp::Vmadd => opm(0x29, Forms::Vx),
+        MultiplyAddOp::Vnmsub => opm(0x2b, Forms::Vx),
+        MultiplyAddOp::Vmacc => opm(0x2d, Forms::Vx),
+        MultiplyAddOp::Vnmsac => opm(0x2f, Forms::Vx),
+        MultiplyAddOp::Vwmaccu => opm(0x3c, Forms::Vx),
+        MultiplyAddOp::Vwmacc => opm(0x3d, Forms::Vx),
+        MultiplyAddOp::Vwmaccus => opm(0x3e, Forms::X),
+        MultiplyAddOp::Vwmaccsu => opm(0x3f, Forms::Vx),
+    }
+}
+
+/// Reductions.
+fn reduce_line(op: ReduceOp) -> Line
+    ensures { result ≡ reduce_line op }
+{
+    match op {
+        ReduceOp::Vredsum => opm(0x00, Forms::V),
+        ReduceOp::Vredand => opm(0x01, Forms::V),
+        ReduceOp::Vredor => opm(0x02, Forms::V),
+        ReduceOp::Vredxor => opm(0x03, Forms::V),
+        ReduceOp::Vredminu => opm(0x04, Forms::V),
+        ReduceOp::Vredmin => opm(0x05, Forms::V),
+        ReduceOp::Vredmaxu => opm(0x06, Forms::V),
+        ReduceOp::Vredmax => opm(0x07, Forms::V),
+        ReduceOp::Vwredsumu => opi(0x30, Forms::V),
+        ReduceOp::Vwredsum => opi(0x31, Forms::V),
+    }
+}
+
+/// Slides and gathers.
+fn permute_line(op: PermuteOp) -> Line
+    ensures { result ≡ permute_line op }
+{
+    match op {
+        PermuteOp::Vrgather => opi(0x0c, Forms::Vxi),
+        PermuteOp::Vrgatherei16 => opi(0x0e, Forms::V),
+        PermuteOp::Vslideup => opi(0x0e, Forms::Xi),
+        PermuteOp::Vslidedown => opi(0x0f, Forms::Xi),
+        PermuteOp::Vslide1up => opm(0x0e, Forms::X),
+        PermuteOp::Vslide1down => opm(0x0f, Forms::X),
+    }
+}
+
+/// The line of an operation that takes v0.
+pub fn carry_line(op: CarryOp) -> Line
+    ensures { result ≡ carry_line op }
+{
+    match op {
+        CarryOp::Vadc => opi(0x10, Forms::Vxi),
+        CarryOp::Vsbc => opi(0x12, Forms::Vx),
+        CarryOp::Vmerge => opi(0x17, Forms::Vxi),
+    }
+}
+
+/// The line of an operation.
+pub fn line(op: VectorOp) -> Line
+    ensures { result ≡ line op }
+{
+    match op {
+        VectorOp::Binary(op) => binary_line(op),
+        VectorOp::Compare(op) => compare_line(op),
+        VectorOp::FixedPoint(op) => fixed_point_line(op),
+        VectorOp::Narrow(op) => narrow_line(op),
+        VectorOp::Widen(op) => widen_line(op),
+        VectorOp::MultiplyAdd(op) => multiply_add_line(op),
+        VectorOp::Reduce(op) => reduce_line(op),
+        VectorOp::Permute(op) => permute_line(op),
+    }
+}

@@ -1,0 +1,121 @@
+//! The vector accesses of memory by the bits that they fix.
+#![tactic(auto, unfolding(rv_model::specs::InstructionTable::find))]
+
+ghost use Rattle.std.specs.Prelude.{◌≡◌};
+ghost use Rattle.rv_model.specs.FixedBits.{counts, directions, mask_memory_bits};
+ghost use Rattle.rv_model.specs.InstructionLayout.{unit_access_bits, strided_access_bits, indexed_access_bits, whole_load_bits, whole_store_bits};
+ghost use Rattle.rv_model.specs.InstructionTable.{find, unit_accesses, strided_accesses, indexed_accesses, whole_loads};
+
+use rv_model::operations::{Direction, Order, RegisterCount, UnitOp, Width};
+
+/// The unit-stride access of these bits.
+pub fn unit_access(bits: u32) -> Option<(UnitOp, Width)>
+    ensures { result ≡ find unit_access_bits unit_accesses bits }
+{
+    match bits {
+        0x0000_0007 => Some((UnitOp::Load, Width::E8)),
+        0x0000_5007 => Some((UnitOp::Load, Width::E16)),
+        0x0000_6007 => Some((UnitOp::Load, Width::E32)),
+        0x0000_7007 => Some((UnitOp::Load, Width::E64)),
+        0x0100_0007 => Some((UnitOp::FaultOnlyFirst, Width::E8)),
+        0x0100_5007 => Some((UnitOp::FaultOnlyFirst, Width::E16)),
+        0x0100_6007 => Some((UnitOp::FaultOnlyFirst, Width::E32)),
+        0x0100_7007 => Some((UnitOp::FaultOnlyFirst, Width::E64)),
+        0x0000_0027 => Some((UnitOp::Store, Width::E8)),
+        0x0000_5027 => Some((UnitOp::Store, Width::E16)),
+        0x0000_6027 => Some((UnitOp::Store, Width::E32)),
+        0x0000_7027 => Some((UnitOp::Store, Width::E64)),
+        _ => None,
+    }
+}
+
+/// The strided access of these bits.
+pub fn strided_access(bits: u32) -> Option<(Direction, Width)>
+    ensures { result ≡ find strided_access_bits strided_accesses bits }
+{
+    match bits {
+        0x0800_0007 => Some((Direction::Load, Width::E8)),
+        0x0800_5007 => Some((Direction::Load, Width::E16)),
+        0x0800_6007 => Some((Direction::Load, Width::E32)),
+        0x0800_7007 => Some((Direction::Load, Width::E64)),
+        0x0800_0027 => Some((Direction::Store, Width::E8)),
+        0x0800_5027 => Some((Direction::Store, Width::E16)),
+        0x0800_6027 => Some((Direction::Store, Width::E32)),
+        0x0800_7027 => Some((Direction::Store, Width::E64)),
+        _ => None,
+    }
+}
+
+/// The indexed access of these bits, with the index's width.
+pub fn indexed_access(bits: u32) -> Option<((Direction, Order), Width)>
+    ensures { result ≡ find indexed_access_bits indexed_accesses bits }
+{
+    match bits {
+        0x0400_0007 => Some(((Direction::Load, Order::Unordered), Width::E8)),
+        0x0400_5007 => Some(((Direction::Load, Order::Unordered), Width::E16)),
+        0x0400_6007 => Some(((Direction::Load, Order::Unordered), Width::E32)),
+        0x0400_7007 => Some(((Direction::Load, Order::Unordered), Width::E64)),
+        0x0c00_0007 => Some(((Direction::Load, Order::Ordered), Width::E8)),
+        0x0c00_5007 => Some(((Direction::Load, Order::Ordered), Width::E16)),
+        0x0c00_6007 => Some(((Direction::Load, Order::Ordered), Width::E32)),
+        0x0c00_7007 => Some(((Direction::Load, Order::Ordered), Width::E64)),
+        0x0400_0027 => Some(((Direction::Store, Order::Unordered), Width::E8)),
+        0x0400_5027 => Some(((Direction::Store, Order::Unordered), Width::E16)),
+        0x0400_6027 => Some(((Direction::Store, Order::Unordered), Width::E32)),
+        0x0400_7027 => Some(((Direction::Store, Order::Unordered), Width::E64)),
+        0x0c00_0027 => Some(((Direction::Store, Order::Ordered), Width::E8)),
+        0x0c00_5027 => Some(((Direction::Store, Order::Ordered), Width::E16)),
+        0x0c00_6027 => Some(((Direction::Store, Order::Ordered), Width::E32)),
+        0x0c00_7027 => Some(((Direction::Store, Order::Ordered), Width::E64)),
+        _ => None,
+    }
+}
+
+/// The load of whole registers of these bits.
+pub fn whole_load_access(bits: u32) -> Option<(RegisterCount, Width)>
+    ensures { result ≡ find whole_load_bits whole_loads bits }
+{
+    match bits {
+        0x0280_0007 => Some((RegisterCount::One, Width::E8)),
+        0x0280_5007 => Some((RegisterCount::One, Width::E16)),
+        0x0280_6007 => Some((RegisterCount::One, Width::E32)),
+        0x0280_7007 => Some((RegisterCount::One, Width::E64)),
+        0x2280_0007 => Some((RegisterCount::Two, Width::E8)),
+        0x2280_5007 => Some((RegisterCount::Two, Width::E16)),
+        0x2280_6007 => Some((RegisterCount::Two, Width::E32)),
+        0x2280_7007 => Some((RegisterCount::Two, Width::E64)),
+        0x6280_0007 => Some((RegisterCount::Four, Width::E8)),
+        0x6280_5007 => Some((RegisterCount::Four, Width::E16)),
+        0x6280_6007 => Some((RegisterCount::Four, Width::E32)),
+        0x6280_7007 => Some((RegisterCount::Four, Width::E64)),
+        0xe280_0007 => Some((RegisterCount::Eight, Width::E8)),
+        0xe280_5007 => Some((RegisterCount::Eight, Width::E16)),
+        0xe280_6007 => Some((RegisterCount::Eight, Width::E32)),
+        0xe280_7007 => Some((RegisterCount::Eight, Width::E64)),
+        _ => None,
+    }
+}
+
+/// How many registers a store of whole registers of these bits moves.
+pub fn whole_store_count(bits: u32) -> Option<RegisterCount>
+    ensures { result ≡ find whole_store_bits counts bits }
+{
+    match bits {
+        0x0280_0027 => Some(RegisterCount::One),
+        0x2280_0027 => Some(RegisterCount::Two),
+        0x6280_0027 => Some(RegisterCount::Four),
+        0xe280_0027 => Some(RegisterCount::Eight),
+        _ => None,
+    }
+}
+
+/// The direction of an access to a mask of these bits.
+pub fn mask_memory_direction(bits: u32) -> Option<Direction>
+    ensures { result ≡ find mask_memory_bits directions bits }
+{
+    match bits {
+        0x02b0_0007 => Some(Direction::Load),
+        0x02b0_0027 => Some(Direction::Store),
+        _ => None,
+    }
+}

@@ -1,0 +1,204 @@
+//! Words to scalar instructions, a function for each layout of operands.
+#![tactic(auto, unfolding(rv_model::specs::InstructionTable::scan, rv_model::specs::InstructionTable::rows))]
+
+ghost use Rattle.std.specs.Prelude.{◌≡◌};
+ghost use Rattle.rv_model.specs.InstructionTable.{scan, rows, Uppers, Jumps, JumpRegisters, Branches, Loads, Stores, OpImms, ShiftImms, ShiftImmWords, Ops, Fences, Systems, Csrs, CsrImmediates};
+
+use crate::scalar_operations::{
+    branch_op, csr_immediate_op, csr_op, load_op, op_imm_op, op_op, shift_imm_op,
+    shift_imm_word_op, store_op, system_op, upper_op,
+};
+use crate::word_fields::{bits, branch_offset, jump_offset, reg, store_immediate};
+use rv_model::{Field, Instr};
+
+/// LUI and AUIPC.
+#[tactic(auto, using(crate::proofs::Scan::scan_upper))]
+pub fn upper(word: u32) -> Option<Instr>
+    ensures { result ≡ scan (rows Uppers) word }
+{
+    let op = upper_op(word & 0x0000_007f)?;
+    Some(Instr::Upper {
+        op,
+        rd: reg(word, 7),
+        imm: Field::new(bits(word, 12, 20)),
+    })
+}
+
+/// JAL.
+pub fn jump(word: u32) -> Option<Instr>
+    ensures { result ≡ scan (rows Jumps) word }
+{
+    if word & 0x0000_007f == 0x0000_006f {
+        Some(Instr::Jump {
+            rd: reg(word, 7),
+            offset: jump_offset(word),
+        })
+    } else {
+        None
+    }
+}
+
+/// JALR.
+pub fn jump_register(word: u32) -> Option<Instr>
+    ensures { result ≡ scan (rows JumpRegisters) word }
+{
+    if word & 0x0000_707f == 0x0000_0067 {
+        Some(Instr::JumpRegister {
+            rd: reg(word, 7),
+            rs1: reg(word, 15),
+            imm: Field::new(bits(word, 20, 12)),
+        })
+    } else {
+        None
+    }
+}
+
+/// BRANCH.
+#[tactic(auto, using(crate::proofs::Scan::scan_branch))]
+pub fn branch(word: u32) -> Option<Instr>
+    ensures { result ≡ scan (rows Branches) word }
+{
+    let op = branch_op(word & 0x0000_707f)?;
+    Some(Instr::Branch {
+        op,
+        rs1: reg(word, 15),
+        rs2: reg(word, 20),
+        offset: branch_offset(word),
+    })
+}
+
+/// LOAD.
+#[tactic(auto, using(crate::proofs::Scan::scan_load))]
+pub fn load(word: u32) -> Option<Instr>
+    ensures { result ≡ scan (rows Loads) word }
+{
+    let op = load_op(word & 0x0000_707f)?;
+    Some(Instr::Load {
+        op,
+        rd: reg(word, 7),
+        rs1: reg(word, 15),
+        imm: Field::new(bits(word, 20, 12)),
+    })
+}
+
+/// STORE.
+#[tactic(auto, using(crate::proofs::Scan::scan_store))]
+pub fn store(word: u32) -> Option<Instr>
+    ensures { result ≡ scan (rows Stores) word }
+{
+    let op = store_op(word & 0x0000_707f)?;
+    Some(Instr::Store {
+        op,
+        rs1: reg(word, 15),
+        rs2: reg(word, 20),
+        imm: store_immediate(word),
+    })
+}
+
+/// OP-IMM and OP-IMM-32 with an immediate of 12 bits.
+#[tactic(auto, using(crate::proofs::Scan::scan_op_imm))]
+pub fn op_imm(word: u32) -> Option<Instr>
+    ensures { result ≡ scan (rows OpImms) word }
+{
+    let op = op_imm_op(word & 0x0000_707f)?;
+    Some(Instr::OpImm {
+        op,
+        rd: reg(word, 7),
+        rs1: reg(word, 15),
+        imm: Field::new(bits(word, 20, 12)),
+    })
+}
+
+/// OP-IMM with a shift amount.
+#[tactic(auto, using(crate::proofs::Scan::scan_shift_imm))]
+pub fn shift_imm(word: u32) -> Option<Instr>
+    ensures { result ≡ scan (rows ShiftImms) word }
+{
+    let op = shift_imm_op(word & 0xfc00_707f)?;
+    Some(Instr::ShiftImm {
+        op,
+        rd: reg(word, 7),
+        rs1: reg(word, 15),
+        amount: Field::new(bits(word, 20, 6)),
+    })
+}
+
+/// OP-IMM-32 with a shift amount.
+#[tactic(auto, using(crate::proofs::Scan::scan_shift_imm_word))]
+pub fn shift_imm_word(word: u32) -> Option<Instr>
+    ensures { result ≡ scan (rows ShiftImmWords) word }
+{
+    let op = shift_imm_word_op(word & 0xfe00_707f)?;
+    Some(Instr::ShiftImmWord {
+        op,
+        rd: reg(word, 7),
+        rs1: reg(word, 15),
+        amount: Field::new(bits(word, 20, 5)),
+    })
+}
+
+/// OP and OP-32.
+#[tactic(auto, using(crate::proofs::Scan::scan_op))]
+pub fn op(word: u32) -> Option<Instr>
+    ensures { result ≡ scan (rows Ops) word }
+{
+    let op = op_op(word & 0xfe00_707f)?;
+    Some(Instr::Op {
+        op,
+        rd: reg(word, 7),
+        rs1: reg(word, 15),
+        rs2: reg(word, 20),
+    })
+}
+
+/// FENCE of MISC-MEM.
+pub fn fence(word: u32) -> Option<Instr>
+    ensures { result ≡ scan (rows Fences) word }
+{
+    if word & 0x0000_707f == 0x0000_000f {
+        Some(Instr::Fence {
+            rd: reg(word, 7),
+            rs1: reg(word, 15),
+            ordering: Field::new(bits(word, 20, 12)),
+        })
+    } else {
+        None
+    }
+}
+
+/// ECALL and EBREAK of SYSTEM.
+#[tactic(auto, using(crate::proofs::Scan::scan_system))]
+pub fn system(word: u32) -> Option<Instr>
+    ensures { result ≡ scan (rows Systems) word }
+{
+    let op = system_op(word)?;
+    Some(Instr::System { op })
+}
+
+/// Zicsr with a scalar register.
+#[tactic(auto, using(crate::proofs::Scan::scan_csr))]
+pub fn csr(word: u32) -> Option<Instr>
+    ensures { result ≡ scan (rows Csrs) word }
+{
+    let op = csr_op(word & 0x0000_707f)?;
+    Some(Instr::Csr {
+        op,
+        rd: reg(word, 7),
+        rs1: reg(word, 15),
+        csr: Field::new(bits(word, 20, 12)),
+    })
+}
+
+/// Zicsr with an immediate.
+#[tactic(auto, using(crate::proofs::Scan::scan_csr_immediate))]
+pub fn csr_immediate(word: u32) -> Option<Instr>
+    ensures { result ≡ scan (rows CsrImmediates) word }
+{
+    let op = csr_immediate_op(word & 0x0000_707f)?;
+    Some(Instr::CsrImmediate {
+        op,
+        rd: reg(word, 7),
+        imm: Field::new(bits(word, 15, 5)),
+        csr: Field::new(bits(word, 20, 12)),
+    })
+}

@@ -1,0 +1,234 @@
+//! Words to vector instructions on registers, a function for each layout of operands.
+#![tactic(auto, unfolding(rv_model::specs::InstructionTable::scan, rv_model::specs::InstructionTable::rows))]
+
+ghost use Rattle.std.specs.Prelude.{◌≡◌, bit_and};
+ghost use Rattle.rv_model.specs.Operations.{major_bits};
+ghost use Rattle.rv_model.specs.InstructionTable.{scan, rows, SetVlis, SetIvlis, SetVls, WholeMoves, MaskLogics, Compresses, MasksToScalar, Extends, MaskUnaries, ElementIndices, MovesToScalar, MovesToVector, Ariths, Carries, Moves};
+
+use crate::vector_operations::{
+    carry_op, extend_op, mask_logic_op, mask_to_scalar_op, mask_unary_op, opi, opm, whole_move_op,
+};
+use crate::word_fields::{bits, is_unmasked, reg, source, vreg};
+use rv_model::operations::{Form, Major};
+use rv_model::{Arith, Carry, Field, Instr};
+
+/// An operation with a line of its own in the table, masked or not.
+#[tactic(auto, using(crate::proofs::Scan::scan_arith, rv_model::proofs::InstructionWords::form_source_of))]
+pub fn arith(word: u32, major: Major, form: Form) -> Option<Instr>
+    requires { bit_and word 0x707f ≡ major_bits major form }
+    ensures { result ≡ scan (rows (Ariths major form)) word }
+{
+    let op = match major {
+        Major::Opi => opi(word >> 26, form)?,
+        Major::Opm => opm(word >> 26, form)?,
+    };
+    Some(Instr::VectorArith {
+        arith: Arith::new(op, source(word, form)),
+        vd: vreg(word, 7),
+        vs2: vreg(word, 20),
+        vm: is_unmasked(word),
+    })
+}
+
+/// An operation that takes v0.
+#[tactic(auto, using(crate::proofs::Scan::scan_carry, rv_model::proofs::InstructionWords::form_source_of))]
+pub fn carry(word: u32, form: Form) -> Option<Instr>
+    ensures { result ≡ scan (rows (Carries form)) word }
+{
+    let op = carry_op(word & 0xfe00_707f, form)?;
+    Some(Instr::VectorCarry {
+        carry: Carry::new(op, source(word, form)),
+        vd: vreg(word, 7),
+        vs2: vreg(word, 20),
+    })
+}
+
+/// `vmv.v.v`, `vmv.v.x` or `vmv.v.i`, whose vs2 is 0.
+pub fn vector_move(word: u32, form: Form) -> Option<Instr>
+    ensures { result ≡ scan (rows (Moves form)) word }
+{
+    let code = match form {
+        Form::V => 0x5e00_0057,
+        Form::X => 0x5e00_4057,
+        Form::I => 0x5e00_3057,
+    };
+    if word & 0xfff0_707f == code {
+        Some(Instr::VectorMove {
+            source: source(word, form),
+            vd: vreg(word, 7),
+        })
+    } else {
+        None
+    }
+}
+
+/// `vsetvli`.
+pub fn set_vli(word: u32) -> Option<Instr>
+    ensures { result ≡ scan (rows SetVlis) word }
+{
+    if word & 0x8000_707f == 0x0000_7057 {
+        Some(Instr::SetVli {
+            rd: reg(word, 7),
+            rs1: reg(word, 15),
+            vtype: Field::new(bits(word, 20, 11)),
+        })
+    } else {
+        None
+    }
+}
+
+/// `vsetivli`.
+pub fn set_ivli(word: u32) -> Option<Instr>
+    ensures { result ≡ scan (rows SetIvlis) word }
+{
+    if word & 0xc000_707f == 0xc000_7057 {
+        Some(Instr::SetIvli {
+            rd: reg(word, 7),
+            avl: Field::new(bits(word, 15, 5)),
+            vtype: Field::new(bits(word, 20, 10)),
+        })
+    } else {
+        None
+    }
+}
+
+/// `vsetvl`.
+pub fn set_vl(word: u32) -> Option<Instr>
+    ensures { result ≡ scan (rows SetVls) word }
+{
+    if word & 0xfe00_707f == 0x8000_7057 {
+        Some(Instr::SetVl {
+            rd: reg(word, 7),
+            rs1: reg(word, 15),
+            rs2: reg(word, 20),
+        })
+    } else {
+        None
+    }
+}
+
+/// `vmv1r.v` to `vmv8r.v`.
+#[tactic(auto, using(crate::proofs::Scan::scan_whole_move))]
+pub fn whole_move(word: u32) -> Option<Instr>
+    ensures { result ≡ scan (rows WholeMoves) word }
+{
+    let count = whole_move_op(word & 0xfe0f_f07f)?;
+    Some(Instr::WholeMove {
+        count,
+        vd: vreg(word, 7),
+        vs2: vreg(word, 20),
+    })
+}
+
+/// Mask logic, which is never masked.
+#[tactic(auto, using(crate::proofs::Scan::scan_mask_logic))]
+pub fn mask_logic(word: u32) -> Option<Instr>
+    ensures { result ≡ scan (rows MaskLogics) word }
+{
+    let op = mask_logic_op(word & 0xfe00_707f)?;
+    Some(Instr::MaskLogic {
+        op,
+        vd: vreg(word, 7),
+        vs1: vreg(word, 15),
+        vs2: vreg(word, 20),
+    })
+}
+
+/// `vcompress.vm`, which is never masked.
+pub fn compress(word: u32) -> Option<Instr>
+    ensures { result ≡ scan (rows Compresses) word }
+{
+    if word & 0xfe00_707f == 0x5e00_2057 {
+        Some(Instr::Compress {
+            vd: vreg(word, 7),
+            vs1: vreg(word, 15),
+            vs2: vreg(word, 20),
+        })
+    } else {
+        None
+    }
+}
+
+/// `vcpop.m` and `vfirst.m`.
+#[tactic(auto, using(crate::proofs::Scan::scan_mask_to_scalar))]
+pub fn mask_to_scalar(word: u32) -> Option<Instr>
+    ensures { result ≡ scan (rows MasksToScalar) word }
+{
+    let op = mask_to_scalar_op(word & 0xfc0f_f07f)?;
+    Some(Instr::MaskToScalar {
+        op,
+        rd: reg(word, 7),
+        vs2: vreg(word, 20),
+        vm: is_unmasked(word),
+    })
+}
+
+/// VXUNARY0.
+#[tactic(auto, using(crate::proofs::Scan::scan_extend))]
+pub fn extend(word: u32) -> Option<Instr>
+    ensures { result ≡ scan (rows Extends) word }
+{
+    let op = extend_op(word & 0xfc0f_f07f)?;
+    Some(Instr::VectorExtend {
+        op,
+        vd: vreg(word, 7),
+        vs2: vreg(word, 20),
+        vm: is_unmasked(word),
+    })
+}
+
+/// VMUNARY0 on a mask.
+#[tactic(auto, using(crate::proofs::Scan::scan_mask_unary))]
+pub fn mask_unary(word: u32) -> Option<Instr>
+    ensures { result ≡ scan (rows MaskUnaries) word }
+{
+    let op = mask_unary_op(word & 0xfc0f_f07f)?;
+    Some(Instr::MaskUnary {
+        op,
+        vd: vreg(word, 7),
+        vs2: vreg(word, 20),
+        vm: is_unmasked(word),
+    })
+}
+
+/// `vid.v`.
+pub fn element_index(word: u32) -> Option<Instr>
+    ensures { result ≡ scan (rows ElementIndices) word }
+{
+    if word & 0xfdff_f07f == 0x5008_a057 {
+        Some(Instr::ElementIndex {
+            vd: vreg(word, 7),
+            vm: is_unmasked(word),
+        })
+    } else {
+        None
+    }
+}
+
+/// `vmv.x.s`.
+pub fn move_to_scalar(word: u32) -> Option<Instr>
+    ensures { result ≡ scan (rows MovesToScalar) word }
+{
+    if word & 0xfe0f_f07f == 0x4200_2057 {
+        Some(Instr::MoveToScalar {
+            rd: reg(word, 7),
+            vs2: vreg(word, 20),
+        })
+    } else {
+        None
+    }
+}
+
+/// `vmv.s.x`.
+pub fn move_to_vector(word: u32) -> Option<Instr>
+    ensures { result ≡ scan (rows MovesToVector) word }
+{
+    if word & 0xfff0_707f == 0x4200_6057 {
+        Some(Instr::MoveToVector {
+            vd: vreg(word, 7),
+            rs1: reg(word, 15),
+        })
+    } else {
+        None
+    }
+}

@@ -1,0 +1,101 @@
+//! Words to vector accesses of memory, a function for each layout of operands.
+ghost use Rattle.std.specs.Prelude.{◌≡◌};
+ghost use Rattle.rv_model.specs.InstructionTable.{scan, rows, Units, Strideds, Indexeds, WholeLoads, WholeStores, MaskMemories};
+
+use crate::memory_operations::{
+    indexed_access, mask_memory_direction, strided_access, unit_access, whole_load_access,
+    whole_store_count,
+};
+use crate::word_fields::{bits, is_unmasked, reg, vreg};
+use rv_model::{Field, Instr};
+
+/// Unit stride.
+#[tactic(auto, using(crate::proofs::Scan::scan_unit))]
+pub fn unit(word: u32) -> Option<Instr>
+    ensures { result ≡ scan (rows Units) word }
+{
+    let (op, width) = unit_access(word & 0x1df0_707f)?;
+    Some(Instr::VectorUnit {
+        op,
+        width,
+        nf: Field::new(bits(word, 29, 3)),
+        vd: vreg(word, 7),
+        rs1: reg(word, 15),
+        vm: is_unmasked(word),
+    })
+}
+
+/// Strided.
+#[tactic(auto, using(crate::proofs::Scan::scan_strided))]
+pub fn strided(word: u32) -> Option<Instr>
+    ensures { result ≡ scan (rows Strideds) word }
+{
+    let (direction, width) = strided_access(word & 0x1c00_707f)?;
+    Some(Instr::VectorStrided {
+        direction,
+        width,
+        nf: Field::new(bits(word, 29, 3)),
+        vd: vreg(word, 7),
+        rs1: reg(word, 15),
+        rs2: reg(word, 20),
+        vm: is_unmasked(word),
+    })
+}
+
+/// Indexed.
+#[tactic(auto, using(crate::proofs::Scan::scan_indexed))]
+pub fn indexed(word: u32) -> Option<Instr>
+    ensures { result ≡ scan (rows Indexeds) word }
+{
+    let ((direction, order), width) = indexed_access(word & 0x1c00_707f)?;
+    Some(Instr::VectorIndexed {
+        direction,
+        order,
+        width,
+        nf: Field::new(bits(word, 29, 3)),
+        vd: vreg(word, 7),
+        rs1: reg(word, 15),
+        vs2: vreg(word, 20),
+        vm: is_unmasked(word),
+    })
+}
+
+/// Loads of whole registers.
+#[tactic(auto, using(crate::proofs::Scan::scan_whole_load))]
+pub fn whole_load(word: u32) -> Option<Instr>
+    ensures { result ≡ scan (rows WholeLoads) word }
+{
+    let (count, width) = whole_load_access(word & 0xfff0_707f)?;
+    Some(Instr::WholeLoad {
+        count,
+        width,
+        vd: vreg(word, 7),
+        rs1: reg(word, 15),
+    })
+}
+
+/// Stores of whole registers.
+#[tactic(auto, using(crate::proofs::Scan::scan_whole_store))]
+pub fn whole_store(word: u32) -> Option<Instr>
+    ensures { result ≡ scan (rows WholeStores) word }
+{
+    let count = whole_store_count(word & 0xfff0_707f)?;
+    Some(Instr::WholeStore {
+        count,
+        vd: vreg(word, 7),
+        rs1: reg(word, 15),
+    })
+}
+
+/// `vlm.v` and `vsm.v`.
+#[tactic(auto, using(crate::proofs::Scan::scan_mask_memory))]
+pub fn mask_memory(word: u32) -> Option<Instr>
+    ensures { result ≡ scan (rows MaskMemories) word }
+{
+    let direction = mask_memory_direction(word & 0xfff0_707f)?;
+    Some(Instr::MaskMemory {
+        direction,
+        vd: vreg(word, 7),
+        rs1: reg(word, 15),
+    })
+}

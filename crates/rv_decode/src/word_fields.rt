@@ -1,0 +1,74 @@
+//! The operands that a word holds.
+ghost use Rattle.std.specs.Prelude.{◌≡◌, ◌≤◌, ◌<◌, ◌+◌, ◌^◌};
+ghost use Rattle.rv_model.specs.BitFields.{field, flag};
+ghost use Rattle.rv_model.specs.Immediates.{store_immediate, branch_offset, jump_offset};
+ghost use Rattle.rv_model.specs.Sources.{source_of};
+
+use rv_model::operations::Form;
+use rv_model::{Field, Reg, Source, VReg};
+
+/// Bits `low` to `low + len - 1` of a word.
+pub fn bits(word: u32, low: u32, len: u32) -> u32
+    requires { low + len ≤ 32 × len < 32 × 0 < len }
+    ensures value { result ≡ field low len word }
+    ensures small { result < 2 ^ len }
+{
+    (word >> low) % (1 << len)
+}
+
+/// The scalar register at bit `low`.
+pub fn reg(word: u32, low: u32) -> Reg
+    requires { low + 5 ≤ 32 }
+    ensures { result ≡ field low 5 word }
+{
+    Reg::new(bits(word, low, 5))
+}
+
+/// The vector register at bit `low`.
+pub fn vreg(word: u32, low: u32) -> VReg
+    requires { low + 5 ≤ 32 }
+    ensures { result ≡ field low 5 word }
+{
+    VReg::new(bits(word, low, 5))
+}
+
+/// Whether a vector instruction is not masked.
+pub fn is_unmasked(word: u32) -> bool
+    ensures { result ≡ flag word }
+{
+    bits(word, 25, 1) == 1
+}
+
+/// The second operand of a vector operation of this form.
+pub fn source(word: u32, form: Form) -> Source
+    ensures { result ≡ source_of form (field 15 5 word) }
+{
+    match form {
+        Form::V => Source::V(vreg(word, 15)),
+        Form::X => Source::X(reg(word, 15)),
+        Form::I => Source::I(Field::new(bits(word, 15, 5))),
+    }
+}
+
+/// The immediate of a store.
+pub fn store_immediate(word: u32) -> Field<12>
+    ensures { result ≡ store_immediate word }
+{
+    Field::new(bits(word, 7, 5) + bits(word, 25, 7) * 32)
+}
+
+/// Bits 12 to 1 of the distance of a branch.
+pub fn branch_offset(word: u32) -> Field<12>
+    ensures { result ≡ branch_offset word }
+{
+    let low = bits(word, 8, 4) + bits(word, 25, 6) * 16;
+    Field::new(low + bits(word, 7, 1) * 1024 + bits(word, 31, 1) * 2048)
+}
+
+/// Bits 20 to 1 of the distance of a jump.
+pub fn jump_offset(word: u32) -> Field<20>
+    ensures { result ≡ jump_offset word }
+{
+    let low = bits(word, 21, 10) + bits(word, 20, 1) * 1024;
+    Field::new(low + bits(word, 12, 8) * 2048 + bits(word, 31, 1) * 524_288)
+}

@@ -1,0 +1,9 @@
+pub mod TableLaws
+pub mod SearchLaws
+pub mod FrameLaws
+pub mod CountLaws
+pub mod PoolLaws
+pub mod PageLaws
+pub mod ViewLaws
+pub mod RunLaws
+pub mod UserLaws

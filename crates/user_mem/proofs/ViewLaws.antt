@@ -1,0 +1,79 @@
+-- The memories that callers see, and the tables and frames below them
+use Rattle.std.proofs.Common.{Option, Some, None, Result, Ok, Err, ◌≡◌, ℕ, zero, suc, ◌-◌, ◌<◌, ◌≤◌, List, [], cond, length, get_or, map, replicate, refl, sym, ◌∙◌, ap, subst, arith, add-zero}
+use Rattle.std.specs.Prelude.{nat_lt, ◌↔◌}
+use Rattle.std.specs.FinMap.{empty}
+use Rattle.std.proofs.lemmas.List.{length-map}
+use Rattle.rv_model.specs.declared.memory.MapRefusal.{MapRefusal}
+use Rattle.rv_model.specs.Memory.{Memory, map_refusal}
+use Rattle.user_mem.specs.declared.entry.Entry.{Entry}
+use Rattle.user_mem.specs.Table.{memory_of, IsSorted, AreBelow}
+use Rattle.user_mem.specs.Frames.{uses, uses_of}
+use Rattle.user_mem.specs.Pool.{IsPool, owners, used_in_all, table_at, memories_of}
+use Rattle.user_mem.specs.Users.{no_memories, memory_of_user}
+use Rattle.user_mem.proofs.PoolLaws.{no_table, item_of}
+
+-- a fact of all tables holds of the one at place i, as code reads it
+pub fact_at : {V : Type 0} (f : V → List Entry) (P : List Entry → Type 0) (tables : List V) (i : ℕ) (d : V) (es : List Entry) → i < length (map f tables) → es ≡ f (get_or tables i d) → P (table_at (map f tables) i) → P es
+fact_at f P tables i d es h e fact = subst P (sym (e ∙ sym (item_of f tables i d [] (omega (arith, length-map tables f))))) fact
+
+-- a user's memory is what the user's table means
+pub memory_of_table : (frames : List ℕ) (tables : List (List Entry)) (user i : ℕ) (memories : List Memory)
+    → memories_of frames tables ≡ memories → i ≡ user - 1 → i < length tables → memory_of_user memories user ≡ memory_of frames (table_at tables i)
+memory_of_table frames tables user i memories view place h =
+    ap (λ (ms : List Memory). memory_of_user ms user) (sym view)
+    ∙ ap (λ (j : ℕ). get_or (memories_of frames tables) j empty) (sym place)
+    ∙ item_of (λ t. memory_of frames t) tables i [] empty h
+
+-- the same, as code reads the table
+pub memory_at : {V : Type 0} (f : V → List Entry) (frames : List ℕ) (tables : List V) (user i : ℕ) (d : V) (es : List Entry) (memories : List Memory)
+    → memories_of frames (map f tables) ≡ memories → i ≡ user - 1 → i < length (map f tables) → es ≡ f (get_or tables i d) → memory_of_user memories user ≡ memory_of frames es
+memory_at f frames tables user i d es memories view place h e =
+    memory_of_table frames (map f tables) user i memories view place h
+    ∙ ap (λ (t : List Entry). memory_of frames t) (item_of f tables i d [] (omega (arith, length-map tables f)) ∙ sym e)
+
+no_table_at : (n v : ℕ) → table_at (replicate n []) v ≡ []
+no_table_at zero v = refl
+no_table_at (suc n) zero = refl
+no_table_at (suc n) (suc v) = no_table_at n v
+
+-- eight tables with no page over frames that are all free
+pub fresh_pool : (tables : List (List Entry)) (free frames : List ℕ) → tables ≡ replicate 8 [] → length frames ≡ 8388608
+    → ((f : ℕ) → uses f free ≡ cond (nat_lt f 2048) 1 0) → length free ≡ 2048 → IsPool tables free frames
+unfolding owners uses_of used_in_all
+fresh_pool tables free frames e size once len = subst (λ (ts : List (List Entry)). IsPool ts free frames) (sym e) (record {
+  users = refl;
+  size = size;
+  few = λ u. subst (λ (t : List Entry). length t ≤ 256) (sym (no_table_at 8 u)) no_table.few;
+  sorted = λ u. subst (λ (t : List Entry). IsSorted t) (sym (no_table_at 8 u)) no_table.sorted;
+  below = λ u. subst (λ (t : List Entry). AreBelow t) (sym (no_table_at 8 u)) no_table.below;
+  once = λ f. add-zero (uses f free) ∙ once f;
+  total = add-zero (length free) ∙ len;
+})
+
+pub fresh_memories : (tables : List (List Entry)) (frames : List ℕ) → tables ≡ replicate 8 [] → memories_of frames tables ≡ no_memories
+unfolding memory_of
+fresh_memories tables frames e = ap (λ (ts : List (List Entry)). memories_of frames ts) e
+
+-- ---- why pages can't be mapped
+
+-- the refusal in an answer of `map`
+pub refusal_of : Result (Unit {0}) MapRefusal → Option MapRefusal
+refusal_of (Ok _) = None
+refusal_of (Err r) = Some r
+
+refusal_back : (result : Result (Unit {0}) MapRefusal) (r : MapRefusal) → refusal_of result ≡ Some r → result ≡ Err r
+unfolding refusal_of
+refusal_back (Ok _) r e = absurd (cc)
+refusal_back (Err x) r e = let same : x ≡ r = cc in ap (λ (y : MapRefusal). Err y) same
+
+pub refused_for : (result : Result (Unit {0}) MapRefusal) (m : Memory) (page count : ℕ) (r : MapRefusal) {P : Type 0} → refusal_of result ≡ map_refusal m page count → ((map_refusal m page count ≡ Some r) ↔ P) → (result ≡ Err r) ↔ P
+unfolding refusal_of
+refused_for result m page count r e why = (λ h. why.0 (sym e ∙ ap refusal_of h), λ p. refusal_back result r (e ∙ why.1 p))
+
+pub refused_is : (r : MapRefusal) (o : Option MapRefusal) → o ≡ Some r → refusal_of (Err r) ≡ o
+unfolding refusal_of
+refused_is r o e = sym e
+
+pub accepted_is : (o : Option MapRefusal) → o ≡ None → refusal_of (Ok tt) ≡ o
+unfolding refusal_of
+accepted_is o e = sym e

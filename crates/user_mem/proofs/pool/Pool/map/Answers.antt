@@ -1,0 +1,49 @@
+use Rattle.std.proofs.Common.{◌∙◌, Ok, Err, refl, sym, ap, arith}
+use Rattle.rv_model.specs.declared.memory.MapRefusal.TheVariants.{Quota, AlreadyMapped}
+use Rattle.rv_model.specs.Memory.{Memory, map_refusal}
+use Rattle.rv_model.proofs.MemoryLaws.{map_refusal-Quota, map_refusal-AlreadyMapped}
+use Rattle.user_mem.specs.Table.{IsSorted}
+use Rattle.user_mem.specs.Users.{memory_of_user}
+use Rattle.user_mem.proofs.ViewLaws.{fact_at, memory_at, refused_for, refused_is, accepted_is}
+use Rattle.user_mem.proofs.pool.Pool.map.Goals as goal
+
+pub refusal-requires-clause-sorted : goal.refusal-requires-clause-sorted
+refusal-requires-clause-sorted g c =
+    fact_at (λ t. t.items) (λ t. IsSorted t) c.self.inside.tables c.index.result c.index-self-index.result c.as_slice.result.now (omega (arith, c.self.invariant.users)) c.as_slice.ensures.value (c.self.invariant.sorted c.index.result)
+
+-- the refusal of the table is that of the memory
+refused : goal.returns-in-Some-clause-refused
+refused g c =
+    let seen = memory_at (λ t. t.items) c.self.inside.frames.items c.self.inside.tables c.args.user c.index.result c.index-self-index.result c.as_slice.result.now c.args.self.now c.self.view_is c.index.ensures.value (omega (arith, c.self.invariant.users)) c.as_slice.ensures.value in
+    ap (λ (m : Memory). map_refusal m c.args.page c.args.count) seen ∙ sym (c.refusal.ensures.value c.self.inside.frames.items) ∙ c.in-Some.is
+
+pub returns-in-Some-clause-accepted : goal.returns-in-Some-clause-accepted
+returns-in-Some-clause-accepted g c = let why = refused g c in (λ impossible. absurd (cc), λ accepted. absurd (cc))
+
+pub returns-in-Some-clause-refused : goal.returns-in-Some-clause-refused
+returns-in-Some-clause-refused g c = refused g c
+
+pub returns-in-Some-clause-quota : goal.returns-in-Some-clause-quota
+returns-in-Some-clause-quota g c =
+    refused_for (Err c.in-Some.refusal) (memory_of_user c.args.self.now c.args.user) c.args.page c.args.count Quota (refused_is c.in-Some.refusal _ (refused g c)) (map_refusal-Quota (memory_of_user c.args.self.now c.args.user) c.args.page c.args.count)
+
+pub returns-in-Some-clause-already_mapped : goal.returns-in-Some-clause-already_mapped
+returns-in-Some-clause-already_mapped g c =
+    refused_for (Err c.in-Some.refusal) (memory_of_user c.args.self.now c.args.user) c.args.page c.args.count AlreadyMapped (refused_is c.in-Some.refusal _ (refused g c)) (map_refusal-AlreadyMapped (memory_of_user c.args.self.now c.args.user) c.args.page c.args.count)
+
+-- no refusal of the table is none of the memory
+accepted : goal.returns-clause-accepted
+accepted g c =
+    let seen = memory_at (λ t. t.items) c.self.inside.frames.items c.self.inside.tables c.args.user c.index.result c.index-self-index.result c.as_slice.result.now c.args.self.now c.self.view_is c.index.ensures.value (omega (arith, c.self.invariant.users)) c.as_slice.ensures.value in
+    (λ _. ap (λ (m : Memory). map_refusal m c.args.page c.args.count) seen ∙ sym (c.refusal.ensures.value c.self.inside.frames.items) ∙ c.in_default.is, λ _. refl)
+
+pub returns-clause-accepted : goal.returns-clause-accepted
+returns-clause-accepted g c = accepted g c
+
+pub returns-clause-quota : goal.returns-clause-quota
+returns-clause-quota g c =
+    refused_for (Ok tt) (memory_of_user c.args.self.now c.args.user) c.args.page c.args.count Quota (accepted_is _ ((accepted g c).0 refl)) (map_refusal-Quota (memory_of_user c.args.self.now c.args.user) c.args.page c.args.count)
+
+pub returns-clause-already_mapped : goal.returns-clause-already_mapped
+returns-clause-already_mapped g c =
+    refused_for (Ok tt) (memory_of_user c.args.self.now c.args.user) c.args.page c.args.count AlreadyMapped (accepted_is _ ((accepted g c).0 refl)) (map_refusal-AlreadyMapped (memory_of_user c.args.self.now c.args.user) c.args.page c.args.count)

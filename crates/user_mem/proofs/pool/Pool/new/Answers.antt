@@ -1,0 +1,9 @@
+use Rattle.std.proofs.Common.{map}
+use Rattle.user_mem.proofs.ViewLaws.{fresh_pool, fresh_memories}
+use Rattle.user_mem.proofs.pool.Pool.new.Goals as goal
+
+pub invariant_of-result : goal.invariant_of-result
+invariant_of-result g c = fresh_pool (map (λ t. t.items) c.no_tables.result) c.all_free.result.items c.in-Ok.frames.items c.no_tables.ensures c.in-Ok.ensures c.all_free.ensures.once c.all_free.ensures.len
+
+pub returns : goal.returns
+returns g c = fresh_memories (map (λ t. t.items) c.no_tables.result) c.in-Ok.frames.items c.no_tables.ensures

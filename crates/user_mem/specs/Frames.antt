@@ -1,0 +1,17 @@
+-- How often a frame is free and how often it is used, by its number.
+use Rattle.std.specs.Prelude.{◌+◌, ◌*◌, ◌<◌, ◌≤◌, ℕ, cond, nat_eq, List}
+use Rattle.std.specs.List.{sum_by}
+use Rattle.user_mem.specs.declared.entry.Entry.{Entry}
+
+-- how often a frame is in a list of frames
+unfoldable pub uses : ℕ → List ℕ → ℕ
+uses f free = sum_by (λ g. cond (nat_eq g f) 1 0) free
+
+-- how many entries of a table have the frame
+unfoldable pub uses_of : ℕ → List Entry → ℕ
+uses_of f entries = sum_by (λ e. cond (nat_eq e.frame f) 1 0) entries
+
+-- a table and the free frames: no frame is twice in them, and the free ones are there
+pub record AreMine (free : List ℕ) (size : ℕ) (table : List Entry) : Type 0 where
+  pub once : (f : ℕ) → uses f free + uses_of f table ≤ 1
+  pub fit : (f : ℕ) → 0 < uses f free → 4096 * f + 4096 ≤ size

@@ -1,0 +1,4 @@
+pub mod Table
+pub mod Frames
+pub mod Pool
+pub mod Users

@@ -1,0 +1,38 @@
+-- What the pool keeps: eight tables over 2,048 frames, of which each is free or used, once.
+use Rattle.std.specs.Prelude.{◌≡◌, ℕ, ◌+◌, ◌*◌, ◌≤◌, cond, nat_lt, List, [], length, map, slice_index_or}
+use Rattle.std.specs.List.{sum_by}
+use Rattle.user_mem.specs.declared.entry.Entry.{Entry}
+use Rattle.arrayvec.specs.ArrayVec.{ArrayVec}
+use Rattle.rv_model.specs.Memory.{Memory}
+use Rattle.user_mem.specs.Table.{memory_of, IsSorted, AreBelow}
+use Rattle.user_mem.specs.Frames.{uses, uses_of}
+
+-- how often a frame is free or used
+unfoldable pub owners : ℕ → List ℕ → List (List Entry) → ℕ
+owners f free tables = uses f free + sum_by (uses_of f) tables
+
+-- how many frames are used
+unfoldable pub used_in_all : List (List Entry) → ℕ
+used_in_all tables = sum_by (λ t. length t) tables
+
+-- the entries of each table
+abbrev pub entries_of : List (ArrayVec Entry) → List (List Entry)
+entries_of tables = map (λ t. t.items) tables
+
+-- the table of the user at place u
+abbrev pub table_at : List (List Entry) → ℕ → List Entry
+table_at tables u = slice_index_or tables u []
+
+-- the memories that the tables give over the frames' bytes
+abbrev pub memories_of : List ℕ → List (List Entry) → List Memory
+memories_of frames tables = map (λ t. memory_of frames t) tables
+
+-- what holds of the tables, the free frames and the frames' bytes
+pub record IsPool (tables : List (List Entry)) (free frames : List ℕ) : Type 0 where
+  pub users : length tables ≡ 8
+  pub size : length frames ≡ 4096 * 2048
+  pub few : (u : ℕ) → length (table_at tables u) ≤ 256
+  pub sorted : (u : ℕ) → IsSorted (table_at tables u)
+  pub below : (u : ℕ) → AreBelow (table_at tables u)
+  pub once : (f : ℕ) → owners f free tables ≡ cond (nat_lt f 2048) 1 0
+  pub total : length free + used_in_all tables ≡ 2048

@@ -1,0 +1,26 @@
+-- The memories of the eight users as a list, user 1 first.
+use Rattle.std.specs.Prelude.{◌≡◌, ◌≢◌, ℕ, ◌-◌, ◌≤◌, List, length, replicate, slice_index_or, slice_set}
+use Rattle.std.specs.FinMap.{empty}
+use Rattle.rv_model.specs.Memory.{Memory}
+
+-- eight memories with no page
+abbrev pub no_memories : List Memory
+no_memories = replicate 8 empty
+
+-- the memory of a user
+abbrev pub memory_of_user : List Memory → ℕ → Memory
+memory_of_user memories user = slice_index_or memories (user - 1) empty
+
+-- the memories with another one for a user, and all others as they were
+abbrev pub with_memory : List Memory → ℕ → Memory → List Memory
+with_memory memories user memory = slice_set memories (user - 1) memory
+
+-- a memory that is replaced is its user's from then on
+abbrev pub ReplacesOwn : Type 0
+ReplacesOwn = (memories : List Memory) (user : ℕ) (memory : Memory) → 1 ≤ user → user ≤ length memories
+    → memory_of_user (with_memory memories user memory) user ≡ memory
+
+-- and every other user's is as it was
+abbrev pub KeepsOthers : Type 0
+KeepsOthers = (memories : List Memory) (user other : ℕ) (memory : Memory) → 1 ≤ user → 1 ≤ other → other ≢ user
+    → memory_of_user (with_memory memories user memory) other ≡ memory_of_user memories other

@@ -1,0 +1,135 @@
+//! The bytes of all frames, of 4,096 each: reads and writes through a user's table.
+ghost use Rattle.std.specs.Prelude.{◌≡◌, ℕ, List, ◌≤◌, ◌<◌, ◌+◌, ◌*◌, ◌/◌, ◌%◌, ◌^◌, ◌⊎◌, cond, nat_eq, true, Some, None, length, slice_index};
+ghost use Rattle.arrayvec.specs.ArrayVec.{array_vec_len};
+ghost use Rattle.rv_model.specs.Memory.{is_allowed, can_access, bytes_at, put_bytes, with_pages};
+ghost use Rattle.user_mem.specs.declared.entry.Entry.{Entry};
+ghost use Rattle.user_mem.specs.Table.{entry_at, memory_of, IsSorted, AreBelow, FitIn, AreSeparate, AreApart};
+ghost use Rattle.user_mem.specs.Frames.{uses_of};
+
+use crate::entry::Entry;
+use crate::table::{PAGE_SIZE, Table, add_entry, bytes_in_page, locate};
+use rv_model::{Access, Permissions};
+
+/// The bytes of a frame.
+pub(crate) const FRAME_SIZE: usize = 4096;
+
+// Where the byte of a mapped address lies.
+fn index_of(entries: &[Entry], frames: &[u8], addr: u64) -> usize
+    requires sorted { IsSorted entries.now }
+    requires fit { FitIn entries.now (length frames.now) }
+    requires mapped { is_allowed Access.Monitor (memory_of frames.now entries.now) addr ≡ true }
+    ensures within { result + 4096 ≤ length frames.now + addr % 4096 }
+    ensures place { (e : Entry) → entry_at entries.now (addr / 4096) ≡ Some e
+        → result ≡ 4096 * e.frame + addr % 4096 }
+{
+    match locate(entries, addr / PAGE_SIZE) {
+        Some(entry) => FRAME_SIZE * entry.frame + addr as usize % FRAME_SIZE,
+        None => unreachable!(),
+    }
+}
+
+// Copies bytes over a part of others.
+fn paste(target: &mut [u8], at: usize, bytes: &[u8])
+    requires { at + length bytes.now ≤ length target.old }
+    ensures size { length target.new ≡ length target.old }
+    ensures pasted { (k : ℕ) → k < length bytes.now
+        → slice_index target.new (at + k) ≡ slice_index bytes.now k }
+    ensures kept { (i : ℕ) → ((i < at) ⊎ (at + length bytes.now ≤ i))
+        → slice_index target.new i ≡ slice_index target.old i }
+{
+    target[at..at + bytes.len()].copy_from_slice(bytes);
+}
+
+/// Copies the bytes from an address on.
+pub(crate) fn copy_out(entries: &[Entry], frames: &[u8], addr: u64, buffer: &mut [u8])
+    requires sorted { IsSorted entries.now }
+    requires below { AreBelow entries.now }
+    requires fit { FitIn entries.now (length frames.now) }
+    requires mapped { can_access Access.Monitor (memory_of frames.now entries.now) addr
+        (length buffer.old) ≡ true }
+    ensures { buffer.new ≡ bytes_at (memory_of frames.now entries.now) addr (length buffer.old) }
+{
+    let mut done = 0;
+    while done < buffer.len() {
+        let next = addr + done as u64;
+        let len = bytes_in_page(next, buffer.len() - done);
+        let start = index_of(entries, frames, next);
+        paste(buffer, done, &frames[start..start + len]);
+        done += len;
+    }
+}
+
+/// Writes bytes from an address on.
+pub(crate) fn copy_in(entries: &[Entry], frames: &mut [u8], addr: u64, bytes: &[u8])
+    requires sorted { IsSorted entries.now }
+    requires below { AreBelow entries.now }
+    requires fit { FitIn entries.now (length frames.old) }
+    requires separate { AreSeparate entries.now }
+    requires mapped { can_access Access.Monitor (memory_of frames.old entries.now) addr
+        (length bytes.now) ≡ true }
+    ensures written { memory_of frames.new entries.now
+        ≡ put_bytes (memory_of frames.old entries.now) addr bytes.now }
+    ensures others { (other : List Entry) → AreApart entries.now other
+        → memory_of frames.new other ≡ memory_of frames.old other }
+    ensures size { length frames.new ≡ length frames.old }
+{
+    let mut done = 0;
+    while done < bytes.len() {
+        let next = addr + done as u64;
+        let len = bytes_in_page(next, bytes.len() - done);
+        let start = index_of(entries, frames, next);
+        paste(frames, start, &bytes[done..done + len]);
+        done += len;
+    }
+}
+
+// Fills a frame with zeros.
+fn zero_frame(frames: &mut [u8], frame: usize)
+    requires { 4096 * frame + 4096 ≤ length frames.old }
+    ensures size { length frames.new ≡ length frames.old }
+    ensures zeros { (k : ℕ) → k < 4096 → slice_index frames.new (4096 * frame + k) ≡ 0 }
+    ensures kept { (i : ℕ) → ((i < 4096 * frame) ⊎ (4096 * frame + 4096 ≤ i))
+        → slice_index frames.new i ≡ slice_index frames.old i }
+{
+    for k in 0..FRAME_SIZE {
+        frames[FRAME_SIZE * frame + k] = 0;
+    }
+}
+
+/// Maps one page of zeros in a frame that nobody uses.
+pub(crate) fn map_page(
+    table: &mut Table,
+    frames: &mut [u8],
+    frame: usize,
+    page: u64,
+    permissions: Permissions,
+)
+    requires room { array_vec_len table.old < 256 }
+    requires sorted { IsSorted table.old.items }
+    requires fits { 4096 * frame + 4096 ≤ length frames.old }
+    requires new_page { entry_at table.old.items page ≡ None }
+    requires unused { uses_of frame table.old.items ≡ 0 }
+    ensures mapped { memory_of frames.new table.new.items
+        ≡ with_pages (memory_of frames.old table.old.items) page 1 permissions }
+    ensures others { (other : List Entry) → uses_of frame other ≡ 0
+        → memory_of frames.new other ≡ memory_of frames.old other }
+    ensures sorted { IsSorted table.new.items }
+    ensures looked_up { (p : ℕ) → entry_at table.new.items p
+        ≡ cond (nat_eq page p)
+        (Some (record { page = page; frame = frame; permissions = permissions }))
+        (entry_at table.old.items p) }
+    ensures used { (f : ℕ)
+        → uses_of f table.new.items ≡ uses_of f table.old.items + cond (nat_eq frame f) 1 0 }
+    ensures len { length table.new.items ≡ length table.old.items + 1 }
+    ensures size { length frames.new ≡ length frames.old }
+{
+    zero_frame(frames, frame);
+    add_entry(
+        table,
+        Entry {
+            page,
+            frame,
+            permissions,
+        },
+    );
+}

@@ -1,0 +1,14 @@
+//! The memory of eight users in one pool of frames. A user's memory is a map from addresses to
+//! bytes with permissions, which no call for another user changes.
+#![tactic(auto)]
+
+mod entry;
+mod frames;
+mod free;
+mod isolation;
+mod pool;
+mod table;
+mod users;
+
+pub use isolation::isolation_law;
+pub use pool::{NoMemory, Pool};

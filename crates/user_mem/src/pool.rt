@@ -1,0 +1,225 @@
+//! The memories of all users.
+ghost use Rattle.std.specs.Prelude.{◌≡◌, ℕ, ◌<◌, ◌≤◌, ◌+◌, ◌*◌, ◌^◌, ◌↔◌, [], true, None, IsOk, IfOk, IfErr, OnOk, OnErr, length, replicate};
+ghost use Rattle.std.specs.FinMap.{empty};
+ghost use Rattle.rv_model.specs.Memory.{can_access, bytes_at, put_bytes, with_pages, page_count, any_page_mapped, map_refusal};
+ghost use Rattle.user_mem.specs.Users.{no_memories, memory_of_user, with_memory};
+ghost use Rattle.user_mem.specs.Pool.{entries_of};
+
+use crate::frames::{FRAME_SIZE, copy_out};
+use crate::free::{FRAME_COUNT, FreeFrames, all_free};
+use crate::table::{allows, refusal};
+use crate::users::{Tables, drop_pages, map_user, write_user};
+use arrayvec::ArrayVec;
+use rv_model::{Access, Fault, MapRefusal, Permissions, User};
+use std::alloc::{AllocError, Allocator, Global};
+use std::marker::Model;
+
+/// There is no memory for the pool.
+#[derive(Clone, Copy, Debug, PartialEq, Eq)]
+pub struct NoMemory;
+
+/// The frames of all users, the pages that each has in them, and the frames that are free.
+///
+/// A page has 4,096 bytes. A user has at most 256 pages, and the 2,048 frames are enough for eight
+/// users who have that many each. Only `new` takes memory.
+///
+/// A page may be read, written and executed as its permissions say, which are those of a leaf entry
+/// of a page table (Privileged Architecture, section 4.3.1). The monitor may look at any mapped page.
+#[derive(Drop)]
+pub struct Pool<A: Allocator = Global> {
+    tables: Tables,
+    free: FreeFrames,
+    frames: Vec<u8, A>,
+}
+
+impl<A: Allocator> Model for Pool<A> {
+    ghost use Rattle.std.specs.Prelude.{List};
+    ghost use Rattle.std.specs.Coded.{coded_list};
+    ghost use Rattle.rv_model.specs.Memory.{Memory, coded_memory};
+    ghost use Rattle.user_mem.specs.Pool.{entries_of, memories_of, IsPool};
+
+    ghost Value = { List Memory };
+
+    ghost coded = { coded_list coded_memory };
+
+    ghost view = { λ p. memories_of p.frames.items (entries_of p.tables) };
+
+    ghost invariant = { λ p. IsPool (entries_of p.tables) p.free.items p.frames.items };
+}
+
+impl<A: Allocator> Pool<A> {
+    /// Eight memories with no page.
+    pub fn new(alloc: A) -> Result<Self, NoMemory>
+        ensures { IfOk result (λ pool. pool ≡ no_memories) }
+    {
+        let Ok(frames) = zeros(alloc, FRAME_COUNT * FRAME_SIZE) else {
+            return Err(NoMemory);
+        };
+        Ok(Pool {
+            tables: no_tables(),
+            free: all_free(),
+            frames,
+        })
+    }
+
+    /// Maps `count` pages of zeros for a user, from the page numbered `page` on (page p begins at
+    /// address 4,096 p). The pages end at or below address 2^48.
+    ///
+    /// `Quota` where the user would have more than 256 pages, else `AlreadyMapped` where one of the
+    /// pages is there. Then nothing has changed.
+    pub fn map(
+        &mut self,
+        user: User,
+        page: u64,
+        count: usize,
+        permissions: Permissions,
+    ) -> Result<(), MapRefusal>
+        requires { page + count ≤ 2 ^ 36 }
+        ensures users { length self.old ≡ 8 }
+        ensures accepted { IsOk result
+            ↔ (map_refusal (memory_of_user self.old user) page count ≡ None) }
+        ensures refused { IfErr result (λ refusal.
+            map_refusal (memory_of_user self.old user) page count ≡ Some refusal) }
+
+        ensures quota { (result ≡ Err MapRefusal.Quota)
+            ↔ (256 < page_count (memory_of_user self.old user) + count) }
+        ensures already_mapped { (result ≡ Err MapRefusal.AlreadyMapped)
+            ↔ ((page_count (memory_of_user self.old user) + count ≤ 256)
+            × (any_page_mapped (memory_of_user self.old user) page count ≡ true)) }
+
+        ensures ok { OnOk result (self.new ≡ with_memory self.old user
+            (with_pages (memory_of_user self.old user) page count permissions)) }
+        ensures err { OnErr result (self.new ≡ self.old) }
+    {
+        if let Some(refusal) = refusal(self.tables[user.index()].as_slice(), page, count) {
+            return Err(refusal);
+        }
+        map_user(
+            &mut self.tables,
+            user.index(),
+            &mut self.free,
+            self.frames.as_mut_slice(),
+            page,
+            count,
+            permissions,
+        );
+        Ok(())
+    }
+
+    /// Unmaps all pages of a user.
+    pub fn drop_user(&mut self, user: User)
+        ensures users { length self.old ≡ 8 }
+        ensures dropped { self.new ≡ with_memory self.old user empty }
+    {
+        drop_pages(
+            &mut self.tables,
+            user.index(),
+            &mut self.free,
+            self.frames.as_slice(),
+        );
+    }
+
+    /// How many pages a user has, at most 256.
+    pub fn pages(&self, user: User) -> usize
+        ensures users { length self.now ≡ 8 }
+        ensures value { result ≡ page_count (memory_of_user self.now user) }
+    {
+        self.tables[user.index()].len()
+    }
+
+    /// Checks that each of `len` bytes from an address on may be accessed so. A fault names the
+    /// address of the first. An access of no bytes is allowed anywhere.
+    pub fn check(&self, user: User, addr: u64, len: usize, access: Access) -> Result<(), Fault>
+        ensures users { length self.now ≡ 8 }
+        ensures allowed { IsOk result
+            ↔ (can_access access (memory_of_user self.now user) addr len ≡ true) }
+        ensures fault { IfErr result (λ fault. fault.addr ≡ addr) }
+    {
+        if allows(self.tables[user.index()].as_slice(), access, addr, len) {
+            Ok(())
+        } else {
+            Err(Fault { addr })
+        }
+    }
+
+    /// Reads a user's bytes from an address on, until the buffer is full. After a fault, as of
+    /// `check`, the buffer is as it was.
+    pub fn read(
+        &self,
+        user: User,
+        addr: u64,
+        access: Access,
+        buffer: &mut [u8],
+    ) -> Result<(), Fault>
+        ensures users { length self.now ≡ 8 }
+        ensures allowed { IsOk result
+            ↔ (can_access access (memory_of_user self.now user) addr (length buffer.old) ≡ true) }
+        ensures ok { OnOk result (buffer.new
+            ≡ bytes_at (memory_of_user self.now user) addr (length buffer.old)) }
+        ensures err { OnErr result (buffer.new ≡ buffer.old) }
+        ensures fault { IfErr result (λ fault. fault.addr ≡ addr) }
+    {
+        self.check(user, addr, buffer.len(), access)?;
+        copy_out(
+            self.tables[user.index()].as_slice(),
+            self.frames.as_slice(),
+            addr,
+            buffer,
+        );
+        Ok(())
+    }
+
+    /// Writes bytes of a user from an address on. After a fault, as of `check`, nothing has changed.
+    pub fn write(
+        &mut self,
+        user: User,
+        addr: u64,
+        access: Access,
+        bytes: &[u8],
+    ) -> Result<(), Fault>
+        ensures users { length self.old ≡ 8 }
+        ensures allowed { IsOk result
+            ↔ (can_access access (memory_of_user self.old user) addr (length bytes.now) ≡ true) }
+        ensures ok { OnOk result (self.new ≡ with_memory self.old user
+            (put_bytes (memory_of_user self.old user) addr bytes.now)) }
+        ensures err { OnErr result (self.new ≡ self.old) }
+        ensures fault { IfErr result (λ fault. fault.addr ≡ addr) }
+    {
+        self.check(user, addr, bytes.len(), access)?;
+        write_user(
+            &self.tables,
+            user.index(),
+            &self.free,
+            self.frames.as_mut_slice(),
+            addr,
+            bytes,
+        );
+        Ok(())
+    }
+}
+
+// So many zeros.
+fn zeros<A: Allocator>(alloc: A, count: usize) -> Result<Vec<u8, A>, AllocError>
+    ensures { IfOk result (λ bytes. length bytes.items ≡ count) }
+{
+    vec![in alloc; 0; count]
+}
+
+// Eight tables with no page.
+fn no_tables() -> Tables
+    ensures { entries_of result ≡ replicate 8 [] }
+{
+    [
+        ArrayVec::new(),
+        ArrayVec::new(),
+        ArrayVec::new(),
+        ArrayVec::new(),
+        ArrayVec::new(),
+        ArrayVec::new(),
+        ArrayVec::new(),
+        ArrayVec::new(),
+    ]
+}
+
+#[cfg(test)]
+mod tests;

@@ -1,0 +1,133 @@
+//! A user's page table: entries in the order of their pages, found by binary search.
+ghost use Rattle.std.specs.Prelude.{◌≡◌, ℕ, List, ◌≤◌, ◌<◌, ◌+◌, ◌-◌, ◌*◌, ◌/◌, ◌%◌, ◌^◌, min, cond, nat_eq, false, Some, None, IfOk, IfErr, IfNone, length};
+ghost use Rattle.arrayvec.specs.ArrayVec.{array_vec_len};
+ghost use Rattle.rv_model.specs.Memory.{is_allowed, can_access, any_page_mapped, map_refusal};
+ghost use Rattle.user_mem.specs.declared.entry.Entry.{Entry};
+ghost use Rattle.user_mem.specs.Table.{entry_at, memory_of, AreBelow, IsSorted, IsAt, IsGapFor};
+ghost use Rattle.user_mem.specs.Frames.{uses_of};
+
+use crate::entry::Entry;
+use arrayvec::ArrayVec;
+use rv_model::{Access, MapRefusal};
+
+/// The most pages that a user may have.
+pub(crate) const QUOTA: usize = 256;
+
+/// The bytes of a page.
+pub(crate) const PAGE_SIZE: u64 = 4096;
+
+/// A user's mapped pages, by rising page.
+pub(crate) type Table = ArrayVec<Entry, QUOTA>;
+
+// Where the entry of a page is, or where it would go.
+fn search(entries: &[Entry], page: u64) -> Result<usize, usize>
+    requires { IsSorted entries.now }
+    ensures found { IfOk result (IsAt entries.now page) }
+    ensures absent { IfErr result (IsGapFor entries.now page) }
+{
+    entries.binary_search_by_key(&page, |entry| entry.page)
+}
+
+/// The entry of a page.
+pub(crate) fn locate(entries: &[Entry], page: u64) -> Option<Entry>
+    requires { IsSorted entries.now }
+    ensures { result ≡ entry_at entries.now page }
+{
+    match search(entries, page) {
+        Ok(place) => Some(entries[place]),
+        Err(_) => None,
+    }
+}
+
+// Whether the byte at an address may be accessed.
+fn is_byte_allowed(entries: &[Entry], access: Access, addr: u64) -> bool
+    requires { IsSorted entries.now }
+    ensures { (frames : List ℕ) → result ≡ is_allowed access (memory_of frames entries.now) addr }
+{
+    match locate(entries, addr / PAGE_SIZE) {
+        Some(entry) => access.is_permitted(entry.permissions),
+        None => false,
+    }
+}
+
+/// How many of the next `left` bytes from an address on lie in its page.
+pub(crate) fn bytes_in_page(addr: u64, left: usize) -> usize
+    ensures { result ≡ min left (4096 - addr % 4096) }
+{
+    left.min((PAGE_SIZE - addr % PAGE_SIZE) as usize)
+}
+
+/// Whether all bytes of an access are allowed.
+pub(crate) fn allows(entries: &[Entry], access: Access, addr: u64, len: usize) -> bool
+    requires sorted { IsSorted entries.now }
+    requires below { AreBelow entries.now }
+    ensures { (frames : List ℕ)
+        → result ≡ can_access access (memory_of frames entries.now) addr len }
+{
+    let mut done = 0;
+    while done < len {
+        let Some(next) = addr.checked_add(done as u64) else {
+            return false;
+        };
+        if !is_byte_allowed(entries, access, next) {
+            return false;
+        }
+        done += bytes_in_page(next, len - done);
+    }
+    true
+}
+
+// Whether any of these pages is mapped.
+fn is_any_mapped(entries: &[Entry], page: u64, count: usize) -> bool
+    requires sorted { IsSorted entries.now }
+    requires ends { page + count ≤ 2 ^ 36 }
+    ensures mapped { (frames : List ℕ)
+        → result ≡ any_page_mapped (memory_of frames entries.now) page count }
+    ensures new_pages { result ≡ false → (k : ℕ) → k < count
+        → entry_at entries.now (page + k) ≡ None }
+{
+    for i in 0..count {
+        if locate(entries, page + i as u64).is_some() {
+            return true;
+        }
+    }
+    false
+}
+
+/// Why these pages can't be mapped, where they can't.
+pub(crate) fn refusal(entries: &[Entry], page: u64, count: usize) -> Option<MapRefusal>
+    requires few { length entries.now ≤ 256 }
+    requires sorted { IsSorted entries.now }
+    requires ends { page + count ≤ 2 ^ 36 }
+    ensures value { (frames : List ℕ)
+        → result ≡ map_refusal (memory_of frames entries.now) page count }
+    ensures room { IfNone result (length entries.now + count ≤ 256) }
+    ensures new_pages { IfNone result ((k : ℕ)
+        → k < count → entry_at entries.now (page + k) ≡ None) }
+{
+    if count > QUOTA - entries.len() {
+        return Some(MapRefusal::Quota);
+    }
+    if is_any_mapped(entries, page, count) {
+        return Some(MapRefusal::AlreadyMapped);
+    }
+    None
+}
+
+/// Adds the entry of a page that has none.
+pub(crate) fn add_entry(table: &mut Table, entry: Entry)
+    requires room { array_vec_len table.old < 256 }
+    requires sorted { IsSorted table.old.items }
+    requires new_page { entry_at table.old.items entry.page ≡ None }
+    ensures sorted { IsSorted table.new.items }
+    ensures len { length table.new.items ≡ length table.old.items + 1 }
+    ensures looked_up { (p : ℕ) → entry_at table.new.items p
+        ≡ cond (nat_eq entry.page p) (Some entry) (entry_at table.old.items p) }
+    ensures used { (f : ℕ)
+        → uses_of f table.new.items ≡ uses_of f table.old.items + cond (nat_eq entry.frame f) 1 0 }
+{
+    match search(table.as_slice(), entry.page) {
+        Ok(_) => unreachable!(),
+        Err(place) => table.insert(place, entry),
+    }
+}

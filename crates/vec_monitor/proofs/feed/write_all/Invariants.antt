@@ -1,0 +1,14 @@
+use Rattle.std.proofs.Common.{length, ◌-◌, ◌≡◌, ◌≤◌, ◌++◌, take}
+use Rattle.vec_monitor.proofs.feed.write_all.Given as goal
+
+-- the sink has the front that was written
+abbrev pub invariant-loop-at : goal.invariant-loop-at
+invariant-loop-at g l = record {
+  tells : g.K.Sink.tells l.fn.sink → g.K.Sink.tells l.sink;
+  front : g.K.Sink.tells l.fn.sink → g.K.Sink.held l.sink ≡ g.K.Sink.held l.fn.sink ++ take l.at l.bytes;
+  within : l.at ≤ length l.bytes;
+  count : g.K.Sink.failures l.sink ≡ g.K.Sink.failures l.fn.sink;
+}
+
+abbrev pub decreases-loop-at : goal.decreases-loop-at
+decreases-loop-at g l = length l.bytes - l.at

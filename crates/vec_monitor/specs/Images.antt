@@ -1,0 +1,11 @@
+-- The images that a machine borrows.
+use Rattle.std.specs.Prelude.{List, map}
+use Rattle.rv_model.specs.Setup.{Image as NamedImage}
+use Rattle.vec_monitor.specs.declared.image.Image.{Image}
+
+-- a borrowed image by what it holds
+abbrev pub named_image : Image → NamedImage
+named_image image = record { name = image.name.now; bytes = image.bytes.now }
+
+abbrev pub named_images : List Image → List NamedImage
+named_images images = map named_image images

@@ -1,0 +1,12 @@
+pub mod Addressees
+pub mod CommandOutcomes
+pub mod Device
+pub mod EndedLines
+pub mod Feed
+pub mod Images
+pub mod Lenders
+pub mod MachineState
+pub mod NewFaults
+pub mod ParsedCommands
+pub mod Parts
+pub mod Statuses

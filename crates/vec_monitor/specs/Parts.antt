@@ -1,0 +1,46 @@
+-- What the fields of a machine stand for.
+use Rattle.std.specs.Prelude.{◌≡◌, length, List, [], ◌∷◌, false, if◌then◌else◌, Some, None}
+use Rattle.rv_model.specs.declared.policy.Policy.TheVariants.{Keep}
+use Rattle.rv_model.specs.declared.scalar.Scalar.{Scalar}
+use Rattle.rv_model.specs.declared.vector_state.Seat.{Seat}
+use Rattle.rv_model.specs.Memory.{Memory}
+use Rattle.rv_model.specs.Step.{HartState}
+use Rattle.rv_model.specs.PrivateMachine.{Private, Present}
+use Rattle.rv_model.specs.Scalar.{initial_scalar}
+use Rattle.rv_model.specs.VectorState.{initial_vector}
+use Rattle.rv_model.specs.Script.{World}
+use Rattle.vec_monitor.specs.declared.context.Context.{Context}
+
+-- the context of a user who is absent
+abbrev pub new_context : Context
+new_context = record { entered = false; scalar = initial_scalar; seat = record { state = initial_vector; dirty = false } }
+
+-- what instructions work on; nothing has been put out, and agnostic elements are kept
+abbrev pub user_state : Scalar → Seat → Memory → HartState
+user_state scalar seat memory = record { scalar = scalar; vector = seat.state; memory = memory; output = []; policy = Keep }
+
+abbrev pub hart_state : Context → Memory → HartState
+hart_state c memory = user_state c.scalar c.seat memory
+
+-- a user that has entered, stopped, without breakpoints or a trace
+abbrev pub present : Context → Memory → Present
+present c memory = record { hart = hart_state c memory; breakpoints = []; trace = []; running = false; fresh = false }
+
+-- the private machine of a context and a memory
+abbrev pub private_of : Context → Memory → Private
+private_of c memory = if c.entered then Some (present c memory) else None
+
+-- all private machines
+abbrev pub parts_of : List Context → List Memory → List Private
+parts_of [] memories = []
+parts_of (c ∷ cs) [] = []
+parts_of (c ∷ cs) (m ∷ memories) = private_of c m ∷ parts_of cs memories
+
+-- the world of these contexts and memories; user 1 is the first to be granted a slice
+abbrev pub world_of : List Context → List Memory → World
+world_of contexts memories = record { parts = parts_of contexts memories; cursor = 8 }
+
+-- there is a context and a memory for each user
+pub record AreEight (cs : List Context) (ms : List Memory) : Type 0 where
+  pub contexts : length cs ≡ 8
+  pub memories : length ms ≡ 8

@@ -1,0 +1,70 @@
+//! What one user's instructions are lent of the machine: the user's bytes, and the user's vector
+//! state.
+ghost use Rattle.std.specs.Prelude.{◌≡◌, ◌≤◌, length};
+
+use hart::Vectors;
+use rv_model::{Access, Fault, Seat, User};
+use std::alloc::Allocator;
+use user_mem::Pool;
+use vector_memory::UserBytes;
+
+/// The bytes of one user in the pool of all users.
+#[derive(Drop)]
+pub struct UserMemory<'a, A: Allocator> {
+    pub pool: &'a mut Pool<A>,
+    pub user: User,
+}
+
+impl<A: Allocator> UserBytes for UserMemory<'_, A> {
+    ghost use Rattle.user_mem.specs.Users.{memory_of_user, with_memory as with_user_memory};
+    ghost use Rattle.std.proofs.Common.{ap};
+    ghost use Rattle.vec_monitor.specs.Lenders.{same_memory, later_memory};
+
+    ghost memory = { λ m. memory_of_user m.pool.now m.user };
+
+    ghost with_memory = { λ m memory.
+        record m { pool = record m.pool { now = with_user_memory m.pool.now m.user memory } } };
+
+    ghost with_memory_same = { λ m.
+        ap (λ p. record m { pool = record m.pool { now = p } }) (same_memory m.pool.now m.user) };
+
+    ghost with_memory_twice = { λ m one two.
+        ap (λ p. record m { pool = record m.pool { now = p } }) (later_memory m.pool.now m.user one two) };
+
+    fn check(&self, addr: u64, len: usize, access: Access) -> Result<(), Fault> {
+        self.pool.check(self.user, addr, len, access)
+    }
+
+    fn read(&self, addr: u64, access: Access, bytes: &mut [u8]) -> Result<(), Fault> {
+        self.pool.read(self.user, addr, access, bytes)
+    }
+
+    #[tactic(auto, using(crate::specs::Lenders::memory_written))]
+    fn write(&mut self, addr: u64, access: Access, bytes: &[u8]) -> Result<(), Fault> {
+        self.pool.write(self.user, addr, access, bytes)
+    }
+}
+
+/// The vector state of one user, in a seat of its own.
+#[derive(Drop)]
+pub struct OwnVectors<'a> {
+    pub seat: &'a mut Seat,
+}
+
+impl Vectors for OwnVectors<'_> {
+    ghost use Rattle.std.specs.Prelude.{refl};
+
+    ghost ready = { λ _. Unit {0} };
+
+    ghost lent = { λ v. v.seat.now };
+
+    ghost back = { λ v s. record v { seat = record v.seat { now = s } } };
+
+    ghost ready_again = { λ _ _ _ _. tt };
+
+    ghost lent_again = { λ _ _ _. refl };
+
+    fn seat(&mut self) -> &mut Seat {
+        &mut *self.seat
+    }
+}

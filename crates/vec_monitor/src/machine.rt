@@ -1,0 +1,104 @@
+//! The machine of eight users.
+ghost use Rattle.std.specs.Prelude.{◌≡◌, ◌+◌, length, None, IsOk, IfOk, IfSome, IsErrOf, IsOkUnless};
+ghost use Rattle.rv_model.specs.PrivateMachine.{event, Command};
+ghost use Rattle.rv_model.specs.Script.{part, with_part, new_world};
+ghost use Rattle.rv_model.specs.Text.{text};
+ghost use Rattle.vec_monitor.specs.MachineState.{after_line, line_output};
+ghost use Rattle.vec_monitor.specs.Images.{named_images};
+ghost use Rattle.vec_monitor.specs.NewFaults.{new_fault};
+
+use crate::addressee::{Addressee, addressee_of};
+use crate::image::Image;
+use crate::new_fault::{NewFault, fault_of};
+use crate::users::Users;
+use monitor_cmds::Reply;
+use rv_model::User;
+use std::alloc::{Allocator, Global};
+use std::marker::Model;
+
+/// Eight users, each with a private machine, and the images that they can load.
+#[derive(Drop)]
+pub struct Machine<'a, A: Allocator = Global> {
+    quantum: usize,
+    images: &'a [Image<'a>],
+    users: Users<A>,
+}
+
+impl<'a, A: Allocator> Model for Machine<'a, A> {
+    ghost use Rattle.std.specs.Coded.{codes};
+    ghost use Rattle.rv_model.specs.Memory.{coded_memory};
+    ghost use Rattle.vec_monitor.specs.Images.{named_images};
+    ghost use Rattle.vec_monitor.specs.MachineState.{MachineState};
+
+    ghost Value = { MachineState };
+
+    ghost coded = { Prim.hlevel (codes, coded_memory) };
+
+    ghost view = { λ m. record {
+      setup = record { quantum = m.quantum; images = named_images m.images.now };
+      world = m.users;
+    } };
+}
+
+impl<'a, A: Allocator> Machine<'a, A> {
+    /// A machine whose users are all absent, with slices of `quantum` ticks. Refused for the first
+    /// fault that applies, and for want of memory last; no later call takes memory.
+    pub fn new(alloc: A, quantum: usize, images: &'a [Image<'a>]) -> Result<Self, NewFault>
+        ensures new { IfOk result (λ machine. machine ≡ record {
+          setup = record { quantum = quantum; images = named_images images.now };
+          world = new_world;
+        }) }
+        ensures faultless { IsOk result → new_fault (record { quantum = quantum; images = named_images images.now }) ≡ None }
+        ensures fault { IfSome (new_fault (record { quantum = quantum; images = named_images images.now })) (λ fault. IsErrOf result fault) }
+        ensures memory { new_fault (record { quantum = quantum; images = named_images images.now }) ≡ None → IsOkUnless result NewFault.NoMemory }
+    {
+        if let Some(fault) = fault_of(quantum, images) {
+            return Err(fault);
+        }
+        let Ok(users) = Users::new(alloc) else {
+            return Err(NewFault::NoMemory);
+        };
+        Ok(Machine {
+            quantum,
+            images,
+            users,
+        })
+    }
+
+    /// Carries out one command of a user: the line without the user's digit and the space after it.
+    /// Nobody else's machine changes.
+    #[tactic(auto, unfolding(rv_model::specs::PrivateMachine::event))]
+    pub fn command(&mut self, user: User, line: &[u8], reply: &mut Reply)
+        ensures world { self.new.world
+            ≡ with_part user (event self.old.setup (part user self.old.world) (Command line.now)).next self.old.world }
+        ensures setup { self.new.setup ≡ self.old.setup }
+        ensures reply { reply.new
+            ≡ text (48 + user) (event self.old.setup (part user self.old.world) (Command line.now)).lines }
+    {
+        self.users.command(user, line, reply);
+    }
+
+    /// The number of users, eight whatever the machine has been through.
+    pub fn users(&self) -> usize
+        ensures eight { result ≡ 8 }
+        ensures parts { result ≡ length self.now.world.parts }
+    {
+        self.users.count()
+    }
+
+    /// Answers one line of a script.
+    #[tactic(auto, unfolding(rv_model::specs::Script::after, rv_model::specs::Script::told, rv_model::specs::Script::common))]
+    pub fn answer(&mut self, line: &[u8], reply: &mut Reply)
+        ensures machine { self.new ≡ after_line self.old line.now }
+        ensures reply { reply.new ≡ line_output self.old line.now }
+    {
+        reply.clear();
+        match addressee_of(line) {
+            Addressee::Nobody => {}
+            Addressee::TooLong => monitor_cmds::line_too_long(reply),
+            Addressee::BadPrefix => monitor_cmds::bad_prefix(reply),
+            Addressee::Operator => monitor_cmds::unknown_operator_command(reply),
+            Addressee::User(user) => self.command(user, &line[2..], reply),
+        }
+    }
+}

@@ -1,0 +1,83 @@
+//! What a machine holds of its eight users.
+ghost use Rattle.std.specs.Prelude.{◌≡◌, ◌+◌, length, IfOk};
+ghost use Rattle.rv_model.specs.PrivateMachine.{commanded};
+ghost use Rattle.rv_model.specs.Commands.{parse as parse_spec};
+ghost use Rattle.rv_model.specs.Script.{part, with_part, new_world};
+ghost use Rattle.rv_model.specs.Text.{text};
+
+use crate::commands::carry_out;
+use crate::context::Context;
+use monitor_cmds::{Reply, Tag, parse};
+use rv_model::User;
+use std::alloc::Allocator;
+use std::marker::Model;
+use user_mem::{NoMemory, Pool};
+
+/// The contexts of the eight users, and the pool with the memory of each.
+#[derive(Drop)]
+pub struct Users<A: Allocator> {
+    contexts: [Context; 8],
+    pool: Pool<A>,
+}
+
+impl<A: Allocator> Model for Users<A> {
+    ghost use Rattle.std.specs.Coded.{codes};
+    ghost use Rattle.rv_model.specs.Memory.{coded_memory};
+    ghost use Rattle.rv_model.specs.Script.{World};
+    ghost use Rattle.vec_monitor.specs.Parts.{world_of, AreEight};
+
+    ghost Value = { World };
+
+    ghost coded = { Prim.hlevel (codes, coded_memory) };
+
+    ghost view = { λ u. world_of u.contexts u.pool };
+
+    ghost invariant = { λ u. AreEight u.contexts u.pool };
+}
+
+impl<A: Allocator> Users<A> {
+    /// Eight users who are absent.
+    pub fn new(alloc: A) -> Result<Self, NoMemory>
+        ensures { IfOk result (λ users. users ≡ new_world) }
+    {
+        let pool = Pool::new(alloc)?;
+        Ok(Users {
+            contexts: [
+                Context::new(),
+                Context::new(),
+                Context::new(),
+                Context::new(),
+                Context::new(),
+                Context::new(),
+                Context::new(),
+                Context::new(),
+            ],
+            pool,
+        })
+    }
+
+    /// Carries out one command of a user, and answers it in place of what the reply held.
+    #[tactic(auto, using(crate::proofs::PartLaws::part_put_back))]
+    pub fn command(&mut self, user: User, line: &[u8], reply: &mut Reply)
+        ensures world { self.new ≡ with_part user (commanded (part user self.old) (parse_spec line.now)).next self.old }
+        ensures reply { reply.new ≡ text (48 + user) (commanded (part user self.old) (parse_spec line.now)).lines }
+    {
+        reply.clear();
+        match parse(line) {
+            Ok(cmd) => {
+                let context = &mut self.contexts[user.index()];
+                carry_out(context, &mut self.pool, user, &cmd, reply);
+            }
+            Err(refusal) => monitor_cmds::refused(reply, Tag::User(user), refusal),
+        }
+    }
+
+    /// How many there are, whatever happened.
+    pub fn count(&self) -> usize
+        ensures eight { result ≡ 8 }
+        ensures parts { result ≡ length self.now.parts }
+    {
+        let contexts = &self.contexts;
+        contexts.len()
+    }
+}

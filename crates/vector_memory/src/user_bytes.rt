@@ -1,0 +1,41 @@
+//! The bytes of one user.
+ghost use Rattle.std.specs.Prelude.{◌≡◌, ◌↔◌, true, length, IsOk, IfErr, OnOk, OnErr};
+ghost use Rattle.rv_model.specs.Memory.{Memory, can_access, bytes_at, put_bytes};
+
+use rv_model::{Access, Fault};
+
+/// The bytes of one user, by address. An access that isn't wholly allowed is refused with its first
+/// address, and changes nothing; one of no bytes is always allowed.
+pub trait UserBytes {
+    // The user's memory.
+    ghost memory: { Self → Memory };
+
+    // The same user and all else, with this memory.
+    ghost with_memory: { Self → Memory → Self };
+
+    /// Whether each of the `len` bytes from an address on may be accessed.
+    fn check(&self, addr: u64, len: usize, access: Access) -> Result<(), Fault>
+        ensures ok { IsOk result ↔ (can_access access (memory self.now) addr len ≡ true) }
+        ensures fault { IfErr result (λ fault. fault.addr ≡ addr) };
+
+    /// Fills the buffer with the bytes from an address on.
+    fn read(&self, addr: u64, access: Access, bytes: &mut [u8]) -> Result<(), Fault>
+        ensures ok { IsOk result ↔ (can_access access (memory self.now) addr (length bytes.old) ≡ true) }
+        ensures fault { IfErr result (λ fault. fault.addr ≡ addr) }
+        ensures value { OnOk result (bytes.new ≡ bytes_at (memory self.now) addr (length bytes.old)) }
+        ensures unchanged { OnErr result (bytes.new ≡ bytes.old) };
+
+    /// Writes the bytes from an address on.
+    fn write(&mut self, addr: u64, access: Access, bytes: &[u8]) -> Result<(), Fault>
+        ensures ok { IsOk result ↔ (can_access access (memory self.old) addr (length bytes.now) ≡ true) }
+        ensures fault { IfErr result (λ fault. fault.addr ≡ addr) }
+        ensures value { OnOk result (memory self.new ≡ put_bytes (memory self.old) addr bytes.now) }
+        ensures others { OnOk result (self.new ≡ with_memory self.old (memory self.new)) }
+        ensures unchanged { OnErr result (self.new ≡ self.old) };
+
+    // The memory that is there already changes nothing.
+    ghost with_memory_same: { (u : Self) → with_memory u (memory u) ≡ u };
+
+    // Of two memories, one after the other, the later one stays.
+    ghost with_memory_twice: { (u : Self) (m n : Memory) → with_memory (with_memory u m) n ≡ with_memory u n };
+}
