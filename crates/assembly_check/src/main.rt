@@ -1,8 +1,8 @@
-//! Assembles texts and writes words as text: the lines of standard input, each a word in hexadecimal, a
-//! space and a text, and 100,000 words of a fixed generator.
+//! Assembles texts and writes words as text: the lines of standard input, each a word in
+//! hexadecimal, a space and a text, and 100,000 words of a fixed generator.
 //!
-//! `stdin` has words and texts that the assemblers of GNU binutils 2.40 and LLVM 19.1.7 give for every
-//! instruction, both of which are printed again, and then texts that spell nothing.
+//! `stdin` has words and texts that the assemblers of GNU binutils 2.40 and LLVM 19.1.7 give for
+//! every instruction, both of which are printed again, and then texts that spell nothing.
 #![tactic(auto)]
 
 ghost use Rattle.std.specs.Prelude.{◌≡◌, ◌+◌, ◌-◌, ◌*◌, ◌%◌, ◌^◌, ◌<◌, IsTrue};
@@ -35,8 +35,8 @@ fn is_same(word: u32, text: &mut Text) -> bool
     }
 }
 
-/// Whether the text names an instruction exactly where the word is one. Fences are passed over, since all
-/// but one have no name.
+/// Whether the text names an instruction exactly where the word is one. Fences are passed over,
+/// since all but one have no name.
 fn is_told(word: u32, text: &Text) -> bool {
     let directive = text.as_str().starts_with(".word");
     match decode(word) {
@@ -51,7 +51,8 @@ fn with_opcode(word: u32, i: usize) -> u32 {
     word - word % 128 + OPCODES[i % OPCODES.len()] % 128
 }
 
-/// How many of the generator's first words, with each opcode in turn, have a text that spells another word.
+/// How many of the generator's first words, with each opcode in turn, have a text that spells
+/// another word.
 fn mismatches(count: usize) -> usize
     ensures { result ≡ 0 }
 {
