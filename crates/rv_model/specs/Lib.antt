@@ -15,8 +15,6 @@ pub mod FixedBits
 pub mod Hart
 pub mod ElfFaults
 pub mod ElfFields
-pub mod Examples
-pub mod FixedBits
 pub mod Image
 pub mod Immediates
 pub mod InstructionEffects
