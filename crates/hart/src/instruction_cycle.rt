@@ -1,21 +1,18 @@
 //! The instruction cycle: fetch, decode, execute.
-ghost use Rattle.std.specs.Prelude.{◌≡◌, ◌≤◌, false, List, ℕ, Some, Ok, Err, if◌then◌else◌};
-ghost use Rattle.rv_model.specs.declared.policy.Policy.{Policy};
-ghost use Rattle.rv_model.specs.declared.vector_state.VState.{VState};
+ghost use Rattle.std.specs.Prelude.{◌≡◌, ◌≤◌, List, ℕ, Ok, Err, if◌then◌else◌};
 ghost use Rattle.rv_model.specs.declared.memory.Access.TheVariants.{Fetch};
-ghost use Rattle.rv_model.specs.declared.step_end.Cause.TheVariants.{IllegalInstruction};
-ghost use Rattle.rv_model.specs.InstructionTable.{scan, table};
-ghost use Rattle.rv_model.specs.Memory.{Memory, can_access};
-ghost use Rattle.rv_model.specs.Step.{ends, executed, touches, word_at};
-ghost use Rattle.hart.specs.States.{fetched, hart_state, IsStep};
+ghost use Rattle.rv_model.specs.Hart.{hart_state};
+ghost use Rattle.rv_model.specs.Memory.{can_access};
+ghost use Rattle.rv_model.specs.Step.{dirties, executed, touches, word_at};
+ghost use Rattle.hart.specs.States.{fetched, IsStep, Leads, seat_after};
 
-use crate::environment_call::call_environment;
-use crate::integer::{finish, op_imm_result};
+use crate::scalar_instructions::{execute_scalar, illegal};
+use crate::touches::is_touching;
+use crate::vector_instructions::execute_touching;
 use crate::vectors::Vectors;
 use crate::view::View;
 use rv_decode::decode;
-use rv_model::operations::SystemOp;
-use rv_model::{Access, Cause, Fault, Instr, Scalar, StepEnd};
+use rv_model::{Access, Cause, Fault, Instr, Policy, Scalar, StepEnd};
 use vector_memory::UserBytes;
 
 // The word at an address.
@@ -29,54 +26,44 @@ fn fetch<M: UserBytes>(memory: &M, pc: u64) -> Result<u32, Fault>
     Ok(u32::from_le_bytes(bytes))
 }
 
-// The word is no instruction, or none that is carried out yet.
-fn illegal(word: u32, scalar: &Scalar) -> StepEnd
-    ensures { result ≡ StepEnd.Fault IllegalInstruction scalar.now.pc word }
+// Carries out an instruction; there is none where the word is no instruction.
+#[tactic(auto, unfolding(rv_model::specs::Step::executed, rv_model::specs::Step::dirties))]
+fn execute<M: UserBytes, V: Vectors>(
+    instr: Option<Instr>,
+    word: u32,
+    scalar: &mut Scalar,
+    memory: &mut M,
+    vectors: &mut V,
+    limit: usize,
+    policy: Policy,
+) -> StepEnd
+    requires { V.ready vectors.old }
+    ensures model { Leads (executed limit instr word)
+        (hart_state scalar.old (V.lent vectors.old).state (M.memory memory.old) policy)
+        (hart_state scalar.new (V.lent vectors.new).state (M.memory memory.new) policy) result }
+    ensures memory { memory.new ≡ M.with_memory memory.old (M.memory memory.new) }
+    ensures vectors { (output : List ℕ) → vectors.new
+        ≡ (if touches instr
+            then V.back vectors.old
+                (seat_after (dirties limit instr (hart_state scalar.old (V.lent vectors.old).state (M.memory memory.old) policy output))
+                    (V.lent vectors.new).state (V.lent vectors.old))
+            else vectors.old) }
+    ensures ready { V.ready vectors.new }
 {
-    StepEnd::Fault {
-        cause: Cause::IllegalInstruction,
-        pc: scalar.pc,
-        value: u64::from(word),
-    }
-}
-
-// Carries out an instruction.
-#[tactic(auto, unfolding(rv_model::specs::Step::executed))]
-fn execute(instr: &Instr, word: u32, scalar: &mut Scalar) -> StepEnd
-    ensures { (limit : ℕ) (vector : VState) (memory : Memory) (policy : Policy) (output : List ℕ)
-        → executed limit (Some instr.now) word (hart_state scalar.old vector memory policy output)
-        ≡ ends result (hart_state scalar.new vector memory policy output) }
-{
-    match instr {
-        Instr::OpImm { op, rd, rs1, imm } => {
-            let Some(value) = op_imm_result(*op, scalar.read(*rs1), *imm) else {
-                return illegal(word, scalar);
-            };
-            finish(*rd, value, scalar);
-            StepEnd::Ran
-        }
-        Instr::System {
-            op: SystemOp::Ecall,
-        } => call_environment(scalar),
-        _ => illegal(word, scalar),
-    }
-}
-
-// Carries out the instruction of a word, if it is one.
-#[tactic(auto, unfolding(rv_model::specs::Step::executed))]
-fn execute_word(word: u32, scalar: &mut Scalar) -> StepEnd
-    ensures { (limit : ℕ) (vector : VState) (memory : Memory) (policy : Policy) (output : List ℕ)
-        → executed limit (scan table word) word (hart_state scalar.old vector memory policy output)
-        ≡ ends result (hart_state scalar.new vector memory policy output) }
-{
-    match decode(word) {
-        Some(instr) => execute(&instr, word, scalar),
-        None => illegal(word, scalar),
+    let Some(instr) = instr else {
+        return illegal(word, scalar);
+    };
+    if is_touching(&instr) {
+        let seat = vectors.seat();
+        execute_touching(&instr, word, scalar, memory, seat, limit, policy)
+    } else {
+        execute_scalar(&instr, word, scalar, memory)
     }
 }
 
 /// Carries out one instruction of a user within `limit` ticks, and answers how it ended and how many
-/// ticks it took. The vector state is lent once where the instruction touches it, and else not at all.
+/// ticks it took. The vector state is lent once where the instruction touches it, and else not at all; it
+/// is marked as dirty where the instruction changed it.
 #[tactic(auto, unfolding(rv_model::specs::Step::step))]
 pub fn step<M: UserBytes, V: Vectors>(
     view: &mut View<'_, '_, '_, M, V>,
@@ -95,9 +82,13 @@ pub fn step<M: UserBytes, V: Vectors>(
     // All else that the user's bytes and the lender hold stays.
     ensures memory { view.new.memory.now
         ≡ M.with_memory view.old.memory.now (M.memory view.new.memory.now) }
-    ensures vectors { view.new.vectors.now
+    ensures vectors { (output : List ℕ) → view.new.vectors.now
         ≡ (if touches (fetched (M.memory view.old.memory.now) view.old.scalar.now.pc)
-        then V.back view.old.vectors.now (V.lent view.new.vectors.now)
+        then V.back view.old.vectors.now
+            (seat_after (dirties limit (fetched (M.memory view.old.memory.now) view.old.scalar.now.pc)
+                (hart_state view.old.scalar.now (V.lent view.old.vectors.now).state
+                (M.memory view.old.memory.now) view.old.policy output))
+                (V.lent view.new.vectors.now).state (V.lent view.old.vectors.now))
         else view.old.vectors.now) }
     ensures ready { V.ready view.new.vectors.now }
 
@@ -108,7 +99,15 @@ pub fn step<M: UserBytes, V: Vectors>(
 {
     let pc = view.scalar.pc;
     let end = match fetch(&*view.memory, pc) {
-        Ok(word) => execute_word(word, &mut *view.scalar),
+        Ok(word) => execute(
+            decode(word),
+            word,
+            &mut *view.scalar,
+            &mut *view.memory,
+            &mut *view.vectors,
+            limit,
+            view.policy,
+        ),
         Err(_) => StepEnd::Fault {
             cause: Cause::FetchAccess,
             pc,
