@@ -1,5 +1,5 @@
 //! The answers that show where a machine stands, what its memory holds and what it ran.
-ghost use Rattle.std.specs.Prelude.{◌≡◌, [], ◌∷◌, ◌++◌, ◌+◌, ◌*◌, ◌≤◌, length, codes, flat_map};
+ghost use Rattle.std.specs.Prelude.{◌≡◌, [], ◌∷◌, ◌++◌, ◌+◌, ◌*◌, ◌≤◌, length, codes, flat_map, if◌then◌else◌};
 ghost use Rattle.rv_model.specs.Replies.{state_line as state_text, peek_line as peek_text};
 ghost use Rattle.rv_model.specs.Replies.{traced, trace_line as trace_text};
 ghost use Rattle.rv_model.specs.Text.{text};
@@ -9,6 +9,18 @@ use crate::numerals::{push_bytes, push_hex16};
 use crate::reply::Reply;
 use crate::tag::Tag;
 
+// How the answer to `state` begins.
+fn state_words(running: bool) -> &'static [u8]
+    ensures value { result.now ≡ (if running then codes "state running pc=" else codes "state stopped pc=") }
+    ensures len { length result.now ≡ 17 }
+{
+    if running {
+        b"state running pc="
+    } else {
+        b"state stopped pc="
+    }
+}
+
 /// Adds the answer to `state`, as `state stopped pc=0000000000010000`.
 #[tactic(auto, unfolding(rv_model::specs::Replies::state_line))]
 pub fn state_line(reply: &mut Reply, tag: Tag, running: bool, pc: u64)
@@ -17,11 +29,7 @@ pub fn state_line(reply: &mut Reply, tag: Tag, running: bool, pc: u64)
     ensures bound { length reply.new ≡ length reply.old + 36 }
 {
     reply.push(&[tag.byte(), b' ']);
-    if running {
-        reply.push(b"state running pc=");
-    } else {
-        reply.push(b"state stopped pc=");
-    }
+    reply.push(state_words(running));
     push_hex16(reply, pc);
     reply.push(b"\n");
 }

@@ -1,7 +1,9 @@
 //! The answers that show the vector state.
 ghost use Rattle.std.specs.Prelude.{◌≡◌, [], ◌∷◌, ◌++◌, ◌+◌, ◌*◌, ◌/◌, ◌<◌, ◌≤◌, length, codes, decimal, flat_map};
 ghost use Rattle.std.specs.List.{range_with_len};
+ghost use Rattle.rv_model.specs.BitFields.{flag_bit};
 ghost use Rattle.rv_model.specs.Replies.{hex16, element_text, vreg_line as vreg_text, vcsr_line as vcsr_text};
+ghost use Rattle.rv_model.specs.RoundingModes.{rounding_number};
 ghost use Rattle.rv_model.specs.Text.{text};
 ghost use Rattle.rv_model.specs.VectorConfiguration.{sew_bits};
 ghost use Rattle.rv_model.specs.VectorTypeRules.{vtype_number as type_number};
@@ -10,7 +12,7 @@ ghost use Rattle.monitor_cmds.specs.Tag.{tag_byte};
 use crate::numerals::{push_bytes, push_decimal, push_hex16};
 use crate::reply::Reply;
 use crate::tag::Tag;
-use rv_model::{Sew, VConf, VReg, VState};
+use rv_model::{RoundingMode, Sew, VConf, VReg, VState};
 use vtype_rules::vtype_number;
 
 /// The bytes of a vector register.
@@ -76,20 +78,46 @@ fn push_configuration(reply: &mut Reply, conf: VConf)
     push_hex16(reply, vtype_number(conf.vtype()));
 }
 
-/// Adds the answer to `vcsr`, as `vl=3 vtype=00000000000000d0 vstart=0 vxrm=0 vxsat=0`.
-#[tactic(auto, unfolding(rv_model::specs::Replies::vcsr_line))]
-pub fn vcsr_line(reply: &mut Reply, tag: Tag, state: &VState)
-    requires { length reply.old + 131 ≤ 4096 }
-    ensures text { reply.new ≡ reply.old ++ text (tag_byte tag) (vcsr_text state.now ∷ []) }
-    ensures bound { length reply.new ≤ length reply.old + 131 }
+// The number of a flag.
+fn flag_number(flag: bool) -> u64
+    ensures { result ≡ flag_bit flag }
 {
-    reply.push(&[tag.byte(), b' ']);
+    if flag { 1 } else { 0 }
+}
+
+// Adds the fixed-point rounding mode and the saturation flag.
+fn push_fixed_point(reply: &mut Reply, vxrm: RoundingMode, vxsat: bool)
+    requires { length reply.old + 53 ≤ 4096 }
+    ensures text { reply.new ≡ reply.old
+        ++ codes " vxrm=" ++ decimal (rounding_number vxrm) ++ codes " vxsat=" ++ decimal (flag_bit vxsat) }
+    ensures bound { length reply.new ≤ length reply.old + 53 }
+{
+    reply.push(b" vxrm=");
+    push_decimal(reply, u64::from(vxrm.number()));
+    reply.push(b" vxsat=");
+    push_decimal(reply, flag_number(vxsat));
+}
+
+// Adds the vector control registers.
+#[tactic(auto, unfolding(rv_model::specs::Replies::vcsr_line))]
+fn push_control_registers(reply: &mut Reply, state: &VState)
+    requires { length reply.old + 127 ≤ 4096 }
+    ensures text { reply.new ≡ reply.old ++ vcsr_text state.now }
+    ensures bound { length reply.new ≤ length reply.old + 127 }
+{
     push_configuration(reply, state.conf);
     reply.push(b" vstart=");
     push_decimal(reply, u64::from(state.vstart));
-    reply.push(b" vxrm=");
-    push_decimal(reply, u64::from(state.vxrm.number()));
-    reply.push(b" vxsat=");
-    push_decimal(reply, u64::from(state.vxsat));
+    push_fixed_point(reply, state.vxrm, state.vxsat);
+}
+
+/// Adds the answer to `vcsr`, as `vl=3 vtype=00000000000000d0 vstart=0 vxrm=0 vxsat=0`.
+pub fn vcsr_line(reply: &mut Reply, tag: Tag, state: &VState)
+    requires { length reply.old + 130 ≤ 4096 }
+    ensures text { reply.new ≡ reply.old ++ text (tag_byte tag) (vcsr_text state.now ∷ []) }
+    ensures bound { length reply.new ≤ length reply.old + 130 }
+{
+    reply.push(&[tag.byte(), b' ']);
+    push_control_registers(reply, state);
     reply.push(b"\n");
 }
