@@ -4,6 +4,7 @@ ghost use Rattle.rv_model.specs.ControlTransfer.{branch_target, jump_target, reg
 ghost use Rattle.rv_model.specs.ScalarStep.{branch_step, jump_step, jumps};
 ghost use Rattle.hart.specs.States.{LeadsRegisters};
 
+use crate::faults::fault;
 use crate::integer::run_on;
 use rv_model::{Cause, Field, Reg, Scalar, StepEnd};
 use scalar_core::sign_extend;
@@ -35,10 +36,11 @@ pub(crate) fn branch_target(pc: u64, offset: Field<12>) -> u64
 pub(crate) fn jump(rd: Reg, target: u64, scalar: &mut Scalar) -> StepEnd
     ensures { LeadsRegisters (jump_step rd target) scalar.old scalar.new result }
 {
+    let link = scalar.pc.wrapping_add(4);
     if target % 4 != 0 {
-        return misaligned(target, scalar);
+        return fault(Cause::MisalignedTarget, target, scalar);
     }
-    scalar.write(rd, scalar.pc.wrapping_add(4));
+    scalar.write(rd, link);
     scalar.pc = target;
     StepEnd::Ran
 }
@@ -51,19 +53,8 @@ pub(crate) fn jump_if(taken: bool, target: u64, scalar: &mut Scalar) -> StepEnd
         return run_on(scalar);
     }
     if target % 4 != 0 {
-        return misaligned(target, scalar);
+        return fault(Cause::MisalignedTarget, target, scalar);
     }
     scalar.pc = target;
     StepEnd::Ran
-}
-
-// No instruction may stand at a target.
-fn misaligned(target: u64, scalar: &Scalar) -> StepEnd
-    ensures { result ≡ StepEnd.Fault Cause.MisalignedTarget scalar.now.pc target }
-{
-    StepEnd::Fault {
-        cause: Cause::MisalignedTarget,
-        pc: scalar.pc,
-        value: target,
-    }
 }

@@ -6,7 +6,8 @@ ghost use Rattle.rv_model.specs.Memory.{can_access};
 ghost use Rattle.rv_model.specs.Step.{dirties, executed, touches, word_at};
 ghost use Rattle.hart.specs.States.{fetched, IsStep, Leads, seat_after};
 
-use crate::scalar_instructions::{execute_scalar, illegal};
+use crate::faults::{fault, illegal};
+use crate::scalar_instructions::execute_scalar;
 use crate::touches::is_touching;
 use crate::vector_instructions::execute_touching;
 use crate::vectors::Vectors;
@@ -42,12 +43,13 @@ fn execute<M: UserBytes, V: Vectors>(
         (hart_state scalar.old (V.lent vectors.old).state (M.memory memory.old) policy)
         (hart_state scalar.new (V.lent vectors.new).state (M.memory memory.new) policy) result }
     ensures memory { memory.new ≡ M.with_memory memory.old (M.memory memory.new) }
-    ensures vectors { (output : List ℕ) → vectors.new
-        ≡ (if touches instr
-            then V.back vectors.old
-                (seat_after (dirties limit instr (hart_state scalar.old (V.lent vectors.old).state (M.memory memory.old) policy output))
-                    (V.lent vectors.new).state (V.lent vectors.old))
-            else vectors.old) }
+    ensures vectors { (output : List ℕ) →
+        let before = hart_state scalar.old (V.lent vectors.old).state (M.memory memory.old)
+        policy output in
+        vectors.new ≡ (if touches instr
+        then V.back vectors.old (seat_after (dirties limit instr before)
+        (V.lent vectors.new).state (V.lent vectors.old))
+        else vectors.old) }
     ensures ready { V.ready vectors.new }
 {
     let Some(instr) = instr else {
@@ -82,13 +84,13 @@ pub fn step<M: UserBytes, V: Vectors>(
     // All else that the user's bytes and the lender hold stays.
     ensures memory { view.new.memory.now
         ≡ M.with_memory view.old.memory.now (M.memory view.new.memory.now) }
-    ensures vectors { (output : List ℕ) → view.new.vectors.now
-        ≡ (if touches (fetched (M.memory view.old.memory.now) view.old.scalar.now.pc)
-        then V.back view.old.vectors.now
-            (seat_after (dirties limit (fetched (M.memory view.old.memory.now) view.old.scalar.now.pc)
-                (hart_state view.old.scalar.now (V.lent view.old.vectors.now).state
-                (M.memory view.old.memory.now) view.old.policy output))
-                (V.lent view.new.vectors.now).state (V.lent view.old.vectors.now))
+    ensures vectors { (output : List ℕ) →
+        let instr = fetched (M.memory view.old.memory.now) view.old.scalar.now.pc in
+        let before = hart_state view.old.scalar.now (V.lent view.old.vectors.now).state
+        (M.memory view.old.memory.now) view.old.policy output in
+        view.new.vectors.now ≡ (if touches instr
+        then V.back view.old.vectors.now (seat_after (dirties limit instr before)
+        (V.lent view.new.vectors.now).state (V.lent view.old.vectors.now))
         else view.old.vectors.now) }
     ensures ready { V.ready view.new.vectors.now }
 
@@ -108,11 +110,7 @@ pub fn step<M: UserBytes, V: Vectors>(
             limit,
             view.policy,
         ),
-        Err(_) => StepEnd::Fault {
-            cause: Cause::FetchAccess,
-            pc,
-            value: pc,
-        },
+        Err(_) => fault(Cause::FetchAccess, pc, &*view.scalar),
     };
     (end, 1)
 }

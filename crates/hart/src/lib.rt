@@ -4,10 +4,13 @@
 mod control_registers;
 mod control_transfer;
 mod environment_call;
+mod faults;
 mod instruction_cycle;
 mod integer;
 mod loads_and_stores;
 mod scalar_instructions;
+#[cfg(test)]
+mod tests;
 mod touches;
 mod vector_instructions;
 mod vectors;

@@ -7,6 +7,7 @@ ghost use Rattle.rv_model.specs.Memory.{can_access};
 ghost use Rattle.rv_model.specs.ScalarStep.{load_step, store_step};
 ghost use Rattle.hart.specs.States.{LeadsScalar};
 
+use crate::faults::fault;
 use crate::integer::{give, run_on};
 use rv_model::operations::{LoadOp, StoreOp};
 use rv_model::{Access, Cause, Fault, Field, Reg, Scalar, StepEnd};
@@ -74,16 +75,19 @@ fn loaded<M: UserBytes>(op: LoadOp, addr: u64, memory: &M) -> Result<u64, Fault>
 }
 
 /// A load, which is refused where one of its bytes may not be read.
-pub(crate) fn load<M: UserBytes>(op: LoadOp, rd: Reg, addr: u64, scalar: &mut Scalar, memory: &M) -> StepEnd
-    ensures { LeadsScalar (load_step op rd addr) scalar.old (M.memory memory.now) scalar.new (M.memory memory.now) result }
+pub(crate) fn load<M: UserBytes>(
+    op: LoadOp,
+    rd: Reg,
+    addr: u64,
+    scalar: &mut Scalar,
+    memory: &M,
+) -> StepEnd
+    ensures { LeadsScalar (load_step op rd addr)
+        scalar.old (M.memory memory.now) scalar.new (M.memory memory.now) result }
 {
     match loaded(op, addr, memory) {
         Ok(value) => give(rd, value, scalar),
-        Err(_) => StepEnd::Fault {
-            cause: Cause::LoadAccess,
-            pc: scalar.pc,
-            value: addr,
-        },
+        Err(_) => fault(Cause::LoadAccess, addr, scalar),
     }
 }
 
@@ -100,17 +104,20 @@ fn store_size(op: StoreOp) -> usize
 }
 
 /// A store of the lowest bytes of a value, which is refused where one of its bytes may not be written.
-pub(crate) fn store<M: UserBytes>(op: StoreOp, addr: u64, value: u64, scalar: &mut Scalar, memory: &mut M) -> StepEnd
-    ensures model { LeadsScalar (store_step op addr value) scalar.old (M.memory memory.old) scalar.new (M.memory memory.new) result }
+pub(crate) fn store<M: UserBytes>(
+    op: StoreOp,
+    addr: u64,
+    value: u64,
+    scalar: &mut Scalar,
+    memory: &mut M,
+) -> StepEnd
+    ensures model { LeadsScalar (store_step op addr value)
+        scalar.old (M.memory memory.old) scalar.new (M.memory memory.new) result }
     ensures memory { memory.new ≡ M.with_memory memory.old (M.memory memory.new) }
 {
     let bytes = value.to_le_bytes();
     match memory.write(addr, Access::Store, &bytes[..store_size(op)]) {
         Ok(()) => run_on(scalar),
-        Err(_) => StepEnd::Fault {
-            cause: Cause::StoreAccess,
-            pc: scalar.pc,
-            value: addr,
-        },
+        Err(_) => fault(Cause::StoreAccess, addr, scalar),
     }
 }

@@ -5,23 +5,13 @@ ghost use Rattle.hart.specs.States.{LeadsScalar};
 
 use crate::control_transfer::{branch_target, jump, jump_if, jump_target, register_target};
 use crate::environment_call::call_environment;
+use crate::faults::illegal;
 use crate::integer::{give, op_imm, run_on, shift_imm, shift_imm_word, upper};
 use crate::loads_and_stores::{access_address, load, store};
 use rv_model::operations::SystemOp;
-use rv_model::{Cause, Instr, Scalar, StepEnd};
+use rv_model::{Instr, Scalar, StepEnd};
 use scalar_core::{alu, branch};
 use vector_memory::UserBytes;
-
-/// The word is illegal.
-pub(crate) fn illegal(word: u32, scalar: &Scalar) -> StepEnd
-    ensures { result ≡ StepEnd.Fault Cause.IllegalInstruction scalar.now.pc word }
-{
-    StepEnd::Fault {
-        cause: Cause::IllegalInstruction,
-        pc: scalar.pc,
-        value: u64::from(word),
-    }
-}
 
 /// Carries out an instruction that doesn't touch the vector unit.
 #[tactic(auto, unfolding(rv_model::specs::Step::executed))]
@@ -42,30 +32,51 @@ pub(crate) fn execute_scalar<M: UserBytes>(
         Instr::JumpRegister { rd, rs1, imm } => {
             jump(rd, register_target(scalar.read(rs1), imm), scalar)
         }
-        Instr::Branch { op, rs1, rs2, offset } => {
+        Instr::Branch {
+            op,
+            rs1,
+            rs2,
+            offset,
+        } => {
             let taken = branch(op, scalar.read(rs1), scalar.read(rs2));
             jump_if(taken, branch_target(scalar.pc, offset), scalar)
         }
         Instr::Load { op, rd, rs1, imm } => {
-            load(op, rd, access_address(scalar.read(rs1), imm), scalar, memory)
+            load(
+                op,
+                rd,
+                access_address(scalar.read(rs1), imm),
+                scalar,
+                memory,
+            )
         }
         Instr::Store { op, rs1, rs2, imm } => {
             let addr = access_address(scalar.read(rs1), imm);
             store(op, addr, scalar.read(rs2), scalar, memory)
         }
         Instr::OpImm { op, rd, rs1, imm } => give(rd, op_imm(op, scalar.read(rs1), imm), scalar),
-        Instr::ShiftImm { op, rd, rs1, amount } => {
-            give(rd, shift_imm(op, scalar.read(rs1), amount), scalar)
-        }
-        Instr::ShiftImmWord { op, rd, rs1, amount } => {
-            give(rd, shift_imm_word(op, scalar.read(rs1), amount), scalar)
-        }
+        Instr::ShiftImm {
+            op,
+            rd,
+            rs1,
+            amount,
+        } => { give(rd, shift_imm(op, scalar.read(rs1), amount), scalar) }
+        Instr::ShiftImmWord {
+            op,
+            rd,
+            rs1,
+            amount,
+        } => { give(rd, shift_imm_word(op, scalar.read(rs1), amount), scalar) }
         Instr::Op { op, rd, rs1, rs2 } => {
             give(rd, alu(op, scalar.read(rs1), scalar.read(rs2)), scalar)
         }
         Instr::Fence { .. } => run_on(scalar),
-        Instr::System { op: SystemOp::Ecall } => call_environment(scalar),
-        Instr::System { op: SystemOp::Ebreak } => StepEnd::Ebreak,
+        Instr::System {
+            op: SystemOp::Ecall,
+        } => call_environment(scalar),
+        Instr::System {
+            op: SystemOp::Ebreak,
+        } => StepEnd::Ebreak,
         _ => illegal(word, scalar),
     }
 }

@@ -1,5 +1,5 @@
 //! Instructions that touch the vector unit, on a vector state that was lent to them.
-ghost use Rattle.std.specs.Prelude.{◌≡◌, ◌||◌, ◌&&◌, ℕ, List, Some, true, IsTrue};
+ghost use Rattle.std.specs.Prelude.{◌≡◌, ◌||◌, ◌&&◌, Some, true, IsTrue};
 ghost use Rattle.rv_model.specs.declared.policy.Policy.{Policy};
 ghost use Rattle.rv_model.specs.Hart.{hart_state};
 ghost use Rattle.rv_model.specs.Memory.{Memory};
@@ -8,11 +8,11 @@ ghost use Rattle.rv_model.specs.Step.{dirties, executed, touches, touches_contro
 ghost use Rattle.rv_model.specs.VectorControl.{is_write};
 ghost use Rattle.rv_model.specs.VectorStep.{access_cause, is_legal_end, is_vector, vector_executed, vector_step};
 ghost use Rattle.hart.specs.Seats.{IsGivenBack};
-ghost use Rattle.hart.specs.States.{Leads};
+ghost use Rattle.hart.specs.States.{Leads, Marks};
 
 use crate::control_registers::{csr_form, is_write, read, write, written_value};
+use crate::faults::{fault, illegal};
 use crate::integer::{give, run_on};
-use crate::scalar_instructions::illegal;
 use rv_model::operations::CsrOp;
 use rv_model::{Cause, ControlRegister, Instr, Policy, Reg, Scalar, Seat, StepEnd, VEnd};
 use vec_unit::exec;
@@ -30,13 +30,19 @@ pub(crate) struct ControlAccess {
 }
 
 /// Reads a control register, and writes it unless the operand is x0 or the immediate 0.
-pub(crate) fn access_control(access: ControlAccess, word: u32, scalar: &mut Scalar, seat: &mut Seat) -> StepEnd
+pub(crate) fn access_control(
+    access: ControlAccess,
+    word: u32,
+    scalar: &mut Scalar,
+    seat: &mut Seat,
+) -> StepEnd
     ensures model { (memory : Memory) (policy : Policy)
         → Leads (csr_step access.register access.op access.rd access.source access.operand word)
-            (hart_state scalar.old seat.old.state memory policy)
-            (hart_state scalar.new seat.new.state memory policy) result }
-    ensures dirty { seat.new.dirty
-        ≡ (seat.old.dirty || (touches_control access.register access.op access.source && is_write access.op access.source)) }
+        (hart_state scalar.old seat.old.state memory policy)
+        (hart_state scalar.new seat.new.state memory policy) result }
+    ensures dirty { seat.new.dirty ≡ (seat.old.dirty
+        || (touches_control access.register access.op access.source
+        && is_write access.op access.source)) }
     ensures given_back { IsGivenBack seat.old seat.new }
 {
     let Some(register) = access.register else {
@@ -48,7 +54,11 @@ pub(crate) fn access_control(access: ControlAccess, word: u32, scalar: &mut Scal
     }
     let value = read(register, &seat.state);
     if writes {
-        write(register, written_value(access.op, value, access.operand), &mut seat.state);
+        write(
+            register,
+            written_value(access.op, value, access.operand),
+            &mut seat.state,
+        );
         seat.dirty = true;
     }
     give(access.rd, value, scalar)
@@ -58,7 +68,11 @@ pub(crate) fn access_control(access: ControlAccess, word: u32, scalar: &mut Scal
 fn access_cause(store: bool) -> Cause
     ensures { result ≡ access_cause store }
 {
-    if store { Cause::StoreAccess } else { Cause::LoadAccess }
+    if store {
+        Cause::StoreAccess
+    } else {
+        Cause::LoadAccess
+    }
 }
 
 /// Carries out a vector instruction.
@@ -76,8 +90,8 @@ pub(crate) fn execute_vector<M: UserBytes>(
         (hart_state scalar.old seat.old.state (M.memory memory.old) policy)
         (hart_state scalar.new seat.new.state (M.memory memory.new) policy) result }
     ensures memory { memory.new ≡ M.with_memory memory.old (M.memory memory.new) }
-    ensures dirty { (output : List ℕ) → seat.new.dirty ≡ (seat.old.dirty
-        || is_legal_end (vector_executed limit instr.now (hart_state scalar.old seat.old.state (M.memory memory.old) policy output)).end) }
+    ensures dirty { Marks (λ before. is_legal_end (vector_executed limit instr.now before).end)
+        (hart_state scalar.old seat.old.state (M.memory memory.old) policy) seat.old seat.new }
     ensures given_back { IsGivenBack seat.old seat.new }
 {
     match exec(instr, &mut seat.state, scalar, memory, limit, policy) {
@@ -88,11 +102,7 @@ pub(crate) fn execute_vector<M: UserBytes>(
         VEnd::Illegal => illegal(word, scalar),
         VEnd::Fault { store, addr } => {
             seat.dirty = true;
-            StepEnd::Fault {
-                cause: access_cause(store),
-                pc: scalar.pc,
-                value: addr,
-            }
+            fault(access_cause(store), addr, scalar)
         }
     }
 }
@@ -113,8 +123,8 @@ pub(crate) fn execute_touching<M: UserBytes>(
         (hart_state scalar.old seat.old.state (M.memory memory.old) policy)
         (hart_state scalar.new seat.new.state (M.memory memory.new) policy) result }
     ensures memory { memory.new ≡ M.with_memory memory.old (M.memory memory.new) }
-    ensures dirty { (output : List ℕ) → seat.new.dirty ≡ (seat.old.dirty
-        || dirties limit (Some instr.now) (hart_state scalar.old seat.old.state (M.memory memory.old) policy output)) }
+    ensures dirty { Marks (dirties limit (Some instr.now))
+        (hart_state scalar.old seat.old.state (M.memory memory.old) policy) seat.old seat.new }
     ensures given_back { IsGivenBack seat.old seat.new }
 {
     let access = match *instr {

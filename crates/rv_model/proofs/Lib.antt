@@ -5,3 +5,4 @@ pub mod InstructionParts
 pub mod InstructionRows
 pub mod LineLaws
 pub mod MemoryLaws
+pub mod StepLaws

@@ -8,6 +8,7 @@ pub mod Examples
 pub mod FixedBits
 pub mod Hart
 pub mod Immediates
+pub mod InstructionEffects
 pub mod InstructionLayout
 pub mod InstructionTable
 pub mod Laws

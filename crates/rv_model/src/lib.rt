@@ -25,6 +25,8 @@ pub use control_register::ControlRegister;
 pub use instruction::Instr;
 pub use laws::{each_user_alone, small_scripts_print};
 pub use memory::{Access, Fault, MapRefusal, Permissions, memory_laws};
+pub use laws::{each_user_alone, registers_that_stay, small_scripts_print};
+pub use memory::{Access, Fault, MapRefusal, Permissions};
 pub use operands::{Field, Reg, VReg};
 pub use pairs::{Arith, Carry};
 pub use policy::Policy;
