@@ -18,6 +18,7 @@ use Rattle.rv_model.specs.FixedBits.{upper_bits, branch_bits, load_bits, store_b
 use Rattle.rv_model.specs.Operations.{has_form, line, carry_line, line_bits, major_bits, same_major, those, vector_ops, carry_ops}
 use Rattle.rv_model.specs.InstructionLayout.{parts, bits, filled, unit_access_bits, strided_access_bits, indexed_access_bits, whole_load_bits, whole_store_bits}
 use Rattle.rv_model.specs.InstructionTable.{row_of, rows, table, scan, find, find_at, unit_accesses, strided_accesses, indexed_accesses, whole_loads, Uppers, Jumps, JumpRegisters, Branches, Loads, Stores, OpImms, ShiftImms, ShiftImmWords, Ops, Fences, Systems, Csrs, CsrImmediates, SetVlis, SetIvlis, SetVls, Ariths, Carries, Moves, WholeMoves, MaskLogics, Compresses, MasksToScalar, Extends, MaskUnaries, ElementIndices, MovesToScalar, MovesToVector, Units, Strideds, Indexeds, WholeLoads, WholeStores, MaskMemories}
+use Rattle.rv_model.proofs.InstructionWords.{form_source_of}
 use Rattle.rv_model.proofs.InstructionParts.{masked}
 use Rattle.rv_model.proofs.InstructionLaws.{narrowed, scan_narrow, same_narrow, no_scan, DiffersFrom}
 
@@ -60,11 +61,6 @@ and-true false = refl
 and-false : (b : Bool) → false ≡ (true && (b && false))
 and-false true = refl
 and-false false = refl
-
-pub form_source_of : (f : Form) (n : ℕ) → form_of (source_of f n) ≡ f
-form_source_of form.V n = refl
-form_source_of form.X n = refl
-form_source_of form.I n = refl
 
 those-step : {A : Type 0} (line : A → Line) (m : Major) (f : Form) (n : ℕ) (op : A) (ops : List A) (a b : Bool)
     → (a ≡ true → m ≡ (line op).major) → same_major m (line op).major ≡ a → has_form (line op).forms f ≡ b

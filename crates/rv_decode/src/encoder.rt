@@ -297,7 +297,7 @@ fn operands(instr: &Instr) -> u64
 }
 
 /// The word of an instruction.
-#[tactic(auto, using(rv_model::proofs::InstructionRows::small, rv_model::proofs::InstructionRows::back, rv_model::proofs::InstructionRows::word_sum))]
+#[tactic(auto, using(rv_model::proofs::InstructionRoundTrips::small, rv_model::proofs::InstructionRoundTrips::back, rv_model::proofs::InstructionRoundTrips::word_sum))]
 pub fn encode(instr: &Instr) -> u32
     ensures word { result ≡ word_of instr.now }
     ensures row { scan table result ≡ Some instr.now }

@@ -13,7 +13,7 @@ use rv_model::operations::{Form, Major};
 use rv_model::{Arith, Carry, Field, Instr};
 
 /// An operation with a line of its own in the table, masked or not.
-#[tactic(auto, using(crate::proofs::Scan::scan_arith, crate::proofs::Scan::form_source_of))]
+#[tactic(auto, using(crate::proofs::Scan::scan_arith, rv_model::proofs::InstructionWords::form_source_of))]
 pub fn arith(word: u32, major: Major, form: Form) -> Option<Instr>
     requires { bit_and word 0x707f ≡ major_bits major form }
     ensures { result ≡ scan (rows (Ariths major form)) word }
@@ -31,7 +31,7 @@ pub fn arith(word: u32, major: Major, form: Form) -> Option<Instr>
 }
 
 /// An operation that takes v0.
-#[tactic(auto, using(crate::proofs::Scan::scan_carry, crate::proofs::Scan::form_source_of))]
+#[tactic(auto, using(crate::proofs::Scan::scan_carry, rv_model::proofs::InstructionWords::form_source_of))]
 pub fn carry(word: u32, form: Form) -> Option<Instr>
     ensures { result ≡ scan (rows (Carries form)) word }
 {

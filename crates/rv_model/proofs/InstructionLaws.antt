@@ -9,6 +9,7 @@ use Rattle.std.proofs.lemmas.Bool.Decides.{eqb_tells}
 use Rattle.std.proofs.lemmas.Bool.{eq-eqb, eqb-true}
 use Rattle.rv_model.specs.declared.instruction.Instr.{Instr}
 use Rattle.rv_model.specs.InstructionTable.{Row, rows, table, Matches, In, IsRow, scan}
+use Rattle.rv_model.proofs.InstructionParts.{both_true}
 
 -- no word can match both rows
 abbrev pub apart : Row → Row → Bool
@@ -27,10 +28,6 @@ all_apart (r ∷ rs) = apart_from r rs && all_apart rs
 -- the row's bits are among those that it fixes
 abbrev pub is_inside : Row → Bool
 is_inside r = nat_eq (bit_and r.bits r.mask) r.bits
-
-pub both_true : (a b : Bool) → (a && b) ≡ true → (a ≡ true) × (b ≡ true)
-both_true true b h = (refl, h)
-both_true false b h = absurd (cc)
 
 or-cond : (b : Bool) (x : Instr) (all xs ys : Option Instr) → all ≡ option_or xs ys
     → cond b (Some x) all ≡ option_or (cond b (Some x) xs) ys

@@ -27,7 +27,7 @@ abbrev pub Reads : ℕ → List Part → Type 0
 Reads word [] = Unit {0}
 Reads word (p ∷ ps) = (word / 2 ^ p.low % 2 ^ p.len ≡ p.value) × Reads word ps
 
-both_true : (a b : Bool) → (a && b) ≡ true → (a ≡ true) × (b ≡ true)
+pub both_true : (a b : Bool) → (a && b) ≡ true → (a ≡ true) × (b ≡ true)
 both_true true b h = (refl, h)
 both_true false b h = absurd (cc)
 

@@ -2,7 +2,9 @@ pub mod EventLines
 pub mod Headline
 pub mod InstructionLaws
 pub mod InstructionParts
+pub mod InstructionRoundTrips
 pub mod InstructionRows
+pub mod InstructionWords
 pub mod LineLaws
 pub mod MemoryLaws
 pub mod StepLaws

@@ -15,6 +15,8 @@ mod program;
 mod script;
 mod stepping;
 mod streams;
+#[cfg(test)]
+mod tests;
 mod users;
 
 pub use device::{DeviceFault, Sink, Source};
