@@ -10,13 +10,16 @@ mod image;
 mod lenders;
 mod line;
 mod machine;
+mod memory_commands;
 mod new_fault;
 mod program;
+mod register_commands;
 mod script;
 mod stepping;
 mod streams;
 #[cfg(test)]
 mod tests;
+mod trace;
 mod users;
 
 pub use device::{DeviceFault, Sink, Source};

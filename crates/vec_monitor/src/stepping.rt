@@ -1,13 +1,14 @@
 //! Instructions of one user.
 ghost use Rattle.std.specs.Prelude.{◌≡◌, ◌≤◌, ◌⊎◌, true, length, []};
 ghost use Rattle.rv_model.specs.PrivateMachine.{stop_of as stop_spec, steps as steps_spec};
-ghost use Rattle.hart.specs.States.{hart_state};
+ghost use Rattle.rv_model.specs.Hart.{hart_state};
 ghost use Rattle.rv_model.specs.Step.{step as step_spec};
 ghost use Rattle.user_mem.specs.Users.{memory_of_user, with_memory};
 ghost use Rattle.vec_monitor.specs.Parts.{user_state, present};
 
 use crate::context::Context;
 use crate::lenders::{OwnVectors, UserMemory};
+use crate::trace::Trace;
 use hart::{Vectors, View, step};
 use rv_model::{Policy, Scalar, Seat, StepEnd, Stop, User};
 use std::alloc::Allocator;
@@ -24,6 +25,7 @@ fn stop_of(end: StepEnd) -> Option<Stop>
     match end {
         StepEnd::Ran => None,
         StepEnd::Exit(status) => Some(Stop::Exit(status)),
+        StepEnd::Ebreak => Some(Stop::Ebreak),
         StepEnd::Fault { cause, pc: _, value } => Some(Stop::Fault { cause, value }),
     }
 }
@@ -61,18 +63,20 @@ fn step_once<A: Allocator>(scalar: &mut Scalar, seat: &mut Seat, pool: &mut Pool
 }
 
 /// At most `count` instructions, fewer where one stops the program. Answers why it stopped.
-pub fn steps<A: Allocator>(context: &mut Context, pool: &mut Pool<A>, user: User, count: usize) -> Option<Stop>
-    ensures state { (steps_spec count true (present context.old (memory_of_user pool.old user))).state
-        ≡ present context.new (memory_of_user pool.new user) }
-    ensures stop { (steps_spec count true (present context.old (memory_of_user pool.old user))).stop ≡ result }
+pub fn steps<A: Allocator>(context: &mut Context, trace: &mut Trace<A>, pool: &mut Pool<A>, user: User, count: usize) -> Option<Stop>
+    ensures state { (steps_spec count true (present context.old trace.old (memory_of_user pool.old user))).state
+        ≡ present context.new trace.new (memory_of_user pool.new user) }
+    ensures stop { (steps_spec count true (present context.old trace.old (memory_of_user pool.old user))).stop ≡ result }
     ensures entered { context.new.entered ≡ context.old.entered }
     ensures others { pool.new ≡ with_memory pool.old user (memory_of_user pool.new user) }
 {
     for _ in 0..count {
+        let addr = context.scalar.pc;
         let end = step_once(&mut context.scalar, &mut context.seat, pool, user);
         if let Some(stop) = stop_of(end) {
             return Some(stop);
         }
+        trace.record(addr);
     }
     None
 }
