@@ -4,11 +4,10 @@ ghost use Rattle.rv_model.specs.Step.{executed, touches};
 ghost use Rattle.hart.specs.States.{LeadsScalar};
 
 use crate::control_transfer::{branch_target, jump, jump_if, jump_target, register_target};
-use crate::environment_call::call_environment;
+use crate::environment_call::system;
 use crate::faults::illegal;
 use crate::integer::{give, op_imm, run_on, shift_imm, shift_imm_word, upper};
 use crate::loads_and_stores::{access_address, load, store};
-use rv_model::operations::SystemOp;
 use rv_model::{Instr, Scalar, StepEnd};
 use scalar_core::{alu, branch};
 use vector_memory::UserBytes;
@@ -42,13 +41,8 @@ pub(crate) fn execute_scalar<M: UserBytes>(
             jump_if(taken, branch_target(scalar.pc, offset), scalar)
         }
         Instr::Load { op, rd, rs1, imm } => {
-            load(
-                op,
-                rd,
-                access_address(scalar.read(rs1), imm),
-                scalar,
-                memory,
-            )
+            let addr = access_address(scalar.read(rs1), imm);
+            load(op, rd, addr, scalar, memory)
         }
         Instr::Store { op, rs1, rs2, imm } => {
             let addr = access_address(scalar.read(rs1), imm);
@@ -60,23 +54,18 @@ pub(crate) fn execute_scalar<M: UserBytes>(
             rd,
             rs1,
             amount,
-        } => { give(rd, shift_imm(op, scalar.read(rs1), amount), scalar) }
+        } => give(rd, shift_imm(op, scalar.read(rs1), amount), scalar),
         Instr::ShiftImmWord {
             op,
             rd,
             rs1,
             amount,
-        } => { give(rd, shift_imm_word(op, scalar.read(rs1), amount), scalar) }
+        } => give(rd, shift_imm_word(op, scalar.read(rs1), amount), scalar),
         Instr::Op { op, rd, rs1, rs2 } => {
             give(rd, alu(op, scalar.read(rs1), scalar.read(rs2)), scalar)
         }
         Instr::Fence { .. } => run_on(scalar),
-        Instr::System {
-            op: SystemOp::Ecall,
-        } => call_environment(scalar),
-        Instr::System {
-            op: SystemOp::Ebreak,
-        } => StepEnd::Ebreak,
+        Instr::System { op } => system(op, scalar),
         _ => illegal(word, scalar),
     }
 }
