@@ -21,6 +21,12 @@ const PAGE: u64 = 4096;
 // No page ends beyond this address.
 const LAST_END: u64 = 1 << 48;
 
+// The most bytes that are shown at once.
+const MAX_SHOWN: usize = 256;
+
+// The most instructions that are carried out at once.
+const MAX_STEPS: usize = 256;
+
 // Each reader takes the next word: None where there is none, or where it is out of its form or
 // range.
 
@@ -143,7 +149,7 @@ fn peek_args(words: &mut Words<'_>) -> Option<Cmd>
     ensures { result ≡ peek_of words.old }
 {
     let addr = address(words)?;
-    let count = number(words, 1, 256)?;
+    let count = number(words, 1, MAX_SHOWN)?;
     done(words, Cmd::Peek { addr, count })
 }
 
@@ -191,7 +197,7 @@ fn vset_args(words: &mut Words<'_>) -> Option<Cmd>
 fn step_args(words: &mut Words<'_>) -> Option<Cmd>
     ensures { result ≡ step_of words.old }
 {
-    let count = number(words, 1, 256)?;
+    let count = number(words, 1, MAX_STEPS)?;
     done(words, Cmd::Step(count))
 }
 
