@@ -1,4 +1,10 @@
 pub mod Arguments
+pub mod AssemblerFields
+pub mod AssemblerNaming
+pub mod AssemblerNumbers
+pub mod AssemblerSlots
+pub mod AssemblerTable
+pub mod AssemblerTokens
 pub mod BitFields
 pub mod Causes
 pub mod Commands
@@ -7,6 +13,9 @@ pub mod ControlTransfer
 pub mod Examples
 pub mod FixedBits
 pub mod Hart
+pub mod ElfFaults
+pub mod ElfFields
+pub mod Image
 pub mod Immediates
 pub mod InstructionEffects
 pub mod InstructionLayout

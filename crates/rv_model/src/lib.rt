@@ -1,11 +1,14 @@
 //! The definitions that every contract of the monitor cites, and the small types they speak of.
 #![tactic(auto)]
 
+pub mod assembler;
 mod command;
 mod control_register;
+mod elf;
 mod instruction;
 mod laws;
 mod memory;
+pub mod mnemonics;
 mod operands;
 pub mod operations;
 mod pairs;
@@ -22,6 +25,7 @@ mod vector_type;
 
 pub use command::{ByteString, Cmd, Refusal};
 pub use control_register::ControlRegister;
+pub use elf::{ElfFault, ProgramHeader};
 pub use instruction::Instr;
 pub use laws::{each_user_alone, registers_that_stay, small_scripts_print};
 pub use memory::{Access, Fault, MapRefusal, Permissions, memory_laws};
