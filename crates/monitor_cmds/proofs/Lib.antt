@@ -1,3 +1,4 @@
 pub mod DigitLaws
+pub mod PieceLaws
 pub mod RegisterLines
 pub mod WordLaws

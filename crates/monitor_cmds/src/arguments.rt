@@ -2,10 +2,13 @@
 ghost use Rattle.std.specs.Prelude.{◌≡◌, ◌≤◌, Some};
 ghost use Rattle.rv_model.specs.Arguments.{digit as digit_of, digits_after, decimal_number as decimal_of};
 ghost use Rattle.rv_model.specs.Arguments.{number as number_of, address as address_of};
+ghost use Rattle.rv_model.specs.Arguments.{instruction_address as instruction_address_of};
+ghost use Rattle.rv_model.specs.Arguments.{scalar_register as scalar_register_of, vector_register as vector_register_of};
+ghost use Rattle.rv_model.specs.Arguments.{element_width as element_width_of};
 ghost use Rattle.rv_model.specs.Arguments.{allowing as permissions_of, permissions as named_permissions};
 ghost use Rattle.monitor_cmds.specs.Capped.{capped};
 
-use rv_model::Permissions;
+use rv_model::{Permissions, Reg, Sew, VReg};
 
 // Larger numbers are read as this one, which no argument takes.
 const CAP: u128 = 1 << 64;
@@ -75,6 +78,59 @@ pub fn address(word: &[u8]) -> Option<u64>
     } else {
         None
     }
+}
+
+/// An address that is divisible by 4.
+pub fn instruction_address(word: &[u8]) -> Option<u64>
+    ensures { result ≡ instruction_address_of word.now }
+{
+    let addr = address(word)?;
+    if addr % 4 == 0 { Some(addr) } else { None }
+}
+
+/// One of `x1` to `x31`.
+pub fn scalar_register(word: &[u8]) -> Option<Reg>
+    ensures { result ≡ scalar_register_of word.now }
+{
+    match word {
+        [b'x', digits @ ..] => {
+            let register = number(1, 31, digits)?;
+            Some(Reg::new(register as u32))
+        }
+        _ => None,
+    }
+}
+
+/// One of `v0` to `v31`.
+pub fn vector_register(word: &[u8]) -> Option<VReg>
+    ensures { result ≡ vector_register_of word.now }
+{
+    match word {
+        [b'v', digits @ ..] => {
+            let register = number(0, 31, digits)?;
+            Some(VReg::new(register as u32))
+        }
+        _ => None,
+    }
+}
+
+/// The width of an element in bits: `8`, `16`, `32` or `64`.
+pub fn element_width(word: &[u8]) -> Option<Sew>
+    ensures { result ≡ element_width_of word.now }
+{
+    if word == b"8".as_slice() {
+        return Some(Sew::E8);
+    }
+    if word == b"16".as_slice() {
+        return Some(Sew::E16);
+    }
+    if word == b"32".as_slice() {
+        return Some(Sew::E32);
+    }
+    if word == b"64".as_slice() {
+        return Some(Sew::E64);
+    }
+    None
 }
 
 fn allowing(read: bool, write: bool, execute: bool) -> Option<Permissions>

@@ -28,6 +28,15 @@ pub fn entered(reply: &mut Reply, tag: Tag)
     plain(reply, tag, b"entered");
 }
 
+/// Adds the line `left`, the answer to `leave`.
+pub fn left(reply: &mut Reply, tag: Tag)
+    requires { length reply.old + 7 ≤ 4096 }
+    ensures text { reply.new ≡ reply.old ++ text (tag_byte tag) (codes "left" ∷ []) }
+    ensures bound { length reply.new ≡ length reply.old + 7 }
+{
+    plain(reply, tag, b"left");
+}
+
 /// Adds the line `ok`, the answer to a command that shows nothing.
 pub fn ok(reply: &mut Reply, tag: Tag)
     requires { length reply.old + 5 ≤ 4096 }

@@ -1,5 +1,6 @@
 //! Numbers as replies show them.
-ghost use Rattle.std.specs.Prelude.{◌≡◌, ◌++◌, ◌+◌, ◌≤◌, length, decimal};
+ghost use Rattle.std.specs.Prelude.{◌≡◌, ◌++◌, ◌+◌, ◌*◌, ◌≤◌, length, decimal};
+ghost use Rattle.hex.specs.Hex.{encode_lower};
 ghost use Rattle.rv_model.specs.Replies.{hex16};
 
 use crate::reply::Reply;
@@ -24,4 +25,17 @@ pub fn push_decimal(reply: &mut Reply, number: u64)
     ensures bound { length reply.new ≤ length reply.old + 20 }
 {
     reply.push(Buffer::new().format(number).as_bytes());
+}
+
+/// Adds at most 256 bytes, two hexadecimal digits each.
+pub fn push_bytes(reply: &mut Reply, bytes: &[u8])
+    requires few { length bytes.now ≤ 256 }
+    requires room { length reply.old + 2 * length bytes.now ≤ 4096 }
+    ensures text { reply.new ≡ reply.old ++ encode_lower bytes.now }
+    ensures bound { length reply.new ≡ length reply.old + 2 * length bytes.now }
+{
+    let mut digits = [0; 512];
+    let size = 2 * bytes.len();
+    let _ = hex::encode_to_slice(bytes, &mut digits[..size]);
+    reply.push(&digits[..size]);
 }

@@ -2,19 +2,30 @@
 ghost use Rattle.std.specs.Prelude.{◌≡◌, Some, None, MatchOption};
 ghost use Rattle.rv_model.specs.Arguments.{number as number_of, address as address_of};
 ghost use Rattle.rv_model.specs.Arguments.{permissions as named_permissions, byte_string as byte_string_of};
+ghost use Rattle.rv_model.specs.Arguments.{instruction_address as instruction_address_of};
+ghost use Rattle.rv_model.specs.Arguments.{scalar_register as scalar_register_of, vector_register as vector_register_of};
+ghost use Rattle.rv_model.specs.Arguments.{element_width as element_width_of, register_bytes as register_bytes_of};
 ghost use Rattle.rv_model.specs.Commands.{next, done as command_done, or_argument as command_or_argument};
 ghost use Rattle.rv_model.specs.Commands.{map_args as map_of, poke_args as poke_of, step_args as step_of};
+ghost use Rattle.rv_model.specs.Commands.{peek_args as peek_of, set_args as set_of, setpc_args as setpc_of};
+ghost use Rattle.rv_model.specs.Commands.{vreg_args as vreg_of, vset_args as vset_of};
 ghost use Rattle.rv_model.specs.Commands.{parse as command_of, named as named_command};
 
 use crate::arguments;
 use crate::words::Words;
-use rv_model::{ByteString, Cmd, Permissions, Refusal};
+use rv_model::{ByteString, Cmd, Permissions, Refusal, Reg, RegisterBytes, Sew, VReg};
 
 // The bytes of a page.
 const PAGE: u64 = 4096;
 
 // No page ends beyond this address.
 const LAST_END: u64 = 1 << 48;
+
+// The most bytes that are shown at once.
+const MAX_SHOWN: usize = 256;
+
+// The most instructions that are carried out at once.
+const MAX_STEPS: usize = 256;
 
 // Each reader takes the next word: None where there is none, or where it is out of its form or
 // range.
@@ -49,6 +60,46 @@ fn byte_string(words: &mut Words<'_>) -> Option<ByteString>
 {
     let word = words.next_word()?;
     ByteString::from_hex(word)
+}
+
+fn instruction_address(words: &mut Words<'_>) -> Option<u64>
+    ensures { MatchOption result (next instruction_address_of words.old ≡ None)
+        (λ value. next instruction_address_of words.old ≡ Some (value, words.new)) }
+{
+    let word = words.next_word()?;
+    arguments::instruction_address(word)
+}
+
+fn scalar_register(words: &mut Words<'_>) -> Option<Reg>
+    ensures { MatchOption result (next scalar_register_of words.old ≡ None)
+        (λ value. next scalar_register_of words.old ≡ Some (value, words.new)) }
+{
+    let word = words.next_word()?;
+    arguments::scalar_register(word)
+}
+
+fn vector_register(words: &mut Words<'_>) -> Option<VReg>
+    ensures { MatchOption result (next vector_register_of words.old ≡ None)
+        (λ value. next vector_register_of words.old ≡ Some (value, words.new)) }
+{
+    let word = words.next_word()?;
+    arguments::vector_register(word)
+}
+
+fn element_width(words: &mut Words<'_>) -> Option<Sew>
+    ensures { MatchOption result (next element_width_of words.old ≡ None)
+        (λ value. next element_width_of words.old ≡ Some (value, words.new)) }
+{
+    let word = words.next_word()?;
+    arguments::element_width(word)
+}
+
+fn register_bytes(words: &mut Words<'_>) -> Option<RegisterBytes>
+    ensures { MatchOption result (next register_bytes_of words.old ≡ None)
+        (λ value. next register_bytes_of words.old ≡ Some (value, words.new)) }
+{
+    let word = words.next_word()?;
+    RegisterBytes::from_hex(word)
 }
 
 // The command, if no word is left.
@@ -92,12 +143,61 @@ fn poke_args(words: &mut Words<'_>) -> Option<Cmd>
     done(words, Cmd::Poke { addr, bytes })
 }
 
+// `peek ADDR N`
+#[tactic(auto, unfolding(rv_model::specs::Commands::peek_args))]
+fn peek_args(words: &mut Words<'_>) -> Option<Cmd>
+    ensures { result ≡ peek_of words.old }
+{
+    let addr = address(words)?;
+    let count = number(words, 1, MAX_SHOWN)?;
+    done(words, Cmd::Peek { addr, count })
+}
+
+// `set xN HEX`
+#[tactic(auto, unfolding(rv_model::specs::Commands::set_args))]
+fn set_args(words: &mut Words<'_>) -> Option<Cmd>
+    ensures { result ≡ set_of words.old }
+{
+    let register = scalar_register(words)?;
+    let value = address(words)?;
+    done(words, Cmd::Set { register, value })
+}
+
+// `setpc ADDR`
+#[tactic(auto, unfolding(rv_model::specs::Commands::setpc_args))]
+fn setpc_args(words: &mut Words<'_>) -> Option<Cmd>
+    ensures { result ≡ setpc_of words.old }
+{
+    let addr = instruction_address(words)?;
+    done(words, Cmd::SetPc(addr))
+}
+
+// `vreg vN SEW`
+#[tactic(auto, unfolding(rv_model::specs::Commands::vreg_args))]
+fn vreg_args(words: &mut Words<'_>) -> Option<Cmd>
+    ensures { result ≡ vreg_of words.old }
+{
+    let register = vector_register(words)?;
+    let width = element_width(words)?;
+    done(words, Cmd::Vreg { register, width })
+}
+
+// `vset vN HEX`
+#[tactic(auto, unfolding(rv_model::specs::Commands::vset_args))]
+fn vset_args(words: &mut Words<'_>) -> Option<Cmd>
+    ensures { result ≡ vset_of words.old }
+{
+    let register = vector_register(words)?;
+    let bytes = register_bytes(words)?;
+    done(words, Cmd::Vset { register, bytes })
+}
+
 // `step N`
 #[tactic(auto, unfolding(rv_model::specs::Commands::step_args))]
 fn step_args(words: &mut Words<'_>) -> Option<Cmd>
     ensures { result ≡ step_of words.old }
 {
-    let count = number(words, 1, 256)?;
+    let count = number(words, 1, MAX_STEPS)?;
     done(words, Cmd::Step(count))
 }
 
@@ -114,17 +214,44 @@ fn named(name: &[u8], words: &mut Words<'_>) -> Result<Cmd, Refusal>
     if name == b"enter".as_slice() {
         return or_argument(done(words, Cmd::Enter));
     }
+    if name == b"leave".as_slice() {
+        return or_argument(done(words, Cmd::Leave));
+    }
     if name == b"map".as_slice() {
         return or_argument(map_args(words));
     }
     if name == b"poke".as_slice() {
         return or_argument(poke_args(words));
     }
+    if name == b"peek".as_slice() {
+        return or_argument(peek_args(words));
+    }
+    if name == b"set".as_slice() {
+        return or_argument(set_args(words));
+    }
     if name == b"regs".as_slice() {
         return or_argument(done(words, Cmd::Regs));
     }
+    if name == b"setpc".as_slice() {
+        return or_argument(setpc_args(words));
+    }
+    if name == b"vreg".as_slice() {
+        return or_argument(vreg_args(words));
+    }
+    if name == b"vset".as_slice() {
+        return or_argument(vset_args(words));
+    }
+    if name == b"vcsr".as_slice() {
+        return or_argument(done(words, Cmd::Vcsr));
+    }
     if name == b"step".as_slice() {
         return or_argument(step_args(words));
+    }
+    if name == b"state".as_slice() {
+        return or_argument(done(words, Cmd::State));
+    }
+    if name == b"trace".as_slice() {
+        return or_argument(done(words, Cmd::Trace));
     }
     Err(Refusal::UnknownCommand)
 }

@@ -58,12 +58,12 @@ unfolding hex_digits
 hex_digits_line zero n = refl
 hex_digits_line (suc k) n = is_line-append (hex_digits k (n / 16)) (hex_digit (n % 16) ∷ []) (hex_digits_line k (n / 16)) (both_of (not (is_newline (hex_digit (n % 16)))) true (hex_digit_line (n % 16) (omega arith)) refl)
 
-csr_text_line : (n : ℕ) → n < 2 ^ 64 → IsLine (csr_text n)
+csr_text_line : (n : ℕ) → IsLine (csr_text n)
 unfolding csr_text
-csr_text_line n lt =
+csr_text_line n =
     of_either IsLine (eqb n 0x008) (codes "vstart") _ refl (of_either IsLine (eqb n 0x009) (codes "vxsat") _ refl (of_either IsLine (eqb n 0x00a) (codes "vxrm") _ refl
     (of_either IsLine (eqb n 0x00f) (codes "vcsr") _ refl (of_either IsLine (eqb n 0xc20) (codes "vl") _ refl (of_either IsLine (eqb n 0xc21) (codes "vtype") _ refl
-    (of_either IsLine (eqb n 0xc22) (codes "vlenb") (decimal n) refl (decimal_line n lt)))))))
+    (of_either IsLine (eqb n 0xc22) (codes "vlenb") (decimal n) refl (decimal_line n)))))))
 
 vsew_text_line : (n : ℕ) → IsLine (vsew_text n)
 unfolding vsew_text
@@ -83,8 +83,8 @@ vma_text_line : (n : ℕ) → IsLine (vma_text n)
 unfolding vma_text
 vma_text_line n = of_either IsLine (eqb n 1) (codes "ma") (codes "mu") refl refl
 
-vtype_text_line : (v : ℕ) → v < 2 ^ 64 → IsLine (vtype_text v)
-vtype_text_line v lt =
+vtype_text_line : (v : ℕ) → IsLine (vtype_text v)
+vtype_text_line v =
     let a = vsew_text (v / 8 % 8) in
     let b = a ++ codes ", " in
     let c = b ++ vlmul_text (v % 8) in
@@ -97,27 +97,13 @@ vtype_text_line v lt =
     let hd = is_line-append c (codes ", ") hc refl in
     let he = is_line-append d (vta_text (v / 64 % 2)) hd (vta_text_line (v / 64 % 2)) in
     let hf = is_line-append e (codes ", ") he refl in
-    of_either IsLine (has_names v) (f ++ vma_text (v / 128 % 2)) (decimal v) (is_line-append f (vma_text (v / 128 % 2)) hf (vma_text_line (v / 128 % 2))) (decimal_line v lt)
+    of_either IsLine (has_names v) (f ++ vma_text (v / 128 % 2)) (decimal v) (is_line-append f (vma_text (v / 128 % 2)) hf (vma_text_line (v / 128 % 2))) (decimal_line v)
 
-step_small : (s : SignedField) (v : ℕ) → v < 2 * half s → step s * v < 2 ^ 64
-step_small signed.Vector v lt = omega arith
-step_small signed.Immediate v lt = omega arith
-step_small signed.Store v lt = omega arith
-step_small signed.Branch v lt = omega arith
-step_small signed.Jump v lt = omega arith
-
-back_small : (s : SignedField) (v : ℕ) → step s * (2 * half s - v) < 2 ^ 64
-back_small signed.Vector v = omega arith
-back_small signed.Immediate v = omega arith
-back_small signed.Store v = omega arith
-back_small signed.Branch v = omega arith
-back_small signed.Jump v = omega arith
-
-signed_text_line : (s : SignedField) (v : ℕ) → v < 2 * half s → IsLine (signed_text (step s) (half s) v)
-signed_text_line s v lt =
+signed_text_line : (s : SignedField) (v : ℕ) → IsLine (signed_text (step s) (half s) v)
+signed_text_line s v =
     of_either IsLine (ltb v (half s)) (decimal (step s * v)) (codes "-" ++ decimal (step s * (2 * half s - v)))
-    (decimal_line (step s * v) (step_small s v lt))
-    (decimal_line (step s * (2 * half s - v)) (back_small s v))
+    (decimal_line (step s * v))
+    (decimal_line (step s * (2 * half s - v)))
 
 pub limit_small : (u : UnsignedField) → limit u < 2 ^ 32
 limit_small unsigned.Immediate = lit< tt
@@ -130,13 +116,13 @@ printed_line Comma v lt = refl
 printed_line Open v lt = refl
 printed_line Close v lt = refl
 printed_line V0 v lt = refl
-printed_line (Scalar p) v lt = decimal_line v (omega arith)
-printed_line (Vector p) v lt = decimal_line v (omega arith)
-printed_line (Unsigned u) v lt = decimal_line v (omega (arith, limit_small u))
-printed_line (Signed s) v lt = signed_text_line s v lt
-printed_line Csr v lt = csr_text_line v (omega arith)
-printed_line VectorType v lt = vtype_text_line v (omega arith)
-printed_line ShortVectorType v lt = vtype_text_line v (omega arith)
+printed_line (Scalar p) v lt = decimal_line v
+printed_line (Vector p) v lt = decimal_line v
+printed_line (Unsigned u) v lt = decimal_line v
+printed_line (Signed s) v lt = signed_text_line s v
+printed_line Csr v lt = csr_text_line v
+printed_line VectorType v lt = vtype_text_line v
+printed_line ShortVectorType v lt = vtype_text_line v
 printed_line Mask v lt = of_either IsLine (eqb v 0) (codes ", v0.t") [] refl refl
 printed_line Word v lt = hex_digits_line 8 v
 

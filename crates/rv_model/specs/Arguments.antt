@@ -1,9 +1,11 @@
 -- What a word means as an argument of a command.
-use Rattle.std.specs.Prelude.{ℕ, ◌+◌, ◌-◌, ◌*◌, ◌/◌, ◌^◌, ◌==◌, ◌&&◌, ◌||◌, nat_lt, nat_le, Bool, true, false, List, [], ◌∷◌, length, Option, Some, None, Result, Ok, Err, if◌then◌else◌, codes}
+use Rattle.std.specs.Prelude.{ℕ, ◌+◌, ◌-◌, ◌*◌, ◌/◌, ◌%◌, ◌^◌, ◌==◌, ◌&&◌, ◌||◌, nat_lt, nat_le, Bool, true, false, List, [], ◌∷◌, length, Option, Some, None, Result, Ok, Err, if◌then◌else◌, codes}
 use Rattle.std.specs.Str.{bytes_eq}
 use Rattle.hex.specs.Hex.{decode_of}
 use Rattle.hex.specs.declared.error.FromHexError.{FromHexError}
 use Rattle.rv_model.specs.declared.memory.Permissions.{Permissions}
+use Rattle.rv_model.specs.declared.vector_type.Sew.{Sew}
+use Rattle.rv_model.specs.declared.vector_type.Sew.TheVariants.{E8, E16, E32, E64}
 
 -- the value of a hexadecimal digit in either case; 16 for any other byte
 abbrev pub digit : ℕ → ℕ
@@ -37,6 +39,34 @@ number low high word = within low high (decimal_number word)
 abbrev pub address : List ℕ → Option ℕ
 address word = if nat_le 1 (length word) && nat_le (length word) 16 then within 0 (2 ^ 64 - 1) (digits_after 16 0 word) else None
 
+-- a number that is divisible by 4
+abbrev pub divisible_by_4 : Option ℕ → Option ℕ
+divisible_by_4 None = None
+divisible_by_4 (Some n) = if n % 4 == 0 then Some n else None
+
+-- the address of an instruction: one that is divisible by 4
+abbrev pub instruction_address : List ℕ → Option ℕ
+instruction_address word = divisible_by_4 (address word)
+
+-- x1 to x31
+abbrev pub scalar_register : List ℕ → Option ℕ
+scalar_register [] = None
+scalar_register (c ∷ digits) = if c == 120 then number 1 31 digits else None
+
+-- v0 to v31
+abbrev pub vector_register : List ℕ → Option ℕ
+vector_register [] = None
+vector_register (c ∷ digits) = if c == 118 then number 0 31 digits else None
+
+-- the width of an element in bits
+abbrev pub element_width : List ℕ → Option Sew
+element_width word =
+    if bytes_eq word (codes "8") then Some E8
+    else if bytes_eq word (codes "16") then Some E16
+    else if bytes_eq word (codes "32") then Some E32
+    else if bytes_eq word (codes "64") then Some E64
+    else None
+
 abbrev pub decoded : Result (List ℕ) FromHexError → Option (List ℕ)
 decoded (Err e) = None
 decoded (Ok bytes) = Some bytes
@@ -44,6 +74,10 @@ decoded (Ok bytes) = Some bytes
 -- 1 to 256 bytes, two hexadecimal digits each
 abbrev pub byte_string : List ℕ → Option (List ℕ)
 byte_string text = if nat_lt (length text / 2) 1 || nat_lt 256 (length text / 2) then None else decoded (decode_of text)
+
+-- the 32 bytes of a vector register, two hexadecimal digits each, byte 0 first
+abbrev pub register_bytes : List ℕ → Option (List ℕ)
+register_bytes text = if length text == 64 then decoded (decode_of text) else None
 
 abbrev pub allowing : Bool → Bool → Bool → Option Permissions
 allowing read write execute = Some (record { read = read; write = write; execute = execute })

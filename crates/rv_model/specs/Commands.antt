@@ -3,10 +3,10 @@
 use Rattle.std.specs.Prelude.{ℕ, ◌+◌, ◌*◌, ◌%◌, ◌^◌, ◌==◌, ◌&&◌, nat_le, Bool, List, [], ◌∷◌, Option, Some, None, Result, Ok, Err, if◌then◌else◌, codes}
 use Rattle.std.specs.Str.{bytes_eq}
 use Rattle.rv_model.specs.declared.command.Cmd.{Cmd}
-use Rattle.rv_model.specs.declared.command.Cmd.TheVariants.{Enter, Map, Poke, Regs, Step}
+use Rattle.rv_model.specs.declared.command.Cmd.TheVariants.{Enter, Leave, Map, Poke, Peek, Set, Regs, SetPc, Vreg, Vset, Vcsr, Step, State, Trace}
 use Rattle.rv_model.specs.declared.command.Refusal.{Refusal}
 use Rattle.rv_model.specs.declared.command.Refusal.TheVariants.{UnknownCommand, Argument}
-use Rattle.rv_model.specs.Arguments.{number, address, permissions, byte_string}
+use Rattle.rv_model.specs.Arguments.{number, address, instruction_address, permissions, byte_string, scalar_register, vector_register, element_width, register_bytes}
 use Rattle.rv_model.specs.Words.{words}
 
 infixl 10 ◌>>=◌
@@ -47,6 +47,40 @@ poke_args ws = do
   bytes ← next byte_string addr.1
   done (Poke addr.0 bytes.0) bytes.1
 
+-- ADDR N
+unfoldable pub peek_args : List (List ℕ) → Option Cmd
+peek_args ws = do
+  addr ← next address ws
+  count ← next (number 1 256) addr.1
+  done (Peek addr.0 count.0) count.1
+
+-- xN HEX
+unfoldable pub set_args : List (List ℕ) → Option Cmd
+set_args ws = do
+  register ← next scalar_register ws
+  value ← next address register.1
+  done (Set register.0 value.0) value.1
+
+-- ADDR
+unfoldable pub setpc_args : List (List ℕ) → Option Cmd
+setpc_args ws = do
+  addr ← next instruction_address ws
+  done (SetPc addr.0) addr.1
+
+-- vN SEW
+unfoldable pub vreg_args : List (List ℕ) → Option Cmd
+vreg_args ws = do
+  register ← next vector_register ws
+  width ← next element_width register.1
+  done (Vreg register.0 width.0) width.1
+
+-- vN HEX
+unfoldable pub vset_args : List (List ℕ) → Option Cmd
+vset_args ws = do
+  register ← next vector_register ws
+  bytes ← next register_bytes register.1
+  done (Vset register.0 bytes.0) bytes.1
+
 -- N
 unfoldable pub step_args : List (List ℕ) → Option Cmd
 step_args ws = do
@@ -64,10 +98,19 @@ or_argument (Some c) = Ok c
 unfoldable pub named : List ℕ → List (List ℕ) → Parsed
 named name args =
     if bytes_eq name (codes "enter") then or_argument (done Enter args)
+    else if bytes_eq name (codes "leave") then or_argument (done Leave args)
     else if bytes_eq name (codes "map") then or_argument (map_args args)
     else if bytes_eq name (codes "poke") then or_argument (poke_args args)
+    else if bytes_eq name (codes "peek") then or_argument (peek_args args)
+    else if bytes_eq name (codes "set") then or_argument (set_args args)
     else if bytes_eq name (codes "regs") then or_argument (done Regs args)
+    else if bytes_eq name (codes "setpc") then or_argument (setpc_args args)
+    else if bytes_eq name (codes "vreg") then or_argument (vreg_args args)
+    else if bytes_eq name (codes "vset") then or_argument (vset_args args)
+    else if bytes_eq name (codes "vcsr") then or_argument (done Vcsr args)
     else if bytes_eq name (codes "step") then or_argument (step_args args)
+    else if bytes_eq name (codes "state") then or_argument (done State args)
+    else if bytes_eq name (codes "trace") then or_argument (done Trace args)
     else Err UnknownCommand
 
 abbrev pub command : List (List ℕ) → Parsed

@@ -32,6 +32,13 @@ small_scripts =
     ∷ (codes "8 enter\n1 regs\n", codes "8 entered\n1 E05\n")
     ∷ (codes "2 regs\n2  enter \n2 enter\n", codes "2 E05\n2 entered\n2 E06\n")
     ∷ (codes "1 enter\n9 x\n2 regs\n1 enter\n", codes "1 entered\n* E01\n2 E05\n1 E06\n")
+    ∷ (codes "1 leave\n", codes "1 E05\n")
+    ∷ (codes "1 enter\n1 leave\n1 leave\n1 enter\n", codes "1 entered\n1 left\n1 E05\n1 entered\n")
+    ∷ (codes "1 enter\n1 trace\n", codes "1 entered\n1 trace\n")
+    ∷ (codes "1 enter\n1 state\n", codes "1 entered\n1 state stopped pc=0000000000000000\n")
+    ∷ (codes "1 enter\n1 setpc 1000C\n1 state\n", codes "1 entered\n1 ok\n1 state stopped pc=000000000001000c\n")
+    ∷ (codes "1 enter\n1 vcsr\n", codes "1 entered\n1 vl=0 vtype=8000000000000000 vstart=0 vxrm=0 vxsat=0\n")
+    ∷ (codes "1 setpc 2\n1 set x0 1\n1 set x01 1\n1 set x32 1\n1 vset v0 00\n1 vreg v0 128\n1 peek 0 0\n", codes "1 E04\n1 E04\n1 E04\n1 E04\n1 E04\n1 E04\n1 E04\n")
     ∷ []
 
 -- each prints just that

@@ -37,6 +37,7 @@ pub mod Step
 pub mod Text
 pub mod VectorConfiguration
 pub mod VectorControl
+pub mod VectorRegisters
 pub mod VectorState
 pub mod VectorStep
 pub mod VectorTypeRules

@@ -1,11 +1,11 @@
 -- One user's machine, which no one else uses: what a command or a slice does to it, and the lines that it prints. The order
 -- in which refusals are tested is that of their numbers, and a refusal changes nothing.
-use Rattle.std.specs.Prelude.{ℕ, zero, suc, ◌-◌, ◌/◌, ◌==◌, ◌&&◌, not, Bool, true, false, List, [], ◌∷◌, ◌++◌, length, Option, Some, None, is_none, Ok, Err, if◌then◌else◌, codes}
+use Rattle.std.specs.Prelude.{ℕ, zero, suc, ◌+◌, ◌-◌, ◌/◌, ◌==◌, ◌&&◌, not, Bool, true, false, List, [], ◌∷◌, ◌++◌, length, drop, Option, Some, None, is_none, Ok, Err, if◌then◌else◌, codes}
 use Rattle.std.specs.List.{list_any}
 use Rattle.std.specs.Option.{option_map}
 use Rattle.std.specs.FinMap.{empty}
 use Rattle.rv_model.specs.declared.command.Cmd.{Cmd}
-use Rattle.rv_model.specs.declared.command.Cmd.TheVariants.{Enter, Map, Poke, Regs, Step}
+use Rattle.rv_model.specs.declared.command.Cmd.TheVariants.{Enter, Leave, Map, Poke, Peek, Set, Regs, SetPc, Vreg, Vset, Vcsr, Step, State, Trace}
 use Rattle.rv_model.specs.declared.command.Refusal.{Refusal}
 use Rattle.rv_model.specs.declared.command.Refusal.TheVariants as refusal
 use Rattle.rv_model.specs.declared.memory.Access.TheVariants.{Monitor}
@@ -17,11 +17,12 @@ use Rattle.rv_model.specs.declared.step_end.StepEnd.TheVariants.{Ran, Exit, Ebre
 use Rattle.rv_model.specs.declared.step_end.Stop.{Stop}
 use Rattle.rv_model.specs.declared.step_end.Stop.TheVariants as stop
 use Rattle.rv_model.specs.Commands.{Parsed, parse}
-use Rattle.rv_model.specs.Memory.{can_access, put_bytes, map_refusal, with_pages}
-use Rattle.rv_model.specs.Replies.{refused, regs_lines, step_line, stop_line}
-use Rattle.rv_model.specs.Scalar.{initial_scalar}
+use Rattle.rv_model.specs.Memory.{bytes_at, can_access, put_bytes, map_refusal, with_pages}
+use Rattle.rv_model.specs.Replies.{refused, regs_lines, step_line, stop_line, state_line, peek_line, trace_line, vreg_line, vcsr_line}
+use Rattle.rv_model.specs.Scalar.{initial_scalar, with_register}
 use Rattle.rv_model.specs.Setup.{Setup}
 use Rattle.rv_model.specs.Step.{HartState, step}
+use Rattle.rv_model.specs.VectorRegisters.{register_of, with_register_bytes}
 use Rattle.rv_model.specs.VectorState.{initial_vector}
 
 -- a user that has entered: what instructions work on, the breakpoints, the addresses of the last instructions, whether the
@@ -57,6 +58,14 @@ stop_of (Fault cause pc value) = Some (stop.Fault cause value)
 abbrev pub at_breakpoint : Present → Bool
 at_breakpoint p = list_any (λ addr. addr == p.hart.scalar.pc) p.breakpoints
 
+-- the last 16 of the addresses, with one more
+unfoldable pub recorded : List ℕ → ℕ → List ℕ
+recorded trace addr = drop (length trace + 1 - 16) (trace ++ addr ∷ [])
+
+-- the instruction at the program counter ran to its end, which the trace records
+abbrev pub ran : HartState → Present → Present
+ran hart p = record p { hart = hart; trace = recorded p.trace p.hart.scalar.pc }
+
 -- where a run of instructions leaves a machine, and why it stopped, if it did
 pub record Halted : Type 0 where
   pub state : Present
@@ -68,10 +77,9 @@ abbrev pub steps : ℕ → Bool → Present → Halted
 steps zero exempt p = record { state = p; stop = None }
 steps (suc n) exempt p =
     let one = step 256 p.hart in
-    let after = record p { hart = one.state } in
     if not exempt && at_breakpoint p then record { state = p; stop = Some stop.Breakpoint }
-    else if is_none (stop_of one.end) then steps n false after
-    else record { state = after; stop = stop_of one.end }
+    else if is_none (stop_of one.end) then steps n false (ran one.state p)
+    else record { state = record p { hart = one.state }; stop = stop_of one.end }
 
 -- at most n instructions in the ticks that are left; a breakpoint stops the program before each but the first one after it
 -- was told to run
@@ -79,11 +87,11 @@ abbrev pub slice_steps : ℕ → ℕ → Present → Halted
 slice_steps zero left p = record { state = p; stop = None }
 slice_steps (suc n) left p =
     let one = step left p.hart in
-    let after = record p { hart = one.state; fresh = false } in
+    let tried = record p { fresh = false } in
     if left == 0 then record { state = p; stop = None }
     else if not p.fresh && at_breakpoint p then record { state = p; stop = Some stop.Breakpoint }
-    else if is_none (stop_of one.end) then slice_steps n (left - one.ticks) after
-    else record { state = after; stop = stop_of one.end }
+    else if is_none (stop_of one.end) then slice_steps n (left - one.ticks) (ran one.state tried)
+    else record { state = record tried { hart = one.state }; stop = stop_of one.end }
 
 -- what a machine does: where it stands then, and the lines that it prints
 pub record Outcome : Type 0 where
@@ -102,12 +110,13 @@ unfoldable pub own_refusal : Present → Cmd → Option Refusal
 own_refusal p Enter = Some refusal.AlreadyEntered
 own_refusal p (Map addr pages permissions) = option_map with_memory_refusal (map_refusal p.hart.memory (addr / 4096) pages)
 own_refusal p (Poke addr bytes) = if can_access Monitor p.hart.memory addr (length bytes) then None else Some refusal.NotMapped
-own_refusal p Regs = None
-own_refusal p (Step n) = None
+own_refusal p (Peek addr count) = if can_access Monitor p.hart.memory addr count then None else Some refusal.NotMapped
+own_refusal p _ = None
 
 -- whether a command needs a stopped program
 abbrev pub needs_stopped : Cmd → Bool
 needs_stopped Enter = false
+needs_stopped State = false
 needs_stopped _ = true
 
 -- the first reason, in the order of their numbers, why a command is refused
@@ -121,6 +130,16 @@ unfoldable pub carried_out : Present → Cmd → Outcome
 carried_out p Enter = answers initial (codes "entered")
 carried_out p (Map addr pages permissions) = answers (record p { hart = record p.hart { memory = with_pages p.hart.memory (addr / 4096) pages permissions } }) (codes "ok")
 carried_out p (Poke addr bytes) = answers (record p { hart = record p.hart { memory = put_bytes p.hart.memory addr bytes } }) (codes "ok")
+carried_out p Leave = record { next = None; lines = codes "left" ∷ [] }
+carried_out p (Peek addr count) = answers p (peek_line addr (bytes_at p.hart.memory addr count))
+carried_out p (Set register value) = answers (record p { hart = record p.hart { scalar = with_register register value p.hart.scalar } }) (codes "ok")
+carried_out p (SetPc addr) = answers (record p { hart = record p.hart { scalar = record p.hart.scalar { pc = addr } } }) (codes "ok")
+carried_out p (Vreg register width) = answers p (vreg_line register width (register_of p.hart.vector.file register))
+carried_out p (Vset register bytes) =
+    answers (record p { hart = record p.hart { vector = record p.hart.vector { file = with_register_bytes register bytes p.hart.vector.file } } }) (codes "ok")
+carried_out p Vcsr = answers p (vcsr_line p.hart.vector)
+carried_out p State = answers p (state_line p.running p.hart.scalar.pc)
+carried_out p Trace = answers p (trace_line p.trace)
 carried_out p Regs = record { next = Some p; lines = regs_lines p.hart.scalar }
 carried_out p (Step n) =
     let run = steps n true p in

@@ -1,5 +1,6 @@
 -- What a machine prints: numbers in decimal, 64-bit values as 16 lower-case hexadecimal digits.
-use Rattle.std.specs.Prelude.{ℕ, zero, suc, ◌+◌, List, [], ◌∷◌, ◌++◌, decimal, codes, slice_index, Option, Some, None}
+use Rattle.std.specs.Prelude.{ℕ, zero, suc, ◌+◌, ◌*◌, ◌/◌, Bool, List, [], ◌∷◌, ◌++◌, decimal, codes, slice_index, slice_range, reverse, flat_map, Option, Some, None, if◌then◌else◌}
+use Rattle.std.specs.List.{range_with_len}
 use Rattle.std.specs.Int.{to_be_bytes, w64}
 use Rattle.hex.specs.Hex.{encode_lower}
 use Rattle.rv_model.specs.declared.command.Refusal.{Refusal}
@@ -7,7 +8,13 @@ use Rattle.rv_model.specs.declared.command.Refusal.TheVariants.{UnknownCommand, 
 use Rattle.rv_model.specs.declared.scalar.Scalar.{Scalar}
 use Rattle.rv_model.specs.declared.step_end.Stop.{Stop}
 use Rattle.rv_model.specs.declared.step_end.Stop.TheVariants.{Breakpoint, Ebreak, Exit, Fault}
+use Rattle.rv_model.specs.declared.vector_state.VState.{VState}
+use Rattle.rv_model.specs.declared.vector_type.Sew.{Sew}
+use Rattle.rv_model.specs.BitFields.{flag_bit}
 use Rattle.rv_model.specs.Causes.{cause_number}
+use Rattle.rv_model.specs.RoundingModes.{rounding_number}
+use Rattle.rv_model.specs.VectorConfiguration.{sew_bits}
+use Rattle.rv_model.specs.VectorTypeRules.{vtype_number}
 
 -- 16 hexadecimal digits, the highest first
 unfoldable pub hex16 : ℕ → List ℕ
@@ -51,3 +58,35 @@ stop_line pc (Fault cause value) = codes "fault cause=" ++ decimal (cause_number
 unfoldable pub step_line : ℕ → ℕ → Option Stop → List ℕ
 step_line n pc None = codes "stepped " ++ decimal n ++ codes " pc=" ++ hex16 pc
 step_line n pc (Some stop) = stop_line pc stop
+
+-- the answer to `state`
+unfoldable pub state_line : Bool → ℕ → List ℕ
+state_line running pc = (if running then codes "state running pc=" else codes "state stopped pc=") ++ hex16 pc
+
+-- the answer to `peek`: the address, and the bytes from it on
+unfoldable pub peek_line : ℕ → List ℕ → List ℕ
+peek_line addr bytes = codes "peek " ++ hex16 addr ++ codes " " ++ encode_lower bytes
+
+-- an address of a trace
+unfoldable pub traced : ℕ → List ℕ
+traced addr = codes " " ++ hex16 addr
+
+-- the answer to `trace`: the addresses, the oldest first
+unfoldable pub trace_line : List ℕ → List ℕ
+trace_line addresses = codes "trace" ++ flat_map traced addresses
+
+-- element i of a register, its k bytes with the highest first
+unfoldable pub element_text : ℕ → List ℕ → ℕ → List ℕ
+element_text k bytes i = codes " " ++ encode_lower (reverse (slice_range bytes (k * i) (k * i + k)))
+
+-- the answer to `vreg`: the register's name, and its elements, element 0 first
+unfoldable pub vreg_line : ℕ → Sew → List ℕ → List ℕ
+vreg_line r sew bytes =
+    codes "v" ++ decimal r ++ flat_map (element_text (sew_bits sew / 8) bytes) (range_with_len 0 (256 / sew_bits sew))
+
+-- the answer to `vcsr`
+unfoldable pub vcsr_line : VState → List ℕ
+vcsr_line v =
+    codes "vl=" ++ decimal v.conf.vl ++ codes " vtype=" ++ hex16 (vtype_number v.conf.vtype)
+    ++ codes " vstart=" ++ decimal v.vstart ++ codes " vxrm=" ++ decimal (rounding_number v.vxrm)
+    ++ codes " vxsat=" ++ decimal (flag_bit v.vxsat)

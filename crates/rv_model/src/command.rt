@@ -3,6 +3,9 @@ ghost use Rattle.std.specs.Prelude.{◌≡◌};
 ghost use Rattle.rv_model.specs.Arguments.{byte_string};
 
 use crate::memory::Permissions;
+use crate::operands::{Reg, VReg};
+use crate::register_bytes::RegisterBytes;
+use crate::vector_type::Sew;
 use arrayvec::ArrayVec;
 use std::marker::Model;
 
@@ -51,6 +54,8 @@ impl ByteString {
 pub enum Cmd {
     /// `enter`: the user's machine begins.
     Enter,
+    /// `leave`: the user is absent, and all that the user had is dropped.
+    Leave,
     /// `map ADDR PAGES PERM`: pages of zeros from an address that is a multiple of 4,096.
     Map {
         addr: u64,
@@ -62,10 +67,38 @@ pub enum Cmd {
         addr: u64,
         bytes: ByteString,
     },
+    /// `peek ADDR N`: 1 to 256 bytes of mapped pages are shown.
+    Peek {
+        addr: u64,
+        count: usize,
+    },
+    /// `set xN HEX`: one of the registers x1 to x31 is written.
+    Set {
+        register: Reg,
+        value: u64,
+    },
     /// `regs`: the program counter and the registers are shown.
     Regs,
+    /// `setpc ADDR`: the program counter is written, with an address that is divisible by 4.
+    SetPc(u64),
+    /// `vreg vN SEW`: the elements of a vector register are shown.
+    Vreg {
+        register: VReg,
+        width: Sew,
+    },
+    /// `vset vN HEX`: the 32 bytes of a vector register are written.
+    Vset {
+        register: VReg,
+        bytes: RegisterBytes,
+    },
+    /// `vcsr`: the vector length and type, and the other vector control registers, are shown.
+    Vcsr,
     /// `step N`: 1 to 256 instructions are carried out.
     Step(usize),
+    /// `state`: whether the user's program runs, and where it stands.
+    State,
+    /// `trace`: the addresses of the last 16 instructions that ran to their end.
+    Trace,
 }
 
 /// Why a command is refused, in the order in which the reasons are tested.

@@ -1,4 +1,6 @@
 //! The vector state of a machine ("V" Vector Extension 1.0, section 3).
+use crate::operands::VReg;
+use crate::register_bytes::RegisterBytes;
 use crate::vector_type::VType;
 use std::marker::Model;
 
@@ -115,7 +117,8 @@ impl Model for VFile {
 }
 
 impl VFile {
-    ghost use Rattle.std.specs.Prelude.{◌≡◌};
+    ghost use Rattle.std.specs.Prelude.{◌≡◌, length};
+    ghost use Rattle.rv_model.specs.VectorRegisters.{register_of, with_register_bytes};
     ghost use Rattle.rv_model.specs.VectorState.{zero_file};
 
     /// All registers zero.
@@ -124,6 +127,25 @@ impl VFile {
         ensures { result ≡ zero_file }
     {
         VFile { bytes: [0; 1024] }
+    }
+
+    /// The 32 bytes of a register.
+    #[tactic(auto, unfolding(crate::specs::VectorRegisters::register_of))]
+    pub fn register(&self, register: VReg) -> &[u8]
+        ensures value { result.now ≡ register_of self.now register }
+        ensures size { length result.now ≡ 32 }
+    {
+        let start = 32 * register.number() as usize;
+        &self.bytes[start..start + 32]
+    }
+
+    /// Writes the 32 bytes of a register; all others stay.
+    #[tactic(auto, unfolding(crate::specs::VectorRegisters::with_register_bytes))]
+    pub fn set_register(&mut self, register: VReg, bytes: &RegisterBytes)
+        ensures { self.new ≡ with_register_bytes register bytes.now self.old }
+    {
+        let start = 32 * register.number() as usize;
+        self.bytes[start..start + 32].copy_from_slice(bytes.as_slice());
     }
 }
 

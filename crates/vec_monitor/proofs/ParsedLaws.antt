@@ -1,27 +1,29 @@
 -- What the grammar of commands says of their arguments.
-use Rattle.std.proofs.Common.{◌≡◌, ℕ, ◌+◌, ◌*◌, ◌^◌, List, [], ◌∷◌, Bool, true, false, Option, Some, None, Ok, Err, refl, sym, subst}
-use Rattle.std.specs.Prelude.{if◌then◌else◌, codes, nat_le, ◌==◌, ◌%◌}
+use Rattle.std.proofs.Common.{◌≡◌, ℕ, ◌+◌, ◌*◌, ◌^◌, ◌≤◌, ◌/◌, List, [], ◌∷◌, Bool, true, false, Option, Some, None, Result, Ok, Err, refl, sym, subst, ◌∙◌, ap, arith}
+use Rattle.std.specs.Prelude.{if◌then◌else◌, codes, nat_le, ◌&&◌, ◌==◌, ◌%◌}
 use Rattle.std.specs.Str.{bytes_eq}
 use Rattle.std.proofs.lemmas.Bool.{leb-true}
 use Rattle.rv_model.specs.declared.command.Cmd.{Cmd}
-use Rattle.rv_model.specs.declared.command.Cmd.TheVariants.{Enter, Map, Poke, Regs, Step}
+use Rattle.rv_model.specs.declared.command.Cmd.TheVariants.{Enter, Leave, Map, Poke, Peek, Set, Regs, SetPc, Vreg, Vset, Vcsr, Step, State, Trace}
+use Rattle.rv_model.specs.declared.command.Refusal.{Refusal}
+use Rattle.rv_model.specs.declared.command.Refusal.TheVariants.{UnknownCommand}
 use Rattle.rv_model.specs.declared.memory.Permissions.{Permissions}
-use Rattle.rv_model.specs.Arguments.{number, address, permissions, byte_string}
-use Rattle.rv_model.specs.Commands.{◌>>=◌, next, done, are_pages, map_args, poke_args, step_args, Parsed, or_argument, named, command, parse}
+use Rattle.rv_model.specs.Arguments.{number, within, decimal_number, address, instruction_address, permissions, byte_string, scalar_register, vector_register, element_width, register_bytes}
+use Rattle.rv_model.specs.Commands.{◌>>=◌, before, next, done, are_pages, map_args, poke_args, peek_args, set_args, setpc_args, vreg_args, vset_args, step_args, Parsed, or_argument, named, command, parse}
 use Rattle.rv_model.specs.Words.{words}
 use Rattle.rv_model.proofs.LineLaws.{both}
-use Rattle.vec_monitor.specs.ParsedCommands.{FitsAddressSpace}
+use Rattle.vec_monitor.specs.ParsedCommands.{AreInRange}
 
--- a command that there is fits the address space
+-- the arguments of a command that there is are in range
 abbrev IfFits : Option Cmd → Type 0
 IfFits None = Unit {0}
-IfFits (Some c) = FitsAddressSpace c
+IfFits (Some c) = AreInRange c
 
 abbrev IfFitting : Parsed → Type 0
 IfFitting (Err r) = Unit {0}
-IfFitting (Ok c) = FitsAddressSpace c
+IfFitting (Ok c) = AreInRange c
 
-fits_done : (c : Cmd) (ws : List (List ℕ)) → FitsAddressSpace c → IfFits (done c ws)
+fits_done : (c : Cmd) (ws : List (List ℕ)) → AreInRange c → IfFits (done c ws)
 fits_done c [] h = h
 fits_done c (w ∷ ws) h = tt
 
@@ -46,6 +48,43 @@ unfolding poke_args
 fits_poke ws =
     fits_next (next address ws) _ (λ addr. fits_next (next byte_string addr.1) _ (λ bytes. fits_done (Poke addr.0 bytes.0) bytes.1 tt))
 
+fits_shown : (addr v : ℕ) (ws : List (List ℕ)) (b : Bool) → (nat_le 1 v && nat_le v 256) ≡ b
+    → IfFits (before ws (if b then Some v else None) >>= (λ count. done (Peek addr count.0) count.1))
+fits_shown addr v ws false h = tt
+fits_shown addr v ws true h = fits_done (Peek addr v) ws (leb-true v 256 (both (nat_le 1 v) (nat_le v 256) h).1)
+
+fits_count : (addr : ℕ) (v : Option ℕ) (ws : List (List ℕ))
+    → IfFits (before ws (within 1 256 v) >>= (λ count. done (Peek addr count.0) count.1))
+fits_count addr None ws = tt
+fits_count addr (Some v) ws = fits_shown addr v ws (nat_le 1 v && nat_le v 256) refl
+
+fits_bytes : (addr : ℕ) (ws : List (List ℕ)) → IfFits (next (number 1 256) ws >>= (λ count. done (Peek addr count.0) count.1))
+fits_bytes addr [] = tt
+fits_bytes addr (w ∷ ws) = fits_count addr (decimal_number w) ws
+
+fits_peek : (ws : List (List ℕ)) → IfFits (peek_args ws)
+unfolding peek_args
+fits_peek ws = fits_next (next address ws) _ (λ addr. fits_bytes addr.0 addr.1)
+
+fits_set : (ws : List (List ℕ)) → IfFits (set_args ws)
+unfolding set_args
+fits_set ws =
+    fits_next (next scalar_register ws) _ (λ register. fits_next (next address register.1) _ (λ value. fits_done (Set register.0 value.0) value.1 tt))
+
+fits_setpc : (ws : List (List ℕ)) → IfFits (setpc_args ws)
+unfolding setpc_args
+fits_setpc ws = fits_next (next instruction_address ws) _ (λ addr. fits_done (SetPc addr.0) addr.1 tt)
+
+fits_vreg : (ws : List (List ℕ)) → IfFits (vreg_args ws)
+unfolding vreg_args
+fits_vreg ws =
+    fits_next (next vector_register ws) _ (λ register. fits_next (next element_width register.1) _ (λ width. fits_done (Vreg register.0 width.0) width.1 tt))
+
+fits_vset : (ws : List (List ℕ)) → IfFits (vset_args ws)
+unfolding vset_args
+fits_vset ws =
+    fits_next (next vector_register ws) _ (λ register. fits_next (next register_bytes register.1) _ (λ bytes. fits_done (Vset register.0 bytes.0) bytes.1 tt))
+
 fits_step : (ws : List (List ℕ)) → IfFits (step_args ws)
 unfolding step_args
 fits_step ws = fits_next (next (number 1 256) ws) _ (λ count. fits_done (Step count.0) count.1 tt)
@@ -62,15 +101,24 @@ fits_named : (name : List ℕ) (args : List (List ℕ)) → IfFitting (named nam
 unfolding named
 fits_named name args =
     fits_if (bytes_eq name (codes "enter")) _ _ (fits_argument _ (fits_done Enter args tt))
+    (fits_if (bytes_eq name (codes "leave")) _ _ (fits_argument _ (fits_done Leave args tt))
     (fits_if (bytes_eq name (codes "map")) _ _ (fits_argument _ (fits_map args))
     (fits_if (bytes_eq name (codes "poke")) _ _ (fits_argument _ (fits_poke args))
+    (fits_if (bytes_eq name (codes "peek")) _ _ (fits_argument _ (fits_peek args))
+    (fits_if (bytes_eq name (codes "set")) _ _ (fits_argument _ (fits_set args))
     (fits_if (bytes_eq name (codes "regs")) _ _ (fits_argument _ (fits_done Regs args tt))
-    (fits_if (bytes_eq name (codes "step")) _ _ (fits_argument _ (fits_step args)) tt))))
+    (fits_if (bytes_eq name (codes "setpc")) _ _ (fits_argument _ (fits_setpc args))
+    (fits_if (bytes_eq name (codes "vreg")) _ _ (fits_argument _ (fits_vreg args))
+    (fits_if (bytes_eq name (codes "vset")) _ _ (fits_argument _ (fits_vset args))
+    (fits_if (bytes_eq name (codes "vcsr")) _ _ (fits_argument _ (fits_done Vcsr args tt))
+    (fits_if (bytes_eq name (codes "step")) _ _ (fits_argument _ (fits_step args))
+    (fits_if (bytes_eq name (codes "state")) _ _ (fits_argument _ (fits_done State args tt))
+    (fits_if (bytes_eq name (codes "trace")) _ _ (fits_argument _ (fits_done Trace args tt)) tt)))))))))))))
 
 fits_command : (ws : List (List ℕ)) → IfFitting (command ws)
 fits_command [] = tt
 fits_command (name ∷ args) = fits_named name args
 
-pub fits_parsed : (line : List ℕ) (c : Cmd) → Ok c ≡ parse line → FitsAddressSpace c
+pub fits_parsed : (line : List ℕ) (c : Cmd) → Ok c ≡ parse line → AreInRange c
 unfolding parse
 fits_parsed line c h = subst IfFitting (sym h) (fits_command (words line))

@@ -1,49 +1,69 @@
 -- A change of one user's context and memory changes that user's part alone.
-use Rattle.std.proofs.Common.{◌≡◌, ℕ, zero, suc, ◌-◌, ◌<◌, List, [], ◌∷◌, length, get_or, set, refl, ap, ◌∙◌, sym, arith, None}
-use Rattle.std.proofs.lemmas.List.{set-get_or}
+use Rattle.std.proofs.Common.{◌≡◌, ℕ, zero, suc, ◌+◌, ◌-◌, ◌<◌, ◌≤◌, List, [], ◌∷◌, length, get_or, set, refl, ap, ◌∙◌, sym, arith, None, Ok, Err, replicate}
+use Rattle.std.proofs.lemmas.List.{set-get_or, get_or-set_same}
 use Rattle.std.specs.FinMap.{empty}
+use Rattle.rv_model.specs.declared.command.Cmd.{Cmd}
+use Rattle.rv_model.specs.declared.command.Refusal.{Refusal}
+use Rattle.rv_model.specs.Commands.{Parsed, parse}
 use Rattle.rv_model.specs.Memory.{Memory}
-use Rattle.rv_model.specs.PrivateMachine.{Private}
+use Rattle.rv_model.specs.PrivateMachine.{Private, Outcome, commanded, event, Command}
 use Rattle.rv_model.specs.Script.{World, new_world, part, with_part}
+use Rattle.rv_model.specs.Setup.{Setup}
+use Rattle.rv_model.specs.Text.{text}
 use Rattle.user_mem.specs.Users.{no_memories, memory_of_user, with_memory}
 use Rattle.vec_monitor.specs.declared.context.Context.{Context}
 use Rattle.vec_monitor.specs.Lenders.{later_memory}
-use Rattle.vec_monitor.specs.Parts.{new_context, private_of, parts_of, world_of, AreEight}
+use Rattle.vec_monitor.specs.Parts.{Addresses, trace_of, with_trace, new_context, private_of, parts_of, world_of, AreEight}
 
-pub parts_of-set : (cs : List Context) (ms : List Memory) (i : ℕ) (c : Context) (m : Memory) → length cs ≡ length ms → parts_of (set cs i c) (set ms i m) ≡ set (parts_of cs ms) i (private_of c m)
-parts_of-set [] ms i c m e = refl
-parts_of-set (d ∷ cs) [] zero c m e = absurd (omega (arith, e))
-parts_of-set (d ∷ cs) [] (suc i) c m e = absurd (omega (arith, e))
-parts_of-set (d ∷ cs) (n ∷ ms) zero c m e = refl
-parts_of-set (d ∷ cs) (n ∷ ms) (suc i) c m e = ap (λ (ps : List Private). private_of d n ∷ ps) (parts_of-set cs ms i c m (omega (arith, e)))
+pub parts_of-set : (cs : List Context) (ts : List Addresses) (ms : List Memory) (i : ℕ) (c : Context) (t : Addresses) (m : Memory) → length cs ≡ length ts → length ts ≡ length ms
+    → parts_of (set cs i c) (set ts i t) (set ms i m) ≡ set (parts_of cs ts ms) i (private_of c t m)
+parts_of-set [] ts ms i c t m e f = refl
+parts_of-set (d ∷ cs) [] ms i c t m e f = absurd (omega (arith, e))
+parts_of-set (d ∷ cs) (u ∷ ts) [] i c t m e f = absurd (omega (arith, f))
+parts_of-set (d ∷ cs) (u ∷ ts) (n ∷ ms) zero c t m e f = refl
+parts_of-set (d ∷ cs) (u ∷ ts) (n ∷ ms) (suc i) c t m e f =
+    ap (λ (ps : List Private). private_of d u n ∷ ps) (parts_of-set cs ts ms i c t m (omega (arith, e)) (omega (arith, f)))
 
-pub parts_at : (cs : List Context) (ms : List Memory) (i : ℕ) (c : Context) → i < length cs → length cs ≡ length ms → get_or (parts_of cs ms) i None ≡ private_of (get_or cs i c) (get_or ms i empty)
-parts_at [] ms i c lt e = absurd (omega (arith, lt))
-parts_at (d ∷ cs) [] i c lt e = absurd (omega (arith, e))
-parts_at (d ∷ cs) (n ∷ ms) zero c lt e = refl
-parts_at (d ∷ cs) (n ∷ ms) (suc i) c lt e = parts_at cs ms i c (omega (arith, lt)) (omega (arith, e))
+pub parts_at : (cs : List Context) (ts : List Addresses) (ms : List Memory) (i : ℕ) (c : Context) → i < length cs → length cs ≡ length ts → length ts ≡ length ms
+    → get_or (parts_of cs ts ms) i None ≡ private_of (get_or cs i c) (get_or ts i []) (get_or ms i empty)
+parts_at [] ts ms i c lt e f = absurd (omega (arith, lt))
+parts_at (d ∷ cs) [] ms i c lt e f = absurd (omega (arith, e))
+parts_at (d ∷ cs) (u ∷ ts) [] i c lt e f = absurd (omega (arith, f))
+parts_at (d ∷ cs) (u ∷ ts) (n ∷ ms) zero c lt e f = refl
+parts_at (d ∷ cs) (u ∷ ts) (n ∷ ms) (suc i) c lt e f = parts_at cs ts ms i c (omega (arith, lt)) (omega (arith, e)) (omega (arith, f))
 
-pub part_count : (cs : List Context) (ms : List Memory) → length cs ≡ length ms → length (parts_of cs ms) ≡ length cs
-part_count [] ms e = refl
-part_count (c ∷ cs) [] e = absurd (omega (arith, e))
-part_count (c ∷ cs) (m ∷ ms) e = ap (λ (n : ℕ). suc n) (part_count cs ms (omega (arith, e)))
+pub part_count : (cs : List Context) (ts : List Addresses) (ms : List Memory) → length cs ≡ length ts → length ts ≡ length ms → length (parts_of cs ts ms) ≡ length cs
+part_count [] ts ms e f = refl
+part_count (c ∷ cs) [] ms e f = absurd (omega (arith, e))
+part_count (c ∷ cs) (t ∷ ts) [] e f = absurd (omega (arith, f))
+part_count (c ∷ cs) (t ∷ ts) (m ∷ ms) e f = ap (λ (n : ℕ). suc n) (part_count cs ts ms (omega (arith, e)) (omega (arith, f)))
+
+-- a user's trace that was put there is there
+pub trace_there : (ts : List Addresses) (u : ℕ) (t : Addresses) → u - 1 < length ts → trace_of (with_trace ts u t) u ≡ t
+trace_there ts u t within = get_or-set_same ts (u - 1) t [] within
 
 -- a user's part, by the user's place i
-pub part_is : (cs : List Context) (ms : List Memory) (u i : ℕ) (d : Context) → i ≡ u - 1 → i < 8 → AreEight cs ms → part u (world_of cs ms) ≡ private_of (get_or cs i d) (memory_of_user ms u)
-part_is cs ms u i d at low eight =
-    parts_at cs ms (u - 1) d (omega (arith, eight.contexts, at, low)) (eight.contexts ∙ sym eight.memories)
-    ∙ ap (λ (j : ℕ). private_of (get_or cs j d) (memory_of_user ms u)) (sym at)
+pub part_is : (cs : List Context) (ts : List Addresses) (ms : List Memory) (u i : ℕ) (d : Context) → i ≡ u - 1 → i < 8 → AreEight cs ts ms
+    → part u (world_of cs ts ms) ≡ private_of (get_or cs i d) (trace_of ts u) (memory_of_user ms u)
+part_is cs ts ms u i d at low eight =
+    parts_at cs ts ms (u - 1) d (omega (arith, eight.contexts, at, low)) (eight.contexts ∙ sym eight.traces) (eight.traces ∙ sym eight.memories)
+    ∙ ap (λ (j : ℕ). private_of (get_or cs j d) (trace_of ts u) (memory_of_user ms u)) (sym at)
 
--- the world after a change of one user's context and memory
-pub world_with : (cs : List Context) (ms ms' : List Memory) (u i : ℕ) (d c' : Context) (f : Private → Private) → i ≡ u - 1 → i < 8 → AreEight cs ms → private_of c' (memory_of_user ms' u) ≡ f (private_of (get_or cs i d) (memory_of_user ms u)) → ms' ≡ with_memory ms u (memory_of_user ms' u) → world_of (set cs i c') ms' ≡ with_part u (f (part u (world_of cs ms))) (world_of cs ms)
-world_with cs ms ms' u i d c' f at low eight next others =
-    let done : private_of c' (memory_of_user ms' u) ≡ f (part u (world_of cs ms)) =
-    next ∙ ap f (sym (part_is cs ms u i d at low eight)) in
-    let moved : parts_of (set cs (u - 1) c') ms' ≡ set (parts_of cs ms) (u - 1) (private_of c' (memory_of_user ms' u)) =
-    ap (parts_of (set cs (u - 1) c')) others ∙ parts_of-set cs ms (u - 1) c' (memory_of_user ms' u) (eight.contexts ∙ sym eight.memories) in
-    ap (λ (j : ℕ). world_of (set cs j c') ms') at
+-- the world after a change of one user's context, trace and memory
+pub world_with : (cs : List Context) (ts ts' : List Addresses) (ms ms' : List Memory) (u i : ℕ) (d c' : Context) (f : Private → Private) → i ≡ u - 1 → i < 8 → AreEight cs ts ms
+    → private_of c' (trace_of ts' u) (memory_of_user ms' u) ≡ f (private_of (get_or cs i d) (trace_of ts u) (memory_of_user ms u)) → ts' ≡ with_trace ts u (trace_of ts' u) → ms' ≡ with_memory ms u (memory_of_user ms' u)
+    → world_of (set cs i c') ts' ms' ≡ with_part u (f (part u (world_of cs ts ms))) (world_of cs ts ms)
+world_with cs ts ts' ms ms' u i d c' f at low eight next traces others =
+    let t' = trace_of ts' u in
+    let m' = memory_of_user ms' u in
+    let done : private_of c' t' m' ≡ f (part u (world_of cs ts ms)) = next ∙ ap f (sym (part_is cs ts ms u i d at low eight)) in
+    let moved : parts_of (set cs (u - 1) c') ts' ms' ≡ set (parts_of cs ts ms) (u - 1) (private_of c' t' m') =
+        ap (parts_of (set cs (u - 1) c') ts') others
+        ∙ ap (λ (l : List Addresses). parts_of (set cs (u - 1) c') l (with_memory ms u m')) traces
+        ∙ parts_of-set cs ts ms (u - 1) c' t' m' (eight.contexts ∙ sym eight.traces) (eight.traces ∙ sym eight.memories) in
+    ap (λ (j : ℕ). world_of (set cs j c') ts' ms') at
     ∙ ap (λ (ps : List Private). let r : World = record { parts = ps; cursor = 8 } in r) moved
-    ∙ ap (λ (p : Private). with_part u p (world_of cs ms)) done
+    ∙ ap (λ (p : Private). with_part u p (world_of cs ts ms)) done
 
 -- one user's memory was changed twice, so it was changed
 pub changed_twice : (u : ℕ) (p q r : List Memory) → q ≡ with_memory p u (memory_of_user q u) → r ≡ with_memory q u (memory_of_user r u) → r ≡ with_memory p u (memory_of_user r u)
@@ -54,7 +74,12 @@ changed_twice u p q r h k =
 pub part_put_back : (u : ℕ) (w : World) → with_part u (part u w) w ≡ w
 part_put_back u w = ap (λ (ps : List Private). record w { parts = ps }) (set-get_or w.parts (u - 1) None)
 
--- eight new contexts over eight empty memories are the new world
-pub new_users : (a b c d e f g h : Context) (ms : List Memory) → a ≡ new_context → b ≡ new_context → c ≡ new_context → d ≡ new_context → e ≡ new_context → f ≡ new_context → g ≡ new_context → h ≡ new_context → ms ≡ no_memories → world_of (a ∷ b ∷ c ∷ d ∷ e ∷ f ∷ g ∷ h ∷ []) ms ≡ new_world
+-- new contexts over empty traces and memories are absent users
+absent_parts : (n : ℕ) → parts_of (replicate n new_context) (replicate n []) (replicate n empty) ≡ replicate n None
+absent_parts zero = refl
+absent_parts (suc n) = ap (λ (ps : List Private). None ∷ ps) (absent_parts n)
+
+-- eight of them are the new world
+pub new_users : (cs : List Context) (ts : List Addresses) (ms : List Memory) → cs ≡ replicate 8 new_context → ts ≡ replicate 8 [] → ms ≡ no_memories → world_of cs ts ms ≡ new_world
 unfolding new_world
-new_users a b c d e f g h ms p q r s t u v w m = rw (p, q, r, s, t, u, v, w, m) refl
+new_users cs ts ms p q r = rw (p, q, r) (ap (λ (ps : List Private). let w : World = record { parts = ps; cursor = 8 } in w) (absent_parts 8))

@@ -4,8 +4,8 @@ use Rattle.rv_model.specs.declared.command.Cmd.{Cmd}
 use Rattle.rv_model.specs.Memory.{Memory}
 use Rattle.rv_model.specs.PrivateMachine.{Outcome, commanded}
 use Rattle.vec_monitor.specs.declared.context.Context.{Context}
-use Rattle.vec_monitor.specs.Parts.{present}
+use Rattle.vec_monitor.specs.Parts.{Addresses, present}
 
--- the outcome of a command, by the user's context and memory
-abbrev pub outcome : Context → Memory → Cmd → Outcome
-outcome c memory cmd = commanded (Some (present c memory)) (Ok cmd)
+-- the outcome of a command, by the user's context, trace and memory
+abbrev pub outcome : Context → Addresses → Memory → Cmd → Outcome
+outcome c trace memory cmd = commanded (Some (present c trace memory)) (Ok cmd)

@@ -1,9 +1,10 @@
 -- What the grammar of commands says of their arguments.
 use Rattle.std.specs.Prelude.{◌+◌, ◌*◌, ◌^◌, ◌≤◌}
 use Rattle.rv_model.specs.declared.command.Cmd.{Cmd}
-use Rattle.rv_model.specs.declared.command.Cmd.TheVariants.{Map}
+use Rattle.rv_model.specs.declared.command.Cmd.TheVariants.{Map, Peek}
 
--- pages to be mapped end at 2 ^ 48 or below
-abbrev pub FitsAddressSpace : Cmd → Type 0
-FitsAddressSpace (Map addr pages permissions) = addr + 4096 * pages ≤ 2 ^ 48
-FitsAddressSpace _ = Unit {0}
+-- pages to be mapped end at 2 ^ 48 or below, and at most 256 bytes are shown
+abbrev pub AreInRange : Cmd → Type 0
+AreInRange (Map addr pages permissions) = addr + 4096 * pages ≤ 2 ^ 48
+AreInRange (Peek addr count) = count ≤ 256
+AreInRange _ = Unit {0}

@@ -1,5 +1,5 @@
 -- What the fields of a machine stand for.
-use Rattle.std.specs.Prelude.{◌≡◌, length, List, [], ◌∷◌, false, if◌then◌else◌, Some, None}
+use Rattle.std.specs.Prelude.{ℕ, ◌-◌, ◌≡◌, length, slice_index_or, slice_set, List, [], ◌∷◌, Bool, true, false, if◌then◌else◌, Option, Some, None}
 use Rattle.rv_model.specs.declared.policy.Policy.TheVariants.{Keep}
 use Rattle.rv_model.specs.declared.scalar.Scalar.{Scalar}
 use Rattle.rv_model.specs.declared.vector_state.Seat.{Seat}
@@ -22,25 +22,39 @@ user_state scalar seat memory = record { scalar = scalar; vector = seat.state; m
 abbrev pub hart_state : Context → Memory → HartState
 hart_state c memory = user_state c.scalar c.seat memory
 
--- a user that has entered, stopped, without breakpoints or a trace
-abbrev pub present : Context → Memory → Present
-present c memory = record { hart = hart_state c memory; breakpoints = []; trace = []; running = false; fresh = false }
+-- the addresses of a trace, the oldest first
+abbrev pub Addresses : Type 0
+Addresses = List ℕ
 
--- the private machine of a context and a memory
-abbrev pub private_of : Context → Memory → Private
-private_of c memory = if c.entered then Some (present c memory) else None
+-- a user's trace among those of all users, user 1 first
+abbrev pub trace_of : List Addresses → ℕ → Addresses
+trace_of traces user = slice_index_or traces (user - 1) []
+
+-- the traces with another one for a user, and all others as they were
+abbrev pub with_trace : List Addresses → ℕ → Addresses → List Addresses
+with_trace traces user trace = slice_set traces (user - 1) trace
+
+-- a user that has entered, stopped, without breakpoints
+abbrev pub present : Context → Addresses → Memory → Present
+present c trace memory = record { hart = hart_state c memory; breakpoints = []; trace = trace; running = false; fresh = false }
+
+-- the private machine of a context, a trace and a memory
+abbrev pub private_of : Context → Addresses → Memory → Private
+private_of c trace memory = if c.entered then Some (present c trace memory) else None
 
 -- all private machines
-abbrev pub parts_of : List Context → List Memory → List Private
-parts_of [] memories = []
-parts_of (c ∷ cs) [] = []
-parts_of (c ∷ cs) (m ∷ memories) = private_of c m ∷ parts_of cs memories
+abbrev pub parts_of : List Context → List Addresses → List Memory → List Private
+parts_of [] traces memories = []
+parts_of (c ∷ cs) [] memories = []
+parts_of (c ∷ cs) (t ∷ ts) [] = []
+parts_of (c ∷ cs) (t ∷ ts) (m ∷ memories) = private_of c t m ∷ parts_of cs ts memories
 
--- the world of these contexts and memories; user 1 is the first to be granted a slice
-abbrev pub world_of : List Context → List Memory → World
-world_of contexts memories = record { parts = parts_of contexts memories; cursor = 8 }
+-- the world of these contexts, traces and memories; user 1 is the first to be granted a slice
+abbrev pub world_of : List Context → List Addresses → List Memory → World
+world_of contexts traces memories = record { parts = parts_of contexts traces memories; cursor = 8 }
 
--- there is a context and a memory for each user
-pub record AreEight (cs : List Context) (ms : List Memory) : Type 0 where
+-- there is a context, a trace and a memory for each user
+pub record AreEight (cs : List Context) (ts : List Addresses) (ms : List Memory) : Type 0 where
   pub contexts : length cs ≡ 8
+  pub traces : length ts ≡ 8
   pub memories : length ms ≡ 8

@@ -1,67 +1,78 @@
 //! A user's commands, carried out on what the machine holds of that user.
-ghost use Rattle.std.specs.Prelude.{◌≡◌, ◌+◌, ◌-◌, ◌*◌, ◌^◌, ◌<◌, ◌≤◌, [], Ok, Some, false, length};
-ghost use Rattle.rv_model.specs.PrivateMachine.{commanded, with_memory_refusal};
+ghost use Rattle.std.specs.Prelude.{◌≡◌, ◌+◌, ◌-◌, ◌<◌, [], Ok, Some, None, true, false, length, List, ℕ};
+ghost use Rattle.rv_model.specs.Memory.{Memory};
+ghost use Rattle.rv_model.specs.PrivateMachine.{commanded};
 ghost use Rattle.rv_model.specs.Text.{text};
 ghost use Rattle.user_mem.specs.Users.{memory_of_user, with_memory};
-ghost use Rattle.vec_monitor.specs.ParsedCommands.{FitsAddressSpace};
+ghost use Rattle.vec_monitor.specs.ParsedCommands.{AreInRange};
 ghost use Rattle.vec_monitor.specs.declared.context.Context.{Context};
 ghost use Rattle.vec_monitor.specs.CommandOutcomes.{outcome};
-ghost use Rattle.vec_monitor.specs.Parts.{present, private_of};
+ghost use Rattle.vec_monitor.specs.Parts.{present, private_of, trace_of, with_trace};
 
 use crate::context::Context;
+use crate::memory_commands::{map_pages, peek, poke};
+use crate::register_commands::{
+    set_pc, set_register, set_vector_register, show_control_registers, show_registers, show_state,
+    show_trace, show_vector_register,
+};
 use crate::stepping::steps;
+use crate::trace::Trace;
 use monitor_cmds::{Reply, Tag};
-use rv_model::{Access, ByteString, Cmd, MapRefusal, Permissions, Refusal, Scalar, User};
+use rv_model::{Cmd, Refusal, User};
 use std::alloc::Allocator;
 use user_mem::Pool;
 
-/// The bytes of a page.
-const PAGE_SIZE: u64 = 4096;
-
-/// Carries out a command of a user, and answers it.
-pub fn carry_out<A: Allocator>(
-    context: &mut Context,
-    pool: &mut Pool<A>,
-    user: User,
-    cmd: &Cmd,
-    reply: &mut Reply,
-)
+/// Carries out a command of a user, and answers it. `traces` are those of all users.
+#[tactic(auto, using(crate::proofs::PartLaws::trace_there))]
+pub fn carry_out<A: Allocator>(context: &mut Context, traces: &mut [Trace<A>], pool: &mut Pool<A>, user: User, cmd: &Cmd, reply: &mut Reply)
     requires clear { reply.old ≡ [] }
     requires within { user - 1 < length pool.old }
-    requires fits { FitsAddressSpace cmd.now }
-    ensures next { private_of context.new (memory_of_user pool.new user)
-        ≡ (commanded (private_of context.old (memory_of_user pool.old user)) (Ok cmd.now)).next }
+    requires traced { user - 1 < length traces.old }
+    requires range { AreInRange cmd.now }
+    ensures next { private_of context.new (trace_of traces.new user) (memory_of_user pool.new user)
+        ≡ (commanded (private_of context.old (trace_of traces.old user) (memory_of_user pool.old user)) (Ok cmd.now)).next }
+    ensures traces { traces.new ≡ with_trace traces.old user (trace_of traces.new user) }
     ensures others { pool.new ≡ with_memory pool.old user (memory_of_user pool.new user) }
     ensures reply { reply.new
-        ≡ text (48 + user) (commanded (private_of context.old (memory_of_user pool.old user)) (Ok cmd.now)).lines }
+        ≡ text (48 + user) (commanded (private_of context.old (trace_of traces.old user) (memory_of_user pool.old user)) (Ok cmd.now)).lines }
+{
+    let trace = &mut traces[user.index()];
+    carry_out_own(context, trace, pool, user, cmd, reply);
+}
+
+/// The same, with the user's own trace.
+fn carry_out_own<A: Allocator>(context: &mut Context, trace: &mut Trace<A>, pool: &mut Pool<A>, user: User, cmd: &Cmd, reply: &mut Reply)
+    requires clear { reply.old ≡ [] }
+    requires within { user - 1 < length pool.old }
+    requires range { AreInRange cmd.now }
+    ensures next { private_of context.new trace.new (memory_of_user pool.new user)
+        ≡ (commanded (private_of context.old trace.old (memory_of_user pool.old user)) (Ok cmd.now)).next }
+    ensures others { pool.new ≡ with_memory pool.old user (memory_of_user pool.new user) }
+    ensures reply { reply.new
+        ≡ text (48 + user) (commanded (private_of context.old trace.old (memory_of_user pool.old user)) (Ok cmd.now)).lines }
 {
     if context.entered {
-        carry_out_present(context, pool, user, cmd, reply);
+        carry_out_present(context, trace, pool, user, cmd, reply);
     } else {
-        carry_out_absent(context, pool, user, cmd, reply);
+        carry_out_absent(context, trace, pool, user, cmd, reply);
     }
 }
 
 /// The same for a user who is absent: only `enter` is accepted.
 #[tactic(auto, using(crate::specs::Lenders::memory_there, crate::specs::Lenders::same_memory, crate::proofs::CommandLaws::enter_absent, crate::proofs::CommandLaws::refused_absent))]
-fn carry_out_absent<A: Allocator>(
-    context: &mut Context,
-    pool: &mut Pool<A>,
-    user: User,
-    cmd: &Cmd,
-    reply: &mut Reply,
-)
+fn carry_out_absent<A: Allocator>(context: &mut Context, trace: &mut Trace<A>, pool: &mut Pool<A>, user: User, cmd: &Cmd, reply: &mut Reply)
     requires absent { context.old.entered ≡ false }
     requires clear { reply.old ≡ [] }
     requires within { user - 1 < length pool.old }
-    ensures next { private_of context.new (memory_of_user pool.new user)
-        ≡ (commanded (private_of context.old (memory_of_user pool.old user)) (Ok cmd.now)).next }
+    ensures next { private_of context.new trace.new (memory_of_user pool.new user)
+        ≡ (commanded (private_of context.old trace.old (memory_of_user pool.old user)) (Ok cmd.now)).next }
     ensures others { pool.new ≡ with_memory pool.old user (memory_of_user pool.new user) }
     ensures reply { reply.new
-        ≡ text (48 + user) (commanded (private_of context.old (memory_of_user pool.old user)) (Ok cmd.now)).lines }
+        ≡ text (48 + user) (commanded (private_of context.old trace.old (memory_of_user pool.old user)) (Ok cmd.now)).lines }
 {
     if let Cmd::Enter = cmd {
         *context = Context::entered();
+        trace.clear();
         pool.drop_user(user);
         monitor_cmds::entered(reply, Tag::User(user));
     } else {
@@ -70,94 +81,78 @@ fn carry_out_absent<A: Allocator>(
 }
 
 /// The same for a user who has entered.
-#[tactic(auto, using(crate::proofs::CommandLaws::enter_outcome, crate::proofs::CommandLaws::regs_outcome, crate::proofs::CommandLaws::step_outcome))]
-fn carry_out_present<A: Allocator>(
-    context: &mut Context,
-    pool: &mut Pool<A>,
-    user: User,
-    cmd: &Cmd,
-    reply: &mut Reply,
-)
+#[tactic(auto, using(crate::proofs::CommandLaws::entered_as, crate::specs::Lenders::same_memory))]
+fn carry_out_present<A: Allocator>(context: &mut Context, trace: &mut Trace<A>, pool: &mut Pool<A>, user: User, cmd: &Cmd, reply: &mut Reply)
+    requires present { context.old.entered ≡ true }
     requires clear { reply.old ≡ [] }
     requires within { user - 1 < length pool.old }
-    requires fits { FitsAddressSpace cmd.now }
-    ensures next { (outcome context.old (memory_of_user pool.old user) cmd.now).next
-        ≡ Some (present context.new (memory_of_user pool.new user)) }
-    ensures entered { context.new.entered ≡ context.old.entered }
+    requires range { AreInRange cmd.now }
+    ensures next { private_of context.new trace.new (memory_of_user pool.new user)
+        ≡ (outcome context.old trace.old (memory_of_user pool.old user) cmd.now).next }
     ensures others { pool.new ≡ with_memory pool.old user (memory_of_user pool.new user) }
-    ensures reply { reply.new ≡ text (48 + user) (outcome context.old (memory_of_user pool.old user) cmd.now).lines }
+    ensures reply { reply.new
+        ≡ text (48 + user) (outcome context.old trace.old (memory_of_user pool.old user) cmd.now).lines }
 {
-    let tag = Tag::User(user);
     match cmd {
-        Cmd::Enter => monitor_cmds::refused(reply, tag, Refusal::AlreadyEntered),
+        Cmd::Enter => refuse_entering(user, reply),
+        Cmd::Leave => leave(context, pool, user, reply),
         Cmd::Map {
             addr,
             pages,
             permissions,
         } => map_pages(pool, user, *addr, *pages, *permissions, reply),
         Cmd::Poke { addr, bytes } => poke(pool, user, *addr, bytes, reply),
-        Cmd::Regs => monitor_cmds::registers(reply, tag, &context.scalar),
-        Cmd::Step(count) => {
-            let stop = steps(context, pool, user, *count);
-            monitor_cmds::step_line(reply, tag, *count, context.scalar.pc, stop);
-        }
+        Cmd::Peek { addr, count } => peek(pool, user, *addr, *count, reply),
+        Cmd::Set { register, value } => set_register(context, user, *register, *value, reply),
+        Cmd::Regs => show_registers(context, user, reply),
+        Cmd::SetPc(addr) => set_pc(context, user, *addr, reply),
+        Cmd::Vreg { register, width } => show_vector_register(context, user, *register, *width, reply),
+        Cmd::Vset { register, bytes } => set_vector_register(context, user, *register, bytes, reply),
+        Cmd::Vcsr => show_control_registers(context, user, reply),
+        Cmd::Step(count) => step(context, trace, pool, user, *count, reply),
+        Cmd::State => show_state(context, user, reply),
+        Cmd::Trace => show_trace(trace, user, reply),
     }
 }
 
-/// The refusal of a command whose pages can't be mapped.
-fn refusal_of_pages(refusal: MapRefusal) -> Refusal
-    ensures { result ≡ with_memory_refusal refusal }
+/// `enter` of a user who has entered.
+#[tactic(auto, using(crate::proofs::CommandLaws::enter_outcome))]
+fn refuse_entering(user: User, reply: &mut Reply)
+    requires clear { reply.old ≡ [] }
+    ensures next { (c : Context) (trace : List ℕ) (memory : Memory) → (outcome c trace memory Cmd.Enter).next
+        ≡ Some (present c trace memory) }
+    ensures reply { (c : Context) (trace : List ℕ) (memory : Memory) → reply.new
+        ≡ text (48 + user) (outcome c trace memory Cmd.Enter).lines }
 {
-    match refusal {
-        MapRefusal::Quota => Refusal::Quota,
-        MapRefusal::AlreadyMapped => Refusal::AlreadyMapped,
-    }
+    monitor_cmds::refused(reply, Tag::User(user), Refusal::AlreadyEntered);
 }
 
-/// `map`: pages of zeros.
-#[tactic(auto, using(crate::specs::Lenders::memory_there, crate::proofs::CommandLaws::map_accepted, crate::proofs::CommandLaws::map_refused))]
-fn map_pages<A: Allocator>(
-    pool: &mut Pool<A>,
-    user: User,
-    addr: u64,
-    pages: usize,
-    permissions: Permissions,
-    reply: &mut Reply,
-)
+/// `leave`: the user is absent, and the user's pages are free.
+#[tactic(auto, using(crate::specs::Lenders::memory_there, crate::proofs::CommandLaws::leave_outcome))]
+fn leave<A: Allocator>(context: &mut Context, pool: &mut Pool<A>, user: User, reply: &mut Reply)
     requires clear { reply.old ≡ [] }
     requires within { user - 1 < length pool.old }
-    requires fits { addr + 4096 * pages ≤ 2 ^ 48 }
-    ensures next { (c : Context) → (outcome c (memory_of_user pool.old user) (Cmd.Map addr pages permissions)).next
-        ≡ Some (present c (memory_of_user pool.new user)) }
+    ensures absent { context.new.entered ≡ false }
+    ensures next { (trace : List ℕ) (memory : Memory) → (outcome context.old trace memory Cmd.Leave).next ≡ None }
     ensures others { pool.new ≡ with_memory pool.old user (memory_of_user pool.new user) }
-    ensures reply { (c : Context) → reply.new
-        ≡ text (48 + user) (outcome c (memory_of_user pool.old user) (Cmd.Map addr pages permissions)).lines }
+    ensures reply { (trace : List ℕ) (memory : Memory) → reply.new
+        ≡ text (48 + user) (outcome context.old trace memory Cmd.Leave).lines }
 {
-    match pool.map(user, addr / PAGE_SIZE, pages, permissions) {
-        Ok(()) => monitor_cmds::ok(reply, Tag::User(user)),
-        Err(refusal) => monitor_cmds::refused(reply, Tag::User(user), refusal_of_pages(refusal)),
-    }
+    *context = Context::new();
+    pool.drop_user(user);
+    monitor_cmds::left(reply, Tag::User(user));
 }
 
-/// `poke`: bytes written to mapped pages, whatever these allow a program.
-#[tactic(auto, using(crate::specs::Lenders::memory_there, crate::proofs::CommandLaws::poke_accepted, crate::proofs::CommandLaws::poke_refused))]
-fn poke<A: Allocator>(
-    pool: &mut Pool<A>,
-    user: User,
-    addr: u64,
-    bytes: &ByteString,
-    reply: &mut Reply,
-)
+/// `step`: at most `count` instructions.
+fn step<A: Allocator>(context: &mut Context, trace: &mut Trace<A>, pool: &mut Pool<A>, user: User, count: usize, reply: &mut Reply)
     requires clear { reply.old ≡ [] }
-    requires within { user - 1 < length pool.old }
-    ensures next { (c : Context) → (outcome c (memory_of_user pool.old user) (Cmd.Poke addr bytes.now)).next
-        ≡ Some (present c (memory_of_user pool.new user)) }
+    ensures next { (outcome context.old trace.old (memory_of_user pool.old user) (Cmd.Step count)).next
+        ≡ Some (present context.new trace.new (memory_of_user pool.new user)) }
+    ensures entered { context.new.entered ≡ context.old.entered }
     ensures others { pool.new ≡ with_memory pool.old user (memory_of_user pool.new user) }
-    ensures reply { (c : Context) → reply.new
-        ≡ text (48 + user) (outcome c (memory_of_user pool.old user) (Cmd.Poke addr bytes.now)).lines }
+    ensures reply { reply.new
+        ≡ text (48 + user) (outcome context.old trace.old (memory_of_user pool.old user) (Cmd.Step count)).lines }
 {
-    match pool.write(user, addr, Access::Monitor, bytes.as_slice()) {
-        Ok(()) => monitor_cmds::ok(reply, Tag::User(user)),
-        Err(_) => monitor_cmds::refused(reply, Tag::User(user), Refusal::NotMapped),
-    }
+    let stop = steps(context, trace, pool, user, count);
+    monitor_cmds::step_line(reply, Tag::User(user), count, context.scalar.pc, stop);
 }

@@ -2,6 +2,8 @@
 #![tactic(auto)]
 
 mod addressee;
+#[cfg(test)]
+mod command_tests;
 mod commands;
 mod context;
 mod device;
@@ -10,13 +12,16 @@ mod image;
 mod lenders;
 mod line;
 mod machine;
+mod memory_commands;
 mod new_fault;
 mod program;
+mod register_commands;
 mod script;
 mod stepping;
 mod streams;
 #[cfg(test)]
 mod tests;
+mod trace;
 mod users;
 
 pub use device::{DeviceFault, Sink, Source};

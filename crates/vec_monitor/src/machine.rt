@@ -41,6 +41,8 @@ impl<'a, A: Allocator> Machine<'a, A> {
     /// A machine whose users are all absent, with slices of `quantum` ticks. Refused for the first
     /// fault that applies, and for want of memory last; no later call takes memory.
     pub fn new(alloc: A, quantum: usize, images: &'a [Image<'a>]) -> Result<Self, NewFault>
+    where
+        A: Clone,
         ensures new { IfOk result (λ machine.
             machine ≡ record { setup = setup_of quantum images.now; world = new_world }) }
         ensures faultless { IsOk result → new_fault (setup_of quantum images.now) ≡ None }

@@ -8,6 +8,7 @@ ghost use Rattle.vec_monitor.specs.Parts.{user_state, present};
 
 use crate::context::Context;
 use crate::lenders::{OwnVectors, UserMemory};
+use crate::trace::Trace;
 use hart::{Vectors, View, step};
 use rv_model::{Policy, Scalar, Seat, StepEnd, Stop, User};
 use std::alloc::Allocator;
@@ -78,21 +79,24 @@ fn step_once<A: Allocator>(
 /// At most `count` instructions, fewer where one stops the program. Answers why it stopped.
 pub fn steps<A: Allocator>(
     context: &mut Context,
+    trace: &mut Trace<A>,
     pool: &mut Pool<A>,
     user: User,
     count: usize,
 ) -> Option<Stop>
-    ensures state { (steps_spec count true (present context.old (memory_of_user pool.old user))).state
-        ≡ present context.new (memory_of_user pool.new user) }
-    ensures stop { (steps_spec count true (present context.old (memory_of_user pool.old user))).stop ≡ result }
+    ensures state { (steps_spec count true (present context.old trace.old (memory_of_user pool.old user))).state
+        ≡ present context.new trace.new (memory_of_user pool.new user) }
+    ensures stop { (steps_spec count true (present context.old trace.old (memory_of_user pool.old user))).stop ≡ result }
     ensures entered { context.new.entered ≡ context.old.entered }
     ensures others { pool.new ≡ with_memory pool.old user (memory_of_user pool.new user) }
 {
     for _ in 0..count {
+        let addr = context.scalar.pc;
         let end = step_once(&mut context.scalar, &mut context.seat, pool, user);
         if let Some(stop) = stop_of(end) {
             return Some(stop);
         }
+        trace.record(addr);
     }
     None
 }

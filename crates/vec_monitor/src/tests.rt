@@ -8,7 +8,7 @@ use std::alloc::{AllocError, Global};
 use std::test::Fail;
 
 /// The output of a script on a new machine.
-fn output_of(alloc: Global, script: &[u8]) -> Result<Vec<u8>, Fail> {
+pub fn output_of(alloc: Global, script: &[u8]) -> Result<Vec<u8>, Fail> {
     let mut machine = Machine::new(alloc, 100, &[])?;
     let mut output = Vec::new(alloc);
     let mut source = ReaderSource::new(script);

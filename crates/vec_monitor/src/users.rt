@@ -1,22 +1,25 @@
 //! What a machine holds of its eight users.
-ghost use Rattle.std.specs.Prelude.{◌≡◌, ◌+◌, length, IfOk};
+ghost use Rattle.std.specs.Prelude.{◌≡◌, ◌+◌, [], length, replicate, IfOk};
 ghost use Rattle.rv_model.specs.PrivateMachine.{commanded};
 ghost use Rattle.rv_model.specs.Commands.{parse as parse_spec};
 ghost use Rattle.rv_model.specs.Script.{part, with_part, new_world};
 ghost use Rattle.rv_model.specs.Text.{text};
+ghost use Rattle.vec_monitor.specs.Parts.{new_context};
 
 use crate::commands::carry_out;
 use crate::context::Context;
+use crate::trace::Trace;
 use monitor_cmds::{Reply, Tag, parse};
 use rv_model::User;
-use std::alloc::Allocator;
+use std::alloc::{AllocError, Allocator};
 use std::marker::Model;
 use user_mem::{NoMemory, Pool};
 
-/// The contexts of the eight users, and the pool with the memory of each.
+/// The contexts and traces of the eight users, and the pool with the memory of each.
 #[derive(Drop)]
 pub struct Users<A: Allocator> {
     contexts: [Context; 8],
+    traces: Vec<Trace<A>, A>,
     pool: Pool<A>,
 }
 
@@ -30,28 +33,56 @@ impl<A: Allocator> Model for Users<A> {
 
     ghost coded = { Prim.hlevel (codes, coded_memory) };
 
-    ghost view = { λ u. world_of u.contexts u.pool };
+    ghost view = { λ u. world_of u.contexts u.traces.items u.pool };
 
-    ghost invariant = { λ u. AreEight u.contexts u.pool };
+    ghost invariant = { λ u. AreEight u.contexts u.traces.items u.pool };
+}
+
+/// How many users there are.
+const USER_COUNT: usize = 8;
+
+/// Eight contexts of absent users.
+fn absent_contexts() -> [Context; 8]
+    ensures { result ≡ replicate 8 new_context }
+{
+    [
+        Context::new(),
+        Context::new(),
+        Context::new(),
+        Context::new(),
+        Context::new(),
+        Context::new(),
+        Context::new(),
+        Context::new(),
+    ]
+}
+
+/// Eight empty traces.
+fn empty_traces<A: Allocator + Clone>(alloc: &A) -> Result<Vec<Trace<A>, A>, AllocError>
+    ensures { IfOk result (λ traces. traces.items ≡ replicate 8 []) }
+{
+    let mut traces = Vec::with_capacity(alloc.clone()?, USER_COUNT)?;
+    for _ in 0..USER_COUNT {
+        traces.push(Trace::new(alloc.clone()?)?)?;
+    }
+    Ok(traces)
 }
 
 impl<A: Allocator> Users<A> {
     /// Eight users who are absent.
+    #[tactic(auto, using(crate::proofs::PartLaws::new_users))]
     pub fn new(alloc: A) -> Result<Self, NoMemory>
+    where
+        A: Clone,
         ensures { IfOk result (λ users. users ≡ new_world) }
     {
+        let Ok(traces) = empty_traces(&alloc) else {
+            return Err(NoMemory);
+        };
         let pool = Pool::new(alloc)?;
         Ok(Users {
-            contexts: [
-                Context::new(),
-                Context::new(),
-                Context::new(),
-                Context::new(),
-                Context::new(),
-                Context::new(),
-                Context::new(),
-                Context::new(),
-            ],
+            contexts: absent_contexts(),
+            traces,
             pool,
         })
     }
@@ -66,7 +97,14 @@ impl<A: Allocator> Users<A> {
         match parse(line) {
             Ok(cmd) => {
                 let context = &mut self.contexts[user.index()];
-                carry_out(context, &mut self.pool, user, &cmd, reply);
+                carry_out(
+                    context,
+                    self.traces.as_mut_slice(),
+                    &mut self.pool,
+                    user,
+                    &cmd,
+                    reply,
+                );
             }
             Err(refusal) => monitor_cmds::refused(reply, Tag::User(user), refusal),
         }
