@@ -2,7 +2,7 @@
 use Rattle.std.proofs.Common.{◌≡◌, ℕ, zero, suc, ◌+◌, ◌*◌, ◌/◌, ◌%◌, ◌^◌, ◌<◌, ◌≤◌, List, [], ◌∷◌, ◌++◌, get_or, Bool, true, false, refl, ap, arith, eqb, cond, Option, Some, None, Ok, Err, lit<}
 use Rattle.std.specs.Prelude.{nat_le, not, ◌&&◌, decimal, codes, ◌||◌, ◌-◌, ◌==◌, slice_index, is_none}
 use Rattle.std.specs.Str.{bytes_eq}
-use Rattle.std.specs.Int.{to_be_bytes, w64}
+use Rattle.std.specs.Int.{to_be_bytes, w64, byte_len}
 use Rattle.std.proofs.lemmas.Bool.{leb-true}
 use Rattle.std.proofs.lemmas.Bool.Decides.{nat_tests}
 use Rattle.std.proofs.lemmas.Fmt.{decimal_by_steps}
@@ -12,15 +12,15 @@ use Rattle.rv_model.specs.declared.command.Cmd.TheVariants.{Enter, Map, Poke, Re
 use Rattle.rv_model.specs.declared.command.Refusal.{Refusal}
 use Rattle.rv_model.specs.declared.command.Refusal.TheVariants.{UnknownCommand, Argument, NotEntered, AlreadyEntered, Running, Quota, NotMapped, AlreadyMapped}
 use Rattle.rv_model.specs.declared.instruction.Instr.{Instr}
-use Rattle.rv_model.specs.declared.instruction.Instr.TheVariants.{OpImm, System}
+use Rattle.rv_model.specs.declared.instruction.Instr.TheVariants.{Upper, Jump, JumpRegister, Branch, Load, Store, OpImm, ShiftImm, ShiftImmWord, Op, Fence, System, Csr, CsrImmediate}
 use Rattle.rv_model.specs.declared.memory.Access.TheVariants.{Fetch}
 use Rattle.rv_model.specs.declared.operations.SystemOp.{SystemOp}
 use Rattle.rv_model.specs.declared.operations.SystemOp.TheVariants as system
 use Rattle.rv_model.specs.declared.scalar.Scalar.{Scalar}
 use Rattle.rv_model.specs.declared.step_end.Cause.{Cause}
-use Rattle.rv_model.specs.declared.step_end.Cause.TheVariants.{FetchAccess, IllegalInstruction}
+use Rattle.rv_model.specs.declared.step_end.Cause.TheVariants.{MisalignedTarget, FetchAccess, IllegalInstruction, LoadAccess, StoreAccess}
 use Rattle.rv_model.specs.declared.step_end.StepEnd.{StepEnd}
-use Rattle.rv_model.specs.declared.step_end.StepEnd.TheVariants.{Ran, Exit, Fault}
+use Rattle.rv_model.specs.declared.step_end.StepEnd.TheVariants.{Ran, Exit, Ebreak, Fault}
 use Rattle.rv_model.specs.declared.step_end.Stop.{Stop}
 use Rattle.rv_model.specs.declared.step_end.Stop.TheVariants as stop
 use Rattle.rv_model.specs.Arguments.{number, within, decimal_number, address, permissions, byte_string}
@@ -30,9 +30,22 @@ use Rattle.rv_model.specs.InstructionTable.{scan, table}
 use Rattle.rv_model.specs.Memory.{can_access}
 use Rattle.rv_model.specs.PrivateMachine.{Private, Present, Outcome, Halted, Event, Command, Slice, steps, slice_steps, stop_of, at_breakpoint, refusal_of, carried_out, accepted, decided, commanded, sliced, slice_ends, event}
 use Rattle.rv_model.specs.Replies.{hex16, refused, register_text, register_line, register_lines, regs_lines, stop_line, step_line}
-use Rattle.rv_model.specs.Scalar.{read_register}
+use Rattle.rv_model.specs.Scalar.{read_register, with_register}
 use Rattle.rv_model.specs.Setup.{Setup}
-use Rattle.rv_model.specs.Step.{HartState, Stepped, step, executed, environment_call, system_step, op_imm_value, writes_or_faults, word_at}
+use Rattle.rv_model.specs.ScalarStep.{jumps, jump_step, branch_step, load_step, store_step, csr_step, environment_call, system_step}
+use Rattle.rv_model.specs.Step.{HartState, Stepped, step, executed, word_at}
+use Rattle.rv_model.specs.VectorControl.{is_write, csr_form}
+use Rattle.rv_model.specs.VectorStep.{after_vector, vector_executed, vector_step}
+use Rattle.rv_model.specs.ControlRegisters.{control_register, is_read_only}
+use Rattle.rv_model.specs.ControlTransfer.{is_aligned, is_taken, jump_target, register_target, branch_target}
+use Rattle.rv_model.specs.LoadsAndStores.{access_address, load_width, store_width}
+use Rattle.rv_model.specs.declared.control_register.ControlRegister.{ControlRegister}
+use Rattle.rv_model.specs.declared.operations.CsrOp.{CsrOp}
+use Rattle.rv_model.specs.declared.operations.LoadOp.{LoadOp}
+use Rattle.rv_model.specs.declared.operations.StoreOp.{StoreOp}
+use Rattle.rv_model.specs.declared.vector_end.VEnd.{VEnd}
+use Rattle.rv_model.specs.declared.vector_end.VEnd.TheVariants as vector_end
+use Rattle.rv_model.specs.declared.memory.Access.TheVariants as access
 use Rattle.rv_model.specs.Text.{is_newline, is_line, IsLine, AreLines}
 use Rattle.rv_model.specs.Words.{words}
 use Rattle.rv_model.proofs.LineLaws.{both, both_of}
@@ -110,8 +123,11 @@ unfolding regs_lines
 regs_lines_lines s = both_of _ _ (is_line-append (codes "pc ") (hex16 s.pc) refl (hex16_line s.pc)) (register_lines_lines 8 0 s (lit< tt))
 
 cause_line : (cause : Cause) → IsLine (decimal (cause_number cause))
+cause_line MisalignedTarget = decimal_line 0 (lit< tt)
 cause_line FetchAccess = decimal_line 1 (lit< tt)
 cause_line IllegalInstruction = decimal_line 2 (lit< tt)
+cause_line LoadAccess = decimal_line 5 (lit< tt)
+cause_line StoreAccess = decimal_line 7 (lit< tt)
 
 -- the numbers of an end and of a stop
 abbrev EndFits : StepEnd → Type 0
@@ -129,6 +145,7 @@ HaltFits (Some reason) = StopFits reason
 stop_line_line : (pc : ℕ) (reason : Stop) → StopFits reason → IsLine (stop_line pc reason)
 unfolding stop_line
 stop_line_line pc stop.Breakpoint fits = is_line-append (codes "break pc=") (hex16 pc) refl (hex16_line pc)
+stop_line_line pc stop.Ebreak fits = is_line-append (codes "ebreak pc=") (hex16 pc) refl (hex16_line pc)
 stop_line_line pc (stop.Exit status) fits =
     is_line-append (codes "exit " ++ decimal status ++ codes " pc=") (hex16 pc)
     (is_line-append (codes "exit " ++ decimal status) (codes " pc=") (is_line-append (codes "exit ") (decimal status) refl (decimal_line status (omega (arith, fits)))) refl)
@@ -158,20 +175,57 @@ environment_call_fits : (s : HartState) → Fits (environment_call s)
 unfolding environment_call
 environment_call_fits s = of_either Fits (read_register s.scalar 17 == 93 || read_register s.scalar 17 == 94) _ _ (omega arith) tt
 
-writes_fits : (value : Option ℕ) (rd word : ℕ) (s : HartState) → Fits (writes_or_faults value rd word s)
-writes_fits None rd word s = tt
-writes_fits (Some value) rd word s = tt
+jumps_fits : (target : ℕ) (scalar : Scalar) (s : HartState) → Fits (jumps target scalar s)
+jumps_fits target scalar s = of_either Fits (is_aligned target) _ _ tt tt
 
-system_fits : (op : SystemOp) (word : ℕ) (s : HartState) → Fits (system_step op word s)
-system_fits system.Ecall word s = environment_call_fits s
-system_fits system.Ebreak word s = tt
+jump_fits : (rd target : ℕ) (s : HartState) → Fits (jump_step rd target s)
+jump_fits rd target s = jumps_fits target (with_register rd ((s.scalar.pc + 4) % 2 ^ 64) s.scalar) s
+
+branch_fits : (taken : Bool) (target : ℕ) (s : HartState) → Fits (branch_step taken target s)
+branch_fits taken target s = of_either Fits taken _ _ (jumps_fits target s.scalar s) tt
+
+load_fits : (op : LoadOp) (rd addr : ℕ) (s : HartState) → Fits (load_step op rd addr s)
+load_fits op rd addr s = of_either Fits (can_access access.Load s.memory addr (byte_len (load_width op))) _ _ tt tt
+
+store_fits : (op : StoreOp) (addr value : ℕ) (s : HartState) → Fits (store_step op addr value s)
+store_fits op addr value s = of_either Fits (can_access access.Store s.memory addr (byte_len (store_width op))) _ _ tt tt
+
+csr_fits : (register : Option ControlRegister) (op : CsrOp) (rd source operand word : ℕ) (s : HartState) → Fits (csr_step register op rd source operand word s)
+csr_fits None op rd source operand word s = tt
+csr_fits (Some register) op rd source operand word s =
+    of_either Fits (is_write op source && is_read_only register) _ _ tt (of_either Fits (is_write op source) _ _ tt tt)
+
+system_fits : (op : SystemOp) (s : HartState) → Fits (system_step op s)
+system_fits system.Ecall s = environment_call_fits s
+system_fits system.Ebreak s = tt
+
+after_vector_fits : (end : VEnd) (word : ℕ) (s : HartState) → Fits (after_vector end word s)
+after_vector_fits vector_end.Done word s = tt
+after_vector_fits vector_end.Illegal word s = tt
+after_vector_fits (vector_end.Fault store addr) word s = tt
+
+vector_step_fits : (limit : ℕ) (i : Instr) (word : ℕ) (s : HartState) → Fits (vector_step limit i word s)
+vector_step_fits limit i word s = after_vector_fits (vector_executed limit i s).end word (vector_executed limit i s).state
 
 executed_fits : (limit : ℕ) (i : Option Instr) (word : ℕ) (s : HartState) → Fits (executed limit i word s)
 unfolding executed
 executed_fits limit None word s = tt
-executed_fits limit (Some (OpImm op rd rs1 imm)) word s = writes_fits (op_imm_value op (read_register s.scalar rs1) imm) rd word s
-executed_fits limit (Some (System op)) word s = system_fits op word s
-executed_fits limit (Some _) word s = tt
+executed_fits limit (Some (Upper op rd imm)) word s = tt
+executed_fits limit (Some (Jump rd offset)) word s = jump_fits rd (jump_target s.scalar.pc offset) s
+executed_fits limit (Some (JumpRegister rd rs1 imm)) word s = jump_fits rd (register_target (read_register s.scalar rs1) imm) s
+executed_fits limit (Some (Branch op rs1 rs2 offset)) word s =
+    branch_fits (is_taken op (read_register s.scalar rs1) (read_register s.scalar rs2)) (branch_target s.scalar.pc offset) s
+executed_fits limit (Some (Load op rd rs1 imm)) word s = load_fits op rd (access_address (read_register s.scalar rs1) imm) s
+executed_fits limit (Some (Store op rs1 rs2 imm)) word s = store_fits op (access_address (read_register s.scalar rs1) imm) (read_register s.scalar rs2) s
+executed_fits limit (Some (OpImm op rd rs1 imm)) word s = tt
+executed_fits limit (Some (ShiftImm op rd rs1 amount)) word s = tt
+executed_fits limit (Some (ShiftImmWord op rd rs1 amount)) word s = tt
+executed_fits limit (Some (Op op rd rs1 rs2)) word s = tt
+executed_fits limit (Some (Fence rd rs1 ordering)) word s = tt
+executed_fits limit (Some (System op)) word s = system_fits op s
+executed_fits limit (Some (Csr op rd rs1 csr)) word s = csr_fits (control_register csr) op rd rs1 (read_register s.scalar rs1) word s
+executed_fits limit (Some (CsrImmediate op rd imm csr)) word s = csr_fits (control_register csr) (csr_form op) rd imm imm word s
+executed_fits limit (Some i) word s = vector_step_fits limit i word s
 
 step_fits : (limit : ℕ) (s : HartState) → Fits (step limit s)
 unfolding step
@@ -181,6 +235,7 @@ step_fits limit s =
 stop_of_fits : (end : StepEnd) → EndFits end → HaltFits (stop_of end)
 stop_of_fits Ran fits = tt
 stop_of_fits (Exit status) fits = fits
+stop_of_fits Ebreak fits = tt
 stop_of_fits (Fault cause pc value) fits = tt
 
 abbrev RunFits : Halted → Type 0

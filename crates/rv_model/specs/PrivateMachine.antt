@@ -13,7 +13,7 @@ use Rattle.rv_model.specs.declared.memory.MapRefusal.{MapRefusal}
 use Rattle.rv_model.specs.declared.memory.MapRefusal.TheVariants.{Quota, AlreadyMapped}
 use Rattle.rv_model.specs.declared.policy.Policy.TheVariants.{Keep}
 use Rattle.rv_model.specs.declared.step_end.StepEnd.{StepEnd}
-use Rattle.rv_model.specs.declared.step_end.StepEnd.TheVariants.{Ran, Exit, Fault}
+use Rattle.rv_model.specs.declared.step_end.StepEnd.TheVariants.{Ran, Exit, Ebreak, Fault}
 use Rattle.rv_model.specs.declared.step_end.Stop.{Stop}
 use Rattle.rv_model.specs.declared.step_end.Stop.TheVariants as stop
 use Rattle.rv_model.specs.Commands.{Parsed, parse}
@@ -51,6 +51,7 @@ initial = record {
 abbrev pub stop_of : StepEnd → Option Stop
 stop_of Ran = None
 stop_of (Exit status) = Some (stop.Exit status)
+stop_of Ebreak = Some stop.Ebreak
 stop_of (Fault cause pc value) = Some (stop.Fault cause value)
 
 abbrev pub at_breakpoint : Present → Bool

@@ -6,7 +6,7 @@ use Rattle.rv_model.specs.declared.command.Refusal.{Refusal}
 use Rattle.rv_model.specs.declared.command.Refusal.TheVariants.{UnknownCommand, Argument, NotEntered, AlreadyEntered, Running, Quota, NotMapped, AlreadyMapped}
 use Rattle.rv_model.specs.declared.scalar.Scalar.{Scalar}
 use Rattle.rv_model.specs.declared.step_end.Stop.{Stop}
-use Rattle.rv_model.specs.declared.step_end.Stop.TheVariants.{Breakpoint, Exit, Fault}
+use Rattle.rv_model.specs.declared.step_end.Stop.TheVariants.{Breakpoint, Ebreak, Exit, Fault}
 use Rattle.rv_model.specs.Causes.{cause_number}
 
 -- 16 hexadecimal digits, the highest first
@@ -43,6 +43,7 @@ regs_lines s = (codes "pc " ++ hex16 s.pc) ∷ register_lines 8 0 s
 -- why a program stopped, and where it stands
 unfoldable pub stop_line : ℕ → Stop → List ℕ
 stop_line pc Breakpoint = codes "break pc=" ++ hex16 pc
+stop_line pc Ebreak = codes "ebreak pc=" ++ hex16 pc
 stop_line pc (Exit status) = codes "exit " ++ decimal status ++ codes " pc=" ++ hex16 pc
 stop_line pc (Fault cause value) = codes "fault cause=" ++ decimal (cause_number cause) ++ codes " pc=" ++ hex16 pc ++ codes " value=" ++ hex16 value
 

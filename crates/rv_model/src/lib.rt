@@ -2,6 +2,7 @@
 #![tactic(auto)]
 
 mod command;
+mod control_register;
 mod instruction;
 mod laws;
 mod memory;
@@ -13,10 +14,13 @@ mod scalar;
 mod source;
 mod step_end;
 mod user;
+mod vector_end;
+mod vector_request;
 mod vector_state;
 mod vector_type;
 
 pub use command::{ByteString, Cmd, Refusal};
+pub use control_register::ControlRegister;
 pub use instruction::Instr;
 pub use laws::{each_user_alone, small_scripts_print};
 pub use memory::{Access, Fault, MapRefusal, Permissions, memory_laws};
@@ -27,5 +31,7 @@ pub use scalar::Scalar;
 pub use source::Source;
 pub use step_end::{Cause, StepEnd, Stop};
 pub use user::User;
+pub use vector_end::VEnd;
+pub use vector_request::{RequestedLength, VectorRequest};
 pub use vector_state::{RoundingMode, Seat, VConf, VFile, VState};
 pub use vector_type::{Lmul, Sew, VType};

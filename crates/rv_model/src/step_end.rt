@@ -5,10 +5,16 @@ ghost use Rattle.rv_model.specs.Causes.{cause_number};
 /// Why an instruction faults (Privileged Architecture 20211203, section 4.1.9, "scause").
 #[derive(Clone, Copy, Debug, PartialEq, Eq)]
 pub enum Cause {
+    /// A jump or branch to an address that isn't divisible by 4.
+    MisalignedTarget,
     /// An instruction fetch that isn't allowed.
     FetchAccess,
     /// A word that is no instruction.
     IllegalInstruction,
+    /// A load that isn't wholly allowed.
+    LoadAccess,
+    /// A store that isn't wholly allowed.
+    StoreAccess,
 }
 
 impl Cause {
@@ -17,8 +23,11 @@ impl Cause {
         ensures { result ≡ cause_number self }
     {
         match self {
+            Cause::MisalignedTarget => 0,
             Cause::FetchAccess => 1,
             Cause::IllegalInstruction => 2,
+            Cause::LoadAccess => 5,
+            Cause::StoreAccess => 7,
         }
     }
 }
@@ -30,6 +39,8 @@ pub enum StepEnd {
     Ran,
     /// The program exits with this status.
     Exit(u8),
+    /// It is a breakpoint of the program's own, which stops there.
+    Ebreak,
     /// The instruction at `pc` faults; `value` is the address or the word that caused it.
     Fault { cause: Cause, pc: u64, value: u64 },
 }
@@ -39,6 +50,8 @@ pub enum StepEnd {
 pub enum Stop {
     /// A breakpoint stands at the program counter.
     Breakpoint,
+    /// An EBREAK instruction stands at the program counter.
+    Ebreak,
     /// The program exits with this status.
     Exit(u8),
     /// An instruction faults; `value` is the address or the word that caused it.

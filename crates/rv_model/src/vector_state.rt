@@ -23,14 +23,26 @@ impl Model for VConf {
 }
 
 impl VConf {
-    ghost use Rattle.std.specs.Prelude.{◌≡◌};
-    ghost use Rattle.rv_model.specs.VectorConfiguration.{initial_configuration};
+    ghost use Rattle.std.specs.Prelude.{◌≡◌, ◌≤◌, IfSome};
+    ghost use Rattle.rv_model.specs.VectorConfiguration.{initial_configuration, IsSupported, vlmax};
 
     /// `vill` alone, with a length of 0.
     pub fn vill() -> VConf
         ensures { result ≡ initial_configuration }
     {
         VConf { vl: 0, vtype: None }
+    }
+
+    /// A supported vector type, and a length that it allows.
+    pub fn new(vl: u16, vtype: VType) -> VConf
+        requires supported { IsSupported vtype }
+        requires length { vl ≤ vlmax vtype }
+        ensures { result ≡ record { vl = vl; vtype = Some vtype } }
+    {
+        VConf {
+            vl,
+            vtype: Some(vtype),
+        }
     }
 
     /// The vector length in elements, 0 to 256.
@@ -42,7 +54,9 @@ impl VConf {
 
     /// The vector type; `None` is `vill`.
     pub fn vtype(self) -> Option<VType>
-        ensures { result ≡ self.vtype }
+        ensures value { result ≡ self.vtype }
+        ensures supported { IfSome result (λ t. IsSupported t) }
+        ensures length { IfSome result (λ t. self.vl ≤ vlmax t) }
     {
         self.vtype
     }
@@ -55,6 +69,35 @@ pub enum RoundingMode {
     NearestEven,
     Down,
     Odd,
+}
+
+impl RoundingMode {
+    ghost use Rattle.std.specs.Prelude.{◌≡◌};
+    ghost use Rattle.rv_model.specs.RoundingModes.{rounding_mode, rounding_number};
+
+    /// The number of the mode, as `vxrm` holds it.
+    pub fn number(self) -> u8
+        ensures { result ≡ rounding_number self }
+    {
+        match self {
+            RoundingMode::NearestUp => 0,
+            RoundingMode::NearestEven => 1,
+            RoundingMode::Down => 2,
+            RoundingMode::Odd => 3,
+        }
+    }
+
+    /// The mode that the low two bits of a number say.
+    pub fn with_number(number: u64) -> RoundingMode
+        ensures { result ≡ rounding_mode number }
+    {
+        match number % 4 {
+            0 => RoundingMode::NearestUp,
+            1 => RoundingMode::NearestEven,
+            2 => RoundingMode::Down,
+            _ => RoundingMode::Odd,
+        }
+    }
 }
 
 /// The vector registers v0 to v31 of 32 bytes each, in order (section 3.2, VLEN 256).

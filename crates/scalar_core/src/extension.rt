@@ -1,0 +1,31 @@
+//! Parts of a 64-bit word, and their extension to one.
+ghost use Rattle.std.specs.Prelude.{◌≡◌, ◌≤◌, ◌<◌, ◌%◌, ◌^◌};
+ghost use Rattle.rv_model.specs.Immediates.{sign_extended};
+
+/// A two's complement number of so many bits, 1 to 63, as one of 64 bits.
+pub fn sign_extend(bits: u32, value: u64) -> u64
+    requires low { 1 ≤ bits }
+    requires high { bits ≤ 63 }
+    requires fits { value < 2 ^ bits }
+    ensures { result ≡ sign_extended bits value }
+{
+    if value < 1 << (bits - 1) {
+        value
+    } else {
+        value + (u64::MAX - ((1 << bits) - 1))
+    }
+}
+
+/// The low 32 bits.
+pub(crate) fn low_word(value: u64) -> u32
+    ensures { result ≡ value % 2 ^ 32 }
+{
+    (value % (1 << 32)) as u32
+}
+
+/// A two's complement number of 32 bits, as one of 64 bits.
+pub(crate) fn sign_extend_word(word: u32) -> u64
+    ensures { result ≡ sign_extended 32 word }
+{
+    sign_extend(32, u64::from(word))
+}

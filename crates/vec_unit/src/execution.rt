@@ -1,0 +1,51 @@
+//! One vector instruction, carried out.
+ghost use Rattle.std.specs.Prelude.{◌≡◌, IsTrue, List, ℕ};
+ghost use Rattle.rv_model.specs.Hart.{hart_state};
+ghost use Rattle.rv_model.specs.VectorStep.{is_vector, vector_ends, vector_executed};
+
+use crate::vset::{configure, requested_length};
+use rv_model::{Instr, Policy, RequestedLength, Scalar, VEnd, VState, VectorRequest};
+use vector_memory::UserBytes;
+
+/// Carries out a vector instruction of a user, of at most `limit` elements where it goes to memory. The
+/// program counter stays on it. Instructions that aren't carried out yet are illegal.
+#[tactic(auto, unfolding(rv_model::specs::VectorStep::vector_executed))]
+pub fn exec<M: UserBytes>(
+    instr: &Instr,
+    state: &mut VState,
+    scalar: &mut Scalar,
+    memory: &mut M,
+    limit: usize,
+    policy: Policy,
+) -> VEnd
+    requires { IsTrue (is_vector instr.now) }
+    ensures model { (output : List ℕ)
+        → vector_executed limit instr.now (hart_state scalar.old state.old (M.memory memory.old) policy output)
+        ≡ vector_ends result (hart_state scalar.new state.new (M.memory memory.new) policy output) }
+
+    // All else that the user's bytes hold stays.
+    ensures memory { memory.new ≡ M.with_memory memory.old (M.memory memory.new) }
+
+    // What the illegal instruction finds is what it leaves.
+    ensures illegal_state { result ≡ VEnd.Illegal → state.new ≡ state.old }
+    ensures illegal_scalar { result ≡ VEnd.Illegal → scalar.new ≡ scalar.old }
+    ensures illegal_memory { result ≡ VEnd.Illegal → memory.new ≡ memory.old }
+{
+    let (rd, vtype, length) = match *instr {
+        Instr::SetVli { rd, rs1, vtype } => {
+            let length = requested_length(rd, rs1, scalar);
+            (rd, u64::from(vtype.value()), length)
+        }
+        Instr::SetIvli { rd, avl, vtype } => {
+            let length = RequestedLength::Elements(u64::from(avl.value()));
+            (rd, u64::from(vtype.value()), length)
+        }
+        Instr::SetVl { rd, rs1, rs2 } => {
+            let length = requested_length(rd, rs1, scalar);
+            (rd, scalar.read(rs2), length)
+        }
+        _ => return VEnd::Illegal,
+    };
+    configure(rd, VectorRequest { vtype, length }, state, scalar);
+    VEnd::Done
+}

@@ -1,0 +1,32 @@
+//! The instructions that set the vector length and type ("V" Vector Extension 1.0, section 6).
+ghost use Rattle.std.specs.Prelude.{◌≡◌};
+ghost use Rattle.rv_model.specs.Scalar.{with_register};
+ghost use Rattle.rv_model.specs.VectorStep.{requested_length};
+ghost use Rattle.rv_model.specs.VectorTypeRules.{requested};
+
+use rv_model::{Reg, RequestedLength, Scalar, VState, VectorRequest};
+
+/// The length that the registers ask for: that of `rs1`, unless it is x0.
+pub(crate) fn requested_length(rd: Reg, rs1: Reg, scalar: &Scalar) -> RequestedLength
+    ensures { result ≡ requested_length rd rs1 scalar.now }
+{
+    if rs1.number() != 0 {
+        RequestedLength::Elements(scalar.read(rs1))
+    } else if rd.number() != 0 {
+        RequestedLength::Maximum
+    } else {
+        RequestedLength::Keep
+    }
+}
+
+/// Takes the length and type that a request leaves, and answers the length in `rd`. The next vector
+/// instruction begins with the first element.
+pub(crate) fn configure(rd: Reg, request: VectorRequest, state: &mut VState, scalar: &mut Scalar)
+    ensures state { state.new ≡ record state.old { conf = requested state.old.conf request; vstart = 0 } }
+    ensures scalar { scalar.new ≡ with_register rd (requested state.old.conf request).vl scalar.old }
+{
+    let conf = vtype_rules::set(&state.conf, request);
+    scalar.write(rd, u64::from(conf.vl()));
+    state.conf = conf;
+    state.vstart = 0;
+}

@@ -1,0 +1,8 @@
+//! The vector length and the vector type that a vset instruction leaves.
+#![tactic(auto)]
+
+mod configuration;
+mod type_numbers;
+
+pub use configuration::set;
+pub use type_numbers::{vector_type, vtype_number};
