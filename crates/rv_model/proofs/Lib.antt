@@ -1,3 +1,4 @@
+pub mod CellsMemory
 pub mod EventLines
 pub mod Headline
 pub mod InstructionLaws

@@ -1,10 +1,12 @@
 pub mod Arguments
 pub mod BitFields
 pub mod Causes
+pub mod CellLending
 pub mod Commands
 pub mod ControlRegisters
 pub mod ControlTransfer
 pub mod Examples
+pub mod FileLending
 pub mod FixedBits
 pub mod Hart
 pub mod Immediates

@@ -1,6 +1,7 @@
 //! The definitions that every contract of the monitor cites, and the small types they speak of.
 #![tactic(auto)]
 
+mod cells;
 mod command;
 mod control_register;
 mod instruction;
@@ -15,6 +16,7 @@ mod source;
 mod step_end;
 mod user;
 mod vector_end;
+mod vector_file;
 mod vector_request;
 mod vector_state;
 mod vector_type;
@@ -32,6 +34,7 @@ pub use source::Source;
 pub use step_end::{Cause, StepEnd, Stop};
 pub use user::User;
 pub use vector_end::VEnd;
+pub use vector_file::VFile;
 pub use vector_request::{RequestedLength, VectorRequest};
-pub use vector_state::{RoundingMode, Seat, VConf, VFile, VState};
+pub use vector_state::{RoundingMode, Seat, VConf, VState};
 pub use vector_type::{Lmul, Sew, VType};

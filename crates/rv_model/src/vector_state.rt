@@ -1,4 +1,5 @@
 //! The vector state of a machine ("V" Vector Extension 1.0, section 3).
+use crate::vector_file::VFile;
 use crate::vector_type::VType;
 use std::marker::Model;
 
@@ -97,33 +98,6 @@ impl RoundingMode {
             2 => RoundingMode::Down,
             _ => RoundingMode::Odd,
         }
-    }
-}
-
-/// The vector registers v0 to v31 of 32 bytes each, in order (section 3.2, VLEN 256).
-#[derive(Drop)]
-pub struct VFile {
-    bytes: [u8; 1024],
-}
-
-impl Model for VFile {
-    ghost use Rattle.std.specs.Prelude.{List, ℕ};
-
-    ghost Value = { List ℕ };
-
-    ghost view = { λ f. f.bytes };
-}
-
-impl VFile {
-    ghost use Rattle.std.specs.Prelude.{◌≡◌};
-    ghost use Rattle.rv_model.specs.VectorState.{zero_file};
-
-    /// All registers zero.
-    #[tactic(auto, unfolding(crate::specs::VectorState::zero_file))]
-    pub fn new() -> VFile
-        ensures { result ≡ zero_file }
-    {
-        VFile { bytes: [0; 1024] }
     }
 }
 
