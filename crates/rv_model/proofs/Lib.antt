@@ -4,5 +4,6 @@ pub mod Headline
 pub mod InstructionLaws
 pub mod InstructionParts
 pub mod InstructionRows
+pub mod LegalityMeaning
 pub mod LineLaws
 pub mod MemoryLaws

@@ -5,6 +5,8 @@ pub mod CellLending
 pub mod Commands
 pub mod ControlRegisters
 pub mod ControlTransfer
+pub mod ElementWrites
+pub mod Elements
 pub mod Examples
 pub mod FileLending
 pub mod FixedBits
@@ -13,10 +15,14 @@ pub mod Immediates
 pub mod InstructionLayout
 pub mod InstructionTable
 pub mod Laws
+pub mod Legality
 pub mod LoadsAndStores
 pub mod Memory
+pub mod OperandShapes
 pub mod Operations
 pub mod PrivateMachine
+pub mod RegisterGroups
+pub mod RegisterOperands
 pub mod Replies
 pub mod RoundingModes
 pub mod Scalar
@@ -27,8 +33,10 @@ pub mod Setup
 pub mod Sources
 pub mod Step
 pub mod Text
+pub mod VectorArithmetic
 pub mod VectorConfiguration
 pub mod VectorControl
+pub mod VectorFormulas
 pub mod VectorState
 pub mod VectorStep
 pub mod VectorTypeRules
