@@ -83,28 +83,48 @@ untyped_operands (WholeLoad count w vd rs1) = whole Write (register_count count)
 untyped_operands (WholeStore count vd rs1) = whole Read (register_count count) vd 8 ∷ []
 untyped_operands _ = []
 
+-- the register operands of loads and stores
+unfoldable pub memory_operands : Instr → VType → List Operand
+memory_operands (VectorUnit o w nf vd rs1 vm) t = segment (unit_role o) (nf + 1) vd (element_bits w) t ∷ v0 vm ∷ []
+memory_operands (VectorStrided d w nf vd rs1 rs2 vm) t = segment (data_role d) (nf + 1) vd (element_bits w) t ∷ v0 vm ∷ []
+memory_operands (VectorIndexed d o w nf vd rs1 vs2 vm) t =
+    segment (indexed_role d nf) (nf + 1) vd (sew_bits t.sew) t ∷ group Read vs2 (element_bits w) t ∷ v0 vm ∷ []
+memory_operands (MaskMemory d vd rs1) t = mask (data_role d) vd ∷ []
+memory_operands i t = untyped_operands i
+
+-- the register operands of instructions on masks
+unfoldable pub mask_operands : Instr → VType → List Operand
+mask_operands (MaskLogic o vd vs1 vs2) t = mask Write vd ∷ mask Read vs2 ∷ mask Read vs1 ∷ []
+mask_operands (MaskToScalar o rd vs2 vm) t = mask Read vs2 ∷ v0 vm ∷ []
+mask_operands (MaskUnary o vd vs2 vm) t = mask_result o vd t ∷ mask Read vs2 ∷ v0 vm ∷ []
+mask_operands i t = memory_operands i t
+
+-- vmv1r.v and the like
+abbrev pub whole_move_operands : RegisterCount → ℕ → ℕ → VType → List Operand
+whole_move_operands count vd vs2 t =
+    whole Write (register_count count) vd (sew_bits t.sew) ∷ whole Read (register_count count) vs2 (sew_bits t.sew) ∷ []
+
+-- vcompress
+abbrev pub compress_operands : ℕ → ℕ → ℕ → VType → List Operand
+compress_operands vd vs1 vs2 t = group Apart vd (sew_bits t.sew) t ∷ group Read vs2 (sew_bits t.sew) t ∷ mask Read vs1 ∷ []
+
+-- vzext and vsext
+abbrev pub extension_operands : ExtendOp → ℕ → ℕ → Bool → VType → List Operand
+extension_operands o vd vs2 unmasked t =
+    group Write vd (sew_bits t.sew) t ∷ group Read vs2 (sew_bits t.sew / extension_divisor o) t ∷ v0 unmasked ∷ []
+
 -- the register operands under a vector type
 unfoldable pub operands : Instr → VType → List Operand
 operands (VectorArith arith vd vs2 vm) t = shape_operands (shape_of arith.0) vd vs2 arith.1 vm t
 operands (VectorCarry carry vd vs2) t = shape_operands Single vd vs2 carry.1 false t
 operands (VectorMove from vd) t = destination Single vd t ∷ second_source Single from t ∷ []
-operands (WholeMove count vd vs2) t =
-    whole Write (register_count count) vd (sew_bits t.sew) ∷ whole Read (register_count count) vs2 (sew_bits t.sew) ∷ []
-operands (MaskLogic o vd vs1 vs2) t = mask Write vd ∷ mask Read vs2 ∷ mask Read vs1 ∷ []
-operands (Compress vd vs1 vs2) t = group Apart vd (sew_bits t.sew) t ∷ group Read vs2 (sew_bits t.sew) t ∷ mask Read vs1 ∷ []
-operands (MaskToScalar o rd vs2 vm) t = mask Read vs2 ∷ v0 vm ∷ []
-operands (VectorExtend o vd vs2 vm) t =
-    group Write vd (sew_bits t.sew) t ∷ group Read vs2 (sew_bits t.sew / extension_divisor o) t ∷ v0 vm ∷ []
-operands (MaskUnary o vd vs2 vm) t = mask_result o vd t ∷ mask Read vs2 ∷ v0 vm ∷ []
+operands (WholeMove count vd vs2) t = whole_move_operands count vd vs2 t
+operands (Compress vd vs1 vs2) t = compress_operands vd vs1 vs2 t
+operands (VectorExtend o vd vs2 vm) t = extension_operands o vd vs2 vm t
 operands (ElementIndex vd vm) t = group Write vd (sew_bits t.sew) t ∷ v0 vm ∷ []
 operands (MoveToScalar rd vs2) t = whole Read 1 vs2 (sew_bits t.sew) ∷ []
 operands (MoveToVector vd rs1) t = whole Write 1 vd (sew_bits t.sew) ∷ []
-operands (VectorUnit o w nf vd rs1 vm) t = segment (unit_role o) (nf + 1) vd (element_bits w) t ∷ v0 vm ∷ []
-operands (VectorStrided d w nf vd rs1 rs2 vm) t = segment (data_role d) (nf + 1) vd (element_bits w) t ∷ v0 vm ∷ []
-operands (VectorIndexed d o w nf vd rs1 vs2 vm) t =
-    segment (indexed_role d nf) (nf + 1) vd (sew_bits t.sew) t ∷ group Read vs2 (element_bits w) t ∷ v0 vm ∷ []
-operands (MaskMemory d vd rs1) t = mask (data_role d) vd ∷ []
-operands i t = untyped_operands i
+operands i t = mask_operands i t
 
 -- ---- which instructions ask for more
 

@@ -34,7 +34,7 @@ pub struct Operand {
     pub role: Role,
     pub first: VReg,
     pub content: Content,
-    pub emul: u16,
+    pub emul: u32,
     pub fields: u8,
 }
 
