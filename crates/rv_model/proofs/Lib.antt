@@ -1,4 +1,6 @@
 pub mod CellsMemory
+pub mod ElementSetLaws
+pub mod ElementWriteLaws
 pub mod EventLines
 pub mod Headline
 pub mod InstructionLaws
