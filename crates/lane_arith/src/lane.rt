@@ -5,7 +5,7 @@ ghost use Rattle.std.specs.Simd.Lanes.{put_chunk};
 ghost use Rattle.rv_model.specs.declared.operations.BinaryOp.TheVariants.{Vadd, Vsub};
 ghost use Rattle.rv_model.specs.Elements.{element};
 ghost use Rattle.rv_model.specs.VectorFormulas.{formula, ones, wrap};
-ghost use Rattle.std.proofs.Common.{arith, omega, refl};
+ghost use Rattle.std.proofs.Common.{lit<, refl};
 ghost use mir.Val.{bits};
 
 use byteorder::{ByteOrder, LittleEndian};
@@ -87,7 +87,7 @@ impl Lane for u8 {
 
     ghost whole_bytes = { refl };
 
-    ghost has_bytes = { tt };
+    ghost has_bytes = { lit< tt };
 }
 
 impl Lane for u16 {
@@ -123,7 +123,7 @@ impl Lane for u16 {
 
     ghost whole_bytes = { refl };
 
-    ghost has_bytes = { tt };
+    ghost has_bytes = { lit< tt };
 }
 
 impl Lane for u32 {
@@ -159,7 +159,7 @@ impl Lane for u32 {
 
     ghost whole_bytes = { refl };
 
-    ghost has_bytes = { tt };
+    ghost has_bytes = { lit< tt };
 }
 
 impl Lane for u64 {
@@ -195,5 +195,5 @@ impl Lane for u64 {
 
     ghost whole_bytes = { refl };
 
-    ghost has_bytes = { tt };
+    ghost has_bytes = { lit< tt };
 }

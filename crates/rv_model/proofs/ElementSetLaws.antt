@@ -1,6 +1,7 @@
 -- How loops over the body write the elements that an instruction changes.
 use Rattle.std.proofs.Common.{ℕ, suc, ◌+◌, ◌-◌, ◌*◌, ◌<◌, ◌≤◌, ◌≡◌, List, length, Bool, true, false, cond, ◌&&◌, ◌||◌, nat_lt, nat_le, refl, sym, ap, ◌∙◌, arith, le-leb, lt-ltb, le-ltb}
 use Rattle.std.proofs.lemmas.Bool.Decides.{nat_tests}
+use Rattle.std.proofs.Math.Nat.{mul-le-mul_left, mul-suc}
 use Rattle.std.specs.Int.{bytes_low_first}
 use lib.Lanes.{put_chunk}
 use Rattle.rv_model.specs.Elements.{in_body, is_let, is_active, is_filled, is_changed, result_or_ones}
@@ -85,3 +86,9 @@ module _ (k start end : ℕ) (number : ℕ → ℕ) where
   pub range_step : (old mid new : List ℕ) (i : ℕ) → start ≤ i → i < end → Writes k (λ e. in_body start end e && nat_lt e i) number old mid → k * i + k ≤ length old
       → new ≡ put_chunk (k * i) mid (bytes_low_first 0 k (number i)) → Writes k (λ e. in_body start end e && nat_lt e (i + 1)) number old new
   range_step old mid new i from to was fits e = step_written k (in_body start end) number old mid new i was (inside_body start end i from to) fits e
+
+-- there is room for each element of so many
+pub room_for : (k i end long : ℕ) → i < end → k * end ≤ long → k * i + k ≤ long
+room_for k i end long h room =
+    let up : k * suc i ≤ k * end = mul-le-mul_left k h in
+    omega (arith, mul-suc k i)
