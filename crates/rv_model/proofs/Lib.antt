@@ -6,6 +6,7 @@ pub mod Headline
 pub mod InstructionLaws
 pub mod InstructionParts
 pub mod InstructionRows
+pub mod LegalityBounds
 pub mod LegalityMeaning
 pub mod LineLaws
 pub mod MemoryLaws

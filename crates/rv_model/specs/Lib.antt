@@ -30,6 +30,7 @@ pub mod ScalarArithmetic
 pub mod ScalarStep
 pub mod Script
 pub mod Setup
+pub mod SourceRegisters
 pub mod Sources
 pub mod Step
 pub mod Text

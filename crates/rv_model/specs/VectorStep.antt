@@ -17,7 +17,7 @@ use Rattle.rv_model.specs.declared.vector_type.VType.{VType}
 use Rattle.rv_model.specs.Hart.{HartState, Stepped, faults, runs_on}
 use Rattle.rv_model.specs.Legality.{is_legal_at}
 use Rattle.rv_model.specs.Scalar.{read_register, with_register}
-use Rattle.rv_model.specs.VectorArithmetic.{binary_file}
+use Rattle.rv_model.specs.VectorArithmetic.{binary_file, fills_masked_off, fills_tail, group_type}
 use Rattle.rv_model.specs.VectorConfiguration.{Configuration}
 use Rattle.rv_model.specs.VectorFormulas.{is_carried_out}
 use Rattle.rv_model.specs.VectorTypeRules.{requested}
@@ -72,7 +72,9 @@ leaves_registers file s = vector_ends vector_end.Done (record s { vector = recor
 abbrev pub binary_step : VType → BinaryOp → Source → ℕ → ℕ → Bool → HartState → VectorStepped
 binary_step t op source vd vs2 vm s =
     if is_carried_out op && is_legal_at (VectorArith (Binary op, source) vd vs2 vm) t s.vector.vstart
-    then leaves_registers (binary_file t op source vd vs2 vm s) s
+    then leaves_registers
+      (binary_file (group_type t) op vd vs2 source vm (fills_masked_off s.policy t vm) (fills_tail s.policy t s.vector.vstart s.vector.conf.vl)
+      s.vector s.scalar) s
     else vector_ends vector_end.Illegal s
 
 -- an operation with a line of its own in the manual's table; without a vector type it is illegal
