@@ -1,25 +1,45 @@
--- What an instruction reads and changes, put together from the parts of one user, and the model's step told by such parts.
-use Rattle.std.specs.Prelude.{ℕ, ◌≡◌, List, Option, None, if◌then◌else◌}
+-- The model's step, told by the parts of one user.
+use Rattle.std.specs.Prelude.{ℕ, ◌≡◌, ◌||◌, Bool, List, Option, None, if◌then◌else◌}
 use Rattle.rv_model.specs.declared.instruction.Instr.{Instr}
 use Rattle.rv_model.specs.declared.memory.Access.TheVariants.{Fetch}
 use Rattle.rv_model.specs.declared.policy.Policy.{Policy}
 use Rattle.rv_model.specs.declared.scalar.Scalar.{Scalar}
 use Rattle.rv_model.specs.declared.step_end.StepEnd.{StepEnd}
+use Rattle.rv_model.specs.declared.vector_state.Seat.{Seat}
 use Rattle.rv_model.specs.declared.vector_state.VState.{VState}
+use Rattle.rv_model.specs.Hart.{HartState, Stepped, hart_state, ends}
 use Rattle.rv_model.specs.InstructionTable.{scan, table}
 use Rattle.rv_model.specs.Memory.{Memory, can_access}
-use Rattle.rv_model.specs.Step.{HartState, step, word_at}
-
--- the state that has these parts and this output buffer
-abbrev pub hart_state : Scalar → VState → Memory → Policy → List ℕ → HartState
-hart_state scalar vector memory policy output =
-    record { scalar = scalar; vector = vector; memory = memory; output = output; policy = policy }
+use Rattle.rv_model.specs.Step.{step, word_at}
 
 -- whatever the output buffer holds, the step from the one state is to the other, with this end and these ticks
 abbrev pub IsStep : ℕ → (List ℕ → HartState) → (List ℕ → HartState) → StepEnd → ℕ → Type 0
 IsStep limit before after end ticks =
     (output : List ℕ) → step limit (before output) ≡ record { state = after output; end = end; ticks = ticks }
 
+-- whatever the output buffer holds, an instruction leads from the one state to the other, with this end, in one tick
+abbrev pub Leads : (HartState → Stepped) → (List ℕ → HartState) → (List ℕ → HartState) → StepEnd → Type 0
+Leads instruction before after end = (output : List ℕ) → instruction (before output) ≡ ends end (after output)
+
+-- the same for an instruction of scalar registers and memory, whatever all else is
+abbrev pub LeadsScalar : (HartState → Stepped) → Scalar → Memory → Scalar → Memory → StepEnd → Type 0
+LeadsScalar instruction scalar memory scalar' memory' end =
+    (vector : VState) (policy : Policy)
+    → Leads instruction (hart_state scalar vector memory policy) (hart_state scalar' vector memory' policy) end
+
+-- the same for an instruction of scalar registers alone
+abbrev pub LeadsRegisters : (HartState → Stepped) → Scalar → Scalar → StepEnd → Type 0
+LeadsRegisters instruction scalar scalar' end =
+    (memory : Memory) → LeadsScalar instruction scalar memory scalar' memory end
+
 -- the instruction at an address, if it may be fetched from there and the word is one
 abbrev pub fetched : Memory → ℕ → Option Instr
 fetched m pc = if can_access Fetch m pc 4 then scan table (word_at m pc) else None
+
+-- an instruction marks the seat if it changes the vector state, whatever the output buffer holds, and leaves a mark that is there
+abbrev pub Marks : (HartState → Bool) → (List ℕ → HartState) → Seat → Seat → Type 0
+Marks dirties before old new = (output : List ℕ) → new.dirty ≡ (old.dirty || dirties (before output))
+
+-- a seat with this vector state, marked as changed if it was marked or has been changed
+abbrev pub seat_after : Bool → VState → Seat → Seat
+seat_after dirtied state seat = record { state = state; dirty = seat.dirty || dirtied }

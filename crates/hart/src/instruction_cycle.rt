@@ -1,18 +1,19 @@
 //! The instruction cycle: fetch, decode, execute.
-ghost use Rattle.std.specs.Prelude.{◌≡◌, ◌≤◌, false, List, ℕ, Ok, Err, if◌then◌else◌};
-ghost use Rattle.rv_model.specs.declared.policy.Policy.{Policy};
-ghost use Rattle.rv_model.specs.declared.vector_state.VState.{VState};
+ghost use Rattle.std.specs.Prelude.{◌≡◌, ◌≤◌, List, ℕ, Ok, Err, if◌then◌else◌};
 ghost use Rattle.rv_model.specs.declared.memory.Access.TheVariants.{Fetch};
-ghost use Rattle.rv_model.specs.Memory.{Memory, can_access};
-ghost use Rattle.rv_model.specs.Step.{ends, executed, touches, word_at};
-ghost use Rattle.hart.specs.States.{fetched, hart_state, IsStep};
+ghost use Rattle.rv_model.specs.Hart.{hart_state};
+ghost use Rattle.rv_model.specs.Memory.{can_access};
+ghost use Rattle.rv_model.specs.Step.{dirties, executed, touches, word_at};
+ghost use Rattle.hart.specs.States.{fetched, IsStep, Leads, seat_after};
 
-use crate::environment_call::call_environment;
-use crate::integer::op_imm;
+use crate::faults::{fault, illegal};
+use crate::scalar_instructions::execute_scalar;
+use crate::touches::is_touching;
+use crate::vector_instructions::execute_touching;
 use crate::vectors::Vectors;
 use crate::view::View;
 use rv_decode::decode;
-use rv_model::{Access, Cause, Fault, Instr, Scalar, StepEnd, SystemOp};
+use rv_model::{Access, Cause, Fault, Instr, Policy, Scalar, StepEnd};
 use vector_memory::UserBytes;
 
 // The word at an address.
@@ -27,33 +28,44 @@ fn fetch<M: UserBytes>(memory: &M, pc: u64) -> Result<u32, Fault>
 }
 
 // Carries out an instruction; there is none where the word is no instruction.
-#[tactic(auto, unfolding(rv_model::specs::Step::executed))]
-fn execute(instr: Option<Instr>, word: u32, scalar: &mut Scalar) -> StepEnd
-    ensures model { (limit : ℕ) (vector : VState) (memory : Memory) (policy : Policy) (output : List ℕ)
-        → executed limit instr word (hart_state scalar.old vector memory policy output)
-        ≡ ends result (hart_state scalar.new vector memory policy output) }
-    ensures untouched { touches instr ≡ false }
+#[tactic(auto, unfolding(rv_model::specs::Step::executed, rv_model::specs::Step::dirties))]
+fn execute<M: UserBytes, V: Vectors>(
+    instr: Option<Instr>,
+    word: u32,
+    scalar: &mut Scalar,
+    memory: &mut M,
+    vectors: &mut V,
+    limit: usize,
+    policy: Policy,
+) -> StepEnd
+    requires { V.ready vectors.old }
+    ensures model { Leads (executed limit instr word)
+        (hart_state scalar.old (V.lent vectors.old).state (M.memory memory.old) policy)
+        (hart_state scalar.new (V.lent vectors.new).state (M.memory memory.new) policy) result }
+    ensures memory { memory.new ≡ M.with_memory memory.old (M.memory memory.new) }
+    ensures vectors { (output : List ℕ) →
+        let before = hart_state scalar.old (V.lent vectors.old).state (M.memory memory.old)
+        policy output in
+        vectors.new ≡ (if touches instr
+        then V.back vectors.old (seat_after (dirties limit instr before)
+        (V.lent vectors.new).state (V.lent vectors.old))
+        else vectors.old) }
+    ensures ready { V.ready vectors.new }
 {
     let Some(instr) = instr else {
-        return StepEnd::Fault {
-            cause: Cause::IllegalInstruction,
-            pc: scalar.pc,
-            value: u64::from(word),
-        };
+        return illegal(word, scalar);
     };
-    match instr {
-        Instr::OpImm { op, rd, rs1, imm } => {
-            op_imm(op, rd, rs1, imm, scalar);
-            StepEnd::Ran
-        }
-        Instr::System {
-            op: SystemOp::Ecall,
-        } => call_environment(scalar),
+    if is_touching(&instr) {
+        let seat = vectors.seat();
+        execute_touching(&instr, word, scalar, memory, seat, limit, policy)
+    } else {
+        execute_scalar(&instr, word, scalar, memory)
     }
 }
 
 /// Carries out one instruction of a user within `limit` ticks, and answers how it ended and how many
-/// ticks it took. The vector state is lent once where the instruction touches it, and else not at all.
+/// ticks it took. The vector state is lent once where the instruction touches it, and else not at all; it
+/// is marked as dirty where the instruction changed it.
 #[tactic(auto, unfolding(rv_model::specs::Step::step))]
 pub fn step<M: UserBytes, V: Vectors>(
     view: &mut View<'_, '_, '_, M, V>,
@@ -72,9 +84,13 @@ pub fn step<M: UserBytes, V: Vectors>(
     // All else that the user's bytes and the lender hold stays.
     ensures memory { view.new.memory.now
         ≡ M.with_memory view.old.memory.now (M.memory view.new.memory.now) }
-    ensures vectors { view.new.vectors.now
-        ≡ (if touches (fetched (M.memory view.old.memory.now) view.old.scalar.now.pc)
-        then V.back view.old.vectors.now (V.lent view.new.vectors.now)
+    ensures vectors { (output : List ℕ) →
+        let instr = fetched (M.memory view.old.memory.now) view.old.scalar.now.pc in
+        let before = hart_state view.old.scalar.now (V.lent view.old.vectors.now).state
+        (M.memory view.old.memory.now) view.old.policy output in
+        view.new.vectors.now ≡ (if touches instr
+        then V.back view.old.vectors.now (seat_after (dirties limit instr before)
+        (V.lent view.new.vectors.now).state (V.lent view.old.vectors.now))
         else view.old.vectors.now) }
     ensures ready { V.ready view.new.vectors.now }
 
@@ -85,12 +101,16 @@ pub fn step<M: UserBytes, V: Vectors>(
 {
     let pc = view.scalar.pc;
     let end = match fetch(&*view.memory, pc) {
-        Ok(word) => execute(decode(word), word, &mut *view.scalar),
-        Err(_) => StepEnd::Fault {
-            cause: Cause::FetchAccess,
-            pc,
-            value: pc,
-        },
+        Ok(word) => execute(
+            decode(word),
+            word,
+            &mut *view.scalar,
+            &mut *view.memory,
+            &mut *view.vectors,
+            limit,
+            view.policy,
+        ),
+        Err(_) => fault(Cause::FetchAccess, pc, &*view.scalar),
     };
     (end, 1)
 }

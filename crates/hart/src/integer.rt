@@ -1,45 +1,58 @@
-//! Integer instructions (Unprivileged ISA 20191213, section 2.4).
-ghost use Rattle.std.specs.Prelude.{◌≡◌, IfSome, Some};
-ghost use Rattle.rv_model.specs.Immediates.{sign_extended};
-ghost use Rattle.rv_model.specs.Scalar.{advanced, read_register, with_register};
-ghost use Rattle.rv_model.specs.Step.{op_imm_value};
+//! What instructions do to the scalar registers.
+ghost use Rattle.std.specs.Prelude.{◌≡◌};
+ghost use Rattle.rv_model.specs.Scalar.{advanced, with_register};
+ghost use Rattle.rv_model.specs.ScalarArithmetic.{op_imm_value, shift_imm_value, shift_imm_word_value, upper_value};
 
-use rv_model::{Field, OpImmOp, Reg, Scalar};
+use rv_model::operations::{OpImmOp, ShiftImmOp, ShiftImmWordOp, UpperOp};
+use rv_model::{Field, Reg, Scalar, StepEnd};
+use scalar_core::{alu, op_imm_form, shift_imm_form, shift_imm_word_form, sign_extend};
 
-/// Moves on to the next instruction.
-pub(crate) fn advance(scalar: &mut Scalar)
-    ensures { scalar.new ≡ advanced scalar.old }
+/// The instruction ran, and the next one follows it.
+pub(crate) fn run_on(scalar: &mut Scalar) -> StepEnd
+    ensures end { result ≡ StepEnd.Ran }
+    ensures scalar { scalar.new ≡ advanced scalar.old }
 {
     scalar.pc = scalar.pc.wrapping_add(4);
+    StepEnd::Ran
 }
 
-// An immediate of 12 bits, read as two's complement.
-fn sign_extend(imm: Field<12>) -> u64
-    ensures { result ≡ sign_extended 12 imm }
+/// The instruction ran, gave a register this value, and the next one follows it.
+pub(crate) fn give(rd: Reg, value: u64, scalar: &mut Scalar) -> StepEnd
+    ensures end { result ≡ StepEnd.Ran }
+    ensures scalar { scalar.new ≡ advanced (with_register rd value scalar.old) }
 {
-    let value = u64::from(imm.value());
-    if value < 1 << 11 {
-        value
-    } else {
-        value.wrapping_sub(1 << 12)
-    }
-}
-
-// What an operation of a register and an immediate gives.
-fn op_imm_result(op: OpImmOp, a: u64, imm: Field<12>) -> u64
-    ensures { op_imm_value op a imm ≡ Some result }
-{
-    match op {
-        OpImmOp::Addi => a.wrapping_add(sign_extend(imm)),
-    }
-}
-
-/// Carries out an operation of a register and an immediate.
-pub(crate) fn op_imm(op: OpImmOp, rd: Reg, rs1: Reg, imm: Field<12>, scalar: &mut Scalar)
-    ensures { IfSome (op_imm_value op (read_register scalar.old rs1) imm)
-        (λ value. scalar.new ≡ advanced (with_register rd value scalar.old)) }
-{
-    let value = op_imm_result(op, scalar.read(rs1), imm);
     scalar.write(rd, value);
-    advance(scalar);
+    run_on(scalar)
+}
+
+/// What an operation of a register and an immediate gives.
+pub(crate) fn op_imm(op: OpImmOp, a: u64, imm: Field<12>) -> u64
+    ensures { result ≡ op_imm_value op a imm }
+{
+    alu(op_imm_form(op), a, sign_extend(12, u64::from(imm.value())))
+}
+
+/// What a shift by an immediate gives.
+pub(crate) fn shift_imm(op: ShiftImmOp, a: u64, amount: Field<6>) -> u64
+    ensures { result ≡ shift_imm_value op a amount }
+{
+    alu(shift_imm_form(op), a, u64::from(amount.value()))
+}
+
+/// What a shift of 32 bits by an immediate gives.
+pub(crate) fn shift_imm_word(op: ShiftImmWordOp, a: u64, amount: Field<5>) -> u64
+    ensures { result ≡ shift_imm_word_value op a amount }
+{
+    alu(shift_imm_word_form(op), a, u64::from(amount.value()))
+}
+
+/// The upper 20 bits of a 32-bit number, alone or added to the program counter.
+pub(crate) fn upper(op: UpperOp, pc: u64, imm: Field<20>) -> u64
+    ensures { result ≡ upper_value op pc imm }
+{
+    let value = sign_extend(32, u64::from(imm.value()) * (1 << 12));
+    match op {
+        UpperOp::Lui => value,
+        UpperOp::Auipc => pc.wrapping_add(value),
+    }
 }

@@ -1,15 +1,21 @@
 //! One instruction of one user: fetched, decoded and carried out.
 #![tactic(auto)]
 
+mod control_registers;
+mod control_transfer;
 mod environment_call;
+mod faults;
 mod instruction_cycle;
 mod integer;
+mod loads_and_stores;
+mod scalar_instructions;
+#[cfg(test)]
+mod tests;
+mod touches;
+mod vector_instructions;
 mod vectors;
 mod view;
 
 pub use instruction_cycle::step;
 pub use vectors::Vectors;
 pub use view::View;
-
-#[cfg(test)]
-mod tests;

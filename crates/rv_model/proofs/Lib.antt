@@ -10,3 +10,4 @@ pub mod LegalityBounds
 pub mod LegalityMeaning
 pub mod LineLaws
 pub mod MemoryLaws
+pub mod StepLaws

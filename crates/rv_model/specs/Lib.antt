@@ -12,6 +12,7 @@ pub mod FileLending
 pub mod FixedBits
 pub mod Hart
 pub mod Immediates
+pub mod InstructionEffects
 pub mod InstructionLayout
 pub mod InstructionTable
 pub mod Laws

@@ -1,5 +1,6 @@
 //! Laws of the definitions, and small examples of them.
 ghost use Rattle.rv_model.specs.Laws.{EachUserAlone, EachNewUserAlone, EachUserEndsAlone, OthersChangeNothing, MachinesStayEight};
+ghost use Rattle.rv_model.specs.InstructionEffects.{FaultsWriteNoRegister, FirstRegisterStays};
 ghost use Rattle.rv_model.specs.Examples.{SmallScriptsPrint};
 
 /// Each user's lines are those of a private machine that is given the user's own commands and
@@ -15,4 +16,10 @@ pub fn each_user_alone()
 /// Small scripts print what a reader expects.
 pub fn small_scripts_print()
     ensures { SmallScriptsPrint }
+{}
+
+/// An instruction that faults writes no scalar register; no instruction changes x0.
+pub fn registers_that_stay()
+    ensures fault { FaultsWriteNoRegister }
+    ensures first { FirstRegisterStays }
 {}

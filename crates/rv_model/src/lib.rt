@@ -25,7 +25,7 @@ mod vector_type;
 pub use command::{ByteString, Cmd, Refusal};
 pub use control_register::ControlRegister;
 pub use instruction::Instr;
-pub use laws::{each_user_alone, small_scripts_print};
+pub use laws::{each_user_alone, registers_that_stay, small_scripts_print};
 pub use memory::{Access, Fault, MapRefusal, Permissions, memory_laws};
 pub use operands::{Field, Reg, VReg};
 pub use pairs::{Arith, Carry};

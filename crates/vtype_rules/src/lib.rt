@@ -2,6 +2,8 @@
 #![tactic(auto)]
 
 mod configuration;
+#[cfg(test)]
+mod tests;
 mod type_numbers;
 
 pub use configuration::set;

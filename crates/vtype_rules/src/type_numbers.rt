@@ -1,5 +1,5 @@
 //! The numbers of vector types, as `vtype` holds them ("V" Vector Extension 1.0, section 3.4).
-ghost use Rattle.std.specs.Prelude.{◌≡◌, ◌<◌, ◌^◌, IfSome};
+ghost use Rattle.std.specs.Prelude.{◌≡◌, ◌<◌, ◌^◌, IfSome, Some};
 ghost use Rattle.rv_model.specs.BitFields.{field};
 ghost use Rattle.rv_model.specs.VectorConfiguration.{IsSupported};
 ghost use Rattle.rv_model.specs.VectorTypeRules.{lmul_number, lmul_with_number, sew_number, sew_with_number, vector_type, vtype_number};
@@ -36,7 +36,8 @@ fn lmul_number(lmul: Lmul) -> u64
 
 /// The number of a vector type; without one it is `vill` alone.
 pub fn vtype_number(vtype: Option<VType>) -> u64
-    ensures { result ≡ vtype_number vtype }
+    ensures value { result ≡ vtype_number vtype }
+    ensures read_back { IfSome vtype (λ t. IsSupported t → vector_type result ≡ Some t) }
 {
     let Some(vtype) = vtype else {
         return VILL;
@@ -48,7 +49,8 @@ pub fn vtype_number(vtype: Option<VType>) -> u64
 }
 
 fn sew_with_number(number: u64) -> Option<Sew>
-    ensures { result ≡ sew_with_number number }
+    ensures value { result ≡ sew_with_number number }
+    ensures number { IfSome result (λ sew. sew_number sew ≡ number) }
 {
     match number {
         0 => Some(Sew::E8),
@@ -60,7 +62,8 @@ fn sew_with_number(number: u64) -> Option<Sew>
 }
 
 fn lmul_with_number(number: u64) -> Option<Lmul>
-    ensures { result ≡ lmul_with_number number }
+    ensures value { result ≡ lmul_with_number number }
+    ensures number { IfSome result (λ lmul. lmul_number lmul ≡ number) }
 {
     match number {
         0 => Some(Lmul::M1),
@@ -88,6 +91,7 @@ fn field(low: u32, len: u32, number: u64) -> u64
 pub fn vector_type(number: u64) -> Option<VType>
     ensures value { result ≡ vector_type number }
     ensures supported { IfSome result (λ t. IsSupported t) }
+    ensures number { IfSome result (λ t. vtype_number (Some t) ≡ number) }
 {
     if number >= 1 << 8 {
         return None;

@@ -1,0 +1,60 @@
+//! Jumps and branches (Unprivileged ISA 20191213, section 2.5).
+ghost use Rattle.std.specs.Prelude.{◌≡◌};
+ghost use Rattle.rv_model.specs.ControlTransfer.{branch_target, jump_target, register_target};
+ghost use Rattle.rv_model.specs.ScalarStep.{branch_step, jump_step, jumps};
+ghost use Rattle.hart.specs.States.{LeadsRegisters};
+
+use crate::faults::fault;
+use crate::integer::run_on;
+use rv_model::{Cause, Field, Reg, Scalar, StepEnd};
+use scalar_core::sign_extend;
+
+/// Where JAL goes.
+pub(crate) fn jump_target(pc: u64, offset: Field<20>) -> u64
+    ensures { result ≡ jump_target pc offset }
+{
+    pc.wrapping_add(sign_extend(21, 2 * u64::from(offset.value())))
+}
+
+/// Where JALR goes.
+pub(crate) fn register_target(base: u64, imm: Field<12>) -> u64
+    ensures { result ≡ register_target base imm }
+{
+    let target = base.wrapping_add(sign_extend(12, u64::from(imm.value())));
+    target - target % 2
+}
+
+/// Where a branch goes.
+pub(crate) fn branch_target(pc: u64, offset: Field<12>) -> u64
+    ensures { result ≡ branch_target pc offset }
+{
+    pc.wrapping_add(sign_extend(13, 2 * u64::from(offset.value())))
+}
+
+/// A jump, which leaves in `rd` the address of the instruction that follows it. Nothing changes where no
+/// instruction may stand at the target.
+pub(crate) fn jump(rd: Reg, target: u64, scalar: &mut Scalar) -> StepEnd
+    ensures { LeadsRegisters (jump_step rd target) scalar.old scalar.new result }
+{
+    let link = scalar.pc.wrapping_add(4);
+    if target % 4 != 0 {
+        return fault(Cause::MisalignedTarget, target, scalar);
+    }
+    scalar.write(rd, link);
+    scalar.pc = target;
+    StepEnd::Ran
+}
+
+/// A branch.
+pub(crate) fn jump_if(taken: bool, target: u64, scalar: &mut Scalar) -> StepEnd
+    ensures { LeadsRegisters (branch_step taken target) scalar.old scalar.new result }
+{
+    if !taken {
+        return run_on(scalar);
+    }
+    if target % 4 != 0 {
+        return fault(Cause::MisalignedTarget, target, scalar);
+    }
+    scalar.pc = target;
+    StepEnd::Ran
+}

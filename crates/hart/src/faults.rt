@@ -1,0 +1,22 @@
+//! Instructions that fault.
+ghost use Rattle.std.specs.Prelude.{◌≡◌};
+
+use rv_model::{Cause, Scalar, StepEnd};
+
+/// The instruction faults, with the address or the word that caused it.
+pub(crate) fn fault(cause: Cause, value: u64, scalar: &Scalar) -> StepEnd
+    ensures { result ≡ StepEnd.Fault cause scalar.now.pc value }
+{
+    StepEnd::Fault {
+        cause,
+        pc: scalar.pc,
+        value,
+    }
+}
+
+/// The word is no instruction, or one that is illegal here.
+pub(crate) fn illegal(word: u32, scalar: &Scalar) -> StepEnd
+    ensures { result ≡ StepEnd.Fault Cause.IllegalInstruction scalar.now.pc word }
+{
+    fault(Cause::IllegalInstruction, u64::from(word), scalar)
+}

@@ -1,0 +1,123 @@
+//! Loads and stores (Unprivileged ISA 20191213, sections 2.6 and 5.3).
+ghost use Rattle.std.specs.Prelude.{◌≡◌, Ok, Err, if◌then◌else◌};
+ghost use Rattle.std.specs.Int.{byte_len, w8, w16, w32, w64};
+ghost use Rattle.rv_model.specs.declared.memory.Access.TheVariants.{Load};
+ghost use Rattle.rv_model.specs.LoadsAndStores.{access_address, extended, load_width, number_at, store_width, stored_bytes};
+ghost use Rattle.rv_model.specs.Memory.{can_access};
+ghost use Rattle.rv_model.specs.ScalarStep.{load_step, store_step};
+ghost use Rattle.hart.specs.States.{LeadsScalar};
+
+use crate::faults::fault;
+use crate::integer::{give, run_on};
+use rv_model::operations::{LoadOp, StoreOp};
+use rv_model::{Access, Cause, Fault, Field, Reg, Scalar, StepEnd};
+use scalar_core::sign_extend;
+use vector_memory::UserBytes;
+
+/// The address that a load or store names.
+pub(crate) fn access_address(base: u64, imm: Field<12>) -> u64
+    ensures { result ≡ access_address base imm }
+{
+    base.wrapping_add(sign_extend(12, u64::from(imm.value())))
+}
+
+fn read_8<M: UserBytes>(memory: &M, addr: u64) -> Result<u8, Fault>
+    ensures { result ≡ (if can_access Load (M.memory memory.now) addr 1
+        then Ok (number_at w8 (M.memory memory.now) addr) else Err (record { addr = addr })) }
+{
+    let mut bytes = [0; 1];
+    memory.read(addr, Access::Load, &mut bytes)?;
+    Ok(u8::from_le_bytes(bytes))
+}
+
+fn read_16<M: UserBytes>(memory: &M, addr: u64) -> Result<u16, Fault>
+    ensures { result ≡ (if can_access Load (M.memory memory.now) addr 2
+        then Ok (number_at w16 (M.memory memory.now) addr) else Err (record { addr = addr })) }
+{
+    let mut bytes = [0; 2];
+    memory.read(addr, Access::Load, &mut bytes)?;
+    Ok(u16::from_le_bytes(bytes))
+}
+
+fn read_32<M: UserBytes>(memory: &M, addr: u64) -> Result<u32, Fault>
+    ensures { result ≡ (if can_access Load (M.memory memory.now) addr 4
+        then Ok (number_at w32 (M.memory memory.now) addr) else Err (record { addr = addr })) }
+{
+    let mut bytes = [0; 4];
+    memory.read(addr, Access::Load, &mut bytes)?;
+    Ok(u32::from_le_bytes(bytes))
+}
+
+fn read_64<M: UserBytes>(memory: &M, addr: u64) -> Result<u64, Fault>
+    ensures { result ≡ (if can_access Load (M.memory memory.now) addr 8
+        then Ok (number_at w64 (M.memory memory.now) addr) else Err (record { addr = addr })) }
+{
+    let mut bytes = [0; 8];
+    memory.read(addr, Access::Load, &mut bytes)?;
+    Ok(u64::from_le_bytes(bytes))
+}
+
+// The value that a load gives.
+fn loaded<M: UserBytes>(op: LoadOp, addr: u64, memory: &M) -> Result<u64, Fault>
+    ensures { result ≡ (if can_access Load (M.memory memory.now) addr (byte_len (load_width op))
+        then Ok (extended op (number_at (load_width op) (M.memory memory.now) addr))
+        else Err (record { addr = addr })) }
+{
+    match op {
+        LoadOp::Lb => Ok(sign_extend(8, u64::from(read_8(memory, addr)?))),
+        LoadOp::Lh => Ok(sign_extend(16, u64::from(read_16(memory, addr)?))),
+        LoadOp::Lw => Ok(sign_extend(32, u64::from(read_32(memory, addr)?))),
+        LoadOp::Ld => read_64(memory, addr),
+        LoadOp::Lbu => Ok(u64::from(read_8(memory, addr)?)),
+        LoadOp::Lhu => Ok(u64::from(read_16(memory, addr)?)),
+        LoadOp::Lwu => Ok(u64::from(read_32(memory, addr)?)),
+    }
+}
+
+/// A load, which is refused where one of its bytes may not be read.
+pub(crate) fn load<M: UserBytes>(
+    op: LoadOp,
+    rd: Reg,
+    addr: u64,
+    scalar: &mut Scalar,
+    memory: &M,
+) -> StepEnd
+    ensures { LeadsScalar (load_step op rd addr)
+        scalar.old (M.memory memory.now) scalar.new (M.memory memory.now) result }
+{
+    match loaded(op, addr, memory) {
+        Ok(value) => give(rd, value, scalar),
+        Err(_) => fault(Cause::LoadAccess, addr, scalar),
+    }
+}
+
+// How many bytes a store writes.
+fn store_size(op: StoreOp) -> usize
+    ensures { result ≡ byte_len (store_width op) }
+{
+    match op {
+        StoreOp::Sb => 1,
+        StoreOp::Sh => 2,
+        StoreOp::Sw => 4,
+        StoreOp::Sd => 8,
+    }
+}
+
+/// A store of the lowest bytes of a value, which is refused where one of its bytes may not be written.
+pub(crate) fn store<M: UserBytes>(
+    op: StoreOp,
+    addr: u64,
+    value: u64,
+    scalar: &mut Scalar,
+    memory: &mut M,
+) -> StepEnd
+    ensures model { LeadsScalar (store_step op addr value)
+        scalar.old (M.memory memory.old) scalar.new (M.memory memory.new) result }
+    ensures memory { memory.new ≡ M.with_memory memory.old (M.memory memory.new) }
+{
+    let bytes = value.to_le_bytes();
+    match memory.write(addr, Access::Store, &bytes[..store_size(op)]) {
+        Ok(()) => run_on(scalar),
+        Err(_) => fault(Cause::StoreAccess, addr, scalar),
+    }
+}

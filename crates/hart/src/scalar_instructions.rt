@@ -1,0 +1,71 @@
+//! Instructions that don't touch the vector unit.
+ghost use Rattle.std.specs.Prelude.{◌≡◌, ℕ, Some, false};
+ghost use Rattle.rv_model.specs.Step.{executed, touches};
+ghost use Rattle.hart.specs.States.{LeadsScalar};
+
+use crate::control_transfer::{branch_target, jump, jump_if, jump_target, register_target};
+use crate::environment_call::system;
+use crate::faults::illegal;
+use crate::integer::{give, op_imm, run_on, shift_imm, shift_imm_word, upper};
+use crate::loads_and_stores::{access_address, load, store};
+use rv_model::{Instr, Scalar, StepEnd};
+use scalar_core::{alu, branch};
+use vector_memory::UserBytes;
+
+/// Carries out an instruction that doesn't touch the vector unit.
+#[tactic(auto, unfolding(rv_model::specs::Step::executed))]
+pub(crate) fn execute_scalar<M: UserBytes>(
+    instr: &Instr,
+    word: u32,
+    scalar: &mut Scalar,
+    memory: &mut M,
+) -> StepEnd
+    requires { touches (Some instr.now) ≡ false }
+    ensures model { (limit : ℕ) → LeadsScalar (executed limit (Some instr.now) word)
+        scalar.old (M.memory memory.old) scalar.new (M.memory memory.new) result }
+    ensures memory { memory.new ≡ M.with_memory memory.old (M.memory memory.new) }
+{
+    match *instr {
+        Instr::Upper { op, rd, imm } => give(rd, upper(op, scalar.pc, imm), scalar),
+        Instr::Jump { rd, offset } => jump(rd, jump_target(scalar.pc, offset), scalar),
+        Instr::JumpRegister { rd, rs1, imm } => {
+            jump(rd, register_target(scalar.read(rs1), imm), scalar)
+        }
+        Instr::Branch {
+            op,
+            rs1,
+            rs2,
+            offset,
+        } => {
+            let taken = branch(op, scalar.read(rs1), scalar.read(rs2));
+            jump_if(taken, branch_target(scalar.pc, offset), scalar)
+        }
+        Instr::Load { op, rd, rs1, imm } => {
+            let addr = access_address(scalar.read(rs1), imm);
+            load(op, rd, addr, scalar, memory)
+        }
+        Instr::Store { op, rs1, rs2, imm } => {
+            let addr = access_address(scalar.read(rs1), imm);
+            store(op, addr, scalar.read(rs2), scalar, memory)
+        }
+        Instr::OpImm { op, rd, rs1, imm } => give(rd, op_imm(op, scalar.read(rs1), imm), scalar),
+        Instr::ShiftImm {
+            op,
+            rd,
+            rs1,
+            amount,
+        } => give(rd, shift_imm(op, scalar.read(rs1), amount), scalar),
+        Instr::ShiftImmWord {
+            op,
+            rd,
+            rs1,
+            amount,
+        } => give(rd, shift_imm_word(op, scalar.read(rs1), amount), scalar),
+        Instr::Op { op, rd, rs1, rs2 } => {
+            give(rd, alu(op, scalar.read(rs1), scalar.read(rs2)), scalar)
+        }
+        Instr::Fence { .. } => run_on(scalar),
+        Instr::System { op } => system(op, scalar),
+        _ => illegal(word, scalar),
+    }
+}

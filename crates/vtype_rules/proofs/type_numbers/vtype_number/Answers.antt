@@ -1,0 +1,8 @@
+-- The number stands for the type again.
+use Rattle.std.proofs.Common.{rules, ◌+◌, ◌*◌}
+use Rattle.vtype_rules.proofs.NumberLaws.{number_again}
+use Rattle.vtype_rules.proofs.type_numbers.vtype_number.Goals as goal
+
+pub returns-clause-read_back : goal.returns-clause-read_back
+returns-clause-read_back c =
+    number_again c.args.vtype (c.lmul_number.result + c.sew_number.result * 8 + c.from.result * 64 + c.from-2.result * 128) (search rules)
