@@ -1,12 +1,13 @@
 -- How loops over the body write the elements that an instruction changes.
-use Rattle.std.proofs.Common.{ℕ, suc, ◌+◌, ◌-◌, ◌*◌, ◌<◌, ◌≤◌, ◌≡◌, List, length, Bool, true, false, cond, ◌&&◌, ◌||◌, nat_lt, nat_le, refl, sym, ap, ◌∙◌, arith, le-leb, lt-ltb, le-ltb}
+use Rattle.std.proofs.Common.{ℕ, suc, ◌+◌, ◌-◌, ◌*◌, ◌<◌, ◌≤◌, ◌≡◌, List, length, Bool, true, false, cond, ◌&&◌, ◌||◌, nat_lt, nat_le, refl, sym, ap, ◌∙◌, arith, inl, inr, le-leb, lt-ltb, le-ltb}
+use Rattle.std.proofs.lemmas.Bool.{cases_lt}
 use Rattle.std.proofs.lemmas.Bool.Decides.{nat_tests}
 use Rattle.std.proofs.Math.Nat.{mul-le-mul_left, mul-suc}
 use Rattle.std.specs.Int.{bytes_low_first}
 use lib.Lanes.{put_chunk}
 use Rattle.rv_model.specs.Elements.{in_body, is_let, is_active, is_filled, is_changed, result_or_ones}
 use Rattle.rv_model.specs.ElementWrites.{Writes}
-use Rattle.rv_model.proofs.ElementWriteLaws.{begins, ends, step_written, step_kept}
+use Rattle.rv_model.proofs.ElementWriteLaws.{begins, ends, step_written, step_kept, writes_same, writes_then}
 
 -- an index of the body is between its ends
 pub from_start : (s v e : ℕ) → in_body s v e ≡ true → s ≤ e
@@ -92,3 +93,54 @@ pub room_for : (k i end long : ℕ) → i < end → k * end ≤ long → k * i +
 room_for k i end long h room =
     let up : k * suc i ≤ k * end = mul-le-mul_left k h in
     omega (arith, mul-suc k i)
+
+-- Results in the body, and then ones in the tail up to the last of n elements.
+module _ (k : ℕ) (unmasked : Bool) (mask : List ℕ) (masked_off : Bool) (start vl n : ℕ) (result : ℕ → ℕ) (ones : ℕ) where
+  abbrev value : ℕ → ℕ
+  value e = result_or_ones unmasked mask start vl result ones e
+
+  joined : (a o t l : Bool) → l ≡ true → (a || (o || (true && t))) ≡ ((a || (o || (false && t))) || (t && l))
+  joined true o t l h = refl
+  joined false true t l h = refl
+  joined false false true l h = sym h
+  joined false false false l h = refl
+
+  past_body : (e : ℕ) → vl ≤ e → in_body start vl e ≡ false
+  past_body e h = grind (arith, nat_tests)
+
+  pub with_tail : (old mid new : List ℕ) → 0 < k → length old ≡ k * n
+      → Writes k (λ e. is_changed unmasked mask masked_off false start vl e) value old mid
+      → Writes k (in_body vl n) (λ e. ones) mid new
+      → Writes k (λ e. is_changed unmasked mask masked_off true start vl e) value old new
+  with_tail old mid new positive long first second =
+      writes_same k (λ e. is_changed unmasked mask masked_off false start vl e || in_body vl n e)
+      (λ e. is_changed unmasked mask masked_off true start vl e) (λ e. cond (in_body vl n e) ones (value e)) value old new
+      (writes_then k (λ e. is_changed unmasked mask masked_off false start vl e) (in_body vl n) value (λ e. ones) old mid new first second)
+      (λ e h. joined (is_active unmasked mask start vl e) (masked_off && in_body start vl e) (nat_le vl e) (nat_lt e n)
+        (lt-ltb e n (below e (omega (arith, h, long)))))
+      (λ e h. numbers e (in_body vl n e) refl)
+    where
+      below : (e : ℕ) → k * e < k * n → e < n
+      below e h = elim (cases_lt e n) [
+        | inl low ↦ low
+        | inr high ↦ (let up : k * n ≤ k * e = mul-le-mul_left k high in absurd (omega arith))
+      ]
+      numbers : (e : ℕ) (b : Bool) → in_body vl n e ≡ b → value e ≡ cond b ones (value e)
+      numbers e true h = let off : in_body start vl e ≡ false = past_body e (from_start vl n e h) in rw off refl
+      numbers e false h = refl
+
+-- The results may be told another way, where they tell the same in the body.
+pub same_results : (k : ℕ) (unmasked : Bool) (mask : List ℕ) (masked_off tail : Bool) (start vl : ℕ) (result other : ℕ → ℕ) (ones : ℕ) (old new : List ℕ)
+    → ((e : ℕ) → e < vl → result e ≡ other e)
+    → Writes k (λ e. is_changed unmasked mask masked_off tail start vl e) (result_or_ones unmasked mask start vl result ones) old new
+    → Writes k (λ e. is_changed unmasked mask masked_off tail start vl e) (result_or_ones unmasked mask start vl other ones) old new
+same_results k unmasked mask masked_off tail start vl result other ones old new same was =
+    writes_same k (λ e. is_changed unmasked mask masked_off tail start vl e) (λ e. is_changed unmasked mask masked_off tail start vl e)
+    (result_or_ones unmasked mask start vl result ones) (result_or_ones unmasked mask start vl other ones) old new was
+    (λ e l. refl) (λ e h. numbers e (in_body start vl e) (is_let unmasked mask e) (λ b. to_end start vl e b) refl)
+  where
+    numbers : (e : ℕ) (b l : Bool) → (in_body start vl e ≡ true → e < vl) → in_body start vl e ≡ b
+        → cond (b && l) (other e) ones ≡ cond (b && l) (result e) ones
+    numbers e true true h is = sym (same e (h is))
+    numbers e true false h is = refl
+    numbers e false l h is = refl

@@ -1,4 +1,5 @@
 pub mod CellsMemory
+pub mod ElementReadLaws
 pub mod ElementSetLaws
 pub mod ElementWriteLaws
 pub mod EventLines
