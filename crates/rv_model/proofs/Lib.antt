@@ -12,3 +12,4 @@ pub mod LegalityMeaning
 pub mod LineLaws
 pub mod MemoryLaws
 pub mod StepLaws
+pub mod VectorArithmeticLaws

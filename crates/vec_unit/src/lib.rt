@@ -1,7 +1,9 @@
 //! One vector instruction of one user.
 #![tactic(auto)]
 
+mod binary_operation;
 mod execution;
+mod operands;
 mod vset;
 
 pub use execution::exec;
