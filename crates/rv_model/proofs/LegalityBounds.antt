@@ -91,3 +91,28 @@ pub length_fits : (t : VType) (vl : ℕ) → vl ≤ vlmax t → sew_bytes t.sew 
 length_fits t vl h =
     let up : sew_bytes t.sew * vl ≤ sew_bytes t.sew * vlmax t = mul-le-mul_left (sew_bytes t.sew) h in
     omega (arith, most_fit t.sew t.lmul)
+
+-- no multiplier is above 8
+pub multiplier_fits : (l : Lmul) → lmul_eighths l ≤ 64
+multiplier_fits Mf8 = lit≤ tt
+multiplier_fits Mf4 = lit≤ tt
+multiplier_fits Mf2 = lit≤ tt
+multiplier_fits M1 = lit≤ tt
+multiplier_fits M2 = lit≤ tt
+multiplier_fits M4 = lit≤ tt
+multiplier_fits M8 = lit≤ tt
+
+-- no vector has more than 256 elements
+pub length_below : (t : VType) (vl : ℕ) → vl ≤ vlmax t → vl ≤ 256
+length_below t vl h = omega (arith, bytes_positive t.sew, length_in_bytes t.sew vl (length_fits t vl h), multiplier_fits t.lmul)
+  where
+    bytes_positive : (s : Sew) → 1 ≤ sew_bytes s
+    bytes_positive E8 = lit≤ tt
+    bytes_positive E16 = lit≤ tt
+    bytes_positive E32 = lit≤ tt
+    bytes_positive E64 = lit≤ tt
+    length_in_bytes : (s : Sew) (n : ℕ) {m : ℕ} → sew_bytes s * n ≤ m → n ≤ m
+    length_in_bytes E8 n h = omega (arith, h)
+    length_in_bytes E16 n h = omega (arith, h)
+    length_in_bytes E32 n h = omega (arith, h)
+    length_in_bytes E64 n h = omega (arith, h)

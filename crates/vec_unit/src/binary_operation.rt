@@ -26,13 +26,13 @@ pub(crate) struct BinaryOperation {
 
 /// Which elements become all ones: those of the body that are masked off, and those of the tail.
 #[derive(Clone, Copy)]
-struct Fills {
+pub(crate) struct Fills {
     masked_off: bool,
     tail: bool,
 }
 
-// What the policy fills.
-fn policy_fills(policy: Policy, vtype: VType, unmasked: bool, start: usize, vl: usize) -> Fills
+/// What the policy fills.
+pub(crate) fn policy_fills(policy: Policy, vtype: VType, unmasked: bool, start: usize, vl: usize) -> Fills
     ensures { result ≡ record { masked_off = fills_masked_off policy vtype unmasked;
         tail = fills_tail policy vtype start vl } }
 {
@@ -86,9 +86,9 @@ fn write_results<L: Lane>(
     }
 }
 
-// Carries it out on groups of this multiplier, in eighths of a register, whose registers hold `count`
-// elements.
-fn carry_out<L: Lane>(
+/// Carries it out on groups of this multiplier, in eighths of a register, whose registers hold `count`
+/// elements.
+pub(crate) fn carry_out<L: Lane>(
     operation: BinaryOperation,
     emul: u32,
     count: usize,

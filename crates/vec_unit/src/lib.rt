@@ -1,6 +1,7 @@
 //! One vector instruction of one user.
 #![tactic(auto)]
 
+mod arithmetic;
 mod binary_operation;
 mod execution;
 mod operands;
