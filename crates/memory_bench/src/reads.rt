@@ -11,12 +11,12 @@ const PAGES: u32 = 256;
 const PAGE_SIZE: u32 = 4096;
 
 /// The user whose memory is read.
-pub fn first_user() -> Option<User> {
+pub(crate) fn first_user() -> Option<User> {
     User::new(1)
 }
 
 /// Maps the pages, and writes (page + offset) modulo 256 at each offset of each page. None where that is refused.
-pub fn fill(pool: &mut Pool, user: User) -> Option<()> {
+pub(crate) fn fill(pool: &mut Pool, user: User) -> Option<()> {
     let permissions = Permissions {
         read: true,
         write: true,
@@ -35,7 +35,7 @@ pub fn fill(pool: &mut Pool, user: User) -> Option<()> {
 }
 
 /// The sum, modulo 2^64, of so many reads of `width` bytes each, little-endian. None where one is refused.
-pub fn sum_of_reads(pool: &Pool, user: User, width: usize, reads: u64) -> Option<u64>
+pub(crate) fn sum_of_reads(pool: &Pool, user: User, width: usize, reads: u64) -> Option<u64>
     requires { width ≤ 8 }
 {
     let mut state = 1_u32;

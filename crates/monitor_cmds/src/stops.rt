@@ -52,6 +52,10 @@ fn push_stop(reply: &mut Reply, pc: u64, stop: Stop)
             reply.push(b"break pc=");
             push_hex16(reply, pc);
         }
+        Stop::Ebreak => {
+            reply.push(b"ebreak pc=");
+            push_hex16(reply, pc);
+        }
         Stop::Exit(status) => {
             reply.push(b"exit ");
             push_decimal(reply, u64::from(status));

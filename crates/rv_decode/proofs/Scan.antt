@@ -18,6 +18,7 @@ use Rattle.rv_model.specs.FixedBits.{upper_bits, branch_bits, load_bits, store_b
 use Rattle.rv_model.specs.Operations.{has_form, line, carry_line, line_bits, major_bits, same_major, those, vector_ops, carry_ops}
 use Rattle.rv_model.specs.InstructionLayout.{parts, bits, filled, unit_access_bits, strided_access_bits, indexed_access_bits, whole_load_bits, whole_store_bits}
 use Rattle.rv_model.specs.InstructionTable.{row_of, rows, table, scan, find, find_at, unit_accesses, strided_accesses, indexed_accesses, whole_loads, Uppers, Jumps, JumpRegisters, Branches, Loads, Stores, OpImms, ShiftImms, ShiftImmWords, Ops, Fences, Systems, Csrs, CsrImmediates, SetVlis, SetIvlis, SetVls, Ariths, Carries, Moves, WholeMoves, MaskLogics, Compresses, MasksToScalar, Extends, MaskUnaries, ElementIndices, MovesToScalar, MovesToVector, Units, Strideds, Indexeds, WholeLoads, WholeStores, MaskMemories}
+use Rattle.rv_model.proofs.InstructionWords.{form_source_of}
 use Rattle.rv_model.proofs.InstructionParts.{masked}
 use Rattle.rv_model.proofs.InstructionLaws.{narrowed, scan_narrow, same_narrow, no_scan, DiffersFrom}
 
@@ -26,11 +27,14 @@ abbrev pub answer : {A : Type 0} → (A → Instr) → ℕ → Option A → Opti
 answer t word None = None
 answer t word (Some op) = Some (filled (t op) word)
 
-answer-cond : {A : Type 0} (t : A → Instr) (word : ℕ) (b : Bool) (op : A) (rest : Option A) (more : Option Instr) → more ≡ answer t word rest → cond b (Some (filled (t op) word)) more ≡ answer t word (cond b (Some op) rest)
+answer-cond : {A : Type 0} (t : A → Instr) (word : ℕ) (b : Bool) (op : A) (rest : Option A) (more : Option Instr)
+    → more ≡ answer t word rest → cond b (Some (filled (t op) word)) more ≡ answer t word (cond b (Some op) rest)
 answer-cond t word true op rest more e = refl
 answer-cond t word false op rest more e = e
 
-scan_map : {A : Type 0} (code : A → ℕ) (mask : ℕ) (t : A → Instr) → ((op : A) → fixed (parts (t op)) ≡ mask) → ((op : A) → bits (t op) ≡ code op) → (ops : List A) (word : ℕ) → scan (map row_of (map t ops)) word ≡ answer t word (find code ops (bit_and word mask))
+scan_map : {A : Type 0} (code : A → ℕ) (mask : ℕ) (t : A → Instr) → ((op : A) → fixed (parts (t op)) ≡ mask)
+    → ((op : A) → bits (t op) ≡ code op) → (ops : List A) (word : ℕ)
+    → scan (map row_of (map t ops)) word ≡ answer t word (find code ops (bit_and word mask))
 unfolding scan find
 scan_map code mask t em eb [] word = refl
 scan_map code mask t em eb (op ∷ ops) word =
@@ -58,12 +62,8 @@ and-false : (b : Bool) → false ≡ (true && (b && false))
 and-false true = refl
 and-false false = refl
 
-pub form_source_of : (f : Form) (n : ℕ) → form_of (source_of f n) ≡ f
-form_source_of form.V n = refl
-form_source_of form.X n = refl
-form_source_of form.I n = refl
-
-those-step : {A : Type 0} (line : A → Line) (m : Major) (f : Form) (n : ℕ) (op : A) (ops : List A) (a b : Bool) → (a ≡ true → m ≡ (line op).major) → same_major m (line op).major ≡ a → has_form (line op).forms f ≡ b
+those-step : {A : Type 0} (line : A → Line) (m : Major) (f : Form) (n : ℕ) (op : A) (ops : List A) (a b : Bool)
+    → (a ≡ true → m ≡ (line op).major) → same_major m (line op).major ≡ a → has_form (line op).forms f ≡ b
     → find (λ o. line_bits (line o) f) (those line m f ops) (major_bits m f + n * 2 ^ 26) ≡ find_at line m f n ops
     → find (λ o. line_bits (line o) f) (cond (a && b) (op ∷ those line m f ops) (those line m f ops)) (major_bits m f + n * 2 ^ 26) ≡ cond (a && (nat_eq n (line op).funct6 && b)) (Some op) (find_at line m f n ops)
 unfolding find
@@ -71,209 +71,264 @@ those-step line m f n op ops true true same ea eb ih =
     let e : m ≡ (line op).major = same refl in
     ap₂ (λ c r. cond c (Some op) r) (ap (λ x. nat_eq (major_bits m f + n * 2 ^ 26) ((line op).funct6 * 2 ^ 26 + major_bits x f)) (sym e) ∙ same_sum n (line op).funct6 (major_bits m f)) ih
     ∙ ap (λ c. cond c (Some op) (find_at line m f n ops)) (and-true (nat_eq n (line op).funct6))
-those-step line m f n op ops true false same ea eb ih = ih ∙ ap (λ c. cond c (Some op) (find_at line m f n ops)) (and-false (nat_eq n (line op).funct6))
+those-step line m f n op ops true false same ea eb ih =
+    ih ∙ ap (λ c. cond c (Some op) (find_at line m f n ops)) (and-false (nat_eq n (line op).funct6))
 those-step line m f n op ops false b same ea eb ih = ih
 
-those_find : {A : Type 0} (line : A → Line) (m : Major) (f : Form) (n : ℕ) (ops : List A) → find (λ o. line_bits (line o) f) (those line m f ops) (major_bits m f + n * 2 ^ 26) ≡ find_at line m f n ops
+those_find : {A : Type 0} (line : A → Line) (m : Major) (f : Form) (n : ℕ) (ops : List A)
+    → find (λ o. line_bits (line o) f) (those line m f ops) (major_bits m f + n * 2 ^ 26) ≡ find_at line m f n ops
 unfolding find find_at
 those_find line m f n [] = refl
-those_find line m f n (op ∷ ops) = those-step line m f n op ops (same_major m (line op).major) (has_form (line op).forms f) (same_major-eq m (line op).major) refl refl (those_find line m f n ops)
+those_find line m f n (op ∷ ops) =
+    those-step line m f n op ops (same_major m (line op).major) (has_form (line op).forms f) (same_major-eq m (line op).major) refl refl (those_find line m f n ops)
 
-key_of : (word : ℕ) (c : ℕ) → word < 2 ^ 32 → bit_and word 0x707f ≡ c → bit_and word 0xfc00707f ≡ c + word / 2 ^ 26 * 2 ^ 26
+key_of : (word : ℕ) (c : ℕ) → word < 2 ^ 32 → bit_and word 0x707f ≡ c
+    → bit_and word 0xfc00707f ≡ c + word / 2 ^ 26 * 2 ^ 26
 key_of word c small is =
     sym (masked word 0x707f (part 26 6 0 ∷ []) refl) ∙ ap₂ (λ (a b : ℕ). a + b * 2 ^ 26) is (let h : word / 2 ^ 26 % 2 ^ 6 ≡ word / 2 ^ 26 = omega arith in h)
 
-pub scan_arith : (m : Major) (f : Form) (word : ℕ) → word < 2 ^ 32 → bit_and word 0x707f ≡ major_bits m f → scan (rows (Ariths m f)) word ≡ answer (λ op. VectorArith (op, source_of f 0) 0 0 true) word (find_at line m f (word / 2 ^ 26) vector_ops)
+pub scan_arith : (m : Major) (f : Form) (word : ℕ) → word < 2 ^ 32 → bit_and word 0x707f ≡ major_bits m f
+    → scan (rows (Ariths m f)) word ≡ answer (λ op. VectorArith (op, source_of f 0) 0 0 true) word (find_at line m f (word / 2 ^ 26) vector_ops)
 unfolding rows
 scan_arith m f word small is =
     scan_map (λ op. line_bits (line op) f) 0xfc00707f (λ op. VectorArith (op, source_of f 0) 0 0 true) (λ op. refl) (λ op. ap (line_bits (line op)) (form_source_of f 0)) (those line m f vector_ops) word
     ∙ ap (λ b. answer (λ op. VectorArith (op, source_of f 0) 0 0 true) word (find (λ op. line_bits (line op) f) (those line m f vector_ops) b)) (key_of word (major_bits m f) small is)
     ∙ ap (answer (λ op. VectorArith (op, source_of f 0) 0 0 true) word) (those_find line m f (word / 2 ^ 26) vector_ops)
 
-pub scan_carry : (f : Form) (word : ℕ) → scan (rows (Carries f)) word ≡ answer (λ op. VectorCarry (op, source_of f 0) 0 0) word (find (λ op. line_bits (carry_line op) f) (those carry_line Opi f carry_ops) (bit_and word 0xfe00707f))
+pub scan_carry : (f : Form) (word : ℕ)
+    → scan (rows (Carries f)) word ≡ answer (λ op. VectorCarry (op, source_of f 0) 0 0) word (find (λ op. line_bits (carry_line op) f) (those carry_line Opi f carry_ops) (bit_and word 0xfe00707f))
 unfolding rows
-scan_carry f word = scan_map (λ op. line_bits (carry_line op) f) 0xfe00707f (λ op. VectorCarry (op, source_of f 0) 0 0) (λ op. refl) (λ op. ap (line_bits (carry_line op)) (form_source_of f 0)) (those carry_line Opi f carry_ops) word
+scan_carry f word =
+    scan_map (λ op. line_bits (carry_line op) f) 0xfe00707f (λ op. VectorCarry (op, source_of f 0) 0 0) (λ op. refl) (λ op. ap (line_bits (carry_line op)) (form_source_of f 0)) (those carry_line Opi f carry_ops) word
 
 whole_word : (word : ℕ) → word < 2 ^ 32 → bit_and word 0xffffffff ≡ word
 whole_word word small = and_mask word 32 ∙ mod-eq_of_lt small
 
-pub scan_system : (word : ℕ) → word < 2 ^ 32 → scan (rows Systems) word ≡ answer (λ op. System op) word (find system_bits system_ops word)
+pub scan_system : (word : ℕ) → word < 2 ^ 32
+    → scan (rows Systems) word ≡ answer (λ op. System op) word (find system_bits system_ops word)
 unfolding rows
-scan_system word small = scan_map system_bits 0xffffffff (λ op. System op) (λ x. refl) (λ x. refl) system_ops word ∙ ap (λ w. answer (λ op. System op) word (find system_bits system_ops w)) (whole_word word small)
+scan_system word small =
+    scan_map system_bits 0xffffffff (λ op. System op) (λ x. refl) (λ x. refl) system_ops word
+    ∙ ap (λ w. answer (λ op. System op) word (find system_bits system_ops w)) (whole_word word small)
 
-pub scan_upper : (word : ℕ) → scan (rows Uppers) word ≡ answer (λ op. Upper op 0 0) word (find upper_bits upper_ops (bit_and word 0x0000007f))
+pub scan_upper : (word : ℕ)
+    → scan (rows Uppers) word ≡ answer (λ op. Upper op 0 0) word (find upper_bits upper_ops (bit_and word 0x0000007f))
 unfolding rows
 scan_upper word = scan_map upper_bits 0x0000007f (λ op. Upper op 0 0) (λ x. refl) (λ x. refl) upper_ops word
 
-pub scan_branch : (word : ℕ) → scan (rows Branches) word ≡ answer (λ op. Branch op 0 0 0) word (find branch_bits branch_ops (bit_and word 0x0000707f))
+pub scan_branch : (word : ℕ)
+    → scan (rows Branches) word ≡ answer (λ op. Branch op 0 0 0) word (find branch_bits branch_ops (bit_and word 0x0000707f))
 unfolding rows
 scan_branch word = scan_map branch_bits 0x0000707f (λ op. Branch op 0 0 0) (λ x. refl) (λ x. refl) branch_ops word
 
-pub scan_load : (word : ℕ) → scan (rows Loads) word ≡ answer (λ op. Load op 0 0 0) word (find load_bits load_ops (bit_and word 0x0000707f))
+pub scan_load : (word : ℕ)
+    → scan (rows Loads) word ≡ answer (λ op. Load op 0 0 0) word (find load_bits load_ops (bit_and word 0x0000707f))
 unfolding rows
 scan_load word = scan_map load_bits 0x0000707f (λ op. Load op 0 0 0) (λ x. refl) (λ x. refl) load_ops word
 
-pub scan_store : (word : ℕ) → scan (rows Stores) word ≡ answer (λ op. Store op 0 0 0) word (find store_bits store_ops (bit_and word 0x0000707f))
+pub scan_store : (word : ℕ)
+    → scan (rows Stores) word ≡ answer (λ op. Store op 0 0 0) word (find store_bits store_ops (bit_and word 0x0000707f))
 unfolding rows
 scan_store word = scan_map store_bits 0x0000707f (λ op. Store op 0 0 0) (λ x. refl) (λ x. refl) store_ops word
 
-pub scan_op_imm : (word : ℕ) → scan (rows OpImms) word ≡ answer (λ op. OpImm op 0 0 0) word (find op_imm_bits op_imm_ops (bit_and word 0x0000707f))
+pub scan_op_imm : (word : ℕ)
+    → scan (rows OpImms) word ≡ answer (λ op. OpImm op 0 0 0) word (find op_imm_bits op_imm_ops (bit_and word 0x0000707f))
 unfolding rows
 scan_op_imm word = scan_map op_imm_bits 0x0000707f (λ op. OpImm op 0 0 0) (λ x. refl) (λ x. refl) op_imm_ops word
 
-pub scan_shift_imm : (word : ℕ) → scan (rows ShiftImms) word ≡ answer (λ op. ShiftImm op 0 0 0) word (find shift_imm_bits shift_imm_ops (bit_and word 0xfc00707f))
+pub scan_shift_imm : (word : ℕ)
+    → scan (rows ShiftImms) word ≡ answer (λ op. ShiftImm op 0 0 0) word (find shift_imm_bits shift_imm_ops (bit_and word 0xfc00707f))
 unfolding rows
-scan_shift_imm word = scan_map shift_imm_bits 0xfc00707f (λ op. ShiftImm op 0 0 0) (λ x. refl) (λ x. refl) shift_imm_ops word
+scan_shift_imm word =
+    scan_map shift_imm_bits 0xfc00707f (λ op. ShiftImm op 0 0 0) (λ x. refl) (λ x. refl) shift_imm_ops word
 
-pub scan_shift_imm_word : (word : ℕ) → scan (rows ShiftImmWords) word ≡ answer (λ op. ShiftImmWord op 0 0 0) word (find shift_imm_word_bits shift_imm_word_ops (bit_and word 0xfe00707f))
+pub scan_shift_imm_word : (word : ℕ)
+    → scan (rows ShiftImmWords) word ≡ answer (λ op. ShiftImmWord op 0 0 0) word (find shift_imm_word_bits shift_imm_word_ops (bit_and word 0xfe00707f))
 unfolding rows
-scan_shift_imm_word word = scan_map shift_imm_word_bits 0xfe00707f (λ op. ShiftImmWord op 0 0 0) (λ x. refl) (λ x. refl) shift_imm_word_ops word
+scan_shift_imm_word word =
+    scan_map shift_imm_word_bits 0xfe00707f (λ op. ShiftImmWord op 0 0 0) (λ x. refl) (λ x. refl) shift_imm_word_ops word
 
-pub scan_op : (word : ℕ) → scan (rows Ops) word ≡ answer (λ op. Op op 0 0 0) word (find op_bits op_ops (bit_and word 0xfe00707f))
+pub scan_op : (word : ℕ)
+    → scan (rows Ops) word ≡ answer (λ op. Op op 0 0 0) word (find op_bits op_ops (bit_and word 0xfe00707f))
 unfolding rows
 scan_op word = scan_map op_bits 0xfe00707f (λ op. Op op 0 0 0) (λ x. refl) (λ x. refl) op_ops word
 
-pub scan_csr : (word : ℕ) → scan (rows Csrs) word ≡ answer (λ op. Csr op 0 0 0) word (find csr_bits csr_ops (bit_and word 0x0000707f))
+pub scan_csr : (word : ℕ)
+    → scan (rows Csrs) word ≡ answer (λ op. Csr op 0 0 0) word (find csr_bits csr_ops (bit_and word 0x0000707f))
 unfolding rows
 scan_csr word = scan_map csr_bits 0x0000707f (λ op. Csr op 0 0 0) (λ x. refl) (λ x. refl) csr_ops word
 
-pub scan_csr_immediate : (word : ℕ) → scan (rows CsrImmediates) word ≡ answer (λ op. CsrImmediate op 0 0 0) word (find csr_immediate_bits csr_immediate_ops (bit_and word 0x0000707f))
+pub scan_csr_immediate : (word : ℕ)
+    → scan (rows CsrImmediates) word ≡ answer (λ op. CsrImmediate op 0 0 0) word (find csr_immediate_bits csr_immediate_ops (bit_and word 0x0000707f))
 unfolding rows
-scan_csr_immediate word = scan_map csr_immediate_bits 0x0000707f (λ op. CsrImmediate op 0 0 0) (λ x. refl) (λ x. refl) csr_immediate_ops word
+scan_csr_immediate word =
+    scan_map csr_immediate_bits 0x0000707f (λ op. CsrImmediate op 0 0 0) (λ x. refl) (λ x. refl) csr_immediate_ops word
 
-pub scan_whole_move : (word : ℕ) → scan (rows WholeMoves) word ≡ answer (λ op. WholeMove op 0 0) word (find whole_move_bits counts (bit_and word 0xfe0ff07f))
+pub scan_whole_move : (word : ℕ)
+    → scan (rows WholeMoves) word ≡ answer (λ op. WholeMove op 0 0) word (find whole_move_bits counts (bit_and word 0xfe0ff07f))
 unfolding rows
-scan_whole_move word = scan_map whole_move_bits 0xfe0ff07f (λ op. WholeMove op 0 0) (λ x. refl) (λ x. refl) counts word
+scan_whole_move word =
+    scan_map whole_move_bits 0xfe0ff07f (λ op. WholeMove op 0 0) (λ x. refl) (λ x. refl) counts word
 
-pub scan_mask_logic : (word : ℕ) → scan (rows MaskLogics) word ≡ answer (λ op. MaskLogic op 0 0 0) word (find mask_logic_bits mask_logic_ops (bit_and word 0xfe00707f))
+pub scan_mask_logic : (word : ℕ)
+    → scan (rows MaskLogics) word ≡ answer (λ op. MaskLogic op 0 0 0) word (find mask_logic_bits mask_logic_ops (bit_and word 0xfe00707f))
 unfolding rows
-scan_mask_logic word = scan_map mask_logic_bits 0xfe00707f (λ op. MaskLogic op 0 0 0) (λ x. refl) (λ x. refl) mask_logic_ops word
+scan_mask_logic word =
+    scan_map mask_logic_bits 0xfe00707f (λ op. MaskLogic op 0 0 0) (λ x. refl) (λ x. refl) mask_logic_ops word
 
-pub scan_mask_to_scalar : (word : ℕ) → scan (rows MasksToScalar) word ≡ answer (λ op. MaskToScalar op 0 0 true) word (find mask_to_scalar_bits mask_to_scalar_ops (bit_and word 0xfc0ff07f))
+pub scan_mask_to_scalar : (word : ℕ)
+    → scan (rows MasksToScalar) word ≡ answer (λ op. MaskToScalar op 0 0 true) word (find mask_to_scalar_bits mask_to_scalar_ops (bit_and word 0xfc0ff07f))
 unfolding rows
-scan_mask_to_scalar word = scan_map mask_to_scalar_bits 0xfc0ff07f (λ op. MaskToScalar op 0 0 true) (λ x. refl) (λ x. refl) mask_to_scalar_ops word
+scan_mask_to_scalar word =
+    scan_map mask_to_scalar_bits 0xfc0ff07f (λ op. MaskToScalar op 0 0 true) (λ x. refl) (λ x. refl) mask_to_scalar_ops word
 
-pub scan_extend : (word : ℕ) → scan (rows Extends) word ≡ answer (λ op. VectorExtend op 0 0 true) word (find extend_bits extend_ops (bit_and word 0xfc0ff07f))
+pub scan_extend : (word : ℕ)
+    → scan (rows Extends) word ≡ answer (λ op. VectorExtend op 0 0 true) word (find extend_bits extend_ops (bit_and word 0xfc0ff07f))
 unfolding rows
-scan_extend word = scan_map extend_bits 0xfc0ff07f (λ op. VectorExtend op 0 0 true) (λ x. refl) (λ x. refl) extend_ops word
+scan_extend word =
+    scan_map extend_bits 0xfc0ff07f (λ op. VectorExtend op 0 0 true) (λ x. refl) (λ x. refl) extend_ops word
 
-pub scan_mask_unary : (word : ℕ) → scan (rows MaskUnaries) word ≡ answer (λ op. MaskUnary op 0 0 true) word (find mask_unary_bits mask_unary_ops (bit_and word 0xfc0ff07f))
+pub scan_mask_unary : (word : ℕ)
+    → scan (rows MaskUnaries) word ≡ answer (λ op. MaskUnary op 0 0 true) word (find mask_unary_bits mask_unary_ops (bit_and word 0xfc0ff07f))
 unfolding rows
-scan_mask_unary word = scan_map mask_unary_bits 0xfc0ff07f (λ op. MaskUnary op 0 0 true) (λ x. refl) (λ x. refl) mask_unary_ops word
+scan_mask_unary word =
+    scan_map mask_unary_bits 0xfc0ff07f (λ op. MaskUnary op 0 0 true) (λ x. refl) (λ x. refl) mask_unary_ops word
 
-pub scan_unit : (word : ℕ) → scan (rows Units) word ≡ answer (λ op. VectorUnit op.0 op.1 0 0 0 true) word (find unit_access_bits unit_accesses (bit_and word 0x1df0707f))
+pub scan_unit : (word : ℕ)
+    → scan (rows Units) word ≡ answer (λ op. VectorUnit op.0 op.1 0 0 0 true) word (find unit_access_bits unit_accesses (bit_and word 0x1df0707f))
 unfolding rows
-scan_unit word = scan_map unit_access_bits 0x1df0707f (λ op. VectorUnit op.0 op.1 0 0 0 true) (λ x. refl) (λ x. refl) unit_accesses word
+scan_unit word =
+    scan_map unit_access_bits 0x1df0707f (λ op. VectorUnit op.0 op.1 0 0 0 true) (λ x. refl) (λ x. refl) unit_accesses word
 
-pub scan_strided : (word : ℕ) → scan (rows Strideds) word ≡ answer (λ op. VectorStrided op.0 op.1 0 0 0 0 true) word (find strided_access_bits strided_accesses (bit_and word 0x1c00707f))
+pub scan_strided : (word : ℕ)
+    → scan (rows Strideds) word ≡ answer (λ op. VectorStrided op.0 op.1 0 0 0 0 true) word (find strided_access_bits strided_accesses (bit_and word 0x1c00707f))
 unfolding rows
-scan_strided word = scan_map strided_access_bits 0x1c00707f (λ op. VectorStrided op.0 op.1 0 0 0 0 true) (λ x. refl) (λ x. refl) strided_accesses word
+scan_strided word =
+    scan_map strided_access_bits 0x1c00707f (λ op. VectorStrided op.0 op.1 0 0 0 0 true) (λ x. refl) (λ x. refl) strided_accesses word
 
-pub scan_indexed : (word : ℕ) → scan (rows Indexeds) word ≡ answer (λ op. VectorIndexed op.0.0 op.0.1 op.1 0 0 0 0 true) word (find indexed_access_bits indexed_accesses (bit_and word 0x1c00707f))
+pub scan_indexed : (word : ℕ)
+    → scan (rows Indexeds) word ≡ answer (λ op. VectorIndexed op.0.0 op.0.1 op.1 0 0 0 0 true) word (find indexed_access_bits indexed_accesses (bit_and word 0x1c00707f))
 unfolding rows
-scan_indexed word = scan_map indexed_access_bits 0x1c00707f (λ op. VectorIndexed op.0.0 op.0.1 op.1 0 0 0 0 true) (λ x. refl) (λ x. refl) indexed_accesses word
+scan_indexed word =
+    scan_map indexed_access_bits 0x1c00707f (λ op. VectorIndexed op.0.0 op.0.1 op.1 0 0 0 0 true) (λ x. refl) (λ x. refl) indexed_accesses word
 
-pub scan_whole_load : (word : ℕ) → scan (rows WholeLoads) word ≡ answer (λ op. WholeLoad op.0 op.1 0 0) word (find whole_load_bits whole_loads (bit_and word 0xfff0707f))
+pub scan_whole_load : (word : ℕ)
+    → scan (rows WholeLoads) word ≡ answer (λ op. WholeLoad op.0 op.1 0 0) word (find whole_load_bits whole_loads (bit_and word 0xfff0707f))
 unfolding rows
-scan_whole_load word = scan_map whole_load_bits 0xfff0707f (λ op. WholeLoad op.0 op.1 0 0) (λ x. refl) (λ x. refl) whole_loads word
+scan_whole_load word =
+    scan_map whole_load_bits 0xfff0707f (λ op. WholeLoad op.0 op.1 0 0) (λ x. refl) (λ x. refl) whole_loads word
 
-pub scan_whole_store : (word : ℕ) → scan (rows WholeStores) word ≡ answer (λ op. WholeStore op 0 0) word (find whole_store_bits counts (bit_and word 0xfff0707f))
+pub scan_whole_store : (word : ℕ)
+    → scan (rows WholeStores) word ≡ answer (λ op. WholeStore op 0 0) word (find whole_store_bits counts (bit_and word 0xfff0707f))
 unfolding rows
-scan_whole_store word = scan_map whole_store_bits 0xfff0707f (λ op. WholeStore op 0 0) (λ x. refl) (λ x. refl) counts word
+scan_whole_store word =
+    scan_map whole_store_bits 0xfff0707f (λ op. WholeStore op 0 0) (λ x. refl) (λ x. refl) counts word
 
-pub scan_mask_memory : (word : ℕ) → scan (rows MaskMemories) word ≡ answer (λ op. MaskMemory op 0 0) word (find mask_memory_bits directions (bit_and word 0xfff0707f))
+pub scan_mask_memory : (word : ℕ)
+    → scan (rows MaskMemories) word ≡ answer (λ op. MaskMemory op 0 0) word (find mask_memory_bits directions (bit_and word 0xfff0707f))
 unfolding rows
-scan_mask_memory word = scan_map mask_memory_bits 0xfff0707f (λ op. MaskMemory op 0 0) (λ x. refl) (λ x. refl) directions word
+scan_mask_memory word =
+    scan_map mask_memory_bits 0xfff0707f (λ op. MaskMemory op 0 0) (λ x. refl) (λ x. refl) directions word
 
 -- ---- the families that a word can be of, by its opcode, and for vector operations by funct3 too
 
 pub at_03 : (word : ℕ) → bit_and word 0x7f ≡ 0x03 → scan table word ≡ scan (rows Loads) word
 unfolding table rows
-at_03 word is = same_narrow 0x7f 0x03 word is table (rows Loads) refl
+at_03 word is = same_narrow 0x7f 0x03 word is table _ refl
 
-pub at_07 : (word : ℕ) → bit_and word 0x7f ≡ 0x07 → scan table word ≡ scan (rows Units ++ rows Strideds ++ rows Indexeds ++ rows WholeLoads ++ rows WholeStores ++ rows MaskMemories) word
+pub at_07 : (word : ℕ) → bit_and word 0x7f ≡ 0x07
+    → scan table word ≡ scan (rows Units ++ rows Strideds ++ rows Indexeds ++ rows WholeLoads ++ rows WholeStores ++ rows MaskMemories) word
 unfolding table rows
-at_07 word is = same_narrow 0x7f 0x07 word is table (rows Units ++ rows Strideds ++ rows Indexeds ++ rows WholeLoads ++ rows WholeStores ++ rows MaskMemories) refl
+at_07 word is = same_narrow 0x7f 0x07 word is table _ refl
 
 pub at_0f : (word : ℕ) → bit_and word 0x7f ≡ 0x0f → scan table word ≡ scan (rows Fences) word
 unfolding table rows
-at_0f word is = same_narrow 0x7f 0x0f word is table (rows Fences) refl
+at_0f word is = same_narrow 0x7f 0x0f word is table _ refl
 
 pub at_13 : (word : ℕ) → bit_and word 0x7f ≡ 0x13 → scan table word ≡ scan (rows OpImms ++ rows ShiftImms) word
 unfolding table rows
-at_13 word is = same_narrow 0x7f 0x13 word is table (rows OpImms ++ rows ShiftImms) refl
+at_13 word is = same_narrow 0x7f 0x13 word is table _ refl
 
 pub at_17 : (word : ℕ) → bit_and word 0x7f ≡ 0x17 → scan table word ≡ scan (rows Uppers) word
 unfolding table rows
-at_17 word is = same_narrow 0x7f 0x17 word is table (rows Uppers) refl
+at_17 word is = same_narrow 0x7f 0x17 word is table _ refl
 
 pub at_1b : (word : ℕ) → bit_and word 0x7f ≡ 0x1b → scan table word ≡ scan (rows OpImms ++ rows ShiftImmWords) word
 unfolding table rows
-at_1b word is = same_narrow 0x7f 0x1b word is table (rows OpImms ++ rows ShiftImmWords) refl
+at_1b word is = same_narrow 0x7f 0x1b word is table _ refl
 
 pub at_23 : (word : ℕ) → bit_and word 0x7f ≡ 0x23 → scan table word ≡ scan (rows Stores) word
 unfolding table rows
-at_23 word is = same_narrow 0x7f 0x23 word is table (rows Stores) refl
+at_23 word is = same_narrow 0x7f 0x23 word is table _ refl
 
-pub at_27 : (word : ℕ) → bit_and word 0x7f ≡ 0x27 → scan table word ≡ scan (rows Units ++ rows Strideds ++ rows Indexeds ++ rows WholeLoads ++ rows WholeStores ++ rows MaskMemories) word
+pub at_27 : (word : ℕ) → bit_and word 0x7f ≡ 0x27
+    → scan table word ≡ scan (rows Units ++ rows Strideds ++ rows Indexeds ++ rows WholeLoads ++ rows WholeStores ++ rows MaskMemories) word
 unfolding table rows
-at_27 word is = same_narrow 0x7f 0x27 word is table (rows Units ++ rows Strideds ++ rows Indexeds ++ rows WholeLoads ++ rows WholeStores ++ rows MaskMemories) refl
+at_27 word is = same_narrow 0x7f 0x27 word is table _ refl
 
 pub at_33 : (word : ℕ) → bit_and word 0x7f ≡ 0x33 → scan table word ≡ scan (rows Ops) word
 unfolding table rows
-at_33 word is = same_narrow 0x7f 0x33 word is table (rows Ops) refl
+at_33 word is = same_narrow 0x7f 0x33 word is table _ refl
 
 pub at_37 : (word : ℕ) → bit_and word 0x7f ≡ 0x37 → scan table word ≡ scan (rows Uppers) word
 unfolding table rows
-at_37 word is = same_narrow 0x7f 0x37 word is table (rows Uppers) refl
+at_37 word is = same_narrow 0x7f 0x37 word is table _ refl
 
 pub at_3b : (word : ℕ) → bit_and word 0x7f ≡ 0x3b → scan table word ≡ scan (rows Ops) word
 unfolding table rows
-at_3b word is = same_narrow 0x7f 0x3b word is table (rows Ops) refl
+at_3b word is = same_narrow 0x7f 0x3b word is table _ refl
 
 pub at_63 : (word : ℕ) → bit_and word 0x7f ≡ 0x63 → scan table word ≡ scan (rows Branches) word
 unfolding table rows
-at_63 word is = same_narrow 0x7f 0x63 word is table (rows Branches) refl
+at_63 word is = same_narrow 0x7f 0x63 word is table _ refl
 
 pub at_67 : (word : ℕ) → bit_and word 0x7f ≡ 0x67 → scan table word ≡ scan (rows JumpRegisters) word
 unfolding table rows
-at_67 word is = same_narrow 0x7f 0x67 word is table (rows JumpRegisters) refl
+at_67 word is = same_narrow 0x7f 0x67 word is table _ refl
 
 pub at_6f : (word : ℕ) → bit_and word 0x7f ≡ 0x6f → scan table word ≡ scan (rows Jumps) word
 unfolding table rows
-at_6f word is = same_narrow 0x7f 0x6f word is table (rows Jumps) refl
+at_6f word is = same_narrow 0x7f 0x6f word is table _ refl
 
-pub at_73 : (word : ℕ) → bit_and word 0x7f ≡ 0x73 → scan table word ≡ scan (rows Systems ++ rows Csrs ++ rows CsrImmediates) word
+pub at_73 : (word : ℕ) → bit_and word 0x7f ≡ 0x73
+    → scan table word ≡ scan (rows Systems ++ rows Csrs ++ rows CsrImmediates) word
 unfolding table rows
-at_73 word is = same_narrow 0x7f 0x73 word is table (rows Systems ++ rows Csrs ++ rows CsrImmediates) refl
+at_73 word is = same_narrow 0x7f 0x73 word is table _ refl
 
-pub at_0057 : (word : ℕ) → bit_and word 0x707f ≡ 0x0057 → scan table word ≡ scan (rows (Ariths Opi form.V) ++ rows (Carries form.V) ++ rows (Moves form.V)) word
+pub at_0057 : (word : ℕ) → bit_and word 0x707f ≡ 0x0057
+    → scan table word ≡ scan (rows (Ariths Opi form.V) ++ rows (Carries form.V) ++ rows (Moves form.V)) word
 unfolding table rows
-at_0057 word is = same_narrow 0x707f 0x0057 word is table (rows (Ariths Opi form.V) ++ rows (Carries form.V) ++ rows (Moves form.V)) refl
+at_0057 word is = same_narrow 0x707f 0x0057 word is table _ refl
 
-pub at_4057 : (word : ℕ) → bit_and word 0x707f ≡ 0x4057 → scan table word ≡ scan (rows (Ariths Opi form.X) ++ rows (Carries form.X) ++ rows (Moves form.X)) word
+pub at_4057 : (word : ℕ) → bit_and word 0x707f ≡ 0x4057
+    → scan table word ≡ scan (rows (Ariths Opi form.X) ++ rows (Carries form.X) ++ rows (Moves form.X)) word
 unfolding table rows
-at_4057 word is = same_narrow 0x707f 0x4057 word is table (rows (Ariths Opi form.X) ++ rows (Carries form.X) ++ rows (Moves form.X)) refl
+at_4057 word is = same_narrow 0x707f 0x4057 word is table _ refl
 
-pub at_3057 : (word : ℕ) → bit_and word 0x707f ≡ 0x3057 → scan table word ≡ scan (rows (Ariths Opi form.I) ++ rows (Carries form.I) ++ rows (Moves form.I) ++ rows WholeMoves) word
+pub at_3057 : (word : ℕ) → bit_and word 0x707f ≡ 0x3057
+    → scan table word ≡ scan (rows (Ariths Opi form.I) ++ rows (Carries form.I) ++ rows (Moves form.I) ++ rows WholeMoves) word
 unfolding table rows
-at_3057 word is = same_narrow 0x707f 0x3057 word is table (rows (Ariths Opi form.I) ++ rows (Carries form.I) ++ rows (Moves form.I) ++ rows WholeMoves) refl
+at_3057 word is = same_narrow 0x707f 0x3057 word is table _ refl
 
-pub at_2057 : (word : ℕ) → bit_and word 0x707f ≡ 0x2057 → scan table word ≡ scan (rows (Ariths Opm form.V) ++ rows MaskLogics ++ rows Compresses ++ rows MasksToScalar ++ rows Extends ++ rows MaskUnaries ++ rows ElementIndices ++ rows MovesToScalar) word
+pub at_2057 : (word : ℕ) → bit_and word 0x707f ≡ 0x2057
+    → scan table word ≡ scan (rows (Ariths Opm form.V) ++ rows MaskLogics ++ rows Compresses ++ rows MasksToScalar ++ rows Extends ++ rows MaskUnaries ++ rows ElementIndices ++ rows MovesToScalar) word
 unfolding table rows
-at_2057 word is = same_narrow 0x707f 0x2057 word is table (rows (Ariths Opm form.V) ++ rows MaskLogics ++ rows Compresses ++ rows MasksToScalar ++ rows Extends ++ rows MaskUnaries ++ rows ElementIndices ++ rows MovesToScalar) refl
+at_2057 word is = same_narrow 0x707f 0x2057 word is table _ refl
 
-pub at_6057 : (word : ℕ) → bit_and word 0x707f ≡ 0x6057 → scan table word ≡ scan (rows (Ariths Opm form.X) ++ rows MovesToVector) word
+pub at_6057 : (word : ℕ) → bit_and word 0x707f ≡ 0x6057
+    → scan table word ≡ scan (rows (Ariths Opm form.X) ++ rows MovesToVector) word
 unfolding table rows
-at_6057 word is = same_narrow 0x707f 0x6057 word is table (rows (Ariths Opm form.X) ++ rows MovesToVector) refl
+at_6057 word is = same_narrow 0x707f 0x6057 word is table _ refl
 
-pub at_7057 : (word : ℕ) → bit_and word 0x707f ≡ 0x7057 → scan table word ≡ scan (rows SetVlis ++ rows SetIvlis ++ rows SetVls) word
+pub at_7057 : (word : ℕ) → bit_and word 0x707f ≡ 0x7057
+    → scan table word ≡ scan (rows SetVlis ++ rows SetIvlis ++ rows SetVls) word
 unfolding table rows
-at_7057 word is = same_narrow 0x707f 0x7057 word is table (rows SetVlis ++ rows SetIvlis ++ rows SetVls) refl
+at_7057 word is = same_narrow 0x707f 0x7057 word is table _ refl
 
 -- every opcode of the table
 abbrev pub opcodes : List ℕ
-opcodes = 0x03 ∷ 0x07 ∷ 0x0f ∷ 0x13 ∷ 0x17 ∷ 0x1b ∷ 0x23 ∷ 0x27 ∷ 0x33 ∷ 0x37 ∷ 0x3b ∷ 0x57 ∷ 0x63 ∷ 0x67 ∷ 0x6f ∷ 0x73 ∷ []
+opcodes =
+    0x03 ∷ 0x07 ∷ 0x0f ∷ 0x13 ∷ 0x17 ∷ 0x1b ∷ 0x23 ∷ 0x27 ∷ 0x33 ∷ 0x37 ∷ 0x3b ∷ 0x57 ∷ 0x63 ∷ 0x67 ∷ 0x6f ∷ 0x73 ∷ []
 
 pub no_opcode : (word : ℕ) → DiffersFrom opcodes (bit_and word 0x7f) → scan table word ≡ None
 unfolding table rows
@@ -283,10 +338,13 @@ no_opcode word h = no_scan 0x7f opcodes word table refl h
 abbrev pub places : List ℕ
 places = 0x0057 ∷ 0x4057 ∷ 0x3057 ∷ 0x2057 ∷ 0x6057 ∷ 0x7057 ∷ []
 
-pub no_place : (word : ℕ) → bit_and word 0x7f ≡ 0x57 → DiffersFrom places (bit_and word 0x707f) → scan table word ≡ None
+pub no_place : (word : ℕ) → bit_and word 0x7f ≡ 0x57 → DiffersFrom places (bit_and word 0x707f)
+    → scan table word ≡ None
 unfolding table rows
-no_place word is h = scan_narrow 0x7f 0x57 word is table ∙ no_scan 0x707f places word (narrowed 0x7f 0x57 table) refl h
+no_place word is h =
+    scan_narrow 0x7f 0x57 word is table ∙ no_scan 0x707f places word (narrowed 0x7f 0x57 table) refl h
 
-pub ruleset opcode_steps = (at_03, at_07, at_0f, at_13, at_17, at_1b, at_23, at_27, at_33, at_37, at_3b, at_63, at_67, at_6f, at_73)
+pub ruleset opcode_steps =
+    (at_03, at_07, at_0f, at_13, at_17, at_1b, at_23, at_27, at_33, at_37, at_3b, at_63, at_67, at_6f, at_73)
 
 pub ruleset place_steps = (at_0057, at_4057, at_3057, at_2057, at_6057, at_7057)

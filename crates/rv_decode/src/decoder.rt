@@ -56,7 +56,11 @@ fn system_or_csr(word: u32) -> Option<Instr>
 /// LOAD-FP and STORE-FP.
 #[tactic(auto, using(rv_model::proofs::InstructionLaws::scan_append))]
 fn memory(word: u32) -> Option<Instr>
-    ensures { result ≡ scan (rows Units ++ rows Strideds ++ rows Indexeds ++ rows WholeLoads ++ rows WholeStores ++ rows MaskMemories) word }
+    ensures { result
+        ≡ scan
+        (rows Units ++ rows Strideds ++ rows Indexeds ++ rows WholeLoads ++ rows WholeStores
+        ++ rows MaskMemories)
+        word }
 {
     if let Some(instr) = unit(word) {
         return Some(instr);
@@ -95,7 +99,11 @@ fn integer(word: u32, form: Form) -> Option<Instr>
 #[tactic(auto, using(rv_model::proofs::InstructionLaws::scan_append))]
 fn integer_immediate(word: u32) -> Option<Instr>
     requires { bit_and word 0x707f ≡ 0x3057 }
-    ensures { result ≡ scan (rows (Ariths Major.Opi form.I) ++ rows (Carries form.I) ++ rows (Moves form.I) ++ rows WholeMoves) word }
+    ensures { result
+        ≡ scan
+        (rows (Ariths Major.Opi form.I) ++ rows (Carries form.I) ++ rows (Moves form.I)
+        ++ rows WholeMoves)
+        word }
 {
     if let Some(instr) = integer(word, Form::I) {
         return Some(instr);
@@ -107,7 +115,12 @@ fn integer_immediate(word: u32) -> Option<Instr>
 #[tactic(auto, using(rv_model::proofs::InstructionLaws::scan_append))]
 fn multiply_vector(word: u32) -> Option<Instr>
     requires { bit_and word 0x707f ≡ 0x2057 }
-    ensures { result ≡ scan (rows (Ariths Major.Opm form.V) ++ rows MaskLogics ++ rows Compresses ++ rows MasksToScalar ++ rows Extends ++ rows MaskUnaries ++ rows ElementIndices ++ rows MovesToScalar) word }
+    ensures { result
+        ≡ scan
+        (rows (Ariths Major.Opm form.V) ++ rows MaskLogics ++ rows Compresses
+        ++ rows MasksToScalar ++ rows Extends ++ rows MaskUnaries ++ rows ElementIndices
+        ++ rows MovesToScalar)
+        word }
 {
     if let Some(instr) = arith(word, Major::Opm, Form::V) {
         return Some(instr);

@@ -100,7 +100,9 @@ fn store_part(imm: Field<12>) -> u64
 
 /// The distance of a branch, in its four pieces.
 fn branch_part(offset: Field<12>) -> u64
-    ensures value { result ≡ offset / 2 ^ 10 % 2 ^ 1 * 2 ^ 7 + offset % 2 ^ 4 * 2 ^ 8 + offset / 2 ^ 4 % 2 ^ 6 * 2 ^ 25 + offset / 2 ^ 11 * 2 ^ 31 }
+    ensures value { result
+        ≡ offset / 2 ^ 10 % 2 ^ 1 * 2 ^ 7 + offset % 2 ^ 4 * 2 ^ 8
+        + offset / 2 ^ 4 % 2 ^ 6 * 2 ^ 25 + offset / 2 ^ 11 * 2 ^ 31 }
     ensures fit { offset < 2 ^ 12 }
     ensures small { result < 2 ^ 40 }
 {
@@ -110,7 +112,9 @@ fn branch_part(offset: Field<12>) -> u64
 
 /// The distance of a jump, in its four pieces.
 fn jump_part(offset: Field<20>) -> u64
-    ensures value { result ≡ offset / 2 ^ 11 % 2 ^ 8 * 2 ^ 12 + offset / 2 ^ 10 % 2 ^ 1 * 2 ^ 20 + offset % 2 ^ 10 * 2 ^ 21 + offset / 2 ^ 19 * 2 ^ 31 }
+    ensures value { result
+        ≡ offset / 2 ^ 11 % 2 ^ 8 * 2 ^ 12 + offset / 2 ^ 10 % 2 ^ 1 * 2 ^ 20
+        + offset % 2 ^ 10 * 2 ^ 21 + offset / 2 ^ 19 * 2 ^ 31 }
     ensures fit { offset < 2 ^ 20 }
     ensures small { result < 2 ^ 40 }
 {
@@ -293,7 +297,7 @@ fn operands(instr: &Instr) -> u64
 }
 
 /// The word of an instruction.
-#[tactic(auto, using(rv_model::proofs::InstructionRows::small, rv_model::proofs::InstructionRows::back, rv_model::proofs::InstructionRows::word_sum))]
+#[tactic(auto, using(rv_model::proofs::InstructionRoundTrips::small, rv_model::proofs::InstructionRoundTrips::back, rv_model::proofs::InstructionRoundTrips::word_sum))]
 pub fn encode(instr: &Instr) -> u32
     ensures word { result ≡ word_of instr.now }
     ensures row { scan table result ≡ Some instr.now }

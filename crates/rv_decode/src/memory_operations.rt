@@ -1,4 +1,6 @@
 //! The vector accesses of memory by the bits that they fix.
+#![tactic(auto, unfolding(rv_model::specs::InstructionTable::find))]
+
 ghost use Rattle.std.specs.Prelude.{◌≡◌};
 ghost use Rattle.rv_model.specs.FixedBits.{counts, directions, mask_memory_bits};
 ghost use Rattle.rv_model.specs.InstructionLayout.{unit_access_bits, strided_access_bits, indexed_access_bits, whole_load_bits, whole_store_bits};
@@ -7,7 +9,6 @@ ghost use Rattle.rv_model.specs.InstructionTable.{find, unit_accesses, strided_a
 use rv_model::operations::{Direction, Order, RegisterCount, UnitOp, Width};
 
 /// The unit-stride access of these bits.
-#[tactic(auto, unfolding(rv_model::specs::InstructionTable::find))]
 pub fn unit_access(bits: u32) -> Option<(UnitOp, Width)>
     ensures { result ≡ find unit_access_bits unit_accesses bits }
 {
@@ -29,7 +30,6 @@ pub fn unit_access(bits: u32) -> Option<(UnitOp, Width)>
 }
 
 /// The strided access of these bits.
-#[tactic(auto, unfolding(rv_model::specs::InstructionTable::find))]
 pub fn strided_access(bits: u32) -> Option<(Direction, Width)>
     ensures { result ≡ find strided_access_bits strided_accesses bits }
 {
@@ -47,7 +47,6 @@ pub fn strided_access(bits: u32) -> Option<(Direction, Width)>
 }
 
 /// The indexed access of these bits, with the index's width.
-#[tactic(auto, unfolding(rv_model::specs::InstructionTable::find))]
 pub fn indexed_access(bits: u32) -> Option<((Direction, Order), Width)>
     ensures { result ≡ find indexed_access_bits indexed_accesses bits }
 {
@@ -73,7 +72,6 @@ pub fn indexed_access(bits: u32) -> Option<((Direction, Order), Width)>
 }
 
 /// The load of whole registers of these bits.
-#[tactic(auto, unfolding(rv_model::specs::InstructionTable::find))]
 pub fn whole_load_access(bits: u32) -> Option<(RegisterCount, Width)>
     ensures { result ≡ find whole_load_bits whole_loads bits }
 {
@@ -99,7 +97,6 @@ pub fn whole_load_access(bits: u32) -> Option<(RegisterCount, Width)>
 }
 
 /// How many registers a store of whole registers of these bits moves.
-#[tactic(auto, unfolding(rv_model::specs::InstructionTable::find))]
 pub fn whole_store_count(bits: u32) -> Option<RegisterCount>
     ensures { result ≡ find whole_store_bits counts bits }
 {
@@ -113,7 +110,6 @@ pub fn whole_store_count(bits: u32) -> Option<RegisterCount>
 }
 
 /// The direction of an access to a mask of these bits.
-#[tactic(auto, unfolding(rv_model::specs::InstructionTable::find))]
 pub fn mask_memory_direction(bits: u32) -> Option<Direction>
     ensures { result ≡ find mask_memory_bits directions bits }
 {

@@ -1,4 +1,6 @@
 //! Words to scalar instructions, a function for each layout of operands.
+#![tactic(auto, unfolding(rv_model::specs::InstructionTable::scan, rv_model::specs::InstructionTable::rows))]
+
 ghost use Rattle.std.specs.Prelude.{◌≡◌};
 ghost use Rattle.rv_model.specs.InstructionTable.{scan, rows, Uppers, Jumps, JumpRegisters, Branches, Loads, Stores, OpImms, ShiftImms, ShiftImmWords, Ops, Fences, Systems, Csrs, CsrImmediates};
 
@@ -23,7 +25,6 @@ pub fn upper(word: u32) -> Option<Instr>
 }
 
 /// JAL.
-#[tactic(auto, unfolding(rv_model::specs::InstructionTable::scan, rv_model::specs::InstructionTable::rows))]
 pub fn jump(word: u32) -> Option<Instr>
     ensures { result ≡ scan (rows Jumps) word }
 {
@@ -38,7 +39,6 @@ pub fn jump(word: u32) -> Option<Instr>
 }
 
 /// JALR.
-#[tactic(auto, unfolding(rv_model::specs::InstructionTable::scan, rv_model::specs::InstructionTable::rows))]
 pub fn jump_register(word: u32) -> Option<Instr>
     ensures { result ≡ scan (rows JumpRegisters) word }
 {
@@ -152,7 +152,6 @@ pub fn op(word: u32) -> Option<Instr>
 }
 
 /// FENCE of MISC-MEM.
-#[tactic(auto, unfolding(rv_model::specs::InstructionTable::scan, rv_model::specs::InstructionTable::rows))]
 pub fn fence(word: u32) -> Option<Instr>
     ensures { result ≡ scan (rows Fences) word }
 {

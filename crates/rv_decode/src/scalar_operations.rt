@@ -1,4 +1,6 @@
 //! The scalar operations by the bits that they fix.
+#![tactic(auto, unfolding(rv_model::specs::InstructionTable::find))]
+
 ghost use Rattle.std.specs.Prelude.{◌≡◌};
 ghost use Rattle.rv_model.specs.FixedBits.{upper_bits, upper_ops, branch_bits, branch_ops, load_bits, load_ops, store_bits, store_ops, op_imm_bits, op_imm_ops, shift_imm_bits, shift_imm_ops, shift_imm_word_bits, shift_imm_word_ops, op_bits, op_ops, system_bits, system_ops, csr_bits, csr_ops, csr_immediate_bits, csr_immediate_ops};
 ghost use Rattle.rv_model.specs.InstructionTable.{find};
@@ -9,7 +11,6 @@ use rv_model::operations::{
 };
 
 /// The operation of these bits, for `Instr::Upper`.
-#[tactic(auto, unfolding(rv_model::specs::InstructionTable::find))]
 pub fn upper_op(bits: u32) -> Option<UpperOp>
     ensures { result ≡ find upper_bits upper_ops bits }
 {
@@ -21,7 +22,6 @@ pub fn upper_op(bits: u32) -> Option<UpperOp>
 }
 
 /// The operation of these bits, for `Instr::Branch`.
-#[tactic(auto, unfolding(rv_model::specs::InstructionTable::find))]
 pub fn branch_op(bits: u32) -> Option<BranchOp>
     ensures { result ≡ find branch_bits branch_ops bits }
 {
@@ -37,7 +37,6 @@ pub fn branch_op(bits: u32) -> Option<BranchOp>
 }
 
 /// The operation of these bits, for `Instr::Load`.
-#[tactic(auto, unfolding(rv_model::specs::InstructionTable::find))]
 pub fn load_op(bits: u32) -> Option<LoadOp>
     ensures { result ≡ find load_bits load_ops bits }
 {
@@ -54,7 +53,6 @@ pub fn load_op(bits: u32) -> Option<LoadOp>
 }
 
 /// The operation of these bits, for `Instr::Store`.
-#[tactic(auto, unfolding(rv_model::specs::InstructionTable::find))]
 pub fn store_op(bits: u32) -> Option<StoreOp>
     ensures { result ≡ find store_bits store_ops bits }
 {
@@ -68,7 +66,6 @@ pub fn store_op(bits: u32) -> Option<StoreOp>
 }
 
 /// The operation of these bits, for `Instr::OpImm`.
-#[tactic(auto, unfolding(rv_model::specs::InstructionTable::find))]
 pub fn op_imm_op(bits: u32) -> Option<OpImmOp>
     ensures { result ≡ find op_imm_bits op_imm_ops bits }
 {
@@ -85,7 +82,6 @@ pub fn op_imm_op(bits: u32) -> Option<OpImmOp>
 }
 
 /// The operation of these bits, for `Instr::ShiftImm`.
-#[tactic(auto, unfolding(rv_model::specs::InstructionTable::find))]
 pub fn shift_imm_op(bits: u32) -> Option<ShiftImmOp>
     ensures { result ≡ find shift_imm_bits shift_imm_ops bits }
 {
@@ -98,7 +94,6 @@ pub fn shift_imm_op(bits: u32) -> Option<ShiftImmOp>
 }
 
 /// The operation of these bits, for `Instr::ShiftImmWord`.
-#[tactic(auto, unfolding(rv_model::specs::InstructionTable::find))]
 pub fn shift_imm_word_op(bits: u32) -> Option<ShiftImmWordOp>
     ensures { result ≡ find shift_imm_word_bits shift_imm_word_ops bits }
 {
@@ -111,7 +106,6 @@ pub fn shift_imm_word_op(bits: u32) -> Option<ShiftImmWordOp>
 }
 
 /// The operation of these bits, for `Instr::Op`.
-#[tactic(auto, unfolding(rv_model::specs::InstructionTable::find))]
 pub fn op_op(bits: u32) -> Option<OpOp>
     ensures { result ≡ find op_bits op_ops bits }
 {
@@ -149,7 +143,6 @@ pub fn op_op(bits: u32) -> Option<OpOp>
 }
 
 /// The operation of these bits, for `Instr::System`.
-#[tactic(auto, unfolding(rv_model::specs::InstructionTable::find))]
 pub fn system_op(bits: u32) -> Option<SystemOp>
     ensures { result ≡ find system_bits system_ops bits }
 {
@@ -161,7 +154,6 @@ pub fn system_op(bits: u32) -> Option<SystemOp>
 }
 
 /// The operation of these bits, for `Instr::Csr`.
-#[tactic(auto, unfolding(rv_model::specs::InstructionTable::find))]
 pub fn csr_op(bits: u32) -> Option<CsrOp>
     ensures { result ≡ find csr_bits csr_ops bits }
 {
@@ -174,7 +166,6 @@ pub fn csr_op(bits: u32) -> Option<CsrOp>
 }
 
 /// The operation of these bits, for `Instr::CsrImmediate`.
-#[tactic(auto, unfolding(rv_model::specs::InstructionTable::find))]
 pub fn csr_immediate_op(bits: u32) -> Option<CsrImmediateOp>
     ensures { result ≡ find csr_immediate_bits csr_immediate_ops bits }
 {

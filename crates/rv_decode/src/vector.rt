@@ -1,4 +1,6 @@
 //! Words to vector instructions on registers, a function for each layout of operands.
+#![tactic(auto, unfolding(rv_model::specs::InstructionTable::scan, rv_model::specs::InstructionTable::rows))]
+
 ghost use Rattle.std.specs.Prelude.{◌≡◌, bit_and};
 ghost use Rattle.rv_model.specs.Operations.{major_bits};
 ghost use Rattle.rv_model.specs.InstructionTable.{scan, rows, SetVlis, SetIvlis, SetVls, WholeMoves, MaskLogics, Compresses, MasksToScalar, Extends, MaskUnaries, ElementIndices, MovesToScalar, MovesToVector, Ariths, Carries, Moves};
@@ -11,7 +13,7 @@ use rv_model::operations::{Form, Major};
 use rv_model::{Arith, Carry, Field, Instr};
 
 /// An operation with a line of its own in the table, masked or not.
-#[tactic(auto, using(crate::proofs::Scan::scan_arith, crate::proofs::Scan::form_source_of))]
+#[tactic(auto, using(crate::proofs::Scan::scan_arith, rv_model::proofs::InstructionWords::form_source_of))]
 pub fn arith(word: u32, major: Major, form: Form) -> Option<Instr>
     requires { bit_and word 0x707f ≡ major_bits major form }
     ensures { result ≡ scan (rows (Ariths major form)) word }
@@ -29,7 +31,7 @@ pub fn arith(word: u32, major: Major, form: Form) -> Option<Instr>
 }
 
 /// An operation that takes v0.
-#[tactic(auto, using(crate::proofs::Scan::scan_carry, crate::proofs::Scan::form_source_of))]
+#[tactic(auto, using(crate::proofs::Scan::scan_carry, rv_model::proofs::InstructionWords::form_source_of))]
 pub fn carry(word: u32, form: Form) -> Option<Instr>
     ensures { result ≡ scan (rows (Carries form)) word }
 {
@@ -42,7 +44,6 @@ pub fn carry(word: u32, form: Form) -> Option<Instr>
 }
 
 /// `vmv.v.v`, `vmv.v.x` or `vmv.v.i`, whose vs2 is 0.
-#[tactic(auto, unfolding(rv_model::specs::InstructionTable::scan, rv_model::specs::InstructionTable::rows))]
 pub fn vector_move(word: u32, form: Form) -> Option<Instr>
     ensures { result ≡ scan (rows (Moves form)) word }
 {
@@ -62,7 +63,6 @@ pub fn vector_move(word: u32, form: Form) -> Option<Instr>
 }
 
 /// `vsetvli`.
-#[tactic(auto, unfolding(rv_model::specs::InstructionTable::scan, rv_model::specs::InstructionTable::rows))]
 pub fn set_vli(word: u32) -> Option<Instr>
     ensures { result ≡ scan (rows SetVlis) word }
 {
@@ -78,7 +78,6 @@ pub fn set_vli(word: u32) -> Option<Instr>
 }
 
 /// `vsetivli`.
-#[tactic(auto, unfolding(rv_model::specs::InstructionTable::scan, rv_model::specs::InstructionTable::rows))]
 pub fn set_ivli(word: u32) -> Option<Instr>
     ensures { result ≡ scan (rows SetIvlis) word }
 {
@@ -94,7 +93,6 @@ pub fn set_ivli(word: u32) -> Option<Instr>
 }
 
 /// `vsetvl`.
-#[tactic(auto, unfolding(rv_model::specs::InstructionTable::scan, rv_model::specs::InstructionTable::rows))]
 pub fn set_vl(word: u32) -> Option<Instr>
     ensures { result ≡ scan (rows SetVls) word }
 {
@@ -137,7 +135,6 @@ pub fn mask_logic(word: u32) -> Option<Instr>
 }
 
 /// `vcompress.vm`, which is never masked.
-#[tactic(auto, unfolding(rv_model::specs::InstructionTable::scan, rv_model::specs::InstructionTable::rows))]
 pub fn compress(word: u32) -> Option<Instr>
     ensures { result ≡ scan (rows Compresses) word }
 {
@@ -195,7 +192,6 @@ pub fn mask_unary(word: u32) -> Option<Instr>
 }
 
 /// `vid.v`.
-#[tactic(auto, unfolding(rv_model::specs::InstructionTable::scan, rv_model::specs::InstructionTable::rows))]
 pub fn element_index(word: u32) -> Option<Instr>
     ensures { result ≡ scan (rows ElementIndices) word }
 {
@@ -210,7 +206,6 @@ pub fn element_index(word: u32) -> Option<Instr>
 }
 
 /// `vmv.x.s`.
-#[tactic(auto, unfolding(rv_model::specs::InstructionTable::scan, rv_model::specs::InstructionTable::rows))]
 pub fn move_to_scalar(word: u32) -> Option<Instr>
     ensures { result ≡ scan (rows MovesToScalar) word }
 {
@@ -225,7 +220,6 @@ pub fn move_to_scalar(word: u32) -> Option<Instr>
 }
 
 /// `vmv.s.x`.
-#[tactic(auto, unfolding(rv_model::specs::InstructionTable::scan, rv_model::specs::InstructionTable::rows))]
 pub fn move_to_vector(word: u32) -> Option<Instr>
     ensures { result ≡ scan (rows MovesToVector) word }
 {

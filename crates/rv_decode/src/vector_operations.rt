@@ -134,7 +134,11 @@ pub fn opm(funct6: u32, form: Form) -> Option<VectorOp>
 /// The operation of these bits that takes v0 and has this form.
 #[tactic(auto, unfolding(rv_model::specs::InstructionTable::find))]
 pub fn carry_op(bits: u32, form: Form) -> Option<CarryOp>
-    ensures row { result ≡ find (λ op. line_bits (carry_line op) form) (those carry_line Major.Opi form carry_ops) bits }
+    ensures row { result
+        ≡ find
+        (λ op. line_bits (carry_line op) form)
+        (those carry_line Major.Opi form carry_ops)
+        bits }
     ensures allowed { IfSome result (λ op. has_form (carry_line op).forms form ≡ true) }
 {
     match form {

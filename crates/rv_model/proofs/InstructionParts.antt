@@ -19,14 +19,15 @@ clear f (p ∷ ps) = nat_eq (bit_and f (place p)) 0 && clear f ps
 -- no two parts share a bit, and none has one of m
 abbrev pub share_none : ℕ → List Part → Bool
 share_none m [] = true
-share_none m (p ∷ ps) = nat_eq (bit_and (mask_of m ps) (place p)) 0 && (nat_eq (bit_and (place p) m) 0 && (clear (place p) ps && share_none m ps))
+share_none m (p ∷ ps) =
+    nat_eq (bit_and (mask_of m ps) (place p)) 0 && (nat_eq (bit_and (place p) m) 0 && (clear (place p) ps && share_none m ps))
 
 -- each part of the word is the part's value
 abbrev pub Reads : ℕ → List Part → Type 0
 Reads word [] = Unit {0}
 Reads word (p ∷ ps) = (word / 2 ^ p.low % 2 ^ p.len ≡ p.value) × Reads word ps
 
-both_true : (a b : Bool) → (a && b) ≡ true → (a ≡ true) × (b ≡ true)
+pub both_true : (a b : Bool) → (a && b) ≡ true → (a ≡ true) × (b ≡ true)
 both_true true b h = (refl, h)
 both_true false b h = absurd (cc)
 
@@ -84,7 +85,8 @@ step_of m p ps h =
     let c : (clear (place p) ps ≡ true) × (share_none m ps ≡ true) = both_true (clear (place p) ps) (share_none m ps) b.1 in
     record { new = eqb-true (bit_and (mask_of m ps) (place p)) 0 a.0; fixed = eqb-true (bit_and (place p) m) 0 b.0; others = c.0; rest = c.1 }
 
-pub inside_mask : (code m : ℕ) → bit_and code m ≡ code → (ps : List Part) → share_none m ps ≡ true → AllFit ps → bit_and (sum_of code ps) (mask_of m ps) ≡ sum_of code ps
+pub inside_mask : (code m : ℕ) → bit_and code m ≡ code → (ps : List Part) → share_none m ps ≡ true → AllFit ps
+    → bit_and (sum_of code ps) (mask_of m ps) ≡ sum_of code ps
 inside_mask code m within [] h fit = within
 inside_mask code m within (p ∷ ps) h fit =
     let s : Step m p ps = step_of m p ps h in
@@ -99,7 +101,8 @@ inside_mask code m within (p ∷ ps) h fit =
     (sum_and x y (place p) xy ∙ ap₂ (λ (a b : ℕ). a + b) (off x (mask_of m ps) (place p) ih s.new) iy ∙ zero-add y)
 
 -- what a further part leaves alone
-leaves : (code m : ℕ) → bit_and code m ≡ code → (p : Part) (ps : List Part) → Step m p ps → p.value < 2 ^ p.len → AllFit ps → (k : ℕ) → bit_and (place p) k ≡ 0 → bit_and (sum_of code ps + put p) k ≡ bit_and (sum_of code ps) k
+leaves : (code m : ℕ) → bit_and code m ≡ code → (p : Part) (ps : List Part) → Step m p ps → p.value < 2 ^ p.len
+    → AllFit ps → (k : ℕ) → bit_and (place p) k ≡ 0 → bit_and (sum_of code ps + put p) k ≡ bit_and (sum_of code ps) k
 leaves code m within p ps s room fit k h =
     let ih : bit_and (sum_of code ps) (mask_of m ps) ≡ sum_of code ps = inside_mask code m within ps s.rest fit in
     let iy : bit_and (put p) (place p) ≡ put p = put_inside p room in
@@ -108,7 +111,8 @@ leaves code m within p ps s room fit k h =
     ∙ add-zero (bit_and (sum_of code ps) k)
 
 -- the fixed bits of a sum are the code
-pub fixed_bits : (code m : ℕ) → bit_and code m ≡ code → (ps : List Part) → share_none m ps ≡ true → AllFit ps → bit_and (sum_of code ps) m ≡ code
+pub fixed_bits : (code m : ℕ) → bit_and code m ≡ code → (ps : List Part) → share_none m ps ≡ true → AllFit ps
+    → bit_and (sum_of code ps) m ≡ code
 fixed_bits code m within [] h fit = within
 fixed_bits code m within (p ∷ ps) h fit =
     let s : Step m p ps = step_of m p ps h in
@@ -117,20 +121,23 @@ fixed_bits code m within (p ∷ ps) h fit =
 times_back : (a k : ℕ) → a * 2 ^ k / 2 ^ k ≡ a
 times_back a k = mul-div_cancel a (pow_pos k)
 
-same_field : (w u low len : ℕ) → bit_and w (2 ^ (len + low) - 2 ^ low) ≡ bit_and u (2 ^ (len + low) - 2 ^ low) → w / 2 ^ low % 2 ^ len ≡ u / 2 ^ low % 2 ^ len
+same_field : (w u low len : ℕ) → bit_and w (2 ^ (len + low) - 2 ^ low) ≡ bit_and u (2 ^ (len + low) - 2 ^ low)
+    → w / 2 ^ low % 2 ^ len ≡ u / 2 ^ low % 2 ^ len
 same_field w u low len e =
     sym (times_back (w / 2 ^ low % 2 ^ len) low)
     ∙ ap (λ x. x / 2 ^ low) (sym (and_high w len low) ∙ e ∙ and_high u len low)
     ∙ times_back (u / 2 ^ low % 2 ^ len) low
 
-keep_reads : (w u : ℕ) (qs : List Part) → ((k : ℕ) → bit_and u k ≡ bit_and u k) → (f : ℕ) → ((k : ℕ) → bit_and f k ≡ 0 → bit_and w k ≡ bit_and u k) → clear f qs ≡ true → Reads u qs → Reads w qs
+keep_reads : (w u : ℕ) (qs : List Part) → ((k : ℕ) → bit_and u k ≡ bit_and u k) → (f : ℕ)
+    → ((k : ℕ) → bit_and f k ≡ 0 → bit_and w k ≡ bit_and u k) → clear f qs ≡ true → Reads u qs → Reads w qs
 keep_reads w u [] r f same h all = tt
 keep_reads w u (q ∷ qs) r f same h all =
     let a : (nat_eq (bit_and f (place q)) 0 ≡ true) × (clear f qs ≡ true) = both_true (nat_eq (bit_and f (place q)) 0) (clear f qs) h in
     (same_field w u q.low q.len (same (place q) (eqb-true (bit_and f (place q)) 0 a.0)) ∙ all.0, keep_reads w u qs r f same a.1 all.1)
 
 -- each part of a sum is its value
-pub reads : (code m : ℕ) → bit_and code m ≡ code → (ps : List Part) → share_none m ps ≡ true → clear m ps ≡ true → AllFit ps → Reads (sum_of code ps) ps
+pub reads : (code m : ℕ) → bit_and code m ≡ code → (ps : List Part) → share_none m ps ≡ true → clear m ps ≡ true
+    → AllFit ps → Reads (sum_of code ps) ps
 reads code m within [] h c fit = tt
 reads code m within (p ∷ ps) h c fit =
     let s : Step m p ps = step_of m p ps h in
@@ -150,7 +157,8 @@ abbrev pub of_word : ℕ → List Part → List Part
 of_word word [] = []
 of_word word (p ∷ ps) = part p.low p.len (word / 2 ^ p.low % 2 ^ p.len) ∷ of_word word ps
 
-pub masked : (word m : ℕ) (ps : List Part) → share_none m ps ≡ true → sum_of (bit_and word m) (of_word word ps) ≡ bit_and word (mask_of m ps)
+pub masked : (word m : ℕ) (ps : List Part) → share_none m ps ≡ true
+    → sum_of (bit_and word m) (of_word word ps) ≡ bit_and word (mask_of m ps)
 masked word m [] h = refl
 masked word m (p ∷ ps) h =
     let s : Step m p ps = step_of m p ps h in
@@ -158,5 +166,6 @@ masked word m (p ∷ ps) h =
     ∙ sym (and_sum word (mask_of m ps) (place p) s.new)
 
 -- a word is the sum of its parts
-pub rebuilt : (word m : ℕ) (ps : List Part) → word < 2 ^ 32 → share_none m ps ≡ true → mask_of m ps ≡ 2 ^ 32 - 1 → sum_of (bit_and word m) (of_word word ps) ≡ word
+pub rebuilt : (word m : ℕ) (ps : List Part) → word < 2 ^ 32 → share_none m ps ≡ true → mask_of m ps ≡ 2 ^ 32 - 1
+    → sum_of (bit_and word m) (of_word word ps) ≡ word
 rebuilt word m ps small h all = masked word m ps h ∙ ap (bit_and word) all ∙ and_mask word 32 ∙ mod-eq_of_lt small

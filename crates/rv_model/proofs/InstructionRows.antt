@@ -1,11 +1,10 @@
--- Each instruction has its row, and word and instruction tell each other
-use Rattle.std.proofs.Common.{◌≡◌, refl, ap, ap₂, ◌∙◌, sym, subst, ℕ, zero, suc, ◌+◌, ◌-◌, ◌*◌, ◌/◌, ◌%◌, ◌^◌, ◌<◌, ◌≤◌, List, [], ◌∷◌, ◌++◌, map, Option, Some, None, Bool, true, false, nat_eq, cond, inl, inr, ◌⊎◌, arith, add-zero, add_assoc}
-use Rattle.std.specs.Prelude.{IfSome}
-use Rattle.std.specs.Int.Bits.{bit_and, and_le_r}
-use Rattle.std.proofs.lemmas.Nat.{mod_below}
+-- Each instruction has its row in the table
+use Rattle.std.proofs.Common.{◌≡◌, refl, ap, sym, subst, ℕ, zero, suc, List, [], ◌∷◌, ◌++◌, map, Option, Some, None, Bool, true, false, nat_eq, cond, inl, inr, ◌⊎◌, arith}
+use Rattle.std.specs.Int.Bits.{bit_and}
 use Rattle.std.proofs.lemmas.Bool.{eqb-true}
 use Rattle.rv_model.specs.declared.source.Source.{Source}
 use Rattle.rv_model.specs.declared.source.Source.TheVariants as source
+use Rattle.rv_model.specs.declared.operations.Line.{Line}
 use Rattle.rv_model.specs.declared.operations.Major.{Major}
 use Rattle.rv_model.specs.declared.operations.Major.TheVariants.{Opi, Opm}
 use Rattle.rv_model.specs.declared.operations.Form.{Form}
@@ -72,29 +71,13 @@ use Rattle.rv_model.specs.declared.operations.RegisterCount.{RegisterCount}
 use Rattle.rv_model.specs.declared.operations.RegisterCount.TheVariants as count
 use Rattle.rv_model.specs.declared.instruction.Instr.{Instr}
 use Rattle.rv_model.specs.declared.instruction.Instr.TheVariants.{Upper, Jump, JumpRegister, Branch, Load, Store, OpImm, ShiftImm, ShiftImmWord, Op, Fence, System, Csr, CsrImmediate, SetVli, SetIvli, SetVl, VectorArith, VectorCarry, VectorMove, WholeMove, MaskLogic, Compress, MaskToScalar, VectorExtend, MaskUnary, ElementIndex, MoveToScalar, MoveToVector, VectorUnit, VectorStrided, VectorIndexed, WholeLoad, WholeStore, MaskMemory}
-use Rattle.rv_model.specs.BitFields.{field, flag, flag_bit, Part, sum_of, mask_of, fixed, AllFit}
-use Rattle.rv_model.specs.Immediates.{store_immediate}
-use Rattle.rv_model.specs.Sources.{form_of, number, source_of}
+use Rattle.rv_model.specs.BitFields.{fixed}
+use Rattle.rv_model.specs.Sources.{form_of}
 use Rattle.rv_model.specs.FixedBits.{upper_bits, branch_bits, load_bits, store_bits, op_imm_bits, shift_imm_bits, shift_imm_word_bits, op_bits, system_bits, csr_bits, csr_immediate_bits, whole_move_bits, mask_logic_bits, mask_to_scalar_bits, extend_bits, mask_unary_bits, mask_memory_bits, upper_ops, branch_ops, load_ops, store_ops, op_imm_ops, shift_imm_ops, shift_imm_word_ops, op_ops, system_ops, csr_ops, csr_immediate_ops, mask_logic_ops, mask_to_scalar_ops, extend_ops, mask_unary_ops, directions, counts}
 use Rattle.rv_model.specs.Operations.{has_form, line, carry_line, line_bits, those, vector_ops, carry_ops, binary_line, compare_line, fixed_point_line, narrow_line, widen_line, multiply_add_line, reduce_line, permute_line}
-use Rattle.rv_model.specs.InstructionLayout.{parts, bits, filled, word_of, Allowed, unit_access_bits, strided_access_bits, indexed_access_bits, whole_load_bits, whole_store_bits}
-use Rattle.rv_model.specs.InstructionTable.{Row, row_of, Family, templates, families, rows, joined, table, Matches, In, scan, find, unit_accesses, strided_accesses, indexed_accesses, whole_loads, Ariths}
-use Rattle.rv_model.proofs.InstructionParts.{share_none, clear, Reads, inside_mask, fixed_bits, reads, rebuilt, of_word}
-use Rattle.rv_model.proofs.InstructionLaws.{is_inside, table_inside, all_in, found, table_apart, some_row}
-
-bit_back : (n : ℕ) → n < 2 → flag_bit (nat_eq n 1) ≡ n
-bit_back zero h = refl
-bit_back (suc zero) h = refl
-bit_back (suc (suc n)) h = absurd (omega arith)
-
-flag_back : (word : ℕ) → flag_bit (flag word) ≡ field 25 1 word
-flag_back word = bit_back (field 25 1 word) (mod_below (word / 2 ^ 25) 2 (omega arith))
-
-sum_small : (code m : ℕ) → bit_and code m ≡ code → (ps : List Part) → share_none m ps ≡ true → mask_of m ps ≡ 2 ^ 32 - 1 → AllFit ps → sum_of code ps < 2 ^ 32
-sum_small code m within ps h all fit =
-    let e : bit_and (sum_of code ps) (2 ^ 32 - 1) ≡ sum_of code ps = subst (λ x. bit_and (sum_of code ps) x ≡ sum_of code ps) all (inside_mask code m within ps h fit) in
-    let b : bit_and (sum_of code ps) (2 ^ 32 - 1) ≤ 2 ^ 32 - 1 = and_le_r (sum_of code ps) (2 ^ 32 - 1) in
-    omega arith
+use Rattle.rv_model.specs.InstructionLayout.{parts, bits, Allowed, unit_access_bits, strided_access_bits, indexed_access_bits, whole_load_bits, whole_store_bits}
+use Rattle.rv_model.specs.InstructionTable.{Row, row_of, families, rows, joined, table, In, find, unit_accesses, strided_accesses, indexed_accesses, whole_loads, Ariths}
+use Rattle.rv_model.proofs.InstructionLaws.{is_inside, table_inside, all_in}
 
 in_left : (r : Row) (xs ys : List Row) → In r xs → In r (xs ++ ys)
 in_left r [] ys h = absurd h
@@ -115,236 +98,10 @@ in_joined [] k r h = absurd h
 in_joined (l ∷ ls) zero r h = in_left r l (joined ls) h
 in_joined (l ∷ ls) (suc k) r h = in_right r l (joined ls) (in_joined ls k r h)
 
-find-step : {A : Type 0} (b : Bool) (o op : A) (rest : Option A) → cond b (Some o) rest ≡ Some op → (o ≡ op) ⊎ (rest ≡ Some op)
+find-step : {A : Type 0} (b : Bool) (o op : A) (rest : Option A) → cond b (Some o) rest ≡ Some op
+    → (o ≡ op) ⊎ (rest ≡ Some op)
 find-step true o op rest h = inl (cc)
 find-step false o op rest h = inr h
-
-bit_pair : (b : Bool) → nat_eq (flag_bit b) 1 ≡ b
-bit_pair true = refl
-bit_pair false = refl
-
-source_again : (s : Source) → source_of (form_of s) (number s) ≡ s
-source_again (source.V n) = refl
-source_again (source.X n) = refl
-source_again (source.I n) = refl
-
-number-source_of : (f : Form) (n : ℕ) → number (source_of f n) ≡ n
-number-source_of form.V n = refl
-number-source_of form.X n = refl
-number-source_of form.I n = refl
-
-form-source_of : (f : Form) (n : ℕ) → form_of (source_of f n) ≡ f
-form-source_of form.V n = refl
-form-source_of form.X n = refl
-form-source_of form.I n = refl
-
-low_again : (a b : ℕ) → a < 2 ^ 5 → (a + b * 2 ^ 5) % 2 ^ 5 ≡ a
-low_again a b h = omega arith
-
-high_again : (a b : ℕ) → a < 2 ^ 5 → (a + b * 2 ^ 5) / 2 ^ 5 ≡ b
-high_again a b h = omega arith
-
-store-join : (n : ℕ) → n % 2 ^ 5 + n / 2 ^ 5 * 2 ^ 5 ≡ n
-store-join n = omega arith
-
-field_below : (low len w : ℕ) → 0 < 2 ^ len → field low len w < 2 ^ len
-field_below low len w h = mod_below (w / 2 ^ low) (2 ^ len) h
-
-store-high : (w : ℕ) → store_immediate w / 2 ^ 5 ≡ field 25 7 w
-store-high w = high_again (field 7 5 w) (field 25 7 w) (field_below 7 5 w (omega arith))
-
-store-low : (w : ℕ) → store_immediate w % 2 ^ 5 ≡ field 7 5 w
-store-low w = low_again (field 7 5 w) (field 25 7 w) (field_below 7 5 w (omega arith))
-
--- pieces of 4, 6, 1 and 1 bits
-record BranchPieces (a b c d : ℕ) : Type 0 where
-  bit12 : (a + b * 2 ^ 4 + c * 2 ^ 10 + d * 2 ^ 11) / 2 ^ 11 ≡ d
-  bits10_5 : (a + b * 2 ^ 4 + c * 2 ^ 10 + d * 2 ^ 11) / 2 ^ 4 % 2 ^ 6 ≡ b
-  bits4_1 : (a + b * 2 ^ 4 + c * 2 ^ 10 + d * 2 ^ 11) % 2 ^ 4 ≡ a
-  bit11 : (a + b * 2 ^ 4 + c * 2 ^ 10 + d * 2 ^ 11) / 2 ^ 10 % 2 ^ 1 ≡ c
-
-branch_pieces : (a b c d : ℕ) → a < 2 ^ 4 → b < 2 ^ 6 → c < 2 ^ 1 → d < 2 ^ 1 → BranchPieces a b c d
-branch_pieces a b c d ha hb hc hd = record { bit12 = omega arith; bits10_5 = omega arith; bits4_1 = omega arith; bit11 = omega arith }
-
-branch_of : (w : ℕ) → BranchPieces (field 8 4 w) (field 25 6 w) (field 7 1 w) (field 31 1 w)
-branch_of w = branch_pieces (field 8 4 w) (field 25 6 w) (field 7 1 w) (field 31 1 w) (field_below 8 4 w (omega arith)) (field_below 25 6 w (omega arith)) (field_below 7 1 w (omega arith)) (field_below 31 1 w (omega arith))
-
-branch-join : (n : ℕ) → n % 2 ^ 4 + n / 2 ^ 4 % 2 ^ 6 * 2 ^ 4 + n / 2 ^ 10 % 2 ^ 1 * 2 ^ 10 + n / 2 ^ 11 * 2 ^ 11 ≡ n
-branch-join n = omega arith
-
--- pieces of 10, 1, 8 and 1 bits
-record JumpPieces (a b c d : ℕ) : Type 0 where
-  bit20 : (a + b * 2 ^ 10 + c * 2 ^ 11 + d * 2 ^ 19) / 2 ^ 19 ≡ d
-  bits10_1 : (a + b * 2 ^ 10 + c * 2 ^ 11 + d * 2 ^ 19) % 2 ^ 10 ≡ a
-  bit11 : (a + b * 2 ^ 10 + c * 2 ^ 11 + d * 2 ^ 19) / 2 ^ 10 % 2 ^ 1 ≡ b
-  bits19_12 : (a + b * 2 ^ 10 + c * 2 ^ 11 + d * 2 ^ 19) / 2 ^ 11 % 2 ^ 8 ≡ c
-
-jump_pieces : (a b c d : ℕ) → a < 2 ^ 10 → b < 2 ^ 1 → c < 2 ^ 8 → d < 2 ^ 1 → JumpPieces a b c d
-jump_pieces a b c d ha hb hc hd = record { bit20 = omega arith; bits10_1 = omega arith; bit11 = omega arith; bits19_12 = omega arith }
-
-jump_of : (w : ℕ) → JumpPieces (field 21 10 w) (field 20 1 w) (field 12 8 w) (field 31 1 w)
-jump_of w = jump_pieces (field 21 10 w) (field 20 1 w) (field 12 8 w) (field 31 1 w) (field_below 21 10 w (omega arith)) (field_below 20 1 w (omega arith)) (field_below 12 8 w (omega arith)) (field_below 31 1 w (omega arith))
-
-jump-join : (n : ℕ) → n % 2 ^ 10 + n / 2 ^ 10 % 2 ^ 1 * 2 ^ 10 + n / 2 ^ 11 % 2 ^ 8 * 2 ^ 11 + n / 2 ^ 19 * 2 ^ 19 ≡ n
-jump-join n = omega arith
-
--- what the word's parts are
-filled_parts : (t : Instr) (w : ℕ) → parts (filled t w) ≡ of_word w (parts t)
-filled_parts (Upper op rd imm) w = refl
-filled_parts (Jump rd offset) w = let j : JumpPieces (field 21 10 w) (field 20 1 w) (field 12 8 w) (field 31 1 w) = jump_of w in rw (j.bit20, j.bits10_1, j.bit11, j.bits19_12) refl
-filled_parts (JumpRegister rd rs1 imm) w = refl
-filled_parts (Branch op rs1 rs2 offset) w = let b : BranchPieces (field 8 4 w) (field 25 6 w) (field 7 1 w) (field 31 1 w) = branch_of w in rw (b.bit12, b.bits10_5, b.bits4_1, b.bit11) refl
-filled_parts (Load op rd rs1 imm) w = refl
-filled_parts (Store op rs1 rs2 imm) w = rw (store-high w, store-low w) refl
-filled_parts (OpImm op rd rs1 imm) w = refl
-filled_parts (ShiftImm op rd rs1 amount) w = refl
-filled_parts (ShiftImmWord op rd rs1 amount) w = refl
-filled_parts (Op op rd rs1 rs2) w = refl
-filled_parts (Fence rd rs1 ordering) w = refl
-filled_parts (System op) w = refl
-filled_parts (Csr op rd rs1 csr) w = refl
-filled_parts (CsrImmediate op rd imm csr) w = refl
-filled_parts (SetVli rd rs1 vtype) w = refl
-filled_parts (SetIvli rd avl vtype) w = refl
-filled_parts (SetVl rd rs1 rs2) w = refl
-filled_parts (VectorArith arith vd vs2 vm) w = rw (flag_back w, number-source_of (form_of arith.1) (field 15 5 w)) refl
-filled_parts (VectorCarry carry vd vs2) w = rw (number-source_of (form_of carry.1) (field 15 5 w)) refl
-filled_parts (VectorMove source vd) w = rw (number-source_of (form_of source) (field 15 5 w)) refl
-filled_parts (WholeMove count vd vs2) w = refl
-filled_parts (MaskLogic op vd vs1 vs2) w = refl
-filled_parts (Compress vd vs1 vs2) w = refl
-filled_parts (MaskToScalar op rd vs2 vm) w = rw (flag_back w) refl
-filled_parts (VectorExtend op vd vs2 vm) w = rw (flag_back w) refl
-filled_parts (MaskUnary op vd vs2 vm) w = rw (flag_back w) refl
-filled_parts (ElementIndex vd vm) w = rw (flag_back w) refl
-filled_parts (MoveToScalar rd vs2) w = refl
-filled_parts (MoveToVector vd rs1) w = refl
-filled_parts (VectorUnit op width nf vd rs1 vm) w = rw (flag_back w) refl
-filled_parts (VectorStrided direction width nf vd rs1 rs2 vm) w = rw (flag_back w) refl
-filled_parts (VectorIndexed direction order width nf vd rs1 vs2 vm) w = rw (flag_back w) refl
-filled_parts (WholeLoad count width vd rs1) w = refl
-filled_parts (WholeStore count vd rs1) w = refl
-filled_parts (MaskMemory direction vd rs1) w = refl
-
--- and its other bits
-filled_bits : (t : Instr) (w : ℕ) → bits (filled t w) ≡ bits t
-filled_bits (Upper op rd imm) w = refl
-filled_bits (Jump rd offset) w = refl
-filled_bits (JumpRegister rd rs1 imm) w = refl
-filled_bits (Branch op rs1 rs2 offset) w = refl
-filled_bits (Load op rd rs1 imm) w = refl
-filled_bits (Store op rs1 rs2 imm) w = refl
-filled_bits (OpImm op rd rs1 imm) w = refl
-filled_bits (ShiftImm op rd rs1 amount) w = refl
-filled_bits (ShiftImmWord op rd rs1 amount) w = refl
-filled_bits (Op op rd rs1 rs2) w = refl
-filled_bits (Fence rd rs1 ordering) w = refl
-filled_bits (System op) w = refl
-filled_bits (Csr op rd rs1 csr) w = refl
-filled_bits (CsrImmediate op rd imm csr) w = refl
-filled_bits (SetVli rd rs1 vtype) w = refl
-filled_bits (SetIvli rd avl vtype) w = refl
-filled_bits (SetVl rd rs1 rs2) w = refl
-filled_bits (VectorArith arith vd vs2 vm) w = rw (form-source_of (form_of arith.1) (field 15 5 w)) refl
-filled_bits (VectorCarry carry vd vs2) w = rw (form-source_of (form_of carry.1) (field 15 5 w)) refl
-filled_bits (VectorMove source vd) w = rw (form-source_of (form_of source) (field 15 5 w)) refl
-filled_bits (WholeMove count vd vs2) w = refl
-filled_bits (MaskLogic op vd vs1 vs2) w = refl
-filled_bits (Compress vd vs1 vs2) w = refl
-filled_bits (MaskToScalar op rd vs2 vm) w = refl
-filled_bits (VectorExtend op vd vs2 vm) w = refl
-filled_bits (MaskUnary op vd vs2 vm) w = refl
-filled_bits (ElementIndex vd vm) w = refl
-filled_bits (MoveToScalar rd vs2) w = refl
-filled_bits (MoveToVector vd rs1) w = refl
-filled_bits (VectorUnit op width nf vd rs1 vm) w = refl
-filled_bits (VectorStrided direction width nf vd rs1 rs2 vm) w = refl
-filled_bits (VectorIndexed direction order width nf vd rs1 vs2 vm) w = refl
-filled_bits (WholeLoad count width vd rs1) w = refl
-filled_bits (WholeStore count vd rs1) w = refl
-filled_bits (MaskMemory direction vd rs1) w = refl
-
--- an instruction is what a word with its parts gives
-refilled : (i : Instr) (w : ℕ) → Reads w (parts i) → filled i w ≡ i
-refilled (Upper op rd imm) w r = rw (r.0, r.1.0) refl
-refilled (Jump rd offset) w r = rw (r.0, r.1.0, r.1.1.0, r.1.1.1.0, r.1.1.1.1.0, jump-join offset) refl
-refilled (JumpRegister rd rs1 imm) w r = rw (r.0, r.1.0, r.1.1.0) refl
-refilled (Branch op rs1 rs2 offset) w r = rw (r.0, r.1.0, r.1.1.0, r.1.1.1.0, r.1.1.1.1.0, r.1.1.1.1.1.0, branch-join offset) refl
-refilled (Load op rd rs1 imm) w r = rw (r.0, r.1.0, r.1.1.0) refl
-refilled (Store op rs1 rs2 imm) w r = rw (r.0, r.1.0, r.1.1.0, r.1.1.1.0, store-join imm) refl
-refilled (OpImm op rd rs1 imm) w r = rw (r.0, r.1.0, r.1.1.0) refl
-refilled (ShiftImm op rd rs1 amount) w r = rw (r.0, r.1.0, r.1.1.0) refl
-refilled (ShiftImmWord op rd rs1 amount) w r = rw (r.0, r.1.0, r.1.1.0) refl
-refilled (Op op rd rs1 rs2) w r = rw (r.0, r.1.0, r.1.1.0) refl
-refilled (Fence rd rs1 ordering) w r = rw (r.0, r.1.0, r.1.1.0) refl
-refilled (System op) w r = refl
-refilled (Csr op rd rs1 csr) w r = rw (r.0, r.1.0, r.1.1.0) refl
-refilled (CsrImmediate op rd imm csr) w r = rw (r.0, r.1.0, r.1.1.0) refl
-refilled (SetVli rd rs1 vtype) w r = rw (r.0, r.1.0, r.1.1.0) refl
-refilled (SetIvli rd avl vtype) w r = rw (r.0, r.1.0, r.1.1.0) refl
-refilled (SetVl rd rs1 rs2) w r = rw (r.0, r.1.0, r.1.1.0) refl
-refilled (VectorArith arith vd vs2 vm) w r = rw (r.0, r.1.0, r.1.1.0, r.1.1.1.0, bit_pair vm, source_again arith.1) refl
-refilled (VectorCarry carry vd vs2) w r = rw (r.0, r.1.0, r.1.1.0, source_again carry.1) refl
-refilled (VectorMove source vd) w r = rw (r.0, r.1.0, source_again source) refl
-refilled (WholeMove count vd vs2) w r = rw (r.0, r.1.0) refl
-refilled (MaskLogic op vd vs1 vs2) w r = rw (r.0, r.1.0, r.1.1.0) refl
-refilled (Compress vd vs1 vs2) w r = rw (r.0, r.1.0, r.1.1.0) refl
-refilled (MaskToScalar op rd vs2 vm) w r = rw (r.0, r.1.0, r.1.1.0, bit_pair vm) refl
-refilled (VectorExtend op vd vs2 vm) w r = rw (r.0, r.1.0, r.1.1.0, bit_pair vm) refl
-refilled (MaskUnary op vd vs2 vm) w r = rw (r.0, r.1.0, r.1.1.0, bit_pair vm) refl
-refilled (ElementIndex vd vm) w r = rw (r.0, r.1.0, bit_pair vm) refl
-refilled (MoveToScalar rd vs2) w r = rw (r.0, r.1.0) refl
-refilled (MoveToVector vd rs1) w r = rw (r.0, r.1.0) refl
-refilled (VectorUnit op width nf vd rs1 vm) w r = rw (r.0, r.1.0, r.1.1.0, r.1.1.1.0, bit_pair vm) refl
-refilled (VectorStrided direction width nf vd rs1 rs2 vm) w r = rw (r.0, r.1.0, r.1.1.0, r.1.1.1.0, r.1.1.1.1.0, bit_pair vm) refl
-refilled (VectorIndexed direction order width nf vd rs1 vs2 vm) w r = rw (r.0, r.1.0, r.1.1.0, r.1.1.1.0, r.1.1.1.1.0, bit_pair vm) refl
-refilled (WholeLoad count width vd rs1) w r = rw (r.0, r.1.0) refl
-refilled (WholeStore count vd rs1) w r = rw (r.0, r.1.0) refl
-refilled (MaskMemory direction vd rs1) w r = rw (r.0, r.1.0) refl
-
--- the parts and the fixed bits fill a word
-record Laid (ps : List Part) : Type 0 where
-  apart : share_none (fixed ps) ps ≡ true
-  clear : clear (fixed ps) ps ≡ true
-  whole : mask_of (fixed ps) ps ≡ 2 ^ 32 - 1
-
--- each instruction does
-laid : (i : Instr) → Laid (parts i)
-laid (Upper op rd imm) = record { apart = refl; clear = refl; whole = refl }
-laid (Jump rd offset) = record { apart = refl; clear = refl; whole = refl }
-laid (JumpRegister rd rs1 imm) = record { apart = refl; clear = refl; whole = refl }
-laid (Branch op rs1 rs2 offset) = record { apart = refl; clear = refl; whole = refl }
-laid (Load op rd rs1 imm) = record { apart = refl; clear = refl; whole = refl }
-laid (Store op rs1 rs2 imm) = record { apart = refl; clear = refl; whole = refl }
-laid (OpImm op rd rs1 imm) = record { apart = refl; clear = refl; whole = refl }
-laid (ShiftImm op rd rs1 amount) = record { apart = refl; clear = refl; whole = refl }
-laid (ShiftImmWord op rd rs1 amount) = record { apart = refl; clear = refl; whole = refl }
-laid (Op op rd rs1 rs2) = record { apart = refl; clear = refl; whole = refl }
-laid (Fence rd rs1 ordering) = record { apart = refl; clear = refl; whole = refl }
-laid (System op) = record { apart = refl; clear = refl; whole = refl }
-laid (Csr op rd rs1 csr) = record { apart = refl; clear = refl; whole = refl }
-laid (CsrImmediate op rd imm csr) = record { apart = refl; clear = refl; whole = refl }
-laid (SetVli rd rs1 vtype) = record { apart = refl; clear = refl; whole = refl }
-laid (SetIvli rd avl vtype) = record { apart = refl; clear = refl; whole = refl }
-laid (SetVl rd rs1 rs2) = record { apart = refl; clear = refl; whole = refl }
-laid (VectorArith arith vd vs2 vm) = record { apart = refl; clear = refl; whole = refl }
-laid (VectorCarry carry vd vs2) = record { apart = refl; clear = refl; whole = refl }
-laid (VectorMove source vd) = record { apart = refl; clear = refl; whole = refl }
-laid (WholeMove count vd vs2) = record { apart = refl; clear = refl; whole = refl }
-laid (MaskLogic op vd vs1 vs2) = record { apart = refl; clear = refl; whole = refl }
-laid (Compress vd vs1 vs2) = record { apart = refl; clear = refl; whole = refl }
-laid (MaskToScalar op rd vs2 vm) = record { apart = refl; clear = refl; whole = refl }
-laid (VectorExtend op vd vs2 vm) = record { apart = refl; clear = refl; whole = refl }
-laid (MaskUnary op vd vs2 vm) = record { apart = refl; clear = refl; whole = refl }
-laid (ElementIndex vd vm) = record { apart = refl; clear = refl; whole = refl }
-laid (MoveToScalar rd vs2) = record { apart = refl; clear = refl; whole = refl }
-laid (MoveToVector vd rs1) = record { apart = refl; clear = refl; whole = refl }
-laid (VectorUnit op width nf vd rs1 vm) = record { apart = refl; clear = refl; whole = refl }
-laid (VectorStrided direction width nf vd rs1 rs2 vm) = record { apart = refl; clear = refl; whole = refl }
-laid (VectorIndexed direction order width nf vd rs1 vs2 vm) = record { apart = refl; clear = refl; whole = refl }
-laid (WholeLoad count width vd rs1) = record { apart = refl; clear = refl; whole = refl }
-laid (WholeStore count vd rs1) = record { apart = refl; clear = refl; whole = refl }
-laid (MaskMemory direction vd rs1) = record { apart = refl; clear = refl; whole = refl }
 
 -- ---- each operation is found by its bits
 
@@ -378,7 +135,8 @@ unfolding find
 known_shift_imm shift_imm.Slli = refl
 known_shift_imm _ = refl
 
-known_shift_imm_word : (op : ShiftImmWordOp) → find shift_imm_word_bits shift_imm_word_ops (shift_imm_word_bits op) ≡ Some op
+known_shift_imm_word : (op : ShiftImmWordOp)
+    → find shift_imm_word_bits shift_imm_word_ops (shift_imm_word_bits op) ≡ Some op
 unfolding find
 known_shift_imm_word shift_imm_word.Slliw = refl
 known_shift_imm_word _ = refl
@@ -398,7 +156,8 @@ unfolding find
 known_csr csr.Csrrw = refl
 known_csr _ = refl
 
-known_csr_immediate : (op : CsrImmediateOp) → find csr_immediate_bits csr_immediate_ops (csr_immediate_bits op) ≡ Some op
+known_csr_immediate : (op : CsrImmediateOp)
+    → find csr_immediate_bits csr_immediate_ops (csr_immediate_bits op) ≡ Some op
 unfolding find
 known_csr_immediate csr_immediate.Csrrwi = refl
 known_csr_immediate _ = refl
@@ -413,7 +172,8 @@ unfolding find
 known_mask_logic mask_logic.Vmandn = refl
 known_mask_logic _ = refl
 
-known_mask_to_scalar : (op : MaskToScalarOp) → find mask_to_scalar_bits mask_to_scalar_ops (mask_to_scalar_bits op) ≡ Some op
+known_mask_to_scalar : (op : MaskToScalarOp)
+    → find mask_to_scalar_bits mask_to_scalar_ops (mask_to_scalar_bits op) ≡ Some op
 unfolding find
 known_mask_to_scalar mask_to_scalar.Vcpop = refl
 known_mask_to_scalar _ = refl
@@ -438,7 +198,8 @@ unfolding find
 known_mask_memory direction.Load = refl
 known_mask_memory _ = refl
 
-known_unit : (op : UnitOp) (width : Width) → find unit_access_bits unit_accesses (unit_access_bits (op, width)) ≡ Some (op, width)
+known_unit : (op : UnitOp) (width : Width)
+    → find unit_access_bits unit_accesses (unit_access_bits (op, width)) ≡ Some (op, width)
 unfolding find
 known_unit unit.Load width.E8 = refl
 known_unit _ width.E8 = refl
@@ -449,7 +210,8 @@ known_unit _ width.E32 = refl
 known_unit unit.Load width.E64 = refl
 known_unit _ width.E64 = refl
 
-known_strided : (op : Direction) (width : Width) → find strided_access_bits strided_accesses (strided_access_bits (op, width)) ≡ Some (op, width)
+known_strided : (op : Direction) (width : Width)
+    → find strided_access_bits strided_accesses (strided_access_bits (op, width)) ≡ Some (op, width)
 unfolding find
 known_strided direction.Load width.E8 = refl
 known_strided _ width.E8 = refl
@@ -460,7 +222,8 @@ known_strided _ width.E32 = refl
 known_strided direction.Load width.E64 = refl
 known_strided _ width.E64 = refl
 
-known_whole_load : (op : RegisterCount) (width : Width) → find whole_load_bits whole_loads (whole_load_bits (op, width)) ≡ Some (op, width)
+known_whole_load : (op : RegisterCount) (width : Width)
+    → find whole_load_bits whole_loads (whole_load_bits (op, width)) ≡ Some (op, width)
 unfolding find
 known_whole_load count.One width.E8 = refl
 known_whole_load _ width.E8 = refl
@@ -471,7 +234,8 @@ known_whole_load _ width.E32 = refl
 known_whole_load count.One width.E64 = refl
 known_whole_load _ width.E64 = refl
 
-known_indexed : (direction : Direction) (order : Order) (width : Width) → find indexed_access_bits indexed_accesses (indexed_access_bits ((direction, order), width)) ≡ Some ((direction, order), width)
+known_indexed : (direction : Direction) (order : Order) (width : Width)
+    → find indexed_access_bits indexed_accesses (indexed_access_bits ((direction, order), width)) ≡ Some ((direction, order), width)
 unfolding find
 known_indexed direction.Load order.Unordered width.E8 = refl
 known_indexed _ order.Unordered width.E8 = refl
@@ -490,7 +254,13 @@ known_indexed _ order.Ordered width.E32 = refl
 known_indexed direction.Load order.Ordered width.E64 = refl
 known_indexed _ order.Ordered width.E64 = refl
 
-known_binary : (op : BinaryOp) (f : Form) → cond (has_form (binary_line op).forms f) (find (λ o. line_bits (line o) f) (those line (binary_line op).major f vector_ops) (line_bits (binary_line op) f)) None ≡ cond (has_form (binary_line op).forms f) (Some (vector_op.Binary op)) None
+-- an operation with this line is found by the line's bits, in each form that it has
+abbrev IsKnown : VectorOp → Line → Form → Type 0
+IsKnown op l f =
+    cond (has_form l.forms f) (find (λ o. line_bits (line o) f) (those line l.major f vector_ops) (line_bits l f)) None
+    ≡ cond (has_form l.forms f) (Some op) None
+
+known_binary : (op : BinaryOp) (f : Form) → IsKnown (vector_op.Binary op) (binary_line op) f
 unfolding find
 known_binary binary.Vadd form.V = refl
 known_binary _ form.V = refl
@@ -499,7 +269,7 @@ known_binary _ form.X = refl
 known_binary binary.Vadd form.I = refl
 known_binary _ form.I = refl
 
-known_compare : (op : CompareOp) (f : Form) → cond (has_form (compare_line op).forms f) (find (λ o. line_bits (line o) f) (those line (compare_line op).major f vector_ops) (line_bits (compare_line op) f)) None ≡ cond (has_form (compare_line op).forms f) (Some (vector_op.Compare op)) None
+known_compare : (op : CompareOp) (f : Form) → IsKnown (vector_op.Compare op) (compare_line op) f
 unfolding find
 known_compare compare.Vmadc form.V = refl
 known_compare _ form.V = refl
@@ -508,7 +278,7 @@ known_compare _ form.X = refl
 known_compare compare.Vmadc form.I = refl
 known_compare _ form.I = refl
 
-known_fixed_point : (op : FixedPointOp) (f : Form) → cond (has_form (fixed_point_line op).forms f) (find (λ o. line_bits (line o) f) (those line (fixed_point_line op).major f vector_ops) (line_bits (fixed_point_line op) f)) None ≡ cond (has_form (fixed_point_line op).forms f) (Some (vector_op.FixedPoint op)) None
+known_fixed_point : (op : FixedPointOp) (f : Form) → IsKnown (vector_op.FixedPoint op) (fixed_point_line op) f
 unfolding find
 known_fixed_point fixed_point.Vsaddu form.V = refl
 known_fixed_point _ form.V = refl
@@ -517,7 +287,7 @@ known_fixed_point _ form.X = refl
 known_fixed_point fixed_point.Vsaddu form.I = refl
 known_fixed_point _ form.I = refl
 
-known_narrow : (op : NarrowOp) (f : Form) → cond (has_form (narrow_line op).forms f) (find (λ o. line_bits (line o) f) (those line (narrow_line op).major f vector_ops) (line_bits (narrow_line op) f)) None ≡ cond (has_form (narrow_line op).forms f) (Some (vector_op.Narrow op)) None
+known_narrow : (op : NarrowOp) (f : Form) → IsKnown (vector_op.Narrow op) (narrow_line op) f
 unfolding find
 known_narrow narrow.Vnsrl form.V = refl
 known_narrow _ form.V = refl
@@ -526,7 +296,7 @@ known_narrow _ form.X = refl
 known_narrow narrow.Vnsrl form.I = refl
 known_narrow _ form.I = refl
 
-known_widen : (op : WidenOp) (f : Form) → cond (has_form (widen_line op).forms f) (find (λ o. line_bits (line o) f) (those line (widen_line op).major f vector_ops) (line_bits (widen_line op) f)) None ≡ cond (has_form (widen_line op).forms f) (Some (vector_op.Widen op)) None
+known_widen : (op : WidenOp) (f : Form) → IsKnown (vector_op.Widen op) (widen_line op) f
 unfolding find
 known_widen widen.Vwaddu form.V = refl
 known_widen _ form.V = refl
@@ -535,7 +305,7 @@ known_widen _ form.X = refl
 known_widen widen.Vwaddu form.I = refl
 known_widen _ form.I = refl
 
-known_multiply_add : (op : MultiplyAddOp) (f : Form) → cond (has_form (multiply_add_line op).forms f) (find (λ o. line_bits (line o) f) (those line (multiply_add_line op).major f vector_ops) (line_bits (multiply_add_line op) f)) None ≡ cond (has_form (multiply_add_line op).forms f) (Some (vector_op.MultiplyAdd op)) None
+known_multiply_add : (op : MultiplyAddOp) (f : Form) → IsKnown (vector_op.MultiplyAdd op) (multiply_add_line op) f
 unfolding find
 known_multiply_add multiply_add.Vmadd form.V = refl
 known_multiply_add _ form.V = refl
@@ -544,7 +314,7 @@ known_multiply_add _ form.X = refl
 known_multiply_add multiply_add.Vmadd form.I = refl
 known_multiply_add _ form.I = refl
 
-known_reduce : (op : ReduceOp) (f : Form) → cond (has_form (reduce_line op).forms f) (find (λ o. line_bits (line o) f) (those line (reduce_line op).major f vector_ops) (line_bits (reduce_line op) f)) None ≡ cond (has_form (reduce_line op).forms f) (Some (vector_op.Reduce op)) None
+known_reduce : (op : ReduceOp) (f : Form) → IsKnown (vector_op.Reduce op) (reduce_line op) f
 unfolding find
 known_reduce reduce.Vredsum form.V = refl
 known_reduce _ form.V = refl
@@ -553,7 +323,7 @@ known_reduce _ form.X = refl
 known_reduce reduce.Vredsum form.I = refl
 known_reduce _ form.I = refl
 
-known_permute : (op : PermuteOp) (f : Form) → cond (has_form (permute_line op).forms f) (find (λ o. line_bits (line o) f) (those line (permute_line op).major f vector_ops) (line_bits (permute_line op) f)) None ≡ cond (has_form (permute_line op).forms f) (Some (vector_op.Permute op)) None
+known_permute : (op : PermuteOp) (f : Form) → IsKnown (vector_op.Permute op) (permute_line op) f
 unfolding find
 known_permute permute.Vrgather form.V = refl
 known_permute _ form.V = refl
@@ -562,7 +332,8 @@ known_permute _ form.X = refl
 known_permute permute.Vrgather form.I = refl
 known_permute _ form.I = refl
 
-known_carry : (op : CarryOp) (f : Form) → cond (has_form (carry_line op).forms f) (find (λ o. line_bits (carry_line o) f) (those carry_line Opi f carry_ops) (line_bits (carry_line op) f)) None ≡ cond (has_form (carry_line op).forms f) (Some op) None
+known_carry : (op : CarryOp) (f : Form)
+    → cond (has_form (carry_line op).forms f) (find (λ o. line_bits (carry_line o) f) (those carry_line Opi f carry_ops) (line_bits (carry_line op) f)) None ≡ cond (has_form (carry_line op).forms f) (Some op) None
 unfolding find
 known_carry carry.Vadc form.V = refl
 known_carry _ form.V = refl
@@ -571,7 +342,7 @@ known_carry _ form.X = refl
 known_carry carry.Vadc form.I = refl
 known_carry _ form.I = refl
 
-known_vector : (op : VectorOp) (f : Form) → cond (has_form (line op).forms f) (find (λ o. line_bits (line o) f) (those line (line op).major f vector_ops) (line_bits (line op) f)) None ≡ cond (has_form (line op).forms f) (Some op) None
+known_vector : (op : VectorOp) (f : Form) → IsKnown op (line op) f
 known_vector (vector_op.Binary op) f = known_binary op f
 known_vector (vector_op.Compare op) f = known_compare op f
 known_vector (vector_op.FixedPoint op) f = known_fixed_point op f
@@ -587,7 +358,8 @@ cond-same false x y z h t = absurd (cc)
 
 -- ---- each instruction has its row
 
-in_rows : {A : Type 0} (code : A → ℕ) (t : A → Instr) (ops : List A) (op : A) (b : ℕ) → find code ops b ≡ Some op → In (row_of (t op)) (map row_of (map t ops))
+in_rows : {A : Type 0} (code : A → ℕ) (t : A → Instr) (ops : List A) (op : A) (b : ℕ) → find code ops b ≡ Some op
+    → In (row_of (t op)) (map row_of (map t ops))
 unfolding find
 in_rows code t [] op b h = absurd (cc)
 in_rows code t (o ∷ os) op b h =
@@ -600,6 +372,12 @@ in_table : (k : ℕ) (r : Row) → In r (at_place (map rows families) k) → In 
 unfolding table
 in_table k r h = in_joined (map rows families) k r h
 
+listed_at : {A : Type 0} (k : ℕ) (code : A → ℕ) (t : A → Instr) (ops : List A) (op : A)
+    → find code ops (code op) ≡ Some op → at_place (map rows families) k ≡ map row_of (map t ops)
+    → In (row_of (t op)) table
+listed_at k code t ops op known same =
+    in_table k (row_of (t op)) (subst (In (row_of (t op))) (sym same) (in_rows code t ops op (code op) known))
+
 arith_in : (m : Major) (f : Form) (r : Row) → In r (rows (Ariths m f)) → In r table
 arith_in Opi form.V r h = in_table 17 r h
 arith_in Opi form.X r h = in_table 18 r h
@@ -608,7 +386,8 @@ arith_in Opm form.V r h = in_table 20 r h
 arith_in Opm form.X r h = in_table 21 r h
 arith_in Opm form.I r h = in_table 22 r h
 
-listed_arith : (op : VectorOp) (s : Source) (vd vs2 : ℕ) (vm : Bool) → has_form (line op).forms (form_of s) ≡ true → In (row_of (VectorArith (op, s) vd vs2 vm)) table
+listed_arith : (op : VectorOp) (s : Source) (vd vs2 : ℕ) (vm : Bool) → has_form (line op).forms (form_of s) ≡ true
+    → In (row_of (VectorArith (op, s) vd vs2 vm)) table
 unfolding rows
 listed_arith op (source.V n) vd vs2 vm h =
     let ops : List VectorOp = those line (line op).major form.V vector_ops in
@@ -623,7 +402,8 @@ listed_arith op (source.I n) vd vs2 vm h =
     let is : find (λ o. line_bits (line o) form.I) ops (line_bits (line op) form.I) ≡ Some op = cond-same (has_form (line op).forms form.I) (find (λ o. line_bits (line o) form.I) ops (line_bits (line op) form.I)) (Some op) None (known_vector op form.I) h in
     arith_in (line op).major form.I (row_of (VectorArith (op, source.I 0) 0 0 true)) (in_rows (λ o. line_bits (line o) form.I) (λ o. VectorArith (o, source.I 0) 0 0 true) ops op (line_bits (line op) form.I) is)
 
-listed_carry : (op : CarryOp) (s : Source) (vd vs2 : ℕ) → has_form (carry_line op).forms (form_of s) ≡ true → In (row_of (VectorCarry (op, s) vd vs2)) table
+listed_carry : (op : CarryOp) (s : Source) (vd vs2 : ℕ) → has_form (carry_line op).forms (form_of s) ≡ true
+    → In (row_of (VectorCarry (op, s) vd vs2)) table
 unfolding rows
 listed_carry op (source.V n) vd vs2 h =
     let ops : List CarryOp = those carry_line Opi form.V carry_ops in
@@ -647,98 +427,57 @@ listed_move (source.I n) vd = in_table 28 (row_of (VectorMove (source.I 0) 0)) (
 -- an instruction's row is in the table
 pub listed : (i : Instr) → Allowed i → In (row_of i) table
 unfolding rows
-listed (Upper op rd imm) h = in_table 0 (row_of (Upper op 0 0)) (in_rows upper_bits (λ op. Upper op 0 0) upper_ops op (upper_bits op) (known_upper op))
+listed (Upper op rd imm) h = listed_at 0 upper_bits (λ op. Upper op 0 0) upper_ops op (known_upper op) refl
 listed (Jump rd offset) h = in_table 1 (row_of (Jump 0 0)) (inl refl)
 listed (JumpRegister rd rs1 imm) h = in_table 2 (row_of (JumpRegister 0 0 0)) (inl refl)
-listed (Branch op rs1 rs2 offset) h = in_table 3 (row_of (Branch op 0 0 0)) (in_rows branch_bits (λ op. Branch op 0 0 0) branch_ops op (branch_bits op) (known_branch op))
-listed (Load op rd rs1 imm) h = in_table 4 (row_of (Load op 0 0 0)) (in_rows load_bits (λ op. Load op 0 0 0) load_ops op (load_bits op) (known_load op))
-listed (Store op rs1 rs2 imm) h = in_table 5 (row_of (Store op 0 0 0)) (in_rows store_bits (λ op. Store op 0 0 0) store_ops op (store_bits op) (known_store op))
-listed (OpImm op rd rs1 imm) h = in_table 6 (row_of (OpImm op 0 0 0)) (in_rows op_imm_bits (λ op. OpImm op 0 0 0) op_imm_ops op (op_imm_bits op) (known_op_imm op))
-listed (ShiftImm op rd rs1 amount) h = in_table 7 (row_of (ShiftImm op 0 0 0)) (in_rows shift_imm_bits (λ op. ShiftImm op 0 0 0) shift_imm_ops op (shift_imm_bits op) (known_shift_imm op))
-listed (ShiftImmWord op rd rs1 amount) h = in_table 8 (row_of (ShiftImmWord op 0 0 0)) (in_rows shift_imm_word_bits (λ op. ShiftImmWord op 0 0 0) shift_imm_word_ops op (shift_imm_word_bits op) (known_shift_imm_word op))
-listed (Op op rd rs1 rs2) h = in_table 9 (row_of (Op op 0 0 0)) (in_rows op_bits (λ op. Op op 0 0 0) op_ops op (op_bits op) (known_op op))
+listed (Branch op rs1 rs2 offset) h =
+    listed_at 3 branch_bits (λ op. Branch op 0 0 0) branch_ops op (known_branch op) refl
+listed (Load op rd rs1 imm) h = listed_at 4 load_bits (λ op. Load op 0 0 0) load_ops op (known_load op) refl
+listed (Store op rs1 rs2 imm) h = listed_at 5 store_bits (λ op. Store op 0 0 0) store_ops op (known_store op) refl
+listed (OpImm op rd rs1 imm) h = listed_at 6 op_imm_bits (λ op. OpImm op 0 0 0) op_imm_ops op (known_op_imm op) refl
+listed (ShiftImm op rd rs1 amount) h =
+    listed_at 7 shift_imm_bits (λ op. ShiftImm op 0 0 0) shift_imm_ops op (known_shift_imm op) refl
+listed (ShiftImmWord op rd rs1 amount) h =
+    listed_at 8 shift_imm_word_bits (λ op. ShiftImmWord op 0 0 0) shift_imm_word_ops op (known_shift_imm_word op) refl
+listed (Op op rd rs1 rs2) h = listed_at 9 op_bits (λ op. Op op 0 0 0) op_ops op (known_op op) refl
 listed (Fence rd rs1 ordering) h = in_table 10 (row_of (Fence 0 0 0)) (inl refl)
-listed (System op) h = in_table 11 (row_of (System op)) (in_rows system_bits (λ op. System op) system_ops op (system_bits op) (known_system op))
-listed (Csr op rd rs1 csr) h = in_table 12 (row_of (Csr op 0 0 0)) (in_rows csr_bits (λ op. Csr op 0 0 0) csr_ops op (csr_bits op) (known_csr op))
-listed (CsrImmediate op rd imm csr) h = in_table 13 (row_of (CsrImmediate op 0 0 0)) (in_rows csr_immediate_bits (λ op. CsrImmediate op 0 0 0) csr_immediate_ops op (csr_immediate_bits op) (known_csr_immediate op))
+listed (System op) h = listed_at 11 system_bits (λ op. System op) system_ops op (known_system op) refl
+listed (Csr op rd rs1 csr) h = listed_at 12 csr_bits (λ op. Csr op 0 0 0) csr_ops op (known_csr op) refl
+listed (CsrImmediate op rd imm csr) h =
+    listed_at 13 csr_immediate_bits (λ op. CsrImmediate op 0 0 0) csr_immediate_ops op (known_csr_immediate op) refl
 listed (SetVli rd rs1 vtype) h = in_table 14 (row_of (SetVli 0 0 0)) (inl refl)
 listed (SetIvli rd avl vtype) h = in_table 15 (row_of (SetIvli 0 0 0)) (inl refl)
 listed (SetVl rd rs1 rs2) h = in_table 16 (row_of (SetVl 0 0 0)) (inl refl)
 listed (VectorArith arith vd vs2 vm) h = listed_arith arith.0 arith.1 vd vs2 vm h
 listed (VectorCarry carry vd vs2) h = listed_carry carry.0 carry.1 vd vs2 h
 listed (VectorMove source vd) h = listed_move source vd
-listed (WholeMove count vd vs2) h = in_table 29 (row_of (WholeMove count 0 0)) (in_rows whole_move_bits (λ op. WholeMove op 0 0) counts count (whole_move_bits count) (known_whole_move count))
-listed (MaskLogic op vd vs1 vs2) h = in_table 30 (row_of (MaskLogic op 0 0 0)) (in_rows mask_logic_bits (λ op. MaskLogic op 0 0 0) mask_logic_ops op (mask_logic_bits op) (known_mask_logic op))
+listed (WholeMove count vd vs2) h =
+    listed_at 29 whole_move_bits (λ op. WholeMove op 0 0) counts count (known_whole_move count) refl
+listed (MaskLogic op vd vs1 vs2) h =
+    listed_at 30 mask_logic_bits (λ op. MaskLogic op 0 0 0) mask_logic_ops op (known_mask_logic op) refl
 listed (Compress vd vs1 vs2) h = in_table 31 (row_of (Compress 0 0 0)) (inl refl)
-listed (MaskToScalar op rd vs2 vm) h = in_table 32 (row_of (MaskToScalar op 0 0 true)) (in_rows mask_to_scalar_bits (λ op. MaskToScalar op 0 0 true) mask_to_scalar_ops op (mask_to_scalar_bits op) (known_mask_to_scalar op))
-listed (VectorExtend op vd vs2 vm) h = in_table 33 (row_of (VectorExtend op 0 0 true)) (in_rows extend_bits (λ op. VectorExtend op 0 0 true) extend_ops op (extend_bits op) (known_extend op))
-listed (MaskUnary op vd vs2 vm) h = in_table 34 (row_of (MaskUnary op 0 0 true)) (in_rows mask_unary_bits (λ op. MaskUnary op 0 0 true) mask_unary_ops op (mask_unary_bits op) (known_mask_unary op))
+listed (MaskToScalar op rd vs2 vm) h =
+    listed_at 32 mask_to_scalar_bits (λ op. MaskToScalar op 0 0 true) mask_to_scalar_ops op (known_mask_to_scalar op) refl
+listed (VectorExtend op vd vs2 vm) h =
+    listed_at 33 extend_bits (λ op. VectorExtend op 0 0 true) extend_ops op (known_extend op) refl
+listed (MaskUnary op vd vs2 vm) h =
+    listed_at 34 mask_unary_bits (λ op. MaskUnary op 0 0 true) mask_unary_ops op (known_mask_unary op) refl
 listed (ElementIndex vd vm) h = in_table 35 (row_of (ElementIndex 0 true)) (inl refl)
 listed (MoveToScalar rd vs2) h = in_table 36 (row_of (MoveToScalar 0 0)) (inl refl)
 listed (MoveToVector vd rs1) h = in_table 37 (row_of (MoveToVector 0 0)) (inl refl)
-listed (VectorUnit op width nf vd rs1 vm) h = in_table 38 (row_of (VectorUnit op width 0 0 0 true)) (in_rows unit_access_bits (λ op. VectorUnit op.0 op.1 0 0 0 true) unit_accesses (op, width) (unit_access_bits (op, width)) (known_unit op width))
-listed (VectorStrided direction width nf vd rs1 rs2 vm) h = in_table 39 (row_of (VectorStrided direction width 0 0 0 0 true)) (in_rows strided_access_bits (λ op. VectorStrided op.0 op.1 0 0 0 0 true) strided_accesses (direction, width) (strided_access_bits (direction, width)) (known_strided direction width))
-listed (VectorIndexed direction order width nf vd rs1 vs2 vm) h = in_table 40 (row_of (VectorIndexed direction order width 0 0 0 0 true)) (in_rows indexed_access_bits (λ op. VectorIndexed op.0.0 op.0.1 op.1 0 0 0 0 true) indexed_accesses ((direction, order), width) (indexed_access_bits ((direction, order), width)) (known_indexed direction order width))
-listed (WholeLoad count width vd rs1) h = in_table 41 (row_of (WholeLoad count width 0 0)) (in_rows whole_load_bits (λ op. WholeLoad op.0 op.1 0 0) whole_loads (count, width) (whole_load_bits (count, width)) (known_whole_load count width))
-listed (WholeStore count vd rs1) h = in_table 42 (row_of (WholeStore count 0 0)) (in_rows whole_store_bits (λ op. WholeStore op 0 0) counts count (whole_store_bits count) (known_whole_store count))
-listed (MaskMemory direction vd rs1) h = in_table 43 (row_of (MaskMemory direction 0 0)) (in_rows mask_memory_bits (λ op. MaskMemory op 0 0) directions direction (mask_memory_bits direction) (known_mask_memory direction))
+listed (VectorUnit op width nf vd rs1 vm) h =
+    listed_at 38 unit_access_bits (λ op. VectorUnit op.0 op.1 0 0 0 true) unit_accesses (op, width) (known_unit op width) refl
+listed (VectorStrided direction width nf vd rs1 rs2 vm) h =
+    listed_at 39 strided_access_bits (λ op. VectorStrided op.0 op.1 0 0 0 0 true) strided_accesses (direction, width) (known_strided direction width) refl
+listed (VectorIndexed direction order width nf vd rs1 vs2 vm) h =
+    listed_at 40 indexed_access_bits (λ op. VectorIndexed op.0.0 op.0.1 op.1 0 0 0 0 true) indexed_accesses ((direction, order), width) (known_indexed direction order width) refl
+listed (WholeLoad count width vd rs1) h =
+    listed_at 41 whole_load_bits (λ op. WholeLoad op.0 op.1 0 0) whole_loads (count, width) (known_whole_load count width) refl
+listed (WholeStore count vd rs1) h =
+    listed_at 42 whole_store_bits (λ op. WholeStore op 0 0) counts count (known_whole_store count) refl
+listed (MaskMemory direction vd rs1) h =
+    listed_at 43 mask_memory_bits (λ op. MaskMemory op 0 0) directions direction (known_mask_memory direction) refl
 
-inside : (i : Instr) → Allowed i → bit_and (bits i) (fixed (parts i)) ≡ bits i
-inside i ok = eqb-true (bit_and (bits i) (fixed (parts i))) (bits i) (all_in is_inside table table_inside (row_of i) (listed i ok))
-
--- ---- the two round trips
-
--- the word of an instruction is that instruction
-pub back : (i : Instr) → AllFit (parts i) → Allowed i → scan table (word_of i) ≡ Some i
-back i fit ok =
-    let l : Laid (parts i) = laid i in
-    found table table_apart (row_of i) (listed i ok) (word_of i) (fixed_bits (bits i) (fixed (parts i)) (inside i ok) (parts i) l.apart fit)
-    ∙ ap Some (refilled i (word_of i) (reads (bits i) (fixed (parts i)) (inside i ok) (parts i) l.apart l.clear fit))
-
-sum-split : (code : ℕ) (ps : List Part) → sum_of code ps ≡ code + sum_of 0 ps
-sum-split code [] = sym (add-zero code)
-sum-split code (p ∷ ps) = ap (λ s. s + p.value * 2 ^ p.low) (sum-split code ps) ∙ add_assoc code (sum_of 0 ps) (p.value * 2 ^ p.low)
-
--- a word is the fixed bits and the operands
-pub word_sum : (i : Instr) → word_of i ≡ bits i + sum_of 0 (parts i)
-word_sum i = sum-split (bits i) (parts i)
-
--- a word has 32 bits
-pub small : (i : Instr) → AllFit (parts i) → Allowed i → word_of i < 2 ^ 32
-small i fit ok = let l : Laid (parts i) = laid i in sum_small (bits i) (fixed (parts i)) (inside i ok) (parts i) l.apart l.whole fit
-
-word_again : (t : Instr) (w : ℕ) → w < 2 ^ 32 → bit_and w (fixed (parts t)) ≡ bits t → word_of (filled t w) ≡ w
-word_again t w small is =
-    ap₂ sum_of (filled_bits t w ∙ sym is) (filled_parts t w)
-    ∙ rebuilt w (fixed (parts t)) (parts t) small (laid t).apart (laid t).whole
-
-template_in : (ts : List Instr) (r : Row) → In r (map row_of ts) → (t : Instr) × (row_of t ≡ r)
-template_in [] r h = absurd h
-template_in (t ∷ ts) r (inl e) = (t, e)
-template_in (t ∷ ts) r (inr h) = template_in ts r h
-
-split_in : (xs ys : List Row) (r : Row) → In r (xs ++ ys) → In r xs ⊎ In r ys
-split_in [] ys r h = inr h
-split_in (x ∷ xs) ys r (inl e) = inl (inl e)
-split_in (x ∷ xs) ys r (inr h) = elim (split_in xs ys r h) [ inl a ↦ inl (inr a) | inr b ↦ inr b ]
-
-template_joined : (fs : List Family) (r : Row) → In r (joined (map rows fs)) → (t : Instr) × (row_of t ≡ r)
-unfolding rows
-template_joined [] r h = absurd h
-template_joined (f ∷ fs) r h = elim (split_in (rows f) (joined (map rows fs)) r h) [ inl a ↦ template_in (templates f) r a | inr b ↦ template_joined fs r b ]
-
-template_of : (r : Row) → In r table → (t : Instr) × (row_of t ≡ r)
-unfolding table
-template_of r h = template_joined families r h
-
-row_word : (r : Row) (w : ℕ) → w < 2 ^ 32 → In r table → Matches r w → word_of (r.instr w) ≡ w
-row_word r w small h is =
-    let t : (t : Instr) × (row_of t ≡ r) = template_of r h in
-    subst (λ s. Matches s w → word_of (s.instr w) ≡ w) t.1 (word_again t.0 w small) is
-
--- the instruction of a word has that word
-pub decoded : (w : ℕ) (o : Option Instr) → o ≡ scan table w → w < 2 ^ 32 → IfSome o (λ i. word_of i ≡ w)
-decoded w None is small = tt
-decoded w (Some i) is small =
-    let q : (r : Row) × In r table × Matches r w × (r.instr w ≡ i) = some_row table w i (sym is) in
-    subst (λ x. word_of x ≡ w) q.3 (row_word q.0 w small q.1 q.2)
+pub inside : (i : Instr) → Allowed i → bit_and (bits i) (fixed (parts i)) ≡ bits i
+inside i ok =
+    eqb-true (bit_and (bits i) (fixed (parts i))) (bits i) (all_in is_inside table table_inside (row_of i) (listed i ok))

@@ -6,7 +6,9 @@ pub mod EventLines
 pub mod Headline
 pub mod InstructionLaws
 pub mod InstructionParts
+pub mod InstructionRoundTrips
 pub mod InstructionRows
+pub mod InstructionWords
 pub mod LegalityBounds
 pub mod LegalityMeaning
 pub mod LineLaws

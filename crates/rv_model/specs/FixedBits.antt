@@ -1,4 +1,5 @@
--- The bits that each operation fixes in its word, as the manual's tables have them: opcode at bits 6 to 0, funct3 at 14 to 12, funct7 at 31 to 25
+-- The bits that each operation fixes in its word, as the manual's tables have them: opcode at bits 6 to 0, funct3 at
+-- 14 to 12, funct7 at 31 to 25
 use Rattle.std.specs.Prelude.{ℕ, ◌+◌, ◌*◌, ◌^◌, List, [], ◌∷◌}
 use Rattle.rv_model.specs.declared.operations.UpperOp.{UpperOp}
 use Rattle.rv_model.specs.declared.operations.UpperOp.TheVariants as upper
@@ -208,7 +209,8 @@ csr_immediate_bits csr_immediate.Csrrci = coded 0x73 7
 abbrev pub csr_immediate_ops : List CsrImmediateOp
 csr_immediate_ops = csr_immediate.Csrrwi ∷ csr_immediate.Csrrsi ∷ csr_immediate.Csrrci ∷ []
 
--- ---- vector operations with fewer operands (V extension, "Vector Instruction Listing"): funct3, funct6, bit 25 where it is fixed, vs1 where it is
+-- ---- vector operations with fewer operands (V extension, "Vector Instruction Listing"): funct3, funct6, bit 25
+-- where it is fixed, vs1 where it is
 
 -- vmv.v.v, vmv.v.x, vmv.v.i ("Vector Integer Move Instructions")
 abbrev pub move_bits : Form → ℕ
@@ -275,7 +277,8 @@ mask_unary_bits mask_unary.Viota = vector_coded 2 0x14 0 16  -- viota.m
 abbrev pub mask_unary_ops : List MaskUnaryOp
 mask_unary_ops = mask_unary.Vmsbf ∷ mask_unary.Vmsof ∷ mask_unary.Vmsif ∷ mask_unary.Viota ∷ []
 
--- ---- vector memory (V extension, "Vector Load/Store Instruction Encoding": nf 31 to 29, mew 28, mop 27 to 26, width 14 to 12)
+-- ---- vector memory (V extension, "Vector Load/Store Instruction Encoding": nf 31 to 29, mew 28, mop 27 to 26, width
+-- 14 to 12)
 
 -- the width of a memory element or an index
 abbrev pub width_bits : Width → ℕ

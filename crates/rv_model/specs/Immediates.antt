@@ -1,4 +1,5 @@
--- Immediates: where their bits stand in a word, and the numbers that they mean (Unprivileged ISA, RV32I, "Immediate Encoding Variants")
+-- Immediates: where their bits stand in a word, and the numbers that they mean (Unprivileged ISA, RV32I, "Immediate
+-- Encoding Variants")
 use Rattle.std.specs.Prelude.{ℕ, ◌+◌, ◌-◌, ◌*◌, ◌^◌, nat_lt, if◌then◌else◌, ℤ, pos, ◌-ℤ◌}
 use Rattle.rv_model.specs.BitFields.{field}
 

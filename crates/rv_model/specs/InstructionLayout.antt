@@ -1,4 +1,5 @@
--- The layout of each instruction's word: where its operands stand, and the bits that its operation fixes (Unprivileged ISA, "Base Instruction Formats"; V extension, "Vector Instruction Formats")
+-- The layout of each instruction's word: where its operands stand, and the bits that its operation fixes
+-- (Unprivileged ISA, "Base Instruction Formats"; V extension, "Vector Instruction Formats")
 use Rattle.std.specs.Prelude.{ℕ, ◌+◌, ◌*◌, ◌/◌, ◌%◌, ◌^◌, ◌≡◌, List, [], ◌∷◌, true}
 use Rattle.rv_model.specs.BitFields.{field, flag, flag_bit, Part, part, sum_of}
 use Rattle.rv_model.specs.Immediates.{store_immediate, branch_offset, jump_offset}
@@ -36,9 +37,13 @@ whole_store_bits count = 0x27 + count_bits count
 -- the operands, each at its place, from the high bits to the low
 abbrev pub parts : Instr → List Part
 parts (Upper op rd imm) = part 12 20 imm ∷ part 7 5 rd ∷ []
-parts (Jump rd offset) = part 31 1 (offset / 2 ^ 19) ∷ part 21 10 (offset % 2 ^ 10) ∷ part 20 1 (offset / 2 ^ 10 % 2 ^ 1) ∷ part 12 8 (offset / 2 ^ 11 % 2 ^ 8) ∷ part 7 5 rd ∷ []
+parts (Jump rd offset) =
+    part 31 1 (offset / 2 ^ 19) ∷ part 21 10 (offset % 2 ^ 10) ∷ part 20 1 (offset / 2 ^ 10 % 2 ^ 1) ∷
+    part 12 8 (offset / 2 ^ 11 % 2 ^ 8) ∷ part 7 5 rd ∷ []
 parts (JumpRegister rd rs1 imm) = part 20 12 imm ∷ part 15 5 rs1 ∷ part 7 5 rd ∷ []
-parts (Branch op rs1 rs2 offset) = part 31 1 (offset / 2 ^ 11) ∷ part 25 6 (offset / 2 ^ 4 % 2 ^ 6) ∷ part 20 5 rs2 ∷ part 15 5 rs1 ∷ part 8 4 (offset % 2 ^ 4) ∷ part 7 1 (offset / 2 ^ 10 % 2 ^ 1) ∷ []
+parts (Branch op rs1 rs2 offset) =
+    part 31 1 (offset / 2 ^ 11) ∷ part 25 6 (offset / 2 ^ 4 % 2 ^ 6) ∷ part 20 5 rs2 ∷ part 15 5 rs1 ∷
+    part 8 4 (offset % 2 ^ 4) ∷ part 7 1 (offset / 2 ^ 10 % 2 ^ 1) ∷ []
 parts (Load op rd rs1 imm) = part 20 12 imm ∷ part 15 5 rs1 ∷ part 7 5 rd ∷ []
 parts (Store op rs1 rs2 imm) = part 25 7 (imm / 2 ^ 5) ∷ part 20 5 rs2 ∷ part 15 5 rs1 ∷ part 7 5 (imm % 2 ^ 5) ∷ []
 parts (OpImm op rd rs1 imm) = part 20 12 imm ∷ part 15 5 rs1 ∷ part 7 5 rd ∷ []
@@ -52,7 +57,8 @@ parts (CsrImmediate op rd imm csr) = part 20 12 csr ∷ part 15 5 imm ∷ part 7
 parts (SetVli rd rs1 vtype) = part 20 11 vtype ∷ part 15 5 rs1 ∷ part 7 5 rd ∷ []
 parts (SetIvli rd avl vtype) = part 20 10 vtype ∷ part 15 5 avl ∷ part 7 5 rd ∷ []
 parts (SetVl rd rs1 rs2) = part 20 5 rs2 ∷ part 15 5 rs1 ∷ part 7 5 rd ∷ []
-parts (VectorArith arith vd vs2 vm) = part 25 1 (flag_bit vm) ∷ part 20 5 vs2 ∷ part 15 5 (number arith.1) ∷ part 7 5 vd ∷ []
+parts (VectorArith arith vd vs2 vm) =
+    part 25 1 (flag_bit vm) ∷ part 20 5 vs2 ∷ part 15 5 (number arith.1) ∷ part 7 5 vd ∷ []
 parts (VectorCarry carry vd vs2) = part 20 5 vs2 ∷ part 15 5 (number carry.1) ∷ part 7 5 vd ∷ []
 parts (VectorMove source vd) = part 15 5 (number source) ∷ part 7 5 vd ∷ []
 parts (WholeMove count vd vs2) = part 20 5 vs2 ∷ part 7 5 vd ∷ []
@@ -65,8 +71,10 @@ parts (ElementIndex vd vm) = part 25 1 (flag_bit vm) ∷ part 7 5 vd ∷ []
 parts (MoveToScalar rd vs2) = part 20 5 vs2 ∷ part 7 5 rd ∷ []
 parts (MoveToVector vd rs1) = part 15 5 rs1 ∷ part 7 5 vd ∷ []
 parts (VectorUnit op width nf vd rs1 vm) = part 29 3 nf ∷ part 25 1 (flag_bit vm) ∷ part 15 5 rs1 ∷ part 7 5 vd ∷ []
-parts (VectorStrided direction width nf vd rs1 rs2 vm) = part 29 3 nf ∷ part 25 1 (flag_bit vm) ∷ part 20 5 rs2 ∷ part 15 5 rs1 ∷ part 7 5 vd ∷ []
-parts (VectorIndexed direction order width nf vd rs1 vs2 vm) = part 29 3 nf ∷ part 25 1 (flag_bit vm) ∷ part 20 5 vs2 ∷ part 15 5 rs1 ∷ part 7 5 vd ∷ []
+parts (VectorStrided direction width nf vd rs1 rs2 vm) =
+    part 29 3 nf ∷ part 25 1 (flag_bit vm) ∷ part 20 5 rs2 ∷ part 15 5 rs1 ∷ part 7 5 vd ∷ []
+parts (VectorIndexed direction order width nf vd rs1 vs2 vm) =
+    part 29 3 nf ∷ part 25 1 (flag_bit vm) ∷ part 20 5 vs2 ∷ part 15 5 rs1 ∷ part 7 5 vd ∷ []
 parts (WholeLoad count width vd rs1) = part 15 5 rs1 ∷ part 7 5 vd ∷ []
 parts (WholeStore count vd rs1) = part 15 5 rs1 ∷ part 7 5 vd ∷ []
 parts (MaskMemory direction vd rs1) = part 15 5 rs1 ∷ part 7 5 vd ∷ []
@@ -128,8 +136,10 @@ filled (CsrImmediate op rd imm csr) word = CsrImmediate op (field 7 5 word) (fie
 filled (SetVli rd rs1 vtype) word = SetVli (field 7 5 word) (field 15 5 word) (field 20 11 word)
 filled (SetIvli rd avl vtype) word = SetIvli (field 7 5 word) (field 15 5 word) (field 20 10 word)
 filled (SetVl rd rs1 rs2) word = SetVl (field 7 5 word) (field 15 5 word) (field 20 5 word)
-filled (VectorArith arith vd vs2 vm) word = VectorArith (arith.0, source_of (form_of arith.1) (field 15 5 word)) (field 7 5 word) (field 20 5 word) (flag word)
-filled (VectorCarry carry vd vs2) word = VectorCarry (carry.0, source_of (form_of carry.1) (field 15 5 word)) (field 7 5 word) (field 20 5 word)
+filled (VectorArith arith vd vs2 vm) word =
+    VectorArith (arith.0, source_of (form_of arith.1) (field 15 5 word)) (field 7 5 word) (field 20 5 word) (flag word)
+filled (VectorCarry carry vd vs2) word =
+    VectorCarry (carry.0, source_of (form_of carry.1) (field 15 5 word)) (field 7 5 word) (field 20 5 word)
 filled (VectorMove source vd) word = VectorMove (source_of (form_of source) (field 15 5 word)) (field 7 5 word)
 filled (WholeMove count vd vs2) word = WholeMove count (field 7 5 word) (field 20 5 word)
 filled (MaskLogic op vd vs1 vs2) word = MaskLogic op (field 7 5 word) (field 15 5 word) (field 20 5 word)
@@ -140,9 +150,12 @@ filled (MaskUnary op vd vs2 vm) word = MaskUnary op (field 7 5 word) (field 20 5
 filled (ElementIndex vd vm) word = ElementIndex (field 7 5 word) (flag word)
 filled (MoveToScalar rd vs2) word = MoveToScalar (field 7 5 word) (field 20 5 word)
 filled (MoveToVector vd rs1) word = MoveToVector (field 7 5 word) (field 15 5 word)
-filled (VectorUnit op width nf vd rs1 vm) word = VectorUnit op width (field 29 3 word) (field 7 5 word) (field 15 5 word) (flag word)
-filled (VectorStrided direction width nf vd rs1 rs2 vm) word = VectorStrided direction width (field 29 3 word) (field 7 5 word) (field 15 5 word) (field 20 5 word) (flag word)
-filled (VectorIndexed direction order width nf vd rs1 vs2 vm) word = VectorIndexed direction order width (field 29 3 word) (field 7 5 word) (field 15 5 word) (field 20 5 word) (flag word)
+filled (VectorUnit op width nf vd rs1 vm) word =
+    VectorUnit op width (field 29 3 word) (field 7 5 word) (field 15 5 word) (flag word)
+filled (VectorStrided direction width nf vd rs1 rs2 vm) word =
+    VectorStrided direction width (field 29 3 word) (field 7 5 word) (field 15 5 word) (field 20 5 word) (flag word)
+filled (VectorIndexed direction order width nf vd rs1 vs2 vm) word =
+    VectorIndexed direction order width (field 29 3 word) (field 7 5 word) (field 15 5 word) (field 20 5 word) (flag word)
 filled (WholeLoad count width vd rs1) word = WholeLoad count width (field 7 5 word) (field 15 5 word)
 filled (WholeStore count vd rs1) word = WholeStore count (field 7 5 word) (field 15 5 word)
 filled (MaskMemory direction vd rs1) word = MaskMemory direction (field 7 5 word) (field 15 5 word)

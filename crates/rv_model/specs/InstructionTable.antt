@@ -1,4 +1,5 @@
--- The instruction table: a row for each operation of the manual's tables, with the bits that it fixes and the instruction that a word of the row is. Its families stand in the order of the tables
+-- The instruction table: a row for each operation of the manual's tables, with the bits that it fixes and the
+-- instruction that a word of the row is. Its families stand in the order of the tables
 use Rattle.std.specs.Prelude.{◌⊎◌, ℕ, ◌≡◌, List, [], ◌∷◌, ◌++◌, map, Option, Some, None, true, ◌&&◌, nat_eq, bit_and, if◌then◌else◌}
 use Rattle.rv_model.specs.BitFields.{fixed}
 use Rattle.rv_model.specs.Sources.{source_of}
@@ -49,40 +50,71 @@ whole_loads = with_widths counts
 
 -- the rows with one layout of operands, and for vector operations of one place of the opcode map
 pub data Family : Type 0 where
+  -- RV32I, "Integer Register-Immediate Instructions"
   Uppers : Family
+  -- RV32I, "Unconditional Jumps"
   Jumps : Family
+  -- RV32I, "Unconditional Jumps"
   JumpRegisters : Family
+  -- RV32I, "Conditional Branches"
   Branches : Family
+  -- RV32I and RV64I, "Load and Store Instructions"
   Loads : Family
+  -- RV32I and RV64I, "Load and Store Instructions"
   Stores : Family
+  -- RV32I and RV64I, "Integer Register-Immediate Instructions"
   OpImms : Family
+  -- RV64I, "Integer Register-Immediate Instructions"
   ShiftImms : Family
+  -- RV64I, "Integer Register-Immediate Instructions"
   ShiftImmWords : Family
+  -- RV32I and RV64I, "Integer Register-Register Operations"; M, "Multiplication Operations", "Division Operations"
   Ops : Family
+  -- RV32I, "Memory Ordering Instructions"
   Fences : Family
+  -- RV32I, "Environment Call and Breakpoints"
   Systems : Family
+  -- Zicsr, "CSR Instructions"
   Csrs : Family
+  -- Zicsr, "CSR Instructions"
   CsrImmediates : Family
+  -- V, "Configuration-Setting Instructions"
   SetVlis : Family
   SetIvlis : Family
   SetVls : Family
+  -- V, the lines of "Vector Instruction Listing" that may be masked
   Ariths : Major → Form → Family
+  -- V, "Vector Integer Add-with-Carry / Subtract-with-Borrow Instructions", "Vector Integer Merge Instructions"
   Carries : Form → Family
+  -- V, "Vector Integer Move Instructions"
   Moves : Form → Family
+  -- V, "Whole Vector Register Move"
   WholeMoves : Family
+  -- V, "Vector Mask-Register Logical Instructions"
   MaskLogics : Family
+  -- V, "Vector Compress Instruction"
   Compresses : Family
+  -- V, "Vector count population in mask vcpop.m", "vfirst find-first-set mask bit"
   MasksToScalar : Family
+  -- V, "Vector Integer Extension"
   Extends : Family
+  -- V, "vmsbf.m set-before-first mask bit" and the like, "Vector Iota Instruction"
   MaskUnaries : Family
+  -- V, "Vector Element Index Instruction"
   ElementIndices : Family
+  -- V, "Integer Scalar Move Instructions"
   MovesToScalar : Family
   MovesToVector : Family
+  -- V, "Vector Unit-Stride Instructions", "Unit-stride Fault-Only-First Loads", "Unit-Stride Segment Loads and Stores"
   Units : Family
+  -- V, "Vector Strided Instructions", "Vector Strided Segment Loads and Stores"
   Strideds : Family
+  -- V, "Vector Indexed Instructions", "Vector Indexed Segment Loads and Stores"
   Indexeds : Family
+  -- V, "Vector Load/Store Whole Register Instructions"
   WholeLoads : Family
   WholeStores : Family
+  -- V, "Vector Unit-Stride Instructions": vlm.v, vsm.v
   MaskMemories : Family
 
 -- an instruction for each row of a family, with zeros for operands

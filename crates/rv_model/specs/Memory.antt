@@ -1,6 +1,6 @@
 -- A user's memory: a finite map from addresses to a byte and what may be done with it. Memory is one space of bytes, by address
--- (Unprivileged ISA, section 1.4), mapped in pages of 4,096 bytes with permissions to read, write and execute
--- (Privileged Architecture, sections 4.3 and 4.4). An access is allowed where each of its bytes is.
+-- (Unprivileged ISA, section 1.4). It is mapped in pages of 4,096 bytes, each with permissions to read, write and execute, as the
+-- leaf entries of page tables have them (Privileged Architecture, section 4.3.1). An access is allowed where each of its bytes is.
 use Rattle.std.specs.Prelude.{◌≡◌, ◌↔◌, ◌<◌, length, slice_index, ℕ, ◌+◌, ◌*◌, ◌/◌, ◌-◌, Bool, true, false, ◌&&◌, cond, nat_lt, nat_le, List, [], ◌∷◌, zero, suc, map, Option, Some, None, refl}
 use Rattle.std.specs.List.{list_all, list_any, range_with_len}
 use Rattle.std.specs.Option.{option_map_or}

@@ -1,4 +1,5 @@
--- The lines of the manual's table of vector operations (V extension, "Vector Instruction Listing"): the half of the opcode map, funct6 and the forms, each operation once
+-- The lines of the manual's table of vector operations (V extension, "Vector Instruction Listing"): the half of the
+-- opcode map, funct6 and the forms, each operation once
 use Rattle.std.specs.Prelude.{ℕ, ◌+◌, ◌*◌, ◌^◌, Bool, true, false, ◌&&◌, cond, List, [], ◌∷◌, map, ◌++◌}
 use Rattle.rv_model.specs.declared.operations.Line.{Line}
 use Rattle.rv_model.specs.declared.operations.Major.{Major}
@@ -258,4 +259,5 @@ same_major m n = false
 -- the operations of a half of the opcode map that have a form
 abbrev pub those : {A : Type 0} → (A → Line) → Major → Form → List A → List A
 those line m f [] = []
-those line m f (op ∷ ops) = cond (same_major m (line op).major && has_form (line op).forms f) (op ∷ those line m f ops) (those line m f ops)
+those line m f (op ∷ ops) =
+    cond (same_major m (line op).major && has_form (line op).forms f) (op ∷ those line m f ops) (those line m f ops)

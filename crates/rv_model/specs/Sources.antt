@@ -1,4 +1,5 @@
--- The second operand of a vector operation: its form, and the five bits 19 to 15 that hold it (V extension, "Vector Arithmetic Instruction encoding")
+-- The second operand of a vector operation: its form, and the five bits 19 to 15 that hold it (V extension, "Vector
+-- Arithmetic Instruction encoding")
 use Rattle.std.specs.Prelude.{ℕ}
 use Rattle.rv_model.specs.declared.operations.Form.{Form}
 use Rattle.rv_model.specs.declared.operations.Form.TheVariants as form

@@ -19,8 +19,8 @@ fn index_of(entries: &[Entry], frames: &[u8], addr: u64) -> usize
     requires fit { FitIn entries.now (length frames.now) }
     requires mapped { is_allowed Access.Monitor (memory_of frames.now entries.now) addr ≡ true }
     ensures within { result + 4096 ≤ length frames.now + addr % 4096 }
-    ensures place { (e : Entry) → entry_at entries.now (addr / 4096)
-        ≡ Some e → result ≡ 4096 * e.frame + addr % 4096 }
+    ensures place { (e : Entry) → entry_at entries.now (addr / 4096) ≡ Some e
+        → result ≡ 4096 * e.frame + addr % 4096 }
 {
     match locate(entries, addr / PAGE_SIZE) {
         Some(entry) => FRAME_SIZE * entry.frame + addr as usize % FRAME_SIZE,
@@ -32,10 +32,10 @@ fn index_of(entries: &[Entry], frames: &[u8], addr: u64) -> usize
 fn paste(target: &mut [u8], at: usize, bytes: &[u8])
     requires { at + length bytes.now ≤ length target.old }
     ensures size { length target.new ≡ length target.old }
-    ensures pasted { (k : ℕ) → k < length bytes.now → slice_index target.new (at + k)
-        ≡ slice_index bytes.now k }
-    ensures kept { (i : ℕ) → ((i < at) ⊎ (at + length bytes.now ≤ i)) → slice_index target.new i
-        ≡ slice_index target.old i }
+    ensures pasted { (k : ℕ) → k < length bytes.now
+        → slice_index target.new (at + k) ≡ slice_index bytes.now k }
+    ensures kept { (i : ℕ) → ((i < at) ⊎ (at + length bytes.now ≤ i))
+        → slice_index target.new i ≡ slice_index target.old i }
 {
     target[at..at + bytes.len()].copy_from_slice(bytes);
 }
@@ -46,8 +46,7 @@ pub(crate) fn copy_out(entries: &[Entry], frames: &[u8], addr: u64, buffer: &mut
     requires below { AreBelow entries.now }
     requires fit { FitIn entries.now (length frames.now) }
     requires mapped { can_access Access.Monitor (memory_of frames.now entries.now) addr
-        (length buffer.old)
-        ≡ true }
+        (length buffer.old) ≡ true }
     ensures { buffer.new ≡ bytes_at (memory_of frames.now entries.now) addr (length buffer.old) }
 {
     let mut done = 0;
@@ -67,12 +66,11 @@ pub(crate) fn copy_in(entries: &[Entry], frames: &mut [u8], addr: u64, bytes: &[
     requires fit { FitIn entries.now (length frames.old) }
     requires separate { AreSeparate entries.now }
     requires mapped { can_access Access.Monitor (memory_of frames.old entries.now) addr
-        (length bytes.now)
-        ≡ true }
+        (length bytes.now) ≡ true }
     ensures written { memory_of frames.new entries.now
         ≡ put_bytes (memory_of frames.old entries.now) addr bytes.now }
-    ensures others { (other : List Entry) → AreApart entries.now other → memory_of frames.new other
-        ≡ memory_of frames.old other }
+    ensures others { (other : List Entry) → AreApart entries.now other
+        → memory_of frames.new other ≡ memory_of frames.old other }
     ensures size { length frames.new ≡ length frames.old }
 {
     let mut done = 0;
@@ -113,15 +111,15 @@ pub(crate) fn map_page(
     requires unused { uses_of frame table.old.items ≡ 0 }
     ensures mapped { memory_of frames.new table.new.items
         ≡ with_pages (memory_of frames.old table.old.items) page 1 permissions }
-    ensures others { (other : List Entry) → uses_of frame other
-        ≡ 0 → memory_of frames.new other ≡ memory_of frames.old other }
+    ensures others { (other : List Entry) → uses_of frame other ≡ 0
+        → memory_of frames.new other ≡ memory_of frames.old other }
     ensures sorted { IsSorted table.new.items }
     ensures looked_up { (p : ℕ) → entry_at table.new.items p
         ≡ cond (nat_eq page p)
         (Some (record { page = page; frame = frame; permissions = permissions }))
         (entry_at table.old.items p) }
-    ensures used { (f : ℕ) → uses_of f table.new.items
-        ≡ uses_of f table.old.items + cond (nat_eq frame f) 1 0 }
+    ensures used { (f : ℕ)
+        → uses_of f table.new.items ≡ uses_of f table.old.items + cond (nat_eq frame f) 1 0 }
     ensures len { length table.new.items ≡ length table.old.items + 1 }
     ensures size { length frames.new ≡ length frames.old }
 {

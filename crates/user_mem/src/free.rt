@@ -47,8 +47,8 @@ fn take_page(
         → memory_of frames.new other ≡ memory_of frames.old other }
     ensures sorted { IsSorted table.new.items }
     ensures below { page < 2 ^ 36 → AreBelow table.old.items → AreBelow table.new.items }
-    ensures elsewhere { (p : ℕ) → page < p → entry_at table.new.items p
-        ≡ entry_at table.old.items p }
+    ensures elsewhere { (p : ℕ) → page < p
+        → entry_at table.new.items p ≡ entry_at table.old.items p }
     ensures owners { (f : ℕ) → uses f free.new.items + uses_of f table.new.items
         ≡ uses f free.old.items + uses_of f table.old.items }
     ensures fewer { (f : ℕ) → uses f free.new.items ≤ uses f free.old.items }
@@ -99,8 +99,8 @@ pub(crate) fn take_pages(
 pub(crate) fn give_back(table: &mut Table, free: &mut FreeFrames)
     requires { length free.old.items + length table.old.items ≤ 2048 }
     ensures empty { table.new.items ≡ [] }
-    ensures owners { (f : ℕ) → uses f free.new.items
-        ≡ uses f free.old.items + uses_of f table.old.items }
+    ensures owners { (f : ℕ)
+        → uses f free.new.items ≡ uses f free.old.items + uses_of f table.old.items }
     ensures len { length free.new.items ≡ length free.old.items + length table.old.items }
 {
     for i in 0..table.len() {

@@ -23,8 +23,8 @@ pub struct NoMemory;
 /// A page has 4,096 bytes. A user has at most 256 pages, and the 2,048 frames are enough for eight
 /// users who have that many each. Only `new` takes memory.
 ///
-/// A page may be read, written and executed as its permissions say (Privileged Architecture,
-/// section 4.3), and the monitor may look at any mapped page.
+/// A page may be read, written and executed as its permissions say, which are those of a leaf entry
+/// of a page table (Privileged Architecture, section 4.3.1). The monitor may look at any mapped page.
 #[derive(Drop)]
 pub struct Pool<A: Allocator = Global> {
     tables: Tables,

@@ -61,8 +61,8 @@ pub(crate) fn bytes_in_page(addr: u64, left: usize) -> usize
 pub(crate) fn allows(entries: &[Entry], access: Access, addr: u64, len: usize) -> bool
     requires sorted { IsSorted entries.now }
     requires below { AreBelow entries.now }
-    ensures { (frames : List ℕ) → result
-        ≡ can_access access (memory_of frames entries.now) addr len }
+    ensures { (frames : List ℕ)
+        → result ≡ can_access access (memory_of frames entries.now) addr len }
 {
     let mut done = 0;
     while done < len {
@@ -81,10 +81,10 @@ pub(crate) fn allows(entries: &[Entry], access: Access, addr: u64, len: usize) -
 fn is_any_mapped(entries: &[Entry], page: u64, count: usize) -> bool
     requires sorted { IsSorted entries.now }
     requires ends { page + count ≤ 2 ^ 36 }
-    ensures mapped { (frames : List ℕ) → result
-        ≡ any_page_mapped (memory_of frames entries.now) page count }
-    ensures new_pages { result
-        ≡ false → (k : ℕ) → k < count → entry_at entries.now (page + k) ≡ None }
+    ensures mapped { (frames : List ℕ)
+        → result ≡ any_page_mapped (memory_of frames entries.now) page count }
+    ensures new_pages { result ≡ false → (k : ℕ) → k < count
+        → entry_at entries.now (page + k) ≡ None }
 {
     for i in 0..count {
         if locate(entries, page + i as u64).is_some() {
@@ -99,8 +99,8 @@ pub(crate) fn refusal(entries: &[Entry], page: u64, count: usize) -> Option<MapR
     requires few { length entries.now ≤ 256 }
     requires sorted { IsSorted entries.now }
     requires ends { page + count ≤ 2 ^ 36 }
-    ensures value { (frames : List ℕ) → result
-        ≡ map_refusal (memory_of frames entries.now) page count }
+    ensures value { (frames : List ℕ)
+        → result ≡ map_refusal (memory_of frames entries.now) page count }
     ensures room { IfNone result (length entries.now + count ≤ 256) }
     ensures new_pages { IfNone result ((k : ℕ)
         → k < count → entry_at entries.now (page + k) ≡ None) }
@@ -123,8 +123,8 @@ pub(crate) fn add_entry(table: &mut Table, entry: Entry)
     ensures len { length table.new.items ≡ length table.old.items + 1 }
     ensures looked_up { (p : ℕ) → entry_at table.new.items p
         ≡ cond (nat_eq entry.page p) (Some entry) (entry_at table.old.items p) }
-    ensures used { (f : ℕ) → uses_of f table.new.items
-        ≡ uses_of f table.old.items + cond (nat_eq entry.frame f) 1 0 }
+    ensures used { (f : ℕ)
+        → uses_of f table.new.items ≡ uses_of f table.old.items + cond (nat_eq entry.frame f) 1 0 }
 {
     match search(table.as_slice(), entry.page) {
         Ok(_) => unreachable!(),

@@ -1,15 +1,10 @@
 -- A change of one user's context and memory changes that user's part alone.
-use Rattle.std.proofs.Common.{◌≡◌, ℕ, zero, suc, ◌+◌, ◌-◌, ◌<◌, ◌≤◌, List, [], ◌∷◌, length, get_or, set, refl, ap, ◌∙◌, sym, arith, None, Ok, Err}
+use Rattle.std.proofs.Common.{◌≡◌, ℕ, zero, suc, ◌-◌, ◌<◌, List, [], ◌∷◌, length, get_or, set, refl, ap, ◌∙◌, sym, arith, None}
 use Rattle.std.proofs.lemmas.List.{set-get_or}
 use Rattle.std.specs.FinMap.{empty}
-use Rattle.rv_model.specs.declared.command.Cmd.{Cmd}
-use Rattle.rv_model.specs.declared.command.Refusal.{Refusal}
-use Rattle.rv_model.specs.Commands.{Parsed, parse}
 use Rattle.rv_model.specs.Memory.{Memory}
-use Rattle.rv_model.specs.PrivateMachine.{Private, Outcome, commanded, event, Command}
+use Rattle.rv_model.specs.PrivateMachine.{Private}
 use Rattle.rv_model.specs.Script.{World, new_world, part, with_part}
-use Rattle.rv_model.specs.Setup.{Setup}
-use Rattle.rv_model.specs.Text.{text}
 use Rattle.user_mem.specs.Users.{no_memories, memory_of_user, with_memory}
 use Rattle.vec_monitor.specs.declared.context.Context.{Context}
 use Rattle.vec_monitor.specs.Lenders.{later_memory}
@@ -43,9 +38,9 @@ part_is cs ms u i d at low eight =
 pub world_with : (cs : List Context) (ms ms' : List Memory) (u i : ℕ) (d c' : Context) (f : Private → Private) → i ≡ u - 1 → i < 8 → AreEight cs ms → private_of c' (memory_of_user ms' u) ≡ f (private_of (get_or cs i d) (memory_of_user ms u)) → ms' ≡ with_memory ms u (memory_of_user ms' u) → world_of (set cs i c') ms' ≡ with_part u (f (part u (world_of cs ms))) (world_of cs ms)
 world_with cs ms ms' u i d c' f at low eight next others =
     let done : private_of c' (memory_of_user ms' u) ≡ f (part u (world_of cs ms)) =
-        next ∙ ap f (sym (part_is cs ms u i d at low eight)) in
+    next ∙ ap f (sym (part_is cs ms u i d at low eight)) in
     let moved : parts_of (set cs (u - 1) c') ms' ≡ set (parts_of cs ms) (u - 1) (private_of c' (memory_of_user ms' u)) =
-        ap (parts_of (set cs (u - 1) c')) others ∙ parts_of-set cs ms (u - 1) c' (memory_of_user ms' u) (eight.contexts ∙ sym eight.memories) in
+    ap (parts_of (set cs (u - 1) c')) others ∙ parts_of-set cs ms (u - 1) c' (memory_of_user ms' u) (eight.contexts ∙ sym eight.memories) in
     ap (λ (j : ℕ). world_of (set cs j c') ms') at
     ∙ ap (λ (ps : List Private). let r : World = record { parts = ps; cursor = 8 } in r) moved
     ∙ ap (λ (p : Private). with_part u p (world_of cs ms)) done

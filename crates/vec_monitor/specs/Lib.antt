@@ -1,6 +1,7 @@
 pub mod Addressees
 pub mod CommandOutcomes
 pub mod Device
+pub mod EndedLines
 pub mod Feed
 pub mod Images
 pub mod Lenders
@@ -8,3 +9,4 @@ pub mod MachineState
 pub mod NewFaults
 pub mod ParsedCommands
 pub mod Parts
+pub mod Statuses

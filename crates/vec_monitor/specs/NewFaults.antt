@@ -1,5 +1,5 @@
 -- What a new machine is refused for: its quantum, the number of its images, a name, a size, in this order.
-use Rattle.std.specs.Prelude.{ℕ, ◌==◌, ◌&&◌, ◌||◌, not, nat_lt, nat_le, Bool, true, false, List, [], ◌∷◌, length, Option, Some, None, if◌then◌else◌}
+use Rattle.std.specs.Prelude.{ℕ, ◌==◌, ◌&&◌, ◌||◌, not, nat_lt, nat_le, Bool, true, List, [], ◌∷◌, length, Option, Some, None, if◌then◌else◌}
 use Rattle.std.specs.List.{list_all, list_any}
 use Rattle.std.specs.Str.{bytes_eq}
 use Rattle.rv_model.specs.Setup.{Setup, Image}
@@ -16,14 +16,10 @@ is_name_byte b =
 unfoldable pub is_name : List ℕ → Bool
 is_name name = nat_le 1 (length name) && nat_le (length name) 32 && list_all is_name_byte name
 
--- whether an image has this name
-unfoldable pub is_named : List ℕ → List Image → Bool
-is_named name images = list_any (λ image. bytes_eq image.name name) images
-
--- all names are proper and none is there twice
-unfoldable pub are_named : List Image → Bool
-are_named [] = true
-are_named (image ∷ images) = is_name image.name && not (is_named image.name images) && are_named images
+-- no image has the name of one before it
+unfoldable pub are_distinct : List Image → Bool
+are_distinct [] = true
+are_distinct (image ∷ images) = not (list_any (λ other. bytes_eq other.name image.name) images) && are_distinct images
 
 -- at most 4,194,304 bytes
 abbrev pub is_small : Image → Bool
@@ -32,8 +28,8 @@ is_small image = nat_le (length image.bytes) 4194304
 -- the first fault that applies
 unfoldable pub new_fault : Setup → Option NewFault
 new_fault setup =
-    if not (nat_le 1 setup.quantum && nat_le setup.quantum 1000) then Some fault.Quantum
+    if nat_lt setup.quantum 1 || nat_lt 1000 setup.quantum then Some fault.Quantum
     else if nat_lt 16 (length setup.images) then Some fault.ImageCount
-    else if not (are_named setup.images) then Some fault.ImageName
+    else if not (list_all (λ image. is_name image.name) setup.images && are_distinct setup.images) then Some fault.ImageName
     else if not (list_all is_small setup.images) then Some fault.ImageSize
     else None

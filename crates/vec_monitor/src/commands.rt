@@ -19,7 +19,13 @@ use user_mem::Pool;
 const PAGE_SIZE: u64 = 4096;
 
 /// Carries out a command of a user, and answers it.
-pub fn carry_out<A: Allocator>(context: &mut Context, pool: &mut Pool<A>, user: User, cmd: &Cmd, reply: &mut Reply)
+pub fn carry_out<A: Allocator>(
+    context: &mut Context,
+    pool: &mut Pool<A>,
+    user: User,
+    cmd: &Cmd,
+    reply: &mut Reply,
+)
     requires clear { reply.old ≡ [] }
     requires within { user - 1 < length pool.old }
     requires fits { FitsAddressSpace cmd.now }
@@ -38,7 +44,13 @@ pub fn carry_out<A: Allocator>(context: &mut Context, pool: &mut Pool<A>, user: 
 
 /// The same for a user who is absent: only `enter` is accepted.
 #[tactic(auto, using(crate::specs::Lenders::memory_there, crate::specs::Lenders::same_memory, crate::proofs::CommandLaws::enter_absent, crate::proofs::CommandLaws::refused_absent))]
-fn carry_out_absent<A: Allocator>(context: &mut Context, pool: &mut Pool<A>, user: User, cmd: &Cmd, reply: &mut Reply)
+fn carry_out_absent<A: Allocator>(
+    context: &mut Context,
+    pool: &mut Pool<A>,
+    user: User,
+    cmd: &Cmd,
+    reply: &mut Reply,
+)
     requires absent { context.old.entered ≡ false }
     requires clear { reply.old ≡ [] }
     requires within { user - 1 < length pool.old }
@@ -59,7 +71,13 @@ fn carry_out_absent<A: Allocator>(context: &mut Context, pool: &mut Pool<A>, use
 
 /// The same for a user who has entered.
 #[tactic(auto, using(crate::proofs::CommandLaws::enter_outcome, crate::proofs::CommandLaws::regs_outcome, crate::proofs::CommandLaws::step_outcome))]
-fn carry_out_present<A: Allocator>(context: &mut Context, pool: &mut Pool<A>, user: User, cmd: &Cmd, reply: &mut Reply)
+fn carry_out_present<A: Allocator>(
+    context: &mut Context,
+    pool: &mut Pool<A>,
+    user: User,
+    cmd: &Cmd,
+    reply: &mut Reply,
+)
     requires clear { reply.old ≡ [] }
     requires within { user - 1 < length pool.old }
     requires fits { FitsAddressSpace cmd.now }
@@ -98,7 +116,14 @@ fn refusal_of_pages(refusal: MapRefusal) -> Refusal
 
 /// `map`: pages of zeros.
 #[tactic(auto, using(crate::specs::Lenders::memory_there, crate::proofs::CommandLaws::map_accepted, crate::proofs::CommandLaws::map_refused))]
-fn map_pages<A: Allocator>(pool: &mut Pool<A>, user: User, addr: u64, pages: usize, permissions: Permissions, reply: &mut Reply)
+fn map_pages<A: Allocator>(
+    pool: &mut Pool<A>,
+    user: User,
+    addr: u64,
+    pages: usize,
+    permissions: Permissions,
+    reply: &mut Reply,
+)
     requires clear { reply.old ≡ [] }
     requires within { user - 1 < length pool.old }
     requires fits { addr + 4096 * pages ≤ 2 ^ 48 }
@@ -116,7 +141,13 @@ fn map_pages<A: Allocator>(pool: &mut Pool<A>, user: User, addr: u64, pages: usi
 
 /// `poke`: bytes written to mapped pages, whatever these allow a program.
 #[tactic(auto, using(crate::specs::Lenders::memory_there, crate::proofs::CommandLaws::poke_accepted, crate::proofs::CommandLaws::poke_refused))]
-fn poke<A: Allocator>(pool: &mut Pool<A>, user: User, addr: u64, bytes: &ByteString, reply: &mut Reply)
+fn poke<A: Allocator>(
+    pool: &mut Pool<A>,
+    user: User,
+    addr: u64,
+    bytes: &ByteString,
+    reply: &mut Reply,
+)
     requires clear { reply.old ≡ [] }
     requires within { user - 1 < length pool.old }
     ensures next { (c : Context) → (outcome c (memory_of_user pool.old user) (Cmd.Poke addr bytes.now)).next

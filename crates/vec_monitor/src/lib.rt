@@ -11,14 +11,20 @@ mod lenders;
 mod line;
 mod machine;
 mod new_fault;
+mod program;
 mod script;
 mod stepping;
 mod streams;
+#[cfg(test)]
+mod tests;
 mod users;
 
 pub use device::{DeviceFault, Sink, Source};
 pub use image::Image;
 pub use machine::Machine;
 pub use new_fault::NewFault;
+pub use program::{
+    STATUS_DONE, STATUS_NO_MEMORY, STATUS_OUTPUT, STATUS_SCRIPT, STATUS_USAGE, vecmon,
+};
 pub use script::{RunFault, run};
 pub use streams::{ReaderSource, WriterSink};

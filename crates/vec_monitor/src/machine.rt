@@ -1,12 +1,15 @@
 //! The machine of eight users.
-ghost use Rattle.std.specs.Prelude.{◌≡◌, ◌+◌, length};
+ghost use Rattle.std.specs.Prelude.{◌≡◌, ◌+◌, length, None, IsOk, IfOk, IfSome, IsErrOf, IsOkUnless};
 ghost use Rattle.rv_model.specs.PrivateMachine.{event, Command};
-ghost use Rattle.rv_model.specs.Script.{part, with_part};
+ghost use Rattle.rv_model.specs.Script.{part, with_part, new_world};
 ghost use Rattle.rv_model.specs.Text.{text};
 ghost use Rattle.vec_monitor.specs.MachineState.{after_line, line_output};
+ghost use Rattle.vec_monitor.specs.Images.{named_images};
+ghost use Rattle.vec_monitor.specs.NewFaults.{new_fault};
 
 use crate::addressee::{Addressee, addressee_of};
 use crate::image::Image;
+use crate::new_fault::{NewFault, fault_of};
 use crate::users::Users;
 use monitor_cmds::Reply;
 use rv_model::User;
@@ -32,11 +35,36 @@ impl<'a, A: Allocator> Model for Machine<'a, A> {
     ghost coded = { Prim.hlevel (codes, coded_memory) };
 
     ghost view = { λ m. record {
-        setup = record { quantum = m.quantum; images = named_images m.images.now };
-        world = m.users } };
+      setup = record { quantum = m.quantum; images = named_images m.images.now };
+      world = m.users;
+    } };
 }
 
-impl<A: Allocator> Machine<'_, A> {
+impl<'a, A: Allocator> Machine<'a, A> {
+    /// A machine whose users are all absent, with slices of `quantum` ticks. Refused for the first
+    /// fault that applies, and for want of memory last; no later call takes memory.
+    pub fn new(alloc: A, quantum: usize, images: &'a [Image<'a>]) -> Result<Self, NewFault>
+        ensures new { IfOk result (λ machine. machine ≡ record {
+          setup = record { quantum = quantum; images = named_images images.now };
+          world = new_world;
+        }) }
+        ensures faultless { IsOk result → new_fault (record { quantum = quantum; images = named_images images.now }) ≡ None }
+        ensures fault { IfSome (new_fault (record { quantum = quantum; images = named_images images.now })) (λ fault. IsErrOf result fault) }
+        ensures memory { new_fault (record { quantum = quantum; images = named_images images.now }) ≡ None → IsOkUnless result NewFault.NoMemory }
+    {
+        if let Some(fault) = fault_of(quantum, images) {
+            return Err(fault);
+        }
+        let Ok(users) = Users::new(alloc) else {
+            return Err(NewFault::NoMemory);
+        };
+        Ok(Machine {
+            quantum,
+            images,
+            users,
+        })
+    }
+
     /// Carries out one command of a user: the line without the user's digit and the space after it.
     /// Nobody else's machine changes.
     #[tactic(auto, unfolding(rv_model::specs::PrivateMachine::event))]

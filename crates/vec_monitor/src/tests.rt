@@ -1,0 +1,226 @@
+//! Scripts with the answers that the monitor's description gives, devices that fail, and machines that
+//! there can't be.
+ghost use Rattle.std.specs.Prelude.{◌≡◌, ◌-◌, ◌^◌, []};
+
+use super::*;
+use arrayvec::ArrayVec;
+use std::alloc::{AllocError, Global};
+use std::test::Fail;
+
+/// The output of a script on a new machine.
+fn output_of(alloc: Global, script: &[u8]) -> Result<Vec<u8>, Fail> {
+    let mut machine = Machine::new(alloc, 100, &[])?;
+    let mut output = Vec::new(alloc);
+    let mut source = ReaderSource::new(script);
+    let mut sink = WriterSink::new(&mut output);
+    run(&mut machine, &mut source, &mut sink)?;
+    Ok(output)
+}
+
+fn zeros(alloc: Global, count: usize) -> Result<Vec<u8>, AllocError> {
+    vec![in alloc; 0; count]
+}
+
+#[test]
+fn first_run(rt: HostRuntime) -> Result<(), Fail> {
+    let script = b"1 enter\n1 map 0 1 rwx\n1 poke 0 130570009308d00573000000\n1 step 3";
+    let output = output_of(rt.alloc(), script)?;
+    let wanted = b"1 entered\n1 ok\n1 ok\n1 exit 7 pc=0000000000000008\n";
+    assert_eq!(rt; output.as_slice(), wanted.as_slice());
+    Ok(())
+}
+
+#[test]
+fn each_refusal(rt: HostRuntime) -> Result<(), Fail> {
+    let script =
+        b"9 enter\n1\n1 \n* list\n1 regs\n1 enter\n1 enter\n1 map 0 257 r\n1 map 0 255 r\n1 map 0 1 r\n1 map 0 2 r\n1 poke feffff 00";
+    let output = output_of(rt.alloc(), script)?;
+    let wanted =
+        b"* E01\n* E01\n1 E03\n* E03\n1 E05\n1 entered\n1 E06\n1 E04\n1 ok\n1 E16\n1 E10\n1 E11\n";
+    assert_eq!(rt; output.as_slice(), wanted.as_slice());
+    Ok(())
+}
+
+#[test]
+fn users_apart(rt: HostRuntime) -> Result<(), Fail> {
+    let script =
+        b"1 enter\n1 map 0 1 rwx\n1 poke 0 130570009308d00573000000\n2 step 1\n2 enter\n2 map 0 1 rwx\n2 step 1\n1 step 3\n";
+    let output = output_of(rt.alloc(), script)?;
+    let wanted =
+        b"1 entered\n1 ok\n1 ok\n2 E05\n2 entered\n2 ok\n2 fault cause=2 pc=0000000000000000 value=0000000000000000\n1 exit 7 pc=0000000000000008\n";
+    assert_eq!(rt; output.as_slice(), wanted.as_slice());
+    Ok(())
+}
+
+#[test]
+fn long_lines(rt: HostRuntime) -> Result<(), Fail> {
+    let mut script = Vec::new(rt.alloc());
+    for spaces in [1017, 1018] {
+        script.extend_from_slice(b"1 enter")?;
+        for _ in 0..spaces {
+            script.push(b' ')?;
+        }
+        script.push(b'\n')?;
+    }
+    let output = output_of(rt.alloc(), script.as_slice())?;
+    assert_eq!(rt; output.as_slice(), b"1 entered\n* E02\n".as_slice());
+    Ok(())
+}
+
+#[test]
+fn new_machines(rt: HostRuntime) -> Result<(), Fail> {
+    let image = Image {
+        name: "a",
+        bytes: b"",
+    };
+    let large = zeros(rt.alloc(), 4_194_305)?;
+    let too_large = [Image {
+        name: "a",
+        bytes: large.as_slice(),
+    }];
+    let spaced = [Image {
+        name: "a b",
+        bytes: b"",
+    }];
+    assert!(rt; Machine::new(rt.alloc(), 100, &[]).is_ok());
+    assert!(rt; matches!(Machine::new(rt.alloc(), 0, &[]), Err(NewFault::Quantum)));
+    assert!(rt; matches!(Machine::new(rt.alloc(), 1001, &[]), Err(NewFault::Quantum)));
+    assert!(rt;
+        matches!(
+            Machine::new(rt.alloc(), 100, &[image; 17]),
+            Err(NewFault::ImageCount)
+        )
+    );
+    assert!(rt;
+        matches!(
+            Machine::new(rt.alloc(), 100, &[image; 2]),
+            Err(NewFault::ImageName)
+        )
+    );
+    assert!(rt;
+        matches!(
+            Machine::new(rt.alloc(), 100, &spaced),
+            Err(NewFault::ImageName)
+        )
+    );
+    assert!(rt;
+        matches!(
+            Machine::new(rt.alloc(), 100, &too_large),
+            Err(NewFault::ImageSize)
+        )
+    );
+    Ok(())
+}
+
+/// A source of spaces that never ends.
+#[derive(Drop)]
+struct Endless;
+
+impl Source for Endless {
+    ghost tells = { λ _. ⊥ };
+
+    ghost rest = { λ _. [] };
+
+    ghost failures = { λ _. 0 };
+
+    fn read(&mut self, buffer: &mut [u8]) -> Result<usize, DeviceFault> {
+        buffer.fill(b' ');
+        Ok(buffer.len())
+    }
+}
+
+/// A sink that takes one byte a call, and fails once it has as many as it holds.
+#[derive(Drop)]
+struct OneByte {
+    taken: ArrayVec<u8, 8>,
+}
+
+impl Sink for OneByte {
+    ghost tells = { λ _. ⊥ };
+
+    ghost held = { λ _. [] };
+
+    ghost failures = { λ _. 2 ^ 64 - 1 };
+
+    fn write(&mut self, bytes: &[u8]) -> Result<usize, DeviceFault> {
+        if bytes.is_empty() {
+            return Ok(0);
+        }
+        match self.taken.try_push(bytes[0]) {
+            Ok(()) => Ok(1),
+            Err(_) => Err(DeviceFault),
+        }
+    }
+}
+
+/// A source that gives one line and then fails.
+#[derive(Drop)]
+struct OneLine {
+    given: bool,
+}
+
+impl Source for OneLine {
+    ghost tells = { λ _. ⊥ };
+
+    ghost rest = { λ _. [] };
+
+    ghost failures = { λ _. 2 ^ 64 - 1 };
+
+    fn read(&mut self, buffer: &mut [u8]) -> Result<usize, DeviceFault> {
+        if self.given || buffer.len() < 5 {
+            return Err(DeviceFault);
+        }
+        self.given = true;
+        buffer[..5].copy_from_slice(b"1 ab\n");
+        Ok(5)
+    }
+}
+
+#[test]
+fn source_without_end(rt: HostRuntime) -> Result<(), Fail> {
+    let mut machine = Machine::new(rt.alloc(), 100, &[])?;
+    let mut output = Vec::new(rt.alloc());
+    let mut source = Endless;
+    let mut sink = WriterSink::new(&mut output);
+    assert!(rt;
+        matches!(
+            run(&mut machine, &mut source, &mut sink),
+            Err(RunFault::TooLong)
+        )
+    );
+    Ok(())
+}
+
+#[test]
+fn source_that_fails(rt: HostRuntime) -> Result<(), Fail> {
+    let mut machine = Machine::new(rt.alloc(), 100, &[])?;
+    let mut source = OneLine { given: false };
+    let mut sink = OneByte {
+        taken: ArrayVec::new(),
+    };
+    assert!(rt;
+        matches!(
+            run(&mut machine, &mut source, &mut sink),
+            Err(RunFault::Read)
+        )
+    );
+    assert_eq!(rt; sink.taken.as_slice(), b"1 E03\n".as_slice());
+    Ok(())
+}
+
+#[test]
+fn sink_that_fails(rt: HostRuntime) -> Result<(), Fail> {
+    let mut machine = Machine::new(rt.alloc(), 100, &[])?;
+    let mut source = ReaderSource::new(b"1 ab\n1 ab\n".as_slice());
+    let mut sink = OneByte {
+        taken: ArrayVec::new(),
+    };
+    assert!(rt;
+        matches!(
+            run(&mut machine, &mut source, &mut sink),
+            Err(RunFault::Write)
+        )
+    );
+    assert_eq!(rt; sink.taken.as_slice(), b"1 E03\n1 ".as_slice());
+    Ok(())
+}
