@@ -4,5 +4,8 @@
 mod kernel;
 mod lane;
 
+#[cfg(test)]
+mod tests;
+
 pub use kernel::{binary, fill};
 pub use lane::Lane;

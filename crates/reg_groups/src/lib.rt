@@ -7,6 +7,9 @@ mod legality;
 mod operands;
 mod shapes;
 
+#[cfg(test)]
+mod tests;
+
 pub use groups::{group, group_mut, registers};
 pub use legality::legal;
 
