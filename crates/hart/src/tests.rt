@@ -8,6 +8,8 @@ use super::*;
 use rv_model::{Access, Cause, Fault, Policy, Scalar, Seat, StepEnd, VState};
 use vector_memory::UserBytes;
 
+mod vector_arithmetic;
+
 // Whether each of so many bytes from an address on is there.
 #[tactic(auto, using(crate::specs::FlatMemoryLaws::can_access_nothing, crate::specs::FlatMemoryLaws::can_access_within, crate::specs::FlatMemoryLaws::can_access_past))]
 fn is_within(all: &[u8], addr: u64, len: usize) -> bool

@@ -1,4 +1,8 @@
 pub mod AssemblerLaws
+pub mod CellsMemory
+pub mod ElementReadLaws
+pub mod ElementSetLaws
+pub mod ElementWriteLaws
 pub mod EventLines
 pub mod Headline
 pub mod InstructionLaws
@@ -6,6 +10,9 @@ pub mod InstructionParts
 pub mod InstructionRoundTrips
 pub mod InstructionRows
 pub mod InstructionWords
+pub mod LegalityBounds
+pub mod LegalityMeaning
 pub mod LineLaws
 pub mod MemoryLaws
 pub mod StepLaws
+pub mod VectorArithmeticLaws

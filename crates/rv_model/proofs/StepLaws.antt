@@ -5,31 +5,37 @@ use Rattle.std.specs.Int.{byte_len}
 use Rattle.std.proofs.lemmas.Bool.Decides.{nat_tests}
 use Rattle.rv_model.specs.declared.control_register.ControlRegister.{ControlRegister}
 use Rattle.rv_model.specs.declared.instruction.Instr.{Instr}
-use Rattle.rv_model.specs.declared.instruction.Instr.TheVariants.{Upper, Jump, JumpRegister, Branch, Load, Store, OpImm, ShiftImm, ShiftImmWord, Op, Fence, System, Csr, CsrImmediate, SetVli, SetIvli, SetVl}
+use Rattle.rv_model.specs.declared.instruction.Instr.TheVariants.{Upper, Jump, JumpRegister, Branch, Load, Store, OpImm, ShiftImm, ShiftImmWord, Op, Fence, System, Csr, CsrImmediate, SetVli, SetIvli, SetVl, VectorArith}
 use Rattle.rv_model.specs.declared.memory.Access.TheVariants as access
 use Rattle.rv_model.specs.declared.operations.CsrOp.{CsrOp}
 use Rattle.rv_model.specs.declared.operations.LoadOp.{LoadOp}
 use Rattle.rv_model.specs.declared.operations.StoreOp.{StoreOp}
 use Rattle.rv_model.specs.declared.operations.SystemOp.{SystemOp}
 use Rattle.rv_model.specs.declared.operations.SystemOp.TheVariants as system
+use Rattle.rv_model.specs.declared.operations.VectorOp.{VectorOp}
+use Rattle.rv_model.specs.declared.operations.VectorOp.TheVariants.{Binary}
 use Rattle.rv_model.specs.declared.scalar.Scalar.{Scalar}
+use Rattle.rv_model.specs.declared.source.Source.{Source}
 use Rattle.rv_model.specs.declared.step_end.Cause.{Cause}
 use Rattle.rv_model.specs.declared.vector_request.RequestedLength.{RequestedLength}
 use Rattle.rv_model.specs.declared.vector_request.RequestedLength.TheVariants.{Elements}
 use Rattle.rv_model.specs.declared.vector_end.VEnd.{VEnd}
 use Rattle.rv_model.specs.declared.vector_end.VEnd.TheVariants as vector_end
+use Rattle.rv_model.specs.declared.vector_type.VType.{VType}
 use Rattle.rv_model.specs.ControlRegisters.{control_register, is_read_only}
 use Rattle.rv_model.specs.ControlTransfer.{is_aligned, is_taken, jump_target, register_target, branch_target}
 use Rattle.rv_model.specs.Hart.{HartState, Stepped, faults, runs_on, gives}
 use Rattle.rv_model.specs.InstructionEffects.{OnFault, FaultsWriteNoRegister, FirstRegisterStays}
 use Rattle.rv_model.specs.InstructionTable.{scan, table}
+use Rattle.rv_model.specs.Legality.{is_legal_at}
 use Rattle.rv_model.specs.LoadsAndStores.{access_address, load_width, store_width}
 use Rattle.rv_model.specs.Memory.{can_access}
 use Rattle.rv_model.specs.Scalar.{read_register, with_register}
 use Rattle.rv_model.specs.ScalarStep.{jumps, jump_step, branch_step, load_step, store_step, csr_step, environment_call, system_step}
 use Rattle.rv_model.specs.Step.{step, executed, word_at}
 use Rattle.rv_model.specs.VectorControl.{is_write, csr_form, control_value}
-use Rattle.rv_model.specs.VectorStep.{VectorStepped, requested_length, vset_step, after_vector, vector_executed, vector_step}
+use Rattle.rv_model.specs.VectorFormulas.{is_carried_out}
+use Rattle.rv_model.specs.VectorStep.{VectorStepped, arith_step, requested_length, vset_step, after_vector, vector_executed, vector_step}
 use Rattle.rv_model.specs.declared.memory.Access.TheVariants.{Fetch}
 use Rattle.rv_model.proofs.EventLines.{of_either}
 
@@ -109,11 +115,22 @@ record VectorKeeps (s : HartState) (r : VectorStepped) : Type 0 where
 vset_keeps : (rd vtype : ℕ) (length : RequestedLength) (s : HartState) → VectorKeeps s (vset_step rd vtype length s)
 vset_keeps rd vtype length s = record { refused = tt; first = first-with_register rd (vset_step rd vtype length s).state.vector.conf.vl s.scalar }
 
+either_keeps : (s : HartState) (b : Bool) (x y : VectorStepped) → VectorKeeps s x → VectorKeeps s y → VectorKeeps s (cond b x y)
+either_keeps s b x y h k = of_either (λ r. VectorKeeps s r) b x y h k
+
+arith_keeps : (t : Option VType) (op : VectorOp) (source : Source) (vd vs2 : ℕ) (vm : Bool) (s : HartState) → VectorKeeps s (arith_step t op source vd vs2 vm s)
+arith_keeps None op source vd vs2 vm s = record { refused = refl; first = refl }
+arith_keeps (Some t) (Binary op) source vd vs2 vm s =
+    either_keeps s (is_carried_out op && is_legal_at (VectorArith (Binary op, source) vd vs2 vm) t s.vector.vstart) _ _
+    (record { refused = tt; first = refl }) (record { refused = refl; first = refl })
+arith_keeps (Some t) _ source vd vs2 vm s = record { refused = refl; first = refl }
+
 vector_keeps : (limit : ℕ) (i : Instr) (s : HartState) → VectorKeeps s (vector_executed limit i s)
 unfolding vector_executed
 vector_keeps limit (SetVli rd rs1 vtype) s = vset_keeps rd vtype (requested_length rd rs1 s.scalar) s
 vector_keeps limit (SetIvli rd avl vtype) s = vset_keeps rd vtype (Elements avl) s
 vector_keeps limit (SetVl rd rs1 rs2) s = vset_keeps rd (read_register s.scalar rs2) (requested_length rd rs1 s.scalar) s
+vector_keeps limit (VectorArith arith vd vs2 vm) s = arith_keeps s.vector.conf.vtype arith.0 arith.1 vd vs2 vm s
 vector_keeps limit _ s = record { refused = refl; first = refl }
 
 after_vector_keeps : (end : VEnd) (word : ℕ) (s s' : HartState) → UnlessDone end (s'.scalar ≡ s.scalar) → SameFirst s.scalar s'.scalar → Keeps s (after_vector end word s')

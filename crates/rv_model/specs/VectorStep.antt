@@ -1,17 +1,25 @@
 -- One vector instruction, carried out ("V" Vector Extension 1.0).
-use Rattle.std.specs.Prelude.{ℕ, ◌==◌, Bool, true, false, if◌then◌else◌}
+use Rattle.std.specs.Prelude.{ℕ, ◌==◌, ◌&&◌, Bool, true, false, List, Option, Some, None, if◌then◌else◌}
 use Rattle.rv_model.specs.declared.instruction.Instr.{Instr}
-use Rattle.rv_model.specs.declared.instruction.Instr.TheVariants.{Upper, Jump, JumpRegister, Branch, Load, Store, OpImm, ShiftImm, ShiftImmWord, Op, Fence, System, Csr, CsrImmediate, SetVli, SetIvli, SetVl}
+use Rattle.rv_model.specs.declared.instruction.Instr.TheVariants.{Upper, Jump, JumpRegister, Branch, Load, Store, OpImm, ShiftImm, ShiftImmWord, Op, Fence, System, Csr, CsrImmediate, SetVli, SetIvli, SetVl, VectorArith}
+use Rattle.rv_model.specs.declared.operations.BinaryOp.{BinaryOp}
+use Rattle.rv_model.specs.declared.operations.VectorOp.{VectorOp}
+use Rattle.rv_model.specs.declared.operations.VectorOp.TheVariants.{Binary}
 use Rattle.rv_model.specs.declared.scalar.Scalar.{Scalar}
+use Rattle.rv_model.specs.declared.source.Source.{Source}
 use Rattle.rv_model.specs.declared.step_end.Cause.{Cause}
 use Rattle.rv_model.specs.declared.step_end.Cause.TheVariants.{IllegalInstruction, LoadAccess, StoreAccess}
 use Rattle.rv_model.specs.declared.vector_end.VEnd.{VEnd}
 use Rattle.rv_model.specs.declared.vector_end.VEnd.TheVariants as vector_end
 use Rattle.rv_model.specs.declared.vector_request.RequestedLength.{RequestedLength}
 use Rattle.rv_model.specs.declared.vector_request.RequestedLength.TheVariants.{Elements, Maximum, Keep}
+use Rattle.rv_model.specs.declared.vector_type.VType.{VType}
 use Rattle.rv_model.specs.Hart.{HartState, Stepped, faults, runs_on}
+use Rattle.rv_model.specs.Legality.{is_legal_at}
 use Rattle.rv_model.specs.Scalar.{read_register, with_register}
+use Rattle.rv_model.specs.VectorArithmetic.{binary_file, fills_masked_off, fills_tail, group_type}
 use Rattle.rv_model.specs.VectorConfiguration.{Configuration}
+use Rattle.rv_model.specs.VectorFormulas.{is_carried_out}
 use Rattle.rv_model.specs.VectorTypeRules.{requested}
 
 -- whether an instruction is one of the vector extension; those of control registers are not
@@ -56,11 +64,31 @@ configures rd new s =
 abbrev pub vset_step : ℕ → ℕ → RequestedLength → HartState → VectorStepped
 vset_step rd vtype length s = configures rd (requested s.vector.conf (record { vtype = vtype; length = length })) s
 
+-- the vector registers become these, and the next instruction begins with the first element
+abbrev pub leaves_registers : List ℕ → HartState → VectorStepped
+leaves_registers file s = vector_ends vector_end.Done (record s { vector = record s.vector { file = file; vstart = 0 } })
+
+-- an operation of one width
+abbrev pub binary_step : VType → BinaryOp → Source → ℕ → ℕ → Bool → HartState → VectorStepped
+binary_step t op source vd vs2 vm s =
+    if is_carried_out op && is_legal_at (VectorArith (Binary op, source) vd vs2 vm) t s.vector.vstart
+    then leaves_registers
+      (binary_file (group_type t) op vd vs2 source vm (fills_masked_off s.policy t vm) (fills_tail s.policy t s.vector.vstart s.vector.conf.vl)
+      s.vector s.scalar) s
+    else vector_ends vector_end.Illegal s
+
+-- an operation with a line of its own in the manual's table; without a vector type it is illegal
+abbrev pub arith_step : Option VType → VectorOp → Source → ℕ → ℕ → Bool → HartState → VectorStepped
+arith_step None op source vd vs2 vm s = vector_ends vector_end.Illegal s
+arith_step (Some t) (Binary op) source vd vs2 vm s = binary_step t op source vd vs2 vm s
+arith_step (Some t) op source vd vs2 vm s = vector_ends vector_end.Illegal s
+
 -- a vector instruction, by the ticks that are left; those that aren't carried out yet are illegal
 unfoldable pub vector_executed : ℕ → Instr → HartState → VectorStepped
 vector_executed limit (SetVli rd rs1 vtype) s = vset_step rd vtype (requested_length rd rs1 s.scalar) s
 vector_executed limit (SetIvli rd avl vtype) s = vset_step rd vtype (Elements avl) s
 vector_executed limit (SetVl rd rs1 rs2) s = vset_step rd (read_register s.scalar rs2) (requested_length rd rs1 s.scalar) s
+vector_executed limit (VectorArith arith vd vs2 vm) s = arith_step s.vector.conf.vtype arith.0 arith.1 vd vs2 vm s
 vector_executed limit _ s = vector_ends vector_end.Illegal s
 
 -- why an access is refused

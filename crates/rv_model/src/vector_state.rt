@@ -1,6 +1,5 @@
 //! The vector state of a machine ("V" Vector Extension 1.0, section 3).
-use crate::operands::VReg;
-use crate::register_bytes::RegisterBytes;
+use crate::vector_file::VFile;
 use crate::vector_type::VType;
 use std::marker::Model;
 
@@ -99,53 +98,6 @@ impl RoundingMode {
             2 => RoundingMode::Down,
             _ => RoundingMode::Odd,
         }
-    }
-}
-
-/// The vector registers v0 to v31 of 32 bytes each, in order (section 3.2, VLEN 256).
-#[derive(Drop)]
-pub struct VFile {
-    bytes: [u8; 1024],
-}
-
-impl Model for VFile {
-    ghost use Rattle.std.specs.Prelude.{List, ℕ};
-
-    ghost Value = { List ℕ };
-
-    ghost view = { λ f. f.bytes };
-}
-
-impl VFile {
-    ghost use Rattle.std.specs.Prelude.{◌≡◌, length};
-    ghost use Rattle.rv_model.specs.VectorRegisters.{register_of, with_register_bytes};
-    ghost use Rattle.rv_model.specs.VectorState.{zero_file};
-
-    /// All registers zero.
-    #[tactic(auto, unfolding(crate::specs::VectorState::zero_file))]
-    pub fn new() -> VFile
-        ensures { result ≡ zero_file }
-    {
-        VFile { bytes: [0; 1024] }
-    }
-
-    /// The 32 bytes of a register.
-    #[tactic(auto, unfolding(crate::specs::VectorRegisters::register_of))]
-    pub fn register(&self, register: VReg) -> &[u8]
-        ensures value { result.now ≡ register_of self.now register }
-        ensures size { length result.now ≡ 32 }
-    {
-        let start = 32 * register.number() as usize;
-        &self.bytes[start..start + 32]
-    }
-
-    /// Writes the 32 bytes of a register; all others stay.
-    #[tactic(auto, unfolding(crate::specs::VectorRegisters::with_register_bytes))]
-    pub fn set_register(&mut self, register: VReg, bytes: &RegisterBytes)
-        ensures { self.new ≡ with_register_bytes register bytes.now self.old }
-    {
-        let start = 32 * register.number() as usize;
-        self.bytes[start..start + 32].copy_from_slice(bytes.as_slice());
     }
 }
 

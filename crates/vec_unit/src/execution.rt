@@ -3,6 +3,7 @@ ghost use Rattle.std.specs.Prelude.{◌≡◌, IsTrue, List, ℕ};
 ghost use Rattle.rv_model.specs.Hart.{hart_state};
 ghost use Rattle.rv_model.specs.VectorStep.{is_vector, vector_ends, vector_executed};
 
+use crate::arithmetic::execute_arith;
 use crate::vset::{configure, requested_length};
 use rv_model::{Instr, Policy, RequestedLength, Scalar, VEnd, VState, VectorRequest};
 use vector_memory::UserBytes;
@@ -31,21 +32,28 @@ pub fn exec<M: UserBytes>(
     ensures illegal_scalar { result ≡ VEnd.Illegal → scalar.new ≡ scalar.old }
     ensures illegal_memory { result ≡ VEnd.Illegal → memory.new ≡ memory.old }
 {
-    let (rd, vtype, length) = match *instr {
+    match *instr {
         Instr::SetVli { rd, rs1, vtype } => {
             let length = requested_length(rd, rs1, scalar);
-            (rd, u64::from(vtype.value()), length)
+            let vtype = u64::from(vtype.value());
+            configure(rd, VectorRequest { vtype, length }, state, scalar);
+            VEnd::Done
         }
         Instr::SetIvli { rd, avl, vtype } => {
             let length = RequestedLength::Elements(u64::from(avl.value()));
-            (rd, u64::from(vtype.value()), length)
+            let vtype = u64::from(vtype.value());
+            configure(rd, VectorRequest { vtype, length }, state, scalar);
+            VEnd::Done
         }
         Instr::SetVl { rd, rs1, rs2 } => {
             let length = requested_length(rd, rs1, scalar);
-            (rd, scalar.read(rs2), length)
+            let vtype = scalar.read(rs2);
+            configure(rd, VectorRequest { vtype, length }, state, scalar);
+            VEnd::Done
         }
-        _ => return VEnd::Illegal,
-    };
-    configure(rd, VectorRequest { vtype, length }, state, scalar);
-    VEnd::Done
+        Instr::VectorArith { arith, vd, vs2, vm } => {
+            execute_arith(instr, arith, vd, vs2, vm, state, scalar, policy)
+        }
+        _ => VEnd::Illegal,
+    }
 }

@@ -1,0 +1,117 @@
+//! Which register operands may stand together in one instruction ("V" Vector Extension 1.0, sections
+//! 3.4.2, 5.2 and 5.3).
+ghost use Rattle.std.specs.Prelude.{◌≡◌, ◌↔◌, true};
+ghost use Rattle.std.specs.List.{list_all};
+ghost use Rattle.rv_model.specs.RegisterOperands.{AreLegal, allows, are_legal, eew, end, is_group, is_mask, is_width, may_overlap, overlaps};
+
+use crate::groups::registers;
+use rv_model::{Content, Operand, Role};
+
+// The effective element width in bits.
+fn eew(content: Content) -> u16
+    ensures { result ≡ eew content }
+{
+    match content {
+        Content::Mask => 1,
+        Content::Elements(bits) => bits,
+    }
+}
+
+fn is_width(content: Content) -> bool
+    ensures { result ≡ is_width content }
+{
+    match content {
+        Content::Mask => true,
+        Content::Elements(bits) => 8 <= bits && bits <= 64,
+    }
+}
+
+fn is_mask(content: Content) -> bool
+    ensures { result ≡ is_mask content }
+{
+    match content {
+        Content::Mask => true,
+        Content::Elements(_) => false,
+    }
+}
+
+// The number of the register after the last.
+fn end(operand: &Operand) -> u64
+    ensures { result ≡ end operand.now }
+{
+    u64::from(operand.first.number())
+        + u64::from(operand.fields) * u64::from(registers(operand.emul))
+}
+
+fn is_group(operand: &Operand) -> bool
+    ensures { result ≡ is_group operand.now }
+{
+    is_width(operand.content)
+        && 1 <= operand.emul
+        && operand.emul <= 64
+        && u64::from(operand.emul) * u64::from(operand.fields) <= 64
+        && operand.first.number() % registers(operand.emul) == 0
+        && end(operand) <= 32
+}
+
+fn overlaps(one: &Operand, other: &Operand) -> bool
+    ensures { result ≡ overlaps one.now other.now }
+{
+    u64::from(one.first.number().max(other.first.number())) < end(one).min(end(other))
+}
+
+// Whether a destination may overlap a source.
+fn may_overlap(destination: &Operand, source: &Operand) -> bool
+    ensures { result ≡ may_overlap destination.now source.now }
+{
+    let width = eew(destination.content);
+    let other = eew(source.content);
+    if width == other {
+        true
+    } else if width < other {
+        destination.first.number() == source.first.number()
+    } else {
+        8 <= source.emul && end(destination) == end(source)
+    }
+}
+
+fn allows(destination: &Operand, other: &Operand) -> bool
+    ensures { result ≡ allows destination.now other.now }
+{
+    match (destination.role, other.role) {
+        (Role::Write, Role::Read) => {
+            !overlaps(destination, other) || may_overlap(destination, other)
+        }
+        (Role::Write, Role::Control) => {
+            !overlaps(destination, other) || is_mask(destination.content)
+        }
+        (Role::Apart, Role::Read) | (Role::Apart, Role::Control) => !overlaps(destination, other),
+        _ => true,
+    }
+}
+
+fn allows_all(destination: &Operand, operands: &[Operand]) -> bool
+    ensures { result ≡ list_all (allows destination.now) operands.now }
+{
+    operands.iter().all(|other| allows(destination, other))
+}
+
+fn are_groups(operands: &[Operand]) -> bool
+    ensures { result ≡ list_all is_group operands.now }
+{
+    operands.iter().all(|operand| is_group(operand))
+}
+
+fn are_allowed(operands: &[Operand]) -> bool
+    ensures { result ≡ list_all (λ d. list_all (allows d) operands.now) operands.now }
+{
+    operands.iter().all(|operand| allows_all(operand, operands))
+}
+
+/// Whether these may be the operands of one instruction.
+#[tactic(auto, unfolding(rv_model::specs::RegisterOperands::are_legal))]
+pub(crate) fn are_legal(operands: &[Operand]) -> bool
+    ensures { result ≡ are_legal operands.now }
+{
+    are_groups(operands) && are_allowed(operands)
+}

@@ -1,0 +1,134 @@
+//! The register operands of a vector operation, by its shape ("V" Vector Extension 1.0, sections 5.2,
+//! 10.2, 11, 12, 14 and 16).
+ghost use Rattle.std.specs.Prelude.{◌≡◌};
+ghost use Rattle.rv_model.specs.OperandShapes.{destination, first_source, multiply_add_shape, permute_shape, reduce_shape, second_source, shape_of, shape_operands, vector_source, widen_shape};
+ghost use Rattle.rv_model.specs.RegisterOperands.{are_legal};
+
+use crate::agreement::are_legal;
+use crate::operands::{group, mask, v0, whole};
+use rv_model::operations::{MultiplyAddOp, PermuteOp, ReduceOp, VectorOp, WidenOp};
+use rv_model::{Operand, Role, Shape, Source, VReg, VType};
+
+fn widen_shape(op: WidenOp) -> Shape
+    ensures { result ≡ widen_shape op }
+{
+    match op {
+        WidenOp::VwadduW | WidenOp::VwaddW | WidenOp::VwsubuW | WidenOp::VwsubW => {
+            Shape::WideSource
+        }
+        _ => Shape::Widening,
+    }
+}
+
+fn multiply_add_shape(op: MultiplyAddOp) -> Shape
+    ensures { result ≡ multiply_add_shape op }
+{
+    match op {
+        MultiplyAddOp::Vmadd
+        | MultiplyAddOp::Vnmsub
+        | MultiplyAddOp::Vmacc
+        | MultiplyAddOp::Vnmsac => Shape::Single,
+        _ => Shape::Widening,
+    }
+}
+
+fn reduce_shape(op: ReduceOp) -> Shape
+    ensures { result ≡ reduce_shape op }
+{
+    match op {
+        ReduceOp::Vwredsumu | ReduceOp::Vwredsum => Shape::WideReduction,
+        _ => Shape::Reduction,
+    }
+}
+
+fn permute_shape(op: PermuteOp) -> Shape
+    ensures { result ≡ permute_shape op }
+{
+    match op {
+        PermuteOp::Vrgather | PermuteOp::Vslideup | PermuteOp::Vslide1up => Shape::Gather,
+        PermuteOp::Vrgatherei16 => Shape::GatherIndices16,
+        PermuteOp::Vslidedown | PermuteOp::Vslide1down => Shape::Single,
+    }
+}
+
+/// The shape of an operation.
+pub(crate) fn shape_of(op: VectorOp) -> Shape
+    ensures { result ≡ shape_of op }
+{
+    match op {
+        VectorOp::Binary(_) | VectorOp::FixedPoint(_) => Shape::Single,
+        VectorOp::Compare(_) => Shape::Compare,
+        VectorOp::Narrow(_) => Shape::Narrowing,
+        VectorOp::Widen(op) => widen_shape(op),
+        VectorOp::MultiplyAdd(op) => multiply_add_shape(op),
+        VectorOp::Reduce(op) => reduce_shape(op),
+        VectorOp::Permute(op) => permute_shape(op),
+    }
+}
+
+/// What `vd` is to an operation of this shape.
+pub(crate) fn destination(shape: Shape, vd: VReg, vtype: VType) -> Operand
+    ensures { result ≡ destination shape vd vtype }
+{
+    let sew = vtype.sew.bits();
+    match shape {
+        Shape::Single | Shape::Narrowing => group(Role::Write, vd, sew, vtype),
+        Shape::Widening | Shape::WideSource => group(Role::Write, vd, 2 * sew, vtype),
+        Shape::Compare => mask(Role::Write, vd),
+        Shape::Gather | Shape::GatherIndices16 => group(Role::Apart, vd, sew, vtype),
+        Shape::Reduction => whole(Role::Free, 1, vd, sew),
+        Shape::WideReduction => whole(Role::Free, 1, vd, 2 * sew),
+    }
+}
+
+fn first_source(shape: Shape, vs2: VReg, vtype: VType) -> Operand
+    ensures { result ≡ first_source shape vs2 vtype }
+{
+    let sew = vtype.sew.bits();
+    match shape {
+        Shape::WideSource | Shape::Narrowing => group(Role::Read, vs2, 2 * sew, vtype),
+        _ => group(Role::Read, vs2, sew, vtype),
+    }
+}
+
+fn vector_source(shape: Shape, vs1: VReg, vtype: VType) -> Operand
+    ensures { result ≡ vector_source shape vs1 vtype }
+{
+    let sew = vtype.sew.bits();
+    match shape {
+        Shape::GatherIndices16 => group(Role::Read, vs1, 16, vtype),
+        Shape::Reduction => whole(Role::Read, 1, vs1, sew),
+        Shape::WideReduction => whole(Role::Read, 1, vs1, 2 * sew),
+        _ => group(Role::Read, vs1, sew, vtype),
+    }
+}
+
+/// What the second source is to an operation of this shape.
+pub(crate) fn second_source(shape: Shape, source: Source, vtype: VType) -> Operand
+    ensures { result ≡ second_source shape source vtype }
+{
+    match source {
+        Source::V(vs1) => vector_source(shape, vs1, vtype),
+        Source::X(_) | Source::I(_) => mask(Role::Unused, VReg::new(0)),
+    }
+}
+
+/// Whether an operation of this shape may have these operands.
+#[tactic(auto, unfolding(rv_model::specs::OperandShapes::shape_operands))]
+pub(crate) fn is_legal_shape(
+    shape: Shape,
+    vd: VReg,
+    vs2: VReg,
+    source: Source,
+    unmasked: bool,
+    vtype: VType,
+) -> bool
+    ensures { result ≡ are_legal (shape_operands shape vd vs2 source unmasked vtype) }
+{
+    are_legal(&[
+        destination(shape, vd, vtype),
+        first_source(shape, vs2, vtype),
+        second_source(shape, source, vtype),
+        v0(unmasked),
+    ])
+}

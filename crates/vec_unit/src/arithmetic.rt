@@ -1,0 +1,120 @@
+//! Arithmetic instructions, once they are known to be legal ("V" Vector Extension 1.0, chapter 11).
+ghost use Rattle.std.specs.Prelude.{◌≡◌, ◌&&◌, ◌≤◌, IsTrue, List, None, ℕ};
+ghost use Rattle.rv_model.specs.declared.operations.VectorOp.TheVariants.{Binary};
+ghost use Rattle.rv_model.specs.Hart.{hart_state};
+ghost use Rattle.rv_model.specs.Legality.{is_legal, is_legal_at};
+ghost use Rattle.rv_model.specs.Memory.{Memory};
+ghost use Rattle.rv_model.specs.SourceRegisters.{IsInside, SourceIsInside};
+ghost use Rattle.rv_model.specs.VectorArithmetic.{binary_file, fills_masked_off, fills_tail, group_type};
+ghost use Rattle.rv_model.specs.VectorConfiguration.{lmul_eighths, vlmax};
+ghost use Rattle.rv_model.specs.VectorFormulas.{is_carried_out};
+ghost use Rattle.rv_model.specs.VectorStep.{arith_step, vector_ends};
+
+use crate::binary_operation::{BinaryOperation, carry_out, policy_fills};
+use reg_groups::{legal, registers};
+use rv_model::operations::{BinaryOp, VectorOp};
+use rv_model::{Arith, Instr, Policy, Scalar, Sew, VEnd, VReg, VState, VType};
+
+// Whether an operation is carried out so far.
+fn is_carried_out(op: BinaryOp) -> bool
+    ensures { result ≡ is_carried_out op }
+{
+    match op {
+        BinaryOp::Vadd | BinaryOp::Vsub | BinaryOp::Vrsub => true,
+        _ => false,
+    }
+}
+
+// Carries out an operation of one width on groups of the vector type.
+#[tactic(auto, using(rv_model::proofs::LegalityBounds::length_fits, rv_model::proofs::LegalityBounds::length_below, rv_model::proofs::LegalityBounds::multiplier_fits))]
+fn carry_out_typed(
+    operation: BinaryOperation,
+    vtype: VType,
+    policy: Policy,
+    state: &mut VState,
+    scalar: &Scalar,
+)
+    requires op { IsTrue (is_carried_out operation.op) }
+    requires destination { IsInside operation.vd (lmul_eighths vtype.lmul) }
+    requires first { IsInside operation.vs2 (lmul_eighths vtype.lmul) }
+    requires second { SourceIsInside operation.source (lmul_eighths vtype.lmul) }
+    requires length { state.old.conf.vl ≤ vlmax vtype }
+    ensures { state.new ≡ record state.old { file =
+        binary_file (group_type vtype) operation.op operation.vd operation.vs2 operation.source operation.unmasked
+        (fills_masked_off policy vtype operation.unmasked)
+        (fills_tail policy vtype state.old.vstart state.old.conf.vl) state.old scalar.now } }
+{
+    let start = usize::from(state.vstart);
+    let vl = usize::from(state.conf.vl());
+    let fills = policy_fills(policy, vtype, operation.unmasked, start, vl);
+    let emul = u32::from(vtype.lmul.eighths());
+    let length = 32 * registers(emul) as usize;
+    match vtype.sew {
+        Sew::E8 => carry_out::<u8>(operation, emul, length, fills, state, scalar),
+        Sew::E16 => carry_out::<u16>(operation, emul, length / 2, fills, state, scalar),
+        Sew::E32 => carry_out::<u32>(operation, emul, length / 4, fills, state, scalar),
+        Sew::E64 => carry_out::<u64>(operation, emul, length / 8, fills, state, scalar),
+    }
+}
+
+// Carries out an operation of one width, unless it is illegal; then nothing changes.
+#[tactic(auto, using(rv_model::proofs::LegalityBounds::binary_inside))]
+fn execute_binary(
+    instr: &Instr,
+    operation: BinaryOperation,
+    state: &mut VState,
+    scalar: &Scalar,
+    policy: Policy,
+) -> VEnd
+    requires { instr.now ≡ Instr.VectorArith (Binary operation.op, operation.source) operation.vd operation.vs2 operation.unmasked }
+    ensures model { (memory : Memory) (output : List ℕ)
+        → arith_step state.old.conf.vtype (Binary operation.op) operation.source operation.vd operation.vs2
+        operation.unmasked (hart_state scalar.now state.old memory policy output)
+        ≡ vector_ends result (hart_state scalar.now state.new memory policy output) }
+    ensures illegal { result ≡ VEnd.Illegal → state.new ≡ state.old }
+{
+    let Some(vtype) = state.conf.vtype() else {
+        return VEnd::Illegal;
+    };
+    if !is_carried_out(operation.op) || !legal(instr, &state.conf, state.vstart) {
+        return VEnd::Illegal;
+    }
+    carry_out_typed(operation, vtype, policy, state, scalar);
+    state.vstart = 0;
+    VEnd::Done
+}
+
+/// Carries out an operation with a line of its own in the manual's table, unless it is illegal; then nothing
+/// changes.
+pub(crate) fn execute_arith(
+    instr: &Instr,
+    arith: Arith,
+    vd: VReg,
+    vs2: VReg,
+    vm: bool,
+    state: &mut VState,
+    scalar: &Scalar,
+    policy: Policy,
+) -> VEnd
+    requires { instr.now ≡ Instr.VectorArith arith vd vs2 vm }
+    ensures model { (memory : Memory) (output : List ℕ)
+        → arith_step state.old.conf.vtype arith.0 arith.1 vd vs2 vm
+        (hart_state scalar.now state.old memory policy output)
+        ≡ vector_ends result (hart_state scalar.now state.new memory policy output) }
+    ensures illegal { result ≡ VEnd.Illegal → state.new ≡ state.old }
+{
+    let (op, source) = arith.parts();
+    match op {
+        VectorOp::Binary(op) => {
+            let operation = BinaryOperation {
+                op,
+                vd,
+                vs2,
+                source,
+                unmasked: vm,
+            };
+            execute_binary(instr, operation, state, scalar, policy)
+        }
+        _ => VEnd::Illegal,
+    }
+}
