@@ -15,7 +15,9 @@ mod tests;
 mod vector_lines;
 mod words;
 
-pub use fixed_lines::{bad_prefix, entered, left, line_too_long, ok, refused, unknown_operator_command};
+pub use fixed_lines::{
+    bad_prefix, entered, left, line_too_long, ok, refused, unknown_operator_command,
+};
 pub use machine_lines::{peek_line, state_line, trace_line};
 pub use parsing::parse;
 pub use register_lines::registers;

@@ -1,12 +1,10 @@
 -- What the grammar of commands says of their arguments.
-use Rattle.std.proofs.Common.{◌≡◌, ℕ, ◌+◌, ◌*◌, ◌^◌, ◌≤◌, ◌/◌, List, [], ◌∷◌, Bool, true, false, Option, Some, None, Result, Ok, Err, refl, sym, subst, ◌∙◌, ap, arith}
+use Rattle.std.proofs.Common.{◌≡◌, ℕ, ◌+◌, ◌*◌, ◌^◌, List, [], ◌∷◌, Bool, true, false, Option, Some, None, Ok, Err, refl, sym, subst}
 use Rattle.std.specs.Prelude.{if◌then◌else◌, codes, nat_le, ◌&&◌, ◌==◌, ◌%◌}
 use Rattle.std.specs.Str.{bytes_eq}
 use Rattle.std.proofs.lemmas.Bool.{leb-true}
 use Rattle.rv_model.specs.declared.command.Cmd.{Cmd}
 use Rattle.rv_model.specs.declared.command.Cmd.TheVariants.{Enter, Leave, Map, Poke, Peek, Set, Regs, SetPc, Vreg, Vset, Vcsr, Step, State, Trace}
-use Rattle.rv_model.specs.declared.command.Refusal.{Refusal}
-use Rattle.rv_model.specs.declared.command.Refusal.TheVariants.{UnknownCommand}
 use Rattle.rv_model.specs.declared.memory.Permissions.{Permissions}
 use Rattle.rv_model.specs.Arguments.{number, within, decimal_number, address, instruction_address, permissions, byte_string, scalar_register, vector_register, element_width, register_bytes}
 use Rattle.rv_model.specs.Commands.{◌>>=◌, before, next, done, are_pages, map_args, poke_args, peek_args, set_args, setpc_args, vreg_args, vset_args, step_args, Parsed, or_argument, named, command, parse}

@@ -1,15 +1,10 @@
 -- A change of one user's context and memory changes that user's part alone.
-use Rattle.std.proofs.Common.{◌≡◌, ℕ, zero, suc, ◌+◌, ◌-◌, ◌<◌, ◌≤◌, List, [], ◌∷◌, length, get_or, set, refl, ap, ◌∙◌, sym, arith, None, Ok, Err, replicate}
+use Rattle.std.proofs.Common.{◌≡◌, ℕ, zero, suc, ◌-◌, ◌<◌, List, [], ◌∷◌, length, get_or, set, refl, ap, ◌∙◌, sym, arith, None, replicate}
 use Rattle.std.proofs.lemmas.List.{set-get_or, get_or-set_same}
 use Rattle.std.specs.FinMap.{empty}
-use Rattle.rv_model.specs.declared.command.Cmd.{Cmd}
-use Rattle.rv_model.specs.declared.command.Refusal.{Refusal}
-use Rattle.rv_model.specs.Commands.{Parsed, parse}
 use Rattle.rv_model.specs.Memory.{Memory}
-use Rattle.rv_model.specs.PrivateMachine.{Private, Outcome, commanded, event, Command}
+use Rattle.rv_model.specs.PrivateMachine.{Private}
 use Rattle.rv_model.specs.Script.{World, new_world, part, with_part}
-use Rattle.rv_model.specs.Setup.{Setup}
-use Rattle.rv_model.specs.Text.{text}
 use Rattle.user_mem.specs.Users.{no_memories, memory_of_user, with_memory}
 use Rattle.vec_monitor.specs.declared.context.Context.{Context}
 use Rattle.vec_monitor.specs.Lenders.{later_memory}
@@ -58,9 +53,9 @@ world_with cs ts ts' ms ms' u i d c' f at low eight next traces others =
     let m' = memory_of_user ms' u in
     let done : private_of c' t' m' ≡ f (part u (world_of cs ts ms)) = next ∙ ap f (sym (part_is cs ts ms u i d at low eight)) in
     let moved : parts_of (set cs (u - 1) c') ts' ms' ≡ set (parts_of cs ts ms) (u - 1) (private_of c' t' m') =
-        ap (parts_of (set cs (u - 1) c') ts') others
-        ∙ ap (λ (l : List Addresses). parts_of (set cs (u - 1) c') l (with_memory ms u m')) traces
-        ∙ parts_of-set cs ts ms (u - 1) c' t' m' (eight.contexts ∙ sym eight.traces) (eight.traces ∙ sym eight.memories) in
+    ap (parts_of (set cs (u - 1) c') ts') others
+    ∙ ap (λ (l : List Addresses). parts_of (set cs (u - 1) c') l (with_memory ms u m')) traces
+    ∙ parts_of-set cs ts ms (u - 1) c' t' m' (eight.contexts ∙ sym eight.traces) (eight.traces ∙ sym eight.memories) in
     ap (λ (j : ℕ). world_of (set cs j c') ts' ms') at
     ∙ ap (λ (ps : List Private). let r : World = record { parts = ps; cursor = 8 } in r) moved
     ∙ ap (λ (p : Private). with_part u p (world_of cs ts ms)) done

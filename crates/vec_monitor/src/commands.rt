@@ -24,7 +24,14 @@ use user_mem::Pool;
 
 /// Carries out a command of a user, and answers it. `traces` are those of all users.
 #[tactic(auto, using(crate::proofs::PartLaws::trace_there))]
-pub fn carry_out<A: Allocator>(context: &mut Context, traces: &mut [Trace<A>], pool: &mut Pool<A>, user: User, cmd: &Cmd, reply: &mut Reply)
+pub fn carry_out<A: Allocator>(
+    context: &mut Context,
+    traces: &mut [Trace<A>],
+    pool: &mut Pool<A>,
+    user: User,
+    cmd: &Cmd,
+    reply: &mut Reply,
+)
     requires clear { reply.old ≡ [] }
     requires within { user - 1 < length pool.old }
     requires traced { user - 1 < length traces.old }
@@ -41,7 +48,14 @@ pub fn carry_out<A: Allocator>(context: &mut Context, traces: &mut [Trace<A>], p
 }
 
 /// The same, with the user's own trace.
-fn carry_out_own<A: Allocator>(context: &mut Context, trace: &mut Trace<A>, pool: &mut Pool<A>, user: User, cmd: &Cmd, reply: &mut Reply)
+fn carry_out_own<A: Allocator>(
+    context: &mut Context,
+    trace: &mut Trace<A>,
+    pool: &mut Pool<A>,
+    user: User,
+    cmd: &Cmd,
+    reply: &mut Reply,
+)
     requires clear { reply.old ≡ [] }
     requires within { user - 1 < length pool.old }
     requires range { AreInRange cmd.now }
@@ -60,7 +74,14 @@ fn carry_out_own<A: Allocator>(context: &mut Context, trace: &mut Trace<A>, pool
 
 /// The same for a user who is absent: only `enter` is accepted.
 #[tactic(auto, using(crate::specs::Lenders::memory_there, crate::specs::Lenders::same_memory, crate::proofs::CommandLaws::enter_absent, crate::proofs::CommandLaws::refused_absent))]
-fn carry_out_absent<A: Allocator>(context: &mut Context, trace: &mut Trace<A>, pool: &mut Pool<A>, user: User, cmd: &Cmd, reply: &mut Reply)
+fn carry_out_absent<A: Allocator>(
+    context: &mut Context,
+    trace: &mut Trace<A>,
+    pool: &mut Pool<A>,
+    user: User,
+    cmd: &Cmd,
+    reply: &mut Reply,
+)
     requires absent { context.old.entered ≡ false }
     requires clear { reply.old ≡ [] }
     requires within { user - 1 < length pool.old }
@@ -82,7 +103,14 @@ fn carry_out_absent<A: Allocator>(context: &mut Context, trace: &mut Trace<A>, p
 
 /// The same for a user who has entered.
 #[tactic(auto, using(crate::proofs::CommandLaws::entered_as, crate::specs::Lenders::same_memory))]
-fn carry_out_present<A: Allocator>(context: &mut Context, trace: &mut Trace<A>, pool: &mut Pool<A>, user: User, cmd: &Cmd, reply: &mut Reply)
+fn carry_out_present<A: Allocator>(
+    context: &mut Context,
+    trace: &mut Trace<A>,
+    pool: &mut Pool<A>,
+    user: User,
+    cmd: &Cmd,
+    reply: &mut Reply,
+)
     requires present { context.old.entered ≡ true }
     requires clear { reply.old ≡ [] }
     requires within { user - 1 < length pool.old }
@@ -106,8 +134,12 @@ fn carry_out_present<A: Allocator>(context: &mut Context, trace: &mut Trace<A>, 
         Cmd::Set { register, value } => set_register(context, user, *register, *value, reply),
         Cmd::Regs => show_registers(context, user, reply),
         Cmd::SetPc(addr) => set_pc(context, user, *addr, reply),
-        Cmd::Vreg { register, width } => show_vector_register(context, user, *register, *width, reply),
-        Cmd::Vset { register, bytes } => set_vector_register(context, user, *register, bytes, reply),
+        Cmd::Vreg { register, width } => show_vector_register(
+            context, user, *register, *width, reply,
+        ),
+        Cmd::Vset { register, bytes } => set_vector_register(
+            context, user, *register, bytes, reply,
+        ),
         Cmd::Vcsr => show_control_registers(context, user, reply),
         Cmd::Step(count) => step(context, trace, pool, user, *count, reply),
         Cmd::State => show_state(context, user, reply),
@@ -144,7 +176,14 @@ fn leave<A: Allocator>(context: &mut Context, pool: &mut Pool<A>, user: User, re
 }
 
 /// `step`: at most `count` instructions.
-fn step<A: Allocator>(context: &mut Context, trace: &mut Trace<A>, pool: &mut Pool<A>, user: User, count: usize, reply: &mut Reply)
+fn step<A: Allocator>(
+    context: &mut Context,
+    trace: &mut Trace<A>,
+    pool: &mut Pool<A>,
+    user: User,
+    count: usize,
+    reply: &mut Reply,
+)
     requires clear { reply.old ≡ [] }
     ensures next { (outcome context.old trace.old (memory_of_user pool.old user) (Cmd.Step count)).next
         ≡ Some (present context.new trace.new (memory_of_user pool.new user)) }
