@@ -1,10 +1,10 @@
 use Rattle.std.proofs.Common.{◌≡◌, ℕ, suc, ◌+◌, ◌-◌, true, ap, ◌∙◌, sym, arith}
-use Rattle.rv_model.specs.PrivateMachine.{steps}
+use Rattle.rv_model.specs.PrivateMachine.{Halted, steps}
 use Rattle.user_mem.specs.Users.{memory_of_user}
 use Rattle.vec_monitor.specs.declared.context.Context.{Context}
 use Rattle.vec_monitor.specs.Parts.{present}
 use Rattle.vec_monitor.proofs.PartLaws.{changed_twice}
-use Rattle.vec_monitor.proofs.CommandLaws.{steps_on}
+use Rattle.vec_monitor.proofs.CommandLaws.{steps_on, steps_stop}
 use Rattle.vec_monitor.proofs.stepping.steps.Goals as goal
 
 pub returns-in-Some-clause-others : goal.returns-in-Some-clause-others
@@ -23,3 +23,13 @@ loop-preserved g c =
       entered = c.loop.invariant.entered;
       others = changed_twice c.args.user _ _ _ c.loop.invariant.others c.step_once-end.ensures.others;
     }
+
+pub returns-in-Some-clause-stop : goal.returns-in-Some-clause-stop
+returns-in-Some-clause-stop g c =
+    let n : ℕ = c.args.count - (c.loop.counter + 1) in
+    let one_less : suc n ≡ c.args.count - c.loop.counter = omega arith in
+    let moved : Context = record { entered = c.loop.context.entered; scalar = c.step_once-end.new.scalar; seat = c.step_once-end.new.seat } in
+    ap (λ (r : Halted). r.stop)
+    (sym c.loop.invariant.steps
+        ∙ sym (ap (λ (k : ℕ). steps k true (present c.loop.context (memory_of_user c.loop.pool c.args.user))) one_less)
+        ∙ steps_stop n c.loop.context moved (memory_of_user c.loop.pool c.args.user) (memory_of_user c.step_once-end.new.pool c.args.user) c.step_once-end.result c.in-Some.stop c.step_once-end.ensures.state c.step_once-end.ensures.end (sym c.stop_of.ensures ∙ c.in-Some.is))
