@@ -67,8 +67,8 @@ pub fn binary<L: Lane>(
     requires count { end ≤ 256 }
     ensures { Writes L.size (is_changed unmasked mask.now masked false start end)
         (result_or_ones unmasked mask.now start end
-            (λ i. wrap L.width (formula op L.width (element L.size a.now i) (element L.size b.now i)))
-            (ones L.width))
+        (λ i. wrap L.width (formula op L.width (element L.size a.now i) (element L.size b.now i)))
+        (ones L.width))
         destination.old destination.new }
 {
     for i in start..end {

@@ -3,7 +3,6 @@
 
 mod kernel;
 mod lane;
-
 #[cfg(test)]
 mod tests;
 

@@ -101,13 +101,11 @@ fn has_legal_untyped_operands(instr: &Instr) -> bool
 {
     match *instr {
         Instr::WholeLoad {
-            count, width, vd, ..
-        } => are_legal(&[whole(
-            Role::Write,
-            register_count(count),
+            count,
+            width,
             vd,
-            element_bits(width),
-        )]),
+            ..
+        } => are_legal(&[whole(Role::Write, register_count(count), vd, element_bits(width))]),
         Instr::WholeStore { count, vd, .. } => {
             are_legal(&[whole(Role::Read, register_count(count), vd, 8)])
         }
@@ -140,7 +138,13 @@ fn has_legal_memory_operands(instr: &Instr, vtype: VType) -> bool
             vm,
             ..
         } => are_legal(&[
-            segment(data_role(direction), fields(nf), vd, element_bits(width), vtype),
+            segment(
+                data_role(direction),
+                fields(nf),
+                vd,
+                element_bits(width),
+                vtype,
+            ),
             v0(vm),
         ]),
         Instr::VectorIndexed {
@@ -152,7 +156,13 @@ fn has_legal_memory_operands(instr: &Instr, vtype: VType) -> bool
             vm,
             ..
         } => are_legal(&[
-            segment(indexed_role(direction, nf), fields(nf), vd, vtype.sew.bits(), vtype),
+            segment(
+                indexed_role(direction, nf),
+                fields(nf),
+                vd,
+                vtype.sew.bits(),
+                vtype,
+            ),
             group(Role::Read, vs2, element_bits(width), vtype),
             v0(vm),
         ]),

@@ -6,10 +6,8 @@ mod groups;
 mod legality;
 mod operands;
 mod shapes;
-
 #[cfg(test)]
 mod tests;
 
 pub use groups::{group, group_mut, registers};
 pub use legality::legal;
-

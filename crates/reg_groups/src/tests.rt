@@ -108,76 +108,214 @@ fn row(rt: &impl Abort, name: &str, instr: Instr, conf: VConf, expected: bool) {
 fn results_of_twice_the_width(rt: HostRuntime) {
     let vwadd = VectorOp::Widen(WidenOp::Vwadd);
     let m1 = conf(Sew::E8, Lmul::M1);
-    row(&rt, "vwadd.vv v2, v3, v4", arith(vwadd, 2, 3, 4, true), m1, true);
-    row(&rt, "vwadd.vv v2, v2, v4", arith(vwadd, 2, 2, 4, true), m1, false);
+    row(
+        &rt,
+        "vwadd.vv v2, v3, v4",
+        arith(vwadd, 2, 3, 4, true),
+        m1,
+        true,
+    );
+    row(
+        &rt,
+        "vwadd.vv v2, v2, v4",
+        arith(vwadd, 2, 2, 4, true),
+        m1,
+        false,
+    );
     let mf2 = conf(Sew::E8, Lmul::Mf2);
-    row(&rt, "vwadd.vv v2, v2, v4", arith(vwadd, 2, 2, 4, true), mf2, false);
+    row(
+        &rt,
+        "vwadd.vv v2, v2, v4",
+        arith(vwadd, 2, 2, 4, true),
+        mf2,
+        false,
+    );
 }
 
 #[test]
 fn sources_of_twice_the_width(rt: HostRuntime) {
     let vnsrl = VectorOp::Narrow(NarrowOp::Vnsrl);
     let m1 = conf(Sew::E8, Lmul::M1);
-    row(&rt, "vnsrl.wv v2, v2, v5", arith(vnsrl, 2, 2, 5, true), m1, true);
-    row(&rt, "vnsrl.wv v3, v2, v5", arith(vnsrl, 3, 2, 5, true), m1, false);
+    row(
+        &rt,
+        "vnsrl.wv v2, v2, v5",
+        arith(vnsrl, 2, 2, 5, true),
+        m1,
+        true,
+    );
+    row(
+        &rt,
+        "vnsrl.wv v3, v2, v5",
+        arith(vnsrl, 3, 2, 5, true),
+        m1,
+        false,
+    );
 }
 
 #[test]
 fn masks_as_results(rt: HostRuntime) {
     let vmseq = VectorOp::Compare(CompareOp::Vmseq);
     let m2 = conf(Sew::E8, Lmul::M2);
-    row(&rt, "vmseq.vv v2, v2, v4", arith(vmseq, 2, 2, 4, true), m2, true);
-    row(&rt, "vmseq.vv v3, v2, v4", arith(vmseq, 3, 2, 4, true), m2, false);
+    row(
+        &rt,
+        "vmseq.vv v2, v2, v4",
+        arith(vmseq, 2, 2, 4, true),
+        m2,
+        true,
+    );
+    row(
+        &rt,
+        "vmseq.vv v3, v2, v4",
+        arith(vmseq, 3, 2, 4, true),
+        m2,
+        false,
+    );
 }
 
 #[test]
 fn v0_as_result(rt: HostRuntime) {
     let m1 = conf(Sew::E8, Lmul::M1);
     let vadd = VectorOp::Binary(BinaryOp::Vadd);
-    row(&rt, "vadd.vv v0, v1, v2, v0.t", arith(vadd, 0, 1, 2, false), m1, false);
-    row(&rt, "vadd.vv v0, v1, v2", arith(vadd, 0, 1, 2, true), m1, true);
+    row(
+        &rt,
+        "vadd.vv v0, v1, v2, v0.t",
+        arith(vadd, 0, 1, 2, false),
+        m1,
+        false,
+    );
+    row(
+        &rt,
+        "vadd.vv v0, v1, v2",
+        arith(vadd, 0, 1, 2, true),
+        m1,
+        true,
+    );
     let vmadc = VectorOp::Compare(CompareOp::Vmadc);
-    row(&rt, "vmadc.vvm v0, v2, v4, v0", arith(vmadc, 0, 2, 4, false), m1, true);
-    row(&rt, "vadc.vvm v0, v2, v4, v0", with_v0(CarryOp::Vadc, 0, 2, 4), m1, false);
+    row(
+        &rt,
+        "vmadc.vvm v0, v2, v4, v0",
+        arith(vmadc, 0, 2, 4, false),
+        m1,
+        true,
+    );
+    row(
+        &rt,
+        "vadc.vvm v0, v2, v4, v0",
+        with_v0(CarryOp::Vadc, 0, 2, 4),
+        m1,
+        false,
+    );
 }
 
 #[test]
 fn groups_are_aligned(rt: HostRuntime) {
     let vadd = VectorOp::Binary(BinaryOp::Vadd);
     let m2 = conf(Sew::E8, Lmul::M2);
-    row(&rt, "vadd.vv v2, v4, v6", arith(vadd, 2, 4, 6, true), m2, true);
-    row(&rt, "vadd.vv v3, v4, v6", arith(vadd, 3, 4, 6, true), m2, false);
-    row(&rt, "vadd.vv v2, v4, v6", arith(vadd, 2, 4, 6, true), VConf::vill(), false);
+    row(
+        &rt,
+        "vadd.vv v2, v4, v6",
+        arith(vadd, 2, 4, 6, true),
+        m2,
+        true,
+    );
+    row(
+        &rt,
+        "vadd.vv v3, v4, v6",
+        arith(vadd, 3, 4, 6, true),
+        m2,
+        false,
+    );
+    row(
+        &rt,
+        "vadd.vv v2, v4, v6",
+        arith(vadd, 2, 4, 6, true),
+        VConf::vill(),
+        false,
+    );
 }
 
 #[test]
 fn gathers_overlap_nothing(rt: HostRuntime) {
     let m1 = conf(Sew::E8, Lmul::M1);
     let vrgather = VectorOp::Permute(PermuteOp::Vrgather);
-    row(&rt, "vrgather.vv v2, v3, v4", arith(vrgather, 2, 3, 4, true), m1, true);
-    row(&rt, "vrgather.vv v2, v2, v4", arith(vrgather, 2, 2, 4, true), m1, false);
+    row(
+        &rt,
+        "vrgather.vv v2, v3, v4",
+        arith(vrgather, 2, 3, 4, true),
+        m1,
+        true,
+    );
+    row(
+        &rt,
+        "vrgather.vv v2, v2, v4",
+        arith(vrgather, 2, 2, 4, true),
+        m1,
+        false,
+    );
     let vrgatherei16 = VectorOp::Permute(PermuteOp::Vrgatherei16);
-    row(&rt, "vrgatherei16.vv v2, v3, v5", arith(vrgatherei16, 2, 3, 5, true), m1, false);
-    row(&rt, "vrgatherei16.vv v2, v3, v4", arith(vrgatherei16, 2, 3, 4, true), m1, true);
+    row(
+        &rt,
+        "vrgatherei16.vv v2, v3, v5",
+        arith(vrgatherei16, 2, 3, 5, true),
+        m1,
+        false,
+    );
+    row(
+        &rt,
+        "vrgatherei16.vv v2, v3, v4",
+        arith(vrgatherei16, 2, 3, 4, true),
+        m1,
+        true,
+    );
 }
 
 #[test]
 fn reductions_overlap_anything(rt: HostRuntime) {
     let vredsum = VectorOp::Reduce(ReduceOp::Vredsum);
     let m8 = conf(Sew::E64, Lmul::M8);
-    row(&rt, "vredsum.vs v0, v0, v0, v0.t", arith(vredsum, 0, 0, 0, false), m8, true);
+    row(
+        &rt,
+        "vredsum.vs v0, v0, v0, v0.t",
+        arith(vredsum, 0, 0, 0, false),
+        m8,
+        true,
+    );
     let vwredsum = VectorOp::Reduce(ReduceOp::Vwredsum);
-    row(&rt, "vwredsum.vs v0, v8, v16", arith(vwredsum, 0, 8, 16, true), m8, false);
+    row(
+        &rt,
+        "vwredsum.vs v0, v8, v16",
+        arith(vwredsum, 0, 8, 16, true),
+        m8,
+        false,
+    );
     assert_eq!(rt; legal(&arith(vredsum, 0, 8, 16, true), &m8, 1), false);
 }
 
 #[test]
 fn extensions_of_narrow_elements(rt: HostRuntime) {
     let m1 = conf(Sew::E8, Lmul::M1);
-    row(&rt, "vzext.vf2 v2, v4", extend(ExtendOp::VzextVf2, 2, 4), m1, false);
+    row(
+        &rt,
+        "vzext.vf2 v2, v4",
+        extend(ExtendOp::VzextVf2, 2, 4),
+        m1,
+        false,
+    );
     let m2 = conf(Sew::E16, Lmul::M2);
-    row(&rt, "vzext.vf2 v2, v3", extend(ExtendOp::VzextVf2, 2, 3), m2, true);
-    row(&rt, "vzext.vf2 v2, v2", extend(ExtendOp::VzextVf2, 2, 2), m2, false);
+    row(
+        &rt,
+        "vzext.vf2 v2, v3",
+        extend(ExtendOp::VzextVf2, 2, 3),
+        m2,
+        true,
+    );
+    row(
+        &rt,
+        "vzext.vf2 v2, v2",
+        extend(ExtendOp::VzextVf2, 2, 2),
+        m2,
+        false,
+    );
 }
 
 #[test]
@@ -220,9 +358,39 @@ fn whole_registers(rt: HostRuntime) {
 #[test]
 fn segments(rt: HostRuntime) {
     let m2 = conf(Sew::E8, Lmul::M2);
-    row(&rt, "vlseg4e8.v v24, (x10)", load_segments(Width::E8, 3, 24), m2, true);
-    row(&rt, "vlseg5e8.v v8, (x10)", load_segments(Width::E8, 4, 8), m2, false);
-    row(&rt, "vlseg4e8.v v26, (x10)", load_segments(Width::E8, 3, 26), m2, false);
-    row(&rt, "vluxei8.v v2, (x10), v2", load_indexed(Width::E8, 0, 2, 2), m2, true);
-    row(&rt, "vluxseg2ei8.v v2, (x10), v4", load_indexed(Width::E8, 1, 2, 4), m2, false);
+    row(
+        &rt,
+        "vlseg4e8.v v24, (x10)",
+        load_segments(Width::E8, 3, 24),
+        m2,
+        true,
+    );
+    row(
+        &rt,
+        "vlseg5e8.v v8, (x10)",
+        load_segments(Width::E8, 4, 8),
+        m2,
+        false,
+    );
+    row(
+        &rt,
+        "vlseg4e8.v v26, (x10)",
+        load_segments(Width::E8, 3, 26),
+        m2,
+        false,
+    );
+    row(
+        &rt,
+        "vluxei8.v v2, (x10), v2",
+        load_indexed(Width::E8, 0, 2, 2),
+        m2,
+        true,
+    );
+    row(
+        &rt,
+        "vluxseg2ei8.v v2, (x10), v4",
+        load_indexed(Width::E8, 1, 2, 4),
+        m2,
+        false,
+    );
 }

@@ -1,11 +1,11 @@
 -- How loops over the body write the elements that an instruction changes.
-use Rattle.std.proofs.Common.{ℕ, suc, ◌+◌, ◌-◌, ◌*◌, ◌<◌, ◌≤◌, ◌≡◌, List, length, Bool, true, false, cond, ◌&&◌, ◌||◌, nat_lt, nat_le, refl, sym, ap, ◌∙◌, arith, inl, inr, le-leb, lt-ltb, le-ltb}
+use Rattle.std.proofs.Common.{ℕ, suc, ◌+◌, ◌*◌, ◌<◌, ◌≤◌, ◌≡◌, List, length, Bool, true, false, cond, ◌&&◌, ◌||◌, nat_lt, nat_le, refl, sym, arith, inl, inr, le-leb, lt-ltb}
 use Rattle.std.proofs.lemmas.Bool.{cases_lt}
 use Rattle.std.proofs.lemmas.Bool.Decides.{nat_tests}
 use Rattle.std.proofs.Math.Nat.{mul-le-mul_left, mul-suc}
 use Rattle.std.specs.Int.{bytes_low_first}
 use lib.Lanes.{put_chunk}
-use Rattle.rv_model.specs.Elements.{in_body, is_let, is_active, is_filled, is_changed, result_or_ones}
+use Rattle.rv_model.specs.Elements.{in_body, is_let, is_active, is_changed, result_or_ones}
 use Rattle.rv_model.specs.ElementWrites.{Writes}
 use Rattle.rv_model.proofs.ElementWriteLaws.{begins, ends, step_written, step_kept, writes_same, writes_then}
 
@@ -117,7 +117,7 @@ module _ (k : ℕ) (unmasked : Bool) (mask : List ℕ) (masked_off : Bool) (star
       (λ e. is_changed unmasked mask masked_off true start vl e) (λ e. cond (in_body vl n e) ones (value e)) value old new
       (writes_then k (λ e. is_changed unmasked mask masked_off false start vl e) (in_body vl n) value (λ e. ones) old mid new first second)
       (λ e h. joined (is_active unmasked mask start vl e) (masked_off && in_body start vl e) (nat_le vl e) (nat_lt e n)
-        (lt-ltb e n (below e (omega (arith, h, long)))))
+      (lt-ltb e n (below e (omega (arith, h, long)))))
       (λ e h. numbers e (in_body vl n e) refl)
     where
       below : (e : ℕ) → k * e < k * n → e < n
@@ -125,6 +125,7 @@ module _ (k : ℕ) (unmasked : Bool) (mask : List ℕ) (masked_off : Bool) (star
         | inl low ↦ low
         | inr high ↦ (let up : k * n ≤ k * e = mul-le-mul_left k high in absurd (omega arith))
       ]
+
       numbers : (e : ℕ) (b : Bool) → in_body vl n e ≡ b → value e ≡ cond b ones (value e)
       numbers e true h = let off : in_body start vl e ≡ false = past_body e (from_start vl n e h) in rw off refl
       numbers e false h = refl

@@ -1,6 +1,6 @@
 -- Laws of lists of bytes of which some elements are replaced, one after another or all at once.
-use Rattle.std.proofs.Common.{ℕ, zero, suc, ◌+◌, ◌-◌, ◌*◌, ◌/◌, ◌%◌, ◌^◌, ◌<◌, ◌≤◌, ◌≡◌, List, [], ◌∷◌, ◌++◌, length, get_or, take, drop, set, map, Bool, true, false, cond, ◌&&◌, ◌||◌, nat_lt, nat_le, refl, sym, ap, ◌∙◌, arith, inl, inr, le-leb, lt-ltb, le-ltb, append-nil, length-drop, zero-add}
-use Rattle.std.proofs.lemmas.Bool.{cases_order, cases_lt}
+use Rattle.std.proofs.Common.{ℕ, zero, suc, ◌+◌, ◌-◌, ◌*◌, ◌/◌, ◌%◌, ◌^◌, ◌<◌, ◌≤◌, ◌≡◌, List, [], ◌∷◌, ◌++◌, length, get_or, drop, set, Bool, true, false, cond, ◌&&◌, ◌||◌, nat_lt, refl, sym, ap, ◌∙◌, arith, inl, inr, lt-ltb, le-ltb, append-nil, length-drop, zero-add}
+use Rattle.std.proofs.lemmas.Bool.{cases_order}
 use Rattle.std.proofs.lemmas.Bool.Decides.{nat_tests}
 use Rattle.std.proofs.lemmas.Grind.{same_number_lists}
 use Rattle.std.proofs.lemmas.List.{drop_all}
@@ -9,7 +9,6 @@ use Rattle.std.proofs.lemmas.Simd.{length-put_chunk, put_chunk_is, get_or-put_ch
 use Rattle.std.proofs.Math.Nat.{mul-le-mul_left, mul-suc, div-one, div-div-eq-div-mul, pow-suc, div-add-mod, mod-lt}
 use Rattle.std.proofs.Math.Arith.{mod-mul}
 use Rattle.std.specs.Int.{byte_at, bytes_low_first}
-use Rattle.std.specs.List.{range_with_len}
 use borrow.Rule.Slice.PartMut.{put_mid}
 use lib.Lanes.{chunk, put_chunk, number_l}
 use Rattle.rv_model.specs.Elements.{element}
@@ -112,7 +111,7 @@ module _ (k : ℕ) (W : ℕ → Bool) (F : ℕ → ℕ) (old mid new : List ℕ)
       → new ≡ put_chunk (k * i) mid (bytes_low_first 0 k (F i)) → Writes k (λ e. W e && nat_lt e (i + 1)) F old new
   step_written was h fits e =
       rw e (writes_more k (λ x. W x && nat_lt x i) (λ x. W x && nat_lt x (i + 1)) F old mid i fits was
-        (rw (h, lt-ltb i (i + 1) (omega arith)) refl) others)
+      (rw (h, lt-ltb i (i + 1) (omega arith)) refl) others)
 
   pub step_kept : Writes k (λ e. W e && nat_lt e i) F old mid → W i ≡ false → new ≡ mid → Writes k (λ e. W e && nat_lt e (i + 1)) F old new
   step_kept was h e = rw e (writes_same k (λ x. W x && nat_lt x i) (λ x. W x && nat_lt x (i + 1)) F F old mid was
@@ -144,7 +143,7 @@ pub writes_then : (k : ℕ) (V W : ℕ → Bool) (F G : ℕ → ℕ) (old mid ne
 writes_then k V W F G old mid new first second = record {
   same_length = second.same_length ∙ first.same_length;
   bytes = λ e m h l. (let l2 : k * e + m < length mid = omega (arith, first.same_length) in
-    rw (second.bytes e m h l2, first.bytes e m h l) (either (V e) (W e) m (F e) (G e) (get_or old (k * e + m) 0)));
+      rw (second.bytes e m h l2, first.bytes e m h l) (either (V e) (W e) m (F e) (G e) (get_or old (k * e + m) 0)));
 }
   where
     either : (v w : Bool) (m x y z : ℕ) → cond w (byte_at m y) (cond v (byte_at m x) z) ≡ cond (v || w) (byte_at m (cond w y x)) z
@@ -161,11 +160,11 @@ unfolding written
 writes_are k W F old new positive w =
     let f : ℕ → ℕ = λ at. byte_or W F old k (at / k) (at % k) in
     same_number_lists new (written k W F old) (w.same_length ∙ sym (length-map-range_with_len f 0 (length old)))
-      (λ j h.
-        let l : j < length old = omega (arith, w.same_length, h) in
-        let e : k * (j / k) + j % k ≡ j = div-add-mod j k in
-        sym (ap (λ x. get_or new x 0) e) ∙ w.bytes (j / k) (j % k) (mod-lt j positive) (rw e l)
-        ∙ sym (get_or-map-range_with_len f 0 (length old) j j 0 l (zero-add j)))
+    (λ j h.
+    let l : j < length old = omega (arith, w.same_length, h) in
+    let e : k * (j / k) + j % k ≡ j = div-add-mod j k in
+    sym (ap (λ x. get_or new x 0) e) ∙ w.bytes (j / k) (j % k) (mod-lt j positive) (rw e l)
+    ∙ sym (get_or-map-range_with_len f 0 (length old) j j 0 l (zero-add j)))
 
 -- an element that was written
 pub written_element : (k : ℕ) (W : ℕ → Bool) (F : ℕ → ℕ) (old new : List ℕ) (e : ℕ) → Writes k W F old new → W e ≡ true → k * e + k ≤ length old
@@ -173,9 +172,9 @@ pub written_element : (k : ℕ) (W : ℕ → Bool) (F : ℕ → ℕ) (old new : 
 written_element k W F old new e w here fits =
     let room : k * e + k ≤ length new = omega (arith, w.same_length) in
     let same : chunk (k * e) k new ≡ bytes_low_first 0 k (F e) =
-      same_number_lists (chunk (k * e) k new) (bytes_low_first 0 k (F e)) (length-chunk (k * e) k new room ∙ sym (length-bytes 0 k (F e)))
-        (λ j h.
-          let small : j < k = omega (arith, length-chunk (k * e) k new room, h) in
-          get_or-chunk (k * e) k new j 0 small ∙ w.bytes e j small (omega arith) ∙ ap (λ b. cond b (byte_at j (F e)) (get_or old (k * e + j) 0)) here
-          ∙ sym (get_or-bytes 0 k (F e) j small ∙ ap (λ n. byte_at n (F e)) (zero-add j))) in
+    same_number_lists (chunk (k * e) k new) (bytes_low_first 0 k (F e)) (length-chunk (k * e) k new room ∙ sym (length-bytes 0 k (F e)))
+    (λ j h.
+    let small : j < k = omega (arith, length-chunk (k * e) k new room, h) in
+    get_or-chunk (k * e) k new j 0 small ∙ w.bytes e j small (omega arith) ∙ ap (λ b. cond b (byte_at j (F e)) (get_or old (k * e + j) 0)) here
+    ∙ sym (get_or-bytes 0 k (F e) j small ∙ ap (λ n. byte_at n (F e)) (zero-add j))) in
     ap (number_l 256) same ∙ number_bytes 0 k (F e) ∙ ap (λ x. x % 256 ^ k) (div-one (F e))

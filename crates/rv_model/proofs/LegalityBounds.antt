@@ -1,8 +1,6 @@
 -- What legality tells of the registers of an instruction: its groups end inside the file, and have room for each element.
-use Rattle.std.proofs.Common.{◌≡◌, ℕ, ◌+◌, ◌*◌, ◌/◌, ◌<◌, ◌≤◌, Bool, true, refl, arith, ◌∙◌, lit≤, lit<}
-use Rattle.std.specs.Prelude.{⊤}
+use Rattle.std.proofs.Common.{◌≡◌, ℕ, ◌+◌, ◌*◌, ◌/◌, ◌≤◌, Bool, true, arith, lit≤, lit<}
 use Rattle.std.proofs.Math.Nat.{mul-le-mul_left}
-use Rattle.rv_model.specs.declared.instruction.Instr.{Instr}
 use Rattle.rv_model.specs.declared.instruction.Instr.TheVariants.{VectorArith}
 use Rattle.rv_model.specs.declared.operations.BinaryOp.{BinaryOp}
 use Rattle.rv_model.specs.declared.operations.VectorOp.TheVariants.{Binary}
@@ -18,7 +16,7 @@ use Rattle.rv_model.specs.declared.vector_type.VType.{VType}
 use Rattle.rv_model.specs.Legality.{operands, is_legal_at}
 use Rattle.rv_model.specs.OperandShapes.{emul, mask, second_source, shape_operands}
 use Rattle.rv_model.specs.RegisterGroups.{registers}
-use Rattle.rv_model.specs.RegisterOperands.{IsGroup, AreLegal}
+use Rattle.rv_model.specs.RegisterOperands.{IsGroup}
 use Rattle.rv_model.specs.SourceRegisters.{IsInside, SourceIsInside}
 use Rattle.rv_model.specs.VectorArithmetic.{sew_bytes}
 use Rattle.rv_model.specs.VectorConfiguration.{sew_bits, lmul_eighths, vlmax}
@@ -111,6 +109,7 @@ length_below t vl h = omega (arith, bytes_positive t.sew, length_in_bytes t.sew 
     bytes_positive E16 = lit≤ tt
     bytes_positive E32 = lit≤ tt
     bytes_positive E64 = lit≤ tt
+
     length_in_bytes : (s : Sew) (n : ℕ) {m : ℕ} → sew_bytes s * n ≤ m → n ≤ m
     length_in_bytes E8 n h = omega (arith, h)
     length_in_bytes E16 n h = omega (arith, h)

@@ -1,13 +1,13 @@
 -- Register operands as sets of register numbers, and which of them may stand together in one instruction ("V" Vector
 -- Extension 1.0, sections 3.4.2, 5.2 and 5.3). An overlap is in the lowest-numbered part of the source where both groups
 -- begin together, and in the highest-numbered part of the destination where both end together.
-use Rattle.std.specs.Prelude.{◌≡◌, ◌≢◌, ℕ, ◌+◌, ◌*◌, ◌/◌, ◌%◌, ◌<◌, ◌≤◌, ◌⊎◌, ⊤, Bool, true, false, ◌&&◌, ◌||◌, not, nat_lt, nat_le, ◌==◌, max, min, List, All}
+use Rattle.std.specs.Prelude.{◌≡◌, ℕ, ◌+◌, ◌*◌, ◌%◌, ◌<◌, ◌≤◌, ◌⊎◌, ⊤, Bool, true, false, ◌&&◌, ◌||◌, not, nat_lt, nat_le, ◌==◌, max, min, List, All}
 use Rattle.std.specs.List.{list_all}
 use Rattle.rv_model.specs.declared.register_operand.Operand.{Operand}
 use Rattle.rv_model.specs.declared.register_operand.Content.{Content}
 use Rattle.rv_model.specs.declared.register_operand.Content.TheVariants.{Mask, Elements}
 use Rattle.rv_model.specs.declared.register_operand.Role.{Role}
-use Rattle.rv_model.specs.declared.register_operand.Role.TheVariants.{Read, Control, Unused, Write, Apart, Free}
+use Rattle.rv_model.specs.declared.register_operand.Role.TheVariants.{Read, Control, Write, Apart}
 use Rattle.rv_model.specs.RegisterGroups.{registers}
 
 -- the effective element width in bits; a mask's is 1

@@ -1,7 +1,7 @@
 -- The result of each element-wise operation, as a whole number ("V" Vector Extension 1.0, chapter 11). An element is an
 -- unsigned number of the width in hand; a is that of vs2, b that of vs1, of x[rs1] or of the immediate. The result is taken
 -- modulo 2 to the width.
-use Rattle.std.specs.Prelude.{ℕ, ◌+◌, ◌-◌, ◌*◌, ◌/◌, ◌%◌, ◌^◌, min, max, Bool, true, false, suc, ℤ, pos, negsuc, ◌+ℤ◌, ◌-ℤ◌, ◌*ℤ◌, bit_and, bit_or, bit_xor}
+use Rattle.std.specs.Prelude.{ℕ, ◌-◌, ◌*◌, ◌/◌, ◌%◌, ◌^◌, min, max, Bool, true, false, suc, ℤ, pos, negsuc, ◌+ℤ◌, ◌-ℤ◌, ◌*ℤ◌, bit_and, bit_or, bit_xor}
 use Rattle.std.specs.Int.{Width, cast_signed, int_min, int_max, int_shr}
 use mir.Val.{bits}
 use Rattle.rv_model.specs.declared.operations.BinaryOp.{BinaryOp}

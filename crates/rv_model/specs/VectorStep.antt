@@ -73,8 +73,8 @@ abbrev pub binary_step : VType → BinaryOp → Source → ℕ → ℕ → Bool 
 binary_step t op source vd vs2 vm s =
     if is_carried_out op && is_legal_at (VectorArith (Binary op, source) vd vs2 vm) t s.vector.vstart
     then leaves_registers
-      (binary_file (group_type t) op vd vs2 source vm (fills_masked_off s.policy t vm) (fills_tail s.policy t s.vector.vstart s.vector.conf.vl)
-      s.vector s.scalar) s
+    (binary_file (group_type t) op vd vs2 source vm (fills_masked_off s.policy t vm) (fills_tail s.policy t s.vector.vstart s.vector.conf.vl)
+    s.vector s.scalar) s
     else vector_ends vector_end.Illegal s
 
 -- an operation with a line of its own in the manual's table; without a vector type it is illegal

@@ -34,14 +34,19 @@ fn sums_of_three_words(rt: HostRuntime) {
     let mut memory = with_words([0x0d05_72d7, 0x0221_80d7]);
     let mut vectors = own_seat();
     let sources = vectors.seat.state.file.part_mut(64, 128);
-    let first = [0xff, 0xff, 0xff, 0xff, 2, 0, 0, 0, 0, 0, 0, 0x80, 7, 0, 0, 0];
+    let first = [
+        0xff, 0xff, 0xff, 0xff, 2, 0, 0, 0, 0, 0, 0, 0x80, 7, 0, 0, 0,
+    ];
     sources[..16].copy_from_slice(&first);
     let second = [1, 0, 0, 0, 1, 0, 0, 0, 1, 0, 0, 0, 1, 0, 0, 0];
     sources[32..48].copy_from_slice(&second);
     let end = run(2, &mut scalar, &mut memory, &mut vectors, Policy::Keep);
     assert_eq!(rt; end, StepEnd::Ran);
     let sums = vectors.seat.state.file.part(32, 48);
-    assert_eq!(rt; sums, [0, 0, 0, 0, 3, 0, 0, 0, 1, 0, 0, 0x80, 0, 0, 0, 0].as_slice());
+    assert_eq!(rt;
+        sums,
+        [0, 0, 0, 0, 3, 0, 0, 0, 1, 0, 0, 0x80, 0, 0, 0, 0].as_slice()
+    );
     assert_eq!(rt; vectors.seat.dirty, true);
 }
 

@@ -1,4 +1,4 @@
-use Rattle.std.proofs.Common.{◌*◌, ◌+◌, ◌≤◌, ◌≡◌, length, arith, sym, ap, ◌∙◌}
+use Rattle.std.proofs.Common.{◌*◌, ◌+◌, ◌≤◌, length, sym, ap, ◌∙◌}
 use Rattle.std.specs.Int.{bytes_low_first}
 use lib.Lanes.{put_chunk}
 use Rattle.rv_model.proofs.ElementSetLaws.{step_result, step_ones, step_off, body_ends, room_for}
@@ -8,7 +8,7 @@ use Rattle.lane_arith.proofs.kernel.binary.Goals.{then-is_let, else-is_let+then-
 pub loop-i-preserved : goal.loop-i-preserved
 loop-i-preserved g c =
     let room : g.L.Lane.size * c.loop-i.i + g.L.Lane.size ≤ length c.args.destination.now =
-        room_for _ _ _ _ c.loop-i-test.true c.requires.destination in
+    room_for _ _ _ _ c.loop-i-test.true c.requires.destination in
     elim c.if-is_let.branch [
       | then-is_let w ↦
           step_result _ _ _ _ _ _ _ _ _ _ _ _ c.loop-i.auto.i c.loop-i-test.true c.loop-i.invariant room (sym c.is_let.ensures ∙ w.if-is_let.true)

@@ -1,7 +1,7 @@
 -- `part_mut` lends a range of the array as a slice. The borrow checker shows no write-back clause
 -- for a part of a `[u8; N]`, so this proof walks the code by hand.
-use mathlib.Core.Path.{◌≡◌, refl, sym, ap, subst, ◌∙◌}
-use Prim.Native.Nat.{ℕ, ◌+◌, ◌-◌, ◌*◌, ◌^◌, ◌<◌, ◌≤◌}
+use mathlib.Core.Path.{◌≡◌, refl, sym, ap, ◌∙◌}
+use Prim.Native.Nat.{ℕ, ◌+◌, ◌-◌, ◌^◌, ◌<◌, ◌≤◌}
 use native.Mathlib.Nat.{mul-one}
 use native.Mathlib.Omega.{arith}
 use mathlib.Core.List.{List, [], ◌∷◌, ◌++◌}
@@ -41,7 +41,6 @@ use denote.Triple.Walked.{says, Stays, stay_dropped, walk_of, ends_at, walked, G
 use lib.Lanes.{put_chunk}
 use lib.LanesLaws.{length-put, put_is}
 use lib.ListN.{length, take, drop as drop_list, take-append-drop, length-drop}
-use lib.Seq.{drop-drop}
 use types.SemTy.{cells}
 use types.Part.{agg}
 use types.Run.{stop, fld, addr, bin, and_then, no_more, returns, enter}
