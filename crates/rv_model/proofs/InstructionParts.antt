@@ -48,7 +48,7 @@ none_shared n a b h =
     ∙ ap (bit_and n) (ap (bit_and a) (and_comm n b) ∙ sym (and_assoc n a b) ∙ ap (λ x. bit_and x n) h ∙ and_zero_l n)
     ∙ and_zero_r n
 
-and_sum : (n a b : ℕ) → bit_and a b ≡ 0 → bit_and n (a + b) ≡ bit_and n a + bit_and n b
+pub and_sum : (n a b : ℕ) → bit_and a b ≡ 0 → bit_and n (a + b) ≡ bit_and n a + bit_and n b
 and_sum n a b h =
     ap (bit_and n) (sym (or_disjoint a b h))
     ∙ and_or_distrib n a b

@@ -1,4 +1,10 @@
 pub mod Arguments
+pub mod AssemblerFields
+pub mod AssemblerNaming
+pub mod AssemblerNumbers
+pub mod AssemblerSlots
+pub mod AssemblerTable
+pub mod AssemblerTokens
 pub mod BitFields
 pub mod Causes
 pub mod Commands

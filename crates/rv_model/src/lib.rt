@@ -1,11 +1,13 @@
 //! The definitions that every contract of the monitor cites, and the small types they speak of.
 #![tactic(auto)]
 
+pub mod assembler;
 mod command;
 mod control_register;
 mod instruction;
 mod laws;
 mod memory;
+pub mod mnemonics;
 mod operands;
 pub mod operations;
 mod pairs;

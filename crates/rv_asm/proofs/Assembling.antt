@@ -1,0 +1,43 @@
+-- What a text spells, from its name and its operands; and the parts of a canonical text
+use Rattle.std.proofs.Common.{◌≡◌, ℕ, ◌+◌, List, [], ◌∷◌, ◌++◌, length, Some, None, Result, Ok, Err, sym, ap, ap₂, ◌∙◌}
+use Rattle.std.specs.Prelude.{IfOk, IfErr}
+use Rattle.rv_model.specs.AssemblerTokens.{Token}
+use Rattle.rv_model.specs.declared.assembler.Slot.{Slot}
+use Rattle.rv_model.specs.declared.mnemonics.Mnemonic.{Mnemonic}
+use Rattle.rv_model.specs.AssemblerTable.{slots_of, unpadded, row_named, row_at, name_at, slots_at, bits_at, read_operands, spelled_with, spelled_by, spelled, row_of_word, operands_text, text_at, canonical}
+use Rattle.rv_asm.specs.Places.{rest, Answers}
+use Rattle.rv_asm.specs.declared.fault.AsmFault.{AsmFault}
+
+pub spelled_nothing : (text : List ℕ) (column : ℕ) → rest text 0 ≡ [] → column ≡ length text + 1 → spelled text ≡ Err column
+unfolding spelled
+spelled_nothing text column h e = ap (spelled_by (length text + 1)) h ∙ ap (λ (n : ℕ). Err n) (sym e)
+
+pub spelled_unknown : (text : List ℕ) (name : Token) (ts : List Token) (column : ℕ) → rest text 0 ≡ name ∷ ts → row_named name.text ≡ None → column ≡ name.column → spelled text ≡ Err column
+unfolding spelled
+spelled_unknown text name ts column h none e = ap (spelled_by (length text + 1)) h ∙ ap (spelled_with (length text + 1) name ts) none ∙ ap (λ (n : ℕ). Err n) (sym e)
+
+pub spelled_known : (text : List ℕ) (name : Token) (ts : List Token) (row : ℕ) (m : Mnemonic) (slots : List Slot) → rest text 0 ≡ name ∷ ts → row_named name.text ≡ Some row → m ≡ row_at row → slots ≡ slots_of m.1
+    → spelled text ≡ read_operands (length text + 1) m.2 slots ts
+unfolding spelled bits_at slots_at
+spelled_known text name ts row m slots h some is with_slots =
+    ap (spelled_by (length text + 1)) h
+    ∙ ap (spelled_with (length text + 1) name ts) some
+    ∙ ap (λ (n : Mnemonic). read_operands (length text + 1) n.2 (slots_of n.1) ts) (sym is)
+    ∙ ap (λ (ss : List Slot). read_operands (length text + 1) m.2 ss ts) (sym with_slots)
+
+pub answers_ok : (r : Result ℕ AsmFault) (read total : Result ℕ ℕ) → total ≡ read → Answers r read → IfOk r (λ word. total ≡ Ok word)
+answers_ok (Ok w) read total e a = e ∙ a
+answers_ok (Err f) read total e a = tt
+
+pub answers_err : (r : Result ℕ AsmFault) (read total : Result ℕ ℕ) → total ≡ read → Answers r read → IfErr r (λ fault. total ≡ Err fault.column)
+answers_err (Ok w) read total e a = tt
+answers_err (Err f) read total e a = e ∙ a
+
+pub canonical_parts : (word row : ℕ) (m : Mnemonic) (slots : List Slot) (start named whole : List ℕ) → row ≡ row_of_word word → m ≡ row_at row → slots ≡ slots_of m.1
+    → start ≡ [] → named ≡ start ++ unpadded m.0 → whole ≡ named ++ operands_text slots word → whole ≡ canonical word
+unfolding canonical text_at name_at slots_at
+canonical_parts word row m slots start named whole r is with_slots a b c =
+    c
+    ∙ ap₂ (λ (t : List ℕ) (ss : List Slot). t ++ operands_text ss word) (b ∙ ap (λ (t : List ℕ). t ++ unpadded m.0) a) with_slots
+    ∙ ap (λ (n : Mnemonic). unpadded n.0 ++ operands_text (slots_of n.1) word) is
+    ∙ ap (λ (k : ℕ). text_at k word) r

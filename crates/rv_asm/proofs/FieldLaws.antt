@@ -1,0 +1,144 @@
+-- The operands that a word has, at their places again
+use Rattle.std.proofs.Common.{◌≡◌, ℕ, ◌+◌, ◌*◌, ◌/◌, ◌%◌, ◌^◌, ◌<◌, List, [], ◌∷◌, ◌++◌, refl, sym, ap, ap₂, ◌∙◌, arith}
+use Rattle.std.proofs.Math.Nat.{mod-eq_of_lt}
+use Rattle.std.proofs.lemmas.Nat.{mod_below, pow_pos}
+use Rattle.rv_model.specs.BitFields.{field, Part, part, sum_of}
+use Rattle.rv_model.specs.Immediates.{branch_offset, jump_offset}
+use Rattle.rv_model.specs.declared.assembler.Slot.{Slot}
+use Rattle.rv_model.specs.declared.assembler.Slot.TheVariants.{Comma, Open, Close, V0, Scalar, Vector, Unsigned, Signed, Csr, VectorType, ShortVectorType, Mask, Word}
+use Rattle.rv_model.specs.declared.assembler.UnsignedField.TheVariants as unsigned
+use Rattle.rv_model.specs.declared.assembler.SignedField.TheVariants as signed
+use Rattle.rv_model.specs.AssemblerSlots.{room}
+use Rattle.rv_model.specs.AssemblerFields.{lowest, parts_of, value_of, operand_parts}
+use Rattle.rv_model.proofs.InstructionParts.{of_word}
+
+below : (low len w : ℕ) → field low len w < 2 ^ len
+below low len w = mod_below (w / 2 ^ low) (2 ^ len) (pow_pos len)
+
+pub value_below : (s : Slot) (w : ℕ) → value_of s w < room s
+value_below Comma w = omega arith
+value_below Open w = omega arith
+value_below Close w = omega arith
+value_below V0 w = omega arith
+value_below (Scalar p) w = below (lowest p) 5 w
+value_below (Vector p) w = below (lowest p) 5 w
+value_below (Unsigned unsigned.Immediate) w = below 15 5 w
+value_below (Unsigned unsigned.Shift) w = below 20 6 w
+value_below (Unsigned unsigned.ShiftWord) w = below 20 5 w
+value_below (Unsigned unsigned.Upper) w = below 12 20 w
+value_below (Signed signed.Vector) w = below 15 5 w
+value_below (Signed signed.Immediate) w = below 20 12 w
+value_below (Signed signed.Store) w = omega (arith, below 7 5 w, below 25 7 w)
+value_below (Signed signed.Branch) w = omega (arith, below 8 4 w, below 25 6 w, below 7 1 w, below 31 1 w)
+value_below (Signed signed.Jump) w = omega (arith, below 21 10 w, below 20 1 w, below 12 8 w, below 31 1 w)
+value_below Csr w = below 20 12 w
+value_below VectorType w = below 20 11 w
+value_below ShortVectorType w = below 20 10 w
+value_below Mask w = below 25 1 w
+value_below Word w = below 0 32 w
+
+-- a piece that is a field already
+whole : (low len w : ℕ) → part low len (field low len w % 2 ^ len) ≡ part low len (field low len w)
+whole low len w = ap (part low len) (mod-eq_of_lt (below low len w))
+
+two : {a b c d : Part} → a ≡ b → c ≡ d → a ∷ c ∷ [] ≡ b ∷ d ∷ []
+two h k = ap₂ (λ (x y : Part). x ∷ y ∷ []) h k
+
+four : {a b c d e f g h : Part} → a ≡ b → c ≡ d → e ≡ f → g ≡ h → a ∷ c ∷ e ∷ g ∷ [] ≡ b ∷ d ∷ f ∷ h ∷ []
+four {b = b} {c = c} {d = d} {e = e} {f = f} {g = g} h k l m = ap₂ (λ (x y : Part). x ∷ y ∷ e ∷ g ∷ []) h k ∙ ap₂ (λ (x y : Part). b ∷ d ∷ x ∷ y ∷ []) l m
+
+store_high : (a b : ℕ) → a < 2 ^ 5 → b < 2 ^ 7 → (a + b * 2 ^ 5) / 2 ^ 5 % 2 ^ 7 ≡ b
+store_high a b h k = omega arith
+
+store_low : (a b : ℕ) → a < 2 ^ 5 → (a + b * 2 ^ 5) % 2 ^ 5 ≡ a
+store_low a b h = omega arith
+
+branch_12 : (a b c d : ℕ) → a < 2 ^ 4 → b < 2 ^ 6 → c < 2 ^ 1 → d < 2 ^ 1 → (a + b * 2 ^ 4 + c * 2 ^ 10 + d * 2 ^ 11) / 2 ^ 11 % 2 ^ 1 ≡ d
+branch_12 a b c d ha hb hc hd = omega arith
+
+branch_10 : (a b c d : ℕ) → a < 2 ^ 4 → b < 2 ^ 6 → (a + b * 2 ^ 4 + c * 2 ^ 10 + d * 2 ^ 11) / 2 ^ 4 % 2 ^ 6 ≡ b
+branch_10 a b c d ha hb = omega arith
+
+branch_4 : (a b c d : ℕ) → a < 2 ^ 4 → (a + b * 2 ^ 4 + c * 2 ^ 10 + d * 2 ^ 11) % 2 ^ 4 ≡ a
+branch_4 a b c d ha = omega arith
+
+branch_11 : (a b c d : ℕ) → a < 2 ^ 4 → b < 2 ^ 6 → c < 2 ^ 1 → (a + b * 2 ^ 4 + c * 2 ^ 10 + d * 2 ^ 11) / 2 ^ 10 % 2 ^ 1 ≡ c
+branch_11 a b c d ha hb hc = omega arith
+
+jump_20 : (a b c d : ℕ) → a < 2 ^ 10 → b < 2 ^ 1 → c < 2 ^ 8 → d < 2 ^ 1 → (a + b * 2 ^ 10 + c * 2 ^ 11 + d * 2 ^ 19) / 2 ^ 19 % 2 ^ 1 ≡ d
+jump_20 a b c d ha hb hc hd = omega arith
+
+jump_10 : (a b c d : ℕ) → a < 2 ^ 10 → (a + b * 2 ^ 10 + c * 2 ^ 11 + d * 2 ^ 19) % 2 ^ 10 ≡ a
+jump_10 a b c d ha = omega arith
+
+jump_11 : (a b c d : ℕ) → a < 2 ^ 10 → b < 2 ^ 1 → (a + b * 2 ^ 10 + c * 2 ^ 11 + d * 2 ^ 19) / 2 ^ 10 % 2 ^ 1 ≡ b
+jump_11 a b c d ha hb = omega arith
+
+jump_19 : (a b c d : ℕ) → a < 2 ^ 10 → b < 2 ^ 1 → c < 2 ^ 8 → (a + b * 2 ^ 10 + c * 2 ^ 11 + d * 2 ^ 19) / 2 ^ 11 % 2 ^ 8 ≡ c
+jump_19 a b c d ha hb hc = omega arith
+
+branch_parts : (w : ℕ) → parts_of (Signed signed.Branch) (branch_offset w) ≡ part 31 1 (field 31 1 w) ∷ part 25 6 (field 25 6 w) ∷ part 8 4 (field 8 4 w) ∷ part 7 1 (field 7 1 w) ∷ []
+branch_parts w =
+    let a = field 8 4 w in
+    let b = field 25 6 w in
+    let c = field 7 1 w in
+    let d = field 31 1 w in
+    four (ap (part 31 1) (branch_12 a b c d (below 8 4 w) (below 25 6 w) (below 7 1 w) (below 31 1 w)))
+    (ap (part 25 6) (branch_10 a b c d (below 8 4 w) (below 25 6 w)))
+    (ap (part 8 4) (branch_4 a b c d (below 8 4 w)))
+    (ap (part 7 1) (branch_11 a b c d (below 8 4 w) (below 25 6 w) (below 7 1 w)))
+
+jump_parts : (w : ℕ) → parts_of (Signed signed.Jump) (jump_offset w) ≡ part 31 1 (field 31 1 w) ∷ part 21 10 (field 21 10 w) ∷ part 20 1 (field 20 1 w) ∷ part 12 8 (field 12 8 w) ∷ []
+jump_parts w =
+    let a = field 21 10 w in
+    let b = field 20 1 w in
+    let c = field 12 8 w in
+    let d = field 31 1 w in
+    four (ap (part 31 1) (jump_20 a b c d (below 21 10 w) (below 20 1 w) (below 12 8 w) (below 31 1 w)))
+    (ap (part 21 10) (jump_10 a b c d (below 21 10 w)))
+    (ap (part 20 1) (jump_11 a b c d (below 21 10 w) (below 20 1 w)))
+    (ap (part 12 8) (jump_19 a b c d (below 21 10 w) (below 20 1 w) (below 12 8 w)))
+
+single : {a b : Part} → a ≡ b → a ∷ [] ≡ b ∷ []
+single h = ap (λ (x : Part). x ∷ []) h
+
+parts_again : (s : Slot) (w : ℕ) → parts_of s (value_of s w) ≡ of_word w (parts_of s (value_of s 0))
+parts_again Comma w = refl
+parts_again Open w = refl
+parts_again Close w = refl
+parts_again V0 w = refl
+parts_again (Scalar p) w = single (whole (lowest p) 5 w)
+parts_again (Vector p) w = single (whole (lowest p) 5 w)
+parts_again (Unsigned unsigned.Immediate) w = single (whole 15 5 w)
+parts_again (Unsigned unsigned.Shift) w = single (whole 20 6 w)
+parts_again (Unsigned unsigned.ShiftWord) w = single (whole 20 5 w)
+parts_again (Unsigned unsigned.Upper) w = single (whole 12 20 w)
+parts_again (Signed signed.Vector) w = single (whole 15 5 w)
+parts_again (Signed signed.Immediate) w = single (whole 20 12 w)
+parts_again (Signed signed.Store) w = two (ap (part 25 7) (store_high (field 7 5 w) (field 25 7 w) (below 7 5 w) (below 25 7 w))) (ap (part 7 5) (store_low (field 7 5 w) (field 25 7 w) (below 7 5 w)))
+parts_again (Signed signed.Branch) w = branch_parts w
+parts_again (Signed signed.Jump) w = jump_parts w
+parts_again Csr w = single (whole 20 12 w)
+parts_again VectorType w = single (whole 20 11 w)
+parts_again ShortVectorType w = single (whole 20 10 w)
+parts_again Mask w = single (whole 25 1 w)
+parts_again Word w = single (whole 0 32 w)
+
+of_word-append : (w : ℕ) (ps qs : List Part) → of_word w (ps ++ qs) ≡ of_word w ps ++ of_word w qs
+of_word-append w [] qs = refl
+of_word-append w (p ∷ ps) qs = ap (λ (rs : List Part). part p.low p.len (w / 2 ^ p.low % 2 ^ p.len) ∷ rs) (of_word-append w ps qs)
+
+-- the operands of a word are its fields at their places
+pub operand_parts_of_word : (ss : List Slot) (w : ℕ) → operand_parts ss w ≡ of_word w (operand_parts ss 0)
+operand_parts_of_word [] w = refl
+operand_parts_of_word (s ∷ ss) w = ap₂ (λ (ps qs : List Part). ps ++ qs) (parts_again s w) (operand_parts_of_word ss w) ∙ sym (of_word-append w (parts_of s (value_of s 0)) (operand_parts ss 0))
+
+pub sum_of-append : (code : ℕ) (ps qs : List Part) → sum_of code (ps ++ qs) ≡ sum_of 0 ps + sum_of code qs
+sum_of-append code [] qs = let e : sum_of code qs ≡ 0 + sum_of code qs = omega arith in e
+sum_of-append code (p ∷ ps) qs =
+    let h = sum_of-append code ps qs in
+    let a = sum_of 0 ps in
+    let b = sum_of code qs in
+    let x = p.value * 2 ^ p.low in
+    let e : (a + b) + x ≡ (a + x) + b = omega arith in
+    ap (λ (n : ℕ). n + x) h ∙ e

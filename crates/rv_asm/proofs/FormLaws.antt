@@ -1,0 +1,95 @@
+-- A form reads the operands that it prints
+use Rattle.std.proofs.Common.{◌≡◌, ℕ, zero, suc, ◌+◌, ◌<◌, Bool, true, false, ◌&&◌, List, [], ◌∷◌, ◌++◌, length, Result, Ok, refl, sym, ap, ◌∙◌, arith}
+use Rattle.std.proofs.lemmas.Bool.{and_parts}
+use Rattle.rv_model.specs.AssemblerTokens.{Token, runs_on, tokens}
+use Rattle.rv_model.specs.BitFields.{sum_of}
+use Rattle.rv_model.specs.declared.assembler.Slot.{Slot}
+use Rattle.rv_model.specs.declared.assembler.Slot.TheVariants.{Comma, Open, Close, V0, Scalar, Vector, Unsigned, Signed, Csr, VectorType, ShortVectorType, Mask, Word}
+use Rattle.rv_model.specs.AssemblerSlots.{◌>>=◌, printed}
+use Rattle.rv_model.specs.AssemblerFields.{parts_of, placed, value_of, operand_parts}
+use Rattle.rv_model.specs.AssemblerTable.{read_operands, printed_operands}
+use Rattle.rv_asm.proofs.FieldLaws.{value_below, sum_of-append}
+use Rattle.rv_asm.proofs.SlotLaws.{Follows, slot_again}
+
+-- a run of bytes ends before the first of these slots
+abbrev breaks : List Slot → Bool
+breaks [] = true
+breaks (Comma ∷ ss) = true
+breaks (Open ∷ ss) = true
+breaks (Close ∷ ss) = true
+breaks (Mask ∷ ss) = true
+breaks (s ∷ ss) = false
+
+abbrev no_slot : List Slot → Bool
+no_slot [] = true
+no_slot (s ∷ ss) = false
+
+-- no two runs stand side by side, and what may be left out is last
+abbrev pub is_form : List Slot → Bool
+is_form [] = true
+is_form (Comma ∷ ss) = is_form ss
+is_form (Open ∷ ss) = is_form ss
+is_form (Close ∷ ss) = is_form ss
+is_form (Mask ∷ ss) = no_slot ss
+is_form (s ∷ ss) = breaks ss && is_form ss
+
+nothing : (ss : List Slot) (w : ℕ) → no_slot ss ≡ true → printed_operands ss w ≡ []
+unfolding printed_operands
+nothing [] w h = refl
+nothing (s ∷ ss) w h = absurd cc
+
+mask_breaks : (v : ℕ) (more : List ℕ) → v < 2 → more ≡ [] → runs_on (printed Mask v ++ more) ≡ false
+mask_breaks zero more lt e = refl
+mask_breaks (suc zero) more lt e = ap runs_on e
+mask_breaks (suc (suc v)) more lt e = absurd (omega arith)
+
+run_ends : (ss : List Slot) (w : ℕ) → breaks ss ≡ true → is_form ss ≡ true → runs_on (printed_operands ss w) ≡ false
+unfolding printed_operands
+run_ends [] w h f = refl
+run_ends (Comma ∷ ss) w h f = refl
+run_ends (Open ∷ ss) w h f = refl
+run_ends (Close ∷ ss) w h f = refl
+run_ends (Mask ∷ ss) w h f = mask_breaks (value_of Mask w) (printed_operands ss w) (value_below Mask w) (nothing ss w f)
+run_ends (V0 ∷ ss) w h f = absurd cc
+run_ends (Scalar r ∷ ss) w h f = absurd cc
+run_ends (Vector r ∷ ss) w h f = absurd cc
+run_ends (Unsigned u ∷ ss) w h f = absurd cc
+run_ends (Signed s ∷ ss) w h f = absurd cc
+run_ends (Csr ∷ ss) w h f = absurd cc
+run_ends (VectorType ∷ ss) w h f = absurd cc
+run_ends (ShortVectorType ∷ ss) w h f = absurd cc
+run_ends (Word ∷ ss) w h f = absurd cc
+
+no_slot_form : (ss : List Slot) → no_slot ss ≡ true → is_form ss ≡ true
+no_slot_form [] h = refl
+no_slot_form (s ∷ ss) h = absurd cc
+
+run_follows : (ss : List Slot) (w : ℕ) → (breaks ss && is_form ss) ≡ true → (runs_on (printed_operands ss w) ≡ false) × (is_form ss ≡ true)
+run_follows ss w f = let k = and_parts (breaks ss) (is_form ss) f in (run_ends ss w k.0 k.1, k.1)
+
+follows_form : (s : Slot) (ss : List Slot) (w : ℕ) → is_form (s ∷ ss) ≡ true → Follows s (printed_operands ss w) × (is_form ss ≡ true)
+follows_form Comma ss w f = (tt, f)
+follows_form Open ss w f = (tt, f)
+follows_form Close ss w f = (tt, f)
+follows_form Mask ss w f = (nothing ss w f, no_slot_form ss f)
+follows_form V0 ss w f = run_follows ss w f
+follows_form (Scalar r) ss w f = run_follows ss w f
+follows_form (Vector r) ss w f = run_follows ss w f
+follows_form (Unsigned u) ss w f = run_follows ss w f
+follows_form (Signed s) ss w f = run_follows ss w f
+follows_form Csr ss w f = run_follows ss w f
+follows_form VectorType ss w f = run_follows ss w f
+follows_form ShortVectorType ss w f = run_follows ss w f
+follows_form Word ss w f = run_follows ss w f
+
+pub form_again : (ss : List Slot) (w p end bits : ℕ) → is_form ss ≡ true → read_operands end bits ss (tokens p (printed_operands ss w)) ≡ Ok (sum_of bits (operand_parts ss w))
+unfolding read_operands printed_operands tokens
+form_again [] w p end bits f = refl
+form_again (s ∷ ss) w p end bits f =
+    let v = value_of s w in
+    let k = follows_form s ss w f in
+    let first = slot_again s v p end (printed_operands ss w) (value_below s w) k.0 in
+    let others = form_again ss w (p + length (printed s v)) end bits k.1 in
+    ap (λ (r : Result (ℕ × List Token) ℕ). r >>= λ x. (read_operands end bits ss x.1 >>= λ n. Ok (placed s x.0 + n))) first
+    ∙ ap (λ (r : Result ℕ ℕ). r >>= λ n. Ok (placed s v + n)) others
+    ∙ ap (λ (n : ℕ). Ok n) (sym (sum_of-append bits (parts_of s v) (operand_parts ss w)))

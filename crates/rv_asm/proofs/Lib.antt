@@ -1,0 +1,13 @@
+pub mod Assembling
+pub mod FieldLaws
+pub mod FormLaws
+pub mod Loop
+pub mod NameLaws
+pub mod NamedWords
+pub mod Naming
+pub mod NumberLaws
+pub mod Numbers
+pub mod RowLaws
+pub mod SlotLaws
+pub mod Tokens
+pub mod WordLaws

@@ -1,0 +1,102 @@
+-- The text of a word under a name spells that word
+use Rattle.std.proofs.Common.{◌≡◌, ℕ, zero, suc, ◌+◌, ◌-◌, ◌^◌, ◌<◌, Bool, true, false, eqb, ltb, nat_eq, nat_lt, ◌&&◌, List, [], ◌∷◌, ◌++◌, length, get_or, Option, Some, None, Ok, refl, sym, ap, ap₂, ◌∙◌, arith, lit<}
+use Rattle.std.specs.Int.Bits.{bit_and}
+use Rattle.std.proofs.lemmas.Bool.{agree_below_at, and_parts, ltb-true, eqb-true}
+use Rattle.rv_model.specs.AssemblerTokens.{Token, tokens}
+use Rattle.rv_model.specs.BitFields.{Part, sum_of, mask_of}
+use Rattle.rv_model.specs.declared.assembler.Slot.{Slot}
+use Rattle.rv_model.specs.AssemblerFields.{operand_parts, fixed_mask}
+use Rattle.rv_model.specs.AssemblerTable.{row_named, row_at, name_at, slots_at, bits_at, read_operands, spelled_with, spelled_by, spelled, operands_text, printed_operands, text_at}
+use Rattle.rv_model.proofs.InstructionParts.{share_none, rebuilt}
+use Rattle.rv_asm.specs.Spans.{spans}
+use Rattle.rv_asm.proofs.Tokens.{all_run}
+use Rattle.rv_asm.proofs.FieldLaws.{operand_parts_of_word}
+use Rattle.rv_asm.proofs.SlotLaws.{word}
+use Rattle.rv_asm.proofs.FormLaws.{is_form, form_again}
+
+abbrev is_row : ℕ → Option ℕ → Bool
+is_row row None = false
+is_row row (Some k) = eqb k row
+
+abbrev pub all_ascii : List ℕ → Bool
+all_ascii [] = true
+all_ascii (c ∷ cs) = nat_lt c 128 && all_ascii cs
+
+-- the name is one token, and is found at this row
+unfoldable name_fits : ℕ → Bool
+name_fits row = all_run (name_at row) && (ltb 0 (length (name_at row)) && (all_ascii (row_at row).0 && is_row row (row_named (name_at row))))
+
+-- the form can be read, and its operands and the fixed bits fill a word
+unfoldable form_fits : ℕ → Bool
+form_fits row =
+    is_form (slots_at row) && (ltb (bits_at row + spans (slots_at row)) (2 ^ 32)
+    && (share_none (fixed_mask (slots_at row)) (operand_parts (slots_at row) 0)
+    && nat_eq (mask_of (fixed_mask (slots_at row)) (operand_parts (slots_at row) 0)) (2 ^ 32 - 1)))
+
+each_name_fits : (row : ℕ) → row < 598 → name_fits row ≡ true
+unfolding name_fits name_at row_at row_named
+each_name_fits row lt = agree_below_at name_fits (λ _. true) 598 row refl lt
+
+each_form_fits : (row : ℕ) → row < 598 → form_fits row ≡ true
+unfolding form_fits slots_at bits_at row_at fixed_mask
+each_form_fits row lt = agree_below_at form_fits (λ _. true) 598 row refl lt
+
+-- what these tests tell of a row
+pub record Row (row : ℕ) : Type 0 where
+  pub run : all_run (name_at row) ≡ true
+  pub some : 0 < length (name_at row)
+  pub ascii : all_ascii (row_at row).0 ≡ true
+  pub found : row_named (name_at row) ≡ Some row
+  pub form : is_form (slots_at row) ≡ true
+  pub room : bits_at row + spans (slots_at row) < 2 ^ 32
+  pub apart : share_none (fixed_mask (slots_at row)) (operand_parts (slots_at row) 0) ≡ true
+  pub full : mask_of (fixed_mask (slots_at row)) (operand_parts (slots_at row) 0) ≡ 2 ^ 32 - 1
+
+found_is : (row : ℕ) (found : Option ℕ) → is_row row found ≡ true → found ≡ Some row
+found_is row None h = absurd cc
+found_is row (Some k) h = ap (λ (x : ℕ). Some x) (eqb-true k row h)
+
+pub row_facts : (row : ℕ) → row < 598 → Row row
+unfolding name_fits form_fits
+row_facts row lt =
+    let a = and_parts (all_run (name_at row)) _ (each_name_fits row lt) in
+    let b = and_parts (ltb 0 (length (name_at row))) _ a.1 in
+    let c = and_parts (all_ascii (row_at row).0) _ b.1 in
+    let d = and_parts (is_form (slots_at row)) _ (each_form_fits row lt) in
+    let e = and_parts (ltb (bits_at row + spans (slots_at row)) (2 ^ 32)) _ d.1 in
+    let f = and_parts (share_none (fixed_mask (slots_at row)) (operand_parts (slots_at row) 0)) _ e.1 in
+    record {
+      run = a.0;
+      some = ltb-true 0 (length (name_at row)) b.0;
+      ascii = c.0;
+      found = found_is row (row_named (name_at row)) c.1;
+      form = d.0;
+      room = ltb-true (bits_at row + spans (slots_at row)) (2 ^ 32) e.0;
+      apart = f.0;
+      full = eqb-true (mask_of (fixed_mask (slots_at row)) (operand_parts (slots_at row) 0)) (2 ^ 32 - 1) f.1;
+    }
+
+-- the name's token, and tokens that the form reads
+spaced : (end bits w : ℕ) (name : List ℕ) (ss : List Slot) → all_run name ≡ true → 0 < length name → is_form ss ≡ true
+    → (ts : List Token) × (tokens 1 (name ++ operands_text ss w) ≡ record { column = 1; text = name } ∷ ts) × (read_operands end bits ss ts ≡ Ok (sum_of bits (operand_parts ss w)))
+unfolding tokens read_operands
+spaced end bits w name [] run some f = (tokens (1 + length name) [], word 1 name [] run some refl, refl)
+spaced end bits w name (s ∷ ss) run some f =
+    (tokens (1 + length name + 1) (printed_operands (s ∷ ss) w), word 1 name (32 ∷ printed_operands (s ∷ ss) w) run some refl, form_again (s ∷ ss) w (1 + length name + 1) end bits f)
+
+pub text_again : (row w : ℕ) → row < 598 → w < 2 ^ 32 → bit_and w (fixed_mask (slots_at row)) ≡ bits_at row → spelled (text_at row w) ≡ Ok w
+unfolding spelled text_at
+text_again row w lt small is =
+    let r = row_facts row lt in
+    let ss = slots_at row in
+    let end = length (text_at row w) + 1 in
+    let s = spaced end (bits_at row) w (name_at row) ss r.run r.some r.form in
+    ap (spelled_by end) s.1
+    ∙ ap (spelled_with end (record { column = 1; text = name_at row }) s.0) r.found
+    ∙ s.2
+    ∙ ap (λ (n : ℕ). Ok n) (ap₂ (λ (b : ℕ) (ps : List Part). sum_of b ps) (sym is) (operand_parts_of_word ss w) ∙ rebuilt w (fixed_mask ss) (operand_parts ss 0) small r.apart r.full)
+
+pub ascii_at : (name : List ℕ) → all_ascii name ≡ true → (k : ℕ) → k < 16 → get_or name k 0 < 128
+ascii_at [] h k lt = lit< tt
+ascii_at (c ∷ cs) h zero lt = ltb-true c 128 (and_parts (nat_lt c 128) (all_ascii cs) h).0
+ascii_at (c ∷ cs) h (suc k) lt = ascii_at cs (and_parts (nat_lt c 128) (all_ascii cs) h).1 k (omega arith)

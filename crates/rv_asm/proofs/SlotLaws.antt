@@ -1,0 +1,262 @@
+-- Each slot reads the text that is printed for its operand
+use Rattle.std.proofs.Common.{◌≡◌, ℕ, zero, suc, ◌+◌, ◌-◌, ◌*◌, ◌/◌, ◌%◌, ◌^◌, ◌<◌, ◌≤◌, Bool, true, false, not, cond, eqb, ltb, leb, ◌&&◌, List, [], ◌∷◌, ◌++◌, length, Option, Some, None, Result, Ok, refl, sym, ap, subst, ◌∙◌, append_assoc, arith, inl, inr, lit<, lit≤}
+use Rattle.std.specs.Prelude.{codes}
+use Rattle.std.specs.Fmt.{decimal}
+use Rattle.std.specs.Str.{bytes_eq}
+use Rattle.std.proofs.lemmas.Bool.{le-leb, lt-ltb, le-ltb, eq-eqb, ne_eqb, and_parts, cond-true, cond-false, cases_lt, cases_Bool, ltb-true}
+use Rattle.std.proofs.lemmas.List.{length-append}
+use Rattle.rv_model.specs.AssemblerTokens.{Token, in_run, runs_on, tokens}
+use Rattle.rv_model.specs.AssemblerNumbers.{literal, register, number, at_most, in_steps, negated, hex_digits, vlmul, vta, vma, csr, csr_text, vsew_text, vlmul_text, vta_text, vma_text}
+use Rattle.rv_model.specs.declared.assembler.UnsignedField.{UnsignedField}
+use Rattle.rv_model.specs.declared.assembler.UnsignedField.TheVariants as unsigned
+use Rattle.rv_model.specs.declared.assembler.SignedField.{SignedField}
+use Rattle.rv_model.specs.declared.assembler.SignedField.TheVariants as signed
+use Rattle.rv_model.specs.declared.assembler.Slot.{Slot}
+use Rattle.rv_model.specs.declared.assembler.Slot.TheVariants.{Comma, Open, Close, V0, Scalar, Vector, Unsigned, Signed, Csr, VectorType, ShortVectorType, Mask, Word}
+use Rattle.rv_model.specs.AssemblerSlots.{◌>>=◌, accept, one, limit, half, step, steps, signed_number, vtype_names, vtype_from, vtype, read, room, signed_text, has_names, vtype_text, printed}
+use Rattle.rv_asm.proofs.Tokens.{all_run, run_first}
+use Rattle.rv_asm.proofs.NumberLaws.{is_decimal, number_again, all_run_dec, register_again, not_minus, hex_run, hex_again}
+use Rattle.rv_asm.proofs.NameLaws.{Means, csr_again, vsew_again, vlmul_again, vta_again, vma_again, vsew_digits}
+
+split_cond : (b d : Bool) → cond b d false ≡ true → (b ≡ true) × (d ≡ true)
+split_cond true d h = (refl, h)
+split_cond false d h = absurd cc
+
+-- a run of bytes is one token
+pub word : (p : ℕ) (ds more : List ℕ) → all_run ds ≡ true → 0 < length ds → runs_on more ≡ false → tokens p (ds ++ more) ≡ record { column = p; text = ds } ∷ tokens (p + length ds) more
+word p [] more h some m = absurd (omega arith)
+word p (c ∷ cs) more h some m = let k = split_cond (in_run c) (all_run cs) h in run_first p c cs more k.0 k.1 m
+
+-- what may stand behind a slot's text
+abbrev pub Follows : Slot → List ℕ → Type 0
+Follows Comma more = Unit {0}
+Follows Open more = Unit {0}
+Follows Close more = Unit {0}
+Follows Mask more = more ≡ []
+Follows s more = runs_on more ≡ false
+
+-- a reader takes this text for this value
+abbrev Takes : (List Token → Result (ℕ × List Token) ℕ) → List ℕ → ℕ → ℕ → List ℕ → Type 0
+Takes reader text v p more = reader (tokens p (text ++ more)) ≡ Ok (v, tokens (p + length text) more)
+
+-- one token, and what it means
+one_again : (p end v : ℕ) (f : List ℕ → Option ℕ) (ds more : List ℕ) → Means f ds v → runs_on more ≡ false → Takes (one end f) ds v p more
+one_again p end v f ds more m follows = ap (one end f) (word p ds more m.run m.some follows) ∙ ap (accept p (tokens (p + length ds) more)) m.value
+
+at_most_again : (limit n : ℕ) → n ≤ limit → at_most limit (Some n) ≡ Some n
+at_most_again limit n le = cond-true (leb n limit) (Some n) None (le-leb n limit le)
+
+-- ---- signed numbers
+
+steps_back : (s : SignedField) (v : ℕ) → in_steps (step s) (Some (step s * v)) ≡ Some v
+steps_back signed.Vector v = let a : 1 * v % 1 ≡ 0 = omega arith in let b : 1 * v / 1 ≡ v = omega arith in cond-true (eqb (1 * v % 1) 0) (Some (1 * v / 1)) None (eq-eqb (1 * v % 1) 0 a) ∙ ap (λ (x : ℕ). Some x) b
+steps_back signed.Immediate v = let a : 1 * v % 1 ≡ 0 = omega arith in let b : 1 * v / 1 ≡ v = omega arith in cond-true (eqb (1 * v % 1) 0) (Some (1 * v / 1)) None (eq-eqb (1 * v % 1) 0 a) ∙ ap (λ (x : ℕ). Some x) b
+steps_back signed.Store v = let a : 1 * v % 1 ≡ 0 = omega arith in let b : 1 * v / 1 ≡ v = omega arith in cond-true (eqb (1 * v % 1) 0) (Some (1 * v / 1)) None (eq-eqb (1 * v % 1) 0 a) ∙ ap (λ (x : ℕ). Some x) b
+steps_back signed.Branch v = let a : 2 * v % 2 ≡ 0 = omega arith in let b : 2 * v / 2 ≡ v = omega arith in cond-true (eqb (2 * v % 2) 0) (Some (2 * v / 2)) None (eq-eqb (2 * v % 2) 0 a) ∙ ap (λ (x : ℕ). Some x) b
+steps_back signed.Jump v = let a : 2 * v % 2 ≡ 0 = omega arith in let b : 2 * v / 2 ≡ v = omega arith in cond-true (eqb (2 * v % 2) 0) (Some (2 * v / 2)) None (eq-eqb (2 * v % 2) 0 a) ∙ ap (λ (x : ℕ). Some x) b
+
+steps_below : (s : SignedField) (v : ℕ) → v < half s → step s * v ≤ step s * half s - 1
+steps_below signed.Vector v lt = omega arith
+steps_below signed.Immediate v lt = omega arith
+steps_below signed.Store v lt = omega arith
+steps_below signed.Branch v lt = omega arith
+steps_below signed.Jump v lt = omega arith
+
+steps_up_to : (s : SignedField) (v : ℕ) → v ≤ half s → step s * v ≤ step s * half s
+steps_up_to signed.Vector v le = omega arith
+steps_up_to signed.Immediate v le = omega arith
+steps_up_to signed.Store v le = omega arith
+steps_up_to signed.Branch v le = omega arith
+steps_up_to signed.Jump v le = omega arith
+
+steps_small : (s : SignedField) → step s * half s < 2 ^ 64
+steps_small signed.Vector = lit< tt
+steps_small signed.Immediate = lit< tt
+steps_small signed.Store = lit< tt
+steps_small signed.Branch = lit< tt
+steps_small signed.Jump = lit< tt
+
+signed_again : (s : SignedField) (v p end : ℕ) (more : List ℕ) → v < 2 * half s → runs_on more ≡ false → Takes (signed_number end (step s) (half s)) (signed_text (step s) (half s) v) v p more
+unfolding tokens
+signed_again s v p end more lt follows =
+    let size = step s in
+    let count = half s in
+    elim (cases_lt v count) [
+      | inl small ↦
+          let n = size * v in
+          let d = is_decimal n (omega (arith, steps_below s v small, steps_small s)) in
+          let text : signed_text size count v ≡ decimal n = cond-true (ltb v count) (decimal n) (45 ∷ decimal (size * (2 * count - v))) (lt-ltb v count small) in
+          let value : in_steps size (at_most (size * count - 1) (number (decimal n))) ≡ Some v = ap (λ o. in_steps size (at_most (size * count - 1) o)) (number_again n (decimal n) d) ∙ ap (in_steps size) (at_most_again (size * count - 1) n (steps_below s v small)) ∙ steps_back s v in
+          let ts = tokens (p + length (decimal n)) more in
+          let reads : Takes (signed_number end size count) (decimal n) v p more =
+          ap (signed_number end size count) (word p (decimal n) more (all_run_dec (decimal n) d.digits) d.some follows)
+          ∙ cond-false (bytes_eq (decimal n) (45 ∷ [])) (one end (λ t. negated count (steps size count t)) ts) (accept p ts (in_steps size (at_most (size * count - 1) (number (decimal n))))) (not_minus n (decimal n) d)
+          ∙ ap (accept p ts) value in
+          subst (λ (t : List ℕ). Takes (signed_number end size count) t v p more) (sym text) reads
+      | inr large ↦
+          let k = 2 * count - v in
+          let n = size * k in
+          let le : k ≤ count = omega arith in
+          let d = is_decimal n (omega (arith, steps_up_to s k le, steps_small s)) in
+          let text : signed_text size count v ≡ 45 ∷ decimal n = cond-false (ltb v count) (decimal (size * v)) (45 ∷ decimal n) (le-ltb v count large) in
+          let back : 2 * count - k ≡ v = omega arith in
+          let value : negated count (steps size count (decimal n)) ≡ Some v =
+          ap (λ o. negated count (in_steps size (at_most (size * count) o))) (number_again n (decimal n) d)
+          ∙ ap (λ o. negated count (in_steps size o)) (at_most_again (size * count) n (steps_up_to s k le))
+          ∙ ap (negated count) (steps_back s k)
+          ∙ ap (λ (x : ℕ). Some x) (cond-false (eqb k 0) 0 (2 * count - k) (ne_eqb k 0 (λ e. omega arith)) ∙ back) in
+          let at : (p + 1) + length (decimal n) ≡ p + length (45 ∷ decimal n) = omega arith in
+          let reads : Takes (signed_number end size count) (45 ∷ decimal n) v p more =
+          one_again (p + 1) end v (λ t. negated count (steps size count t)) (decimal n) more (record { run = all_run_dec (decimal n) d.digits; some = d.some; value = value }) follows
+          ∙ ap (λ (q : ℕ). Ok (v, tokens q more)) at in
+          subst (λ (t : List ℕ). Takes (signed_number end size count) t v p more) (sym text) reads
+    ]
+
+-- ---- vtype
+
+abbrev comma : ℕ → List Token → Result (ℕ × List Token) ℕ
+comma end ts = one end (literal (44 ∷ [])) ts
+
+comma_again : (p end : ℕ) (more : List ℕ) → comma end (tokens p (44 ∷ 32 ∷ more)) ≡ Ok (0, tokens (p + 2) more)
+unfolding tokens
+comma_again p end more = let k : p + 1 + 1 ≡ p + 2 = omega arith in ap (λ (n : ℕ). Ok (0, tokens n more)) k
+
+abbrev with_inactive : ℕ → ℕ → ℕ → ℕ → List Token → Result (ℕ × List Token) ℕ
+with_inactive end width multiplier tail ts = one end vma ts >>= λ x. Ok (multiplier + width * 8 + tail * 64 + x.0 * 128, x.1)
+
+abbrev with_tail : ℕ → ℕ → ℕ → List Token → Result (ℕ × List Token) ℕ
+with_tail end width multiplier ts = one end vta ts >>= λ x. (comma end x.1 >>= λ c. with_inactive end width multiplier x.0 c.1)
+
+abbrev with_multiplier : ℕ → ℕ → List Token → Result (ℕ × List Token) ℕ
+with_multiplier end width ts = one end vlmul ts >>= λ x. (comma end x.1 >>= λ b. with_tail end width x.0 b.1)
+
+bind_ok : (r : Result (ℕ × List Token) ℕ) (x : ℕ × List Token) (f : ℕ × List Token → Result (ℕ × List Token) ℕ) → r ≡ Ok x → (r >>= f) ≡ f x
+bind_ok r x f h = ap (λ (q : Result (ℕ × List Token) ℕ). q >>= f) h
+
+names_again : (end width multiplier tail inactive p : ℕ) (more : List ℕ) → multiplier < 8 → eqb multiplier 4 ≡ false → tail < 2 → inactive < 2 → runs_on more ≡ false
+    → vtype_names end width (tokens p (44 ∷ 32 ∷ (vlmul_text multiplier ++ (44 ∷ 32 ∷ (vta_text tail ++ (44 ∷ 32 ∷ (vma_text inactive ++ more)))))))
+    ≡ Ok (multiplier + width * 8 + tail * 64 + inactive * 128, tokens (p + 2 + length (vlmul_text multiplier) + 2 + length (vta_text tail) + 2 + length (vma_text inactive)) more)
+unfolding vtype_names
+names_again end width multiplier tail inactive p more lm lh lt li follows =
+    let third = vma_text inactive ++ more in
+    let second = vta_text tail ++ (44 ∷ 32 ∷ third) in
+    let first = vlmul_text multiplier ++ (44 ∷ 32 ∷ second) in
+    let a = p + 2 in
+    let b = a + length (vlmul_text multiplier) in
+    let c = b + 2 in
+    let d = c + length (vta_text tail) in
+    let e = d + 2 in
+    let f = e + length (vma_text inactive) in
+    bind_ok (comma end (tokens p (44 ∷ 32 ∷ first))) (0, tokens a first) (λ x. with_multiplier end width x.1) (comma_again p end first)
+    ∙ bind_ok (one end vlmul (tokens a first)) (multiplier, tokens b (44 ∷ 32 ∷ second)) (λ x. (comma end x.1 >>= λ b. with_tail end width x.0 b.1)) (one_again a end multiplier vlmul (vlmul_text multiplier) (44 ∷ 32 ∷ second) (vlmul_again multiplier lm lh) refl)
+    ∙ bind_ok (comma end (tokens b (44 ∷ 32 ∷ second))) (0, tokens c second) (λ x. with_tail end width multiplier x.1) (comma_again b end second)
+    ∙ bind_ok (one end vta (tokens c second)) (tail, tokens d (44 ∷ 32 ∷ third)) (λ x. (comma end x.1 >>= λ c. with_inactive end width multiplier x.0 c.1)) (one_again c end tail vta (vta_text tail) (44 ∷ 32 ∷ third) (vta_again tail lt) refl)
+    ∙ bind_ok (comma end (tokens d (44 ∷ 32 ∷ third))) (0, tokens e third) (λ x. with_inactive end width multiplier tail x.1) (comma_again d end third)
+    ∙ bind_ok (one end vma (tokens e third)) (inactive, tokens f more) (λ x. Ok (multiplier + width * 8 + tail * 64 + x.0 * 128, x.1)) (one_again e end inactive vma (vma_text inactive) more (vma_again inactive li) follows)
+
+names_whole : (w l t i more : List ℕ) → (w ++ 44 ∷ 32 ∷ [] ++ l ++ 44 ∷ 32 ∷ [] ++ t ++ 44 ∷ 32 ∷ [] ++ i) ++ more ≡ w ++ (44 ∷ 32 ∷ (l ++ (44 ∷ 32 ∷ (t ++ (44 ∷ 32 ∷ (i ++ more))))))
+names_whole w l t i more = simp append_assoc refl
+
+names_length : (w l t i : List ℕ) → length (w ++ 44 ∷ 32 ∷ [] ++ l ++ 44 ∷ 32 ∷ [] ++ t ++ 44 ∷ 32 ∷ [] ++ i) ≡ length w + 2 + length l + 2 + length t + 2 + length i
+names_length w l t i = simp length-append refl
+
+-- the names of vtype's parts
+abbrev names_text : ℕ → ℕ → ℕ → ℕ → List ℕ
+names_text width multiplier tail inactive = vsew_text width ++ codes ", " ++ vlmul_text multiplier ++ codes ", " ++ vta_text tail ++ codes ", " ++ vma_text inactive
+
+named_parts : (end count width multiplier tail inactive p : ℕ) (more : List ℕ) → width < 4 → multiplier < 8 → eqb multiplier 4 ≡ false → tail < 2 → inactive < 2 → runs_on more ≡ false
+    → Takes (vtype end count) (names_text width multiplier tail inactive) (multiplier + width * 8 + tail * 64 + inactive * 128) p more
+named_parts end count width multiplier tail inactive p more lw lm lh lt li follows =
+    let others = 44 ∷ 32 ∷ (vlmul_text multiplier ++ (44 ∷ 32 ∷ (vta_text tail ++ (44 ∷ 32 ∷ (vma_text inactive ++ more))))) in
+    let m = vsew_again width lw in
+    let q = p + length (vsew_text width) in
+    let at : q + 2 + length (vlmul_text multiplier) + 2 + length (vta_text tail) + 2 + length (vma_text inactive) ≡ p + length (names_text width multiplier tail inactive) = omega (arith, names_length (vsew_text width) (vlmul_text multiplier) (vta_text tail) (vma_text inactive)) in
+    ap (λ (t : List ℕ). vtype end count (tokens p t)) (names_whole (vsew_text width) (vlmul_text multiplier) (vta_text tail) (vma_text inactive) more)
+    ∙ ap (vtype end count) (word p (vsew_text width) others m.run m.some refl)
+    ∙ ap (vtype_from end count (record { column = p; text = vsew_text width }) (tokens q others)) m.value
+    ∙ names_again end width multiplier tail inactive q more lm lh lt li follows
+    ∙ ap (λ (k : ℕ). Ok (multiplier + width * 8 + tail * 64 + inactive * 128, tokens k more)) at
+
+named_vtype : (end count v p : ℕ) (more : List ℕ) → v < 256 → eqb (v % 8) 4 ≡ false → v / 8 % 8 < 4 → runs_on more ≡ false
+    → Takes (vtype end count) (names_text (v / 8 % 8) (v % 8) (v / 64 % 2) (v / 128 % 2)) v p more
+named_vtype end count v p more small reserved wide follows =
+    let is : v % 8 + v / 8 % 8 * 8 + v / 64 % 2 * 64 + v / 128 % 2 * 128 ≡ v = omega arith in
+    subst (λ (x : ℕ). Takes (vtype end count) (names_text (v / 8 % 8) (v % 8) (v / 64 % 2) (v / 128 % 2)) x p more) is
+    (named_parts end count (v / 8 % 8) (v % 8) (v / 64 % 2) (v / 128 % 2) p more wide (omega arith) reserved (omega arith) (omega arith) follows)
+
+plain_vtype : (end count v p : ℕ) (more : List ℕ) → v < count → count ≤ 2 ^ 32 → runs_on more ≡ false → Takes (vtype end count) (decimal v) v p more
+plain_vtype end count v p more lt small follows =
+    let d = is_decimal v (omega arith) in
+    let ts = tokens (p + length (decimal v)) more in
+    ap (vtype end count) (word p (decimal v) more (all_run_dec (decimal v) d.digits) d.some follows)
+    ∙ ap (vtype_from end count (record { column = p; text = decimal v }) ts) (vsew_digits v (decimal v) d)
+    ∙ ap (λ o. accept p ts (at_most (count - 1) o)) (number_again v (decimal v) d)
+    ∙ ap (accept p ts) (at_most_again (count - 1) v (omega arith))
+
+not_false : (b : Bool) → not b ≡ true → b ≡ false
+not_false true h = absurd cc
+not_false false h = refl
+
+vtype_again : (end count v p : ℕ) (more : List ℕ) → v < count → count ≤ 2 ^ 32 → runs_on more ≡ false → Takes (vtype end count) (vtype_text v) v p more
+vtype_again end count v p more lt small follows =
+    let names = names_text (v / 8 % 8) (v % 8) (v / 64 % 2) (v / 128 % 2) in
+    elim (cases_Bool (has_names v)) [
+      | inl y ↦
+          let a = and_parts (ltb v 256) (not (eqb (v % 8) 4) && ltb (v / 8 % 8) 4) y in
+          let b = and_parts (not (eqb (v % 8) 4)) (ltb (v / 8 % 8) 4) a.1 in
+          subst (λ (t : List ℕ). Takes (vtype end count) t v p more) (sym (cond-true (has_names v) names (decimal v) y))
+          (named_vtype end count v p more (ltb-true v 256 a.0) (not_false (eqb (v % 8) 4) b.0) (ltb-true (v / 8 % 8) 4 b.1) follows)
+      | inr n ↦
+          subst (λ (t : List ℕ). Takes (vtype end count) t v p more) (sym (cond-false (has_names v) names (decimal v) n))
+          (plain_vtype end count v p more lt small follows)
+    ]
+
+-- ---- slots
+
+mask_again : (v p end : ℕ) → v < 2 → Takes (read end Mask) (printed Mask v) v p []
+unfolding tokens
+mask_again zero p end lt = refl
+mask_again (suc zero) p end lt = refl
+mask_again (suc (suc v)) p end lt = absurd (omega arith)
+
+limit_small : (u : UnsignedField) → limit u < 2 ^ 32
+limit_small unsigned.Immediate = lit< tt
+limit_small unsigned.Shift = lit< tt
+limit_small unsigned.ShiftWord = lit< tt
+limit_small unsigned.Upper = lit< tt
+
+number_means : (largest v : ℕ) → v ≤ largest → largest < 2 ^ 32 → Means (λ t. at_most largest (number t)) (decimal v) v
+number_means largest v le small =
+    let d = is_decimal v (omega arith) in
+    record { run = all_run_dec (decimal v) d.digits; some = d.some; value = ap (at_most largest) (number_again v (decimal v) d) ∙ at_most_again largest v le }
+
+register_means : (l v : ℕ) → in_run l ≡ true → v < 32 → Means (register l) (l ∷ decimal v) v
+register_means l v run lt =
+    let d = is_decimal v (omega arith) in
+    record { run = cond-true (in_run l) (all_run (decimal v)) false run ∙ all_run_dec (decimal v) d.digits; some = omega arith; value = register_again l v lt }
+
+word_means : (v : ℕ) → v < 2 ^ 32 → Means (λ t. at_most (2 ^ 32 - 1) (number t)) (48 ∷ 120 ∷ hex_digits 8 v) v
+unfolding hex_digits
+word_means v lt = record { run = hex_run 8 v; some = lit< tt; value = ap (at_most (2 ^ 32 - 1)) (hex_again v lt) ∙ at_most_again (2 ^ 32 - 1) v (omega arith) }
+
+zero_is : (v : ℕ) → v < 1 → 0 ≡ v
+zero_is v lt = omega arith
+
+-- what is printed for an operand is read as that operand
+pub slot_again : (s : Slot) (v p end : ℕ) (more : List ℕ) → v < room s → Follows s more → Takes (read end s) (printed s v) v p more
+unfolding tokens
+slot_again Comma v p end more fits follows = comma_again p end more ∙ ap (λ (x : ℕ). Ok (x, tokens (p + 2) more)) (zero_is v fits)
+slot_again Open v p end more fits follows = ap (λ (x : ℕ). Ok (x, tokens (p + 1) more)) (zero_is v fits)
+slot_again Close v p end more fits follows = ap (λ (x : ℕ). Ok (x, tokens (p + 1) more)) (zero_is v fits)
+slot_again V0 v p end more fits follows =
+    one_again p end 0 (literal (codes "v0")) (codes "v0") more (record { run = refl; some = lit< tt; value = refl }) follows ∙ ap (λ (x : ℕ). Ok (x, tokens (p + 2) more)) (zero_is v fits)
+slot_again (Scalar r) v p end more fits follows = one_again p end v (register 120) (120 ∷ decimal v) more (register_means 120 v refl fits) follows
+slot_again (Vector r) v p end more fits follows = one_again p end v (register 118) (118 ∷ decimal v) more (register_means 118 v refl fits) follows
+slot_again (Unsigned u) v p end more fits follows = one_again p end v (λ t. at_most (limit u) (number t)) (decimal v) more (number_means (limit u) v (omega arith) (limit_small u)) follows
+slot_again (Signed s) v p end more fits follows = signed_again s v p end more fits follows
+slot_again Csr v p end more fits follows = one_again p end v csr (csr_text v) more (csr_again v fits) follows
+slot_again VectorType v p end more fits follows = vtype_again end 2048 v p more fits (lit≤ tt) follows
+slot_again ShortVectorType v p end more fits follows = vtype_again end 1024 v p more fits (lit≤ tt) follows
+slot_again Mask v p end more fits follows =
+    subst (λ (m : List ℕ). Takes (read end Mask) (printed Mask v) v p m) (sym follows) (mask_again v p end fits)
+slot_again Word v p end more fits follows = one_again p end v (λ t. at_most (2 ^ 32 - 1) (number t)) (48 ∷ 120 ∷ hex_digits 8 v) more (word_means v fits) follows

@@ -1,0 +1,14 @@
+-- The bits that operands may fill
+use Rattle.std.specs.Prelude.{ℕ, ◌+◌, List, [], ◌∷◌}
+use Rattle.rv_model.specs.BitFields.{mask_of}
+use Rattle.rv_model.specs.AssemblerFields.{parts_of}
+use Rattle.rv_model.specs.declared.assembler.Slot.{Slot}
+
+-- ones at the places of a slot's operand
+abbrev pub span : Slot → ℕ
+span slot = mask_of 0 (parts_of slot 0)
+
+-- the sum of these over slots
+abbrev pub spans : List Slot → ℕ
+spans [] = 0
+spans (s ∷ ss) = span s + spans ss

@@ -1,0 +1,51 @@
+//! The word that a text spells, and the canonical text of a word.
+ghost use Rattle.std.specs.Prelude.{◌≡◌, ◌≤◌, ◌+◌, ◌*◌, ◌++◌, length, Ok, Err, IfOk, IfErr};
+ghost use Rattle.arrayvec.specs.ArrayString.{array_string_len};
+ghost use Rattle.rv_model.specs.AssemblerTable.{spelled, canonical, operands_text};
+ghost use Rattle.rv_model.specs.AssemblerNaming.{HasName, HasNoName, IsNamed, directive_text};
+
+use crate::fault::AsmFault;
+use crate::operands::{put_operands, read_operands};
+use crate::print::{Text, put_name};
+use crate::table::{row_at, row_named, row_of_word, slots_of};
+use crate::token::take;
+use rv_model::assembler::Slot;
+use rv_model::mnemonics::Mnemonic;
+
+/// The word that a text spells: the name of an instruction and its operands, or `.word` and a number.
+pub fn assemble(text: &[u8]) -> Result<u32, AsmFault>
+    ensures ok { IfOk result (λ word. spelled text.now ≡ Ok word) }
+    ensures err { IfErr result (λ fault. spelled text.now ≡ Err fault.column) }
+{
+    let (name, after) = take(text, 0)?;
+    let Some(row) = row_named(name.text) else {
+        return Err(name.misfit());
+    };
+    let Mnemonic(_, form, bits) = row_at(row);
+    read_operands(bits, slots_of(form), text, after)
+}
+
+fn put_operands_text(slots: &[Slot], word: u32, text: &mut Text)
+    requires { array_string_len text.old + 1 + 16 * length slots.now ≤ 160 }
+    ensures { text.new.bytes ≡ text.old.bytes ++ operands_text slots.now word }
+{
+    if !slots.is_empty() {
+        text.push(' ');
+        put_operands(slots, word, text);
+    }
+}
+
+/// Puts the canonical text of a word in place of what the text was.
+pub fn text_of(word: u32, text: &mut Text)
+    ensures text { text.new.bytes ≡ canonical word }
+    // Assembling the text gives the word again.
+    ensures again { spelled text.new.bytes ≡ Ok word }
+    // Every instruction has its name, but for fences other than `fence`; any other word is `.word` and 8 digits.
+    ensures named { HasName word → IsNamed word text.new.bytes }
+    ensures directive { HasNoName word → text.new.bytes ≡ directive_text word }
+{
+    text.clear();
+    let Mnemonic(name, form, _) = row_at(row_of_word(word));
+    put_name(&name, text);
+    put_operands_text(slots_of(form), word, text);
+}

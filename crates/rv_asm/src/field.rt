@@ -1,0 +1,188 @@
+//! Where a slot's operand stands in the word.
+ghost use Rattle.std.specs.Prelude.{◌≡◌, ◌≤◌, ◌<◌, ◌^◌, ◌+◌, ◌*◌, ◌%◌};
+ghost use Rattle.rv_model.specs.BitFields.{field};
+ghost use Rattle.rv_model.specs.AssemblerSlots.{room};
+ghost use Rattle.rv_model.specs.AssemblerFields.{lowest, placed, value_of};
+ghost use Rattle.rv_model.specs.Immediates.{store_immediate, branch_offset, jump_offset};
+ghost use Rattle.rv_asm.specs.Spans.{span};
+
+use rv_model::assembler::{Place, SignedField, Slot, UnsignedField};
+
+fn field(low: u32, len: u32, word: u32) -> u32
+    requires { low < 32 × len < 32 }
+    ensures value { result ≡ field low len word }
+    ensures small { result < 2 ^ len }
+{
+    (word >> low) % (1 << len)
+}
+
+fn shifted(low: u32, value: u32) -> u32
+    requires { low < 32 × value * 2 ^ low < 2 ^ 32 }
+    ensures { result ≡ value * 2 ^ low }
+{
+    value << low
+}
+
+fn lowest(place: Place) -> u32
+    ensures value { result ≡ lowest place }
+    ensures small { result ≤ 20 }
+{
+    match place {
+        Place::Rd => 7,
+        Place::Rs1 => 15,
+        Place::Rs2 => 20,
+    }
+}
+
+fn register_bits(place: Place, value: u32) -> u32
+    ensures value { result ≡ value % 2 ^ 5 * 2 ^ lowest place }
+    ensures small { result ≤ 31 * 2 ^ lowest place }
+{
+    match place {
+        Place::Rd => shifted(7, value % 32),
+        Place::Rs1 => shifted(15, value % 32),
+        Place::Rs2 => shifted(20, value % 32),
+    }
+}
+
+fn unsigned_bits(field: UnsignedField, value: u32) -> u32
+    ensures value { result ≡ placed (Slot.Unsigned field) value }
+    ensures small { result ≤ span (Slot.Unsigned field) }
+{
+    match field {
+        UnsignedField::Immediate => shifted(15, value % 32),
+        UnsignedField::Shift => shifted(20, value % 64),
+        UnsignedField::ShiftWord => shifted(20, value % 32),
+        UnsignedField::Upper => shifted(12, value % 0x10_0000),
+    }
+}
+
+fn store_bits(offset: u32) -> u32
+    ensures value { result ≡ placed (Slot.Signed SignedField.Store) offset }
+    ensures small { result ≤ span (Slot.Signed SignedField.Store) }
+{
+    shifted(25, offset / 32 % 128) + shifted(7, offset % 32)
+}
+
+fn branch_bits(offset: u32) -> u32
+    ensures value { result ≡ placed (Slot.Signed SignedField.Branch) offset }
+    ensures small { result ≤ span (Slot.Signed SignedField.Branch) }
+{
+    shifted(31, offset / 2048 % 2)
+        + shifted(25, offset / 16 % 64)
+        + shifted(8, offset % 16)
+        + shifted(7, offset / 1024 % 2)
+}
+
+fn jump_bits(offset: u32) -> u32
+    ensures value { result ≡ placed (Slot.Signed SignedField.Jump) offset }
+    ensures small { result ≤ span (Slot.Signed SignedField.Jump) }
+{
+    shifted(31, offset / 0x8_0000 % 2)
+        + shifted(21, offset % 1024)
+        + shifted(20, offset / 1024 % 2)
+        + shifted(12, offset / 2048 % 256)
+}
+
+fn signed_bits(field: SignedField, value: u32) -> u32
+    ensures value { result ≡ placed (Slot.Signed field) value }
+    ensures small { result ≤ span (Slot.Signed field) }
+{
+    match field {
+        SignedField::Vector => shifted(15, value % 32),
+        SignedField::Immediate => shifted(20, value % 4096),
+        SignedField::Store => store_bits(value),
+        SignedField::Branch => branch_bits(value),
+        SignedField::Jump => jump_bits(value),
+    }
+}
+
+/// The bits that an operand adds to a word.
+pub fn placed(slot: &Slot, value: u32) -> u32
+    ensures value { result ≡ placed slot.now value }
+    ensures small { result ≤ span slot.now }
+{
+    match slot {
+        Slot::Comma | Slot::Open | Slot::Close | Slot::V0 => 0,
+        Slot::Scalar(place) => register_bits(*place, value),
+        Slot::Vector(place) => register_bits(*place, value),
+        Slot::Unsigned(field) => unsigned_bits(*field, value),
+        Slot::Signed(field) => signed_bits(*field, value),
+        Slot::Csr => shifted(20, value % 4096),
+        Slot::VectorType => shifted(20, value % 2048),
+        Slot::ShortVectorType => shifted(20, value % 1024),
+        Slot::Mask => shifted(25, value % 2),
+        Slot::Word => value,
+    }
+}
+
+fn unsigned_value(unsigned: UnsignedField, word: u32) -> u32
+    ensures value { result ≡ value_of (Slot.Unsigned unsigned) word }
+    ensures small { result < room (Slot.Unsigned unsigned) }
+{
+    match unsigned {
+        UnsignedField::Immediate => field(15, 5, word),
+        UnsignedField::Shift => field(20, 6, word),
+        UnsignedField::ShiftWord => field(20, 5, word),
+        UnsignedField::Upper => field(12, 20, word),
+    }
+}
+
+fn store_immediate(word: u32) -> u32
+    ensures value { result ≡ store_immediate word }
+    ensures small { result < 2 ^ 12 }
+{
+    field(7, 5, word) + field(25, 7, word) * 32
+}
+
+fn branch_offset(word: u32) -> u32
+    ensures value { result ≡ branch_offset word }
+    ensures small { result < 2 ^ 12 }
+{
+    field(8, 4, word)
+        + field(25, 6, word) * 16
+        + field(7, 1, word) * 1024
+        + field(31, 1, word) * 2048
+}
+
+fn jump_offset(word: u32) -> u32
+    ensures value { result ≡ jump_offset word }
+    ensures small { result < 2 ^ 20 }
+{
+    field(21, 10, word)
+        + field(20, 1, word) * 1024
+        + field(12, 8, word) * 2048
+        + field(31, 1, word) * 0x8_0000
+}
+
+fn signed_value(signed: SignedField, word: u32) -> u32
+    ensures value { result ≡ value_of (Slot.Signed signed) word }
+    ensures small { result < room (Slot.Signed signed) }
+{
+    match signed {
+        SignedField::Vector => field(15, 5, word),
+        SignedField::Immediate => field(20, 12, word),
+        SignedField::Store => store_immediate(word),
+        SignedField::Branch => branch_offset(word),
+        SignedField::Jump => jump_offset(word),
+    }
+}
+
+/// The operand that a word has in a slot.
+pub fn value_of(slot: &Slot, word: u32) -> u32
+    ensures value { result ≡ value_of slot.now word }
+    ensures small { result < room slot.now }
+{
+    match slot {
+        Slot::Comma | Slot::Open | Slot::Close | Slot::V0 => 0,
+        Slot::Scalar(place) => field(lowest(*place), 5, word),
+        Slot::Vector(place) => field(lowest(*place), 5, word),
+        Slot::Unsigned(unsigned) => unsigned_value(*unsigned, word),
+        Slot::Signed(signed) => signed_value(*signed, word),
+        Slot::Csr => field(20, 12, word),
+        Slot::VectorType => field(20, 11, word),
+        Slot::ShortVectorType => field(20, 10, word),
+        Slot::Mask => field(25, 1, word),
+        Slot::Word => word,
+    }
+}

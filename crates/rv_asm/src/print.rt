@@ -1,0 +1,201 @@
+//! The one text of each operand.
+ghost use Rattle.std.specs.Prelude.{◌≡◌, ◌≤◌, ◌<◌, ◌^◌, ◌+◌, ◌-◌, ◌*◌, ◌++◌, ◌↔◌, ℕ, IsTrue, true, length, decimal, slice_index};
+ghost use Rattle.arrayvec.specs.ArrayString.{array_string_len};
+ghost use Rattle.rv_model.specs.AssemblerNumbers.{hex_digit, hex_digits, csr_text, vsew_text, vlmul_text, vta_text, vma_text};
+ghost use Rattle.rv_model.specs.AssemblerSlots.{has_names, vtype_text, signed_text, printed, room};
+ghost use Rattle.rv_model.specs.AssemblerTable.{unpadded};
+
+use crate::read::{half, step};
+use arrayvec::ArrayString;
+use itoa::Buffer;
+use rv_model::assembler::Slot;
+
+/// Room for the text of any word.
+pub type Text = ArrayString<160>;
+
+fn put_decimal(n: u32, out: &mut Text)
+    requires { array_string_len out.old + 10 ≤ 160 }
+    ensures bytes { out.new.bytes ≡ out.old.bytes ++ decimal n }
+    ensures grows { array_string_len out.new ≤ array_string_len out.old + 10 }
+{
+    let mut buffer = Buffer::new();
+    out.push_str(buffer.format(n));
+}
+
+fn put_signed(step: u32, half: u32, value: u32, out: &mut Text)
+    requires room { array_string_len out.old + 16 ≤ 160 }
+    requires step { step ≤ 2 }
+    requires half { half < 2 ^ 30 }
+    requires fits { value < 2 * half }
+    ensures bytes { out.new.bytes ≡ out.old.bytes ++ signed_text step half value }
+    ensures grows { array_string_len out.new ≤ array_string_len out.old + 16 }
+{
+    if value < half {
+        put_decimal(step * value, out);
+    } else {
+        out.push_str("-");
+        put_decimal(step * (2 * half - value), out);
+    }
+}
+
+fn hex_digit(digit: u32) -> char
+    requires { digit < 16 }
+    ensures value { result ≡ hex_digit digit }
+    ensures ascii { result < 128 }
+{
+    if digit < 10 {
+        char::from(b'0' + digit as u8)
+    } else {
+        char::from(b'a' + (digit - 10) as u8)
+    }
+}
+
+#[tactic(auto, unfolding(rv_model::specs::AssemblerNumbers::hex_digits))]
+fn put_hex_digits(count: usize, value: u32, out: &mut Text)
+    requires { array_string_len out.old + count ≤ 160 }
+    ensures bytes { out.new.bytes ≡ out.old.bytes ++ hex_digits count value }
+    ensures grows { array_string_len out.new ≡ array_string_len out.old + count }
+{
+    if count > 0 {
+        put_hex_digits(count - 1, value / 16, out);
+        out.push(hex_digit(value % 16));
+    }
+}
+
+#[tactic(auto, unfolding(rv_model::specs::AssemblerNumbers::csr_text))]
+fn put_csr(csr: u32, out: &mut Text)
+    requires { array_string_len out.old + 16 ≤ 160 }
+    ensures bytes { out.new.bytes ≡ out.old.bytes ++ csr_text csr }
+    ensures grows { array_string_len out.new ≤ array_string_len out.old + 16 }
+{
+    match csr {
+        0x008 => out.push_str("vstart"),
+        0x009 => out.push_str("vxsat"),
+        0x00a => out.push_str("vxrm"),
+        0x00f => out.push_str("vcsr"),
+        0xc20 => out.push_str("vl"),
+        0xc21 => out.push_str("vtype"),
+        0xc22 => out.push_str("vlenb"),
+        _ => put_decimal(csr, out),
+    }
+}
+
+#[tactic(auto, unfolding(rv_model::specs::AssemblerNumbers::vsew_text))]
+fn vsew_name(vsew: u32) -> &'static str
+    ensures name { result.now ≡ vsew_text vsew }
+    ensures short { length result.now ≤ 3 }
+{
+    match vsew {
+        0 => "e8",
+        1 => "e16",
+        2 => "e32",
+        _ => "e64",
+    }
+}
+
+#[tactic(auto, unfolding(rv_model::specs::AssemblerNumbers::vlmul_text))]
+fn vlmul_name(vlmul: u32) -> &'static str
+    ensures name { result.now ≡ vlmul_text vlmul }
+    ensures short { length result.now ≤ 3 }
+{
+    match vlmul {
+        0 => "m1",
+        1 => "m2",
+        2 => "m4",
+        3 => "m8",
+        5 => "mf8",
+        6 => "mf4",
+        _ => "mf2",
+    }
+}
+
+#[tactic(auto, unfolding(rv_model::specs::AssemblerNumbers::vta_text))]
+fn vta_name(vta: u32) -> &'static str
+    ensures name { result.now ≡ vta_text vta }
+    ensures short { length result.now ≤ 2 }
+{
+    if vta == 1 { "ta" } else { "tu" }
+}
+
+#[tactic(auto, unfolding(rv_model::specs::AssemblerNumbers::vma_text))]
+fn vma_name(vma: u32) -> &'static str
+    ensures name { result.now ≡ vma_text vma }
+    ensures short { length result.now ≤ 2 }
+{
+    if vma == 1 { "ma" } else { "mu" }
+}
+
+fn has_names(vtype: u32) -> bool
+    ensures { result ≡ has_names vtype }
+{
+    vtype < 256 && vtype % 8 != 4 && vtype / 8 % 8 < 4
+}
+
+fn put_vtype(vtype: u32, out: &mut Text)
+    requires { array_string_len out.old + 16 ≤ 160 }
+    ensures bytes { out.new.bytes ≡ out.old.bytes ++ vtype_text vtype }
+    ensures grows { array_string_len out.new ≤ array_string_len out.old + 16 }
+{
+    if has_names(vtype) {
+        out.push_str(vsew_name(vtype / 8 % 8));
+        out.push_str(", ");
+        out.push_str(vlmul_name(vtype % 8));
+        out.push_str(", ");
+        out.push_str(vta_name(vtype / 64 % 2));
+        out.push_str(", ");
+        out.push_str(vma_name(vtype / 128 % 2));
+    } else {
+        put_decimal(vtype, out);
+    }
+}
+
+/// Appends the text of an operand.
+pub fn put_slot(slot: &Slot, value: u32, out: &mut Text)
+    requires room { array_string_len out.old + 16 ≤ 160 }
+    requires fits { value < room slot.now }
+    ensures bytes { out.new.bytes ≡ out.old.bytes ++ printed slot.now value }
+    ensures grows { array_string_len out.new ≤ array_string_len out.old + 16 }
+{
+    match slot {
+        Slot::Comma => out.push_str(", "),
+        Slot::Open => out.push_str("("),
+        Slot::Close => out.push_str(")"),
+        Slot::V0 => out.push_str("v0"),
+        Slot::Scalar(_) => {
+            out.push_str("x");
+            put_decimal(value, out);
+        }
+        Slot::Vector(_) => {
+            out.push_str("v");
+            put_decimal(value, out);
+        }
+        Slot::Unsigned(_) => put_decimal(value, out),
+        Slot::Signed(field) => put_signed(step(*field), half(*field), value, out),
+        Slot::Csr => put_csr(value, out),
+        Slot::VectorType | Slot::ShortVectorType => put_vtype(value, out),
+        Slot::Mask => {
+            if value == 0 {
+                out.push_str(", v0.t");
+            }
+        }
+        Slot::Word => {
+            out.push_str("0x");
+            put_hex_digits(8, value, out);
+        }
+    }
+}
+
+/// Appends a name, without the spaces behind it.
+pub fn put_name(name: &[u8; 16], out: &mut Text)
+    requires room { array_string_len out.old + 16 ≤ 160 }
+    requires ascii { (k : ℕ) → k < 16 → slice_index name.now k < 128 }
+    ensures bytes { out.new.bytes ≡ out.old.bytes ++ unpadded name.now }
+    ensures grows { array_string_len out.new ≤ array_string_len out.old + 16 }
+{
+    for byte in name {
+        if *byte == b' ' {
+            break;
+        }
+        out.push(char::from(*byte));
+    }
+}

@@ -1,0 +1,173 @@
+//! What each slot takes from the tokens.
+ghost use Rattle.std.specs.Prelude.{◌≡◌, ◌≤◌, ◌<◌, ◌^◌, ◌+◌, ◌*◌, length};
+ghost use Rattle.rv_model.specs.AssemblerNumbers.{literal, register, number, at_most, in_steps, negated, csr};
+ghost use Rattle.rv_model.specs.AssemblerSlots.{one, limit, half, step, steps, signed_number, mask, read};
+ghost use Rattle.rv_asm.specs.Places.{rest, Reads};
+
+use crate::fault::AsmFault;
+use crate::name::csr;
+use crate::number::{number_up_to, register};
+use crate::token::{next_token, take};
+use crate::vector_type::vtype_at;
+use rv_model::assembler::{SignedField, Slot, UnsignedField};
+
+/// This very token.
+pub fn literal(word: &[u8], text: &[u8], at: usize) -> Result<(u32, usize), AsmFault>
+    requires { at ≤ length text.now }
+    ensures { Reads text.now result (one (length text.now + 1) (literal word.now) (rest text.now at)) }
+{
+    let (token, after) = take(text, at)?;
+    if token.text == word {
+        Ok((0, after))
+    } else {
+        Err(token.misfit())
+    }
+}
+
+fn register_at(letter: u8, text: &[u8], at: usize) -> Result<(u32, usize), AsmFault>
+    requires { at ≤ length text.now }
+    ensures { Reads text.now result (one (length text.now + 1) (register letter) (rest text.now at)) }
+{
+    let (token, after) = take(text, at)?;
+    match register(letter, token.text) {
+        Some(value) => Ok((value, after)),
+        None => Err(token.misfit()),
+    }
+}
+
+fn csr_at(text: &[u8], at: usize) -> Result<(u32, usize), AsmFault>
+    requires { at ≤ length text.now }
+    ensures { Reads text.now result (one (length text.now + 1) csr (rest text.now at)) }
+{
+    let (token, after) = take(text, at)?;
+    match csr(token.text) {
+        Some(value) => Ok((value, after)),
+        None => Err(token.misfit()),
+    }
+}
+
+fn unsigned_at(limit: u32, text: &[u8], at: usize) -> Result<(u32, usize), AsmFault>
+    requires { at ≤ length text.now }
+    ensures { Reads text.now result (one (length text.now + 1) (λ t. at_most limit (number t)) (rest text.now at)) }
+{
+    let (token, after) = take(text, at)?;
+    match number_up_to(limit, token.text) {
+        Some(value) => Ok((value, after)),
+        None => Err(token.misfit()),
+    }
+}
+
+fn in_steps(step: u32, limit: u32, text: &[u8]) -> Option<u32>
+    requires { 1 ≤ step }
+    ensures { result ≡ in_steps step (at_most limit (number text.now)) }
+{
+    let value = number_up_to(limit, text)?;
+    if value % step == 0 {
+        Some(value / step)
+    } else {
+        None
+    }
+}
+
+fn negative(step: u32, half: u32, text: &[u8]) -> Option<u32>
+    requires step { 1 ≤ step × step ≤ 2 }
+    requires half { half < 2 ^ 30 }
+    ensures { result ≡ negated half (steps step half text.now) }
+{
+    let magnitude = in_steps(step, step * half, text)?;
+    if magnitude == 0 {
+        Some(0)
+    } else {
+        Some(2 * half - magnitude)
+    }
+}
+
+fn signed_at(step: u32, half: u32, text: &[u8], at: usize) -> Result<(u32, usize), AsmFault>
+    requires inside { at ≤ length text.now }
+    requires step { 1 ≤ step × step ≤ 2 }
+    requires half { 1 ≤ half × half < 2 ^ 30 }
+    ensures { Reads text.now result (signed_number (length text.now + 1) step half (rest text.now at)) }
+{
+    let (token, after) = take(text, at)?;
+    if token.text == b"-".as_slice() {
+        let (digits, after) = take(text, after)?;
+        return match negative(step, half, digits.text) {
+            Some(value) => Ok((value, after)),
+            None => Err(digits.misfit()),
+        };
+    }
+    match in_steps(step, step * half - 1, token.text) {
+        Some(value) => Ok((value, after)),
+        None => Err(token.misfit()),
+    }
+}
+
+#[tactic(auto, using(crate::proofs::Tokens::takes_none))]
+fn mask_at(text: &[u8], at: usize) -> Result<(u32, usize), AsmFault>
+    requires { at ≤ length text.now }
+    ensures { Reads text.now result (mask (length text.now + 1) (rest text.now at)) }
+{
+    let Some((token, after)) = next_token(text, at) else {
+        return Ok((1, text.len()));
+    };
+    if token.text != b",".as_slice() {
+        return Err(token.misfit());
+    }
+    literal(b"v0.t", text, after)
+}
+
+/// The largest number of an unsigned field.
+fn limit(field: UnsignedField) -> u32
+    ensures { result ≡ limit field }
+{
+    match field {
+        UnsignedField::Immediate | UnsignedField::ShiftWord => 31,
+        UnsignedField::Shift => 63,
+        UnsignedField::Upper => 1_048_575,
+    }
+}
+
+/// How many values of a signed field are below 0.
+pub fn half(field: SignedField) -> u32
+    ensures value { result ≡ half field }
+    ensures range { 1 ≤ result × result < 2 ^ 30 }
+{
+    match field {
+        SignedField::Vector => 16,
+        SignedField::Immediate | SignedField::Store | SignedField::Branch => 2048,
+        SignedField::Jump => 524_288,
+    }
+}
+
+/// The number that one stands for in a signed field.
+pub fn step(field: SignedField) -> u32
+    ensures value { result ≡ step field }
+    ensures range { 1 ≤ result × result ≤ 2 }
+{
+    match field {
+        SignedField::Branch | SignedField::Jump => 2,
+        SignedField::Vector | SignedField::Immediate | SignedField::Store => 1,
+    }
+}
+
+/// The value that a slot takes from the tokens at an index, and the index after them.
+pub fn read_slot(slot: &Slot, text: &[u8], at: usize) -> Result<(u32, usize), AsmFault>
+    requires { at ≤ length text.now }
+    ensures { Reads text.now result (read (length text.now + 1) slot.now (rest text.now at)) }
+{
+    match slot {
+        Slot::Comma => literal(b",", text, at),
+        Slot::Open => literal(b"(", text, at),
+        Slot::Close => literal(b")", text, at),
+        Slot::V0 => literal(b"v0", text, at),
+        Slot::Scalar(_) => register_at(b'x', text, at),
+        Slot::Vector(_) => register_at(b'v', text, at),
+        Slot::Unsigned(field) => unsigned_at(limit(*field), text, at),
+        Slot::Signed(field) => signed_at(step(*field), half(*field), text, at),
+        Slot::Csr => csr_at(text, at),
+        Slot::VectorType => vtype_at(2048, text, at),
+        Slot::ShortVectorType => vtype_at(1024, text, at),
+        Slot::Mask => mask_at(text, at),
+        Slot::Word => unsigned_at(0xffff_ffff, text, at),
+    }
+}

@@ -1,0 +1,78 @@
+//! vtype as a text has it: the names of its parts, or a number.
+ghost use Rattle.std.specs.Prelude.{◌≡◌, ◌≤◌, ◌<◌, ◌-◌, ◌+◌, length, IfOk};
+ghost use Rattle.rv_model.specs.AssemblerNumbers.{literal, vlmul, vta, vma};
+ghost use Rattle.rv_model.specs.AssemblerSlots.{one, vtype_names, vtype};
+ghost use Rattle.rv_asm.specs.Places.{rest, Reads};
+
+use crate::fault::AsmFault;
+use crate::name::{vlmul, vma, vsew, vta};
+use crate::number::number_up_to;
+use crate::read::literal;
+use crate::token::take;
+
+fn vlmul_at(text: &[u8], at: usize) -> Result<(u32, usize), AsmFault>
+    requires { at ≤ length text.now }
+    ensures read { Reads text.now result (one (length text.now + 1) vlmul (rest text.now at)) }
+    ensures small { IfOk result (λ x. x.0 < 8) }
+{
+    let (token, after) = take(text, at)?;
+    match vlmul(token.text) {
+        Some(value) => Ok((value, after)),
+        None => Err(token.misfit()),
+    }
+}
+
+fn vta_at(text: &[u8], at: usize) -> Result<(u32, usize), AsmFault>
+    requires { at ≤ length text.now }
+    ensures read { Reads text.now result (one (length text.now + 1) vta (rest text.now at)) }
+    ensures small { IfOk result (λ x. x.0 < 2) }
+{
+    let (token, after) = take(text, at)?;
+    match vta(token.text) {
+        Some(value) => Ok((value, after)),
+        None => Err(token.misfit()),
+    }
+}
+
+fn vma_at(text: &[u8], at: usize) -> Result<(u32, usize), AsmFault>
+    requires { at ≤ length text.now }
+    ensures read { Reads text.now result (one (length text.now + 1) vma (rest text.now at)) }
+    ensures small { IfOk result (λ x. x.0 < 2) }
+{
+    let (token, after) = take(text, at)?;
+    match vma(token.text) {
+        Some(value) => Ok((value, after)),
+        None => Err(token.misfit()),
+    }
+}
+
+#[tactic(auto, unfolding(rv_model::specs::AssemblerSlots::vtype_names))]
+fn names_behind(vsew: u32, text: &[u8], at: usize) -> Result<(u32, usize), AsmFault>
+    requires inside { at ≤ length text.now }
+    requires small { vsew < 4 }
+    ensures { Reads text.now result (vtype_names (length text.now + 1) vsew (rest text.now at)) }
+{
+    let (_, at) = literal(b",", text, at)?;
+    let (vlmul, at) = vlmul_at(text, at)?;
+    let (_, at) = literal(b",", text, at)?;
+    let (vta, at) = vta_at(text, at)?;
+    let (_, at) = literal(b",", text, at)?;
+    let (vma, at) = vma_at(text, at)?;
+    Ok((vlmul + vsew * 8 + vta * 64 + vma * 128, at))
+}
+
+/// vtype by the names of its parts where the first token is an element width, else as a number below `count`.
+pub fn vtype_at(count: u32, text: &[u8], at: usize) -> Result<(u32, usize), AsmFault>
+    requires inside { at ≤ length text.now }
+    requires some { 1 ≤ count }
+    ensures { Reads text.now result (vtype (length text.now + 1) count (rest text.now at)) }
+{
+    let (token, after) = take(text, at)?;
+    if let Some(width) = vsew(token.text) {
+        return names_behind(width, text, after);
+    }
+    match number_up_to(count - 1, token.text) {
+        Some(value) => Ok((value, after)),
+        None => Err(token.misfit()),
+    }
+}
