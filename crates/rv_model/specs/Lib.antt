@@ -13,6 +13,9 @@ pub mod ControlTransfer
 pub mod Examples
 pub mod FixedBits
 pub mod Hart
+pub mod ElfFaults
+pub mod ElfFields
+pub mod Image
 pub mod Immediates
 pub mod InstructionEffects
 pub mod InstructionLayout

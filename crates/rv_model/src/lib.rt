@@ -4,6 +4,7 @@
 pub mod assembler;
 mod command;
 mod control_register;
+mod elf;
 mod instruction;
 mod laws;
 mod memory;
@@ -24,6 +25,7 @@ mod vector_type;
 
 pub use command::{ByteString, Cmd, Refusal};
 pub use control_register::ControlRegister;
+pub use elf::{ElfFault, ProgramHeader};
 pub use instruction::Instr;
 pub use laws::{each_user_alone, registers_that_stay, small_scripts_print};
 pub use memory::{Access, Fault, MapRefusal, Permissions, memory_laws};

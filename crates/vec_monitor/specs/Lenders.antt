@@ -1,10 +1,10 @@
 -- Laws of the memories of all users that the lender of one user's bytes keeps.
-use Rattle.std.specs.Prelude.{ℕ, zero, suc, ◌+◌, ◌-◌, ◌≡◌, ◌≤◌, ◌<◌, Bool, true, false, ◌&&◌, List, [], ◌∷◌, length, slice_set, Option, None, refl}
-use Rattle.std.specs.FinMap.{get, empty, get-empty}
+use Rattle.std.specs.Prelude.{ℕ, suc, ◌+◌, ◌-◌, ◌≡◌, ◌<◌, Bool, true, false, ◌&&◌, List, [], ◌∷◌, length, Option}
+use Rattle.std.specs.FinMap.{empty, get-empty}
 use Rattle.std.specs.List.{list_all, range_with_len}
 use Rattle.std.specs.Option.{option_map_or}
 use Rattle.std.specs.Ordering.{nat_cmp}
-use Rattle.std.proofs.Common.{◌∙◌, sym, ap, arith, get_or, get_or-set_same, inl, inr}
+use Rattle.std.proofs.Common.{◌∙◌, sym, ap, get_or-set_same, inl, inr}
 use Rattle.std.proofs.Math.ListN.{get_or-eq_default}
 use Rattle.std.proofs.lemmas.Bool.{cases_lt}
 use Rattle.std.proofs.lemmas.List.{set-set, set-get_or}
@@ -43,6 +43,6 @@ outside memories user addr access (b ∷ bs) none allowed =
 -- a user's memory after a write that was allowed
 pub memory_written : (memories : List Memory) (user addr : ℕ) (access : Access) (bytes : List ℕ) → can_access access (memory_of_user memories user) addr (length bytes) ≡ true → memory_of_user (with_memory memories user (put_bytes (memory_of_user memories user) addr bytes)) user ≡ put_bytes (memory_of_user memories user) addr bytes
 memory_written memories user addr access bytes allowed = elim (cases_lt (user - 1) (length memories)) [
-    inl within ↦ memory_there memories user (put_bytes (memory_of_user memories user) addr bytes) within
+  | inl within ↦ memory_there memories user (put_bytes (memory_of_user memories user) addr bytes) within
   | inr past ↦ outside memories user addr access bytes (get_or-eq_default memories empty past) allowed
-  ]
+]

@@ -1,6 +1,7 @@
 pub mod Addressees
 pub mod CommandOutcomes
 pub mod Device
+pub mod EndedLines
 pub mod Feed
 pub mod Images
 pub mod Lenders

@@ -1,5 +1,5 @@
 -- What the grammar of commands says of their arguments.
-use Rattle.std.specs.Prelude.{ℕ, ◌+◌, ◌*◌, ◌^◌, ◌≤◌}
+use Rattle.std.specs.Prelude.{◌+◌, ◌*◌, ◌^◌, ◌≤◌}
 use Rattle.rv_model.specs.declared.command.Cmd.{Cmd}
 use Rattle.rv_model.specs.declared.command.Cmd.TheVariants.{Map, Peek}
 

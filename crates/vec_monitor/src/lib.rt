@@ -26,6 +26,8 @@ pub use device::{DeviceFault, Sink, Source};
 pub use image::Image;
 pub use machine::Machine;
 pub use new_fault::NewFault;
-pub use program::{STATUS_DONE, STATUS_NO_MEMORY, STATUS_OUTPUT, STATUS_SCRIPT, STATUS_USAGE, vecmon};
+pub use program::{
+    STATUS_DONE, STATUS_NO_MEMORY, STATUS_OUTPUT, STATUS_SCRIPT, STATUS_USAGE, vecmon,
+};
 pub use script::{RunFault, run};
 pub use streams::{ReaderSource, WriterSink};

@@ -35,8 +35,9 @@ impl<'a, A: Allocator> Model for Machine<'a, A> {
     ghost coded = { Prim.hlevel (codes, coded_memory) };
 
     ghost view = { λ m. record {
-        setup = record { quantum = m.quantum; images = named_images m.images.now };
-        world = m.users } };
+      setup = record { quantum = m.quantum; images = named_images m.images.now };
+      world = m.users;
+    } };
 }
 
 impl<'a, A: Allocator> Machine<'a, A> {
@@ -46,8 +47,9 @@ impl<'a, A: Allocator> Machine<'a, A> {
     where
         A: Clone,
         ensures new { IfOk result (λ machine. machine ≡ record {
-            setup = record { quantum = quantum; images = named_images images.now };
-            world = new_world }) }
+          setup = record { quantum = quantum; images = named_images images.now };
+          world = new_world;
+        }) }
         ensures faultless { IsOk result → new_fault (record { quantum = quantum; images = named_images images.now }) ≡ None }
         ensures fault { IfSome (new_fault (record { quantum = quantum; images = named_images images.now })) (λ fault. IsErrOf result fault) }
         ensures memory { new_fault (record { quantum = quantum; images = named_images images.now }) ≡ None → IsOkUnless result NewFault.NoMemory }

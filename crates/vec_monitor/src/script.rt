@@ -1,8 +1,10 @@
 //! A whole script.
-ghost use Rattle.std.specs.Prelude.{◌≡◌, ℕ, ◌<◌, ◌≤◌, ◌++◌, [], List, Err, length, OnOk};
+ghost use Rattle.std.specs.Prelude.{◌≡◌, ℕ, ◌<◌, ◌≤◌, ◌++◌, [], ◌∷◌, List, Err, length, take, OnOk};
 ghost use Rattle.rv_model.specs.PrivateMachine.{solo, solo_from};
-ghost use Rattle.rv_model.specs.Script.{whole_from, after_script, lines, part, own, own_from, new_world};
+ghost use Rattle.rv_model.specs.Script.{after, after_all, told, told_all, whole_from, after_script, lines, part, own, own_from, new_world};
+ghost use Rattle.rv_model.specs.Text.{pieces};
 ghost use Rattle.vec_monitor.specs.Device.{Rose};
+ghost use Rattle.vec_monitor.specs.EndedLines.{ended_lines};
 
 use crate::device::{Sink, Source};
 use crate::feed::{serve, take_bytes};
@@ -31,7 +33,11 @@ pub const MAX_SCRIPT: usize = 16_777_216;
 
 /// Runs a script from the source to its end, and writes each line's answer to the sink before it
 /// reads on. The machine may be used again, also after a fault.
-pub fn run<A: Allocator, S: Source, K: Sink>(machine: &mut Machine<'_, A>, source: &mut S, sink: &mut K) -> Result<(), RunFault>
+pub fn run<A: Allocator, S: Source, K: Sink>(
+    machine: &mut Machine<'_, A>,
+    source: &mut S,
+    sink: &mut K,
+) -> Result<(), RunFault>
     ensures end { S.tells source.old → OnOk result (S.rest source.new ≡ []) }
     ensures unfailed_source { OnOk result (S.failures source.new ≡ S.failures source.old) }
     ensures unfailed_sink { OnOk result (K.failures sink.new ≡ K.failures sink.old) }
@@ -48,11 +54,34 @@ pub fn run<A: Allocator, S: Source, K: Sink>(machine: &mut Machine<'_, A>, sourc
     ensures used_headline { S.tells source.old → K.tells sink.old → OnOk result (
         (output : List ℕ) → K.held sink.new ≡ K.held sink.old ++ output → (u : ℕ) → 1 ≤ u → u ≤ 8 →
         lines u output ≡ solo_from machine.old.setup (part u machine.old.world)
-            (own_from machine.old.setup u machine.old.world (S.rest source.old))) }
+        (own_from machine.old.setup u machine.old.world (S.rest source.old))) }
     ensures read { result ≡ Err RunFault.Read → Rose (S.failures source.old) (S.failures source.new) }
     ensures write { result ≡ Err RunFault.Write → Rose (K.failures sink.old) (K.failures sink.new) }
     ensures too_long { S.tells source.old → result ≡ Err RunFault.TooLong → 16777216 < length (S.rest source.old) }
+    // After a failed read, the lines whose end was read have been carried out and answered, and no other.
+    ensures after_read { S.tells source.old → result ≡ Err RunFault.Read → (text : List ℕ) × (
+        (S.rest source.old ≡ text ++ S.rest source.new)
+        × (machine.new.world ≡ after_all machine.old.setup machine.old.world (ended_lines text))
+        × (K.tells sink.old → K.held sink.new
+        ≡ K.held sink.old ++ told_all machine.old.setup machine.old.world (ended_lines text))) }
+    // After too long a script, the lines that end in its first 16,777,216 bytes.
+    ensures after_too_long { S.tells source.old → result ≡ Err RunFault.TooLong →
+        machine.new.world ≡ after_all machine.old.setup machine.old.world
+        (ended_lines (take 16777216 (S.rest source.old))) }
+    ensures output_after_too_long { S.tells source.old → K.tells sink.old → result ≡ Err RunFault.TooLong →
+        K.held sink.new ≡ K.held sink.old ++ told_all machine.old.setup machine.old.world
+        (ended_lines (take 16777216 (S.rest source.old))) }
+    // After a failed write, the lines before some line have been carried out and answered whole; that
+    // line has been carried out, and a front of its answer has been written.
+    ensures after_write { S.tells source.old → result ≡ Err RunFault.Write →
+        (before : List (List ℕ)) × ((line : List ℕ) × ((more : List (List ℕ)) × (
+        (pieces (S.rest source.old) ≡ before ++ line ∷ more)
+        × (machine.new.world ≡ after machine.old.setup (after_all machine.old.setup machine.old.world before) line)
+        × (K.tells sink.old → (n : ℕ) × (K.held sink.new
+        ≡ (K.held sink.old ++ told_all machine.old.setup machine.old.world before)
+        ++ take n (told machine.old.setup (after_all machine.old.setup machine.old.world before) line)))))) }
 {
+    // The headline rests on there being eight users.
     let _ = machine.users();
     let mut left = MAX_SCRIPT;
     let mut line = Line::new();

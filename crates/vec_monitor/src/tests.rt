@@ -32,18 +32,22 @@ fn first_run(rt: HostRuntime) -> Result<(), Fail> {
 
 #[test]
 fn each_refusal(rt: HostRuntime) -> Result<(), Fail> {
-    let script = b"9 enter\n1\n1 \n* list\n1 regs\n1 enter\n1 enter\n1 map 0 257 r\n1 map 0 255 r\n1 map 0 1 r\n1 map 0 2 r\n1 poke feffff 00";
+    let script =
+        b"9 enter\n1\n1 \n* list\n1 regs\n1 enter\n1 enter\n1 map 0 257 r\n1 map 0 255 r\n1 map 0 1 r\n1 map 0 2 r\n1 poke feffff 00";
     let output = output_of(rt.alloc(), script)?;
-    let wanted = b"* E01\n* E01\n1 E03\n* E03\n1 E05\n1 entered\n1 E06\n1 E04\n1 ok\n1 E16\n1 E10\n1 E11\n";
+    let wanted =
+        b"* E01\n* E01\n1 E03\n* E03\n1 E05\n1 entered\n1 E06\n1 E04\n1 ok\n1 E16\n1 E10\n1 E11\n";
     assert_eq!(rt; output.as_slice(), wanted.as_slice());
     Ok(())
 }
 
 #[test]
 fn users_apart(rt: HostRuntime) -> Result<(), Fail> {
-    let script = b"1 enter\n1 map 0 1 rwx\n1 poke 0 130570009308d00573000000\n2 step 1\n2 enter\n2 map 0 1 rwx\n2 step 1\n1 step 3\n";
+    let script =
+        b"1 enter\n1 map 0 1 rwx\n1 poke 0 130570009308d00573000000\n2 step 1\n2 enter\n2 map 0 1 rwx\n2 step 1\n1 step 3\n";
     let output = output_of(rt.alloc(), script)?;
-    let wanted = b"1 entered\n1 ok\n1 ok\n2 E05\n2 entered\n2 ok\n2 fault cause=2 pc=0000000000000000 value=0000000000000000\n1 exit 7 pc=0000000000000008\n";
+    let wanted =
+        b"1 entered\n1 ok\n1 ok\n2 E05\n2 entered\n2 ok\n2 fault cause=2 pc=0000000000000000 value=0000000000000000\n1 exit 7 pc=0000000000000008\n";
     assert_eq!(rt; output.as_slice(), wanted.as_slice());
     Ok(())
 }
@@ -81,10 +85,30 @@ fn new_machines(rt: HostRuntime) -> Result<(), Fail> {
     assert!(rt; Machine::new(rt.alloc(), 100, &[]).is_ok());
     assert!(rt; matches!(Machine::new(rt.alloc(), 0, &[]), Err(NewFault::Quantum)));
     assert!(rt; matches!(Machine::new(rt.alloc(), 1001, &[]), Err(NewFault::Quantum)));
-    assert!(rt; matches!(Machine::new(rt.alloc(), 100, &[image; 17]), Err(NewFault::ImageCount)));
-    assert!(rt; matches!(Machine::new(rt.alloc(), 100, &[image; 2]), Err(NewFault::ImageName)));
-    assert!(rt; matches!(Machine::new(rt.alloc(), 100, &spaced), Err(NewFault::ImageName)));
-    assert!(rt; matches!(Machine::new(rt.alloc(), 100, &too_large), Err(NewFault::ImageSize)));
+    assert!(rt;
+        matches!(
+            Machine::new(rt.alloc(), 100, &[image; 17]),
+            Err(NewFault::ImageCount)
+        )
+    );
+    assert!(rt;
+        matches!(
+            Machine::new(rt.alloc(), 100, &[image; 2]),
+            Err(NewFault::ImageName)
+        )
+    );
+    assert!(rt;
+        matches!(
+            Machine::new(rt.alloc(), 100, &spaced),
+            Err(NewFault::ImageName)
+        )
+    );
+    assert!(rt;
+        matches!(
+            Machine::new(rt.alloc(), 100, &too_large),
+            Err(NewFault::ImageSize)
+        )
+    );
     Ok(())
 }
 
@@ -158,7 +182,12 @@ fn source_without_end(rt: HostRuntime) -> Result<(), Fail> {
     let mut output = Vec::new(rt.alloc());
     let mut source = Endless;
     let mut sink = WriterSink::new(&mut output);
-    assert!(rt; matches!(run(&mut machine, &mut source, &mut sink), Err(RunFault::TooLong)));
+    assert!(rt;
+        matches!(
+            run(&mut machine, &mut source, &mut sink),
+            Err(RunFault::TooLong)
+        )
+    );
     Ok(())
 }
 
@@ -169,7 +198,12 @@ fn source_that_fails(rt: HostRuntime) -> Result<(), Fail> {
     let mut sink = OneByte {
         taken: ArrayVec::new(),
     };
-    assert!(rt; matches!(run(&mut machine, &mut source, &mut sink), Err(RunFault::Read)));
+    assert!(rt;
+        matches!(
+            run(&mut machine, &mut source, &mut sink),
+            Err(RunFault::Read)
+        )
+    );
     assert_eq!(rt; sink.taken.as_slice(), b"1 E03\n".as_slice());
     Ok(())
 }
@@ -181,7 +215,12 @@ fn sink_that_fails(rt: HostRuntime) -> Result<(), Fail> {
     let mut sink = OneByte {
         taken: ArrayVec::new(),
     };
-    assert!(rt; matches!(run(&mut machine, &mut source, &mut sink), Err(RunFault::Write)));
+    assert!(rt;
+        matches!(
+            run(&mut machine, &mut source, &mut sink),
+            Err(RunFault::Write)
+        )
+    );
     assert_eq!(rt; sink.taken.as_slice(), b"1 E03\n1 ".as_slice());
     Ok(())
 }

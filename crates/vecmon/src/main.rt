@@ -1,9 +1,8 @@
 //! Runs a script from standard input on a machine for eight users.
 #![tactic(auto)]
 
-use std::env;
-use std::io;
 use std::process::ExitCode;
+use std::{env, io};
 use vec_monitor::{STATUS_NO_MEMORY, vecmon};
 
 fn main(rt: HostRuntime) -> ExitCode {

@@ -1,4 +1,4 @@
-use Rattle.std.proofs.Common.{rules, ◌≡◌, ℕ, ◌≤◌, ◌++◌, [], ◌∷◌, List, length, sym, ◌∙◌, ap, true, false, eqb, arith}
+use Rattle.std.proofs.Common.{◌≡◌, ℕ, ◌≤◌, List, length, ◌∙◌, ap, true, false, eqb}
 use Rattle.vec_monitor.specs.Feed.{longer}
 use Rattle.vec_monitor.proofs.LineBuffer.{longer_full, longer_room}
 use Rattle.vec_monitor.proofs.line.Line.push.Goals as goal

@@ -1,5 +1,5 @@
-use Rattle.std.proofs.Common.{◌≡◌, ◌+◌, ap, ◌∙◌, sym, Ok}
-use Rattle.rv_model.specs.Commands.{Parsed, parse}
+use Rattle.std.proofs.Common.{◌+◌, ap, ◌∙◌, sym, Ok}
+use Rattle.rv_model.specs.Commands.{Parsed}
 use Rattle.rv_model.specs.PrivateMachine.{Private, commanded}
 use Rattle.rv_model.specs.Script.{World, part, with_part}
 use Rattle.rv_model.specs.Text.{text}

@@ -1,0 +1,262 @@
+-- How the memory of an image grows page by page and is filled segment by segment
+use Rattle.std.proofs.Common.{◌≡◌, ◌≢◌, ℕ, zero, suc, ◌+◌, ◌-◌, ◌*◌, ◌/◌, ◌<◌, ◌≤◌, min, Bool, true, false, cond, List, [], ◌∷◌, ◌++◌, length, get_or, reverse, Option, Some, None, refl, sym, ◌∙◌, ap, ◌⊎◌, inl, inr, arith}
+use Rattle.std.specs.Prelude.{find, is_some, nat_lt, ◌&&◌, if◌then◌else◌}
+use Rattle.std.specs.FinMap.{empty, get, contains_key, get-empty}
+use Rattle.std.specs.Ordering.{nat_cmp}
+use Rattle.std.specs.Option.{option_map_or}
+use Rattle.std.proofs.lemmas.List.{reverse-append}
+use Rattle.std.proofs.lemmas.Bool.{cases_eq, cases_lt}
+use Rattle.rv_model.specs.declared.elf.ProgramHeader.{ProgramHeader}
+use Rattle.rv_model.specs.declared.memory.Permissions.{Permissions}
+use Rattle.rv_model.specs.declared.memory.Access.TheVariants.{Monitor}
+use Rattle.rv_model.specs.Memory.{Cell, Memory, with_pages, page_count, map_refusal, put_bytes, permits, is_allowed}
+use Rattle.rv_model.specs.ElfFields.{header_count, program_header}
+use Rattle.rv_model.specs.Image.{stack, covers, byte_in, placed, is_touched, permissions_of, byte_of, cell_of, all_pages, memory_of_image}
+use Rattle.rv_model.proofs.MemoryLaws.{same_memory, get-add_cells_within, get-add_cells_outside, any_page_mapped_none, map_refusal_none, with_byte, get-put_bytes_within, get-put_bytes_outside}
+use Rattle.elf_load.specs.Headers.{first_headers}
+use Rattle.elf_load.specs.Pages.{IsFirst, pages_below, first_placed}
+use Rattle.elf_load.specs.Placing.{cells_with, memory_with, blank_memory, memory_after}
+use Rattle.elf_load.proofs.HeaderLaws.{first_headers_more}
+use Rattle.elf_load.proofs.PageLaws.{first_placed_all, pages_below_next, pages_below_le}
+use Rattle.elf_load.proofs.ImageLaws.{get-memory_below, get-memory_below_outside, is_memory_below, len-memory_below_pages, page_count-image}
+
+-- ---- cells and memories with them
+
+cell_in : List ℕ → (ℕ → ℕ) → ℕ → Bool → Option Cell
+cell_in image bytes x b = if b then Some (record { byte = bytes x; permissions = permissions_of (placed image) (x / 4096) }) else None
+
+cells_with-is : (image : List ℕ) (bytes : ℕ → ℕ) (end x : ℕ) (b : Bool) → (nat_lt (x / 4096) end && is_touched (placed image) (x / 4096)) ≡ b → cells_with image bytes end x ≡ cell_in image bytes x b
+unfolding cells_with cell_in
+cells_with-is image bytes end x b e = ap (λ (b : Bool). cell_in image bytes x b) e
+
+past_end : (end x : ℕ) (t : Bool) → end ≤ x / 4096 → (nat_lt (x / 4096) end && t) ≡ false
+past_end end x t l = grind (arith, l)
+
+before_end : (end x : ℕ) (t : Bool) → x / 4096 < end → (nat_lt (x / 4096) end && t) ≡ t
+before_end end x t l = grind (arith, l)
+
+none_there : (end x : ℕ) (t : Bool) → t ≡ false → (nat_lt (x / 4096) end && t) ≡ false
+none_there end x t e = grind (arith, e)
+
+get-memory_with : (image : List ℕ) (bytes : ℕ → ℕ) (end x : ℕ) → end ≤ all_pages → get (memory_with image bytes end) x ≡ cells_with image bytes end x
+unfolding memory_with cell_in
+get-memory_with image bytes end x l = elim (cases_lt x (4096 * all_pages)) [
+  | inl within ↦ get-memory_below (cells_with image bytes end) (4096 * all_pages) x within
+  | inr outside ↦
+      get-memory_below_outside (cells_with image bytes end) (4096 * all_pages) x outside
+      ∙ sym (cells_with-is image bytes end x false (past_end end x (is_touched (placed image) (x / 4096)) (omega arith)))
+]
+
+-- a memory that holds these cells is that one
+is_memory_with : (m : Memory) (image : List ℕ) (bytes : ℕ → ℕ) (end : ℕ) → end ≤ all_pages → ((x : ℕ) → get m x ≡ cells_with image bytes end x) → m ≡ memory_with image bytes end
+is_memory_with m image bytes end l h = same_memory m (memory_with image bytes end) (λ x. h x ∙ sym (get-memory_with image bytes end x l))
+
+-- ---- page by page
+
+pub blank_none : (image : List ℕ) → empty ≡ blank_memory image 0
+unfolding cell_in
+blank_none image = is_memory_with empty image (λ _. 0) 0 (omega arith) (λ x.
+    get-empty nat_cmp x ∙ sym (cells_with-is image (λ _. 0) 0 x false (past_end 0 x (is_touched (placed image) (x / 4096)) (omega arith))))
+
+-- no page is left
+pub blank_all : (image : List ℕ) (from : ℕ) → from ≤ all_pages → ((q : ℕ) → from ≤ q → is_touched (placed image) q ≡ false) → blank_memory image from ≡ blank_memory image all_pages
+unfolding cell_in
+blank_all image from l none = is_memory_with (blank_memory image from) image (λ _. 0) all_pages (omega arith) (λ x.
+    get-memory_with image (λ _. 0) from x l ∙ elim (cases_lt (x / 4096) from) [
+      | inl low ↦
+          cells_with-is image (λ _. 0) from x (is_touched (placed image) (x / 4096)) (before_end from x (is_touched (placed image) (x / 4096)) low)
+          ∙ sym (cells_with-is image (λ _. 0) all_pages x (is_touched (placed image) (x / 4096)) (before_end all_pages x (is_touched (placed image) (x / 4096)) (omega arith)))
+      | inr high ↦
+          cells_with-is image (λ _. 0) from x false (past_end from x (is_touched (placed image) (x / 4096)) high)
+          ∙ sym (cells_with-is image (λ _. 0) all_pages x false (none_there all_pages x (is_touched (placed image) (x / 4096)) (none (x / 4096) high)))
+    ])
+
+get-with_page_same : (m : Memory) (page : ℕ) (permissions : Permissions) (x : ℕ) → x / 4096 ≡ page → get (with_pages m page 1 permissions) x ≡ Some (record { byte = 0; permissions = permissions })
+unfolding with_pages
+get-with_page_same m page permissions x e =
+    get-add_cells_within m (4096 * page) (4096 * 1) (λ _. record { byte = 0; permissions = permissions }) (x - 4096 * page) x (omega arith) (omega arith)
+
+get-with_page_other : (m : Memory) (page : ℕ) (permissions : Permissions) (x : ℕ) → x / 4096 ≢ page → get (with_pages m page 1 permissions) x ≡ get m x
+unfolding with_pages
+get-with_page_other m page permissions x e =
+    get-add_cells_outside m (4096 * page) (4096 * 1) (λ _. record { byte = 0; permissions = permissions }) x
+    (elim (cases_lt x (4096 * page)) [ inl low ↦ inl low | inr high ↦ inr (omega arith) ])
+
+-- one more page
+pub blank_more : (image : List ℕ) (from page : ℕ) → page < all_pages → IsFirst (is_touched (placed image)) from page
+    → with_pages (blank_memory image from) page 1 (permissions_of (placed image) page) ≡ blank_memory image (page + 1)
+unfolding cell_in
+blank_more image from page l first =
+    is_memory_with (with_pages (blank_memory image from) page 1 (permissions_of (placed image) page)) image (λ _. 0) (page + 1) (omega arith) (λ x. elim (cases_eq (x / 4096) page) [
+      | inl same ↦
+          get-with_page_same (blank_memory image from) page (permissions_of (placed image) page) x same
+          ∙ ap (λ (p : ℕ). Some (record { byte = 0; permissions = permissions_of (placed image) p })) (sym same)
+          ∙ sym (cells_with-is image (λ _. 0) (page + 1) x true (before_end (page + 1) x (is_touched (placed image) (x / 4096)) (omega arith) ∙ ap (is_touched (placed image)) same ∙ first.passes))
+      | inr other ↦
+          get-with_page_other (blank_memory image from) page (permissions_of (placed image) page) x other
+          ∙ get-memory_with image (λ _. 0) from x (let s = first.start in omega arith)
+          ∙ elim (cases_lt (x / 4096) from) [
+            | inl low ↦
+                cells_with-is image (λ _. 0) from x (is_touched (placed image) (x / 4096)) (before_end from x (is_touched (placed image) (x / 4096)) low)
+                ∙ sym (cells_with-is image (λ _. 0) (page + 1) x (is_touched (placed image) (x / 4096)) (before_end (page + 1) x (is_touched (placed image) (x / 4096)) (let s = first.start in omega arith)))
+            | inr high ↦
+                cells_with-is image (λ _. 0) from x false (past_end from x (is_touched (placed image) (x / 4096)) high)
+                ∙ sym (cells_with-is image (λ _. 0) (page + 1) x false (elim (cases_lt (x / 4096) page) [
+                  | inl between ↦ none_there (page + 1) x (is_touched (placed image) (x / 4096)) (first.skipped (x / 4096) high between)
+                  | inr above ↦ past_end (page + 1) x (is_touched (placed image) (x / 4096)) (omega arith)
+                ]))
+          ]
+    ])
+
+-- ---- no page is refused
+
+below_end : ℕ → (ℕ → Bool) → ℕ → Bool
+below_end end t p = nat_lt p end && t p
+
+cut_at_end : (t : ℕ → Bool) (end n : ℕ) → pages_below (below_end end t) n ≡ pages_below t (min n end)
+unfolding pages_below below_end
+cut_at_end t end zero = let none : 0 ≡ min 0 end = omega arith in ap (pages_below t) none
+cut_at_end t end (suc n) = elim (cases_lt n end) [
+  | inl low ↦
+      let same : min n end ≡ n = omega arith in
+      let here : suc n ≡ min (suc n) end = omega arith in
+      ap (λ (b : Bool). pages_below (below_end end t) n + cond b 1 0) (within low)
+      ∙ ap (λ (a : ℕ). a + cond (t n) 1 0) (cut_at_end t end n ∙ ap (pages_below t) same)
+      ∙ ap (pages_below t) here
+  | inr high ↦
+      ap (λ (b : Bool). pages_below (below_end end t) n + cond b 1 0) (beyond high)
+      ∙ omega (arith, cut_at_end t end n, ap (pages_below t) (let same : min n end ≡ min (suc n) end = omega arith in same))
+]
+  where
+    within : n < end → (nat_lt n end && t n) ≡ t n
+    within l = grind (arith, l)
+
+    beyond : end ≤ n → (nat_lt n end && t n) ≡ false
+    beyond l = grind (arith, l)
+
+is_some-cell : (image : List ℕ) (bytes : ℕ → ℕ) (x : ℕ) (b : Bool) → is_some (cell_in image bytes x b) ≡ b
+unfolding cell_in
+is_some-cell image bytes x true = refl
+is_some-cell image bytes x false = refl
+
+page_count-blank : (image : List ℕ) (end : ℕ) → end ≤ all_pages → page_count (blank_memory image end) ≡ pages_below (is_touched (placed image)) end
+unfolding memory_with page_count below_end
+page_count-blank image end l =
+    let size = len-memory_below_pages (cells_with image (λ _. 0) end) (below_end end (is_touched (placed image)))
+    (λ x. ap is_some (cells_with-is image (λ _. 0) end x _ refl) ∙ is_some-cell image (λ _. 0) x _) all_pages in
+    let cut = cut_at_end (is_touched (placed image)) end all_pages in
+    let least : min all_pages end ≡ end = omega arith in
+    omega (arith, size, cut, ap (pages_below (is_touched (placed image))) least)
+
+not_there : (image : List ℕ) (from page : ℕ) → page < all_pages → from ≤ page → contains_key (blank_memory image from) (4096 * page) ≡ false
+unfolding cell_in
+not_there image from page l m =
+    ap is_some (get-memory_with image (λ _. 0) from (4096 * page) (omega arith)
+    ∙ cells_with-is image (λ _. 0) from (4096 * page) false (past_end from (4096 * page) (is_touched (placed image) ((4096 * page) / 4096)) (omega arith)))
+
+pub blank_accepted : (image : List ℕ) (from page : ℕ) → page < all_pages → IsFirst (is_touched (placed image)) from page → page_count (memory_of_image image) ≤ 256
+    → map_refusal (blank_memory image from) page 1 ≡ None
+blank_accepted image from page l first few =
+    let room : page_count (blank_memory image from) + 1 ≤ 256 = (
+    let s = first.start in
+    let so_far = page_count-blank image from (omega arith) in
+    let next = pages_below_next (is_touched (placed image)) from page first in
+    let total = page_count-image image in
+    let le = pages_below_le (is_touched (placed image)) (page + 1) all_pages (omega arith) in
+    omega arith) in
+    map_refusal_none (blank_memory image from) page 1 room
+    (any_page_mapped_none (blank_memory image from) page 1 (λ k small.
+    let place : page + k ≡ page = omega arith in
+    ap (λ (p : ℕ). contains_key (blank_memory image from) (4096 * p)) place ∙ not_there image from page l first.start))
+
+-- ---- segment by segment
+
+pub first_placed_more : (image : List ℕ) (number : ℕ) → first_placed image (number + 1) ≡ first_placed image number ++ program_header image number ∷ []
+unfolding first_placed
+first_placed_more image number = ap (λ (hs : List ProgramHeader). stack ∷ hs) (first_headers_more image number)
+
+byte_of_more : (image : List ℕ) (headers : List ProgramHeader) (header : ProgramHeader) (x : ℕ)
+    → byte_of image (headers ++ header ∷ []) x ≡ cond (covers x header) (byte_in image x header) (byte_of image headers x)
+unfolding byte_of
+byte_of_more image headers header x =
+    ap (λ (hs : List ProgramHeader). option_map_or (byte_in image x) (find (covers x) hs) 0) (reverse-append headers (header ∷ []))
+    ∙ split (covers x header) (find (covers x) (reverse headers))
+  where
+    split : (b : Bool) (rest : Option ProgramHeader) → option_map_or (byte_in image x) (cond b (Some header) rest) 0 ≡ cond b (byte_in image x header) (option_map_or (byte_in image x) rest 0)
+    split true rest = refl
+    split false rest = refl
+
+pub byte_after : (image : List ℕ) (number x : ℕ)
+    → byte_of image (first_placed image (number + 1)) x ≡ cond (covers x (program_header image number)) (byte_in image x (program_header image number)) (byte_of image (first_placed image number) x)
+byte_after image number x =
+    ap (λ (hs : List ProgramHeader). byte_of image hs x) (first_placed_more image number) ∙ byte_of_more image (first_placed image number) (program_header image number) x
+
+-- the stack alone has zeros
+byte_in_stack : (image : List ℕ) (x : ℕ) → byte_of image (first_placed image 0) x ≡ 0
+unfolding first_placed first_headers byte_of byte_in stack
+byte_in_stack image x = split (covers x stack)
+  where
+    split : (b : Bool) → option_map_or (byte_in image x) (cond b (Some stack) None) 0 ≡ 0
+    split true = grind arith
+    split false = refl
+
+-- bytes that are the same everywhere
+pub same_bytes : (image : List ℕ) (bytes other : ℕ → ℕ) → ((x : ℕ) → bytes x ≡ other x) → memory_with image bytes all_pages ≡ memory_with image other all_pages
+unfolding cell_in
+same_bytes image bytes other same = is_memory_with (memory_with image bytes all_pages) image other all_pages (omega arith) (λ x.
+    get-memory_with image bytes all_pages x (omega arith)
+    ∙ cells_with-is image bytes all_pages x _ refl
+    ∙ ap (λ (n : ℕ). if (nat_lt (x / 4096) all_pages && is_touched (placed image) (x / 4096)) then Some (record { byte = n; permissions = permissions_of (placed image) (x / 4096) }) else None) (same x)
+    ∙ sym (cells_with-is image other all_pages x _ refl))
+
+pub memory_after_none : (image : List ℕ) → blank_memory image all_pages ≡ memory_after image 0
+unfolding memory_after
+memory_after_none image = same_bytes image (λ _. 0) (byte_of image (first_placed image 0)) (λ x. sym (byte_in_stack image x))
+
+pub memory_after_all : (image : List ℕ) (number : ℕ) → number ≡ header_count image → memory_after image number ≡ memory_of_image image
+unfolding memory_after memory_of_image cell_of cell_in
+memory_after_all image number e =
+    is_memory_below (memory_after image number) (cell_of image) (4096 * all_pages)
+    (λ x l. get-memory_with image (byte_of image (first_placed image number)) all_pages x (omega arith)
+    ∙ cells_with-is image (byte_of image (first_placed image number)) all_pages x (is_touched (placed image) (x / 4096)) (before_end all_pages x (is_touched (placed image) (x / 4096)) (omega arith))
+    ∙ ap (λ (hs : List ProgramHeader). cell_in image (byte_of image hs) x (is_touched (placed image) (x / 4096))) (first_placed_all image number e))
+    (λ x g. get-memory_with image (byte_of image (first_placed image number)) all_pages x (omega arith)
+    ∙ cells_with-is image (byte_of image (first_placed image number)) all_pages x false (past_end all_pages x (is_touched (placed image) (x / 4096)) (omega arith)))
+
+-- bytes written
+pub put_with : (image : List ℕ) (bytes other : ℕ → ℕ) (a : ℕ) (bs : List ℕ) → ((k : ℕ) → k < length bs → other (a + k) ≡ get_or bs k 0)
+    → ((x : ℕ) → ((x < a) ⊎ (a + length bs ≤ x)) → other x ≡ bytes x) → put_bytes (memory_with image bytes all_pages) a bs ≡ memory_with image other all_pages
+unfolding cell_in
+put_with image bytes other a bs inside outside = is_memory_with (put_bytes (memory_with image bytes all_pages) a bs) image other all_pages (omega arith) (λ x. elim (cases_lt x a) [
+  | inl low ↦ kept x (inl low)
+  | inr from ↦ elim (cases_lt x (a + length bs)) [
+    | inl within ↦
+        let place : x ≡ a + (x - a) = omega arith in
+        let value : other x ≡ get_or bs (x - a) 0 = ap other place ∙ inside (x - a) (omega arith) in
+        get-put_bytes_within (memory_with image bytes all_pages) a bs (x - a) x (omega arith) place
+        ∙ ap (with_byte (get_or bs (x - a) 0)) (get-memory_with image bytes all_pages x (omega arith) ∙ cells_with-is image bytes all_pages x _ refl)
+        ∙ replaced x (get_or bs (x - a) 0) (nat_lt (x / 4096) all_pages && is_touched (placed image) (x / 4096)) value
+        ∙ sym (cells_with-is image other all_pages x _ refl)
+    | inr past ↦ kept x (inr past)
+  ]
+])
+  where
+    kept : (x : ℕ) → ((x < a) ⊎ (a + length bs ≤ x)) → get (put_bytes (memory_with image bytes all_pages) a bs) x ≡ cells_with image other all_pages x
+    kept x h =
+        get-put_bytes_outside (memory_with image bytes all_pages) a bs x h
+        ∙ get-memory_with image bytes all_pages x (omega arith)
+        ∙ cells_with-is image bytes all_pages x _ refl
+        ∙ ap (λ (n : ℕ). if (nat_lt (x / 4096) all_pages && is_touched (placed image) (x / 4096)) then Some (record { byte = n; permissions = permissions_of (placed image) (x / 4096) }) else None) (sym (outside x h))
+        ∙ sym (cells_with-is image other all_pages x _ refl)
+
+    replaced : (x n : ℕ) (b : Bool) → other x ≡ n → with_byte n (cell_in image bytes x b) ≡ cell_in image other x b
+    replaced x n true e = ap (λ (v : ℕ). Some (record { byte = v; permissions = permissions_of (placed image) (x / 4096) })) (sym e)
+    replaced x n false e = refl
+
+-- a mapped byte may be written
+pub allowed_with : (image : List ℕ) (bytes : ℕ → ℕ) (x : ℕ) → x < 4096 * all_pages → is_touched (placed image) (x / 4096) ≡ true → is_allowed Monitor (memory_with image bytes all_pages) x ≡ true
+unfolding is_allowed cell_in
+allowed_with image bytes x l touched =
+    ap (λ (o : Option Cell). option_map_or (λ c. permits Monitor c.permissions) o false)
+    (get-memory_with image bytes all_pages x (omega arith)
+    ∙ cells_with-is image bytes all_pages x true (before_end all_pages x (is_touched (placed image) (x / 4096)) (omega arith) ∙ touched))

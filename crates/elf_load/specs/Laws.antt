@@ -1,0 +1,14 @@
+-- What the definitions of an image's memory say in other words.
+use Rattle.std.specs.Prelude.{◌≡◌, ◌↔◌, ℕ, ◌/◌, List, None, true}
+use Rattle.std.specs.FinMap.{get}
+use Rattle.rv_model.specs.declared.elf.ProgramHeader.{ProgramHeader}
+use Rattle.rv_model.specs.ElfFaults.{first_fault}
+use Rattle.rv_model.specs.Image.{covers, touches, cell_of, memory_of_image}
+
+-- the memory of an image with no fault holds at each address the cell that the image describes there, or none
+abbrev pub HoldsItsCells : Type 0
+HoldsItsCells = (image : List ℕ) → first_fault image ≡ None → (x : ℕ) → get (memory_of_image image) x ≡ cell_of image x
+
+-- a segment touches a page where it covers one of the page's addresses
+abbrev pub TouchesWhatItCovers : Type 0
+TouchesWhatItCovers = (header : ProgramHeader) (page : ℕ) → (touches page header ≡ true) ↔ ((x : ℕ) × ((x / 4096 ≡ page) × (covers x header ≡ true)))

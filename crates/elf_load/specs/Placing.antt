@@ -1,0 +1,24 @@
+-- The memory of an image while it is placed: first its pages with zeros, then the bytes of one segment after the other
+use Rattle.std.specs.Prelude.{ℕ, ◌*◌, ◌/◌, ◌&&◌, nat_lt, List, Option, Some, None, if◌then◌else◌}
+use Rattle.rv_model.specs.Memory.{Cell, Memory}
+use Rattle.rv_model.specs.Image.{placed, is_touched, permissions_of, byte_of, memory_below, all_pages}
+use Rattle.elf_load.specs.Pages.{first_placed}
+
+-- the cells of an image's pages below a page, with bytes given by address
+unfoldable pub cells_with : List ℕ → (ℕ → ℕ) → ℕ → ℕ → Option Cell
+cells_with image bytes end x =
+    if nat_lt (x / 4096) end && is_touched (placed image) (x / 4096)
+    then Some (record { byte = bytes x; permissions = permissions_of (placed image) (x / 4096) })
+    else None
+
+-- the memory of these cells
+unfoldable pub memory_with : List ℕ → (ℕ → ℕ) → ℕ → Memory
+memory_with image bytes end = memory_below (cells_with image bytes end) (4096 * all_pages)
+
+-- zeros in those of an image's pages that are below a page
+abbrev pub blank_memory : List ℕ → ℕ → Memory
+blank_memory image end = memory_with image (λ _. 0) end
+
+-- the memory with the stack and the segments before a number
+unfoldable pub memory_after : List ℕ → ℕ → Memory
+memory_after image number = memory_with image (byte_of image (first_placed image number)) all_pages

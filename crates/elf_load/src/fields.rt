@@ -1,0 +1,103 @@
+//! The fields of an image's headers.
+ghost use Rattle.std.specs.Prelude.{◌≡◌, ◌+◌, ◌*◌, ◌≤◌, length};
+ghost use Rattle.rv_model.specs.ElfFields.{field, entry_of, type_of, machine_of, table_offset, header_size, header_count, header_at, program_header};
+
+use byteorder::{ByteOrder, LittleEndian};
+use rv_model::ProgramHeader;
+
+#[tactic(auto, unfolding(rv_model::specs::ElfFields::field))]
+fn number16(image: &[u8], offset: usize) -> u16
+    requires { offset + 2 ≤ length image.now }
+    ensures { result ≡ field offset 2 image.now }
+{
+    LittleEndian::read_u16(&image[offset..])
+}
+
+#[tactic(auto, unfolding(rv_model::specs::ElfFields::field))]
+fn number32(image: &[u8], offset: usize) -> u32
+    requires { offset + 4 ≤ length image.now }
+    ensures { result ≡ field offset 4 image.now }
+{
+    LittleEndian::read_u32(&image[offset..])
+}
+
+#[tactic(auto, unfolding(rv_model::specs::ElfFields::field))]
+fn number64(image: &[u8], offset: usize) -> u64
+    requires { offset + 8 ≤ length image.now }
+    ensures { result ≡ field offset 8 image.now }
+{
+    LittleEndian::read_u64(&image[offset..])
+}
+
+// `e_type`.
+pub fn file_type(image: &[u8]) -> u16
+    requires { 64 ≤ length image.now }
+    ensures { result ≡ type_of image.now }
+{
+    number16(image, 16)
+}
+
+// `e_machine`.
+pub fn machine(image: &[u8]) -> u16
+    requires { 64 ≤ length image.now }
+    ensures { result ≡ machine_of image.now }
+{
+    number16(image, 18)
+}
+
+// `e_entry`.
+pub fn entry(image: &[u8]) -> u64
+    requires { 64 ≤ length image.now }
+    ensures { result ≡ entry_of image.now }
+{
+    number64(image, 24)
+}
+
+// `e_phoff`.
+pub fn table_offset(image: &[u8]) -> u64
+    requires { 64 ≤ length image.now }
+    ensures { result ≡ table_offset image.now }
+{
+    number64(image, 32)
+}
+
+// `e_phentsize`.
+pub fn header_size(image: &[u8]) -> u16
+    requires { 64 ≤ length image.now }
+    ensures { result ≡ header_size image.now }
+{
+    number16(image, 54)
+}
+
+// `e_phnum`.
+pub fn header_count(image: &[u8]) -> u16
+    requires { 64 ≤ length image.now }
+    ensures { result ≡ header_count image.now }
+{
+    number16(image, 56)
+}
+
+#[tactic(auto, unfolding(rv_model::specs::ElfFields::header_at))]
+fn header_at(image: &[u8], offset: usize) -> ProgramHeader
+    requires { offset + 56 ≤ length image.now }
+    ensures { result ≡ header_at offset image.now }
+{
+    ProgramHeader {
+        kind: number32(image, offset),
+        flags: number32(image, offset + 4),
+        offset: number64(image, offset + 8),
+        address: number64(image, offset + 16),
+        file_size: number64(image, offset + 32),
+        memory_size: number64(image, offset + 40),
+    }
+}
+
+// The program header of a number, from 0.
+#[tactic(auto, unfolding(rv_model::specs::ElfFields::program_header))]
+pub fn program_header(image: &[u8], number: usize) -> ProgramHeader
+    requires file { 64 ≤ length image.now }
+    requires table { table_offset image.now + 56 * (number + 1) ≤ length image.now }
+    ensures { result ≡ program_header image.now number }
+{
+    header_at(image, table_offset(image) as usize + 56 * number)
+}

@@ -1,0 +1,67 @@
+//! The pages that an image touches, one after the other.
+ghost use Rattle.std.specs.Prelude.{◌≡◌, ℕ, ◌+◌, ◌<◌, ◌≤◌, ◌^◌, None, IfSome};
+ghost use Rattle.rv_model.specs.ElfFaults.{first_fault};
+ghost use Rattle.rv_model.specs.Image.{stack, placed, touches, is_touched};
+ghost use Rattle.elf_load.specs.Pages.{IsFirstIfAny, EndsInMemory, earlier};
+
+use crate::faults::LOAD;
+use crate::fields::{header_count, program_header};
+use rv_model::ProgramHeader;
+
+pub const PAGE_SIZE: u64 = 4096;
+
+// The stack as a segment.
+#[tactic(auto, unfolding(rv_model::specs::Image::stack))]
+pub fn stack() -> ProgramHeader
+    ensures { result ≡ stack }
+{
+    ProgramHeader {
+        kind: LOAD,
+        flags: 6,
+        offset: 0,
+        address: 0x7fff_b000,
+        file_size: 0,
+        memory_size: 0x4000,
+    }
+}
+
+// The first page from a page on that a segment touches.
+fn first_touched(header: ProgramHeader, from: u64) -> Option<u64>
+    requires { EndsInMemory header }
+    ensures first { IsFirstIfAny (λ page. touches page header) from result }
+    ensures bound { IfSome result (λ page. page < 2 ^ 36) }
+{
+    if header.kind != LOAD {
+        return None;
+    }
+    if header.memory_size == 0 {
+        return None;
+    }
+    let first = (header.address / PAGE_SIZE).max(from);
+    let last = (header.address + header.memory_size - 1) / PAGE_SIZE;
+    if first <= last { Some(first) } else { None }
+}
+
+// The lesser of two pages that may be there.
+fn earlier(first: Option<u64>, second: Option<u64>) -> Option<u64>
+    ensures { result ≡ earlier first second }
+{
+    match (first, second) {
+        (None, other) => other,
+        (Some(page), None) => Some(page),
+        (Some(page), Some(other)) => Some(page.min(other)),
+    }
+}
+
+// The first page from a page on that an image touches.
+pub fn next_page(image: &[u8], from: u64) -> Option<u64>
+    requires { first_fault image.now ≡ None }
+    ensures first { IsFirstIfAny (is_touched (placed image.now)) from result }
+    ensures bound { IfSome result (λ page. page < 2 ^ 36) }
+{
+    let mut next = first_touched(stack(), from);
+    for number in 0..usize::from(header_count(image)) {
+        next = earlier(next, first_touched(program_header(image, number), from));
+    }
+    next
+}
