@@ -1,3 +1,4 @@
+pub mod AssemblerLines
 pub mod EventLines
 pub mod Headline
 pub mod InstructionLaws
@@ -7,4 +8,5 @@ pub mod InstructionRows
 pub mod InstructionWords
 pub mod LineLaws
 pub mod MemoryLaws
+pub mod Pieces
 pub mod StepLaws
