@@ -22,10 +22,9 @@ use Rattle.rv_model.specs.ElfFields.{entry_of}
 use Rattle.rv_model.specs.Image.{memory_of_image}
 use Rattle.rv_model.specs.Memory.{bytes_at, page_count}
 use Rattle.rv_model.specs.PrivateMachine.{Private, Present, Outcome, Halted, Event, Command, Slice, steps, slice_steps, refusal_of, image_named, loading, assembling, carried_out, accepted, decided, commanded, sliced, slice_ends, event}
-use Rattle.rv_model.specs.Replies.{refused, register_text, register_line, register_lines, regs_lines, stop_line, step_line, state_line, peek_line, traced, trace_line, element_text, vreg_line, vcsr_line, loaded_line, asm_line, dis_line, dis_lines}
+use Rattle.rv_model.specs.Replies.{refused, register_text, register_line, register_lines, regs_lines, stop_line, step_line, state_line, peek_line, traced, trace_line, element_text, vreg_line, vcsr_line, loaded_line, asm_line, word_in, dis_line, dis_lines}
 use Rattle.rv_model.specs.RoundingModes.{rounding_number}
 use Rattle.rv_model.specs.Setup.{Setup, Image}
-use Rattle.rv_model.specs.Step.{word_at}
 use Rattle.rv_model.specs.Text.{is_line, IsLine, are_lines, AreLines}
 use Rattle.rv_model.specs.VectorConfiguration.{sew_bits}
 use Rattle.rv_model.specs.VectorRegisters.{register_of}
@@ -172,10 +171,10 @@ mapped_lines : {A : Type 0} (f : A → List ℕ) (xs : List A) → ((x : A) → 
 mapped_lines f [] h = refl
 mapped_lines f (x ∷ xs) h = both_of (is_line (f x)) (are_lines (map f xs)) (h x) (mapped_lines f xs h)
 
-dis_lines_lines : (addr count : ℕ) (word : ℕ → ℕ) → AreLines (dis_lines addr count word)
+dis_lines_lines : (addr count : ℕ) (shown : List ℕ) → AreLines (dis_lines addr count shown)
 unfolding dis_lines
-dis_lines_lines addr count word =
-    mapped_lines (λ i. dis_line (addr + 4 * i) (word i)) (range_with_len 0 count) (λ i. dis_line_line (addr + 4 * i) (word i))
+dis_lines_lines addr count shown =
+    mapped_lines (λ i. dis_line (addr + 4 * i) (word_in shown i)) (range_with_len 0 count) (λ i. dis_line_line (addr + 4 * i) (word_in shown i))
 
 one_line : (line : List ℕ) → IsLine line → AreLines (line ∷ [])
 one_line line h = both_of (is_line line) true h refl
@@ -198,7 +197,7 @@ carried_out_lines : (images : List Image) (p : Present) (c : Cmd) → Shows (car
 unfolding carried_out
 carried_out_lines images p (Load name) = loading_lines p (image_named images name)
 carried_out_lines images p (Asm addr text) = assembling_lines p addr (spelled text)
-carried_out_lines images p (Dis addr count) = dis_lines_lines addr count (λ i. word_at p.hart.memory (addr + 4 * i))
+carried_out_lines images p (Dis addr count) = dis_lines_lines addr count (bytes_at p.hart.memory addr (4 * count))
 carried_out_lines images p Enter = refl
 carried_out_lines images p Leave = refl
 carried_out_lines images p (Map addr pages permissions) = refl

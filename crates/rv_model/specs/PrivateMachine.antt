@@ -28,7 +28,7 @@ use Rattle.rv_model.specs.Memory.{bytes_at, can_access, put_bytes, map_refusal, 
 use Rattle.rv_model.specs.Replies.{refused, regs_lines, step_line, stop_line, state_line, peek_line, trace_line, vreg_line, vcsr_line, loaded_line, asm_line, dis_lines}
 use Rattle.rv_model.specs.Scalar.{initial_scalar, with_register}
 use Rattle.rv_model.specs.Setup.{Setup, Image}
-use Rattle.rv_model.specs.Step.{HartState, step, word_at}
+use Rattle.rv_model.specs.Step.{HartState, step}
 use Rattle.rv_model.specs.VectorRegisters.{register_of, with_register_bytes}
 use Rattle.rv_model.specs.VectorState.{initial_vector}
 
@@ -183,7 +183,7 @@ unfoldable pub carried_out : List Image → Present → Cmd → Outcome
 carried_out images p (Load name) = loading p (image_named images name)
 carried_out images p (Asm addr text) = assembling p addr (spelled text)
 carried_out images p (Dis addr count) =
-    record { next = Some p; lines = dis_lines addr count (λ i. word_at p.hart.memory (addr + 4 * i)) }
+    record { next = Some p; lines = dis_lines addr count (bytes_at p.hart.memory addr (4 * count)) }
 carried_out images p Enter = answers initial (codes "entered")
 carried_out images p (Map addr pages permissions) = answers (record p { hart = record p.hart { memory = with_pages p.hart.memory (addr / 4096) pages permissions } }) (codes "ok")
 carried_out images p (Poke addr bytes) = answers (record p { hart = record p.hart { memory = put_bytes p.hart.memory addr bytes } }) (codes "ok")

@@ -1,7 +1,7 @@
 -- What a machine prints: numbers in decimal, 64-bit values as 16 lower-case hexadecimal digits.
 use Rattle.std.specs.Prelude.{ℕ, zero, suc, ◌+◌, ◌*◌, ◌/◌, map, Bool, List, [], ◌∷◌, ◌++◌, decimal, codes, slice_index, slice_range, reverse, flat_map, Option, Some, None, if◌then◌else◌}
 use Rattle.std.specs.List.{range_with_len}
-use Rattle.std.specs.Int.{to_be_bytes, w32, w64}
+use Rattle.std.specs.Int.{to_be_bytes, from_le_bytes, w32, w64}
 use Rattle.hex.specs.Hex.{encode_lower}
 use Rattle.rv_model.specs.declared.command.Refusal.{Refusal}
 use Rattle.rv_model.specs.declared.command.Refusal.TheVariants.{UnknownCommand, Argument, NotEntered, AlreadyEntered, Running, ImageName, ElfFault, Quota, NotMapped, Assembler, AlreadyMapped}
@@ -112,6 +112,10 @@ asm_line addr word = hex16 addr ++ codes " " ++ hex8 word
 unfoldable pub dis_line : ℕ → ℕ → List ℕ
 dis_line addr word = asm_line addr word ++ codes " " ++ canonical word
 
--- the answer to `dis`: so many words from an address on, given by their index
-unfoldable pub dis_lines : ℕ → ℕ → (ℕ → ℕ) → List (List ℕ)
-dis_lines addr count word = map (λ i. dis_line (addr + 4 * i) (word i)) (range_with_len 0 count)
+-- word i of these bytes, least byte first
+abbrev pub word_in : List ℕ → ℕ → ℕ
+word_in bytes i = from_le_bytes w32 (slice_range bytes (4 * i) (4 * i + 4))
+
+-- the answer to `dis`: so many words, which are these bytes from an address on
+unfoldable pub dis_lines : ℕ → ℕ → List ℕ → List (List ℕ)
+dis_lines addr count bytes = map (λ i. dis_line (addr + 4 * i) (word_in bytes i)) (range_with_len 0 count)
