@@ -34,7 +34,7 @@ pub enter_outcome : (c : Context) (t : Addresses) (m : Memory) → outcome c t m
 unfolding refusal_of own_refusal
 enter_outcome c t m = refl
 
-pub map_accepted : (c : Context) (t : Addresses) (m : Memory) (addr pages : ℕ) (p : Permissions) → map_refusal m (addr / 4096) pages ≡ None → outcome c t m (Map addr pages p) ≡ answers (present c (with_pages m (addr / 4096) pages p)) (codes "ok")
+pub map_accepted : (c : Context) (t : Addresses) (m : Memory) (addr pages : ℕ) (p : Permissions) → map_refusal m (addr / 4096) pages ≡ None → outcome c t m (Map addr pages p) ≡ answers (present c t (with_pages m (addr / 4096) pages p)) (codes "ok")
 unfolding refusal_of own_refusal carried_out
 map_accepted c t m addr pages p h = accepted_as c t m (Map addr pages p) (ap (option_map with_memory_refusal) h)
 
@@ -46,7 +46,7 @@ poke_refusal : (c : Context) (t : Addresses) (m : Memory) (addr : ℕ) (bytes : 
 unfolding refusal_of own_refusal
 poke_refusal c t m addr bytes = refl
 
-pub poke_accepted : (c : Context) (t : Addresses) (m : Memory) (addr : ℕ) (bytes : List ℕ) → can_access Monitor m addr (length bytes) ≡ true → outcome c t m (Poke addr bytes) ≡ answers (present c (put_bytes m addr bytes)) (codes "ok")
+pub poke_accepted : (c : Context) (t : Addresses) (m : Memory) (addr : ℕ) (bytes : List ℕ) → can_access Monitor m addr (length bytes) ≡ true → outcome c t m (Poke addr bytes) ≡ answers (present c t (put_bytes m addr bytes)) (codes "ok")
 unfolding carried_out
 poke_accepted c t m addr bytes h =
     accepted_as c t m (Poke addr bytes) (poke_refusal c t m addr bytes ∙ ap (λ (b : Bool). if b then None else Some refusal.NotMapped) h)

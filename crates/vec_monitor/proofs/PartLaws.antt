@@ -1,6 +1,6 @@
 -- A change of one user's context and memory changes that user's part alone.
-use Rattle.std.proofs.Common.{◌≡◌, ℕ, zero, suc, ◌+◌, ◌-◌, ◌<◌, ◌≤◌, List, [], ◌∷◌, length, get_or, set, refl, ap, ◌∙◌, sym, arith, None, Ok, Err, replicate}
-use Rattle.std.proofs.lemmas.List.{set-get_or}
+use Rattle.std.proofs.Common.{◌≡◌, ℕ, zero, suc, ◌+◌, ◌-◌, ◌<◌, ◌≤◌, List, [], ◌∷◌, length, get_or, set, refl, ap, ◌∙◌, sym, arith, None, Ok, Err, replicate, Bool, true, false, cond, ◌⊎◌, inl, inr}
+use Rattle.std.proofs.lemmas.List.{set-get_or, get_or-set_same}
 use Rattle.std.specs.FinMap.{empty}
 use Rattle.rv_model.specs.declared.command.Cmd.{Cmd}
 use Rattle.rv_model.specs.declared.command.Refusal.{Refusal}
@@ -13,7 +13,7 @@ use Rattle.rv_model.specs.Text.{text}
 use Rattle.user_mem.specs.Users.{no_memories, memory_of_user, with_memory}
 use Rattle.vec_monitor.specs.declared.context.Context.{Context}
 use Rattle.vec_monitor.specs.Lenders.{later_memory}
-use Rattle.vec_monitor.specs.Parts.{Addresses, new_context, private_of, parts_of, world_of, AreEight}
+use Rattle.vec_monitor.specs.Parts.{Addresses, trace_of, with_trace, new_context, private_of, parts_of, world_of, AreEight}
 
 pub parts_of-set : (cs : List Context) (ts : List Addresses) (ms : List Memory) (i : ℕ) (c : Context) (t : Addresses) (m : Memory) → length cs ≡ length ts → length ts ≡ length ms
     → parts_of (set cs i c) (set ts i t) (set ms i m) ≡ set (parts_of cs ts ms) i (private_of c t m)
@@ -38,24 +38,30 @@ part_count (c ∷ cs) [] ms e f = absurd (omega (arith, e))
 part_count (c ∷ cs) (t ∷ ts) [] e f = absurd (omega (arith, f))
 part_count (c ∷ cs) (t ∷ ts) (m ∷ ms) e f = ap (λ (n : ℕ). suc n) (part_count cs ts ms (omega (arith, e)) (omega (arith, f)))
 
+-- a user's trace that was put there is there
+pub trace_there : (ts : List Addresses) (u : ℕ) (t : Addresses) → u - 1 < length ts → trace_of (with_trace ts u t) u ≡ t
+trace_there ts u t within = get_or-set_same ts (u - 1) t [] within
+
 -- a user's part, by the user's place i
 pub part_is : (cs : List Context) (ts : List Addresses) (ms : List Memory) (u i : ℕ) (d : Context) → i ≡ u - 1 → i < 8 → AreEight cs ts ms
-    → part u (world_of cs ts ms) ≡ private_of (get_or cs i d) (get_or ts i []) (memory_of_user ms u)
+    → part u (world_of cs ts ms) ≡ private_of (get_or cs i d) (trace_of ts u) (memory_of_user ms u)
 part_is cs ts ms u i d at low eight =
     parts_at cs ts ms (u - 1) d (omega (arith, eight.contexts, at, low)) (eight.contexts ∙ sym eight.traces) (eight.traces ∙ sym eight.memories)
-    ∙ ap (λ (j : ℕ). private_of (get_or cs j d) (get_or ts j []) (memory_of_user ms u)) (sym at)
+    ∙ ap (λ (j : ℕ). private_of (get_or cs j d) (trace_of ts u) (memory_of_user ms u)) (sym at)
 
 -- the world after a change of one user's context, trace and memory
-pub world_with : (cs : List Context) (ts : List Addresses) (ms ms' : List Memory) (u i : ℕ) (d c' : Context) (t' : Addresses) (f : Private → Private) → i ≡ u - 1 → i < 8 → AreEight cs ts ms
-    → private_of c' t' (memory_of_user ms' u) ≡ f (private_of (get_or cs i d) (get_or ts i []) (memory_of_user ms u)) → ms' ≡ with_memory ms u (memory_of_user ms' u)
-    → world_of (set cs i c') (set ts i t') ms' ≡ with_part u (f (part u (world_of cs ts ms))) (world_of cs ts ms)
-world_with cs ts ms ms' u i d c' t' f at low eight next others =
-    let done : private_of c' t' (memory_of_user ms' u) ≡ f (part u (world_of cs ts ms)) =
-        next ∙ ap f (sym (part_is cs ts ms u i d at low eight)) in
-    let moved : parts_of (set cs (u - 1) c') (set ts (u - 1) t') ms' ≡ set (parts_of cs ts ms) (u - 1) (private_of c' t' (memory_of_user ms' u)) =
-        ap (parts_of (set cs (u - 1) c') (set ts (u - 1) t')) others
-        ∙ parts_of-set cs ts ms (u - 1) c' t' (memory_of_user ms' u) (eight.contexts ∙ sym eight.traces) (eight.traces ∙ sym eight.memories) in
-    ap (λ (j : ℕ). world_of (set cs j c') (set ts j t') ms') at
+pub world_with : (cs : List Context) (ts ts' : List Addresses) (ms ms' : List Memory) (u i : ℕ) (d c' : Context) (f : Private → Private) → i ≡ u - 1 → i < 8 → AreEight cs ts ms
+    → private_of c' (trace_of ts' u) (memory_of_user ms' u) ≡ f (private_of (get_or cs i d) (trace_of ts u) (memory_of_user ms u)) → ts' ≡ with_trace ts u (trace_of ts' u) → ms' ≡ with_memory ms u (memory_of_user ms' u)
+    → world_of (set cs i c') ts' ms' ≡ with_part u (f (part u (world_of cs ts ms))) (world_of cs ts ms)
+world_with cs ts ts' ms ms' u i d c' f at low eight next traces others =
+    let t' = trace_of ts' u in
+    let m' = memory_of_user ms' u in
+    let done : private_of c' t' m' ≡ f (part u (world_of cs ts ms)) = next ∙ ap f (sym (part_is cs ts ms u i d at low eight)) in
+    let moved : parts_of (set cs (u - 1) c') ts' ms' ≡ set (parts_of cs ts ms) (u - 1) (private_of c' t' m') =
+        ap (parts_of (set cs (u - 1) c') ts') others
+        ∙ ap (λ (l : List Addresses). parts_of (set cs (u - 1) c') l (with_memory ms u m')) traces
+        ∙ parts_of-set cs ts ms (u - 1) c' t' m' (eight.contexts ∙ sym eight.traces) (eight.traces ∙ sym eight.memories) in
+    ap (λ (j : ℕ). world_of (set cs j c') ts' ms') at
     ∙ ap (λ (ps : List Private). let r : World = record { parts = ps; cursor = 8 } in r) moved
     ∙ ap (λ (p : Private). with_part u p (world_of cs ts ms)) done
 
@@ -77,3 +83,8 @@ absent_parts (suc n) = ap (λ (ps : List Private). None ∷ ps) (absent_parts n)
 pub new_users : (cs : List Context) (ts : List Addresses) (ms : List Memory) → cs ≡ replicate 8 new_context → ts ≡ replicate 8 [] → ms ≡ no_memories → world_of cs ts ms ≡ new_world
 unfolding new_world
 new_users cs ts ms p q r = rw (p, q, r) (ap (λ (ps : List Private). let w : World = record { parts = ps; cursor = 8 } in w) (absent_parts 8))
+
+-- a lender whose value came back stands as if what it lends now had come back
+pub came_back : {V S : Type 0} (back : V → S → V) (lent : V → S) (b : Bool) (v v' : V) (s : S) → lent (back v s) ≡ s → v' ≡ cond b (back v s) v → (v' ≡ back v (lent v')) ⊎ (v' ≡ v)
+came_back back lent true v v' s again e = inl (e ∙ ap (back v) (sym (ap lent e ∙ again)))
+came_back back lent false v v' s again e = inr e

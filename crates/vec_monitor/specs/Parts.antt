@@ -1,5 +1,5 @@
 -- What the fields of a machine stand for.
-use Rattle.std.specs.Prelude.{◌≡◌, length, List, [], ◌∷◌, false, if◌then◌else◌, Some, None}
+use Rattle.std.specs.Prelude.{ℕ, ◌-◌, ◌≡◌, length, slice_index_or, slice_set, List, [], ◌∷◌, Bool, true, false, if◌then◌else◌, Option, Some, None}
 use Rattle.rv_model.specs.declared.policy.Policy.TheVariants.{Keep}
 use Rattle.rv_model.specs.declared.scalar.Scalar.{Scalar}
 use Rattle.rv_model.specs.declared.vector_state.Seat.{Seat}
@@ -25,6 +25,14 @@ hart_state c memory = user_state c.scalar c.seat memory
 -- the addresses of a trace, the oldest first
 abbrev pub Addresses : Type 0
 Addresses = List ℕ
+
+-- a user's trace among those of all users, user 1 first
+abbrev pub trace_of : List Addresses → ℕ → Addresses
+trace_of traces user = slice_index_or traces (user - 1) []
+
+-- the traces with another one for a user, and all others as they were
+abbrev pub with_trace : List Addresses → ℕ → Addresses → List Addresses
+with_trace traces user trace = slice_set traces (user - 1) trace
 
 -- a user that has entered, stopped, without breakpoints
 abbrev pub present : Context → Addresses → Memory → Present

@@ -7,7 +7,7 @@ ghost use Rattle.user_mem.specs.Users.{memory_of_user, with_memory};
 ghost use Rattle.vec_monitor.specs.ParsedCommands.{AreInRange};
 ghost use Rattle.vec_monitor.specs.declared.context.Context.{Context};
 ghost use Rattle.vec_monitor.specs.CommandOutcomes.{outcome};
-ghost use Rattle.vec_monitor.specs.Parts.{present, private_of};
+ghost use Rattle.vec_monitor.specs.Parts.{present, private_of, trace_of, with_trace};
 
 use crate::context::Context;
 use crate::memory_commands::{map_pages, peek, poke};
@@ -22,8 +22,25 @@ use rv_model::{Cmd, Refusal, User};
 use std::alloc::Allocator;
 use user_mem::Pool;
 
-/// Carries out a command of a user, and answers it.
-pub fn carry_out<A: Allocator>(context: &mut Context, trace: &mut Trace<A>, pool: &mut Pool<A>, user: User, cmd: &Cmd, reply: &mut Reply)
+/// Carries out a command of a user, and answers it. `traces` are those of all users.
+#[tactic(auto, using(crate::proofs::PartLaws::trace_there))]
+pub fn carry_out<A: Allocator>(context: &mut Context, traces: &mut [Trace<A>; 8], pool: &mut Pool<A>, user: User, cmd: &Cmd, reply: &mut Reply)
+    requires clear { reply.old ≡ [] }
+    requires within { user - 1 < length pool.old }
+    requires range { AreInRange cmd.now }
+    ensures next { private_of context.new (trace_of traces.new user) (memory_of_user pool.new user)
+        ≡ (commanded (private_of context.old (trace_of traces.old user) (memory_of_user pool.old user)) (Ok cmd.now)).next }
+    ensures traces { traces.new ≡ with_trace traces.old user (trace_of traces.new user) }
+    ensures others { pool.new ≡ with_memory pool.old user (memory_of_user pool.new user) }
+    ensures reply { reply.new
+        ≡ text (48 + user) (commanded (private_of context.old (trace_of traces.old user) (memory_of_user pool.old user)) (Ok cmd.now)).lines }
+{
+    let trace = &mut traces[user.index()];
+    carry_out_own(context, trace, pool, user, cmd, reply);
+}
+
+/// The same, with the user's own trace.
+fn carry_out_own<A: Allocator>(context: &mut Context, trace: &mut Trace<A>, pool: &mut Pool<A>, user: User, cmd: &Cmd, reply: &mut Reply)
     requires clear { reply.old ≡ [] }
     requires within { user - 1 < length pool.old }
     requires range { AreInRange cmd.now }

@@ -63,8 +63,23 @@ pub fn poke<A: Allocator>(pool: &mut Pool<A>, user: User, addr: u64, bytes: &Byt
     }
 }
 
-/// `peek`: bytes of mapped pages, whatever these allow a program.
+/// Shows as many bytes of mapped pages as the buffer holds.
 #[tactic(auto, using(crate::proofs::CommandLaws::peek_accepted, crate::proofs::CommandLaws::peek_refused))]
+fn show_bytes<A: Allocator>(pool: &Pool<A>, user: User, addr: u64, buffer: &mut [u8], reply: &mut Reply)
+    requires clear { reply.old ≡ [] }
+    requires few { length buffer.old ≤ 256 }
+    ensures next { (c : Context) (trace : List ℕ) → (outcome c trace (memory_of_user pool.now user) (Cmd.Peek addr (length buffer.old))).next
+        ≡ Some (present c trace (memory_of_user pool.now user)) }
+    ensures reply { (c : Context) (trace : List ℕ) → reply.new
+        ≡ text (48 + user) (outcome c trace (memory_of_user pool.now user) (Cmd.Peek addr (length buffer.old))).lines }
+{
+    match pool.read(user, addr, Access::Monitor, buffer) {
+        Ok(()) => monitor_cmds::peek_line(reply, Tag::User(user), addr, buffer),
+        Err(_) => monitor_cmds::refused(reply, Tag::User(user), Refusal::NotMapped),
+    }
+}
+
+/// `peek`: bytes of mapped pages, whatever these allow a program.
 pub fn peek<A: Allocator>(pool: &Pool<A>, user: User, addr: u64, count: usize, reply: &mut Reply)
     requires clear { reply.old ≡ [] }
     requires few { count ≤ 256 }
@@ -74,9 +89,5 @@ pub fn peek<A: Allocator>(pool: &Pool<A>, user: User, addr: u64, count: usize, r
         ≡ text (48 + user) (outcome c trace (memory_of_user pool.now user) (Cmd.Peek addr count)).lines }
 {
     let mut buffer = [0; MAX_SHOWN];
-    let bytes = &mut buffer[..count];
-    match pool.read(user, addr, Access::Monitor, bytes) {
-        Ok(()) => monitor_cmds::peek_line(reply, Tag::User(user), addr, bytes),
-        Err(_) => monitor_cmds::refused(reply, Tag::User(user), Refusal::NotMapped),
-    }
+    show_bytes(pool, user, addr, &mut buffer[..count], reply);
 }

@@ -14,13 +14,13 @@ pub struct Trace<A: Allocator> {
 }
 
 impl<A: Allocator> Model for Trace<A> {
-    ghost use Rattle.std.specs.Prelude.{List, ℕ, ◌≡◌};
+    ghost use Rattle.std.specs.Prelude.{List, ℕ, ◌≡◌, ◌≤◌, length};
 
     ghost Value = { List ℕ };
 
     ghost view = { λ t. t.ring.items };
 
-    ghost invariant = { λ t. t.ring.capacity ≡ 16 };
+    ghost invariant = { λ t. (t.ring.capacity ≡ 16) × (length t.ring.items ≤ 16) };
 }
 
 impl<A: Allocator> Trace<A> {

@@ -72,6 +72,7 @@ fn empty_traces<A: Allocator + Clone>(alloc: &A) -> Result<[Trace<A>; 8], AllocE
 
 impl<A: Allocator> Users<A> {
     /// Eight users who are absent.
+    #[tactic(auto, using(crate::proofs::PartLaws::new_users))]
     pub fn new(alloc: A) -> Result<Self, NoMemory>
     where
         A: Clone,
@@ -98,8 +99,7 @@ impl<A: Allocator> Users<A> {
         match parse(line) {
             Ok(cmd) => {
                 let context = &mut self.contexts[user.index()];
-                let trace = &mut self.traces[user.index()];
-                carry_out(context, trace, &mut self.pool, user, &cmd, reply);
+                carry_out(context, &mut self.traces, &mut self.pool, user, &cmd, reply);
             }
             Err(refusal) => monitor_cmds::refused(reply, Tag::User(user), refusal),
         }
