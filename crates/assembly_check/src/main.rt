@@ -1,13 +1,15 @@
-//! Assembles texts and writes words as text: the lines of standard input, each a word in hexadecimal, a
-//! space and a text, and 100,000 words of a fixed generator.
+//! Assembles texts and writes words as text: the lines of standard input, each a word in
+//! hexadecimal, a space and a text, and 100,000 words of a fixed generator.
 //!
-//! `stdin` has words and texts that the assemblers of GNU binutils 2.40 and LLVM 19.1.7 give for every
-//! instruction, both of which are printed again, and then texts that spell nothing.
+//! `stdin` has words and texts that the assemblers of GNU binutils 2.40 and LLVM 19.1.7 give for
+//! every instruction, both of which are printed again, and then texts that spell nothing.
 #![tactic(auto)]
 
 ghost use Rattle.std.specs.Prelude.{◌≡◌, ◌+◌, ◌-◌, ◌*◌, ◌%◌, ◌^◌, ◌<◌, IsTrue};
 
 use rv_asm::{Text, assemble, text_of};
+use rv_decode::decode;
+use rv_model::Instr;
 use std::io;
 
 /// The opcodes of the instructions.
@@ -33,7 +35,24 @@ fn is_same(word: u32, text: &mut Text) -> bool
     }
 }
 
-/// How many of the generator's first words, with each opcode in turn, have a text that spells another word.
+/// Whether the text names an instruction exactly where the word is one. Fences are passed over,
+/// since all but one have no name.
+fn is_told(word: u32, text: &Text) -> bool {
+    let directive = text.as_str().starts_with(".word");
+    match decode(word) {
+        Some(Instr::Fence { .. }) => true,
+        Some(_) => !directive,
+        None => directive,
+    }
+}
+
+/// The generator's next word with an opcode.
+fn with_opcode(word: u32, i: usize) -> u32 {
+    word - word % 128 + OPCODES[i % OPCODES.len()] % 128
+}
+
+/// How many of the generator's first words, with each opcode in turn, have a text that spells
+/// another word.
 fn mismatches(count: usize) -> usize
     ensures { result ≡ 0 }
 {
@@ -42,8 +61,23 @@ fn mismatches(count: usize) -> usize
     let mut found = 0;
     for i in 0..count {
         word = next_word(word);
-        let opcode = OPCODES[i % OPCODES.len()];
-        if !is_same(word - word % 128 + opcode % 128, &mut text) {
+        if !is_same(with_opcode(word, i), &mut text) {
+            found += 1;
+        }
+    }
+    found
+}
+
+/// How many of these words have a text that tells them wrongly.
+fn mistold(count: usize) -> usize {
+    let mut text = Text::new();
+    let mut word = 0;
+    let mut found = 0;
+    for i in 0..count {
+        word = next_word(word);
+        let word = with_opcode(word, i);
+        text_of(word, &mut text);
+        if !is_told(word, &text) {
             found += 1;
         }
     }
@@ -70,6 +104,9 @@ fn main(rt: HostRuntime) -> io::Result<()> {
     }
     let count = 100_000;
     let found = mismatches(count);
-    println!(rt; "{count} generated words, {found} mismatches")?;
+    let mistold = mistold(count);
+    println!(rt;
+        "{count} generated words, {found} mismatches, {mistold} that the decoder tells otherwise"
+    )?;
     Ok(())
 }

@@ -39,7 +39,3 @@ fetched m pc = if can_access Fetch m pc 4 then scan table (word_at m pc) else No
 -- an instruction marks the seat if it changes the vector state, whatever the output buffer holds, and leaves a mark that is there
 abbrev pub Marks : (HartState → Bool) → (List ℕ → HartState) → Seat → Seat → Type 0
 Marks dirties before old new = (output : List ℕ) → new.dirty ≡ (old.dirty || dirties (before output))
-
--- a seat with this vector state, marked as changed if it was marked or has been changed
-abbrev pub seat_after : Bool → VState → Seat → Seat
-seat_after dirtied state seat = record { state = state; dirty = seat.dirty || dirtied }

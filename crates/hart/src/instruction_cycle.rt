@@ -1,10 +1,10 @@
 //! The instruction cycle: fetch, decode, execute.
-ghost use Rattle.std.specs.Prelude.{◌≡◌, ◌≤◌, List, ℕ, Ok, Err, if◌then◌else◌};
+ghost use Rattle.std.specs.Prelude.{◌≡◌, ◌≤◌, Ok, Err, if◌then◌else◌};
 ghost use Rattle.rv_model.specs.declared.memory.Access.TheVariants.{Fetch};
 ghost use Rattle.rv_model.specs.Hart.{hart_state};
 ghost use Rattle.rv_model.specs.Memory.{can_access};
 ghost use Rattle.rv_model.specs.Step.{dirties, executed, touches, word_at};
-ghost use Rattle.hart.specs.States.{fetched, IsStep, Leads, seat_after};
+ghost use Rattle.hart.specs.States.{fetched, IsStep, Leads, Marks};
 
 use crate::faults::{fault, illegal};
 use crate::scalar_instructions::execute_scalar;
@@ -43,13 +43,11 @@ fn execute<M: UserBytes, V: Vectors>(
         (hart_state scalar.old (V.lent vectors.old).state (M.memory memory.old) policy)
         (hart_state scalar.new (V.lent vectors.new).state (M.memory memory.new) policy) result }
     ensures memory { memory.new ≡ M.with_memory memory.old (M.memory memory.new) }
-    ensures vectors { (output : List ℕ) →
-        let before = hart_state scalar.old (V.lent vectors.old).state (M.memory memory.old)
-        policy output in
-        vectors.new ≡ (if touches instr
-        then V.back vectors.old (seat_after (dirties limit instr before)
-        (V.lent vectors.new).state (V.lent vectors.old))
-        else vectors.old) }
+    ensures vectors { vectors.new
+        ≡ (if touches instr then V.back vectors.old (V.lent vectors.new) else vectors.old) }
+    ensures dirty { Marks (dirties limit instr)
+        (hart_state scalar.old (V.lent vectors.old).state (M.memory memory.old) policy)
+        (V.lent vectors.old) (V.lent vectors.new) }
     ensures ready { V.ready vectors.new }
 {
     let Some(instr) = instr else {
@@ -84,14 +82,15 @@ pub fn step<M: UserBytes, V: Vectors>(
     // All else that the user's bytes and the lender hold stays.
     ensures memory { view.new.memory.now
         ≡ M.with_memory view.old.memory.now (M.memory view.new.memory.now) }
-    ensures vectors { (output : List ℕ) →
-        let instr = fetched (M.memory view.old.memory.now) view.old.scalar.now.pc in
-        let before = hart_state view.old.scalar.now (V.lent view.old.vectors.now).state
-        (M.memory view.old.memory.now) view.old.policy output in
-        view.new.vectors.now ≡ (if touches instr
-        then V.back view.old.vectors.now (seat_after (dirties limit instr before)
-        (V.lent view.new.vectors.now).state (V.lent view.old.vectors.now))
+    ensures vectors { view.new.vectors.now
+        ≡ (if touches (fetched (M.memory view.old.memory.now) view.old.scalar.now.pc)
+        then V.back view.old.vectors.now (V.lent view.new.vectors.now)
         else view.old.vectors.now) }
+    ensures dirty { Marks
+        (dirties limit (fetched (M.memory view.old.memory.now) view.old.scalar.now.pc))
+        (hart_state view.old.scalar.now (V.lent view.old.vectors.now).state
+        (M.memory view.old.memory.now) view.old.policy)
+        (V.lent view.old.vectors.now) (V.lent view.new.vectors.now) }
     ensures ready { V.ready view.new.vectors.now }
 
     // The view refers to the same parts as before.

@@ -1,6 +1,7 @@
 //! Instructions that don't touch the vector unit.
 ghost use Rattle.std.specs.Prelude.{◌≡◌, ℕ, Some, false};
-ghost use Rattle.rv_model.specs.Step.{executed, touches};
+ghost use Rattle.rv_model.specs.Step.{dirties, executed, touches};
+ghost use Rattle.rv_model.specs.Hart.{HartState};
 ghost use Rattle.hart.specs.States.{LeadsScalar};
 
 use crate::control_transfer::{branch_target, jump, jump_if, jump_target, register_target};
@@ -13,7 +14,7 @@ use scalar_core::{alu, branch};
 use vector_memory::UserBytes;
 
 /// Carries out an instruction that doesn't touch the vector unit.
-#[tactic(auto, unfolding(rv_model::specs::Step::executed))]
+#[tactic(auto, unfolding(rv_model::specs::Step::executed, rv_model::specs::Step::dirties))]
 pub(crate) fn execute_scalar<M: UserBytes>(
     instr: &Instr,
     word: u32,
@@ -24,6 +25,7 @@ pub(crate) fn execute_scalar<M: UserBytes>(
     ensures model { (limit : ℕ) → LeadsScalar (executed limit (Some instr.now) word)
         scalar.old (M.memory memory.old) scalar.new (M.memory memory.new) result }
     ensures memory { memory.new ≡ M.with_memory memory.old (M.memory memory.new) }
+    ensures clean { (limit : ℕ) (before : HartState) → dirties limit (Some instr.now) before ≡ false }
 {
     match *instr {
         Instr::Upper { op, rd, imm } => give(rd, upper(op, scalar.pc, imm), scalar),

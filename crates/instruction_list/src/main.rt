@@ -1,4 +1,5 @@
-//! Prints the list of instructions: each name with the text of its operands and its encoding, by families.
+//! Prints the list of instructions: each name with the text of its operands and its encoding, by
+//! families.
 #![tactic(auto)]
 
 ghost use Rattle.std.specs.Prelude.{◌<◌};

@@ -24,6 +24,12 @@ const PAGE: u64 = 4096;
 // No page ends beyond this address.
 const LAST_END: u64 = 1 << 48;
 
+// The most bytes that are shown at once.
+const MAX_SHOWN: usize = 256;
+
+// The most instructions that are carried out at once.
+const MAX_STEPS: usize = 256;
+
 // Each reader takes the next word: None where there is none, or where it is out of its form or
 // range.
 
@@ -163,7 +169,7 @@ fn peek_args<'a>(words: &mut Words<'a>) -> Option<Cmd<'a>>
     ensures { result ≡ peek_of words.old }
 {
     let addr = address(words)?;
-    let count = number(words, 1, 256)?;
+    let count = number(words, 1, MAX_SHOWN)?;
     done(words, Cmd::Peek { addr, count })
 }
 
@@ -236,7 +242,7 @@ fn dis_args<'a>(words: &mut Words<'a>) -> Option<Cmd<'a>>
 fn step_args<'a>(words: &mut Words<'a>) -> Option<Cmd<'a>>
     ensures { result ≡ step_of words.old }
 {
-    let count = number(words, 1, 256)?;
+    let count = number(words, 1, MAX_STEPS)?;
     done(words, Cmd::Step(count))
 }
 

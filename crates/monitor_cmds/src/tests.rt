@@ -1,6 +1,6 @@
 //! Lines of commands and of replies, as the monitor's description shows them.
 use super::*;
-use rv_model::{Cause, Cmd, ElfFault, Refusal, Scalar, Stop, User};
+use rv_model::{Cause, Cmd, ElfFault, Refusal, Scalar, Sew, Stop, User, VReg, VState};
 use std::test::Fail;
 
 fn user(number: u8) -> Result<Tag, Fail> {
@@ -81,6 +81,20 @@ fn prints_instructions(rt: HostRuntime) -> Result<(), Fail> {
 }
 
 #[test]
+fn parses_commands_that_look_and_set(rt: HostRuntime) {
+    assert!(rt; matches!(parse(b"leave"), Ok(Cmd::Leave)));
+    assert!(rt; matches!(parse(b"vcsr"), Ok(Cmd::Vcsr)));
+    assert!(rt; matches!(parse(b"state"), Ok(Cmd::State)));
+    assert!(rt; matches!(parse(b"trace"), Ok(Cmd::Trace)));
+    assert!(rt; matches!(parse(b"setpc 1000C"), Ok(Cmd::SetPc(0x1000c))));
+    assert!(rt; matches!(parse(b"peek fFf 256"), Ok(Cmd::Peek { addr: 0xfff, count: 256 })));
+    assert!(rt; matches!(parse(b"set x31 Ab"), Ok(Cmd::Set { value: 0xab, .. })));
+    assert!(rt; matches!(parse(b"vreg v0 64"), Ok(Cmd::Vreg { width: Sew::E64, .. })));
+    let line = b"vset v31 000102030405060708090a0b0c0d0e0f101112131415161718191a1b1c1d1eFF";
+    assert!(rt; matches!(parse(line), Ok(Cmd::Vset { .. })));
+}
+
+#[test]
 fn refuses_arguments(rt: HostRuntime) {
     let lines = [
         b"enter 1".as_slice(),
@@ -98,6 +112,17 @@ fn refuses_arguments(rt: HostRuntime) {
         b"map 1000 1 wr".as_slice(),
         b"poke 0 0".as_slice(),
         b"poke 00000000000000000 00".as_slice(),
+        b"leave 1".as_slice(),
+        b"peek 0 0".as_slice(),
+        b"peek 0 257".as_slice(),
+        b"set x0 1".as_slice(),
+        b"set x32 1".as_slice(),
+        b"set x01 1".as_slice(),
+        b"set X1 1".as_slice(),
+        b"setpc 2".as_slice(),
+        b"vreg v32 8".as_slice(),
+        b"vreg v1 128".as_slice(),
+        b"vset v1 00".as_slice(),
     ];
     for line in lines {
         assert!(rt; matches!(parse(line), Err(Refusal::Argument)));
@@ -181,6 +206,46 @@ fn prints_registers(rt: HostRuntime) -> Result<(), Fail> {
 1 x20 0000000000000000 x21 0000000000000000 x22 0000000000000000 x23 0000000000000000
 1 x24 0000000000000000 x25 0000000000000000 x26 0000000000000000 x27 0000000000000000
 1 x28 0000000000000000 x29 0000000000000000 x30 0000000000000000 x31 00000000000000ab
+"
+            .as_slice()
+    );
+    Ok(())
+}
+
+#[test]
+fn shows_a_machine(rt: HostRuntime) -> Result<(), Fail> {
+    let mut reply = Reply::new();
+    state_line(&mut reply, user(1)?, false, 0x10000);
+    peek_line(&mut reply, user(2)?, 0xfff, &[0, 0xff]);
+    trace_line(&mut reply, user(3)?, &[8], &[0xc, 0]);
+    left(&mut reply, user(4)?);
+    assert_eq!(rt;
+        reply.as_slice(),
+        b"1 state stopped pc=0000000000010000
+2 peek 0000000000000fff 00ff
+3 trace 0000000000000008 000000000000000c 0000000000000000
+4 left
+"
+            .as_slice()
+    );
+    Ok(())
+}
+
+#[test]
+fn shows_vector_state(rt: HostRuntime) -> Result<(), Fail> {
+    let mut register = [0; 32];
+    register[0] = 0x01;
+    register[3] = 0x80;
+    register[31] = 0xff;
+    let mut reply = Reply::new();
+    vreg_line(&mut reply, user(1)?, VReg::new(31), Sew::E32, &register);
+    vreg_line(&mut reply, user(1)?, VReg::new(0), Sew::E64, &register);
+    vcsr_line(&mut reply, user(1)?, &VState::new());
+    assert_eq!(rt;
+        reply.as_slice(),
+        b"1 v31 80000001 00000000 00000000 00000000 00000000 00000000 00000000 ff000000
+1 v0 0000000080000001 0000000000000000 0000000000000000 ff00000000000000
+1 vl=0 vtype=8000000000000000 vstart=0 vxrm=0 vxsat=0
 "
             .as_slice()
     );

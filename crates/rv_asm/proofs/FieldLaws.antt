@@ -1,45 +1,19 @@
 -- The operands that a word has, at their places again
 use Rattle.std.proofs.Common.{◌≡◌, ℕ, ◌+◌, ◌*◌, ◌/◌, ◌%◌, ◌^◌, ◌<◌, List, [], ◌∷◌, ◌++◌, refl, sym, ap, ap₂, ◌∙◌, arith}
 use Rattle.std.proofs.Math.Nat.{mod-eq_of_lt}
-use Rattle.std.proofs.lemmas.Nat.{mod_below, pow_pos}
 use Rattle.rv_model.specs.BitFields.{field, Part, part, sum_of}
 use Rattle.rv_model.specs.Immediates.{branch_offset, jump_offset}
 use Rattle.rv_model.specs.declared.assembler.Slot.{Slot}
 use Rattle.rv_model.specs.declared.assembler.Slot.TheVariants.{Comma, Open, Close, V0, Scalar, Vector, Unsigned, Signed, Csr, VectorType, ShortVectorType, Mask, Word}
 use Rattle.rv_model.specs.declared.assembler.UnsignedField.TheVariants as unsigned
 use Rattle.rv_model.specs.declared.assembler.SignedField.TheVariants as signed
-use Rattle.rv_model.specs.AssemblerSlots.{room}
 use Rattle.rv_model.specs.AssemblerFields.{lowest, parts_of, value_of, operand_parts}
 use Rattle.rv_model.proofs.InstructionParts.{of_word}
-
-below : (low len w : ℕ) → field low len w < 2 ^ len
-below low len w = mod_below (w / 2 ^ low) (2 ^ len) (pow_pos len)
-
-pub value_below : (s : Slot) (w : ℕ) → value_of s w < room s
-value_below Comma w = omega arith
-value_below Open w = omega arith
-value_below Close w = omega arith
-value_below V0 w = omega arith
-value_below (Scalar p) w = below (lowest p) 5 w
-value_below (Vector p) w = below (lowest p) 5 w
-value_below (Unsigned unsigned.Immediate) w = below 15 5 w
-value_below (Unsigned unsigned.Shift) w = below 20 6 w
-value_below (Unsigned unsigned.ShiftWord) w = below 20 5 w
-value_below (Unsigned unsigned.Upper) w = below 12 20 w
-value_below (Signed signed.Vector) w = below 15 5 w
-value_below (Signed signed.Immediate) w = below 20 12 w
-value_below (Signed signed.Store) w = omega (arith, below 7 5 w, below 25 7 w)
-value_below (Signed signed.Branch) w = omega (arith, below 8 4 w, below 25 6 w, below 7 1 w, below 31 1 w)
-value_below (Signed signed.Jump) w = omega (arith, below 21 10 w, below 20 1 w, below 12 8 w, below 31 1 w)
-value_below Csr w = below 20 12 w
-value_below VectorType w = below 20 11 w
-value_below ShortVectorType w = below 20 10 w
-value_below Mask w = below 25 1 w
-value_below Word w = below 0 32 w
+use Rattle.rv_model.proofs.AssemblerLaws.{field_below}
 
 -- a piece that is a field already
 whole : (low len w : ℕ) → part low len (field low len w % 2 ^ len) ≡ part low len (field low len w)
-whole low len w = ap (part low len) (mod-eq_of_lt (below low len w))
+whole low len w = ap (part low len) (mod-eq_of_lt (field_below low len w))
 
 two : {a b c d : Part} → a ≡ b → c ≡ d → a ∷ c ∷ [] ≡ b ∷ d ∷ []
 two h k = ap₂ (λ (x y : Part). x ∷ y ∷ []) h k
@@ -83,10 +57,10 @@ branch_parts w =
     let b = field 25 6 w in
     let c = field 7 1 w in
     let d = field 31 1 w in
-    four (ap (part 31 1) (branch_12 a b c d (below 8 4 w) (below 25 6 w) (below 7 1 w) (below 31 1 w)))
-    (ap (part 25 6) (branch_10 a b c d (below 8 4 w) (below 25 6 w)))
-    (ap (part 8 4) (branch_4 a b c d (below 8 4 w)))
-    (ap (part 7 1) (branch_11 a b c d (below 8 4 w) (below 25 6 w) (below 7 1 w)))
+    four (ap (part 31 1) (branch_12 a b c d (field_below 8 4 w) (field_below 25 6 w) (field_below 7 1 w) (field_below 31 1 w)))
+    (ap (part 25 6) (branch_10 a b c d (field_below 8 4 w) (field_below 25 6 w)))
+    (ap (part 8 4) (branch_4 a b c d (field_below 8 4 w)))
+    (ap (part 7 1) (branch_11 a b c d (field_below 8 4 w) (field_below 25 6 w) (field_below 7 1 w)))
 
 jump_parts : (w : ℕ) → parts_of (Signed signed.Jump) (jump_offset w) ≡ part 31 1 (field 31 1 w) ∷ part 21 10 (field 21 10 w) ∷ part 20 1 (field 20 1 w) ∷ part 12 8 (field 12 8 w) ∷ []
 jump_parts w =
@@ -94,10 +68,10 @@ jump_parts w =
     let b = field 20 1 w in
     let c = field 12 8 w in
     let d = field 31 1 w in
-    four (ap (part 31 1) (jump_20 a b c d (below 21 10 w) (below 20 1 w) (below 12 8 w) (below 31 1 w)))
-    (ap (part 21 10) (jump_10 a b c d (below 21 10 w)))
-    (ap (part 20 1) (jump_11 a b c d (below 21 10 w) (below 20 1 w)))
-    (ap (part 12 8) (jump_19 a b c d (below 21 10 w) (below 20 1 w) (below 12 8 w)))
+    four (ap (part 31 1) (jump_20 a b c d (field_below 21 10 w) (field_below 20 1 w) (field_below 12 8 w) (field_below 31 1 w)))
+    (ap (part 21 10) (jump_10 a b c d (field_below 21 10 w)))
+    (ap (part 20 1) (jump_11 a b c d (field_below 21 10 w) (field_below 20 1 w)))
+    (ap (part 12 8) (jump_19 a b c d (field_below 21 10 w) (field_below 20 1 w) (field_below 12 8 w)))
 
 single : {a b : Part} → a ≡ b → a ∷ [] ≡ b ∷ []
 single h = ap (λ (x : Part). x ∷ []) h
@@ -115,7 +89,7 @@ parts_again (Unsigned unsigned.ShiftWord) w = single (whole 20 5 w)
 parts_again (Unsigned unsigned.Upper) w = single (whole 12 20 w)
 parts_again (Signed signed.Vector) w = single (whole 15 5 w)
 parts_again (Signed signed.Immediate) w = single (whole 20 12 w)
-parts_again (Signed signed.Store) w = two (ap (part 25 7) (store_high (field 7 5 w) (field 25 7 w) (below 7 5 w) (below 25 7 w))) (ap (part 7 5) (store_low (field 7 5 w) (field 25 7 w) (below 7 5 w)))
+parts_again (Signed signed.Store) w = two (ap (part 25 7) (store_high (field 7 5 w) (field 25 7 w) (field_below 7 5 w) (field_below 25 7 w))) (ap (part 7 5) (store_low (field 7 5 w) (field 25 7 w) (field_below 7 5 w)))
 parts_again (Signed signed.Branch) w = branch_parts w
 parts_again (Signed signed.Jump) w = jump_parts w
 parts_again Csr w = single (whole 20 12 w)

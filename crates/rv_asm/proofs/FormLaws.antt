@@ -8,7 +8,8 @@ use Rattle.rv_model.specs.declared.assembler.Slot.TheVariants.{Comma, Open, Clos
 use Rattle.rv_model.specs.AssemblerSlots.{◌>>=◌, printed}
 use Rattle.rv_model.specs.AssemblerFields.{parts_of, placed, value_of, operand_parts}
 use Rattle.rv_model.specs.AssemblerTable.{read_operands, printed_operands}
-use Rattle.rv_asm.proofs.FieldLaws.{value_below, sum_of-append}
+use Rattle.rv_model.proofs.AssemblerLaws.{value_below}
+use Rattle.rv_asm.proofs.FieldLaws.{sum_of-append}
 use Rattle.rv_asm.proofs.SlotLaws.{Follows, slot_again}
 
 -- a run of bytes ends before the first of these slots

@@ -7,13 +7,12 @@ use Rattle.std.proofs.lemmas.Bool.{le-leb, lt-ltb, le-ltb, eq-eqb, ne_eqb, and_p
 use Rattle.std.proofs.lemmas.List.{length-append}
 use Rattle.rv_model.specs.AssemblerTokens.{Token, in_run, runs_on, tokens}
 use Rattle.rv_model.specs.AssemblerNumbers.{literal, register, number, at_most, in_steps, negated, hex_digits, vlmul, vta, vma, csr, csr_text, vsew_text, vlmul_text, vta_text, vma_text}
-use Rattle.rv_model.specs.declared.assembler.UnsignedField.{UnsignedField}
-use Rattle.rv_model.specs.declared.assembler.UnsignedField.TheVariants as unsigned
 use Rattle.rv_model.specs.declared.assembler.SignedField.{SignedField}
 use Rattle.rv_model.specs.declared.assembler.SignedField.TheVariants as signed
 use Rattle.rv_model.specs.declared.assembler.Slot.{Slot}
 use Rattle.rv_model.specs.declared.assembler.Slot.TheVariants.{Comma, Open, Close, V0, Scalar, Vector, Unsigned, Signed, Csr, VectorType, ShortVectorType, Mask, Word}
 use Rattle.rv_model.specs.AssemblerSlots.{◌>>=◌, accept, one, limit, half, step, steps, signed_number, vtype_names, vtype_from, vtype, read, room, signed_text, has_names, vtype_text, printed}
+use Rattle.rv_model.proofs.AssemblerLaws.{limit_small}
 use Rattle.rv_asm.proofs.Tokens.{all_run, run_first}
 use Rattle.rv_asm.proofs.NumberLaws.{is_decimal, number_again, all_run_dec, register_again, not_minus, hex_run, hex_again}
 use Rattle.rv_asm.proofs.NameLaws.{Means, csr_again, vsew_again, vlmul_again, vta_again, vma_again, vsew_digits}
@@ -218,12 +217,6 @@ unfolding tokens
 mask_again zero p end lt = refl
 mask_again (suc zero) p end lt = refl
 mask_again (suc (suc v)) p end lt = absurd (omega arith)
-
-limit_small : (u : UnsignedField) → limit u < 2 ^ 32
-limit_small unsigned.Immediate = lit< tt
-limit_small unsigned.Shift = lit< tt
-limit_small unsigned.ShiftWord = lit< tt
-limit_small unsigned.Upper = lit< tt
 
 number_means : (largest v : ℕ) → v ≤ largest → largest < 2 ^ 32 → Means (λ t. at_most largest (number t)) (decimal v) v
 number_means largest v le small =

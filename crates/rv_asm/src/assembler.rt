@@ -12,7 +12,8 @@ use crate::token::take;
 use rv_model::assembler::Slot;
 use rv_model::mnemonics::Mnemonic;
 
-/// The word that a text spells: the name of an instruction and its operands, or `.word` and a number.
+/// The word that a text spells: the name of an instruction and its operands, or `.word` and a
+/// number.
 pub fn assemble(text: &[u8]) -> Result<u32, AsmFault>
     ensures ok { IfOk result (λ word. spelled text.now ≡ Ok word) }
     ensures err { IfErr result (λ fault. spelled text.now ≡ Err fault.column) }
@@ -40,7 +41,8 @@ pub fn text_of(word: u32, text: &mut Text)
     ensures text { text.new.bytes ≡ canonical word }
     // Assembling the text gives the word again.
     ensures again { spelled text.new.bytes ≡ Ok word }
-    // Every instruction has its name, but for fences other than `fence`; any other word is `.word` and 8 digits.
+    // Every instruction has its name, but for fences other than `fence`; any other word is `.word`
+    // and 8 digits.
     ensures named { HasName word → IsNamed word text.new.bytes }
     ensures directive { HasNoName word → text.new.bytes ≡ directive_text word }
 {

@@ -4,5 +4,6 @@ ghost use Rattle.rv_model.specs.AssemblerNaming.{HasBitsOf};
 
 /// No word has the bits of two names; `.word`, in the last row, is no name of an instruction.
 pub fn one_name()
-    ensures { (word row other : ℕ) → row < 597 → other < 597 → HasBitsOf row word → HasBitsOf other word → row ≡ other }
+    ensures { (word row other : ℕ) → row < 597 → other < 597
+        → HasBitsOf row word → HasBitsOf other word → row ≡ other }
 {}

@@ -16,7 +16,8 @@ use rv_model::assembler::Slot;
 pub fn read_operands(bits: u32, slots: &[Slot], text: &[u8], start: usize) -> Result<u32, AsmFault>
     requires inside { start ≤ length text.now }
     requires fits { bits + spans slots.now < 2 ^ 32 }
-    ensures { Answers result (read_operands (length text.now + 1) bits slots.now (rest text.now start)) }
+    ensures { Answers result
+        (read_operands (length text.now + 1) bits slots.now (rest text.now start)) }
 {
     let mut word = bits;
     let mut at = start;

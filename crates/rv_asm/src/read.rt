@@ -14,7 +14,8 @@ use rv_model::assembler::{SignedField, Slot, UnsignedField};
 /// This very token.
 pub fn literal(word: &[u8], text: &[u8], at: usize) -> Result<(u32, usize), AsmFault>
     requires { at ≤ length text.now }
-    ensures { Reads text.now result (one (length text.now + 1) (literal word.now) (rest text.now at)) }
+    ensures { Reads text.now result
+        (one (length text.now + 1) (literal word.now) (rest text.now at)) }
 {
     let (token, after) = take(text, at)?;
     if token.text == word {
@@ -26,7 +27,8 @@ pub fn literal(word: &[u8], text: &[u8], at: usize) -> Result<(u32, usize), AsmF
 
 fn register_at(letter: u8, text: &[u8], at: usize) -> Result<(u32, usize), AsmFault>
     requires { at ≤ length text.now }
-    ensures { Reads text.now result (one (length text.now + 1) (register letter) (rest text.now at)) }
+    ensures { Reads text.now result
+        (one (length text.now + 1) (register letter) (rest text.now at)) }
 {
     let (token, after) = take(text, at)?;
     match register(letter, token.text) {
@@ -48,7 +50,8 @@ fn csr_at(text: &[u8], at: usize) -> Result<(u32, usize), AsmFault>
 
 fn unsigned_at(limit: u32, text: &[u8], at: usize) -> Result<(u32, usize), AsmFault>
     requires { at ≤ length text.now }
-    ensures { Reads text.now result (one (length text.now + 1) (λ t. at_most limit (number t)) (rest text.now at)) }
+    ensures { Reads text.now result
+        (one (length text.now + 1) (λ t. at_most limit (number t)) (rest text.now at)) }
 {
     let (token, after) = take(text, at)?;
     match number_up_to(limit, token.text) {
@@ -86,7 +89,8 @@ fn signed_at(step: u32, half: u32, text: &[u8], at: usize) -> Result<(u32, usize
     requires inside { at ≤ length text.now }
     requires step { 1 ≤ step × step ≤ 2 }
     requires half { 1 ≤ half × half < 2 ^ 30 }
-    ensures { Reads text.now result (signed_number (length text.now + 1) step half (rest text.now at)) }
+    ensures { Reads text.now result
+        (signed_number (length text.now + 1) step half (rest text.now at)) }
 {
     let (token, after) = take(text, at)?;
     if token.text == b"-".as_slice() {

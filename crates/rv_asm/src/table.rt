@@ -139,7 +139,8 @@ pub fn row_named(name: &[u8]) -> Option<usize>
 
 fn row_matching(word: u32) -> Option<usize>
     ensures within { IfSome result (λ row. row < 598) }
-    ensures first { result ≡ position (λ row. nat_eq (bit_and word (fixed_mask (slots_of row.1))) row.2) MNEMONICS }
+    ensures first { result
+        ≡ position (λ row. nat_eq (bit_and word (fixed_mask (slots_of row.1))) row.2) MNEMONICS }
 {
     MNEMONICS
         .iter()

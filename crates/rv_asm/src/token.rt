@@ -49,7 +49,8 @@ fn run_end(text: &[u8], at: usize) -> usize
     ensures above { at < result }
     ensures range { result ≤ length text.now }
     ensures run { (k : ℕ) → at < k → k < result → in_run (slice_index text.now k) ≡ true }
-    ensures ends { result < length text.now → IsTrue (in_run (slice_index text.now at)) → in_run (slice_index text.now result) ≢ true }
+    ensures ends { result < length text.now → IsTrue (in_run (slice_index text.now at))
+        → in_run (slice_index text.now result) ≢ true }
     ensures single { in_run (slice_index text.now at) ≢ true → result ≡ at + 1 }
 {
     let mut end = at + 1;

@@ -61,7 +61,8 @@ fn names_behind(vsew: u32, text: &[u8], at: usize) -> Result<(u32, usize), AsmFa
     Ok((vlmul + vsew * 8 + vta * 64 + vma * 128, at))
 }
 
-/// vtype by the names of its parts where the first token is an element width, else as a number below `count`.
+/// vtype by the names of its parts where the first token is an element width, else as a number
+/// below `count`.
 pub fn vtype_at(count: u32, text: &[u8], at: usize) -> Result<(u32, usize), AsmFault>
     requires inside { at ≤ length text.now }
     requires some { 1 ≤ count }

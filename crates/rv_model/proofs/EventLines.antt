@@ -29,7 +29,7 @@ use Rattle.rv_model.specs.Text.{is_line, IsLine, are_lines, AreLines}
 use Rattle.rv_model.specs.VectorConfiguration.{sew_bits}
 use Rattle.rv_model.specs.VectorRegisters.{register_of}
 use Rattle.rv_model.specs.VectorTypeRules.{vtype_number}
-use Rattle.rv_model.proofs.AssemblerLines.{canonical_line}
+use Rattle.rv_model.proofs.AssemblerLaws.{canonical_line}
 use Rattle.rv_model.proofs.LineLaws.{both_of}
 use Rattle.rv_model.proofs.Pieces.{of_either, Piece, ◌▸◌, hexadecimal, short_hexadecimal, number, bytes, space, flat_map_line}
 

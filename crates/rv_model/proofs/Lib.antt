@@ -1,4 +1,4 @@
-pub mod AssemblerLines
+pub mod AssemblerLaws
 pub mod EventLines
 pub mod Headline
 pub mod InstructionLaws

@@ -2,6 +2,8 @@
 use Rattle.std.proofs.Common.{◌≡◌, ℕ, ◌-◌, List, [], ◌∷◌, ◌++◌, length, length-append, take, Bool, true, false, refl, ap, ◌∙◌, sym, subst, append_assoc, append-nil, arith}
 use Rattle.std.proofs.lemmas.Bool.{eqb-true}
 use Rattle.std.proofs.Math.Seq.{take-append_seam}
+use Rattle.rv_model.specs.Setup.{Setup}
+use Rattle.rv_model.specs.Script.{World, after, after_all, told, told_all}
 use Rattle.rv_model.specs.Text.{is_newline, pieces, IsLine}
 use Rattle.rv_model.proofs.LineLaws.{pieces_at, pieces_of_line}
 use Rattle.vec_monitor.specs.EndedLines.{ended_lines}
@@ -88,3 +90,33 @@ ended_are m s r l =
     ap (λ (ps : List (List ℕ)). take (length ps - 1) ps) l.all
     ∙ ap (λ (n : ℕ). take n (l.before ++ l.last ∷ [])) count
     ∙ take-append_seam l.before (l.last ∷ [])
+
+after_all-push : (s : Setup) (w : World) (ls : List (List ℕ)) (l : List ℕ) → after_all s w (ls ++ l ∷ []) ≡ after s (after_all s w ls) l
+after_all-push s w [] l = refl
+after_all-push s w (x ∷ ls) l = after_all-push s (after s w x) ls l
+
+told_all-push : (s : Setup) (w : World) (ls : List (List ℕ)) (l : List ℕ) → told_all s w (ls ++ l ∷ []) ≡ told_all s w ls ++ told s (after_all s w ls) l
+told_all-push s w [] l = append-nil (told s w l)
+told_all-push s w (x ∷ ls) l =
+    ap (λ (t : List ℕ). told s w x ++ t) (told_all-push s (after s w x) ls l)
+    ∙ sym (append_assoc (told s w x) (told_all s (after s w x) ls) (told s (after_all s (after s w x) ls) l))
+
+-- byte by byte and then the last line, a script comes to the same as line by line
+pub machine_of_all : (m : MachineState) (s : List ℕ) → after_line (fed m [] s).machine (fed m [] s).line ≡ after_lines m (pieces s)
+machine_of_all m s =
+    let t = from_start_leaves m s in
+    ap (after_line (fed m [] s).machine) t.line
+    ∙ after_clipped (fed m [] s).machine t.last
+    ∙ ap (λ (v : MachineState). after_line v t.last) t.machine
+    ∙ ap (λ (w : World). record m { world = w }) (sym (after_all-push m.setup m.world t.before t.last))
+    ∙ ap (after_lines m) (sym t.all)
+
+pub output_of_all : (m : MachineState) (s : List ℕ) → (fed m [] s).output ++ line_output (fed m [] s).machine (fed m [] s).line ≡ lines_output m (pieces s)
+output_of_all m s =
+    let t = from_start_leaves m s in
+    ap (λ (x : List ℕ). (fed m [] s).output ++ line_output (fed m [] s).machine x) t.line
+    ∙ ap (λ (x : List ℕ). (fed m [] s).output ++ x) (output_clipped (fed m [] s).machine t.last)
+    ∙ ap (λ (v : MachineState). (fed m [] s).output ++ line_output v t.last) t.machine
+    ∙ ap (λ (x : List ℕ). x ++ line_output (after_lines m t.before) t.last) t.output
+    ∙ sym (told_all-push m.setup m.world t.before t.last)
+    ∙ ap (lines_output m) (sym t.all)

@@ -1,12 +1,12 @@
--- Byte by byte a script comes to the same as line by line.
-use Rattle.std.proofs.Common.{◌≡◌, ℕ, ◌+◌, ◌<◌, inl, inr, List, [], ◌∷◌, ◌++◌, length, take, Bool, true, false, refl, ap, ◌∙◌, sym, subst, append_assoc, append-nil, arith, eqb, cond, get_or, drop, drop-cons, add-one}
+-- A script that is taken byte by byte: what a clipped line means, and bytes in two parts.
+use Rattle.std.proofs.Common.{◌≡◌, ℕ, ◌+◌, ◌<◌, inl, inr, List, [], ◌∷◌, ◌++◌, length, take, Bool, true, false, refl, ap, ◌∙◌, sym, append_assoc, arith, eqb, cond, get_or, drop, drop-cons, add-one}
 use Rattle.std.specs.Prelude.{nat_lt, not}
-use Rattle.std.proofs.lemmas.Bool.{cases_lt, lt-ltb, eqb-true}
+use Rattle.std.proofs.lemmas.Bool.{cases_lt, lt-ltb}
 use Rattle.std.proofs.lemmas.List.{take_all, take-take, take_more, take-append-drop, length-take-le, take-append-le}
 use Rattle.rv_model.specs.Setup.{Setup}
-use Rattle.rv_model.specs.Text.{is_newline, pieces, text, is_line, IsLine}
+use Rattle.rv_model.specs.Text.{is_newline, text, is_line, IsLine}
 use Rattle.rv_model.specs.Script.{World, Kind, kind_of, prefixed, Long, events_of, common, after_events, told_by, after, told, after_all, told_all}
-use Rattle.rv_model.proofs.LineLaws.{both, both_of, pieces_at, pieces_of_line}
+use Rattle.rv_model.proofs.LineLaws.{both, both_of}
 use Rattle.vec_monitor.specs.MachineState.{MachineState, after_line, line_output}
 use Rattle.vec_monitor.specs.Feed.{Fed, longer, feed, fed}
 
@@ -54,11 +54,6 @@ after_lines m lines = record m { world = after_all m.setup m.world lines }
 abbrev pub lines_output : MachineState → List (List ℕ) → List ℕ
 lines_output m lines = told_all m.setup m.world lines
 
--- what a script puts out and leaves, the line so far being a
-pub record Comes (m : MachineState) (a s : List ℕ) (r : Fed) : Type 0 where
-  pub output : r.output ++ line_output r.machine r.line ≡ lines_output m (pieces (a ++ s))
-  pub machine : after_line r.machine r.line ≡ after_lines m (pieces (a ++ s))
-
 -- one byte's step, and then those of the rest
 abbrev pub and_then : Fed → List ℕ → Fed
 and_then one s =
@@ -72,54 +67,6 @@ feed_newline m line b e = let e' : eqb b 10 ≡ true = e in rw e' refl
 pub feed_other : (m : MachineState) (line : List ℕ) (b : ℕ) → is_newline b ≡ false → feed m line b ≡ record { machine = m; line = longer line b; output = [] }
 unfolding feed
 feed_other m line b e = let e' : eqb b 10 ≡ false = e in rw e' refl
-
-at_newline : (m : MachineState) (a s : List ℕ) → IsLine a → Comes (after_line m a) [] s (fed (after_line m a) [] s) → Comes m a (10 ∷ s) (and_then (record { machine = after_line m (take 1025 a); line = []; output = line_output m (take 1025 a) }) s)
-at_newline m a s h ih =
-    let cut : pieces (a ++ 10 ∷ s) ≡ a ∷ pieces s = pieces_at a s h in
-    let r : MachineState → Fed = λ v. fed v [] s in
-    record {
-      output =
-          append_assoc (line_output m (take 1025 a)) (r (after_line m (take 1025 a))).output (line_output (r (after_line m (take 1025 a))).machine (r (after_line m (take 1025 a))).line)
-          ∙ ap (λ (v : MachineState). line_output m (take 1025 a) ++ ((r v).output ++ line_output (r v).machine (r v).line)) (after_clipped m a)
-          ∙ ap (λ (t : List ℕ). t ++ ((r (after_line m a)).output ++ line_output (r (after_line m a)).machine (r (after_line m a)).line)) (output_clipped m a)
-          ∙ ap (λ (t : List ℕ). line_output m a ++ t) ih.output
-          ∙ sym (ap (lines_output m) cut);
-      machine = ap (λ (v : MachineState). after_line (r v).machine (r v).line) (after_clipped m a) ∙ ih.machine ∙ sym (ap (after_lines m) cut);
-    }
-
-at_other : (m : MachineState) (a s : List ℕ) (b : ℕ) → Comes m (a ++ b ∷ []) s (fed m (take 1025 (a ++ b ∷ [])) s) → Comes m a (b ∷ s) (and_then (record { machine = m; line = longer (take 1025 a) b; output = [] }) s)
-at_other m a s b ih =
-    let same : (a ++ b ∷ []) ++ s ≡ a ++ b ∷ s = append_assoc a (b ∷ []) s in
-    let r : List ℕ → Fed = λ l. fed m l s in
-    let kept : longer (take 1025 a) b ≡ take 1025 (a ++ b ∷ []) = longer_clipped a b in
-    record {
-      output = ap (λ (l : List ℕ). (r l).output ++ line_output (r l).machine (r l).line) kept ∙ ih.output ∙ ap (λ (t : List ℕ). lines_output m (pieces t)) same;
-      machine = ap (λ (l : List ℕ). after_line (r l).machine (r l).line) kept ∙ ih.machine ∙ ap (λ (t : List ℕ). after_lines m (pieces t)) same;
-    }
-
-pub comes : (m : MachineState) (a s : List ℕ) → IsLine a → Comes m a s (fed m (take 1025 a) s)
-comes m a [] h =
-    let e : pieces (a ++ []) ≡ a ∷ [] = ap pieces (append-nil a) ∙ pieces_of_line a h in
-    record {
-      output = output_clipped m a ∙ sym (append-nil (line_output m a)) ∙ sym (ap (lines_output m) e);
-      machine = after_clipped m a ∙ sym (ap (after_lines m) e);
-    }
-comes m a (b ∷ s) h =
-    let ends = comes (after_line m a) [] s refl in
-    let goes : IsLine (a ++ b ∷ []) → Comes m (a ++ b ∷ []) s (fed m (take 1025 (a ++ b ∷ [])) s) = λ k. comes m (a ++ b ∷ []) s k in
-    by_byte m a s b h ends goes (is_newline b) refl
-  where
-    by_byte : (m : MachineState) (a s : List ℕ) (b : ℕ) → IsLine a → Comes (after_line m a) [] s (fed (after_line m a) [] s) → (IsLine (a ++ b ∷ []) → Comes m (a ++ b ∷ []) s (fed m (take 1025 (a ++ b ∷ [])) s)) → (t : Bool) → is_newline b ≡ t → Comes m a (b ∷ s) (fed m (take 1025 a) (b ∷ s))
-    by_byte m a s b h ends goes true e =
-        let ten : b ≡ 10 = eqb-true b 10 e in
-        subst (λ (f : Fed). Comes m a (b ∷ s) (and_then f s)) (sym (feed_newline m (take 1025 a) b e))
-        (subst (λ (c : ℕ). Comes m a (c ∷ s) (and_then (record { machine = after_line m (take 1025 a); line = []; output = line_output m (take 1025 a) }) s)) (sym ten) (at_newline m a s h ends))
-    by_byte m a s b h ends goes false e =
-        subst (λ (f : Fed). Comes m a (b ∷ s) (and_then f s)) (sym (feed_other m (take 1025 a) b e)) (at_other m a s b (goes (is_line_push a b h e)))
-
--- a script from its start
-pub from_start : (m : MachineState) (s : List ℕ) → Comes m [] s (fed m [] s)
-from_start m s = comes m [] s refl
 
 -- a script in two parts
 pub record InTwo (r one two : Fed) : Type 0 where

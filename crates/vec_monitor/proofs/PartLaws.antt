@@ -1,5 +1,5 @@
 -- A change of one user's context and memory changes that user's part alone.
-use Rattle.std.proofs.Common.{◌≡◌, ℕ, zero, suc, ◌+◌, ◌-◌, ◌<◌, ◌≤◌, List, [], ◌∷◌, length, get_or, set, refl, ap, ◌∙◌, sym, arith, None, Ok, Err, replicate, Bool, true, false, cond, ◌⊎◌, inl, inr}
+use Rattle.std.proofs.Common.{◌≡◌, ℕ, zero, suc, ◌+◌, ◌-◌, ◌<◌, ◌≤◌, List, [], ◌∷◌, length, get_or, set, refl, ap, ◌∙◌, sym, arith, None, Ok, Err, replicate}
 use Rattle.std.proofs.lemmas.List.{set-get_or, get_or-set_same}
 use Rattle.std.specs.FinMap.{empty}
 use Rattle.rv_model.specs.declared.command.Cmd.{Cmd}
@@ -83,8 +83,3 @@ absent_parts (suc n) = ap (λ (ps : List Private). None ∷ ps) (absent_parts n)
 pub new_users : (cs : List Context) (ts : List Addresses) (ms : List Memory) → cs ≡ replicate 8 new_context → ts ≡ replicate 8 [] → ms ≡ no_memories → world_of cs ts ms ≡ new_world
 unfolding new_world
 new_users cs ts ms p q r = rw (p, q, r) (ap (λ (ps : List Private). let w : World = record { parts = ps; cursor = 8 } in w) (absent_parts 8))
-
--- a lender whose value came back stands as if what it lends now had come back
-pub came_back : {V S : Type 0} (back : V → S → V) (lent : V → S) (b : Bool) (v v' : V) (s : S) → lent (back v s) ≡ s → v' ≡ cond b (back v s) v → (v' ≡ back v (lent v')) ⊎ (v' ≡ v)
-came_back back lent true v v' s again e = inl (e ∙ ap (back v) (sym (ap lent e ∙ again)))
-came_back back lent false v v' s again e = inr e

@@ -8,8 +8,8 @@ use Rattle.rv_model.proofs.Headline.{headline}
 use Rattle.vec_monitor.specs.MachineState.{MachineState, after_line, line_output}
 use Rattle.vec_monitor.specs.EndedLines.{ended_lines}
 use Rattle.vec_monitor.specs.Feed.{fed}
-use Rattle.vec_monitor.proofs.EndedLaws.{Leaves, from_start_leaves, ended_are}
-use Rattle.vec_monitor.proofs.Feeding.{goes_on, from_start, after_clipped, output_clipped}
+use Rattle.vec_monitor.proofs.EndedLaws.{Leaves, from_start_leaves, ended_are, machine_of_all, output_of_all}
+use Rattle.vec_monitor.proofs.Feeding.{goes_on, after_clipped, output_clipped}
 
 -- the first a + n bytes of a script, of which the first a were read before
 pub first_bytes : (s0 rest : List ℕ) (a n : ℕ) → s0 ≡ take a s0 ++ rest → a + length rest ≡ length s0 → take (a + n) s0 ≡ take a s0 ++ take n rest
@@ -59,7 +59,7 @@ unfolding after_script
 machine_ends m0 s0 front m line shown all same p l =
     let p' : m ≡ (fed m0 [] s0).machine = p ∙ ap (λ (x : List ℕ). (fed m0 [] x).machine) all in
     let l' : line ≡ (fed m0 [] s0).line = l ∙ ap (λ (x : List ℕ). (fed m0 [] x).line) all in
-    ap (after_line m) (same ∙ l') ∙ ap (λ (v : MachineState). after_line v (fed m0 [] s0).line) p' ∙ (from_start m0 s0).machine
+    ap (after_line m) (same ∙ l') ∙ ap (λ (v : MachineState). after_line v (fed m0 [] s0).line) p' ∙ machine_of_all m0 s0
 
 pub output_ends : (m0 : MachineState) (s0 front : List ℕ) (m : MachineState) (line shown held0 held held' : List ℕ) → front ≡ s0 → shown ≡ line → m ≡ (fed m0 [] front).machine → line ≡ (fed m0 [] front).line → held ≡ held0 ++ (fed m0 [] front).output → held' ≡ held ++ line_output m shown → held' ≡ held0 ++ whole_from m0.setup m0.world s0
 unfolding whole_from
@@ -70,7 +70,7 @@ output_ends m0 s0 front m line shown held0 held held' all same p l h k =
     k ∙ ap (λ (x : List ℕ). held ++ line_output m x) (same ∙ l') ∙ ap (λ (v : MachineState). held ++ line_output v (fed m0 [] s0).line) p'
     ∙ ap (λ (x : List ℕ). x ++ line_output (fed m0 [] s0).machine (fed m0 [] s0).line) h'
     ∙ append_assoc held0 (fed m0 [] s0).output (line_output (fed m0 [] s0).machine (fed m0 [] s0).line)
-    ∙ ap (λ (x : List ℕ). held0 ++ x) (from_start m0 s0).output
+    ∙ ap (λ (x : List ℕ). held0 ++ x) (output_of_all m0 s0)
 
 -- before the end of the script
 pub world_before_end : (m0 m : MachineState) (front : List ℕ) → m ≡ (fed m0 [] front).machine → m.world ≡ after_all m0.setup m0.world (ended_lines front)

@@ -1,6 +1,6 @@
 -- The images that a machine borrows.
-use Rattle.std.specs.Prelude.{List, map}
-use Rattle.rv_model.specs.Setup.{Image as NamedImage}
+use Rattle.std.specs.Prelude.{ℕ, List, map}
+use Rattle.rv_model.specs.Setup.{Setup, Image as NamedImage}
 use Rattle.vec_monitor.specs.declared.image.Image.{Image}
 
 -- a borrowed image by what it holds
@@ -9,3 +9,7 @@ named_image image = record { name = image.name.now; bytes = image.bytes.now }
 
 abbrev pub named_images : List Image → List NamedImage
 named_images images = map named_image images
+
+-- the fixed parameters: the ticks of a slice, and these images
+abbrev pub setup_of : ℕ → List Image → Setup
+setup_of quantum images = record { quantum = quantum; images = named_images images }

@@ -24,9 +24,10 @@ use user_mem::Pool;
 
 /// Carries out a command of a user, and answers it. `traces` are those of all users.
 #[tactic(auto, using(crate::proofs::PartLaws::trace_there))]
-pub fn carry_out<A: Allocator>(context: &mut Context, traces: &mut [Trace<A>; 8], pool: &mut Pool<A>, user: User, cmd: &Cmd, reply: &mut Reply)
+pub fn carry_out<A: Allocator>(context: &mut Context, traces: &mut [Trace<A>], pool: &mut Pool<A>, user: User, cmd: &Cmd, reply: &mut Reply)
     requires clear { reply.old ≡ [] }
     requires within { user - 1 < length pool.old }
+    requires traced { user - 1 < length traces.old }
     requires range { AreInRange cmd.now }
     ensures next { private_of context.new (trace_of traces.new user) (memory_of_user pool.new user)
         ≡ (commanded (private_of context.old (trace_of traces.old user) (memory_of_user pool.old user)) (Ok cmd.now)).next }

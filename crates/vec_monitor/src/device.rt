@@ -25,8 +25,10 @@ pub trait Source {
     fn read(&mut self, buffer: &mut [u8]) -> Result<usize, DeviceFault>
         ensures bound { IfOk result (λ n. n ≤ length buffer.new) }
         ensures tells { tells self.old → tells self.new }
-        ensures gave { tells self.old → IfOk result (λ n. rest self.old ≡ take n buffer.new ++ rest self.new) }
-        ensures end { tells self.old → IfOk result (λ n. n ≡ 0 → 0 < length buffer.new → rest self.new ≡ []) }
+        ensures gave { tells self.old → IfOk result (λ n. rest self.old
+            ≡ take n buffer.new ++ rest self.new) }
+        ensures end { tells self.old → IfOk result (λ n. n ≡ 0 → 0 < length buffer.new →
+            rest self.new ≡ []) }
         ensures kept { tells self.old → OnErr result (rest self.new ≡ rest self.old) }
         ensures count { Counts (failures self.old) (failures self.new) result };
 }
@@ -48,7 +50,8 @@ pub trait Sink {
         ensures bound { IfOk result (λ n. n ≤ length bytes.now) }
         ensures some { IfOk result (λ n. 0 < length bytes.now → 0 < n) }
         ensures tells { tells self.old → tells self.new }
-        ensures took { tells self.old → IfOk result (λ n. held self.new ≡ held self.old ++ take n bytes.now) }
+        ensures took { tells self.old → IfOk result (λ n. held self.new
+            ≡ held self.old ++ take n bytes.now) }
         ensures kept { tells self.old → OnErr result (held self.new ≡ held self.old) }
         ensures count { Counts (failures self.old) (failures self.new) result };
 }

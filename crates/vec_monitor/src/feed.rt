@@ -16,7 +16,8 @@ pub fn write_all<K: Sink>(sink: &mut K, bytes: &[u8]) -> Result<(), DeviceFault>
     ensures ok { K.tells sink.old → OnOk result (K.held sink.new ≡ K.held sink.old ++ bytes.now) }
     ensures unfailed { OnOk result (K.failures sink.new ≡ K.failures sink.old) }
     ensures cause { OnErr result (Rose (K.failures sink.old) (K.failures sink.new)) }
-    ensures part { K.tells sink.old → OnErr result ((n : ℕ) × (K.held sink.new ≡ K.held sink.old ++ take n bytes.now)) }
+    ensures part { K.tells sink.old → OnErr result ((n : ℕ) × (K.held sink.new
+        ≡ K.held sink.old ++ take n bytes.now)) }
 {
     let mut at = 0;
     while at < bytes.len() {
@@ -35,7 +36,8 @@ pub fn serve<A: Allocator, K: Sink>(
     ensures machine { machine.new ≡ after_line machine.old line.now }
     ensures setup { machine.new.setup ≡ machine.old.setup }
     ensures tells { K.tells sink.old → K.tells sink.new }
-    ensures ok { K.tells sink.old → OnOk result (K.held sink.new ≡ K.held sink.old ++ line_output machine.old line.now) }
+    ensures ok { K.tells sink.old → OnOk result (K.held sink.new
+        ≡ K.held sink.old ++ line_output machine.old line.now) }
     ensures part { K.tells sink.old → OnErr result ((n : ℕ) × (
         K.held sink.new ≡ K.held sink.old ++ take n (line_output machine.old line.now))) }
     ensures unfailed { OnOk result (K.failures sink.new ≡ K.failures sink.old) }
@@ -58,7 +60,8 @@ pub fn take_byte<A: Allocator, K: Sink>(
     ensures setup { machine.new.setup ≡ machine.old.setup }
     ensures line { OnOk result (line.new ≡ (feed machine.old line.old byte).line) }
     ensures tells { K.tells sink.old → K.tells sink.new }
-    ensures ok { K.tells sink.old → OnOk result (K.held sink.new ≡ K.held sink.old ++ (feed machine.old line.old byte).output) }
+    ensures ok { K.tells sink.old → OnOk result (K.held sink.new
+        ≡ K.held sink.old ++ (feed machine.old line.old byte).output) }
     ensures newline { OnErr result (byte ≡ 10) }
     ensures carried_out { OnErr result (machine.new ≡ after_line machine.old line.old) }
     ensures part { K.tells sink.old → OnErr result ((n : ℕ) × (
@@ -88,12 +91,14 @@ pub fn take_bytes<A: Allocator, K: Sink>(
     ensures setup { machine.new.setup ≡ machine.old.setup }
     ensures line { OnOk result (line.new ≡ (fed machine.old line.old bytes.now).line) }
     ensures tells { K.tells sink.old → K.tells sink.new }
-    ensures ok { K.tells sink.old → OnOk result (K.held sink.new ≡ K.held sink.old ++ (fed machine.old line.old bytes.now).output) }
+    ensures ok { K.tells sink.old → OnOk result (K.held sink.new
+        ≡ K.held sink.old ++ (fed machine.old line.old bytes.now).output) }
     // The bytes before the newline of the line whose answer couldn't be written whole.
     ensures part { OnErr result ((front : List ℕ) × ((back : List ℕ) × (
         (bytes.now ≡ front ++ 10 ∷ back)
         × (machine.new ≡ after_line (fed machine.old line.old front).machine (fed machine.old line.old front).line)
-        × (K.tells sink.old → (n : ℕ) × (K.held sink.new ≡ (K.held sink.old ++ (fed machine.old line.old front).output)
+        × (K.tells sink.old → (n : ℕ) × (K.held sink.new
+        ≡ (K.held sink.old ++ (fed machine.old line.old front).output)
         ++ take n (line_output (fed machine.old line.old front).machine (fed machine.old line.old front).line)))))) }
     ensures unfailed { OnOk result (K.failures sink.new ≡ K.failures sink.old) }
     ensures cause { OnErr result (Rose (K.failures sink.old) (K.failures sink.new)) }

@@ -2,6 +2,8 @@
 #![tactic(auto)]
 
 mod addressee;
+#[cfg(test)]
+mod command_tests;
 mod commands;
 mod context;
 mod device;

@@ -4,7 +4,7 @@ ghost use Rattle.rv_model.specs.PrivateMachine.{event, Command};
 ghost use Rattle.rv_model.specs.Script.{part, with_part, new_world};
 ghost use Rattle.rv_model.specs.Text.{text};
 ghost use Rattle.vec_monitor.specs.MachineState.{after_line, line_output};
-ghost use Rattle.vec_monitor.specs.Images.{named_images};
+ghost use Rattle.vec_monitor.specs.Images.{setup_of};
 ghost use Rattle.vec_monitor.specs.NewFaults.{new_fault};
 
 use crate::addressee::{Addressee, addressee_of};
@@ -27,17 +27,14 @@ pub struct Machine<'a, A: Allocator = Global> {
 impl<'a, A: Allocator> Model for Machine<'a, A> {
     ghost use Rattle.std.specs.Coded.{codes};
     ghost use Rattle.rv_model.specs.Memory.{coded_memory};
-    ghost use Rattle.vec_monitor.specs.Images.{named_images};
+    ghost use Rattle.vec_monitor.specs.Images.{setup_of};
     ghost use Rattle.vec_monitor.specs.MachineState.{MachineState};
 
     ghost Value = { MachineState };
 
     ghost coded = { Prim.hlevel (codes, coded_memory) };
 
-    ghost view = { λ m. record {
-      setup = record { quantum = m.quantum; images = named_images m.images.now };
-      world = m.users;
-    } };
+    ghost view = { λ m. record { setup = setup_of m.quantum m.images.now; world = m.users } };
 }
 
 impl<'a, A: Allocator> Machine<'a, A> {
@@ -46,13 +43,12 @@ impl<'a, A: Allocator> Machine<'a, A> {
     pub fn new(alloc: A, quantum: usize, images: &'a [Image<'a>]) -> Result<Self, NewFault>
     where
         A: Clone,
-        ensures new { IfOk result (λ machine. machine ≡ record {
-          setup = record { quantum = quantum; images = named_images images.now };
-          world = new_world;
-        }) }
-        ensures faultless { IsOk result → new_fault (record { quantum = quantum; images = named_images images.now }) ≡ None }
-        ensures fault { IfSome (new_fault (record { quantum = quantum; images = named_images images.now })) (λ fault. IsErrOf result fault) }
-        ensures memory { new_fault (record { quantum = quantum; images = named_images images.now }) ≡ None → IsOkUnless result NewFault.NoMemory }
+        ensures new { IfOk result (λ machine.
+            machine ≡ record { setup = setup_of quantum images.now; world = new_world }) }
+        ensures faultless { IsOk result → new_fault (setup_of quantum images.now) ≡ None }
+        ensures fault { IfSome (new_fault (setup_of quantum images.now)) (λ fault. IsErrOf result fault) }
+        ensures memory { new_fault (setup_of quantum images.now) ≡ None →
+            IsOkUnless result NewFault.NoMemory }
     {
         if let Some(fault) = fault_of(quantum, images) {
             return Err(fault);

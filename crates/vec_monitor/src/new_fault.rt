@@ -2,7 +2,7 @@
 ghost use Rattle.std.specs.Prelude.{◌≡◌, map};
 ghost use Rattle.std.specs.List.{list_all, list_any};
 ghost use Rattle.std.specs.Str.{bytes_eq};
-ghost use Rattle.vec_monitor.specs.Images.{named_images};
+ghost use Rattle.vec_monitor.specs.Images.{named_images, setup_of};
 ghost use Rattle.vec_monitor.specs.NewFaults.{is_name as is_name_spec, is_name_byte as is_name_byte_spec, is_small, are_distinct as are_distinct_spec, new_fault};
 
 use crate::image::Image;
@@ -119,7 +119,7 @@ fn are_distinct(images: &[Image<'_>]) -> bool
 /// The first fault that applies to this quantum and these images.
 #[tactic(auto, unfolding(crate::specs::NewFaults::new_fault))]
 pub fn fault_of(quantum: usize, images: &[Image<'_>]) -> Option<NewFault>
-    ensures { result ≡ new_fault (record { quantum = quantum; images = named_images images.now }) }
+    ensures { result ≡ new_fault (setup_of quantum images.now) }
 {
     if quantum < 1 || quantum > MAX_QUANTUM {
         return Some(NewFault::Quantum);

@@ -47,7 +47,8 @@ pub fn run<A: Allocator, S: Source, K: Sink>(
         machine.new.world ≡ after_script machine.old.setup machine.old.world (S.rest source.old)) }
     ensures setup { machine.new.setup ≡ machine.old.setup }
     // Each user's lines are those of a private machine that is given that user's events alone.
-    ensures headline { machine.old.world ≡ new_world → S.tells source.old → K.tells sink.old → OnOk result (
+    ensures headline { machine.old.world ≡ new_world → S.tells source.old → K.tells sink.old →
+        OnOk result (
         (output : List ℕ) → K.held sink.new ≡ K.held sink.old ++ output → (u : ℕ) → 1 ≤ u → u ≤ 8 →
         lines u output ≡ solo machine.old.setup (own machine.old.setup u (S.rest source.old))) }
     // The same for a machine that has been used.
@@ -55,10 +56,13 @@ pub fn run<A: Allocator, S: Source, K: Sink>(
         (output : List ℕ) → K.held sink.new ≡ K.held sink.old ++ output → (u : ℕ) → 1 ≤ u → u ≤ 8 →
         lines u output ≡ solo_from machine.old.setup (part u machine.old.world)
         (own_from machine.old.setup u machine.old.world (S.rest source.old))) }
-    ensures read { result ≡ Err RunFault.Read → Rose (S.failures source.old) (S.failures source.new) }
+    ensures read { result ≡ Err RunFault.Read →
+        Rose (S.failures source.old) (S.failures source.new) }
     ensures write { result ≡ Err RunFault.Write → Rose (K.failures sink.old) (K.failures sink.new) }
-    ensures too_long { S.tells source.old → result ≡ Err RunFault.TooLong → 16777216 < length (S.rest source.old) }
-    // After a failed read, the lines whose end was read have been carried out and answered, and no other.
+    ensures too_long { S.tells source.old → result ≡ Err RunFault.TooLong →
+        16777216 < length (S.rest source.old) }
+    // After a failed read, the lines whose end was read have been carried out and answered, and no
+    // other.
     ensures after_read { S.tells source.old → result ≡ Err RunFault.Read → (text : List ℕ) × (
         (S.rest source.old ≡ text ++ S.rest source.new)
         × (machine.new.world ≡ after_all machine.old.setup machine.old.world (ended_lines text))
@@ -68,11 +72,12 @@ pub fn run<A: Allocator, S: Source, K: Sink>(
     ensures after_too_long { S.tells source.old → result ≡ Err RunFault.TooLong →
         machine.new.world ≡ after_all machine.old.setup machine.old.world
         (ended_lines (take 16777216 (S.rest source.old))) }
-    ensures output_after_too_long { S.tells source.old → K.tells sink.old → result ≡ Err RunFault.TooLong →
+    ensures output_after_too_long { S.tells source.old → K.tells sink.old →
+        result ≡ Err RunFault.TooLong →
         K.held sink.new ≡ K.held sink.old ++ told_all machine.old.setup machine.old.world
         (ended_lines (take 16777216 (S.rest source.old))) }
-    // After a failed write, the lines before some line have been carried out and answered whole; that
-    // line has been carried out, and a front of its answer has been written.
+    // After a failed write, the lines before some line have been carried out and answered whole;
+    // that line has been carried out, and a front of its answer has been written.
     ensures after_write { S.tells source.old → result ≡ Err RunFault.Write →
         (before : List (List ℕ)) × ((line : List ℕ) × ((more : List (List ℕ)) × (
         (pieces (S.rest source.old) ≡ before ++ line ∷ more)

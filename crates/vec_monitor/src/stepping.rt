@@ -26,19 +26,28 @@ fn stop_of(end: StepEnd) -> Option<Stop>
         StepEnd::Ran => None,
         StepEnd::Exit(status) => Some(Stop::Exit(status)),
         StepEnd::Ebreak => Some(Stop::Ebreak),
-        StepEnd::Fault { cause, pc: _, value } => Some(Stop::Fault { cause, value }),
+        StepEnd::Fault {
+            cause,
+            pc: _,
+            value,
+        } => Some(Stop::Fault { cause, value }),
     }
 }
 
 /// One instruction over the registers, the bytes and the vector state that it works on.
-fn step_parts<M: UserBytes, V: Vectors>(scalar: &mut Scalar, memory: &mut M, vectors: &mut V) -> StepEnd
+fn step_parts<M: UserBytes, V: Vectors>(
+    scalar: &mut Scalar,
+    memory: &mut M,
+    vectors: &mut V,
+) -> StepEnd
     requires { V.ready vectors.old }
     ensures state { (step_spec 256 (hart_state scalar.old (V.lent vectors.old).state (M.memory memory.old) Policy.Keep [])).state
         ≡ hart_state scalar.new (V.lent vectors.new).state (M.memory memory.new) Policy.Keep [] }
     ensures end { (step_spec 256 (hart_state scalar.old (V.lent vectors.old).state (M.memory memory.old) Policy.Keep [])).end
         ≡ result }
     ensures others { memory.new ≡ M.with_memory memory.old (M.memory memory.new) }
-    ensures vectors { (vectors.new ≡ V.back vectors.old (V.lent vectors.new)) ⊎ (vectors.new ≡ vectors.old) }
+    ensures vectors { (vectors.new ≡ V.back vectors.old (V.lent vectors.new)) ⊎ (vectors.new
+        ≡ vectors.old) }
 {
     let mut view = View {
         scalar,
@@ -51,7 +60,12 @@ fn step_parts<M: UserBytes, V: Vectors>(scalar: &mut Scalar, memory: &mut M, vec
 }
 
 /// One instruction of a user.
-fn step_once<A: Allocator>(scalar: &mut Scalar, seat: &mut Seat, pool: &mut Pool<A>, user: User) -> StepEnd
+fn step_once<A: Allocator>(
+    scalar: &mut Scalar,
+    seat: &mut Seat,
+    pool: &mut Pool<A>,
+    user: User,
+) -> StepEnd
     ensures state { (step_spec 256 (user_state scalar.old seat.old (memory_of_user pool.old user))).state
         ≡ user_state scalar.new seat.new (memory_of_user pool.new user) }
     ensures end { (step_spec 256 (user_state scalar.old seat.old (memory_of_user pool.old user))).end ≡ result }
@@ -63,7 +77,13 @@ fn step_once<A: Allocator>(scalar: &mut Scalar, seat: &mut Seat, pool: &mut Pool
 }
 
 /// At most `count` instructions, fewer where one stops the program. Answers why it stopped.
-pub fn steps<A: Allocator>(context: &mut Context, trace: &mut Trace<A>, pool: &mut Pool<A>, user: User, count: usize) -> Option<Stop>
+pub fn steps<A: Allocator>(
+    context: &mut Context,
+    trace: &mut Trace<A>,
+    pool: &mut Pool<A>,
+    user: User,
+    count: usize,
+) -> Option<Stop>
     ensures state { (steps_spec count true (present context.old trace.old (memory_of_user pool.old user))).state
         ≡ present context.new trace.new (memory_of_user pool.new user) }
     ensures stop { (steps_spec count true (present context.old trace.old (memory_of_user pool.old user))).stop ≡ result }

@@ -1,9 +1,10 @@
-// A reader as a source, and a writer as a sink.
+//! A reader as a source, and a writer as a sink.
 ghost use Rattle.std.specs.Prelude.{◌≡◌, ℕ, IsSome, unwrap_or, []};
 
 use crate::{DeviceFault, Sink, Source};
 use std::io::{Read, Write};
 
+/// A reader as a source.
 #[derive(Drop)]
 pub struct ReaderSource<R> {
     reader: R,
@@ -11,7 +12,11 @@ pub struct ReaderSource<R> {
 }
 
 impl<R> ReaderSource<R> {
-    pub fn new(reader: R) -> Self {
+    /// A source of what the reader gives, which hasn't failed yet.
+    pub fn new(reader: R) -> Self
+        ensures reader { result.reader ≡ reader }
+        ensures count { result.failures ≡ 0 }
+    {
         ReaderSource {
             reader,
             failures: 0,
@@ -37,6 +42,7 @@ impl<R: Read> Source for ReaderSource<R> {
     }
 }
 
+/// A writer as a sink.
 #[derive(Drop)]
 pub struct WriterSink<W> {
     writer: W,
@@ -44,7 +50,11 @@ pub struct WriterSink<W> {
 }
 
 impl<W> WriterSink<W> {
-    pub fn new(writer: W) -> Self {
+    /// A sink into the writer, which hasn't failed yet.
+    pub fn new(writer: W) -> Self
+        ensures writer { result.writer ≡ writer }
+        ensures count { result.failures ≡ 0 }
+    {
         WriterSink {
             writer,
             failures: 0,

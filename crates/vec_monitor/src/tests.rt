@@ -1,5 +1,5 @@
-//! Scripts with the answers that the monitor's description gives, devices that fail, and machines that
-//! there can't be.
+//! Scripts with the answers that the monitor's description gives, devices that fail, and machines
+//! that there can't be.
 ghost use Rattle.std.specs.Prelude.{◌≡◌, ◌-◌, ◌^◌, []};
 
 use super::*;
@@ -8,7 +8,7 @@ use std::alloc::{AllocError, Global};
 use std::test::Fail;
 
 /// The output of a script on a new machine.
-fn output_of(alloc: Global, script: &[u8]) -> Result<Vec<u8>, Fail> {
+pub fn output_of(alloc: Global, script: &[u8]) -> Result<Vec<u8>, Fail> {
     let mut machine = Machine::new(alloc, 100, &[])?;
     let mut output = Vec::new(alloc);
     let mut source = ReaderSource::new(script);

@@ -19,7 +19,7 @@ use user_mem::{NoMemory, Pool};
 #[derive(Drop)]
 pub struct Users<A: Allocator> {
     contexts: [Context; 8],
-    traces: [Trace<A>; 8],
+    traces: Vec<Trace<A>, A>,
     pool: Pool<A>,
 }
 
@@ -33,10 +33,13 @@ impl<A: Allocator> Model for Users<A> {
 
     ghost coded = { Prim.hlevel (codes, coded_memory) };
 
-    ghost view = { λ u. world_of u.contexts u.traces u.pool };
+    ghost view = { λ u. world_of u.contexts u.traces.items u.pool };
 
-    ghost invariant = { λ u. AreEight u.contexts u.traces u.pool };
+    ghost invariant = { λ u. AreEight u.contexts u.traces.items u.pool };
 }
+
+/// How many users there are.
+const USER_COUNT: usize = 8;
 
 /// Eight contexts of absent users.
 fn absent_contexts() -> [Context; 8]
@@ -55,19 +58,14 @@ fn absent_contexts() -> [Context; 8]
 }
 
 /// Eight empty traces.
-fn empty_traces<A: Allocator + Clone>(alloc: &A) -> Result<[Trace<A>; 8], AllocError>
-    ensures { IfOk result (λ traces. traces ≡ replicate 8 []) }
+fn empty_traces<A: Allocator + Clone>(alloc: &A) -> Result<Vec<Trace<A>, A>, AllocError>
+    ensures { IfOk result (λ traces. traces.items ≡ replicate 8 []) }
 {
-    Ok([
-        Trace::new(alloc.clone()?)?,
-        Trace::new(alloc.clone()?)?,
-        Trace::new(alloc.clone()?)?,
-        Trace::new(alloc.clone()?)?,
-        Trace::new(alloc.clone()?)?,
-        Trace::new(alloc.clone()?)?,
-        Trace::new(alloc.clone()?)?,
-        Trace::new(alloc.clone()?)?,
-    ])
+    let mut traces = Vec::with_capacity(alloc.clone()?, USER_COUNT)?;
+    for _ in 0..USER_COUNT {
+        traces.push(Trace::new(alloc.clone()?)?)?;
+    }
+    Ok(traces)
 }
 
 impl<A: Allocator> Users<A> {
@@ -99,7 +97,14 @@ impl<A: Allocator> Users<A> {
         match parse(line) {
             Ok(cmd) => {
                 let context = &mut self.contexts[user.index()];
-                carry_out(context, &mut self.traces, &mut self.pool, user, &cmd, reply);
+                carry_out(
+                    context,
+                    self.traces.as_mut_slice(),
+                    &mut self.pool,
+                    user,
+                    &cmd,
+                    reply,
+                );
             }
             Err(refusal) => monitor_cmds::refused(reply, Tag::User(user), refusal),
         }

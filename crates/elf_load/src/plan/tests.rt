@@ -23,7 +23,7 @@ const GOOD: [u8; 128] = [
 ];
 
 // The image with other bytes from an offset on.
-fn with_bytes(mut image: [u8; 128], offset: usize, bytes: &[u8]) -> [u8; 128] {
+fn with_bytes<const SIZE: usize>(mut image: [u8; SIZE], offset: usize, bytes: &[u8]) -> [u8; SIZE] {
     for (place, byte) in image.iter_mut().skip(offset).zip(bytes) {
         *place = *byte;
     }
@@ -145,5 +145,26 @@ fn a_segment_over_the_stack_joins_its_flags(rt: HostRuntime) -> Result<(), Fail>
         assert_eq!(rt; pool.check(user, 0x7fff_e000, 4096, access), Ok(()));
     }
     assert!(rt; pool.check(user, 0x7fff_d000, 1, Access::Fetch).is_err());
+    Ok(())
+}
+
+#[test]
+fn a_later_segment_hides_an_earlier_one(rt: HostRuntime) -> Result<(), Fail> {
+    let user = User::new(1).ok_or("no user")?;
+    let mut pool = Pool::new(rt.alloc()).ok().ok_or("no memory")?;
+    // The first eight bytes of the file at 10000, read; two bytes of zeros at 10002, written.
+    let first = with_bytes(with_segment(0x10000, 8, 8), SEGMENT + 4, &[4]);
+    let image = with_bytes([0; 176], 0, &first);
+    let image = with_bytes(image, 120, &[1, 0, 0, 0, 2, 0, 0, 0]);
+    let image = with_bytes(image, 136, &[2, 0, 1]);
+    let image = with_bytes(image, 160, &[2]);
+    let image = with_bytes(image, 56, &[2]);
+    let plan = check(&image).ok().ok_or("a fault")?;
+    assert_eq!(rt; place(&plan, user, &mut pool), Ok(0x10078));
+    let mut bytes = [9; 9];
+    assert_eq!(rt; pool.read(user, 0x10000, Access::Load, &mut bytes), Ok(()));
+    assert_eq!(rt; bytes, [0x7f, b'E', 0, 0, 2, 1, 1, 0, 0]);
+    assert_eq!(rt; pool.check(user, 0x10000, 4096, Access::Store), Ok(()));
+    assert!(rt; pool.check(user, 0x10000, 4, Access::Fetch).is_err());
     Ok(())
 }
