@@ -1,6 +1,6 @@
 -- What a private machine prints are lines: no printed byte is a newline.
-use Rattle.std.proofs.Common.{◌≡◌, ℕ, zero, suc, ◌+◌, ◌*◌, ◌/◌, List, [], ◌∷◌, ◌++◌, Bool, true, false, refl, cond, Option, Some, None, Result, Ok, Err}
-use Rattle.std.specs.Prelude.{decimal, codes, flat_map, map, reverse, slice_index, slice_range}
+use Rattle.std.proofs.Common.{ℕ, zero, suc, ◌+◌, ◌*◌, ◌/◌, List, [], ◌∷◌, Bool, true, false, refl, Option, Some, None, Result, Ok, Err}
+use Rattle.std.specs.Prelude.{codes, flat_map, map, reverse, slice_index, slice_range}
 use Rattle.std.specs.List.{range_with_len}
 use Rattle.rv_model.specs.declared.command.Cmd.{Cmd}
 use Rattle.rv_model.specs.declared.command.Cmd.TheVariants.{Enter, Leave, Load, Map, Poke, Peek, Set, Regs, SetPc, Vreg, Vset, Vcsr, Asm, Dis, Step, State, Trace}
@@ -29,7 +29,7 @@ use Rattle.rv_model.specs.Text.{is_line, IsLine, are_lines, AreLines}
 use Rattle.rv_model.specs.VectorConfiguration.{sew_bits}
 use Rattle.rv_model.specs.VectorRegisters.{register_of}
 use Rattle.rv_model.specs.VectorTypeRules.{vtype_number}
-use Rattle.rv_model.proofs.AssemblerLaws.{canonical_line}
+use Rattle.rv_model.proofs.AssemblerLines.{canonical_line}
 use Rattle.rv_model.proofs.LineLaws.{both_of}
 use Rattle.rv_model.proofs.Pieces.{of_either, Piece, ◌▸◌, hexadecimal, short_hexadecimal, number, bytes, space, flat_map_line}
 

@@ -1,4 +1,5 @@
 pub mod AssemblerLaws
+pub mod AssemblerLines
 pub mod EventLines
 pub mod Headline
 pub mod InstructionLaws

@@ -24,7 +24,6 @@ mod vector_state;
 mod vector_type;
 
 pub use command::{ByteString, Cmd, Refusal, Text};
-pub use command::{ByteString, Cmd, Refusal};
 pub use control_register::ControlRegister;
 pub use elf::{ElfFault, ProgramHeader};
 pub use instruction::Instr;
