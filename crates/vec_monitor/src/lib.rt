@@ -15,6 +15,7 @@ mod machine;
 mod memory_commands;
 mod new_fault;
 mod program;
+mod program_commands;
 mod register_commands;
 mod script;
 mod stepping;
