@@ -87,9 +87,25 @@ fn parses_commands_that_look_and_set(rt: HostRuntime) {
     assert!(rt; matches!(parse(b"state"), Ok(Cmd::State)));
     assert!(rt; matches!(parse(b"trace"), Ok(Cmd::Trace)));
     assert!(rt; matches!(parse(b"setpc 1000C"), Ok(Cmd::SetPc(0x1000c))));
-    assert!(rt; matches!(parse(b"peek fFf 256"), Ok(Cmd::Peek { addr: 0xfff, count: 256 })));
+    assert!(rt;
+        matches!(
+            parse(b"peek fFf 256"),
+            Ok(Cmd::Peek {
+                addr: 0xfff,
+                count: 256
+            })
+        )
+    );
     assert!(rt; matches!(parse(b"set x31 Ab"), Ok(Cmd::Set { value: 0xab, .. })));
-    assert!(rt; matches!(parse(b"vreg v0 64"), Ok(Cmd::Vreg { width: Sew::E64, .. })));
+    assert!(rt;
+        matches!(
+            parse(b"vreg v0 64"),
+            Ok(Cmd::Vreg {
+                width: Sew::E64,
+                ..
+            })
+        )
+    );
     let line = b"vset v31 000102030405060708090a0b0c0d0e0f101112131415161718191a1b1c1d1eFF";
     assert!(rt; matches!(parse(line), Ok(Cmd::Vset { .. })));
 }

@@ -58,9 +58,9 @@ world_with cs ts ts' ms ms' u i d c' f at low eight next traces others =
     let m' = memory_of_user ms' u in
     let done : private_of c' t' m' ≡ f (part u (world_of cs ts ms)) = next ∙ ap f (sym (part_is cs ts ms u i d at low eight)) in
     let moved : parts_of (set cs (u - 1) c') ts' ms' ≡ set (parts_of cs ts ms) (u - 1) (private_of c' t' m') =
-        ap (parts_of (set cs (u - 1) c') ts') others
-        ∙ ap (λ (l : List Addresses). parts_of (set cs (u - 1) c') l (with_memory ms u m')) traces
-        ∙ parts_of-set cs ts ms (u - 1) c' t' m' (eight.contexts ∙ sym eight.traces) (eight.traces ∙ sym eight.memories) in
+    ap (parts_of (set cs (u - 1) c') ts') others
+    ∙ ap (λ (l : List Addresses). parts_of (set cs (u - 1) c') l (with_memory ms u m')) traces
+    ∙ parts_of-set cs ts ms (u - 1) c' t' m' (eight.contexts ∙ sym eight.traces) (eight.traces ∙ sym eight.memories) in
     ap (λ (j : ℕ). world_of (set cs j c') ts' ms') at
     ∙ ap (λ (ps : List Private). let r : World = record { parts = ps; cursor = 8 } in r) moved
     ∙ ap (λ (p : Private). with_part u p (world_of cs ts ms)) done

@@ -28,7 +28,15 @@ use user_mem::Pool;
 
 /// Carries out a command of a user, and answers it. `traces` are those of all users.
 #[tactic(auto, using(crate::proofs::PartLaws::trace_there))]
-pub fn carry_out<A: Allocator>(images: &[Image<'_>], context: &mut Context, traces: &mut [Trace<A>], pool: &mut Pool<A>, user: User, cmd: &Cmd<'_>, reply: &mut Reply)
+pub fn carry_out<A: Allocator>(
+    images: &[Image<'_>],
+    context: &mut Context,
+    traces: &mut [Trace<A>],
+    pool: &mut Pool<A>,
+    user: User,
+    cmd: &Cmd<'_>,
+    reply: &mut Reply,
+)
     requires clear { reply.old ≡ [] }
     requires within { user - 1 < length pool.old }
     requires traced { user - 1 < length traces.old }
@@ -45,7 +53,15 @@ pub fn carry_out<A: Allocator>(images: &[Image<'_>], context: &mut Context, trac
 }
 
 /// The same, with the user's own trace.
-fn carry_out_own<A: Allocator>(images: &[Image<'_>], context: &mut Context, trace: &mut Trace<A>, pool: &mut Pool<A>, user: User, cmd: &Cmd<'_>, reply: &mut Reply)
+fn carry_out_own<A: Allocator>(
+    images: &[Image<'_>],
+    context: &mut Context,
+    trace: &mut Trace<A>,
+    pool: &mut Pool<A>,
+    user: User,
+    cmd: &Cmd<'_>,
+    reply: &mut Reply,
+)
     requires clear { reply.old ≡ [] }
     requires within { user - 1 < length pool.old }
     requires range { AreInRange cmd.now }
@@ -64,7 +80,14 @@ fn carry_out_own<A: Allocator>(images: &[Image<'_>], context: &mut Context, trac
 
 /// The same for a user who is absent: only `enter` is accepted.
 #[tactic(auto, using(crate::specs::Lenders::memory_there, crate::specs::Lenders::same_memory, crate::proofs::CommandLaws::enter_absent, crate::proofs::CommandLaws::refused_absent))]
-fn carry_out_absent<A: Allocator>(context: &mut Context, trace: &mut Trace<A>, pool: &mut Pool<A>, user: User, cmd: &Cmd<'_>, reply: &mut Reply)
+fn carry_out_absent<A: Allocator>(
+    context: &mut Context,
+    trace: &mut Trace<A>,
+    pool: &mut Pool<A>,
+    user: User,
+    cmd: &Cmd<'_>,
+    reply: &mut Reply,
+)
     requires absent { context.old.entered ≡ false }
     requires clear { reply.old ≡ [] }
     requires within { user - 1 < length pool.old }
@@ -86,7 +109,15 @@ fn carry_out_absent<A: Allocator>(context: &mut Context, trace: &mut Trace<A>, p
 
 /// The same for a user who has entered.
 #[tactic(auto, using(crate::proofs::CommandLaws::entered_as, crate::specs::Lenders::same_memory))]
-fn carry_out_present<A: Allocator>(images: &[Image<'_>], context: &mut Context, trace: &mut Trace<A>, pool: &mut Pool<A>, user: User, cmd: &Cmd<'_>, reply: &mut Reply)
+fn carry_out_present<A: Allocator>(
+    images: &[Image<'_>],
+    context: &mut Context,
+    trace: &mut Trace<A>,
+    pool: &mut Pool<A>,
+    user: User,
+    cmd: &Cmd<'_>,
+    reply: &mut Reply,
+)
     requires present { context.old.entered ≡ true }
     requires clear { reply.old ≡ [] }
     requires within { user - 1 < length pool.old }
@@ -111,8 +142,12 @@ fn carry_out_present<A: Allocator>(images: &[Image<'_>], context: &mut Context, 
         Cmd::Set { register, value } => set_register(context, user, *register, *value, reply),
         Cmd::Regs => show_registers(context, user, reply),
         Cmd::SetPc(addr) => set_pc(context, user, *addr, reply),
-        Cmd::Vreg { register, width } => show_vector_register(context, user, *register, *width, reply),
-        Cmd::Vset { register, bytes } => set_vector_register(context, user, *register, bytes, reply),
+        Cmd::Vreg { register, width } => show_vector_register(
+            context, user, *register, *width, reply,
+        ),
+        Cmd::Vset { register, bytes } => set_vector_register(
+            context, user, *register, bytes, reply,
+        ),
         Cmd::Vcsr => show_control_registers(context, user, reply),
         Cmd::Asm { addr, text } => assemble_at(pool, user, *addr, text, reply),
         Cmd::Dis { addr, count } => show_instructions(pool, user, *addr, *count, reply),
@@ -151,7 +186,14 @@ fn leave<A: Allocator>(context: &mut Context, pool: &mut Pool<A>, user: User, re
 }
 
 /// `step`: at most `count` instructions.
-fn step<A: Allocator>(context: &mut Context, trace: &mut Trace<A>, pool: &mut Pool<A>, user: User, count: usize, reply: &mut Reply)
+fn step<A: Allocator>(
+    context: &mut Context,
+    trace: &mut Trace<A>,
+    pool: &mut Pool<A>,
+    user: User,
+    count: usize,
+    reply: &mut Reply,
+)
     requires clear { reply.old ≡ [] }
     ensures next { (images : List NamedImage) → (outcome images context.old trace.old (memory_of_user pool.old user) (Cmd.Step count)).next
         ≡ Some (present context.new trace.new (memory_of_user pool.new user)) }

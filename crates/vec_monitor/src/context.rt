@@ -51,9 +51,7 @@ impl Context {
     {
         let mut context = Context::entered();
         context.scalar.pc = entry;
-        context
-            .scalar
-            .write(Reg::new(STACK_POINTER), STACK_TOP);
+        context.scalar.write(Reg::new(STACK_POINTER), STACK_TOP);
         context
     }
 }

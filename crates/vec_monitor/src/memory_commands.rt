@@ -31,7 +31,14 @@ fn refusal_of_pages(refusal: MapRefusal) -> Refusal
 
 /// `map`: pages of zeros.
 #[tactic(auto, using(crate::specs::Lenders::memory_there, crate::proofs::CommandLaws::map_accepted, crate::proofs::CommandLaws::map_refused))]
-pub fn map_pages<A: Allocator>(pool: &mut Pool<A>, user: User, addr: u64, pages: usize, permissions: Permissions, reply: &mut Reply)
+pub fn map_pages<A: Allocator>(
+    pool: &mut Pool<A>,
+    user: User,
+    addr: u64,
+    pages: usize,
+    permissions: Permissions,
+    reply: &mut Reply,
+)
     requires clear { reply.old ≡ [] }
     requires within { user - 1 < length pool.old }
     requires fits { addr + 4096 * pages ≤ 2 ^ 48 }
@@ -49,7 +56,13 @@ pub fn map_pages<A: Allocator>(pool: &mut Pool<A>, user: User, addr: u64, pages:
 
 /// `poke`: bytes written to mapped pages, whatever these allow a program.
 #[tactic(auto, using(crate::specs::Lenders::memory_there, crate::proofs::CommandLaws::poke_accepted, crate::proofs::CommandLaws::poke_refused))]
-pub fn poke<A: Allocator>(pool: &mut Pool<A>, user: User, addr: u64, bytes: &ByteString, reply: &mut Reply)
+pub fn poke<A: Allocator>(
+    pool: &mut Pool<A>,
+    user: User,
+    addr: u64,
+    bytes: &ByteString,
+    reply: &mut Reply,
+)
     requires clear { reply.old ≡ [] }
     requires within { user - 1 < length pool.old }
     ensures next { (images : List NamedImage) (c : Context) (trace : List ℕ) → (outcome images c trace (memory_of_user pool.old user) (Cmd.Poke addr bytes.now)).next
@@ -66,7 +79,13 @@ pub fn poke<A: Allocator>(pool: &mut Pool<A>, user: User, addr: u64, bytes: &Byt
 
 /// Shows as many bytes of mapped pages as the buffer holds.
 #[tactic(auto, using(crate::proofs::CommandLaws::peek_accepted, crate::proofs::CommandLaws::peek_refused))]
-fn show_bytes<A: Allocator>(pool: &Pool<A>, user: User, addr: u64, buffer: &mut [u8], reply: &mut Reply)
+fn show_bytes<A: Allocator>(
+    pool: &Pool<A>,
+    user: User,
+    addr: u64,
+    buffer: &mut [u8],
+    reply: &mut Reply,
+)
     requires clear { reply.old ≡ [] }
     requires few { length buffer.old ≤ 256 }
     ensures next { (images : List NamedImage) (c : Context) (trace : List ℕ) → (outcome images c trace (memory_of_user pool.now user) (Cmd.Peek addr (length buffer.old))).next

@@ -40,7 +40,11 @@ fn status_of(fault: &RunFault) -> u8
 /// Runs the script on standard input. `words` is the command line, the program's name first; it
 /// takes no other word so far. Answers the status that the program ends with; for any but
 /// `STATUS_DONE` a line on standard error says why.
-pub fn vecmon<R: Input + Print + Eprint, A: Allocator + Clone>(rt: &R, alloc: A, words: &[&str]) -> u8
+pub fn vecmon<R: Input + Print + Eprint, A: Allocator + Clone>(
+    rt: &R,
+    alloc: A,
+    words: &[&str],
+) -> u8
     ensures usage { (result ≡ 2) ↔ (1 < length words.now) }
     ensures statuses { (result ≡ 0) ⊎ ((result ≡ 2) ⊎ ((result ≡ 3) ⊎ ((result ≡ 5) ⊎ (result
         ≡ 6)))) }

@@ -42,7 +42,13 @@ fn write_word<A: Allocator>(pool: &mut Pool<A>, user: User, addr: u64, word: u32
 
 /// `asm`: an instruction's word, written to mapped pages, whatever these allow a program.
 #[tactic(auto, using(crate::specs::Lenders::memory_there, crate::proofs::ProgramLaws::asm_unmapped, crate::proofs::ProgramLaws::asm_misspelled, crate::proofs::ProgramLaws::asm_accepted))]
-pub fn assemble_at<A: Allocator>(pool: &mut Pool<A>, user: User, addr: u64, instruction: &Text<'_>, reply: &mut Reply)
+pub fn assemble_at<A: Allocator>(
+    pool: &mut Pool<A>,
+    user: User,
+    addr: u64,
+    instruction: &Text<'_>,
+    reply: &mut Reply,
+)
     requires clear { reply.old ≡ [] }
     requires within { user - 1 < length pool.old }
     ensures next { (images : List NamedImage) (c : Context) (trace : List ℕ) → (outcome images c trace (memory_of_user pool.old user) (Cmd.Asm addr instruction.now)).next
@@ -60,13 +66,24 @@ pub fn assemble_at<A: Allocator>(pool: &mut Pool<A>, user: User, addr: u64, inst
             write_word(pool, user, addr, word);
             monitor_cmds::asm_line(reply, Tag::User(user), addr, word);
         }
-        Err(fault) => monitor_cmds::refused(reply, Tag::User(user), Refusal::Assembler(fault.column)),
+        Err(fault) => monitor_cmds::refused(
+            reply,
+            Tag::User(user),
+            Refusal::Assembler(fault.column),
+        ),
     }
 }
 
 /// Shows as many instructions of mapped pages as the buffer holds.
 #[tactic(auto, using(crate::proofs::ProgramLaws::dis_accepted, crate::proofs::ProgramLaws::dis_unmapped))]
-fn show_words<A: Allocator>(pool: &Pool<A>, user: User, addr: u64, count: usize, buffer: &mut [u8], reply: &mut Reply)
+fn show_words<A: Allocator>(
+    pool: &Pool<A>,
+    user: User,
+    addr: u64,
+    count: usize,
+    buffer: &mut [u8],
+    reply: &mut Reply,
+)
     requires clear { reply.old ≡ [] }
     requires few { count ≤ 16 }
     requires size { length buffer.old ≡ 4 * count }
@@ -82,7 +99,13 @@ fn show_words<A: Allocator>(pool: &Pool<A>, user: User, addr: u64, count: usize,
 }
 
 /// `dis`: words of mapped pages, whatever these allow a program, with their text.
-pub fn show_instructions<A: Allocator>(pool: &Pool<A>, user: User, addr: u64, count: usize, reply: &mut Reply)
+pub fn show_instructions<A: Allocator>(
+    pool: &Pool<A>,
+    user: User,
+    addr: u64,
+    count: usize,
+    reply: &mut Reply,
+)
     requires clear { reply.old ≡ [] }
     requires few { count ≤ 16 }
     ensures next { (images : List NamedImage) (c : Context) (trace : List ℕ) → (outcome images c trace (memory_of_user pool.now user) (Cmd.Dis addr count)).next
@@ -116,7 +139,14 @@ fn image_named<'a>(images: &[Image<'a>], name: &[u8]) -> Option<&'a [u8]>
 }
 
 /// `load` of an image without a fault.
-fn load_plan<A: Allocator>(plan: &Plan<'_>, context: &mut Context, trace: &mut Trace<A>, pool: &mut Pool<A>, user: User, reply: &mut Reply)
+fn load_plan<A: Allocator>(
+    plan: &Plan<'_>,
+    context: &mut Context,
+    trace: &mut Trace<A>,
+    pool: &mut Pool<A>,
+    user: User,
+    reply: &mut Reply,
+)
     requires sound { first_fault plan.now ≡ None }
     requires present { context.old.entered ≡ true }
     requires clear { reply.old ≡ [] }
@@ -141,7 +171,15 @@ fn load_plan<A: Allocator>(plan: &Plan<'_>, context: &mut Context, trace: &mut T
 /// `load`: the user's machine begins anew with the memory of an image. A refused `load` changes
 /// nothing.
 #[tactic(auto, using(crate::proofs::CommandLaws::entered_as, crate::specs::Lenders::same_memory, crate::proofs::ProgramLaws::load_unknown, crate::proofs::ProgramLaws::load_faulty))]
-pub fn load<A: Allocator>(images: &[Image<'_>], context: &mut Context, trace: &mut Trace<A>, pool: &mut Pool<A>, user: User, name: &Text<'_>, reply: &mut Reply)
+pub fn load<A: Allocator>(
+    images: &[Image<'_>],
+    context: &mut Context,
+    trace: &mut Trace<A>,
+    pool: &mut Pool<A>,
+    user: User,
+    name: &Text<'_>,
+    reply: &mut Reply,
+)
     requires present { context.old.entered ≡ true }
     requires clear { reply.old ≡ [] }
     requires within { user - 1 < length pool.old }

@@ -55,7 +55,13 @@ pub fn set_pc(context: &mut Context, user: User, addr: u64, reply: &mut Reply)
 
 /// `vreg`: the elements of a vector register.
 #[tactic(auto, using(crate::proofs::CommandLaws::vreg_outcome))]
-pub fn show_vector_register(context: &Context, user: User, register: VReg, width: Sew, reply: &mut Reply)
+pub fn show_vector_register(
+    context: &Context,
+    user: User,
+    register: VReg,
+    width: Sew,
+    reply: &mut Reply,
+)
     requires clear { reply.old ≡ [] }
     ensures next { (images : List NamedImage) (trace : List ℕ) (memory : Memory) → (outcome images context.now trace memory (Cmd.Vreg register width)).next
         ≡ Some (present context.now trace memory) }
@@ -68,7 +74,13 @@ pub fn show_vector_register(context: &Context, user: User, register: VReg, width
 
 /// `vset`: a vector register is written, which marks the vector state as changed.
 #[tactic(auto, using(crate::proofs::CommandLaws::vset_outcome))]
-pub fn set_vector_register(context: &mut Context, user: User, register: VReg, bytes: &RegisterBytes, reply: &mut Reply)
+pub fn set_vector_register(
+    context: &mut Context,
+    user: User,
+    register: VReg,
+    bytes: &RegisterBytes,
+    reply: &mut Reply,
+)
     requires clear { reply.old ≡ [] }
     ensures next { (images : List NamedImage) (trace : List ℕ) (memory : Memory) → (outcome images context.old trace memory (Cmd.Vset register bytes.now)).next
         ≡ Some (present context.new trace memory) }

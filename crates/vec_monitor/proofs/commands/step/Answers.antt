@@ -14,5 +14,5 @@ returns-clause-next g c = λ images.
 pub returns-clause-reply : goal.returns-clause-reply
 returns-clause-reply g c = λ images.
     let same = ap (λ (o : Outcome). text (48 + c.args.user) o.lines)
-      (step_outcome images c.args.context.now c.steps-stop.new.context c.args.trace.now c.steps-stop.new.trace (memory_of_user c.args.pool.now c.args.user) (memory_of_user c.steps-stop.new.pool c.args.user) c.args.count c.steps-stop.result c.steps-stop.ensures.state c.steps-stop.ensures.stop) in
+    (step_outcome images c.args.context.now c.steps-stop.new.context c.args.trace.now c.steps-stop.new.trace (memory_of_user c.args.pool.now c.args.user) (memory_of_user c.steps-stop.new.pool c.args.user) c.args.count c.steps-stop.result c.steps-stop.ensures.state c.steps-stop.ensures.stop) in
     c.step_line.ensures.text ∙ ap (λ (r : List ℕ). r ++ text (48 + c.args.user) (step_line c.args.count c.steps-stop.new.context.scalar.pc c.steps-stop.result ∷ [])) c.requires.clear ∙ sym same

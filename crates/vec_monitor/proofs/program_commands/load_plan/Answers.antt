@@ -11,13 +11,13 @@ pub returns-in-Ok-clause-next : goal.returns-in-Ok-clause-next
 returns-in-Ok-clause-next g c = λ images name h.
     let memory = ap (λ (ms : List Memory). memory_of_user ms c.args.user) c.in-Ok.ensures.memory ∙ memory_there c.args.pool.now c.args.user (memory_of_image c.args.plan.now) c.requires.within in
     placed_next images c.args.context.now c.loaded.result c.args.trace.now c.clear.new.self (memory_of_user c.args.pool.now c.args.user) (memory_of_user c.place.new.pool c.args.user) name c.args.plan.now c.in-Ok.entry
-      h c.requires.sound (few_pages (page_count (memory_of_image c.args.plan.now)) c.in-Ok.entry _ c.in-Ok.ensures.quota) c.in-Ok.ensures.entry c.loaded.ensures c.clear.ensures memory
+    h c.requires.sound (few_pages (page_count (memory_of_image c.args.plan.now)) c.in-Ok.entry _ c.in-Ok.ensures.quota) c.in-Ok.ensures.entry c.loaded.ensures c.clear.ensures memory
 
 pub returns-in-Ok-clause-reply : goal.returns-in-Ok-clause-reply
 returns-in-Ok-clause-reply g c = λ images name h.
     let memory = ap (λ (ms : List Memory). memory_of_user ms c.args.user) c.in-Ok.ensures.memory ∙ memory_there c.args.pool.now c.args.user (memory_of_image c.args.plan.now) c.requires.within in
     placed_reply images c.args.context.now c.args.trace.now (memory_of_user c.args.pool.now c.args.user) (memory_of_user c.place.new.pool c.args.user) name c.args.plan.now c.in-Ok.entry c.pages.result c.args.user c.args.reply.now c.loaded_line.new.reply
-      h c.requires.sound (few_pages (page_count (memory_of_image c.args.plan.now)) c.in-Ok.entry _ c.in-Ok.ensures.quota) c.in-Ok.ensures.entry memory c.pages.ensures.value c.requires.clear c.loaded_line.ensures.text
+    h c.requires.sound (few_pages (page_count (memory_of_image c.args.plan.now)) c.in-Ok.entry _ c.in-Ok.ensures.quota) c.in-Ok.ensures.entry memory c.pages.ensures.value c.requires.clear c.loaded_line.ensures.text
 
 pub returns-in-Err-clause-next : goal.returns-in-Err-clause-next
 returns-in-Err-clause-next g c = λ images name h.

@@ -17,10 +17,10 @@ loop-preserved g c =
     let moved : Context = record { entered = c.loop.context.entered; scalar = c.step_once-end.new.scalar; seat = c.step_once-end.new.seat } in
     record {
       steps =
-        ap (λ (t : List ℕ). steps n true (present moved t (memory_of_user c.step_once-end.new.pool c.args.user))) c.record.ensures
-        ∙ sym (steps_on n c.loop.context moved c.loop.trace (memory_of_user c.loop.pool c.args.user) (memory_of_user c.step_once-end.new.pool c.args.user) c.step_once-end.result c.step_once-end.ensures.state c.step_once-end.ensures.end (sym c.stop_of.ensures ∙ c.in_default.is))
-        ∙ ap (λ (k : ℕ). steps k true (present c.loop.context c.loop.trace (memory_of_user c.loop.pool c.args.user))) one_less
-        ∙ c.loop.invariant.steps;
+          ap (λ (t : List ℕ). steps n true (present moved t (memory_of_user c.step_once-end.new.pool c.args.user))) c.record.ensures
+          ∙ sym (steps_on n c.loop.context moved c.loop.trace (memory_of_user c.loop.pool c.args.user) (memory_of_user c.step_once-end.new.pool c.args.user) c.step_once-end.result c.step_once-end.ensures.state c.step_once-end.ensures.end (sym c.stop_of.ensures ∙ c.in_default.is))
+          ∙ ap (λ (k : ℕ). steps k true (present c.loop.context c.loop.trace (memory_of_user c.loop.pool c.args.user))) one_less
+          ∙ c.loop.invariant.steps;
       entered = c.loop.invariant.entered;
       others = changed_twice c.args.user _ _ _ c.loop.invariant.others c.step_once-end.ensures.others;
     }

@@ -18,9 +18,9 @@ pub returns-in-Ok-clause-world : goal.returns-in-Ok-clause-world
 returns-in-Ok-clause-world g c =
     let user : ℕ = c.args.user in
     let next = c.carry_out.ensures.next
-      ∙ ap (λ (ts : List Addresses). (commanded (named_images c.args.images.now) (private_of (get_or c.self.inside.contexts c.index.result c.index-self-index.result) (trace_of ts user) (memory_of_user c.self.inside.pool user)) (Ok c.in-Ok.cmd)).next) c.as_mut_slice.ensures.value in
+    ∙ ap (λ (ts : List Addresses). (commanded (named_images c.args.images.now) (private_of (get_or c.self.inside.contexts c.index.result c.index-self-index.result) (trace_of ts user) (memory_of_user c.self.inside.pool user)) (Ok c.in-Ok.cmd)).next) c.as_mut_slice.ensures.value in
     let traces = c.carry_out.ensures.traces
-      ∙ ap (λ (ts : List Addresses). with_trace ts user (trace_of c.carry_out.new.traces user)) c.as_mut_slice.ensures.value in
+    ∙ ap (λ (ts : List Addresses). with_trace ts user (trace_of c.carry_out.new.traces user)) c.as_mut_slice.ensures.value in
     let unset = length-set c.self.inside.traces.items (user - 1) (trace_of c.carry_out.new.traces user) in
     let kept : length c.carry_out.new.traces ≡ c.self.inside.traces.len = omega (arith, ap length traces, unset, c.self.inside.traces.ok.0) in
     ap (λ (ts : List Addresses). world_of (set c.self.inside.contexts c.index.result c.carry_out.new.context) ts c.carry_out.new.pool) (with_items_is c.self.inside.traces c.carry_out.new.traces kept)
