@@ -1,3 +1,4 @@
+pub mod DisassemblyLaws
 pub mod DigitLaws
 pub mod PieceLaws
 pub mod RegisterLines

@@ -1,9 +1,10 @@
-//! Lines of a reply that hold no number.
+//! Lines of a reply that are always the same, and refusals.
 ghost use Rattle.std.specs.Prelude.{◌≡◌, [], ◌∷◌, ◌++◌, ◌+◌, ◌≤◌, length, codes};
 ghost use Rattle.rv_model.specs.Replies.{refused as refusal_text};
 ghost use Rattle.rv_model.specs.Text.{text};
 ghost use Rattle.monitor_cmds.specs.Tag.{tag_byte};
 
+use crate::numerals::push_decimal;
 use crate::reply::Reply;
 use crate::tag::Tag;
 use rv_model::Refusal;
@@ -46,30 +47,44 @@ pub fn ok(reply: &mut Reply, tag: Tag)
     plain(reply, tag, b"ok");
 }
 
+// Adds the code of a refusal, and what it tells.
 #[tactic(auto, unfolding(rv_model::specs::Replies::refused))]
-fn refusal_code(refusal: Refusal) -> &'static [u8]
-    ensures value { result.now ≡ refusal_text refusal }
-    ensures len { length result.now ≡ 3 }
+fn push_refusal(reply: &mut Reply, refusal: Refusal)
+    requires { length reply.old + 24 ≤ 4096 }
+    ensures text { reply.new ≡ reply.old ++ refusal_text refusal }
+    ensures bound { length reply.new ≤ length reply.old + 24 }
 {
     match refusal {
-        Refusal::UnknownCommand => b"E03",
-        Refusal::Argument => b"E04",
-        Refusal::NotEntered => b"E05",
-        Refusal::AlreadyEntered => b"E06",
-        Refusal::Running => b"E07",
-        Refusal::Quota => b"E10",
-        Refusal::NotMapped => b"E11",
-        Refusal::AlreadyMapped => b"E16",
+        Refusal::UnknownCommand => reply.push(b"E03"),
+        Refusal::Argument => reply.push(b"E04"),
+        Refusal::NotEntered => reply.push(b"E05"),
+        Refusal::AlreadyEntered => reply.push(b"E06"),
+        Refusal::Running => reply.push(b"E07"),
+        Refusal::ImageName => reply.push(b"E08"),
+        Refusal::ElfFault(fault) => {
+            reply.push(b"E09 ");
+            reply.push(fault.name().as_bytes());
+        }
+        Refusal::Quota => reply.push(b"E10"),
+        Refusal::NotMapped => reply.push(b"E11"),
+        Refusal::Assembler(column) => {
+            reply.push(b"E15 ");
+            push_decimal(reply, column as u64);
+        }
+        Refusal::AlreadyMapped => reply.push(b"E16"),
     }
 }
 
-/// Adds a line with the code of a refusal, as `E04`.
+/// Adds a line with the code of a refusal, as `E04`, and what goes with it: the name of an image's
+/// fault, as `E09 Short`, or the column of a text, as `E15 14`.
 pub fn refused(reply: &mut Reply, tag: Tag, refusal: Refusal)
-    requires { length reply.old + 6 ≤ 4096 }
+    requires { length reply.old + 27 ≤ 4096 }
     ensures text { reply.new ≡ reply.old ++ text (tag_byte tag) (refusal_text refusal ∷ []) }
-    ensures bound { length reply.new ≡ length reply.old + 6 }
+    ensures bound { length reply.new ≤ length reply.old + 27 }
 {
-    plain(reply, tag, refusal_code(refusal));
+    reply.push(&[tag.byte(), b' ']);
+    push_refusal(reply, refusal);
+    reply.push(b"\n");
 }
 
 /// Adds the line `* E01`: a line of the script begins neither with a digit from 1 to 8 nor with a

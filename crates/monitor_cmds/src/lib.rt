@@ -6,12 +6,14 @@ mod fixed_lines;
 mod machine_lines;
 mod numerals;
 mod parsing;
+mod program_lines;
 mod register_lines;
 mod reply;
 mod stops;
 mod tag;
 #[cfg(test)]
 mod tests;
+mod trimming;
 mod vector_lines;
 mod words;
 
@@ -20,6 +22,7 @@ pub use fixed_lines::{
 };
 pub use machine_lines::{peek_line, state_line, trace_line};
 pub use parsing::parse;
+pub use program_lines::{asm_line, dis_lines, loaded_line};
 pub use register_lines::registers;
 pub use reply::Reply;
 pub use stops::{step_line, stop_line};

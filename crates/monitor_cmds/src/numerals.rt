@@ -1,7 +1,7 @@
 //! Numbers as replies show them.
 ghost use Rattle.std.specs.Prelude.{◌≡◌, ◌++◌, ◌+◌, ◌*◌, ◌≤◌, length, decimal};
 ghost use Rattle.hex.specs.Hex.{encode_lower};
-ghost use Rattle.rv_model.specs.Replies.{hex16};
+ghost use Rattle.rv_model.specs.Replies.{hex8, hex16};
 
 use crate::reply::Reply;
 use itoa::Buffer;
@@ -16,6 +16,18 @@ pub fn push_hex16(reply: &mut Reply, number: u64)
     let mut digits = [0; 16];
     let _ = hex::encode_to_slice(number.to_be_bytes(), &mut digits);
     reply.push(&digits);
+}
+
+/// Adds 8 hexadecimal digits in lower case, the highest first.
+#[tactic(auto, unfolding(rv_model::specs::Replies::hex8))]
+pub fn push_hex8(reply: &mut Reply, word: u32)
+    requires { length reply.old + 8 ≤ 4096 }
+    ensures text { reply.new ≡ reply.old ++ hex8 word }
+    ensures bound { length reply.new ≡ length reply.old + 8 }
+{
+    let mut word_digits = [0; 8];
+    let _ = hex::encode_to_slice(word.to_be_bytes(), &mut word_digits);
+    reply.push(&word_digits);
 }
 
 /// Adds a decimal number.

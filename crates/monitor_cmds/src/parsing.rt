@@ -9,11 +9,14 @@ ghost use Rattle.rv_model.specs.Commands.{next, done as command_done, or_argumen
 ghost use Rattle.rv_model.specs.Commands.{map_args as map_of, poke_args as poke_of, step_args as step_of};
 ghost use Rattle.rv_model.specs.Commands.{peek_args as peek_of, set_args as set_of, setpc_args as setpc_of};
 ghost use Rattle.rv_model.specs.Commands.{vreg_args as vreg_of, vset_args as vset_of};
+ghost use Rattle.rv_model.specs.Commands.{any_word as any_word_of, load_args as load_of};
+ghost use Rattle.rv_model.specs.Commands.{asm_args as asm_of, dis_args as dis_of};
 ghost use Rattle.rv_model.specs.Commands.{parse as command_of, named as named_command};
 
 use crate::arguments;
+use crate::trimming::after_two_words;
 use crate::words::Words;
-use rv_model::{ByteString, Cmd, Permissions, Refusal, Reg, RegisterBytes, Sew, VReg};
+use rv_model::{ByteString, Cmd, Permissions, Refusal, Reg, RegisterBytes, Sew, Text, VReg};
 
 // The bytes of a page.
 const PAGE: u64 = 4096;
@@ -102,9 +105,17 @@ fn register_bytes(words: &mut Words<'_>) -> Option<RegisterBytes>
     RegisterBytes::from_hex(word)
 }
 
+fn any_word<'a>(words: &mut Words<'a>) -> Option<Text<'a>>
+    ensures { MatchOption result (next any_word_of words.old ≡ None)
+        (λ value. next any_word_of words.old ≡ Some (value, words.new)) }
+{
+    let word = words.next_word()?;
+    Some(Text::new(word))
+}
+
 // The command, if no word is left.
-fn done(words: &mut Words<'_>, command: Cmd) -> Option<Cmd>
-    ensures { result ≡ command_done command words.old }
+fn done<'a>(words: &mut Words<'a>, command: Cmd<'a>) -> Option<Cmd<'a>>
+    ensures { result ≡ command_done command.entry words.old }
 {
     match words.next_word() {
         None => Some(command),
@@ -112,9 +123,18 @@ fn done(words: &mut Words<'_>, command: Cmd) -> Option<Cmd>
     }
 }
 
+// `load NAME`
+#[tactic(auto, unfolding(rv_model::specs::Commands::load_args))]
+fn load_args<'a>(words: &mut Words<'a>) -> Option<Cmd<'a>>
+    ensures { result ≡ load_of words.old }
+{
+    let name = any_word(words)?;
+    done(words, Cmd::Load(name))
+}
+
 // `map ADDR PAGES PERM`
 #[tactic(auto, unfolding(rv_model::specs::Commands::map_args))]
-fn map_args(words: &mut Words<'_>) -> Option<Cmd>
+fn map_args<'a>(words: &mut Words<'a>) -> Option<Cmd<'a>>
     ensures { result ≡ map_of words.old }
 {
     let addr = address(words)?;
@@ -135,7 +155,7 @@ fn map_args(words: &mut Words<'_>) -> Option<Cmd>
 
 // `poke ADDR HEX`
 #[tactic(auto, unfolding(rv_model::specs::Commands::poke_args))]
-fn poke_args(words: &mut Words<'_>) -> Option<Cmd>
+fn poke_args<'a>(words: &mut Words<'a>) -> Option<Cmd<'a>>
     ensures { result ≡ poke_of words.old }
 {
     let addr = address(words)?;
@@ -145,7 +165,7 @@ fn poke_args(words: &mut Words<'_>) -> Option<Cmd>
 
 // `peek ADDR N`
 #[tactic(auto, unfolding(rv_model::specs::Commands::peek_args))]
-fn peek_args(words: &mut Words<'_>) -> Option<Cmd>
+fn peek_args<'a>(words: &mut Words<'a>) -> Option<Cmd<'a>>
     ensures { result ≡ peek_of words.old }
 {
     let addr = address(words)?;
@@ -155,7 +175,7 @@ fn peek_args(words: &mut Words<'_>) -> Option<Cmd>
 
 // `set xN HEX`
 #[tactic(auto, unfolding(rv_model::specs::Commands::set_args))]
-fn set_args(words: &mut Words<'_>) -> Option<Cmd>
+fn set_args<'a>(words: &mut Words<'a>) -> Option<Cmd<'a>>
     ensures { result ≡ set_of words.old }
 {
     let register = scalar_register(words)?;
@@ -165,7 +185,7 @@ fn set_args(words: &mut Words<'_>) -> Option<Cmd>
 
 // `setpc ADDR`
 #[tactic(auto, unfolding(rv_model::specs::Commands::setpc_args))]
-fn setpc_args(words: &mut Words<'_>) -> Option<Cmd>
+fn setpc_args<'a>(words: &mut Words<'a>) -> Option<Cmd<'a>>
     ensures { result ≡ setpc_of words.old }
 {
     let addr = instruction_address(words)?;
@@ -174,7 +194,7 @@ fn setpc_args(words: &mut Words<'_>) -> Option<Cmd>
 
 // `vreg vN SEW`
 #[tactic(auto, unfolding(rv_model::specs::Commands::vreg_args))]
-fn vreg_args(words: &mut Words<'_>) -> Option<Cmd>
+fn vreg_args<'a>(words: &mut Words<'a>) -> Option<Cmd<'a>>
     ensures { result ≡ vreg_of words.old }
 {
     let register = vector_register(words)?;
@@ -184,7 +204,7 @@ fn vreg_args(words: &mut Words<'_>) -> Option<Cmd>
 
 // `vset vN HEX`
 #[tactic(auto, unfolding(rv_model::specs::Commands::vset_args))]
-fn vset_args(words: &mut Words<'_>) -> Option<Cmd>
+fn vset_args<'a>(words: &mut Words<'a>) -> Option<Cmd<'a>>
     ensures { result ≡ vset_of words.old }
 {
     let register = vector_register(words)?;
@@ -192,30 +212,59 @@ fn vset_args(words: &mut Words<'_>) -> Option<Cmd>
     done(words, Cmd::Vset { register, bytes })
 }
 
+// `asm ADDR TEXT`, where the text is all that follows the address
+#[tactic(auto, unfolding(rv_model::specs::Commands::asm_args))]
+fn asm_args<'a>(words: &mut Words<'a>, text: &'a [u8]) -> Option<Cmd<'a>>
+    ensures { result ≡ asm_of words.old text.now }
+{
+    let addr = instruction_address(words)?;
+    match text {
+        [] => None,
+        _ => Some(Cmd::Asm {
+            addr,
+            text: Text::new(text),
+        }),
+    }
+}
+
+// `dis ADDR N`
+#[tactic(auto, unfolding(rv_model::specs::Commands::dis_args))]
+fn dis_args<'a>(words: &mut Words<'a>) -> Option<Cmd<'a>>
+    ensures { result ≡ dis_of words.old }
+{
+    let addr = instruction_address(words)?;
+    let count = number(words, 1, 16)?;
+    done(words, Cmd::Dis { addr, count })
+}
+
 // `step N`
 #[tactic(auto, unfolding(rv_model::specs::Commands::step_args))]
-fn step_args(words: &mut Words<'_>) -> Option<Cmd>
+fn step_args<'a>(words: &mut Words<'a>) -> Option<Cmd<'a>>
     ensures { result ≡ step_of words.old }
 {
     let count = number(words, 1, MAX_STEPS)?;
     done(words, Cmd::Step(count))
 }
 
-fn or_argument(command: Option<Cmd>) -> Result<Cmd, Refusal>
-    ensures { result ≡ command_or_argument command }
+fn or_argument<'a>(command: Option<Cmd<'a>>) -> Result<Cmd<'a>, Refusal>
+    ensures { result ≡ command_or_argument command.entry }
 {
     command.ok_or(Refusal::Argument)
 }
 
 #[tactic(auto, unfolding(rv_model::specs::Commands::named))]
-fn named(name: &[u8], words: &mut Words<'_>) -> Result<Cmd, Refusal>
-    ensures { result ≡ named_command name.now words.old }
+// The command of a name, of the words after it, and of what follows its first argument.
+fn named<'a>(name: &[u8], words: &mut Words<'a>, text: &'a [u8]) -> Result<Cmd<'a>, Refusal>
+    ensures { result ≡ named_command name.now words.old text.now }
 {
     if name == b"enter".as_slice() {
         return or_argument(done(words, Cmd::Enter));
     }
     if name == b"leave".as_slice() {
         return or_argument(done(words, Cmd::Leave));
+    }
+    if name == b"load".as_slice() {
+        return or_argument(load_args(words));
     }
     if name == b"map".as_slice() {
         return or_argument(map_args(words));
@@ -244,6 +293,12 @@ fn named(name: &[u8], words: &mut Words<'_>) -> Result<Cmd, Refusal>
     if name == b"vcsr".as_slice() {
         return or_argument(done(words, Cmd::Vcsr));
     }
+    if name == b"asm".as_slice() {
+        return or_argument(asm_args(words, text));
+    }
+    if name == b"dis".as_slice() {
+        return or_argument(dis_args(words));
+    }
     if name == b"step".as_slice() {
         return or_argument(step_args(words));
     }
@@ -262,12 +317,12 @@ fn named(name: &[u8], words: &mut Words<'_>) -> Result<Cmd, Refusal>
 /// Refused are a name that is no command's (E03), and then a wrong number of arguments or one out
 /// of its form or range (E04).
 #[tactic(auto, unfolding(rv_model::specs::Commands::parse))]
-pub fn parse(line: &[u8]) -> Result<Cmd, Refusal>
+pub fn parse(line: &[u8]) -> Result<Cmd<'_>, Refusal>
     ensures { result ≡ command_of line.now }
 {
     let mut words = Words::new(line);
     match words.next_word() {
-        Some(name) => named(name, &mut words),
+        Some(name) => named(name, &mut words, after_two_words(line)),
         None => Err(Refusal::UnknownCommand),
     }
 }

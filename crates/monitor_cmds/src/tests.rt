@@ -1,6 +1,6 @@
 //! Lines of commands and of replies, as the monitor's description shows them.
 use super::*;
-use rv_model::{Cause, Cmd, Refusal, Scalar, Sew, Stop, User, VReg, VState};
+use rv_model::{Cause, Cmd, ElfFault, Refusal, Scalar, Sew, Stop, User, VReg, VState};
 use std::test::Fail;
 
 fn user(number: u8) -> Result<Tag, Fail> {
@@ -33,6 +33,51 @@ fn parses_each_command(rt: HostRuntime) {
         }
         _ => assert!(rt; false, "poke"),
     }
+}
+
+#[test]
+fn texts_keep_inner_spaces(rt: HostRuntime) {
+    match parse(b"  asm   10000   vadd.vv v1,  v2, v3  ") {
+        Ok(Cmd::Asm { addr, text }) => {
+            assert_eq!(rt; addr, 0x10000);
+            assert_eq!(rt; text.as_slice(), b"vadd.vv v1,  v2, v3".as_slice());
+        }
+        _ => assert!(rt; false, "asm"),
+    }
+    assert!(rt; matches!(parse(b"asm 10000  "), Err(Refusal::Argument)));
+    assert!(rt; matches!(parse(b"dis 10000 17"), Err(Refusal::Argument)));
+}
+
+#[test]
+fn prints_instructions(rt: HostRuntime) -> Result<(), Fail> {
+    let mut reply = Reply::new();
+    asm_line(&mut reply, user(1)?, 0x10004, 0x0221_80d7);
+    dis_lines(
+        &mut reply,
+        user(1)?,
+        0x10008,
+        2,
+        &[0x07, 0x64, 0x05, 0x02, 0, 0, 0, 0],
+    );
+    refused(&mut reply, user(1)?, Refusal::Assembler(15));
+    refused(
+        &mut reply,
+        user(1)?,
+        Refusal::ElfFault(ElfFault::BadFileSize),
+    );
+    loaded_line(&mut reply, user(1)?, 0x10078, 5);
+    assert_eq!(rt;
+        reply.as_slice(),
+        b"1 0000000000010004 022180d7
+1 0000000000010008 02056407 vle32.v v8, (x10)
+1 000000000001000c 00000000 .word 0x00000000
+1 E15 15
+1 E09 FileSize
+1 loaded pc=0000000000010078 pages=5
+"
+            .as_slice()
+    );
+    Ok(())
 }
 
 #[test]

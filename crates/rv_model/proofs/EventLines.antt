@@ -1,79 +1,52 @@
 -- What a private machine prints are lines: no printed byte is a newline.
-use Rattle.std.proofs.Common.{◌≡◌, ℕ, zero, suc, ◌+◌, ◌*◌, ◌/◌, ◌%◌, List, [], ◌∷◌, ◌++◌, get_or, Bool, true, false, refl, ap, arith, eqb, cond, Option, Some, None, Ok, Err}
-use Rattle.std.specs.Prelude.{not, decimal, codes, ◌==◌, nat_lt, flat_map, reverse, slice_index, slice_range}
-use Rattle.std.specs.Int.{to_be_bytes, w64}
+use Rattle.std.proofs.Common.{ℕ, zero, suc, ◌+◌, ◌*◌, ◌/◌, List, [], ◌∷◌, Bool, true, false, refl, Option, Some, None, Result, Ok, Err}
+use Rattle.std.specs.Prelude.{codes, flat_map, map, reverse, slice_index, slice_range}
 use Rattle.std.specs.List.{range_with_len}
-use Rattle.std.proofs.lemmas.Bool.Decides.{nat_tests}
-use Rattle.std.specs.Fmt.{digits, digits_onto, digit_glyph}
-use Rattle.hex.specs.Hex.{encode_lower, encode_with, lower_digits}
 use Rattle.rv_model.specs.declared.command.Cmd.{Cmd}
-use Rattle.rv_model.specs.declared.command.Cmd.TheVariants.{Enter, Leave, Map, Poke, Peek, Set, Regs, SetPc, Vreg, Vset, Vcsr, Step, State, Trace}
+use Rattle.rv_model.specs.declared.command.Cmd.TheVariants.{Enter, Leave, Load, Map, Poke, Peek, Set, Regs, SetPc, Vreg, Vset, Vcsr, Asm, Dis, Step, State, Trace}
 use Rattle.rv_model.specs.declared.command.Refusal.{Refusal}
-use Rattle.rv_model.specs.declared.command.Refusal.TheVariants.{UnknownCommand, Argument, NotEntered, AlreadyEntered, Running, Quota, NotMapped, AlreadyMapped}
+use Rattle.rv_model.specs.declared.command.Refusal.TheVariants.{UnknownCommand, Argument, NotEntered, AlreadyEntered, Running, ImageName, ElfFault as BadImage, Quota, NotMapped, Assembler, AlreadyMapped}
+use Rattle.rv_model.specs.declared.elf.ElfFault.{ElfFault}
+use Rattle.rv_model.specs.declared.elf.ElfFault.TheVariants.{BadShort, BadMagic, BadClass, BadData, BadType, BadMachine, BadHeaderSize, BadHeaderTable, BadInterp, BadFileSize, BadOutside, BadAddress, BadEntry}
 use Rattle.rv_model.specs.declared.scalar.Scalar.{Scalar}
 use Rattle.rv_model.specs.declared.step_end.Stop.{Stop}
 use Rattle.rv_model.specs.declared.step_end.Stop.TheVariants.{Breakpoint, Ebreak, Exit, Fault}
 use Rattle.rv_model.specs.declared.vector_state.VState.{VState}
 use Rattle.rv_model.specs.declared.vector_type.Sew.{Sew}
+use Rattle.rv_model.specs.AssemblerTable.{spelled, canonical}
 use Rattle.rv_model.specs.BitFields.{flag_bit}
 use Rattle.rv_model.specs.Causes.{cause_number}
 use Rattle.rv_model.specs.Commands.{parse, Parsed}
-use Rattle.rv_model.specs.Memory.{bytes_at}
-use Rattle.rv_model.specs.PrivateMachine.{Private, Present, Outcome, Halted, Event, Command, Slice, steps, slice_steps, refusal_of, carried_out, accepted, decided, commanded, sliced, slice_ends, event}
-use Rattle.rv_model.specs.Replies.{hex16, refused, register_text, register_line, register_lines, regs_lines, stop_line, step_line, state_line, peek_line, traced, trace_line, element_text, vreg_line, vcsr_line}
+use Rattle.rv_model.specs.ElfFaults.{fault_name}
+use Rattle.rv_model.specs.ElfFields.{entry_of}
+use Rattle.rv_model.specs.Image.{memory_of_image}
+use Rattle.rv_model.specs.Memory.{bytes_at, page_count}
+use Rattle.rv_model.specs.PrivateMachine.{Private, Present, Outcome, Halted, Event, Command, Slice, steps, slice_steps, refusal_of, image_named, loading, assembling, carried_out, accepted, decided, commanded, sliced, slice_ends, event}
+use Rattle.rv_model.specs.Replies.{refused, register_text, register_line, register_lines, regs_lines, stop_line, step_line, state_line, peek_line, traced, trace_line, element_text, vreg_line, vcsr_line, loaded_line, asm_line, word_in, dis_line, dis_lines}
 use Rattle.rv_model.specs.RoundingModes.{rounding_number}
-use Rattle.rv_model.specs.Setup.{Setup}
-use Rattle.rv_model.specs.Text.{is_newline, is_line, IsLine, AreLines}
+use Rattle.rv_model.specs.Setup.{Setup, Image}
+use Rattle.rv_model.specs.Text.{is_line, IsLine, are_lines, AreLines}
 use Rattle.rv_model.specs.VectorConfiguration.{sew_bits}
 use Rattle.rv_model.specs.VectorRegisters.{register_of}
 use Rattle.rv_model.specs.VectorTypeRules.{vtype_number}
-use Rattle.rv_model.proofs.LineLaws.{both, both_of}
+use Rattle.rv_model.proofs.AssemblerLines.{canonical_line}
+use Rattle.rv_model.proofs.LineLaws.{both_of}
+use Rattle.rv_model.proofs.Pieces.{of_either, Piece, ◌▸◌, hexadecimal, short_hexadecimal, number, bytes, space, flat_map_line}
 
--- what holds of both holds of the one that a test picks
-pub of_either : {A : Type 0} (P : A → Type 0) (b : Bool) (x y : A) → P x → P y → P (cond b x y)
-of_either P true x y h k = h
-of_either P false x y h k = k
-
--- no newline in two parts, no newline in the whole
-pub is_line-append : (a b : List ℕ) → IsLine a → IsLine b → IsLine (a ++ b)
-is_line-append [] b h k = k
-is_line-append (c ∷ a) b h k =
-    let two = both (not (is_newline c)) (is_line a) h in
-    both_of (not (is_newline c)) (is_line (a ++ b)) two.0 (is_line-append a b two.1 k)
-
-digit_line : (t : List ℕ) (k : ℕ) → IsLine t → not (is_newline (get_or t k 0)) ≡ true
-digit_line [] k h = refl
-digit_line (c ∷ t) zero h = (both (not (is_newline c)) (is_line t) h).0
-digit_line (c ∷ t) (suc k) h = digit_line t k (both (not (is_newline c)) (is_line t) h).1
-
-encode_line : (t bytes : List ℕ) → IsLine t → IsLine (encode_with t bytes)
-unfolding encode_with
-encode_line t [] h = refl
-encode_line t (b ∷ bs) h =
-    both_of _ _ (digit_line t (b / 16) h) (both_of _ _ (digit_line t (b % 16) h) (encode_line t bs h))
-
-pub hex16_line : (n : ℕ) → IsLine (hex16 n)
-unfolding hex16
-hex16_line n = encode_line lower_digits (to_be_bytes w64 n) refl
-
-digits_line : (k n : ℕ) (after : List ℕ) → IsLine after → IsLine (digits_onto k 10 false n after)
-digits_line zero n after h = h
-digits_line (suc k) n after h =
-    let line = both_of _ _ (glyph (n % 10)) h in
-    of_either IsLine (n / 10 == 0) _ _ line (digits_line k (n / 10) (digit_glyph false (n % 10) ∷ after) line)
-  where
-    small : (d : ℕ) → not (eqb (48 + d) 10) ≡ true
-    small d = let e : eqb (48 + d) 10 ≡ false = grind (arith, nat_tests) in ap not e
-
-    large : (d : ℕ) → not (eqb (87 + d) 10) ≡ true
-    large d = let e : eqb (87 + d) 10 ≡ false = grind (arith, nat_tests) in ap not e
-
-    glyph : (d : ℕ) → not (is_newline (digit_glyph false d)) ≡ true
-    glyph d = of_either (λ c. not (is_newline c) ≡ true) (nat_lt d 10) _ _ (small d) (large d)
-
-pub decimal_line : (n : ℕ) → IsLine (decimal n)
-unfolding digits
-decimal_line n = digits_line 64 n [] refl
+fault_name_line : (fault : ElfFault) → IsLine (fault_name fault)
+fault_name_line BadShort = refl
+fault_name_line BadMagic = refl
+fault_name_line BadClass = refl
+fault_name_line BadData = refl
+fault_name_line BadType = refl
+fault_name_line BadMachine = refl
+fault_name_line BadHeaderSize = refl
+fault_name_line BadHeaderTable = refl
+fault_name_line BadInterp = refl
+fault_name_line BadFileSize = refl
+fault_name_line BadOutside = refl
+fault_name_line BadAddress = refl
+fault_name_line BadEntry = refl
 
 refused_line : (r : Refusal) → IsLine (refused r)
 unfolding refused
@@ -82,34 +55,15 @@ refused_line Argument = refl
 refused_line NotEntered = refl
 refused_line AlreadyEntered = refl
 refused_line Running = refl
+refused_line ImageName = refl
+refused_line (BadImage fault) =
+    let code : Piece = (codes "E09 ", refl) in
+    let name : Piece = (fault_name fault, fault_name_line fault) in
+    (code ▸ name).1
 refused_line Quota = refl
 refused_line NotMapped = refl
+refused_line (Assembler column) = let code : Piece = (codes "E15 ", refl) in (code ▸ number column).1
 refused_line AlreadyMapped = refl
-
--- ---- a text without a newline, made of such texts
-
-abbrev Piece : Type 0
-Piece = (text : List ℕ) × IsLine text
-
-infixl 60 ◌▸◌
-abbrev ◌▸◌ : Piece → Piece → Piece
-a ▸ b = (a.0 ++ b.0, is_line-append a.0 b.0 a.1 b.1)
-
-abbrev hexadecimal : ℕ → Piece
-hexadecimal n = (hex16 n, hex16_line n)
-
-abbrev number : ℕ → Piece
-number n = (decimal n, decimal_line n)
-
-abbrev bytes : List ℕ → Piece
-bytes all = (encode_lower all, encode_line lower_digits all refl)
-
-abbrev space : Piece
-space = (codes " ", refl)
-
-flat_map_line : {A : Type 0} (f : A → List ℕ) (xs : List A) → ((x : A) → IsLine (f x)) → IsLine (flat_map f xs)
-flat_map_line f [] h = refl
-flat_map_line f (x ∷ xs) h = is_line-append (f x) (flat_map f xs) (h x) (flat_map_line f xs h)
 
 register_text_line : (s : Scalar) (i : ℕ) → IsLine (register_text s i)
 unfolding register_text
@@ -195,45 +149,86 @@ vcsr_line_line v =
     (vl ▸ number v.conf.vl ▸ vtype ▸ hexadecimal (vtype_number v.conf.vtype) ▸ vstart ▸ number v.vstart
     ▸ vxrm ▸ number (rounding_number v.vxrm) ▸ vxsat ▸ number (flag_bit v.vxsat)).1
 
+loaded_line_line : (pc pages : ℕ) → IsLine (loaded_line pc pages)
+unfolding loaded_line
+loaded_line_line pc pages =
+    let word : Piece = (codes "loaded pc=", refl) in
+    let count : Piece = (codes " pages=", refl) in
+    (word ▸ hexadecimal pc ▸ count ▸ number pages).1
+
+asm_line_line : (addr word : ℕ) → IsLine (asm_line addr word)
+unfolding asm_line
+asm_line_line addr word = (hexadecimal addr ▸ space ▸ short_hexadecimal word).1
+
+dis_line_line : (addr word : ℕ) → IsLine (dis_line addr word)
+unfolding dis_line
+dis_line_line addr word =
+    let place : Piece = (asm_line addr word, asm_line_line addr word) in
+    let meaning : Piece = (canonical word, canonical_line word) in
+    (place ▸ space ▸ meaning).1
+
+mapped_lines : {A : Type 0} (f : A → List ℕ) (xs : List A) → ((x : A) → IsLine (f x)) → AreLines (map f xs)
+mapped_lines f [] h = refl
+mapped_lines f (x ∷ xs) h = both_of (is_line (f x)) (are_lines (map f xs)) (h x) (mapped_lines f xs h)
+
+dis_lines_lines : (addr count : ℕ) (shown : List ℕ) → AreLines (dis_lines addr count shown)
+unfolding dis_lines
+dis_lines_lines addr count shown =
+    mapped_lines (λ i. dis_line (addr + 4 * i) (word_in shown i)) (range_with_len 0 count) (λ i. dis_line_line (addr + 4 * i) (word_in shown i))
+
 one_line : (line : List ℕ) → IsLine line → AreLines (line ∷ [])
 one_line line h = both_of (is_line line) true h refl
 
 abbrev Shows : Outcome → Type 0
 Shows o = AreLines o.lines
 
-carried_out_lines : (p : Present) (c : Cmd) → Shows (carried_out p c)
+loading_lines : (p : Present) (image : Option (List ℕ)) → Shows (loading p image)
+unfolding refused
+loading_lines p None = refl
+loading_lines p (Some image) =
+    let pages = page_count (memory_of_image image) in
+    one_line (loaded_line (entry_of image) pages) (loaded_line_line (entry_of image) pages)
+
+assembling_lines : (p : Present) (addr : ℕ) (r : Result ℕ ℕ) → Shows (assembling p addr r)
+assembling_lines p addr (Err column) = one_line (refused (Assembler column)) (refused_line (Assembler column))
+assembling_lines p addr (Ok word) = one_line (asm_line addr word) (asm_line_line addr word)
+
+carried_out_lines : (images : List Image) (p : Present) (c : Cmd) → Shows (carried_out images p c)
 unfolding carried_out
-carried_out_lines p Enter = refl
-carried_out_lines p Leave = refl
-carried_out_lines p (Map addr pages permissions) = refl
-carried_out_lines p (Poke addr bytes) = refl
-carried_out_lines p (Peek addr count) = let shown = bytes_at p.hart.memory addr count in one_line (peek_line addr shown) (peek_line_line addr shown)
-carried_out_lines p (Set register value) = refl
-carried_out_lines p Regs = regs_lines_lines p.hart.scalar
-carried_out_lines p (SetPc addr) = refl
-carried_out_lines p (Vreg register width) =
+carried_out_lines images p (Load name) = loading_lines p (image_named images name)
+carried_out_lines images p (Asm addr text) = assembling_lines p addr (spelled text)
+carried_out_lines images p (Dis addr count) = dis_lines_lines addr count (bytes_at p.hart.memory addr (4 * count))
+carried_out_lines images p Enter = refl
+carried_out_lines images p Leave = refl
+carried_out_lines images p (Map addr pages permissions) = refl
+carried_out_lines images p (Poke addr bytes) = refl
+carried_out_lines images p (Peek addr count) = let shown = bytes_at p.hart.memory addr count in one_line (peek_line addr shown) (peek_line_line addr shown)
+carried_out_lines images p (Set register value) = refl
+carried_out_lines images p Regs = regs_lines_lines p.hart.scalar
+carried_out_lines images p (SetPc addr) = refl
+carried_out_lines images p (Vreg register width) =
     let shown = register_of p.hart.vector.file register in
     one_line (vreg_line register width shown) (vreg_line_line register width shown)
-carried_out_lines p (Vset register bytes) = refl
-carried_out_lines p Vcsr = one_line (vcsr_line p.hart.vector) (vcsr_line_line p.hart.vector)
-carried_out_lines p (Step n) =
+carried_out_lines images p (Vset register bytes) = refl
+carried_out_lines images p Vcsr = one_line (vcsr_line p.hart.vector) (vcsr_line_line p.hart.vector)
+carried_out_lines images p (Step n) =
     let run : Halted = steps n true p in
     one_line (step_line n run.state.hart.scalar.pc run.stop) (step_line_line n run.state.hart.scalar.pc run.stop)
-carried_out_lines p State = one_line (state_line p.running p.hart.scalar.pc) (state_line_line p.running p.hart.scalar.pc)
-carried_out_lines p Trace = one_line (trace_line p.trace) (trace_line_line p.trace)
+carried_out_lines images p State = one_line (state_line p.running p.hart.scalar.pc) (state_line_line p.running p.hart.scalar.pc)
+carried_out_lines images p Trace = one_line (trace_line p.trace) (trace_line_line p.trace)
 
-accepted_lines : (p : Private) (c : Cmd) → Shows (accepted p c)
+accepted_lines : (images : List Image) (p : Private) (c : Cmd) → Shows (accepted images p c)
 unfolding accepted
-accepted_lines None c = refl
-accepted_lines (Some p) c = carried_out_lines p c
+accepted_lines images None c = refl
+accepted_lines images (Some p) c = carried_out_lines images p c
 
-decided_lines : (reason : Option Refusal) (p : Private) (c : Cmd) → Shows (decided reason p c)
-decided_lines None p c = accepted_lines p c
-decided_lines (Some reason) p c = one_line (refused reason) (refused_line reason)
+decided_lines : (reason : Option Refusal) (images : List Image) (p : Private) (c : Cmd) → Shows (decided reason images p c)
+decided_lines None images p c = accepted_lines images p c
+decided_lines (Some reason) images p c = one_line (refused reason) (refused_line reason)
 
-commanded_lines : (p : Private) (r : Parsed) → Shows (commanded p r)
-commanded_lines p (Err reason) = one_line (refused reason) (refused_line reason)
-commanded_lines p (Ok c) = decided_lines (refusal_of p c) p c
+commanded_lines : (images : List Image) (p : Private) (r : Parsed) → Shows (commanded images p r)
+commanded_lines images p (Err reason) = one_line (refused reason) (refused_line reason)
+commanded_lines images p (Ok c) = decided_lines (refusal_of images p c) images p c
 
 slice_ends_lines : (run : Halted) (reason : Option Stop) → Shows (slice_ends run reason)
 slice_ends_lines run None = refl
@@ -249,5 +244,5 @@ sliced_lines quantum (Some p) =
 -- whatever happens to a private machine, what it prints are lines
 pub event_lines : (s : Setup) (p : Private) (e : Event) → AreLines (event s p e).lines
 unfolding event
-event_lines s p (Command line) = commanded_lines p (parse line)
+event_lines s p (Command line) = commanded_lines s.images p (parse line)
 event_lines s p Slice = sliced_lines s.quantum p

@@ -3,6 +3,7 @@ pub mod CellsMemory
 pub mod ElementReadLaws
 pub mod ElementSetLaws
 pub mod ElementWriteLaws
+pub mod AssemblerLines
 pub mod EventLines
 pub mod Headline
 pub mod InstructionLaws
@@ -14,5 +15,6 @@ pub mod LegalityBounds
 pub mod LegalityMeaning
 pub mod LineLaws
 pub mod MemoryLaws
+pub mod Pieces
 pub mod StepLaws
 pub mod VectorArithmeticLaws

@@ -37,7 +37,7 @@ use Rattle.rv_model.specs.VectorControl.{is_write, csr_form, control_value}
 use Rattle.rv_model.specs.VectorFormulas.{is_carried_out}
 use Rattle.rv_model.specs.VectorStep.{VectorStepped, arith_step, requested_length, vset_step, after_vector, vector_executed, vector_step}
 use Rattle.rv_model.specs.declared.memory.Access.TheVariants.{Fetch}
-use Rattle.rv_model.proofs.EventLines.{of_either}
+use Rattle.rv_model.proofs.Pieces.{of_either}
 
 -- x0 reads the same
 abbrev SameFirst : Scalar → Scalar → Type 0

@@ -3,11 +3,11 @@
 use Rattle.std.specs.Prelude.{ℕ, ◌+◌, ◌*◌, ◌%◌, ◌^◌, ◌==◌, ◌&&◌, nat_le, Bool, List, [], ◌∷◌, Option, Some, None, Result, Ok, Err, if◌then◌else◌, codes}
 use Rattle.std.specs.Str.{bytes_eq}
 use Rattle.rv_model.specs.declared.command.Cmd.{Cmd}
-use Rattle.rv_model.specs.declared.command.Cmd.TheVariants.{Enter, Leave, Map, Poke, Peek, Set, Regs, SetPc, Vreg, Vset, Vcsr, Step, State, Trace}
+use Rattle.rv_model.specs.declared.command.Cmd.TheVariants.{Enter, Leave, Load, Map, Poke, Peek, Set, Regs, SetPc, Vreg, Vset, Vcsr, Asm, Dis, Step, State, Trace}
 use Rattle.rv_model.specs.declared.command.Refusal.{Refusal}
 use Rattle.rv_model.specs.declared.command.Refusal.TheVariants.{UnknownCommand, Argument}
 use Rattle.rv_model.specs.Arguments.{number, address, instruction_address, permissions, byte_string, scalar_register, vector_register, element_width, register_bytes}
-use Rattle.rv_model.specs.Words.{words}
+use Rattle.rv_model.specs.Words.{words, after_two_words}
 
 infixl 10 ◌>>=◌
 abbrev pub ◌>>=◌ : {A B : Type 0} → Option A → (A → Option B) → Option B
@@ -31,6 +31,16 @@ done c (w ∷ ws) = None
 -- whole pages that end at 2 ^ 48 or below
 abbrev pub are_pages : ℕ → ℕ → Bool
 are_pages addr count = (addr % 4096 == 0) && nat_le (addr + 4096 * count) (2 ^ 48)
+
+-- any word
+abbrev pub any_word : List ℕ → Option (List ℕ)
+any_word word = Some word
+
+-- NAME
+unfoldable pub load_args : List (List ℕ) → Option Cmd
+load_args ws = do
+  name ← next any_word ws
+  done (Load name.0) name.1
 
 -- ADDR PAGES PERM
 unfoldable pub map_args : List (List ℕ) → Option Cmd
@@ -81,6 +91,24 @@ vset_args ws = do
   bytes ← next register_bytes register.1
   done (Vset register.0 bytes.0) bytes.1
 
+-- an instruction's text, which has a byte at least, for an address
+abbrev pub with_text : ℕ → List ℕ → Option Cmd
+with_text addr [] = None
+with_text addr (b ∷ bs) = Some (Asm addr (b ∷ bs))
+
+-- ADDR TEXT, the text being all that follows
+unfoldable pub asm_args : List (List ℕ) → List ℕ → Option Cmd
+asm_args ws text = do
+  addr ← next instruction_address ws
+  with_text addr.0 text
+
+-- ADDR N
+unfoldable pub dis_args : List (List ℕ) → Option Cmd
+dis_args ws = do
+  addr ← next instruction_address ws
+  count ← next (number 1 16) addr.1
+  done (Dis addr.0 count.0) count.1
+
 -- N
 unfoldable pub step_args : List (List ℕ) → Option Cmd
 step_args ws = do
@@ -94,11 +122,12 @@ abbrev pub or_argument : Option Cmd → Parsed
 or_argument None = Err Argument
 or_argument (Some c) = Ok c
 
--- a command by its name
-unfoldable pub named : List ℕ → List (List ℕ) → Parsed
-named name args =
+-- a command by its name, its arguments as words, and what follows its first argument as it stands in the line
+unfoldable pub named : List ℕ → List (List ℕ) → List ℕ → Parsed
+named name args text =
     if bytes_eq name (codes "enter") then or_argument (done Enter args)
     else if bytes_eq name (codes "leave") then or_argument (done Leave args)
+    else if bytes_eq name (codes "load") then or_argument (load_args args)
     else if bytes_eq name (codes "map") then or_argument (map_args args)
     else if bytes_eq name (codes "poke") then or_argument (poke_args args)
     else if bytes_eq name (codes "peek") then or_argument (peek_args args)
@@ -108,15 +137,17 @@ named name args =
     else if bytes_eq name (codes "vreg") then or_argument (vreg_args args)
     else if bytes_eq name (codes "vset") then or_argument (vset_args args)
     else if bytes_eq name (codes "vcsr") then or_argument (done Vcsr args)
+    else if bytes_eq name (codes "asm") then or_argument (asm_args args text)
+    else if bytes_eq name (codes "dis") then or_argument (dis_args args)
     else if bytes_eq name (codes "step") then or_argument (step_args args)
     else if bytes_eq name (codes "state") then or_argument (done State args)
     else if bytes_eq name (codes "trace") then or_argument (done Trace args)
     else Err UnknownCommand
 
-abbrev pub command : List (List ℕ) → Parsed
-command [] = Err UnknownCommand
-command (name ∷ args) = named name args
+abbrev pub command : List (List ℕ) → List ℕ → Parsed
+command [] text = Err UnknownCommand
+command (name ∷ args) text = named name args text
 
 -- the command that a line spells, without the user's digit and the space after it
 unfoldable pub parse : List ℕ → Parsed
-parse line = command (words line)
+parse line = command (words line) (after_two_words line)

@@ -39,6 +39,7 @@ small_scripts =
     ∷ (codes "1 enter\n1 setpc 1000C\n1 state\n", codes "1 entered\n1 ok\n1 state stopped pc=000000000001000c\n")
     ∷ (codes "1 enter\n1 vcsr\n", codes "1 entered\n1 vl=0 vtype=8000000000000000 vstart=0 vxrm=0 vxsat=0\n")
     ∷ (codes "1 setpc 2\n1 set x0 1\n1 set x01 1\n1 set x32 1\n1 vset v0 00\n1 vreg v0 128\n1 peek 0 0\n", codes "1 E04\n1 E04\n1 E04\n1 E04\n1 E04\n1 E04\n1 E04\n")
+    ∷ (codes "1 asm 0\n1 asm 2 ecall\n1 asm 0  \n1 dis 0 0\n1 dis 2 1\n1 dis 0 17\n1 load\n1 load a b\n", codes "1 E04\n1 E04\n1 E04\n1 E04\n1 E04\n1 E04\n1 E04\n1 E04\n")
     ∷ []
 
 -- each prints just that

@@ -1,17 +1,19 @@
 -- What a machine prints: numbers in decimal, 64-bit values as 16 lower-case hexadecimal digits.
-use Rattle.std.specs.Prelude.{ℕ, zero, suc, ◌+◌, ◌*◌, ◌/◌, Bool, List, [], ◌∷◌, ◌++◌, decimal, codes, slice_index, slice_range, reverse, flat_map, Option, Some, None, if◌then◌else◌}
+use Rattle.std.specs.Prelude.{ℕ, zero, suc, ◌+◌, ◌*◌, ◌/◌, map, Bool, List, [], ◌∷◌, ◌++◌, decimal, codes, slice_index, slice_range, reverse, flat_map, Option, Some, None, if◌then◌else◌}
 use Rattle.std.specs.List.{range_with_len}
-use Rattle.std.specs.Int.{to_be_bytes, w64}
+use Rattle.std.specs.Int.{to_be_bytes, from_le_bytes, w32, w64}
 use Rattle.hex.specs.Hex.{encode_lower}
 use Rattle.rv_model.specs.declared.command.Refusal.{Refusal}
-use Rattle.rv_model.specs.declared.command.Refusal.TheVariants.{UnknownCommand, Argument, NotEntered, AlreadyEntered, Running, Quota, NotMapped, AlreadyMapped}
+use Rattle.rv_model.specs.declared.command.Refusal.TheVariants.{UnknownCommand, Argument, NotEntered, AlreadyEntered, Running, ImageName, ElfFault, Quota, NotMapped, Assembler, AlreadyMapped}
 use Rattle.rv_model.specs.declared.scalar.Scalar.{Scalar}
 use Rattle.rv_model.specs.declared.step_end.Stop.{Stop}
 use Rattle.rv_model.specs.declared.step_end.Stop.TheVariants.{Breakpoint, Ebreak, Exit, Fault}
 use Rattle.rv_model.specs.declared.vector_state.VState.{VState}
 use Rattle.rv_model.specs.declared.vector_type.Sew.{Sew}
+use Rattle.rv_model.specs.AssemblerTable.{canonical}
 use Rattle.rv_model.specs.BitFields.{flag_bit}
 use Rattle.rv_model.specs.Causes.{cause_number}
+use Rattle.rv_model.specs.ElfFaults.{fault_name}
 use Rattle.rv_model.specs.RoundingModes.{rounding_number}
 use Rattle.rv_model.specs.VectorConfiguration.{sew_bits}
 use Rattle.rv_model.specs.VectorTypeRules.{vtype_number}
@@ -20,14 +22,21 @@ use Rattle.rv_model.specs.VectorTypeRules.{vtype_number}
 unfoldable pub hex16 : ℕ → List ℕ
 hex16 n = encode_lower (to_be_bytes w64 n)
 
+-- 8 hexadecimal digits, the highest first
+unfoldable pub hex8 : ℕ → List ℕ
+hex8 n = encode_lower (to_be_bytes w32 n)
+
 unfoldable pub refused : Refusal → List ℕ
 refused UnknownCommand = codes "E03"
 refused Argument = codes "E04"
 refused NotEntered = codes "E05"
 refused AlreadyEntered = codes "E06"
 refused Running = codes "E07"
+refused ImageName = codes "E08"
+refused (ElfFault fault) = codes "E09 " ++ fault_name fault
 refused Quota = codes "E10"
 refused NotMapped = codes "E11"
+refused (Assembler column) = codes "E15 " ++ decimal column
 refused AlreadyMapped = codes "E16"
 
 -- a register with its name
@@ -90,3 +99,23 @@ vcsr_line v =
     codes "vl=" ++ decimal v.conf.vl ++ codes " vtype=" ++ hex16 (vtype_number v.conf.vtype)
     ++ codes " vstart=" ++ decimal v.vstart ++ codes " vxrm=" ++ decimal (rounding_number v.vxrm)
     ++ codes " vxsat=" ++ decimal (flag_bit v.vxsat)
+
+-- the answer to `load`: the program counter, and how many pages the user has
+unfoldable pub loaded_line : ℕ → ℕ → List ℕ
+loaded_line pc pages = codes "loaded pc=" ++ hex16 pc ++ codes " pages=" ++ decimal pages
+
+-- an address and the word there, as `asm` answers
+unfoldable pub asm_line : ℕ → ℕ → List ℕ
+asm_line addr word = hex16 addr ++ codes " " ++ hex8 word
+
+-- the same with the word's text
+unfoldable pub dis_line : ℕ → ℕ → List ℕ
+dis_line addr word = asm_line addr word ++ codes " " ++ canonical word
+
+-- word i of these bytes, least byte first
+abbrev pub word_in : List ℕ → ℕ → ℕ
+word_in bytes i = from_le_bytes w32 (slice_range bytes (4 * i) (4 * i + 4))
+
+-- the answer to `dis`: so many words, which are these bytes from an address on
+unfoldable pub dis_lines : ℕ → ℕ → List ℕ → List (List ℕ)
+dis_lines addr count bytes = map (λ i. dis_line (addr + 4 * i) (word_in bytes i)) (range_with_len 0 count)

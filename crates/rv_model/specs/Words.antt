@@ -1,5 +1,5 @@
 -- The words of a command line: runs of bytes between spaces (byte 20).
-use Rattle.std.specs.Prelude.{ℕ, ◌==◌, Bool, true, false, List, [], ◌∷◌, filter}
+use Rattle.std.specs.Prelude.{ℕ, ◌==◌, Bool, true, false, not, List, [], ◌∷◌, filter, reverse, if◌then◌else◌}
 use Rattle.std.specs.List.{slice_split}
 
 abbrev pub is_space : ℕ → Bool
@@ -17,3 +17,23 @@ words line = filter has_bytes (slice_split is_space line)
 abbrev pub with_piece : List ℕ → List (List ℕ) → List (List ℕ)
 with_piece [] ws = ws
 with_piece (b ∷ bs) ws = (b ∷ bs) ∷ ws
+
+-- the bytes from the first on that fails a test
+abbrev pub skip_while : (ℕ → Bool) → List ℕ → List ℕ
+skip_while test [] = []
+skip_while test (b ∷ bs) = if test b then skip_while test bs else b ∷ bs
+
+-- a line without the spaces at its start, and without those at its end
+unfoldable pub trim_start : List ℕ → List ℕ
+trim_start line = skip_while is_space line
+
+unfoldable pub trim_end : List ℕ → List ℕ
+trim_end line = reverse (skip_while is_space (reverse line))
+
+-- what follows the first word of a line
+unfoldable pub after_word : List ℕ → List ℕ
+after_word line = skip_while (λ b. not (is_space b)) (trim_start line)
+
+-- what follows the first two words of a line, without the spaces around it; those inside it are kept
+unfoldable pub after_two_words : List ℕ → List ℕ
+after_two_words line = trim_end (trim_start (after_word (after_word line)))

@@ -2,6 +2,7 @@
 ghost use Rattle.std.specs.Prelude.{◌≡◌};
 ghost use Rattle.rv_model.specs.Arguments.{byte_string};
 
+use crate::elf::ElfFault;
 use crate::memory::Permissions;
 use crate::operands::{Reg, VReg};
 use crate::register_bytes::RegisterBytes;
@@ -49,13 +50,45 @@ impl ByteString {
     }
 }
 
-/// A command of a user with its arguments.
+/// A part of a command's line: the name of an image, or the text of an instruction.
 #[derive(Drop)]
-pub enum Cmd {
+pub struct Text<'a> {
+    bytes: &'a [u8],
+}
+
+impl<'a> Model for Text<'a> {
+    ghost use Rattle.std.specs.Prelude.{List, ℕ};
+
+    ghost Value = { List ℕ };
+
+    ghost view = { λ t. t.bytes.now };
+}
+
+impl<'a> Text<'a> {
+    /// The text of these bytes.
+    pub fn new(bytes: &'a [u8]) -> Text<'a>
+        ensures { result ≡ bytes.now }
+    {
+        Text { bytes }
+    }
+
+    /// The bytes.
+    pub fn as_slice(&self) -> &'a [u8]
+        ensures { result.now ≡ self.now }
+    {
+        self.bytes
+    }
+}
+
+/// A command of a user with its arguments. It borrows names and texts from its line.
+#[derive(Drop)]
+pub enum Cmd<'a> {
     /// `enter`: the user's machine begins.
     Enter,
     /// `leave`: the user is absent, and all that the user had is dropped.
     Leave,
+    /// `load NAME`: the user's machine begins anew with the memory of an image.
+    Load(Text<'a>),
     /// `map ADDR PAGES PERM`: pages of zeros from an address that is a multiple of 4,096.
     Map {
         addr: u64,
@@ -93,6 +126,16 @@ pub enum Cmd {
     },
     /// `vcsr`: the vector length and type, and the other vector control registers, are shown.
     Vcsr,
+    /// `asm ADDR TEXT`: an instruction's word is written, at an address that is divisible by 4.
+    Asm {
+        addr: u64,
+        text: Text<'a>,
+    },
+    /// `dis ADDR N`: 1 to 16 words are shown with their text, from an address that is divisible by 4.
+    Dis {
+        addr: u64,
+        count: usize,
+    },
     /// `step N`: 1 to 256 instructions are carried out.
     Step(usize),
     /// `state`: whether the user's program runs, and where it stands.
@@ -114,10 +157,16 @@ pub enum Refusal {
     AlreadyEntered,
     /// E07: the user's program runs.
     Running,
+    /// E08: there is no image of this name.
+    ImageName,
+    /// E09: the image has a fault.
+    ElfFault(ElfFault),
     /// E10: the user would have more than 256 pages.
     Quota,
     /// E11: an address that isn't mapped.
     NotMapped,
+    /// E15: the text spells no instruction; the column, from 1, of the first token that doesn't fit.
+    Assembler(usize),
     /// E16: a page that is mapped already.
     AlreadyMapped,
 }

@@ -1,5 +1,5 @@
 //! What an ELF-64 image says of its segments, and what may be wrong with it.
-ghost use Rattle.std.specs.Prelude.{◌≡◌};
+ghost use Rattle.std.specs.Prelude.{◌≡◌, ◌≤◌, length};
 ghost use Rattle.rv_model.specs.ElfFaults.{fault_name};
 
 /// An entry of the program header table (ELF-64 Object File Format, "Program header table").
@@ -53,7 +53,8 @@ pub enum ElfFault {
 impl ElfFault {
     /// The name that the monitor prints.
     pub fn name(self) -> &'static str
-        ensures { result.now ≡ fault_name self }
+        ensures name { result.now ≡ fault_name self }
+        ensures short { length result.now ≤ 11 }
     {
         match self {
             ElfFault::BadShort => "Short",

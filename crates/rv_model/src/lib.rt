@@ -26,7 +26,7 @@ mod vector_request;
 mod vector_state;
 mod vector_type;
 
-pub use command::{ByteString, Cmd, Refusal};
+pub use command::{ByteString, Cmd, Refusal, Text};
 pub use control_register::ControlRegister;
 pub use elf::{ElfFault, ProgramHeader};
 pub use instruction::Instr;

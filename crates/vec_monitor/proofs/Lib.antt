@@ -5,4 +5,5 @@ pub mod LineBuffer
 pub mod ParsedLaws
 pub mod PartLaws
 pub mod PrefixLaws
+pub mod ProgramLaws
 pub mod Runs

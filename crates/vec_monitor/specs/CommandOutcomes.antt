@@ -1,11 +1,12 @@
 -- What a command does to a user who has entered, over what the machine holds of that user.
-use Rattle.std.specs.Prelude.{Some, Ok}
+use Rattle.std.specs.Prelude.{List, Some, Ok}
 use Rattle.rv_model.specs.declared.command.Cmd.{Cmd}
 use Rattle.rv_model.specs.Memory.{Memory}
 use Rattle.rv_model.specs.PrivateMachine.{Outcome, commanded}
+use Rattle.rv_model.specs.Setup.{Image}
 use Rattle.vec_monitor.specs.declared.context.Context.{Context}
 use Rattle.vec_monitor.specs.Parts.{Addresses, present}
 
--- the outcome of a command, by the user's context, trace and memory
-abbrev pub outcome : Context → Addresses → Memory → Cmd → Outcome
-outcome c trace memory cmd = commanded (Some (present c trace memory)) (Ok cmd)
+-- the outcome of a command, by the images, and the user's context, trace and memory
+abbrev pub outcome : List Image → Context → Addresses → Memory → Cmd → Outcome
+outcome images c trace memory cmd = commanded images (Some (present c trace memory)) (Ok cmd)

@@ -6,7 +6,7 @@ use Rattle.rv_model.specs.declared.vector_state.Seat.{Seat}
 use Rattle.rv_model.specs.Memory.{Memory}
 use Rattle.rv_model.specs.Step.{HartState}
 use Rattle.rv_model.specs.PrivateMachine.{Private, Present}
-use Rattle.rv_model.specs.Scalar.{initial_scalar}
+use Rattle.rv_model.specs.Scalar.{initial_scalar, with_register}
 use Rattle.rv_model.specs.VectorState.{initial_vector}
 use Rattle.rv_model.specs.Script.{World}
 use Rattle.vec_monitor.specs.declared.context.Context.{Context}
@@ -14,6 +14,10 @@ use Rattle.vec_monitor.specs.declared.context.Context.{Context}
 -- the context of a user who is absent
 abbrev pub new_context : Context
 new_context = record { entered = false; scalar = initial_scalar; seat = record { state = initial_vector; dirty = false } }
+
+-- the context of a user who has loaded an image, by the image's entry
+abbrev pub loaded_context : ℕ → Context
+loaded_context entry = record new_context { entered = true; scalar = with_register 2 0x7fffefc0 (record initial_scalar { pc = entry }) }
 
 -- what instructions work on; nothing has been put out, and agnostic elements are kept
 abbrev pub user_state : Scalar → Seat → Memory → HartState

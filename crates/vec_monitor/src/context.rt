@@ -1,5 +1,11 @@
 //! What a user has beside memory.
-use rv_model::{Scalar, Seat, VState};
+use rv_model::{Reg, Scalar, Seat, VState};
+
+/// The number of the register that holds the stack pointer.
+const STACK_POINTER: u32 = 2;
+
+/// The stack pointer of a program that begins.
+const STACK_TOP: u64 = 0x7fff_efc0;
 
 /// What a user has beside memory: registers and vector state.
 #[derive(Drop)]
@@ -11,7 +17,7 @@ pub struct Context {
 
 impl Context {
     ghost use Rattle.std.specs.Prelude.{◌≡◌, true, false};
-    ghost use Rattle.vec_monitor.specs.Parts.{new_context};
+    ghost use Rattle.vec_monitor.specs.Parts.{new_context, loaded_context};
 
     /// The context of an absent user.
     pub fn new() -> Context
@@ -35,5 +41,17 @@ impl Context {
             entered: true,
             ..Context::new()
         }
+    }
+
+    /// The context of a user who has loaded an image: the program counter is the image's entry, and
+    /// x2 is the stack pointer.
+    #[tactic(auto, unfolding(rv_model::specs::Scalar::initial_scalar))]
+    pub fn loaded(entry: u64) -> Context
+        ensures { result ≡ loaded_context entry }
+    {
+        let mut context = Context::entered();
+        context.scalar.pc = entry;
+        context.scalar.write(Reg::new(STACK_POINTER), STACK_TOP);
+        context
     }
 }

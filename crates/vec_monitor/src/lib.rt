@@ -15,6 +15,9 @@ mod machine;
 mod memory_commands;
 mod new_fault;
 mod program;
+mod program_commands;
+#[cfg(test)]
+mod program_tests;
 mod register_commands;
 mod script;
 mod stepping;

@@ -73,7 +73,7 @@ impl<'a, A: Allocator> Machine<'a, A> {
         ensures reply { reply.new
             ≡ text (48 + user) (event self.old.setup (part user self.old.world) (Command line.now)).lines }
     {
-        self.users.command(user, line, reply);
+        self.users.command(self.images, user, line, reply);
     }
 
     /// The number of users, eight whatever the machine has been through.

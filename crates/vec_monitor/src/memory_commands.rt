@@ -1,6 +1,7 @@
 //! Commands on a user's memory.
 ghost use Rattle.std.specs.Prelude.{◌≡◌, ◌+◌, ◌-◌, ◌*◌, ◌^◌, ◌<◌, ◌≤◌, [], Some, length, List, ℕ};
 ghost use Rattle.rv_model.specs.PrivateMachine.{with_memory_refusal};
+ghost use Rattle.rv_model.specs.Setup.{Image as NamedImage};
 ghost use Rattle.rv_model.specs.Text.{text};
 ghost use Rattle.user_mem.specs.Users.{memory_of_user, with_memory};
 ghost use Rattle.vec_monitor.specs.declared.context.Context.{Context};
@@ -41,11 +42,11 @@ pub fn map_pages<A: Allocator>(
     requires clear { reply.old ≡ [] }
     requires within { user - 1 < length pool.old }
     requires fits { addr + 4096 * pages ≤ 2 ^ 48 }
-    ensures next { (c : Context) (trace : List ℕ) → (outcome c trace (memory_of_user pool.old user) (Cmd.Map addr pages permissions)).next
+    ensures next { (images : List NamedImage) (c : Context) (trace : List ℕ) → (outcome images c trace (memory_of_user pool.old user) (Cmd.Map addr pages permissions)).next
         ≡ Some (present c trace (memory_of_user pool.new user)) }
     ensures others { pool.new ≡ with_memory pool.old user (memory_of_user pool.new user) }
-    ensures reply { (c : Context) (trace : List ℕ) → reply.new
-        ≡ text (48 + user) (outcome c trace (memory_of_user pool.old user) (Cmd.Map addr pages permissions)).lines }
+    ensures reply { (images : List NamedImage) (c : Context) (trace : List ℕ) → reply.new
+        ≡ text (48 + user) (outcome images c trace (memory_of_user pool.old user) (Cmd.Map addr pages permissions)).lines }
 {
     match pool.map(user, addr / PAGE_SIZE, pages, permissions) {
         Ok(()) => monitor_cmds::ok(reply, Tag::User(user)),
@@ -64,11 +65,11 @@ pub fn poke<A: Allocator>(
 )
     requires clear { reply.old ≡ [] }
     requires within { user - 1 < length pool.old }
-    ensures next { (c : Context) (trace : List ℕ) → (outcome c trace (memory_of_user pool.old user) (Cmd.Poke addr bytes.now)).next
+    ensures next { (images : List NamedImage) (c : Context) (trace : List ℕ) → (outcome images c trace (memory_of_user pool.old user) (Cmd.Poke addr bytes.now)).next
         ≡ Some (present c trace (memory_of_user pool.new user)) }
     ensures others { pool.new ≡ with_memory pool.old user (memory_of_user pool.new user) }
-    ensures reply { (c : Context) (trace : List ℕ) → reply.new
-        ≡ text (48 + user) (outcome c trace (memory_of_user pool.old user) (Cmd.Poke addr bytes.now)).lines }
+    ensures reply { (images : List NamedImage) (c : Context) (trace : List ℕ) → reply.new
+        ≡ text (48 + user) (outcome images c trace (memory_of_user pool.old user) (Cmd.Poke addr bytes.now)).lines }
 {
     match pool.write(user, addr, Access::Monitor, bytes.as_slice()) {
         Ok(()) => monitor_cmds::ok(reply, Tag::User(user)),
@@ -87,10 +88,10 @@ fn show_bytes<A: Allocator>(
 )
     requires clear { reply.old ≡ [] }
     requires few { length buffer.old ≤ 256 }
-    ensures next { (c : Context) (trace : List ℕ) → (outcome c trace (memory_of_user pool.now user) (Cmd.Peek addr (length buffer.old))).next
+    ensures next { (images : List NamedImage) (c : Context) (trace : List ℕ) → (outcome images c trace (memory_of_user pool.now user) (Cmd.Peek addr (length buffer.old))).next
         ≡ Some (present c trace (memory_of_user pool.now user)) }
-    ensures reply { (c : Context) (trace : List ℕ) → reply.new
-        ≡ text (48 + user) (outcome c trace (memory_of_user pool.now user) (Cmd.Peek addr (length buffer.old))).lines }
+    ensures reply { (images : List NamedImage) (c : Context) (trace : List ℕ) → reply.new
+        ≡ text (48 + user) (outcome images c trace (memory_of_user pool.now user) (Cmd.Peek addr (length buffer.old))).lines }
 {
     match pool.read(user, addr, Access::Monitor, buffer) {
         Ok(()) => monitor_cmds::peek_line(reply, Tag::User(user), addr, buffer),
@@ -102,10 +103,10 @@ fn show_bytes<A: Allocator>(
 pub fn peek<A: Allocator>(pool: &Pool<A>, user: User, addr: u64, count: usize, reply: &mut Reply)
     requires clear { reply.old ≡ [] }
     requires few { count ≤ 256 }
-    ensures next { (c : Context) (trace : List ℕ) → (outcome c trace (memory_of_user pool.now user) (Cmd.Peek addr count)).next
+    ensures next { (images : List NamedImage) (c : Context) (trace : List ℕ) → (outcome images c trace (memory_of_user pool.now user) (Cmd.Peek addr count)).next
         ≡ Some (present c trace (memory_of_user pool.now user)) }
-    ensures reply { (c : Context) (trace : List ℕ) → reply.new
-        ≡ text (48 + user) (outcome c trace (memory_of_user pool.now user) (Cmd.Peek addr count)).lines }
+    ensures reply { (images : List NamedImage) (c : Context) (trace : List ℕ) → reply.new
+        ≡ text (48 + user) (outcome images c trace (memory_of_user pool.now user) (Cmd.Peek addr count)).lines }
 {
     let mut buffer = [0; MAX_SHOWN];
     show_bytes(pool, user, addr, &mut buffer[..count], reply);

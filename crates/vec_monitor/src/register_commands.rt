@@ -1,6 +1,7 @@
 //! Commands on a user's registers, and those that show how far the program is.
 ghost use Rattle.std.specs.Prelude.{◌≡◌, ◌+◌, [], Some, List, ℕ};
 ghost use Rattle.rv_model.specs.Memory.{Memory};
+ghost use Rattle.rv_model.specs.Setup.{Image as NamedImage};
 ghost use Rattle.rv_model.specs.Text.{text};
 ghost use Rattle.vec_monitor.specs.declared.context.Context.{Context};
 ghost use Rattle.vec_monitor.specs.CommandOutcomes.{outcome};
@@ -16,10 +17,10 @@ use std::alloc::Allocator;
 #[tactic(auto, using(crate::proofs::CommandLaws::regs_outcome))]
 pub fn show_registers(context: &Context, user: User, reply: &mut Reply)
     requires clear { reply.old ≡ [] }
-    ensures next { (trace : List ℕ) (memory : Memory) → (outcome context.now trace memory Cmd.Regs).next
+    ensures next { (images : List NamedImage) (trace : List ℕ) (memory : Memory) → (outcome images context.now trace memory Cmd.Regs).next
         ≡ Some (present context.now trace memory) }
-    ensures reply { (trace : List ℕ) (memory : Memory) → reply.new
-        ≡ text (48 + user) (outcome context.now trace memory Cmd.Regs).lines }
+    ensures reply { (images : List NamedImage) (trace : List ℕ) (memory : Memory) → reply.new
+        ≡ text (48 + user) (outcome images context.now trace memory Cmd.Regs).lines }
 {
     monitor_cmds::registers(reply, Tag::User(user), &context.scalar);
 }
@@ -28,11 +29,11 @@ pub fn show_registers(context: &Context, user: User, reply: &mut Reply)
 #[tactic(auto, using(crate::proofs::CommandLaws::set_outcome))]
 pub fn set_register(context: &mut Context, user: User, register: Reg, value: u64, reply: &mut Reply)
     requires clear { reply.old ≡ [] }
-    ensures next { (trace : List ℕ) (memory : Memory) → (outcome context.old trace memory (Cmd.Set register value)).next
+    ensures next { (images : List NamedImage) (trace : List ℕ) (memory : Memory) → (outcome images context.old trace memory (Cmd.Set register value)).next
         ≡ Some (present context.new trace memory) }
     ensures entered { context.new.entered ≡ context.old.entered }
-    ensures reply { (trace : List ℕ) (memory : Memory) → reply.new
-        ≡ text (48 + user) (outcome context.old trace memory (Cmd.Set register value)).lines }
+    ensures reply { (images : List NamedImage) (trace : List ℕ) (memory : Memory) → reply.new
+        ≡ text (48 + user) (outcome images context.old trace memory (Cmd.Set register value)).lines }
 {
     context.scalar.write(register, value);
     monitor_cmds::ok(reply, Tag::User(user));
@@ -42,11 +43,11 @@ pub fn set_register(context: &mut Context, user: User, register: Reg, value: u64
 #[tactic(auto, using(crate::proofs::CommandLaws::setpc_outcome))]
 pub fn set_pc(context: &mut Context, user: User, addr: u64, reply: &mut Reply)
     requires clear { reply.old ≡ [] }
-    ensures next { (trace : List ℕ) (memory : Memory) → (outcome context.old trace memory (Cmd.SetPc addr)).next
+    ensures next { (images : List NamedImage) (trace : List ℕ) (memory : Memory) → (outcome images context.old trace memory (Cmd.SetPc addr)).next
         ≡ Some (present context.new trace memory) }
     ensures entered { context.new.entered ≡ context.old.entered }
-    ensures reply { (trace : List ℕ) (memory : Memory) → reply.new
-        ≡ text (48 + user) (outcome context.old trace memory (Cmd.SetPc addr)).lines }
+    ensures reply { (images : List NamedImage) (trace : List ℕ) (memory : Memory) → reply.new
+        ≡ text (48 + user) (outcome images context.old trace memory (Cmd.SetPc addr)).lines }
 {
     context.scalar.pc = addr;
     monitor_cmds::ok(reply, Tag::User(user));
@@ -62,10 +63,10 @@ pub fn show_vector_register(
     reply: &mut Reply,
 )
     requires clear { reply.old ≡ [] }
-    ensures next { (trace : List ℕ) (memory : Memory) → (outcome context.now trace memory (Cmd.Vreg register width)).next
+    ensures next { (images : List NamedImage) (trace : List ℕ) (memory : Memory) → (outcome images context.now trace memory (Cmd.Vreg register width)).next
         ≡ Some (present context.now trace memory) }
-    ensures reply { (trace : List ℕ) (memory : Memory) → reply.new
-        ≡ text (48 + user) (outcome context.now trace memory (Cmd.Vreg register width)).lines }
+    ensures reply { (images : List NamedImage) (trace : List ℕ) (memory : Memory) → reply.new
+        ≡ text (48 + user) (outcome images context.now trace memory (Cmd.Vreg register width)).lines }
 {
     let bytes = context.seat.state.file.register(register);
     monitor_cmds::vreg_line(reply, Tag::User(user), register, width, bytes);
@@ -81,11 +82,11 @@ pub fn set_vector_register(
     reply: &mut Reply,
 )
     requires clear { reply.old ≡ [] }
-    ensures next { (trace : List ℕ) (memory : Memory) → (outcome context.old trace memory (Cmd.Vset register bytes.now)).next
+    ensures next { (images : List NamedImage) (trace : List ℕ) (memory : Memory) → (outcome images context.old trace memory (Cmd.Vset register bytes.now)).next
         ≡ Some (present context.new trace memory) }
     ensures entered { context.new.entered ≡ context.old.entered }
-    ensures reply { (trace : List ℕ) (memory : Memory) → reply.new
-        ≡ text (48 + user) (outcome context.old trace memory (Cmd.Vset register bytes.now)).lines }
+    ensures reply { (images : List NamedImage) (trace : List ℕ) (memory : Memory) → reply.new
+        ≡ text (48 + user) (outcome images context.old trace memory (Cmd.Vset register bytes.now)).lines }
 {
     context.seat.state.file.set_register(register, bytes);
     context.seat.dirty = true;
@@ -96,10 +97,10 @@ pub fn set_vector_register(
 #[tactic(auto, using(crate::proofs::CommandLaws::vcsr_outcome))]
 pub fn show_control_registers(context: &Context, user: User, reply: &mut Reply)
     requires clear { reply.old ≡ [] }
-    ensures next { (trace : List ℕ) (memory : Memory) → (outcome context.now trace memory Cmd.Vcsr).next
+    ensures next { (images : List NamedImage) (trace : List ℕ) (memory : Memory) → (outcome images context.now trace memory Cmd.Vcsr).next
         ≡ Some (present context.now trace memory) }
-    ensures reply { (trace : List ℕ) (memory : Memory) → reply.new
-        ≡ text (48 + user) (outcome context.now trace memory Cmd.Vcsr).lines }
+    ensures reply { (images : List NamedImage) (trace : List ℕ) (memory : Memory) → reply.new
+        ≡ text (48 + user) (outcome images context.now trace memory Cmd.Vcsr).lines }
 {
     monitor_cmds::vcsr_line(reply, Tag::User(user), &context.seat.state);
 }
@@ -108,10 +109,10 @@ pub fn show_control_registers(context: &Context, user: User, reply: &mut Reply)
 #[tactic(auto, using(crate::proofs::CommandLaws::state_outcome))]
 pub fn show_state(context: &Context, user: User, reply: &mut Reply)
     requires clear { reply.old ≡ [] }
-    ensures next { (trace : List ℕ) (memory : Memory) → (outcome context.now trace memory Cmd.State).next
+    ensures next { (images : List NamedImage) (trace : List ℕ) (memory : Memory) → (outcome images context.now trace memory Cmd.State).next
         ≡ Some (present context.now trace memory) }
-    ensures reply { (trace : List ℕ) (memory : Memory) → reply.new
-        ≡ text (48 + user) (outcome context.now trace memory Cmd.State).lines }
+    ensures reply { (images : List NamedImage) (trace : List ℕ) (memory : Memory) → reply.new
+        ≡ text (48 + user) (outcome images context.now trace memory Cmd.State).lines }
 {
     monitor_cmds::state_line(reply, Tag::User(user), false, context.scalar.pc);
 }
@@ -120,10 +121,10 @@ pub fn show_state(context: &Context, user: User, reply: &mut Reply)
 #[tactic(auto, using(crate::proofs::CommandLaws::trace_outcome))]
 pub fn show_trace<A: Allocator>(trace: &Trace<A>, user: User, reply: &mut Reply)
     requires clear { reply.old ≡ [] }
-    ensures next { (c : Context) (memory : Memory) → (outcome c trace.now memory Cmd.Trace).next
+    ensures next { (images : List NamedImage) (c : Context) (memory : Memory) → (outcome images c trace.now memory Cmd.Trace).next
         ≡ Some (present c trace.now memory) }
-    ensures reply { (c : Context) (memory : Memory) → reply.new
-        ≡ text (48 + user) (outcome c trace.now memory Cmd.Trace).lines }
+    ensures reply { (images : List NamedImage) (c : Context) (memory : Memory) → reply.new
+        ≡ text (48 + user) (outcome images c trace.now memory Cmd.Trace).lines }
 {
     let (older, newer) = trace.as_slices();
     monitor_cmds::trace_line(reply, Tag::User(user), older, newer);

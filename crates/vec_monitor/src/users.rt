@@ -4,10 +4,12 @@ ghost use Rattle.rv_model.specs.PrivateMachine.{commanded};
 ghost use Rattle.rv_model.specs.Commands.{parse as parse_spec};
 ghost use Rattle.rv_model.specs.Script.{part, with_part, new_world};
 ghost use Rattle.rv_model.specs.Text.{text};
+ghost use Rattle.vec_monitor.specs.Images.{named_images};
 ghost use Rattle.vec_monitor.specs.Parts.{new_context};
 
 use crate::commands::carry_out;
 use crate::context::Context;
+use crate::image::Image;
 use crate::trace::Trace;
 use monitor_cmds::{Reply, Tag, parse};
 use rv_model::User;
@@ -89,15 +91,16 @@ impl<A: Allocator> Users<A> {
 
     /// Carries out one command of a user, and answers it in place of what the reply held.
     #[tactic(auto, using(crate::proofs::PartLaws::part_put_back))]
-    pub fn command(&mut self, user: User, line: &[u8], reply: &mut Reply)
-        ensures world { self.new ≡ with_part user (commanded (part user self.old) (parse_spec line.now)).next self.old }
-        ensures reply { reply.new ≡ text (48 + user) (commanded (part user self.old) (parse_spec line.now)).lines }
+    pub fn command(&mut self, images: &[Image<'_>], user: User, line: &[u8], reply: &mut Reply)
+        ensures world { self.new ≡ with_part user (commanded (named_images images.now) (part user self.old) (parse_spec line.now)).next self.old }
+        ensures reply { reply.new ≡ text (48 + user) (commanded (named_images images.now) (part user self.old) (parse_spec line.now)).lines }
     {
         reply.clear();
         match parse(line) {
             Ok(cmd) => {
                 let context = &mut self.contexts[user.index()];
                 carry_out(
+                    images,
                     context,
                     self.traces.as_mut_slice(),
                     &mut self.pool,

@@ -1,0 +1,200 @@
+//! Commands that bring programs into a user's memory, and show them.
+ghost use Rattle.std.specs.Prelude.{◌≡◌, ◌+◌, ◌-◌, ◌*◌, ◌<◌, ◌≤◌, [], Some, None, true, length, List, ℕ, MatchOption};
+ghost use Rattle.std.specs.Int.{to_le_bytes, w32};
+ghost use Rattle.rv_model.specs.declared.memory.Access.TheVariants.{Monitor};
+ghost use Rattle.rv_model.specs.ElfFaults.{first_fault};
+ghost use Rattle.rv_model.specs.Memory.{can_access, put_bytes};
+ghost use Rattle.rv_model.specs.PrivateMachine.{image_named as image_named_of};
+ghost use Rattle.rv_model.specs.Setup.{Image as NamedImage};
+ghost use Rattle.rv_model.specs.Text.{text};
+ghost use Rattle.user_mem.specs.Users.{memory_of_user, with_memory};
+ghost use Rattle.vec_monitor.specs.declared.context.Context.{Context};
+ghost use Rattle.vec_monitor.specs.CommandOutcomes.{outcome};
+ghost use Rattle.vec_monitor.specs.Images.{named_images};
+ghost use Rattle.vec_monitor.specs.Parts.{present, private_of};
+
+use crate::context::Context;
+use crate::image::Image;
+use crate::trace::Trace;
+use elf_load::{Plan, check, place};
+use monitor_cmds::{Reply, Tag};
+use rv_asm::assemble;
+use rv_model::{Access, Cmd, Refusal, Text, User};
+use std::alloc::Allocator;
+use user_mem::Pool;
+
+/// The bytes of an instruction.
+const WORD_SIZE: usize = 4;
+
+/// The most bytes of instructions that are shown at once.
+const MAX_SHOWN: usize = 64;
+
+/// Writes a word to mapped pages, least byte first.
+fn write_word<A: Allocator>(pool: &mut Pool<A>, user: User, addr: u64, word: u32)
+    requires { can_access Monitor (memory_of_user pool.old user) addr 4 ≡ true }
+    ensures { pool.new ≡ with_memory pool.old user
+        (put_bytes (memory_of_user pool.old user) addr (to_le_bytes w32 word)) }
+{
+    let Ok(()) = pool.write(user, addr, Access::Monitor, &word.to_le_bytes()) else {
+        unreachable!();
+    };
+}
+
+/// `asm`: an instruction's word, written to mapped pages, whatever these allow a program.
+#[tactic(auto, using(crate::specs::Lenders::memory_there, crate::proofs::ProgramLaws::asm_unmapped, crate::proofs::ProgramLaws::asm_misspelled, crate::proofs::ProgramLaws::asm_accepted))]
+pub fn assemble_at<A: Allocator>(
+    pool: &mut Pool<A>,
+    user: User,
+    addr: u64,
+    instruction: &Text<'_>,
+    reply: &mut Reply,
+)
+    requires clear { reply.old ≡ [] }
+    requires within { user - 1 < length pool.old }
+    ensures next { (images : List NamedImage) (c : Context) (trace : List ℕ) → (outcome images c trace (memory_of_user pool.old user) (Cmd.Asm addr instruction.now)).next
+        ≡ Some (present c trace (memory_of_user pool.new user)) }
+    ensures others { pool.new ≡ with_memory pool.old user (memory_of_user pool.new user) }
+    ensures reply { (images : List NamedImage) (c : Context) (trace : List ℕ) → reply.new
+        ≡ text (48 + user) (outcome images c trace (memory_of_user pool.old user) (Cmd.Asm addr instruction.now)).lines }
+{
+    let Ok(()) = pool.check(user, addr, WORD_SIZE, Access::Monitor) else {
+        monitor_cmds::refused(reply, Tag::User(user), Refusal::NotMapped);
+        return;
+    };
+    match assemble(instruction.as_slice()) {
+        Ok(word) => {
+            write_word(pool, user, addr, word);
+            monitor_cmds::asm_line(reply, Tag::User(user), addr, word);
+        }
+        Err(fault) => monitor_cmds::refused(
+            reply,
+            Tag::User(user),
+            Refusal::Assembler(fault.column),
+        ),
+    }
+}
+
+/// Shows as many instructions of mapped pages as the buffer holds.
+#[tactic(auto, using(crate::proofs::ProgramLaws::dis_accepted, crate::proofs::ProgramLaws::dis_unmapped))]
+fn show_words<A: Allocator>(
+    pool: &Pool<A>,
+    user: User,
+    addr: u64,
+    count: usize,
+    buffer: &mut [u8],
+    reply: &mut Reply,
+)
+    requires clear { reply.old ≡ [] }
+    requires few { count ≤ 16 }
+    requires size { length buffer.old ≡ 4 * count }
+    ensures next { (images : List NamedImage) (c : Context) (trace : List ℕ) → (outcome images c trace (memory_of_user pool.now user) (Cmd.Dis addr count)).next
+        ≡ Some (present c trace (memory_of_user pool.now user)) }
+    ensures reply { (images : List NamedImage) (c : Context) (trace : List ℕ) → reply.new
+        ≡ text (48 + user) (outcome images c trace (memory_of_user pool.now user) (Cmd.Dis addr count)).lines }
+{
+    match pool.read(user, addr, Access::Monitor, buffer) {
+        Ok(()) => monitor_cmds::dis_lines(reply, Tag::User(user), addr, count, buffer),
+        Err(_) => monitor_cmds::refused(reply, Tag::User(user), Refusal::NotMapped),
+    }
+}
+
+/// `dis`: words of mapped pages, whatever these allow a program, with their text.
+pub fn show_instructions<A: Allocator>(
+    pool: &Pool<A>,
+    user: User,
+    addr: u64,
+    count: usize,
+    reply: &mut Reply,
+)
+    requires clear { reply.old ≡ [] }
+    requires few { count ≤ 16 }
+    ensures next { (images : List NamedImage) (c : Context) (trace : List ℕ) → (outcome images c trace (memory_of_user pool.now user) (Cmd.Dis addr count)).next
+        ≡ Some (present c trace (memory_of_user pool.now user)) }
+    ensures reply { (images : List NamedImage) (c : Context) (trace : List ℕ) → reply.new
+        ≡ text (48 + user) (outcome images c trace (memory_of_user pool.now user) (Cmd.Dis addr count)).lines }
+{
+    let mut buffer = [0; MAX_SHOWN];
+    show_words(
+        pool,
+        user,
+        addr,
+        count,
+        &mut buffer[..WORD_SIZE * count],
+        reply,
+    );
+}
+
+/// The bytes of the image of a name.
+#[tactic(auto, unfolding(rv_model::specs::PrivateMachine::image_named))]
+fn image_named<'a>(images: &[Image<'a>], name: &[u8]) -> Option<&'a [u8]>
+    ensures { MatchOption result (image_named_of (named_images images.now) name.now ≡ None)
+        (λ bytes. image_named_of (named_images images.now) name.now ≡ Some bytes.now) }
+{
+    for image in images {
+        if image.name.as_bytes() == name {
+            return Some(image.bytes);
+        }
+    }
+    None
+}
+
+/// `load` of an image without a fault.
+fn load_plan<A: Allocator>(
+    plan: &Plan<'_>,
+    context: &mut Context,
+    trace: &mut Trace<A>,
+    pool: &mut Pool<A>,
+    user: User,
+    reply: &mut Reply,
+)
+    requires sound { first_fault plan.now ≡ None }
+    requires present { context.old.entered ≡ true }
+    requires clear { reply.old ≡ [] }
+    requires within { user - 1 < length pool.old }
+    ensures next { (images : List NamedImage) (name : List ℕ) → image_named_of images name ≡ Some plan.now
+        → private_of context.new trace.new (memory_of_user pool.new user)
+        ≡ (outcome images context.old trace.old (memory_of_user pool.old user) (Cmd.Load name)).next }
+    ensures others { pool.new ≡ with_memory pool.old user (memory_of_user pool.new user) }
+    ensures reply { (images : List NamedImage) (name : List ℕ) → image_named_of images name ≡ Some plan.now
+        → reply.new ≡ text (48 + user) (outcome images context.old trace.old (memory_of_user pool.old user) (Cmd.Load name)).lines }
+{
+    match place(plan, user, pool) {
+        Ok(entry) => {
+            *context = Context::loaded(entry);
+            trace.clear();
+            monitor_cmds::loaded_line(reply, Tag::User(user), entry, pool.pages(user));
+        }
+        Err(_) => monitor_cmds::refused(reply, Tag::User(user), Refusal::Quota),
+    }
+}
+
+/// `load`: the user's machine begins anew with the memory of an image. A refused `load` changes
+/// nothing.
+#[tactic(auto, using(crate::proofs::CommandLaws::entered_as, crate::specs::Lenders::same_memory, crate::proofs::ProgramLaws::load_unknown, crate::proofs::ProgramLaws::load_faulty))]
+pub fn load<A: Allocator>(
+    images: &[Image<'_>],
+    context: &mut Context,
+    trace: &mut Trace<A>,
+    pool: &mut Pool<A>,
+    user: User,
+    name: &Text<'_>,
+    reply: &mut Reply,
+)
+    requires present { context.old.entered ≡ true }
+    requires clear { reply.old ≡ [] }
+    requires within { user - 1 < length pool.old }
+    ensures next { private_of context.new trace.new (memory_of_user pool.new user)
+        ≡ (outcome (named_images images.now) context.old trace.old (memory_of_user pool.old user) (Cmd.Load name.now)).next }
+    ensures others { pool.new ≡ with_memory pool.old user (memory_of_user pool.new user) }
+    ensures reply { reply.new
+        ≡ text (48 + user) (outcome (named_images images.now) context.old trace.old (memory_of_user pool.old user) (Cmd.Load name.now)).lines }
+{
+    let Some(image) = image_named(images, name.as_slice()) else {
+        monitor_cmds::refused(reply, Tag::User(user), Refusal::ImageName);
+        return;
+    };
+    match check(image) {
+        Ok(plan) => load_plan(&plan, context, trace, pool, user, reply),
+        Err(fault) => monitor_cmds::refused(reply, Tag::User(user), Refusal::ElfFault(fault)),
+    }
+}
