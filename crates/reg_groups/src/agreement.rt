@@ -1,8 +1,8 @@
 //! Which register operands may stand together in one instruction ("V" Vector Extension 1.0, sections
 //! 3.4.2, 5.2 and 5.3).
-ghost use Rattle.std.specs.Prelude.{◌≡◌, ◌↔◌, true};
+ghost use Rattle.std.specs.Prelude.{◌≡◌, true};
 ghost use Rattle.std.specs.List.{list_all};
-ghost use Rattle.rv_model.specs.RegisterOperands.{AreLegal, allows, are_legal, eew, end, is_group, is_mask, is_width, may_overlap, overlaps};
+ghost use Rattle.rv_model.specs.RegisterOperands.{allows, are_legal, eew, end, is_group, is_mask, is_width, may_overlap, overlaps};
 
 use crate::groups::registers;
 use rv_model::{Content, Operand, Role};

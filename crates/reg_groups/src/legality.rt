@@ -1,5 +1,5 @@
 //! Which vector instructions are legal.
-ghost use Rattle.std.specs.Prelude.{◌≡◌, ◌↔◌, ◌+◌, ◌≤◌, ◌<◌, ◌^◌, true};
+ghost use Rattle.std.specs.Prelude.{◌≡◌, ◌↔◌, ◌+◌, ◌≤◌, ◌<◌, true};
 ghost use Rattle.rv_model.specs.Legality.{IsLegal, data_role, element_bits, extension_divisor, indexed_role, is_below_64, is_legal, is_legal_at, is_legal_untyped, is_narrow_only, is_reduction, mask_result, memory_operands, mask_operands, compress_operands, extension_operands, whole_move_operands, needs_type, operands, register_count, starts_at_zero, unit_role, untyped_operands};
 ghost use Rattle.rv_model.specs.RegisterOperands.{are_legal};
 

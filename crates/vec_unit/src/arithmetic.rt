@@ -1,8 +1,7 @@
 //! Arithmetic instructions, once they are known to be legal ("V" Vector Extension 1.0, chapter 11).
-ghost use Rattle.std.specs.Prelude.{◌≡◌, ◌&&◌, ◌≤◌, IsTrue, List, None, ℕ};
+ghost use Rattle.std.specs.Prelude.{◌≡◌, ◌≤◌, IsTrue, List, ℕ};
 ghost use Rattle.rv_model.specs.declared.operations.VectorOp.TheVariants.{Binary};
 ghost use Rattle.rv_model.specs.Hart.{hart_state};
-ghost use Rattle.rv_model.specs.Legality.{is_legal, is_legal_at};
 ghost use Rattle.rv_model.specs.Memory.{Memory};
 ghost use Rattle.rv_model.specs.SourceRegisters.{IsInside, SourceIsInside};
 ghost use Rattle.rv_model.specs.VectorArithmetic.{binary_file, fills_masked_off, fills_tail, group_type};
@@ -39,10 +38,12 @@ fn carry_out_typed(
     requires first { IsInside operation.vs2 (lmul_eighths vtype.lmul) }
     requires second { SourceIsInside operation.source (lmul_eighths vtype.lmul) }
     requires length { state.old.conf.vl ≤ vlmax vtype }
-    ensures { state.new ≡ record state.old { file =
-        binary_file (group_type vtype) operation.op operation.vd operation.vs2 operation.source operation.unmasked
-        (fills_masked_off policy vtype operation.unmasked)
-        (fills_tail policy vtype state.old.vstart state.old.conf.vl) state.old scalar.now } }
+    ensures { state.new ≡ record state.old {
+      file =
+          binary_file (group_type vtype) operation.op operation.vd operation.vs2 operation.source operation.unmasked
+          (fills_masked_off policy vtype operation.unmasked)
+          (fills_tail policy vtype state.old.vstart state.old.conf.vl) state.old scalar.now;
+    } }
 {
     let start = usize::from(state.vstart);
     let vl = usize::from(state.conf.vl());

@@ -1,11 +1,10 @@
 //! Operations of one width ("V" Vector Extension 1.0, chapter 11).
-ghost use Rattle.std.specs.Prelude.{◌≡◌, ◌+◌, ◌*◌, ◌<◌, ◌≤◌, IsTrue, length};
+ghost use Rattle.std.specs.Prelude.{◌≡◌, ◌*◌, ◌<◌, ◌≤◌, IsTrue, length};
 ghost use Rattle.rv_model.specs.Elements.{element, is_changed, result_or_ones};
 ghost use Rattle.rv_model.specs.ElementWrites.{Writes};
 ghost use Rattle.rv_model.specs.RegisterGroups.{registers};
 ghost use Rattle.rv_model.specs.SourceRegisters.{IsInside, SourceIsInside};
-ghost use Rattle.rv_model.specs.VectorArithmetic.{binary_file, fills_masked_off, fills_tail, group_type};
-ghost use Rattle.rv_model.specs.VectorConfiguration.{lmul_eighths, vlmax};
+ghost use Rattle.rv_model.specs.VectorArithmetic.{binary_file, fills_masked_off, fills_tail};
 ghost use Rattle.rv_model.specs.VectorFormulas.{formula, is_carried_out, ones, wrap};
 
 use crate::operands::{GROUP_BYTES, group_elements, mask_register, second_elements};
@@ -32,9 +31,17 @@ pub(crate) struct Fills {
 }
 
 /// What the policy fills.
-pub(crate) fn policy_fills(policy: Policy, vtype: VType, unmasked: bool, start: usize, vl: usize) -> Fills
-    ensures { result ≡ record { masked_off = fills_masked_off policy vtype unmasked;
-        tail = fills_tail policy vtype start vl } }
+pub(crate) fn policy_fills(
+    policy: Policy,
+    vtype: VType,
+    unmasked: bool,
+    start: usize,
+    vl: usize,
+) -> Fills
+    ensures { result ≡ record {
+      masked_off = fills_masked_off policy vtype unmasked;
+      tail = fills_tail policy vtype start vl;
+    } }
 {
     let is_ones = match policy {
         Policy::Keep => false,
@@ -66,8 +73,8 @@ fn write_results<L: Lane>(
     requires most { count ≤ 256 }
     ensures { Writes L.size (is_changed operation.unmasked mask.now fills.masked_off fills.tail start vl)
         (result_or_ones operation.unmasked mask.now start vl
-            (λ i. wrap L.width (formula operation.op L.width (element L.size a.now i) (element L.size b.now i)))
-            (ones L.width))
+        (λ i. wrap L.width (formula operation.op L.width (element L.size a.now i) (element L.size b.now i)))
+        (ones L.width))
         destination.old destination.new }
 {
     binary::<L>(
@@ -105,15 +112,34 @@ pub(crate) fn carry_out<L: Lane>(
     requires least { state.old.conf.vl ≤ 256 }
     requires whole { 32 * registers emul ≡ L.size * count }
     requires most { count ≤ 256 }
-    ensures { state.new ≡ record state.old { file =
-        binary_file (record { bytes = L.size; width = L.width; emul = emul }) operation.op operation.vd
-        operation.vs2 operation.source operation.unmasked fills.masked_off fills.tail state.old scalar.now } }
+    ensures { state.new ≡ record state.old {
+      file =
+          binary_file (record { bytes = L.size; width = L.width; emul = emul }) operation.op operation.vd
+          operation.vs2 operation.source operation.unmasked fills.masked_off fills.tail state.old scalar.now;
+    } }
 {
     let start = usize::from(state.vstart);
     let vl = usize::from(state.conf.vl());
     let mask = mask_register(&state.file);
     let a = group_elements::<L>(&state.file, operation.vs2, emul, vl);
-    let b = second_elements::<L>(operation.op, operation.source, emul, vl, &state.file, scalar);
+    let b = second_elements::<L>(
+        operation.op,
+        operation.source,
+        emul,
+        vl,
+        &state.file,
+        scalar,
+    );
     let destination = group_mut(&mut state.file, operation.vd, emul);
-    write_results::<L>(operation, &a, &b, &mask, start, vl, fills, count, destination);
+    write_results::<L>(
+        operation,
+        &a,
+        &b,
+        &mask,
+        start,
+        vl,
+        fills,
+        count,
+        destination,
+    );
 }

@@ -1,6 +1,6 @@
 //! The operands of element-wise instructions, copied: a destination may overlap them ("V" Vector
 //! Extension 1.0, sections 5.2, 5.3 and 11.1).
-ghost use Rattle.std.specs.Prelude.{◌≡◌, ◌+◌, ◌*◌, ◌%◌, ◌^◌, ◌<◌, ◌≤◌, ℕ, length, take};
+ghost use Rattle.std.specs.Prelude.{◌≡◌, ◌*◌, ◌%◌, ◌^◌, ◌<◌, ◌≤◌, ℕ, length, take};
 ghost use Rattle.rv_model.specs.Elements.{element};
 ghost use Rattle.rv_model.specs.RegisterGroups.{registers};
 ghost use Rattle.rv_model.specs.SourceRegisters.{IsInside, SourceIsInside};

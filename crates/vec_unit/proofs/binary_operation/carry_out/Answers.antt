@@ -10,8 +10,8 @@ returns g c =
     let start : c.from-start.result ≡ c.args.state.now.vstart = c.from-start.ensures in
     ap (λ f. record v { file = f })
     (binary_file_is (record { bytes = g.L.Lane.size; width = g.L.Lane.width; emul = c.args.emul }) c.args.operation.op c.args.operation.vd
-      c.args.operation.vs2 c.args.operation.source c.args.operation.unmasked c.args.fills.masked_off c.args.fills.tail v c.args.scalar.now
-      c.group_elements-a.result c.second_elements-b.result c.write_results.new.destination g.met.L.Lane.has_bytes
-      (λ i h. c.group_elements-a.ensures i (omega (arith, h, vl)))
-      (λ i h. c.second_elements-b.ensures i (omega (arith, h, vl)))
-      (rw (← vl, ← start, ← c.mask_register-mask.ensures, ← c.group_mut-destination.ensures.value) c.write_results.ensures))
+    c.args.operation.vs2 c.args.operation.source c.args.operation.unmasked c.args.fills.masked_off c.args.fills.tail v c.args.scalar.now
+    c.group_elements-a.result c.second_elements-b.result c.write_results.new.destination g.met.L.Lane.has_bytes
+    (λ i h. c.group_elements-a.ensures i (omega (arith, h, vl)))
+    (λ i h. c.second_elements-b.ensures i (omega (arith, h, vl)))
+    (rw (← vl, ← start, ← c.mask_register-mask.ensures, ← c.group_mut-destination.ensures.value) c.write_results.ensures))

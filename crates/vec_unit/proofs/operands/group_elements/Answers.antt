@@ -1,4 +1,4 @@
-use Rattle.std.proofs.Common.{ℕ, List, ◌*◌, ◌+◌, ◌≤◌, ◌≡◌, take, ap, sym, ◌∙◌}
+use Rattle.std.proofs.Common.{ℕ, ◌*◌, ◌+◌, ◌≤◌, ◌≡◌, take, ap, sym, ◌∙◌}
 use Rattle.rv_model.specs.Elements.{element}
 use Rattle.rv_model.specs.RegisterGroups.{group_of, registers}
 use Rattle.rv_model.proofs.ElementReadLaws.{element-take}
@@ -11,5 +11,5 @@ returns g c = λ i h.
     let n : ℕ = 32 * registers c.args.emul in
     let fits : k * i + k ≤ n = room_for k i c.args.count n h c.requires.count in
     let whole : take n c.copied.result ≡ group_of c.args.file.now c.args.first c.args.emul =
-      ap (λ m. take m c.copied.result) (sym c.group.ensures.len) ∙ c.copied.ensures ∙ c.group.ensures.value in
+    ap (λ m. take m c.copied.result) (sym c.group.ensures.len) ∙ c.copied.ensures ∙ c.group.ensures.value in
     sym (element-take k n i c.copied.result fits) ∙ ap (λ bytes. element k bytes i) whole
