@@ -1,5 +1,5 @@
 -- The outcome of each command.
-use Rattle.std.proofs.Common.{◌≡◌, ℕ, zero, suc, ◌/◌, List, [], ◌∷◌, length, refl, ap, ◌∙◌, sym, Bool, true, false, Option, Some, None, Ok}
+use Rattle.std.proofs.Common.{◌≡◌, ℕ, zero, suc, ◌/◌, List, [], ◌∷◌, length, refl, ap, ◌∙◌, Bool, true, false, Option, Some, None, Ok}
 use Rattle.std.specs.Prelude.{if◌then◌else◌, codes, is_none}
 use Rattle.std.specs.FinMap.{empty}
 use Rattle.std.specs.Option.{option_map}
@@ -13,7 +13,7 @@ use Rattle.rv_model.specs.declared.memory.Permissions.{Permissions}
 use Rattle.rv_model.specs.declared.step_end.StepEnd.{StepEnd}
 use Rattle.rv_model.specs.declared.step_end.Stop.{Stop}
 use Rattle.rv_model.specs.Memory.{Memory, bytes_at, can_access, put_bytes, map_refusal, with_pages}
-use Rattle.rv_model.specs.PrivateMachine.{Private, Present, Outcome, Halted, initial, answers, refuses, decided, commanded, refusal_of, own_refusal, accepted, carried_out, with_memory_refusal, recorded, ran, steps, stop_of}
+use Rattle.rv_model.specs.PrivateMachine.{Present, Halted, answers, refuses, decided, commanded, refusal_of, own_refusal, accepted, carried_out, with_memory_refusal, recorded, ran, steps, stop_of}
 use Rattle.rv_model.specs.Replies.{regs_lines, step_line, state_line, peek_line, trace_line, vreg_line, vcsr_line}
 use Rattle.rv_model.specs.Scalar.{with_register}
 use Rattle.rv_model.specs.Setup.{Image}

@@ -1,4 +1,4 @@
-use Rattle.std.proofs.Common.{◌≡◌, ◌+◌, ◌++◌, ◌∷◌, [], ℕ, List, ap, ◌∙◌, sym}
+use Rattle.std.proofs.Common.{◌+◌, ◌++◌, ◌∷◌, [], ℕ, List, ap, ◌∙◌, sym}
 use Rattle.rv_model.specs.PrivateMachine.{Outcome}
 use Rattle.rv_model.specs.Replies.{step_line}
 use Rattle.rv_model.specs.Text.{text}

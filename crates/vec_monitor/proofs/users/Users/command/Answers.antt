@@ -1,6 +1,6 @@
 use Rattle.std.proofs.Common.{◌≡◌, ◌+◌, ◌-◌, ℕ, List, length, length-set, get_or, set, ap, ◌∙◌, sym, arith, Ok}
 use Rattle.std.proofs.lemmas.List.{with_items_is}
-use Rattle.rv_model.specs.Commands.{Parsed, parse}
+use Rattle.rv_model.specs.Commands.{Parsed}
 use Rattle.rv_model.specs.PrivateMachine.{Private, commanded}
 use Rattle.rv_model.specs.Script.{World, part, with_part}
 use Rattle.rv_model.specs.Text.{text}
