@@ -1,5 +1,5 @@
 -- What the fields of a machine stand for.
-use Rattle.std.specs.Prelude.{ℕ, ◌-◌, ◌≡◌, length, slice_index_or, slice_set, List, [], ◌∷◌, false, if◌then◌else◌, Some, None}
+use Rattle.std.specs.Prelude.{ℕ, ◌-◌, ◌≡◌, length, slice_index_or, slice_set, List, [], ◌∷◌, true, false, if◌then◌else◌, Some, None}
 use Rattle.rv_model.specs.declared.policy.Policy.TheVariants.{Keep}
 use Rattle.rv_model.specs.declared.scalar.Scalar.{Scalar}
 use Rattle.rv_model.specs.declared.vector_state.Seat.{Seat}
