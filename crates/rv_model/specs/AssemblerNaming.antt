@@ -22,7 +22,7 @@ HasNoName word = IsNone (scan table word) ⊎ (IsFence word × (word ≢ 0x0ff00
 abbrev pub HasBitsOf : ℕ → ℕ → Type 0
 HasBitsOf row word = bit_and word (fixed_mask (slots_at row)) ≡ bits_at row
 
--- a text is the word's under the name of a row that it has the bits of; `.word`, in row 597, is no name of an instruction
+-- a text is the word's under the name of a row that it has the bits of; `.word`, the last one, is no name of an instruction
 abbrev pub IsNamed : ℕ → List ℕ → Type 0
 IsNamed word text = (row : ℕ) × (row < 597) × HasBitsOf row word × (text ≡ text_at row word)
 
