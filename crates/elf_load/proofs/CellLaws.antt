@@ -2,10 +2,10 @@
 use Rattle.std.proofs.Common.{◌≡◌, ℕ, ◌+◌, ◌*◌, ◌/◌, ◌^◌, ◌<◌, ◌≤◌, min, max, Bool, true, false, List, Some, None, sym, ◌∙◌, ap, inl, inr, arith}
 use Rattle.std.specs.Prelude.{if◌then◌else◌}
 use Rattle.std.proofs.lemmas.Bool.{cases_eq, cases_lt}
-use Rattle.rv_model.specs.declared.elf.ProgramHeader.{ProgramHeader}
-use Rattle.rv_model.specs.ElfFields.{program_header}
-use Rattle.rv_model.specs.ElfFaults.{first_fault}
-use Rattle.rv_model.specs.Image.{stack, placed, covers, touches, is_touched, byte_of, permissions_of, cell_of, all_pages, memory_of_image}
+use Rattle.rv_model.specs.declared.images.ProgramHeader.{ProgramHeader}
+use Rattle.rv_model.specs.images.Fields.{program_header}
+use Rattle.rv_model.specs.images.Faults.{first_fault}
+use Rattle.rv_model.specs.images.Image.{stack, placed, covers, touches, is_touched, byte_of, permissions_of, cell_of, all_pages, memory_of_image}
 use Rattle.elf_load.specs.Pages.{EndsInMemory}
 use Rattle.elf_load.specs.Laws.{HoldsItsCells, TouchesWhatItCovers}
 use Rattle.elf_load.proofs.HeaderLaws.{none_of_all}

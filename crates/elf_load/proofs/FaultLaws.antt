@@ -1,10 +1,10 @@
 -- What follows from the faults that an image hasn't
 use Rattle.std.proofs.Common.{◌≡◌, ℕ, zero, suc, ◌+◌, ◌*◌, ◌%◌, ◌<◌, ◌≤◌, Bool, true, false, List, [], ◌∷◌, ◌++◌, length, get_or, cond, Some, None, refl, sym, ◌∙◌, ap, arith}
 use Rattle.std.specs.Prelude.{find}
-use Rattle.rv_model.specs.declared.elf.ElfFault.{ElfFault}
-use Rattle.rv_model.specs.declared.elf.ElfFault.TheVariants.{BadShort, BadHeaderTable, BadFileSize, BadOutside, BadAddress, BadEntry}
-use Rattle.rv_model.specs.ElfFields.{entry_of, table_offset, header_count}
-use Rattle.rv_model.specs.ElfFaults.{has_fault, any_header_has, file_faults, table_faults, segment_faults, all_faults, first_fault}
+use Rattle.rv_model.specs.declared.images.ElfFault.{ElfFault}
+use Rattle.rv_model.specs.declared.images.ElfFault.TheVariants.{BadShort, BadHeaderTable, BadFileSize, BadOutside, BadAddress, BadEntry}
+use Rattle.rv_model.specs.images.Fields.{entry_of, table_offset, header_count}
+use Rattle.rv_model.specs.images.Faults.{has_fault, any_header_has, file_faults, table_faults, segment_faults, all_faults, first_fault}
 use Rattle.elf_load.specs.Headers.{HasHeaders}
 
 -- ---- the first that passes

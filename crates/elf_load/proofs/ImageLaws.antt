@@ -5,9 +5,9 @@ use Rattle.std.specs.Cmp.{nat_cmp_total}
 use Rattle.std.specs.Ordering.{nat_cmp}
 use Rattle.std.specs.FinMap.{get, len, get-empty, len-empty, len-insert}
 use Rattle.std.proofs.lemmas.Bool.{cases_eq, cases_lt}
-use Rattle.rv_model.specs.Memory.{Cell, Memory, page_count}
-use Rattle.rv_model.specs.Image.{placed, is_touched, cell_of, with_cell, memory_below, all_pages, memory_of_image}
-use Rattle.rv_model.proofs.MemoryLaws.{same_memory, get-insert_same, get-insert_other}
+use Rattle.rv_model.specs.memory.Memory.{Cell, Memory, page_count}
+use Rattle.rv_model.specs.images.Image.{placed, is_touched, cell_of, with_cell, memory_below, all_pages, memory_of_image}
+use Rattle.rv_model.proofs.memory_lemmas.Memory.{same_memory, get-insert_same, get-insert_other}
 use Rattle.elf_load.specs.Pages.{pages_below}
 use Rattle.elf_load.proofs.PageLaws.{pages_below_skipped, pages_below_le}
 

@@ -2,11 +2,11 @@
 use Rattle.std.proofs.Common.{◌≡◌, ℕ, zero, suc, ◌+◌, ◌-◌, ◌*◌, ◌/◌, ◌<◌, ◌≤◌, min, max, Bool, true, false, List, ◌∷◌, ◌||◌, length, cond, Option, Some, None, IfSome, lit≤, refl, sym, ◌∙◌, ap, subst, arith, inl, inr}
 use Rattle.std.specs.List.{list_any}
 use Rattle.std.proofs.lemmas.Bool.{cases_eq, cases_lt}
-use Rattle.rv_model.specs.declared.elf.ProgramHeader.{ProgramHeader}
-use Rattle.rv_model.specs.ElfFields.{header_count, program_header}
-use Rattle.rv_model.specs.declared.elf.ElfFault.TheVariants.{BadAddress}
-use Rattle.rv_model.specs.ElfFaults.{header_has, first_fault}
-use Rattle.rv_model.specs.Image.{stack, placed, touches, is_touched, is_allowed_by}
+use Rattle.rv_model.specs.declared.images.ProgramHeader.{ProgramHeader}
+use Rattle.rv_model.specs.images.Fields.{header_count, program_header}
+use Rattle.rv_model.specs.declared.images.ElfFault.TheVariants.{BadAddress}
+use Rattle.rv_model.specs.images.Faults.{header_has, first_fault}
+use Rattle.rv_model.specs.images.Image.{stack, placed, touches, is_touched, is_allowed_by}
 use Rattle.elf_load.specs.Headers.{first_headers}
 use Rattle.elf_load.specs.Pages.{IsFirst, IsFirstIfAny, earlier, pages_below, first_placed, EndsInMemory, allows}
 use Rattle.elf_load.proofs.HeaderLaws.{any_none, any_more, any_at, none_at, first_headers_all}

@@ -6,13 +6,13 @@ use Rattle.std.specs.Ordering.{nat_cmp}
 use Rattle.std.specs.Option.{option_map_or}
 use Rattle.std.proofs.lemmas.List.{reverse-append}
 use Rattle.std.proofs.lemmas.Bool.{cases_eq, cases_lt}
-use Rattle.rv_model.specs.declared.elf.ProgramHeader.{ProgramHeader}
+use Rattle.rv_model.specs.declared.images.ProgramHeader.{ProgramHeader}
 use Rattle.rv_model.specs.declared.memory.Permissions.{Permissions}
 use Rattle.rv_model.specs.declared.memory.Access.TheVariants.{Monitor}
-use Rattle.rv_model.specs.Memory.{Cell, Memory, with_pages, page_count, map_refusal, put_bytes, permits, is_allowed}
-use Rattle.rv_model.specs.ElfFields.{header_count, program_header}
-use Rattle.rv_model.specs.Image.{stack, covers, byte_in, placed, is_touched, permissions_of, byte_of, cell_of, all_pages, memory_of_image}
-use Rattle.rv_model.proofs.MemoryLaws.{same_memory, get-add_cells_within, get-add_cells_outside, any_page_mapped_none, map_refusal_none, with_byte, get-put_bytes_within, get-put_bytes_outside}
+use Rattle.rv_model.specs.memory.Memory.{Cell, Memory, with_pages, page_count, map_refusal, put_bytes, permits, is_allowed}
+use Rattle.rv_model.specs.images.Fields.{header_count, program_header}
+use Rattle.rv_model.specs.images.Image.{stack, covers, byte_in, placed, is_touched, permissions_of, byte_of, cell_of, all_pages, memory_of_image}
+use Rattle.rv_model.proofs.memory_lemmas.Memory.{same_memory, get-add_cells_within, get-add_cells_outside, any_page_mapped_none, map_refusal_none, with_byte, get-put_bytes_within, get-put_bytes_outside}
 use Rattle.elf_load.specs.Headers.{first_headers}
 use Rattle.elf_load.specs.Pages.{IsFirst, pages_below, first_placed}
 use Rattle.elf_load.specs.Placing.{cells_with, memory_with, blank_memory, memory_after}

@@ -1,13 +1,13 @@
 -- A user's memory in the pool while an image is placed
 use Rattle.std.proofs.Common.{◌≡◌, ℕ, ◌+◌, ◌-◌, ◌<◌, ◌≤◌, ◌^◌, List, length, take, drop, replicate, None, true, false, refl, sym, ◌∙◌, ap, subst, arith}
 use Rattle.std.specs.FinMap.{empty}
-use Rattle.rv_model.specs.declared.elf.ProgramHeader.{ProgramHeader}
+use Rattle.rv_model.specs.declared.images.ProgramHeader.{ProgramHeader}
 use Rattle.rv_model.specs.declared.memory.Permissions.{Permissions}
 use Rattle.rv_model.specs.declared.memory.Access.TheVariants.{Monitor}
-use Rattle.rv_model.specs.ElfFields.{header_count, program_header}
-use Rattle.rv_model.specs.ElfFaults.{first_fault}
-use Rattle.rv_model.specs.Memory.{Memory, can_access, put_bytes, with_pages, page_count, map_refusal}
-use Rattle.rv_model.specs.Image.{placed, is_touched, permissions_of, byte_of, all_pages, memory_of_image}
+use Rattle.rv_model.specs.images.Fields.{header_count, program_header}
+use Rattle.rv_model.specs.images.Faults.{first_fault}
+use Rattle.rv_model.specs.memory.Memory.{Memory, can_access, put_bytes, with_pages, page_count, map_refusal}
+use Rattle.rv_model.specs.images.Image.{placed, is_touched, permissions_of, byte_of, all_pages, memory_of_image}
 use Rattle.user_mem.specs.Users.{memory_of_user, with_memory}
 use Rattle.elf_load.specs.Pages.{IsFirst, EndsInMemory, first_placed}
 use Rattle.elf_load.specs.Placing.{blank_memory, memory_after}

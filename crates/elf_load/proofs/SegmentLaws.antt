@@ -2,15 +2,15 @@
 use Rattle.std.proofs.Common.{◌≡◌, ℕ, ◌+◌, ◌-◌, ◌/◌, ◌<◌, ◌≤◌, Bool, true, false, cond, List, length, get_or, take, drop, replicate, None, refl, sym, ◌∙◌, ap, ◌⊎◌, inl, inr, arith}
 use Rattle.std.specs.Prelude.{nat_lt}
 use Rattle.std.proofs.lemmas.List.{get_or-take, get_or-drop, length-replicate, get_or-replicate, take-replicate, replicate-append-replicate}
-use Rattle.rv_model.specs.declared.elf.ProgramHeader.{ProgramHeader}
+use Rattle.rv_model.specs.declared.images.ProgramHeader.{ProgramHeader}
 use Rattle.rv_model.specs.declared.memory.Access.{Access}
 use Rattle.rv_model.specs.declared.memory.Access.TheVariants.{Monitor}
-use Rattle.rv_model.specs.declared.elf.ElfFault.TheVariants.{BadFileSize, BadOutside}
-use Rattle.rv_model.specs.ElfFields.{header_count, program_header}
-use Rattle.rv_model.specs.ElfFaults.{header_has, first_fault}
-use Rattle.rv_model.specs.Memory.{Memory, can_access, put_bytes}
-use Rattle.rv_model.specs.Image.{stack, placed, covers, touches, is_touched, byte_in, byte_of, all_pages}
-use Rattle.rv_model.proofs.MemoryLaws.{can_access_from, can_access-at, is_allowed-put_bytes, put_bytes-append}
+use Rattle.rv_model.specs.declared.images.ElfFault.TheVariants.{BadFileSize, BadOutside}
+use Rattle.rv_model.specs.images.Fields.{header_count, program_header}
+use Rattle.rv_model.specs.images.Faults.{header_has, first_fault}
+use Rattle.rv_model.specs.memory.Memory.{Memory, can_access, put_bytes}
+use Rattle.rv_model.specs.images.Image.{stack, placed, covers, touches, is_touched, byte_in, byte_of, all_pages}
+use Rattle.rv_model.proofs.memory_lemmas.Memory.{can_access_from, can_access-at, is_allowed-put_bytes, put_bytes-append}
 use Rattle.elf_load.specs.Pages.{first_placed}
 use Rattle.elf_load.specs.Placing.{memory_with, memory_after}
 use Rattle.elf_load.proofs.HeaderLaws.{any_at, none_at}

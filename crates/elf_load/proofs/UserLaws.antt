@@ -3,7 +3,7 @@ use Rattle.std.proofs.Common.{◌≡◌, ℕ, ◌+◌, ◌-◌, ◌<◌, ◌≤�
 use Rattle.std.specs.FinMap.{empty}
 use Rattle.std.proofs.lemmas.List.{set-set, set-get_or, get_or-set_same, length-take-le, length-replicate}
 use Rattle.rv_model.specs.declared.memory.Access.TheVariants.{Monitor}
-use Rattle.rv_model.specs.Memory.{Memory, can_access, put_bytes}
+use Rattle.rv_model.specs.memory.Memory.{Memory, can_access, put_bytes}
 use Rattle.user_mem.specs.Users.{memory_of_user, with_memory}
 use Rattle.elf_load.proofs.SegmentLaws.{put_zeros_more, put_no_zeros, may_write_part}
 

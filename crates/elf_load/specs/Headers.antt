@@ -1,8 +1,8 @@
 -- Where the headers of an image stand, and the first of them
 use Rattle.std.specs.Prelude.{ℕ, ◌+◌, ◌*◌, ◌<◌, ◌≤◌, List, length, map}
 use Rattle.std.specs.List.{range_with_len}
-use Rattle.rv_model.specs.declared.elf.ProgramHeader.{ProgramHeader}
-use Rattle.rv_model.specs.ElfFields.{table_offset, header_count, program_header}
+use Rattle.rv_model.specs.declared.images.ProgramHeader.{ProgramHeader}
+use Rattle.rv_model.specs.images.Fields.{table_offset, header_count, program_header}
 
 -- the file header and all program headers stand in the file
 pub record HasHeaders (image : List ℕ) : Type 0 where

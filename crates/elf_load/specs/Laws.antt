@@ -1,9 +1,9 @@
 -- What the definitions of an image's memory say in other words.
 use Rattle.std.specs.Prelude.{◌≡◌, ◌↔◌, ℕ, ◌/◌, List, None, true}
 use Rattle.std.specs.FinMap.{get}
-use Rattle.rv_model.specs.declared.elf.ProgramHeader.{ProgramHeader}
-use Rattle.rv_model.specs.ElfFaults.{first_fault}
-use Rattle.rv_model.specs.Image.{covers, touches, cell_of, memory_of_image}
+use Rattle.rv_model.specs.declared.images.ProgramHeader.{ProgramHeader}
+use Rattle.rv_model.specs.images.Faults.{first_fault}
+use Rattle.rv_model.specs.images.Image.{covers, touches, cell_of, memory_of_image}
 
 -- the memory of an image with no fault holds at each address the cell that the image describes there, or none
 abbrev pub HoldsItsCells : Type 0

@@ -1,7 +1,7 @@
 -- The pages that an image touches, one after the other
 use Rattle.std.specs.Prelude.{◌≡◌, ℕ, zero, suc, ◌+◌, ◌^◌, ◌<◌, ◌≤◌, min, Bool, true, false, cond, Option, Some, None, List, ◌∷◌, ◌&&◌, ◌==◌, not, bit_and}
-use Rattle.rv_model.specs.declared.elf.ProgramHeader.{ProgramHeader}
-use Rattle.rv_model.specs.Image.{stack, touches}
+use Rattle.rv_model.specs.declared.images.ProgramHeader.{ProgramHeader}
+use Rattle.rv_model.specs.images.Image.{stack, touches}
 use Rattle.elf_load.specs.Headers.{first_headers}
 
 -- the first page from a page on that passes a test

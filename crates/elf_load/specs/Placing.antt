@@ -1,7 +1,7 @@
 -- The memory of an image while it is placed: first its pages with zeros, then the bytes of one segment after the other
 use Rattle.std.specs.Prelude.{ℕ, ◌*◌, ◌/◌, ◌&&◌, nat_lt, List, Option, Some, None, if◌then◌else◌}
-use Rattle.rv_model.specs.Memory.{Cell, Memory}
-use Rattle.rv_model.specs.Image.{placed, is_touched, permissions_of, byte_of, memory_below, all_pages}
+use Rattle.rv_model.specs.memory.Memory.{Cell, Memory}
+use Rattle.rv_model.specs.images.Image.{placed, is_touched, permissions_of, byte_of, memory_below, all_pages}
 use Rattle.elf_load.specs.Pages.{first_placed}
 
 -- the cells of an image's pages below a page, with bytes given by address

@@ -1,7 +1,7 @@
 //! The first fault of an image.
 ghost use Rattle.std.specs.Prelude.{◌≡◌, ◌≢◌, ◌≤◌, ◌+◌, ◌*◌, length, find, None};
-ghost use Rattle.rv_model.specs.ElfFields.{header_count};
-ghost use Rattle.rv_model.specs.ElfFaults.{has_fault, header_has, any_header_has, file_faults, table_faults, segment_faults, first_fault};
+ghost use Rattle.rv_model.specs.images.Fields.{header_count};
+ghost use Rattle.rv_model.specs.images.Faults.{has_fault, header_has, any_header_has, file_faults, table_faults, segment_faults, first_fault};
 ghost use Rattle.elf_load.specs.Headers.{HasHeaders};
 
 use crate::fields::{
@@ -26,7 +26,7 @@ pub const LOAD: u32 = 1;
 const INTERPRETER: u32 = 3;
 
 // The first fault of the file header.
-#[tactic(auto, unfolding(rv_model::specs::ElfFaults::has_fault))]
+#[tactic(auto, unfolding(rv_model::specs::images::Faults::has_fault))]
 fn file_fault(image: &[u8]) -> Option<ElfFault>
     ensures { result ≡ find (has_fault image.now) file_faults }
 {
@@ -52,7 +52,7 @@ fn file_fault(image: &[u8]) -> Option<ElfFault>
 }
 
 // The first fault of the program header table.
-#[tactic(auto, unfolding(rv_model::specs::ElfFaults::has_fault))]
+#[tactic(auto, unfolding(rv_model::specs::images::Faults::has_fault))]
 fn table_fault(image: &[u8]) -> Option<ElfFault>
     requires { 64 ≤ length image.now }
     ensures { result ≡ find (has_fault image.now) table_faults }
@@ -69,7 +69,7 @@ fn table_fault(image: &[u8]) -> Option<ElfFault>
 }
 
 // Whether a program header by itself has a fault, in a file of `size` bytes.
-#[tactic(auto, unfolding(rv_model::specs::ElfFaults::header_has))]
+#[tactic(auto, unfolding(rv_model::specs::images::Faults::header_has))]
 fn header_has(header: ProgramHeader, fault: ElfFault, size: usize) -> bool
     ensures { result ≡ header_has size fault header }
 {
@@ -103,7 +103,7 @@ fn any_header_has(image: &[u8], fault: ElfFault) -> bool
 }
 
 // The first fault of the program headers.
-#[tactic(auto, unfolding(rv_model::specs::ElfFaults::has_fault))]
+#[tactic(auto, unfolding(rv_model::specs::images::Faults::has_fault))]
 fn segment_fault(image: &[u8]) -> Option<ElfFault>
     requires { HasHeaders image.now }
     ensures { result ≡ find (has_fault image.now) segment_faults }
@@ -124,7 +124,7 @@ fn segment_fault(image: &[u8]) -> Option<ElfFault>
 }
 
 // The first fault of an image.
-#[tactic(auto, unfolding(rv_model::specs::ElfFaults::has_fault))]
+#[tactic(auto, unfolding(rv_model::specs::images::Faults::has_fault))]
 pub fn first_fault(image: &[u8]) -> Option<ElfFault>
     ensures { result ≡ first_fault image.now }
 {

@@ -1,11 +1,11 @@
 //! The fields of an image's headers.
 ghost use Rattle.std.specs.Prelude.{◌≡◌, ◌+◌, ◌*◌, ◌≤◌, length};
-ghost use Rattle.rv_model.specs.ElfFields.{field, entry_of, type_of, machine_of, table_offset, header_size, header_count, header_at, program_header};
+ghost use Rattle.rv_model.specs.images.Fields.{field, entry_of, type_of, machine_of, table_offset, header_size, header_count, header_at, program_header};
 
 use byteorder::{ByteOrder, LittleEndian};
 use rv_model::ProgramHeader;
 
-#[tactic(auto, unfolding(rv_model::specs::ElfFields::field))]
+#[tactic(auto, unfolding(rv_model::specs::images::Fields::field))]
 fn number16(image: &[u8], offset: usize) -> u16
     requires { offset + 2 ≤ length image.now }
     ensures { result ≡ field offset 2 image.now }
@@ -13,7 +13,7 @@ fn number16(image: &[u8], offset: usize) -> u16
     LittleEndian::read_u16(&image[offset..])
 }
 
-#[tactic(auto, unfolding(rv_model::specs::ElfFields::field))]
+#[tactic(auto, unfolding(rv_model::specs::images::Fields::field))]
 fn number32(image: &[u8], offset: usize) -> u32
     requires { offset + 4 ≤ length image.now }
     ensures { result ≡ field offset 4 image.now }
@@ -21,7 +21,7 @@ fn number32(image: &[u8], offset: usize) -> u32
     LittleEndian::read_u32(&image[offset..])
 }
 
-#[tactic(auto, unfolding(rv_model::specs::ElfFields::field))]
+#[tactic(auto, unfolding(rv_model::specs::images::Fields::field))]
 fn number64(image: &[u8], offset: usize) -> u64
     requires { offset + 8 ≤ length image.now }
     ensures { result ≡ field offset 8 image.now }
@@ -77,7 +77,7 @@ pub fn header_count(image: &[u8]) -> u16
     number16(image, 56)
 }
 
-#[tactic(auto, unfolding(rv_model::specs::ElfFields::header_at))]
+#[tactic(auto, unfolding(rv_model::specs::images::Fields::header_at))]
 fn header_at(image: &[u8], offset: usize) -> ProgramHeader
     requires { offset + 56 ≤ length image.now }
     ensures { result ≡ header_at offset image.now }
@@ -93,7 +93,7 @@ fn header_at(image: &[u8], offset: usize) -> ProgramHeader
 }
 
 // The program header of a number, from 0.
-#[tactic(auto, unfolding(rv_model::specs::ElfFields::program_header))]
+#[tactic(auto, unfolding(rv_model::specs::images::Fields::program_header))]
 pub fn program_header(image: &[u8], number: usize) -> ProgramHeader
     requires file { 64 ≤ length image.now }
     requires table { table_offset image.now + 56 * (number + 1) ≤ length image.now }

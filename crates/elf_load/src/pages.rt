@@ -1,7 +1,7 @@
 //! The pages that an image touches, one after the other.
 ghost use Rattle.std.specs.Prelude.{◌≡◌, ℕ, ◌+◌, ◌<◌, ◌≤◌, ◌^◌, None, IfSome};
-ghost use Rattle.rv_model.specs.ElfFaults.{first_fault};
-ghost use Rattle.rv_model.specs.Image.{stack, placed, touches, is_touched};
+ghost use Rattle.rv_model.specs.images.Faults.{first_fault};
+ghost use Rattle.rv_model.specs.images.Image.{stack, placed, touches, is_touched};
 ghost use Rattle.elf_load.specs.Pages.{IsFirstIfAny, EndsInMemory, earlier};
 
 use crate::faults::LOAD;
@@ -11,7 +11,7 @@ use rv_model::ProgramHeader;
 pub const PAGE_SIZE: u64 = 4096;
 
 // The stack as a segment.
-#[tactic(auto, unfolding(rv_model::specs::Image::stack))]
+#[tactic(auto, unfolding(rv_model::specs::images::Image::stack))]
 pub fn stack() -> ProgramHeader
     ensures { result ≡ stack }
 {

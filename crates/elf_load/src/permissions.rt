@@ -1,7 +1,7 @@
 //! What the pages of an image may be used for.
 ghost use Rattle.std.specs.Prelude.{◌≡◌, ◌<◌, ◌&&◌, ◌==◌, ◌^◌, not, bit_and, None};
-ghost use Rattle.rv_model.specs.ElfFaults.{first_fault};
-ghost use Rattle.rv_model.specs.Image.{placed, touches, is_allowed_by, permissions_of};
+ghost use Rattle.rv_model.specs.images.Faults.{first_fault};
+ghost use Rattle.rv_model.specs.images.Image.{placed, touches, is_allowed_by, permissions_of};
 ghost use Rattle.elf_load.specs.Pages.{EndsInMemory, allows};
 
 use crate::faults::LOAD;
@@ -16,7 +16,7 @@ const WRITE: u32 = 2;
 const READ: u32 = 4;
 
 // Whether one of a page's addresses is one of a segment's.
-#[tactic(auto, unfolding(rv_model::specs::Image::touches))]
+#[tactic(auto, unfolding(rv_model::specs::images::Image::touches))]
 fn touches(header: ProgramHeader, page: u64) -> bool
     requires ends { EndsInMemory header }
     requires low { page < 2 ^ 36 }

@@ -2,10 +2,10 @@
 ghost use Rattle.std.specs.Prelude.{◌≡◌, ◌+◌, ◌-◌, ◌<◌, ◌≤◌, ◌^◌, None, true, length, take, drop, replicate};
 ghost use Rattle.std.specs.FinMap.{empty};
 ghost use Rattle.rv_model.specs.declared.memory.Access.TheVariants.{Monitor};
-ghost use Rattle.rv_model.specs.ElfFields.{header_count};
-ghost use Rattle.rv_model.specs.ElfFaults.{first_fault};
-ghost use Rattle.rv_model.specs.Image.{memory_of_image, all_pages};
-ghost use Rattle.rv_model.specs.Memory.{can_access, put_bytes, page_count};
+ghost use Rattle.rv_model.specs.images.Fields.{header_count};
+ghost use Rattle.rv_model.specs.images.Faults.{first_fault};
+ghost use Rattle.rv_model.specs.images.Image.{memory_of_image, all_pages};
+ghost use Rattle.rv_model.specs.memory.Memory.{can_access, put_bytes, page_count};
 ghost use Rattle.user_mem.specs.Users.{memory_of_user, with_memory};
 ghost use Rattle.elf_load.specs.Placing.{blank_memory, memory_after};
 

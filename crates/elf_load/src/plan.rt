@@ -1,9 +1,9 @@
 //! An image that was checked, and its place in a user's memory.
 ghost use Rattle.std.specs.Prelude.{◌≡◌, ◌<◌, ◌≤◌, ◌↔◌, None, Some, Err, IsSome, IfSome, IfOk, IfErr, OnOk, OnErr};
-ghost use Rattle.rv_model.specs.ElfFields.{entry_of, header_count, program_header};
-ghost use Rattle.rv_model.specs.ElfFaults.{first_fault};
-ghost use Rattle.rv_model.specs.Image.{memory_of_image};
-ghost use Rattle.rv_model.specs.Memory.{page_count};
+ghost use Rattle.rv_model.specs.images.Fields.{entry_of, header_count, program_header};
+ghost use Rattle.rv_model.specs.images.Faults.{first_fault};
+ghost use Rattle.rv_model.specs.images.Image.{memory_of_image};
+ghost use Rattle.rv_model.specs.memory.Memory.{page_count};
 ghost use Rattle.user_mem.specs.Users.{with_memory};
 
 use crate::faults::first_fault;
@@ -25,7 +25,7 @@ pub struct Plan<'a> {
 
 impl<'a> Model for Plan<'a> {
     ghost use Rattle.std.specs.Prelude.{List, ℕ, ◌≡◌, None};
-    ghost use Rattle.rv_model.specs.ElfFaults.{first_fault};
+    ghost use Rattle.rv_model.specs.images.Faults.{first_fault};
 
     ghost Value = { List ℕ };
 

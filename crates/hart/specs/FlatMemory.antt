@@ -2,7 +2,7 @@
 use Rattle.std.specs.Prelude.{ℕ, List, length, slice_index, true}
 use Rattle.std.specs.FinMap.{empty}
 use Rattle.rv_model.specs.declared.memory.Permissions.{Permissions}
-use Rattle.rv_model.specs.Memory.{Cell, Memory, add_cells}
+use Rattle.rv_model.specs.memory.Memory.{Cell, Memory, add_cells}
 
 abbrev pub all_permissions : Permissions
 all_permissions = record { read = true; write = true; execute = true }

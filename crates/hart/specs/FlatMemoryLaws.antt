@@ -8,8 +8,8 @@ use Rattle.std.proofs.lemmas.Bool.{cases_eq, cases_lt}
 use Rattle.std.proofs.lemmas.List.{ext_get_or, get_or-set_same, get_or-set_other, length-set, length-drop, length-take-le, get_or-take, get_or-drop, take_more}
 use Rattle.rv_model.specs.declared.memory.Access.{Access}
 use Rattle.rv_model.specs.declared.memory.Access.TheVariants.{Fetch, Load, Store, Monitor}
-use Rattle.rv_model.specs.Memory.{Memory, permits, byte_at, is_allowed, can_access, bytes_at, put_byte, put_bytes}
-use Rattle.rv_model.proofs.MemoryLaws.{same_memory, get-add_cells_within, get-add_cells_outside, can_access_from, can_access_not, length-bytes_at, get_or-bytes_at, put_bytes-append, get-put_byte_same, get-put_byte_other, with_byte}
+use Rattle.rv_model.specs.memory.Memory.{Memory, permits, byte_at, is_allowed, can_access, bytes_at, put_byte, put_bytes}
+use Rattle.rv_model.proofs.memory_lemmas.Memory.{same_memory, get-add_cells_within, get-add_cells_outside, can_access_from, can_access_not, length-bytes_at, get_or-bytes_at, put_bytes-append, get-put_byte_same, get-put_byte_other, with_byte}
 use Rattle.hart.specs.FlatMemory.{all_permissions, cell_of, flat_memory}
 
 get-flat_within : (bs : List ℕ) (x : ℕ) → x < length bs → get (flat_memory bs) x ≡ Some (cell_of bs x)

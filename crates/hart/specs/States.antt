@@ -1,16 +1,16 @@
 -- The model's step, told by the parts of one user.
 use Rattle.std.specs.Prelude.{ℕ, ◌≡◌, ◌||◌, Bool, List, Option, None, if◌then◌else◌}
-use Rattle.rv_model.specs.declared.instruction.Instr.{Instr}
+use Rattle.rv_model.specs.declared.instructions.instruction.Instr.{Instr}
 use Rattle.rv_model.specs.declared.memory.Access.TheVariants.{Fetch}
-use Rattle.rv_model.specs.declared.policy.Policy.{Policy}
+use Rattle.rv_model.specs.declared.vector.policy.Policy.{Policy}
 use Rattle.rv_model.specs.declared.scalar.Scalar.{Scalar}
-use Rattle.rv_model.specs.declared.step_end.StepEnd.{StepEnd}
-use Rattle.rv_model.specs.declared.vector_state.Seat.{Seat}
-use Rattle.rv_model.specs.declared.vector_state.VState.{VState}
-use Rattle.rv_model.specs.Hart.{HartState, Stepped, hart_state, ends}
-use Rattle.rv_model.specs.InstructionTable.{scan, table}
-use Rattle.rv_model.specs.Memory.{Memory, can_access}
-use Rattle.rv_model.specs.Step.{step, word_at}
+use Rattle.rv_model.specs.declared.step.step_end.StepEnd.{StepEnd}
+use Rattle.rv_model.specs.declared.vector.state.Seat.{Seat}
+use Rattle.rv_model.specs.declared.vector.state.VState.{VState}
+use Rattle.rv_model.specs.step.Hart.{HartState, Stepped, hart_state, ends}
+use Rattle.rv_model.specs.instructions.Table.{scan, table}
+use Rattle.rv_model.specs.memory.Memory.{Memory, can_access}
+use Rattle.rv_model.specs.step.Step.{step, word_at}
 
 -- whatever the output buffer holds, the step from the one state is to the other, with this end and these ticks
 abbrev pub IsStep : ℕ → (List ℕ → HartState) → (List ℕ → HartState) → StepEnd → ℕ → Type 0

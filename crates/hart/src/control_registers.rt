@@ -1,9 +1,9 @@
 //! Instructions that read and write control registers (Unprivileged ISA 20191213, chapter 9, "Zicsr"), all of
 //! them of the vector extension.
 ghost use Rattle.std.specs.Prelude.{◌≡◌};
-ghost use Rattle.rv_model.specs.VectorControl.{control_value, csr_form, is_write, with_control, written_value};
+ghost use Rattle.rv_model.specs.vector.Control.{control_value, csr_form, is_write, with_control, written_value};
 
-use rv_model::operations::{CsrImmediateOp, CsrOp};
+use rv_model::instructions::operations::{CsrImmediateOp, CsrOp};
 use rv_model::{ControlRegister, RoundingMode, VState};
 use vtype_rules::vtype_number;
 

@@ -1,7 +1,7 @@
 //! Jumps and branches (Unprivileged ISA 20191213, section 2.5).
 ghost use Rattle.std.specs.Prelude.{◌≡◌};
-ghost use Rattle.rv_model.specs.ControlTransfer.{branch_target, jump_target, register_target};
-ghost use Rattle.rv_model.specs.ScalarStep.{branch_step, jump_step, jumps};
+ghost use Rattle.rv_model.specs.scalar.ControlTransfer.{branch_target, jump_target, register_target};
+ghost use Rattle.rv_model.specs.step.ScalarStep.{branch_step, jump_step, jumps};
 ghost use Rattle.hart.specs.States.{LeadsRegisters};
 
 use crate::faults::fault;

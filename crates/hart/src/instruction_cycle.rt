@@ -1,9 +1,9 @@
 //! The instruction cycle: fetch, decode, execute.
 ghost use Rattle.std.specs.Prelude.{◌≡◌, ◌≤◌, Ok, Err, if◌then◌else◌};
 ghost use Rattle.rv_model.specs.declared.memory.Access.TheVariants.{Fetch};
-ghost use Rattle.rv_model.specs.Hart.{hart_state};
-ghost use Rattle.rv_model.specs.Memory.{can_access};
-ghost use Rattle.rv_model.specs.Step.{dirties, executed, touches, word_at};
+ghost use Rattle.rv_model.specs.step.Hart.{hart_state};
+ghost use Rattle.rv_model.specs.memory.Memory.{can_access};
+ghost use Rattle.rv_model.specs.step.Step.{dirties, executed, touches, word_at};
 ghost use Rattle.hart.specs.States.{fetched, IsStep, Leads, Marks};
 
 use crate::faults::{fault, illegal};
@@ -28,7 +28,7 @@ fn fetch<M: UserBytes>(memory: &M, pc: u64) -> Result<u32, Fault>
 }
 
 // Carries out an instruction; there is none where the word is no instruction.
-#[tactic(auto, unfolding(rv_model::specs::Step::executed, rv_model::specs::Step::dirties))]
+#[tactic(auto, unfolding(rv_model::specs::step::Step::executed, rv_model::specs::step::Step::dirties))]
 fn execute<M: UserBytes, V: Vectors>(
     instr: Option<Instr>,
     word: u32,
@@ -64,7 +64,7 @@ fn execute<M: UserBytes, V: Vectors>(
 /// Carries out one instruction of a user within `limit` ticks, and answers how it ended and how many
 /// ticks it took. The vector state is lent once where the instruction touches it, and else not at all; it
 /// is marked as dirty where the instruction changed it.
-#[tactic(auto, unfolding(rv_model::specs::Step::step))]
+#[tactic(auto, unfolding(rv_model::specs::step::Step::step))]
 pub fn step<M: UserBytes, V: Vectors>(
     view: &mut View<'_, '_, '_, M, V>,
     limit: usize,

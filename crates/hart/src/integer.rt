@@ -1,9 +1,9 @@
 //! What instructions do to the scalar registers.
 ghost use Rattle.std.specs.Prelude.{◌≡◌};
-ghost use Rattle.rv_model.specs.Scalar.{advanced, with_register};
-ghost use Rattle.rv_model.specs.ScalarArithmetic.{op_imm_value, shift_imm_value, shift_imm_word_value, upper_value};
+ghost use Rattle.rv_model.specs.scalar.Registers.{advanced, with_register};
+ghost use Rattle.rv_model.specs.scalar.Arithmetic.{op_imm_value, shift_imm_value, shift_imm_word_value, upper_value};
 
-use rv_model::operations::{OpImmOp, ShiftImmOp, ShiftImmWordOp, UpperOp};
+use rv_model::instructions::operations::{OpImmOp, ShiftImmOp, ShiftImmWordOp, UpperOp};
 use rv_model::{Field, Reg, Scalar, StepEnd};
 use scalar_core::{alu, op_imm_form, shift_imm_form, shift_imm_word_form, sign_extend};
 

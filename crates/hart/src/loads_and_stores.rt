@@ -2,14 +2,14 @@
 ghost use Rattle.std.specs.Prelude.{◌≡◌, Ok, Err, if◌then◌else◌};
 ghost use Rattle.std.specs.Int.{byte_len, w8, w16, w32, w64};
 ghost use Rattle.rv_model.specs.declared.memory.Access.TheVariants.{Load};
-ghost use Rattle.rv_model.specs.LoadsAndStores.{access_address, extended, load_width, number_at, store_width, stored_bytes};
-ghost use Rattle.rv_model.specs.Memory.{can_access};
-ghost use Rattle.rv_model.specs.ScalarStep.{load_step, store_step};
+ghost use Rattle.rv_model.specs.scalar.LoadsAndStores.{access_address, extended, load_width, number_at, store_width, stored_bytes};
+ghost use Rattle.rv_model.specs.memory.Memory.{can_access};
+ghost use Rattle.rv_model.specs.step.ScalarStep.{load_step, store_step};
 ghost use Rattle.hart.specs.States.{LeadsScalar};
 
 use crate::faults::fault;
 use crate::integer::{give, run_on};
-use rv_model::operations::{LoadOp, StoreOp};
+use rv_model::instructions::operations::{LoadOp, StoreOp};
 use rv_model::{Access, Cause, Fault, Field, Reg, Scalar, StepEnd};
 use scalar_core::sign_extend;
 use vector_memory::UserBytes;

@@ -1,7 +1,7 @@
 //! Instructions that don't touch the vector unit.
 ghost use Rattle.std.specs.Prelude.{◌≡◌, ℕ, Some, false};
-ghost use Rattle.rv_model.specs.Step.{dirties, executed, touches};
-ghost use Rattle.rv_model.specs.Hart.{HartState};
+ghost use Rattle.rv_model.specs.step.Step.{dirties, executed, touches};
+ghost use Rattle.rv_model.specs.step.Hart.{HartState};
 ghost use Rattle.hart.specs.States.{LeadsScalar};
 
 use crate::control_transfer::{branch_target, jump, jump_if, jump_target, register_target};
@@ -14,7 +14,7 @@ use scalar_core::{alu, branch};
 use vector_memory::UserBytes;
 
 /// Carries out an instruction that doesn't touch the vector unit.
-#[tactic(auto, unfolding(rv_model::specs::Step::executed, rv_model::specs::Step::dirties))]
+#[tactic(auto, unfolding(rv_model::specs::step::Step::executed, rv_model::specs::step::Step::dirties))]
 pub(crate) fn execute_scalar<M: UserBytes>(
     instr: &Instr,
     word: u32,

@@ -1,7 +1,7 @@
 //! A small program, carried out word by word on a plain array of bytes.
 ghost use Rattle.std.specs.Prelude.{◌≡◌, ◌<◌, ◌≤◌, ◌+◌, true, length};
 ghost use Rattle.rv_model.specs.declared.memory.Access.{Access};
-ghost use Rattle.rv_model.specs.Memory.{bytes_at, can_access, put_bytes};
+ghost use Rattle.rv_model.specs.memory.Memory.{bytes_at, can_access, put_bytes};
 ghost use Rattle.hart.specs.FlatMemory.{flat_memory};
 
 use super::*;
@@ -59,10 +59,10 @@ struct Flat {
 
 impl UserBytes for Flat {
     ghost use Rattle.std.specs.Prelude.{length};
-    ghost use Rattle.rv_model.specs.Memory.{bytes_at};
+    ghost use Rattle.rv_model.specs.memory.Memory.{bytes_at};
     ghost use Rattle.hart.specs.FlatMemory.{flat_memory};
     ghost use Rattle.std.proofs.Common.{ap, refl};
-    ghost use Rattle.rv_model.proofs.MemoryLaws.{length-bytes_at};
+    ghost use Rattle.rv_model.proofs.memory_lemmas.Memory.{length-bytes_at};
     ghost use Rattle.hart.specs.FlatMemoryLaws.{bytes_at_flat_all};
 
     ghost memory = { λ f. flat_memory f.bytes };

@@ -1,10 +1,10 @@
 //! Which instructions touch the vector unit.
 ghost use Rattle.std.specs.Prelude.{◌≡◌, Some};
-ghost use Rattle.rv_model.specs.ControlRegisters.{control_register};
-ghost use Rattle.rv_model.specs.Step.{touches, touches_control};
+ghost use Rattle.rv_model.specs.vector.ControlRegisters.{control_register};
+ghost use Rattle.rv_model.specs.step.Step.{touches, touches_control};
 
 use crate::control_registers::{csr_form, is_write};
-use rv_model::operations::CsrOp;
+use rv_model::instructions::operations::CsrOp;
 use rv_model::{ControlRegister, Field, Instr};
 
 // Whether an access of a control register is not illegal.

@@ -1,19 +1,19 @@
 //! Instructions that touch the vector unit, on a vector state that was lent to them.
 ghost use Rattle.std.specs.Prelude.{◌≡◌, ◌||◌, ◌&&◌, Some, true, IsTrue};
-ghost use Rattle.rv_model.specs.declared.policy.Policy.{Policy};
-ghost use Rattle.rv_model.specs.Hart.{hart_state};
-ghost use Rattle.rv_model.specs.Memory.{Memory};
-ghost use Rattle.rv_model.specs.ScalarStep.{csr_step};
-ghost use Rattle.rv_model.specs.Step.{dirties, executed, touches, touches_control};
-ghost use Rattle.rv_model.specs.VectorControl.{is_write};
-ghost use Rattle.rv_model.specs.VectorStep.{access_cause, is_legal_end, is_vector, vector_executed, vector_step};
+ghost use Rattle.rv_model.specs.declared.vector.policy.Policy.{Policy};
+ghost use Rattle.rv_model.specs.step.Hart.{hart_state};
+ghost use Rattle.rv_model.specs.memory.Memory.{Memory};
+ghost use Rattle.rv_model.specs.step.ScalarStep.{csr_step};
+ghost use Rattle.rv_model.specs.step.Step.{dirties, executed, touches, touches_control};
+ghost use Rattle.rv_model.specs.vector.Control.{is_write};
+ghost use Rattle.rv_model.specs.step.VectorStep.{access_cause, is_legal_end, is_vector, vector_executed, vector_step};
 ghost use Rattle.hart.specs.Seats.{IsGivenBack};
 ghost use Rattle.hart.specs.States.{Leads, Marks};
 
 use crate::control_registers::{csr_form, is_write, read, write, written_value};
 use crate::faults::{fault, illegal};
 use crate::integer::{give, run_on};
-use rv_model::operations::CsrOp;
+use rv_model::instructions::operations::CsrOp;
 use rv_model::{Cause, ControlRegister, Instr, Policy, Reg, Scalar, Seat, StepEnd, VEnd};
 use vec_unit::exec;
 use vector_memory::UserBytes;
@@ -108,7 +108,7 @@ pub(crate) fn execute_vector<M: UserBytes>(
 }
 
 /// Carries out an instruction that touches the vector unit.
-#[tactic(auto, unfolding(rv_model::specs::Step::executed, rv_model::specs::Step::dirties))]
+#[tactic(auto, unfolding(rv_model::specs::step::Step::executed, rv_model::specs::step::Step::dirties))]
 pub(crate) fn execute_touching<M: UserBytes>(
     instr: &Instr,
     word: u32,

@@ -1,8 +1,8 @@
 //! Who lends a user's vector state.
 ghost use Rattle.std.specs.Prelude.{◌≡◌};
 ghost use Rattle.std.specs.Borrow.{sem, Lends};
-ghost use Rattle.rv_model.specs.declared.vector_state.Seat.{Seat};
-ghost use Rattle.rv_model.specs.contracts.vector_state.Seat as seat_type;
+ghost use Rattle.rv_model.specs.declared.vector.state.Seat.{Seat};
+ghost use Rattle.rv_model.specs.contracts.vector.state.Seat as seat_type;
 ghost use Rattle.hart.specs.Seats.{IsGivenBack};
 
 use rv_model::Seat;

@@ -6,7 +6,7 @@ ghost use Rattle.std.specs.Prelude.{◌<◌};
 
 use rv_asm::{fixed_mask, slots_of};
 use rv_model::assembler::{Place, SignedField, Slot, UnsignedField};
-use rv_model::mnemonics::{MNEMONICS, Mnemonic};
+use rv_model::assembler::mnemonics::{MNEMONICS, Mnemonic};
 use std::io;
 
 /// The family that begins with this name, and where the manual has it.

@@ -3,12 +3,12 @@
 ghost use Rattle.std.specs.Prelude.{◌≡◌, ◌+◌, ◌*◌, ◌<◌, ◌≤◌, IsTrue, length, false};
 ghost use Rattle.std.specs.Int.{bytes_low_first};
 ghost use Rattle.std.specs.Simd.Lanes.{put_chunk};
-ghost use Rattle.rv_model.specs.Elements.{element, in_body, is_changed, is_let, result_or_ones};
-ghost use Rattle.rv_model.specs.ElementWrites.{Writes};
-ghost use Rattle.rv_model.specs.VectorFormulas.{formula, is_carried_out, ones, wrap};
+ghost use Rattle.rv_model.specs.elements.Elements.{element, in_body, is_changed, is_let, result_or_ones};
+ghost use Rattle.rv_model.specs.elements.Writes.{Writes};
+ghost use Rattle.rv_model.specs.elements.Formulas.{formula, is_carried_out, ones, wrap};
 
 use crate::lane::Lane;
-use rv_model::operations::BinaryOp;
+use rv_model::instructions::operations::BinaryOp;
 
 // One element of the result.
 fn apply<L: Lane>(op: BinaryOp, a: L, b: L) -> L

@@ -2,9 +2,9 @@
 ghost use Rattle.std.specs.Prelude.{◌≡◌, ◌+◌, ◌*◌, ◌%◌, ◌^◌, ◌<◌, ◌≤◌, ℕ, length};
 ghost use Rattle.std.specs.Int.{Width, bytes_low_first, w8, w16, w32, w64};
 ghost use Rattle.std.specs.Simd.Lanes.{put_chunk};
-ghost use Rattle.rv_model.specs.declared.operations.BinaryOp.TheVariants.{Vadd, Vsub};
-ghost use Rattle.rv_model.specs.Elements.{element};
-ghost use Rattle.rv_model.specs.VectorFormulas.{formula, ones, wrap};
+ghost use Rattle.rv_model.specs.declared.instructions.operations.BinaryOp.TheVariants.{Vadd, Vsub};
+ghost use Rattle.rv_model.specs.elements.Elements.{element};
+ghost use Rattle.rv_model.specs.elements.Formulas.{formula, ones, wrap};
 ghost use Rattle.std.proofs.Common.{lit<, refl};
 ghost use mir.Val.{bits};
 

@@ -5,8 +5,8 @@ use Rattle.std.specs.Prelude.{map}
 use Rattle.std.specs.List.{range_with_len}
 use Rattle.std.proofs.lemmas.List.FromFn.{map-range_with_len_more}
 use Rattle.hex.specs.Hex.{encode_lower}
-use Rattle.rv_model.specs.Replies.{hex16, asm_line, dis_line, dis_lines, word_in}
-use Rattle.rv_model.specs.Text.{tagged, text}
+use Rattle.rv_model.specs.commands.Replies.{hex16, asm_line, dis_line, dis_lines, word_in}
+use Rattle.rv_model.specs.text.Lines.{tagged, text}
 
 -- a number above 64 bits has the digits of its low 64 bits
 low_byte : (n : ℕ) → byte_at 0 (n % 2 ^ 64) ≡ byte_at 0 n

@@ -3,9 +3,9 @@ use Rattle.std.proofs.Common.{◌≡◌, ℕ, suc, ◌+◌, ◌-◌, ◌*◌, �
 use Rattle.std.specs.Prelude.{flat_map}
 use Rattle.std.specs.List.{range_with_len}
 use Rattle.std.proofs.lemmas.List.{at_drop_more, at_drop_all}
-use Rattle.rv_model.specs.declared.vector_type.Sew.{Sew}
-use Rattle.rv_model.specs.declared.vector_type.Sew.TheVariants.{E8, E16, E32, E64}
-use Rattle.rv_model.specs.VectorConfiguration.{sew_bits}
+use Rattle.rv_model.specs.declared.vector.types.Sew.{Sew}
+use Rattle.rv_model.specs.declared.vector.types.Sew.TheVariants.{E8, E16, E32, E64}
+use Rattle.rv_model.specs.vector.Configuration.{sew_bits}
 
 -- a piece more, and then the pieces that are left
 pushed : (before piece after rest whole : List ℕ) → after ≡ before ++ piece → before ++ (piece ++ rest) ≡ whole → after ++ rest ≡ whole

@@ -1,8 +1,8 @@
 -- The lines of registers, printed one after another.
 use Rattle.std.proofs.Common.{◌≡◌, ℕ, suc, ◌+◌, ◌-◌, ◌*◌, ◌<◌, List, ◌∷◌, ◌++◌, sym, ap, ◌∙◌, append_assoc, arith}
 use Rattle.rv_model.specs.declared.scalar.Scalar.{Scalar}
-use Rattle.rv_model.specs.Replies.{register_line, register_lines}
-use Rattle.rv_model.specs.Text.{tagged, text}
+use Rattle.rv_model.specs.commands.Replies.{register_line, register_lines}
+use Rattle.rv_model.specs.text.Lines.{tagged, text}
 
 -- a line more is the first of those that were left
 pub next_line : (tag n : ℕ) (s : Scalar) (before after whole : List ℕ) → n < 8 → after ≡ before ++ tagged tag (register_line s (4 * n))

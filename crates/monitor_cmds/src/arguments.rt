@@ -1,11 +1,11 @@
 //! What a word means as an argument of a command.
 ghost use Rattle.std.specs.Prelude.{◌≡◌, ◌≤◌, Some};
-ghost use Rattle.rv_model.specs.Arguments.{digit as digit_of, digits_after, decimal_number as decimal_of};
-ghost use Rattle.rv_model.specs.Arguments.{number as number_of, address as address_of};
-ghost use Rattle.rv_model.specs.Arguments.{instruction_address as instruction_address_of};
-ghost use Rattle.rv_model.specs.Arguments.{scalar_register as scalar_register_of, vector_register as vector_register_of};
-ghost use Rattle.rv_model.specs.Arguments.{element_width as element_width_of};
-ghost use Rattle.rv_model.specs.Arguments.{allowing as permissions_of, permissions as named_permissions};
+ghost use Rattle.rv_model.specs.commands.Arguments.{digit as digit_of, digits_after, decimal_number as decimal_of};
+ghost use Rattle.rv_model.specs.commands.Arguments.{number as number_of, address as address_of};
+ghost use Rattle.rv_model.specs.commands.Arguments.{instruction_address as instruction_address_of};
+ghost use Rattle.rv_model.specs.commands.Arguments.{scalar_register as scalar_register_of, vector_register as vector_register_of};
+ghost use Rattle.rv_model.specs.commands.Arguments.{element_width as element_width_of};
+ghost use Rattle.rv_model.specs.commands.Arguments.{allowing as permissions_of, permissions as named_permissions};
 ghost use Rattle.monitor_cmds.specs.Capped.{capped};
 
 use rv_model::{Permissions, Reg, Sew, VReg};

@@ -1,7 +1,7 @@
 //! Lines of a reply that are always the same, and refusals.
 ghost use Rattle.std.specs.Prelude.{◌≡◌, [], ◌∷◌, ◌++◌, ◌+◌, ◌≤◌, length, codes};
-ghost use Rattle.rv_model.specs.Replies.{refused as refusal_text};
-ghost use Rattle.rv_model.specs.Text.{text};
+ghost use Rattle.rv_model.specs.commands.Replies.{refused as refusal_text};
+ghost use Rattle.rv_model.specs.text.Lines.{text};
 ghost use Rattle.monitor_cmds.specs.Tag.{tag_byte};
 
 use crate::numerals::push_decimal;
@@ -48,7 +48,7 @@ pub fn ok(reply: &mut Reply, tag: Tag)
 }
 
 // Adds the code of a refusal, and what it tells.
-#[tactic(auto, unfolding(rv_model::specs::Replies::refused))]
+#[tactic(auto, unfolding(rv_model::specs::commands::Replies::refused))]
 fn push_refusal(reply: &mut Reply, refusal: Refusal)
     requires { length reply.old + 24 ≤ 4096 }
     ensures text { reply.new ≡ reply.old ++ refusal_text refusal }

@@ -1,17 +1,17 @@
 //! The commands of a user, as words spell them.
 ghost use Rattle.std.specs.Prelude.{◌≡◌, Some, None, MatchOption};
-ghost use Rattle.rv_model.specs.Arguments.{number as number_of, address as address_of};
-ghost use Rattle.rv_model.specs.Arguments.{permissions as named_permissions, byte_string as byte_string_of};
-ghost use Rattle.rv_model.specs.Arguments.{instruction_address as instruction_address_of};
-ghost use Rattle.rv_model.specs.Arguments.{scalar_register as scalar_register_of, vector_register as vector_register_of};
-ghost use Rattle.rv_model.specs.Arguments.{element_width as element_width_of, register_bytes as register_bytes_of};
-ghost use Rattle.rv_model.specs.Commands.{next, done as command_done, or_argument as command_or_argument};
-ghost use Rattle.rv_model.specs.Commands.{map_args as map_of, poke_args as poke_of, step_args as step_of};
-ghost use Rattle.rv_model.specs.Commands.{peek_args as peek_of, set_args as set_of, setpc_args as setpc_of};
-ghost use Rattle.rv_model.specs.Commands.{vreg_args as vreg_of, vset_args as vset_of};
-ghost use Rattle.rv_model.specs.Commands.{any_word as any_word_of, load_args as load_of};
-ghost use Rattle.rv_model.specs.Commands.{asm_args as asm_of, dis_args as dis_of};
-ghost use Rattle.rv_model.specs.Commands.{parse as command_of, named as named_command};
+ghost use Rattle.rv_model.specs.commands.Arguments.{number as number_of, address as address_of};
+ghost use Rattle.rv_model.specs.commands.Arguments.{permissions as named_permissions, byte_string as byte_string_of};
+ghost use Rattle.rv_model.specs.commands.Arguments.{instruction_address as instruction_address_of};
+ghost use Rattle.rv_model.specs.commands.Arguments.{scalar_register as scalar_register_of, vector_register as vector_register_of};
+ghost use Rattle.rv_model.specs.commands.Arguments.{element_width as element_width_of, register_bytes as register_bytes_of};
+ghost use Rattle.rv_model.specs.commands.Grammar.{next, done as command_done, or_argument as command_or_argument};
+ghost use Rattle.rv_model.specs.commands.Grammar.{map_args as map_of, poke_args as poke_of, step_args as step_of};
+ghost use Rattle.rv_model.specs.commands.Grammar.{peek_args as peek_of, set_args as set_of, setpc_args as setpc_of};
+ghost use Rattle.rv_model.specs.commands.Grammar.{vreg_args as vreg_of, vset_args as vset_of};
+ghost use Rattle.rv_model.specs.commands.Grammar.{any_word as any_word_of, load_args as load_of};
+ghost use Rattle.rv_model.specs.commands.Grammar.{asm_args as asm_of, dis_args as dis_of};
+ghost use Rattle.rv_model.specs.commands.Grammar.{parse as command_of, named as named_command};
 
 use crate::arguments;
 use crate::trimming::after_two_words;
@@ -124,7 +124,7 @@ fn done<'a>(words: &mut Words<'a>, command: Cmd<'a>) -> Option<Cmd<'a>>
 }
 
 // `load NAME`
-#[tactic(auto, unfolding(rv_model::specs::Commands::load_args))]
+#[tactic(auto, unfolding(rv_model::specs::commands::Grammar::load_args))]
 fn load_args<'a>(words: &mut Words<'a>) -> Option<Cmd<'a>>
     ensures { result ≡ load_of words.old }
 {
@@ -133,7 +133,7 @@ fn load_args<'a>(words: &mut Words<'a>) -> Option<Cmd<'a>>
 }
 
 // `map ADDR PAGES PERM`
-#[tactic(auto, unfolding(rv_model::specs::Commands::map_args))]
+#[tactic(auto, unfolding(rv_model::specs::commands::Grammar::map_args))]
 fn map_args<'a>(words: &mut Words<'a>) -> Option<Cmd<'a>>
     ensures { result ≡ map_of words.old }
 {
@@ -154,7 +154,7 @@ fn map_args<'a>(words: &mut Words<'a>) -> Option<Cmd<'a>>
 }
 
 // `poke ADDR HEX`
-#[tactic(auto, unfolding(rv_model::specs::Commands::poke_args))]
+#[tactic(auto, unfolding(rv_model::specs::commands::Grammar::poke_args))]
 fn poke_args<'a>(words: &mut Words<'a>) -> Option<Cmd<'a>>
     ensures { result ≡ poke_of words.old }
 {
@@ -164,7 +164,7 @@ fn poke_args<'a>(words: &mut Words<'a>) -> Option<Cmd<'a>>
 }
 
 // `peek ADDR N`
-#[tactic(auto, unfolding(rv_model::specs::Commands::peek_args))]
+#[tactic(auto, unfolding(rv_model::specs::commands::Grammar::peek_args))]
 fn peek_args<'a>(words: &mut Words<'a>) -> Option<Cmd<'a>>
     ensures { result ≡ peek_of words.old }
 {
@@ -174,7 +174,7 @@ fn peek_args<'a>(words: &mut Words<'a>) -> Option<Cmd<'a>>
 }
 
 // `set xN HEX`
-#[tactic(auto, unfolding(rv_model::specs::Commands::set_args))]
+#[tactic(auto, unfolding(rv_model::specs::commands::Grammar::set_args))]
 fn set_args<'a>(words: &mut Words<'a>) -> Option<Cmd<'a>>
     ensures { result ≡ set_of words.old }
 {
@@ -184,7 +184,7 @@ fn set_args<'a>(words: &mut Words<'a>) -> Option<Cmd<'a>>
 }
 
 // `setpc ADDR`
-#[tactic(auto, unfolding(rv_model::specs::Commands::setpc_args))]
+#[tactic(auto, unfolding(rv_model::specs::commands::Grammar::setpc_args))]
 fn setpc_args<'a>(words: &mut Words<'a>) -> Option<Cmd<'a>>
     ensures { result ≡ setpc_of words.old }
 {
@@ -193,7 +193,7 @@ fn setpc_args<'a>(words: &mut Words<'a>) -> Option<Cmd<'a>>
 }
 
 // `vreg vN SEW`
-#[tactic(auto, unfolding(rv_model::specs::Commands::vreg_args))]
+#[tactic(auto, unfolding(rv_model::specs::commands::Grammar::vreg_args))]
 fn vreg_args<'a>(words: &mut Words<'a>) -> Option<Cmd<'a>>
     ensures { result ≡ vreg_of words.old }
 {
@@ -203,7 +203,7 @@ fn vreg_args<'a>(words: &mut Words<'a>) -> Option<Cmd<'a>>
 }
 
 // `vset vN HEX`
-#[tactic(auto, unfolding(rv_model::specs::Commands::vset_args))]
+#[tactic(auto, unfolding(rv_model::specs::commands::Grammar::vset_args))]
 fn vset_args<'a>(words: &mut Words<'a>) -> Option<Cmd<'a>>
     ensures { result ≡ vset_of words.old }
 {
@@ -213,7 +213,7 @@ fn vset_args<'a>(words: &mut Words<'a>) -> Option<Cmd<'a>>
 }
 
 // `asm ADDR TEXT`, where the text is all that follows the address
-#[tactic(auto, unfolding(rv_model::specs::Commands::asm_args))]
+#[tactic(auto, unfolding(rv_model::specs::commands::Grammar::asm_args))]
 fn asm_args<'a>(words: &mut Words<'a>, text: &'a [u8]) -> Option<Cmd<'a>>
     ensures { result ≡ asm_of words.old text.now }
 {
@@ -228,7 +228,7 @@ fn asm_args<'a>(words: &mut Words<'a>, text: &'a [u8]) -> Option<Cmd<'a>>
 }
 
 // `dis ADDR N`
-#[tactic(auto, unfolding(rv_model::specs::Commands::dis_args))]
+#[tactic(auto, unfolding(rv_model::specs::commands::Grammar::dis_args))]
 fn dis_args<'a>(words: &mut Words<'a>) -> Option<Cmd<'a>>
     ensures { result ≡ dis_of words.old }
 {
@@ -238,7 +238,7 @@ fn dis_args<'a>(words: &mut Words<'a>) -> Option<Cmd<'a>>
 }
 
 // `step N`
-#[tactic(auto, unfolding(rv_model::specs::Commands::step_args))]
+#[tactic(auto, unfolding(rv_model::specs::commands::Grammar::step_args))]
 fn step_args<'a>(words: &mut Words<'a>) -> Option<Cmd<'a>>
     ensures { result ≡ step_of words.old }
 {
@@ -252,7 +252,7 @@ fn or_argument<'a>(command: Option<Cmd<'a>>) -> Result<Cmd<'a>, Refusal>
     command.ok_or(Refusal::Argument)
 }
 
-#[tactic(auto, unfolding(rv_model::specs::Commands::named))]
+#[tactic(auto, unfolding(rv_model::specs::commands::Grammar::named))]
 // The command of a name, of the words after it, and of what follows its first argument.
 fn named<'a>(name: &[u8], words: &mut Words<'a>, text: &'a [u8]) -> Result<Cmd<'a>, Refusal>
     ensures { result ≡ named_command name.now words.old text.now }
@@ -316,7 +316,7 @@ fn named<'a>(name: &[u8], words: &mut Words<'a>, text: &'a [u8]) -> Result<Cmd<'
 ///
 /// Refused are a name that is no command's (E03), and then a wrong number of arguments or one out
 /// of its form or range (E04).
-#[tactic(auto, unfolding(rv_model::specs::Commands::parse))]
+#[tactic(auto, unfolding(rv_model::specs::commands::Grammar::parse))]
 pub fn parse(line: &[u8]) -> Result<Cmd<'_>, Refusal>
     ensures { result ≡ command_of line.now }
 {

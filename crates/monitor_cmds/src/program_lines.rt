@@ -1,9 +1,9 @@
 //! The answers that show a program: an image that was loaded, and instructions with their words.
 ghost use Rattle.std.specs.Prelude.{◌≡◌, [], ◌∷◌, ◌++◌, ◌+◌, ◌*◌, ◌≤◌, length};
-ghost use Rattle.rv_model.specs.AssemblerTable.{canonical};
-ghost use Rattle.rv_model.specs.Replies.{loaded_line as loaded_text, asm_line as asm_text, dis_line as dis_text};
-ghost use Rattle.rv_model.specs.Replies.{dis_lines as dis_texts, word_in};
-ghost use Rattle.rv_model.specs.Text.{tagged, text};
+ghost use Rattle.rv_model.specs.assembler.Table.{canonical};
+ghost use Rattle.rv_model.specs.commands.Replies.{loaded_line as loaded_text, asm_line as asm_text, dis_line as dis_text};
+ghost use Rattle.rv_model.specs.commands.Replies.{dis_lines as dis_texts, word_in};
+ghost use Rattle.rv_model.specs.text.Lines.{tagged, text};
 ghost use Rattle.monitor_cmds.specs.Tag.{tag_byte};
 
 use crate::numerals::{push_decimal, push_hex8, push_hex16};
@@ -12,7 +12,7 @@ use crate::tag::Tag;
 use rv_asm::{Text, text_of};
 
 // Adds where a program begins, and how many pages it has.
-#[tactic(auto, unfolding(rv_model::specs::Replies::loaded_line))]
+#[tactic(auto, unfolding(rv_model::specs::commands::Replies::loaded_line))]
 fn push_loaded(reply: &mut Reply, pc: u64, pages: usize)
     requires { length reply.old + 53 ≤ 4096 }
     ensures text { reply.new ≡ reply.old ++ loaded_text pc pages }
@@ -36,7 +36,7 @@ pub fn loaded_line(reply: &mut Reply, tag: Tag, pc: u64, pages: usize)
 }
 
 // Adds an address and the word there.
-#[tactic(auto, unfolding(rv_model::specs::Replies::asm_line))]
+#[tactic(auto, unfolding(rv_model::specs::commands::Replies::asm_line))]
 fn push_word(reply: &mut Reply, addr: u64, word: u32)
     requires { length reply.old + 25 ≤ 4096 }
     ensures text { reply.new ≡ reply.old ++ asm_text addr word }
@@ -71,7 +71,7 @@ fn push_instruction(reply: &mut Reply, word: u32)
 }
 
 // Adds the line of a word: its address, the word and its text.
-#[tactic(auto, unfolding(rv_model::specs::Replies::dis_line))]
+#[tactic(auto, unfolding(rv_model::specs::commands::Replies::dis_line))]
 fn push_dis_line(reply: &mut Reply, tag: &Tag, addr: u64, word: u32)
     requires { length reply.old + 189 ≤ 4096 }
     ensures text { reply.new ≡ reply.old ++ tagged (tag_byte tag.now) (dis_text addr word) }
@@ -98,7 +98,7 @@ fn word_in(bytes: &[u8], index: usize) -> u32
 /// Adds the answer to `dis`: a line for each of 1 to 16 words, which are the bytes from an address
 /// on, with its address, the word and its canonical text, as
 /// `0000000000010004 022180d7 vadd.vv v1, v2, v3`.
-#[tactic(auto, unfolding(rv_model::specs::Replies::dis_lines))]
+#[tactic(auto, unfolding(rv_model::specs::commands::Replies::dis_lines))]
 pub fn dis_lines(reply: &mut Reply, tag: Tag, addr: u64, count: usize, bytes: &[u8])
     requires few { count ≤ 16 }
     requires bytes { 4 * count ≤ length bytes.now }

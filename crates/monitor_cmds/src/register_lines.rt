@@ -1,7 +1,7 @@
 //! The answer to `regs`.
 ghost use Rattle.std.specs.Prelude.{◌≡◌, [], ◌∷◌, ◌++◌, ◌+◌, ◌<◌, ◌≤◌, length, codes};
-ghost use Rattle.rv_model.specs.Replies.{hex16, register_text, register_line, regs_lines};
-ghost use Rattle.rv_model.specs.Text.{tagged, text};
+ghost use Rattle.rv_model.specs.commands.Replies.{hex16, register_text, register_line, regs_lines};
+ghost use Rattle.rv_model.specs.text.Lines.{tagged, text};
 ghost use Rattle.monitor_cmds.specs.Tag.{tag_byte};
 
 use crate::numerals::{push_decimal, push_hex16};
@@ -10,7 +10,7 @@ use crate::tag::Tag;
 use rv_model::Scalar;
 
 // Adds a register's name and its value.
-#[tactic(auto, unfolding(rv_model::specs::Replies::register_text))]
+#[tactic(auto, unfolding(rv_model::specs::commands::Replies::register_text))]
 fn push_register(reply: &mut Reply, scalar: &Scalar, number: usize)
     requires room { length reply.old + 38 ≤ 4096 }
     requires register { number < 32 }
@@ -24,7 +24,7 @@ fn push_register(reply: &mut Reply, scalar: &Scalar, number: usize)
 }
 
 // Adds a line of four registers.
-#[tactic(auto, unfolding(rv_model::specs::Replies::register_line))]
+#[tactic(auto, unfolding(rv_model::specs::commands::Replies::register_line))]
 fn push_register_line(reply: &mut Reply, tag: &Tag, scalar: &Scalar, first: usize)
     requires room { length reply.old + 158 ≤ 4096 }
     requires registers { first + 3 < 32 }
@@ -57,7 +57,7 @@ fn push_pc_line(reply: &mut Reply, tag: Tag, pc: u64)
 
 /// Adds the answer to `regs`: a line with the program counter, and eight lines of four registers,
 /// each value in 16 hexadecimal digits.
-#[tactic(auto, unfolding(rv_model::specs::Replies::regs_lines))]
+#[tactic(auto, unfolding(rv_model::specs::commands::Replies::regs_lines))]
 pub fn registers(reply: &mut Reply, tag: Tag, scalar: &Scalar)
     requires { length reply.old + 1300 ≤ 4096 }
     ensures text { reply.new ≡ reply.old ++ text (tag_byte tag) (regs_lines scalar.now) }

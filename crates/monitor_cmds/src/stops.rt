@@ -1,8 +1,8 @@
 //! How a program stops, and where it stands then.
 ghost use Rattle.std.specs.Prelude.{◌≡◌, [], ◌∷◌, ◌++◌, ◌+◌, ◌≤◌, length, codes, decimal};
-ghost use Rattle.rv_model.specs.Causes.{cause_number};
-ghost use Rattle.rv_model.specs.Replies.{hex16, stop_line as stop_text, step_line as step_text};
-ghost use Rattle.rv_model.specs.Text.{tagged, text};
+ghost use Rattle.rv_model.specs.step.Causes.{cause_number};
+ghost use Rattle.rv_model.specs.commands.Replies.{hex16, stop_line as stop_text, step_line as step_text};
+ghost use Rattle.rv_model.specs.text.Lines.{tagged, text};
 ghost use Rattle.monitor_cmds.specs.Tag.{tag_byte};
 
 use crate::numerals::{push_decimal, push_hex16};
@@ -41,7 +41,7 @@ fn push_cause(reply: &mut Reply, cause: Cause)
 }
 
 // Adds why a program stopped.
-#[tactic(auto, unfolding(rv_model::specs::Replies::stop_line))]
+#[tactic(auto, unfolding(rv_model::specs::commands::Replies::stop_line))]
 fn push_stop(reply: &mut Reply, pc: u64, stop: Stop)
     requires { length reply.old + 75 ≤ 4096 }
     ensures text { reply.new ≡ reply.old ++ stop_text pc stop }
@@ -97,7 +97,7 @@ fn stepped_line(reply: &mut Reply, tag: Tag, count: usize, pc: u64)
 
 /// Adds the answer to `step N`: the line that says that N instructions were carried out, as
 /// `stepped 3 pc=000000000001000c`, or the line that says why the program stopped.
-#[tactic(auto, unfolding(rv_model::specs::Replies::step_line))]
+#[tactic(auto, unfolding(rv_model::specs::commands::Replies::step_line))]
 pub fn step_line(reply: &mut Reply, tag: Tag, count: usize, pc: u64, stop: Option<Stop>)
     requires { length reply.old + 80 ≤ 4096 }
     ensures text { reply.new ≡ reply.old ++ text (tag_byte tag) (step_text count pc stop ∷ []) }

@@ -1,9 +1,9 @@
 //! What follows the words of a line, with the spaces inside it.
 ghost use Rattle.std.specs.Prelude.{◌≡◌};
-ghost use Rattle.rv_model.specs.Words.{trim_start, trim_end, after_word, after_two_words};
+ghost use Rattle.rv_model.specs.text.Words.{trim_start, trim_end, after_word, after_two_words};
 
 // A line without the spaces at its start.
-#[tactic(auto, unfolding(rv_model::specs::Words::trim_start))]
+#[tactic(auto, unfolding(rv_model::specs::text::Words::trim_start))]
 fn trim_start(mut line: &[u8]) -> &[u8]
     ensures { result.now ≡ trim_start line.entry.now }
 {
@@ -14,7 +14,7 @@ fn trim_start(mut line: &[u8]) -> &[u8]
 }
 
 // A line without the spaces at its end.
-#[tactic(auto, unfolding(rv_model::specs::Words::trim_end))]
+#[tactic(auto, unfolding(rv_model::specs::text::Words::trim_end))]
 fn trim_end(mut line: &[u8]) -> &[u8]
     ensures { result.now ≡ trim_end line.entry.now }
 {
@@ -25,7 +25,7 @@ fn trim_end(mut line: &[u8]) -> &[u8]
 }
 
 // What follows the first word of a line.
-#[tactic(auto, unfolding(rv_model::specs::Words::after_word))]
+#[tactic(auto, unfolding(rv_model::specs::text::Words::after_word))]
 fn after_word(line: &[u8]) -> &[u8]
     ensures { result.now ≡ after_word line.now }
 {
@@ -39,7 +39,7 @@ fn after_word(line: &[u8]) -> &[u8]
 }
 
 /// What follows the first two words of a line, without the spaces (byte 20) around it.
-#[tactic(auto, unfolding(rv_model::specs::Words::after_two_words))]
+#[tactic(auto, unfolding(rv_model::specs::text::Words::after_two_words))]
 pub fn after_two_words(line: &[u8]) -> &[u8]
     ensures { result.now ≡ after_two_words line.now }
 {

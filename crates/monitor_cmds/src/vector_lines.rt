@@ -1,12 +1,12 @@
 //! The answers that show the vector state.
 ghost use Rattle.std.specs.Prelude.{◌≡◌, [], ◌∷◌, ◌++◌, ◌+◌, ◌*◌, ◌/◌, ◌<◌, ◌≤◌, length, codes, decimal, flat_map};
 ghost use Rattle.std.specs.List.{range_with_len};
-ghost use Rattle.rv_model.specs.BitFields.{flag_bit};
-ghost use Rattle.rv_model.specs.Replies.{hex16, element_text, vreg_line as vreg_text, vcsr_line as vcsr_text};
-ghost use Rattle.rv_model.specs.RoundingModes.{rounding_number};
-ghost use Rattle.rv_model.specs.Text.{text};
-ghost use Rattle.rv_model.specs.VectorConfiguration.{sew_bits};
-ghost use Rattle.rv_model.specs.VectorTypeRules.{vtype_number as type_number};
+ghost use Rattle.rv_model.specs.instructions.BitFields.{flag_bit};
+ghost use Rattle.rv_model.specs.commands.Replies.{hex16, element_text, vreg_line as vreg_text, vcsr_line as vcsr_text};
+ghost use Rattle.rv_model.specs.vector.RoundingModes.{rounding_number};
+ghost use Rattle.rv_model.specs.text.Lines.{text};
+ghost use Rattle.rv_model.specs.vector.Configuration.{sew_bits};
+ghost use Rattle.rv_model.specs.vector.TypeRules.{vtype_number as type_number};
 ghost use Rattle.monitor_cmds.specs.Tag.{tag_byte};
 
 use crate::numerals::{push_bytes, push_decimal, push_hex16};
@@ -19,7 +19,7 @@ use vtype_rules::vtype_number;
 const REGISTER_SIZE: usize = 32;
 
 // Adds an element of `size` bytes, the highest byte first.
-#[tactic(auto, unfolding(rv_model::specs::Replies::element_text))]
+#[tactic(auto, unfolding(rv_model::specs::commands::Replies::element_text))]
 fn push_element(reply: &mut Reply, register: &[u8], size: usize, index: usize)
     requires size { size ≤ 8 }
     requires within { size * index + size ≤ length register.now }
@@ -51,7 +51,7 @@ fn push_elements(reply: &mut Reply, register: &[u8], width: Sew)
 
 /// Adds the answer to `vreg`: the register's name and its elements, element 0 first, each in as
 /// many hexadecimal digits as it has half bytes.
-#[tactic(auto, unfolding(rv_model::specs::Replies::vreg_line))]
+#[tactic(auto, unfolding(rv_model::specs::commands::Replies::vreg_line))]
 pub fn vreg_line(reply: &mut Reply, tag: Tag, number: VReg, width: Sew, register: &[u8])
     requires register { length register.now ≡ 32 }
     requires room { length reply.old + 568 ≤ 4096 }
@@ -99,7 +99,7 @@ fn push_fixed_point(reply: &mut Reply, vxrm: RoundingMode, vxsat: bool)
 }
 
 // Adds the vector control registers.
-#[tactic(auto, unfolding(rv_model::specs::Replies::vcsr_line))]
+#[tactic(auto, unfolding(rv_model::specs::commands::Replies::vcsr_line))]
 fn push_control_registers(reply: &mut Reply, state: &VState)
     requires { length reply.old + 127 ≤ 4096 }
     ensures text { reply.new ≡ reply.old ++ vcsr_text state.now }

@@ -1,6 +1,6 @@
 //! The words of a command line.
 ghost use Rattle.std.specs.Prelude.{◌≡◌, ◌∷◌, [], length, ◌<◌, position, IfSome, MatchOption};
-ghost use Rattle.rv_model.specs.Words.{words, is_space, with_piece};
+ghost use Rattle.rv_model.specs.text.Words.{words, is_space, with_piece};
 
 use std::marker::Model;
 
@@ -12,7 +12,7 @@ pub struct Words<'a> {
 
 impl<'a> Model for Words<'a> {
     ghost use Rattle.std.specs.Prelude.{List, ℕ};
-    ghost use Rattle.rv_model.specs.Words.{words};
+    ghost use Rattle.rv_model.specs.text.Words.{words};
 
     ghost Value = { List (List ℕ) };
 

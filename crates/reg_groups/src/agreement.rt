@@ -2,7 +2,7 @@
 //! 3.4.2, 5.2 and 5.3).
 ghost use Rattle.std.specs.Prelude.{◌≡◌, true};
 ghost use Rattle.std.specs.List.{list_all};
-ghost use Rattle.rv_model.specs.RegisterOperands.{allows, are_legal, eew, end, is_group, is_mask, is_width, may_overlap, overlaps};
+ghost use Rattle.rv_model.specs.legality.RegisterOperands.{allows, are_legal, eew, end, is_group, is_mask, is_width, may_overlap, overlaps};
 
 use crate::groups::registers;
 use rv_model::{Content, Operand, Role};
@@ -109,7 +109,7 @@ fn are_allowed(operands: &[Operand]) -> bool
 }
 
 /// Whether these may be the operands of one instruction.
-#[tactic(auto, unfolding(rv_model::specs::RegisterOperands::are_legal))]
+#[tactic(auto, unfolding(rv_model::specs::legality::RegisterOperands::are_legal))]
 pub(crate) fn are_legal(operands: &[Operand]) -> bool
     ensures { result ≡ are_legal operands.now }
 {

@@ -1,12 +1,12 @@
 //! Which vector instructions are legal.
 ghost use Rattle.std.specs.Prelude.{◌≡◌, ◌↔◌, ◌+◌, ◌≤◌, ◌<◌, true};
-ghost use Rattle.rv_model.specs.Legality.{IsLegal, data_role, element_bits, extension_divisor, indexed_role, is_below_64, is_legal, is_legal_at, is_legal_untyped, is_narrow_only, is_reduction, mask_result, memory_operands, mask_operands, compress_operands, extension_operands, whole_move_operands, needs_type, operands, register_count, starts_at_zero, unit_role, untyped_operands};
-ghost use Rattle.rv_model.specs.RegisterOperands.{are_legal};
+ghost use Rattle.rv_model.specs.legality.Legality.{IsLegal, data_role, element_bits, extension_divisor, indexed_role, is_below_64, is_legal, is_legal_at, is_legal_untyped, is_narrow_only, is_reduction, mask_result, memory_operands, mask_operands, compress_operands, extension_operands, whole_move_operands, needs_type, operands, register_count, starts_at_zero, unit_role, untyped_operands};
+ghost use Rattle.rv_model.specs.legality.RegisterOperands.{are_legal};
 
 use crate::agreement::are_legal;
 use crate::operands::{group, mask, segment, v0, whole};
 use crate::shapes::{destination, is_legal_shape, second_source, shape_of};
-use rv_model::operations::{
+use rv_model::instructions::operations::{
     BinaryOp, Direction, ExtendOp, FixedPointOp, MaskUnaryOp, RegisterCount, UnitOp, VectorOp,
     Width,
 };
@@ -114,7 +114,7 @@ fn has_legal_untyped_operands(instr: &Instr) -> bool
 }
 
 // Whether the operands of a load or store are legal.
-#[tactic(auto, unfolding(rv_model::specs::Legality::memory_operands))]
+#[tactic(auto, unfolding(rv_model::specs::legality::Legality::memory_operands))]
 fn has_legal_memory_operands(instr: &Instr, vtype: VType) -> bool
     ensures { result ≡ are_legal (memory_operands instr.now vtype) }
 {
@@ -209,7 +209,7 @@ fn is_legal_whole_move(count: RegisterCount, vd: VReg, vs2: VReg, vtype: VType) 
 
 // Whether the operands of an instruction on masks are legal; of any other, whether those of a load or
 // store are.
-#[tactic(auto, unfolding(rv_model::specs::Legality::mask_operands))]
+#[tactic(auto, unfolding(rv_model::specs::legality::Legality::mask_operands))]
 fn has_legal_mask_operands(instr: &Instr, vtype: VType) -> bool
     ensures { result ≡ are_legal (mask_operands instr.now vtype) }
 {
@@ -230,7 +230,7 @@ fn has_legal_mask_operands(instr: &Instr, vtype: VType) -> bool
 }
 
 // Whether the register operands of an instruction are legal under a vector type.
-#[tactic(auto, unfolding(rv_model::specs::Legality::operands))]
+#[tactic(auto, unfolding(rv_model::specs::legality::Legality::operands))]
 fn has_legal_operands(instr: &Instr, vtype: VType) -> bool
     ensures { result ≡ are_legal (operands instr.now vtype) }
 {
@@ -331,7 +331,7 @@ fn is_below_64(instr: &Instr) -> bool
     }
 }
 
-#[tactic(auto, unfolding(rv_model::specs::Legality::is_legal_at))]
+#[tactic(auto, unfolding(rv_model::specs::legality::Legality::is_legal_at))]
 fn is_legal_at(instr: &Instr, vtype: VType, vstart: u8) -> bool
     ensures { result ≡ is_legal_at instr.now vtype vstart }
 {
@@ -340,7 +340,7 @@ fn is_legal_at(instr: &Instr, vtype: VType, vstart: u8) -> bool
         && (!is_below_64(instr) || vtype.sew.bits() != 64)
 }
 
-#[tactic(auto, unfolding(rv_model::specs::Legality::is_legal_untyped))]
+#[tactic(auto, unfolding(rv_model::specs::legality::Legality::is_legal_untyped))]
 fn is_legal_untyped(instr: &Instr) -> bool
     ensures { result ≡ is_legal_untyped instr.now }
 {
@@ -358,7 +358,7 @@ fn is_legal(instr: &Instr, conf: &VConf, vstart: u8) -> bool
 
 /// Whether an instruction is legal with this vector type and vstart; the length has no part in it. Scalar
 /// instructions are.
-#[tactic(auto, using(rv_model::proofs::LegalityMeaning::is_legal_means))]
+#[tactic(auto, using(rv_model::proofs::legality_lemmas::Meaning::is_legal_means))]
 pub fn legal(instr: &Instr, conf: &VConf, vstart: u8) -> bool
     ensures value { result ≡ is_legal instr.now conf.now.vtype vstart }
     ensures meaning { (result ≡ true) ↔ IsLegal instr.now conf.now.vtype vstart }

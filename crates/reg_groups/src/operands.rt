@@ -1,6 +1,6 @@
 //! The register operands of an instruction ("V" Vector Extension 1.0, section 5.2).
 ghost use Rattle.std.specs.Prelude.{◌≡◌};
-ghost use Rattle.rv_model.specs.OperandShapes.{group, mask, segment, v0, whole};
+ghost use Rattle.rv_model.specs.legality.OperandShapes.{group, mask, segment, v0, whole};
 
 use rv_model::{Content, Operand, Role, VReg, VType};
 

@@ -1,12 +1,12 @@
 //! The register operands of a vector operation, by its shape ("V" Vector Extension 1.0, sections 5.2,
 //! 10.2, 11, 12, 14 and 16).
 ghost use Rattle.std.specs.Prelude.{◌≡◌};
-ghost use Rattle.rv_model.specs.OperandShapes.{destination, first_source, multiply_add_shape, permute_shape, reduce_shape, second_source, shape_of, shape_operands, vector_source, widen_shape};
-ghost use Rattle.rv_model.specs.RegisterOperands.{are_legal};
+ghost use Rattle.rv_model.specs.legality.OperandShapes.{destination, first_source, multiply_add_shape, permute_shape, reduce_shape, second_source, shape_of, shape_operands, vector_source, widen_shape};
+ghost use Rattle.rv_model.specs.legality.RegisterOperands.{are_legal};
 
 use crate::agreement::are_legal;
 use crate::operands::{group, mask, v0, whole};
-use rv_model::operations::{MultiplyAddOp, PermuteOp, ReduceOp, VectorOp, WidenOp};
+use rv_model::instructions::operations::{MultiplyAddOp, PermuteOp, ReduceOp, VectorOp, WidenOp};
 use rv_model::{Operand, Role, Shape, Source, VReg, VType};
 
 fn widen_shape(op: WidenOp) -> Shape
@@ -114,7 +114,7 @@ pub(crate) fn second_source(shape: Shape, source: Source, vtype: VType) -> Opera
 }
 
 /// Whether an operation of this shape may have these operands.
-#[tactic(auto, unfolding(rv_model::specs::OperandShapes::shape_operands))]
+#[tactic(auto, unfolding(rv_model::specs::legality::OperandShapes::shape_operands))]
 pub(crate) fn is_legal_shape(
     shape: Shape,
     vd: VReg,

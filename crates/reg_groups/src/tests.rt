@@ -1,11 +1,11 @@
 //! Which registers may be named together, for each shape of instruction: rules of the manual's section 5.2
 //! at small examples.
 ghost use Rattle.std.specs.Prelude.{◌≡◌, ◌<◌, true};
-ghost use Rattle.rv_model.specs.Operations.{carry_line, has_form, line};
-ghost use Rattle.rv_model.specs.Sources.{form_of};
+ghost use Rattle.rv_model.specs.instructions.Operations.{carry_line, has_form, line};
+ghost use Rattle.rv_model.specs.instructions.Sources.{form_of};
 
 use super::legal;
-use rv_model::operations::{
+use rv_model::instructions::operations::{
     BinaryOp, CarryOp, CompareOp, Direction, ExtendOp, MaskToScalarOp, MaskUnaryOp, NarrowOp,
     Order, PermuteOp, ReduceOp, RegisterCount, UnitOp, VectorOp, WidenOp, Width,
 };

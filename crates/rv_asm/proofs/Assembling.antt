@@ -1,10 +1,10 @@
 -- What a text spells, from its name and its operands; and the parts of a canonical text
 use Rattle.std.proofs.Common.{◌≡◌, ℕ, ◌+◌, List, [], ◌∷◌, ◌++◌, length, Some, None, Result, Ok, Err, sym, ap, ap₂, ◌∙◌}
 use Rattle.std.specs.Prelude.{IfOk, IfErr}
-use Rattle.rv_model.specs.AssemblerTokens.{Token}
-use Rattle.rv_model.specs.declared.assembler.Slot.{Slot}
-use Rattle.rv_model.specs.declared.mnemonics.Mnemonic.{Mnemonic}
-use Rattle.rv_model.specs.AssemblerTable.{slots_of, unpadded, row_named, row_at, name_at, slots_at, bits_at, read_operands, spelled_with, spelled_by, spelled, row_of_word, operands_text, text_at, canonical}
+use Rattle.rv_model.specs.assembler.Tokens.{Token}
+use Rattle.rv_model.specs.declared.assembler.forms.Slot.{Slot}
+use Rattle.rv_model.specs.declared.assembler.mnemonics.Mnemonic.{Mnemonic}
+use Rattle.rv_model.specs.assembler.Table.{slots_of, unpadded, row_named, row_at, name_at, slots_at, bits_at, read_operands, spelled_with, spelled_by, spelled, row_of_word, operands_text, text_at, canonical}
 use Rattle.rv_asm.specs.Places.{rest, Answers}
 use Rattle.rv_asm.specs.declared.fault.AsmFault.{AsmFault}
 

@@ -1,15 +1,15 @@
 -- The operands that a word has, at their places again
 use Rattle.std.proofs.Common.{◌≡◌, ℕ, ◌+◌, ◌*◌, ◌/◌, ◌%◌, ◌^◌, ◌<◌, List, [], ◌∷◌, ◌++◌, refl, sym, ap, ap₂, ◌∙◌, arith}
 use Rattle.std.proofs.Math.Nat.{mod-eq_of_lt}
-use Rattle.rv_model.specs.BitFields.{field, Part, part, sum_of}
-use Rattle.rv_model.specs.Immediates.{branch_offset, jump_offset}
-use Rattle.rv_model.specs.declared.assembler.Slot.{Slot}
-use Rattle.rv_model.specs.declared.assembler.Slot.TheVariants.{Comma, Open, Close, V0, Scalar, Vector, Unsigned, Signed, Csr, VectorType, ShortVectorType, Mask, Word}
-use Rattle.rv_model.specs.declared.assembler.UnsignedField.TheVariants as unsigned
-use Rattle.rv_model.specs.declared.assembler.SignedField.TheVariants as signed
-use Rattle.rv_model.specs.AssemblerFields.{lowest, parts_of, value_of, operand_parts}
-use Rattle.rv_model.proofs.InstructionParts.{of_word}
-use Rattle.rv_model.proofs.AssemblerLaws.{field_below}
+use Rattle.rv_model.specs.instructions.BitFields.{field, Part, part, sum_of}
+use Rattle.rv_model.specs.instructions.Immediates.{branch_offset, jump_offset}
+use Rattle.rv_model.specs.declared.assembler.forms.Slot.{Slot}
+use Rattle.rv_model.specs.declared.assembler.forms.Slot.TheVariants.{Comma, Open, Close, V0, Scalar, Vector, Unsigned, Signed, Csr, VectorType, ShortVectorType, Mask, Word}
+use Rattle.rv_model.specs.declared.assembler.forms.UnsignedField.TheVariants as unsigned
+use Rattle.rv_model.specs.declared.assembler.forms.SignedField.TheVariants as signed
+use Rattle.rv_model.specs.assembler.Fields.{lowest, parts_of, value_of, operand_parts}
+use Rattle.rv_model.proofs.instruction_lemmas.Parts.{of_word}
+use Rattle.rv_model.proofs.assembler_lemmas.Operands.{field_below}
 
 -- a piece that is a field already
 whole : (low len w : ℕ) → part low len (field low len w % 2 ^ len) ≡ part low len (field low len w)

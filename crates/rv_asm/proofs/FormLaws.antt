@@ -1,14 +1,14 @@
 -- A form reads the operands that it prints
 use Rattle.std.proofs.Common.{◌≡◌, ℕ, zero, suc, ◌+◌, ◌<◌, Bool, true, false, ◌&&◌, List, [], ◌∷◌, ◌++◌, length, Result, Ok, refl, sym, ap, ◌∙◌, arith}
 use Rattle.std.proofs.lemmas.Bool.{and_parts}
-use Rattle.rv_model.specs.AssemblerTokens.{Token, runs_on, tokens}
-use Rattle.rv_model.specs.BitFields.{sum_of}
-use Rattle.rv_model.specs.declared.assembler.Slot.{Slot}
-use Rattle.rv_model.specs.declared.assembler.Slot.TheVariants.{Comma, Open, Close, V0, Scalar, Vector, Unsigned, Signed, Csr, VectorType, ShortVectorType, Mask, Word}
-use Rattle.rv_model.specs.AssemblerSlots.{◌>>=◌, printed}
-use Rattle.rv_model.specs.AssemblerFields.{parts_of, placed, value_of, operand_parts}
-use Rattle.rv_model.specs.AssemblerTable.{read_operands, printed_operands}
-use Rattle.rv_model.proofs.AssemblerLaws.{value_below}
+use Rattle.rv_model.specs.assembler.Tokens.{Token, runs_on, tokens}
+use Rattle.rv_model.specs.instructions.BitFields.{sum_of}
+use Rattle.rv_model.specs.declared.assembler.forms.Slot.{Slot}
+use Rattle.rv_model.specs.declared.assembler.forms.Slot.TheVariants.{Comma, Open, Close, V0, Scalar, Vector, Unsigned, Signed, Csr, VectorType, ShortVectorType, Mask, Word}
+use Rattle.rv_model.specs.assembler.Slots.{◌>>=◌, printed}
+use Rattle.rv_model.specs.assembler.Fields.{parts_of, placed, value_of, operand_parts}
+use Rattle.rv_model.specs.assembler.Table.{read_operands, printed_operands}
+use Rattle.rv_model.proofs.assembler_lemmas.Operands.{value_below}
 use Rattle.rv_asm.proofs.FieldLaws.{sum_of-append}
 use Rattle.rv_asm.proofs.SlotLaws.{Follows, slot_again}
 

@@ -1,11 +1,11 @@
 -- Reading and printing slot after slot, as the loops do
 use Rattle.std.proofs.Common.{◌≡◌, ℕ, ◌+◌, ◌≤◌, ◌<◌, List, [], ◌∷◌, ◌++◌, length, drop, get_or, Result, Ok, Err, refl, sym, ap, ◌∙◌, arith}
 use Rattle.std.proofs.lemmas.List.{at_drop_more, at_drop_all}
-use Rattle.rv_model.specs.AssemblerTokens.{Token}
-use Rattle.rv_model.specs.declared.assembler.Slot.{Slot}
-use Rattle.rv_model.specs.AssemblerSlots.{◌>>=◌, read, printed}
-use Rattle.rv_model.specs.AssemblerFields.{placed, value_of}
-use Rattle.rv_model.specs.AssemblerTable.{read_operands, printed_operands}
+use Rattle.rv_model.specs.assembler.Tokens.{Token}
+use Rattle.rv_model.specs.declared.assembler.forms.Slot.{Slot}
+use Rattle.rv_model.specs.assembler.Slots.{◌>>=◌, read, printed}
+use Rattle.rv_model.specs.assembler.Fields.{placed, value_of}
+use Rattle.rv_model.specs.assembler.Table.{read_operands, printed_operands}
 use Rattle.rv_asm.specs.Spans.{span, spans}
 
 swap_sums : (k p : ℕ) (given : Result ℕ ℕ) → ((given >>= λ w. Ok (k + w)) >>= λ w. Ok (p + w)) ≡ ((given >>= λ w. Ok (p + w)) >>= λ w. Ok (k + w))

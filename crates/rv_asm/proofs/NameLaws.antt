@@ -2,7 +2,7 @@
 use Rattle.std.proofs.Common.{◌≡◌, ℕ, zero, suc, ◌<◌, true, false, eqb, List, [], ◌∷◌, length, Option, Some, None, refl, sym, ap, subst, ◌∙◌, arith, inl, inr, lit<, lit≤}
 use Rattle.std.specs.Fmt.{decimal}
 use Rattle.std.proofs.lemmas.Bool.{cases_Bool, eqb-true, cond-true, le-leb}
-use Rattle.rv_model.specs.AssemblerNumbers.{at_most, csr, vsew, vlmul, vta, vma, csr_text, vsew_text, vlmul_text, vta_text, vma_text}
+use Rattle.rv_model.specs.assembler.Numbers.{at_most, csr, vsew, vlmul, vta, vma, csr_text, vsew_text, vlmul_text, vta_text, vma_text}
 use Rattle.rv_asm.proofs.Tokens.{all_run}
 use Rattle.rv_asm.proofs.NumberLaws.{Decimal, is_decimal, number_again, all_run_dec, not_letter}
 

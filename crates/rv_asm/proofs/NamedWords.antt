@@ -7,16 +7,16 @@ use Rattle.std.proofs.lemmas.Bool.{cases_lt, cond-true, lt-ltb, eq-eqb}
 use Rattle.std.proofs.lemmas.Bool.Decides.{eqb_tells}
 use Rattle.std.proofs.lemmas.List.Sums.{fails_before_first}
 use Rattle.std.proofs.lemmas.List.{get_or-map, get_or-take, append-nil}
-use Rattle.rv_model.specs.declared.instruction.Instr.{Instr}
-use Rattle.rv_model.specs.declared.assembler.Form.TheVariants as form
-use Rattle.rv_model.specs.declared.mnemonics.Mnemonic.{Mnemonic}
-use Rattle.rv_model.specs.declared.mnemonics.TheConstants.{MNEMONICS}
-use Rattle.rv_model.specs.AssemblerNumbers.{hex_digits}
-use Rattle.rv_model.specs.AssemblerFields.{fixed_mask}
-use Rattle.rv_model.specs.AssemblerTable.{slots_of, row_at, name_at, slots_at, bits_at, row_of_word, printed_operands, text_at, canonical}
-use Rattle.rv_model.specs.AssemblerNaming.{IsFence, HasBitsOf, HasName, HasNoName, IsNamed, directive_text}
-use Rattle.rv_model.specs.InstructionTable.{table, scan}
-use Rattle.rv_model.proofs.InstructionLaws.{some_row, found, table_apart}
+use Rattle.rv_model.specs.declared.instructions.instruction.Instr.{Instr}
+use Rattle.rv_model.specs.declared.assembler.forms.Form.TheVariants as form
+use Rattle.rv_model.specs.declared.assembler.mnemonics.Mnemonic.{Mnemonic}
+use Rattle.rv_model.specs.declared.assembler.mnemonics.TheConstants.{MNEMONICS}
+use Rattle.rv_model.specs.assembler.Numbers.{hex_digits}
+use Rattle.rv_model.specs.assembler.Fields.{fixed_mask}
+use Rattle.rv_model.specs.assembler.Table.{slots_of, row_at, name_at, slots_at, bits_at, row_of_word, printed_operands, text_at, canonical}
+use Rattle.rv_model.specs.assembler.Naming.{IsFence, HasBitsOf, HasName, HasNoName, IsNamed, directive_text}
+use Rattle.rv_model.specs.instructions.Table.{table, scan}
+use Rattle.rv_model.proofs.instruction_lemmas.Scans.{some_row, found, table_apart}
 use Rattle.rv_asm.proofs.WordLaws.{has_bits, row_matches}
 use Rattle.rv_asm.proofs.Naming.{Pattern, pattern_of, names, HasNameOf, row_named, name_of_row, fence_named, two_names}
 

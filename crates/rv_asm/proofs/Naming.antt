@@ -6,14 +6,14 @@ use Rattle.std.proofs.Math.Nat.{mod-eq_of_lt}
 use Rattle.std.proofs.lemmas.Nat.{and_assoc, and_mask}
 use Rattle.std.proofs.lemmas.Nat.Bits.{and_high}
 use Rattle.std.proofs.lemmas.Bool.{cases_Bool, and_parts, eqb-true, eq-eqb}
-use Rattle.rv_model.specs.declared.mnemonics.Mnemonic.{Mnemonic}
-use Rattle.rv_model.specs.declared.mnemonics.TheConstants.{MNEMONICS}
-use Rattle.rv_model.specs.AssemblerFields.{fixed_mask}
-use Rattle.rv_model.specs.AssemblerTable.{slots_of}
-use Rattle.rv_model.specs.InstructionTable.{Row, In, Matches, rows, table}
-use Rattle.rv_model.specs.AssemblerNaming.{IsFence}
-use Rattle.rv_model.proofs.InstructionParts.{and_sum}
-use Rattle.rv_model.proofs.InstructionLaws.{all_in}
+use Rattle.rv_model.specs.declared.assembler.mnemonics.Mnemonic.{Mnemonic}
+use Rattle.rv_model.specs.declared.assembler.mnemonics.TheConstants.{MNEMONICS}
+use Rattle.rv_model.specs.assembler.Fields.{fixed_mask}
+use Rattle.rv_model.specs.assembler.Table.{slots_of}
+use Rattle.rv_model.specs.instructions.Table.{Row, In, Matches, rows, table}
+use Rattle.rv_model.specs.assembler.Naming.{IsFence}
+use Rattle.rv_model.proofs.instruction_lemmas.Parts.{and_sum}
+use Rattle.rv_model.proofs.instruction_lemmas.Scans.{all_in}
 
 -- a mask, and what the bits in it are
 abbrev pub Pattern : Type 0

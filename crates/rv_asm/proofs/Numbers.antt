@@ -3,7 +3,7 @@ use Rattle.std.proofs.Common.{◌≡◌, ℕ, ◌+◌, ◌*◌, ◌^◌, ◌<◌
 use Rattle.std.proofs.Math.Nat.{mul-le-mul_left}
 use Rattle.std.proofs.lemmas.Bool.{cases_lt, lt-ltb, le-ltb, cond-true, cond-false}
 use Rattle.std.proofs.lemmas.List.{at_drop_more, at_drop_all}
-use Rattle.rv_model.specs.AssemblerNumbers.{digit, digits_after}
+use Rattle.rv_model.specs.assembler.Numbers.{digit, digits_after}
 use Rattle.rv_asm.specs.Counter.{capped}
 
 min_step : (k r d m n : ℕ) → 1 ≤ r → min m k ≡ min n k → min (m * r + d) k ≡ min (n * r + d) k

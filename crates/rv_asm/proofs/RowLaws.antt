@@ -2,12 +2,12 @@
 use Rattle.std.proofs.Common.{◌≡◌, ℕ, zero, suc, ◌+◌, ◌-◌, ◌^◌, ◌<◌, Bool, true, false, eqb, ltb, nat_eq, nat_lt, ◌&&◌, List, [], ◌∷◌, ◌++◌, length, get_or, Option, Some, None, Ok, refl, sym, ap, ap₂, ◌∙◌, arith, lit<}
 use Rattle.std.specs.Int.Bits.{bit_and}
 use Rattle.std.proofs.lemmas.Bool.{agree_below_at, and_parts, ltb-true, eqb-true}
-use Rattle.rv_model.specs.AssemblerTokens.{Token, tokens}
-use Rattle.rv_model.specs.BitFields.{Part, sum_of, mask_of}
-use Rattle.rv_model.specs.declared.assembler.Slot.{Slot}
-use Rattle.rv_model.specs.AssemblerFields.{operand_parts, fixed_mask}
-use Rattle.rv_model.specs.AssemblerTable.{row_named, row_at, name_at, slots_at, bits_at, read_operands, spelled_with, spelled_by, spelled, operands_text, printed_operands, text_at}
-use Rattle.rv_model.proofs.InstructionParts.{share_none, rebuilt}
+use Rattle.rv_model.specs.assembler.Tokens.{Token, tokens}
+use Rattle.rv_model.specs.instructions.BitFields.{Part, sum_of, mask_of}
+use Rattle.rv_model.specs.declared.assembler.forms.Slot.{Slot}
+use Rattle.rv_model.specs.assembler.Fields.{operand_parts, fixed_mask}
+use Rattle.rv_model.specs.assembler.Table.{row_named, row_at, name_at, slots_at, bits_at, read_operands, spelled_with, spelled_by, spelled, operands_text, printed_operands, text_at}
+use Rattle.rv_model.proofs.instruction_lemmas.Parts.{share_none, rebuilt}
 use Rattle.rv_asm.specs.Spans.{spans}
 use Rattle.rv_asm.proofs.Tokens.{all_run}
 use Rattle.rv_asm.proofs.FieldLaws.{operand_parts_of_word}

@@ -5,14 +5,14 @@ use Rattle.std.specs.Fmt.{decimal}
 use Rattle.std.specs.Str.{bytes_eq}
 use Rattle.std.proofs.lemmas.Bool.{le-leb, lt-ltb, le-ltb, eq-eqb, ne_eqb, and_parts, cond-true, cond-false, cases_lt, cases_Bool, ltb-true}
 use Rattle.std.proofs.lemmas.List.{length-append}
-use Rattle.rv_model.specs.AssemblerTokens.{Token, in_run, runs_on, tokens}
-use Rattle.rv_model.specs.AssemblerNumbers.{literal, register, number, at_most, in_steps, negated, hex_digits, vlmul, vta, vma, csr, csr_text, vsew_text, vlmul_text, vta_text, vma_text}
-use Rattle.rv_model.specs.declared.assembler.SignedField.{SignedField}
-use Rattle.rv_model.specs.declared.assembler.SignedField.TheVariants as signed
-use Rattle.rv_model.specs.declared.assembler.Slot.{Slot}
-use Rattle.rv_model.specs.declared.assembler.Slot.TheVariants.{Comma, Open, Close, V0, Scalar, Vector, Unsigned, Signed, Csr, VectorType, ShortVectorType, Mask, Word}
-use Rattle.rv_model.specs.AssemblerSlots.{◌>>=◌, accept, one, limit, half, step, steps, signed_number, vtype_names, vtype_from, vtype, read, room, signed_text, has_names, vtype_text, printed}
-use Rattle.rv_model.proofs.AssemblerLaws.{limit_small}
+use Rattle.rv_model.specs.assembler.Tokens.{Token, in_run, runs_on, tokens}
+use Rattle.rv_model.specs.assembler.Numbers.{literal, register, number, at_most, in_steps, negated, hex_digits, vlmul, vta, vma, csr, csr_text, vsew_text, vlmul_text, vta_text, vma_text}
+use Rattle.rv_model.specs.declared.assembler.forms.SignedField.{SignedField}
+use Rattle.rv_model.specs.declared.assembler.forms.SignedField.TheVariants as signed
+use Rattle.rv_model.specs.declared.assembler.forms.Slot.{Slot}
+use Rattle.rv_model.specs.declared.assembler.forms.Slot.TheVariants.{Comma, Open, Close, V0, Scalar, Vector, Unsigned, Signed, Csr, VectorType, ShortVectorType, Mask, Word}
+use Rattle.rv_model.specs.assembler.Slots.{◌>>=◌, accept, one, limit, half, step, steps, signed_number, vtype_names, vtype_from, vtype, read, room, signed_text, has_names, vtype_text, printed}
+use Rattle.rv_model.proofs.assembler_lemmas.Operands.{limit_small}
 use Rattle.rv_asm.proofs.Tokens.{all_run, run_first}
 use Rattle.rv_asm.proofs.NumberLaws.{is_decimal, number_again, all_run_dec, register_again, not_minus, hex_run, hex_again}
 use Rattle.rv_asm.proofs.NameLaws.{Means, csr_again, vsew_again, vlmul_again, vta_again, vma_again, vsew_digits}

@@ -2,7 +2,7 @@
 use Rattle.std.proofs.Common.{◌≡◌, ◌≢◌, ℕ, zero, suc, ◌+◌, ◌-◌, ◌<◌, ◌≤◌, Bool, true, false, cond, eqb, ◌&&◌, List, [], ◌∷◌, ◌++◌, length, get_or, take, drop, refl, sym, ap, subst, ◌∙◌, arith, inl, inr}
 use Rattle.std.proofs.lemmas.Bool.{ne_eqb, false≢true, and_right, and_left, cond-true, cases_lt}
 use Rattle.std.proofs.lemmas.List.{drop_more, at_drop_more, at_drop_all, take-append-drop, drop-drop, length-take, length-drop}
-use Rattle.rv_model.specs.AssemblerTokens.{in_run, runs_on, joined, tokens}
+use Rattle.rv_model.specs.assembler.Tokens.{in_run, runs_on, joined, tokens}
 use Rattle.rv_asm.specs.Places.{rest}
 
 pub space_skipped : (text : List ℕ) (at : ℕ) → at < length text → get_or text at 0 ≡ 32 → rest text at ≡ rest text (at + 1)

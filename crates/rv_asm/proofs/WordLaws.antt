@@ -3,11 +3,11 @@ use Rattle.std.proofs.Common.{◌≡◌, ℕ, ◌^◌, ◌<◌, Bool, nat_eq, []
 use Rattle.std.specs.Int.Bits.{bit_and, and_zero_r}
 use Rattle.std.proofs.lemmas.Bool.{eqb-true}
 use Rattle.std.proofs.lemmas.List.Quantifiers.{position-Some}
-use Rattle.rv_model.specs.declared.assembler.Form.TheVariants as form
-use Rattle.rv_model.specs.declared.mnemonics.Mnemonic.{Mnemonic}
-use Rattle.rv_model.specs.declared.mnemonics.TheConstants.{MNEMONICS}
-use Rattle.rv_model.specs.AssemblerFields.{fixed_mask}
-use Rattle.rv_model.specs.AssemblerTable.{slots_of, row_at, slots_at, bits_at, row_of_word, spelled, canonical}
+use Rattle.rv_model.specs.declared.assembler.forms.Form.TheVariants as form
+use Rattle.rv_model.specs.declared.assembler.mnemonics.Mnemonic.{Mnemonic}
+use Rattle.rv_model.specs.declared.assembler.mnemonics.TheConstants.{MNEMONICS}
+use Rattle.rv_model.specs.assembler.Fields.{fixed_mask}
+use Rattle.rv_model.specs.assembler.Table.{slots_of, row_at, slots_at, bits_at, row_of_word, spelled, canonical}
 use Rattle.rv_asm.proofs.RowLaws.{text_again}
 
 -- the word has the bits that a row fixes

@@ -1,6 +1,6 @@
 -- What a place in a text has behind it, and what is read there
 use Rattle.std.specs.Prelude.{◌≡◌, ℕ, ◌+◌, ◌≤◌, List, [], ◌∷◌, length, drop, Option, Some, None, Result, Ok, Err}
-use Rattle.rv_model.specs.AssemblerTokens.{Token, tokens}
+use Rattle.rv_model.specs.assembler.Tokens.{Token, tokens}
 use Rattle.rv_asm.specs.declared.token.Token.{Token as Found}
 use Rattle.rv_asm.specs.declared.fault.AsmFault.{AsmFault}
 

@@ -1,8 +1,8 @@
 -- The bits that operands may fill
 use Rattle.std.specs.Prelude.{ℕ, ◌+◌, List, [], ◌∷◌}
-use Rattle.rv_model.specs.BitFields.{mask_of}
-use Rattle.rv_model.specs.AssemblerFields.{parts_of}
-use Rattle.rv_model.specs.declared.assembler.Slot.{Slot}
+use Rattle.rv_model.specs.instructions.BitFields.{mask_of}
+use Rattle.rv_model.specs.assembler.Fields.{parts_of}
+use Rattle.rv_model.specs.declared.assembler.forms.Slot.{Slot}
 
 -- ones at the places of a slot's operand
 abbrev pub span : Slot → ℕ

@@ -1,8 +1,8 @@
 //! The word that a text spells, and the canonical text of a word.
 ghost use Rattle.std.specs.Prelude.{◌≡◌, ◌≤◌, ◌+◌, ◌*◌, ◌++◌, length, Ok, Err, IfOk, IfErr};
 ghost use Rattle.arrayvec.specs.ArrayString.{array_string_len};
-ghost use Rattle.rv_model.specs.AssemblerTable.{spelled, canonical, operands_text};
-ghost use Rattle.rv_model.specs.AssemblerNaming.{HasName, HasNoName, IsNamed, directive_text};
+ghost use Rattle.rv_model.specs.assembler.Table.{spelled, canonical, operands_text};
+ghost use Rattle.rv_model.specs.assembler.Naming.{HasName, HasNoName, IsNamed, directive_text};
 
 use crate::fault::AsmFault;
 use crate::operands::{put_operands, read_operands};
@@ -10,7 +10,7 @@ use crate::print::{Text, put_name};
 use crate::table::{row_at, row_named, row_of_word, slots_of};
 use crate::token::take;
 use rv_model::assembler::Slot;
-use rv_model::mnemonics::Mnemonic;
+use rv_model::assembler::mnemonics::Mnemonic;
 
 /// The word that a text spells: the name of an instruction and its operands, or `.word` and a
 /// number.

@@ -1,9 +1,9 @@
 //! Where a slot's operand stands in the word.
 ghost use Rattle.std.specs.Prelude.{◌≡◌, ◌≤◌, ◌<◌, ◌^◌, ◌+◌, ◌*◌, ◌%◌};
-ghost use Rattle.rv_model.specs.BitFields.{field};
-ghost use Rattle.rv_model.specs.AssemblerSlots.{room};
-ghost use Rattle.rv_model.specs.AssemblerFields.{lowest, placed, value_of};
-ghost use Rattle.rv_model.specs.Immediates.{store_immediate, branch_offset, jump_offset};
+ghost use Rattle.rv_model.specs.instructions.BitFields.{field};
+ghost use Rattle.rv_model.specs.assembler.Slots.{room};
+ghost use Rattle.rv_model.specs.assembler.Fields.{lowest, placed, value_of};
+ghost use Rattle.rv_model.specs.instructions.Immediates.{store_immediate, branch_offset, jump_offset};
 ghost use Rattle.rv_asm.specs.Spans.{span};
 
 use rv_model::assembler::{Place, SignedField, Slot, UnsignedField};

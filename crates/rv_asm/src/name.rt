@@ -1,11 +1,11 @@
 //! Names of control registers and of the parts of vtype.
 ghost use Rattle.std.specs.Prelude.{◌≡◌, ◌<◌, ◌≤◌, IfSome, length};
-ghost use Rattle.rv_model.specs.AssemblerNumbers.{csr, vsew, vlmul, vta, vma, vsew_text, vlmul_text, vta_text, vma_text};
+ghost use Rattle.rv_model.specs.assembler.Numbers.{csr, vsew, vlmul, vta, vma, vsew_text, vlmul_text, vta_text, vma_text};
 
 use crate::number::number_up_to;
 
 /// The number of a control register, from its name or its digits.
-#[tactic(auto, unfolding(rv_model::specs::AssemblerNumbers::csr))]
+#[tactic(auto, unfolding(rv_model::specs::assembler::Numbers::csr))]
 pub fn csr(text: &[u8]) -> Option<u32>
     ensures { result ≡ csr text.now }
 {
@@ -29,7 +29,7 @@ pub fn csr(text: &[u8]) -> Option<u32>
 }
 
 /// vsew, from the name of an element width.
-#[tactic(auto, unfolding(rv_model::specs::AssemblerNumbers::vsew))]
+#[tactic(auto, unfolding(rv_model::specs::assembler::Numbers::vsew))]
 pub fn vsew(text: &[u8]) -> Option<u32>
     ensures value { result ≡ vsew text.now }
     ensures small { IfSome result (λ v. v < 4) }
@@ -44,7 +44,7 @@ pub fn vsew(text: &[u8]) -> Option<u32>
 }
 
 /// vlmul, from the name of a group multiplier.
-#[tactic(auto, unfolding(rv_model::specs::AssemblerNumbers::vlmul))]
+#[tactic(auto, unfolding(rv_model::specs::assembler::Numbers::vlmul))]
 pub fn vlmul(text: &[u8]) -> Option<u32>
     ensures value { result ≡ vlmul text.now }
     ensures small { IfSome result (λ v. v < 8) }
@@ -62,7 +62,7 @@ pub fn vlmul(text: &[u8]) -> Option<u32>
 }
 
 /// vta, from the name of a policy for the tail.
-#[tactic(auto, unfolding(rv_model::specs::AssemblerNumbers::vta))]
+#[tactic(auto, unfolding(rv_model::specs::assembler::Numbers::vta))]
 pub fn vta(text: &[u8]) -> Option<u32>
     ensures value { result ≡ vta text.now }
     ensures small { IfSome result (λ v. v < 2) }
@@ -75,7 +75,7 @@ pub fn vta(text: &[u8]) -> Option<u32>
 }
 
 /// vma, from the name of a policy for masked-off elements.
-#[tactic(auto, unfolding(rv_model::specs::AssemblerNumbers::vma))]
+#[tactic(auto, unfolding(rv_model::specs::assembler::Numbers::vma))]
 pub fn vma(text: &[u8]) -> Option<u32>
     ensures value { result ≡ vma text.now }
     ensures small { IfSome result (λ v. v < 2) }

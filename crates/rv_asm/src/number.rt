@@ -1,6 +1,6 @@
 //! What one token means: a number, a register.
 ghost use Rattle.std.specs.Prelude.{◌≡◌, ◌≤◌, ◌<◌};
-ghost use Rattle.rv_model.specs.AssemblerNumbers.{register, digit, digits_after, digits_in, number, at_most};
+ghost use Rattle.rv_model.specs.assembler.Numbers.{register, digit, digits_after, digits_in, number, at_most};
 ghost use Rattle.rv_asm.specs.Counter.{capped};
 
 // Stops at CAP, which no slot takes.

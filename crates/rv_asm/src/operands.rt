@@ -1,7 +1,7 @@
 //! The operands of a form: read from a text, and printed.
 ghost use Rattle.std.specs.Prelude.{◌≡◌, ◌≤◌, ◌<◌, ◌^◌, ◌+◌, ◌*◌, ◌++◌, length};
 ghost use Rattle.arrayvec.specs.ArrayString.{array_string_len};
-ghost use Rattle.rv_model.specs.AssemblerTable.{read_operands, printed_operands};
+ghost use Rattle.rv_model.specs.assembler.Table.{read_operands, printed_operands};
 ghost use Rattle.rv_asm.specs.Places.{rest, Answers};
 ghost use Rattle.rv_asm.specs.Spans.{spans};
 

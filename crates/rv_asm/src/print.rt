@@ -1,9 +1,9 @@
 //! The one text of each operand.
 ghost use Rattle.std.specs.Prelude.{◌≡◌, ◌≤◌, ◌<◌, ◌^◌, ◌+◌, ◌-◌, ◌*◌, ◌++◌, ◌↔◌, ℕ, IsTrue, true, length, decimal, slice_index};
 ghost use Rattle.arrayvec.specs.ArrayString.{array_string_len};
-ghost use Rattle.rv_model.specs.AssemblerNumbers.{hex_digit, hex_digits, csr_text, vsew_text, vlmul_text, vta_text, vma_text};
-ghost use Rattle.rv_model.specs.AssemblerSlots.{has_names, vtype_text, signed_text, printed, room};
-ghost use Rattle.rv_model.specs.AssemblerTable.{unpadded};
+ghost use Rattle.rv_model.specs.assembler.Numbers.{hex_digit, hex_digits, csr_text, vsew_text, vlmul_text, vta_text, vma_text};
+ghost use Rattle.rv_model.specs.assembler.Slots.{has_names, vtype_text, signed_text, printed, room};
+ghost use Rattle.rv_model.specs.assembler.Table.{unpadded};
 
 use crate::read::{half, step};
 use arrayvec::ArrayString;
@@ -50,7 +50,7 @@ fn hex_digit(digit: u32) -> char
     }
 }
 
-#[tactic(auto, unfolding(rv_model::specs::AssemblerNumbers::hex_digits))]
+#[tactic(auto, unfolding(rv_model::specs::assembler::Numbers::hex_digits))]
 fn put_hex_digits(count: usize, value: u32, out: &mut Text)
     requires { array_string_len out.old + count ≤ 160 }
     ensures bytes { out.new.bytes ≡ out.old.bytes ++ hex_digits count value }
@@ -62,7 +62,7 @@ fn put_hex_digits(count: usize, value: u32, out: &mut Text)
     }
 }
 
-#[tactic(auto, unfolding(rv_model::specs::AssemblerNumbers::csr_text))]
+#[tactic(auto, unfolding(rv_model::specs::assembler::Numbers::csr_text))]
 fn put_csr(csr: u32, out: &mut Text)
     requires { array_string_len out.old + 16 ≤ 160 }
     ensures bytes { out.new.bytes ≡ out.old.bytes ++ csr_text csr }
@@ -80,7 +80,7 @@ fn put_csr(csr: u32, out: &mut Text)
     }
 }
 
-#[tactic(auto, unfolding(rv_model::specs::AssemblerNumbers::vsew_text))]
+#[tactic(auto, unfolding(rv_model::specs::assembler::Numbers::vsew_text))]
 fn vsew_name(vsew: u32) -> &'static str
     ensures name { result.now ≡ vsew_text vsew }
     ensures short { length result.now ≤ 3 }
@@ -93,7 +93,7 @@ fn vsew_name(vsew: u32) -> &'static str
     }
 }
 
-#[tactic(auto, unfolding(rv_model::specs::AssemblerNumbers::vlmul_text))]
+#[tactic(auto, unfolding(rv_model::specs::assembler::Numbers::vlmul_text))]
 fn vlmul_name(vlmul: u32) -> &'static str
     ensures name { result.now ≡ vlmul_text vlmul }
     ensures short { length result.now ≤ 3 }
@@ -109,7 +109,7 @@ fn vlmul_name(vlmul: u32) -> &'static str
     }
 }
 
-#[tactic(auto, unfolding(rv_model::specs::AssemblerNumbers::vta_text))]
+#[tactic(auto, unfolding(rv_model::specs::assembler::Numbers::vta_text))]
 fn vta_name(vta: u32) -> &'static str
     ensures name { result.now ≡ vta_text vta }
     ensures short { length result.now ≤ 2 }
@@ -117,7 +117,7 @@ fn vta_name(vta: u32) -> &'static str
     if vta == 1 { "ta" } else { "tu" }
 }
 
-#[tactic(auto, unfolding(rv_model::specs::AssemblerNumbers::vma_text))]
+#[tactic(auto, unfolding(rv_model::specs::assembler::Numbers::vma_text))]
 fn vma_name(vma: u32) -> &'static str
     ensures name { result.now ≡ vma_text vma }
     ensures short { length result.now ≤ 2 }

@@ -1,7 +1,7 @@
 //! What each slot takes from the tokens.
 ghost use Rattle.std.specs.Prelude.{◌≡◌, ◌≤◌, ◌<◌, ◌^◌, ◌+◌, ◌*◌, length};
-ghost use Rattle.rv_model.specs.AssemblerNumbers.{literal, register, number, at_most, in_steps, negated, csr};
-ghost use Rattle.rv_model.specs.AssemblerSlots.{one, limit, half, step, steps, signed_number, mask, read};
+ghost use Rattle.rv_model.specs.assembler.Numbers.{literal, register, number, at_most, in_steps, negated, csr};
+ghost use Rattle.rv_model.specs.assembler.Slots.{one, limit, half, step, steps, signed_number, mask, read};
 ghost use Rattle.rv_asm.specs.Places.{rest, Reads};
 
 use crate::fault::AsmFault;

@@ -1,9 +1,9 @@
 //! The rows of the table of names: by name, and by word.
 ghost use Rattle.std.specs.Prelude.{ℕ, ◌≡◌, ◌≤◌, ◌<◌, ◌^◌, ◌+◌, length, IfSome, position, unwrap_or, nat_eq, bit_and, slice_index};
 ghost use Rattle.std.specs.Str.{bytes_eq};
-ghost use Rattle.rv_model.specs.AssemblerFields.{fixed_mask};
+ghost use Rattle.rv_model.specs.assembler.Fields.{fixed_mask};
 ghost use Rattle.rv_asm.specs.Spans.{spans};
-ghost use Rattle.rv_model.specs.AssemblerTable.{slots_of, padded, row_named, row_of_word, row_at, slots_at, bits_at};
+ghost use Rattle.rv_model.specs.assembler.Table.{slots_of, padded, row_named, row_of_word, row_at, slots_at, bits_at};
 
 use rv_model::assembler::{
     BRANCH, CARRY_IMMEDIATE, CARRY_SCALAR, CARRY_VECTOR, CSR, CSR_IMMEDIATE, ELEMENT_INDEX, Form,
@@ -13,7 +13,7 @@ use rv_model::assembler::{
     UNMASKED_UNIT, UNMASKED_VECTOR, UPPER, VECTOR_IMMEDIATE, VECTOR_SCALAR, VECTOR_UNARY,
     VECTOR_UNSIGNED, VECTOR_VECTOR, WHOLE_MOVE, WORD,
 };
-use rv_model::mnemonics::{MNEMONICS, Mnemonic};
+use rv_model::assembler::mnemonics::{MNEMONICS, Mnemonic};
 
 /// The row of `.word`, the last.
 const DIRECTIVE: usize = 597;
@@ -67,7 +67,7 @@ pub fn slots_of(form: Form) -> &'static [Slot]
 }
 
 /// Ones at the bits that a form leaves to the name.
-#[tactic(auto, unfolding(rv_model::specs::AssemblerFields::fixed_mask))]
+#[tactic(auto, unfolding(rv_model::specs::assembler::Fields::fixed_mask))]
 pub fn fixed_mask(form: Form) -> u32
     ensures { result ≡ fixed_mask (slots_of form) }
 {
@@ -126,7 +126,7 @@ fn row_padded(name: &[u8; 16]) -> Option<usize>
 }
 
 /// The row with this name.
-#[tactic(auto, unfolding(rv_model::specs::AssemblerTable::row_named))]
+#[tactic(auto, unfolding(rv_model::specs::assembler::Table::row_named))]
 pub fn row_named(name: &[u8]) -> Option<usize>
     ensures within { IfSome result (λ row. row < 598) }
     ensures first { result ≡ row_named name.now }

@@ -1,7 +1,7 @@
 //! The tokens of a text, one after another.
 ghost use Rattle.std.specs.Prelude.{◌≡◌, ◌≢◌, ℕ, ◌+◌, ◌<◌, ◌≤◌, length, drop, slice_index, take, IsTrue, true};
 ghost use Rattle.std.specs.List.{between};
-ghost use Rattle.rv_model.specs.AssemblerTokens.{in_run, tokens, Token as Piece};
+ghost use Rattle.rv_model.specs.assembler.Tokens.{in_run, tokens, Token as Piece};
 ghost use Rattle.rv_asm.specs.Places.{rest, Takes, TakesOne};
 
 use crate::fault::AsmFault;

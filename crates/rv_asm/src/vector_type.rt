@@ -1,7 +1,7 @@
 //! vtype as a text has it: the names of its parts, or a number.
 ghost use Rattle.std.specs.Prelude.{◌≡◌, ◌≤◌, ◌<◌, ◌-◌, ◌+◌, length, IfOk};
-ghost use Rattle.rv_model.specs.AssemblerNumbers.{literal, vlmul, vta, vma};
-ghost use Rattle.rv_model.specs.AssemblerSlots.{one, vtype_names, vtype};
+ghost use Rattle.rv_model.specs.assembler.Numbers.{literal, vlmul, vta, vma};
+ghost use Rattle.rv_model.specs.assembler.Slots.{one, vtype_names, vtype};
 ghost use Rattle.rv_asm.specs.Places.{rest, Reads};
 
 use crate::fault::AsmFault;
@@ -46,7 +46,7 @@ fn vma_at(text: &[u8], at: usize) -> Result<(u32, usize), AsmFault>
     }
 }
 
-#[tactic(auto, unfolding(rv_model::specs::AssemblerSlots::vtype_names))]
+#[tactic(auto, unfolding(rv_model::specs::assembler::Slots::vtype_names))]
 fn names_behind(vsew: u32, text: &[u8], at: usize) -> Result<(u32, usize), AsmFault>
     requires inside { at ≤ length text.now }
     requires small { vsew < 4 }

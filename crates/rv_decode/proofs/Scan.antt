@@ -5,22 +5,22 @@ use Rattle.std.proofs.lemmas.Nat.{and_mask}
 use Rattle.std.proofs.lemmas.Bool.Decides.{eqb_tells}
 use Rattle.std.proofs.lemmas.Bool.{eq-eqb}
 use Rattle.std.proofs.Math.Nat.{mod-eq_of_lt}
-use Rattle.rv_model.specs.declared.operations.Major.{Major}
-use Rattle.rv_model.specs.declared.operations.Major.TheVariants.{Opi, Opm}
-use Rattle.rv_model.specs.declared.operations.Line.{Line}
-use Rattle.rv_model.specs.declared.operations.Form.{Form}
-use Rattle.rv_model.specs.declared.operations.Form.TheVariants as form
-use Rattle.rv_model.specs.declared.instruction.Instr.{Instr}
-use Rattle.rv_model.specs.declared.instruction.Instr.TheVariants.{Upper, Branch, Load, Store, OpImm, ShiftImm, ShiftImmWord, Op, System, Csr, CsrImmediate, VectorArith, VectorCarry, WholeMove, MaskLogic, MaskToScalar, VectorExtend, MaskUnary, VectorUnit, VectorStrided, VectorIndexed, WholeLoad, WholeStore, MaskMemory}
-use Rattle.rv_model.specs.BitFields.{part, fixed}
-use Rattle.rv_model.specs.Sources.{form_of, source_of}
-use Rattle.rv_model.specs.FixedBits.{upper_bits, branch_bits, load_bits, store_bits, op_imm_bits, shift_imm_bits, shift_imm_word_bits, op_bits, system_bits, csr_bits, csr_immediate_bits, whole_move_bits, mask_logic_bits, mask_to_scalar_bits, extend_bits, mask_unary_bits, mask_memory_bits, upper_ops, branch_ops, load_ops, store_ops, op_imm_ops, shift_imm_ops, shift_imm_word_ops, op_ops, system_ops, csr_ops, csr_immediate_ops, mask_logic_ops, mask_to_scalar_ops, extend_ops, mask_unary_ops, directions, counts}
-use Rattle.rv_model.specs.Operations.{has_form, line, carry_line, line_bits, major_bits, same_major, those, vector_ops, carry_ops}
-use Rattle.rv_model.specs.InstructionLayout.{parts, bits, filled, unit_access_bits, strided_access_bits, indexed_access_bits, whole_load_bits, whole_store_bits}
-use Rattle.rv_model.specs.InstructionTable.{row_of, rows, table, scan, find, find_at, unit_accesses, strided_accesses, indexed_accesses, whole_loads, Uppers, Jumps, JumpRegisters, Branches, Loads, Stores, OpImms, ShiftImms, ShiftImmWords, Ops, Fences, Systems, Csrs, CsrImmediates, SetVlis, SetIvlis, SetVls, Ariths, Carries, Moves, WholeMoves, MaskLogics, Compresses, MasksToScalar, Extends, MaskUnaries, ElementIndices, MovesToScalar, MovesToVector, Units, Strideds, Indexeds, WholeLoads, WholeStores, MaskMemories}
-use Rattle.rv_model.proofs.InstructionWords.{form_source_of}
-use Rattle.rv_model.proofs.InstructionParts.{masked}
-use Rattle.rv_model.proofs.InstructionLaws.{narrowed, scan_narrow, same_narrow, no_scan, DiffersFrom}
+use Rattle.rv_model.specs.declared.instructions.operations.Major.{Major}
+use Rattle.rv_model.specs.declared.instructions.operations.Major.TheVariants.{Opi, Opm}
+use Rattle.rv_model.specs.declared.instructions.operations.Line.{Line}
+use Rattle.rv_model.specs.declared.instructions.operations.Form.{Form}
+use Rattle.rv_model.specs.declared.instructions.operations.Form.TheVariants as form
+use Rattle.rv_model.specs.declared.instructions.instruction.Instr.{Instr}
+use Rattle.rv_model.specs.declared.instructions.instruction.Instr.TheVariants.{Upper, Branch, Load, Store, OpImm, ShiftImm, ShiftImmWord, Op, System, Csr, CsrImmediate, VectorArith, VectorCarry, WholeMove, MaskLogic, MaskToScalar, VectorExtend, MaskUnary, VectorUnit, VectorStrided, VectorIndexed, WholeLoad, WholeStore, MaskMemory}
+use Rattle.rv_model.specs.instructions.BitFields.{part, fixed}
+use Rattle.rv_model.specs.instructions.Sources.{form_of, source_of}
+use Rattle.rv_model.specs.instructions.FixedBits.{upper_bits, branch_bits, load_bits, store_bits, op_imm_bits, shift_imm_bits, shift_imm_word_bits, op_bits, system_bits, csr_bits, csr_immediate_bits, whole_move_bits, mask_logic_bits, mask_to_scalar_bits, extend_bits, mask_unary_bits, mask_memory_bits, upper_ops, branch_ops, load_ops, store_ops, op_imm_ops, shift_imm_ops, shift_imm_word_ops, op_ops, system_ops, csr_ops, csr_immediate_ops, mask_logic_ops, mask_to_scalar_ops, extend_ops, mask_unary_ops, directions, counts}
+use Rattle.rv_model.specs.instructions.Operations.{has_form, line, carry_line, line_bits, major_bits, same_major, those, vector_ops, carry_ops}
+use Rattle.rv_model.specs.instructions.Layout.{parts, bits, filled, unit_access_bits, strided_access_bits, indexed_access_bits, whole_load_bits, whole_store_bits}
+use Rattle.rv_model.specs.instructions.Table.{row_of, rows, table, scan, find, find_at, unit_accesses, strided_accesses, indexed_accesses, whole_loads, Uppers, Jumps, JumpRegisters, Branches, Loads, Stores, OpImms, ShiftImms, ShiftImmWords, Ops, Fences, Systems, Csrs, CsrImmediates, SetVlis, SetIvlis, SetVls, Ariths, Carries, Moves, WholeMoves, MaskLogics, Compresses, MasksToScalar, Extends, MaskUnaries, ElementIndices, MovesToScalar, MovesToVector, Units, Strideds, Indexeds, WholeLoads, WholeStores, MaskMemories}
+use Rattle.rv_model.proofs.instruction_lemmas.Words.{form_source_of}
+use Rattle.rv_model.proofs.instruction_lemmas.Parts.{masked}
+use Rattle.rv_model.proofs.instruction_lemmas.Scans.{narrowed, scan_narrow, same_narrow, no_scan, DiffersFrom}
 
 -- what a family's rows answer, by the operation that was found
 abbrev pub answer : {A : Type 0} → (A → Instr) → ℕ → Option A → Option Instr

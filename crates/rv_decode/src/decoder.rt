@@ -1,9 +1,9 @@
 //! Words to instructions.
 ghost use Rattle.std.specs.Prelude.{◌≡◌, ◌++◌, bit_and, IfSome, IfNone};
-ghost use Rattle.rv_model.specs.declared.operations.Form.TheVariants as form;
-ghost use Rattle.rv_model.specs.Operations.{major_bits};
-ghost use Rattle.rv_model.specs.InstructionLayout.{word_of};
-ghost use Rattle.rv_model.specs.InstructionTable.{Row, IsRow, scan, rows, table, Uppers, Jumps, JumpRegisters, Branches, Loads, Stores, OpImms, ShiftImms, ShiftImmWords, Ops, Fences, Systems, Csrs, CsrImmediates, SetVlis, SetIvlis, SetVls, Ariths, Carries, Moves, WholeMoves, MaskLogics, Compresses, MasksToScalar, Extends, MaskUnaries, ElementIndices, MovesToScalar, MovesToVector, Units, Strideds, Indexeds, WholeLoads, WholeStores, MaskMemories};
+ghost use Rattle.rv_model.specs.declared.instructions.operations.Form.TheVariants as form;
+ghost use Rattle.rv_model.specs.instructions.Operations.{major_bits};
+ghost use Rattle.rv_model.specs.instructions.Layout.{word_of};
+ghost use Rattle.rv_model.specs.instructions.Table.{Row, IsRow, scan, rows, table, Uppers, Jumps, JumpRegisters, Branches, Loads, Stores, OpImms, ShiftImms, ShiftImmWords, Ops, Fences, Systems, Csrs, CsrImmediates, SetVlis, SetIvlis, SetVls, Ariths, Carries, Moves, WholeMoves, MaskLogics, Compresses, MasksToScalar, Extends, MaskUnaries, ElementIndices, MovesToScalar, MovesToVector, Units, Strideds, Indexeds, WholeLoads, WholeStores, MaskMemories};
 
 use crate::scalar::{
     branch, csr, csr_immediate, fence, jump, jump_register, load, op, op_imm, shift_imm,
@@ -15,10 +15,10 @@ use crate::vector::{
 };
 use crate::vector_memory::{indexed, mask_memory, strided, unit, whole_load, whole_store};
 use rv_model::Instr;
-use rv_model::operations::{Form, Major};
+use rv_model::instructions::operations::{Form, Major};
 
 /// OP-IMM.
-#[tactic(auto, using(rv_model::proofs::InstructionLaws::scan_append))]
+#[tactic(auto, using(rv_model::proofs::instruction_lemmas::Scans::scan_append))]
 fn immediates(word: u32) -> Option<Instr>
     ensures { result ≡ scan (rows OpImms ++ rows ShiftImms) word }
 {
@@ -29,7 +29,7 @@ fn immediates(word: u32) -> Option<Instr>
 }
 
 /// OP-IMM-32.
-#[tactic(auto, using(rv_model::proofs::InstructionLaws::scan_append))]
+#[tactic(auto, using(rv_model::proofs::instruction_lemmas::Scans::scan_append))]
 fn word_immediates(word: u32) -> Option<Instr>
     ensures { result ≡ scan (rows OpImms ++ rows ShiftImmWords) word }
 {
@@ -40,7 +40,7 @@ fn word_immediates(word: u32) -> Option<Instr>
 }
 
 /// SYSTEM.
-#[tactic(auto, using(rv_model::proofs::InstructionLaws::scan_append))]
+#[tactic(auto, using(rv_model::proofs::instruction_lemmas::Scans::scan_append))]
 fn system_or_csr(word: u32) -> Option<Instr>
     ensures { result ≡ scan (rows Systems ++ rows Csrs ++ rows CsrImmediates) word }
 {
@@ -54,7 +54,7 @@ fn system_or_csr(word: u32) -> Option<Instr>
 }
 
 /// LOAD-FP and STORE-FP.
-#[tactic(auto, using(rv_model::proofs::InstructionLaws::scan_append))]
+#[tactic(auto, using(rv_model::proofs::instruction_lemmas::Scans::scan_append))]
 fn memory(word: u32) -> Option<Instr>
     ensures { result
         ≡ scan
@@ -81,7 +81,7 @@ fn memory(word: u32) -> Option<Instr>
 }
 
 /// OPIVV and OPIVX, and OPIVI but for moves of whole registers.
-#[tactic(auto, using(rv_model::proofs::InstructionLaws::scan_append))]
+#[tactic(auto, using(rv_model::proofs::instruction_lemmas::Scans::scan_append))]
 fn integer(word: u32, form: Form) -> Option<Instr>
     requires { bit_and word 0x707f ≡ major_bits Major.Opi form }
     ensures { result ≡ scan (rows (Ariths Major.Opi form) ++ rows (Carries form) ++ rows (Moves form)) word }
@@ -96,7 +96,7 @@ fn integer(word: u32, form: Form) -> Option<Instr>
 }
 
 /// OPIVI.
-#[tactic(auto, using(rv_model::proofs::InstructionLaws::scan_append))]
+#[tactic(auto, using(rv_model::proofs::instruction_lemmas::Scans::scan_append))]
 fn integer_immediate(word: u32) -> Option<Instr>
     requires { bit_and word 0x707f ≡ 0x3057 }
     ensures { result
@@ -112,7 +112,7 @@ fn integer_immediate(word: u32) -> Option<Instr>
 }
 
 /// OPMVV.
-#[tactic(auto, using(rv_model::proofs::InstructionLaws::scan_append))]
+#[tactic(auto, using(rv_model::proofs::instruction_lemmas::Scans::scan_append))]
 fn multiply_vector(word: u32) -> Option<Instr>
     requires { bit_and word 0x707f ≡ 0x2057 }
     ensures { result
@@ -147,7 +147,7 @@ fn multiply_vector(word: u32) -> Option<Instr>
 }
 
 /// OPMVX.
-#[tactic(auto, using(rv_model::proofs::InstructionLaws::scan_append))]
+#[tactic(auto, using(rv_model::proofs::instruction_lemmas::Scans::scan_append))]
 fn multiply_scalar(word: u32) -> Option<Instr>
     requires { bit_and word 0x707f ≡ 0x6057 }
     ensures { result ≡ scan (rows (Ariths Major.Opm form.X) ++ rows MovesToVector) word }
@@ -159,7 +159,7 @@ fn multiply_scalar(word: u32) -> Option<Instr>
 }
 
 /// OPCFG.
-#[tactic(auto, using(rv_model::proofs::InstructionLaws::scan_append))]
+#[tactic(auto, using(rv_model::proofs::instruction_lemmas::Scans::scan_append))]
 fn set_vector_length(word: u32) -> Option<Instr>
     ensures { result ≡ scan (rows SetVlis ++ rows SetIvlis ++ rows SetVls) word }
 {

@@ -1,10 +1,10 @@
 //! Instructions to words.
 ghost use Rattle.std.specs.Prelude.{◌≡◌, ◌<◌, ◌*◌, ◌+◌, ◌/◌, ◌%◌, ◌^◌, Some, true};
-ghost use Rattle.rv_model.specs.BitFields.{AllFit, flag_bit, sum_of};
-ghost use Rattle.rv_model.specs.Sources.{form_of, number};
-ghost use Rattle.rv_model.specs.Operations.{has_form, line, carry_line, line_bits, major_bits};
-ghost use Rattle.rv_model.specs.InstructionLayout.{Allowed, bits, parts, word_of};
-ghost use Rattle.rv_model.specs.InstructionTable.{scan, table};
+ghost use Rattle.rv_model.specs.instructions.BitFields.{AllFit, flag_bit, sum_of};
+ghost use Rattle.rv_model.specs.instructions.Sources.{form_of, number};
+ghost use Rattle.rv_model.specs.instructions.Operations.{has_form, line, carry_line, line_bits, major_bits};
+ghost use Rattle.rv_model.specs.instructions.Layout.{Allowed, bits, parts, word_of};
+ghost use Rattle.rv_model.specs.instructions.Table.{scan, table};
 
 use crate::fixed_bits::{
     branch_bits, count_bits, csr_bits, csr_immediate_bits, direction_bits, extend_bits, load_bits,
@@ -13,7 +13,7 @@ use crate::fixed_bits::{
     unit_bits, upper_bits, whole_move_bits, width_bits,
 };
 use crate::lines::{carry_line, line};
-use rv_model::operations::{Form, Line, Major};
+use rv_model::instructions::operations::{Form, Line, Major};
 use rv_model::{Arith, Carry, Field, Instr, Reg, Source, VReg};
 
 /// Opcode and funct3 of a half of the opcode map, by form.
@@ -297,7 +297,7 @@ fn operands(instr: &Instr) -> u64
 }
 
 /// The word of an instruction.
-#[tactic(auto, using(rv_model::proofs::InstructionRoundTrips::small, rv_model::proofs::InstructionRoundTrips::back, rv_model::proofs::InstructionRoundTrips::word_sum))]
+#[tactic(auto, using(rv_model::proofs::instruction_lemmas::RoundTrips::small, rv_model::proofs::instruction_lemmas::RoundTrips::back, rv_model::proofs::instruction_lemmas::RoundTrips::word_sum))]
 pub fn encode(instr: &Instr) -> u32
     ensures word { result ≡ word_of instr.now }
     ensures row { scan table result ≡ Some instr.now }

@@ -1,8 +1,8 @@
 //! The bits that each operation fixes in its word.
 ghost use Rattle.std.specs.Prelude.{◌≡◌, ◌<◌, ◌^◌};
-ghost use Rattle.rv_model.specs.FixedBits.{branch_bits, count_bits, csr_bits, csr_immediate_bits, direction_bits, extend_bits, load_bits, mask_logic_bits, mask_memory_bits, mask_to_scalar_bits, mask_unary_bits, move_bits, op_bits, op_imm_bits, order_bits, shift_imm_bits, shift_imm_word_bits, store_bits, system_bits, unit_bits, upper_bits, whole_move_bits, width_bits};
+ghost use Rattle.rv_model.specs.instructions.FixedBits.{branch_bits, count_bits, csr_bits, csr_immediate_bits, direction_bits, extend_bits, load_bits, mask_logic_bits, mask_memory_bits, mask_to_scalar_bits, mask_unary_bits, move_bits, op_bits, op_imm_bits, order_bits, shift_imm_bits, shift_imm_word_bits, store_bits, system_bits, unit_bits, upper_bits, whole_move_bits, width_bits};
 
-use rv_model::operations::{
+use rv_model::instructions::operations::{
     BranchOp, CsrImmediateOp, CsrOp, Direction, ExtendOp, Form, LoadOp, MaskLogicOp,
     MaskToScalarOp, MaskUnaryOp, OpImmOp, OpOp, Order, RegisterCount, ShiftImmOp, ShiftImmWordOp,
     StoreOp, SystemOp, UnitOp, UpperOp, Width,

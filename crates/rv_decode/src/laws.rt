@@ -1,6 +1,6 @@
 //! Laws of the instruction table, of decoding and of encoding.
 ghost use Rattle.std.specs.Prelude.{◌≡◌, ℕ, IfSome, IfNone, Some};
-ghost use Rattle.rv_model.specs.InstructionTable.{Row, In, IsRow, Matches, table};
+ghost use Rattle.rv_model.specs.instructions.Table.{Row, In, IsRow, Matches, table};
 
 use crate::decoder::decode;
 use crate::encoder::encode;

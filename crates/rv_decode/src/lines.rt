@@ -1,8 +1,8 @@
 //! The lines of the manual's table of vector operations.
 ghost use Rattle.std.specs.Prelude.{◌≡◌, ◌<◌};
-ghost use Rattle.rv_model.specs.Operations.{binary_line, compare_line, fixed_point_line, narrow_line, widen_line, multiply_add_line, reduce_line, permute_line, carry_line, line, has_form, opi, opm};
+ghost use Rattle.rv_model.specs.instructions.Operations.{binary_line, compare_line, fixed_point_line, narrow_line, widen_line, multiply_add_line, reduce_line, permute_line, carry_line, line, has_form, opi, opm};
 
-use rv_model::operations::{
+use rv_model::instructions::operations::{
     BinaryOp, CarryOp, CompareOp, FixedPointOp, Form, Forms, Line, Major, MultiplyAddOp, NarrowOp,
     PermuteOp, ReduceOp, VectorOp, WidenOp,
 };

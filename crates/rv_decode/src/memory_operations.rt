@@ -1,12 +1,12 @@
 //! The vector accesses of memory by the bits that they fix.
-#![tactic(auto, unfolding(rv_model::specs::InstructionTable::find))]
+#![tactic(auto, unfolding(rv_model::specs::instructions::Table::find))]
 
 ghost use Rattle.std.specs.Prelude.{◌≡◌};
-ghost use Rattle.rv_model.specs.FixedBits.{counts, directions, mask_memory_bits};
-ghost use Rattle.rv_model.specs.InstructionLayout.{unit_access_bits, strided_access_bits, indexed_access_bits, whole_load_bits, whole_store_bits};
-ghost use Rattle.rv_model.specs.InstructionTable.{find, unit_accesses, strided_accesses, indexed_accesses, whole_loads};
+ghost use Rattle.rv_model.specs.instructions.FixedBits.{counts, directions, mask_memory_bits};
+ghost use Rattle.rv_model.specs.instructions.Layout.{unit_access_bits, strided_access_bits, indexed_access_bits, whole_load_bits, whole_store_bits};
+ghost use Rattle.rv_model.specs.instructions.Table.{find, unit_accesses, strided_accesses, indexed_accesses, whole_loads};
 
-use rv_model::operations::{Direction, Order, RegisterCount, UnitOp, Width};
+use rv_model::instructions::operations::{Direction, Order, RegisterCount, UnitOp, Width};
 
 /// The unit-stride access of these bits.
 pub fn unit_access(bits: u32) -> Option<(UnitOp, Width)>

@@ -1,11 +1,11 @@
 //! The scalar operations by the bits that they fix.
-#![tactic(auto, unfolding(rv_model::specs::InstructionTable::find))]
+#![tactic(auto, unfolding(rv_model::specs::instructions::Table::find))]
 
 ghost use Rattle.std.specs.Prelude.{◌≡◌};
-ghost use Rattle.rv_model.specs.FixedBits.{upper_bits, upper_ops, branch_bits, branch_ops, load_bits, load_ops, store_bits, store_ops, op_imm_bits, op_imm_ops, shift_imm_bits, shift_imm_ops, shift_imm_word_bits, shift_imm_word_ops, op_bits, op_ops, system_bits, system_ops, csr_bits, csr_ops, csr_immediate_bits, csr_immediate_ops};
-ghost use Rattle.rv_model.specs.InstructionTable.{find};
+ghost use Rattle.rv_model.specs.instructions.FixedBits.{upper_bits, upper_ops, branch_bits, branch_ops, load_bits, load_ops, store_bits, store_ops, op_imm_bits, op_imm_ops, shift_imm_bits, shift_imm_ops, shift_imm_word_bits, shift_imm_word_ops, op_bits, op_ops, system_bits, system_ops, csr_bits, csr_ops, csr_immediate_bits, csr_immediate_ops};
+ghost use Rattle.rv_model.specs.instructions.Table.{find};
 
-use rv_model::operations::{
+use rv_model::instructions::operations::{
     BranchOp, CsrImmediateOp, CsrOp, LoadOp, OpImmOp, OpOp, ShiftImmOp, ShiftImmWordOp, StoreOp,
     SystemOp, UpperOp,
 };

@@ -1,19 +1,19 @@
 //! Words to vector instructions on registers, a function for each layout of operands.
-#![tactic(auto, unfolding(rv_model::specs::InstructionTable::scan, rv_model::specs::InstructionTable::rows))]
+#![tactic(auto, unfolding(rv_model::specs::instructions::Table::scan, rv_model::specs::instructions::Table::rows))]
 
 ghost use Rattle.std.specs.Prelude.{◌≡◌, bit_and};
-ghost use Rattle.rv_model.specs.Operations.{major_bits};
-ghost use Rattle.rv_model.specs.InstructionTable.{scan, rows, SetVlis, SetIvlis, SetVls, WholeMoves, MaskLogics, Compresses, MasksToScalar, Extends, MaskUnaries, ElementIndices, MovesToScalar, MovesToVector, Ariths, Carries, Moves};
+ghost use Rattle.rv_model.specs.instructions.Operations.{major_bits};
+ghost use Rattle.rv_model.specs.instructions.Table.{scan, rows, SetVlis, SetIvlis, SetVls, WholeMoves, MaskLogics, Compresses, MasksToScalar, Extends, MaskUnaries, ElementIndices, MovesToScalar, MovesToVector, Ariths, Carries, Moves};
 
 use crate::vector_operations::{
     carry_op, extend_op, mask_logic_op, mask_to_scalar_op, mask_unary_op, opi, opm, whole_move_op,
 };
 use crate::word_fields::{bits, is_unmasked, reg, source, vreg};
-use rv_model::operations::{Form, Major};
+use rv_model::instructions::operations::{Form, Major};
 use rv_model::{Arith, Carry, Field, Instr};
 
 /// An operation with a line of its own in the table, masked or not.
-#[tactic(auto, using(crate::proofs::Scan::scan_arith, rv_model::proofs::InstructionWords::form_source_of))]
+#[tactic(auto, using(crate::proofs::Scan::scan_arith, rv_model::proofs::instruction_lemmas::Words::form_source_of))]
 pub fn arith(word: u32, major: Major, form: Form) -> Option<Instr>
     requires { bit_and word 0x707f ≡ major_bits major form }
     ensures { result ≡ scan (rows (Ariths major form)) word }
@@ -31,7 +31,7 @@ pub fn arith(word: u32, major: Major, form: Form) -> Option<Instr>
 }
 
 /// An operation that takes v0.
-#[tactic(auto, using(crate::proofs::Scan::scan_carry, rv_model::proofs::InstructionWords::form_source_of))]
+#[tactic(auto, using(crate::proofs::Scan::scan_carry, rv_model::proofs::instruction_lemmas::Words::form_source_of))]
 pub fn carry(word: u32, form: Form) -> Option<Instr>
     ensures { result ≡ scan (rows (Carries form)) word }
 {

@@ -1,17 +1,17 @@
 //! The vector operations by funct6 and form, or by the bits that they fix.
 ghost use Rattle.std.specs.Prelude.{◌≡◌, IfSome, true};
-ghost use Rattle.rv_model.specs.FixedBits.{whole_move_bits, mask_logic_bits, mask_to_scalar_bits, extend_bits, mask_unary_bits, counts, mask_logic_ops, mask_to_scalar_ops, extend_ops, mask_unary_ops};
-ghost use Rattle.rv_model.specs.Operations.{has_form, line, carry_line, line_bits, those, vector_ops, carry_ops};
-ghost use Rattle.rv_model.specs.InstructionTable.{find, find_at};
+ghost use Rattle.rv_model.specs.instructions.FixedBits.{whole_move_bits, mask_logic_bits, mask_to_scalar_bits, extend_bits, mask_unary_bits, counts, mask_logic_ops, mask_to_scalar_ops, extend_ops, mask_unary_ops};
+ghost use Rattle.rv_model.specs.instructions.Operations.{has_form, line, carry_line, line_bits, those, vector_ops, carry_ops};
+ghost use Rattle.rv_model.specs.instructions.Table.{find, find_at};
 
 use crate::lines::{has_form, line};
-use rv_model::operations::{
+use rv_model::instructions::operations::{
     BinaryOp, CarryOp, CompareOp, ExtendOp, FixedPointOp, Form, Major, MaskLogicOp, MaskToScalarOp,
     MaskUnaryOp, MultiplyAddOp, NarrowOp, PermuteOp, ReduceOp, RegisterCount, VectorOp, WidenOp,
 };
 
 /// The operation of OPIVV, OPIVX or OPIVI with this funct6 and form.
-#[tactic(auto, unfolding(rv_model::specs::InstructionTable::find_at))]
+#[tactic(auto, unfolding(rv_model::specs::instructions::Table::find_at))]
 pub fn opi(funct6: u32, form: Form) -> Option<VectorOp>
     ensures row { result ≡ find_at line Major.Opi form funct6 vector_ops }
     ensures allowed { IfSome result (λ op. has_form (line op).forms form ≡ true) }
@@ -69,7 +69,7 @@ pub fn opi(funct6: u32, form: Form) -> Option<VectorOp>
 }
 
 /// The operation of OPMVV or OPMVX with this funct6 and form.
-#[tactic(auto, unfolding(rv_model::specs::InstructionTable::find_at))]
+#[tactic(auto, unfolding(rv_model::specs::instructions::Table::find_at))]
 pub fn opm(funct6: u32, form: Form) -> Option<VectorOp>
     ensures row { result ≡ find_at line Major.Opm form funct6 vector_ops }
     ensures allowed { IfSome result (λ op. has_form (line op).forms form ≡ true) }
@@ -132,7 +132,7 @@ pub fn opm(funct6: u32, form: Form) -> Option<VectorOp>
 }
 
 /// The operation of these bits that takes v0 and has this form.
-#[tactic(auto, unfolding(rv_model::specs::InstructionTable::find))]
+#[tactic(auto, unfolding(rv_model::specs::instructions::Table::find))]
 pub fn carry_op(bits: u32, form: Form) -> Option<CarryOp>
     ensures row { result
         ≡ find
@@ -163,7 +163,7 @@ pub fn carry_op(bits: u32, form: Form) -> Option<CarryOp>
 }
 
 /// The operation of these bits, for `Instr::WholeMove`.
-#[tactic(auto, unfolding(rv_model::specs::InstructionTable::find))]
+#[tactic(auto, unfolding(rv_model::specs::instructions::Table::find))]
 pub fn whole_move_op(bits: u32) -> Option<RegisterCount>
     ensures { result ≡ find whole_move_bits counts bits }
 {
@@ -177,7 +177,7 @@ pub fn whole_move_op(bits: u32) -> Option<RegisterCount>
 }
 
 /// The operation of these bits, for `Instr::MaskLogic`.
-#[tactic(auto, unfolding(rv_model::specs::InstructionTable::find))]
+#[tactic(auto, unfolding(rv_model::specs::instructions::Table::find))]
 pub fn mask_logic_op(bits: u32) -> Option<MaskLogicOp>
     ensures { result ≡ find mask_logic_bits mask_logic_ops bits }
 {
@@ -195,7 +195,7 @@ pub fn mask_logic_op(bits: u32) -> Option<MaskLogicOp>
 }
 
 /// The operation of these bits, for `Instr::MaskToScalar`.
-#[tactic(auto, unfolding(rv_model::specs::InstructionTable::find))]
+#[tactic(auto, unfolding(rv_model::specs::instructions::Table::find))]
 pub fn mask_to_scalar_op(bits: u32) -> Option<MaskToScalarOp>
     ensures { result ≡ find mask_to_scalar_bits mask_to_scalar_ops bits }
 {
@@ -207,7 +207,7 @@ pub fn mask_to_scalar_op(bits: u32) -> Option<MaskToScalarOp>
 }
 
 /// The operation of these bits, for `Instr::VectorExtend`.
-#[tactic(auto, unfolding(rv_model::specs::InstructionTable::find))]
+#[tactic(auto, unfolding(rv_model::specs::instructions::Table::find))]
 pub fn extend_op(bits: u32) -> Option<ExtendOp>
     ensures { result ≡ find extend_bits extend_ops bits }
 {
@@ -223,7 +223,7 @@ pub fn extend_op(bits: u32) -> Option<ExtendOp>
 }
 
 /// The operation of these bits, for `Instr::MaskUnary`.
-#[tactic(auto, unfolding(rv_model::specs::InstructionTable::find))]
+#[tactic(auto, unfolding(rv_model::specs::instructions::Table::find))]
 pub fn mask_unary_op(bits: u32) -> Option<MaskUnaryOp>
     ensures { result ≡ find mask_unary_bits mask_unary_ops bits }
 {

@@ -1,10 +1,10 @@
 //! The operands that a word holds.
 ghost use Rattle.std.specs.Prelude.{◌≡◌, ◌≤◌, ◌<◌, ◌+◌, ◌^◌};
-ghost use Rattle.rv_model.specs.BitFields.{field, flag};
-ghost use Rattle.rv_model.specs.Immediates.{store_immediate, branch_offset, jump_offset};
-ghost use Rattle.rv_model.specs.Sources.{source_of};
+ghost use Rattle.rv_model.specs.instructions.BitFields.{field, flag};
+ghost use Rattle.rv_model.specs.instructions.Immediates.{store_immediate, branch_offset, jump_offset};
+ghost use Rattle.rv_model.specs.instructions.Sources.{source_of};
 
-use rv_model::operations::Form;
+use rv_model::instructions::operations::Form;
 use rv_model::{Field, Reg, Source, VReg};
 
 /// Bits `low` to `low + len - 1` of a word.

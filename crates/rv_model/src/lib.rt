@@ -2,47 +2,25 @@
 #![tactic(auto)]
 
 pub mod assembler;
-mod cells;
-mod command;
-mod control_register;
-mod elf;
-mod instruction;
-mod laws;
+mod commands;
+mod images;
+pub mod instructions;
+mod legality;
+mod machine;
 mod memory;
-pub mod mnemonics;
-mod operands;
-pub mod operations;
-mod pairs;
-mod policy;
-mod register_bytes;
-mod register_operand;
 mod scalar;
-mod source;
-mod step_end;
-mod user;
-mod vector_end;
-mod vector_file;
-mod vector_request;
-mod vector_state;
-mod vector_type;
+mod step;
+mod vector;
 
-pub use command::{ByteString, Cmd, Refusal, Text};
-pub use control_register::ControlRegister;
-pub use elf::{ElfFault, ProgramHeader};
-pub use instruction::Instr;
-pub use laws::{each_user_alone, registers_that_stay, small_scripts_print};
+pub use commands::{ByteString, Cmd, Refusal, Text};
+pub use images::{ElfFault, ProgramHeader};
+pub use instructions::{Arith, Carry, Field, Instr, Reg, Source, VReg};
+pub use legality::{Content, Operand, Role, Shape};
+pub use machine::{User, each_user_alone, registers_that_stay, small_scripts_print};
 pub use memory::{Access, Fault, MapRefusal, Permissions, memory_laws};
-pub use operands::{Field, Reg, VReg};
-pub use pairs::{Arith, Carry};
-pub use policy::Policy;
-pub use register_bytes::RegisterBytes;
-pub use register_operand::{Content, Operand, Role, Shape};
 pub use scalar::Scalar;
-pub use source::Source;
-pub use step_end::{Cause, StepEnd, Stop};
-pub use user::User;
-pub use vector_end::VEnd;
-pub use vector_file::VFile;
-pub use vector_request::{RequestedLength, VectorRequest};
-pub use vector_state::{RoundingMode, Seat, VConf, VState};
-pub use vector_type::{Lmul, Sew, VType};
+pub use step::{Cause, StepEnd, Stop, VEnd};
+pub use vector::{
+    ControlRegister, Lmul, Policy, RegisterBytes, RequestedLength, RoundingMode, Seat, Sew, VConf,
+    VFile, VState, VType, VectorRequest,
+};

@@ -1,6 +1,6 @@
 //! What a user's memory allows.
 ghost use Rattle.std.specs.Prelude.{◌≡◌};
-ghost use Rattle.rv_model.specs.Memory.{permits, WritesBytes, KeepsPermissions, MapsZeros, MapsPermissions, ReadsBytes, AllowsEachByte};
+ghost use Rattle.rv_model.specs.memory.Memory.{permits, WritesBytes, KeepsPermissions, MapsZeros, MapsPermissions, ReadsBytes, AllowsEachByte};
 
 /// What a page may be used for.
 #[derive(Clone, Copy, Debug, Default, PartialEq, Eq)]

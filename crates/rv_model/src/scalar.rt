@@ -1,8 +1,8 @@
 //! The scalar registers of a machine.
 ghost use Rattle.std.specs.Prelude.{◌≡◌};
-ghost use Rattle.rv_model.specs.Scalar.{read_register, with_register, initial_scalar};
+ghost use Rattle.rv_model.specs.scalar.Registers.{read_register, with_register, initial_scalar};
 
-use crate::operands::Reg;
+use crate::instructions::Reg;
 
 /// The registers x0 to x31 and the program counter, 64 bits each
 /// (Unprivileged ISA 20191213, section 2.1, "Programmers' Model for Base Integer ISA").
@@ -14,7 +14,7 @@ pub struct Scalar {
 
 impl Scalar {
     /// All registers zero.
-    #[tactic(auto, unfolding(crate::specs::Scalar::initial_scalar))]
+    #[tactic(auto, unfolding(crate::specs::scalar::Registers::initial_scalar))]
     pub fn new() -> Scalar
         ensures { result ≡ initial_scalar }
     {

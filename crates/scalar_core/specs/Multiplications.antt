@@ -1,6 +1,6 @@
 -- The instructions of the "M" extension among those of two registers (Unprivileged ISA 20191213, chapter 7).
-use Rattle.rv_model.specs.declared.operations.OpOp.{OpOp}
-use Rattle.rv_model.specs.declared.operations.OpOp.TheVariants as op
+use Rattle.rv_model.specs.declared.instructions.operations.OpOp.{OpOp}
+use Rattle.rv_model.specs.declared.instructions.operations.OpOp.TheVariants as op
 use Rattle.scalar_core.specs.declared.muldiv_op.MulDivOp.{MulDivOp}
 use Rattle.scalar_core.specs.declared.muldiv_op.MulDivOp.TheVariants.{Mul, Mulh, Mulhsu, Mulhu, Div, Divu, Rem, Remu, Mulw, Divw, Divuw, Remw, Remuw}
 

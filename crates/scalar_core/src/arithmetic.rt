@@ -1,12 +1,12 @@
 //! Operations of two registers (Unprivileged ISA 20191213, sections 2.4 and 5.2).
 ghost use Rattle.std.specs.Prelude.{◌≡◌};
-ghost use Rattle.rv_model.specs.ScalarArithmetic.{op_value};
+ghost use Rattle.rv_model.specs.scalar.Arithmetic.{op_value};
 
 use crate::extension::{low_word, sign_extend_word};
 use crate::muldiv_op::MulDivOp;
 use crate::multiplication::muldiv;
 use crate::shift;
-use rv_model::operations::OpOp;
+use rv_model::instructions::operations::OpOp;
 
 /// What an operation of two registers gives.
 pub fn alu(op: OpOp, a: u64, b: u64) -> u64

@@ -1,8 +1,8 @@
 //! Conditional branches (Unprivileged ISA 20191213, section 2.5).
 ghost use Rattle.std.specs.Prelude.{◌≡◌};
-ghost use Rattle.rv_model.specs.ControlTransfer.{is_taken};
+ghost use Rattle.rv_model.specs.scalar.ControlTransfer.{is_taken};
 
-use rv_model::operations::BranchOp;
+use rv_model::instructions::operations::BranchOp;
 
 /// Whether a branch that compares these registers is taken.
 pub fn branch(op: BranchOp, a: u64, b: u64) -> bool

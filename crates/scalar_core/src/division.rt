@@ -1,7 +1,7 @@
 //! Division, of 64 and of 32 bits (Unprivileged ISA 20191213, section 7.2): no division traps.
 ghost use Rattle.std.specs.Prelude.{◌≡◌};
 ghost use Rattle.std.specs.Int.{w32, w64};
-ghost use Rattle.rv_model.specs.ScalarArithmetic.{overflows, quotient, remainder, signed_quotient, signed_remainder};
+ghost use Rattle.rv_model.specs.scalar.Arithmetic.{overflows, quotient, remainder, signed_quotient, signed_remainder};
 
 // Whether the least number is divided by -1.
 fn overflows(a: u64, b: u64) -> bool

@@ -1,6 +1,6 @@
 //! Parts of a 64-bit word, and their extension to one.
 ghost use Rattle.std.specs.Prelude.{◌≡◌, ◌≤◌, ◌<◌, ◌%◌, ◌^◌};
-ghost use Rattle.rv_model.specs.Immediates.{sign_extended};
+ghost use Rattle.rv_model.specs.instructions.Immediates.{sign_extended};
 
 /// A two's complement number of so many bits, 1 to 63, as one of 64 bits.
 pub fn sign_extend(bits: u32, value: u64) -> u64

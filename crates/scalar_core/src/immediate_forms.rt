@@ -1,9 +1,9 @@
 //! Which operation of two registers an operation with an immediate does (Unprivileged ISA 20191213,
 //! sections 2.4 and 5.2).
 ghost use Rattle.std.specs.Prelude.{◌≡◌};
-ghost use Rattle.rv_model.specs.ScalarArithmetic.{op_imm_form, shift_imm_form, shift_imm_word_form};
+ghost use Rattle.rv_model.specs.scalar.Arithmetic.{op_imm_form, shift_imm_form, shift_imm_word_form};
 
-use rv_model::operations::{OpImmOp, OpOp, ShiftImmOp, ShiftImmWordOp};
+use rv_model::instructions::operations::{OpImmOp, OpOp, ShiftImmOp, ShiftImmWordOp};
 
 /// The operation that one with a 12-bit immediate does with the immediate, sign-extended.
 pub fn op_imm_form(op: OpImmOp) -> OpOp

@@ -1,6 +1,6 @@
 //! Multiplication and division (Unprivileged ISA 20191213, chapter 7).
 ghost use Rattle.std.specs.Prelude.{◌≡◌};
-ghost use Rattle.rv_model.specs.ScalarArithmetic.{op_value};
+ghost use Rattle.rv_model.specs.scalar.Arithmetic.{op_value};
 ghost use Rattle.scalar_core.specs.Multiplications.{op_of};
 
 use crate::extension::{low_word, sign_extend_word};

@@ -1,7 +1,7 @@
 //! Shifts, of 64 and of 32 bits (Unprivileged ISA 20191213, sections 2.4 and 5.2).
 ghost use Rattle.std.specs.Prelude.{◌≡◌};
 ghost use Rattle.std.specs.Int.{w32, w64};
-ghost use Rattle.rv_model.specs.ScalarArithmetic.{shifted_left, shifted_right, shifted_right_signed};
+ghost use Rattle.rv_model.specs.scalar.Arithmetic.{shifted_left, shifted_right, shifted_right_signed};
 
 /// Shifted left by the low 6 bits of the amount.
 pub(crate) fn left(a: u64, amount: u64) -> u64

@@ -1,6 +1,6 @@
 //! Values that another implementation of the instruction set gives.
 use crate::{alu, branch};
-use rv_model::operations::{BranchOp, OpOp};
+use rv_model::instructions::operations::{BranchOp, OpOp};
 
 #[test]
 fn operations_of_64_bits(rt: HostRuntime) {

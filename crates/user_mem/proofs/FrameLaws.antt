@@ -5,8 +5,8 @@ use Rattle.std.specs.List.{insert}
 use Rattle.std.proofs.lemmas.List.Sums.{sum_by-insert, sum_by-append}
 use Rattle.std.proofs.lemmas.Bool.{cases_eq, cases_lt}
 use Rattle.std.specs.FinMap.{get}
-use Rattle.rv_model.specs.Memory.{Cell, Memory, with_pages}
-use Rattle.rv_model.proofs.MemoryLaws.{same_memory, get-add_cells_within, get-add_cells_outside}
+use Rattle.rv_model.specs.memory.Memory.{Cell, Memory, with_pages}
+use Rattle.rv_model.proofs.memory_lemmas.Memory.{same_memory, get-add_cells_within, get-add_cells_outside}
 use Rattle.user_mem.specs.declared.entry.Entry.{Entry}
 use Rattle.user_mem.specs.Table.{entry_at, memory_of, AreBelow}
 use Rattle.user_mem.proofs.TableLaws.{cell_in, get-memory_of, memory_of_same}

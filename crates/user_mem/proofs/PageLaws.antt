@@ -3,8 +3,8 @@ use Rattle.std.proofs.Common.{◌≡◌, ℕ, suc, ◌+◌, ◌*◌, ◌/◌, Li
 use Rattle.std.specs.Prelude.{is_some}
 use Rattle.std.specs.Ordering.{nat_cmp}
 use Rattle.std.specs.FinMap.{len, contains_key, len-empty}
-use Rattle.rv_model.specs.Memory.{Cell, page_count}
-use Rattle.rv_model.proofs.MemoryLaws.{len-add_cells}
+use Rattle.rv_model.specs.memory.Memory.{Cell, page_count}
+use Rattle.rv_model.proofs.memory_lemmas.Memory.{len-add_cells}
 use Rattle.user_mem.specs.declared.entry.Entry.{Entry}
 use Rattle.user_mem.specs.Table.{entry_at, cell_of, memory_of, IsSorted}
 use Rattle.user_mem.proofs.TableLaws.{cell_in, get-memory_of}

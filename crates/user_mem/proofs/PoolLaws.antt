@@ -6,7 +6,7 @@ use Rattle.std.specs.FinMap.{empty}
 use Rattle.std.proofs.lemmas.Bool.{cases_eq}
 use Rattle.std.proofs.lemmas.List.{take_at, map-set}
 use Rattle.std.proofs.lemmas.List.Sums.{sum_by-cons, sum_by-set, get_or-le-sum_by}
-use Rattle.rv_model.specs.Memory.{Memory}
+use Rattle.rv_model.specs.memory.Memory.{Memory}
 use Rattle.user_mem.specs.declared.entry.Entry.{Entry}
 use Rattle.user_mem.specs.Table.{entry_at, memory_of, IsSorted, AreBelow, FitIn, AreSeparate, AreApart}
 use Rattle.user_mem.specs.Frames.{uses, uses_of, AreMine}

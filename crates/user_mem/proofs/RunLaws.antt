@@ -7,8 +7,8 @@ use Rattle.std.proofs.lemmas.Bool.{cases_eq, cases_lt}
 use Rattle.std.proofs.lemmas.List.{length-take-le, length-drop, get_or-take, get_or-drop}
 use Rattle.rv_model.specs.declared.memory.Access.{Access}
 use Rattle.rv_model.specs.declared.memory.Access.TheVariants.{Monitor}
-use Rattle.rv_model.specs.Memory.{Memory, permits, byte_at, is_allowed, put_bytes}
-use Rattle.rv_model.proofs.MemoryLaws.{same_memory, with_byte, get-put_bytes_within, get-put_bytes_outside, put_bytes-append}
+use Rattle.rv_model.specs.memory.Memory.{Memory, permits, byte_at, is_allowed, put_bytes}
+use Rattle.rv_model.proofs.memory_lemmas.Memory.{same_memory, with_byte, get-put_bytes_within, get-put_bytes_outside, put_bytes-append}
 use Rattle.user_mem.specs.declared.entry.Entry.{Entry}
 use Rattle.user_mem.specs.Table.{entry_at, memory_of, AreSeparate, AreApart}
 use Rattle.user_mem.proofs.TableLaws.{cell_in, get-memory_of, is_allowed-memory_of, byte_at-memory_of, memory_of_same, entry_from_allowed}

@@ -4,7 +4,7 @@ use Rattle.std.specs.Prelude.{nat_lt, ◌↔◌}
 use Rattle.std.specs.FinMap.{empty}
 use Rattle.std.proofs.lemmas.List.{length-map}
 use Rattle.rv_model.specs.declared.memory.MapRefusal.{MapRefusal}
-use Rattle.rv_model.specs.Memory.{Memory, map_refusal}
+use Rattle.rv_model.specs.memory.Memory.{Memory, map_refusal}
 use Rattle.user_mem.specs.declared.entry.Entry.{Entry}
 use Rattle.user_mem.specs.Table.{memory_of, IsSorted, AreBelow}
 use Rattle.user_mem.specs.Frames.{uses, uses_of}

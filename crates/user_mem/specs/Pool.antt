@@ -3,7 +3,7 @@ use Rattle.std.specs.Prelude.{◌≡◌, ℕ, ◌+◌, ◌*◌, ◌≤◌, cond,
 use Rattle.std.specs.List.{sum_by}
 use Rattle.user_mem.specs.declared.entry.Entry.{Entry}
 use Rattle.arrayvec.specs.ArrayVec.{ArrayVec}
-use Rattle.rv_model.specs.Memory.{Memory}
+use Rattle.rv_model.specs.memory.Memory.{Memory}
 use Rattle.user_mem.specs.Table.{memory_of, IsSorted, AreBelow}
 use Rattle.user_mem.specs.Frames.{uses, uses_of}
 

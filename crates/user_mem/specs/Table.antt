@@ -3,7 +3,7 @@
 use Rattle.std.specs.Prelude.{◌≡◌, ◌≢◌, ℕ, ◌+◌, ◌*◌, ◌^◌, ◌<◌, ◌≤◌, nat_eq, List, [], ◌∷◌, length, slice_index, slice_index_or, Option, Some, AllPairs}
 use Rattle.std.specs.List.{find}
 use Rattle.std.specs.FinMap.{empty}
-use Rattle.rv_model.specs.Memory.{Cell, Memory, add_cells}
+use Rattle.rv_model.specs.memory.Memory.{Cell, Memory, add_cells}
 use Rattle.user_mem.specs.declared.entry.Entry.{Entry}
 
 -- the entry of a page

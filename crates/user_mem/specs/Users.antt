@@ -1,7 +1,7 @@
 -- The memories of the eight users as a list, user 1 first.
 use Rattle.std.specs.Prelude.{◌≡◌, ◌≢◌, ℕ, ◌-◌, ◌≤◌, List, length, replicate, slice_index_or, slice_set}
 use Rattle.std.specs.FinMap.{empty}
-use Rattle.rv_model.specs.Memory.{Memory}
+use Rattle.rv_model.specs.memory.Memory.{Memory}
 
 -- eight memories with no page
 abbrev pub no_memories : List Memory

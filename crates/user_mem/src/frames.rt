@@ -1,7 +1,7 @@
 //! The bytes of all frames, of 4,096 each: reads and writes through a user's table.
 ghost use Rattle.std.specs.Prelude.{◌≡◌, ℕ, List, ◌≤◌, ◌<◌, ◌+◌, ◌*◌, ◌/◌, ◌%◌, ◌^◌, ◌⊎◌, cond, nat_eq, true, Some, None, length, slice_index};
 ghost use Rattle.arrayvec.specs.ArrayVec.{array_vec_len};
-ghost use Rattle.rv_model.specs.Memory.{is_allowed, can_access, bytes_at, put_bytes, with_pages};
+ghost use Rattle.rv_model.specs.memory.Memory.{is_allowed, can_access, bytes_at, put_bytes, with_pages};
 ghost use Rattle.user_mem.specs.declared.entry.Entry.{Entry};
 ghost use Rattle.user_mem.specs.Table.{entry_at, memory_of, IsSorted, AreBelow, FitIn, AreSeparate, AreApart};
 ghost use Rattle.user_mem.specs.Frames.{uses_of};

@@ -1,6 +1,6 @@
 //! The list of free frames: pages take frames from it, and a table gives its frames back.
 ghost use Rattle.std.specs.Prelude.{◌≡◌, ◌≢◌, ℕ, ◌<◌, ◌≤◌, ◌+◌, ◌^◌, cond, nat_lt, [], None, List, length};
-ghost use Rattle.rv_model.specs.Memory.{with_pages};
+ghost use Rattle.rv_model.specs.memory.Memory.{with_pages};
 ghost use Rattle.user_mem.specs.declared.entry.Entry.{Entry};
 ghost use Rattle.user_mem.specs.Table.{entry_at, memory_of, AreBelow, IsSorted};
 ghost use Rattle.user_mem.specs.Frames.{uses, uses_of, AreMine};

@@ -1,7 +1,7 @@
 //! The memories of all users.
 ghost use Rattle.std.specs.Prelude.{◌≡◌, ℕ, ◌<◌, ◌≤◌, ◌+◌, ◌*◌, ◌^◌, ◌↔◌, [], true, None, IsOk, IfOk, IfErr, OnOk, OnErr, length, replicate};
 ghost use Rattle.std.specs.FinMap.{empty};
-ghost use Rattle.rv_model.specs.Memory.{can_access, bytes_at, put_bytes, with_pages, page_count, any_page_mapped, map_refusal};
+ghost use Rattle.rv_model.specs.memory.Memory.{can_access, bytes_at, put_bytes, with_pages, page_count, any_page_mapped, map_refusal};
 ghost use Rattle.user_mem.specs.Users.{no_memories, memory_of_user, with_memory};
 ghost use Rattle.user_mem.specs.Pool.{entries_of};
 
@@ -35,7 +35,7 @@ pub struct Pool<A: Allocator = Global> {
 impl<A: Allocator> Model for Pool<A> {
     ghost use Rattle.std.specs.Prelude.{List};
     ghost use Rattle.std.specs.Coded.{coded_list};
-    ghost use Rattle.rv_model.specs.Memory.{Memory, coded_memory};
+    ghost use Rattle.rv_model.specs.memory.Memory.{Memory, coded_memory};
     ghost use Rattle.user_mem.specs.Pool.{entries_of, memories_of, IsPool};
 
     ghost Value = { List Memory };

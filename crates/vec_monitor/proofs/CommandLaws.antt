@@ -3,23 +3,23 @@ use Rattle.std.proofs.Common.{◌≡◌, ℕ, zero, suc, ◌/◌, List, [], ◌�
 use Rattle.std.specs.Prelude.{if◌then◌else◌, codes, is_none}
 use Rattle.std.specs.FinMap.{empty}
 use Rattle.std.specs.Option.{option_map}
-use Rattle.rv_model.specs.declared.command.Cmd.{Cmd}
-use Rattle.rv_model.specs.declared.command.Cmd.TheVariants.{Enter, Leave, Load, Map, Poke, Peek, Set, Regs, SetPc, Vreg, Vset, Vcsr, Asm, Dis, Step, State, Trace}
-use Rattle.rv_model.specs.declared.command.Refusal.{Refusal}
-use Rattle.rv_model.specs.declared.command.Refusal.TheVariants as refusal
+use Rattle.rv_model.specs.declared.commands.command.Cmd.{Cmd}
+use Rattle.rv_model.specs.declared.commands.command.Cmd.TheVariants.{Enter, Leave, Load, Map, Poke, Peek, Set, Regs, SetPc, Vreg, Vset, Vcsr, Asm, Dis, Step, State, Trace}
+use Rattle.rv_model.specs.declared.commands.command.Refusal.{Refusal}
+use Rattle.rv_model.specs.declared.commands.command.Refusal.TheVariants as refusal
 use Rattle.rv_model.specs.declared.memory.Access.TheVariants.{Monitor}
 use Rattle.rv_model.specs.declared.memory.MapRefusal.{MapRefusal}
 use Rattle.rv_model.specs.declared.memory.Permissions.{Permissions}
-use Rattle.rv_model.specs.declared.step_end.StepEnd.{StepEnd}
-use Rattle.rv_model.specs.declared.step_end.Stop.{Stop}
-use Rattle.rv_model.specs.Memory.{Memory, bytes_at, can_access, put_bytes, map_refusal, with_pages}
-use Rattle.rv_model.specs.PrivateMachine.{Present, Halted, answers, refuses, decided, commanded, refusal_of, own_refusal, accepted, carried_out, with_memory_refusal, recorded, ran, steps, stop_of}
-use Rattle.rv_model.specs.Replies.{regs_lines, step_line, state_line, peek_line, trace_line, vreg_line, vcsr_line}
-use Rattle.rv_model.specs.Scalar.{with_register}
-use Rattle.rv_model.specs.Setup.{Image}
-use Rattle.rv_model.specs.Step.{HartState, step}
-use Rattle.rv_model.specs.VectorRegisters.{register_of, with_register_bytes}
-use Rattle.rv_model.specs.declared.vector_type.Sew.{Sew}
+use Rattle.rv_model.specs.declared.step.step_end.StepEnd.{StepEnd}
+use Rattle.rv_model.specs.declared.step.step_end.Stop.{Stop}
+use Rattle.rv_model.specs.memory.Memory.{Memory, bytes_at, can_access, put_bytes, map_refusal, with_pages}
+use Rattle.rv_model.specs.machine.PrivateMachine.{Present, Halted, answers, refuses, decided, commanded, refusal_of, own_refusal, accepted, carried_out, with_memory_refusal, recorded, ran, steps, stop_of}
+use Rattle.rv_model.specs.commands.Replies.{regs_lines, step_line, state_line, peek_line, trace_line, vreg_line, vcsr_line}
+use Rattle.rv_model.specs.scalar.Registers.{with_register}
+use Rattle.rv_model.specs.machine.Setup.{Image}
+use Rattle.rv_model.specs.step.Step.{HartState, step}
+use Rattle.rv_model.specs.vector.Registers.{register_of, with_register_bytes}
+use Rattle.rv_model.specs.declared.vector.types.Sew.{Sew}
 use Rattle.vec_monitor.specs.declared.context.Context.{Context}
 use Rattle.vec_monitor.specs.CommandOutcomes.{outcome}
 use Rattle.vec_monitor.specs.Parts.{Addresses, new_context, hart_state, present, private_of}

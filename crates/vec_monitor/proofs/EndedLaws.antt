@@ -2,10 +2,10 @@
 use Rattle.std.proofs.Common.{◌≡◌, ℕ, ◌-◌, List, [], ◌∷◌, ◌++◌, length, length-append, take, Bool, true, false, refl, ap, ◌∙◌, sym, subst, append_assoc, append-nil, arith}
 use Rattle.std.proofs.lemmas.Bool.{eqb-true}
 use Rattle.std.proofs.Math.Seq.{take-append_seam}
-use Rattle.rv_model.specs.Setup.{Setup}
-use Rattle.rv_model.specs.Script.{World, after, after_all, told, told_all}
-use Rattle.rv_model.specs.Text.{is_newline, pieces, IsLine}
-use Rattle.rv_model.proofs.LineLaws.{pieces_at, pieces_of_line}
+use Rattle.rv_model.specs.machine.Setup.{Setup}
+use Rattle.rv_model.specs.machine.Script.{World, after, after_all, told, told_all}
+use Rattle.rv_model.specs.text.Lines.{is_newline, pieces, IsLine}
+use Rattle.rv_model.proofs.text_lemmas.Lines.{pieces_at, pieces_of_line}
 use Rattle.vec_monitor.specs.EndedLines.{ended_lines}
 use Rattle.vec_monitor.specs.Feed.{Fed, longer, fed}
 use Rattle.vec_monitor.specs.MachineState.{MachineState, after_line, line_output}

@@ -3,10 +3,10 @@ use Rattle.std.proofs.Common.{◌≡◌, ℕ, ◌+◌, ◌<◌, inl, inr, List, 
 use Rattle.std.specs.Prelude.{nat_lt, not}
 use Rattle.std.proofs.lemmas.Bool.{cases_lt, lt-ltb}
 use Rattle.std.proofs.lemmas.List.{take_all, take-take, take_more, take-append-drop, length-take-le, take-append-le}
-use Rattle.rv_model.specs.Setup.{Setup}
-use Rattle.rv_model.specs.Text.{is_newline, text, is_line, IsLine}
-use Rattle.rv_model.specs.Script.{World, Kind, kind_of, prefixed, Long, events_of, common, after_events, told_by, after, told, after_all, told_all}
-use Rattle.rv_model.proofs.LineLaws.{both, both_of}
+use Rattle.rv_model.specs.machine.Setup.{Setup}
+use Rattle.rv_model.specs.text.Lines.{is_newline, text, is_line, IsLine}
+use Rattle.rv_model.specs.machine.Script.{World, Kind, kind_of, prefixed, Long, events_of, common, after_events, told_by, after, told, after_all, told_all}
+use Rattle.rv_model.proofs.text_lemmas.Lines.{both, both_of}
 use Rattle.vec_monitor.specs.MachineState.{MachineState, after_line, line_output}
 use Rattle.vec_monitor.specs.Feed.{Fed, longer, feed, fed}
 

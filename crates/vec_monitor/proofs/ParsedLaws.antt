@@ -3,15 +3,15 @@ use Rattle.std.proofs.Common.{◌≡◌, ℕ, ◌+◌, ◌*◌, ◌^◌, ◌≤�
 use Rattle.std.specs.Prelude.{if◌then◌else◌, codes, nat_le, ◌&&◌, ◌==◌, ◌%◌}
 use Rattle.std.specs.Str.{bytes_eq}
 use Rattle.std.proofs.lemmas.Bool.{leb-true}
-use Rattle.rv_model.specs.declared.command.Cmd.{Cmd}
-use Rattle.rv_model.specs.declared.command.Cmd.TheVariants.{Enter, Leave, Load, Map, Poke, Peek, Set, Regs, SetPc, Vreg, Vset, Vcsr, Asm, Dis, Step, State, Trace}
-use Rattle.rv_model.specs.declared.command.Refusal.{Refusal}
-use Rattle.rv_model.specs.declared.command.Refusal.TheVariants.{UnknownCommand}
+use Rattle.rv_model.specs.declared.commands.command.Cmd.{Cmd}
+use Rattle.rv_model.specs.declared.commands.command.Cmd.TheVariants.{Enter, Leave, Load, Map, Poke, Peek, Set, Regs, SetPc, Vreg, Vset, Vcsr, Asm, Dis, Step, State, Trace}
+use Rattle.rv_model.specs.declared.commands.command.Refusal.{Refusal}
+use Rattle.rv_model.specs.declared.commands.command.Refusal.TheVariants.{UnknownCommand}
 use Rattle.rv_model.specs.declared.memory.Permissions.{Permissions}
-use Rattle.rv_model.specs.Arguments.{number, within, decimal_number, address, instruction_address, permissions, byte_string, scalar_register, vector_register, element_width, register_bytes}
-use Rattle.rv_model.specs.Commands.{◌>>=◌, before, next, done, are_pages, any_word, with_text, load_args, asm_args, dis_args, map_args, poke_args, peek_args, set_args, setpc_args, vreg_args, vset_args, step_args, Parsed, or_argument, named, command, parse}
-use Rattle.rv_model.specs.Words.{words, after_two_words}
-use Rattle.rv_model.proofs.LineLaws.{both}
+use Rattle.rv_model.specs.commands.Arguments.{number, within, decimal_number, address, instruction_address, permissions, byte_string, scalar_register, vector_register, element_width, register_bytes}
+use Rattle.rv_model.specs.commands.Grammar.{◌>>=◌, before, next, done, are_pages, any_word, with_text, load_args, asm_args, dis_args, map_args, poke_args, peek_args, set_args, setpc_args, vreg_args, vset_args, step_args, Parsed, or_argument, named, command, parse}
+use Rattle.rv_model.specs.text.Words.{words, after_two_words}
+use Rattle.rv_model.proofs.text_lemmas.Lines.{both}
 use Rattle.vec_monitor.specs.ParsedCommands.{AreInRange}
 
 -- the arguments of a command that there is are in range

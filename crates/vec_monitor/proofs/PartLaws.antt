@@ -2,9 +2,9 @@
 use Rattle.std.proofs.Common.{◌≡◌, ℕ, zero, suc, ◌-◌, ◌<◌, List, [], ◌∷◌, length, get_or, set, refl, ap, ◌∙◌, sym, arith, None, replicate}
 use Rattle.std.proofs.lemmas.List.{set-get_or, get_or-set_same}
 use Rattle.std.specs.FinMap.{empty}
-use Rattle.rv_model.specs.Memory.{Memory}
-use Rattle.rv_model.specs.PrivateMachine.{Private}
-use Rattle.rv_model.specs.Script.{World, new_world, part, with_part}
+use Rattle.rv_model.specs.memory.Memory.{Memory}
+use Rattle.rv_model.specs.machine.PrivateMachine.{Private}
+use Rattle.rv_model.specs.machine.Script.{World, new_world, part, with_part}
 use Rattle.user_mem.specs.Users.{no_memories, memory_of_user, with_memory}
 use Rattle.vec_monitor.specs.declared.context.Context.{Context}
 use Rattle.vec_monitor.specs.Lenders.{later_memory}

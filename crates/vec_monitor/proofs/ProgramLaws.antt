@@ -3,22 +3,22 @@ use Rattle.std.proofs.Common.{◌≡◌, ◌↔◌, ℕ, ◌+◌, ◌*◌, ◌<�
 use Rattle.std.specs.Prelude.{if◌then◌else◌}
 use Rattle.std.proofs.lemmas.Bool.{cases_lt}
 use Rattle.std.specs.Int.{to_le_bytes, w32}
-use Rattle.rv_model.specs.declared.command.Cmd.{Cmd}
-use Rattle.rv_model.specs.declared.command.Cmd.TheVariants.{Load, Asm, Dis}
-use Rattle.rv_model.specs.declared.command.Refusal.{Refusal}
-use Rattle.rv_model.specs.declared.command.Refusal.TheVariants as refusal
-use Rattle.rv_model.specs.declared.elf.ElfFault.{ElfFault}
+use Rattle.rv_model.specs.declared.commands.command.Cmd.{Cmd}
+use Rattle.rv_model.specs.declared.commands.command.Cmd.TheVariants.{Load, Asm, Dis}
+use Rattle.rv_model.specs.declared.commands.command.Refusal.{Refusal}
+use Rattle.rv_model.specs.declared.commands.command.Refusal.TheVariants as refusal
+use Rattle.rv_model.specs.declared.images.ElfFault.{ElfFault}
 use Rattle.rv_model.specs.declared.memory.Access.TheVariants.{Monitor}
 use Rattle.rv_model.specs.declared.memory.MapRefusal.{MapRefusal}
-use Rattle.rv_model.specs.AssemblerTable.{spelled}
-use Rattle.rv_model.specs.ElfFaults.{first_fault}
-use Rattle.rv_model.specs.ElfFields.{entry_of}
-use Rattle.rv_model.specs.Image.{memory_of_image}
-use Rattle.rv_model.specs.Memory.{Memory, bytes_at, can_access, put_bytes, page_count}
-use Rattle.rv_model.specs.PrivateMachine.{Outcome, answers, refuses, refusal_of, own_refusal, carried_out, image_named, image_refusal, load_refusal, loading, assembler_refusal, assembling}
-use Rattle.rv_model.specs.Replies.{refused, loaded_line, asm_line, dis_lines}
-use Rattle.rv_model.specs.Setup.{Image}
-use Rattle.rv_model.specs.Text.{text}
+use Rattle.rv_model.specs.assembler.Table.{spelled}
+use Rattle.rv_model.specs.images.Faults.{first_fault}
+use Rattle.rv_model.specs.images.Fields.{entry_of}
+use Rattle.rv_model.specs.images.Image.{memory_of_image}
+use Rattle.rv_model.specs.memory.Memory.{Memory, bytes_at, can_access, put_bytes, page_count}
+use Rattle.rv_model.specs.machine.PrivateMachine.{Outcome, answers, refuses, refusal_of, own_refusal, carried_out, image_named, image_refusal, load_refusal, loading, assembler_refusal, assembling}
+use Rattle.rv_model.specs.commands.Replies.{refused, loaded_line, asm_line, dis_lines}
+use Rattle.rv_model.specs.machine.Setup.{Image}
+use Rattle.rv_model.specs.text.Lines.{text}
 use Rattle.vec_monitor.specs.declared.context.Context.{Context}
 use Rattle.vec_monitor.specs.CommandOutcomes.{outcome}
 use Rattle.vec_monitor.specs.Parts.{Addresses, loaded_context, present, private_of}

@@ -2,9 +2,9 @@
 use Rattle.std.proofs.Common.{◌≡◌, ℕ, ◌+◌, ◌≤◌, ◌++◌, [], ◌∷◌, List, length, take, drop, ap, ◌∙◌, sym, append_assoc, append-nil, refl, ◌-◌, None, arith}
 use Rattle.std.proofs.lemmas.List.{append_cancel_left, get_or-replicate, length-take-le, take-append-le, take-append-drop, take-take}
 use Rattle.std.proofs.Math.Seq.{take-append-add}
-use Rattle.rv_model.specs.Script.{World, after, after_all, told, told_all, whole_from, after_script, lines, part, own, own_from, new_world}
-use Rattle.rv_model.specs.PrivateMachine.{Private, solo, solo_from}
-use Rattle.rv_model.proofs.Headline.{headline}
+use Rattle.rv_model.specs.machine.Script.{World, after, after_all, told, told_all, whole_from, after_script, lines, part, own, own_from, new_world}
+use Rattle.rv_model.specs.machine.PrivateMachine.{Private, solo, solo_from}
+use Rattle.rv_model.proofs.machine_lemmas.Headline.{headline}
 use Rattle.vec_monitor.specs.MachineState.{MachineState, after_line, line_output}
 use Rattle.vec_monitor.specs.EndedLines.{ended_lines}
 use Rattle.vec_monitor.specs.Feed.{fed}

@@ -1,6 +1,6 @@
 -- Whose a line is, as the code tells it.
 use Rattle.std.specs.Prelude.{ℕ, ◌≤◌, List}
-use Rattle.rv_model.specs.Script.{Kind, Empty, Long, Bad, Operator as OperatorLine, Of}
+use Rattle.rv_model.specs.machine.Script.{Kind, Empty, Long, Bad, Operator as OperatorLine, Of}
 use Rattle.vec_monitor.specs.declared.addressee.Addressee.{Addressee}
 use Rattle.vec_monitor.specs.declared.addressee.Addressee.TheVariants.{Nobody, TooLong, BadPrefix, Operator, User}
 

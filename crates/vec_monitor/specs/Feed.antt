@@ -1,6 +1,6 @@
 -- A script taken byte by byte, as a machine gets it from a source. The contracts of inner functions cite this.
 use Rattle.std.specs.Prelude.{ℕ, List, [], ◌∷◌, ◌++◌, take, if◌then◌else◌}
-use Rattle.rv_model.specs.Text.{is_newline}
+use Rattle.rv_model.specs.text.Lines.{is_newline}
 use Rattle.vec_monitor.specs.MachineState.{MachineState, after_line, line_output}
 
 -- the machine, the line so far (its first 1,025 bytes), and what was put out

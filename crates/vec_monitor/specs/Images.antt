@@ -1,6 +1,6 @@
 -- The images that a machine borrows.
 use Rattle.std.specs.Prelude.{ℕ, List, map}
-use Rattle.rv_model.specs.Setup.{Setup, Image as NamedImage}
+use Rattle.rv_model.specs.machine.Setup.{Setup, Image as NamedImage}
 use Rattle.vec_monitor.specs.declared.image.Image.{Image}
 
 -- a borrowed image by what it holds

@@ -9,7 +9,7 @@ use Rattle.std.proofs.Math.ListN.{get_or-eq_default}
 use Rattle.std.proofs.lemmas.Bool.{cases_lt}
 use Rattle.std.proofs.lemmas.List.{set-set, set-get_or}
 use Rattle.rv_model.specs.declared.memory.Access.{Access}
-use Rattle.rv_model.specs.Memory.{Memory, Cell, permits, is_allowed, can_access, put_bytes}
+use Rattle.rv_model.specs.memory.Memory.{Memory, Cell, permits, is_allowed, can_access, put_bytes}
 use Rattle.user_mem.specs.Users.{memory_of_user, with_memory}
 
 -- a user's memory put back changes nothing

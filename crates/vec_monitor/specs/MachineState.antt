@@ -1,7 +1,7 @@
 -- What a machine stands for: its fixed parameters, and the world of the eight private machines.
 use Rattle.std.specs.Prelude.{ℕ, List}
-use Rattle.rv_model.specs.Setup.{Setup}
-use Rattle.rv_model.specs.Script.{World, after, told}
+use Rattle.rv_model.specs.machine.Setup.{Setup}
+use Rattle.rv_model.specs.machine.Script.{World, after, told}
 
 -- the fixed parameters, and what moves
 pub record MachineState : Type 0 where

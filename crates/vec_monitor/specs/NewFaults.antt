@@ -2,7 +2,7 @@
 use Rattle.std.specs.Prelude.{ℕ, ◌==◌, ◌&&◌, ◌||◌, not, nat_lt, nat_le, Bool, true, List, [], ◌∷◌, length, Option, Some, None, if◌then◌else◌}
 use Rattle.std.specs.List.{list_all, list_any}
 use Rattle.std.specs.Str.{bytes_eq}
-use Rattle.rv_model.specs.Setup.{Setup, Image}
+use Rattle.rv_model.specs.machine.Setup.{Setup, Image}
 use Rattle.vec_monitor.specs.declared.new_fault.NewFault.{NewFault}
 use Rattle.vec_monitor.specs.declared.new_fault.NewFault.TheVariants as fault
 

@@ -1,14 +1,14 @@
 -- What the fields of a machine stand for.
 use Rattle.std.specs.Prelude.{ℕ, ◌-◌, ◌≡◌, length, slice_index_or, slice_set, List, [], ◌∷◌, true, false, if◌then◌else◌, Some, None}
-use Rattle.rv_model.specs.declared.policy.Policy.TheVariants.{Keep}
+use Rattle.rv_model.specs.declared.vector.policy.Policy.TheVariants.{Keep}
 use Rattle.rv_model.specs.declared.scalar.Scalar.{Scalar}
-use Rattle.rv_model.specs.declared.vector_state.Seat.{Seat}
-use Rattle.rv_model.specs.Memory.{Memory}
-use Rattle.rv_model.specs.Step.{HartState}
-use Rattle.rv_model.specs.PrivateMachine.{Private, Present}
-use Rattle.rv_model.specs.Scalar.{initial_scalar, with_register}
-use Rattle.rv_model.specs.VectorState.{initial_vector}
-use Rattle.rv_model.specs.Script.{World}
+use Rattle.rv_model.specs.declared.vector.state.Seat.{Seat}
+use Rattle.rv_model.specs.memory.Memory.{Memory}
+use Rattle.rv_model.specs.step.Step.{HartState}
+use Rattle.rv_model.specs.machine.PrivateMachine.{Private, Present}
+use Rattle.rv_model.specs.scalar.Registers.{initial_scalar, with_register}
+use Rattle.rv_model.specs.vector.State.{initial_vector}
+use Rattle.rv_model.specs.machine.Script.{World}
 use Rattle.vec_monitor.specs.declared.context.Context.{Context}
 
 -- the context of a user who is absent

@@ -1,6 +1,6 @@
 //! Whose a line of a script is.
 ghost use Rattle.std.specs.Prelude.{◌≡◌, length, drop};
-ghost use Rattle.rv_model.specs.Script.{kind_of};
+ghost use Rattle.rv_model.specs.machine.Script.{kind_of};
 ghost use Rattle.vec_monitor.specs.Addressees.{kind_as, HasPrefix};
 
 use rv_model::User;
@@ -22,7 +22,7 @@ pub enum Addressee {
 }
 
 /// Whose a line is. What follows the prefix begins at the third byte.
-#[tactic(auto, using(crate::proofs::PrefixLaws::prefixed_at), unfolding(rv_model::specs::Script::kind_of))]
+#[tactic(auto, using(crate::proofs::PrefixLaws::prefixed_at), unfolding(rv_model::specs::machine::Script::kind_of))]
 pub fn addressee_of(line: &[u8]) -> Addressee
     ensures kind { kind_of line.now ≡ kind_as result (drop 2 line.now) }
     ensures prefix { HasPrefix result (length line.now) }

@@ -1,9 +1,9 @@
 //! A user's commands, carried out on what the machine holds of that user.
 ghost use Rattle.std.specs.Prelude.{◌≡◌, ◌+◌, ◌-◌, ◌<◌, [], Ok, Some, None, true, false, length, List, ℕ};
-ghost use Rattle.rv_model.specs.Memory.{Memory};
-ghost use Rattle.rv_model.specs.PrivateMachine.{commanded};
-ghost use Rattle.rv_model.specs.Setup.{Image as NamedImage};
-ghost use Rattle.rv_model.specs.Text.{text};
+ghost use Rattle.rv_model.specs.memory.Memory.{Memory};
+ghost use Rattle.rv_model.specs.machine.PrivateMachine.{commanded};
+ghost use Rattle.rv_model.specs.machine.Setup.{Image as NamedImage};
+ghost use Rattle.rv_model.specs.text.Lines.{text};
 ghost use Rattle.user_mem.specs.Users.{memory_of_user, with_memory};
 ghost use Rattle.vec_monitor.specs.ParsedCommands.{AreInRange};
 ghost use Rattle.vec_monitor.specs.declared.context.Context.{Context};

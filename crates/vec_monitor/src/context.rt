@@ -45,7 +45,7 @@ impl Context {
 
     /// The context of a user who has loaded an image: the program counter is the image's entry, and
     /// x2 is the stack pointer.
-    #[tactic(auto, unfolding(rv_model::specs::Scalar::initial_scalar))]
+    #[tactic(auto, unfolding(rv_model::specs::scalar::Registers::initial_scalar))]
     pub fn loaded(entry: u64) -> Context
         ensures { result ≡ loaded_context entry }
     {

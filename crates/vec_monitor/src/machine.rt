@@ -1,8 +1,8 @@
 //! The machine of eight users.
 ghost use Rattle.std.specs.Prelude.{◌≡◌, ◌+◌, length, None, IsOk, IfOk, IfSome, IsErrOf, IsOkUnless};
-ghost use Rattle.rv_model.specs.PrivateMachine.{event, Command};
-ghost use Rattle.rv_model.specs.Script.{part, with_part, new_world};
-ghost use Rattle.rv_model.specs.Text.{text};
+ghost use Rattle.rv_model.specs.machine.PrivateMachine.{event, Command};
+ghost use Rattle.rv_model.specs.machine.Script.{part, with_part, new_world};
+ghost use Rattle.rv_model.specs.text.Lines.{text};
 ghost use Rattle.vec_monitor.specs.MachineState.{after_line, line_output};
 ghost use Rattle.vec_monitor.specs.Images.{setup_of};
 ghost use Rattle.vec_monitor.specs.NewFaults.{new_fault};
@@ -26,7 +26,7 @@ pub struct Machine<'a, A: Allocator = Global> {
 
 impl<'a, A: Allocator> Model for Machine<'a, A> {
     ghost use Rattle.std.specs.Coded.{codes};
-    ghost use Rattle.rv_model.specs.Memory.{coded_memory};
+    ghost use Rattle.rv_model.specs.memory.Memory.{coded_memory};
     ghost use Rattle.vec_monitor.specs.Images.{setup_of};
     ghost use Rattle.vec_monitor.specs.MachineState.{MachineState};
 
@@ -65,7 +65,7 @@ impl<'a, A: Allocator> Machine<'a, A> {
 
     /// Carries out one command of a user: the line without the user's digit and the space after it.
     /// Nobody else's machine changes.
-    #[tactic(auto, unfolding(rv_model::specs::PrivateMachine::event))]
+    #[tactic(auto, unfolding(rv_model::specs::machine::PrivateMachine::event))]
     pub fn command(&mut self, user: User, line: &[u8], reply: &mut Reply)
         ensures world { self.new.world
             ≡ with_part user (event self.old.setup (part user self.old.world) (Command line.now)).next self.old.world }
@@ -85,7 +85,7 @@ impl<'a, A: Allocator> Machine<'a, A> {
     }
 
     /// Answers one line of a script.
-    #[tactic(auto, unfolding(rv_model::specs::Script::after, rv_model::specs::Script::told, rv_model::specs::Script::common))]
+    #[tactic(auto, unfolding(rv_model::specs::machine::Script::after, rv_model::specs::machine::Script::told, rv_model::specs::machine::Script::common))]
     pub fn answer(&mut self, line: &[u8], reply: &mut Reply)
         ensures machine { self.new ≡ after_line self.old line.now }
         ensures reply { reply.new ≡ line_output self.old line.now }

@@ -1,8 +1,8 @@
 //! Commands on a user's memory.
 ghost use Rattle.std.specs.Prelude.{◌≡◌, ◌+◌, ◌-◌, ◌*◌, ◌^◌, ◌<◌, ◌≤◌, [], Some, length, List, ℕ};
-ghost use Rattle.rv_model.specs.PrivateMachine.{with_memory_refusal};
-ghost use Rattle.rv_model.specs.Setup.{Image as NamedImage};
-ghost use Rattle.rv_model.specs.Text.{text};
+ghost use Rattle.rv_model.specs.machine.PrivateMachine.{with_memory_refusal};
+ghost use Rattle.rv_model.specs.machine.Setup.{Image as NamedImage};
+ghost use Rattle.rv_model.specs.text.Lines.{text};
 ghost use Rattle.user_mem.specs.Users.{memory_of_user, with_memory};
 ghost use Rattle.vec_monitor.specs.declared.context.Context.{Context};
 ghost use Rattle.vec_monitor.specs.CommandOutcomes.{outcome};

@@ -2,11 +2,11 @@
 ghost use Rattle.std.specs.Prelude.{◌≡◌, ◌+◌, ◌-◌, ◌*◌, ◌<◌, ◌≤◌, [], Some, None, true, length, List, ℕ, MatchOption};
 ghost use Rattle.std.specs.Int.{to_le_bytes, w32};
 ghost use Rattle.rv_model.specs.declared.memory.Access.TheVariants.{Monitor};
-ghost use Rattle.rv_model.specs.ElfFaults.{first_fault};
-ghost use Rattle.rv_model.specs.Memory.{can_access, put_bytes};
-ghost use Rattle.rv_model.specs.PrivateMachine.{image_named as image_named_of};
-ghost use Rattle.rv_model.specs.Setup.{Image as NamedImage};
-ghost use Rattle.rv_model.specs.Text.{text};
+ghost use Rattle.rv_model.specs.images.Faults.{first_fault};
+ghost use Rattle.rv_model.specs.memory.Memory.{can_access, put_bytes};
+ghost use Rattle.rv_model.specs.machine.PrivateMachine.{image_named as image_named_of};
+ghost use Rattle.rv_model.specs.machine.Setup.{Image as NamedImage};
+ghost use Rattle.rv_model.specs.text.Lines.{text};
 ghost use Rattle.user_mem.specs.Users.{memory_of_user, with_memory};
 ghost use Rattle.vec_monitor.specs.declared.context.Context.{Context};
 ghost use Rattle.vec_monitor.specs.CommandOutcomes.{outcome};
@@ -125,7 +125,7 @@ pub fn show_instructions<A: Allocator>(
 }
 
 /// The bytes of the image of a name.
-#[tactic(auto, unfolding(rv_model::specs::PrivateMachine::image_named))]
+#[tactic(auto, unfolding(rv_model::specs::machine::PrivateMachine::image_named))]
 fn image_named<'a>(images: &[Image<'a>], name: &[u8]) -> Option<&'a [u8]>
     ensures { MatchOption result (image_named_of (named_images images.now) name.now ≡ None)
         (λ bytes. image_named_of (named_images images.now) name.now ≡ Some bytes.now) }

@@ -1,8 +1,8 @@
 //! Commands on a user's registers, and those that show how far the program is.
 ghost use Rattle.std.specs.Prelude.{◌≡◌, ◌+◌, [], Some, List, ℕ};
-ghost use Rattle.rv_model.specs.Memory.{Memory};
-ghost use Rattle.rv_model.specs.Setup.{Image as NamedImage};
-ghost use Rattle.rv_model.specs.Text.{text};
+ghost use Rattle.rv_model.specs.memory.Memory.{Memory};
+ghost use Rattle.rv_model.specs.machine.Setup.{Image as NamedImage};
+ghost use Rattle.rv_model.specs.text.Lines.{text};
 ghost use Rattle.vec_monitor.specs.declared.context.Context.{Context};
 ghost use Rattle.vec_monitor.specs.CommandOutcomes.{outcome};
 ghost use Rattle.vec_monitor.specs.Parts.{present};

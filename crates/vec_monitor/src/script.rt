@@ -1,8 +1,8 @@
 //! A whole script.
 ghost use Rattle.std.specs.Prelude.{◌≡◌, ℕ, ◌<◌, ◌≤◌, ◌++◌, [], ◌∷◌, List, Err, length, take, OnOk};
-ghost use Rattle.rv_model.specs.PrivateMachine.{solo, solo_from};
-ghost use Rattle.rv_model.specs.Script.{after, after_all, told, told_all, whole_from, after_script, lines, part, own, own_from, new_world};
-ghost use Rattle.rv_model.specs.Text.{pieces};
+ghost use Rattle.rv_model.specs.machine.PrivateMachine.{solo, solo_from};
+ghost use Rattle.rv_model.specs.machine.Script.{after, after_all, told, told_all, whole_from, after_script, lines, part, own, own_from, new_world};
+ghost use Rattle.rv_model.specs.text.Lines.{pieces};
 ghost use Rattle.vec_monitor.specs.Device.{Rose};
 ghost use Rattle.vec_monitor.specs.EndedLines.{ended_lines};
 

@@ -1,8 +1,8 @@
 //! Instructions of one user.
 ghost use Rattle.std.specs.Prelude.{◌≡◌, ◌≤◌, ◌⊎◌, true, length, []};
-ghost use Rattle.rv_model.specs.PrivateMachine.{stop_of as stop_spec, steps as steps_spec};
-ghost use Rattle.rv_model.specs.Hart.{hart_state};
-ghost use Rattle.rv_model.specs.Step.{step as step_spec};
+ghost use Rattle.rv_model.specs.machine.PrivateMachine.{stop_of as stop_spec, steps as steps_spec};
+ghost use Rattle.rv_model.specs.step.Hart.{hart_state};
+ghost use Rattle.rv_model.specs.step.Step.{step as step_spec};
 ghost use Rattle.user_mem.specs.Users.{memory_of_user, with_memory};
 ghost use Rattle.vec_monitor.specs.Parts.{user_state, present};
 

@@ -1,9 +1,9 @@
 //! What a machine holds of its eight users.
 ghost use Rattle.std.specs.Prelude.{◌≡◌, ◌+◌, [], length, replicate, IfOk};
-ghost use Rattle.rv_model.specs.PrivateMachine.{commanded};
-ghost use Rattle.rv_model.specs.Commands.{parse as parse_spec};
-ghost use Rattle.rv_model.specs.Script.{part, with_part, new_world};
-ghost use Rattle.rv_model.specs.Text.{text};
+ghost use Rattle.rv_model.specs.machine.PrivateMachine.{commanded};
+ghost use Rattle.rv_model.specs.commands.Grammar.{parse as parse_spec};
+ghost use Rattle.rv_model.specs.machine.Script.{part, with_part, new_world};
+ghost use Rattle.rv_model.specs.text.Lines.{text};
 ghost use Rattle.vec_monitor.specs.Images.{named_images};
 ghost use Rattle.vec_monitor.specs.Parts.{new_context};
 
@@ -27,8 +27,8 @@ pub struct Users<A: Allocator> {
 
 impl<A: Allocator> Model for Users<A> {
     ghost use Rattle.std.specs.Coded.{codes};
-    ghost use Rattle.rv_model.specs.Memory.{coded_memory};
-    ghost use Rattle.rv_model.specs.Script.{World};
+    ghost use Rattle.rv_model.specs.memory.Memory.{coded_memory};
+    ghost use Rattle.rv_model.specs.machine.Script.{World};
     ghost use Rattle.vec_monitor.specs.Parts.{world_of, AreEight};
 
     ghost Value = { World };

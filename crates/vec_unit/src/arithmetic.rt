@@ -1,17 +1,17 @@
 //! Arithmetic instructions, once they are known to be legal ("V" Vector Extension 1.0, chapter 11).
 ghost use Rattle.std.specs.Prelude.{◌≡◌, ◌≤◌, IsTrue, List, ℕ};
-ghost use Rattle.rv_model.specs.declared.operations.VectorOp.TheVariants.{Binary};
-ghost use Rattle.rv_model.specs.Hart.{hart_state};
-ghost use Rattle.rv_model.specs.Memory.{Memory};
-ghost use Rattle.rv_model.specs.SourceRegisters.{IsInside, SourceIsInside};
-ghost use Rattle.rv_model.specs.VectorArithmetic.{binary_file, fills_masked_off, fills_tail, group_type};
-ghost use Rattle.rv_model.specs.VectorConfiguration.{lmul_eighths, vlmax};
-ghost use Rattle.rv_model.specs.VectorFormulas.{is_carried_out};
-ghost use Rattle.rv_model.specs.VectorStep.{arith_step, vector_ends};
+ghost use Rattle.rv_model.specs.declared.instructions.operations.VectorOp.TheVariants.{Binary};
+ghost use Rattle.rv_model.specs.step.Hart.{hart_state};
+ghost use Rattle.rv_model.specs.memory.Memory.{Memory};
+ghost use Rattle.rv_model.specs.legality.GroupBounds.{IsInside, SourceIsInside};
+ghost use Rattle.rv_model.specs.elements.Arithmetic.{binary_file, fills_masked_off, fills_tail, group_type};
+ghost use Rattle.rv_model.specs.vector.Configuration.{lmul_eighths, vlmax};
+ghost use Rattle.rv_model.specs.elements.Formulas.{is_carried_out};
+ghost use Rattle.rv_model.specs.step.VectorStep.{arith_step, vector_ends};
 
 use crate::binary_operation::{BinaryOperation, carry_out, policy_fills};
 use reg_groups::{legal, registers};
-use rv_model::operations::{BinaryOp, VectorOp};
+use rv_model::instructions::operations::{BinaryOp, VectorOp};
 use rv_model::{Arith, Instr, Policy, Scalar, Sew, VEnd, VReg, VState, VType};
 
 // Whether an operation is carried out so far.
@@ -25,7 +25,7 @@ fn is_carried_out(op: BinaryOp) -> bool
 }
 
 // Carries out an operation of one width on groups of the vector type.
-#[tactic(auto, using(rv_model::proofs::LegalityBounds::length_fits, rv_model::proofs::LegalityBounds::length_below, rv_model::proofs::LegalityBounds::multiplier_fits))]
+#[tactic(auto, using(rv_model::proofs::legality_lemmas::Bounds::length_fits, rv_model::proofs::legality_lemmas::Bounds::length_below, rv_model::proofs::legality_lemmas::Bounds::multiplier_fits))]
 fn carry_out_typed(
     operation: BinaryOperation,
     vtype: VType,
@@ -59,7 +59,7 @@ fn carry_out_typed(
 }
 
 // Carries out an operation of one width, unless it is illegal; then nothing changes.
-#[tactic(auto, using(rv_model::proofs::LegalityBounds::binary_inside))]
+#[tactic(auto, using(rv_model::proofs::legality_lemmas::Bounds::binary_inside))]
 fn execute_binary(
     instr: &Instr,
     operation: BinaryOperation,

@@ -1,16 +1,16 @@
 //! Operations of one width ("V" Vector Extension 1.0, chapter 11).
 ghost use Rattle.std.specs.Prelude.{◌≡◌, ◌*◌, ◌<◌, ◌≤◌, IsTrue, length};
-ghost use Rattle.rv_model.specs.Elements.{element, is_changed, result_or_ones};
-ghost use Rattle.rv_model.specs.ElementWrites.{Writes};
-ghost use Rattle.rv_model.specs.RegisterGroups.{registers};
-ghost use Rattle.rv_model.specs.SourceRegisters.{IsInside, SourceIsInside};
-ghost use Rattle.rv_model.specs.VectorArithmetic.{binary_file, fills_masked_off, fills_tail};
-ghost use Rattle.rv_model.specs.VectorFormulas.{formula, is_carried_out, ones, wrap};
+ghost use Rattle.rv_model.specs.elements.Elements.{element, is_changed, result_or_ones};
+ghost use Rattle.rv_model.specs.elements.Writes.{Writes};
+ghost use Rattle.rv_model.specs.vector.Groups.{registers};
+ghost use Rattle.rv_model.specs.legality.GroupBounds.{IsInside, SourceIsInside};
+ghost use Rattle.rv_model.specs.elements.Arithmetic.{binary_file, fills_masked_off, fills_tail};
+ghost use Rattle.rv_model.specs.elements.Formulas.{formula, is_carried_out, ones, wrap};
 
 use crate::operands::{GROUP_BYTES, group_elements, mask_register, second_elements};
 use lane_arith::{Lane, binary, fill};
 use reg_groups::{group_mut, registers};
-use rv_model::operations::BinaryOp;
+use rv_model::instructions::operations::BinaryOp;
 use rv_model::{Policy, Scalar, Sew, Source, VReg, VState, VType};
 
 /// An operation of one width, and its operands.

@@ -1,7 +1,7 @@
 //! One vector instruction, carried out.
 ghost use Rattle.std.specs.Prelude.{◌≡◌, IsTrue, List, ℕ};
-ghost use Rattle.rv_model.specs.Hart.{hart_state};
-ghost use Rattle.rv_model.specs.VectorStep.{is_vector, vector_ends, vector_executed};
+ghost use Rattle.rv_model.specs.step.Hart.{hart_state};
+ghost use Rattle.rv_model.specs.step.VectorStep.{is_vector, vector_ends, vector_executed};
 
 use crate::arithmetic::execute_arith;
 use crate::vset::{configure, requested_length};
@@ -10,7 +10,7 @@ use vector_memory::UserBytes;
 
 /// Carries out a vector instruction of a user, of at most `limit` elements where it goes to memory. The
 /// program counter stays on it. Instructions that aren't carried out yet are illegal.
-#[tactic(auto, unfolding(rv_model::specs::VectorStep::vector_executed))]
+#[tactic(auto, unfolding(rv_model::specs::step::VectorStep::vector_executed))]
 pub fn exec<M: UserBytes>(
     instr: &Instr,
     state: &mut VState,

@@ -1,16 +1,16 @@
 //! The operands of element-wise instructions, copied: a destination may overlap them ("V" Vector
 //! Extension 1.0, sections 5.2, 5.3 and 11.1).
 ghost use Rattle.std.specs.Prelude.{◌≡◌, ◌*◌, ◌%◌, ◌^◌, ◌<◌, ◌≤◌, ℕ, length, take};
-ghost use Rattle.rv_model.specs.Elements.{element};
-ghost use Rattle.rv_model.specs.RegisterGroups.{registers};
-ghost use Rattle.rv_model.specs.SourceRegisters.{IsInside, SourceIsInside};
-ghost use Rattle.rv_model.specs.VectorArithmetic.{group_element, mask_register, second_element};
-ghost use Rattle.rv_model.specs.VectorFormulas.{immediate_value};
+ghost use Rattle.rv_model.specs.elements.Elements.{element};
+ghost use Rattle.rv_model.specs.vector.Groups.{registers};
+ghost use Rattle.rv_model.specs.legality.GroupBounds.{IsInside, SourceIsInside};
+ghost use Rattle.rv_model.specs.elements.Arithmetic.{group_element, mask_register, second_element};
+ghost use Rattle.rv_model.specs.elements.Formulas.{immediate_value};
 ghost use mir.Val.{bits};
 
 use lane_arith::{Lane, fill};
 use reg_groups::group;
-use rv_model::operations::BinaryOp;
+use rv_model::instructions::operations::BinaryOp;
 use rv_model::{Field, Scalar, Source, VFile, VReg};
 
 /// The bytes of the largest group.
@@ -80,7 +80,7 @@ fn immediate_value(op: BinaryOp, imm: Field<5>) -> u64
 }
 
 // The low bits of a number, `count` times.
-#[tactic(auto, using(rv_model::proofs::ElementReadLaws::low_bits_fit))]
+#[tactic(auto, using(rv_model::proofs::element_lemmas::Reads::low_bits_fit))]
 fn low_bits<L: Lane>(number: u64, count: usize) -> [u8; GROUP_BYTES]
     requires room { L.size * count ≤ 256 }
     requires count { count ≤ 256 }

@@ -1,6 +1,6 @@
 //! The bytes of one user.
 ghost use Rattle.std.specs.Prelude.{◌≡◌, ◌↔◌, true, length, IsOk, IfErr, OnOk, OnErr};
-ghost use Rattle.rv_model.specs.Memory.{Memory, can_access, bytes_at, put_bytes};
+ghost use Rattle.rv_model.specs.memory.Memory.{Memory, can_access, bytes_at, put_bytes};
 
 use rv_model::{Access, Fault};
 

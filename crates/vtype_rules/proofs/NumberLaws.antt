@@ -2,14 +2,14 @@
 use Rattle.std.proofs.Common.{◌≡◌, ℕ, ◌+◌, ◌*◌, ◌<◌, ◌≤◌, Bool, true, false, cond, refl, arith, ap, ◌∙◌, Option, Some, None}
 use Rattle.std.specs.Prelude.{◌==◌, nat_lt, nat_le, IfSome}
 use Rattle.std.proofs.lemmas.Bool.Decides.{nat_tests}
-use Rattle.rv_model.specs.declared.vector_type.Sew.{Sew}
-use Rattle.rv_model.specs.declared.vector_type.Sew.TheVariants.{E8, E16, E32, E64}
-use Rattle.rv_model.specs.declared.vector_type.Lmul.{Lmul}
-use Rattle.rv_model.specs.declared.vector_type.Lmul.TheVariants.{Mf8, Mf4, Mf2, M1, M2, M4, M8}
-use Rattle.rv_model.specs.declared.vector_type.VType.{VType}
-use Rattle.rv_model.specs.BitFields.{field, flag_bit}
-use Rattle.rv_model.specs.VectorConfiguration.{IsSupported}
-use Rattle.rv_model.specs.VectorTypeRules.{vtype_number, vector_type, sew_number, sew_with_number, lmul_number, lmul_with_number, is_supported, supported_type}
+use Rattle.rv_model.specs.declared.vector.types.Sew.{Sew}
+use Rattle.rv_model.specs.declared.vector.types.Sew.TheVariants.{E8, E16, E32, E64}
+use Rattle.rv_model.specs.declared.vector.types.Lmul.{Lmul}
+use Rattle.rv_model.specs.declared.vector.types.Lmul.TheVariants.{Mf8, Mf4, Mf2, M1, M2, M4, M8}
+use Rattle.rv_model.specs.declared.vector.types.VType.{VType}
+use Rattle.rv_model.specs.instructions.BitFields.{field, flag_bit}
+use Rattle.rv_model.specs.vector.Configuration.{IsSupported}
+use Rattle.rv_model.specs.vector.TypeRules.{vtype_number, vector_type, sew_number, sew_with_number, lmul_number, lmul_with_number, is_supported, supported_type}
 
 sew_again : (sew : Sew) → sew_with_number (sew_number sew) ≡ Some sew
 sew_again E8 = refl

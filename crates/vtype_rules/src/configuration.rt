@@ -1,8 +1,8 @@
 //! The configuration that a request leaves ("V" Vector Extension 1.0, sections 6.1 to 6.3).
 ghost use Rattle.std.specs.Prelude.{◌≡◌, ◌≤◌, min};
-ghost use Rattle.rv_model.specs.VectorConfiguration.{IsSupported};
-ghost use Rattle.rv_model.specs.declared.vector_request.RequestedLength.TheVariants.{Keep};
-ghost use Rattle.rv_model.specs.VectorTypeRules.{requested, with_length};
+ghost use Rattle.rv_model.specs.vector.Configuration.{IsSupported};
+ghost use Rattle.rv_model.specs.declared.vector.request.RequestedLength.TheVariants.{Keep};
+ghost use Rattle.rv_model.specs.vector.TypeRules.{requested, with_length};
 
 use crate::type_numbers::vector_type;
 use rv_model::{RequestedLength, VConf, VType, VectorRequest};
@@ -31,7 +31,7 @@ fn kept(old: &VConf, vtype: VType) -> VConf
 
 /// The length and type that a request leaves; `vill` where it isn't supported, or where the old length
 /// can't be kept.
-#[tactic(auto, unfolding(rv_model::specs::VectorTypeRules::requested))]
+#[tactic(auto, unfolding(rv_model::specs::vector::TypeRules::requested))]
 pub fn set(old: &VConf, request: VectorRequest) -> VConf
     ensures { result ≡ requested old.now request }
 {

@@ -1,8 +1,8 @@
 //! The numbers of vector types, as `vtype` holds them ("V" Vector Extension 1.0, section 3.4).
 ghost use Rattle.std.specs.Prelude.{◌≡◌, ◌<◌, ◌^◌, IfSome, Some};
-ghost use Rattle.rv_model.specs.BitFields.{field};
-ghost use Rattle.rv_model.specs.VectorConfiguration.{IsSupported};
-ghost use Rattle.rv_model.specs.VectorTypeRules.{lmul_number, lmul_with_number, sew_number, sew_with_number, vector_type, vtype_number};
+ghost use Rattle.rv_model.specs.instructions.BitFields.{field};
+ghost use Rattle.rv_model.specs.vector.Configuration.{IsSupported};
+ghost use Rattle.rv_model.specs.vector.TypeRules.{lmul_number, lmul_with_number, sew_number, sew_with_number, vector_type, vtype_number};
 
 use rv_model::{Lmul, Sew, VType};
 

@@ -1,6 +1,6 @@
 use Rattle.std.proofs.Common.{ℕ, ◌+◌, Option, ◌<◌, ◌^◌, IfSome, sym, subst, arith}
-use Rattle.rv_model.specs.declared.elf.ProgramHeader.{ProgramHeader}
-use Rattle.rv_model.specs.Image.{touches, is_touched}
+use Rattle.rv_model.specs.declared.images.ProgramHeader.{ProgramHeader}
+use Rattle.rv_model.specs.images.Image.{touches, is_touched}
 use Rattle.elf_load.specs.Pages.{IsFirstIfAny, EndsInMemory, first_placed}
 use Rattle.elf_load.proofs.FaultLaws.{sound_headers}
 use Rattle.elf_load.proofs.PageLaws.{next_stack, next_more, next_all, earlier_below, stack_ends, header_ends}

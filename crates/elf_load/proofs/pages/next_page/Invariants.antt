@@ -1,5 +1,5 @@
 use Rattle.std.proofs.Common.{◌<◌, ◌^◌, IfSome}
-use Rattle.rv_model.specs.Image.{is_touched}
+use Rattle.rv_model.specs.images.Image.{is_touched}
 use Rattle.elf_load.specs.Pages.{IsFirstIfAny, first_placed}
 use Rattle.elf_load.proofs.pages.next_page.Given as goal
 

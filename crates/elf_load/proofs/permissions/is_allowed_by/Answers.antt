@@ -1,6 +1,6 @@
 use Rattle.std.proofs.Common.{◌∙◌, sym, ap, subst, Bool, ◌||◌, arith}
-use Rattle.rv_model.specs.declared.elf.ProgramHeader.{ProgramHeader}
-use Rattle.rv_model.specs.ElfFields.{program_header}
+use Rattle.rv_model.specs.declared.images.ProgramHeader.{ProgramHeader}
+use Rattle.rv_model.specs.images.Fields.{program_header}
 use Rattle.elf_load.specs.Pages.{EndsInMemory, allows}
 use Rattle.elf_load.proofs.FaultLaws.{sound_headers}
 use Rattle.elf_load.proofs.HeaderLaws.{any_none, any_more}

@@ -1,5 +1,5 @@
 use Rattle.std.proofs.Common.{◌-◌, ◌≡◌, ◌≤◌, replicate}
-use Rattle.rv_model.specs.Memory.{put_bytes}
+use Rattle.rv_model.specs.memory.Memory.{put_bytes}
 use Rattle.user_mem.specs.Users.{memory_of_user, with_memory}
 use Rattle.elf_load.proofs.placing.clear_mapped.Given as goal
 

@@ -1,5 +1,5 @@
 use Rattle.std.proofs.Common.{◌≡◌, take}
-use Rattle.rv_model.specs.Memory.{put_bytes}
+use Rattle.rv_model.specs.memory.Memory.{put_bytes}
 use Rattle.hart.specs.FlatMemory.{flat_memory}
 use Rattle.hart.proofs.tests.copy_in.Given as goal
 

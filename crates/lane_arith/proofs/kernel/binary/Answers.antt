@@ -1,7 +1,7 @@
 use Rattle.std.proofs.Common.{◌*◌, ◌+◌, ◌≤◌, length, sym, ap, ◌∙◌}
 use Rattle.std.specs.Int.{bytes_low_first}
 use lib.Lanes.{put_chunk}
-use Rattle.rv_model.proofs.ElementSetLaws.{step_result, step_ones, step_off, body_ends, room_for}
+use Rattle.rv_model.proofs.element_lemmas.Sets.{step_result, step_ones, step_off, body_ends, room_for}
 use Rattle.lane_arith.proofs.kernel.binary.Goals as goal
 use Rattle.lane_arith.proofs.kernel.binary.Goals.{then-is_let, else-is_let+then-masked, else-is_let+else-masked}
 

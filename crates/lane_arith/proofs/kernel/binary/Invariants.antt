@@ -1,8 +1,8 @@
 use Rattle.std.proofs.Common.{nat_lt, false}
 use mathlib.Core.Bool.{◌&&◌}
-use Rattle.rv_model.specs.Elements.{element, is_changed, result_or_ones}
-use Rattle.rv_model.specs.ElementWrites.{Writes}
-use Rattle.rv_model.specs.VectorFormulas.{formula, ones, wrap}
+use Rattle.rv_model.specs.elements.Elements.{element, is_changed, result_or_ones}
+use Rattle.rv_model.specs.elements.Writes.{Writes}
+use Rattle.rv_model.specs.elements.Formulas.{formula, ones, wrap}
 use Rattle.lane_arith.proofs.kernel.binary.Given as goal
 
 abbrev pub invariant-loop-i : goal.invariant-loop-i

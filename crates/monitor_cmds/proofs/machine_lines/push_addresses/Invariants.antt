@@ -1,6 +1,6 @@
 use Rattle.std.proofs.Common.{◌≡◌, ◌++◌, ◌+◌, ◌*◌, length, drop}
 use Rattle.std.specs.Prelude.{flat_map}
-use Rattle.rv_model.specs.Replies.{traced}
+use Rattle.rv_model.specs.commands.Replies.{traced}
 use Rattle.monitor_cmds.proofs.machine_lines.push_addresses.Given as goal
 
 abbrev pub invariant-loop-addr : goal.invariant-loop-addr

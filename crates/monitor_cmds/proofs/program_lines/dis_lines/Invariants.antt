@@ -1,6 +1,6 @@
 use Rattle.std.proofs.Common.{◌≡◌, ◌++◌, ◌+◌, ◌*◌, ◌≤◌, length}
-use Rattle.rv_model.specs.Replies.{dis_lines}
-use Rattle.rv_model.specs.Text.{text}
+use Rattle.rv_model.specs.commands.Replies.{dis_lines}
+use Rattle.rv_model.specs.text.Lines.{text}
 use Rattle.monitor_cmds.specs.Tag.{tag_byte}
 use Rattle.monitor_cmds.proofs.program_lines.dis_lines.Given as goal
 

@@ -1,6 +1,6 @@
 use Rattle.std.proofs.Common.{◌≡◌, ◌++◌, ◌+◌, ◌-◌, ◌*◌, ◌≤◌, length}
-use Rattle.rv_model.specs.Replies.{register_lines, regs_lines}
-use Rattle.rv_model.specs.Text.{text}
+use Rattle.rv_model.specs.commands.Replies.{register_lines, regs_lines}
+use Rattle.rv_model.specs.text.Lines.{text}
 use Rattle.monitor_cmds.specs.Tag.{tag_byte}
 use Rattle.monitor_cmds.proofs.register_lines.registers.Given as goal
 

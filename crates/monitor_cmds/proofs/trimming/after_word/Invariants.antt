@@ -1,6 +1,6 @@
 use Rattle.std.proofs.Common.{◌≡◌, length}
 use Rattle.std.specs.Prelude.{not}
-use Rattle.rv_model.specs.Words.{is_space, skip_while, after_word}
+use Rattle.rv_model.specs.text.Words.{is_space, skip_while, after_word}
 use Rattle.monitor_cmds.proofs.trimming.after_word.Given as goal
 
 abbrev pub invariant-loop-rest : goal.invariant-loop-rest

@@ -1,5 +1,5 @@
 use Rattle.std.proofs.Common.{◌≡◌, length}
-use Rattle.rv_model.specs.Words.{is_space, skip_while}
+use Rattle.rv_model.specs.text.Words.{is_space, skip_while}
 use Rattle.monitor_cmds.proofs.trimming.trim_start.Given as goal
 
 abbrev pub invariant-loop-line : goal.invariant-loop-line

@@ -1,6 +1,6 @@
 use Rattle.std.proofs.Common.{◌≡◌, ℕ, ◌++◌, ◌/◌, ◌<◌, ap, ◌∙◌, subst, arith}
-use Rattle.rv_model.specs.Replies.{element_text}
-use Rattle.rv_model.specs.VectorConfiguration.{sew_bits}
+use Rattle.rv_model.specs.commands.Replies.{element_text}
+use Rattle.rv_model.specs.vector.Configuration.{sew_bits}
 use Rattle.monitor_cmds.proofs.PieceLaws.{next_number, element_count}
 use Rattle.monitor_cmds.proofs.vector_lines.push_elements.Goals as goal
 

@@ -1,5 +1,5 @@
 use Rattle.std.proofs.Common.{length, ◌≡◌}
-use Rattle.rv_model.specs.Words.{words}
+use Rattle.rv_model.specs.text.Words.{words}
 use Rattle.monitor_cmds.proofs.words.first_word.Given as goal
 
 abbrev pub invariant-loop-rest : goal.invariant-loop-rest

@@ -1,6 +1,6 @@
 use Rattle.std.proofs.Common.{◌+◌, length, sym}
 use Rattle.std.proofs.lemmas.Result.{err_from_is_err_and}
-use Rattle.rv_model.specs.AssemblerTable.{read_operands, spelled}
+use Rattle.rv_model.specs.assembler.Table.{read_operands, spelled}
 use Rattle.rv_asm.specs.Places.{rest}
 use Rattle.rv_asm.proofs.Assembling.{spelled_nothing, spelled_unknown, spelled_known, answers_ok, answers_err}
 use Rattle.rv_asm.proofs.assembler.assemble.Goals as goal

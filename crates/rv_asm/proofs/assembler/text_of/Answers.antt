@@ -1,7 +1,7 @@
 use Rattle.std.proofs.Common.{ℕ, List, ap, sym, subst, ◌∙◌}
-use Rattle.rv_model.specs.AssemblerTable.{spelled}
+use Rattle.rv_model.specs.assembler.Table.{spelled}
 use Rattle.rv_asm.proofs.Assembling.{canonical_parts}
-use Rattle.rv_model.specs.AssemblerNaming.{IsNamed}
+use Rattle.rv_model.specs.assembler.Naming.{IsNamed}
 use Rattle.rv_asm.proofs.WordLaws.{word_again}
 use Rattle.rv_asm.proofs.NamedWords.{is_named, is_directive}
 use Rattle.rv_asm.proofs.assembler.text_of.Goals as goal

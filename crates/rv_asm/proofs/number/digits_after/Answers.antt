@@ -1,5 +1,5 @@
 use Rattle.std.proofs.Common.{arith, ap, ◌∙◌, ℕ, min, ◌+◌, ◌*◌, ◌^◌}
-use Rattle.rv_model.specs.AssemblerNumbers.{digits_after}
+use Rattle.rv_model.specs.assembler.Numbers.{digits_after}
 use Rattle.rv_asm.specs.Counter.{capped}
 use Rattle.rv_asm.proofs.Numbers.{digit_more, digit_stops, digits_end}
 use Rattle.rv_asm.proofs.number.digits_after.Goals as goal

@@ -1,5 +1,5 @@
 use Rattle.std.proofs.Common.{◌≡◌, ◌≤◌, ◌^◌, drop}
-use Rattle.rv_model.specs.AssemblerNumbers.{digits_after}
+use Rattle.rv_model.specs.assembler.Numbers.{digits_after}
 use Rattle.rv_asm.specs.Counter.{capped}
 use Rattle.rv_asm.proofs.number.digits_after.Given as goal
 

@@ -1,9 +1,9 @@
 use Rattle.std.proofs.Common.{◌+◌, ◌++◌, List, ℕ, drop, get_or, sym, ap, ◌∙◌, append_assoc, arith}
 use Rattle.std.proofs.lemmas.List.{append-nil}
-use Rattle.rv_model.specs.declared.assembler.Slot.TheVariants.{Comma}
-use Rattle.rv_model.specs.AssemblerSlots.{printed}
-use Rattle.rv_model.specs.AssemblerFields.{value_of}
-use Rattle.rv_model.specs.AssemblerTable.{printed_operands}
+use Rattle.rv_model.specs.declared.assembler.forms.Slot.TheVariants.{Comma}
+use Rattle.rv_model.specs.assembler.Slots.{printed}
+use Rattle.rv_model.specs.assembler.Fields.{value_of}
+use Rattle.rv_model.specs.assembler.Table.{printed_operands}
 use Rattle.rv_asm.proofs.Loop.{printed_more, printed_end}
 use Rattle.rv_asm.proofs.operands.put_operands.Goals as goal
 

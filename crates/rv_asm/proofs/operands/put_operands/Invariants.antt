@@ -1,5 +1,5 @@
 use Rattle.std.proofs.Common.{◌≡◌, ◌≤◌, ◌+◌, ◌*◌, ◌++◌, length, drop}
-use Rattle.rv_model.specs.AssemblerTable.{printed_operands}
+use Rattle.rv_model.specs.assembler.Table.{printed_operands}
 use Rattle.rv_asm.proofs.operands.put_operands.Given as goal
 
 abbrev pub invariant-loop-slot : goal.invariant-loop-slot

@@ -1,7 +1,7 @@
 use Rattle.std.proofs.Common.{◌+◌, length, get_or, refl, arith}
 use Rattle.std.proofs.lemmas.Result.{err_from_is_err_and}
-use Rattle.rv_model.specs.declared.assembler.Slot.TheVariants.{Comma}
-use Rattle.rv_model.specs.AssemblerTable.{read_operands}
+use Rattle.rv_model.specs.declared.assembler.forms.Slot.TheVariants.{Comma}
+use Rattle.rv_model.specs.assembler.Table.{read_operands}
 use Rattle.rv_asm.specs.Places.{rest}
 use Rattle.rv_asm.proofs.Loop.{goes_on, stops, is_left, is_done, spans_more}
 use Rattle.rv_asm.proofs.operands.read_operands.Goals as goal

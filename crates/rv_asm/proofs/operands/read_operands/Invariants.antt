@@ -1,5 +1,5 @@
 use Rattle.std.proofs.Common.{◌≡◌, ◌≤◌, ◌<◌, ◌^◌, ◌+◌, length, drop}
-use Rattle.rv_model.specs.AssemblerTable.{read_operands}
+use Rattle.rv_model.specs.assembler.Table.{read_operands}
 use Rattle.rv_asm.specs.Places.{rest}
 use Rattle.rv_asm.specs.Spans.{spans}
 use Rattle.rv_asm.proofs.operands.read_operands.Given as goal

@@ -1,5 +1,5 @@
 use Rattle.std.proofs.Common.{◌≡◌, ◌≤◌, ◌+◌, ◌++◌, length, drop}
-use Rattle.rv_model.specs.AssemblerTable.{unpadded}
+use Rattle.rv_model.specs.assembler.Table.{unpadded}
 use Rattle.rv_asm.proofs.print.put_name.Given as goal
 
 abbrev pub invariant-loop-byte : goal.invariant-loop-byte

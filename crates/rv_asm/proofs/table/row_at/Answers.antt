@@ -1,5 +1,5 @@
 use Rattle.std.proofs.Common.{refl}
-use Rattle.rv_model.specs.AssemblerTable.{row_at, slots_at, bits_at}
+use Rattle.rv_model.specs.assembler.Table.{row_at, slots_at, bits_at}
 use Rattle.rv_asm.proofs.RowLaws.{row_facts, ascii_at}
 use Rattle.rv_asm.proofs.table.row_at.Goals as goal
 

@@ -2,8 +2,8 @@ use Rattle.std.proofs.Common.{ℕ, length, sym, ap, ◌∙◌, ltb, List, None}
 use Rattle.std.specs.Prelude.{position}
 use Rattle.std.specs.Str.{bytes_eq}
 use Rattle.std.proofs.lemmas.Bool.{cond-false, le-ltb}
-use Rattle.rv_model.specs.declared.mnemonics.TheConstants.{MNEMONICS}
-use Rattle.rv_model.specs.AssemblerTable.{row_named, padded}
+use Rattle.rv_model.specs.declared.assembler.mnemonics.TheConstants.{MNEMONICS}
+use Rattle.rv_model.specs.assembler.Table.{row_named, padded}
 use Rattle.rv_asm.proofs.table.row_named.Goals as goal
 
 pub returns-clause-first : goal.returns-clause-first

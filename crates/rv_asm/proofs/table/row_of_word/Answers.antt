@@ -1,5 +1,5 @@
 use Rattle.std.proofs.Common.{◌∙◌, ap, unwrap_or, Option, ℕ}
-use Rattle.rv_model.specs.AssemblerTable.{row_of_word}
+use Rattle.rv_model.specs.assembler.Table.{row_of_word}
 use Rattle.rv_asm.proofs.table.row_of_word.Goals as goal
 
 pub returns-clause-first : goal.returns-clause-first

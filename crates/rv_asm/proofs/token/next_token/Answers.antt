@@ -1,7 +1,7 @@
 use Rattle.std.proofs.Common.{◌≡◌, ◌+◌, sym, ◌∙◌, arith, inl, inr}
 use Rattle.std.proofs.lemmas.Bool.{cases_Bool, false_from_ne_true, true≢false}
 use Rattle.std.proofs.Common.{get_or}
-use Rattle.rv_model.specs.AssemblerTokens.{in_run}
+use Rattle.rv_model.specs.assembler.Tokens.{in_run}
 use Rattle.rv_asm.proofs.Tokens.{takes_run, takes_single, takes_none}
 use Rattle.rv_asm.proofs.token.next_token.Goals as goal
 

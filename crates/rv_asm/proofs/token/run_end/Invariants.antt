@@ -1,5 +1,5 @@
 use Rattle.std.proofs.Common.{length, ◌-◌, ◌≡◌, ◌<◌, ◌≤◌, ℕ, true, get_or}
-use Rattle.rv_model.specs.AssemblerTokens.{in_run}
+use Rattle.rv_model.specs.assembler.Tokens.{in_run}
 use Rattle.rv_asm.proofs.token.run_end.Given as goal
 
 abbrev pub invariant-loop-end : goal.invariant-loop-end

@@ -1,6 +1,6 @@
 use Rattle.std.proofs.Common.{arith}
-use Rattle.rv_model.proofs.InstructionLaws.{found_row, no_row}
-use Rattle.rv_model.proofs.InstructionRoundTrips.{decoded}
+use Rattle.rv_model.proofs.instruction_lemmas.Scans.{found_row, no_row}
+use Rattle.rv_model.proofs.instruction_lemmas.RoundTrips.{decoded}
 use Rattle.rv_decode.proofs.decoder.decode.Goals as goal
 
 pub returns-clause-word : goal.returns-clause-word

@@ -1,4 +1,4 @@
-use Rattle.rv_model.proofs.MemoryLaws.{writes_bytes, is_allowed-put_bytes, maps_zeros, maps_permissions, reads_bytes, allows_each_byte}
+use Rattle.rv_model.proofs.memory_lemmas.Memory.{writes_bytes, is_allowed-put_bytes, maps_zeros, maps_permissions, reads_bytes, allows_each_byte}
 use Rattle.rv_model.proofs.memory.memory_laws.Goals as goal
 
 pub returns : goal.returns

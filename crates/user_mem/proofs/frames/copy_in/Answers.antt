@@ -1,7 +1,7 @@
 use Rattle.std.proofs.Common.{ℕ, ◌≡◌, ◌≤◌, ◌+◌, ◌-◌, ◌%◌, ◌∙◌, sym, refl, ap, take, drop, arith, true, length}
 use Rattle.rv_model.specs.declared.memory.Access.TheVariants.{Monitor}
-use Rattle.rv_model.specs.Memory.{Memory, is_allowed, put_bytes}
-use Rattle.rv_model.proofs.MemoryLaws.{can_access-at, is_allowed-put_bytes}
+use Rattle.rv_model.specs.memory.Memory.{Memory, is_allowed, put_bytes}
+use Rattle.rv_model.proofs.memory_lemmas.Memory.{can_access-at, is_allowed-put_bytes}
 use Rattle.user_mem.specs.Table.{memory_of}
 use Rattle.user_mem.proofs.TableLaws.{access_below}
 use Rattle.user_mem.proofs.RunLaws.{part_length, part_is, run_written, others_unwritten, put_bytes_run}

@@ -1,5 +1,5 @@
 use Rattle.std.proofs.Common.{◌≡◌, ◌≤◌, ◌-◌, List, take, length}
-use Rattle.rv_model.specs.Memory.{put_bytes}
+use Rattle.rv_model.specs.memory.Memory.{put_bytes}
 use Rattle.user_mem.specs.declared.entry.Entry.{Entry}
 use Rattle.user_mem.specs.Table.{memory_of, AreApart}
 use Rattle.user_mem.proofs.frames.copy_in.Given as goal

@@ -1,6 +1,6 @@
 use Rattle.std.proofs.Common.{◌≤◌, ◌+◌, ◌-◌, ◌%◌, ◌∙◌, refl, arith, length, take, drop}
 use Rattle.rv_model.specs.declared.memory.Access.TheVariants.{Monitor}
-use Rattle.rv_model.proofs.MemoryLaws.{can_access-at, bytes_read}
+use Rattle.rv_model.proofs.memory_lemmas.Memory.{can_access-at, bytes_read}
 use Rattle.user_mem.specs.Table.{memory_of}
 use Rattle.user_mem.proofs.TableLaws.{access_below}
 use Rattle.user_mem.proofs.RunLaws.{part_length, part_at, read_more}

@@ -1,5 +1,5 @@
 use Rattle.std.proofs.Common.{◌≡◌, ℕ, ◌<◌, ◌≤◌, ◌+◌, ◌-◌, get_or, length}
-use Rattle.rv_model.specs.Memory.{byte_at}
+use Rattle.rv_model.specs.memory.Memory.{byte_at}
 use Rattle.user_mem.specs.Table.{memory_of}
 use Rattle.user_mem.proofs.frames.copy_out.Given as goal
 

@@ -1,7 +1,7 @@
 use Rattle.std.proofs.Common.{◌+◌, ◌∙◌, refl, ap, arith, length}
-use Rattle.rv_model.specs.Memory.{Memory, with_pages}
+use Rattle.rv_model.specs.memory.Memory.{Memory, with_pages}
 use Rattle.user_mem.specs.Table.{memory_of}
-use Rattle.rv_model.proofs.MemoryLaws.{with_pages_more, with_pages_none}
+use Rattle.rv_model.proofs.memory_lemmas.Memory.{with_pages_more, with_pages_none}
 use Rattle.user_mem.proofs.CountLaws.{AreMine-fewer}
 use Rattle.user_mem.proofs.free.take_pages.Goals as goal
 

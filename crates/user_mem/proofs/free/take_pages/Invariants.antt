@@ -1,5 +1,5 @@
 use Rattle.std.proofs.Common.{◌≡◌, ℕ, ◌<◌, ◌≤◌, ◌+◌, List, None, length}
-use Rattle.rv_model.specs.Memory.{with_pages}
+use Rattle.rv_model.specs.memory.Memory.{with_pages}
 use Rattle.user_mem.specs.declared.entry.Entry.{Entry}
 use Rattle.user_mem.specs.Table.{entry_at, memory_of, IsSorted, AreBelow}
 use Rattle.user_mem.specs.Frames.{uses, uses_of, AreMine}

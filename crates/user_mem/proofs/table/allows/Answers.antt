@@ -1,6 +1,6 @@
 use Rattle.std.proofs.Common.{◌≡◌, ◌≤◌, ◌+◌, ◌^◌, false, sym, ◌∙◌, refl, arith}
-use Rattle.rv_model.specs.Memory.{is_allowed}
-use Rattle.rv_model.proofs.MemoryLaws.{can_access_not, can_access_from}
+use Rattle.rv_model.specs.memory.Memory.{is_allowed}
+use Rattle.rv_model.proofs.memory_lemmas.Memory.{can_access_not, can_access_from}
 use Rattle.user_mem.specs.Table.{memory_of}
 use Rattle.user_mem.proofs.TableLaws.{not_allowed_beyond}
 use Rattle.user_mem.proofs.RunLaws.{allowed_more}

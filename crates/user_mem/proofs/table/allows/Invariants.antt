@@ -1,5 +1,5 @@
 use Rattle.std.proofs.Common.{◌≡◌, ℕ, ◌<◌, ◌≤◌, ◌+◌, ◌-◌, List, true}
-use Rattle.rv_model.specs.Memory.{is_allowed}
+use Rattle.rv_model.specs.memory.Memory.{is_allowed}
 use Rattle.user_mem.specs.Table.{memory_of}
 use Rattle.user_mem.proofs.table.allows.Given as goal
 

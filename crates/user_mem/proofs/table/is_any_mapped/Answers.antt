@@ -1,6 +1,6 @@
 use Rattle.std.proofs.Common.{◌+◌, ◌∙◌, sym, ap, arith}
 use Rattle.std.specs.Prelude.{is_some}
-use Rattle.rv_model.proofs.MemoryLaws.{any_page_mapped_at, any_page_mapped_none}
+use Rattle.rv_model.proofs.memory_lemmas.Memory.{any_page_mapped_at, any_page_mapped_none}
 use Rattle.user_mem.specs.Table.{memory_of}
 use Rattle.user_mem.proofs.PageLaws.{contains_key-memory_of}
 use Rattle.user_mem.proofs.table.is_any_mapped.Goals as goal

@@ -1,5 +1,5 @@
 use Rattle.std.proofs.Common.{◌∙◌, sym, arith}
-use Rattle.rv_model.proofs.MemoryLaws.{map_refusal_quota, map_refusal_mapped, map_refusal_none}
+use Rattle.rv_model.proofs.memory_lemmas.Memory.{map_refusal_quota, map_refusal_mapped, map_refusal_none}
 use Rattle.user_mem.specs.Table.{memory_of}
 use Rattle.user_mem.proofs.PageLaws.{page_count-memory_of}
 use Rattle.user_mem.proofs.table.refusal.Goals as goal

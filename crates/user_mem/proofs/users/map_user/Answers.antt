@@ -1,6 +1,6 @@
 use Rattle.std.proofs.Common.{◌+◌, ◌∙◌, sym, ap, arith, length, map, List, []}
 use Rattle.std.proofs.lemmas.List.{map-set}
-use Rattle.rv_model.specs.Memory.{with_pages}
+use Rattle.rv_model.specs.memory.Memory.{with_pages}
 use Rattle.user_mem.specs.declared.entry.Entry.{Entry}
 use Rattle.user_mem.specs.Table.{memory_of}
 use Rattle.user_mem.specs.Frames.{uses, uses_of}

@@ -1,6 +1,6 @@
 use Rattle.std.proofs.Common.{◌∙◌, sym, ap, arith, map, List, []}
 use Rattle.std.proofs.lemmas.List.{set-get_or}
-use Rattle.rv_model.specs.Memory.{put_bytes}
+use Rattle.rv_model.specs.memory.Memory.{put_bytes}
 use Rattle.user_mem.specs.declared.entry.Entry.{Entry}
 use Rattle.user_mem.specs.Table.{memory_of}
 use Rattle.user_mem.specs.Pool.{table_at, memories_of}

@@ -1,7 +1,7 @@
 use Rattle.std.proofs.Common.{◌≡◌, ◌+◌, ◌++◌, ◌∷◌, [], ℕ, List, ap, ◌∙◌, sym}
-use Rattle.rv_model.specs.PrivateMachine.{Outcome}
-use Rattle.rv_model.specs.Replies.{step_line}
-use Rattle.rv_model.specs.Text.{text}
+use Rattle.rv_model.specs.machine.PrivateMachine.{Outcome}
+use Rattle.rv_model.specs.commands.Replies.{step_line}
+use Rattle.rv_model.specs.text.Lines.{text}
 use Rattle.user_mem.specs.Users.{memory_of_user}
 use Rattle.vec_monitor.proofs.CommandLaws.{step_outcome}
 use Rattle.vec_monitor.proofs.commands.step.Goals as goal

@@ -1,7 +1,7 @@
 use Rattle.std.proofs.Common.{◌≡◌, List, Err, ap, ◌∙◌}
-use Rattle.rv_model.specs.declared.command.Refusal.TheVariants as refusal
-use Rattle.rv_model.specs.Image.{memory_of_image}
-use Rattle.rv_model.specs.Memory.{Memory, page_count}
+use Rattle.rv_model.specs.declared.commands.command.Refusal.TheVariants as refusal
+use Rattle.rv_model.specs.images.Image.{memory_of_image}
+use Rattle.rv_model.specs.memory.Memory.{Memory, page_count}
 use Rattle.user_mem.specs.Users.{memory_of_user}
 use Rattle.vec_monitor.specs.Lenders.{memory_there}
 use Rattle.vec_monitor.proofs.ProgramLaws.{few_pages, placed_next, placed_reply, load_too_large, refused_next, refused_reply}

@@ -1,7 +1,7 @@
 use Rattle.std.proofs.Common.{◌≡◌, ℕ, ◌+◌, ◌-◌, ◌<◌, ◌≤◌, ◌++◌, [], List, length, take, drop, refl, ap, ◌∙◌, sym, arith, length-append, length-take-le}
 use Rattle.vec_monitor.specs.MachineState.{MachineState}
 use Rattle.vec_monitor.specs.Feed.{Fed, fed}
-use Rattle.rv_model.specs.Text.{pieces}
+use Rattle.rv_model.specs.text.Lines.{pieces}
 use Rattle.vec_monitor.proofs.Feeding.{InTwo, goes_on}
 use Rattle.vec_monitor.proofs.Runs.{first_bytes, taken_bytes, read_front, machine_goes_on, line_goes_on, output_goes_on, all_read, machine_ends, output_ends, world_before_end, output_before_end, taken_of, world_at_cut, output_at_cut, script_at_cut, headline_of, new_headline_of}
 use Rattle.vec_monitor.proofs.script.run.Goals as goal

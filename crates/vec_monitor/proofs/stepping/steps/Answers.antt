@@ -1,5 +1,5 @@
 use Rattle.std.proofs.Common.{◌≡◌, ℕ, suc, ◌+◌, ◌-◌, List, true, ap, ◌∙◌, sym, arith}
-use Rattle.rv_model.specs.PrivateMachine.{steps, Halted}
+use Rattle.rv_model.specs.machine.PrivateMachine.{steps, Halted}
 use Rattle.user_mem.specs.Users.{memory_of_user}
 use Rattle.vec_monitor.specs.declared.context.Context.{Context}
 use Rattle.vec_monitor.specs.Parts.{present}

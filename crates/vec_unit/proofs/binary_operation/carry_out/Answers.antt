@@ -1,6 +1,6 @@
 use Rattle.std.proofs.Common.{◌≡◌, ap, arith, ◌∙◌}
-use Rattle.rv_model.specs.declared.vector_state.VState.{VState}
-use Rattle.rv_model.proofs.VectorArithmeticLaws.{binary_file_is}
+use Rattle.rv_model.specs.declared.vector.state.VState.{VState}
+use Rattle.rv_model.proofs.element_lemmas.Arithmetic.{binary_file_is}
 use Rattle.vec_unit.proofs.binary_operation.carry_out.Goals as goal
 
 pub returns : goal.returns

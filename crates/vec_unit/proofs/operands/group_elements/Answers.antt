@@ -1,8 +1,8 @@
 use Rattle.std.proofs.Common.{ℕ, ◌*◌, ◌+◌, ◌≤◌, ◌≡◌, take, ap, sym, ◌∙◌}
-use Rattle.rv_model.specs.Elements.{element}
-use Rattle.rv_model.specs.RegisterGroups.{group_of, registers}
-use Rattle.rv_model.proofs.ElementReadLaws.{element-take}
-use Rattle.rv_model.proofs.ElementSetLaws.{room_for}
+use Rattle.rv_model.specs.elements.Elements.{element}
+use Rattle.rv_model.specs.vector.Groups.{group_of, registers}
+use Rattle.rv_model.proofs.element_lemmas.Reads.{element-take}
+use Rattle.rv_model.proofs.element_lemmas.Sets.{room_for}
 use Rattle.vec_unit.proofs.operands.group_elements.Goals as goal
 
 pub returns : goal.returns

@@ -1,7 +1,7 @@
 use Rattle.std.proofs.Common.{ℕ, ◌*◌, ◌+◌, ◌≤◌, arith}
-use Rattle.rv_model.specs.Elements.{in_body}
-use Rattle.rv_model.proofs.ElementSetLaws.{inside_body, room_for}
-use Rattle.rv_model.proofs.ElementWriteLaws.{written_element}
+use Rattle.rv_model.specs.elements.Elements.{in_body}
+use Rattle.rv_model.proofs.element_lemmas.Sets.{inside_body, room_for}
+use Rattle.rv_model.proofs.element_lemmas.Writes.{written_element}
 use Rattle.vec_unit.proofs.operands.repeated.Goals as goal
 
 pub returns : goal.returns

@@ -1,5 +1,5 @@
 use Rattle.std.proofs.Common.{ℕ, ◌+◌, refl, ◌∙◌, ap, arith}
-use Rattle.rv_model.specs.Image.{placed, is_touched}
+use Rattle.rv_model.specs.images.Image.{placed, is_touched}
 use Rattle.elf_load.proofs.PageLaws.{pages_below_next}
 use Rattle.elf_load.proofs.ImageLaws.{no_pages, counted_all, counted_many}
 use Rattle.elf_load.proofs.plan.Plan.pages.Goals as goal

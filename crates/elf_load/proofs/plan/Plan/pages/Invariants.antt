@@ -1,5 +1,5 @@
 use Rattle.std.proofs.Common.{◌≡◌, ◌≤◌, ◌^◌}
-use Rattle.rv_model.specs.Image.{placed, is_touched}
+use Rattle.rv_model.specs.images.Image.{placed, is_touched}
 use Rattle.elf_load.specs.Pages.{pages_below}
 use Rattle.elf_load.proofs.plan.Plan.pages.Given as goal
 

@@ -1,5 +1,5 @@
 use Rattle.std.proofs.Common.{ℕ, ◌<◌, List, sym, subst}
-use Rattle.rv_model.specs.ElfFields.{header_count}
+use Rattle.rv_model.specs.images.Fields.{header_count}
 use Rattle.elf_load.proofs.FaultLaws.{sound_headers}
 use Rattle.elf_load.proofs.plan.Plan.program_header.Goals as goal
 

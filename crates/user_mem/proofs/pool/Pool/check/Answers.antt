@@ -1,5 +1,5 @@
 use Rattle.std.proofs.Common.{◌∙◌, refl, sym, ap, arith}
-use Rattle.rv_model.specs.Memory.{Memory, can_access}
+use Rattle.rv_model.specs.memory.Memory.{Memory, can_access}
 use Rattle.user_mem.specs.Table.{IsSorted, AreBelow}
 use Rattle.user_mem.proofs.ViewLaws.{fact_at, memory_at}
 use Rattle.user_mem.proofs.pool.Pool.check.Goals as goal

@@ -1,6 +1,6 @@
 use Rattle.std.proofs.Common.{ℕ, ◌∙◌, ap, set, map, List}
 use Rattle.std.specs.FinMap.{empty}
-use Rattle.rv_model.specs.Memory.{Memory}
+use Rattle.rv_model.specs.memory.Memory.{Memory}
 use Rattle.user_mem.specs.declared.entry.Entry.{Entry}
 use Rattle.user_mem.specs.Pool.{memories_of}
 use Rattle.user_mem.proofs.PoolLaws.{dropped}

@@ -1,7 +1,7 @@
 use Rattle.std.proofs.Common.{◌∙◌, Ok, Err, refl, sym, ap, arith}
 use Rattle.rv_model.specs.declared.memory.MapRefusal.TheVariants.{Quota, AlreadyMapped}
-use Rattle.rv_model.specs.Memory.{Memory, map_refusal}
-use Rattle.rv_model.proofs.MemoryLaws.{map_refusal-Quota, map_refusal-AlreadyMapped}
+use Rattle.rv_model.specs.memory.Memory.{Memory, map_refusal}
+use Rattle.rv_model.proofs.memory_lemmas.Memory.{map_refusal-Quota, map_refusal-AlreadyMapped}
 use Rattle.user_mem.specs.Table.{IsSorted}
 use Rattle.user_mem.specs.Users.{memory_of_user}
 use Rattle.user_mem.proofs.ViewLaws.{fact_at, memory_at, refused_for, refused_is, accepted_is}

@@ -1,5 +1,5 @@
 use Rattle.std.proofs.Common.{refl, get_or, ◌∙◌, sym, ap, arith}
-use Rattle.rv_model.specs.Memory.{page_count}
+use Rattle.rv_model.specs.memory.Memory.{page_count}
 use Rattle.user_mem.specs.Table.{IsSorted}
 use Rattle.user_mem.proofs.PageLaws.{page_count-memory_of}
 use Rattle.user_mem.proofs.ViewLaws.{fact_at, memory_at}

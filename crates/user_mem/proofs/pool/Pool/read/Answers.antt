@@ -1,7 +1,7 @@
 use Rattle.std.proofs.Common.{◌∙◌, refl, sym, ap, length, map, arith, List, ℕ}
 use Rattle.rv_model.specs.declared.memory.Access.TheVariants.{Monitor}
-use Rattle.rv_model.specs.Memory.{Memory, can_access}
-use Rattle.rv_model.proofs.MemoryLaws.{can_access_monitor}
+use Rattle.rv_model.specs.memory.Memory.{Memory, can_access}
+use Rattle.rv_model.proofs.memory_lemmas.Memory.{can_access_monitor}
 use Rattle.user_mem.specs.Table.{memory_of, IsSorted, AreBelow, FitIn}
 use Rattle.user_mem.specs.Users.{memory_of_user}
 use Rattle.user_mem.proofs.PoolLaws.{fit_in}

@@ -1,9 +1,9 @@
 use Rattle.std.proofs.Common.{◌≡◌, ◌+◌, ◌-◌, ℕ, List, length, length-set, get_or, set, ap, ◌∙◌, sym, arith, Ok}
 use Rattle.std.proofs.lemmas.List.{with_items_is}
-use Rattle.rv_model.specs.Commands.{Parsed, parse}
-use Rattle.rv_model.specs.PrivateMachine.{Private, commanded}
-use Rattle.rv_model.specs.Script.{World, part, with_part}
-use Rattle.rv_model.specs.Text.{text}
+use Rattle.rv_model.specs.commands.Grammar.{Parsed, parse}
+use Rattle.rv_model.specs.machine.PrivateMachine.{Private, commanded}
+use Rattle.rv_model.specs.machine.Script.{World, part, with_part}
+use Rattle.rv_model.specs.text.Lines.{text}
 use Rattle.user_mem.specs.Users.{memory_of_user}
 use Rattle.vec_monitor.specs.Parts.{Addresses, world_of, private_of, trace_of, with_trace}
 use Rattle.vec_monitor.specs.Images.{named_images}

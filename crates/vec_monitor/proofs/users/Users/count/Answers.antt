@@ -1,5 +1,5 @@
 use Rattle.std.proofs.Common.{length, ap, ◌∙◌, sym}
-use Rattle.rv_model.specs.Script.{World}
+use Rattle.rv_model.specs.machine.Script.{World}
 use Rattle.vec_monitor.proofs.PartLaws.{part_count}
 use Rattle.vec_monitor.proofs.users.Users.count.Goals as goal
 

@@ -1,0 +1,3 @@
+-- Laws of assembler text.
+pub mod Lines
+pub mod Operands

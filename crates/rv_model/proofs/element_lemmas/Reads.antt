@@ -1,0 +1,30 @@
+-- Elements of copies of groups, and of lists that repeat one number.
+use Rattle.std.proofs.Common.{ℕ, zero, suc, ◌+◌, ◌-◌, ◌*◌, ◌%◌, ◌^◌, ◌<◌, ◌≤◌, ◌≡◌, List, take, drop, refl, sym, ap, ◌∙◌, arith, mod-eq_of_lt}
+use Rattle.std.proofs.lemmas.List.{drop-take, take-take}
+use Rattle.std.proofs.Math.Nat.{mod-lt, pow-suc}
+use Rattle.std.proofs.lemmas.Nat.{pow-add}
+use lib.Lanes.{number_l}
+use Rattle.rv_model.specs.elements.Elements.{element}
+
+-- an element of the first bytes
+pub element-take : (k n i : ℕ) (xs : List ℕ) → k * i + k ≤ n → element k (take n xs) i ≡ element k xs i
+element-take k n i xs h =
+    let e : n ≡ k * i + (n - k * i) = omega arith in
+    let cut : drop (k * i) (take n xs) ≡ take (n - k * i) (drop (k * i) xs) = ap (λ m. drop (k * i) (take m xs)) e ∙ drop-take (k * i) (n - k * i) xs in
+    ap (λ ys. number_l 256 (take k ys)) cut ∙ ap (number_l 256) (take-take k (n - k * i) (drop (k * i) xs) (omega arith))
+
+bytes_power : (k : ℕ) → 2 ^ (8 * k) ≡ 256 ^ k
+bytes_power zero = refl
+bytes_power (suc k) =
+    let e : 8 * suc k ≡ 8 * k + 8 = omega arith in
+    ap (λ n. 2 ^ n) e ∙ pow-add 2 (8 * k) 8 ∙ ap (λ x. x * 256) (bytes_power k) ∙ sym (pow-suc 256 k)
+
+positive_power : (k : ℕ) → 0 < 256 ^ k
+positive_power zero = omega arith
+positive_power (suc k) = rw pow-suc (omega (arith, positive_power k))
+
+-- a number of so many bits fits in their bytes
+pub low_bits_fit : (x b k : ℕ) → b ≡ 8 * k → x % 2 ^ b % 256 ^ k ≡ x % 2 ^ b
+low_bits_fit x b k e =
+    let same : 2 ^ b ≡ 256 ^ k = ap (λ n. 2 ^ n) e ∙ bytes_power k in
+    rw same (mod-eq_of_lt (mod-lt x (positive_power k)))

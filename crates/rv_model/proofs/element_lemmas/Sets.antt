@@ -1,0 +1,147 @@
+-- How loops over the body write the elements that an instruction changes.
+use Rattle.std.proofs.Common.{ℕ, suc, ◌+◌, ◌*◌, ◌<◌, ◌≤◌, ◌≡◌, List, length, Bool, true, false, cond, ◌&&◌, ◌||◌, nat_lt, nat_le, refl, sym, arith, inl, inr, le-leb, lt-ltb}
+use Rattle.std.proofs.lemmas.Bool.{cases_lt}
+use Rattle.std.proofs.lemmas.Bool.Decides.{nat_tests}
+use Rattle.std.proofs.Math.Nat.{mul-le-mul_left, mul-suc}
+use Rattle.std.specs.Int.{bytes_low_first}
+use lib.Lanes.{put_chunk}
+use Rattle.rv_model.specs.elements.Elements.{in_body, is_let, is_active, is_changed, result_or_ones}
+use Rattle.rv_model.specs.elements.Writes.{Writes}
+use Rattle.rv_model.proofs.element_lemmas.Writes.{begins, ends, step_written, step_kept, writes_same, writes_then}
+
+-- an index of the body is between its ends
+pub from_start : (s v e : ℕ) → in_body s v e ≡ true → s ≤ e
+from_start s v e h = grind (arith, nat_tests)
+
+pub to_end : (s v e : ℕ) → in_body s v e ≡ true → e < v
+to_end s v e h = grind (arith, nat_tests)
+
+pub inside_body : (s v e : ℕ) → s ≤ e → e < v → in_body s v e ≡ true
+inside_body s v e from to = rw (le-leb s e from, lt-ltb e v to) refl
+
+-- Without the tail, only elements of the body change.
+changed_inside : (b l o t : Bool) → ((b && l) || ((o && b) || (false && t))) ≡ true → b ≡ true
+changed_inside true l o t h = refl
+changed_inside false l true t h = h
+changed_inside false l false t h = h
+
+-- A loop's step at the index i of the body: the mask lets the element through, or it is masked off and filled, or kept.
+module _ (k : ℕ) (unmasked : Bool) (mask : List ℕ) (masked_off : Bool) (start vl i : ℕ) (result : ℕ → ℕ) (ones : ℕ) (old mid new : List ℕ)
+    (from : start ≤ i) (to : i < vl) where
+  abbrev changed : ℕ → Bool
+  changed e = is_changed unmasked mask masked_off false start vl e
+
+  abbrev number : ℕ → ℕ
+  number e = result_or_ones unmasked mask start vl result ones e
+
+  body : in_body start vl i ≡ true
+  body = inside_body start vl i from to
+
+  abbrev So : ℕ → List ℕ → Type 0
+  So j bytes = Writes k (λ e. changed e && nat_lt e j) number old bytes
+
+  let_changes : (l : Bool) → l ≡ true → ((true && l) || ((masked_off && true) || (false && nat_le vl i))) ≡ true
+  let_changes l h = rw h refl
+
+  pub step_result : So i mid → k * i + k ≤ length old → is_let unmasked mask i ≡ true
+      → new ≡ put_chunk (k * i) mid (bytes_low_first 0 k (result i)) → So (i + 1) new
+  step_result was fits h e =
+      let is : number i ≡ result i = rw (body, h) refl in
+      let does : changed i ≡ true = rw body (let_changes (is_let unmasked mask i) h) in
+      step_written k changed number old mid new i was does fits (rw is e)
+
+  pub step_ones : So i mid → k * i + k ≤ length old → is_let unmasked mask i ≡ false → masked_off ≡ true
+      → new ≡ put_chunk (k * i) mid (bytes_low_first 0 k ones) → So (i + 1) new
+  step_ones was fits h off e =
+      let is : number i ≡ ones = rw (body, h) refl in
+      let does : changed i ≡ true = rw (body, h, off) refl in
+      step_written k changed number old mid new i was does fits (rw is e)
+
+  pub step_off : So i mid → is_let unmasked mask i ≡ false → masked_off ≡ false → new ≡ mid → So (i + 1) new
+  step_off was h off e =
+      let does : changed i ≡ false = rw (body, h, off) refl in
+      step_kept k changed number old mid new i was does e
+
+-- Before and after the loop.
+module _ (k : ℕ) (unmasked : Bool) (mask : List ℕ) (masked_off : Bool) (start vl : ℕ) (number : ℕ → ℕ) where
+  abbrev changes : ℕ → Bool
+  changes e = is_changed unmasked mask masked_off false start vl e
+
+  in_it : (e : ℕ) → changes e ≡ true → in_body start vl e ≡ true
+  in_it e h = changed_inside (in_body start vl e) (is_let unmasked mask e) masked_off (nat_le vl e) h
+
+  pub body_begins : (xs : List ℕ) → Writes k (λ e. changes e && nat_lt e start) number xs xs
+  body_begins xs = begins k changes number xs start (λ e h. from_start start vl e (in_it e h))
+
+  pub body_ends : (old new : List ℕ) (i : ℕ) → vl ≤ i → Writes k (λ e. changes e && nat_lt e i) number old new → Writes k changes number old new
+  body_ends old new i past was = ends k changes number old new i was (λ e h. omega (arith, to_end start vl e (in_it e h)))
+
+-- A loop that writes one number to each index of a range.
+module _ (k start end : ℕ) (number : ℕ → ℕ) where
+  pub range_begins : (xs : List ℕ) → Writes k (λ e. in_body start end e && nat_lt e start) number xs xs
+  range_begins xs = begins k (in_body start end) number xs start (λ e h. from_start start end e h)
+
+  pub range_ends : (old new : List ℕ) (i : ℕ) → end ≤ i → Writes k (λ e. in_body start end e && nat_lt e i) number old new → Writes k (in_body start end) number old new
+  range_ends old new i past was = ends k (in_body start end) number old new i was (λ e h. omega (arith, to_end start end e h))
+
+  pub range_step : (old mid new : List ℕ) (i : ℕ) → start ≤ i → i < end → Writes k (λ e. in_body start end e && nat_lt e i) number old mid → k * i + k ≤ length old
+      → new ≡ put_chunk (k * i) mid (bytes_low_first 0 k (number i)) → Writes k (λ e. in_body start end e && nat_lt e (i + 1)) number old new
+  range_step old mid new i from to was fits e = step_written k (in_body start end) number old mid new i was (inside_body start end i from to) fits e
+
+-- there is room for each element of so many
+pub room_for : (k i end long : ℕ) → i < end → k * end ≤ long → k * i + k ≤ long
+room_for k i end long h room =
+    let up : k * suc i ≤ k * end = mul-le-mul_left k h in
+    omega (arith, mul-suc k i)
+
+-- Results in the body, and then ones in the tail up to the last of n elements.
+module _ (k : ℕ) (unmasked : Bool) (mask : List ℕ) (masked_off : Bool) (start vl n : ℕ) (result : ℕ → ℕ) (ones : ℕ) where
+  abbrev value : ℕ → ℕ
+  value e = result_or_ones unmasked mask start vl result ones e
+
+  joined : (a o t l : Bool) → l ≡ true → (a || (o || (true && t))) ≡ ((a || (o || (false && t))) || (t && l))
+  joined true o t l h = refl
+  joined false true t l h = refl
+  joined false false true l h = sym h
+  joined false false false l h = refl
+
+  past_body : (e : ℕ) → vl ≤ e → in_body start vl e ≡ false
+  past_body e h = grind (arith, nat_tests)
+
+  pub with_tail : (old mid new : List ℕ) → 0 < k → length old ≡ k * n
+      → Writes k (λ e. is_changed unmasked mask masked_off false start vl e) value old mid
+      → Writes k (in_body vl n) (λ e. ones) mid new
+      → Writes k (λ e. is_changed unmasked mask masked_off true start vl e) value old new
+  with_tail old mid new positive long first second =
+      writes_same k (λ e. is_changed unmasked mask masked_off false start vl e || in_body vl n e)
+      (λ e. is_changed unmasked mask masked_off true start vl e) (λ e. cond (in_body vl n e) ones (value e)) value old new
+      (writes_then k (λ e. is_changed unmasked mask masked_off false start vl e) (in_body vl n) value (λ e. ones) old mid new first second)
+      (λ e h. joined (is_active unmasked mask start vl e) (masked_off && in_body start vl e) (nat_le vl e) (nat_lt e n)
+      (lt-ltb e n (below e (omega (arith, h, long)))))
+      (λ e h. numbers e (in_body vl n e) refl)
+    where
+      below : (e : ℕ) → k * e < k * n → e < n
+      below e h = elim (cases_lt e n) [
+        | inl low ↦ low
+        | inr high ↦ (let up : k * n ≤ k * e = mul-le-mul_left k high in absurd (omega arith))
+      ]
+
+      numbers : (e : ℕ) (b : Bool) → in_body vl n e ≡ b → value e ≡ cond b ones (value e)
+      numbers e true h = let off : in_body start vl e ≡ false = past_body e (from_start vl n e h) in rw off refl
+      numbers e false h = refl
+
+-- The results may be told another way, where they tell the same in the body.
+pub same_results : (k : ℕ) (unmasked : Bool) (mask : List ℕ) (masked_off tail : Bool) (start vl : ℕ) (result other : ℕ → ℕ) (ones : ℕ) (old new : List ℕ)
+    → ((e : ℕ) → e < vl → result e ≡ other e)
+    → Writes k (λ e. is_changed unmasked mask masked_off tail start vl e) (result_or_ones unmasked mask start vl result ones) old new
+    → Writes k (λ e. is_changed unmasked mask masked_off tail start vl e) (result_or_ones unmasked mask start vl other ones) old new
+same_results k unmasked mask masked_off tail start vl result other ones old new same was =
+    writes_same k (λ e. is_changed unmasked mask masked_off tail start vl e) (λ e. is_changed unmasked mask masked_off tail start vl e)
+    (result_or_ones unmasked mask start vl result ones) (result_or_ones unmasked mask start vl other ones) old new was
+    (λ e l. refl) (λ e h. numbers e (in_body start vl e) (is_let unmasked mask e) (λ b. to_end start vl e b) refl)
+  where
+    numbers : (e : ℕ) (b l : Bool) → (in_body start vl e ≡ true → e < vl) → in_body start vl e ≡ b
+        → cond (b && l) (other e) ones ≡ cond (b && l) (result e) ones
+    numbers e true true h is = sym (same e (h is))
+    numbers e true false h is = refl
+    numbers e false l h is = refl

@@ -1,0 +1,180 @@
+-- Laws of lists of bytes of which some elements are replaced, one after another or all at once.
+use Rattle.std.proofs.Common.{ℕ, zero, suc, ◌+◌, ◌-◌, ◌*◌, ◌/◌, ◌%◌, ◌^◌, ◌<◌, ◌≤◌, ◌≡◌, List, [], ◌∷◌, ◌++◌, length, get_or, drop, set, Bool, true, false, cond, ◌&&◌, ◌||◌, nat_lt, refl, sym, ap, ◌∙◌, arith, inl, inr, lt-ltb, le-ltb, append-nil, length-drop, zero-add}
+use Rattle.std.proofs.lemmas.Bool.{cases_order}
+use Rattle.std.proofs.lemmas.Bool.Decides.{nat_tests}
+use Rattle.std.proofs.lemmas.Grind.{same_number_lists}
+use Rattle.std.proofs.lemmas.List.{drop_all}
+use Rattle.std.proofs.lemmas.List.FromFn.{get_or-map-range_with_len, length-map-range_with_len}
+use Rattle.std.proofs.lemmas.Simd.{length-put_chunk, put_chunk_is, get_or-put_chunk_below, get_or-put_chunk_at, get_or-put_chunk_above, length-chunk, get_or-chunk}
+use Rattle.std.proofs.Math.Nat.{mul-le-mul_left, mul-suc, div-one, div-div-eq-div-mul, pow-suc, div-add-mod, mod-lt}
+use Rattle.std.proofs.Math.Arith.{mod-mul}
+use Rattle.std.specs.Int.{byte_at, bytes_low_first}
+use borrow.Rule.Slice.PartMut.{put_mid}
+use lib.Lanes.{chunk, put_chunk, number_l}
+use Rattle.rv_model.specs.elements.Elements.{element}
+use Rattle.rv_model.specs.elements.Writes.{Writes, byte_or, written}
+
+-- ---- the bytes of a number
+
+pub length-bytes : (i k n : ℕ) → length (bytes_low_first i k n) ≡ k
+length-bytes i zero n = refl
+length-bytes i (suc k) n = ap suc (length-bytes (suc i) k n)
+
+pub get_or-bytes : (i k n m : ℕ) → m < k → get_or (bytes_low_first i k n) m 0 ≡ byte_at (i + m) n
+get_or-bytes i zero n m h = absurd (omega arith)
+get_or-bytes i (suc k) n zero h = let e : i + 0 ≡ i = omega arith in rw e refl
+get_or-bytes i (suc k) n (suc m) h = let e : i + suc m ≡ suc i + m = omega arith in rw e (get_or-bytes (suc i) k n m (omega arith))
+
+byte_at-is : (m n : ℕ) → byte_at m n ≡ n / 256 ^ m % 256
+byte_at-is zero n = ap (λ y. y % 256) (sym (div-one n))
+byte_at-is (suc m) n = refl
+
+positive_power : (k : ℕ) → 0 < 256 ^ k
+positive_power zero = omega arith
+positive_power (suc k) = rw pow-suc (omega (arith, positive_power k))
+
+number_bytes : (i k n : ℕ) → number_l 256 (bytes_low_first i k n) ≡ n / 256 ^ i % 256 ^ k
+number_bytes i zero n = omega arith
+number_bytes i (suc k) n =
+    let q : ℕ = n / 256 ^ i in
+    let next : n / 256 ^ suc i ≡ q / 256 = ap (λ z. n / z) (pow-suc 256 i) ∙ sym (div-div-eq-div-mul n (256 ^ i) 256) in
+    let whole : q % 256 ^ suc k ≡ q / 256 % 256 ^ k * 256 + q % 256 = ap (λ z. q % z) (pow-suc 256 k) ∙ mod-mul q (positive_power k) (omega arith) in
+    rw (byte_at-is i n, number_bytes (suc i) k n, next, whole) (omega arith)
+
+-- ---- writes one after another
+
+-- one byte is written
+pub set_is_put : (xs : List ℕ) (i y : ℕ) → set xs i y ≡ put_chunk i xs (y ∷ [])
+set_is_put [] i y = refl
+set_is_put (x ∷ xs) zero y = ap (λ l. y ∷ l) (sym (none xs))
+  where
+    none : (l : List ℕ) → put_chunk zero l [] ≡ l
+    none [] = refl
+    none (z ∷ zs) = refl
+set_is_put (x ∷ xs) (suc i) y = ap (λ l. x ∷ l) (set_is_put xs i y)
+
+-- a write to the rest of a slice that writes its first bytes
+pub rest_is_put : (at : ℕ) (xs ys buf : List ℕ) → at + length ys ≤ length xs → buf ≡ ys ++ drop (length ys) (drop at xs) → put_mid at (length xs - at) xs buf ≡ put_chunk at xs ys
+rest_is_put at xs ys buf h e =
+    let over : length (drop at xs) ≤ length xs - at = omega (arith, length-drop at xs) in
+    rw (drop_all (length xs - at) (drop at xs) over, append-nil buf, e, put_chunk_is at xs ys h) refl
+
+-- nothing is written yet
+pub writes_none : (k : ℕ) (W : ℕ → Bool) (F : ℕ → ℕ) (xs : List ℕ) → ((e : ℕ) → W e ≡ false) → Writes k W F xs xs
+writes_none k W F xs none = record { same_length = refl; bytes = λ e m h l. rw (none e) refl }
+
+-- what the tests tell of the elements that there are is all that counts, and the numbers of those that change
+pub writes_same : (k : ℕ) (W V : ℕ → Bool) (F G : ℕ → ℕ) (old new : List ℕ) → Writes k W F old new
+    → ((e : ℕ) → k * e < length old → V e ≡ W e) → ((e : ℕ) → W e ≡ true → G e ≡ F e) → Writes k V G old new
+writes_same k W V F G old new was same numbers = record {
+  same_length = was.same_length;
+  bytes = λ e m h l. rw (same e (omega arith), was.bytes e m h l) (either e m (W e) (numbers e));
+}
+  where
+    either : (e m : ℕ) (w : Bool) → (w ≡ true → G e ≡ F e) → cond w (byte_at m (F e)) (get_or old (k * e + m) 0) ≡ cond w (byte_at m (G e)) (get_or old (k * e + m) 0)
+    either e m true q = ap (byte_at m) (sym (q refl))
+    either e m false q = refl
+
+-- the element i is written
+writes_more : (k : ℕ) (W V : ℕ → Bool) (F : ℕ → ℕ) (old mid : List ℕ) (i : ℕ) → k * i + k ≤ length old → Writes k W F old mid → V i ≡ true → ((e : ℕ) → (e ≡ i → ⊥) → V e ≡ W e)
+    → Writes k V F old (put_chunk (k * i) mid (bytes_low_first 0 k (F i)))
+writes_more k W V F old mid i fits was here others =
+    let ys = bytes_low_first 0 k (F i) in
+    let long : length ys ≡ k = length-bytes 0 k (F i) in
+    let same : length mid ≡ length old = was.same_length in
+    record {
+      same_length = length-put_chunk (k * i) mid ys ∙ same;
+      bytes = λ e m h l. elim (cases_order e i) [
+        | inr (inl low) ↦
+            let apart : k * suc e ≤ k * i = mul-le-mul_left k low in
+            let below : k * e + m < k * i = omega (arith, mul-suc k e) in
+            rw (get_or-put_chunk_below (k * i) mid ys (k * e + m) 0 below, others e (λ q. omega (arith, q))) (was.bytes e m h l)
+        | inl is ↦
+            let room : k * i + length ys ≤ length mid = omega arith in
+            let inside : m < length ys = omega arith in
+            rw (is, here, get_or-put_chunk_at (k * i) mid ys m 0 inside room) (get_or-bytes 0 k (F i) m h ∙ ap (λ n. byte_at n (F i)) (zero-add m))
+        | inr (inr high) ↦
+            let apart : k * suc i ≤ k * e = mul-le-mul_left k high in
+            let above : k * i + length ys ≤ k * e + m = omega (arith, mul-suc k i) in
+            rw (get_or-put_chunk_above (k * i) mid ys (k * e + m) 0 above, others e (λ q. omega (arith, q))) (was.bytes e m h l)
+      ];
+    }
+
+-- A loop's step at the index i, where the element changes, and where it doesn't.
+module _ (k : ℕ) (W : ℕ → Bool) (F : ℕ → ℕ) (old mid new : List ℕ) (i : ℕ) where
+  others : (e : ℕ) → (e ≡ i → ⊥) → (W e && nat_lt e (i + 1)) ≡ (W e && nat_lt e i)
+  others e ne =
+      let same : nat_lt e (i + 1) ≡ nat_lt e i = grind (arith, nat_tests) in
+      rw same refl
+
+  pub step_written : Writes k (λ e. W e && nat_lt e i) F old mid → W i ≡ true → k * i + k ≤ length old
+      → new ≡ put_chunk (k * i) mid (bytes_low_first 0 k (F i)) → Writes k (λ e. W e && nat_lt e (i + 1)) F old new
+  step_written was h fits e =
+      rw e (writes_more k (λ x. W x && nat_lt x i) (λ x. W x && nat_lt x (i + 1)) F old mid i fits was
+      (rw (h, lt-ltb i (i + 1) (omega arith)) refl) others)
+
+  pub step_kept : Writes k (λ e. W e && nat_lt e i) F old mid → W i ≡ false → new ≡ mid → Writes k (λ e. W e && nat_lt e (i + 1)) F old new
+  step_kept was h e = rw e (writes_same k (λ x. W x && nat_lt x i) (λ x. W x && nat_lt x (i + 1)) F F old mid was
+      (λ x l. elim (cases_order x i) [
+        | inl is ↦ rw (is, h) refl
+        | inr (inl low) ↦ others x (λ q. omega (arith, q))
+        | inr (inr high) ↦ others x (λ q. omega (arith, q))
+      ]) (λ x q. refl))
+
+-- before a loop from i on
+pub begins : (k : ℕ) (W : ℕ → Bool) (F : ℕ → ℕ) (xs : List ℕ) (i : ℕ) → ((e : ℕ) → W e ≡ true → i ≤ e) → Writes k (λ e. W e && nat_lt e i) F xs xs
+begins k W F xs i from = writes_none k (λ e. W e && nat_lt e i) F xs (λ e. none e (W e) (from e))
+  where
+    none : (e : ℕ) (w : Bool) → (w ≡ true → i ≤ e) → (w && nat_lt e i) ≡ false
+    none e true h = le-ltb e i (h refl)
+    none e false h = refl
+
+-- after a loop up to i
+pub ends : (k : ℕ) (W : ℕ → Bool) (F : ℕ → ℕ) (old new : List ℕ) (i : ℕ) → Writes k (λ e. W e && nat_lt e i) F old new → ((e : ℕ) → W e ≡ true → e < i) → Writes k W F old new
+ends k W F old new i was to = writes_same k (λ e. W e && nat_lt e i) W F F old new was (λ e l. all e (W e) (to e)) (λ e q. refl)
+  where
+    all : (e : ℕ) (w : Bool) → (w ≡ true → e < i) → w ≡ (w && nat_lt e i)
+    all e true h = sym (lt-ltb e i (h refl))
+    all e false h = refl
+
+-- what two writes leave, where the second counts
+pub writes_then : (k : ℕ) (V W : ℕ → Bool) (F G : ℕ → ℕ) (old mid new : List ℕ) → Writes k V F old mid → Writes k W G mid new
+    → Writes k (λ e. V e || W e) (λ e. cond (W e) (G e) (F e)) old new
+writes_then k V W F G old mid new first second = record {
+  same_length = second.same_length ∙ first.same_length;
+  bytes = λ e m h l. (let l2 : k * e + m < length mid = omega (arith, first.same_length) in
+      rw (second.bytes e m h l2, first.bytes e m h l) (either (V e) (W e) m (F e) (G e) (get_or old (k * e + m) 0)));
+}
+  where
+    either : (v w : Bool) (m x y z : ℕ) → cond w (byte_at m y) (cond v (byte_at m x) z) ≡ cond (v || w) (byte_at m (cond w y x)) z
+    either true true m x y z = refl
+    either true false m x y z = refl
+    either false true m x y z = refl
+    either false false m x y z = refl
+
+-- ---- the bytes that are left
+
+-- they are told by the writes
+pub writes_are : (k : ℕ) (W : ℕ → Bool) (F : ℕ → ℕ) (old new : List ℕ) → 0 < k → Writes k W F old new → new ≡ written k W F old
+unfolding written
+writes_are k W F old new positive w =
+    let f : ℕ → ℕ = λ at. byte_or W F old k (at / k) (at % k) in
+    same_number_lists new (written k W F old) (w.same_length ∙ sym (length-map-range_with_len f 0 (length old)))
+    (λ j h.
+    let l : j < length old = omega (arith, w.same_length, h) in
+    let e : k * (j / k) + j % k ≡ j = div-add-mod j k in
+    sym (ap (λ x. get_or new x 0) e) ∙ w.bytes (j / k) (j % k) (mod-lt j positive) (rw e l)
+    ∙ sym (get_or-map-range_with_len f 0 (length old) j j 0 l (zero-add j)))
+
+-- an element that was written
+pub written_element : (k : ℕ) (W : ℕ → Bool) (F : ℕ → ℕ) (old new : List ℕ) (e : ℕ) → Writes k W F old new → W e ≡ true → k * e + k ≤ length old
+    → element k new e ≡ F e % 256 ^ k
+written_element k W F old new e w here fits =
+    let room : k * e + k ≤ length new = omega (arith, w.same_length) in
+    let same : chunk (k * e) k new ≡ bytes_low_first 0 k (F e) =
+    same_number_lists (chunk (k * e) k new) (bytes_low_first 0 k (F e)) (length-chunk (k * e) k new room ∙ sym (length-bytes 0 k (F e)))
+    (λ j h.
+    let small : j < k = omega (arith, length-chunk (k * e) k new room, h) in
+    get_or-chunk (k * e) k new j 0 small ∙ w.bytes e j small (omega arith) ∙ ap (λ b. cond b (byte_at j (F e)) (get_or old (k * e + j) 0)) here
+    ∙ sym (get_or-bytes 0 k (F e) j small ∙ ap (λ n. byte_at n (F e)) (zero-add j))) in
+    ap (number_l 256) same ∙ number_bytes 0 k (F e) ∙ ap (λ x. x % 256 ^ k) (div-one (F e))

@@ -1,0 +1,76 @@
+-- Word and instruction tell each other
+use Rattle.std.proofs.Common.{◌≡◌, ap, ap₂, ◌∙◌, sym, subst, ℕ, ◌+◌, ◌-◌, ◌*◌, ◌^◌, ◌<◌, ◌≤◌, List, [], ◌∷◌, ◌++◌, map, Option, Some, None, true, inl, inr, ◌⊎◌, arith, add-zero, add_assoc}
+use Rattle.std.specs.Prelude.{IfSome}
+use Rattle.std.specs.Int.Bits.{bit_and, and_le_r}
+use Rattle.rv_model.specs.declared.instructions.instruction.Instr.{Instr}
+use Rattle.rv_model.specs.instructions.BitFields.{Part, sum_of, mask_of, fixed, AllFit}
+use Rattle.rv_model.specs.instructions.Layout.{parts, bits, filled, word_of, Allowed}
+use Rattle.rv_model.specs.instructions.Table.{Row, row_of, Family, templates, families, rows, joined, table, Matches, In, scan}
+use Rattle.rv_model.proofs.instruction_lemmas.Parts.{share_none, inside_mask, fixed_bits, reads, rebuilt}
+use Rattle.rv_model.proofs.instruction_lemmas.Scans.{found, table_apart, some_row}
+use Rattle.rv_model.proofs.instruction_lemmas.Words.{Laid, laid, filled_parts, filled_bits, refilled}
+use Rattle.rv_model.proofs.instruction_lemmas.Rows.{listed, inside}
+
+sum_small : (code m : ℕ) → bit_and code m ≡ code → (ps : List Part) → share_none m ps ≡ true
+    → mask_of m ps ≡ 2 ^ 32 - 1 → AllFit ps → sum_of code ps < 2 ^ 32
+sum_small code m within ps h all fit =
+    let e : bit_and (sum_of code ps) (2 ^ 32 - 1) ≡ sum_of code ps = subst (λ x. bit_and (sum_of code ps) x ≡ sum_of code ps) all (inside_mask code m within ps h fit) in
+    let b : bit_and (sum_of code ps) (2 ^ 32 - 1) ≤ 2 ^ 32 - 1 = and_le_r (sum_of code ps) (2 ^ 32 - 1) in
+    omega arith
+
+-- the word of an instruction is that instruction
+pub back : (i : Instr) → AllFit (parts i) → Allowed i → scan table (word_of i) ≡ Some i
+back i fit ok =
+    let l : Laid (parts i) = laid i in
+    found table table_apart (row_of i) (listed i ok) (word_of i) (fixed_bits (bits i) (fixed (parts i)) (inside i ok) (parts i) l.apart fit)
+    ∙ ap Some (refilled i (word_of i) (reads (bits i) (fixed (parts i)) (inside i ok) (parts i) l.apart l.clear fit))
+
+sum-split : (code : ℕ) (ps : List Part) → sum_of code ps ≡ code + sum_of 0 ps
+sum-split code [] = sym (add-zero code)
+sum-split code (p ∷ ps) =
+    ap (λ s. s + p.value * 2 ^ p.low) (sum-split code ps) ∙ add_assoc code (sum_of 0 ps) (p.value * 2 ^ p.low)
+
+-- a word is the fixed bits and the operands
+pub word_sum : (i : Instr) → word_of i ≡ bits i + sum_of 0 (parts i)
+word_sum i = sum-split (bits i) (parts i)
+
+-- a word has 32 bits
+pub small : (i : Instr) → AllFit (parts i) → Allowed i → word_of i < 2 ^ 32
+small i fit ok =
+    let l : Laid (parts i) = laid i in sum_small (bits i) (fixed (parts i)) (inside i ok) (parts i) l.apart l.whole fit
+
+word_again : (t : Instr) (w : ℕ) → w < 2 ^ 32 → bit_and w (fixed (parts t)) ≡ bits t → word_of (filled t w) ≡ w
+word_again t w small is =
+    ap₂ sum_of (filled_bits t w ∙ sym is) (filled_parts t w)
+    ∙ rebuilt w (fixed (parts t)) (parts t) small (laid t).apart (laid t).whole
+
+template_in : (ts : List Instr) (r : Row) → In r (map row_of ts) → (t : Instr) × (row_of t ≡ r)
+template_in [] r h = absurd h
+template_in (t ∷ ts) r (inl e) = (t, e)
+template_in (t ∷ ts) r (inr h) = template_in ts r h
+
+split_in : (xs ys : List Row) (r : Row) → In r (xs ++ ys) → In r xs ⊎ In r ys
+split_in [] ys r h = inr h
+split_in (x ∷ xs) ys r (inl e) = inl (inl e)
+split_in (x ∷ xs) ys r (inr h) = elim (split_in xs ys r h) [ inl a ↦ inl (inr a) | inr b ↦ inr b ]
+
+template_joined : (fs : List Family) (r : Row) → In r (joined (map rows fs)) → (t : Instr) × (row_of t ≡ r)
+unfolding rows
+template_joined [] r h = absurd h
+template_joined (f ∷ fs) r h = elim (split_in (rows f) (joined (map rows fs)) r h) [ inl a ↦ template_in (templates f) r a | inr b ↦ template_joined fs r b ]
+
+template_of : (r : Row) → In r table → (t : Instr) × (row_of t ≡ r)
+unfolding table
+template_of r h = template_joined families r h
+
+row_word : (r : Row) (w : ℕ) → w < 2 ^ 32 → In r table → Matches r w → word_of (r.instr w) ≡ w
+row_word r w small h is =
+    let t : (t : Instr) × (row_of t ≡ r) = template_of r h in
+    subst (λ s. Matches s w → word_of (s.instr w) ≡ w) t.1 (word_again t.0 w small) is
+
+-- the instruction of a word has that word
+pub decoded : (w : ℕ) (o : Option Instr) → o ≡ scan table w → w < 2 ^ 32 → IfSome o (λ i. word_of i ≡ w)
+decoded w None is small = tt
+decoded w (Some i) is small =
+    let q : (r : Row) × In r table × Matches r w × (r.instr w ≡ i) = some_row table w i (sym is) in
+    subst (λ x. word_of x ≡ w) q.3 (row_word q.0 w small q.1 q.2)

@@ -1,0 +1,483 @@
+-- Each instruction has its row in the table
+use Rattle.std.proofs.Common.{◌≡◌, refl, ap, sym, subst, ℕ, zero, suc, List, [], ◌∷◌, ◌++◌, map, Option, Some, None, Bool, true, false, nat_eq, cond, inl, inr, ◌⊎◌, arith}
+use Rattle.std.specs.Int.Bits.{bit_and}
+use Rattle.std.proofs.lemmas.Bool.{eqb-true}
+use Rattle.rv_model.specs.declared.instructions.source.Source.{Source}
+use Rattle.rv_model.specs.declared.instructions.source.Source.TheVariants as source
+use Rattle.rv_model.specs.declared.instructions.operations.Line.{Line}
+use Rattle.rv_model.specs.declared.instructions.operations.Major.{Major}
+use Rattle.rv_model.specs.declared.instructions.operations.Major.TheVariants.{Opi, Opm}
+use Rattle.rv_model.specs.declared.instructions.operations.Form.{Form}
+use Rattle.rv_model.specs.declared.instructions.operations.Form.TheVariants as form
+use Rattle.rv_model.specs.declared.instructions.operations.VectorOp.{VectorOp}
+use Rattle.rv_model.specs.declared.instructions.operations.VectorOp.TheVariants as vector_op
+use Rattle.rv_model.specs.declared.instructions.operations.BinaryOp.{BinaryOp}
+use Rattle.rv_model.specs.declared.instructions.operations.BinaryOp.TheVariants as binary
+use Rattle.rv_model.specs.declared.instructions.operations.CompareOp.{CompareOp}
+use Rattle.rv_model.specs.declared.instructions.operations.CompareOp.TheVariants as compare
+use Rattle.rv_model.specs.declared.instructions.operations.FixedPointOp.{FixedPointOp}
+use Rattle.rv_model.specs.declared.instructions.operations.FixedPointOp.TheVariants as fixed_point
+use Rattle.rv_model.specs.declared.instructions.operations.NarrowOp.{NarrowOp}
+use Rattle.rv_model.specs.declared.instructions.operations.NarrowOp.TheVariants as narrow
+use Rattle.rv_model.specs.declared.instructions.operations.WidenOp.{WidenOp}
+use Rattle.rv_model.specs.declared.instructions.operations.WidenOp.TheVariants as widen
+use Rattle.rv_model.specs.declared.instructions.operations.MultiplyAddOp.{MultiplyAddOp}
+use Rattle.rv_model.specs.declared.instructions.operations.MultiplyAddOp.TheVariants as multiply_add
+use Rattle.rv_model.specs.declared.instructions.operations.ReduceOp.{ReduceOp}
+use Rattle.rv_model.specs.declared.instructions.operations.ReduceOp.TheVariants as reduce
+use Rattle.rv_model.specs.declared.instructions.operations.PermuteOp.{PermuteOp}
+use Rattle.rv_model.specs.declared.instructions.operations.PermuteOp.TheVariants as permute
+use Rattle.rv_model.specs.declared.instructions.operations.CarryOp.{CarryOp}
+use Rattle.rv_model.specs.declared.instructions.operations.CarryOp.TheVariants as carry
+use Rattle.rv_model.specs.declared.instructions.operations.UpperOp.{UpperOp}
+use Rattle.rv_model.specs.declared.instructions.operations.UpperOp.TheVariants as upper
+use Rattle.rv_model.specs.declared.instructions.operations.BranchOp.{BranchOp}
+use Rattle.rv_model.specs.declared.instructions.operations.BranchOp.TheVariants as branch
+use Rattle.rv_model.specs.declared.instructions.operations.LoadOp.{LoadOp}
+use Rattle.rv_model.specs.declared.instructions.operations.LoadOp.TheVariants as load
+use Rattle.rv_model.specs.declared.instructions.operations.StoreOp.{StoreOp}
+use Rattle.rv_model.specs.declared.instructions.operations.StoreOp.TheVariants as store
+use Rattle.rv_model.specs.declared.instructions.operations.OpImmOp.{OpImmOp}
+use Rattle.rv_model.specs.declared.instructions.operations.OpImmOp.TheVariants as op_imm
+use Rattle.rv_model.specs.declared.instructions.operations.ShiftImmOp.{ShiftImmOp}
+use Rattle.rv_model.specs.declared.instructions.operations.ShiftImmOp.TheVariants as shift_imm
+use Rattle.rv_model.specs.declared.instructions.operations.ShiftImmWordOp.{ShiftImmWordOp}
+use Rattle.rv_model.specs.declared.instructions.operations.ShiftImmWordOp.TheVariants as shift_imm_word
+use Rattle.rv_model.specs.declared.instructions.operations.OpOp.{OpOp}
+use Rattle.rv_model.specs.declared.instructions.operations.OpOp.TheVariants as op
+use Rattle.rv_model.specs.declared.instructions.operations.SystemOp.{SystemOp}
+use Rattle.rv_model.specs.declared.instructions.operations.SystemOp.TheVariants as system
+use Rattle.rv_model.specs.declared.instructions.operations.CsrOp.{CsrOp}
+use Rattle.rv_model.specs.declared.instructions.operations.CsrOp.TheVariants as csr
+use Rattle.rv_model.specs.declared.instructions.operations.CsrImmediateOp.{CsrImmediateOp}
+use Rattle.rv_model.specs.declared.instructions.operations.CsrImmediateOp.TheVariants as csr_immediate
+use Rattle.rv_model.specs.declared.instructions.operations.MaskLogicOp.{MaskLogicOp}
+use Rattle.rv_model.specs.declared.instructions.operations.MaskLogicOp.TheVariants as mask_logic
+use Rattle.rv_model.specs.declared.instructions.operations.MaskToScalarOp.{MaskToScalarOp}
+use Rattle.rv_model.specs.declared.instructions.operations.MaskToScalarOp.TheVariants as mask_to_scalar
+use Rattle.rv_model.specs.declared.instructions.operations.ExtendOp.{ExtendOp}
+use Rattle.rv_model.specs.declared.instructions.operations.ExtendOp.TheVariants as extend
+use Rattle.rv_model.specs.declared.instructions.operations.MaskUnaryOp.{MaskUnaryOp}
+use Rattle.rv_model.specs.declared.instructions.operations.MaskUnaryOp.TheVariants as mask_unary
+use Rattle.rv_model.specs.declared.instructions.operations.Width.{Width}
+use Rattle.rv_model.specs.declared.instructions.operations.Width.TheVariants as width
+use Rattle.rv_model.specs.declared.instructions.operations.UnitOp.{UnitOp}
+use Rattle.rv_model.specs.declared.instructions.operations.UnitOp.TheVariants as unit
+use Rattle.rv_model.specs.declared.instructions.operations.Direction.{Direction}
+use Rattle.rv_model.specs.declared.instructions.operations.Direction.TheVariants as direction
+use Rattle.rv_model.specs.declared.instructions.operations.Order.{Order}
+use Rattle.rv_model.specs.declared.instructions.operations.Order.TheVariants as order
+use Rattle.rv_model.specs.declared.instructions.operations.RegisterCount.{RegisterCount}
+use Rattle.rv_model.specs.declared.instructions.operations.RegisterCount.TheVariants as count
+use Rattle.rv_model.specs.declared.instructions.instruction.Instr.{Instr}
+use Rattle.rv_model.specs.declared.instructions.instruction.Instr.TheVariants.{Upper, Jump, JumpRegister, Branch, Load, Store, OpImm, ShiftImm, ShiftImmWord, Op, Fence, System, Csr, CsrImmediate, SetVli, SetIvli, SetVl, VectorArith, VectorCarry, VectorMove, WholeMove, MaskLogic, Compress, MaskToScalar, VectorExtend, MaskUnary, ElementIndex, MoveToScalar, MoveToVector, VectorUnit, VectorStrided, VectorIndexed, WholeLoad, WholeStore, MaskMemory}
+use Rattle.rv_model.specs.instructions.BitFields.{fixed}
+use Rattle.rv_model.specs.instructions.Sources.{form_of}
+use Rattle.rv_model.specs.instructions.FixedBits.{upper_bits, branch_bits, load_bits, store_bits, op_imm_bits, shift_imm_bits, shift_imm_word_bits, op_bits, system_bits, csr_bits, csr_immediate_bits, whole_move_bits, mask_logic_bits, mask_to_scalar_bits, extend_bits, mask_unary_bits, mask_memory_bits, upper_ops, branch_ops, load_ops, store_ops, op_imm_ops, shift_imm_ops, shift_imm_word_ops, op_ops, system_ops, csr_ops, csr_immediate_ops, mask_logic_ops, mask_to_scalar_ops, extend_ops, mask_unary_ops, directions, counts}
+use Rattle.rv_model.specs.instructions.Operations.{has_form, line, carry_line, line_bits, those, vector_ops, carry_ops, binary_line, compare_line, fixed_point_line, narrow_line, widen_line, multiply_add_line, reduce_line, permute_line}
+use Rattle.rv_model.specs.instructions.Layout.{parts, bits, Allowed, unit_access_bits, strided_access_bits, indexed_access_bits, whole_load_bits, whole_store_bits}
+use Rattle.rv_model.specs.instructions.Table.{Row, row_of, families, rows, joined, table, In, find, unit_accesses, strided_accesses, indexed_accesses, whole_loads, Ariths}
+use Rattle.rv_model.proofs.instruction_lemmas.Scans.{is_inside, table_inside, all_in}
+
+in_left : (r : Row) (xs ys : List Row) → In r xs → In r (xs ++ ys)
+in_left r [] ys h = absurd h
+in_left r (x ∷ xs) ys (inl e) = inl e
+in_left r (x ∷ xs) ys (inr h) = inr (in_left r xs ys h)
+
+in_right : (r : Row) (xs ys : List Row) → In r ys → In r (xs ++ ys)
+in_right r [] ys h = h
+in_right r (x ∷ xs) ys h = inr (in_right r xs ys h)
+
+abbrev at_place : List (List Row) → ℕ → List Row
+at_place [] k = []
+at_place (l ∷ ls) zero = l
+at_place (l ∷ ls) (suc k) = at_place ls k
+
+in_joined : (ls : List (List Row)) (k : ℕ) (r : Row) → In r (at_place ls k) → In r (joined ls)
+in_joined [] k r h = absurd h
+in_joined (l ∷ ls) zero r h = in_left r l (joined ls) h
+in_joined (l ∷ ls) (suc k) r h = in_right r l (joined ls) (in_joined ls k r h)
+
+find-step : {A : Type 0} (b : Bool) (o op : A) (rest : Option A) → cond b (Some o) rest ≡ Some op
+    → (o ≡ op) ⊎ (rest ≡ Some op)
+find-step true o op rest h = inl (cc)
+find-step false o op rest h = inr h
+
+-- ---- each operation is found by its bits
+
+known_upper : (op : UpperOp) → find upper_bits upper_ops (upper_bits op) ≡ Some op
+unfolding find
+known_upper upper.Lui = refl
+known_upper _ = refl
+
+known_branch : (op : BranchOp) → find branch_bits branch_ops (branch_bits op) ≡ Some op
+unfolding find
+known_branch branch.Beq = refl
+known_branch _ = refl
+
+known_load : (op : LoadOp) → find load_bits load_ops (load_bits op) ≡ Some op
+unfolding find
+known_load load.Lb = refl
+known_load _ = refl
+
+known_store : (op : StoreOp) → find store_bits store_ops (store_bits op) ≡ Some op
+unfolding find
+known_store store.Sb = refl
+known_store _ = refl
+
+known_op_imm : (op : OpImmOp) → find op_imm_bits op_imm_ops (op_imm_bits op) ≡ Some op
+unfolding find
+known_op_imm op_imm.Addi = refl
+known_op_imm _ = refl
+
+known_shift_imm : (op : ShiftImmOp) → find shift_imm_bits shift_imm_ops (shift_imm_bits op) ≡ Some op
+unfolding find
+known_shift_imm shift_imm.Slli = refl
+known_shift_imm _ = refl
+
+known_shift_imm_word : (op : ShiftImmWordOp)
+    → find shift_imm_word_bits shift_imm_word_ops (shift_imm_word_bits op) ≡ Some op
+unfolding find
+known_shift_imm_word shift_imm_word.Slliw = refl
+known_shift_imm_word _ = refl
+
+known_op : (op : OpOp) → find op_bits op_ops (op_bits op) ≡ Some op
+unfolding find
+known_op op.Add = refl
+known_op _ = refl
+
+known_system : (op : SystemOp) → find system_bits system_ops (system_bits op) ≡ Some op
+unfolding find
+known_system system.Ecall = refl
+known_system _ = refl
+
+known_csr : (op : CsrOp) → find csr_bits csr_ops (csr_bits op) ≡ Some op
+unfolding find
+known_csr csr.Csrrw = refl
+known_csr _ = refl
+
+known_csr_immediate : (op : CsrImmediateOp)
+    → find csr_immediate_bits csr_immediate_ops (csr_immediate_bits op) ≡ Some op
+unfolding find
+known_csr_immediate csr_immediate.Csrrwi = refl
+known_csr_immediate _ = refl
+
+known_whole_move : (op : RegisterCount) → find whole_move_bits counts (whole_move_bits op) ≡ Some op
+unfolding find
+known_whole_move count.One = refl
+known_whole_move _ = refl
+
+known_mask_logic : (op : MaskLogicOp) → find mask_logic_bits mask_logic_ops (mask_logic_bits op) ≡ Some op
+unfolding find
+known_mask_logic mask_logic.Vmandn = refl
+known_mask_logic _ = refl
+
+known_mask_to_scalar : (op : MaskToScalarOp)
+    → find mask_to_scalar_bits mask_to_scalar_ops (mask_to_scalar_bits op) ≡ Some op
+unfolding find
+known_mask_to_scalar mask_to_scalar.Vcpop = refl
+known_mask_to_scalar _ = refl
+
+known_extend : (op : ExtendOp) → find extend_bits extend_ops (extend_bits op) ≡ Some op
+unfolding find
+known_extend extend.VzextVf8 = refl
+known_extend _ = refl
+
+known_mask_unary : (op : MaskUnaryOp) → find mask_unary_bits mask_unary_ops (mask_unary_bits op) ≡ Some op
+unfolding find
+known_mask_unary mask_unary.Vmsbf = refl
+known_mask_unary _ = refl
+
+known_whole_store : (op : RegisterCount) → find whole_store_bits counts (whole_store_bits op) ≡ Some op
+unfolding find
+known_whole_store count.One = refl
+known_whole_store _ = refl
+
+known_mask_memory : (op : Direction) → find mask_memory_bits directions (mask_memory_bits op) ≡ Some op
+unfolding find
+known_mask_memory direction.Load = refl
+known_mask_memory _ = refl
+
+known_unit : (op : UnitOp) (width : Width)
+    → find unit_access_bits unit_accesses (unit_access_bits (op, width)) ≡ Some (op, width)
+unfolding find
+known_unit unit.Load width.E8 = refl
+known_unit _ width.E8 = refl
+known_unit unit.Load width.E16 = refl
+known_unit _ width.E16 = refl
+known_unit unit.Load width.E32 = refl
+known_unit _ width.E32 = refl
+known_unit unit.Load width.E64 = refl
+known_unit _ width.E64 = refl
+
+known_strided : (op : Direction) (width : Width)
+    → find strided_access_bits strided_accesses (strided_access_bits (op, width)) ≡ Some (op, width)
+unfolding find
+known_strided direction.Load width.E8 = refl
+known_strided _ width.E8 = refl
+known_strided direction.Load width.E16 = refl
+known_strided _ width.E16 = refl
+known_strided direction.Load width.E32 = refl
+known_strided _ width.E32 = refl
+known_strided direction.Load width.E64 = refl
+known_strided _ width.E64 = refl
+
+known_whole_load : (op : RegisterCount) (width : Width)
+    → find whole_load_bits whole_loads (whole_load_bits (op, width)) ≡ Some (op, width)
+unfolding find
+known_whole_load count.One width.E8 = refl
+known_whole_load _ width.E8 = refl
+known_whole_load count.One width.E16 = refl
+known_whole_load _ width.E16 = refl
+known_whole_load count.One width.E32 = refl
+known_whole_load _ width.E32 = refl
+known_whole_load count.One width.E64 = refl
+known_whole_load _ width.E64 = refl
+
+known_indexed : (direction : Direction) (order : Order) (width : Width)
+    → find indexed_access_bits indexed_accesses (indexed_access_bits ((direction, order), width)) ≡ Some ((direction, order), width)
+unfolding find
+known_indexed direction.Load order.Unordered width.E8 = refl
+known_indexed _ order.Unordered width.E8 = refl
+known_indexed direction.Load order.Unordered width.E16 = refl
+known_indexed _ order.Unordered width.E16 = refl
+known_indexed direction.Load order.Unordered width.E32 = refl
+known_indexed _ order.Unordered width.E32 = refl
+known_indexed direction.Load order.Unordered width.E64 = refl
+known_indexed _ order.Unordered width.E64 = refl
+known_indexed direction.Load order.Ordered width.E8 = refl
+known_indexed _ order.Ordered width.E8 = refl
+known_indexed direction.Load order.Ordered width.E16 = refl
+known_indexed _ order.Ordered width.E16 = refl
+known_indexed direction.Load order.Ordered width.E32 = refl
+known_indexed _ order.Ordered width.E32 = refl
+known_indexed direction.Load order.Ordered width.E64 = refl
+known_indexed _ order.Ordered width.E64 = refl
+
+-- an operation with this line is found by the line's bits, in each form that it has
+abbrev IsKnown : VectorOp → Line → Form → Type 0
+IsKnown op l f =
+    cond (has_form l.forms f) (find (λ o. line_bits (line o) f) (those line l.major f vector_ops) (line_bits l f)) None
+    ≡ cond (has_form l.forms f) (Some op) None
+
+known_binary : (op : BinaryOp) (f : Form) → IsKnown (vector_op.Binary op) (binary_line op) f
+unfolding find
+known_binary binary.Vadd form.V = refl
+known_binary _ form.V = refl
+known_binary binary.Vadd form.X = refl
+known_binary _ form.X = refl
+known_binary binary.Vadd form.I = refl
+known_binary _ form.I = refl
+
+known_compare : (op : CompareOp) (f : Form) → IsKnown (vector_op.Compare op) (compare_line op) f
+unfolding find
+known_compare compare.Vmadc form.V = refl
+known_compare _ form.V = refl
+known_compare compare.Vmadc form.X = refl
+known_compare _ form.X = refl
+known_compare compare.Vmadc form.I = refl
+known_compare _ form.I = refl
+
+known_fixed_point : (op : FixedPointOp) (f : Form) → IsKnown (vector_op.FixedPoint op) (fixed_point_line op) f
+unfolding find
+known_fixed_point fixed_point.Vsaddu form.V = refl
+known_fixed_point _ form.V = refl
+known_fixed_point fixed_point.Vsaddu form.X = refl
+known_fixed_point _ form.X = refl
+known_fixed_point fixed_point.Vsaddu form.I = refl
+known_fixed_point _ form.I = refl
+
+known_narrow : (op : NarrowOp) (f : Form) → IsKnown (vector_op.Narrow op) (narrow_line op) f
+unfolding find
+known_narrow narrow.Vnsrl form.V = refl
+known_narrow _ form.V = refl
+known_narrow narrow.Vnsrl form.X = refl
+known_narrow _ form.X = refl
+known_narrow narrow.Vnsrl form.I = refl
+known_narrow _ form.I = refl
+
+known_widen : (op : WidenOp) (f : Form) → IsKnown (vector_op.Widen op) (widen_line op) f
+unfolding find
+known_widen widen.Vwaddu form.V = refl
+known_widen _ form.V = refl
+known_widen widen.Vwaddu form.X = refl
+known_widen _ form.X = refl
+known_widen widen.Vwaddu form.I = refl
+known_widen _ form.I = refl
+
+known_multiply_add : (op : MultiplyAddOp) (f : Form) → IsKnown (vector_op.MultiplyAdd op) (multiply_add_line op) f
+unfolding find
+known_multiply_add multiply_add.Vmadd form.V = refl
+known_multiply_add _ form.V = refl
+known_multiply_add multiply_add.Vmadd form.X = refl
+known_multiply_add _ form.X = refl
+known_multiply_add multiply_add.Vmadd form.I = refl
+known_multiply_add _ form.I = refl
+
+known_reduce : (op : ReduceOp) (f : Form) → IsKnown (vector_op.Reduce op) (reduce_line op) f
+unfolding find
+known_reduce reduce.Vredsum form.V = refl
+known_reduce _ form.V = refl
+known_reduce reduce.Vredsum form.X = refl
+known_reduce _ form.X = refl
+known_reduce reduce.Vredsum form.I = refl
+known_reduce _ form.I = refl
+
+known_permute : (op : PermuteOp) (f : Form) → IsKnown (vector_op.Permute op) (permute_line op) f
+unfolding find
+known_permute permute.Vrgather form.V = refl
+known_permute _ form.V = refl
+known_permute permute.Vrgather form.X = refl
+known_permute _ form.X = refl
+known_permute permute.Vrgather form.I = refl
+known_permute _ form.I = refl
+
+known_carry : (op : CarryOp) (f : Form)
+    → cond (has_form (carry_line op).forms f) (find (λ o. line_bits (carry_line o) f) (those carry_line Opi f carry_ops) (line_bits (carry_line op) f)) None ≡ cond (has_form (carry_line op).forms f) (Some op) None
+unfolding find
+known_carry carry.Vadc form.V = refl
+known_carry _ form.V = refl
+known_carry carry.Vadc form.X = refl
+known_carry _ form.X = refl
+known_carry carry.Vadc form.I = refl
+known_carry _ form.I = refl
+
+known_vector : (op : VectorOp) (f : Form) → IsKnown op (line op) f
+known_vector (vector_op.Binary op) f = known_binary op f
+known_vector (vector_op.Compare op) f = known_compare op f
+known_vector (vector_op.FixedPoint op) f = known_fixed_point op f
+known_vector (vector_op.Narrow op) f = known_narrow op f
+known_vector (vector_op.Widen op) f = known_widen op f
+known_vector (vector_op.MultiplyAdd op) f = known_multiply_add op f
+known_vector (vector_op.Reduce op) f = known_reduce op f
+known_vector (vector_op.Permute op) f = known_permute op f
+
+cond-same : {A : Type 0} (b : Bool) (x y z : A) → cond b x z ≡ cond b y z → b ≡ true → x ≡ y
+cond-same true x y z h t = h
+cond-same false x y z h t = absurd (cc)
+
+-- ---- each instruction has its row
+
+in_rows : {A : Type 0} (code : A → ℕ) (t : A → Instr) (ops : List A) (op : A) (b : ℕ) → find code ops b ≡ Some op
+    → In (row_of (t op)) (map row_of (map t ops))
+unfolding find
+in_rows code t [] op b h = absurd (cc)
+in_rows code t (o ∷ os) op b h =
+    elim (find-step (nat_eq b (code o)) o op (find code os b) h) [
+      | inl e ↦ inl (ap (λ x. row_of (t x)) e)
+      | inr later ↦ inr (in_rows code t os op b later)
+    ]
+
+in_table : (k : ℕ) (r : Row) → In r (at_place (map rows families) k) → In r table
+unfolding table
+in_table k r h = in_joined (map rows families) k r h
+
+listed_at : {A : Type 0} (k : ℕ) (code : A → ℕ) (t : A → Instr) (ops : List A) (op : A)
+    → find code ops (code op) ≡ Some op → at_place (map rows families) k ≡ map row_of (map t ops)
+    → In (row_of (t op)) table
+listed_at k code t ops op known same =
+    in_table k (row_of (t op)) (subst (In (row_of (t op))) (sym same) (in_rows code t ops op (code op) known))
+
+arith_in : (m : Major) (f : Form) (r : Row) → In r (rows (Ariths m f)) → In r table
+arith_in Opi form.V r h = in_table 17 r h
+arith_in Opi form.X r h = in_table 18 r h
+arith_in Opi form.I r h = in_table 19 r h
+arith_in Opm form.V r h = in_table 20 r h
+arith_in Opm form.X r h = in_table 21 r h
+arith_in Opm form.I r h = in_table 22 r h
+
+listed_arith : (op : VectorOp) (s : Source) (vd vs2 : ℕ) (vm : Bool) → has_form (line op).forms (form_of s) ≡ true
+    → In (row_of (VectorArith (op, s) vd vs2 vm)) table
+unfolding rows
+listed_arith op (source.V n) vd vs2 vm h =
+    let ops : List VectorOp = those line (line op).major form.V vector_ops in
+    let is : find (λ o. line_bits (line o) form.V) ops (line_bits (line op) form.V) ≡ Some op = cond-same (has_form (line op).forms form.V) (find (λ o. line_bits (line o) form.V) ops (line_bits (line op) form.V)) (Some op) None (known_vector op form.V) h in
+    arith_in (line op).major form.V (row_of (VectorArith (op, source.V 0) 0 0 true)) (in_rows (λ o. line_bits (line o) form.V) (λ o. VectorArith (o, source.V 0) 0 0 true) ops op (line_bits (line op) form.V) is)
+listed_arith op (source.X n) vd vs2 vm h =
+    let ops : List VectorOp = those line (line op).major form.X vector_ops in
+    let is : find (λ o. line_bits (line o) form.X) ops (line_bits (line op) form.X) ≡ Some op = cond-same (has_form (line op).forms form.X) (find (λ o. line_bits (line o) form.X) ops (line_bits (line op) form.X)) (Some op) None (known_vector op form.X) h in
+    arith_in (line op).major form.X (row_of (VectorArith (op, source.X 0) 0 0 true)) (in_rows (λ o. line_bits (line o) form.X) (λ o. VectorArith (o, source.X 0) 0 0 true) ops op (line_bits (line op) form.X) is)
+listed_arith op (source.I n) vd vs2 vm h =
+    let ops : List VectorOp = those line (line op).major form.I vector_ops in
+    let is : find (λ o. line_bits (line o) form.I) ops (line_bits (line op) form.I) ≡ Some op = cond-same (has_form (line op).forms form.I) (find (λ o. line_bits (line o) form.I) ops (line_bits (line op) form.I)) (Some op) None (known_vector op form.I) h in
+    arith_in (line op).major form.I (row_of (VectorArith (op, source.I 0) 0 0 true)) (in_rows (λ o. line_bits (line o) form.I) (λ o. VectorArith (o, source.I 0) 0 0 true) ops op (line_bits (line op) form.I) is)
+
+listed_carry : (op : CarryOp) (s : Source) (vd vs2 : ℕ) → has_form (carry_line op).forms (form_of s) ≡ true
+    → In (row_of (VectorCarry (op, s) vd vs2)) table
+unfolding rows
+listed_carry op (source.V n) vd vs2 h =
+    let ops : List CarryOp = those carry_line Opi form.V carry_ops in
+    let is : find (λ o. line_bits (carry_line o) form.V) ops (line_bits (carry_line op) form.V) ≡ Some op = cond-same (has_form (carry_line op).forms form.V) (find (λ o. line_bits (carry_line o) form.V) ops (line_bits (carry_line op) form.V)) (Some op) None (known_carry op form.V) h in
+    in_table 23 (row_of (VectorCarry (op, source.V 0) 0 0)) (in_rows (λ o. line_bits (carry_line o) form.V) (λ o. VectorCarry (o, source.V 0) 0 0) ops op (line_bits (carry_line op) form.V) is)
+listed_carry op (source.X n) vd vs2 h =
+    let ops : List CarryOp = those carry_line Opi form.X carry_ops in
+    let is : find (λ o. line_bits (carry_line o) form.X) ops (line_bits (carry_line op) form.X) ≡ Some op = cond-same (has_form (carry_line op).forms form.X) (find (λ o. line_bits (carry_line o) form.X) ops (line_bits (carry_line op) form.X)) (Some op) None (known_carry op form.X) h in
+    in_table 24 (row_of (VectorCarry (op, source.X 0) 0 0)) (in_rows (λ o. line_bits (carry_line o) form.X) (λ o. VectorCarry (o, source.X 0) 0 0) ops op (line_bits (carry_line op) form.X) is)
+listed_carry op (source.I n) vd vs2 h =
+    let ops : List CarryOp = those carry_line Opi form.I carry_ops in
+    let is : find (λ o. line_bits (carry_line o) form.I) ops (line_bits (carry_line op) form.I) ≡ Some op = cond-same (has_form (carry_line op).forms form.I) (find (λ o. line_bits (carry_line o) form.I) ops (line_bits (carry_line op) form.I)) (Some op) None (known_carry op form.I) h in
+    in_table 25 (row_of (VectorCarry (op, source.I 0) 0 0)) (in_rows (λ o. line_bits (carry_line o) form.I) (λ o. VectorCarry (o, source.I 0) 0 0) ops op (line_bits (carry_line op) form.I) is)
+
+listed_move : (s : Source) (vd : ℕ) → In (row_of (VectorMove s vd)) table
+unfolding rows
+listed_move (source.V n) vd = in_table 26 (row_of (VectorMove (source.V 0) 0)) (inl refl)
+listed_move (source.X n) vd = in_table 27 (row_of (VectorMove (source.X 0) 0)) (inl refl)
+listed_move (source.I n) vd = in_table 28 (row_of (VectorMove (source.I 0) 0)) (inl refl)
+
+-- an instruction's row is in the table
+pub listed : (i : Instr) → Allowed i → In (row_of i) table
+unfolding rows
+listed (Upper op rd imm) h = listed_at 0 upper_bits (λ op. Upper op 0 0) upper_ops op (known_upper op) refl
+listed (Jump rd offset) h = in_table 1 (row_of (Jump 0 0)) (inl refl)
+listed (JumpRegister rd rs1 imm) h = in_table 2 (row_of (JumpRegister 0 0 0)) (inl refl)
+listed (Branch op rs1 rs2 offset) h =
+    listed_at 3 branch_bits (λ op. Branch op 0 0 0) branch_ops op (known_branch op) refl
+listed (Load op rd rs1 imm) h = listed_at 4 load_bits (λ op. Load op 0 0 0) load_ops op (known_load op) refl
+listed (Store op rs1 rs2 imm) h = listed_at 5 store_bits (λ op. Store op 0 0 0) store_ops op (known_store op) refl
+listed (OpImm op rd rs1 imm) h = listed_at 6 op_imm_bits (λ op. OpImm op 0 0 0) op_imm_ops op (known_op_imm op) refl
+listed (ShiftImm op rd rs1 amount) h =
+    listed_at 7 shift_imm_bits (λ op. ShiftImm op 0 0 0) shift_imm_ops op (known_shift_imm op) refl
+listed (ShiftImmWord op rd rs1 amount) h =
+    listed_at 8 shift_imm_word_bits (λ op. ShiftImmWord op 0 0 0) shift_imm_word_ops op (known_shift_imm_word op) refl
+listed (Op op rd rs1 rs2) h = listed_at 9 op_bits (λ op. Op op 0 0 0) op_ops op (known_op op) refl
+listed (Fence rd rs1 ordering) h = in_table 10 (row_of (Fence 0 0 0)) (inl refl)
+listed (System op) h = listed_at 11 system_bits (λ op. System op) system_ops op (known_system op) refl
+listed (Csr op rd rs1 csr) h = listed_at 12 csr_bits (λ op. Csr op 0 0 0) csr_ops op (known_csr op) refl
+listed (CsrImmediate op rd imm csr) h =
+    listed_at 13 csr_immediate_bits (λ op. CsrImmediate op 0 0 0) csr_immediate_ops op (known_csr_immediate op) refl
+listed (SetVli rd rs1 vtype) h = in_table 14 (row_of (SetVli 0 0 0)) (inl refl)
+listed (SetIvli rd avl vtype) h = in_table 15 (row_of (SetIvli 0 0 0)) (inl refl)
+listed (SetVl rd rs1 rs2) h = in_table 16 (row_of (SetVl 0 0 0)) (inl refl)
+listed (VectorArith arith vd vs2 vm) h = listed_arith arith.0 arith.1 vd vs2 vm h
+listed (VectorCarry carry vd vs2) h = listed_carry carry.0 carry.1 vd vs2 h
+listed (VectorMove source vd) h = listed_move source vd
+listed (WholeMove count vd vs2) h =
+    listed_at 29 whole_move_bits (λ op. WholeMove op 0 0) counts count (known_whole_move count) refl
+listed (MaskLogic op vd vs1 vs2) h =
+    listed_at 30 mask_logic_bits (λ op. MaskLogic op 0 0 0) mask_logic_ops op (known_mask_logic op) refl
+listed (Compress vd vs1 vs2) h = in_table 31 (row_of (Compress 0 0 0)) (inl refl)
+listed (MaskToScalar op rd vs2 vm) h =
+    listed_at 32 mask_to_scalar_bits (λ op. MaskToScalar op 0 0 true) mask_to_scalar_ops op (known_mask_to_scalar op) refl
+listed (VectorExtend op vd vs2 vm) h =
+    listed_at 33 extend_bits (λ op. VectorExtend op 0 0 true) extend_ops op (known_extend op) refl
+listed (MaskUnary op vd vs2 vm) h =
+    listed_at 34 mask_unary_bits (λ op. MaskUnary op 0 0 true) mask_unary_ops op (known_mask_unary op) refl
+listed (ElementIndex vd vm) h = in_table 35 (row_of (ElementIndex 0 true)) (inl refl)
+listed (MoveToScalar rd vs2) h = in_table 36 (row_of (MoveToScalar 0 0)) (inl refl)
+listed (MoveToVector vd rs1) h = in_table 37 (row_of (MoveToVector 0 0)) (inl refl)
+listed (VectorUnit op width nf vd rs1 vm) h =
+    listed_at 38 unit_access_bits (λ op. VectorUnit op.0 op.1 0 0 0 true) unit_accesses (op, width) (known_unit op width) refl
+listed (VectorStrided direction width nf vd rs1 rs2 vm) h =
+    listed_at 39 strided_access_bits (λ op. VectorStrided op.0 op.1 0 0 0 0 true) strided_accesses (direction, width) (known_strided direction width) refl
+listed (VectorIndexed direction order width nf vd rs1 vs2 vm) h =
+    listed_at 40 indexed_access_bits (λ op. VectorIndexed op.0.0 op.0.1 op.1 0 0 0 0 true) indexed_accesses ((direction, order), width) (known_indexed direction order width) refl
+listed (WholeLoad count width vd rs1) h =
+    listed_at 41 whole_load_bits (λ op. WholeLoad op.0 op.1 0 0) whole_loads (count, width) (known_whole_load count width) refl
+listed (WholeStore count vd rs1) h =
+    listed_at 42 whole_store_bits (λ op. WholeStore op 0 0) counts count (known_whole_store count) refl
+listed (MaskMemory direction vd rs1) h =
+    listed_at 43 mask_memory_bits (λ op. MaskMemory op 0 0) directions direction (known_mask_memory direction) refl
+
+pub inside : (i : Instr) → Allowed i → bit_and (bits i) (fixed (parts i)) ≡ bits i
+inside i ok =
+    eqb-true (bit_and (bits i) (fixed (parts i))) (bits i) (all_in is_inside table table_inside (row_of i) (listed i ok))

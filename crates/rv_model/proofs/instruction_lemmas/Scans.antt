@@ -1,0 +1,221 @@
+-- What a scan of the instruction table finds
+use Rattle.std.proofs.Common.{◌≡◌, ◌≢◌, refl, ap, ◌∙◌, sym, subst, ℕ, List, [], ◌∷◌, ◌++◌, Option, Some, None, Bool, true, false, nat_eq, cond, not, ◌&&◌, ◌||◌, inl, inr, ◌⊎◌}
+use Rattle.std.specs.Prelude.{IfSome, IfNone}
+use Rattle.std.specs.List.{list_any, list_all}
+use Rattle.std.specs.Option.{option_or}
+use Rattle.std.specs.Int.Bits.{bit_and, and_comm}
+use Rattle.std.proofs.lemmas.Nat.{and_assoc}
+use Rattle.std.proofs.lemmas.Bool.Decides.{eqb_tells}
+use Rattle.std.proofs.lemmas.Bool.{eq-eqb, eqb-true}
+use Rattle.rv_model.specs.declared.instructions.instruction.Instr.{Instr}
+use Rattle.rv_model.specs.instructions.Table.{Row, rows, table, Matches, In, IsRow, scan}
+use Rattle.rv_model.proofs.instruction_lemmas.Parts.{both_true}
+
+-- no word can match both rows
+abbrev pub apart : Row → Row → Bool
+apart r s = not (nat_eq (bit_and r.bits s.mask) (bit_and s.bits r.mask))
+
+-- no word can match the row and one of these
+abbrev pub apart_from : Row → List Row → Bool
+apart_from r [] = true
+apart_from r (s ∷ ss) = apart r s && apart_from r ss
+
+-- no word can match two of these
+abbrev pub all_apart : List Row → Bool
+all_apart [] = true
+all_apart (r ∷ rs) = apart_from r rs && all_apart rs
+
+-- the row's bits are among those that it fixes
+abbrev pub is_inside : Row → Bool
+is_inside r = nat_eq (bit_and r.bits r.mask) r.bits
+
+or-cond : (b : Bool) (x : Instr) (all xs ys : Option Instr) → all ≡ option_or xs ys
+    → cond b (Some x) all ≡ option_or (cond b (Some x) xs) ys
+or-cond true x all xs ys e = refl
+or-cond false x all xs ys e = e
+
+-- what an `or` of two answers gives
+pub scan_append : (xs ys : List Row) (word : ℕ) → scan (xs ++ ys) word ≡ option_or (scan xs word) (scan ys word)
+unfolding scan
+scan_append [] ys word = refl
+scan_append (r ∷ xs) ys word =
+    or-cond (nat_eq (bit_and word r.mask) r.bits) (r.instr word) (scan (xs ++ ys) word) (scan xs word) (scan ys word) (scan_append xs ys word)
+
+and_swap : (w a b : ℕ) → bit_and (bit_and w a) b ≡ bit_and (bit_and w b) a
+and_swap w a b = and_assoc b w a ∙ ap (bit_and w) (and_comm a b) ∙ sym (and_assoc a w b)
+
+-- the rows that a word with these bits can match
+abbrev pub fits : ℕ → ℕ → Row → Bool
+fits m v r = nat_eq (bit_and r.bits m) (bit_and v r.mask)
+
+abbrev pub narrowed : ℕ → ℕ → List Row → List Row
+narrowed m v [] = []
+narrowed m v (r ∷ rs) = cond (fits m v r) (r ∷ narrowed m v rs) (narrowed m v rs)
+
+cannot : (m v word : ℕ) → bit_and word m ≡ v → (r : Row) → fits m v r ≡ false
+    → nat_eq (bit_and word r.mask) r.bits ≡ false
+cannot m v word is r ne =
+    elim (eqb_tells (bit_and word r.mask) r.bits) [
+      | inl hit ↦
+          let e : bit_and r.bits m ≡ bit_and v r.mask = ap (λ x. bit_and x m) (sym hit.1) ∙ and_swap word r.mask m ∙ ap (λ x. bit_and x r.mask) is in
+          let t : fits m v r ≡ true = eq-eqb (bit_and r.bits m) (bit_and v r.mask) e in
+          cc
+      | inr n ↦ n.0
+    ]
+
+narrowed-step : (word : ℕ) (r : Row) (rs n : List Row) (b : Bool)
+    → (b ≡ false → nat_eq (bit_and word r.mask) r.bits ≡ false) → scan rs word ≡ scan n word
+    → scan (r ∷ rs) word ≡ scan (cond b (r ∷ n) n) word
+unfolding scan
+narrowed-step word r rs n true ne e = ap (λ x. cond (nat_eq (bit_and word r.mask) r.bits) (Some (r.instr word)) x) e
+narrowed-step word r rs n false ne e = ap (λ b. cond b (Some (r.instr word)) (scan rs word)) (ne refl) ∙ e
+
+pub scan_narrow : (m v word : ℕ) → bit_and word m ≡ v → (t : List Row) → scan t word ≡ scan (narrowed m v t) word
+scan_narrow m v word is [] = refl
+scan_narrow m v word is (r ∷ rs) =
+    narrowed-step word r rs (narrowed m v rs) (fits m v r) (cannot m v word is r) (scan_narrow m v word is rs)
+
+pub same_narrow : (m v word : ℕ) → bit_and word m ≡ v → (t s : List Row) → narrowed m v t ≡ narrowed m v s
+    → scan t word ≡ scan s word
+same_narrow m v word is t s e = scan_narrow m v word is t ∙ ap (λ x. scan x word) e ∙ sym (scan_narrow m v word is s)
+
+-- each row fixes the bits of m, to one of vs
+abbrev pub one_of : ℕ → List ℕ → Row → Bool
+one_of m vs r = nat_eq (bit_and r.mask m) m && list_any (λ v. nat_eq (bit_and r.bits m) v) vs
+
+outside-row : (m : ℕ) (vs : List ℕ) (word : ℕ) → list_any (λ v. nat_eq (bit_and word m) v) vs ≡ false → (r : Row)
+    → one_of m vs r ≡ true → nat_eq (bit_and word r.mask) r.bits ≡ false
+outside-row m vs word none r fixed =
+    elim (eqb_tells (bit_and word r.mask) r.bits) [
+      | inl hit ↦
+          let both : (nat_eq (bit_and r.mask m) m ≡ true) × (list_any (λ v. nat_eq (bit_and r.bits m) v) vs ≡ true) = both_true (nat_eq (bit_and r.mask m) m) (list_any (λ v. nat_eq (bit_and r.bits m) v) vs) fixed in
+          let e : bit_and r.bits m ≡ bit_and word m = ap (λ x. bit_and x m) (sym hit.1) ∙ and_assoc m word r.mask ∙ ap (bit_and word) (eqb-true (bit_and r.mask m) m both.0) in
+          let t : list_any (λ v. nat_eq (bit_and word m) v) vs ≡ true = subst (λ x. list_any (λ v. nat_eq x v) vs ≡ true) e both.1 in
+          cc
+      | inr n ↦ n.0
+    ]
+
+pub outside : (m : ℕ) (vs : List ℕ) (word : ℕ) → list_any (λ v. nat_eq (bit_and word m) v) vs ≡ false → (t : List Row)
+    → list_all (one_of m vs) t ≡ true → scan t word ≡ None
+unfolding scan
+outside m vs word none [] all = refl
+outside m vs word none (r ∷ rs) all =
+    let both : (one_of m vs r ≡ true) × (list_all (one_of m vs) rs ≡ true) = both_true (one_of m vs r) (list_all (one_of m vs) rs) all in
+    ap (λ b. cond b (Some (r.instr word)) (scan rs word)) (outside-row m vs word none r both.0) ∙ outside m vs word none rs both.1
+
+none_cons : (a v : ℕ) (vs : List ℕ) → a ≢ v → list_any (λ x. nat_eq a x) vs ≡ false
+    → list_any (λ x. nat_eq a x) (v ∷ vs) ≡ false
+none_cons a v vs ne rest =
+    elim (eqb_tells a v) [
+      | inl e ↦ absurd (ne e.1)
+      | inr n ↦ ap (λ b. b || list_any (λ x. nat_eq a x) vs) n.0 ∙ rest
+    ]
+
+-- a number differs from each of these
+abbrev pub DiffersFrom : List ℕ → ℕ → Type 0
+DiffersFrom [] a = Unit {0}
+DiffersFrom (v ∷ vs) a = (a ≢ v) × DiffersFrom vs a
+
+none_of : (a : ℕ) (vs : List ℕ) → DiffersFrom vs a → list_any (λ x. nat_eq a x) vs ≡ false
+none_of a [] h = refl
+none_of a (v ∷ vs) h = none_cons a v vs h.0 (none_of a vs h.1)
+
+-- a word whose bits of m are none of vs matches no row
+pub no_scan : (m : ℕ) (vs : List ℕ) (word : ℕ) (t : List Row) → list_all (one_of m vs) t ≡ true
+    → DiffersFrom vs (bit_and word m) → scan t word ≡ None
+no_scan m vs word t all h = outside m vs word (none_of (bit_and word m) vs h) t all
+
+pub apart_in : (s r : Row) (ss : List Row) → apart_from s ss ≡ true → In r ss → apart s r ≡ true
+apart_in s r [] h here = absurd here
+apart_in s r (x ∷ ss) h (inl e) = subst (λ y. apart s y ≡ true) e (both_true (apart s x) (apart_from s ss) h).0
+apart_in s r (x ∷ ss) h (inr later) = apart_in s r ss (both_true (apart s x) (apart_from s ss) h).1 later
+
+not_true : (b : Bool) → not b ≡ true → b ≡ false
+not_true true h = absurd (cc)
+not_true false h = refl
+
+pub misses : (s r : Row) (word : ℕ) → apart s r ≡ true → bit_and word r.mask ≡ r.bits
+    → nat_eq (bit_and word s.mask) s.bits ≡ false
+misses s r word h is =
+    elim (eqb_tells (bit_and word s.mask) s.bits) [
+      | inl hit ↦
+          let e : bit_and s.bits r.mask ≡ bit_and r.bits s.mask = ap (λ x. bit_and x r.mask) (sym hit.1) ∙ and_swap word s.mask r.mask ∙ ap (λ x. bit_and x s.mask) is in
+          let t : nat_eq (bit_and s.bits r.mask) (bit_and r.bits s.mask) ≡ true = eq-eqb (bit_and s.bits r.mask) (bit_and r.bits s.mask) e in
+          let f : nat_eq (bit_and s.bits r.mask) (bit_and r.bits s.mask) ≡ false = not_true (nat_eq (bit_and s.bits r.mask) (bit_and r.bits s.mask)) h in
+          cc
+      | inr n ↦ n.0
+    ]
+
+-- a row of the table that matches is the one that the scan finds
+pub found : (t : List Row) → all_apart t ≡ true → (r : Row) → In r t → (word : ℕ) → bit_and word r.mask ≡ r.bits
+    → scan t word ≡ Some (r.instr word)
+unfolding scan
+found [] h r here word is = absurd here
+found (s ∷ ss) h r (inl e) word is =
+    let hit : nat_eq (bit_and word s.mask) s.bits ≡ true = eq-eqb (bit_and word s.mask) s.bits (subst (λ x. bit_and word x.mask ≡ x.bits) (sym e) is) in
+    ap (λ b. cond b (Some (s.instr word)) (scan ss word)) hit ∙ ap (λ x. Some (x.instr word)) e
+found (s ∷ ss) h r (inr later) word is =
+    let parts : (apart_from s ss ≡ true) × (all_apart ss ≡ true) = both_true (apart_from s ss) (all_apart ss) h in
+    ap (λ b. cond b (Some (s.instr word)) (scan ss word)) (misses s r word (apart_in s r ss parts.0 later) is) ∙ found ss parts.1 r later word is
+
+pub table_apart : all_apart table ≡ true
+unfolding table rows
+table_apart = refl
+
+true_false : (b : Bool) → b ≡ true → b ≡ false → ⊥
+true_false b h k = cc
+
+one : (t : List Row) → all_apart t ≡ true → (r s : Row) → In r t → In s t → (word : ℕ) → Matches r word
+    → Matches s word → r ≡ s
+one [] h r s a b word hr hs = absurd a
+one (x ∷ xs) h r s (inl a) (inl b) word hr hs = sym a ∙ b
+one (x ∷ xs) h r s (inl a) (inr b) word hr hs =
+    let p : (apart_from x xs ≡ true) × (all_apart xs ≡ true) = both_true (apart_from x xs) (all_apart xs) h in
+    absurd (true_false (nat_eq (bit_and word x.mask) x.bits) (eq-eqb (bit_and word x.mask) x.bits (subst (λ y. bit_and word y.mask ≡ y.bits) (sym a) hr)) (misses x s word (apart_in x s xs p.0 b) hs))
+one (x ∷ xs) h r s (inr a) (inl b) word hr hs =
+    let p : (apart_from x xs ≡ true) × (all_apart xs ≡ true) = both_true (apart_from x xs) (all_apart xs) h in
+    absurd (true_false (nat_eq (bit_and word x.mask) x.bits) (eq-eqb (bit_and word x.mask) x.bits (subst (λ y. bit_and word y.mask ≡ y.bits) (sym b) hs)) (misses x r word (apart_in x r xs p.0 a) hr))
+one (x ∷ xs) h r s (inr a) (inr b) word hr hs =
+    one xs (both_true (apart_from x xs) (all_apart xs) h).1 r s a b word hr hs
+
+-- no word matches two rows
+pub no_two_rows : (r s : Row) → In r table → In s table → (word : ℕ) → Matches r word → Matches s word → r ≡ s
+no_two_rows = one table table_apart
+
+row-cond : (b : Bool) (x i : Instr) (rest : Option Instr) → cond b (Some x) rest ≡ Some i
+    → ((b ≡ true) × (x ≡ i)) ⊎ (rest ≡ Some i)
+row-cond true x i rest h = inl (refl, cc)
+row-cond false x i rest h = inr h
+
+pub some_row : (t : List Row) (word : ℕ) (i : Instr) → scan t word ≡ Some i
+    → (r : Row) × In r t × Matches r word × (r.instr word ≡ i)
+unfolding scan
+some_row [] word i h = absurd (cc)
+some_row (r ∷ rs) word i h =
+    elim (row-cond (nat_eq (bit_and word r.mask) r.bits) (r.instr word) i (scan rs word) h) [
+      | inl e ↦ (r, inl refl, eqb-true (bit_and word r.mask) r.bits e.0, e.1)
+      | inr later ↦ let q : (r : Row) × In r rs × Matches r word × (r.instr word ≡ i) = some_row rs word i later in (q.0, inr q.1, q.2, q.3)
+    ]
+
+pub found_row : (word : ℕ) (o : Option Instr) → o ≡ scan table word
+    → IfSome o (λ i. (r : Row) × IsRow word r × (r.instr word ≡ i))
+found_row word None is = tt
+found_row word (Some i) is =
+    let q : (r : Row) × In r table × Matches r word × (r.instr word ≡ i) = some_row table word i (sym is) in (q.0, (q.1, q.2), q.3)
+
+none_some : (x : Instr) (o : Option Instr) → o ≡ None → o ≡ Some x → ⊥
+none_some x o h k = cc
+
+pub no_row : (word : ℕ) (o : Option Instr) → o ≡ scan table word → IfNone o ((r : Row) → IsRow word r → ⊥)
+no_row word None is =
+    λ r h. none_some (r.instr word) (scan table word) (sym is) (found table table_apart r h.0 word h.1)
+no_row word (Some i) is = tt
+
+pub table_inside : list_all is_inside table ≡ true
+unfolding table rows
+table_inside = refl
+
+pub all_in : (p : Row → Bool) (t : List Row) → list_all p t ≡ true → (r : Row) → In r t → p r ≡ true
+all_in p [] h r here = absurd here
+all_in p (s ∷ ss) h r (inl e) = subst (λ x. p x ≡ true) e (both_true (p s) (list_all p ss) h).0
+all_in p (s ∷ ss) h r (inr later) = all_in p ss (both_true (p s) (list_all p ss) h).1 r later

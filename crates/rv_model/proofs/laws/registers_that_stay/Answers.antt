@@ -1,9 +1,0 @@
--- Both laws of one instruction.
-use Rattle.rv_model.proofs.StepLaws as law
-use Rattle.rv_model.proofs.laws.registers_that_stay.Goals as goal
-
-pub returns-clause-fault : goal.returns-clause-fault
-returns-clause-fault c = law.faults_write_no_register
-
-pub returns-clause-first : goal.returns-clause-first
-returns-clause-first c = law.first_register_stays

@@ -1,0 +1,3 @@
+-- Laws of legality.
+pub mod Bounds
+pub mod Meaning

@@ -1,0 +1,16 @@
+use Rattle.std.proofs.Common.{refl}
+use Rattle.rv_model.specs.commands.Arguments.{digits_after}
+use Rattle.std.specs.Fmt.{digits}
+use Rattle.hex.specs.Hex.{encode_with}
+use Rattle.rv_model.specs.commands.Grammar.{parse, named, load_args, asm_args, dis_args, map_args, peek_args, set_args, setpc_args, step_args, vreg_args, vset_args}
+use Rattle.rv_model.specs.machine.PrivateMachine.{accepted, carried_out, refusal_of, own_refusal, event}
+use Rattle.rv_model.specs.commands.Replies.{refused, hex16, state_line, trace_line, vcsr_line}
+use Rattle.rv_model.specs.machine.Script.{after, common, kind_of, new_world, told, whole_from}
+use Rattle.rv_model.specs.scalar.Registers.{initial_scalar}
+use Rattle.rv_model.specs.vector.State.{initial_vector}
+use Rattle.rv_model.specs.text.Words.{words, trim_start, trim_end, after_word, after_two_words}
+use Rattle.rv_model.proofs.machine.laws.small_scripts_print.Goals as goal
+
+pub returns : goal.returns
+unfolding after_two_words after_word trim_start trim_end load_args asm_args dis_args whole_from told after kind_of common new_world event parse words named map_args peek_args set_args setpc_args step_args vreg_args vset_args digits_after refusal_of own_refusal accepted carried_out initial_scalar initial_vector refused hex16 encode_with digits state_line trace_line vcsr_line
+returns c = λ setup. refl

@@ -1,0 +1,3 @@
+-- Laws of machines and scripts: `EventLines` first, then `Headline`.
+pub mod EventLines
+pub mod Headline

@@ -1,0 +1,214 @@
+-- Each user's lines are those of a run alone.
+use Rattle.std.proofs.Common.{◌≡◌, ◌≢◌, inl, inr, ℕ, ◌+◌, ◌-◌, ◌≤◌, List, [], ◌∷◌, ◌++◌, length, length-set, get_or-set_same, get_or-set_other, Bool, true, false, refl, ap, ◌∙◌, sym, subst, append_assoc, arith, eqb, cond, None}
+use Rattle.std.proofs.lemmas.List.{get_or-replicate}
+use Rattle.std.specs.Prelude.{if◌then◌else◌, ◌==◌, ◌&&◌, nat_le, nat_lt}
+use Rattle.std.proofs.lemmas.Bool.{cases_eq, leb-true}
+use Rattle.std.proofs.lemmas.Bool.Decides.{nat_tests}
+use Rattle.rv_model.specs.text.Lines.{pieces, text, AreLines}
+use Rattle.rv_model.specs.machine.Setup.{Setup}
+use Rattle.rv_model.specs.machine.PrivateMachine.{Private, Outcome, Event, event, solo_from, solo, end_of}
+use Rattle.rv_model.specs.machine.Script.{World, new_world, part, with_part, Kind, Empty, Long, Bad, Operator, Of, prefixed, kind_of, events_of, common, after_events, told_by, after, told, after_all, told_all, schedule, whole_from, after_script, mine, own_from, own, lines, AreUsers}
+use Rattle.rv_model.specs.machine.Laws.{EachUserAlone, EachNewUserAlone, EachUserEndsAlone, OthersChangeNothing, MachinesStayEight}
+use Rattle.rv_model.proofs.text_lemmas.Lines.{lines_text, both}
+use Rattle.rv_model.proofs.machine_lemmas.EventLines.{event_lines}
+
+no_newline : (v : ℕ) → eqb (48 + v) 10 ≡ false
+no_newline v = grind (arith, nat_tests)
+
+same_digit : (u v : ℕ) → eqb (48 + v) (48 + u) ≡ eqb v u
+same_digit u v = grind (arith, nat_tests)
+
+same_number : (u : ℕ) → eqb u u ≡ true
+same_number u = grind (arith, nat_tests)
+
+other_number : (u v : ℕ) → v ≢ u → eqb v u ≡ false
+other_number u v h = grind (arith, nat_tests)
+
+part_same : (u : ℕ) (p : Private) (w : World) → 1 ≤ u → u ≤ length w.parts → part u (with_part u p w) ≡ p
+part_same u p w low high = get_or-set_same w.parts (u - 1) p None (omega arith)
+
+part_other : (u v : ℕ) (p : Private) (w : World) → 1 ≤ u → 1 ≤ v → v ≢ u → part u (with_part v p w) ≡ part u w
+part_other u v p w low low' ne = get_or-set_other w.parts (v - 1) (u - 1) p None (λ e. ne (omega (arith, e)))
+
+-- one event's lines before those of the others
+abbrev Splits : Setup → ℕ → List (List ℕ) → World → Event → List (ℕ × Event) → ℕ → Type 0
+Splits s u others w e es v = cond (eqb v u) (event s (part v w) e).lines [] ++ (solo_from s (part u (with_part v (event s (part v w) e).next w)) (mine u es) ++ others) ≡ solo_from s (part u w) (mine u ((v, e) ∷ es)) ++ others
+
+splits_same : (s : Setup) (u : ℕ) (others : List (List ℕ)) (w : World) (e : Event) (es : List (ℕ × Event)) → 1 ≤ u → u ≤ length w.parts → Splits s u others w e es u
+splits_same s u others w e es low high =
+    let p : Private = (event s (part u w) e).next in
+    rw (same_number u)
+    (ap (λ (q : Private). (event s (part u w) e).lines ++ (solo_from s q (mine u es) ++ others)) (part_same u p w low high)
+    ∙ sym (append_assoc (event s (part u w) e).lines (solo_from s p (mine u es)) others))
+
+splits_other : (s : Setup) (u : ℕ) (others : List (List ℕ)) (w : World) (e : Event) (es : List (ℕ × Event)) (v : ℕ) → 1 ≤ u → 1 ≤ v → v ≢ u → Splits s u others w e es v
+splits_other s u others w e es v low low' ne =
+    rw (other_number u v ne) (ap (λ (q : Private). solo_from s q (mine u es) ++ others) (part_other u v (event s (part v w) e).next w low low' ne))
+
+splits : (s : Setup) (u : ℕ) (others : List (List ℕ)) (w : World) (e : Event) (es : List (ℕ × Event)) (v : ℕ) → 1 ≤ u → u ≤ length w.parts → 1 ≤ v → Splits s u others w e es v
+splits s u others w e es v low high low' =
+    elim (cases_eq v u) [
+      | inl h ↦ subst (Splits s u others w e es) (sym h) (splits_same s u others w e es low high)
+      | inr ne ↦ splits_other s u others w e es v low low' ne
+    ]
+
+-- what events tell a user
+pub lines_told_by : (s : Setup) (u : ℕ) (w : World) (es : List (ℕ × Event)) (rest : List ℕ) → 1 ≤ u → u ≤ 8 → length w.parts ≡ 8 → AreUsers es → lines u (told_by s w es ++ rest) ≡ solo_from s (part u w) (mine u es) ++ lines u rest
+lines_told_by s u w [] rest low high eight users = refl
+lines_told_by s u w ((v, e) ∷ es) rest low high eight users =
+    let w' : World = with_part v (event s (part v w) e).next w in
+    let ih = lines_told_by s u w' es rest low high (length-set w.parts (v - 1) (event s (part v w) e).next ∙ eight) users.2 in
+    ap (lines u) (append_assoc (text (48 + v) (event s (part v w) e).lines) (told_by s w' es) rest)
+    ∙ lines_text u (48 + v) (event s (part v w) e).lines (told_by s w' es ++ rest) (no_newline v) (event_lines s (part v w) e)
+    ∙ ap (λ (b : Bool). cond b (event s (part v w) e).lines [] ++ lines u (told_by s w' es ++ rest)) (same_digit u v)
+    ∙ ap (λ (x : List (List ℕ)). cond (eqb v u) (event s (part v w) e).lines [] ++ x) ih
+    ∙ splits s u (lines u rest) w e es v low (omega (arith, high, eight)) users.0
+
+-- where events leave a user
+abbrev Ends : Setup → ℕ → World → Event → List (ℕ × Event) → ℕ → Type 0
+Ends s u w e es v = end_of s (part u (with_part v (event s (part v w) e).next w)) (mine u es) ≡ end_of s (part u w) (mine u ((v, e) ∷ es))
+
+ends_same : (s : Setup) (u : ℕ) (w : World) (e : Event) (es : List (ℕ × Event)) → 1 ≤ u → u ≤ length w.parts → Ends s u w e es u
+ends_same s u w e es low high =
+    rw (same_number u) (ap (λ (q : Private). end_of s q (mine u es)) (part_same u (event s (part u w) e).next w low high))
+
+ends_other : (s : Setup) (u : ℕ) (w : World) (e : Event) (es : List (ℕ × Event)) (v : ℕ) → 1 ≤ u → 1 ≤ v → v ≢ u → Ends s u w e es v
+ends_other s u w e es v low low' ne =
+    rw (other_number u v ne) (ap (λ (q : Private). end_of s q (mine u es)) (part_other u v (event s (part v w) e).next w low low' ne))
+
+pub part_after_events : (s : Setup) (u : ℕ) (w : World) (es : List (ℕ × Event)) → 1 ≤ u → u ≤ 8 → length w.parts ≡ 8 → AreUsers es → part u (after_events s w es) ≡ end_of s (part u w) (mine u es)
+part_after_events s u w [] low high eight users = refl
+part_after_events s u w ((v, e) ∷ es) low high eight users =
+    let o : Outcome = event s (part v w) e in
+    part_after_events s u (with_part v o.next w) es low high (length-set w.parts (v - 1) o.next ∙ eight) users.2
+    ∙ elim (cases_eq v u) [
+      | inl h ↦ subst (Ends s u w e es) (sym h) (ends_same s u w e es low (omega (arith, high, eight)))
+      | inr ne ↦ ends_other s u w e es v low users.0 ne
+    ]
+
+pub eight_after_events : (s : Setup) (w : World) (es : List (ℕ × Event)) → length w.parts ≡ 8 → length (after_events s w es).parts ≡ 8
+eight_after_events s w [] eight = eight
+eight_after_events s w ((v, e) ∷ es) eight =
+    eight_after_events s (with_part v (event s (part v w) e).next w) es (length-set w.parts (v - 1) (event s (part v w) e).next ∙ eight)
+
+-- a line's events are those of one of the eight
+users_prefixed : (s : Setup) (w : World) (line : List ℕ) → AreUsers (events_of s w (prefixed line))
+users_prefixed s w [] = tt
+users_prefixed s w (d ∷ []) = tt
+users_prefixed s w (d ∷ c ∷ rest) = spaced (c == 32) (d == 42) (nat_le 49 d && nat_le d 56) refl
+  where
+    spaced : (a b c : Bool) → c ≡ (nat_le 49 d && nat_le d 56) → AreUsers (events_of s w (if a then (if b then Operator rest else if c then Of (d - 48) rest else Bad) else Bad))
+    spaced false b c h = tt
+    spaced true true c h = tt
+    spaced true false false h = tt
+    spaced true false true h =
+        let two = both (nat_le 49 d) (nat_le d 56) (sym h) in
+        (omega (arith, leb-true 49 d two.0, leb-true d 56 two.1), omega (arith, leb-true 49 d two.0, leb-true d 56 two.1), tt)
+
+users_of : (s : Setup) (w : World) (line : List ℕ) → AreUsers (events_of s w (kind_of line))
+unfolding kind_of
+users_of s w line = long (nat_lt 1024 (length line))
+  where
+    long : (b : Bool) → AreUsers (events_of s w (if b then Long else prefixed line))
+    long true = tt
+    long false = users_prefixed s w line
+
+-- what is told under no user's digit is shown to no user
+common_lines : (s : Setup) (w : World) (k : Kind) → AreLines (common s w k)
+unfolding common
+common_lines s w Empty = refl
+common_lines s w Long = refl
+common_lines s w Bad = refl
+common_lines s w (Operator line) = refl
+common_lines s w (Of u line) = refl
+
+lines_common : (s : Setup) (u : ℕ) (w : World) (k : Kind) (rest : List ℕ) → lines u (text 42 (common s w k) ++ rest) ≡ lines u rest
+lines_common s u w k rest =
+    let star : eqb 42 (48 + u) ≡ false = grind (arith, nat_tests) in
+    lines_text u 42 (common s w k) rest refl (common_lines s w k) ∙ ap (λ (b : Bool). cond b (common s w k) [] ++ lines u rest) star
+
+solo-append : (s : Setup) (p : Private) (a b : List Event) → solo_from s p (a ++ b) ≡ solo_from s p a ++ solo_from s (end_of s p a) b
+solo-append s p [] b = refl
+solo-append s p (e ∷ a) b = ap (λ (x : List (List ℕ)). (event s p e).lines ++ x) (solo-append s (event s p e).next a b) ∙ sym (append_assoc (event s p e).lines (solo_from s (event s p e).next a) (solo_from s (end_of s (event s p e).next a) b))
+
+mine-append : (u : ℕ) (a b : List (ℕ × Event)) → mine u (a ++ b) ≡ mine u a ++ mine u b
+mine-append u [] b = refl
+mine-append u (e ∷ a) b = joined (eqb e.0 u) (mine-append u a b)
+  where
+    joined : (t : Bool) → mine u (a ++ b) ≡ mine u a ++ mine u b → cond t (e.1 ∷ mine u (a ++ b)) (mine u (a ++ b)) ≡ cond t (e.1 ∷ mine u a) (mine u a) ++ mine u b
+    joined true h = ap (λ (x : List Event). e.1 ∷ x) h
+    joined false h = h
+
+eight_after : (s : Setup) (w : World) (line : List ℕ) → length w.parts ≡ 8 → length (after s w line).parts ≡ 8
+unfolding after
+eight_after s w line eight = eight_after_events s w (events_of s w (kind_of line)) eight
+
+part_after : (s : Setup) (u : ℕ) (w : World) (line : List ℕ) → 1 ≤ u → u ≤ 8 → length w.parts ≡ 8 → part u (after s w line) ≡ end_of s (part u w) (mine u (events_of s w (kind_of line)))
+unfolding after
+part_after s u w line low high eight = part_after_events s u w (events_of s w (kind_of line)) low high eight (users_of s w line)
+
+lines_told : (s : Setup) (u : ℕ) (w : World) (line rest : List ℕ) → 1 ≤ u → u ≤ 8 → length w.parts ≡ 8 → lines u (told s w line ++ rest) ≡ solo_from s (part u w) (mine u (events_of s w (kind_of line))) ++ lines u rest
+unfolding told
+lines_told s u w line rest low high eight =
+    let es : List (ℕ × Event) = events_of s w (kind_of line) in
+    ap (lines u) (append_assoc (told_by s w es) (text 42 (common s w (kind_of line))) rest)
+    ∙ lines_told_by s u w es (text 42 (common s w (kind_of line)) ++ rest) low high eight (users_of s w line)
+    ∙ ap (λ (x : List (List ℕ)). solo_from s (part u w) (mine u es) ++ x) (lines_common s u w (kind_of line) rest)
+
+lines_none : (u : ℕ) → lines u [] ≡ []
+unfolding lines
+lines_none u =
+    let other : eqb 0 (48 + u) ≡ false = grind (arith, nat_tests) in
+    rw other refl
+
+-- Over all lines: what a user is shown is that user's run alone.
+pub lines_told_all : (s : Setup) (u : ℕ) (w : World) (ls : List (List ℕ)) → 1 ≤ u → u ≤ 8 → length w.parts ≡ 8 → lines u (told_all s w ls) ≡ solo_from s (part u w) (mine u (schedule s w ls))
+lines_told_all s u w [] low high eight = lines_none u
+lines_told_all s u w (l ∷ ls) low high eight =
+    let es : List (ℕ × Event) = events_of s w (kind_of l) in
+    lines_told s u w l (told_all s (after s w l) ls) low high eight
+    ∙ ap (λ (x : List (List ℕ)). solo_from s (part u w) (mine u es) ++ x) (lines_told_all s u (after s w l) ls low high (eight_after s w l eight))
+    ∙ ap (λ (p : Private). solo_from s (part u w) (mine u es) ++ solo_from s p (mine u (schedule s (after s w l) ls))) (part_after s u w l low high eight)
+    ∙ sym (solo-append s (part u w) (mine u es) (mine u (schedule s (after s w l) ls)))
+    ∙ ap (solo_from s (part u w)) (sym (mine-append u es (schedule s (after s w l) ls)))
+
+pub headline : (s : Setup) (u : ℕ) (w : World) (script : List ℕ) → 1 ≤ u → u ≤ 8 → length w.parts ≡ 8 → lines u (whole_from s w script) ≡ solo_from s (part u w) (own_from s u w script)
+unfolding whole_from own_from
+headline s u w script low high eight = lines_told_all s u w (pieces script) low high eight
+
+pub eight_after_all : (s : Setup) (w : World) (ls : List (List ℕ)) → length w.parts ≡ 8 → length (after_all s w ls).parts ≡ 8
+eight_after_all s w [] eight = eight
+eight_after_all s w (l ∷ ls) eight = eight_after_all s (after s w l) ls (eight_after s w l eight)
+
+end_of-append : (s : Setup) (p : Private) (a b : List Event) → end_of s p (a ++ b) ≡ end_of s (end_of s p a) b
+end_of-append s p [] b = refl
+end_of-append s p (e ∷ a) b = end_of-append s (event s p e).next a b
+
+-- where all lines leave a user
+part_after_all : (s : Setup) (u : ℕ) (w : World) (ls : List (List ℕ)) → 1 ≤ u → u ≤ 8 → length w.parts ≡ 8 → part u (after_all s w ls) ≡ end_of s (part u w) (mine u (schedule s w ls))
+part_after_all s u w [] low high eight = refl
+part_after_all s u w (l ∷ ls) low high eight =
+    let es : List (ℕ × Event) = events_of s w (kind_of l) in
+    part_after_all s u (after s w l) ls low high (eight_after s w l eight)
+    ∙ ap (λ (p : Private). end_of s p (mine u (schedule s (after s w l) ls))) (part_after s u w l low high eight)
+    ∙ sym (end_of-append s (part u w) (mine u es) (mine u (schedule s (after s w l) ls)))
+    ∙ ap (end_of s (part u w)) (sym (mine-append u es (schedule s (after s w l) ls)))
+
+pub each_user_alone : EachUserAlone
+each_user_alone s w script u eight low high = headline s u w script low high eight
+
+pub each_new_user_alone : EachNewUserAlone
+unfolding new_world
+each_new_user_alone s script u low high = headline s u new_world script low high refl ∙ ap (λ (p : Private). solo_from s p (own s u script)) (get_or-replicate 8 (u - 1) None None (omega arith))
+
+pub each_user_ends_alone : EachUserEndsAlone
+unfolding after_script own_from
+each_user_ends_alone s w script u eight low high = part_after_all s u w (pieces script) low high eight
+
+pub others_change_nothing : OthersChangeNothing
+others_change_nothing s one two u low high same =
+    each_new_user_alone s one u low high ∙ ap (solo s) same ∙ sym (each_new_user_alone s two u low high)
+
+pub machines_stay_eight : MachinesStayEight
+unfolding after_script
+machines_stay_eight s w script eight = eight_after_all s w (pieces script) eight

@@ -1,0 +1,2 @@
+-- Laws of memory.
+pub mod Memory

@@ -1,0 +1,359 @@
+-- What the definitions of a memory give at one address
+use Rattle.std.proofs.Common.{◌≡◌, ◌≢◌, ℕ, zero, suc, ◌+◌, ◌-◌, ◌*◌, ◌<◌, ◌≤◌, Bool, true, false, cond, ◌&&◌, List, [], ◌∷◌, ◌++◌, length, get_or, Option, Some, None, refl, sym, ◌∙◌, ap, subst, ◌⊎◌, inl, inr, arith, ne_eqb, eq-eqb, add-zero, take, ◌||◌, rules}
+use Rattle.std.specs.Prelude.{is_some, nat_lt, ◌↔◌}
+use Rattle.std.specs.Ordering.{nat_cmp}
+use Rattle.std.specs.Cmp.{unsigned_tied, nat_cmp_total}
+use Rattle.std.specs.Option.{option_map, option_map_or}
+use Rattle.std.specs.FinMap.{FinMap, get, insert, len, contains_key, get-insert, len-insert, same_map, nat_cmp-IsAntisymmetric}
+use Rattle.std.proofs.lemmas.List.{take_more, length-take-le, ext_get_or}
+use Rattle.std.proofs.lemmas.List.FromFn.{length-map-range_with_len, get_or-map-range_with_len, map-range_with_len_more}
+use Rattle.std.proofs.lemmas.Bool.Decides.{nat_tests}
+use Rattle.std.proofs.lemmas.Bool.{and_parts, and_from, cases_eq, cases_lt, cond-false, cond-true}
+use Rattle.rv_model.specs.declared.memory.Access.{Access}
+use Rattle.rv_model.specs.declared.memory.Access.TheVariants.{Monitor}
+use Rattle.rv_model.specs.declared.memory.Permissions.{Permissions}
+use Rattle.rv_model.specs.memory.Memory.{Cell, Memory, permits, byte_at, is_allowed, can_access, bytes_at, put_byte, put_bytes, add_cells, with_pages, page_count, any_page_mapped, map_refusal, is_within, WritesBytes, MapsZeros, MapsPermissions, ReadsBytes, AllowsEachByte}
+use Rattle.rv_model.specs.declared.memory.MapRefusal.TheVariants.{Quota, AlreadyMapped}
+
+-- two memories that answer alike are equal
+pub same_memory : (m n : Memory) → ((x : ℕ) → get m x ≡ get n x) → m ≡ n
+same_memory m n h = same_map nat_cmp_total nat_cmp-IsAntisymmetric m n h
+
+pub get-insert_same : {X : Type 0} (m : FinMap nat_cmp X) (a : ℕ) (c : X) → get (insert m a c) a ≡ Some c
+get-insert_same m a c =
+    get-insert nat_cmp_total m a c a ∙ ap (λ b. cond b (Some c) (get m a)) (unsigned_tied a a ∙ eq-eqb a a refl)
+
+pub get-insert_other : {X : Type 0} (m : FinMap nat_cmp X) (a : ℕ) (c : X) (x : ℕ) → x ≢ a → get (insert m a c) x ≡ get m x
+get-insert_other m a c x h =
+    get-insert nat_cmp_total m a c x ∙ ap (λ b. cond b (Some c) (get m x)) (unsigned_tied x a ∙ ne_eqb x a h)
+
+-- a cell with another byte
+abbrev pub with_byte : ℕ → Option Cell → Option Cell
+with_byte b o = option_map (λ c. record { byte = b; permissions = c.permissions }) o
+
+put_at : Memory → ℕ → ℕ → Option Cell → Memory
+put_at m a b o = option_map_or (λ c. insert m a (record { byte = b; permissions = c.permissions })) o m
+
+put_at_same : (m : Memory) (a b : ℕ) (o : Option Cell) → get m a ≡ o → get (put_at m a b o) a ≡ with_byte b o
+unfolding put_at
+put_at_same m a b None e = e
+put_at_same m a b (Some c) e = get-insert_same m a _
+
+put_at_other : (m : Memory) (a b x : ℕ) (o : Option Cell) → x ≢ a → get (put_at m a b o) x ≡ get m x
+unfolding put_at
+put_at_other m a b x None h = refl
+put_at_other m a b x (Some c) h = get-insert_other m a _ x h
+
+pub get-put_byte_same : (m : Memory) (a b : ℕ) → get (put_byte m a b) a ≡ with_byte b (get m a)
+unfolding put_byte put_at
+get-put_byte_same m a b = put_at_same m a b (get m a) refl
+
+pub get-put_byte_other : (m : Memory) (a b x : ℕ) → x ≢ a → get (put_byte m a b) x ≡ get m x
+unfolding put_byte put_at
+get-put_byte_other m a b x h = put_at_other m a b x (get m a) h
+
+pub get-put_bytes_outside : (m : Memory) (a : ℕ) (bs : List ℕ) (x : ℕ) → ((x < a) ⊎ (a + length bs ≤ x)) → get (put_bytes m a bs) x ≡ get m x
+unfolding put_bytes
+get-put_bytes_outside m a [] x h = refl
+get-put_bytes_outside m a (b ∷ bs) x h =
+    let apart : x ≢ a = λ e. elim h [ inl l ↦ omega arith | inr g ↦ omega arith ] in
+    let rest : ((x < a + 1) ⊎ ((a + 1) + length bs ≤ x)) = elim h [ inl l ↦ inl (omega arith) | inr g ↦ inr (omega arith) ] in
+    get-put_bytes_outside (put_byte m a b) (a + 1) bs x rest ∙ get-put_byte_other m a b x apart
+
+pub get-put_bytes_within : (m : Memory) (a : ℕ) (bs : List ℕ) (k x : ℕ) → k < length bs → x ≡ a + k → get (put_bytes m a bs) x ≡ with_byte (get_or bs k 0) (get m x)
+unfolding put_bytes
+get-put_bytes_within m a [] k x h e = absurd (omega arith)
+get-put_bytes_within m a (b ∷ bs) zero x h e =
+    let same : x ≡ a = omega arith in
+    get-put_bytes_outside (put_byte m a b) (a + 1) bs x (inl (omega arith))
+    ∙ subst (λ (y : ℕ). get (put_byte m a b) y ≡ with_byte b (get m y)) (sym same) (get-put_byte_same m a b)
+get-put_bytes_within m a (b ∷ bs) (suc k) x h e =
+    let apart : x ≢ a = λ q. omega arith in
+    get-put_bytes_within (put_byte m a b) (a + 1) bs k x (omega arith) (omega arith)
+    ∙ ap (with_byte (get_or bs k 0)) (get-put_byte_other m a b x apart)
+
+allowed_by : Access → Option Cell → Bool
+allowed_by access o = option_map_or (λ c. permits access c.permissions) o false
+
+allowed_by-with_byte : (access : Access) (b : ℕ) (o : Option Cell) → allowed_by access (with_byte b o) ≡ allowed_by access o
+unfolding allowed_by
+allowed_by-with_byte access b None = refl
+allowed_by-with_byte access b (Some c) = refl
+
+is_allowed-put_byte : (access : Access) (m : Memory) (a b x : ℕ) → is_allowed access (put_byte m a b) x ≡ is_allowed access m x
+unfolding is_allowed allowed_by
+is_allowed-put_byte access m a b x = elim (cases_eq x a) [
+  | inl e ↦ subst (λ (y : ℕ). allowed_by access (get (put_byte m a b) y) ≡ allowed_by access (get m y)) (sym e) (ap (allowed_by access) (get-put_byte_same m a b) ∙ allowed_by-with_byte access b (get m a))
+  | inr n ↦ ap (allowed_by access) (get-put_byte_other m a b x n)
+]
+
+-- permissions stay where bytes are written
+pub is_allowed-put_bytes : (access : Access) (m : Memory) (a : ℕ) (bs : List ℕ) (x : ℕ) → is_allowed access (put_bytes m a bs) x ≡ is_allowed access m x
+unfolding put_bytes
+is_allowed-put_bytes access m a [] x = refl
+is_allowed-put_bytes access m a (b ∷ bs) x = is_allowed-put_bytes access (put_byte m a b) (a + 1) bs x ∙ is_allowed-put_byte access m a b x
+
+pub put_bytes-append : (m : Memory) (a : ℕ) (bs cs : List ℕ) → put_bytes m a (bs ++ cs) ≡ put_bytes (put_bytes m a bs) (a + length bs) cs
+unfolding put_bytes
+put_bytes-append m a [] cs = ap (λ (x : ℕ). put_bytes m x cs) (omega arith)
+put_bytes-append m a (b ∷ bs) cs =
+    put_bytes-append (put_byte m a b) (a + 1) bs cs
+    ∙ ap (λ (x : ℕ). put_bytes (put_bytes (put_byte m a b) (a + 1) bs) x cs) (omega arith)
+
+pub get-add_cells_outside : (m : Memory) (a n : ℕ) (f : ℕ → Cell) (x : ℕ) → ((x < a) ⊎ (a + n ≤ x)) → get (add_cells m a n f) x ≡ get m x
+unfolding add_cells
+get-add_cells_outside m a zero f x h = refl
+get-add_cells_outside m a (suc n) f x h =
+    let apart : x ≢ a + n = λ e. elim h [ inl l ↦ omega arith | inr g ↦ omega arith ] in
+    let rest : ((x < a) ⊎ (a + n ≤ x)) = elim h [ inl l ↦ inl l | inr g ↦ inr (omega arith) ] in
+    get-insert_other (add_cells m a n f) (a + n) (f n) x apart ∙ get-add_cells_outside m a n f x rest
+
+pub get-add_cells_within : (m : Memory) (a n : ℕ) (f : ℕ → Cell) (k x : ℕ) → k < n → x ≡ a + k → get (add_cells m a n f) x ≡ Some (f k)
+unfolding add_cells
+get-add_cells_within m a zero f k x h e = absurd (omega arith)
+get-add_cells_within m a (suc n) f k x h e = elim (cases_eq k n) [
+  | inl same ↦
+      let here : a + n ≡ x = omega arith in
+      subst (λ (y : ℕ). get (insert (add_cells m a n f) (a + n) (f n)) y ≡ Some (f n)) here (get-insert_same (add_cells m a n f) (a + n) (f n))
+      ∙ ap (λ (j : ℕ). Some (f j)) (sym same)
+  | inr other ↦
+      let less : k < n = omega arith in
+      get-insert_other (add_cells m a n f) (a + n) (f n) x (λ q. other (omega arith)) ∙ get-add_cells_within m a n f k x less e
+]
+
+-- where none of the addresses was mapped
+pub len-add_cells : (m : Memory) (a n : ℕ) (f : ℕ → Cell) → ((k : ℕ) → k < n → get m (a + k) ≡ None) → len (add_cells m a n f) ≡ len m + n
+unfolding add_cells
+len-add_cells m a zero f h = omega arith
+len-add_cells m a (suc n) f h =
+    let rest = len-add_cells m a n f (λ k l. h k (omega arith)) in
+    let new : get (add_cells m a n f) (a + n) ≡ None = get-add_cells_outside m a n f (a + n) (inr (omega arith)) ∙ h n (omega arith) in
+    len-insert nat_cmp_total (add_cells m a n f) (a + n) (f n)
+    ∙ ap (λ (o : Option Cell). cond (is_some o) (len (add_cells m a n f)) (len (add_cells m a n f) + 1)) new
+    ∙ omega (arith, rest)
+
+pub length-bytes_at : (m : Memory) (a n : ℕ) → length (bytes_at m a n) ≡ n
+unfolding bytes_at
+length-bytes_at m a n = length-map-range_with_len (byte_at m) a n
+
+pub get_or-bytes_at : (m : Memory) (a n k x : ℕ) → k < n → x ≡ a + k → get_or (bytes_at m a n) k 0 ≡ byte_at m x
+unfolding bytes_at
+get_or-bytes_at m a n k x h e = get_or-map-range_with_len (byte_at m) a n k x 0 h (sym e)
+
+pub bytes_at_more : (m : Memory) (a n : ℕ) → bytes_at m a (n + 1) ≡ bytes_at m a n ++ byte_at m (a + n) ∷ []
+unfolding bytes_at
+bytes_at_more m a n = map-range_with_len_more (byte_at m) a n (a + n) refl
+
+pub can_access-at : (access : Access) (m : Memory) (a n k x : ℕ) → can_access access m a n ≡ true → k < n → x ≡ a + k → is_allowed access m x ≡ true
+unfolding can_access
+can_access-at access m a zero k x t h e = absurd (omega arith)
+can_access-at access m a (suc n) zero x t h e =
+    let same : x ≡ a = omega arith in ap (is_allowed access m) same ∙ (and_parts _ _ t).0
+can_access-at access m a (suc n) (suc k) x t h e =
+    can_access-at access m (a + 1) n k x (and_parts (is_allowed access m a) _ t).1 (omega arith) (omega arith)
+
+pub can_access_from : (access : Access) (m : Memory) (a n : ℕ) → ((k : ℕ) → k < n → is_allowed access m (a + k) ≡ true) → can_access access m a n ≡ true
+unfolding can_access
+can_access_from access m a zero h = refl
+can_access_from access m a (suc n) h =
+    let here : a + 0 ≡ a = omega arith in
+    and_from _ _ (ap (is_allowed access m) (sym here) ∙ h 0 (omega arith))
+    (can_access_from access m (a + 1) n (λ k l. let e : (a + 1) + k ≡ a + suc k = omega arith in ap (is_allowed access m) e ∙ h (suc k) (omega arith)))
+
+pub can_access_not : (access : Access) (m : Memory) (a n k x : ℕ) → k < n → x ≡ a + k → is_allowed access m x ≡ false → can_access access m a n ≡ false
+can_access_not access m a n k x h e refused = split (can_access access m a n) refl
+  where
+    split : (b : Bool) → can_access access m a n ≡ b → can_access access m a n ≡ false
+    split true t = absurd (let yes = can_access-at access m a n k x t h e in let bad : true ≡ false = sym yes ∙ refused in cc)
+    split false t = t
+
+is_allowed_monitor : (access : Access) (m : Memory) (x : ℕ) → is_allowed access m x ≡ true → is_allowed Monitor m x ≡ true
+unfolding is_allowed
+is_allowed_monitor access m x t = through (get m x) t
+  where
+    through : (o : Option Cell) → option_map_or (λ c. permits access c.permissions) o false ≡ true → option_map_or (λ c. permits Monitor c.permissions) o false ≡ true
+    through None h = h
+    through (Some c) h = refl
+
+-- the monitor may access whatever a program may
+pub can_access_monitor : (access : Access) (m : Memory) (a n : ℕ) → can_access access m a n ≡ true → can_access Monitor m a n ≡ true
+can_access_monitor access m a n ok =
+    can_access_from Monitor m a n (λ k l. is_allowed_monitor access m (a + k) (can_access-at access m a n k (a + k) ok l refl))
+
+-- ---- how many addresses are mapped
+
+len_put_at : (m : Memory) (a b : ℕ) (o : Option Cell) → get m a ≡ o → len (put_at m a b o) ≡ len m
+unfolding put_at
+len_put_at m a b None e = refl
+len_put_at m a b (Some c) e =
+    len-insert nat_cmp_total m a (record { byte = b; permissions = c.permissions })
+    ∙ ap (λ (o : Option Cell). cond (is_some o) (len m) (len m + 1)) e
+
+pub len-put_bytes : (m : Memory) (a : ℕ) (bs : List ℕ) → len (put_bytes m a bs) ≡ len m
+unfolding put_bytes put_byte put_at
+len-put_bytes m a [] = refl
+len-put_bytes m a (b ∷ bs) = len-put_bytes (put_byte m a b) (a + 1) bs ∙ len_put_at m a b (get m a) refl
+
+-- ---- one step of a write and of a read
+
+pub put_bytes_more : (m : Memory) (a : ℕ) (bs : List ℕ) (k : ℕ) → k < length bs → put_bytes m a (take (k + 1) bs) ≡ put_byte (put_bytes m a (take k bs)) (a + k) (get_or bs k 0)
+unfolding put_bytes
+put_bytes_more m a bs k l =
+    ap (put_bytes m a) (take_more bs k 0 l) ∙ put_bytes-append m a (take k bs) (get_or bs k 0 ∷ [])
+    ∙ ap (λ (j : ℕ). put_byte (put_bytes m a (take k bs)) (a + j) (get_or bs k 0)) (length-take-le k bs (omega arith))
+
+pub bytes_read : (m : Memory) (a n : ℕ) (bs : List ℕ) → length bs ≡ n → ((j : ℕ) → j < n → get_or bs j 0 ≡ byte_at m (a + j)) → bs ≡ bytes_at m a n
+bytes_read m a n bs e h =
+    ext_get_or 0 bs (bytes_at m a n) (e ∙ sym (length-bytes_at m a n)) (λ j l. let g : j < n = omega arith in h j g ∙ sym (get_or-bytes_at m a n j (a + j) g refl))
+
+-- ---- pages
+
+-- cells after cells
+pub add_cells_more : (m : Memory) (a n k t b : ℕ) (c : Cell) → t ≡ n + k → b ≡ a + n → add_cells (add_cells m a n (λ _. c)) b k (λ _. c) ≡ add_cells m a t (λ _. c)
+unfolding add_cells
+add_cells_more m a n zero t b c e q = let same : n ≡ t = omega arith in ap (λ (j : ℕ). add_cells m a j (λ _. c)) same
+add_cells_more m a n (suc k) zero b c e q = absurd (omega arith)
+add_cells_more m a n (suc k) (suc t) b c e q =
+    let less : t ≡ n + k = omega arith in
+    let place : b + k ≡ a + t = omega arith in
+    let rest = add_cells_more m a n k t b c less q in
+    ap (λ (m : Memory). insert m (b + k) c) rest ∙ ap (λ (j : ℕ). insert (add_cells m a t (λ _. c)) j c) place
+
+pub with_pages_more : (m : Memory) (page i : ℕ) (permissions : Permissions) → with_pages (with_pages m page i permissions) (page + i) 1 permissions ≡ with_pages m page (i + 1) permissions
+unfolding with_pages
+with_pages_more m page i permissions = add_cells_more m (4096 * page) (4096 * i) (4096 * 1) (4096 * (i + 1)) (4096 * (page + i)) (record { byte = 0; permissions = permissions }) (omega arith) (omega arith)
+
+pub with_pages_none : (m : Memory) (page : ℕ) (permissions : Permissions) → m ≡ with_pages m page 0 permissions
+unfolding with_pages add_cells
+with_pages_none m page permissions = refl
+
+-- ---- which pages are mapped, and why pages can't be
+
+pub any_page_mapped_at : (m : Memory) (page count k : ℕ) → k < count → contains_key m (4096 * (page + k)) ≡ true → any_page_mapped m page count ≡ true
+unfolding any_page_mapped
+any_page_mapped_at m page zero k l h = absurd (omega arith)
+any_page_mapped_at m page (suc count) zero l h =
+    let here : contains_key m (4096 * page) ≡ true = ap (λ (p : ℕ). contains_key m (4096 * p)) (sym (add-zero page)) ∙ h in
+    ap (λ (b : Bool). b || any_page_mapped m (page + 1) count) here
+any_page_mapped_at m page (suc count) (suc k) l h =
+    let place : (page + 1) + k ≡ page + suc k = omega arith in
+    let rest = any_page_mapped_at m (page + 1) count k (omega arith) (ap (λ (p : ℕ). contains_key m (4096 * p)) place ∙ h) in
+    or_from_right (contains_key m (4096 * page)) (any_page_mapped m (page + 1) count) rest
+  where
+    or_from_right : (a b : Bool) → b ≡ true → (a || b) ≡ true
+    or_from_right true b h = refl
+    or_from_right false b h = h
+
+pub any_page_mapped_none : (m : Memory) (page count : ℕ) → ((k : ℕ) → k < count → contains_key m (4096 * (page + k)) ≡ false) → any_page_mapped m page count ≡ false
+unfolding any_page_mapped
+any_page_mapped_none m page zero h = refl
+any_page_mapped_none m page (suc count) h =
+    let here : contains_key m (4096 * page) ≡ false = ap (λ (p : ℕ). contains_key m (4096 * p)) (sym (add-zero page)) ∙ h 0 (omega arith) in
+    ap (λ (b : Bool). b || any_page_mapped m (page + 1) count) here
+    ∙ any_page_mapped_none m (page + 1) count (λ k l.
+    let place : (page + 1) + k ≡ page + suc k = omega arith in
+    ap (λ (p : ℕ). contains_key m (4096 * p)) place ∙ h (suc k) (omega arith))
+
+pub map_refusal_quota : (m : Memory) (page count : ℕ) → 256 < page_count m + count → map_refusal m page count ≡ Some Quota
+unfolding map_refusal
+map_refusal_quota m page count h = cond-true (nat_lt 256 (page_count m + count)) _ _ (search rules)
+
+pub map_refusal_mapped : (m : Memory) (page count : ℕ) → page_count m + count ≤ 256 → any_page_mapped m page count ≡ true → map_refusal m page count ≡ Some AlreadyMapped
+unfolding map_refusal
+map_refusal_mapped m page count room h = cond-false (nat_lt 256 (page_count m + count)) _ _ (search rules) ∙ cond-true (any_page_mapped m page count) _ _ h
+
+pub map_refusal_none : (m : Memory) (page count : ℕ) → page_count m + count ≤ 256 → any_page_mapped m page count ≡ false → map_refusal m page count ≡ None
+unfolding map_refusal
+map_refusal_none m page count room h = cond-false (nat_lt 256 (page_count m + count)) _ _ (search rules) ∙ cond-false (any_page_mapped m page count) _ _ h
+
+-- when each refusal comes
+pub map_refusal-Quota : (m : Memory) (page count : ℕ) → (map_refusal m page count ≡ Some Quota) ↔ (256 < page_count m + count)
+map_refusal-Quota m page count = (λ h. over h (cases_lt 256 (page_count m + count)), map_refusal_quota m page count)
+  where
+    over : map_refusal m page count ≡ Some Quota → ((256 < page_count m + count) ⊎ (page_count m + count ≤ 256)) → 256 < page_count m + count
+    over h (inl l) = l
+    over h (inr room) = split (any_page_mapped m page count) refl
+      where
+        split : (b : Bool) → any_page_mapped m page count ≡ b → 256 < page_count m + count
+        split true e = let other = map_refusal_mapped m page count room e in absurd (cc)
+        split false e = let other = map_refusal_none m page count room e in absurd (cc)
+
+pub map_refusal-AlreadyMapped : (m : Memory) (page count : ℕ) → (map_refusal m page count ≡ Some AlreadyMapped) ↔ ((page_count m + count ≤ 256) × (any_page_mapped m page count ≡ true))
+map_refusal-AlreadyMapped m page count = (λ h. within h (cases_lt 256 (page_count m + count)), λ h. map_refusal_mapped m page count h.0 h.1)
+  where
+    within : map_refusal m page count ≡ Some AlreadyMapped → ((256 < page_count m + count) ⊎ (page_count m + count ≤ 256)) → (page_count m + count ≤ 256) × (any_page_mapped m page count ≡ true)
+    within h (inl l) = let other = map_refusal_quota m page count l in absurd (cc)
+    within h (inr room) = split (any_page_mapped m page count) refl
+      where
+        split : (b : Bool) → any_page_mapped m page count ≡ b → (page_count m + count ≤ 256) × (any_page_mapped m page count ≡ true)
+        split true e = (room, e)
+        split false e = let other = map_refusal_none m page count room e in absurd (cc)
+
+-- ---- by address
+
+byte_by : Option Cell → ℕ
+byte_by o = option_map_or (λ c. c.byte) o 0
+
+byte_by-with_byte : (b : ℕ) (o : Option Cell) → byte_by (with_byte b o) ≡ cond (allowed_by Monitor o) b (byte_by o)
+unfolding byte_by allowed_by
+byte_by-with_byte b None = refl
+byte_by-with_byte b (Some c) = refl
+
+is_within_true : (a n x : ℕ) → a ≤ x → x < a + n → is_within a n x ≡ true
+is_within_true a n x l h = grind (arith, nat_tests)
+
+is_within_false : (a n x : ℕ) → ((x < a) ⊎ (a + n ≤ x)) → is_within a n x ≡ false
+is_within_false a n x (inl l) = grind (arith, nat_tests)
+is_within_false a n x (inr g) = grind (arith, nat_tests)
+
+-- an address is one of n from a on, the k-th, or lies beside them
+places : (a n x : ℕ) → ((a ≤ x) × (x < a + n)) ⊎ ((x < a) ⊎ (a + n ≤ x))
+places a n x = elim (cases_lt x a) [
+  | inl below ↦ inr (inl below)
+  | inr above ↦ elim (cases_lt x (a + n)) [ inl less ↦ inl (above, less) | inr past ↦ inr (inr past) ]
+]
+
+pub writes_bytes : WritesBytes
+unfolding byte_at is_allowed byte_by allowed_by
+writes_bytes m a bs x = elim (places a (length bs) x) [
+  | inl within ↦
+      let k : x - a < length bs = omega (arith, within.0, within.1) in
+      let place : x ≡ a + (x - a) = omega (arith, within.0) in
+      ap byte_by (get-put_bytes_within m a bs (x - a) x k place) ∙ byte_by-with_byte (get_or bs (x - a) 0) (get m x)
+      ∙ ap (λ (b : Bool). cond (b && is_allowed Monitor m x) (get_or bs (x - a) 0) (byte_at m x)) (sym (is_within_true a (length bs) x within.0 within.1))
+  | inr far ↦
+      ap byte_by (get-put_bytes_outside m a bs x far)
+      ∙ ap (λ (b : Bool). cond (b && is_allowed Monitor m x) (get_or bs (x - a) 0) (byte_at m x)) (sym (is_within_false a (length bs) x far))
+]
+
+pub maps_zeros : MapsZeros
+unfolding byte_at byte_by with_pages
+maps_zeros m page count permissions x = elim (places (4096 * page) (4096 * count) x) [
+  | inl within ↦
+      let k : x - 4096 * page < 4096 * count = omega (arith, within.0, within.1) in
+      let place : x ≡ 4096 * page + (x - 4096 * page) = omega (arith, within.0) in
+      ap byte_by (get-add_cells_within m (4096 * page) (4096 * count) (λ _. record { byte = 0; permissions = permissions }) (x - 4096 * page) x k place)
+      ∙ ap (λ (b : Bool). cond b 0 (byte_at m x)) (sym (is_within_true (4096 * page) (4096 * count) x within.0 within.1))
+  | inr far ↦
+      ap byte_by (get-add_cells_outside m (4096 * page) (4096 * count) (λ _. record { byte = 0; permissions = permissions }) x far)
+      ∙ ap (λ (b : Bool). cond b 0 (byte_at m x)) (sym (is_within_false (4096 * page) (4096 * count) x far))
+]
+
+pub maps_permissions : MapsPermissions
+unfolding is_allowed allowed_by with_pages
+maps_permissions access m page count permissions x = elim (places (4096 * page) (4096 * count) x) [
+  | inl within ↦
+      let k : x - 4096 * page < 4096 * count = omega (arith, within.0, within.1) in
+      let place : x ≡ 4096 * page + (x - 4096 * page) = omega (arith, within.0) in
+      ap (allowed_by access) (get-add_cells_within m (4096 * page) (4096 * count) (λ _. record { byte = 0; permissions = permissions }) (x - 4096 * page) x k place)
+      ∙ ap (λ (b : Bool). cond b (permits access permissions) (is_allowed access m x)) (sym (is_within_true (4096 * page) (4096 * count) x within.0 within.1))
+  | inr far ↦
+      ap (allowed_by access) (get-add_cells_outside m (4096 * page) (4096 * count) (λ _. record { byte = 0; permissions = permissions }) x far)
+      ∙ ap (λ (b : Bool). cond b (permits access permissions) (is_allowed access m x)) (sym (is_within_false (4096 * page) (4096 * count) x far))
+]
+
+pub reads_bytes : ReadsBytes
+reads_bytes m a n k l = get_or-bytes_at m a n k (a + k) l refl
+
+pub allows_each_byte : AllowsEachByte
+allows_each_byte access m a n = (λ ok k l. can_access-at access m a n k (a + k) ok l refl, can_access_from access m a n)

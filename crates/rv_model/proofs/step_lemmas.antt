@@ -1,0 +1,2 @@
+-- Laws of one instruction.
+pub mod Effects

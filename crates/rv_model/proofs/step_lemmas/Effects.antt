@@ -1,0 +1,179 @@
+-- A fault writes no scalar register, and x0 stays, whatever the instruction is.
+use Rattle.std.proofs.Common.{◌≡◌, ◌≢◌, ℕ, ◌+◌, ◌%◌, ◌^◌, Bool, true, false, cond, refl, ◌∙◌, arith, Option, Some, None, get_or-set_other}
+use Rattle.std.specs.Prelude.{◌-◌, ◌&&◌, ◌||◌, ◌==◌, slice_set}
+use Rattle.std.specs.Int.{byte_len}
+use Rattle.std.proofs.lemmas.Bool.Decides.{nat_tests}
+use Rattle.rv_model.specs.declared.vector.control_register.ControlRegister.{ControlRegister}
+use Rattle.rv_model.specs.declared.instructions.instruction.Instr.{Instr}
+use Rattle.rv_model.specs.declared.instructions.instruction.Instr.TheVariants.{Upper, Jump, JumpRegister, Branch, Load, Store, OpImm, ShiftImm, ShiftImmWord, Op, Fence, System, Csr, CsrImmediate, SetVli, SetIvli, SetVl, VectorArith}
+use Rattle.rv_model.specs.declared.memory.Access.TheVariants as access
+use Rattle.rv_model.specs.declared.instructions.operations.CsrOp.{CsrOp}
+use Rattle.rv_model.specs.declared.instructions.operations.LoadOp.{LoadOp}
+use Rattle.rv_model.specs.declared.instructions.operations.StoreOp.{StoreOp}
+use Rattle.rv_model.specs.declared.instructions.operations.SystemOp.{SystemOp}
+use Rattle.rv_model.specs.declared.instructions.operations.SystemOp.TheVariants as system
+use Rattle.rv_model.specs.declared.instructions.operations.VectorOp.{VectorOp}
+use Rattle.rv_model.specs.declared.instructions.operations.VectorOp.TheVariants.{Binary}
+use Rattle.rv_model.specs.declared.scalar.Scalar.{Scalar}
+use Rattle.rv_model.specs.declared.instructions.source.Source.{Source}
+use Rattle.rv_model.specs.declared.step.step_end.Cause.{Cause}
+use Rattle.rv_model.specs.declared.vector.request.RequestedLength.{RequestedLength}
+use Rattle.rv_model.specs.declared.vector.request.RequestedLength.TheVariants.{Elements}
+use Rattle.rv_model.specs.declared.step.vector_end.VEnd.{VEnd}
+use Rattle.rv_model.specs.declared.step.vector_end.VEnd.TheVariants as vector_end
+use Rattle.rv_model.specs.declared.vector.types.VType.{VType}
+use Rattle.rv_model.specs.vector.ControlRegisters.{control_register, is_read_only}
+use Rattle.rv_model.specs.scalar.ControlTransfer.{is_aligned, is_taken, jump_target, register_target, branch_target}
+use Rattle.rv_model.specs.step.Hart.{HartState, Stepped, faults, runs_on, gives}
+use Rattle.rv_model.specs.step.Effects.{OnFault, FaultsWriteNoRegister, FirstRegisterStays}
+use Rattle.rv_model.specs.instructions.Table.{scan, table}
+use Rattle.rv_model.specs.legality.Legality.{is_legal_at}
+use Rattle.rv_model.specs.scalar.LoadsAndStores.{access_address, load_width, store_width}
+use Rattle.rv_model.specs.memory.Memory.{can_access}
+use Rattle.rv_model.specs.scalar.Registers.{read_register, with_register}
+use Rattle.rv_model.specs.step.ScalarStep.{jumps, jump_step, branch_step, load_step, store_step, csr_step, environment_call, system_step}
+use Rattle.rv_model.specs.step.Step.{step, executed, word_at}
+use Rattle.rv_model.specs.vector.Control.{is_write, csr_form, control_value}
+use Rattle.rv_model.specs.elements.Formulas.{is_carried_out}
+use Rattle.rv_model.specs.step.VectorStep.{VectorStepped, arith_step, requested_length, vset_step, after_vector, vector_executed, vector_step}
+use Rattle.rv_model.specs.declared.memory.Access.TheVariants.{Fetch}
+use Rattle.rv_model.proofs.text_lemmas.Pieces.{of_either}
+
+-- x0 reads the same
+abbrev SameFirst : Scalar → Scalar → Type 0
+SameFirst old new = read_register new 0 ≡ read_register old 0
+
+-- both laws, of one step from a state
+record Keeps (s : HartState) (r : Stepped) : Type 0 where
+  fault : OnFault r.end (r.state.scalar ≡ s.scalar)
+  first : SameFirst s.scalar r.state.scalar
+
+first-with_register : (rd value : ℕ) (s : Scalar) → SameFirst s (with_register rd value s)
+first-with_register rd value s = named (rd == 0) refl
+  where
+    named : (b : Bool) → (rd == 0) ≡ b → read_register (cond b s (record s { x = slice_set s.x rd value })) 0 ≡ read_register s 0
+    named true e = refl
+    named false e = let other : 0 ≢ rd = grind (arith, nat_tests) in get_or-set_other s.x rd 0 value 0 other
+
+either : (s : HartState) (b : Bool) (x y : Stepped) → Keeps s x → Keeps s y → Keeps s (cond b x y)
+either s b x y h k = of_either (λ r. Keeps s r) b x y h k
+
+faults_keep : (cause : Cause) (value : ℕ) (s : HartState) → Keeps s (faults cause value s)
+faults_keep cause value s = record { fault = refl; first = refl }
+
+runs_keep : (scalar : Scalar) (s s' : HartState) → SameFirst s.scalar scalar → Keeps s (runs_on scalar s')
+runs_keep scalar s s' h = record { fault = tt; first = h }
+
+jumps_keep : (target : ℕ) (scalar : Scalar) (s : HartState) → SameFirst s.scalar scalar → Keeps s (jumps target scalar s)
+jumps_keep target scalar s h = either s (is_aligned target) _ _ (record { fault = tt; first = h }) (record { fault = refl; first = refl })
+
+branch_keeps : (taken : Bool) (target : ℕ) (s : HartState) → Keeps s (branch_step taken target s)
+branch_keeps taken target s = either s taken _ _ (jumps_keep target s.scalar s refl) (runs_keep s.scalar s s refl)
+
+gives_keep : (rd value : ℕ) (s s' : HartState) → SameFirst s.scalar s'.scalar → Keeps s (gives rd value s')
+gives_keep rd value s s' h = runs_keep (with_register rd value s'.scalar) s s' (first-with_register rd value s'.scalar ∙ h)
+
+jump_keeps : (rd target : ℕ) (s : HartState) → Keeps s (jump_step rd target s)
+jump_keeps rd target s =
+    jumps_keep target (with_register rd ((s.scalar.pc + 4) % 2 ^ 64) s.scalar) s (first-with_register rd ((s.scalar.pc + 4) % 2 ^ 64) s.scalar)
+
+load_keeps : (op : LoadOp) (rd addr : ℕ) (s : HartState) → Keeps s (load_step op rd addr s)
+load_keeps op rd addr s =
+    either s (can_access access.Load s.memory addr (byte_len (load_width op))) _ _ (gives_keep rd _ s s refl) (record { fault = refl; first = refl })
+
+store_keeps : (op : StoreOp) (addr value : ℕ) (s : HartState) → Keeps s (store_step op addr value s)
+store_keeps op addr value s =
+    either s (can_access access.Store s.memory addr (byte_len (store_width op))) _ _ (record { fault = tt; first = refl }) (record { fault = refl; first = refl })
+
+csr_keeps : (register : Option ControlRegister) (op : CsrOp) (rd source operand word : ℕ) (s : HartState) → Keeps s (csr_step register op rd source operand word s)
+csr_keeps None op rd source operand word s = record { fault = refl; first = refl }
+csr_keeps (Some register) op rd source operand word s =
+    either s (is_write op source && is_read_only register) _ _ (record { fault = refl; first = refl })
+    (either s (is_write op source) _ _
+    (record { fault = tt; first = first-with_register rd (control_value register s.vector) s.scalar })
+    (record { fault = tt; first = first-with_register rd (control_value register s.vector) s.scalar }))
+
+environment_keeps : (s : HartState) → Keeps s (environment_call s)
+unfolding environment_call
+environment_keeps s =
+    either s (read_register s.scalar 17 == 93 || read_register s.scalar 17 == 94) _ _ (record { fault = tt; first = refl })
+    (record { fault = tt; first = first-with_register 10 (2 ^ 64 - 38) s.scalar })
+
+system_keeps : (op : SystemOp) (s : HartState) → Keeps s (system_step op s)
+system_keeps system.Ecall s = environment_keeps s
+system_keeps system.Ebreak s = record { fault = tt; first = refl }
+
+-- a vector instruction that is not done wrote no scalar register
+abbrev UnlessDone : VEnd → Type 0 → Type 0
+UnlessDone vector_end.Done P = Unit {0}
+UnlessDone _ P = P
+
+record VectorKeeps (s : HartState) (r : VectorStepped) : Type 0 where
+  refused : UnlessDone r.end (r.state.scalar ≡ s.scalar)
+  first : SameFirst s.scalar r.state.scalar
+
+vset_keeps : (rd vtype : ℕ) (length : RequestedLength) (s : HartState) → VectorKeeps s (vset_step rd vtype length s)
+vset_keeps rd vtype length s = record { refused = tt; first = first-with_register rd (vset_step rd vtype length s).state.vector.conf.vl s.scalar }
+
+either_keeps : (s : HartState) (b : Bool) (x y : VectorStepped) → VectorKeeps s x → VectorKeeps s y → VectorKeeps s (cond b x y)
+either_keeps s b x y h k = of_either (λ r. VectorKeeps s r) b x y h k
+
+arith_keeps : (t : Option VType) (op : VectorOp) (source : Source) (vd vs2 : ℕ) (vm : Bool) (s : HartState) → VectorKeeps s (arith_step t op source vd vs2 vm s)
+arith_keeps None op source vd vs2 vm s = record { refused = refl; first = refl }
+arith_keeps (Some t) (Binary op) source vd vs2 vm s =
+    either_keeps s (is_carried_out op && is_legal_at (VectorArith (Binary op, source) vd vs2 vm) t s.vector.vstart) _ _
+    (record { refused = tt; first = refl }) (record { refused = refl; first = refl })
+arith_keeps (Some t) _ source vd vs2 vm s = record { refused = refl; first = refl }
+
+vector_keeps : (limit : ℕ) (i : Instr) (s : HartState) → VectorKeeps s (vector_executed limit i s)
+unfolding vector_executed
+vector_keeps limit (SetVli rd rs1 vtype) s = vset_keeps rd vtype (requested_length rd rs1 s.scalar) s
+vector_keeps limit (SetIvli rd avl vtype) s = vset_keeps rd vtype (Elements avl) s
+vector_keeps limit (SetVl rd rs1 rs2) s = vset_keeps rd (read_register s.scalar rs2) (requested_length rd rs1 s.scalar) s
+vector_keeps limit (VectorArith arith vd vs2 vm) s = arith_keeps s.vector.conf.vtype arith.0 arith.1 vd vs2 vm s
+vector_keeps limit _ s = record { refused = refl; first = refl }
+
+after_vector_keeps : (end : VEnd) (word : ℕ) (s s' : HartState) → UnlessDone end (s'.scalar ≡ s.scalar) → SameFirst s.scalar s'.scalar → Keeps s (after_vector end word s')
+after_vector_keeps vector_end.Done word s s' h k = record { fault = tt; first = k }
+after_vector_keeps vector_end.Illegal word s s' h k = record { fault = h; first = k }
+after_vector_keeps (vector_end.Fault store addr) word s s' h k = record { fault = h; first = k }
+
+vector_step_keeps : (limit : ℕ) (i : Instr) (word : ℕ) (s : HartState) → Keeps s (vector_step limit i word s)
+vector_step_keeps limit i word s =
+    let done : VectorStepped = vector_executed limit i s in
+    let kept : VectorKeeps s done = vector_keeps limit i s in
+    after_vector_keeps done.end word s done.state kept.refused kept.first
+
+executed_keeps : (limit : ℕ) (i : Option Instr) (word : ℕ) (s : HartState) → Keeps s (executed limit i word s)
+unfolding executed
+executed_keeps limit None word s = record { fault = refl; first = refl }
+executed_keeps limit (Some (Upper op rd imm)) word s = gives_keep rd _ s s refl
+executed_keeps limit (Some (Jump rd offset)) word s = jump_keeps rd (jump_target s.scalar.pc offset) s
+executed_keeps limit (Some (JumpRegister rd rs1 imm)) word s = jump_keeps rd (register_target (read_register s.scalar rs1) imm) s
+executed_keeps limit (Some (Branch op rs1 rs2 offset)) word s =
+    branch_keeps (is_taken op (read_register s.scalar rs1) (read_register s.scalar rs2)) (branch_target s.scalar.pc offset) s
+executed_keeps limit (Some (Load op rd rs1 imm)) word s = load_keeps op rd (access_address (read_register s.scalar rs1) imm) s
+executed_keeps limit (Some (Store op rs1 rs2 imm)) word s =
+    store_keeps op (access_address (read_register s.scalar rs1) imm) (read_register s.scalar rs2) s
+executed_keeps limit (Some (OpImm op rd rs1 imm)) word s = gives_keep rd _ s s refl
+executed_keeps limit (Some (ShiftImm op rd rs1 amount)) word s = gives_keep rd _ s s refl
+executed_keeps limit (Some (ShiftImmWord op rd rs1 amount)) word s = gives_keep rd _ s s refl
+executed_keeps limit (Some (Op op rd rs1 rs2)) word s = gives_keep rd _ s s refl
+executed_keeps limit (Some (Fence rd rs1 ordering)) word s = runs_keep s.scalar s s refl
+executed_keeps limit (Some (System op)) word s = system_keeps op s
+executed_keeps limit (Some (Csr op rd rs1 csr)) word s = csr_keeps (control_register csr) op rd rs1 (read_register s.scalar rs1) word s
+executed_keeps limit (Some (CsrImmediate op rd imm csr)) word s = csr_keeps (control_register csr) (csr_form op) rd imm imm word s
+executed_keeps limit (Some i) word s = vector_step_keeps limit i word s
+
+step_keeps : (limit : ℕ) (s : HartState) → Keeps s (step limit s)
+unfolding step
+step_keeps limit s =
+    either s (can_access Fetch s.memory s.scalar.pc 4) _ _
+    (executed_keeps limit (scan table (word_at s.memory s.scalar.pc)) (word_at s.memory s.scalar.pc) s)
+    (record { fault = refl; first = refl })
+
+pub faults_write_no_register : FaultsWriteNoRegister
+faults_write_no_register limit s = (step_keeps limit s).fault
+
+pub first_register_stays : FirstRegisterStays
+first_register_stays limit s = (step_keeps limit s).first

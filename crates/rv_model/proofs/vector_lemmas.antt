@@ -1,0 +1,2 @@
+-- Laws of the vector state.
+pub mod CellsMemory

@@ -1,0 +1,140 @@
+-- What the slots of a form take from the tokens, and the one text that each prints for an operand (V extension, "Vector Masking", "Configuration-Setting Instructions"; the ranges are those of the fields). That vtype has names exactly where no bit is reserved is this project's choice
+use Rattle.std.specs.Prelude.{ℕ, ◌+◌, ◌-◌, ◌*◌, ◌/◌, ◌%◌, ◌^◌, Bool, ◌&&◌, not, List, [], ◌∷◌, ◌++◌, Option, Some, None, Result, Ok, Err, nat_lt, ◌==◌, if◌then◌else◌, codes, decimal}
+use Rattle.std.specs.Str.{bytes_eq}
+use Rattle.rv_model.specs.assembler.Tokens.{Token}
+use Rattle.rv_model.specs.assembler.Numbers.{literal, register, number, at_most, in_steps, negated, csr, vsew, vlmul, vta, vma, csr_text, vsew_text, vlmul_text, vta_text, vma_text, hex_digits}
+use Rattle.rv_model.specs.declared.assembler.forms.UnsignedField.{UnsignedField}
+use Rattle.rv_model.specs.declared.assembler.forms.UnsignedField.TheVariants as unsigned
+use Rattle.rv_model.specs.declared.assembler.forms.SignedField.{SignedField}
+use Rattle.rv_model.specs.declared.assembler.forms.SignedField.TheVariants as signed
+use Rattle.rv_model.specs.declared.assembler.forms.Slot.{Slot}
+use Rattle.rv_model.specs.declared.assembler.forms.Slot.TheVariants.{Comma, Open, Close, V0, Scalar, Vector, Unsigned, Signed, Csr, VectorType, ShortVectorType, Mask, Word}
+
+-- what follows, if there is no refusal
+infixl 10 ◌>>=◌
+abbrev pub ◌>>=◌ : {A B : Type 0} → Result A ℕ → (A → Result B ℕ) → Result B ℕ
+(Ok x) >>= f = f x
+(Err e) >>= f = Err e
+
+-- the value and the tokens left if the token fits, else its column
+abbrev pub accept : ℕ → List Token → Option ℕ → Result (ℕ × List Token) ℕ
+accept column ts (Some v) = Ok (v, ts)
+accept column ts None = Err column
+
+-- one token with this meaning; end is the column past the text
+abbrev pub one : ℕ → (List ℕ → Option ℕ) → List Token → Result (ℕ × List Token) ℕ
+one end f [] = Err end
+one end f (t ∷ ts) = accept t.column ts (f t.text)
+
+-- the largest number of an unsigned field
+abbrev pub limit : UnsignedField → ℕ
+limit unsigned.Immediate = 31
+limit unsigned.Shift = 63
+limit unsigned.ShiftWord = 31
+limit unsigned.Upper = 1048575
+
+-- how many values of a signed field are below 0
+abbrev pub half : SignedField → ℕ
+half signed.Vector = 16
+half signed.Immediate = 2048
+half signed.Store = 2048
+half signed.Branch = 2048
+half signed.Jump = 524288
+
+-- the number that one stands for in a signed field: distances are counted in steps of two bytes
+abbrev pub step : SignedField → ℕ
+step signed.Branch = 2
+step signed.Jump = 2
+step s = 1
+
+-- a number of steps up to a limit
+abbrev pub steps : ℕ → ℕ → List ℕ → Option ℕ
+steps size count text = in_steps size (at_most (size * count) (number text))
+
+-- a number, or `-` and a number
+abbrev pub signed_number : ℕ → ℕ → ℕ → List Token → Result (ℕ × List Token) ℕ
+signed_number end size count [] = Err end
+signed_number end size count (t ∷ ts) = if bytes_eq t.text (codes "-") then one end (λ text. negated count (steps size count text)) ts else accept t.column ts (in_steps size (at_most (size * count - 1) (number t.text)))
+
+-- `, v0.t` gives 0, the end of the text 1
+abbrev pub mask : ℕ → List Token → Result (ℕ × List Token) ℕ
+mask end [] = Ok (1, [])
+mask end (t ∷ ts) = if bytes_eq t.text (codes ",") then one end (literal (codes "v0.t")) ts else Err t.column
+
+-- the names of vtype's parts behind the first: vlmul, tail and mask
+unfoldable pub vtype_names : ℕ → ℕ → List Token → Result (ℕ × List Token) ℕ
+vtype_names end width ts = do
+  a ← one end (literal (codes ",")) ts
+  multiplier ← one end vlmul a.1
+  b ← one end (literal (codes ",")) multiplier.1
+  tail ← one end vta b.1
+  c ← one end (literal (codes ",")) tail.1
+  inactive ← one end vma c.1
+  Ok (multiplier.0 + width * 8 + tail.0 * 64 + inactive.0 * 128, inactive.1)
+
+-- vtype by names if the first token was an element width, else that token as a number
+abbrev pub vtype_from : ℕ → ℕ → Token → List Token → Option ℕ → Result (ℕ × List Token) ℕ
+vtype_from end count t ts (Some width) = vtype_names end width ts
+vtype_from end count t ts None = accept t.column ts (at_most (count - 1) (number t.text))
+
+-- vtype, as a number below count or by its names
+abbrev pub vtype : ℕ → ℕ → List Token → Result (ℕ × List Token) ℕ
+vtype end count [] = Err end
+vtype end count (t ∷ ts) = vtype_from end count t ts (vsew t.text)
+
+-- the value that a slot takes from the tokens, and the tokens left; or the column of the first that doesn't fit
+abbrev pub read : ℕ → Slot → List Token → Result (ℕ × List Token) ℕ
+read end Comma ts = one end (literal (codes ",")) ts
+read end Open ts = one end (literal (codes "(")) ts
+read end Close ts = one end (literal (codes ")")) ts
+read end V0 ts = one end (literal (codes "v0")) ts
+read end (Scalar p) ts = one end (register 120) ts
+read end (Vector p) ts = one end (register 118) ts
+read end (Unsigned u) ts = one end (λ text. at_most (limit u) (number text)) ts
+read end (Signed s) ts = signed_number end (step s) (half s) ts
+read end Csr ts = one end csr ts
+read end VectorType ts = vtype end 2048 ts
+read end ShortVectorType ts = vtype end 1024 ts
+read end Mask ts = mask end ts
+read end Word ts = one end (λ text. at_most (2 ^ 32 - 1) (number text)) ts
+
+-- how many values a slot has
+abbrev pub room : Slot → ℕ
+room (Scalar p) = 32
+room (Vector p) = 32
+room (Unsigned u) = limit u + 1
+room (Signed s) = 2 * half s
+room Csr = 4096
+room VectorType = 2048
+room ShortVectorType = 1024
+room Mask = 2
+room Word = 2 ^ 32
+room s = 1
+
+-- a signed number of steps
+abbrev pub signed_text : ℕ → ℕ → ℕ → List ℕ
+signed_text size count v = if nat_lt v count then decimal (size * v) else codes "-" ++ decimal (size * (2 * count - v))
+
+-- vtype has names: no bit from 8 up, no reserved vlmul, a vsew of at most 64 bits
+abbrev pub has_names : ℕ → Bool
+has_names v = nat_lt v 256 && (not (v % 8 == 4) && nat_lt (v / 8 % 8) 4)
+
+-- vtype by names where it has them, else as a number
+abbrev pub vtype_text : ℕ → List ℕ
+vtype_text v = if has_names v then vsew_text (v / 8 % 8) ++ codes ", " ++ vlmul_text (v % 8) ++ codes ", " ++ vta_text (v / 64 % 2) ++ codes ", " ++ vma_text (v / 128 % 2) else decimal v
+
+-- the one text of an operand
+abbrev pub printed : Slot → ℕ → List ℕ
+printed Comma v = codes ", "
+printed Open v = codes "("
+printed Close v = codes ")"
+printed V0 v = codes "v0"
+printed (Scalar p) v = codes "x" ++ decimal v
+printed (Vector p) v = codes "v" ++ decimal v
+printed (Unsigned u) v = decimal v
+printed (Signed s) v = signed_text (step s) (half s) v
+printed Csr v = csr_text v
+printed VectorType v = vtype_text v
+printed ShortVectorType v = vtype_text v
+printed Mask v = if v == 0 then codes ", v0.t" else []
+printed Word v = codes "0x" ++ hex_digits 8 v

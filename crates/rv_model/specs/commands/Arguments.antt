@@ -1,0 +1,95 @@
+-- What a word means as an argument of a command.
+use Rattle.std.specs.Prelude.{ℕ, ◌+◌, ◌-◌, ◌*◌, ◌/◌, ◌%◌, ◌^◌, ◌==◌, ◌&&◌, ◌||◌, nat_lt, nat_le, Bool, true, false, List, [], ◌∷◌, length, Option, Some, None, Result, Ok, Err, if◌then◌else◌, codes}
+use Rattle.std.specs.Str.{bytes_eq}
+use Rattle.hex.specs.Hex.{decode_of}
+use Rattle.hex.specs.declared.error.FromHexError.{FromHexError}
+use Rattle.rv_model.specs.declared.memory.Permissions.{Permissions}
+use Rattle.rv_model.specs.declared.vector.types.Sew.{Sew}
+use Rattle.rv_model.specs.declared.vector.types.Sew.TheVariants.{E8, E16, E32, E64}
+
+-- the value of a hexadecimal digit in either case; 16 for any other byte
+abbrev pub digit : ℕ → ℕ
+digit c =
+    if nat_le 48 c && nat_le c 57 then c - 48
+    else if nat_le 97 c && nat_le c 102 then c - 87
+    else if nat_le 65 c && nat_le c 70 then c - 55
+    else 16
+
+-- the number that a run of digits spells, after digits that spell n
+unfoldable pub digits_after : ℕ → ℕ → List ℕ → Option ℕ
+digits_after radix n [] = Some n
+digits_after radix n (c ∷ cs) = if nat_lt (digit c) radix then digits_after radix (n * radix + digit c) cs else None
+
+-- a number from low to high
+abbrev pub within : ℕ → ℕ → Option ℕ → Option ℕ
+within low high None = None
+within low high (Some n) = if nat_le low n && nat_le n high then Some n else None
+
+-- a decimal number: digits without a sign or a leading zero
+abbrev pub decimal_number : List ℕ → Option ℕ
+decimal_number [] = None
+decimal_number (c ∷ []) = digits_after 10 0 (c ∷ [])
+decimal_number (c ∷ d ∷ cs) = if c == 48 then None else digits_after 10 0 (c ∷ d ∷ cs)
+
+-- a decimal number from low to high
+abbrev pub number : ℕ → ℕ → List ℕ → Option ℕ
+number low high word = within low high (decimal_number word)
+
+-- an address: 1 to 16 hexadecimal digits, so a number below 2 ^ 64
+abbrev pub address : List ℕ → Option ℕ
+address word = if nat_le 1 (length word) && nat_le (length word) 16 then within 0 (2 ^ 64 - 1) (digits_after 16 0 word) else None
+
+-- a number that is divisible by 4
+abbrev pub divisible_by_4 : Option ℕ → Option ℕ
+divisible_by_4 None = None
+divisible_by_4 (Some n) = if n % 4 == 0 then Some n else None
+
+-- the address of an instruction: one that is divisible by 4
+abbrev pub instruction_address : List ℕ → Option ℕ
+instruction_address word = divisible_by_4 (address word)
+
+-- x1 to x31
+abbrev pub scalar_register : List ℕ → Option ℕ
+scalar_register [] = None
+scalar_register (c ∷ digits) = if c == 120 then number 1 31 digits else None
+
+-- v0 to v31
+abbrev pub vector_register : List ℕ → Option ℕ
+vector_register [] = None
+vector_register (c ∷ digits) = if c == 118 then number 0 31 digits else None
+
+-- the width of an element in bits
+abbrev pub element_width : List ℕ → Option Sew
+element_width word =
+    if bytes_eq word (codes "8") then Some E8
+    else if bytes_eq word (codes "16") then Some E16
+    else if bytes_eq word (codes "32") then Some E32
+    else if bytes_eq word (codes "64") then Some E64
+    else None
+
+abbrev pub decoded : Result (List ℕ) FromHexError → Option (List ℕ)
+decoded (Err e) = None
+decoded (Ok bytes) = Some bytes
+
+-- 1 to 256 bytes, two hexadecimal digits each
+abbrev pub byte_string : List ℕ → Option (List ℕ)
+byte_string text = if nat_lt (length text / 2) 1 || nat_lt 256 (length text / 2) then None else decoded (decode_of text)
+
+-- the 32 bytes of a vector register, two hexadecimal digits each, byte 0 first
+abbrev pub register_bytes : List ℕ → Option (List ℕ)
+register_bytes text = if length text == 64 then decoded (decode_of text) else None
+
+abbrev pub allowing : Bool → Bool → Bool → Option Permissions
+allowing read write execute = Some (record { read = read; write = write; execute = execute })
+
+-- one of r, w, x, rw, rx, wx, rwx
+abbrev pub permissions : List ℕ → Option Permissions
+permissions word =
+    if bytes_eq word (codes "r") then allowing true false false
+    else if bytes_eq word (codes "w") then allowing false true false
+    else if bytes_eq word (codes "x") then allowing false false true
+    else if bytes_eq word (codes "rw") then allowing true true false
+    else if bytes_eq word (codes "rx") then allowing true false true
+    else if bytes_eq word (codes "wx") then allowing false true true
+    else if bytes_eq word (codes "rwx") then allowing true true true
+    else None

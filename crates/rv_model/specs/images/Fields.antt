@@ -1,0 +1,61 @@
+-- The fields of an ELF-64 image that a loader reads, each by its offset and size in bytes (ELF-64 Object File Format, "File
+-- header" and "Program header table"). Numbers are little-endian.
+use Rattle.std.specs.Prelude.{ℕ, ◌+◌, ◌*◌, List, drop, map, slice_index}
+use Rattle.std.specs.List.{range_with_len}
+use Rattle.byteorder.specs.Endian.{little_number}
+use Rattle.rv_model.specs.declared.images.ProgramHeader.{ProgramHeader}
+
+-- the number in so many bytes at an offset
+unfoldable pub field : ℕ → ℕ → List ℕ → ℕ
+field offset size image = little_number size (drop offset image)
+
+-- e_ident[EI_CLASS]
+abbrev pub class_of : List ℕ → ℕ
+class_of image = slice_index image 4
+
+-- e_ident[EI_DATA]
+abbrev pub data_of : List ℕ → ℕ
+data_of image = slice_index image 5
+
+-- e_type
+abbrev pub type_of : List ℕ → ℕ
+type_of image = field 16 2 image
+
+-- e_machine
+abbrev pub machine_of : List ℕ → ℕ
+machine_of image = field 18 2 image
+
+-- e_entry
+abbrev pub entry_of : List ℕ → ℕ
+entry_of image = field 24 8 image
+
+-- e_phoff
+abbrev pub table_offset : List ℕ → ℕ
+table_offset image = field 32 8 image
+
+-- e_phentsize
+abbrev pub header_size : List ℕ → ℕ
+header_size image = field 54 2 image
+
+-- e_phnum
+abbrev pub header_count : List ℕ → ℕ
+header_count image = field 56 2 image
+
+-- the program header at an offset
+unfoldable pub header_at : ℕ → List ℕ → ProgramHeader
+header_at offset image = record {
+  kind = field offset 4 image;
+  flags = field (offset + 4) 4 image;
+  offset = field (offset + 8) 8 image;
+  address = field (offset + 16) 8 image;
+  file_size = field (offset + 32) 8 image;
+  memory_size = field (offset + 40) 8 image;
+}
+
+-- the program header of a number, from 0
+unfoldable pub program_header : List ℕ → ℕ → ProgramHeader
+program_header image number = header_at (table_offset image + 56 * number) image
+
+-- the program headers in their order
+unfoldable pub program_headers : List ℕ → List ProgramHeader
+program_headers image = map (program_header image) (range_with_len 0 (header_count image))

@@ -1,0 +1,75 @@
+-- What memory an ELF-64 image describes: each byte is that of the last loadable segment that covers it, zero past the
+-- segment's part of the file (ELF-64 Object File Format, "Program header table"); a page may be used for what any segment
+-- that touches it allows. The stack is placed as a segment before all others.
+use Rattle.std.specs.Prelude.{ℕ, zero, suc, ◌+◌, ◌-◌, ◌*◌, ◌/◌, ◌==◌, ◌&&◌, not, nat_lt, nat_le, min, max, bit_and, Bool, List, ◌∷◌, reverse, find, slice_index, Option, Some, None, if◌then◌else◌}
+use Rattle.std.specs.List.{list_any}
+use Rattle.std.specs.Option.{option_map_or}
+use Rattle.std.specs.FinMap.{empty, insert}
+use Rattle.rv_model.specs.declared.images.ProgramHeader.{ProgramHeader}
+use Rattle.rv_model.specs.declared.memory.Permissions.{Permissions}
+use Rattle.rv_model.specs.images.Faults.{is_load}
+use Rattle.rv_model.specs.images.Fields.{program_headers}
+use Rattle.rv_model.specs.memory.Memory.{Cell, Memory}
+
+-- four pages of zeros that are read and written, and end at 7FFFF000
+unfoldable pub stack : ProgramHeader
+stack = record { kind = 1; flags = 6; offset = 0; address = 0x7fffb000; file_size = 0; memory_size = 0x4000 }
+
+-- what is placed, in order: a later segment's bytes hide those of an earlier one
+abbrev pub placed : List ℕ → List ProgramHeader
+placed image = stack ∷ program_headers image
+
+-- whether an address is one of a segment's
+unfoldable pub covers : ℕ → ProgramHeader → Bool
+covers x header = is_load header && (nat_le header.address x && nat_lt x (header.address + header.memory_size))
+
+-- whether one of a page's addresses is one of a segment's
+unfoldable pub touches : ℕ → ProgramHeader → Bool
+touches page header =
+    is_load header && nat_lt (max header.address (4096 * page)) (min (header.address + header.memory_size) (4096 * page + 4096))
+
+-- a segment's byte at one of its addresses
+unfoldable pub byte_in : List ℕ → ℕ → ProgramHeader → ℕ
+byte_in image x header =
+    if nat_lt (x - header.address) header.file_size then slice_index image (header.offset + (x - header.address)) else 0
+
+-- the byte at an address, of the last of these segments that covers it
+unfoldable pub byte_of : List ℕ → List ProgramHeader → ℕ → ℕ
+byte_of image headers x = option_map_or (byte_in image x) (find (covers x) (reverse headers)) 0
+
+-- whether one of these segments that touch a page has a flag
+unfoldable pub is_allowed_by : ℕ → List ProgramHeader → ℕ → Bool
+is_allowed_by flag headers page = list_any (λ header. touches page header && not (bit_and header.flags flag == 0)) headers
+
+-- what a page may be used for: PF_R is 4, PF_W is 2, PF_X is 1
+abbrev pub permissions_of : List ProgramHeader → ℕ → Permissions
+permissions_of headers page = record { read = is_allowed_by 4 headers page; write = is_allowed_by 2 headers page; execute = is_allowed_by 1 headers page }
+
+-- whether one of these segments touches a page
+unfoldable pub is_touched : List ProgramHeader → ℕ → Bool
+is_touched headers page = list_any (touches page) headers
+
+-- what stands at an address
+unfoldable pub cell_of : List ℕ → ℕ → Option Cell
+cell_of image x =
+    if is_touched (placed image) (x / 4096)
+    then Some (record { byte = byte_of image (placed image) x; permissions = permissions_of (placed image) (x / 4096) })
+    else None
+
+-- a cell added where there is one
+abbrev pub with_cell : Memory → ℕ → Option Cell → Memory
+with_cell m x None = m
+with_cell m x (Some cell) = insert m x cell
+
+-- the memory with these cells below an address, and no others
+unfoldable pub memory_below : (ℕ → Option Cell) → ℕ → Memory
+memory_below cells zero = empty
+memory_below cells (suc x) = with_cell (memory_below cells x) x (cells x)
+
+-- the number of pages below address 2^48
+unfoldable pub all_pages : ℕ
+all_pages = 0x1000000000
+
+-- the memory that an image describes
+unfoldable pub memory_of_image : List ℕ → Memory
+memory_of_image image = memory_below (cell_of image) (4096 * all_pages)

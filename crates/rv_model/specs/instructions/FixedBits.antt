@@ -1,0 +1,335 @@
+-- The bits that each operation fixes in its word, as the manual's tables have them: opcode at bits 6 to 0, funct3 at
+-- 14 to 12, funct7 at 31 to 25
+use Rattle.std.specs.Prelude.{ℕ, ◌+◌, ◌*◌, ◌^◌, List, [], ◌∷◌}
+use Rattle.rv_model.specs.declared.instructions.operations.UpperOp.{UpperOp}
+use Rattle.rv_model.specs.declared.instructions.operations.UpperOp.TheVariants as upper
+use Rattle.rv_model.specs.declared.instructions.operations.BranchOp.{BranchOp}
+use Rattle.rv_model.specs.declared.instructions.operations.BranchOp.TheVariants as branch
+use Rattle.rv_model.specs.declared.instructions.operations.LoadOp.{LoadOp}
+use Rattle.rv_model.specs.declared.instructions.operations.LoadOp.TheVariants as load
+use Rattle.rv_model.specs.declared.instructions.operations.StoreOp.{StoreOp}
+use Rattle.rv_model.specs.declared.instructions.operations.StoreOp.TheVariants as store
+use Rattle.rv_model.specs.declared.instructions.operations.OpImmOp.{OpImmOp}
+use Rattle.rv_model.specs.declared.instructions.operations.OpImmOp.TheVariants as op_imm
+use Rattle.rv_model.specs.declared.instructions.operations.ShiftImmOp.{ShiftImmOp}
+use Rattle.rv_model.specs.declared.instructions.operations.ShiftImmOp.TheVariants as shift_imm
+use Rattle.rv_model.specs.declared.instructions.operations.ShiftImmWordOp.{ShiftImmWordOp}
+use Rattle.rv_model.specs.declared.instructions.operations.ShiftImmWordOp.TheVariants as shift_imm_word
+use Rattle.rv_model.specs.declared.instructions.operations.OpOp.{OpOp}
+use Rattle.rv_model.specs.declared.instructions.operations.OpOp.TheVariants as op
+use Rattle.rv_model.specs.declared.instructions.operations.SystemOp.{SystemOp}
+use Rattle.rv_model.specs.declared.instructions.operations.SystemOp.TheVariants as system
+use Rattle.rv_model.specs.declared.instructions.operations.CsrOp.{CsrOp}
+use Rattle.rv_model.specs.declared.instructions.operations.CsrOp.TheVariants as csr
+use Rattle.rv_model.specs.declared.instructions.operations.CsrImmediateOp.{CsrImmediateOp}
+use Rattle.rv_model.specs.declared.instructions.operations.CsrImmediateOp.TheVariants as csr_immediate
+use Rattle.rv_model.specs.declared.instructions.operations.MaskLogicOp.{MaskLogicOp}
+use Rattle.rv_model.specs.declared.instructions.operations.MaskLogicOp.TheVariants as mask_logic
+use Rattle.rv_model.specs.declared.instructions.operations.MaskToScalarOp.{MaskToScalarOp}
+use Rattle.rv_model.specs.declared.instructions.operations.MaskToScalarOp.TheVariants as mask_to_scalar
+use Rattle.rv_model.specs.declared.instructions.operations.ExtendOp.{ExtendOp}
+use Rattle.rv_model.specs.declared.instructions.operations.ExtendOp.TheVariants as extend
+use Rattle.rv_model.specs.declared.instructions.operations.MaskUnaryOp.{MaskUnaryOp}
+use Rattle.rv_model.specs.declared.instructions.operations.MaskUnaryOp.TheVariants as mask_unary
+use Rattle.rv_model.specs.declared.instructions.operations.Form.{Form}
+use Rattle.rv_model.specs.declared.instructions.operations.Form.TheVariants as form
+use Rattle.rv_model.specs.declared.instructions.operations.Width.{Width}
+use Rattle.rv_model.specs.declared.instructions.operations.Width.TheVariants as width
+use Rattle.rv_model.specs.declared.instructions.operations.UnitOp.{UnitOp}
+use Rattle.rv_model.specs.declared.instructions.operations.UnitOp.TheVariants as unit
+use Rattle.rv_model.specs.declared.instructions.operations.Direction.{Direction}
+use Rattle.rv_model.specs.declared.instructions.operations.Direction.TheVariants as direction
+use Rattle.rv_model.specs.declared.instructions.operations.Order.{Order}
+use Rattle.rv_model.specs.declared.instructions.operations.Order.TheVariants as order
+use Rattle.rv_model.specs.declared.instructions.operations.RegisterCount.{RegisterCount}
+use Rattle.rv_model.specs.declared.instructions.operations.RegisterCount.TheVariants as count
+
+-- opcode and funct3
+abbrev pub coded : ℕ → ℕ → ℕ
+coded opcode funct3 = opcode + funct3 * 2 ^ 12
+
+-- opcode, funct3 and funct7
+abbrev pub register_coded : ℕ → ℕ → ℕ → ℕ
+register_coded opcode funct3 funct7 = coded opcode funct3 + funct7 * 2 ^ 25
+
+-- a vector operation with its place in the opcode map, whether it is fixed as not masked, and what stands at vs1
+abbrev pub vector_coded : ℕ → ℕ → ℕ → ℕ → ℕ
+vector_coded funct3 funct6 unmasked vs1 = coded 0x57 funct3 + funct6 * 2 ^ 26 + unmasked * 2 ^ 25 + vs1 * 2 ^ 15
+
+-- ---- RV64I (Unprivileged ISA, "RV32I" and "RV64I", with the opcode map of "RV32/64G Instruction Set Listings")
+
+-- LUI, AUIPC
+abbrev pub upper_bits : UpperOp → ℕ
+upper_bits upper.Lui = 0x37
+upper_bits upper.Auipc = 0x17
+
+-- their operations
+abbrev pub upper_ops : List UpperOp
+upper_ops = upper.Lui ∷ upper.Auipc ∷ []
+
+-- BRANCH
+abbrev pub branch_bits : BranchOp → ℕ
+branch_bits branch.Beq = coded 0x63 0
+branch_bits branch.Bne = coded 0x63 1
+branch_bits branch.Blt = coded 0x63 4
+branch_bits branch.Bge = coded 0x63 5
+branch_bits branch.Bltu = coded 0x63 6
+branch_bits branch.Bgeu = coded 0x63 7
+
+-- its operations
+abbrev pub branch_ops : List BranchOp
+branch_ops = branch.Beq ∷ branch.Bne ∷ branch.Blt ∷ branch.Bge ∷ branch.Bltu ∷ branch.Bgeu ∷ []
+
+-- LOAD
+abbrev pub load_bits : LoadOp → ℕ
+load_bits load.Lb = coded 0x03 0
+load_bits load.Lh = coded 0x03 1
+load_bits load.Lw = coded 0x03 2
+load_bits load.Ld = coded 0x03 3
+load_bits load.Lbu = coded 0x03 4
+load_bits load.Lhu = coded 0x03 5
+load_bits load.Lwu = coded 0x03 6
+
+-- its operations
+abbrev pub load_ops : List LoadOp
+load_ops = load.Lb ∷ load.Lh ∷ load.Lw ∷ load.Ld ∷ load.Lbu ∷ load.Lhu ∷ load.Lwu ∷ []
+
+-- STORE
+abbrev pub store_bits : StoreOp → ℕ
+store_bits store.Sb = coded 0x23 0
+store_bits store.Sh = coded 0x23 1
+store_bits store.Sw = coded 0x23 2
+store_bits store.Sd = coded 0x23 3
+
+-- its operations
+abbrev pub store_ops : List StoreOp
+store_ops = store.Sb ∷ store.Sh ∷ store.Sw ∷ store.Sd ∷ []
+
+-- OP-IMM and OP-IMM-32 with an immediate of 12 bits
+abbrev pub op_imm_bits : OpImmOp → ℕ
+op_imm_bits op_imm.Addi = coded 0x13 0
+op_imm_bits op_imm.Slti = coded 0x13 2
+op_imm_bits op_imm.Sltiu = coded 0x13 3
+op_imm_bits op_imm.Xori = coded 0x13 4
+op_imm_bits op_imm.Ori = coded 0x13 6
+op_imm_bits op_imm.Andi = coded 0x13 7
+op_imm_bits op_imm.Addiw = coded 0x1b 0
+
+-- their operations
+abbrev pub op_imm_ops : List OpImmOp
+op_imm_ops =
+    op_imm.Addi ∷ op_imm.Slti ∷ op_imm.Sltiu ∷ op_imm.Xori ∷ op_imm.Ori ∷ op_imm.Andi ∷ op_imm.Addiw ∷ []
+
+-- OP-IMM with a shift amount of six bits
+abbrev pub shift_imm_bits : ShiftImmOp → ℕ
+shift_imm_bits shift_imm.Slli = register_coded 0x13 1 0x00
+shift_imm_bits shift_imm.Srli = register_coded 0x13 5 0x00
+shift_imm_bits shift_imm.Srai = register_coded 0x13 5 0x20
+
+-- its operations
+abbrev pub shift_imm_ops : List ShiftImmOp
+shift_imm_ops = shift_imm.Slli ∷ shift_imm.Srli ∷ shift_imm.Srai ∷ []
+
+-- OP-IMM-32 with a shift amount of five bits
+abbrev pub shift_imm_word_bits : ShiftImmWordOp → ℕ
+shift_imm_word_bits shift_imm_word.Slliw = register_coded 0x1b 1 0x00
+shift_imm_word_bits shift_imm_word.Srliw = register_coded 0x1b 5 0x00
+shift_imm_word_bits shift_imm_word.Sraiw = register_coded 0x1b 5 0x20
+
+-- its operations
+abbrev pub shift_imm_word_ops : List ShiftImmWordOp
+shift_imm_word_ops = shift_imm_word.Slliw ∷ shift_imm_word.Srliw ∷ shift_imm_word.Sraiw ∷ []
+
+-- OP and OP-32, with the "M" extension
+abbrev pub op_bits : OpOp → ℕ
+op_bits op.Add = register_coded 0x33 0 0x00
+op_bits op.Sub = register_coded 0x33 0 0x20
+op_bits op.Sll = register_coded 0x33 1 0x00
+op_bits op.Slt = register_coded 0x33 2 0x00
+op_bits op.Sltu = register_coded 0x33 3 0x00
+op_bits op.Xor = register_coded 0x33 4 0x00
+op_bits op.Srl = register_coded 0x33 5 0x00
+op_bits op.Sra = register_coded 0x33 5 0x20
+op_bits op.Or = register_coded 0x33 6 0x00
+op_bits op.And = register_coded 0x33 7 0x00
+op_bits op.Mul = register_coded 0x33 0 0x01
+op_bits op.Mulh = register_coded 0x33 1 0x01
+op_bits op.Mulhsu = register_coded 0x33 2 0x01
+op_bits op.Mulhu = register_coded 0x33 3 0x01
+op_bits op.Div = register_coded 0x33 4 0x01
+op_bits op.Divu = register_coded 0x33 5 0x01
+op_bits op.Rem = register_coded 0x33 6 0x01
+op_bits op.Remu = register_coded 0x33 7 0x01
+op_bits op.Addw = register_coded 0x3b 0 0x00
+op_bits op.Subw = register_coded 0x3b 0 0x20
+op_bits op.Sllw = register_coded 0x3b 1 0x00
+op_bits op.Srlw = register_coded 0x3b 5 0x00
+op_bits op.Sraw = register_coded 0x3b 5 0x20
+op_bits op.Mulw = register_coded 0x3b 0 0x01
+op_bits op.Divw = register_coded 0x3b 4 0x01
+op_bits op.Divuw = register_coded 0x3b 5 0x01
+op_bits op.Remw = register_coded 0x3b 6 0x01
+op_bits op.Remuw = register_coded 0x3b 7 0x01
+
+-- their operations
+abbrev pub op_ops : List OpOp
+op_ops =
+    op.Add ∷ op.Sub ∷ op.Sll ∷ op.Slt ∷ op.Sltu ∷ op.Xor ∷ op.Srl ∷ op.Sra ∷ op.Or ∷ op.And ∷ op.Mul ∷
+    op.Mulh ∷ op.Mulhsu ∷ op.Mulhu ∷ op.Div ∷ op.Divu ∷ op.Rem ∷ op.Remu ∷ op.Addw ∷ op.Subw ∷ op.Sllw ∷
+    op.Srlw ∷ op.Sraw ∷ op.Mulw ∷ op.Divw ∷ op.Divuw ∷ op.Remw ∷ op.Remuw ∷ []
+
+-- SYSTEM with no operands: the whole word
+abbrev pub system_bits : SystemOp → ℕ
+system_bits system.Ecall = 0x00000073
+system_bits system.Ebreak = 0x00100073
+
+-- its operations
+abbrev pub system_ops : List SystemOp
+system_ops = system.Ecall ∷ system.Ebreak ∷ []
+
+-- ---- Zicsr (Unprivileged ISA, "Zicsr", CSR Instructions)
+
+-- SYSTEM with a scalar register
+abbrev pub csr_bits : CsrOp → ℕ
+csr_bits csr.Csrrw = coded 0x73 1
+csr_bits csr.Csrrs = coded 0x73 2
+csr_bits csr.Csrrc = coded 0x73 3
+
+-- its operations
+abbrev pub csr_ops : List CsrOp
+csr_ops = csr.Csrrw ∷ csr.Csrrs ∷ csr.Csrrc ∷ []
+
+-- SYSTEM with an immediate
+abbrev pub csr_immediate_bits : CsrImmediateOp → ℕ
+csr_immediate_bits csr_immediate.Csrrwi = coded 0x73 5
+csr_immediate_bits csr_immediate.Csrrsi = coded 0x73 6
+csr_immediate_bits csr_immediate.Csrrci = coded 0x73 7
+
+-- its operations
+abbrev pub csr_immediate_ops : List CsrImmediateOp
+csr_immediate_ops = csr_immediate.Csrrwi ∷ csr_immediate.Csrrsi ∷ csr_immediate.Csrrci ∷ []
+
+-- ---- vector operations with fewer operands (V extension, "Vector Instruction Listing"): funct3, funct6, bit 25
+-- where it is fixed, vs1 where it is
+
+-- vmv.v.v, vmv.v.x, vmv.v.i ("Vector Integer Move Instructions")
+abbrev pub move_bits : Form → ℕ
+move_bits form.V = vector_coded 0 0x17 1 0  -- vmv.v.v
+move_bits form.X = vector_coded 4 0x17 1 0  -- vmv.v.x
+move_bits form.I = vector_coded 3 0x17 1 0  -- vmv.v.i
+
+-- vmv1r.v, vmv2r.v, vmv4r.v, vmv8r.v ("Whole Vector Register Move")
+abbrev pub whole_move_bits : RegisterCount → ℕ
+whole_move_bits count.One = vector_coded 3 0x27 1 0  -- vmv1r.v
+whole_move_bits count.Two = vector_coded 3 0x27 1 1  -- vmv2r.v
+whole_move_bits count.Four = vector_coded 3 0x27 1 3  -- vmv4r.v
+whole_move_bits count.Eight = vector_coded 3 0x27 1 7  -- vmv8r.v
+
+-- "Vector Mask-Register Logical Instructions"
+abbrev pub mask_logic_bits : MaskLogicOp → ℕ
+mask_logic_bits mask_logic.Vmandn = vector_coded 2 0x18 1 0  -- vmandn.mm
+mask_logic_bits mask_logic.Vmand = vector_coded 2 0x19 1 0  -- vmand.mm
+mask_logic_bits mask_logic.Vmor = vector_coded 2 0x1a 1 0  -- vmor.mm
+mask_logic_bits mask_logic.Vmxor = vector_coded 2 0x1b 1 0  -- vmxor.mm
+mask_logic_bits mask_logic.Vmorn = vector_coded 2 0x1c 1 0  -- vmorn.mm
+mask_logic_bits mask_logic.Vmnand = vector_coded 2 0x1d 1 0  -- vmnand.mm
+mask_logic_bits mask_logic.Vmnor = vector_coded 2 0x1e 1 0  -- vmnor.mm
+mask_logic_bits mask_logic.Vmxnor = vector_coded 2 0x1f 1 0  -- vmxnor.mm
+
+-- their operations
+abbrev pub mask_logic_ops : List MaskLogicOp
+mask_logic_ops =
+    mask_logic.Vmandn ∷ mask_logic.Vmand ∷ mask_logic.Vmor ∷ mask_logic.Vmxor ∷ mask_logic.Vmorn ∷
+    mask_logic.Vmnand ∷ mask_logic.Vmnor ∷ mask_logic.Vmxnor ∷ []
+
+-- VWXUNARY0 on a mask: "Vector count population in mask vcpop.m", "vfirst find-first-set mask bit"
+abbrev pub mask_to_scalar_bits : MaskToScalarOp → ℕ
+mask_to_scalar_bits mask_to_scalar.Vcpop = vector_coded 2 0x10 0 16  -- vcpop.m
+mask_to_scalar_bits mask_to_scalar.Vfirst = vector_coded 2 0x10 0 17  -- vfirst.m
+
+-- its operations
+abbrev pub mask_to_scalar_ops : List MaskToScalarOp
+mask_to_scalar_ops = mask_to_scalar.Vcpop ∷ mask_to_scalar.Vfirst ∷ []
+
+-- VXUNARY0: "Vector Integer Extension"
+abbrev pub extend_bits : ExtendOp → ℕ
+extend_bits extend.VzextVf8 = vector_coded 2 0x12 0 2  -- vzext.vf8
+extend_bits extend.VsextVf8 = vector_coded 2 0x12 0 3  -- vsext.vf8
+extend_bits extend.VzextVf4 = vector_coded 2 0x12 0 4  -- vzext.vf4
+extend_bits extend.VsextVf4 = vector_coded 2 0x12 0 5  -- vsext.vf4
+extend_bits extend.VzextVf2 = vector_coded 2 0x12 0 6  -- vzext.vf2
+extend_bits extend.VsextVf2 = vector_coded 2 0x12 0 7  -- vsext.vf2
+
+-- its operations
+abbrev pub extend_ops : List ExtendOp
+extend_ops =
+    extend.VzextVf8 ∷ extend.VsextVf8 ∷ extend.VzextVf4 ∷ extend.VsextVf4 ∷ extend.VzextVf2 ∷
+    extend.VsextVf2 ∷ []
+
+-- VMUNARY0 on a mask: "vmsbf.m set-before-first mask bit" and the like, "Vector Iota Instruction"
+abbrev pub mask_unary_bits : MaskUnaryOp → ℕ
+mask_unary_bits mask_unary.Vmsbf = vector_coded 2 0x14 0 1  -- vmsbf.m
+mask_unary_bits mask_unary.Vmsof = vector_coded 2 0x14 0 2  -- vmsof.m
+mask_unary_bits mask_unary.Vmsif = vector_coded 2 0x14 0 3  -- vmsif.m
+mask_unary_bits mask_unary.Viota = vector_coded 2 0x14 0 16  -- viota.m
+
+-- its operations
+abbrev pub mask_unary_ops : List MaskUnaryOp
+mask_unary_ops = mask_unary.Vmsbf ∷ mask_unary.Vmsof ∷ mask_unary.Vmsif ∷ mask_unary.Viota ∷ []
+
+-- ---- vector memory (V extension, "Vector Load/Store Instruction Encoding": nf 31 to 29, mew 28, mop 27 to 26, width
+-- 14 to 12)
+
+-- the width of a memory element or an index
+abbrev pub width_bits : Width → ℕ
+width_bits width.E8 = 0 * 2 ^ 12
+width_bits width.E16 = 5 * 2 ^ 12
+width_bits width.E32 = 6 * 2 ^ 12
+width_bits width.E64 = 7 * 2 ^ 12
+
+-- each width
+abbrev pub widths : List Width
+widths = width.E8 ∷ width.E16 ∷ width.E32 ∷ width.E64 ∷ []
+
+-- LOAD-FP, STORE-FP
+abbrev pub direction_bits : Direction → ℕ
+direction_bits direction.Load = 0x07
+direction_bits direction.Store = 0x27
+
+-- both
+abbrev pub directions : List Direction
+directions = direction.Load ∷ direction.Store ∷ []
+
+-- unit stride, by what stands at lumop or sumop (bits 24 to 20)
+abbrev pub unit_bits : UnitOp → ℕ
+unit_bits unit.Load = direction_bits direction.Load  -- vle8.v, vlseg2e8.v and the like
+unit_bits unit.FaultOnlyFirst = direction_bits direction.Load + 16 * 2 ^ 20  -- vle8ff.v, vlseg2e8ff.v
+unit_bits unit.Store = direction_bits direction.Store  -- vse8.v, vsseg2e8.v
+
+-- its operations
+abbrev pub unit_ops : List UnitOp
+unit_ops = unit.Load ∷ unit.FaultOnlyFirst ∷ unit.Store ∷ []
+
+-- mop of an indexed access
+abbrev pub order_bits : Order → ℕ
+order_bits order.Unordered = 1 * 2 ^ 26  -- vluxei8.v, vsuxei8.v, vluxseg2ei8.v, vsuxseg2ei8.v and the like
+order_bits order.Ordered = 3 * 2 ^ 26  -- vloxei8.v, vsoxei8.v, vloxseg2ei8.v, vsoxseg2ei8.v
+
+-- mop of a strided access: vlse8.v, vsse8.v, vlsseg2e8.v, vssseg2e8.v and the like
+abbrev pub strided_bits : ℕ
+strided_bits = 2 * 2 ^ 26
+
+-- nf of a whole-register access, one less than the count, with 01000 at lumop or sumop and bit 25 set
+abbrev pub count_bits : RegisterCount → ℕ
+count_bits count.One = 0 * 2 ^ 29 + 8 * 2 ^ 20 + 2 ^ 25  -- vl1re8.v, vs1r.v
+count_bits count.Two = 1 * 2 ^ 29 + 8 * 2 ^ 20 + 2 ^ 25  -- vl2re8.v, vs2r.v
+count_bits count.Four = 3 * 2 ^ 29 + 8 * 2 ^ 20 + 2 ^ 25  -- vl4re8.v, vs4r.v
+count_bits count.Eight = 7 * 2 ^ 29 + 8 * 2 ^ 20 + 2 ^ 25  -- vl8re8.v, vs8r.v
+
+-- each count
+abbrev pub counts : List RegisterCount
+counts = count.One ∷ count.Two ∷ count.Four ∷ count.Eight ∷ []
+
+-- vlm.v, vsm.v: 01011 at lumop or sumop, bit 25 set
+abbrev pub mask_memory_bits : Direction → ℕ
+mask_memory_bits direction = direction_bits direction + 11 * 2 ^ 20 + 2 ^ 25

@@ -1,0 +1,44 @@
+-- Immediates: where their bits stand in a word, and the numbers that they mean (Unprivileged ISA, RV32I, "Immediate
+-- Encoding Variants")
+use Rattle.std.specs.Prelude.{ℕ, ◌+◌, ◌-◌, ◌*◌, ◌^◌, nat_lt, if◌then◌else◌, ℤ, pos, ◌-ℤ◌}
+use Rattle.rv_model.specs.instructions.BitFields.{field}
+
+-- a number of so many bits, read as two's complement
+abbrev pub signed : ℕ → ℕ → ℤ
+signed bits value = if nat_lt value (2 ^ (bits - 1)) then pos value else pos value -ℤ pos (2 ^ bits)
+
+-- I: bits 11 to 0
+abbrev pub i_immediate : ℕ → ℤ
+i_immediate imm = signed 12 imm
+
+-- S: bits 11 to 0
+abbrev pub s_immediate : ℕ → ℤ
+s_immediate imm = signed 12 imm
+
+-- B: bits 12 to 1 of a distance in bytes
+abbrev pub b_immediate : ℕ → ℤ
+b_immediate offset = signed 13 (2 * offset)
+
+-- U: bits 31 to 12
+abbrev pub u_immediate : ℕ → ℤ
+u_immediate imm = signed 32 (imm * 2 ^ 12)
+
+-- J: bits 20 to 1 of a distance in bytes
+abbrev pub j_immediate : ℕ → ℤ
+j_immediate offset = signed 21 (2 * offset)
+
+-- S: bits 4 to 0 of the immediate stand at 11 to 7, bits 11 to 5 at 31 to 25
+abbrev pub store_immediate : ℕ → ℕ
+store_immediate word = field 7 5 word + field 25 7 word * 2 ^ 5
+
+-- B: bits 4 to 1 of the distance stand at 11 to 8, bits 10 to 5 at 30 to 25, bit 11 at 7, bit 12 at 31
+abbrev pub branch_offset : ℕ → ℕ
+branch_offset word = field 8 4 word + field 25 6 word * 2 ^ 4 + field 7 1 word * 2 ^ 10 + field 31 1 word * 2 ^ 11
+
+-- J: bits 10 to 1 of the distance stand at 30 to 21, bit 11 at 20, bits 19 to 12 at 19 to 12, bit 20 at 31
+abbrev pub jump_offset : ℕ → ℕ
+jump_offset word = field 21 10 word + field 20 1 word * 2 ^ 10 + field 12 8 word * 2 ^ 11 + field 31 1 word * 2 ^ 19
+
+-- an immediate of so many bits, sign-extended to a 64-bit word
+abbrev pub sign_extended : ℕ → ℕ → ℕ
+sign_extended bits value = if nat_lt value (2 ^ (bits - 1)) then value else value + (2 ^ 64 - 2 ^ bits)

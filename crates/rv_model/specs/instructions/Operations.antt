@@ -1,0 +1,263 @@
+-- The lines of the manual's table of vector operations (V extension, "Vector Instruction Listing"): the half of the
+-- opcode map, funct6 and the forms, each operation once
+use Rattle.std.specs.Prelude.{ℕ, ◌+◌, ◌*◌, ◌^◌, Bool, true, false, ◌&&◌, cond, List, [], ◌∷◌, map, ◌++◌}
+use Rattle.rv_model.specs.declared.instructions.operations.Line.{Line}
+use Rattle.rv_model.specs.declared.instructions.operations.Major.{Major}
+use Rattle.rv_model.specs.declared.instructions.operations.Major.TheVariants.{Opi, Opm}
+use Rattle.rv_model.specs.declared.instructions.operations.Forms.{Forms}
+use Rattle.rv_model.specs.declared.instructions.operations.Forms.TheVariants.{V, X, Vx, Xi, Vxi}
+use Rattle.rv_model.specs.instructions.FixedBits.{coded}
+use Rattle.rv_model.specs.declared.instructions.operations.Form.{Form}
+use Rattle.rv_model.specs.declared.instructions.operations.Form.TheVariants as form
+use Rattle.rv_model.specs.declared.instructions.operations.VectorOp.{VectorOp}
+use Rattle.rv_model.specs.declared.instructions.operations.VectorOp.TheVariants as vector_op
+use Rattle.rv_model.specs.declared.instructions.operations.BinaryOp.{BinaryOp}
+use Rattle.rv_model.specs.declared.instructions.operations.BinaryOp.TheVariants as binary
+use Rattle.rv_model.specs.declared.instructions.operations.CompareOp.{CompareOp}
+use Rattle.rv_model.specs.declared.instructions.operations.CompareOp.TheVariants as compare
+use Rattle.rv_model.specs.declared.instructions.operations.FixedPointOp.{FixedPointOp}
+use Rattle.rv_model.specs.declared.instructions.operations.FixedPointOp.TheVariants as fixed_point
+use Rattle.rv_model.specs.declared.instructions.operations.NarrowOp.{NarrowOp}
+use Rattle.rv_model.specs.declared.instructions.operations.NarrowOp.TheVariants as narrow
+use Rattle.rv_model.specs.declared.instructions.operations.WidenOp.{WidenOp}
+use Rattle.rv_model.specs.declared.instructions.operations.WidenOp.TheVariants as widen
+use Rattle.rv_model.specs.declared.instructions.operations.MultiplyAddOp.{MultiplyAddOp}
+use Rattle.rv_model.specs.declared.instructions.operations.MultiplyAddOp.TheVariants as multiply_add
+use Rattle.rv_model.specs.declared.instructions.operations.ReduceOp.{ReduceOp}
+use Rattle.rv_model.specs.declared.instructions.operations.ReduceOp.TheVariants as reduce
+use Rattle.rv_model.specs.declared.instructions.operations.PermuteOp.{PermuteOp}
+use Rattle.rv_model.specs.declared.instructions.operations.PermuteOp.TheVariants as permute
+use Rattle.rv_model.specs.declared.instructions.operations.CarryOp.{CarryOp}
+use Rattle.rv_model.specs.declared.instructions.operations.CarryOp.TheVariants as carry
+
+-- a line of OPIVV, OPIVX and OPIVI
+abbrev pub opi : ℕ → Forms → Line
+opi funct6 forms = record { major = Opi; funct6 = funct6; forms = forms }
+
+-- a line of OPMVV and OPMVX
+abbrev pub opm : ℕ → Forms → Line
+opm funct6 forms = record { major = Opm; funct6 = funct6; forms = forms }
+
+-- whether a form is one of these
+abbrev pub has_form : Forms → Form → Bool
+has_form Vxi f = true
+has_form V form.V = true
+has_form V f = false
+has_form X form.X = true
+has_form X f = false
+has_form Vx form.I = false
+has_form Vx f = true
+has_form Xi form.V = false
+has_form Xi f = true
+
+-- "Vector Integer Arithmetic Instructions", one width
+abbrev pub binary_line : BinaryOp → Line
+binary_line binary.Vadd = opi 0x00 Vxi  -- vadd.vv, vadd.vx, vadd.vi
+binary_line binary.Vsub = opi 0x02 Vx  -- vsub.vv, vsub.vx
+binary_line binary.Vrsub = opi 0x03 Xi  -- vrsub.vx, vrsub.vi
+binary_line binary.Vminu = opi 0x04 Vx  -- vminu.vv, vminu.vx
+binary_line binary.Vmin = opi 0x05 Vx  -- vmin.vv, vmin.vx
+binary_line binary.Vmaxu = opi 0x06 Vx  -- vmaxu.vv, vmaxu.vx
+binary_line binary.Vmax = opi 0x07 Vx  -- vmax.vv, vmax.vx
+binary_line binary.Vand = opi 0x09 Vxi  -- vand.vv, vand.vx, vand.vi
+binary_line binary.Vor = opi 0x0a Vxi  -- vor.vv, vor.vx, vor.vi
+binary_line binary.Vxor = opi 0x0b Vxi  -- vxor.vv, vxor.vx, vxor.vi
+binary_line binary.Vsll = opi 0x25 Vxi  -- vsll.vv, vsll.vx, vsll.vi
+binary_line binary.Vsrl = opi 0x28 Vxi  -- vsrl.vv, vsrl.vx, vsrl.vi
+binary_line binary.Vsra = opi 0x29 Vxi  -- vsra.vv, vsra.vx, vsra.vi
+binary_line binary.Vdivu = opm 0x20 Vx  -- vdivu.vv, vdivu.vx
+binary_line binary.Vdiv = opm 0x21 Vx  -- vdiv.vv, vdiv.vx
+binary_line binary.Vremu = opm 0x22 Vx  -- vremu.vv, vremu.vx
+binary_line binary.Vrem = opm 0x23 Vx  -- vrem.vv, vrem.vx
+binary_line binary.Vmulhu = opm 0x24 Vx  -- vmulhu.vv, vmulhu.vx
+binary_line binary.Vmul = opm 0x25 Vx  -- vmul.vv, vmul.vx
+binary_line binary.Vmulhsu = opm 0x26 Vx  -- vmulhsu.vv, vmulhsu.vx
+binary_line binary.Vmulh = opm 0x27 Vx  -- vmulh.vv, vmulh.vx
+
+-- its operations
+abbrev pub binary_ops : List BinaryOp
+binary_ops =
+    binary.Vadd ∷ binary.Vsub ∷ binary.Vrsub ∷ binary.Vminu ∷ binary.Vmin ∷ binary.Vmaxu ∷ binary.Vmax ∷
+    binary.Vand ∷ binary.Vor ∷ binary.Vxor ∷ binary.Vsll ∷ binary.Vsrl ∷ binary.Vsra ∷ binary.Vdivu ∷
+    binary.Vdiv ∷ binary.Vremu ∷ binary.Vrem ∷ binary.Vmulhu ∷ binary.Vmul ∷ binary.Vmulhsu ∷
+    binary.Vmulh ∷ []
+
+-- "Vector Integer Compare Instructions", and carries and borrows as masks
+abbrev pub compare_line : CompareOp → Line
+compare_line compare.Vmadc = opi 0x11 Vxi  -- vmadc.vv, vmadc.vx, vmadc.vi
+compare_line compare.Vmsbc = opi 0x13 Vx  -- vmsbc.vv, vmsbc.vx
+compare_line compare.Vmseq = opi 0x18 Vxi  -- vmseq.vv, vmseq.vx, vmseq.vi
+compare_line compare.Vmsne = opi 0x19 Vxi  -- vmsne.vv, vmsne.vx, vmsne.vi
+compare_line compare.Vmsltu = opi 0x1a Vx  -- vmsltu.vv, vmsltu.vx
+compare_line compare.Vmslt = opi 0x1b Vx  -- vmslt.vv, vmslt.vx
+compare_line compare.Vmsleu = opi 0x1c Vxi  -- vmsleu.vv, vmsleu.vx, vmsleu.vi
+compare_line compare.Vmsle = opi 0x1d Vxi  -- vmsle.vv, vmsle.vx, vmsle.vi
+compare_line compare.Vmsgtu = opi 0x1e Xi  -- vmsgtu.vx, vmsgtu.vi
+compare_line compare.Vmsgt = opi 0x1f Xi  -- vmsgt.vx, vmsgt.vi
+
+-- its operations
+abbrev pub compare_ops : List CompareOp
+compare_ops =
+    compare.Vmadc ∷ compare.Vmsbc ∷ compare.Vmseq ∷ compare.Vmsne ∷ compare.Vmsltu ∷ compare.Vmslt ∷
+    compare.Vmsleu ∷ compare.Vmsle ∷ compare.Vmsgtu ∷ compare.Vmsgt ∷ []
+
+-- "Vector Fixed-Point Arithmetic Instructions", one width
+abbrev pub fixed_point_line : FixedPointOp → Line
+fixed_point_line fixed_point.Vsaddu = opi 0x20 Vxi  -- vsaddu.vv, vsaddu.vx, vsaddu.vi
+fixed_point_line fixed_point.Vsadd = opi 0x21 Vxi  -- vsadd.vv, vsadd.vx, vsadd.vi
+fixed_point_line fixed_point.Vssubu = opi 0x22 Vx  -- vssubu.vv, vssubu.vx
+fixed_point_line fixed_point.Vssub = opi 0x23 Vx  -- vssub.vv, vssub.vx
+fixed_point_line fixed_point.Vsmul = opi 0x27 Vx  -- vsmul.vv, vsmul.vx
+fixed_point_line fixed_point.Vssrl = opi 0x2a Vxi  -- vssrl.vv, vssrl.vx, vssrl.vi
+fixed_point_line fixed_point.Vssra = opi 0x2b Vxi  -- vssra.vv, vssra.vx, vssra.vi
+fixed_point_line fixed_point.Vaaddu = opm 0x08 Vx  -- vaaddu.vv, vaaddu.vx
+fixed_point_line fixed_point.Vaadd = opm 0x09 Vx  -- vaadd.vv, vaadd.vx
+fixed_point_line fixed_point.Vasubu = opm 0x0a Vx  -- vasubu.vv, vasubu.vx
+fixed_point_line fixed_point.Vasub = opm 0x0b Vx  -- vasub.vv, vasub.vx
+
+-- its operations
+abbrev pub fixed_point_ops : List FixedPointOp
+fixed_point_ops =
+    fixed_point.Vsaddu ∷ fixed_point.Vsadd ∷ fixed_point.Vssubu ∷ fixed_point.Vssub ∷ fixed_point.Vsmul ∷
+    fixed_point.Vssrl ∷ fixed_point.Vssra ∷ fixed_point.Vaaddu ∷ fixed_point.Vaadd ∷ fixed_point.Vasubu ∷
+    fixed_point.Vasub ∷ []
+
+-- "Vector Narrowing Integer Right Shift Instructions", "Vector Narrowing Fixed-Point Clip Instructions"
+abbrev pub narrow_line : NarrowOp → Line
+narrow_line narrow.Vnsrl = opi 0x2c Vxi  -- vnsrl.wv, vnsrl.wx, vnsrl.wi
+narrow_line narrow.Vnsra = opi 0x2d Vxi  -- vnsra.wv, vnsra.wx, vnsra.wi
+narrow_line narrow.Vnclipu = opi 0x2e Vxi  -- vnclipu.wv, vnclipu.wx, vnclipu.wi
+narrow_line narrow.Vnclip = opi 0x2f Vxi  -- vnclip.wv, vnclip.wx, vnclip.wi
+
+-- its operations
+abbrev pub narrow_ops : List NarrowOp
+narrow_ops = narrow.Vnsrl ∷ narrow.Vnsra ∷ narrow.Vnclipu ∷ narrow.Vnclip ∷ []
+
+-- "Vector Widening Integer Add/Subtract", "Vector Widening Integer Multiply Instructions"
+abbrev pub widen_line : WidenOp → Line
+widen_line widen.Vwaddu = opm 0x30 Vx  -- vwaddu.vv, vwaddu.vx
+widen_line widen.Vwadd = opm 0x31 Vx  -- vwadd.vv, vwadd.vx
+widen_line widen.Vwsubu = opm 0x32 Vx  -- vwsubu.vv, vwsubu.vx
+widen_line widen.Vwsub = opm 0x33 Vx  -- vwsub.vv, vwsub.vx
+widen_line widen.VwadduW = opm 0x34 Vx  -- vwaddu.wv, vwaddu.wx
+widen_line widen.VwaddW = opm 0x35 Vx  -- vwadd.wv, vwadd.wx
+widen_line widen.VwsubuW = opm 0x36 Vx  -- vwsubu.wv, vwsubu.wx
+widen_line widen.VwsubW = opm 0x37 Vx  -- vwsub.wv, vwsub.wx
+widen_line widen.Vwmulu = opm 0x38 Vx  -- vwmulu.vv, vwmulu.vx
+widen_line widen.Vwmulsu = opm 0x3a Vx  -- vwmulsu.vv, vwmulsu.vx
+widen_line widen.Vwmul = opm 0x3b Vx  -- vwmul.vv, vwmul.vx
+
+-- its operations
+abbrev pub widen_ops : List WidenOp
+widen_ops =
+    widen.Vwaddu ∷ widen.Vwadd ∷ widen.Vwsubu ∷ widen.Vwsub ∷ widen.VwadduW ∷ widen.VwaddW ∷ widen.VwsubuW ∷
+    widen.VwsubW ∷ widen.Vwmulu ∷ widen.Vwmulsu ∷ widen.Vwmul ∷ []
+
+-- "Vector Single-Width Integer Multiply-Add Instructions", "Vector Widening Integer Multiply-Add Instructions"
+abbrev pub multiply_add_line : MultiplyAddOp → Line
+multiply_add_line multiply_add.Vmadd = opm 0x29 Vx  -- vmadd.vv, vmadd.vx
+multiply_add_line multiply_add.Vnmsub = opm 0x2b Vx  -- vnmsub.vv, vnmsub.vx
+multiply_add_line multiply_add.Vmacc = opm 0x2d Vx  -- vmacc.vv, vmacc.vx
+multiply_add_line multiply_add.Vnmsac = opm 0x2f Vx  -- vnmsac.vv, vnmsac.vx
+multiply_add_line multiply_add.Vwmaccu = opm 0x3c Vx  -- vwmaccu.vv, vwmaccu.vx
+multiply_add_line multiply_add.Vwmacc = opm 0x3d Vx  -- vwmacc.vv, vwmacc.vx
+multiply_add_line multiply_add.Vwmaccus = opm 0x3e X  -- vwmaccus.vx
+multiply_add_line multiply_add.Vwmaccsu = opm 0x3f Vx  -- vwmaccsu.vv, vwmaccsu.vx
+
+-- its operations
+abbrev pub multiply_add_ops : List MultiplyAddOp
+multiply_add_ops =
+    multiply_add.Vmadd ∷ multiply_add.Vnmsub ∷ multiply_add.Vmacc ∷ multiply_add.Vnmsac ∷
+    multiply_add.Vwmaccu ∷ multiply_add.Vwmacc ∷ multiply_add.Vwmaccus ∷ multiply_add.Vwmaccsu ∷ []
+
+-- "Vector Reduction Operations"
+abbrev pub reduce_line : ReduceOp → Line
+reduce_line reduce.Vredsum = opm 0x00 V  -- vredsum.vs
+reduce_line reduce.Vredand = opm 0x01 V  -- vredand.vs
+reduce_line reduce.Vredor = opm 0x02 V  -- vredor.vs
+reduce_line reduce.Vredxor = opm 0x03 V  -- vredxor.vs
+reduce_line reduce.Vredminu = opm 0x04 V  -- vredminu.vs
+reduce_line reduce.Vredmin = opm 0x05 V  -- vredmin.vs
+reduce_line reduce.Vredmaxu = opm 0x06 V  -- vredmaxu.vs
+reduce_line reduce.Vredmax = opm 0x07 V  -- vredmax.vs
+reduce_line reduce.Vwredsumu = opi 0x30 V  -- vwredsumu.vs
+reduce_line reduce.Vwredsum = opi 0x31 V  -- vwredsum.vs
+
+-- its operations
+abbrev pub reduce_ops : List ReduceOp
+reduce_ops =
+    reduce.Vredsum ∷ reduce.Vredand ∷ reduce.Vredor ∷ reduce.Vredxor ∷ reduce.Vredminu ∷ reduce.Vredmin ∷
+    reduce.Vredmaxu ∷ reduce.Vredmax ∷ reduce.Vwredsumu ∷ reduce.Vwredsum ∷ []
+
+-- "Vector Permutation Instructions"
+abbrev pub permute_line : PermuteOp → Line
+permute_line permute.Vrgather = opi 0x0c Vxi  -- vrgather.vv, vrgather.vx, vrgather.vi
+permute_line permute.Vrgatherei16 = opi 0x0e V  -- vrgatherei16.vv
+permute_line permute.Vslideup = opi 0x0e Xi  -- vslideup.vx, vslideup.vi
+permute_line permute.Vslidedown = opi 0x0f Xi  -- vslidedown.vx, vslidedown.vi
+permute_line permute.Vslide1up = opm 0x0e X  -- vslide1up.vx
+permute_line permute.Vslide1down = opm 0x0f X  -- vslide1down.vx
+
+-- its operations
+abbrev pub permute_ops : List PermuteOp
+permute_ops =
+    permute.Vrgather ∷ permute.Vrgatherei16 ∷ permute.Vslideup ∷ permute.Vslidedown ∷ permute.Vslide1up ∷
+    permute.Vslide1down ∷ []
+
+-- "Vector Integer Add-with-Carry / Subtract-with-Borrow Instructions", "Vector Integer Merge Instructions"
+abbrev pub carry_line : CarryOp → Line
+carry_line carry.Vadc = opi 0x10 Vxi  -- vadc.vvm, vadc.vxm, vadc.vim
+carry_line carry.Vsbc = opi 0x12 Vx  -- vsbc.vvm, vsbc.vxm
+carry_line carry.Vmerge = opi 0x17 Vxi  -- vmerge.vvm, vmerge.vxm, vmerge.vim
+
+-- their operations
+abbrev pub carry_ops : List CarryOp
+carry_ops = carry.Vadc ∷ carry.Vsbc ∷ carry.Vmerge ∷ []
+
+-- the line of an operation
+abbrev pub line : VectorOp → Line
+line (vector_op.Binary op) = binary_line op
+line (vector_op.Compare op) = compare_line op
+line (vector_op.FixedPoint op) = fixed_point_line op
+line (vector_op.Narrow op) = narrow_line op
+line (vector_op.Widen op) = widen_line op
+line (vector_op.MultiplyAdd op) = multiply_add_line op
+line (vector_op.Reduce op) = reduce_line op
+line (vector_op.Permute op) = permute_line op
+
+-- every operation that has a line and a mask
+abbrev pub vector_ops : List VectorOp
+vector_ops =
+    map vector_op.Binary binary_ops
+    ++ map vector_op.Compare compare_ops
+    ++ map vector_op.FixedPoint fixed_point_ops
+    ++ map vector_op.Narrow narrow_ops
+    ++ map vector_op.Widen widen_ops
+    ++ map vector_op.MultiplyAdd multiply_add_ops
+    ++ map vector_op.Reduce reduce_ops
+    ++ map vector_op.Permute permute_ops
+
+-- opcode and funct3 of a half of the opcode map, by form
+abbrev pub major_bits : Major → Form → ℕ
+major_bits Opi form.V = coded 0x57 0
+major_bits Opi form.X = coded 0x57 4
+major_bits Opi form.I = coded 0x57 3
+major_bits Opm form.V = coded 0x57 2
+major_bits Opm form.X = coded 0x57 6
+major_bits Opm form.I = coded 0x57 7
+
+-- the bits that a line fixes for one of its forms
+abbrev pub line_bits : Line → Form → ℕ
+line_bits l f = l.funct6 * 2 ^ 26 + major_bits l.major f
+
+-- whether two halves of the opcode map are one
+abbrev pub same_major : Major → Major → Bool
+same_major Opi Opi = true
+same_major Opm Opm = true
+same_major m n = false
+
+-- the operations of a half of the opcode map that have a form
+abbrev pub those : {A : Type 0} → (A → Line) → Major → Form → List A → List A
+those line m f [] = []
+those line m f (op ∷ ops) =
+    cond (same_major m (line op).major && has_form (line op).forms f) (op ∷ those line m f ops) (those line m f ops)

@@ -1,0 +1,218 @@
+-- The instruction table: a row for each operation of the manual's tables, with the bits that it fixes and the
+-- instruction that a word of the row is. Its families stand in the order of the tables
+use Rattle.std.specs.Prelude.{◌⊎◌, ℕ, ◌≡◌, List, [], ◌∷◌, ◌++◌, map, Option, Some, None, true, ◌&&◌, nat_eq, bit_and, if◌then◌else◌}
+use Rattle.rv_model.specs.instructions.BitFields.{fixed}
+use Rattle.rv_model.specs.instructions.Sources.{source_of}
+use Rattle.rv_model.specs.instructions.FixedBits.{branch_ops, counts, csr_immediate_ops, csr_ops, directions, extend_ops, load_ops, mask_logic_ops, mask_to_scalar_ops, mask_unary_ops, op_imm_ops, op_ops, shift_imm_ops, shift_imm_word_ops, store_ops, system_ops, unit_ops, upper_ops, widths}
+use Rattle.rv_model.specs.instructions.Operations.{has_form, line, carry_line, vector_ops, carry_ops, same_major, those}
+use Rattle.rv_model.specs.instructions.Layout.{parts, bits, filled}
+use Rattle.rv_model.specs.declared.instructions.operations.Width.{Width}
+use Rattle.rv_model.specs.declared.instructions.operations.UnitOp.{UnitOp}
+use Rattle.rv_model.specs.declared.instructions.operations.Direction.{Direction}
+use Rattle.rv_model.specs.declared.instructions.operations.Direction.TheVariants as direction
+use Rattle.rv_model.specs.declared.instructions.operations.Order.{Order}
+use Rattle.rv_model.specs.declared.instructions.operations.Order.TheVariants as order
+use Rattle.rv_model.specs.declared.instructions.operations.RegisterCount.{RegisterCount}
+use Rattle.rv_model.specs.declared.instructions.operations.Line.{Line}
+use Rattle.rv_model.specs.declared.instructions.operations.Form.{Form}
+use Rattle.rv_model.specs.declared.instructions.operations.Form.TheVariants as form
+use Rattle.rv_model.specs.declared.instructions.operations.Major.{Major}
+use Rattle.rv_model.specs.declared.instructions.operations.Major.TheVariants.{Opi, Opm}
+use Rattle.rv_model.specs.declared.instructions.instruction.Instr.{Instr}
+use Rattle.rv_model.specs.declared.instructions.instruction.Instr.TheVariants.{Upper, Jump, JumpRegister, Branch, Load, Store, OpImm, ShiftImm, ShiftImmWord, Op, Fence, System, Csr, CsrImmediate, SetVli, SetIvli, SetVl, VectorArith, VectorCarry, VectorMove, WholeMove, MaskLogic, Compress, MaskToScalar, VectorExtend, MaskUnary, ElementIndex, MoveToScalar, MoveToVector, VectorUnit, VectorStrided, VectorIndexed, WholeLoad, WholeStore, MaskMemory}
+
+-- each of these with each width
+abbrev pub with_widths : {A : Type 0} → List A → List (A × Width)
+with_widths [] = []
+with_widths (x ∷ xs) = map (λ w. (x, w)) widths ++ with_widths xs
+
+-- each unit-stride access
+abbrev pub unit_accesses : List (UnitOp × Width)
+unit_accesses = with_widths unit_ops
+
+-- each strided access
+abbrev pub strided_accesses : List (Direction × Width)
+strided_accesses = with_widths directions
+
+-- both directions in both orders
+abbrev pub ordered_directions : List (Direction × Order)
+ordered_directions =
+    (direction.Load, order.Unordered) ∷ (direction.Load, order.Ordered) ∷ (direction.Store, order.Unordered) ∷
+    (direction.Store, order.Ordered) ∷ []
+
+-- each indexed access
+abbrev pub indexed_accesses : List ((Direction × Order) × Width)
+indexed_accesses = with_widths ordered_directions
+
+-- each load of whole registers
+abbrev pub whole_loads : List (RegisterCount × Width)
+whole_loads = with_widths counts
+
+-- the rows with one layout of operands, and for vector operations of one place of the opcode map
+pub data Family : Type 0 where
+  -- RV32I, "Integer Register-Immediate Instructions"
+  Uppers : Family
+  -- RV32I, "Unconditional Jumps"
+  Jumps : Family
+  -- RV32I, "Unconditional Jumps"
+  JumpRegisters : Family
+  -- RV32I, "Conditional Branches"
+  Branches : Family
+  -- RV32I and RV64I, "Load and Store Instructions"
+  Loads : Family
+  -- RV32I and RV64I, "Load and Store Instructions"
+  Stores : Family
+  -- RV32I and RV64I, "Integer Register-Immediate Instructions"
+  OpImms : Family
+  -- RV64I, "Integer Register-Immediate Instructions"
+  ShiftImms : Family
+  -- RV64I, "Integer Register-Immediate Instructions"
+  ShiftImmWords : Family
+  -- RV32I and RV64I, "Integer Register-Register Operations"; M, "Multiplication Operations", "Division Operations"
+  Ops : Family
+  -- RV32I, "Memory Ordering Instructions"
+  Fences : Family
+  -- RV32I, "Environment Call and Breakpoints"
+  Systems : Family
+  -- Zicsr, "CSR Instructions"
+  Csrs : Family
+  -- Zicsr, "CSR Instructions"
+  CsrImmediates : Family
+  -- V, "Configuration-Setting Instructions"
+  SetVlis : Family
+  SetIvlis : Family
+  SetVls : Family
+  -- V, the lines of "Vector Instruction Listing" that may be masked
+  Ariths : Major → Form → Family
+  -- V, "Vector Integer Add-with-Carry / Subtract-with-Borrow Instructions", "Vector Integer Merge Instructions"
+  Carries : Form → Family
+  -- V, "Vector Integer Move Instructions"
+  Moves : Form → Family
+  -- V, "Whole Vector Register Move"
+  WholeMoves : Family
+  -- V, "Vector Mask-Register Logical Instructions"
+  MaskLogics : Family
+  -- V, "Vector Compress Instruction"
+  Compresses : Family
+  -- V, "Vector count population in mask vcpop.m", "vfirst find-first-set mask bit"
+  MasksToScalar : Family
+  -- V, "Vector Integer Extension"
+  Extends : Family
+  -- V, "vmsbf.m set-before-first mask bit" and the like, "Vector Iota Instruction"
+  MaskUnaries : Family
+  -- V, "Vector Element Index Instruction"
+  ElementIndices : Family
+  -- V, "Integer Scalar Move Instructions"
+  MovesToScalar : Family
+  MovesToVector : Family
+  -- V, "Vector Unit-Stride Instructions", "Unit-stride Fault-Only-First Loads", "Unit-Stride Segment Loads and Stores"
+  Units : Family
+  -- V, "Vector Strided Instructions", "Vector Strided Segment Loads and Stores"
+  Strideds : Family
+  -- V, "Vector Indexed Instructions", "Vector Indexed Segment Loads and Stores"
+  Indexeds : Family
+  -- V, "Vector Load/Store Whole Register Instructions"
+  WholeLoads : Family
+  WholeStores : Family
+  -- V, "Vector Unit-Stride Instructions": vlm.v, vsm.v
+  MaskMemories : Family
+
+-- an instruction for each row of a family, with zeros for operands
+abbrev pub templates : Family → List Instr
+templates Uppers = map (λ op. Upper op 0 0) upper_ops
+templates Jumps = Jump 0 0 ∷ []
+templates JumpRegisters = JumpRegister 0 0 0 ∷ []
+templates Branches = map (λ op. Branch op 0 0 0) branch_ops
+templates Loads = map (λ op. Load op 0 0 0) load_ops
+templates Stores = map (λ op. Store op 0 0 0) store_ops
+templates OpImms = map (λ op. OpImm op 0 0 0) op_imm_ops
+templates ShiftImms = map (λ op. ShiftImm op 0 0 0) shift_imm_ops
+templates ShiftImmWords = map (λ op. ShiftImmWord op 0 0 0) shift_imm_word_ops
+templates Ops = map (λ op. Op op 0 0 0) op_ops
+templates Fences = Fence 0 0 0 ∷ []
+templates Systems = map (λ op. System op) system_ops
+templates Csrs = map (λ op. Csr op 0 0 0) csr_ops
+templates CsrImmediates = map (λ op. CsrImmediate op 0 0 0) csr_immediate_ops
+templates SetVlis = SetVli 0 0 0 ∷ []
+templates SetIvlis = SetIvli 0 0 0 ∷ []
+templates SetVls = SetVl 0 0 0 ∷ []
+templates (Ariths m f) = map (λ op. VectorArith (op, source_of f 0) 0 0 true) (those line m f vector_ops)
+templates (Carries f) = map (λ op. VectorCarry (op, source_of f 0) 0 0) (those carry_line Opi f carry_ops)
+templates (Moves f) = VectorMove (source_of f 0) 0 ∷ []
+templates WholeMoves = map (λ op. WholeMove op 0 0) counts
+templates MaskLogics = map (λ op. MaskLogic op 0 0 0) mask_logic_ops
+templates Compresses = Compress 0 0 0 ∷ []
+templates MasksToScalar = map (λ op. MaskToScalar op 0 0 true) mask_to_scalar_ops
+templates Extends = map (λ op. VectorExtend op 0 0 true) extend_ops
+templates MaskUnaries = map (λ op. MaskUnary op 0 0 true) mask_unary_ops
+templates ElementIndices = ElementIndex 0 true ∷ []
+templates MovesToScalar = MoveToScalar 0 0 ∷ []
+templates MovesToVector = MoveToVector 0 0 ∷ []
+templates Units = map (λ op. VectorUnit op.0 op.1 0 0 0 true) unit_accesses
+templates Strideds = map (λ op. VectorStrided op.0 op.1 0 0 0 0 true) strided_accesses
+templates Indexeds = map (λ op. VectorIndexed op.0.0 op.0.1 op.1 0 0 0 0 true) indexed_accesses
+templates WholeLoads = map (λ op. WholeLoad op.0 op.1 0 0) whole_loads
+templates WholeStores = map (λ op. WholeStore op 0 0) counts
+templates MaskMemories = map (λ op. MaskMemory op 0 0) directions
+
+-- every family
+abbrev pub families : List Family
+families =
+    Uppers ∷ Jumps ∷ JumpRegisters ∷ Branches ∷ Loads ∷ Stores ∷ OpImms ∷ ShiftImms ∷ ShiftImmWords ∷ Ops ∷
+    Fences ∷ Systems ∷ Csrs ∷ CsrImmediates ∷ SetVlis ∷ SetIvlis ∷ SetVls ∷ Ariths Opi form.V ∷
+    Ariths Opi form.X ∷ Ariths Opi form.I ∷ Ariths Opm form.V ∷ Ariths Opm form.X ∷ Ariths Opm form.I ∷
+    Carries form.V ∷ Carries form.X ∷ Carries form.I ∷ Moves form.V ∷ Moves form.X ∷ Moves form.I ∷
+    WholeMoves ∷ MaskLogics ∷ Compresses ∷ MasksToScalar ∷ Extends ∷ MaskUnaries ∷ ElementIndices ∷
+    MovesToScalar ∷ MovesToVector ∷ Units ∷ Strideds ∷ Indexeds ∷ WholeLoads ∷ WholeStores ∷ MaskMemories ∷ []
+
+-- a row: the bits that it fixes, what they are, and the instruction of a word
+pub record Row : Type 0 where
+  pub mask : ℕ
+  pub bits : ℕ
+  pub instr : ℕ → Instr
+
+-- the row of a template
+abbrev pub row_of : Instr → Row
+row_of t = record { mask = fixed (parts t); bits = bits t; instr = filled t }
+
+-- the rows of a family
+unfoldable pub rows : Family → List Row
+rows f = map row_of (templates f)
+
+-- lists one after another
+abbrev pub joined : List (List Row) → List Row
+joined [] = []
+joined (l ∷ ls) = l ++ joined ls
+
+-- every row
+unfoldable pub table : List Row
+table = joined (map rows families)
+
+-- the word has the bits that the row fixes
+abbrev pub Matches : Row → ℕ → Type 0
+Matches r word = bit_and word r.mask ≡ r.bits
+
+-- a row is in a list
+abbrev pub In : Row → List Row → Type 0
+In r [] = ⊥
+In r (s ∷ ss) = (s ≡ r) ⊎ In r ss
+
+-- the word is of this row of the table
+abbrev pub IsRow : ℕ → Row → Type 0
+IsRow word r = In r table × Matches r word
+
+-- the instruction of the first row that matches
+unfoldable pub scan : List Row → ℕ → Option Instr
+scan [] word = None
+scan (r ∷ rs) word = if nat_eq (bit_and word r.mask) r.bits then Some (r.instr word) else scan rs word
+
+-- the operation with these fixed bits
+unfoldable pub find : {A : Type 0} → (A → ℕ) → List A → ℕ → Option A
+find code [] bits = None
+find code (op ∷ ops) bits = if nat_eq bits (code op) then Some op else find code ops bits
+
+-- the operation with this funct6 in a half of the opcode map
+unfoldable pub find_at : {A : Type 0} → (A → Line) → Major → Form → ℕ → List A → Option A
+find_at line m f n [] = None
+find_at line m f n (op ∷ ops) =
+    if same_major m (line op).major && (nat_eq n (line op).funct6 && has_form (line op).forms f) then Some op else find_at line m f n ops

@@ -1,0 +1,15 @@
+-- Groups that end inside the list of all vector registers ("V" Vector Extension 1.0, section 3.2).
+use Rattle.std.specs.Prelude.{ℕ, ◌+◌, ◌≤◌, ⊤}
+use Rattle.rv_model.specs.declared.instructions.source.Source.{Source}
+use Rattle.rv_model.specs.declared.instructions.source.Source.TheVariants as source
+use Rattle.rv_model.specs.vector.Groups.{registers}
+
+-- a group of this multiplier, in eighths of a register
+abbrev pub IsInside : ℕ → ℕ → Type 0
+IsInside first emul = first + registers emul ≤ 32
+
+-- the registers of a second operand, if it has any
+abbrev pub SourceIsInside : Source → ℕ → Type 0
+SourceIsInside (source.V vs1) emul = IsInside vs1 emul
+SourceIsInside (source.X rs1) emul = ⊤
+SourceIsInside (source.I imm) emul = ⊤

@@ -1,0 +1,125 @@
+-- The register operands of a vector operation, by the shape of the operation ("V" Vector Extension 1.0, sections 5.2, 10.2,
+-- 11.1 to 11.12, 12, 14 and 16).
+use Rattle.std.specs.Prelude.{ℕ, ◌*◌, ◌/◌, Bool, List, [], ◌∷◌, if◌then◌else◌}
+use Rattle.rv_model.specs.declared.instructions.operations.VectorOp.{VectorOp}
+use Rattle.rv_model.specs.declared.instructions.operations.VectorOp.TheVariants as op
+use Rattle.rv_model.specs.declared.instructions.operations.WidenOp.{WidenOp}
+use Rattle.rv_model.specs.declared.instructions.operations.WidenOp.TheVariants.{VwadduW, VwaddW, VwsubuW, VwsubW}
+use Rattle.rv_model.specs.declared.instructions.operations.MultiplyAddOp.{MultiplyAddOp}
+use Rattle.rv_model.specs.declared.instructions.operations.MultiplyAddOp.TheVariants.{Vmadd, Vnmsub, Vmacc, Vnmsac}
+use Rattle.rv_model.specs.declared.instructions.operations.ReduceOp.{ReduceOp}
+use Rattle.rv_model.specs.declared.instructions.operations.ReduceOp.TheVariants.{Vwredsumu, Vwredsum}
+use Rattle.rv_model.specs.declared.instructions.operations.PermuteOp.{PermuteOp}
+use Rattle.rv_model.specs.declared.instructions.operations.PermuteOp.TheVariants.{Vrgather, Vrgatherei16, Vslideup, Vslidedown, Vslide1up, Vslide1down}
+use Rattle.rv_model.specs.declared.legality.Operand.{Operand}
+use Rattle.rv_model.specs.declared.legality.Content.TheVariants.{Mask, Elements}
+use Rattle.rv_model.specs.declared.legality.Role.{Role}
+use Rattle.rv_model.specs.declared.legality.Role.TheVariants.{Read, Control, Unused, Write, Apart, Free}
+use Rattle.rv_model.specs.declared.legality.Shape.{Shape}
+use Rattle.rv_model.specs.declared.legality.Shape.TheVariants.{Single, Widening, WideSource, Narrowing, Compare, Gather, GatherIndices16, Reduction, WideReduction}
+use Rattle.rv_model.specs.declared.instructions.source.Source.{Source}
+use Rattle.rv_model.specs.declared.instructions.source.Source.TheVariants as source
+use Rattle.rv_model.specs.declared.vector.types.VType.{VType}
+use Rattle.rv_model.specs.vector.Configuration.{sew_bits, lmul_eighths}
+
+-- ---- operands
+
+-- EMUL = EEW / SEW x LMUL for elements of so many bits, in eighths of a register
+abbrev pub emul : ℕ → VType → ℕ
+emul bits t = bits * lmul_eighths t.lmul / sew_bits t.sew
+
+-- the fields of a segment, each with so many elements of so many bits as the vector type has
+abbrev pub segment : Role → ℕ → ℕ → ℕ → VType → Operand
+segment role fields r bits t = record { role = role; first = r; content = Elements bits; emul = emul bits t; fields = fields }
+
+-- a group of so many elements of so many bits as the vector type has
+abbrev pub group : Role → ℕ → ℕ → VType → Operand
+group role r bits t = segment role 1 r bits t
+
+-- whole registers, with elements of so many bits
+abbrev pub whole : Role → ℕ → ℕ → ℕ → Operand
+whole role count r bits = record { role = role; first = r; content = Elements bits; emul = 8 * count; fields = 1 }
+
+-- a register with a mask
+abbrev pub mask : Role → ℕ → Operand
+mask role r = record { role = role; first = r; content = Mask; emul = 8; fields = 1 }
+
+-- v0, the mask of an instruction that is masked
+abbrev pub v0 : Bool → Operand
+v0 unmasked = mask (if unmasked then Unused else Control) 0
+
+-- ---- shapes
+
+abbrev pub widen_shape : WidenOp → Shape
+widen_shape VwadduW = WideSource
+widen_shape VwaddW = WideSource
+widen_shape VwsubuW = WideSource
+widen_shape VwsubW = WideSource
+widen_shape _ = Widening
+
+abbrev pub multiply_add_shape : MultiplyAddOp → Shape
+multiply_add_shape Vmadd = Single
+multiply_add_shape Vnmsub = Single
+multiply_add_shape Vmacc = Single
+multiply_add_shape Vnmsac = Single
+multiply_add_shape _ = Widening
+
+abbrev pub reduce_shape : ReduceOp → Shape
+reduce_shape Vwredsumu = WideReduction
+reduce_shape Vwredsum = WideReduction
+reduce_shape _ = Reduction
+
+abbrev pub permute_shape : PermuteOp → Shape
+permute_shape Vrgather = Gather
+permute_shape Vrgatherei16 = GatherIndices16
+permute_shape Vslideup = Gather
+permute_shape Vslide1up = Gather
+permute_shape Vslidedown = Single
+permute_shape Vslide1down = Single
+
+-- the shape of an operation
+abbrev pub shape_of : VectorOp → Shape
+shape_of (op.Binary o) = Single
+shape_of (op.Compare o) = Compare
+shape_of (op.FixedPoint o) = Single
+shape_of (op.Narrow o) = Narrowing
+shape_of (op.Widen o) = widen_shape o
+shape_of (op.MultiplyAdd o) = multiply_add_shape o
+shape_of (op.Reduce o) = reduce_shape o
+shape_of (op.Permute o) = permute_shape o
+
+-- vd
+abbrev pub destination : Shape → ℕ → VType → Operand
+destination Single vd t = group Write vd (sew_bits t.sew) t
+destination Narrowing vd t = group Write vd (sew_bits t.sew) t
+destination Widening vd t = group Write vd (2 * sew_bits t.sew) t
+destination WideSource vd t = group Write vd (2 * sew_bits t.sew) t
+destination Compare vd t = mask Write vd
+destination Gather vd t = group Apart vd (sew_bits t.sew) t
+destination GatherIndices16 vd t = group Apart vd (sew_bits t.sew) t
+destination Reduction vd t = whole Free 1 vd (sew_bits t.sew)
+destination WideReduction vd t = whole Free 1 vd (2 * sew_bits t.sew)
+
+-- vs2
+abbrev pub first_source : Shape → ℕ → VType → Operand
+first_source WideSource vs2 t = group Read vs2 (2 * sew_bits t.sew) t
+first_source Narrowing vs2 t = group Read vs2 (2 * sew_bits t.sew) t
+first_source _ vs2 t = group Read vs2 (sew_bits t.sew) t
+
+-- vs1
+abbrev pub vector_source : Shape → ℕ → VType → Operand
+vector_source GatherIndices16 vs1 t = group Read vs1 16 t
+vector_source Reduction vs1 t = whole Read 1 vs1 (sew_bits t.sew)
+vector_source WideReduction vs1 t = whole Read 1 vs1 (2 * sew_bits t.sew)
+vector_source _ vs1 t = group Read vs1 (sew_bits t.sew) t
+
+-- vs1, or a second source that has no vector registers
+abbrev pub second_source : Shape → Source → VType → Operand
+second_source shape (source.V vs1) t = vector_source shape vs1 t
+second_source shape (source.X rs1) t = mask Unused 0
+second_source shape (source.I imm) t = mask Unused 0
+
+-- vd, vs2, the second source, and v0
+unfoldable pub shape_operands : Shape → ℕ → ℕ → Source → Bool → VType → List Operand
+shape_operands shape vd vs2 source unmasked t =
+    destination shape vd t ∷ first_source shape vs2 t ∷ second_source shape source t ∷ v0 unmasked ∷ []

@@ -1,0 +1,2 @@
+-- A user's memory, by address.
+pub mod Memory

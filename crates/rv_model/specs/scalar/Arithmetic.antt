@@ -1,0 +1,144 @@
+-- What the operations of scalar registers give, as whole numbers. A register is an unsigned number of 64 bits, and is read as
+-- two's complement where an operation is signed (Unprivileged ISA 20191213, sections 2.4, 5.2, 7.1 and 7.2).
+use Rattle.std.specs.Prelude.{ℕ, ◌+◌, ◌-◌, ◌*◌, ◌/◌, ◌%◌, ◌^◌, ◌==◌, ◌&&◌, nat_lt, Bool, if◌then◌else◌, pos, ◌*ℤ◌, int_lt, int_div, int_rem, bit_and, bit_or, bit_xor}
+use Rattle.std.specs.Int.{Width, w32, w64, w128, cast_signed, cast_unsigned, int_shr, from_bool}
+use mir.Val.{bits, hbits}
+use Rattle.rv_model.specs.declared.instructions.operations.UpperOp.{UpperOp}
+use Rattle.rv_model.specs.declared.instructions.operations.UpperOp.TheVariants.{Lui, Auipc}
+use Rattle.rv_model.specs.declared.instructions.operations.OpOp.{OpOp}
+use Rattle.rv_model.specs.declared.instructions.operations.OpOp.TheVariants.{Add, Sub, Sll, Slt, Sltu, Xor, Srl, Sra, Or, And, Mul, Mulh, Mulhsu, Mulhu, Div, Divu, Rem, Remu, Addw, Subw, Sllw, Srlw, Sraw, Mulw, Divw, Divuw, Remw, Remuw}
+use Rattle.rv_model.specs.declared.instructions.operations.OpImmOp.{OpImmOp}
+use Rattle.rv_model.specs.declared.instructions.operations.OpImmOp.TheVariants.{Addi, Slti, Sltiu, Xori, Ori, Andi, Addiw}
+use Rattle.rv_model.specs.declared.instructions.operations.ShiftImmOp.{ShiftImmOp}
+use Rattle.rv_model.specs.declared.instructions.operations.ShiftImmOp.TheVariants.{Slli, Srli, Srai}
+use Rattle.rv_model.specs.declared.instructions.operations.ShiftImmWordOp.{ShiftImmWordOp}
+use Rattle.rv_model.specs.declared.instructions.operations.ShiftImmWordOp.TheVariants.{Slliw, Srliw, Sraiw}
+use Rattle.rv_model.specs.instructions.Immediates.{sign_extended}
+
+-- ---- operations of a width, on unsigned numbers of that width
+
+-- modulo 2 to the width
+abbrev pub sum : Width → ℕ → ℕ → ℕ
+sum w a b = (a + b) % 2 ^ bits w
+
+-- modulo 2 to the width
+abbrev pub difference : Width → ℕ → ℕ → ℕ
+difference w a b = (a + (2 ^ bits w - b)) % 2 ^ bits w
+
+-- modulo 2 to the width
+abbrev pub product : Width → ℕ → ℕ → ℕ
+product w a b = a * b % 2 ^ bits w
+
+-- shifted left by the low bits of b: 5 of them at 32 bits, 6 at 64
+abbrev pub shifted_left : Width → ℕ → ℕ → ℕ
+shifted_left w a b = a * 2 ^ (b % bits w) % 2 ^ bits w
+
+-- shifted right, with zeros for the upper bits
+abbrev pub shifted_right : Width → ℕ → ℕ → ℕ
+shifted_right w a b = a / 2 ^ (b % bits w)
+
+-- shifted right, with copies of the sign for the upper bits
+abbrev pub shifted_right_signed : Width → ℕ → ℕ → ℕ
+shifted_right_signed w a b = cast_unsigned w (int_shr (cast_signed w a) (b % bits w))
+
+-- the quotient, rounded toward zero; all ones where the divisor is zero
+abbrev pub quotient : Width → ℕ → ℕ → ℕ
+quotient w a b = if b == 0 then 2 ^ bits w - 1 else a / b
+
+-- the remainder of that division; the dividend where the divisor is zero
+abbrev pub remainder : Width → ℕ → ℕ → ℕ
+remainder w a b = if b == 0 then a else a % b
+
+-- the least signed number is divided by -1, and the quotient doesn't fit
+abbrev pub overflows : Width → ℕ → ℕ → Bool
+overflows w a b = a == 2 ^ hbits w && b == 2 ^ bits w - 1
+
+-- the signed quotient, rounded toward zero; all ones where the divisor is zero, and the dividend at an overflow
+abbrev pub signed_quotient : Width → ℕ → ℕ → ℕ
+signed_quotient w a b =
+    if b == 0 then 2 ^ bits w - 1
+    else if overflows w a b then a
+    else cast_unsigned w (int_div (cast_signed w a) (cast_signed w b))
+
+-- the remainder of that division, which has the dividend's sign; the dividend where the divisor is zero, and 0 at an overflow
+abbrev pub signed_remainder : Width → ℕ → ℕ → ℕ
+signed_remainder w a b =
+    if b == 0 then a
+    else if overflows w a b then 0
+    else cast_unsigned w (int_rem (cast_signed w a) (cast_signed w b))
+
+-- ---- instructions
+
+-- an operation of the low 32 bits, sign-extended
+abbrev pub of_words : (Width → ℕ → ℕ → ℕ) → ℕ → ℕ → ℕ
+of_words operation a b = sign_extended 32 (operation w32 (a % 2 ^ 32) (b % 2 ^ 32))
+
+-- an operation of two registers
+abbrev pub op_value : OpOp → ℕ → ℕ → ℕ
+op_value Add a b = sum w64 a b
+op_value Sub a b = difference w64 a b
+op_value Sll a b = shifted_left w64 a b
+op_value Slt a b = from_bool (int_lt (cast_signed w64 a) (cast_signed w64 b))
+op_value Sltu a b = from_bool (nat_lt a b)
+op_value Xor a b = bit_xor a b
+op_value Srl a b = shifted_right w64 a b
+op_value Sra a b = shifted_right_signed w64 a b
+op_value Or a b = bit_or a b
+op_value And a b = bit_and a b
+op_value Mul a b = product w64 a b
+op_value Mulh a b = cast_unsigned w128 (cast_signed w64 a *ℤ cast_signed w64 b) / 2 ^ 64
+op_value Mulhsu a b = cast_unsigned w128 (cast_signed w64 a *ℤ pos b) / 2 ^ 64
+op_value Mulhu a b = a * b / 2 ^ 64
+op_value Div a b = signed_quotient w64 a b
+op_value Divu a b = quotient w64 a b
+op_value Rem a b = signed_remainder w64 a b
+op_value Remu a b = remainder w64 a b
+op_value Addw a b = of_words sum a b
+op_value Subw a b = of_words difference a b
+op_value Sllw a b = of_words shifted_left a b
+op_value Srlw a b = of_words shifted_right a b
+op_value Sraw a b = of_words shifted_right_signed a b
+op_value Mulw a b = of_words product a b
+op_value Divw a b = of_words signed_quotient a b
+op_value Divuw a b = of_words quotient a b
+op_value Remw a b = of_words signed_remainder a b
+op_value Remuw a b = of_words remainder a b
+
+-- the operation of two registers that an operation with an immediate does
+abbrev pub op_imm_form : OpImmOp → OpOp
+op_imm_form Addi = Add
+op_imm_form Slti = Slt
+op_imm_form Sltiu = Sltu
+op_imm_form Xori = Xor
+op_imm_form Ori = Or
+op_imm_form Andi = And
+op_imm_form Addiw = Addw
+
+-- an operation of a register and an immediate of 12 bits, sign-extended
+abbrev pub op_imm_value : OpImmOp → ℕ → ℕ → ℕ
+op_imm_value op a imm = op_value (op_imm_form op) a (sign_extended 12 imm)
+
+-- the shift by a register that a shift by an immediate does
+abbrev pub shift_imm_form : ShiftImmOp → OpOp
+shift_imm_form Slli = Sll
+shift_imm_form Srli = Srl
+shift_imm_form Srai = Sra
+
+-- a shift by an immediate of 6 bits
+abbrev pub shift_imm_value : ShiftImmOp → ℕ → ℕ → ℕ
+shift_imm_value op a amount = op_value (shift_imm_form op) a amount
+
+-- the shift of 32 bits by a register that a shift by an immediate does
+abbrev pub shift_imm_word_form : ShiftImmWordOp → OpOp
+shift_imm_word_form Slliw = Sllw
+shift_imm_word_form Srliw = Srlw
+shift_imm_word_form Sraiw = Sraw
+
+-- a shift of 32 bits by an immediate of 5 bits
+abbrev pub shift_imm_word_value : ShiftImmWordOp → ℕ → ℕ → ℕ
+shift_imm_word_value op a amount = op_value (shift_imm_word_form op) a amount
+
+-- the upper 20 bits of a 32-bit number, sign-extended; alone, or added to the program counter
+abbrev pub upper_value : UpperOp → ℕ → ℕ → ℕ
+upper_value Lui pc imm = sign_extended 32 (imm * 2 ^ 12)
+upper_value Auipc pc imm = (pc + sign_extended 32 (imm * 2 ^ 12)) % 2 ^ 64

@@ -1,0 +1,49 @@
+-- What loads and stores access, and the numbers that they move (Unprivileged ISA 20191213, sections 2.6 and 5.3). The least
+-- byte of a number stands at its lowest address, whether or not the address is a multiple of the size.
+use Rattle.std.specs.Prelude.{ℕ, ◌+◌, ◌%◌, ◌^◌, List}
+use Rattle.std.specs.Int.{Width, w8, w16, w32, w64, byte_len, from_le_bytes, to_le_bytes}
+use Rattle.rv_model.specs.declared.instructions.operations.LoadOp.{LoadOp}
+use Rattle.rv_model.specs.declared.instructions.operations.LoadOp.TheVariants.{Lb, Lh, Lw, Ld, Lbu, Lhu, Lwu}
+use Rattle.rv_model.specs.declared.instructions.operations.StoreOp.{StoreOp}
+use Rattle.rv_model.specs.declared.instructions.operations.StoreOp.TheVariants.{Sb, Sh, Sw, Sd}
+use Rattle.rv_model.specs.instructions.Immediates.{sign_extended}
+use Rattle.rv_model.specs.memory.Memory.{Memory, bytes_at}
+
+-- a register and a signed immediate of 12 bits
+abbrev pub access_address : ℕ → ℕ → ℕ
+access_address base imm = (base + sign_extended 12 imm) % 2 ^ 64
+
+-- the number at an address
+abbrev pub number_at : Width → Memory → ℕ → ℕ
+number_at w m addr = from_le_bytes w (bytes_at m addr (byte_len w))
+
+-- how wide a load is
+abbrev pub load_width : LoadOp → Width
+load_width Lb = w8
+load_width Lh = w16
+load_width Lw = w32
+load_width Ld = w64
+load_width Lbu = w8
+load_width Lhu = w16
+load_width Lwu = w32
+
+-- what a load makes of the number that it reads: sign-extended, or zero-extended
+abbrev pub extended : LoadOp → ℕ → ℕ
+extended Lb n = sign_extended 8 n
+extended Lh n = sign_extended 16 n
+extended Lw n = sign_extended 32 n
+extended Ld n = n
+extended Lbu n = n
+extended Lhu n = n
+extended Lwu n = n
+
+-- how wide a store is
+abbrev pub store_width : StoreOp → Width
+store_width Sb = w8
+store_width Sh = w16
+store_width Sw = w32
+store_width Sd = w64
+
+-- the bytes that a store writes: the lowest of the register
+abbrev pub stored_bytes : StoreOp → ℕ → List ℕ
+stored_bytes op value = to_le_bytes (store_width op) value

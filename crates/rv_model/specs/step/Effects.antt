@@ -1,0 +1,24 @@
+-- Laws of one instruction, whichever it is.
+use Rattle.std.specs.Prelude.{ℕ, ◌≡◌}
+use Rattle.rv_model.specs.declared.step.step_end.StepEnd.{StepEnd}
+use Rattle.rv_model.specs.declared.step.step_end.StepEnd.TheVariants.{Ran, Exit, Ebreak, Fault}
+use Rattle.rv_model.specs.step.Hart.{HartState}
+use Rattle.rv_model.specs.scalar.Registers.{read_register}
+use Rattle.rv_model.specs.step.Step.{step}
+
+-- a fact where an instruction faults
+abbrev pub OnFault : StepEnd → Type 0 → Type 0
+OnFault Ran P = Unit {0}
+OnFault (Exit status) P = Unit {0}
+OnFault Ebreak P = Unit {0}
+OnFault (Fault cause pc value) P = P
+
+-- An instruction that faults writes no scalar register, and the program counter stays on it.
+abbrev pub FaultsWriteNoRegister : Type 0
+FaultsWriteNoRegister =
+    (limit : ℕ) (s : HartState) → OnFault (step limit s).end ((step limit s).state.scalar ≡ s.scalar)
+
+-- No instruction changes what x0 reads.
+abbrev pub FirstRegisterStays : Type 0
+FirstRegisterStays =
+    (limit : ℕ) (s : HartState) → read_register (step limit s).state.scalar 0 ≡ read_register s.scalar 0

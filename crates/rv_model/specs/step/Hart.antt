@@ -1,0 +1,45 @@
+-- What instructions work on, and how one ends.
+use Rattle.std.specs.Prelude.{ℕ, List}
+use Rattle.rv_model.specs.declared.vector.policy.Policy.{Policy}
+use Rattle.rv_model.specs.declared.scalar.Scalar.{Scalar}
+use Rattle.rv_model.specs.declared.step.step_end.Cause.{Cause}
+use Rattle.rv_model.specs.declared.step.step_end.StepEnd.{StepEnd}
+use Rattle.rv_model.specs.declared.step.step_end.StepEnd.TheVariants.{Ran, Fault}
+use Rattle.rv_model.specs.declared.vector.state.VState.{VState}
+use Rattle.rv_model.specs.memory.Memory.{Memory}
+use Rattle.rv_model.specs.scalar.Registers.{advanced, with_register}
+
+-- what instructions read and change: registers, vector state, memory, the output buffer, and the policy that they go by
+pub record HartState : Type 0 where
+  pub scalar : Scalar
+  pub vector : VState
+  pub memory : Memory
+  pub output : List ℕ
+  pub policy : Policy
+
+-- the state that has these parts and this output buffer
+abbrev pub hart_state : Scalar → VState → Memory → Policy → List ℕ → HartState
+hart_state scalar vector memory policy output =
+    record { scalar = scalar; vector = vector; memory = memory; output = output; policy = policy }
+
+-- a step's end, the state that it leaves, and the ticks that it takes
+pub record Stepped : Type 0 where
+  pub state : HartState
+  pub end : StepEnd
+  pub ticks : ℕ
+
+-- an instruction of one tick
+abbrev pub ends : StepEnd → HartState → Stepped
+ends end s = record { state = s; end = end; ticks = 1 }
+
+-- the instruction faults, and nothing has changed
+abbrev pub faults : Cause → ℕ → HartState → Stepped
+faults cause value s = ends (Fault cause s.scalar.pc value) s
+
+-- the instruction ran, left these registers, and the next one follows it
+abbrev pub runs_on : Scalar → HartState → Stepped
+runs_on scalar s = ends Ran (record s { scalar = advanced scalar })
+
+-- the instruction ran, gave a register this value, and the next one follows it
+abbrev pub gives : ℕ → ℕ → HartState → Stepped
+gives rd value s = runs_on (with_register rd value s.scalar) s

@@ -1,0 +1,71 @@
+-- One scalar instruction, carried out (Unprivileged ISA 20191213, chapters 2, 5, 7 and 9).
+use Rattle.std.specs.Prelude.{ℕ, ◌+◌, ◌-◌, ◌%◌, ◌^◌, ◌==◌, ◌&&◌, ◌||◌, Bool, Option, Some, None, if◌then◌else◌}
+use Rattle.std.specs.Int.{byte_len}
+use Rattle.rv_model.specs.declared.vector.control_register.ControlRegister.{ControlRegister}
+use Rattle.rv_model.specs.declared.memory.Access.TheVariants.{Load, Store}
+use Rattle.rv_model.specs.declared.instructions.operations.CsrOp.{CsrOp}
+use Rattle.rv_model.specs.declared.instructions.operations.LoadOp.{LoadOp}
+use Rattle.rv_model.specs.declared.instructions.operations.StoreOp.{StoreOp}
+use Rattle.rv_model.specs.declared.instructions.operations.SystemOp.{SystemOp}
+use Rattle.rv_model.specs.declared.instructions.operations.SystemOp.TheVariants as system
+use Rattle.rv_model.specs.declared.scalar.Scalar.{Scalar}
+use Rattle.rv_model.specs.declared.step.step_end.Cause.TheVariants.{MisalignedTarget, IllegalInstruction, LoadAccess, StoreAccess}
+use Rattle.rv_model.specs.declared.step.step_end.StepEnd.TheVariants.{Ran, Exit, Ebreak}
+use Rattle.rv_model.specs.vector.ControlRegisters.{is_read_only}
+use Rattle.rv_model.specs.scalar.ControlTransfer.{is_aligned}
+use Rattle.rv_model.specs.step.Hart.{HartState, Stepped, ends, faults, runs_on, gives}
+use Rattle.rv_model.specs.scalar.LoadsAndStores.{load_width, extended, number_at, store_width, stored_bytes}
+use Rattle.rv_model.specs.memory.Memory.{can_access, put_bytes}
+use Rattle.rv_model.specs.scalar.Registers.{read_register, with_register}
+use Rattle.rv_model.specs.vector.Control.{control_value, with_control, written_value, is_write}
+
+-- the program goes on at a target, with these registers, unless no instruction may stand there
+abbrev pub jumps : ℕ → Scalar → HartState → Stepped
+jumps target scalar s =
+    if is_aligned target then ends Ran (record s { scalar = record scalar { pc = target } })
+    else faults MisalignedTarget target s
+
+-- a jump, which leaves in a register the address of the instruction that follows it
+abbrev pub jump_step : ℕ → ℕ → HartState → Stepped
+jump_step rd target s = jumps target (with_register rd ((s.scalar.pc + 4) % 2 ^ 64) s.scalar) s
+
+-- a branch
+abbrev pub branch_step : Bool → ℕ → HartState → Stepped
+branch_step taken target s = if taken then jumps target s.scalar s else runs_on s.scalar s
+
+-- a load, which is refused where one of its bytes may not be read
+abbrev pub load_step : LoadOp → ℕ → ℕ → HartState → Stepped
+load_step op rd addr s =
+    if can_access Load s.memory addr (byte_len (load_width op))
+    then gives rd (extended op (number_at (load_width op) s.memory addr)) s
+    else faults LoadAccess addr s
+
+-- a store, which is refused where one of its bytes may not be written
+abbrev pub store_step : StoreOp → ℕ → ℕ → HartState → Stepped
+store_step op addr value s =
+    if can_access Store s.memory addr (byte_len (store_width op))
+    then runs_on s.scalar (record s { memory = put_bytes s.memory addr (stored_bytes op value) })
+    else faults StoreAccess addr s
+
+-- an access of a control register, by the number of the register or of the immediate that is the operand: illegal where there
+-- is no such register, or where it is written and may not be
+abbrev pub csr_step : Option ControlRegister → CsrOp → ℕ → ℕ → ℕ → ℕ → HartState → Stepped
+csr_step None op rd source operand word s = faults IllegalInstruction word s
+csr_step (Some register) op rd source operand word s =
+    if is_write op source && is_read_only register then faults IllegalInstruction word s
+    else if is_write op source
+    then gives rd (control_value register s.vector)
+    (record s { vector = with_control register (written_value op (control_value register s.vector) operand) s.vector })
+    else gives rd (control_value register s.vector) s
+
+-- ECALL by a7: 93 and 94 exit with a0 modulo 256, as in Linux; any other number answers -38 in a0
+unfoldable pub environment_call : HartState → Stepped
+environment_call s =
+    let number = read_register s.scalar 17 in
+    if number == 93 || number == 94 then ends (Exit (read_register s.scalar 10 % 256)) s
+    else runs_on (with_register 10 (2 ^ 64 - 38) s.scalar) s
+
+-- the instructions without operands; EBREAK stops the program where it stands
+abbrev pub system_step : SystemOp → HartState → Stepped
+system_step system.Ecall s = environment_call s
+system_step system.Ebreak s = ends Ebreak s

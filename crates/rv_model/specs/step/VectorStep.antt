@@ -1,0 +1,113 @@
+-- One vector instruction, carried out ("V" Vector Extension 1.0).
+use Rattle.std.specs.Prelude.{ℕ, ◌==◌, ◌&&◌, Bool, true, false, List, Option, Some, None, if◌then◌else◌}
+use Rattle.rv_model.specs.declared.instructions.instruction.Instr.{Instr}
+use Rattle.rv_model.specs.declared.instructions.instruction.Instr.TheVariants.{Upper, Jump, JumpRegister, Branch, Load, Store, OpImm, ShiftImm, ShiftImmWord, Op, Fence, System, Csr, CsrImmediate, SetVli, SetIvli, SetVl, VectorArith}
+use Rattle.rv_model.specs.declared.instructions.operations.BinaryOp.{BinaryOp}
+use Rattle.rv_model.specs.declared.instructions.operations.VectorOp.{VectorOp}
+use Rattle.rv_model.specs.declared.instructions.operations.VectorOp.TheVariants.{Binary}
+use Rattle.rv_model.specs.declared.scalar.Scalar.{Scalar}
+use Rattle.rv_model.specs.declared.instructions.source.Source.{Source}
+use Rattle.rv_model.specs.declared.step.step_end.Cause.{Cause}
+use Rattle.rv_model.specs.declared.step.step_end.Cause.TheVariants.{IllegalInstruction, LoadAccess, StoreAccess}
+use Rattle.rv_model.specs.declared.step.vector_end.VEnd.{VEnd}
+use Rattle.rv_model.specs.declared.step.vector_end.VEnd.TheVariants as vector_end
+use Rattle.rv_model.specs.declared.vector.request.RequestedLength.{RequestedLength}
+use Rattle.rv_model.specs.declared.vector.request.RequestedLength.TheVariants.{Elements, Maximum, Keep}
+use Rattle.rv_model.specs.declared.vector.types.VType.{VType}
+use Rattle.rv_model.specs.step.Hart.{HartState, Stepped, faults, runs_on}
+use Rattle.rv_model.specs.legality.Legality.{is_legal_at}
+use Rattle.rv_model.specs.scalar.Registers.{read_register, with_register}
+use Rattle.rv_model.specs.elements.Arithmetic.{binary_file, fills_masked_off, fills_tail, group_type}
+use Rattle.rv_model.specs.vector.Configuration.{Configuration}
+use Rattle.rv_model.specs.elements.Formulas.{is_carried_out}
+use Rattle.rv_model.specs.vector.TypeRules.{requested}
+
+-- whether an instruction is one of the vector extension; those of control registers are not
+abbrev pub is_vector : Instr → Bool
+is_vector (Upper op rd imm) = false
+is_vector (Jump rd offset) = false
+is_vector (JumpRegister rd rs1 imm) = false
+is_vector (Branch op rs1 rs2 offset) = false
+is_vector (Load op rd rs1 imm) = false
+is_vector (Store op rs1 rs2 imm) = false
+is_vector (OpImm op rd rs1 imm) = false
+is_vector (ShiftImm op rd rs1 amount) = false
+is_vector (ShiftImmWord op rd rs1 amount) = false
+is_vector (Op op rd rs1 rs2) = false
+is_vector (Fence rd rs1 ordering) = false
+is_vector (System op) = false
+is_vector (Csr op rd rs1 csr) = false
+is_vector (CsrImmediate op rd imm csr) = false
+is_vector _ = true
+
+-- how a vector instruction ends, and the state that it leaves, with the program counter still on it
+pub record VectorStepped : Type 0 where
+  pub state : HartState
+  pub end : VEnd
+
+abbrev pub vector_ends : VEnd → HartState → VectorStepped
+vector_ends end s = record { state = s; end = end }
+
+-- the length that is asked for by the registers that are named: of rs1, unless that is x0
+abbrev pub requested_length : ℕ → ℕ → Scalar → RequestedLength
+requested_length rd rs1 s =
+    if rs1 == 0 then (if rd == 0 then Keep else Maximum)
+    else Elements (read_register s rs1)
+
+-- the length and type become these, and a register takes the length; the next instruction begins with the first element
+abbrev pub configures : ℕ → Configuration → HartState → VectorStepped
+configures rd new s =
+    vector_ends vector_end.Done
+    (record s { scalar = with_register rd new.vl s.scalar; vector = record s.vector { conf = new; vstart = 0 } })
+
+-- a vset instruction
+abbrev pub vset_step : ℕ → ℕ → RequestedLength → HartState → VectorStepped
+vset_step rd vtype length s = configures rd (requested s.vector.conf (record { vtype = vtype; length = length })) s
+
+-- the vector registers become these, and the next instruction begins with the first element
+abbrev pub leaves_registers : List ℕ → HartState → VectorStepped
+leaves_registers file s = vector_ends vector_end.Done (record s { vector = record s.vector { file = file; vstart = 0 } })
+
+-- an operation of one width
+abbrev pub binary_step : VType → BinaryOp → Source → ℕ → ℕ → Bool → HartState → VectorStepped
+binary_step t op source vd vs2 vm s =
+    if is_carried_out op && is_legal_at (VectorArith (Binary op, source) vd vs2 vm) t s.vector.vstart
+    then leaves_registers
+    (binary_file (group_type t) op vd vs2 source vm (fills_masked_off s.policy t vm) (fills_tail s.policy t s.vector.vstart s.vector.conf.vl)
+    s.vector s.scalar) s
+    else vector_ends vector_end.Illegal s
+
+-- an operation with a line of its own in the manual's table; without a vector type it is illegal
+abbrev pub arith_step : Option VType → VectorOp → Source → ℕ → ℕ → Bool → HartState → VectorStepped
+arith_step None op source vd vs2 vm s = vector_ends vector_end.Illegal s
+arith_step (Some t) (Binary op) source vd vs2 vm s = binary_step t op source vd vs2 vm s
+arith_step (Some t) op source vd vs2 vm s = vector_ends vector_end.Illegal s
+
+-- a vector instruction, by the ticks that are left; those that aren't carried out yet are illegal
+unfoldable pub vector_executed : ℕ → Instr → HartState → VectorStepped
+vector_executed limit (SetVli rd rs1 vtype) s = vset_step rd vtype (requested_length rd rs1 s.scalar) s
+vector_executed limit (SetIvli rd avl vtype) s = vset_step rd vtype (Elements avl) s
+vector_executed limit (SetVl rd rs1 rs2) s = vset_step rd (read_register s.scalar rs2) (requested_length rd rs1 s.scalar) s
+vector_executed limit (VectorArith arith vd vs2 vm) s = arith_step s.vector.conf.vtype arith.0 arith.1 vd vs2 vm s
+vector_executed limit _ s = vector_ends vector_end.Illegal s
+
+-- why an access is refused
+abbrev pub access_cause : Bool → Cause
+access_cause true = StoreAccess
+access_cause false = LoadAccess
+
+-- the step that a vector instruction makes, by the word that it is
+abbrev pub after_vector : VEnd → ℕ → HartState → Stepped
+after_vector vector_end.Done word s = runs_on s.scalar s
+after_vector vector_end.Illegal word s = faults IllegalInstruction word s
+after_vector (vector_end.Fault store addr) word s = faults (access_cause store) addr s
+
+abbrev pub vector_step : ℕ → Instr → ℕ → HartState → Stepped
+vector_step limit i word s =
+    let done = vector_executed limit i s in
+    after_vector done.end word done.state
+
+-- whether a vector instruction changes the vector state: unless it is illegal, also where it then faults
+abbrev pub is_legal_end : VEnd → Bool
+is_legal_end vector_end.Illegal = false
+is_legal_end _ = true

@@ -1,0 +1,19 @@
+-- The numbers of the fixed-point rounding modes ("V" Vector Extension 1.0, section 3.8, `vxrm`).
+use Rattle.std.specs.Prelude.{ℕ, ◌%◌, ◌==◌, if◌then◌else◌}
+use Rattle.rv_model.specs.declared.vector.state.RoundingMode.{RoundingMode}
+use Rattle.rv_model.specs.declared.vector.state.RoundingMode.TheVariants.{NearestUp, NearestEven, Down, Odd}
+
+-- vxrm of a rounding mode
+abbrev pub rounding_number : RoundingMode → ℕ
+rounding_number NearestUp = 0
+rounding_number NearestEven = 1
+rounding_number Down = 2
+rounding_number Odd = 3
+
+-- the rounding mode of the low two bits of a number
+abbrev pub rounding_mode : ℕ → RoundingMode
+rounding_mode n =
+    if n % 4 == 0 then NearestUp
+    else if n % 4 == 1 then NearestEven
+    else if n % 4 == 2 then Down
+    else Odd

@@ -1,0 +1,13 @@
+-- The vector state of a machine ("V" Vector Extension 1.0, section 3) for VLEN 256.
+use Rattle.std.specs.Prelude.{ℕ, List, replicate, false}
+use Rattle.rv_model.specs.declared.vector.state.VState.{VState}
+use Rattle.rv_model.specs.declared.vector.state.RoundingMode.TheVariants.{NearestUp}
+use Rattle.rv_model.specs.vector.Configuration.{initial_configuration}
+
+-- the 32 registers of 32 bytes, in order, all zero
+unfoldable pub zero_file : List ℕ
+zero_file = replicate 1024 0
+
+-- a machine's vector state before it is used
+unfoldable pub initial_vector : VState
+initial_vector = record { file = zero_file; conf = initial_configuration; vstart = 0; vxrm = NearestUp; vxsat = false }

@@ -1,0 +1,97 @@
+-- The numbers of vector types, which of them are supported, and the length and type that a request leaves ("V" Vector Extension
+-- 1.0, sections 3.4, 6.1 to 6.3), with the choices that the standard leaves: element widths above LMUL x 64 are not supported,
+-- the length is the lesser of what is asked for and VLMAX, and a kept length asks for the same VLMAX.
+use Rattle.std.specs.Prelude.{ℕ, ◌+◌, ◌*◌, ◌^◌, ◌==◌, nat_lt, nat_le, min, Bool, false, Option, Some, None, if◌then◌else◌}
+use Rattle.rv_model.specs.declared.vector.types.Sew.{Sew}
+use Rattle.rv_model.specs.declared.vector.types.Sew.TheVariants.{E8, E16, E32, E64}
+use Rattle.rv_model.specs.declared.vector.types.Lmul.{Lmul}
+use Rattle.rv_model.specs.declared.vector.types.Lmul.TheVariants.{Mf8, Mf4, Mf2, M1, M2, M4, M8}
+use Rattle.rv_model.specs.declared.vector.types.VType.{VType}
+use Rattle.rv_model.specs.declared.vector.request.RequestedLength.{RequestedLength}
+use Rattle.rv_model.specs.declared.vector.request.RequestedLength.TheVariants.{Elements, Maximum, Keep}
+use Rattle.rv_model.specs.declared.vector.request.VectorRequest.{VectorRequest}
+use Rattle.rv_model.specs.instructions.BitFields.{field, flag_bit}
+use Rattle.rv_model.specs.vector.Configuration.{sew_bits, lmul_eighths, vlmax, Configuration, initial_configuration}
+
+-- vsew, bits 5 to 3
+abbrev pub sew_number : Sew → ℕ
+sew_number E8 = 0
+sew_number E16 = 1
+sew_number E32 = 2
+sew_number E64 = 3
+
+-- vlmul, bits 2 to 0
+abbrev pub lmul_number : Lmul → ℕ
+lmul_number M1 = 0
+lmul_number M2 = 1
+lmul_number M4 = 2
+lmul_number M8 = 3
+lmul_number Mf8 = 5
+lmul_number Mf4 = 6
+lmul_number Mf2 = 7
+
+-- a vector type's number, with vta as bit 6 and vma as bit 7; no type is vill alone, bit 63
+abbrev pub vtype_number : Option VType → ℕ
+vtype_number None = 2 ^ 63
+vtype_number (Some t) =
+    lmul_number t.lmul + sew_number t.sew * 2 ^ 3 + flag_bit t.tail_agnostic * 2 ^ 6 + flag_bit t.mask_agnostic * 2 ^ 7
+
+-- the width of a vsew
+abbrev pub sew_with_number : ℕ → Option Sew
+sew_with_number n =
+    if n == 0 then Some E8
+    else if n == 1 then Some E16
+    else if n == 2 then Some E32
+    else if n == 3 then Some E64
+    else None
+
+-- the multiplier of a vlmul
+abbrev pub lmul_with_number : ℕ → Option Lmul
+lmul_with_number n =
+    if n == 0 then Some M1
+    else if n == 1 then Some M2
+    else if n == 2 then Some M4
+    else if n == 3 then Some M8
+    else if n == 5 then Some Mf8
+    else if n == 6 then Some Mf4
+    else if n == 7 then Some Mf2
+    else None
+
+-- SEW is at most LMUL x ELEN
+abbrev pub is_supported : Sew → Lmul → Bool
+is_supported sew lmul = nat_le (sew_bits sew) (lmul_eighths lmul * 8)
+
+-- a vector type of these parts, if it is supported
+abbrev pub supported_type : Option Sew → Option Lmul → Bool → Bool → Option VType
+supported_type None lmul tail mask = None
+supported_type (Some sew) None tail mask = None
+supported_type (Some sew) (Some lmul) tail mask =
+    if is_supported sew lmul then Some (record { sew = sew; lmul = lmul; tail_agnostic = tail; mask_agnostic = mask })
+    else None
+
+-- the vector type of a number; none if it is not supported, as where any bit from 8 up is set
+abbrev pub vector_type : ℕ → Option VType
+vector_type n =
+    if nat_lt n (2 ^ 8)
+    then supported_type (sew_with_number (field 3 3 n)) (lmul_with_number (field 0 3 n)) (field 6 1 n == 1) (field 7 1 n == 1)
+    else None
+
+-- whether there can be just as many elements of the old type, if there is one, as of the new one
+abbrev pub same_vlmax : Option VType → VType → Bool
+same_vlmax None new = false
+same_vlmax (Some old) new = vlmax old == vlmax new
+
+-- the length and type that a supported type leaves
+abbrev pub with_length : Configuration → VType → RequestedLength → Configuration
+with_length old t (Elements n) = record { vl = min n (vlmax t); vtype = Some t }
+with_length old t Maximum = record { vl = vlmax t; vtype = Some t }
+with_length old t Keep = if same_vlmax old.vtype t then record { vl = old.vl; vtype = Some t } else initial_configuration
+
+-- the length and type that a type leaves, if it is supported; else vill alone, and no elements
+abbrev pub with_type : Configuration → Option VType → RequestedLength → Configuration
+with_type old None length = initial_configuration
+with_type old (Some t) length = with_length old t length
+
+-- the length and type that a request leaves
+unfoldable pub requested : Configuration → VectorRequest → Configuration
+requested old request = with_type old (vector_type request.vtype) request.length

@@ -1,0 +1,75 @@
+//! What an ELF-64 image says of its segments, and what may be wrong with it.
+ghost use Rattle.std.specs.Prelude.{◌≡◌, ◌≤◌, length};
+ghost use Rattle.rv_model.specs.images.Faults.{fault_name};
+
+/// An entry of the program header table (ELF-64 Object File Format, "Program header table").
+#[derive(Clone, Copy, Debug, PartialEq, Eq)]
+pub struct ProgramHeader {
+    /// `p_type`: 1 for a loadable segment, 3 for the path of an interpreter.
+    pub kind: u32,
+    /// `p_flags`: the sum of 1 for execute, 2 for write and 4 for read.
+    pub flags: u32,
+    /// `p_offset`: where the segment's bytes begin in the file.
+    pub offset: u64,
+    /// `p_vaddr`: where the segment begins in memory.
+    pub address: u64,
+    /// `p_filesz`: how many bytes it has in the file.
+    pub file_size: u64,
+    /// `p_memsz`: how many bytes it has in memory.
+    pub memory_size: u64,
+}
+
+/// Why an image can't be loaded.
+#[derive(Clone, Copy, Debug, PartialEq, Eq)]
+pub enum ElfFault {
+    /// The file has no room for a file header, which has 64 bytes.
+    BadShort,
+    /// The file doesn't begin with 7F 45 4C 46.
+    BadMagic,
+    /// The file isn't of the 64-bit class.
+    BadClass,
+    /// The file isn't little-endian.
+    BadData,
+    /// The file isn't an executable at fixed addresses.
+    BadType,
+    /// The file isn't for RISC-V.
+    BadMachine,
+    /// A program header hasn't 56 bytes.
+    BadHeaderSize,
+    /// The program header table runs past the end of the file.
+    BadHeaderTable,
+    /// The program wants an interpreter.
+    BadInterp,
+    /// A segment has more bytes in the file than in memory.
+    BadFileSize,
+    /// A segment's bytes run past the end of the file.
+    BadOutside,
+    /// A segment runs past address 2^48.
+    BadAddress,
+    /// The entry isn't divisible by 4.
+    BadEntry,
+}
+
+impl ElfFault {
+    /// The name that the monitor prints.
+    pub fn name(self) -> &'static str
+        ensures name { result.now ≡ fault_name self }
+        ensures short { length result.now ≤ 11 }
+    {
+        match self {
+            ElfFault::BadShort => "Short",
+            ElfFault::BadMagic => "Magic",
+            ElfFault::BadClass => "Class",
+            ElfFault::BadData => "Data",
+            ElfFault::BadType => "Type",
+            ElfFault::BadMachine => "Machine",
+            ElfFault::BadHeaderSize => "HeaderSize",
+            ElfFault::BadHeaderTable => "HeaderTable",
+            ElfFault::BadInterp => "Interp",
+            ElfFault::BadFileSize => "FileSize",
+            ElfFault::BadOutside => "Outside",
+            ElfFault::BadAddress => "Address",
+            ElfFault::BadEntry => "Entry",
+        }
+    }
+}

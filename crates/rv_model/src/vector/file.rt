@@ -1,0 +1,81 @@
+//! The vector registers ("V" Vector Extension 1.0, section 3.2).
+ghost use Rattle.std.specs.Prelude.{◌≡◌, ◌+◌, ◌≤◌, length, slice_range};
+ghost use Rattle.std.specs.Borrow.{sem};
+
+use crate::instructions::VReg;
+use crate::vector::cells::Cells;
+use crate::vector::register_bytes::RegisterBytes;
+use std::marker::Model;
+
+/// The vector registers v0 to v31 of 32 bytes each, in order (section 3.2, VLEN 256).
+#[derive(Drop)]
+pub struct VFile {
+    cells: Cells<1024>,
+}
+
+impl Model for VFile {
+    ghost use Rattle.std.specs.Prelude.{List, ℕ, ◌≡◌, length};
+
+    ghost Value = { List ℕ };
+
+    ghost view = { λ f. f.cells.bytes };
+
+    ghost invariant = { λ f. length f.cells.bytes ≡ 1024 };
+}
+
+impl VFile {
+    ghost use Rattle.rv_model.specs.vector.FileLending.{LendsFilePart};
+    ghost use Rattle.rv_model.specs.vector.Registers.{register_of, with_register_bytes};
+    ghost use Rattle.rv_model.specs.vector.State.{zero_file};
+
+    /// All registers zero.
+    #[tactic(auto, unfolding(crate::specs::vector::State::zero_file))]
+    pub fn new() -> VFile
+        ensures { result ≡ zero_file }
+    {
+        VFile {
+            cells: Cells { bytes: [0; 1024] },
+        }
+    }
+
+    /// The 32 bytes of a register.
+    #[tactic(auto, unfolding(crate::specs::vector::Registers::register_of))]
+    pub fn register(&self, register: VReg) -> &[u8]
+        ensures value { result.now ≡ register_of self.now register }
+        ensures size { length result.now ≡ 32 }
+    {
+        let start = 32 * register.number() as usize;
+        self.part(start, start + 32)
+    }
+
+    /// Writes the 32 bytes of a register; all others stay.
+    #[tactic(auto, unfolding(crate::specs::vector::Registers::with_register_bytes))]
+    pub fn set_register(&mut self, register: VReg, bytes: &RegisterBytes)
+        ensures { self.new ≡ with_register_bytes register bytes.now self.old }
+    {
+        let start = 32 * register.number() as usize;
+        self.cells.bytes[start..start + 32].copy_from_slice(bytes.as_slice());
+    }
+
+    /// The bytes from one place up to another; register r begins at byte 32 r.
+    pub fn part(&self, from: usize, to: usize) -> &[u8]
+        requires order { from ≤ to }
+        requires inside { to ≤ 1024 }
+        ensures value { result.now ≡ slice_range self.now from to }
+        ensures len { length result.now + from ≡ to }
+    {
+        &self.cells.bytes[from..to]
+    }
+
+    /// The bytes from one place up to another, for writing.
+    pub fn part_mut(&mut self, from: usize, to: usize) -> &mut [u8]
+        requires order { from ≤ to }
+        requires inside { to ≤ 1024 }
+        ensures* writes_back { sem 𝓛 (LendsFilePart self.entry from result) }
+        ensures value { result.now ≡ slice_range self.old from to }
+        ensures len { length result.now + from ≡ to }
+        ensures whole { length self.old ≡ 1024 }
+    {
+        self.cells.part_mut(from, to)
+    }
+}

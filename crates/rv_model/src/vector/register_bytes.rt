@@ -1,0 +1,41 @@
+//! The bytes of one vector register.
+ghost use Rattle.std.specs.Prelude.{◌≡◌, length};
+ghost use Rattle.rv_model.specs.commands.Arguments.{register_bytes};
+
+use std::marker::Model;
+
+/// The 32 bytes of a vector register, byte 0 first ("V" Vector Extension 1.0, section 3.2, VLEN
+/// 256).
+#[derive(Drop)]
+pub struct RegisterBytes {
+    bytes: [u8; 32],
+}
+
+impl Model for RegisterBytes {
+    ghost use Rattle.std.specs.Prelude.{List, ℕ};
+
+    ghost Value = { List ℕ };
+
+    ghost view = { λ b. b.bytes };
+}
+
+impl RegisterBytes {
+    /// The bytes that exactly 64 hexadecimal digits spell.
+    pub fn from_hex(text: &[u8]) -> Option<RegisterBytes>
+        ensures { result ≡ register_bytes text.now }
+    {
+        let mut bytes = [0; 32];
+        match hex::decode_to_slice(text, &mut bytes) {
+            Ok(()) => Some(RegisterBytes { bytes }),
+            Err(_) => None,
+        }
+    }
+
+    /// The bytes.
+    pub fn as_slice(&self) -> &[u8]
+        ensures value { result.now ≡ self.now }
+        ensures size { length result.now ≡ 32 }
+    {
+        &self.bytes
+    }
+}

@@ -1,0 +1,139 @@
+//! The vector state of a machine ("V" Vector Extension 1.0, section 3).
+use crate::vector::file::VFile;
+use crate::vector::types::VType;
+use std::marker::Model;
+
+/// The vector length `vl` in elements, at most VLMAX, and `vtype`, which is supported here or is
+/// `vill` alone (sections 3.4 and 3.5).
+#[derive(Clone, Copy)]
+pub struct VConf {
+    vl: u16,
+    vtype: Option<VType>,
+}
+
+impl Model for VConf {
+    ghost use Rattle.rv_model.specs.vector.Configuration.{Configuration, IsConfiguration};
+
+    ghost Value = { Configuration };
+
+    ghost view = { λ c. record { vl = c.vl; vtype = c.vtype } };
+
+    ghost invariant = { λ c. IsConfiguration (record { vl = c.vl; vtype = c.vtype }) };
+
+    ghost inverse = { λ v. record { vl = v.vl; vtype = v.vtype } };
+}
+
+impl VConf {
+    ghost use Rattle.std.specs.Prelude.{◌≡◌, ◌≤◌, IfSome};
+    ghost use Rattle.rv_model.specs.vector.Configuration.{initial_configuration, IsSupported, vlmax};
+
+    /// `vill` alone, with a length of 0.
+    pub fn vill() -> VConf
+        ensures { result ≡ initial_configuration }
+    {
+        VConf { vl: 0, vtype: None }
+    }
+
+    /// A supported vector type, and a length that it allows.
+    pub fn new(vl: u16, vtype: VType) -> VConf
+        requires supported { IsSupported vtype }
+        requires length { vl ≤ vlmax vtype }
+        ensures { result ≡ record { vl = vl; vtype = Some vtype } }
+    {
+        VConf {
+            vl,
+            vtype: Some(vtype),
+        }
+    }
+
+    /// The vector length in elements, 0 to 256.
+    pub fn vl(self) -> u16
+        ensures value { result ≡ self.vl }
+    {
+        self.vl
+    }
+
+    /// The vector type; `None` is `vill`.
+    pub fn vtype(self) -> Option<VType>
+        ensures value { result ≡ self.vtype }
+        ensures supported { IfSome result (λ t. IsSupported t) }
+        ensures length { IfSome result (λ t. self.vl ≤ vlmax t) }
+    {
+        self.vtype
+    }
+}
+
+/// The fixed-point rounding mode (section 3.8, `vxrm`).
+#[derive(Clone, Copy, PartialEq, Eq)]
+pub enum RoundingMode {
+    NearestUp,
+    NearestEven,
+    Down,
+    Odd,
+}
+
+impl RoundingMode {
+    ghost use Rattle.std.specs.Prelude.{◌≡◌};
+    ghost use Rattle.rv_model.specs.vector.RoundingModes.{rounding_mode, rounding_number};
+
+    /// The number of the mode, as `vxrm` holds it.
+    pub fn number(self) -> u8
+        ensures { result ≡ rounding_number self }
+    {
+        match self {
+            RoundingMode::NearestUp => 0,
+            RoundingMode::NearestEven => 1,
+            RoundingMode::Down => 2,
+            RoundingMode::Odd => 3,
+        }
+    }
+
+    /// The mode that the low two bits of a number say.
+    pub fn with_number(number: u64) -> RoundingMode
+        ensures { result ≡ rounding_mode number }
+    {
+        match number % 4 {
+            0 => RoundingMode::NearestUp,
+            1 => RoundingMode::NearestEven,
+            2 => RoundingMode::Down,
+            _ => RoundingMode::Odd,
+        }
+    }
+}
+
+/// All of a machine's vector state: the registers, `vl` and `vtype`, `vstart` below 256, the
+/// rounding mode and the saturation flag `vxsat` (sections 3.2 to 3.9).
+#[derive(Drop)]
+pub struct VState {
+    pub file: VFile,
+    pub conf: VConf,
+    pub vstart: u8,
+    pub vxrm: RoundingMode,
+    pub vxsat: bool,
+}
+
+impl VState {
+    ghost use Rattle.std.specs.Prelude.{◌≡◌};
+    ghost use Rattle.rv_model.specs.vector.State.{initial_vector};
+
+    /// Zeros, with `vill` set.
+    #[tactic(auto, unfolding(crate::specs::vector::State::initial_vector))]
+    pub fn new() -> VState
+        ensures { result ≡ initial_vector }
+    {
+        VState {
+            file: VFile::new(),
+            conf: VConf::vill(),
+            vstart: 0,
+            vxrm: RoundingMode::NearestUp,
+            vxsat: false,
+        }
+    }
+}
+
+/// A vector state that is lent, and whether it was changed since it was last saved.
+#[derive(Drop)]
+pub struct Seat {
+    pub state: VState,
+    pub dirty: bool,
+}
