@@ -1,4 +1,5 @@
 pub mod assembler_lemmas
+pub mod command_lemmas
 pub mod element_lemmas
 pub mod instruction_lemmas
 pub mod legality_lemmas

@@ -1,5 +1,13 @@
--- A user's commands. `Arguments` first: what a word means as an argument; then `Grammar`: the command that a line spells; then
--- `Replies`: what is printed.
+-- A user's commands, by groups: entering and leaving, memory, registers, programs, running. A group's file holds each of its
+-- commands as a whole: its arguments, what it refuses, what it does and what it prints. `Arguments`, `Reading` and `Printing`
+-- first: what a word means as an argument, how arguments follow one another, and what more than one command prints; then the
+-- groups, in any order; then `Commands`: the command that a line spells, and what it does of any user.
 pub mod Arguments
-pub mod Grammar
-pub mod Replies
+pub mod Commands
+pub mod Entering
+pub mod Memory
+pub mod Printing
+pub mod Programs
+pub mod Reading
+pub mod Registers
+pub mod Running

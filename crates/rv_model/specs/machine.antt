@@ -1,7 +1,11 @@
--- Machines and scripts. `Setup` first: what stays the same in a run; then `PrivateMachine`: one user's machine; then `Script`:
--- eight of them side by side, and the whole output; then `Laws`: the headline and its kin; `Examples` are small scripts.
+-- Machines and scripts. `Setup` first: what stays the same in a run; then `UserMachine`: what a user's machine is; then `Runs`:
+-- runs of instructions; then, with the commands, `PrivateMachine`: all that happens to one user's machine; then `VectorUnit` and
+-- `Script`: eight of them side by side, and the whole output; then `Laws`: the headline and its kin. `Examples` are small scripts.
 pub mod Examples
 pub mod Laws
 pub mod PrivateMachine
+pub mod Runs
 pub mod Script
 pub mod Setup
+pub mod UserMachine
+pub mod VectorUnit

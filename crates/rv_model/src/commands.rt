@@ -1,4 +1,18 @@
-//! A user's commands, and why one is refused.
+//! A user's commands, by what they are about, and why one is refused.
+mod arguments;
 mod command;
+mod entering;
+mod memory;
+mod programs;
+mod refusal;
+mod registers;
+mod running;
 
-pub use command::{ByteString, Cmd, Refusal, Text};
+pub use arguments::{ByteString, Count, LinePart, PageRange};
+pub use command::Cmd;
+pub use entering::EnteringCommand;
+pub use memory::MemoryCommand;
+pub use programs::ProgramCommand;
+pub use refusal::Refusal;
+pub use registers::RegisterCommand;
+pub use running::RunningCommand;

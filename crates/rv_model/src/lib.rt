@@ -12,7 +12,10 @@ mod scalar;
 mod step;
 mod vector;
 
-pub use commands::{ByteString, Cmd, Refusal, Text};
+pub use commands::{
+    ByteString, Cmd, Count, EnteringCommand, LinePart, MemoryCommand, PageRange, ProgramCommand,
+    Refusal, RegisterCommand, RunningCommand,
+};
 pub use images::{ElfFault, ProgramHeader};
 pub use instructions::{Arith, Carry, Field, Instr, Reg, Source, VReg};
 pub use legality::{Content, Operand, Role, Shape};

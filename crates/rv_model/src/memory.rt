@@ -2,6 +2,12 @@
 ghost use Rattle.std.specs.Prelude.{◌≡◌};
 ghost use Rattle.rv_model.specs.memory.Memory.{permits, WritesBytes, KeepsPermissions, MapsZeros, MapsPermissions, ReadsBytes, AllowsEachByte};
 
+/// The bytes of a page.
+pub const PAGE_SIZE: u64 = 4096;
+
+/// How many pages end at 2^48 or below, where user memory ends.
+pub const PAGE_LIMIT: u64 = 1 << 36;
+
 /// What a page may be used for.
 #[derive(Clone, Copy, Debug, Default, PartialEq, Eq)]
 pub struct Permissions {

@@ -1,13 +1,13 @@
 -- Each user's lines are those of a run alone.
-use Rattle.std.proofs.Common.{◌≡◌, ◌≢◌, inl, inr, ℕ, ◌+◌, ◌-◌, ◌≤◌, List, [], ◌∷◌, ◌++◌, length, length-set, get_or-set_same, get_or-set_other, Bool, true, false, refl, ap, ◌∙◌, sym, subst, append_assoc, arith, eqb, cond, None}
+use Rattle.std.proofs.Common.{◌≡◌, ◌≢◌, inl, inr, ℕ, ◌+◌, ◌-◌, ◌≤◌, List, [], ◌∷◌, ◌++◌, length, length-set, get_or, get_or-set_same, get_or-set_other, Bool, true, false, refl, ap, ◌∙◌, sym, subst, append_assoc, arith, eqb, cond, None}
 use Rattle.std.proofs.lemmas.List.{get_or-replicate}
 use Rattle.std.specs.Prelude.{if◌then◌else◌, ◌==◌, ◌&&◌, nat_le, nat_lt}
 use Rattle.std.proofs.lemmas.Bool.{cases_eq, leb-true}
 use Rattle.std.proofs.lemmas.Bool.Decides.{nat_tests}
 use Rattle.rv_model.specs.text.Lines.{pieces, text, AreLines}
 use Rattle.rv_model.specs.machine.Setup.{Setup}
-use Rattle.rv_model.specs.machine.PrivateMachine.{Private, Outcome, Event, event, solo_from, solo, end_of}
-use Rattle.rv_model.specs.machine.Script.{World, new_world, part, with_part, Kind, Empty, Long, Bad, Operator, Of, prefixed, kind_of, events_of, common, after_events, told_by, after, told, after_all, told_all, schedule, whole_from, after_script, mine, own_from, own, lines, AreUsers}
+use Rattle.rv_model.specs.machine.PrivateMachine.{Private, Event, event, solo_from, solo, end_of}
+use Rattle.rv_model.specs.machine.Script.{World, new_world, part, with_part, Kind, Empty, Long, Bad, Operator, Of, prefixed, kind_of, events_of, common, Happening, outcome_of, after_one, after_events, told_by, after, told, after_all, told_all, schedule, whole_from, after_script, mine, own_from, own, lines, AreUsers}
 use Rattle.rv_model.specs.machine.Laws.{EachUserAlone, EachNewUserAlone, EachUserEndsAlone, OthersChangeNothing, MachinesStayEight}
 use Rattle.rv_model.proofs.text_lemmas.Lines.{lines_text, both}
 use Rattle.rv_model.proofs.machine_lemmas.EventLines.{event_lines}
@@ -30,22 +30,37 @@ part_same u p w low high = get_or-set_same w.parts (u - 1) p None (omega arith)
 part_other : (u v : ℕ) (p : Private) (w : World) → 1 ≤ u → 1 ≤ v → v ≢ u → part u (with_part v p w) ≡ part u w
 part_other u v p w low low' ne = get_or-set_other w.parts (v - 1) (u - 1) p None (λ e. ne (omega (arith, e)))
 
--- one event's lines before those of the others
-abbrev Splits : Setup → ℕ → List (List ℕ) → World → Event → List (ℕ × Event) → ℕ → Type 0
-Splits s u others w e es v = cond (eqb v u) (event s (part v w) e).lines [] ++ (solo_from s (part u (with_part v (event s (part v w) e).next w)) (mine u es) ++ others) ≡ solo_from s (part u w) (mine u ((v, e) ∷ es)) ++ others
+-- a turn changes no user's machine
+parts_after_turn : (turn : Bool) (u : ℕ) (w : World) → (if turn then record w { cursor = u } else w).parts ≡ w.parts
+parts_after_turn true u w = refl
+parts_after_turn false u w = refl
 
-splits_same : (s : Setup) (u : ℕ) (others : List (List ℕ)) (w : World) (e : Event) (es : List (ℕ × Event)) → 1 ≤ u → u ≤ length w.parts → Splits s u others w e es u
+part_after_one : (s : Setup) (u : ℕ) (w : World) (h : Happening) → part u (after_one s w h) ≡ part u (with_part h.user (outcome_of s w h).next w)
+part_after_one s u w h =
+    ap (λ parts. get_or parts (u - 1) None) (parts_after_turn h.turn h.user (with_part h.user (outcome_of s w h).next w))
+
+eight_after_one : (s : Setup) (w : World) (h : Happening) → length w.parts ≡ 8 → length (after_one s w h).parts ≡ 8
+eight_after_one s w h eight =
+    ap length (parts_after_turn h.turn h.user (with_part h.user (outcome_of s w h).next w))
+    ∙ length-set w.parts (h.user - 1) (outcome_of s w h).next
+    ∙ eight
+
+-- one event's lines before those of the others
+abbrev Splits : Setup → ℕ → List (List ℕ) → World → Event → List Happening → ℕ → Type 0
+Splits s u others w e es v = cond (eqb v u) (event s (part v w) e).lines [] ++ (solo_from s (part u (with_part v (event s (part v w) e).next w)) (mine u es) ++ others) ≡ solo_from s (part u w) (cond (eqb v u) (e ∷ mine u es) (mine u es)) ++ others
+
+splits_same : (s : Setup) (u : ℕ) (others : List (List ℕ)) (w : World) (e : Event) (es : List Happening) → 1 ≤ u → u ≤ length w.parts → Splits s u others w e es u
 splits_same s u others w e es low high =
     let p : Private = (event s (part u w) e).next in
     rw (same_number u)
     (ap (λ (q : Private). (event s (part u w) e).lines ++ (solo_from s q (mine u es) ++ others)) (part_same u p w low high)
     ∙ sym (append_assoc (event s (part u w) e).lines (solo_from s p (mine u es)) others))
 
-splits_other : (s : Setup) (u : ℕ) (others : List (List ℕ)) (w : World) (e : Event) (es : List (ℕ × Event)) (v : ℕ) → 1 ≤ u → 1 ≤ v → v ≢ u → Splits s u others w e es v
+splits_other : (s : Setup) (u : ℕ) (others : List (List ℕ)) (w : World) (e : Event) (es : List Happening) (v : ℕ) → 1 ≤ u → 1 ≤ v → v ≢ u → Splits s u others w e es v
 splits_other s u others w e es v low low' ne =
     rw (other_number u v ne) (ap (λ (q : Private). solo_from s q (mine u es) ++ others) (part_other u v (event s (part v w) e).next w low low' ne))
 
-splits : (s : Setup) (u : ℕ) (others : List (List ℕ)) (w : World) (e : Event) (es : List (ℕ × Event)) (v : ℕ) → 1 ≤ u → u ≤ length w.parts → 1 ≤ v → Splits s u others w e es v
+splits : (s : Setup) (u : ℕ) (others : List (List ℕ)) (w : World) (e : Event) (es : List Happening) (v : ℕ) → 1 ≤ u → u ≤ length w.parts → 1 ≤ v → Splits s u others w e es v
 splits s u others w e es v low high low' =
     elim (cases_eq v u) [
       | inl h ↦ subst (Splits s u others w e es) (sym h) (splits_same s u others w e es low high)
@@ -53,43 +68,47 @@ splits s u others w e es v low high low' =
     ]
 
 -- what events tell a user
-pub lines_told_by : (s : Setup) (u : ℕ) (w : World) (es : List (ℕ × Event)) (rest : List ℕ) → 1 ≤ u → u ≤ 8 → length w.parts ≡ 8 → AreUsers es → lines u (told_by s w es ++ rest) ≡ solo_from s (part u w) (mine u es) ++ lines u rest
+pub lines_told_by : (s : Setup) (u : ℕ) (w : World) (es : List Happening) (rest : List ℕ) → 1 ≤ u → u ≤ 8 → length w.parts ≡ 8 → AreUsers es → lines u (told_by s w es ++ rest) ≡ solo_from s (part u w) (mine u es) ++ lines u rest
 lines_told_by s u w [] rest low high eight users = refl
-lines_told_by s u w ((v, e) ∷ es) rest low high eight users =
-    let w' : World = with_part v (event s (part v w) e).next w in
-    let ih = lines_told_by s u w' es rest low high (length-set w.parts (v - 1) (event s (part v w) e).next ∙ eight) users.2 in
+lines_told_by s u w (h ∷ es) rest low high eight users =
+    let v = h.user in
+    let e = h.event in
+    let w' : World = after_one s w h in
+    let ih = lines_told_by s u w' es rest low high (eight_after_one s w h eight) users.2 in
     ap (lines u) (append_assoc (text (48 + v) (event s (part v w) e).lines) (told_by s w' es) rest)
     ∙ lines_text u (48 + v) (event s (part v w) e).lines (told_by s w' es ++ rest) (no_newline v) (event_lines s (part v w) e)
     ∙ ap (λ (b : Bool). cond b (event s (part v w) e).lines [] ++ lines u (told_by s w' es ++ rest)) (same_digit u v)
     ∙ ap (λ (x : List (List ℕ)). cond (eqb v u) (event s (part v w) e).lines [] ++ x) ih
+    ∙ ap (λ (q : Private). cond (eqb v u) (event s (part v w) e).lines [] ++ (solo_from s q (mine u es) ++ lines u rest)) (part_after_one s u w h)
     ∙ splits s u (lines u rest) w e es v low (omega (arith, high, eight)) users.0
 
 -- where events leave a user
-abbrev Ends : Setup → ℕ → World → Event → List (ℕ × Event) → ℕ → Type 0
-Ends s u w e es v = end_of s (part u (with_part v (event s (part v w) e).next w)) (mine u es) ≡ end_of s (part u w) (mine u ((v, e) ∷ es))
+abbrev Ends : Setup → ℕ → World → Event → List Happening → ℕ → Type 0
+Ends s u w e es v = end_of s (part u (with_part v (event s (part v w) e).next w)) (mine u es) ≡ end_of s (part u w) (cond (eqb v u) (e ∷ mine u es) (mine u es))
 
-ends_same : (s : Setup) (u : ℕ) (w : World) (e : Event) (es : List (ℕ × Event)) → 1 ≤ u → u ≤ length w.parts → Ends s u w e es u
+ends_same : (s : Setup) (u : ℕ) (w : World) (e : Event) (es : List Happening) → 1 ≤ u → u ≤ length w.parts → Ends s u w e es u
 ends_same s u w e es low high =
     rw (same_number u) (ap (λ (q : Private). end_of s q (mine u es)) (part_same u (event s (part u w) e).next w low high))
 
-ends_other : (s : Setup) (u : ℕ) (w : World) (e : Event) (es : List (ℕ × Event)) (v : ℕ) → 1 ≤ u → 1 ≤ v → v ≢ u → Ends s u w e es v
+ends_other : (s : Setup) (u : ℕ) (w : World) (e : Event) (es : List Happening) (v : ℕ) → 1 ≤ u → 1 ≤ v → v ≢ u → Ends s u w e es v
 ends_other s u w e es v low low' ne =
     rw (other_number u v ne) (ap (λ (q : Private). end_of s q (mine u es)) (part_other u v (event s (part v w) e).next w low low' ne))
 
-pub part_after_events : (s : Setup) (u : ℕ) (w : World) (es : List (ℕ × Event)) → 1 ≤ u → u ≤ 8 → length w.parts ≡ 8 → AreUsers es → part u (after_events s w es) ≡ end_of s (part u w) (mine u es)
+pub part_after_events : (s : Setup) (u : ℕ) (w : World) (es : List Happening) → 1 ≤ u → u ≤ 8 → length w.parts ≡ 8 → AreUsers es → part u (after_events s w es) ≡ end_of s (part u w) (mine u es)
 part_after_events s u w [] low high eight users = refl
-part_after_events s u w ((v, e) ∷ es) low high eight users =
-    let o : Outcome = event s (part v w) e in
-    part_after_events s u (with_part v o.next w) es low high (length-set w.parts (v - 1) o.next ∙ eight) users.2
+part_after_events s u w (h ∷ es) low high eight users =
+    let v = h.user in
+    let e = h.event in
+    part_after_events s u (after_one s w h) es low high (eight_after_one s w h eight) users.2
+    ∙ ap (λ (q : Private). end_of s q (mine u es)) (part_after_one s u w h)
     ∙ elim (cases_eq v u) [
       | inl h ↦ subst (Ends s u w e es) (sym h) (ends_same s u w e es low (omega (arith, high, eight)))
       | inr ne ↦ ends_other s u w e es v low users.0 ne
     ]
 
-pub eight_after_events : (s : Setup) (w : World) (es : List (ℕ × Event)) → length w.parts ≡ 8 → length (after_events s w es).parts ≡ 8
+pub eight_after_events : (s : Setup) (w : World) (es : List Happening) → length w.parts ≡ 8 → length (after_events s w es).parts ≡ 8
 eight_after_events s w [] eight = eight
-eight_after_events s w ((v, e) ∷ es) eight =
-    eight_after_events s (with_part v (event s (part v w) e).next w) es (length-set w.parts (v - 1) (event s (part v w) e).next ∙ eight)
+eight_after_events s w (h ∷ hs) eight = eight_after_events s (after_one s w h) hs (eight_after_one s w h eight)
 
 -- a line's events are those of one of the eight
 users_prefixed : (s : Setup) (w : World) (line : List ℕ) → AreUsers (events_of s w (prefixed line))
@@ -131,13 +150,13 @@ solo-append : (s : Setup) (p : Private) (a b : List Event) → solo_from s p (a 
 solo-append s p [] b = refl
 solo-append s p (e ∷ a) b = ap (λ (x : List (List ℕ)). (event s p e).lines ++ x) (solo-append s (event s p e).next a b) ∙ sym (append_assoc (event s p e).lines (solo_from s (event s p e).next a) (solo_from s (end_of s (event s p e).next a) b))
 
-mine-append : (u : ℕ) (a b : List (ℕ × Event)) → mine u (a ++ b) ≡ mine u a ++ mine u b
+mine-append : (u : ℕ) (a b : List Happening) → mine u (a ++ b) ≡ mine u a ++ mine u b
 mine-append u [] b = refl
-mine-append u (e ∷ a) b = joined (eqb e.0 u) (mine-append u a b)
+mine-append u (h ∷ a) b = joined (eqb h.user u) (mine-append u a b)
   where
-    joined : (t : Bool) → mine u (a ++ b) ≡ mine u a ++ mine u b → cond t (e.1 ∷ mine u (a ++ b)) (mine u (a ++ b)) ≡ cond t (e.1 ∷ mine u a) (mine u a) ++ mine u b
-    joined true h = ap (λ (x : List Event). e.1 ∷ x) h
-    joined false h = h
+    joined : (t : Bool) → mine u (a ++ b) ≡ mine u a ++ mine u b → cond t (h.event ∷ mine u (a ++ b)) (mine u (a ++ b)) ≡ cond t (h.event ∷ mine u a) (mine u a) ++ mine u b
+    joined true same = ap (λ (x : List Event). h.event ∷ x) same
+    joined false same = same
 
 eight_after : (s : Setup) (w : World) (line : List ℕ) → length w.parts ≡ 8 → length (after s w line).parts ≡ 8
 unfolding after
@@ -150,7 +169,7 @@ part_after s u w line low high eight = part_after_events s u w (events_of s w (k
 lines_told : (s : Setup) (u : ℕ) (w : World) (line rest : List ℕ) → 1 ≤ u → u ≤ 8 → length w.parts ≡ 8 → lines u (told s w line ++ rest) ≡ solo_from s (part u w) (mine u (events_of s w (kind_of line))) ++ lines u rest
 unfolding told
 lines_told s u w line rest low high eight =
-    let es : List (ℕ × Event) = events_of s w (kind_of line) in
+    let es : List Happening = events_of s w (kind_of line) in
     ap (lines u) (append_assoc (told_by s w es) (text 42 (common s w (kind_of line))) rest)
     ∙ lines_told_by s u w es (text 42 (common s w (kind_of line)) ++ rest) low high eight (users_of s w line)
     ∙ ap (λ (x : List (List ℕ)). solo_from s (part u w) (mine u es) ++ x) (lines_common s u w (kind_of line) rest)
@@ -165,7 +184,7 @@ lines_none u =
 pub lines_told_all : (s : Setup) (u : ℕ) (w : World) (ls : List (List ℕ)) → 1 ≤ u → u ≤ 8 → length w.parts ≡ 8 → lines u (told_all s w ls) ≡ solo_from s (part u w) (mine u (schedule s w ls))
 lines_told_all s u w [] low high eight = lines_none u
 lines_told_all s u w (l ∷ ls) low high eight =
-    let es : List (ℕ × Event) = events_of s w (kind_of l) in
+    let es : List Happening = events_of s w (kind_of l) in
     lines_told s u w l (told_all s (after s w l) ls) low high eight
     ∙ ap (λ (x : List (List ℕ)). solo_from s (part u w) (mine u es) ++ x) (lines_told_all s u (after s w l) ls low high (eight_after s w l eight))
     ∙ ap (λ (p : Private). solo_from s (part u w) (mine u es) ++ solo_from s p (mine u (schedule s (after s w l) ls))) (part_after s u w l low high eight)
@@ -188,7 +207,7 @@ end_of-append s p (e ∷ a) b = end_of-append s (event s p e).next a b
 part_after_all : (s : Setup) (u : ℕ) (w : World) (ls : List (List ℕ)) → 1 ≤ u → u ≤ 8 → length w.parts ≡ 8 → part u (after_all s w ls) ≡ end_of s (part u w) (mine u (schedule s w ls))
 part_after_all s u w [] low high eight = refl
 part_after_all s u w (l ∷ ls) low high eight =
-    let es : List (ℕ × Event) = events_of s w (kind_of l) in
+    let es : List Happening = events_of s w (kind_of l) in
     part_after_all s u (after s w l) ls low high (eight_after s w l eight)
     ∙ ap (λ (p : Private). end_of s p (mine u (schedule s (after s w l) ls))) (part_after s u w l low high eight)
     ∙ sym (end_of-append s (part u w) (mine u es) (mine u (schedule s (after s w l) ls)))

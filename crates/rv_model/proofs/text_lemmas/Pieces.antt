@@ -5,7 +5,7 @@ use Rattle.std.specs.Int.{to_be_bytes, w32, w64}
 use Rattle.std.proofs.lemmas.Bool.Decides.{nat_tests}
 use Rattle.std.specs.Fmt.{digits, digits_onto, digit_glyph}
 use Rattle.hex.specs.Hex.{encode_lower, encode_with, lower_digits}
-use Rattle.rv_model.specs.commands.Replies.{hex8, hex16}
+use Rattle.rv_model.specs.commands.Printing.{hex8, hex16}
 use Rattle.rv_model.specs.text.Lines.{is_newline, is_line, IsLine}
 use Rattle.rv_model.proofs.text_lemmas.Lines.{both, both_of}
 

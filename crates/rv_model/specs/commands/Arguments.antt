@@ -1,5 +1,5 @@
 -- What a word means as an argument of a command.
-use Rattle.std.specs.Prelude.{ℕ, ◌+◌, ◌-◌, ◌*◌, ◌/◌, ◌%◌, ◌^◌, ◌==◌, ◌&&◌, ◌||◌, nat_lt, nat_le, Bool, true, false, List, [], ◌∷◌, length, Option, Some, None, Result, Ok, Err, if◌then◌else◌, codes}
+use Rattle.std.specs.Prelude.{ℕ, ◌+◌, ◌-◌, ◌*◌, ◌/◌, ◌%◌, ◌^◌, ◌==◌, ◌&&◌, ◌||◌, nat_lt, nat_le, ◌≤◌, Bool, true, false, List, [], ◌∷◌, length, Option, Some, None, Result, Ok, Err, if◌then◌else◌, codes}
 use Rattle.std.specs.Str.{bytes_eq}
 use Rattle.hex.specs.Hex.{decode_of}
 use Rattle.hex.specs.declared.error.FromHexError.{FromHexError}
@@ -93,3 +93,24 @@ permissions word =
     else if bytes_eq word (codes "wx") then allowing false true true
     else if bytes_eq word (codes "rwx") then allowing true true true
     else None
+
+-- any word
+abbrev pub any_word : List ℕ → Option (List ℕ)
+any_word word = Some word
+
+-- pages of memory, by the number of the first: its address divided by 4,096
+pub record Pages : Type 0 where
+  pub first : ℕ
+  pub count : ℕ
+
+-- none of them ends beyond 2 ^ 48
+abbrev pub IsPageRange : Pages → Type 0
+IsPageRange pages = pages.first + pages.count ≤ 2 ^ 36
+
+-- whole pages that end at 2 ^ 48 or below
+abbrev pub are_pages : ℕ → ℕ → Bool
+are_pages addr count = (addr % 4096 == 0) && nat_le (addr + 4096 * count) (2 ^ 48)
+
+-- so many pages from an address on
+abbrev pub page_range : ℕ → ℕ → Option Pages
+page_range addr count = if are_pages addr count then Some (record { first = addr / 4096; count = count }) else None

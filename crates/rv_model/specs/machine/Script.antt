@@ -1,18 +1,20 @@
 -- Eight private machines side by side, and what a script makes of them: whose each line is, the events in order, the whole
 -- output, and one user's part of each.
-use Rattle.std.specs.Prelude.{ℕ, ◌+◌, ◌-◌, ◌≤◌, ◌==◌, ◌&&◌, nat_lt, nat_le, List, [], ◌∷◌, ◌++◌, length, drop, map, filter, replicate, None, if◌then◌else◌, slice_index_or, slice_index, slice_set, codes}
-use Rattle.rv_model.specs.machine.PrivateMachine.{Private, Event, Command, event}
+use Rattle.std.specs.Prelude.{ℕ, ◌+◌, ◌-◌, ◌≤◌, ◌==◌, ◌&&◌, nat_lt, nat_le, Bool, false, List, [], ◌∷◌, ◌++◌, length, drop, map, filter, replicate, None, if◌then◌else◌, slice_index_or, slice_index, slice_set, codes}
+use Rattle.rv_model.specs.machine.PrivateMachine.{Private, Outcome, Event, Command, event}
 use Rattle.rv_model.specs.machine.Setup.{Setup}
+use Rattle.rv_model.specs.machine.VectorUnit.{VectorUnit, unused_unit}
 use Rattle.rv_model.specs.text.Lines.{text, pieces}
 
--- the machines of users 1 to 8, and who was last granted a slice
+-- the machines of users 1 to 8, who was last granted a slice in turn, and the vector unit
 pub record World : Type 0 where
   pub parts : List Private
   pub cursor : ℕ
+  pub unit : VectorUnit
 
--- everyone is absent, and user 1 is the first to be granted a slice
+-- everyone is absent, user 1 is the first to be granted a slice, and nobody has used the vector unit
 unfoldable pub new_world : World
-new_world = record { parts = replicate 8 None; cursor = 8 }
+new_world = record { parts = replicate 8 None; cursor = 8; unit = unused_unit }
 
 -- a user's machine
 abbrev pub part : ℕ → World → Private
@@ -40,13 +42,23 @@ prefixed (d ∷ s ∷ rest) =
 unfoldable pub kind_of : List ℕ → Kind
 kind_of line = if nat_lt 1024 (length line) then Long else prefixed line
 
--- who does what by a line. There are no operator commands yet.
-abbrev pub events_of : Setup → World → Kind → List (ℕ × Event)
+-- what happens to a user, and whether that is the user's turn, after which the next user's comes
+pub record Happening : Type 0 where
+  pub user : ℕ
+  pub event : Event
+  pub turn : Bool
+
+-- a user's own command
+abbrev pub commands : ℕ → List ℕ → Happening
+commands u line = record { user = u; event = Command line; turn = false }
+
+-- what happens by a line. There are no operator commands yet.
+abbrev pub events_of : Setup → World → Kind → List Happening
 events_of setup w Empty = []
 events_of setup w Long = []
 events_of setup w Bad = []
 events_of setup w (Operator line) = []
-events_of setup w (Of u line) = (u, Command line) ∷ []
+events_of setup w (Of u line) = commands u line ∷ []
 
 -- what a line prints under the star
 unfoldable pub common : Setup → World → Kind → List (List ℕ)
@@ -56,15 +68,27 @@ common setup w Bad = codes "E01" ∷ []
 common setup w (Operator line) = codes "E03" ∷ []
 common setup w (Of u line) = []
 
--- the world after events
-abbrev pub after_events : Setup → World → List (ℕ × Event) → World
-after_events setup w [] = w
-after_events setup w (e ∷ es) = after_events setup (with_part e.0 (event setup (part e.0 w) e.1).next w) es
+-- what happens to the user's machine
+abbrev pub outcome_of : Setup → World → Happening → Outcome
+outcome_of setup w h = event setup (part h.user w) h.event
 
--- what events print, each line under its user's digit
-abbrev pub told_by : Setup → World → List (ℕ × Event) → List ℕ
+-- the world with the cursor at a user whose turn it was
+abbrev pub with_turn : Happening → World → World
+with_turn h w = if h.turn then record w { cursor = h.user } else w
+
+-- the world after something has happened
+abbrev pub after_one : Setup → World → Happening → World
+after_one setup w h = with_turn h (with_part h.user (outcome_of setup w h).next w)
+
+-- the world after all that happened
+abbrev pub after_events : Setup → World → List Happening → World
+after_events setup w [] = w
+after_events setup w (h ∷ hs) = after_events setup (after_one setup w h) hs
+
+-- what is printed by all that happens, each line under its user's digit
+abbrev pub told_by : Setup → World → List Happening → List ℕ
 told_by setup w [] = []
-told_by setup w (e ∷ es) = text (48 + e.0) (event setup (part e.0 w) e.1).lines ++ told_by setup (with_part e.0 (event setup (part e.0 w) e.1).next w) es
+told_by setup w (h ∷ hs) = text (48 + h.user) (outcome_of setup w h).lines ++ told_by setup (after_one setup w h) hs
 
 -- the world after a line, and what the line prints
 unfoldable pub after : Setup → World → List ℕ → World
@@ -81,8 +105,8 @@ abbrev pub told_all : Setup → World → List (List ℕ) → List ℕ
 told_all setup w [] = []
 told_all setup w (line ∷ lines) = told setup w line ++ told_all setup (after setup w line) lines
 
--- the events of all lines, in order
-abbrev pub schedule : Setup → World → List (List ℕ) → List (ℕ × Event)
+-- what happens by all lines, in order
+abbrev pub schedule : Setup → World → List (List ℕ) → List Happening
 schedule setup w [] = []
 schedule setup w (line ∷ lines) = events_of setup w (kind_of line) ++ schedule setup (after setup w line) lines
 
@@ -98,9 +122,9 @@ abbrev pub whole : Setup → List ℕ → List ℕ
 whole setup script = whole_from setup new_world script
 
 -- one user's events of a schedule
-abbrev pub mine : ℕ → List (ℕ × Event) → List Event
+abbrev pub mine : ℕ → List Happening → List Event
 mine u [] = []
-mine u (e ∷ es) = if e.0 == u then e.1 ∷ mine u es else mine u es
+mine u (h ∷ hs) = if h.user == u then h.event ∷ mine u hs else mine u hs
 
 -- a user's own commands and slices, in order
 unfoldable pub own_from : Setup → ℕ → World → List ℕ → List Event
@@ -117,7 +141,7 @@ of_user u all = map (λ line. drop 2 line) (filter (λ line. slice_index line 0 
 unfoldable pub lines : ℕ → List ℕ → List (List ℕ)
 lines u output = of_user u (pieces output)
 
--- each event is that of one of the eight
-abbrev pub AreUsers : List (ℕ × Event) → Type 0
+-- all happens to one of the eight
+abbrev pub AreUsers : List Happening → Type 0
 AreUsers [] = Unit {0}
-AreUsers (e ∷ es) = (1 ≤ e.0) × (e.0 ≤ 8) × AreUsers es
+AreUsers (h ∷ hs) = (1 ≤ h.user) × (h.user ≤ 8) × AreUsers hs

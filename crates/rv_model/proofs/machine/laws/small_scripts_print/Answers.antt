@@ -2,9 +2,14 @@ use Rattle.std.proofs.Common.{refl}
 use Rattle.rv_model.specs.commands.Arguments.{digits_after}
 use Rattle.std.specs.Fmt.{digits}
 use Rattle.hex.specs.Hex.{encode_with}
-use Rattle.rv_model.specs.commands.Grammar.{parse, named, load_args, asm_args, dis_args, map_args, peek_args, set_args, setpc_args, step_args, vreg_args, vset_args}
-use Rattle.rv_model.specs.machine.PrivateMachine.{accepted, carried_out, refusal_of, own_refusal, event}
-use Rattle.rv_model.specs.commands.Replies.{refused, hex16, state_line, trace_line, vcsr_line}
+use Rattle.rv_model.specs.commands.Commands.{parse, named, of_absent, of_present, carried_out}
+use Rattle.rv_model.specs.commands.Entering.{entering_absent, entering}
+use Rattle.rv_model.specs.commands.Memory.{map_args, peek_args, memory_command}
+use Rattle.rv_model.specs.commands.Printing.{refused, hex16}
+use Rattle.rv_model.specs.commands.Programs.{load_args, asm_args, dis_args, program_command}
+use Rattle.rv_model.specs.commands.Registers.{set_args, setpc_args, vreg_args, vset_args, vcsr_line, register_command}
+use Rattle.rv_model.specs.commands.Running.{step_args, state_line, trace_line, running_command}
+use Rattle.rv_model.specs.machine.PrivateMachine.{event}
 use Rattle.rv_model.specs.machine.Script.{after, common, kind_of, new_world, told, whole_from}
 use Rattle.rv_model.specs.scalar.Registers.{initial_scalar}
 use Rattle.rv_model.specs.vector.State.{initial_vector}
@@ -12,5 +17,5 @@ use Rattle.rv_model.specs.text.Words.{words, trim_start, trim_end, after_word, a
 use Rattle.rv_model.proofs.machine.laws.small_scripts_print.Goals as goal
 
 pub returns : goal.returns
-unfolding after_two_words after_word trim_start trim_end load_args asm_args dis_args whole_from told after kind_of common new_world event parse words named map_args peek_args set_args setpc_args step_args vreg_args vset_args digits_after refusal_of own_refusal accepted carried_out initial_scalar initial_vector refused hex16 encode_with digits state_line trace_line vcsr_line
+unfolding after_two_words after_word trim_start trim_end load_args asm_args dis_args whole_from told after kind_of common new_world event parse words named map_args peek_args set_args setpc_args step_args vreg_args vset_args digits_after of_absent of_present entering_absent entering memory_command register_command program_command running_command carried_out initial_scalar initial_vector refused hex16 encode_with digits state_line trace_line vcsr_line
 returns c = λ setup. refl

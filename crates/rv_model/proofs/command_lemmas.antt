@@ -1,0 +1,7 @@
+-- Laws of what commands print: no printed byte is a newline. One file for each group, as in `specs/commands`.
+pub mod Commands
+pub mod Memory
+pub mod Printing
+pub mod Programs
+pub mod Registers
+pub mod Running

@@ -1,0 +1,79 @@
+-- What more than one command prints has no newline.
+use Rattle.std.proofs.Common.{ℕ, List, [], ◌∷◌, true, refl}
+use Rattle.std.specs.Prelude.{codes, map}
+use Rattle.rv_model.specs.declared.commands.refusal.Refusal.{Refusal}
+use Rattle.rv_model.specs.declared.commands.refusal.Refusal.TheVariants.{UnknownCommand, Argument, NotEntered, AlreadyEntered, Running, ImageName, ElfFault as BadImage, Quota, NotMapped, Assembler, AlreadyMapped}
+use Rattle.rv_model.specs.declared.images.ElfFault.{ElfFault}
+use Rattle.rv_model.specs.declared.images.ElfFault.TheVariants.{BadShort, BadMagic, BadClass, BadData, BadType, BadMachine, BadHeaderSize, BadHeaderTable, BadInterp, BadFileSize, BadOutside, BadAddress, BadEntry}
+use Rattle.rv_model.specs.declared.step.step_end.Stop.{Stop}
+use Rattle.rv_model.specs.declared.step.step_end.Stop.TheVariants.{Breakpoint, Ebreak, Exit, Fault}
+use Rattle.rv_model.specs.commands.Printing.{refused, stop_line}
+use Rattle.rv_model.specs.images.Faults.{fault_name}
+use Rattle.rv_model.specs.machine.UserMachine.{Private, Outcome, refuses}
+use Rattle.rv_model.specs.step.Causes.{cause_number}
+use Rattle.rv_model.specs.text.Lines.{is_line, IsLine, are_lines, AreLines}
+use Rattle.rv_model.proofs.text_lemmas.Lines.{both_of}
+use Rattle.rv_model.proofs.text_lemmas.Pieces.{Piece, ◌▸◌, hexadecimal, number}
+
+no_newline_in_fault_name : (fault : ElfFault) → IsLine (fault_name fault)
+no_newline_in_fault_name BadShort = refl
+no_newline_in_fault_name BadMagic = refl
+no_newline_in_fault_name BadClass = refl
+no_newline_in_fault_name BadData = refl
+no_newline_in_fault_name BadType = refl
+no_newline_in_fault_name BadMachine = refl
+no_newline_in_fault_name BadHeaderSize = refl
+no_newline_in_fault_name BadHeaderTable = refl
+no_newline_in_fault_name BadInterp = refl
+no_newline_in_fault_name BadFileSize = refl
+no_newline_in_fault_name BadOutside = refl
+no_newline_in_fault_name BadAddress = refl
+no_newline_in_fault_name BadEntry = refl
+
+no_newline_in_refusal : (r : Refusal) → IsLine (refused r)
+unfolding refused
+no_newline_in_refusal UnknownCommand = refl
+no_newline_in_refusal Argument = refl
+no_newline_in_refusal NotEntered = refl
+no_newline_in_refusal AlreadyEntered = refl
+no_newline_in_refusal Running = refl
+no_newline_in_refusal ImageName = refl
+no_newline_in_refusal (BadImage fault) =
+    let code : Piece = (codes "E09 ", refl) in
+    let name : Piece = (fault_name fault, no_newline_in_fault_name fault) in
+    (code ▸ name).1
+no_newline_in_refusal Quota = refl
+no_newline_in_refusal NotMapped = refl
+no_newline_in_refusal (Assembler column) = let code : Piece = (codes "E15 ", refl) in (code ▸ number column).1
+no_newline_in_refusal AlreadyMapped = refl
+
+pub no_newline_in_stop_line : (pc : ℕ) (reason : Stop) → IsLine (stop_line pc reason)
+unfolding stop_line
+no_newline_in_stop_line pc Breakpoint = let word : Piece = (codes "break pc=", refl) in (word ▸ hexadecimal pc).1
+no_newline_in_stop_line pc Ebreak = let word : Piece = (codes "ebreak pc=", refl) in (word ▸ hexadecimal pc).1
+no_newline_in_stop_line pc (Exit status) =
+    let word : Piece = (codes "exit ", refl) in
+    let place : Piece = (codes " pc=", refl) in
+    (word ▸ number status ▸ place ▸ hexadecimal pc).1
+no_newline_in_stop_line pc (Fault cause value) =
+    let word : Piece = (codes "fault cause=", refl) in
+    let place : Piece = (codes " pc=", refl) in
+    let what : Piece = (codes " value=", refl) in
+    (word ▸ number (cause_number cause) ▸ place ▸ hexadecimal pc ▸ what ▸ hexadecimal value).1
+
+-- what an outcome prints are lines
+abbrev pub PrintsLines : Outcome → Type 0
+PrintsLines o = AreLines o.lines
+
+-- one line
+pub one_line : (line : List ℕ) → IsLine line → AreLines (line ∷ [])
+one_line line h = both_of (is_line line) true h refl
+
+-- a refusal is a line
+pub refusal_prints : (p : Private) (reason : Refusal) → PrintsLines (refuses p reason)
+refusal_prints p reason = one_line (refused reason) (no_newline_in_refusal reason)
+
+-- the lines of some items
+pub mapped_lines : {A : Type 0} (f : A → List ℕ) (xs : List A) → ((x : A) → IsLine (f x)) → AreLines (map f xs)
+mapped_lines f [] h = refl
+mapped_lines f (x ∷ xs) h = both_of (is_line (f x)) (are_lines (map f xs)) (h x) (mapped_lines f xs h)

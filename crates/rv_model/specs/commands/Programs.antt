@@ -1,0 +1,140 @@
+-- The commands on programs in a user's memory: `load`, `asm` and `dis`. `asm` and `dis` ask for mapped pages, whatever these
+-- allow a program.
+use Rattle.std.specs.Prelude.{ℕ, ◌+◌, ◌*◌, nat_lt, map, find, Bool, true, List, [], ◌∷◌, ◌++◌, decimal, slice_range, Option, Some, None, Result, Ok, Err, if◌then◌else◌, codes}
+use Rattle.std.specs.Int.{from_le_bytes, to_le_bytes, w32}
+use Rattle.std.specs.List.{range_with_len}
+use Rattle.std.specs.Option.{option_map}
+use Rattle.std.specs.Str.{bytes_eq}
+use Rattle.rv_model.specs.declared.commands.programs.ProgramCommand.{ProgramCommand}
+use Rattle.rv_model.specs.declared.commands.programs.ProgramCommand.TheVariants.{Load, Asm, Dis}
+use Rattle.rv_model.specs.declared.commands.refusal.Refusal.TheVariants as refusal
+use Rattle.rv_model.specs.declared.images.ElfFault.{ElfFault}
+use Rattle.rv_model.specs.declared.memory.Access.TheVariants.{Monitor}
+use Rattle.rv_model.specs.assembler.Table.{canonical, spelled}
+use Rattle.rv_model.specs.commands.Arguments.{any_word, number, instruction_address}
+use Rattle.rv_model.specs.commands.Memory.{with_memory}
+use Rattle.rv_model.specs.commands.Printing.{hex8, hex16}
+use Rattle.rv_model.specs.commands.Reading.{◌>>=◌, next, done}
+use Rattle.rv_model.specs.images.Faults.{first_fault}
+use Rattle.rv_model.specs.images.Fields.{entry_of}
+use Rattle.rv_model.specs.images.Image.{memory_of_image}
+use Rattle.rv_model.specs.machine.Setup.{Image}
+use Rattle.rv_model.specs.machine.UserMachine.{Present, Outcome, answers, refuses, initial}
+use Rattle.rv_model.specs.memory.Memory.{bytes_at, can_access, put_bytes, page_count}
+use Rattle.rv_model.specs.scalar.Registers.{initial_scalar, with_register}
+
+-- ---- load NAME
+
+unfoldable pub load_args : List (List ℕ) → Option ProgramCommand
+load_args ws = do
+  name ← next any_word ws
+  done (Load name.0) name.1
+
+-- the bytes of the image of a name, if there is one
+unfoldable pub image_named : List Image → List ℕ → Option (List ℕ)
+image_named images name = option_map (λ (image : Image). image.bytes) (find (λ image. bytes_eq image.name name) images)
+
+-- a new machine with the memory of an image, at the image's entry; x2 is the stack pointer
+abbrev pub loaded : List ℕ → Present
+loaded image = record initial {
+  hart = record initial.hart {
+    scalar = with_register 2 0x7fffefc0 (record initial_scalar { pc = entry_of image });
+    memory = memory_of_image image;
+  };
+}
+
+-- the program counter, and how many pages the user has
+unfoldable pub loaded_line : ℕ → ℕ → List ℕ
+loaded_line pc pages = codes "loaded pc=" ++ hex16 pc ++ codes " pages=" ++ decimal pages
+
+-- what `load` does with an image, by its first fault
+abbrev pub loading : List ℕ → Option ElfFault → Present → Outcome
+loading image (Some fault) p = refuses (Some p) (refusal.ElfFault fault)
+loading image None p =
+    if nat_lt 256 (page_count (memory_of_image image)) then refuses (Some p) refusal.Quota
+    else answers (loaded image) (loaded_line (entry_of image) (page_count (memory_of_image image)))
+
+-- the same for the image of a name, which there may not be
+abbrev pub loading_named : Option (List ℕ) → Present → Outcome
+loading_named None p = refuses (Some p) refusal.ImageName
+loading_named (Some image) p = loading image (first_fault image) p
+
+-- the user's machine begins anew with the memory of an image
+abbrev pub loads : List Image → List ℕ → Present → Outcome
+loads images name p = loading_named (image_named images name) p
+
+-- ---- asm ADDR TEXT, the text being all that follows
+
+-- an instruction's text, which has a byte at least, for an address
+abbrev pub with_text : ℕ → List ℕ → Option ProgramCommand
+with_text addr [] = None
+with_text addr (b ∷ bs) = Some (Asm addr (b ∷ bs))
+
+unfoldable pub asm_args : List (List ℕ) → List ℕ → Option ProgramCommand
+asm_args ws text = do
+  addr ← next instruction_address ws
+  with_text addr.0 text
+
+-- an address and the word there
+unfoldable pub asm_line : ℕ → ℕ → List ℕ
+asm_line addr word = hex16 addr ++ codes " " ++ hex8 word
+
+-- what `asm` does with the word of its text, which may have none
+abbrev pub assembling : ℕ → Result ℕ ℕ → Present → Outcome
+assembling addr (Err column) p = refuses (Some p) (refusal.Assembler column)
+assembling addr (Ok word) p = answers (with_memory (put_bytes p.hart.memory addr (to_le_bytes w32 word)) p) (asm_line addr word)
+
+-- an instruction's word is written
+abbrev pub assembles : ℕ → List ℕ → Present → Outcome
+assembles addr text p =
+    if can_access Monitor p.hart.memory addr 4 then assembling addr (spelled text) p else refuses (Some p) refusal.NotMapped
+
+-- ---- dis ADDR N
+
+unfoldable pub dis_args : List (List ℕ) → Option ProgramCommand
+dis_args ws = do
+  addr ← next instruction_address ws
+  count ← next (number 1 16) addr.1
+  done (Dis addr.0 count.0) count.1
+
+-- an address and the word there, with its text
+unfoldable pub dis_line : ℕ → ℕ → List ℕ
+dis_line addr word = asm_line addr word ++ codes " " ++ canonical word
+
+-- word i of these bytes, least byte first
+abbrev pub word_in : List ℕ → ℕ → ℕ
+word_in bytes i = from_le_bytes w32 (slice_range bytes (4 * i) (4 * i + 4))
+
+-- so many words, which are these bytes from an address on
+unfoldable pub dis_lines : ℕ → ℕ → List ℕ → List (List ℕ)
+dis_lines addr count bytes = map (λ i. dis_line (addr + 4 * i) (word_in bytes i)) (range_with_len 0 count)
+
+-- instructions are shown
+abbrev pub shows_instructions : ℕ → ℕ → Present → Outcome
+shows_instructions addr count p =
+    if can_access Monitor p.hart.memory addr (4 * count)
+    then record { next = Some p; lines = dis_lines addr count (bytes_at p.hart.memory addr (4 * count)) }
+    else refuses (Some p) refusal.NotMapped
+
+-- ---- all of them
+
+-- the command of a name, by its arguments, and by what follows the first of them as it stands in the line; none of this group
+-- where there is no such name
+abbrev pub programs_named : List ℕ → List (List ℕ) → List ℕ → Option (Option ProgramCommand)
+programs_named name args text =
+    if bytes_eq name (codes "load") then Some (load_args args)
+    else if bytes_eq name (codes "asm") then Some (asm_args args text)
+    else if bytes_eq name (codes "dis") then Some (dis_args args)
+    else None
+
+-- whether a command needs a stopped program
+abbrev pub programs_need_stopped : ProgramCommand → Bool
+programs_need_stopped (Load name) = true
+programs_need_stopped (Asm addr text) = true
+programs_need_stopped (Dis addr count) = true
+
+-- what a command does of a user who has entered
+unfoldable pub program_command : List Image → ProgramCommand → Present → Outcome
+program_command images (Load name) p = loads images name p
+program_command images (Asm addr text) p = assembles addr text p
+program_command images (Dis addr count) p = shows_instructions addr count p

@@ -1,0 +1,45 @@
+-- One user's machine, and what a command or a slice makes of it.
+use Rattle.std.specs.Prelude.{ℕ, Bool, false, List, [], ◌∷◌, Option, Some}
+use Rattle.std.specs.FinMap.{empty}
+use Rattle.rv_model.specs.declared.commands.refusal.Refusal.{Refusal}
+use Rattle.rv_model.specs.declared.vector.policy.Policy.TheVariants.{Keep}
+use Rattle.rv_model.specs.commands.Printing.{refused}
+use Rattle.rv_model.specs.scalar.Registers.{initial_scalar}
+use Rattle.rv_model.specs.step.Hart.{HartState}
+use Rattle.rv_model.specs.vector.State.{initial_vector}
+
+-- a user that has entered: what instructions work on, the breakpoints, the addresses of the last instructions, whether the
+-- program runs, and whether it has just been told to run
+pub record Present : Type 0 where
+  pub hart : HartState
+  pub breakpoints : List ℕ
+  pub trace : List ℕ
+  pub running : Bool
+  pub fresh : Bool
+
+-- absent, or present
+abbrev pub Private : Type 0
+Private = Option Present
+
+-- no memory, all registers 0, no breakpoints, nothing put out or traced, stopped
+abbrev pub initial : Present
+initial = record {
+  hart = record { scalar = initial_scalar; vector = initial_vector; memory = empty; output = []; policy = Keep };
+  breakpoints = [];
+  trace = [];
+  running = false;
+  fresh = false;
+}
+
+-- what a machine does: where it stands then, and the lines that it prints
+pub record Outcome : Type 0 where
+  pub next : Private
+  pub lines : List (List ℕ)
+
+-- the machine becomes this one, and a line is printed
+abbrev pub answers : Present → List ℕ → Outcome
+answers p line = record { next = Some p; lines = line ∷ [] }
+
+-- nothing changes, and the reason is printed
+abbrev pub refuses : Private → Refusal → Outcome
+refuses p reason = record { next = p; lines = refused reason ∷ [] }

@@ -1,0 +1,163 @@
+//! The arguments of commands that have types of their own.
+ghost use Rattle.std.specs.Prelude.{◌≡◌, ◌≤◌, ◌+◌, ◌^◌};
+ghost use Rattle.rv_model.specs.commands.Arguments.{byte_string};
+
+use crate::memory::{PAGE_LIMIT, PAGE_SIZE};
+use arrayvec::ArrayVec;
+use std::marker::Model;
+
+/// A string of at most 256 bytes.
+#[derive(Drop)]
+pub struct ByteString {
+    bytes: ArrayVec<u8, 256>,
+}
+
+impl Model for ByteString {
+    ghost use Rattle.std.specs.Prelude.{List, ℕ};
+
+    ghost Value = { List ℕ };
+
+    ghost view = { λ b. b.bytes.items };
+}
+
+impl ByteString {
+    /// The 1 to 256 bytes that an even number of hexadecimal digits spells.
+    pub fn from_hex(text: &[u8]) -> Option<ByteString>
+        ensures { result ≡ byte_string text.now }
+    {
+        let len = text.len() / 2;
+        if len < 1 || len > 256 {
+            return None;
+        }
+        let mut buffer = [0; 256];
+        if hex::decode_to_slice(text, &mut buffer[..len]).is_err() {
+            return None;
+        }
+        let mut bytes = ArrayVec::new();
+        let _ = bytes.try_extend_from_slice(&buffer[..len]);
+        Some(ByteString { bytes })
+    }
+
+    /// The bytes.
+    pub fn as_slice(&self) -> &[u8]
+        ensures { result.now ≡ self.now }
+    {
+        self.bytes.as_slice()
+    }
+}
+
+/// A part of a command's line: the name of an image, or the text of an instruction.
+#[derive(Drop)]
+pub struct LinePart<'a> {
+    bytes: &'a [u8],
+}
+
+impl<'a> Model for LinePart<'a> {
+    ghost use Rattle.std.specs.Prelude.{List, ℕ};
+
+    ghost Value = { List ℕ };
+
+    ghost view = { λ t. t.bytes.now };
+}
+
+impl<'a> LinePart<'a> {
+    /// The part that has these bytes.
+    pub fn new(bytes: &'a [u8]) -> LinePart<'a>
+        ensures { result ≡ bytes.now }
+    {
+        LinePart { bytes }
+    }
+
+    /// The bytes.
+    pub fn as_slice(&self) -> &'a [u8]
+        ensures { result.now ≡ self.now }
+    {
+        self.bytes
+    }
+}
+
+/// A count of at most `MAX`.
+#[derive(Clone, Copy)]
+pub struct Count<const MAX: usize> {
+    count: usize,
+}
+
+impl<const MAX: usize> Model for Count<MAX> {
+    ghost use Rattle.std.specs.Prelude.{ℕ, ◌≤◌};
+
+    ghost Value = { ℕ };
+
+    ghost view = { λ c. c.count };
+
+    ghost invariant = { λ c. c.count ≤ MAX };
+
+    ghost inverse = { λ n. record { count = n } };
+}
+
+impl<const MAX: usize> Count<MAX> {
+    /// A count that is small enough.
+    pub fn new(count: usize) -> Count<MAX>
+        requires { count ≤ MAX }
+        ensures { result ≡ count }
+    {
+        Count { count }
+    }
+
+    /// The count.
+    pub fn get(self) -> usize
+        ensures value { result ≡ self.entry }
+        ensures small { self.entry ≤ MAX }
+    {
+        self.count
+    }
+}
+
+/// Whole pages of 4,096 bytes, none of which ends beyond 2^48.
+#[derive(Clone, Copy)]
+pub struct PageRange {
+    first: u64,
+    count: usize,
+}
+
+impl Model for PageRange {
+    ghost use Rattle.rv_model.specs.commands.Arguments.{Pages, IsPageRange};
+
+    ghost Value = { Pages };
+
+    ghost view = { λ p. record { first = p.first; count = p.count } };
+
+    ghost invariant = { λ p. IsPageRange (record { first = p.first; count = p.count }) };
+
+    ghost inverse = { λ v. record { first = v.first; count = v.count } };
+}
+
+impl PageRange {
+    ghost use Rattle.rv_model.specs.commands.Arguments.{page_range};
+
+    /// So many pages from the one at an address on, if the address is divisible by 4,096 and the
+    /// pages end at 2^48 or below.
+    pub fn new(addr: u64, count: usize) -> Option<PageRange>
+        ensures { result ≡ page_range addr count }
+    {
+        let first = addr / PAGE_SIZE;
+        if addr % PAGE_SIZE != 0 || first > PAGE_LIMIT || count as u64 > PAGE_LIMIT - first {
+            return None;
+        }
+        Some(PageRange { first, count })
+    }
+
+    /// The number of the first page: its address divided by 4,096.
+    pub fn first(self) -> u64
+        ensures value { result ≡ self.first }
+        ensures inside { self.first + self.count ≤ 2 ^ 36 }
+    {
+        self.first
+    }
+
+    /// How many pages there are.
+    pub fn count(self) -> usize
+        ensures { result ≡ self.count }
+    {
+        self.count
+    }
+}
