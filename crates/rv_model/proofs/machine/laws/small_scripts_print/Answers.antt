@@ -1,5 +1,5 @@
 use Rattle.std.proofs.Common.{refl}
-use Rattle.rv_model.specs.commands.Arguments.{digits_after}
+use Rattle.rv_model.specs.text.Digits.{digits_after}
 use Rattle.std.specs.Fmt.{digits}
 use Rattle.hex.specs.Hex.{encode_with}
 use Rattle.rv_model.specs.commands.Grammar.{parse, named, load_args, asm_args, dis_args, map_args, peek_args, set_args, setpc_args, step_args, vreg_args, vset_args}
