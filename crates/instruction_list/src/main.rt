@@ -5,7 +5,7 @@
 ghost use Rattle.std.specs.Prelude.{◌<◌};
 
 use rv_asm::{fixed_mask, slots_of};
-use rv_model::assembler::{Place, SignedField, Slot, UnsignedField};
+use rv_model::assembler::forms::{Place, SignedField, Slot, UnsignedField};
 use rv_model::assembler::mnemonics::{MNEMONICS, Mnemonic};
 use std::io;
 

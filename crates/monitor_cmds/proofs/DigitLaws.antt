@@ -1,5 +1,5 @@
 -- Digits that are read from the left, in a number that stops at 2 ^ 64.
-use Rattle.rv_model.specs.commands.Arguments.{digit, digits_after}
+use Rattle.rv_model.specs.text.Digits.{digit, digits_after}
 use Rattle.monitor_cmds.specs.Capped.{capped}
 use Rattle.std.proofs.Common.{◌≡◌, ℕ, ◌+◌, ◌*◌, ◌^◌, ◌<◌, ◌≤◌, Bool, true, false, cond, ltb, List, [], ◌∷◌, length, get_or, drop, Option, Some, None, refl, sym, ap, ◌∙◌, arith, inl, inr, min}
 use Rattle.std.proofs.Math.Nat.{mul-le-mul_left}

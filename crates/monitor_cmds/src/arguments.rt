@@ -1,6 +1,7 @@
 //! What a word means as an argument of a command.
 ghost use Rattle.std.specs.Prelude.{◌≡◌, ◌≤◌, Some};
-ghost use Rattle.rv_model.specs.commands.Arguments.{digit as digit_of, digits_after, decimal_number as decimal_of};
+ghost use Rattle.rv_model.specs.text.Digits.{digit as digit_of, digits_after};
+ghost use Rattle.rv_model.specs.commands.Arguments.{decimal_number as decimal_of};
 ghost use Rattle.rv_model.specs.commands.Arguments.{number as number_of, address as address_of};
 ghost use Rattle.rv_model.specs.commands.Arguments.{instruction_address as instruction_address_of};
 ghost use Rattle.rv_model.specs.commands.Arguments.{scalar_register as scalar_register_of, vector_register as vector_register_of};

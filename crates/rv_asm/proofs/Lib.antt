@@ -6,7 +6,6 @@ pub mod NameLaws
 pub mod NamedWords
 pub mod Naming
 pub mod NumberLaws
-pub mod Numbers
 pub mod RowLaws
 pub mod SlotLaws
 pub mod Tokens

@@ -6,7 +6,8 @@ use Rattle.std.proofs.lemmas.Fmt.{decimal_by_steps, decimal_digit, decimal_step}
 use Rattle.std.proofs.lemmas.Bool.{agree_below_at, eqb-true, le-leb, lt-ltb, eq-eqb, ne_eqb, and_from, and_parts, and_left, and_right, or_left, or_right, leb-true, cond-true, cond-false, cases_lt}
 use Rattle.std.proofs.lemmas.List.{length-append}
 use Rattle.rv_model.specs.assembler.Tokens.{in_run}
-use Rattle.rv_model.specs.assembler.Numbers.{digit, digits_after, digits_in, number, register, hex_digit, hex_digits}
+use Rattle.rv_model.specs.assembler.Numbers.{digits_in, number, register, hex_digit, hex_digits}
+use Rattle.rv_model.specs.text.Digits.{digit, digits_after}
 use Rattle.rv_asm.proofs.Tokens.{all_run}
 
 abbrev pub is_dec : ℕ → Bool

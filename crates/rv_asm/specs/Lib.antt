@@ -1,3 +1,2 @@
-pub mod Counter
 pub mod Places
 pub mod Spans

@@ -9,7 +9,7 @@ use crate::operands::{put_operands, read_operands};
 use crate::print::{Text, put_name};
 use crate::table::{row_at, row_named, row_of_word, slots_of};
 use crate::token::take;
-use rv_model::assembler::Slot;
+use rv_model::assembler::forms::Slot;
 use rv_model::assembler::mnemonics::Mnemonic;
 
 /// The word that a text spells: the name of an instruction and its operands, or `.word` and a

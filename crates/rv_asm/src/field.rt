@@ -6,7 +6,7 @@ ghost use Rattle.rv_model.specs.assembler.Fields.{lowest, placed, value_of};
 ghost use Rattle.rv_model.specs.instructions.Immediates.{store_immediate, branch_offset, jump_offset};
 ghost use Rattle.rv_asm.specs.Spans.{span};
 
-use rv_model::assembler::{Place, SignedField, Slot, UnsignedField};
+use rv_model::assembler::forms::{Place, SignedField, Slot, UnsignedField};
 
 fn field(low: u32, len: u32, word: u32) -> u32
     requires { low < 32 × len < 32 }

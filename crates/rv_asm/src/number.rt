@@ -1,10 +1,9 @@
 //! What one token means: a number, a register.
-ghost use Rattle.std.specs.Prelude.{◌≡◌, ◌≤◌, ◌<◌};
-ghost use Rattle.rv_model.specs.assembler.Numbers.{register, digit, digits_after, digits_in, number, at_most};
-ghost use Rattle.rv_asm.specs.Counter.{capped};
+ghost use Rattle.std.specs.Prelude.{◌≡◌, ◌≤◌, ◌^◌};
+ghost use Rattle.rv_model.specs.text.Digits.{capped};
+ghost use Rattle.rv_model.specs.assembler.Numbers.{register, digits_in, number, at_most};
 
-// Stops at CAP, which no slot takes.
-const CAP: u64 = 1 << 40;
+use rv_model::text::digits;
 
 /// The number of a register with this letter.
 pub fn register(letter: u8, text: &[u8]) -> Option<u32>
@@ -20,48 +19,26 @@ pub fn register(letter: u8, text: &[u8]) -> Option<u32>
     }
 }
 
-fn digit(byte: u8) -> u64
-    ensures { result ≡ digit byte }
-{
-    match byte {
-        b'0'..=b'9' => u64::from(byte - b'0'),
-        b'a'..=b'f' => u64::from(byte - b'a') + 10,
-        _ => 16,
-    }
-}
-
-fn digits_after(radix: u64, text: &[u8]) -> Option<u64>
-    requires { 1 ≤ radix × radix ≤ 16 }
-    ensures { result ≡ capped (digits_after radix 0 text.now) }
-{
-    let mut value = 0;
-    for byte in text {
-        let next = digit(*byte);
-        if next >= radix {
-            return None;
-        }
-        value = (value * radix + next).min(CAP);
-    }
-    Some(value)
-}
-
-fn digits_in(radix: u64, text: &[u8]) -> Option<u64>
-    requires { 1 ≤ radix × radix ≤ 16 }
-    ensures { result ≡ capped (digits_in radix text.now) }
+/// The number that one digit or more of a radix spell, or the cap in place of a larger one.
+fn digits_in(radix: u128, cap: u128, text: &[u8]) -> Option<u128>
+    requires radix { 1 ≤ radix × radix ≤ 16 }
+    requires cap { cap ≤ 2 ^ 64 }
+    ensures { result ≡ capped cap (digits_in radix text.now) }
 {
     if text.is_empty() {
         return None;
     }
-    digits_after(radix, text)
+    digits(radix, cap, text)
 }
 
-// A number, or CAP where it is larger.
-fn number(text: &[u8]) -> Option<u64>
-    ensures { result ≡ capped (number text.now) }
+/// A number in decimal, or in hexadecimal after `0x`, or the cap in place of a larger one.
+fn number(cap: u128, text: &[u8]) -> Option<u128>
+    requires { cap ≤ 2 ^ 64 }
+    ensures { result ≡ capped cap (number text.now) }
 {
     match text {
-        [b'0', b'x', hex @ ..] => digits_in(16, hex),
-        _ => digits_in(10, text),
+        [b'0', b'x', hex @ ..] => digits_in(16, cap, hex),
+        _ => digits_in(10, cap, text),
     }
 }
 
@@ -69,8 +46,8 @@ fn number(text: &[u8]) -> Option<u64>
 pub fn number_up_to(limit: u32, text: &[u8]) -> Option<u32>
     ensures { result ≡ at_most limit (number text.now) }
 {
-    let value = number(text)?;
-    if value <= u64::from(limit) {
+    let value = number(u128::from(limit) + 1, text)?;
+    if value <= u128::from(limit) {
         Some(value as u32)
     } else {
         None

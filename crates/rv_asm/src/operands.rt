@@ -10,7 +10,7 @@ use crate::field::{placed, value_of};
 use crate::print::{Text, put_slot};
 use crate::read::read_slot;
 use crate::token::next_token;
-use rv_model::assembler::Slot;
+use rv_model::assembler::forms::Slot;
 
 /// The word of these bits and the operands that the text has from an index to its end.
 pub fn read_operands(bits: u32, slots: &[Slot], text: &[u8], start: usize) -> Result<u32, AsmFault>

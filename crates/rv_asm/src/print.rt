@@ -8,7 +8,7 @@ ghost use Rattle.rv_model.specs.assembler.Table.{unpadded};
 use crate::read::{half, step};
 use arrayvec::ArrayString;
 use itoa::Buffer;
-use rv_model::assembler::Slot;
+use rv_model::assembler::forms::Slot;
 
 /// Room for the text of any word.
 pub type Text = ArrayString<160>;

@@ -9,7 +9,7 @@ use crate::name::csr;
 use crate::number::{number_up_to, register};
 use crate::token::{next_token, take};
 use crate::vector_type::vtype_at;
-use rv_model::assembler::{SignedField, Slot, UnsignedField};
+use rv_model::assembler::forms::{SignedField, Slot, UnsignedField};
 
 /// This very token.
 pub fn literal(word: &[u8], text: &[u8], at: usize) -> Result<(u32, usize), AsmFault>

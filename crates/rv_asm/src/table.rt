@@ -5,7 +5,7 @@ ghost use Rattle.rv_model.specs.assembler.Fields.{fixed_mask};
 ghost use Rattle.rv_asm.specs.Spans.{spans};
 ghost use Rattle.rv_model.specs.assembler.Table.{slots_of, padded, row_named, row_of_word, row_at, slots_at, bits_at};
 
-use rv_model::assembler::{
+use rv_model::assembler::forms::{
     BRANCH, CARRY_IMMEDIATE, CARRY_SCALAR, CARRY_VECTOR, CSR, CSR_IMMEDIATE, ELEMENT_INDEX, Form,
     IMMEDIATE, INDEXED, JUMP, LOAD, MASK_TO_SCALAR, MOVE_IMMEDIATE, MOVE_SCALAR, MOVE_TO_SCALAR,
     MOVE_VECTOR, MULTIPLY_ADD_SCALAR, MULTIPLY_ADD_VECTOR, PLAIN, REGISTER, SET_IVLI, SET_VLI,

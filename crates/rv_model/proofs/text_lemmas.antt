@@ -1,3 +1,4 @@
--- Laws of lines.
+-- Laws of lines and of digits.
+pub mod Digits
 pub mod Lines
 pub mod Pieces

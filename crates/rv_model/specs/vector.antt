@@ -1,6 +1,6 @@
 -- The vector state of a machine ("V" Vector Extension 1.0, sections 3 and 6). `Configuration` first: length and type; then
 -- `State`: all of it; then `Registers` and `Groups`: the registers' bytes; `TypeRules`: what the vset instructions leave;
--- `ControlRegisters` and `Control`: the control registers. `CellLending` and `FileLending` say how bytes are lent for writing.
+-- `TypeNames`: the names of the parts of vtype; `ControlRegisters` and `Control`: the control registers. `CellLending` and `FileLending` say how bytes are lent for writing.
 pub mod CellLending
 pub mod Configuration
 pub mod Control
@@ -10,4 +10,5 @@ pub mod Groups
 pub mod Registers
 pub mod RoundingModes
 pub mod State
+pub mod TypeNames
 pub mod TypeRules

@@ -1,5 +1,3 @@
 //! Assembler text: the forms that texts have, and the names of instructions.
-mod forms;
+pub mod forms;
 pub mod mnemonics;
-
-pub use forms::{Form, Slot};

@@ -10,6 +10,7 @@ mod machine;
 mod memory;
 mod scalar;
 mod step;
+pub mod text;
 mod vector;
 
 pub use commands::{

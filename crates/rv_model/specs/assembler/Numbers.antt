@@ -1,6 +1,7 @@
 -- What one token of assembler text means: a number; a register (Unprivileged ISA, "RISC-V Assembly Programmer's Handbook"); a name of a control register or of a part of vtype (V extension, "Vector Extension Programmer's Model")
 use Rattle.std.specs.Prelude.{ℕ, zero, suc, ◌+◌, ◌-◌, ◌*◌, ◌/◌, ◌%◌, ◌&&◌, List, [], ◌∷◌, ◌++◌, Option, Some, None, nat_le, nat_lt, ◌==◌, if◌then◌else◌, codes, decimal}
 use Rattle.std.specs.Str.{bytes_eq}
+use Rattle.rv_model.specs.text.Digits.{digits_after}
 
 -- 0, if the token is this word
 abbrev pub literal : List ℕ → List ℕ → Option ℕ
@@ -14,21 +15,12 @@ register letter (l ∷ a ∷ []) = if (l == letter) && (nat_le 48 a && nat_le a 
 register letter (l ∷ a ∷ b ∷ []) = if (l == letter) && ((nat_le 49 a && nat_le a 51) && ((nat_le 48 b && nat_le b 57) && nat_lt ((a - 48) * 10 + (b - 48)) 32)) then Some ((a - 48) * 10 + (b - 48)) else None
 register letter (l ∷ a ∷ b ∷ c ∷ cs) = None
 
--- the value of a digit, in bases up to 16; 16 for any other byte
-abbrev pub digit : ℕ → ℕ
-digit c = if nat_le 48 c && nat_le c 57 then c - 48 else (if nat_le 97 c && nat_le c 102 then c - 87 else 16)
-
--- the number that digits behind a number make
-unfoldable pub digits_after : ℕ → ℕ → List ℕ → Option ℕ
-digits_after radix n [] = Some n
-digits_after radix n (c ∷ cs) = if nat_lt (digit c) radix then digits_after radix (n * radix + digit c) cs else None
-
 -- one digit or more
 abbrev pub digits_in : ℕ → List ℕ → Option ℕ
 digits_in radix [] = None
 digits_in radix (c ∷ cs) = digits_after radix 0 (c ∷ cs)
 
--- decimal digits, or `0x` and hexadecimal digits
+-- decimal digits, or `0x` and hexadecimal digits; an upper-case letter is in no run of a text, so in no number of it
 abbrev pub number : List ℕ → Option ℕ
 number [] = None
 number (a ∷ []) = digits_in 10 (a ∷ [])

@@ -3,22 +3,10 @@ use Rattle.std.specs.Prelude.{ℕ, ◌+◌, ◌-◌, ◌*◌, ◌/◌, ◌%◌, 
 use Rattle.std.specs.Str.{bytes_eq}
 use Rattle.hex.specs.Hex.{decode_of}
 use Rattle.hex.specs.declared.error.FromHexError.{FromHexError}
+use Rattle.rv_model.specs.text.Digits.{digits_after}
 use Rattle.rv_model.specs.declared.memory.Permissions.{Permissions}
 use Rattle.rv_model.specs.declared.vector.types.Sew.{Sew}
 use Rattle.rv_model.specs.declared.vector.types.Sew.TheVariants.{E8, E16, E32, E64}
-
--- the value of a hexadecimal digit in either case; 16 for any other byte
-abbrev pub digit : ℕ → ℕ
-digit c =
-    if nat_le 48 c && nat_le c 57 then c - 48
-    else if nat_le 97 c && nat_le c 102 then c - 87
-    else if nat_le 65 c && nat_le c 70 then c - 55
-    else 16
-
--- the number that a run of digits spells, after digits that spell n
-unfoldable pub digits_after : ℕ → ℕ → List ℕ → Option ℕ
-digits_after radix n [] = Some n
-digits_after radix n (c ∷ cs) = if nat_lt (digit c) radix then digits_after radix (n * radix + digit c) cs else None
 
 -- a number from low to high
 abbrev pub within : ℕ → ℕ → Option ℕ → Option ℕ

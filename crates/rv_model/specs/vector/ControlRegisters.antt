@@ -1,27 +1,44 @@
--- The control registers of the vector extension, their numbers, and which of them may be written ("V" Vector Extension 1.0,
--- section 3). There are no others.
-use Rattle.std.specs.Prelude.{ℕ, ◌==◌, Bool, true, false, Option, Some, None, if◌then◌else◌}
+-- The control registers of the vector extension: their numbers, their names, and which of them may be written ("V" Vector
+-- Extension 1.0, section 3). There are no others.
+use Rattle.std.specs.Prelude.{ℕ, ◌==◌, Bool, true, false, List, [], ◌∷◌, Option, find, codes}
+use Rattle.std.specs.Str.{bytes_eq}
 use Rattle.rv_model.specs.declared.vector.control_register.ControlRegister.{ControlRegister}
 use Rattle.rv_model.specs.declared.vector.control_register.ControlRegister.TheVariants.{Vstart, Vxsat, Vxrm, Vcsr, Vl, Vtype, Vlenb}
 
+-- a row of the table: the register's number, its name, and whether a write of it is illegal
+pub record ControlRow : Type 0 where
+  pub number : ℕ
+  pub name : List ℕ
+  pub read_only : Bool
+
+-- the row of a register
+abbrev pub control_row : ControlRegister → ControlRow
+control_row Vstart = record { number = 0x008; name = codes "vstart"; read_only = false }
+control_row Vxsat = record { number = 0x009; name = codes "vxsat"; read_only = false }
+control_row Vxrm = record { number = 0x00a; name = codes "vxrm"; read_only = false }
+control_row Vcsr = record { number = 0x00f; name = codes "vcsr"; read_only = false }
+control_row Vl = record { number = 0xc20; name = codes "vl"; read_only = true }
+control_row Vtype = record { number = 0xc21; name = codes "vtype"; read_only = true }
+control_row Vlenb = record { number = 0xc22; name = codes "vlenb"; read_only = true }
+
+-- every register
+abbrev pub control_registers : List ControlRegister
+control_registers = Vstart ∷ Vxsat ∷ Vxrm ∷ Vcsr ∷ Vl ∷ Vtype ∷ Vlenb ∷ []
+
+-- what the row of a register says
+abbrev pub register_number : ControlRegister → ℕ
+register_number register = (control_row register).number
+
+abbrev pub register_name : ControlRegister → List ℕ
+register_name register = (control_row register).name
+
+abbrev pub is_read_only : ControlRegister → Bool
+is_read_only register = (control_row register).read_only
+
 -- the register with a number
 abbrev pub control_register : ℕ → Option ControlRegister
-control_register number =
-    if number == 0x008 then Some Vstart
-    else if number == 0x009 then Some Vxsat
-    else if number == 0x00a then Some Vxrm
-    else if number == 0x00f then Some Vcsr
-    else if number == 0xc20 then Some Vl
-    else if number == 0xc21 then Some Vtype
-    else if number == 0xc22 then Some Vlenb
-    else None
+control_register number = find (λ register. register_number register == number) control_registers
 
--- whether a write of the register is illegal
-abbrev pub is_read_only : ControlRegister → Bool
-is_read_only Vstart = false
-is_read_only Vxsat = false
-is_read_only Vxrm = false
-is_read_only Vcsr = false
-is_read_only Vl = true
-is_read_only Vtype = true
-is_read_only Vlenb = true
+-- the register with a name
+abbrev pub register_named : List ℕ → Option ControlRegister
+register_named name = find (λ register. bytes_eq (register_name register) name) control_registers

@@ -1,7 +1,4 @@
 //! The control registers that a program may access: those of the vector extension.
-ghost use Rattle.std.specs.Prelude.{◌≡◌};
-ghost use Rattle.rv_model.specs.vector.ControlRegisters.{control_register, is_read_only};
-
 /// A control register of the vector extension ("V" Vector Extension 1.0, section 3).
 #[derive(Clone, Copy, Debug, PartialEq, Eq)]
 pub enum ControlRegister {
@@ -21,20 +18,50 @@ pub enum ControlRegister {
     Vlenb,
 }
 
+/// Every control register.
+static CONTROL_REGISTERS: [ControlRegister; 7] = [
+    ControlRegister::Vstart,
+    ControlRegister::Vxsat,
+    ControlRegister::Vxrm,
+    ControlRegister::Vcsr,
+    ControlRegister::Vl,
+    ControlRegister::Vtype,
+    ControlRegister::Vlenb,
+];
+
 impl ControlRegister {
-    /// The register with this number, of 12 bits.
-    pub fn with_number(number: u32) -> Option<ControlRegister>
-        ensures { result ≡ control_register number }
+    ghost use Rattle.std.specs.Prelude.{◌≡◌, ◌≤◌, ◌<◌, ◌^◌, length};
+    ghost use Rattle.rv_model.specs.vector.ControlRegisters.{control_register, is_read_only, register_name, register_named, register_number};
+
+    /// The register's number, of 12 bits.
+    pub fn number(self) -> u32
+        ensures value { result ≡ register_number self }
+        ensures small { result < 2 ^ 12 }
     {
-        match number {
-            0x008 => Some(ControlRegister::Vstart),
-            0x009 => Some(ControlRegister::Vxsat),
-            0x00a => Some(ControlRegister::Vxrm),
-            0x00f => Some(ControlRegister::Vcsr),
-            0xc20 => Some(ControlRegister::Vl),
-            0xc21 => Some(ControlRegister::Vtype),
-            0xc22 => Some(ControlRegister::Vlenb),
-            _ => None,
+        match self {
+            ControlRegister::Vstart => 0x008,
+            ControlRegister::Vxsat => 0x009,
+            ControlRegister::Vxrm => 0x00a,
+            ControlRegister::Vcsr => 0x00f,
+            ControlRegister::Vl => 0xc20,
+            ControlRegister::Vtype => 0xc21,
+            ControlRegister::Vlenb => 0xc22,
+        }
+    }
+
+    /// The register's name in assembler text, at most 16 bytes.
+    pub fn name(self) -> &'static str
+        ensures value { result.now ≡ register_name self }
+        ensures short { length result.now ≤ 16 }
+    {
+        match self {
+            ControlRegister::Vstart => "vstart",
+            ControlRegister::Vxsat => "vxsat",
+            ControlRegister::Vxrm => "vxrm",
+            ControlRegister::Vcsr => "vcsr",
+            ControlRegister::Vl => "vl",
+            ControlRegister::Vtype => "vtype",
+            ControlRegister::Vlenb => "vlenb",
         }
     }
 
@@ -49,5 +76,25 @@ impl ControlRegister {
             | ControlRegister::Vcsr => false,
             ControlRegister::Vl | ControlRegister::Vtype | ControlRegister::Vlenb => true,
         }
+    }
+
+    /// The register with this number.
+    pub fn with_number(number: u32) -> Option<ControlRegister>
+        ensures { result ≡ control_register number }
+    {
+        CONTROL_REGISTERS
+            .iter()
+            .copied()
+            .find(|register| register.number() == number)
+    }
+
+    /// The register with this name.
+    pub fn with_name(name: &[u8]) -> Option<ControlRegister>
+        ensures { result ≡ register_named name.now }
+    {
+        CONTROL_REGISTERS
+            .iter()
+            .copied()
+            .find(|register| register.name().as_bytes() == name)
     }
 }

@@ -8,9 +8,14 @@ pub enum Sew {
     E64,
 }
 
+/// Every element width.
+static SEWS: [Sew; 4] = [Sew::E8, Sew::E16, Sew::E32, Sew::E64];
+
 impl Sew {
-    ghost use Rattle.std.specs.Prelude.{◌≡◌};
+    ghost use Rattle.std.specs.Prelude.{◌≡◌, ◌≤◌, length};
     ghost use Rattle.rv_model.specs.vector.Configuration.{sew_bits};
+    ghost use Rattle.rv_model.specs.vector.TypeNames.{sew_name, sew_named};
+    ghost use Rattle.rv_model.specs.vector.TypeRules.{sew_number, sew_with_number};
 
     /// The width in bits, 8 to 64.
     pub fn bits(self) -> u16
@@ -22,6 +27,53 @@ impl Sew {
             Sew::E32 => 32,
             Sew::E64 => 64,
         }
+    }
+
+    /// `vsew` of the width (section 3.4.1).
+    pub fn number(self) -> u8
+        ensures { result ≡ sew_number self }
+    {
+        match self {
+            Sew::E8 => 0,
+            Sew::E16 => 1,
+            Sew::E32 => 2,
+            Sew::E64 => 3,
+        }
+    }
+
+    /// The width with this `vsew`; the others are reserved.
+    pub fn with_number(number: u8) -> Option<Sew>
+        ensures { result ≡ sew_with_number number }
+    {
+        match number {
+            0 => Some(Sew::E8),
+            1 => Some(Sew::E16),
+            2 => Some(Sew::E32),
+            3 => Some(Sew::E64),
+            _ => None,
+        }
+    }
+
+    /// The name in assembler text, at most 3 bytes (section 6.1).
+    pub fn name(self) -> &'static str
+        ensures value { result.now ≡ sew_name self }
+        ensures short { length result.now ≤ 3 }
+    {
+        match self {
+            Sew::E8 => "e8",
+            Sew::E16 => "e16",
+            Sew::E32 => "e32",
+            Sew::E64 => "e64",
+        }
+    }
+
+    /// The width with this name.
+    pub fn with_name(name: &[u8]) -> Option<Sew>
+        ensures { result ≡ sew_named name.now }
+    {
+        SEWS.iter()
+            .copied()
+            .find(|sew| sew.name().as_bytes() == name)
     }
 }
 
@@ -38,9 +90,22 @@ pub enum Lmul {
     M8,
 }
 
+/// Every group multiplier.
+static LMULS: [Lmul; 7] = [
+    Lmul::Mf8,
+    Lmul::Mf4,
+    Lmul::Mf2,
+    Lmul::M1,
+    Lmul::M2,
+    Lmul::M4,
+    Lmul::M8,
+];
+
 impl Lmul {
-    ghost use Rattle.std.specs.Prelude.{◌≡◌};
+    ghost use Rattle.std.specs.Prelude.{◌≡◌, ◌≤◌, length};
     ghost use Rattle.rv_model.specs.vector.Configuration.{lmul_eighths};
+    ghost use Rattle.rv_model.specs.vector.TypeNames.{lmul_name, lmul_named};
+    ghost use Rattle.rv_model.specs.vector.TypeRules.{lmul_number, lmul_with_number};
 
     /// The multiplier in eighths of a register, 1 to 64.
     pub fn eighths(self) -> u16
@@ -56,6 +121,63 @@ impl Lmul {
             Lmul::M8 => 64,
         }
     }
+
+    /// `vlmul` of the multiplier (section 3.4.2).
+    pub fn number(self) -> u8
+        ensures { result ≡ lmul_number self }
+    {
+        match self {
+            Lmul::M1 => 0,
+            Lmul::M2 => 1,
+            Lmul::M4 => 2,
+            Lmul::M8 => 3,
+            Lmul::Mf8 => 5,
+            Lmul::Mf4 => 6,
+            Lmul::Mf2 => 7,
+        }
+    }
+
+    /// The multiplier with this `vlmul`; the others are reserved.
+    pub fn with_number(number: u8) -> Option<Lmul>
+        ensures { result ≡ lmul_with_number number }
+    {
+        match number {
+            0 => Some(Lmul::M1),
+            1 => Some(Lmul::M2),
+            2 => Some(Lmul::M4),
+            3 => Some(Lmul::M8),
+            5 => Some(Lmul::Mf8),
+            6 => Some(Lmul::Mf4),
+            7 => Some(Lmul::Mf2),
+            _ => None,
+        }
+    }
+
+    /// The name in assembler text, at most 3 bytes (section 6.1).
+    pub fn name(self) -> &'static str
+        ensures value { result.now ≡ lmul_name self }
+        ensures short { length result.now ≤ 3 }
+    {
+        match self {
+            Lmul::Mf8 => "mf8",
+            Lmul::Mf4 => "mf4",
+            Lmul::Mf2 => "mf2",
+            Lmul::M1 => "m1",
+            Lmul::M2 => "m2",
+            Lmul::M4 => "m4",
+            Lmul::M8 => "m8",
+        }
+    }
+
+    /// The multiplier with this name.
+    pub fn with_name(name: &[u8]) -> Option<Lmul>
+        ensures { result ≡ lmul_named name.now }
+    {
+        LMULS
+            .iter()
+            .copied()
+            .find(|lmul| lmul.name().as_bytes() == name)
+    }
 }
 
 /// The fields of a `vtype` without `vill` (section 3.4).
@@ -68,8 +190,9 @@ pub struct VType {
 }
 
 impl VType {
-    ghost use Rattle.std.specs.Prelude.{◌≡◌, ◌↔◌, IsTrue};
+    ghost use Rattle.std.specs.Prelude.{◌≡◌, ◌≤◌, ◌↔◌, IsTrue, length};
     ghost use Rattle.rv_model.specs.vector.Configuration.{vlmax, IsSupported};
+    ghost use Rattle.rv_model.specs.vector.TypeNames.{mask_name, mask_named, tail_name, tail_named};
 
     /// VLMAX: how many elements a group has, at most 256 (section 3.4.2).
     pub fn vlmax(self) -> u16
@@ -83,5 +206,43 @@ impl VType {
         ensures { IsTrue result ↔ IsSupported self }
     {
         self.sew.bits() <= self.lmul.eighths() * 8
+    }
+    /// The name of a policy for the tail, in assembler text: agnostic or undisturbed (section 6.1).
+    pub fn tail_name(agnostic: bool) -> &'static str
+        ensures value { result.now ≡ tail_name agnostic }
+        ensures short { length result.now ≤ 2 }
+    {
+        if agnostic { "ta" } else { "tu" }
+    }
+
+    /// Whether a policy for the tail with this name is agnostic.
+    pub fn tail_with_name(name: &[u8]) -> Option<bool>
+        ensures { result ≡ tail_named name.now }
+    {
+        match name {
+            b"ta" => Some(true),
+            b"tu" => Some(false),
+            _ => None,
+        }
+    }
+
+    /// The name of a policy for masked-off elements, in assembler text: agnostic or undisturbed
+    /// (section 6.1).
+    pub fn mask_name(agnostic: bool) -> &'static str
+        ensures value { result.now ≡ mask_name agnostic }
+        ensures short { length result.now ≤ 2 }
+    {
+        if agnostic { "ma" } else { "mu" }
+    }
+
+    /// Whether a policy for masked-off elements with this name is agnostic.
+    pub fn mask_with_name(name: &[u8]) -> Option<bool>
+        ensures { result ≡ mask_named name.now }
+    {
+        match name {
+            b"ma" => Some(true),
+            b"mu" => Some(false),
+            _ => None,
+        }
     }
 }

@@ -1,5 +1,5 @@
 use Rattle.std.proofs.Common.{arith, ap, ◌∙◌, ℕ, min, ◌+◌, ◌*◌, ◌^◌}
-use Rattle.rv_model.specs.commands.Arguments.{digits_after}
+use Rattle.rv_model.specs.text.Digits.{digits_after}
 use Rattle.monitor_cmds.specs.Capped.{capped}
 use Rattle.monitor_cmds.proofs.DigitLaws.{digit_more, digit_stops, digits_end}
 use Rattle.monitor_cmds.proofs.arguments.digits.Goals as goal

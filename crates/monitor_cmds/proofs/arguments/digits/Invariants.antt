@@ -1,5 +1,5 @@
 use Rattle.std.proofs.Common.{◌≡◌, ◌≤◌, ◌^◌, drop}
-use Rattle.rv_model.specs.commands.Arguments.{digits_after}
+use Rattle.rv_model.specs.text.Digits.{digits_after}
 use Rattle.monitor_cmds.specs.Capped.{capped}
 use Rattle.monitor_cmds.proofs.arguments.digits.Given as goal
 

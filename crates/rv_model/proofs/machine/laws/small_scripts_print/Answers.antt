@@ -1,5 +1,5 @@
 use Rattle.std.proofs.Common.{refl}
-use Rattle.rv_model.specs.commands.Arguments.{digits_after}
+use Rattle.rv_model.specs.text.Digits.{digits_after}
 use Rattle.std.specs.Fmt.{digits}
 use Rattle.hex.specs.Hex.{encode_with}
 use Rattle.rv_model.specs.commands.Commands.{parse, named, of_absent, of_present, carried_out}

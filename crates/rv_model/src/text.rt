@@ -1,0 +1,33 @@
+//! Numbers in digits.
+ghost use Rattle.std.specs.Prelude.{◌≡◌, ◌≤◌, ◌^◌};
+ghost use Rattle.rv_model.specs.text.Digits.{digit, digits_after, capped};
+
+/// The value of a hexadecimal digit in either case, or 16 for any other byte.
+fn digit(byte: u8) -> u128
+    ensures { result ≡ digit byte }
+{
+    match byte {
+        b'0'..=b'9' => u128::from(byte - b'0'),
+        b'a'..=b'f' => u128::from(byte - b'a') + 10,
+        b'A'..=b'F' => u128::from(byte - b'A') + 10,
+        _ => 16,
+    }
+}
+
+/// The number that digits of a radix spell, or `cap` in place of a larger one; 0 for no digits, and
+/// `None` where a byte is no digit of the radix.
+pub fn digits(radix: u128, cap: u128, word: &[u8]) -> Option<u128>
+    requires radix { 1 ≤ radix × radix ≤ 16 }
+    requires cap { cap ≤ 2 ^ 64 }
+    ensures { result ≡ capped cap (digits_after radix 0 word.now) }
+{
+    let mut value = 0;
+    for byte in word {
+        let next = digit(*byte);
+        if next >= radix {
+            return None;
+        }
+        value = (value * radix + next).min(cap);
+    }
+    Some(value)
+}
