@@ -1,9 +1,9 @@
-pub mod CommandLaws
 pub mod EndedLaws
 pub mod Feeding
 pub mod LineBuffer
-pub mod ParsedLaws
+pub mod MemoryOutcomes
 pub mod PartLaws
 pub mod PrefixLaws
-pub mod ProgramLaws
+pub mod ProgramOutcomes
 pub mod Runs
+pub mod StepLaws

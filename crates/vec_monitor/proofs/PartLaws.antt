@@ -1,14 +1,16 @@
 -- A change of one user's context and memory changes that user's part alone.
-use Rattle.std.proofs.Common.{◌≡◌, ℕ, zero, suc, ◌-◌, ◌<◌, List, [], ◌∷◌, length, get_or, set, refl, ap, ◌∙◌, sym, arith, None, replicate}
+use Rattle.std.proofs.Common.{◌≡◌, ℕ, zero, suc, ◌-◌, ◌<◌, List, [], ◌∷◌, length, get_or, set, refl, ap, ◌∙◌, sym, arith, Bool, true, false, Some, None, replicate}
 use Rattle.std.proofs.lemmas.List.{set-get_or, get_or-set_same}
 use Rattle.std.specs.FinMap.{empty}
+use Rattle.std.specs.Prelude.{if◌then◌else◌}
 use Rattle.rv_model.specs.memory.Memory.{Memory}
 use Rattle.rv_model.specs.machine.PrivateMachine.{Private}
 use Rattle.rv_model.specs.machine.Script.{World, new_world, part, with_part}
+use Rattle.rv_model.specs.machine.VectorUnit.{unused_unit}
 use Rattle.user_mem.specs.Users.{no_memories, memory_of_user, with_memory}
 use Rattle.vec_monitor.specs.declared.context.Context.{Context}
 use Rattle.vec_monitor.specs.Lenders.{later_memory}
-use Rattle.vec_monitor.specs.Parts.{Addresses, trace_of, with_trace, new_context, private_of, parts_of, world_of, AreEight}
+use Rattle.vec_monitor.specs.Parts.{Addresses, trace_of, with_trace, new_context, present, private_of, parts_of, world_of, AreEight}
 
 pub parts_of-set : (cs : List Context) (ts : List Addresses) (ms : List Memory) (i : ℕ) (c : Context) (t : Addresses) (m : Memory) → length cs ≡ length ts → length ts ≡ length ms
     → parts_of (set cs i c) (set ts i t) (set ms i m) ≡ set (parts_of cs ts ms) i (private_of c t m)
@@ -57,7 +59,7 @@ world_with cs ts ts' ms ms' u i d c' f at low eight next traces others =
     ∙ ap (λ (l : List Addresses). parts_of (set cs (u - 1) c') l (with_memory ms u m')) traces
     ∙ parts_of-set cs ts ms (u - 1) c' t' m' (eight.contexts ∙ sym eight.traces) (eight.traces ∙ sym eight.memories) in
     ap (λ (j : ℕ). world_of (set cs j c') ts' ms') at
-    ∙ ap (λ (ps : List Private). let r : World = record { parts = ps; cursor = 8 } in r) moved
+    ∙ ap (λ (ps : List Private). let r : World = record { parts = ps; cursor = 8; unit = unused_unit } in r) moved
     ∙ ap (λ (p : Private). with_part u p (world_of cs ts ms)) done
 
 -- one user's memory was changed twice, so it was changed
@@ -77,4 +79,11 @@ absent_parts (suc n) = ap (λ (ps : List Private). None ∷ ps) (absent_parts n)
 -- eight of them are the new world
 pub new_users : (cs : List Context) (ts : List Addresses) (ms : List Memory) → cs ≡ replicate 8 new_context → ts ≡ replicate 8 [] → ms ≡ no_memories → world_of cs ts ms ≡ new_world
 unfolding new_world
-new_users cs ts ms p q r = rw (p, q, r) (ap (λ (ps : List Private). let w : World = record { parts = ps; cursor = 8 } in w) (absent_parts 8))
+new_users cs ts ms p q r = rw (p, q, r) (ap (λ (ps : List Private). let w : World = record { parts = ps; cursor = 8; unit = unused_unit } in w) (absent_parts 8))
+
+-- the machine of a user that has entered, and of one that is absent
+pub entered_as : (c : Context) (t : Addresses) (m : Memory) → c.entered ≡ true → private_of c t m ≡ Some (present c t m)
+entered_as c t m h = ap (λ (b : Bool). if b then Some (present c t m) else None) h
+
+pub absent_as : (c : Context) (t : Addresses) (m : Memory) → c.entered ≡ false → private_of c t m ≡ None
+absent_as c t m h = ap (λ (b : Bool). if b then Some (present c t m) else None) h

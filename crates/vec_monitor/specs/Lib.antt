@@ -1,5 +1,4 @@
 pub mod Addressees
-pub mod CommandOutcomes
 pub mod Device
 pub mod EndedLines
 pub mod Feed
@@ -7,6 +6,5 @@ pub mod Images
 pub mod Lenders
 pub mod MachineState
 pub mod NewFaults
-pub mod ParsedCommands
 pub mod Parts
 pub mod Statuses

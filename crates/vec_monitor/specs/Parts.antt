@@ -9,6 +9,7 @@ use Rattle.rv_model.specs.machine.PrivateMachine.{Private, Present}
 use Rattle.rv_model.specs.scalar.Registers.{initial_scalar, with_register}
 use Rattle.rv_model.specs.vector.State.{initial_vector}
 use Rattle.rv_model.specs.machine.Script.{World}
+use Rattle.rv_model.specs.machine.VectorUnit.{unused_unit}
 use Rattle.vec_monitor.specs.declared.context.Context.{Context}
 
 -- the context of a user who is absent
@@ -23,8 +24,8 @@ loaded_context entry = record new_context { entered = true; scalar = with_regist
 abbrev pub user_state : Scalar → Seat → Memory → HartState
 user_state scalar seat memory = record { scalar = scalar; vector = seat.state; memory = memory; output = []; policy = Keep }
 
-abbrev pub hart_state : Context → Memory → HartState
-hart_state c memory = user_state c.scalar c.seat memory
+abbrev pub context_state : Context → Memory → HartState
+context_state c memory = user_state c.scalar c.seat memory
 
 -- the addresses of a trace, the oldest first
 abbrev pub Addresses : Type 0
@@ -40,7 +41,7 @@ with_trace traces user trace = slice_set traces (user - 1) trace
 
 -- a user that has entered, stopped, without breakpoints
 abbrev pub present : Context → Addresses → Memory → Present
-present c trace memory = record { hart = hart_state c memory; breakpoints = []; trace = trace; running = false; fresh = false }
+present c trace memory = record { hart = context_state c memory; breakpoints = []; trace = trace; running = false; fresh = false }
 
 -- the private machine of a context, a trace and a memory
 abbrev pub private_of : Context → Addresses → Memory → Private
@@ -53,9 +54,10 @@ parts_of (c ∷ cs) [] memories = []
 parts_of (c ∷ cs) (t ∷ ts) [] = []
 parts_of (c ∷ cs) (t ∷ ts) (m ∷ memories) = private_of c t m ∷ parts_of cs ts memories
 
--- the world of these contexts, traces and memories; user 1 is the first to be granted a slice
+-- the world of these contexts, traces and memories; user 1 is the first to be granted a slice, and no use of the vector unit is
+-- counted
 abbrev pub world_of : List Context → List Addresses → List Memory → World
-world_of contexts traces memories = record { parts = parts_of contexts traces memories; cursor = 8 }
+world_of contexts traces memories = record { parts = parts_of contexts traces memories; cursor = 8; unit = unused_unit }
 
 -- there is a context, a trace and a memory for each user
 pub record AreEight (cs : List Context) (ts : List Addresses) (ms : List Memory) : Type 0 where

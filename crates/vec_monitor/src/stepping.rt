@@ -1,6 +1,6 @@
 //! Instructions of one user.
 ghost use Rattle.std.specs.Prelude.{◌≡◌, ◌≤◌, ◌⊎◌, true, length, []};
-ghost use Rattle.rv_model.specs.machine.PrivateMachine.{stop_of as stop_spec, steps as steps_spec};
+ghost use Rattle.rv_model.specs.machine.Runs.{following, stop_of as stop_spec, steps as steps_spec};
 ghost use Rattle.rv_model.specs.step.Hart.{hart_state};
 ghost use Rattle.rv_model.specs.step.Step.{step as step_spec};
 ghost use Rattle.user_mem.specs.Users.{memory_of_user, with_memory};
@@ -20,7 +20,7 @@ const MAX_TICKS: usize = 256;
 
 /// Why an instruction's end stops the program, if it does.
 fn stop_of(end: StepEnd) -> Option<Stop>
-    ensures { result ≡ stop_spec end }
+    ensures { result ≡ stop_spec (following end) }
 {
     match end {
         StepEnd::Ran => None,

@@ -25,7 +25,7 @@ impl<A: Allocator> Model for Trace<A> {
 
 impl<A: Allocator> Trace<A> {
     ghost use Rattle.std.specs.Prelude.{◌≡◌, ◌++◌, ◌+◌, ◌≤◌, [], length, IfOk};
-    ghost use Rattle.rv_model.specs.machine.PrivateMachine.{recorded};
+    ghost use Rattle.rv_model.specs.machine.Runs.{recorded};
 
     /// An empty trace.
     pub fn new(alloc: A) -> Result<Self, AllocError>
@@ -43,7 +43,7 @@ impl<A: Allocator> Trace<A> {
     }
 
     /// Adds the address of an instruction, in place of the oldest one where there are 16.
-    #[tactic(auto, unfolding(rv_model::specs::machine::PrivateMachine::recorded))]
+    #[tactic(auto, unfolding(rv_model::specs::machine::Runs::recorded))]
     pub fn record(&mut self, addr: u64)
         ensures { self.new ≡ recorded self.old addr }
     {

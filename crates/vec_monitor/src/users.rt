@@ -1,7 +1,7 @@
 //! What a machine holds of its eight users.
 ghost use Rattle.std.specs.Prelude.{◌≡◌, ◌+◌, [], length, replicate, IfOk};
-ghost use Rattle.rv_model.specs.machine.PrivateMachine.{commanded};
-ghost use Rattle.rv_model.specs.commands.Grammar.{parse as parse_spec};
+ghost use Rattle.rv_model.specs.commands.Commands.{commanded};
+ghost use Rattle.rv_model.specs.commands.Commands.{parse as parse_spec};
 ghost use Rattle.rv_model.specs.machine.Script.{part, with_part, new_world};
 ghost use Rattle.rv_model.specs.text.Lines.{text};
 ghost use Rattle.vec_monitor.specs.Images.{named_images};

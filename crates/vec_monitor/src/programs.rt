@@ -1,15 +1,14 @@
-//! Commands that bring programs into a user's memory, and show them.
+//! Commands on programs in a user's memory, carried out.
 ghost use Rattle.std.specs.Prelude.{◌≡◌, ◌+◌, ◌-◌, ◌*◌, ◌<◌, ◌≤◌, [], Some, None, true, length, List, ℕ, MatchOption};
 ghost use Rattle.std.specs.Int.{to_le_bytes, w32};
 ghost use Rattle.rv_model.specs.declared.memory.Access.TheVariants.{Monitor};
 ghost use Rattle.rv_model.specs.images.Faults.{first_fault};
 ghost use Rattle.rv_model.specs.memory.Memory.{can_access, put_bytes};
-ghost use Rattle.rv_model.specs.machine.PrivateMachine.{image_named as image_named_of};
-ghost use Rattle.rv_model.specs.machine.Setup.{Image as NamedImage};
+ghost use Rattle.rv_model.specs.commands.Programs.{image_named as image_named_of, loading, loads, assembles};
+ghost use Rattle.rv_model.specs.commands.Programs.{shows_instructions, program_command};
 ghost use Rattle.rv_model.specs.text.Lines.{text};
 ghost use Rattle.user_mem.specs.Users.{memory_of_user, with_memory};
 ghost use Rattle.vec_monitor.specs.declared.context.Context.{Context};
-ghost use Rattle.vec_monitor.specs.CommandOutcomes.{outcome};
 ghost use Rattle.vec_monitor.specs.Images.{named_images};
 ghost use Rattle.vec_monitor.specs.Parts.{present, private_of};
 
@@ -19,15 +18,42 @@ use crate::trace::Trace;
 use elf_load::{Plan, check, place};
 use monitor_cmds::{Reply, Tag};
 use rv_asm::assemble;
-use rv_model::{Access, Cmd, Refusal, Text, User};
+use rv_model::{Access, Count, LinePart, ProgramCommand, Refusal, User};
 use std::alloc::Allocator;
 use user_mem::Pool;
 
 /// The bytes of an instruction.
 const WORD_SIZE: usize = 4;
 
-/// The most bytes of instructions that are shown at once.
-const MAX_SHOWN: usize = 64;
+/// The most instructions that are shown at once.
+const MAX_SHOWN: usize = 16;
+
+/// Carries out a command on programs in the memory of a user who has entered, and answers it.
+#[tactic(auto, unfolding(rv_model::specs::commands::Programs::program_command), using(crate::proofs::PartLaws::entered_as, crate::specs::Lenders::same_memory))]
+pub fn carry_out<A: Allocator>(
+    images: &[Image<'_>],
+    context: &mut Context,
+    trace: &mut Trace<A>,
+    pool: &mut Pool<A>,
+    user: User,
+    command: &ProgramCommand<'_>,
+    reply: &mut Reply,
+)
+    requires present { context.old.entered ≡ true }
+    requires clear { reply.old ≡ [] }
+    requires within { user - 1 < length pool.old }
+    ensures next { private_of context.new trace.new (memory_of_user pool.new user)
+        ≡ (program_command (named_images images.now) command.now (present context.old trace.old (memory_of_user pool.old user))).next }
+    ensures others { pool.new ≡ with_memory pool.old user (memory_of_user pool.new user) }
+    ensures reply { reply.new
+        ≡ text (48 + user) (program_command (named_images images.now) command.now (present context.old trace.old (memory_of_user pool.old user))).lines }
+{
+    match command {
+        ProgramCommand::Load(name) => load(images, context, trace, pool, user, name, reply),
+        ProgramCommand::Asm { addr, text } => assemble_at(pool, user, *addr, text, reply),
+        ProgramCommand::Dis { addr, count } => show_instructions(pool, user, *addr, *count, reply),
+    }
+}
 
 /// Writes a word to mapped pages, least byte first.
 fn write_word<A: Allocator>(pool: &mut Pool<A>, user: User, addr: u64, word: u32)
@@ -41,21 +67,21 @@ fn write_word<A: Allocator>(pool: &mut Pool<A>, user: User, addr: u64, word: u32
 }
 
 /// `asm`: an instruction's word, written to mapped pages, whatever these allow a program.
-#[tactic(auto, using(crate::specs::Lenders::memory_there, crate::proofs::ProgramLaws::asm_unmapped, crate::proofs::ProgramLaws::asm_misspelled, crate::proofs::ProgramLaws::asm_accepted))]
-pub fn assemble_at<A: Allocator>(
+#[tactic(auto, using(crate::specs::Lenders::memory_there, crate::proofs::ProgramOutcomes::assembles_unmapped, crate::proofs::ProgramOutcomes::assembles_misspelled, crate::proofs::ProgramOutcomes::assembles_accepted))]
+fn assemble_at<A: Allocator>(
     pool: &mut Pool<A>,
     user: User,
     addr: u64,
-    instruction: &Text<'_>,
+    instruction: &LinePart<'_>,
     reply: &mut Reply,
 )
     requires clear { reply.old ≡ [] }
     requires within { user - 1 < length pool.old }
-    ensures next { (images : List NamedImage) (c : Context) (trace : List ℕ) → (outcome images c trace (memory_of_user pool.old user) (Cmd.Asm addr instruction.now)).next
+    ensures next { (c : Context) (trace : List ℕ) → (assembles addr instruction.now (present c trace (memory_of_user pool.old user))).next
         ≡ Some (present c trace (memory_of_user pool.new user)) }
     ensures others { pool.new ≡ with_memory pool.old user (memory_of_user pool.new user) }
-    ensures reply { (images : List NamedImage) (c : Context) (trace : List ℕ) → reply.new
-        ≡ text (48 + user) (outcome images c trace (memory_of_user pool.old user) (Cmd.Asm addr instruction.now)).lines }
+    ensures reply { (c : Context) (trace : List ℕ) → reply.new
+        ≡ text (48 + user) (assembles addr instruction.now (present c trace (memory_of_user pool.old user))).lines }
 {
     let Ok(()) = pool.check(user, addr, WORD_SIZE, Access::Monitor) else {
         monitor_cmds::refused(reply, Tag::User(user), Refusal::NotMapped);
@@ -75,7 +101,7 @@ pub fn assemble_at<A: Allocator>(
 }
 
 /// Shows as many instructions of mapped pages as the buffer holds.
-#[tactic(auto, using(crate::proofs::ProgramLaws::dis_accepted, crate::proofs::ProgramLaws::dis_unmapped))]
+#[tactic(auto, using(crate::proofs::ProgramOutcomes::shows_accepted, crate::proofs::ProgramOutcomes::shows_refused))]
 fn show_words<A: Allocator>(
     pool: &Pool<A>,
     user: User,
@@ -87,10 +113,10 @@ fn show_words<A: Allocator>(
     requires clear { reply.old ≡ [] }
     requires few { count ≤ 16 }
     requires size { length buffer.old ≡ 4 * count }
-    ensures next { (images : List NamedImage) (c : Context) (trace : List ℕ) → (outcome images c trace (memory_of_user pool.now user) (Cmd.Dis addr count)).next
+    ensures next { (c : Context) (trace : List ℕ) → (shows_instructions addr count (present c trace (memory_of_user pool.now user))).next
         ≡ Some (present c trace (memory_of_user pool.now user)) }
-    ensures reply { (images : List NamedImage) (c : Context) (trace : List ℕ) → reply.new
-        ≡ text (48 + user) (outcome images c trace (memory_of_user pool.now user) (Cmd.Dis addr count)).lines }
+    ensures reply { (c : Context) (trace : List ℕ) → reply.new
+        ≡ text (48 + user) (shows_instructions addr count (present c trace (memory_of_user pool.now user))).lines }
 {
     match pool.read(user, addr, Access::Monitor, buffer) {
         Ok(()) => monitor_cmds::dis_lines(reply, Tag::User(user), addr, count, buffer),
@@ -99,21 +125,21 @@ fn show_words<A: Allocator>(
 }
 
 /// `dis`: words of mapped pages, whatever these allow a program, with their text.
-pub fn show_instructions<A: Allocator>(
+fn show_instructions<A: Allocator>(
     pool: &Pool<A>,
     user: User,
     addr: u64,
-    count: usize,
+    count: Count<MAX_SHOWN>,
     reply: &mut Reply,
 )
     requires clear { reply.old ≡ [] }
-    requires few { count ≤ 16 }
-    ensures next { (images : List NamedImage) (c : Context) (trace : List ℕ) → (outcome images c trace (memory_of_user pool.now user) (Cmd.Dis addr count)).next
+    ensures next { (c : Context) (trace : List ℕ) → (shows_instructions addr count (present c trace (memory_of_user pool.now user))).next
         ≡ Some (present c trace (memory_of_user pool.now user)) }
-    ensures reply { (images : List NamedImage) (c : Context) (trace : List ℕ) → reply.new
-        ≡ text (48 + user) (outcome images c trace (memory_of_user pool.now user) (Cmd.Dis addr count)).lines }
+    ensures reply { (c : Context) (trace : List ℕ) → reply.new
+        ≡ text (48 + user) (shows_instructions addr count (present c trace (memory_of_user pool.now user))).lines }
 {
-    let mut buffer = [0; MAX_SHOWN];
+    let count = count.get();
+    let mut buffer = [0; MAX_SHOWN * WORD_SIZE];
     show_words(
         pool,
         user,
@@ -125,7 +151,7 @@ pub fn show_instructions<A: Allocator>(
 }
 
 /// The bytes of the image of a name.
-#[tactic(auto, unfolding(rv_model::specs::machine::PrivateMachine::image_named))]
+#[tactic(auto, unfolding(rv_model::specs::commands::Programs::image_named))]
 fn image_named<'a>(images: &[Image<'a>], name: &[u8]) -> Option<&'a [u8]>
     ensures { MatchOption result (image_named_of (named_images images.now) name.now ≡ None)
         (λ bytes. image_named_of (named_images images.now) name.now ≡ Some bytes.now) }
@@ -151,12 +177,11 @@ fn load_plan<A: Allocator>(
     requires present { context.old.entered ≡ true }
     requires clear { reply.old ≡ [] }
     requires within { user - 1 < length pool.old }
-    ensures next { (images : List NamedImage) (name : List ℕ) → image_named_of images name ≡ Some plan.now
-        → private_of context.new trace.new (memory_of_user pool.new user)
-        ≡ (outcome images context.old trace.old (memory_of_user pool.old user) (Cmd.Load name)).next }
+    ensures next { private_of context.new trace.new (memory_of_user pool.new user)
+        ≡ (loading plan.now None (present context.old trace.old (memory_of_user pool.old user))).next }
     ensures others { pool.new ≡ with_memory pool.old user (memory_of_user pool.new user) }
-    ensures reply { (images : List NamedImage) (name : List ℕ) → image_named_of images name ≡ Some plan.now
-        → reply.new ≡ text (48 + user) (outcome images context.old trace.old (memory_of_user pool.old user) (Cmd.Load name)).lines }
+    ensures reply { reply.new
+        ≡ text (48 + user) (loading plan.now None (present context.old trace.old (memory_of_user pool.old user))).lines }
 {
     match place(plan, user, pool) {
         Ok(entry) => {
@@ -170,24 +195,24 @@ fn load_plan<A: Allocator>(
 
 /// `load`: the user's machine begins anew with the memory of an image. A refused `load` changes
 /// nothing.
-#[tactic(auto, using(crate::proofs::CommandLaws::entered_as, crate::specs::Lenders::same_memory, crate::proofs::ProgramLaws::load_unknown, crate::proofs::ProgramLaws::load_faulty))]
-pub fn load<A: Allocator>(
+#[tactic(auto, using(crate::proofs::PartLaws::entered_as, crate::specs::Lenders::same_memory, crate::proofs::ProgramOutcomes::loads_unknown, crate::proofs::ProgramOutcomes::loads_faulty, crate::proofs::ProgramOutcomes::loads_sound))]
+fn load<A: Allocator>(
     images: &[Image<'_>],
     context: &mut Context,
     trace: &mut Trace<A>,
     pool: &mut Pool<A>,
     user: User,
-    name: &Text<'_>,
+    name: &LinePart<'_>,
     reply: &mut Reply,
 )
     requires present { context.old.entered ≡ true }
     requires clear { reply.old ≡ [] }
     requires within { user - 1 < length pool.old }
     ensures next { private_of context.new trace.new (memory_of_user pool.new user)
-        ≡ (outcome (named_images images.now) context.old trace.old (memory_of_user pool.old user) (Cmd.Load name.now)).next }
+        ≡ (loads (named_images images.now) name.now (present context.old trace.old (memory_of_user pool.old user))).next }
     ensures others { pool.new ≡ with_memory pool.old user (memory_of_user pool.new user) }
     ensures reply { reply.new
-        ≡ text (48 + user) (outcome (named_images images.now) context.old trace.old (memory_of_user pool.old user) (Cmd.Load name.now)).lines }
+        ≡ text (48 + user) (loads (named_images images.now) name.now (present context.old trace.old (memory_of_user pool.old user))).lines }
 {
     let Some(image) = image_named(images, name.as_slice()) else {
         monitor_cmds::refused(reply, Tag::User(user), Refusal::ImageName);
