@@ -1,4 +1,5 @@
 pub mod CommandLaws
+pub mod DeviceLaws
 pub mod EndedLaws
 pub mod Feeding
 pub mod LineBuffer
