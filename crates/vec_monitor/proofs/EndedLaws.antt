@@ -120,3 +120,10 @@ output_of_all m s =
     ∙ ap (λ (x : List ℕ). x ++ line_output (after_lines m t.before) t.last) t.output
     ∙ sym (told_all-push m.setup m.world t.before t.last)
     ∙ ap (lines_output m) (sym t.all)
+
+-- no text is without a piece
+pub some_piece : (m : MachineState) (s : List ℕ) → pieces s ≡ [] → ⊥
+some_piece m s none =
+    let t = from_start_leaves m s in
+    let e = ap length (sym t.all ∙ none) in
+    omega (arith, length-append t.before (t.last ∷ []), e)

@@ -1,3 +1,4 @@
+pub mod DeviceLaws
 pub mod EndedLaws
 pub mod Feeding
 pub mod LineBuffer

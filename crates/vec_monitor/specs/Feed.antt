@@ -1,5 +1,5 @@
 -- A script taken byte by byte, as a machine gets it from a source. The contracts of inner functions cite this.
-use Rattle.std.specs.Prelude.{ℕ, List, [], ◌∷◌, ◌++◌, take, if◌then◌else◌}
+use Rattle.std.specs.Prelude.{ℕ, ◌≡◌, ◌<◌, List, [], ◌∷◌, ◌++◌, length, take, if◌then◌else◌}
 use Rattle.rv_model.specs.text.Lines.{is_newline}
 use Rattle.vec_monitor.specs.MachineState.{MachineState, after_line, line_output}
 
@@ -26,3 +26,14 @@ fed m line (b ∷ bs) =
     let one = feed m line b in
     let rest = fed one.machine one.line bs in
     record { machine = rest.machine; line = rest.line; output = one.output ++ rest.output }
+
+-- the machine and the line before a newline among some bytes, where the answer to that line wasn't written whole: what went out
+-- ends within it, and the machine stands after the line
+pub record Cut (m : MachineState) (line bytes : List ℕ) (took : List ℕ → Type 0) (now : MachineState) : Type 0 where
+  pub front : List ℕ
+  pub back : List ℕ
+  pub count : ℕ
+  pub newline : bytes ≡ front ++ 10 ∷ back
+  pub machine : now ≡ after_line (fed m line front).machine (fed m line front).line
+  pub less : count < length (line_output (fed m line front).machine (fed m line front).line)
+  pub output : took ((fed m line front).output ++ take count (line_output (fed m line front).machine (fed m line front).line))

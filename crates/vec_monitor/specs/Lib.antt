@@ -1,6 +1,7 @@
 pub mod Addressees
 pub mod Device
 pub mod EndedLines
+pub mod FailedWrites
 pub mod Feed
 pub mod Images
 pub mod Lenders

@@ -1,7 +1,7 @@
 //! A script, byte by byte.
-ghost use Rattle.std.specs.Prelude.{◌≡◌, ℕ, ◌<◌, ◌≤◌, ◌++◌, [], ◌∷◌, List, length, take, OnOk, OnErr};
+ghost use Rattle.std.specs.Prelude.{◌≡◌, ℕ, ◌<◌, length, take, OnOk, OnErr};
 ghost use Rattle.vec_monitor.specs.Device.{Rose};
-ghost use Rattle.vec_monitor.specs.Feed.{feed, fed};
+ghost use Rattle.vec_monitor.specs.Feed.{feed, fed, Cut};
 ghost use Rattle.vec_monitor.specs.MachineState.{after_line, line_output};
 
 use crate::device::{DeviceFault, Sink};
@@ -11,13 +11,12 @@ use monitor_cmds::Reply;
 use std::alloc::Allocator;
 
 /// Writes all the bytes.
-pub fn write_all<K: Sink>(sink: &mut K, bytes: &[u8]) -> Result<(), DeviceFault>
-    ensures tells { K.tells sink.old → K.tells sink.new }
-    ensures ok { K.tells sink.old → OnOk result (K.held sink.new ≡ K.held sink.old ++ bytes.now) }
+fn write_all<K: Sink>(sink: &mut K, bytes: &[u8]) -> Result<(), DeviceFault>
+    ensures ok { OnOk result (K.took sink.old bytes.now sink.new) }
     ensures unfailed { OnOk result (K.failures sink.new ≡ K.failures sink.old) }
     ensures cause { OnErr result (Rose (K.failures sink.old) (K.failures sink.new)) }
-    ensures part { K.tells sink.old → OnErr result ((n : ℕ) × (K.held sink.new
-        ≡ K.held sink.old ++ take n bytes.now)) }
+    ensures part { OnErr result ((n : ℕ) × ((n < length bytes.now)
+        × K.took sink.old (take n bytes.now) sink.new)) }
 {
     let mut at = 0;
     while at < bytes.len() {
@@ -27,7 +26,7 @@ pub fn write_all<K: Sink>(sink: &mut K, bytes: &[u8]) -> Result<(), DeviceFault>
 }
 
 /// Answers a line, and writes the answer.
-pub fn serve<A: Allocator, K: Sink>(
+pub(crate) fn serve<A: Allocator, K: Sink>(
     machine: &mut Machine<'_, A>,
     line: &[u8],
     reply: &mut Reply,
@@ -35,13 +34,12 @@ pub fn serve<A: Allocator, K: Sink>(
 ) -> Result<(), DeviceFault>
     ensures machine { machine.new ≡ after_line machine.old line.now }
     ensures setup { machine.new.setup ≡ machine.old.setup }
-    ensures tells { K.tells sink.old → K.tells sink.new }
-    ensures ok { K.tells sink.old → OnOk result (K.held sink.new
-        ≡ K.held sink.old ++ line_output machine.old line.now) }
-    ensures part { K.tells sink.old → OnErr result ((n : ℕ) × (
-        K.held sink.new ≡ K.held sink.old ++ take n (line_output machine.old line.now))) }
+    ensures eight { length machine.new.world.parts ≡ 8 }
+    ensures ok { OnOk result (K.took sink.old (line_output machine.old line.now) sink.new) }
     ensures unfailed { OnOk result (K.failures sink.new ≡ K.failures sink.old) }
     ensures cause { OnErr result (Rose (K.failures sink.old) (K.failures sink.new)) }
+    ensures part { OnErr result ((n : ℕ) × ((n < length (line_output machine.old line.now))
+        × K.took sink.old (take n (line_output machine.old line.now)) sink.new)) }
 {
     machine.answer(line, reply);
     write_all(sink, reply.as_slice())
@@ -49,7 +47,7 @@ pub fn serve<A: Allocator, K: Sink>(
 
 /// Takes one byte of a script.
 #[tactic(auto, unfolding(crate::specs::Feed::feed))]
-pub fn take_byte<A: Allocator, K: Sink>(
+fn take_byte<A: Allocator, K: Sink>(
     machine: &mut Machine<'_, A>,
     line: &mut Line,
     byte: u8,
@@ -59,14 +57,13 @@ pub fn take_byte<A: Allocator, K: Sink>(
     ensures machine { OnOk result (machine.new ≡ (feed machine.old line.old byte).machine) }
     ensures setup { machine.new.setup ≡ machine.old.setup }
     ensures line { OnOk result (line.new ≡ (feed machine.old line.old byte).line) }
-    ensures tells { K.tells sink.old → K.tells sink.new }
-    ensures ok { K.tells sink.old → OnOk result (K.held sink.new
-        ≡ K.held sink.old ++ (feed machine.old line.old byte).output) }
+    ensures ok { OnOk result (
+        K.took sink.old (feed machine.old line.old byte).output sink.new) }
+    ensures unfailed { OnOk result (K.failures sink.new ≡ K.failures sink.old) }
     ensures newline { OnErr result (byte ≡ 10) }
     ensures carried_out { OnErr result (machine.new ≡ after_line machine.old line.old) }
-    ensures part { K.tells sink.old → OnErr result ((n : ℕ) × (
-        K.held sink.new ≡ K.held sink.old ++ take n (line_output machine.old line.old))) }
-    ensures unfailed { OnOk result (K.failures sink.new ≡ K.failures sink.old) }
+    ensures part { OnErr result ((n : ℕ) × ((n < length (line_output machine.old line.old))
+        × K.took sink.old (take n (line_output machine.old line.old)) sink.new)) }
     ensures cause { OnErr result (Rose (K.failures sink.old) (K.failures sink.new)) }
 {
     if byte != b'\n' {
@@ -80,7 +77,7 @@ pub fn take_byte<A: Allocator, K: Sink>(
 
 /// Takes bytes of a script, and writes the answer to each line that ends in them before the next
 /// byte is taken.
-pub fn take_bytes<A: Allocator, K: Sink>(
+pub(crate) fn take_bytes<A: Allocator, K: Sink>(
     machine: &mut Machine<'_, A>,
     line: &mut Line,
     bytes: &[u8],
@@ -90,17 +87,11 @@ pub fn take_bytes<A: Allocator, K: Sink>(
     ensures machine { OnOk result (machine.new ≡ (fed machine.old line.old bytes.now).machine) }
     ensures setup { machine.new.setup ≡ machine.old.setup }
     ensures line { OnOk result (line.new ≡ (fed machine.old line.old bytes.now).line) }
-    ensures tells { K.tells sink.old → K.tells sink.new }
-    ensures ok { K.tells sink.old → OnOk result (K.held sink.new
-        ≡ K.held sink.old ++ (fed machine.old line.old bytes.now).output) }
-    // The bytes before the newline of the line whose answer couldn't be written whole.
-    ensures part { OnErr result ((front : List ℕ) × ((back : List ℕ) × (
-        (bytes.now ≡ front ++ 10 ∷ back)
-        × (machine.new ≡ after_line (fed machine.old line.old front).machine (fed machine.old line.old front).line)
-        × (K.tells sink.old → (n : ℕ) × (K.held sink.new
-        ≡ (K.held sink.old ++ (fed machine.old line.old front).output)
-        ++ take n (line_output (fed machine.old line.old front).machine (fed machine.old line.old front).line)))))) }
+    ensures ok { OnOk result (
+        K.took sink.old (fed machine.old line.old bytes.now).output sink.new) }
     ensures unfailed { OnOk result (K.failures sink.new ≡ K.failures sink.old) }
+    ensures cut { OnErr result (
+        Cut machine.old line.old bytes.now (λ xs. K.took sink.old xs sink.new) machine.new) }
     ensures cause { OnErr result (Rose (K.failures sink.old) (K.failures sink.new)) }
 {
     for byte in bytes {

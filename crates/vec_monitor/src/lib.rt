@@ -7,6 +7,8 @@ mod command_tests;
 mod commands;
 mod context;
 mod device;
+#[cfg(test)]
+mod device_tests;
 mod entering;
 mod feed;
 mod image;

@@ -26,6 +26,7 @@ pub struct Machine<'a, A: Allocator = Global> {
 
 impl<'a, A: Allocator> Model for Machine<'a, A> {
     ghost use Rattle.std.specs.Coded.{codes};
+    ghost use Rattle.std.specs.Prelude.{◌≡◌, length};
     ghost use Rattle.rv_model.specs.memory.Memory.{coded_memory};
     ghost use Rattle.vec_monitor.specs.Images.{setup_of};
     ghost use Rattle.vec_monitor.specs.MachineState.{MachineState};
@@ -35,6 +36,8 @@ impl<'a, A: Allocator> Model for Machine<'a, A> {
     ghost coded = { Prim.hlevel (codes, coded_memory) };
 
     ghost view = { λ m. record { setup = setup_of m.quantum m.images.now; world = m.users } };
+
+    ghost invariant = { λ m. length m.users.parts ≡ 8 };
 }
 
 impl<'a, A: Allocator> Machine<'a, A> {
@@ -70,33 +73,28 @@ impl<'a, A: Allocator> Machine<'a, A> {
         ensures world { self.new.world
             ≡ with_part user (event self.old.setup (part user self.old.world) (Command line.now)).next self.old.world }
         ensures setup { self.new.setup ≡ self.old.setup }
+        ensures eight { length self.new.world.parts ≡ 8 }
         ensures reply { reply.new
             ≡ text (48 + user) (event self.old.setup (part user self.old.world) (Command line.now)).lines }
     {
         self.users.command(self.images, user, line, reply);
     }
 
-    /// The number of users, eight whatever the machine has been through.
-    pub fn users(&self) -> usize
-        ensures eight { result ≡ 8 }
-        ensures parts { result ≡ length self.now.world.parts }
-    {
-        self.users.count()
-    }
-
     /// Answers one line of a script.
     #[tactic(auto, unfolding(rv_model::specs::machine::Script::after, rv_model::specs::machine::Script::told, rv_model::specs::machine::Script::common))]
     pub fn answer(&mut self, line: &[u8], reply: &mut Reply)
         ensures machine { self.new ≡ after_line self.old line.now }
+        ensures eight { length self.new.world.parts ≡ 8 }
         ensures reply { reply.new ≡ line_output self.old line.now }
     {
         reply.clear();
+        let images = self.images;
         match addressee_of(line) {
             Addressee::Nobody => {}
             Addressee::TooLong => monitor_cmds::line_too_long(reply),
             Addressee::BadPrefix => monitor_cmds::bad_prefix(reply),
             Addressee::Operator => monitor_cmds::unknown_operator_command(reply),
-            Addressee::User(user) => self.command(user, &line[2..], reply),
+            Addressee::User(user) => self.users.command(images, user, &line[2..], reply),
         }
     }
 }

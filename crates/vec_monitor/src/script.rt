@@ -1,10 +1,12 @@
 //! A whole script.
-ghost use Rattle.std.specs.Prelude.{◌≡◌, ℕ, ◌<◌, ◌≤◌, ◌++◌, [], ◌∷◌, List, Err, length, take, OnOk};
+ghost use Rattle.std.specs.Prelude.{◌≡◌, ◌≢◌, ℕ, ◌+◌, ◌<◌, ◌≤◌, List, Err, length, take, OnOk, IfOk};
 ghost use Rattle.rv_model.specs.machine.PrivateMachine.{solo, solo_from};
-ghost use Rattle.rv_model.specs.machine.Script.{after, after_all, told, told_all, whole_from, after_script, lines, part, own, own_from, new_world};
-ghost use Rattle.rv_model.specs.text.Lines.{pieces};
+ghost use Rattle.rv_model.specs.machine.Script.{after_all, told_all, whole_from, after_script, lines, part, own, own_from, new_world};
 ghost use Rattle.vec_monitor.specs.Device.{Rose};
 ghost use Rattle.vec_monitor.specs.EndedLines.{ended_lines};
+ghost use Rattle.vec_monitor.specs.FailedWrites.{CutShort};
+ghost use Rattle.vec_monitor.specs.Feed.{fed, Cut};
+ghost use Rattle.vec_monitor.specs.MachineState.{after_line, line_output};
 
 use crate::device::{Sink, Source};
 use crate::feed::{serve, take_bytes};
@@ -31,6 +33,67 @@ pub enum RunFault {
 /// The most bytes that a script may have.
 pub const MAX_SCRIPT: usize = 16_777_216;
 
+/// Takes a piece of a script that may go on by `left` bytes, and answers by how many it may go on
+/// after it. Of a longer piece only the first `left` bytes are taken.
+fn take_piece<A: Allocator, K: Sink>(
+    machine: &mut Machine<'_, A>,
+    line: &mut Line,
+    piece: &[u8],
+    left: usize,
+    reply: &mut Reply,
+    sink: &mut K,
+) -> Result<usize, RunFault>
+    ensures left { IfOk result (λ n. n + length piece.now ≡ left) }
+    ensures machine { OnOk result (machine.new ≡ (fed machine.old line.old piece.now).machine) }
+    ensures setup { machine.new.setup ≡ machine.old.setup }
+    ensures line { OnOk result (line.new ≡ (fed machine.old line.old piece.now).line) }
+    ensures ok { OnOk result (
+        K.took sink.old (fed machine.old line.old piece.now).output sink.new) }
+    ensures unfailed { OnOk result (K.failures sink.new ≡ K.failures sink.old) }
+    ensures long { result ≡ Err RunFault.TooLong → left < length piece.now }
+    ensures machine_long { result ≡ Err RunFault.TooLong →
+        machine.new ≡ (fed machine.old line.old (take left piece.now)).machine }
+    ensures output_long { result ≡ Err RunFault.TooLong →
+        K.took sink.old (fed machine.old line.old (take left piece.now)).output sink.new }
+    ensures cut { result ≡ Err RunFault.Write → Cut machine.old line.old (take left piece.now)
+        (λ xs. K.took sink.old xs sink.new) machine.new }
+    ensures cause { result ≡ Err RunFault.Write → Rose (K.failures sink.old) (K.failures sink.new) }
+    ensures never_read { result ≢ Err RunFault.Read }
+{
+    let taken = piece.len().min(left);
+    let Ok(()) = take_bytes(machine, line, &piece[..taken], reply, sink) else {
+        return Err(RunFault::Write);
+    };
+    if taken < piece.len() {
+        return Err(RunFault::TooLong);
+    }
+    Ok(left - taken)
+}
+
+/// Answers the last line, which ends with the script.
+fn end_script<A: Allocator, K: Sink>(
+    machine: &mut Machine<'_, A>,
+    line: &Line,
+    reply: &mut Reply,
+    sink: &mut K,
+) -> Result<(), RunFault>
+    ensures machine { machine.new ≡ after_line machine.old line.now }
+    ensures setup { machine.new.setup ≡ machine.old.setup }
+    ensures eight { length machine.new.world.parts ≡ 8 }
+    ensures ok { OnOk result (K.took sink.old (line_output machine.old line.now) sink.new) }
+    ensures unfailed { OnOk result (K.failures sink.new ≡ K.failures sink.old) }
+    ensures part { result ≡ Err RunFault.Write → (n : ℕ) × ((n < length (line_output machine.old line.now))
+        × K.took sink.old (take n (line_output machine.old line.now)) sink.new) }
+    ensures cause { result ≡ Err RunFault.Write → Rose (K.failures sink.old) (K.failures sink.new) }
+    ensures never_read { result ≢ Err RunFault.Read }
+    ensures never_too_long { result ≢ Err RunFault.TooLong }
+{
+    let Ok(()) = serve(machine, line.as_slice(), reply, sink) else {
+        return Err(RunFault::Write);
+    };
+    Ok(())
+}
+
 /// Runs a script from the source to its end, and writes each line's answer to the sink before it
 /// reads on. The machine may be used again, also after a fault.
 pub fn run<A: Allocator, S: Source, K: Sink>(
@@ -38,56 +101,49 @@ pub fn run<A: Allocator, S: Source, K: Sink>(
     source: &mut S,
     sink: &mut K,
 ) -> Result<(), RunFault>
-    ensures end { S.tells source.old → OnOk result (S.rest source.new ≡ []) }
-    ensures unfailed_source { OnOk result (S.failures source.new ≡ S.failures source.old) }
-    ensures unfailed_sink { OnOk result (K.failures sink.new ≡ K.failures sink.old) }
-    ensures output { S.tells source.old → K.tells sink.old → OnOk result (
-        K.held sink.new ≡ K.held sink.old ++ whole_from machine.old.setup machine.old.world (S.rest source.old)) }
-    ensures world { S.tells source.old → OnOk result (
-        machine.new.world ≡ after_script machine.old.setup machine.old.world (S.rest source.old)) }
+    // The source came to its end, and what it gave is the script.
+    ensures ok { OnOk result ((script : List ℕ) × (
+        S.gave source.old script source.new × S.ended source.new × (length script ≤ 16777216)
+        × (machine.new.world ≡ after_script machine.old.setup machine.old.world script)
+        × K.took sink.old (whole_from machine.old.setup machine.old.world script) sink.new)) }
     ensures setup { machine.new.setup ≡ machine.old.setup }
     // Each user's lines are those of a private machine that is given that user's events alone.
-    ensures headline { machine.old.world ≡ new_world → S.tells source.old → K.tells sink.old →
-        OnOk result (
-        (output : List ℕ) → K.held sink.new ≡ K.held sink.old ++ output → (u : ℕ) → 1 ≤ u → u ≤ 8 →
-        lines u output ≡ solo machine.old.setup (own machine.old.setup u (S.rest source.old))) }
+    ensures headline { machine.old.world ≡ new_world → OnOk result (
+        (script : List ℕ) × ((output : List ℕ) × (
+        S.gave source.old script source.new × S.ended source.new × K.took sink.old output sink.new
+        × ((u : ℕ) → 1 ≤ u → u ≤ 8 →
+        lines u output ≡ solo machine.old.setup (own machine.old.setup u script))))) }
     // The same for a machine that has been used.
-    ensures used_headline { S.tells source.old → K.tells sink.old → OnOk result (
-        (output : List ℕ) → K.held sink.new ≡ K.held sink.old ++ output → (u : ℕ) → 1 ≤ u → u ≤ 8 →
+    ensures used_headline { OnOk result ((script : List ℕ) × ((output : List ℕ) × (
+        S.gave source.old script source.new × S.ended source.new × K.took sink.old output sink.new
+        × ((u : ℕ) → 1 ≤ u → u ≤ 8 →
         lines u output ≡ solo_from machine.old.setup (part u machine.old.world)
-        (own_from machine.old.setup u machine.old.world (S.rest source.old))) }
+        (own_from machine.old.setup u machine.old.world script))))) }
+    ensures unfailed_source { OnOk result (S.failures source.new ≡ S.failures source.old) }
+    ensures unfailed_sink { OnOk result (K.failures sink.new ≡ K.failures sink.old) }
     ensures read { result ≡ Err RunFault.Read →
         Rose (S.failures source.old) (S.failures source.new) }
-    ensures write { result ≡ Err RunFault.Write → Rose (K.failures sink.old) (K.failures sink.new) }
-    ensures too_long { S.tells source.old → result ≡ Err RunFault.TooLong →
-        16777216 < length (S.rest source.old) }
     // After a failed read, the lines whose end was read have been carried out and answered, and no
     // other.
-    ensures after_read { S.tells source.old → result ≡ Err RunFault.Read → (text : List ℕ) × (
-        (S.rest source.old ≡ text ++ S.rest source.new)
+    ensures after_read { result ≡ Err RunFault.Read → (text : List ℕ) × (
+        S.gave source.old text source.new × (length text ≤ 16777216)
         × (machine.new.world ≡ after_all machine.old.setup machine.old.world (ended_lines text))
-        × (K.tells sink.old → K.held sink.new
-        ≡ K.held sink.old ++ told_all machine.old.setup machine.old.world (ended_lines text))) }
-    // After too long a script, the lines that end in its first 16,777,216 bytes.
-    ensures after_too_long { S.tells source.old → result ≡ Err RunFault.TooLong →
-        machine.new.world ≡ after_all machine.old.setup machine.old.world
-        (ended_lines (take 16777216 (S.rest source.old))) }
-    ensures output_after_too_long { S.tells source.old → K.tells sink.old →
-        result ≡ Err RunFault.TooLong →
-        K.held sink.new ≡ K.held sink.old ++ told_all machine.old.setup machine.old.world
-        (ended_lines (take 16777216 (S.rest source.old))) }
-    // After a failed write, the lines before some line have been carried out and answered whole;
-    // that line has been carried out, and a front of its answer has been written.
-    ensures after_write { S.tells source.old → result ≡ Err RunFault.Write →
-        (before : List (List ℕ)) × ((line : List ℕ) × ((more : List (List ℕ)) × (
-        (pieces (S.rest source.old) ≡ before ++ line ∷ more)
-        × (machine.new.world ≡ after machine.old.setup (after_all machine.old.setup machine.old.world before) line)
-        × (K.tells sink.old → (n : ℕ) × (K.held sink.new
-        ≡ (K.held sink.old ++ told_all machine.old.setup machine.old.world before)
-        ++ take n (told machine.old.setup (after_all machine.old.setup machine.old.world before) line)))))) }
+        × K.took sink.old (told_all machine.old.setup machine.old.world (ended_lines text)) sink.new) }
+    // After too long a script, the lines that end in its first 16,777,216 bytes. At most 512 bytes
+    // more were read.
+    ensures after_too_long { result ≡ Err RunFault.TooLong → (text : List ℕ) × (
+        S.gave source.old text source.new × ¬ (S.ended source.new)
+        × (16777216 < length text) × (length text ≤ 16777728)
+        × (machine.new.world ≡ after_all machine.old.setup machine.old.world
+        (ended_lines (take 16777216 text)))
+        × K.took sink.old (told_all machine.old.setup machine.old.world
+        (ended_lines (take 16777216 text))) sink.new) }
+    ensures write { result ≡ Err RunFault.Write → Rose (K.failures sink.old) (K.failures sink.new) }
+    // After a failed write, some line's answer went out up to a point before its end.
+    ensures after_write { result ≡ Err RunFault.Write → (text : List ℕ) × (
+        S.gave source.old text source.new
+        × CutShort machine.old text (S.ended source.new) machine.new.world (λ output. K.took sink.old output sink.new)) }
 {
-    // The headline rests on there being eight users.
-    let _ = machine.users();
     let mut left = MAX_SCRIPT;
     let mut line = Line::new();
     let mut reply = Reply::new();
@@ -97,18 +153,8 @@ pub fn run<A: Allocator, S: Source, K: Sink>(
             return Err(RunFault::Read);
         };
         if count == 0 {
-            let Ok(()) = serve(machine, line.as_slice(), &mut reply, sink) else {
-                return Err(RunFault::Write);
-            };
-            return Ok(());
+            return end_script(machine, &line, &mut reply, sink);
         }
-        let taken = count.min(left);
-        let Ok(()) = take_bytes(machine, &mut line, &chunk[..taken], &mut reply, sink) else {
-            return Err(RunFault::Write);
-        };
-        if taken < count {
-            return Err(RunFault::TooLong);
-        }
-        left -= count;
+        left = take_piece(machine, &mut line, &chunk[..count], left, &mut reply, sink)?;
     }
 }

@@ -1,5 +1,8 @@
-//! A reader as a source, and a writer as a sink.
-ghost use Rattle.std.specs.Prelude.{◌≡◌, ℕ, IsSome, unwrap_or, []};
+//! A reader as a source, and a writer as a sink. Of a file or a terminal nothing is known, and it
+//! may give and take any bytes.
+ghost use Rattle.std.specs.Prelude.{◌≡◌, ℕ, true};
+ghost use Rattle.std.specs.Io.KnownBytes.{Appends, Consumes, IsAtEnd};
+ghost use Rattle.std.proofs.KnownBytes.{Appends-nil, Appends-trans, Consumes-nil, Consumes-trans};
 
 use crate::{DeviceFault, Sink, Source};
 use std::io::{Read, Write};
@@ -8,6 +11,7 @@ use std::io::{Read, Write};
 #[derive(Drop)]
 pub struct ReaderSource<R> {
     reader: R,
+    at_end: bool,
     failures: u64,
 }
 
@@ -19,27 +23,35 @@ impl<R> ReaderSource<R> {
     {
         ReaderSource {
             reader,
+            at_end: false,
             failures: 0,
         }
     }
 }
 
 impl<R: Read> Source for ReaderSource<R> {
-    ghost tells = { λ s. IsSome (R.remaining s.reader) };
+    ghost gave = { λ a xs b. Consumes (R.remaining a.reader) (R.remaining b.reader) xs };
 
-    ghost rest = { λ s. unwrap_or (R.remaining s.reader) [] };
+    ghost ended = { λ s. (s.at_end ≡ true) × IsAtEnd (R.remaining s.reader) };
 
     ghost failures = { λ s. s.failures };
 
     fn read(&mut self, buffer: &mut [u8]) -> Result<usize, DeviceFault> {
         match self.reader.read(buffer) {
-            Ok(count) => Ok(count),
+            Ok(count) => {
+                self.at_end = count == 0;
+                Ok(count)
+            }
             Err(_) => {
                 self.failures = self.failures.saturating_add(1);
                 Err(DeviceFault)
             }
         }
     }
+
+    ghost gave_none = { λ s. Consumes-nil (R.remaining s.reader) };
+
+    ghost gave_more = { λ a b c xs ys. Consumes-trans (R.remaining a.reader) (R.remaining b.reader) (R.remaining c.reader) xs ys };
 }
 
 /// A writer as a sink.
@@ -63,9 +75,7 @@ impl<W> WriterSink<W> {
 }
 
 impl<W: Write> Sink for WriterSink<W> {
-    ghost tells = { λ s. IsSome (W.contents s.writer) };
-
-    ghost held = { λ s. unwrap_or (W.contents s.writer) [] };
+    ghost took = { λ a xs b. Appends (W.contents a.writer) (W.contents b.writer) xs };
 
     ghost failures = { λ s. s.failures };
 
@@ -78,4 +88,8 @@ impl<W: Write> Sink for WriterSink<W> {
             }
         }
     }
+
+    ghost took_none = { λ s. Appends-nil (W.contents s.writer) };
+
+    ghost took_more = { λ a b c xs ys. Appends-trans (W.contents a.writer) (W.contents b.writer) (W.contents c.writer) xs ys };
 }

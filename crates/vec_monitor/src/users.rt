@@ -112,13 +112,4 @@ impl<A: Allocator> Users<A> {
             Err(refusal) => monitor_cmds::refused(reply, Tag::User(user), refusal),
         }
     }
-
-    /// How many there are, whatever happened.
-    pub fn count(&self) -> usize
-        ensures eight { result ≡ 8 }
-        ensures parts { result ≡ length self.now.parts }
-    {
-        let contexts = &self.contexts;
-        contexts.len()
-    }
 }

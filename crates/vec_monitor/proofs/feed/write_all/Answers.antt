@@ -1,6 +1,7 @@
-use Rattle.std.proofs.Common.{◌≡◌, ℕ, ◌++◌, List, length, take, drop, ◌-◌, ap, ◌∙◌, sym, append_assoc, arith, length-drop}
+use Rattle.std.proofs.Common.{◌≡◌, ℕ, ◌+◌, ◌<◌, ◌++◌, List, length, take, drop, ◌-◌, ap, ◌∙◌, sym, append-nil, arith, length-drop}
 use Rattle.std.proofs.lemmas.List.{take_rest}
 use Rattle.std.proofs.Math.Seq.{take-add}
+use Rattle.vec_monitor.proofs.Feeding.{moved, on_err}
 use Rattle.vec_monitor.proofs.feed.write_all.Goals as goal
 
 pub loop-at-preserved : goal.loop-at-preserved
@@ -10,14 +11,19 @@ loop-at-preserved g c =
     let n : ℕ = c.in_ok-at.field-0 in
     let shown : take (length bytes - at) (drop at bytes) ≡ drop at bytes = take_rest bytes at in
     let bound = c.in_ok-at.ensures.bound in
+    let both : take at bytes ++ take n (take (length bytes - at) (drop at bytes)) ≡ take (at + n) bytes =
+    ap (λ (l : List ℕ). take at bytes ++ take n l) shown ∙ sym (take-add at n bytes) in
     record {
-      tells = λ t. c.write.ensures.tells (c.loop-at.invariant.tells t);
-      front = λ t.
-          c.in_ok-at.ensures.took (c.loop-at.invariant.tells t)
-          ∙ ap (λ (l : List ℕ). g.K.Sink.held c.loop-at.sink ++ take n l) shown
-          ∙ ap (λ (l : List ℕ). l ++ take n (drop at bytes)) (c.loop-at.invariant.front t)
-          ∙ append_assoc (g.K.Sink.held c.args.sink.now) (take at bytes) (take n (drop at bytes))
-          ∙ ap (λ (l : List ℕ). g.K.Sink.held c.args.sink.now ++ l) (sym (take-add at n bytes));
+      front = moved g.K.Sink.took _ _ _ _ both (g.met.K.Sink.took_more _ _ _ _ _ c.loop-at.invariant.front c.in_ok-at.ensures.bytes);
       within = omega (arith, bound, ap length shown, length-drop at bytes);
       count = c.in_ok-at.ensures.count ∙ c.loop-at.invariant.count;
     }
+
+pub returns-in_err-at-clause-part : goal.returns-in_err-at-clause-part
+returns-in_err-at-clause-part g c =
+    let at : ℕ = c.loop-at.at in
+    let less : at < length c.args.bytes.now = omega arith in
+    on_err c.from_residual.result (
+      at,
+      (less, moved g.K.Sink.took _ _ _ _ (append-nil (take at c.args.bytes.now)) (g.met.K.Sink.took_more _ _ _ _ _ c.loop-at.invariant.front c.in_err-at.ensures.kept)),
+    )

@@ -1,11 +1,10 @@
-use Rattle.std.proofs.Common.{length, ◌-◌, ◌≡◌, ◌≤◌, ◌++◌, take}
+use Rattle.std.proofs.Common.{length, ◌-◌, ◌≡◌, ◌≤◌, take}
 use Rattle.vec_monitor.proofs.feed.write_all.Given as goal
 
--- the sink has the front that was written
+-- the sink took the front that was written
 abbrev pub invariant-loop-at : goal.invariant-loop-at
 invariant-loop-at g l = record {
-  tells : g.K.Sink.tells l.fn.sink → g.K.Sink.tells l.sink;
-  front : g.K.Sink.tells l.fn.sink → g.K.Sink.held l.sink ≡ g.K.Sink.held l.fn.sink ++ take l.at l.bytes;
+  front : g.K.Sink.took l.fn.sink (take l.at l.bytes) l.sink;
   within : l.at ≤ length l.bytes;
   count : g.K.Sink.failures l.sink ≡ g.K.Sink.failures l.fn.sink;
 }
