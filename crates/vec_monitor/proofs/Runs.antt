@@ -3,8 +3,8 @@ use Rattle.std.proofs.Common.{◌≡◌, ℕ, ◌+◌, ◌-◌, ◌<◌, ◌≤�
 use Rattle.std.proofs.lemmas.List.{get_or-replicate, take_all}
 use Rattle.std.proofs.Math.Seq.{take-append-add}
 use Rattle.rv_model.specs.machine.Setup.{Setup}
-use Rattle.rv_model.specs.machine.Script.{World, after, after_all, after_events, with_part, events_of, kind_of, told, told_all, whole_from, after_script, lines, part, own, own_from, new_world}
-use Rattle.rv_model.specs.machine.PrivateMachine.{Private, Event, event, solo, solo_from}
+use Rattle.rv_model.specs.machine.Script.{World, Happening, outcome_of, after_one, after, after_all, after_events, with_part, events_of, kind_of, told, told_all, whole_from, after_script, lines, part, own, own_from, new_world}
+use Rattle.rv_model.specs.machine.PrivateMachine.{Private, solo, solo_from}
 use Rattle.rv_model.specs.text.Lines.{pieces}
 use Rattle.rv_model.proofs.machine_lemmas.Headline.{headline}
 use Rattle.vec_monitor.specs.MachineState.{MachineState, after_line, line_output}
@@ -135,11 +135,17 @@ cut_in_piece m0 front piece Ended m m' line left Before Took s cut joined =
     (subst Took (sym (append_assoc out one.output part) ∙ ap (λ (x : List ℕ). x ++ part) (sym on.output)) (joined (one.output ++ part) cut.output))
 
 -- a script changes no number of machines
-parts_after_events : (s : Setup) (w : World) (es : List (ℕ × Event)) → length (after_events s w es).parts ≡ length w.parts
+parts_after_turn : (turn : Bool) (u : ℕ) (w : World) → (if turn then record w { cursor = u } else w).parts ≡ w.parts
+parts_after_turn true u w = refl
+parts_after_turn false u w = refl
+
+parts_after_events : (s : Setup) (w : World) (hs : List Happening) → length (after_events s w hs).parts ≡ length w.parts
 parts_after_events s w [] = refl
-parts_after_events s w (e ∷ es) =
-    let p : Private = (event s (part e.0 w) e.1).next in
-    parts_after_events s (with_part e.0 p w) es ∙ length-set w.parts (e.0 - 1) p
+parts_after_events s w (h ∷ hs) =
+    let p : Private = (outcome_of s w h).next in
+    parts_after_events s (after_one s w h) hs
+    ∙ ap length (parts_after_turn h.turn h.user (with_part h.user p w))
+    ∙ length-set w.parts (h.user - 1) p
 
 parts_after : (s : Setup) (w : World) (line : List ℕ) → length (after s w line).parts ≡ length w.parts
 unfolding after

@@ -1,8 +1,6 @@
 //! The machine of eight users.
-ghost use Rattle.std.specs.Prelude.{◌≡◌, ◌+◌, length, None, IsOk, IfOk, IfSome, IsErrOf, IsOkUnless};
-ghost use Rattle.rv_model.specs.machine.PrivateMachine.{event, Command};
-ghost use Rattle.rv_model.specs.machine.Script.{part, with_part, new_world};
-ghost use Rattle.rv_model.specs.text.Lines.{text};
+ghost use Rattle.std.specs.Prelude.{◌≡◌, [], ◌∷◌, length, None, IsOk, IfOk, IfSome, IsErrOf, IsOkUnless};
+ghost use Rattle.rv_model.specs.machine.Script.{commands, after_events, told_by, new_world};
 ghost use Rattle.vec_monitor.specs.MachineState.{after_line, line_output};
 ghost use Rattle.vec_monitor.specs.Images.{setup_of};
 ghost use Rattle.vec_monitor.specs.NewFaults.{new_fault};
@@ -67,16 +65,17 @@ impl<'a, A: Allocator> Machine<'a, A> {
     }
 
     /// Carries out one command of a user: the line without the user's digit and the space after it.
-    /// Nobody else's machine changes.
+    /// Answers it in place of what the reply held. Nobody else's machine changes.
     #[tactic(auto, unfolding(rv_model::specs::machine::PrivateMachine::event))]
     pub fn command(&mut self, user: User, line: &[u8], reply: &mut Reply)
         ensures world { self.new.world
-            ≡ with_part user (event self.old.setup (part user self.old.world) (Command line.now)).next self.old.world }
+            ≡ after_events self.old.setup self.old.world (commands user line.now ∷ []) }
         ensures setup { self.new.setup ≡ self.old.setup }
         ensures eight { length self.new.world.parts ≡ 8 }
         ensures reply { reply.new
-            ≡ text (48 + user) (event self.old.setup (part user self.old.world) (Command line.now)).lines }
+            ≡ told_by self.old.setup self.old.world (commands user line.now ∷ []) }
     {
+        reply.clear();
         self.users.command(self.images, user, line, reply);
     }
 

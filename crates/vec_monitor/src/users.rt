@@ -89,13 +89,13 @@ impl<A: Allocator> Users<A> {
         })
     }
 
-    /// Carries out one command of a user, and answers it in place of what the reply held.
+    /// Carries out one command of a user, and answers it.
     #[tactic(auto, using(crate::proofs::PartLaws::part_put_back))]
     pub fn command(&mut self, images: &[Image<'_>], user: User, line: &[u8], reply: &mut Reply)
+        requires { reply.old ≡ [] }
         ensures world { self.new ≡ with_part user (commanded (named_images images.now) (part user self.old) (parse_spec line.now)).next self.old }
         ensures reply { reply.new ≡ text (48 + user) (commanded (named_images images.now) (part user self.old) (parse_spec line.now)).lines }
     {
-        reply.clear();
         match parse(line) {
             Ok(cmd) => {
                 let context = &mut self.contexts[user.index()];

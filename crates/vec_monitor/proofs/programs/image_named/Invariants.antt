@@ -2,7 +2,7 @@ use Rattle.std.proofs.Common.{◌≡◌, drop}
 use Rattle.std.specs.Prelude.{find}
 use Rattle.std.specs.Str.{bytes_eq}
 use Rattle.vec_monitor.specs.Images.{named_images}
-use Rattle.vec_monitor.proofs.program_commands.image_named.Given as goal
+use Rattle.vec_monitor.proofs.programs.image_named.Given as goal
 
 -- what is left decides
 abbrev pub invariant-loop-image : goal.invariant-loop-image

@@ -1,10 +1,10 @@
 use Rattle.std.proofs.Common.{◌≡◌, ℕ, suc, ◌+◌, ◌-◌, List, true, ap, ◌∙◌, sym, arith}
-use Rattle.rv_model.specs.machine.PrivateMachine.{steps, Halted}
+use Rattle.rv_model.specs.machine.Runs.{steps, Halted}
 use Rattle.user_mem.specs.Users.{memory_of_user}
 use Rattle.vec_monitor.specs.declared.context.Context.{Context}
 use Rattle.vec_monitor.specs.Parts.{present}
 use Rattle.vec_monitor.proofs.PartLaws.{changed_twice}
-use Rattle.vec_monitor.proofs.CommandLaws.{steps_on, steps_stop}
+use Rattle.vec_monitor.proofs.StepLaws.{steps_on, steps_stop}
 use Rattle.vec_monitor.proofs.stepping.steps.Goals as goal
 
 pub returns-in-Some-clause-others : goal.returns-in-Some-clause-others

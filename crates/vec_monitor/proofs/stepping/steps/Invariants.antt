@@ -1,5 +1,5 @@
 use Rattle.std.proofs.Common.{◌≡◌, ◌-◌, true}
-use Rattle.rv_model.specs.machine.PrivateMachine.{steps}
+use Rattle.rv_model.specs.machine.Runs.{steps}
 use Rattle.user_mem.specs.Users.{memory_of_user, with_memory}
 use Rattle.vec_monitor.specs.Parts.{present}
 use Rattle.vec_monitor.proofs.stepping.steps.Given as goal

@@ -1,18 +1,14 @@
 use Rattle.std.proofs.Common.{◌≡◌, ◌+◌, ◌-◌, ℕ, List, length, length-set, get_or, set, ap, ◌∙◌, sym, arith, Ok}
 use Rattle.std.proofs.lemmas.List.{with_items_is}
-use Rattle.rv_model.specs.commands.Grammar.{Parsed, parse}
-use Rattle.rv_model.specs.machine.PrivateMachine.{Private, commanded}
+use Rattle.rv_model.specs.commands.Commands.{Parsed, commanded}
+use Rattle.rv_model.specs.machine.UserMachine.{Private}
 use Rattle.rv_model.specs.machine.Script.{World, part, with_part}
 use Rattle.rv_model.specs.text.Lines.{text}
 use Rattle.user_mem.specs.Users.{memory_of_user}
 use Rattle.vec_monitor.specs.Parts.{Addresses, world_of, private_of, trace_of, with_trace}
 use Rattle.vec_monitor.specs.Images.{named_images}
-use Rattle.vec_monitor.proofs.ParsedLaws.{fits_parsed}
 use Rattle.vec_monitor.proofs.PartLaws.{world_with, part_is}
 use Rattle.vec_monitor.proofs.users.Users.command.Goals as goal
-
-pub carry_out-requires-clause-range : goal.carry_out-requires-clause-range
-carry_out-requires-clause-range g c = fits_parsed c.args.line.now c.in-Ok.cmd c.in-Ok.ensures
 
 pub returns-in-Ok-clause-world : goal.returns-in-Ok-clause-world
 returns-in-Ok-clause-world g c =
