@@ -81,6 +81,11 @@ pub new_users : (cs : List Context) (ts : List Addresses) (ms : List Memory) →
 unfolding new_world
 new_users cs ts ms p q r = rw (p, q, r) (ap (λ (ps : List Private). let w : World = record { parts = ps; cursor = 8; unit = unused_unit } in w) (absent_parts 8))
 
+-- they are eight
+pub new_are_eight : (w : World) → w ≡ new_world → length w.parts ≡ 8
+unfolding new_world
+new_are_eight w h = ap (λ (v : World). length v.parts) h
+
 -- the machine of a user that has entered, and of one that is absent
 pub entered_as : (c : Context) (t : Addresses) (m : Memory) → c.entered ≡ true → private_of c t m ≡ Some (present c t m)
 entered_as c t m h = ap (λ (b : Bool). if b then Some (present c t m) else None) h

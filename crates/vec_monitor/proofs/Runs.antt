@@ -1,7 +1,8 @@
 -- A run of a script from read to read, and at its end.
-use Rattle.std.proofs.Common.{◌≡◌, ℕ, ◌+◌, ◌-◌, ◌<◌, ◌≤◌, ◌++◌, [], ◌∷◌, List, length, length-set, take, ap, ◌∙◌, sym, append_assoc, append-nil, arith, None, refl, subst}
+use Rattle.std.proofs.Common.{◌≡◌, ℕ, ◌+◌, ◌-◌, ◌<◌, ◌≤◌, ◌++◌, [], ◌∷◌, List, length, length-append, length-set, take, ap, ◌∙◌, sym, append_assoc, append-nil, arith, Bool, true, false, None, refl, subst}
 use Rattle.std.proofs.lemmas.List.{get_or-replicate, take_all}
 use Rattle.std.proofs.Math.Seq.{take-append-add}
+use Rattle.std.specs.Prelude.{if◌then◌else◌}
 use Rattle.rv_model.specs.machine.Setup.{Setup}
 use Rattle.rv_model.specs.machine.Script.{World, Happening, outcome_of, after_one, after, after_all, after_events, with_part, events_of, kind_of, told, told_all, whole_from, after_script, lines, part, own, own_from, new_world}
 use Rattle.rv_model.specs.machine.PrivateMachine.{Private, solo, solo_from}
@@ -11,7 +12,7 @@ use Rattle.vec_monitor.specs.MachineState.{MachineState, after_line, line_output
 use Rattle.vec_monitor.specs.EndedLines.{ended_lines}
 use Rattle.vec_monitor.specs.FailedWrites.{CutShort}
 use Rattle.vec_monitor.specs.Feed.{Fed, Cut, fed}
-use Rattle.vec_monitor.proofs.EndedLaws.{Leaves, from_start_leaves, ended_are, machine_of_all, output_of_all, some_piece}
+use Rattle.vec_monitor.proofs.EndedLaws.{from_start_leaves, ended_are, machine_of_all, output_of_all, some_piece}
 use Rattle.vec_monitor.proofs.Feeding.{InTwo, goes_on, after_clipped, output_clipped}
 
 -- a read of no byte
@@ -19,10 +20,10 @@ pub nothing_read : (front buffer : List ℕ) (n : ℕ) → n ≡ 0 → front ++ 
 nothing_read front buffer n zero = ap (λ (k : ℕ). front ++ take k buffer) zero ∙ append-nil front
 
 -- what was read has been taken, and left bytes more may come
-pub record SoFar (m0 : MachineState) (front : List ℕ) (m : MachineState) (line : List ℕ) (left : ℕ) : Type 0 where
+pub record SoFar (m0 : MachineState) (front : List ℕ) (m : MachineState) (l : List ℕ) (left : ℕ) : Type 0 where
   pub limit : length front + left ≡ 16777216
   pub machine : m ≡ (fed m0 [] front).machine
-  pub line : line ≡ (fed m0 [] front).line
+  pub line : l ≡ (fed m0 [] front).line
 
 -- a piece more
 pub so_far_more : (m0 : MachineState) (front piece : List ℕ) (m m' : MachineState) (line line' : List ℕ) (left left' : ℕ) → SoFar m0 front m line left → left' + length piece ≡ left → m' ≡ (fed m line piece).machine → line' ≡ (fed m line piece).line → SoFar m0 (front ++ piece) m' line' left'

@@ -41,6 +41,7 @@ impl<'a, A: Allocator> Model for Machine<'a, A> {
 impl<'a, A: Allocator> Machine<'a, A> {
     /// A machine whose users are all absent, with slices of `quantum` ticks. Refused for the first
     /// fault that applies, and for want of memory last; no later call takes memory.
+    #[tactic(auto, using(crate::proofs::PartLaws::new_are_eight))]
     pub fn new(alloc: A, quantum: usize, images: &'a [Image<'a>]) -> Result<Self, NewFault>
     where
         A: Clone,
@@ -80,7 +81,7 @@ impl<'a, A: Allocator> Machine<'a, A> {
     }
 
     /// Answers one line of a script.
-    #[tactic(auto, unfolding(rv_model::specs::machine::Script::after, rv_model::specs::machine::Script::told, rv_model::specs::machine::Script::common))]
+    #[tactic(auto, unfolding(rv_model::specs::machine::PrivateMachine::event, rv_model::specs::machine::Script::after, rv_model::specs::machine::Script::told, rv_model::specs::machine::Script::common))]
     pub fn answer(&mut self, line: &[u8], reply: &mut Reply)
         ensures machine { self.new ≡ after_line self.old line.now }
         ensures eight { length self.new.world.parts ≡ 8 }

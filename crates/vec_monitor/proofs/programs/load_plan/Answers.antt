@@ -1,4 +1,4 @@
-use Rattle.std.proofs.Common.{◌≡◌, List, Err, ap, ◌∙◌}
+use Rattle.std.proofs.Common.{List, Err, ap, ◌∙◌}
 use Rattle.rv_model.specs.images.Image.{memory_of_image}
 use Rattle.rv_model.specs.memory.Memory.{Memory, page_count}
 use Rattle.user_mem.specs.Users.{memory_of_user}

@@ -1,12 +1,12 @@
-use Rattle.std.proofs.Common.{◌≡◌, ℕ, ◌+◌, ◌<◌, ◌≤◌, ◌++◌, [], List, length, take, ap, ◌∙◌, append-nil, arith, length-append}
+use Rattle.std.proofs.Common.{◌≡◌, ℕ, ◌<◌, ◌≤◌, ◌++◌, List, length, take, ◌∙◌, append-nil, arith, length-append, Err}
 use Rattle.std.proofs.lemmas.List.{length-take-le}
-use Rattle.std.proofs.lemmas.Result.{on_ok_weaker}
+use Rattle.std.proofs.lemmas.Result.{on_ok_weaker, err_from_is_err_and}
 use Rattle.rv_model.specs.machine.Script.{whole_from}
 use Rattle.rv_model.proofs.machine_lemmas.Headline.{headline}
-use Rattle.vec_monitor.specs.Feed.{fed}
-use Rattle.vec_monitor.specs.MachineState.{MachineState, line_output}
+use Rattle.vec_monitor.specs.declared.script.RunFault.TheVariants.{TooLong, Write}
+use Rattle.vec_monitor.specs.MachineState.{MachineState}
 use Rattle.vec_monitor.proofs.Feeding.{moved}
-use Rattle.vec_monitor.proofs.Runs.{SoFar, so_far_more, output_more, world_ends, output_ends, world_before_end, output_before_end, world_too_long, output_too_long, cut_at_end, cut_in_piece, eight_before, new_headline, nothing_read}
+use Rattle.vec_monitor.proofs.Runs.{so_far_more, output_more, world_ends, output_ends, world_before_end, output_before_end, world_too_long, output_too_long, cut_at_end, cut_in_piece, eight_before, new_headline, nothing_read}
 use Rattle.vec_monitor.proofs.script.run.Goals as goal
 
 pub loop-count-preserved : goal.loop-count-preserved
@@ -104,5 +104,49 @@ returns-in_default-clause-after_read g c = λ fault.
         omega (arith, limit),
         world_before_end m0 c.loop-count.machine front so_far.so_far.machine,
         moved g.K.Sink.took _ _ _ _ (output_before_end m0 front) so_far.took,
+      ),
+    )
+
+pub returns-in_err-left-clause-after_too_long : goal.returns-in_err-left-clause-after_too_long
+returns-in_err-left-clause-after_too_long g c = λ fault.
+    let m0 : MachineState = c.args.machine.now in
+    let front : List ℕ = c.loop-count.invariant.0 in
+    let so_far = c.loop-count.invariant.1 in
+    let buffer : List ℕ = c.read.new.buffer in
+    let n : ℕ = c.in-Ok.count in
+    let piece : List ℕ = take n buffer in
+    let bound : n ≤ length buffer = c.in-Ok.ensures.bound in
+    let len : length piece ≡ n = length-take-le n buffer bound in
+    let some : 0 < n = omega (arith, c.if-count-eq0.false) in
+    let most : n ≤ 512 = omega (arith, bound) in
+    let p = err_from_is_err_and c.from_residual.result c.from_residual.ensures.1 in
+    let e : Err c.in_err-left.field-0.0 ≡ Err TooLong = cc (p.1, p.2, fault) in
+    let limit = so_far.so_far.limit in
+    let more = c.in_err-left.ensures.long e in (
+      front ++ piece,
+      (
+        g.met.S.Source.gave_more _ _ _ _ _ so_far.gave c.in-Ok.ensures.bytes,
+        c.in-Ok.ensures.more some,
+        omega (arith, limit, more, len, length-append front piece),
+        omega (arith, limit, most, len, length-append front piece),
+        world_too_long m0 front piece _ _ _ _ so_far.so_far (c.in_err-left.ensures.machine_long e),
+        moved g.K.Sink.took _ _ _ _ (output_too_long m0 front piece _ _ _ so_far.so_far)
+            (g.met.K.Sink.took_more _ _ _ _ _ so_far.took (c.in_err-left.ensures.output_long e)),
+      ),
+    )
+
+pub returns-in_err-left-clause-after_write : goal.returns-in_err-left-clause-after_write
+returns-in_err-left-clause-after_write g c = λ fault.
+    let m0 : MachineState = c.args.machine.now in
+    let front : List ℕ = c.loop-count.invariant.0 in
+    let so_far = c.loop-count.invariant.1 in
+    let piece : List ℕ = take c.in-Ok.count c.read.new.buffer in
+    let p = err_from_is_err_and c.from_residual.result c.from_residual.ensures.1 in
+    let e : Err c.in_err-left.field-0.0 ≡ Err Write = cc (p.1, p.2, fault) in (
+      front ++ piece,
+      (
+        g.met.S.Source.gave_more _ _ _ _ _ so_far.gave c.in-Ok.ensures.bytes,
+        cut_in_piece m0 front piece _ _ _ _ _ _ _ so_far.so_far (c.in_err-left.ensures.cut e)
+            (λ xs took. g.met.K.Sink.took_more _ _ _ _ _ so_far.took took),
       ),
     )
