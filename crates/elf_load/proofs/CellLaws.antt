@@ -6,7 +6,7 @@ use Rattle.rv_model.specs.declared.images.ProgramHeader.{ProgramHeader}
 use Rattle.rv_model.specs.images.Fields.{program_header}
 use Rattle.rv_model.specs.images.Faults.{first_fault}
 use Rattle.rv_model.specs.images.Image.{stack, placed, covers, touches, is_touched, byte_of, permissions_of, cell_of, all_pages, memory_of_image}
-use Rattle.rv_model.specs.memory.Pages.{page_size, page_end}
+use Rattle.rv_model.specs.memory.Sizes.{page_size, page_limit}
 use Rattle.elf_load.specs.Pages.{EndsInMemory}
 use Rattle.elf_load.specs.Laws.{HoldsItsCells, TouchesWhatItCovers}
 use Rattle.elf_load.proofs.HeaderLaws.{none_of_all}
@@ -16,13 +16,13 @@ use Rattle.elf_load.proofs.SegmentLaws.{covers_within}
 
 -- ---- pages past the end of memory
 
-touches_past : (header : ProgramHeader) (page : ℕ) → EndsInMemory header → page_end ≤ page → touches page header ≡ false
+touches_past : (header : ProgramHeader) (page : ℕ) → EndsInMemory header → page_limit ≤ page → touches page header ≡ false
 touches_past header page ends l = elim (cases_eq header.kind 1) [
   | inl load ↦ touches_after header page (let low = ends load in omega (arith, low))
   | inr other ↦ touches_none header page other
 ]
 
-untouched_past : (image : List ℕ) (page : ℕ) → first_fault image ≡ None → page_end ≤ page → is_touched (placed image) page ≡ false
+untouched_past : (image : List ℕ) (page : ℕ) → first_fault image ≡ None → page_limit ≤ page → is_touched (placed image) page ≡ false
 unfolding is_touched
 untouched_past image page sound l =
     neither (touches page stack) _ (touches_past stack page stack_ends l)

@@ -8,7 +8,7 @@ use Rattle.std.proofs.lemmas.Bool.{cases_eq, cases_lt}
 use Rattle.rv_model.specs.memory.Memory.{Cell, Memory, page_count}
 use Rattle.rv_model.specs.images.Image.{placed, is_touched, cell_of, with_cell, memory_below, all_pages, memory_of_image}
 use Rattle.rv_model.proofs.memory_lemmas.Memory.{same_memory, get-insert_same, get-insert_other}
-use Rattle.rv_model.specs.memory.Pages.{page_size, page_end}
+use Rattle.rv_model.specs.memory.Sizes.{page_size, page_limit}
 use Rattle.elf_load.specs.Pages.{pages_below}
 use Rattle.elf_load.proofs.PageLaws.{pages_below_skipped, pages_below_le}
 
@@ -102,7 +102,7 @@ page_count-image image =
 
 -- ---- counted page by page
 
-pub all_pages_are : all_pages ≡ page_end
+pub all_pages_are : all_pages ≡ page_limit
 unfolding all_pages
 all_pages_are = refl
 
@@ -111,14 +111,14 @@ unfolding pages_below
 no_pages t = refl
 
 -- no page is left
-pub counted_all : (image image' : List ℕ) (from count : ℕ) → image ≡ image' → ((q : ℕ) → from ≤ q → is_touched (placed image) q ≡ false) → from ≤ page_end → pages_below (is_touched (placed image)) from ≡ count
+pub counted_all : (image image' : List ℕ) (from count : ℕ) → image ≡ image' → ((q : ℕ) → from ≤ q → is_touched (placed image) q ≡ false) → from ≤ page_limit → pages_below (is_touched (placed image)) from ≡ count
     → count ≡ page_count (memory_of_image image')
 counted_all image image' from count same none bound counted =
     sym counted ∙ sym (pages_below_skipped (is_touched (placed image)) from all_pages (omega (arith, all_pages_are)) (λ q l m. none q l))
     ∙ sym (page_count-image image) ∙ ap (λ (xs : List ℕ). page_count (memory_of_image xs)) same
 
 -- more pages than these
-pub counted_many : (image image' : List ℕ) (from : ℕ) → image ≡ image' → from ≤ page_end → pages_below (is_touched (placed image)) from ≤ page_count (memory_of_image image')
+pub counted_many : (image image' : List ℕ) (from : ℕ) → image ≡ image' → from ≤ page_limit → pages_below (is_touched (placed image)) from ≤ page_count (memory_of_image image')
 counted_many image image' from same bound =
     let le = pages_below_le (is_touched (placed image)) from all_pages (omega (arith, all_pages_are)) in
     let total = page_count-image image ∙ refl in

@@ -13,7 +13,7 @@ use Rattle.rv_model.specs.memory.Memory.{Cell, Memory, with_pages, page_count, m
 use Rattle.rv_model.specs.images.Fields.{header_count, program_header}
 use Rattle.rv_model.specs.images.Image.{stack, covers, byte_in, placed, is_touched, permissions_of, byte_of, cell_of, all_pages, memory_of_image}
 use Rattle.rv_model.proofs.memory_lemmas.Memory.{same_memory, get-add_cells_within, get-add_cells_outside, any_page_mapped_none, map_refusal_none, with_byte, get-put_bytes_within, get-put_bytes_outside}
-use Rattle.rv_model.specs.memory.Pages.{page_size, page_quota}
+use Rattle.rv_model.specs.memory.Sizes.{page_size, page_quota}
 use Rattle.elf_load.specs.Headers.{first_headers}
 use Rattle.elf_load.specs.Pages.{IsFirst, pages_below, first_placed}
 use Rattle.elf_load.specs.Placing.{cells_with, memory_with, blank_memory, memory_after}

@@ -11,7 +11,7 @@ use Rattle.rv_model.specs.images.Faults.{header_has, first_fault}
 use Rattle.rv_model.specs.memory.Memory.{Memory, can_access, put_bytes}
 use Rattle.rv_model.specs.images.Image.{stack, placed, covers, touches, is_touched, byte_in, byte_of, all_pages}
 use Rattle.rv_model.proofs.memory_lemmas.Memory.{can_access_from, can_access-at, is_allowed-put_bytes, put_bytes-append}
-use Rattle.rv_model.specs.memory.Pages.{page_size}
+use Rattle.rv_model.specs.memory.Sizes.{page_size}
 use Rattle.elf_load.specs.Pages.{first_placed}
 use Rattle.elf_load.specs.Placing.{memory_with, memory_after}
 use Rattle.elf_load.proofs.HeaderLaws.{any_at, none_at}

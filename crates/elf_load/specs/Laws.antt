@@ -4,7 +4,7 @@ use Rattle.std.specs.FinMap.{get}
 use Rattle.rv_model.specs.declared.images.ProgramHeader.{ProgramHeader}
 use Rattle.rv_model.specs.images.Faults.{first_fault}
 use Rattle.rv_model.specs.images.Image.{covers, touches, cell_of, memory_of_image}
-use Rattle.rv_model.specs.memory.Pages.{page_size}
+use Rattle.rv_model.specs.memory.Sizes.{page_size}
 
 -- the memory of an image with no fault holds at each address the cell that the image describes there, or none
 abbrev pub HoldsItsCells : Type 0

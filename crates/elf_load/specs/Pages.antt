@@ -2,7 +2,7 @@
 use Rattle.std.specs.Prelude.{◌≡◌, ℕ, zero, suc, ◌+◌, ◌<◌, ◌≤◌, min, Bool, true, false, cond, Option, Some, None, List, ◌∷◌, ◌&&◌, ◌==◌, not, bit_and}
 use Rattle.rv_model.specs.declared.images.ProgramHeader.{ProgramHeader}
 use Rattle.rv_model.specs.images.Image.{stack, touches}
-use Rattle.rv_model.specs.memory.Pages.{address_end}
+use Rattle.rv_model.specs.memory.Sizes.{address_end}
 use Rattle.elf_load.specs.Headers.{first_headers}
 
 -- the first page from a page on that passes a test

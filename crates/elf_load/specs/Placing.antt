@@ -2,7 +2,7 @@
 use Rattle.std.specs.Prelude.{ℕ, ◌*◌, ◌/◌, ◌&&◌, nat_lt, List, Option, Some, None, if◌then◌else◌}
 use Rattle.rv_model.specs.memory.Memory.{Cell, Memory}
 use Rattle.rv_model.specs.images.Image.{placed, is_touched, permissions_of, byte_of, memory_below, all_pages}
-use Rattle.rv_model.specs.memory.Pages.{page_size}
+use Rattle.rv_model.specs.memory.Sizes.{page_size}
 use Rattle.elf_load.specs.Pages.{first_placed}
 
 -- the cells of an image's pages below a page, with bytes given by address

@@ -2,7 +2,7 @@
 ghost use Rattle.std.specs.Prelude.{◌≡◌, ℕ, ◌+◌, ◌<◌, ◌≤◌, ◌^◌, None, IfSome};
 ghost use Rattle.rv_model.specs.images.Faults.{first_fault};
 ghost use Rattle.rv_model.specs.images.Image.{stack, placed, touches, is_touched};
-ghost use Rattle.rv_model.specs.memory.Pages.{page_end};
+ghost use Rattle.rv_model.specs.memory.Sizes.{page_limit};
 ghost use Rattle.elf_load.specs.Pages.{IsFirstIfAny, EndsInMemory, earlier};
 
 use crate::faults::LOAD;
@@ -28,7 +28,7 @@ pub(crate) fn stack() -> ProgramHeader
 fn first_touched(header: ProgramHeader, from: u64) -> Option<u64>
     requires { EndsInMemory header }
     ensures first { IsFirstIfAny (λ page. touches page header) from result }
-    ensures bound { IfSome result (λ page. page < page_end) }
+    ensures bound { IfSome result (λ page. page < page_limit) }
 {
     if header.kind != LOAD {
         return None;
@@ -56,7 +56,7 @@ fn earlier(first: Option<u64>, second: Option<u64>) -> Option<u64>
 pub(crate) fn next_page(image: &[u8], from: u64) -> Option<u64>
     requires { first_fault image.now ≡ None }
     ensures first { IsFirstIfAny (is_touched (placed image.now)) from result }
-    ensures bound { IfSome result (λ page. page < page_end) }
+    ensures bound { IfSome result (λ page. page < page_limit) }
 {
     let mut next = first_touched(stack(), from);
     for number in 0..usize::from(header_count(image)) {

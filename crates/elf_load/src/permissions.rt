@@ -2,7 +2,7 @@
 ghost use Rattle.std.specs.Prelude.{◌≡◌, ◌<◌, ◌&&◌, ◌==◌, ◌^◌, not, bit_and, None};
 ghost use Rattle.rv_model.specs.images.Faults.{first_fault};
 ghost use Rattle.rv_model.specs.images.Image.{placed, touches, is_allowed_by, permissions_of};
-ghost use Rattle.rv_model.specs.memory.Pages.{page_end};
+ghost use Rattle.rv_model.specs.memory.Sizes.{page_limit};
 ghost use Rattle.elf_load.specs.Pages.{EndsInMemory, allows};
 
 use crate::faults::LOAD;
@@ -23,7 +23,7 @@ const READ: u32 = 4;
 #[tactic(auto, unfolding(rv_model::specs::images::Image::touches))]
 fn touches(header: ProgramHeader, page: u64) -> bool
     requires ends { EndsInMemory header }
-    requires low { page < page_end }
+    requires low { page < page_limit }
     ensures { result ≡ touches page header }
 {
     if header.kind != LOAD {
@@ -37,7 +37,7 @@ fn touches(header: ProgramHeader, page: u64) -> bool
 /// Whether a segment touches a page and has a flag.
 fn allows(header: ProgramHeader, flag: u32, page: u64) -> bool
     requires ends { EndsInMemory header }
-    requires low { page < page_end }
+    requires low { page < page_limit }
     ensures { result ≡ allows flag page header }
 {
     touches(header, page) && header.flags & flag != 0
@@ -46,7 +46,7 @@ fn allows(header: ProgramHeader, flag: u32, page: u64) -> bool
 /// Whether a segment of an image touches a page and has a flag.
 fn is_allowed_by(image: &[u8], flag: u32, page: u64) -> bool
     requires sound { first_fault image.now ≡ None }
-    requires low { page < page_end }
+    requires low { page < page_limit }
     ensures { result ≡ is_allowed_by flag (placed image.now) page }
 {
     if allows(stack(), flag, page) {
@@ -63,7 +63,7 @@ fn is_allowed_by(image: &[u8], flag: u32, page: u64) -> bool
 /// What a page of an image may be used for.
 pub(crate) fn permissions_of(image: &[u8], page: u64) -> Permissions
     requires sound { first_fault image.now ≡ None }
-    requires low { page < page_end }
+    requires low { page < page_limit }
     ensures { result ≡ permissions_of (placed image.now) page }
 {
     Permissions {

@@ -6,7 +6,7 @@ ghost use Rattle.rv_model.specs.images.Fields.{header_count};
 ghost use Rattle.rv_model.specs.images.Faults.{first_fault};
 ghost use Rattle.rv_model.specs.images.Image.{memory_of_image, all_pages};
 ghost use Rattle.rv_model.specs.memory.Memory.{can_access, put_bytes, page_count};
-ghost use Rattle.rv_model.specs.memory.Pages.{page_quota, address_end};
+ghost use Rattle.rv_model.specs.memory.Sizes.{page_quota, address_end};
 ghost use Rattle.user_mem.specs.Users.{memory_of_user, with_memory};
 ghost use Rattle.elf_load.specs.Placing.{blank_memory, memory_after};
 

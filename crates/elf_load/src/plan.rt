@@ -4,7 +4,7 @@ ghost use Rattle.rv_model.specs.images.Fields.{entry_of, header_count, program_h
 ghost use Rattle.rv_model.specs.images.Faults.{first_fault};
 ghost use Rattle.rv_model.specs.images.Image.{memory_of_image};
 ghost use Rattle.rv_model.specs.memory.Memory.{page_count};
-ghost use Rattle.rv_model.specs.memory.Pages.{page_quota};
+ghost use Rattle.rv_model.specs.memory.Sizes.{page_quota};
 ghost use Rattle.user_mem.specs.Users.{with_memory};
 
 use crate::faults::first_fault;

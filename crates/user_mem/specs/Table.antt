@@ -1,6 +1,6 @@
 -- What a user's table of mapped pages means. Each entry gives a page, the frame that holds it, and its permissions;
 -- the bytes of all frames stand one after another in one list. Nothing here is seen by a caller of the crate.
-use Rattle.std.specs.Prelude.{◌≡◌, ◌≢◌, ℕ, ◌+◌, ◌*◌, ◌^◌, ◌<◌, ◌≤◌, nat_eq, List, [], ◌∷◌, length, slice_index, slice_index_or, Option, Some, AllPairs}
+use Rattle.std.specs.Prelude.{◌≡◌, ◌≢◌, ℕ, ◌+◌, ◌*◌, ◌<◌, ◌≤◌, nat_eq, List, [], ◌∷◌, length, slice_index, slice_index_or, Option, Some, AllPairs}
 use Rattle.std.specs.List.{find}
 use Rattle.std.specs.FinMap.{empty}
 use Rattle.rv_model.specs.memory.Memory.{Cell, Memory, add_cells}

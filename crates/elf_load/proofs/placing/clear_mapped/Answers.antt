@@ -1,7 +1,7 @@
 use Rattle.std.proofs.Common.{arith}
 use Rattle.elf_load.proofs.UserLaws.{clear_none, clear_more, may_clear}
 use Rattle.elf_load.proofs.placing.clear_mapped.Goals as goal
-use Rattle.rv_model.specs.memory.Pages.{page_size}
+use Rattle.rv_model.specs.memory.Sizes.{page_size}
 
 pub loop-done-init : goal.loop-done-init
 loop-done-init g c = record { pool = clear_none c.args.pool.now c.args.user c.args.addr; some = omega arith }
