@@ -7,6 +7,7 @@ use Rattle.rv_model.specs.images.Fields.{header_count, program_header}
 use Rattle.rv_model.specs.declared.images.ElfFault.TheVariants.{BadAddress}
 use Rattle.rv_model.specs.images.Faults.{header_has, first_fault}
 use Rattle.rv_model.specs.images.Image.{stack, placed, touches, is_touched, is_allowed_by}
+use Rattle.rv_model.specs.memory.Sizes.{page_size}
 use Rattle.elf_load.specs.Headers.{first_headers}
 use Rattle.elf_load.specs.Pages.{IsFirst, IsFirstIfAny, earlier, pages_below, first_placed, EndsInMemory, allows}
 use Rattle.elf_load.proofs.HeaderLaws.{any_none, any_more, any_at, none_at, first_headers_all}
@@ -14,7 +15,7 @@ use Rattle.elf_load.proofs.FaultLaws.{no_bad_address}
 
 -- ---- one segment
 
-pub touches_at : (header : ProgramHeader) (page : ℕ) → header.kind ≡ 1 → header.address < 4096 * page + 4096 → 4096 * page < header.address + header.memory_size → 0 < header.memory_size → touches page header ≡ true
+pub touches_at : (header : ProgramHeader) (page : ℕ) → header.kind ≡ 1 → header.address < page_size * page + page_size → page_size * page < header.address + header.memory_size → 0 < header.memory_size → touches page header ≡ true
 unfolding touches
 touches_at header page kind low high some = grind (arith, kind, low, high, some)
 
@@ -26,15 +27,15 @@ pub touches_empty : (header : ProgramHeader) (page : ℕ) → header.memory_size
 unfolding touches
 touches_empty header page empty = grind (arith, empty)
 
-pub touches_before : (header : ProgramHeader) (page : ℕ) → 4096 * page + 4096 ≤ header.address → touches page header ≡ false
+pub touches_before : (header : ProgramHeader) (page : ℕ) → page_size * page + page_size ≤ header.address → touches page header ≡ false
 unfolding touches
 touches_before header page low = grind (arith, low)
 
-pub touches_after : (header : ProgramHeader) (page : ℕ) → header.address + header.memory_size ≤ 4096 * page → touches page header ≡ false
+pub touches_after : (header : ProgramHeader) (page : ℕ) → header.address + header.memory_size ≤ page_size * page → touches page header ≡ false
 unfolding touches
 touches_after header page high = grind (arith, high)
 
-pub touched_first : (header : ProgramHeader) (from page last : ℕ) → header.kind ≡ 1 → (header.memory_size ≡ 0 → ⊥) → page ≡ max (header.address / 4096) from → last ≡ (header.address + header.memory_size - 1) / 4096 → page ≤ last
+pub touched_first : (header : ProgramHeader) (from page last : ℕ) → header.kind ≡ 1 → (header.memory_size ≡ 0 → ⊥) → page ≡ max (header.address / page_size) from → last ≡ (header.address + header.memory_size - 1) / page_size → page ≤ last
     → IsFirst (λ p. touches p header) from page
 touched_first header from page last kind some e f l = record {
   start = omega arith;
@@ -42,9 +43,9 @@ touched_first header from page last kind some e f l = record {
   skipped = λ q m k. touches_before header q (omega arith);
 }
 
-pub touched_none : (header : ProgramHeader) (from page last : ℕ) → (header.memory_size ≡ 0 → ⊥) → page ≡ max (header.address / 4096) from → last ≡ (header.address + header.memory_size - 1) / 4096 → last < page
+pub touched_none : (header : ProgramHeader) (from page last : ℕ) → (header.memory_size ≡ 0 → ⊥) → page ≡ max (header.address / page_size) from → last ≡ (header.address + header.memory_size - 1) / page_size → last < page
     → (q : ℕ) → from ≤ q → touches q header ≡ false
-touched_none header from page last some e f l q m = elim (cases_lt q (header.address / 4096)) [
+touched_none header from page last some e f l q m = elim (cases_lt q (header.address / page_size)) [
   | inl low ↦ touches_before header q (omega arith)
   | inr high ↦ touches_after header q (omega arith)
 ]

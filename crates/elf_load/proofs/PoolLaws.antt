@@ -1,5 +1,5 @@
 -- A user's memory in the pool while an image is placed
-use Rattle.std.proofs.Common.{◌≡◌, ℕ, ◌+◌, ◌-◌, ◌<◌, ◌≤◌, ◌^◌, List, length, take, drop, replicate, None, true, false, refl, sym, ◌∙◌, ap, subst, arith}
+use Rattle.std.proofs.Common.{◌≡◌, ℕ, ◌+◌, ◌-◌, ◌<◌, ◌≤◌, List, length, take, drop, replicate, None, true, false, refl, sym, ◌∙◌, ap, subst, arith}
 use Rattle.std.specs.FinMap.{empty}
 use Rattle.rv_model.specs.declared.images.ProgramHeader.{ProgramHeader}
 use Rattle.rv_model.specs.declared.memory.Permissions.{Permissions}
@@ -8,6 +8,7 @@ use Rattle.rv_model.specs.images.Fields.{header_count, program_header}
 use Rattle.rv_model.specs.images.Faults.{first_fault}
 use Rattle.rv_model.specs.memory.Memory.{Memory, can_access, put_bytes, with_pages, page_count, map_refusal}
 use Rattle.rv_model.specs.images.Image.{placed, is_touched, permissions_of, byte_of, all_pages, memory_of_image}
+use Rattle.rv_model.specs.memory.Sizes.{page_quota, page_limit}
 use Rattle.user_mem.specs.Users.{memory_of_user, with_memory}
 use Rattle.elf_load.specs.Pages.{IsFirst, EndsInMemory, first_placed}
 use Rattle.elf_load.specs.Placing.{blank_memory, memory_after}
@@ -23,20 +24,20 @@ pub map_none : (memories : List Memory) (user : ℕ) (image : List ℕ) → memo
 map_none memories user image free = sym (ap (with_memory memories user) (sym (free ∙ blank_none image)) ∙ with_own memories user)
 
 pub map_accepted : (memories pool : List Memory) (user : ℕ) (image : List ℕ) (from page : ℕ) → user - 1 < length memories → pool ≡ with_memory memories user (blank_memory image from)
-    → page < 2 ^ 36 → IsFirst (is_touched (placed image)) from page → page_count (memory_of_image image) ≤ 256 → map_refusal (memory_of_user pool user) page 1 ≡ None
+    → page < page_limit → IsFirst (is_touched (placed image)) from page → page_count (memory_of_image image) ≤ page_quota → map_refusal (memory_of_user pool user) page 1 ≡ None
 map_accepted memories pool user image from page l before low first few =
     ap (λ (m : Memory). map_refusal m page 1) (own_in memories pool user (blank_memory image from) l before)
     ∙ blank_accepted image from page (omega (arith, all_pages_are)) first few
 
 pub map_more : (memories pool new : List Memory) (user : ℕ) (image : List ℕ) (from page : ℕ) (permissions : Permissions) → user - 1 < length memories → pool ≡ with_memory memories user (blank_memory image from)
-    → page < 2 ^ 36 → IsFirst (is_touched (placed image)) from page → permissions ≡ permissions_of (placed image) page
+    → page < page_limit → IsFirst (is_touched (placed image)) from page → permissions ≡ permissions_of (placed image) page
     → new ≡ with_memory pool user (with_pages (memory_of_user pool user) page 1 permissions) → new ≡ with_memory memories user (blank_memory image (page + 1))
 map_more memories pool new user image from page permissions l before low first e after =
     next_memory memories pool new user (blank_memory image from) (with_pages (memory_of_user pool user) page 1 permissions) (blank_memory image (page + 1)) l before after
     (ap (λ (m : Memory). with_pages m page 1 permissions) (own_in memories pool user (blank_memory image from) l before)
     ∙ ap (with_pages (blank_memory image from) page 1) e ∙ blank_more image from page (omega (arith, all_pages_are)) first)
 
-pub map_all : (memories pool : List Memory) (user : ℕ) (image : List ℕ) (from : ℕ) → pool ≡ with_memory memories user (blank_memory image from) → from ≤ 2 ^ 36
+pub map_all : (memories pool : List Memory) (user : ℕ) (image : List ℕ) (from : ℕ) → pool ≡ with_memory memories user (blank_memory image from) → from ≤ page_limit
     → ((q : ℕ) → from ≤ q → is_touched (placed image) q ≡ false) → pool ≡ with_memory memories user (blank_memory image all_pages)
 map_all memories pool user image from before low none = before ∙ ap (with_memory memories user) (blank_all image from (omega (arith, all_pages_are)) none)
 

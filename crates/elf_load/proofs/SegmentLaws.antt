@@ -11,6 +11,7 @@ use Rattle.rv_model.specs.images.Faults.{header_has, first_fault}
 use Rattle.rv_model.specs.memory.Memory.{Memory, can_access, put_bytes}
 use Rattle.rv_model.specs.images.Image.{stack, placed, covers, touches, is_touched, byte_in, byte_of, all_pages}
 use Rattle.rv_model.proofs.memory_lemmas.Memory.{can_access_from, can_access-at, is_allowed-put_bytes, put_bytes-append}
+use Rattle.rv_model.specs.memory.Sizes.{page_size}
 use Rattle.elf_load.specs.Pages.{first_placed}
 use Rattle.elf_load.specs.Placing.{memory_with, memory_after}
 use Rattle.elf_load.proofs.HeaderLaws.{any_at, none_at}
@@ -42,11 +43,11 @@ file_part_there image number sound l kind some =
 -- ---- its addresses may be written
 
 touched_at : (image : List ℕ) (number x : ℕ) → number < header_count image → (program_header image number).kind ≡ 1 → (program_header image number).address ≤ x
-    → x < (program_header image number).address + (program_header image number).memory_size → is_touched (placed image) (x / 4096) ≡ true
+    → x < (program_header image number).address + (program_header image number).memory_size → is_touched (placed image) (x / page_size) ≡ true
 unfolding is_touched
 touched_at image number x l kind low high =
-    on_right (touches (x / 4096) stack) _
-    (any_at (touches (x / 4096)) image number l (touches_at (program_header image number) (x / 4096) kind (omega arith) (omega arith) (omega arith)))
+    on_right (touches (x / page_size) stack) _
+    (any_at (touches (x / page_size)) image number l (touches_at (program_header image number) (x / page_size) kind (omega arith) (omega arith) (omega arith)))
 
 pub may_write : (image : List ℕ) (bytes : ℕ → ℕ) (number a n : ℕ) → first_fault image ≡ None → number < header_count image → (program_header image number).kind ≡ 1
     → (program_header image number).address ≤ a → a + n ≤ (program_header image number).address + (program_header image number).memory_size

@@ -7,6 +7,8 @@ use Rattle.std.proofs.lemmas.Bool.{cases_eq}
 use Rattle.std.proofs.lemmas.List.{take_at, map-set}
 use Rattle.std.proofs.lemmas.List.Sums.{sum_by-cons, sum_by-set, get_or-le-sum_by}
 use Rattle.rv_model.specs.memory.Memory.{Memory}
+use Rattle.rv_model.specs.memory.Sizes.{page_size, page_quota, frame_count}
+use Rattle.rv_model.specs.machine.Users.{user_count}
 use Rattle.user_mem.specs.declared.entry.Entry.{Entry}
 use Rattle.user_mem.specs.Table.{entry_at, memory_of, IsSorted, AreBelow, FitIn, AreSeparate, AreApart}
 use Rattle.user_mem.specs.Frames.{uses, uses_of, AreMine}
@@ -19,12 +21,12 @@ most true = omega arith
 most false = omega arith
 
 -- a frame is free wherever one user has room
-pub room_left : (xs : List (List Entry)) (u : ℕ) → u < length xs → ((v : ℕ) → length (get_or xs v []) ≤ 256) → used_in_all xs + 256 ≤ 256 * length xs + length (get_or xs u [])
+pub room_left : (xs : List (List Entry)) (u : ℕ) → u < length xs → ((v : ℕ) → length (get_or xs v []) ≤ page_quota) → used_in_all xs + page_quota ≤ page_quota * length xs + length (get_or xs u [])
 unfolding used_in_all
 room_left [] u h few = absurd (omega arith)
 room_left (x ∷ xs) zero h few = let rest = all_few xs (λ v. few (suc v)) in omega (arith, sum_by-cons (λ (t : List Entry). length t) x xs)
   where
-    all_few : (xs : List (List Entry)) → ((v : ℕ) → length (get_or xs v []) ≤ 256) → sum_by (λ t. length t) xs ≤ 256 * length xs
+    all_few : (xs : List (List Entry)) → ((v : ℕ) → length (get_or xs v []) ≤ page_quota) → sum_by (λ t. length t) xs ≤ page_quota * length xs
     all_few [] few = omega arith
     all_few (x ∷ xs) few = let rest = all_few xs (λ v. few (suc v)) in let here = few 0 in omega (arith, sum_by-cons (λ (t : List Entry). length t) x xs)
 room_left (x ∷ xs) (suc u) h few = let rest = room_left xs u (omega arith) (λ v. few (suc v)) in let here = few 0 in omega (arith, sum_by-cons (λ (t : List Entry). length t) x xs)
@@ -39,25 +41,25 @@ unfolding used_in_all
 used_in_all-set tables u t h = sum_by-set (λ t. length t) tables u t [] h
 
 -- what a user's table owes to the pool
-pub mine : (tables : List (List Entry)) (free frames : List ℕ) (u : ℕ) → IsPool tables free frames → u < 8 → AreMine free (length frames) (table_at tables u)
+pub mine : (tables : List (List Entry)) (free frames : List ℕ) (u : ℕ) → IsPool tables free frames → u < user_count → AreMine free (length frames) (table_at tables u)
 unfolding owners
 mine tables free frames u p h = record {
   once = λ f.
       let at = get_or-le-sum_by (uses_of f) tables u [] (omega (arith, p.users)) in
-      let o = p.once f in let few = most (nat_lt f 2048) in omega arith;
-  fit = λ f some. fits f some (nat_lt f 2048) refl;
+      let o = p.once f in let few = most (nat_lt f frame_count) in omega arith;
+  fit = λ f some. fits f some (nat_lt f frame_count) refl;
 }
   where
-    fits : (f : ℕ) → 0 < uses f free → (b : Bool) → nat_lt f 2048 ≡ b → 4096 * f + 4096 ≤ length frames
-    fits f some true e = let s = p.size in let l : f < 2048 = search rules in omega arith
+    fits : (f : ℕ) → 0 < uses f free → (b : Bool) → nat_lt f frame_count ≡ b → page_size * f + page_size ≤ length frames
+    fits f some true e = let s = p.size in let l : f < frame_count = search rules in omega arith
     fits f some false e =
         let o : uses f free + sum_by (uses_of f) tables ≡ 0 = p.once f ∙ ap (λ (b : Bool). cond b 1 0) e in absurd (omega arith)
 
-pub frame_left : (tables : List (List Entry)) (free frames : List ℕ) (u count : ℕ) → IsPool tables free frames → u < 8 → length (table_at tables u) + count ≤ 256 → count ≤ length free
+pub frame_left : (tables : List (List Entry)) (free frames : List ℕ) (u count : ℕ) → IsPool tables free frames → u < user_count → length (table_at tables u) + count ≤ page_quota → count ≤ length free
 frame_left tables free frames u count p h room =
     let left = room_left tables u (omega (arith, p.users)) p.few in let t = p.total in let e = p.users in omega arith
 
-pub back_fits : (tables : List (List Entry)) (free frames : List ℕ) (u : ℕ) → IsPool tables free frames → u < 8 → length free + length (table_at tables u) ≤ 2048
+pub back_fits : (tables : List (List Entry)) (free frames : List ℕ) (u : ℕ) → IsPool tables free frames → u < user_count → length free + length (table_at tables u) ≤ frame_count
 unfolding used_in_all
 back_fits tables free frames u p h =
     let at = get_or-le-sum_by (λ (t : List Entry). length t) tables u [] (omega (arith, p.users)) in let t = p.total in omega arith
@@ -73,7 +75,7 @@ tables_keep P tables u t h here all v = elim (cases_eq v u) [
 
 -- what a user's table has to keep by itself
 pub record IsTable (t : List Entry) : Type 0 where
-  pub few : length t ≤ 256
+  pub few : length t ≤ page_quota
   pub sorted : IsSorted t
   pub below : AreBelow t
 
@@ -81,7 +83,7 @@ pub no_table : IsTable []
 no_table = record { few = omega arith; sorted = λ i j d l h. absurd (omega arith); below = λ p e h. absurd (cc) }
 
 -- a user's table is another one, and the free frames are those that it left
-pub pool_after : (tables : List (List Entry)) (free after frames now : List ℕ) (u : ℕ) (t : List Entry) → IsPool tables free frames → u < 8
+pub pool_after : (tables : List (List Entry)) (free after frames now : List ℕ) (u : ℕ) (t : List Entry) → IsPool tables free frames → u < user_count
     → length now ≡ length frames → IsTable t
     → ((f : ℕ) → uses f after + uses_of f t ≡ uses f free + uses_of f (table_at tables u))
     → length after + length t ≡ length free + length (table_at tables u)
@@ -91,7 +93,7 @@ pool_after tables free after frames now u t p h same own_table own len =
     record {
       users = length-set tables u t ∙ p.users;
       size = same ∙ p.size;
-      few = tables_keep (λ t. length t ≤ 256) tables u t within own_table.few p.few;
+      few = tables_keep (λ t. length t ≤ page_quota) tables u t within own_table.few p.few;
       sorted = tables_keep (λ t. IsSorted t) tables u t within own_table.sorted p.sorted;
       below = tables_keep (λ t. AreBelow t) tables u t within own_table.below p.below;
       once = λ f. owners-set f free after tables u t within (own f) ∙ p.once f;
@@ -110,15 +112,15 @@ pool_written tables free frames now p same = record {
   total = p.total;
 }
 
-pub once_of_one : (tables : List (List Entry)) (free frames : List ℕ) (u f : ℕ) → IsPool tables free frames → u < 8 → uses_of f (table_at tables u) ≤ 1
+pub once_of_one : (tables : List (List Entry)) (free frames : List ℕ) (u f : ℕ) → IsPool tables free frames → u < user_count → uses_of f (table_at tables u) ≤ 1
 once_of_one tables free frames u f p h = let m = mine tables free frames u p h in let o = m.once f in omega arith
 
-pub fit_in : (tables : List (List Entry)) (free frames : List ℕ) (u : ℕ) → IsPool tables free frames → u < 8 → FitIn (table_at tables u) (length frames)
+pub fit_in : (tables : List (List Entry)) (free frames : List ℕ) (u : ℕ) → IsPool tables free frames → u < user_count → FitIn (table_at tables u) (length frames)
 unfolding owners
-fit_in tables free frames u p h = λ q e s. let used = used_at (table_at tables u) q e s in let at = get_or-le-sum_by (uses_of e.frame) tables u [] (omega (arith, p.users)) in fits e.frame (omega arith) (nat_lt e.frame 2048) refl
+fit_in tables free frames u p h = λ q e s. let used = used_at (table_at tables u) q e s in let at = get_or-le-sum_by (uses_of e.frame) tables u [] (omega (arith, p.users)) in fits e.frame (omega arith) (nat_lt e.frame frame_count) refl
   where
-    fits : (f : ℕ) → 0 < sum_by (uses_of f) tables → (b : Bool) → nat_lt f 2048 ≡ b → 4096 * f + 4096 ≤ length frames
-    fits f some true e = let s = p.size in let l : f < 2048 = search rules in omega arith
+    fits : (f : ℕ) → 0 < sum_by (uses_of f) tables → (b : Bool) → nat_lt f frame_count ≡ b → page_size * f + page_size ≤ length frames
+    fits f some true e = let s = p.size in let l : f < frame_count = search rules in omega arith
     fits f some false e =
         let o : uses f free + sum_by (uses_of f) tables ≡ 0 = p.once f ∙ ap (λ (b : Bool). cond b 1 0) e in absurd (omega arith)
 
@@ -148,13 +150,13 @@ used_twice (x ∷ xs) p q e g h k n s = elim (cases_eq x.page p) [
       ]
 ]
 
-pub separate : (tables : List (List Entry)) (free frames : List ℕ) (u : ℕ) → IsPool tables free frames → u < 8 → AreSeparate (table_at tables u)
+pub separate : (tables : List (List Entry)) (free frames : List ℕ) (u : ℕ) → IsPool tables free frames → u < user_count → AreSeparate (table_at tables u)
 separate tables free frames u pool l = λ p q e g h k s. elim (cases_eq p q) [
   | inl same ↦ same
   | inr n ↦ let two = used_twice (table_at tables u) p q e g h k n s in let one = once_of_one tables free frames u e.frame pool l in absurd (omega arith)
 ]
 
-pub apart : (tables : List (List Entry)) (free frames : List ℕ) (u v : ℕ) → IsPool tables free frames → u < 8 → v < 8 → u ≢ v → AreApart (table_at tables u) (get_or tables v [])
+pub apart : (tables : List (List Entry)) (free frames : List ℕ) (u v : ℕ) → IsPool tables free frames → u < user_count → v < user_count → u ≢ v → AreApart (table_at tables u) (get_or tables v [])
 unfolding owners
 apart tables free frames u v pool l m n = λ p q e g h k s.
     let a = used_at (table_at tables u) p e h in
@@ -164,7 +166,7 @@ apart tables free frames u v pool l m n = λ p q e g h k s.
     let beside = get_or-set_other tables u v [] [] (λ z. n (sym z)) in
     let there = get_or-le-sum_by (uses_of e.frame) (set tables u []) v [] (omega (arith, pool.users, length-set tables u [])) in
     let same = ap (uses_of e.frame) beside in
-    let o = pool.once e.frame in let few = most (nat_lt e.frame 2048) in
+    let o = pool.once e.frame in let few = most (nat_lt e.frame frame_count) in
     let none = uses_of-none e.frame in
     omega arith
 

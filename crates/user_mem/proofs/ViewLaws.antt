@@ -1,10 +1,12 @@
 -- The memories that callers see, and the tables and frames below them
-use Rattle.std.proofs.Common.{Option, Some, None, Result, Ok, Err, ◌≡◌, ℕ, zero, suc, ◌-◌, ◌<◌, ◌≤◌, List, [], cond, length, get_or, map, replicate, refl, sym, ◌∙◌, ap, subst, arith, add-zero}
+use Rattle.std.proofs.Common.{Option, Some, None, Result, Ok, Err, ◌≡◌, ℕ, zero, suc, ◌-◌, ◌*◌, ◌<◌, ◌≤◌, List, [], cond, length, get_or, map, replicate, refl, sym, ◌∙◌, ap, subst, arith, add-zero}
 use Rattle.std.specs.Prelude.{nat_lt, ◌↔◌}
 use Rattle.std.specs.FinMap.{empty}
 use Rattle.std.proofs.lemmas.List.{length-map}
 use Rattle.rv_model.specs.declared.memory.MapRefusal.{MapRefusal}
 use Rattle.rv_model.specs.memory.Memory.{Memory, map_refusal}
+use Rattle.rv_model.specs.memory.Sizes.{page_size, page_quota, frame_count}
+use Rattle.rv_model.specs.machine.Users.{user_count}
 use Rattle.user_mem.specs.declared.entry.Entry.{Entry}
 use Rattle.user_mem.specs.Table.{memory_of, IsSorted, AreBelow}
 use Rattle.user_mem.specs.Frames.{uses, uses_of}
@@ -36,21 +38,21 @@ no_table_at zero v = refl
 no_table_at (suc n) zero = refl
 no_table_at (suc n) (suc v) = no_table_at n v
 
--- eight tables with no page over frames that are all free
-pub fresh_pool : (tables : List (List Entry)) (free frames : List ℕ) → tables ≡ replicate 8 [] → length frames ≡ 8388608
-    → ((f : ℕ) → uses f free ≡ cond (nat_lt f 2048) 1 0) → length free ≡ 2048 → IsPool tables free frames
+-- tables with no page over frames that are all free
+pub fresh_pool : (tables : List (List Entry)) (free frames : List ℕ) → tables ≡ replicate user_count [] → length frames ≡ page_size * frame_count
+    → ((f : ℕ) → uses f free ≡ cond (nat_lt f frame_count) 1 0) → length free ≡ frame_count → IsPool tables free frames
 unfolding owners uses_of used_in_all
 fresh_pool tables free frames e size once len = subst (λ (ts : List (List Entry)). IsPool ts free frames) (sym e) (record {
   users = refl;
   size = size;
-  few = λ u. subst (λ (t : List Entry). length t ≤ 256) (sym (no_table_at 8 u)) no_table.few;
-  sorted = λ u. subst (λ (t : List Entry). IsSorted t) (sym (no_table_at 8 u)) no_table.sorted;
-  below = λ u. subst (λ (t : List Entry). AreBelow t) (sym (no_table_at 8 u)) no_table.below;
+  few = λ u. subst (λ (t : List Entry). length t ≤ page_quota) (sym (no_table_at user_count u)) no_table.few;
+  sorted = λ u. subst (λ (t : List Entry). IsSorted t) (sym (no_table_at user_count u)) no_table.sorted;
+  below = λ u. subst (λ (t : List Entry). AreBelow t) (sym (no_table_at user_count u)) no_table.below;
   once = λ f. add-zero (uses f free) ∙ once f;
   total = add-zero (length free) ∙ len;
 })
 
-pub fresh_memories : (tables : List (List Entry)) (frames : List ℕ) → tables ≡ replicate 8 [] → memories_of frames tables ≡ no_memories
+pub fresh_memories : (tables : List (List Entry)) (frames : List ℕ) → tables ≡ replicate user_count [] → memories_of frames tables ≡ no_memories
 unfolding memory_of
 fresh_memories tables frames e = ap (λ (ts : List (List Entry)). memories_of frames ts) e
 

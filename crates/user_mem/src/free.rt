@@ -1,6 +1,7 @@
 //! The list of free frames: pages take frames from it, and a table gives its frames back.
 ghost use Rattle.std.specs.Prelude.{◌≡◌, ◌≢◌, ℕ, ◌<◌, ◌≤◌, ◌+◌, ◌^◌, cond, nat_lt, [], None, List, length};
 ghost use Rattle.rv_model.specs.memory.Memory.{with_pages};
+ghost use Rattle.rv_model.specs.memory.Sizes.{page_quota, frame_count, page_limit};
 ghost use Rattle.user_mem.specs.declared.entry.Entry.{Entry};
 ghost use Rattle.user_mem.specs.Table.{entry_at, memory_of, AreBelow, IsSorted};
 ghost use Rattle.user_mem.specs.Frames.{uses, uses_of, AreMine};
@@ -8,18 +9,15 @@ ghost use Rattle.user_mem.specs.Frames.{uses, uses_of, AreMine};
 use crate::frames::map_page;
 use crate::table::Table;
 use arrayvec::ArrayVec;
-use rv_model::Permissions;
-
-/// How many frames there are, free and used.
-pub(crate) const FRAME_COUNT: usize = 2048;
+use rv_model::{FRAME_COUNT, Permissions};
 
 /// The numbers of the frames that no page has.
 pub(crate) type FreeFrames = ArrayVec<usize, FRAME_COUNT>;
 
-/// All 2,048 frames.
+/// All frames.
 pub(crate) fn all_free() -> FreeFrames
-    ensures once { (f : ℕ) → uses f result.items ≡ cond (nat_lt f 2048) 1 0 }
-    ensures len { length result.items ≡ 2048 }
+    ensures once { (f : ℕ) → uses f result.items ≡ cond (nat_lt f frame_count) 1 0 }
+    ensures len { length result.items ≡ frame_count }
 {
     let mut free = ArrayVec::new();
     for frame in 0..FRAME_COUNT {
@@ -28,7 +26,7 @@ pub(crate) fn all_free() -> FreeFrames
     free
 }
 
-// Maps one page of zeros in a free frame.
+/// Maps one page of zeros in a free frame.
 fn take_page(
     table: &mut Table,
     free: &mut FreeFrames,
@@ -36,7 +34,7 @@ fn take_page(
     page: u64,
     permissions: Permissions,
 )
-    requires room { length table.old.items < 256 }
+    requires room { length table.old.items < page_quota }
     requires some { 0 < length free.old.items }
     requires sorted { IsSorted table.old.items }
     requires mine { AreMine free.old.items (length frames.old) table.old.items }
@@ -46,7 +44,7 @@ fn take_page(
     ensures others { (other : List Entry) → AreMine free.old.items (length frames.old) other
         → memory_of frames.new other ≡ memory_of frames.old other }
     ensures sorted { IsSorted table.new.items }
-    ensures below { page < 2 ^ 36 → AreBelow table.old.items → AreBelow table.new.items }
+    ensures below { page < page_limit → AreBelow table.old.items → AreBelow table.new.items }
     ensures elsewhere { (p : ℕ) → page < p
         → entry_at table.new.items p ≡ entry_at table.old.items p }
     ensures owners { (f : ℕ) → uses f free.new.items + uses_of f table.new.items
@@ -71,9 +69,9 @@ pub(crate) fn take_pages(
     count: usize,
     permissions: Permissions,
 )
-    requires room { length table.old.items + count ≤ 256 }
+    requires room { length table.old.items + count ≤ page_quota }
     requires some { count ≤ length free.old.items }
-    requires ends { page + count ≤ 2 ^ 36 }
+    requires ends { page + count ≤ page_limit }
     requires sorted { IsSorted table.old.items }
     requires below { AreBelow table.old.items }
     requires mine { AreMine free.old.items (length frames.old) table.old.items }
@@ -97,7 +95,7 @@ pub(crate) fn take_pages(
 
 /// Gives the frames of a table back, and leaves it empty.
 pub(crate) fn give_back(table: &mut Table, free: &mut FreeFrames)
-    requires { length free.old.items + length table.old.items ≤ 2048 }
+    requires { length free.old.items + length table.old.items ≤ frame_count }
     ensures empty { table.new.items ≡ [] }
     ensures owners { (f : ℕ)
         → uses f free.new.items ≡ uses f free.old.items + uses_of f table.old.items }

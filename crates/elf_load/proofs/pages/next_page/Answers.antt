@@ -1,6 +1,7 @@
-use Rattle.std.proofs.Common.{ℕ, ◌+◌, Option, ◌<◌, ◌^◌, IfSome, sym, subst, arith}
+use Rattle.std.proofs.Common.{ℕ, ◌+◌, Option, ◌<◌, IfSome, sym, subst, arith}
 use Rattle.rv_model.specs.declared.images.ProgramHeader.{ProgramHeader}
 use Rattle.rv_model.specs.images.Image.{touches, is_touched}
+use Rattle.rv_model.specs.memory.Sizes.{page_limit}
 use Rattle.elf_load.specs.Pages.{IsFirstIfAny, EndsInMemory, first_placed}
 use Rattle.elf_load.proofs.FaultLaws.{sound_headers}
 use Rattle.elf_load.proofs.PageLaws.{next_stack, next_more, next_all, earlier_below, stack_ends, header_ends}
@@ -33,8 +34,8 @@ loop-number-preserved c = record {
   first = subst (λ (o : Option ℕ). IsFirstIfAny (is_touched (first_placed c.args.image.now (c.loop-number.number + 1))) c.args.from o) (sym c.earlier-next.ensures)
       (next_more c.args.image.now c.loop-number.number c.args.from c.loop-number.next c.first_touched.result c.loop-number.invariant.first
       (subst (λ (h : ProgramHeader). IsFirstIfAny (λ p. touches p h) c.args.from c.first_touched.result) c.program_header.ensures c.first_touched.ensures.first));
-  bound = subst (λ (o : Option ℕ). IfSome o (λ p. p < 2 ^ 36)) (sym c.earlier-next.ensures)
-      (earlier_below c.loop-number.next c.first_touched.result (2 ^ 36) c.loop-number.invariant.bound c.first_touched.ensures.bound);
+  bound = subst (λ (o : Option ℕ). IfSome o (λ p. p < page_limit)) (sym c.earlier-next.ensures)
+      (earlier_below c.loop-number.next c.first_touched.result page_limit c.loop-number.invariant.bound c.first_touched.ensures.bound);
 }
 
 pub returns-clause-first : goal.returns-clause-first
