@@ -7,10 +7,11 @@ ghost use Rattle.rv_model.specs.instructions.Layout.{Allowed, bits, parts, word_
 ghost use Rattle.rv_model.specs.instructions.Table.{scan, table};
 
 use crate::fixed_bits::{
-    branch_bits, count_bits, csr_bits, csr_immediate_bits, direction_bits, extend_bits, load_bits,
-    mask_logic_bits, mask_memory_bits, mask_to_scalar_bits, mask_unary_bits, move_bits, op_bits,
-    op_imm_bits, order_bits, shift_imm_bits, shift_imm_word_bits, store_bits, system_bits,
-    unit_bits, upper_bits, whole_move_bits, width_bits,
+    branch_bits, count_bits, csr_bits, csr_immediate_bits, direction_bits, extend_bits,
+    immediate_op_bits, load_bits, mask_logic_bits, mask_memory_bits, mask_to_scalar_bits,
+    mask_unary_bits, move_bits, order_bits, register_op_bits, shift_immediate_bits,
+    shift_immediate_word_bits, store_bits, system_bits, unit_bits, upper_bits, whole_move_bits,
+    width_bits,
 };
 use crate::lines::{carry_line, line};
 use rv_model::instructions::operations::{Form, Line, Major};
@@ -170,10 +171,10 @@ fn code(instr: &Instr) -> u64
         Instr::Branch { op, .. } => branch_bits(op),
         Instr::Load { op, .. } => load_bits(op),
         Instr::Store { op, .. } => store_bits(op),
-        Instr::OpImm { op, .. } => op_imm_bits(op),
-        Instr::ShiftImm { op, .. } => shift_imm_bits(op),
-        Instr::ShiftImmWord { op, .. } => shift_imm_word_bits(op),
-        Instr::Op { op, .. } => op_bits(op),
+        Instr::RegisterImmediate { op, .. } => immediate_op_bits(op),
+        Instr::ShiftImmediate { op, .. } => shift_immediate_bits(op),
+        Instr::ShiftImmediateWord { op, .. } => shift_immediate_word_bits(op),
+        Instr::RegisterRegister { op, .. } => register_op_bits(op),
         Instr::Fence { .. } => 0x0f,
         Instr::System { op } => system_bits(op),
         Instr::Csr { op, .. } => csr_bits(op),
@@ -229,20 +230,20 @@ fn operands(instr: &Instr) -> u64
         } => reg(rs1, 15) + reg(rs2, 20) + branch_part(offset),
         Instr::Load { rd, rs1, imm, .. } => reg(rd, 7) + reg(rs1, 15) + put(imm, 20),
         Instr::Store { rs1, rs2, imm, .. } => reg(rs1, 15) + reg(rs2, 20) + store_part(imm),
-        Instr::OpImm { rd, rs1, imm, .. } => reg(rd, 7) + reg(rs1, 15) + put(imm, 20),
-        Instr::ShiftImm {
+        Instr::RegisterImmediate { rd, rs1, imm, .. } => reg(rd, 7) + reg(rs1, 15) + put(imm, 20),
+        Instr::ShiftImmediate {
             rd,
             rs1,
             amount,
             ..
         } => reg(rd, 7) + reg(rs1, 15) + put(amount, 20),
-        Instr::ShiftImmWord {
+        Instr::ShiftImmediateWord {
             rd,
             rs1,
             amount,
             ..
         } => reg(rd, 7) + reg(rs1, 15) + put(amount, 20),
-        Instr::Op { rd, rs1, rs2, .. } => reg(rd, 7) + reg(rs1, 15) + reg(rs2, 20),
+        Instr::RegisterRegister { rd, rs1, rs2, .. } => reg(rd, 7) + reg(rs1, 15) + reg(rs2, 20),
         Instr::Fence { rd, rs1, ordering } => reg(rd, 7) + reg(rs1, 15) + put(ordering, 20),
         Instr::System { .. } => 0,
         Instr::Csr { rd, rs1, csr, .. } => reg(rd, 7) + reg(rs1, 15) + put(csr, 20),

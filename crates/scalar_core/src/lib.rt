@@ -16,6 +16,6 @@ mod tests;
 pub use arithmetic::alu;
 pub use comparison::branch;
 pub use extension::sign_extend;
-pub use immediate_forms::{op_imm_form, shift_imm_form, shift_imm_word_form};
+pub use immediate_forms::{immediate_op_form, shift_immediate_form, shift_immediate_word_form};
 pub use muldiv_op::MulDivOp;
 pub use multiplication::muldiv;

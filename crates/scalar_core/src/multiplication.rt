@@ -1,6 +1,6 @@
 //! Multiplication and division (Unprivileged ISA 20191213, chapter 7).
 ghost use Rattle.std.specs.Prelude.{◌≡◌};
-ghost use Rattle.rv_model.specs.scalar.Arithmetic.{op_value};
+ghost use Rattle.rv_model.specs.scalar.Arithmetic.{register_op_value};
 ghost use Rattle.scalar_core.specs.Multiplications.{op_of};
 
 use crate::extension::{low_word, sign_extend_word};
@@ -9,7 +9,7 @@ use crate::{division, product};
 
 /// What a multiplication or division of two registers gives.
 pub fn muldiv(op: MulDivOp, a: u64, b: u64) -> u64
-    ensures { result ≡ op_value (op_of op) a b }
+    ensures { result ≡ register_op_value (op_of op) a b }
 {
     match op {
         MulDivOp::Mul => a.wrapping_mul(b),
