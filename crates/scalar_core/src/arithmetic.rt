@@ -1,17 +1,18 @@
-//! Operations of two registers (Unprivileged ISA 20191213, sections 2.4 and 5.2).
+//! Operations of two registers (Unprivileged ISA 20191213, sections 2.4 and 5.2, and chapter 7).
 ghost use Rattle.std.specs.Prelude.{◌≡◌};
 ghost use Rattle.rv_model.specs.scalar.Arithmetic.{register_op_value};
 
 use crate::extension::{low_word, sign_extend_word};
-use crate::muldiv_op::MulDivOp;
-use crate::multiplication::muldiv;
-use crate::shift;
+use crate::{division, product, shift};
 use rv_model::instructions::operations::RegisterOp;
 
-/// What an operation of two registers gives.
+/// What an operation of two registers gives, from their 64-bit words and as one. Operations of 32 bits
+/// take the low 32 bits and sign-extend theirs; no operation traps (Unprivileged ISA 20191213, sections
+/// 2.4, 5.2, 7.1 and 7.2).
 pub fn alu(op: RegisterOp, a: u64, b: u64) -> u64
     ensures { result ≡ register_op_value op a b }
 {
+    let (a_word, b_word) = (low_word(a), low_word(b));
     match op {
         RegisterOp::Add => a.wrapping_add(b),
         RegisterOp::Sub => a.wrapping_sub(b),
@@ -23,23 +24,23 @@ pub fn alu(op: RegisterOp, a: u64, b: u64) -> u64
         RegisterOp::Sra => shift::right_signed(a, b),
         RegisterOp::Or => a | b,
         RegisterOp::And => a & b,
-        RegisterOp::Mul => muldiv(MulDivOp::Mul, a, b),
-        RegisterOp::Mulh => muldiv(MulDivOp::Mulh, a, b),
-        RegisterOp::Mulhsu => muldiv(MulDivOp::Mulhsu, a, b),
-        RegisterOp::Mulhu => muldiv(MulDivOp::Mulhu, a, b),
-        RegisterOp::Div => muldiv(MulDivOp::Div, a, b),
-        RegisterOp::Divu => muldiv(MulDivOp::Divu, a, b),
-        RegisterOp::Rem => muldiv(MulDivOp::Rem, a, b),
-        RegisterOp::Remu => muldiv(MulDivOp::Remu, a, b),
-        RegisterOp::Addw => sign_extend_word(low_word(a).wrapping_add(low_word(b))),
-        RegisterOp::Subw => sign_extend_word(low_word(a).wrapping_sub(low_word(b))),
-        RegisterOp::Sllw => sign_extend_word(shift::left_word(low_word(a), low_word(b))),
-        RegisterOp::Srlw => sign_extend_word(shift::right_word(low_word(a), low_word(b))),
-        RegisterOp::Sraw => sign_extend_word(shift::right_signed_word(low_word(a), low_word(b))),
-        RegisterOp::Mulw => muldiv(MulDivOp::Mulw, a, b),
-        RegisterOp::Divw => muldiv(MulDivOp::Divw, a, b),
-        RegisterOp::Divuw => muldiv(MulDivOp::Divuw, a, b),
-        RegisterOp::Remw => muldiv(MulDivOp::Remw, a, b),
-        RegisterOp::Remuw => muldiv(MulDivOp::Remuw, a, b),
+        RegisterOp::Mul => a.wrapping_mul(b),
+        RegisterOp::Mulh => product::high_signed(a, b),
+        RegisterOp::Mulhsu => product::high_mixed(a, b),
+        RegisterOp::Mulhu => product::high_unsigned(a, b),
+        RegisterOp::Div => division::divide_signed(a, b),
+        RegisterOp::Divu => division::divide(a, b),
+        RegisterOp::Rem => division::remainder_signed(a, b),
+        RegisterOp::Remu => division::remainder(a, b),
+        RegisterOp::Addw => sign_extend_word(a_word.wrapping_add(b_word)),
+        RegisterOp::Subw => sign_extend_word(a_word.wrapping_sub(b_word)),
+        RegisterOp::Sllw => sign_extend_word(shift::left_word(a_word, b_word)),
+        RegisterOp::Srlw => sign_extend_word(shift::right_word(a_word, b_word)),
+        RegisterOp::Sraw => sign_extend_word(shift::right_signed_word(a_word, b_word)),
+        RegisterOp::Mulw => sign_extend_word(a_word.wrapping_mul(b_word)),
+        RegisterOp::Divw => sign_extend_word(division::divide_signed_word(a_word, b_word)),
+        RegisterOp::Divuw => sign_extend_word(division::divide_word(a_word, b_word)),
+        RegisterOp::Remw => sign_extend_word(division::remainder_signed_word(a_word, b_word)),
+        RegisterOp::Remuw => sign_extend_word(division::remainder_word(a_word, b_word)),
     }
 }

@@ -378,13 +378,15 @@ listed_at : {A : Type 0} (k : ℕ) (code : A → ℕ) (t : A → Instr) (ops : L
 listed_at k code t ops op known same =
     in_table k (row_of (t op)) (subst (In (row_of (t op))) (sym same) (in_rows code t ops op (code op) known))
 
+-- no operation of the second half of the opcode map has an immediate
 arith_in : (m : Major) (f : Form) (r : Row) → In r (rows (Ariths m f)) → In r table
+unfolding rows
 arith_in Opi form.V r h = in_table 17 r h
 arith_in Opi form.X r h = in_table 18 r h
 arith_in Opi form.I r h = in_table 19 r h
 arith_in Opm form.V r h = in_table 20 r h
 arith_in Opm form.X r h = in_table 21 r h
-arith_in Opm form.I r h = in_table 22 r h
+arith_in Opm form.I r h = absurd h
 
 listed_arith : (op : VectorOp) (s : Source) (vd vs2 : ℕ) (vm : Bool) → has_form (line op).forms (form_of s) ≡ true
     → In (row_of (VectorArith (op, s) vd vs2 vm)) table
@@ -408,21 +410,21 @@ unfolding rows
 listed_carry op (source.V n) vd vs2 h =
     let ops : List CarryOp = those carry_line Opi form.V carry_ops in
     let is : find (λ o. line_bits (carry_line o) form.V) ops (line_bits (carry_line op) form.V) ≡ Some op = cond-same (has_form (carry_line op).forms form.V) (find (λ o. line_bits (carry_line o) form.V) ops (line_bits (carry_line op) form.V)) (Some op) None (known_carry op form.V) h in
-    in_table 23 (row_of (VectorCarry (op, source.V 0) 0 0)) (in_rows (λ o. line_bits (carry_line o) form.V) (λ o. VectorCarry (o, source.V 0) 0 0) ops op (line_bits (carry_line op) form.V) is)
+    in_table 22 (row_of (VectorCarry (op, source.V 0) 0 0)) (in_rows (λ o. line_bits (carry_line o) form.V) (λ o. VectorCarry (o, source.V 0) 0 0) ops op (line_bits (carry_line op) form.V) is)
 listed_carry op (source.X n) vd vs2 h =
     let ops : List CarryOp = those carry_line Opi form.X carry_ops in
     let is : find (λ o. line_bits (carry_line o) form.X) ops (line_bits (carry_line op) form.X) ≡ Some op = cond-same (has_form (carry_line op).forms form.X) (find (λ o. line_bits (carry_line o) form.X) ops (line_bits (carry_line op) form.X)) (Some op) None (known_carry op form.X) h in
-    in_table 24 (row_of (VectorCarry (op, source.X 0) 0 0)) (in_rows (λ o. line_bits (carry_line o) form.X) (λ o. VectorCarry (o, source.X 0) 0 0) ops op (line_bits (carry_line op) form.X) is)
+    in_table 23 (row_of (VectorCarry (op, source.X 0) 0 0)) (in_rows (λ o. line_bits (carry_line o) form.X) (λ o. VectorCarry (o, source.X 0) 0 0) ops op (line_bits (carry_line op) form.X) is)
 listed_carry op (source.I n) vd vs2 h =
     let ops : List CarryOp = those carry_line Opi form.I carry_ops in
     let is : find (λ o. line_bits (carry_line o) form.I) ops (line_bits (carry_line op) form.I) ≡ Some op = cond-same (has_form (carry_line op).forms form.I) (find (λ o. line_bits (carry_line o) form.I) ops (line_bits (carry_line op) form.I)) (Some op) None (known_carry op form.I) h in
-    in_table 25 (row_of (VectorCarry (op, source.I 0) 0 0)) (in_rows (λ o. line_bits (carry_line o) form.I) (λ o. VectorCarry (o, source.I 0) 0 0) ops op (line_bits (carry_line op) form.I) is)
+    in_table 24 (row_of (VectorCarry (op, source.I 0) 0 0)) (in_rows (λ o. line_bits (carry_line o) form.I) (λ o. VectorCarry (o, source.I 0) 0 0) ops op (line_bits (carry_line op) form.I) is)
 
 listed_move : (s : Source) (vd : ℕ) → In (row_of (VectorMove s vd)) table
 unfolding rows
-listed_move (source.V n) vd = in_table 26 (row_of (VectorMove (source.V 0) 0)) (inl refl)
-listed_move (source.X n) vd = in_table 27 (row_of (VectorMove (source.X 0) 0)) (inl refl)
-listed_move (source.I n) vd = in_table 28 (row_of (VectorMove (source.I 0) 0)) (inl refl)
+listed_move (source.V n) vd = in_table 25 (row_of (VectorMove (source.V 0) 0)) (inl refl)
+listed_move (source.X n) vd = in_table 26 (row_of (VectorMove (source.X 0) 0)) (inl refl)
+listed_move (source.I n) vd = in_table 27 (row_of (VectorMove (source.I 0) 0)) (inl refl)
 
 -- an instruction's row is in the table
 pub listed : (i : Instr) → Allowed i → In (row_of i) table
@@ -452,31 +454,31 @@ listed (VectorArith arith vd vs2 vm) h = listed_arith arith.0 arith.1 vd vs2 vm 
 listed (VectorCarry carry vd vs2) h = listed_carry carry.0 carry.1 vd vs2 h
 listed (VectorMove source vd) h = listed_move source vd
 listed (WholeMove count vd vs2) h =
-    listed_at 29 whole_move_bits (λ op. WholeMove op 0 0) counts count (known_whole_move count) refl
+    listed_at 28 whole_move_bits (λ op. WholeMove op 0 0) counts count (known_whole_move count) refl
 listed (MaskLogic op vd vs1 vs2) h =
-    listed_at 30 mask_logic_bits (λ op. MaskLogic op 0 0 0) mask_logic_ops op (known_mask_logic op) refl
-listed (Compress vd vs1 vs2) h = in_table 31 (row_of (Compress 0 0 0)) (inl refl)
+    listed_at 29 mask_logic_bits (λ op. MaskLogic op 0 0 0) mask_logic_ops op (known_mask_logic op) refl
+listed (Compress vd vs1 vs2) h = in_table 30 (row_of (Compress 0 0 0)) (inl refl)
 listed (MaskToScalar op rd vs2 vm) h =
-    listed_at 32 mask_to_scalar_bits (λ op. MaskToScalar op 0 0 true) mask_to_scalar_ops op (known_mask_to_scalar op) refl
+    listed_at 31 mask_to_scalar_bits (λ op. MaskToScalar op 0 0 true) mask_to_scalar_ops op (known_mask_to_scalar op) refl
 listed (VectorExtend op vd vs2 vm) h =
-    listed_at 33 extend_bits (λ op. VectorExtend op 0 0 true) extend_ops op (known_extend op) refl
+    listed_at 32 extend_bits (λ op. VectorExtend op 0 0 true) extend_ops op (known_extend op) refl
 listed (MaskUnary op vd vs2 vm) h =
-    listed_at 34 mask_unary_bits (λ op. MaskUnary op 0 0 true) mask_unary_ops op (known_mask_unary op) refl
-listed (ElementIndex vd vm) h = in_table 35 (row_of (ElementIndex 0 true)) (inl refl)
-listed (MoveToScalar rd vs2) h = in_table 36 (row_of (MoveToScalar 0 0)) (inl refl)
-listed (MoveToVector vd rs1) h = in_table 37 (row_of (MoveToVector 0 0)) (inl refl)
+    listed_at 33 mask_unary_bits (λ op. MaskUnary op 0 0 true) mask_unary_ops op (known_mask_unary op) refl
+listed (ElementIndex vd vm) h = in_table 34 (row_of (ElementIndex 0 true)) (inl refl)
+listed (MoveToScalar rd vs2) h = in_table 35 (row_of (MoveToScalar 0 0)) (inl refl)
+listed (MoveToVector vd rs1) h = in_table 36 (row_of (MoveToVector 0 0)) (inl refl)
 listed (VectorUnit op width nf vd rs1 vm) h =
-    listed_at 38 unit_access_bits (λ op. VectorUnit op.0 op.1 0 0 0 true) unit_accesses (op, width) (known_unit op width) refl
+    listed_at 37 unit_access_bits (λ op. VectorUnit op.0 op.1 0 0 0 true) unit_accesses (op, width) (known_unit op width) refl
 listed (VectorStrided direction width nf vd rs1 rs2 vm) h =
-    listed_at 39 strided_access_bits (λ op. VectorStrided op.0 op.1 0 0 0 0 true) strided_accesses (direction, width) (known_strided direction width) refl
+    listed_at 38 strided_access_bits (λ op. VectorStrided op.0 op.1 0 0 0 0 true) strided_accesses (direction, width) (known_strided direction width) refl
 listed (VectorIndexed direction order width nf vd rs1 vs2 vm) h =
-    listed_at 40 indexed_access_bits (λ op. VectorIndexed op.0.0 op.0.1 op.1 0 0 0 0 true) indexed_accesses ((direction, order), width) (known_indexed direction order width) refl
+    listed_at 39 indexed_access_bits (λ op. VectorIndexed op.0.0 op.0.1 op.1 0 0 0 0 true) indexed_accesses ((direction, order), width) (known_indexed direction order width) refl
 listed (WholeLoad count width vd rs1) h =
-    listed_at 41 whole_load_bits (λ op. WholeLoad op.0 op.1 0 0) whole_loads (count, width) (known_whole_load count width) refl
+    listed_at 40 whole_load_bits (λ op. WholeLoad op.0 op.1 0 0) whole_loads (count, width) (known_whole_load count width) refl
 listed (WholeStore count vd rs1) h =
-    listed_at 42 whole_store_bits (λ op. WholeStore op 0 0) counts count (known_whole_store count) refl
+    listed_at 41 whole_store_bits (λ op. WholeStore op 0 0) counts count (known_whole_store count) refl
 listed (MaskMemory direction vd rs1) h =
-    listed_at 43 mask_memory_bits (λ op. MaskMemory op 0 0) directions direction (known_mask_memory direction) refl
+    listed_at 42 mask_memory_bits (λ op. MaskMemory op 0 0) directions direction (known_mask_memory direction) refl
 
 pub inside : (i : Instr) → Allowed i → bit_and (bits i) (fixed (parts i)) ≡ bits i
 inside i ok =

@@ -160,7 +160,7 @@ abbrev pub families : List Family
 families =
     Uppers ∷ Jumps ∷ JumpRegisters ∷ Branches ∷ Loads ∷ Stores ∷ RegisterImmediates ∷ ShiftImmediates ∷ ShiftImmediateWords ∷ RegisterRegisters ∷
     Fences ∷ Systems ∷ Csrs ∷ CsrImmediates ∷ SetVlis ∷ SetIvlis ∷ SetVls ∷ Ariths Opi form.V ∷
-    Ariths Opi form.X ∷ Ariths Opi form.I ∷ Ariths Opm form.V ∷ Ariths Opm form.X ∷ Ariths Opm form.I ∷
+    Ariths Opi form.X ∷ Ariths Opi form.I ∷ Ariths Opm form.V ∷ Ariths Opm form.X ∷
     Carries form.V ∷ Carries form.X ∷ Carries form.I ∷ Moves form.V ∷ Moves form.X ∷ Moves form.I ∷
     WholeMoves ∷ MaskLogics ∷ Compresses ∷ MasksToScalar ∷ Extends ∷ MaskUnaries ∷ ElementIndices ∷
     MovesToScalar ∷ MovesToVector ∷ Units ∷ Strideds ∷ Indexeds ∷ WholeLoads ∷ WholeStores ∷ MaskMemories ∷ []

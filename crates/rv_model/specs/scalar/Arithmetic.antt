@@ -1,7 +1,7 @@
 -- What the operations of scalar registers give, as whole numbers. A register is an unsigned number of 64 bits, and is read as
 -- two's complement where an operation is signed (Unprivileged ISA 20191213, sections 2.4, 5.2, 7.1 and 7.2).
-use Rattle.std.specs.Prelude.{ℕ, ◌+◌, ◌-◌, ◌*◌, ◌/◌, ◌%◌, ◌^◌, ◌==◌, ◌&&◌, nat_lt, Bool, if◌then◌else◌, pos, ◌*ℤ◌, int_lt, int_div, int_rem, bit_and, bit_or, bit_xor}
-use Rattle.std.specs.Int.{Width, w32, w64, w128, cast_signed, cast_unsigned, int_shr, from_bool}
+use Rattle.std.specs.Prelude.{ℕ, ◌+◌, ◌-◌, ◌*◌, ◌/◌, ◌%◌, ◌^◌, ◌==◌, ◌&&◌, nat_lt, Bool, if◌then◌else◌, ℤ, pos, ◌*ℤ◌, int_lt, int_div, int_rem, bit_and, bit_or, bit_xor}
+use Rattle.std.specs.Int.{Width, w32, w64, cast_signed, cast_unsigned, int_shr, from_bool}
 use mir.Val.{bits, hbits}
 use Rattle.rv_model.specs.declared.instructions.operations.UpperOp.{UpperOp}
 use Rattle.rv_model.specs.declared.instructions.operations.UpperOp.TheVariants.{Lui, Auipc}
@@ -13,7 +13,7 @@ use Rattle.rv_model.specs.declared.instructions.operations.ShiftImmediateOp.{Shi
 use Rattle.rv_model.specs.declared.instructions.operations.ShiftImmediateOp.TheVariants.{Slli, Srli, Srai}
 use Rattle.rv_model.specs.declared.instructions.operations.ShiftImmediateWordOp.{ShiftImmediateWordOp}
 use Rattle.rv_model.specs.declared.instructions.operations.ShiftImmediateWordOp.TheVariants.{Slliw, Srliw, Sraiw}
-use Rattle.rv_model.specs.instructions.Immediates.{sign_extended}
+use Rattle.rv_model.specs.instructions.Immediates.{i_immediate, u_immediate, sign_extended}
 
 -- ---- operations of a width, on unsigned numbers of that width
 
@@ -28,6 +28,18 @@ difference w a b = (a + (2 ^ bits w - b)) % 2 ^ bits w
 -- modulo 2 to the width
 abbrev pub product : Width → ℕ → ℕ → ℕ
 product w a b = a * b % 2 ^ bits w
+
+-- the upper half of the whole product
+abbrev pub high_product : Width → ℕ → ℕ → ℕ
+high_product w a b = a * b / 2 ^ bits w
+
+-- the upper half of the whole product of two signed numbers
+abbrev pub signed_high_product : Width → ℕ → ℕ → ℤ
+signed_high_product w a b = int_shr (cast_signed w a *ℤ cast_signed w b) (bits w)
+
+-- the upper half of the whole product of a signed and an unsigned number
+abbrev pub mixed_high_product : Width → ℕ → ℕ → ℤ
+mixed_high_product w a b = int_shr (cast_signed w a *ℤ pos b) (bits w)
 
 -- shifted left by the low bits of b: 5 of them at 32 bits, 6 at 64
 abbrev pub shifted_left : Width → ℕ → ℕ → ℕ
@@ -86,9 +98,9 @@ register_op_value Sra a b = shifted_right_signed w64 a b
 register_op_value Or a b = bit_or a b
 register_op_value And a b = bit_and a b
 register_op_value Mul a b = product w64 a b
-register_op_value Mulh a b = cast_unsigned w128 (cast_signed w64 a *ℤ cast_signed w64 b) / 2 ^ 64
-register_op_value Mulhsu a b = cast_unsigned w128 (cast_signed w64 a *ℤ pos b) / 2 ^ 64
-register_op_value Mulhu a b = a * b / 2 ^ 64
+register_op_value Mulh a b = cast_unsigned w64 (signed_high_product w64 a b)
+register_op_value Mulhsu a b = cast_unsigned w64 (mixed_high_product w64 a b)
+register_op_value Mulhu a b = high_product w64 a b
 register_op_value Div a b = signed_quotient w64 a b
 register_op_value Divu a b = quotient w64 a b
 register_op_value Rem a b = signed_remainder w64 a b
@@ -116,7 +128,7 @@ immediate_op_form Addiw = Addw
 
 -- an operation of a register and an immediate of 12 bits, sign-extended
 abbrev pub immediate_op_value : ImmediateOp → ℕ → ℕ → ℕ
-immediate_op_value op a imm = register_op_value (immediate_op_form op) a (sign_extended 12 imm)
+immediate_op_value op a imm = register_op_value (immediate_op_form op) a (i_immediate imm)
 
 -- the shift by a register that a shift by an immediate does
 abbrev pub shift_immediate_form : ShiftImmediateOp → RegisterOp
@@ -140,5 +152,5 @@ shift_immediate_word_value op a amount = register_op_value (shift_immediate_word
 
 -- the upper 20 bits of a 32-bit number, sign-extended; alone, or added to the program counter
 abbrev pub upper_value : UpperOp → ℕ → ℕ → ℕ
-upper_value Lui pc imm = sign_extended 32 (imm * 2 ^ 12)
-upper_value Auipc pc imm = (pc + sign_extended 32 (imm * 2 ^ 12)) % 2 ^ 64
+upper_value Lui pc imm = u_immediate imm
+upper_value Auipc pc imm = (pc + u_immediate imm) % 2 ^ 64

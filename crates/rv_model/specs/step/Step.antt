@@ -10,6 +10,7 @@ use Rattle.rv_model.specs.declared.instructions.operations.CsrOp.{CsrOp}
 use Rattle.rv_model.specs.declared.step.step_end.Cause.TheVariants.{FetchAccess, IllegalInstruction}
 use Rattle.rv_model.specs.vector.ControlRegisters.{control_register, is_read_only}
 use Rattle.rv_model.specs.scalar.ControlTransfer.{is_taken, jump_target, register_target, branch_target}
+use Rattle.rv_model.specs.instructions.Immediates.{i_immediate, s_immediate}
 use Rattle.rv_model.specs.instructions.Table.{scan, table}
 use Rattle.rv_model.specs.scalar.LoadsAndStores.{access_address}
 use Rattle.rv_model.specs.memory.Memory.{Memory, bytes_at, can_access}
@@ -32,9 +33,9 @@ executed limit (Some (Jump rd offset)) word s = jump_step rd (jump_target s.scal
 executed limit (Some (JumpRegister rd rs1 imm)) word s = jump_step rd (register_target (read_register s.scalar rs1) imm) s
 executed limit (Some (Branch op rs1 rs2 offset)) word s =
     branch_step (is_taken op (read_register s.scalar rs1) (read_register s.scalar rs2)) (branch_target s.scalar.pc offset) s
-executed limit (Some (Load op rd rs1 imm)) word s = load_step op rd (access_address (read_register s.scalar rs1) imm) s
+executed limit (Some (Load op rd rs1 imm)) word s = load_step op rd (access_address (read_register s.scalar rs1) (i_immediate imm)) s
 executed limit (Some (Store op rs1 rs2 imm)) word s =
-    store_step op (access_address (read_register s.scalar rs1) imm) (read_register s.scalar rs2) s
+    store_step op (access_address (read_register s.scalar rs1) (s_immediate imm)) (read_register s.scalar rs2) s
 executed limit (Some (RegisterImmediate op rd rs1 imm)) word s = gives rd (immediate_op_value op (read_register s.scalar rs1) imm) s
 executed limit (Some (ShiftImmediate op rd rs1 amount)) word s = gives rd (shift_immediate_value op (read_register s.scalar rs1) amount) s
 executed limit (Some (ShiftImmediateWord op rd rs1 amount)) word s = gives rd (shift_immediate_word_value op (read_register s.scalar rs1) amount) s
