@@ -7,7 +7,9 @@ ghost use Rattle.hart.specs.States.{LeadsScalar};
 use crate::control_transfer::{branch_target, jump, jump_if, jump_target, register_target};
 use crate::environment_call::system;
 use crate::faults::illegal;
-use crate::integer::{give, op_imm, run_on, shift_imm, shift_imm_word, upper};
+use crate::integer::{
+    give, register_immediate, run_on, shift_immediate, shift_immediate_word, upper,
+};
 use crate::loads_and_stores::{access_address, load, store};
 use rv_model::{Instr, Scalar, StepEnd};
 use scalar_core::{alu, branch};
@@ -50,20 +52,28 @@ pub(crate) fn execute_scalar<M: UserBytes>(
             let addr = access_address(scalar.read(rs1), imm);
             store(op, addr, scalar.read(rs2), scalar, memory)
         }
-        Instr::OpImm { op, rd, rs1, imm } => give(rd, op_imm(op, scalar.read(rs1), imm), scalar),
-        Instr::ShiftImm {
+        Instr::RegisterImmediate { op, rd, rs1, imm } => give(
+            rd,
+            register_immediate(op, scalar.read(rs1), imm),
+            scalar,
+        ),
+        Instr::ShiftImmediate {
             op,
             rd,
             rs1,
             amount,
-        } => give(rd, shift_imm(op, scalar.read(rs1), amount), scalar),
-        Instr::ShiftImmWord {
+        } => give(rd, shift_immediate(op, scalar.read(rs1), amount), scalar),
+        Instr::ShiftImmediateWord {
             op,
             rd,
             rs1,
             amount,
-        } => give(rd, shift_imm_word(op, scalar.read(rs1), amount), scalar),
-        Instr::Op { op, rd, rs1, rs2 } => {
+        } => give(
+            rd,
+            shift_immediate_word(op, scalar.read(rs1), amount),
+            scalar,
+        ),
+        Instr::RegisterRegister { op, rd, rs1, rs2 } => {
             give(rd, alu(op, scalar.read(rs1), scalar.read(rs2)), scalar)
         }
         Instr::Fence { .. } => run_on(scalar),

@@ -31,10 +31,10 @@ pub(crate) fn is_touching(instr: &Instr) -> bool
         | Instr::Branch { .. }
         | Instr::Load { .. }
         | Instr::Store { .. }
-        | Instr::OpImm { .. }
-        | Instr::ShiftImm { .. }
-        | Instr::ShiftImmWord { .. }
-        | Instr::Op { .. }
+        | Instr::RegisterImmediate { .. }
+        | Instr::ShiftImmediate { .. }
+        | Instr::ShiftImmediateWord { .. }
+        | Instr::RegisterRegister { .. }
         | Instr::Fence { .. }
         | Instr::System { .. } => false,
         _ => true,

@@ -5,7 +5,7 @@ use Rattle.std.specs.Int.{byte_len}
 use Rattle.std.proofs.lemmas.Bool.Decides.{nat_tests}
 use Rattle.rv_model.specs.declared.vector.control_register.ControlRegister.{ControlRegister}
 use Rattle.rv_model.specs.declared.instructions.instruction.Instr.{Instr}
-use Rattle.rv_model.specs.declared.instructions.instruction.Instr.TheVariants.{Upper, Jump, JumpRegister, Branch, Load, Store, OpImm, ShiftImm, ShiftImmWord, Op, Fence, System, Csr, CsrImmediate, SetVli, SetIvli, SetVl, VectorArith}
+use Rattle.rv_model.specs.declared.instructions.instruction.Instr.TheVariants.{Upper, Jump, JumpRegister, Branch, Load, Store, RegisterImmediate, ShiftImmediate, ShiftImmediateWord, RegisterRegister, Fence, System, Csr, CsrImmediate, SetVli, SetIvli, SetVl, VectorArith}
 use Rattle.rv_model.specs.declared.memory.Access.TheVariants as access
 use Rattle.rv_model.specs.declared.instructions.operations.CsrOp.{CsrOp}
 use Rattle.rv_model.specs.declared.instructions.operations.LoadOp.{LoadOp}
@@ -26,6 +26,7 @@ use Rattle.rv_model.specs.vector.ControlRegisters.{control_register, is_read_onl
 use Rattle.rv_model.specs.scalar.ControlTransfer.{is_aligned, is_taken, jump_target, register_target, branch_target}
 use Rattle.rv_model.specs.step.Hart.{HartState, Stepped, faults, runs_on, gives}
 use Rattle.rv_model.specs.step.Effects.{OnFault, FaultsWriteNoRegister, FirstRegisterStays}
+use Rattle.rv_model.specs.instructions.Immediates.{i_immediate, s_immediate}
 use Rattle.rv_model.specs.instructions.Table.{scan, table}
 use Rattle.rv_model.specs.legality.Legality.{is_legal_at}
 use Rattle.rv_model.specs.scalar.LoadsAndStores.{access_address, load_width, store_width}
@@ -152,13 +153,13 @@ executed_keeps limit (Some (Jump rd offset)) word s = jump_keeps rd (jump_target
 executed_keeps limit (Some (JumpRegister rd rs1 imm)) word s = jump_keeps rd (register_target (read_register s.scalar rs1) imm) s
 executed_keeps limit (Some (Branch op rs1 rs2 offset)) word s =
     branch_keeps (is_taken op (read_register s.scalar rs1) (read_register s.scalar rs2)) (branch_target s.scalar.pc offset) s
-executed_keeps limit (Some (Load op rd rs1 imm)) word s = load_keeps op rd (access_address (read_register s.scalar rs1) imm) s
+executed_keeps limit (Some (Load op rd rs1 imm)) word s = load_keeps op rd (access_address (read_register s.scalar rs1) (i_immediate imm)) s
 executed_keeps limit (Some (Store op rs1 rs2 imm)) word s =
-    store_keeps op (access_address (read_register s.scalar rs1) imm) (read_register s.scalar rs2) s
-executed_keeps limit (Some (OpImm op rd rs1 imm)) word s = gives_keep rd _ s s refl
-executed_keeps limit (Some (ShiftImm op rd rs1 amount)) word s = gives_keep rd _ s s refl
-executed_keeps limit (Some (ShiftImmWord op rd rs1 amount)) word s = gives_keep rd _ s s refl
-executed_keeps limit (Some (Op op rd rs1 rs2)) word s = gives_keep rd _ s s refl
+    store_keeps op (access_address (read_register s.scalar rs1) (s_immediate imm)) (read_register s.scalar rs2) s
+executed_keeps limit (Some (RegisterImmediate op rd rs1 imm)) word s = gives_keep rd _ s s refl
+executed_keeps limit (Some (ShiftImmediate op rd rs1 amount)) word s = gives_keep rd _ s s refl
+executed_keeps limit (Some (ShiftImmediateWord op rd rs1 amount)) word s = gives_keep rd _ s s refl
+executed_keeps limit (Some (RegisterRegister op rd rs1 rs2)) word s = gives_keep rd _ s s refl
 executed_keeps limit (Some (Fence rd rs1 ordering)) word s = runs_keep s.scalar s s refl
 executed_keeps limit (Some (System op)) word s = system_keeps op s
 executed_keeps limit (Some (Csr op rd rs1 csr)) word s = csr_keeps (control_register csr) op rd rs1 (read_register s.scalar rs1) word s

@@ -1,7 +1,7 @@
 -- One vector instruction, carried out ("V" Vector Extension 1.0).
 use Rattle.std.specs.Prelude.{ℕ, ◌==◌, ◌&&◌, Bool, true, false, List, Option, Some, None, if◌then◌else◌}
 use Rattle.rv_model.specs.declared.instructions.instruction.Instr.{Instr}
-use Rattle.rv_model.specs.declared.instructions.instruction.Instr.TheVariants.{Upper, Jump, JumpRegister, Branch, Load, Store, OpImm, ShiftImm, ShiftImmWord, Op, Fence, System, Csr, CsrImmediate, SetVli, SetIvli, SetVl, VectorArith}
+use Rattle.rv_model.specs.declared.instructions.instruction.Instr.TheVariants.{Upper, Jump, JumpRegister, Branch, Load, Store, RegisterImmediate, ShiftImmediate, ShiftImmediateWord, RegisterRegister, Fence, System, Csr, CsrImmediate, SetVli, SetIvli, SetVl, VectorArith, VectorCarry, VectorMove, WholeMove, MaskLogic, Compress, MaskToScalar, VectorExtend, MaskUnary, ElementIndex, MoveToScalar, MoveToVector, VectorUnit, VectorStrided, VectorIndexed, WholeLoad, WholeStore, MaskMemory}
 use Rattle.rv_model.specs.declared.instructions.operations.BinaryOp.{BinaryOp}
 use Rattle.rv_model.specs.declared.instructions.operations.VectorOp.{VectorOp}
 use Rattle.rv_model.specs.declared.instructions.operations.VectorOp.TheVariants.{Binary}
@@ -30,15 +30,35 @@ is_vector (JumpRegister rd rs1 imm) = false
 is_vector (Branch op rs1 rs2 offset) = false
 is_vector (Load op rd rs1 imm) = false
 is_vector (Store op rs1 rs2 imm) = false
-is_vector (OpImm op rd rs1 imm) = false
-is_vector (ShiftImm op rd rs1 amount) = false
-is_vector (ShiftImmWord op rd rs1 amount) = false
-is_vector (Op op rd rs1 rs2) = false
+is_vector (RegisterImmediate op rd rs1 imm) = false
+is_vector (ShiftImmediate op rd rs1 amount) = false
+is_vector (ShiftImmediateWord op rd rs1 amount) = false
+is_vector (RegisterRegister op rd rs1 rs2) = false
 is_vector (Fence rd rs1 ordering) = false
 is_vector (System op) = false
 is_vector (Csr op rd rs1 csr) = false
 is_vector (CsrImmediate op rd imm csr) = false
-is_vector _ = true
+is_vector (SetVli rd rs1 vtype) = true
+is_vector (SetIvli rd avl vtype) = true
+is_vector (SetVl rd rs1 rs2) = true
+is_vector (VectorArith arith vd vs2 vm) = true
+is_vector (VectorCarry carry vd vs2) = true
+is_vector (VectorMove source vd) = true
+is_vector (WholeMove count vd vs2) = true
+is_vector (MaskLogic op vd vs1 vs2) = true
+is_vector (Compress vd vs1 vs2) = true
+is_vector (MaskToScalar op rd vs2 vm) = true
+is_vector (VectorExtend op vd vs2 vm) = true
+is_vector (MaskUnary op vd vs2 vm) = true
+is_vector (ElementIndex vd vm) = true
+is_vector (MoveToScalar rd vs2) = true
+is_vector (MoveToVector vd rs1) = true
+is_vector (VectorUnit op width nf vd rs1 vm) = true
+is_vector (VectorStrided direction width nf vd rs1 rs2 vm) = true
+is_vector (VectorIndexed direction order width nf vd rs1 vs2 vm) = true
+is_vector (WholeLoad count width vd rs1) = true
+is_vector (WholeStore count vd rs1) = true
+is_vector (MaskMemory direction vd rs1) = true
 
 -- how a vector instruction ends, and the state that it leaves, with the program counter still on it
 pub record VectorStepped : Type 0 where
@@ -110,4 +130,5 @@ vector_step limit i word s =
 -- whether a vector instruction changes the vector state: unless it is illegal, also where it then faults
 abbrev pub is_legal_end : VEnd → Bool
 is_legal_end vector_end.Illegal = false
-is_legal_end _ = true
+is_legal_end vector_end.Done = true
+is_legal_end (vector_end.Fault store addr) = true

@@ -1,9 +1,9 @@
 //! The instructions, by operand shape.
 use crate::instructions::operands::{Field, Reg, VReg};
 use crate::instructions::operations::{
-    BranchOp, CsrImmediateOp, CsrOp, Direction, ExtendOp, LoadOp, MaskLogicOp, MaskToScalarOp,
-    MaskUnaryOp, OpImmOp, OpOp, Order, RegisterCount, ShiftImmOp, ShiftImmWordOp, StoreOp,
-    SystemOp, UnitOp, UpperOp, Width,
+    BranchOp, CsrImmediateOp, CsrOp, Direction, ExtendOp, ImmediateOp, LoadOp, MaskLogicOp,
+    MaskToScalarOp, MaskUnaryOp, Order, RegisterCount, RegisterOp, ShiftImmediateOp,
+    ShiftImmediateWordOp, StoreOp, SystemOp, UnitOp, UpperOp, Width,
 };
 use crate::instructions::pairs::{Arith, Carry};
 use crate::instructions::source::Source;
@@ -50,29 +50,29 @@ pub enum Instr {
         imm: Field<12>,
     },
     /// `addi rd, rs1, imm` and the like.
-    OpImm {
-        op: OpImmOp,
+    RegisterImmediate {
+        op: ImmediateOp,
         rd: Reg,
         rs1: Reg,
         imm: Field<12>,
     },
     /// `slli rd, rs1, amount` and the like.
-    ShiftImm {
-        op: ShiftImmOp,
+    ShiftImmediate {
+        op: ShiftImmediateOp,
         rd: Reg,
         rs1: Reg,
         amount: Field<6>,
     },
     /// `slliw rd, rs1, amount` and the like.
-    ShiftImmWord {
-        op: ShiftImmWordOp,
+    ShiftImmediateWord {
+        op: ShiftImmediateWordOp,
         rd: Reg,
         rs1: Reg,
         amount: Field<5>,
     },
     /// `add rd, rs1, rs2` and the like.
-    Op {
-        op: OpOp,
+    RegisterRegister {
+        op: RegisterOp,
         rd: Reg,
         rs1: Reg,
         rs2: Reg,
