@@ -12,7 +12,7 @@ use Rattle.rv_model.specs.declared.assembler.mnemonics.TheConstants.{MNEMONICS}
 use Rattle.rv_model.specs.assembler.Fields.{value_of}
 use Rattle.rv_model.specs.assembler.Numbers.{hex_digit, hex_digits, csr_text, csr_text_of}
 use Rattle.rv_model.specs.assembler.Slots.{step, half, signed_text, vtype_named, vtype_text, printed}
-use Rattle.rv_model.specs.assembler.Table.{unpadded, row_at, name_at, slots_at, row_of_word, operands_text, printed_operands, text_at, canonical}
+use Rattle.rv_model.specs.assembler.Table.{row_count, unpadded, row_at, name_at, slots_at, row_of_word, operands_text, printed_operands, text_at, canonical}
 use Rattle.rv_model.specs.text.Lines.{is_line, IsLine}
 use Rattle.rv_model.specs.declared.vector.control_register.ControlRegister.{ControlRegister}
 use Rattle.rv_model.specs.declared.vector.types.Sew.{Sew}
@@ -124,12 +124,12 @@ operands_line (s ∷ ss) word = printed_operands_line (s ∷ ss) word
 unfoldable is_name_line : ℕ → Bool
 is_name_line row = is_line (name_at row)
 
-each_name : (row : ℕ) → row < 598 → is_name_line row ≡ true
+each_name : (row : ℕ) → row < row_count → is_name_line row ≡ true
 unfolding is_name_line name_at row_at
-each_name row lt = agree_below_at is_name_line (λ _. true) 598 row refl lt
+each_name row lt = agree_below_at is_name_line (λ _. true) row_count row refl lt
 
 -- past the table there is no name
-no_name : (row : ℕ) → 598 ≤ row → IsLine (name_at row)
+no_name : (row : ℕ) → row_count ≤ row → IsLine (name_at row)
 unfolding name_at row_at
 no_name row le =
     let none : Mnemonic = record { 0 = []; 1 = form.Plain; 2 = 0 } in
@@ -137,7 +137,7 @@ no_name row le =
 
 name_line : (row : ℕ) → IsLine (name_at row)
 unfolding is_name_line
-name_line row = elim (cases_lt row 598) [
+name_line row = elim (cases_lt row row_count) [
   | inl lt ↦ each_name row lt
   | inr le ↦ no_name row le
 ]
