@@ -9,7 +9,7 @@ use Rattle.std.proofs.lemmas.Bool.{cases_Bool, and_parts, eqb-true, eq-eqb}
 use Rattle.rv_model.specs.declared.assembler.mnemonics.Mnemonic.{Mnemonic}
 use Rattle.rv_model.specs.declared.assembler.mnemonics.TheConstants.{MNEMONICS}
 use Rattle.rv_model.specs.assembler.Fields.{fixed_mask}
-use Rattle.rv_model.specs.assembler.Table.{slots_of}
+use Rattle.rv_model.specs.assembler.Table.{name_count, slots_of}
 use Rattle.rv_model.specs.instructions.Table.{Row, In, Matches, rows, table}
 use Rattle.rv_model.specs.assembler.Naming.{IsFence}
 use Rattle.rv_model.proofs.instruction_lemmas.Parts.{and_sum}
@@ -30,7 +30,7 @@ abbrev pub covers : Pattern → Pattern → Bool
 covers p q = nat_eq (bit_and p.0 q.0) p.0 && nat_eq (bit_and q.1 p.0) p.1
 
 unfoldable pub names : List Pattern
-names = map pattern_of (take 597 MNEMONICS)
+names = map pattern_of (take name_count MNEMONICS)
 
 abbrev of_row : Pattern → Row → Bool
 of_row name r = covers (pattern_of_row r) name

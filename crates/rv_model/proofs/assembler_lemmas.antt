@@ -1,3 +1,4 @@
 -- Laws of assembler text.
+pub mod Found
 pub mod Lines
 pub mod Operands

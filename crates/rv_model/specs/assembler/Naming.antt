@@ -2,7 +2,7 @@
 use Rattle.std.specs.Prelude.{ℕ, ◌≡◌, ◌≢◌, ◌<◌, ◌⊎◌, ◌++◌, List, IsSome, IsNone, bit_and, codes}
 use Rattle.rv_model.specs.assembler.Numbers.{hex_digits}
 use Rattle.rv_model.specs.assembler.Fields.{fixed_mask}
-use Rattle.rv_model.specs.assembler.Table.{slots_at, bits_at, text_at}
+use Rattle.rv_model.specs.assembler.Table.{name_count, slots_at, bits_at, text_at}
 use Rattle.rv_model.specs.instructions.Table.{Matches, row_of, scan, table}
 use Rattle.rv_model.specs.declared.instructions.instruction.Instr.TheVariants.{Fence}
 
@@ -24,7 +24,7 @@ HasBitsOf row word = bit_and word (fixed_mask (slots_at row)) ≡ bits_at row
 
 -- a text is the word's under the name of a row that it has the bits of; `.word`, the last one, is no name of an instruction
 abbrev pub IsNamed : ℕ → List ℕ → Type 0
-IsNamed word text = (row : ℕ) × (row < 597) × HasBitsOf row word × (text ≡ text_at row word)
+IsNamed word text = (row : ℕ) × (row < name_count) × HasBitsOf row word × (text ≡ text_at row word)
 
 -- `.word` and 8 hexadecimal digits
 abbrev pub directive_text : ℕ → List ℕ

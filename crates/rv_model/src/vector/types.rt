@@ -12,7 +12,7 @@ pub enum Sew {
 static SEWS: [Sew; 4] = [Sew::E8, Sew::E16, Sew::E32, Sew::E64];
 
 impl Sew {
-    ghost use Rattle.std.specs.Prelude.{◌≡◌, ◌≤◌, length};
+    ghost use Rattle.std.specs.Prelude.{◌≡◌, ◌<◌, ◌≤◌, length};
     ghost use Rattle.rv_model.specs.vector.Configuration.{sew_bits};
     ghost use Rattle.rv_model.specs.vector.TypeNames.{sew_name, sew_named};
     ghost use Rattle.rv_model.specs.vector.TypeRules.{sew_number, sew_with_number};
@@ -31,7 +31,8 @@ impl Sew {
 
     /// `vsew` of the width (section 3.4.1).
     pub fn number(self) -> u8
-        ensures { result ≡ sew_number self }
+        ensures value { result ≡ sew_number self }
+        ensures small { result < 4 }
     {
         match self {
             Sew::E8 => 0,
@@ -102,7 +103,7 @@ static LMULS: [Lmul; 7] = [
 ];
 
 impl Lmul {
-    ghost use Rattle.std.specs.Prelude.{◌≡◌, ◌≤◌, length};
+    ghost use Rattle.std.specs.Prelude.{◌≡◌, ◌<◌, ◌≤◌, length};
     ghost use Rattle.rv_model.specs.vector.Configuration.{lmul_eighths};
     ghost use Rattle.rv_model.specs.vector.TypeNames.{lmul_name, lmul_named};
     ghost use Rattle.rv_model.specs.vector.TypeRules.{lmul_number, lmul_with_number};
@@ -124,7 +125,8 @@ impl Lmul {
 
     /// `vlmul` of the multiplier (section 3.4.2).
     pub fn number(self) -> u8
-        ensures { result ≡ lmul_number self }
+        ensures value { result ≡ lmul_number self }
+        ensures small { result < 8 }
     {
         match self {
             Lmul::M1 => 0,
