@@ -36,7 +36,7 @@ use Rattle.rv_model.specs.step.ScalarStep.{jumps, jump_step, branch_step, load_s
 use Rattle.rv_model.specs.step.Step.{step, executed, word_at}
 use Rattle.rv_model.specs.vector.Control.{is_write, csr_form, control_value}
 use Rattle.rv_model.specs.elements.Formulas.{is_carried_out}
-use Rattle.rv_model.specs.step.VectorStep.{VectorStepped, arith_step, requested_length, vset_step, after_vector, vector_executed, vector_step}
+use Rattle.rv_model.specs.step.VectorStep.{VectorStepped, arith_step, requested_length, vset_step, vector_ticks, after_vector, vector_executed, vector_step}
 use Rattle.rv_model.specs.declared.memory.Access.TheVariants.{Fetch}
 use Rattle.rv_model.proofs.text_lemmas.Pieces.{of_either}
 
@@ -134,16 +134,16 @@ vector_keeps limit (SetVl rd rs1 rs2) s = vset_keeps rd (read_register s.scalar 
 vector_keeps limit (VectorArith arith vd vs2 vm) s = arith_keeps s.vector.conf.vtype arith.0 arith.1 vd vs2 vm s
 vector_keeps limit _ s = record { refused = refl; first = refl }
 
-after_vector_keeps : (end : VEnd) (word : ℕ) (s s' : HartState) → UnlessDone end (s'.scalar ≡ s.scalar) → SameFirst s.scalar s'.scalar → Keeps s (after_vector end word s')
-after_vector_keeps vector_end.Done word s s' h k = record { fault = tt; first = k }
-after_vector_keeps vector_end.Illegal word s s' h k = record { fault = h; first = k }
-after_vector_keeps (vector_end.Fault store addr) word s s' h k = record { fault = h; first = k }
+after_vector_keeps : (ticks : ℕ) (end : VEnd) (word : ℕ) (s s' : HartState) → UnlessDone end (s'.scalar ≡ s.scalar) → SameFirst s.scalar s'.scalar → Keeps s (after_vector ticks end word s')
+after_vector_keeps ticks vector_end.Done word s s' h k = record { fault = tt; first = k }
+after_vector_keeps ticks vector_end.Illegal word s s' h k = record { fault = h; first = k }
+after_vector_keeps ticks (vector_end.Fault store addr) word s s' h k = record { fault = h; first = k }
 
 vector_step_keeps : (limit : ℕ) (i : Instr) (word : ℕ) (s : HartState) → Keeps s (vector_step limit i word s)
 vector_step_keeps limit i word s =
     let done : VectorStepped = vector_executed limit i s in
     let kept : VectorKeeps s done = vector_keeps limit i s in
-    after_vector_keeps done.end word s done.state kept.refused kept.first
+    after_vector_keeps (vector_ticks i s done) done.end word s done.state kept.refused kept.first
 
 executed_keeps : (limit : ℕ) (i : Option Instr) (word : ℕ) (s : HartState) → Keeps s (executed limit i word s)
 unfolding executed

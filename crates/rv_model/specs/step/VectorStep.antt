@@ -9,14 +9,15 @@ use Rattle.rv_model.specs.declared.scalar.Scalar.{Scalar}
 use Rattle.rv_model.specs.declared.instructions.source.Source.{Source}
 use Rattle.rv_model.specs.declared.step.step_end.Cause.{Cause}
 use Rattle.rv_model.specs.declared.step.step_end.Cause.TheVariants.{IllegalInstruction, LoadAccess, StoreAccess}
+use Rattle.rv_model.specs.declared.step.step_end.StepEnd.TheVariants.{Ran, Fault}
 use Rattle.rv_model.specs.declared.step.vector_end.VEnd.{VEnd}
 use Rattle.rv_model.specs.declared.step.vector_end.VEnd.TheVariants as vector_end
 use Rattle.rv_model.specs.declared.vector.request.RequestedLength.{RequestedLength}
 use Rattle.rv_model.specs.declared.vector.request.RequestedLength.TheVariants.{Elements, Maximum, Keep}
 use Rattle.rv_model.specs.declared.vector.types.VType.{VType}
-use Rattle.rv_model.specs.step.Hart.{HartState, Stepped, faults, runs_on}
+use Rattle.rv_model.specs.step.Hart.{HartState, Stepped, ends_after, faults}
 use Rattle.rv_model.specs.legality.Legality.{is_legal_at}
-use Rattle.rv_model.specs.scalar.Registers.{read_register, with_register}
+use Rattle.rv_model.specs.scalar.Registers.{advanced, read_register, with_register}
 use Rattle.rv_model.specs.elements.Arithmetic.{binary_file, fills_masked_off, fills_tail, group_type}
 use Rattle.rv_model.specs.vector.Configuration.{Configuration}
 use Rattle.rv_model.specs.elements.Formulas.{is_carried_out}
@@ -116,16 +117,21 @@ abbrev pub access_cause : Bool → Cause
 access_cause true = StoreAccess
 access_cause false = LoadAccess
 
--- the step that a vector instruction makes, by the word that it is
-abbrev pub after_vector : VEnd → ℕ → HartState → Stepped
-after_vector vector_end.Done word s = runs_on s.scalar s
-after_vector vector_end.Illegal word s = faults IllegalInstruction word s
-after_vector (vector_end.Fault store addr) word s = faults (access_cause store) addr s
+-- the ticks that a vector instruction takes, by the state that it begins with and how it is carried out. Only those of memory
+-- take more than one, which aren't carried out yet.
+abbrev pub vector_ticks : Instr → HartState → VectorStepped → ℕ
+vector_ticks i s done = 1
+
+-- the step that a vector instruction of so many ticks makes, by the word that it is; an illegal one takes one
+abbrev pub after_vector : ℕ → VEnd → ℕ → HartState → Stepped
+after_vector ticks vector_end.Done word s = ends_after ticks Ran (record s { scalar = advanced s.scalar })
+after_vector ticks vector_end.Illegal word s = faults IllegalInstruction word s
+after_vector ticks (vector_end.Fault store addr) word s = ends_after ticks (Fault (access_cause store) s.scalar.pc addr) s
 
 abbrev pub vector_step : ℕ → Instr → ℕ → HartState → Stepped
 vector_step limit i word s =
     let done = vector_executed limit i s in
-    after_vector done.end word done.state
+    after_vector (vector_ticks i s done) done.end word done.state
 
 -- whether a vector instruction changes the vector state: unless it is illegal, also where it then faults
 abbrev pub is_legal_end : VEnd → Bool
