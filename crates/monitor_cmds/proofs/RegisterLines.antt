@@ -1,14 +1,14 @@
 -- The lines of registers, printed one after another.
 use Rattle.std.proofs.Common.{◌≡◌, ℕ, suc, ◌+◌, ◌-◌, ◌*◌, ◌<◌, List, ◌∷◌, ◌++◌, sym, ap, ◌∙◌, append_assoc, arith}
 use Rattle.rv_model.specs.declared.scalar.Scalar.{Scalar}
-use Rattle.rv_model.specs.commands.Replies.{register_line, register_lines}
+use Rattle.rv_model.specs.commands.Registers.{register_line, register_lines}
 use Rattle.rv_model.specs.text.Lines.{tagged, text}
 
 -- a line more is the first of those that were left
-pub next_line : (tag n : ℕ) (s : Scalar) (before after whole : List ℕ) → n < 8 → after ≡ before ++ tagged tag (register_line s (4 * n))
+pub register_lines_left_after_one : (tag n : ℕ) (s : Scalar) (before after whole : List ℕ) → n < 8 → after ≡ before ++ tagged tag (register_line s (4 * n))
     → before ++ text tag (register_lines (8 - n) (4 * n) s) ≡ whole
     → after ++ text tag (register_lines (8 - (n + 1)) (4 * (n + 1)) s) ≡ whole
-next_line tag n s before after whole lt is so_far =
+register_lines_left_after_one tag n s before after whole lt is so_far =
     let line = register_line s (4 * n) in
     let rest = register_lines (8 - (n + 1)) (4 * (n + 1)) s in
     let one_more : 8 - n ≡ suc (8 - (n + 1)) = omega arith in

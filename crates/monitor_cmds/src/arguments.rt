@@ -1,62 +1,28 @@
 //! What a word means as an argument of a command.
-ghost use Rattle.std.specs.Prelude.{◌≡◌, ◌≤◌, Some};
-ghost use Rattle.rv_model.specs.text.Digits.{digit as digit_of, digits_after};
-ghost use Rattle.rv_model.specs.commands.Arguments.{decimal_number as decimal_of};
-ghost use Rattle.rv_model.specs.commands.Arguments.{number as number_of, address as address_of};
-ghost use Rattle.rv_model.specs.commands.Arguments.{instruction_address as instruction_address_of};
-ghost use Rattle.rv_model.specs.commands.Arguments.{scalar_register as scalar_register_of, vector_register as vector_register_of};
-ghost use Rattle.rv_model.specs.commands.Arguments.{element_width as element_width_of};
-ghost use Rattle.rv_model.specs.commands.Arguments.{allowing as permissions_of, permissions as named_permissions};
-ghost use Rattle.monitor_cmds.specs.Capped.{capped};
+ghost use Rattle.std.specs.Prelude.{◌≡◌, ◌≤◌, ◌^◌, IfSome};
+ghost use Rattle.rv_model.specs.commands.Arguments.{decimal_number, number, address, instruction_address, scalar_register, vector_register, element_width, allowing, permissions};
+ghost use Rattle.rv_model.specs.text.Digits.{capped};
 
-use rv_model::{Permissions, Reg, Sew, VReg};
+use rv_model::text::digits;
+use rv_model::{Count, Permissions, Reg, Sew, VReg};
 
-// Larger numbers are read as this one, which no argument takes.
+/// Larger numbers are read as this one, which no argument takes.
 const CAP: u128 = 1 << 64;
 
-// The value of a hexadecimal digit, or 16 for any other byte.
-fn digit(byte: u8) -> u128
-    ensures { result ≡ digit_of byte }
-{
-    match byte {
-        b'0'..=b'9' => u128::from(byte - b'0'),
-        b'a'..=b'f' => u128::from(byte - b'a') + 10,
-        b'A'..=b'F' => u128::from(byte - b'A') + 10,
-        _ => 16,
-    }
-}
-
-// The number that digits of this radix spell.
-fn digits(radix: u128, word: &[u8]) -> Option<u128>
-    requires low { 1 ≤ radix }
-    requires high { radix ≤ 16 }
-    ensures { result ≡ capped (digits_after radix 0 word.now) }
-{
-    let mut value = 0;
-    for byte in word {
-        let next = digit(*byte);
-        if next >= radix {
-            return None;
-        }
-        value = (value * radix + next).min(CAP);
-    }
-    Some(value)
-}
-
-// A decimal number without a leading zero.
+/// A decimal number without a leading zero, or [`CAP`] in place of a larger one.
 fn decimal_number(word: &[u8]) -> Option<u128>
-    ensures { result ≡ capped (decimal_of word.now) }
+    ensures { result ≡ capped (2 ^ 64) (decimal_number word.now) }
 {
-    match word {
-        [] => None,
-        [b'0', _, ..] => None,
-        _ => digits(10, word),
+    if let [] | [b'0', _, ..] = word {
+        return None;
     }
+    digits(10, CAP, word)
 }
 
 /// A decimal number from low to high.
-pub fn number(low: usize, high: usize, word: &[u8]) -> Option<usize>
-    ensures { result ≡ number_of low high word.now }
+fn number(low: usize, high: usize, word: &[u8]) -> Option<usize>
+    ensures value { result ≡ number low high word.now }
+    ensures bound { IfSome result (λ n. n ≤ high) }
 {
     let value = decimal_number(word)?;
     if value >= low as u128 && value <= high as u128 {
@@ -66,14 +32,22 @@ pub fn number(low: usize, high: usize, word: &[u8]) -> Option<usize>
     }
 }
 
+/// A decimal number from 1 to `MAX`.
+pub fn count<const MAX: usize>(word: &[u8]) -> Option<Count<MAX>>
+    ensures { result ≡ number 1 MAX word.now }
+{
+    let count = number(1, MAX, word)?;
+    Some(Count::new(count))
+}
+
 /// An address of 1 to 16 hexadecimal digits.
 pub fn address(word: &[u8]) -> Option<u64>
-    ensures { result ≡ address_of word.now }
+    ensures { result ≡ address word.now }
 {
     if word.is_empty() || word.len() > 16 {
         return None;
     }
-    let value = digits(16, word)?;
+    let value = digits(16, CAP, word)?;
     if value < CAP {
         Some(value as u64)
     } else {
@@ -83,7 +57,7 @@ pub fn address(word: &[u8]) -> Option<u64>
 
 /// An address that is divisible by 4.
 pub fn instruction_address(word: &[u8]) -> Option<u64>
-    ensures { result ≡ instruction_address_of word.now }
+    ensures { result ≡ instruction_address word.now }
 {
     let addr = address(word)?;
     if addr % 4 == 0 { Some(addr) } else { None }
@@ -91,33 +65,29 @@ pub fn instruction_address(word: &[u8]) -> Option<u64>
 
 /// One of `x1` to `x31`.
 pub fn scalar_register(word: &[u8]) -> Option<Reg>
-    ensures { result ≡ scalar_register_of word.now }
+    ensures { result ≡ scalar_register word.now }
 {
-    match word {
-        [b'x', digits @ ..] => {
-            let register = number(1, 31, digits)?;
-            Some(Reg::new(register as u32))
-        }
-        _ => None,
-    }
+    let [b'x', digits @ ..] = word else {
+        return None;
+    };
+    let register = number(1, 31, digits)?;
+    Some(Reg::new(register as u32))
 }
 
 /// One of `v0` to `v31`.
 pub fn vector_register(word: &[u8]) -> Option<VReg>
-    ensures { result ≡ vector_register_of word.now }
+    ensures { result ≡ vector_register word.now }
 {
-    match word {
-        [b'v', digits @ ..] => {
-            let register = number(0, 31, digits)?;
-            Some(VReg::new(register as u32))
-        }
-        _ => None,
-    }
+    let [b'v', digits @ ..] = word else {
+        return None;
+    };
+    let register = number(0, 31, digits)?;
+    Some(VReg::new(register as u32))
 }
 
 /// The width of an element in bits: `8`, `16`, `32` or `64`.
 pub fn element_width(word: &[u8]) -> Option<Sew>
-    ensures { result ≡ element_width_of word.now }
+    ensures { result ≡ element_width word.now }
 {
     if word == b"8".as_slice() {
         return Some(Sew::E8);
@@ -134,8 +104,9 @@ pub fn element_width(word: &[u8]) -> Option<Sew>
     None
 }
 
+/// What pages of these permissions allow a program.
 fn allowing(read: bool, write: bool, execute: bool) -> Option<Permissions>
-    ensures { result ≡ permissions_of read write execute }
+    ensures { result ≡ allowing read write execute }
 {
     Some(Permissions {
         read,
@@ -146,7 +117,7 @@ fn allowing(read: bool, write: bool, execute: bool) -> Option<Permissions>
 
 /// One of `r`, `w`, `x`, `rw`, `rx`, `wx`, `rwx`.
 pub fn permissions(word: &[u8]) -> Option<Permissions>
-    ensures { result ≡ named_permissions word.now }
+    ensures { result ≡ permissions word.now }
 {
     if word == b"r".as_slice() {
         return allowing(true, false, false);

@@ -1,13 +1,13 @@
 //! Numbers as replies show them.
 ghost use Rattle.std.specs.Prelude.{◌≡◌, ◌++◌, ◌+◌, ◌*◌, ◌≤◌, length, decimal};
 ghost use Rattle.hex.specs.Hex.{encode_lower};
-ghost use Rattle.rv_model.specs.commands.Replies.{hex8, hex16};
+ghost use Rattle.rv_model.specs.commands.Printing.{hex8, hex16};
 
 use crate::reply::Reply;
 use itoa::Buffer;
 
 /// Adds 16 hexadecimal digits in lower case, the highest first.
-#[tactic(auto, unfolding(rv_model::specs::commands::Replies::hex16))]
+#[tactic(auto, unfolding(rv_model::specs::commands::Printing::hex16))]
 pub fn push_hex16(reply: &mut Reply, number: u64)
     requires { length reply.old + 16 ≤ 4096 }
     ensures text { reply.new ≡ reply.old ++ hex16 number }
@@ -19,7 +19,7 @@ pub fn push_hex16(reply: &mut Reply, number: u64)
 }
 
 /// Adds 8 hexadecimal digits in lower case, the highest first.
-#[tactic(auto, unfolding(rv_model::specs::commands::Replies::hex8))]
+#[tactic(auto, unfolding(rv_model::specs::commands::Printing::hex8))]
 pub fn push_hex8(reply: &mut Reply, word: u32)
     requires { length reply.old + 8 ≤ 4096 }
     ensures text { reply.new ≡ reply.old ++ hex8 word }

@@ -1,8 +1,8 @@
 //! How a program stops, and where it stands then.
 ghost use Rattle.std.specs.Prelude.{◌≡◌, [], ◌∷◌, ◌++◌, ◌+◌, ◌≤◌, length, codes, decimal};
 ghost use Rattle.rv_model.specs.step.Causes.{cause_number};
-ghost use Rattle.rv_model.specs.commands.Replies.{hex16, stop_line as stop_text, step_line as step_text};
-ghost use Rattle.rv_model.specs.text.Lines.{tagged, text};
+ghost use Rattle.rv_model.specs.commands.Printing.{hex16, stop_line};
+ghost use Rattle.rv_model.specs.text.Lines.{text};
 ghost use Rattle.monitor_cmds.specs.Tag.{tag_byte};
 
 use crate::numerals::{push_decimal, push_hex16};
@@ -10,8 +10,8 @@ use crate::reply::Reply;
 use crate::tag::Tag;
 use rv_model::{Cause, Stop};
 
-// Adds where a program stands.
-fn push_pc(reply: &mut Reply, pc: u64)
+/// Adds where a program stands.
+pub(crate) fn push_pc(reply: &mut Reply, pc: u64)
     requires { length reply.old + 20 ≤ 4096 }
     ensures text { reply.new ≡ reply.old ++ codes " pc=" ++ hex16 pc }
     ensures bound { length reply.new ≡ length reply.old + 20 }
@@ -20,7 +20,7 @@ fn push_pc(reply: &mut Reply, pc: u64)
     push_hex16(reply, pc);
 }
 
-// Adds the address or the word that caused a fault.
+/// Adds the address or the word that caused a fault.
 fn push_value(reply: &mut Reply, value: u64)
     requires { length reply.old + 23 ≤ 4096 }
     ensures text { reply.new ≡ reply.old ++ codes " value=" ++ hex16 value }
@@ -30,7 +30,7 @@ fn push_value(reply: &mut Reply, value: u64)
     push_hex16(reply, value);
 }
 
-// Adds why an instruction faults.
+/// Adds why an instruction faults.
 fn push_cause(reply: &mut Reply, cause: Cause)
     requires { length reply.old + 32 ≤ 4096 }
     ensures text { reply.new ≡ reply.old ++ codes "fault cause=" ++ decimal (cause_number cause) }
@@ -40,11 +40,11 @@ fn push_cause(reply: &mut Reply, cause: Cause)
     push_decimal(reply, u64::from(cause.number()));
 }
 
-// Adds why a program stopped.
-#[tactic(auto, unfolding(rv_model::specs::commands::Replies::stop_line))]
+/// Adds why a program stopped.
+#[tactic(auto, unfolding(rv_model::specs::commands::Printing::stop_line))]
 fn push_stop(reply: &mut Reply, pc: u64, stop: Stop)
     requires { length reply.old + 75 ≤ 4096 }
-    ensures text { reply.new ≡ reply.old ++ stop_text pc stop }
+    ensures text { reply.new ≡ reply.old ++ stop_line pc stop }
     ensures bound { length reply.new ≤ length reply.old + 75 }
 {
     match stop {
@@ -73,38 +73,10 @@ fn push_stop(reply: &mut Reply, pc: u64, stop: Stop)
 /// `exit 7 pc=0000000000000008`.
 pub fn stop_line(reply: &mut Reply, tag: Tag, pc: u64, stop: Stop)
     requires { length reply.old + 80 ≤ 4096 }
-    ensures text { reply.new ≡ reply.old ++ text (tag_byte tag) (stop_text pc stop ∷ []) }
+    ensures text { reply.new ≡ reply.old ++ text (tag_byte tag) (stop_line pc stop ∷ []) }
     ensures bound { length reply.new ≤ length reply.old + 80 }
 {
     reply.push(&[tag.byte(), b' ']);
     push_stop(reply, pc, stop);
     reply.push(b"\n");
-}
-
-// Adds how many instructions were carried out, with the program counter.
-fn stepped_line(reply: &mut Reply, tag: Tag, count: usize, pc: u64)
-    requires { length reply.old + 51 ≤ 4096 }
-    ensures text { reply.new ≡ reply.old
-        ++ tagged (tag_byte tag) (codes "stepped " ++ decimal count ++ codes " pc=" ++ hex16 pc) }
-    ensures bound { length reply.new ≤ length reply.old + 51 }
-{
-    reply.push(&[tag.byte(), b' ']);
-    reply.push(b"stepped ");
-    push_decimal(reply, count as u64);
-    push_pc(reply, pc);
-    reply.push(b"\n");
-}
-
-/// Adds the answer to `step N`: the line that says that N instructions were carried out, as
-/// `stepped 3 pc=000000000001000c`, or the line that says why the program stopped.
-#[tactic(auto, unfolding(rv_model::specs::commands::Replies::step_line))]
-pub fn step_line(reply: &mut Reply, tag: Tag, count: usize, pc: u64, stop: Option<Stop>)
-    requires { length reply.old + 80 ≤ 4096 }
-    ensures text { reply.new ≡ reply.old ++ text (tag_byte tag) (step_text count pc stop ∷ []) }
-    ensures bound { length reply.new ≤ length reply.old + 80 }
-{
-    match stop {
-        None => stepped_line(reply, tag, count, pc),
-        Some(stop) => stop_line(reply, tag, pc, stop),
-    }
 }

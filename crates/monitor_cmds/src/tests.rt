@@ -1,6 +1,9 @@
 //! Lines of commands and of replies, as the monitor's description shows them.
 use super::*;
-use rv_model::{Cause, Cmd, ElfFault, Refusal, Scalar, Sew, Stop, User, VReg, VState};
+use rv_model::{
+    Cause, Cmd, ElfFault, EnteringCommand, MemoryCommand, ProgramCommand, Refusal, RegisterCommand,
+    RunningCommand, Scalar, Sew, Stop, User, VReg, VState,
+};
 use std::test::Fail;
 
 fn user(number: u8) -> Result<Tag, Fail> {
@@ -8,26 +11,23 @@ fn user(number: u8) -> Result<Tag, Fail> {
 }
 
 #[test]
-fn parses_each_command(rt: HostRuntime) {
-    assert!(rt; matches!(parse(b"enter"), Ok(Cmd::Enter)));
-    assert!(rt; matches!(parse(b"regs"), Ok(Cmd::Regs)));
-    assert!(rt; matches!(parse(b" step  256 "), Ok(Cmd::Step(256))));
+fn parses_commands_that_enter_map_write_and_run(rt: HostRuntime) {
+    assert!(rt; matches!(parse(b"enter"), Ok(Cmd::Entering(EnteringCommand::Enter))));
+    assert!(rt; matches!(parse(b"regs"), Ok(Cmd::Registers(RegisterCommand::Regs))));
+    match parse(b" step  256 ") {
+        Ok(Cmd::Running(RunningCommand::Step(count))) => assert_eq!(rt; count.get(), 256),
+        _ => assert!(rt; false, "step"),
+    }
     match parse(b"map fffffffff000 1 rx") {
-        Ok(
-            Cmd::Map {
-                addr,
-                pages,
-                permissions,
-            },
-        ) => {
-            assert_eq!(rt; addr, 0xffff_ffff_f000);
-            assert_eq!(rt; pages, 1);
+        Ok(Cmd::Memory(MemoryCommand::Map { pages, permissions })) => {
+            assert_eq!(rt; pages.first(), 0xf_ffff_ffff);
+            assert_eq!(rt; pages.count(), 1);
             assert!(rt; permissions.read && !permissions.write && permissions.execute);
         }
         _ => assert!(rt; false, "map"),
     }
     match parse(b"poke 1FfE d772050d") {
-        Ok(Cmd::Poke { addr, bytes }) => {
+        Ok(Cmd::Memory(MemoryCommand::Poke { addr, bytes })) => {
             assert_eq!(rt; addr, 0x1ffe);
             assert_eq!(rt; bytes.as_slice(), [0xd7, 0x72, 0x05, 0x0d].as_slice());
         }
@@ -38,7 +38,7 @@ fn parses_each_command(rt: HostRuntime) {
 #[test]
 fn texts_keep_inner_spaces(rt: HostRuntime) {
     match parse(b"  asm   10000   vadd.vv v1,  v2, v3  ") {
-        Ok(Cmd::Asm { addr, text }) => {
+        Ok(Cmd::Programs(ProgramCommand::Asm { addr, text })) => {
             assert_eq!(rt; addr, 0x10000);
             assert_eq!(rt; text.as_slice(), b"vadd.vv v1,  v2, v3".as_slice());
         }
@@ -82,32 +82,45 @@ fn prints_instructions(rt: HostRuntime) -> Result<(), Fail> {
 
 #[test]
 fn parses_commands_that_look_and_set(rt: HostRuntime) {
-    assert!(rt; matches!(parse(b"leave"), Ok(Cmd::Leave)));
-    assert!(rt; matches!(parse(b"vcsr"), Ok(Cmd::Vcsr)));
-    assert!(rt; matches!(parse(b"state"), Ok(Cmd::State)));
-    assert!(rt; matches!(parse(b"trace"), Ok(Cmd::Trace)));
-    assert!(rt; matches!(parse(b"setpc 1000C"), Ok(Cmd::SetPc(0x1000c))));
+    assert!(rt; matches!(parse(b"leave"), Ok(Cmd::Entering(EnteringCommand::Leave))));
+    assert!(rt; matches!(parse(b"vcsr"), Ok(Cmd::Registers(RegisterCommand::Vcsr))));
+    assert!(rt; matches!(parse(b"state"), Ok(Cmd::Running(RunningCommand::State))));
+    assert!(rt; matches!(parse(b"trace"), Ok(Cmd::Running(RunningCommand::Trace))));
     assert!(rt;
         matches!(
-            parse(b"peek fFf 256"),
-            Ok(Cmd::Peek {
-                addr: 0xfff,
-                count: 256
-            })
+            parse(b"setpc 1000C"),
+            Ok(Cmd::Registers(RegisterCommand::SetPc(0x1000c)))
         )
     );
-    assert!(rt; matches!(parse(b"set x31 Ab"), Ok(Cmd::Set { value: 0xab, .. })));
+    match parse(b"peek fFf 256") {
+        Ok(Cmd::Memory(MemoryCommand::Peek { addr, count })) => {
+            assert_eq!(rt; addr, 0xfff);
+            assert_eq!(rt; count.get(), 256);
+        }
+        _ => assert!(rt; false, "peek"),
+    }
+    assert!(rt;
+        matches!(
+            parse(b"set x31 Ab"),
+            Ok(Cmd::Registers(RegisterCommand::Set { value: 0xab, .. }))
+        )
+    );
     assert!(rt;
         matches!(
             parse(b"vreg v0 64"),
-            Ok(Cmd::Vreg {
+            Ok(Cmd::Registers(RegisterCommand::Vreg {
                 width: Sew::E64,
                 ..
-            })
+            },),)
         )
     );
     let line = b"vset v31 000102030405060708090a0b0c0d0e0f101112131415161718191a1b1c1d1eFF";
-    assert!(rt; matches!(parse(line), Ok(Cmd::Vset { .. })));
+    assert!(rt;
+        matches!(
+            parse(line),
+            Ok(Cmd::Registers(RegisterCommand::Vset { .. }))
+        )
+    );
 }
 
 #[test]

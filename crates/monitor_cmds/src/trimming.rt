@@ -2,7 +2,7 @@
 ghost use Rattle.std.specs.Prelude.{◌≡◌};
 ghost use Rattle.rv_model.specs.text.Words.{trim_start, trim_end, after_word, after_two_words};
 
-// A line without the spaces at its start.
+/// A line without the spaces at its start.
 #[tactic(auto, unfolding(rv_model::specs::text::Words::trim_start))]
 fn trim_start(mut line: &[u8]) -> &[u8]
     ensures { result.now ≡ trim_start line.entry.now }
@@ -13,7 +13,7 @@ fn trim_start(mut line: &[u8]) -> &[u8]
     line
 }
 
-// A line without the spaces at its end.
+/// A line without the spaces at its end.
 #[tactic(auto, unfolding(rv_model::specs::text::Words::trim_end))]
 fn trim_end(mut line: &[u8]) -> &[u8]
     ensures { result.now ≡ trim_end line.entry.now }
@@ -24,7 +24,7 @@ fn trim_end(mut line: &[u8]) -> &[u8]
     line
 }
 
-// What follows the first word of a line.
+/// What follows the first word of a line.
 #[tactic(auto, unfolding(rv_model::specs::text::Words::after_word))]
 fn after_word(line: &[u8]) -> &[u8]
     ensures { result.now ≡ after_word line.now }

@@ -1,5 +1,6 @@
 //! The words of a command line.
 ghost use Rattle.std.specs.Prelude.{◌≡◌, ◌∷◌, [], length, ◌<◌, position, IfSome, MatchOption};
+ghost use Rattle.rv_model.specs.commands.Reading.{done};
 ghost use Rattle.rv_model.specs.text.Words.{words, is_space, with_piece};
 
 use std::marker::Model;
@@ -35,9 +36,26 @@ impl<'a> Words<'a> {
         self.rest = rest;
         Some(word)
     }
+
+    /// The words that are left, as they stand in the line.
+    pub fn rest(&self) -> &'a [u8]
+        ensures { words result.now ≡ self.now }
+    {
+        self.rest
+    }
 }
 
-// The place of the first space, if there is one.
+/// The command, if no word is left.
+pub fn done<C: Drop>(mut words: Words<'_>, command: C) -> Option<C>
+    ensures { result ≡ done command words.entry }
+{
+    match words.next_word() {
+        None => Some(command),
+        Some(_) => None,
+    }
+}
+
+/// The place of the first space, if there is one.
 fn first_space(line: &[u8]) -> Option<usize>
     ensures first { result ≡ position is_space line.now }
     ensures bound { IfSome result (λ end. end < length line.now) }
@@ -45,8 +63,8 @@ fn first_space(line: &[u8]) -> Option<usize>
     line.iter().position(|byte| *byte == b' ')
 }
 
-// What stands before the first space, and what follows that space.
-#[tactic(auto, using(crate::proofs::WordLaws::first_piece, crate::proofs::WordLaws::last_piece))]
+/// What stands before the first space, and what follows that space.
+#[tactic(auto, using(crate::proofs::WordLaws::words_with_a_space, crate::proofs::WordLaws::words_without_a_space))]
 fn cut(line: &[u8]) -> (&[u8], &[u8])
     ensures words { words line.now ≡ with_piece result.0.now (words result.1.now) }
     ensures shorter { 0 < length line.now → length result.1.now < length line.now }
@@ -57,8 +75,8 @@ fn cut(line: &[u8]) -> (&[u8], &[u8])
     }
 }
 
-// The first word and what follows it.
-#[tactic(auto, using(crate::proofs::WordLaws::no_words))]
+/// The first word and what follows it.
+#[tactic(auto, using(crate::proofs::WordLaws::empty_line_has_no_words))]
 fn first_word(line: &[u8]) -> Option<(&[u8], &[u8])>
     ensures { MatchOption result (words line.now ≡ [])
         (λ p. words line.now ≡ p.0.now ∷ words p.1.now) }

@@ -1,57 +1,20 @@
-//! Lines of a reply that are always the same, and refusals.
+//! Refusals of commands, and of lines that are nobody's command.
 ghost use Rattle.std.specs.Prelude.{◌≡◌, [], ◌∷◌, ◌++◌, ◌+◌, ◌≤◌, length, codes};
-ghost use Rattle.rv_model.specs.commands.Replies.{refused as refusal_text};
+ghost use Rattle.rv_model.specs.commands.Printing.{refused};
 ghost use Rattle.rv_model.specs.text.Lines.{text};
 ghost use Rattle.monitor_cmds.specs.Tag.{tag_byte};
 
+use crate::lines::push_line;
 use crate::numerals::push_decimal;
 use crate::reply::Reply;
 use crate::tag::Tag;
 use rv_model::Refusal;
 
-// Adds a line.
-fn plain(reply: &mut Reply, tag: Tag, line: &[u8])
-    requires { length reply.old + (length line.now + 3) ≤ 4096 }
-    ensures text { reply.new ≡ reply.old ++ text (tag_byte tag) (line.now ∷ []) }
-    ensures bound { length reply.new ≡ length reply.old + (length line.now + 3) }
-{
-    reply.push(&[tag.byte(), b' ']);
-    reply.push(line);
-    reply.push(b"\n");
-}
-
-/// Adds the line `entered`, the answer to `enter`.
-pub fn entered(reply: &mut Reply, tag: Tag)
-    requires { length reply.old + 10 ≤ 4096 }
-    ensures text { reply.new ≡ reply.old ++ text (tag_byte tag) (codes "entered" ∷ []) }
-    ensures bound { length reply.new ≡ length reply.old + 10 }
-{
-    plain(reply, tag, b"entered");
-}
-
-/// Adds the line `left`, the answer to `leave`.
-pub fn left(reply: &mut Reply, tag: Tag)
-    requires { length reply.old + 7 ≤ 4096 }
-    ensures text { reply.new ≡ reply.old ++ text (tag_byte tag) (codes "left" ∷ []) }
-    ensures bound { length reply.new ≡ length reply.old + 7 }
-{
-    plain(reply, tag, b"left");
-}
-
-/// Adds the line `ok`, the answer to a command that shows nothing.
-pub fn ok(reply: &mut Reply, tag: Tag)
-    requires { length reply.old + 5 ≤ 4096 }
-    ensures text { reply.new ≡ reply.old ++ text (tag_byte tag) (codes "ok" ∷ []) }
-    ensures bound { length reply.new ≡ length reply.old + 5 }
-{
-    plain(reply, tag, b"ok");
-}
-
-// Adds the code of a refusal, and what it tells.
-#[tactic(auto, unfolding(rv_model::specs::commands::Replies::refused))]
+/// Adds the code of a refusal, and what it tells.
+#[tactic(auto, unfolding(rv_model::specs::commands::Printing::refused))]
 fn push_refusal(reply: &mut Reply, refusal: Refusal)
     requires { length reply.old + 24 ≤ 4096 }
-    ensures text { reply.new ≡ reply.old ++ refusal_text refusal }
+    ensures text { reply.new ≡ reply.old ++ refused refusal }
     ensures bound { length reply.new ≤ length reply.old + 24 }
 {
     match refusal {
@@ -79,7 +42,7 @@ fn push_refusal(reply: &mut Reply, refusal: Refusal)
 /// fault, as `E09 Short`, or the column of a text, as `E15 14`.
 pub fn refused(reply: &mut Reply, tag: Tag, refusal: Refusal)
     requires { length reply.old + 27 ≤ 4096 }
-    ensures text { reply.new ≡ reply.old ++ text (tag_byte tag) (refusal_text refusal ∷ []) }
+    ensures text { reply.new ≡ reply.old ++ text (tag_byte tag) (refused refusal ∷ []) }
     ensures bound { length reply.new ≤ length reply.old + 27 }
 {
     reply.push(&[tag.byte(), b' ']);
@@ -94,7 +57,7 @@ pub fn bad_prefix(reply: &mut Reply)
     ensures text { reply.new ≡ reply.old ++ text 42 (codes "E01" ∷ []) }
     ensures bound { length reply.new ≡ length reply.old + 6 }
 {
-    plain(reply, Tag::Common, b"E01");
+    push_line(reply, Tag::Common, b"E01");
 }
 
 /// Adds the line `* E02`: a line of the script has more than 1,024 bytes.
@@ -103,7 +66,7 @@ pub fn line_too_long(reply: &mut Reply)
     ensures text { reply.new ≡ reply.old ++ text 42 (codes "E02" ∷ []) }
     ensures bound { length reply.new ≡ length reply.old + 6 }
 {
-    plain(reply, Tag::Common, b"E02");
+    push_line(reply, Tag::Common, b"E02");
 }
 
 /// Adds the line `* E03`: the operator has no such command.
@@ -112,5 +75,5 @@ pub fn unknown_operator_command(reply: &mut Reply)
     ensures text { reply.new ≡ reply.old ++ text 42 (codes "E03" ∷ []) }
     ensures bound { length reply.new ≡ length reply.old + 6 }
 {
-    plain(reply, Tag::Common, b"E03");
+    push_line(reply, Tag::Common, b"E03");
 }

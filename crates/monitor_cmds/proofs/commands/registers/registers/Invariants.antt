@@ -1,8 +1,8 @@
 use Rattle.std.proofs.Common.{◌≡◌, ◌++◌, ◌+◌, ◌-◌, ◌*◌, ◌≤◌, length}
-use Rattle.rv_model.specs.commands.Replies.{register_lines, regs_lines}
+use Rattle.rv_model.specs.commands.Registers.{register_lines, regs_lines}
 use Rattle.rv_model.specs.text.Lines.{text}
 use Rattle.monitor_cmds.specs.Tag.{tag_byte}
-use Rattle.monitor_cmds.proofs.register_lines.registers.Given as goal
+use Rattle.monitor_cmds.proofs.commands.registers.registers.Given as goal
 
 abbrev pub invariant-loop-line : goal.invariant-loop-line
 invariant-loop-line l = record {

@@ -1,8 +1,8 @@
 use Rattle.std.proofs.Common.{◌≡◌, ◌++◌, ◌+◌, ◌*◌, ◌≤◌, length}
-use Rattle.rv_model.specs.commands.Replies.{dis_lines}
+use Rattle.rv_model.specs.commands.Programs.{dis_lines}
 use Rattle.rv_model.specs.text.Lines.{text}
 use Rattle.monitor_cmds.specs.Tag.{tag_byte}
-use Rattle.monitor_cmds.proofs.program_lines.dis_lines.Given as goal
+use Rattle.monitor_cmds.proofs.commands.programs.dis_lines.Given as goal
 
 abbrev pub invariant-loop-index : goal.invariant-loop-index
 invariant-loop-index l = record {

@@ -1,9 +1,9 @@
 use Rattle.std.proofs.Common.{◌≡◌, ◌++◌, ◌+◌, ◌-◌, ◌*◌, ◌/◌, ◌≤◌, length}
 use Rattle.std.specs.Prelude.{flat_map}
 use Rattle.std.specs.List.{range_with_len}
-use Rattle.rv_model.specs.commands.Replies.{element_text}
+use Rattle.rv_model.specs.commands.Registers.{element_text}
 use Rattle.rv_model.specs.vector.Configuration.{sew_bits}
-use Rattle.monitor_cmds.proofs.vector_lines.push_elements.Given as goal
+use Rattle.monitor_cmds.proofs.commands.registers.push_elements.Given as goal
 
 abbrev pub invariant-loop-index : goal.invariant-loop-index
 invariant-loop-index l = record {

@@ -1,7 +1,7 @@
 use Rattle.std.proofs.Common.{◌≡◌, ◌++◌, ◌+◌, ◌*◌, length, drop}
 use Rattle.std.specs.Prelude.{flat_map}
-use Rattle.rv_model.specs.commands.Replies.{traced}
-use Rattle.monitor_cmds.proofs.machine_lines.push_addresses.Given as goal
+use Rattle.rv_model.specs.commands.Running.{traced}
+use Rattle.monitor_cmds.proofs.commands.running.push_addresses.Given as goal
 
 abbrev pub invariant-loop-addr : goal.invariant-loop-addr
 invariant-loop-addr l = record {

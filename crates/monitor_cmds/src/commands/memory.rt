@@ -1,0 +1,82 @@
+//! The commands on a user's memory: `map`, `poke` and `peek`.
+ghost use Rattle.std.specs.Prelude.{◌≡◌, [], ◌∷◌, ◌++◌, ◌+◌, ◌≤◌, length};
+ghost use Rattle.rv_model.specs.commands.Memory.{map_args, poke_args, peek_args, memory_named, peek_line};
+ghost use Rattle.rv_model.specs.text.Lines.{text};
+ghost use Rattle.rv_model.specs.text.Words.{words};
+ghost use Rattle.monitor_cmds.specs.Tag.{tag_byte};
+
+use crate::arguments::{address, count, permissions};
+use crate::numerals::{push_bytes, push_hex16};
+use crate::reply::Reply;
+use crate::tag::Tag;
+use crate::words::{Words, done};
+use rv_model::{ByteString, Count, MemoryCommand, PageRange};
+
+/// The command of a name, by its arguments as they stand in the line. `None` where the group has no
+/// such name, and `Some(None)` where the arguments are wrong.
+pub(crate) fn memory_named(name: &[u8], args: &[u8]) -> Option<Option<MemoryCommand>>
+    ensures { result ≡ memory_named name.now (words args.now) }
+{
+    if name == b"map".as_slice() {
+        return Some(map_args(args));
+    }
+    if name == b"poke".as_slice() {
+        return Some(poke_args(args));
+    }
+    if name == b"peek".as_slice() {
+        return Some(peek_args(args));
+    }
+    None
+}
+
+/// `map ADDR PAGES PERM`, with 1 to 256 pages.
+#[tactic(auto, unfolding(rv_model::specs::commands::Memory::map_args))]
+fn map_args(args: &[u8]) -> Option<MemoryCommand>
+    ensures { result ≡ map_args (words args.now) }
+{
+    let mut words = Words::new(args);
+    let addr = address(words.next_word()?)?;
+    let count: Count<256> = count(words.next_word()?)?;
+    let permissions = permissions(words.next_word()?)?;
+    let pages = PageRange::new(addr, count.get())?;
+    done(words, MemoryCommand::Map { pages, permissions })
+}
+
+/// `poke ADDR HEX`
+#[tactic(auto, unfolding(rv_model::specs::commands::Memory::poke_args))]
+fn poke_args(args: &[u8]) -> Option<MemoryCommand>
+    ensures { result ≡ poke_args (words args.now) }
+{
+    let mut words = Words::new(args);
+    let addr = address(words.next_word()?)?;
+    let bytes = ByteString::from_hex(words.next_word()?)?;
+    done(words, MemoryCommand::Poke { addr, bytes })
+}
+
+/// `peek ADDR N`, with 1 to 256 bytes.
+#[tactic(auto, unfolding(rv_model::specs::commands::Memory::peek_args))]
+fn peek_args(args: &[u8]) -> Option<MemoryCommand>
+    ensures { result ≡ peek_args (words args.now) }
+{
+    let mut words = Words::new(args);
+    let addr = address(words.next_word()?)?;
+    let count = count(words.next_word()?)?;
+    done(words, MemoryCommand::Peek { addr, count })
+}
+
+/// Adds the answer to `peek`: the address, and the 1 to 256 bytes from it on, as
+/// `peek 0000000000010000 00ff`.
+#[tactic(auto, unfolding(rv_model::specs::commands::Memory::peek_line))]
+pub fn peek_line(reply: &mut Reply, tag: Tag, addr: u64, bytes: &[u8])
+    requires few { length bytes.now ≤ 256 }
+    requires room { length reply.old + 537 ≤ 4096 }
+    ensures text { reply.new ≡ reply.old ++ text (tag_byte tag) (peek_line addr bytes.now ∷ []) }
+    ensures bound { length reply.new ≤ length reply.old + 537 }
+{
+    reply.push(&[tag.byte(), b' ']);
+    reply.push(b"peek ");
+    push_hex16(reply, addr);
+    reply.push(b" ");
+    push_bytes(reply, bytes);
+    reply.push(b"\n");
+}
