@@ -6,14 +6,14 @@ use Rattle.rv_model.specs.declared.instructions.instruction.Instr.TheVariants.{U
 -- OP-V: vector operations and the setting of vector types
 abbrev pub is_operation : Instr → Bool
 is_operation (Upper op rd imm) = false
-is_operation (Jump rd offset) = false
+is_operation (Jump rd imm) = false
 is_operation (JumpRegister rd rs1 imm) = false
-is_operation (Branch op rs1 rs2 offset) = false
+is_operation (Branch op rs1 rs2 imm) = false
 is_operation (Load op rd rs1 imm) = false
 is_operation (Store op rs1 rs2 imm) = false
 is_operation (RegisterImmediate op rd rs1 imm) = false
-is_operation (ShiftImmediate op rd rs1 amount) = false
-is_operation (ShiftImmediateWord op rd rs1 amount) = false
+is_operation (ShiftImmediate op rd rs1 shamt) = false
+is_operation (ShiftImmediateWord op rd rs1 shamt) = false
 is_operation (RegisterRegister op rd rs1 rs2) = false
 is_operation (Fence rd rs1 ordering) = false
 is_operation (System op) = false
@@ -44,14 +44,14 @@ is_operation (MaskMemory direction vd rs1) = false
 -- LOAD-FP and STORE-FP: vector loads and stores
 abbrev pub is_access : Instr → Bool
 is_access (Upper op rd imm) = false
-is_access (Jump rd offset) = false
+is_access (Jump rd imm) = false
 is_access (JumpRegister rd rs1 imm) = false
-is_access (Branch op rs1 rs2 offset) = false
+is_access (Branch op rs1 rs2 imm) = false
 is_access (Load op rd rs1 imm) = false
 is_access (Store op rs1 rs2 imm) = false
 is_access (RegisterImmediate op rd rs1 imm) = false
-is_access (ShiftImmediate op rd rs1 amount) = false
-is_access (ShiftImmediateWord op rd rs1 amount) = false
+is_access (ShiftImmediate op rd rs1 shamt) = false
+is_access (ShiftImmediateWord op rd rs1 shamt) = false
 is_access (RegisterRegister op rd rs1 rs2) = false
 is_access (Fence rd rs1 ordering) = false
 is_access (System op) = false

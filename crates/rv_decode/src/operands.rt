@@ -56,26 +56,26 @@ fn store_part(imm: Field<12>) -> u64
 }
 
 /// The distance of a branch, in its four pieces.
-fn branch_part(offset: Field<12>) -> u64
+fn branch_part(imm: Field<12>) -> u64
     ensures value { result
-        ≡ offset / 2 ^ 10 % 2 ^ 1 * 2 ^ 7 + offset % 2 ^ 4 * 2 ^ 8
-        + offset / 2 ^ 4 % 2 ^ 6 * 2 ^ 25 + offset / 2 ^ 11 * 2 ^ 31 }
-    ensures fit { offset < 2 ^ 12 }
+        ≡ imm / 2 ^ 10 % 2 ^ 1 * 2 ^ 7 + imm % 2 ^ 4 * 2 ^ 8
+        + imm / 2 ^ 4 % 2 ^ 6 * 2 ^ 25 + imm / 2 ^ 11 * 2 ^ 31 }
+    ensures fit { imm < 2 ^ 12 }
     ensures small { result < 2 ^ 40 }
 {
-    let bits = u64::from(offset.value());
+    let bits = u64::from(imm.value());
     ((bits / 1024 % 2) << 7) + ((bits % 16) << 8) + ((bits / 16 % 64) << 25) + ((bits / 2048) << 31)
 }
 
 /// The distance of a jump, in its four pieces.
-fn jump_part(offset: Field<20>) -> u64
+fn jump_part(imm: Field<20>) -> u64
     ensures value { result
-        ≡ offset / 2 ^ 11 % 2 ^ 8 * 2 ^ 12 + offset / 2 ^ 10 % 2 ^ 1 * 2 ^ 20
-        + offset % 2 ^ 10 * 2 ^ 21 + offset / 2 ^ 19 * 2 ^ 31 }
-    ensures fit { offset < 2 ^ 20 }
+        ≡ imm / 2 ^ 11 % 2 ^ 8 * 2 ^ 12 + imm / 2 ^ 10 % 2 ^ 1 * 2 ^ 20
+        + imm % 2 ^ 10 * 2 ^ 21 + imm / 2 ^ 19 * 2 ^ 31 }
+    ensures fit { imm < 2 ^ 20 }
     ensures small { result < 2 ^ 40 }
 {
-    let bits = u64::from(offset.value());
+    let bits = u64::from(imm.value());
     ((bits / 2048 % 256) << 12)
         + ((bits / 1024 % 2) << 20)
         + ((bits % 1024) << 21)
@@ -172,29 +172,16 @@ pub(crate) fn operands(instr: &Instr) -> u64
 {
     match *instr {
         Instr::Upper { rd, imm, .. } => reg(rd, 7) + put(imm, 12),
-        Instr::Jump { rd, offset } => reg(rd, 7) + jump_part(offset),
+        Instr::Jump { rd, imm } => reg(rd, 7) + jump_part(imm),
         Instr::JumpRegister { rd, rs1, imm } => reg(rd, 7) + reg(rs1, 15) + put(imm, 20),
-        Instr::Branch {
-            rs1,
-            rs2,
-            offset,
-            ..
-        } => reg(rs1, 15) + reg(rs2, 20) + branch_part(offset),
+        Instr::Branch { rs1, rs2, imm, .. } => reg(rs1, 15) + reg(rs2, 20) + branch_part(imm),
         Instr::Load { rd, rs1, imm, .. } => reg(rd, 7) + reg(rs1, 15) + put(imm, 20),
         Instr::Store { rs1, rs2, imm, .. } => reg(rs1, 15) + reg(rs2, 20) + store_part(imm),
         Instr::RegisterImmediate { rd, rs1, imm, .. } => reg(rd, 7) + reg(rs1, 15) + put(imm, 20),
-        Instr::ShiftImmediate {
-            rd,
-            rs1,
-            amount,
-            ..
-        } => reg(rd, 7) + reg(rs1, 15) + put(amount, 20),
-        Instr::ShiftImmediateWord {
-            rd,
-            rs1,
-            amount,
-            ..
-        } => reg(rd, 7) + reg(rs1, 15) + put(amount, 20),
+        Instr::ShiftImmediate { rd, rs1, shamt, .. } => reg(rd, 7) + reg(rs1, 15) + put(shamt, 20),
+        Instr::ShiftImmediateWord { rd, rs1, shamt, .. } => reg(rd, 7)
+            + reg(rs1, 15)
+            + put(shamt, 20),
         Instr::RegisterRegister { rd, rs1, rs2, .. } => reg(rd, 7) + reg(rs1, 15) + reg(rs2, 20),
         Instr::Fence { rd, rs1, ordering } => reg(rd, 7) + reg(rs1, 15) + put(ordering, 20),
         Instr::System { .. } => 0,

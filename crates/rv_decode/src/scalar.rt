@@ -31,7 +31,7 @@ pub fn jump(word: u32) -> Option<Instr>
     if word & 0x0000_007f == 0x0000_006f {
         Some(Instr::Jump {
             rd: reg(word, 7),
-            offset: jump_offset(word),
+            imm: jump_offset(word),
         })
     } else {
         None
@@ -63,7 +63,7 @@ pub fn branch(word: u32) -> Option<Instr>
         op,
         rs1: reg(word, 15),
         rs2: reg(word, 20),
-        offset: branch_offset(word),
+        imm: branch_offset(word),
     })
 }
 
@@ -119,7 +119,7 @@ pub fn shift_immediate(word: u32) -> Option<Instr>
         op,
         rd: reg(word, 7),
         rs1: reg(word, 15),
-        amount: Field::new(bits(word, 20, 6)),
+        shamt: Field::new(bits(word, 20, 6)),
     })
 }
 
@@ -133,7 +133,7 @@ pub fn shift_immediate_word(word: u32) -> Option<Instr>
         op,
         rd: reg(word, 7),
         rs1: reg(word, 15),
-        amount: Field::new(bits(word, 20, 5)),
+        shamt: Field::new(bits(word, 20, 5)),
     })
 }
 

@@ -56,18 +56,18 @@ pub fn register_immediate(op: ImmediateOp, a: u64, imm: Field<12>) -> u64
 
 /// What a shift of a register's 64-bit word by 0 to 63 bits gives (Unprivileged ISA 20191213, section
 /// 5.2).
-pub fn shift_immediate(op: ShiftImmediateOp, a: u64, amount: Field<6>) -> u64
-    ensures { result ≡ shift_immediate_value op a amount }
+pub fn shift_immediate(op: ShiftImmediateOp, a: u64, shamt: Field<6>) -> u64
+    ensures { result ≡ shift_immediate_value op a shamt }
 {
-    alu(shift_immediate_form(op), a, u64::from(amount.value()))
+    alu(shift_immediate_form(op), a, u64::from(shamt.value()))
 }
 
 /// What a shift of a register's low 32 bits by 0 to 31 bits gives, sign-extended to 64 bits (Unprivileged
 /// ISA 20191213, section 5.2).
-pub fn shift_immediate_word(op: ShiftImmediateWordOp, a: u64, amount: Field<5>) -> u64
-    ensures { result ≡ shift_immediate_word_value op a amount }
+pub fn shift_immediate_word(op: ShiftImmediateWordOp, a: u64, shamt: Field<5>) -> u64
+    ensures { result ≡ shift_immediate_word_value op a shamt }
 {
-    alu(shift_immediate_word_form(op), a, u64::from(amount.value()))
+    alu(shift_immediate_word_form(op), a, u64::from(shamt.value()))
 }
 
 /// The upper 20 bits of a 32-bit number, sign-extended to 64 bits, alone or added to the program counter

@@ -16,14 +16,14 @@ pub fn i_immediate(imm: Field<12>) -> u64
 pub fn s_immediate(imm: Field<12>) -> u64
     ensures { result ≡ s_immediate imm }
 {
-    sign_extend(12, u64::from(imm.value()))
+    i_immediate(imm)
 }
 
 /// Bits 12 to 1 of a branch's distance in bytes, as that distance, sign-extended to 64 bits.
-pub fn b_immediate(offset: Field<12>) -> u64
-    ensures { result ≡ b_immediate offset }
+pub fn b_immediate(imm: Field<12>) -> u64
+    ensures { result ≡ b_immediate imm }
 {
-    sign_extend(13, 2 * u64::from(offset.value()))
+    sign_extend(13, 2 * u64::from(imm.value()))
 }
 
 /// The upper 20 bits of a 32-bit number, as that number, sign-extended to 64 bits.
@@ -34,8 +34,8 @@ pub(crate) fn u_immediate(imm: Field<20>) -> u64
 }
 
 /// Bits 20 to 1 of a jump's distance in bytes, as that distance, sign-extended to 64 bits.
-pub fn j_immediate(offset: Field<20>) -> u64
-    ensures { result ≡ j_immediate offset }
+pub fn j_immediate(imm: Field<20>) -> u64
+    ensures { result ≡ j_immediate imm }
 {
-    sign_extend(21, 2 * u64::from(offset.value()))
+    sign_extend(21, 2 * u64::from(imm.value()))
 }

@@ -430,16 +430,16 @@ listed_move (source.I n) vd = in_table 27 (row_of (VectorMove (source.I 0) 0)) (
 pub listed : (i : Instr) → Allowed i → In (row_of i) table
 unfolding rows
 listed (Upper op rd imm) h = listed_at 0 upper_bits (λ op. Upper op 0 0) upper_ops op (known_upper op) refl
-listed (Jump rd offset) h = in_table 1 (row_of (Jump 0 0)) (inl refl)
+listed (Jump rd imm) h = in_table 1 (row_of (Jump 0 0)) (inl refl)
 listed (JumpRegister rd rs1 imm) h = in_table 2 (row_of (JumpRegister 0 0 0)) (inl refl)
-listed (Branch op rs1 rs2 offset) h =
+listed (Branch op rs1 rs2 imm) h =
     listed_at 3 branch_bits (λ op. Branch op 0 0 0) branch_ops op (known_branch op) refl
 listed (Load op rd rs1 imm) h = listed_at 4 load_bits (λ op. Load op 0 0 0) load_ops op (known_load op) refl
 listed (Store op rs1 rs2 imm) h = listed_at 5 store_bits (λ op. Store op 0 0 0) store_ops op (known_store op) refl
 listed (RegisterImmediate op rd rs1 imm) h = listed_at 6 immediate_op_bits (λ op. RegisterImmediate op 0 0 0) immediate_ops op (known_immediate_op op) refl
-listed (ShiftImmediate op rd rs1 amount) h =
+listed (ShiftImmediate op rd rs1 shamt) h =
     listed_at 7 shift_immediate_bits (λ op. ShiftImmediate op 0 0 0) shift_immediate_ops op (known_shift_immediate op) refl
-listed (ShiftImmediateWord op rd rs1 amount) h =
+listed (ShiftImmediateWord op rd rs1 shamt) h =
     listed_at 8 shift_immediate_word_bits (λ op. ShiftImmediateWord op 0 0 0) shift_immediate_word_ops op (known_shift_immediate_word op) refl
 listed (RegisterRegister op rd rs1 rs2) h = listed_at 9 register_op_bits (λ op. RegisterRegister op 0 0 0) register_ops op (known_register_op op) refl
 listed (Fence rd rs1 ordering) h = in_table 10 (row_of (Fence 0 0 0)) (inl refl)

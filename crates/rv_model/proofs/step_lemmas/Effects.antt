@@ -149,16 +149,16 @@ executed_keeps : (limit : ℕ) (i : Option Instr) (word : ℕ) (s : HartState) �
 unfolding executed
 executed_keeps limit None word s = record { fault = refl; first = refl }
 executed_keeps limit (Some (Upper op rd imm)) word s = gives_keep rd _ s s refl
-executed_keeps limit (Some (Jump rd offset)) word s = jump_keeps rd (jump_target s.scalar.pc offset) s
+executed_keeps limit (Some (Jump rd imm)) word s = jump_keeps rd (jump_target s.scalar.pc imm) s
 executed_keeps limit (Some (JumpRegister rd rs1 imm)) word s = jump_keeps rd (register_target (read_register s.scalar rs1) imm) s
-executed_keeps limit (Some (Branch op rs1 rs2 offset)) word s =
-    branch_keeps (is_taken op (read_register s.scalar rs1) (read_register s.scalar rs2)) (branch_target s.scalar.pc offset) s
+executed_keeps limit (Some (Branch op rs1 rs2 imm)) word s =
+    branch_keeps (is_taken op (read_register s.scalar rs1) (read_register s.scalar rs2)) (branch_target s.scalar.pc imm) s
 executed_keeps limit (Some (Load op rd rs1 imm)) word s = load_keeps op rd (access_address (read_register s.scalar rs1) (i_immediate imm)) s
 executed_keeps limit (Some (Store op rs1 rs2 imm)) word s =
     store_keeps op (access_address (read_register s.scalar rs1) (s_immediate imm)) (read_register s.scalar rs2) s
 executed_keeps limit (Some (RegisterImmediate op rd rs1 imm)) word s = gives_keep rd _ s s refl
-executed_keeps limit (Some (ShiftImmediate op rd rs1 amount)) word s = gives_keep rd _ s s refl
-executed_keeps limit (Some (ShiftImmediateWord op rd rs1 amount)) word s = gives_keep rd _ s s refl
+executed_keeps limit (Some (ShiftImmediate op rd rs1 shamt)) word s = gives_keep rd _ s s refl
+executed_keeps limit (Some (ShiftImmediateWord op rd rs1 shamt)) word s = gives_keep rd _ s s refl
 executed_keeps limit (Some (RegisterRegister op rd rs1 rs2)) word s = gives_keep rd _ s s refl
 executed_keeps limit (Some (Fence rd rs1 ordering)) word s = runs_keep s.scalar s s refl
 executed_keeps limit (Some (System op)) word s = system_keeps op s

@@ -23,13 +23,13 @@ sign_extended bits value = if nat_lt value (2 ^ (bits - 1)) then value else valu
 abbrev pub i_immediate : ℕ → ℕ
 i_immediate imm = sign_extended 12 imm
 
--- S: bits 11 to 0
+-- S: bits 11 to 0, as of I
 abbrev pub s_immediate : ℕ → ℕ
-s_immediate imm = sign_extended 12 imm
+s_immediate imm = i_immediate imm
 
 -- B: bits 12 to 1 of a distance in bytes
 abbrev pub b_immediate : ℕ → ℕ
-b_immediate offset = sign_extended 13 (2 * offset)
+b_immediate imm = sign_extended 13 (2 * imm)
 
 -- U: bits 31 to 12
 abbrev pub u_immediate : ℕ → ℕ
@@ -37,4 +37,4 @@ u_immediate imm = sign_extended 32 (imm * 2 ^ 12)
 
 -- J: bits 20 to 1 of a distance in bytes
 abbrev pub j_immediate : ℕ → ℕ
-j_immediate offset = sign_extended 21 (2 * offset)
+j_immediate imm = sign_extended 21 (2 * imm)

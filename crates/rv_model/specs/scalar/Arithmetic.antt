@@ -138,7 +138,7 @@ shift_immediate_form Srai = Sra
 
 -- a shift by an immediate of 6 bits
 abbrev pub shift_immediate_value : ShiftImmediateOp → ℕ → ℕ → ℕ
-shift_immediate_value op a amount = register_op_value (shift_immediate_form op) a amount
+shift_immediate_value op a shamt = register_op_value (shift_immediate_form op) a shamt
 
 -- the shift of 32 bits by a register that a shift by an immediate does
 abbrev pub shift_immediate_word_form : ShiftImmediateWordOp → RegisterOp
@@ -148,7 +148,7 @@ shift_immediate_word_form Sraiw = Sraw
 
 -- a shift of 32 bits by an immediate of 5 bits
 abbrev pub shift_immediate_word_value : ShiftImmediateWordOp → ℕ → ℕ → ℕ
-shift_immediate_word_value op a amount = register_op_value (shift_immediate_word_form op) a amount
+shift_immediate_word_value op a shamt = register_op_value (shift_immediate_word_form op) a shamt
 
 -- the upper 20 bits of a 32-bit number, sign-extended; alone, or added to the program counter
 abbrev pub upper_value : UpperOp → ℕ → ℕ → ℕ

@@ -16,7 +16,7 @@ is_taken Bgeu a b = not (nat_lt a b)
 
 -- JAL: bits 20 to 1 of a signed distance from the jump
 abbrev pub jump_target : ℕ → ℕ → ℕ
-jump_target pc offset = (pc + j_immediate offset) % 2 ^ 64
+jump_target pc imm = (pc + j_immediate imm) % 2 ^ 64
 
 -- JALR: a register and a signed immediate of 12 bits, with bit 0 cleared
 abbrev pub register_target : ℕ → ℕ → ℕ
@@ -26,7 +26,7 @@ register_target base imm =
 
 -- a branch: bits 12 to 1 of a signed distance from it
 abbrev pub branch_target : ℕ → ℕ → ℕ
-branch_target pc offset = (pc + b_immediate offset) % 2 ^ 64
+branch_target pc imm = (pc + b_immediate imm) % 2 ^ 64
 
 -- whether an instruction may stand there
 abbrev pub is_aligned : ℕ → Bool

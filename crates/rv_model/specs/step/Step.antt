@@ -29,16 +29,16 @@ word_at m addr = from_le_bytes w32 (bytes_at m addr 4)
 unfoldable pub executed : ℕ → Option Instr → ℕ → HartState → Stepped
 executed limit None word s = faults IllegalInstruction word s
 executed limit (Some (Upper op rd imm)) word s = gives rd (upper_value op s.scalar.pc imm) s
-executed limit (Some (Jump rd offset)) word s = jump_step rd (jump_target s.scalar.pc offset) s
+executed limit (Some (Jump rd imm)) word s = jump_step rd (jump_target s.scalar.pc imm) s
 executed limit (Some (JumpRegister rd rs1 imm)) word s = jump_step rd (register_target (read_register s.scalar rs1) imm) s
-executed limit (Some (Branch op rs1 rs2 offset)) word s =
-    branch_step (is_taken op (read_register s.scalar rs1) (read_register s.scalar rs2)) (branch_target s.scalar.pc offset) s
+executed limit (Some (Branch op rs1 rs2 imm)) word s =
+    branch_step (is_taken op (read_register s.scalar rs1) (read_register s.scalar rs2)) (branch_target s.scalar.pc imm) s
 executed limit (Some (Load op rd rs1 imm)) word s = load_step op rd (access_address (read_register s.scalar rs1) (i_immediate imm)) s
 executed limit (Some (Store op rs1 rs2 imm)) word s =
     store_step op (access_address (read_register s.scalar rs1) (s_immediate imm)) (read_register s.scalar rs2) s
 executed limit (Some (RegisterImmediate op rd rs1 imm)) word s = gives rd (immediate_op_value op (read_register s.scalar rs1) imm) s
-executed limit (Some (ShiftImmediate op rd rs1 amount)) word s = gives rd (shift_immediate_value op (read_register s.scalar rs1) amount) s
-executed limit (Some (ShiftImmediateWord op rd rs1 amount)) word s = gives rd (shift_immediate_word_value op (read_register s.scalar rs1) amount) s
+executed limit (Some (ShiftImmediate op rd rs1 shamt)) word s = gives rd (shift_immediate_value op (read_register s.scalar rs1) shamt) s
+executed limit (Some (ShiftImmediateWord op rd rs1 shamt)) word s = gives rd (shift_immediate_word_value op (read_register s.scalar rs1) shamt) s
 executed limit (Some (RegisterRegister op rd rs1 rs2)) word s = gives rd (register_op_value op (read_register s.scalar rs1) (read_register s.scalar rs2)) s
 executed limit (Some (Fence rd rs1 ordering)) word s = runs_on s.scalar s
 executed limit (Some (System op)) word s = system_step op s

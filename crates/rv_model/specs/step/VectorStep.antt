@@ -26,14 +26,14 @@ use Rattle.rv_model.specs.vector.TypeRules.{requested}
 -- whether an instruction is one of the vector extension; those of control registers are not
 abbrev pub is_vector : Instr → Bool
 is_vector (Upper op rd imm) = false
-is_vector (Jump rd offset) = false
+is_vector (Jump rd imm) = false
 is_vector (JumpRegister rd rs1 imm) = false
-is_vector (Branch op rs1 rs2 offset) = false
+is_vector (Branch op rs1 rs2 imm) = false
 is_vector (Load op rd rs1 imm) = false
 is_vector (Store op rs1 rs2 imm) = false
 is_vector (RegisterImmediate op rd rs1 imm) = false
-is_vector (ShiftImmediate op rd rs1 amount) = false
-is_vector (ShiftImmediateWord op rd rs1 amount) = false
+is_vector (ShiftImmediate op rd rs1 shamt) = false
+is_vector (ShiftImmediateWord op rd rs1 shamt) = false
 is_vector (RegisterRegister op rd rs1 rs2) = false
 is_vector (Fence rd rs1 ordering) = false
 is_vector (System op) = false
