@@ -28,6 +28,6 @@ pub use memory::{
 pub use scalar::Scalar;
 pub use step::{Cause, StepEnd, Stop, VEnd};
 pub use vector::{
-    ControlRegister, Lmul, Policy, RegisterBytes, RequestedLength, RoundingMode, Seat, Sew, VConf,
-    VFile, VState, VType, VectorRequest,
+    ControlRegister, FILE_BYTES, GROUP_BYTES, Lmul, Policy, RegisterBytes, RequestedLength,
+    RoundingMode, Seat, Sew, VConf, VECTOR_REGISTERS, VFile, VLENB, VState, VType, VectorRequest,
 };

@@ -28,7 +28,7 @@ use Rattle.rv_model.specs.step.Hart.{HartState, Stepped, faults, runs_on, gives}
 use Rattle.rv_model.specs.step.Effects.{OnFault, FaultsWriteNoRegister, FirstRegisterStays}
 use Rattle.rv_model.specs.instructions.Immediates.{i_immediate, s_immediate}
 use Rattle.rv_model.specs.instructions.Table.{scan, table}
-use Rattle.rv_model.specs.legality.Legality.{is_legal_at}
+use Rattle.rv_model.specs.legality.Legality.{is_legal}
 use Rattle.rv_model.specs.scalar.LoadsAndStores.{access_address, load_width, store_width}
 use Rattle.rv_model.specs.memory.Memory.{can_access}
 use Rattle.rv_model.specs.scalar.Registers.{read_register, with_register}
@@ -36,7 +36,7 @@ use Rattle.rv_model.specs.step.ScalarStep.{jumps, jump_step, branch_step, load_s
 use Rattle.rv_model.specs.step.Step.{step, executed, word_at}
 use Rattle.rv_model.specs.vector.Control.{is_write, csr_form, control_value}
 use Rattle.rv_model.specs.elements.Formulas.{is_carried_out}
-use Rattle.rv_model.specs.step.VectorStep.{VectorStepped, arith_step, requested_length, vset_step, vector_ticks, after_vector, vector_executed, vector_step}
+use Rattle.rv_model.specs.step.VectorStep.{VectorStepped, arith_step, performed, requested_length, vset_step, vector_ticks, after_vector, vector_executed, vector_step}
 use Rattle.rv_model.specs.declared.memory.Access.TheVariants.{Fetch}
 use Rattle.rv_model.proofs.text_lemmas.Pieces.{of_either}
 
@@ -122,17 +122,22 @@ either_keeps s b x y h k = of_either (λ r. VectorKeeps s r) b x y h k
 arith_keeps : (t : Option VType) (op : VectorOp) (source : Source) (vd vs2 : ℕ) (vm : Bool) (s : HartState) → VectorKeeps s (arith_step t op source vd vs2 vm s)
 arith_keeps None op source vd vs2 vm s = record { refused = refl; first = refl }
 arith_keeps (Some t) (Binary op) source vd vs2 vm s =
-    either_keeps s (is_carried_out op && is_legal_at (VectorArith (Binary op, source) vd vs2 vm) t s.vector.vstart) _ _
+    either_keeps s (is_carried_out op) _ _
     (record { refused = tt; first = refl }) (record { refused = refl; first = refl })
 arith_keeps (Some t) _ source vd vs2 vm s = record { refused = refl; first = refl }
 
+performed_keeps : (limit : ℕ) (i : Instr) (s : HartState) → VectorKeeps s (performed limit i s)
+unfolding performed
+performed_keeps limit (SetVli rd rs1 vtype) s = vset_keeps rd vtype (requested_length rd rs1 s.scalar) s
+performed_keeps limit (SetIvli rd avl vtype) s = vset_keeps rd vtype (Elements avl) s
+performed_keeps limit (SetVl rd rs1 rs2) s = vset_keeps rd (read_register s.scalar rs2) (requested_length rd rs1 s.scalar) s
+performed_keeps limit (VectorArith arith vd vs2 vm) s = arith_keeps s.vector.conf.vtype arith.0 arith.1 vd vs2 vm s
+performed_keeps limit _ s = record { refused = refl; first = refl }
+
 vector_keeps : (limit : ℕ) (i : Instr) (s : HartState) → VectorKeeps s (vector_executed limit i s)
 unfolding vector_executed
-vector_keeps limit (SetVli rd rs1 vtype) s = vset_keeps rd vtype (requested_length rd rs1 s.scalar) s
-vector_keeps limit (SetIvli rd avl vtype) s = vset_keeps rd vtype (Elements avl) s
-vector_keeps limit (SetVl rd rs1 rs2) s = vset_keeps rd (read_register s.scalar rs2) (requested_length rd rs1 s.scalar) s
-vector_keeps limit (VectorArith arith vd vs2 vm) s = arith_keeps s.vector.conf.vtype arith.0 arith.1 vd vs2 vm s
-vector_keeps limit _ s = record { refused = refl; first = refl }
+vector_keeps limit i s =
+    either_keeps s (is_legal i s.vector.conf.vtype s.vector.vstart) _ _ (performed_keeps limit i s) (record { refused = refl; first = refl })
 
 after_vector_keeps : (ticks : ℕ) (end : VEnd) (word : ℕ) (s s' : HartState) → UnlessDone end (s'.scalar ≡ s.scalar) → SameFirst s.scalar s'.scalar → Keeps s (after_vector ticks end word s')
 after_vector_keeps ticks vector_end.Done word s s' h k = record { fault = tt; first = k }

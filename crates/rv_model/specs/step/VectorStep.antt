@@ -1,5 +1,5 @@
 -- One vector instruction, carried out ("V" Vector Extension 1.0).
-use Rattle.std.specs.Prelude.{ℕ, ◌==◌, ◌&&◌, Bool, true, false, List, Option, Some, None, if◌then◌else◌}
+use Rattle.std.specs.Prelude.{ℕ, ◌==◌, Bool, true, false, List, Option, Some, None, if◌then◌else◌}
 use Rattle.rv_model.specs.declared.instructions.instruction.Instr.{Instr}
 use Rattle.rv_model.specs.declared.instructions.instruction.Instr.TheVariants.{Upper, Jump, JumpRegister, Branch, Load, Store, RegisterImmediate, ShiftImmediate, ShiftImmediateWord, RegisterRegister, Fence, System, Csr, CsrImmediate, SetVli, SetIvli, SetVl, VectorArith, VectorCarry, VectorMove, WholeMove, MaskLogic, Compress, MaskToScalar, VectorExtend, MaskUnary, ElementIndex, MoveToScalar, MoveToVector, VectorUnit, VectorStrided, VectorIndexed, WholeLoad, WholeStore, MaskMemory}
 use Rattle.rv_model.specs.declared.instructions.operations.BinaryOp.{BinaryOp}
@@ -16,9 +16,9 @@ use Rattle.rv_model.specs.declared.vector.request.RequestedLength.{RequestedLeng
 use Rattle.rv_model.specs.declared.vector.request.RequestedLength.TheVariants.{Elements, Maximum, Keep}
 use Rattle.rv_model.specs.declared.vector.types.VType.{VType}
 use Rattle.rv_model.specs.step.Hart.{HartState, Stepped, ends_after, faults}
-use Rattle.rv_model.specs.legality.Legality.{is_legal_at}
+use Rattle.rv_model.specs.legality.Legality.{is_legal}
 use Rattle.rv_model.specs.scalar.Registers.{advanced, read_register, with_register}
-use Rattle.rv_model.specs.elements.Arithmetic.{binary_file, fills_masked_off, fills_tail, group_type}
+use Rattle.rv_model.specs.elements.Arithmetic.{binary_file, body_of, fills_masked_off, fills_tail, group_type}
 use Rattle.rv_model.specs.vector.Configuration.{Configuration}
 use Rattle.rv_model.specs.elements.Formulas.{is_carried_out}
 use Rattle.rv_model.specs.vector.TypeRules.{requested}
@@ -92,25 +92,29 @@ leaves_registers file s = vector_ends vector_end.Done (record s { vector = recor
 -- an operation of one width
 abbrev pub binary_step : VType → BinaryOp → Source → ℕ → ℕ → Bool → HartState → VectorStepped
 binary_step t op source vd vs2 vm s =
-    if is_carried_out op && is_legal_at (VectorArith (Binary op, source) vd vs2 vm) t s.vector.vstart
-    then leaves_registers
-    (binary_file (group_type t) op vd vs2 source vm (fills_masked_off s.policy t vm) (fills_tail s.policy t s.vector.vstart s.vector.conf.vl)
-    s.vector s.scalar) s
+    if is_carried_out op then leaves_registers
+    (let body = body_of vm s.vector in
+    binary_file (group_type t) op vd vs2 source body (fills_masked_off s.policy t body) (fills_tail s.policy t body) s.vector.file s.scalar) s
     else vector_ends vector_end.Illegal s
 
--- an operation with a line of its own in the manual's table; without a vector type it is illegal
+-- an operation with a line of its own in the manual's table
 abbrev pub arith_step : Option VType → VectorOp → Source → ℕ → ℕ → Bool → HartState → VectorStepped
 arith_step None op source vd vs2 vm s = vector_ends vector_end.Illegal s
 arith_step (Some t) (Binary op) source vd vs2 vm s = binary_step t op source vd vs2 vm s
 arith_step (Some t) op source vd vs2 vm s = vector_ends vector_end.Illegal s
 
--- a vector instruction, by the ticks that are left; those that aren't carried out yet are illegal
+-- a legal vector instruction, by the ticks that are left; those that aren't carried out yet are illegal
+unfoldable pub performed : ℕ → Instr → HartState → VectorStepped
+performed limit (SetVli rd rs1 vtype) s = vset_step rd vtype (requested_length rd rs1 s.scalar) s
+performed limit (SetIvli rd avl vtype) s = vset_step rd vtype (Elements avl) s
+performed limit (SetVl rd rs1 rs2) s = vset_step rd (read_register s.scalar rs2) (requested_length rd rs1 s.scalar) s
+performed limit (VectorArith arith vd vs2 vm) s = arith_step s.vector.conf.vtype arith.0 arith.1 vd vs2 vm s
+performed limit _ s = vector_ends vector_end.Illegal s
+
+-- a vector instruction, by the ticks that are left: an illegal one changes nothing
 unfoldable pub vector_executed : ℕ → Instr → HartState → VectorStepped
-vector_executed limit (SetVli rd rs1 vtype) s = vset_step rd vtype (requested_length rd rs1 s.scalar) s
-vector_executed limit (SetIvli rd avl vtype) s = vset_step rd vtype (Elements avl) s
-vector_executed limit (SetVl rd rs1 rs2) s = vset_step rd (read_register s.scalar rs2) (requested_length rd rs1 s.scalar) s
-vector_executed limit (VectorArith arith vd vs2 vm) s = arith_step s.vector.conf.vtype arith.0 arith.1 vd vs2 vm s
-vector_executed limit _ s = vector_ends vector_end.Illegal s
+vector_executed limit i s =
+    if is_legal i s.vector.conf.vtype s.vector.vstart then performed limit i s else vector_ends vector_end.Illegal s
 
 -- why an access is refused
 abbrev pub access_cause : Bool → Cause

@@ -1,5 +1,8 @@
 //! The vector type ("V" Vector Extension 1.0, section 3.4).
-/// The selected element width in bits (section 3.4.1, `vsew`).
+use crate::instructions::operations::Width;
+use crate::vector::sizes::VLENB;
+
+/// An element width in bits, as that which is selected (section 3.4.1, `vsew`).
 #[derive(Clone, Copy, PartialEq, Eq)]
 pub enum Sew {
     E8,
@@ -13,9 +16,21 @@ static SEWS: [Sew; 4] = [Sew::E8, Sew::E16, Sew::E32, Sew::E64];
 
 impl Sew {
     ghost use Rattle.std.specs.Prelude.{◌≡◌, ◌<◌, ◌≤◌, length};
-    ghost use Rattle.rv_model.specs.vector.Configuration.{sew_bits};
+    ghost use Rattle.rv_model.specs.vector.Configuration.{element_width, sew_bits};
     ghost use Rattle.rv_model.specs.vector.TypeNames.{sew_name, sew_named};
     ghost use Rattle.rv_model.specs.vector.TypeRules.{sew_number, sew_with_number};
+
+    /// The element width that a load or store names (section 7.3).
+    pub fn from_width(width: Width) -> Sew
+        ensures { result ≡ element_width width }
+    {
+        match width {
+            Width::E8 => Sew::E8,
+            Width::E16 => Sew::E16,
+            Width::E32 => Sew::E32,
+            Width::E64 => Sew::E64,
+        }
+    }
 
     /// The width in bits, 8 to 64.
     pub fn bits(self) -> u16
@@ -200,7 +215,7 @@ impl VType {
     pub fn vlmax(self) -> u16
         ensures { result ≡ vlmax self }
     {
-        self.lmul.eighths() * 32 / self.sew.bits()
+        self.lmul.eighths() * VLENB as u16 / self.sew.bits()
     }
 
     /// Whether the element width is at most LMUL x 64.
