@@ -6,7 +6,7 @@ use Rattle.std.specs.Ordering.{nat_cmp}
 use Rattle.std.specs.FinMap.{get, len, get-empty, len-empty, len-insert}
 use Rattle.std.proofs.lemmas.Bool.{cases_eq, cases_lt}
 use Rattle.rv_model.specs.memory.Memory.{Cell, Memory, page_count}
-use Rattle.rv_model.specs.images.Image.{placed, is_touched, cell_of, with_cell, memory_below, all_pages, memory_of_image}
+use Rattle.rv_model.specs.images.Image.{placed_headers, is_touched, cell_of, with_cell, memory_below, all_pages, memory_of_image}
 use Rattle.rv_model.proofs.memory_lemmas.Memory.{same_memory, get-insert_same, get-insert_other}
 use Rattle.rv_model.specs.memory.Sizes.{page_size, page_limit}
 use Rattle.elf_load.specs.Pages.{pages_below}
@@ -89,38 +89,38 @@ len-memory_below_pages cells t same (suc n) =
     whole a true = omega arith
     whole a false = omega arith
 
-is_some-cell : (b : Bool) (c : Cell) → is_some (if b then Some c else None) ≡ b
-is_some-cell true c = refl
-is_some-cell false c = refl
+is_some-when : (b : Bool) (c : Cell) → is_some (if b then Some c else None) ≡ b
+is_some-when true c = refl
+is_some-when false c = refl
 
 -- an image's memory has the pages that it touches
-pub page_count-image : (image : List ℕ) → page_count (memory_of_image image) ≡ pages_below (is_touched (placed image)) all_pages
+pub page_count-image : (image : List ℕ) → page_count (memory_of_image image) ≡ pages_below (is_touched (placed_headers image)) all_pages
 unfolding memory_of_image page_count cell_of
 page_count-image image =
-    let size = len-memory_below_pages (cell_of image) (is_touched (placed image)) (λ x. is_some-cell (is_touched (placed image) (x / page_size)) _) all_pages in
+    let size = len-memory_below_pages (cell_of image) (is_touched (placed_headers image)) (λ x. is_some-when (is_touched (placed_headers image) (x / page_size)) _) all_pages in
     omega (arith, size)
 
 -- ---- counted page by page
 
-pub all_pages_are : all_pages ≡ page_limit
+pub all_pages_is_page_limit : all_pages ≡ page_limit
 unfolding all_pages
-all_pages_are = refl
+all_pages_is_page_limit = refl
 
-pub no_pages : (t : ℕ → Bool) → pages_below t 0 ≡ 0
+pub pages_below_none : (t : ℕ → Bool) → pages_below t 0 ≡ 0
 unfolding pages_below
-no_pages t = refl
+pages_below_none t = refl
 
 -- no page is left
-pub counted_all : (image image' : List ℕ) (from count : ℕ) → image ≡ image' → ((q : ℕ) → from ≤ q → is_touched (placed image) q ≡ false) → from ≤ page_limit → pages_below (is_touched (placed image)) from ≡ count
+pub counted_all : (image image' : List ℕ) (from count : ℕ) → image ≡ image' → ((q : ℕ) → from ≤ q → is_touched (placed_headers image) q ≡ false) → from ≤ page_limit → pages_below (is_touched (placed_headers image)) from ≡ count
     → count ≡ page_count (memory_of_image image')
 counted_all image image' from count same none bound counted =
-    sym counted ∙ sym (pages_below_skipped (is_touched (placed image)) from all_pages (omega (arith, all_pages_are)) (λ q l m. none q l))
+    sym counted ∙ sym (pages_below_skipped (is_touched (placed_headers image)) from all_pages (omega (arith, all_pages_is_page_limit)) (λ q l m. none q l))
     ∙ sym (page_count-image image) ∙ ap (λ (xs : List ℕ). page_count (memory_of_image xs)) same
 
 -- more pages than these
-pub counted_many : (image image' : List ℕ) (from : ℕ) → image ≡ image' → from ≤ page_limit → pages_below (is_touched (placed image)) from ≤ page_count (memory_of_image image')
+pub counted_many : (image image' : List ℕ) (from : ℕ) → image ≡ image' → from ≤ page_limit → pages_below (is_touched (placed_headers image)) from ≤ page_count (memory_of_image image')
 counted_many image image' from same bound =
-    let le = pages_below_le (is_touched (placed image)) from all_pages (omega (arith, all_pages_are)) in
+    let le = pages_below_le (is_touched (placed_headers image)) from all_pages (omega (arith, all_pages_is_page_limit)) in
     let total = page_count-image image ∙ refl in
     let moved = ap (λ (xs : List ℕ). page_count (memory_of_image xs)) same in
     omega (arith, le, total, moved)

@@ -1,33 +1,33 @@
 //! The fields of an image's headers.
 ghost use Rattle.std.specs.Prelude.{◌≡◌, ◌+◌, ◌*◌, ◌≤◌, length};
-ghost use Rattle.rv_model.specs.images.Fields.{field, entry_of, type_of, machine_of, table_offset, header_size, header_count, header_at, program_header};
+ghost use Rattle.rv_model.specs.images.Fields.{number_in_file, entry_of, type_of, machine_of, table_offset, header_size, header_count, header_at, program_header};
 
 use byteorder::{ByteOrder, LittleEndian};
 use rv_model::ProgramHeader;
 
 /// The number in the two bytes at an offset, little-endian.
-#[tactic(auto, unfolding(rv_model::specs::images::Fields::field))]
+#[tactic(auto, unfolding(rv_model::specs::images::Fields::number_in_file))]
 fn number16(image: &[u8], offset: usize) -> u16
     requires { offset + 2 ≤ length image.now }
-    ensures { result ≡ field offset 2 image.now }
+    ensures { result ≡ number_in_file offset 2 image.now }
 {
     LittleEndian::read_u16(&image[offset..])
 }
 
 /// The number in the four bytes at an offset, little-endian.
-#[tactic(auto, unfolding(rv_model::specs::images::Fields::field))]
+#[tactic(auto, unfolding(rv_model::specs::images::Fields::number_in_file))]
 fn number32(image: &[u8], offset: usize) -> u32
     requires { offset + 4 ≤ length image.now }
-    ensures { result ≡ field offset 4 image.now }
+    ensures { result ≡ number_in_file offset 4 image.now }
 {
     LittleEndian::read_u32(&image[offset..])
 }
 
 /// The number in the eight bytes at an offset, little-endian.
-#[tactic(auto, unfolding(rv_model::specs::images::Fields::field))]
+#[tactic(auto, unfolding(rv_model::specs::images::Fields::number_in_file))]
 fn number64(image: &[u8], offset: usize) -> u64
     requires { offset + 8 ≤ length image.now }
-    ensures { result ≡ field offset 8 image.now }
+    ensures { result ≡ number_in_file offset 8 image.now }
 {
     LittleEndian::read_u64(&image[offset..])
 }

@@ -1,7 +1,7 @@
 //! The pages that an image touches, one after the other.
 ghost use Rattle.std.specs.Prelude.{◌≡◌, ℕ, ◌+◌, ◌<◌, ◌≤◌, ◌^◌, None, IfSome};
 ghost use Rattle.rv_model.specs.images.Faults.{first_fault};
-ghost use Rattle.rv_model.specs.images.Image.{stack, placed, touches, is_touched};
+ghost use Rattle.rv_model.specs.images.Image.{stack, placed_headers, touches_page, is_touched};
 ghost use Rattle.rv_model.specs.memory.Sizes.{page_limit};
 ghost use Rattle.elf_load.specs.Pages.{IsFirstIfAny, EndsInMemory, earlier};
 
@@ -27,7 +27,7 @@ pub(crate) fn stack() -> ProgramHeader
 /// The first page from a page on that a segment touches.
 fn first_touched(header: ProgramHeader, from: u64) -> Option<u64>
     requires { EndsInMemory header }
-    ensures first { IsFirstIfAny (λ page. touches page header) from result }
+    ensures first { IsFirstIfAny (λ page. touches_page page header) from result }
     ensures bound { IfSome result (λ page. page < page_limit) }
 {
     if header.kind != LOAD {
@@ -55,7 +55,7 @@ fn earlier(first: Option<u64>, second: Option<u64>) -> Option<u64>
 /// The first page from a page on that an image touches.
 pub(crate) fn next_page(image: &[u8], from: u64) -> Option<u64>
     requires { first_fault image.now ≡ None }
-    ensures first { IsFirstIfAny (is_touched (placed image.now)) from result }
+    ensures first { IsFirstIfAny (is_touched (placed_headers image.now)) from result }
     ensures bound { IfSome result (λ page. page < page_limit) }
 {
     let mut next = first_touched(stack(), from);

@@ -7,8 +7,8 @@ use Rattle.rv_model.specs.memory.Memory.{Cell, page_count}
 use Rattle.rv_model.proofs.memory_lemmas.Memory.{len-add_cells}
 use Rattle.rv_model.specs.memory.Sizes.{page_size}
 use Rattle.user_mem.specs.declared.entry.Entry.{Entry}
-use Rattle.user_mem.specs.Table.{entry_at, cell_of, memory_of, IsSorted}
-use Rattle.user_mem.proofs.TableLaws.{cell_in, get-memory_of}
+use Rattle.user_mem.specs.Table.{entry_at, cell_of_entry, memory_of, IsSorted}
+use Rattle.user_mem.proofs.TableLaws.{cell_of_page, get-memory_of}
 use Rattle.user_mem.proofs.SearchLaws.{entry_at_none}
 
 -- a page's first address is mapped exactly where the page has an entry
@@ -18,7 +18,7 @@ contains_key-memory_of frames es p =
     ap (λ (o : Option Cell). is_some o) (get-memory_of frames es (page_size * p)) ∙ through (entry_at es (page_size * p / page_size))
     ∙ ap (λ (q : ℕ). is_some (entry_at es q)) page
   where
-    through : (o : Option Entry) → is_some (cell_in frames (page_size * p) o) ≡ is_some o
+    through : (o : Option Entry) → is_some (cell_of_page frames (page_size * p) o) ≡ is_some o
     through None = refl
     through (Some e) = refl
 
@@ -35,9 +35,9 @@ unfolding memory_of
 len-memory_of frames [] sorted = len-empty nat_cmp Cell
 len-memory_of frames (x ∷ es) sorted =
     let rest = len-memory_of frames es (tail_is_sorted x es sorted) in
-    let more = len-add_cells (memory_of frames es) (page_size * x.page) page_size (λ k. cell_of frames x k) (λ k l.
+    let more = len-add_cells (memory_of frames es) (page_size * x.page) page_size (λ k. cell_of_entry frames x k) (λ k l.
     let page : (page_size * x.page + k) / page_size ≡ x.page = omega arith in
-    get-memory_of frames es (page_size * x.page + k) ∙ ap (cell_in frames (page_size * x.page + k)) (ap (entry_at es) page ∙ first_is_alone x es sorted)) in
+    get-memory_of frames es (page_size * x.page + k) ∙ ap (cell_of_page frames (page_size * x.page + k)) (ap (entry_at es) page ∙ first_is_alone x es sorted)) in
     omega (arith, rest, more)
 
 pub page_count-memory_of : (frames : List ℕ) (es : List Entry) → IsSorted es → page_count (memory_of frames es) ≡ length es

@@ -12,7 +12,7 @@ use Rattle.rv_model.proofs.memory_lemmas.Memory.{same_memory, with_byte, get-put
 use Rattle.rv_model.specs.memory.Sizes.{page_size}
 use Rattle.user_mem.specs.declared.entry.Entry.{Entry}
 use Rattle.user_mem.specs.Table.{entry_at, memory_of, AreSeparate, AreApart}
-use Rattle.user_mem.proofs.TableLaws.{cell_in, get-memory_of, is_allowed-memory_of, byte_at-memory_of, memory_of_same, entry_from_allowed}
+use Rattle.user_mem.proofs.TableLaws.{cell_of_page, get-memory_of, is_allowed-memory_of, byte_at-memory_of, memory_of_same, entry_from_allowed}
 
 -- a part of a list, as code takes it
 pub part_length : (xs : List ℕ) (s n : ℕ) → s + n ≤ length xs → length (take ((s + n) - s) (drop s xs)) ≡ n
@@ -87,24 +87,24 @@ module _ (frames after : List ℕ) (es : List Entry) (a start : ℕ) (bs : List 
     (place : start ≡ page_size * e.frame + a % page_size) (fits : a % page_size + length bs ≤ page_size)
     (pasted : (k : ℕ) → k < length bs → get_or after (start + k) 0 ≡ get_or bs k 0)
     (kept : (i : ℕ) → ((i < start) ⊎ (start + length bs ≤ i)) → get_or after i 0 ≡ get_or frames i 0) where
-  outside : (x : ℕ) → ((x < a) ⊎ (a + length bs ≤ x)) → (o : Option Entry) → entry_at es (x / page_size) ≡ o → cell_in after x (entry_at es (x / page_size)) ≡ cell_in frames x (entry_at es (x / page_size))
-  outside x far None q = ap (cell_in after x) q ∙ sym (ap (cell_in frames x) q)
+  outside : (x : ℕ) → ((x < a) ⊎ (a + length bs ≤ x)) → (o : Option Entry) → entry_at es (x / page_size) ≡ o → cell_of_page after x (entry_at es (x / page_size)) ≡ cell_of_page frames x (entry_at es (x / page_size))
+  outside x far None q = ap (cell_of_page after x) q ∙ sym (ap (cell_of_page frames x) q)
   outside x far (Some f) q =
       let apart : f.frame ≡ e.frame → ((x % page_size < a % page_size) ⊎ (a % page_size + length bs ≤ x % page_size)) = λ same.
       let page = separate (x / page_size) (a / page_size) f e q here same in
       elim far [ inl l ↦ inl (omega arith) | inr g ↦ inr (omega arith) ] in
-      ap (cell_in after x) q
+      ap (cell_of_page after x) q
       ∙ ap (λ (v : ℕ). Some (record { byte = v; permissions = f.permissions })) (kept (page_size * f.frame + x % page_size) (beside f.frame e.frame start (x % page_size) (a % page_size) (length bs) place fits (omega arith) apart))
-      ∙ sym (ap (cell_in frames x) q)
+      ∙ sym (ap (cell_of_page frames x) q)
 
   within : (x k : ℕ) → k < length bs → x ≡ a + k → get (memory_of after es) x ≡ get (put_bytes (memory_of frames es) a bs) x
   within x k l q =
       let page : x / page_size ≡ a / page_size = omega arith in
       let there : entry_at es (x / page_size) ≡ Some e = ap (entry_at es) page ∙ here in
       let index : page_size * e.frame + x % page_size ≡ start + k = omega arith in
-      get-memory_of after es x ∙ ap (cell_in after x) there
+      get-memory_of after es x ∙ ap (cell_of_page after x) there
       ∙ ap (λ (v : ℕ). Some (record { byte = v; permissions = e.permissions })) (ap (λ (j : ℕ). get_or after j 0) index ∙ pasted k l)
-      ∙ ap (with_byte (get_or bs k 0)) (sym (ap (cell_in frames x) there) ∙ sym (get-memory_of frames es x))
+      ∙ ap (with_byte (get_or bs k 0)) (sym (ap (cell_of_page frames x) there) ∙ sym (get-memory_of frames es x))
       ∙ sym (get-put_bytes_within (memory_of frames es) a bs k x l q)
 
   beyond : (x : ℕ) → ((x < a) ⊎ (a + length bs ≤ x)) → get (memory_of after es) x ≡ get (put_bytes (memory_of frames es) a bs) x

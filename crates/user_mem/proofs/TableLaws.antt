@@ -9,24 +9,24 @@ use Rattle.rv_model.specs.memory.Memory.{Cell, permits, can_access, is_allowed, 
 use Rattle.rv_model.proofs.memory_lemmas.Memory.{same_memory, get-add_cells_within, get-add_cells_outside, can_access-at}
 use Rattle.rv_model.specs.memory.Sizes.{page_size, address_end}
 use Rattle.user_mem.specs.declared.entry.Entry.{Entry}
-use Rattle.user_mem.specs.Table.{entry_at, cell_of, memory_of, AreBelow}
+use Rattle.user_mem.specs.Table.{entry_at, cell_of_entry, memory_of, AreBelow}
 
 -- the cell at address x of the page that an entry maps
-abbrev pub cell_in : List ℕ → ℕ → Option Entry → Option Cell
-cell_in frames x o = option_map (λ e. cell_of frames e (x % page_size)) o
+abbrev pub cell_of_page : List ℕ → ℕ → Option Entry → Option Cell
+cell_of_page frames x o = option_map (λ e. cell_of_entry frames e (x % page_size)) o
 
-pub get-memory_of : (frames : List ℕ) (entries : List Entry) (x : ℕ) → get (memory_of frames entries) x ≡ cell_in frames x (entry_at entries (x / page_size))
+pub get-memory_of : (frames : List ℕ) (entries : List Entry) (x : ℕ) → get (memory_of frames entries) x ≡ cell_of_page frames x (entry_at entries (x / page_size))
 unfolding memory_of
 get-memory_of frames [] x = get-empty nat_cmp x
 get-memory_of frames (e ∷ es) x = elim (cases_eq e.page (x / page_size)) [
   | inl q ↦
       let at : x ≡ page_size * e.page + x % page_size = omega arith in
-      get-add_cells_within (memory_of frames es) (page_size * e.page) page_size (λ k. cell_of frames e k) (x % page_size) x (omega arith) at
-      ∙ ap (λ (b : Bool). cell_in frames x (cond b (Some e) (entry_at es (x / page_size)))) (sym (eq-eqb e.page (x / page_size) q))
+      get-add_cells_within (memory_of frames es) (page_size * e.page) page_size (λ k. cell_of_entry frames e k) (x % page_size) x (omega arith) at
+      ∙ ap (λ (b : Bool). cell_of_page frames x (cond b (Some e) (entry_at es (x / page_size)))) (sym (eq-eqb e.page (x / page_size) q))
   | inr n ↦
-      get-add_cells_outside (memory_of frames es) (page_size * e.page) page_size (λ k. cell_of frames e k) x (beside n)
+      get-add_cells_outside (memory_of frames es) (page_size * e.page) page_size (λ k. cell_of_entry frames e k) x (beside n)
       ∙ get-memory_of frames es x
-      ∙ ap (λ (b : Bool). cell_in frames x (cond b (Some e) (entry_at es (x / page_size)))) (sym (ne_eqb e.page (x / page_size) n))
+      ∙ ap (λ (b : Bool). cell_of_page frames x (cond b (Some e) (entry_at es (x / page_size)))) (sym (ne_eqb e.page (x / page_size) n))
 ]
   where
     beside : e.page ≢ x / page_size → ((x < page_size * e.page) ⊎ (page_size * e.page + page_size ≤ x))
@@ -41,7 +41,7 @@ is_allowed-memory_of access frames entries x =
     ap (λ (o : Option Cell). option_map_or (λ c. permits access c.permissions) o false) (get-memory_of frames entries x)
     ∙ through (entry_at entries (x / page_size))
   where
-    through : (o : Option Entry) → option_map_or (λ c. permits access c.permissions) (cell_in frames x o) false ≡ option_map_or (λ e. permits access e.permissions) o false
+    through : (o : Option Entry) → option_map_or (λ c. permits access c.permissions) (cell_of_page frames x o) false ≡ option_map_or (λ e. permits access e.permissions) o false
     through None = refl
     through (Some e) = refl
 
@@ -49,19 +49,19 @@ is_allowed-memory_of access frames entries x =
 pub byte_at-memory_of : (frames : List ℕ) (entries : List Entry) (x : ℕ) (e : Entry) → entry_at entries (x / page_size) ≡ Some e → byte_at (memory_of frames entries) x ≡ get_or frames (page_size * e.frame + x % page_size) 0
 unfolding byte_at
 byte_at-memory_of frames entries x e h =
-    ap (λ (o : Option Cell). option_map_or (λ c. c.byte) o 0) (get-memory_of frames entries x ∙ ap (cell_in frames x) h)
+    ap (λ (o : Option Cell). option_map_or (λ c. c.byte) o 0) (get-memory_of frames entries x ∙ ap (cell_of_page frames x) h)
 
 -- bytes that no frame of the table holds do not matter
 pub memory_of_same : (frames other : List ℕ) (entries : List Entry) → ((p : ℕ) (e : Entry) (k : ℕ) → entry_at entries p ≡ Some e → k < page_size → get_or other (page_size * e.frame + k) 0 ≡ get_or frames (page_size * e.frame + k) 0) → memory_of other entries ≡ memory_of frames entries
 memory_of_same frames other entries h = same_memory _ _ (λ x.
     get-memory_of other entries x ∙ at x (entry_at entries (x / page_size)) refl ∙ sym (get-memory_of frames entries x))
   where
-    at : (x : ℕ) (o : Option Entry) → entry_at entries (x / page_size) ≡ o → cell_in other x (entry_at entries (x / page_size)) ≡ cell_in frames x (entry_at entries (x / page_size))
-    at x None q = ap (cell_in other x) q ∙ sym (ap (cell_in frames x) q)
+    at : (x : ℕ) (o : Option Entry) → entry_at entries (x / page_size) ≡ o → cell_of_page other x (entry_at entries (x / page_size)) ≡ cell_of_page frames x (entry_at entries (x / page_size))
+    at x None q = ap (cell_of_page other x) q ∙ sym (ap (cell_of_page frames x) q)
     at x (Some e) q =
-        ap (cell_in other x) q
+        ap (cell_of_page other x) q
         ∙ ap (λ (b : ℕ). Some (record { byte = b; permissions = e.permissions })) (h (x / page_size) e (x % page_size) q (omega arith))
-        ∙ sym (ap (cell_in frames x) q)
+        ∙ sym (ap (cell_of_page frames x) q)
 
 pub allowed_by_entry : (access : Access) (frames : List ℕ) (entries : List Entry) (x : ℕ) (e : Entry) → entry_at entries (x / page_size) ≡ Some e → permits access e.permissions ≡ is_allowed access (memory_of frames entries) x
 allowed_by_entry access frames entries x e h =

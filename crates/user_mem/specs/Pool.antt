@@ -7,11 +7,11 @@ use Rattle.rv_model.specs.memory.Memory.{Memory}
 use Rattle.rv_model.specs.memory.Sizes.{page_size, page_quota, frame_count}
 use Rattle.rv_model.specs.machine.Users.{user_count}
 use Rattle.user_mem.specs.Table.{memory_of, IsSorted, AreBelow}
-use Rattle.user_mem.specs.Frames.{uses, uses_of}
+use Rattle.user_mem.specs.Frames.{times_free, times_used}
 
 -- how often a frame is free or used
 unfoldable pub owners : ℕ → List ℕ → List (List Entry) → ℕ
-owners f free tables = uses f free + sum_by (uses_of f) tables
+owners f free tables = times_free f free + sum_by (times_used f) tables
 
 -- how many frames are used
 unfoldable pub used_in_all : List (List Entry) → ℕ

@@ -12,13 +12,13 @@ abbrev pub entry_at : List Entry → ℕ → Option Entry
 entry_at entries page = find (λ e. nat_eq e.page page) entries
 
 -- the cell at an offset of an entry's page
-abbrev pub cell_of : List ℕ → Entry → ℕ → Cell
-cell_of frames e k = record { byte = slice_index frames (page_size * e.frame + k); permissions = e.permissions }
+abbrev pub cell_of_entry : List ℕ → Entry → ℕ → Cell
+cell_of_entry frames e k = record { byte = slice_index frames (page_size * e.frame + k); permissions = e.permissions }
 
 -- a user's memory: each entry's page holds its frame's bytes
 unfoldable pub memory_of : List ℕ → List Entry → Memory
 memory_of frames [] = empty
-memory_of frames (e ∷ es) = add_cells (memory_of frames es) (page_size * e.page) page_size (λ k. cell_of frames e k)
+memory_of frames (e ∷ es) = add_cells (memory_of frames es) (page_size * e.page) page_size (λ k. cell_of_entry frames e k)
 
 -- the pages rise, so none is there twice
 abbrev pub IsSorted : List Entry → Type 0

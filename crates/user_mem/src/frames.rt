@@ -5,7 +5,7 @@ ghost use Rattle.rv_model.specs.memory.Memory.{is_allowed, can_access, bytes_at,
 ghost use Rattle.rv_model.specs.memory.Sizes.{page_size, page_quota};
 ghost use Rattle.user_mem.specs.declared.entry.Entry.{Entry};
 ghost use Rattle.user_mem.specs.Table.{entry_at, memory_of, IsSorted, AreBelow, FitIn, AreSeparate, AreApart};
-ghost use Rattle.user_mem.specs.Frames.{uses_of};
+ghost use Rattle.user_mem.specs.Frames.{times_used};
 
 use crate::entry::Entry;
 use crate::table::{Table, add_entry, bytes_in_page, locate};
@@ -109,10 +109,10 @@ pub(crate) fn map_page(
     requires sorted { IsSorted table.old.items }
     requires fits { page_size * frame + page_size ≤ length frames.old }
     requires new_page { entry_at table.old.items page ≡ None }
-    requires unused { uses_of frame table.old.items ≡ 0 }
+    requires unused { times_used frame table.old.items ≡ 0 }
     ensures mapped { memory_of frames.new table.new.items
         ≡ with_pages (memory_of frames.old table.old.items) page 1 permissions }
-    ensures others { (other : List Entry) → uses_of frame other ≡ 0
+    ensures others { (other : List Entry) → times_used frame other ≡ 0
         → memory_of frames.new other ≡ memory_of frames.old other }
     ensures sorted { IsSorted table.new.items }
     ensures looked_up { (p : ℕ) → entry_at table.new.items p
@@ -120,7 +120,7 @@ pub(crate) fn map_page(
         (Some (record { page = page; frame = frame; permissions = permissions }))
         (entry_at table.old.items p) }
     ensures used { (f : ℕ)
-        → uses_of f table.new.items ≡ uses_of f table.old.items + cond (nat_eq frame f) 1 0 }
+        → times_used f table.new.items ≡ times_used f table.old.items + cond (nat_eq frame f) 1 0 }
     ensures len { length table.new.items ≡ length table.old.items + 1 }
     ensures size { length frames.new ≡ length frames.old }
 {

@@ -9,7 +9,7 @@ ghost use Rattle.user_mem.specs.Pool.{entries_of};
 
 use crate::frames::{FRAME_SIZE, copy_out};
 use crate::free::{FreeFrames, all_free};
-use crate::table::{allows, refusal};
+use crate::table::{is_access_allowed, refusal};
 use crate::users::{Tables, drop_pages, map_user, write_user};
 use arrayvec::ArrayVec;
 use rv_model::{Access, FRAME_COUNT, Fault, MapRefusal, Permissions, User};
@@ -137,7 +137,7 @@ impl<A: Allocator> Pool<A> {
             ↔ (can_access access (memory_of_user self.now user) addr len ≡ true) }
         ensures fault { IfErr result (λ fault. fault.addr ≡ addr) }
     {
-        if allows(self.tables[user.index()].as_slice(), access, addr, len) {
+        if is_access_allowed(self.tables[user.index()].as_slice(), access, addr, len) {
             Ok(())
         } else {
             Err(Fault { addr })

@@ -5,7 +5,7 @@ ghost use Rattle.rv_model.specs.memory.Memory.{is_allowed, can_access, any_page_
 ghost use Rattle.rv_model.specs.memory.Sizes.{page_size, page_quota, page_limit};
 ghost use Rattle.user_mem.specs.declared.entry.Entry.{Entry};
 ghost use Rattle.user_mem.specs.Table.{entry_at, memory_of, AreBelow, IsSorted, IsAt, IsGapFor};
-ghost use Rattle.user_mem.specs.Frames.{uses_of};
+ghost use Rattle.user_mem.specs.Frames.{times_used};
 
 use crate::entry::Entry;
 use arrayvec::ArrayVec;
@@ -53,7 +53,7 @@ pub(crate) fn bytes_in_page(addr: u64, left: usize) -> usize
 }
 
 /// Whether all bytes of an access are allowed.
-pub(crate) fn allows(entries: &[Entry], access: Access, addr: u64, len: usize) -> bool
+pub(crate) fn is_access_allowed(entries: &[Entry], access: Access, addr: u64, len: usize) -> bool
     requires sorted { IsSorted entries.now }
     requires below { AreBelow entries.now }
     ensures { (frames : List ℕ)
@@ -119,7 +119,7 @@ pub(crate) fn add_entry(table: &mut Table, entry: Entry)
     ensures looked_up { (p : ℕ) → entry_at table.new.items p
         ≡ cond (nat_eq entry.page p) (Some entry) (entry_at table.old.items p) }
     ensures used { (f : ℕ)
-        → uses_of f table.new.items ≡ uses_of f table.old.items + cond (nat_eq entry.frame f) 1 0 }
+        → times_used f table.new.items ≡ times_used f table.old.items + cond (nat_eq entry.frame f) 1 0 }
 {
     match search(table.as_slice(), entry.page) {
         Ok(_) => unreachable!(),

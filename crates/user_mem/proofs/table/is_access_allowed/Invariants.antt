@@ -1,7 +1,7 @@
 use Rattle.std.proofs.Common.{◌≡◌, ℕ, ◌<◌, ◌≤◌, ◌+◌, ◌-◌, List, true}
 use Rattle.rv_model.specs.memory.Memory.{is_allowed}
 use Rattle.user_mem.specs.Table.{memory_of}
-use Rattle.user_mem.proofs.table.allows.Given as goal
+use Rattle.user_mem.proofs.table.is_access_allowed.Given as goal
 
 abbrev pub invariant-loop-done : goal.invariant-loop-done
 invariant-loop-done l = record {

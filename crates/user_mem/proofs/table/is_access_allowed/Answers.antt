@@ -4,7 +4,7 @@ use Rattle.rv_model.proofs.memory_lemmas.Memory.{can_access_not, can_access_from
 use Rattle.user_mem.specs.Table.{memory_of}
 use Rattle.user_mem.proofs.TableLaws.{not_allowed_beyond}
 use Rattle.user_mem.proofs.RunLaws.{allowed_more}
-use Rattle.user_mem.proofs.table.allows.Goals as goal
+use Rattle.user_mem.proofs.table.is_access_allowed.Goals as goal
 
 pub returns-in_default : goal.returns-in_default
 returns-in_default c = λ frames.
