@@ -168,13 +168,13 @@ hex_again n lt =
 -- ---- letters
 
 -- a decimal number doesn't begin with a letter
-pub not_letter : (l n : ℕ) (ds xs : List ℕ) → 58 ≤ l → Decimal n ds → bytes_eq ds (l ∷ xs) ≡ false
-not_letter l n [] xs h d = absurd (omega (arith, d.some))
-not_letter l n (c ∷ cs) xs h d =
+pub not_letter : (l n : ℕ) (xs ds : List ℕ) → 58 ≤ l → Decimal n ds → bytes_eq (l ∷ xs) ds ≡ false
+not_letter l n xs [] h d = refl
+not_letter l n xs (c ∷ cs) h d =
     let p = and_parts (is_dec c) (all_dec cs) d.digits in
     let q = and_parts (leb 48 c) (leb c 57) p.0 in
     let le = leb-true c 57 q.1 in
-    and_left (eqb c l) (bytes_eq cs xs) (ne_eqb c l (λ e. omega arith))
+    and_left (eqb l c) (bytes_eq xs cs) (ne_eqb l c (λ e. omega arith))
 
 pub not_minus : (n : ℕ) (ds : List ℕ) → Decimal n ds → bytes_eq ds (45 ∷ []) ≡ false
 not_minus n [] d = absurd (omega (arith, d.some))

@@ -3,7 +3,7 @@ ghost use Rattle.std.specs.Prelude.{ℕ, ◌≡◌, ◌≤◌, ◌<◌, ◌^◌,
 ghost use Rattle.std.specs.Str.{bytes_eq};
 ghost use Rattle.rv_model.specs.assembler.Fields.{fixed_mask};
 ghost use Rattle.rv_asm.specs.Spans.{spans};
-ghost use Rattle.rv_model.specs.assembler.Table.{slots_of, padded, row_named, row_of_word, row_at, slots_at, bits_at};
+ghost use Rattle.rv_model.specs.assembler.Table.{name_count, row_count, slots_of, padded, row_named, row_of_word, row_at, slots_at, bits_at};
 
 use rv_model::assembler::forms::{
     BRANCH, CARRY_IMMEDIATE, CARRY_SCALAR, CARRY_VECTOR, CSR, CSR_IMMEDIATE, ELEMENT_INDEX, Form,
@@ -13,10 +13,7 @@ use rv_model::assembler::forms::{
     UNMASKED_UNIT, UNMASKED_VECTOR, UPPER, VECTOR_IMMEDIATE, VECTOR_SCALAR, VECTOR_UNARY,
     VECTOR_UNSIGNED, VECTOR_VECTOR, WHOLE_MOVE, WORD,
 };
-use rv_model::assembler::mnemonics::{MNEMONICS, Mnemonic};
-
-/// The row of `.word`, the last.
-const DIRECTIVE: usize = 597;
+use rv_model::assembler::mnemonics::{MNEMONICS, Mnemonic, NAME_COUNT};
 
 /// The slots of a form.
 pub fn slots_of(form: Form) -> &'static [Slot]
@@ -119,7 +116,7 @@ fn padded(name: &[u8]) -> [u8; 16]
 }
 
 fn row_padded(name: &[u8; 16]) -> Option<usize>
-    ensures within { IfSome result (λ row. row < 598) }
+    ensures within { IfSome result (λ row. row < row_count) }
     ensures first { result ≡ position (λ row. bytes_eq row.0 name.now) MNEMONICS }
 {
     MNEMONICS.iter().position(|row| row.0 == *name)
@@ -128,7 +125,7 @@ fn row_padded(name: &[u8; 16]) -> Option<usize>
 /// The row with this name.
 #[tactic(auto, unfolding(rv_model::specs::assembler::Table::row_named))]
 pub fn row_named(name: &[u8]) -> Option<usize>
-    ensures within { IfSome result (λ row. row < 598) }
+    ensures within { IfSome result (λ row. row < row_count) }
     ensures first { result ≡ row_named name.now }
 {
     if name.len() > 16 {
@@ -138,7 +135,7 @@ pub fn row_named(name: &[u8]) -> Option<usize>
 }
 
 fn row_matching(word: u32) -> Option<usize>
-    ensures within { IfSome result (λ row. row < 598) }
+    ensures within { IfSome result (λ row. row < row_count) }
     ensures first { result
         ≡ position (λ row. nat_eq (bit_and word (fixed_mask (slots_of row.1))) row.2) MNEMONICS }
 {
@@ -147,17 +144,17 @@ fn row_matching(word: u32) -> Option<usize>
         .position(|row| word & fixed_mask(row.1) == row.2)
 }
 
-/// The first row whose fixed bits a word has.
+/// The first row whose fixed bits a word has: that of `.word`, the last, for a word without a name.
 pub fn row_of_word(word: u32) -> usize
-    ensures within { result < 598 }
+    ensures within { result < row_count }
     ensures first { result ≡ row_of_word word }
 {
-    row_matching(word).unwrap_or(DIRECTIVE)
+    row_matching(word).unwrap_or(NAME_COUNT)
 }
 
 /// A row of the table.
 pub fn row_at(row: usize) -> Mnemonic
-    requires { row < 598 }
+    requires { row < row_count }
     ensures value { result ≡ row_at row }
     ensures ascii { (k : ℕ) → k < 16 → slice_index result.0 k < 128 }
     ensures room { result.2 + spans (slots_of result.1) < 2 ^ 32 }

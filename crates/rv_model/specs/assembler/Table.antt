@@ -8,7 +8,7 @@ use Rattle.rv_model.specs.declared.assembler.forms.Slot.{Slot}
 use Rattle.rv_model.specs.declared.assembler.forms.Form.{Form}
 use Rattle.rv_model.specs.declared.assembler.forms.Form.TheVariants as form
 use Rattle.rv_model.specs.declared.assembler.mnemonics.Mnemonic.{Mnemonic}
-use Rattle.rv_model.specs.declared.assembler.mnemonics.TheConstants.{MNEMONICS}
+use Rattle.rv_model.specs.declared.assembler.mnemonics.TheConstants.{MNEMONICS, NAME_COUNT, ROW_COUNT}
 use Rattle.rv_model.specs.declared.assembler.forms.TheConstants.{PLAIN, REGISTER, IMMEDIATE, SHIFT, SHIFT_WORD, LOAD, STORE, BRANCH, JUMP, UPPER, CSR, CSR_IMMEDIATE, SET_VLI, SET_IVLI, VECTOR_VECTOR, VECTOR_SCALAR, VECTOR_IMMEDIATE, VECTOR_UNSIGNED, MULTIPLY_ADD_VECTOR, MULTIPLY_ADD_SCALAR, CARRY_VECTOR, CARRY_SCALAR, CARRY_IMMEDIATE, UNMASKED_VECTOR, UNMASKED_SCALAR, UNMASKED_IMMEDIATE, MOVE_VECTOR, MOVE_SCALAR, MOVE_IMMEDIATE, MOVE_TO_SCALAR, WHOLE_MOVE, MASK_TO_SCALAR, VECTOR_UNARY, ELEMENT_INDEX, UNIT, UNMASKED_UNIT, STRIDED, INDEXED, WORD}
 
 -- the slots of a form
@@ -52,6 +52,14 @@ slots_of form.UnmaskedUnit = UNMASKED_UNIT
 slots_of form.Strided = STRIDED
 slots_of form.Indexed = INDEXED
 slots_of form.Word = WORD
+
+-- how many instructions have names, each in a row of its own
+abbrev pub name_count : ℕ
+name_count = NAME_COUNT
+
+-- how many rows the table has; `.word` stands in the last, behind the names of instructions
+abbrev pub row_count : ℕ
+row_count = ROW_COUNT
 
 -- a name with spaces behind it, 16 bytes long
 abbrev pub padded : List ℕ → List ℕ
@@ -104,7 +112,7 @@ spelled text = spelled_by (length text + 1) (tokens 1 text)
 
 -- the first row whose fixed bits a word has; `.word` fixes none
 unfoldable pub row_of_word : ℕ → ℕ
-row_of_word word = unwrap_or (position (λ row. nat_eq (bit_and word (fixed_mask (slots_of row.1))) row.2) MNEMONICS) 597
+row_of_word word = unwrap_or (position (λ row. nat_eq (bit_and word (fixed_mask (slots_of row.1))) row.2) MNEMONICS) name_count
 
 -- the operands of a word, one after another
 unfoldable pub printed_operands : List Slot → ℕ → List ℕ

@@ -5,8 +5,14 @@ use crate::assembler::forms::Form;
 #[derive(Clone, Copy)]
 pub struct Mnemonic(pub [u8; 16], pub Form, pub u32);
 
+/// How many instructions have names.
+pub const NAME_COUNT: usize = 597;
+
+/// How many rows the table has: the names of instructions, and `.word`.
+pub const ROW_COUNT: usize = NAME_COUNT + 1;
+
 /// Every name of an instruction, and `.word` as the last.
-pub static MNEMONICS: [Mnemonic; 598] = [
+pub static MNEMONICS: [Mnemonic; ROW_COUNT] = [
     // RV64I
     Mnemonic(*b"lui             ", Form::Upper, 0x0000_0037),
     Mnemonic(*b"auipc           ", Form::Upper, 0x0000_0017),
