@@ -17,18 +17,15 @@ use Rattle.rv_model.specs.assembler.Table.{name_count, row_count, slots_of, row_
 use Rattle.rv_model.specs.assembler.Naming.{IsFence, HasBitsOf, HasName, HasNoName, IsNamed, directive_text}
 use Rattle.rv_model.specs.instructions.Table.{table, scan}
 use Rattle.rv_model.proofs.instruction_lemmas.Scans.{some_row, found, table_apart}
+use Rattle.rv_model.proofs.assembler_lemmas.NamedOperations.{names_operation}
 use Rattle.rv_asm.proofs.WordLaws.{has_bits, row_matches}
-use Rattle.rv_asm.proofs.Naming.{Pattern, pattern_of, names, HasNameOf, row_named, name_of_row, fence_named, two_names}
+use Rattle.rv_model.proofs.assembler_lemmas.Naming.{Pattern, pattern_of, names, named_count, in_names, name_at_row, bits_of_name, HasNameOf, row_named, name_of_row, fence_named, two_names}
 
 abbrev none : Mnemonic
 none = record { 0 = []; 1 = form.Plain; 2 = 0 }
 
 count : length MNEMONICS ≡ row_count
 count = refl
-
-named_count : length names ≡ name_count
-unfolding names
-named_count = refl
 
 true_false : true ≡ false → ⊥
 true_false e = cc
@@ -42,11 +39,6 @@ cases_fence w =
       | inl y ↦ inl y.1
       | inr n ↦ inr n.1
     ]
-
--- a name of the list is a row of the table of names
-name_at_row : (n : ℕ) → n < name_count → get_or names n (0, 0) ≡ pattern_of (get_or MNEMONICS n none)
-unfolding names
-name_at_row n lt = get_or-map pattern_of (take name_count MNEMONICS) n none (0, 0) lt ∙ ap pattern_of (get_or-take name_count MNEMONICS n none lt)
 
 -- the first row that a word matches is not above any that it matches
 first_below : (w n : ℕ) → n < name_count → has_bits w (get_or MNEMONICS n none) ≡ true → row_of_word w < name_count
@@ -69,13 +61,6 @@ named_below w h =
     let P : Pattern → Type 0 = λ p. bit_and w p.0 ≡ p.1 in
     let is : bit_and w (fixed_mask (slots_of (get_or MNEMONICS h.0 none).1)) ≡ (get_or MNEMONICS h.0 none).2 = subst P (name_at_row h.0 lt) h.2 in
     first_below w h.0 lt (eq-eqb (bit_and w (fixed_mask (slots_of (get_or MNEMONICS h.0 none).1))) (get_or MNEMONICS h.0 none).2 is)
-
-in_names : (row : ℕ) → row < name_count → row < length names
-in_names row lt = let P : ℕ → Type 0 = λ k. row < k in subst P (sym named_count) lt
-
-bits_of_name : (row w : ℕ) → row < name_count → HasBitsOf row w → bit_and w (get_or names row (0, 0)).0 ≡ (get_or names row (0, 0)).1
-unfolding slots_at bits_at row_at
-bits_of_name row w lt is = let P : Pattern → Type 0 = λ p. bit_and w p.0 ≡ p.1 in subst P (sym (name_at_row row lt)) is
 
 -- the row of a word's name is a name of the list
 has_name_of : (w : ℕ) → row_of_word w < name_count → HasNameOf names w
@@ -105,7 +90,10 @@ named_row w h =
 
 pub is_named : (w : ℕ) → HasName w → IsNamed w (canonical w)
 unfolding canonical
-is_named w h = (row_of_word w, named_row w h, (row_matches w).bits, refl)
+is_named w h =
+    let lt = named_row w h in
+    let is = (row_matches w).bits in
+    (row_of_word w, lt, is, names_operation (row_of_word w) w lt is, refl)
 
 no_name_below : (w : ℕ) → w < 2 ^ 32 → HasNoName w → row_of_word w < name_count → ⊥
 no_name_below w small (inl no_row) lt =

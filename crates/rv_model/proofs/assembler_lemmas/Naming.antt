@@ -1,17 +1,19 @@
 -- Names and rows of the instruction table: each name is of one row, and each row but that of fences has names for all its words
-use Rattle.std.proofs.Common.{◌≡◌, ◌⊎◌, ℕ, zero, suc, ◌+◌, ◌-◌, ◌*◌, ◌/◌, ◌%◌, ◌^◌, ◌<◌, Bool, true, false, not, nat_eq, ◌&&◌, ◌||◌, List, [], ◌∷◌, map, take, length, get_or, refl, sym, ap, ◌∙◌, arith, inl, inr, add-zero}
+use Rattle.std.proofs.Common.{◌≡◌, ◌⊎◌, ℕ, zero, suc, ◌+◌, ◌-◌, ◌*◌, ◌/◌, ◌%◌, ◌^◌, ◌<◌, Bool, true, false, not, nat_eq, ◌&&◌, ◌||◌, List, [], ◌∷◌, map, take, length, get_or, refl, sym, ap, subst, ◌∙◌, arith, inl, inr, add-zero}
 use Rattle.std.specs.List.{list_any, list_all}
 use Rattle.std.specs.Int.Bits.{bit_and, and_comm}
 use Rattle.std.proofs.Math.Nat.{mod-eq_of_lt}
 use Rattle.std.proofs.lemmas.Nat.{and_assoc, and_mask}
 use Rattle.std.proofs.lemmas.Nat.Bits.{and_high}
 use Rattle.std.proofs.lemmas.Bool.{cases_Bool, and_parts, eqb-true, eq-eqb}
+use Rattle.std.proofs.lemmas.List.{get_or-map, get_or-take}
+use Rattle.rv_model.specs.declared.assembler.forms.Form.TheVariants as form
 use Rattle.rv_model.specs.declared.assembler.mnemonics.Mnemonic.{Mnemonic}
 use Rattle.rv_model.specs.declared.assembler.mnemonics.TheConstants.{MNEMONICS}
 use Rattle.rv_model.specs.assembler.Fields.{fixed_mask}
-use Rattle.rv_model.specs.assembler.Table.{name_count, slots_of}
+use Rattle.rv_model.specs.assembler.Table.{name_count, slots_of, row_at, slots_at, bits_at}
 use Rattle.rv_model.specs.instructions.Table.{Row, In, Matches, rows, table}
-use Rattle.rv_model.specs.assembler.Naming.{IsFence}
+use Rattle.rv_model.specs.assembler.Naming.{IsFence, HasBitsOf}
 use Rattle.rv_model.proofs.instruction_lemmas.Parts.{and_sum}
 use Rattle.rv_model.proofs.instruction_lemmas.Scans.{all_in}
 
@@ -31,6 +33,27 @@ covers p q = nat_eq (bit_and p.0 q.0) p.0 && nat_eq (bit_and q.1 p.0) p.1
 
 unfoldable pub names : List Pattern
 names = map pattern_of (take name_count MNEMONICS)
+
+pub named_count : length names ≡ name_count
+unfolding names
+named_count = refl
+
+pub in_names : (row : ℕ) → row < name_count → row < length names
+in_names row lt = let P : ℕ → Type 0 = λ k. row < k in subst P (sym named_count) lt
+
+-- past the table of names there is no row
+abbrev none : Mnemonic
+none = record { 0 = []; 1 = form.Plain; 2 = 0 }
+
+-- a name of the list is a row of the table of names
+pub name_at_row : (n : ℕ) → n < name_count → get_or names n (0, 0) ≡ pattern_of (get_or MNEMONICS n none)
+unfolding names
+name_at_row n lt = get_or-map pattern_of (take name_count MNEMONICS) n none (0, 0) lt ∙ ap pattern_of (get_or-take name_count MNEMONICS n none lt)
+
+-- what has the bits of a row of the table of names has those of its pattern
+pub bits_of_name : (row w : ℕ) → row < name_count → HasBitsOf row w → bit_and w (get_or names row (0, 0)).0 ≡ (get_or names row (0, 0)).1
+unfolding slots_at bits_at row_at
+bits_of_name row w lt is = let P : Pattern → Type 0 = λ p. bit_and w p.0 ≡ p.1 in subst P (sym (name_at_row row lt)) is
 
 abbrev of_row : Pattern → Row → Bool
 of_row name r = covers (pattern_of_row r) name
@@ -115,7 +138,7 @@ any_at p (x ∷ xs) d h =
       | inr n ↦ let r = any_at p xs d (or_rest (p x) (list_any p xs) h n) in (suc r.0, omega (arith, r.1), r.2)
     ]
 
-all_at : {X : Type 0} (p : X → Bool) (xs : List X) (n : ℕ) (d : X) → list_all p xs ≡ true → n < length xs → p (get_or xs n d) ≡ true
+pub all_at : {X : Type 0} (p : X → Bool) (xs : List X) (n : ℕ) (d : X) → list_all p xs ≡ true → n < length xs → p (get_or xs n d) ≡ true
 all_at p [] n d h lt = absurd (omega arith)
 all_at p (x ∷ xs) zero d h lt = (and_parts (p x) (list_all p xs) h).0
 all_at p (x ∷ xs) (suc n) d h lt = all_at p xs n d (and_parts (p x) (list_all p xs) h).1 (omega arith)
@@ -128,7 +151,7 @@ any_in p (s ∷ ss) h =
       | inr n ↦ let r = any_in p ss (or_rest (p s) (list_any p ss) h n) in (r.0, inr r.1, r.2)
     ]
 
-covers_all : (p q : Pattern) (w : ℕ) → covers p q ≡ true → bit_and w q.0 ≡ q.1 → bit_and w p.0 ≡ p.1
+pub covers_all : (p q : Pattern) (w : ℕ) → covers p q ≡ true → bit_and w q.0 ≡ q.1 → bit_and w p.0 ≡ p.1
 covers_all p q w h is =
     let k = and_parts (nat_eq (bit_and p.0 q.0) p.0) (nat_eq (bit_and q.1 p.0) p.1) h in
     ap (bit_and w) (sym (eqb-true (bit_and p.0 q.0) p.0 k.0) ∙ and_comm p.0 q.0)
@@ -210,13 +233,16 @@ row_named r w here is no_fence =
       | inr n ↦ covered_all names bs p w (are_bits (has_mask p) (has_fields p)) (or_rest (is_fence p) (covered names bs p) h n) is
     ]
 
+-- a name is of a row
+pub row_of_name : (n : ℕ) → n < length names → (r : Row) × In r table × (covers (pattern_of_row r) (get_or names n (0, 0)) ≡ true)
+unfolding each_has_row
+row_of_name n lt = any_in (of_row (get_or names n (0, 0))) table (all_at (λ name. list_any (of_row name) table) names n (0, 0) each_has_row_true lt)
+
 -- a word with the bits of a name is of a row
 pub name_of_row : (n w : ℕ) → n < length names → bit_and w (get_or names n (0, 0)).0 ≡ (get_or names n (0, 0)).1 → (r : Row) × In r table × Matches r w
-unfolding each_has_row
 name_of_row n w lt is =
-    let name = get_or names n (0, 0) in
-    let r = any_in (of_row name) table (all_at (λ name. list_any (of_row name) table) names n (0, 0) each_has_row_true lt) in
-    (r.0, r.1, covers_all (pattern_of_row r.0) name w r.2 is)
+    let r = row_of_name n lt in
+    (r.0, r.1, covers_all (pattern_of_row r.0) (get_or names n (0, 0)) w r.2 is)
 
 true_false : (b : Bool) → b ≡ true → not b ≡ true → ⊥
 true_false true h k = cc
