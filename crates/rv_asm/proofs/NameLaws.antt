@@ -82,7 +82,7 @@ csr_of v None lt h =
       run = all_run_dec (decimal v) d.digits;
       some = d.some;
       value = ap (csr_from (decimal v)) (names_letters control_registers each_names_itself v (decimal v) d)
-      ∙ ap (at_most 4095) (number_again v (decimal v) d) ∙ cond-true _ (Some v) None (le-leb v 4095 (omega arith));
+          ∙ ap (at_most 4095) (number_again v (decimal v) d) ∙ cond-true _ (Some v) None (le-leb v 4095 (omega arith));
     }
 csr_of v (Some register) lt h =
     let is : register_number register ≡ v = eqb-true (register_number register) v (found_is (λ r. eqb (register_number r) v) control_registers register h) in
