@@ -9,14 +9,14 @@ use Rattle.rv_model.specs.declared.instructions.operations.LoadOp.{LoadOp}
 use Rattle.rv_model.specs.declared.instructions.operations.LoadOp.TheVariants as load
 use Rattle.rv_model.specs.declared.instructions.operations.StoreOp.{StoreOp}
 use Rattle.rv_model.specs.declared.instructions.operations.StoreOp.TheVariants as store
-use Rattle.rv_model.specs.declared.instructions.operations.OpImmOp.{OpImmOp}
-use Rattle.rv_model.specs.declared.instructions.operations.OpImmOp.TheVariants as op_imm
-use Rattle.rv_model.specs.declared.instructions.operations.ShiftImmOp.{ShiftImmOp}
-use Rattle.rv_model.specs.declared.instructions.operations.ShiftImmOp.TheVariants as shift_imm
-use Rattle.rv_model.specs.declared.instructions.operations.ShiftImmWordOp.{ShiftImmWordOp}
-use Rattle.rv_model.specs.declared.instructions.operations.ShiftImmWordOp.TheVariants as shift_imm_word
-use Rattle.rv_model.specs.declared.instructions.operations.OpOp.{OpOp}
-use Rattle.rv_model.specs.declared.instructions.operations.OpOp.TheVariants as op
+use Rattle.rv_model.specs.declared.instructions.operations.ImmediateOp.{ImmediateOp}
+use Rattle.rv_model.specs.declared.instructions.operations.ImmediateOp.TheVariants as immediate
+use Rattle.rv_model.specs.declared.instructions.operations.ShiftImmediateOp.{ShiftImmediateOp}
+use Rattle.rv_model.specs.declared.instructions.operations.ShiftImmediateOp.TheVariants as shift_immediate
+use Rattle.rv_model.specs.declared.instructions.operations.ShiftImmediateWordOp.{ShiftImmediateWordOp}
+use Rattle.rv_model.specs.declared.instructions.operations.ShiftImmediateWordOp.TheVariants as shift_immediate_word
+use Rattle.rv_model.specs.declared.instructions.operations.RegisterOp.{RegisterOp}
+use Rattle.rv_model.specs.declared.instructions.operations.RegisterOp.TheVariants as register
 use Rattle.rv_model.specs.declared.instructions.operations.SystemOp.{SystemOp}
 use Rattle.rv_model.specs.declared.instructions.operations.SystemOp.TheVariants as system
 use Rattle.rv_model.specs.declared.instructions.operations.CsrOp.{CsrOp}
@@ -64,7 +64,7 @@ use Rattle.rv_model.specs.declared.instructions.operations.Order.TheVariants as 
 use Rattle.rv_model.specs.declared.instructions.operations.RegisterCount.{RegisterCount}
 use Rattle.rv_model.specs.declared.instructions.operations.RegisterCount.TheVariants as count
 use Rattle.rv_model.specs.declared.instructions.instruction.Instr.{Instr}
-use Rattle.rv_model.specs.declared.instructions.instruction.Instr.TheVariants.{Upper, Jump, JumpRegister, Branch, Load, Store, OpImm, ShiftImm, ShiftImmWord, Op, Fence, System, Csr, CsrImmediate, SetVli, SetIvli, SetVl, VectorArith, VectorCarry, VectorMove, WholeMove, MaskLogic, Compress, MaskToScalar, VectorExtend, MaskUnary, ElementIndex, MoveToScalar, MoveToVector, VectorUnit, VectorStrided, VectorIndexed, WholeLoad, WholeStore, MaskMemory}
+use Rattle.rv_model.specs.declared.instructions.instruction.Instr.TheVariants.{Upper, Jump, JumpRegister, Branch, Load, Store, RegisterImmediate, ShiftImmediate, ShiftImmediateWord, RegisterRegister, Fence, System, Csr, CsrImmediate, SetVli, SetIvli, SetVl, VectorArith, VectorCarry, VectorMove, WholeMove, MaskLogic, Compress, MaskToScalar, VectorExtend, MaskUnary, ElementIndex, MoveToScalar, MoveToVector, VectorUnit, VectorStrided, VectorIndexed, WholeLoad, WholeStore, MaskMemory}
 use Rattle.rv_model.specs.instructions.Sources.{form_of}
 use Rattle.rv_model.specs.assembler.Numbers.{hex_digit}
 
@@ -102,57 +102,57 @@ store_name store.Sw = codes "sw"
 store_name store.Sd = codes "sd"
 
 -- "Integer Register-Immediate Instructions"
-abbrev pub op_imm_name : OpImmOp → List ℕ
-op_imm_name op_imm.Addi = codes "addi"
-op_imm_name op_imm.Slti = codes "slti"
-op_imm_name op_imm.Sltiu = codes "sltiu"
-op_imm_name op_imm.Xori = codes "xori"
-op_imm_name op_imm.Ori = codes "ori"
-op_imm_name op_imm.Andi = codes "andi"
-op_imm_name op_imm.Addiw = codes "addiw"
+abbrev pub immediate_name : ImmediateOp → List ℕ
+immediate_name immediate.Addi = codes "addi"
+immediate_name immediate.Slti = codes "slti"
+immediate_name immediate.Sltiu = codes "sltiu"
+immediate_name immediate.Xori = codes "xori"
+immediate_name immediate.Ori = codes "ori"
+immediate_name immediate.Andi = codes "andi"
+immediate_name immediate.Addiw = codes "addiw"
 
 -- "Integer Register-Immediate Instructions": shifts
-abbrev pub shift_imm_name : ShiftImmOp → List ℕ
-shift_imm_name shift_imm.Slli = codes "slli"
-shift_imm_name shift_imm.Srli = codes "srli"
-shift_imm_name shift_imm.Srai = codes "srai"
+abbrev pub shift_immediate_name : ShiftImmediateOp → List ℕ
+shift_immediate_name shift_immediate.Slli = codes "slli"
+shift_immediate_name shift_immediate.Srli = codes "srli"
+shift_immediate_name shift_immediate.Srai = codes "srai"
 
 -- "Integer Register-Immediate Instructions": shifts of 32 bits
-abbrev pub shift_imm_word_name : ShiftImmWordOp → List ℕ
-shift_imm_word_name shift_imm_word.Slliw = codes "slliw"
-shift_imm_word_name shift_imm_word.Srliw = codes "srliw"
-shift_imm_word_name shift_imm_word.Sraiw = codes "sraiw"
+abbrev pub shift_immediate_word_name : ShiftImmediateWordOp → List ℕ
+shift_immediate_word_name shift_immediate_word.Slliw = codes "slliw"
+shift_immediate_word_name shift_immediate_word.Srliw = codes "srliw"
+shift_immediate_word_name shift_immediate_word.Sraiw = codes "sraiw"
 
 -- "Integer Register-Register Operations"; M, "Multiplication Operations", "Division Operations"
-abbrev pub op_name : OpOp → List ℕ
-op_name op.Add = codes "add"
-op_name op.Sub = codes "sub"
-op_name op.Sll = codes "sll"
-op_name op.Slt = codes "slt"
-op_name op.Sltu = codes "sltu"
-op_name op.Xor = codes "xor"
-op_name op.Srl = codes "srl"
-op_name op.Sra = codes "sra"
-op_name op.Or = codes "or"
-op_name op.And = codes "and"
-op_name op.Mul = codes "mul"
-op_name op.Mulh = codes "mulh"
-op_name op.Mulhsu = codes "mulhsu"
-op_name op.Mulhu = codes "mulhu"
-op_name op.Div = codes "div"
-op_name op.Divu = codes "divu"
-op_name op.Rem = codes "rem"
-op_name op.Remu = codes "remu"
-op_name op.Addw = codes "addw"
-op_name op.Subw = codes "subw"
-op_name op.Sllw = codes "sllw"
-op_name op.Srlw = codes "srlw"
-op_name op.Sraw = codes "sraw"
-op_name op.Mulw = codes "mulw"
-op_name op.Divw = codes "divw"
-op_name op.Divuw = codes "divuw"
-op_name op.Remw = codes "remw"
-op_name op.Remuw = codes "remuw"
+abbrev pub register_name : RegisterOp → List ℕ
+register_name register.Add = codes "add"
+register_name register.Sub = codes "sub"
+register_name register.Sll = codes "sll"
+register_name register.Slt = codes "slt"
+register_name register.Sltu = codes "sltu"
+register_name register.Xor = codes "xor"
+register_name register.Srl = codes "srl"
+register_name register.Sra = codes "sra"
+register_name register.Or = codes "or"
+register_name register.And = codes "and"
+register_name register.Mul = codes "mul"
+register_name register.Mulh = codes "mulh"
+register_name register.Mulhsu = codes "mulhsu"
+register_name register.Mulhu = codes "mulhu"
+register_name register.Div = codes "div"
+register_name register.Divu = codes "divu"
+register_name register.Rem = codes "rem"
+register_name register.Remu = codes "remu"
+register_name register.Addw = codes "addw"
+register_name register.Subw = codes "subw"
+register_name register.Sllw = codes "sllw"
+register_name register.Srlw = codes "srlw"
+register_name register.Sraw = codes "sraw"
+register_name register.Mulw = codes "mulw"
+register_name register.Divw = codes "divw"
+register_name register.Divuw = codes "divuw"
+register_name register.Remw = codes "remw"
+register_name register.Remuw = codes "remuw"
 
 -- "Environment Call and Breakpoints"
 abbrev pub system_name : SystemOp → List ℕ
@@ -434,10 +434,10 @@ mnemonic (JumpRegister rd rs1 imm) = codes "jalr"
 mnemonic (Branch op rs1 rs2 offset) = branch_name op
 mnemonic (Load op rd rs1 imm) = load_name op
 mnemonic (Store op rs1 rs2 imm) = store_name op
-mnemonic (OpImm op rd rs1 imm) = op_imm_name op
-mnemonic (ShiftImm op rd rs1 amount) = shift_imm_name op
-mnemonic (ShiftImmWord op rd rs1 amount) = shift_imm_word_name op
-mnemonic (Op op rd rs1 rs2) = op_name op
+mnemonic (RegisterImmediate op rd rs1 imm) = immediate_name op
+mnemonic (ShiftImmediate op rd rs1 amount) = shift_immediate_name op
+mnemonic (ShiftImmediateWord op rd rs1 amount) = shift_immediate_word_name op
+mnemonic (RegisterRegister op rd rs1 rs2) = register_name op
 mnemonic (Fence rd rs1 ordering) = codes "fence"
 mnemonic (System op) = system_name op
 mnemonic (Csr op rd rs1 csr) = csr_name op
