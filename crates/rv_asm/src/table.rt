@@ -128,6 +128,7 @@ pub fn fixed_mask(form: Form) -> u32
     }
 }
 
+/// A name with spaces behind it, 16 bytes long.
 fn padded(name: &[u8]) -> [u8; 16]
     requires { length name.now ≤ 16 }
     ensures { result ≡ padded name.now }
@@ -137,6 +138,7 @@ fn padded(name: &[u8]) -> [u8; 16]
     bytes
 }
 
+/// The row with this name, which has its spaces.
 fn row_padded(name: &[u8; 16]) -> Option<usize>
     ensures within { IfSome result (λ row. row < row_count) }
     ensures first { result ≡ position (λ row. bytes_eq row.0 name.now) MNEMONICS }
@@ -156,6 +158,7 @@ pub fn row_named(name: &[u8]) -> Option<usize>
     row_padded(&padded(name))
 }
 
+/// The first row whose fixed bits a word has.
 fn row_matching(word: u32) -> Option<usize>
     ensures within { IfSome result (λ row. row < row_count) }
     ensures first { result
