@@ -1,5 +1,5 @@
 -- The name that is printed is the one that is read
-use Rattle.std.proofs.Common.{◌≡◌, ℕ, suc, ◌<◌, Bool, true, false, eqb, leb, ◌&&◌, List, [], ◌∷◌, length, Option, Some, None, refl, ap, subst, ◌∙◌, arith, lit<}
+use Rattle.std.proofs.Common.{◌≡◌, ℕ, ◌<◌, Bool, true, false, eqb, leb, ◌&&◌, List, [], ◌∷◌, length, Option, Some, None, refl, ap, subst, ◌∙◌, arith, lit<}
 use Rattle.std.specs.Prelude.{find, codes}
 use Rattle.std.specs.Fmt.{decimal}
 use Rattle.std.specs.List.{list_all}
@@ -58,40 +58,40 @@ each_names_itself : list_all names_itself control_registers ≡ true
 unfolding names_itself csr
 each_names_itself = refl
 
-csr_name : (register : ControlRegister) → names_itself register ≡ true → Means csr (register_name register) (register_number register)
+csr_name_again : (register : ControlRegister) → names_itself register ≡ true → Means csr (register_name register) (register_number register)
 unfolding names_itself
-csr_name register h =
+csr_name_again register h =
     let a = and_parts (all_run (register_name register)) _ h in
     let b = and_parts (begins_with_letter (register_name register)) _ a.1 in
     record { run = a.0; some = letter_first (register_name register) b.0; value = number_is (register_number register) (csr (register_name register)) b.1 }
 
 -- digits are the name of none of these registers
-names_letters : (registers : List ControlRegister) → list_all names_itself registers ≡ true → (v : ℕ) (ds : List ℕ) → Decimal v ds → find (λ r. bytes_eq (register_name r) ds) registers ≡ None
+digits_name_no_register : (registers : List ControlRegister) → list_all names_itself registers ≡ true → (v : ℕ) (ds : List ℕ) → Decimal v ds → find (λ r. bytes_eq (register_name r) ds) registers ≡ None
 unfolding names_itself
-names_letters [] h v ds d = refl
-names_letters (r ∷ rs) h v ds d =
+digits_name_no_register [] h v ds d = refl
+digits_name_no_register (r ∷ rs) h v ds d =
     let each = and_parts (names_itself r) (list_all names_itself rs) h in
     let letter = and_parts (begins_with_letter (register_name r)) _ (and_parts (all_run (register_name r)) _ each.0).1 in
-    cond-false (bytes_eq (register_name r) ds) (Some r) _ (letters_apart (register_name r) v ds letter.0 d) ∙ names_letters rs each.1 v ds d
+    cond-false (bytes_eq (register_name r) ds) (Some r) _ (letters_apart (register_name r) v ds letter.0 d) ∙ digits_name_no_register rs each.1 v ds d
 
-csr_of : (v : ℕ) (register : Option ControlRegister) → v < 4096 → control_register v ≡ register → Means csr (csr_text_of v register) v
+csr_text_again : (v : ℕ) (register : Option ControlRegister) → v < 4096 → control_register v ≡ register → Means csr (csr_text_of v register) v
 unfolding csr
-csr_of v None lt h =
+csr_text_again v None lt h =
     let d = is_decimal v (omega arith) in
     record {
       run = all_run_dec (decimal v) d.digits;
       some = d.some;
-      value = ap (csr_from (decimal v)) (names_letters control_registers each_names_itself v (decimal v) d)
-      ∙ ap (at_most 4095) (number_again v (decimal v) d) ∙ cond-true _ (Some v) None (le-leb v 4095 (omega arith));
+      value = ap (csr_from (decimal v)) (digits_name_no_register control_registers each_names_itself v (decimal v) d)
+          ∙ ap (at_most 4095) (number_again v (decimal v) d) ∙ cond-true _ (Some v) None (le-leb v 4095 (omega arith));
     }
-csr_of v (Some register) lt h =
+csr_text_again v (Some register) lt h =
     let is : register_number register ≡ v = eqb-true (register_number register) v (found_is (λ r. eqb (register_number r) v) control_registers register h) in
     subst (λ (n : ℕ). Means csr (register_name register) n) is
-    (csr_name register (found_passes (λ r. eqb (register_number r) v) names_itself control_registers register each_names_itself h))
+    (csr_name_again register (found_passes (λ r. eqb (register_number r) v) names_itself control_registers register each_names_itself h))
 
 pub csr_again : (v : ℕ) → v < 4096 → Means csr (csr_text v) v
 unfolding csr_text
-csr_again v lt = csr_of v (control_register v) lt refl
+csr_again v lt = csr_text_again v (control_register v) lt refl
 
 -- ---- the parts of vtype
 

@@ -1,9 +1,9 @@
 -- Each slot reads the text that is printed for its operand
-use Rattle.std.proofs.Common.{◌≡◌, ℕ, zero, suc, ◌+◌, ◌-◌, ◌*◌, ◌/◌, ◌%◌, ◌^◌, ◌<◌, ◌≤◌, Bool, true, false, not, cond, eqb, ltb, leb, ◌&&◌, List, [], ◌∷◌, ◌++◌, length, Option, Some, None, Result, Ok, refl, sym, ap, subst, ◌∙◌, append_assoc, arith, inl, inr, lit<, lit≤}
+use Rattle.std.proofs.Common.{◌≡◌, ℕ, zero, suc, ◌+◌, ◌-◌, ◌*◌, ◌/◌, ◌%◌, ◌^◌, ◌<◌, ◌≤◌, Bool, true, false, cond, eqb, ltb, leb, List, [], ◌∷◌, ◌++◌, length, Option, Some, None, Result, Ok, refl, sym, ap, subst, ◌∙◌, append_assoc, arith, inl, inr, lit<, lit≤}
 use Rattle.std.specs.Prelude.{codes}
 use Rattle.std.specs.Fmt.{decimal}
 use Rattle.std.specs.Str.{bytes_eq}
-use Rattle.std.proofs.lemmas.Bool.{le-leb, lt-ltb, le-ltb, eq-eqb, ne_eqb, and_parts, cond-true, cond-false, cases_lt, cases_Bool, ltb-true}
+use Rattle.std.proofs.lemmas.Bool.{le-leb, lt-ltb, le-ltb, eq-eqb, ne_eqb, cond-true, cond-false, cases_lt}
 use Rattle.std.proofs.lemmas.List.{length-append}
 use Rattle.rv_model.specs.assembler.Tokens.{Token, in_run, runs_on, tokens}
 use Rattle.rv_model.specs.assembler.Numbers.{literal, register, number, at_most, in_steps, negated, hex_digits, vlmul, vta, vma, csr, csr_text}
@@ -22,14 +22,14 @@ use Rattle.rv_asm.proofs.Tokens.{all_run, run_first}
 use Rattle.rv_asm.proofs.NumberLaws.{is_decimal, number_again, all_run_dec, register_again, not_minus, hex_run, hex_again}
 use Rattle.rv_asm.proofs.NameLaws.{Means, csr_again, vsew_again, vlmul_again, vta_again, vma_again, sew_number_again, lmul_number_again, vsew_digits}
 
-split_cond : (b d : Bool) → cond b d false ≡ true → (b ≡ true) × (d ≡ true)
-split_cond true d h = (refl, h)
-split_cond false d h = absurd cc
+both_hold : (b d : Bool) → cond b d false ≡ true → (b ≡ true) × (d ≡ true)
+both_hold true d h = (refl, h)
+both_hold false d h = absurd cc
 
 -- a run of bytes is one token
-pub word : (p : ℕ) (ds more : List ℕ) → all_run ds ≡ true → 0 < length ds → runs_on more ≡ false → tokens p (ds ++ more) ≡ record { column = p; text = ds } ∷ tokens (p + length ds) more
-word p [] more h some m = absurd (omega arith)
-word p (c ∷ cs) more h some m = let k = split_cond (in_run c) (all_run cs) h in run_first p c cs more k.0 k.1 m
+pub run_is_one_token : (p : ℕ) (ds more : List ℕ) → all_run ds ≡ true → 0 < length ds → runs_on more ≡ false → tokens p (ds ++ more) ≡ record { column = p; text = ds } ∷ tokens (p + length ds) more
+run_is_one_token p [] more h some m = absurd (omega arith)
+run_is_one_token p (c ∷ cs) more h some m = let k = both_hold (in_run c) (all_run cs) h in run_first p c cs more k.0 k.1 m
 
 -- what may stand behind a slot's text
 abbrev pub Follows : Slot → List ℕ → Type 0
@@ -45,7 +45,7 @@ Takes reader text v p more = reader (tokens p (text ++ more)) ≡ Ok (v, tokens 
 
 -- one token, and what it means
 one_again : (p end v : ℕ) (f : List ℕ → Option ℕ) (ds more : List ℕ) → Means f ds v → runs_on more ≡ false → Takes (one end f) ds v p more
-one_again p end v f ds more m follows = ap (one end f) (word p ds more m.run m.some follows) ∙ ap (accept p (tokens (p + length ds) more)) m.value
+one_again p end v f ds more m follows = ap (one end f) (run_is_one_token p ds more m.run m.some follows) ∙ ap (accept p (tokens (p + length ds) more)) m.value
 
 at_most_again : (limit n : ℕ) → n ≤ limit → at_most limit (Some n) ≡ Some n
 at_most_again limit n le = cond-true (leb n limit) (Some n) None (le-leb n limit le)
@@ -93,7 +93,7 @@ signed_again s v p end more lt follows =
           let value : in_steps size (at_most (size * count - 1) (number (decimal n))) ≡ Some v = ap (λ o. in_steps size (at_most (size * count - 1) o)) (number_again n (decimal n) d) ∙ ap (in_steps size) (at_most_again (size * count - 1) n (steps_below s v small)) ∙ steps_back s v in
           let ts = tokens (p + length (decimal n)) more in
           let reads : Takes (signed_number end size count) (decimal n) v p more =
-          ap (signed_number end size count) (word p (decimal n) more (all_run_dec (decimal n) d.digits) d.some follows)
+          ap (signed_number end size count) (run_is_one_token p (decimal n) more (all_run_dec (decimal n) d.digits) d.some follows)
           ∙ cond-false (bytes_eq (decimal n) (45 ∷ [])) (one end (λ t. negated count (steps size count t)) ts) (accept p ts (in_steps size (at_most (size * count - 1) (number (decimal n))))) (not_minus n (decimal n) d)
           ∙ ap (accept p ts) value in
           subst (λ (t : List ℕ). Takes (signed_number end size count) t v p more) (sym text) reads
@@ -159,11 +159,11 @@ names_again end width lmul tail inactive p more follows =
     ∙ bind_ok (comma end (tokens d (44 ∷ 32 ∷ third))) (0, tokens e third) (λ x. with_inactive end width multiplier (flag_bit tail) x.1) (comma_again d end third)
     ∙ bind_ok (one end vma (tokens e third)) (flag_bit inactive, tokens f more) (λ x. Ok (multiplier + width * 8 + flag_bit tail * 64 + x.0 * 128, x.1)) (one_again e end (flag_bit inactive) vma (mask_name inactive) more (vma_again inactive) follows)
 
-names_whole : (w l t i more : List ℕ) → (w ++ 44 ∷ 32 ∷ [] ++ l ++ 44 ∷ 32 ∷ [] ++ t ++ 44 ∷ 32 ∷ [] ++ i) ++ more ≡ w ++ (44 ∷ 32 ∷ (l ++ (44 ∷ 32 ∷ (t ++ (44 ∷ 32 ∷ (i ++ more))))))
-names_whole w l t i more = simp append_assoc refl
+names_text_append : (w l t i more : List ℕ) → (w ++ 44 ∷ 32 ∷ [] ++ l ++ 44 ∷ 32 ∷ [] ++ t ++ 44 ∷ 32 ∷ [] ++ i) ++ more ≡ w ++ (44 ∷ 32 ∷ (l ++ (44 ∷ 32 ∷ (t ++ (44 ∷ 32 ∷ (i ++ more))))))
+names_text_append w l t i more = simp append_assoc refl
 
-names_length : (w l t i : List ℕ) → length (w ++ 44 ∷ 32 ∷ [] ++ l ++ 44 ∷ 32 ∷ [] ++ t ++ 44 ∷ 32 ∷ [] ++ i) ≡ length w + 2 + length l + 2 + length t + 2 + length i
-names_length w l t i = simp length-append refl
+names_text_length : (w l t i : List ℕ) → length (w ++ 44 ∷ 32 ∷ [] ++ l ++ 44 ∷ 32 ∷ [] ++ t ++ 44 ∷ 32 ∷ [] ++ i) ≡ length w + 2 + length l + 2 + length t + 2 + length i
+names_text_length w l t i = simp length-append refl
 
 -- the names of vtype's parts
 abbrev names_text : Sew → Lmul → Bool → Bool → List ℕ
@@ -175,9 +175,9 @@ named_parts end count sew lmul tail inactive p more follows =
     let others = 44 ∷ 32 ∷ (lmul_name lmul ++ (44 ∷ 32 ∷ (tail_name tail ++ (44 ∷ 32 ∷ (mask_name inactive ++ more))))) in
     let m = vsew_again sew in
     let q = p + length (sew_name sew) in
-    let at : q + 2 + length (lmul_name lmul) + 2 + length (tail_name tail) + 2 + length (mask_name inactive) ≡ p + length (names_text sew lmul tail inactive) = omega (arith, names_length (sew_name sew) (lmul_name lmul) (tail_name tail) (mask_name inactive)) in
-    ap (λ (t : List ℕ). vtype end count (tokens p t)) (names_whole (sew_name sew) (lmul_name lmul) (tail_name tail) (mask_name inactive) more)
-    ∙ ap (vtype end count) (word p (sew_name sew) others m.run m.some refl)
+    let at : q + 2 + length (lmul_name lmul) + 2 + length (tail_name tail) + 2 + length (mask_name inactive) ≡ p + length (names_text sew lmul tail inactive) = omega (arith, names_text_length (sew_name sew) (lmul_name lmul) (tail_name tail) (mask_name inactive)) in
+    ap (λ (t : List ℕ). vtype end count (tokens p t)) (names_text_append (sew_name sew) (lmul_name lmul) (tail_name tail) (mask_name inactive) more)
+    ∙ ap (vtype end count) (run_is_one_token p (sew_name sew) others m.run m.some refl)
     ∙ ap (vtype_from end count (record { column = p; text = sew_name sew }) (tokens q others)) m.value
     ∙ names_again end (sew_number sew) lmul tail inactive q more follows
     ∙ ap (λ (k : ℕ). Ok (lmul_number lmul + sew_number sew * 8 + flag_bit tail * 64 + flag_bit inactive * 128, tokens k more)) at
@@ -205,7 +205,7 @@ plain_vtype : (end count v p : ℕ) (more : List ℕ) → v < count → count �
 plain_vtype end count v p more lt small follows =
     let d = is_decimal v (omega arith) in
     let ts = tokens (p + length (decimal v)) more in
-    ap (vtype end count) (word p (decimal v) more (all_run_dec (decimal v) d.digits) d.some follows)
+    ap (vtype end count) (run_is_one_token p (decimal v) more (all_run_dec (decimal v) d.digits) d.some follows)
     ∙ ap (vtype_from end count (record { column = p; text = decimal v }) ts) (vsew_digits v (decimal v) d)
     ∙ ap (λ o. accept p ts (at_most (count - 1) o)) (number_again v (decimal v) d)
     ∙ ap (accept p ts) (at_most_again (count - 1) v (omega arith))
@@ -251,17 +251,17 @@ word_means : (v : ℕ) → v < 2 ^ 32 → Means (λ t. at_most (2 ^ 32 - 1) (num
 unfolding hex_digits
 word_means v lt = record { run = hex_run 8 v; some = lit< tt; value = ap (at_most (2 ^ 32 - 1)) (hex_again v lt) ∙ at_most_again (2 ^ 32 - 1) v (omega arith) }
 
-zero_is : (v : ℕ) → v < 1 → 0 ≡ v
-zero_is v lt = omega arith
+below_one_is_zero : (v : ℕ) → v < 1 → 0 ≡ v
+below_one_is_zero v lt = omega arith
 
 -- what is printed for an operand is read as that operand
 pub slot_again : (s : Slot) (v p end : ℕ) (more : List ℕ) → v < room s → Follows s more → Takes (read end s) (printed s v) v p more
 unfolding tokens
-slot_again Comma v p end more fits follows = comma_again p end more ∙ ap (λ (x : ℕ). Ok (x, tokens (p + 2) more)) (zero_is v fits)
-slot_again Open v p end more fits follows = ap (λ (x : ℕ). Ok (x, tokens (p + 1) more)) (zero_is v fits)
-slot_again Close v p end more fits follows = ap (λ (x : ℕ). Ok (x, tokens (p + 1) more)) (zero_is v fits)
+slot_again Comma v p end more fits follows = comma_again p end more ∙ ap (λ (x : ℕ). Ok (x, tokens (p + 2) more)) (below_one_is_zero v fits)
+slot_again Open v p end more fits follows = ap (λ (x : ℕ). Ok (x, tokens (p + 1) more)) (below_one_is_zero v fits)
+slot_again Close v p end more fits follows = ap (λ (x : ℕ). Ok (x, tokens (p + 1) more)) (below_one_is_zero v fits)
 slot_again V0 v p end more fits follows =
-    one_again p end 0 (literal (codes "v0")) (codes "v0") more (record { run = refl; some = lit< tt; value = refl }) follows ∙ ap (λ (x : ℕ). Ok (x, tokens (p + 2) more)) (zero_is v fits)
+    one_again p end 0 (literal (codes "v0")) (codes "v0") more (record { run = refl; some = lit< tt; value = refl }) follows ∙ ap (λ (x : ℕ). Ok (x, tokens (p + 2) more)) (below_one_is_zero v fits)
 slot_again (Scalar r) v p end more fits follows = one_again p end v (register 120) (120 ∷ decimal v) more (register_means 120 v refl fits) follows
 slot_again (Vector r) v p end more fits follows = one_again p end v (register 118) (118 ∷ decimal v) more (register_means 118 v refl fits) follows
 slot_again (Unsigned u) v p end more fits follows = one_again p end v (λ t. at_most (limit u) (number t)) (decimal v) more (number_means (limit u) v (omega arith) (limit_small u)) follows

@@ -14,8 +14,8 @@ use Rattle.rv_asm.proofs.RowLaws.{text_again}
 abbrev pub has_bits : ℕ → Mnemonic → Bool
 has_bits word row = nat_eq (bit_and word (fixed_mask (slots_of row.1))) row.2
 
-count : length MNEMONICS ≡ row_count
-count = refl
+row_count_is : length MNEMONICS ≡ row_count
+row_count_is = refl
 
 -- `.word` fixes no bit
 directive_mask : fixed_mask (slots_at name_count) ≡ 0
@@ -30,20 +30,20 @@ pub record Matches (row word : ℕ) : Type 0 where
   pub within : row < row_count
   pub bits : bit_and word (fixed_mask (slots_at row)) ≡ bits_at row
 
-matching : (word : ℕ) (found : Option ℕ) → position (has_bits word) MNEMONICS ≡ found → Matches (unwrap_or found name_count) word
+found_row_matches : (word : ℕ) (found : Option ℕ) → position (has_bits word) MNEMONICS ≡ found → Matches (unwrap_or found name_count) word
 unfolding slots_at bits_at row_at
-matching word None h = record { within = lit< tt; bits = ap (bit_and word) directive_mask ∙ and_zero_r word ∙ sym directive_bits }
-matching word (Some row) h =
+found_row_matches word None h = record { within = lit< tt; bits = ap (bit_and word) directive_mask ∙ and_zero_r word ∙ sym directive_bits }
+found_row_matches word (Some row) h =
     let none : Mnemonic = record { 0 = []; 1 = form.Plain; 2 = 0 } in
     let p = position-Some (has_bits word) MNEMONICS row none h in
     record {
-      within = let P : ℕ → Type 0 = λ n. row < n in subst P count p.0;
+      within = let P : ℕ → Type 0 = λ n. row < n in subst P row_count_is p.0;
       bits = eqb-true (bit_and word (fixed_mask (slots_of (get_or MNEMONICS row none).1))) (get_or MNEMONICS row none).2 p.1;
     }
 
 pub row_matches : (word : ℕ) → Matches (row_of_word word) word
 unfolding row_of_word
-row_matches word = matching word (position (has_bits word) MNEMONICS) refl
+row_matches word = found_row_matches word (position (has_bits word) MNEMONICS) refl
 
 -- assembling the canonical text of a word gives that word
 pub word_again : (word : ℕ) → word < 2 ^ 32 → spelled (canonical word) ≡ Ok word

@@ -14,6 +14,7 @@ use rv_model::{ControlRegister, Lmul, Sew, VType};
 /// Room for the text of any word.
 pub type Text = ArrayString<160>;
 
+/// Appends a number in decimal, at most 10 digits.
 fn put_decimal(n: u32, out: &mut Text)
     requires { array_string_len out.old + 10 ≤ 160 }
     ensures bytes { out.new.bytes ≡ out.old.bytes ++ decimal n }
@@ -23,6 +24,8 @@ fn put_decimal(n: u32, out: &mut Text)
     out.push_str(buffer.format(n));
 }
 
+/// Appends a signed number of steps from its two's complement bits, of which `half` values are
+/// below 0.
 fn put_signed(step: u32, half: u32, value: u32, out: &mut Text)
     requires room { array_string_len out.old + 16 ≤ 160 }
     requires step { step ≤ 2 }
@@ -39,6 +42,7 @@ fn put_signed(step: u32, half: u32, value: u32, out: &mut Text)
     }
 }
 
+/// The hexadecimal digit of a number below 16, in lower case.
 fn hex_digit(digit: u32) -> char
     requires { digit < 16 }
     ensures value { result ≡ hex_digit digit }
@@ -51,6 +55,7 @@ fn hex_digit(digit: u32) -> char
     }
 }
 
+/// Appends the last `count` hexadecimal digits of a number.
 #[tactic(auto, unfolding(rv_model::specs::assembler::Numbers::hex_digits))]
 fn put_hex_digits(count: usize, value: u32, out: &mut Text)
     requires { array_string_len out.old + count ≤ 160 }
@@ -63,6 +68,7 @@ fn put_hex_digits(count: usize, value: u32, out: &mut Text)
     }
 }
 
+/// Appends the name of a control register, or its number where it has none.
 #[tactic(auto, unfolding(rv_model::specs::assembler::Numbers::csr_text))]
 fn put_csr(csr: u32, out: &mut Text)
     requires { array_string_len out.old + 16 ≤ 160 }
@@ -75,6 +81,7 @@ fn put_csr(csr: u32, out: &mut Text)
     }
 }
 
+/// Appends the names of the parts of a vtype whose width and multiplier are these.
 fn put_type_names(sew: Sew, lmul: Lmul, vtype: u32, out: &mut Text)
     requires { array_string_len out.old + 16 ≤ 160 }
     ensures bytes { out.new.bytes ≡ out.old.bytes ++ vtype_named (Some sew) (Some lmul) vtype }
@@ -89,6 +96,8 @@ fn put_type_names(sew: Sew, lmul: Lmul, vtype: u32, out: &mut Text)
     out.push_str(VType::mask_name(vtype / 128 % 2 == 1));
 }
 
+/// Appends vtype by the names of its parts, or as a number where a part or a bit from 8 up is
+/// reserved.
 fn put_vtype(vtype: u32, out: &mut Text)
     requires { array_string_len out.old + 16 ≤ 160 }
     ensures bytes { out.new.bytes ≡ out.old.bytes ++ vtype_text vtype }

@@ -26,8 +26,8 @@ use Rattle.rv_model.proofs.assembler_lemmas.Found.{found_passes}
 use Rattle.rv_model.proofs.text_lemmas.Lines.{both_of}
 use Rattle.rv_model.proofs.text_lemmas.Pieces.{of_either, is_line-append, Piece, ◌▸◌, number, decimal_line}
 
-hex_digit_line : (d : ℕ) → IsLine (hex_digit d ∷ [])
-hex_digit_line d = of_either (λ c. IsLine (c ∷ [])) (nat_lt d 10) _ _ (small d) (large d)
+no_newline_in_hex_digit : (d : ℕ) → IsLine (hex_digit d ∷ [])
+no_newline_in_hex_digit d = of_either (λ c. IsLine (c ∷ [])) (nat_lt d 10) _ _ (small d) (large d)
   where
     small : (d : ℕ) → IsLine ((48 + d) ∷ [])
     small d = let e : eqb (48 + d) 10 ≡ false = grind (arith, nat_tests) in both_of _ true (ap not e) refl
@@ -35,111 +35,111 @@ hex_digit_line d = of_either (λ c. IsLine (c ∷ [])) (nat_lt d 10) _ _ (small 
     large : (d : ℕ) → IsLine ((87 + d) ∷ [])
     large d = let e : eqb (87 + d) 10 ≡ false = grind (arith, nat_tests) in both_of _ true (ap not e) refl
 
-hex_digits_line : (k n : ℕ) → IsLine (hex_digits k n)
+no_newline_in_hex_digits : (k n : ℕ) → IsLine (hex_digits k n)
 unfolding hex_digits
-hex_digits_line zero n = refl
-hex_digits_line (suc k) n = is_line-append (hex_digits k (n / 16)) _ (hex_digits_line k (n / 16)) (hex_digit_line (n % 16))
+no_newline_in_hex_digits zero n = refl
+no_newline_in_hex_digits (suc k) n = is_line-append (hex_digits k (n / 16)) _ (no_newline_in_hex_digits k (n / 16)) (no_newline_in_hex_digit (n % 16))
 
 -- the name of each control register
-name_is_line : ControlRegister → Bool
-name_is_line register = is_line (register_name register)
+register_name_is_line : ControlRegister → Bool
+register_name_is_line register = is_line (register_name register)
 
-csr_of_line : (n : ℕ) (register : Option ControlRegister) → control_register n ≡ register → IsLine (csr_text_of n register)
-unfolding name_is_line
-csr_of_line n None h = decimal_line n
-csr_of_line n (Some register) h = found_passes (λ r. register_number r == n) name_is_line control_registers register refl h
+no_newline_in_csr_text_of : (n : ℕ) (register : Option ControlRegister) → control_register n ≡ register → IsLine (csr_text_of n register)
+unfolding register_name_is_line
+no_newline_in_csr_text_of n None h = decimal_line n
+no_newline_in_csr_text_of n (Some register) h = found_passes (λ r. register_number r == n) register_name_is_line control_registers register refl h
 
-csr_line : (n : ℕ) → IsLine (csr_text n)
+no_newline_in_csr_text : (n : ℕ) → IsLine (csr_text n)
 unfolding csr_text
-csr_line n = csr_of_line n (control_register n) refl
+no_newline_in_csr_text n = no_newline_in_csr_text_of n (control_register n) refl
 
-sew_line : (sew : Sew) → IsLine (sew_name sew)
-sew_line E8 = refl
-sew_line E16 = refl
-sew_line E32 = refl
-sew_line E64 = refl
+no_newline_in_sew_name : (sew : Sew) → IsLine (sew_name sew)
+no_newline_in_sew_name E8 = refl
+no_newline_in_sew_name E16 = refl
+no_newline_in_sew_name E32 = refl
+no_newline_in_sew_name E64 = refl
 
-lmul_line : (lmul : Lmul) → IsLine (lmul_name lmul)
-lmul_line Mf8 = refl
-lmul_line Mf4 = refl
-lmul_line Mf2 = refl
-lmul_line M1 = refl
-lmul_line M2 = refl
-lmul_line M4 = refl
-lmul_line M8 = refl
+no_newline_in_lmul_name : (lmul : Lmul) → IsLine (lmul_name lmul)
+no_newline_in_lmul_name Mf8 = refl
+no_newline_in_lmul_name Mf4 = refl
+no_newline_in_lmul_name Mf2 = refl
+no_newline_in_lmul_name M1 = refl
+no_newline_in_lmul_name M2 = refl
+no_newline_in_lmul_name M4 = refl
+no_newline_in_lmul_name M8 = refl
 
-tail_line : (agnostic : Bool) → IsLine (tail_name agnostic)
-tail_line true = refl
-tail_line false = refl
+no_newline_in_tail_name : (agnostic : Bool) → IsLine (tail_name agnostic)
+no_newline_in_tail_name true = refl
+no_newline_in_tail_name false = refl
 
-mask_line : (agnostic : Bool) → IsLine (mask_name agnostic)
-mask_line true = refl
-mask_line false = refl
+no_newline_in_mask_name : (agnostic : Bool) → IsLine (mask_name agnostic)
+no_newline_in_mask_name true = refl
+no_newline_in_mask_name false = refl
 
-signed_line : (size count v : ℕ) → IsLine (signed_text size count v)
-signed_line size count v =
+no_newline_in_signed_text : (size count v : ℕ) → IsLine (signed_text size count v)
+no_newline_in_signed_text size count v =
     let minus : Piece = (codes "-", refl) in
     of_either IsLine (nat_lt v count) _ _ (decimal_line (size * v)) (minus ▸ number (size * (2 * count - v))).1
 
-vtype_named_line : (sew : Option Sew) (lmul : Option Lmul) (v : ℕ) → IsLine (vtype_named sew lmul v)
-vtype_named_line None lmul v = decimal_line v
-vtype_named_line (Some sew) None v = decimal_line v
-vtype_named_line (Some sew) (Some lmul) v =
+no_newline_in_vtype_named : (sew : Option Sew) (lmul : Option Lmul) (v : ℕ) → IsLine (vtype_named sew lmul v)
+no_newline_in_vtype_named None lmul v = decimal_line v
+no_newline_in_vtype_named (Some sew) None v = decimal_line v
+no_newline_in_vtype_named (Some sew) (Some lmul) v =
     let comma : Piece = (codes ", ", refl) in
-    let width : Piece = (sew_name sew, sew_line sew) in
-    let multiplier : Piece = (lmul_name lmul, lmul_line lmul) in
-    let tail : Piece = (tail_name (v / 64 % 2 == 1), tail_line (v / 64 % 2 == 1)) in
-    let inactive : Piece = (mask_name (v / 128 % 2 == 1), mask_line (v / 128 % 2 == 1)) in
+    let width : Piece = (sew_name sew, no_newline_in_sew_name sew) in
+    let multiplier : Piece = (lmul_name lmul, no_newline_in_lmul_name lmul) in
+    let tail : Piece = (tail_name (v / 64 % 2 == 1), no_newline_in_tail_name (v / 64 % 2 == 1)) in
+    let inactive : Piece = (mask_name (v / 128 % 2 == 1), no_newline_in_mask_name (v / 128 % 2 == 1)) in
     (width ▸ comma ▸ multiplier ▸ comma ▸ tail ▸ comma ▸ inactive).1
 
-vtype_line : (v : ℕ) → IsLine (vtype_text v)
-vtype_line v = of_either IsLine (nat_lt v 256) _ _ (vtype_named_line (sew_with_number (v / 8 % 8)) (lmul_with_number (v % 8)) v) (decimal_line v)
+no_newline_in_vtype_text : (v : ℕ) → IsLine (vtype_text v)
+no_newline_in_vtype_text v = of_either IsLine (nat_lt v 256) _ _ (no_newline_in_vtype_named (sew_with_number (v / 8 % 8)) (lmul_with_number (v % 8)) v) (decimal_line v)
 
 -- the text of each operand
-printed_line : (slot : Slot) (v : ℕ) → IsLine (printed slot v)
-printed_line Comma v = refl
-printed_line Open v = refl
-printed_line Close v = refl
-printed_line V0 v = refl
-printed_line (Scalar place) v = let letter : Piece = (codes "x", refl) in (letter ▸ number v).1
-printed_line (Vector place) v = let letter : Piece = (codes "v", refl) in (letter ▸ number v).1
-printed_line (Unsigned field) v = decimal_line v
-printed_line (Signed field) v = signed_line (step field) (half field) v
-printed_line Csr v = csr_line v
-printed_line VectorType v = vtype_line v
-printed_line ShortVectorType v = vtype_line v
-printed_line Mask v = of_either IsLine (v == 0) _ _ refl refl
-printed_line Word v = let prefix : Piece = (codes "0x", refl) in let digits : Piece = (hex_digits 8 v, hex_digits_line 8 v) in (prefix ▸ digits).1
+no_newline_in_operand : (slot : Slot) (v : ℕ) → IsLine (printed slot v)
+no_newline_in_operand Comma v = refl
+no_newline_in_operand Open v = refl
+no_newline_in_operand Close v = refl
+no_newline_in_operand V0 v = refl
+no_newline_in_operand (Scalar place) v = let letter : Piece = (codes "x", refl) in (letter ▸ number v).1
+no_newline_in_operand (Vector place) v = let letter : Piece = (codes "v", refl) in (letter ▸ number v).1
+no_newline_in_operand (Unsigned field) v = decimal_line v
+no_newline_in_operand (Signed field) v = no_newline_in_signed_text (step field) (half field) v
+no_newline_in_operand Csr v = no_newline_in_csr_text v
+no_newline_in_operand VectorType v = no_newline_in_vtype_text v
+no_newline_in_operand ShortVectorType v = no_newline_in_vtype_text v
+no_newline_in_operand Mask v = of_either IsLine (v == 0) _ _ refl refl
+no_newline_in_operand Word v = let prefix : Piece = (codes "0x", refl) in let digits : Piece = (hex_digits 8 v, no_newline_in_hex_digits 8 v) in (prefix ▸ digits).1
 
-printed_operands_line : (slots : List Slot) (word : ℕ) → IsLine (printed_operands slots word)
+no_newline_in_printed_operands : (slots : List Slot) (word : ℕ) → IsLine (printed_operands slots word)
 unfolding printed_operands
-printed_operands_line [] word = refl
-printed_operands_line (s ∷ ss) word =
-    is_line-append (printed s (value_of s word)) (printed_operands ss word) (printed_line s (value_of s word)) (printed_operands_line ss word)
+no_newline_in_printed_operands [] word = refl
+no_newline_in_printed_operands (s ∷ ss) word =
+    is_line-append (printed s (value_of s word)) (printed_operands ss word) (no_newline_in_operand s (value_of s word)) (no_newline_in_printed_operands ss word)
 
-operands_line : (slots : List Slot) (word : ℕ) → IsLine (operands_text slots word)
-operands_line [] word = refl
-operands_line (s ∷ ss) word = printed_operands_line (s ∷ ss) word
+no_newline_in_operands_text : (slots : List Slot) (word : ℕ) → IsLine (operands_text slots word)
+no_newline_in_operands_text [] word = refl
+no_newline_in_operands_text (s ∷ ss) word = no_newline_in_printed_operands (s ∷ ss) word
 
-unfoldable is_name_line : ℕ → Bool
-is_name_line row = is_line (name_at row)
+unfoldable name_is_line : ℕ → Bool
+name_is_line row = is_line (name_at row)
 
-each_name : (row : ℕ) → row < row_count → is_name_line row ≡ true
-unfolding is_name_line name_at row_at
-each_name row lt = agree_below_at is_name_line (λ _. true) row_count row refl lt
+each_name_is_line : (row : ℕ) → row < row_count → name_is_line row ≡ true
+unfolding name_is_line name_at row_at
+each_name_is_line row lt = agree_below_at name_is_line (λ _. true) row_count row refl lt
 
 -- past the table there is no name
-no_name : (row : ℕ) → row_count ≤ row → IsLine (name_at row)
+no_newline_past_table : (row : ℕ) → row_count ≤ row → IsLine (name_at row)
 unfolding name_at row_at
-no_name row le =
+no_newline_past_table row le =
     let none : Mnemonic = record { 0 = []; 1 = form.Plain; 2 = 0 } in
     ap (λ (r : Mnemonic). is_line (unpadded r.0)) (get_or-eq_default MNEMONICS none le)
 
-name_line : (row : ℕ) → IsLine (name_at row)
-unfolding is_name_line
-name_line row = elim (cases_lt row row_count) [
-  | inl lt ↦ each_name row lt
-  | inr le ↦ no_name row le
+no_newline_in_name : (row : ℕ) → IsLine (name_at row)
+unfolding name_is_line
+no_newline_in_name row = elim (cases_lt row row_count) [
+  | inl lt ↦ each_name_is_line row lt
+  | inr le ↦ no_newline_past_table row le
 ]
 
 -- the canonical text of a word is in one line
@@ -147,4 +147,4 @@ pub canonical_line : (word : ℕ) → IsLine (canonical word)
 unfolding canonical text_at
 canonical_line word =
     let row = row_of_word word in
-    is_line-append (name_at row) (operands_text (slots_at row) word) (name_line row) (operands_line (slots_at row) word)
+    is_line-append (name_at row) (operands_text (slots_at row) word) (no_newline_in_name row) (no_newline_in_operands_text (slots_at row) word)

@@ -1,5 +1,5 @@
 -- A name is that of the operation of every word with its bits.
-use Rattle.std.proofs.Common.{◌≡◌, ℕ, zero, suc, ◌+◌, ◌*◌, ◌/◌, ◌%◌, ◌^◌, ◌<◌, Bool, true, false, cond, nat_eq, ◌&&◌, List, [], ◌∷◌, ◌++◌, take, length, get_or, Option, Some, None, refl, sym, ap, subst, ◌∙◌, arith}
+use Rattle.std.proofs.Common.{◌≡◌, ℕ, ◌*◌, ◌^◌, ◌<◌, Bool, true, false, cond, nat_eq, ◌&&◌, List, [], ◌∷◌, ◌++◌, take, get_or, Option, Some, None, refl, sym, ap, subst, ◌∙◌, arith}
 use Rattle.std.specs.List.{list_all}
 use Rattle.std.specs.Str.{bytes_eq}
 use Rattle.std.specs.Int.Bits.{bit_and, and_comm, and_self}
@@ -18,8 +18,8 @@ use Rattle.rv_model.specs.declared.assembler.mnemonics.Mnemonic.{Mnemonic}
 use Rattle.rv_model.specs.declared.assembler.mnemonics.TheConstants.{MNEMONICS}
 use Rattle.rv_model.specs.instructions.BitFields.{field, flag}
 use Rattle.rv_model.specs.instructions.Layout.{filled}
-use Rattle.rv_model.specs.instructions.Sources.{form_of, source_of}
-use Rattle.rv_model.specs.instructions.Table.{Row, In, row_of, rows, table, scan}
+use Rattle.rv_model.specs.instructions.Sources.{form_of}
+use Rattle.rv_model.specs.instructions.Table.{Row, In, rows, table, scan}
 use Rattle.rv_model.specs.assembler.Fields.{fixed_mask}
 use Rattle.rv_model.specs.assembler.Naming.{HasBitsOf, NamesOperation}
 use Rattle.rv_model.specs.assembler.OperationNames.{carry_name, carry_suffix, compare_name, compare_suffix, indexed_name, mnemonic, move_suffix, strided_name, takes_carry, unit_name, vector_name}
@@ -27,7 +27,7 @@ use Rattle.rv_model.specs.assembler.Table.{bits_at, name_at, name_count, row_at,
 use Rattle.rv_model.proofs.instruction_lemmas.RoundTrips.{template_of}
 use Rattle.rv_model.proofs.instruction_lemmas.Scans.{found, table_apart}
 use Rattle.rv_model.proofs.instruction_lemmas.Words.{form_source_of}
-use Rattle.rv_model.proofs.assembler_lemmas.Naming.{all_at, bits_of_name, covers_all, in_names, names, name_at_row, Pattern, pattern_of, pattern_of_row, row_of_name}
+use Rattle.rv_model.proofs.assembler_lemmas.Naming.{all_at, bits_of_name, covers_all, in_names, names, pattern_of_row, row_of_name}
 
 -- ---- the bits that a name tells besides the operation
 

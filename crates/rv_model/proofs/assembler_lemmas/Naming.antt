@@ -126,16 +126,16 @@ names_apart_true = refl
 
 -- ---- what these tests tell
 
-or_rest : (a b : Bool) → (a || b) ≡ true → a ≡ false → b ≡ true
-or_rest true b h k = absurd cc
-or_rest false b h k = h
+other_of_or : (a b : Bool) → (a || b) ≡ true → a ≡ false → b ≡ true
+other_of_or true b h k = absurd cc
+other_of_or false b h k = h
 
 pub any_at : {X : Type 0} (p : X → Bool) (xs : List X) (d : X) → list_any p xs ≡ true → (n : ℕ) × (n < length xs) × (p (get_or xs n d) ≡ true)
 any_at p [] d h = absurd cc
 any_at p (x ∷ xs) d h =
     elim (cases_Bool (p x)) [
       | inl y ↦ (0, omega arith, y)
-      | inr n ↦ let r = any_at p xs d (or_rest (p x) (list_any p xs) h n) in (suc r.0, omega (arith, r.1), r.2)
+      | inr n ↦ let r = any_at p xs d (other_of_or (p x) (list_any p xs) h n) in (suc r.0, omega (arith, r.1), r.2)
     ]
 
 pub all_at : {X : Type 0} (p : X → Bool) (xs : List X) (n : ℕ) (d : X) → list_all p xs ≡ true → n < length xs → p (get_or xs n d) ≡ true
@@ -148,7 +148,7 @@ any_in p [] h = absurd cc
 any_in p (s ∷ ss) h =
     elim (cases_Bool (p s)) [
       | inl y ↦ (s, inl refl, y)
-      | inr n ↦ let r = any_in p ss (or_rest (p s) (list_any p ss) h n) in (r.0, inr r.1, r.2)
+      | inr n ↦ let r = any_in p ss (other_of_or (p s) (list_any p ss) h n) in (r.0, inr r.1, r.2)
     ]
 
 pub covers_all : (p q : Pattern) (w : ℕ) → covers p q ≡ true → bit_and w q.0 ≡ q.1 → bit_and w p.0 ≡ p.1
@@ -193,8 +193,8 @@ are_bits false false = tt
 abbrev pub HasNameOf : List Pattern → ℕ → Type 0
 HasNameOf ns w = (n : ℕ) × (n < length ns) × (bit_and w (get_or ns n (0, 0)).0 ≡ (get_or ns n (0, 0)).1)
 
-from_any : (ns : List Pattern) (q : Pattern) (w : ℕ) → list_any (λ name. covers name q) ns ≡ true → bit_and w q.0 ≡ q.1 → HasNameOf ns w
-from_any ns q w h is =
+covered_by_name : (ns : List Pattern) (q : Pattern) (w : ℕ) → list_any (λ name. covers name q) ns ≡ true → bit_and w q.0 ≡ q.1 → HasNameOf ns w
+covered_by_name ns q w h is =
     let r = any_at (λ name. covers name q) ns (0, 0) h in
     (r.0, r.1, covers_all (get_or ns r.0 (0, 0)) q w r.2 is)
 
@@ -202,15 +202,15 @@ with_bit : (w m b x : ℕ) → bit_and m b ≡ 0 → bit_and w b ≡ x → bit_a
 with_bit w m b x apart is = and_sum w m b apart ∙ ap (λ (n : ℕ). bit_and w m + n) is
 
 covered_all : (ns : List Pattern) (bs : List ℕ) (q : Pattern) (w : ℕ) → AreBits bs → covered ns bs q ≡ true → bit_and w q.0 ≡ q.1 → HasNameOf ns w
-covered_all ns [] q w bits h is = from_any ns q w h is
+covered_all ns [] q w bits h is = covered_by_name ns q w h is
 covered_all ns (b ∷ bs) q w bits h is =
     let here = list_any (λ name. covers name q) ns in
     let off = covered ns bs (q.0 + b, q.1) in
     let on = covered ns bs (q.0 + b, q.1 + b) in
     elim (cases_Bool here) [
-      | inl y ↦ from_any ns q w y is
+      | inl y ↦ covered_by_name ns q w y is
       | inr n ↦
-          let k = and_parts (nat_eq (bit_and q.0 b) 0) (off && on) (or_rest here (nat_eq (bit_and q.0 b) 0 && (off && on)) h n) in
+          let k = and_parts (nat_eq (bit_and q.0 b) 0) (off && on) (other_of_or here (nat_eq (bit_and q.0 b) 0 && (off && on)) h n) in
           let l = and_parts off on k.1 in
           let apart = eqb-true (bit_and q.0 b) 0 k.0 in
           elim (bits.0 w) [
@@ -220,9 +220,9 @@ covered_all ns (b ∷ bs) q w bits h is =
     ]
 
 -- a word of a row but fences has the bits of a name
-pub row_named : (r : Row) (w : ℕ) → In r table → Matches r w → (IsFence w → ⊥) → HasNameOf names w
+pub word_of_row_has_name : (r : Row) (w : ℕ) → In r table → Matches r w → (IsFence w → ⊥) → HasNameOf names w
 unfolding each_is_covered
-row_named r w here is no_fence =
+word_of_row_has_name r w here is no_fence =
     let p = pattern_of_row r in
     let bs = splits (has_mask p) (has_fields p) in
     let h = all_in row_covered table each_is_covered_true r here in
@@ -230,7 +230,7 @@ row_named r w here is no_fence =
       | inl y ↦
           let k = and_parts (nat_eq r.mask 0x707f) (nat_eq r.bits 0x0f) y in
           absurd (no_fence (ap (bit_and w) (sym (eqb-true r.mask 0x707f k.0)) ∙ is ∙ eqb-true r.bits 0x0f k.1))
-      | inr n ↦ covered_all names bs p w (are_bits (has_mask p) (has_fields p)) (or_rest (is_fence p) (covered names bs p) h n) is
+      | inr n ↦ covered_all names bs p w (are_bits (has_mask p) (has_fields p)) (other_of_or (is_fence p) (covered names bs p) h n) is
     ]
 
 -- a name is of a row
@@ -244,9 +244,9 @@ name_of_row n w lt is =
     let r = row_of_name n lt in
     (r.0, r.1, covers_all (pattern_of_row r.0) (get_or names n (0, 0)) w r.2 is)
 
-true_false : (b : Bool) → b ≡ true → not b ≡ true → ⊥
-true_false true h k = cc
-true_false false h k = cc
+not_both : (b : Bool) → b ≡ true → not b ≡ true → ⊥
+not_both true h k = cc
+not_both false h k = cc
 
 -- a fence with the bits of a name is the one with a name
 pub fence_named : (n w : ℕ) → w < 2 ^ 32 → n < length names → bit_and w (get_or names n (0, 0)).0 ≡ (get_or names n (0, 0)).1 → IsFence w → w ≡ 0x0ff0000f
@@ -263,7 +263,7 @@ fence_named n w small lt is fence =
       | inr other ↦
           let e : bit_and name.1 0x707f ≡ bit_and 0x0f name.0 =
           ap (λ x. bit_and x 0x707f) (sym is) ∙ and_assoc 0x707f w name.0 ∙ ap (bit_and w) (and_comm name.0 0x707f) ∙ sym (and_assoc name.0 w 0x707f) ∙ ap (λ x. bit_and x name.0) fence in
-          absurd (true_false same (eq-eqb (bit_and name.1 0x707f) (bit_and 0x0f name.0) e) (or_rest exact (not same) h other))
+          absurd (not_both same (eq-eqb (bit_and name.1 0x707f) (bit_and 0x0f name.0) e) (other_of_or exact (not same) h other))
     ]
 
 apart_at : (ps : List Pattern) (n m : ℕ) → all_apart ps ≡ true → n < m → m < length ps → apart (get_or ps n (0, 0)) (get_or ps m (0, 0)) ≡ true
@@ -273,11 +273,11 @@ apart_at (p ∷ ps) zero (suc m) h less lt = all_at (apart p) ps m (0, 0) (and_p
 apart_at (p ∷ ps) (suc n) (suc m) h less lt = apart_at ps n m (and_parts (list_all (apart p) ps) (all_apart ps) h).1 (omega arith) (omega arith)
 
 -- no word has the bits of two names
-pub two_names : (n m w : ℕ) → n < m → m < length names → bit_and w (get_or names n (0, 0)).0 ≡ (get_or names n (0, 0)).1 → bit_and w (get_or names m (0, 0)).0 ≡ (get_or names m (0, 0)).1 → ⊥
+pub no_word_of_two_names : (n m w : ℕ) → n < m → m < length names → bit_and w (get_or names n (0, 0)).0 ≡ (get_or names n (0, 0)).1 → bit_and w (get_or names m (0, 0)).0 ≡ (get_or names m (0, 0)).1 → ⊥
 unfolding names_apart
-two_names n m w less lt is also =
+no_word_of_two_names n m w less lt is also =
     let p = get_or names n (0, 0) in
     let q = get_or names m (0, 0) in
     let e : bit_and p.1 q.0 ≡ bit_and q.1 p.0 =
     ap (λ x. bit_and x q.0) (sym is) ∙ and_assoc q.0 w p.0 ∙ ap (bit_and w) (and_comm p.0 q.0) ∙ sym (and_assoc p.0 w q.0) ∙ ap (λ x. bit_and x p.0) also in
-    true_false (nat_eq (bit_and p.1 q.0) (bit_and q.1 p.0)) (eq-eqb (bit_and p.1 q.0) (bit_and q.1 p.0) e) (apart_at names n m names_apart_true less lt)
+    not_both (nat_eq (bit_and p.1 q.0) (bit_and q.1 p.0)) (eq-eqb (bit_and p.1 q.0) (bit_and q.1 p.0) e) (apart_at names n m names_apart_true less lt)

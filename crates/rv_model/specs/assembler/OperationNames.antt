@@ -316,9 +316,9 @@ mask_unary_name mask_unary.Vmsof = codes "vmsof"
 mask_unary_name mask_unary.Vmsif = codes "vmsif"
 mask_unary_name mask_unary.Viota = codes "viota"
 
--- ---- suffixes: where the second operand comes from, a vector register, a scalar register or an immediate (V extension,
--- "Vector Arithmetic Instruction encoding")
+-- ---- suffixes (V extension, "Vector Arithmetic Instruction encoding")
 
+-- where the second operand comes from: a vector register, a scalar register or an immediate
 abbrev pub suffix : Form → List ℕ
 suffix form.V = codes ".vv"
 suffix form.X = codes ".vx"
@@ -388,12 +388,14 @@ vector_name (vector_op.Permute op) f vm = permute_name op ++ suffix f
 
 -- ---- vector loads and stores (V extension, "Vector Loads and Stores")
 
+-- the width of an element or of an index in bits
 abbrev pub width_digits : Width → List ℕ
 width_digits width.E8 = codes "8"
 width_digits width.E16 = codes "16"
 width_digits width.E32 = codes "32"
 width_digits width.E64 = codes "64"
 
+-- how many registers
 abbrev pub count_digit : RegisterCount → List ℕ
 count_digit count.One = codes "1"
 count_digit count.Two = codes "2"
@@ -414,15 +416,17 @@ order_letter order.Ordered = codes "o"
 abbrev pub segment : ℕ → List ℕ
 segment nf = if nf == 0 then [] else codes "seg" ++ hex_digit (nf + 1) ∷ []
 
--- a direction, with `ff` where only the first element may fault
+-- unit stride, with `ff` where only the first element may fault
 abbrev pub unit_name : UnitOp → ℕ → Width → List ℕ
 unit_name unit.Load nf w = codes "vl" ++ segment nf ++ codes "e" ++ width_digits w ++ codes ".v"
 unit_name unit.FaultOnlyFirst nf w = codes "vl" ++ segment nf ++ codes "e" ++ width_digits w ++ codes "ff.v"
 unit_name unit.Store nf w = codes "vs" ++ segment nf ++ codes "e" ++ width_digits w ++ codes ".v"
 
+-- strided
 abbrev pub strided_name : Direction → ℕ → Width → List ℕ
 strided_name d nf w = codes "v" ++ direction_letter d ++ codes "s" ++ segment nf ++ codes "e" ++ width_digits w ++ codes ".v"
 
+-- indexed; the width is the index's
 abbrev pub indexed_name : Direction → Order → ℕ → Width → List ℕ
 indexed_name d o nf w = codes "v" ++ direction_letter d ++ order_letter o ++ codes "x" ++ segment nf ++ codes "ei" ++ width_digits w ++ codes ".v"
 
