@@ -1,13 +1,14 @@
 -- The memory that an image describes, address by address, and how many pages it has
-use Rattle.std.proofs.Common.{◌≡◌, ◌≢◌, ℕ, zero, suc, ◌+◌, ◌*◌, ◌/◌, ◌^◌, ◌<◌, ◌≤◌, Bool, true, false, cond, List, Option, Some, None, refl, sym, ◌∙◌, ap, subst, inl, inr, arith}
+use Rattle.std.proofs.Common.{◌≡◌, ◌≢◌, ℕ, zero, suc, ◌+◌, ◌*◌, ◌/◌, ◌<◌, ◌≤◌, Bool, true, false, cond, List, Option, Some, None, refl, sym, ◌∙◌, ap, subst, inl, inr, arith}
 use Rattle.std.specs.Prelude.{is_some, if◌then◌else◌}
 use Rattle.std.specs.Cmp.{nat_cmp_total}
 use Rattle.std.specs.Ordering.{nat_cmp}
 use Rattle.std.specs.FinMap.{get, len, get-empty, len-empty, len-insert}
 use Rattle.std.proofs.lemmas.Bool.{cases_eq, cases_lt}
 use Rattle.rv_model.specs.memory.Memory.{Cell, Memory, page_count}
-use Rattle.rv_model.specs.images.Image.{placed, is_touched, cell_of, with_cell, memory_below, all_pages, memory_of_image}
+use Rattle.rv_model.specs.images.Image.{placed_headers, is_touched, cell_of, with_cell, memory_below, all_pages, memory_of_image}
 use Rattle.rv_model.proofs.memory_lemmas.Memory.{same_memory, get-insert_same, get-insert_other}
+use Rattle.rv_model.specs.memory.Sizes.{page_size, page_limit}
 use Rattle.elf_load.specs.Pages.{pages_below}
 use Rattle.elf_load.proofs.PageLaws.{pages_below_skipped, pages_below_le}
 
@@ -55,71 +56,71 @@ unfolding memory_below
 len-memory_below cells n = len-with_cell (memory_below cells n) n (cells n) (get-memory_below_outside cells n n (omega arith))
 
 -- of one page
-len_in_page : (cells : ℕ → Option Cell) (t : ℕ → Bool) → ((x : ℕ) → is_some (cells x) ≡ t (x / 4096)) → (n k : ℕ) → k ≤ 4096
-    → len (memory_below cells (4096 * n + k)) ≡ len (memory_below cells (4096 * n)) + cond (t n) k 0
+len_in_page : (cells : ℕ → Option Cell) (t : ℕ → Bool) → ((x : ℕ) → is_some (cells x) ≡ t (x / page_size)) → (n k : ℕ) → k ≤ page_size
+    → len (memory_below cells (page_size * n + k)) ≡ len (memory_below cells (page_size * n)) + cond (t n) k 0
 len_in_page cells t same n zero l =
-    ap (λ (y : ℕ). len (memory_below cells y)) (omega arith) ∙ none (len (memory_below cells (4096 * n))) (t n)
+    ap (λ (y : ℕ). len (memory_below cells y)) (omega arith) ∙ none (len (memory_below cells (page_size * n))) (t n)
   where
     none : (a : ℕ) (b : Bool) → a ≡ a + cond b 0 0
     none a true = omega arith
     none a false = omega arith
 len_in_page cells t same n (suc k) l =
-    let next : 4096 * n + suc k ≡ suc (4096 * n + k) = omega arith in
-    let place : (4096 * n + k) / 4096 ≡ n = omega arith in
-    ap (λ (y : ℕ). len (memory_below cells y)) next ∙ len-memory_below cells (4096 * n + k)
-    ∙ ap (λ (b : Bool). len (memory_below cells (4096 * n + k)) + cond b 1 0) (same (4096 * n + k) ∙ ap t place)
+    let next : page_size * n + suc k ≡ suc (page_size * n + k) = omega arith in
+    let place : (page_size * n + k) / page_size ≡ n = omega arith in
+    ap (λ (y : ℕ). len (memory_below cells y)) next ∙ len-memory_below cells (page_size * n + k)
+    ∙ ap (λ (b : Bool). len (memory_below cells (page_size * n + k)) + cond b 1 0) (same (page_size * n + k) ∙ ap t place)
     ∙ ap (λ (y : ℕ). y + cond (t n) 1 0) (len_in_page cells t same n k (omega arith))
-    ∙ more (len (memory_below cells (4096 * n))) k (t n)
+    ∙ more (len (memory_below cells (page_size * n))) k (t n)
   where
     more : (a k : ℕ) (b : Bool) → (a + cond b k 0) + cond b 1 0 ≡ a + cond b (suc k) 0
     more a k true = omega arith
     more a k false = omega arith
 
-pub len-memory_below_pages : (cells : ℕ → Option Cell) (t : ℕ → Bool) → ((x : ℕ) → is_some (cells x) ≡ t (x / 4096)) → (n : ℕ) → len (memory_below cells (4096 * n)) ≡ 4096 * pages_below t n
+pub len-memory_below_pages : (cells : ℕ → Option Cell) (t : ℕ → Bool) → ((x : ℕ) → is_some (cells x) ≡ t (x / page_size)) → (n : ℕ) → len (memory_below cells (page_size * n)) ≡ page_size * pages_below t n
 unfolding pages_below memory_below
 len-memory_below_pages cells t same zero = len-empty nat_cmp Cell
 len-memory_below_pages cells t same (suc n) =
-    let next : 4096 * suc n ≡ 4096 * n + 4096 = omega arith in
-    ap (λ (y : ℕ). len (memory_below cells y)) next ∙ len_in_page cells t same n 4096 (omega arith)
-    ∙ ap (λ (y : ℕ). y + cond (t n) 4096 0) (len-memory_below_pages cells t same n)
+    let next : page_size * suc n ≡ page_size * n + page_size = omega arith in
+    ap (λ (y : ℕ). len (memory_below cells y)) next ∙ len_in_page cells t same n page_size (omega arith)
+    ∙ ap (λ (y : ℕ). y + cond (t n) page_size 0) (len-memory_below_pages cells t same n)
     ∙ whole (pages_below t n) (t n)
   where
-    whole : (a : ℕ) (b : Bool) → 4096 * a + cond b 4096 0 ≡ 4096 * (a + cond b 1 0)
+    whole : (a : ℕ) (b : Bool) → page_size * a + cond b page_size 0 ≡ page_size * (a + cond b 1 0)
     whole a true = omega arith
     whole a false = omega arith
 
-is_some-cell : (b : Bool) (c : Cell) → is_some (if b then Some c else None) ≡ b
-is_some-cell true c = refl
-is_some-cell false c = refl
+is_some-when : (b : Bool) (c : Cell) → is_some (if b then Some c else None) ≡ b
+is_some-when true c = refl
+is_some-when false c = refl
 
 -- an image's memory has the pages that it touches
-pub page_count-image : (image : List ℕ) → page_count (memory_of_image image) ≡ pages_below (is_touched (placed image)) all_pages
+pub page_count-image : (image : List ℕ) → page_count (memory_of_image image) ≡ pages_below (is_touched (placed_headers image)) all_pages
 unfolding memory_of_image page_count cell_of
 page_count-image image =
-    let size = len-memory_below_pages (cell_of image) (is_touched (placed image)) (λ x. is_some-cell (is_touched (placed image) (x / 4096)) _) all_pages in
+    let size = len-memory_below_pages (cell_of image) (is_touched (placed_headers image)) (λ x. is_some-when (is_touched (placed_headers image) (x / page_size)) _) all_pages in
     omega (arith, size)
 
 -- ---- counted page by page
 
-pub all_pages_are : all_pages ≡ 2 ^ 36
+pub all_pages_is_page_limit : all_pages ≡ page_limit
 unfolding all_pages
-all_pages_are = refl
+all_pages_is_page_limit = refl
 
-pub no_pages : (t : ℕ → Bool) → pages_below t 0 ≡ 0
+pub pages_below_none : (t : ℕ → Bool) → pages_below t 0 ≡ 0
 unfolding pages_below
-no_pages t = refl
+pages_below_none t = refl
 
 -- no page is left
-pub counted_all : (image image' : List ℕ) (from count : ℕ) → image ≡ image' → ((q : ℕ) → from ≤ q → is_touched (placed image) q ≡ false) → from ≤ 2 ^ 36 → pages_below (is_touched (placed image)) from ≡ count
+pub counted_all : (image image' : List ℕ) (from count : ℕ) → image ≡ image' → ((q : ℕ) → from ≤ q → is_touched (placed_headers image) q ≡ false) → from ≤ page_limit → pages_below (is_touched (placed_headers image)) from ≡ count
     → count ≡ page_count (memory_of_image image')
 counted_all image image' from count same none bound counted =
-    sym counted ∙ sym (pages_below_skipped (is_touched (placed image)) from all_pages (omega (arith, all_pages_are)) (λ q l m. none q l))
+    sym counted ∙ sym (pages_below_skipped (is_touched (placed_headers image)) from all_pages (omega (arith, all_pages_is_page_limit)) (λ q l m. none q l))
     ∙ sym (page_count-image image) ∙ ap (λ (xs : List ℕ). page_count (memory_of_image xs)) same
 
 -- more pages than these
-pub counted_many : (image image' : List ℕ) (from : ℕ) → image ≡ image' → from ≤ 2 ^ 36 → pages_below (is_touched (placed image)) from ≤ page_count (memory_of_image image')
+pub counted_many : (image image' : List ℕ) (from : ℕ) → image ≡ image' → from ≤ page_limit → pages_below (is_touched (placed_headers image)) from ≤ page_count (memory_of_image image')
 counted_many image image' from same bound =
-    let le = pages_below_le (is_touched (placed image)) from all_pages (omega (arith, all_pages_are)) in
+    let le = pages_below_le (is_touched (placed_headers image)) from all_pages (omega (arith, all_pages_is_page_limit)) in
     let total = page_count-image image ∙ refl in
     let moved = ap (λ (xs : List ℕ). page_count (memory_of_image xs)) same in
     omega (arith, le, total, moved)

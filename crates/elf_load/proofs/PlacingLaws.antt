@@ -11,8 +11,9 @@ use Rattle.rv_model.specs.declared.memory.Permissions.{Permissions}
 use Rattle.rv_model.specs.declared.memory.Access.TheVariants.{Monitor}
 use Rattle.rv_model.specs.memory.Memory.{Cell, Memory, with_pages, page_count, map_refusal, put_bytes, permits, is_allowed}
 use Rattle.rv_model.specs.images.Fields.{header_count, program_header}
-use Rattle.rv_model.specs.images.Image.{stack, covers, byte_in, placed, is_touched, permissions_of, byte_of, cell_of, all_pages, memory_of_image}
+use Rattle.rv_model.specs.images.Image.{stack, covers, byte_in, placed_headers, is_touched, permissions_of, byte_of, cell_of, all_pages, memory_of_image}
 use Rattle.rv_model.proofs.memory_lemmas.Memory.{same_memory, get-add_cells_within, get-add_cells_outside, any_page_mapped_none, map_refusal_none, with_byte, get-put_bytes_within, get-put_bytes_outside}
+use Rattle.rv_model.specs.memory.Sizes.{page_size, page_quota}
 use Rattle.elf_load.specs.Headers.{first_headers}
 use Rattle.elf_load.specs.Pages.{IsFirst, pages_below, first_placed}
 use Rattle.elf_load.specs.Placing.{cells_with, memory_with, blank_memory, memory_after}
@@ -22,29 +23,29 @@ use Rattle.elf_load.proofs.ImageLaws.{get-memory_below, get-memory_below_outside
 
 -- ---- cells and memories with them
 
-cell_in : List ℕ → (ℕ → ℕ) → ℕ → Bool → Option Cell
-cell_in image bytes x b = if b then Some (record { byte = bytes x; permissions = permissions_of (placed image) (x / 4096) }) else None
+cell_if : List ℕ → (ℕ → ℕ) → ℕ → Bool → Option Cell
+cell_if image bytes x b = if b then Some (record { byte = bytes x; permissions = permissions_of (placed_headers image) (x / page_size) }) else None
 
-cells_with-is : (image : List ℕ) (bytes : ℕ → ℕ) (end x : ℕ) (b : Bool) → (nat_lt (x / 4096) end && is_touched (placed image) (x / 4096)) ≡ b → cells_with image bytes end x ≡ cell_in image bytes x b
-unfolding cells_with cell_in
-cells_with-is image bytes end x b e = ap (λ (b : Bool). cell_in image bytes x b) e
+cells_with-is : (image : List ℕ) (bytes : ℕ → ℕ) (end x : ℕ) (b : Bool) → (nat_lt (x / page_size) end && is_touched (placed_headers image) (x / page_size)) ≡ b → cells_with image bytes end x ≡ cell_if image bytes x b
+unfolding cells_with cell_if
+cells_with-is image bytes end x b e = ap (λ (b : Bool). cell_if image bytes x b) e
 
-past_end : (end x : ℕ) (t : Bool) → end ≤ x / 4096 → (nat_lt (x / 4096) end && t) ≡ false
+past_end : (end x : ℕ) (t : Bool) → end ≤ x / page_size → (nat_lt (x / page_size) end && t) ≡ false
 past_end end x t l = grind (arith, l)
 
-before_end : (end x : ℕ) (t : Bool) → x / 4096 < end → (nat_lt (x / 4096) end && t) ≡ t
+before_end : (end x : ℕ) (t : Bool) → x / page_size < end → (nat_lt (x / page_size) end && t) ≡ t
 before_end end x t l = grind (arith, l)
 
-none_there : (end x : ℕ) (t : Bool) → t ≡ false → (nat_lt (x / 4096) end && t) ≡ false
-none_there end x t e = grind (arith, e)
+untouched_below : (end x : ℕ) (t : Bool) → t ≡ false → (nat_lt (x / page_size) end && t) ≡ false
+untouched_below end x t e = grind (arith, e)
 
 get-memory_with : (image : List ℕ) (bytes : ℕ → ℕ) (end x : ℕ) → end ≤ all_pages → get (memory_with image bytes end) x ≡ cells_with image bytes end x
-unfolding memory_with cell_in
-get-memory_with image bytes end x l = elim (cases_lt x (4096 * all_pages)) [
-  | inl within ↦ get-memory_below (cells_with image bytes end) (4096 * all_pages) x within
+unfolding memory_with cell_if
+get-memory_with image bytes end x l = elim (cases_lt x (page_size * all_pages)) [
+  | inl within ↦ get-memory_below (cells_with image bytes end) (page_size * all_pages) x within
   | inr outside ↦
-      get-memory_below_outside (cells_with image bytes end) (4096 * all_pages) x outside
-      ∙ sym (cells_with-is image bytes end x false (past_end end x (is_touched (placed image) (x / 4096)) (omega arith)))
+      get-memory_below_outside (cells_with image bytes end) (page_size * all_pages) x outside
+      ∙ sym (cells_with-is image bytes end x false (past_end end x (is_touched (placed_headers image) (x / page_size)) (omega arith)))
 ]
 
 -- a memory that holds these cells is that one
@@ -54,56 +55,56 @@ is_memory_with m image bytes end l h = same_memory m (memory_with image bytes en
 -- ---- page by page
 
 pub blank_none : (image : List ℕ) → empty ≡ blank_memory image 0
-unfolding cell_in
+unfolding cell_if
 blank_none image = is_memory_with empty image (λ _. 0) 0 (omega arith) (λ x.
-    get-empty nat_cmp x ∙ sym (cells_with-is image (λ _. 0) 0 x false (past_end 0 x (is_touched (placed image) (x / 4096)) (omega arith))))
+    get-empty nat_cmp x ∙ sym (cells_with-is image (λ _. 0) 0 x false (past_end 0 x (is_touched (placed_headers image) (x / page_size)) (omega arith))))
 
 -- no page is left
-pub blank_all : (image : List ℕ) (from : ℕ) → from ≤ all_pages → ((q : ℕ) → from ≤ q → is_touched (placed image) q ≡ false) → blank_memory image from ≡ blank_memory image all_pages
-unfolding cell_in
+pub blank_all : (image : List ℕ) (from : ℕ) → from ≤ all_pages → ((q : ℕ) → from ≤ q → is_touched (placed_headers image) q ≡ false) → blank_memory image from ≡ blank_memory image all_pages
+unfolding cell_if
 blank_all image from l none = is_memory_with (blank_memory image from) image (λ _. 0) all_pages (omega arith) (λ x.
-    get-memory_with image (λ _. 0) from x l ∙ elim (cases_lt (x / 4096) from) [
+    get-memory_with image (λ _. 0) from x l ∙ elim (cases_lt (x / page_size) from) [
       | inl low ↦
-          cells_with-is image (λ _. 0) from x (is_touched (placed image) (x / 4096)) (before_end from x (is_touched (placed image) (x / 4096)) low)
-          ∙ sym (cells_with-is image (λ _. 0) all_pages x (is_touched (placed image) (x / 4096)) (before_end all_pages x (is_touched (placed image) (x / 4096)) (omega arith)))
+          cells_with-is image (λ _. 0) from x (is_touched (placed_headers image) (x / page_size)) (before_end from x (is_touched (placed_headers image) (x / page_size)) low)
+          ∙ sym (cells_with-is image (λ _. 0) all_pages x (is_touched (placed_headers image) (x / page_size)) (before_end all_pages x (is_touched (placed_headers image) (x / page_size)) (omega arith)))
       | inr high ↦
-          cells_with-is image (λ _. 0) from x false (past_end from x (is_touched (placed image) (x / 4096)) high)
-          ∙ sym (cells_with-is image (λ _. 0) all_pages x false (none_there all_pages x (is_touched (placed image) (x / 4096)) (none (x / 4096) high)))
+          cells_with-is image (λ _. 0) from x false (past_end from x (is_touched (placed_headers image) (x / page_size)) high)
+          ∙ sym (cells_with-is image (λ _. 0) all_pages x false (untouched_below all_pages x (is_touched (placed_headers image) (x / page_size)) (none (x / page_size) high)))
     ])
 
-get-with_page_same : (m : Memory) (page : ℕ) (permissions : Permissions) (x : ℕ) → x / 4096 ≡ page → get (with_pages m page 1 permissions) x ≡ Some (record { byte = 0; permissions = permissions })
+get-with_page_same : (m : Memory) (page : ℕ) (permissions : Permissions) (x : ℕ) → x / page_size ≡ page → get (with_pages m page 1 permissions) x ≡ Some (record { byte = 0; permissions = permissions })
 unfolding with_pages
 get-with_page_same m page permissions x e =
-    get-add_cells_within m (4096 * page) (4096 * 1) (λ _. record { byte = 0; permissions = permissions }) (x - 4096 * page) x (omega arith) (omega arith)
+    get-add_cells_within m (page_size * page) (page_size * 1) (λ _. record { byte = 0; permissions = permissions }) (x - page_size * page) x (omega arith) (omega arith)
 
-get-with_page_other : (m : Memory) (page : ℕ) (permissions : Permissions) (x : ℕ) → x / 4096 ≢ page → get (with_pages m page 1 permissions) x ≡ get m x
+get-with_page_other : (m : Memory) (page : ℕ) (permissions : Permissions) (x : ℕ) → x / page_size ≢ page → get (with_pages m page 1 permissions) x ≡ get m x
 unfolding with_pages
 get-with_page_other m page permissions x e =
-    get-add_cells_outside m (4096 * page) (4096 * 1) (λ _. record { byte = 0; permissions = permissions }) x
-    (elim (cases_lt x (4096 * page)) [ inl low ↦ inl low | inr high ↦ inr (omega arith) ])
+    get-add_cells_outside m (page_size * page) (page_size * 1) (λ _. record { byte = 0; permissions = permissions }) x
+    (elim (cases_lt x (page_size * page)) [ inl low ↦ inl low | inr high ↦ inr (omega arith) ])
 
 -- one more page
-pub blank_more : (image : List ℕ) (from page : ℕ) → page < all_pages → IsFirst (is_touched (placed image)) from page
-    → with_pages (blank_memory image from) page 1 (permissions_of (placed image) page) ≡ blank_memory image (page + 1)
-unfolding cell_in
+pub blank_more : (image : List ℕ) (from page : ℕ) → page < all_pages → IsFirst (is_touched (placed_headers image)) from page
+    → with_pages (blank_memory image from) page 1 (permissions_of (placed_headers image) page) ≡ blank_memory image (page + 1)
+unfolding cell_if
 blank_more image from page l first =
-    is_memory_with (with_pages (blank_memory image from) page 1 (permissions_of (placed image) page)) image (λ _. 0) (page + 1) (omega arith) (λ x. elim (cases_eq (x / 4096) page) [
+    is_memory_with (with_pages (blank_memory image from) page 1 (permissions_of (placed_headers image) page)) image (λ _. 0) (page + 1) (omega arith) (λ x. elim (cases_eq (x / page_size) page) [
       | inl same ↦
-          get-with_page_same (blank_memory image from) page (permissions_of (placed image) page) x same
-          ∙ ap (λ (p : ℕ). Some (record { byte = 0; permissions = permissions_of (placed image) p })) (sym same)
-          ∙ sym (cells_with-is image (λ _. 0) (page + 1) x true (before_end (page + 1) x (is_touched (placed image) (x / 4096)) (omega arith) ∙ ap (is_touched (placed image)) same ∙ first.passes))
+          get-with_page_same (blank_memory image from) page (permissions_of (placed_headers image) page) x same
+          ∙ ap (λ (p : ℕ). Some (record { byte = 0; permissions = permissions_of (placed_headers image) p })) (sym same)
+          ∙ sym (cells_with-is image (λ _. 0) (page + 1) x true (before_end (page + 1) x (is_touched (placed_headers image) (x / page_size)) (omega arith) ∙ ap (is_touched (placed_headers image)) same ∙ first.passes))
       | inr other ↦
-          get-with_page_other (blank_memory image from) page (permissions_of (placed image) page) x other
+          get-with_page_other (blank_memory image from) page (permissions_of (placed_headers image) page) x other
           ∙ get-memory_with image (λ _. 0) from x (let s = first.start in omega arith)
-          ∙ elim (cases_lt (x / 4096) from) [
+          ∙ elim (cases_lt (x / page_size) from) [
             | inl low ↦
-                cells_with-is image (λ _. 0) from x (is_touched (placed image) (x / 4096)) (before_end from x (is_touched (placed image) (x / 4096)) low)
-                ∙ sym (cells_with-is image (λ _. 0) (page + 1) x (is_touched (placed image) (x / 4096)) (before_end (page + 1) x (is_touched (placed image) (x / 4096)) (let s = first.start in omega arith)))
+                cells_with-is image (λ _. 0) from x (is_touched (placed_headers image) (x / page_size)) (before_end from x (is_touched (placed_headers image) (x / page_size)) low)
+                ∙ sym (cells_with-is image (λ _. 0) (page + 1) x (is_touched (placed_headers image) (x / page_size)) (before_end (page + 1) x (is_touched (placed_headers image) (x / page_size)) (let s = first.start in omega arith)))
             | inr high ↦
-                cells_with-is image (λ _. 0) from x false (past_end from x (is_touched (placed image) (x / 4096)) high)
-                ∙ sym (cells_with-is image (λ _. 0) (page + 1) x false (elim (cases_lt (x / 4096) page) [
-                  | inl between ↦ none_there (page + 1) x (is_touched (placed image) (x / 4096)) (first.skipped (x / 4096) high between)
-                  | inr above ↦ past_end (page + 1) x (is_touched (placed image) (x / 4096)) (omega arith)
+                cells_with-is image (λ _. 0) from x false (past_end from x (is_touched (placed_headers image) (x / page_size)) high)
+                ∙ sym (cells_with-is image (λ _. 0) (page + 1) x false (elim (cases_lt (x / page_size) page) [
+                  | inl between ↦ untouched_below (page + 1) x (is_touched (placed_headers image) (x / page_size)) (first.skipped (x / page_size) high between)
+                  | inr above ↦ past_end (page + 1) x (is_touched (placed_headers image) (x / page_size)) (omega arith)
                 ]))
           ]
     ])
@@ -134,40 +135,40 @@ cut_at_end t end (suc n) = elim (cases_lt n end) [
     beyond : end ≤ n → (nat_lt n end && t n) ≡ false
     beyond l = grind (arith, l)
 
-is_some-cell : (image : List ℕ) (bytes : ℕ → ℕ) (x : ℕ) (b : Bool) → is_some (cell_in image bytes x b) ≡ b
-unfolding cell_in
-is_some-cell image bytes x true = refl
-is_some-cell image bytes x false = refl
+is_some-cell_if : (image : List ℕ) (bytes : ℕ → ℕ) (x : ℕ) (b : Bool) → is_some (cell_if image bytes x b) ≡ b
+unfolding cell_if
+is_some-cell_if image bytes x true = refl
+is_some-cell_if image bytes x false = refl
 
-page_count-blank : (image : List ℕ) (end : ℕ) → end ≤ all_pages → page_count (blank_memory image end) ≡ pages_below (is_touched (placed image)) end
+page_count-blank : (image : List ℕ) (end : ℕ) → end ≤ all_pages → page_count (blank_memory image end) ≡ pages_below (is_touched (placed_headers image)) end
 unfolding memory_with page_count below_end
 page_count-blank image end l =
-    let size = len-memory_below_pages (cells_with image (λ _. 0) end) (below_end end (is_touched (placed image)))
-    (λ x. ap is_some (cells_with-is image (λ _. 0) end x _ refl) ∙ is_some-cell image (λ _. 0) x _) all_pages in
-    let cut = cut_at_end (is_touched (placed image)) end all_pages in
+    let size = len-memory_below_pages (cells_with image (λ _. 0) end) (below_end end (is_touched (placed_headers image)))
+    (λ x. ap is_some (cells_with-is image (λ _. 0) end x _ refl) ∙ is_some-cell_if image (λ _. 0) x _) all_pages in
+    let cut = cut_at_end (is_touched (placed_headers image)) end all_pages in
     let least : min all_pages end ≡ end = omega arith in
-    omega (arith, size, cut, ap (pages_below (is_touched (placed image))) least)
+    omega (arith, size, cut, ap (pages_below (is_touched (placed_headers image))) least)
 
-not_there : (image : List ℕ) (from page : ℕ) → page < all_pages → from ≤ page → contains_key (blank_memory image from) (4096 * page) ≡ false
-unfolding cell_in
-not_there image from page l m =
-    ap is_some (get-memory_with image (λ _. 0) from (4096 * page) (omega arith)
-    ∙ cells_with-is image (λ _. 0) from (4096 * page) false (past_end from (4096 * page) (is_touched (placed image) ((4096 * page) / 4096)) (omega arith)))
+page_is_unmapped : (image : List ℕ) (from page : ℕ) → page < all_pages → from ≤ page → contains_key (blank_memory image from) (page_size * page) ≡ false
+unfolding cell_if
+page_is_unmapped image from page l m =
+    ap is_some (get-memory_with image (λ _. 0) from (page_size * page) (omega arith)
+    ∙ cells_with-is image (λ _. 0) from (page_size * page) false (past_end from (page_size * page) (is_touched (placed_headers image) ((page_size * page) / page_size)) (omega arith)))
 
-pub blank_accepted : (image : List ℕ) (from page : ℕ) → page < all_pages → IsFirst (is_touched (placed image)) from page → page_count (memory_of_image image) ≤ 256
+pub blank_accepted : (image : List ℕ) (from page : ℕ) → page < all_pages → IsFirst (is_touched (placed_headers image)) from page → page_count (memory_of_image image) ≤ page_quota
     → map_refusal (blank_memory image from) page 1 ≡ None
 blank_accepted image from page l first few =
-    let room : page_count (blank_memory image from) + 1 ≤ 256 = (
+    let room : page_count (blank_memory image from) + 1 ≤ page_quota = (
     let s = first.start in
     let so_far = page_count-blank image from (omega arith) in
-    let next = pages_below_next (is_touched (placed image)) from page first in
+    let next = pages_below_next (is_touched (placed_headers image)) from page first in
     let total = page_count-image image in
-    let le = pages_below_le (is_touched (placed image)) (page + 1) all_pages (omega arith) in
+    let le = pages_below_le (is_touched (placed_headers image)) (page + 1) all_pages (omega arith) in
     omega arith) in
     map_refusal_none (blank_memory image from) page 1 room
     (any_page_mapped_none (blank_memory image from) page 1 (λ k small.
     let place : page + k ≡ page = omega arith in
-    ap (λ (p : ℕ). contains_key (blank_memory image from) (4096 * p)) place ∙ not_there image from page l first.start))
+    ap (λ (p : ℕ). contains_key (blank_memory image from) (page_size * p)) place ∙ page_is_unmapped image from page l first.start))
 
 -- ---- segment by segment
 
@@ -202,11 +203,11 @@ byte_in_stack image x = split (covers x stack)
 
 -- bytes that are the same everywhere
 pub same_bytes : (image : List ℕ) (bytes other : ℕ → ℕ) → ((x : ℕ) → bytes x ≡ other x) → memory_with image bytes all_pages ≡ memory_with image other all_pages
-unfolding cell_in
+unfolding cell_if
 same_bytes image bytes other same = is_memory_with (memory_with image bytes all_pages) image other all_pages (omega arith) (λ x.
     get-memory_with image bytes all_pages x (omega arith)
     ∙ cells_with-is image bytes all_pages x _ refl
-    ∙ ap (λ (n : ℕ). if (nat_lt (x / 4096) all_pages && is_touched (placed image) (x / 4096)) then Some (record { byte = n; permissions = permissions_of (placed image) (x / 4096) }) else None) (same x)
+    ∙ ap (λ (n : ℕ). if (nat_lt (x / page_size) all_pages && is_touched (placed_headers image) (x / page_size)) then Some (record { byte = n; permissions = permissions_of (placed_headers image) (x / page_size) }) else None) (same x)
     ∙ sym (cells_with-is image other all_pages x _ refl))
 
 pub memory_after_none : (image : List ℕ) → blank_memory image all_pages ≡ memory_after image 0
@@ -214,19 +215,19 @@ unfolding memory_after
 memory_after_none image = same_bytes image (λ _. 0) (byte_of image (first_placed image 0)) (λ x. sym (byte_in_stack image x))
 
 pub memory_after_all : (image : List ℕ) (number : ℕ) → number ≡ header_count image → memory_after image number ≡ memory_of_image image
-unfolding memory_after memory_of_image cell_of cell_in
+unfolding memory_after memory_of_image cell_of cell_if
 memory_after_all image number e =
-    is_memory_below (memory_after image number) (cell_of image) (4096 * all_pages)
+    is_memory_below (memory_after image number) (cell_of image) (page_size * all_pages)
     (λ x l. get-memory_with image (byte_of image (first_placed image number)) all_pages x (omega arith)
-    ∙ cells_with-is image (byte_of image (first_placed image number)) all_pages x (is_touched (placed image) (x / 4096)) (before_end all_pages x (is_touched (placed image) (x / 4096)) (omega arith))
-    ∙ ap (λ (hs : List ProgramHeader). cell_in image (byte_of image hs) x (is_touched (placed image) (x / 4096))) (first_placed_all image number e))
+    ∙ cells_with-is image (byte_of image (first_placed image number)) all_pages x (is_touched (placed_headers image) (x / page_size)) (before_end all_pages x (is_touched (placed_headers image) (x / page_size)) (omega arith))
+    ∙ ap (λ (hs : List ProgramHeader). cell_if image (byte_of image hs) x (is_touched (placed_headers image) (x / page_size))) (first_placed_all image number e))
     (λ x g. get-memory_with image (byte_of image (first_placed image number)) all_pages x (omega arith)
-    ∙ cells_with-is image (byte_of image (first_placed image number)) all_pages x false (past_end all_pages x (is_touched (placed image) (x / 4096)) (omega arith)))
+    ∙ cells_with-is image (byte_of image (first_placed image number)) all_pages x false (past_end all_pages x (is_touched (placed_headers image) (x / page_size)) (omega arith)))
 
 -- bytes written
 pub put_with : (image : List ℕ) (bytes other : ℕ → ℕ) (a : ℕ) (bs : List ℕ) → ((k : ℕ) → k < length bs → other (a + k) ≡ get_or bs k 0)
     → ((x : ℕ) → ((x < a) ⊎ (a + length bs ≤ x)) → other x ≡ bytes x) → put_bytes (memory_with image bytes all_pages) a bs ≡ memory_with image other all_pages
-unfolding cell_in
+unfolding cell_if
 put_with image bytes other a bs inside outside = is_memory_with (put_bytes (memory_with image bytes all_pages) a bs) image other all_pages (omega arith) (λ x. elim (cases_lt x a) [
   | inl low ↦ kept x (inl low)
   | inr from ↦ elim (cases_lt x (a + length bs)) [
@@ -235,7 +236,7 @@ put_with image bytes other a bs inside outside = is_memory_with (put_bytes (memo
         let value : other x ≡ get_or bs (x - a) 0 = ap other place ∙ inside (x - a) (omega arith) in
         get-put_bytes_within (memory_with image bytes all_pages) a bs (x - a) x (omega arith) place
         ∙ ap (with_byte (get_or bs (x - a) 0)) (get-memory_with image bytes all_pages x (omega arith) ∙ cells_with-is image bytes all_pages x _ refl)
-        ∙ replaced x (get_or bs (x - a) 0) (nat_lt (x / 4096) all_pages && is_touched (placed image) (x / 4096)) value
+        ∙ replaced x (get_or bs (x - a) 0) (nat_lt (x / page_size) all_pages && is_touched (placed_headers image) (x / page_size)) value
         ∙ sym (cells_with-is image other all_pages x _ refl)
     | inr past ↦ kept x (inr past)
   ]
@@ -246,17 +247,17 @@ put_with image bytes other a bs inside outside = is_memory_with (put_bytes (memo
         get-put_bytes_outside (memory_with image bytes all_pages) a bs x h
         ∙ get-memory_with image bytes all_pages x (omega arith)
         ∙ cells_with-is image bytes all_pages x _ refl
-        ∙ ap (λ (n : ℕ). if (nat_lt (x / 4096) all_pages && is_touched (placed image) (x / 4096)) then Some (record { byte = n; permissions = permissions_of (placed image) (x / 4096) }) else None) (sym (outside x h))
+        ∙ ap (λ (n : ℕ). if (nat_lt (x / page_size) all_pages && is_touched (placed_headers image) (x / page_size)) then Some (record { byte = n; permissions = permissions_of (placed_headers image) (x / page_size) }) else None) (sym (outside x h))
         ∙ sym (cells_with-is image other all_pages x _ refl)
 
-    replaced : (x n : ℕ) (b : Bool) → other x ≡ n → with_byte n (cell_in image bytes x b) ≡ cell_in image other x b
-    replaced x n true e = ap (λ (v : ℕ). Some (record { byte = v; permissions = permissions_of (placed image) (x / 4096) })) (sym e)
+    replaced : (x n : ℕ) (b : Bool) → other x ≡ n → with_byte n (cell_if image bytes x b) ≡ cell_if image other x b
+    replaced x n true e = ap (λ (v : ℕ). Some (record { byte = v; permissions = permissions_of (placed_headers image) (x / page_size) })) (sym e)
     replaced x n false e = refl
 
 -- a mapped byte may be written
-pub allowed_with : (image : List ℕ) (bytes : ℕ → ℕ) (x : ℕ) → x < 4096 * all_pages → is_touched (placed image) (x / 4096) ≡ true → is_allowed Monitor (memory_with image bytes all_pages) x ≡ true
-unfolding is_allowed cell_in
-allowed_with image bytes x l touched =
+pub monitor_is_allowed : (image : List ℕ) (bytes : ℕ → ℕ) (x : ℕ) → x < page_size * all_pages → is_touched (placed_headers image) (x / page_size) ≡ true → is_allowed Monitor (memory_with image bytes all_pages) x ≡ true
+unfolding is_allowed cell_if
+monitor_is_allowed image bytes x l touched =
     ap (λ (o : Option Cell). option_map_or (λ c. permits Monitor c.permissions) o false)
     (get-memory_with image bytes all_pages x (omega arith)
-    ∙ cells_with-is image bytes all_pages x true (before_end all_pages x (is_touched (placed image) (x / 4096)) (omega arith) ∙ touched))
+    ∙ cells_with-is image bytes all_pages x true (before_end all_pages x (is_touched (placed_headers image) (x / page_size)) (omega arith) ∙ touched))

@@ -1,5 +1,5 @@
 -- A user's memory in the pool while an image is placed
-use Rattle.std.proofs.Common.{◌≡◌, ℕ, ◌+◌, ◌-◌, ◌<◌, ◌≤◌, ◌^◌, List, length, take, drop, replicate, None, true, false, refl, sym, ◌∙◌, ap, subst, arith}
+use Rattle.std.proofs.Common.{◌≡◌, ℕ, ◌+◌, ◌-◌, ◌<◌, ◌≤◌, List, length, take, drop, replicate, None, true, false, refl, sym, ◌∙◌, ap, subst, arith}
 use Rattle.std.specs.FinMap.{empty}
 use Rattle.rv_model.specs.declared.images.ProgramHeader.{ProgramHeader}
 use Rattle.rv_model.specs.declared.memory.Permissions.{Permissions}
@@ -7,75 +7,76 @@ use Rattle.rv_model.specs.declared.memory.Access.TheVariants.{Monitor}
 use Rattle.rv_model.specs.images.Fields.{header_count, program_header}
 use Rattle.rv_model.specs.images.Faults.{first_fault}
 use Rattle.rv_model.specs.memory.Memory.{Memory, can_access, put_bytes, with_pages, page_count, map_refusal}
-use Rattle.rv_model.specs.images.Image.{placed, is_touched, permissions_of, byte_of, all_pages, memory_of_image}
+use Rattle.rv_model.specs.images.Image.{placed_headers, is_touched, permissions_of, byte_of, all_pages, memory_of_image}
+use Rattle.rv_model.specs.memory.Sizes.{page_quota, page_limit}
 use Rattle.user_mem.specs.Users.{memory_of_user, with_memory}
 use Rattle.elf_load.specs.Pages.{IsFirst, EndsInMemory, first_placed}
 use Rattle.elf_load.specs.Placing.{blank_memory, memory_after}
 use Rattle.elf_load.proofs.PageLaws.{header_ends}
-use Rattle.elf_load.proofs.ImageLaws.{all_pages_are}
+use Rattle.elf_load.proofs.ImageLaws.{all_pages_is_page_limit}
 use Rattle.elf_load.proofs.PlacingLaws.{blank_none, blank_all, blank_more, blank_accepted, memory_after_none, memory_after_all}
 use Rattle.elf_load.proofs.SegmentLaws.{file_size_fits, file_part_there, may_write, may_write_part, memory_after_other, segment_written}
-use Rattle.elf_load.proofs.UserLaws.{with_again, with_own, own_in, next_memory}
+use Rattle.elf_load.proofs.UserLaws.{with_memory-twice, with_memory-own, memory_of_user-after, with_memory-after}
 
 -- ---- its pages
 
-pub map_none : (memories : List Memory) (user : ℕ) (image : List ℕ) → memory_of_user memories user ≡ empty → memories ≡ with_memory memories user (blank_memory image 0)
-map_none memories user image free = sym (ap (with_memory memories user) (sym (free ∙ blank_none image)) ∙ with_own memories user)
+pub mapped_none : (memories : List Memory) (user : ℕ) (image : List ℕ) → memory_of_user memories user ≡ empty → memories ≡ with_memory memories user (blank_memory image 0)
+mapped_none memories user image free = sym (ap (with_memory memories user) (sym (free ∙ blank_none image)) ∙ with_memory-own memories user)
 
 pub map_accepted : (memories pool : List Memory) (user : ℕ) (image : List ℕ) (from page : ℕ) → user - 1 < length memories → pool ≡ with_memory memories user (blank_memory image from)
-    → page < 2 ^ 36 → IsFirst (is_touched (placed image)) from page → page_count (memory_of_image image) ≤ 256 → map_refusal (memory_of_user pool user) page 1 ≡ None
+    → page < page_limit → IsFirst (is_touched (placed_headers image)) from page → page_count (memory_of_image image) ≤ page_quota → map_refusal (memory_of_user pool user) page 1 ≡ None
 map_accepted memories pool user image from page l before low first few =
-    ap (λ (m : Memory). map_refusal m page 1) (own_in memories pool user (blank_memory image from) l before)
-    ∙ blank_accepted image from page (omega (arith, all_pages_are)) first few
+    ap (λ (m : Memory). map_refusal m page 1) (memory_of_user-after memories pool user (blank_memory image from) l before)
+    ∙ blank_accepted image from page (omega (arith, all_pages_is_page_limit)) first few
 
-pub map_more : (memories pool new : List Memory) (user : ℕ) (image : List ℕ) (from page : ℕ) (permissions : Permissions) → user - 1 < length memories → pool ≡ with_memory memories user (blank_memory image from)
-    → page < 2 ^ 36 → IsFirst (is_touched (placed image)) from page → permissions ≡ permissions_of (placed image) page
+pub mapped_more : (memories pool new : List Memory) (user : ℕ) (image : List ℕ) (from page : ℕ) (permissions : Permissions) → user - 1 < length memories → pool ≡ with_memory memories user (blank_memory image from)
+    → page < page_limit → IsFirst (is_touched (placed_headers image)) from page → permissions ≡ permissions_of (placed_headers image) page
     → new ≡ with_memory pool user (with_pages (memory_of_user pool user) page 1 permissions) → new ≡ with_memory memories user (blank_memory image (page + 1))
-map_more memories pool new user image from page permissions l before low first e after =
-    next_memory memories pool new user (blank_memory image from) (with_pages (memory_of_user pool user) page 1 permissions) (blank_memory image (page + 1)) l before after
-    (ap (λ (m : Memory). with_pages m page 1 permissions) (own_in memories pool user (blank_memory image from) l before)
-    ∙ ap (with_pages (blank_memory image from) page 1) e ∙ blank_more image from page (omega (arith, all_pages_are)) first)
+mapped_more memories pool new user image from page permissions l before low first e after =
+    with_memory-after memories pool new user (blank_memory image from) (with_pages (memory_of_user pool user) page 1 permissions) (blank_memory image (page + 1)) l before after
+    (ap (λ (m : Memory). with_pages m page 1 permissions) (memory_of_user-after memories pool user (blank_memory image from) l before)
+    ∙ ap (with_pages (blank_memory image from) page 1) e ∙ blank_more image from page (omega (arith, all_pages_is_page_limit)) first)
 
-pub map_all : (memories pool : List Memory) (user : ℕ) (image : List ℕ) (from : ℕ) → pool ≡ with_memory memories user (blank_memory image from) → from ≤ 2 ^ 36
-    → ((q : ℕ) → from ≤ q → is_touched (placed image) q ≡ false) → pool ≡ with_memory memories user (blank_memory image all_pages)
-map_all memories pool user image from before low none = before ∙ ap (with_memory memories user) (blank_all image from (omega (arith, all_pages_are)) none)
+pub mapped_all : (memories pool : List Memory) (user : ℕ) (image : List ℕ) (from : ℕ) → pool ≡ with_memory memories user (blank_memory image from) → from ≤ page_limit
+    → ((q : ℕ) → from ≤ q → is_touched (placed_headers image) q ≡ false) → pool ≡ with_memory memories user (blank_memory image all_pages)
+mapped_all memories pool user image from before low none = before ∙ ap (with_memory memories user) (blank_all image from (omega (arith, all_pages_is_page_limit)) none)
 
 -- ---- a segment
 
-pub part_there : (image : List ℕ) (number : ℕ) (header : ProgramHeader) → header ≡ program_header image number → first_fault image ≡ None → number < header_count image → header.kind ≡ 1
+pub file_part_lies_in_file : (image : List ℕ) (number : ℕ) (header : ProgramHeader) → header ≡ program_header image number → first_fault image ≡ None → number < header_count image → header.kind ≡ 1
     → (header.file_size ≡ 0 → ⊥) → header.offset + header.file_size ≤ length image
-part_there image number header e sound l =
+file_part_lies_in_file image number header e sound l =
     subst (λ (h : ProgramHeader). h.kind ≡ 1 → (h.file_size ≡ 0 → ⊥) → h.offset + h.file_size ≤ length image) (sym e) (file_part_there image number sound l)
 
-pub part_fits : (image : List ℕ) (number : ℕ) (header : ProgramHeader) → header ≡ program_header image number → first_fault image ≡ None → number < header_count image → header.kind ≡ 1 → header.file_size ≤ header.memory_size
-part_fits image number header e sound l = subst (λ (h : ProgramHeader). h.kind ≡ 1 → h.file_size ≤ h.memory_size) (sym e) (file_size_fits image number sound l)
+pub file_part_fits : (image : List ℕ) (number : ℕ) (header : ProgramHeader) → header ≡ program_header image number → first_fault image ≡ None → number < header_count image → header.kind ≡ 1 → header.file_size ≤ header.memory_size
+file_part_fits image number header e sound l = subst (λ (h : ProgramHeader). h.kind ≡ 1 → h.file_size ≤ h.memory_size) (sym e) (file_size_fits image number sound l)
 
 pub segment_ends : (image : List ℕ) (number : ℕ) (header : ProgramHeader) → header ≡ program_header image number → first_fault image ≡ None → number < header_count image → EndsInMemory header
 segment_ends image number header e sound l = subst (λ (h : ProgramHeader). EndsInMemory h) (sym e) (header_ends image number sound l)
 
-segment_open : (image : List ℕ) (number n : ℕ) (header : ProgramHeader) → header ≡ program_header image number → first_fault image ≡ None → number < header_count image → header.kind ≡ 1
+may_write_segment : (image : List ℕ) (number n : ℕ) (header : ProgramHeader) → header ≡ program_header image number → first_fault image ≡ None → number < header_count image → header.kind ≡ 1
     → n ≤ header.memory_size → can_access Monitor (memory_after image number) header.address n ≡ true
 unfolding memory_after
-segment_open image number n header e sound l =
+may_write_segment image number n header e sound l =
     subst (λ (h : ProgramHeader). h.kind ≡ 1 → n ≤ h.memory_size → can_access Monitor (memory_after image number) h.address n ≡ true) (sym e)
     (λ kind fits. may_write image (byte_of image (first_placed image number)) number (program_header image number).address n sound l kind (omega arith) (omega arith))
 
-pub part_open : (memories : List Memory) (user : ℕ) (image : List ℕ) (number : ℕ) (header : ProgramHeader) (bs : List ℕ) → memory_of_user memories user ≡ memory_after image number
+pub may_write_file_part : (memories : List Memory) (user : ℕ) (image : List ℕ) (number : ℕ) (header : ProgramHeader) (bs : List ℕ) → memory_of_user memories user ≡ memory_after image number
     → header ≡ program_header image number → first_fault image ≡ None → number < header_count image → header.kind ≡ 1 → length bs ≡ header.file_size
     → can_access Monitor (memory_of_user memories user) header.address (length bs) ≡ true
-part_open memories user image number header bs before e sound l kind size =
+may_write_file_part memories user image number header bs before e sound l kind size =
     ap (λ (m : Memory). can_access Monitor m header.address (length bs)) before
-    ∙ segment_open image number (length bs) header e sound l kind (let fits = part_fits image number header e sound l kind in omega arith)
+    ∙ may_write_segment image number (length bs) header e sound l kind (let fits = file_part_fits image number header e sound l kind in omega arith)
 
-pub rest_open : (memories pool : List Memory) (user : ℕ) (image : List ℕ) (number : ℕ) (header : ProgramHeader) (bs : List ℕ) → user - 1 < length memories → memory_of_user memories user ≡ memory_after image number
+pub may_clear_rest : (memories pool : List Memory) (user : ℕ) (image : List ℕ) (number : ℕ) (header : ProgramHeader) (bs : List ℕ) → user - 1 < length memories → memory_of_user memories user ≡ memory_after image number
     → header ≡ program_header image number → first_fault image ≡ None → number < header_count image → header.kind ≡ 1
     → pool ≡ with_memory memories user (put_bytes (memory_of_user memories user) header.address bs)
     → can_access Monitor (memory_of_user pool user) (header.address + header.file_size) (header.memory_size - header.file_size) ≡ true
-rest_open memories pool user image number header bs known before e sound l kind after =
+may_clear_rest memories pool user image number header bs known before e sound l kind after =
     ap (λ (m : Memory). can_access Monitor m (header.address + header.file_size) (header.memory_size - header.file_size))
-    (own_in memories pool user (put_bytes (memory_of_user memories user) header.address bs) known after ∙ ap (λ (m : Memory). put_bytes m header.address bs) before)
+    (memory_of_user-after memories pool user (put_bytes (memory_of_user memories user) header.address bs) known after ∙ ap (λ (m : Memory). put_bytes m header.address bs) before)
     ∙ may_write_part Monitor (memory_after image number) header.address header.memory_size header.file_size (header.memory_size - header.file_size) bs
-    (segment_open image number header.memory_size header e sound l kind (omega arith)) (let fits = part_fits image number header e sound l kind in omega arith)
+    (may_write_segment image number header.memory_size header e sound l kind (omega arith)) (let fits = file_part_fits image number header e sound l kind in omega arith)
 
 segment_placed : (image : List ℕ) (number : ℕ) (header : ProgramHeader) (bs : List ℕ) → header ≡ program_header image number → header.kind ≡ 1 → header.file_size ≤ header.memory_size
     → bs ≡ take header.file_size (drop header.offset image) → length bs ≡ header.file_size
@@ -93,24 +94,24 @@ pub segment_done : (memories pool new : List Memory) (user : ℕ) (image : List 
     → new ≡ with_memory pool user (put_bytes (memory_of_user pool user) (header.address + header.file_size) (replicate (header.memory_size - header.file_size) 0))
     → new ≡ with_memory memories user (memory_after image (number + 1))
 segment_done memories pool new user image number header bs known before e sound l kind part size first second =
-    next_memory memories pool new user (put_bytes (memory_of_user memories user) header.address bs) _ (memory_after image (number + 1)) known first second
+    with_memory-after memories pool new user (put_bytes (memory_of_user memories user) header.address bs) _ (memory_after image (number + 1)) known first second
     (ap (λ (m : Memory). put_bytes m (header.address + header.file_size) (replicate (header.memory_size - header.file_size) 0))
-    (own_in memories pool user (put_bytes (memory_of_user memories user) header.address bs) known first ∙ ap (λ (m : Memory). put_bytes m header.address bs) before)
-    ∙ segment_placed image number header bs e kind (part_fits image number header e sound l kind) part size)
+    (memory_of_user-after memories pool user (put_bytes (memory_of_user memories user) header.address bs) known first ∙ ap (λ (m : Memory). put_bytes m header.address bs) before)
+    ∙ segment_placed image number header bs e kind (file_part_fits image number header e sound l kind) part size)
 
 pub segment_other : (memories : List Memory) (user : ℕ) (image : List ℕ) (number : ℕ) (header : ProgramHeader) → memory_of_user memories user ≡ memory_after image number
     → header ≡ program_header image number → (header.kind ≡ 1 → ⊥) → memories ≡ with_memory memories user (memory_after image (number + 1))
 segment_other memories user image number header before e other =
-    sym (ap (with_memory memories user) (sym (before ∙ memory_after_other image number (subst (λ (h : ProgramHeader). h.kind ≡ 1 → ⊥) e other))) ∙ with_own memories user)
+    sym (ap (with_memory memories user) (sym (before ∙ memory_after_other image number (subst (λ (h : ProgramHeader). h.kind ≡ 1 → ⊥) e other))) ∙ with_memory-own memories user)
 
 -- ---- all segments
 
 pub segments_none : (memories : List Memory) (user : ℕ) (image : List ℕ) → memory_of_user memories user ≡ blank_memory image all_pages → memories ≡ with_memory memories user (memory_after image 0)
-segments_none memories user image blank = sym (ap (with_memory memories user) (sym (blank ∙ memory_after_none image)) ∙ with_own memories user)
+segments_none memories user image blank = sym (ap (with_memory memories user) (sym (blank ∙ memory_after_none image)) ∙ with_memory-own memories user)
 
 pub segments_all : (memories pool : List Memory) (user : ℕ) (image : List ℕ) (number : ℕ) → number ≡ header_count image → pool ≡ with_memory memories user (memory_after image number) → pool ≡ with_memory memories user (memory_of_image image)
 segments_all memories pool user image number all done = done ∙ ap (with_memory memories user) (memory_after_all image number all)
 
 pub replaced_thrice : (memories free blank new : List Memory) (user : ℕ) (m n k : Memory) → free ≡ with_memory memories user m → blank ≡ with_memory free user n → new ≡ with_memory blank user k → new ≡ with_memory memories user k
 replaced_thrice memories free blank new user m n k a b c =
-    c ∙ ap (λ (ms : List Memory). with_memory ms user k) b ∙ with_again free user n k ∙ ap (λ (ms : List Memory). with_memory ms user k) a ∙ with_again memories user m k
+    c ∙ ap (λ (ms : List Memory). with_memory ms user k) b ∙ with_memory-twice free user n k ∙ ap (λ (ms : List Memory). with_memory ms user k) a ∙ with_memory-twice memories user m k

@@ -2,6 +2,7 @@
 use Rattle.std.proofs.Common.{◌≡◌, ℕ, ◌+◌, ◌-◌, ◌/◌, ◌<◌, ◌≤◌, Bool, true, false, cond, List, length, get_or, take, drop, replicate, None, refl, sym, ◌∙◌, ap, ◌⊎◌, inl, inr, arith}
 use Rattle.std.specs.Prelude.{nat_lt}
 use Rattle.std.proofs.lemmas.List.{get_or-take, get_or-drop, length-replicate, get_or-replicate, take-replicate, replicate-append-replicate}
+use Rattle.std.proofs.lemmas.Bool.{or_right}
 use Rattle.rv_model.specs.declared.images.ProgramHeader.{ProgramHeader}
 use Rattle.rv_model.specs.declared.memory.Access.{Access}
 use Rattle.rv_model.specs.declared.memory.Access.TheVariants.{Monitor}
@@ -9,15 +10,16 @@ use Rattle.rv_model.specs.declared.images.ElfFault.TheVariants.{BadFileSize, Bad
 use Rattle.rv_model.specs.images.Fields.{header_count, program_header}
 use Rattle.rv_model.specs.images.Faults.{header_has, first_fault}
 use Rattle.rv_model.specs.memory.Memory.{Memory, can_access, put_bytes}
-use Rattle.rv_model.specs.images.Image.{stack, placed, covers, touches, is_touched, byte_in, byte_of, all_pages}
+use Rattle.rv_model.specs.images.Image.{stack, placed_headers, covers, touches_page, is_touched, byte_in, byte_of, all_pages}
 use Rattle.rv_model.proofs.memory_lemmas.Memory.{can_access_from, can_access-at, is_allowed-put_bytes, put_bytes-append}
+use Rattle.rv_model.specs.memory.Sizes.{page_size}
 use Rattle.elf_load.specs.Pages.{first_placed}
 use Rattle.elf_load.specs.Placing.{memory_with, memory_after}
 use Rattle.elf_load.proofs.HeaderLaws.{any_at, none_at}
 use Rattle.elf_load.proofs.FaultLaws.{no_bad_file_size, none_outside}
-use Rattle.elf_load.proofs.PageLaws.{touches_at, header_ends, on_right}
-use Rattle.elf_load.proofs.ImageLaws.{all_pages_are}
-use Rattle.elf_load.proofs.PlacingLaws.{byte_after, put_with, same_bytes, allowed_with}
+use Rattle.elf_load.proofs.PageLaws.{touches_at, header_ends}
+use Rattle.elf_load.proofs.ImageLaws.{all_pages_is_page_limit}
+use Rattle.elf_load.proofs.PlacingLaws.{byte_after, put_with, same_bytes, monitor_is_allowed}
 
 -- ---- what a sound image says of a segment
 
@@ -25,9 +27,9 @@ size_fits : (size : ℕ) (header : ProgramHeader) → header_has size BadFileSiz
 unfolding header_has
 size_fits size header e kind = grind (arith, e, kind)
 
-stands_inside : (size : ℕ) (header : ProgramHeader) → header_has size BadOutside header ≡ false → header.kind ≡ 1 → (header.file_size ≡ 0 → ⊥) → header.offset + header.file_size ≤ size
+file_part_stands_inside : (size : ℕ) (header : ProgramHeader) → header_has size BadOutside header ≡ false → header.kind ≡ 1 → (header.file_size ≡ 0 → ⊥) → header.offset + header.file_size ≤ size
 unfolding header_has
-stands_inside size header e kind some = grind (arith, e, kind, some)
+file_part_stands_inside size header e kind some = grind (arith, e, kind, some)
 
 pub file_size_fits : (image : List ℕ) (number : ℕ) → first_fault image ≡ None → number < header_count image → (program_header image number).kind ≡ 1
     → (program_header image number).file_size ≤ (program_header image number).memory_size
@@ -37,23 +39,23 @@ file_size_fits image number sound l kind =
 pub file_part_there : (image : List ℕ) (number : ℕ) → first_fault image ≡ None → number < header_count image → (program_header image number).kind ≡ 1
     → ((program_header image number).file_size ≡ 0 → ⊥) → (program_header image number).offset + (program_header image number).file_size ≤ length image
 file_part_there image number sound l kind some =
-    stands_inside (length image) (program_header image number) (none_at (header_has (length image) BadOutside) image number l (none_outside image sound)) kind some
+    file_part_stands_inside (length image) (program_header image number) (none_at (header_has (length image) BadOutside) image number l (none_outside image sound)) kind some
 
 -- ---- its addresses may be written
 
 touched_at : (image : List ℕ) (number x : ℕ) → number < header_count image → (program_header image number).kind ≡ 1 → (program_header image number).address ≤ x
-    → x < (program_header image number).address + (program_header image number).memory_size → is_touched (placed image) (x / 4096) ≡ true
+    → x < (program_header image number).address + (program_header image number).memory_size → is_touched (placed_headers image) (x / page_size) ≡ true
 unfolding is_touched
 touched_at image number x l kind low high =
-    on_right (touches (x / 4096) stack) _
-    (any_at (touches (x / 4096)) image number l (touches_at (program_header image number) (x / 4096) kind (omega arith) (omega arith) (omega arith)))
+    or_right (touches_page (x / page_size) stack) _
+    (any_at (touches_page (x / page_size)) image number l (touches_at (program_header image number) (x / page_size) kind (omega arith) (omega arith) (omega arith)))
 
 pub may_write : (image : List ℕ) (bytes : ℕ → ℕ) (number a n : ℕ) → first_fault image ≡ None → number < header_count image → (program_header image number).kind ≡ 1
     → (program_header image number).address ≤ a → a + n ≤ (program_header image number).address + (program_header image number).memory_size
     → can_access Monitor (memory_with image bytes all_pages) a n ≡ true
 may_write image bytes number a n sound l kind low high =
     can_access_from Monitor (memory_with image bytes all_pages) a n (λ k m.
-    allowed_with image bytes (a + k) (let ends = header_ends image number sound l kind in omega (arith, ends, all_pages_are)) (touched_at image number (a + k) l kind (omega arith) (omega arith)))
+    monitor_is_allowed image bytes (a + k) (let ends = header_ends image number sound l kind in omega (arith, ends, all_pages_is_page_limit)) (touched_at image number (a + k) l kind (omega arith) (omega arith)))
 
 -- what may be written may be written in parts, one after the other
 pub may_write_part : (access : Access) (m : Memory) (a n i k : ℕ) (bs : List ℕ) → can_access access m a n ≡ true → i + k ≤ n → can_access access (put_bytes m a bs) (a + i) k ≡ true

@@ -1,7 +1,8 @@
 -- The pages that an image touches, one after the other
-use Rattle.std.specs.Prelude.{◌≡◌, ℕ, zero, suc, ◌+◌, ◌^◌, ◌<◌, ◌≤◌, min, Bool, true, false, cond, Option, Some, None, List, ◌∷◌, ◌&&◌, ◌==◌, not, bit_and}
+use Rattle.std.specs.Prelude.{◌≡◌, ℕ, zero, suc, ◌+◌, ◌<◌, ◌≤◌, min, Bool, true, false, cond, Option, Some, None, List, ◌∷◌, ◌&&◌, ◌==◌, not, bit_and}
 use Rattle.rv_model.specs.declared.images.ProgramHeader.{ProgramHeader}
-use Rattle.rv_model.specs.images.Image.{stack, touches}
+use Rattle.rv_model.specs.images.Image.{stack, touches_page}
+use Rattle.rv_model.specs.memory.Sizes.{address_end}
 use Rattle.elf_load.specs.Headers.{first_headers}
 
 -- the first page from a page on that passes a test
@@ -30,10 +31,10 @@ pages_below test (suc page) = pages_below test page + cond (test page) 1 0
 unfoldable pub first_placed : List ℕ → ℕ → List ProgramHeader
 first_placed image number = stack ∷ first_headers image number
 
--- a loadable segment ends at or below address 2^48
+-- a loadable segment ends at or below the end of addresses
 abbrev pub EndsInMemory : ProgramHeader → Type 0
-EndsInMemory header = header.kind ≡ 1 → header.address + header.memory_size ≤ 2 ^ 48
+EndsInMemory header = header.kind ≡ 1 → header.address + header.memory_size ≤ address_end
 
 -- whether a segment touches a page and has a flag
-abbrev pub allows : ℕ → ℕ → ProgramHeader → Bool
-allows flag page header = touches page header && not (bit_and header.flags flag == 0)
+abbrev pub grants : ℕ → ℕ → ProgramHeader → Bool
+grants flag page header = touches_page page header && not (bit_and header.flags flag == 0)

@@ -1,19 +1,20 @@
 -- The memory of an image while it is placed: first its pages with zeros, then the bytes of one segment after the other
 use Rattle.std.specs.Prelude.{ℕ, ◌*◌, ◌/◌, ◌&&◌, nat_lt, List, Option, Some, None, if◌then◌else◌}
 use Rattle.rv_model.specs.memory.Memory.{Cell, Memory}
-use Rattle.rv_model.specs.images.Image.{placed, is_touched, permissions_of, byte_of, memory_below, all_pages}
+use Rattle.rv_model.specs.images.Image.{placed_headers, is_touched, permissions_of, byte_of, memory_below, all_pages}
+use Rattle.rv_model.specs.memory.Sizes.{page_size}
 use Rattle.elf_load.specs.Pages.{first_placed}
 
 -- the cells of an image's pages below a page, with bytes given by address
 unfoldable pub cells_with : List ℕ → (ℕ → ℕ) → ℕ → ℕ → Option Cell
 cells_with image bytes end x =
-    if nat_lt (x / 4096) end && is_touched (placed image) (x / 4096)
-    then Some (record { byte = bytes x; permissions = permissions_of (placed image) (x / 4096) })
+    if nat_lt (x / page_size) end && is_touched (placed_headers image) (x / page_size)
+    then Some (record { byte = bytes x; permissions = permissions_of (placed_headers image) (x / page_size) })
     else None
 
 -- the memory of these cells
 unfoldable pub memory_with : List ℕ → (ℕ → ℕ) → ℕ → Memory
-memory_with image bytes end = memory_below (cells_with image bytes end) (4096 * all_pages)
+memory_with image bytes end = memory_below (cells_with image bytes end) (page_size * all_pages)
 
 -- zeros in those of an image's pages that are below a page
 abbrev pub blank_memory : List ℕ → ℕ → Memory

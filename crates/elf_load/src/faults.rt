@@ -7,30 +7,41 @@ ghost use Rattle.elf_load.specs.Headers.{HasHeaders};
 use crate::fields::{
     entry, file_type, header_count, header_size, machine, program_header, table_offset,
 };
-use rv_model::{ElfFault, ProgramHeader};
+use rv_model::{ADDRESS_END, ElfFault, ProgramHeader};
 
+/// The first four bytes: `EI_MAG0` to `EI_MAG3`.
 const MAGIC: [u8; 4] = [0x7f, b'E', b'L', b'F'];
 
+/// `ELFCLASS64`.
 const CLASS_64: u8 = 2;
 
+/// `ELFDATA2LSB`.
 const LITTLE_ENDIAN: u8 = 1;
 
+/// `ET_EXEC`, an executable at fixed addresses.
 const EXECUTABLE: u16 = 2;
 
+/// `EM_RISCV` (RISC-V ELF psABI, "File header").
 const RISC_V: u16 = 243;
 
-const HEADER_SIZE: u16 = 56;
+/// The bytes of the file header.
+const FILE_HEADER_SIZE: usize = 64;
 
-pub const LOAD: u32 = 1;
+/// The bytes of a program header.
+const PROGRAM_HEADER_SIZE: u16 = 56;
 
+/// `PT_LOAD`, a segment that is placed in memory.
+pub(crate) const LOAD: u32 = 1;
+
+/// `PT_INTERP`, the path of an interpreter.
 const INTERPRETER: u32 = 3;
 
-// The first fault of the file header.
+/// The first fault of the file header.
 #[tactic(auto, unfolding(rv_model::specs::images::Faults::has_fault))]
 fn file_fault(image: &[u8]) -> Option<ElfFault>
     ensures { result ≡ find (has_fault image.now) file_faults }
 {
-    if image.len() < 64 {
+    if image.len() < FILE_HEADER_SIZE {
         return Some(ElfFault::BadShort);
     }
     if !image.starts_with(&MAGIC) {
@@ -51,24 +62,25 @@ fn file_fault(image: &[u8]) -> Option<ElfFault>
     None
 }
 
-// The first fault of the program header table.
+/// The first fault of the program header table.
 #[tactic(auto, unfolding(rv_model::specs::images::Faults::has_fault))]
 fn table_fault(image: &[u8]) -> Option<ElfFault>
     requires { 64 ≤ length image.now }
     ensures { result ≡ find (has_fault image.now) table_faults }
 {
     let count = header_count(image);
-    if count != 0 && header_size(image) != HEADER_SIZE {
+    if count != 0 && header_size(image) != PROGRAM_HEADER_SIZE {
         return Some(ElfFault::BadHeaderSize);
     }
-    let end = u128::from(table_offset(image)) + 56 * u128::from(count);
+    let size = u128::from(PROGRAM_HEADER_SIZE) * u128::from(count);
+    let end = u128::from(table_offset(image)) + size;
     if count != 0 && end > image.len() as u128 {
         return Some(ElfFault::BadHeaderTable);
     }
     None
 }
 
-// Whether a program header by itself has a fault, in a file of `size` bytes.
+/// Whether a program header by itself has a fault, in a file of `size` bytes.
 #[tactic(auto, unfolding(rv_model::specs::images::Faults::header_has))]
 fn header_has(header: ProgramHeader, fault: ElfFault, size: usize) -> bool
     ensures { result ≡ header_has size fault header }
@@ -83,13 +95,13 @@ fn header_has(header: ProgramHeader, fault: ElfFault, size: usize) -> bool
         }
         ElfFault::BadAddress => {
             let end = u128::from(header.address) + u128::from(header.memory_size);
-            loaded && (1 << 48) < end
+            loaded && u128::from(ADDRESS_END) < end
         }
         _ => false,
     }
 }
 
-// Whether some program header has a fault by itself.
+/// Whether some program header has a fault by itself.
 fn any_header_has(image: &[u8], fault: ElfFault) -> bool
     requires { HasHeaders image.now }
     ensures { result ≡ any_header_has image.now fault }
@@ -102,7 +114,7 @@ fn any_header_has(image: &[u8], fault: ElfFault) -> bool
     false
 }
 
-// The first fault of the program headers.
+/// The first fault of the program headers.
 #[tactic(auto, unfolding(rv_model::specs::images::Faults::has_fault))]
 fn segment_fault(image: &[u8]) -> Option<ElfFault>
     requires { HasHeaders image.now }
@@ -123,9 +135,9 @@ fn segment_fault(image: &[u8]) -> Option<ElfFault>
     None
 }
 
-// The first fault of an image.
+/// The first fault of an image.
 #[tactic(auto, unfolding(rv_model::specs::images::Faults::has_fault))]
-pub fn first_fault(image: &[u8]) -> Option<ElfFault>
+pub(crate) fn first_fault(image: &[u8]) -> Option<ElfFault>
     ensures { result ≡ first_fault image.now }
 {
     if let Some(fault) = file_fault(image) {

@@ -1,82 +1,86 @@
 //! The fields of an image's headers.
 ghost use Rattle.std.specs.Prelude.{◌≡◌, ◌+◌, ◌*◌, ◌≤◌, length};
-ghost use Rattle.rv_model.specs.images.Fields.{field, entry_of, type_of, machine_of, table_offset, header_size, header_count, header_at, program_header};
+ghost use Rattle.rv_model.specs.images.Fields.{number_in_file, entry_of, type_of, machine_of, table_offset, header_size, header_count, header_at, program_header};
 
 use byteorder::{ByteOrder, LittleEndian};
 use rv_model::ProgramHeader;
 
-#[tactic(auto, unfolding(rv_model::specs::images::Fields::field))]
+/// The number in the two bytes at an offset, little-endian.
+#[tactic(auto, unfolding(rv_model::specs::images::Fields::number_in_file))]
 fn number16(image: &[u8], offset: usize) -> u16
     requires { offset + 2 ≤ length image.now }
-    ensures { result ≡ field offset 2 image.now }
+    ensures { result ≡ number_in_file offset 2 image.now }
 {
     LittleEndian::read_u16(&image[offset..])
 }
 
-#[tactic(auto, unfolding(rv_model::specs::images::Fields::field))]
+/// The number in the four bytes at an offset, little-endian.
+#[tactic(auto, unfolding(rv_model::specs::images::Fields::number_in_file))]
 fn number32(image: &[u8], offset: usize) -> u32
     requires { offset + 4 ≤ length image.now }
-    ensures { result ≡ field offset 4 image.now }
+    ensures { result ≡ number_in_file offset 4 image.now }
 {
     LittleEndian::read_u32(&image[offset..])
 }
 
-#[tactic(auto, unfolding(rv_model::specs::images::Fields::field))]
+/// The number in the eight bytes at an offset, little-endian.
+#[tactic(auto, unfolding(rv_model::specs::images::Fields::number_in_file))]
 fn number64(image: &[u8], offset: usize) -> u64
     requires { offset + 8 ≤ length image.now }
-    ensures { result ≡ field offset 8 image.now }
+    ensures { result ≡ number_in_file offset 8 image.now }
 {
     LittleEndian::read_u64(&image[offset..])
 }
 
-// `e_type`.
-pub fn file_type(image: &[u8]) -> u16
+/// The kind of file: `e_type`.
+pub(crate) fn file_type(image: &[u8]) -> u16
     requires { 64 ≤ length image.now }
     ensures { result ≡ type_of image.now }
 {
     number16(image, 16)
 }
 
-// `e_machine`.
-pub fn machine(image: &[u8]) -> u16
+/// The machine that the file is for: `e_machine`.
+pub(crate) fn machine(image: &[u8]) -> u16
     requires { 64 ≤ length image.now }
     ensures { result ≡ machine_of image.now }
 {
     number16(image, 18)
 }
 
-// `e_entry`.
-pub fn entry(image: &[u8]) -> u64
+/// The address of the program's first instruction: `e_entry`.
+pub(crate) fn entry(image: &[u8]) -> u64
     requires { 64 ≤ length image.now }
     ensures { result ≡ entry_of image.now }
 {
     number64(image, 24)
 }
 
-// `e_phoff`.
-pub fn table_offset(image: &[u8]) -> u64
+/// Where the program header table begins in the file: `e_phoff`.
+pub(crate) fn table_offset(image: &[u8]) -> u64
     requires { 64 ≤ length image.now }
     ensures { result ≡ table_offset image.now }
 {
     number64(image, 32)
 }
 
-// `e_phentsize`.
-pub fn header_size(image: &[u8]) -> u16
+/// The bytes of a program header: `e_phentsize`.
+pub(crate) fn header_size(image: &[u8]) -> u16
     requires { 64 ≤ length image.now }
     ensures { result ≡ header_size image.now }
 {
     number16(image, 54)
 }
 
-// `e_phnum`.
-pub fn header_count(image: &[u8]) -> u16
+/// How many program headers there are: `e_phnum`.
+pub(crate) fn header_count(image: &[u8]) -> u16
     requires { 64 ≤ length image.now }
     ensures { result ≡ header_count image.now }
 {
     number16(image, 56)
 }
 
+/// The program header at an offset.
 #[tactic(auto, unfolding(rv_model::specs::images::Fields::header_at))]
 fn header_at(image: &[u8], offset: usize) -> ProgramHeader
     requires { offset + 56 ≤ length image.now }
@@ -92,9 +96,9 @@ fn header_at(image: &[u8], offset: usize) -> ProgramHeader
     }
 }
 
-// The program header of a number, from 0.
+/// The program header of a number, from 0.
 #[tactic(auto, unfolding(rv_model::specs::images::Fields::program_header))]
-pub fn program_header(image: &[u8], number: usize) -> ProgramHeader
+pub(crate) fn program_header(image: &[u8], number: usize) -> ProgramHeader
     requires file { 64 ≤ length image.now }
     requires table { table_offset image.now + 56 * (number + 1) ≤ length image.now }
     ensures { result ≡ program_header image.now number }

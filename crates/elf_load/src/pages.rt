@@ -1,18 +1,17 @@
 //! The pages that an image touches, one after the other.
 ghost use Rattle.std.specs.Prelude.{◌≡◌, ℕ, ◌+◌, ◌<◌, ◌≤◌, ◌^◌, None, IfSome};
 ghost use Rattle.rv_model.specs.images.Faults.{first_fault};
-ghost use Rattle.rv_model.specs.images.Image.{stack, placed, touches, is_touched};
+ghost use Rattle.rv_model.specs.images.Image.{stack, placed_headers, touches_page, is_touched};
+ghost use Rattle.rv_model.specs.memory.Sizes.{page_limit};
 ghost use Rattle.elf_load.specs.Pages.{IsFirstIfAny, EndsInMemory, earlier};
 
 use crate::faults::LOAD;
 use crate::fields::{header_count, program_header};
-use rv_model::ProgramHeader;
+use rv_model::{PAGE_SIZE, ProgramHeader};
 
-pub const PAGE_SIZE: u64 = 4096;
-
-// The stack as a segment.
+/// The stack as a segment.
 #[tactic(auto, unfolding(rv_model::specs::images::Image::stack))]
-pub fn stack() -> ProgramHeader
+pub(crate) fn stack() -> ProgramHeader
     ensures { result ≡ stack }
 {
     ProgramHeader {
@@ -21,15 +20,15 @@ pub fn stack() -> ProgramHeader
         offset: 0,
         address: 0x7fff_b000,
         file_size: 0,
-        memory_size: 0x4000,
+        memory_size: 4 * PAGE_SIZE,
     }
 }
 
-// The first page from a page on that a segment touches.
+/// The first page from a page on that a segment touches.
 fn first_touched(header: ProgramHeader, from: u64) -> Option<u64>
     requires { EndsInMemory header }
-    ensures first { IsFirstIfAny (λ page. touches page header) from result }
-    ensures bound { IfSome result (λ page. page < 2 ^ 36) }
+    ensures first { IsFirstIfAny (λ page. touches_page page header) from result }
+    ensures bound { IfSome result (λ page. page < page_limit) }
 {
     if header.kind != LOAD {
         return None;
@@ -42,7 +41,7 @@ fn first_touched(header: ProgramHeader, from: u64) -> Option<u64>
     if first <= last { Some(first) } else { None }
 }
 
-// The lesser of two pages that may be there.
+/// The lesser of two pages that may be there.
 fn earlier(first: Option<u64>, second: Option<u64>) -> Option<u64>
     ensures { result ≡ earlier first second }
 {
@@ -53,11 +52,11 @@ fn earlier(first: Option<u64>, second: Option<u64>) -> Option<u64>
     }
 }
 
-// The first page from a page on that an image touches.
-pub fn next_page(image: &[u8], from: u64) -> Option<u64>
+/// The first page from a page on that an image touches.
+pub(crate) fn next_page(image: &[u8], from: u64) -> Option<u64>
     requires { first_fault image.now ≡ None }
-    ensures first { IsFirstIfAny (is_touched (placed image.now)) from result }
-    ensures bound { IfSome result (λ page. page < 2 ^ 36) }
+    ensures first { IsFirstIfAny (is_touched (placed_headers image.now)) from result }
+    ensures bound { IfSome result (λ page. page < page_limit) }
 {
     let mut next = first_touched(stack(), from);
     for number in 0..usize::from(header_count(image)) {

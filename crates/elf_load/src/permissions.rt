@@ -1,26 +1,30 @@
 //! What the pages of an image may be used for.
 ghost use Rattle.std.specs.Prelude.{◌≡◌, ◌<◌, ◌&&◌, ◌==◌, ◌^◌, not, bit_and, None};
 ghost use Rattle.rv_model.specs.images.Faults.{first_fault};
-ghost use Rattle.rv_model.specs.images.Image.{placed, touches, is_allowed_by, permissions_of};
-ghost use Rattle.elf_load.specs.Pages.{EndsInMemory, allows};
+ghost use Rattle.rv_model.specs.images.Image.{placed_headers, touches_page, is_allowed_by, permissions_of};
+ghost use Rattle.rv_model.specs.memory.Sizes.{page_limit};
+ghost use Rattle.elf_load.specs.Pages.{EndsInMemory, grants};
 
 use crate::faults::LOAD;
 use crate::fields::{header_count, program_header};
-use crate::pages::{PAGE_SIZE, stack};
-use rv_model::{Permissions, ProgramHeader};
+use crate::pages::stack;
+use rv_model::{PAGE_SIZE, Permissions, ProgramHeader};
 
+/// `PF_X`.
 const EXECUTE: u32 = 1;
 
+/// `PF_W`.
 const WRITE: u32 = 2;
 
+/// `PF_R`.
 const READ: u32 = 4;
 
-// Whether one of a page's addresses is one of a segment's.
-#[tactic(auto, unfolding(rv_model::specs::images::Image::touches))]
-fn touches(header: ProgramHeader, page: u64) -> bool
+/// Whether one of a page's addresses is one of a segment's.
+#[tactic(auto, unfolding(rv_model::specs::images::Image::touches_page))]
+fn touches_page(header: ProgramHeader, page: u64) -> bool
     requires ends { EndsInMemory header }
-    requires low { page < 2 ^ 36 }
-    ensures { result ≡ touches page header }
+    requires low { page < page_limit }
+    ensures { result ≡ touches_page page header }
 {
     if header.kind != LOAD {
         return false;
@@ -30,37 +34,37 @@ fn touches(header: ProgramHeader, page: u64) -> bool
     header.address.max(start) < end.min(start + PAGE_SIZE)
 }
 
-// Whether a segment touches a page and has a flag.
-fn allows(header: ProgramHeader, flag: u32, page: u64) -> bool
+/// Whether a segment touches a page and has a flag.
+fn grants(header: ProgramHeader, flag: u32, page: u64) -> bool
     requires ends { EndsInMemory header }
-    requires low { page < 2 ^ 36 }
-    ensures { result ≡ allows flag page header }
+    requires low { page < page_limit }
+    ensures { result ≡ grants flag page header }
 {
-    touches(header, page) && header.flags & flag != 0
+    touches_page(header, page) && header.flags & flag != 0
 }
 
-// Whether a segment of an image touches a page and has a flag.
+/// Whether a segment of an image touches a page and has a flag.
 fn is_allowed_by(image: &[u8], flag: u32, page: u64) -> bool
     requires sound { first_fault image.now ≡ None }
-    requires low { page < 2 ^ 36 }
-    ensures { result ≡ is_allowed_by flag (placed image.now) page }
+    requires low { page < page_limit }
+    ensures { result ≡ is_allowed_by flag (placed_headers image.now) page }
 {
-    if allows(stack(), flag, page) {
+    if grants(stack(), flag, page) {
         return true;
     }
     for number in 0..usize::from(header_count(image)) {
-        if allows(program_header(image, number), flag, page) {
+        if grants(program_header(image, number), flag, page) {
             return true;
         }
     }
     false
 }
 
-// What a page of an image may be used for.
-pub fn permissions_of(image: &[u8], page: u64) -> Permissions
+/// What a page of an image may be used for.
+pub(crate) fn permissions_of(image: &[u8], page: u64) -> Permissions
     requires sound { first_fault image.now ≡ None }
-    requires low { page < 2 ^ 36 }
-    ensures { result ≡ permissions_of (placed image.now) page }
+    requires low { page < page_limit }
+    ensures { result ≡ permissions_of (placed_headers image.now) page }
 {
     Permissions {
         read: is_allowed_by(image, READ, page),

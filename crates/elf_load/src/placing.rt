@@ -6,6 +6,7 @@ ghost use Rattle.rv_model.specs.images.Fields.{header_count};
 ghost use Rattle.rv_model.specs.images.Faults.{first_fault};
 ghost use Rattle.rv_model.specs.images.Image.{memory_of_image, all_pages};
 ghost use Rattle.rv_model.specs.memory.Memory.{can_access, put_bytes, page_count};
+ghost use Rattle.rv_model.specs.memory.Sizes.{page_quota, address_end};
 ghost use Rattle.user_mem.specs.Users.{memory_of_user, with_memory};
 ghost use Rattle.elf_load.specs.Placing.{blank_memory, memory_after};
 
@@ -13,14 +14,14 @@ use crate::faults::LOAD;
 use crate::fields::{header_count, program_header};
 use crate::pages::next_page;
 use crate::permissions::permissions_of;
-use rv_model::{Access, ProgramHeader, User};
+use rv_model::{Access, PAGE_SIZE, ProgramHeader, USER_COUNT, User};
 use std::alloc::Allocator;
 use user_mem::Pool;
 
-// Zeros are written so many at a time.
-const CHUNK: usize = 4096;
+/// Zeros are written so many at a time.
+const ZERO_COUNT: usize = PAGE_SIZE as usize;
 
-// Writes bytes of a user, all of which are mapped.
+/// Writes bytes of a user, all of which are mapped.
 fn write_mapped<A: Allocator>(pool: &mut Pool<A>, user: User, addr: u64, bytes: &[u8])
     requires { can_access Monitor (memory_of_user pool.old user) addr (length bytes.now) ≡ true }
     ensures { pool.new ≡ with_memory pool.old user
@@ -31,24 +32,24 @@ fn write_mapped<A: Allocator>(pool: &mut Pool<A>, user: User, addr: u64, bytes: 
     };
 }
 
-// Writes zeros to bytes of a user, all of which are mapped.
+/// Writes zeros to bytes of a user, all of which are mapped.
 fn clear_mapped<A: Allocator>(pool: &mut Pool<A>, user: User, addr: u64, count: u64)
     requires known { user - 1 < length pool.old }
     requires mapped { can_access Monitor (memory_of_user pool.old user) addr count ≡ true }
-    requires bound { addr + count ≤ 2 ^ 48 }
+    requires bound { addr + count ≤ address_end }
     ensures { pool.new ≡ with_memory pool.old user
         (put_bytes (memory_of_user pool.old user) addr (replicate count 0)) }
 {
-    let zeros = [0; CHUNK];
+    let zeros = [0; ZERO_COUNT];
     let mut done = 0;
     while done < count {
-        let size = (count - done).min(CHUNK as u64);
+        let size = (count - done).min(PAGE_SIZE);
         write_mapped(pool, user, addr + done, &zeros[..size as usize]);
         done += size;
     }
 }
 
-// A segment's bytes in the file.
+/// A segment's bytes in the file.
 fn file_part(image: &[u8], header: ProgramHeader) -> &[u8]
     requires { (header.file_size ≡ 0 → ⊥) → header.offset + header.file_size ≤ length image.now }
     ensures value { result.now ≡ take header.file_size (drop header.offset image.now) }
@@ -62,12 +63,12 @@ fn file_part(image: &[u8], header: ProgramHeader) -> &[u8]
     part
 }
 
-// Maps the pages of an image, with zeros, for a user who has none.
+/// Maps the pages of an image, with zeros, for a user who has none.
 fn map_pages<A: Allocator>(image: &[u8], user: User, pool: &mut Pool<A>)
     requires sound { first_fault image.now ≡ None }
     requires known { user - 1 < length pool.old }
     requires free { memory_of_user pool.old user ≡ empty }
-    requires few { page_count (memory_of_image image.now) ≤ 256 }
+    requires few { page_count (memory_of_image image.now) ≤ page_quota }
     ensures { pool.new ≡ with_memory pool.old user (blank_memory image.now all_pages) }
 {
     let mut from = 0;
@@ -79,7 +80,7 @@ fn map_pages<A: Allocator>(image: &[u8], user: User, pool: &mut Pool<A>)
     }
 }
 
-// Writes the bytes of a program header over those of the ones before it.
+/// Writes the bytes of a program header over those of the ones before it.
 fn write_segment<A: Allocator>(image: &[u8], number: usize, user: User, pool: &mut Pool<A>)
     requires sound { first_fault image.now ≡ None }
     requires there { number < header_count image.now }
@@ -96,7 +97,7 @@ fn write_segment<A: Allocator>(image: &[u8], number: usize, user: User, pool: &m
     clear_mapped(pool, user, end, header.memory_size - header.file_size);
 }
 
-// Writes the bytes of all program headers, where the image's pages have zeros.
+/// Writes the bytes of all program headers, where the image's pages have zeros.
 fn write_segments<A: Allocator>(image: &[u8], user: User, pool: &mut Pool<A>)
     requires sound { first_fault image.now ≡ None }
     requires known { user - 1 < length pool.old }
@@ -108,14 +109,14 @@ fn write_segments<A: Allocator>(image: &[u8], user: User, pool: &mut Pool<A>)
     }
 }
 
-// Gives a user the memory of an image in place of the old one.
-pub fn place_image<A: Allocator>(image: &[u8], user: User, pool: &mut Pool<A>)
+/// Gives a user the memory of an image in place of the old one.
+pub(crate) fn place_image<A: Allocator>(image: &[u8], user: User, pool: &mut Pool<A>)
     requires sound { first_fault image.now ≡ None }
-    requires few { page_count (memory_of_image image.now) ≤ 256 }
+    requires few { page_count (memory_of_image image.now) ≤ page_quota }
     ensures { pool.new ≡ with_memory pool.old user (memory_of_image image.now) }
 {
     // Each user has a memory in the pool.
-    prove!(user.index() < 8);
+    prove!(user.index() < USER_COUNT);
     pool.drop_user(user);
     map_pages(image, user, pool);
     write_segments(image, user, pool);

@@ -4,13 +4,14 @@ ghost use Rattle.rv_model.specs.images.Fields.{entry_of, header_count, program_h
 ghost use Rattle.rv_model.specs.images.Faults.{first_fault};
 ghost use Rattle.rv_model.specs.images.Image.{memory_of_image};
 ghost use Rattle.rv_model.specs.memory.Memory.{page_count};
+ghost use Rattle.rv_model.specs.memory.Sizes.{page_quota};
 ghost use Rattle.user_mem.specs.Users.{with_memory};
 
 use crate::faults::first_fault;
 use crate::fields::{entry, header_count, program_header};
 use crate::pages::next_page;
 use crate::placing::place_image;
-use rv_model::{ElfFault, MapRefusal, ProgramHeader, User};
+use rv_model::{ElfFault, MapRefusal, PAGE_QUOTA, ProgramHeader, User};
 use std::alloc::Allocator;
 use std::marker::Model;
 use user_mem::Pool;
@@ -71,14 +72,14 @@ impl Plan<'_> {
         program_header(self.image, number)
     }
 
-    /// How many pages of 4,096 bytes the image takes with its stack, and `None` above 256. It looks
-    /// at 257 of them at most.
+    /// How many pages the image takes with its stack, and `None` above `PAGE_QUOTA`. It looks at one
+    /// more of them at most.
     pub fn pages(&self) -> Option<usize>
         ensures count { IfSome result (λ count. count ≡ page_count (memory_of_image self.now)) }
-        ensures few { IsSome result ↔ (page_count (memory_of_image self.now) ≤ 256) }
+        ensures few { IsSome result ↔ (page_count (memory_of_image self.now) ≤ page_quota) }
     {
         let mut from = 0;
-        for count in 0..257 {
+        for count in 0..=PAGE_QUOTA {
             let Some(page) = next_page(self.image, from) else {
                 return Some(count);
             };
@@ -91,7 +92,7 @@ impl Plan<'_> {
 /// Gives a user the memory that an image describes in place of all the user's pages, and answers
 /// the entry.
 ///
-/// `Quota` where the image takes more than 256 pages, and then nothing has changed. The user's old
+/// `Quota` where the image takes more than `PAGE_QUOTA` pages, and then nothing has changed. The user's old
 /// pages don't count.
 pub fn place<A: Allocator>(
     plan: &Plan<'_>,
@@ -99,7 +100,7 @@ pub fn place<A: Allocator>(
     pool: &mut Pool<A>,
 ) -> Result<u64, MapRefusal>
     ensures quota { (result ≡ Err MapRefusal.Quota)
-        ↔ (256 < page_count (memory_of_image plan.now)) }
+        ↔ (page_quota < page_count (memory_of_image plan.now)) }
     ensures only_quota { IfErr result (λ refusal. refusal ≡ MapRefusal.Quota) }
     ensures refused { OnErr result (pool.new ≡ pool.old) }
     ensures entry { IfOk result (λ entry. entry ≡ entry_of plan.now) }

@@ -5,30 +5,30 @@ ghost use Rattle.rv_model.specs.step.ScalarStep.{branch_step, jump_step, jumps};
 ghost use Rattle.hart.specs.States.{LeadsRegisters};
 
 use crate::faults::fault;
-use crate::integer::run_on;
+use crate::retirement::run_on;
 use rv_model::{Cause, Field, Reg, Scalar, StepEnd};
-use scalar_core::sign_extend;
+use scalar_core::{b_immediate, i_immediate, j_immediate};
 
 /// Where JAL goes.
-pub(crate) fn jump_target(pc: u64, offset: Field<20>) -> u64
-    ensures { result ≡ jump_target pc offset }
+pub(crate) fn jump_target(pc: u64, imm: Field<20>) -> u64
+    ensures { result ≡ jump_target pc imm }
 {
-    pc.wrapping_add(sign_extend(21, 2 * u64::from(offset.value())))
+    pc.wrapping_add(j_immediate(imm))
 }
 
 /// Where JALR goes.
 pub(crate) fn register_target(base: u64, imm: Field<12>) -> u64
     ensures { result ≡ register_target base imm }
 {
-    let target = base.wrapping_add(sign_extend(12, u64::from(imm.value())));
+    let target = base.wrapping_add(i_immediate(imm));
     target - target % 2
 }
 
 /// Where a branch goes.
-pub(crate) fn branch_target(pc: u64, offset: Field<12>) -> u64
-    ensures { result ≡ branch_target pc offset }
+pub(crate) fn branch_target(pc: u64, imm: Field<12>) -> u64
+    ensures { result ≡ branch_target pc imm }
 {
-    pc.wrapping_add(sign_extend(13, 2 * u64::from(offset.value())))
+    pc.wrapping_add(b_immediate(imm))
 }
 
 /// A jump, which leaves in `rd` the address of the instruction that follows it. Nothing changes where no

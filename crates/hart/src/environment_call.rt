@@ -3,15 +3,15 @@ ghost use Rattle.std.specs.Prelude.{◌≡◌};
 ghost use Rattle.rv_model.specs.step.ScalarStep.{environment_call, system_step};
 ghost use Rattle.hart.specs.States.{LeadsRegisters};
 
-use crate::integer::give;
+use crate::retirement::give;
 use rv_model::instructions::operations::SystemOp;
 use rv_model::{Reg, Scalar, StepEnd};
 
-// What a call that isn't known answers, negated: ENOSYS of Linux.
+/// What a call that isn't known answers, negated: ENOSYS of Linux.
 const NO_SUCH_CALL: u64 = 38;
 
-// ECALL, by the number in a7 (x17): 93 and 94 exit with a0 (x10), any other answers in a0 that there is
-// no such call.
+/// ECALL, by the number in a7 (x17): 93 and 94 exit with a0 (x10), any other answers in a0 that there is
+/// no such call.
 #[tactic(auto, unfolding(rv_model::specs::step::ScalarStep::environment_call))]
 fn call_environment(scalar: &mut Scalar) -> StepEnd
     ensures { LeadsRegisters environment_call scalar.old scalar.new result }

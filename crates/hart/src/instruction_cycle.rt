@@ -8,15 +8,14 @@ ghost use Rattle.hart.specs.States.{fetched, IsStep, Leads, Marks};
 
 use crate::faults::{fault, illegal};
 use crate::scalar_instructions::execute_scalar;
-use crate::touches::is_touching;
-use crate::vector_instructions::execute_touching;
+use crate::touching_instructions::{execute_touching, is_touching};
 use crate::vectors::Vectors;
 use crate::view::View;
 use rv_decode::decode;
 use rv_model::{Access, Cause, Fault, Instr, Policy, Scalar, StepEnd};
 use vector_memory::UserBytes;
 
-// The word at an address.
+/// The word at an address.
 fn fetch<M: UserBytes>(memory: &M, pc: u64) -> Result<u32, Fault>
     ensures { result ≡ (if can_access Fetch (M.memory memory.now) pc 4
         then Ok (word_at (M.memory memory.now) pc)
@@ -27,7 +26,7 @@ fn fetch<M: UserBytes>(memory: &M, pc: u64) -> Result<u32, Fault>
     Ok(u32::from_le_bytes(bytes))
 }
 
-// Carries out an instruction; there is none where the word is no instruction.
+/// Carries out an instruction; there is none where the word is no instruction.
 #[tactic(auto, unfolding(rv_model::specs::step::Step::executed, rv_model::specs::step::Step::dirties))]
 fn execute<M: UserBytes, V: Vectors>(
     instr: Option<Instr>,

@@ -1,17 +1,18 @@
 //! One instruction of one user: fetched, decoded and carried out.
 #![tactic(auto)]
 
+mod control_access;
 mod control_registers;
 mod control_transfer;
 mod environment_call;
 mod faults;
 mod instruction_cycle;
-mod integer;
 mod loads_and_stores;
+mod retirement;
 mod scalar_instructions;
 #[cfg(test)]
 mod tests;
-mod touches;
+mod touching_instructions;
 mod vector_instructions;
 mod vectors;
 mod view;

@@ -8,19 +8,20 @@ ghost use Rattle.rv_model.specs.step.ScalarStep.{load_step, store_step};
 ghost use Rattle.hart.specs.States.{LeadsScalar};
 
 use crate::faults::fault;
-use crate::integer::{give, run_on};
+use crate::retirement::{give, run_on};
 use rv_model::instructions::operations::{LoadOp, StoreOp};
-use rv_model::{Access, Cause, Fault, Field, Reg, Scalar, StepEnd};
+use rv_model::{Access, Cause, Fault, Reg, Scalar, StepEnd};
 use scalar_core::sign_extend;
 use vector_memory::UserBytes;
 
-/// The address that a load or store names.
-pub(crate) fn access_address(base: u64, imm: Field<12>) -> u64
-    ensures { result ≡ access_address base imm }
+/// The address that a load or store names, by a register and an immediate that is sign-extended to 64 bits.
+pub(crate) fn access_address(base: u64, immediate: u64) -> u64
+    ensures { result ≡ access_address base immediate }
 {
-    base.wrapping_add(sign_extend(12, u64::from(imm.value())))
+    base.wrapping_add(immediate)
 }
 
+/// The byte at an address.
 fn read_8<M: UserBytes>(memory: &M, addr: u64) -> Result<u8, Fault>
     ensures { result ≡ (if can_access Load (M.memory memory.now) addr 1
         then Ok (number_at w8 (M.memory memory.now) addr) else Err (record { addr = addr })) }
@@ -30,6 +31,7 @@ fn read_8<M: UserBytes>(memory: &M, addr: u64) -> Result<u8, Fault>
     Ok(u8::from_le_bytes(bytes))
 }
 
+/// The number of two bytes at an address.
 fn read_16<M: UserBytes>(memory: &M, addr: u64) -> Result<u16, Fault>
     ensures { result ≡ (if can_access Load (M.memory memory.now) addr 2
         then Ok (number_at w16 (M.memory memory.now) addr) else Err (record { addr = addr })) }
@@ -39,6 +41,7 @@ fn read_16<M: UserBytes>(memory: &M, addr: u64) -> Result<u16, Fault>
     Ok(u16::from_le_bytes(bytes))
 }
 
+/// The number of four bytes at an address.
 fn read_32<M: UserBytes>(memory: &M, addr: u64) -> Result<u32, Fault>
     ensures { result ≡ (if can_access Load (M.memory memory.now) addr 4
         then Ok (number_at w32 (M.memory memory.now) addr) else Err (record { addr = addr })) }
@@ -48,6 +51,7 @@ fn read_32<M: UserBytes>(memory: &M, addr: u64) -> Result<u32, Fault>
     Ok(u32::from_le_bytes(bytes))
 }
 
+/// The number of eight bytes at an address.
 fn read_64<M: UserBytes>(memory: &M, addr: u64) -> Result<u64, Fault>
     ensures { result ≡ (if can_access Load (M.memory memory.now) addr 8
         then Ok (number_at w64 (M.memory memory.now) addr) else Err (record { addr = addr })) }
@@ -57,7 +61,7 @@ fn read_64<M: UserBytes>(memory: &M, addr: u64) -> Result<u64, Fault>
     Ok(u64::from_le_bytes(bytes))
 }
 
-// The value that a load gives.
+/// The value that a load gives.
 fn loaded<M: UserBytes>(op: LoadOp, addr: u64, memory: &M) -> Result<u64, Fault>
     ensures { result ≡ (if can_access Load (M.memory memory.now) addr (byte_len (load_width op))
         then Ok (extended op (number_at (load_width op) (M.memory memory.now) addr))
@@ -91,7 +95,7 @@ pub(crate) fn load<M: UserBytes>(
     }
 }
 
-// How many bytes a store writes.
+/// How many bytes a store writes.
 fn store_size(op: StoreOp) -> usize
     ensures { result ≡ byte_len (store_width op) }
 {

@@ -7,10 +7,13 @@ ghost use Rattle.hart.specs.States.{LeadsScalar};
 use crate::control_transfer::{branch_target, jump, jump_if, jump_target, register_target};
 use crate::environment_call::system;
 use crate::faults::illegal;
-use crate::integer::{give, op_imm, run_on, shift_imm, shift_imm_word, upper};
 use crate::loads_and_stores::{access_address, load, store};
+use crate::retirement::{give, run_on};
 use rv_model::{Instr, Scalar, StepEnd};
-use scalar_core::{alu, branch};
+use scalar_core::{
+    alu, branch, i_immediate, register_immediate, s_immediate, shift_immediate,
+    shift_immediate_word, upper_immediate,
+};
 use vector_memory::UserBytes;
 
 /// Carries out an instruction that doesn't touch the vector unit.
@@ -28,46 +31,42 @@ pub(crate) fn execute_scalar<M: UserBytes>(
     ensures clean { (limit : ℕ) (before : HartState) → dirties limit (Some instr.now) before ≡ false }
 {
     match *instr {
-        Instr::Upper { op, rd, imm } => give(rd, upper(op, scalar.pc, imm), scalar),
-        Instr::Jump { rd, offset } => jump(rd, jump_target(scalar.pc, offset), scalar),
+        Instr::Upper { op, rd, imm } => give(rd, upper_immediate(op, scalar.pc, imm), scalar),
+        Instr::Jump { rd, imm } => jump(rd, jump_target(scalar.pc, imm), scalar),
         Instr::JumpRegister { rd, rs1, imm } => {
             jump(rd, register_target(scalar.read(rs1), imm), scalar)
         }
-        Instr::Branch {
-            op,
-            rs1,
-            rs2,
-            offset,
-        } => {
+        Instr::Branch { op, rs1, rs2, imm } => {
             let taken = branch(op, scalar.read(rs1), scalar.read(rs2));
-            jump_if(taken, branch_target(scalar.pc, offset), scalar)
+            jump_if(taken, branch_target(scalar.pc, imm), scalar)
         }
         Instr::Load { op, rd, rs1, imm } => {
-            let addr = access_address(scalar.read(rs1), imm);
+            let addr = access_address(scalar.read(rs1), i_immediate(imm));
             load(op, rd, addr, scalar, memory)
         }
         Instr::Store { op, rs1, rs2, imm } => {
-            let addr = access_address(scalar.read(rs1), imm);
+            let addr = access_address(scalar.read(rs1), s_immediate(imm));
             store(op, addr, scalar.read(rs2), scalar, memory)
         }
-        Instr::OpImm { op, rd, rs1, imm } => give(rd, op_imm(op, scalar.read(rs1), imm), scalar),
-        Instr::ShiftImm {
-            op,
-            rd,
-            rs1,
-            amount,
-        } => give(rd, shift_imm(op, scalar.read(rs1), amount), scalar),
-        Instr::ShiftImmWord {
-            op,
-            rd,
-            rs1,
-            amount,
-        } => give(rd, shift_imm_word(op, scalar.read(rs1), amount), scalar),
-        Instr::Op { op, rd, rs1, rs2 } => {
-            give(rd, alu(op, scalar.read(rs1), scalar.read(rs2)), scalar)
+        Instr::RegisterImmediate { op, rd, rs1, imm } => {
+            let value = register_immediate(op, scalar.read(rs1), imm);
+            give(rd, value, scalar)
+        }
+        Instr::ShiftImmediate { op, rd, rs1, shamt } => {
+            let value = shift_immediate(op, scalar.read(rs1), shamt);
+            give(rd, value, scalar)
+        }
+        Instr::ShiftImmediateWord { op, rd, rs1, shamt } => {
+            let value = shift_immediate_word(op, scalar.read(rs1), shamt);
+            give(rd, value, scalar)
+        }
+        Instr::RegisterRegister { op, rd, rs1, rs2 } => {
+            let value = alu(op, scalar.read(rs1), scalar.read(rs2));
+            give(rd, value, scalar)
         }
         Instr::Fence { .. } => run_on(scalar),
         Instr::System { op } => system(op, scalar),
-        _ => illegal(word, scalar),
+        Instr::Csr { .. } | Instr::CsrImmediate { .. } => illegal(word, scalar),
+        _ => unreachable!(),
     }
 }

@@ -36,6 +36,7 @@ fn family(name: &[u8; 16]) -> Option<&'static str> {
     }
 }
 
+/// How the manual writes a scalar register at a place.
 fn scalar(place: Place) -> &'static str {
     match place {
         Place::Rd => "rd",
@@ -44,6 +45,7 @@ fn scalar(place: Place) -> &'static str {
     }
 }
 
+/// How the manual writes a vector register at a place.
 fn vector(place: Place) -> &'static str {
     match place {
         Place::Rd => "vd",
@@ -52,6 +54,7 @@ fn vector(place: Place) -> &'static str {
     }
 }
 
+/// How the manual writes an unsigned number.
 fn unsigned(field: UnsignedField) -> &'static str {
     match field {
         UnsignedField::Immediate => "uimm",
@@ -60,6 +63,7 @@ fn unsigned(field: UnsignedField) -> &'static str {
     }
 }
 
+/// How the manual writes a signed number.
 fn signed(field: SignedField) -> &'static str {
     match field {
         SignedField::Vector | SignedField::Immediate => "imm",
@@ -109,6 +113,7 @@ fn print_encoding(rt: &impl Print, mask: u32, bits: u32) -> io::Result<()> {
     Ok(())
 }
 
+/// Prints a name, without the spaces behind it.
 fn print_name(rt: &impl Print, name: &[u8; 16]) -> io::Result<()> {
     for byte in name {
         if *byte != b' ' {
@@ -118,6 +123,7 @@ fn print_name(rt: &impl Print, name: &[u8; 16]) -> io::Result<()> {
     Ok(())
 }
 
+/// Prints the operands of a form, behind a space.
 fn print_operands(rt: &impl Print, slots: &[Slot]) -> io::Result<()> {
     if !slots.is_empty() {
         print!(rt; " ")?;

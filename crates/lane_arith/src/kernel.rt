@@ -1,16 +1,19 @@
 //! Element-wise operations on lists of bytes ("V" Vector Extension 1.0, sections 5.3, 5.4 and chapter
 //! 11).
-ghost use Rattle.std.specs.Prelude.{◌≡◌, ◌+◌, ◌*◌, ◌<◌, ◌≤◌, IsTrue, length, false};
+ghost use Rattle.std.specs.Prelude.{◌≡◌, ◌+◌, ◌*◌, ◌≤◌, IsTrue, length, false};
 ghost use Rattle.std.specs.Int.{bytes_low_first};
 ghost use Rattle.std.specs.Simd.Lanes.{put_chunk};
-ghost use Rattle.rv_model.specs.elements.Elements.{element, in_body, is_changed, is_let, result_or_ones};
+ghost use Rattle.rv_model.specs.elements.Elements.{element, in_range, is_changed, result_or_ones};
 ghost use Rattle.rv_model.specs.elements.Writes.{Writes};
+ghost use Rattle.rv_model.specs.vector.Configuration.{width_bytes};
 ghost use Rattle.rv_model.specs.elements.Formulas.{formula, is_carried_out, ones, wrap};
 
+use crate::body::Body;
 use crate::lane::Lane;
+use rv_model::GROUP_BYTES;
 use rv_model::instructions::operations::BinaryOp;
 
-// One element of the result.
+/// One element of the result.
 fn apply<L: Lane>(op: BinaryOp, a: L, b: L) -> L
     requires { IsTrue (is_carried_out op) }
     ensures { L.value result ≡ wrap L.width (formula op L.width (L.value a) (L.value b)) }
@@ -23,58 +26,47 @@ fn apply<L: Lane>(op: BinaryOp, a: L, b: L) -> L
     }
 }
 
-// Whether the mask lets an element through.
-fn is_let(unmasked: bool, mask: &[u8; 32], index: usize) -> bool
-    requires { index < 256 }
-    ensures { result ≡ is_let unmasked mask.now index }
-{
-    unmasked || mask[index / 8] >> (index % 8) & 1 == 1
-}
-
-// Writes one element of the result.
+/// Writes one element of the result.
 fn put<L: Lane>(op: BinaryOp, a: &[u8], b: &[u8], index: usize, destination: &mut [u8])
     requires op { IsTrue (is_carried_out op) }
-    requires first { L.size * index + L.size ≤ length a.now }
-    requires second { L.size * index + L.size ≤ length b.now }
-    requires destination { L.size * index + L.size ≤ length destination.old }
-    ensures { destination.new ≡ put_chunk (L.size * index) destination.old (bytes_low_first 0 L.size
-        (wrap L.width (formula op L.width (element L.size a.now index) (element L.size b.now index)))) }
+    requires first { width_bytes L.width * index + width_bytes L.width ≤ length a.now }
+    requires second { width_bytes L.width * index + width_bytes L.width ≤ length b.now }
+    requires destination { width_bytes L.width * index + width_bytes L.width ≤ length destination.old }
+    ensures { destination.new ≡ put_chunk (width_bytes L.width * index) destination.old (bytes_low_first 0 (width_bytes L.width)
+        (wrap L.width (formula op L.width (element (width_bytes L.width) a.now index) (element (width_bytes L.width) b.now index)))) }
 {
     let x = L::load(a, index);
     let y = L::load(b, index);
     apply(op, x, y).store(destination, index);
 }
 
-/// Carries out an operation of one width: element i of the destination becomes the result of elements i of
-/// `a`, the elements of vs2, and of `b`, those of the second operand, for each active i from `start` up to
-/// `end`, the vector length. Where `masked`, the elements in between that the mask keeps back become all
-/// ones; all others keep.
+/// Carries out an operation of one width: each active element i of the destination becomes the result of
+/// elements i of `a`, the elements of vs2, and of `b`, those of the second operand. Where
+/// `fill_masked_off`, the elements of the body that are masked off become all ones; all others keep.
 pub fn binary<L: Lane>(
     op: BinaryOp,
     a: &[u8],
     b: &[u8],
-    unmasked: bool,
-    mask: &[u8; 32],
-    start: usize,
-    end: usize,
+    body: &Body<'_>,
     destination: &mut [u8],
-    masked: bool,
+    fill_masked_off: bool,
 )
     requires op { IsTrue (is_carried_out op) }
-    requires first { L.size * end ≤ length a.now }
-    requires second { L.size * end ≤ length b.now }
-    requires destination { L.size * end ≤ length destination.old }
-    requires count { end ≤ 256 }
-    ensures { Writes L.size (is_changed unmasked mask.now masked false start end)
-        (result_or_ones unmasked mask.now start end
-        (λ i. wrap L.width (formula op L.width (element L.size a.now i) (element L.size b.now i)))
+    requires first { width_bytes L.width * body.now.end ≤ length a.now }
+    requires second { width_bytes L.width * body.now.end ≤ length b.now }
+    requires destination { width_bytes L.width * body.now.end ≤ length destination.old }
+    requires count { body.now.end ≤ GROUP_BYTES }
+    ensures { Writes (width_bytes L.width) (is_changed body.now fill_masked_off false)
+        (result_or_ones body.now
+        (λ i. wrap L.width (formula op L.width (element (width_bytes L.width) a.now i)
+        (element (width_bytes L.width) b.now i)))
         (ones L.width))
         destination.old destination.new }
 {
-    for i in start..end {
-        if is_let(unmasked, mask, i) {
+    for i in body.start()..body.end() {
+        if body.lets(i) {
             put::<L>(op, a, b, i, destination);
-        } else if masked {
+        } else if fill_masked_off {
             L::all_ones().store(destination, i);
         }
     }
@@ -82,9 +74,9 @@ pub fn binary<L: Lane>(
 
 /// Writes one number to each element from `start` up to `end`.
 pub fn fill<L: Lane>(number: L, start: usize, end: usize, destination: &mut [u8])
-    requires destination { L.size * end ≤ length destination.old }
-    requires count { end ≤ 256 }
-    ensures { Writes L.size (in_body start end) (λ i. L.value number) destination.old destination.new }
+    requires destination { width_bytes L.width * end ≤ length destination.old }
+    requires count { end ≤ GROUP_BYTES }
+    ensures { Writes (width_bytes L.width) (in_range start end) (λ i. L.value number) destination.old destination.new }
 {
     for i in start..end {
         number.store(destination, i);

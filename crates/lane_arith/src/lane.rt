@@ -1,11 +1,11 @@
 //! Elements of 8, 16, 32 and 64 bits.
 ghost use Rattle.std.specs.Prelude.{◌≡◌, ◌+◌, ◌*◌, ◌%◌, ◌^◌, ◌<◌, ◌≤◌, ℕ, length};
-ghost use Rattle.std.specs.Int.{Width, bytes_low_first, w8, w16, w32, w64};
+ghost use Rattle.std.specs.Int.{Width, bytes_low_first, cast_signed, w8, w16, w32, w64};
 ghost use Rattle.std.specs.Simd.Lanes.{put_chunk};
 ghost use Rattle.rv_model.specs.declared.instructions.operations.BinaryOp.TheVariants.{Vadd, Vsub};
 ghost use Rattle.rv_model.specs.elements.Elements.{element};
+ghost use Rattle.rv_model.specs.vector.Configuration.{width_bytes};
 ghost use Rattle.rv_model.specs.elements.Formulas.{formula, ones, wrap};
-ghost use Rattle.std.proofs.Common.{lit<, refl};
 ghost use mir.Val.{bits};
 
 use byteorder::{ByteOrder, LittleEndian};
@@ -15,21 +15,28 @@ pub trait Lane: Copy + Drop {
     // The width in bits.
     ghost width: { Width };
 
-    // The width in bytes.
-    ghost size: { ℕ };
-
     // The unsigned number.
     ghost value: { Self → ℕ };
 
     /// The element at an index of a list of bytes.
     fn load(bytes: &[u8], index: usize) -> Self
-        requires { size * index + size ≤ length bytes.now }
-        ensures { value result ≡ element size bytes.now index };
+        requires { width_bytes width * index + width_bytes width ≤ length bytes.now }
+        ensures { value result ≡ element (width_bytes width) bytes.now index };
 
     /// Writes the element at an index of a list of bytes.
     fn store(self, bytes: &mut [u8], index: usize)
-        requires { size * index + size ≤ length bytes.old }
-        ensures { bytes.new ≡ put_chunk (size * index) bytes.old (bytes_low_first 0 size (value self)) };
+        requires { width_bytes width * index + width_bytes width ≤ length bytes.old }
+        ensures { bytes.new ≡ put_chunk (width_bytes width * index) bytes.old
+            (bytes_low_first 0 (width_bytes width) (value self)) };
+
+    /// The unsigned number, below 2 to the width.
+    fn number(self) -> u64
+        ensures value { result ≡ value self }
+        ensures bound { value self < 2 ^ bits width };
+
+    /// The signed number, in two's complement.
+    fn signed_number(self) -> i64
+        ensures { result ≡ cast_signed width (value self) };
 
     /// The low bits of a number.
     fn low_bits(number: u64) -> Self
@@ -46,18 +53,10 @@ pub trait Lane: Copy + Drop {
     /// The difference, modulo 2 to the width.
     fn difference(self, other: Self) -> Self
         ensures { value result ≡ wrap width (formula Vsub width (value self) (value other)) };
-
-    // An element has whole bytes.
-    ghost whole_bytes: { bits width ≡ 8 * size };
-
-    // It has at least one.
-    ghost has_bytes: { 0 < size };
 }
 
 impl Lane for u8 {
     ghost width = { w8 };
-
-    ghost size = { 1 };
 
     ghost value = { λ x. x };
 
@@ -67,6 +66,14 @@ impl Lane for u8 {
 
     fn store(self, bytes: &mut [u8], index: usize) {
         bytes[index] = self;
+    }
+
+    fn number(self) -> u64 {
+        u64::from(self)
+    }
+
+    fn signed_number(self) -> i64 {
+        i64::from(self.cast_signed())
     }
 
     fn low_bits(number: u64) -> u8 {
@@ -84,16 +91,10 @@ impl Lane for u8 {
     fn difference(self, other: u8) -> u8 {
         self.wrapping_sub(other)
     }
-
-    ghost whole_bytes = { refl };
-
-    ghost has_bytes = { lit< tt };
 }
 
 impl Lane for u16 {
     ghost width = { w16 };
-
-    ghost size = { 2 };
 
     ghost value = { λ x. x };
 
@@ -103,6 +104,14 @@ impl Lane for u16 {
 
     fn store(self, bytes: &mut [u8], index: usize) {
         LittleEndian::write_u16(&mut bytes[2 * index..], self);
+    }
+
+    fn number(self) -> u64 {
+        u64::from(self)
+    }
+
+    fn signed_number(self) -> i64 {
+        i64::from(self.cast_signed())
     }
 
     fn low_bits(number: u64) -> u16 {
@@ -120,16 +129,10 @@ impl Lane for u16 {
     fn difference(self, other: u16) -> u16 {
         self.wrapping_sub(other)
     }
-
-    ghost whole_bytes = { refl };
-
-    ghost has_bytes = { lit< tt };
 }
 
 impl Lane for u32 {
     ghost width = { w32 };
-
-    ghost size = { 4 };
 
     ghost value = { λ x. x };
 
@@ -139,6 +142,14 @@ impl Lane for u32 {
 
     fn store(self, bytes: &mut [u8], index: usize) {
         LittleEndian::write_u32(&mut bytes[4 * index..], self);
+    }
+
+    fn number(self) -> u64 {
+        u64::from(self)
+    }
+
+    fn signed_number(self) -> i64 {
+        i64::from(self.cast_signed())
     }
 
     fn low_bits(number: u64) -> u32 {
@@ -156,16 +167,10 @@ impl Lane for u32 {
     fn difference(self, other: u32) -> u32 {
         self.wrapping_sub(other)
     }
-
-    ghost whole_bytes = { refl };
-
-    ghost has_bytes = { lit< tt };
 }
 
 impl Lane for u64 {
     ghost width = { w64 };
-
-    ghost size = { 8 };
 
     ghost value = { λ x. x };
 
@@ -175,6 +180,14 @@ impl Lane for u64 {
 
     fn store(self, bytes: &mut [u8], index: usize) {
         LittleEndian::write_u64(&mut bytes[8 * index..], self);
+    }
+
+    fn number(self) -> u64 {
+        self
+    }
+
+    fn signed_number(self) -> i64 {
+        self.cast_signed()
     }
 
     fn low_bits(number: u64) -> u64 {
@@ -192,8 +205,4 @@ impl Lane for u64 {
     fn difference(self, other: u64) -> u64 {
         self.wrapping_sub(other)
     }
-
-    ghost whole_bytes = { refl };
-
-    ghost has_bytes = { lit< tt };
 }

@@ -1,34 +1,31 @@
 //! Scattered reads of a memory that is filled with a known pattern.
 ghost use Rattle.std.specs.Prelude.{◌≤◌};
 
-use rv_model::{Access, Permissions, User};
+use rv_model::{Access, PAGE_QUOTA, PAGE_SIZE, Permissions, User};
 use user_mem::Pool;
 
-/// The pages that are read, from address 0.
-const PAGES: u32 = 256;
-
-/// The bytes of a page.
-const PAGE_SIZE: u32 = 4096;
+/// The end of the bytes that are read, which begin at address 0.
+const END: u64 = PAGE_QUOTA as u64 * PAGE_SIZE;
 
 /// The user whose memory is read.
 pub(crate) fn first_user() -> Option<User> {
     User::new(1)
 }
 
-/// Maps the pages, and writes (page + offset) modulo 256 at each offset of each page. None where that is refused.
+/// Maps as many pages as a user may have, and writes (page + offset) modulo 256 at each offset of each page. None where that is refused.
 pub(crate) fn fill(pool: &mut Pool, user: User) -> Option<()> {
     let permissions = Permissions {
         read: true,
         write: true,
         execute: false,
     };
-    pool.map(user, 0, PAGES as usize, permissions).ok()?;
-    for page in 0..PAGES {
+    pool.map(user, 0, PAGE_QUOTA, permissions).ok()?;
+    for page in 0..PAGE_QUOTA {
         let mut bytes = [0; PAGE_SIZE as usize];
         for (offset, byte) in bytes.iter_mut().enumerate() {
-            *byte = ((page as usize + offset) % 256) as u8;
+            *byte = ((page + offset) % 256) as u8;
         }
-        let addr = u64::from(page * PAGE_SIZE);
+        let addr = page as u64 * PAGE_SIZE;
         pool.write(user, addr, Access::Store, &bytes).ok()?;
     }
     Some(())
@@ -42,7 +39,7 @@ pub(crate) fn sum_of_reads(pool: &Pool, user: User, width: usize, reads: u64) ->
     let mut sum = 0_u64;
     for _ in 0..reads {
         state = state.wrapping_mul(1_664_525).wrapping_add(1_013_904_223);
-        let addr = u64::from((state >> 8) % (PAGES * PAGE_SIZE - 8));
+        let addr = u64::from(state >> 8) % (END - 8);
         let mut bytes = [0; 8];
         pool.read(user, addr, Access::Load, &mut bytes[..width])
             .ok()?;

@@ -10,29 +10,51 @@ fn user(number: u8) -> Result<Tag, Fail> {
     Ok(Tag::User(User::new(number).ok_or("no such user")?))
 }
 
+fn memory_command(line: &[u8]) -> Result<MemoryCommand, Fail> {
+    match parse(line) {
+        Ok(Cmd::Memory(command)) => Ok(command),
+        _ => Err("no command on memory")?,
+    }
+}
+
+fn register_command(line: &[u8]) -> Result<RegisterCommand, Fail> {
+    match parse(line) {
+        Ok(Cmd::Registers(command)) => Ok(command),
+        _ => Err("no command on registers")?,
+    }
+}
+
+fn running_command(line: &[u8]) -> Result<RunningCommand, Fail> {
+    match parse(line) {
+        Ok(Cmd::Running(command)) => Ok(command),
+        _ => Err("no command that runs")?,
+    }
+}
+
 #[test]
-fn parses_commands_that_enter_map_write_and_run(rt: HostRuntime) {
+fn parses_commands_that_enter_map_write_and_run(rt: HostRuntime) -> Result<(), Fail> {
     assert!(rt; matches!(parse(b"enter"), Ok(Cmd::Entering(EnteringCommand::Enter))));
     assert!(rt; matches!(parse(b"regs"), Ok(Cmd::Registers(RegisterCommand::Regs))));
-    match parse(b" step  256 ") {
-        Ok(Cmd::Running(RunningCommand::Step(count))) => assert_eq!(rt; count.get(), 256),
+    match running_command(b" step  256 ")? {
+        RunningCommand::Step(count) => assert_eq!(rt; count.get(), 256),
         _ => assert!(rt; false, "step"),
     }
-    match parse(b"map fffffffff000 1 rx") {
-        Ok(Cmd::Memory(MemoryCommand::Map { pages, permissions })) => {
+    match memory_command(b"map fffffffff000 1 rx")? {
+        MemoryCommand::Map { pages, permissions } => {
             assert_eq!(rt; pages.first(), 0xf_ffff_ffff);
             assert_eq!(rt; pages.count(), 1);
             assert!(rt; permissions.read && !permissions.write && permissions.execute);
         }
         _ => assert!(rt; false, "map"),
     }
-    match parse(b"poke 1FfE d772050d") {
-        Ok(Cmd::Memory(MemoryCommand::Poke { addr, bytes })) => {
+    match memory_command(b"poke 1FfE d772050d")? {
+        MemoryCommand::Poke { addr, bytes } => {
             assert_eq!(rt; addr, 0x1ffe);
             assert_eq!(rt; bytes.as_slice(), [0xd7, 0x72, 0x05, 0x0d].as_slice());
         }
         _ => assert!(rt; false, "poke"),
     }
+    Ok(())
 }
 
 #[test]
@@ -81,46 +103,39 @@ fn prints_instructions(rt: HostRuntime) -> Result<(), Fail> {
 }
 
 #[test]
-fn parses_commands_that_look_and_set(rt: HostRuntime) {
+fn parses_commands_that_look_and_set(rt: HostRuntime) -> Result<(), Fail> {
     assert!(rt; matches!(parse(b"leave"), Ok(Cmd::Entering(EnteringCommand::Leave))));
-    assert!(rt; matches!(parse(b"vcsr"), Ok(Cmd::Registers(RegisterCommand::Vcsr))));
-    assert!(rt; matches!(parse(b"state"), Ok(Cmd::Running(RunningCommand::State))));
-    assert!(rt; matches!(parse(b"trace"), Ok(Cmd::Running(RunningCommand::Trace))));
-    assert!(rt;
-        matches!(
-            parse(b"setpc 1000C"),
-            Ok(Cmd::Registers(RegisterCommand::SetPc(0x1000c)))
-        )
-    );
-    match parse(b"peek fFf 256") {
-        Ok(Cmd::Memory(MemoryCommand::Peek { addr, count })) => {
+    assert!(rt; matches!(running_command(b"state")?, RunningCommand::State));
+    assert!(rt; matches!(running_command(b"trace")?, RunningCommand::Trace));
+    match memory_command(b"peek fFf 256")? {
+        MemoryCommand::Peek { addr, count } => {
             assert_eq!(rt; addr, 0xfff);
             assert_eq!(rt; count.get(), 256);
         }
         _ => assert!(rt; false, "peek"),
     }
+    assert!(rt; matches!(register_command(b"vcsr")?, RegisterCommand::Vcsr));
     assert!(rt;
         matches!(
-            parse(b"set x31 Ab"),
-            Ok(Cmd::Registers(RegisterCommand::Set { value: 0xab, .. }))
+            register_command(b"setpc 1000C")?,
+            RegisterCommand::SetPc(0x1000c)
         )
     );
+    let set = register_command(b"set x31 Ab")?;
+    assert!(rt; matches!(set, RegisterCommand::Set { value: 0xab, .. }));
+    let vreg = register_command(b"vreg v0 64")?;
     assert!(rt;
         matches!(
-            parse(b"vreg v0 64"),
-            Ok(Cmd::Registers(RegisterCommand::Vreg {
+            vreg,
+            RegisterCommand::Vreg {
                 width: Sew::E64,
                 ..
-            },),)
+            }
         )
     );
-    let line = b"vset v31 000102030405060708090a0b0c0d0e0f101112131415161718191a1b1c1d1eFF";
-    assert!(rt;
-        matches!(
-            parse(line),
-            Ok(Cmd::Registers(RegisterCommand::Vset { .. }))
-        )
-    );
+    let vset = b"vset v31 000102030405060708090a0b0c0d0e0f101112131415161718191a1b1c1d1eFF";
+    assert!(rt; matches!(register_command(vset)?, RegisterCommand::Vset { .. }));
+    Ok(())
 }
 
 #[test]

@@ -5,9 +5,9 @@ ghost use Rattle.std.specs.List.{list_all};
 ghost use Rattle.rv_model.specs.legality.RegisterOperands.{allows, are_legal, eew, end, is_group, is_mask, is_width, may_overlap, overlaps};
 
 use crate::groups::registers;
-use rv_model::{Content, Operand, Role};
+use rv_model::{Content, Operand, Role, VECTOR_REGISTERS};
 
-// The effective element width in bits.
+/// The effective element width in bits.
 fn eew(content: Content) -> u16
     ensures { result ≡ eew content }
 {
@@ -17,6 +17,7 @@ fn eew(content: Content) -> u16
     }
 }
 
+/// Whether elements have 8 to 64 bits.
 fn is_width(content: Content) -> bool
     ensures { result ≡ is_width content }
 {
@@ -26,6 +27,7 @@ fn is_width(content: Content) -> bool
     }
 }
 
+/// Whether it is a mask.
 fn is_mask(content: Content) -> bool
     ensures { result ≡ is_mask content }
 {
@@ -35,7 +37,7 @@ fn is_mask(content: Content) -> bool
     }
 }
 
-// The number of the register after the last.
+/// The number of the register after the last.
 fn end(operand: &Operand) -> u64
     ensures { result ≡ end operand.now }
 {
@@ -43,6 +45,8 @@ fn end(operand: &Operand) -> u64
         + u64::from(operand.fields) * u64::from(registers(operand.emul))
 }
 
+/// Whether the multiplier is one of 1/8 to 8, for the fields together at most 8, and the registers are
+/// aligned and there.
 fn is_group(operand: &Operand) -> bool
     ensures { result ≡ is_group operand.now }
 {
@@ -51,16 +55,17 @@ fn is_group(operand: &Operand) -> bool
         && operand.emul <= 64
         && u64::from(operand.emul) * u64::from(operand.fields) <= 64
         && operand.first.number() % registers(operand.emul) == 0
-        && end(operand) <= 32
+        && end(operand) <= VECTOR_REGISTERS as u64
 }
 
+/// Whether the two have a register in common.
 fn overlaps(one: &Operand, other: &Operand) -> bool
     ensures { result ≡ overlaps one.now other.now }
 {
     u64::from(one.first.number().max(other.first.number())) < end(one).min(end(other))
 }
 
-// Whether a destination may overlap a source.
+/// Whether a destination may overlap a source.
 fn may_overlap(destination: &Operand, source: &Operand) -> bool
     ensures { result ≡ may_overlap destination.now source.now }
 {
@@ -75,6 +80,8 @@ fn may_overlap(destination: &Operand, source: &Operand) -> bool
     }
 }
 
+/// Whether what an instruction does with the registers of the first operand agrees with what it does with
+/// those of the second.
 fn allows(destination: &Operand, other: &Operand) -> bool
     ensures { result ≡ allows destination.now other.now }
 {
@@ -90,18 +97,21 @@ fn allows(destination: &Operand, other: &Operand) -> bool
     }
 }
 
+/// Whether the operand agrees with each of these.
 fn allows_all(destination: &Operand, operands: &[Operand]) -> bool
     ensures { result ≡ list_all (allows destination.now) operands.now }
 {
     operands.iter().all(|other| allows(destination, other))
 }
 
+/// Whether each is a group.
 fn are_groups(operands: &[Operand]) -> bool
     ensures { result ≡ list_all is_group operands.now }
 {
     operands.iter().all(|operand| is_group(operand))
 }
 
+/// Whether each agrees with each.
 fn are_allowed(operands: &[Operand]) -> bool
     ensures { result ≡ list_all (λ d. list_all (allows d) operands.now) operands.now }
 {

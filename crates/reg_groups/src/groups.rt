@@ -1,10 +1,10 @@
 //! The bytes of a group of vector registers ("V" Vector Extension 1.0, sections 3.2 and 3.4.2).
 ghost use Rattle.std.specs.Prelude.{◌≡◌, ◌+◌, ◌*◌, ◌≤◌, length};
 ghost use Rattle.std.specs.Borrow.{sem};
-ghost use Rattle.rv_model.specs.vector.Groups.{group_of, registers};
+ghost use Rattle.rv_model.specs.vector.Registers.{group_of, registers};
 ghost use Rattle.reg_groups.specs.GroupLending.{LendsGroup};
 
-use rv_model::{VFile, VReg};
+use rv_model::{FILE_BYTES, VECTOR_REGISTERS, VFile, VLENB, VReg};
 
 /// How many registers a group takes; `emul` is its multiplier in eighths of a register, as in each
 /// function here, and one below 1 takes a register.
@@ -15,26 +15,26 @@ pub fn registers(emul: u32) -> u32
     (emul / 8).max(1)
 }
 
-/// The bytes of a group, 32 for each register.
+/// The bytes of a group, `VLENB` for each register.
 pub fn group(file: &VFile, first: VReg, emul: u32) -> &[u8]
-    requires inside { first + registers emul ≤ 32 }
+    requires inside { first + registers emul ≤ VECTOR_REGISTERS }
     ensures value { result.now ≡ group_of file.now first emul }
-    ensures len { length result.now ≡ 32 * registers emul }
+    ensures len { length result.now ≡ VLENB * registers emul }
 {
-    let start = 32 * first.number() as usize;
-    let length = 32 * registers(emul) as usize;
+    let start = VLENB * first.number() as usize;
+    let length = VLENB * registers(emul) as usize;
     file.part(start, start + length)
 }
 
 /// The bytes of a group, for writing.
 pub fn group_mut(file: &mut VFile, first: VReg, emul: u32) -> &mut [u8]
-    requires inside { first + registers emul ≤ 32 }
+    requires inside { first + registers emul ≤ VECTOR_REGISTERS }
     ensures* writes_back { sem 𝓛 (LendsGroup file.entry first result) }
     ensures value { result.now ≡ group_of file.old first emul }
-    ensures len { length result.now ≡ 32 * registers emul }
-    ensures whole { length file.old ≡ 1024 }
+    ensures len { length result.now ≡ VLENB * registers emul }
+    ensures whole { length file.old ≡ FILE_BYTES }
 {
-    let start = 32 * first.number() as usize;
-    let length = 32 * registers(emul) as usize;
+    let start = VLENB * first.number() as usize;
+    let length = VLENB * registers(emul) as usize;
     file.part_mut(start, start + length)
 }

@@ -1,7 +1,9 @@
 //! Which vector instructions are legal.
-ghost use Rattle.std.specs.Prelude.{◌≡◌, ◌↔◌, ◌+◌, ◌≤◌, ◌<◌, true};
-ghost use Rattle.rv_model.specs.legality.Legality.{IsLegal, data_role, element_bits, extension_divisor, indexed_role, is_below_64, is_legal, is_legal_at, is_legal_untyped, is_narrow_only, is_reduction, mask_result, memory_operands, mask_operands, compress_operands, extension_operands, whole_move_operands, needs_type, operands, register_count, starts_at_zero, unit_role, untyped_operands};
+ghost use Rattle.std.specs.Prelude.{◌≡◌, ◌↔◌, ◌+◌, ◌≤◌, IsTrue, Some, None, is_none, true};
+ghost use Rattle.rv_model.specs.legality.Legality.{IsLegal, access_operands, compress_operands, data_role, extension_divisor, extension_operands, has_legal, has_wide_product, indexed_operands, indexed_role, is_below_64, is_fractional_product, is_legal, is_narrow, is_narrow_only, is_reduction, mask_logic_operands, mask_result, move_operands, operands, register_count, starts_at_zero, unit_role, whole_move_operands};
 ghost use Rattle.rv_model.specs.legality.RegisterOperands.{are_legal};
+ghost use Rattle.rv_model.specs.vector.Configuration.{element_width, sew_bits};
+ghost use Rattle.reg_groups.specs.Accesses.{is_typed_access};
 
 use crate::agreement::are_legal;
 use crate::operands::{group, mask, segment, v0, whole};
@@ -10,20 +12,16 @@ use rv_model::instructions::operations::{
     BinaryOp, Direction, ExtendOp, FixedPointOp, MaskUnaryOp, RegisterCount, UnitOp, VectorOp,
     Width,
 };
-use rv_model::{Field, Instr, Operand, Role, Shape, VConf, VReg, VType};
+use rv_model::{Field, Instr, Operand, Role, Sew, Shape, Source, VConf, VReg, VType};
 
-// The width of memory elements, or of indices, in bits.
+/// The width of memory elements, or of indices, in bits.
 fn element_bits(width: Width) -> u16
-    ensures { result ≡ element_bits width }
+    ensures { result ≡ sew_bits (element_width width) }
 {
-    match width {
-        Width::E8 => 8,
-        Width::E16 => 16,
-        Width::E32 => 32,
-        Width::E64 => 64,
-    }
+    Sew::from_width(width).bits()
 }
 
+/// How many whole registers.
 fn register_count(count: RegisterCount) -> u8
     ensures { result ≡ register_count count }
 {
@@ -35,6 +33,7 @@ fn register_count(count: RegisterCount) -> u8
     }
 }
 
+/// Which part of SEW the source of an extension has: SEW divided by this.
 fn extension_divisor(op: ExtendOp) -> u16
     ensures value { result ≡ extension_divisor op }
     ensures some { 1 ≤ result }
@@ -46,13 +45,14 @@ fn extension_divisor(op: ExtendOp) -> u16
     }
 }
 
-// How many fields `nf` says.
+/// How many fields `nf` says.
 fn fields(nf: Field<3>) -> u8
     ensures { result ≡ nf + 1 }
 {
     nf.value() as u8 + 1
 }
 
+/// What a load or store does with its data registers.
 fn data_role(direction: Direction) -> Role
     ensures { result ≡ data_role direction }
 {
@@ -62,6 +62,7 @@ fn data_role(direction: Direction) -> Role
     }
 }
 
+/// What a unit-stride access does with its data registers.
 fn unit_role(op: UnitOp) -> Role
     ensures { result ≡ unit_role op }
 {
@@ -71,6 +72,8 @@ fn unit_role(op: UnitOp) -> Role
     }
 }
 
+/// What an indexed access does with its data registers: the fields of a segment load may not overlap the
+/// indices.
 fn indexed_role(direction: Direction, nf: Field<3>) -> Role
     ensures { result ≡ indexed_role direction nf }
 {
@@ -86,6 +89,7 @@ fn indexed_role(direction: Direction, nf: Field<3>) -> Role
     }
 }
 
+/// The destination of an operation on one mask.
 fn mask_result(op: MaskUnaryOp, vd: VReg, vtype: VType) -> Operand
     ensures { result ≡ mask_result op vd vtype }
 {
@@ -95,83 +99,7 @@ fn mask_result(op: MaskUnaryOp, vd: VReg, vtype: VType) -> Operand
     }
 }
 
-// Whether the operands are legal that no vector type changes.
-fn has_legal_untyped_operands(instr: &Instr) -> bool
-    ensures { result ≡ are_legal (untyped_operands instr.now) }
-{
-    match *instr {
-        Instr::WholeLoad {
-            count,
-            width,
-            vd,
-            ..
-        } => are_legal(&[whole(Role::Write, register_count(count), vd, element_bits(width))]),
-        Instr::WholeStore { count, vd, .. } => {
-            are_legal(&[whole(Role::Read, register_count(count), vd, 8)])
-        }
-        _ => are_legal(&[]),
-    }
-}
-
-// Whether the operands of a load or store are legal.
-#[tactic(auto, unfolding(rv_model::specs::legality::Legality::memory_operands))]
-fn has_legal_memory_operands(instr: &Instr, vtype: VType) -> bool
-    ensures { result ≡ are_legal (memory_operands instr.now vtype) }
-{
-    match *instr {
-        Instr::VectorUnit {
-            op,
-            width,
-            nf,
-            vd,
-            vm,
-            ..
-        } => are_legal(&[
-            segment(unit_role(op), fields(nf), vd, element_bits(width), vtype),
-            v0(vm),
-        ]),
-        Instr::VectorStrided {
-            direction,
-            width,
-            nf,
-            vd,
-            vm,
-            ..
-        } => are_legal(&[
-            segment(
-                data_role(direction),
-                fields(nf),
-                vd,
-                element_bits(width),
-                vtype,
-            ),
-            v0(vm),
-        ]),
-        Instr::VectorIndexed {
-            direction,
-            width,
-            nf,
-            vd,
-            vs2,
-            vm,
-            ..
-        } => are_legal(&[
-            segment(
-                indexed_role(direction, nf),
-                fields(nf),
-                vd,
-                vtype.sew.bits(),
-                vtype,
-            ),
-            group(Role::Read, vs2, element_bits(width), vtype),
-            v0(vm),
-        ]),
-        Instr::MaskMemory { direction, vd, .. } => are_legal(&[mask(data_role(direction), vd)]),
-        _ => has_legal_untyped_operands(instr),
-    }
-}
-
-// Whether the operands of an extension are legal.
+/// Whether the operands of an extension are legal.
 fn is_legal_extension(op: ExtendOp, vd: VReg, vs2: VReg, unmasked: bool, vtype: VType) -> bool
     ensures { result ≡ are_legal (extension_operands op vd vs2 unmasked vtype) }
 {
@@ -183,7 +111,28 @@ fn is_legal_extension(op: ExtendOp, vd: VReg, vs2: VReg, unmasked: bool, vtype: 
     ])
 }
 
-// Whether the operands of a compression are legal.
+/// Whether the operands of a move of one group are legal.
+fn is_legal_move(source: Source, vd: VReg, vtype: VType) -> bool
+    ensures { result ≡ are_legal (move_operands source vd vtype) }
+{
+    are_legal(&[
+        destination(Shape::Single, vd, vtype),
+        second_source(Shape::Single, source, vtype),
+    ])
+}
+
+/// Whether the operands of logic on masks are legal.
+fn is_legal_mask_logic(vd: VReg, vs1: VReg, vs2: VReg) -> bool
+    ensures { result ≡ are_legal (mask_logic_operands vd vs1 vs2) }
+{
+    are_legal(&[
+        mask(Role::Write, vd),
+        mask(Role::Read, vs2),
+        mask(Role::Read, vs1),
+    ])
+}
+
+/// Whether the operands of a compression are legal.
 fn is_legal_compression(vd: VReg, vs1: VReg, vs2: VReg, vtype: VType) -> bool
     ensures { result ≡ are_legal (compress_operands vd vs1 vs2 vtype) }
 {
@@ -195,7 +144,7 @@ fn is_legal_compression(vd: VReg, vs1: VReg, vs2: VReg, vtype: VType) -> bool
     ])
 }
 
-// Whether the operands of a move of whole registers are legal.
+/// Whether the operands of a move of whole registers are legal.
 fn is_legal_whole_move(count: RegisterCount, vd: VReg, vs2: VReg, vtype: VType) -> bool
     ensures { result ≡ are_legal (whole_move_operands count vd vs2 vtype) }
 {
@@ -207,64 +156,68 @@ fn is_legal_whole_move(count: RegisterCount, vd: VReg, vs2: VReg, vtype: VType) 
     ])
 }
 
-// Whether the operands of an instruction on masks are legal; of any other, whether those of a load or
-// store are.
-#[tactic(auto, unfolding(rv_model::specs::legality::Legality::mask_operands))]
-fn has_legal_mask_operands(instr: &Instr, vtype: VType) -> bool
-    ensures { result ≡ are_legal (mask_operands instr.now vtype) }
+/// Whether the operands of a unit-stride or strided access are legal.
+fn is_legal_access(
+    role: Role,
+    width: Width,
+    nf: Field<3>,
+    vd: VReg,
+    unmasked: bool,
+    vtype: VType,
+) -> bool
+    ensures { result ≡ are_legal (access_operands role width nf vd unmasked vtype) }
 {
-    match *instr {
-        Instr::MaskLogic { vd, vs1, vs2, .. } => are_legal(&[
-            mask(Role::Write, vd),
-            mask(Role::Read, vs2),
-            mask(Role::Read, vs1),
-        ]),
-        Instr::MaskToScalar { vs2, vm, .. } => are_legal(&[mask(Role::Read, vs2), v0(vm)]),
-        Instr::MaskUnary { op, vd, vs2, vm } => are_legal(&[
-            mask_result(op, vd, vtype),
-            mask(Role::Read, vs2),
-            v0(vm),
-        ]),
-        _ => has_legal_memory_operands(instr, vtype),
-    }
+    are_legal(&[
+        segment(role, fields(nf), vd, element_bits(width), vtype),
+        v0(unmasked),
+    ])
 }
 
-// Whether the register operands of an instruction are legal under a vector type.
+/// Whether the operands of an indexed access are legal.
+fn is_legal_indexed(
+    direction: Direction,
+    width: Width,
+    nf: Field<3>,
+    vd: VReg,
+    vs2: VReg,
+    unmasked: bool,
+    vtype: VType,
+) -> bool
+    ensures { result ≡ are_legal (indexed_operands direction width nf vd vs2 unmasked vtype) }
+{
+    let role = indexed_role(direction, nf);
+    are_legal(&[
+        segment(role, fields(nf), vd, vtype.sew.bits(), vtype),
+        group(Role::Read, vs2, element_bits(width), vtype),
+        v0(unmasked),
+    ])
+}
+
+/// Whether an instruction needs a vector type.
 #[tactic(auto, unfolding(rv_model::specs::legality::Legality::operands))]
-fn has_legal_operands(instr: &Instr, vtype: VType) -> bool
-    ensures { result ≡ are_legal (operands instr.now vtype) }
-{
-    let sew = vtype.sew.bits();
-    match *instr {
-        Instr::VectorArith { arith, vd, vs2, vm } => {
-            let (op, source) = arith.parts();
-            is_legal_shape(shape_of(op), vd, vs2, source, vm, vtype)
-        }
-        Instr::VectorCarry { carry, vd, vs2 } => {
-            let (_, source) = carry.parts();
-            is_legal_shape(Shape::Single, vd, vs2, source, false, vtype)
-        }
-        Instr::VectorMove { source, vd } => are_legal(&[
-            destination(Shape::Single, vd, vtype),
-            second_source(Shape::Single, source, vtype),
-        ]),
-        Instr::WholeMove { count, vd, vs2 } => is_legal_whole_move(count, vd, vs2, vtype),
-        Instr::Compress { vd, vs1, vs2 } => is_legal_compression(vd, vs1, vs2, vtype),
-        Instr::VectorExtend { op, vd, vs2, vm } => is_legal_extension(op, vd, vs2, vm, vtype),
-        Instr::ElementIndex { vd, vm } => {
-            are_legal(&[group(Role::Write, vd, sew, vtype), v0(vm)])
-        }
-        Instr::MoveToScalar { vs2, .. } => are_legal(&[whole(Role::Read, 1, vs2, sew)]),
-        Instr::MoveToVector { vd, .. } => are_legal(&[whole(Role::Write, 1, vd, sew)]),
-        _ => has_legal_mask_operands(instr, vtype),
-    }
-}
-
-// Whether an instruction needs a vector type.
 fn needs_type(instr: &Instr) -> bool
-    ensures { result ≡ needs_type instr.now }
+    ensures { result ≡ is_none (operands instr.now None) }
 {
     match *instr {
+        Instr::Upper { .. }
+        | Instr::Jump { .. }
+        | Instr::JumpRegister { .. }
+        | Instr::Branch { .. }
+        | Instr::Load { .. }
+        | Instr::Store { .. }
+        | Instr::RegisterImmediate { .. }
+        | Instr::ShiftImmediate { .. }
+        | Instr::ShiftImmediateWord { .. }
+        | Instr::RegisterRegister { .. }
+        | Instr::Fence { .. }
+        | Instr::System { .. }
+        | Instr::Csr { .. }
+        | Instr::CsrImmediate { .. }
+        | Instr::SetVli { .. }
+        | Instr::SetIvli { .. }
+        | Instr::SetVl { .. }
+        | Instr::WholeLoad { .. }
+        | Instr::WholeStore { .. } => false,
         Instr::VectorArith { .. }
         | Instr::VectorCarry { .. }
         | Instr::VectorMove { .. }
@@ -281,20 +234,117 @@ fn needs_type(instr: &Instr) -> bool
         | Instr::VectorStrided { .. }
         | Instr::VectorIndexed { .. }
         | Instr::MaskMemory { .. } => true,
+    }
+}
+
+/// Whether an instruction may have its operands without a vector type: not if it needs one.
+#[tactic(auto, unfolding(rv_model::specs::legality::Legality::operands, rv_model::specs::legality::RegisterOperands::are_legal))]
+fn has_legal_untyped_operands(instr: &Instr) -> bool
+    ensures { result ≡ has_legal (operands instr.now None) }
+{
+    match *instr {
+        Instr::WholeLoad {
+            count,
+            width,
+            vd,
+            ..
+        } => are_legal(&[whole(Role::Write, register_count(count), vd, element_bits(width))]),
+        Instr::WholeStore { count, vd, .. } => {
+            are_legal(&[whole(Role::Read, register_count(count), vd, 8)])
+        }
+        _ => !needs_type(instr),
+    }
+}
+
+/// Whether a load or store that needs a vector type may have its operands.
+#[tactic(auto, unfolding(rv_model::specs::legality::Legality::operands))]
+fn has_legal_memory_operands(instr: &Instr, vtype: VType) -> bool
+    requires { IsTrue (is_typed_access instr.now) }
+    ensures { result ≡ has_legal (operands instr.now (Some vtype)) }
+{
+    match *instr {
+        Instr::VectorUnit {
+            op,
+            width,
+            nf,
+            vd,
+            vm,
+            ..
+        } => is_legal_access(unit_role(op), width, nf, vd, vm, vtype),
+        Instr::VectorStrided {
+            direction,
+            width,
+            nf,
+            vd,
+            vm,
+            ..
+        } => is_legal_access(data_role(direction), width, nf, vd, vm, vtype),
+        Instr::VectorIndexed {
+            direction,
+            width,
+            nf,
+            vd,
+            vs2,
+            vm,
+            ..
+        } => is_legal_indexed(direction, width, nf, vd, vs2, vm, vtype),
+        Instr::MaskMemory { direction, vd, .. } => are_legal(&[mask(data_role(direction), vd)]),
         _ => false,
     }
 }
 
+/// Whether an instruction may have its operands under a vector type.
+#[tactic(auto, unfolding(rv_model::specs::legality::Legality::operands))]
+fn has_legal_operands(instr: &Instr, vtype: VType) -> bool
+    ensures { result ≡ has_legal (operands instr.now (Some vtype)) }
+{
+    let sew = vtype.sew.bits();
+    match *instr {
+        Instr::VectorArith { arith, vd, vs2, vm } => {
+            let (op, source) = arith.parts();
+            is_legal_shape(shape_of(op), vd, vs2, source, vm, vtype)
+        }
+        Instr::VectorCarry { carry, vd, vs2 } => {
+            let (_, source) = carry.parts();
+            is_legal_shape(Shape::Single, vd, vs2, source, false, vtype)
+        }
+        Instr::VectorMove { source, vd } => is_legal_move(source, vd, vtype),
+        Instr::WholeMove { count, vd, vs2 } => is_legal_whole_move(count, vd, vs2, vtype),
+        Instr::MaskLogic { vd, vs1, vs2, .. } => is_legal_mask_logic(vd, vs1, vs2),
+        Instr::Compress { vd, vs1, vs2 } => is_legal_compression(vd, vs1, vs2, vtype),
+        Instr::MaskToScalar { vs2, vm, .. } => are_legal(&[mask(Role::Read, vs2), v0(vm)]),
+        Instr::VectorExtend { op, vd, vs2, vm } => is_legal_extension(op, vd, vs2, vm, vtype),
+        Instr::MaskUnary { op, vd, vs2, vm } => {
+            are_legal(&[mask_result(op, vd, vtype), mask(Role::Read, vs2), v0(vm)])
+        }
+        Instr::ElementIndex { vd, vm } => are_legal(&[group(Role::Write, vd, sew, vtype), v0(vm)]),
+        Instr::MoveToScalar { vs2, .. } => are_legal(&[whole(Role::Read, 1, vs2, sew)]),
+        Instr::MoveToVector { vd, .. } => are_legal(&[whole(Role::Write, 1, vd, sew)]),
+        Instr::VectorUnit { .. }
+        | Instr::VectorStrided { .. }
+        | Instr::VectorIndexed { .. }
+        | Instr::MaskMemory { .. } => has_legal_memory_operands(instr, vtype),
+        _ => has_legal_untyped_operands(instr),
+    }
+}
+
+/// Whether it is a reduction.
 fn is_reduction(op: VectorOp) -> bool
     ensures { result ≡ is_reduction op }
 {
     match op {
         VectorOp::Reduce(_) => true,
-        _ => false,
+        VectorOp::Binary(_)
+        | VectorOp::Compare(_)
+        | VectorOp::FixedPoint(_)
+        | VectorOp::Narrow(_)
+        | VectorOp::Widen(_)
+        | VectorOp::MultiplyAdd(_)
+        | VectorOp::Permute(_) => false,
     }
 }
 
-// Whether an instruction has to begin with element 0.
+/// Whether an instruction has to begin with element 0.
 fn starts_at_zero(instr: &Instr) -> bool
     ensures { result ≡ starts_at_zero instr.now }
 {
@@ -308,17 +358,43 @@ fn starts_at_zero(instr: &Instr) -> bool
     }
 }
 
-fn is_narrow_only(op: VectorOp) -> bool
-    ensures { result ≡ is_narrow_only op }
+/// Whether it is an upper half of a product.
+fn has_wide_product(op: BinaryOp) -> bool
+    ensures { result ≡ has_wide_product op }
 {
     match op {
-        VectorOp::Binary(BinaryOp::Vmulhu | BinaryOp::Vmulhsu | BinaryOp::Vmulh) => true,
-        VectorOp::FixedPoint(FixedPointOp::Vsmul) => true,
+        BinaryOp::Vmulhu | BinaryOp::Vmulhsu | BinaryOp::Vmulh => true,
         _ => false,
     }
 }
 
-// Whether there is the instruction for SEW below 64 alone.
+/// Whether it is a fractional product.
+fn is_fractional_product(op: FixedPointOp) -> bool
+    ensures { result ≡ is_fractional_product op }
+{
+    match op {
+        FixedPointOp::Vsmul => true,
+        _ => false,
+    }
+}
+
+/// Whether there is the operation for SEW below 64 alone.
+fn is_narrow_only(op: VectorOp) -> bool
+    ensures { result ≡ is_narrow_only op }
+{
+    match op {
+        VectorOp::Binary(op) => has_wide_product(op),
+        VectorOp::FixedPoint(op) => is_fractional_product(op),
+        VectorOp::Compare(_)
+        | VectorOp::Narrow(_)
+        | VectorOp::Widen(_)
+        | VectorOp::MultiplyAdd(_)
+        | VectorOp::Reduce(_)
+        | VectorOp::Permute(_) => false,
+    }
+}
+
+/// Whether there is the instruction for SEW below 64 alone.
 fn is_below_64(instr: &Instr) -> bool
     ensures { result ≡ is_below_64 instr.now }
 {
@@ -331,29 +407,34 @@ fn is_below_64(instr: &Instr) -> bool
     }
 }
 
-#[tactic(auto, unfolding(rv_model::specs::legality::Legality::is_legal_at))]
-fn is_legal_at(instr: &Instr, vtype: VType, vstart: u8) -> bool
-    ensures { result ≡ is_legal_at instr.now vtype vstart }
+/// Whether an instruction has its vector type, if it needs one, and may have its operands.
+fn may_have_operands(instr: &Instr, vtype: Option<VType>) -> bool
+    ensures { result ≡ has_legal (operands instr.now vtype) }
 {
-    has_legal_operands(instr, vtype)
-        && (!starts_at_zero(instr) || vstart == 0)
-        && (!is_below_64(instr) || vtype.sew.bits() != 64)
+    match vtype {
+        Some(vtype) => has_legal_operands(instr, vtype),
+        None => has_legal_untyped_operands(instr),
+    }
 }
 
-#[tactic(auto, unfolding(rv_model::specs::legality::Legality::is_legal_untyped))]
-fn is_legal_untyped(instr: &Instr) -> bool
-    ensures { result ≡ is_legal_untyped instr.now }
+/// Whether there is a vector type with a SEW below 64.
+fn is_narrow(vtype: Option<VType>) -> bool
+    ensures { result ≡ is_narrow vtype }
 {
-    !needs_type(instr) && has_legal_untyped_operands(instr)
+    match vtype {
+        Some(vtype) => vtype.sew.bits() != 64,
+        None => false,
+    }
 }
 
+/// Whether an instruction is legal; the test that the definitions have.
+#[tactic(auto, unfolding(rv_model::specs::legality::Legality::is_legal))]
 fn is_legal(instr: &Instr, conf: &VConf, vstart: u8) -> bool
     ensures { result ≡ is_legal instr.now conf.now.vtype vstart }
 {
-    match conf.vtype() {
-        Some(vtype) => is_legal_at(instr, vtype, vstart),
-        None => is_legal_untyped(instr),
-    }
+    may_have_operands(instr, conf.vtype())
+        && (!starts_at_zero(instr) || vstart == 0)
+        && (!is_below_64(instr) || is_narrow(conf.vtype()))
 }
 
 /// Whether an instruction is legal with this vector type and vstart; the length has no part in it. Scalar

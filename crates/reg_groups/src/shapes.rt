@@ -9,6 +9,7 @@ use crate::operands::{group, mask, v0, whole};
 use rv_model::instructions::operations::{MultiplyAddOp, PermuteOp, ReduceOp, VectorOp, WidenOp};
 use rv_model::{Operand, Role, Shape, Source, VReg, VType};
 
+/// The shape of an operation whose result has twice the width.
 fn widen_shape(op: WidenOp) -> Shape
     ensures { result ≡ widen_shape op }
 {
@@ -16,10 +17,17 @@ fn widen_shape(op: WidenOp) -> Shape
         WidenOp::VwadduW | WidenOp::VwaddW | WidenOp::VwsubuW | WidenOp::VwsubW => {
             Shape::WideSource
         }
-        _ => Shape::Widening,
+        WidenOp::Vwaddu
+        | WidenOp::Vwadd
+        | WidenOp::Vwsubu
+        | WidenOp::Vwsub
+        | WidenOp::Vwmulu
+        | WidenOp::Vwmulsu
+        | WidenOp::Vwmul => Shape::Widening,
     }
 }
 
+/// The shape of an operation that adds a product.
 fn multiply_add_shape(op: MultiplyAddOp) -> Shape
     ensures { result ≡ multiply_add_shape op }
 {
@@ -28,19 +36,31 @@ fn multiply_add_shape(op: MultiplyAddOp) -> Shape
         | MultiplyAddOp::Vnmsub
         | MultiplyAddOp::Vmacc
         | MultiplyAddOp::Vnmsac => Shape::Single,
-        _ => Shape::Widening,
+        MultiplyAddOp::Vwmaccu
+        | MultiplyAddOp::Vwmacc
+        | MultiplyAddOp::Vwmaccus
+        | MultiplyAddOp::Vwmaccsu => Shape::Widening,
     }
 }
 
+/// The shape of a reduction.
 fn reduce_shape(op: ReduceOp) -> Shape
     ensures { result ≡ reduce_shape op }
 {
     match op {
+        ReduceOp::Vredsum
+        | ReduceOp::Vredand
+        | ReduceOp::Vredor
+        | ReduceOp::Vredxor
+        | ReduceOp::Vredminu
+        | ReduceOp::Vredmin
+        | ReduceOp::Vredmaxu
+        | ReduceOp::Vredmax => Shape::Reduction,
         ReduceOp::Vwredsumu | ReduceOp::Vwredsum => Shape::WideReduction,
-        _ => Shape::Reduction,
     }
 }
 
+/// The shape of an operation that moves elements.
 fn permute_shape(op: PermuteOp) -> Shape
     ensures { result ≡ permute_shape op }
 {
@@ -81,16 +101,24 @@ pub(crate) fn destination(shape: Shape, vd: VReg, vtype: VType) -> Operand
     }
 }
 
+/// What `vs2` is to an operation of this shape.
 fn first_source(shape: Shape, vs2: VReg, vtype: VType) -> Operand
     ensures { result ≡ first_source shape vs2 vtype }
 {
     let sew = vtype.sew.bits();
     match shape {
         Shape::WideSource | Shape::Narrowing => group(Role::Read, vs2, 2 * sew, vtype),
-        _ => group(Role::Read, vs2, sew, vtype),
+        Shape::Single
+        | Shape::Widening
+        | Shape::Compare
+        | Shape::Gather
+        | Shape::GatherIndices16
+        | Shape::Reduction
+        | Shape::WideReduction => group(Role::Read, vs2, sew, vtype),
     }
 }
 
+/// What `vs1` is to an operation of this shape.
 fn vector_source(shape: Shape, vs1: VReg, vtype: VType) -> Operand
     ensures { result ≡ vector_source shape vs1 vtype }
 {
@@ -99,7 +127,12 @@ fn vector_source(shape: Shape, vs1: VReg, vtype: VType) -> Operand
         Shape::GatherIndices16 => group(Role::Read, vs1, 16, vtype),
         Shape::Reduction => whole(Role::Read, 1, vs1, sew),
         Shape::WideReduction => whole(Role::Read, 1, vs1, 2 * sew),
-        _ => group(Role::Read, vs1, sew, vtype),
+        Shape::Single
+        | Shape::Widening
+        | Shape::WideSource
+        | Shape::Narrowing
+        | Shape::Compare
+        | Shape::Gather => group(Role::Read, vs1, sew, vtype),
     }
 }
 

@@ -12,44 +12,44 @@ use Rattle.rv_model.proofs.instruction_lemmas.Parts.{of_word}
 use Rattle.rv_model.proofs.assembler_lemmas.Operands.{field_below}
 
 -- a piece that is a field already
-whole : (low len w : ℕ) → part low len (field low len w % 2 ^ len) ≡ part low len (field low len w)
-whole low len w = ap (part low len) (mod-eq_of_lt (field_below low len w))
+same_part : (low len w : ℕ) → part low len (field low len w % 2 ^ len) ≡ part low len (field low len w)
+same_part low len w = ap (part low len) (mod-eq_of_lt (field_below low len w))
 
-two : {a b c d : Part} → a ≡ b → c ≡ d → a ∷ c ∷ [] ≡ b ∷ d ∷ []
-two h k = ap₂ (λ (x y : Part). x ∷ y ∷ []) h k
+two_same_parts : {a b c d : Part} → a ≡ b → c ≡ d → a ∷ c ∷ [] ≡ b ∷ d ∷ []
+two_same_parts h k = ap₂ (λ (x y : Part). x ∷ y ∷ []) h k
 
-four : {a b c d e f g h : Part} → a ≡ b → c ≡ d → e ≡ f → g ≡ h → a ∷ c ∷ e ∷ g ∷ [] ≡ b ∷ d ∷ f ∷ h ∷ []
-four {b = b} {c = c} {d = d} {e = e} {f = f} {g = g} h k l m = ap₂ (λ (x y : Part). x ∷ y ∷ e ∷ g ∷ []) h k ∙ ap₂ (λ (x y : Part). b ∷ d ∷ x ∷ y ∷ []) l m
+four_same_parts : {a b c d e f g h : Part} → a ≡ b → c ≡ d → e ≡ f → g ≡ h → a ∷ c ∷ e ∷ g ∷ [] ≡ b ∷ d ∷ f ∷ h ∷ []
+four_same_parts {b = b} {c = c} {d = d} {e = e} {f = f} {g = g} h k l m = ap₂ (λ (x y : Part). x ∷ y ∷ e ∷ g ∷ []) h k ∙ ap₂ (λ (x y : Part). b ∷ d ∷ x ∷ y ∷ []) l m
 
-store_high : (a b : ℕ) → a < 2 ^ 5 → b < 2 ^ 7 → (a + b * 2 ^ 5) / 2 ^ 5 % 2 ^ 7 ≡ b
-store_high a b h k = omega arith
+high_piece_of_store_offset : (a b : ℕ) → a < 2 ^ 5 → b < 2 ^ 7 → (a + b * 2 ^ 5) / 2 ^ 5 % 2 ^ 7 ≡ b
+high_piece_of_store_offset a b h k = omega arith
 
-store_low : (a b : ℕ) → a < 2 ^ 5 → (a + b * 2 ^ 5) % 2 ^ 5 ≡ a
-store_low a b h = omega arith
+low_piece_of_store_offset : (a b : ℕ) → a < 2 ^ 5 → (a + b * 2 ^ 5) % 2 ^ 5 ≡ a
+low_piece_of_store_offset a b h = omega arith
 
-branch_12 : (a b c d : ℕ) → a < 2 ^ 4 → b < 2 ^ 6 → c < 2 ^ 1 → d < 2 ^ 1 → (a + b * 2 ^ 4 + c * 2 ^ 10 + d * 2 ^ 11) / 2 ^ 11 % 2 ^ 1 ≡ d
-branch_12 a b c d ha hb hc hd = omega arith
+bit_12_of_branch_offset : (a b c d : ℕ) → a < 2 ^ 4 → b < 2 ^ 6 → c < 2 ^ 1 → d < 2 ^ 1 → (a + b * 2 ^ 4 + c * 2 ^ 10 + d * 2 ^ 11) / 2 ^ 11 % 2 ^ 1 ≡ d
+bit_12_of_branch_offset a b c d ha hb hc hd = omega arith
 
-branch_10 : (a b c d : ℕ) → a < 2 ^ 4 → b < 2 ^ 6 → (a + b * 2 ^ 4 + c * 2 ^ 10 + d * 2 ^ 11) / 2 ^ 4 % 2 ^ 6 ≡ b
-branch_10 a b c d ha hb = omega arith
+bits_10_to_5_of_branch_offset : (a b c d : ℕ) → a < 2 ^ 4 → b < 2 ^ 6 → (a + b * 2 ^ 4 + c * 2 ^ 10 + d * 2 ^ 11) / 2 ^ 4 % 2 ^ 6 ≡ b
+bits_10_to_5_of_branch_offset a b c d ha hb = omega arith
 
-branch_4 : (a b c d : ℕ) → a < 2 ^ 4 → (a + b * 2 ^ 4 + c * 2 ^ 10 + d * 2 ^ 11) % 2 ^ 4 ≡ a
-branch_4 a b c d ha = omega arith
+bits_4_to_1_of_branch_offset : (a b c d : ℕ) → a < 2 ^ 4 → (a + b * 2 ^ 4 + c * 2 ^ 10 + d * 2 ^ 11) % 2 ^ 4 ≡ a
+bits_4_to_1_of_branch_offset a b c d ha = omega arith
 
-branch_11 : (a b c d : ℕ) → a < 2 ^ 4 → b < 2 ^ 6 → c < 2 ^ 1 → (a + b * 2 ^ 4 + c * 2 ^ 10 + d * 2 ^ 11) / 2 ^ 10 % 2 ^ 1 ≡ c
-branch_11 a b c d ha hb hc = omega arith
+bit_11_of_branch_offset : (a b c d : ℕ) → a < 2 ^ 4 → b < 2 ^ 6 → c < 2 ^ 1 → (a + b * 2 ^ 4 + c * 2 ^ 10 + d * 2 ^ 11) / 2 ^ 10 % 2 ^ 1 ≡ c
+bit_11_of_branch_offset a b c d ha hb hc = omega arith
 
-jump_20 : (a b c d : ℕ) → a < 2 ^ 10 → b < 2 ^ 1 → c < 2 ^ 8 → d < 2 ^ 1 → (a + b * 2 ^ 10 + c * 2 ^ 11 + d * 2 ^ 19) / 2 ^ 19 % 2 ^ 1 ≡ d
-jump_20 a b c d ha hb hc hd = omega arith
+bit_20_of_jump_offset : (a b c d : ℕ) → a < 2 ^ 10 → b < 2 ^ 1 → c < 2 ^ 8 → d < 2 ^ 1 → (a + b * 2 ^ 10 + c * 2 ^ 11 + d * 2 ^ 19) / 2 ^ 19 % 2 ^ 1 ≡ d
+bit_20_of_jump_offset a b c d ha hb hc hd = omega arith
 
-jump_10 : (a b c d : ℕ) → a < 2 ^ 10 → (a + b * 2 ^ 10 + c * 2 ^ 11 + d * 2 ^ 19) % 2 ^ 10 ≡ a
-jump_10 a b c d ha = omega arith
+bits_10_to_1_of_jump_offset : (a b c d : ℕ) → a < 2 ^ 10 → (a + b * 2 ^ 10 + c * 2 ^ 11 + d * 2 ^ 19) % 2 ^ 10 ≡ a
+bits_10_to_1_of_jump_offset a b c d ha = omega arith
 
-jump_11 : (a b c d : ℕ) → a < 2 ^ 10 → b < 2 ^ 1 → (a + b * 2 ^ 10 + c * 2 ^ 11 + d * 2 ^ 19) / 2 ^ 10 % 2 ^ 1 ≡ b
-jump_11 a b c d ha hb = omega arith
+bit_11_of_jump_offset : (a b c d : ℕ) → a < 2 ^ 10 → b < 2 ^ 1 → (a + b * 2 ^ 10 + c * 2 ^ 11 + d * 2 ^ 19) / 2 ^ 10 % 2 ^ 1 ≡ b
+bit_11_of_jump_offset a b c d ha hb = omega arith
 
-jump_19 : (a b c d : ℕ) → a < 2 ^ 10 → b < 2 ^ 1 → c < 2 ^ 8 → (a + b * 2 ^ 10 + c * 2 ^ 11 + d * 2 ^ 19) / 2 ^ 11 % 2 ^ 8 ≡ c
-jump_19 a b c d ha hb hc = omega arith
+bits_19_to_12_of_jump_offset : (a b c d : ℕ) → a < 2 ^ 10 → b < 2 ^ 1 → c < 2 ^ 8 → (a + b * 2 ^ 10 + c * 2 ^ 11 + d * 2 ^ 19) / 2 ^ 11 % 2 ^ 8 ≡ c
+bits_19_to_12_of_jump_offset a b c d ha hb hc = omega arith
 
 branch_parts : (w : ℕ) → parts_of (Signed signed.Branch) (branch_offset w) ≡ part 31 1 (field 31 1 w) ∷ part 25 6 (field 25 6 w) ∷ part 8 4 (field 8 4 w) ∷ part 7 1 (field 7 1 w) ∷ []
 branch_parts w =
@@ -57,10 +57,10 @@ branch_parts w =
     let b = field 25 6 w in
     let c = field 7 1 w in
     let d = field 31 1 w in
-    four (ap (part 31 1) (branch_12 a b c d (field_below 8 4 w) (field_below 25 6 w) (field_below 7 1 w) (field_below 31 1 w)))
-    (ap (part 25 6) (branch_10 a b c d (field_below 8 4 w) (field_below 25 6 w)))
-    (ap (part 8 4) (branch_4 a b c d (field_below 8 4 w)))
-    (ap (part 7 1) (branch_11 a b c d (field_below 8 4 w) (field_below 25 6 w) (field_below 7 1 w)))
+    four_same_parts (ap (part 31 1) (bit_12_of_branch_offset a b c d (field_below 8 4 w) (field_below 25 6 w) (field_below 7 1 w) (field_below 31 1 w)))
+    (ap (part 25 6) (bits_10_to_5_of_branch_offset a b c d (field_below 8 4 w) (field_below 25 6 w)))
+    (ap (part 8 4) (bits_4_to_1_of_branch_offset a b c d (field_below 8 4 w)))
+    (ap (part 7 1) (bit_11_of_branch_offset a b c d (field_below 8 4 w) (field_below 25 6 w) (field_below 7 1 w)))
 
 jump_parts : (w : ℕ) → parts_of (Signed signed.Jump) (jump_offset w) ≡ part 31 1 (field 31 1 w) ∷ part 21 10 (field 21 10 w) ∷ part 20 1 (field 20 1 w) ∷ part 12 8 (field 12 8 w) ∷ []
 jump_parts w =
@@ -68,35 +68,35 @@ jump_parts w =
     let b = field 20 1 w in
     let c = field 12 8 w in
     let d = field 31 1 w in
-    four (ap (part 31 1) (jump_20 a b c d (field_below 21 10 w) (field_below 20 1 w) (field_below 12 8 w) (field_below 31 1 w)))
-    (ap (part 21 10) (jump_10 a b c d (field_below 21 10 w)))
-    (ap (part 20 1) (jump_11 a b c d (field_below 21 10 w) (field_below 20 1 w)))
-    (ap (part 12 8) (jump_19 a b c d (field_below 21 10 w) (field_below 20 1 w) (field_below 12 8 w)))
+    four_same_parts (ap (part 31 1) (bit_20_of_jump_offset a b c d (field_below 21 10 w) (field_below 20 1 w) (field_below 12 8 w) (field_below 31 1 w)))
+    (ap (part 21 10) (bits_10_to_1_of_jump_offset a b c d (field_below 21 10 w)))
+    (ap (part 20 1) (bit_11_of_jump_offset a b c d (field_below 21 10 w) (field_below 20 1 w)))
+    (ap (part 12 8) (bits_19_to_12_of_jump_offset a b c d (field_below 21 10 w) (field_below 20 1 w) (field_below 12 8 w)))
 
-single : {a b : Part} → a ≡ b → a ∷ [] ≡ b ∷ []
-single h = ap (λ (x : Part). x ∷ []) h
+one_same_part : {a b : Part} → a ≡ b → a ∷ [] ≡ b ∷ []
+one_same_part h = ap (λ (x : Part). x ∷ []) h
 
 parts_again : (s : Slot) (w : ℕ) → parts_of s (value_of s w) ≡ of_word w (parts_of s (value_of s 0))
 parts_again Comma w = refl
 parts_again Open w = refl
 parts_again Close w = refl
 parts_again V0 w = refl
-parts_again (Scalar p) w = single (whole (lowest p) 5 w)
-parts_again (Vector p) w = single (whole (lowest p) 5 w)
-parts_again (Unsigned unsigned.Immediate) w = single (whole 15 5 w)
-parts_again (Unsigned unsigned.Shift) w = single (whole 20 6 w)
-parts_again (Unsigned unsigned.ShiftWord) w = single (whole 20 5 w)
-parts_again (Unsigned unsigned.Upper) w = single (whole 12 20 w)
-parts_again (Signed signed.Vector) w = single (whole 15 5 w)
-parts_again (Signed signed.Immediate) w = single (whole 20 12 w)
-parts_again (Signed signed.Store) w = two (ap (part 25 7) (store_high (field 7 5 w) (field 25 7 w) (field_below 7 5 w) (field_below 25 7 w))) (ap (part 7 5) (store_low (field 7 5 w) (field 25 7 w) (field_below 7 5 w)))
+parts_again (Scalar p) w = one_same_part (same_part (lowest p) 5 w)
+parts_again (Vector p) w = one_same_part (same_part (lowest p) 5 w)
+parts_again (Unsigned unsigned.Immediate) w = one_same_part (same_part 15 5 w)
+parts_again (Unsigned unsigned.Shift) w = one_same_part (same_part 20 6 w)
+parts_again (Unsigned unsigned.ShiftWord) w = one_same_part (same_part 20 5 w)
+parts_again (Unsigned unsigned.Upper) w = one_same_part (same_part 12 20 w)
+parts_again (Signed signed.Vector) w = one_same_part (same_part 15 5 w)
+parts_again (Signed signed.Immediate) w = one_same_part (same_part 20 12 w)
+parts_again (Signed signed.Store) w = two_same_parts (ap (part 25 7) (high_piece_of_store_offset (field 7 5 w) (field 25 7 w) (field_below 7 5 w) (field_below 25 7 w))) (ap (part 7 5) (low_piece_of_store_offset (field 7 5 w) (field 25 7 w) (field_below 7 5 w)))
 parts_again (Signed signed.Branch) w = branch_parts w
 parts_again (Signed signed.Jump) w = jump_parts w
-parts_again Csr w = single (whole 20 12 w)
-parts_again VectorType w = single (whole 20 11 w)
-parts_again ShortVectorType w = single (whole 20 10 w)
-parts_again Mask w = single (whole 25 1 w)
-parts_again Word w = single (whole 0 32 w)
+parts_again Csr w = one_same_part (same_part 20 12 w)
+parts_again VectorType w = one_same_part (same_part 20 11 w)
+parts_again ShortVectorType w = one_same_part (same_part 20 10 w)
+parts_again Mask w = one_same_part (same_part 25 1 w)
+parts_again Word w = one_same_part (same_part 0 32 w)
 
 of_word-append : (w : ℕ) (ps qs : List Part) → of_word w (ps ++ qs) ≡ of_word w ps ++ of_word w qs
 of_word-append w [] qs = refl

@@ -34,10 +34,10 @@ is_form (Close ∷ ss) = is_form ss
 is_form (Mask ∷ ss) = no_slot ss
 is_form (s ∷ ss) = breaks ss && is_form ss
 
-nothing : (ss : List Slot) (w : ℕ) → no_slot ss ≡ true → printed_operands ss w ≡ []
+no_slot_prints_nothing : (ss : List Slot) (w : ℕ) → no_slot ss ≡ true → printed_operands ss w ≡ []
 unfolding printed_operands
-nothing [] w h = refl
-nothing (s ∷ ss) w h = absurd cc
+no_slot_prints_nothing [] w h = refl
+no_slot_prints_nothing (s ∷ ss) w h = absurd cc
 
 mask_breaks : (v : ℕ) (more : List ℕ) → v < 2 → more ≡ [] → runs_on (printed Mask v ++ more) ≡ false
 mask_breaks zero more lt e = refl
@@ -50,7 +50,7 @@ run_ends [] w h f = refl
 run_ends (Comma ∷ ss) w h f = refl
 run_ends (Open ∷ ss) w h f = refl
 run_ends (Close ∷ ss) w h f = refl
-run_ends (Mask ∷ ss) w h f = mask_breaks (value_of Mask w) (printed_operands ss w) (value_below Mask w) (nothing ss w f)
+run_ends (Mask ∷ ss) w h f = mask_breaks (value_of Mask w) (printed_operands ss w) (value_below Mask w) (no_slot_prints_nothing ss w f)
 run_ends (V0 ∷ ss) w h f = absurd cc
 run_ends (Scalar r ∷ ss) w h f = absurd cc
 run_ends (Vector r ∷ ss) w h f = absurd cc
@@ -72,7 +72,7 @@ follows_form : (s : Slot) (ss : List Slot) (w : ℕ) → is_form (s ∷ ss) ≡ 
 follows_form Comma ss w f = (tt, f)
 follows_form Open ss w f = (tt, f)
 follows_form Close ss w f = (tt, f)
-follows_form Mask ss w f = (nothing ss w f, no_slot_form ss f)
+follows_form Mask ss w f = (no_slot_prints_nothing ss w f, no_slot_form ss f)
 follows_form V0 ss w f = run_follows ss w f
 follows_form (Scalar r) ss w f = run_follows ss w f
 follows_form (Vector r) ss w f = run_follows ss w f

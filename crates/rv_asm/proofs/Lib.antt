@@ -4,7 +4,6 @@ pub mod FormLaws
 pub mod Loop
 pub mod NameLaws
 pub mod NamedWords
-pub mod Naming
 pub mod NumberLaws
 pub mod RowLaws
 pub mod SlotLaws

@@ -37,26 +37,26 @@ goes_on slots i end word v bits s d ts after total lt is h b so_far =
     let two : (read end s ts >>= λ x. (read_operands end word ss x.1 >>= λ w. Ok (placed s x.0 + w))) ≡ (read_operands end word ss after >>= λ w. Ok (placed s v + w)) = ap (λ (r : Result (ℕ × List Token) ℕ). r >>= λ x. (read_operands end word ss x.1 >>= λ w. Ok (placed s x.0 + w))) h in
     ap (λ (k : ℕ). read_operands end (word + k) ss after) b ∙ bits_move end word (placed s v) ss after ∙ sym (one ∙ two) ∙ so_far
 
-pub stops : (slots : List Slot) (i end word : ℕ) (s d : Slot) (ts : List Token) (e : ℕ) (total : Result ℕ ℕ) → i < length slots → s ≡ get_or slots i d → read end s ts ≡ Err e
+pub slot_refused : (slots : List Slot) (i end word : ℕ) (s d : Slot) (ts : List Token) (e : ℕ) (total : Result ℕ ℕ) → i < length slots → s ≡ get_or slots i d → read end s ts ≡ Err e
     → read_operands end word (drop i slots) ts ≡ total → total ≡ Err e
 unfolding read_operands
-stops slots i end word s d ts e total lt is h so_far =
+slot_refused slots i end word s d ts e total lt is h so_far =
     let ss = drop (i + 1) slots in
     let head : drop i slots ≡ s ∷ ss = at_drop_more (λ (x : List Slot). x) slots i d lt ∙ ap (λ (x : Slot). x ∷ ss) (sym is) in
     let one : read_operands end word (drop i slots) ts ≡ (read end s ts >>= λ x. (read_operands end word ss x.1 >>= λ w. Ok (placed s x.0 + w))) = ap (λ (x : List Slot). read_operands end word x ts) head in
     let two : (read end s ts >>= λ x. (read_operands end word ss x.1 >>= λ w. Ok (placed s x.0 + w))) ≡ Err e = ap (λ (r : Result (ℕ × List Token) ℕ). r >>= λ x. (read_operands end word ss x.1 >>= λ w. Ok (placed s x.0 + w))) h in
     sym so_far ∙ one ∙ two
 
-pub is_left : (slots : List Slot) (i end word : ℕ) (t : Token) (ts more : List Token) (total : Result ℕ ℕ) → length slots ≤ i → ts ≡ t ∷ more
+pub token_left : (slots : List Slot) (i end word : ℕ) (t : Token) (ts more : List Token) (total : Result ℕ ℕ) → length slots ≤ i → ts ≡ t ∷ more
     → read_operands end word (drop i slots) ts ≡ total → total ≡ Err t.column
 unfolding read_operands
-is_left slots i end word t ts more total le h so_far =
+token_left slots i end word t ts more total le h so_far =
     sym so_far ∙ at_drop_all (λ (x : List Slot). read_operands end word x ts) slots i le ∙ ap (λ (x : List Token). read_operands end word [] x) h
 
-pub is_done : (slots : List Slot) (i end word : ℕ) (ts : List Token) (total : Result ℕ ℕ) → length slots ≤ i → ts ≡ []
+pub all_slots_read : (slots : List Slot) (i end word : ℕ) (ts : List Token) (total : Result ℕ ℕ) → length slots ≤ i → ts ≡ []
     → read_operands end word (drop i slots) ts ≡ total → total ≡ Ok word
 unfolding read_operands
-is_done slots i end word ts total le h so_far =
+all_slots_read slots i end word ts total le h so_far =
     sym so_far ∙ at_drop_all (λ (x : List Slot). read_operands end word x ts) slots i le ∙ ap (λ (x : List Token). read_operands end word [] x) h
 
 pub spans_more : (slots : List Slot) (i : ℕ) (d : Slot) → i < length slots → spans (drop i slots) ≡ span (get_or slots i d) + spans (drop (i + 1) slots)

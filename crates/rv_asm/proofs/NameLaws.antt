@@ -1,10 +1,45 @@
 -- The name that is printed is the one that is read
-use Rattle.std.proofs.Common.{◌≡◌, ℕ, zero, suc, ◌<◌, true, false, eqb, List, [], ◌∷◌, length, Option, Some, None, refl, sym, ap, subst, ◌∙◌, arith, inl, inr, lit<, lit≤}
+use Rattle.std.proofs.Common.{◌≡◌, ℕ, ◌<◌, Bool, true, false, eqb, leb, ◌&&◌, List, [], ◌∷◌, length, Option, Some, None, refl, ap, subst, ◌∙◌, arith, lit<}
+use Rattle.std.specs.Prelude.{find, codes}
 use Rattle.std.specs.Fmt.{decimal}
-use Rattle.std.proofs.lemmas.Bool.{cases_Bool, eqb-true, cond-true, le-leb}
-use Rattle.rv_model.specs.assembler.Numbers.{at_most, csr, vsew, vlmul, vta, vma, csr_text, vsew_text, vlmul_text, vta_text, vma_text}
+use Rattle.std.specs.List.{list_all}
+use Rattle.std.specs.Str.{bytes_eq}
+use Rattle.std.proofs.lemmas.Bool.{and_parts, eqb-true, cond-true, cond-false, le-leb, leb-true}
+use Rattle.rv_model.specs.declared.vector.control_register.ControlRegister.{ControlRegister}
+use Rattle.rv_model.specs.declared.vector.types.Sew.{Sew}
+use Rattle.rv_model.specs.declared.vector.types.Sew.TheVariants.{E8, E16, E32, E64}
+use Rattle.rv_model.specs.declared.vector.types.Lmul.{Lmul}
+use Rattle.rv_model.specs.declared.vector.types.Lmul.TheVariants.{Mf8, Mf4, Mf2, M1, M2, M4, M8}
+use Rattle.rv_model.specs.instructions.BitFields.{flag_bit}
+use Rattle.rv_model.specs.vector.ControlRegisters.{control_register, control_registers, register_name, register_number}
+use Rattle.rv_model.specs.vector.TypeNames.{lmul_name, mask_name, sew_name, tail_name}
+use Rattle.rv_model.specs.vector.TypeRules.{lmul_number, lmul_with_number, sew_number, sew_with_number}
+use Rattle.rv_model.specs.assembler.Numbers.{at_most, csr, csr_from, vsew, vlmul, vta, vma, csr_text, csr_text_of}
+use Rattle.rv_model.proofs.assembler_lemmas.Found.{found_is, found_passes}
 use Rattle.rv_asm.proofs.Tokens.{all_run}
 use Rattle.rv_asm.proofs.NumberLaws.{Decimal, is_decimal, number_again, all_run_dec, not_letter}
+
+-- a letter stands first
+abbrev begins_with_letter : List ℕ → Bool
+begins_with_letter [] = false
+begins_with_letter (c ∷ cs) = leb 58 c
+
+letter_first : (name : List ℕ) → begins_with_letter name ≡ true → 0 < length name
+letter_first [] h = absurd cc
+letter_first (c ∷ cs) h = omega arith
+
+-- a name that begins with a letter is no decimal number
+letters_apart : (name : List ℕ) (n : ℕ) (ds : List ℕ) → begins_with_letter name ≡ true → Decimal n ds → bytes_eq name ds ≡ false
+letters_apart [] n ds h d = absurd cc
+letters_apart (c ∷ cs) n ds h d = not_letter c n cs ds (leb-true 58 c h) d
+
+abbrev is_number : ℕ → Option ℕ → Bool
+is_number n None = false
+is_number n (Some k) = eqb k n
+
+number_is : (n : ℕ) (found : Option ℕ) → is_number n found ≡ true → found ≡ Some n
+number_is n None h = absurd cc
+number_is n (Some k) h = ap (λ (x : ℕ). Some x) (eqb-true k n h)
 
 -- a text of one token, and its meaning
 pub record Means (meaning : List ℕ → Option ℕ) (text : List ℕ) (v : ℕ) : Type 0 where
@@ -12,118 +47,91 @@ pub record Means (meaning : List ℕ → Option ℕ) (text : List ℕ) (v : ℕ)
   pub some : 0 < length text
   pub value : meaning text ≡ Some v
 
-csr_vstart : Means csr (csr_text 0x008) 0x008
-unfolding csr csr_text
-csr_vstart = record { run = refl; some = lit< tt; value = refl }
+-- ---- control registers
 
-csr_vxsat : Means csr (csr_text 0x009) 0x009
-unfolding csr csr_text
-csr_vxsat = record { run = refl; some = lit< tt; value = refl }
+-- the name of each register is one token, which begins with a letter and means the register's number
+names_itself : ControlRegister → Bool
+names_itself register =
+    all_run (register_name register) && (begins_with_letter (register_name register) && is_number (register_number register) (csr (register_name register)))
 
-csr_vxrm : Means csr (csr_text 0x00a) 0x00a
-unfolding csr csr_text
-csr_vxrm = record { run = refl; some = lit< tt; value = refl }
+each_names_itself : list_all names_itself control_registers ≡ true
+unfolding names_itself csr
+each_names_itself = refl
 
-csr_vcsr : Means csr (csr_text 0x00f) 0x00f
-unfolding csr csr_text
-csr_vcsr = record { run = refl; some = lit< tt; value = refl }
+csr_name_again : (register : ControlRegister) → names_itself register ≡ true → Means csr (register_name register) (register_number register)
+unfolding names_itself
+csr_name_again register h =
+    let a = and_parts (all_run (register_name register)) _ h in
+    let b = and_parts (begins_with_letter (register_name register)) _ a.1 in
+    record { run = a.0; some = letter_first (register_name register) b.0; value = number_is (register_number register) (csr (register_name register)) b.1 }
 
-csr_vl : Means csr (csr_text 0xc20) 0xc20
-unfolding csr csr_text
-csr_vl = record { run = refl; some = lit< tt; value = refl }
+-- digits are the name of none of these registers
+digits_name_no_register : (registers : List ControlRegister) → list_all names_itself registers ≡ true → (v : ℕ) (ds : List ℕ) → Decimal v ds → find (λ r. bytes_eq (register_name r) ds) registers ≡ None
+unfolding names_itself
+digits_name_no_register [] h v ds d = refl
+digits_name_no_register (r ∷ rs) h v ds d =
+    let each = and_parts (names_itself r) (list_all names_itself rs) h in
+    let letter = and_parts (begins_with_letter (register_name r)) _ (and_parts (all_run (register_name r)) _ each.0).1 in
+    cond-false (bytes_eq (register_name r) ds) (Some r) _ (letters_apart (register_name r) v ds letter.0 d) ∙ digits_name_no_register rs each.1 v ds d
 
-csr_vtype : Means csr (csr_text 0xc21) 0xc21
-unfolding csr csr_text
-csr_vtype = record { run = refl; some = lit< tt; value = refl }
-
-csr_vlenb : Means csr (csr_text 0xc22) 0xc22
-unfolding csr csr_text
-csr_vlenb = record { run = refl; some = lit< tt; value = refl }
-
-csr_digits : (v : ℕ) → v < 4096 → csr_text v ≡ decimal v → Means csr (csr_text v) v
+csr_text_again : (v : ℕ) (register : Option ControlRegister) → v < 4096 → control_register v ≡ register → Means csr (csr_text_of v register) v
 unfolding csr
-csr_digits v lt is =
+csr_text_again v None lt h =
     let d = is_decimal v (omega arith) in
-    let not = λ (xs : List ℕ). not_letter 118 v (decimal v) xs (lit≤ tt) d in
-    let value : csr (decimal v) ≡ Some v =
-    rw (not (115 ∷ 116 ∷ 97 ∷ 114 ∷ 116 ∷ []), not (120 ∷ 115 ∷ 97 ∷ 116 ∷ []), not (120 ∷ 114 ∷ 109 ∷ []), not (99 ∷ 115 ∷ 114 ∷ []), not (108 ∷ []), not (116 ∷ 121 ∷ 112 ∷ 101 ∷ []), not (108 ∷ 101 ∷ 110 ∷ 98 ∷ []))
-    (ap (at_most 4095) (number_again v (decimal v) d) ∙ cond-true _ (Some v) None (le-leb v 4095 (omega arith))) in
     record {
-      run = ap all_run is ∙ all_run_dec (decimal v) d.digits;
-      some = let P : List ℕ → Type 0 = λ t. 0 < length t in subst P (sym is) d.some;
-      value = ap csr is ∙ value;
+      run = all_run_dec (decimal v) d.digits;
+      some = d.some;
+      value = ap (csr_from (decimal v)) (digits_name_no_register control_registers each_names_itself v (decimal v) d)
+          ∙ ap (at_most 4095) (number_again v (decimal v) d) ∙ cond-true _ (Some v) None (le-leb v 4095 (omega arith));
     }
+csr_text_again v (Some register) lt h =
+    let is : register_number register ≡ v = eqb-true (register_number register) v (found_is (λ r. eqb (register_number r) v) control_registers register h) in
+    subst (λ (n : ℕ). Means csr (register_name register) n) is
+    (csr_name_again register (found_passes (λ r. eqb (register_number r) v) names_itself control_registers register each_names_itself h))
 
-csr_others : (v : ℕ) → eqb v 0x008 ≡ false → eqb v 0x009 ≡ false → eqb v 0x00a ≡ false → eqb v 0x00f ≡ false → eqb v 0xc20 ≡ false → eqb v 0xc21 ≡ false → eqb v 0xc22 ≡ false → csr_text v ≡ decimal v
+pub csr_again : (v : ℕ) → v < 4096 → Means csr (csr_text v) v
 unfolding csr_text
-csr_others v a b c d e f g = rw (a, b, c, d, e, f, g) refl
+csr_again v lt = csr_text_again v (control_register v) lt refl
 
-abbrev CsrAgain : ℕ → Type 0
-CsrAgain v = Means csr (csr_text v) v
+-- ---- the parts of vtype
 
-csr_is : (v n : ℕ) → eqb v n ≡ true → CsrAgain n → CsrAgain v
-csr_is v n h m = subst CsrAgain (sym (eqb-true v n h)) m
+pub vsew_again : (sew : Sew) → Means vsew (sew_name sew) (sew_number sew)
+unfolding vsew
+vsew_again E8 = record { run = refl; some = lit< tt; value = refl }
+vsew_again E16 = record { run = refl; some = lit< tt; value = refl }
+vsew_again E32 = record { run = refl; some = lit< tt; value = refl }
+vsew_again E64 = record { run = refl; some = lit< tt; value = refl }
 
-pub csr_again : (v : ℕ) → v < 4096 → CsrAgain v
-csr_again v lt =
-    elim (cases_Bool (eqb v 0x008)) [
-      | inl y ↦ csr_is v 0x008 y csr_vstart
-      | inr a ↦ elim (cases_Bool (eqb v 0x009)) [
-        | inl y ↦ csr_is v 0x009 y csr_vxsat
-        | inr b ↦ elim (cases_Bool (eqb v 0x00a)) [
-          | inl y ↦ csr_is v 0x00a y csr_vxrm
-          | inr c ↦ elim (cases_Bool (eqb v 0x00f)) [
-            | inl y ↦ csr_is v 0x00f y csr_vcsr
-            | inr d ↦ elim (cases_Bool (eqb v 0xc20)) [
-              | inl y ↦ csr_is v 0xc20 y csr_vl
-              | inr e ↦ elim (cases_Bool (eqb v 0xc21)) [
-                | inl y ↦ csr_is v 0xc21 y csr_vtype
-                | inr f ↦ elim (cases_Bool (eqb v 0xc22)) [
-                  | inl y ↦ csr_is v 0xc22 y csr_vlenb
-                  | inr g ↦ csr_digits v lt (csr_others v a b c d e f g)
-                ]
-              ]
-            ]
-          ]
-        ]
-      ]
-    ]
+pub vlmul_again : (lmul : Lmul) → Means vlmul (lmul_name lmul) (lmul_number lmul)
+unfolding vlmul
+vlmul_again Mf8 = record { run = refl; some = lit< tt; value = refl }
+vlmul_again Mf4 = record { run = refl; some = lit< tt; value = refl }
+vlmul_again Mf2 = record { run = refl; some = lit< tt; value = refl }
+vlmul_again M1 = record { run = refl; some = lit< tt; value = refl }
+vlmul_again M2 = record { run = refl; some = lit< tt; value = refl }
+vlmul_again M4 = record { run = refl; some = lit< tt; value = refl }
+vlmul_again M8 = record { run = refl; some = lit< tt; value = refl }
 
-pub vsew_again : (n : ℕ) → n < 4 → Means vsew (vsew_text n) n
-unfolding vsew vsew_text
-vsew_again zero lt = record { run = refl; some = lit< tt; value = refl }
-vsew_again (suc zero) lt = record { run = refl; some = lit< tt; value = refl }
-vsew_again (suc (suc zero)) lt = record { run = refl; some = lit< tt; value = refl }
-vsew_again (suc (suc (suc zero))) lt = record { run = refl; some = lit< tt; value = refl }
-vsew_again (suc (suc (suc (suc n)))) lt = absurd (omega arith)
+pub vta_again : (agnostic : Bool) → Means vta (tail_name agnostic) (flag_bit agnostic)
+unfolding vta
+vta_again true = record { run = refl; some = lit< tt; value = refl }
+vta_again false = record { run = refl; some = lit< tt; value = refl }
 
-pub vlmul_again : (n : ℕ) → n < 8 → eqb n 4 ≡ false → Means vlmul (vlmul_text n) n
-unfolding vlmul vlmul_text
-vlmul_again zero lt h = record { run = refl; some = lit< tt; value = refl }
-vlmul_again (suc zero) lt h = record { run = refl; some = lit< tt; value = refl }
-vlmul_again (suc (suc zero)) lt h = record { run = refl; some = lit< tt; value = refl }
-vlmul_again (suc (suc (suc zero))) lt h = record { run = refl; some = lit< tt; value = refl }
-vlmul_again (suc (suc (suc (suc zero)))) lt h = absurd cc
-vlmul_again (suc (suc (suc (suc (suc zero))))) lt h = record { run = refl; some = lit< tt; value = refl }
-vlmul_again (suc (suc (suc (suc (suc (suc zero)))))) lt h = record { run = refl; some = lit< tt; value = refl }
-vlmul_again (suc (suc (suc (suc (suc (suc (suc zero))))))) lt h = record { run = refl; some = lit< tt; value = refl }
-vlmul_again (suc (suc (suc (suc (suc (suc (suc (suc n)))))))) lt h = absurd (omega arith)
+pub vma_again : (agnostic : Bool) → Means vma (mask_name agnostic) (flag_bit agnostic)
+unfolding vma
+vma_again true = record { run = refl; some = lit< tt; value = refl }
+vma_again false = record { run = refl; some = lit< tt; value = refl }
 
-pub vta_again : (n : ℕ) → n < 2 → Means vta (vta_text n) n
-unfolding vta vta_text
-vta_again zero lt = record { run = refl; some = lit< tt; value = refl }
-vta_again (suc zero) lt = record { run = refl; some = lit< tt; value = refl }
-vta_again (suc (suc n)) lt = absurd (omega arith)
+-- the numbers of the parts are those that the parts were found by
+pub sew_number_again : (n : ℕ) (sew : Sew) → sew_with_number n ≡ Some sew → n ≡ sew_number sew
+sew_number_again n sew h = eqb-true n (sew_number sew) (found_is (λ s. eqb n (sew_number s)) (E8 ∷ E16 ∷ E32 ∷ E64 ∷ []) sew h)
 
-pub vma_again : (n : ℕ) → n < 2 → Means vma (vma_text n) n
-unfolding vma vma_text
-vma_again zero lt = record { run = refl; some = lit< tt; value = refl }
-vma_again (suc zero) lt = record { run = refl; some = lit< tt; value = refl }
-vma_again (suc (suc n)) lt = absurd (omega arith)
+pub lmul_number_again : (n : ℕ) (lmul : Lmul) → lmul_with_number n ≡ Some lmul → n ≡ lmul_number lmul
+lmul_number_again n lmul h = eqb-true n (lmul_number lmul) (found_is (λ l. eqb n (lmul_number l)) (M1 ∷ M2 ∷ M4 ∷ M8 ∷ Mf8 ∷ Mf4 ∷ Mf2 ∷ []) lmul h)
 
 -- a number is not the name of an element width
 pub vsew_digits : (n : ℕ) (ds : List ℕ) → Decimal n ds → vsew ds ≡ None
 unfolding vsew
 vsew_digits n ds d =
-    let not = λ (xs : List ℕ). not_letter 101 n ds xs (lit≤ tt) d in
-    rw (not (56 ∷ []), not (49 ∷ 54 ∷ []), not (51 ∷ 50 ∷ []), not (54 ∷ 52 ∷ [])) refl
+    let not = λ (name : List ℕ) (l : begins_with_letter name ≡ true). letters_apart name n ds l d in
+    rw (not (codes "e8") refl, not (codes "e16") refl, not (codes "e32") refl, not (codes "e64") refl) refl

@@ -1,40 +1,37 @@
 -- The canonical text of an instruction has its name, that of any other word is `.word` and digits
-use Rattle.std.proofs.Common.{◌≡◌, ◌⊎◌, ℕ, ◌/◌, ◌%◌, ◌^◌, ◌<◌, true, false, nat_lt, List, [], ◌++◌, length, get_or, take, position, unwrap_or, Option, Some, None, refl, sym, ap, subst, ◌∙◌, arith, inl, inr, lit<}
+use Rattle.std.proofs.Common.{◌≡◌, ◌⊎◌, ℕ, ◌/◌, ◌%◌, ◌^◌, ◌<◌, true, false, nat_lt, List, [], ◌++◌, length, get_or, position, unwrap_or, Option, Some, None, refl, sym, ap, subst, ◌∙◌, arith, inl, inr, lit<}
 use Rattle.std.specs.Prelude.{IsSome, IsNone, codes}
 use Rattle.std.specs.List.{position_or_len}
 use Rattle.std.specs.Int.Bits.{bit_and}
 use Rattle.std.proofs.lemmas.Bool.{cases_lt, cond-true, lt-ltb, eq-eqb}
 use Rattle.std.proofs.lemmas.Bool.Decides.{eqb_tells}
 use Rattle.std.proofs.lemmas.List.Sums.{fails_before_first}
-use Rattle.std.proofs.lemmas.List.{get_or-map, get_or-take, append-nil}
+use Rattle.std.proofs.lemmas.List.{append-nil}
 use Rattle.rv_model.specs.declared.instructions.instruction.Instr.{Instr}
 use Rattle.rv_model.specs.declared.assembler.forms.Form.TheVariants as form
 use Rattle.rv_model.specs.declared.assembler.mnemonics.Mnemonic.{Mnemonic}
 use Rattle.rv_model.specs.declared.assembler.mnemonics.TheConstants.{MNEMONICS}
 use Rattle.rv_model.specs.assembler.Numbers.{hex_digits}
 use Rattle.rv_model.specs.assembler.Fields.{fixed_mask}
-use Rattle.rv_model.specs.assembler.Table.{slots_of, row_at, name_at, slots_at, bits_at, row_of_word, printed_operands, text_at, canonical}
+use Rattle.rv_model.specs.assembler.Table.{name_count, row_count, slots_of, row_at, name_at, slots_at, row_of_word, printed_operands, text_at, canonical}
 use Rattle.rv_model.specs.assembler.Naming.{IsFence, HasBitsOf, HasName, HasNoName, IsNamed, directive_text}
 use Rattle.rv_model.specs.instructions.Table.{table, scan}
 use Rattle.rv_model.proofs.instruction_lemmas.Scans.{some_row, found, table_apart}
+use Rattle.rv_model.proofs.assembler_lemmas.NamedOperations.{names_operation}
 use Rattle.rv_asm.proofs.WordLaws.{has_bits, row_matches}
-use Rattle.rv_asm.proofs.Naming.{Pattern, pattern_of, names, HasNameOf, row_named, name_of_row, fence_named, two_names}
+use Rattle.rv_model.proofs.assembler_lemmas.Naming.{Pattern, names, named_count, in_names, name_at_row, bits_of_name, HasNameOf, word_of_row_has_name, name_of_row, fence_named, no_word_of_two_names}
 
 abbrev none : Mnemonic
 none = record { 0 = []; 1 = form.Plain; 2 = 0 }
 
-count : length MNEMONICS ≡ 598
-count = refl
+row_count_is : length MNEMONICS ≡ row_count
+row_count_is = refl
 
-named_count : length names ≡ 597
-unfolding names
-named_count = refl
+true_is_not_false : true ≡ false → ⊥
+true_is_not_false e = cc
 
-true_false : true ≡ false → ⊥
-true_false e = cc
-
-none_some : (i : Instr) → None ≡ Some i → ⊥
-none_some i e = cc
+none_is_not_some : (i : Instr) → None ≡ Some i → ⊥
+none_is_not_some i e = cc
 
 cases_fence : (w : ℕ) → IsFence w ⊎ (IsFence w → ⊥)
 cases_fence w =
@@ -43,102 +40,93 @@ cases_fence w =
       | inr n ↦ inr n.1
     ]
 
--- a name of the list is a row of the table of names
-name_at_row : (n : ℕ) → n < 597 → get_or names n (0, 0) ≡ pattern_of (get_or MNEMONICS n none)
-unfolding names
-name_at_row n lt = get_or-map pattern_of (take 597 MNEMONICS) n none (0, 0) lt ∙ ap pattern_of (get_or-take 597 MNEMONICS n none lt)
-
 -- the first row that a word matches is not above any that it matches
-first_below : (w n : ℕ) → n < 597 → has_bits w (get_or MNEMONICS n none) ≡ true → row_of_word w < 597
+matching_word_is_named : (w n : ℕ) → n < name_count → has_bits w (get_or MNEMONICS n none) ≡ true → row_of_word w < name_count
 unfolding row_of_word
-first_below w n lt h =
+matching_word_is_named w n lt h =
     let first = position_or_len (has_bits w) MNEMONICS in
     elim (cases_lt n first) [
-      | inl before ↦ absurd (true_false (sym h ∙ fails_before_first (has_bits w) MNEMONICS n none before))
+      | inl before ↦ absurd (true_is_not_false (sym h ∙ fails_before_first (has_bits w) MNEMONICS n none before))
       | inr le ↦
-          let below : first < 598 = omega arith in
-          let is : unwrap_or (position (has_bits w) MNEMONICS) 597 ≡ first = ap (λ (o : Option ℕ). unwrap_or o 597) (cond-true (nat_lt first (length MNEMONICS)) (Some first) None (lt-ltb first 598 below)) in
-          let P : ℕ → Type 0 = λ k. k < 597 in
+          let below : first < row_count = omega arith in
+          let is : unwrap_or (position (has_bits w) MNEMONICS) name_count ≡ first = ap (λ (o : Option ℕ). unwrap_or o name_count) (cond-true (nat_lt first (length MNEMONICS)) (Some first) None (lt-ltb first row_count below)) in
+          let P : ℕ → Type 0 = λ k. k < name_count in
           subst P (sym is) (omega arith)
     ]
 
 -- a word with the bits of a name is named by it or by an earlier one
-named_below : (w : ℕ) → HasNameOf names w → row_of_word w < 597
-named_below w h =
-    let lt : h.0 < 597 = let P : ℕ → Type 0 = λ k. h.0 < k in subst P named_count h.1 in
+word_with_bits_is_named : (w : ℕ) → HasNameOf names w → row_of_word w < name_count
+word_with_bits_is_named w h =
+    let lt : h.0 < name_count = let P : ℕ → Type 0 = λ k. h.0 < k in subst P named_count h.1 in
     let P : Pattern → Type 0 = λ p. bit_and w p.0 ≡ p.1 in
     let is : bit_and w (fixed_mask (slots_of (get_or MNEMONICS h.0 none).1)) ≡ (get_or MNEMONICS h.0 none).2 = subst P (name_at_row h.0 lt) h.2 in
-    first_below w h.0 lt (eq-eqb (bit_and w (fixed_mask (slots_of (get_or MNEMONICS h.0 none).1))) (get_or MNEMONICS h.0 none).2 is)
-
-in_names : (row : ℕ) → row < 597 → row < length names
-in_names row lt = let P : ℕ → Type 0 = λ k. row < k in subst P (sym named_count) lt
-
-bits_of_name : (row w : ℕ) → row < 597 → HasBitsOf row w → bit_and w (get_or names row (0, 0)).0 ≡ (get_or names row (0, 0)).1
-unfolding slots_at bits_at row_at
-bits_of_name row w lt is = let P : Pattern → Type 0 = λ p. bit_and w p.0 ≡ p.1 in subst P (sym (name_at_row row lt)) is
+    matching_word_is_named w h.0 lt (eq-eqb (bit_and w (fixed_mask (slots_of (get_or MNEMONICS h.0 none).1))) (get_or MNEMONICS h.0 none).2 is)
 
 -- the row of a word's name is a name of the list
-has_name_of : (w : ℕ) → row_of_word w < 597 → HasNameOf names w
+has_name_of : (w : ℕ) → row_of_word w < name_count → HasNameOf names w
 has_name_of w lt = (row_of_word w, in_names (row_of_word w) lt, bits_of_name (row_of_word w) w lt (row_matches w).bits)
 
-fence_row : row_of_word 0x0ff0000f < 597
+full_fence_is_named : row_of_word 0x0ff0000f < name_count
 unfolding row_of_word fixed_mask
-fence_row = lit< tt
+full_fence_is_named = lit< tt
 
-some_of : (o : Option Instr) → IsSome o → (i : Instr) × (o ≡ Some i)
-some_of None h = absurd (cc)
-some_of (Some i) h = (i, refl)
+some_from_is_some : (o : Option Instr) → IsSome o → (i : Instr) × (o ≡ Some i)
+some_from_is_some None h = absurd (cc)
+some_from_is_some (Some i) h = (i, refl)
 
-none_of : (o : Option Instr) → IsNone o → o ≡ None
-none_of None h = refl
-none_of (Some i) h = cc
+none_from_is_none : (o : Option Instr) → IsNone o → o ≡ None
+none_from_is_none None h = refl
+none_from_is_none (Some i) h = cc
 
-named_row : (w : ℕ) → HasName w → row_of_word w < 597
-named_row w h =
+word_with_name_is_named : (w : ℕ) → HasName w → row_of_word w < name_count
+word_with_name_is_named w h =
     elim (cases_fence w) [
-      | inl fence ↦ let P : ℕ → Type 0 = λ k. row_of_word k < 597 in subst P (sym (h.1 fence)) fence_row
+      | inl fence ↦ let P : ℕ → Type 0 = λ k. row_of_word k < name_count in subst P (sym (h.1 fence)) full_fence_is_named
       | inr other ↦
-          let i = some_of (scan table w) h.0 in
+          let i = some_from_is_some (scan table w) h.0 in
           let r = some_row table w i.0 i.1 in
-          named_below w (row_named r.0 w r.1 r.2 other)
+          word_with_bits_is_named w (word_of_row_has_name r.0 w r.1 r.2 other)
     ]
 
 pub is_named : (w : ℕ) → HasName w → IsNamed w (canonical w)
 unfolding canonical
-is_named w h = (row_of_word w, named_row w h, (row_matches w).bits, refl)
+is_named w h =
+    let lt = word_with_name_is_named w h in
+    let is = (row_matches w).bits in
+    (row_of_word w, lt, is, names_operation (row_of_word w) w lt is, refl)
 
-no_name_below : (w : ℕ) → w < 2 ^ 32 → HasNoName w → row_of_word w < 597 → ⊥
-no_name_below w small (inl no_row) lt =
+word_without_name_is_not_named : (w : ℕ) → w < 2 ^ 32 → HasNoName w → row_of_word w < name_count → ⊥
+word_without_name_is_not_named w small (inl no_row) lt =
     let n = has_name_of w lt in
     let r = name_of_row n.0 w n.1 n.2 in
-    none_some (r.0.instr w) (sym (none_of (scan table w) no_row) ∙ found table table_apart r.0 r.1 w r.2)
-no_name_below w small (inr fence) lt =
+    none_is_not_some (r.0.instr w) (sym (none_from_is_none (scan table w) no_row) ∙ found table table_apart r.0 r.1 w r.2)
+word_without_name_is_not_named w small (inr fence) lt =
     let n = has_name_of w lt in
     fence.1 (fence_named n.0 w small n.1 n.2 fence.0)
 
-last_row : (row : ℕ) → row < 598 → (row < 597 → ⊥) → row ≡ 597
-last_row row lt h =
-    elim (cases_lt row 597) [
+only_directive_is_left : (row : ℕ) → row < row_count → (row < name_count → ⊥) → row ≡ name_count
+only_directive_is_left row lt h =
+    elim (cases_lt row name_count) [
       | inl below ↦ absurd (h below)
       | inr le ↦ omega arith
     ]
 
-directive_is : (w : ℕ) → w < 2 ^ 32 → text_at 597 w ≡ directive_text w
+text_of_directive : (w : ℕ) → w < 2 ^ 32 → text_at name_count w ≡ directive_text w
 unfolding text_at name_at slots_at row_at printed_operands
-directive_is w small =
+text_of_directive w small =
     let is : w / 2 ^ 0 % 2 ^ 32 ≡ w = omega arith in
     ap (λ (t : List ℕ). codes ".word " ++ t) (append-nil (codes "0x" ++ hex_digits 8 (w / 2 ^ 0 % 2 ^ 32))) ∙ ap (λ (v : ℕ). codes ".word 0x" ++ hex_digits 8 v) is
 
 pub is_directive : (w : ℕ) → w < 2 ^ 32 → HasNoName w → canonical w ≡ directive_text w
 unfolding canonical
-is_directive w small h = ap (λ (row : ℕ). text_at row w) (last_row (row_of_word w) (row_matches w).within (no_name_below w small h)) ∙ directive_is w small
+is_directive w small h = ap (λ (row : ℕ). text_at row w) (only_directive_is_left (row_of_word w) (row_matches w).within (word_without_name_is_not_named w small h)) ∙ text_of_directive w small
 
-pub one_name : (w row other : ℕ) → row < 597 → other < 597 → HasBitsOf row w → HasBitsOf other w → row ≡ other
+pub one_name : (w row other : ℕ) → row < name_count → other < name_count → HasBitsOf row w → HasBitsOf other w → row ≡ other
 one_name w row other lt less is also =
     elim (cases_lt row other) [
-      | inl before ↦ absurd (two_names row other w before (in_names other less) (bits_of_name row w lt is) (bits_of_name other w less also))
+      | inl before ↦ absurd (no_word_of_two_names row other w before (in_names other less) (bits_of_name row w lt is) (bits_of_name other w less also))
       | inr le ↦ elim (cases_lt other row) [
-        | inl before ↦ absurd (two_names other row w before (in_names row lt) (bits_of_name other w less also) (bits_of_name row w lt is))
+        | inl before ↦ absurd (no_word_of_two_names other row w before (in_names row lt) (bits_of_name other w less also) (bits_of_name row w lt is))
         | inr ge ↦ omega arith
       ]
     ]

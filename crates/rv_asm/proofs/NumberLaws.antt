@@ -33,33 +33,33 @@ all_dec_push : (xs : List ℕ) (c : ℕ) → all_dec xs ≡ true → is_dec c �
 all_dec_push [] c h d = and_from (is_dec c) true d refl
 all_dec_push (x ∷ xs) c h d = let p = and_parts (is_dec x) (all_dec xs) h in and_from (is_dec x) (all_dec (xs ++ c ∷ [])) p.0 (all_dec_push xs c p.1 d)
 
-some_cond : {A : Type 0} (b : Bool) (x : Option A) (y : A) → cond b x None ≡ Some y → (b ≡ true) × (x ≡ Some y)
-some_cond true x y e = (refl, e)
-some_cond false x y e = absurd cc
+passed_test : {A : Type 0} (b : Bool) (x : Option A) (y : A) → cond b x None ≡ Some y → (b ≡ true) × (x ≡ Some y)
+passed_test true x y e = (refl, e)
+passed_test false x y e = absurd cc
 
-some_is : (m n : ℕ) → Some m ≡ Some n → m ≡ n
-some_is m n e = cc
+same_number : (m n : ℕ) → Some m ≡ Some n → m ≡ n
+same_number m n e = cc
 
-split_run : (b d : Bool) → cond b d false ≡ true → (b ≡ true) × (d ≡ true)
-split_run true d h = (refl, h)
-split_run false d h = absurd cc
+both_hold : (b d : Bool) → cond b d false ≡ true → (b ≡ true) × (d ≡ true)
+both_hold true d h = (refl, h)
+both_hold false d h = absurd cc
 
 after_push : (r : ℕ) (xs : List ℕ) (a m c d : ℕ) → digit c ≡ d → d < r → digits_after r a xs ≡ Some m → digits_after r a (xs ++ c ∷ []) ≡ Some (m * r + d)
 unfolding digits_after
 after_push r [] a m c d is lt e =
-    cond-true (ltb (digit c) r) (Some (a * r + digit c)) None (lt-ltb (digit c) r (omega arith)) ∙ ap (λ (x : ℕ). Some (x * r + digit c)) (some_is a m e) ∙ ap (λ (x : ℕ). Some (m * r + x)) is
+    cond-true (ltb (digit c) r) (Some (a * r + digit c)) None (lt-ltb (digit c) r (omega arith)) ∙ ap (λ (x : ℕ). Some (x * r + digit c)) (same_number a m e) ∙ ap (λ (x : ℕ). Some (m * r + x)) is
 after_push r (x ∷ xs) a m c d is lt e =
-    let p = some_cond (ltb (digit x) r) (digits_after r (a * r + digit x) xs) m e in
+    let p = passed_test (ltb (digit x) r) (digits_after r (a * r + digit x) xs) m e in
     cond-true (ltb (digit x) r) (digits_after r (a * r + digit x) (xs ++ c ∷ [])) None p.0 ∙ after_push r xs (a * r + digit x) m c d is lt p.1
 
-no_digit : (r : ℕ) → digits_after r 0 [] ≡ Some 0
+no_digits_spell : (r : ℕ) → digits_after r 0 [] ≡ Some 0
 unfolding digits_after
-no_digit r = refl
+no_digits_spell r = refl
 
 decimal_one : (n : ℕ) → n < 10 → Decimal n ((48 + n) ∷ [])
 decimal_one n lt = record {
   digits = and_from (is_dec (48 + n)) true (dec_digit (48 + n) (omega arith) (omega arith)) refl;
-  value = let d : digit (48 + n) ≡ n = value_digit (48 + n) (omega arith) (omega arith) ∙ omega arith in let is : 0 * 10 + n ≡ n = omega arith in after_push 10 [] 0 0 (48 + n) n d lt (no_digit 10) ∙ ap (λ (x : ℕ). Some x) is;
+  value = let d : digit (48 + n) ≡ n = value_digit (48 + n) (omega arith) (omega arith) ∙ omega arith in let is : 0 * 10 + n ≡ n = omega arith in after_push 10 [] 0 0 (48 + n) n d lt (no_digits_spell 10) ∙ ap (λ (x : ℕ). Some x) is;
   some = omega arith;
 }
 
@@ -126,7 +126,7 @@ hex_digit_run d lt = agree_below_at (λ (k : ℕ). in_run (hex_digit k)) (λ _. 
 
 all_run_push : (xs : List ℕ) (c : ℕ) → all_run xs ≡ true → in_run c ≡ true → all_run (xs ++ c ∷ []) ≡ true
 all_run_push [] c h d = cond-true (in_run c) true false d
-all_run_push (x ∷ xs) c h d = let p = split_run (in_run x) (all_run xs) h in cond-true (in_run x) (all_run (xs ++ c ∷ [])) false p.0 ∙ all_run_push xs c p.1 d
+all_run_push (x ∷ xs) c h d = let p = both_hold (in_run x) (all_run xs) h in cond-true (in_run x) (all_run (xs ++ c ∷ [])) false p.0 ∙ all_run_push xs c p.1 d
 
 pub hex_run : (k n : ℕ) → all_run (hex_digits k n) ≡ true
 unfolding hex_digits
@@ -168,13 +168,13 @@ hex_again n lt =
 -- ---- letters
 
 -- a decimal number doesn't begin with a letter
-pub not_letter : (l n : ℕ) (ds xs : List ℕ) → 58 ≤ l → Decimal n ds → bytes_eq ds (l ∷ xs) ≡ false
-not_letter l n [] xs h d = absurd (omega (arith, d.some))
-not_letter l n (c ∷ cs) xs h d =
+pub not_letter : (l n : ℕ) (xs ds : List ℕ) → 58 ≤ l → Decimal n ds → bytes_eq (l ∷ xs) ds ≡ false
+not_letter l n xs [] h d = refl
+not_letter l n xs (c ∷ cs) h d =
     let p = and_parts (is_dec c) (all_dec cs) d.digits in
     let q = and_parts (leb 48 c) (leb c 57) p.0 in
     let le = leb-true c 57 q.1 in
-    and_left (eqb c l) (bytes_eq cs xs) (ne_eqb c l (λ e. omega arith))
+    and_left (eqb l c) (bytes_eq xs cs) (ne_eqb l c (λ e. omega arith))
 
 pub not_minus : (n : ℕ) (ds : List ℕ) → Decimal n ds → bytes_eq ds (45 ∷ []) ≡ false
 not_minus n [] d = absurd (omega (arith, d.some))

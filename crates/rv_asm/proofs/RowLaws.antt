@@ -6,12 +6,12 @@ use Rattle.rv_model.specs.assembler.Tokens.{Token, tokens}
 use Rattle.rv_model.specs.instructions.BitFields.{Part, sum_of, mask_of}
 use Rattle.rv_model.specs.declared.assembler.forms.Slot.{Slot}
 use Rattle.rv_model.specs.assembler.Fields.{operand_parts, fixed_mask}
-use Rattle.rv_model.specs.assembler.Table.{row_named, row_at, name_at, slots_at, bits_at, read_operands, spelled_with, spelled_by, spelled, operands_text, printed_operands, text_at}
+use Rattle.rv_model.specs.assembler.Table.{row_count, row_named, row_at, name_at, slots_at, bits_at, read_operands, spelled_with, spelled_by, spelled, operands_text, printed_operands, text_at}
 use Rattle.rv_model.proofs.instruction_lemmas.Parts.{share_none, rebuilt}
 use Rattle.rv_asm.specs.Spans.{spans}
 use Rattle.rv_asm.proofs.Tokens.{all_run}
 use Rattle.rv_asm.proofs.FieldLaws.{operand_parts_of_word}
-use Rattle.rv_asm.proofs.SlotLaws.{word}
+use Rattle.rv_asm.proofs.SlotLaws.{run_is_one_token}
 use Rattle.rv_asm.proofs.FormLaws.{is_form, form_again}
 
 abbrev is_row : ℕ → Option ℕ → Bool
@@ -33,13 +33,13 @@ form_fits row =
     && (share_none (fixed_mask (slots_at row)) (operand_parts (slots_at row) 0)
     && nat_eq (mask_of (fixed_mask (slots_at row)) (operand_parts (slots_at row) 0)) (2 ^ 32 - 1)))
 
-each_name_fits : (row : ℕ) → row < 598 → name_fits row ≡ true
+each_name_fits : (row : ℕ) → row < row_count → name_fits row ≡ true
 unfolding name_fits name_at row_at row_named
-each_name_fits row lt = agree_below_at name_fits (λ _. true) 598 row refl lt
+each_name_fits row lt = agree_below_at name_fits (λ _. true) row_count row refl lt
 
-each_form_fits : (row : ℕ) → row < 598 → form_fits row ≡ true
+each_form_fits : (row : ℕ) → row < row_count → form_fits row ≡ true
 unfolding form_fits slots_at bits_at row_at fixed_mask
-each_form_fits row lt = agree_below_at form_fits (λ _. true) 598 row refl lt
+each_form_fits row lt = agree_below_at form_fits (λ _. true) row_count row refl lt
 
 -- what these tests tell of a row
 pub record Row (row : ℕ) : Type 0 where
@@ -52,11 +52,11 @@ pub record Row (row : ℕ) : Type 0 where
   pub apart : share_none (fixed_mask (slots_at row)) (operand_parts (slots_at row) 0) ≡ true
   pub full : mask_of (fixed_mask (slots_at row)) (operand_parts (slots_at row) 0) ≡ 2 ^ 32 - 1
 
-found_is : (row : ℕ) (found : Option ℕ) → is_row row found ≡ true → found ≡ Some row
-found_is row None h = absurd cc
-found_is row (Some k) h = ap (λ (x : ℕ). Some x) (eqb-true k row h)
+finds_row : (row : ℕ) (found : Option ℕ) → is_row row found ≡ true → found ≡ Some row
+finds_row row None h = absurd cc
+finds_row row (Some k) h = ap (λ (x : ℕ). Some x) (eqb-true k row h)
 
-pub row_facts : (row : ℕ) → row < 598 → Row row
+pub row_facts : (row : ℕ) → row < row_count → Row row
 unfolding name_fits form_fits
 row_facts row lt =
     let a = and_parts (all_run (name_at row)) _ (each_name_fits row lt) in
@@ -69,7 +69,7 @@ row_facts row lt =
       run = a.0;
       some = ltb-true 0 (length (name_at row)) b.0;
       ascii = c.0;
-      found = found_is row (row_named (name_at row)) c.1;
+      found = finds_row row (row_named (name_at row)) c.1;
       form = d.0;
       room = ltb-true (bits_at row + spans (slots_at row)) (2 ^ 32) e.0;
       apart = f.0;
@@ -77,26 +77,26 @@ row_facts row lt =
     }
 
 -- the name's token, and tokens that the form reads
-spaced : (end bits w : ℕ) (name : List ℕ) (ss : List Slot) → all_run name ≡ true → 0 < length name → is_form ss ≡ true
+name_then_operands : (end bits w : ℕ) (name : List ℕ) (ss : List Slot) → all_run name ≡ true → 0 < length name → is_form ss ≡ true
     → (ts : List Token) × (tokens 1 (name ++ operands_text ss w) ≡ record { column = 1; text = name } ∷ ts) × (read_operands end bits ss ts ≡ Ok (sum_of bits (operand_parts ss w)))
 unfolding tokens read_operands
-spaced end bits w name [] run some f = (tokens (1 + length name) [], word 1 name [] run some refl, refl)
-spaced end bits w name (s ∷ ss) run some f =
-    (tokens (1 + length name + 1) (printed_operands (s ∷ ss) w), word 1 name (32 ∷ printed_operands (s ∷ ss) w) run some refl, form_again (s ∷ ss) w (1 + length name + 1) end bits f)
+name_then_operands end bits w name [] run some f = (tokens (1 + length name) [], run_is_one_token 1 name [] run some refl, refl)
+name_then_operands end bits w name (s ∷ ss) run some f =
+    (tokens (1 + length name + 1) (printed_operands (s ∷ ss) w), run_is_one_token 1 name (32 ∷ printed_operands (s ∷ ss) w) run some refl, form_again (s ∷ ss) w (1 + length name + 1) end bits f)
 
-pub text_again : (row w : ℕ) → row < 598 → w < 2 ^ 32 → bit_and w (fixed_mask (slots_at row)) ≡ bits_at row → spelled (text_at row w) ≡ Ok w
+pub text_again : (row w : ℕ) → row < row_count → w < 2 ^ 32 → bit_and w (fixed_mask (slots_at row)) ≡ bits_at row → spelled (text_at row w) ≡ Ok w
 unfolding spelled text_at
 text_again row w lt small is =
     let r = row_facts row lt in
     let ss = slots_at row in
     let end = length (text_at row w) + 1 in
-    let s = spaced end (bits_at row) w (name_at row) ss r.run r.some r.form in
+    let s = name_then_operands end (bits_at row) w (name_at row) ss r.run r.some r.form in
     ap (spelled_by end) s.1
     ∙ ap (spelled_with end (record { column = 1; text = name_at row }) s.0) r.found
     ∙ s.2
     ∙ ap (λ (n : ℕ). Ok n) (ap₂ (λ (b : ℕ) (ps : List Part). sum_of b ps) (sym is) (operand_parts_of_word ss w) ∙ rebuilt w (fixed_mask ss) (operand_parts ss 0) small r.apart r.full)
 
-pub ascii_at : (name : List ℕ) → all_ascii name ≡ true → (k : ℕ) → k < 16 → get_or name k 0 < 128
-ascii_at [] h k lt = lit< tt
-ascii_at (c ∷ cs) h zero lt = ltb-true c 128 (and_parts (nat_lt c 128) (all_ascii cs) h).0
-ascii_at (c ∷ cs) h (suc k) lt = ascii_at cs (and_parts (nat_lt c 128) (all_ascii cs) h).1 k (omega arith)
+pub byte_is_ascii : (name : List ℕ) → all_ascii name ≡ true → (k : ℕ) → k < 16 → get_or name k 0 < 128
+byte_is_ascii [] h k lt = lit< tt
+byte_is_ascii (c ∷ cs) h zero lt = ltb-true c 128 (and_parts (nat_lt c 128) (all_ascii cs) h).0
+byte_is_ascii (c ∷ cs) h (suc k) lt = byte_is_ascii cs (and_parts (nat_lt c 128) (all_ascii cs) h).1 k (omega arith)

@@ -1,30 +1,35 @@
 -- Each slot reads the text that is printed for its operand
-use Rattle.std.proofs.Common.{◌≡◌, ℕ, zero, suc, ◌+◌, ◌-◌, ◌*◌, ◌/◌, ◌%◌, ◌^◌, ◌<◌, ◌≤◌, Bool, true, false, not, cond, eqb, ltb, leb, ◌&&◌, List, [], ◌∷◌, ◌++◌, length, Option, Some, None, Result, Ok, refl, sym, ap, subst, ◌∙◌, append_assoc, arith, inl, inr, lit<, lit≤}
+use Rattle.std.proofs.Common.{◌≡◌, ℕ, zero, suc, ◌+◌, ◌-◌, ◌*◌, ◌/◌, ◌%◌, ◌^◌, ◌<◌, ◌≤◌, Bool, true, false, cond, eqb, ltb, leb, List, [], ◌∷◌, ◌++◌, length, Option, Some, None, Result, Ok, refl, sym, ap, subst, ◌∙◌, append_assoc, arith, inl, inr, lit<, lit≤}
 use Rattle.std.specs.Prelude.{codes}
 use Rattle.std.specs.Fmt.{decimal}
 use Rattle.std.specs.Str.{bytes_eq}
-use Rattle.std.proofs.lemmas.Bool.{le-leb, lt-ltb, le-ltb, eq-eqb, ne_eqb, and_parts, cond-true, cond-false, cases_lt, cases_Bool, ltb-true}
+use Rattle.std.proofs.lemmas.Bool.{le-leb, lt-ltb, le-ltb, eq-eqb, ne_eqb, cond-true, cond-false, cases_lt}
 use Rattle.std.proofs.lemmas.List.{length-append}
 use Rattle.rv_model.specs.assembler.Tokens.{Token, in_run, runs_on, tokens}
-use Rattle.rv_model.specs.assembler.Numbers.{literal, register, number, at_most, in_steps, negated, hex_digits, vlmul, vta, vma, csr, csr_text, vsew_text, vlmul_text, vta_text, vma_text}
+use Rattle.rv_model.specs.assembler.Numbers.{literal, register, number, at_most, in_steps, negated, hex_digits, vlmul, vta, vma, csr, csr_text}
 use Rattle.rv_model.specs.declared.assembler.forms.SignedField.{SignedField}
 use Rattle.rv_model.specs.declared.assembler.forms.SignedField.TheVariants as signed
 use Rattle.rv_model.specs.declared.assembler.forms.Slot.{Slot}
 use Rattle.rv_model.specs.declared.assembler.forms.Slot.TheVariants.{Comma, Open, Close, V0, Scalar, Vector, Unsigned, Signed, Csr, VectorType, ShortVectorType, Mask, Word}
-use Rattle.rv_model.specs.assembler.Slots.{◌>>=◌, accept, one, limit, half, step, steps, signed_number, vtype_names, vtype_from, vtype, read, room, signed_text, has_names, vtype_text, printed}
+use Rattle.rv_model.specs.assembler.Slots.{◌>>=◌, accept, one, limit, half, step, steps, signed_number, vtype_names, vtype_from, vtype, read, room, signed_text, vtype_named, vtype_text, printed}
+use Rattle.rv_model.specs.declared.vector.types.Sew.{Sew}
+use Rattle.rv_model.specs.declared.vector.types.Lmul.{Lmul}
+use Rattle.rv_model.specs.instructions.BitFields.{flag_bit}
+use Rattle.rv_model.specs.vector.TypeNames.{lmul_name, mask_name, sew_name, tail_name}
+use Rattle.rv_model.specs.vector.TypeRules.{lmul_number, lmul_with_number, sew_number, sew_with_number}
 use Rattle.rv_model.proofs.assembler_lemmas.Operands.{limit_small}
 use Rattle.rv_asm.proofs.Tokens.{all_run, run_first}
 use Rattle.rv_asm.proofs.NumberLaws.{is_decimal, number_again, all_run_dec, register_again, not_minus, hex_run, hex_again}
-use Rattle.rv_asm.proofs.NameLaws.{Means, csr_again, vsew_again, vlmul_again, vta_again, vma_again, vsew_digits}
+use Rattle.rv_asm.proofs.NameLaws.{Means, csr_again, vsew_again, vlmul_again, vta_again, vma_again, sew_number_again, lmul_number_again, vsew_digits}
 
-split_cond : (b d : Bool) → cond b d false ≡ true → (b ≡ true) × (d ≡ true)
-split_cond true d h = (refl, h)
-split_cond false d h = absurd cc
+both_hold : (b d : Bool) → cond b d false ≡ true → (b ≡ true) × (d ≡ true)
+both_hold true d h = (refl, h)
+both_hold false d h = absurd cc
 
 -- a run of bytes is one token
-pub word : (p : ℕ) (ds more : List ℕ) → all_run ds ≡ true → 0 < length ds → runs_on more ≡ false → tokens p (ds ++ more) ≡ record { column = p; text = ds } ∷ tokens (p + length ds) more
-word p [] more h some m = absurd (omega arith)
-word p (c ∷ cs) more h some m = let k = split_cond (in_run c) (all_run cs) h in run_first p c cs more k.0 k.1 m
+pub run_is_one_token : (p : ℕ) (ds more : List ℕ) → all_run ds ≡ true → 0 < length ds → runs_on more ≡ false → tokens p (ds ++ more) ≡ record { column = p; text = ds } ∷ tokens (p + length ds) more
+run_is_one_token p [] more h some m = absurd (omega arith)
+run_is_one_token p (c ∷ cs) more h some m = let k = both_hold (in_run c) (all_run cs) h in run_first p c cs more k.0 k.1 m
 
 -- what may stand behind a slot's text
 abbrev pub Follows : Slot → List ℕ → Type 0
@@ -40,7 +45,7 @@ Takes reader text v p more = reader (tokens p (text ++ more)) ≡ Ok (v, tokens 
 
 -- one token, and what it means
 one_again : (p end v : ℕ) (f : List ℕ → Option ℕ) (ds more : List ℕ) → Means f ds v → runs_on more ≡ false → Takes (one end f) ds v p more
-one_again p end v f ds more m follows = ap (one end f) (word p ds more m.run m.some follows) ∙ ap (accept p (tokens (p + length ds) more)) m.value
+one_again p end v f ds more m follows = ap (one end f) (run_is_one_token p ds more m.run m.some follows) ∙ ap (accept p (tokens (p + length ds) more)) m.value
 
 at_most_again : (limit n : ℕ) → n ≤ limit → at_most limit (Some n) ≡ Some n
 at_most_again limit n le = cond-true (leb n limit) (Some n) None (le-leb n limit le)
@@ -88,7 +93,7 @@ signed_again s v p end more lt follows =
           let value : in_steps size (at_most (size * count - 1) (number (decimal n))) ≡ Some v = ap (λ o. in_steps size (at_most (size * count - 1) o)) (number_again n (decimal n) d) ∙ ap (in_steps size) (at_most_again (size * count - 1) n (steps_below s v small)) ∙ steps_back s v in
           let ts = tokens (p + length (decimal n)) more in
           let reads : Takes (signed_number end size count) (decimal n) v p more =
-          ap (signed_number end size count) (word p (decimal n) more (all_run_dec (decimal n) d.digits) d.some follows)
+          ap (signed_number end size count) (run_is_one_token p (decimal n) more (all_run_dec (decimal n) d.digits) d.some follows)
           ∙ cond-false (bytes_eq (decimal n) (45 ∷ [])) (one end (λ t. negated count (steps size count t)) ts) (accept p ts (in_steps size (at_most (size * count - 1) (number (decimal n))))) (not_minus n (decimal n) d)
           ∙ ap (accept p ts) value in
           subst (λ (t : List ℕ). Takes (signed_number end size count) t v p more) (sym text) reads
@@ -132,81 +137,95 @@ with_multiplier end width ts = one end vlmul ts >>= λ x. (comma end x.1 >>= λ 
 bind_ok : (r : Result (ℕ × List Token) ℕ) (x : ℕ × List Token) (f : ℕ × List Token → Result (ℕ × List Token) ℕ) → r ≡ Ok x → (r >>= f) ≡ f x
 bind_ok r x f h = ap (λ (q : Result (ℕ × List Token) ℕ). q >>= f) h
 
-names_again : (end width multiplier tail inactive p : ℕ) (more : List ℕ) → multiplier < 8 → eqb multiplier 4 ≡ false → tail < 2 → inactive < 2 → runs_on more ≡ false
-    → vtype_names end width (tokens p (44 ∷ 32 ∷ (vlmul_text multiplier ++ (44 ∷ 32 ∷ (vta_text tail ++ (44 ∷ 32 ∷ (vma_text inactive ++ more)))))))
-    ≡ Ok (multiplier + width * 8 + tail * 64 + inactive * 128, tokens (p + 2 + length (vlmul_text multiplier) + 2 + length (vta_text tail) + 2 + length (vma_text inactive)) more)
+names_again : (end width : ℕ) (lmul : Lmul) (tail inactive : Bool) (p : ℕ) (more : List ℕ) → runs_on more ≡ false
+    → vtype_names end width (tokens p (44 ∷ 32 ∷ (lmul_name lmul ++ (44 ∷ 32 ∷ (tail_name tail ++ (44 ∷ 32 ∷ (mask_name inactive ++ more)))))))
+    ≡ Ok (lmul_number lmul + width * 8 + flag_bit tail * 64 + flag_bit inactive * 128, tokens (p + 2 + length (lmul_name lmul) + 2 + length (tail_name tail) + 2 + length (mask_name inactive)) more)
 unfolding vtype_names
-names_again end width multiplier tail inactive p more lm lh lt li follows =
-    let third = vma_text inactive ++ more in
-    let second = vta_text tail ++ (44 ∷ 32 ∷ third) in
-    let first = vlmul_text multiplier ++ (44 ∷ 32 ∷ second) in
+names_again end width lmul tail inactive p more follows =
+    let third = mask_name inactive ++ more in
+    let second = tail_name tail ++ (44 ∷ 32 ∷ third) in
+    let first = lmul_name lmul ++ (44 ∷ 32 ∷ second) in
     let a = p + 2 in
-    let b = a + length (vlmul_text multiplier) in
+    let b = a + length (lmul_name lmul) in
     let c = b + 2 in
-    let d = c + length (vta_text tail) in
+    let d = c + length (tail_name tail) in
     let e = d + 2 in
-    let f = e + length (vma_text inactive) in
+    let f = e + length (mask_name inactive) in
+    let multiplier = lmul_number lmul in
     bind_ok (comma end (tokens p (44 ∷ 32 ∷ first))) (0, tokens a first) (λ x. with_multiplier end width x.1) (comma_again p end first)
-    ∙ bind_ok (one end vlmul (tokens a first)) (multiplier, tokens b (44 ∷ 32 ∷ second)) (λ x. (comma end x.1 >>= λ b. with_tail end width x.0 b.1)) (one_again a end multiplier vlmul (vlmul_text multiplier) (44 ∷ 32 ∷ second) (vlmul_again multiplier lm lh) refl)
+    ∙ bind_ok (one end vlmul (tokens a first)) (multiplier, tokens b (44 ∷ 32 ∷ second)) (λ x. (comma end x.1 >>= λ b. with_tail end width x.0 b.1)) (one_again a end multiplier vlmul (lmul_name lmul) (44 ∷ 32 ∷ second) (vlmul_again lmul) refl)
     ∙ bind_ok (comma end (tokens b (44 ∷ 32 ∷ second))) (0, tokens c second) (λ x. with_tail end width multiplier x.1) (comma_again b end second)
-    ∙ bind_ok (one end vta (tokens c second)) (tail, tokens d (44 ∷ 32 ∷ third)) (λ x. (comma end x.1 >>= λ c. with_inactive end width multiplier x.0 c.1)) (one_again c end tail vta (vta_text tail) (44 ∷ 32 ∷ third) (vta_again tail lt) refl)
-    ∙ bind_ok (comma end (tokens d (44 ∷ 32 ∷ third))) (0, tokens e third) (λ x. with_inactive end width multiplier tail x.1) (comma_again d end third)
-    ∙ bind_ok (one end vma (tokens e third)) (inactive, tokens f more) (λ x. Ok (multiplier + width * 8 + tail * 64 + x.0 * 128, x.1)) (one_again e end inactive vma (vma_text inactive) more (vma_again inactive li) follows)
+    ∙ bind_ok (one end vta (tokens c second)) (flag_bit tail, tokens d (44 ∷ 32 ∷ third)) (λ x. (comma end x.1 >>= λ c. with_inactive end width multiplier x.0 c.1)) (one_again c end (flag_bit tail) vta (tail_name tail) (44 ∷ 32 ∷ third) (vta_again tail) refl)
+    ∙ bind_ok (comma end (tokens d (44 ∷ 32 ∷ third))) (0, tokens e third) (λ x. with_inactive end width multiplier (flag_bit tail) x.1) (comma_again d end third)
+    ∙ bind_ok (one end vma (tokens e third)) (flag_bit inactive, tokens f more) (λ x. Ok (multiplier + width * 8 + flag_bit tail * 64 + x.0 * 128, x.1)) (one_again e end (flag_bit inactive) vma (mask_name inactive) more (vma_again inactive) follows)
 
-names_whole : (w l t i more : List ℕ) → (w ++ 44 ∷ 32 ∷ [] ++ l ++ 44 ∷ 32 ∷ [] ++ t ++ 44 ∷ 32 ∷ [] ++ i) ++ more ≡ w ++ (44 ∷ 32 ∷ (l ++ (44 ∷ 32 ∷ (t ++ (44 ∷ 32 ∷ (i ++ more))))))
-names_whole w l t i more = simp append_assoc refl
+names_text_append : (w l t i more : List ℕ) → (w ++ 44 ∷ 32 ∷ [] ++ l ++ 44 ∷ 32 ∷ [] ++ t ++ 44 ∷ 32 ∷ [] ++ i) ++ more ≡ w ++ (44 ∷ 32 ∷ (l ++ (44 ∷ 32 ∷ (t ++ (44 ∷ 32 ∷ (i ++ more))))))
+names_text_append w l t i more = simp append_assoc refl
 
-names_length : (w l t i : List ℕ) → length (w ++ 44 ∷ 32 ∷ [] ++ l ++ 44 ∷ 32 ∷ [] ++ t ++ 44 ∷ 32 ∷ [] ++ i) ≡ length w + 2 + length l + 2 + length t + 2 + length i
-names_length w l t i = simp length-append refl
+names_text_length : (w l t i : List ℕ) → length (w ++ 44 ∷ 32 ∷ [] ++ l ++ 44 ∷ 32 ∷ [] ++ t ++ 44 ∷ 32 ∷ [] ++ i) ≡ length w + 2 + length l + 2 + length t + 2 + length i
+names_text_length w l t i = simp length-append refl
 
 -- the names of vtype's parts
-abbrev names_text : ℕ → ℕ → ℕ → ℕ → List ℕ
-names_text width multiplier tail inactive = vsew_text width ++ codes ", " ++ vlmul_text multiplier ++ codes ", " ++ vta_text tail ++ codes ", " ++ vma_text inactive
+abbrev names_text : Sew → Lmul → Bool → Bool → List ℕ
+names_text sew lmul tail inactive = sew_name sew ++ codes ", " ++ lmul_name lmul ++ codes ", " ++ tail_name tail ++ codes ", " ++ mask_name inactive
 
-named_parts : (end count width multiplier tail inactive p : ℕ) (more : List ℕ) → width < 4 → multiplier < 8 → eqb multiplier 4 ≡ false → tail < 2 → inactive < 2 → runs_on more ≡ false
-    → Takes (vtype end count) (names_text width multiplier tail inactive) (multiplier + width * 8 + tail * 64 + inactive * 128) p more
-named_parts end count width multiplier tail inactive p more lw lm lh lt li follows =
-    let others = 44 ∷ 32 ∷ (vlmul_text multiplier ++ (44 ∷ 32 ∷ (vta_text tail ++ (44 ∷ 32 ∷ (vma_text inactive ++ more))))) in
-    let m = vsew_again width lw in
-    let q = p + length (vsew_text width) in
-    let at : q + 2 + length (vlmul_text multiplier) + 2 + length (vta_text tail) + 2 + length (vma_text inactive) ≡ p + length (names_text width multiplier tail inactive) = omega (arith, names_length (vsew_text width) (vlmul_text multiplier) (vta_text tail) (vma_text inactive)) in
-    ap (λ (t : List ℕ). vtype end count (tokens p t)) (names_whole (vsew_text width) (vlmul_text multiplier) (vta_text tail) (vma_text inactive) more)
-    ∙ ap (vtype end count) (word p (vsew_text width) others m.run m.some refl)
-    ∙ ap (vtype_from end count (record { column = p; text = vsew_text width }) (tokens q others)) m.value
-    ∙ names_again end width multiplier tail inactive q more lm lh lt li follows
-    ∙ ap (λ (k : ℕ). Ok (multiplier + width * 8 + tail * 64 + inactive * 128, tokens k more)) at
+named_parts : (end count : ℕ) (sew : Sew) (lmul : Lmul) (tail inactive : Bool) (p : ℕ) (more : List ℕ) → runs_on more ≡ false
+    → Takes (vtype end count) (names_text sew lmul tail inactive) (lmul_number lmul + sew_number sew * 8 + flag_bit tail * 64 + flag_bit inactive * 128) p more
+named_parts end count sew lmul tail inactive p more follows =
+    let others = 44 ∷ 32 ∷ (lmul_name lmul ++ (44 ∷ 32 ∷ (tail_name tail ++ (44 ∷ 32 ∷ (mask_name inactive ++ more))))) in
+    let m = vsew_again sew in
+    let q = p + length (sew_name sew) in
+    let at : q + 2 + length (lmul_name lmul) + 2 + length (tail_name tail) + 2 + length (mask_name inactive) ≡ p + length (names_text sew lmul tail inactive) = omega (arith, names_text_length (sew_name sew) (lmul_name lmul) (tail_name tail) (mask_name inactive)) in
+    ap (λ (t : List ℕ). vtype end count (tokens p t)) (names_text_append (sew_name sew) (lmul_name lmul) (tail_name tail) (mask_name inactive) more)
+    ∙ ap (vtype end count) (run_is_one_token p (sew_name sew) others m.run m.some refl)
+    ∙ ap (vtype_from end count (record { column = p; text = sew_name sew }) (tokens q others)) m.value
+    ∙ names_again end (sew_number sew) lmul tail inactive q more follows
+    ∙ ap (λ (k : ℕ). Ok (lmul_number lmul + sew_number sew * 8 + flag_bit tail * 64 + flag_bit inactive * 128, tokens k more)) at
 
-named_vtype : (end count v p : ℕ) (more : List ℕ) → v < 256 → eqb (v % 8) 4 ≡ false → v / 8 % 8 < 4 → runs_on more ≡ false
-    → Takes (vtype end count) (names_text (v / 8 % 8) (v % 8) (v / 64 % 2) (v / 128 % 2)) v p more
-named_vtype end count v p more small reserved wide follows =
-    let is : v % 8 + v / 8 % 8 * 8 + v / 64 % 2 * 64 + v / 128 % 2 * 128 ≡ v = omega arith in
-    subst (λ (x : ℕ). Takes (vtype end count) (names_text (v / 8 % 8) (v % 8) (v / 64 % 2) (v / 128 % 2)) x p more) is
-    (named_parts end count (v / 8 % 8) (v % 8) (v / 64 % 2) (v / 128 % 2) p more wide (omega arith) reserved (omega arith) (omega arith) follows)
+-- a bit is the number of whether it is 1
+bit_again : (n : ℕ) → n < 2 → n ≡ flag_bit (eqb n 1)
+bit_again zero lt = refl
+bit_again (suc zero) lt = refl
+bit_again (suc (suc n)) lt = absurd (omega arith)
+
+-- a vtype below 256 is the sum of its parts
+parts_sum : (v sew lmul tail inactive : ℕ) → v < 256 → v / 8 % 8 ≡ sew → v % 8 ≡ lmul → v / 64 % 2 ≡ tail → v / 128 % 2 ≡ inactive → lmul + sew * 8 + tail * 64 + inactive * 128 ≡ v
+parts_sum v sew lmul tail inactive small a b c d = omega arith
+
+named_vtype : (end count v p : ℕ) (sew : Sew) (lmul : Lmul) (more : List ℕ) → v < 256 → sew_with_number (v / 8 % 8) ≡ Some sew → lmul_with_number (v % 8) ≡ Some lmul → runs_on more ≡ false
+    → Takes (vtype end count) (names_text sew lmul (eqb (v / 64 % 2) 1) (eqb (v / 128 % 2) 1)) v p more
+named_vtype end count v p sew lmul more small wide grouped follows =
+    let tail = eqb (v / 64 % 2) 1 in
+    let inactive = eqb (v / 128 % 2) 1 in
+    let is : lmul_number lmul + sew_number sew * 8 + flag_bit tail * 64 + flag_bit inactive * 128 ≡ v =
+    parts_sum v (sew_number sew) (lmul_number lmul) (flag_bit tail) (flag_bit inactive) small (sew_number_again (v / 8 % 8) sew wide) (lmul_number_again (v % 8) lmul grouped) (bit_again (v / 64 % 2) (omega arith)) (bit_again (v / 128 % 2) (omega arith)) in
+    subst (λ (x : ℕ). Takes (vtype end count) (names_text sew lmul tail inactive) x p more) is (named_parts end count sew lmul tail inactive p more follows)
 
 plain_vtype : (end count v p : ℕ) (more : List ℕ) → v < count → count ≤ 2 ^ 32 → runs_on more ≡ false → Takes (vtype end count) (decimal v) v p more
 plain_vtype end count v p more lt small follows =
     let d = is_decimal v (omega arith) in
     let ts = tokens (p + length (decimal v)) more in
-    ap (vtype end count) (word p (decimal v) more (all_run_dec (decimal v) d.digits) d.some follows)
+    ap (vtype end count) (run_is_one_token p (decimal v) more (all_run_dec (decimal v) d.digits) d.some follows)
     ∙ ap (vtype_from end count (record { column = p; text = decimal v }) ts) (vsew_digits v (decimal v) d)
     ∙ ap (λ o. accept p ts (at_most (count - 1) o)) (number_again v (decimal v) d)
     ∙ ap (accept p ts) (at_most_again (count - 1) v (omega arith))
 
-not_false : (b : Bool) → not b ≡ true → b ≡ false
-not_false true h = absurd cc
-not_false false h = refl
+-- by names where the parts have them
+either_vtype : (end count v p : ℕ) (sew : Option Sew) (lmul : Option Lmul) (more : List ℕ) → v < 256 → sew_with_number (v / 8 % 8) ≡ sew → lmul_with_number (v % 8) ≡ lmul → v < count → count ≤ 2 ^ 32 → runs_on more ≡ false
+    → Takes (vtype end count) (vtype_named sew lmul v) v p more
+either_vtype end count v p None lmul more small wide grouped lt le follows = plain_vtype end count v p more lt le follows
+either_vtype end count v p (Some sew) None more small wide grouped lt le follows = plain_vtype end count v p more lt le follows
+either_vtype end count v p (Some sew) (Some lmul) more small wide grouped lt le follows = named_vtype end count v p sew lmul more small wide grouped follows
 
 vtype_again : (end count v p : ℕ) (more : List ℕ) → v < count → count ≤ 2 ^ 32 → runs_on more ≡ false → Takes (vtype end count) (vtype_text v) v p more
 vtype_again end count v p more lt small follows =
-    let names = names_text (v / 8 % 8) (v % 8) (v / 64 % 2) (v / 128 % 2) in
-    elim (cases_Bool (has_names v)) [
-      | inl y ↦
-          let a = and_parts (ltb v 256) (not (eqb (v % 8) 4) && ltb (v / 8 % 8) 4) y in
-          let b = and_parts (not (eqb (v % 8) 4)) (ltb (v / 8 % 8) 4) a.1 in
-          subst (λ (t : List ℕ). Takes (vtype end count) t v p more) (sym (cond-true (has_names v) names (decimal v) y))
-          (named_vtype end count v p more (ltb-true v 256 a.0) (not_false (eqb (v % 8) 4) b.0) (ltb-true (v / 8 % 8) 4 b.1) follows)
-      | inr n ↦
-          subst (λ (t : List ℕ). Takes (vtype end count) t v p more) (sym (cond-false (has_names v) names (decimal v) n))
+    let names = vtype_named (sew_with_number (v / 8 % 8)) (lmul_with_number (v % 8)) v in
+    elim (cases_lt v 256) [
+      | inl below ↦
+          subst (λ (t : List ℕ). Takes (vtype end count) t v p more) (sym (cond-true (ltb v 256) names (decimal v) (lt-ltb v 256 below)))
+          (either_vtype end count v p (sew_with_number (v / 8 % 8)) (lmul_with_number (v % 8)) more below refl refl lt small follows)
+      | inr above ↦
+          subst (λ (t : List ℕ). Takes (vtype end count) t v p more) (sym (cond-false (ltb v 256) names (decimal v) (le-ltb v 256 above)))
           (plain_vtype end count v p more lt small follows)
     ]
 
@@ -232,17 +251,17 @@ word_means : (v : ℕ) → v < 2 ^ 32 → Means (λ t. at_most (2 ^ 32 - 1) (num
 unfolding hex_digits
 word_means v lt = record { run = hex_run 8 v; some = lit< tt; value = ap (at_most (2 ^ 32 - 1)) (hex_again v lt) ∙ at_most_again (2 ^ 32 - 1) v (omega arith) }
 
-zero_is : (v : ℕ) → v < 1 → 0 ≡ v
-zero_is v lt = omega arith
+below_one_is_zero : (v : ℕ) → v < 1 → 0 ≡ v
+below_one_is_zero v lt = omega arith
 
 -- what is printed for an operand is read as that operand
 pub slot_again : (s : Slot) (v p end : ℕ) (more : List ℕ) → v < room s → Follows s more → Takes (read end s) (printed s v) v p more
 unfolding tokens
-slot_again Comma v p end more fits follows = comma_again p end more ∙ ap (λ (x : ℕ). Ok (x, tokens (p + 2) more)) (zero_is v fits)
-slot_again Open v p end more fits follows = ap (λ (x : ℕ). Ok (x, tokens (p + 1) more)) (zero_is v fits)
-slot_again Close v p end more fits follows = ap (λ (x : ℕ). Ok (x, tokens (p + 1) more)) (zero_is v fits)
+slot_again Comma v p end more fits follows = comma_again p end more ∙ ap (λ (x : ℕ). Ok (x, tokens (p + 2) more)) (below_one_is_zero v fits)
+slot_again Open v p end more fits follows = ap (λ (x : ℕ). Ok (x, tokens (p + 1) more)) (below_one_is_zero v fits)
+slot_again Close v p end more fits follows = ap (λ (x : ℕ). Ok (x, tokens (p + 1) more)) (below_one_is_zero v fits)
 slot_again V0 v p end more fits follows =
-    one_again p end 0 (literal (codes "v0")) (codes "v0") more (record { run = refl; some = lit< tt; value = refl }) follows ∙ ap (λ (x : ℕ). Ok (x, tokens (p + 2) more)) (zero_is v fits)
+    one_again p end 0 (literal (codes "v0")) (codes "v0") more (record { run = refl; some = lit< tt; value = refl }) follows ∙ ap (λ (x : ℕ). Ok (x, tokens (p + 2) more)) (below_one_is_zero v fits)
 slot_again (Scalar r) v p end more fits follows = one_again p end v (register 120) (120 ∷ decimal v) more (register_means 120 v refl fits) follows
 slot_again (Vector r) v p end more fits follows = one_again p end v (register 118) (118 ∷ decimal v) more (register_means 118 v refl fits) follows
 slot_again (Unsigned u) v p end more fits follows = one_again p end v (λ t. at_most (limit u) (number t)) (decimal v) more (number_means (limit u) v (omega arith) (limit_small u)) follows

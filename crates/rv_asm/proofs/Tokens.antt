@@ -16,12 +16,12 @@ abbrev pub all_run : List ℕ → Bool
 all_run [] = true
 all_run (c ∷ cs) = cond (in_run c) (all_run cs) false
 
-split_cond : (b d : Bool) → cond b d false ≡ true → (b ≡ true) × (d ≡ true)
-split_cond true d h = (refl, h)
-split_cond false d h = absurd cc
+both_hold : (b d : Bool) → cond b d false ≡ true → (b ≡ true) × (d ≡ true)
+both_hold true d h = (refl, h)
+both_hold false d h = absurd cc
 
 all_run_parts : (c : ℕ) (cs : List ℕ) → all_run (c ∷ cs) ≡ true → (in_run c ≡ true) × (all_run cs ≡ true)
-all_run_parts c cs h = split_cond (in_run c) (all_run cs) h
+all_run_parts c cs h = both_hold (in_run c) (all_run cs) h
 
 space_not_run : (c : ℕ) → in_run c ≡ true → eqb c 32 ≡ false
 space_not_run c h = ne_eqb c 32 (λ e. let P : ℕ → Type 0 = λ x. in_run x ≡ true in false≢true (subst P e h))
@@ -36,14 +36,14 @@ pick_last : {A : Type 0} (s r m : Bool) (x y z : A) → s ≡ false → (r && m)
 pick_last true r m x y z hs hr = absurd cc
 pick_last false r m x y z hs hr = rw hr refl
 
--- a byte that stands alone
-pub alone : (p c : ℕ) (more : List ℕ) → eqb c 32 ≡ false → (in_run c && runs_on more) ≡ false → tokens p (c ∷ more) ≡ record { column = p; text = c ∷ [] } ∷ tokens (p + 1) more
+-- a byte that stands single_byte_is_token
+pub single_byte_is_token : (p c : ℕ) (more : List ℕ) → eqb c 32 ≡ false → (in_run c && runs_on more) ≡ false → tokens p (c ∷ more) ≡ record { column = p; text = c ∷ [] } ∷ tokens (p + 1) more
 unfolding tokens
-alone p c more hs hr = pick_last (eqb c 32) (in_run c) (runs_on more) (tokens (p + 1) more) (joined p c (tokens (p + 1) more)) (record { column = p; text = c ∷ [] } ∷ tokens (p + 1) more) hs hr
+single_byte_is_token p c more hs hr = pick_last (eqb c 32) (in_run c) (runs_on more) (tokens (p + 1) more) (joined p c (tokens (p + 1) more)) (record { column = p; text = c ∷ [] } ∷ tokens (p + 1) more) hs hr
 
 pub run_first : (p c : ℕ) (run more : List ℕ) → in_run c ≡ true → all_run run ≡ true → runs_on more ≡ false → tokens p ((c ∷ run) ++ more) ≡ record { column = p; text = c ∷ run } ∷ tokens (p + length (c ∷ run)) more
 unfolding tokens
-run_first p c [] more hc hr hm = alone p c more (space_not_run c hc) (and_right (in_run c) (runs_on more) hm)
+run_first p c [] more hc hr hm = single_byte_is_token p c more (space_not_run c hc) (and_right (in_run c) (runs_on more) hm)
 run_first p c (d ∷ run) more hc hr hm =
     let parts = all_run_parts d run hr in
     let ts = tokens (p + 1) ((d ∷ run) ++ more) in
@@ -88,7 +88,7 @@ takes_single text at lt ns nr =
     let whole : drop at text ≡ c ∷ drop (at + 1) text = drop_more text at 0 lt in
     let k : (at + 1) - at ≡ 1 = omega arith in
     let piece : c ∷ [] ≡ take ((at + 1) - at) (drop at text) = sym (ap (λ (m : ℕ). take m (drop at text)) k ∙ ap (λ (cs : List ℕ). take 1 cs) whole) in
-    ap (tokens (at + 1)) whole ∙ alone (at + 1) c (drop (at + 1) text) (ne_eqb c 32 ns) (and_left (in_run c) (runs_on (drop (at + 1) text)) nr) ∙ ap (λ (t : List ℕ). record { column = at + 1; text = t } ∷ rest text (at + 1)) piece
+    ap (tokens (at + 1)) whole ∙ single_byte_is_token (at + 1) c (drop (at + 1) text) (ne_eqb c 32 ns) (and_left (in_run c) (runs_on (drop (at + 1) text)) nr) ∙ ap (λ (t : List ℕ). record { column = at + 1; text = t } ∷ rest text (at + 1)) piece
 
 pub takes_none : (text : List ℕ) (at : ℕ) → length text ≤ at → rest text at ≡ []
 unfolding tokens

@@ -26,6 +26,7 @@ pub fn assemble(text: &[u8]) -> Result<u32, AsmFault>
     read_operands(bits, slots_of(form), text, after)
 }
 
+/// Appends a space and the operands of a word, or nothing where the form has no slots.
 fn put_operands_text(slots: &[Slot], word: u32, text: &mut Text)
     requires { array_string_len text.old + 1 + 16 * length slots.now ≤ 160 }
     ensures { text.new.bytes ≡ text.old.bytes ++ operands_text slots.now word }

@@ -8,6 +8,7 @@ ghost use Rattle.rv_asm.specs.Spans.{span};
 
 use rv_model::assembler::forms::{Place, SignedField, Slot, UnsignedField};
 
+/// The `len` bits of a word from bit `low` up.
 fn field(low: u32, len: u32, word: u32) -> u32
     requires { low < 32 × len < 32 }
     ensures value { result ≡ field low len word }
@@ -16,6 +17,7 @@ fn field(low: u32, len: u32, word: u32) -> u32
     (word >> low) % (1 << len)
 }
 
+/// A value that begins at bit `low`.
 fn shifted(low: u32, value: u32) -> u32
     requires { low < 32 × value * 2 ^ low < 2 ^ 32 }
     ensures { result ≡ value * 2 ^ low }
@@ -23,6 +25,7 @@ fn shifted(low: u32, value: u32) -> u32
     value << low
 }
 
+/// The lowest bit of a register's place.
 fn lowest(place: Place) -> u32
     ensures value { result ≡ lowest place }
     ensures small { result ≤ 20 }
@@ -34,6 +37,7 @@ fn lowest(place: Place) -> u32
     }
 }
 
+/// A register's number at its place.
 fn register_bits(place: Place, value: u32) -> u32
     ensures value { result ≡ value % 2 ^ 5 * 2 ^ lowest place }
     ensures small { result ≤ 31 * 2 ^ lowest place }
@@ -45,6 +49,7 @@ fn register_bits(place: Place, value: u32) -> u32
     }
 }
 
+/// An unsigned number at its place.
 fn unsigned_bits(field: UnsignedField, value: u32) -> u32
     ensures value { result ≡ placed (Slot.Unsigned field) value }
     ensures small { result ≤ span (Slot.Unsigned field) }
@@ -57,6 +62,7 @@ fn unsigned_bits(field: UnsignedField, value: u32) -> u32
     }
 }
 
+/// The 12 bits of a store's offset at their two places.
 fn store_bits(offset: u32) -> u32
     ensures value { result ≡ placed (Slot.Signed SignedField.Store) offset }
     ensures small { result ≤ span (Slot.Signed SignedField.Store) }
@@ -64,6 +70,7 @@ fn store_bits(offset: u32) -> u32
     shifted(25, offset / 32 % 128) + shifted(7, offset % 32)
 }
 
+/// The 12 bits of the distance of a branch, in steps of two bytes, at their four places.
 fn branch_bits(offset: u32) -> u32
     ensures value { result ≡ placed (Slot.Signed SignedField.Branch) offset }
     ensures small { result ≤ span (Slot.Signed SignedField.Branch) }
@@ -74,6 +81,7 @@ fn branch_bits(offset: u32) -> u32
         + shifted(7, offset / 1024 % 2)
 }
 
+/// The 20 bits of the distance of a jump, in steps of two bytes, at their four places.
 fn jump_bits(offset: u32) -> u32
     ensures value { result ≡ placed (Slot.Signed SignedField.Jump) offset }
     ensures small { result ≤ span (Slot.Signed SignedField.Jump) }
@@ -84,6 +92,7 @@ fn jump_bits(offset: u32) -> u32
         + shifted(12, offset / 2048 % 256)
 }
 
+/// A signed number at its place, by its two's complement bits.
 fn signed_bits(field: SignedField, value: u32) -> u32
     ensures value { result ≡ placed (Slot.Signed field) value }
     ensures small { result ≤ span (Slot.Signed field) }
@@ -116,6 +125,7 @@ pub fn placed(slot: &Slot, value: u32) -> u32
     }
 }
 
+/// The unsigned number that a word holds.
 fn unsigned_value(unsigned: UnsignedField, word: u32) -> u32
     ensures value { result ≡ value_of (Slot.Unsigned unsigned) word }
     ensures small { result < room (Slot.Unsigned unsigned) }
@@ -128,6 +138,7 @@ fn unsigned_value(unsigned: UnsignedField, word: u32) -> u32
     }
 }
 
+/// The 12 bits of a store's offset.
 fn store_immediate(word: u32) -> u32
     ensures value { result ≡ store_immediate word }
     ensures small { result < 2 ^ 12 }
@@ -135,6 +146,7 @@ fn store_immediate(word: u32) -> u32
     field(7, 5, word) + field(25, 7, word) * 32
 }
 
+/// The 12 bits of the distance of a branch, in steps of two bytes.
 fn branch_offset(word: u32) -> u32
     ensures value { result ≡ branch_offset word }
     ensures small { result < 2 ^ 12 }
@@ -145,6 +157,7 @@ fn branch_offset(word: u32) -> u32
         + field(31, 1, word) * 2048
 }
 
+/// The 20 bits of the distance of a jump, in steps of two bytes.
 fn jump_offset(word: u32) -> u32
     ensures value { result ≡ jump_offset word }
     ensures small { result < 2 ^ 20 }
@@ -155,6 +168,7 @@ fn jump_offset(word: u32) -> u32
         + field(31, 1, word) * 0x8_0000
 }
 
+/// The two's complement bits of the signed number that a word holds.
 fn signed_value(signed: SignedField, word: u32) -> u32
     ensures value { result ≡ value_of (Slot.Signed signed) word }
     ensures small { result < room (Slot.Signed signed) }

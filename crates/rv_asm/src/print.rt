@@ -1,18 +1,20 @@
 //! The one text of each operand.
-ghost use Rattle.std.specs.Prelude.{◌≡◌, ◌≤◌, ◌<◌, ◌^◌, ◌+◌, ◌-◌, ◌*◌, ◌++◌, ◌↔◌, ℕ, IsTrue, true, length, decimal, slice_index};
+ghost use Rattle.std.specs.Prelude.{◌≡◌, ◌≤◌, ◌<◌, ◌^◌, ◌+◌, ◌-◌, ◌*◌, ◌++◌, ℕ, Some, decimal, slice_index};
 ghost use Rattle.arrayvec.specs.ArrayString.{array_string_len};
-ghost use Rattle.rv_model.specs.assembler.Numbers.{hex_digit, hex_digits, csr_text, vsew_text, vlmul_text, vta_text, vma_text};
-ghost use Rattle.rv_model.specs.assembler.Slots.{has_names, vtype_text, signed_text, printed, room};
+ghost use Rattle.rv_model.specs.assembler.Numbers.{hex_digit, hex_digits, csr_text};
+ghost use Rattle.rv_model.specs.assembler.Slots.{vtype_named, vtype_text, signed_text, printed, room};
 ghost use Rattle.rv_model.specs.assembler.Table.{unpadded};
 
 use crate::read::{half, step};
 use arrayvec::ArrayString;
 use itoa::Buffer;
 use rv_model::assembler::forms::Slot;
+use rv_model::{ControlRegister, Lmul, Sew, VType};
 
 /// Room for the text of any word.
 pub type Text = ArrayString<160>;
 
+/// Appends a number in decimal, at most 10 digits.
 fn put_decimal(n: u32, out: &mut Text)
     requires { array_string_len out.old + 10 ≤ 160 }
     ensures bytes { out.new.bytes ≡ out.old.bytes ++ decimal n }
@@ -22,6 +24,8 @@ fn put_decimal(n: u32, out: &mut Text)
     out.push_str(buffer.format(n));
 }
 
+/// Appends a signed number of steps from its two's complement bits, of which `half` values are
+/// below 0.
 fn put_signed(step: u32, half: u32, value: u32, out: &mut Text)
     requires room { array_string_len out.old + 16 ≤ 160 }
     requires step { step ≤ 2 }
@@ -38,6 +42,7 @@ fn put_signed(step: u32, half: u32, value: u32, out: &mut Text)
     }
 }
 
+/// The hexadecimal digit of a number below 16, in lower case.
 fn hex_digit(digit: u32) -> char
     requires { digit < 16 }
     ensures value { result ≡ hex_digit digit }
@@ -50,6 +55,7 @@ fn hex_digit(digit: u32) -> char
     }
 }
 
+/// Appends the last `count` hexadecimal digits of a number.
 #[tactic(auto, unfolding(rv_model::specs::assembler::Numbers::hex_digits))]
 fn put_hex_digits(count: usize, value: u32, out: &mut Text)
     requires { array_string_len out.old + count ≤ 160 }
@@ -62,88 +68,46 @@ fn put_hex_digits(count: usize, value: u32, out: &mut Text)
     }
 }
 
+/// Appends the name of a control register, or its number where it has none.
 #[tactic(auto, unfolding(rv_model::specs::assembler::Numbers::csr_text))]
 fn put_csr(csr: u32, out: &mut Text)
     requires { array_string_len out.old + 16 ≤ 160 }
     ensures bytes { out.new.bytes ≡ out.old.bytes ++ csr_text csr }
     ensures grows { array_string_len out.new ≤ array_string_len out.old + 16 }
 {
-    match csr {
-        0x008 => out.push_str("vstart"),
-        0x009 => out.push_str("vxsat"),
-        0x00a => out.push_str("vxrm"),
-        0x00f => out.push_str("vcsr"),
-        0xc20 => out.push_str("vl"),
-        0xc21 => out.push_str("vtype"),
-        0xc22 => out.push_str("vlenb"),
-        _ => put_decimal(csr, out),
+    match ControlRegister::with_number(csr) {
+        Some(register) => out.push_str(register.name()),
+        None => put_decimal(csr, out),
     }
 }
 
-#[tactic(auto, unfolding(rv_model::specs::assembler::Numbers::vsew_text))]
-fn vsew_name(vsew: u32) -> &'static str
-    ensures name { result.now ≡ vsew_text vsew }
-    ensures short { length result.now ≤ 3 }
+/// Appends the names of the parts of a vtype whose width and multiplier are these.
+fn put_type_names(sew: Sew, lmul: Lmul, vtype: u32, out: &mut Text)
+    requires { array_string_len out.old + 16 ≤ 160 }
+    ensures bytes { out.new.bytes ≡ out.old.bytes ++ vtype_named (Some sew) (Some lmul) vtype }
+    ensures grows { array_string_len out.new ≤ array_string_len out.old + 16 }
 {
-    match vsew {
-        0 => "e8",
-        1 => "e16",
-        2 => "e32",
-        _ => "e64",
-    }
+    out.push_str(sew.name());
+    out.push_str(", ");
+    out.push_str(lmul.name());
+    out.push_str(", ");
+    out.push_str(VType::tail_name(vtype / 64 % 2 == 1));
+    out.push_str(", ");
+    out.push_str(VType::mask_name(vtype / 128 % 2 == 1));
 }
 
-#[tactic(auto, unfolding(rv_model::specs::assembler::Numbers::vlmul_text))]
-fn vlmul_name(vlmul: u32) -> &'static str
-    ensures name { result.now ≡ vlmul_text vlmul }
-    ensures short { length result.now ≤ 3 }
-{
-    match vlmul {
-        0 => "m1",
-        1 => "m2",
-        2 => "m4",
-        3 => "m8",
-        5 => "mf8",
-        6 => "mf4",
-        _ => "mf2",
-    }
-}
-
-#[tactic(auto, unfolding(rv_model::specs::assembler::Numbers::vta_text))]
-fn vta_name(vta: u32) -> &'static str
-    ensures name { result.now ≡ vta_text vta }
-    ensures short { length result.now ≤ 2 }
-{
-    if vta == 1 { "ta" } else { "tu" }
-}
-
-#[tactic(auto, unfolding(rv_model::specs::assembler::Numbers::vma_text))]
-fn vma_name(vma: u32) -> &'static str
-    ensures name { result.now ≡ vma_text vma }
-    ensures short { length result.now ≤ 2 }
-{
-    if vma == 1 { "ma" } else { "mu" }
-}
-
-fn has_names(vtype: u32) -> bool
-    ensures { result ≡ has_names vtype }
-{
-    vtype < 256 && vtype % 8 != 4 && vtype / 8 % 8 < 4
-}
-
+/// Appends vtype by the names of its parts, or as a number where a part or a bit from 8 up is
+/// reserved.
 fn put_vtype(vtype: u32, out: &mut Text)
     requires { array_string_len out.old + 16 ≤ 160 }
     ensures bytes { out.new.bytes ≡ out.old.bytes ++ vtype_text vtype }
     ensures grows { array_string_len out.new ≤ array_string_len out.old + 16 }
 {
-    if has_names(vtype) {
-        out.push_str(vsew_name(vtype / 8 % 8));
-        out.push_str(", ");
-        out.push_str(vlmul_name(vtype % 8));
-        out.push_str(", ");
-        out.push_str(vta_name(vtype / 64 % 2));
-        out.push_str(", ");
-        out.push_str(vma_name(vtype / 128 % 2));
+    if vtype < 256
+        && let Some(sew) = Sew::with_number((vtype / 8 % 8) as u8)
+        && let Some(lmul) = Lmul::with_number((vtype % 8) as u8)
+    {
+        put_type_names(sew, lmul, vtype, out);
     } else {
         put_decimal(vtype, out);
     }

@@ -25,6 +25,7 @@ pub fn literal(word: &[u8], text: &[u8], at: usize) -> Result<(u32, usize), AsmF
     }
 }
 
+/// A register with this letter.
 fn register_at(letter: u8, text: &[u8], at: usize) -> Result<(u32, usize), AsmFault>
     requires { at ≤ length text.now }
     ensures { Reads text.now result
@@ -37,6 +38,7 @@ fn register_at(letter: u8, text: &[u8], at: usize) -> Result<(u32, usize), AsmFa
     }
 }
 
+/// A control register, by its name or its number.
 fn csr_at(text: &[u8], at: usize) -> Result<(u32, usize), AsmFault>
     requires { at ≤ length text.now }
     ensures { Reads text.now result (one (length text.now + 1) csr (rest text.now at)) }
@@ -48,6 +50,7 @@ fn csr_at(text: &[u8], at: usize) -> Result<(u32, usize), AsmFault>
     }
 }
 
+/// A number that is not above the limit.
 fn unsigned_at(limit: u32, text: &[u8], at: usize) -> Result<(u32, usize), AsmFault>
     requires { at ≤ length text.now }
     ensures { Reads text.now result
@@ -60,6 +63,7 @@ fn unsigned_at(limit: u32, text: &[u8], at: usize) -> Result<(u32, usize), AsmFa
     }
 }
 
+/// A number that is not above the limit, counted in steps; `None` where it is no whole count.
 fn in_steps(step: u32, limit: u32, text: &[u8]) -> Option<u32>
     requires { 1 ≤ step }
     ensures { result ≡ in_steps step (at_most limit (number text.now)) }
@@ -72,6 +76,7 @@ fn in_steps(step: u32, limit: u32, text: &[u8]) -> Option<u32>
     }
 }
 
+/// The two's complement bits of a number below 0, from its magnitude in steps.
 fn negative(step: u32, half: u32, text: &[u8]) -> Option<u32>
     requires step { 1 ≤ step × step ≤ 2 }
     requires half { half < 2 ^ 30 }
@@ -85,6 +90,8 @@ fn negative(step: u32, half: u32, text: &[u8]) -> Option<u32>
     }
 }
 
+/// A number, or `-` and a number, in steps: the two's complement bits of which `half` values are
+/// below 0.
 fn signed_at(step: u32, half: u32, text: &[u8], at: usize) -> Result<(u32, usize), AsmFault>
     requires inside { at ≤ length text.now }
     requires step { 1 ≤ step × step ≤ 2 }
@@ -106,6 +113,7 @@ fn signed_at(step: u32, half: u32, text: &[u8], at: usize) -> Result<(u32, usize
     }
 }
 
+/// `, v0.t`, or the end of the text: bit 25, clear where the instruction is masked.
 #[tactic(auto, using(crate::proofs::Tokens::takes_none))]
 fn mask_at(text: &[u8], at: usize) -> Result<(u32, usize), AsmFault>
     requires { at ≤ length text.now }

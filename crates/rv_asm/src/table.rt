@@ -3,20 +3,53 @@ ghost use Rattle.std.specs.Prelude.{ℕ, ◌≡◌, ◌≤◌, ◌<◌, ◌^◌,
 ghost use Rattle.std.specs.Str.{bytes_eq};
 ghost use Rattle.rv_model.specs.assembler.Fields.{fixed_mask};
 ghost use Rattle.rv_asm.specs.Spans.{spans};
-ghost use Rattle.rv_model.specs.assembler.Table.{slots_of, padded, row_named, row_of_word, row_at, slots_at, bits_at};
+ghost use Rattle.rv_model.specs.assembler.Table.{carry_slots, move_slots, name_count, row_count, slots_of, unmasked_slots, padded, row_named, row_of_word, row_at, slots_at, bits_at};
 
 use rv_model::assembler::forms::{
     BRANCH, CARRY_IMMEDIATE, CARRY_SCALAR, CARRY_VECTOR, CSR, CSR_IMMEDIATE, ELEMENT_INDEX, Form,
     IMMEDIATE, INDEXED, JUMP, LOAD, MASK_TO_SCALAR, MOVE_IMMEDIATE, MOVE_SCALAR, MOVE_TO_SCALAR,
     MOVE_VECTOR, MULTIPLY_ADD_SCALAR, MULTIPLY_ADD_VECTOR, PLAIN, REGISTER, SET_IVLI, SET_VLI,
-    SHIFT, SHIFT_WORD, STORE, STRIDED, Slot, UNIT, UNMASKED_IMMEDIATE, UNMASKED_SCALAR,
+    SHIFT, SHIFT_WORD, STORE, STRIDED, Slot, SourceKind, UNIT, UNMASKED_IMMEDIATE, UNMASKED_SCALAR,
     UNMASKED_UNIT, UNMASKED_VECTOR, UPPER, VECTOR_IMMEDIATE, VECTOR_SCALAR, VECTOR_UNARY,
     VECTOR_UNSIGNED, VECTOR_VECTOR, WHOLE_MOVE, WORD,
 };
-use rv_model::assembler::mnemonics::{MNEMONICS, Mnemonic};
+use rv_model::assembler::mnemonics::{MNEMONICS, Mnemonic, NAME_COUNT};
 
-/// The row of `.word`, the last.
-const DIRECTIVE: usize = 597;
+/// The slots of a form with v0 as an operand.
+fn carry_slots(source: SourceKind) -> &'static [Slot]
+    ensures slots { result.now ≡ carry_slots source }
+    ensures few { length result.now ≤ 8 }
+{
+    match source {
+        SourceKind::Vector => &CARRY_VECTOR,
+        SourceKind::Scalar => &CARRY_SCALAR,
+        SourceKind::Immediate => &CARRY_IMMEDIATE,
+    }
+}
+
+/// The slots of a form that is never masked.
+fn unmasked_slots(source: SourceKind) -> &'static [Slot]
+    ensures slots { result.now ≡ unmasked_slots source }
+    ensures few { length result.now ≤ 8 }
+{
+    match source {
+        SourceKind::Vector => &UNMASKED_VECTOR,
+        SourceKind::Scalar => &UNMASKED_SCALAR,
+        SourceKind::Immediate => &UNMASKED_IMMEDIATE,
+    }
+}
+
+/// The slots of a form of a move.
+fn move_slots(source: SourceKind) -> &'static [Slot]
+    ensures slots { result.now ≡ move_slots source }
+    ensures few { length result.now ≤ 8 }
+{
+    match source {
+        SourceKind::Vector => &MOVE_VECTOR,
+        SourceKind::Scalar => &MOVE_SCALAR,
+        SourceKind::Immediate => &MOVE_IMMEDIATE,
+    }
+}
 
 /// The slots of a form.
 pub fn slots_of(form: Form) -> &'static [Slot]
@@ -44,15 +77,9 @@ pub fn slots_of(form: Form) -> &'static [Slot]
         Form::VectorUnsigned => &VECTOR_UNSIGNED,
         Form::MultiplyAddVector => &MULTIPLY_ADD_VECTOR,
         Form::MultiplyAddScalar => &MULTIPLY_ADD_SCALAR,
-        Form::CarryVector => &CARRY_VECTOR,
-        Form::CarryScalar => &CARRY_SCALAR,
-        Form::CarryImmediate => &CARRY_IMMEDIATE,
-        Form::UnmaskedVector => &UNMASKED_VECTOR,
-        Form::UnmaskedScalar => &UNMASKED_SCALAR,
-        Form::UnmaskedImmediate => &UNMASKED_IMMEDIATE,
-        Form::MoveVector => &MOVE_VECTOR,
-        Form::MoveScalar => &MOVE_SCALAR,
-        Form::MoveImmediate => &MOVE_IMMEDIATE,
+        Form::Carry(source) => carry_slots(source),
+        Form::Unmasked(source) => unmasked_slots(source),
+        Form::Move(source) => move_slots(source),
         Form::MoveToScalar => &MOVE_TO_SCALAR,
         Form::WholeMove => &WHOLE_MOVE,
         Form::MaskToScalar => &MASK_TO_SCALAR,
@@ -73,14 +100,7 @@ pub fn fixed_mask(form: Form) -> u32
 {
     match form {
         Form::Plain => 0xffff_ffff,
-        Form::Register
-        | Form::ShiftWord
-        | Form::CarryVector
-        | Form::CarryScalar
-        | Form::CarryImmediate
-        | Form::UnmaskedVector
-        | Form::UnmaskedScalar
-        | Form::UnmaskedImmediate => 0xfe00_707f,
+        Form::Register | Form::ShiftWord | Form::Carry(_) | Form::Unmasked(_) => 0xfe00_707f,
         Form::Immediate
         | Form::Load
         | Form::Store
@@ -99,8 +119,7 @@ pub fn fixed_mask(form: Form) -> u32
         Form::Jump | Form::Upper => 0x0000_007f,
         Form::SetVli => 0x8000_707f,
         Form::SetIvli => 0xc000_707f,
-        Form::MoveVector | Form::MoveScalar | Form::MoveImmediate | Form::UnmaskedUnit =>
-            0xfff0_707f,
+        Form::Move(_) | Form::UnmaskedUnit => 0xfff0_707f,
         Form::MoveToScalar | Form::WholeMove => 0xfe0f_f07f,
         Form::MaskToScalar | Form::VectorUnary => 0xfc0f_f07f,
         Form::ElementIndex => 0xfdff_f07f,
@@ -109,6 +128,7 @@ pub fn fixed_mask(form: Form) -> u32
     }
 }
 
+/// A name with spaces behind it, 16 bytes long.
 fn padded(name: &[u8]) -> [u8; 16]
     requires { length name.now ≤ 16 }
     ensures { result ≡ padded name.now }
@@ -118,8 +138,9 @@ fn padded(name: &[u8]) -> [u8; 16]
     bytes
 }
 
+/// The row with this name, which has its spaces.
 fn row_padded(name: &[u8; 16]) -> Option<usize>
-    ensures within { IfSome result (λ row. row < 598) }
+    ensures within { IfSome result (λ row. row < row_count) }
     ensures first { result ≡ position (λ row. bytes_eq row.0 name.now) MNEMONICS }
 {
     MNEMONICS.iter().position(|row| row.0 == *name)
@@ -128,7 +149,7 @@ fn row_padded(name: &[u8; 16]) -> Option<usize>
 /// The row with this name.
 #[tactic(auto, unfolding(rv_model::specs::assembler::Table::row_named))]
 pub fn row_named(name: &[u8]) -> Option<usize>
-    ensures within { IfSome result (λ row. row < 598) }
+    ensures within { IfSome result (λ row. row < row_count) }
     ensures first { result ≡ row_named name.now }
 {
     if name.len() > 16 {
@@ -137,8 +158,9 @@ pub fn row_named(name: &[u8]) -> Option<usize>
     row_padded(&padded(name))
 }
 
+/// The first row whose fixed bits a word has.
 fn row_matching(word: u32) -> Option<usize>
-    ensures within { IfSome result (λ row. row < 598) }
+    ensures within { IfSome result (λ row. row < row_count) }
     ensures first { result
         ≡ position (λ row. nat_eq (bit_and word (fixed_mask (slots_of row.1))) row.2) MNEMONICS }
 {
@@ -147,17 +169,17 @@ fn row_matching(word: u32) -> Option<usize>
         .position(|row| word & fixed_mask(row.1) == row.2)
 }
 
-/// The first row whose fixed bits a word has.
+/// The first row whose fixed bits a word has: that of `.word`, the last, for a word without a name.
 pub fn row_of_word(word: u32) -> usize
-    ensures within { result < 598 }
+    ensures within { result < row_count }
     ensures first { result ≡ row_of_word word }
 {
-    row_matching(word).unwrap_or(DIRECTIVE)
+    row_matching(word).unwrap_or(NAME_COUNT)
 }
 
 /// A row of the table.
 pub fn row_at(row: usize) -> Mnemonic
-    requires { row < 598 }
+    requires { row < row_count }
     ensures value { result ≡ row_at row }
     ensures ascii { (k : ℕ) → k < 16 → slice_index result.0 k < 128 }
     ensures room { result.2 + spans (slots_of result.1) < 2 ^ 32 }

@@ -1,6 +1,7 @@
 use super::*;
 use std::test::Fail;
 
+/// The word that a text spells.
 fn word_of(text: &[u8]) -> Result<u32, Fail> {
     match assemble(text) {
         Ok(word) => Ok(word),
@@ -8,6 +9,7 @@ fn word_of(text: &[u8]) -> Result<u32, Fail> {
     }
 }
 
+/// The column at which a text is refused.
 fn column_of(text: &[u8]) -> Result<usize, Fail> {
     match assemble(text) {
         Ok(_) => Err("it spells a word".into()),

@@ -24,12 +24,14 @@ impl Token<'_> {
     }
 }
 
+/// Whether a byte makes runs: `a` to `z`, `0` to `9`, `.` and `_`.
 fn in_run(byte: u8) -> bool
     ensures { result ≡ in_run byte }
 {
     byte.is_ascii_lowercase() || byte.is_ascii_digit() || byte == b'.' || byte == b'_'
 }
 
+/// The index of the first byte from an index on that is no space, or the length of the text.
 #[tactic(auto, using(crate::proofs::Tokens::space_skipped))]
 fn after_spaces(text: &[u8], at: usize) -> usize
     requires { at ≤ length text.now }
@@ -44,6 +46,7 @@ fn after_spaces(text: &[u8], at: usize) -> usize
     start
 }
 
+/// The index after the token that begins at an index: a run, or a single byte.
 fn run_end(text: &[u8], at: usize) -> usize
     requires { at < length text.now }
     ensures above { at < result }

@@ -10,6 +10,7 @@ use crate::number::number_up_to;
 use crate::read::literal;
 use crate::token::take;
 
+/// The name of a group multiplier.
 fn vlmul_at(text: &[u8], at: usize) -> Result<(u32, usize), AsmFault>
     requires { at ≤ length text.now }
     ensures read { Reads text.now result (one (length text.now + 1) vlmul (rest text.now at)) }
@@ -22,6 +23,7 @@ fn vlmul_at(text: &[u8], at: usize) -> Result<(u32, usize), AsmFault>
     }
 }
 
+/// The name of a policy for the tail.
 fn vta_at(text: &[u8], at: usize) -> Result<(u32, usize), AsmFault>
     requires { at ≤ length text.now }
     ensures read { Reads text.now result (one (length text.now + 1) vta (rest text.now at)) }
@@ -34,6 +36,7 @@ fn vta_at(text: &[u8], at: usize) -> Result<(u32, usize), AsmFault>
     }
 }
 
+/// The name of a policy for masked-off elements.
 fn vma_at(text: &[u8], at: usize) -> Result<(u32, usize), AsmFault>
     requires { at ≤ length text.now }
     ensures read { Reads text.now result (one (length text.now + 1) vma (rest text.now at)) }
@@ -46,6 +49,7 @@ fn vma_at(text: &[u8], at: usize) -> Result<(u32, usize), AsmFault>
     }
 }
 
+/// The names of vtype's parts behind that of the element width.
 #[tactic(auto, unfolding(rv_model::specs::assembler::Slots::vtype_names))]
 fn names_behind(vsew: u32, text: &[u8], at: usize) -> Result<(u32, usize), AsmFault>
     requires inside { at ≤ length text.now }

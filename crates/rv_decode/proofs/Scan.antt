@@ -11,13 +11,13 @@ use Rattle.rv_model.specs.declared.instructions.operations.Line.{Line}
 use Rattle.rv_model.specs.declared.instructions.operations.Form.{Form}
 use Rattle.rv_model.specs.declared.instructions.operations.Form.TheVariants as form
 use Rattle.rv_model.specs.declared.instructions.instruction.Instr.{Instr}
-use Rattle.rv_model.specs.declared.instructions.instruction.Instr.TheVariants.{Upper, Branch, Load, Store, OpImm, ShiftImm, ShiftImmWord, Op, System, Csr, CsrImmediate, VectorArith, VectorCarry, WholeMove, MaskLogic, MaskToScalar, VectorExtend, MaskUnary, VectorUnit, VectorStrided, VectorIndexed, WholeLoad, WholeStore, MaskMemory}
+use Rattle.rv_model.specs.declared.instructions.instruction.Instr.TheVariants.{Upper, Branch, Load, Store, RegisterImmediate, ShiftImmediate, ShiftImmediateWord, RegisterRegister, System, Csr, CsrImmediate, VectorArith, VectorCarry, WholeMove, MaskLogic, MaskToScalar, VectorExtend, MaskUnary, VectorUnit, VectorStrided, VectorIndexed, WholeLoad, WholeStore, MaskMemory}
 use Rattle.rv_model.specs.instructions.BitFields.{part, fixed}
 use Rattle.rv_model.specs.instructions.Sources.{form_of, source_of}
-use Rattle.rv_model.specs.instructions.FixedBits.{upper_bits, branch_bits, load_bits, store_bits, op_imm_bits, shift_imm_bits, shift_imm_word_bits, op_bits, system_bits, csr_bits, csr_immediate_bits, whole_move_bits, mask_logic_bits, mask_to_scalar_bits, extend_bits, mask_unary_bits, mask_memory_bits, upper_ops, branch_ops, load_ops, store_ops, op_imm_ops, shift_imm_ops, shift_imm_word_ops, op_ops, system_ops, csr_ops, csr_immediate_ops, mask_logic_ops, mask_to_scalar_ops, extend_ops, mask_unary_ops, directions, counts}
+use Rattle.rv_model.specs.instructions.FixedBits.{upper_bits, branch_bits, load_bits, store_bits, immediate_op_bits, shift_immediate_bits, shift_immediate_word_bits, register_op_bits, system_bits, csr_bits, csr_immediate_bits, whole_move_bits, mask_logic_bits, mask_to_scalar_bits, extend_bits, mask_unary_bits, mask_memory_bits, upper_ops, branch_ops, load_ops, store_ops, immediate_ops, shift_immediate_ops, shift_immediate_word_ops, register_ops, system_ops, csr_ops, csr_immediate_ops, mask_logic_ops, mask_to_scalar_ops, extend_ops, mask_unary_ops, directions, counts}
 use Rattle.rv_model.specs.instructions.Operations.{has_form, line, carry_line, line_bits, major_bits, same_major, those, vector_ops, carry_ops}
 use Rattle.rv_model.specs.instructions.Layout.{parts, bits, filled, unit_access_bits, strided_access_bits, indexed_access_bits, whole_load_bits, whole_store_bits}
-use Rattle.rv_model.specs.instructions.Table.{row_of, rows, table, scan, find, find_at, unit_accesses, strided_accesses, indexed_accesses, whole_loads, Uppers, Jumps, JumpRegisters, Branches, Loads, Stores, OpImms, ShiftImms, ShiftImmWords, Ops, Fences, Systems, Csrs, CsrImmediates, SetVlis, SetIvlis, SetVls, Ariths, Carries, Moves, WholeMoves, MaskLogics, Compresses, MasksToScalar, Extends, MaskUnaries, ElementIndices, MovesToScalar, MovesToVector, Units, Strideds, Indexeds, WholeLoads, WholeStores, MaskMemories}
+use Rattle.rv_model.specs.instructions.Table.{row_of, rows, table, scan, find, find_at, unit_accesses, strided_accesses, indexed_accesses, whole_loads, Uppers, Jumps, JumpRegisters, Branches, Loads, Stores, RegisterImmediates, ShiftImmediates, ShiftImmediateWords, RegisterRegisters, Fences, Systems, Csrs, CsrImmediates, SetVlis, SetIvlis, SetVls, Ariths, Carries, Moves, WholeMoves, MaskLogics, Compresses, MasksToScalar, Extends, MaskUnaries, ElementIndices, MovesToScalar, MovesToVector, Units, Strideds, Indexeds, WholeLoads, WholeStores, MaskMemories}
 use Rattle.rv_model.proofs.instruction_lemmas.Words.{form_source_of}
 use Rattle.rv_model.proofs.instruction_lemmas.Parts.{masked}
 use Rattle.rv_model.proofs.instruction_lemmas.Scans.{narrowed, scan_narrow, same_narrow, no_scan, DiffersFrom}
@@ -131,27 +131,27 @@ pub scan_store : (word : ℕ)
 unfolding rows
 scan_store word = scan_map store_bits 0x0000707f (λ op. Store op 0 0 0) (λ x. refl) (λ x. refl) store_ops word
 
-pub scan_op_imm : (word : ℕ)
-    → scan (rows OpImms) word ≡ answer (λ op. OpImm op 0 0 0) word (find op_imm_bits op_imm_ops (bit_and word 0x0000707f))
+pub scan_register_immediate : (word : ℕ)
+    → scan (rows RegisterImmediates) word ≡ answer (λ op. RegisterImmediate op 0 0 0) word (find immediate_op_bits immediate_ops (bit_and word 0x0000707f))
 unfolding rows
-scan_op_imm word = scan_map op_imm_bits 0x0000707f (λ op. OpImm op 0 0 0) (λ x. refl) (λ x. refl) op_imm_ops word
+scan_register_immediate word = scan_map immediate_op_bits 0x0000707f (λ op. RegisterImmediate op 0 0 0) (λ x. refl) (λ x. refl) immediate_ops word
 
-pub scan_shift_imm : (word : ℕ)
-    → scan (rows ShiftImms) word ≡ answer (λ op. ShiftImm op 0 0 0) word (find shift_imm_bits shift_imm_ops (bit_and word 0xfc00707f))
+pub scan_shift_immediate : (word : ℕ)
+    → scan (rows ShiftImmediates) word ≡ answer (λ op. ShiftImmediate op 0 0 0) word (find shift_immediate_bits shift_immediate_ops (bit_and word 0xfc00707f))
 unfolding rows
-scan_shift_imm word =
-    scan_map shift_imm_bits 0xfc00707f (λ op. ShiftImm op 0 0 0) (λ x. refl) (λ x. refl) shift_imm_ops word
+scan_shift_immediate word =
+    scan_map shift_immediate_bits 0xfc00707f (λ op. ShiftImmediate op 0 0 0) (λ x. refl) (λ x. refl) shift_immediate_ops word
 
-pub scan_shift_imm_word : (word : ℕ)
-    → scan (rows ShiftImmWords) word ≡ answer (λ op. ShiftImmWord op 0 0 0) word (find shift_imm_word_bits shift_imm_word_ops (bit_and word 0xfe00707f))
+pub scan_shift_immediate_word : (word : ℕ)
+    → scan (rows ShiftImmediateWords) word ≡ answer (λ op. ShiftImmediateWord op 0 0 0) word (find shift_immediate_word_bits shift_immediate_word_ops (bit_and word 0xfe00707f))
 unfolding rows
-scan_shift_imm_word word =
-    scan_map shift_imm_word_bits 0xfe00707f (λ op. ShiftImmWord op 0 0 0) (λ x. refl) (λ x. refl) shift_imm_word_ops word
+scan_shift_immediate_word word =
+    scan_map shift_immediate_word_bits 0xfe00707f (λ op. ShiftImmediateWord op 0 0 0) (λ x. refl) (λ x. refl) shift_immediate_word_ops word
 
-pub scan_op : (word : ℕ)
-    → scan (rows Ops) word ≡ answer (λ op. Op op 0 0 0) word (find op_bits op_ops (bit_and word 0xfe00707f))
+pub scan_register_register : (word : ℕ)
+    → scan (rows RegisterRegisters) word ≡ answer (λ op. RegisterRegister op 0 0 0) word (find register_op_bits register_ops (bit_and word 0xfe00707f))
 unfolding rows
-scan_op word = scan_map op_bits 0xfe00707f (λ op. Op op 0 0 0) (λ x. refl) (λ x. refl) op_ops word
+scan_register_register word = scan_map register_op_bits 0xfe00707f (λ op. RegisterRegister op 0 0 0) (λ x. refl) (λ x. refl) register_ops word
 
 pub scan_csr : (word : ℕ)
     → scan (rows Csrs) word ≡ answer (λ op. Csr op 0 0 0) word (find csr_bits csr_ops (bit_and word 0x0000707f))
@@ -245,7 +245,7 @@ pub at_0f : (word : ℕ) → bit_and word 0x7f ≡ 0x0f → scan table word ≡ 
 unfolding table rows
 at_0f word is = same_narrow 0x7f 0x0f word is table _ refl
 
-pub at_13 : (word : ℕ) → bit_and word 0x7f ≡ 0x13 → scan table word ≡ scan (rows OpImms ++ rows ShiftImms) word
+pub at_13 : (word : ℕ) → bit_and word 0x7f ≡ 0x13 → scan table word ≡ scan (rows RegisterImmediates ++ rows ShiftImmediates) word
 unfolding table rows
 at_13 word is = same_narrow 0x7f 0x13 word is table _ refl
 
@@ -253,7 +253,7 @@ pub at_17 : (word : ℕ) → bit_and word 0x7f ≡ 0x17 → scan table word ≡ 
 unfolding table rows
 at_17 word is = same_narrow 0x7f 0x17 word is table _ refl
 
-pub at_1b : (word : ℕ) → bit_and word 0x7f ≡ 0x1b → scan table word ≡ scan (rows OpImms ++ rows ShiftImmWords) word
+pub at_1b : (word : ℕ) → bit_and word 0x7f ≡ 0x1b → scan table word ≡ scan (rows RegisterImmediates ++ rows ShiftImmediateWords) word
 unfolding table rows
 at_1b word is = same_narrow 0x7f 0x1b word is table _ refl
 
@@ -266,7 +266,7 @@ pub at_27 : (word : ℕ) → bit_and word 0x7f ≡ 0x27
 unfolding table rows
 at_27 word is = same_narrow 0x7f 0x27 word is table _ refl
 
-pub at_33 : (word : ℕ) → bit_and word 0x7f ≡ 0x33 → scan table word ≡ scan (rows Ops) word
+pub at_33 : (word : ℕ) → bit_and word 0x7f ≡ 0x33 → scan table word ≡ scan (rows RegisterRegisters) word
 unfolding table rows
 at_33 word is = same_narrow 0x7f 0x33 word is table _ refl
 
@@ -274,7 +274,7 @@ pub at_37 : (word : ℕ) → bit_and word 0x7f ≡ 0x37 → scan table word ≡ 
 unfolding table rows
 at_37 word is = same_narrow 0x7f 0x37 word is table _ refl
 
-pub at_3b : (word : ℕ) → bit_and word 0x7f ≡ 0x3b → scan table word ≡ scan (rows Ops) word
+pub at_3b : (word : ℕ) → bit_and word 0x7f ≡ 0x3b → scan table word ≡ scan (rows RegisterRegisters) word
 unfolding table rows
 at_3b word is = same_narrow 0x7f 0x3b word is table _ refl
 

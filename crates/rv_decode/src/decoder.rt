@@ -3,11 +3,11 @@ ghost use Rattle.std.specs.Prelude.{◌≡◌, ◌++◌, bit_and, IfSome, IfNone
 ghost use Rattle.rv_model.specs.declared.instructions.operations.Form.TheVariants as form;
 ghost use Rattle.rv_model.specs.instructions.Operations.{major_bits};
 ghost use Rattle.rv_model.specs.instructions.Layout.{word_of};
-ghost use Rattle.rv_model.specs.instructions.Table.{Row, IsRow, scan, rows, table, Uppers, Jumps, JumpRegisters, Branches, Loads, Stores, OpImms, ShiftImms, ShiftImmWords, Ops, Fences, Systems, Csrs, CsrImmediates, SetVlis, SetIvlis, SetVls, Ariths, Carries, Moves, WholeMoves, MaskLogics, Compresses, MasksToScalar, Extends, MaskUnaries, ElementIndices, MovesToScalar, MovesToVector, Units, Strideds, Indexeds, WholeLoads, WholeStores, MaskMemories};
+ghost use Rattle.rv_model.specs.instructions.Table.{Row, IsRow, scan, rows, table, Uppers, Jumps, JumpRegisters, Branches, Loads, Stores, RegisterImmediates, ShiftImmediates, ShiftImmediateWords, RegisterRegisters, Fences, Systems, Csrs, CsrImmediates, SetVlis, SetIvlis, SetVls, Ariths, Carries, Moves, WholeMoves, MaskLogics, Compresses, MasksToScalar, Extends, MaskUnaries, ElementIndices, MovesToScalar, MovesToVector, Units, Strideds, Indexeds, WholeLoads, WholeStores, MaskMemories};
 
 use crate::scalar::{
-    branch, csr, csr_immediate, fence, jump, jump_register, load, op, op_imm, shift_imm,
-    shift_imm_word, store, system, upper,
+    branch, csr, csr_immediate, fence, jump, jump_register, load, register_immediate,
+    register_register, shift_immediate, shift_immediate_word, store, system, upper,
 };
 use crate::vector::{
     arith, carry, compress, element_index, extend, mask_logic, mask_to_scalar, mask_unary,
@@ -20,23 +20,23 @@ use rv_model::instructions::operations::{Form, Major};
 /// OP-IMM.
 #[tactic(auto, using(rv_model::proofs::instruction_lemmas::Scans::scan_append))]
 fn immediates(word: u32) -> Option<Instr>
-    ensures { result ≡ scan (rows OpImms ++ rows ShiftImms) word }
+    ensures { result ≡ scan (rows RegisterImmediates ++ rows ShiftImmediates) word }
 {
-    if let Some(instr) = op_imm(word) {
+    if let Some(instr) = register_immediate(word) {
         return Some(instr);
     }
-    shift_imm(word)
+    shift_immediate(word)
 }
 
 /// OP-IMM-32.
 #[tactic(auto, using(rv_model::proofs::instruction_lemmas::Scans::scan_append))]
 fn word_immediates(word: u32) -> Option<Instr>
-    ensures { result ≡ scan (rows OpImms ++ rows ShiftImmWords) word }
+    ensures { result ≡ scan (rows RegisterImmediates ++ rows ShiftImmediateWords) word }
 {
-    if let Some(instr) = op_imm(word) {
+    if let Some(instr) = register_immediate(word) {
         return Some(instr);
     }
-    shift_imm_word(word)
+    shift_immediate_word(word)
 }
 
 /// SYSTEM.
@@ -203,9 +203,9 @@ fn by_opcode(word: u32) -> Option<Instr>
         0x1b => word_immediates(word),
         0x23 => store(word),
         0x27 => memory(word),
-        0x33 => op(word),
+        0x33 => register_register(word),
         0x37 => upper(word),
-        0x3b => op(word),
+        0x3b => register_register(word),
         0x57 => vector(word),
         0x63 => branch(word),
         0x67 => jump_register(word),

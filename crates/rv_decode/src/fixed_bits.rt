@@ -1,11 +1,11 @@
 //! The bits that each operation fixes in its word.
 ghost use Rattle.std.specs.Prelude.{◌≡◌, ◌<◌, ◌^◌};
-ghost use Rattle.rv_model.specs.instructions.FixedBits.{branch_bits, count_bits, csr_bits, csr_immediate_bits, direction_bits, extend_bits, load_bits, mask_logic_bits, mask_memory_bits, mask_to_scalar_bits, mask_unary_bits, move_bits, op_bits, op_imm_bits, order_bits, shift_imm_bits, shift_imm_word_bits, store_bits, system_bits, unit_bits, upper_bits, whole_move_bits, width_bits};
+ghost use Rattle.rv_model.specs.instructions.FixedBits.{branch_bits, count_bits, csr_bits, csr_immediate_bits, direction_bits, extend_bits, load_bits, mask_logic_bits, mask_memory_bits, mask_to_scalar_bits, mask_unary_bits, move_bits, register_op_bits, immediate_op_bits, order_bits, shift_immediate_bits, shift_immediate_word_bits, store_bits, system_bits, unit_bits, upper_bits, whole_move_bits, width_bits};
 
 use rv_model::instructions::operations::{
-    BranchOp, CsrImmediateOp, CsrOp, Direction, ExtendOp, Form, LoadOp, MaskLogicOp,
-    MaskToScalarOp, MaskUnaryOp, OpImmOp, OpOp, Order, RegisterCount, ShiftImmOp, ShiftImmWordOp,
-    StoreOp, SystemOp, UnitOp, UpperOp, Width,
+    BranchOp, CsrImmediateOp, CsrOp, Direction, ExtendOp, Form, ImmediateOp, LoadOp, MaskLogicOp,
+    MaskToScalarOp, MaskUnaryOp, Order, RegisterCount, RegisterOp, ShiftImmediateOp,
+    ShiftImmediateWordOp, StoreOp, SystemOp, UnitOp, UpperOp, Width,
 };
 
 /// LUI, AUIPC.
@@ -64,79 +64,79 @@ pub fn store_bits(op: StoreOp) -> u64
 }
 
 /// OP-IMM and OP-IMM-32, by funct3.
-pub fn op_imm_bits(op: OpImmOp) -> u64
-    ensures value { result ≡ op_imm_bits op }
+pub fn immediate_op_bits(op: ImmediateOp) -> u64
+    ensures value { result ≡ immediate_op_bits op }
     ensures small { result < 2 ^ 32 }
 {
     match op {
-        OpImmOp::Addi => 0x0000_0013,
-        OpImmOp::Slti => 0x0000_2013,
-        OpImmOp::Sltiu => 0x0000_3013,
-        OpImmOp::Xori => 0x0000_4013,
-        OpImmOp::Ori => 0x0000_6013,
-        OpImmOp::Andi => 0x0000_7013,
-        OpImmOp::Addiw => 0x0000_001b,
+        ImmediateOp::Addi => 0x0000_0013,
+        ImmediateOp::Slti => 0x0000_2013,
+        ImmediateOp::Sltiu => 0x0000_3013,
+        ImmediateOp::Xori => 0x0000_4013,
+        ImmediateOp::Ori => 0x0000_6013,
+        ImmediateOp::Andi => 0x0000_7013,
+        ImmediateOp::Addiw => 0x0000_001b,
     }
 }
 
 /// OP-IMM with a shift amount of six bits.
-pub fn shift_imm_bits(op: ShiftImmOp) -> u64
-    ensures value { result ≡ shift_imm_bits op }
+pub fn shift_immediate_bits(op: ShiftImmediateOp) -> u64
+    ensures value { result ≡ shift_immediate_bits op }
     ensures small { result < 2 ^ 32 }
 {
     match op {
-        ShiftImmOp::Slli => 0x0000_1013,
-        ShiftImmOp::Srli => 0x0000_5013,
-        ShiftImmOp::Srai => 0x4000_5013,
+        ShiftImmediateOp::Slli => 0x0000_1013,
+        ShiftImmediateOp::Srli => 0x0000_5013,
+        ShiftImmediateOp::Srai => 0x4000_5013,
     }
 }
 
 /// OP-IMM-32 with a shift amount of five bits.
-pub fn shift_imm_word_bits(op: ShiftImmWordOp) -> u64
-    ensures value { result ≡ shift_imm_word_bits op }
+pub fn shift_immediate_word_bits(op: ShiftImmediateWordOp) -> u64
+    ensures value { result ≡ shift_immediate_word_bits op }
     ensures small { result < 2 ^ 32 }
 {
     match op {
-        ShiftImmWordOp::Slliw => 0x0000_101b,
-        ShiftImmWordOp::Srliw => 0x0000_501b,
-        ShiftImmWordOp::Sraiw => 0x4000_501b,
+        ShiftImmediateWordOp::Slliw => 0x0000_101b,
+        ShiftImmediateWordOp::Srliw => 0x0000_501b,
+        ShiftImmediateWordOp::Sraiw => 0x4000_501b,
     }
 }
 
 /// OP and OP-32, by funct3 and funct7.
-pub fn op_bits(op: OpOp) -> u64
-    ensures value { result ≡ op_bits op }
+pub fn register_op_bits(op: RegisterOp) -> u64
+    ensures value { result ≡ register_op_bits op }
     ensures small { result < 2 ^ 32 }
 {
     match op {
-        OpOp::Add => 0x0000_0033,
-        OpOp::Sub => 0x4000_0033,
-        OpOp::Sll => 0x0000_1033,
-        OpOp::Slt => 0x0000_2033,
-        OpOp::Sltu => 0x0000_3033,
-        OpOp::Xor => 0x0000_4033,
-        OpOp::Srl => 0x0000_5033,
-        OpOp::Sra => 0x4000_5033,
-        OpOp::Or => 0x0000_6033,
-        OpOp::And => 0x0000_7033,
-        OpOp::Mul => 0x0200_0033,
-        OpOp::Mulh => 0x0200_1033,
-        OpOp::Mulhsu => 0x0200_2033,
-        OpOp::Mulhu => 0x0200_3033,
-        OpOp::Div => 0x0200_4033,
-        OpOp::Divu => 0x0200_5033,
-        OpOp::Rem => 0x0200_6033,
-        OpOp::Remu => 0x0200_7033,
-        OpOp::Addw => 0x0000_003b,
-        OpOp::Subw => 0x4000_003b,
-        OpOp::Sllw => 0x0000_103b,
-        OpOp::Srlw => 0x0000_503b,
-        OpOp::Sraw => 0x4000_503b,
-        OpOp::Mulw => 0x0200_003b,
-        OpOp::Divw => 0x0200_403b,
-        OpOp::Divuw => 0x0200_503b,
-        OpOp::Remw => 0x0200_603b,
-        OpOp::Remuw => 0x0200_703b,
+        RegisterOp::Add => 0x0000_0033,
+        RegisterOp::Sub => 0x4000_0033,
+        RegisterOp::Sll => 0x0000_1033,
+        RegisterOp::Slt => 0x0000_2033,
+        RegisterOp::Sltu => 0x0000_3033,
+        RegisterOp::Xor => 0x0000_4033,
+        RegisterOp::Srl => 0x0000_5033,
+        RegisterOp::Sra => 0x4000_5033,
+        RegisterOp::Or => 0x0000_6033,
+        RegisterOp::And => 0x0000_7033,
+        RegisterOp::Mul => 0x0200_0033,
+        RegisterOp::Mulh => 0x0200_1033,
+        RegisterOp::Mulhsu => 0x0200_2033,
+        RegisterOp::Mulhu => 0x0200_3033,
+        RegisterOp::Div => 0x0200_4033,
+        RegisterOp::Divu => 0x0200_5033,
+        RegisterOp::Rem => 0x0200_6033,
+        RegisterOp::Remu => 0x0200_7033,
+        RegisterOp::Addw => 0x0000_003b,
+        RegisterOp::Subw => 0x4000_003b,
+        RegisterOp::Sllw => 0x0000_103b,
+        RegisterOp::Srlw => 0x0000_503b,
+        RegisterOp::Sraw => 0x4000_503b,
+        RegisterOp::Mulw => 0x0200_003b,
+        RegisterOp::Divw => 0x0200_403b,
+        RegisterOp::Divuw => 0x0200_503b,
+        RegisterOp::Remw => 0x0200_603b,
+        RegisterOp::Remuw => 0x0200_703b,
     }
 }
 

@@ -7,6 +7,7 @@ mod fixed_bits;
 mod laws;
 mod lines;
 mod memory_operations;
+mod operands;
 mod scalar;
 mod scalar_operations;
 mod vector;

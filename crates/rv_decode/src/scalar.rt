@@ -2,11 +2,11 @@
 #![tactic(auto, unfolding(rv_model::specs::instructions::Table::scan, rv_model::specs::instructions::Table::rows))]
 
 ghost use Rattle.std.specs.Prelude.{◌≡◌};
-ghost use Rattle.rv_model.specs.instructions.Table.{scan, rows, Uppers, Jumps, JumpRegisters, Branches, Loads, Stores, OpImms, ShiftImms, ShiftImmWords, Ops, Fences, Systems, Csrs, CsrImmediates};
+ghost use Rattle.rv_model.specs.instructions.Table.{scan, rows, Uppers, Jumps, JumpRegisters, Branches, Loads, Stores, RegisterImmediates, ShiftImmediates, ShiftImmediateWords, RegisterRegisters, Fences, Systems, Csrs, CsrImmediates};
 
 use crate::scalar_operations::{
-    branch_op, csr_immediate_op, csr_op, load_op, op_imm_op, op_op, shift_imm_op,
-    shift_imm_word_op, store_op, system_op, upper_op,
+    branch_op, csr_immediate_op, csr_op, immediate_op, load_op, register_op, shift_immediate_op,
+    shift_immediate_word_op, store_op, system_op, upper_op,
 };
 use crate::word_fields::{bits, branch_offset, jump_offset, reg, store_immediate};
 use rv_model::{Field, Instr};
@@ -31,7 +31,7 @@ pub fn jump(word: u32) -> Option<Instr>
     if word & 0x0000_007f == 0x0000_006f {
         Some(Instr::Jump {
             rd: reg(word, 7),
-            offset: jump_offset(word),
+            imm: jump_offset(word),
         })
     } else {
         None
@@ -63,7 +63,7 @@ pub fn branch(word: u32) -> Option<Instr>
         op,
         rs1: reg(word, 15),
         rs2: reg(word, 20),
-        offset: branch_offset(word),
+        imm: branch_offset(word),
     })
 }
 
@@ -96,12 +96,12 @@ pub fn store(word: u32) -> Option<Instr>
 }
 
 /// OP-IMM and OP-IMM-32 with an immediate of 12 bits.
-#[tactic(auto, using(crate::proofs::Scan::scan_op_imm))]
-pub fn op_imm(word: u32) -> Option<Instr>
-    ensures { result ≡ scan (rows OpImms) word }
+#[tactic(auto, using(crate::proofs::Scan::scan_register_immediate))]
+pub fn register_immediate(word: u32) -> Option<Instr>
+    ensures { result ≡ scan (rows RegisterImmediates) word }
 {
-    let op = op_imm_op(word & 0x0000_707f)?;
-    Some(Instr::OpImm {
+    let op = immediate_op(word & 0x0000_707f)?;
+    Some(Instr::RegisterImmediate {
         op,
         rd: reg(word, 7),
         rs1: reg(word, 15),
@@ -110,40 +110,40 @@ pub fn op_imm(word: u32) -> Option<Instr>
 }
 
 /// OP-IMM with a shift amount.
-#[tactic(auto, using(crate::proofs::Scan::scan_shift_imm))]
-pub fn shift_imm(word: u32) -> Option<Instr>
-    ensures { result ≡ scan (rows ShiftImms) word }
+#[tactic(auto, using(crate::proofs::Scan::scan_shift_immediate))]
+pub fn shift_immediate(word: u32) -> Option<Instr>
+    ensures { result ≡ scan (rows ShiftImmediates) word }
 {
-    let op = shift_imm_op(word & 0xfc00_707f)?;
-    Some(Instr::ShiftImm {
+    let op = shift_immediate_op(word & 0xfc00_707f)?;
+    Some(Instr::ShiftImmediate {
         op,
         rd: reg(word, 7),
         rs1: reg(word, 15),
-        amount: Field::new(bits(word, 20, 6)),
+        shamt: Field::new(bits(word, 20, 6)),
     })
 }
 
 /// OP-IMM-32 with a shift amount.
-#[tactic(auto, using(crate::proofs::Scan::scan_shift_imm_word))]
-pub fn shift_imm_word(word: u32) -> Option<Instr>
-    ensures { result ≡ scan (rows ShiftImmWords) word }
+#[tactic(auto, using(crate::proofs::Scan::scan_shift_immediate_word))]
+pub fn shift_immediate_word(word: u32) -> Option<Instr>
+    ensures { result ≡ scan (rows ShiftImmediateWords) word }
 {
-    let op = shift_imm_word_op(word & 0xfe00_707f)?;
-    Some(Instr::ShiftImmWord {
+    let op = shift_immediate_word_op(word & 0xfe00_707f)?;
+    Some(Instr::ShiftImmediateWord {
         op,
         rd: reg(word, 7),
         rs1: reg(word, 15),
-        amount: Field::new(bits(word, 20, 5)),
+        shamt: Field::new(bits(word, 20, 5)),
     })
 }
 
 /// OP and OP-32.
-#[tactic(auto, using(crate::proofs::Scan::scan_op))]
-pub fn op(word: u32) -> Option<Instr>
-    ensures { result ≡ scan (rows Ops) word }
+#[tactic(auto, using(crate::proofs::Scan::scan_register_register))]
+pub fn register_register(word: u32) -> Option<Instr>
+    ensures { result ≡ scan (rows RegisterRegisters) word }
 {
-    let op = op_op(word & 0xfe00_707f)?;
-    Some(Instr::Op {
+    let op = register_op(word & 0xfe00_707f)?;
+    Some(Instr::RegisterRegister {
         op,
         rd: reg(word, 7),
         rs1: reg(word, 15),

@@ -2,12 +2,12 @@
 #![tactic(auto, unfolding(rv_model::specs::instructions::Table::find))]
 
 ghost use Rattle.std.specs.Prelude.{◌≡◌};
-ghost use Rattle.rv_model.specs.instructions.FixedBits.{upper_bits, upper_ops, branch_bits, branch_ops, load_bits, load_ops, store_bits, store_ops, op_imm_bits, op_imm_ops, shift_imm_bits, shift_imm_ops, shift_imm_word_bits, shift_imm_word_ops, op_bits, op_ops, system_bits, system_ops, csr_bits, csr_ops, csr_immediate_bits, csr_immediate_ops};
+ghost use Rattle.rv_model.specs.instructions.FixedBits.{upper_bits, upper_ops, branch_bits, branch_ops, load_bits, load_ops, store_bits, store_ops, immediate_op_bits, immediate_ops, shift_immediate_bits, shift_immediate_ops, shift_immediate_word_bits, shift_immediate_word_ops, register_op_bits, register_ops, system_bits, system_ops, csr_bits, csr_ops, csr_immediate_bits, csr_immediate_ops};
 ghost use Rattle.rv_model.specs.instructions.Table.{find};
 
 use rv_model::instructions::operations::{
-    BranchOp, CsrImmediateOp, CsrOp, LoadOp, OpImmOp, OpOp, ShiftImmOp, ShiftImmWordOp, StoreOp,
-    SystemOp, UpperOp,
+    BranchOp, CsrImmediateOp, CsrOp, ImmediateOp, LoadOp, RegisterOp, ShiftImmediateOp,
+    ShiftImmediateWordOp, StoreOp, SystemOp, UpperOp,
 };
 
 /// The operation of these bits, for `Instr::Upper`.
@@ -65,79 +65,79 @@ pub fn store_op(bits: u32) -> Option<StoreOp>
     }
 }
 
-/// The operation of these bits, for `Instr::OpImm`.
-pub fn op_imm_op(bits: u32) -> Option<OpImmOp>
-    ensures { result ≡ find op_imm_bits op_imm_ops bits }
+/// The operation of these bits, for `Instr::RegisterImmediate`.
+pub fn immediate_op(bits: u32) -> Option<ImmediateOp>
+    ensures { result ≡ find immediate_op_bits immediate_ops bits }
 {
     match bits {
-        0x0000_0013 => Some(OpImmOp::Addi),
-        0x0000_2013 => Some(OpImmOp::Slti),
-        0x0000_3013 => Some(OpImmOp::Sltiu),
-        0x0000_4013 => Some(OpImmOp::Xori),
-        0x0000_6013 => Some(OpImmOp::Ori),
-        0x0000_7013 => Some(OpImmOp::Andi),
-        0x0000_001b => Some(OpImmOp::Addiw),
+        0x0000_0013 => Some(ImmediateOp::Addi),
+        0x0000_2013 => Some(ImmediateOp::Slti),
+        0x0000_3013 => Some(ImmediateOp::Sltiu),
+        0x0000_4013 => Some(ImmediateOp::Xori),
+        0x0000_6013 => Some(ImmediateOp::Ori),
+        0x0000_7013 => Some(ImmediateOp::Andi),
+        0x0000_001b => Some(ImmediateOp::Addiw),
         _ => None,
     }
 }
 
-/// The operation of these bits, for `Instr::ShiftImm`.
-pub fn shift_imm_op(bits: u32) -> Option<ShiftImmOp>
-    ensures { result ≡ find shift_imm_bits shift_imm_ops bits }
+/// The operation of these bits, for `Instr::ShiftImmediate`.
+pub fn shift_immediate_op(bits: u32) -> Option<ShiftImmediateOp>
+    ensures { result ≡ find shift_immediate_bits shift_immediate_ops bits }
 {
     match bits {
-        0x0000_1013 => Some(ShiftImmOp::Slli),
-        0x0000_5013 => Some(ShiftImmOp::Srli),
-        0x4000_5013 => Some(ShiftImmOp::Srai),
+        0x0000_1013 => Some(ShiftImmediateOp::Slli),
+        0x0000_5013 => Some(ShiftImmediateOp::Srli),
+        0x4000_5013 => Some(ShiftImmediateOp::Srai),
         _ => None,
     }
 }
 
-/// The operation of these bits, for `Instr::ShiftImmWord`.
-pub fn shift_imm_word_op(bits: u32) -> Option<ShiftImmWordOp>
-    ensures { result ≡ find shift_imm_word_bits shift_imm_word_ops bits }
+/// The operation of these bits, for `Instr::ShiftImmediateWord`.
+pub fn shift_immediate_word_op(bits: u32) -> Option<ShiftImmediateWordOp>
+    ensures { result ≡ find shift_immediate_word_bits shift_immediate_word_ops bits }
 {
     match bits {
-        0x0000_101b => Some(ShiftImmWordOp::Slliw),
-        0x0000_501b => Some(ShiftImmWordOp::Srliw),
-        0x4000_501b => Some(ShiftImmWordOp::Sraiw),
+        0x0000_101b => Some(ShiftImmediateWordOp::Slliw),
+        0x0000_501b => Some(ShiftImmediateWordOp::Srliw),
+        0x4000_501b => Some(ShiftImmediateWordOp::Sraiw),
         _ => None,
     }
 }
 
-/// The operation of these bits, for `Instr::Op`.
-pub fn op_op(bits: u32) -> Option<OpOp>
-    ensures { result ≡ find op_bits op_ops bits }
+/// The operation of these bits, for `Instr::RegisterRegister`.
+pub fn register_op(bits: u32) -> Option<RegisterOp>
+    ensures { result ≡ find register_op_bits register_ops bits }
 {
     match bits {
-        0x0000_0033 => Some(OpOp::Add),
-        0x4000_0033 => Some(OpOp::Sub),
-        0x0000_1033 => Some(OpOp::Sll),
-        0x0000_2033 => Some(OpOp::Slt),
-        0x0000_3033 => Some(OpOp::Sltu),
-        0x0000_4033 => Some(OpOp::Xor),
-        0x0000_5033 => Some(OpOp::Srl),
-        0x4000_5033 => Some(OpOp::Sra),
-        0x0000_6033 => Some(OpOp::Or),
-        0x0000_7033 => Some(OpOp::And),
-        0x0200_0033 => Some(OpOp::Mul),
-        0x0200_1033 => Some(OpOp::Mulh),
-        0x0200_2033 => Some(OpOp::Mulhsu),
-        0x0200_3033 => Some(OpOp::Mulhu),
-        0x0200_4033 => Some(OpOp::Div),
-        0x0200_5033 => Some(OpOp::Divu),
-        0x0200_6033 => Some(OpOp::Rem),
-        0x0200_7033 => Some(OpOp::Remu),
-        0x0000_003b => Some(OpOp::Addw),
-        0x4000_003b => Some(OpOp::Subw),
-        0x0000_103b => Some(OpOp::Sllw),
-        0x0000_503b => Some(OpOp::Srlw),
-        0x4000_503b => Some(OpOp::Sraw),
-        0x0200_003b => Some(OpOp::Mulw),
-        0x0200_403b => Some(OpOp::Divw),
-        0x0200_503b => Some(OpOp::Divuw),
-        0x0200_603b => Some(OpOp::Remw),
-        0x0200_703b => Some(OpOp::Remuw),
+        0x0000_0033 => Some(RegisterOp::Add),
+        0x4000_0033 => Some(RegisterOp::Sub),
+        0x0000_1033 => Some(RegisterOp::Sll),
+        0x0000_2033 => Some(RegisterOp::Slt),
+        0x0000_3033 => Some(RegisterOp::Sltu),
+        0x0000_4033 => Some(RegisterOp::Xor),
+        0x0000_5033 => Some(RegisterOp::Srl),
+        0x4000_5033 => Some(RegisterOp::Sra),
+        0x0000_6033 => Some(RegisterOp::Or),
+        0x0000_7033 => Some(RegisterOp::And),
+        0x0200_0033 => Some(RegisterOp::Mul),
+        0x0200_1033 => Some(RegisterOp::Mulh),
+        0x0200_2033 => Some(RegisterOp::Mulhsu),
+        0x0200_3033 => Some(RegisterOp::Mulhu),
+        0x0200_4033 => Some(RegisterOp::Div),
+        0x0200_5033 => Some(RegisterOp::Divu),
+        0x0200_6033 => Some(RegisterOp::Rem),
+        0x0200_7033 => Some(RegisterOp::Remu),
+        0x0000_003b => Some(RegisterOp::Addw),
+        0x4000_003b => Some(RegisterOp::Subw),
+        0x0000_103b => Some(RegisterOp::Sllw),
+        0x0000_503b => Some(RegisterOp::Srlw),
+        0x4000_503b => Some(RegisterOp::Sraw),
+        0x0200_003b => Some(RegisterOp::Mulw),
+        0x0200_403b => Some(RegisterOp::Divw),
+        0x0200_503b => Some(RegisterOp::Divuw),
+        0x0200_603b => Some(RegisterOp::Remw),
+        0x0200_703b => Some(RegisterOp::Remuw),
         _ => None,
     }
 }

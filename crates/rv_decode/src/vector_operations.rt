@@ -1,5 +1,5 @@
 //! The vector operations by funct6 and form, or by the bits that they fix.
-ghost use Rattle.std.specs.Prelude.{◌≡◌, IfSome, true};
+ghost use Rattle.std.specs.Prelude.{◌≡◌, ◌<◌, ◌≤◌, IfSome, Some, None, true, if◌then◌else◌};
 ghost use Rattle.rv_model.specs.instructions.FixedBits.{whole_move_bits, mask_logic_bits, mask_to_scalar_bits, extend_bits, mask_unary_bits, counts, mask_logic_ops, mask_to_scalar_ops, extend_ops, mask_unary_ops};
 ghost use Rattle.rv_model.specs.instructions.Operations.{has_form, line, carry_line, line_bits, those, vector_ops, carry_ops};
 ghost use Rattle.rv_model.specs.instructions.Table.{find, find_at};
@@ -10,9 +10,22 @@ use rv_model::instructions::operations::{
     MaskUnaryOp, MultiplyAddOp, NarrowOp, PermuteOp, ReduceOp, RegisterCount, VectorOp, WidenOp,
 };
 
-/// The operation of OPIVV, OPIVX or OPIVI with this funct6 and form.
+/// The operation, if the manual's table has it in this form.
+fn if_allowed(op: VectorOp, form: Form) -> Option<VectorOp>
+    ensures row { result ≡ (if has_form (line op).forms form then Some op else None) }
+    ensures allowed { IfSome result (λ op. has_form (line op).forms form ≡ true) }
+{
+    if has_form(line(op).forms, form) {
+        Some(op)
+    } else {
+        None
+    }
+}
+
+/// The operation of OPIVV, OPIVX or OPIVI with this funct6, below 0x18, and form.
 #[tactic(auto, unfolding(rv_model::specs::instructions::Table::find_at))]
-pub fn opi(funct6: u32, form: Form) -> Option<VectorOp>
+fn lower_opi(funct6: u32, form: Form) -> Option<VectorOp>
+    requires { funct6 < 0x18 }
     ensures row { result ≡ find_at line Major.Opi form funct6 vector_ops }
     ensures allowed { IfSome result (λ op. has_form (line op).forms form ≡ true) }
 {
@@ -30,11 +43,24 @@ pub fn opi(funct6: u32, form: Form) -> Option<VectorOp>
         0x0c => VectorOp::Permute(PermuteOp::Vrgather),
         0x0e => match form {
             Form::V => VectorOp::Permute(PermuteOp::Vrgatherei16),
-            _ => VectorOp::Permute(PermuteOp::Vslideup),
+            Form::X | Form::I => VectorOp::Permute(PermuteOp::Vslideup),
         },
         0x0f => VectorOp::Permute(PermuteOp::Vslidedown),
         0x11 => VectorOp::Compare(CompareOp::Vmadc),
         0x13 => VectorOp::Compare(CompareOp::Vmsbc),
+        _ => return None,
+    };
+    if_allowed(op, form)
+}
+
+/// The operation of OPIVV, OPIVX or OPIVI with this funct6, from 0x18 on, and form.
+#[tactic(auto, unfolding(rv_model::specs::instructions::Table::find_at))]
+fn upper_opi(funct6: u32, form: Form) -> Option<VectorOp>
+    requires { 0x18 ≤ funct6 }
+    ensures row { result ≡ find_at line Major.Opi form funct6 vector_ops }
+    ensures allowed { IfSome result (λ op. has_form (line op).forms form ≡ true) }
+{
+    let op = match funct6 {
         0x18 => VectorOp::Compare(CompareOp::Vmseq),
         0x19 => VectorOp::Compare(CompareOp::Vmsne),
         0x1a => VectorOp::Compare(CompareOp::Vmsltu),
@@ -61,73 +87,97 @@ pub fn opi(funct6: u32, form: Form) -> Option<VectorOp>
         0x31 => VectorOp::Reduce(ReduceOp::Vwredsum),
         _ => return None,
     };
-    if has_form(line(op).forms, form) {
-        Some(op)
+    if_allowed(op, form)
+}
+
+/// The operation of OPIVV, OPIVX or OPIVI with this funct6 and form.
+pub fn opi(funct6: u32, form: Form) -> Option<VectorOp>
+    ensures row { result ≡ find_at line Major.Opi form funct6 vector_ops }
+    ensures allowed { IfSome result (λ op. has_form (line op).forms form ≡ true) }
+{
+    if funct6 < 0x18 {
+        lower_opi(funct6, form)
     } else {
-        None
+        upper_opi(funct6, form)
     }
 }
 
-/// The operation of OPMVV or OPMVX with this funct6 and form.
+/// The operation of OPMVV or OPMVX with this funct6, below 0x20, and form.
 #[tactic(auto, unfolding(rv_model::specs::instructions::Table::find_at))]
+fn lower_opm(funct6: u32, form: Form) -> Option<VectorOp>
+    requires { funct6 < 0x20 }
+    ensures row { result ≡ find_at line Major.Opm form funct6 vector_ops }
+    ensures allowed { IfSome result (λ op. has_form (line op).forms form ≡ true) }
+{
+    let op = match funct6 {
+        0x00 => VectorOp::Reduce(ReduceOp::Vredsum),
+        0x01 => VectorOp::Reduce(ReduceOp::Vredand),
+        0x02 => VectorOp::Reduce(ReduceOp::Vredor),
+        0x03 => VectorOp::Reduce(ReduceOp::Vredxor),
+        0x04 => VectorOp::Reduce(ReduceOp::Vredminu),
+        0x05 => VectorOp::Reduce(ReduceOp::Vredmin),
+        0x06 => VectorOp::Reduce(ReduceOp::Vredmaxu),
+        0x07 => VectorOp::Reduce(ReduceOp::Vredmax),
+        0x08 => VectorOp::FixedPoint(FixedPointOp::Vaaddu),
+        0x09 => VectorOp::FixedPoint(FixedPointOp::Vaadd),
+        0x0a => VectorOp::FixedPoint(FixedPointOp::Vasubu),
+        0x0b => VectorOp::FixedPoint(FixedPointOp::Vasub),
+        0x0e => VectorOp::Permute(PermuteOp::Vslide1up),
+        0x0f => VectorOp::Permute(PermuteOp::Vslide1down),
+        _ => return None,
+    };
+    if_allowed(op, form)
+}
+
+/// The operation of OPMVV or OPMVX with this funct6, from 0x20 on, and form.
+#[tactic(auto, unfolding(rv_model::specs::instructions::Table::find_at))]
+fn upper_opm(funct6: u32, form: Form) -> Option<VectorOp>
+    requires { 0x20 ≤ funct6 }
+    ensures row { result ≡ find_at line Major.Opm form funct6 vector_ops }
+    ensures allowed { IfSome result (λ op. has_form (line op).forms form ≡ true) }
+{
+    let op = match funct6 {
+        0x20 => VectorOp::Binary(BinaryOp::Vdivu),
+        0x21 => VectorOp::Binary(BinaryOp::Vdiv),
+        0x22 => VectorOp::Binary(BinaryOp::Vremu),
+        0x23 => VectorOp::Binary(BinaryOp::Vrem),
+        0x24 => VectorOp::Binary(BinaryOp::Vmulhu),
+        0x25 => VectorOp::Binary(BinaryOp::Vmul),
+        0x26 => VectorOp::Binary(BinaryOp::Vmulhsu),
+        0x27 => VectorOp::Binary(BinaryOp::Vmulh),
+        0x29 => VectorOp::MultiplyAdd(MultiplyAddOp::Vmadd),
+        0x2b => VectorOp::MultiplyAdd(MultiplyAddOp::Vnmsub),
+        0x2d => VectorOp::MultiplyAdd(MultiplyAddOp::Vmacc),
+        0x2f => VectorOp::MultiplyAdd(MultiplyAddOp::Vnmsac),
+        0x30 => VectorOp::Widen(WidenOp::Vwaddu),
+        0x31 => VectorOp::Widen(WidenOp::Vwadd),
+        0x32 => VectorOp::Widen(WidenOp::Vwsubu),
+        0x33 => VectorOp::Widen(WidenOp::Vwsub),
+        0x34 => VectorOp::Widen(WidenOp::VwadduW),
+        0x35 => VectorOp::Widen(WidenOp::VwaddW),
+        0x36 => VectorOp::Widen(WidenOp::VwsubuW),
+        0x37 => VectorOp::Widen(WidenOp::VwsubW),
+        0x38 => VectorOp::Widen(WidenOp::Vwmulu),
+        0x3a => VectorOp::Widen(WidenOp::Vwmulsu),
+        0x3b => VectorOp::Widen(WidenOp::Vwmul),
+        0x3c => VectorOp::MultiplyAdd(MultiplyAddOp::Vwmaccu),
+        0x3d => VectorOp::MultiplyAdd(MultiplyAddOp::Vwmacc),
+        0x3e => VectorOp::MultiplyAdd(MultiplyAddOp::Vwmaccus),
+        0x3f => VectorOp::MultiplyAdd(MultiplyAddOp::Vwmaccsu),
+        _ => return None,
+    };
+    if_allowed(op, form)
+}
+
+/// The operation of OPMVV or OPMVX with this funct6 and form.
 pub fn opm(funct6: u32, form: Form) -> Option<VectorOp>
     ensures row { result ≡ find_at line Major.Opm form funct6 vector_ops }
     ensures allowed { IfSome result (λ op. has_form (line op).forms form ≡ true) }
 {
-    let op = if funct6 < 0x10 {
-        match funct6 {
-            0x00 => VectorOp::Reduce(ReduceOp::Vredsum),
-            0x01 => VectorOp::Reduce(ReduceOp::Vredand),
-            0x02 => VectorOp::Reduce(ReduceOp::Vredor),
-            0x03 => VectorOp::Reduce(ReduceOp::Vredxor),
-            0x04 => VectorOp::Reduce(ReduceOp::Vredminu),
-            0x05 => VectorOp::Reduce(ReduceOp::Vredmin),
-            0x06 => VectorOp::Reduce(ReduceOp::Vredmaxu),
-            0x07 => VectorOp::Reduce(ReduceOp::Vredmax),
-            0x08 => VectorOp::FixedPoint(FixedPointOp::Vaaddu),
-            0x09 => VectorOp::FixedPoint(FixedPointOp::Vaadd),
-            0x0a => VectorOp::FixedPoint(FixedPointOp::Vasubu),
-            0x0b => VectorOp::FixedPoint(FixedPointOp::Vasub),
-            0x0e => VectorOp::Permute(PermuteOp::Vslide1up),
-            0x0f => VectorOp::Permute(PermuteOp::Vslide1down),
-            _ => return None,
-        }
+    if funct6 < 0x20 {
+        lower_opm(funct6, form)
     } else {
-        match funct6 {
-            0x20 => VectorOp::Binary(BinaryOp::Vdivu),
-            0x21 => VectorOp::Binary(BinaryOp::Vdiv),
-            0x22 => VectorOp::Binary(BinaryOp::Vremu),
-            0x23 => VectorOp::Binary(BinaryOp::Vrem),
-            0x24 => VectorOp::Binary(BinaryOp::Vmulhu),
-            0x25 => VectorOp::Binary(BinaryOp::Vmul),
-            0x26 => VectorOp::Binary(BinaryOp::Vmulhsu),
-            0x27 => VectorOp::Binary(BinaryOp::Vmulh),
-            0x29 => VectorOp::MultiplyAdd(MultiplyAddOp::Vmadd),
-            0x2b => VectorOp::MultiplyAdd(MultiplyAddOp::Vnmsub),
-            0x2d => VectorOp::MultiplyAdd(MultiplyAddOp::Vmacc),
-            0x2f => VectorOp::MultiplyAdd(MultiplyAddOp::Vnmsac),
-            0x30 => VectorOp::Widen(WidenOp::Vwaddu),
-            0x31 => VectorOp::Widen(WidenOp::Vwadd),
-            0x32 => VectorOp::Widen(WidenOp::Vwsubu),
-            0x33 => VectorOp::Widen(WidenOp::Vwsub),
-            0x34 => VectorOp::Widen(WidenOp::VwadduW),
-            0x35 => VectorOp::Widen(WidenOp::VwaddW),
-            0x36 => VectorOp::Widen(WidenOp::VwsubuW),
-            0x37 => VectorOp::Widen(WidenOp::VwsubW),
-            0x38 => VectorOp::Widen(WidenOp::Vwmulu),
-            0x3a => VectorOp::Widen(WidenOp::Vwmulsu),
-            0x3b => VectorOp::Widen(WidenOp::Vwmul),
-            0x3c => VectorOp::MultiplyAdd(MultiplyAddOp::Vwmaccu),
-            0x3d => VectorOp::MultiplyAdd(MultiplyAddOp::Vwmacc),
-            0x3e => VectorOp::MultiplyAdd(MultiplyAddOp::Vwmaccus),
-            0x3f => VectorOp::MultiplyAdd(MultiplyAddOp::Vwmaccsu),
-            _ => return None,
-        }
-    };
-    if has_form(line(op).forms, form) {
-        Some(op)
-    } else {
-        None
+        upper_opm(funct6, form)
     }
 }
 

@@ -1,3 +1,6 @@
 -- Laws of assembler text.
+pub mod Found
 pub mod Lines
+pub mod NamedOperations
+pub mod Naming
 pub mod Operands

@@ -1,5 +1,6 @@
--- Laws of elements: `Writes` first, then `Reads`, `Sets` and `Arithmetic`.
+-- Laws of elements: `Widths` and `Writes` first, then `Reads`, `Sets` and `Arithmetic`.
 pub mod Arithmetic
 pub mod Reads
 pub mod Sets
+pub mod Widths
 pub mod Writes

@@ -1,6 +1,7 @@
--- Machines and scripts. `Setup` first: what stays the same in a run; then `UserMachine`: what a user's machine is; then `Runs`:
--- runs of instructions; then, with the commands, `PrivateMachine`: all that happens to one user's machine; then `VectorUnit` and
--- `Script`: eight of them side by side, and the whole output; then `Laws`: the headline and its kin. `Examples` are small scripts.
+-- Machines and scripts. `Users` first: how many there are; then `Setup`: what stays the same in a run; then `UserMachine`: what
+-- a user's machine is; then `Runs`: runs of instructions; then, with the commands, `PrivateMachine`: all that happens to one
+-- user's machine; then `VectorUnit` and `Script`: all users' machines side by side, and the whole output; then `Laws`: the
+-- headline and its kin. `Examples` are small scripts.
 pub mod Examples
 pub mod Laws
 pub mod PrivateMachine
@@ -8,4 +9,5 @@ pub mod Runs
 pub mod Script
 pub mod Setup
 pub mod UserMachine
+pub mod Users
 pub mod VectorUnit

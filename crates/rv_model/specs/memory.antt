@@ -1,2 +1,3 @@
--- A user's memory, by address.
+-- A user's memory. `Sizes` first: of pages, and how many there are; then `Memory`: what stands at each address.
 pub mod Memory
+pub mod Sizes

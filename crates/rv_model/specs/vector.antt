@@ -1,12 +1,12 @@
--- The vector state of a machine ("V" Vector Extension 1.0, sections 3 and 6). `Configuration` first: length and type; then
--- `State`: all of it; then `Registers` and `Groups`: the registers' bytes; `TypeRules`: what the vset instructions leave;
--- `TypeNames`: the names of the parts of vtype; `ControlRegisters` and `Control`: the control registers. `CellLending` and `FileLending` say how bytes are lent for writing.
+-- The vector state of a machine ("V" Vector Extension 1.0, sections 3 and 6). `Configuration` first: element widths, length and
+-- type; then `State`: all of it; then `Registers`: the bytes of registers and groups; `TypeRules`: what the vset instructions
+-- leave; `TypeNames`: the names of the parts of vtype; `ControlRegisters` and `Control`: the control registers. `CellLending` and
+-- `FileLending` say how bytes are lent for writing.
 pub mod CellLending
 pub mod Configuration
 pub mod Control
 pub mod ControlRegisters
 pub mod FileLending
-pub mod Groups
 pub mod Registers
 pub mod RoundingModes
 pub mod State

@@ -20,11 +20,14 @@ pub use commands::{
 pub use images::{ElfFault, ProgramHeader};
 pub use instructions::{Arith, Carry, Field, Instr, Reg, Source, VReg};
 pub use legality::{Content, Operand, Role, Shape};
-pub use machine::{User, each_user_alone, registers_that_stay, small_scripts_print};
-pub use memory::{Access, Fault, MapRefusal, Permissions, memory_laws};
+pub use machine::{USER_COUNT, User, each_user_alone, registers_that_stay, small_scripts_print};
+pub use memory::{
+    ADDRESS_END, Access, FRAME_COUNT, Fault, MapRefusal, PAGE_QUOTA, PAGE_SIZE, Permissions,
+    memory_laws,
+};
 pub use scalar::Scalar;
 pub use step::{Cause, StepEnd, Stop, VEnd};
 pub use vector::{
-    ControlRegister, Lmul, Policy, RegisterBytes, RequestedLength, RoundingMode, Seat, Sew, VConf,
-    VFile, VState, VType, VectorRequest,
+    ControlRegister, FILE_BYTES, GROUP_BYTES, Lmul, Policy, RegisterBytes, RequestedLength,
+    RoundingMode, Seat, Sew, VConf, VECTOR_REGISTERS, VFile, VLENB, VState, VType, VectorRequest,
 };

@@ -1,12 +1,23 @@
-//! What a user's memory allows.
+//! How a user's memory is divided, and what it allows.
 ghost use Rattle.std.specs.Prelude.{◌≡◌};
 ghost use Rattle.rv_model.specs.memory.Memory.{permits, WritesBytes, KeepsPermissions, MapsZeros, MapsPermissions, ReadsBytes, AllowsEachByte};
+
+use crate::machine::USER_COUNT;
 
 /// The bytes of a page.
 pub const PAGE_SIZE: u64 = 4096;
 
-/// How many pages end at 2^48 or below, where user memory ends.
-pub const PAGE_LIMIT: u64 = 1 << 36;
+/// How many pages a user may have.
+pub const PAGE_QUOTA: usize = 256;
+
+/// How many frames hold the pages of all users: enough for each to have as many as a user may.
+pub const FRAME_COUNT: usize = USER_COUNT * PAGE_QUOTA;
+
+/// The end of addresses: each mapped one is below it.
+pub const ADDRESS_END: u64 = 1 << 48;
+
+/// How many pages there are below the end of addresses.
+pub(crate) const PAGE_LIMIT: u64 = ADDRESS_END / PAGE_SIZE;
 
 /// What a page may be used for.
 #[derive(Clone, Copy, Debug, Default, PartialEq, Eq)]

@@ -5,6 +5,7 @@ mod file;
 mod policy;
 mod register_bytes;
 mod request;
+mod sizes;
 mod state;
 mod types;
 
@@ -13,5 +14,6 @@ pub use file::VFile;
 pub use policy::Policy;
 pub use register_bytes::RegisterBytes;
 pub use request::{RequestedLength, VectorRequest};
+pub use sizes::{FILE_BYTES, GROUP_BYTES, VECTOR_REGISTERS, VLENB};
 pub use state::{RoundingMode, Seat, VConf, VState};
 pub use types::{Lmul, Sew, VType};

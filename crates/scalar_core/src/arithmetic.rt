@@ -1,45 +1,46 @@
-//! Operations of two registers (Unprivileged ISA 20191213, sections 2.4 and 5.2).
+//! Operations of two registers (Unprivileged ISA 20191213, sections 2.4 and 5.2, and chapter 7).
 ghost use Rattle.std.specs.Prelude.{◌≡◌};
-ghost use Rattle.rv_model.specs.scalar.Arithmetic.{op_value};
+ghost use Rattle.rv_model.specs.scalar.Arithmetic.{register_op_value};
 
 use crate::extension::{low_word, sign_extend_word};
-use crate::muldiv_op::MulDivOp;
-use crate::multiplication::muldiv;
-use crate::shift;
-use rv_model::instructions::operations::OpOp;
+use crate::{division, product, shift};
+use rv_model::instructions::operations::RegisterOp;
 
-/// What an operation of two registers gives.
-pub fn alu(op: OpOp, a: u64, b: u64) -> u64
-    ensures { result ≡ op_value op a b }
+/// What an operation of two registers gives, from their 64-bit words and as one. Operations of 32 bits
+/// take the low 32 bits and sign-extend theirs; no operation traps (Unprivileged ISA 20191213, sections
+/// 2.4, 5.2, 7.1 and 7.2).
+pub fn alu(op: RegisterOp, a: u64, b: u64) -> u64
+    ensures { result ≡ register_op_value op a b }
 {
+    let (a_word, b_word) = (low_word(a), low_word(b));
     match op {
-        OpOp::Add => a.wrapping_add(b),
-        OpOp::Sub => a.wrapping_sub(b),
-        OpOp::Sll => shift::left(a, b),
-        OpOp::Slt => u64::from(a.cast_signed() < b.cast_signed()),
-        OpOp::Sltu => u64::from(a < b),
-        OpOp::Xor => a ^ b,
-        OpOp::Srl => shift::right(a, b),
-        OpOp::Sra => shift::right_signed(a, b),
-        OpOp::Or => a | b,
-        OpOp::And => a & b,
-        OpOp::Mul => muldiv(MulDivOp::Mul, a, b),
-        OpOp::Mulh => muldiv(MulDivOp::Mulh, a, b),
-        OpOp::Mulhsu => muldiv(MulDivOp::Mulhsu, a, b),
-        OpOp::Mulhu => muldiv(MulDivOp::Mulhu, a, b),
-        OpOp::Div => muldiv(MulDivOp::Div, a, b),
-        OpOp::Divu => muldiv(MulDivOp::Divu, a, b),
-        OpOp::Rem => muldiv(MulDivOp::Rem, a, b),
-        OpOp::Remu => muldiv(MulDivOp::Remu, a, b),
-        OpOp::Addw => sign_extend_word(low_word(a).wrapping_add(low_word(b))),
-        OpOp::Subw => sign_extend_word(low_word(a).wrapping_sub(low_word(b))),
-        OpOp::Sllw => sign_extend_word(shift::left_word(low_word(a), low_word(b))),
-        OpOp::Srlw => sign_extend_word(shift::right_word(low_word(a), low_word(b))),
-        OpOp::Sraw => sign_extend_word(shift::right_signed_word(low_word(a), low_word(b))),
-        OpOp::Mulw => muldiv(MulDivOp::Mulw, a, b),
-        OpOp::Divw => muldiv(MulDivOp::Divw, a, b),
-        OpOp::Divuw => muldiv(MulDivOp::Divuw, a, b),
-        OpOp::Remw => muldiv(MulDivOp::Remw, a, b),
-        OpOp::Remuw => muldiv(MulDivOp::Remuw, a, b),
+        RegisterOp::Add => a.wrapping_add(b),
+        RegisterOp::Sub => a.wrapping_sub(b),
+        RegisterOp::Sll => shift::left(a, b),
+        RegisterOp::Slt => u64::from(a.cast_signed() < b.cast_signed()),
+        RegisterOp::Sltu => u64::from(a < b),
+        RegisterOp::Xor => a ^ b,
+        RegisterOp::Srl => shift::right(a, b),
+        RegisterOp::Sra => shift::right_signed(a, b),
+        RegisterOp::Or => a | b,
+        RegisterOp::And => a & b,
+        RegisterOp::Mul => a.wrapping_mul(b),
+        RegisterOp::Mulh => product::high_signed(a, b),
+        RegisterOp::Mulhsu => product::high_mixed(a, b),
+        RegisterOp::Mulhu => product::high_unsigned(a, b),
+        RegisterOp::Div => division::divide_signed(a, b),
+        RegisterOp::Divu => division::divide(a, b),
+        RegisterOp::Rem => division::remainder_signed(a, b),
+        RegisterOp::Remu => division::remainder(a, b),
+        RegisterOp::Addw => sign_extend_word(a_word.wrapping_add(b_word)),
+        RegisterOp::Subw => sign_extend_word(a_word.wrapping_sub(b_word)),
+        RegisterOp::Sllw => sign_extend_word(shift::left_word(a_word, b_word)),
+        RegisterOp::Srlw => sign_extend_word(shift::right_word(a_word, b_word)),
+        RegisterOp::Sraw => sign_extend_word(shift::right_signed_word(a_word, b_word)),
+        RegisterOp::Mulw => sign_extend_word(a_word.wrapping_mul(b_word)),
+        RegisterOp::Divw => sign_extend_word(division::divide_signed_word(a_word, b_word)),
+        RegisterOp::Divuw => sign_extend_word(division::divide_word(a_word, b_word)),
+        RegisterOp::Remw => sign_extend_word(division::remainder_signed_word(a_word, b_word)),
+        RegisterOp::Remuw => sign_extend_word(division::remainder_word(a_word, b_word)),
     }
 }

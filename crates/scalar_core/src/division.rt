@@ -3,14 +3,14 @@ ghost use Rattle.std.specs.Prelude.{◌≡◌};
 ghost use Rattle.std.specs.Int.{w32, w64};
 ghost use Rattle.rv_model.specs.scalar.Arithmetic.{overflows, quotient, remainder, signed_quotient, signed_remainder};
 
-// Whether the least number is divided by -1.
+/// Whether the least number is divided by -1.
 fn overflows(a: u64, b: u64) -> bool
     ensures { result ≡ overflows w64 a b }
 {
     a == 1 << 63 && b == u64::MAX
 }
 
-// Whether the least number is divided by -1.
+/// Whether the least number is divided by -1.
 fn overflows_word(a: u32, b: u32) -> bool
     ensures { result ≡ overflows w32 a b }
 {

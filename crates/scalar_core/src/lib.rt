@@ -1,13 +1,12 @@
-//! The arithmetic of RV64IM: what each operation on scalar registers gives.
+//! The arithmetic of RV64IM: what each operation on scalar registers gives, and what immediates mean.
 #![tactic(auto)]
 
 mod arithmetic;
 mod comparison;
 mod division;
 mod extension;
-mod immediate_forms;
-mod muldiv_op;
-mod multiplication;
+mod immediate_operations;
+mod immediates;
 mod product;
 mod shift;
 #[cfg(test)]
@@ -16,6 +15,7 @@ mod tests;
 pub use arithmetic::alu;
 pub use comparison::branch;
 pub use extension::sign_extend;
-pub use immediate_forms::{op_imm_form, shift_imm_form, shift_imm_word_form};
-pub use muldiv_op::MulDivOp;
-pub use multiplication::muldiv;
+pub use immediate_operations::{
+    register_immediate, shift_immediate, shift_immediate_word, upper_immediate,
+};
+pub use immediates::{b_immediate, i_immediate, j_immediate, s_immediate};

@@ -1,51 +1,51 @@
 //! Values that another implementation of the instruction set gives.
 use crate::{alu, branch};
-use rv_model::instructions::operations::{BranchOp, OpOp};
+use rv_model::instructions::operations::{BranchOp, RegisterOp};
 
 #[test]
 fn operations_of_64_bits(rt: HostRuntime) {
     for (op, a, b, want) in [
-        (OpOp::Sub, 0, 0x8000_0001, 0xffff_ffff_7fff_ffff),
+        (RegisterOp::Sub, 0, 0x8000_0001, 0xffff_ffff_7fff_ffff),
         (
-            OpOp::Sll,
+            RegisterOp::Sll,
             0xffff_ffff_ffff_fffe,
             0x1b39_286e,
             0xffff_8000_0000_0000,
         ),
-        (OpOp::Slt, 0xffff_ffff_aa92_61a3, 2, 1),
+        (RegisterOp::Slt, 0xffff_ffff_aa92_61a3, 2, 1),
         (
-            OpOp::Srl,
+            RegisterOp::Srl,
             0xd5eb_da65_ae48_f0fe,
             0x895d_a89b,
             0x1a_bd7b_4cb5,
         ),
-        (OpOp::Sra, 0x673b_c2b5, 0x5555_5555, 0x339),
+        (RegisterOp::Sra, 0x673b_c2b5, 0x5555_5555, 0x339),
         (
-            OpOp::Mulh,
+            RegisterOp::Mulh,
             0xffff_ffff_0ad3_a041,
             0x8000_0000_0000_0000,
             0x7a96_2fdf,
         ),
         (
-            OpOp::Mulhsu,
+            RegisterOp::Mulhsu,
             0x8000_0001,
             0xffff_ffff_ffff_ffff,
             0x8000_0000,
         ),
         (
-            OpOp::Mulhu,
+            RegisterOp::Mulhu,
             0xbcb8_fea3_a727_eb12,
             0x7fff_ffff_ffff_ffff,
             0x5e5c_7f51_d393_f588,
         ),
         (
-            OpOp::Div,
+            RegisterOp::Div,
             0x17b5_de0d,
             0xffff_ffff_ffff_ffff,
             0xffff_ffff_e84a_21f3,
         ),
         (
-            OpOp::Rem,
+            RegisterOp::Rem,
             0x8000_0000_0000_0001,
             0x11,
             0xffff_ffff_ffff_fff8,
@@ -58,36 +58,41 @@ fn operations_of_64_bits(rt: HostRuntime) {
 #[test]
 fn operations_of_32_bits(rt: HostRuntime) {
     for (op, a, b, want) in [
-        (OpOp::Subw, 0, 0x7fff_ffff, 0xffff_ffff_8000_0001),
+        (RegisterOp::Subw, 0, 0x7fff_ffff, 0xffff_ffff_8000_0001),
         (
-            OpOp::Sllw,
+            RegisterOp::Sllw,
             0xffff_ffff,
             0xffff_ffff_6b93_a643,
             0xffff_ffff_ffff_fff8,
         ),
-        (OpOp::Srlw, 0x8000_0000, 0, 0xffff_ffff_8000_0000),
+        (RegisterOp::Srlw, 0x8000_0000, 0, 0xffff_ffff_8000_0000),
         (
-            OpOp::Sraw,
+            RegisterOp::Sraw,
             0xd92d_6ac8,
             0xffff_ffff_ffff_ffff,
             0xffff_ffff_ffff_ffff,
         ),
         (
-            OpOp::Mulw,
+            RegisterOp::Mulw,
             0xb,
             0xffff_ffff_2cb3_1a53,
             0xffff_ffff_ebb2_2191,
         ),
         (
-            OpOp::Divw,
+            RegisterOp::Divw,
             0x8000_0000,
             0xffff_ffff_ffff_ffff,
             0xffff_ffff_8000_0000,
         ),
-        (OpOp::Remw, 0x8000_0000, 0xffff_ffff_ffff_ffff, 0),
-        (OpOp::Divw, 0x8000_0000, 0, 0xffff_ffff_ffff_ffff),
-        (OpOp::Remw, 0x8000_0000, 0, 0xffff_ffff_8000_0000),
-        (OpOp::Remuw, 0xe18d_aa47_9dd9_c316, 0, 0xffff_ffff_9dd9_c316),
+        (RegisterOp::Remw, 0x8000_0000, 0xffff_ffff_ffff_ffff, 0),
+        (RegisterOp::Divw, 0x8000_0000, 0, 0xffff_ffff_ffff_ffff),
+        (RegisterOp::Remw, 0x8000_0000, 0, 0xffff_ffff_8000_0000),
+        (
+            RegisterOp::Remuw,
+            0xe18d_aa47_9dd9_c316,
+            0,
+            0xffff_ffff_9dd9_c316,
+        ),
     ] {
         assert_eq!(rt; alu(op, a, b), want);
     }

@@ -1,5 +1,5 @@
 -- What a new entry changes
-use Rattle.std.proofs.Common.{◌≡◌, ◌≢◌, ℕ, zero, suc, ◌+◌, ◌*◌, ◌/◌, ◌%◌, ◌<◌, ◌≤◌, ◌^◌, Bool, cond, List, [], ◌∷◌, get_or, Option, Some, None, refl, sym, ◌∙◌, ap, ◌⊎◌, inl, inr, arith, ne_eqb, eq-eqb}
+use Rattle.std.proofs.Common.{◌≡◌, ◌≢◌, ℕ, zero, suc, ◌+◌, ◌*◌, ◌/◌, ◌%◌, ◌<◌, ◌≤◌, Bool, cond, List, [], ◌∷◌, get_or, Option, Some, None, refl, sym, ◌∙◌, ap, ◌⊎◌, inl, inr, arith, ne_eqb, eq-eqb}
 use Rattle.std.specs.Prelude.{nat_eq}
 use Rattle.std.specs.List.{insert}
 use Rattle.std.proofs.lemmas.List.Sums.{sum_by-insert, sum_by-append}
@@ -7,10 +7,11 @@ use Rattle.std.proofs.lemmas.Bool.{cases_eq, cases_lt}
 use Rattle.std.specs.FinMap.{get}
 use Rattle.rv_model.specs.memory.Memory.{Cell, Memory, with_pages}
 use Rattle.rv_model.proofs.memory_lemmas.Memory.{same_memory, get-add_cells_within, get-add_cells_outside}
+use Rattle.rv_model.specs.memory.Sizes.{page_size, page_limit}
 use Rattle.user_mem.specs.declared.entry.Entry.{Entry}
 use Rattle.user_mem.specs.Table.{entry_at, memory_of, AreBelow}
-use Rattle.user_mem.proofs.TableLaws.{cell_in, get-memory_of, memory_of_same}
-use Rattle.user_mem.specs.Frames.{uses_of}
+use Rattle.user_mem.proofs.TableLaws.{cell_of_page, get-memory_of, memory_of_same}
+use Rattle.user_mem.specs.Frames.{times_used}
 
 -- the look-up after an entry of a new page was put anywhere
 pub entry_at-insert : (es : List Entry) (i : ℕ) (e : Entry) (p : ℕ) → entry_at es e.page ≡ None → entry_at (insert es i e) p ≡ cond (nat_eq e.page p) (Some e) (entry_at es p)
@@ -31,37 +32,37 @@ entry_at-insert (x ∷ xs) (suc i) e p h = elim (cases_eq x.page e.page) [
     swapped (inr a) q d = rw (ne_eqb x.page p a) refl
     swapped (inl a) (inr b) d = rw (ne_eqb e.page p b) refl
 
-pub uses_of-insert : (f : ℕ) (es : List Entry) (i : ℕ) (e : Entry) → uses_of f (insert es i e) ≡ uses_of f es + cond (nat_eq e.frame f) 1 0
-unfolding uses_of
-uses_of-insert f es i e = sum_by-insert (λ e. cond (nat_eq e.frame f) 1 0) es i e
+pub times_used-insert : (f : ℕ) (es : List Entry) (i : ℕ) (e : Entry) → times_used f (insert es i e) ≡ times_used f es + cond (nat_eq e.frame f) 1 0
+unfolding times_used
+times_used-insert f es i e = sum_by-insert (λ e. cond (nat_eq e.frame f) 1 0) es i e
 
-pub uses_of-cons : (f : ℕ) (x : Entry) (xs : List Entry) → uses_of f (x ∷ xs) ≡ cond (nat_eq x.frame f) 1 0 + uses_of f xs
-unfolding uses_of
-uses_of-cons f x xs = sum_by-append (λ e. cond (nat_eq e.frame f) 1 0) (x ∷ []) xs ∙ omega arith
+pub times_used-cons : (f : ℕ) (x : Entry) (xs : List Entry) → times_used f (x ∷ xs) ≡ cond (nat_eq x.frame f) 1 0 + times_used f xs
+unfolding times_used
+times_used-cons f x xs = sum_by-append (λ e. cond (nat_eq e.frame f) 1 0) (x ∷ []) xs ∙ omega arith
 
 -- a page that is there uses its frame
-pub used_at : (es : List Entry) (p : ℕ) (e : Entry) → entry_at es p ≡ Some e → 0 < uses_of e.frame es
-used_at [] p e h = absurd (cc)
-used_at (x ∷ xs) p e h = elim (cases_eq x.page p) [
+pub entry_is_used : (es : List Entry) (p : ℕ) (e : Entry) → entry_at es p ≡ Some e → 0 < times_used e.frame es
+entry_is_used [] p e h = absurd (cc)
+entry_is_used (x ∷ xs) p e h = elim (cases_eq x.page p) [
   | inl same ↦
       let here : Some x ≡ Some e = ap (λ (b : Bool). cond b (Some x) (entry_at xs p)) (sym (eq-eqb x.page p same)) ∙ h in
       let frame : x.frame ≡ e.frame = cc in
       let one : ◌≡◌ {A = ℕ} (cond (nat_eq x.frame e.frame) 1 0) 1 = ap (λ (b : Bool). cond b 1 0) (eq-eqb x.frame e.frame frame) in
-      let sum : uses_of e.frame (x ∷ xs) ≡ 1 + uses_of e.frame xs = uses_of-cons e.frame x xs ∙ ap (λ (n : ℕ). n + uses_of e.frame xs) one in
+      let sum : times_used e.frame (x ∷ xs) ≡ 1 + times_used e.frame xs = times_used-cons e.frame x xs ∙ ap (λ (n : ℕ). n + times_used e.frame xs) one in
       omega arith
   | inr differ ↦
       let rest : entry_at xs p ≡ Some e = ap (λ (b : Bool). cond b (Some x) (entry_at xs p)) (sym (ne_eqb x.page p differ)) ∙ h in
-      let more = used_at xs p e rest in omega (arith, uses_of-cons e.frame x xs)
+      let more = entry_is_used xs p e rest in omega (arith, times_used-cons e.frame x xs)
 ]
 
 -- a table that does not use the frame means what it did
-pub unused_same : (frames after : List ℕ) (f : ℕ) (es : List Entry)
-    → ((i : ℕ) → ((i < 4096 * f) ⊎ (4096 * f + 4096 ≤ i)) → get_or after i 0 ≡ get_or frames i 0)
-    → uses_of f es ≡ 0 → memory_of after es ≡ memory_of frames es
-unused_same frames after f es kept unused = memory_of_same frames after es (λ p e k h l.
-    kept (4096 * e.frame + k) (beside e k l (λ same. let used = used_at es p e h in let none : uses_of e.frame es ≡ 0 = ap (λ (g : ℕ). uses_of g es) same ∙ unused in omega arith)))
+pub memory_of-unused_frame : (frames after : List ℕ) (f : ℕ) (es : List Entry)
+    → ((i : ℕ) → ((i < page_size * f) ⊎ (page_size * f + page_size ≤ i)) → get_or after i 0 ≡ get_or frames i 0)
+    → times_used f es ≡ 0 → memory_of after es ≡ memory_of frames es
+memory_of-unused_frame frames after f es kept unused = memory_of_same frames after es (λ p e k h l.
+    kept (page_size * e.frame + k) (beside e k l (λ same. let used = entry_is_used es p e h in let none : times_used e.frame es ≡ 0 = ap (λ (g : ℕ). times_used g es) same ∙ unused in omega arith)))
   where
-    beside : (e : Entry) (k : ℕ) → k < 4096 → e.frame ≢ f → ((4096 * e.frame + k < 4096 * f) ⊎ (4096 * f + 4096 ≤ 4096 * e.frame + k))
+    beside : (e : Entry) (k : ℕ) → k < page_size → e.frame ≢ f → ((page_size * e.frame + k < page_size * f) ⊎ (page_size * f + page_size ≤ page_size * e.frame + k))
     beside e k l n = elim (cases_lt e.frame f) [
       | inl below ↦ inl (omega arith)
       | inr above ↦ let more : f < e.frame = omega arith in inr (omega arith)
@@ -70,42 +71,42 @@ unused_same frames after f es kept unused = memory_of_same frames after es (λ p
 -- a page of zeros
 pub memory_of-page : (frames after : List ℕ) (es new : List Entry) (e : Entry)
     → ((p : ℕ) → entry_at new p ≡ cond (nat_eq e.page p) (Some e) (entry_at es p))
-    → ((k : ℕ) → k < 4096 → get_or after (4096 * e.frame + k) 0 ≡ 0)
-    → ((i : ℕ) → ((i < 4096 * e.frame) ⊎ (4096 * e.frame + 4096 ≤ i)) → get_or after i 0 ≡ get_or frames i 0)
-    → uses_of e.frame es ≡ 0
+    → ((k : ℕ) → k < page_size → get_or after (page_size * e.frame + k) 0 ≡ 0)
+    → ((i : ℕ) → ((i < page_size * e.frame) ⊎ (page_size * e.frame + page_size ≤ i)) → get_or after i 0 ≡ get_or frames i 0)
+    → times_used e.frame es ≡ 0
     → memory_of after new ≡ with_pages (memory_of frames es) e.page 1 e.permissions
 unfolding with_pages
 memory_of-page frames after es new e looked_up zeros kept unused = same_memory _ _ (λ x.
-    get-memory_of after new x ∙ ap (cell_in after x) (looked_up (x / 4096)) ∙ at x (cases_eq e.page (x / 4096)))
+    get-memory_of after new x ∙ ap (cell_of_page after x) (looked_up (x / page_size)) ∙ at x (cases_eq e.page (x / page_size)))
   where
     blank : ℕ → Cell
     blank k = record { byte = 0; permissions = e.permissions }
 
-    beside : (x : ℕ) → e.page ≢ x / 4096 → ((x < 4096 * e.page) ⊎ (4096 * e.page + 4096 ≤ x))
-    beside x n = elim (cases_lt x (4096 * e.page)) [
+    beside : (x : ℕ) → e.page ≢ x / page_size → ((x < page_size * e.page) ⊎ (page_size * e.page + page_size ≤ x))
+    beside x n = elim (cases_lt x (page_size * e.page)) [
       | inl l ↦ inl l
-      | inr g ↦ elim (cases_lt x (4096 * e.page + 4096)) [ inl l ↦ absurd (n (omega arith)) | inr h ↦ inr h ]
+      | inr g ↦ elim (cases_lt x (page_size * e.page + page_size)) [ inl l ↦ absurd (n (omega arith)) | inr h ↦ inr h ]
     ]
 
-    at : (x : ℕ) → ((e.page ≡ x / 4096) ⊎ (e.page ≢ x / 4096)) → cell_in after x (cond (nat_eq e.page (x / 4096)) (Some e) (entry_at es (x / 4096))) ≡ get (with_pages (memory_of frames es) e.page 1 e.permissions) x
+    at : (x : ℕ) → ((e.page ≡ x / page_size) ⊎ (e.page ≢ x / page_size)) → cell_of_page after x (cond (nat_eq e.page (x / page_size)) (Some e) (entry_at es (x / page_size))) ≡ get (with_pages (memory_of frames es) e.page 1 e.permissions) x
     at x (inl q) =
-        let place : x ≡ 4096 * e.page + x % 4096 = omega arith in
-        ap (λ (b : Bool). cell_in after x (cond b (Some e) (entry_at es (x / 4096)))) (eq-eqb e.page (x / 4096) q)
-        ∙ ap (λ (v : ℕ). Some (record { byte = v; permissions = e.permissions })) (zeros (x % 4096) (omega arith))
-        ∙ sym (get-add_cells_within (memory_of frames es) (4096 * e.page) 4096 (λ _. record { byte = 0; permissions = e.permissions }) (x % 4096) x (omega arith) place)
+        let place : x ≡ page_size * e.page + x % page_size = omega arith in
+        ap (λ (b : Bool). cell_of_page after x (cond b (Some e) (entry_at es (x / page_size)))) (eq-eqb e.page (x / page_size) q)
+        ∙ ap (λ (v : ℕ). Some (record { byte = v; permissions = e.permissions })) (zeros (x % page_size) (omega arith))
+        ∙ sym (get-add_cells_within (memory_of frames es) (page_size * e.page) page_size (λ _. record { byte = 0; permissions = e.permissions }) (x % page_size) x (omega arith) place)
     at x (inr n) =
-        ap (λ (b : Bool). cell_in after x (cond b (Some e) (entry_at es (x / 4096)))) (ne_eqb e.page (x / 4096) n)
+        ap (λ (b : Bool). cell_of_page after x (cond b (Some e) (entry_at es (x / page_size)))) (ne_eqb e.page (x / page_size) n)
         ∙ sym (get-memory_of after es x)
-        ∙ ap (λ (m : Memory). get m x) (unused_same frames after e.frame es kept unused)
-        ∙ sym (get-add_cells_outside (memory_of frames es) (4096 * e.page) 4096 (λ _. record { byte = 0; permissions = e.permissions }) x (beside x n))
+        ∙ ap (λ (m : Memory). get m x) (memory_of-unused_frame frames after e.frame es kept unused)
+        ∙ sym (get-add_cells_outside (memory_of frames es) (page_size * e.page) page_size (λ _. record { byte = 0; permissions = e.permissions }) x (beside x n))
 
 -- a page added below the limit leaves all pages below it
-pub below_added : (es new : List Entry) (e : Entry) → e.page < 2 ^ 36 → AreBelow es → ((p : ℕ) → entry_at new p ≡ cond (nat_eq e.page p) (Some e) (entry_at es p)) → AreBelow new
-below_added es new e low below looked_up p f h = elim (cases_eq e.page p) [
+pub AreBelow-added : (es new : List Entry) (e : Entry) → e.page < page_limit → AreBelow es → ((p : ℕ) → entry_at new p ≡ cond (nat_eq e.page p) (Some e) (entry_at es p)) → AreBelow new
+AreBelow-added es new e low below looked_up p f h = elim (cases_eq e.page p) [
   | inl same ↦ omega arith
   | inr differ ↦ below p f (ap (λ (b : Bool). cond b (Some e) (entry_at es p)) (sym (ne_eqb e.page p differ)) ∙ sym (looked_up p) ∙ h)
 ]
 
 -- and the look-up of a higher page as it was
-pub elsewhere : (es new : List Entry) (e : Entry) (p : ℕ) → e.page < p → ((p : ℕ) → entry_at new p ≡ cond (nat_eq e.page p) (Some e) (entry_at es p)) → entry_at new p ≡ entry_at es p
-elsewhere es new e p above looked_up = looked_up p ∙ ap (λ (b : Bool). cond b (Some e) (entry_at es p)) (ne_eqb e.page p (λ same. omega arith))
+pub entry_at-elsewhere : (es new : List Entry) (e : Entry) (p : ℕ) → e.page < p → ((p : ℕ) → entry_at new p ≡ cond (nat_eq e.page p) (Some e) (entry_at es p)) → entry_at new p ≡ entry_at es p
+entry_at-elsewhere es new e p above looked_up = looked_up p ∙ ap (λ (b : Bool). cond b (Some e) (entry_at es p)) (ne_eqb e.page p (λ same. omega arith))

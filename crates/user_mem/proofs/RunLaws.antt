@@ -9,9 +9,10 @@ use Rattle.rv_model.specs.declared.memory.Access.{Access}
 use Rattle.rv_model.specs.declared.memory.Access.TheVariants.{Monitor}
 use Rattle.rv_model.specs.memory.Memory.{Memory, permits, byte_at, is_allowed, put_bytes}
 use Rattle.rv_model.proofs.memory_lemmas.Memory.{same_memory, with_byte, get-put_bytes_within, get-put_bytes_outside, put_bytes-append}
+use Rattle.rv_model.specs.memory.Sizes.{page_size}
 use Rattle.user_mem.specs.declared.entry.Entry.{Entry}
 use Rattle.user_mem.specs.Table.{entry_at, memory_of, AreSeparate, AreApart}
-use Rattle.user_mem.proofs.TableLaws.{cell_in, get-memory_of, is_allowed-memory_of, byte_at-memory_of, memory_of_same, entry_from_allowed}
+use Rattle.user_mem.proofs.TableLaws.{cell_of_page, get-memory_of, is_allowed-memory_of, byte_at-memory_of, memory_of_same, entry_from_allowed}
 
 -- a part of a list, as code takes it
 pub part_length : (xs : List ℕ) (s n : ℕ) → s + n ≤ length xs → length (take ((s + n) - s) (drop s xs)) ≡ n
@@ -25,18 +26,18 @@ part_at xs s n k l = get_or-take ((s + n) - s) (drop s xs) k 0 (omega arith) ∙
 pub part_is : (xs : List ℕ) (s n : ℕ) → take ((s + n) - s) (drop s xs) ≡ take n (drop s xs)
 part_is xs s n = let count : (s + n) - s ≡ n = omega arith in ap (λ (j : ℕ). take j (drop s xs)) count
 
-same_page : (x k : ℕ) → x % 4096 + k < 4096 → (x + k) / 4096 ≡ x / 4096
+same_page : (x k : ℕ) → x % page_size + k < page_size → (x + k) / page_size ≡ x / page_size
 same_page x k l = omega arith
 
 -- all bytes of a page are allowed alike
-is_allowed_in_page : (access : Access) (frames : List ℕ) (es : List Entry) (x k : ℕ) → x % 4096 + k < 4096 → is_allowed access (memory_of frames es) (x + k) ≡ is_allowed access (memory_of frames es) x
+is_allowed_in_page : (access : Access) (frames : List ℕ) (es : List Entry) (x k : ℕ) → x % page_size + k < page_size → is_allowed access (memory_of frames es) (x + k) ≡ is_allowed access (memory_of frames es) x
 is_allowed_in_page access frames es x k l =
     is_allowed-memory_of access frames es (x + k)
     ∙ ap (λ (p : ℕ). option_map_or (λ e. permits access e.permissions) (entry_at es p) false) (same_page x k l)
     ∙ sym (is_allowed-memory_of access frames es x)
 
 -- where the next byte is allowed, so are those that follow it in its page
-pub allowed_more : (access : Access) (frames : List ℕ) (es : List Entry) (a done next n : ℕ) → next ≡ a + done → next % 4096 + n ≤ 4096 → is_allowed access (memory_of frames es) next ≡ true
+pub allowed_more : (access : Access) (frames : List ℕ) (es : List Entry) (a done next n : ℕ) → next ≡ a + done → next % page_size + n ≤ page_size → is_allowed access (memory_of frames es) next ≡ true
     → ((j : ℕ) → j < done → is_allowed access (memory_of frames es) (a + j) ≡ true) → (j : ℕ) → j < done + n → is_allowed access (memory_of frames es) (a + j) ≡ true
 allowed_more access frames es a done next n here fits ok before j l = elim (cases_lt j done) [
   | inl less ↦ before j less
@@ -46,17 +47,17 @@ allowed_more access frames es a done next n here fits ok before j l = elim (case
 ]
 
 -- a byte read in the page
-run_read : (frames : List ℕ) (es : List Entry) (x k i : ℕ) → x % 4096 + k < 4096 → is_allowed Monitor (memory_of frames es) x ≡ true
-    → ((e : Entry) → entry_at es (x / 4096) ≡ Some e → i ≡ 4096 * e.frame + x % 4096) → get_or frames (i + k) 0 ≡ byte_at (memory_of frames es) (x + k)
+run_read : (frames : List ℕ) (es : List Entry) (x k i : ℕ) → x % page_size + k < page_size → is_allowed Monitor (memory_of frames es) x ≡ true
+    → ((e : Entry) → entry_at es (x / page_size) ≡ Some e → i ≡ page_size * e.frame + x % page_size) → get_or frames (i + k) 0 ≡ byte_at (memory_of frames es) (x + k)
 run_read frames es x k i l ok place =
     let some = entry_from_allowed Monitor frames es x ok in
     let here = place some.0 some.1 in
-    let index : i + k ≡ 4096 * some.0.frame + (x + k) % 4096 = omega arith in
+    let index : i + k ≡ page_size * some.0.frame + (x + k) % page_size = omega arith in
     ap (λ (j : ℕ). get_or frames j 0) index ∙ sym (byte_at-memory_of frames es (x + k) some.0 (ap (entry_at es) (same_page x k l) ∙ some.1))
 
 -- a run read into a buffer after what was read before it
-pub read_more : (frames : List ℕ) (es : List Entry) (a done next start n : ℕ) (part buffer after : List ℕ) → next ≡ a + done → next % 4096 + n ≤ 4096 → is_allowed Monitor (memory_of frames es) next ≡ true
-    → ((e : Entry) → entry_at es (next / 4096) ≡ Some e → start ≡ 4096 * e.frame + next % 4096)
+pub read_more : (frames : List ℕ) (es : List Entry) (a done next start n : ℕ) (part buffer after : List ℕ) → next ≡ a + done → next % page_size + n ≤ page_size → is_allowed Monitor (memory_of frames es) next ≡ true
+    → ((e : Entry) → entry_at es (next / page_size) ≡ Some e → start ≡ page_size * e.frame + next % page_size)
     → length part ≡ n → ((k : ℕ) → k < n → get_or part k 0 ≡ get_or frames (start + k) 0)
     → ((k : ℕ) → k < length part → get_or after (done + k) 0 ≡ get_or part k 0)
     → ((i : ℕ) → ((i < done) ⊎ (done + length part ≤ i)) → get_or after i 0 ≡ get_or buffer i 0)
@@ -73,7 +74,7 @@ read_more frames es a done next start n part buffer after here fits ok place lon
 ]
 
 -- where a run lies, all that is another frame's or another offset's lies beside it
-beside : (f e start o a n : ℕ) → start ≡ 4096 * e + a → a + n ≤ 4096 → o < 4096 → (f ≡ e → ((o < a) ⊎ (a + n ≤ o))) → ((4096 * f + o < start) ⊎ (start + n ≤ 4096 * f + o))
+beside : (f e start o a n : ℕ) → start ≡ page_size * e + a → a + n ≤ page_size → o < page_size → (f ≡ e → ((o < a) ⊎ (a + n ≤ o))) → ((page_size * f + o < start) ⊎ (start + n ≤ page_size * f + o))
 beside f e start o a n place fits small apart = elim (cases_eq f e) [
   | inl same ↦ elim (apart same) [ inl l ↦ inl (omega arith) | inr g ↦ inr (omega arith) ]
   | inr differ ↦ elim (cases_lt f e) [
@@ -82,33 +83,33 @@ beside f e start o a n place fits small apart = elim (cases_eq f e) [
   ]
 ]
 
-module _ (frames after : List ℕ) (es : List Entry) (a start : ℕ) (bs : List ℕ) (e : Entry) (separate : AreSeparate es) (here : entry_at es (a / 4096) ≡ Some e)
-    (place : start ≡ 4096 * e.frame + a % 4096) (fits : a % 4096 + length bs ≤ 4096)
+module _ (frames after : List ℕ) (es : List Entry) (a start : ℕ) (bs : List ℕ) (e : Entry) (separate : AreSeparate es) (here : entry_at es (a / page_size) ≡ Some e)
+    (place : start ≡ page_size * e.frame + a % page_size) (fits : a % page_size + length bs ≤ page_size)
     (pasted : (k : ℕ) → k < length bs → get_or after (start + k) 0 ≡ get_or bs k 0)
     (kept : (i : ℕ) → ((i < start) ⊎ (start + length bs ≤ i)) → get_or after i 0 ≡ get_or frames i 0) where
-  outside : (x : ℕ) → ((x < a) ⊎ (a + length bs ≤ x)) → (o : Option Entry) → entry_at es (x / 4096) ≡ o → cell_in after x (entry_at es (x / 4096)) ≡ cell_in frames x (entry_at es (x / 4096))
-  outside x far None q = ap (cell_in after x) q ∙ sym (ap (cell_in frames x) q)
+  outside : (x : ℕ) → ((x < a) ⊎ (a + length bs ≤ x)) → (o : Option Entry) → entry_at es (x / page_size) ≡ o → cell_of_page after x (entry_at es (x / page_size)) ≡ cell_of_page frames x (entry_at es (x / page_size))
+  outside x far None q = ap (cell_of_page after x) q ∙ sym (ap (cell_of_page frames x) q)
   outside x far (Some f) q =
-      let apart : f.frame ≡ e.frame → ((x % 4096 < a % 4096) ⊎ (a % 4096 + length bs ≤ x % 4096)) = λ same.
-      let page = separate (x / 4096) (a / 4096) f e q here same in
+      let apart : f.frame ≡ e.frame → ((x % page_size < a % page_size) ⊎ (a % page_size + length bs ≤ x % page_size)) = λ same.
+      let page = separate (x / page_size) (a / page_size) f e q here same in
       elim far [ inl l ↦ inl (omega arith) | inr g ↦ inr (omega arith) ] in
-      ap (cell_in after x) q
-      ∙ ap (λ (v : ℕ). Some (record { byte = v; permissions = f.permissions })) (kept (4096 * f.frame + x % 4096) (beside f.frame e.frame start (x % 4096) (a % 4096) (length bs) place fits (omega arith) apart))
-      ∙ sym (ap (cell_in frames x) q)
+      ap (cell_of_page after x) q
+      ∙ ap (λ (v : ℕ). Some (record { byte = v; permissions = f.permissions })) (kept (page_size * f.frame + x % page_size) (beside f.frame e.frame start (x % page_size) (a % page_size) (length bs) place fits (omega arith) apart))
+      ∙ sym (ap (cell_of_page frames x) q)
 
   within : (x k : ℕ) → k < length bs → x ≡ a + k → get (memory_of after es) x ≡ get (put_bytes (memory_of frames es) a bs) x
   within x k l q =
-      let page : x / 4096 ≡ a / 4096 = omega arith in
-      let there : entry_at es (x / 4096) ≡ Some e = ap (entry_at es) page ∙ here in
-      let index : 4096 * e.frame + x % 4096 ≡ start + k = omega arith in
-      get-memory_of after es x ∙ ap (cell_in after x) there
+      let page : x / page_size ≡ a / page_size = omega arith in
+      let there : entry_at es (x / page_size) ≡ Some e = ap (entry_at es) page ∙ here in
+      let index : page_size * e.frame + x % page_size ≡ start + k = omega arith in
+      get-memory_of after es x ∙ ap (cell_of_page after x) there
       ∙ ap (λ (v : ℕ). Some (record { byte = v; permissions = e.permissions })) (ap (λ (j : ℕ). get_or after j 0) index ∙ pasted k l)
-      ∙ ap (with_byte (get_or bs k 0)) (sym (ap (cell_in frames x) there) ∙ sym (get-memory_of frames es x))
+      ∙ ap (with_byte (get_or bs k 0)) (sym (ap (cell_of_page frames x) there) ∙ sym (get-memory_of frames es x))
       ∙ sym (get-put_bytes_within (memory_of frames es) a bs k x l q)
 
   beyond : (x : ℕ) → ((x < a) ⊎ (a + length bs ≤ x)) → get (memory_of after es) x ≡ get (put_bytes (memory_of frames es) a bs) x
   beyond x far =
-      get-memory_of after es x ∙ outside x far (entry_at es (x / 4096)) refl ∙ sym (get-memory_of frames es x)
+      get-memory_of after es x ∙ outside x far (entry_at es (x / page_size)) refl ∙ sym (get-memory_of frames es x)
       ∙ sym (get-put_bytes_outside (memory_of frames es) a bs x far)
 
   -- bytes written to a frame are bytes written to the memory
@@ -122,7 +123,7 @@ module _ (frames after : List ℕ) (es : List Entry) (a start : ℕ) (bs : List 
   ])
 
 pub run_written : (frames after : List ℕ) (es : List Entry) (a start : ℕ) (bs : List ℕ) → AreSeparate es → is_allowed Monitor (memory_of frames es) a ≡ true
-    → ((e : Entry) → entry_at es (a / 4096) ≡ Some e → start ≡ 4096 * e.frame + a % 4096) → a % 4096 + length bs ≤ 4096
+    → ((e : Entry) → entry_at es (a / page_size) ≡ Some e → start ≡ page_size * e.frame + a % page_size) → a % page_size + length bs ≤ page_size
     → ((k : ℕ) → k < length bs → get_or after (start + k) 0 ≡ get_or bs k 0)
     → ((i : ℕ) → ((i < start) ⊎ (start + length bs ≤ i)) → get_or after i 0 ≡ get_or frames i 0)
     → memory_of after es ≡ put_bytes (memory_of frames es) a bs
@@ -132,13 +133,13 @@ run_written frames after es a start bs separate ok place fits pasted kept =
 
 -- and no table that shares no frame means anything else
 pub others_unwritten : (frames after : List ℕ) (es other : List Entry) (a start n : ℕ) → AreApart es other → is_allowed Monitor (memory_of frames es) a ≡ true
-    → ((e : Entry) → entry_at es (a / 4096) ≡ Some e → start ≡ 4096 * e.frame + a % 4096) → a % 4096 + n ≤ 4096
+    → ((e : Entry) → entry_at es (a / page_size) ≡ Some e → start ≡ page_size * e.frame + a % page_size) → a % page_size + n ≤ page_size
     → ((i : ℕ) → ((i < start) ⊎ (start + n ≤ i)) → get_or after i 0 ≡ get_or frames i 0)
     → memory_of after other ≡ memory_of frames other
 others_unwritten frames after es other a start n apart ok place fits kept =
     let some = entry_from_allowed Monitor frames es a ok in
     memory_of_same frames after other (λ p f k q l.
-    kept (4096 * f.frame + k) (beside f.frame some.0.frame start k (a % 4096) n (place some.0 some.1) fits l (λ same. absurd (apart (a / 4096) p some.0 f some.1 q (sym same)))))
+    kept (page_size * f.frame + k) (beside f.frame some.0.frame start k (a % page_size) n (place some.0 some.1) fits l (λ same. absurd (apart (a / page_size) p some.0 f some.1 q (sym same)))))
 
 -- a run written after what was written before it
 pub put_bytes_run : (m : Memory) (a done n : ℕ) (bs part : List ℕ) → done ≤ length bs → part ≡ take n (drop done bs) → put_bytes m a (take (done + n) bs) ≡ put_bytes (put_bytes m a (take done bs)) (a + done) part

@@ -1,20 +1,22 @@
 -- The memories that callers see, and the tables and frames below them
-use Rattle.std.proofs.Common.{Option, Some, None, Result, Ok, Err, ◌≡◌, ℕ, zero, suc, ◌-◌, ◌<◌, ◌≤◌, List, [], cond, length, get_or, map, replicate, refl, sym, ◌∙◌, ap, subst, arith, add-zero}
+use Rattle.std.proofs.Common.{Option, Some, None, Result, Ok, Err, ◌≡◌, ℕ, zero, suc, ◌-◌, ◌*◌, ◌<◌, ◌≤◌, List, [], cond, length, get_or, map, replicate, refl, sym, ◌∙◌, ap, subst, arith, add-zero}
 use Rattle.std.specs.Prelude.{nat_lt, ◌↔◌}
 use Rattle.std.specs.FinMap.{empty}
-use Rattle.std.proofs.lemmas.List.{length-map}
+use Rattle.std.proofs.lemmas.List.{length-map, get_or-map}
 use Rattle.rv_model.specs.declared.memory.MapRefusal.{MapRefusal}
 use Rattle.rv_model.specs.memory.Memory.{Memory, map_refusal}
+use Rattle.rv_model.specs.memory.Sizes.{page_size, page_quota, frame_count}
+use Rattle.rv_model.specs.machine.Users.{user_count}
 use Rattle.user_mem.specs.declared.entry.Entry.{Entry}
 use Rattle.user_mem.specs.Table.{memory_of, IsSorted, AreBelow}
-use Rattle.user_mem.specs.Frames.{uses, uses_of}
+use Rattle.user_mem.specs.Frames.{times_free, times_used}
 use Rattle.user_mem.specs.Pool.{IsPool, owners, used_in_all, table_at, memories_of}
 use Rattle.user_mem.specs.Users.{no_memories, memory_of_user}
-use Rattle.user_mem.proofs.PoolLaws.{no_table, item_of}
+use Rattle.user_mem.proofs.PoolLaws.{no_table}
 
 -- a fact of all tables holds of the one at place i, as code reads it
 pub fact_at : {V : Type 0} (f : V → List Entry) (P : List Entry → Type 0) (tables : List V) (i : ℕ) (d : V) (es : List Entry) → i < length (map f tables) → es ≡ f (get_or tables i d) → P (table_at (map f tables) i) → P es
-fact_at f P tables i d es h e fact = subst P (sym (e ∙ sym (item_of f tables i d [] (omega (arith, length-map tables f))))) fact
+fact_at f P tables i d es h e fact = subst P (sym (e ∙ sym (get_or-map f tables i d [] (omega (arith, length-map tables f))))) fact
 
 -- a user's memory is what the user's table means
 pub memory_of_table : (frames : List ℕ) (tables : List (List Entry)) (user i : ℕ) (memories : List Memory)
@@ -22,35 +24,35 @@ pub memory_of_table : (frames : List ℕ) (tables : List (List Entry)) (user i :
 memory_of_table frames tables user i memories view place h =
     ap (λ (ms : List Memory). memory_of_user ms user) (sym view)
     ∙ ap (λ (j : ℕ). get_or (memories_of frames tables) j empty) (sym place)
-    ∙ item_of (λ t. memory_of frames t) tables i [] empty h
+    ∙ get_or-map (λ t. memory_of frames t) tables i [] empty h
 
 -- the same, as code reads the table
 pub memory_at : {V : Type 0} (f : V → List Entry) (frames : List ℕ) (tables : List V) (user i : ℕ) (d : V) (es : List Entry) (memories : List Memory)
     → memories_of frames (map f tables) ≡ memories → i ≡ user - 1 → i < length (map f tables) → es ≡ f (get_or tables i d) → memory_of_user memories user ≡ memory_of frames es
 memory_at f frames tables user i d es memories view place h e =
     memory_of_table frames (map f tables) user i memories view place h
-    ∙ ap (λ (t : List Entry). memory_of frames t) (item_of f tables i d [] (omega (arith, length-map tables f)) ∙ sym e)
+    ∙ ap (λ (t : List Entry). memory_of frames t) (get_or-map f tables i d [] (omega (arith, length-map tables f)) ∙ sym e)
 
 no_table_at : (n v : ℕ) → table_at (replicate n []) v ≡ []
 no_table_at zero v = refl
 no_table_at (suc n) zero = refl
 no_table_at (suc n) (suc v) = no_table_at n v
 
--- eight tables with no page over frames that are all free
-pub fresh_pool : (tables : List (List Entry)) (free frames : List ℕ) → tables ≡ replicate 8 [] → length frames ≡ 8388608
-    → ((f : ℕ) → uses f free ≡ cond (nat_lt f 2048) 1 0) → length free ≡ 2048 → IsPool tables free frames
-unfolding owners uses_of used_in_all
+-- tables with no page over frames that are all free
+pub fresh_pool : (tables : List (List Entry)) (free frames : List ℕ) → tables ≡ replicate user_count [] → length frames ≡ page_size * frame_count
+    → ((f : ℕ) → times_free f free ≡ cond (nat_lt f frame_count) 1 0) → length free ≡ frame_count → IsPool tables free frames
+unfolding owners times_used used_in_all
 fresh_pool tables free frames e size once len = subst (λ (ts : List (List Entry)). IsPool ts free frames) (sym e) (record {
   users = refl;
   size = size;
-  few = λ u. subst (λ (t : List Entry). length t ≤ 256) (sym (no_table_at 8 u)) no_table.few;
-  sorted = λ u. subst (λ (t : List Entry). IsSorted t) (sym (no_table_at 8 u)) no_table.sorted;
-  below = λ u. subst (λ (t : List Entry). AreBelow t) (sym (no_table_at 8 u)) no_table.below;
-  once = λ f. add-zero (uses f free) ∙ once f;
+  few = λ u. subst (λ (t : List Entry). length t ≤ page_quota) (sym (no_table_at user_count u)) no_table.few;
+  sorted = λ u. subst (λ (t : List Entry). IsSorted t) (sym (no_table_at user_count u)) no_table.sorted;
+  below = λ u. subst (λ (t : List Entry). AreBelow t) (sym (no_table_at user_count u)) no_table.below;
+  once = λ f. add-zero (times_free f free) ∙ once f;
   total = add-zero (length free) ∙ len;
 })
 
-pub fresh_memories : (tables : List (List Entry)) (frames : List ℕ) → tables ≡ replicate 8 [] → memories_of frames tables ≡ no_memories
+pub fresh_memories : (tables : List (List Entry)) (frames : List ℕ) → tables ≡ replicate user_count [] → memories_of frames tables ≡ no_memories
 unfolding memory_of
 fresh_memories tables frames e = ap (λ (ts : List (List Entry)). memories_of frames ts) e
 

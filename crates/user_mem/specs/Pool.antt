@@ -1,15 +1,17 @@
--- What the pool keeps: eight tables over 2,048 frames, of which each is free or used, once.
+-- What the pool keeps: all users' tables over the frames, of which each is free or used, once.
 use Rattle.std.specs.Prelude.{◌≡◌, ℕ, ◌+◌, ◌*◌, ◌≤◌, cond, nat_lt, List, [], length, map, slice_index_or}
 use Rattle.std.specs.List.{sum_by}
 use Rattle.user_mem.specs.declared.entry.Entry.{Entry}
 use Rattle.arrayvec.specs.ArrayVec.{ArrayVec}
 use Rattle.rv_model.specs.memory.Memory.{Memory}
+use Rattle.rv_model.specs.memory.Sizes.{page_size, page_quota, frame_count}
+use Rattle.rv_model.specs.machine.Users.{user_count}
 use Rattle.user_mem.specs.Table.{memory_of, IsSorted, AreBelow}
-use Rattle.user_mem.specs.Frames.{uses, uses_of}
+use Rattle.user_mem.specs.Frames.{times_free, times_used}
 
 -- how often a frame is free or used
 unfoldable pub owners : ℕ → List ℕ → List (List Entry) → ℕ
-owners f free tables = uses f free + sum_by (uses_of f) tables
+owners f free tables = times_free f free + sum_by (times_used f) tables
 
 -- how many frames are used
 unfoldable pub used_in_all : List (List Entry) → ℕ
@@ -29,10 +31,10 @@ memories_of frames tables = map (λ t. memory_of frames t) tables
 
 -- what holds of the tables, the free frames and the frames' bytes
 pub record IsPool (tables : List (List Entry)) (free frames : List ℕ) : Type 0 where
-  pub users : length tables ≡ 8
-  pub size : length frames ≡ 4096 * 2048
-  pub few : (u : ℕ) → length (table_at tables u) ≤ 256
+  pub users : length tables ≡ user_count
+  pub size : length frames ≡ page_size * frame_count
+  pub few : (u : ℕ) → length (table_at tables u) ≤ page_quota
   pub sorted : (u : ℕ) → IsSorted (table_at tables u)
   pub below : (u : ℕ) → AreBelow (table_at tables u)
-  pub once : (f : ℕ) → owners f free tables ≡ cond (nat_lt f 2048) 1 0
-  pub total : length free + used_in_all tables ≡ 2048
+  pub once : (f : ℕ) → owners f free tables ≡ cond (nat_lt f frame_count) 1 0
+  pub total : length free + used_in_all tables ≡ frame_count

@@ -1,11 +1,12 @@
--- The memories of the eight users as a list, user 1 first.
+-- The memories of all users as a list, user 1 first.
 use Rattle.std.specs.Prelude.{◌≡◌, ◌≢◌, ℕ, ◌-◌, ◌≤◌, List, length, replicate, slice_index_or, slice_set}
 use Rattle.std.specs.FinMap.{empty}
 use Rattle.rv_model.specs.memory.Memory.{Memory}
+use Rattle.rv_model.specs.machine.Users.{user_count}
 
--- eight memories with no page
+-- a memory with no page for each user
 abbrev pub no_memories : List Memory
-no_memories = replicate 8 empty
+no_memories = replicate user_count empty
 
 -- the memory of a user
 abbrev pub memory_of_user : List Memory → ℕ → Memory

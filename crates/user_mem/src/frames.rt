@@ -1,26 +1,27 @@
-//! The bytes of all frames, of 4,096 each: reads and writes through a user's table.
+//! The bytes of all frames, each of which holds a page: reads and writes through a user's table.
 ghost use Rattle.std.specs.Prelude.{◌≡◌, ℕ, List, ◌≤◌, ◌<◌, ◌+◌, ◌*◌, ◌/◌, ◌%◌, ◌^◌, ◌⊎◌, cond, nat_eq, true, Some, None, length, slice_index};
 ghost use Rattle.arrayvec.specs.ArrayVec.{array_vec_len};
 ghost use Rattle.rv_model.specs.memory.Memory.{is_allowed, can_access, bytes_at, put_bytes, with_pages};
+ghost use Rattle.rv_model.specs.memory.Sizes.{page_size, page_quota};
 ghost use Rattle.user_mem.specs.declared.entry.Entry.{Entry};
 ghost use Rattle.user_mem.specs.Table.{entry_at, memory_of, IsSorted, AreBelow, FitIn, AreSeparate, AreApart};
-ghost use Rattle.user_mem.specs.Frames.{uses_of};
+ghost use Rattle.user_mem.specs.Frames.{times_used};
 
 use crate::entry::Entry;
-use crate::table::{PAGE_SIZE, Table, add_entry, bytes_in_page, locate};
-use rv_model::{Access, Permissions};
+use crate::table::{Table, add_entry, bytes_in_page, locate};
+use rv_model::{Access, PAGE_SIZE, Permissions};
 
 /// The bytes of a frame.
-pub(crate) const FRAME_SIZE: usize = 4096;
+pub(crate) const FRAME_SIZE: usize = PAGE_SIZE as usize;
 
-// Where the byte of a mapped address lies.
+/// Where the byte of a mapped address lies.
 fn index_of(entries: &[Entry], frames: &[u8], addr: u64) -> usize
     requires sorted { IsSorted entries.now }
     requires fit { FitIn entries.now (length frames.now) }
     requires mapped { is_allowed Access.Monitor (memory_of frames.now entries.now) addr ≡ true }
-    ensures within { result + 4096 ≤ length frames.now + addr % 4096 }
-    ensures place { (e : Entry) → entry_at entries.now (addr / 4096) ≡ Some e
-        → result ≡ 4096 * e.frame + addr % 4096 }
+    ensures within { result + page_size ≤ length frames.now + addr % page_size }
+    ensures place { (e : Entry) → entry_at entries.now (addr / page_size) ≡ Some e
+        → result ≡ page_size * e.frame + addr % page_size }
 {
     match locate(entries, addr / PAGE_SIZE) {
         Some(entry) => FRAME_SIZE * entry.frame + addr as usize % FRAME_SIZE,
@@ -28,7 +29,7 @@ fn index_of(entries: &[Entry], frames: &[u8], addr: u64) -> usize
     }
 }
 
-// Copies bytes over a part of others.
+/// Copies bytes over a part of others.
 fn paste(target: &mut [u8], at: usize, bytes: &[u8])
     requires { at + length bytes.now ≤ length target.old }
     ensures size { length target.new ≡ length target.old }
@@ -83,12 +84,12 @@ pub(crate) fn copy_in(entries: &[Entry], frames: &mut [u8], addr: u64, bytes: &[
     }
 }
 
-// Fills a frame with zeros.
+/// Fills a frame with zeros.
 fn zero_frame(frames: &mut [u8], frame: usize)
-    requires { 4096 * frame + 4096 ≤ length frames.old }
+    requires { page_size * frame + page_size ≤ length frames.old }
     ensures size { length frames.new ≡ length frames.old }
-    ensures zeros { (k : ℕ) → k < 4096 → slice_index frames.new (4096 * frame + k) ≡ 0 }
-    ensures kept { (i : ℕ) → ((i < 4096 * frame) ⊎ (4096 * frame + 4096 ≤ i))
+    ensures zeros { (k : ℕ) → k < page_size → slice_index frames.new (page_size * frame + k) ≡ 0 }
+    ensures kept { (i : ℕ) → ((i < page_size * frame) ⊎ (page_size * frame + page_size ≤ i))
         → slice_index frames.new i ≡ slice_index frames.old i }
 {
     for k in 0..FRAME_SIZE {
@@ -104,14 +105,14 @@ pub(crate) fn map_page(
     page: u64,
     permissions: Permissions,
 )
-    requires room { array_vec_len table.old < 256 }
+    requires room { array_vec_len table.old < page_quota }
     requires sorted { IsSorted table.old.items }
-    requires fits { 4096 * frame + 4096 ≤ length frames.old }
+    requires fits { page_size * frame + page_size ≤ length frames.old }
     requires new_page { entry_at table.old.items page ≡ None }
-    requires unused { uses_of frame table.old.items ≡ 0 }
+    requires unused { times_used frame table.old.items ≡ 0 }
     ensures mapped { memory_of frames.new table.new.items
         ≡ with_pages (memory_of frames.old table.old.items) page 1 permissions }
-    ensures others { (other : List Entry) → uses_of frame other ≡ 0
+    ensures others { (other : List Entry) → times_used frame other ≡ 0
         → memory_of frames.new other ≡ memory_of frames.old other }
     ensures sorted { IsSorted table.new.items }
     ensures looked_up { (p : ℕ) → entry_at table.new.items p
@@ -119,7 +120,7 @@ pub(crate) fn map_page(
         (Some (record { page = page; frame = frame; permissions = permissions }))
         (entry_at table.old.items p) }
     ensures used { (f : ℕ)
-        → uses_of f table.new.items ≡ uses_of f table.old.items + cond (nat_eq frame f) 1 0 }
+        → times_used f table.new.items ≡ times_used f table.old.items + cond (nat_eq frame f) 1 0 }
     ensures len { length table.new.items ≡ length table.old.items + 1 }
     ensures size { length frames.new ≡ length frames.old }
 {

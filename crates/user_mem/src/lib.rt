@@ -1,4 +1,4 @@
-//! The memory of eight users in one pool of frames. A user's memory is a map from addresses to
+//! The memory of all users in one pool of frames. A user's memory is a map from addresses to
 //! bytes with permissions, which no call for another user changes.
 #![tactic(auto)]
 

@@ -2,15 +2,17 @@
 ghost use Rattle.std.specs.Prelude.{◌≡◌, ℕ, ◌<◌, ◌≤◌, ◌+◌, ◌*◌, ◌^◌, ◌↔◌, [], true, None, IsOk, IfOk, IfErr, OnOk, OnErr, length, replicate};
 ghost use Rattle.std.specs.FinMap.{empty};
 ghost use Rattle.rv_model.specs.memory.Memory.{can_access, bytes_at, put_bytes, with_pages, page_count, any_page_mapped, map_refusal};
+ghost use Rattle.rv_model.specs.memory.Sizes.{page_quota, page_limit};
+ghost use Rattle.rv_model.specs.machine.Users.{user_count};
 ghost use Rattle.user_mem.specs.Users.{no_memories, memory_of_user, with_memory};
 ghost use Rattle.user_mem.specs.Pool.{entries_of};
 
 use crate::frames::{FRAME_SIZE, copy_out};
-use crate::free::{FRAME_COUNT, FreeFrames, all_free};
-use crate::table::{allows, refusal};
+use crate::free::{FreeFrames, all_free};
+use crate::table::{is_access_allowed, refusal};
 use crate::users::{Tables, drop_pages, map_user, write_user};
 use arrayvec::ArrayVec;
-use rv_model::{Access, Fault, MapRefusal, Permissions, User};
+use rv_model::{Access, FRAME_COUNT, Fault, MapRefusal, Permissions, User};
 use std::alloc::{AllocError, Allocator, Global};
 use std::marker::Model;
 
@@ -20,8 +22,8 @@ pub struct NoMemory;
 
 /// The frames of all users, the pages that each has in them, and the frames that are free.
 ///
-/// A page has 4,096 bytes. A user has at most 256 pages, and the 2,048 frames are enough for eight
-/// users who have that many each. Only `new` takes memory.
+/// A page has `PAGE_SIZE` bytes. A user has at most `PAGE_QUOTA` pages, and the `FRAME_COUNT` frames
+/// are enough for all users to have that many each. Only `new` takes memory.
 ///
 /// A page may be read, written and executed as its permissions say, which are those of a leaf entry
 /// of a page table (Privileged Architecture, section 4.3.1). The monitor may look at any mapped page.
@@ -48,7 +50,7 @@ impl<A: Allocator> Model for Pool<A> {
 }
 
 impl<A: Allocator> Pool<A> {
-    /// Eight memories with no page.
+    /// A memory with no page for each user.
     pub fn new(alloc: A) -> Result<Self, NoMemory>
         ensures { IfOk result (λ pool. pool ≡ no_memories) }
     {
@@ -63,9 +65,9 @@ impl<A: Allocator> Pool<A> {
     }
 
     /// Maps `count` pages of zeros for a user, from the page numbered `page` on (page p begins at
-    /// address 4,096 p). The pages end at or below address 2^48.
+    /// address `PAGE_SIZE` p). The pages end at or below `ADDRESS_END`.
     ///
-    /// `Quota` where the user would have more than 256 pages, else `AlreadyMapped` where one of the
+    /// `Quota` where the user would have more than `PAGE_QUOTA` pages, else `AlreadyMapped` where one of the
     /// pages is there. Then nothing has changed.
     pub fn map(
         &mut self,
@@ -74,17 +76,17 @@ impl<A: Allocator> Pool<A> {
         count: usize,
         permissions: Permissions,
     ) -> Result<(), MapRefusal>
-        requires { page + count ≤ 2 ^ 36 }
-        ensures users { length self.old ≡ 8 }
+        requires { page + count ≤ page_limit }
+        ensures users { length self.old ≡ user_count }
         ensures accepted { IsOk result
             ↔ (map_refusal (memory_of_user self.old user) page count ≡ None) }
         ensures refused { IfErr result (λ refusal.
             map_refusal (memory_of_user self.old user) page count ≡ Some refusal) }
 
         ensures quota { (result ≡ Err MapRefusal.Quota)
-            ↔ (256 < page_count (memory_of_user self.old user) + count) }
+            ↔ (page_quota < page_count (memory_of_user self.old user) + count) }
         ensures already_mapped { (result ≡ Err MapRefusal.AlreadyMapped)
-            ↔ ((page_count (memory_of_user self.old user) + count ≤ 256)
+            ↔ ((page_count (memory_of_user self.old user) + count ≤ page_quota)
             × (any_page_mapped (memory_of_user self.old user) page count ≡ true)) }
 
         ensures ok { OnOk result (self.new ≡ with_memory self.old user
@@ -108,7 +110,7 @@ impl<A: Allocator> Pool<A> {
 
     /// Unmaps all pages of a user.
     pub fn drop_user(&mut self, user: User)
-        ensures users { length self.old ≡ 8 }
+        ensures users { length self.old ≡ user_count }
         ensures dropped { self.new ≡ with_memory self.old user empty }
     {
         drop_pages(
@@ -119,9 +121,9 @@ impl<A: Allocator> Pool<A> {
         );
     }
 
-    /// How many pages a user has, at most 256.
+    /// How many pages a user has, at most `PAGE_QUOTA`.
     pub fn pages(&self, user: User) -> usize
-        ensures users { length self.now ≡ 8 }
+        ensures users { length self.now ≡ user_count }
         ensures value { result ≡ page_count (memory_of_user self.now user) }
     {
         self.tables[user.index()].len()
@@ -130,12 +132,12 @@ impl<A: Allocator> Pool<A> {
     /// Checks that each of `len` bytes from an address on may be accessed so. A fault names the
     /// address of the first. An access of no bytes is allowed anywhere.
     pub fn check(&self, user: User, addr: u64, len: usize, access: Access) -> Result<(), Fault>
-        ensures users { length self.now ≡ 8 }
+        ensures users { length self.now ≡ user_count }
         ensures allowed { IsOk result
             ↔ (can_access access (memory_of_user self.now user) addr len ≡ true) }
         ensures fault { IfErr result (λ fault. fault.addr ≡ addr) }
     {
-        if allows(self.tables[user.index()].as_slice(), access, addr, len) {
+        if is_access_allowed(self.tables[user.index()].as_slice(), access, addr, len) {
             Ok(())
         } else {
             Err(Fault { addr })
@@ -151,7 +153,7 @@ impl<A: Allocator> Pool<A> {
         access: Access,
         buffer: &mut [u8],
     ) -> Result<(), Fault>
-        ensures users { length self.now ≡ 8 }
+        ensures users { length self.now ≡ user_count }
         ensures allowed { IsOk result
             ↔ (can_access access (memory_of_user self.now user) addr (length buffer.old) ≡ true) }
         ensures ok { OnOk result (buffer.new
@@ -177,7 +179,7 @@ impl<A: Allocator> Pool<A> {
         access: Access,
         bytes: &[u8],
     ) -> Result<(), Fault>
-        ensures users { length self.old ≡ 8 }
+        ensures users { length self.old ≡ user_count }
         ensures allowed { IsOk result
             ↔ (can_access access (memory_of_user self.old user) addr (length bytes.now) ≡ true) }
         ensures ok { OnOk result (self.new ≡ with_memory self.old user
@@ -198,16 +200,16 @@ impl<A: Allocator> Pool<A> {
     }
 }
 
-// So many zeros.
+/// So many zeros.
 fn zeros<A: Allocator>(alloc: A, count: usize) -> Result<Vec<u8, A>, AllocError>
     ensures { IfOk result (λ bytes. length bytes.items ≡ count) }
 {
     vec![in alloc; 0; count]
 }
 
-// Eight tables with no page.
+/// A table with no page for each user.
 fn no_tables() -> Tables
-    ensures { entries_of result ≡ replicate 8 [] }
+    ensures { entries_of result ≡ replicate user_count [] }
 {
     [
         ArrayVec::new(),

@@ -2,24 +2,19 @@
 ghost use Rattle.std.specs.Prelude.{◌≡◌, ℕ, List, ◌≤◌, ◌<◌, ◌+◌, ◌-◌, ◌*◌, ◌/◌, ◌%◌, ◌^◌, min, cond, nat_eq, false, Some, None, IfOk, IfErr, IfNone, length};
 ghost use Rattle.arrayvec.specs.ArrayVec.{array_vec_len};
 ghost use Rattle.rv_model.specs.memory.Memory.{is_allowed, can_access, any_page_mapped, map_refusal};
+ghost use Rattle.rv_model.specs.memory.Sizes.{page_size, page_quota, page_limit};
 ghost use Rattle.user_mem.specs.declared.entry.Entry.{Entry};
 ghost use Rattle.user_mem.specs.Table.{entry_at, memory_of, AreBelow, IsSorted, IsAt, IsGapFor};
-ghost use Rattle.user_mem.specs.Frames.{uses_of};
+ghost use Rattle.user_mem.specs.Frames.{times_used};
 
 use crate::entry::Entry;
 use arrayvec::ArrayVec;
-use rv_model::{Access, MapRefusal};
-
-/// The most pages that a user may have.
-pub(crate) const QUOTA: usize = 256;
-
-/// The bytes of a page.
-pub(crate) const PAGE_SIZE: u64 = 4096;
+use rv_model::{Access, MapRefusal, PAGE_QUOTA, PAGE_SIZE};
 
 /// A user's mapped pages, by rising page.
-pub(crate) type Table = ArrayVec<Entry, QUOTA>;
+pub(crate) type Table = ArrayVec<Entry, PAGE_QUOTA>;
 
-// Where the entry of a page is, or where it would go.
+/// Where the entry of a page is, or where it would go.
 fn search(entries: &[Entry], page: u64) -> Result<usize, usize>
     requires { IsSorted entries.now }
     ensures found { IfOk result (IsAt entries.now page) }
@@ -39,7 +34,7 @@ pub(crate) fn locate(entries: &[Entry], page: u64) -> Option<Entry>
     }
 }
 
-// Whether the byte at an address may be accessed.
+/// Whether the byte at an address may be accessed.
 fn is_byte_allowed(entries: &[Entry], access: Access, addr: u64) -> bool
     requires { IsSorted entries.now }
     ensures { (frames : List ℕ) → result ≡ is_allowed access (memory_of frames entries.now) addr }
@@ -52,13 +47,13 @@ fn is_byte_allowed(entries: &[Entry], access: Access, addr: u64) -> bool
 
 /// How many of the next `left` bytes from an address on lie in its page.
 pub(crate) fn bytes_in_page(addr: u64, left: usize) -> usize
-    ensures { result ≡ min left (4096 - addr % 4096) }
+    ensures { result ≡ min left (page_size - addr % page_size) }
 {
     left.min((PAGE_SIZE - addr % PAGE_SIZE) as usize)
 }
 
 /// Whether all bytes of an access are allowed.
-pub(crate) fn allows(entries: &[Entry], access: Access, addr: u64, len: usize) -> bool
+pub(crate) fn is_access_allowed(entries: &[Entry], access: Access, addr: u64, len: usize) -> bool
     requires sorted { IsSorted entries.now }
     requires below { AreBelow entries.now }
     ensures { (frames : List ℕ)
@@ -77,10 +72,10 @@ pub(crate) fn allows(entries: &[Entry], access: Access, addr: u64, len: usize) -
     true
 }
 
-// Whether any of these pages is mapped.
+/// Whether any of these pages is mapped.
 fn is_any_mapped(entries: &[Entry], page: u64, count: usize) -> bool
     requires sorted { IsSorted entries.now }
-    requires ends { page + count ≤ 2 ^ 36 }
+    requires ends { page + count ≤ page_limit }
     ensures mapped { (frames : List ℕ)
         → result ≡ any_page_mapped (memory_of frames entries.now) page count }
     ensures new_pages { result ≡ false → (k : ℕ) → k < count
@@ -96,16 +91,16 @@ fn is_any_mapped(entries: &[Entry], page: u64, count: usize) -> bool
 
 /// Why these pages can't be mapped, where they can't.
 pub(crate) fn refusal(entries: &[Entry], page: u64, count: usize) -> Option<MapRefusal>
-    requires few { length entries.now ≤ 256 }
+    requires few { length entries.now ≤ page_quota }
     requires sorted { IsSorted entries.now }
-    requires ends { page + count ≤ 2 ^ 36 }
+    requires ends { page + count ≤ page_limit }
     ensures value { (frames : List ℕ)
         → result ≡ map_refusal (memory_of frames entries.now) page count }
-    ensures room { IfNone result (length entries.now + count ≤ 256) }
+    ensures room { IfNone result (length entries.now + count ≤ page_quota) }
     ensures new_pages { IfNone result ((k : ℕ)
         → k < count → entry_at entries.now (page + k) ≡ None) }
 {
-    if count > QUOTA - entries.len() {
+    if count > PAGE_QUOTA - entries.len() {
         return Some(MapRefusal::Quota);
     }
     if is_any_mapped(entries, page, count) {
@@ -116,7 +111,7 @@ pub(crate) fn refusal(entries: &[Entry], page: u64, count: usize) -> Option<MapR
 
 /// Adds the entry of a page that has none.
 pub(crate) fn add_entry(table: &mut Table, entry: Entry)
-    requires room { array_vec_len table.old < 256 }
+    requires room { array_vec_len table.old < page_quota }
     requires sorted { IsSorted table.old.items }
     requires new_page { entry_at table.old.items entry.page ≡ None }
     ensures sorted { IsSorted table.new.items }
@@ -124,7 +119,7 @@ pub(crate) fn add_entry(table: &mut Table, entry: Entry)
     ensures looked_up { (p : ℕ) → entry_at table.new.items p
         ≡ cond (nat_eq entry.page p) (Some entry) (entry_at table.old.items p) }
     ensures used { (f : ℕ)
-        → uses_of f table.new.items ≡ uses_of f table.old.items + cond (nat_eq entry.frame f) 1 0 }
+        → times_used f table.new.items ≡ times_used f table.old.items + cond (nat_eq entry.frame f) 1 0 }
 {
     match search(table.as_slice(), entry.page) {
         Ok(_) => unreachable!(),

@@ -1,6 +1,8 @@
 //! The tables of all users over the pool's frames.
 ghost use Rattle.std.specs.Prelude.{◌≡◌, ℕ, ◌<◌, ◌≤◌, ◌+◌, ◌^◌, [], None, List, true, length, slice_set};
 ghost use Rattle.rv_model.specs.memory.Memory.{can_access, put_bytes, with_pages};
+ghost use Rattle.rv_model.specs.memory.Sizes.{page_quota, page_limit};
+ghost use Rattle.rv_model.specs.machine.Users.{user_count};
 ghost use Rattle.user_mem.specs.declared.entry.Entry.{Entry};
 ghost use Rattle.user_mem.specs.Table.{entry_at, memory_of};
 ghost use Rattle.user_mem.specs.Pool.{IsPool, entries_of, table_at, memories_of};
@@ -8,13 +10,10 @@ ghost use Rattle.user_mem.specs.Pool.{IsPool, entries_of, table_at, memories_of}
 use crate::frames::copy_in;
 use crate::free::{FreeFrames, give_back, take_pages};
 use crate::table::Table;
-use rv_model::{Access, Permissions};
-
-/// How many users there are.
-const USERS: usize = 8;
+use rv_model::{Access, Permissions, USER_COUNT};
 
 /// The tables of all users, user 1 first.
-pub(crate) type Tables = [Table; USERS];
+pub(crate) type Tables = [Table; USER_COUNT];
 
 /// Maps pages of zeros for the user at a place.
 pub(crate) fn map_user(
@@ -26,10 +25,10 @@ pub(crate) fn map_user(
     count: usize,
     permissions: Permissions,
 )
-    requires user { user < 8 }
+    requires user { user < user_count }
     requires pool { IsPool (entries_of tables.old) free.old.items frames.old }
-    requires room { length (table_at (entries_of tables.old) user) + count ≤ 256 }
-    requires ends { page + count ≤ 2 ^ 36 }
+    requires room { length (table_at (entries_of tables.old) user) + count ≤ page_quota }
+    requires ends { page + count ≤ page_limit }
     requires new_pages { (k : ℕ) → k < count
         → entry_at (table_at (entries_of tables.old) user) (page + k) ≡ None }
     ensures pool { IsPool (entries_of tables.new) free.new.items frames.new }
@@ -44,7 +43,7 @@ pub(crate) fn map_user(
 
 /// Unmaps all pages of the user at a place.
 pub(crate) fn drop_pages(tables: &mut Tables, user: usize, free: &mut FreeFrames, frames: &[u8])
-    requires user { user < 8 }
+    requires user { user < user_count }
     requires pool { IsPool (entries_of tables.old) free.old.items frames.now }
     ensures pool { IsPool (entries_of tables.new) free.new.items frames.now }
     ensures dropped { entries_of tables.new ≡ slice_set (entries_of tables.old) user [] }
@@ -61,7 +60,7 @@ pub(crate) fn write_user(
     addr: u64,
     bytes: &[u8],
 )
-    requires user { user < 8 }
+    requires user { user < user_count }
     requires pool { IsPool (entries_of tables.now) free.now.items frames.old }
     requires mapped { can_access Access.Monitor
         (memory_of frames.old (table_at (entries_of tables.now) user)) addr (length bytes.now)

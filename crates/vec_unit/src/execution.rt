@@ -1,17 +1,19 @@
 //! One vector instruction, carried out.
-ghost use Rattle.std.specs.Prelude.{◌≡◌, IsTrue, List, ℕ};
+ghost use Rattle.std.specs.Prelude.{◌≡◌, ◌≤◌, IsTrue, List, ℕ};
 ghost use Rattle.rv_model.specs.step.Hart.{hart_state};
-ghost use Rattle.rv_model.specs.step.VectorStep.{is_vector, vector_ends, vector_executed};
+ghost use Rattle.rv_model.specs.step.VectorStep.{is_vector, performed, vector_ends, vector_executed};
+ghost use Rattle.rv_model.specs.legality.Legality.{is_legal};
 
-use crate::arithmetic::execute_arith;
+use crate::arithmetic::perform_arith;
 use crate::vset::{configure, requested_length};
+use reg_groups::legal;
 use rv_model::{Instr, Policy, RequestedLength, Scalar, VEnd, VState, VectorRequest};
 use vector_memory::UserBytes;
 
-/// Carries out a vector instruction of a user, of at most `limit` elements where it goes to memory. The
-/// program counter stays on it. Instructions that aren't carried out yet are illegal.
-#[tactic(auto, unfolding(rv_model::specs::step::VectorStep::vector_executed))]
-pub fn exec<M: UserBytes>(
+/// Carries out a legal vector instruction, if it is one of those that are carried out so far; else it is
+/// illegal, and nothing changes.
+#[tactic(auto, unfolding(rv_model::specs::step::VectorStep::performed))]
+fn perform<M: UserBytes>(
     instr: &Instr,
     state: &mut VState,
     scalar: &mut Scalar,
@@ -19,15 +21,13 @@ pub fn exec<M: UserBytes>(
     limit: usize,
     policy: Policy,
 ) -> VEnd
-    requires { IsTrue (is_vector instr.now) }
+    requires vector { IsTrue (is_vector instr.now) }
+    requires legal { IsTrue (is_legal instr.now state.old.conf.vtype state.old.vstart) }
+    requires limit { 1 ≤ limit }
     ensures model { (output : List ℕ)
-        → vector_executed limit instr.now (hart_state scalar.old state.old (M.memory memory.old) policy output)
+        → performed limit instr.now (hart_state scalar.old state.old (M.memory memory.old) policy output)
         ≡ vector_ends result (hart_state scalar.new state.new (M.memory memory.new) policy output) }
-
-    // All else that the user's bytes hold stays.
     ensures memory { memory.new ≡ M.with_memory memory.old (M.memory memory.new) }
-
-    // What the illegal instruction finds is what it leaves.
     ensures illegal_state { result ≡ VEnd.Illegal → state.new ≡ state.old }
     ensures illegal_scalar { result ≡ VEnd.Illegal → scalar.new ≡ scalar.old }
     ensures illegal_memory { result ≡ VEnd.Illegal → memory.new ≡ memory.old }
@@ -52,8 +52,39 @@ pub fn exec<M: UserBytes>(
             VEnd::Done
         }
         Instr::VectorArith { arith, vd, vs2, vm } => {
-            execute_arith(instr, arith, vd, vs2, vm, state, scalar, policy)
+            perform_arith(arith, vd, vs2, vm, state, scalar, policy)
         }
         _ => VEnd::Illegal,
     }
+}
+
+/// Carries out a vector instruction of a user, of at most `limit` elements where it goes to memory. The
+/// program counter stays on it. Instructions that aren't carried out yet are illegal.
+#[tactic(auto, unfolding(rv_model::specs::step::VectorStep::vector_executed))]
+pub fn exec<M: UserBytes>(
+    instr: &Instr,
+    state: &mut VState,
+    scalar: &mut Scalar,
+    memory: &mut M,
+    limit: usize,
+    policy: Policy,
+) -> VEnd
+    requires vector { IsTrue (is_vector instr.now) }
+    requires limit { 1 ≤ limit }
+    ensures model { (output : List ℕ)
+        → vector_executed limit instr.now (hart_state scalar.old state.old (M.memory memory.old) policy output)
+        ≡ vector_ends result (hart_state scalar.new state.new (M.memory memory.new) policy output) }
+
+    // All else that the user's bytes hold stays.
+    ensures memory { memory.new ≡ M.with_memory memory.old (M.memory memory.new) }
+
+    // What the illegal instruction finds is what it leaves.
+    ensures illegal_state { result ≡ VEnd.Illegal → state.new ≡ state.old }
+    ensures illegal_scalar { result ≡ VEnd.Illegal → scalar.new ≡ scalar.old }
+    ensures illegal_memory { result ≡ VEnd.Illegal → memory.new ≡ memory.old }
+{
+    if !legal(instr, &state.conf, state.vstart) {
+        return VEnd::Illegal;
+    }
+    perform(instr, state, scalar, memory, limit, policy)
 }

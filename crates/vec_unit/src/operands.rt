@@ -2,23 +2,21 @@
 //! Extension 1.0, sections 5.2, 5.3 and 11.1).
 ghost use Rattle.std.specs.Prelude.{◌≡◌, ◌*◌, ◌%◌, ◌^◌, ◌<◌, ◌≤◌, ℕ, length, take};
 ghost use Rattle.rv_model.specs.elements.Elements.{element};
-ghost use Rattle.rv_model.specs.vector.Groups.{registers};
+ghost use Rattle.rv_model.specs.vector.Registers.{register_of, registers};
 ghost use Rattle.rv_model.specs.legality.GroupBounds.{IsInside, SourceIsInside};
-ghost use Rattle.rv_model.specs.elements.Arithmetic.{group_element, mask_register, second_element};
+ghost use Rattle.rv_model.specs.elements.Arithmetic.{group_element, second_element};
 ghost use Rattle.rv_model.specs.elements.Formulas.{immediate_value};
+ghost use Rattle.rv_model.specs.vector.Configuration.{width_bytes};
 ghost use mir.Val.{bits};
 
 use lane_arith::{Lane, fill};
 use reg_groups::group;
 use rv_model::instructions::operations::BinaryOp;
-use rv_model::{Field, Scalar, Source, VFile, VReg};
+use rv_model::{Field, GROUP_BYTES, Scalar, Source, VFile, VLENB, VReg};
 
-/// The bytes of the largest group.
-pub(crate) const GROUP_BYTES: usize = 256;
-
-// The bytes, before zeros.
+/// The bytes, before zeros.
 fn copied(bytes: &[u8]) -> [u8; GROUP_BYTES]
-    requires { length bytes.now ≤ 256 }
+    requires { length bytes.now ≤ GROUP_BYTES }
     ensures { take (length bytes.now) result ≡ bytes.now }
 {
     let mut copy = [0; GROUP_BYTES];
@@ -27,11 +25,11 @@ fn copied(bytes: &[u8]) -> [u8; GROUP_BYTES]
 }
 
 /// The bytes of v0.
-pub(crate) fn mask_register(file: &VFile) -> [u8; 32]
-    ensures { result ≡ mask_register file.now }
+pub(crate) fn mask_register(file: &VFile) -> [u8; VLENB]
+    ensures { result ≡ register_of file.now 0 }
 {
-    let mut mask = [0; 32];
-    mask.copy_from_slice(group(file, VReg::new(0), 8));
+    let mut mask = [0; VLENB];
+    mask.copy_from_slice(file.register(VReg::new(0)));
     mask
 }
 
@@ -44,25 +42,25 @@ pub(crate) fn group_elements<L: Lane>(
 ) -> [u8; GROUP_BYTES]
     requires inside { IsInside first emul }
     requires most { emul ≤ 64 }
-    requires count { L.size * count ≤ 32 * registers emul }
-    ensures { (i : ℕ) → i < count → element L.size result i
-        ≡ group_element (record { bytes = L.size; width = L.width; emul = emul }) file.now first i }
+    requires count { width_bytes L.width * count ≤ VLENB * registers emul }
+    ensures { (i : ℕ) → i < count → element (width_bytes L.width) result i
+        ≡ group_element (record { width = L.width; emul = emul }) file.now first i }
 {
     copied(group(file, first, emul))
 }
 
-// One number `count` times.
+/// One number `count` times.
 fn repeated<L: Lane>(number: L, count: usize) -> [u8; GROUP_BYTES]
-    requires room { L.size * count ≤ 256 }
-    requires count { count ≤ 256 }
-    ensures { (i : ℕ) → i < count → element L.size result i ≡ L.value number % 256 ^ L.size }
+    requires room { width_bytes L.width * count ≤ GROUP_BYTES }
+    requires count { count ≤ GROUP_BYTES }
+    ensures { (i : ℕ) → i < count → element (width_bytes L.width) result i ≡ L.value number % 256 ^ width_bytes L.width }
 {
     let mut bytes = [0; GROUP_BYTES];
     fill(number, 0, count, &mut bytes);
     bytes
 }
 
-// The number of an immediate, unsigned for shifts, else sign-extended.
+/// The number of an immediate, unsigned for shifts, else sign-extended.
 fn immediate_value(op: BinaryOp, imm: Field<5>) -> u64
     ensures { result ≡ immediate_value op imm }
 {
@@ -79,12 +77,12 @@ fn immediate_value(op: BinaryOp, imm: Field<5>) -> u64
     }
 }
 
-// The low bits of a number, `count` times.
+/// The low bits of a number, `count` times.
 #[tactic(auto, using(rv_model::proofs::element_lemmas::Reads::low_bits_fit))]
 fn low_bits<L: Lane>(number: u64, count: usize) -> [u8; GROUP_BYTES]
-    requires room { L.size * count ≤ 256 }
-    requires count { count ≤ 256 }
-    ensures { (i : ℕ) → i < count → element L.size result i ≡ number % 2 ^ bits L.width }
+    requires room { width_bytes L.width * count ≤ GROUP_BYTES }
+    requires count { count ≤ GROUP_BYTES }
+    ensures { (i : ℕ) → i < count → element (width_bytes L.width) result i ≡ number % 2 ^ bits L.width }
 {
     repeated(L::low_bits(number), count)
 }
@@ -100,10 +98,10 @@ pub(crate) fn second_elements<L: Lane>(
 ) -> [u8; GROUP_BYTES]
     requires inside { SourceIsInside source emul }
     requires most { emul ≤ 64 }
-    requires room { L.size * count ≤ 32 * registers emul }
-    requires count { count ≤ 256 }
-    ensures { (i : ℕ) → i < count → element L.size result i
-        ≡ second_element (record { bytes = L.size; width = L.width; emul = emul }) op source
+    requires room { width_bytes L.width * count ≤ VLENB * registers emul }
+    requires count { count ≤ GROUP_BYTES }
+    ensures { (i : ℕ) → i < count → element (width_bytes L.width) result i
+        ≡ second_element (record { width = L.width; emul = emul }) op source
         file.now scalar.now i }
 {
     match source {

@@ -1,5 +1,5 @@
 -- The canonical text of a word has no newline.
-use Rattle.std.proofs.Common.{◌≡◌, ℕ, zero, suc, ◌+◌, ◌-◌, ◌*◌, ◌/◌, ◌%◌, ◌<◌, ◌≤◌, List, [], ◌∷◌, Bool, true, false, refl, ap, arith, eqb, inl, inr}
+use Rattle.std.proofs.Common.{◌≡◌, ℕ, zero, suc, Option, Some, None, ◌+◌, ◌-◌, ◌*◌, ◌/◌, ◌%◌, ◌<◌, ◌≤◌, List, [], ◌∷◌, Bool, true, false, refl, ap, arith, eqb, inl, inr}
 use Rattle.std.specs.Prelude.{not, codes, ◌==◌, nat_lt}
 use Rattle.std.proofs.Math.ListN.{get_or-eq_default}
 use Rattle.std.proofs.lemmas.Bool.{agree_below_at, cases_lt}
@@ -10,15 +10,24 @@ use Rattle.rv_model.specs.declared.assembler.forms.Form.TheVariants as form
 use Rattle.rv_model.specs.declared.assembler.mnemonics.Mnemonic.{Mnemonic}
 use Rattle.rv_model.specs.declared.assembler.mnemonics.TheConstants.{MNEMONICS}
 use Rattle.rv_model.specs.assembler.Fields.{value_of}
-use Rattle.rv_model.specs.assembler.Numbers.{hex_digit, hex_digits, csr_text, vsew_text, vlmul_text, vta_text, vma_text}
-use Rattle.rv_model.specs.assembler.Slots.{step, half, has_names, signed_text, vtype_text, printed}
-use Rattle.rv_model.specs.assembler.Table.{unpadded, row_at, name_at, slots_at, row_of_word, operands_text, printed_operands, text_at, canonical}
+use Rattle.rv_model.specs.assembler.Numbers.{hex_digit, hex_digits, csr_text, csr_text_of}
+use Rattle.rv_model.specs.assembler.Slots.{step, half, signed_text, vtype_named, vtype_text, printed}
+use Rattle.rv_model.specs.assembler.Table.{row_count, unpadded, row_at, name_at, slots_at, row_of_word, operands_text, printed_operands, text_at, canonical}
 use Rattle.rv_model.specs.text.Lines.{is_line, IsLine}
+use Rattle.rv_model.specs.declared.vector.control_register.ControlRegister.{ControlRegister}
+use Rattle.rv_model.specs.declared.vector.types.Sew.{Sew}
+use Rattle.rv_model.specs.declared.vector.types.Sew.TheVariants.{E8, E16, E32, E64}
+use Rattle.rv_model.specs.declared.vector.types.Lmul.{Lmul}
+use Rattle.rv_model.specs.declared.vector.types.Lmul.TheVariants.{Mf8, Mf4, Mf2, M1, M2, M4, M8}
+use Rattle.rv_model.specs.vector.ControlRegisters.{control_register, control_registers, register_name, register_number}
+use Rattle.rv_model.specs.vector.TypeNames.{lmul_name, mask_name, sew_name, tail_name}
+use Rattle.rv_model.specs.vector.TypeRules.{lmul_with_number, sew_with_number}
+use Rattle.rv_model.proofs.assembler_lemmas.Found.{found_passes}
 use Rattle.rv_model.proofs.text_lemmas.Lines.{both_of}
 use Rattle.rv_model.proofs.text_lemmas.Pieces.{of_either, is_line-append, Piece, ◌▸◌, number, decimal_line}
 
-hex_digit_line : (d : ℕ) → IsLine (hex_digit d ∷ [])
-hex_digit_line d = of_either (λ c. IsLine (c ∷ [])) (nat_lt d 10) _ _ (small d) (large d)
+no_newline_in_hex_digit : (d : ℕ) → IsLine (hex_digit d ∷ [])
+no_newline_in_hex_digit d = of_either (λ c. IsLine (c ∷ [])) (nat_lt d 10) _ _ (small d) (large d)
   where
     small : (d : ℕ) → IsLine ((48 + d) ∷ [])
     small d = let e : eqb (48 + d) 10 ≡ false = grind (arith, nat_tests) in both_of _ true (ap not e) refl
@@ -26,103 +35,111 @@ hex_digit_line d = of_either (λ c. IsLine (c ∷ [])) (nat_lt d 10) _ _ (small 
     large : (d : ℕ) → IsLine ((87 + d) ∷ [])
     large d = let e : eqb (87 + d) 10 ≡ false = grind (arith, nat_tests) in both_of _ true (ap not e) refl
 
-hex_digits_line : (k n : ℕ) → IsLine (hex_digits k n)
+no_newline_in_hex_digits : (k n : ℕ) → IsLine (hex_digits k n)
 unfolding hex_digits
-hex_digits_line zero n = refl
-hex_digits_line (suc k) n = is_line-append (hex_digits k (n / 16)) _ (hex_digits_line k (n / 16)) (hex_digit_line (n % 16))
+no_newline_in_hex_digits zero n = refl
+no_newline_in_hex_digits (suc k) n = is_line-append (hex_digits k (n / 16)) _ (no_newline_in_hex_digits k (n / 16)) (no_newline_in_hex_digit (n % 16))
 
-csr_line : (n : ℕ) → IsLine (csr_text n)
+-- the name of each control register
+register_name_is_line : ControlRegister → Bool
+register_name_is_line register = is_line (register_name register)
+
+no_newline_in_csr_text_of : (n : ℕ) (register : Option ControlRegister) → control_register n ≡ register → IsLine (csr_text_of n register)
+unfolding register_name_is_line
+no_newline_in_csr_text_of n None h = decimal_line n
+no_newline_in_csr_text_of n (Some register) h = found_passes (λ r. register_number r == n) register_name_is_line control_registers register refl h
+
+no_newline_in_csr_text : (n : ℕ) → IsLine (csr_text n)
 unfolding csr_text
-csr_line n =
-    of_either IsLine (n == 0x008) _ _ refl
-    (of_either IsLine (n == 0x009) _ _ refl
-    (of_either IsLine (n == 0x00a) _ _ refl
-    (of_either IsLine (n == 0x00f) _ _ refl
-    (of_either IsLine (n == 0xc20) _ _ refl
-    (of_either IsLine (n == 0xc21) _ _ refl
-    (of_either IsLine (n == 0xc22) _ _ refl (decimal_line n)))))))
+no_newline_in_csr_text n = no_newline_in_csr_text_of n (control_register n) refl
 
-vsew_line : (n : ℕ) → IsLine (vsew_text n)
-unfolding vsew_text
-vsew_line n = of_either IsLine (n == 0) _ _ refl (of_either IsLine (n == 1) _ _ refl (of_either IsLine (n == 2) _ _ refl refl))
+no_newline_in_sew_name : (sew : Sew) → IsLine (sew_name sew)
+no_newline_in_sew_name E8 = refl
+no_newline_in_sew_name E16 = refl
+no_newline_in_sew_name E32 = refl
+no_newline_in_sew_name E64 = refl
 
-vlmul_line : (n : ℕ) → IsLine (vlmul_text n)
-unfolding vlmul_text
-vlmul_line n =
-    of_either IsLine (n == 0) _ _ refl
-    (of_either IsLine (n == 1) _ _ refl
-    (of_either IsLine (n == 2) _ _ refl
-    (of_either IsLine (n == 3) _ _ refl
-    (of_either IsLine (n == 5) _ _ refl
-    (of_either IsLine (n == 6) _ _ refl refl)))))
+no_newline_in_lmul_name : (lmul : Lmul) → IsLine (lmul_name lmul)
+no_newline_in_lmul_name Mf8 = refl
+no_newline_in_lmul_name Mf4 = refl
+no_newline_in_lmul_name Mf2 = refl
+no_newline_in_lmul_name M1 = refl
+no_newline_in_lmul_name M2 = refl
+no_newline_in_lmul_name M4 = refl
+no_newline_in_lmul_name M8 = refl
 
-vta_line : (n : ℕ) → IsLine (vta_text n)
-unfolding vta_text
-vta_line n = of_either IsLine (n == 1) _ _ refl refl
+no_newline_in_tail_name : (agnostic : Bool) → IsLine (tail_name agnostic)
+no_newline_in_tail_name true = refl
+no_newline_in_tail_name false = refl
 
-vma_line : (n : ℕ) → IsLine (vma_text n)
-unfolding vma_text
-vma_line n = of_either IsLine (n == 1) _ _ refl refl
+no_newline_in_mask_name : (agnostic : Bool) → IsLine (mask_name agnostic)
+no_newline_in_mask_name true = refl
+no_newline_in_mask_name false = refl
 
-signed_line : (size count v : ℕ) → IsLine (signed_text size count v)
-signed_line size count v =
+no_newline_in_signed_text : (size count v : ℕ) → IsLine (signed_text size count v)
+no_newline_in_signed_text size count v =
     let minus : Piece = (codes "-", refl) in
     of_either IsLine (nat_lt v count) _ _ (decimal_line (size * v)) (minus ▸ number (size * (2 * count - v))).1
 
-vtype_line : (v : ℕ) → IsLine (vtype_text v)
-vtype_line v =
+no_newline_in_vtype_named : (sew : Option Sew) (lmul : Option Lmul) (v : ℕ) → IsLine (vtype_named sew lmul v)
+no_newline_in_vtype_named None lmul v = decimal_line v
+no_newline_in_vtype_named (Some sew) None v = decimal_line v
+no_newline_in_vtype_named (Some sew) (Some lmul) v =
     let comma : Piece = (codes ", ", refl) in
-    let width : Piece = (vsew_text (v / 8 % 8), vsew_line (v / 8 % 8)) in
-    let multiplier : Piece = (vlmul_text (v % 8), vlmul_line (v % 8)) in
-    let tail : Piece = (vta_text (v / 64 % 2), vta_line (v / 64 % 2)) in
-    let inactive : Piece = (vma_text (v / 128 % 2), vma_line (v / 128 % 2)) in
-    of_either IsLine (has_names v) _ _ (width ▸ comma ▸ multiplier ▸ comma ▸ tail ▸ comma ▸ inactive).1 (decimal_line v)
+    let width : Piece = (sew_name sew, no_newline_in_sew_name sew) in
+    let multiplier : Piece = (lmul_name lmul, no_newline_in_lmul_name lmul) in
+    let tail : Piece = (tail_name (v / 64 % 2 == 1), no_newline_in_tail_name (v / 64 % 2 == 1)) in
+    let inactive : Piece = (mask_name (v / 128 % 2 == 1), no_newline_in_mask_name (v / 128 % 2 == 1)) in
+    (width ▸ comma ▸ multiplier ▸ comma ▸ tail ▸ comma ▸ inactive).1
+
+no_newline_in_vtype_text : (v : ℕ) → IsLine (vtype_text v)
+no_newline_in_vtype_text v = of_either IsLine (nat_lt v 256) _ _ (no_newline_in_vtype_named (sew_with_number (v / 8 % 8)) (lmul_with_number (v % 8)) v) (decimal_line v)
 
 -- the text of each operand
-printed_line : (slot : Slot) (v : ℕ) → IsLine (printed slot v)
-printed_line Comma v = refl
-printed_line Open v = refl
-printed_line Close v = refl
-printed_line V0 v = refl
-printed_line (Scalar place) v = let letter : Piece = (codes "x", refl) in (letter ▸ number v).1
-printed_line (Vector place) v = let letter : Piece = (codes "v", refl) in (letter ▸ number v).1
-printed_line (Unsigned field) v = decimal_line v
-printed_line (Signed field) v = signed_line (step field) (half field) v
-printed_line Csr v = csr_line v
-printed_line VectorType v = vtype_line v
-printed_line ShortVectorType v = vtype_line v
-printed_line Mask v = of_either IsLine (v == 0) _ _ refl refl
-printed_line Word v = let prefix : Piece = (codes "0x", refl) in let digits : Piece = (hex_digits 8 v, hex_digits_line 8 v) in (prefix ▸ digits).1
+no_newline_in_operand : (slot : Slot) (v : ℕ) → IsLine (printed slot v)
+no_newline_in_operand Comma v = refl
+no_newline_in_operand Open v = refl
+no_newline_in_operand Close v = refl
+no_newline_in_operand V0 v = refl
+no_newline_in_operand (Scalar place) v = let letter : Piece = (codes "x", refl) in (letter ▸ number v).1
+no_newline_in_operand (Vector place) v = let letter : Piece = (codes "v", refl) in (letter ▸ number v).1
+no_newline_in_operand (Unsigned field) v = decimal_line v
+no_newline_in_operand (Signed field) v = no_newline_in_signed_text (step field) (half field) v
+no_newline_in_operand Csr v = no_newline_in_csr_text v
+no_newline_in_operand VectorType v = no_newline_in_vtype_text v
+no_newline_in_operand ShortVectorType v = no_newline_in_vtype_text v
+no_newline_in_operand Mask v = of_either IsLine (v == 0) _ _ refl refl
+no_newline_in_operand Word v = let prefix : Piece = (codes "0x", refl) in let digits : Piece = (hex_digits 8 v, no_newline_in_hex_digits 8 v) in (prefix ▸ digits).1
 
-printed_operands_line : (slots : List Slot) (word : ℕ) → IsLine (printed_operands slots word)
+no_newline_in_printed_operands : (slots : List Slot) (word : ℕ) → IsLine (printed_operands slots word)
 unfolding printed_operands
-printed_operands_line [] word = refl
-printed_operands_line (s ∷ ss) word =
-    is_line-append (printed s (value_of s word)) (printed_operands ss word) (printed_line s (value_of s word)) (printed_operands_line ss word)
+no_newline_in_printed_operands [] word = refl
+no_newline_in_printed_operands (s ∷ ss) word =
+    is_line-append (printed s (value_of s word)) (printed_operands ss word) (no_newline_in_operand s (value_of s word)) (no_newline_in_printed_operands ss word)
 
-operands_line : (slots : List Slot) (word : ℕ) → IsLine (operands_text slots word)
-operands_line [] word = refl
-operands_line (s ∷ ss) word = printed_operands_line (s ∷ ss) word
+no_newline_in_operands_text : (slots : List Slot) (word : ℕ) → IsLine (operands_text slots word)
+no_newline_in_operands_text [] word = refl
+no_newline_in_operands_text (s ∷ ss) word = no_newline_in_printed_operands (s ∷ ss) word
 
-unfoldable is_name_line : ℕ → Bool
-is_name_line row = is_line (name_at row)
+unfoldable name_is_line : ℕ → Bool
+name_is_line row = is_line (name_at row)
 
-each_name : (row : ℕ) → row < 598 → is_name_line row ≡ true
-unfolding is_name_line name_at row_at
-each_name row lt = agree_below_at is_name_line (λ _. true) 598 row refl lt
+each_name_is_line : (row : ℕ) → row < row_count → name_is_line row ≡ true
+unfolding name_is_line name_at row_at
+each_name_is_line row lt = agree_below_at name_is_line (λ _. true) row_count row refl lt
 
 -- past the table there is no name
-no_name : (row : ℕ) → 598 ≤ row → IsLine (name_at row)
+no_newline_past_table : (row : ℕ) → row_count ≤ row → IsLine (name_at row)
 unfolding name_at row_at
-no_name row le =
+no_newline_past_table row le =
     let none : Mnemonic = record { 0 = []; 1 = form.Plain; 2 = 0 } in
     ap (λ (r : Mnemonic). is_line (unpadded r.0)) (get_or-eq_default MNEMONICS none le)
 
-name_line : (row : ℕ) → IsLine (name_at row)
-unfolding is_name_line
-name_line row = elim (cases_lt row 598) [
-  | inl lt ↦ each_name row lt
-  | inr le ↦ no_name row le
+no_newline_in_name : (row : ℕ) → IsLine (name_at row)
+unfolding name_is_line
+no_newline_in_name row = elim (cases_lt row row_count) [
+  | inl lt ↦ each_name_is_line row lt
+  | inr le ↦ no_newline_past_table row le
 ]
 
 -- the canonical text of a word is in one line
@@ -130,4 +147,4 @@ pub canonical_line : (word : ℕ) → IsLine (canonical word)
 unfolding canonical text_at
 canonical_line word =
     let row = row_of_word word in
-    is_line-append (name_at row) (operands_text (slots_at row) word) (name_line row) (operands_line (slots_at row) word)
+    is_line-append (name_at row) (operands_text (slots_at row) word) (no_newline_in_name row) (no_newline_in_operands_text (slots_at row) word)

@@ -4,7 +4,11 @@ use Rattle.std.proofs.lemmas.List.{drop-take, take-take}
 use Rattle.std.proofs.Math.Nat.{mod-lt, pow-suc}
 use Rattle.std.proofs.lemmas.Nat.{pow-add}
 use lib.Lanes.{number_l}
+use Rattle.std.specs.Int.{Width}
+use mir.Val.{bits}
 use Rattle.rv_model.specs.elements.Elements.{element}
+use Rattle.rv_model.specs.vector.Configuration.{width_bytes}
+use Rattle.rv_model.proofs.element_lemmas.Widths.{whole_bytes}
 
 -- an element of the first bytes
 pub element-take : (k n i : ℕ) (xs : List ℕ) → k * i + k ≤ n → element k (take n xs) i ≡ element k xs i
@@ -23,8 +27,8 @@ positive_power : (k : ℕ) → 0 < 256 ^ k
 positive_power zero = omega arith
 positive_power (suc k) = rw pow-suc (omega (arith, positive_power k))
 
--- a number of so many bits fits in their bytes
-pub low_bits_fit : (x b k : ℕ) → b ≡ 8 * k → x % 2 ^ b % 256 ^ k ≡ x % 2 ^ b
-low_bits_fit x b k e =
-    let same : 2 ^ b ≡ 256 ^ k = ap (λ n. 2 ^ n) e ∙ bytes_power k in
-    rw same (mod-eq_of_lt (mod-lt x (positive_power k)))
+-- a number of the bits of a width fits in its bytes
+pub low_bits_fit : (x : ℕ) (w : Width) → x % 2 ^ bits w % 256 ^ width_bytes w ≡ x % 2 ^ bits w
+low_bits_fit x w =
+    let same : 2 ^ bits w ≡ 256 ^ width_bytes w = ap (λ n. 2 ^ n) (whole_bytes w) ∙ bytes_power (width_bytes w) in
+    rw same (mod-eq_of_lt (mod-lt x (positive_power (width_bytes w))))

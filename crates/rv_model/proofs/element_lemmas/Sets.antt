@@ -5,19 +5,19 @@ use Rattle.std.proofs.lemmas.Bool.Decides.{nat_tests}
 use Rattle.std.proofs.Math.Nat.{mul-le-mul_left, mul-suc}
 use Rattle.std.specs.Int.{bytes_low_first}
 use lib.Lanes.{put_chunk}
-use Rattle.rv_model.specs.elements.Elements.{in_body, is_let, is_active, is_changed, result_or_ones}
+use Rattle.rv_model.specs.elements.Elements.{Body, in_range, in_body, is_let, is_active, is_changed, result_or_ones}
 use Rattle.rv_model.specs.elements.Writes.{Writes}
 use Rattle.rv_model.proofs.element_lemmas.Writes.{begins, ends, step_written, step_kept, writes_same, writes_then}
 
--- an index of the body is between its ends
-pub from_start : (s v e : ℕ) → in_body s v e ≡ true → s ≤ e
+-- an index of a range is between its ends
+pub from_start : (s v e : ℕ) → in_range s v e ≡ true → s ≤ e
 from_start s v e h = grind (arith, nat_tests)
 
-pub to_end : (s v e : ℕ) → in_body s v e ≡ true → e < v
+pub to_end : (s v e : ℕ) → in_range s v e ≡ true → e < v
 to_end s v e h = grind (arith, nat_tests)
 
-pub inside_body : (s v e : ℕ) → s ≤ e → e < v → in_body s v e ≡ true
-inside_body s v e from to = rw (le-leb s e from, lt-ltb e v to) refl
+pub inside_range : (s v e : ℕ) → s ≤ e → e < v → in_range s v e ≡ true
+inside_range s v e from to = rw (le-leb s e from, lt-ltb e v to) refl
 
 -- Without the tail, only elements of the body change.
 changed_inside : (b l o t : Bool) → ((b && l) || ((o && b) || (false && t))) ≡ true → b ≡ true
@@ -26,67 +26,68 @@ changed_inside false l true t h = h
 changed_inside false l false t h = h
 
 -- A loop's step at the index i of the body: the mask lets the element through, or it is masked off and filled, or kept.
-module _ (k : ℕ) (unmasked : Bool) (mask : List ℕ) (masked_off : Bool) (start vl i : ℕ) (result : ℕ → ℕ) (ones : ℕ) (old mid new : List ℕ)
-    (from : start ≤ i) (to : i < vl) where
+module _ (k : ℕ) (body : Body) (fill_masked_off : Bool) (i : ℕ) (result : ℕ → ℕ) (ones : ℕ) (old mid new : List ℕ)
+    (from : body.start ≤ i) (to : i < body.end) where
   abbrev changed : ℕ → Bool
-  changed e = is_changed unmasked mask masked_off false start vl e
+  changed e = is_changed body fill_masked_off false e
 
   abbrev number : ℕ → ℕ
-  number e = result_or_ones unmasked mask start vl result ones e
+  number e = result_or_ones body result ones e
 
-  body : in_body start vl i ≡ true
-  body = inside_body start vl i from to
+  inside : in_body body i ≡ true
+  inside = inside_range body.start body.end i from to
 
   abbrev So : ℕ → List ℕ → Type 0
   So j bytes = Writes k (λ e. changed e && nat_lt e j) number old bytes
 
-  let_changes : (l : Bool) → l ≡ true → ((true && l) || ((masked_off && true) || (false && nat_le vl i))) ≡ true
+  let_changes : (l : Bool) → l ≡ true → ((true && l) || ((fill_masked_off && true) || (false && nat_le body.end i))) ≡ true
   let_changes l h = rw h refl
 
-  pub step_result : So i mid → k * i + k ≤ length old → is_let unmasked mask i ≡ true
+  pub step_result : So i mid → k * i + k ≤ length old → is_let body i ≡ true
       → new ≡ put_chunk (k * i) mid (bytes_low_first 0 k (result i)) → So (i + 1) new
   step_result was fits h e =
-      let is : number i ≡ result i = rw (body, h) refl in
-      let does : changed i ≡ true = rw body (let_changes (is_let unmasked mask i) h) in
+      let is : number i ≡ result i = rw (inside, h) refl in
+      let does : changed i ≡ true = rw inside (let_changes (is_let body i) h) in
       step_written k changed number old mid new i was does fits (rw is e)
 
-  pub step_ones : So i mid → k * i + k ≤ length old → is_let unmasked mask i ≡ false → masked_off ≡ true
+  pub step_ones : So i mid → k * i + k ≤ length old → is_let body i ≡ false → fill_masked_off ≡ true
       → new ≡ put_chunk (k * i) mid (bytes_low_first 0 k ones) → So (i + 1) new
   step_ones was fits h off e =
-      let is : number i ≡ ones = rw (body, h) refl in
-      let does : changed i ≡ true = rw (body, h, off) refl in
+      let is : number i ≡ ones = rw (inside, h) refl in
+      let does : changed i ≡ true = rw (inside, h, off) refl in
       step_written k changed number old mid new i was does fits (rw is e)
 
-  pub step_off : So i mid → is_let unmasked mask i ≡ false → masked_off ≡ false → new ≡ mid → So (i + 1) new
+  pub step_off : So i mid → is_let body i ≡ false → fill_masked_off ≡ false → new ≡ mid → So (i + 1) new
   step_off was h off e =
-      let does : changed i ≡ false = rw (body, h, off) refl in
+      let does : changed i ≡ false = rw (inside, h, off) refl in
       step_kept k changed number old mid new i was does e
 
 -- Before and after the loop.
-module _ (k : ℕ) (unmasked : Bool) (mask : List ℕ) (masked_off : Bool) (start vl : ℕ) (number : ℕ → ℕ) where
+module _ (k : ℕ) (body : Body) (fill_masked_off : Bool) (number : ℕ → ℕ) where
   abbrev changes : ℕ → Bool
-  changes e = is_changed unmasked mask masked_off false start vl e
+  changes e = is_changed body fill_masked_off false e
 
-  in_it : (e : ℕ) → changes e ≡ true → in_body start vl e ≡ true
-  in_it e h = changed_inside (in_body start vl e) (is_let unmasked mask e) masked_off (nat_le vl e) h
+  in_it : (e : ℕ) → changes e ≡ true → in_body body e ≡ true
+  in_it e h = changed_inside (in_body body e) (is_let body e) fill_masked_off (nat_le body.end e) h
 
-  pub body_begins : (xs : List ℕ) → Writes k (λ e. changes e && nat_lt e start) number xs xs
-  body_begins xs = begins k changes number xs start (λ e h. from_start start vl e (in_it e h))
+  pub body_begins : (xs : List ℕ) → Writes k (λ e. changes e && nat_lt e body.start) number xs xs
+  body_begins xs = begins k changes number xs body.start (λ e h. from_start body.start body.end e (in_it e h))
 
-  pub body_ends : (old new : List ℕ) (i : ℕ) → vl ≤ i → Writes k (λ e. changes e && nat_lt e i) number old new → Writes k changes number old new
-  body_ends old new i past was = ends k changes number old new i was (λ e h. omega (arith, to_end start vl e (in_it e h)))
+  pub body_ends : (old new : List ℕ) (i : ℕ) → body.end ≤ i → Writes k (λ e. changes e && nat_lt e i) number old new
+      → Writes k changes number old new
+  body_ends old new i past was = ends k changes number old new i was (λ e h. omega (arith, to_end body.start body.end e (in_it e h)))
 
 -- A loop that writes one number to each index of a range.
 module _ (k start end : ℕ) (number : ℕ → ℕ) where
-  pub range_begins : (xs : List ℕ) → Writes k (λ e. in_body start end e && nat_lt e start) number xs xs
-  range_begins xs = begins k (in_body start end) number xs start (λ e h. from_start start end e h)
+  pub range_begins : (xs : List ℕ) → Writes k (λ e. in_range start end e && nat_lt e start) number xs xs
+  range_begins xs = begins k (in_range start end) number xs start (λ e h. from_start start end e h)
 
-  pub range_ends : (old new : List ℕ) (i : ℕ) → end ≤ i → Writes k (λ e. in_body start end e && nat_lt e i) number old new → Writes k (in_body start end) number old new
-  range_ends old new i past was = ends k (in_body start end) number old new i was (λ e h. omega (arith, to_end start end e h))
+  pub range_ends : (old new : List ℕ) (i : ℕ) → end ≤ i → Writes k (λ e. in_range start end e && nat_lt e i) number old new → Writes k (in_range start end) number old new
+  range_ends old new i past was = ends k (in_range start end) number old new i was (λ e h. omega (arith, to_end start end e h))
 
-  pub range_step : (old mid new : List ℕ) (i : ℕ) → start ≤ i → i < end → Writes k (λ e. in_body start end e && nat_lt e i) number old mid → k * i + k ≤ length old
-      → new ≡ put_chunk (k * i) mid (bytes_low_first 0 k (number i)) → Writes k (λ e. in_body start end e && nat_lt e (i + 1)) number old new
-  range_step old mid new i from to was fits e = step_written k (in_body start end) number old mid new i was (inside_body start end i from to) fits e
+  pub range_step : (old mid new : List ℕ) (i : ℕ) → start ≤ i → i < end → Writes k (λ e. in_range start end e && nat_lt e i) number old mid → k * i + k ≤ length old
+      → new ≡ put_chunk (k * i) mid (bytes_low_first 0 k (number i)) → Writes k (λ e. in_range start end e && nat_lt e (i + 1)) number old new
+  range_step old mid new i from to was fits e = step_written k (in_range start end) number old mid new i was (inside_range start end i from to) fits e
 
 -- there is room for each element of so many
 pub room_for : (k i end long : ℕ) → i < end → k * end ≤ long → k * i + k ≤ long
@@ -95,9 +96,9 @@ room_for k i end long h room =
     omega (arith, mul-suc k i)
 
 -- Results in the body, and then ones in the tail up to the last of n elements.
-module _ (k : ℕ) (unmasked : Bool) (mask : List ℕ) (masked_off : Bool) (start vl n : ℕ) (result : ℕ → ℕ) (ones : ℕ) where
+module _ (k : ℕ) (body : Body) (fill_masked_off : Bool) (n : ℕ) (result : ℕ → ℕ) (ones : ℕ) where
   abbrev value : ℕ → ℕ
-  value e = result_or_ones unmasked mask start vl result ones e
+  value e = result_or_ones body result ones e
 
   joined : (a o t l : Bool) → l ≡ true → (a || (o || (true && t))) ≡ ((a || (o || (false && t))) || (t && l))
   joined true o t l h = refl
@@ -105,20 +106,20 @@ module _ (k : ℕ) (unmasked : Bool) (mask : List ℕ) (masked_off : Bool) (star
   joined false false true l h = sym h
   joined false false false l h = refl
 
-  past_body : (e : ℕ) → vl ≤ e → in_body start vl e ≡ false
+  past_body : (e : ℕ) → body.end ≤ e → in_body body e ≡ false
   past_body e h = grind (arith, nat_tests)
 
   pub with_tail : (old mid new : List ℕ) → 0 < k → length old ≡ k * n
-      → Writes k (λ e. is_changed unmasked mask masked_off false start vl e) value old mid
-      → Writes k (in_body vl n) (λ e. ones) mid new
-      → Writes k (λ e. is_changed unmasked mask masked_off true start vl e) value old new
+      → Writes k (is_changed body fill_masked_off false) value old mid
+      → Writes k (in_range body.end n) (λ e. ones) mid new
+      → Writes k (is_changed body fill_masked_off true) value old new
   with_tail old mid new positive long first second =
-      writes_same k (λ e. is_changed unmasked mask masked_off false start vl e || in_body vl n e)
-      (λ e. is_changed unmasked mask masked_off true start vl e) (λ e. cond (in_body vl n e) ones (value e)) value old new
-      (writes_then k (λ e. is_changed unmasked mask masked_off false start vl e) (in_body vl n) value (λ e. ones) old mid new first second)
-      (λ e h. joined (is_active unmasked mask start vl e) (masked_off && in_body start vl e) (nat_le vl e) (nat_lt e n)
+      writes_same k (λ e. is_changed body fill_masked_off false e || in_range body.end n e)
+      (is_changed body fill_masked_off true) (λ e. cond (in_range body.end n e) ones (value e)) value old new
+      (writes_then k (is_changed body fill_masked_off false) (in_range body.end n) value (λ e. ones) old mid new first second)
+      (λ e h. joined (is_active body e) (fill_masked_off && in_body body e) (nat_le body.end e) (nat_lt e n)
       (lt-ltb e n (below e (omega (arith, h, long)))))
-      (λ e h. numbers e (in_body vl n e) refl)
+      (λ e h. numbers e (in_range body.end n e) refl)
     where
       below : (e : ℕ) → k * e < k * n → e < n
       below e h = elim (cases_lt e n) [
@@ -126,21 +127,21 @@ module _ (k : ℕ) (unmasked : Bool) (mask : List ℕ) (masked_off : Bool) (star
         | inr high ↦ (let up : k * n ≤ k * e = mul-le-mul_left k high in absurd (omega arith))
       ]
 
-      numbers : (e : ℕ) (b : Bool) → in_body vl n e ≡ b → value e ≡ cond b ones (value e)
-      numbers e true h = let off : in_body start vl e ≡ false = past_body e (from_start vl n e h) in rw off refl
+      numbers : (e : ℕ) (b : Bool) → in_range body.end n e ≡ b → value e ≡ cond b ones (value e)
+      numbers e true h = let off : in_body body e ≡ false = past_body e (from_start body.end n e h) in rw off refl
       numbers e false h = refl
 
 -- The results may be told another way, where they tell the same in the body.
-pub same_results : (k : ℕ) (unmasked : Bool) (mask : List ℕ) (masked_off tail : Bool) (start vl : ℕ) (result other : ℕ → ℕ) (ones : ℕ) (old new : List ℕ)
-    → ((e : ℕ) → e < vl → result e ≡ other e)
-    → Writes k (λ e. is_changed unmasked mask masked_off tail start vl e) (result_or_ones unmasked mask start vl result ones) old new
-    → Writes k (λ e. is_changed unmasked mask masked_off tail start vl e) (result_or_ones unmasked mask start vl other ones) old new
-same_results k unmasked mask masked_off tail start vl result other ones old new same was =
-    writes_same k (λ e. is_changed unmasked mask masked_off tail start vl e) (λ e. is_changed unmasked mask masked_off tail start vl e)
-    (result_or_ones unmasked mask start vl result ones) (result_or_ones unmasked mask start vl other ones) old new was
-    (λ e l. refl) (λ e h. numbers e (in_body start vl e) (is_let unmasked mask e) (λ b. to_end start vl e b) refl)
+pub same_results : (k : ℕ) (body : Body) (fill_masked_off fill_tail : Bool) (result other : ℕ → ℕ) (ones : ℕ) (old new : List ℕ)
+    → ((e : ℕ) → e < body.end → result e ≡ other e)
+    → Writes k (is_changed body fill_masked_off fill_tail) (result_or_ones body result ones) old new
+    → Writes k (is_changed body fill_masked_off fill_tail) (result_or_ones body other ones) old new
+same_results k body fill_masked_off fill_tail result other ones old new same was =
+    writes_same k (is_changed body fill_masked_off fill_tail) (is_changed body fill_masked_off fill_tail)
+    (result_or_ones body result ones) (result_or_ones body other ones) old new was
+    (λ e l. refl) (λ e h. numbers e (in_body body e) (is_let body e) (λ b. to_end body.start body.end e b) refl)
   where
-    numbers : (e : ℕ) (b l : Bool) → (in_body start vl e ≡ true → e < vl) → in_body start vl e ≡ b
+    numbers : (e : ℕ) (b l : Bool) → (in_body body e ≡ true → e < body.end) → in_body body e ≡ b
         → cond (b && l) (other e) ones ≡ cond (b && l) (result e) ones
     numbers e true true h is = sym (same e (h is))
     numbers e true false h is = refl

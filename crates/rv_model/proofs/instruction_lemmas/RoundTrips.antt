@@ -59,7 +59,8 @@ unfolding rows
 template_joined [] r h = absurd h
 template_joined (f ∷ fs) r h = elim (split_in (rows f) (joined (map rows fs)) r h) [ inl a ↦ template_in (templates f) r a | inr b ↦ template_joined fs r b ]
 
-template_of : (r : Row) → In r table → (t : Instr) × (row_of t ≡ r)
+-- a row is that of some instruction
+pub template_of : (r : Row) → In r table → (t : Instr) × (row_of t ≡ r)
 unfolding table
 template_of r h = template_joined families r h
 

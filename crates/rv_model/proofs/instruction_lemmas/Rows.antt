@@ -37,14 +37,14 @@ use Rattle.rv_model.specs.declared.instructions.operations.LoadOp.{LoadOp}
 use Rattle.rv_model.specs.declared.instructions.operations.LoadOp.TheVariants as load
 use Rattle.rv_model.specs.declared.instructions.operations.StoreOp.{StoreOp}
 use Rattle.rv_model.specs.declared.instructions.operations.StoreOp.TheVariants as store
-use Rattle.rv_model.specs.declared.instructions.operations.OpImmOp.{OpImmOp}
-use Rattle.rv_model.specs.declared.instructions.operations.OpImmOp.TheVariants as op_imm
-use Rattle.rv_model.specs.declared.instructions.operations.ShiftImmOp.{ShiftImmOp}
-use Rattle.rv_model.specs.declared.instructions.operations.ShiftImmOp.TheVariants as shift_imm
-use Rattle.rv_model.specs.declared.instructions.operations.ShiftImmWordOp.{ShiftImmWordOp}
-use Rattle.rv_model.specs.declared.instructions.operations.ShiftImmWordOp.TheVariants as shift_imm_word
-use Rattle.rv_model.specs.declared.instructions.operations.OpOp.{OpOp}
-use Rattle.rv_model.specs.declared.instructions.operations.OpOp.TheVariants as op
+use Rattle.rv_model.specs.declared.instructions.operations.ImmediateOp.{ImmediateOp}
+use Rattle.rv_model.specs.declared.instructions.operations.ImmediateOp.TheVariants as immediate
+use Rattle.rv_model.specs.declared.instructions.operations.ShiftImmediateOp.{ShiftImmediateOp}
+use Rattle.rv_model.specs.declared.instructions.operations.ShiftImmediateOp.TheVariants as shift_immediate
+use Rattle.rv_model.specs.declared.instructions.operations.ShiftImmediateWordOp.{ShiftImmediateWordOp}
+use Rattle.rv_model.specs.declared.instructions.operations.ShiftImmediateWordOp.TheVariants as shift_immediate_word
+use Rattle.rv_model.specs.declared.instructions.operations.RegisterOp.{RegisterOp}
+use Rattle.rv_model.specs.declared.instructions.operations.RegisterOp.TheVariants as register
 use Rattle.rv_model.specs.declared.instructions.operations.SystemOp.{SystemOp}
 use Rattle.rv_model.specs.declared.instructions.operations.SystemOp.TheVariants as system
 use Rattle.rv_model.specs.declared.instructions.operations.CsrOp.{CsrOp}
@@ -70,10 +70,10 @@ use Rattle.rv_model.specs.declared.instructions.operations.Order.TheVariants as 
 use Rattle.rv_model.specs.declared.instructions.operations.RegisterCount.{RegisterCount}
 use Rattle.rv_model.specs.declared.instructions.operations.RegisterCount.TheVariants as count
 use Rattle.rv_model.specs.declared.instructions.instruction.Instr.{Instr}
-use Rattle.rv_model.specs.declared.instructions.instruction.Instr.TheVariants.{Upper, Jump, JumpRegister, Branch, Load, Store, OpImm, ShiftImm, ShiftImmWord, Op, Fence, System, Csr, CsrImmediate, SetVli, SetIvli, SetVl, VectorArith, VectorCarry, VectorMove, WholeMove, MaskLogic, Compress, MaskToScalar, VectorExtend, MaskUnary, ElementIndex, MoveToScalar, MoveToVector, VectorUnit, VectorStrided, VectorIndexed, WholeLoad, WholeStore, MaskMemory}
+use Rattle.rv_model.specs.declared.instructions.instruction.Instr.TheVariants.{Upper, Jump, JumpRegister, Branch, Load, Store, RegisterImmediate, ShiftImmediate, ShiftImmediateWord, RegisterRegister, Fence, System, Csr, CsrImmediate, SetVli, SetIvli, SetVl, VectorArith, VectorCarry, VectorMove, WholeMove, MaskLogic, Compress, MaskToScalar, VectorExtend, MaskUnary, ElementIndex, MoveToScalar, MoveToVector, VectorUnit, VectorStrided, VectorIndexed, WholeLoad, WholeStore, MaskMemory}
 use Rattle.rv_model.specs.instructions.BitFields.{fixed}
 use Rattle.rv_model.specs.instructions.Sources.{form_of}
-use Rattle.rv_model.specs.instructions.FixedBits.{upper_bits, branch_bits, load_bits, store_bits, op_imm_bits, shift_imm_bits, shift_imm_word_bits, op_bits, system_bits, csr_bits, csr_immediate_bits, whole_move_bits, mask_logic_bits, mask_to_scalar_bits, extend_bits, mask_unary_bits, mask_memory_bits, upper_ops, branch_ops, load_ops, store_ops, op_imm_ops, shift_imm_ops, shift_imm_word_ops, op_ops, system_ops, csr_ops, csr_immediate_ops, mask_logic_ops, mask_to_scalar_ops, extend_ops, mask_unary_ops, directions, counts}
+use Rattle.rv_model.specs.instructions.FixedBits.{upper_bits, branch_bits, load_bits, store_bits, immediate_op_bits, shift_immediate_bits, shift_immediate_word_bits, register_op_bits, system_bits, csr_bits, csr_immediate_bits, whole_move_bits, mask_logic_bits, mask_to_scalar_bits, extend_bits, mask_unary_bits, mask_memory_bits, upper_ops, branch_ops, load_ops, store_ops, immediate_ops, shift_immediate_ops, shift_immediate_word_ops, register_ops, system_ops, csr_ops, csr_immediate_ops, mask_logic_ops, mask_to_scalar_ops, extend_ops, mask_unary_ops, directions, counts}
 use Rattle.rv_model.specs.instructions.Operations.{has_form, line, carry_line, line_bits, those, vector_ops, carry_ops, binary_line, compare_line, fixed_point_line, narrow_line, widen_line, multiply_add_line, reduce_line, permute_line}
 use Rattle.rv_model.specs.instructions.Layout.{parts, bits, Allowed, unit_access_bits, strided_access_bits, indexed_access_bits, whole_load_bits, whole_store_bits}
 use Rattle.rv_model.specs.instructions.Table.{Row, row_of, families, rows, joined, table, In, find, unit_accesses, strided_accesses, indexed_accesses, whole_loads, Ariths}
@@ -125,26 +125,26 @@ unfolding find
 known_store store.Sb = refl
 known_store _ = refl
 
-known_op_imm : (op : OpImmOp) → find op_imm_bits op_imm_ops (op_imm_bits op) ≡ Some op
+known_immediate_op : (op : ImmediateOp) → find immediate_op_bits immediate_ops (immediate_op_bits op) ≡ Some op
 unfolding find
-known_op_imm op_imm.Addi = refl
-known_op_imm _ = refl
+known_immediate_op immediate.Addi = refl
+known_immediate_op _ = refl
 
-known_shift_imm : (op : ShiftImmOp) → find shift_imm_bits shift_imm_ops (shift_imm_bits op) ≡ Some op
+known_shift_immediate : (op : ShiftImmediateOp) → find shift_immediate_bits shift_immediate_ops (shift_immediate_bits op) ≡ Some op
 unfolding find
-known_shift_imm shift_imm.Slli = refl
-known_shift_imm _ = refl
+known_shift_immediate shift_immediate.Slli = refl
+known_shift_immediate _ = refl
 
-known_shift_imm_word : (op : ShiftImmWordOp)
-    → find shift_imm_word_bits shift_imm_word_ops (shift_imm_word_bits op) ≡ Some op
+known_shift_immediate_word : (op : ShiftImmediateWordOp)
+    → find shift_immediate_word_bits shift_immediate_word_ops (shift_immediate_word_bits op) ≡ Some op
 unfolding find
-known_shift_imm_word shift_imm_word.Slliw = refl
-known_shift_imm_word _ = refl
+known_shift_immediate_word shift_immediate_word.Slliw = refl
+known_shift_immediate_word _ = refl
 
-known_op : (op : OpOp) → find op_bits op_ops (op_bits op) ≡ Some op
+known_register_op : (op : RegisterOp) → find register_op_bits register_ops (register_op_bits op) ≡ Some op
 unfolding find
-known_op op.Add = refl
-known_op _ = refl
+known_register_op register.Add = refl
+known_register_op _ = refl
 
 known_system : (op : SystemOp) → find system_bits system_ops (system_bits op) ≡ Some op
 unfolding find
@@ -378,13 +378,15 @@ listed_at : {A : Type 0} (k : ℕ) (code : A → ℕ) (t : A → Instr) (ops : L
 listed_at k code t ops op known same =
     in_table k (row_of (t op)) (subst (In (row_of (t op))) (sym same) (in_rows code t ops op (code op) known))
 
+-- no operation of the second half of the opcode map has an immediate
 arith_in : (m : Major) (f : Form) (r : Row) → In r (rows (Ariths m f)) → In r table
+unfolding rows
 arith_in Opi form.V r h = in_table 17 r h
 arith_in Opi form.X r h = in_table 18 r h
 arith_in Opi form.I r h = in_table 19 r h
 arith_in Opm form.V r h = in_table 20 r h
 arith_in Opm form.X r h = in_table 21 r h
-arith_in Opm form.I r h = in_table 22 r h
+arith_in Opm form.I r h = absurd h
 
 listed_arith : (op : VectorOp) (s : Source) (vd vs2 : ℕ) (vm : Bool) → has_form (line op).forms (form_of s) ≡ true
     → In (row_of (VectorArith (op, s) vd vs2 vm)) table
@@ -408,38 +410,38 @@ unfolding rows
 listed_carry op (source.V n) vd vs2 h =
     let ops : List CarryOp = those carry_line Opi form.V carry_ops in
     let is : find (λ o. line_bits (carry_line o) form.V) ops (line_bits (carry_line op) form.V) ≡ Some op = cond-same (has_form (carry_line op).forms form.V) (find (λ o. line_bits (carry_line o) form.V) ops (line_bits (carry_line op) form.V)) (Some op) None (known_carry op form.V) h in
-    in_table 23 (row_of (VectorCarry (op, source.V 0) 0 0)) (in_rows (λ o. line_bits (carry_line o) form.V) (λ o. VectorCarry (o, source.V 0) 0 0) ops op (line_bits (carry_line op) form.V) is)
+    in_table 22 (row_of (VectorCarry (op, source.V 0) 0 0)) (in_rows (λ o. line_bits (carry_line o) form.V) (λ o. VectorCarry (o, source.V 0) 0 0) ops op (line_bits (carry_line op) form.V) is)
 listed_carry op (source.X n) vd vs2 h =
     let ops : List CarryOp = those carry_line Opi form.X carry_ops in
     let is : find (λ o. line_bits (carry_line o) form.X) ops (line_bits (carry_line op) form.X) ≡ Some op = cond-same (has_form (carry_line op).forms form.X) (find (λ o. line_bits (carry_line o) form.X) ops (line_bits (carry_line op) form.X)) (Some op) None (known_carry op form.X) h in
-    in_table 24 (row_of (VectorCarry (op, source.X 0) 0 0)) (in_rows (λ o. line_bits (carry_line o) form.X) (λ o. VectorCarry (o, source.X 0) 0 0) ops op (line_bits (carry_line op) form.X) is)
+    in_table 23 (row_of (VectorCarry (op, source.X 0) 0 0)) (in_rows (λ o. line_bits (carry_line o) form.X) (λ o. VectorCarry (o, source.X 0) 0 0) ops op (line_bits (carry_line op) form.X) is)
 listed_carry op (source.I n) vd vs2 h =
     let ops : List CarryOp = those carry_line Opi form.I carry_ops in
     let is : find (λ o. line_bits (carry_line o) form.I) ops (line_bits (carry_line op) form.I) ≡ Some op = cond-same (has_form (carry_line op).forms form.I) (find (λ o. line_bits (carry_line o) form.I) ops (line_bits (carry_line op) form.I)) (Some op) None (known_carry op form.I) h in
-    in_table 25 (row_of (VectorCarry (op, source.I 0) 0 0)) (in_rows (λ o. line_bits (carry_line o) form.I) (λ o. VectorCarry (o, source.I 0) 0 0) ops op (line_bits (carry_line op) form.I) is)
+    in_table 24 (row_of (VectorCarry (op, source.I 0) 0 0)) (in_rows (λ o. line_bits (carry_line o) form.I) (λ o. VectorCarry (o, source.I 0) 0 0) ops op (line_bits (carry_line op) form.I) is)
 
 listed_move : (s : Source) (vd : ℕ) → In (row_of (VectorMove s vd)) table
 unfolding rows
-listed_move (source.V n) vd = in_table 26 (row_of (VectorMove (source.V 0) 0)) (inl refl)
-listed_move (source.X n) vd = in_table 27 (row_of (VectorMove (source.X 0) 0)) (inl refl)
-listed_move (source.I n) vd = in_table 28 (row_of (VectorMove (source.I 0) 0)) (inl refl)
+listed_move (source.V n) vd = in_table 25 (row_of (VectorMove (source.V 0) 0)) (inl refl)
+listed_move (source.X n) vd = in_table 26 (row_of (VectorMove (source.X 0) 0)) (inl refl)
+listed_move (source.I n) vd = in_table 27 (row_of (VectorMove (source.I 0) 0)) (inl refl)
 
 -- an instruction's row is in the table
 pub listed : (i : Instr) → Allowed i → In (row_of i) table
 unfolding rows
 listed (Upper op rd imm) h = listed_at 0 upper_bits (λ op. Upper op 0 0) upper_ops op (known_upper op) refl
-listed (Jump rd offset) h = in_table 1 (row_of (Jump 0 0)) (inl refl)
+listed (Jump rd imm) h = in_table 1 (row_of (Jump 0 0)) (inl refl)
 listed (JumpRegister rd rs1 imm) h = in_table 2 (row_of (JumpRegister 0 0 0)) (inl refl)
-listed (Branch op rs1 rs2 offset) h =
+listed (Branch op rs1 rs2 imm) h =
     listed_at 3 branch_bits (λ op. Branch op 0 0 0) branch_ops op (known_branch op) refl
 listed (Load op rd rs1 imm) h = listed_at 4 load_bits (λ op. Load op 0 0 0) load_ops op (known_load op) refl
 listed (Store op rs1 rs2 imm) h = listed_at 5 store_bits (λ op. Store op 0 0 0) store_ops op (known_store op) refl
-listed (OpImm op rd rs1 imm) h = listed_at 6 op_imm_bits (λ op. OpImm op 0 0 0) op_imm_ops op (known_op_imm op) refl
-listed (ShiftImm op rd rs1 amount) h =
-    listed_at 7 shift_imm_bits (λ op. ShiftImm op 0 0 0) shift_imm_ops op (known_shift_imm op) refl
-listed (ShiftImmWord op rd rs1 amount) h =
-    listed_at 8 shift_imm_word_bits (λ op. ShiftImmWord op 0 0 0) shift_imm_word_ops op (known_shift_imm_word op) refl
-listed (Op op rd rs1 rs2) h = listed_at 9 op_bits (λ op. Op op 0 0 0) op_ops op (known_op op) refl
+listed (RegisterImmediate op rd rs1 imm) h = listed_at 6 immediate_op_bits (λ op. RegisterImmediate op 0 0 0) immediate_ops op (known_immediate_op op) refl
+listed (ShiftImmediate op rd rs1 shamt) h =
+    listed_at 7 shift_immediate_bits (λ op. ShiftImmediate op 0 0 0) shift_immediate_ops op (known_shift_immediate op) refl
+listed (ShiftImmediateWord op rd rs1 shamt) h =
+    listed_at 8 shift_immediate_word_bits (λ op. ShiftImmediateWord op 0 0 0) shift_immediate_word_ops op (known_shift_immediate_word op) refl
+listed (RegisterRegister op rd rs1 rs2) h = listed_at 9 register_op_bits (λ op. RegisterRegister op 0 0 0) register_ops op (known_register_op op) refl
 listed (Fence rd rs1 ordering) h = in_table 10 (row_of (Fence 0 0 0)) (inl refl)
 listed (System op) h = listed_at 11 system_bits (λ op. System op) system_ops op (known_system op) refl
 listed (Csr op rd rs1 csr) h = listed_at 12 csr_bits (λ op. Csr op 0 0 0) csr_ops op (known_csr op) refl
@@ -452,31 +454,31 @@ listed (VectorArith arith vd vs2 vm) h = listed_arith arith.0 arith.1 vd vs2 vm 
 listed (VectorCarry carry vd vs2) h = listed_carry carry.0 carry.1 vd vs2 h
 listed (VectorMove source vd) h = listed_move source vd
 listed (WholeMove count vd vs2) h =
-    listed_at 29 whole_move_bits (λ op. WholeMove op 0 0) counts count (known_whole_move count) refl
+    listed_at 28 whole_move_bits (λ op. WholeMove op 0 0) counts count (known_whole_move count) refl
 listed (MaskLogic op vd vs1 vs2) h =
-    listed_at 30 mask_logic_bits (λ op. MaskLogic op 0 0 0) mask_logic_ops op (known_mask_logic op) refl
-listed (Compress vd vs1 vs2) h = in_table 31 (row_of (Compress 0 0 0)) (inl refl)
+    listed_at 29 mask_logic_bits (λ op. MaskLogic op 0 0 0) mask_logic_ops op (known_mask_logic op) refl
+listed (Compress vd vs1 vs2) h = in_table 30 (row_of (Compress 0 0 0)) (inl refl)
 listed (MaskToScalar op rd vs2 vm) h =
-    listed_at 32 mask_to_scalar_bits (λ op. MaskToScalar op 0 0 true) mask_to_scalar_ops op (known_mask_to_scalar op) refl
+    listed_at 31 mask_to_scalar_bits (λ op. MaskToScalar op 0 0 true) mask_to_scalar_ops op (known_mask_to_scalar op) refl
 listed (VectorExtend op vd vs2 vm) h =
-    listed_at 33 extend_bits (λ op. VectorExtend op 0 0 true) extend_ops op (known_extend op) refl
+    listed_at 32 extend_bits (λ op. VectorExtend op 0 0 true) extend_ops op (known_extend op) refl
 listed (MaskUnary op vd vs2 vm) h =
-    listed_at 34 mask_unary_bits (λ op. MaskUnary op 0 0 true) mask_unary_ops op (known_mask_unary op) refl
-listed (ElementIndex vd vm) h = in_table 35 (row_of (ElementIndex 0 true)) (inl refl)
-listed (MoveToScalar rd vs2) h = in_table 36 (row_of (MoveToScalar 0 0)) (inl refl)
-listed (MoveToVector vd rs1) h = in_table 37 (row_of (MoveToVector 0 0)) (inl refl)
+    listed_at 33 mask_unary_bits (λ op. MaskUnary op 0 0 true) mask_unary_ops op (known_mask_unary op) refl
+listed (ElementIndex vd vm) h = in_table 34 (row_of (ElementIndex 0 true)) (inl refl)
+listed (MoveToScalar rd vs2) h = in_table 35 (row_of (MoveToScalar 0 0)) (inl refl)
+listed (MoveToVector vd rs1) h = in_table 36 (row_of (MoveToVector 0 0)) (inl refl)
 listed (VectorUnit op width nf vd rs1 vm) h =
-    listed_at 38 unit_access_bits (λ op. VectorUnit op.0 op.1 0 0 0 true) unit_accesses (op, width) (known_unit op width) refl
+    listed_at 37 unit_access_bits (λ op. VectorUnit op.0 op.1 0 0 0 true) unit_accesses (op, width) (known_unit op width) refl
 listed (VectorStrided direction width nf vd rs1 rs2 vm) h =
-    listed_at 39 strided_access_bits (λ op. VectorStrided op.0 op.1 0 0 0 0 true) strided_accesses (direction, width) (known_strided direction width) refl
+    listed_at 38 strided_access_bits (λ op. VectorStrided op.0 op.1 0 0 0 0 true) strided_accesses (direction, width) (known_strided direction width) refl
 listed (VectorIndexed direction order width nf vd rs1 vs2 vm) h =
-    listed_at 40 indexed_access_bits (λ op. VectorIndexed op.0.0 op.0.1 op.1 0 0 0 0 true) indexed_accesses ((direction, order), width) (known_indexed direction order width) refl
+    listed_at 39 indexed_access_bits (λ op. VectorIndexed op.0.0 op.0.1 op.1 0 0 0 0 true) indexed_accesses ((direction, order), width) (known_indexed direction order width) refl
 listed (WholeLoad count width vd rs1) h =
-    listed_at 41 whole_load_bits (λ op. WholeLoad op.0 op.1 0 0) whole_loads (count, width) (known_whole_load count width) refl
+    listed_at 40 whole_load_bits (λ op. WholeLoad op.0 op.1 0 0) whole_loads (count, width) (known_whole_load count width) refl
 listed (WholeStore count vd rs1) h =
-    listed_at 42 whole_store_bits (λ op. WholeStore op 0 0) counts count (known_whole_store count) refl
+    listed_at 41 whole_store_bits (λ op. WholeStore op 0 0) counts count (known_whole_store count) refl
 listed (MaskMemory direction vd rs1) h =
-    listed_at 43 mask_memory_bits (λ op. MaskMemory op 0 0) directions direction (known_mask_memory direction) refl
+    listed_at 42 mask_memory_bits (λ op. MaskMemory op 0 0) directions direction (known_mask_memory direction) refl
 
 pub inside : (i : Instr) → Allowed i → bit_and (bits i) (fixed (parts i)) ≡ bits i
 inside i ok =

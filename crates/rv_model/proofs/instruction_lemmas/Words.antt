@@ -6,7 +6,7 @@ use Rattle.rv_model.specs.declared.instructions.source.Source.TheVariants as sou
 use Rattle.rv_model.specs.declared.instructions.operations.Form.{Form}
 use Rattle.rv_model.specs.declared.instructions.operations.Form.TheVariants as form
 use Rattle.rv_model.specs.declared.instructions.instruction.Instr.{Instr}
-use Rattle.rv_model.specs.declared.instructions.instruction.Instr.TheVariants.{Upper, Jump, JumpRegister, Branch, Load, Store, OpImm, ShiftImm, ShiftImmWord, Op, Fence, System, Csr, CsrImmediate, SetVli, SetIvli, SetVl, VectorArith, VectorCarry, VectorMove, WholeMove, MaskLogic, Compress, MaskToScalar, VectorExtend, MaskUnary, ElementIndex, MoveToScalar, MoveToVector, VectorUnit, VectorStrided, VectorIndexed, WholeLoad, WholeStore, MaskMemory}
+use Rattle.rv_model.specs.declared.instructions.instruction.Instr.TheVariants.{Upper, Jump, JumpRegister, Branch, Load, Store, RegisterImmediate, ShiftImmediate, ShiftImmediateWord, RegisterRegister, Fence, System, Csr, CsrImmediate, SetVli, SetIvli, SetVl, VectorArith, VectorCarry, VectorMove, WholeMove, MaskLogic, Compress, MaskToScalar, VectorExtend, MaskUnary, ElementIndex, MoveToScalar, MoveToVector, VectorUnit, VectorStrided, VectorIndexed, WholeLoad, WholeStore, MaskMemory}
 use Rattle.rv_model.specs.instructions.BitFields.{field, flag, flag_bit, Part, mask_of, fixed}
 use Rattle.rv_model.specs.instructions.Immediates.{store_immediate}
 use Rattle.rv_model.specs.instructions.Sources.{form_of, number, source_of}
@@ -97,17 +97,17 @@ jump-join n = omega arith
 -- what the word's parts are
 pub filled_parts : (t : Instr) (w : ℕ) → parts (filled t w) ≡ of_word w (parts t)
 filled_parts (Upper op rd imm) w = refl
-filled_parts (Jump rd offset) w =
+filled_parts (Jump rd imm) w =
     let j : JumpPieces (field 21 10 w) (field 20 1 w) (field 12 8 w) (field 31 1 w) = jump_of w in rw (j.bit20, j.bits10_1, j.bit11, j.bits19_12) refl
 filled_parts (JumpRegister rd rs1 imm) w = refl
-filled_parts (Branch op rs1 rs2 offset) w =
+filled_parts (Branch op rs1 rs2 imm) w =
     let b : BranchPieces (field 8 4 w) (field 25 6 w) (field 7 1 w) (field 31 1 w) = branch_of w in rw (b.bit12, b.bits10_5, b.bits4_1, b.bit11) refl
 filled_parts (Load op rd rs1 imm) w = refl
 filled_parts (Store op rs1 rs2 imm) w = rw (store-high w, store-low w) refl
-filled_parts (OpImm op rd rs1 imm) w = refl
-filled_parts (ShiftImm op rd rs1 amount) w = refl
-filled_parts (ShiftImmWord op rd rs1 amount) w = refl
-filled_parts (Op op rd rs1 rs2) w = refl
+filled_parts (RegisterImmediate op rd rs1 imm) w = refl
+filled_parts (ShiftImmediate op rd rs1 shamt) w = refl
+filled_parts (ShiftImmediateWord op rd rs1 shamt) w = refl
+filled_parts (RegisterRegister op rd rs1 rs2) w = refl
 filled_parts (Fence rd rs1 ordering) w = refl
 filled_parts (System op) w = refl
 filled_parts (Csr op rd rs1 csr) w = refl
@@ -138,15 +138,15 @@ filled_parts (MaskMemory direction vd rs1) w = refl
 -- and its other bits
 pub filled_bits : (t : Instr) (w : ℕ) → bits (filled t w) ≡ bits t
 filled_bits (Upper op rd imm) w = refl
-filled_bits (Jump rd offset) w = refl
+filled_bits (Jump rd imm) w = refl
 filled_bits (JumpRegister rd rs1 imm) w = refl
-filled_bits (Branch op rs1 rs2 offset) w = refl
+filled_bits (Branch op rs1 rs2 imm) w = refl
 filled_bits (Load op rd rs1 imm) w = refl
 filled_bits (Store op rs1 rs2 imm) w = refl
-filled_bits (OpImm op rd rs1 imm) w = refl
-filled_bits (ShiftImm op rd rs1 amount) w = refl
-filled_bits (ShiftImmWord op rd rs1 amount) w = refl
-filled_bits (Op op rd rs1 rs2) w = refl
+filled_bits (RegisterImmediate op rd rs1 imm) w = refl
+filled_bits (ShiftImmediate op rd rs1 shamt) w = refl
+filled_bits (ShiftImmediateWord op rd rs1 shamt) w = refl
+filled_bits (RegisterRegister op rd rs1 rs2) w = refl
 filled_bits (Fence rd rs1 ordering) w = refl
 filled_bits (System op) w = refl
 filled_bits (Csr op rd rs1 csr) w = refl
@@ -176,16 +176,16 @@ filled_bits (MaskMemory direction vd rs1) w = refl
 -- an instruction is what a word with its parts gives
 pub refilled : (i : Instr) (w : ℕ) → Reads w (parts i) → filled i w ≡ i
 refilled (Upper op rd imm) w r = rw (r.0, r.1.0) refl
-refilled (Jump rd offset) w r = rw (r.0, r.1.0, r.1.1.0, r.1.1.1.0, r.1.1.1.1.0, jump-join offset) refl
+refilled (Jump rd imm) w r = rw (r.0, r.1.0, r.1.1.0, r.1.1.1.0, r.1.1.1.1.0, jump-join imm) refl
 refilled (JumpRegister rd rs1 imm) w r = rw (r.0, r.1.0, r.1.1.0) refl
-refilled (Branch op rs1 rs2 offset) w r =
-    rw (r.0, r.1.0, r.1.1.0, r.1.1.1.0, r.1.1.1.1.0, r.1.1.1.1.1.0, branch-join offset) refl
+refilled (Branch op rs1 rs2 imm) w r =
+    rw (r.0, r.1.0, r.1.1.0, r.1.1.1.0, r.1.1.1.1.0, r.1.1.1.1.1.0, branch-join imm) refl
 refilled (Load op rd rs1 imm) w r = rw (r.0, r.1.0, r.1.1.0) refl
 refilled (Store op rs1 rs2 imm) w r = rw (r.0, r.1.0, r.1.1.0, r.1.1.1.0, store-join imm) refl
-refilled (OpImm op rd rs1 imm) w r = rw (r.0, r.1.0, r.1.1.0) refl
-refilled (ShiftImm op rd rs1 amount) w r = rw (r.0, r.1.0, r.1.1.0) refl
-refilled (ShiftImmWord op rd rs1 amount) w r = rw (r.0, r.1.0, r.1.1.0) refl
-refilled (Op op rd rs1 rs2) w r = rw (r.0, r.1.0, r.1.1.0) refl
+refilled (RegisterImmediate op rd rs1 imm) w r = rw (r.0, r.1.0, r.1.1.0) refl
+refilled (ShiftImmediate op rd rs1 shamt) w r = rw (r.0, r.1.0, r.1.1.0) refl
+refilled (ShiftImmediateWord op rd rs1 shamt) w r = rw (r.0, r.1.0, r.1.1.0) refl
+refilled (RegisterRegister op rd rs1 rs2) w r = rw (r.0, r.1.0, r.1.1.0) refl
 refilled (Fence rd rs1 ordering) w r = rw (r.0, r.1.0, r.1.1.0) refl
 refilled (System op) w r = refl
 refilled (Csr op rd rs1 csr) w r = rw (r.0, r.1.0, r.1.1.0) refl
@@ -224,15 +224,15 @@ pub record Laid (ps : List Part) : Type 0 where
 -- each instruction does
 pub laid : (i : Instr) → Laid (parts i)
 laid (Upper op rd imm) = record { apart = refl; clear = refl; whole = refl }
-laid (Jump rd offset) = record { apart = refl; clear = refl; whole = refl }
+laid (Jump rd imm) = record { apart = refl; clear = refl; whole = refl }
 laid (JumpRegister rd rs1 imm) = record { apart = refl; clear = refl; whole = refl }
-laid (Branch op rs1 rs2 offset) = record { apart = refl; clear = refl; whole = refl }
+laid (Branch op rs1 rs2 imm) = record { apart = refl; clear = refl; whole = refl }
 laid (Load op rd rs1 imm) = record { apart = refl; clear = refl; whole = refl }
 laid (Store op rs1 rs2 imm) = record { apart = refl; clear = refl; whole = refl }
-laid (OpImm op rd rs1 imm) = record { apart = refl; clear = refl; whole = refl }
-laid (ShiftImm op rd rs1 amount) = record { apart = refl; clear = refl; whole = refl }
-laid (ShiftImmWord op rd rs1 amount) = record { apart = refl; clear = refl; whole = refl }
-laid (Op op rd rs1 rs2) = record { apart = refl; clear = refl; whole = refl }
+laid (RegisterImmediate op rd rs1 imm) = record { apart = refl; clear = refl; whole = refl }
+laid (ShiftImmediate op rd rs1 shamt) = record { apart = refl; clear = refl; whole = refl }
+laid (ShiftImmediateWord op rd rs1 shamt) = record { apart = refl; clear = refl; whole = refl }
+laid (RegisterRegister op rd rs1 rs2) = record { apart = refl; clear = refl; whole = refl }
 laid (Fence rd rs1 ordering) = record { apart = refl; clear = refl; whole = refl }
 laid (System op) = record { apart = refl; clear = refl; whole = refl }
 laid (Csr op rd rs1 csr) = record { apart = refl; clear = refl; whole = refl }

@@ -1,4 +1,5 @@
 -- What legality tells of the registers of an instruction: its groups end inside the file, and have room for each element.
+use Rattle.std.specs.Prelude.{Some}
 use Rattle.std.proofs.Common.{◌≡◌, ℕ, ◌+◌, ◌*◌, ◌/◌, ◌≤◌, Bool, true, arith, lit≤, lit<}
 use Rattle.std.proofs.Math.Nat.{mul-le-mul_left}
 use Rattle.rv_model.specs.declared.instructions.instruction.Instr.TheVariants.{VectorArith}
@@ -13,14 +14,14 @@ use Rattle.rv_model.specs.declared.vector.types.Lmul.TheVariants.{Mf8, Mf4, Mf2,
 use Rattle.rv_model.specs.declared.vector.types.Sew.{Sew}
 use Rattle.rv_model.specs.declared.vector.types.Sew.TheVariants.{E8, E16, E32, E64}
 use Rattle.rv_model.specs.declared.vector.types.VType.{VType}
-use Rattle.rv_model.specs.legality.Legality.{operands, is_legal_at}
+use Rattle.rv_model.specs.declared.vector.sizes.TheConstants.{GROUP_BYTES, VECTOR_REGISTERS, VLENB}
+use Rattle.rv_model.specs.legality.Legality.{operands, is_legal}
 use Rattle.rv_model.specs.legality.OperandShapes.{emul, mask, second_source, shape_operands}
-use Rattle.rv_model.specs.vector.Groups.{registers}
+use Rattle.rv_model.specs.vector.Registers.{registers}
 use Rattle.rv_model.specs.legality.RegisterOperands.{IsGroup}
 use Rattle.rv_model.specs.legality.GroupBounds.{IsInside, SourceIsInside}
-use Rattle.rv_model.specs.elements.Arithmetic.{sew_bytes}
-use Rattle.rv_model.specs.vector.Configuration.{sew_bits, lmul_eighths, vlmax}
-use Rattle.rv_model.proofs.legality_lemmas.Meaning.{is_legal_at_means}
+use Rattle.rv_model.specs.vector.Configuration.{sew_bits, sew_width, width_bytes, lmul_eighths, vlmax}
+use Rattle.rv_model.proofs.legality_lemmas.Meaning.{is_legal_means}
 
 -- elements of SEW have the vector type's multiplier
 emul-sew : (s : Sew) (e : ℕ) → sew_bits s * e / sew_bits s ≡ e
@@ -29,7 +30,7 @@ emul-sew E16 e = omega arith
 emul-sew E32 e = omega arith
 emul-sew E64 e = omega arith
 
-inside : (r e f : ℕ) → e ≡ f → r + 1 * registers e ≤ 32 → IsInside r f
+inside : (r e f : ℕ) → e ≡ f → r + 1 * registers e ≤ VECTOR_REGISTERS → IsInside r f
 inside r e f same h = let one : 1 * registers e ≡ registers e = omega arith in rw (← same, ← one) h
 
 pub record SingleInside (vd vs2 : ℕ) (from : Source) (t : VType) : Type 0 where
@@ -39,10 +40,10 @@ pub record SingleInside (vd vs2 : ℕ) (from : Source) (t : VType) : Type 0 wher
 
 -- the groups of an operation of one width
 pub binary_inside : (op : BinaryOp) (from : Source) (vd vs2 : ℕ) (vm : Bool) (t : VType) (vstart : ℕ)
-    → is_legal_at (VectorArith (Binary op, from) vd vs2 vm) t vstart ≡ true → SingleInside vd vs2 from t
+    → is_legal (VectorArith (Binary op, from) vd vs2 vm) (Some t) vstart ≡ true → SingleInside vd vs2 from t
 unfolding operands shape_operands
 binary_inside op from vd vs2 vm t vstart h =
-    let groups = ((is_legal_at_means (VectorArith (Binary op, from) vd vs2 vm) t vstart).0 h).operands.groups in
+    let groups = ((is_legal_means (VectorArith (Binary op, from) vd vs2 vm) (Some t) vstart).0 h).operands.groups in
     record {
       destination = inside vd (emul (sew_bits t.sew) t) (lmul_eighths t.lmul) (emul-sew t.sew (lmul_eighths t.lmul)) (groups 0 (mask Unused 0) (lit< tt)).inside;
       first = inside vs2 (emul (sew_bits t.sew) t) (lmul_eighths t.lmul) (emul-sew t.sew (lmul_eighths t.lmul)) (groups 1 (mask Unused 0) (lit< tt)).inside;
@@ -55,7 +56,7 @@ binary_inside op from vd vs2 vm t vstart h =
     second (source.I imm) g = tt
 
 -- the elements of a group of any type have room in its registers
-most_fit : (s : Sew) (l : Lmul) → sew_bytes s * (lmul_eighths l * 32 / sew_bits s) ≤ 32 * registers (lmul_eighths l)
+most_fit : (s : Sew) (l : Lmul) → width_bytes (sew_width s) * (lmul_eighths l * VLENB / sew_bits s) ≤ VLENB * registers (lmul_eighths l)
 most_fit E8 Mf8 = lit≤ tt
 most_fit E8 Mf4 = lit≤ tt
 most_fit E8 Mf2 = lit≤ tt
@@ -85,9 +86,9 @@ most_fit E64 M2 = lit≤ tt
 most_fit E64 M4 = lit≤ tt
 most_fit E64 M8 = lit≤ tt
 
-pub length_fits : (t : VType) (vl : ℕ) → vl ≤ vlmax t → sew_bytes t.sew * vl ≤ 32 * registers (lmul_eighths t.lmul)
+pub length_fits : (t : VType) (vl : ℕ) → vl ≤ vlmax t → width_bytes (sew_width t.sew) * vl ≤ VLENB * registers (lmul_eighths t.lmul)
 length_fits t vl h =
-    let up : sew_bytes t.sew * vl ≤ sew_bytes t.sew * vlmax t = mul-le-mul_left (sew_bytes t.sew) h in
+    let up : width_bytes (sew_width t.sew) * vl ≤ width_bytes (sew_width t.sew) * vlmax t = mul-le-mul_left (width_bytes (sew_width t.sew)) h in
     omega (arith, most_fit t.sew t.lmul)
 
 -- no multiplier is above 8
@@ -100,17 +101,17 @@ multiplier_fits M2 = lit≤ tt
 multiplier_fits M4 = lit≤ tt
 multiplier_fits M8 = lit≤ tt
 
--- no vector has more than 256 elements
-pub length_below : (t : VType) (vl : ℕ) → vl ≤ vlmax t → vl ≤ 256
+-- no vector has more elements than the largest group has bytes
+pub length_below : (t : VType) (vl : ℕ) → vl ≤ vlmax t → vl ≤ GROUP_BYTES
 length_below t vl h = omega (arith, bytes_positive t.sew, length_in_bytes t.sew vl (length_fits t vl h), multiplier_fits t.lmul)
   where
-    bytes_positive : (s : Sew) → 1 ≤ sew_bytes s
+    bytes_positive : (s : Sew) → 1 ≤ width_bytes (sew_width s)
     bytes_positive E8 = lit≤ tt
     bytes_positive E16 = lit≤ tt
     bytes_positive E32 = lit≤ tt
     bytes_positive E64 = lit≤ tt
 
-    length_in_bytes : (s : Sew) (n : ℕ) {m : ℕ} → sew_bytes s * n ≤ m → n ≤ m
+    length_in_bytes : (s : Sew) (n : ℕ) {m : ℕ} → width_bytes (sew_width s) * n ≤ m → n ≤ m
     length_in_bytes E8 n h = omega (arith, h)
     length_in_bytes E16 n h = omega (arith, h)
     length_in_bytes E32 n h = omega (arith, h)

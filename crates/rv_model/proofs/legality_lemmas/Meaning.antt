@@ -14,7 +14,7 @@ use Rattle.rv_model.specs.declared.legality.Role.TheVariants.{Read, Control, Wri
 use Rattle.rv_model.specs.declared.instructions.instruction.Instr.{Instr}
 use Rattle.rv_model.specs.declared.vector.types.VType.{VType}
 use Rattle.rv_model.specs.legality.RegisterOperands.{eew, end, Overlap, IsWidth, IsGroup, MayOverlap, IsMask, AllowsAs, Allows, AreLegal, is_width, is_group, overlaps, may_overlap, is_mask, allows_as, allows, are_legal}
-use Rattle.rv_model.specs.legality.Legality.{operands, untyped_operands, needs_type, starts_at_zero, is_below_64, IsLegalAt, IsLegalUntyped, IsLegal, is_legal_at, is_legal_untyped, is_legal}
+use Rattle.rv_model.specs.legality.Legality.{operands, starts_at_zero, is_below_64, HasLegal, IsNarrow, IsLegal, has_legal, is_narrow, is_legal}
 use Rattle.rv_model.specs.vector.Configuration.{sew_bits}
 
 decides_le : (a b : ℕ) → Decides (nat_le a b) (a ≤ b)
@@ -22,6 +22,9 @@ decides_le a b = grind (arith, nat_tests)
 
 always : Decides true ⊤
 always = (λ _. tt, λ _. refl)
+
+never : Decides false ⊥
+never = (λ h. absurd (cc), λ h. absurd h)
 
 -- under a premise
 decides_when : {P Q : Type 0} (p q : Bool) → Decides p P → Decides q Q → Decides (not p || q) (P → Q)
@@ -89,26 +92,20 @@ are_legal_means xs = are_legal_decides xs
 itself : (b : Bool) → Decides b (b ≡ true)
 itself b = (λ h. h, λ h. h)
 
-pub is_legal_at_means : (i : Instr) (t : VType) (vstart : ℕ) → (is_legal_at i t vstart ≡ true) ↔ IsLegalAt i t vstart
-unfolding is_legal_at
-is_legal_at_means i t vstart =
-    Decides-like _ (λ p. record { operands = p.0; start = p.1.0; width = p.1.1 }) (λ l. (l.operands, (l.start, l.width)))
-    (Decides-and _ _ (are_legal_decides (operands i t))
-    (Decides-and _ _
-    (decides_when (starts_at_zero i) (vstart == 0) (itself (starts_at_zero i)) (Decides-eqb vstart 0))
-    (decides_when (is_below_64 i) (not (sew_bits t.sew == 64)) (itself (is_below_64 i)) (Decides-not (sew_bits t.sew == 64) (Decides-eqb (sew_bits t.sew) 64)))))
+has_legal_decides : (xs : Option (List Operand)) → Decides (has_legal xs) (HasLegal xs)
+has_legal_decides None = never
+has_legal_decides (Some xs) = are_legal_decides xs
 
-false_decides : (b : Bool) → Decides (not b) (b ≡ false)
-false_decides true = (λ h. absurd (cc), λ h. absurd (cc))
-false_decides false = (λ _. refl, λ _. refl)
-
-pub is_legal_untyped_means : (i : Instr) → (is_legal_untyped i ≡ true) ↔ IsLegalUntyped i
-unfolding is_legal_untyped
-is_legal_untyped_means i =
-    Decides-like _ (λ p. record { typeless = p.0; operands = p.1 }) (λ l. (l.typeless, l.operands))
-    (Decides-and _ _ (false_decides (needs_type i)) (are_legal_decides (untyped_operands i)))
+narrow_decides : (t : Option VType) → Decides (is_narrow t) (IsNarrow t)
+narrow_decides None = never
+narrow_decides (Some t) = Decides-not (sew_bits t.sew == 64) (Decides-eqb (sew_bits t.sew) 64)
 
 -- the test is true exactly of the legal instructions
 pub is_legal_means : (i : Instr) (t : Option VType) (vstart : ℕ) → (is_legal i t vstart ≡ true) ↔ IsLegal i t vstart
-is_legal_means i (Some t) vstart = is_legal_at_means i t vstart
-is_legal_means i None vstart = is_legal_untyped_means i
+unfolding is_legal
+is_legal_means i t vstart =
+    Decides-like _ (λ p. record { operands = p.0; start = p.1.0; width = p.1.1 }) (λ l. (l.operands, (l.start, l.width)))
+    (Decides-and _ _ (has_legal_decides (operands i t))
+    (Decides-and _ _
+    (decides_when (starts_at_zero i) (vstart == 0) (itself (starts_at_zero i)) (Decides-eqb vstart 0))
+    (decides_when (is_below_64 i) (is_narrow t) (itself (is_below_64 i)) (narrow_decides t))))

@@ -14,6 +14,7 @@ use Rattle.rv_model.specs.declared.memory.Access.TheVariants.{Monitor}
 use Rattle.rv_model.specs.declared.memory.Permissions.{Permissions}
 use Rattle.rv_model.specs.memory.Memory.{Cell, Memory, permits, byte_at, is_allowed, can_access, bytes_at, put_byte, put_bytes, add_cells, with_pages, page_count, any_page_mapped, map_refusal, is_within, WritesBytes, MapsZeros, MapsPermissions, ReadsBytes, AllowsEachByte}
 use Rattle.rv_model.specs.declared.memory.MapRefusal.TheVariants.{Quota, AlreadyMapped}
+use Rattle.rv_model.specs.memory.Sizes.{page_size, page_quota}
 
 -- two memories that answer alike are equal
 pub same_memory : (m n : Memory) → ((x : ℕ) → get m x ≡ get n x) → m ≡ n
@@ -221,7 +222,7 @@ add_cells_more m a n (suc k) (suc t) b c e q =
 
 pub with_pages_more : (m : Memory) (page i : ℕ) (permissions : Permissions) → with_pages (with_pages m page i permissions) (page + i) 1 permissions ≡ with_pages m page (i + 1) permissions
 unfolding with_pages
-with_pages_more m page i permissions = add_cells_more m (4096 * page) (4096 * i) (4096 * 1) (4096 * (i + 1)) (4096 * (page + i)) (record { byte = 0; permissions = permissions }) (omega arith) (omega arith)
+with_pages_more m page i permissions = add_cells_more m (page_size * page) (page_size * i) (page_size * 1) (page_size * (i + 1)) (page_size * (page + i)) (record { byte = 0; permissions = permissions }) (omega arith) (omega arith)
 
 pub with_pages_none : (m : Memory) (page : ℕ) (permissions : Permissions) → m ≡ with_pages m page 0 permissions
 unfolding with_pages add_cells
@@ -229,63 +230,63 @@ with_pages_none m page permissions = refl
 
 -- ---- which pages are mapped, and why pages can't be
 
-pub any_page_mapped_at : (m : Memory) (page count k : ℕ) → k < count → contains_key m (4096 * (page + k)) ≡ true → any_page_mapped m page count ≡ true
+pub any_page_mapped_at : (m : Memory) (page count k : ℕ) → k < count → contains_key m (page_size * (page + k)) ≡ true → any_page_mapped m page count ≡ true
 unfolding any_page_mapped
 any_page_mapped_at m page zero k l h = absurd (omega arith)
 any_page_mapped_at m page (suc count) zero l h =
-    let here : contains_key m (4096 * page) ≡ true = ap (λ (p : ℕ). contains_key m (4096 * p)) (sym (add-zero page)) ∙ h in
+    let here : contains_key m (page_size * page) ≡ true = ap (λ (p : ℕ). contains_key m (page_size * p)) (sym (add-zero page)) ∙ h in
     ap (λ (b : Bool). b || any_page_mapped m (page + 1) count) here
 any_page_mapped_at m page (suc count) (suc k) l h =
     let place : (page + 1) + k ≡ page + suc k = omega arith in
-    let rest = any_page_mapped_at m (page + 1) count k (omega arith) (ap (λ (p : ℕ). contains_key m (4096 * p)) place ∙ h) in
-    or_from_right (contains_key m (4096 * page)) (any_page_mapped m (page + 1) count) rest
+    let rest = any_page_mapped_at m (page + 1) count k (omega arith) (ap (λ (p : ℕ). contains_key m (page_size * p)) place ∙ h) in
+    or_from_right (contains_key m (page_size * page)) (any_page_mapped m (page + 1) count) rest
   where
     or_from_right : (a b : Bool) → b ≡ true → (a || b) ≡ true
     or_from_right true b h = refl
     or_from_right false b h = h
 
-pub any_page_mapped_none : (m : Memory) (page count : ℕ) → ((k : ℕ) → k < count → contains_key m (4096 * (page + k)) ≡ false) → any_page_mapped m page count ≡ false
+pub any_page_mapped_none : (m : Memory) (page count : ℕ) → ((k : ℕ) → k < count → contains_key m (page_size * (page + k)) ≡ false) → any_page_mapped m page count ≡ false
 unfolding any_page_mapped
 any_page_mapped_none m page zero h = refl
 any_page_mapped_none m page (suc count) h =
-    let here : contains_key m (4096 * page) ≡ false = ap (λ (p : ℕ). contains_key m (4096 * p)) (sym (add-zero page)) ∙ h 0 (omega arith) in
+    let here : contains_key m (page_size * page) ≡ false = ap (λ (p : ℕ). contains_key m (page_size * p)) (sym (add-zero page)) ∙ h 0 (omega arith) in
     ap (λ (b : Bool). b || any_page_mapped m (page + 1) count) here
     ∙ any_page_mapped_none m (page + 1) count (λ k l.
     let place : (page + 1) + k ≡ page + suc k = omega arith in
-    ap (λ (p : ℕ). contains_key m (4096 * p)) place ∙ h (suc k) (omega arith))
+    ap (λ (p : ℕ). contains_key m (page_size * p)) place ∙ h (suc k) (omega arith))
 
-pub map_refusal_quota : (m : Memory) (page count : ℕ) → 256 < page_count m + count → map_refusal m page count ≡ Some Quota
+pub map_refusal_quota : (m : Memory) (page count : ℕ) → page_quota < page_count m + count → map_refusal m page count ≡ Some Quota
 unfolding map_refusal
-map_refusal_quota m page count h = cond-true (nat_lt 256 (page_count m + count)) _ _ (search rules)
+map_refusal_quota m page count h = cond-true (nat_lt page_quota (page_count m + count)) _ _ (search rules)
 
-pub map_refusal_mapped : (m : Memory) (page count : ℕ) → page_count m + count ≤ 256 → any_page_mapped m page count ≡ true → map_refusal m page count ≡ Some AlreadyMapped
+pub map_refusal_mapped : (m : Memory) (page count : ℕ) → page_count m + count ≤ page_quota → any_page_mapped m page count ≡ true → map_refusal m page count ≡ Some AlreadyMapped
 unfolding map_refusal
-map_refusal_mapped m page count room h = cond-false (nat_lt 256 (page_count m + count)) _ _ (search rules) ∙ cond-true (any_page_mapped m page count) _ _ h
+map_refusal_mapped m page count room h = cond-false (nat_lt page_quota (page_count m + count)) _ _ (search rules) ∙ cond-true (any_page_mapped m page count) _ _ h
 
-pub map_refusal_none : (m : Memory) (page count : ℕ) → page_count m + count ≤ 256 → any_page_mapped m page count ≡ false → map_refusal m page count ≡ None
+pub map_refusal_none : (m : Memory) (page count : ℕ) → page_count m + count ≤ page_quota → any_page_mapped m page count ≡ false → map_refusal m page count ≡ None
 unfolding map_refusal
-map_refusal_none m page count room h = cond-false (nat_lt 256 (page_count m + count)) _ _ (search rules) ∙ cond-false (any_page_mapped m page count) _ _ h
+map_refusal_none m page count room h = cond-false (nat_lt page_quota (page_count m + count)) _ _ (search rules) ∙ cond-false (any_page_mapped m page count) _ _ h
 
 -- when each refusal comes
-pub map_refusal-Quota : (m : Memory) (page count : ℕ) → (map_refusal m page count ≡ Some Quota) ↔ (256 < page_count m + count)
-map_refusal-Quota m page count = (λ h. over h (cases_lt 256 (page_count m + count)), map_refusal_quota m page count)
+pub map_refusal-Quota : (m : Memory) (page count : ℕ) → (map_refusal m page count ≡ Some Quota) ↔ (page_quota < page_count m + count)
+map_refusal-Quota m page count = (λ h. over h (cases_lt page_quota (page_count m + count)), map_refusal_quota m page count)
   where
-    over : map_refusal m page count ≡ Some Quota → ((256 < page_count m + count) ⊎ (page_count m + count ≤ 256)) → 256 < page_count m + count
+    over : map_refusal m page count ≡ Some Quota → ((page_quota < page_count m + count) ⊎ (page_count m + count ≤ page_quota)) → page_quota < page_count m + count
     over h (inl l) = l
     over h (inr room) = split (any_page_mapped m page count) refl
       where
-        split : (b : Bool) → any_page_mapped m page count ≡ b → 256 < page_count m + count
+        split : (b : Bool) → any_page_mapped m page count ≡ b → page_quota < page_count m + count
         split true e = let other = map_refusal_mapped m page count room e in absurd (cc)
         split false e = let other = map_refusal_none m page count room e in absurd (cc)
 
-pub map_refusal-AlreadyMapped : (m : Memory) (page count : ℕ) → (map_refusal m page count ≡ Some AlreadyMapped) ↔ ((page_count m + count ≤ 256) × (any_page_mapped m page count ≡ true))
-map_refusal-AlreadyMapped m page count = (λ h. within h (cases_lt 256 (page_count m + count)), λ h. map_refusal_mapped m page count h.0 h.1)
+pub map_refusal-AlreadyMapped : (m : Memory) (page count : ℕ) → (map_refusal m page count ≡ Some AlreadyMapped) ↔ ((page_count m + count ≤ page_quota) × (any_page_mapped m page count ≡ true))
+map_refusal-AlreadyMapped m page count = (λ h. within h (cases_lt page_quota (page_count m + count)), λ h. map_refusal_mapped m page count h.0 h.1)
   where
-    within : map_refusal m page count ≡ Some AlreadyMapped → ((256 < page_count m + count) ⊎ (page_count m + count ≤ 256)) → (page_count m + count ≤ 256) × (any_page_mapped m page count ≡ true)
+    within : map_refusal m page count ≡ Some AlreadyMapped → ((page_quota < page_count m + count) ⊎ (page_count m + count ≤ page_quota)) → (page_count m + count ≤ page_quota) × (any_page_mapped m page count ≡ true)
     within h (inl l) = let other = map_refusal_quota m page count l in absurd (cc)
     within h (inr room) = split (any_page_mapped m page count) refl
       where
-        split : (b : Bool) → any_page_mapped m page count ≡ b → (page_count m + count ≤ 256) × (any_page_mapped m page count ≡ true)
+        split : (b : Bool) → any_page_mapped m page count ≡ b → (page_count m + count ≤ page_quota) × (any_page_mapped m page count ≡ true)
         split true e = (room, e)
         split false e = let other = map_refusal_none m page count room e in absurd (cc)
 
@@ -328,28 +329,28 @@ writes_bytes m a bs x = elim (places a (length bs) x) [
 
 pub maps_zeros : MapsZeros
 unfolding byte_at byte_by with_pages
-maps_zeros m page count permissions x = elim (places (4096 * page) (4096 * count) x) [
+maps_zeros m page count permissions x = elim (places (page_size * page) (page_size * count) x) [
   | inl within ↦
-      let k : x - 4096 * page < 4096 * count = omega (arith, within.0, within.1) in
-      let place : x ≡ 4096 * page + (x - 4096 * page) = omega (arith, within.0) in
-      ap byte_by (get-add_cells_within m (4096 * page) (4096 * count) (λ _. record { byte = 0; permissions = permissions }) (x - 4096 * page) x k place)
-      ∙ ap (λ (b : Bool). cond b 0 (byte_at m x)) (sym (is_within_true (4096 * page) (4096 * count) x within.0 within.1))
+      let k : x - page_size * page < page_size * count = omega (arith, within.0, within.1) in
+      let place : x ≡ page_size * page + (x - page_size * page) = omega (arith, within.0) in
+      ap byte_by (get-add_cells_within m (page_size * page) (page_size * count) (λ _. record { byte = 0; permissions = permissions }) (x - page_size * page) x k place)
+      ∙ ap (λ (b : Bool). cond b 0 (byte_at m x)) (sym (is_within_true (page_size * page) (page_size * count) x within.0 within.1))
   | inr far ↦
-      ap byte_by (get-add_cells_outside m (4096 * page) (4096 * count) (λ _. record { byte = 0; permissions = permissions }) x far)
-      ∙ ap (λ (b : Bool). cond b 0 (byte_at m x)) (sym (is_within_false (4096 * page) (4096 * count) x far))
+      ap byte_by (get-add_cells_outside m (page_size * page) (page_size * count) (λ _. record { byte = 0; permissions = permissions }) x far)
+      ∙ ap (λ (b : Bool). cond b 0 (byte_at m x)) (sym (is_within_false (page_size * page) (page_size * count) x far))
 ]
 
 pub maps_permissions : MapsPermissions
 unfolding is_allowed allowed_by with_pages
-maps_permissions access m page count permissions x = elim (places (4096 * page) (4096 * count) x) [
+maps_permissions access m page count permissions x = elim (places (page_size * page) (page_size * count) x) [
   | inl within ↦
-      let k : x - 4096 * page < 4096 * count = omega (arith, within.0, within.1) in
-      let place : x ≡ 4096 * page + (x - 4096 * page) = omega (arith, within.0) in
-      ap (allowed_by access) (get-add_cells_within m (4096 * page) (4096 * count) (λ _. record { byte = 0; permissions = permissions }) (x - 4096 * page) x k place)
-      ∙ ap (λ (b : Bool). cond b (permits access permissions) (is_allowed access m x)) (sym (is_within_true (4096 * page) (4096 * count) x within.0 within.1))
+      let k : x - page_size * page < page_size * count = omega (arith, within.0, within.1) in
+      let place : x ≡ page_size * page + (x - page_size * page) = omega (arith, within.0) in
+      ap (allowed_by access) (get-add_cells_within m (page_size * page) (page_size * count) (λ _. record { byte = 0; permissions = permissions }) (x - page_size * page) x k place)
+      ∙ ap (λ (b : Bool). cond b (permits access permissions) (is_allowed access m x)) (sym (is_within_true (page_size * page) (page_size * count) x within.0 within.1))
   | inr far ↦
-      ap (allowed_by access) (get-add_cells_outside m (4096 * page) (4096 * count) (λ _. record { byte = 0; permissions = permissions }) x far)
-      ∙ ap (λ (b : Bool). cond b (permits access permissions) (is_allowed access m x)) (sym (is_within_false (4096 * page) (4096 * count) x far))
+      ap (allowed_by access) (get-add_cells_outside m (page_size * page) (page_size * count) (λ _. record { byte = 0; permissions = permissions }) x far)
+      ∙ ap (λ (b : Bool). cond b (permits access permissions) (is_allowed access m x)) (sym (is_within_false (page_size * page) (page_size * count) x far))
 ]
 
 pub reads_bytes : ReadsBytes

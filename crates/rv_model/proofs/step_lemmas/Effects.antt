@@ -5,7 +5,7 @@ use Rattle.std.specs.Int.{byte_len}
 use Rattle.std.proofs.lemmas.Bool.Decides.{nat_tests}
 use Rattle.rv_model.specs.declared.vector.control_register.ControlRegister.{ControlRegister}
 use Rattle.rv_model.specs.declared.instructions.instruction.Instr.{Instr}
-use Rattle.rv_model.specs.declared.instructions.instruction.Instr.TheVariants.{Upper, Jump, JumpRegister, Branch, Load, Store, OpImm, ShiftImm, ShiftImmWord, Op, Fence, System, Csr, CsrImmediate, SetVli, SetIvli, SetVl, VectorArith}
+use Rattle.rv_model.specs.declared.instructions.instruction.Instr.TheVariants.{Upper, Jump, JumpRegister, Branch, Load, Store, RegisterImmediate, ShiftImmediate, ShiftImmediateWord, RegisterRegister, Fence, System, Csr, CsrImmediate, SetVli, SetIvli, SetVl, VectorArith}
 use Rattle.rv_model.specs.declared.memory.Access.TheVariants as access
 use Rattle.rv_model.specs.declared.instructions.operations.CsrOp.{CsrOp}
 use Rattle.rv_model.specs.declared.instructions.operations.LoadOp.{LoadOp}
@@ -26,8 +26,9 @@ use Rattle.rv_model.specs.vector.ControlRegisters.{control_register, is_read_onl
 use Rattle.rv_model.specs.scalar.ControlTransfer.{is_aligned, is_taken, jump_target, register_target, branch_target}
 use Rattle.rv_model.specs.step.Hart.{HartState, Stepped, faults, runs_on, gives}
 use Rattle.rv_model.specs.step.Effects.{OnFault, FaultsWriteNoRegister, FirstRegisterStays}
+use Rattle.rv_model.specs.instructions.Immediates.{i_immediate, s_immediate}
 use Rattle.rv_model.specs.instructions.Table.{scan, table}
-use Rattle.rv_model.specs.legality.Legality.{is_legal_at}
+use Rattle.rv_model.specs.legality.Legality.{is_legal}
 use Rattle.rv_model.specs.scalar.LoadsAndStores.{access_address, load_width, store_width}
 use Rattle.rv_model.specs.memory.Memory.{can_access}
 use Rattle.rv_model.specs.scalar.Registers.{read_register, with_register}
@@ -35,7 +36,7 @@ use Rattle.rv_model.specs.step.ScalarStep.{jumps, jump_step, branch_step, load_s
 use Rattle.rv_model.specs.step.Step.{step, executed, word_at}
 use Rattle.rv_model.specs.vector.Control.{is_write, csr_form, control_value}
 use Rattle.rv_model.specs.elements.Formulas.{is_carried_out}
-use Rattle.rv_model.specs.step.VectorStep.{VectorStepped, arith_step, requested_length, vset_step, after_vector, vector_executed, vector_step}
+use Rattle.rv_model.specs.step.VectorStep.{VectorStepped, arith_step, performed, requested_length, vset_step, vector_ticks, after_vector, vector_executed, vector_step}
 use Rattle.rv_model.specs.declared.memory.Access.TheVariants.{Fetch}
 use Rattle.rv_model.proofs.text_lemmas.Pieces.{of_either}
 
@@ -121,44 +122,49 @@ either_keeps s b x y h k = of_either (λ r. VectorKeeps s r) b x y h k
 arith_keeps : (t : Option VType) (op : VectorOp) (source : Source) (vd vs2 : ℕ) (vm : Bool) (s : HartState) → VectorKeeps s (arith_step t op source vd vs2 vm s)
 arith_keeps None op source vd vs2 vm s = record { refused = refl; first = refl }
 arith_keeps (Some t) (Binary op) source vd vs2 vm s =
-    either_keeps s (is_carried_out op && is_legal_at (VectorArith (Binary op, source) vd vs2 vm) t s.vector.vstart) _ _
+    either_keeps s (is_carried_out op) _ _
     (record { refused = tt; first = refl }) (record { refused = refl; first = refl })
 arith_keeps (Some t) _ source vd vs2 vm s = record { refused = refl; first = refl }
 
+performed_keeps : (limit : ℕ) (i : Instr) (s : HartState) → VectorKeeps s (performed limit i s)
+unfolding performed
+performed_keeps limit (SetVli rd rs1 vtype) s = vset_keeps rd vtype (requested_length rd rs1 s.scalar) s
+performed_keeps limit (SetIvli rd avl vtype) s = vset_keeps rd vtype (Elements avl) s
+performed_keeps limit (SetVl rd rs1 rs2) s = vset_keeps rd (read_register s.scalar rs2) (requested_length rd rs1 s.scalar) s
+performed_keeps limit (VectorArith arith vd vs2 vm) s = arith_keeps s.vector.conf.vtype arith.0 arith.1 vd vs2 vm s
+performed_keeps limit _ s = record { refused = refl; first = refl }
+
 vector_keeps : (limit : ℕ) (i : Instr) (s : HartState) → VectorKeeps s (vector_executed limit i s)
 unfolding vector_executed
-vector_keeps limit (SetVli rd rs1 vtype) s = vset_keeps rd vtype (requested_length rd rs1 s.scalar) s
-vector_keeps limit (SetIvli rd avl vtype) s = vset_keeps rd vtype (Elements avl) s
-vector_keeps limit (SetVl rd rs1 rs2) s = vset_keeps rd (read_register s.scalar rs2) (requested_length rd rs1 s.scalar) s
-vector_keeps limit (VectorArith arith vd vs2 vm) s = arith_keeps s.vector.conf.vtype arith.0 arith.1 vd vs2 vm s
-vector_keeps limit _ s = record { refused = refl; first = refl }
+vector_keeps limit i s =
+    either_keeps s (is_legal i s.vector.conf.vtype s.vector.vstart) _ _ (performed_keeps limit i s) (record { refused = refl; first = refl })
 
-after_vector_keeps : (end : VEnd) (word : ℕ) (s s' : HartState) → UnlessDone end (s'.scalar ≡ s.scalar) → SameFirst s.scalar s'.scalar → Keeps s (after_vector end word s')
-after_vector_keeps vector_end.Done word s s' h k = record { fault = tt; first = k }
-after_vector_keeps vector_end.Illegal word s s' h k = record { fault = h; first = k }
-after_vector_keeps (vector_end.Fault store addr) word s s' h k = record { fault = h; first = k }
+after_vector_keeps : (ticks : ℕ) (end : VEnd) (word : ℕ) (s s' : HartState) → UnlessDone end (s'.scalar ≡ s.scalar) → SameFirst s.scalar s'.scalar → Keeps s (after_vector ticks end word s')
+after_vector_keeps ticks vector_end.Done word s s' h k = record { fault = tt; first = k }
+after_vector_keeps ticks vector_end.Illegal word s s' h k = record { fault = h; first = k }
+after_vector_keeps ticks (vector_end.Fault store addr) word s s' h k = record { fault = h; first = k }
 
 vector_step_keeps : (limit : ℕ) (i : Instr) (word : ℕ) (s : HartState) → Keeps s (vector_step limit i word s)
 vector_step_keeps limit i word s =
     let done : VectorStepped = vector_executed limit i s in
     let kept : VectorKeeps s done = vector_keeps limit i s in
-    after_vector_keeps done.end word s done.state kept.refused kept.first
+    after_vector_keeps (vector_ticks i s done) done.end word s done.state kept.refused kept.first
 
 executed_keeps : (limit : ℕ) (i : Option Instr) (word : ℕ) (s : HartState) → Keeps s (executed limit i word s)
 unfolding executed
 executed_keeps limit None word s = record { fault = refl; first = refl }
 executed_keeps limit (Some (Upper op rd imm)) word s = gives_keep rd _ s s refl
-executed_keeps limit (Some (Jump rd offset)) word s = jump_keeps rd (jump_target s.scalar.pc offset) s
+executed_keeps limit (Some (Jump rd imm)) word s = jump_keeps rd (jump_target s.scalar.pc imm) s
 executed_keeps limit (Some (JumpRegister rd rs1 imm)) word s = jump_keeps rd (register_target (read_register s.scalar rs1) imm) s
-executed_keeps limit (Some (Branch op rs1 rs2 offset)) word s =
-    branch_keeps (is_taken op (read_register s.scalar rs1) (read_register s.scalar rs2)) (branch_target s.scalar.pc offset) s
-executed_keeps limit (Some (Load op rd rs1 imm)) word s = load_keeps op rd (access_address (read_register s.scalar rs1) imm) s
+executed_keeps limit (Some (Branch op rs1 rs2 imm)) word s =
+    branch_keeps (is_taken op (read_register s.scalar rs1) (read_register s.scalar rs2)) (branch_target s.scalar.pc imm) s
+executed_keeps limit (Some (Load op rd rs1 imm)) word s = load_keeps op rd (access_address (read_register s.scalar rs1) (i_immediate imm)) s
 executed_keeps limit (Some (Store op rs1 rs2 imm)) word s =
-    store_keeps op (access_address (read_register s.scalar rs1) imm) (read_register s.scalar rs2) s
-executed_keeps limit (Some (OpImm op rd rs1 imm)) word s = gives_keep rd _ s s refl
-executed_keeps limit (Some (ShiftImm op rd rs1 amount)) word s = gives_keep rd _ s s refl
-executed_keeps limit (Some (ShiftImmWord op rd rs1 amount)) word s = gives_keep rd _ s s refl
-executed_keeps limit (Some (Op op rd rs1 rs2)) word s = gives_keep rd _ s s refl
+    store_keeps op (access_address (read_register s.scalar rs1) (s_immediate imm)) (read_register s.scalar rs2) s
+executed_keeps limit (Some (RegisterImmediate op rd rs1 imm)) word s = gives_keep rd _ s s refl
+executed_keeps limit (Some (ShiftImmediate op rd rs1 shamt)) word s = gives_keep rd _ s s refl
+executed_keeps limit (Some (ShiftImmediateWord op rd rs1 shamt)) word s = gives_keep rd _ s s refl
+executed_keeps limit (Some (RegisterRegister op rd rs1 rs2)) word s = gives_keep rd _ s s refl
 executed_keeps limit (Some (Fence rd rs1 ordering)) word s = runs_keep s.scalar s s refl
 executed_keeps limit (Some (System op)) word s = system_keeps op s
 executed_keeps limit (Some (Csr op rd rs1 csr)) word s = csr_keeps (control_register csr) op rd rs1 (read_register s.scalar rs1) word s

@@ -1,7 +1,12 @@
 -- What one token of assembler text means: a number; a register (Unprivileged ISA, "RISC-V Assembly Programmer's Handbook"); a name of a control register or of a part of vtype (V extension, "Vector Extension Programmer's Model")
-use Rattle.std.specs.Prelude.{ℕ, zero, suc, ◌+◌, ◌-◌, ◌*◌, ◌/◌, ◌%◌, ◌&&◌, List, [], ◌∷◌, ◌++◌, Option, Some, None, nat_le, nat_lt, ◌==◌, if◌then◌else◌, codes, decimal}
+use Rattle.std.specs.Prelude.{ℕ, zero, suc, ◌+◌, ◌-◌, ◌*◌, ◌/◌, ◌%◌, ◌&&◌, List, [], ◌∷◌, ◌++◌, Option, Some, None, nat_le, nat_lt, option_map, ◌==◌, if◌then◌else◌, decimal}
 use Rattle.std.specs.Str.{bytes_eq}
+use Rattle.rv_model.specs.declared.vector.control_register.ControlRegister.{ControlRegister}
+use Rattle.rv_model.specs.instructions.BitFields.{flag_bit}
 use Rattle.rv_model.specs.text.Digits.{digits_after}
+use Rattle.rv_model.specs.vector.ControlRegisters.{control_register, register_name, register_named, register_number}
+use Rattle.rv_model.specs.vector.TypeNames.{lmul_named, mask_named, sew_named, tail_named}
+use Rattle.rv_model.specs.vector.TypeRules.{lmul_number, sew_number}
 
 -- 0, if the token is this word
 abbrev pub literal : List ℕ → List ℕ → Option ℕ
@@ -52,42 +57,36 @@ hex_digits (suc k) n = hex_digits k (n / 16) ++ hex_digit (n % 16) ∷ []
 
 -- ---- names of control registers and of the parts of vtype (V extension, "Vector Extension Programmer's Model", "vsetvli/vsetivli/vsetvl")
 
+-- the number of the register that a text names, or its digits
+abbrev pub csr_from : List ℕ → Option ControlRegister → Option ℕ
+csr_from text None = at_most 4095 (number text)
+csr_from text (Some register) = Some (register_number register)
+
 -- a control register's number, by its name or in digits
 unfoldable pub csr : List ℕ → Option ℕ
-csr text = if bytes_eq text (codes "vstart") then Some 0x008 else (if bytes_eq text (codes "vxsat") then Some 0x009 else (if bytes_eq text (codes "vxrm") then Some 0x00a else (if bytes_eq text (codes "vcsr") then Some 0x00f else (if bytes_eq text (codes "vl") then Some 0xc20 else (if bytes_eq text (codes "vtype") then Some 0xc21 else (if bytes_eq text (codes "vlenb") then Some 0xc22 else at_most 4095 (number text)))))))
+csr text = csr_from text (register_named text)
 
 -- the element width, as vsew
 unfoldable pub vsew : List ℕ → Option ℕ
-vsew text = if bytes_eq text (codes "e8") then Some 0 else (if bytes_eq text (codes "e16") then Some 1 else (if bytes_eq text (codes "e32") then Some 2 else (if bytes_eq text (codes "e64") then Some 3 else None)))
+vsew text = option_map sew_number (sew_named text)
 
 -- the group multiplier, as vlmul
 unfoldable pub vlmul : List ℕ → Option ℕ
-vlmul text = if bytes_eq text (codes "m1") then Some 0 else (if bytes_eq text (codes "m2") then Some 1 else (if bytes_eq text (codes "m4") then Some 2 else (if bytes_eq text (codes "m8") then Some 3 else (if bytes_eq text (codes "mf8") then Some 5 else (if bytes_eq text (codes "mf4") then Some 6 else (if bytes_eq text (codes "mf2") then Some 7 else None))))))
+vlmul text = option_map lmul_number (lmul_named text)
 
 -- tail agnostic or undisturbed, as vta
 unfoldable pub vta : List ℕ → Option ℕ
-vta text = if bytes_eq text (codes "ta") then Some 1 else (if bytes_eq text (codes "tu") then Some 0 else None)
+vta text = option_map flag_bit (tail_named text)
 
 -- mask agnostic or undisturbed, as vma
 unfoldable pub vma : List ℕ → Option ℕ
-vma text = if bytes_eq text (codes "ma") then Some 1 else (if bytes_eq text (codes "mu") then Some 0 else None)
+vma text = option_map flag_bit (mask_named text)
+
+-- the name of a register, or its number in digits
+abbrev pub csr_text_of : ℕ → Option ControlRegister → List ℕ
+csr_text_of n None = decimal n
+csr_text_of n (Some register) = register_name register
 
 -- the one text of a control register
 unfoldable pub csr_text : ℕ → List ℕ
-csr_text n = if n == 0x008 then codes "vstart" else (if n == 0x009 then codes "vxsat" else (if n == 0x00a then codes "vxrm" else (if n == 0x00f then codes "vcsr" else (if n == 0xc20 then codes "vl" else (if n == 0xc21 then codes "vtype" else (if n == 0xc22 then codes "vlenb" else decimal n))))))
-
--- the name of an element width
-unfoldable pub vsew_text : ℕ → List ℕ
-vsew_text n = if n == 0 then codes "e8" else (if n == 1 then codes "e16" else (if n == 2 then codes "e32" else codes "e64"))
-
--- the name of a group multiplier
-unfoldable pub vlmul_text : ℕ → List ℕ
-vlmul_text n = if n == 0 then codes "m1" else (if n == 1 then codes "m2" else (if n == 2 then codes "m4" else (if n == 3 then codes "m8" else (if n == 5 then codes "mf8" else (if n == 6 then codes "mf4" else codes "mf2")))))
-
--- the name of a policy for the tail
-unfoldable pub vta_text : ℕ → List ℕ
-vta_text n = if n == 1 then codes "ta" else codes "tu"
-
--- the name of a policy for masked-off elements
-unfoldable pub vma_text : ℕ → List ℕ
-vma_text n = if n == 1 then codes "ma" else codes "mu"
+csr_text n = csr_text_of n (control_register n)

@@ -1,8 +1,12 @@
 -- What the slots of a form take from the tokens, and the one text that each prints for an operand (V extension, "Vector Masking", "Configuration-Setting Instructions"; the ranges are those of the fields). That vtype has names exactly where no bit is reserved is this project's choice
-use Rattle.std.specs.Prelude.{ℕ, ◌+◌, ◌-◌, ◌*◌, ◌/◌, ◌%◌, ◌^◌, Bool, ◌&&◌, not, List, [], ◌∷◌, ◌++◌, Option, Some, None, Result, Ok, Err, nat_lt, ◌==◌, if◌then◌else◌, codes, decimal}
+use Rattle.std.specs.Prelude.{ℕ, ◌+◌, ◌-◌, ◌*◌, ◌/◌, ◌%◌, ◌^◌, List, [], ◌∷◌, ◌++◌, Option, Some, None, Result, Ok, Err, nat_lt, ◌==◌, if◌then◌else◌, codes, decimal}
 use Rattle.std.specs.Str.{bytes_eq}
 use Rattle.rv_model.specs.assembler.Tokens.{Token}
-use Rattle.rv_model.specs.assembler.Numbers.{literal, register, number, at_most, in_steps, negated, csr, vsew, vlmul, vta, vma, csr_text, vsew_text, vlmul_text, vta_text, vma_text, hex_digits}
+use Rattle.rv_model.specs.assembler.Numbers.{literal, register, number, at_most, in_steps, negated, csr, vsew, vlmul, vta, vma, csr_text, hex_digits}
+use Rattle.rv_model.specs.declared.vector.types.Sew.{Sew}
+use Rattle.rv_model.specs.declared.vector.types.Lmul.{Lmul}
+use Rattle.rv_model.specs.vector.TypeNames.{lmul_name, mask_name, sew_name, tail_name}
+use Rattle.rv_model.specs.vector.TypeRules.{lmul_with_number, sew_with_number}
 use Rattle.rv_model.specs.declared.assembler.forms.UnsignedField.{UnsignedField}
 use Rattle.rv_model.specs.declared.assembler.forms.UnsignedField.TheVariants as unsigned
 use Rattle.rv_model.specs.declared.assembler.forms.SignedField.{SignedField}
@@ -115,13 +119,16 @@ room s = 1
 abbrev pub signed_text : ℕ → ℕ → ℕ → List ℕ
 signed_text size count v = if nat_lt v count then decimal (size * v) else codes "-" ++ decimal (size * (2 * count - v))
 
--- vtype has names: no bit from 8 up, no reserved vlmul, a vsew of at most 64 bits
-abbrev pub has_names : ℕ → Bool
-has_names v = nat_lt v 256 && (not (v % 8 == 4) && nat_lt (v / 8 % 8) 4)
+-- vtype by the names of its parts, where neither vsew nor vlmul is reserved; else as a number
+abbrev pub vtype_named : Option Sew → Option Lmul → ℕ → List ℕ
+vtype_named None lmul v = decimal v
+vtype_named (Some sew) None v = decimal v
+vtype_named (Some sew) (Some lmul) v =
+    sew_name sew ++ codes ", " ++ lmul_name lmul ++ codes ", " ++ tail_name (v / 64 % 2 == 1) ++ codes ", " ++ mask_name (v / 128 % 2 == 1)
 
--- vtype by names where it has them, else as a number
+-- vtype by names where it has them and no bit from 8 up is set, else as a number
 abbrev pub vtype_text : ℕ → List ℕ
-vtype_text v = if has_names v then vsew_text (v / 8 % 8) ++ codes ", " ++ vlmul_text (v % 8) ++ codes ", " ++ vta_text (v / 64 % 2) ++ codes ", " ++ vma_text (v / 128 % 2) else decimal v
+vtype_text v = if nat_lt v 256 then vtype_named (sew_with_number (v / 8 % 8)) (lmul_with_number (v % 8)) v else decimal v
 
 -- the one text of an operand
 abbrev pub printed : Slot → ℕ → List ℕ

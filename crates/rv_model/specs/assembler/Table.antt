@@ -5,11 +5,31 @@ use Rattle.rv_model.specs.assembler.Tokens.{Token, tokens}
 use Rattle.rv_model.specs.assembler.Slots.{◌>>=◌, read, printed}
 use Rattle.rv_model.specs.assembler.Fields.{placed, value_of, fixed_mask}
 use Rattle.rv_model.specs.declared.assembler.forms.Slot.{Slot}
+use Rattle.rv_model.specs.declared.assembler.forms.SourceKind.{SourceKind}
+use Rattle.rv_model.specs.declared.assembler.forms.SourceKind.TheVariants as source_kind
 use Rattle.rv_model.specs.declared.assembler.forms.Form.{Form}
 use Rattle.rv_model.specs.declared.assembler.forms.Form.TheVariants as form
 use Rattle.rv_model.specs.declared.assembler.mnemonics.Mnemonic.{Mnemonic}
-use Rattle.rv_model.specs.declared.assembler.mnemonics.TheConstants.{MNEMONICS}
+use Rattle.rv_model.specs.declared.assembler.mnemonics.TheConstants.{MNEMONICS, NAME_COUNT, ROW_COUNT}
 use Rattle.rv_model.specs.declared.assembler.forms.TheConstants.{PLAIN, REGISTER, IMMEDIATE, SHIFT, SHIFT_WORD, LOAD, STORE, BRANCH, JUMP, UPPER, CSR, CSR_IMMEDIATE, SET_VLI, SET_IVLI, VECTOR_VECTOR, VECTOR_SCALAR, VECTOR_IMMEDIATE, VECTOR_UNSIGNED, MULTIPLY_ADD_VECTOR, MULTIPLY_ADD_SCALAR, CARRY_VECTOR, CARRY_SCALAR, CARRY_IMMEDIATE, UNMASKED_VECTOR, UNMASKED_SCALAR, UNMASKED_IMMEDIATE, MOVE_VECTOR, MOVE_SCALAR, MOVE_IMMEDIATE, MOVE_TO_SCALAR, WHOLE_MOVE, MASK_TO_SCALAR, VECTOR_UNARY, ELEMENT_INDEX, UNIT, UNMASKED_UNIT, STRIDED, INDEXED, WORD}
+
+-- the slots of a form with v0 as an operand
+abbrev pub carry_slots : SourceKind → List Slot
+carry_slots source_kind.Vector = CARRY_VECTOR
+carry_slots source_kind.Scalar = CARRY_SCALAR
+carry_slots source_kind.Immediate = CARRY_IMMEDIATE
+
+-- those of a form that is never masked
+abbrev pub unmasked_slots : SourceKind → List Slot
+unmasked_slots source_kind.Vector = UNMASKED_VECTOR
+unmasked_slots source_kind.Scalar = UNMASKED_SCALAR
+unmasked_slots source_kind.Immediate = UNMASKED_IMMEDIATE
+
+-- those of a move
+abbrev pub move_slots : SourceKind → List Slot
+move_slots source_kind.Vector = MOVE_VECTOR
+move_slots source_kind.Scalar = MOVE_SCALAR
+move_slots source_kind.Immediate = MOVE_IMMEDIATE
 
 -- the slots of a form
 abbrev pub slots_of : Form → List Slot
@@ -33,15 +53,9 @@ slots_of form.VectorImmediate = VECTOR_IMMEDIATE
 slots_of form.VectorUnsigned = VECTOR_UNSIGNED
 slots_of form.MultiplyAddVector = MULTIPLY_ADD_VECTOR
 slots_of form.MultiplyAddScalar = MULTIPLY_ADD_SCALAR
-slots_of form.CarryVector = CARRY_VECTOR
-slots_of form.CarryScalar = CARRY_SCALAR
-slots_of form.CarryImmediate = CARRY_IMMEDIATE
-slots_of form.UnmaskedVector = UNMASKED_VECTOR
-slots_of form.UnmaskedScalar = UNMASKED_SCALAR
-slots_of form.UnmaskedImmediate = UNMASKED_IMMEDIATE
-slots_of form.MoveVector = MOVE_VECTOR
-slots_of form.MoveScalar = MOVE_SCALAR
-slots_of form.MoveImmediate = MOVE_IMMEDIATE
+slots_of (form.Carry source) = carry_slots source
+slots_of (form.Unmasked source) = unmasked_slots source
+slots_of (form.Move source) = move_slots source
 slots_of form.MoveToScalar = MOVE_TO_SCALAR
 slots_of form.WholeMove = WHOLE_MOVE
 slots_of form.MaskToScalar = MASK_TO_SCALAR
@@ -52,6 +66,14 @@ slots_of form.UnmaskedUnit = UNMASKED_UNIT
 slots_of form.Strided = STRIDED
 slots_of form.Indexed = INDEXED
 slots_of form.Word = WORD
+
+-- how many instructions have names, each in a row of its own
+abbrev pub name_count : ℕ
+name_count = NAME_COUNT
+
+-- how many rows the table has; `.word` stands in the last, behind the names of instructions
+abbrev pub row_count : ℕ
+row_count = ROW_COUNT
 
 -- a name with spaces behind it, 16 bytes long
 abbrev pub padded : List ℕ → List ℕ
@@ -104,7 +126,7 @@ spelled text = spelled_by (length text + 1) (tokens 1 text)
 
 -- the first row whose fixed bits a word has; `.word` fixes none
 unfoldable pub row_of_word : ℕ → ℕ
-row_of_word word = unwrap_or (position (λ row. nat_eq (bit_and word (fixed_mask (slots_of row.1))) row.2) MNEMONICS) 597
+row_of_word word = unwrap_or (position (λ row. nat_eq (bit_and word (fixed_mask (slots_of row.1))) row.2) MNEMONICS) name_count
 
 -- the operands of a word, one after another
 unfoldable pub printed_operands : List Slot → ℕ → List ℕ

@@ -3,6 +3,7 @@ use Rattle.std.specs.Prelude.{ℕ, ◌+◌, ◌-◌, ◌*◌, ◌/◌, ◌%◌, 
 use Rattle.std.specs.Str.{bytes_eq}
 use Rattle.hex.specs.Hex.{decode_of}
 use Rattle.hex.specs.declared.error.FromHexError.{FromHexError}
+use Rattle.rv_model.specs.memory.Sizes.{page_size, address_end, page_limit}
 use Rattle.rv_model.specs.text.Digits.{digits_after}
 use Rattle.rv_model.specs.declared.memory.Permissions.{Permissions}
 use Rattle.rv_model.specs.declared.vector.types.Sew.{Sew}
@@ -86,19 +87,19 @@ permissions word =
 abbrev pub any_word : List ℕ → Option (List ℕ)
 any_word word = Some word
 
--- pages of memory, by the number of the first: its address divided by 4,096
+-- pages of memory, by the number of the first: its address divided by the size of a page
 pub record Pages : Type 0 where
   pub first : ℕ
   pub count : ℕ
 
--- none of them ends beyond 2 ^ 48
+-- none of them ends beyond the end of addresses
 abbrev pub IsPageRange : Pages → Type 0
-IsPageRange pages = pages.first + pages.count ≤ 2 ^ 36
+IsPageRange pages = pages.first + pages.count ≤ page_limit
 
--- whole pages that end at 2 ^ 48 or below
+-- whole pages that end at the end of addresses or below
 abbrev pub are_pages : ℕ → ℕ → Bool
-are_pages addr count = (addr % 4096 == 0) && nat_le (addr + 4096 * count) (2 ^ 48)
+are_pages addr count = (addr % page_size == 0) && nat_le (addr + page_size * count) address_end
 
 -- so many pages from an address on
 abbrev pub page_range : ℕ → ℕ → Option Pages
-page_range addr count = if are_pages addr count then Some (record { first = addr / 4096; count = count }) else None
+page_range addr count = if are_pages addr count then Some (record { first = addr / page_size; count = count }) else None

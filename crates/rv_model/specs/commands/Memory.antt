@@ -16,6 +16,7 @@ use Rattle.rv_model.specs.commands.Printing.{hex16}
 use Rattle.rv_model.specs.commands.Reading.{◌>>=◌, next, done}
 use Rattle.rv_model.specs.machine.UserMachine.{Present, Outcome, answers, refuses}
 use Rattle.rv_model.specs.memory.Memory.{Memory, bytes_at, can_access, put_bytes, map_refusal, with_pages}
+use Rattle.rv_model.specs.memory.Sizes.{page_quota}
 
 -- the machine with another memory
 abbrev pub with_memory : Memory → Present → Present
@@ -26,7 +27,7 @@ with_memory memory p = record p { hart = record p.hart { memory = memory } }
 unfoldable pub map_args : List (List ℕ) → Option MemoryCommand
 map_args ws = do
   addr ← next address ws
-  count ← next (number 1 256) addr.1
+  count ← next (number 1 page_quota) addr.1
   allowed ← next permissions count.1
   pages ← page_range addr.0 count.0
   done (Map pages allowed.0) allowed.1

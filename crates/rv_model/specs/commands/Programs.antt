@@ -21,6 +21,7 @@ use Rattle.rv_model.specs.images.Image.{memory_of_image}
 use Rattle.rv_model.specs.machine.Setup.{Image}
 use Rattle.rv_model.specs.machine.UserMachine.{Present, Outcome, answers, refuses, initial}
 use Rattle.rv_model.specs.memory.Memory.{bytes_at, can_access, put_bytes, page_count}
+use Rattle.rv_model.specs.memory.Sizes.{page_quota}
 use Rattle.rv_model.specs.scalar.Registers.{initial_scalar, with_register}
 
 -- ---- load NAME
@@ -51,7 +52,7 @@ loaded_line pc pages = codes "loaded pc=" ++ hex16 pc ++ codes " pages=" ++ deci
 abbrev pub loading : List ℕ → Option ElfFault → Present → Outcome
 loading image (Some fault) p = refuses (Some p) (refusal.ElfFault fault)
 loading image None p =
-    if nat_lt 256 (page_count (memory_of_image image)) then refuses (Some p) refusal.Quota
+    if nat_lt page_quota (page_count (memory_of_image image)) then refuses (Some p) refusal.Quota
     else answers (loaded image) (loaded_line (entry_of image) (page_count (memory_of_image image)))
 
 -- the same for the image of a name, which there may not be

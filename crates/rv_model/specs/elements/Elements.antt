@@ -12,28 +12,39 @@ element k bytes i = number_l 256 (chunk (k * i) k bytes)
 abbrev pub mask_bit : List ℕ → ℕ → Bool
 mask_bit bytes i = slice_index bytes (i / 8) / 2 ^ (i % 8) % 2 == 1
 
+-- the indices from one up to another
+abbrev pub in_range : ℕ → ℕ → ℕ → Bool
+in_range start end i = nat_le start i && nat_lt i end
+
+-- the body of an instruction: the elements from vstart up to vl; and which of them are active: those that the mask lets
+-- through, or all where the instruction isn't masked
+pub record Body : Type 0 where
+  pub unmasked : Bool
+  pub mask : List ℕ
+  pub start : ℕ
+  pub end : ℕ
+
 -- the elements of the body
-abbrev pub in_body : ℕ → ℕ → ℕ → Bool
-in_body start vl i = nat_le start i && nat_lt i vl
+abbrev pub in_body : Body → ℕ → Bool
+in_body body i = in_range body.start body.end i
 
 -- the elements that the mask lets through; where the instruction isn't masked, all
-abbrev pub is_let : Bool → List ℕ → ℕ → Bool
-is_let unmasked mask i = unmasked || mask_bit mask i
+abbrev pub is_let : Body → ℕ → Bool
+is_let body i = body.unmasked || mask_bit body.mask i
 
 -- the active elements
-abbrev pub is_active : Bool → List ℕ → ℕ → ℕ → ℕ → Bool
-is_active unmasked mask start vl i = in_body start vl i && is_let unmasked mask i
+abbrev pub is_active : Body → ℕ → Bool
+is_active body i = in_body body i && is_let body i
 
 -- the elements that become all ones: those of the body where the ones that are masked off do, and those of the tail where
 -- it does
-abbrev pub is_filled : Bool → Bool → ℕ → ℕ → ℕ → Bool
-is_filled masked_off tail start vl i = (masked_off && in_body start vl i) || (tail && nat_le vl i)
+abbrev pub is_filled : Body → Bool → Bool → ℕ → Bool
+is_filled body fill_masked_off fill_tail i = (fill_masked_off && in_body body i) || (fill_tail && nat_le body.end i)
 
 -- the elements of a destination that change
-abbrev pub is_changed : Bool → List ℕ → Bool → Bool → ℕ → ℕ → ℕ → Bool
-is_changed unmasked mask masked_off tail start vl i =
-    is_active unmasked mask start vl i || is_filled masked_off tail start vl i
+abbrev pub is_changed : Body → Bool → Bool → ℕ → Bool
+is_changed body fill_masked_off fill_tail i = is_active body i || is_filled body fill_masked_off fill_tail i
 
 -- what they become: the results where they are active, else all ones
-abbrev pub result_or_ones : Bool → List ℕ → ℕ → ℕ → (ℕ → ℕ) → ℕ → ℕ → ℕ
-result_or_ones unmasked mask start vl result ones i = if is_active unmasked mask start vl i then result i else ones
+abbrev pub result_or_ones : Body → (ℕ → ℕ) → ℕ → ℕ → ℕ
+result_or_ones body result ones i = if is_active body i then result i else ones

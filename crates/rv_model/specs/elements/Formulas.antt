@@ -1,13 +1,13 @@
 -- The result of each element-wise operation, as a whole number ("V" Vector Extension 1.0, chapter 11). An element is an
 -- unsigned number of the width in hand; a is that of vs2, b that of vs1, of x[rs1] or of the immediate. The result is taken
 -- modulo 2 to the width.
-use Rattle.std.specs.Prelude.{ℕ, ◌-◌, ◌*◌, ◌/◌, ◌%◌, ◌^◌, min, max, Bool, true, false, suc, ℤ, pos, negsuc, ◌+ℤ◌, ◌-ℤ◌, ◌*ℤ◌, bit_and, bit_or, bit_xor}
+use Rattle.std.specs.Prelude.{ℕ, ◌-◌, ◌*◌, ◌%◌, ◌^◌, min, max, Bool, true, false, suc, ℤ, pos, negsuc, ◌+ℤ◌, ◌-ℤ◌, bit_and, bit_or, bit_xor}
 use Rattle.std.specs.Int.{Width, cast_signed, int_min, int_max, int_shr}
 use mir.Val.{bits}
 use Rattle.rv_model.specs.declared.instructions.operations.BinaryOp.{BinaryOp}
 use Rattle.rv_model.specs.declared.instructions.operations.BinaryOp.TheVariants.{Vadd, Vsub, Vrsub, Vminu, Vmin, Vmaxu, Vmax, Vand, Vor, Vxor, Vsll, Vsrl, Vsra, Vdivu, Vdiv, Vremu, Vrem, Vmulhu, Vmul, Vmulhsu, Vmulh}
 use Rattle.rv_model.specs.instructions.Immediates.{sign_extended}
-use Rattle.rv_model.specs.scalar.Arithmetic.{shifted_left, shifted_right, quotient, remainder, signed_quotient, signed_remainder}
+use Rattle.rv_model.specs.scalar.Arithmetic.{shifted_left, shifted_right, high_product, signed_high_product, mixed_high_product, quotient, remainder, signed_quotient, signed_remainder}
 
 -- a whole number modulo 2 to the width
 abbrev pub wrap : Width → ℤ → ℕ
@@ -37,10 +37,10 @@ formula Vdivu w a b = pos (quotient w a b)
 formula Vdiv w a b = pos (signed_quotient w a b)
 formula Vremu w a b = pos (remainder w a b)
 formula Vrem w a b = pos (signed_remainder w a b)
-formula Vmulhu w a b = pos (a * b / 2 ^ bits w)
+formula Vmulhu w a b = pos (high_product w a b)
 formula Vmul w a b = pos (a * b)
-formula Vmulhsu w a b = int_shr (cast_signed w a *ℤ pos b) (bits w)
-formula Vmulh w a b = int_shr (cast_signed w a *ℤ cast_signed w b) (bits w)
+formula Vmulhsu w a b = mixed_high_product w a b
+formula Vmulh w a b = signed_high_product w a b
 
 -- the number that the five bits of an immediate mean: unsigned for shifts, else sign-extended to 64 bits
 abbrev pub immediate_value : BinaryOp → ℕ → ℕ

@@ -6,6 +6,7 @@ use Rattle.rv_model.specs.declared.images.ElfFault.{ElfFault}
 use Rattle.rv_model.specs.declared.images.ElfFault.TheVariants.{BadShort, BadMagic, BadClass, BadData, BadType, BadMachine, BadHeaderSize, BadHeaderTable, BadInterp, BadFileSize, BadOutside, BadAddress, BadEntry}
 use Rattle.rv_model.specs.declared.images.ProgramHeader.{ProgramHeader}
 use Rattle.rv_model.specs.images.Fields.{class_of, data_of, type_of, machine_of, entry_of, table_offset, header_size, header_count, program_headers}
+use Rattle.rv_model.specs.memory.Sizes.{address_end}
 
 -- PT_LOAD, a segment that is placed in memory
 abbrev pub is_load : ProgramHeader → Bool
@@ -16,7 +17,7 @@ unfoldable pub header_has : ℕ → ElfFault → ProgramHeader → Bool
 header_has size BadInterp header = header.kind == 3
 header_has size BadFileSize header = is_load header && nat_lt header.memory_size header.file_size
 header_has size BadOutside header = is_load header && (not (header.file_size == 0) && nat_lt size (header.offset + header.file_size))
-header_has size BadAddress header = is_load header && nat_lt (2 ^ 48) (header.address + header.memory_size)
+header_has size BadAddress header = is_load header && nat_lt address_end (header.address + header.memory_size)
 header_has size _ header = false
 
 -- whether some program header has it

@@ -6,8 +6,8 @@ use Rattle.byteorder.specs.Endian.{little_number}
 use Rattle.rv_model.specs.declared.images.ProgramHeader.{ProgramHeader}
 
 -- the number in so many bytes at an offset
-unfoldable pub field : ℕ → ℕ → List ℕ → ℕ
-field offset size image = little_number size (drop offset image)
+unfoldable pub number_in_file : ℕ → ℕ → List ℕ → ℕ
+number_in_file offset size image = little_number size (drop offset image)
 
 -- e_ident[EI_CLASS]
 abbrev pub class_of : List ℕ → ℕ
@@ -19,37 +19,37 @@ data_of image = slice_index image 5
 
 -- e_type
 abbrev pub type_of : List ℕ → ℕ
-type_of image = field 16 2 image
+type_of image = number_in_file 16 2 image
 
 -- e_machine
 abbrev pub machine_of : List ℕ → ℕ
-machine_of image = field 18 2 image
+machine_of image = number_in_file 18 2 image
 
 -- e_entry
 abbrev pub entry_of : List ℕ → ℕ
-entry_of image = field 24 8 image
+entry_of image = number_in_file 24 8 image
 
 -- e_phoff
 abbrev pub table_offset : List ℕ → ℕ
-table_offset image = field 32 8 image
+table_offset image = number_in_file 32 8 image
 
 -- e_phentsize
 abbrev pub header_size : List ℕ → ℕ
-header_size image = field 54 2 image
+header_size image = number_in_file 54 2 image
 
 -- e_phnum
 abbrev pub header_count : List ℕ → ℕ
-header_count image = field 56 2 image
+header_count image = number_in_file 56 2 image
 
 -- the program header at an offset
 unfoldable pub header_at : ℕ → List ℕ → ProgramHeader
 header_at offset image = record {
-  kind = field offset 4 image;
-  flags = field (offset + 4) 4 image;
-  offset = field (offset + 8) 8 image;
-  address = field (offset + 16) 8 image;
-  file_size = field (offset + 32) 8 image;
-  memory_size = field (offset + 40) 8 image;
+  kind = number_in_file offset 4 image;
+  flags = number_in_file (offset + 4) 4 image;
+  offset = number_in_file (offset + 8) 8 image;
+  address = number_in_file (offset + 16) 8 image;
+  file_size = number_in_file (offset + 32) 8 image;
+  memory_size = number_in_file (offset + 40) 8 image;
 }
 
 -- the program header of a number, from 0

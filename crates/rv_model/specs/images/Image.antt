@@ -10,23 +10,24 @@ use Rattle.rv_model.specs.declared.memory.Permissions.{Permissions}
 use Rattle.rv_model.specs.images.Faults.{is_load}
 use Rattle.rv_model.specs.images.Fields.{program_headers}
 use Rattle.rv_model.specs.memory.Memory.{Cell, Memory}
+use Rattle.rv_model.specs.memory.Sizes.{page_size, page_limit}
 
 -- four pages of zeros that are read and written, and end at 7FFFF000
 unfoldable pub stack : ProgramHeader
-stack = record { kind = 1; flags = 6; offset = 0; address = 0x7fffb000; file_size = 0; memory_size = 0x4000 }
+stack = record { kind = 1; flags = 6; offset = 0; address = 0x7fffb000; file_size = 0; memory_size = 4 * page_size }
 
 -- what is placed, in order: a later segment's bytes hide those of an earlier one
-abbrev pub placed : List ℕ → List ProgramHeader
-placed image = stack ∷ program_headers image
+abbrev pub placed_headers : List ℕ → List ProgramHeader
+placed_headers image = stack ∷ program_headers image
 
 -- whether an address is one of a segment's
 unfoldable pub covers : ℕ → ProgramHeader → Bool
 covers x header = is_load header && (nat_le header.address x && nat_lt x (header.address + header.memory_size))
 
 -- whether one of a page's addresses is one of a segment's
-unfoldable pub touches : ℕ → ProgramHeader → Bool
-touches page header =
-    is_load header && nat_lt (max header.address (4096 * page)) (min (header.address + header.memory_size) (4096 * page + 4096))
+unfoldable pub touches_page : ℕ → ProgramHeader → Bool
+touches_page page header =
+    is_load header && nat_lt (max header.address (page_size * page)) (min (header.address + header.memory_size) (page_size * page + page_size))
 
 -- a segment's byte at one of its addresses
 unfoldable pub byte_in : List ℕ → ℕ → ProgramHeader → ℕ
@@ -39,7 +40,7 @@ byte_of image headers x = option_map_or (byte_in image x) (find (covers x) (reve
 
 -- whether one of these segments that touch a page has a flag
 unfoldable pub is_allowed_by : ℕ → List ProgramHeader → ℕ → Bool
-is_allowed_by flag headers page = list_any (λ header. touches page header && not (bit_and header.flags flag == 0)) headers
+is_allowed_by flag headers page = list_any (λ header. touches_page page header && not (bit_and header.flags flag == 0)) headers
 
 -- what a page may be used for: PF_R is 4, PF_W is 2, PF_X is 1
 abbrev pub permissions_of : List ProgramHeader → ℕ → Permissions
@@ -47,13 +48,13 @@ permissions_of headers page = record { read = is_allowed_by 4 headers page; writ
 
 -- whether one of these segments touches a page
 unfoldable pub is_touched : List ProgramHeader → ℕ → Bool
-is_touched headers page = list_any (touches page) headers
+is_touched headers page = list_any (touches_page page) headers
 
 -- what stands at an address
 unfoldable pub cell_of : List ℕ → ℕ → Option Cell
 cell_of image x =
-    if is_touched (placed image) (x / 4096)
-    then Some (record { byte = byte_of image (placed image) x; permissions = permissions_of (placed image) (x / 4096) })
+    if is_touched (placed_headers image) (x / page_size)
+    then Some (record { byte = byte_of image (placed_headers image) x; permissions = permissions_of (placed_headers image) (x / page_size) })
     else None
 
 -- a cell added where there is one
@@ -66,10 +67,10 @@ unfoldable pub memory_below : (ℕ → Option Cell) → ℕ → Memory
 memory_below cells zero = empty
 memory_below cells (suc x) = with_cell (memory_below cells x) x (cells x)
 
--- the number of pages below address 2^48
+-- how many pages there are below the end of addresses; memories are built up to there, so this stays closed
 unfoldable pub all_pages : ℕ
-all_pages = 0x1000000000
+all_pages = page_limit
 
 -- the memory that an image describes
 unfoldable pub memory_of_image : List ℕ → Memory
-memory_of_image image = memory_below (cell_of image) (4096 * all_pages)
+memory_of_image image = memory_below (cell_of image) (page_size * all_pages)

@@ -9,14 +9,14 @@ use Rattle.rv_model.specs.declared.instructions.operations.LoadOp.{LoadOp}
 use Rattle.rv_model.specs.declared.instructions.operations.LoadOp.TheVariants as load
 use Rattle.rv_model.specs.declared.instructions.operations.StoreOp.{StoreOp}
 use Rattle.rv_model.specs.declared.instructions.operations.StoreOp.TheVariants as store
-use Rattle.rv_model.specs.declared.instructions.operations.OpImmOp.{OpImmOp}
-use Rattle.rv_model.specs.declared.instructions.operations.OpImmOp.TheVariants as op_imm
-use Rattle.rv_model.specs.declared.instructions.operations.ShiftImmOp.{ShiftImmOp}
-use Rattle.rv_model.specs.declared.instructions.operations.ShiftImmOp.TheVariants as shift_imm
-use Rattle.rv_model.specs.declared.instructions.operations.ShiftImmWordOp.{ShiftImmWordOp}
-use Rattle.rv_model.specs.declared.instructions.operations.ShiftImmWordOp.TheVariants as shift_imm_word
-use Rattle.rv_model.specs.declared.instructions.operations.OpOp.{OpOp}
-use Rattle.rv_model.specs.declared.instructions.operations.OpOp.TheVariants as op
+use Rattle.rv_model.specs.declared.instructions.operations.ImmediateOp.{ImmediateOp}
+use Rattle.rv_model.specs.declared.instructions.operations.ImmediateOp.TheVariants as immediate
+use Rattle.rv_model.specs.declared.instructions.operations.ShiftImmediateOp.{ShiftImmediateOp}
+use Rattle.rv_model.specs.declared.instructions.operations.ShiftImmediateOp.TheVariants as shift_immediate
+use Rattle.rv_model.specs.declared.instructions.operations.ShiftImmediateWordOp.{ShiftImmediateWordOp}
+use Rattle.rv_model.specs.declared.instructions.operations.ShiftImmediateWordOp.TheVariants as shift_immediate_word
+use Rattle.rv_model.specs.declared.instructions.operations.RegisterOp.{RegisterOp}
+use Rattle.rv_model.specs.declared.instructions.operations.RegisterOp.TheVariants as register
 use Rattle.rv_model.specs.declared.instructions.operations.SystemOp.{SystemOp}
 use Rattle.rv_model.specs.declared.instructions.operations.SystemOp.TheVariants as system
 use Rattle.rv_model.specs.declared.instructions.operations.CsrOp.{CsrOp}
@@ -106,77 +106,77 @@ abbrev pub store_ops : List StoreOp
 store_ops = store.Sb ∷ store.Sh ∷ store.Sw ∷ store.Sd ∷ []
 
 -- OP-IMM and OP-IMM-32 with an immediate of 12 bits
-abbrev pub op_imm_bits : OpImmOp → ℕ
-op_imm_bits op_imm.Addi = coded 0x13 0
-op_imm_bits op_imm.Slti = coded 0x13 2
-op_imm_bits op_imm.Sltiu = coded 0x13 3
-op_imm_bits op_imm.Xori = coded 0x13 4
-op_imm_bits op_imm.Ori = coded 0x13 6
-op_imm_bits op_imm.Andi = coded 0x13 7
-op_imm_bits op_imm.Addiw = coded 0x1b 0
+abbrev pub immediate_op_bits : ImmediateOp → ℕ
+immediate_op_bits immediate.Addi = coded 0x13 0
+immediate_op_bits immediate.Slti = coded 0x13 2
+immediate_op_bits immediate.Sltiu = coded 0x13 3
+immediate_op_bits immediate.Xori = coded 0x13 4
+immediate_op_bits immediate.Ori = coded 0x13 6
+immediate_op_bits immediate.Andi = coded 0x13 7
+immediate_op_bits immediate.Addiw = coded 0x1b 0
 
 -- their operations
-abbrev pub op_imm_ops : List OpImmOp
-op_imm_ops =
-    op_imm.Addi ∷ op_imm.Slti ∷ op_imm.Sltiu ∷ op_imm.Xori ∷ op_imm.Ori ∷ op_imm.Andi ∷ op_imm.Addiw ∷ []
+abbrev pub immediate_ops : List ImmediateOp
+immediate_ops =
+    immediate.Addi ∷ immediate.Slti ∷ immediate.Sltiu ∷ immediate.Xori ∷ immediate.Ori ∷ immediate.Andi ∷ immediate.Addiw ∷ []
 
 -- OP-IMM with a shift amount of six bits
-abbrev pub shift_imm_bits : ShiftImmOp → ℕ
-shift_imm_bits shift_imm.Slli = register_coded 0x13 1 0x00
-shift_imm_bits shift_imm.Srli = register_coded 0x13 5 0x00
-shift_imm_bits shift_imm.Srai = register_coded 0x13 5 0x20
+abbrev pub shift_immediate_bits : ShiftImmediateOp → ℕ
+shift_immediate_bits shift_immediate.Slli = register_coded 0x13 1 0x00
+shift_immediate_bits shift_immediate.Srli = register_coded 0x13 5 0x00
+shift_immediate_bits shift_immediate.Srai = register_coded 0x13 5 0x20
 
 -- its operations
-abbrev pub shift_imm_ops : List ShiftImmOp
-shift_imm_ops = shift_imm.Slli ∷ shift_imm.Srli ∷ shift_imm.Srai ∷ []
+abbrev pub shift_immediate_ops : List ShiftImmediateOp
+shift_immediate_ops = shift_immediate.Slli ∷ shift_immediate.Srli ∷ shift_immediate.Srai ∷ []
 
 -- OP-IMM-32 with a shift amount of five bits
-abbrev pub shift_imm_word_bits : ShiftImmWordOp → ℕ
-shift_imm_word_bits shift_imm_word.Slliw = register_coded 0x1b 1 0x00
-shift_imm_word_bits shift_imm_word.Srliw = register_coded 0x1b 5 0x00
-shift_imm_word_bits shift_imm_word.Sraiw = register_coded 0x1b 5 0x20
+abbrev pub shift_immediate_word_bits : ShiftImmediateWordOp → ℕ
+shift_immediate_word_bits shift_immediate_word.Slliw = register_coded 0x1b 1 0x00
+shift_immediate_word_bits shift_immediate_word.Srliw = register_coded 0x1b 5 0x00
+shift_immediate_word_bits shift_immediate_word.Sraiw = register_coded 0x1b 5 0x20
 
 -- its operations
-abbrev pub shift_imm_word_ops : List ShiftImmWordOp
-shift_imm_word_ops = shift_imm_word.Slliw ∷ shift_imm_word.Srliw ∷ shift_imm_word.Sraiw ∷ []
+abbrev pub shift_immediate_word_ops : List ShiftImmediateWordOp
+shift_immediate_word_ops = shift_immediate_word.Slliw ∷ shift_immediate_word.Srliw ∷ shift_immediate_word.Sraiw ∷ []
 
 -- OP and OP-32, with the "M" extension
-abbrev pub op_bits : OpOp → ℕ
-op_bits op.Add = register_coded 0x33 0 0x00
-op_bits op.Sub = register_coded 0x33 0 0x20
-op_bits op.Sll = register_coded 0x33 1 0x00
-op_bits op.Slt = register_coded 0x33 2 0x00
-op_bits op.Sltu = register_coded 0x33 3 0x00
-op_bits op.Xor = register_coded 0x33 4 0x00
-op_bits op.Srl = register_coded 0x33 5 0x00
-op_bits op.Sra = register_coded 0x33 5 0x20
-op_bits op.Or = register_coded 0x33 6 0x00
-op_bits op.And = register_coded 0x33 7 0x00
-op_bits op.Mul = register_coded 0x33 0 0x01
-op_bits op.Mulh = register_coded 0x33 1 0x01
-op_bits op.Mulhsu = register_coded 0x33 2 0x01
-op_bits op.Mulhu = register_coded 0x33 3 0x01
-op_bits op.Div = register_coded 0x33 4 0x01
-op_bits op.Divu = register_coded 0x33 5 0x01
-op_bits op.Rem = register_coded 0x33 6 0x01
-op_bits op.Remu = register_coded 0x33 7 0x01
-op_bits op.Addw = register_coded 0x3b 0 0x00
-op_bits op.Subw = register_coded 0x3b 0 0x20
-op_bits op.Sllw = register_coded 0x3b 1 0x00
-op_bits op.Srlw = register_coded 0x3b 5 0x00
-op_bits op.Sraw = register_coded 0x3b 5 0x20
-op_bits op.Mulw = register_coded 0x3b 0 0x01
-op_bits op.Divw = register_coded 0x3b 4 0x01
-op_bits op.Divuw = register_coded 0x3b 5 0x01
-op_bits op.Remw = register_coded 0x3b 6 0x01
-op_bits op.Remuw = register_coded 0x3b 7 0x01
+abbrev pub register_op_bits : RegisterOp → ℕ
+register_op_bits register.Add = register_coded 0x33 0 0x00
+register_op_bits register.Sub = register_coded 0x33 0 0x20
+register_op_bits register.Sll = register_coded 0x33 1 0x00
+register_op_bits register.Slt = register_coded 0x33 2 0x00
+register_op_bits register.Sltu = register_coded 0x33 3 0x00
+register_op_bits register.Xor = register_coded 0x33 4 0x00
+register_op_bits register.Srl = register_coded 0x33 5 0x00
+register_op_bits register.Sra = register_coded 0x33 5 0x20
+register_op_bits register.Or = register_coded 0x33 6 0x00
+register_op_bits register.And = register_coded 0x33 7 0x00
+register_op_bits register.Mul = register_coded 0x33 0 0x01
+register_op_bits register.Mulh = register_coded 0x33 1 0x01
+register_op_bits register.Mulhsu = register_coded 0x33 2 0x01
+register_op_bits register.Mulhu = register_coded 0x33 3 0x01
+register_op_bits register.Div = register_coded 0x33 4 0x01
+register_op_bits register.Divu = register_coded 0x33 5 0x01
+register_op_bits register.Rem = register_coded 0x33 6 0x01
+register_op_bits register.Remu = register_coded 0x33 7 0x01
+register_op_bits register.Addw = register_coded 0x3b 0 0x00
+register_op_bits register.Subw = register_coded 0x3b 0 0x20
+register_op_bits register.Sllw = register_coded 0x3b 1 0x00
+register_op_bits register.Srlw = register_coded 0x3b 5 0x00
+register_op_bits register.Sraw = register_coded 0x3b 5 0x20
+register_op_bits register.Mulw = register_coded 0x3b 0 0x01
+register_op_bits register.Divw = register_coded 0x3b 4 0x01
+register_op_bits register.Divuw = register_coded 0x3b 5 0x01
+register_op_bits register.Remw = register_coded 0x3b 6 0x01
+register_op_bits register.Remuw = register_coded 0x3b 7 0x01
 
 -- their operations
-abbrev pub op_ops : List OpOp
-op_ops =
-    op.Add ∷ op.Sub ∷ op.Sll ∷ op.Slt ∷ op.Sltu ∷ op.Xor ∷ op.Srl ∷ op.Sra ∷ op.Or ∷ op.And ∷ op.Mul ∷
-    op.Mulh ∷ op.Mulhsu ∷ op.Mulhu ∷ op.Div ∷ op.Divu ∷ op.Rem ∷ op.Remu ∷ op.Addw ∷ op.Subw ∷ op.Sllw ∷
-    op.Srlw ∷ op.Sraw ∷ op.Mulw ∷ op.Divw ∷ op.Divuw ∷ op.Remw ∷ op.Remuw ∷ []
+abbrev pub register_ops : List RegisterOp
+register_ops =
+    register.Add ∷ register.Sub ∷ register.Sll ∷ register.Slt ∷ register.Sltu ∷ register.Xor ∷ register.Srl ∷ register.Sra ∷ register.Or ∷ register.And ∷ register.Mul ∷
+    register.Mulh ∷ register.Mulhsu ∷ register.Mulhu ∷ register.Div ∷ register.Divu ∷ register.Rem ∷ register.Remu ∷ register.Addw ∷ register.Subw ∷ register.Sllw ∷
+    register.Srlw ∷ register.Sraw ∷ register.Mulw ∷ register.Divw ∷ register.Divuw ∷ register.Remw ∷ register.Remuw ∷ []
 
 -- SYSTEM with no operands: the whole word
 abbrev pub system_bits : SystemOp → ℕ

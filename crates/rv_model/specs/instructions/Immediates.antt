@@ -1,31 +1,7 @@
--- Immediates: where their bits stand in a word, and the numbers that they mean (Unprivileged ISA, RV32I, "Immediate
--- Encoding Variants")
-use Rattle.std.specs.Prelude.{ℕ, ◌+◌, ◌-◌, ◌*◌, ◌^◌, nat_lt, if◌then◌else◌, ℤ, pos, ◌-ℤ◌}
+-- Immediates: where their bits stand in a word, and the 64-bit words that they mean (Unprivileged ISA, RV32I, "Immediate
+-- Encoding Variants"; RV64I: immediates are sign-extended to 64 bits)
+use Rattle.std.specs.Prelude.{ℕ, ◌+◌, ◌-◌, ◌*◌, ◌^◌, nat_lt, if◌then◌else◌}
 use Rattle.rv_model.specs.instructions.BitFields.{field}
-
--- a number of so many bits, read as two's complement
-abbrev pub signed : ℕ → ℕ → ℤ
-signed bits value = if nat_lt value (2 ^ (bits - 1)) then pos value else pos value -ℤ pos (2 ^ bits)
-
--- I: bits 11 to 0
-abbrev pub i_immediate : ℕ → ℤ
-i_immediate imm = signed 12 imm
-
--- S: bits 11 to 0
-abbrev pub s_immediate : ℕ → ℤ
-s_immediate imm = signed 12 imm
-
--- B: bits 12 to 1 of a distance in bytes
-abbrev pub b_immediate : ℕ → ℤ
-b_immediate offset = signed 13 (2 * offset)
-
--- U: bits 31 to 12
-abbrev pub u_immediate : ℕ → ℤ
-u_immediate imm = signed 32 (imm * 2 ^ 12)
-
--- J: bits 20 to 1 of a distance in bytes
-abbrev pub j_immediate : ℕ → ℤ
-j_immediate offset = signed 21 (2 * offset)
 
 -- S: bits 4 to 0 of the immediate stand at 11 to 7, bits 11 to 5 at 31 to 25
 abbrev pub store_immediate : ℕ → ℕ
@@ -39,6 +15,26 @@ branch_offset word = field 8 4 word + field 25 6 word * 2 ^ 4 + field 7 1 word *
 abbrev pub jump_offset : ℕ → ℕ
 jump_offset word = field 21 10 word + field 20 1 word * 2 ^ 10 + field 12 8 word * 2 ^ 11 + field 31 1 word * 2 ^ 19
 
--- an immediate of so many bits, sign-extended to a 64-bit word
+-- a number of so many bits, read as two's complement and sign-extended to a 64-bit word
 abbrev pub sign_extended : ℕ → ℕ → ℕ
 sign_extended bits value = if nat_lt value (2 ^ (bits - 1)) then value else value + (2 ^ 64 - 2 ^ bits)
+
+-- I: bits 11 to 0
+abbrev pub i_immediate : ℕ → ℕ
+i_immediate imm = sign_extended 12 imm
+
+-- S: bits 11 to 0, as of I
+abbrev pub s_immediate : ℕ → ℕ
+s_immediate imm = i_immediate imm
+
+-- B: bits 12 to 1 of a distance in bytes
+abbrev pub b_immediate : ℕ → ℕ
+b_immediate imm = sign_extended 13 (2 * imm)
+
+-- U: bits 31 to 12
+abbrev pub u_immediate : ℕ → ℕ
+u_immediate imm = sign_extended 32 (imm * 2 ^ 12)
+
+-- J: bits 20 to 1 of a distance in bytes
+abbrev pub j_immediate : ℕ → ℕ
+j_immediate imm = sign_extended 21 (2 * imm)

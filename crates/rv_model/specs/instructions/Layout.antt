@@ -4,7 +4,7 @@ use Rattle.std.specs.Prelude.{ℕ, ◌+◌, ◌*◌, ◌/◌, ◌%◌, ◌^◌, 
 use Rattle.rv_model.specs.instructions.BitFields.{field, flag, flag_bit, Part, part, sum_of}
 use Rattle.rv_model.specs.instructions.Immediates.{store_immediate, branch_offset, jump_offset}
 use Rattle.rv_model.specs.instructions.Sources.{form_of, number, source_of}
-use Rattle.rv_model.specs.instructions.FixedBits.{coded, vector_coded, upper_bits, branch_bits, load_bits, store_bits, op_imm_bits, shift_imm_bits, shift_imm_word_bits, op_bits, system_bits, csr_bits, csr_immediate_bits, move_bits, whole_move_bits, mask_logic_bits, mask_to_scalar_bits, extend_bits, mask_unary_bits, width_bits, direction_bits, unit_bits, order_bits, strided_bits, count_bits, mask_memory_bits}
+use Rattle.rv_model.specs.instructions.FixedBits.{coded, vector_coded, upper_bits, branch_bits, load_bits, store_bits, immediate_op_bits, shift_immediate_bits, shift_immediate_word_bits, register_op_bits, system_bits, csr_bits, csr_immediate_bits, move_bits, whole_move_bits, mask_logic_bits, mask_to_scalar_bits, extend_bits, mask_unary_bits, width_bits, direction_bits, unit_bits, order_bits, strided_bits, count_bits, mask_memory_bits}
 use Rattle.rv_model.specs.instructions.Operations.{has_form, line, carry_line, line_bits}
 use Rattle.rv_model.specs.declared.instructions.operations.Width.{Width}
 use Rattle.rv_model.specs.declared.instructions.operations.UnitOp.{UnitOp}
@@ -12,7 +12,7 @@ use Rattle.rv_model.specs.declared.instructions.operations.Direction.{Direction}
 use Rattle.rv_model.specs.declared.instructions.operations.Order.{Order}
 use Rattle.rv_model.specs.declared.instructions.operations.RegisterCount.{RegisterCount}
 use Rattle.rv_model.specs.declared.instructions.instruction.Instr.{Instr}
-use Rattle.rv_model.specs.declared.instructions.instruction.Instr.TheVariants.{Upper, Jump, JumpRegister, Branch, Load, Store, OpImm, ShiftImm, ShiftImmWord, Op, Fence, System, Csr, CsrImmediate, SetVli, SetIvli, SetVl, VectorArith, VectorCarry, VectorMove, WholeMove, MaskLogic, Compress, MaskToScalar, VectorExtend, MaskUnary, ElementIndex, MoveToScalar, MoveToVector, VectorUnit, VectorStrided, VectorIndexed, WholeLoad, WholeStore, MaskMemory}
+use Rattle.rv_model.specs.declared.instructions.instruction.Instr.TheVariants.{Upper, Jump, JumpRegister, Branch, Load, Store, RegisterImmediate, ShiftImmediate, ShiftImmediateWord, RegisterRegister, Fence, System, Csr, CsrImmediate, SetVli, SetIvli, SetVl, VectorArith, VectorCarry, VectorMove, WholeMove, MaskLogic, Compress, MaskToScalar, VectorExtend, MaskUnary, ElementIndex, MoveToScalar, MoveToVector, VectorUnit, VectorStrided, VectorIndexed, WholeLoad, WholeStore, MaskMemory}
 
 -- unit stride, with its width
 abbrev pub unit_access_bits : UnitOp × Width → ℕ
@@ -37,19 +37,19 @@ whole_store_bits count = 0x27 + count_bits count
 -- the operands, each at its place, from the high bits to the low
 abbrev pub parts : Instr → List Part
 parts (Upper op rd imm) = part 12 20 imm ∷ part 7 5 rd ∷ []
-parts (Jump rd offset) =
-    part 31 1 (offset / 2 ^ 19) ∷ part 21 10 (offset % 2 ^ 10) ∷ part 20 1 (offset / 2 ^ 10 % 2 ^ 1) ∷
-    part 12 8 (offset / 2 ^ 11 % 2 ^ 8) ∷ part 7 5 rd ∷ []
+parts (Jump rd imm) =
+    part 31 1 (imm / 2 ^ 19) ∷ part 21 10 (imm % 2 ^ 10) ∷ part 20 1 (imm / 2 ^ 10 % 2 ^ 1) ∷
+    part 12 8 (imm / 2 ^ 11 % 2 ^ 8) ∷ part 7 5 rd ∷ []
 parts (JumpRegister rd rs1 imm) = part 20 12 imm ∷ part 15 5 rs1 ∷ part 7 5 rd ∷ []
-parts (Branch op rs1 rs2 offset) =
-    part 31 1 (offset / 2 ^ 11) ∷ part 25 6 (offset / 2 ^ 4 % 2 ^ 6) ∷ part 20 5 rs2 ∷ part 15 5 rs1 ∷
-    part 8 4 (offset % 2 ^ 4) ∷ part 7 1 (offset / 2 ^ 10 % 2 ^ 1) ∷ []
+parts (Branch op rs1 rs2 imm) =
+    part 31 1 (imm / 2 ^ 11) ∷ part 25 6 (imm / 2 ^ 4 % 2 ^ 6) ∷ part 20 5 rs2 ∷ part 15 5 rs1 ∷
+    part 8 4 (imm % 2 ^ 4) ∷ part 7 1 (imm / 2 ^ 10 % 2 ^ 1) ∷ []
 parts (Load op rd rs1 imm) = part 20 12 imm ∷ part 15 5 rs1 ∷ part 7 5 rd ∷ []
 parts (Store op rs1 rs2 imm) = part 25 7 (imm / 2 ^ 5) ∷ part 20 5 rs2 ∷ part 15 5 rs1 ∷ part 7 5 (imm % 2 ^ 5) ∷ []
-parts (OpImm op rd rs1 imm) = part 20 12 imm ∷ part 15 5 rs1 ∷ part 7 5 rd ∷ []
-parts (ShiftImm op rd rs1 amount) = part 20 6 amount ∷ part 15 5 rs1 ∷ part 7 5 rd ∷ []
-parts (ShiftImmWord op rd rs1 amount) = part 20 5 amount ∷ part 15 5 rs1 ∷ part 7 5 rd ∷ []
-parts (Op op rd rs1 rs2) = part 20 5 rs2 ∷ part 15 5 rs1 ∷ part 7 5 rd ∷ []
+parts (RegisterImmediate op rd rs1 imm) = part 20 12 imm ∷ part 15 5 rs1 ∷ part 7 5 rd ∷ []
+parts (ShiftImmediate op rd rs1 shamt) = part 20 6 shamt ∷ part 15 5 rs1 ∷ part 7 5 rd ∷ []
+parts (ShiftImmediateWord op rd rs1 shamt) = part 20 5 shamt ∷ part 15 5 rs1 ∷ part 7 5 rd ∷ []
+parts (RegisterRegister op rd rs1 rs2) = part 20 5 rs2 ∷ part 15 5 rs1 ∷ part 7 5 rd ∷ []
 parts (Fence rd rs1 ordering) = part 20 12 ordering ∷ part 15 5 rs1 ∷ part 7 5 rd ∷ []
 parts (System op) = []
 parts (Csr op rd rs1 csr) = part 20 12 csr ∷ part 15 5 rs1 ∷ part 7 5 rd ∷ []
@@ -82,15 +82,15 @@ parts (MaskMemory direction vd rs1) = part 15 5 rs1 ∷ part 7 5 vd ∷ []
 -- all other bits
 abbrev pub bits : Instr → ℕ
 bits (Upper op rd imm) = upper_bits op
-bits (Jump rd offset) = 0x6f  -- jal
+bits (Jump rd imm) = 0x6f  -- jal
 bits (JumpRegister rd rs1 imm) = coded 0x67 0  -- jalr
-bits (Branch op rs1 rs2 offset) = branch_bits op
+bits (Branch op rs1 rs2 imm) = branch_bits op
 bits (Load op rd rs1 imm) = load_bits op
 bits (Store op rs1 rs2 imm) = store_bits op
-bits (OpImm op rd rs1 imm) = op_imm_bits op
-bits (ShiftImm op rd rs1 amount) = shift_imm_bits op
-bits (ShiftImmWord op rd rs1 amount) = shift_imm_word_bits op
-bits (Op op rd rs1 rs2) = op_bits op
+bits (RegisterImmediate op rd rs1 imm) = immediate_op_bits op
+bits (ShiftImmediate op rd rs1 shamt) = shift_immediate_bits op
+bits (ShiftImmediateWord op rd rs1 shamt) = shift_immediate_word_bits op
+bits (RegisterRegister op rd rs1 rs2) = register_op_bits op
 bits (Fence rd rs1 ordering) = coded 0x0f 0  -- fence
 bits (System op) = system_bits op
 bits (Csr op rd rs1 csr) = csr_bits op
@@ -120,15 +120,15 @@ bits (MaskMemory direction vd rs1) = mask_memory_bits direction
 -- the instruction of that operation with the operands that a word holds
 abbrev pub filled : Instr → ℕ → Instr
 filled (Upper op rd imm) word = Upper op (field 7 5 word) (field 12 20 word)
-filled (Jump rd offset) word = Jump (field 7 5 word) (jump_offset word)
+filled (Jump rd imm) word = Jump (field 7 5 word) (jump_offset word)
 filled (JumpRegister rd rs1 imm) word = JumpRegister (field 7 5 word) (field 15 5 word) (field 20 12 word)
-filled (Branch op rs1 rs2 offset) word = Branch op (field 15 5 word) (field 20 5 word) (branch_offset word)
+filled (Branch op rs1 rs2 imm) word = Branch op (field 15 5 word) (field 20 5 word) (branch_offset word)
 filled (Load op rd rs1 imm) word = Load op (field 7 5 word) (field 15 5 word) (field 20 12 word)
 filled (Store op rs1 rs2 imm) word = Store op (field 15 5 word) (field 20 5 word) (store_immediate word)
-filled (OpImm op rd rs1 imm) word = OpImm op (field 7 5 word) (field 15 5 word) (field 20 12 word)
-filled (ShiftImm op rd rs1 amount) word = ShiftImm op (field 7 5 word) (field 15 5 word) (field 20 6 word)
-filled (ShiftImmWord op rd rs1 amount) word = ShiftImmWord op (field 7 5 word) (field 15 5 word) (field 20 5 word)
-filled (Op op rd rs1 rs2) word = Op op (field 7 5 word) (field 15 5 word) (field 20 5 word)
+filled (RegisterImmediate op rd rs1 imm) word = RegisterImmediate op (field 7 5 word) (field 15 5 word) (field 20 12 word)
+filled (ShiftImmediate op rd rs1 shamt) word = ShiftImmediate op (field 7 5 word) (field 15 5 word) (field 20 6 word)
+filled (ShiftImmediateWord op rd rs1 shamt) word = ShiftImmediateWord op (field 7 5 word) (field 15 5 word) (field 20 5 word)
+filled (RegisterRegister op rd rs1 rs2) word = RegisterRegister op (field 7 5 word) (field 15 5 word) (field 20 5 word)
 filled (Fence rd rs1 ordering) word = Fence (field 7 5 word) (field 15 5 word) (field 20 12 word)
 filled (System op) word = System op
 filled (Csr op rd rs1 csr) word = Csr op (field 7 5 word) (field 15 5 word) (field 20 12 word)
@@ -164,8 +164,40 @@ filled (MaskMemory direction vd rs1) word = MaskMemory direction (field 7 5 word
 abbrev pub word_of : Instr → ℕ
 word_of i = sum_of (bits i) (parts i)
 
--- a pair of an operation and a source is one of the table's
+-- a pair of an operation and a source is one of the table's; other instructions have no such pair
 abbrev pub Allowed : Instr → Type 0
+Allowed (Upper op rd imm) = Unit {0}
+Allowed (Jump rd imm) = Unit {0}
+Allowed (JumpRegister rd rs1 imm) = Unit {0}
+Allowed (Branch op rs1 rs2 imm) = Unit {0}
+Allowed (Load op rd rs1 imm) = Unit {0}
+Allowed (Store op rs1 rs2 imm) = Unit {0}
+Allowed (RegisterImmediate op rd rs1 imm) = Unit {0}
+Allowed (ShiftImmediate op rd rs1 shamt) = Unit {0}
+Allowed (ShiftImmediateWord op rd rs1 shamt) = Unit {0}
+Allowed (RegisterRegister op rd rs1 rs2) = Unit {0}
+Allowed (Fence rd rs1 ordering) = Unit {0}
+Allowed (System op) = Unit {0}
+Allowed (Csr op rd rs1 csr) = Unit {0}
+Allowed (CsrImmediate op rd imm csr) = Unit {0}
+Allowed (SetVli rd rs1 vtype) = Unit {0}
+Allowed (SetIvli rd avl vtype) = Unit {0}
+Allowed (SetVl rd rs1 rs2) = Unit {0}
 Allowed (VectorArith arith vd vs2 vm) = has_form (line arith.0).forms (form_of arith.1) ≡ true
 Allowed (VectorCarry carry vd vs2) = has_form (carry_line carry.0).forms (form_of carry.1) ≡ true
-Allowed _ = Unit {0}
+Allowed (VectorMove source vd) = Unit {0}
+Allowed (WholeMove count vd vs2) = Unit {0}
+Allowed (MaskLogic op vd vs1 vs2) = Unit {0}
+Allowed (Compress vd vs1 vs2) = Unit {0}
+Allowed (MaskToScalar op rd vs2 vm) = Unit {0}
+Allowed (VectorExtend op vd vs2 vm) = Unit {0}
+Allowed (MaskUnary op vd vs2 vm) = Unit {0}
+Allowed (ElementIndex vd vm) = Unit {0}
+Allowed (MoveToScalar rd vs2) = Unit {0}
+Allowed (MoveToVector vd rs1) = Unit {0}
+Allowed (VectorUnit op width nf vd rs1 vm) = Unit {0}
+Allowed (VectorStrided direction width nf vd rs1 rs2 vm) = Unit {0}
+Allowed (VectorIndexed direction order width nf vd rs1 vs2 vm) = Unit {0}
+Allowed (WholeLoad count width vd rs1) = Unit {0}
+Allowed (WholeStore count vd rs1) = Unit {0}
+Allowed (MaskMemory direction vd rs1) = Unit {0}

@@ -237,7 +237,8 @@ vector_ops =
     ++ map vector_op.Reduce reduce_ops
     ++ map vector_op.Permute permute_ops
 
--- opcode and funct3 of a half of the opcode map, by form
+-- opcode and funct3 of a half of the opcode map, by form; no operation of the second half has an immediate, and the last place is
+-- that of the configuration-setting instructions
 abbrev pub major_bits : Major → Form → ℕ
 major_bits Opi form.V = coded 0x57 0
 major_bits Opi form.X = coded 0x57 4

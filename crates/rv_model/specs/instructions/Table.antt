@@ -3,7 +3,7 @@
 use Rattle.std.specs.Prelude.{◌⊎◌, ℕ, ◌≡◌, List, [], ◌∷◌, ◌++◌, map, Option, Some, None, true, ◌&&◌, nat_eq, bit_and, if◌then◌else◌}
 use Rattle.rv_model.specs.instructions.BitFields.{fixed}
 use Rattle.rv_model.specs.instructions.Sources.{source_of}
-use Rattle.rv_model.specs.instructions.FixedBits.{branch_ops, counts, csr_immediate_ops, csr_ops, directions, extend_ops, load_ops, mask_logic_ops, mask_to_scalar_ops, mask_unary_ops, op_imm_ops, op_ops, shift_imm_ops, shift_imm_word_ops, store_ops, system_ops, unit_ops, upper_ops, widths}
+use Rattle.rv_model.specs.instructions.FixedBits.{branch_ops, counts, csr_immediate_ops, csr_ops, directions, extend_ops, load_ops, mask_logic_ops, mask_to_scalar_ops, mask_unary_ops, immediate_ops, register_ops, shift_immediate_ops, shift_immediate_word_ops, store_ops, system_ops, unit_ops, upper_ops, widths}
 use Rattle.rv_model.specs.instructions.Operations.{has_form, line, carry_line, vector_ops, carry_ops, same_major, those}
 use Rattle.rv_model.specs.instructions.Layout.{parts, bits, filled}
 use Rattle.rv_model.specs.declared.instructions.operations.Width.{Width}
@@ -19,7 +19,7 @@ use Rattle.rv_model.specs.declared.instructions.operations.Form.TheVariants as f
 use Rattle.rv_model.specs.declared.instructions.operations.Major.{Major}
 use Rattle.rv_model.specs.declared.instructions.operations.Major.TheVariants.{Opi, Opm}
 use Rattle.rv_model.specs.declared.instructions.instruction.Instr.{Instr}
-use Rattle.rv_model.specs.declared.instructions.instruction.Instr.TheVariants.{Upper, Jump, JumpRegister, Branch, Load, Store, OpImm, ShiftImm, ShiftImmWord, Op, Fence, System, Csr, CsrImmediate, SetVli, SetIvli, SetVl, VectorArith, VectorCarry, VectorMove, WholeMove, MaskLogic, Compress, MaskToScalar, VectorExtend, MaskUnary, ElementIndex, MoveToScalar, MoveToVector, VectorUnit, VectorStrided, VectorIndexed, WholeLoad, WholeStore, MaskMemory}
+use Rattle.rv_model.specs.declared.instructions.instruction.Instr.TheVariants.{Upper, Jump, JumpRegister, Branch, Load, Store, RegisterImmediate, ShiftImmediate, ShiftImmediateWord, RegisterRegister, Fence, System, Csr, CsrImmediate, SetVli, SetIvli, SetVl, VectorArith, VectorCarry, VectorMove, WholeMove, MaskLogic, Compress, MaskToScalar, VectorExtend, MaskUnary, ElementIndex, MoveToScalar, MoveToVector, VectorUnit, VectorStrided, VectorIndexed, WholeLoad, WholeStore, MaskMemory}
 
 -- each of these with each width
 abbrev pub with_widths : {A : Type 0} → List A → List (A × Width)
@@ -63,13 +63,13 @@ pub data Family : Type 0 where
   -- RV32I and RV64I, "Load and Store Instructions"
   Stores : Family
   -- RV32I and RV64I, "Integer Register-Immediate Instructions"
-  OpImms : Family
+  RegisterImmediates : Family
   -- RV64I, "Integer Register-Immediate Instructions"
-  ShiftImms : Family
+  ShiftImmediates : Family
   -- RV64I, "Integer Register-Immediate Instructions"
-  ShiftImmWords : Family
+  ShiftImmediateWords : Family
   -- RV32I and RV64I, "Integer Register-Register Operations"; M, "Multiplication Operations", "Division Operations"
-  Ops : Family
+  RegisterRegisters : Family
   -- RV32I, "Memory Ordering Instructions"
   Fences : Family
   -- RV32I, "Environment Call and Breakpoints"
@@ -125,10 +125,10 @@ templates JumpRegisters = JumpRegister 0 0 0 ∷ []
 templates Branches = map (λ op. Branch op 0 0 0) branch_ops
 templates Loads = map (λ op. Load op 0 0 0) load_ops
 templates Stores = map (λ op. Store op 0 0 0) store_ops
-templates OpImms = map (λ op. OpImm op 0 0 0) op_imm_ops
-templates ShiftImms = map (λ op. ShiftImm op 0 0 0) shift_imm_ops
-templates ShiftImmWords = map (λ op. ShiftImmWord op 0 0 0) shift_imm_word_ops
-templates Ops = map (λ op. Op op 0 0 0) op_ops
+templates RegisterImmediates = map (λ op. RegisterImmediate op 0 0 0) immediate_ops
+templates ShiftImmediates = map (λ op. ShiftImmediate op 0 0 0) shift_immediate_ops
+templates ShiftImmediateWords = map (λ op. ShiftImmediateWord op 0 0 0) shift_immediate_word_ops
+templates RegisterRegisters = map (λ op. RegisterRegister op 0 0 0) register_ops
 templates Fences = Fence 0 0 0 ∷ []
 templates Systems = map (λ op. System op) system_ops
 templates Csrs = map (λ op. Csr op 0 0 0) csr_ops
@@ -158,9 +158,9 @@ templates MaskMemories = map (λ op. MaskMemory op 0 0) directions
 -- every family
 abbrev pub families : List Family
 families =
-    Uppers ∷ Jumps ∷ JumpRegisters ∷ Branches ∷ Loads ∷ Stores ∷ OpImms ∷ ShiftImms ∷ ShiftImmWords ∷ Ops ∷
+    Uppers ∷ Jumps ∷ JumpRegisters ∷ Branches ∷ Loads ∷ Stores ∷ RegisterImmediates ∷ ShiftImmediates ∷ ShiftImmediateWords ∷ RegisterRegisters ∷
     Fences ∷ Systems ∷ Csrs ∷ CsrImmediates ∷ SetVlis ∷ SetIvlis ∷ SetVls ∷ Ariths Opi form.V ∷
-    Ariths Opi form.X ∷ Ariths Opi form.I ∷ Ariths Opm form.V ∷ Ariths Opm form.X ∷ Ariths Opm form.I ∷
+    Ariths Opi form.X ∷ Ariths Opi form.I ∷ Ariths Opm form.V ∷ Ariths Opm form.X ∷
     Carries form.V ∷ Carries form.X ∷ Carries form.I ∷ Moves form.V ∷ Moves form.X ∷ Moves form.I ∷
     WholeMoves ∷ MaskLogics ∷ Compresses ∷ MasksToScalar ∷ Extends ∷ MaskUnaries ∷ ElementIndices ∷
     MovesToScalar ∷ MovesToVector ∷ Units ∷ Strideds ∷ Indexeds ∷ WholeLoads ∷ WholeStores ∷ MaskMemories ∷ []

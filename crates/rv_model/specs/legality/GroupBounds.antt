@@ -2,11 +2,12 @@
 use Rattle.std.specs.Prelude.{ℕ, ◌+◌, ◌≤◌, ⊤}
 use Rattle.rv_model.specs.declared.instructions.source.Source.{Source}
 use Rattle.rv_model.specs.declared.instructions.source.Source.TheVariants as source
-use Rattle.rv_model.specs.vector.Groups.{registers}
+use Rattle.rv_model.specs.declared.vector.sizes.TheConstants.{VECTOR_REGISTERS}
+use Rattle.rv_model.specs.vector.Registers.{registers}
 
 -- a group of this multiplier, in eighths of a register
 abbrev pub IsInside : ℕ → ℕ → Type 0
-IsInside first emul = first + registers emul ≤ 32
+IsInside first emul = first + registers emul ≤ VECTOR_REGISTERS
 
 -- the registers of a second operand, if it has any
 abbrev pub SourceIsInside : Source → ℕ → Type 0

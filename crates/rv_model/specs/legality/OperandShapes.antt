@@ -4,11 +4,11 @@ use Rattle.std.specs.Prelude.{ℕ, ◌*◌, ◌/◌, Bool, List, [], ◌∷◌, 
 use Rattle.rv_model.specs.declared.instructions.operations.VectorOp.{VectorOp}
 use Rattle.rv_model.specs.declared.instructions.operations.VectorOp.TheVariants as op
 use Rattle.rv_model.specs.declared.instructions.operations.WidenOp.{WidenOp}
-use Rattle.rv_model.specs.declared.instructions.operations.WidenOp.TheVariants.{VwadduW, VwaddW, VwsubuW, VwsubW}
+use Rattle.rv_model.specs.declared.instructions.operations.WidenOp.TheVariants.{Vwaddu, Vwadd, Vwsubu, Vwsub, VwadduW, VwaddW, VwsubuW, VwsubW, Vwmulu, Vwmulsu, Vwmul}
 use Rattle.rv_model.specs.declared.instructions.operations.MultiplyAddOp.{MultiplyAddOp}
-use Rattle.rv_model.specs.declared.instructions.operations.MultiplyAddOp.TheVariants.{Vmadd, Vnmsub, Vmacc, Vnmsac}
+use Rattle.rv_model.specs.declared.instructions.operations.MultiplyAddOp.TheVariants.{Vmadd, Vnmsub, Vmacc, Vnmsac, Vwmaccu, Vwmacc, Vwmaccus, Vwmaccsu}
 use Rattle.rv_model.specs.declared.instructions.operations.ReduceOp.{ReduceOp}
-use Rattle.rv_model.specs.declared.instructions.operations.ReduceOp.TheVariants.{Vwredsumu, Vwredsum}
+use Rattle.rv_model.specs.declared.instructions.operations.ReduceOp.TheVariants.{Vredsum, Vredand, Vredor, Vredxor, Vredminu, Vredmin, Vredmaxu, Vredmax, Vwredsumu, Vwredsum}
 use Rattle.rv_model.specs.declared.instructions.operations.PermuteOp.{PermuteOp}
 use Rattle.rv_model.specs.declared.instructions.operations.PermuteOp.TheVariants.{Vrgather, Vrgatherei16, Vslideup, Vslidedown, Vslide1up, Vslide1down}
 use Rattle.rv_model.specs.declared.legality.Operand.{Operand}
@@ -51,23 +51,39 @@ v0 unmasked = mask (if unmasked then Unused else Control) 0
 -- ---- shapes
 
 abbrev pub widen_shape : WidenOp → Shape
+widen_shape Vwaddu = Widening
+widen_shape Vwadd = Widening
+widen_shape Vwsubu = Widening
+widen_shape Vwsub = Widening
 widen_shape VwadduW = WideSource
 widen_shape VwaddW = WideSource
 widen_shape VwsubuW = WideSource
 widen_shape VwsubW = WideSource
-widen_shape _ = Widening
+widen_shape Vwmulu = Widening
+widen_shape Vwmulsu = Widening
+widen_shape Vwmul = Widening
 
 abbrev pub multiply_add_shape : MultiplyAddOp → Shape
 multiply_add_shape Vmadd = Single
 multiply_add_shape Vnmsub = Single
 multiply_add_shape Vmacc = Single
 multiply_add_shape Vnmsac = Single
-multiply_add_shape _ = Widening
+multiply_add_shape Vwmaccu = Widening
+multiply_add_shape Vwmacc = Widening
+multiply_add_shape Vwmaccus = Widening
+multiply_add_shape Vwmaccsu = Widening
 
 abbrev pub reduce_shape : ReduceOp → Shape
+reduce_shape Vredsum = Reduction
+reduce_shape Vredand = Reduction
+reduce_shape Vredor = Reduction
+reduce_shape Vredxor = Reduction
+reduce_shape Vredminu = Reduction
+reduce_shape Vredmin = Reduction
+reduce_shape Vredmaxu = Reduction
+reduce_shape Vredmax = Reduction
 reduce_shape Vwredsumu = WideReduction
 reduce_shape Vwredsum = WideReduction
-reduce_shape _ = Reduction
 
 abbrev pub permute_shape : PermuteOp → Shape
 permute_shape Vrgather = Gather
@@ -104,14 +120,25 @@ destination WideReduction vd t = whole Free 1 vd (2 * sew_bits t.sew)
 abbrev pub first_source : Shape → ℕ → VType → Operand
 first_source WideSource vs2 t = group Read vs2 (2 * sew_bits t.sew) t
 first_source Narrowing vs2 t = group Read vs2 (2 * sew_bits t.sew) t
-first_source _ vs2 t = group Read vs2 (sew_bits t.sew) t
+first_source Single vs2 t = group Read vs2 (sew_bits t.sew) t
+first_source Widening vs2 t = group Read vs2 (sew_bits t.sew) t
+first_source Compare vs2 t = group Read vs2 (sew_bits t.sew) t
+first_source Gather vs2 t = group Read vs2 (sew_bits t.sew) t
+first_source GatherIndices16 vs2 t = group Read vs2 (sew_bits t.sew) t
+first_source Reduction vs2 t = group Read vs2 (sew_bits t.sew) t
+first_source WideReduction vs2 t = group Read vs2 (sew_bits t.sew) t
 
 -- vs1
 abbrev pub vector_source : Shape → ℕ → VType → Operand
 vector_source GatherIndices16 vs1 t = group Read vs1 16 t
 vector_source Reduction vs1 t = whole Read 1 vs1 (sew_bits t.sew)
 vector_source WideReduction vs1 t = whole Read 1 vs1 (2 * sew_bits t.sew)
-vector_source _ vs1 t = group Read vs1 (sew_bits t.sew) t
+vector_source Single vs1 t = group Read vs1 (sew_bits t.sew) t
+vector_source Widening vs1 t = group Read vs1 (sew_bits t.sew) t
+vector_source WideSource vs1 t = group Read vs1 (sew_bits t.sew) t
+vector_source Narrowing vs1 t = group Read vs1 (sew_bits t.sew) t
+vector_source Compare vs1 t = group Read vs1 (sew_bits t.sew) t
+vector_source Gather vs1 t = group Read vs1 (sew_bits t.sew) t
 
 -- vs1, or a second source that has no vector registers
 abbrev pub second_source : Shape → Source → VType → Operand

@@ -8,7 +8,8 @@ use Rattle.rv_model.specs.declared.legality.Content.{Content}
 use Rattle.rv_model.specs.declared.legality.Content.TheVariants.{Mask, Elements}
 use Rattle.rv_model.specs.declared.legality.Role.{Role}
 use Rattle.rv_model.specs.declared.legality.Role.TheVariants.{Read, Control, Write, Apart}
-use Rattle.rv_model.specs.vector.Groups.{registers}
+use Rattle.rv_model.specs.declared.vector.sizes.TheConstants.{VECTOR_REGISTERS}
+use Rattle.rv_model.specs.vector.Registers.{registers}
 
 -- the effective element width in bits; a mask's is 1
 abbrev pub eew : Content → ℕ
@@ -32,14 +33,14 @@ abbrev pub IsWidth : Content → Type 0
 IsWidth Mask = ⊤
 IsWidth (Elements w) = (8 ≤ w) × (w ≤ 64)
 
--- a multiplier of 1/8 to 8, for the fields together at most 8, aligned, and no register past 31
+-- a multiplier of 1/8 to 8, for the fields together at most 8, aligned, and no register past the last
 pub record IsGroup (o : Operand) : Type 0 where
   pub width : IsWidth o.content
   pub least : 1 ≤ o.emul
   pub most : o.emul ≤ 64
   pub together : o.emul * o.fields ≤ 64
   pub aligned : o.first % registers o.emul ≡ 0
-  pub inside : end o ≤ 32
+  pub inside : end o ≤ VECTOR_REGISTERS
 
 -- a destination may overlap a source of its own element width; one that is wider and begins with it; or one that is
 -- narrower, has a multiplier of at least 1, and ends with it
@@ -81,7 +82,7 @@ is_group o =
     && (nat_le o.emul 64
     && (nat_le (o.emul * o.fields) 64
     && ((o.first % registers o.emul == 0)
-    && nat_le (end o) 32))))
+    && nat_le (end o) VECTOR_REGISTERS))))
 
 abbrev pub overlaps : Operand → Operand → Bool
 overlaps a b = nat_lt (max a.first b.first) (min (end a) (end b))

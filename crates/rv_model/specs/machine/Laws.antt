@@ -3,33 +3,34 @@ use Rattle.std.specs.Prelude.{ℕ, ◌≡◌, ◌≤◌, List, length}
 use Rattle.rv_model.specs.machine.PrivateMachine.{solo_from, solo, end_of}
 use Rattle.rv_model.specs.machine.Script.{World, part, whole_from, whole, after_script, own_from, own, lines}
 use Rattle.rv_model.specs.machine.Setup.{Setup}
+use Rattle.rv_model.specs.machine.Users.{user_count}
 
--- Whatever the eight machines are and whatever the script, a user's lines of the output are exactly what the user's machine
+-- Whatever the users' machines are and whatever the script, a user's lines of the output are exactly what the user's machine
 -- prints when it alone is given the user's own commands and slices, in their order.
 abbrev pub EachUserAlone : Type 0
 EachUserAlone =
-    (setup : Setup) (w : World) (script : List ℕ) (u : ℕ) → length w.parts ≡ 8 → 1 ≤ u → u ≤ 8
+    (setup : Setup) (w : World) (script : List ℕ) (u : ℕ) → length w.parts ≡ user_count → 1 ≤ u → u ≤ user_count
     → lines u (whole_from setup w script) ≡ solo_from setup (part u w) (own_from setup u w script)
 
 -- The same for new machines: everyone is absent at first.
 abbrev pub EachNewUserAlone : Type 0
 EachNewUserAlone =
-    (setup : Setup) (script : List ℕ) (u : ℕ) → 1 ≤ u → u ≤ 8
+    (setup : Setup) (script : List ℕ) (u : ℕ) → 1 ≤ u → u ≤ user_count
     → lines u (whole setup script) ≡ solo setup (own setup u script)
 
 -- After the script the user's machine stands where it would stand alone.
 abbrev pub EachUserEndsAlone : Type 0
 EachUserEndsAlone =
-    (setup : Setup) (w : World) (script : List ℕ) (u : ℕ) → length w.parts ≡ 8 → 1 ≤ u → u ≤ 8
+    (setup : Setup) (w : World) (script : List ℕ) (u : ℕ) → length w.parts ≡ user_count → 1 ≤ u → u ≤ user_count
     → part u (after_script setup w script) ≡ end_of setup (part u w) (own_from setup u w script)
 
 -- So two scripts that give a user the same commands and slices show that user the same lines, whatever the others do.
 abbrev pub OthersChangeNothing : Type 0
 OthersChangeNothing =
-    (setup : Setup) (one two : List ℕ) (u : ℕ) → 1 ≤ u → u ≤ 8 → own setup u one ≡ own setup u two
+    (setup : Setup) (one two : List ℕ) (u : ℕ) → 1 ≤ u → u ≤ user_count → own setup u one ≡ own setup u two
     → lines u (whole setup one) ≡ lines u (whole setup two)
 
 -- No script changes how many machines there are.
 abbrev pub MachinesStayEight : Type 0
 MachinesStayEight =
-    (setup : Setup) (w : World) (script : List ℕ) → length w.parts ≡ 8 → length (after_script setup w script).parts ≡ 8
+    (setup : Setup) (w : World) (script : List ℕ) → length w.parts ≡ user_count → length (after_script setup w script).parts ≡ user_count

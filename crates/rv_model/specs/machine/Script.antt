@@ -1,12 +1,13 @@
--- Eight private machines side by side, and what a script makes of them: whose each line is, the events in order, the whole
+-- All users' private machines side by side, and what a script makes of them: whose each line is, the events in order, the whole
 -- output, and one user's part of each.
 use Rattle.std.specs.Prelude.{ℕ, ◌+◌, ◌-◌, ◌≤◌, ◌==◌, ◌&&◌, nat_lt, nat_le, Bool, false, List, [], ◌∷◌, ◌++◌, length, drop, map, filter, replicate, None, if◌then◌else◌, slice_index_or, slice_index, slice_set, codes}
 use Rattle.rv_model.specs.machine.PrivateMachine.{Private, Outcome, Event, Command, event}
 use Rattle.rv_model.specs.machine.Setup.{Setup}
+use Rattle.rv_model.specs.machine.Users.{user_count}
 use Rattle.rv_model.specs.machine.VectorUnit.{VectorUnit, unused_unit}
 use Rattle.rv_model.specs.text.Lines.{text, pieces}
 
--- the machines of users 1 to 8, who was last granted a slice in turn, and the vector unit
+-- the machines of all users in order, who was last granted a slice in turn, and the vector unit
 pub record World : Type 0 where
   pub parts : List Private
   pub cursor : ℕ
@@ -14,7 +15,7 @@ pub record World : Type 0 where
 
 -- everyone is absent, user 1 is the first to be granted a slice, and nobody has used the vector unit
 unfoldable pub new_world : World
-new_world = record { parts = replicate 8 None; cursor = 8; unit = unused_unit }
+new_world = record { parts = replicate user_count None; cursor = user_count; unit = unused_unit }
 
 -- a user's machine
 abbrev pub part : ℕ → World → Private
@@ -31,12 +32,12 @@ pub data Kind : Type 0 where
   Operator : List ℕ → Kind
   Of : ℕ → List ℕ → Kind
 
--- a line of at most 1,024 bytes by its first two bytes: a digit from 1 to 8 or a star, and a space
+-- a line of at most 1,024 bytes by its first two bytes: a user's digit or a star, and a space
 abbrev pub prefixed : List ℕ → Kind
 prefixed [] = Empty
 prefixed (d ∷ []) = Bad
 prefixed (d ∷ s ∷ rest) =
-    if s == 32 then (if d == 42 then Operator rest else if nat_le 49 d && nat_le d 56 then Of (d - 48) rest else Bad)
+    if s == 32 then (if d == 42 then Operator rest else if nat_le 49 d && nat_le d (48 + user_count) then Of (d - 48) rest else Bad)
     else Bad
 
 unfoldable pub kind_of : List ℕ → Kind
@@ -141,7 +142,7 @@ of_user u all = map (λ line. drop 2 line) (filter (λ line. slice_index line 0 
 unfoldable pub lines : ℕ → List ℕ → List (List ℕ)
 lines u output = of_user u (pieces output)
 
--- all happens to one of the eight
+-- all happens to users
 abbrev pub AreUsers : List Happening → Type 0
 AreUsers [] = Unit {0}
-AreUsers (h ∷ hs) = (1 ≤ h.user) × (h.user ≤ 8) × AreUsers hs
+AreUsers (h ∷ hs) = (1 ≤ h.user) × (h.user ≤ user_count) × AreUsers hs

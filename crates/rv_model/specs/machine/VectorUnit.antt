@@ -2,6 +2,7 @@
 -- last, whose states are saved, and how often a state was saved, restored and used for the first time (Privileged Architecture
 -- 20211203, section 3.1.6.6, the field VS). Each user has a vector state of its own so far, so nothing is counted yet.
 use Rattle.std.specs.Prelude.{ℕ, Bool, false, List, Option, None, replicate}
+use Rattle.rv_model.specs.machine.Users.{user_count}
 
 pub record VectorUnit : Type 0 where
   pub owner : Option ℕ
@@ -13,4 +14,4 @@ pub record VectorUnit : Type 0 where
 
 -- nobody has used it, and nobody's state is saved
 abbrev pub unused_unit : VectorUnit
-unused_unit = record { owner = None; dirty = false; saved = replicate 8 false; saves = 0; restores = 0; first_uses = 0 }
+unused_unit = record { owner = None; dirty = false; saved = replicate user_count false; saves = 0; restores = 0; first_uses = 0 }

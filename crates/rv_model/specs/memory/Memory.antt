@@ -1,5 +1,5 @@
 -- A user's memory: a finite map from addresses to a byte and what may be done with it. Memory is one space of bytes, by address
--- (Unprivileged ISA, section 1.4). It is mapped in pages of 4,096 bytes, each with permissions to read, write and execute, as the
+-- (Unprivileged ISA, section 1.4). It is mapped in pages, each with permissions to read, write and execute, as the
 -- leaf entries of page tables have them (Privileged Architecture, section 4.3.1). An access is allowed where each of its bytes is.
 use Rattle.std.specs.Prelude.{◌≡◌, ◌↔◌, ◌<◌, length, slice_index, ℕ, ◌+◌, ◌*◌, ◌/◌, ◌-◌, Bool, true, false, ◌&&◌, cond, nat_lt, nat_le, List, [], ◌∷◌, zero, suc, map, Option, Some, None, refl}
 use Rattle.std.specs.List.{list_all, list_any, range_with_len}
@@ -12,6 +12,7 @@ use Rattle.rv_model.specs.declared.memory.Access.{Access}
 use Rattle.rv_model.specs.declared.memory.Access.TheVariants.{Fetch, Load, Store, Monitor}
 use Rattle.rv_model.specs.declared.memory.MapRefusal.{MapRefusal}
 use Rattle.rv_model.specs.declared.memory.MapRefusal.TheVariants.{Quota, AlreadyMapped}
+use Rattle.rv_model.specs.memory.Sizes.{page_size, page_quota}
 
 -- what stands at a mapped address
 pub record Cell : Type 0 where
@@ -72,20 +73,20 @@ add_cells m a (suc n) f = insert (add_cells m a n f) (a + n) (f n)
 
 -- pages of zeros
 unfoldable pub with_pages : Memory → ℕ → ℕ → Permissions → Memory
-with_pages m page count permissions = add_cells m (4096 * page) (4096 * count) (λ _. record { byte = 0; permissions = permissions })
+with_pages m page count permissions = add_cells m (page_size * page) (page_size * count) (λ _. record { byte = 0; permissions = permissions })
 
 -- how many pages are mapped
 unfoldable pub page_count : Memory → ℕ
-page_count m = len m / 4096
+page_count m = len m / page_size
 
 -- whether one of these pages is mapped
 unfoldable pub any_page_mapped : Memory → ℕ → ℕ → Bool
-any_page_mapped m page count = list_any (λ p. contains_key m (4096 * p)) (range_with_len page count)
+any_page_mapped m page count = list_any (λ p. contains_key m (page_size * p)) (range_with_len page count)
 
 -- why these pages can't be mapped
 unfoldable pub map_refusal : Memory → ℕ → ℕ → Option MapRefusal
 map_refusal m page count =
-    cond (nat_lt 256 (page_count m + count)) (Some Quota)
+    cond (nat_lt page_quota (page_count m + count)) (Some Quota)
     (cond (any_page_mapped m page count) (Some AlreadyMapped) None)
 
 -- ---- the same by address, as the laws of this crate say it
@@ -106,12 +107,12 @@ KeepsPermissions = (access : Access) (m : Memory) (a : ℕ) (bs : List ℕ) (x :
 -- new pages hold zeros, and all other bytes are as they were
 abbrev pub MapsZeros : Type 0
 MapsZeros = (m : Memory) (page count : ℕ) (permissions : Permissions) (x : ℕ)
-    → byte_at (with_pages m page count permissions) x ≡ cond (is_within (4096 * page) (4096 * count) x) 0 (byte_at m x)
+    → byte_at (with_pages m page count permissions) x ≡ cond (is_within (page_size * page) (page_size * count) x) 0 (byte_at m x)
 
 -- new pages allow what their permissions do, and all other addresses what they did
 abbrev pub MapsPermissions : Type 0
 MapsPermissions = (access : Access) (m : Memory) (page count : ℕ) (permissions : Permissions) (x : ℕ)
-    → is_allowed access (with_pages m page count permissions) x ≡ cond (is_within (4096 * page) (4096 * count) x) (permits access permissions) (is_allowed access m x)
+    → is_allowed access (with_pages m page count permissions) x ≡ cond (is_within (page_size * page) (page_size * count) x) (permits access permissions) (is_allowed access m x)
 
 -- bytes are read one by one from the first address on
 abbrev pub ReadsBytes : Type 0

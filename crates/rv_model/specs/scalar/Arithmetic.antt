@@ -1,19 +1,19 @@
 -- What the operations of scalar registers give, as whole numbers. A register is an unsigned number of 64 bits, and is read as
 -- two's complement where an operation is signed (Unprivileged ISA 20191213, sections 2.4, 5.2, 7.1 and 7.2).
-use Rattle.std.specs.Prelude.{ℕ, ◌+◌, ◌-◌, ◌*◌, ◌/◌, ◌%◌, ◌^◌, ◌==◌, ◌&&◌, nat_lt, Bool, if◌then◌else◌, pos, ◌*ℤ◌, int_lt, int_div, int_rem, bit_and, bit_or, bit_xor}
-use Rattle.std.specs.Int.{Width, w32, w64, w128, cast_signed, cast_unsigned, int_shr, from_bool}
+use Rattle.std.specs.Prelude.{ℕ, ◌+◌, ◌-◌, ◌*◌, ◌/◌, ◌%◌, ◌^◌, ◌==◌, ◌&&◌, nat_lt, Bool, if◌then◌else◌, ℤ, pos, ◌*ℤ◌, int_lt, int_div, int_rem, bit_and, bit_or, bit_xor}
+use Rattle.std.specs.Int.{Width, w32, w64, cast_signed, cast_unsigned, int_shr, from_bool}
 use mir.Val.{bits, hbits}
 use Rattle.rv_model.specs.declared.instructions.operations.UpperOp.{UpperOp}
 use Rattle.rv_model.specs.declared.instructions.operations.UpperOp.TheVariants.{Lui, Auipc}
-use Rattle.rv_model.specs.declared.instructions.operations.OpOp.{OpOp}
-use Rattle.rv_model.specs.declared.instructions.operations.OpOp.TheVariants.{Add, Sub, Sll, Slt, Sltu, Xor, Srl, Sra, Or, And, Mul, Mulh, Mulhsu, Mulhu, Div, Divu, Rem, Remu, Addw, Subw, Sllw, Srlw, Sraw, Mulw, Divw, Divuw, Remw, Remuw}
-use Rattle.rv_model.specs.declared.instructions.operations.OpImmOp.{OpImmOp}
-use Rattle.rv_model.specs.declared.instructions.operations.OpImmOp.TheVariants.{Addi, Slti, Sltiu, Xori, Ori, Andi, Addiw}
-use Rattle.rv_model.specs.declared.instructions.operations.ShiftImmOp.{ShiftImmOp}
-use Rattle.rv_model.specs.declared.instructions.operations.ShiftImmOp.TheVariants.{Slli, Srli, Srai}
-use Rattle.rv_model.specs.declared.instructions.operations.ShiftImmWordOp.{ShiftImmWordOp}
-use Rattle.rv_model.specs.declared.instructions.operations.ShiftImmWordOp.TheVariants.{Slliw, Srliw, Sraiw}
-use Rattle.rv_model.specs.instructions.Immediates.{sign_extended}
+use Rattle.rv_model.specs.declared.instructions.operations.RegisterOp.{RegisterOp}
+use Rattle.rv_model.specs.declared.instructions.operations.RegisterOp.TheVariants.{Add, Sub, Sll, Slt, Sltu, Xor, Srl, Sra, Or, And, Mul, Mulh, Mulhsu, Mulhu, Div, Divu, Rem, Remu, Addw, Subw, Sllw, Srlw, Sraw, Mulw, Divw, Divuw, Remw, Remuw}
+use Rattle.rv_model.specs.declared.instructions.operations.ImmediateOp.{ImmediateOp}
+use Rattle.rv_model.specs.declared.instructions.operations.ImmediateOp.TheVariants.{Addi, Slti, Sltiu, Xori, Ori, Andi, Addiw}
+use Rattle.rv_model.specs.declared.instructions.operations.ShiftImmediateOp.{ShiftImmediateOp}
+use Rattle.rv_model.specs.declared.instructions.operations.ShiftImmediateOp.TheVariants.{Slli, Srli, Srai}
+use Rattle.rv_model.specs.declared.instructions.operations.ShiftImmediateWordOp.{ShiftImmediateWordOp}
+use Rattle.rv_model.specs.declared.instructions.operations.ShiftImmediateWordOp.TheVariants.{Slliw, Srliw, Sraiw}
+use Rattle.rv_model.specs.instructions.Immediates.{i_immediate, u_immediate, sign_extended}
 
 -- ---- operations of a width, on unsigned numbers of that width
 
@@ -28,6 +28,18 @@ difference w a b = (a + (2 ^ bits w - b)) % 2 ^ bits w
 -- modulo 2 to the width
 abbrev pub product : Width → ℕ → ℕ → ℕ
 product w a b = a * b % 2 ^ bits w
+
+-- the upper half of the whole product
+abbrev pub high_product : Width → ℕ → ℕ → ℕ
+high_product w a b = a * b / 2 ^ bits w
+
+-- the upper half of the whole product of two signed numbers
+abbrev pub signed_high_product : Width → ℕ → ℕ → ℤ
+signed_high_product w a b = int_shr (cast_signed w a *ℤ cast_signed w b) (bits w)
+
+-- the upper half of the whole product of a signed and an unsigned number
+abbrev pub mixed_high_product : Width → ℕ → ℕ → ℤ
+mixed_high_product w a b = int_shr (cast_signed w a *ℤ pos b) (bits w)
 
 -- shifted left by the low bits of b: 5 of them at 32 bits, 6 at 64
 abbrev pub shifted_left : Width → ℕ → ℕ → ℕ
@@ -74,71 +86,71 @@ abbrev pub of_words : (Width → ℕ → ℕ → ℕ) → ℕ → ℕ → ℕ
 of_words operation a b = sign_extended 32 (operation w32 (a % 2 ^ 32) (b % 2 ^ 32))
 
 -- an operation of two registers
-abbrev pub op_value : OpOp → ℕ → ℕ → ℕ
-op_value Add a b = sum w64 a b
-op_value Sub a b = difference w64 a b
-op_value Sll a b = shifted_left w64 a b
-op_value Slt a b = from_bool (int_lt (cast_signed w64 a) (cast_signed w64 b))
-op_value Sltu a b = from_bool (nat_lt a b)
-op_value Xor a b = bit_xor a b
-op_value Srl a b = shifted_right w64 a b
-op_value Sra a b = shifted_right_signed w64 a b
-op_value Or a b = bit_or a b
-op_value And a b = bit_and a b
-op_value Mul a b = product w64 a b
-op_value Mulh a b = cast_unsigned w128 (cast_signed w64 a *ℤ cast_signed w64 b) / 2 ^ 64
-op_value Mulhsu a b = cast_unsigned w128 (cast_signed w64 a *ℤ pos b) / 2 ^ 64
-op_value Mulhu a b = a * b / 2 ^ 64
-op_value Div a b = signed_quotient w64 a b
-op_value Divu a b = quotient w64 a b
-op_value Rem a b = signed_remainder w64 a b
-op_value Remu a b = remainder w64 a b
-op_value Addw a b = of_words sum a b
-op_value Subw a b = of_words difference a b
-op_value Sllw a b = of_words shifted_left a b
-op_value Srlw a b = of_words shifted_right a b
-op_value Sraw a b = of_words shifted_right_signed a b
-op_value Mulw a b = of_words product a b
-op_value Divw a b = of_words signed_quotient a b
-op_value Divuw a b = of_words quotient a b
-op_value Remw a b = of_words signed_remainder a b
-op_value Remuw a b = of_words remainder a b
+abbrev pub register_op_value : RegisterOp → ℕ → ℕ → ℕ
+register_op_value Add a b = sum w64 a b
+register_op_value Sub a b = difference w64 a b
+register_op_value Sll a b = shifted_left w64 a b
+register_op_value Slt a b = from_bool (int_lt (cast_signed w64 a) (cast_signed w64 b))
+register_op_value Sltu a b = from_bool (nat_lt a b)
+register_op_value Xor a b = bit_xor a b
+register_op_value Srl a b = shifted_right w64 a b
+register_op_value Sra a b = shifted_right_signed w64 a b
+register_op_value Or a b = bit_or a b
+register_op_value And a b = bit_and a b
+register_op_value Mul a b = product w64 a b
+register_op_value Mulh a b = cast_unsigned w64 (signed_high_product w64 a b)
+register_op_value Mulhsu a b = cast_unsigned w64 (mixed_high_product w64 a b)
+register_op_value Mulhu a b = high_product w64 a b
+register_op_value Div a b = signed_quotient w64 a b
+register_op_value Divu a b = quotient w64 a b
+register_op_value Rem a b = signed_remainder w64 a b
+register_op_value Remu a b = remainder w64 a b
+register_op_value Addw a b = of_words sum a b
+register_op_value Subw a b = of_words difference a b
+register_op_value Sllw a b = of_words shifted_left a b
+register_op_value Srlw a b = of_words shifted_right a b
+register_op_value Sraw a b = of_words shifted_right_signed a b
+register_op_value Mulw a b = of_words product a b
+register_op_value Divw a b = of_words signed_quotient a b
+register_op_value Divuw a b = of_words quotient a b
+register_op_value Remw a b = of_words signed_remainder a b
+register_op_value Remuw a b = of_words remainder a b
 
 -- the operation of two registers that an operation with an immediate does
-abbrev pub op_imm_form : OpImmOp → OpOp
-op_imm_form Addi = Add
-op_imm_form Slti = Slt
-op_imm_form Sltiu = Sltu
-op_imm_form Xori = Xor
-op_imm_form Ori = Or
-op_imm_form Andi = And
-op_imm_form Addiw = Addw
+abbrev pub immediate_op_form : ImmediateOp → RegisterOp
+immediate_op_form Addi = Add
+immediate_op_form Slti = Slt
+immediate_op_form Sltiu = Sltu
+immediate_op_form Xori = Xor
+immediate_op_form Ori = Or
+immediate_op_form Andi = And
+immediate_op_form Addiw = Addw
 
 -- an operation of a register and an immediate of 12 bits, sign-extended
-abbrev pub op_imm_value : OpImmOp → ℕ → ℕ → ℕ
-op_imm_value op a imm = op_value (op_imm_form op) a (sign_extended 12 imm)
+abbrev pub immediate_op_value : ImmediateOp → ℕ → ℕ → ℕ
+immediate_op_value op a imm = register_op_value (immediate_op_form op) a (i_immediate imm)
 
 -- the shift by a register that a shift by an immediate does
-abbrev pub shift_imm_form : ShiftImmOp → OpOp
-shift_imm_form Slli = Sll
-shift_imm_form Srli = Srl
-shift_imm_form Srai = Sra
+abbrev pub shift_immediate_form : ShiftImmediateOp → RegisterOp
+shift_immediate_form Slli = Sll
+shift_immediate_form Srli = Srl
+shift_immediate_form Srai = Sra
 
 -- a shift by an immediate of 6 bits
-abbrev pub shift_imm_value : ShiftImmOp → ℕ → ℕ → ℕ
-shift_imm_value op a amount = op_value (shift_imm_form op) a amount
+abbrev pub shift_immediate_value : ShiftImmediateOp → ℕ → ℕ → ℕ
+shift_immediate_value op a shamt = register_op_value (shift_immediate_form op) a shamt
 
 -- the shift of 32 bits by a register that a shift by an immediate does
-abbrev pub shift_imm_word_form : ShiftImmWordOp → OpOp
-shift_imm_word_form Slliw = Sllw
-shift_imm_word_form Srliw = Srlw
-shift_imm_word_form Sraiw = Sraw
+abbrev pub shift_immediate_word_form : ShiftImmediateWordOp → RegisterOp
+shift_immediate_word_form Slliw = Sllw
+shift_immediate_word_form Srliw = Srlw
+shift_immediate_word_form Sraiw = Sraw
 
 -- a shift of 32 bits by an immediate of 5 bits
-abbrev pub shift_imm_word_value : ShiftImmWordOp → ℕ → ℕ → ℕ
-shift_imm_word_value op a amount = op_value (shift_imm_word_form op) a amount
+abbrev pub shift_immediate_word_value : ShiftImmediateWordOp → ℕ → ℕ → ℕ
+shift_immediate_word_value op a shamt = register_op_value (shift_immediate_word_form op) a shamt
 
 -- the upper 20 bits of a 32-bit number, sign-extended; alone, or added to the program counter
 abbrev pub upper_value : UpperOp → ℕ → ℕ → ℕ
-upper_value Lui pc imm = sign_extended 32 (imm * 2 ^ 12)
-upper_value Auipc pc imm = (pc + sign_extended 32 (imm * 2 ^ 12)) % 2 ^ 64
+upper_value Lui pc imm = u_immediate imm
+upper_value Auipc pc imm = (pc + u_immediate imm) % 2 ^ 64

@@ -9,9 +9,9 @@ use Rattle.rv_model.specs.declared.instructions.operations.StoreOp.TheVariants.{
 use Rattle.rv_model.specs.instructions.Immediates.{sign_extended}
 use Rattle.rv_model.specs.memory.Memory.{Memory, bytes_at}
 
--- a register and a signed immediate of 12 bits
+-- a register and a sign-extended immediate
 abbrev pub access_address : ℕ → ℕ → ℕ
-access_address base imm = (base + sign_extended 12 imm) % 2 ^ 64
+access_address base immediate = (base + immediate) % 2 ^ 64
 
 -- the number at an address
 abbrev pub number_at : Width → Memory → ℕ → ℕ

@@ -28,9 +28,12 @@ pub record Stepped : Type 0 where
   pub end : StepEnd
   pub ticks : ℕ
 
--- an instruction of one tick
+-- an instruction of so many ticks, and of one
+abbrev pub ends_after : ℕ → StepEnd → HartState → Stepped
+ends_after ticks end s = record { state = s; end = end; ticks = ticks }
+
 abbrev pub ends : StepEnd → HartState → Stepped
-ends end s = record { state = s; end = end; ticks = 1 }
+ends end s = ends_after 1 end s
 
 -- the instruction faults, and nothing has changed
 abbrev pub faults : Cause → ℕ → HartState → Stepped

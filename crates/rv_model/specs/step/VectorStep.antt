@@ -1,7 +1,7 @@
 -- One vector instruction, carried out ("V" Vector Extension 1.0).
-use Rattle.std.specs.Prelude.{ℕ, ◌==◌, ◌&&◌, Bool, true, false, List, Option, Some, None, if◌then◌else◌}
+use Rattle.std.specs.Prelude.{ℕ, ◌==◌, Bool, true, false, List, Option, Some, None, if◌then◌else◌}
 use Rattle.rv_model.specs.declared.instructions.instruction.Instr.{Instr}
-use Rattle.rv_model.specs.declared.instructions.instruction.Instr.TheVariants.{Upper, Jump, JumpRegister, Branch, Load, Store, OpImm, ShiftImm, ShiftImmWord, Op, Fence, System, Csr, CsrImmediate, SetVli, SetIvli, SetVl, VectorArith}
+use Rattle.rv_model.specs.declared.instructions.instruction.Instr.TheVariants.{Upper, Jump, JumpRegister, Branch, Load, Store, RegisterImmediate, ShiftImmediate, ShiftImmediateWord, RegisterRegister, Fence, System, Csr, CsrImmediate, SetVli, SetIvli, SetVl, VectorArith, VectorCarry, VectorMove, WholeMove, MaskLogic, Compress, MaskToScalar, VectorExtend, MaskUnary, ElementIndex, MoveToScalar, MoveToVector, VectorUnit, VectorStrided, VectorIndexed, WholeLoad, WholeStore, MaskMemory}
 use Rattle.rv_model.specs.declared.instructions.operations.BinaryOp.{BinaryOp}
 use Rattle.rv_model.specs.declared.instructions.operations.VectorOp.{VectorOp}
 use Rattle.rv_model.specs.declared.instructions.operations.VectorOp.TheVariants.{Binary}
@@ -9,15 +9,16 @@ use Rattle.rv_model.specs.declared.scalar.Scalar.{Scalar}
 use Rattle.rv_model.specs.declared.instructions.source.Source.{Source}
 use Rattle.rv_model.specs.declared.step.step_end.Cause.{Cause}
 use Rattle.rv_model.specs.declared.step.step_end.Cause.TheVariants.{IllegalInstruction, LoadAccess, StoreAccess}
+use Rattle.rv_model.specs.declared.step.step_end.StepEnd.TheVariants.{Ran, Fault}
 use Rattle.rv_model.specs.declared.step.vector_end.VEnd.{VEnd}
 use Rattle.rv_model.specs.declared.step.vector_end.VEnd.TheVariants as vector_end
 use Rattle.rv_model.specs.declared.vector.request.RequestedLength.{RequestedLength}
 use Rattle.rv_model.specs.declared.vector.request.RequestedLength.TheVariants.{Elements, Maximum, Keep}
 use Rattle.rv_model.specs.declared.vector.types.VType.{VType}
-use Rattle.rv_model.specs.step.Hart.{HartState, Stepped, faults, runs_on}
-use Rattle.rv_model.specs.legality.Legality.{is_legal_at}
-use Rattle.rv_model.specs.scalar.Registers.{read_register, with_register}
-use Rattle.rv_model.specs.elements.Arithmetic.{binary_file, fills_masked_off, fills_tail, group_type}
+use Rattle.rv_model.specs.step.Hart.{HartState, Stepped, ends_after, faults}
+use Rattle.rv_model.specs.legality.Legality.{is_legal}
+use Rattle.rv_model.specs.scalar.Registers.{advanced, read_register, with_register}
+use Rattle.rv_model.specs.elements.Arithmetic.{binary_file, body_of, fills_masked_off, fills_tail, group_type}
 use Rattle.rv_model.specs.vector.Configuration.{Configuration}
 use Rattle.rv_model.specs.elements.Formulas.{is_carried_out}
 use Rattle.rv_model.specs.vector.TypeRules.{requested}
@@ -25,20 +26,40 @@ use Rattle.rv_model.specs.vector.TypeRules.{requested}
 -- whether an instruction is one of the vector extension; those of control registers are not
 abbrev pub is_vector : Instr → Bool
 is_vector (Upper op rd imm) = false
-is_vector (Jump rd offset) = false
+is_vector (Jump rd imm) = false
 is_vector (JumpRegister rd rs1 imm) = false
-is_vector (Branch op rs1 rs2 offset) = false
+is_vector (Branch op rs1 rs2 imm) = false
 is_vector (Load op rd rs1 imm) = false
 is_vector (Store op rs1 rs2 imm) = false
-is_vector (OpImm op rd rs1 imm) = false
-is_vector (ShiftImm op rd rs1 amount) = false
-is_vector (ShiftImmWord op rd rs1 amount) = false
-is_vector (Op op rd rs1 rs2) = false
+is_vector (RegisterImmediate op rd rs1 imm) = false
+is_vector (ShiftImmediate op rd rs1 shamt) = false
+is_vector (ShiftImmediateWord op rd rs1 shamt) = false
+is_vector (RegisterRegister op rd rs1 rs2) = false
 is_vector (Fence rd rs1 ordering) = false
 is_vector (System op) = false
 is_vector (Csr op rd rs1 csr) = false
 is_vector (CsrImmediate op rd imm csr) = false
-is_vector _ = true
+is_vector (SetVli rd rs1 vtype) = true
+is_vector (SetIvli rd avl vtype) = true
+is_vector (SetVl rd rs1 rs2) = true
+is_vector (VectorArith arith vd vs2 vm) = true
+is_vector (VectorCarry carry vd vs2) = true
+is_vector (VectorMove source vd) = true
+is_vector (WholeMove count vd vs2) = true
+is_vector (MaskLogic op vd vs1 vs2) = true
+is_vector (Compress vd vs1 vs2) = true
+is_vector (MaskToScalar op rd vs2 vm) = true
+is_vector (VectorExtend op vd vs2 vm) = true
+is_vector (MaskUnary op vd vs2 vm) = true
+is_vector (ElementIndex vd vm) = true
+is_vector (MoveToScalar rd vs2) = true
+is_vector (MoveToVector vd rs1) = true
+is_vector (VectorUnit op width nf vd rs1 vm) = true
+is_vector (VectorStrided direction width nf vd rs1 rs2 vm) = true
+is_vector (VectorIndexed direction order width nf vd rs1 vs2 vm) = true
+is_vector (WholeLoad count width vd rs1) = true
+is_vector (WholeStore count vd rs1) = true
+is_vector (MaskMemory direction vd rs1) = true
 
 -- how a vector instruction ends, and the state that it leaves, with the program counter still on it
 pub record VectorStepped : Type 0 where
@@ -71,43 +92,53 @@ leaves_registers file s = vector_ends vector_end.Done (record s { vector = recor
 -- an operation of one width
 abbrev pub binary_step : VType → BinaryOp → Source → ℕ → ℕ → Bool → HartState → VectorStepped
 binary_step t op source vd vs2 vm s =
-    if is_carried_out op && is_legal_at (VectorArith (Binary op, source) vd vs2 vm) t s.vector.vstart
-    then leaves_registers
-    (binary_file (group_type t) op vd vs2 source vm (fills_masked_off s.policy t vm) (fills_tail s.policy t s.vector.vstart s.vector.conf.vl)
-    s.vector s.scalar) s
+    if is_carried_out op then leaves_registers
+    (let body = body_of vm s.vector in
+    binary_file (group_type t) op vd vs2 source body (fills_masked_off s.policy t body) (fills_tail s.policy t body) s.vector.file s.scalar) s
     else vector_ends vector_end.Illegal s
 
--- an operation with a line of its own in the manual's table; without a vector type it is illegal
+-- an operation with a line of its own in the manual's table
 abbrev pub arith_step : Option VType → VectorOp → Source → ℕ → ℕ → Bool → HartState → VectorStepped
 arith_step None op source vd vs2 vm s = vector_ends vector_end.Illegal s
 arith_step (Some t) (Binary op) source vd vs2 vm s = binary_step t op source vd vs2 vm s
 arith_step (Some t) op source vd vs2 vm s = vector_ends vector_end.Illegal s
 
--- a vector instruction, by the ticks that are left; those that aren't carried out yet are illegal
+-- a legal vector instruction, by the ticks that are left; those that aren't carried out yet are illegal
+unfoldable pub performed : ℕ → Instr → HartState → VectorStepped
+performed limit (SetVli rd rs1 vtype) s = vset_step rd vtype (requested_length rd rs1 s.scalar) s
+performed limit (SetIvli rd avl vtype) s = vset_step rd vtype (Elements avl) s
+performed limit (SetVl rd rs1 rs2) s = vset_step rd (read_register s.scalar rs2) (requested_length rd rs1 s.scalar) s
+performed limit (VectorArith arith vd vs2 vm) s = arith_step s.vector.conf.vtype arith.0 arith.1 vd vs2 vm s
+performed limit _ s = vector_ends vector_end.Illegal s
+
+-- a vector instruction, by the ticks that are left: an illegal one changes nothing
 unfoldable pub vector_executed : ℕ → Instr → HartState → VectorStepped
-vector_executed limit (SetVli rd rs1 vtype) s = vset_step rd vtype (requested_length rd rs1 s.scalar) s
-vector_executed limit (SetIvli rd avl vtype) s = vset_step rd vtype (Elements avl) s
-vector_executed limit (SetVl rd rs1 rs2) s = vset_step rd (read_register s.scalar rs2) (requested_length rd rs1 s.scalar) s
-vector_executed limit (VectorArith arith vd vs2 vm) s = arith_step s.vector.conf.vtype arith.0 arith.1 vd vs2 vm s
-vector_executed limit _ s = vector_ends vector_end.Illegal s
+vector_executed limit i s =
+    if is_legal i s.vector.conf.vtype s.vector.vstart then performed limit i s else vector_ends vector_end.Illegal s
 
 -- why an access is refused
 abbrev pub access_cause : Bool → Cause
 access_cause true = StoreAccess
 access_cause false = LoadAccess
 
--- the step that a vector instruction makes, by the word that it is
-abbrev pub after_vector : VEnd → ℕ → HartState → Stepped
-after_vector vector_end.Done word s = runs_on s.scalar s
-after_vector vector_end.Illegal word s = faults IllegalInstruction word s
-after_vector (vector_end.Fault store addr) word s = faults (access_cause store) addr s
+-- the ticks that a vector instruction takes, by the state that it begins with and how it is carried out. Only those of memory
+-- take more than one, which aren't carried out yet.
+abbrev pub vector_ticks : Instr → HartState → VectorStepped → ℕ
+vector_ticks i s done = 1
+
+-- the step that a vector instruction of so many ticks makes, by the word that it is; an illegal one takes one
+abbrev pub after_vector : ℕ → VEnd → ℕ → HartState → Stepped
+after_vector ticks vector_end.Done word s = ends_after ticks Ran (record s { scalar = advanced s.scalar })
+after_vector ticks vector_end.Illegal word s = faults IllegalInstruction word s
+after_vector ticks (vector_end.Fault store addr) word s = ends_after ticks (Fault (access_cause store) s.scalar.pc addr) s
 
 abbrev pub vector_step : ℕ → Instr → ℕ → HartState → Stepped
 vector_step limit i word s =
     let done = vector_executed limit i s in
-    after_vector done.end word done.state
+    after_vector (vector_ticks i s done) done.end word done.state
 
 -- whether a vector instruction changes the vector state: unless it is illegal, also where it then faults
 abbrev pub is_legal_end : VEnd → Bool
 is_legal_end vector_end.Illegal = false
-is_legal_end _ = true
+is_legal_end vector_end.Done = true
+is_legal_end (vector_end.Fault store addr) = true

@@ -1,17 +1,42 @@
--- The vector length and the vector type for VLEN 256 and ELEN 64 ("V" Vector Extension 1.0, sections 3.4 and 3.5).
+-- Element widths, the vector length and the vector type for VLEN 256 and ELEN 64 ("V" Vector Extension 1.0, sections 3.4, 3.5
+-- and 7.3).
 use Rattle.std.specs.Prelude.{ℕ, ◌*◌, ◌/◌, ◌≡◌, ◌≤◌, Option, Some, None}
+use Rattle.std.specs.Int.{Width, w8, w16, w32, w64}
+use mir.Val.{bits}
+use Rattle.rv_model.specs.declared.instructions.operations.Width.{Width as MemoryWidth}
+use Rattle.rv_model.specs.declared.instructions.operations.Width.TheVariants as width
+use Rattle.rv_model.specs.declared.vector.sizes.TheConstants.{VLENB}
 use Rattle.rv_model.specs.declared.vector.types.Sew.{Sew}
 use Rattle.rv_model.specs.declared.vector.types.Sew.TheVariants.{E8, E16, E32, E64}
 use Rattle.rv_model.specs.declared.vector.types.Lmul.{Lmul}
 use Rattle.rv_model.specs.declared.vector.types.Lmul.TheVariants.{Mf8, Mf4, Mf2, M1, M2, M4, M8}
 use Rattle.rv_model.specs.declared.vector.types.VType.{VType}
 
--- the element width in bits
+-- ---- element widths
+
+-- the width of an element
+abbrev pub sew_width : Sew → Width
+sew_width E8 = w8
+sew_width E16 = w16
+sew_width E32 = w32
+sew_width E64 = w64
+
+-- in bits
 abbrev pub sew_bits : Sew → ℕ
-sew_bits E8 = 8
-sew_bits E16 = 16
-sew_bits E32 = 32
-sew_bits E64 = 64
+sew_bits sew = bits (sew_width sew)
+
+-- the bytes of an element of a width
+abbrev pub width_bytes : Width → ℕ
+width_bytes w = bits w / 8
+
+-- the element width that a load or store names
+abbrev pub element_width : MemoryWidth → Sew
+element_width width.E8 = E8
+element_width width.E16 = E16
+element_width width.E32 = E32
+element_width width.E64 = E64
+
+-- ---- length and type
 
 -- the group multiplier in eighths of a register
 abbrev pub lmul_eighths : Lmul → ℕ
@@ -25,7 +50,7 @@ lmul_eighths M8 = 64
 
 -- how many elements a group has: LMUL x VLEN / SEW
 abbrev pub vlmax : VType → ℕ
-vlmax t = lmul_eighths t.lmul * 32 / sew_bits t.sew
+vlmax t = lmul_eighths t.lmul * VLENB / sew_bits t.sew
 
 -- SEW is at most LMUL x ELEN
 abbrev pub IsSupported : VType → Type 0

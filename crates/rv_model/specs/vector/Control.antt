@@ -29,7 +29,9 @@ with_control Vstart n v = record v { vstart = n % 2 ^ 8 }
 with_control Vxsat n v = record v { vxsat = n % 2 == 1 }
 with_control Vxrm n v = record v { vxrm = rounding_mode n }
 with_control Vcsr n v = record v { vxsat = n % 2 == 1; vxrm = rounding_mode (n / 2) }
-with_control _ n v = v
+with_control Vl n v = v
+with_control Vtype n v = v
+with_control Vlenb n v = v
 
 -- the number that an instruction writes, of the one that it read and its operand
 abbrev pub written_value : CsrOp → ℕ → ℕ → ℕ

@@ -2,11 +2,12 @@
 use Rattle.std.specs.Prelude.{ℕ, List, replicate, false}
 use Rattle.rv_model.specs.declared.vector.state.VState.{VState}
 use Rattle.rv_model.specs.declared.vector.state.RoundingMode.TheVariants.{NearestUp}
+use Rattle.rv_model.specs.declared.vector.sizes.TheConstants.{FILE_BYTES}
 use Rattle.rv_model.specs.vector.Configuration.{initial_configuration}
 
--- the 32 registers of 32 bytes, in order, all zero
+-- all registers, in order, all zero
 unfoldable pub zero_file : List ℕ
-zero_file = replicate 1024 0
+zero_file = replicate FILE_BYTES 0
 
 -- a machine's vector state before it is used
 unfoldable pub initial_vector : VState

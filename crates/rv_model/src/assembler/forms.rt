@@ -65,6 +65,17 @@ pub enum Slot {
     Word,
 }
 
+/// What stands at rs1 as a vector operation's last source.
+#[derive(Clone, Copy)]
+pub enum SourceKind {
+    /// `v0` to `v31`.
+    Vector,
+    /// `x0` to `x31`.
+    Scalar,
+    /// A signed number of 5 bits.
+    Immediate,
+}
+
 /// A form of text, named for the instructions that have it.
 #[derive(Clone, Copy)]
 pub enum Form {
@@ -108,24 +119,12 @@ pub enum Form {
     MultiplyAddVector,
     /// `vmacc.vx vd, rs1, vs2`, which may be masked
     MultiplyAddScalar,
-    /// `vadc.vvm vd, vs2, vs1, v0`
-    CarryVector,
-    /// `vadc.vxm vd, vs2, rs1, v0`
-    CarryScalar,
-    /// `vadc.vim vd, vs2, n, v0`
-    CarryImmediate,
-    /// `vmand.mm vd, vs2, vs1`
-    UnmaskedVector,
-    /// `vmadc.vx vd, vs2, rs1`
-    UnmaskedScalar,
-    /// `vmadc.vi vd, vs2, n`
-    UnmaskedImmediate,
-    /// `vmv.v.v vd, vs1`
-    MoveVector,
-    /// `vmv.v.x vd, rs1`
-    MoveScalar,
-    /// `vmv.v.i vd, n`
-    MoveImmediate,
+    /// `vadc.vvm vd, vs2, vs1, v0`, `vadc.vxm vd, vs2, rs1, v0`, `vadc.vim vd, vs2, n, v0`
+    Carry(SourceKind),
+    /// `vmand.mm vd, vs2, vs1`, `vmadc.vx vd, vs2, rs1`, `vmadc.vi vd, vs2, n`
+    Unmasked(SourceKind),
+    /// `vmv.v.v vd, vs1`, `vmv.v.x vd, rs1`, `vmv.v.i vd, n`
+    Move(SourceKind),
     /// `vmv.x.s rd, vs2`
     MoveToScalar,
     /// `vmv1r.v vd, vs2`
@@ -224,7 +223,7 @@ pub const VECTOR_UNSIGNED: [Slot; 6] = [VD, Slot::Comma, VS2, Slot::Comma, UNSIG
 pub const MULTIPLY_ADD_VECTOR: [Slot; 6] = [VD, Slot::Comma, VS1, Slot::Comma, VS2, Slot::Mask];
 /// The slots of the form `MultiplyAddScalar`.
 pub const MULTIPLY_ADD_SCALAR: [Slot; 6] = [VD, Slot::Comma, RS1, Slot::Comma, VS2, Slot::Mask];
-/// The slots of the form `CarryVector`.
+/// The slots of the form `Carry` with a source of the kind `Vector`.
 pub const CARRY_VECTOR: [Slot; 7] = [
     VD,
     Slot::Comma,
@@ -234,7 +233,7 @@ pub const CARRY_VECTOR: [Slot; 7] = [
     Slot::Comma,
     Slot::V0,
 ];
-/// The slots of the form `CarryScalar`.
+/// The slots of the form `Carry` with a source of the kind `Scalar`.
 pub const CARRY_SCALAR: [Slot; 7] = [
     VD,
     Slot::Comma,
@@ -244,7 +243,7 @@ pub const CARRY_SCALAR: [Slot; 7] = [
     Slot::Comma,
     Slot::V0,
 ];
-/// The slots of the form `CarryImmediate`.
+/// The slots of the form `Carry` with a source of the kind `Immediate`.
 pub const CARRY_IMMEDIATE: [Slot; 7] = [
     VD,
     Slot::Comma,
@@ -254,17 +253,17 @@ pub const CARRY_IMMEDIATE: [Slot; 7] = [
     Slot::Comma,
     Slot::V0,
 ];
-/// The slots of the form `UnmaskedVector`.
+/// The slots of the form `Unmasked` with a source of the kind `Vector`.
 pub const UNMASKED_VECTOR: [Slot; 5] = [VD, Slot::Comma, VS2, Slot::Comma, VS1];
-/// The slots of the form `UnmaskedScalar`.
+/// The slots of the form `Unmasked` with a source of the kind `Scalar`.
 pub const UNMASKED_SCALAR: [Slot; 5] = [VD, Slot::Comma, VS2, Slot::Comma, RS1];
-/// The slots of the form `UnmaskedImmediate`.
+/// The slots of the form `Unmasked` with a source of the kind `Immediate`.
 pub const UNMASKED_IMMEDIATE: [Slot; 5] = [VD, Slot::Comma, VS2, Slot::Comma, SIGNED5];
-/// The slots of the form `MoveVector`.
+/// The slots of the form `Move` with a source of the kind `Vector`.
 pub const MOVE_VECTOR: [Slot; 3] = [VD, Slot::Comma, VS1];
-/// The slots of the form `MoveScalar`.
+/// The slots of the form `Move` with a source of the kind `Scalar`.
 pub const MOVE_SCALAR: [Slot; 3] = [VD, Slot::Comma, RS1];
-/// The slots of the form `MoveImmediate`.
+/// The slots of the form `Move` with a source of the kind `Immediate`.
 pub const MOVE_IMMEDIATE: [Slot; 3] = [VD, Slot::Comma, SIGNED5];
 /// The slots of the form `MoveToScalar`.
 pub const MOVE_TO_SCALAR: [Slot; 3] = [RD, Slot::Comma, VS2];

@@ -1,12 +1,18 @@
 //! The names of instructions, each with the form of its text and the bits that it fixes in a word.
-use crate::assembler::forms::Form;
+use crate::assembler::forms::{Form, SourceKind};
 
 /// A name, with spaces behind it; the form of its text; and its word where all operands are zeros.
 #[derive(Clone, Copy)]
 pub struct Mnemonic(pub [u8; 16], pub Form, pub u32);
 
+/// How many instructions have names.
+pub const NAME_COUNT: usize = 597;
+
+/// How many rows the table has: the names of instructions, and `.word`.
+pub const ROW_COUNT: usize = NAME_COUNT + 1;
+
 /// Every name of an instruction, and `.word` as the last.
-pub static MNEMONICS: [Mnemonic; 598] = [
+pub static MNEMONICS: [Mnemonic; ROW_COUNT] = [
     // RV64I
     Mnemonic(*b"lui             ", Form::Upper, 0x0000_0037),
     Mnemonic(*b"auipc           ", Form::Upper, 0x0000_0017),
@@ -135,27 +141,111 @@ pub static MNEMONICS: [Mnemonic; 598] = [
     Mnemonic(*b"vmulhsu.vx      ", Form::VectorScalar, 0x9800_6057),
     Mnemonic(*b"vmulh.vv        ", Form::VectorVector, 0x9c00_2057),
     Mnemonic(*b"vmulh.vx        ", Form::VectorScalar, 0x9c00_6057),
-    Mnemonic(*b"vadc.vvm        ", Form::CarryVector, 0x4000_0057),
-    Mnemonic(*b"vadc.vxm        ", Form::CarryScalar, 0x4000_4057),
-    Mnemonic(*b"vadc.vim        ", Form::CarryImmediate, 0x4000_3057),
-    Mnemonic(*b"vmadc.vvm       ", Form::CarryVector, 0x4400_0057),
-    Mnemonic(*b"vmadc.vxm       ", Form::CarryScalar, 0x4400_4057),
-    Mnemonic(*b"vmadc.vim       ", Form::CarryImmediate, 0x4400_3057),
-    Mnemonic(*b"vmadc.vv        ", Form::UnmaskedVector, 0x4600_0057),
-    Mnemonic(*b"vmadc.vx        ", Form::UnmaskedScalar, 0x4600_4057),
-    Mnemonic(*b"vmadc.vi        ", Form::UnmaskedImmediate, 0x4600_3057),
-    Mnemonic(*b"vsbc.vvm        ", Form::CarryVector, 0x4800_0057),
-    Mnemonic(*b"vsbc.vxm        ", Form::CarryScalar, 0x4800_4057),
-    Mnemonic(*b"vmsbc.vvm       ", Form::CarryVector, 0x4c00_0057),
-    Mnemonic(*b"vmsbc.vxm       ", Form::CarryScalar, 0x4c00_4057),
-    Mnemonic(*b"vmsbc.vv        ", Form::UnmaskedVector, 0x4e00_0057),
-    Mnemonic(*b"vmsbc.vx        ", Form::UnmaskedScalar, 0x4e00_4057),
-    Mnemonic(*b"vmerge.vvm      ", Form::CarryVector, 0x5c00_0057),
-    Mnemonic(*b"vmerge.vxm      ", Form::CarryScalar, 0x5c00_4057),
-    Mnemonic(*b"vmerge.vim      ", Form::CarryImmediate, 0x5c00_3057),
-    Mnemonic(*b"vmv.v.v         ", Form::MoveVector, 0x5e00_0057),
-    Mnemonic(*b"vmv.v.x         ", Form::MoveScalar, 0x5e00_4057),
-    Mnemonic(*b"vmv.v.i         ", Form::MoveImmediate, 0x5e00_3057),
+    Mnemonic(
+        *b"vadc.vvm        ",
+        Form::Carry(SourceKind::Vector),
+        0x4000_0057,
+    ),
+    Mnemonic(
+        *b"vadc.vxm        ",
+        Form::Carry(SourceKind::Scalar),
+        0x4000_4057,
+    ),
+    Mnemonic(
+        *b"vadc.vim        ",
+        Form::Carry(SourceKind::Immediate),
+        0x4000_3057,
+    ),
+    Mnemonic(
+        *b"vmadc.vvm       ",
+        Form::Carry(SourceKind::Vector),
+        0x4400_0057,
+    ),
+    Mnemonic(
+        *b"vmadc.vxm       ",
+        Form::Carry(SourceKind::Scalar),
+        0x4400_4057,
+    ),
+    Mnemonic(
+        *b"vmadc.vim       ",
+        Form::Carry(SourceKind::Immediate),
+        0x4400_3057,
+    ),
+    Mnemonic(
+        *b"vmadc.vv        ",
+        Form::Unmasked(SourceKind::Vector),
+        0x4600_0057,
+    ),
+    Mnemonic(
+        *b"vmadc.vx        ",
+        Form::Unmasked(SourceKind::Scalar),
+        0x4600_4057,
+    ),
+    Mnemonic(
+        *b"vmadc.vi        ",
+        Form::Unmasked(SourceKind::Immediate),
+        0x4600_3057,
+    ),
+    Mnemonic(
+        *b"vsbc.vvm        ",
+        Form::Carry(SourceKind::Vector),
+        0x4800_0057,
+    ),
+    Mnemonic(
+        *b"vsbc.vxm        ",
+        Form::Carry(SourceKind::Scalar),
+        0x4800_4057,
+    ),
+    Mnemonic(
+        *b"vmsbc.vvm       ",
+        Form::Carry(SourceKind::Vector),
+        0x4c00_0057,
+    ),
+    Mnemonic(
+        *b"vmsbc.vxm       ",
+        Form::Carry(SourceKind::Scalar),
+        0x4c00_4057,
+    ),
+    Mnemonic(
+        *b"vmsbc.vv        ",
+        Form::Unmasked(SourceKind::Vector),
+        0x4e00_0057,
+    ),
+    Mnemonic(
+        *b"vmsbc.vx        ",
+        Form::Unmasked(SourceKind::Scalar),
+        0x4e00_4057,
+    ),
+    Mnemonic(
+        *b"vmerge.vvm      ",
+        Form::Carry(SourceKind::Vector),
+        0x5c00_0057,
+    ),
+    Mnemonic(
+        *b"vmerge.vxm      ",
+        Form::Carry(SourceKind::Scalar),
+        0x5c00_4057,
+    ),
+    Mnemonic(
+        *b"vmerge.vim      ",
+        Form::Carry(SourceKind::Immediate),
+        0x5c00_3057,
+    ),
+    Mnemonic(
+        *b"vmv.v.v         ",
+        Form::Move(SourceKind::Vector),
+        0x5e00_0057,
+    ),
+    Mnemonic(
+        *b"vmv.v.x         ",
+        Form::Move(SourceKind::Scalar),
+        0x5e00_4057,
+    ),
+    Mnemonic(
+        *b"vmv.v.i         ",
+        Form::Move(SourceKind::Immediate),
+        0x5e00_3057,
+    ),
     Mnemonic(*b"vmseq.vv        ", Form::VectorVector, 0x6000_0057),
     Mnemonic(*b"vmseq.vx        ", Form::VectorScalar, 0x6000_4057),
     Mnemonic(*b"vmseq.vi        ", Form::VectorImmediate, 0x6000_3057),
@@ -272,14 +362,46 @@ pub static MNEMONICS: [Mnemonic; 598] = [
     Mnemonic(*b"vwredsumu.vs    ", Form::VectorVector, 0xc000_0057),
     Mnemonic(*b"vwredsum.vs     ", Form::VectorVector, 0xc400_0057),
     // Vector masks
-    Mnemonic(*b"vmandn.mm       ", Form::UnmaskedVector, 0x6200_2057),
-    Mnemonic(*b"vmand.mm        ", Form::UnmaskedVector, 0x6600_2057),
-    Mnemonic(*b"vmor.mm         ", Form::UnmaskedVector, 0x6a00_2057),
-    Mnemonic(*b"vmxor.mm        ", Form::UnmaskedVector, 0x6e00_2057),
-    Mnemonic(*b"vmorn.mm        ", Form::UnmaskedVector, 0x7200_2057),
-    Mnemonic(*b"vmnand.mm       ", Form::UnmaskedVector, 0x7600_2057),
-    Mnemonic(*b"vmnor.mm        ", Form::UnmaskedVector, 0x7a00_2057),
-    Mnemonic(*b"vmxnor.mm       ", Form::UnmaskedVector, 0x7e00_2057),
+    Mnemonic(
+        *b"vmandn.mm       ",
+        Form::Unmasked(SourceKind::Vector),
+        0x6200_2057,
+    ),
+    Mnemonic(
+        *b"vmand.mm        ",
+        Form::Unmasked(SourceKind::Vector),
+        0x6600_2057,
+    ),
+    Mnemonic(
+        *b"vmor.mm         ",
+        Form::Unmasked(SourceKind::Vector),
+        0x6a00_2057,
+    ),
+    Mnemonic(
+        *b"vmxor.mm        ",
+        Form::Unmasked(SourceKind::Vector),
+        0x6e00_2057,
+    ),
+    Mnemonic(
+        *b"vmorn.mm        ",
+        Form::Unmasked(SourceKind::Vector),
+        0x7200_2057,
+    ),
+    Mnemonic(
+        *b"vmnand.mm       ",
+        Form::Unmasked(SourceKind::Vector),
+        0x7600_2057,
+    ),
+    Mnemonic(
+        *b"vmnor.mm        ",
+        Form::Unmasked(SourceKind::Vector),
+        0x7a00_2057,
+    ),
+    Mnemonic(
+        *b"vmxnor.mm       ",
+        Form::Unmasked(SourceKind::Vector),
+        0x7e00_2057,
+    ),
     Mnemonic(*b"vcpop.m         ", Form::MaskToScalar, 0x4008_2057),
     Mnemonic(*b"vfirst.m        ", Form::MaskToScalar, 0x4008_a057),
     Mnemonic(*b"vmsbf.m         ", Form::VectorUnary, 0x5000_a057),
@@ -289,7 +411,11 @@ pub static MNEMONICS: [Mnemonic; 598] = [
     Mnemonic(*b"vid.v           ", Form::ElementIndex, 0x5008_a057),
     // Vector permutations
     Mnemonic(*b"vmv.x.s         ", Form::MoveToScalar, 0x4200_2057),
-    Mnemonic(*b"vmv.s.x         ", Form::MoveScalar, 0x4200_6057),
+    Mnemonic(
+        *b"vmv.s.x         ",
+        Form::Move(SourceKind::Scalar),
+        0x4200_6057,
+    ),
     Mnemonic(*b"vslideup.vx     ", Form::VectorScalar, 0x3800_4057),
     Mnemonic(*b"vslideup.vi     ", Form::VectorUnsigned, 0x3800_3057),
     Mnemonic(*b"vslidedown.vx   ", Form::VectorScalar, 0x3c00_4057),
@@ -300,7 +426,11 @@ pub static MNEMONICS: [Mnemonic; 598] = [
     Mnemonic(*b"vrgather.vx     ", Form::VectorScalar, 0x3000_4057),
     Mnemonic(*b"vrgather.vi     ", Form::VectorUnsigned, 0x3000_3057),
     Mnemonic(*b"vrgatherei16.vv ", Form::VectorVector, 0x3800_0057),
-    Mnemonic(*b"vcompress.vm    ", Form::UnmaskedVector, 0x5e00_2057),
+    Mnemonic(
+        *b"vcompress.vm    ",
+        Form::Unmasked(SourceKind::Vector),
+        0x5e00_2057,
+    ),
     Mnemonic(*b"vmv1r.v         ", Form::WholeMove, 0x9e00_3057),
     Mnemonic(*b"vmv2r.v         ", Form::WholeMove, 0x9e00_b057),
     Mnemonic(*b"vmv4r.v         ", Form::WholeMove, 0x9e01_b057),

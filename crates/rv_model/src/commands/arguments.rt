@@ -112,7 +112,7 @@ impl<const MAX: usize> Count<MAX> {
     }
 }
 
-/// Whole pages of 4,096 bytes, none of which ends beyond 2^48.
+/// Whole pages, none of which ends beyond `ADDRESS_END`.
 #[derive(Clone, Copy)]
 pub struct PageRange {
     first: u64,
@@ -133,9 +133,10 @@ impl Model for PageRange {
 
 impl PageRange {
     ghost use Rattle.rv_model.specs.commands.Arguments.{page_range};
+    ghost use Rattle.rv_model.specs.memory.Sizes.{page_limit};
 
-    /// So many pages from the one at an address on, if the address is divisible by 4,096 and the
-    /// pages end at 2^48 or below.
+    /// So many pages from the one at an address on, if the address is divisible by `PAGE_SIZE`
+    /// and the pages end at `ADDRESS_END` or below.
     pub fn new(addr: u64, count: usize) -> Option<PageRange>
         ensures { result ≡ page_range addr count }
     {
@@ -146,10 +147,10 @@ impl PageRange {
         Some(PageRange { first, count })
     }
 
-    /// The number of the first page: its address divided by 4,096.
+    /// The number of the first page: its address divided by `PAGE_SIZE`.
     pub fn first(self) -> u64
         ensures value { result ≡ self.first }
-        ensures inside { self.first + self.count ≤ 2 ^ 36 }
+        ensures inside { self.first + self.count ≤ page_limit }
     {
         self.first
     }

@@ -1,9 +1,9 @@
 //! The instructions, by operand shape.
 use crate::instructions::operands::{Field, Reg, VReg};
 use crate::instructions::operations::{
-    BranchOp, CsrImmediateOp, CsrOp, Direction, ExtendOp, LoadOp, MaskLogicOp, MaskToScalarOp,
-    MaskUnaryOp, OpImmOp, OpOp, Order, RegisterCount, ShiftImmOp, ShiftImmWordOp, StoreOp,
-    SystemOp, UnitOp, UpperOp, Width,
+    BranchOp, CsrImmediateOp, CsrOp, Direction, ExtendOp, ImmediateOp, LoadOp, MaskLogicOp,
+    MaskToScalarOp, MaskUnaryOp, Order, RegisterCount, RegisterOp, ShiftImmediateOp,
+    ShiftImmediateWordOp, StoreOp, SystemOp, UnitOp, UpperOp, Width,
 };
 use crate::instructions::pairs::{Arith, Carry};
 use crate::instructions::source::Source;
@@ -17,10 +17,10 @@ pub enum Instr {
         rd: Reg,
         imm: Field<20>,
     },
-    /// `jal rd, offset`: bits 20 to 1 of the distance in bytes.
+    /// `jal rd, imm`: `imm` has bits 20 to 1 of the distance in bytes.
     Jump {
         rd: Reg,
-        offset: Field<20>,
+        imm: Field<20>,
     },
     /// `jalr rd, imm(rs1)`.
     JumpRegister {
@@ -28,12 +28,12 @@ pub enum Instr {
         rs1: Reg,
         imm: Field<12>,
     },
-    /// `beq rs1, rs2, offset` and the like: bits 12 to 1 of the distance in bytes.
+    /// `beq rs1, rs2, imm` and the like: `imm` has bits 12 to 1 of the distance in bytes.
     Branch {
         op: BranchOp,
         rs1: Reg,
         rs2: Reg,
-        offset: Field<12>,
+        imm: Field<12>,
     },
     /// `ld rd, imm(rs1)` and the like.
     Load {
@@ -50,29 +50,29 @@ pub enum Instr {
         imm: Field<12>,
     },
     /// `addi rd, rs1, imm` and the like.
-    OpImm {
-        op: OpImmOp,
+    RegisterImmediate {
+        op: ImmediateOp,
         rd: Reg,
         rs1: Reg,
         imm: Field<12>,
     },
-    /// `slli rd, rs1, amount` and the like.
-    ShiftImm {
-        op: ShiftImmOp,
+    /// `slli rd, rs1, shamt` and the like: the shift amount, in bits.
+    ShiftImmediate {
+        op: ShiftImmediateOp,
         rd: Reg,
         rs1: Reg,
-        amount: Field<6>,
+        shamt: Field<6>,
     },
-    /// `slliw rd, rs1, amount` and the like.
-    ShiftImmWord {
-        op: ShiftImmWordOp,
+    /// `slliw rd, rs1, shamt` and the like.
+    ShiftImmediateWord {
+        op: ShiftImmediateWordOp,
         rd: Reg,
         rs1: Reg,
-        amount: Field<5>,
+        shamt: Field<5>,
     },
     /// `add rd, rs1, rs2` and the like.
-    Op {
-        op: OpOp,
+    RegisterRegister {
+        op: RegisterOp,
         rd: Reg,
         rs1: Reg,
         rs2: Reg,

@@ -42,7 +42,7 @@ pub enum StoreOp {
 /// Operations on a register and a 12-bit immediate (Unprivileged ISA, RV64I, "Integer
 /// Register-Immediate Instructions").
 #[derive(Clone, Copy)]
-pub enum OpImmOp {
+pub enum ImmediateOp {
     Addi,
     Slti,
     Sltiu,
@@ -55,7 +55,7 @@ pub enum OpImmOp {
 /// Shifts of 64 bits by an immediate (Unprivileged ISA, RV64I, "Integer Register-Immediate
 /// Instructions").
 #[derive(Clone, Copy)]
-pub enum ShiftImmOp {
+pub enum ShiftImmediateOp {
     Slli,
     Srli,
     Srai,
@@ -64,7 +64,7 @@ pub enum ShiftImmOp {
 /// Shifts of the low 32 bits by an immediate (Unprivileged ISA, RV64I, "Integer
 /// Register-Immediate Instructions").
 #[derive(Clone, Copy)]
-pub enum ShiftImmWordOp {
+pub enum ShiftImmediateWordOp {
     Slliw,
     Srliw,
     Sraiw,
@@ -73,7 +73,7 @@ pub enum ShiftImmWordOp {
 /// Operations on two registers (Unprivileged ISA, RV64I, "Integer Register-Register Operations",
 /// and "M" Extension).
 #[derive(Clone, Copy)]
-pub enum OpOp {
+pub enum RegisterOp {
     Add,
     Sub,
     Sll,

@@ -1,9 +1,13 @@
 //! The users of the monitor.
 ghost use Rattle.std.specs.Prelude.{◌≡◌, ◌≤◌, ◌-◌, ◌<◌, IfSome, IsSome, ◌↔◌};
+ghost use Rattle.rv_model.specs.machine.Users.{user_count};
 
 use std::marker::Model;
 
-/// One of the eight users, by number.
+/// How many users there are.
+pub const USER_COUNT: usize = 8;
+
+/// One of the users, by number from 1 on.
 #[derive(Clone, Copy)]
 pub struct User {
     number: u8,
@@ -11,42 +15,43 @@ pub struct User {
 
 impl Model for User {
     ghost use Rattle.std.specs.Prelude.{ℕ, ◌≤◌};
+    ghost use Rattle.rv_model.specs.machine.Users.{user_count};
 
     ghost Value = { ℕ };
 
     ghost view = { λ u. u.number };
 
-    ghost invariant = { λ u. (1 ≤ u.number) × (u.number ≤ 8) };
+    ghost invariant = { λ u. (1 ≤ u.number) × (u.number ≤ user_count) };
 
     ghost inverse = { λ n. record { number = n } };
 }
 
 impl User {
-    /// The user with this number, 1 to 8.
+    /// The user with this number, 1 to `USER_COUNT`.
     pub fn new(number: u8) -> Option<User>
-        ensures valid { IsSome result ↔ ((1 ≤ number) × (number ≤ 8)) }
+        ensures valid { IsSome result ↔ ((1 ≤ number) × (number ≤ user_count)) }
         ensures value { IfSome result (λ u. u ≡ number) }
     {
-        if 1 <= number && number <= 8 {
+        if 1 <= number && usize::from(number) <= USER_COUNT {
             Some(User { number })
         } else {
             None
         }
     }
 
-    /// The user's number, 1 to 8.
+    /// The user's number, 1 to `USER_COUNT`.
     pub fn number(self) -> u8
         ensures value { result ≡ self }
         ensures low { 1 ≤ result }
-        ensures high { result ≤ 8 }
+        ensures high { result ≤ user_count }
     {
         self.number
     }
 
-    /// The user's place in a table of eight, from 0.
+    /// The user's place in a table of all users, from 0.
     pub fn index(self) -> usize
         ensures value { result ≡ self - 1 }
-        ensures small { result < 8 }
+        ensures small { result < user_count }
     {
         usize::from(self.number) - 1
     }

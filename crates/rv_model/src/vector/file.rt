@@ -5,22 +5,24 @@ ghost use Rattle.std.specs.Borrow.{sem};
 use crate::instructions::VReg;
 use crate::vector::cells::Cells;
 use crate::vector::register_bytes::RegisterBytes;
+use crate::vector::sizes::{FILE_BYTES, VLENB};
 use std::marker::Model;
 
 /// The vector registers v0 to v31 of 32 bytes each, in order (section 3.2, VLEN 256).
 #[derive(Drop)]
 pub struct VFile {
-    cells: Cells<1024>,
+    cells: Cells<FILE_BYTES>,
 }
 
 impl Model for VFile {
     ghost use Rattle.std.specs.Prelude.{List, ℕ, ◌≡◌, length};
+    ghost use Rattle.rv_model.specs.declared.vector.sizes.TheConstants.{FILE_BYTES};
 
     ghost Value = { List ℕ };
 
     ghost view = { λ f. f.cells.bytes };
 
-    ghost invariant = { λ f. length f.cells.bytes ≡ 1024 };
+    ghost invariant = { λ f. length f.cells.bytes ≡ FILE_BYTES };
 }
 
 impl VFile {
@@ -34,7 +36,9 @@ impl VFile {
         ensures { result ≡ zero_file }
     {
         VFile {
-            cells: Cells { bytes: [0; 1024] },
+            cells: Cells {
+                bytes: [0; FILE_BYTES],
+            },
         }
     }
 
@@ -42,10 +46,10 @@ impl VFile {
     #[tactic(auto, unfolding(crate::specs::vector::Registers::register_of))]
     pub fn register(&self, register: VReg) -> &[u8]
         ensures value { result.now ≡ register_of self.now register }
-        ensures size { length result.now ≡ 32 }
+        ensures size { length result.now ≡ VLENB }
     {
-        let start = 32 * register.number() as usize;
-        self.part(start, start + 32)
+        let start = VLENB * register.number() as usize;
+        self.part(start, start + VLENB)
     }
 
     /// Writes the 32 bytes of a register; all others stay.
@@ -53,14 +57,15 @@ impl VFile {
     pub fn set_register(&mut self, register: VReg, bytes: &RegisterBytes)
         ensures { self.new ≡ with_register_bytes register bytes.now self.old }
     {
-        let start = 32 * register.number() as usize;
-        self.cells.bytes[start..start + 32].copy_from_slice(bytes.as_slice());
+        let start = VLENB * register.number() as usize;
+        self.part_mut(start, start + VLENB)
+            .copy_from_slice(bytes.as_slice());
     }
 
     /// The bytes from one place up to another; register r begins at byte 32 r.
     pub fn part(&self, from: usize, to: usize) -> &[u8]
         requires order { from ≤ to }
-        requires inside { to ≤ 1024 }
+        requires inside { to ≤ FILE_BYTES }
         ensures value { result.now ≡ slice_range self.now from to }
         ensures len { length result.now + from ≡ to }
     {
@@ -70,11 +75,11 @@ impl VFile {
     /// The bytes from one place up to another, for writing.
     pub fn part_mut(&mut self, from: usize, to: usize) -> &mut [u8]
         requires order { from ≤ to }
-        requires inside { to ≤ 1024 }
+        requires inside { to ≤ FILE_BYTES }
         ensures* writes_back { sem 𝓛 (LendsFilePart self.entry from result) }
         ensures value { result.now ≡ slice_range self.old from to }
         ensures len { length result.now + from ≡ to }
-        ensures whole { length self.old ≡ 1024 }
+        ensures whole { length self.old ≡ FILE_BYTES }
     {
         self.cells.part_mut(from, to)
     }

@@ -2,13 +2,14 @@
 ghost use Rattle.std.specs.Prelude.{◌≡◌, length};
 ghost use Rattle.rv_model.specs.commands.Arguments.{register_bytes};
 
+use crate::vector::sizes::VLENB;
 use std::marker::Model;
 
 /// The 32 bytes of a vector register, byte 0 first ("V" Vector Extension 1.0, section 3.2, VLEN
 /// 256).
 #[derive(Drop)]
 pub struct RegisterBytes {
-    bytes: [u8; 32],
+    bytes: [u8; VLENB],
 }
 
 impl Model for RegisterBytes {
@@ -24,7 +25,7 @@ impl RegisterBytes {
     pub fn from_hex(text: &[u8]) -> Option<RegisterBytes>
         ensures { result ≡ register_bytes text.now }
     {
-        let mut bytes = [0; 32];
+        let mut bytes = [0; VLENB];
         match hex::decode_to_slice(text, &mut bytes) {
             Ok(()) => Some(RegisterBytes { bytes }),
             Err(_) => None,
@@ -34,7 +35,7 @@ impl RegisterBytes {
     /// The bytes.
     pub fn as_slice(&self) -> &[u8]
         ensures value { result.now ≡ self.now }
-        ensures size { length result.now ≡ 32 }
+        ensures size { length result.now ≡ VLENB }
     {
         &self.bytes
     }

@@ -1,5 +1,8 @@
 //! The vector type ("V" Vector Extension 1.0, section 3.4).
-/// The selected element width in bits (section 3.4.1, `vsew`).
+use crate::instructions::operations::Width;
+use crate::vector::sizes::VLENB;
+
+/// An element width in bits, as that which is selected (section 3.4.1, `vsew`).
 #[derive(Clone, Copy, PartialEq, Eq)]
 pub enum Sew {
     E8,
@@ -12,10 +15,22 @@ pub enum Sew {
 static SEWS: [Sew; 4] = [Sew::E8, Sew::E16, Sew::E32, Sew::E64];
 
 impl Sew {
-    ghost use Rattle.std.specs.Prelude.{◌≡◌, ◌≤◌, length};
-    ghost use Rattle.rv_model.specs.vector.Configuration.{sew_bits};
+    ghost use Rattle.std.specs.Prelude.{◌≡◌, ◌<◌, ◌≤◌, length};
+    ghost use Rattle.rv_model.specs.vector.Configuration.{element_width, sew_bits};
     ghost use Rattle.rv_model.specs.vector.TypeNames.{sew_name, sew_named};
     ghost use Rattle.rv_model.specs.vector.TypeRules.{sew_number, sew_with_number};
+
+    /// The element width that a load or store names (section 7.3).
+    pub fn from_width(width: Width) -> Sew
+        ensures { result ≡ element_width width }
+    {
+        match width {
+            Width::E8 => Sew::E8,
+            Width::E16 => Sew::E16,
+            Width::E32 => Sew::E32,
+            Width::E64 => Sew::E64,
+        }
+    }
 
     /// The width in bits, 8 to 64.
     pub fn bits(self) -> u16
@@ -31,7 +46,8 @@ impl Sew {
 
     /// `vsew` of the width (section 3.4.1).
     pub fn number(self) -> u8
-        ensures { result ≡ sew_number self }
+        ensures value { result ≡ sew_number self }
+        ensures small { result < 4 }
     {
         match self {
             Sew::E8 => 0,
@@ -102,7 +118,7 @@ static LMULS: [Lmul; 7] = [
 ];
 
 impl Lmul {
-    ghost use Rattle.std.specs.Prelude.{◌≡◌, ◌≤◌, length};
+    ghost use Rattle.std.specs.Prelude.{◌≡◌, ◌<◌, ◌≤◌, length};
     ghost use Rattle.rv_model.specs.vector.Configuration.{lmul_eighths};
     ghost use Rattle.rv_model.specs.vector.TypeNames.{lmul_name, lmul_named};
     ghost use Rattle.rv_model.specs.vector.TypeRules.{lmul_number, lmul_with_number};
@@ -124,7 +140,8 @@ impl Lmul {
 
     /// `vlmul` of the multiplier (section 3.4.2).
     pub fn number(self) -> u8
-        ensures { result ≡ lmul_number self }
+        ensures value { result ≡ lmul_number self }
+        ensures small { result < 8 }
     {
         match self {
             Lmul::M1 => 0,
@@ -198,7 +215,7 @@ impl VType {
     pub fn vlmax(self) -> u16
         ensures { result ≡ vlmax self }
     {
-        self.lmul.eighths() * 32 / self.sew.bits()
+        self.lmul.eighths() * VLENB as u16 / self.sew.bits()
     }
 
     /// Whether the element width is at most LMUL x 64.

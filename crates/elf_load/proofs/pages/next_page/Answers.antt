@@ -1,9 +1,10 @@
-use Rattle.std.proofs.Common.{ℕ, ◌+◌, Option, ◌<◌, ◌^◌, IfSome, sym, subst, arith}
+use Rattle.std.proofs.Common.{ℕ, ◌+◌, Option, ◌<◌, IfSome, sym, subst, arith}
 use Rattle.rv_model.specs.declared.images.ProgramHeader.{ProgramHeader}
-use Rattle.rv_model.specs.images.Image.{touches, is_touched}
+use Rattle.rv_model.specs.images.Image.{touches_page, is_touched}
+use Rattle.rv_model.specs.memory.Sizes.{page_limit}
 use Rattle.elf_load.specs.Pages.{IsFirstIfAny, EndsInMemory, first_placed}
 use Rattle.elf_load.proofs.FaultLaws.{sound_headers}
-use Rattle.elf_load.proofs.PageLaws.{next_stack, next_more, next_all, earlier_below, stack_ends, header_ends}
+use Rattle.elf_load.proofs.PageLaws.{next_page-stack, next_page-more, next_page-all, earlier_below, stack_ends, header_ends}
 use Rattle.elf_load.proofs.pages.next_page.Goals as goal
 
 pub first_touched-next-requires : goal.first_touched-next-requires
@@ -14,8 +15,8 @@ header_count-requires c = (sound_headers c.args.image.now c.requires).file
 
 pub loop-number-init : goal.loop-number-init
 loop-number-init c = record {
-  first = next_stack c.args.image.now c.args.from c.first_touched-next.result
-      (subst (λ (h : ProgramHeader). IsFirstIfAny (λ p. touches p h) c.args.from c.first_touched-next.result) c.stack.ensures c.first_touched-next.ensures.first);
+  first = next_page-stack c.args.image.now c.args.from c.first_touched-next.result
+      (subst (λ (h : ProgramHeader). IsFirstIfAny (λ p. touches_page p h) c.args.from c.first_touched-next.result) c.stack.ensures c.first_touched-next.ensures.first);
   bound = c.first_touched-next.ensures.bound;
 }
 
@@ -31,11 +32,11 @@ first_touched-requires c = subst (λ (h : ProgramHeader). EndsInMemory h) (sym c
 pub loop-number-preserved : goal.loop-number-preserved
 loop-number-preserved c = record {
   first = subst (λ (o : Option ℕ). IsFirstIfAny (is_touched (first_placed c.args.image.now (c.loop-number.number + 1))) c.args.from o) (sym c.earlier-next.ensures)
-      (next_more c.args.image.now c.loop-number.number c.args.from c.loop-number.next c.first_touched.result c.loop-number.invariant.first
-      (subst (λ (h : ProgramHeader). IsFirstIfAny (λ p. touches p h) c.args.from c.first_touched.result) c.program_header.ensures c.first_touched.ensures.first));
-  bound = subst (λ (o : Option ℕ). IfSome o (λ p. p < 2 ^ 36)) (sym c.earlier-next.ensures)
-      (earlier_below c.loop-number.next c.first_touched.result (2 ^ 36) c.loop-number.invariant.bound c.first_touched.ensures.bound);
+      (next_page-more c.args.image.now c.loop-number.number c.args.from c.loop-number.next c.first_touched.result c.loop-number.invariant.first
+      (subst (λ (h : ProgramHeader). IsFirstIfAny (λ p. touches_page p h) c.args.from c.first_touched.result) c.program_header.ensures c.first_touched.ensures.first));
+  bound = subst (λ (o : Option ℕ). IfSome o (λ p. p < page_limit)) (sym c.earlier-next.ensures)
+      (earlier_below c.loop-number.next c.first_touched.result page_limit c.loop-number.invariant.bound c.first_touched.ensures.bound);
 }
 
 pub returns-clause-first : goal.returns-clause-first
-returns-clause-first c = next_all c.args.image.now c.loop-number.number c.args.from c.loop-number.next (omega arith) c.loop-number.invariant.first
+returns-clause-first c = next_page-all c.args.image.now c.loop-number.number c.args.from c.loop-number.next (omega arith) c.loop-number.invariant.first

@@ -1,6 +1,6 @@
 use Rattle.std.proofs.Common.{arith}
 use Rattle.elf_load.proofs.FaultLaws.{sound_headers}
-use Rattle.elf_load.proofs.PoolLaws.{part_there, part_fits, segment_ends, part_open, rest_open, segment_done, segment_other}
+use Rattle.elf_load.proofs.PoolLaws.{file_part_lies_in_file, file_part_fits, segment_ends, may_write_file_part, may_clear_rest, segment_done, segment_other}
 use Rattle.elf_load.proofs.placing.write_segment.Goals as goal
 
 pub program_header-header-requires-clause-file : goal.program_header-header-requires-clause-file
@@ -14,30 +14,30 @@ returns-then-header-ne-LOAD g c =
     segment_other c.args.pool.now c.args.user c.args.image.now c.args.number c.program_header-header.result c.requires.before c.program_header-header.ensures c.if-header-ne-LOAD.true
 
 pub file_part-requires : goal.file_part-requires
-file_part-requires g c = part_there c.args.image.now c.args.number c.program_header-header.result c.program_header-header.ensures c.requires.sound c.requires.there c.if-header-ne-LOAD.false
+file_part-requires g c = file_part_lies_in_file c.args.image.now c.args.number c.program_header-header.result c.program_header-header.ensures c.requires.sound c.requires.there c.if-header-ne-LOAD.false
 
 pub write_mapped-requires : goal.write_mapped-requires
 write_mapped-requires g c =
-    part_open c.args.pool.now c.args.user c.args.image.now c.args.number c.program_header-header.result c.file_part.result.now c.requires.before c.program_header-header.ensures c.requires.sound c.requires.there
+    may_write_file_part c.args.pool.now c.args.user c.args.image.now c.args.number c.program_header-header.result c.file_part.result.now c.requires.before c.program_header-header.ensures c.requires.sound c.requires.there
     c.if-header-ne-LOAD.false c.file_part.ensures.size
 
 pub overflow_add-end : goal.overflow_add-end
 overflow_add-end g c =
-    let fits = part_fits c.args.image.now c.args.number c.program_header-header.result c.program_header-header.ensures c.requires.sound c.requires.there c.if-header-ne-LOAD.false in
+    let fits = file_part_fits c.args.image.now c.args.number c.program_header-header.result c.program_header-header.ensures c.requires.sound c.requires.there c.if-header-ne-LOAD.false in
     let ends = segment_ends c.args.image.now c.args.number c.program_header-header.result c.program_header-header.ensures c.requires.sound c.requires.there c.if-header-ne-LOAD.false in
     omega (arith, fits, ends)
 
 pub overflow_sub-header : goal.overflow_sub-header
-overflow_sub-header g c = part_fits c.args.image.now c.args.number c.program_header-header.result c.program_header-header.ensures c.requires.sound c.requires.there c.if-header-ne-LOAD.false
+overflow_sub-header g c = file_part_fits c.args.image.now c.args.number c.program_header-header.result c.program_header-header.ensures c.requires.sound c.requires.there c.if-header-ne-LOAD.false
 
 pub clear_mapped-requires-clause-mapped : goal.clear_mapped-requires-clause-mapped
 clear_mapped-requires-clause-mapped g c =
-    rest_open c.args.pool.now c.write_mapped.new.pool c.args.user c.args.image.now c.args.number c.program_header-header.result c.file_part.result.now c.requires.known c.requires.before c.program_header-header.ensures
+    may_clear_rest c.args.pool.now c.write_mapped.new.pool c.args.user c.args.image.now c.args.number c.program_header-header.result c.file_part.result.now c.requires.known c.requires.before c.program_header-header.ensures
     c.requires.sound c.requires.there c.if-header-ne-LOAD.false c.write_mapped.ensures
 
 pub clear_mapped-requires-clause-bound : goal.clear_mapped-requires-clause-bound
 clear_mapped-requires-clause-bound g c =
-    let fits = part_fits c.args.image.now c.args.number c.program_header-header.result c.program_header-header.ensures c.requires.sound c.requires.there c.if-header-ne-LOAD.false in
+    let fits = file_part_fits c.args.image.now c.args.number c.program_header-header.result c.program_header-header.ensures c.requires.sound c.requires.there c.if-header-ne-LOAD.false in
     let ends = segment_ends c.args.image.now c.args.number c.program_header-header.result c.program_header-header.ensures c.requires.sound c.requires.there c.if-header-ne-LOAD.false in
     omega (arith, fits, ends)
 

@@ -1,25 +1,30 @@
-use Rattle.std.proofs.Common.{◌*◌, ◌+◌, ◌≤◌, length, sym, ap, ◌∙◌}
+use Rattle.std.proofs.Common.{ℕ, ◌*◌, ◌+◌, ◌<◌, ◌≤◌, arith, length, sym, ap, ◌∙◌}
 use Rattle.std.specs.Int.{bytes_low_first}
 use lib.Lanes.{put_chunk}
+use Rattle.rv_model.specs.elements.Elements.{Body}
+use Rattle.rv_model.specs.vector.Configuration.{width_bytes}
 use Rattle.rv_model.proofs.element_lemmas.Sets.{step_result, step_ones, step_off, body_ends, room_for}
 use Rattle.lane_arith.proofs.kernel.binary.Goals as goal
-use Rattle.lane_arith.proofs.kernel.binary.Goals.{then-is_let, else-is_let+then-masked, else-is_let+else-masked}
+use Rattle.lane_arith.proofs.kernel.binary.Goals.{then-lets, else-lets+then-fill_masked_off, else-lets+else-fill_masked_off}
 
 pub loop-i-preserved : goal.loop-i-preserved
 loop-i-preserved g c =
-    let room : g.L.Lane.size * c.loop-i.i + g.L.Lane.size ≤ length c.args.destination.now =
-    room_for _ _ _ _ c.loop-i-test.true c.requires.destination in
-    elim c.if-is_let.branch [
-      | then-is_let w ↦
-          step_result _ _ _ _ _ _ _ _ _ _ _ _ c.loop-i.auto.i c.loop-i-test.true c.loop-i.invariant room (sym c.is_let.ensures ∙ w.if-is_let.true)
+    let k : ℕ = width_bytes g.L.Lane.width in
+    let body : Body = c.args.body.now in
+    let from : body.start ≤ c.loop-i.i = omega (arith, c.loop-i.auto.i, c.start-i.ensures) in
+    let to : c.loop-i.i < body.end = omega (arith, c.loop-i-test.true, c.end-i-end.ensures) in
+    let room : k * c.loop-i.i + k ≤ length c.args.destination.now = room_for _ _ _ _ to c.requires.destination in
+    elim c.if-lets.branch [
+      | then-lets w ↦
+          step_result _ body _ _ _ _ _ _ _ from to c.loop-i.invariant room (sym c.lets.ensures ∙ w.if-lets.true)
           (w.destination-is ∙ w.put.ensures)
-      | else-is_let+then-masked w ↦
-          step_ones _ _ _ _ _ _ _ _ _ _ _ _ c.loop-i.auto.i c.loop-i-test.true c.loop-i.invariant room (sym c.is_let.ensures ∙ w.if-is_let.false) w.if-masked.true
-          (w.destination-is ∙ w.store.ensures ∙ ap (λ n. put_chunk (g.L.Lane.size * c.loop-i.i) c.loop-i.destination (bytes_low_first 0 g.L.Lane.size n)) w.all_ones.ensures)
-      | else-is_let+else-masked w ↦
-          step_off _ _ _ _ _ _ _ _ _ _ _ _ c.loop-i.auto.i c.loop-i-test.true c.loop-i.invariant (sym c.is_let.ensures ∙ w.if-is_let.false) w.if-masked.false
+      | else-lets+then-fill_masked_off w ↦
+          step_ones _ body _ _ _ _ _ _ _ from to c.loop-i.invariant room (sym c.lets.ensures ∙ w.if-lets.false) w.if-fill_masked_off.true
+          (w.destination-is ∙ w.store.ensures ∙ ap (λ n. put_chunk (k * c.loop-i.i) c.loop-i.destination (bytes_low_first 0 k n)) w.all_ones.ensures)
+      | else-lets+else-fill_masked_off w ↦
+          step_off _ body _ _ _ _ _ _ _ from to c.loop-i.invariant (sym c.lets.ensures ∙ w.if-lets.false) w.if-fill_masked_off.false
           w.destination-is
     ]
 
 pub returns : goal.returns
-returns g c = body_ends _ _ _ _ _ _ _ _ _ _ c.loop-i-test.false c.loop-i.invariant
+returns g c = body_ends _ c.args.body.now _ _ _ _ _ (omega (arith, c.loop-i-test.false, c.end-i-end.ensures)) c.loop-i.invariant

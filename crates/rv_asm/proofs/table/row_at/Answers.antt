@@ -1,10 +1,10 @@
 use Rattle.std.proofs.Common.{refl}
 use Rattle.rv_model.specs.assembler.Table.{row_at, slots_at, bits_at}
-use Rattle.rv_asm.proofs.RowLaws.{row_facts, ascii_at}
+use Rattle.rv_asm.proofs.RowLaws.{row_facts, byte_is_ascii}
 use Rattle.rv_asm.proofs.table.row_at.Goals as goal
 
 pub returns : goal.returns
 unfolding row_at slots_at bits_at
 returns c =
     let r = row_facts c.args.row c.requires in
-    record { value = refl; ascii = ascii_at (row_at c.args.row).0 r.ascii; room = r.room }
+    record { value = refl; ascii = byte_is_ascii (row_at c.args.row).0 r.ascii; room = r.room }

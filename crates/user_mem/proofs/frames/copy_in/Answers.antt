@@ -2,6 +2,7 @@ use Rattle.std.proofs.Common.{ℕ, ◌≡◌, ◌≤◌, ◌+◌, ◌-◌, ◌%�
 use Rattle.rv_model.specs.declared.memory.Access.TheVariants.{Monitor}
 use Rattle.rv_model.specs.memory.Memory.{Memory, is_allowed, put_bytes}
 use Rattle.rv_model.proofs.memory_lemmas.Memory.{can_access-at, is_allowed-put_bytes}
+use Rattle.rv_model.specs.memory.Sizes.{page_size}
 use Rattle.user_mem.specs.Table.{memory_of}
 use Rattle.user_mem.proofs.TableLaws.{access_below}
 use Rattle.user_mem.proofs.RunLaws.{part_length, part_is, run_written, others_unwritten, put_bytes_run}
@@ -35,8 +36,8 @@ loop-done-preserved c =
     let part = take ((done + len) - done) (drop done c.args.bytes.now) in
     let room : c.loop-done.done + c.bytes_in_page-len.result ≤ length c.args.bytes.now = omega (arith, c.bytes_in_page-len.ensures) in
     let long = part_length c.args.bytes.now done len room in
-    let page : (c.args.addr + c.loop-done.done) % 4096 + c.bytes_in_page-len.result ≤ 4096 = omega (arith, c.bytes_in_page-len.ensures) in
-    let fits = ap (λ (n : ℕ). next % 4096 + n) long in
+    let page : (c.args.addr + c.loop-done.done) % page_size + c.bytes_in_page-len.result ≤ page_size = omega (arith, c.bytes_in_page-len.ensures) in
+    let fits = ap (λ (n : ℕ). next % page_size + n) long in
     let ok : is_allowed Monitor (memory_of c.loop-done.frames c.args.entries.now) (c.args.addr + c.loop-done.done) ≡ true =
     ap (λ (m : Memory). is_allowed Monitor m next) c.loop-done.invariant.written
     ∙ is_allowed-put_bytes Monitor (memory_of c.args.frames.now c.args.entries.now) c.args.addr (take done c.args.bytes.now) next

@@ -1,6 +1,7 @@
 use Rattle.std.proofs.Common.{◌≤◌, ◌+◌, ◌-◌, ◌%◌, ◌∙◌, refl, arith, length, take, drop}
 use Rattle.rv_model.specs.declared.memory.Access.TheVariants.{Monitor}
 use Rattle.rv_model.proofs.memory_lemmas.Memory.{can_access-at, bytes_read}
+use Rattle.rv_model.specs.memory.Sizes.{page_size}
 use Rattle.user_mem.specs.Table.{memory_of}
 use Rattle.user_mem.proofs.TableLaws.{access_below}
 use Rattle.user_mem.proofs.RunLaws.{part_length, part_at, read_more}
@@ -19,7 +20,7 @@ loop-done-preserved c =
     let next = c.args.addr + c.loop-done.done in
     let start = c.index_of-start.result in
     let len = c.bytes_in_page-len.result in
-    let fits : (c.args.addr + c.loop-done.done) % 4096 + c.bytes_in_page-len.result ≤ 4096 = omega (arith, c.bytes_in_page-len.ensures) in
+    let fits : (c.args.addr + c.loop-done.done) % page_size + c.bytes_in_page-len.result ≤ page_size = omega (arith, c.bytes_in_page-len.ensures) in
     let room : c.index_of-start.result + c.bytes_in_page-len.result ≤ length c.args.frames.now = omega (arith, c.index_of-start.ensures.within) in
     record {
       within = omega (arith, c.bytes_in_page-len.ensures, c.paste.ensures.size);

@@ -2,7 +2,7 @@ use Rattle.std.proofs.Common.{◌+◌, ◌∙◌, refl, ap, arith, length}
 use Rattle.rv_model.specs.memory.Memory.{Memory, with_pages}
 use Rattle.user_mem.specs.Table.{memory_of}
 use Rattle.rv_model.proofs.memory_lemmas.Memory.{with_pages_more, with_pages_none}
-use Rattle.user_mem.proofs.CountLaws.{AreMine-fewer}
+use Rattle.user_mem.proofs.CountLaws.{ShareNoFrame-fewer}
 use Rattle.user_mem.proofs.free.take_pages.Goals as goal
 
 pub loop-i-init : goal.loop-i-init
@@ -26,7 +26,7 @@ loop-i-preserved c = record {
       ∙ ap (λ (m : Memory). with_pages m (c.args.page + c.loop-i.i) 1 c.args.permissions) c.loop-i.invariant.mapped
       ∙ with_pages_more (memory_of c.args.frames.now c.args.table.now.items) c.args.page c.loop-i.i c.args.permissions;
   others = λ other m.
-      c.take_page.ensures.others other (AreMine-fewer c.args.free.now.items c.loop-i.free.items (length c.args.frames.now) (length c.loop-i.frames) other c.loop-i.invariant.fewer c.loop-i.invariant.size m)
+      c.take_page.ensures.others other (ShareNoFrame-fewer c.args.free.now.items c.loop-i.free.items (length c.args.frames.now) (length c.loop-i.frames) other c.loop-i.invariant.fewer c.loop-i.invariant.size m)
       ∙ c.loop-i.invariant.others other m;
   sorted = c.take_page.ensures.sorted;
   below = c.take_page.ensures.below (omega arith) c.loop-i.invariant.below;

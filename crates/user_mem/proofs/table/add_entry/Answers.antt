@@ -1,5 +1,5 @@
 use Rattle.user_mem.proofs.SearchLaws.{no_entry, entry_at_place, sorted_insert}
-use Rattle.user_mem.proofs.FrameLaws.{entry_at-insert, uses_of-insert}
+use Rattle.user_mem.proofs.FrameLaws.{entry_at-insert, times_used-insert}
 use Rattle.user_mem.proofs.table.add_entry.Goals as goal
 
 pub unreachable-requires : goal.unreachable-requires
@@ -17,4 +17,4 @@ pub returns-clause-looked_up : goal.returns-clause-looked_up
 returns-clause-looked_up c = λ p. rw c.insert.ensures.items (entry_at-insert c.args.table.now.items c.in-Err.place c.args.entry p c.requires.new_page)
 
 pub returns-clause-used : goal.returns-clause-used
-returns-clause-used c = λ f. rw c.insert.ensures.items (uses_of-insert f c.args.table.now.items c.in-Err.place c.args.entry)
+returns-clause-used c = λ f. rw c.insert.ensures.items (times_used-insert f c.args.table.now.items c.in-Err.place c.args.entry)

@@ -1,30 +1,30 @@
 use Rattle.std.proofs.Common.{◌∙◌, sym, ap, arith, map, List, []}
-use Rattle.std.proofs.lemmas.List.{set-get_or}
+use Rattle.std.proofs.lemmas.List.{set-get_or, get_or-map}
 use Rattle.rv_model.specs.memory.Memory.{put_bytes}
 use Rattle.user_mem.specs.declared.entry.Entry.{Entry}
 use Rattle.user_mem.specs.Table.{memory_of}
 use Rattle.user_mem.specs.Pool.{table_at, memories_of}
-use Rattle.user_mem.proofs.PoolLaws.{item_of, fit_in, separate, apart, pool_written, memories_after}
+use Rattle.user_mem.proofs.PoolLaws.{table_fits, table_is_separate, tables_are_apart, IsPool-written, memories_of-set}
 use Rattle.user_mem.proofs.users.write_user.Goals as goal
 
 pub copy_in-requires : goal.copy_in-requires
 copy_in-requires c =
     let tables = map (λ t. t.items) c.args.tables.now in
-    rw (c.as_slice.ensures.value, ← item_of (λ t. t.items) c.args.tables.now c.args.user c.index-tables-user.result [] (omega arith))
+    rw (c.as_slice.ensures.value, ← get_or-map (λ t. t.items) c.args.tables.now c.args.user c.index-tables-user.result [] (omega arith))
     (record {
       sorted = c.requires.pool.sorted c.args.user;
       below = c.requires.pool.below c.args.user;
-      fit = fit_in (map (λ t. t.items) c.args.tables.now) c.args.free.now.items c.args.frames.now c.args.user c.requires.pool c.requires.user;
-      separate = separate (map (λ t. t.items) c.args.tables.now) c.args.free.now.items c.args.frames.now c.args.user c.requires.pool c.requires.user;
+      fit = table_fits (map (λ t. t.items) c.args.tables.now) c.args.free.now.items c.args.frames.now c.args.user c.requires.pool c.requires.user;
+      separate = table_is_separate (map (λ t. t.items) c.args.tables.now) c.args.free.now.items c.args.frames.now c.args.user c.requires.pool c.requires.user;
       mapped = c.requires.mapped;
     })
 
 pub returns-clause-pool : goal.returns-clause-pool
-returns-clause-pool c = pool_written (map (λ t. t.items) c.args.tables.now) c.args.free.now.items c.args.frames.now c.copy_in.new.frames c.requires.pool c.copy_in.ensures.size
+returns-clause-pool c = IsPool-written (map (λ t. t.items) c.args.tables.now) c.args.free.now.items c.args.frames.now c.copy_in.new.frames c.requires.pool c.copy_in.ensures.size
 
 pub returns-clause-written : goal.returns-clause-written
 returns-clause-written c =
-    let item = item_of (λ t. t.items) c.args.tables.now c.args.user c.index-tables-user.result [] (omega arith) in
+    let item = get_or-map (λ t. t.items) c.args.tables.now c.args.user c.index-tables-user.result [] (omega arith) in
     let table = sym (c.as_slice.ensures.value ∙ sym item) in
     let users = c.requires.pool.users in
     let unset = set-get_or (map (λ t. t.items) c.args.tables.now) c.args.user [] in
@@ -32,7 +32,7 @@ returns-clause-written c =
     ap (λ (t : List Entry). memory_of c.copy_in.new.frames t) table ∙ c.copy_in.ensures.written
     ∙ ap (λ (t : List Entry). put_bytes (memory_of c.args.frames.now t) c.args.addr c.args.bytes.now) (sym table) in
     ap (λ (ts : List (List Entry)). memories_of c.copy_in.new.frames ts) (sym unset)
-    ∙ memories_after c.args.frames.now c.copy_in.new.frames (map (λ t. t.items) c.args.tables.now) c.args.user (table_at (map (λ t. t.items) c.args.tables.now) c.args.user) _ (omega (arith, users))
+    ∙ memories_of-set c.args.frames.now c.copy_in.new.frames (map (λ t. t.items) c.args.tables.now) c.args.user (table_at (map (λ t. t.items) c.args.tables.now) c.args.user) _ (omega (arith, users))
     (λ v within other. c.copy_in.ensures.others (table_at (map (λ t. t.items) c.args.tables.now) v)
-    (rw (← table) (apart (map (λ t. t.items) c.args.tables.now) c.args.free.now.items c.args.frames.now c.args.user v c.requires.pool c.requires.user (omega (arith, users)) (λ q. other (sym q)))))
+    (rw (← table) (tables_are_apart (map (λ t. t.items) c.args.tables.now) c.args.free.now.items c.args.frames.now c.args.user v c.requires.pool c.requires.user (omega (arith, users)) (λ q. other (sym q)))))
     written

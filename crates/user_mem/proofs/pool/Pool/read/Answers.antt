@@ -4,7 +4,7 @@ use Rattle.rv_model.specs.memory.Memory.{Memory, can_access}
 use Rattle.rv_model.proofs.memory_lemmas.Memory.{can_access_monitor}
 use Rattle.user_mem.specs.Table.{memory_of, IsSorted, AreBelow, FitIn}
 use Rattle.user_mem.specs.Users.{memory_of_user}
-use Rattle.user_mem.proofs.PoolLaws.{fit_in}
+use Rattle.user_mem.proofs.PoolLaws.{table_fits}
 use Rattle.user_mem.proofs.ViewLaws.{fact_at, memory_at}
 use Rattle.user_mem.proofs.pool.Pool.read.Goals as goal
 
@@ -20,7 +20,7 @@ pub copy_out-requires-clause-fit : goal.copy_out-requires-clause-fit
 copy_out-requires-clause-fit g c =
     rw c.as_slice-2.ensures.value
     (fact_at (λ t. t.items) (λ t. FitIn t (length c.self.inside.frames.items)) c.self.inside.tables c.index.result c.index-self-index.result c.as_slice.result.now (omega (arith, c.self.invariant.users)) c.as_slice.ensures.value
-    (fit_in (map (λ t. t.items) c.self.inside.tables) c.self.inside.free.items c.self.inside.frames.items c.index.result c.self.invariant c.index.ensures.small))
+    (table_fits (map (λ t. t.items) c.self.inside.tables) c.self.inside.free.items c.self.inside.frames.items c.index.result c.self.invariant c.index.ensures.small))
 
 pub copy_out-requires-clause-mapped : goal.copy_out-requires-clause-mapped
 copy_out-requires-clause-mapped g c =

@@ -1,0 +1,67 @@
+//! Which elements an instruction works on ("V" Vector Extension 1.0, sections 5.3 and 5.4).
+ghost use Rattle.std.specs.Prelude.{◌≡◌, ◌<◌};
+ghost use Rattle.rv_model.specs.elements.Elements.{is_let};
+
+use rv_model::{GROUP_BYTES, VLENB};
+use std::marker::Model;
+
+/// The body of an instruction: the elements from `start`, which is `vstart`, up to `end`, which is `vl`;
+/// and the mask of those that are active, unless the instruction is unmasked.
+#[derive(Drop)]
+pub struct Body<'a> {
+    unmasked: bool,
+    mask: &'a [u8; VLENB],
+    start: usize,
+    end: usize,
+}
+
+impl<'a> Model for Body<'a> {
+    ghost use Rattle.rv_model.specs.elements.Elements.{Body};
+
+    ghost Value = { Body };
+
+    ghost view = { λ b. record { unmasked = b.unmasked; mask = b.mask.now; start = b.start; end = b.end } };
+}
+
+impl<'a> Body<'a> {
+    /// The elements from one index up to another, under a mask with a bit for each unless `unmasked`.
+    pub fn new(unmasked: bool, mask: &'a [u8; VLENB], start: usize, end: usize) -> Body<'a>
+        ensures { result ≡ record { unmasked = unmasked; mask = mask.now; start = start; end = end } }
+    {
+        Body {
+            unmasked,
+            mask,
+            start,
+            end,
+        }
+    }
+
+    /// Whether all elements are active.
+    pub fn is_unmasked(&self) -> bool
+        ensures { result ≡ self.now.unmasked }
+    {
+        self.unmasked
+    }
+
+    /// The first index.
+    pub fn start(&self) -> usize
+        ensures { result ≡ self.now.start }
+    {
+        self.start
+    }
+
+    /// The index after the last.
+    pub fn end(&self) -> usize
+        ensures { result ≡ self.now.end }
+    {
+        self.end
+    }
+
+    /// Whether the mask lets an element through.
+    pub fn lets(&self, index: usize) -> bool
+        requires { index < GROUP_BYTES }
+        ensures { result ≡ is_let self.now index }
+    {
+        self.unmasked || self.mask[index / 8] >> (index % 8) & 1 == 1
+    }
+}

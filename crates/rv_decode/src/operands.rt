@@ -1,0 +1,198 @@
+//! The operands of instructions, each at its place in a word.
+ghost use Rattle.std.specs.Prelude.{◌≡◌, ◌<◌, ◌*◌, ◌+◌, ◌/◌, ◌%◌, ◌^◌, true};
+ghost use Rattle.rv_model.specs.instructions.BitFields.{AllFit, flag_bit, sum_of};
+ghost use Rattle.rv_model.specs.instructions.Sources.{number};
+ghost use Rattle.rv_model.specs.instructions.Layout.{parts};
+ghost use Rattle.rv_decode.specs.Opcodes.{is_access, is_operation};
+
+use rv_model::{Field, Instr, Reg, Source, VReg};
+
+/// A register's number at bit `low`.
+fn reg(register: Reg, low: u32) -> u64
+    requires { low < 32 }
+    ensures value { result ≡ register * 2 ^ low }
+    ensures small { result < 2 ^ 40 }
+    ensures fit { register < 2 ^ 5 }
+{
+    u64::from(register.number()) << low
+}
+
+/// A vector register's number at bit `low`.
+fn vreg(register: VReg, low: u32) -> u64
+    requires { low < 32 }
+    ensures value { result ≡ register * 2 ^ low }
+    ensures small { result < 2 ^ 40 }
+    ensures fit { register < 2 ^ 5 }
+{
+    u64::from(register.number()) << low
+}
+
+/// A field at bit `low`.
+fn put<const BITS: u32>(field: Field<BITS>, low: u32) -> u64
+    requires { low < 32 }
+    ensures value { result ≡ field.entry * 2 ^ low }
+    ensures fit { field.entry < 2 ^ BITS }
+{
+    u64::from(field.value()) << low
+}
+
+/// The bit that says that a vector instruction is not masked.
+fn unmasked(vm: bool) -> u64
+    ensures value { result ≡ flag_bit vm * 2 ^ 25 }
+    ensures small { result < 2 ^ 40 }
+    ensures fit { flag_bit vm < 2 ^ 1 }
+{
+    if vm { 1 << 25 } else { 0 }
+}
+
+/// The immediate of a store, in its two pieces.
+fn store_part(imm: Field<12>) -> u64
+    ensures value { result ≡ imm % 2 ^ 5 * 2 ^ 7 + imm / 2 ^ 5 * 2 ^ 25 }
+    ensures fit { imm < 2 ^ 12 }
+    ensures small { result < 2 ^ 40 }
+{
+    let bits = u64::from(imm.value());
+    ((bits % 32) << 7) + ((bits / 32) << 25)
+}
+
+/// The distance of a branch, in its four pieces.
+fn branch_part(imm: Field<12>) -> u64
+    ensures value { result
+        ≡ imm / 2 ^ 10 % 2 ^ 1 * 2 ^ 7 + imm % 2 ^ 4 * 2 ^ 8
+        + imm / 2 ^ 4 % 2 ^ 6 * 2 ^ 25 + imm / 2 ^ 11 * 2 ^ 31 }
+    ensures fit { imm < 2 ^ 12 }
+    ensures small { result < 2 ^ 40 }
+{
+    let bits = u64::from(imm.value());
+    ((bits / 1024 % 2) << 7) + ((bits % 16) << 8) + ((bits / 16 % 64) << 25) + ((bits / 2048) << 31)
+}
+
+/// The distance of a jump, in its four pieces.
+fn jump_part(imm: Field<20>) -> u64
+    ensures value { result
+        ≡ imm / 2 ^ 11 % 2 ^ 8 * 2 ^ 12 + imm / 2 ^ 10 % 2 ^ 1 * 2 ^ 20
+        + imm % 2 ^ 10 * 2 ^ 21 + imm / 2 ^ 19 * 2 ^ 31 }
+    ensures fit { imm < 2 ^ 20 }
+    ensures small { result < 2 ^ 40 }
+{
+    let bits = u64::from(imm.value());
+    ((bits / 2048 % 256) << 12)
+        + ((bits / 1024 % 2) << 20)
+        + ((bits % 1024) << 21)
+        + ((bits / 524_288) << 31)
+}
+
+/// The second operand of a vector operation, at bit 15.
+fn source_part(source: &Source) -> u64
+    ensures value { result ≡ number source.now * 2 ^ 15 }
+    ensures fit { number source.now < 2 ^ 5 }
+{
+    match *source {
+        Source::V(register) => vreg(register, 15),
+        Source::X(register) => reg(register, 15),
+        Source::I(imm) => put(imm, 15),
+    }
+}
+
+/// The operands of a vector operation, each at its place.
+fn operation_operands(instr: &Instr) -> u64
+    requires { is_operation instr.now ≡ true }
+    ensures value { result ≡ sum_of 0 (parts instr.now) }
+    ensures fit { AllFit (parts instr.now) }
+    ensures small { result < 2 ^ 61 }
+{
+    match *instr {
+        Instr::SetVli { rd, rs1, vtype } => reg(rd, 7) + reg(rs1, 15) + put(vtype, 20),
+        Instr::SetIvli { rd, avl, vtype } => reg(rd, 7) + put(avl, 15) + put(vtype, 20),
+        Instr::SetVl { rd, rs1, rs2 } => reg(rd, 7) + reg(rs1, 15) + reg(rs2, 20),
+        Instr::VectorArith { arith, vd, vs2, vm } => source_part(&arith.parts().1)
+            + vreg(vd, 7)
+            + vreg(vs2, 20)
+            + unmasked(vm),
+        Instr::VectorCarry { carry, vd, vs2 } => source_part(&carry.parts().1)
+            + vreg(vd, 7)
+            + vreg(vs2, 20),
+        Instr::VectorMove { source, vd } => source_part(&source) + vreg(vd, 7),
+        Instr::WholeMove { vd, vs2, .. } => vreg(vd, 7) + vreg(vs2, 20),
+        Instr::MaskLogic { vd, vs1, vs2, .. } => vreg(vd, 7) + vreg(vs1, 15) + vreg(vs2, 20),
+        Instr::Compress { vd, vs1, vs2 } => vreg(vd, 7) + vreg(vs1, 15) + vreg(vs2, 20),
+        Instr::MaskToScalar { rd, vs2, vm, .. } => reg(rd, 7) + vreg(vs2, 20) + unmasked(vm),
+        Instr::VectorExtend { vd, vs2, vm, .. } => vreg(vd, 7) + vreg(vs2, 20) + unmasked(vm),
+        Instr::MaskUnary { vd, vs2, vm, .. } => vreg(vd, 7) + vreg(vs2, 20) + unmasked(vm),
+        Instr::ElementIndex { vd, vm } => vreg(vd, 7) + unmasked(vm),
+        Instr::MoveToScalar { rd, vs2 } => reg(rd, 7) + vreg(vs2, 20),
+        Instr::MoveToVector { vd, rs1 } => vreg(vd, 7) + reg(rs1, 15),
+        _ => unreachable!(),
+    }
+}
+
+/// The operands of a vector load or store, each at its place.
+fn access_operands(instr: &Instr) -> u64
+    requires { is_access instr.now ≡ true }
+    ensures value { result ≡ sum_of 0 (parts instr.now) }
+    ensures fit { AllFit (parts instr.now) }
+    ensures small { result < 2 ^ 61 }
+{
+    match *instr {
+        Instr::VectorUnit {
+            nf,
+            vd,
+            rs1,
+            vm,
+            ..
+        } => put(nf, 29) + vreg(vd, 7) + reg(rs1, 15) + unmasked(vm),
+        Instr::VectorStrided {
+            nf,
+            vd,
+            rs1,
+            rs2,
+            vm,
+            ..
+        } => put(nf, 29) + vreg(vd, 7) + reg(rs1, 15) + reg(rs2, 20) + unmasked(vm),
+        Instr::VectorIndexed {
+            nf,
+            vd,
+            rs1,
+            vs2,
+            vm,
+            ..
+        } => put(nf, 29) + vreg(vd, 7) + reg(rs1, 15) + vreg(vs2, 20) + unmasked(vm),
+        Instr::WholeLoad { vd, rs1, .. } => vreg(vd, 7) + reg(rs1, 15),
+        Instr::WholeStore { vd, rs1, .. } => vreg(vd, 7) + reg(rs1, 15),
+        Instr::MaskMemory { vd, rs1, .. } => vreg(vd, 7) + reg(rs1, 15),
+        _ => unreachable!(),
+    }
+}
+
+/// The operands, each at its place.
+pub(crate) fn operands(instr: &Instr) -> u64
+    ensures value { result ≡ sum_of 0 (parts instr.now) }
+    ensures fit { AllFit (parts instr.now) }
+    ensures small { result < 2 ^ 61 }
+{
+    match *instr {
+        Instr::Upper { rd, imm, .. } => reg(rd, 7) + put(imm, 12),
+        Instr::Jump { rd, imm } => reg(rd, 7) + jump_part(imm),
+        Instr::JumpRegister { rd, rs1, imm } => reg(rd, 7) + reg(rs1, 15) + put(imm, 20),
+        Instr::Branch { rs1, rs2, imm, .. } => reg(rs1, 15) + reg(rs2, 20) + branch_part(imm),
+        Instr::Load { rd, rs1, imm, .. } => reg(rd, 7) + reg(rs1, 15) + put(imm, 20),
+        Instr::Store { rs1, rs2, imm, .. } => reg(rs1, 15) + reg(rs2, 20) + store_part(imm),
+        Instr::RegisterImmediate { rd, rs1, imm, .. } => reg(rd, 7) + reg(rs1, 15) + put(imm, 20),
+        Instr::ShiftImmediate { rd, rs1, shamt, .. } => reg(rd, 7) + reg(rs1, 15) + put(shamt, 20),
+        Instr::ShiftImmediateWord { rd, rs1, shamt, .. } => reg(rd, 7)
+            + reg(rs1, 15)
+            + put(shamt, 20),
+        Instr::RegisterRegister { rd, rs1, rs2, .. } => reg(rd, 7) + reg(rs1, 15) + reg(rs2, 20),
+        Instr::Fence { rd, rs1, ordering } => reg(rd, 7) + reg(rs1, 15) + put(ordering, 20),
+        Instr::System { .. } => 0,
+        Instr::Csr { rd, rs1, csr, .. } => reg(rd, 7) + reg(rs1, 15) + put(csr, 20),
+        Instr::CsrImmediate { rd, imm, csr, .. } => reg(rd, 7) + put(imm, 15) + put(csr, 20),
+        Instr::VectorUnit { .. }
+        | Instr::VectorStrided { .. }
+        | Instr::VectorIndexed { .. }
+        | Instr::WholeLoad { .. }
+        | Instr::WholeStore { .. }
+        | Instr::MaskMemory { .. } => access_operands(instr),
+        _ => operation_operands(instr),
+    }
+}

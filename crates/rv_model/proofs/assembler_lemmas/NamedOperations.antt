@@ -1,0 +1,141 @@
+-- A name is that of the operation of every word with its bits.
+use Rattle.std.proofs.Common.{◌≡◌, ℕ, ◌*◌, ◌^◌, ◌<◌, Bool, true, false, cond, nat_eq, ◌&&◌, List, [], ◌∷◌, ◌++◌, take, get_or, Option, Some, None, refl, sym, ap, subst, ◌∙◌, arith}
+use Rattle.std.specs.List.{list_all}
+use Rattle.std.specs.Str.{bytes_eq}
+use Rattle.std.specs.Int.Bits.{bit_and, and_comm, and_self}
+use Rattle.std.proofs.lemmas.Nat.{and_assoc}
+use Rattle.std.proofs.lemmas.Nat.Bits.{and_high}
+use Rattle.std.proofs.lemmas.Bool.{and_parts, eqb-true}
+use Rattle.std.proofs.lemmas.List.{get_or-take}
+use Rattle.std.proofs.lemmas.Slice.Eq.{bytes_eq-Decides}
+use Rattle.rv_model.specs.declared.instructions.operations.VectorOp.{VectorOp}
+use Rattle.rv_model.specs.declared.instructions.operations.VectorOp.TheVariants as vector_op
+use Rattle.rv_model.specs.declared.instructions.operations.Form.{Form}
+use Rattle.rv_model.specs.declared.instructions.instruction.Instr.{Instr}
+use Rattle.rv_model.specs.declared.instructions.instruction.Instr.TheVariants.{VectorArith, VectorCarry, VectorMove, VectorUnit, VectorStrided, VectorIndexed}
+use Rattle.rv_model.specs.declared.assembler.forms.Form.TheVariants as text_form
+use Rattle.rv_model.specs.declared.assembler.mnemonics.Mnemonic.{Mnemonic}
+use Rattle.rv_model.specs.declared.assembler.mnemonics.TheConstants.{MNEMONICS}
+use Rattle.rv_model.specs.instructions.BitFields.{field, flag}
+use Rattle.rv_model.specs.instructions.Layout.{filled}
+use Rattle.rv_model.specs.instructions.Sources.{form_of}
+use Rattle.rv_model.specs.instructions.Table.{Row, In, rows, table, scan}
+use Rattle.rv_model.specs.assembler.Fields.{fixed_mask}
+use Rattle.rv_model.specs.assembler.Naming.{HasBitsOf, NamesOperation}
+use Rattle.rv_model.specs.assembler.OperationNames.{carry_name, carry_suffix, compare_name, compare_suffix, indexed_name, mnemonic, move_suffix, strided_name, takes_carry, unit_name, vector_name}
+use Rattle.rv_model.specs.assembler.Table.{bits_at, name_at, name_count, row_at, slots_at, slots_of, unpadded}
+use Rattle.rv_model.proofs.instruction_lemmas.RoundTrips.{template_of}
+use Rattle.rv_model.proofs.instruction_lemmas.Scans.{found, table_apart}
+use Rattle.rv_model.proofs.instruction_lemmas.Words.{form_source_of}
+use Rattle.rv_model.proofs.assembler_lemmas.Naming.{all_at, bits_of_name, covers_all, in_names, names, pattern_of_row, row_of_name}
+
+-- ---- the bits that a name tells besides the operation
+
+-- bit 25 of vmadc and vmsbc, which says whether a carry or a borrow comes in
+abbrev told_by_operation : VectorOp → ℕ
+told_by_operation (vector_op.Compare op) = cond (takes_carry op) (2 ^ 25) 0
+told_by_operation op = 0
+
+-- and the number of fields
+abbrev told : Instr → ℕ
+told (VectorArith arith vd vs2 vm) = told_by_operation arith.0
+told (VectorUnit op width nf vd rs1 vm) = 7 * 2 ^ 29
+told (VectorStrided direction width nf vd rs1 rs2 vm) = 7 * 2 ^ 29
+told (VectorIndexed direction order width nf vd rs1 vs2 vm) = 7 * 2 ^ 29
+told i = 0
+
+same_flag : (w v : ℕ) → bit_and w (2 ^ 25) ≡ bit_and v (2 ^ 25) → flag w ≡ flag v
+same_flag w v h =
+    let same : field 25 1 w ≡ field 25 1 v = omega (arith, h, and_high w 1 25, and_high v 1 25) in
+    ap (λ (n : ℕ). nat_eq n 1) same
+
+same_fields : (w v : ℕ) → bit_and w (7 * 2 ^ 29) ≡ bit_and v (7 * 2 ^ 29) → field 29 3 w ≡ field 29 3 v
+same_fields w v h = omega (arith, h, and_high w 3 29, and_high v 3 29)
+
+compare_same : (carry : Bool) (f : Form) (w v : ℕ) → bit_and w (cond carry (2 ^ 25) 0) ≡ bit_and v (cond carry (2 ^ 25) 0) → compare_suffix carry f (flag w) ≡ compare_suffix carry f (flag v)
+compare_same true f w v h = ap (compare_suffix true f) (same_flag w v h)
+compare_same false f w v h = refl
+
+vector_same : (op : VectorOp) (f : Form) (w v : ℕ) → bit_and w (told_by_operation op) ≡ bit_and v (told_by_operation op) → vector_name op f (flag w) ≡ vector_name op f (flag v)
+vector_same (vector_op.Compare op) f w v h = ap (λ (s : List ℕ). compare_name op ++ s) (compare_same (takes_carry op) f w v h)
+vector_same op f w v h = refl
+
+-- words that agree in those bits have one name
+same_name : (t : Instr) (w v : ℕ) → bit_and w (told (filled t v)) ≡ bit_and v (told (filled t v)) → mnemonic (filled t w) ≡ mnemonic (filled t v)
+same_name (VectorArith arith vd vs2 vm) w v h =
+    let f = form_of arith.1 in
+    ap (λ (g : Form). vector_name arith.0 g (flag w)) (form_source_of f (field 15 5 w))
+    ∙ vector_same arith.0 f w v h
+    ∙ ap (λ (g : Form). vector_name arith.0 g (flag v)) (sym (form_source_of f (field 15 5 v)))
+same_name (VectorCarry carry vd vs2) w v h =
+    let f = form_of carry.1 in
+    ap (λ (g : Form). carry_name carry.0 ++ carry_suffix g) (form_source_of f (field 15 5 w) ∙ sym (form_source_of f (field 15 5 v)))
+same_name (VectorMove source vd) w v h =
+    let f = form_of source in
+    ap (λ (g : Form). 118 ∷ 109 ∷ 118 ∷ 46 ∷ 118 ∷ move_suffix g) (form_source_of f (field 15 5 w) ∙ sym (form_source_of f (field 15 5 v)))
+same_name (VectorUnit op width nf vd rs1 vm) w v h = ap (λ (n : ℕ). unit_name op n width) (same_fields w v h)
+same_name (VectorStrided direction width nf vd rs1 rs2 vm) w v h = ap (λ (n : ℕ). strided_name direction n width) (same_fields w v h)
+same_name (VectorIndexed direction order width nf vd rs1 vs2 vm) w v h = ap (λ (n : ℕ). indexed_name direction order n width) (same_fields w v h)
+same_name _ w v h = refl
+
+-- ---- each row of the table of names
+
+-- the name is that of an instruction's operation, and fixes the bits that it tells
+abbrev named_by : Mnemonic → Option Instr → Bool
+named_by m None = false
+named_by m (Some i) = bytes_eq (mnemonic i) (unpadded m.0) && nat_eq (bit_and (told i) (fixed_mask (slots_of m.1))) (told i)
+
+abbrev names_its_own : Mnemonic → Bool
+names_its_own m = named_by m (scan table m.2)
+
+unfoldable each_names_its_own : Bool
+each_names_its_own = list_all names_its_own (take name_count MNEMONICS)
+
+each_names_its_own_true : each_names_its_own ≡ true
+unfolding each_names_its_own table rows scan fixed_mask
+each_names_its_own_true = refl
+
+abbrev none : Mnemonic
+none = record { 0 = []; 1 = text_form.Plain; 2 = 0 }
+
+own_name : (row : ℕ) → row < name_count → names_its_own (row_at row) ≡ true
+unfolding each_names_its_own row_at
+own_name row lt =
+    let P : Mnemonic → Type 0 = λ m. names_its_own m ≡ true in
+    subst P (get_or-take name_count MNEMONICS row none lt) (all_at names_its_own (take name_count MNEMONICS) row none each_names_its_own_true lt)
+
+-- a word that agrees with the bits of a row of the instruction table in those that the name tells has the name
+same_in_row : (r : Row) → In r table → (w v : ℕ) → bit_and w (told (r.instr v)) ≡ bit_and v (told (r.instr v)) → mnemonic (r.instr w) ≡ mnemonic (r.instr v)
+same_in_row r here w v =
+    let t = template_of r here in
+    let P : Row → Type 0 = λ s. bit_and w (told (s.instr v)) ≡ bit_and v (told (s.instr v)) → mnemonic (s.instr w) ≡ mnemonic (s.instr v) in
+    subst P t.1 (same_name t.0 w v)
+
+-- what is outside a mask may differ
+within_mask : (w v mask some : ℕ) → bit_and some mask ≡ some → bit_and w mask ≡ v → bit_and w some ≡ bit_and v some
+within_mask w v mask some inside is =
+    ap (bit_and w) (sym inside ∙ and_comm some mask) ∙ sym (and_assoc some w mask) ∙ ap (λ (x : ℕ). bit_and x some) is
+
+-- the bits of a name are among those that it fixes
+own_bits : (w mask bits : ℕ) → bit_and w mask ≡ bits → bit_and bits mask ≡ bits
+own_bits w mask bits is = sym (within_mask w bits mask mask (and_self mask) is) ∙ is
+
+pub names_operation : (row word : ℕ) → row < name_count → HasBitsOf row word → NamesOperation (name_at row) (scan table word)
+unfolding name_at slots_at bits_at
+names_operation row word lt is =
+    let m = row_at row in
+    let mask = fixed_mask (slots_of m.1) in
+    let inside = in_names row lt in
+    let r = row_of_name row inside in
+    let name = get_or names row (0, 0) in
+    let own : bit_and m.2 mask ≡ m.2 = own_bits word mask m.2 is in
+    let here : scan table word ≡ Some (r.0.instr word) = found table table_apart r.0 r.1 word (covers_all (pattern_of_row r.0) name word r.2 (bits_of_name row word lt is)) in
+    let at_zeros : scan table m.2 ≡ Some (r.0.instr m.2) = found table table_apart r.0 r.1 m.2 (covers_all (pattern_of_row r.0) name m.2 r.2 (bits_of_name row m.2 lt own)) in
+    let i = r.0.instr m.2 in
+    let P : Option Instr → Type 0 = λ o. named_by m o ≡ true in
+    let tests = and_parts (bytes_eq (mnemonic i) (unpadded m.0)) (nat_eq (bit_and (told i) mask) (told i)) (subst P at_zeros (own_name row lt)) in
+    let same : mnemonic (r.0.instr word) ≡ unpadded m.0 =
+    same_in_row r.0 r.1 word m.2 (within_mask word m.2 mask (told i) (eqb-true (bit_and (told i) mask) (told i) tests.1) is)
+    ∙ (bytes_eq-Decides (mnemonic i) (unpadded m.0)).0 tests.0 in
+    let Q : Option Instr → Type 0 = λ o. NamesOperation (unpadded m.0) o in
+    subst Q (sym here) same

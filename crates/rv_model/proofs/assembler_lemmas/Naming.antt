@@ -1,0 +1,283 @@
+-- Names and rows of the instruction table: each name is of one row, and each row but that of fences has names for all its words
+use Rattle.std.proofs.Common.{◌≡◌, ◌⊎◌, ℕ, zero, suc, ◌+◌, ◌-◌, ◌*◌, ◌/◌, ◌%◌, ◌^◌, ◌<◌, Bool, true, false, not, nat_eq, ◌&&◌, ◌||◌, List, [], ◌∷◌, map, take, length, get_or, refl, sym, ap, subst, ◌∙◌, arith, inl, inr, add-zero}
+use Rattle.std.specs.List.{list_any, list_all}
+use Rattle.std.specs.Int.Bits.{bit_and, and_comm}
+use Rattle.std.proofs.Math.Nat.{mod-eq_of_lt}
+use Rattle.std.proofs.lemmas.Nat.{and_assoc, and_mask}
+use Rattle.std.proofs.lemmas.Nat.Bits.{and_high}
+use Rattle.std.proofs.lemmas.Bool.{cases_Bool, and_parts, eqb-true, eq-eqb}
+use Rattle.std.proofs.lemmas.List.{get_or-map, get_or-take}
+use Rattle.rv_model.specs.declared.assembler.forms.Form.TheVariants as form
+use Rattle.rv_model.specs.declared.assembler.mnemonics.Mnemonic.{Mnemonic}
+use Rattle.rv_model.specs.declared.assembler.mnemonics.TheConstants.{MNEMONICS}
+use Rattle.rv_model.specs.assembler.Fields.{fixed_mask}
+use Rattle.rv_model.specs.assembler.Table.{name_count, slots_of, row_at, slots_at, bits_at}
+use Rattle.rv_model.specs.instructions.Table.{Row, In, Matches, rows, table}
+use Rattle.rv_model.specs.assembler.Naming.{IsFence, HasBitsOf}
+use Rattle.rv_model.proofs.instruction_lemmas.Parts.{and_sum}
+use Rattle.rv_model.proofs.instruction_lemmas.Scans.{all_in}
+
+-- a mask, and what the bits in it are
+abbrev pub Pattern : Type 0
+Pattern = ℕ × ℕ
+
+abbrev pub pattern_of : Mnemonic → Pattern
+pattern_of m = (fixed_mask (slots_of m.1), m.2)
+
+abbrev pub pattern_of_row : Row → Pattern
+pattern_of_row r = (r.mask, r.bits)
+
+-- whatever has the bits of q has those of p, which fixes some
+abbrev pub covers : Pattern → Pattern → Bool
+covers p q = nat_eq (bit_and p.0 q.0) p.0 && nat_eq (bit_and q.1 p.0) p.1
+
+unfoldable pub names : List Pattern
+names = map pattern_of (take name_count MNEMONICS)
+
+pub named_count : length names ≡ name_count
+unfolding names
+named_count = refl
+
+pub in_names : (row : ℕ) → row < name_count → row < length names
+in_names row lt = let P : ℕ → Type 0 = λ k. row < k in subst P (sym named_count) lt
+
+-- past the table of names there is no row
+abbrev none : Mnemonic
+none = record { 0 = []; 1 = form.Plain; 2 = 0 }
+
+-- a name of the list is a row of the table of names
+pub name_at_row : (n : ℕ) → n < name_count → get_or names n (0, 0) ≡ pattern_of (get_or MNEMONICS n none)
+unfolding names
+name_at_row n lt = get_or-map pattern_of (take name_count MNEMONICS) n none (0, 0) lt ∙ ap pattern_of (get_or-take name_count MNEMONICS n none lt)
+
+-- what has the bits of a row of the table of names has those of its pattern
+pub bits_of_name : (row w : ℕ) → row < name_count → HasBitsOf row w → bit_and w (get_or names row (0, 0)).0 ≡ (get_or names row (0, 0)).1
+unfolding slots_at bits_at row_at
+bits_of_name row w lt is = let P : Pattern → Type 0 = λ p. bit_and w p.0 ≡ p.1 in subst P (sym (name_at_row row lt)) is
+
+abbrev of_row : Pattern → Row → Bool
+of_row name r = covers (pattern_of_row r) name
+
+-- each name is of a row of the table
+unfoldable each_has_row : Bool
+each_has_row = list_all (λ name. list_any (of_row name) table) names
+
+each_has_row_true : each_has_row ≡ true
+unfolding each_has_row names table rows fixed_mask
+each_has_row_true = refl
+
+-- no fence but the one with a name has the bits of a name
+abbrev spares_fences : Pattern → Bool
+spares_fences name = (nat_eq name.0 (2 ^ 32 - 1) && nat_eq name.1 0x0ff0000f) || not (nat_eq (bit_and name.1 0x707f) (bit_and 0x0f name.0))
+
+unfoldable each_spares_fences : Bool
+each_spares_fences = list_all spares_fences names
+
+each_spares_fences_true : each_spares_fences ≡ true
+unfolding each_spares_fences names fixed_mask
+each_spares_fences_true = refl
+
+-- a name covers the pattern, or both halves of a bit that it leaves open are covered
+abbrev covered : List Pattern → List ℕ → Pattern → Bool
+covered ns [] q = list_any (λ name. covers name q) ns
+covered ns (b ∷ bs) q =
+    list_any (λ name. covers name q) ns
+    || (nat_eq (bit_and q.0 b) 0 && (covered ns bs (q.0 + b, q.1) && covered ns bs (q.0 + b, q.1 + b)))
+
+abbrev is_fence : Pattern → Bool
+is_fence p = nat_eq p.0 0x707f && nat_eq p.1 0x0f
+
+-- where names leave fewer bits open than rows: the mask of vmadc and vmsbc, and the number of fields
+abbrev splits : Bool → Bool → List ℕ
+splits true fields = 2 ^ 25 ∷ []
+splits false true = 2 ^ 29 ∷ 2 ^ 30 ∷ 2 ^ 31 ∷ []
+splits false false = []
+
+abbrev has_mask : Pattern → Bool
+has_mask q = nat_eq (bit_and q.1 0x7f) 0x57
+
+abbrev has_fields : Pattern → Bool
+has_fields q = nat_eq (bit_and q.1 0x5f) 0x07 && nat_eq (bit_and q.0 (2 ^ 29)) 0
+
+abbrev row_covered : Row → Bool
+row_covered r = is_fence (pattern_of_row r) || covered names (splits (has_mask (pattern_of_row r)) (has_fields (pattern_of_row r))) (pattern_of_row r)
+
+unfoldable each_is_covered : Bool
+each_is_covered = list_all row_covered table
+
+each_is_covered_true : each_is_covered ≡ true
+unfolding each_is_covered names table rows fixed_mask
+each_is_covered_true = refl
+
+-- no word has the bits of both
+abbrev apart : Pattern → Pattern → Bool
+apart p q = not (nat_eq (bit_and p.1 q.0) (bit_and q.1 p.0))
+
+abbrev all_apart : List Pattern → Bool
+all_apart [] = true
+all_apart (p ∷ ps) = list_all (apart p) ps && all_apart ps
+
+unfoldable names_apart : Bool
+names_apart = all_apart names
+
+names_apart_true : names_apart ≡ true
+unfolding names_apart names fixed_mask
+names_apart_true = refl
+
+-- ---- what these tests tell
+
+other_of_or : (a b : Bool) → (a || b) ≡ true → a ≡ false → b ≡ true
+other_of_or true b h k = absurd cc
+other_of_or false b h k = h
+
+pub any_at : {X : Type 0} (p : X → Bool) (xs : List X) (d : X) → list_any p xs ≡ true → (n : ℕ) × (n < length xs) × (p (get_or xs n d) ≡ true)
+any_at p [] d h = absurd cc
+any_at p (x ∷ xs) d h =
+    elim (cases_Bool (p x)) [
+      | inl y ↦ (0, omega arith, y)
+      | inr n ↦ let r = any_at p xs d (other_of_or (p x) (list_any p xs) h n) in (suc r.0, omega (arith, r.1), r.2)
+    ]
+
+pub all_at : {X : Type 0} (p : X → Bool) (xs : List X) (n : ℕ) (d : X) → list_all p xs ≡ true → n < length xs → p (get_or xs n d) ≡ true
+all_at p [] n d h lt = absurd (omega arith)
+all_at p (x ∷ xs) zero d h lt = (and_parts (p x) (list_all p xs) h).0
+all_at p (x ∷ xs) (suc n) d h lt = all_at p xs n d (and_parts (p x) (list_all p xs) h).1 (omega arith)
+
+any_in : (p : Row → Bool) (t : List Row) → list_any p t ≡ true → (r : Row) × In r t × (p r ≡ true)
+any_in p [] h = absurd cc
+any_in p (s ∷ ss) h =
+    elim (cases_Bool (p s)) [
+      | inl y ↦ (s, inl refl, y)
+      | inr n ↦ let r = any_in p ss (other_of_or (p s) (list_any p ss) h n) in (r.0, inr r.1, r.2)
+    ]
+
+pub covers_all : (p q : Pattern) (w : ℕ) → covers p q ≡ true → bit_and w q.0 ≡ q.1 → bit_and w p.0 ≡ p.1
+covers_all p q w h is =
+    let k = and_parts (nat_eq (bit_and p.0 q.0) p.0) (nat_eq (bit_and q.1 p.0) p.1) h in
+    ap (bit_and w) (sym (eqb-true (bit_and p.0 q.0) p.0 k.0) ∙ and_comm p.0 q.0)
+    ∙ sym (and_assoc p.0 w q.0)
+    ∙ ap (λ x. bit_and x p.0) is
+    ∙ eqb-true (bit_and q.1 p.0) p.1 k.1
+
+-- a bit is set or clear
+abbrev IsBit : ℕ → Type 0
+IsBit b = (w : ℕ) → (bit_and w b ≡ 0) ⊎ (bit_and w b ≡ b)
+
+abbrev AreBits : List ℕ → Type 0
+AreBits [] = Unit {0}
+AreBits (b ∷ bs) = IsBit b × AreBits bs
+
+one_bit : (n b x : ℕ) → x < 2 → n ≡ x * b → (n ≡ 0) ⊎ (n ≡ b)
+one_bit n b zero lt e = inl (omega (arith, e))
+one_bit n b (suc zero) lt e = inr (omega (arith, e))
+one_bit n b (suc (suc x)) lt e = absurd (omega arith)
+
+bit_25 : IsBit (2 ^ 25)
+bit_25 w = one_bit (bit_and w (2 ^ 25)) (2 ^ 25) (w / 2 ^ 25 % 2) (omega arith) (and_high w 1 25)
+
+bit_29 : IsBit (2 ^ 29)
+bit_29 w = one_bit (bit_and w (2 ^ 29)) (2 ^ 29) (w / 2 ^ 29 % 2) (omega arith) (and_high w 1 29)
+
+bit_30 : IsBit (2 ^ 30)
+bit_30 w = one_bit (bit_and w (2 ^ 30)) (2 ^ 30) (w / 2 ^ 30 % 2) (omega arith) (and_high w 1 30)
+
+bit_31 : IsBit (2 ^ 31)
+bit_31 w = one_bit (bit_and w (2 ^ 31)) (2 ^ 31) (w / 2 ^ 31 % 2) (omega arith) (and_high w 1 31)
+
+are_bits : (a b : Bool) → AreBits (splits a b)
+are_bits true b = (bit_25, tt)
+are_bits false true = (bit_29, (bit_30, (bit_31, tt)))
+are_bits false false = tt
+
+-- the word has the bits of a name of the list
+abbrev pub HasNameOf : List Pattern → ℕ → Type 0
+HasNameOf ns w = (n : ℕ) × (n < length ns) × (bit_and w (get_or ns n (0, 0)).0 ≡ (get_or ns n (0, 0)).1)
+
+covered_by_name : (ns : List Pattern) (q : Pattern) (w : ℕ) → list_any (λ name. covers name q) ns ≡ true → bit_and w q.0 ≡ q.1 → HasNameOf ns w
+covered_by_name ns q w h is =
+    let r = any_at (λ name. covers name q) ns (0, 0) h in
+    (r.0, r.1, covers_all (get_or ns r.0 (0, 0)) q w r.2 is)
+
+with_bit : (w m b x : ℕ) → bit_and m b ≡ 0 → bit_and w b ≡ x → bit_and w (m + b) ≡ bit_and w m + x
+with_bit w m b x apart is = and_sum w m b apart ∙ ap (λ (n : ℕ). bit_and w m + n) is
+
+covered_all : (ns : List Pattern) (bs : List ℕ) (q : Pattern) (w : ℕ) → AreBits bs → covered ns bs q ≡ true → bit_and w q.0 ≡ q.1 → HasNameOf ns w
+covered_all ns [] q w bits h is = covered_by_name ns q w h is
+covered_all ns (b ∷ bs) q w bits h is =
+    let here = list_any (λ name. covers name q) ns in
+    let off = covered ns bs (q.0 + b, q.1) in
+    let on = covered ns bs (q.0 + b, q.1 + b) in
+    elim (cases_Bool here) [
+      | inl y ↦ covered_by_name ns q w y is
+      | inr n ↦
+          let k = and_parts (nat_eq (bit_and q.0 b) 0) (off && on) (other_of_or here (nat_eq (bit_and q.0 b) 0 && (off && on)) h n) in
+          let l = and_parts off on k.1 in
+          let apart = eqb-true (bit_and q.0 b) 0 k.0 in
+          elim (bits.0 w) [
+            | inl clear ↦ covered_all ns bs (q.0 + b, q.1) w bits.1 l.0 (with_bit w q.0 b 0 apart clear ∙ add-zero (bit_and w q.0) ∙ is)
+            | inr set ↦ covered_all ns bs (q.0 + b, q.1 + b) w bits.1 l.1 (with_bit w q.0 b b apart set ∙ ap (λ (x : ℕ). x + b) is)
+          ]
+    ]
+
+-- a word of a row but fences has the bits of a name
+pub word_of_row_has_name : (r : Row) (w : ℕ) → In r table → Matches r w → (IsFence w → ⊥) → HasNameOf names w
+unfolding each_is_covered
+word_of_row_has_name r w here is no_fence =
+    let p = pattern_of_row r in
+    let bs = splits (has_mask p) (has_fields p) in
+    let h = all_in row_covered table each_is_covered_true r here in
+    elim (cases_Bool (is_fence p)) [
+      | inl y ↦
+          let k = and_parts (nat_eq r.mask 0x707f) (nat_eq r.bits 0x0f) y in
+          absurd (no_fence (ap (bit_and w) (sym (eqb-true r.mask 0x707f k.0)) ∙ is ∙ eqb-true r.bits 0x0f k.1))
+      | inr n ↦ covered_all names bs p w (are_bits (has_mask p) (has_fields p)) (other_of_or (is_fence p) (covered names bs p) h n) is
+    ]
+
+-- a name is of a row
+pub row_of_name : (n : ℕ) → n < length names → (r : Row) × In r table × (covers (pattern_of_row r) (get_or names n (0, 0)) ≡ true)
+unfolding each_has_row
+row_of_name n lt = any_in (of_row (get_or names n (0, 0))) table (all_at (λ name. list_any (of_row name) table) names n (0, 0) each_has_row_true lt)
+
+-- a word with the bits of a name is of a row
+pub name_of_row : (n w : ℕ) → n < length names → bit_and w (get_or names n (0, 0)).0 ≡ (get_or names n (0, 0)).1 → (r : Row) × In r table × Matches r w
+name_of_row n w lt is =
+    let r = row_of_name n lt in
+    (r.0, r.1, covers_all (pattern_of_row r.0) (get_or names n (0, 0)) w r.2 is)
+
+not_both : (b : Bool) → b ≡ true → not b ≡ true → ⊥
+not_both true h k = cc
+not_both false h k = cc
+
+-- a fence with the bits of a name is the one with a name
+pub fence_named : (n w : ℕ) → w < 2 ^ 32 → n < length names → bit_and w (get_or names n (0, 0)).0 ≡ (get_or names n (0, 0)).1 → IsFence w → w ≡ 0x0ff0000f
+unfolding each_spares_fences
+fence_named n w small lt is fence =
+    let name = get_or names n (0, 0) in
+    let exact = nat_eq name.0 (2 ^ 32 - 1) && nat_eq name.1 0x0ff0000f in
+    let same = nat_eq (bit_and name.1 0x707f) (bit_and 0x0f name.0) in
+    let h = all_at spares_fences names n (0, 0) each_spares_fences_true lt in
+    elim (cases_Bool exact) [
+      | inl y ↦
+          let k = and_parts (nat_eq name.0 (2 ^ 32 - 1)) (nat_eq name.1 0x0ff0000f) y in
+          sym (and_mask w 32 ∙ mod-eq_of_lt small) ∙ ap (bit_and w) (sym (eqb-true name.0 (2 ^ 32 - 1) k.0)) ∙ is ∙ eqb-true name.1 0x0ff0000f k.1
+      | inr other ↦
+          let e : bit_and name.1 0x707f ≡ bit_and 0x0f name.0 =
+          ap (λ x. bit_and x 0x707f) (sym is) ∙ and_assoc 0x707f w name.0 ∙ ap (bit_and w) (and_comm name.0 0x707f) ∙ sym (and_assoc name.0 w 0x707f) ∙ ap (λ x. bit_and x name.0) fence in
+          absurd (not_both same (eq-eqb (bit_and name.1 0x707f) (bit_and 0x0f name.0) e) (other_of_or exact (not same) h other))
+    ]
+
+apart_at : (ps : List Pattern) (n m : ℕ) → all_apart ps ≡ true → n < m → m < length ps → apart (get_or ps n (0, 0)) (get_or ps m (0, 0)) ≡ true
+apart_at [] n m h less lt = absurd (omega arith)
+apart_at (p ∷ ps) n zero h less lt = absurd (omega arith)
+apart_at (p ∷ ps) zero (suc m) h less lt = all_at (apart p) ps m (0, 0) (and_parts (list_all (apart p) ps) (all_apart ps) h).0 (omega arith)
+apart_at (p ∷ ps) (suc n) (suc m) h less lt = apart_at ps n m (and_parts (list_all (apart p) ps) (all_apart ps) h).1 (omega arith) (omega arith)
+
+-- no word has the bits of two names
+pub no_word_of_two_names : (n m w : ℕ) → n < m → m < length names → bit_and w (get_or names n (0, 0)).0 ≡ (get_or names n (0, 0)).1 → bit_and w (get_or names m (0, 0)).0 ≡ (get_or names m (0, 0)).1 → ⊥
+unfolding names_apart
+no_word_of_two_names n m w less lt is also =
+    let p = get_or names n (0, 0) in
+    let q = get_or names m (0, 0) in
+    let e : bit_and p.1 q.0 ≡ bit_and q.1 p.0 =
+    ap (λ x. bit_and x q.0) (sym is) ∙ and_assoc q.0 w p.0 ∙ ap (bit_and w) (and_comm p.0 q.0) ∙ sym (and_assoc p.0 w q.0) ∙ ap (λ x. bit_and x p.0) also in
+    not_both (nat_eq (bit_and p.1 q.0) (bit_and q.1 p.0)) (eq-eqb (bit_and p.1 q.0) (bit_and q.1 p.0) e) (apart_at names n m names_apart_true less lt)

@@ -1,0 +1,21 @@
+-- The widths of elements in bits and in bytes.
+use Rattle.std.proofs.Common.{◌≡◌, ◌*◌, ◌<◌, refl, lit<}
+use Rattle.std.specs.Int.{Width, w8, w16, w32, w64, w128}
+use mir.Val.{bits}
+use Rattle.rv_model.specs.vector.Configuration.{width_bytes}
+
+-- an element has at least one byte
+pub bytes_positive : (w : Width) → 0 < width_bytes w
+bytes_positive w8 = lit< tt
+bytes_positive w16 = lit< tt
+bytes_positive w32 = lit< tt
+bytes_positive w64 = lit< tt
+bytes_positive w128 = lit< tt
+
+-- it has whole bytes
+pub whole_bytes : (w : Width) → bits w ≡ 8 * width_bytes w
+whole_bytes w8 = refl
+whole_bytes w16 = refl
+whole_bytes w32 = refl
+whole_bytes w64 = refl
+whole_bytes w128 = refl

@@ -1,0 +1,83 @@
+//! Operations of a register and an immediate (Unprivileged ISA 20191213, sections 2.4 and 5.2).
+ghost use Rattle.std.specs.Prelude.{◌≡◌};
+ghost use Rattle.rv_model.specs.scalar.Arithmetic.{immediate_op_form, immediate_op_value, shift_immediate_form, shift_immediate_value, shift_immediate_word_form, shift_immediate_word_value, upper_value};
+
+use crate::arithmetic::alu;
+use crate::immediates::{i_immediate, u_immediate};
+use rv_model::Field;
+use rv_model::instructions::operations::{
+    ImmediateOp, RegisterOp, ShiftImmediateOp, ShiftImmediateWordOp, UpperOp,
+};
+
+/// The operation of two registers that one with an immediate of 12 bits does.
+fn immediate_op_form(op: ImmediateOp) -> RegisterOp
+    ensures { result ≡ immediate_op_form op }
+{
+    match op {
+        ImmediateOp::Addi => RegisterOp::Add,
+        ImmediateOp::Slti => RegisterOp::Slt,
+        ImmediateOp::Sltiu => RegisterOp::Sltu,
+        ImmediateOp::Xori => RegisterOp::Xor,
+        ImmediateOp::Ori => RegisterOp::Or,
+        ImmediateOp::Andi => RegisterOp::And,
+        ImmediateOp::Addiw => RegisterOp::Addw,
+    }
+}
+
+/// The shift by a register that one by an immediate of 6 bits does.
+fn shift_immediate_form(op: ShiftImmediateOp) -> RegisterOp
+    ensures { result ≡ shift_immediate_form op }
+{
+    match op {
+        ShiftImmediateOp::Slli => RegisterOp::Sll,
+        ShiftImmediateOp::Srli => RegisterOp::Srl,
+        ShiftImmediateOp::Srai => RegisterOp::Sra,
+    }
+}
+
+/// The shift of 32 bits by a register that one by an immediate of 5 bits does.
+fn shift_immediate_word_form(op: ShiftImmediateWordOp) -> RegisterOp
+    ensures { result ≡ shift_immediate_word_form op }
+{
+    match op {
+        ShiftImmediateWordOp::Slliw => RegisterOp::Sllw,
+        ShiftImmediateWordOp::Srliw => RegisterOp::Srlw,
+        ShiftImmediateWordOp::Sraiw => RegisterOp::Sraw,
+    }
+}
+
+/// What an operation of a register's 64-bit word and an immediate of 12 bits, sign-extended, gives
+/// (Unprivileged ISA 20191213, sections 2.4 and 5.2, "Integer Register-Immediate Instructions").
+pub fn register_immediate(op: ImmediateOp, a: u64, imm: Field<12>) -> u64
+    ensures { result ≡ immediate_op_value op a imm }
+{
+    alu(immediate_op_form(op), a, i_immediate(imm))
+}
+
+/// What a shift of a register's 64-bit word by 0 to 63 bits gives (Unprivileged ISA 20191213, section
+/// 5.2).
+pub fn shift_immediate(op: ShiftImmediateOp, a: u64, shamt: Field<6>) -> u64
+    ensures { result ≡ shift_immediate_value op a shamt }
+{
+    alu(shift_immediate_form(op), a, u64::from(shamt.value()))
+}
+
+/// What a shift of a register's low 32 bits by 0 to 31 bits gives, sign-extended to 64 bits (Unprivileged
+/// ISA 20191213, section 5.2).
+pub fn shift_immediate_word(op: ShiftImmediateWordOp, a: u64, shamt: Field<5>) -> u64
+    ensures { result ≡ shift_immediate_word_value op a shamt }
+{
+    alu(shift_immediate_word_form(op), a, u64::from(shamt.value()))
+}
+
+/// The upper 20 bits of a 32-bit number, sign-extended to 64 bits, alone or added to the program counter
+/// (Unprivileged ISA 20191213, sections 2.4 and 5.2, LUI and AUIPC).
+pub fn upper_immediate(op: UpperOp, pc: u64, imm: Field<20>) -> u64
+    ensures { result ≡ upper_value op pc imm }
+{
+    let value = u_immediate(imm);
+    match op {
+        UpperOp::Lui => value,
+        UpperOp::Auipc => pc.wrapping_add(value),
+    }
+}
