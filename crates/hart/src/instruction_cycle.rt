@@ -37,7 +37,8 @@ fn execute<M: UserBytes, V: Vectors>(
     limit: usize,
     policy: Policy,
 ) -> StepEnd
-    requires { V.ready vectors.old }
+    requires ready { V.ready vectors.old }
+    requires limit { 1 ≤ limit }
     ensures model { Leads (executed limit instr word)
         (hart_state scalar.old (V.lent vectors.old).state (M.memory memory.old) policy)
         (hart_state scalar.new (V.lent vectors.new).state (M.memory memory.new) policy) result }
