@@ -26,7 +26,7 @@ fn fetch<M: UserBytes>(memory: &M, pc: u64) -> Result<u32, Fault>
     Ok(u32::from_le_bytes(bytes))
 }
 
-/// Carries out an instruction; there is none where the word is no instruction.
+/// Carries out an instruction within `limit` ticks; there is none where the word is no instruction.
 #[tactic(auto, unfolding(rv_model::specs::step::Step::executed, rv_model::specs::step::Step::dirties))]
 fn execute<M: UserBytes, V: Vectors>(
     instr: Option<Instr>,
@@ -37,7 +37,8 @@ fn execute<M: UserBytes, V: Vectors>(
     limit: usize,
     policy: Policy,
 ) -> StepEnd
-    requires { V.ready vectors.old }
+    requires ready { V.ready vectors.old }
+    requires limit { 1 ≤ limit }
     ensures model { Leads (executed limit instr word)
         (hart_state scalar.old (V.lent vectors.old).state (M.memory memory.old) policy)
         (hart_state scalar.new (V.lent vectors.new).state (M.memory memory.new) policy) result }

@@ -1,5 +1,5 @@
 //! Instructions that touch the vector unit.
-ghost use Rattle.std.specs.Prelude.{◌≡◌, Some, true};
+ghost use Rattle.std.specs.Prelude.{◌≡◌, ◌≤◌, Some, true};
 ghost use Rattle.rv_model.specs.step.Hart.{hart_state};
 ghost use Rattle.rv_model.specs.step.Step.{dirties, executed, touches, touches_control};
 ghost use Rattle.rv_model.specs.step.VectorStep.{is_vector};
@@ -79,7 +79,7 @@ pub(crate) fn is_touching(instr: &Instr) -> bool
     }
 }
 
-/// Carries out an instruction that touches the vector unit.
+/// Carries out an instruction that touches the vector unit within `limit` ticks.
 #[tactic(auto, unfolding(rv_model::specs::step::Step::executed, rv_model::specs::step::Step::dirties))]
 pub(crate) fn execute_touching<M: UserBytes>(
     instr: &Instr,
@@ -90,7 +90,8 @@ pub(crate) fn execute_touching<M: UserBytes>(
     limit: usize,
     policy: Policy,
 ) -> StepEnd
-    requires { touches (Some instr.now) ≡ true }
+    requires touching { touches (Some instr.now) ≡ true }
+    requires limit { 1 ≤ limit }
     ensures model { Leads (executed limit (Some instr.now) word)
         (hart_state scalar.old seat.old.state (M.memory memory.old) policy)
         (hart_state scalar.new seat.new.state (M.memory memory.new) policy) result }

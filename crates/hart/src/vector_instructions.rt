@@ -1,5 +1,5 @@
 //! Instructions of the vector extension, on a vector state that was lent to them.
-ghost use Rattle.std.specs.Prelude.{◌≡◌, IsTrue};
+ghost use Rattle.std.specs.Prelude.{◌≡◌, ◌≤◌, IsTrue};
 ghost use Rattle.rv_model.specs.step.Hart.{hart_state};
 ghost use Rattle.rv_model.specs.step.VectorStep.{access_cause, is_legal_end, is_vector, vector_executed, vector_step};
 ghost use Rattle.hart.specs.Seats.{IsGivenBack};
@@ -22,7 +22,7 @@ fn access_cause(store: bool) -> Cause
     }
 }
 
-/// Carries out a vector instruction.
+/// Carries out a vector instruction within `limit` ticks.
 pub(crate) fn execute_vector<M: UserBytes>(
     instr: &Instr,
     word: u32,
@@ -32,7 +32,8 @@ pub(crate) fn execute_vector<M: UserBytes>(
     limit: usize,
     policy: Policy,
 ) -> StepEnd
-    requires { IsTrue (is_vector instr.now) }
+    requires vector { IsTrue (is_vector instr.now) }
+    requires limit { 1 ≤ limit }
     ensures model { Leads (vector_step limit instr.now word)
         (hart_state scalar.old seat.old.state (M.memory memory.old) policy)
         (hart_state scalar.new seat.new.state (M.memory memory.new) policy) result }

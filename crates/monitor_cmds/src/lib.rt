@@ -24,5 +24,4 @@ pub use lines::ok;
 pub use parsing::parse;
 pub use refusals::{bad_prefix, line_too_long, refused, unknown_operator_command};
 pub use reply::Reply;
-pub use stops::stop_line;
 pub use tag::Tag;

@@ -71,7 +71,7 @@ fn push_stop(reply: &mut Reply, pc: u64, stop: Stop)
 
 /// Adds the line that says why a program stopped and where it stands, as
 /// `exit 7 pc=0000000000000008`.
-pub fn stop_line(reply: &mut Reply, tag: Tag, pc: u64, stop: Stop)
+pub(crate) fn stop_line(reply: &mut Reply, tag: Tag, pc: u64, stop: Stop)
     requires { length reply.old + 80 ≤ 4096 }
     ensures text { reply.new ≡ reply.old ++ text (tag_byte tag) (stop_line pc stop ∷ []) }
     ensures bound { length reply.new ≤ length reply.old + 80 }

@@ -15,7 +15,7 @@ impl Tag {
     ghost use Rattle.monitor_cmds.specs.Tag.{tag_byte};
 
     /// The byte that the line begins with.
-    pub fn byte(self) -> u8
+    pub(crate) fn byte(self) -> u8
         ensures { result ≡ tag_byte self }
     {
         match self {

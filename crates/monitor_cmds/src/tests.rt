@@ -1,5 +1,6 @@
 //! Lines of commands and of replies, as the monitor's description shows them.
 use super::*;
+use crate::stops::stop_line;
 use rv_model::{
     Cause, Cmd, ElfFault, EnteringCommand, MemoryCommand, ProgramCommand, Refusal, RegisterCommand,
     RunningCommand, Scalar, Sew, Stop, User, VReg, VState,

@@ -9,7 +9,7 @@ use rv_model::instructions::operations::{
 };
 
 /// LUI, AUIPC.
-pub fn upper_bits(op: UpperOp) -> u64
+pub(crate) fn upper_bits(op: UpperOp) -> u64
     ensures value { result ≡ upper_bits op }
     ensures small { result < 2 ^ 32 }
 {
@@ -20,7 +20,7 @@ pub fn upper_bits(op: UpperOp) -> u64
 }
 
 /// BRANCH, by funct3.
-pub fn branch_bits(op: BranchOp) -> u64
+pub(crate) fn branch_bits(op: BranchOp) -> u64
     ensures value { result ≡ branch_bits op }
     ensures small { result < 2 ^ 32 }
 {
@@ -35,7 +35,7 @@ pub fn branch_bits(op: BranchOp) -> u64
 }
 
 /// LOAD, by funct3.
-pub fn load_bits(op: LoadOp) -> u64
+pub(crate) fn load_bits(op: LoadOp) -> u64
     ensures value { result ≡ load_bits op }
     ensures small { result < 2 ^ 32 }
 {
@@ -51,7 +51,7 @@ pub fn load_bits(op: LoadOp) -> u64
 }
 
 /// STORE, by funct3.
-pub fn store_bits(op: StoreOp) -> u64
+pub(crate) fn store_bits(op: StoreOp) -> u64
     ensures value { result ≡ store_bits op }
     ensures small { result < 2 ^ 32 }
 {
@@ -64,7 +64,7 @@ pub fn store_bits(op: StoreOp) -> u64
 }
 
 /// OP-IMM and OP-IMM-32, by funct3.
-pub fn immediate_op_bits(op: ImmediateOp) -> u64
+pub(crate) fn immediate_op_bits(op: ImmediateOp) -> u64
     ensures value { result ≡ immediate_op_bits op }
     ensures small { result < 2 ^ 32 }
 {
@@ -80,7 +80,7 @@ pub fn immediate_op_bits(op: ImmediateOp) -> u64
 }
 
 /// OP-IMM with a shift amount of six bits.
-pub fn shift_immediate_bits(op: ShiftImmediateOp) -> u64
+pub(crate) fn shift_immediate_bits(op: ShiftImmediateOp) -> u64
     ensures value { result ≡ shift_immediate_bits op }
     ensures small { result < 2 ^ 32 }
 {
@@ -92,7 +92,7 @@ pub fn shift_immediate_bits(op: ShiftImmediateOp) -> u64
 }
 
 /// OP-IMM-32 with a shift amount of five bits.
-pub fn shift_immediate_word_bits(op: ShiftImmediateWordOp) -> u64
+pub(crate) fn shift_immediate_word_bits(op: ShiftImmediateWordOp) -> u64
     ensures value { result ≡ shift_immediate_word_bits op }
     ensures small { result < 2 ^ 32 }
 {
@@ -104,7 +104,7 @@ pub fn shift_immediate_word_bits(op: ShiftImmediateWordOp) -> u64
 }
 
 /// OP and OP-32, by funct3 and funct7.
-pub fn register_op_bits(op: RegisterOp) -> u64
+pub(crate) fn register_op_bits(op: RegisterOp) -> u64
     ensures value { result ≡ register_op_bits op }
     ensures small { result < 2 ^ 32 }
 {
@@ -141,7 +141,7 @@ pub fn register_op_bits(op: RegisterOp) -> u64
 }
 
 /// SYSTEM with no operands: the whole word.
-pub fn system_bits(op: SystemOp) -> u64
+pub(crate) fn system_bits(op: SystemOp) -> u64
     ensures value { result ≡ system_bits op }
     ensures small { result < 2 ^ 32 }
 {
@@ -152,7 +152,7 @@ pub fn system_bits(op: SystemOp) -> u64
 }
 
 /// SYSTEM with a scalar register.
-pub fn csr_bits(op: CsrOp) -> u64
+pub(crate) fn csr_bits(op: CsrOp) -> u64
     ensures value { result ≡ csr_bits op }
     ensures small { result < 2 ^ 32 }
 {
@@ -164,7 +164,7 @@ pub fn csr_bits(op: CsrOp) -> u64
 }
 
 /// SYSTEM with an immediate.
-pub fn csr_immediate_bits(op: CsrImmediateOp) -> u64
+pub(crate) fn csr_immediate_bits(op: CsrImmediateOp) -> u64
     ensures value { result ≡ csr_immediate_bits op }
     ensures small { result < 2 ^ 32 }
 {
@@ -176,7 +176,7 @@ pub fn csr_immediate_bits(op: CsrImmediateOp) -> u64
 }
 
 /// `vmv.v.v`, `vmv.v.x`, `vmv.v.i`.
-pub fn move_bits(form: Form) -> u64
+pub(crate) fn move_bits(form: Form) -> u64
     ensures value { result ≡ move_bits form }
     ensures small { result < 2 ^ 32 }
 {
@@ -188,7 +188,7 @@ pub fn move_bits(form: Form) -> u64
 }
 
 /// `vmv1r.v` to `vmv8r.v`.
-pub fn whole_move_bits(count: RegisterCount) -> u64
+pub(crate) fn whole_move_bits(count: RegisterCount) -> u64
     ensures value { result ≡ whole_move_bits count }
     ensures small { result < 2 ^ 32 }
 {
@@ -201,7 +201,7 @@ pub fn whole_move_bits(count: RegisterCount) -> u64
 }
 
 /// Mask logic, with bit 25 set.
-pub fn mask_logic_bits(op: MaskLogicOp) -> u64
+pub(crate) fn mask_logic_bits(op: MaskLogicOp) -> u64
     ensures value { result ≡ mask_logic_bits op }
     ensures small { result < 2 ^ 32 }
 {
@@ -218,7 +218,7 @@ pub fn mask_logic_bits(op: MaskLogicOp) -> u64
 }
 
 /// `vcpop.m`, `vfirst.m`.
-pub fn mask_to_scalar_bits(op: MaskToScalarOp) -> u64
+pub(crate) fn mask_to_scalar_bits(op: MaskToScalarOp) -> u64
     ensures value { result ≡ mask_to_scalar_bits op }
     ensures small { result < 2 ^ 32 }
 {
@@ -229,7 +229,7 @@ pub fn mask_to_scalar_bits(op: MaskToScalarOp) -> u64
 }
 
 /// VXUNARY0.
-pub fn extend_bits(op: ExtendOp) -> u64
+pub(crate) fn extend_bits(op: ExtendOp) -> u64
     ensures value { result ≡ extend_bits op }
     ensures small { result < 2 ^ 32 }
 {
@@ -244,7 +244,7 @@ pub fn extend_bits(op: ExtendOp) -> u64
 }
 
 /// VMUNARY0 on a mask.
-pub fn mask_unary_bits(op: MaskUnaryOp) -> u64
+pub(crate) fn mask_unary_bits(op: MaskUnaryOp) -> u64
     ensures value { result ≡ mask_unary_bits op }
     ensures small { result < 2 ^ 32 }
 {
@@ -257,7 +257,7 @@ pub fn mask_unary_bits(op: MaskUnaryOp) -> u64
 }
 
 /// The width of a memory element or an index.
-pub fn width_bits(width: Width) -> u64
+pub(crate) fn width_bits(width: Width) -> u64
     ensures value { result ≡ width_bits width }
     ensures small { result < 2 ^ 32 }
 {
@@ -270,7 +270,7 @@ pub fn width_bits(width: Width) -> u64
 }
 
 /// LOAD-FP, STORE-FP.
-pub fn direction_bits(direction: Direction) -> u64
+pub(crate) fn direction_bits(direction: Direction) -> u64
     ensures value { result ≡ direction_bits direction }
     ensures small { result < 2 ^ 32 }
 {
@@ -281,7 +281,7 @@ pub fn direction_bits(direction: Direction) -> u64
 }
 
 /// Unit stride, with lumop or sumop.
-pub fn unit_bits(op: UnitOp) -> u64
+pub(crate) fn unit_bits(op: UnitOp) -> u64
     ensures value { result ≡ unit_bits op }
     ensures small { result < 2 ^ 32 }
 {
@@ -293,7 +293,7 @@ pub fn unit_bits(op: UnitOp) -> u64
 }
 
 /// mop of an indexed access.
-pub fn order_bits(order: Order) -> u64
+pub(crate) fn order_bits(order: Order) -> u64
     ensures value { result ≡ order_bits order }
     ensures small { result < 2 ^ 32 }
 {
@@ -304,7 +304,7 @@ pub fn order_bits(order: Order) -> u64
 }
 
 /// nf of a whole-register access, with its lumop or sumop and bit 25.
-pub fn count_bits(count: RegisterCount) -> u64
+pub(crate) fn count_bits(count: RegisterCount) -> u64
     ensures value { result ≡ count_bits count }
     ensures small { result < 2 ^ 32 }
 {
@@ -317,7 +317,7 @@ pub fn count_bits(count: RegisterCount) -> u64
 }
 
 /// `vlm.v`, `vsm.v`.
-pub fn mask_memory_bits(direction: Direction) -> u64
+pub(crate) fn mask_memory_bits(direction: Direction) -> u64
     ensures value { result ≡ mask_memory_bits direction }
     ensures small { result < 2 ^ 32 }
 {

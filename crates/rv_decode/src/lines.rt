@@ -30,7 +30,7 @@ fn opm(funct6: u32, forms: Forms) -> Line
 }
 
 /// Whether a form is one of these.
-pub fn has_form(forms: Forms, form: Form) -> bool
+pub(crate) fn has_form(forms: Forms, form: Form) -> bool
     ensures { result ≡ has_form forms form }
 {
     match (forms, form) {
@@ -187,7 +187,7 @@ fn permute_line(op: PermuteOp) -> Line
 }
 
 /// The line of an operation that takes v0.
-pub fn carry_line(op: CarryOp) -> Line
+pub(crate) fn carry_line(op: CarryOp) -> Line
     ensures { result ≡ carry_line op }
 {
     match op {
@@ -198,7 +198,7 @@ pub fn carry_line(op: CarryOp) -> Line
 }
 
 /// The line of an operation.
-pub fn line(op: VectorOp) -> Line
+pub(crate) fn line(op: VectorOp) -> Line
     ensures { result ≡ line op }
 {
     match op {

@@ -9,7 +9,7 @@ ghost use Rattle.rv_model.specs.instructions.Table.{find, unit_accesses, strided
 use rv_model::instructions::operations::{Direction, Order, RegisterCount, UnitOp, Width};
 
 /// The unit-stride access of these bits.
-pub fn unit_access(bits: u32) -> Option<(UnitOp, Width)>
+pub(crate) fn unit_access(bits: u32) -> Option<(UnitOp, Width)>
     ensures { result ≡ find unit_access_bits unit_accesses bits }
 {
     match bits {
@@ -30,7 +30,7 @@ pub fn unit_access(bits: u32) -> Option<(UnitOp, Width)>
 }
 
 /// The strided access of these bits.
-pub fn strided_access(bits: u32) -> Option<(Direction, Width)>
+pub(crate) fn strided_access(bits: u32) -> Option<(Direction, Width)>
     ensures { result ≡ find strided_access_bits strided_accesses bits }
 {
     match bits {
@@ -47,7 +47,7 @@ pub fn strided_access(bits: u32) -> Option<(Direction, Width)>
 }
 
 /// The indexed access of these bits, with the index's width.
-pub fn indexed_access(bits: u32) -> Option<((Direction, Order), Width)>
+pub(crate) fn indexed_access(bits: u32) -> Option<((Direction, Order), Width)>
     ensures { result ≡ find indexed_access_bits indexed_accesses bits }
 {
     match bits {
@@ -72,7 +72,7 @@ pub fn indexed_access(bits: u32) -> Option<((Direction, Order), Width)>
 }
 
 /// The load of whole registers of these bits.
-pub fn whole_load_access(bits: u32) -> Option<(RegisterCount, Width)>
+pub(crate) fn whole_load_access(bits: u32) -> Option<(RegisterCount, Width)>
     ensures { result ≡ find whole_load_bits whole_loads bits }
 {
     match bits {
@@ -97,7 +97,7 @@ pub fn whole_load_access(bits: u32) -> Option<(RegisterCount, Width)>
 }
 
 /// How many registers a store of whole registers of these bits moves.
-pub fn whole_store_count(bits: u32) -> Option<RegisterCount>
+pub(crate) fn whole_store_count(bits: u32) -> Option<RegisterCount>
     ensures { result ≡ find whole_store_bits counts bits }
 {
     match bits {
@@ -110,7 +110,7 @@ pub fn whole_store_count(bits: u32) -> Option<RegisterCount>
 }
 
 /// The direction of an access to a mask of these bits.
-pub fn mask_memory_direction(bits: u32) -> Option<Direction>
+pub(crate) fn mask_memory_direction(bits: u32) -> Option<Direction>
     ensures { result ≡ find mask_memory_bits directions bits }
 {
     match bits {

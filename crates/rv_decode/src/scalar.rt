@@ -13,7 +13,7 @@ use rv_model::{Field, Instr};
 
 /// LUI and AUIPC.
 #[tactic(auto, using(crate::proofs::Scan::scan_upper))]
-pub fn upper(word: u32) -> Option<Instr>
+pub(crate) fn upper(word: u32) -> Option<Instr>
     ensures { result ≡ scan (rows Uppers) word }
 {
     let op = upper_op(word & 0x0000_007f)?;
@@ -25,7 +25,7 @@ pub fn upper(word: u32) -> Option<Instr>
 }
 
 /// JAL.
-pub fn jump(word: u32) -> Option<Instr>
+pub(crate) fn jump(word: u32) -> Option<Instr>
     ensures { result ≡ scan (rows Jumps) word }
 {
     if word & 0x0000_007f == 0x0000_006f {
@@ -39,7 +39,7 @@ pub fn jump(word: u32) -> Option<Instr>
 }
 
 /// JALR.
-pub fn jump_register(word: u32) -> Option<Instr>
+pub(crate) fn jump_register(word: u32) -> Option<Instr>
     ensures { result ≡ scan (rows JumpRegisters) word }
 {
     if word & 0x0000_707f == 0x0000_0067 {
@@ -55,7 +55,7 @@ pub fn jump_register(word: u32) -> Option<Instr>
 
 /// BRANCH.
 #[tactic(auto, using(crate::proofs::Scan::scan_branch))]
-pub fn branch(word: u32) -> Option<Instr>
+pub(crate) fn branch(word: u32) -> Option<Instr>
     ensures { result ≡ scan (rows Branches) word }
 {
     let op = branch_op(word & 0x0000_707f)?;
@@ -69,7 +69,7 @@ pub fn branch(word: u32) -> Option<Instr>
 
 /// LOAD.
 #[tactic(auto, using(crate::proofs::Scan::scan_load))]
-pub fn load(word: u32) -> Option<Instr>
+pub(crate) fn load(word: u32) -> Option<Instr>
     ensures { result ≡ scan (rows Loads) word }
 {
     let op = load_op(word & 0x0000_707f)?;
@@ -83,7 +83,7 @@ pub fn load(word: u32) -> Option<Instr>
 
 /// STORE.
 #[tactic(auto, using(crate::proofs::Scan::scan_store))]
-pub fn store(word: u32) -> Option<Instr>
+pub(crate) fn store(word: u32) -> Option<Instr>
     ensures { result ≡ scan (rows Stores) word }
 {
     let op = store_op(word & 0x0000_707f)?;
@@ -97,7 +97,7 @@ pub fn store(word: u32) -> Option<Instr>
 
 /// OP-IMM and OP-IMM-32 with an immediate of 12 bits.
 #[tactic(auto, using(crate::proofs::Scan::scan_register_immediate))]
-pub fn register_immediate(word: u32) -> Option<Instr>
+pub(crate) fn register_immediate(word: u32) -> Option<Instr>
     ensures { result ≡ scan (rows RegisterImmediates) word }
 {
     let op = immediate_op(word & 0x0000_707f)?;
@@ -111,7 +111,7 @@ pub fn register_immediate(word: u32) -> Option<Instr>
 
 /// OP-IMM with a shift amount.
 #[tactic(auto, using(crate::proofs::Scan::scan_shift_immediate))]
-pub fn shift_immediate(word: u32) -> Option<Instr>
+pub(crate) fn shift_immediate(word: u32) -> Option<Instr>
     ensures { result ≡ scan (rows ShiftImmediates) word }
 {
     let op = shift_immediate_op(word & 0xfc00_707f)?;
@@ -125,7 +125,7 @@ pub fn shift_immediate(word: u32) -> Option<Instr>
 
 /// OP-IMM-32 with a shift amount.
 #[tactic(auto, using(crate::proofs::Scan::scan_shift_immediate_word))]
-pub fn shift_immediate_word(word: u32) -> Option<Instr>
+pub(crate) fn shift_immediate_word(word: u32) -> Option<Instr>
     ensures { result ≡ scan (rows ShiftImmediateWords) word }
 {
     let op = shift_immediate_word_op(word & 0xfe00_707f)?;
@@ -139,7 +139,7 @@ pub fn shift_immediate_word(word: u32) -> Option<Instr>
 
 /// OP and OP-32.
 #[tactic(auto, using(crate::proofs::Scan::scan_register_register))]
-pub fn register_register(word: u32) -> Option<Instr>
+pub(crate) fn register_register(word: u32) -> Option<Instr>
     ensures { result ≡ scan (rows RegisterRegisters) word }
 {
     let op = register_op(word & 0xfe00_707f)?;
@@ -152,7 +152,7 @@ pub fn register_register(word: u32) -> Option<Instr>
 }
 
 /// FENCE of MISC-MEM.
-pub fn fence(word: u32) -> Option<Instr>
+pub(crate) fn fence(word: u32) -> Option<Instr>
     ensures { result ≡ scan (rows Fences) word }
 {
     if word & 0x0000_707f == 0x0000_000f {
@@ -168,7 +168,7 @@ pub fn fence(word: u32) -> Option<Instr>
 
 /// ECALL and EBREAK of SYSTEM.
 #[tactic(auto, using(crate::proofs::Scan::scan_system))]
-pub fn system(word: u32) -> Option<Instr>
+pub(crate) fn system(word: u32) -> Option<Instr>
     ensures { result ≡ scan (rows Systems) word }
 {
     let op = system_op(word)?;
@@ -177,7 +177,7 @@ pub fn system(word: u32) -> Option<Instr>
 
 /// Zicsr with a scalar register.
 #[tactic(auto, using(crate::proofs::Scan::scan_csr))]
-pub fn csr(word: u32) -> Option<Instr>
+pub(crate) fn csr(word: u32) -> Option<Instr>
     ensures { result ≡ scan (rows Csrs) word }
 {
     let op = csr_op(word & 0x0000_707f)?;
@@ -191,7 +191,7 @@ pub fn csr(word: u32) -> Option<Instr>
 
 /// Zicsr with an immediate.
 #[tactic(auto, using(crate::proofs::Scan::scan_csr_immediate))]
-pub fn csr_immediate(word: u32) -> Option<Instr>
+pub(crate) fn csr_immediate(word: u32) -> Option<Instr>
     ensures { result ≡ scan (rows CsrImmediates) word }
 {
     let op = csr_immediate_op(word & 0x0000_707f)?;

@@ -11,7 +11,7 @@ use rv_model::instructions::operations::{
 };
 
 /// The operation of these bits, for `Instr::Upper`.
-pub fn upper_op(bits: u32) -> Option<UpperOp>
+pub(crate) fn upper_op(bits: u32) -> Option<UpperOp>
     ensures { result ≡ find upper_bits upper_ops bits }
 {
     match bits {
@@ -22,7 +22,7 @@ pub fn upper_op(bits: u32) -> Option<UpperOp>
 }
 
 /// The operation of these bits, for `Instr::Branch`.
-pub fn branch_op(bits: u32) -> Option<BranchOp>
+pub(crate) fn branch_op(bits: u32) -> Option<BranchOp>
     ensures { result ≡ find branch_bits branch_ops bits }
 {
     match bits {
@@ -37,7 +37,7 @@ pub fn branch_op(bits: u32) -> Option<BranchOp>
 }
 
 /// The operation of these bits, for `Instr::Load`.
-pub fn load_op(bits: u32) -> Option<LoadOp>
+pub(crate) fn load_op(bits: u32) -> Option<LoadOp>
     ensures { result ≡ find load_bits load_ops bits }
 {
     match bits {
@@ -53,7 +53,7 @@ pub fn load_op(bits: u32) -> Option<LoadOp>
 }
 
 /// The operation of these bits, for `Instr::Store`.
-pub fn store_op(bits: u32) -> Option<StoreOp>
+pub(crate) fn store_op(bits: u32) -> Option<StoreOp>
     ensures { result ≡ find store_bits store_ops bits }
 {
     match bits {
@@ -66,7 +66,7 @@ pub fn store_op(bits: u32) -> Option<StoreOp>
 }
 
 /// The operation of these bits, for `Instr::RegisterImmediate`.
-pub fn immediate_op(bits: u32) -> Option<ImmediateOp>
+pub(crate) fn immediate_op(bits: u32) -> Option<ImmediateOp>
     ensures { result ≡ find immediate_op_bits immediate_ops bits }
 {
     match bits {
@@ -82,7 +82,7 @@ pub fn immediate_op(bits: u32) -> Option<ImmediateOp>
 }
 
 /// The operation of these bits, for `Instr::ShiftImmediate`.
-pub fn shift_immediate_op(bits: u32) -> Option<ShiftImmediateOp>
+pub(crate) fn shift_immediate_op(bits: u32) -> Option<ShiftImmediateOp>
     ensures { result ≡ find shift_immediate_bits shift_immediate_ops bits }
 {
     match bits {
@@ -94,7 +94,7 @@ pub fn shift_immediate_op(bits: u32) -> Option<ShiftImmediateOp>
 }
 
 /// The operation of these bits, for `Instr::ShiftImmediateWord`.
-pub fn shift_immediate_word_op(bits: u32) -> Option<ShiftImmediateWordOp>
+pub(crate) fn shift_immediate_word_op(bits: u32) -> Option<ShiftImmediateWordOp>
     ensures { result ≡ find shift_immediate_word_bits shift_immediate_word_ops bits }
 {
     match bits {
@@ -106,7 +106,7 @@ pub fn shift_immediate_word_op(bits: u32) -> Option<ShiftImmediateWordOp>
 }
 
 /// The operation of these bits, for `Instr::RegisterRegister`.
-pub fn register_op(bits: u32) -> Option<RegisterOp>
+pub(crate) fn register_op(bits: u32) -> Option<RegisterOp>
     ensures { result ≡ find register_op_bits register_ops bits }
 {
     match bits {
@@ -143,7 +143,7 @@ pub fn register_op(bits: u32) -> Option<RegisterOp>
 }
 
 /// The operation of these bits, for `Instr::System`.
-pub fn system_op(bits: u32) -> Option<SystemOp>
+pub(crate) fn system_op(bits: u32) -> Option<SystemOp>
     ensures { result ≡ find system_bits system_ops bits }
 {
     match bits {
@@ -154,7 +154,7 @@ pub fn system_op(bits: u32) -> Option<SystemOp>
 }
 
 /// The operation of these bits, for `Instr::Csr`.
-pub fn csr_op(bits: u32) -> Option<CsrOp>
+pub(crate) fn csr_op(bits: u32) -> Option<CsrOp>
     ensures { result ≡ find csr_bits csr_ops bits }
 {
     match bits {
@@ -166,7 +166,7 @@ pub fn csr_op(bits: u32) -> Option<CsrOp>
 }
 
 /// The operation of these bits, for `Instr::CsrImmediate`.
-pub fn csr_immediate_op(bits: u32) -> Option<CsrImmediateOp>
+pub(crate) fn csr_immediate_op(bits: u32) -> Option<CsrImmediateOp>
     ensures { result ≡ find csr_immediate_bits csr_immediate_ops bits }
 {
     match bits {

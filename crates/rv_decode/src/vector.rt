@@ -14,7 +14,7 @@ use rv_model::{Arith, Carry, Field, Instr};
 
 /// An operation with a line of its own in the table, masked or not.
 #[tactic(auto, using(crate::proofs::Scan::scan_arith, rv_model::proofs::instruction_lemmas::Words::form_source_of))]
-pub fn arith(word: u32, major: Major, form: Form) -> Option<Instr>
+pub(crate) fn arith(word: u32, major: Major, form: Form) -> Option<Instr>
     requires { bit_and word 0x707f ≡ major_bits major form }
     ensures { result ≡ scan (rows (Ariths major form)) word }
 {
@@ -32,7 +32,7 @@ pub fn arith(word: u32, major: Major, form: Form) -> Option<Instr>
 
 /// An operation that takes v0.
 #[tactic(auto, using(crate::proofs::Scan::scan_carry, rv_model::proofs::instruction_lemmas::Words::form_source_of))]
-pub fn carry(word: u32, form: Form) -> Option<Instr>
+pub(crate) fn carry(word: u32, form: Form) -> Option<Instr>
     ensures { result ≡ scan (rows (Carries form)) word }
 {
     let op = carry_op(word & 0xfe00_707f, form)?;
@@ -44,7 +44,7 @@ pub fn carry(word: u32, form: Form) -> Option<Instr>
 }
 
 /// `vmv.v.v`, `vmv.v.x` or `vmv.v.i`, whose vs2 is 0.
-pub fn vector_move(word: u32, form: Form) -> Option<Instr>
+pub(crate) fn vector_move(word: u32, form: Form) -> Option<Instr>
     ensures { result ≡ scan (rows (Moves form)) word }
 {
     let code = match form {
@@ -63,7 +63,7 @@ pub fn vector_move(word: u32, form: Form) -> Option<Instr>
 }
 
 /// `vsetvli`.
-pub fn set_vli(word: u32) -> Option<Instr>
+pub(crate) fn set_vli(word: u32) -> Option<Instr>
     ensures { result ≡ scan (rows SetVlis) word }
 {
     if word & 0x8000_707f == 0x0000_7057 {
@@ -78,7 +78,7 @@ pub fn set_vli(word: u32) -> Option<Instr>
 }
 
 /// `vsetivli`.
-pub fn set_ivli(word: u32) -> Option<Instr>
+pub(crate) fn set_ivli(word: u32) -> Option<Instr>
     ensures { result ≡ scan (rows SetIvlis) word }
 {
     if word & 0xc000_707f == 0xc000_7057 {
@@ -93,7 +93,7 @@ pub fn set_ivli(word: u32) -> Option<Instr>
 }
 
 /// `vsetvl`.
-pub fn set_vl(word: u32) -> Option<Instr>
+pub(crate) fn set_vl(word: u32) -> Option<Instr>
     ensures { result ≡ scan (rows SetVls) word }
 {
     if word & 0xfe00_707f == 0x8000_7057 {
@@ -109,7 +109,7 @@ pub fn set_vl(word: u32) -> Option<Instr>
 
 /// `vmv1r.v` to `vmv8r.v`.
 #[tactic(auto, using(crate::proofs::Scan::scan_whole_move))]
-pub fn whole_move(word: u32) -> Option<Instr>
+pub(crate) fn whole_move(word: u32) -> Option<Instr>
     ensures { result ≡ scan (rows WholeMoves) word }
 {
     let count = whole_move_op(word & 0xfe0f_f07f)?;
@@ -122,7 +122,7 @@ pub fn whole_move(word: u32) -> Option<Instr>
 
 /// Mask logic, which is never masked.
 #[tactic(auto, using(crate::proofs::Scan::scan_mask_logic))]
-pub fn mask_logic(word: u32) -> Option<Instr>
+pub(crate) fn mask_logic(word: u32) -> Option<Instr>
     ensures { result ≡ scan (rows MaskLogics) word }
 {
     let op = mask_logic_op(word & 0xfe00_707f)?;
@@ -135,7 +135,7 @@ pub fn mask_logic(word: u32) -> Option<Instr>
 }
 
 /// `vcompress.vm`, which is never masked.
-pub fn compress(word: u32) -> Option<Instr>
+pub(crate) fn compress(word: u32) -> Option<Instr>
     ensures { result ≡ scan (rows Compresses) word }
 {
     if word & 0xfe00_707f == 0x5e00_2057 {
@@ -151,7 +151,7 @@ pub fn compress(word: u32) -> Option<Instr>
 
 /// `vcpop.m` and `vfirst.m`.
 #[tactic(auto, using(crate::proofs::Scan::scan_mask_to_scalar))]
-pub fn mask_to_scalar(word: u32) -> Option<Instr>
+pub(crate) fn mask_to_scalar(word: u32) -> Option<Instr>
     ensures { result ≡ scan (rows MasksToScalar) word }
 {
     let op = mask_to_scalar_op(word & 0xfc0f_f07f)?;
@@ -165,7 +165,7 @@ pub fn mask_to_scalar(word: u32) -> Option<Instr>
 
 /// VXUNARY0.
 #[tactic(auto, using(crate::proofs::Scan::scan_extend))]
-pub fn extend(word: u32) -> Option<Instr>
+pub(crate) fn extend(word: u32) -> Option<Instr>
     ensures { result ≡ scan (rows Extends) word }
 {
     let op = extend_op(word & 0xfc0f_f07f)?;
@@ -179,7 +179,7 @@ pub fn extend(word: u32) -> Option<Instr>
 
 /// VMUNARY0 on a mask.
 #[tactic(auto, using(crate::proofs::Scan::scan_mask_unary))]
-pub fn mask_unary(word: u32) -> Option<Instr>
+pub(crate) fn mask_unary(word: u32) -> Option<Instr>
     ensures { result ≡ scan (rows MaskUnaries) word }
 {
     let op = mask_unary_op(word & 0xfc0f_f07f)?;
@@ -192,7 +192,7 @@ pub fn mask_unary(word: u32) -> Option<Instr>
 }
 
 /// `vid.v`.
-pub fn element_index(word: u32) -> Option<Instr>
+pub(crate) fn element_index(word: u32) -> Option<Instr>
     ensures { result ≡ scan (rows ElementIndices) word }
 {
     if word & 0xfdff_f07f == 0x5008_a057 {
@@ -206,7 +206,7 @@ pub fn element_index(word: u32) -> Option<Instr>
 }
 
 /// `vmv.x.s`.
-pub fn move_to_scalar(word: u32) -> Option<Instr>
+pub(crate) fn move_to_scalar(word: u32) -> Option<Instr>
     ensures { result ≡ scan (rows MovesToScalar) word }
 {
     if word & 0xfe0f_f07f == 0x4200_2057 {
@@ -220,7 +220,7 @@ pub fn move_to_scalar(word: u32) -> Option<Instr>
 }
 
 /// `vmv.s.x`.
-pub fn move_to_vector(word: u32) -> Option<Instr>
+pub(crate) fn move_to_vector(word: u32) -> Option<Instr>
     ensures { result ≡ scan (rows MovesToVector) word }
 {
     if word & 0xfff0_707f == 0x4200_6057 {

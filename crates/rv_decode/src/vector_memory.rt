@@ -11,7 +11,7 @@ use rv_model::{Field, Instr};
 
 /// Unit stride.
 #[tactic(auto, using(crate::proofs::Scan::scan_unit))]
-pub fn unit(word: u32) -> Option<Instr>
+pub(crate) fn unit(word: u32) -> Option<Instr>
     ensures { result ≡ scan (rows Units) word }
 {
     let (op, width) = unit_access(word & 0x1df0_707f)?;
@@ -27,7 +27,7 @@ pub fn unit(word: u32) -> Option<Instr>
 
 /// Strided.
 #[tactic(auto, using(crate::proofs::Scan::scan_strided))]
-pub fn strided(word: u32) -> Option<Instr>
+pub(crate) fn strided(word: u32) -> Option<Instr>
     ensures { result ≡ scan (rows Strideds) word }
 {
     let (direction, width) = strided_access(word & 0x1c00_707f)?;
@@ -44,7 +44,7 @@ pub fn strided(word: u32) -> Option<Instr>
 
 /// Indexed.
 #[tactic(auto, using(crate::proofs::Scan::scan_indexed))]
-pub fn indexed(word: u32) -> Option<Instr>
+pub(crate) fn indexed(word: u32) -> Option<Instr>
     ensures { result ≡ scan (rows Indexeds) word }
 {
     let ((direction, order), width) = indexed_access(word & 0x1c00_707f)?;
@@ -62,7 +62,7 @@ pub fn indexed(word: u32) -> Option<Instr>
 
 /// Loads of whole registers.
 #[tactic(auto, using(crate::proofs::Scan::scan_whole_load))]
-pub fn whole_load(word: u32) -> Option<Instr>
+pub(crate) fn whole_load(word: u32) -> Option<Instr>
     ensures { result ≡ scan (rows WholeLoads) word }
 {
     let (count, width) = whole_load_access(word & 0xfff0_707f)?;
@@ -76,7 +76,7 @@ pub fn whole_load(word: u32) -> Option<Instr>
 
 /// Stores of whole registers.
 #[tactic(auto, using(crate::proofs::Scan::scan_whole_store))]
-pub fn whole_store(word: u32) -> Option<Instr>
+pub(crate) fn whole_store(word: u32) -> Option<Instr>
     ensures { result ≡ scan (rows WholeStores) word }
 {
     let count = whole_store_count(word & 0xfff0_707f)?;
@@ -89,7 +89,7 @@ pub fn whole_store(word: u32) -> Option<Instr>
 
 /// `vlm.v` and `vsm.v`.
 #[tactic(auto, using(crate::proofs::Scan::scan_mask_memory))]
-pub fn mask_memory(word: u32) -> Option<Instr>
+pub(crate) fn mask_memory(word: u32) -> Option<Instr>
     ensures { result ≡ scan (rows MaskMemories) word }
 {
     let direction = mask_memory_direction(word & 0xfff0_707f)?;

@@ -91,7 +91,7 @@ fn upper_opi(funct6: u32, form: Form) -> Option<VectorOp>
 }
 
 /// The operation of OPIVV, OPIVX or OPIVI with this funct6 and form.
-pub fn opi(funct6: u32, form: Form) -> Option<VectorOp>
+pub(crate) fn opi(funct6: u32, form: Form) -> Option<VectorOp>
     ensures row { result ≡ find_at line Major.Opi form funct6 vector_ops }
     ensures allowed { IfSome result (λ op. has_form (line op).forms form ≡ true) }
 {
@@ -170,7 +170,7 @@ fn upper_opm(funct6: u32, form: Form) -> Option<VectorOp>
 }
 
 /// The operation of OPMVV or OPMVX with this funct6 and form.
-pub fn opm(funct6: u32, form: Form) -> Option<VectorOp>
+pub(crate) fn opm(funct6: u32, form: Form) -> Option<VectorOp>
     ensures row { result ≡ find_at line Major.Opm form funct6 vector_ops }
     ensures allowed { IfSome result (λ op. has_form (line op).forms form ≡ true) }
 {
@@ -183,7 +183,7 @@ pub fn opm(funct6: u32, form: Form) -> Option<VectorOp>
 
 /// The operation of these bits that takes v0 and has this form.
 #[tactic(auto, unfolding(rv_model::specs::instructions::Table::find))]
-pub fn carry_op(bits: u32, form: Form) -> Option<CarryOp>
+pub(crate) fn carry_op(bits: u32, form: Form) -> Option<CarryOp>
     ensures row { result
         ≡ find
         (λ op. line_bits (carry_line op) form)
@@ -214,7 +214,7 @@ pub fn carry_op(bits: u32, form: Form) -> Option<CarryOp>
 
 /// The operation of these bits, for `Instr::WholeMove`.
 #[tactic(auto, unfolding(rv_model::specs::instructions::Table::find))]
-pub fn whole_move_op(bits: u32) -> Option<RegisterCount>
+pub(crate) fn whole_move_op(bits: u32) -> Option<RegisterCount>
     ensures { result ≡ find whole_move_bits counts bits }
 {
     match bits {
@@ -228,7 +228,7 @@ pub fn whole_move_op(bits: u32) -> Option<RegisterCount>
 
 /// The operation of these bits, for `Instr::MaskLogic`.
 #[tactic(auto, unfolding(rv_model::specs::instructions::Table::find))]
-pub fn mask_logic_op(bits: u32) -> Option<MaskLogicOp>
+pub(crate) fn mask_logic_op(bits: u32) -> Option<MaskLogicOp>
     ensures { result ≡ find mask_logic_bits mask_logic_ops bits }
 {
     match bits {
@@ -246,7 +246,7 @@ pub fn mask_logic_op(bits: u32) -> Option<MaskLogicOp>
 
 /// The operation of these bits, for `Instr::MaskToScalar`.
 #[tactic(auto, unfolding(rv_model::specs::instructions::Table::find))]
-pub fn mask_to_scalar_op(bits: u32) -> Option<MaskToScalarOp>
+pub(crate) fn mask_to_scalar_op(bits: u32) -> Option<MaskToScalarOp>
     ensures { result ≡ find mask_to_scalar_bits mask_to_scalar_ops bits }
 {
     match bits {
@@ -258,7 +258,7 @@ pub fn mask_to_scalar_op(bits: u32) -> Option<MaskToScalarOp>
 
 /// The operation of these bits, for `Instr::VectorExtend`.
 #[tactic(auto, unfolding(rv_model::specs::instructions::Table::find))]
-pub fn extend_op(bits: u32) -> Option<ExtendOp>
+pub(crate) fn extend_op(bits: u32) -> Option<ExtendOp>
     ensures { result ≡ find extend_bits extend_ops bits }
 {
     match bits {
@@ -274,7 +274,7 @@ pub fn extend_op(bits: u32) -> Option<ExtendOp>
 
 /// The operation of these bits, for `Instr::MaskUnary`.
 #[tactic(auto, unfolding(rv_model::specs::instructions::Table::find))]
-pub fn mask_unary_op(bits: u32) -> Option<MaskUnaryOp>
+pub(crate) fn mask_unary_op(bits: u32) -> Option<MaskUnaryOp>
     ensures { result ≡ find mask_unary_bits mask_unary_ops bits }
 {
     match bits {

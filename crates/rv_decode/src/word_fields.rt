@@ -8,7 +8,7 @@ use rv_model::instructions::operations::Form;
 use rv_model::{Field, Reg, Source, VReg};
 
 /// Bits `low` to `low + len - 1` of a word.
-pub fn bits(word: u32, low: u32, len: u32) -> u32
+pub(crate) fn bits(word: u32, low: u32, len: u32) -> u32
     requires { low + len ≤ 32 × len < 32 × 0 < len }
     ensures value { result ≡ field low len word }
     ensures small { result < 2 ^ len }
@@ -17,7 +17,7 @@ pub fn bits(word: u32, low: u32, len: u32) -> u32
 }
 
 /// The scalar register at bit `low`.
-pub fn reg(word: u32, low: u32) -> Reg
+pub(crate) fn reg(word: u32, low: u32) -> Reg
     requires { low + 5 ≤ 32 }
     ensures { result ≡ field low 5 word }
 {
@@ -25,7 +25,7 @@ pub fn reg(word: u32, low: u32) -> Reg
 }
 
 /// The vector register at bit `low`.
-pub fn vreg(word: u32, low: u32) -> VReg
+pub(crate) fn vreg(word: u32, low: u32) -> VReg
     requires { low + 5 ≤ 32 }
     ensures { result ≡ field low 5 word }
 {
@@ -33,14 +33,14 @@ pub fn vreg(word: u32, low: u32) -> VReg
 }
 
 /// Whether a vector instruction is not masked.
-pub fn is_unmasked(word: u32) -> bool
+pub(crate) fn is_unmasked(word: u32) -> bool
     ensures { result ≡ flag word }
 {
     bits(word, 25, 1) == 1
 }
 
 /// The second operand of a vector operation of this form.
-pub fn source(word: u32, form: Form) -> Source
+pub(crate) fn source(word: u32, form: Form) -> Source
     ensures { result ≡ source_of form (field 15 5 word) }
 {
     match form {
@@ -51,14 +51,14 @@ pub fn source(word: u32, form: Form) -> Source
 }
 
 /// The immediate of a store.
-pub fn store_immediate(word: u32) -> Field<12>
+pub(crate) fn store_immediate(word: u32) -> Field<12>
     ensures { result ≡ store_immediate word }
 {
     Field::new(bits(word, 7, 5) + bits(word, 25, 7) * 32)
 }
 
 /// Bits 12 to 1 of the distance of a branch.
-pub fn branch_offset(word: u32) -> Field<12>
+pub(crate) fn branch_offset(word: u32) -> Field<12>
     ensures { result ≡ branch_offset word }
 {
     let low = bits(word, 8, 4) + bits(word, 25, 6) * 16;
@@ -66,7 +66,7 @@ pub fn branch_offset(word: u32) -> Field<12>
 }
 
 /// Bits 20 to 1 of the distance of a jump.
-pub fn jump_offset(word: u32) -> Field<20>
+pub(crate) fn jump_offset(word: u32) -> Field<20>
     ensures { result ≡ jump_offset word }
 {
     let low = bits(word, 21, 10) + bits(word, 20, 1) * 1024;

@@ -82,7 +82,8 @@ fn end_script<A: Allocator, K: Sink>(
     ensures eight { length machine.new.world.parts ≡ 8 }
     ensures ok { OnOk result (K.took sink.old (line_output machine.old line.now) sink.new) }
     ensures unfailed { OnOk result (K.failures sink.new ≡ K.failures sink.old) }
-    ensures part { result ≡ Err RunFault.Write → (n : ℕ) × ((n < length (line_output machine.old line.now))
+    ensures part { result ≡ Err RunFault.Write → (n : ℕ) × (
+        (n < length (line_output machine.old line.now))
         × K.took sink.old (take n (line_output machine.old line.now)) sink.new) }
     ensures cause { result ≡ Err RunFault.Write → Rose (K.failures sink.old) (K.failures sink.new) }
     ensures never_read { result ≢ Err RunFault.Read }
@@ -142,7 +143,8 @@ pub fn run<A: Allocator, S: Source, K: Sink>(
     // After a failed write, some line's answer went out up to a point before its end.
     ensures after_write { result ≡ Err RunFault.Write → (text : List ℕ) × (
         S.gave source.old text source.new
-        × CutShort machine.old text (S.ended source.new) machine.new.world (λ output. K.took sink.old output sink.new)) }
+        × CutShort machine.old text (S.ended source.new) machine.new.world
+        (λ output. K.took sink.old output sink.new)) }
 {
     let mut left = MAX_SCRIPT;
     let mut line = Line::new();

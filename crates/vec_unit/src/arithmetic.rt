@@ -10,7 +10,7 @@ ghost use Rattle.rv_model.specs.vector.Configuration.{lmul_eighths, vlmax};
 ghost use Rattle.rv_model.specs.elements.Formulas.{is_carried_out};
 ghost use Rattle.rv_model.specs.step.VectorStep.{arith_step, vector_ends};
 
-use crate::binary_operation::{BinaryOperation, carry_out, policy_fills};
+use crate::binary_operation::{BinaryOperation, agnostic_under, carry_out};
 use crate::operands::mask_register;
 use lane_arith::Body;
 use reg_groups::registers;
@@ -53,15 +53,15 @@ fn carry_out_typed(
     let start = usize::from(state.vstart);
     let vl = usize::from(state.conf.vl());
     let body = Body::new(operation.unmasked, &mask, start, vl);
-    let fills = policy_fills(policy, vtype, &body);
+    let agnostic = agnostic_under(policy, vtype, &body);
     let emul = u32::from(vtype.lmul.eighths());
     let length = VLENB * registers(emul) as usize;
     let file = &mut state.file;
     match vtype.sew {
-        Sew::E8 => carry_out::<u8>(operation, emul, length, &body, fills, file, scalar),
-        Sew::E16 => carry_out::<u16>(operation, emul, length / 2, &body, fills, file, scalar),
-        Sew::E32 => carry_out::<u32>(operation, emul, length / 4, &body, fills, file, scalar),
-        Sew::E64 => carry_out::<u64>(operation, emul, length / 8, &body, fills, file, scalar),
+        Sew::E8 => carry_out::<u8>(operation, emul, length, &body, agnostic, file, scalar),
+        Sew::E16 => carry_out::<u16>(operation, emul, length / 2, &body, agnostic, file, scalar),
+        Sew::E32 => carry_out::<u32>(operation, emul, length / 4, &body, agnostic, file, scalar),
+        Sew::E64 => carry_out::<u64>(operation, emul, length / 8, &body, agnostic, file, scalar),
     }
 }
 

@@ -24,27 +24,28 @@ pub(crate) struct BinaryOperation {
     pub unmasked: bool,
 }
 
-/// Which elements become all ones: those of the body that are masked off, and those of the tail.
+/// What becomes of agnostic elements: whether those of the body that are masked off, and those of the tail,
+/// become all ones (section 3.4.3).
 #[derive(Clone, Copy)]
-pub(crate) struct Fills {
-    masked_off: bool,
-    tail: bool,
+pub(crate) struct Agnostic {
+    fill_masked_off: bool,
+    fill_tail: bool,
 }
 
-/// What the policy fills.
-pub(crate) fn policy_fills(policy: Policy, vtype: VType, body: &Body<'_>) -> Fills
+/// What becomes of agnostic elements under a policy.
+pub(crate) fn agnostic_under(policy: Policy, vtype: VType, body: &Body<'_>) -> Agnostic
     ensures { result ≡ record {
-      masked_off = fills_masked_off policy vtype body.now;
-      tail = fills_tail policy vtype body.now;
+      fill_masked_off = fills_masked_off policy vtype body.now;
+      fill_tail = fills_tail policy vtype body.now;
     } }
 {
     let is_ones = match policy {
         Policy::Keep => false,
         Policy::Ones => true,
     };
-    Fills {
-        masked_off: is_ones && (vtype.mask_agnostic && !body.is_unmasked()),
-        tail: is_ones && (vtype.tail_agnostic && body.start() < body.end()),
+    Agnostic {
+        fill_masked_off: is_ones && (vtype.mask_agnostic && !body.is_unmasked()),
+        fill_tail: is_ones && (vtype.tail_agnostic && body.start() < body.end()),
     }
 }
 
@@ -54,7 +55,7 @@ fn write_results<L: Lane>(
     a: &[u8; GROUP_BYTES],
     b: &[u8; GROUP_BYTES],
     body: &Body<'_>,
-    fills: Fills,
+    agnostic: Agnostic,
     count: usize,
     destination: &mut [u8],
 )
@@ -64,15 +65,15 @@ fn write_results<L: Lane>(
     requires room { width_bytes L.width * body.now.end ≤ length destination.old }
     requires whole { length destination.old ≡ width_bytes L.width * count }
     requires most { count ≤ GROUP_BYTES }
-    ensures { Writes (width_bytes L.width) (is_changed body.now fills.masked_off fills.tail)
+    ensures { Writes (width_bytes L.width) (is_changed body.now agnostic.fill_masked_off agnostic.fill_tail)
         (result_or_ones body.now
         (λ i. wrap L.width (formula op L.width (element (width_bytes L.width) a.now i)
         (element (width_bytes L.width) b.now i)))
         (ones L.width))
         destination.old destination.new }
 {
-    binary::<L>(op, a, b, body, destination, fills.masked_off);
-    if fills.tail {
+    binary::<L>(op, a, b, body, destination, agnostic.fill_masked_off);
+    if agnostic.fill_tail {
         fill(L::all_ones(), body.end(), count, destination);
     }
 }
@@ -84,7 +85,7 @@ pub(crate) fn carry_out<L: Lane>(
     emul: u32,
     count: usize,
     body: &Body<'_>,
-    fills: Fills,
+    agnostic: Agnostic,
     file: &mut VFile,
     scalar: &Scalar,
 )
@@ -98,11 +99,11 @@ pub(crate) fn carry_out<L: Lane>(
     requires whole { VLENB * registers emul ≡ width_bytes L.width * count }
     requires most { count ≤ GROUP_BYTES }
     ensures { file.new ≡ binary_file (record { width = L.width; emul = emul }) operation.op operation.vd
-        operation.vs2 operation.source body.now fills.masked_off fills.tail file.old scalar.now }
+        operation.vs2 operation.source body.now agnostic.fill_masked_off agnostic.fill_tail file.old scalar.now }
 {
     let end = body.end();
     let a = group_elements::<L>(file, operation.vs2, emul, end);
     let b = second_elements::<L>(operation.op, operation.source, emul, end, file, scalar);
     let destination = group_mut(file, operation.vd, emul);
-    write_results::<L>(operation.op, &a, &b, body, fills, count, destination);
+    write_results::<L>(operation.op, &a, &b, body, agnostic, count, destination);
 }

@@ -7,7 +7,7 @@ ghost use Rattle.rv_model.specs.vector.TypeRules.{requested, with_length};
 use crate::type_numbers::vector_type;
 use rv_model::{RequestedLength, VConf, VType, VectorRequest};
 
-// The lesser of a length that is asked for and the greatest that there can be.
+/// The lesser of a length that is asked for and the greatest that there can be.
 fn limited(count: u64, most: u16) -> u16
     ensures { result ≡ min count most }
 {
@@ -18,7 +18,7 @@ fn limited(count: u64, most: u16) -> u16
     }
 }
 
-// The old length, if there can be just as many elements of the new type as of the old one.
+/// The old length, if there can be just as many elements of the new type as of the old one.
 fn kept(old: &VConf, vtype: VType) -> VConf
     requires { IsSupported vtype }
     ensures { result ≡ with_length old.now vtype Keep }

@@ -2,37 +2,12 @@
 ghost use Rattle.std.specs.Prelude.{◌≡◌, ◌<◌, ◌^◌, IfSome, Some};
 ghost use Rattle.rv_model.specs.instructions.BitFields.{field};
 ghost use Rattle.rv_model.specs.vector.Configuration.{IsSupported};
-ghost use Rattle.rv_model.specs.vector.TypeRules.{lmul_number, lmul_with_number, sew_number, sew_with_number, vector_type, vtype_number};
+ghost use Rattle.rv_model.specs.vector.TypeRules.{vector_type, vtype_number};
 
 use rv_model::{Lmul, Sew, VType};
 
-// The bit that says that there is no vector type.
+/// The bit that says that there is no vector type.
 const VILL: u64 = 1 << 63;
-
-fn sew_number(sew: Sew) -> u64
-    ensures { result ≡ sew_number sew }
-{
-    match sew {
-        Sew::E8 => 0,
-        Sew::E16 => 1,
-        Sew::E32 => 2,
-        Sew::E64 => 3,
-    }
-}
-
-fn lmul_number(lmul: Lmul) -> u64
-    ensures { result ≡ lmul_number lmul }
-{
-    match lmul {
-        Lmul::M1 => 0,
-        Lmul::M2 => 1,
-        Lmul::M4 => 2,
-        Lmul::M8 => 3,
-        Lmul::Mf8 => 5,
-        Lmul::Mf4 => 6,
-        Lmul::Mf2 => 7,
-    }
-}
 
 /// The number of a vector type; without one it is `vill` alone.
 pub fn vtype_number(vtype: Option<VType>) -> u64
@@ -42,42 +17,13 @@ pub fn vtype_number(vtype: Option<VType>) -> u64
     let Some(vtype) = vtype else {
         return VILL;
     };
-    lmul_number(vtype.lmul)
-        + sew_number(vtype.sew) * (1 << 3)
+    u64::from(vtype.lmul.number())
+        + u64::from(vtype.sew.number()) * (1 << 3)
         + u64::from(vtype.tail_agnostic) * (1 << 6)
         + u64::from(vtype.mask_agnostic) * (1 << 7)
 }
 
-fn sew_with_number(number: u64) -> Option<Sew>
-    ensures value { result ≡ sew_with_number number }
-    ensures number { IfSome result (λ sew. sew_number sew ≡ number) }
-{
-    match number {
-        0 => Some(Sew::E8),
-        1 => Some(Sew::E16),
-        2 => Some(Sew::E32),
-        3 => Some(Sew::E64),
-        _ => None,
-    }
-}
-
-fn lmul_with_number(number: u64) -> Option<Lmul>
-    ensures value { result ≡ lmul_with_number number }
-    ensures number { IfSome result (λ lmul. lmul_number lmul ≡ number) }
-{
-    match number {
-        0 => Some(Lmul::M1),
-        1 => Some(Lmul::M2),
-        2 => Some(Lmul::M4),
-        3 => Some(Lmul::M8),
-        5 => Some(Lmul::Mf8),
-        6 => Some(Lmul::Mf4),
-        7 => Some(Lmul::Mf2),
-        _ => None,
-    }
-}
-
-// The `len` bits from bit `low` up.
+/// The `len` bits from bit `low` up.
 fn field(low: u32, len: u32, number: u64) -> u64
     requires low { low < 64 }
     requires len { len < 64 }
@@ -96,8 +42,8 @@ pub fn vector_type(number: u64) -> Option<VType>
     if number >= 1 << 8 {
         return None;
     }
-    let sew = sew_with_number(field(3, 3, number))?;
-    let lmul = lmul_with_number(field(0, 3, number))?;
+    let sew = Sew::with_number(field(3, 3, number) as u8)?;
+    let lmul = Lmul::with_number(field(0, 3, number) as u8)?;
     let vtype = VType {
         sew,
         lmul,

@@ -10,7 +10,7 @@ use crate::numerals::{push_bytes, push_hex16};
 use crate::reply::Reply;
 use crate::tag::Tag;
 use crate::words::{Words, done};
-use rv_model::{ByteString, Count, MemoryCommand, PageRange};
+use rv_model::{ByteString, Count, MemoryCommand, PAGE_QUOTA, PageRange};
 
 /// The command of a name, by its arguments as they stand in the line. `None` where the group has no
 /// such name, and `Some(None)` where the arguments are wrong.
@@ -29,14 +29,14 @@ pub(crate) fn memory_named(name: &[u8], args: &[u8]) -> Option<Option<MemoryComm
     None
 }
 
-/// `map ADDR PAGES PERM`, with 1 to 256 pages.
+/// `map ADDR PAGES PERM`, with 1 to `PAGE_QUOTA` pages.
 #[tactic(auto, unfolding(rv_model::specs::commands::Memory::map_args))]
 fn map_args(args: &[u8]) -> Option<MemoryCommand>
     ensures { result ≡ map_args (words args.now) }
 {
     let mut words = Words::new(args);
     let addr = address(words.next_word()?)?;
-    let count: Count<256> = count(words.next_word()?)?;
+    let count: Count<PAGE_QUOTA> = count(words.next_word()?)?;
     let permissions = permissions(words.next_word()?)?;
     let pages = PageRange::new(addr, count.get())?;
     done(words, MemoryCommand::Map { pages, permissions })

@@ -19,11 +19,10 @@ use crate::numerals::{push_bytes, push_decimal, push_hex16};
 use crate::reply::Reply;
 use crate::tag::Tag;
 use crate::words::{Words, done};
-use rv_model::{RegisterBytes, RegisterCommand, RoundingMode, Scalar, Sew, VConf, VReg, VState};
+use rv_model::{
+    RegisterBytes, RegisterCommand, RoundingMode, Scalar, Sew, VConf, VLENB, VReg, VState,
+};
 use vtype_rules::vtype_number;
-
-/// The bytes of a vector register.
-const REGISTER_SIZE: usize = 32;
 
 /// The command of a name, by its arguments as they stand in the line. `None` where the group has no
 /// such name, and `Some(None)` where the arguments are wrong.
@@ -180,7 +179,7 @@ fn push_elements(reply: &mut Reply, register: &[u8], width: Sew)
     ensures bound { length reply.new ≤ length reply.old + 544 }
 {
     let size = usize::from(width.bits()) / 8;
-    for index in 0..REGISTER_SIZE / size {
+    for index in 0..VLENB / size {
         push_element(reply, register, size, index);
     }
 }

@@ -15,7 +15,7 @@ pub enum Sew {
 static SEWS: [Sew; 4] = [Sew::E8, Sew::E16, Sew::E32, Sew::E64];
 
 impl Sew {
-    ghost use Rattle.std.specs.Prelude.{◌≡◌, ◌<◌, ◌≤◌, length};
+    ghost use Rattle.std.specs.Prelude.{◌≡◌, ◌<◌, ◌≤◌, IfSome, length};
     ghost use Rattle.rv_model.specs.vector.Configuration.{element_width, sew_bits};
     ghost use Rattle.rv_model.specs.vector.TypeNames.{sew_name, sew_named};
     ghost use Rattle.rv_model.specs.vector.TypeRules.{sew_number, sew_with_number};
@@ -59,7 +59,8 @@ impl Sew {
 
     /// The width with this `vsew`; the others are reserved.
     pub fn with_number(number: u8) -> Option<Sew>
-        ensures { result ≡ sew_with_number number }
+        ensures value { result ≡ sew_with_number number }
+        ensures number { IfSome result (λ sew. sew_number sew ≡ number) }
     {
         match number {
             0 => Some(Sew::E8),
@@ -118,7 +119,7 @@ static LMULS: [Lmul; 7] = [
 ];
 
 impl Lmul {
-    ghost use Rattle.std.specs.Prelude.{◌≡◌, ◌<◌, ◌≤◌, length};
+    ghost use Rattle.std.specs.Prelude.{◌≡◌, ◌<◌, ◌≤◌, IfSome, length};
     ghost use Rattle.rv_model.specs.vector.Configuration.{lmul_eighths};
     ghost use Rattle.rv_model.specs.vector.TypeNames.{lmul_name, lmul_named};
     ghost use Rattle.rv_model.specs.vector.TypeRules.{lmul_number, lmul_with_number};
@@ -156,7 +157,8 @@ impl Lmul {
 
     /// The multiplier with this `vlmul`; the others are reserved.
     pub fn with_number(number: u8) -> Option<Lmul>
-        ensures { result ≡ lmul_with_number number }
+        ensures value { result ≡ lmul_with_number number }
+        ensures number { IfSome result (λ lmul. lmul_number lmul ≡ number) }
     {
         match number {
             0 => Some(Lmul::M1),

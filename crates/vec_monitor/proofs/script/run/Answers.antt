@@ -122,7 +122,7 @@ returns-in_err-left-clause-after_too_long g c = λ fault.
     let p = err_from_is_err_and c.from_residual.result c.from_residual.ensures.1 in
     let e : Err c.in_err-left.field-0.0 ≡ Err TooLong = cc (p.1, p.2, fault) in
     let limit = so_far.so_far.limit in
-    let more = c.in_err-left.ensures.long e in (
+    let more : c.loop-count.left < length piece = c.in_err-left.ensures.long e in (
       front ++ piece,
       (
         g.met.S.Source.gave_more _ _ _ _ _ so_far.gave c.in-Ok.ensures.bytes,

@@ -5,4 +5,4 @@ use Rattle.vtype_rules.proofs.type_numbers.vtype_number.Goals as goal
 
 pub returns-clause-read_back : goal.returns-clause-read_back
 returns-clause-read_back c =
-    number_again c.args.vtype (c.lmul_number.result + c.sew_number.result * 8 + c.from.result * 64 + c.from-2.result * 128) (search rules)
+    number_again c.args.vtype (c.from.result + c.from-2.result * 8 + c.from-3.result * 64 + c.from-4.result * 128) (search rules)
