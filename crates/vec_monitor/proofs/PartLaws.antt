@@ -6,6 +6,7 @@ use Rattle.std.specs.Prelude.{if◌then◌else◌}
 use Rattle.rv_model.specs.memory.Memory.{Memory}
 use Rattle.rv_model.specs.machine.PrivateMachine.{Private}
 use Rattle.rv_model.specs.machine.Script.{World, new_world, part, with_part}
+use Rattle.rv_model.specs.machine.Users.{user_count}
 use Rattle.rv_model.specs.machine.VectorUnit.{unused_unit}
 use Rattle.user_mem.specs.Users.{no_memories, memory_of_user, with_memory}
 use Rattle.vec_monitor.specs.declared.context.Context.{Context}
@@ -40,14 +41,14 @@ pub trace_there : (ts : List Addresses) (u : ℕ) (t : Addresses) → u - 1 < le
 trace_there ts u t within = get_or-set_same ts (u - 1) t [] within
 
 -- a user's part, by the user's place i
-pub part_is : (cs : List Context) (ts : List Addresses) (ms : List Memory) (u i : ℕ) (d : Context) → i ≡ u - 1 → i < 8 → AreEight cs ts ms
+pub part_is : (cs : List Context) (ts : List Addresses) (ms : List Memory) (u i : ℕ) (d : Context) → i ≡ u - 1 → i < user_count → AreEight cs ts ms
     → part u (world_of cs ts ms) ≡ private_of (get_or cs i d) (trace_of ts u) (memory_of_user ms u)
 part_is cs ts ms u i d at low eight =
     parts_at cs ts ms (u - 1) d (omega (arith, eight.contexts, at, low)) (eight.contexts ∙ sym eight.traces) (eight.traces ∙ sym eight.memories)
     ∙ ap (λ (j : ℕ). private_of (get_or cs j d) (trace_of ts u) (memory_of_user ms u)) (sym at)
 
 -- the world after a change of one user's context, trace and memory
-pub world_with : (cs : List Context) (ts ts' : List Addresses) (ms ms' : List Memory) (u i : ℕ) (d c' : Context) (f : Private → Private) → i ≡ u - 1 → i < 8 → AreEight cs ts ms
+pub world_with : (cs : List Context) (ts ts' : List Addresses) (ms ms' : List Memory) (u i : ℕ) (d c' : Context) (f : Private → Private) → i ≡ u - 1 → i < user_count → AreEight cs ts ms
     → private_of c' (trace_of ts' u) (memory_of_user ms' u) ≡ f (private_of (get_or cs i d) (trace_of ts u) (memory_of_user ms u)) → ts' ≡ with_trace ts u (trace_of ts' u) → ms' ≡ with_memory ms u (memory_of_user ms' u)
     → world_of (set cs i c') ts' ms' ≡ with_part u (f (part u (world_of cs ts ms))) (world_of cs ts ms)
 world_with cs ts ts' ms ms' u i d c' f at low eight next traces others =
@@ -59,7 +60,7 @@ world_with cs ts ts' ms ms' u i d c' f at low eight next traces others =
     ∙ ap (λ (l : List Addresses). parts_of (set cs (u - 1) c') l (with_memory ms u m')) traces
     ∙ parts_of-set cs ts ms (u - 1) c' t' m' (eight.contexts ∙ sym eight.traces) (eight.traces ∙ sym eight.memories) in
     ap (λ (j : ℕ). world_of (set cs j c') ts' ms') at
-    ∙ ap (λ (ps : List Private). let r : World = record { parts = ps; cursor = 8; unit = unused_unit } in r) moved
+    ∙ ap (λ (ps : List Private). let r : World = record { parts = ps; cursor = user_count; unit = unused_unit } in r) moved
     ∙ ap (λ (p : Private). with_part u p (world_of cs ts ms)) done
 
 -- one user's memory was changed twice, so it was changed
@@ -76,13 +77,13 @@ absent_parts : (n : ℕ) → parts_of (replicate n new_context) (replicate n [])
 absent_parts zero = refl
 absent_parts (suc n) = ap (λ (ps : List Private). None ∷ ps) (absent_parts n)
 
--- eight of them are the new world
-pub new_users : (cs : List Context) (ts : List Addresses) (ms : List Memory) → cs ≡ replicate 8 new_context → ts ≡ replicate 8 [] → ms ≡ no_memories → world_of cs ts ms ≡ new_world
+-- one for each user is the new world
+pub new_users : (cs : List Context) (ts : List Addresses) (ms : List Memory) → cs ≡ replicate user_count new_context → ts ≡ replicate user_count [] → ms ≡ no_memories → world_of cs ts ms ≡ new_world
 unfolding new_world
-new_users cs ts ms p q r = rw (p, q, r) (ap (λ (ps : List Private). let w : World = record { parts = ps; cursor = 8; unit = unused_unit } in w) (absent_parts 8))
+new_users cs ts ms p q r = rw (p, q, r) (ap (λ (ps : List Private). let w : World = record { parts = ps; cursor = user_count; unit = unused_unit } in w) (absent_parts user_count))
 
--- they are eight
-pub new_are_eight : (w : World) → w ≡ new_world → length w.parts ≡ 8
+-- there is one for each user
+pub new_are_eight : (w : World) → w ≡ new_world → length w.parts ≡ user_count
 unfolding new_world
 new_are_eight w h = ap (λ (v : World). length v.parts) h
 

@@ -16,6 +16,7 @@ use Rattle.rv_model.specs.images.Image.{memory_of_image}
 use Rattle.rv_model.specs.machine.Setup.{Image}
 use Rattle.rv_model.specs.machine.UserMachine.{Outcome, answers, refuses}
 use Rattle.rv_model.specs.memory.Memory.{Memory, bytes_at, can_access, put_bytes, page_count}
+use Rattle.rv_model.specs.memory.Sizes.{page_quota}
 use Rattle.rv_model.specs.text.Lines.{text}
 use Rattle.vec_monitor.specs.declared.context.Context.{Context}
 use Rattle.vec_monitor.specs.Parts.{Addresses, loaded_context, present, private_of}
@@ -84,23 +85,23 @@ loads_by c t m image many =
     if many then refuses (Some (present c t m)) refusal.Quota
     else answers (loaded image) (loaded_line (entry_of image) (page_count (memory_of_image image)))
 
-pub loading_too_large : (c : Context) (t : Addresses) (m : Memory) (image : List ℕ) → 256 < page_count (memory_of_image image)
+pub loading_too_large : (c : Context) (t : Addresses) (m : Memory) (image : List ℕ) → page_quota < page_count (memory_of_image image)
     → loading image None (present c t m) ≡ refuses (Some (present c t m)) refusal.Quota
-loading_too_large c t m image many = ap (loads_by c t m image) (lt-ltb 256 (page_count (memory_of_image image)) many)
+loading_too_large c t m image many = ap (loads_by c t m image) (lt-ltb page_quota (page_count (memory_of_image image)) many)
 
-pub loading_accepted : (c : Context) (t : Addresses) (m : Memory) (image : List ℕ) → page_count (memory_of_image image) ≤ 256
+pub loading_accepted : (c : Context) (t : Addresses) (m : Memory) (image : List ℕ) → page_count (memory_of_image image) ≤ page_quota
     → loading image None (present c t m) ≡ answers (present (loaded_context (entry_of image)) [] (memory_of_image image)) (loaded_line (entry_of image) (page_count (memory_of_image image)))
-loading_accepted c t m image few = ap (loads_by c t m image) (le-ltb 256 (page_count (memory_of_image image)) few)
+loading_accepted c t m image few = ap (loads_by c t m image) (le-ltb page_quota (page_count (memory_of_image image)) few)
 
 -- an image that was placed has at most 256 pages
-pub few_pages : (n entry : ℕ) (r : MapRefusal) → (let placed : Result ℕ MapRefusal = Ok entry in placed ≡ Err r) ↔ (256 < n) → n ≤ 256
-few_pages n entry r h = elim (cases_lt 256 n) [
+pub few_pages : (n entry : ℕ) (r : MapRefusal) → (let placed : Result ℕ MapRefusal = Ok entry in placed ≡ Err r) ↔ (page_quota < n) → n ≤ page_quota
+few_pages n entry r h = elim (cases_lt page_quota n) [
   | inl many ↦ absurd (let never = h.1 many in cc never)
   | inr few ↦ few
 ]
 
 -- a placed image is the machine that `load` makes
-pub placed_next : (c c' : Context) (t t' : Addresses) (m m' : Memory) (image : List ℕ) (entry : ℕ) → page_count (memory_of_image image) ≤ 256
+pub placed_next : (c c' : Context) (t t' : Addresses) (m m' : Memory) (image : List ℕ) (entry : ℕ) → page_count (memory_of_image image) ≤ page_quota
     → entry ≡ entry_of image → c' ≡ loaded_context entry → t' ≡ [] → m' ≡ memory_of_image image → private_of c' t' m' ≡ (loading image None (present c t m)).next
 placed_next c c' t t' m m' image entry few at context trace memory =
     ap (λ (d : Context). private_of d t' m') context
@@ -110,7 +111,7 @@ placed_next c c' t t' m m' image entry few at context trace memory =
     ∙ sym (ap (λ (o : Outcome). o.next) (loading_accepted c t m image few))
 
 -- and its line is what `load` prints
-pub placed_reply : (c : Context) (t : Addresses) (m m' : Memory) (image : List ℕ) (entry pages user : ℕ) (before after : List ℕ) → page_count (memory_of_image image) ≤ 256
+pub placed_reply : (c : Context) (t : Addresses) (m m' : Memory) (image : List ℕ) (entry pages user : ℕ) (before after : List ℕ) → page_count (memory_of_image image) ≤ page_quota
     → entry ≡ entry_of image → m' ≡ memory_of_image image → pages ≡ page_count m' → before ≡ [] → after ≡ before ++ text (48 + user) (loaded_line entry pages ∷ []) → after ≡ text (48 + user) (loading image None (present c t m)).lines
 placed_reply c t m m' image entry pages user before after few at memory counted clear printed =
     printed
@@ -120,12 +121,12 @@ placed_reply c t m m' image entry pages user before after few at memory counted 
     ∙ sym (ap (λ (o : Outcome). text (48 + user) o.lines) (loading_accepted c t m image few))
 
 -- a machine whose image is too large stays, and the refusal is printed
-pub too_large_next : (c : Context) (t : Addresses) (m m' : Memory) (image : List ℕ) → 256 < page_count (memory_of_image image) → c.entered ≡ true → m' ≡ m
+pub too_large_next : (c : Context) (t : Addresses) (m m' : Memory) (image : List ℕ) → page_quota < page_count (memory_of_image image) → c.entered ≡ true → m' ≡ m
     → private_of c t m' ≡ (loading image None (present c t m)).next
 too_large_next c t m m' image many entered same =
     ap (private_of c t) same ∙ entered_as c t m entered ∙ sym (ap (λ (o : Outcome). o.next) (loading_too_large c t m image many))
 
-pub too_large_reply : (c : Context) (t : Addresses) (m : Memory) (image : List ℕ) (user : ℕ) (before after : List ℕ) → 256 < page_count (memory_of_image image) → before ≡ []
+pub too_large_reply : (c : Context) (t : Addresses) (m : Memory) (image : List ℕ) (user : ℕ) (before after : List ℕ) → page_quota < page_count (memory_of_image image) → before ≡ []
     → after ≡ before ++ text (48 + user) (refused refusal.Quota ∷ []) → after ≡ text (48 + user) (loading image None (present c t m)).lines
 too_large_reply c t m image user before after many clear printed =
     printed ∙ ap (λ (b : List ℕ). b ++ text (48 + user) (refused refusal.Quota ∷ [])) clear ∙ sym (ap (λ (o : Outcome). text (48 + user) o.lines) (loading_too_large c t m image many))

@@ -9,6 +9,7 @@ use Rattle.rv_model.specs.machine.PrivateMachine.{Private, Present}
 use Rattle.rv_model.specs.scalar.Registers.{initial_scalar, with_register}
 use Rattle.rv_model.specs.vector.State.{initial_vector}
 use Rattle.rv_model.specs.machine.Script.{World}
+use Rattle.rv_model.specs.machine.Users.{user_count}
 use Rattle.rv_model.specs.machine.VectorUnit.{unused_unit}
 use Rattle.vec_monitor.specs.declared.context.Context.{Context}
 
@@ -57,10 +58,10 @@ parts_of (c ∷ cs) (t ∷ ts) (m ∷ memories) = private_of c t m ∷ parts_of 
 -- the world of these contexts, traces and memories; user 1 is the first to be granted a slice, and no use of the vector unit is
 -- counted
 abbrev pub world_of : List Context → List Addresses → List Memory → World
-world_of contexts traces memories = record { parts = parts_of contexts traces memories; cursor = 8; unit = unused_unit }
+world_of contexts traces memories = record { parts = parts_of contexts traces memories; cursor = user_count; unit = unused_unit }
 
 -- there is a context, a trace and a memory for each user
 pub record AreEight (cs : List Context) (ts : List Addresses) (ms : List Memory) : Type 0 where
-  pub contexts : length cs ≡ 8
-  pub traces : length ts ≡ 8
-  pub memories : length ms ≡ 8
+  pub contexts : length cs ≡ user_count
+  pub traces : length ts ≡ user_count
+  pub memories : length ms ≡ user_count

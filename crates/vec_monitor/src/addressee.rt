@@ -10,7 +10,7 @@ pub const MAX_LINE: usize = 1024;
 
 /// Whose a line is, by its length and its first two bytes: a user's digit or a star, and a space.
 #[derive(Clone, Copy)]
-pub enum Addressee {
+pub(crate) enum Addressee {
     /// An empty line is skipped.
     Nobody,
     /// The line has more than 1,024 bytes.
@@ -23,7 +23,7 @@ pub enum Addressee {
 
 /// Whose a line is. What follows the prefix begins at the third byte.
 #[tactic(auto, using(crate::proofs::PrefixLaws::prefixed_at), unfolding(rv_model::specs::machine::Script::kind_of))]
-pub fn addressee_of(line: &[u8]) -> Addressee
+pub(crate) fn addressee_of(line: &[u8]) -> Addressee
     ensures kind { kind_of line.now ≡ kind_as result (drop 2 line.now) }
     ensures prefix { HasPrefix result (length line.now) }
 {

@@ -17,7 +17,7 @@ use user_mem::Pool;
 
 /// Carries out a command of a user, and answers it. `traces` are those of all users.
 #[tactic(auto, using(crate::proofs::PartLaws::trace_there))]
-pub fn carry_out<A: Allocator>(
+pub(crate) fn carry_out<A: Allocator>(
     images: &[Image<'_>],
     context: &mut Context,
     traces: &mut [Trace<A>],

@@ -9,10 +9,10 @@ const STACK_TOP: u64 = 0x7fff_efc0;
 
 /// What a user has beside memory: registers and vector state.
 #[derive(Drop)]
-pub struct Context {
-    pub entered: bool,
-    pub scalar: Scalar,
-    pub seat: Seat,
+pub(crate) struct Context {
+    pub(crate) entered: bool,
+    pub(crate) scalar: Scalar,
+    pub(crate) seat: Seat,
 }
 
 impl Context {
@@ -20,7 +20,7 @@ impl Context {
     ghost use Rattle.vec_monitor.specs.Parts.{new_context, loaded_context};
 
     /// The context of an absent user.
-    pub fn new() -> Context
+    pub(crate) fn new() -> Context
         ensures { result ≡ new_context }
     {
         Context {
@@ -34,7 +34,7 @@ impl Context {
     }
 
     /// The context of a user who has just entered.
-    pub fn entered() -> Context
+    pub(crate) fn entered() -> Context
         ensures { result ≡ record new_context { entered = true } }
     {
         Context {
@@ -46,7 +46,7 @@ impl Context {
     /// The context of a user who has loaded an image: the program counter is the image's entry, and
     /// x2 is the stack pointer.
     #[tactic(auto, unfolding(rv_model::specs::scalar::Registers::initial_scalar))]
-    pub fn loaded(entry: u64) -> Context
+    pub(crate) fn loaded(entry: u64) -> Context
         ensures { result ≡ loaded_context entry }
     {
         let mut context = Context::entered();

@@ -14,7 +14,7 @@ use user_mem::Pool;
 
 /// Carries out a command of a user who is absent, and answers it.
 #[tactic(auto, unfolding(rv_model::specs::commands::Entering::entering_absent), using(crate::specs::Lenders::memory_there, crate::specs::Lenders::same_memory))]
-pub fn carry_out_absent<A: Allocator>(
+pub(crate) fn carry_out_absent<A: Allocator>(
     context: &mut Context,
     trace: &mut Trace<A>,
     pool: &mut Pool<A>,
@@ -44,7 +44,7 @@ pub fn carry_out_absent<A: Allocator>(
 
 /// Carries out a command of a user who has entered, and answers it.
 #[tactic(auto, unfolding(rv_model::specs::commands::Entering::entering), using(crate::proofs::PartLaws::entered_as, crate::specs::Lenders::memory_there, crate::specs::Lenders::same_memory))]
-pub fn carry_out<A: Allocator>(
+pub(crate) fn carry_out<A: Allocator>(
     context: &mut Context,
     trace: &Trace<A>,
     pool: &mut Pool<A>,

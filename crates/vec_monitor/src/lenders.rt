@@ -10,9 +10,9 @@ use vector_memory::UserBytes;
 
 /// The bytes of one user in the pool of all users.
 #[derive(Drop)]
-pub struct UserMemory<'a, A: Allocator> {
-    pub pool: &'a mut Pool<A>,
-    pub user: User,
+pub(crate) struct UserMemory<'a, A: Allocator> {
+    pub(crate) pool: &'a mut Pool<A>,
+    pub(crate) user: User,
 }
 
 impl<A: Allocator> UserBytes for UserMemory<'_, A> {
@@ -47,8 +47,8 @@ impl<A: Allocator> UserBytes for UserMemory<'_, A> {
 
 /// The vector state of one user, in a seat of its own.
 #[derive(Drop)]
-pub struct OwnVectors<'a> {
-    pub seat: &'a mut Seat,
+pub(crate) struct OwnVectors<'a> {
+    pub(crate) seat: &'a mut Seat,
 }
 
 impl Vectors for OwnVectors<'_> {

@@ -3,6 +3,8 @@
 
 mod addressee;
 #[cfg(test)]
+mod allocation_tests;
+#[cfg(test)]
 mod command_tests;
 mod commands;
 mod context;

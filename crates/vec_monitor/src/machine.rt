@@ -82,7 +82,7 @@ impl<'a, A: Allocator> Machine<'a, A> {
 
     /// Answers one line of a script.
     #[tactic(auto, unfolding(rv_model::specs::machine::PrivateMachine::event, rv_model::specs::machine::Script::after, rv_model::specs::machine::Script::told, rv_model::specs::machine::Script::common))]
-    pub fn answer(&mut self, line: &[u8], reply: &mut Reply)
+    pub(crate) fn answer(&mut self, line: &[u8], reply: &mut Reply)
         ensures machine { self.new ≡ after_line self.old line.now }
         ensures eight { length self.new.world.parts ≡ 8 }
         ensures reply { reply.new ≡ line_output self.old line.now }

@@ -18,7 +18,7 @@ const MAX_SHOWN: usize = 256;
 
 /// Carries out a command on the memory of a user who has entered, and answers it.
 #[tactic(auto, unfolding(rv_model::specs::commands::Memory::memory_command), using(crate::specs::Lenders::same_memory))]
-pub fn carry_out<A: Allocator>(
+pub(crate) fn carry_out<A: Allocator>(
     pool: &mut Pool<A>,
     user: User,
     command: &MemoryCommand,

@@ -118,7 +118,7 @@ fn are_distinct(images: &[Image<'_>]) -> bool
 
 /// The first fault that applies to this quantum and these images.
 #[tactic(auto, unfolding(crate::specs::NewFaults::new_fault))]
-pub fn fault_of(quantum: usize, images: &[Image<'_>]) -> Option<NewFault>
+pub(crate) fn fault_of(quantum: usize, images: &[Image<'_>]) -> Option<NewFault>
     ensures { result ≡ new_fault (setup_of quantum images.now) }
 {
     if quantum < 1 || quantum > MAX_QUANTUM {

@@ -30,7 +30,7 @@ const MAX_SHOWN: usize = 16;
 
 /// Carries out a command on programs in the memory of a user who has entered, and answers it.
 #[tactic(auto, unfolding(rv_model::specs::commands::Programs::program_command), using(crate::proofs::PartLaws::entered_as, crate::specs::Lenders::same_memory))]
-pub fn carry_out<A: Allocator>(
+pub(crate) fn carry_out<A: Allocator>(
     images: &[Image<'_>],
     context: &mut Context,
     trace: &mut Trace<A>,

@@ -12,7 +12,12 @@ use rv_model::{RegisterCommand, User};
 /// Carries out a command on the registers of a user who has entered, and answers it. `vset` marks
 /// the vector state as changed.
 #[tactic(auto, unfolding(rv_model::specs::commands::Registers::register_command))]
-pub fn carry_out(context: &mut Context, user: User, command: &RegisterCommand, reply: &mut Reply)
+pub(crate) fn carry_out(
+    context: &mut Context,
+    user: User,
+    command: &RegisterCommand,
+    reply: &mut Reply,
+)
     requires clear { reply.old ≡ [] }
     ensures next { (trace : List ℕ) (memory : Memory) → (register_command command.now (present context.old trace memory)).next
         ≡ Some (present context.new trace memory) }

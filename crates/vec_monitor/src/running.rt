@@ -16,7 +16,7 @@ use user_mem::Pool;
 /// Carries out a command that runs instructions of a user who has entered, or tells how far the
 /// program is, and answers it.
 #[tactic(auto, unfolding(rv_model::specs::commands::Running::running_command), using(crate::specs::Lenders::same_memory))]
-pub fn carry_out<A: Allocator>(
+pub(crate) fn carry_out<A: Allocator>(
     context: &mut Context,
     trace: &mut Trace<A>,
     pool: &mut Pool<A>,

@@ -77,7 +77,7 @@ fn step_once<A: Allocator>(
 }
 
 /// At most `count` instructions, fewer where one stops the program. Answers why it stopped.
-pub fn steps<A: Allocator>(
+pub(crate) fn steps<A: Allocator>(
     context: &mut Context,
     trace: &mut Trace<A>,
     pool: &mut Pool<A>,

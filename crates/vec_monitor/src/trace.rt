@@ -9,7 +9,7 @@ const TRACE_LENGTH: usize = 16;
 /// The addresses of the last 16 instructions of a user that ran to their end, the oldest first. Only
 /// `new` takes memory.
 #[derive(Drop)]
-pub struct Trace<A: Allocator> {
+pub(crate) struct Trace<A: Allocator> {
     ring: HeapCircularBuffer<u64, A>,
 }
 
@@ -28,7 +28,7 @@ impl<A: Allocator> Trace<A> {
     ghost use Rattle.rv_model.specs.machine.Runs.{recorded};
 
     /// An empty trace.
-    pub fn new(alloc: A) -> Result<Self, AllocError>
+    pub(crate) fn new(alloc: A) -> Result<Self, AllocError>
         ensures { IfOk result (λ trace. trace ≡ []) }
     {
         let ring = HeapCircularBuffer::with_capacity(alloc, TRACE_LENGTH)?;
@@ -36,7 +36,7 @@ impl<A: Allocator> Trace<A> {
     }
 
     /// Drops all addresses.
-    pub fn clear(&mut self)
+    pub(crate) fn clear(&mut self)
         ensures { self.new ≡ [] }
     {
         self.ring.clear();
@@ -44,14 +44,14 @@ impl<A: Allocator> Trace<A> {
 
     /// Adds the address of an instruction, in place of the oldest one where there are 16.
     #[tactic(auto, unfolding(rv_model::specs::machine::Runs::recorded))]
-    pub fn record(&mut self, addr: u64)
+    pub(crate) fn record(&mut self, addr: u64)
         ensures { self.new ≡ recorded self.old addr }
     {
         self.ring.push_back(addr);
     }
 
     /// The addresses, in two runs.
-    pub fn as_slices(&self) -> (&[u64], &[u64])
+    pub(crate) fn as_slices(&self) -> (&[u64], &[u64])
         ensures value { result.0.now ++ result.1.now ≡ self.now }
         ensures few { length result.0.now + length result.1.now ≤ 16 }
     {

@@ -3,6 +3,7 @@ ghost use Rattle.std.specs.Prelude.{◌≡◌, ◌+◌, [], length, replicate, I
 ghost use Rattle.rv_model.specs.commands.Commands.{commanded};
 ghost use Rattle.rv_model.specs.commands.Commands.{parse as parse_spec};
 ghost use Rattle.rv_model.specs.machine.Script.{part, with_part, new_world};
+ghost use Rattle.rv_model.specs.machine.Users.{user_count};
 ghost use Rattle.rv_model.specs.text.Lines.{text};
 ghost use Rattle.vec_monitor.specs.Images.{named_images};
 ghost use Rattle.vec_monitor.specs.Parts.{new_context};
@@ -12,15 +13,15 @@ use crate::context::Context;
 use crate::image::Image;
 use crate::trace::Trace;
 use monitor_cmds::{Reply, Tag, parse};
-use rv_model::User;
+use rv_model::{USER_COUNT, User};
 use std::alloc::{AllocError, Allocator};
 use std::marker::Model;
 use user_mem::{NoMemory, Pool};
 
 /// The contexts and traces of the eight users, and the pool with the memory of each.
 #[derive(Drop)]
-pub struct Users<A: Allocator> {
-    contexts: [Context; 8],
+pub(crate) struct Users<A: Allocator> {
+    contexts: [Context; USER_COUNT],
     traces: Vec<Trace<A>, A>,
     pool: Pool<A>,
 }
@@ -40,12 +41,9 @@ impl<A: Allocator> Model for Users<A> {
     ghost invariant = { λ u. AreEight u.contexts u.traces.items u.pool };
 }
 
-/// How many users there are.
-const USER_COUNT: usize = 8;
-
 /// Eight contexts of absent users.
-fn absent_contexts() -> [Context; 8]
-    ensures { result ≡ replicate 8 new_context }
+fn absent_contexts() -> [Context; USER_COUNT]
+    ensures { result ≡ replicate user_count new_context }
 {
     [
         Context::new(),
@@ -61,7 +59,7 @@ fn absent_contexts() -> [Context; 8]
 
 /// Eight empty traces.
 fn empty_traces<A: Allocator + Clone>(alloc: &A) -> Result<Vec<Trace<A>, A>, AllocError>
-    ensures { IfOk result (λ traces. traces.items ≡ replicate 8 []) }
+    ensures { IfOk result (λ traces. traces.items ≡ replicate user_count []) }
 {
     let mut traces = Vec::with_capacity(alloc.clone()?, USER_COUNT)?;
     for _ in 0..USER_COUNT {
@@ -73,7 +71,7 @@ fn empty_traces<A: Allocator + Clone>(alloc: &A) -> Result<Vec<Trace<A>, A>, All
 impl<A: Allocator> Users<A> {
     /// Eight users who are absent.
     #[tactic(auto, using(crate::proofs::PartLaws::new_users))]
-    pub fn new(alloc: A) -> Result<Self, NoMemory>
+    pub(crate) fn new(alloc: A) -> Result<Self, NoMemory>
     where
         A: Clone,
         ensures { IfOk result (λ users. users ≡ new_world) }
@@ -91,7 +89,13 @@ impl<A: Allocator> Users<A> {
 
     /// Carries out one command of a user, and answers it.
     #[tactic(auto, using(crate::proofs::PartLaws::part_put_back))]
-    pub fn command(&mut self, images: &[Image<'_>], user: User, line: &[u8], reply: &mut Reply)
+    pub(crate) fn command(
+        &mut self,
+        images: &[Image<'_>],
+        user: User,
+        line: &[u8],
+        reply: &mut Reply,
+    )
         requires { reply.old ≡ [] }
         ensures world { self.new ≡ with_part user (commanded (named_images images.now) (part user self.old) (parse_spec line.now)).next self.old }
         ensures reply { reply.new ≡ text (48 + user) (commanded (named_images images.now) (part user self.old) (parse_spec line.now)).lines }
