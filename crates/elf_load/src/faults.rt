@@ -1,5 +1,5 @@
 //! The first fault of an image.
-ghost use Rattle.std.specs.Prelude.{◌≡◌, ◌≢◌, ◌≤◌, ◌+◌, ◌*◌, length, find, None};
+ghost use Rattle.std.specs.Prelude.{◌≡◌, ◌≤◌, ◌+◌, ◌*◌, length, find, None};
 ghost use Rattle.rv_model.specs.images.Fields.{header_count};
 ghost use Rattle.rv_model.specs.images.Faults.{has_fault, header_has, any_header_has, file_faults, table_faults, segment_faults, first_fault};
 ghost use Rattle.elf_load.specs.Headers.{HasHeaders};

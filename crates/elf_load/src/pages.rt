@@ -1,5 +1,5 @@
 //! The pages that an image touches, one after the other.
-ghost use Rattle.std.specs.Prelude.{◌≡◌, ℕ, ◌+◌, ◌<◌, ◌≤◌, ◌^◌, None, IfSome};
+ghost use Rattle.std.specs.Prelude.{◌≡◌, ◌+◌, ◌<◌, None, IfSome};
 ghost use Rattle.rv_model.specs.images.Faults.{first_fault};
 ghost use Rattle.rv_model.specs.images.Image.{stack, placed_headers, touches_page, is_touched};
 ghost use Rattle.rv_model.specs.memory.Sizes.{page_limit};

@@ -1,5 +1,5 @@
 //! What the pages of an image may be used for.
-ghost use Rattle.std.specs.Prelude.{◌≡◌, ◌<◌, ◌&&◌, ◌==◌, ◌^◌, not, bit_and, None};
+ghost use Rattle.std.specs.Prelude.{◌≡◌, ◌<◌, ◌&&◌, None};
 ghost use Rattle.rv_model.specs.images.Faults.{first_fault};
 ghost use Rattle.rv_model.specs.images.Image.{placed_headers, touches_page, is_allowed_by, permissions_of};
 ghost use Rattle.rv_model.specs.memory.Sizes.{page_limit};

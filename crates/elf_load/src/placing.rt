@@ -1,5 +1,5 @@
 //! An image placed in a user's memory.
-ghost use Rattle.std.specs.Prelude.{◌≡◌, ◌+◌, ◌-◌, ◌<◌, ◌≤◌, ◌^◌, None, true, length, take, drop, replicate};
+ghost use Rattle.std.specs.Prelude.{◌≡◌, ◌+◌, ◌-◌, ◌<◌, ◌≤◌, None, true, length, take, drop, replicate};
 ghost use Rattle.std.specs.FinMap.{empty};
 ghost use Rattle.rv_model.specs.declared.memory.Access.TheVariants.{Monitor};
 ghost use Rattle.rv_model.specs.images.Fields.{header_count};

@@ -1,5 +1,5 @@
 //! The list of free frames: pages take frames from it, and a table gives its frames back.
-ghost use Rattle.std.specs.Prelude.{◌≡◌, ◌≢◌, ℕ, ◌<◌, ◌≤◌, ◌+◌, ◌^◌, cond, nat_lt, [], None, List, length};
+ghost use Rattle.std.specs.Prelude.{◌≡◌, ℕ, ◌<◌, ◌≤◌, ◌+◌, cond, nat_lt, [], None, List, length};
 ghost use Rattle.rv_model.specs.memory.Memory.{with_pages};
 ghost use Rattle.rv_model.specs.memory.Sizes.{page_quota, frame_count, page_limit};
 ghost use Rattle.user_mem.specs.declared.entry.Entry.{Entry};

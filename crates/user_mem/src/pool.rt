@@ -1,5 +1,5 @@
 //! The memories of all users.
-ghost use Rattle.std.specs.Prelude.{◌≡◌, ℕ, ◌<◌, ◌≤◌, ◌+◌, ◌*◌, ◌^◌, ◌↔◌, [], true, None, IsOk, IfOk, IfErr, OnOk, OnErr, length, replicate};
+ghost use Rattle.std.specs.Prelude.{◌≡◌, ◌<◌, ◌≤◌, ◌+◌, ◌*◌, ◌↔◌, [], true, None, IsOk, IfOk, IfErr, OnOk, OnErr, length, replicate};
 ghost use Rattle.std.specs.FinMap.{empty};
 ghost use Rattle.rv_model.specs.memory.Memory.{can_access, bytes_at, put_bytes, with_pages, page_count, any_page_mapped, map_refusal};
 ghost use Rattle.rv_model.specs.memory.Sizes.{page_quota, page_limit};

@@ -1,9 +1,8 @@
 //! The tables of all users over the pool's frames.
-ghost use Rattle.std.specs.Prelude.{◌≡◌, ℕ, ◌<◌, ◌≤◌, ◌+◌, ◌^◌, [], None, List, true, length, slice_set};
+ghost use Rattle.std.specs.Prelude.{◌≡◌, ℕ, ◌<◌, ◌≤◌, ◌+◌, [], None, true, length, slice_set};
 ghost use Rattle.rv_model.specs.memory.Memory.{can_access, put_bytes, with_pages};
 ghost use Rattle.rv_model.specs.memory.Sizes.{page_quota, page_limit};
 ghost use Rattle.rv_model.specs.machine.Users.{user_count};
-ghost use Rattle.user_mem.specs.declared.entry.Entry.{Entry};
 ghost use Rattle.user_mem.specs.Table.{entry_at, memory_of};
 ghost use Rattle.user_mem.specs.Pool.{IsPool, entries_of, table_at, memories_of};
 

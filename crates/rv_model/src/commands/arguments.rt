@@ -1,5 +1,5 @@
 //! The arguments of commands that have types of their own.
-ghost use Rattle.std.specs.Prelude.{◌≡◌, ◌≤◌, ◌+◌, ◌^◌};
+ghost use Rattle.std.specs.Prelude.{◌≡◌, ◌≤◌, ◌+◌};
 ghost use Rattle.rv_model.specs.commands.Arguments.{byte_string};
 
 use crate::memory::{PAGE_LIMIT, PAGE_SIZE};
