@@ -18,14 +18,8 @@ use Rattle.rv_model.specs.assembler.Naming.{IsFence, HasBitsOf, HasName, HasNoNa
 use Rattle.rv_model.specs.instructions.Table.{table, scan}
 use Rattle.rv_model.proofs.instruction_lemmas.Scans.{some_row, found, table_apart}
 use Rattle.rv_model.proofs.assembler_lemmas.NamedOperations.{names_operation}
-use Rattle.rv_asm.proofs.WordLaws.{has_bits, row_matches}
-use Rattle.rv_model.proofs.assembler_lemmas.Naming.{Pattern, names, named_count, in_names, name_at_row, bits_of_name, HasNameOf, word_of_row_has_name, name_of_row, fence_named, no_word_of_two_names}
-
-abbrev none : Mnemonic
-none = record { 0 = []; 1 = form.Plain; 2 = 0 }
-
-row_count_is : length MNEMONICS ≡ row_count
-row_count_is = refl
+use Rattle.rv_asm.proofs.WordLaws.{has_bits, row_count_is, row_matches}
+use Rattle.rv_model.proofs.assembler_lemmas.Naming.{Pattern, names, none, named_count, in_names, name_at_row, bits_of_name, HasNameOf, word_of_row_has_name, name_of_row, fence_named, no_word_of_two_names}
 
 true_is_not_false : true ≡ false → ⊥
 true_is_not_false e = cc

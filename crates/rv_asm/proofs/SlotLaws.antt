@@ -21,15 +21,12 @@ use Rattle.rv_model.proofs.assembler_lemmas.Operands.{limit_small}
 use Rattle.rv_asm.proofs.Tokens.{all_run, run_first}
 use Rattle.rv_asm.proofs.NumberLaws.{is_decimal, number_again, all_run_dec, register_again, not_minus, hex_run, hex_again}
 use Rattle.rv_asm.proofs.NameLaws.{Means, csr_again, vsew_again, vlmul_again, vta_again, vma_again, sew_number_again, lmul_number_again, vsew_digits}
-
-both_hold : (b d : Bool) → cond b d false ≡ true → (b ≡ true) × (d ≡ true)
-both_hold true d h = (refl, h)
-both_hold false d h = absurd cc
+use Rattle.rv_model.proofs.text_lemmas.Lines.{both}
 
 -- a run of bytes is one token
 pub run_is_one_token : (p : ℕ) (ds more : List ℕ) → all_run ds ≡ true → 0 < length ds → runs_on more ≡ false → tokens p (ds ++ more) ≡ record { column = p; text = ds } ∷ tokens (p + length ds) more
 run_is_one_token p [] more h some m = absurd (omega arith)
-run_is_one_token p (c ∷ cs) more h some m = let k = both_hold (in_run c) (all_run cs) h in run_first p c cs more k.0 k.1 m
+run_is_one_token p (c ∷ cs) more h some m = let k = both (in_run c) (all_run cs) h in run_first p c cs more k.0 k.1 m
 
 -- what may stand behind a slot's text
 abbrev pub Follows : Slot → List ℕ → Type 0

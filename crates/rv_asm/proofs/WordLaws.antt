@@ -14,7 +14,7 @@ use Rattle.rv_asm.proofs.RowLaws.{text_again}
 abbrev pub has_bits : ℕ → Mnemonic → Bool
 has_bits word row = nat_eq (bit_and word (fixed_mask (slots_of row.1))) row.2
 
-row_count_is : length MNEMONICS ≡ row_count
+pub row_count_is : length MNEMONICS ≡ row_count
 row_count_is = refl
 
 -- `.word` fixes no bit

@@ -7,7 +7,7 @@ use Rattle.rv_model.specs.machine.Setup.{Setup}
 use Rattle.rv_model.specs.machine.Script.{World, Happening, outcome_of, after_one, after, after_all, after_events, with_part, events_of, kind_of, told, told_all, whole_from, after_script, lines, part, own, own_from, new_world}
 use Rattle.rv_model.specs.machine.PrivateMachine.{Private, solo, solo_from}
 use Rattle.rv_model.specs.text.Lines.{pieces}
-use Rattle.rv_model.proofs.machine_lemmas.Headline.{headline}
+use Rattle.rv_model.proofs.machine_lemmas.Headline.{headline, parts_after_turn}
 use Rattle.vec_monitor.specs.MachineState.{MachineState, after_line, line_output}
 use Rattle.vec_monitor.specs.EndedLines.{ended_lines}
 use Rattle.vec_monitor.specs.FailedWrites.{CutShort}
@@ -134,11 +134,6 @@ cut_in_piece m0 front piece Ended m m' line left Before Took s cut joined =
     cut_at m0 (front ++ piece) whole (pieces cut.back) Ended one.machine m' one.line cut.count Took
     (ap pieces text ∙ t.more cut.back) (λ none. absurd (some_piece m0 cut.back none)) (sym on.machine) (sym on.line) cut.machine cut.less
     (subst Took (sym (append_assoc out one.output part) ∙ ap (λ (x : List ℕ). x ++ part) (sym on.output)) (joined (one.output ++ part) cut.output))
-
--- a script changes no number of machines
-parts_after_turn : (turn : Bool) (u : ℕ) (w : World) → (if turn then record w { cursor = u } else w).parts ≡ w.parts
-parts_after_turn true u w = refl
-parts_after_turn false u w = refl
 
 parts_after_events : (s : Setup) (w : World) (hs : List Happening) → length (after_events s w hs).parts ≡ length w.parts
 parts_after_events s w [] = refl

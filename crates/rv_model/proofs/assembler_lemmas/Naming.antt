@@ -42,7 +42,7 @@ pub in_names : (row : ℕ) → row < name_count → row < length names
 in_names row lt = let P : ℕ → Type 0 = λ k. row < k in subst P (sym named_count) lt
 
 -- past the table of names there is no row
-abbrev none : Mnemonic
+abbrev pub none : Mnemonic
 none = record { 0 = []; 1 = form.Plain; 2 = 0 }
 
 -- a name of the list is a row of the table of names

@@ -1,5 +1,5 @@
 -- Elements of copies of groups, and of lists that repeat one number.
-use Rattle.std.proofs.Common.{ℕ, zero, suc, ◌+◌, ◌-◌, ◌*◌, ◌%◌, ◌^◌, ◌<◌, ◌≤◌, ◌≡◌, List, take, drop, refl, sym, ap, ◌∙◌, arith, mod-eq_of_lt}
+use Rattle.std.proofs.Common.{ℕ, zero, suc, ◌+◌, ◌-◌, ◌*◌, ◌%◌, ◌^◌, ◌≤◌, ◌≡◌, List, take, drop, refl, sym, ap, ◌∙◌, arith, mod-eq_of_lt}
 use Rattle.std.proofs.lemmas.List.{drop-take, take-take}
 use Rattle.std.proofs.Math.Nat.{mod-lt, pow-suc}
 use Rattle.std.proofs.lemmas.Nat.{pow-add}
@@ -9,6 +9,7 @@ use mir.Val.{bits}
 use Rattle.rv_model.specs.elements.Elements.{element}
 use Rattle.rv_model.specs.vector.Configuration.{width_bytes}
 use Rattle.rv_model.proofs.element_lemmas.Widths.{whole_bytes}
+use Rattle.rv_model.proofs.element_lemmas.Writes.{positive_power}
 
 -- an element of the first bytes
 pub element-take : (k n i : ℕ) (xs : List ℕ) → k * i + k ≤ n → element k (take n xs) i ≡ element k xs i
@@ -22,10 +23,6 @@ bytes_power zero = refl
 bytes_power (suc k) =
     let e : 8 * suc k ≡ 8 * k + 8 = omega arith in
     ap (λ n. 2 ^ n) e ∙ pow-add 2 (8 * k) 8 ∙ ap (λ x. x * 256) (bytes_power k) ∙ sym (pow-suc 256 k)
-
-positive_power : (k : ℕ) → 0 < 256 ^ k
-positive_power zero = omega arith
-positive_power (suc k) = rw pow-suc (omega (arith, positive_power k))
 
 -- a number of the bits of a width fits in its bytes
 pub low_bits_fit : (x : ℕ) (w : Width) → x % 2 ^ bits w % 256 ^ width_bytes w ≡ x % 2 ^ bits w

@@ -29,7 +29,7 @@ byte_at-is : (m n : ℕ) → byte_at m n ≡ n / 256 ^ m % 256
 byte_at-is zero n = ap (λ y. y % 256) (sym (div-one n))
 byte_at-is (suc m) n = refl
 
-positive_power : (k : ℕ) → 0 < 256 ^ k
+pub positive_power : (k : ℕ) → 0 < 256 ^ k
 positive_power zero = omega arith
 positive_power (suc k) = rw pow-suc (omega (arith, positive_power k))
 

@@ -31,7 +31,7 @@ part_other : (u v : ℕ) (p : Private) (w : World) → 1 ≤ u → 1 ≤ v → v
 part_other u v p w low low' ne = get_or-set_other w.parts (v - 1) (u - 1) p None (λ e. ne (omega (arith, e)))
 
 -- a turn changes no user's machine
-parts_after_turn : (turn : Bool) (u : ℕ) (w : World) → (if turn then record w { cursor = u } else w).parts ≡ w.parts
+pub parts_after_turn : (turn : Bool) (u : ℕ) (w : World) → (if turn then record w { cursor = u } else w).parts ≡ w.parts
 parts_after_turn true u w = refl
 parts_after_turn false u w = refl
 

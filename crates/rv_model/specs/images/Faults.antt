@@ -1,6 +1,6 @@
 -- What may be wrong with an ELF-64 image, in the order in which it is told, and each fault's name. Sums are whole numbers.
 -- The file format is that of ELF-64 Object File Format; 243 is the machine RISC-V (RISC-V ELF psABI, "File header").
-use Rattle.std.specs.Prelude.{ℕ, ◌+◌, ◌*◌, ◌%◌, ◌^◌, ◌==◌, ◌&&◌, not, nat_eq, nat_lt, Bool, List, [], ◌∷◌, ◌++◌, length, find, Option, codes, false}
+use Rattle.std.specs.Prelude.{ℕ, ◌+◌, ◌*◌, ◌%◌, ◌==◌, ◌&&◌, not, nat_eq, nat_lt, Bool, List, [], ◌∷◌, ◌++◌, length, find, Option, codes, false}
 use Rattle.std.specs.List.{list_any, starts_with}
 use Rattle.rv_model.specs.declared.images.ElfFault.{ElfFault}
 use Rattle.rv_model.specs.declared.images.ElfFault.TheVariants.{BadShort, BadMagic, BadClass, BadData, BadType, BadMachine, BadHeaderSize, BadHeaderTable, BadInterp, BadFileSize, BadOutside, BadAddress, BadEntry}
