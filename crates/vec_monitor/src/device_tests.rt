@@ -155,7 +155,12 @@ fn run_twice<A: Allocator, S: Source, K: Sink>(
 fn newlines_without_end(rt: HostRuntime) -> Result<(), Fail> {
     let mut machine = Machine::new(rt.alloc(), 100, &[])?;
     let mut sink = eight_bytes();
-    assert!(rt; matches!(run_newlines(&mut machine, &mut sink), Err(RunFault::TooLong)));
+    assert!(rt;
+        matches!(
+            run_newlines(&mut machine, &mut sink),
+            Err(RunFault::TooLong)
+        )
+    );
     assert!(rt; sink.taken.is_empty());
     assert_eq!(rt; sink.failures, 0);
     Ok(())
