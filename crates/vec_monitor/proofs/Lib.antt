@@ -1,6 +1,8 @@
+pub mod CommandLineLaws
 pub mod DeviceLaws
 pub mod EndedLaws
 pub mod Feeding
+pub mod ImageWordLaws
 pub mod LineBuffer
 pub mod MemoryOutcomes
 pub mod PartLaws

@@ -1,8 +1,11 @@
 pub mod Addressees
+pub mod CommandLine
 pub mod Device
 pub mod EndedLines
 pub mod FailedWrites
 pub mod Feed
+pub mod ImageFiles
+pub mod ImageWords
 pub mod Images
 pub mod Lenders
 pub mod MachineState

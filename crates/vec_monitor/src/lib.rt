@@ -2,6 +2,8 @@
 #![tactic(auto)]
 
 mod addressee;
+mod arguments;
+mod command_line;
 #[cfg(test)]
 mod allocation_tests;
 #[cfg(test)]
@@ -14,31 +16,43 @@ mod device_tests;
 mod entering;
 mod feed;
 mod image;
+mod image_files;
+mod image_words;
 mod lenders;
 mod line;
 mod machine;
 mod memory;
 mod new_fault;
 mod program;
+mod program_fault;
 #[cfg(test)]
 mod program_tests;
 mod programs;
 mod registers;
 mod running;
 mod script;
+#[cfg(test)]
+mod shell;
 mod stepping;
 mod streams;
 #[cfg(test)]
 mod tests;
 mod trace;
 mod users;
+#[cfg(test)]
+mod vecmon_tests;
+mod words;
 
+pub use arguments::vecmon_with_arguments;
+pub use command_line::{Options, UsageFault};
 pub use device::{DeviceFault, Sink, Source};
 pub use image::Image;
 pub use machine::Machine;
 pub use new_fault::NewFault;
-pub use program::{
-    STATUS_DONE, STATUS_NO_MEMORY, STATUS_OUTPUT, STATUS_SCRIPT, STATUS_USAGE, vecmon,
+pub use program::vecmon;
+pub use program_fault::{
+    STATUS_DONE, STATUS_IMAGE, STATUS_NO_MEMORY, STATUS_OUTPUT, STATUS_SCRIPT, STATUS_USAGE,
 };
 pub use script::{RunFault, run};
 pub use streams::{ReaderSource, WriterSink};
+pub use words::options;

@@ -1,70 +1,105 @@
-//! The program: a script from standard input, the output to standard output.
-ghost use Rattle.std.specs.Prelude.{◌≡◌, ◌↔◌, ◌⊎◌, ◌<◌, length};
-ghost use Rattle.vec_monitor.specs.Statuses.{fault_status};
+//! The program: a script from a file or standard input, the output to standard output.
+ghost use Rattle.std.specs.Prelude.{◌≡◌, ◌≢◌, ◌≤◌, ◌⊎◌, [], IfErr, IsErrAnd};
+ghost use Rattle.clap.specs.Walk.{texts};
+ghost use Rattle.vec_monitor.specs.CommandLine.{image_words};
+ghost use Rattle.vec_monitor.specs.ImageWords.{SomeLacksEqualsSign};
+ghost use Rattle.vec_monitor.specs.Statuses.{program_status, AreRefused, MayBeRefused};
+ghost use Rattle.vec_monitor.specs.declared.program_fault.ProgramFault.TheVariants.{ImageWord, NoMemory};
 
+use crate::command_line::{Options, UsageFault};
+use crate::image_files::{borrowed_images, read_images};
+use crate::image_words::image_paths;
 use crate::machine::Machine;
+use crate::program_fault::{ProgramFault, STATUS_DONE};
 use crate::script::{RunFault, run};
 use crate::streams::{ReaderSource, WriterSink};
-use std::alloc::Allocator;
-use std::io;
+use crate::words::options;
+use std::alloc::{Allocator, Global};
+use std::rt::Files;
+use std::{fs, io};
 
-/// The script ended.
-pub const STATUS_DONE: u8 = 0;
-
-/// The command line has a word that isn't known.
-pub const STATUS_USAGE: u8 = 2;
-
-/// The script can't be read, or is too long.
-pub const STATUS_SCRIPT: u8 = 3;
-
-/// The output can't be written.
-pub const STATUS_OUTPUT: u8 = 5;
-
-/// There is no memory for the machine.
-pub const STATUS_NO_MEMORY: u8 = 6;
-
-/// The ticks of a slice.
-const QUANTUM: usize = 100;
-
-/// The status for a fault of a run.
-fn status_of(fault: &RunFault) -> u8
-    ensures { result ≡ fault_status fault.now }
-{
-    match fault {
-        RunFault::Read => STATUS_SCRIPT,
-        RunFault::TooLong => STATUS_SCRIPT,
-        RunFault::Write => STATUS_OUTPUT,
+/// Runs the script that the options name, or standard input.
+fn run_script<'a, R: Files + Input + Print, A: Allocator>(
+    rt: &R,
+    machine: &mut Machine<'_, A>,
+    script: Option<&str>,
+) -> Result<(), RunFault> {
+    let mut sink = WriterSink::new(io::writer(rt));
+    match script {
+        Some(path) => {
+            let Ok(file) = fs::open(rt, path) else {
+                return Err(RunFault::Read);
+            };
+            run(machine, &mut ReaderSource::new(file), &mut sink)
+        }
+        None => run(machine, &mut ReaderSource::new(rt.reader()), &mut sink),
     }
 }
 
-/// Runs the script on standard input. `words` is the command line, the program's name first; it
-/// takes no other word so far. Answers the status that the program ends with; for any but
-/// `STATUS_DONE` a line on standard error says why.
-pub fn vecmon<R: Input + Print + Eprint, A: Allocator + Clone>(
+/// Does what the options ask for. The images are read before the script is opened.
+fn run_options<'a, R: Files + Input + Print, A: Allocator + Clone>(
     rt: &R,
     alloc: A,
-    words: &[&str],
-) -> u8
-    ensures usage { (result ≡ 2) ↔ (1 < length words.now) }
-    ensures statuses { (result ≡ 0) ⊎ ((result ≡ 2) ⊎ ((result ≡ 3) ⊎ ((result ≡ 5) ⊎ (result
-        ≡ 6)))) }
+    options: &Options<'a>,
+) -> Result<(), ProgramFault<'a>>
+    ensures usage { IfErr result (λ fault.
+        program_status fault ≡ 2 → SomeLacksEqualsSign (texts options.now.images.items)) }
+    ensures refused { SomeLacksEqualsSign (texts options.now.images.items) →
+        IsErrAnd result (λ fault. (fault ≡ NoMemory) ⊎ (fault ≡ ImageWord)) }
+    ensures images { 1 ≤ options.now.quantum → options.now.quantum ≤ 1000 →
+        options.now.images.items ≡ [] → IfErr result (λ fault. program_status fault ≢ 4) }
 {
-    if words.len() > 1 {
-        let _ = eprintln!(rt; "usage: vecmon < SCRIPT");
-        return STATUS_USAGE;
+    let paths = image_paths(alloc.clone()?, options.images.as_slice())?;
+    let files = read_images(rt, alloc.clone()?, paths.as_slice())?;
+    let images = borrowed_images(alloc.clone()?, files.as_slice())?;
+    let mut machine = Machine::new(alloc, options.quantum, images.as_slice())?;
+    run_script(rt, &mut machine, options.script)?;
+    Ok(())
+}
+
+/// Does what the words ask for: help, or a run.
+fn run_words<'a, R: Files + Input + Print>(
+    rt: &R,
+    alloc: Global,
+    words: &'a [&'a str],
+) -> Result<(), ProgramFault<'a>>
+    ensures usage { IfErr result (λ fault.
+        program_status fault ≡ 2 → MayBeRefused (texts words.now)) }
+    ensures refused { AreRefused (texts words.now) →
+        IsErrAnd result (λ fault. (program_status fault ≡ 2) ⊎ (fault ≡ NoMemory)) }
+    ensures images { image_words (texts words.now) ≡ [] →
+        IfErr result (λ fault. program_status fault ≢ 4) }
+{
+    match options(alloc, words) {
+        Ok(options) => run_options(rt, alloc, &options),
+        Err(UsageFault::Help(text)) => match print!(rt; "{text}") {
+            Ok(()) => Ok(()),
+            Err(_) => Err(ProgramFault::Run(RunFault::Write)),
+        },
+        Err(UsageFault::Usage(text)) => Err(ProgramFault::Usage(text)),
+        Err(UsageFault::NoMemory) => Err(ProgramFault::NoMemory),
     }
-    let mut machine = match Machine::new(alloc, QUANTUM, &[]) {
-        Ok(machine) => machine,
-        Err(fault) => {
-            let _ = eprintln!(rt; "vecmon: {fault}");
-            return STATUS_NO_MEMORY;
-        }
-    };
-    let mut source = ReaderSource::new(rt.reader());
-    let mut sink = WriterSink::new(io::writer(rt));
-    let Err(fault) = run(&mut machine, &mut source, &mut sink) else {
-        return STATUS_DONE;
-    };
-    let _ = eprintln!(rt; "vecmon: {fault}");
-    status_of(&fault)
+}
+
+/// Says on standard error why the program ends, and answers its status.
+pub fn report<R: Eprint>(rt: &R, fault: &ProgramFault<'_>) -> u8
+    ensures { result ≡ program_status fault.now }
+{
+    let _ = eprint!(rt; "{fault}");
+    fault.status()
+}
+
+/// The program. `words` is the command line, the program's name first. Answers the status that it
+/// ends with; for any but `STATUS_DONE` standard error says why.
+pub fn vecmon<R: Files + Input + Print + Eprint>(rt: &R, alloc: Global, words: &[&str]) -> u8
+    ensures statuses { (result ≡ 0) ⊎ ((result ≡ 2) ⊎ ((result ≡ 3) ⊎ ((result ≡ 4)
+        ⊎ ((result ≡ 5) ⊎ (result ≡ 6))))) }
+    ensures usage { result ≡ 2 → MayBeRefused (texts words.now) }
+    ensures refused { AreRefused (texts words.now) → (result ≡ 2) ⊎ (result ≡ 6) }
+    ensures images { image_words (texts words.now) ≡ [] → result ≢ 4 }
+{
+    match run_words(rt, alloc, words) {
+        Ok(()) => STATUS_DONE,
+        Err(fault) => report(rt, &fault),
+    }
 }

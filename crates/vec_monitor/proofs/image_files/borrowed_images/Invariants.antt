@@ -1,0 +1,8 @@
+use Rattle.std.proofs.Common.{map, take, ◌≡◌}
+use Rattle.vec_monitor.specs.Images.{named_images}
+use Rattle.vec_monitor.specs.ImageFiles.{named_file}
+use Rattle.vec_monitor.proofs.image_files.borrowed_images.Given as goal
+
+-- the images so far are those of the files so far
+abbrev pub invariant-loop-file : goal.invariant-loop-file
+invariant-loop-file g l = named_images l.images.items ≡ map named_file (take l.file-index l.files)

@@ -1,0 +1,21 @@
+-- Image words: a name, an equals sign (byte 61) and a path.
+use Rattle.std.specs.Prelude.{◌≡◌, ◌≢◌, ◌<◌, ◌+◌, ℕ, List, length, take, drop, slice_index}
+use Rattle.std.specs.List.{Any}
+use Rattle.std.specs.Borrow.{Bor}
+use Rattle.clap.specs.Walk.{Text}
+use Rattle.vec_monitor.specs.declared.image_words.ImagePath.{ImagePath}
+
+abbrev pub LacksEqualsSign : Text → Type 0
+LacksEqualsSign word = (k : ℕ) → k < length word → slice_index word k ≢ 61
+
+-- the name stands before the first equals sign, and the path after it
+abbrev pub IsNameAndPath : Text → Text → Text → Type 0
+IsNameAndPath word name path = (i : ℕ) × (i < length word) × (slice_index word i ≡ 61)
+    × ((k : ℕ) → k < i → slice_index word k ≢ 61) × (name ≡ take i word) × (path ≡ drop (i + 1) word)
+
+-- the image that a word names
+abbrev pub IsPathOf : Bor Text → ImagePath → Type 0
+IsPathOf word image = IsNameAndPath word.now image.name.now image.path.now
+
+abbrev pub SomeLacksEqualsSign : List Text → Type 0
+SomeLacksEqualsSign words = Any LacksEqualsSign words

@@ -1,0 +1,124 @@
+//! The words that the program takes, and what they ask for.
+ghost use Rattle.std.specs.Prelude.{◌≡◌, IfOk, false};
+ghost use Rattle.clap.specs.Words.{app_of, kind_of, rule_of};
+ghost use Rattle.vec_monitor.specs.CommandLine.{command_line, image_rule, quantum_rule, script_rule, IsFaultOf};
+ghost use Rattle.vec_monitor.specs.declared.command_line.UsageFault.TheVariants.{NoMemory};
+
+use clap::error::ErrorKind;
+use clap::{Arg, ArgAction, Command, value_parser};
+use std::alloc::{AllocError, Global};
+use std::fmt;
+
+/// The ticks of a slice where the words give none.
+pub const DEFAULT_QUANTUM: u16 = 100;
+
+/// What help says after the words.
+const AFTER_HELP: &str = "\
+A script has a command on each line, after the digit of its user, 1 to 8, and a space:
+  enter  leave  load  map  poke  peek  set  regs  setpc  vreg  vset  vcsr
+  asm  dis  step  state  trace
+docs/COMMANDS.md says what each does and answers.
+
+Example, a program of one instruction:
+  1 enter
+  1 map 0 1 rwx
+  1 asm 0 addi x5, x0, 7
+  1 step 1";
+
+/// What the words of the command line ask for.
+#[derive(Debug, Drop)]
+pub struct Options<'a> {
+    /// The ticks of a slice, 1 to 1,000.
+    pub quantum: usize,
+    /// The path of the script; without one it is standard input.
+    pub script: Option<&'a str>,
+    /// The words that name images, in their order.
+    pub images: Vec<&'a str>,
+}
+
+/// Why the words give no options. Its `Display` is clap's text, which ends with a newline.
+#[derive(Debug, Drop)]
+pub enum UsageFault {
+    /// Help was asked for.
+    Help(clap::Error),
+    /// The words are none that the program takes.
+    Usage(clap::Error),
+    NoMemory,
+}
+
+impl From<AllocError> for UsageFault {
+    ghost from_gives = { λ _ fault. fault ≡ NoMemory };
+
+    fn from(_error: AllocError) -> UsageFault {
+        UsageFault::NoMemory
+    }
+}
+
+impl From<clap::Error> for UsageFault {
+    ghost from_gives = { λ error fault. IsFaultOf (kind_of error) fault };
+
+    fn from(error: clap::Error) -> UsageFault {
+        match error.kind() {
+            ErrorKind::DisplayHelp => UsageFault::Help(error),
+            ErrorKind::OutOfMemory => UsageFault::NoMemory,
+            _ => UsageFault::Usage(error),
+        }
+    }
+}
+
+impl fmt::Display for UsageFault {
+    fn fmt<W: fmt::Write>(&self, f: &mut fmt::Formatter<W>) -> fmt::Result {
+        match self {
+            UsageFault::Help(error) => write!(f, "{error}"),
+            UsageFault::Usage(error) => write!(f, "{error}"),
+            UsageFault::NoMemory => f.write_str("out of memory\n"),
+        }
+    }
+}
+
+/// The option `--quantum N`.
+fn quantum<'a>(alloc: Global) -> Arg<'a>
+    ensures rule { rule_of result ≡ quantum_rule }
+    ensures local { result.global ≡ false }
+{
+    Arg::new(alloc, "quantum")
+        .long("quantum")
+        .value_name("N")
+        .value_parser(value_parser!(u16).range(1..=1000))
+        .help("Ticks of a slice, 1 to 1000 [default: 100]")
+}
+
+/// The word `[SCRIPT]`.
+fn script<'a>(alloc: Global) -> Arg<'a>
+    ensures rule { rule_of result ≡ script_rule }
+    ensures local { result.global ≡ false }
+{
+    Arg::new(alloc, "script").value_name("SCRIPT").help(
+        "File with the script; without one, standard input is the script",
+    )
+}
+
+/// The words `[NAME=PATH]...`.
+fn image<'a>(alloc: Global) -> Arg<'a>
+    ensures rule { rule_of result ≡ image_rule }
+    ensures local { result.global ≡ false }
+{
+    Arg::new(alloc, "image")
+        .value_name("NAME=PATH")
+        .action(ArgAction::Append)
+        .help("An ELF file, and the name by which users load it")
+}
+
+/// What clap is told of the words that the program takes.
+pub fn command<'a>(alloc: Global) -> Result<Command<'a>, AllocError>
+    ensures { IfOk result (λ command. app_of command ≡ command_line) }
+{
+    Command::new(alloc, "vecmon")
+        .about(
+            "Runs a script on a trainer machine for the RISC-V vector extension, with eight users",
+        )
+        .after_help(AFTER_HELP)
+        .arg(quantum(alloc))?
+        .arg(script(alloc))?
+        .arg(image(alloc))
+}

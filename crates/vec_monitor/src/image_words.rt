@@ -1,0 +1,44 @@
+//! Image words, `NAME=PATH`.
+ghost use Rattle.std.specs.Prelude.{◌≡◌, ◌⊎◌, IfErr, IfOk, MatchOption};
+ghost use Rattle.std.specs.List.{AllZip};
+ghost use Rattle.clap.specs.Walk.{texts};
+ghost use Rattle.vec_monitor.specs.ImageWords.{IsNameAndPath, IsPathOf, LacksEqualsSign, SomeLacksEqualsSign};
+ghost use Rattle.vec_monitor.specs.declared.program_fault.ProgramFault.TheVariants.{ImageWord, NoMemory};
+
+use crate::program_fault::ProgramFault;
+use std::alloc::Allocator;
+
+/// An image by its name, and the path of the file that has it.
+#[derive(Clone, Copy)]
+pub struct ImagePath<'a> {
+    pub name: &'a str,
+    pub path: &'a str,
+}
+
+/// Splits an image word at its first `=`.
+pub fn image_path(word: &str) -> Option<ImagePath<'_>>
+    ensures { MatchOption result (LacksEqualsSign word.now)
+        (λ image. IsNameAndPath word.now image.name.now image.path.now) }
+{
+    let (name, path) = word.split_once('=')?;
+    Some(ImagePath { name, path })
+}
+
+/// Splits each image word, in their order. Refused where a word has no `=`, and for want of memory.
+pub fn image_paths<'a, A: Allocator>(
+    alloc: A,
+    words: &[&'a str],
+) -> Result<Vec<ImagePath<'a>, A>, ProgramFault<'a>>
+    ensures images { IfOk result (λ images. AllZip IsPathOf words.now images.items) }
+    ensures refused { IfErr result (λ fault. (fault ≡ NoMemory)
+        ⊎ ((fault ≡ ImageWord) × SomeLacksEqualsSign (texts words.now))) }
+{
+    let mut paths = Vec::new(alloc);
+    for word in words {
+        let Some(path) = image_path(word) else {
+            return Err(ProgramFault::ImageWord);
+        };
+        paths.push(path)?;
+    }
+    Ok(paths)
+}

@@ -1,0 +1,31 @@
+//! Reads the words of the command line.
+ghost use Rattle.std.specs.Prelude.{◌≡◌, ◌≤◌, [], IsOk, IfOk, IfErr, option_map};
+ghost use Rattle.clap.specs.Walk.{texts};
+ghost use Rattle.vec_monitor.specs.CommandLine.{image_words, quantum_word, script_word, words_fault, IsQuantum, IsRefusedFor};
+
+use crate::command_line::{DEFAULT_QUANTUM, Options, UsageFault, command};
+use std::alloc::Global;
+
+/// Reads the words of the command line, the program's name first: the quantum, the script's path and
+/// the image words are those that clap reads as `--quantum`, SCRIPT and NAME=PATH. Refused where
+/// clap refuses the words, for help or another fault, and for want of memory.
+pub fn options<'a>(alloc: Global, words: &'a [&'a str]) -> Result<Options<'a>, UsageFault>
+    ensures quantum { IfOk result (λ options.
+        IsQuantum (quantum_word (texts words.entry.now)) options.quantum) }
+    ensures range { IfOk result (λ options. (1 ≤ options.quantum) × (options.quantum ≤ 1000)) }
+    ensures script { IfOk result (λ options.
+        option_map (λ path. path.now) options.script ≡ script_word (texts words.entry.now)) }
+    ensures images { IfOk result (λ options.
+        texts options.images.items ≡ image_words (texts words.entry.now)) }
+    ensures taken { IsOk result → words_fault (texts words.entry.now) ≡ [] }
+    ensures refused { IfErr result (IsRefusedFor (words_fault (texts words.entry.now))) }
+{
+    let matches = command(alloc)?.try_get_matches_from(words)?;
+    let mut images = Vec::new(alloc);
+    images.extend_from_slice(matches.get_strs("image").unwrap_or_default())?;
+    Ok(Options {
+        quantum: usize::from(matches.get_one("quantum").unwrap_or(DEFAULT_QUANTUM)),
+        script: matches.get_str("script"),
+        images,
+    })
+}
