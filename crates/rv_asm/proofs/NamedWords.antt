@@ -1,5 +1,5 @@
 -- The canonical text of an instruction has its name, that of any other word is `.word` and digits
-use Rattle.std.proofs.Common.{◌≡◌, ◌⊎◌, ℕ, ◌/◌, ◌%◌, ◌^◌, ◌<◌, true, false, nat_lt, List, [], ◌++◌, length, get_or, position, unwrap_or, Option, Some, None, refl, sym, ap, subst, ◌∙◌, arith, inl, inr, lit<}
+use Rattle.std.proofs.Common.{◌≡◌, ◌⊎◌, ℕ, ◌/◌, ◌%◌, ◌^◌, ◌<◌, true, false, nat_lt, List, ◌++◌, length, get_or, position, unwrap_or, Option, Some, None, refl, sym, ap, subst, ◌∙◌, arith, inl, inr, lit<}
 use Rattle.std.specs.Prelude.{IsSome, IsNone, codes}
 use Rattle.std.specs.List.{position_or_len}
 use Rattle.std.specs.Int.Bits.{bit_and}
@@ -8,8 +8,6 @@ use Rattle.std.proofs.lemmas.Bool.Decides.{eqb_tells}
 use Rattle.std.proofs.lemmas.List.Sums.{fails_before_first}
 use Rattle.std.proofs.lemmas.List.{append-nil}
 use Rattle.rv_model.specs.declared.instructions.instruction.Instr.{Instr}
-use Rattle.rv_model.specs.declared.assembler.forms.Form.TheVariants as form
-use Rattle.rv_model.specs.declared.assembler.mnemonics.Mnemonic.{Mnemonic}
 use Rattle.rv_model.specs.declared.assembler.mnemonics.TheConstants.{MNEMONICS}
 use Rattle.rv_model.specs.assembler.Numbers.{hex_digits}
 use Rattle.rv_model.specs.assembler.Fields.{fixed_mask}
@@ -18,7 +16,7 @@ use Rattle.rv_model.specs.assembler.Naming.{IsFence, HasBitsOf, HasName, HasNoNa
 use Rattle.rv_model.specs.instructions.Table.{table, scan}
 use Rattle.rv_model.proofs.instruction_lemmas.Scans.{some_row, found, table_apart}
 use Rattle.rv_model.proofs.assembler_lemmas.NamedOperations.{names_operation}
-use Rattle.rv_asm.proofs.WordLaws.{has_bits, row_count_is, row_matches}
+use Rattle.rv_asm.proofs.WordLaws.{has_bits, row_matches}
 use Rattle.rv_model.proofs.assembler_lemmas.Naming.{Pattern, names, none, named_count, in_names, name_at_row, bits_of_name, HasNameOf, word_of_row_has_name, name_of_row, fence_named, no_word_of_two_names}
 
 true_is_not_false : true ≡ false → ⊥

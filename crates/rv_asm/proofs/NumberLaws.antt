@@ -9,7 +9,7 @@ use Rattle.rv_model.specs.assembler.Tokens.{in_run}
 use Rattle.rv_model.specs.assembler.Numbers.{digits_in, number, register, hex_digit, hex_digits}
 use Rattle.rv_model.specs.text.Digits.{digit, digits_after}
 use Rattle.rv_asm.proofs.Tokens.{all_run}
-use Rattle.rv_model.proofs.text_lemmas.Lines.{both}
+use Rattle.rv_asm.proofs.Tokens.{both_hold}
 
 abbrev pub is_dec : ℕ → Bool
 is_dec c = leb 48 c && leb c 57
@@ -123,7 +123,7 @@ hex_digit_run d lt = agree_below_at (λ (k : ℕ). in_run (hex_digit k)) (λ _. 
 
 all_run_push : (xs : List ℕ) (c : ℕ) → all_run xs ≡ true → in_run c ≡ true → all_run (xs ++ c ∷ []) ≡ true
 all_run_push [] c h d = cond-true (in_run c) true false d
-all_run_push (x ∷ xs) c h d = let p = both (in_run x) (all_run xs) h in cond-true (in_run x) (all_run (xs ++ c ∷ [])) false p.0 ∙ all_run_push xs c p.1 d
+all_run_push (x ∷ xs) c h d = let p = both_hold (in_run x) (all_run xs) h in cond-true (in_run x) (all_run (xs ++ c ∷ [])) false p.0 ∙ all_run_push xs c p.1 d
 
 pub hex_run : (k n : ℕ) → all_run (hex_digits k n) ≡ true
 unfolding hex_digits

@@ -1,5 +1,5 @@
 -- Each slot reads the text that is printed for its operand
-use Rattle.std.proofs.Common.{◌≡◌, ℕ, zero, suc, ◌+◌, ◌-◌, ◌*◌, ◌/◌, ◌%◌, ◌^◌, ◌<◌, ◌≤◌, Bool, true, false, cond, eqb, ltb, leb, List, [], ◌∷◌, ◌++◌, length, Option, Some, None, Result, Ok, refl, sym, ap, subst, ◌∙◌, append_assoc, arith, inl, inr, lit<, lit≤}
+use Rattle.std.proofs.Common.{◌≡◌, ℕ, zero, suc, ◌+◌, ◌-◌, ◌*◌, ◌/◌, ◌%◌, ◌^◌, ◌<◌, ◌≤◌, Bool, true, false, eqb, ltb, leb, List, [], ◌∷◌, ◌++◌, length, Option, Some, None, Result, Ok, refl, sym, ap, subst, ◌∙◌, append_assoc, arith, inl, inr, lit<, lit≤}
 use Rattle.std.specs.Prelude.{codes}
 use Rattle.std.specs.Fmt.{decimal}
 use Rattle.std.specs.Str.{bytes_eq}
@@ -18,15 +18,14 @@ use Rattle.rv_model.specs.instructions.BitFields.{flag_bit}
 use Rattle.rv_model.specs.vector.TypeNames.{lmul_name, mask_name, sew_name, tail_name}
 use Rattle.rv_model.specs.vector.TypeRules.{lmul_number, lmul_with_number, sew_number, sew_with_number}
 use Rattle.rv_model.proofs.assembler_lemmas.Operands.{limit_small}
-use Rattle.rv_asm.proofs.Tokens.{all_run, run_first}
+use Rattle.rv_asm.proofs.Tokens.{both_hold, all_run, run_first}
 use Rattle.rv_asm.proofs.NumberLaws.{is_decimal, number_again, all_run_dec, register_again, not_minus, hex_run, hex_again}
 use Rattle.rv_asm.proofs.NameLaws.{Means, csr_again, vsew_again, vlmul_again, vta_again, vma_again, sew_number_again, lmul_number_again, vsew_digits}
-use Rattle.rv_model.proofs.text_lemmas.Lines.{both}
 
 -- a run of bytes is one token
 pub run_is_one_token : (p : ℕ) (ds more : List ℕ) → all_run ds ≡ true → 0 < length ds → runs_on more ≡ false → tokens p (ds ++ more) ≡ record { column = p; text = ds } ∷ tokens (p + length ds) more
 run_is_one_token p [] more h some m = absurd (omega arith)
-run_is_one_token p (c ∷ cs) more h some m = let k = both (in_run c) (all_run cs) h in run_first p c cs more k.0 k.1 m
+run_is_one_token p (c ∷ cs) more h some m = let k = both_hold (in_run c) (all_run cs) h in run_first p c cs more k.0 k.1 m
 
 -- what may stand behind a slot's text
 abbrev pub Follows : Slot → List ℕ → Type 0

@@ -4,7 +4,6 @@ use Rattle.std.proofs.lemmas.Bool.{ne_eqb, false≢true, and_right, and_left, co
 use Rattle.std.proofs.lemmas.List.{drop_more, at_drop_more, at_drop_all, take-append-drop, drop-drop, length-take, length-drop}
 use Rattle.rv_model.specs.assembler.Tokens.{in_run, runs_on, joined, tokens}
 use Rattle.rv_asm.specs.Places.{rest}
-use Rattle.rv_model.proofs.text_lemmas.Lines.{both}
 
 pub space_skipped : (text : List ℕ) (at : ℕ) → at < length text → get_or text at 0 ≡ 32 → rest text at ≡ rest text (at + 1)
 unfolding tokens
@@ -17,8 +16,13 @@ abbrev pub all_run : List ℕ → Bool
 all_run [] = true
 all_run (c ∷ cs) = cond (in_run c) (all_run cs) false
 
+-- both parts of a conjunction
+pub both_hold : (b d : Bool) → cond b d false ≡ true → (b ≡ true) × (d ≡ true)
+both_hold true d h = (refl, h)
+both_hold false d h = absurd cc
+
 all_run_parts : (c : ℕ) (cs : List ℕ) → all_run (c ∷ cs) ≡ true → (in_run c ≡ true) × (all_run cs ≡ true)
-all_run_parts c cs h = both (in_run c) (all_run cs) h
+all_run_parts c cs h = both_hold (in_run c) (all_run cs) h
 
 space_not_run : (c : ℕ) → in_run c ≡ true → eqb c 32 ≡ false
 space_not_run c h = ne_eqb c 32 (λ e. let P : ℕ → Type 0 = λ x. in_run x ≡ true in false≢true (subst P e h))
