@@ -18,7 +18,13 @@ const LINES: [&[&str]; 14] = [
     &["missing", "good=good", "a=missing"],
     &["missing", "good=good", "a=missing", "a"],
     &["missing", "good=good", "good=good"],
-    &["script", "good=good", "short=short", "dyn=dyn", "sizes=sizes"],
+    &[
+        "script",
+        "good=good",
+        "short=short",
+        "dyn=dyn",
+        "sizes=sizes",
+    ],
     &["--quantum", "7", "script", "short=good", "--", "good=short"],
 ];
 

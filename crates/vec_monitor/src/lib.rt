@@ -2,10 +2,10 @@
 #![tactic(auto)]
 
 mod addressee;
-mod arguments;
-mod command_line;
 #[cfg(test)]
 mod allocation_tests;
+mod arguments;
+mod command_line;
 #[cfg(test)]
 mod command_tests;
 mod commands;
