@@ -2,8 +2,6 @@
 #![tactic(auto)]
 
 mod addressee;
-#[cfg(test)]
-mod allocation_tests;
 mod arguments;
 mod command_line;
 #[cfg(test)]
