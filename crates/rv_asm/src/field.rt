@@ -107,7 +107,7 @@ fn signed_bits(field: SignedField, value: u32) -> u32
 }
 
 /// The bits that an operand adds to a word.
-pub fn placed(slot: &Slot, value: u32) -> u32
+pub(crate) fn placed(slot: &Slot, value: u32) -> u32
     ensures value { result ≡ placed slot.now value }
     ensures small { result ≤ span slot.now }
 {
@@ -183,7 +183,7 @@ fn signed_value(signed: SignedField, word: u32) -> u32
 }
 
 /// The operand that a word has in a slot.
-pub fn value_of(slot: &Slot, word: u32) -> u32
+pub(crate) fn value_of(slot: &Slot, word: u32) -> u32
     ensures value { result ≡ value_of slot.now word }
     ensures small { result < room slot.now }
 {

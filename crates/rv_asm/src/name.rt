@@ -7,7 +7,7 @@ use rv_model::{ControlRegister, Lmul, Sew, VType};
 
 /// The number of a control register, from its name or its digits.
 #[tactic(auto, unfolding(rv_model::specs::assembler::Numbers::csr))]
-pub fn csr(text: &[u8]) -> Option<u32>
+pub(crate) fn csr(text: &[u8]) -> Option<u32>
     ensures { result ≡ csr text.now }
 {
     match ControlRegister::with_name(text) {
@@ -18,7 +18,7 @@ pub fn csr(text: &[u8]) -> Option<u32>
 
 /// vsew, from the name of an element width.
 #[tactic(auto, unfolding(rv_model::specs::assembler::Numbers::vsew))]
-pub fn vsew(text: &[u8]) -> Option<u32>
+pub(crate) fn vsew(text: &[u8]) -> Option<u32>
     ensures value { result ≡ vsew text.now }
     ensures small { IfSome result (λ v. v < 4) }
 {
@@ -28,7 +28,7 @@ pub fn vsew(text: &[u8]) -> Option<u32>
 
 /// vlmul, from the name of a group multiplier.
 #[tactic(auto, unfolding(rv_model::specs::assembler::Numbers::vlmul))]
-pub fn vlmul(text: &[u8]) -> Option<u32>
+pub(crate) fn vlmul(text: &[u8]) -> Option<u32>
     ensures value { result ≡ vlmul text.now }
     ensures small { IfSome result (λ v. v < 8) }
 {
@@ -38,7 +38,7 @@ pub fn vlmul(text: &[u8]) -> Option<u32>
 
 /// vta, from the name of a policy for the tail.
 #[tactic(auto, unfolding(rv_model::specs::assembler::Numbers::vta))]
-pub fn vta(text: &[u8]) -> Option<u32>
+pub(crate) fn vta(text: &[u8]) -> Option<u32>
     ensures value { result ≡ vta text.now }
     ensures small { IfSome result (λ v. v < 2) }
 {
@@ -48,7 +48,7 @@ pub fn vta(text: &[u8]) -> Option<u32>
 
 /// vma, from the name of a policy for masked-off elements.
 #[tactic(auto, unfolding(rv_model::specs::assembler::Numbers::vma))]
-pub fn vma(text: &[u8]) -> Option<u32>
+pub(crate) fn vma(text: &[u8]) -> Option<u32>
     ensures value { result ≡ vma text.now }
     ensures small { IfSome result (λ v. v < 2) }
 {

@@ -6,7 +6,7 @@ ghost use Rattle.rv_model.specs.assembler.Numbers.{register, digits_in, number, 
 use rv_model::text::digits;
 
 /// The number of a register with this letter.
-pub fn register(letter: u8, text: &[u8]) -> Option<u32>
+pub(crate) fn register(letter: u8, text: &[u8]) -> Option<u32>
     ensures { result ≡ register letter text.now }
 {
     match text {
@@ -43,7 +43,7 @@ fn number(cap: u128, text: &[u8]) -> Option<u128>
 }
 
 /// A number in decimal, or in hexadecimal after `0x`, that is not above the limit.
-pub fn number_up_to(limit: u32, text: &[u8]) -> Option<u32>
+pub(crate) fn number_up_to(limit: u32, text: &[u8]) -> Option<u32>
     ensures { result ≡ at_most limit (number text.now) }
 {
     let value = number(u128::from(limit) + 1, text)?;

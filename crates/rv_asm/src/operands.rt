@@ -13,7 +13,12 @@ use crate::token::next_token;
 use rv_model::assembler::forms::Slot;
 
 /// The word of these bits and the operands that the text has from an index to its end.
-pub fn read_operands(bits: u32, slots: &[Slot], text: &[u8], start: usize) -> Result<u32, AsmFault>
+pub(crate) fn read_operands(
+    bits: u32,
+    slots: &[Slot],
+    text: &[u8],
+    start: usize,
+) -> Result<u32, AsmFault>
     requires inside { start ≤ length text.now }
     requires fits { bits + spans slots.now < 2 ^ 32 }
     ensures { Answers result
@@ -33,7 +38,7 @@ pub fn read_operands(bits: u32, slots: &[Slot], text: &[u8], start: usize) -> Re
 }
 
 /// Appends the operands of a word.
-pub fn put_operands(slots: &[Slot], word: u32, out: &mut Text)
+pub(crate) fn put_operands(slots: &[Slot], word: u32, out: &mut Text)
     requires { array_string_len out.old + 16 * length slots.now ≤ 160 }
     ensures bytes { out.new.bytes ≡ out.old.bytes ++ printed_operands slots.now word }
 {

@@ -114,7 +114,7 @@ fn put_vtype(vtype: u32, out: &mut Text)
 }
 
 /// Appends the text of an operand.
-pub fn put_slot(slot: &Slot, value: u32, out: &mut Text)
+pub(crate) fn put_slot(slot: &Slot, value: u32, out: &mut Text)
     requires room { array_string_len out.old + 16 ≤ 160 }
     requires fits { value < room slot.now }
     ensures bytes { out.new.bytes ≡ out.old.bytes ++ printed slot.now value }
@@ -150,7 +150,7 @@ pub fn put_slot(slot: &Slot, value: u32, out: &mut Text)
 }
 
 /// Appends a name, without the spaces behind it.
-pub fn put_name(name: &[u8; 16], out: &mut Text)
+pub(crate) fn put_name(name: &[u8; 16], out: &mut Text)
     requires room { array_string_len out.old + 16 ≤ 160 }
     requires ascii { (k : ℕ) → k < 16 → slice_index name.now k < 128 }
     ensures bytes { out.new.bytes ≡ out.old.bytes ++ unpadded name.now }

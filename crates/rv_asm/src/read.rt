@@ -12,7 +12,7 @@ use crate::vector_type::vtype_at;
 use rv_model::assembler::forms::{SignedField, Slot, UnsignedField};
 
 /// This very token.
-pub fn literal(word: &[u8], text: &[u8], at: usize) -> Result<(u32, usize), AsmFault>
+pub(crate) fn literal(word: &[u8], text: &[u8], at: usize) -> Result<(u32, usize), AsmFault>
     requires { at ≤ length text.now }
     ensures { Reads text.now result
         (one (length text.now + 1) (literal word.now) (rest text.now at)) }
@@ -140,7 +140,7 @@ fn limit(field: UnsignedField) -> u32
 }
 
 /// How many values of a signed field are below 0.
-pub fn half(field: SignedField) -> u32
+pub(crate) fn half(field: SignedField) -> u32
     ensures value { result ≡ half field }
     ensures range { 1 ≤ result × result < 2 ^ 30 }
 {
@@ -152,7 +152,7 @@ pub fn half(field: SignedField) -> u32
 }
 
 /// The number that one stands for in a signed field.
-pub fn step(field: SignedField) -> u32
+pub(crate) fn step(field: SignedField) -> u32
     ensures value { result ≡ step field }
     ensures range { 1 ≤ result × result ≤ 2 }
 {
@@ -163,7 +163,7 @@ pub fn step(field: SignedField) -> u32
 }
 
 /// The value that a slot takes from the tokens at an index, and the index after them.
-pub fn read_slot(slot: &Slot, text: &[u8], at: usize) -> Result<(u32, usize), AsmFault>
+pub(crate) fn read_slot(slot: &Slot, text: &[u8], at: usize) -> Result<(u32, usize), AsmFault>
     requires { at ≤ length text.now }
     ensures { Reads text.now result (read (length text.now + 1) slot.now (rest text.now at)) }
 {

@@ -148,7 +148,7 @@ fn row_padded(name: &[u8; 16]) -> Option<usize>
 
 /// The row with this name.
 #[tactic(auto, unfolding(rv_model::specs::assembler::Table::row_named))]
-pub fn row_named(name: &[u8]) -> Option<usize>
+pub(crate) fn row_named(name: &[u8]) -> Option<usize>
     ensures within { IfSome result (λ row. row < row_count) }
     ensures first { result ≡ row_named name.now }
 {
@@ -170,7 +170,7 @@ fn row_matching(word: u32) -> Option<usize>
 }
 
 /// The first row whose fixed bits a word has: that of `.word`, the last, for a word without a name.
-pub fn row_of_word(word: u32) -> usize
+pub(crate) fn row_of_word(word: u32) -> usize
     ensures within { result < row_count }
     ensures first { result ≡ row_of_word word }
 {
@@ -178,7 +178,7 @@ pub fn row_of_word(word: u32) -> usize
 }
 
 /// A row of the table.
-pub fn row_at(row: usize) -> Mnemonic
+pub(crate) fn row_at(row: usize) -> Mnemonic
     requires { row < row_count }
     ensures value { result ≡ row_at row }
     ensures ascii { (k : ℕ) → k < 16 → slice_index result.0 k < 128 }

@@ -15,7 +15,7 @@ pub struct Token<'a> {
 
 impl Token<'_> {
     /// The fault of a token that fits no slot.
-    pub fn misfit(&self) -> AsmFault
+    pub(crate) fn misfit(&self) -> AsmFault
         ensures { result.column ≡ self.now.column }
     {
         AsmFault {
@@ -66,7 +66,7 @@ fn run_end(text: &[u8], at: usize) -> usize
 }
 
 /// The first token from an index on, and the index after it.
-pub fn next_token<'a>(text: &'a [u8], at: usize) -> Option<(Token<'a>, usize)>
+pub(crate) fn next_token<'a>(text: &'a [u8], at: usize) -> Option<(Token<'a>, usize)>
     requires { at ≤ length text.now }
     ensures { Takes text.now at result }
 {
@@ -85,7 +85,7 @@ pub fn next_token<'a>(text: &'a [u8], at: usize) -> Option<(Token<'a>, usize)>
 }
 
 /// The first token from an index on, which has to be there, and the index after it.
-pub fn take<'a>(text: &'a [u8], at: usize) -> Result<(Token<'a>, usize), AsmFault>
+pub(crate) fn take<'a>(text: &'a [u8], at: usize) -> Result<(Token<'a>, usize), AsmFault>
     requires { at ≤ length text.now }
     ensures { TakesOne text.now at result }
 {

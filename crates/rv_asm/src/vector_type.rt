@@ -67,7 +67,7 @@ fn names_behind(vsew: u32, text: &[u8], at: usize) -> Result<(u32, usize), AsmFa
 
 /// vtype by the names of its parts where the first token is an element width, else as a number
 /// below `count`.
-pub fn vtype_at(count: u32, text: &[u8], at: usize) -> Result<(u32, usize), AsmFault>
+pub(crate) fn vtype_at(count: u32, text: &[u8], at: usize) -> Result<(u32, usize), AsmFault>
     requires inside { at ≤ length text.now }
     requires some { 1 ≤ count }
     ensures { Reads text.now result (vtype (length text.now + 1) count (rest text.now at)) }
