@@ -1,6 +1,6 @@
 //! Which elements an instruction works on ("V" Vector Extension 1.0, sections 5.3 and 5.4).
-ghost use Rattle.std.specs.Prelude.{◌≡◌, ◌<◌};
-ghost use Rattle.rv_model.specs.elements.Elements.{is_let};
+ghost use Rattle.std.specs.Prelude.{◌≡◌, ◌<◌, ◌≤◌};
+ghost use Rattle.rv_model.specs.elements.Elements.{is_active, is_let};
 
 use rv_model::{GROUP_BYTES, VLENB};
 use std::marker::Model;
@@ -43,6 +43,13 @@ impl<'a> Body<'a> {
         self.unmasked
     }
 
+    /// The mask, whether or not the instruction is masked.
+    pub fn mask(&self) -> &[u8; VLENB]
+        ensures { result.now ≡ self.now.mask }
+    {
+        self.mask
+    }
+
     /// The first index.
     pub fn start(&self) -> usize
         ensures { result ≡ self.now.start }
@@ -63,5 +70,13 @@ impl<'a> Body<'a> {
         ensures { result ≡ is_let self.now index }
     {
         self.unmasked || self.mask[index / 8] >> (index % 8) & 1 == 1
+    }
+
+    /// Whether an element is active.
+    pub fn is_active(&self, index: usize) -> bool
+        requires { self.now.end ≤ GROUP_BYTES }
+        ensures { result ≡ is_active self.now index }
+    {
+        self.start <= index && index < self.end && self.lets(index)
     }
 }

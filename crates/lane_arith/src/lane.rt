@@ -1,11 +1,11 @@
 //! Elements of 8, 16, 32 and 64 bits.
 ghost use Rattle.std.specs.Prelude.{◌≡◌, ◌+◌, ◌*◌, ◌%◌, ◌^◌, ◌<◌, ◌≤◌, ℕ, length};
 ghost use Rattle.std.specs.Int.{Width, bytes_low_first, cast_signed, w8, w16, w32, w64};
+ghost use Rattle.std.proofs.Common.{rules};
 ghost use Rattle.std.specs.Simd.Lanes.{put_chunk};
-ghost use Rattle.rv_model.specs.declared.instructions.operations.BinaryOp.TheVariants.{Vadd, Vsub};
 ghost use Rattle.rv_model.specs.elements.Elements.{element};
 ghost use Rattle.rv_model.specs.vector.Configuration.{width_bytes};
-ghost use Rattle.rv_model.specs.elements.Formulas.{formula, ones, wrap};
+ghost use Rattle.rv_model.specs.elements.Formulas.{ones};
 ghost use mir.Val.{bits};
 
 use byteorder::{ByteOrder, LittleEndian};
@@ -36,7 +36,8 @@ pub trait Lane: Copy + Drop {
 
     /// The signed number, in two's complement.
     fn signed_number(self) -> i64
-        ensures { result ≡ cast_signed width (value self) };
+        ensures value { result ≡ cast_signed width (value self) }
+        ensures bound { value self < 2 ^ bits width };
 
     /// The low bits of a number.
     fn low_bits(number: u64) -> Self
@@ -46,19 +47,20 @@ pub trait Lane: Copy + Drop {
     fn all_ones() -> Self
         ensures { value result ≡ ones width };
 
-    /// The sum, modulo 2 to the width.
-    fn sum(self, other: Self) -> Self
-        ensures { value result ≡ wrap width (formula Vadd width (value self) (value other)) };
+    /// How many bits it has.
+    fn bits() -> u32
+        ensures { result ≡ bits width };
 
-    /// The difference, modulo 2 to the width.
-    fn difference(self, other: Self) -> Self
-        ensures { value result ≡ wrap width (formula Vsub width (value self) (value other)) };
+    // At most 64 bits.
+    ghost fits_64: { bits width ≤ 64 };
 }
 
 impl Lane for u8 {
     ghost width = { w8 };
 
     ghost value = { λ x. x };
+
+    ghost fits_64 = { Prim.search rules };
 
     fn load(bytes: &[u8], index: usize) -> u8 {
         bytes[index]
@@ -84,12 +86,8 @@ impl Lane for u8 {
         u8::MAX
     }
 
-    fn sum(self, other: u8) -> u8 {
-        self.wrapping_add(other)
-    }
-
-    fn difference(self, other: u8) -> u8 {
-        self.wrapping_sub(other)
+    fn bits() -> u32 {
+        u8::BITS
     }
 }
 
@@ -97,6 +95,8 @@ impl Lane for u16 {
     ghost width = { w16 };
 
     ghost value = { λ x. x };
+
+    ghost fits_64 = { Prim.search rules };
 
     fn load(bytes: &[u8], index: usize) -> u16 {
         LittleEndian::read_u16(&bytes[2 * index..])
@@ -122,12 +122,8 @@ impl Lane for u16 {
         u16::MAX
     }
 
-    fn sum(self, other: u16) -> u16 {
-        self.wrapping_add(other)
-    }
-
-    fn difference(self, other: u16) -> u16 {
-        self.wrapping_sub(other)
+    fn bits() -> u32 {
+        u16::BITS
     }
 }
 
@@ -135,6 +131,8 @@ impl Lane for u32 {
     ghost width = { w32 };
 
     ghost value = { λ x. x };
+
+    ghost fits_64 = { Prim.search rules };
 
     fn load(bytes: &[u8], index: usize) -> u32 {
         LittleEndian::read_u32(&bytes[4 * index..])
@@ -160,12 +158,8 @@ impl Lane for u32 {
         u32::MAX
     }
 
-    fn sum(self, other: u32) -> u32 {
-        self.wrapping_add(other)
-    }
-
-    fn difference(self, other: u32) -> u32 {
-        self.wrapping_sub(other)
+    fn bits() -> u32 {
+        u32::BITS
     }
 }
 
@@ -173,6 +167,8 @@ impl Lane for u64 {
     ghost width = { w64 };
 
     ghost value = { λ x. x };
+
+    ghost fits_64 = { Prim.search rules };
 
     fn load(bytes: &[u8], index: usize) -> u64 {
         LittleEndian::read_u64(&bytes[8 * index..])
@@ -198,11 +194,7 @@ impl Lane for u64 {
         u64::MAX
     }
 
-    fn sum(self, other: u64) -> u64 {
-        self.wrapping_add(other)
-    }
-
-    fn difference(self, other: u64) -> u64 {
-        self.wrapping_sub(other)
+    fn bits() -> u32 {
+        u64::BITS
     }
 }

@@ -1,12 +1,27 @@
 //! Kernels of element-wise integer operations, generic over the width of an element.
 #![tactic(auto)]
 
+mod binary;
 mod body;
-mod kernel;
+mod compare;
+mod copies;
+mod division;
+mod high_products;
 mod lane;
+mod mask_operand;
+mod mask_results;
+mod multiply_add;
+mod operations;
+mod results;
 #[cfg(test)]
 mod tests;
 
+pub use binary::Binary;
 pub use body::Body;
-pub use kernel::{binary, fill};
+pub use compare::{CarryOut, Compare};
+pub use copies::Copies;
 pub use lane::Lane;
+pub use mask_operand::WithMaskOperand;
+pub use mask_results::{MaskResults, write_mask_results};
+pub use multiply_add::MultiplyAdd;
+pub use results::{Results, fill, write_results};

@@ -335,11 +335,13 @@ fn is_reduction(op: VectorOp) -> bool
     match op {
         VectorOp::Reduce(_) => true,
         VectorOp::Binary(_)
+        | VectorOp::CarryOut(_)
         | VectorOp::Compare(_)
         | VectorOp::FixedPoint(_)
         | VectorOp::Narrow(_)
         | VectorOp::Widen(_)
         | VectorOp::MultiplyAdd(_)
+        | VectorOp::WidenMultiplyAdd(_)
         | VectorOp::Permute(_) => false,
     }
 }
@@ -385,10 +387,12 @@ fn is_narrow_only(op: VectorOp) -> bool
     match op {
         VectorOp::Binary(op) => has_wide_product(op),
         VectorOp::FixedPoint(op) => is_fractional_product(op),
-        VectorOp::Compare(_)
+        VectorOp::CarryOut(_)
+        | VectorOp::Compare(_)
         | VectorOp::Narrow(_)
         | VectorOp::Widen(_)
         | VectorOp::MultiplyAdd(_)
+        | VectorOp::WidenMultiplyAdd(_)
         | VectorOp::Reduce(_)
         | VectorOp::Permute(_) => false,
     }

@@ -1,12 +1,12 @@
 //! The register operands of a vector operation, by its shape ("V" Vector Extension 1.0, sections 5.2,
 //! 10.2, 11, 12, 14 and 16).
 ghost use Rattle.std.specs.Prelude.{◌≡◌};
-ghost use Rattle.rv_model.specs.legality.OperandShapes.{destination, first_source, multiply_add_shape, permute_shape, reduce_shape, second_source, shape_of, shape_operands, vector_source, widen_shape};
+ghost use Rattle.rv_model.specs.legality.OperandShapes.{destination, first_source, permute_shape, reduce_shape, second_source, shape_of, shape_operands, vector_source, widen_shape};
 ghost use Rattle.rv_model.specs.legality.RegisterOperands.{are_legal};
 
 use crate::agreement::are_legal;
 use crate::operands::{group, mask, v0, whole};
-use rv_model::instructions::operations::{MultiplyAddOp, PermuteOp, ReduceOp, VectorOp, WidenOp};
+use rv_model::instructions::operations::{PermuteOp, ReduceOp, VectorOp, WidenOp};
 use rv_model::{Operand, Role, Shape, Source, VReg, VType};
 
 /// The shape of an operation whose result has twice the width.
@@ -24,22 +24,6 @@ fn widen_shape(op: WidenOp) -> Shape
         | WidenOp::Vwmulu
         | WidenOp::Vwmulsu
         | WidenOp::Vwmul => Shape::Widening,
-    }
-}
-
-/// The shape of an operation that adds a product.
-fn multiply_add_shape(op: MultiplyAddOp) -> Shape
-    ensures { result ≡ multiply_add_shape op }
-{
-    match op {
-        MultiplyAddOp::Vmadd
-        | MultiplyAddOp::Vnmsub
-        | MultiplyAddOp::Vmacc
-        | MultiplyAddOp::Vnmsac => Shape::Single,
-        MultiplyAddOp::Vwmaccu
-        | MultiplyAddOp::Vwmacc
-        | MultiplyAddOp::Vwmaccus
-        | MultiplyAddOp::Vwmaccsu => Shape::Widening,
     }
 }
 
@@ -76,11 +60,11 @@ pub(crate) fn shape_of(op: VectorOp) -> Shape
     ensures { result ≡ shape_of op }
 {
     match op {
-        VectorOp::Binary(_) | VectorOp::FixedPoint(_) => Shape::Single,
-        VectorOp::Compare(_) => Shape::Compare,
+        VectorOp::Binary(_) | VectorOp::FixedPoint(_) | VectorOp::MultiplyAdd(_) => Shape::Single,
+        VectorOp::CarryOut(_) | VectorOp::Compare(_) => Shape::Compare,
         VectorOp::Narrow(_) => Shape::Narrowing,
         VectorOp::Widen(op) => widen_shape(op),
-        VectorOp::MultiplyAdd(op) => multiply_add_shape(op),
+        VectorOp::WidenMultiplyAdd(_) => Shape::Widening,
         VectorOp::Reduce(op) => reduce_shape(op),
         VectorOp::Permute(op) => permute_shape(op),
     }

@@ -6,7 +6,7 @@ ghost use Rattle.rv_model.specs.instructions.Sources.{form_of};
 
 use super::legal;
 use rv_model::instructions::operations::{
-    BinaryOp, CarryOp, CompareOp, Direction, ExtendOp, MaskToScalarOp, MaskUnaryOp, NarrowOp,
+    BinaryOp, CarryOp, CarryOutOp, CompareOp, Direction, ExtendOp, MaskToScalarOp, MaskUnaryOp, NarrowOp,
     Order, PermuteOp, ReduceOp, RegisterCount, UnitOp, VectorOp, WidenOp, Width,
 };
 use rv_model::{Arith, Carry, Field, Instr, Lmul, Reg, Sew, Source, VConf, VReg, VType};
@@ -190,7 +190,7 @@ fn v0_as_result(rt: HostRuntime) {
         m1,
         true,
     );
-    let vmadc = VectorOp::Compare(CompareOp::Vmadc);
+    let vmadc = VectorOp::CarryOut(CarryOutOp::Vmadc);
     row(
         &rt,
         "vmadc.vvm v0, v2, v4, v0",

@@ -1,10 +1,10 @@
 //! The lines of the manual's table of vector operations.
 ghost use Rattle.std.specs.Prelude.{◌≡◌, ◌<◌};
-ghost use Rattle.rv_model.specs.instructions.Operations.{binary_line, compare_line, fixed_point_line, narrow_line, widen_line, multiply_add_line, reduce_line, permute_line, carry_line, line, has_form, opi, opm};
+ghost use Rattle.rv_model.specs.instructions.Operations.{binary_line, carry_out_line, compare_line, fixed_point_line, narrow_line, widen_line, multiply_add_line, widen_multiply_add_line, reduce_line, permute_line, carry_line, line, has_form, opi, opm};
 
 use rv_model::instructions::operations::{
-    BinaryOp, CarryOp, CompareOp, FixedPointOp, Form, Forms, Line, Major, MultiplyAddOp, NarrowOp,
-    PermuteOp, ReduceOp, VectorOp, WidenOp,
+    BinaryOp, CarryOp, CarryOutOp, CompareOp, FixedPointOp, Form, Forms, Line, Major,
+    MultiplyAddOp, NarrowOp, PermuteOp, ReduceOp, VectorOp, WidenMultiplyAddOp, WidenOp,
 };
 
 /// A line of OPIVV, OPIVX and OPIVI.
@@ -70,13 +70,21 @@ fn binary_line(op: BinaryOp) -> Line
     }
 }
 
-/// Comparisons, carries and borrows.
+/// Carries and borrows.
+fn carry_out_line(op: CarryOutOp) -> Line
+    ensures { result ≡ carry_out_line op }
+{
+    match op {
+        CarryOutOp::Vmadc => opi(0x11, Forms::Vxi),
+        CarryOutOp::Vmsbc => opi(0x13, Forms::Vx),
+    }
+}
+
+/// Comparisons.
 fn compare_line(op: CompareOp) -> Line
     ensures { result ≡ compare_line op }
 {
     match op {
-        CompareOp::Vmadc => opi(0x11, Forms::Vxi),
-        CompareOp::Vmsbc => opi(0x13, Forms::Vx),
         CompareOp::Vmseq => opi(0x18, Forms::Vxi),
         CompareOp::Vmsne => opi(0x19, Forms::Vxi),
         CompareOp::Vmsltu => opi(0x1a, Forms::Vx),
@@ -147,10 +155,18 @@ fn multiply_add_line(op: MultiplyAddOp) -> Line
         MultiplyAddOp::Vnmsub => opm(0x2b, Forms::Vx),
         MultiplyAddOp::Vmacc => opm(0x2d, Forms::Vx),
         MultiplyAddOp::Vnmsac => opm(0x2f, Forms::Vx),
-        MultiplyAddOp::Vwmaccu => opm(0x3c, Forms::Vx),
-        MultiplyAddOp::Vwmacc => opm(0x3d, Forms::Vx),
-        MultiplyAddOp::Vwmaccus => opm(0x3e, Forms::X),
-        MultiplyAddOp::Vwmaccsu => opm(0x3f, Forms::Vx),
+    }
+}
+
+/// Multiply-adds whose result has twice the width.
+fn widen_multiply_add_line(op: WidenMultiplyAddOp) -> Line
+    ensures { result ≡ widen_multiply_add_line op }
+{
+    match op {
+        WidenMultiplyAddOp::Vwmaccu => opm(0x3c, Forms::Vx),
+        WidenMultiplyAddOp::Vwmacc => opm(0x3d, Forms::Vx),
+        WidenMultiplyAddOp::Vwmaccus => opm(0x3e, Forms::X),
+        WidenMultiplyAddOp::Vwmaccsu => opm(0x3f, Forms::Vx),
     }
 }
 
@@ -203,11 +219,13 @@ pub(crate) fn line(op: VectorOp) -> Line
 {
     match op {
         VectorOp::Binary(op) => binary_line(op),
+        VectorOp::CarryOut(op) => carry_out_line(op),
         VectorOp::Compare(op) => compare_line(op),
         VectorOp::FixedPoint(op) => fixed_point_line(op),
         VectorOp::Narrow(op) => narrow_line(op),
         VectorOp::Widen(op) => widen_line(op),
         VectorOp::MultiplyAdd(op) => multiply_add_line(op),
+        VectorOp::WidenMultiplyAdd(op) => widen_multiply_add_line(op),
         VectorOp::Reduce(op) => reduce_line(op),
         VectorOp::Permute(op) => permute_line(op),
     }

@@ -6,8 +6,9 @@ ghost use Rattle.rv_model.specs.instructions.Table.{find, find_at};
 
 use crate::lines::{has_form, line};
 use rv_model::instructions::operations::{
-    BinaryOp, CarryOp, CompareOp, ExtendOp, FixedPointOp, Form, Major, MaskLogicOp, MaskToScalarOp,
-    MaskUnaryOp, MultiplyAddOp, NarrowOp, PermuteOp, ReduceOp, RegisterCount, VectorOp, WidenOp,
+    BinaryOp, CarryOp, CarryOutOp, CompareOp, ExtendOp, FixedPointOp, Form, Major, MaskLogicOp,
+    MaskToScalarOp, MaskUnaryOp, MultiplyAddOp, NarrowOp, PermuteOp, ReduceOp, RegisterCount, VectorOp,
+    WidenMultiplyAddOp, WidenOp,
 };
 
 /// The operation, if the manual's table has it in this form.
@@ -46,8 +47,8 @@ fn lower_opi(funct6: u32, form: Form) -> Option<VectorOp>
             Form::X | Form::I => VectorOp::Permute(PermuteOp::Vslideup),
         },
         0x0f => VectorOp::Permute(PermuteOp::Vslidedown),
-        0x11 => VectorOp::Compare(CompareOp::Vmadc),
-        0x13 => VectorOp::Compare(CompareOp::Vmsbc),
+        0x11 => VectorOp::CarryOut(CarryOutOp::Vmadc),
+        0x13 => VectorOp::CarryOut(CarryOutOp::Vmsbc),
         _ => return None,
     };
     if_allowed(op, form)
@@ -160,10 +161,10 @@ fn upper_opm(funct6: u32, form: Form) -> Option<VectorOp>
         0x38 => VectorOp::Widen(WidenOp::Vwmulu),
         0x3a => VectorOp::Widen(WidenOp::Vwmulsu),
         0x3b => VectorOp::Widen(WidenOp::Vwmul),
-        0x3c => VectorOp::MultiplyAdd(MultiplyAddOp::Vwmaccu),
-        0x3d => VectorOp::MultiplyAdd(MultiplyAddOp::Vwmacc),
-        0x3e => VectorOp::MultiplyAdd(MultiplyAddOp::Vwmaccus),
-        0x3f => VectorOp::MultiplyAdd(MultiplyAddOp::Vwmaccsu),
+        0x3c => VectorOp::WidenMultiplyAdd(WidenMultiplyAddOp::Vwmaccu),
+        0x3d => VectorOp::WidenMultiplyAdd(WidenMultiplyAddOp::Vwmacc),
+        0x3e => VectorOp::WidenMultiplyAdd(WidenMultiplyAddOp::Vwmaccus),
+        0x3f => VectorOp::WidenMultiplyAdd(WidenMultiplyAddOp::Vwmaccsu),
         _ => return None,
     };
     if_allowed(op, form)

@@ -1,6 +1,8 @@
 -- Laws of elements: `Widths` and `Writes` first, then `Reads`, `Sets` and `Arithmetic`.
 pub mod Arithmetic
+pub mod Bits
 pub mod Reads
 pub mod Sets
+pub mod Numbers
 pub mod Widths
 pub mod Writes

@@ -22,7 +22,7 @@ use Rattle.rv_model.specs.instructions.Sources.{form_of}
 use Rattle.rv_model.specs.instructions.Table.{Row, In, rows, table, scan}
 use Rattle.rv_model.specs.assembler.Fields.{fixed_mask}
 use Rattle.rv_model.specs.assembler.Naming.{HasBitsOf, NamesOperation}
-use Rattle.rv_model.specs.assembler.OperationNames.{carry_name, carry_suffix, compare_name, compare_suffix, indexed_name, mnemonic, move_suffix, strided_name, takes_carry, unit_name, vector_name}
+use Rattle.rv_model.specs.assembler.OperationNames.{carry_name, carry_out_name, carry_out_suffix, carry_suffix, indexed_name, mnemonic, move_suffix, strided_name, unit_name, vector_name}
 use Rattle.rv_model.specs.assembler.Table.{bits_at, name_at, name_count, row_at, slots_at, slots_of, unpadded}
 use Rattle.rv_model.proofs.instruction_lemmas.RoundTrips.{template_of}
 use Rattle.rv_model.proofs.instruction_lemmas.Scans.{found, table_apart}
@@ -33,7 +33,7 @@ use Rattle.rv_model.proofs.assembler_lemmas.Naming.{all_at, bits_of_name, covers
 
 -- bit 25 of vmadc and vmsbc, which says whether a carry or a borrow comes in
 abbrev told_by_operation : VectorOp → ℕ
-told_by_operation (vector_op.Compare op) = cond (takes_carry op) (2 ^ 25) 0
+told_by_operation (vector_op.CarryOut op) = 2 ^ 25
 told_by_operation op = 0
 
 -- and the number of fields
@@ -52,12 +52,8 @@ same_flag w v h =
 same_fields : (w v : ℕ) → bit_and w (7 * 2 ^ 29) ≡ bit_and v (7 * 2 ^ 29) → field 29 3 w ≡ field 29 3 v
 same_fields w v h = omega (arith, h, and_high w 3 29, and_high v 3 29)
 
-compare_same : (carry : Bool) (f : Form) (w v : ℕ) → bit_and w (cond carry (2 ^ 25) 0) ≡ bit_and v (cond carry (2 ^ 25) 0) → compare_suffix carry f (flag w) ≡ compare_suffix carry f (flag v)
-compare_same true f w v h = ap (compare_suffix true f) (same_flag w v h)
-compare_same false f w v h = refl
-
 vector_same : (op : VectorOp) (f : Form) (w v : ℕ) → bit_and w (told_by_operation op) ≡ bit_and v (told_by_operation op) → vector_name op f (flag w) ≡ vector_name op f (flag v)
-vector_same (vector_op.Compare op) f w v h = ap (λ (s : List ℕ). compare_name op ++ s) (compare_same (takes_carry op) f w v h)
+vector_same (vector_op.CarryOut op) f w v h = ap (λ (vm : Bool). carry_out_name op ++ carry_out_suffix f vm) (same_flag w v h)
 vector_same op f w v h = refl
 
 -- words that agree in those bits have one name

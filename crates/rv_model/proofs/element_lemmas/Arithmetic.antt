@@ -1,35 +1,50 @@
--- What element writes leave in the vector registers.
-use Rattle.std.proofs.Common.{ℕ, ◌<◌, ◌≡◌, List, Bool, ap, ◌∙◌}
-use Rattle.rv_model.specs.declared.instructions.operations.BinaryOp.{BinaryOp}
-use Rattle.rv_model.specs.declared.scalar.Scalar.{Scalar}
-use Rattle.rv_model.specs.declared.instructions.source.Source.{Source}
-use Rattle.rv_model.specs.elements.Elements.{Body, element, is_changed, result_or_ones}
-use Rattle.rv_model.specs.elements.Writes.{Writes}
+-- What an instruction's results leave in the vector registers.
+use Rattle.std.proofs.Common.{ℕ, ◌<◌, ◌≡◌, List, Bool, true, false, cond, refl, ap}
+use Rattle.rv_model.specs.elements.Elements.{Body, is_active, is_changed, result_or_ones}
+use Rattle.rv_model.specs.elements.Writes.{Writes, WritesBits, bit_or, byte_with_bits, written, written_bits}
 use Rattle.rv_model.specs.vector.Registers.{group_of, with_group}
-use Rattle.rv_model.specs.elements.Arithmetic.{GroupType, binary_element, binary_file, group_element, second_element, with_results}
+use Rattle.rv_model.specs.elements.Arithmetic.{GroupType, with_mask_results, with_results}
 use Rattle.rv_model.specs.vector.Configuration.{width_bytes}
-use Rattle.rv_model.specs.elements.Formulas.{formula, ones, wrap}
-use Rattle.rv_model.proofs.element_lemmas.Sets.{same_results}
+use Rattle.rv_model.specs.elements.Formulas.{ones}
+use Rattle.rv_model.proofs.element_lemmas.Bits.{same_bits, writes_bits_are, written_bits_are}
+use Rattle.rv_model.proofs.element_lemmas.Sets.{active_end, same_results}
 use Rattle.rv_model.proofs.element_lemmas.Widths.{bytes_positive}
-use Rattle.rv_model.proofs.element_lemmas.Writes.{writes_are}
+use Rattle.rv_model.proofs.element_lemmas.Writes.{writes_are, written_are}
 
--- results of copies of the operands, written to the destination
-pub binary_file_is : (g : GroupType) (op : BinaryOp) (vd vs2 : ℕ) (from : Source) (body : Body) (fill_masked_off fill_tail : Bool)
-    (file : List ℕ) (x : Scalar) (a b new : List ℕ)
-    → ((i : ℕ) → i < body.end → element (width_bytes g.width) a i ≡ group_element g file vs2 i)
-    → ((i : ℕ) → i < body.end → element (width_bytes g.width) b i ≡ second_element g op from file x i)
-    → Writes (width_bytes g.width) (is_changed body fill_masked_off fill_tail)
-    (result_or_ones body (λ i. wrap g.width (formula op g.width (element (width_bytes g.width) a i) (element (width_bytes g.width) b i)))
-    (ones g.width)) (group_of file vd g.emul) new
-    → with_group file vd new ≡ binary_file g op vd vs2 from body fill_masked_off fill_tail file x
-unfolding binary_file with_results
-binary_file_is g op vd vs2 from body fill_masked_off fill_tail file x a b new first second was =
+-- results, told another way, written to the destination
+pub results_are : (g : GroupType) (vd : ℕ) (body : Body) (fill_masked_off fill_tail : Bool) (told result : ℕ → ℕ) (file new : List ℕ)
+    → ((i : ℕ) → i < body.end → told i ≡ result i)
+    → Writes (width_bytes g.width) (is_changed body fill_masked_off fill_tail) (result_or_ones body told (ones g.width)) (group_of file vd g.emul) new
+    → with_group file vd new ≡ with_results g vd body fill_masked_off fill_tail result file
+unfolding with_results
+results_are g vd body fill_masked_off fill_tail told result file new same was =
     let k : ℕ = width_bytes g.width in
-    let result : ℕ → ℕ = binary_element g op vs2 from file x in
-    let told = same_results k body fill_masked_off fill_tail (λ i. wrap g.width (formula op g.width (element k a i) (element k b i))) result
-    (ones g.width) (group_of file vd g.emul) new
-    (λ i h. ap (λ p. wrap g.width (formula op g.width p (element k b i))) (first i h)
-    ∙ ap (λ q. wrap g.width (formula op g.width (group_element g file vs2 i) q)) (second i h)) was in
+    let so = same_results k body fill_masked_off fill_tail told result (ones g.width) (group_of file vd g.emul) new same was in
     ap (λ bytes. with_group file vd bytes)
     (writes_are k (is_changed body fill_masked_off fill_tail) (result_or_ones body result (ones g.width)) (group_of file vd g.emul) new
-    (bytes_positive g.width) told)
+    (bytes_positive g.width) so)
+
+-- the same for a mask
+pub mask_results_are : (vd : ℕ) (body : Body) (told bit : ℕ → Bool) (file new : List ℕ)
+    → ((i : ℕ) → i < body.end → told i ≡ bit i)
+    → WritesBits (is_active body) told (group_of file vd 8) new
+    → with_group file vd new ≡ with_mask_results vd body bit file
+unfolding with_mask_results
+mask_results_are vd body told bit file new same was =
+    ap (λ bytes. with_group file vd bytes)
+    (writes_bits_are (is_active body) bit (group_of file vd 8) new (same_bits (is_active body) told bit (group_of file vd 8) new (λ i active. same i (active_end body i active)) was))
+
+-- results that are told another way leave the same
+pub results_same : (g : GroupType) (vd : ℕ) (body : Body) (fill_masked_off fill_tail : Bool) (told result : ℕ → ℕ) (file : List ℕ)
+    → ((i : ℕ) → i < body.end → told i ≡ result i)
+    → with_results g vd body fill_masked_off fill_tail told file ≡ with_results g vd body fill_masked_off fill_tail result file
+unfolding with_results
+results_same g vd body fill_masked_off fill_tail told result file same =
+    results_are g vd body fill_masked_off fill_tail told result file _ same
+    (written_are (width_bytes g.width) (is_changed body fill_masked_off fill_tail) (result_or_ones body told (ones g.width)) (group_of file vd g.emul)
+    (bytes_positive g.width))
+
+pub mask_results_same : (vd : ℕ) (body : Body) (told bit : ℕ → Bool) (file : List ℕ) → ((i : ℕ) → i < body.end → told i ≡ bit i)
+    → with_mask_results vd body told file ≡ with_mask_results vd body bit file
+unfolding with_mask_results
+mask_results_same vd body told bit file same = mask_results_are vd body told bit file _ same (written_bits_are (is_active body) told (group_of file vd 8))

@@ -146,3 +146,11 @@ same_results k body fill_masked_off fill_tail result other ones old new same was
     numbers e true true h is = sym (same e (h is))
     numbers e true false h is = refl
     numbers e false l h is = refl
+
+-- an active element is before the end
+pub active_end : (body : Body) (i : ℕ) → is_active body i ≡ true → i < body.end
+active_end body i h = inside i (in_body body i) (is_let body i) (λ b. to_end body.start body.end i b) refl h
+  where
+    inside : (e : ℕ) (b l : Bool) → (in_body body e ≡ true → e < body.end) → in_body body e ≡ b → (b && l) ≡ true → e < body.end
+    inside e true l told is both = told is
+    inside e false l told is both = absurd (cc)

@@ -1,5 +1,5 @@
 -- The widths of elements in bits and in bytes.
-use Rattle.std.proofs.Common.{◌≡◌, ◌*◌, ◌<◌, refl, lit<}
+use Rattle.std.proofs.Common.{◌≡◌, ◌*◌, ◌^◌, ◌<◌, refl, lit<}
 use Rattle.std.specs.Int.{Width, w8, w16, w32, w64, w128}
 use mir.Val.{bits}
 use Rattle.rv_model.specs.vector.Configuration.{width_bytes}
@@ -19,3 +19,11 @@ whole_bytes w16 = refl
 whole_bytes w32 = refl
 whole_bytes w64 = refl
 whole_bytes w128 = refl
+
+-- 2 to it is at least one
+pub power_positive : (w : Width) → 0 < 2 ^ bits w
+power_positive w8 = lit< tt
+power_positive w16 = lit< tt
+power_positive w32 = lit< tt
+power_positive w64 = lit< tt
+power_positive w128 = lit< tt

@@ -6,7 +6,7 @@ use Rattle.std.proofs.lemmas.Grind.{same_number_lists}
 use Rattle.std.proofs.lemmas.List.{drop_all}
 use Rattle.std.proofs.lemmas.List.FromFn.{get_or-map-range_with_len, length-map-range_with_len}
 use Rattle.std.proofs.lemmas.Simd.{length-put_chunk, put_chunk_is, get_or-put_chunk_below, get_or-put_chunk_at, get_or-put_chunk_above, length-chunk, get_or-chunk}
-use Rattle.std.proofs.Math.Nat.{mul-le-mul_left, mul-suc, div-one, div-div-eq-div-mul, pow-suc, div-add-mod, mod-lt}
+use Rattle.std.proofs.Math.Nat.{mul-le-mul_left, mul-suc, div-one, div-div-eq-div-mul, div-eq_of_lt, pow-suc, div-add-mod, mod-eq_of_lt, mod-lt, mul-add-div, mul-add-mod_self_left}
 use Rattle.std.proofs.Math.Arith.{mod-mul}
 use Rattle.std.specs.Int.{byte_at, bytes_low_first}
 use borrow.Rule.Slice.PartMut.{put_mid}
@@ -165,6 +165,18 @@ writes_are k W F old new positive w =
     let e : k * (j / k) + j % k ≡ j = div-add-mod j k in
     sym (ap (λ x. get_or new x 0) e) ∙ w.bytes (j / k) (j % k) (mod-lt j positive) (rw e l)
     ∙ sym (get_or-map-range_with_len f 0 (length old) j j 0 l (zero-add j)))
+
+-- and they are those writes
+pub written_are : (k : ℕ) (W : ℕ → Bool) (F : ℕ → ℕ) (old : List ℕ) → 0 < k → Writes k W F old (written k W F old)
+unfolding written
+written_are k W F old positive =
+    let f : ℕ → ℕ = λ at. byte_or W F old k (at / k) (at % k) in
+    record {
+      same_length = length-map-range_with_len f 0 (length old);
+      bytes = λ e m h l. (let whole : (k * e + m) / k ≡ e = mul-add-div positive e m ∙ ap (λ x. e + x) (div-eq_of_lt h) ∙ omega arith in
+          let rest : (k * e + m) % k ≡ m = mul-add-mod_self_left k e m ∙ mod-eq_of_lt h in
+          get_or-map-range_with_len f 0 (length old) (k * e + m) (k * e + m) 0 l (zero-add (k * e + m)) ∙ rw (whole, rest) refl);
+    }
 
 -- an element that was written
 pub written_element : (k : ℕ) (W : ℕ → Bool) (F : ℕ → ℕ) (old new : List ℕ) (e : ℕ) → Writes k W F old new → W e ≡ true → k * e + k ≤ length old

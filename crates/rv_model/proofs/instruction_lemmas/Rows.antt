@@ -13,6 +13,8 @@ use Rattle.rv_model.specs.declared.instructions.operations.VectorOp.{VectorOp}
 use Rattle.rv_model.specs.declared.instructions.operations.VectorOp.TheVariants as vector_op
 use Rattle.rv_model.specs.declared.instructions.operations.BinaryOp.{BinaryOp}
 use Rattle.rv_model.specs.declared.instructions.operations.BinaryOp.TheVariants as binary
+use Rattle.rv_model.specs.declared.instructions.operations.CarryOutOp.{CarryOutOp}
+use Rattle.rv_model.specs.declared.instructions.operations.CarryOutOp.TheVariants as carry_out
 use Rattle.rv_model.specs.declared.instructions.operations.CompareOp.{CompareOp}
 use Rattle.rv_model.specs.declared.instructions.operations.CompareOp.TheVariants as compare
 use Rattle.rv_model.specs.declared.instructions.operations.FixedPointOp.{FixedPointOp}
@@ -23,6 +25,8 @@ use Rattle.rv_model.specs.declared.instructions.operations.WidenOp.{WidenOp}
 use Rattle.rv_model.specs.declared.instructions.operations.WidenOp.TheVariants as widen
 use Rattle.rv_model.specs.declared.instructions.operations.MultiplyAddOp.{MultiplyAddOp}
 use Rattle.rv_model.specs.declared.instructions.operations.MultiplyAddOp.TheVariants as multiply_add
+use Rattle.rv_model.specs.declared.instructions.operations.WidenMultiplyAddOp.{WidenMultiplyAddOp}
+use Rattle.rv_model.specs.declared.instructions.operations.WidenMultiplyAddOp.TheVariants as widen_multiply_add
 use Rattle.rv_model.specs.declared.instructions.operations.ReduceOp.{ReduceOp}
 use Rattle.rv_model.specs.declared.instructions.operations.ReduceOp.TheVariants as reduce
 use Rattle.rv_model.specs.declared.instructions.operations.PermuteOp.{PermuteOp}
@@ -74,7 +78,7 @@ use Rattle.rv_model.specs.declared.instructions.instruction.Instr.TheVariants.{U
 use Rattle.rv_model.specs.instructions.BitFields.{fixed}
 use Rattle.rv_model.specs.instructions.Sources.{form_of}
 use Rattle.rv_model.specs.instructions.FixedBits.{upper_bits, branch_bits, load_bits, store_bits, immediate_op_bits, shift_immediate_bits, shift_immediate_word_bits, register_op_bits, system_bits, csr_bits, csr_immediate_bits, whole_move_bits, mask_logic_bits, mask_to_scalar_bits, extend_bits, mask_unary_bits, mask_memory_bits, upper_ops, branch_ops, load_ops, store_ops, immediate_ops, shift_immediate_ops, shift_immediate_word_ops, register_ops, system_ops, csr_ops, csr_immediate_ops, mask_logic_ops, mask_to_scalar_ops, extend_ops, mask_unary_ops, directions, counts}
-use Rattle.rv_model.specs.instructions.Operations.{has_form, line, carry_line, line_bits, those, vector_ops, carry_ops, binary_line, compare_line, fixed_point_line, narrow_line, widen_line, multiply_add_line, reduce_line, permute_line}
+use Rattle.rv_model.specs.instructions.Operations.{has_form, line, carry_line, line_bits, those, vector_ops, carry_ops, binary_line, carry_out_line, compare_line, fixed_point_line, narrow_line, widen_line, multiply_add_line, widen_multiply_add_line, reduce_line, permute_line}
 use Rattle.rv_model.specs.instructions.Layout.{parts, bits, Allowed, unit_access_bits, strided_access_bits, indexed_access_bits, whole_load_bits, whole_store_bits}
 use Rattle.rv_model.specs.instructions.Table.{Row, row_of, families, rows, joined, table, In, find, unit_accesses, strided_accesses, indexed_accesses, whole_loads, Ariths}
 use Rattle.rv_model.proofs.instruction_lemmas.Scans.{is_inside, table_inside, all_in}
@@ -269,13 +273,22 @@ known_binary _ form.X = refl
 known_binary binary.Vadd form.I = refl
 known_binary _ form.I = refl
 
+known_carry_out : (op : CarryOutOp) (f : Form) → IsKnown (vector_op.CarryOut op) (carry_out_line op) f
+unfolding find
+known_carry_out carry_out.Vmadc form.V = refl
+known_carry_out _ form.V = refl
+known_carry_out carry_out.Vmadc form.X = refl
+known_carry_out _ form.X = refl
+known_carry_out carry_out.Vmadc form.I = refl
+known_carry_out _ form.I = refl
+
 known_compare : (op : CompareOp) (f : Form) → IsKnown (vector_op.Compare op) (compare_line op) f
 unfolding find
-known_compare compare.Vmadc form.V = refl
+known_compare compare.Vmseq form.V = refl
 known_compare _ form.V = refl
-known_compare compare.Vmadc form.X = refl
+known_compare compare.Vmseq form.X = refl
 known_compare _ form.X = refl
-known_compare compare.Vmadc form.I = refl
+known_compare compare.Vmseq form.I = refl
 known_compare _ form.I = refl
 
 known_fixed_point : (op : FixedPointOp) (f : Form) → IsKnown (vector_op.FixedPoint op) (fixed_point_line op) f
@@ -314,6 +327,15 @@ known_multiply_add _ form.X = refl
 known_multiply_add multiply_add.Vmadd form.I = refl
 known_multiply_add _ form.I = refl
 
+known_widen_multiply_add : (op : WidenMultiplyAddOp) (f : Form) → IsKnown (vector_op.WidenMultiplyAdd op) (widen_multiply_add_line op) f
+unfolding find
+known_widen_multiply_add widen_multiply_add.Vwmaccu form.V = refl
+known_widen_multiply_add _ form.V = refl
+known_widen_multiply_add widen_multiply_add.Vwmaccu form.X = refl
+known_widen_multiply_add _ form.X = refl
+known_widen_multiply_add widen_multiply_add.Vwmaccu form.I = refl
+known_widen_multiply_add _ form.I = refl
+
 known_reduce : (op : ReduceOp) (f : Form) → IsKnown (vector_op.Reduce op) (reduce_line op) f
 unfolding find
 known_reduce reduce.Vredsum form.V = refl
@@ -344,11 +366,13 @@ known_carry _ form.I = refl
 
 known_vector : (op : VectorOp) (f : Form) → IsKnown op (line op) f
 known_vector (vector_op.Binary op) f = known_binary op f
+known_vector (vector_op.CarryOut op) f = known_carry_out op f
 known_vector (vector_op.Compare op) f = known_compare op f
 known_vector (vector_op.FixedPoint op) f = known_fixed_point op f
 known_vector (vector_op.Narrow op) f = known_narrow op f
 known_vector (vector_op.Widen op) f = known_widen op f
 known_vector (vector_op.MultiplyAdd op) f = known_multiply_add op f
+known_vector (vector_op.WidenMultiplyAdd op) f = known_widen_multiply_add op f
 known_vector (vector_op.Reduce op) f = known_reduce op f
 known_vector (vector_op.Permute op) f = known_permute op f
 

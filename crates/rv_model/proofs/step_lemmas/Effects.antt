@@ -5,7 +5,7 @@ use Rattle.std.specs.Int.{byte_len}
 use Rattle.std.proofs.lemmas.Bool.Decides.{nat_tests}
 use Rattle.rv_model.specs.declared.vector.control_register.ControlRegister.{ControlRegister}
 use Rattle.rv_model.specs.declared.instructions.instruction.Instr.{Instr}
-use Rattle.rv_model.specs.declared.instructions.instruction.Instr.TheVariants.{Upper, Jump, JumpRegister, Branch, Load, Store, RegisterImmediate, ShiftImmediate, ShiftImmediateWord, RegisterRegister, Fence, System, Csr, CsrImmediate, SetVli, SetIvli, SetVl, VectorArith}
+use Rattle.rv_model.specs.declared.instructions.instruction.Instr.TheVariants.{Upper, Jump, JumpRegister, Branch, Load, Store, RegisterImmediate, ShiftImmediate, ShiftImmediateWord, RegisterRegister, Fence, System, Csr, CsrImmediate, SetVli, SetIvli, SetVl, VectorArith, VectorCarry, VectorMove}
 use Rattle.rv_model.specs.declared.memory.Access.TheVariants as access
 use Rattle.rv_model.specs.declared.instructions.operations.CsrOp.{CsrOp}
 use Rattle.rv_model.specs.declared.instructions.operations.LoadOp.{LoadOp}
@@ -13,7 +13,7 @@ use Rattle.rv_model.specs.declared.instructions.operations.StoreOp.{StoreOp}
 use Rattle.rv_model.specs.declared.instructions.operations.SystemOp.{SystemOp}
 use Rattle.rv_model.specs.declared.instructions.operations.SystemOp.TheVariants as system
 use Rattle.rv_model.specs.declared.instructions.operations.VectorOp.{VectorOp}
-use Rattle.rv_model.specs.declared.instructions.operations.VectorOp.TheVariants.{Binary}
+use Rattle.rv_model.specs.declared.instructions.operations.VectorOp.TheVariants.{Binary, CarryOut, Compare, MultiplyAdd}
 use Rattle.rv_model.specs.declared.scalar.Scalar.{Scalar}
 use Rattle.rv_model.specs.declared.instructions.source.Source.{Source}
 use Rattle.rv_model.specs.declared.step.step_end.Cause.{Cause}
@@ -35,8 +35,7 @@ use Rattle.rv_model.specs.scalar.Registers.{read_register, with_register}
 use Rattle.rv_model.specs.step.ScalarStep.{jumps, jump_step, branch_step, load_step, store_step, csr_step, environment_call, system_step}
 use Rattle.rv_model.specs.step.Step.{step, executed, word_at}
 use Rattle.rv_model.specs.vector.Control.{is_write, csr_form, control_value}
-use Rattle.rv_model.specs.elements.Formulas.{is_carried_out}
-use Rattle.rv_model.specs.step.VectorStep.{VectorStepped, arith_step, performed, requested_length, vset_step, vector_ticks, after_vector, vector_executed, vector_step}
+use Rattle.rv_model.specs.step.VectorStep.{VectorStepped, arith_step, carry_step, move_step, performed, typed, requested_length, vset_step, vector_ticks, after_vector, vector_executed, vector_step}
 use Rattle.rv_model.specs.declared.memory.Access.TheVariants.{Fetch}
 use Rattle.rv_model.proofs.text_lemmas.Pieces.{of_either}
 
@@ -119,19 +118,28 @@ vset_keeps rd vtype length s = record { refused = tt; first = first-with_registe
 either_keeps : (s : HartState) (b : Bool) (x y : VectorStepped) → VectorKeeps s x → VectorKeeps s y → VectorKeeps s (cond b x y)
 either_keeps s b x y h k = of_either (λ r. VectorKeeps s r) b x y h k
 
-arith_keeps : (t : Option VType) (op : VectorOp) (source : Source) (vd vs2 : ℕ) (vm : Bool) (s : HartState) → VectorKeeps s (arith_step t op source vd vs2 vm s)
-arith_keeps None op source vd vs2 vm s = record { refused = refl; first = refl }
-arith_keeps (Some t) (Binary op) source vd vs2 vm s =
-    either_keeps s (is_carried_out op) _ _
-    (record { refused = tt; first = refl }) (record { refused = refl; first = refl })
-arith_keeps (Some t) _ source vd vs2 vm s = record { refused = refl; first = refl }
+arith_keeps : (t : VType) (op : VectorOp) (source : Source) (vd vs2 : ℕ) (vm : Bool) (s : HartState) → VectorKeeps s (arith_step t op source vd vs2 vm s)
+arith_keeps t (Binary op) source vd vs2 vm s = record { refused = tt; first = refl }
+arith_keeps t (MultiplyAdd op) source vd vs2 vm s = record { refused = tt; first = refl }
+arith_keeps t (Compare op) source vd vs2 vm s = record { refused = tt; first = refl }
+arith_keeps t (CarryOut op) source vd vs2 vm s = record { refused = tt; first = refl }
+arith_keeps t _ source vd vs2 vm s = record { refused = refl; first = refl }
+
+typed_keeps : (t : Option VType) (done : VType → HartState → VectorStepped) (s : HartState) → ((v : VType) → VectorKeeps s (done v s)) → VectorKeeps s (typed t done s)
+typed_keeps None done s kept = record { refused = refl; first = refl }
+typed_keeps (Some t) done s kept = kept t
 
 performed_keeps : (limit : ℕ) (i : Instr) (s : HartState) → VectorKeeps s (performed limit i s)
 unfolding performed
 performed_keeps limit (SetVli rd rs1 vtype) s = vset_keeps rd vtype (requested_length rd rs1 s.scalar) s
 performed_keeps limit (SetIvli rd avl vtype) s = vset_keeps rd vtype (Elements avl) s
 performed_keeps limit (SetVl rd rs1 rs2) s = vset_keeps rd (read_register s.scalar rs2) (requested_length rd rs1 s.scalar) s
-performed_keeps limit (VectorArith arith vd vs2 vm) s = arith_keeps s.vector.conf.vtype arith.0 arith.1 vd vs2 vm s
+performed_keeps limit (VectorArith arith vd vs2 vm) s =
+    typed_keeps s.vector.conf.vtype (λ t. arith_step t arith.0 arith.1 vd vs2 vm) s (λ t. arith_keeps t arith.0 arith.1 vd vs2 vm s)
+performed_keeps limit (VectorCarry carry vd vs2) s =
+    typed_keeps s.vector.conf.vtype (λ t. carry_step t carry.0 carry.1 vd vs2) s (λ t. record { refused = tt; first = refl })
+performed_keeps limit (VectorMove source vd) s =
+    typed_keeps s.vector.conf.vtype (λ t. move_step t source vd) s (λ t. record { refused = tt; first = refl })
 performed_keeps limit _ s = record { refused = refl; first = refl }
 
 vector_keeps : (limit : ℕ) (i : Instr) (s : HartState) → VectorKeeps s (vector_executed limit i s)

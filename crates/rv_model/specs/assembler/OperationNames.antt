@@ -25,6 +25,8 @@ use Rattle.rv_model.specs.declared.instructions.operations.CsrImmediateOp.{CsrIm
 use Rattle.rv_model.specs.declared.instructions.operations.CsrImmediateOp.TheVariants as csr_immediate
 use Rattle.rv_model.specs.declared.instructions.operations.BinaryOp.{BinaryOp}
 use Rattle.rv_model.specs.declared.instructions.operations.BinaryOp.TheVariants as binary
+use Rattle.rv_model.specs.declared.instructions.operations.CarryOutOp.{CarryOutOp}
+use Rattle.rv_model.specs.declared.instructions.operations.CarryOutOp.TheVariants as carry_out
 use Rattle.rv_model.specs.declared.instructions.operations.CompareOp.{CompareOp}
 use Rattle.rv_model.specs.declared.instructions.operations.CompareOp.TheVariants as compare
 use Rattle.rv_model.specs.declared.instructions.operations.FixedPointOp.{FixedPointOp}
@@ -35,6 +37,8 @@ use Rattle.rv_model.specs.declared.instructions.operations.WidenOp.{WidenOp}
 use Rattle.rv_model.specs.declared.instructions.operations.WidenOp.TheVariants as widen
 use Rattle.rv_model.specs.declared.instructions.operations.MultiplyAddOp.{MultiplyAddOp}
 use Rattle.rv_model.specs.declared.instructions.operations.MultiplyAddOp.TheVariants as multiply_add
+use Rattle.rv_model.specs.declared.instructions.operations.WidenMultiplyAddOp.{WidenMultiplyAddOp}
+use Rattle.rv_model.specs.declared.instructions.operations.WidenMultiplyAddOp.TheVariants as widen_multiply_add
 use Rattle.rv_model.specs.declared.instructions.operations.ReduceOp.{ReduceOp}
 use Rattle.rv_model.specs.declared.instructions.operations.ReduceOp.TheVariants as reduce
 use Rattle.rv_model.specs.declared.instructions.operations.PermuteOp.{PermuteOp}
@@ -197,10 +201,13 @@ binary_name binary.Vmul = codes "vmul"
 binary_name binary.Vmulhsu = codes "vmulhsu"
 binary_name binary.Vmulh = codes "vmulh"
 
--- "Vector Integer Compare Instructions", and carries and borrows as masks
+-- "Vector Integer Add-with-Carry / Subtract-with-Borrow Instructions", carries and borrows as masks
+abbrev pub carry_out_name : CarryOutOp → List ℕ
+carry_out_name carry_out.Vmadc = codes "vmadc"
+carry_out_name carry_out.Vmsbc = codes "vmsbc"
+
+-- "Vector Integer Compare Instructions"
 abbrev pub compare_name : CompareOp → List ℕ
-compare_name compare.Vmadc = codes "vmadc"
-compare_name compare.Vmsbc = codes "vmsbc"
 compare_name compare.Vmseq = codes "vmseq"
 compare_name compare.Vmsne = codes "vmsne"
 compare_name compare.Vmsltu = codes "vmsltu"
@@ -245,16 +252,19 @@ widen_name widen.Vwmulu = codes "vwmulu"
 widen_name widen.Vwmulsu = codes "vwmulsu"
 widen_name widen.Vwmul = codes "vwmul"
 
--- "Vector Single-Width Integer Multiply-Add Instructions", "Vector Widening Integer Multiply-Add Instructions"
+-- "Vector Single-Width Integer Multiply-Add Instructions"
 abbrev pub multiply_add_name : MultiplyAddOp → List ℕ
 multiply_add_name multiply_add.Vmadd = codes "vmadd"
 multiply_add_name multiply_add.Vnmsub = codes "vnmsub"
 multiply_add_name multiply_add.Vmacc = codes "vmacc"
 multiply_add_name multiply_add.Vnmsac = codes "vnmsac"
-multiply_add_name multiply_add.Vwmaccu = codes "vwmaccu"
-multiply_add_name multiply_add.Vwmacc = codes "vwmacc"
-multiply_add_name multiply_add.Vwmaccus = codes "vwmaccus"
-multiply_add_name multiply_add.Vwmaccsu = codes "vwmaccsu"
+
+-- "Vector Widening Integer Multiply-Add Instructions"
+abbrev pub widen_multiply_add_name : WidenMultiplyAddOp → List ℕ
+widen_multiply_add_name widen_multiply_add.Vwmaccu = codes "vwmaccu"
+widen_multiply_add_name widen_multiply_add.Vwmacc = codes "vwmacc"
+widen_multiply_add_name widen_multiply_add.Vwmaccus = codes "vwmaccus"
+widen_multiply_add_name widen_multiply_add.Vwmaccsu = codes "vwmaccsu"
 
 -- "Vector Reduction Operations"
 abbrev pub reduce_name : ReduceOp → List ℕ
@@ -342,24 +352,10 @@ move_suffix form.V = codes ".v"
 move_suffix form.X = codes ".x"
 move_suffix form.I = codes ".i"
 
--- whether the mask of a comparison is a carry or a borrow that comes in
-abbrev pub takes_carry : CompareOp → Bool
-takes_carry compare.Vmadc = true
-takes_carry compare.Vmsbc = true
-takes_carry compare.Vmseq = false
-takes_carry compare.Vmsne = false
-takes_carry compare.Vmsltu = false
-takes_carry compare.Vmslt = false
-takes_carry compare.Vmsleu = false
-takes_carry compare.Vmsle = false
-takes_carry compare.Vmsgtu = false
-takes_carry compare.Vmsgt = false
-
--- by that, the form, and whether the instruction is not masked
-abbrev pub compare_suffix : Bool → Form → Bool → List ℕ
-compare_suffix true f true = suffix f
-compare_suffix true f false = carry_suffix f
-compare_suffix false f vm = suffix f
+-- of a carry or a borrow, by the form, and whether none comes in
+abbrev pub carry_out_suffix : Form → Bool → List ℕ
+carry_out_suffix f true = suffix f
+carry_out_suffix f false = carry_suffix f
 
 -- whether the first source of a widening operation has twice the width already
 abbrev pub is_wide : WidenOp → Bool
@@ -378,11 +374,13 @@ is_wide widen.Vwmul = false
 -- the name of an operation with a line of its own
 abbrev pub vector_name : VectorOp → Form → Bool → List ℕ
 vector_name (vector_op.Binary op) f vm = binary_name op ++ suffix f
-vector_name (vector_op.Compare op) f vm = compare_name op ++ compare_suffix (takes_carry op) f vm
+vector_name (vector_op.CarryOut op) f vm = carry_out_name op ++ carry_out_suffix f vm
+vector_name (vector_op.Compare op) f vm = compare_name op ++ suffix f
 vector_name (vector_op.FixedPoint op) f vm = fixed_point_name op ++ suffix f
 vector_name (vector_op.Narrow op) f vm = narrow_name op ++ wide_suffix f
 vector_name (vector_op.Widen op) f vm = widen_name op ++ (if is_wide op then wide_suffix f else suffix f)
 vector_name (vector_op.MultiplyAdd op) f vm = multiply_add_name op ++ suffix f
+vector_name (vector_op.WidenMultiplyAdd op) f vm = widen_multiply_add_name op ++ suffix f
 vector_name (vector_op.Reduce op) f vm = reduce_name op ++ codes ".vs"
 vector_name (vector_op.Permute op) f vm = permute_name op ++ suffix f
 

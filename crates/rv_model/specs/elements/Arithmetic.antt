@@ -4,6 +4,10 @@ use Rattle.std.specs.Prelude.{ℕ, ◌%◌, ◌^◌, ◌&&◌, not, nat_lt, Bool
 use Rattle.std.specs.Int.{Width}
 use mir.Val.{bits}
 use Rattle.rv_model.specs.declared.instructions.operations.BinaryOp.{BinaryOp}
+use Rattle.rv_model.specs.declared.instructions.operations.CarryOp.{CarryOp}
+use Rattle.rv_model.specs.declared.instructions.operations.CarryOutOp.{CarryOutOp}
+use Rattle.rv_model.specs.declared.instructions.operations.CompareOp.{CompareOp}
+use Rattle.rv_model.specs.declared.instructions.operations.MultiplyAddOp.{MultiplyAddOp}
 use Rattle.rv_model.specs.declared.vector.policy.Policy.{Policy}
 use Rattle.rv_model.specs.declared.vector.policy.Policy.TheVariants.{Keep, Ones}
 use Rattle.rv_model.specs.declared.scalar.Scalar.{Scalar}
@@ -11,12 +15,12 @@ use Rattle.rv_model.specs.declared.instructions.source.Source.{Source}
 use Rattle.rv_model.specs.declared.instructions.source.Source.TheVariants as source
 use Rattle.rv_model.specs.declared.vector.state.VState.{VState}
 use Rattle.rv_model.specs.declared.vector.types.VType.{VType}
-use Rattle.rv_model.specs.elements.Elements.{Body, element, is_changed, result_or_ones}
-use Rattle.rv_model.specs.elements.Writes.{written}
+use Rattle.rv_model.specs.elements.Elements.{Body, element, is_active, is_changed, mask_bit, result_or_ones}
+use Rattle.rv_model.specs.elements.Writes.{written, written_bits}
 use Rattle.rv_model.specs.vector.Registers.{group_of, with_group, register_of}
 use Rattle.rv_model.specs.scalar.Registers.{read_register}
 use Rattle.rv_model.specs.vector.Configuration.{lmul_eighths, sew_width, width_bytes}
-use Rattle.rv_model.specs.elements.Formulas.{formula, immediate_value, ones, wrap}
+use Rattle.rv_model.specs.elements.Formulas.{carry_formula, carry_out_formula, compare_formula, formula, has_unsigned_immediate, immediate_value, multiply_add_formula, ones, wrap}
 
 abbrev pub is_ones : Policy → Bool
 is_ones Keep = false
@@ -48,23 +52,42 @@ abbrev pub group_element : GroupType → List ℕ → ℕ → ℕ → ℕ
 group_element g file first i = element (width_bytes g.width) (group_of file first g.emul) i
 
 -- element i of the second operand: of vs1; or the low bits of x[rs1], or of the immediate, for each i
-abbrev pub second_element : GroupType → BinaryOp → Source → List ℕ → Scalar → ℕ → ℕ
-second_element g op (source.V vs1) file x i = group_element g file vs1 i
-second_element g op (source.X rs1) file x i = read_register x rs1 % 2 ^ bits g.width
-second_element g op (source.I imm) file x i = immediate_value op imm % 2 ^ bits g.width
+abbrev pub second_element : GroupType → Bool → Source → List ℕ → Scalar → ℕ → ℕ
+second_element g unsigned (source.V vs1) file x i = group_element g file vs1 i
+second_element g unsigned (source.X rs1) file x i = read_register x rs1 % 2 ^ bits g.width
+second_element g unsigned (source.I imm) file x i = immediate_value unsigned imm % 2 ^ bits g.width
 
--- element i of the result
-abbrev pub binary_element : GroupType → BinaryOp → ℕ → Source → List ℕ → Scalar → ℕ → ℕ
-binary_element g op vs2 source file x i =
-    wrap g.width (formula op g.width (group_element g file vs2 i) (second_element g op source file x i))
+-- ---- the result at element i, by the registers that an instruction finds
 
--- the bytes of a destination with results where its elements are active; the flags say which others become all ones
-unfoldable pub with_results : Width → Body → Bool → Bool → (ℕ → ℕ) → List ℕ → List ℕ
-with_results width body fill_masked_off fill_tail result old =
-    written (width_bytes width) (is_changed body fill_masked_off fill_tail) (result_or_ones body result (ones width)) old
+abbrev pub binary_result : GroupType → BinaryOp → ℕ → Source → List ℕ → Scalar → ℕ → ℕ
+binary_result g op vs2 source file x i =
+    wrap g.width (formula op g.width (group_element g file vs2 i) (second_element g (has_unsigned_immediate op) source file x i))
 
--- the vector registers after an operation of one width
-unfoldable pub binary_file : GroupType → BinaryOp → ℕ → ℕ → Source → Body → Bool → Bool → List ℕ → Scalar → List ℕ
-binary_file g op vd vs2 source body fill_masked_off fill_tail file x =
+abbrev pub multiply_add_result : GroupType → MultiplyAddOp → ℕ → ℕ → Source → List ℕ → Scalar → ℕ → ℕ
+multiply_add_result g op vd vs2 source file x i =
+    wrap g.width (multiply_add_formula op (group_element g file vs2 i) (second_element g false source file x i) (group_element g file vd i))
+
+abbrev pub carry_result : GroupType → CarryOp → ℕ → Source → List ℕ → Scalar → ℕ → ℕ
+carry_result g op vs2 source file x i =
+    wrap g.width (carry_formula op (group_element g file vs2 i) (second_element g false source file x i) (mask_bit (register_of file 0) i))
+
+abbrev pub compare_result : GroupType → CompareOp → ℕ → Source → List ℕ → Scalar → ℕ → Bool
+compare_result g op vs2 source file x i =
+    compare_formula op g.width (group_element g file vs2 i) (second_element g false source file x i)
+
+-- a carry comes in from v0 where the instruction says so
+abbrev pub carry_out_result : GroupType → CarryOutOp → Bool → ℕ → Source → List ℕ → Scalar → ℕ → Bool
+carry_out_result g op alone vs2 source file x i =
+    carry_out_formula op g.width (group_element g file vs2 i) (second_element g false source file x i) (not alone && mask_bit (register_of file 0) i)
+
+-- ---- the vector registers with results
+
+-- in the active elements of the group from vd; the flags say which others become all ones
+unfoldable pub with_results : GroupType → ℕ → Body → Bool → Bool → (ℕ → ℕ) → List ℕ → List ℕ
+with_results g vd body fill_masked_off fill_tail result file =
     with_group file vd
-    (with_results g.width body fill_masked_off fill_tail (binary_element g op vs2 source file x) (group_of file vd g.emul))
+    (written (width_bytes g.width) (is_changed body fill_masked_off fill_tail) (result_or_ones body result (ones g.width)) (group_of file vd g.emul))
+
+-- in the active bits of the mask in vd, which is one register; no other bit changes
+unfoldable pub with_mask_results : ℕ → Body → (ℕ → Bool) → List ℕ → List ℕ
+with_mask_results vd body bit file = with_group file vd (written_bits (is_active body) bit (group_of file vd 8))

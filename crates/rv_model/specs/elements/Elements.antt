@@ -1,6 +1,7 @@
 -- Elements and mask bits of vector registers, and the sets of elements that an instruction changes ("V" Vector Extension
 -- 1.0, sections 3.4.3, 4.1, 4.5, 5.3 and 5.4). A list of bytes holds element 0 first, each with its least byte first.
-use Rattle.std.specs.Prelude.{ℕ, ◌*◌, ◌/◌, ◌%◌, ◌^◌, ◌==◌, ◌&&◌, ◌||◌, nat_le, nat_lt, Bool, List, slice_index, if◌then◌else◌}
+use Rattle.std.specs.Prelude.{ℕ, ◌+◌, ◌*◌, ◌/◌, ◌%◌, ◌^◌, ◌==◌, ◌&&◌, ◌||◌, ◌≤◌, nat_le, nat_lt, Bool, List, length, slice_index, if◌then◌else◌}
+use Rattle.std.specs.Int.{from_bool}
 use Rattle.std.specs.Simd.Lanes.{chunk}
 use lib.Lanes.{number_l}
 
@@ -8,9 +9,19 @@ use lib.Lanes.{number_l}
 abbrev pub element : ℕ → List ℕ → ℕ → ℕ
 element k bytes i = number_l 256 (chunk (k * i) k bytes)
 
+-- a list of bytes goes on to the end of element i
+abbrev pub HasElement : ℕ → List ℕ → ℕ → Type 0
+HasElement k bytes i = k * i + k ≤ length bytes
+
 -- bit i of a list of bytes, the low bits first
 abbrev pub mask_bit : List ℕ → ℕ → Bool
 mask_bit bytes i = slice_index bytes (i / 8) / 2 ^ (i % 8) % 2 == 1
+
+-- the byte with these bits, the low bits first
+abbrev pub byte_of : (ℕ → Bool) → ℕ
+byte_of bit =
+    from_bool (bit 0) + 2 * from_bool (bit 1) + 4 * from_bool (bit 2) + 8 * from_bool (bit 3)
+    + 16 * from_bool (bit 4) + 32 * from_bool (bit 5) + 64 * from_bool (bit 6) + 128 * from_bool (bit 7)
 
 -- the indices from one up to another
 abbrev pub in_range : ℕ → ℕ → ℕ → Bool

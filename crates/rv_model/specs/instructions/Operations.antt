@@ -13,6 +13,8 @@ use Rattle.rv_model.specs.declared.instructions.operations.VectorOp.{VectorOp}
 use Rattle.rv_model.specs.declared.instructions.operations.VectorOp.TheVariants as vector_op
 use Rattle.rv_model.specs.declared.instructions.operations.BinaryOp.{BinaryOp}
 use Rattle.rv_model.specs.declared.instructions.operations.BinaryOp.TheVariants as binary
+use Rattle.rv_model.specs.declared.instructions.operations.CarryOutOp.{CarryOutOp}
+use Rattle.rv_model.specs.declared.instructions.operations.CarryOutOp.TheVariants as carry_out
 use Rattle.rv_model.specs.declared.instructions.operations.CompareOp.{CompareOp}
 use Rattle.rv_model.specs.declared.instructions.operations.CompareOp.TheVariants as compare
 use Rattle.rv_model.specs.declared.instructions.operations.FixedPointOp.{FixedPointOp}
@@ -23,6 +25,8 @@ use Rattle.rv_model.specs.declared.instructions.operations.WidenOp.{WidenOp}
 use Rattle.rv_model.specs.declared.instructions.operations.WidenOp.TheVariants as widen
 use Rattle.rv_model.specs.declared.instructions.operations.MultiplyAddOp.{MultiplyAddOp}
 use Rattle.rv_model.specs.declared.instructions.operations.MultiplyAddOp.TheVariants as multiply_add
+use Rattle.rv_model.specs.declared.instructions.operations.WidenMultiplyAddOp.{WidenMultiplyAddOp}
+use Rattle.rv_model.specs.declared.instructions.operations.WidenMultiplyAddOp.TheVariants as widen_multiply_add
 use Rattle.rv_model.specs.declared.instructions.operations.ReduceOp.{ReduceOp}
 use Rattle.rv_model.specs.declared.instructions.operations.ReduceOp.TheVariants as reduce
 use Rattle.rv_model.specs.declared.instructions.operations.PermuteOp.{PermuteOp}
@@ -82,10 +86,17 @@ binary_ops =
     binary.Vdiv ∷ binary.Vremu ∷ binary.Vrem ∷ binary.Vmulhu ∷ binary.Vmul ∷ binary.Vmulhsu ∷
     binary.Vmulh ∷ []
 
--- "Vector Integer Compare Instructions", and carries and borrows as masks
+-- "Vector Integer Add-with-Carry / Subtract-with-Borrow Instructions", carries and borrows as masks
+abbrev pub carry_out_line : CarryOutOp → Line
+carry_out_line carry_out.Vmadc = opi 0x11 Vxi  -- vmadc.vv, vmadc.vx, vmadc.vi
+carry_out_line carry_out.Vmsbc = opi 0x13 Vx  -- vmsbc.vv, vmsbc.vx
+
+-- its operations
+abbrev pub carry_out_ops : List CarryOutOp
+carry_out_ops = carry_out.Vmadc ∷ carry_out.Vmsbc ∷ []
+
+-- "Vector Integer Compare Instructions"
 abbrev pub compare_line : CompareOp → Line
-compare_line compare.Vmadc = opi 0x11 Vxi  -- vmadc.vv, vmadc.vx, vmadc.vi
-compare_line compare.Vmsbc = opi 0x13 Vx  -- vmsbc.vv, vmsbc.vx
 compare_line compare.Vmseq = opi 0x18 Vxi  -- vmseq.vv, vmseq.vx, vmseq.vi
 compare_line compare.Vmsne = opi 0x19 Vxi  -- vmsne.vv, vmsne.vx, vmsne.vi
 compare_line compare.Vmsltu = opi 0x1a Vx  -- vmsltu.vv, vmsltu.vx
@@ -98,8 +109,8 @@ compare_line compare.Vmsgt = opi 0x1f Xi  -- vmsgt.vx, vmsgt.vi
 -- its operations
 abbrev pub compare_ops : List CompareOp
 compare_ops =
-    compare.Vmadc ∷ compare.Vmsbc ∷ compare.Vmseq ∷ compare.Vmsne ∷ compare.Vmsltu ∷ compare.Vmslt ∷
-    compare.Vmsleu ∷ compare.Vmsle ∷ compare.Vmsgtu ∷ compare.Vmsgt ∷ []
+    compare.Vmseq ∷ compare.Vmsne ∷ compare.Vmsltu ∷ compare.Vmslt ∷ compare.Vmsleu ∷ compare.Vmsle ∷
+    compare.Vmsgtu ∷ compare.Vmsgt ∷ []
 
 -- "Vector Fixed-Point Arithmetic Instructions", one width
 abbrev pub fixed_point_line : FixedPointOp → Line
@@ -153,22 +164,29 @@ widen_ops =
     widen.Vwaddu ∷ widen.Vwadd ∷ widen.Vwsubu ∷ widen.Vwsub ∷ widen.VwadduW ∷ widen.VwaddW ∷ widen.VwsubuW ∷
     widen.VwsubW ∷ widen.Vwmulu ∷ widen.Vwmulsu ∷ widen.Vwmul ∷ []
 
--- "Vector Single-Width Integer Multiply-Add Instructions", "Vector Widening Integer Multiply-Add Instructions"
+-- "Vector Single-Width Integer Multiply-Add Instructions"
 abbrev pub multiply_add_line : MultiplyAddOp → Line
 multiply_add_line multiply_add.Vmadd = opm 0x29 Vx  -- vmadd.vv, vmadd.vx
 multiply_add_line multiply_add.Vnmsub = opm 0x2b Vx  -- vnmsub.vv, vnmsub.vx
 multiply_add_line multiply_add.Vmacc = opm 0x2d Vx  -- vmacc.vv, vmacc.vx
 multiply_add_line multiply_add.Vnmsac = opm 0x2f Vx  -- vnmsac.vv, vnmsac.vx
-multiply_add_line multiply_add.Vwmaccu = opm 0x3c Vx  -- vwmaccu.vv, vwmaccu.vx
-multiply_add_line multiply_add.Vwmacc = opm 0x3d Vx  -- vwmacc.vv, vwmacc.vx
-multiply_add_line multiply_add.Vwmaccus = opm 0x3e X  -- vwmaccus.vx
-multiply_add_line multiply_add.Vwmaccsu = opm 0x3f Vx  -- vwmaccsu.vv, vwmaccsu.vx
 
 -- its operations
 abbrev pub multiply_add_ops : List MultiplyAddOp
-multiply_add_ops =
-    multiply_add.Vmadd ∷ multiply_add.Vnmsub ∷ multiply_add.Vmacc ∷ multiply_add.Vnmsac ∷
-    multiply_add.Vwmaccu ∷ multiply_add.Vwmacc ∷ multiply_add.Vwmaccus ∷ multiply_add.Vwmaccsu ∷ []
+multiply_add_ops = multiply_add.Vmadd ∷ multiply_add.Vnmsub ∷ multiply_add.Vmacc ∷ multiply_add.Vnmsac ∷ []
+
+-- "Vector Widening Integer Multiply-Add Instructions"
+abbrev pub widen_multiply_add_line : WidenMultiplyAddOp → Line
+widen_multiply_add_line widen_multiply_add.Vwmaccu = opm 0x3c Vx  -- vwmaccu.vv, vwmaccu.vx
+widen_multiply_add_line widen_multiply_add.Vwmacc = opm 0x3d Vx  -- vwmacc.vv, vwmacc.vx
+widen_multiply_add_line widen_multiply_add.Vwmaccus = opm 0x3e X  -- vwmaccus.vx
+widen_multiply_add_line widen_multiply_add.Vwmaccsu = opm 0x3f Vx  -- vwmaccsu.vv, vwmaccsu.vx
+
+-- its operations
+abbrev pub widen_multiply_add_ops : List WidenMultiplyAddOp
+widen_multiply_add_ops =
+    widen_multiply_add.Vwmaccu ∷ widen_multiply_add.Vwmacc ∷ widen_multiply_add.Vwmaccus ∷
+    widen_multiply_add.Vwmaccsu ∷ []
 
 -- "Vector Reduction Operations"
 abbrev pub reduce_line : ReduceOp → Line
@@ -217,11 +235,13 @@ carry_ops = carry.Vadc ∷ carry.Vsbc ∷ carry.Vmerge ∷ []
 -- the line of an operation
 abbrev pub line : VectorOp → Line
 line (vector_op.Binary op) = binary_line op
+line (vector_op.CarryOut op) = carry_out_line op
 line (vector_op.Compare op) = compare_line op
 line (vector_op.FixedPoint op) = fixed_point_line op
 line (vector_op.Narrow op) = narrow_line op
 line (vector_op.Widen op) = widen_line op
 line (vector_op.MultiplyAdd op) = multiply_add_line op
+line (vector_op.WidenMultiplyAdd op) = widen_multiply_add_line op
 line (vector_op.Reduce op) = reduce_line op
 line (vector_op.Permute op) = permute_line op
 
@@ -229,11 +249,13 @@ line (vector_op.Permute op) = permute_line op
 abbrev pub vector_ops : List VectorOp
 vector_ops =
     map vector_op.Binary binary_ops
+    ++ map vector_op.CarryOut carry_out_ops
     ++ map vector_op.Compare compare_ops
     ++ map vector_op.FixedPoint fixed_point_ops
     ++ map vector_op.Narrow narrow_ops
     ++ map vector_op.Widen widen_ops
     ++ map vector_op.MultiplyAdd multiply_add_ops
+    ++ map vector_op.WidenMultiplyAdd widen_multiply_add_ops
     ++ map vector_op.Reduce reduce_ops
     ++ map vector_op.Permute permute_ops
 

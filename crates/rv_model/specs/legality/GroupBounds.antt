@@ -1,8 +1,10 @@
 -- Groups that end inside the list of all vector registers ("V" Vector Extension 1.0, section 3.2).
-use Rattle.std.specs.Prelude.{ℕ, ◌+◌, ◌≤◌, ⊤}
+use Rattle.std.specs.Prelude.{ℕ, ◌+◌, ◌*◌, ◌≤◌, ◌≡◌, ⊤}
+use Rattle.std.specs.Int.{Width}
 use Rattle.rv_model.specs.declared.instructions.source.Source.{Source}
 use Rattle.rv_model.specs.declared.instructions.source.Source.TheVariants as source
-use Rattle.rv_model.specs.declared.vector.sizes.TheConstants.{VECTOR_REGISTERS}
+use Rattle.rv_model.specs.declared.vector.sizes.TheConstants.{GROUP_BYTES, VECTOR_REGISTERS, VLENB}
+use Rattle.rv_model.specs.vector.Configuration.{width_bytes}
 use Rattle.rv_model.specs.vector.Registers.{registers}
 
 -- a group of this multiplier, in eighths of a register
@@ -14,3 +16,12 @@ abbrev pub SourceIsInside : Source → ℕ → Type 0
 SourceIsInside (source.V vs1) emul = IsInside vs1 emul
 SourceIsInside (source.X rs1) emul = ⊤
 SourceIsInside (source.I imm) emul = ⊤
+
+-- groups of this multiplier have so many elements of this width in their registers, and the elements before the end of the
+-- body are among them
+pub record HoldsBody (width : Width) (emul count end : ℕ) : Type 0 where
+  pub most : emul ≤ 64
+  pub room : width_bytes width * end ≤ VLENB * registers emul
+  pub least : end ≤ GROUP_BYTES
+  pub whole : VLENB * registers emul ≡ width_bytes width * count
+  pub size : count ≤ GROUP_BYTES

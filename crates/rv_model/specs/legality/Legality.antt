@@ -18,7 +18,7 @@ use Rattle.rv_model.specs.declared.instructions.operations.RegisterCount.TheVari
 use Rattle.rv_model.specs.declared.instructions.operations.UnitOp.{UnitOp}
 use Rattle.rv_model.specs.declared.instructions.operations.UnitOp.TheVariants as unit
 use Rattle.rv_model.specs.declared.instructions.operations.VectorOp.{VectorOp}
-use Rattle.rv_model.specs.declared.instructions.operations.VectorOp.TheVariants.{Binary, Compare, FixedPoint, Narrow, Widen, MultiplyAdd, Reduce, Permute}
+use Rattle.rv_model.specs.declared.instructions.operations.VectorOp.TheVariants.{Binary, CarryOut, Compare, FixedPoint, Narrow, Widen, MultiplyAdd, WidenMultiplyAdd, Reduce, Permute}
 use Rattle.rv_model.specs.declared.instructions.operations.Width.{Width}
 use Rattle.rv_model.specs.declared.instructions.source.Source.{Source}
 use Rattle.rv_model.specs.declared.legality.Operand.{Operand}
@@ -149,11 +149,13 @@ operands (MaskMemory d vd rs1) t = under t (λ t. mask (data_role d) vd ∷ [])
 -- reductions
 abbrev pub is_reduction : VectorOp → Bool
 is_reduction (Binary o) = false
+is_reduction (CarryOut o) = false
 is_reduction (Compare o) = false
 is_reduction (FixedPoint o) = false
 is_reduction (Narrow o) = false
 is_reduction (Widen o) = false
 is_reduction (MultiplyAdd o) = false
+is_reduction (WidenMultiplyAdd o) = false
 is_reduction (Reduce o) = true
 is_reduction (Permute o) = false
 
@@ -180,11 +182,13 @@ is_fractional_product _ = false
 -- operations that there are for SEW below 64 alone
 abbrev pub is_narrow_only : VectorOp → Bool
 is_narrow_only (Binary o) = has_wide_product o
+is_narrow_only (CarryOut o) = false
 is_narrow_only (Compare o) = false
 is_narrow_only (FixedPoint o) = is_fractional_product o
 is_narrow_only (Narrow o) = false
 is_narrow_only (Widen o) = false
 is_narrow_only (MultiplyAdd o) = false
+is_narrow_only (WidenMultiplyAdd o) = false
 is_narrow_only (Reduce o) = false
 is_narrow_only (Permute o) = false
 

@@ -5,8 +5,6 @@ use Rattle.rv_model.specs.declared.instructions.operations.VectorOp.{VectorOp}
 use Rattle.rv_model.specs.declared.instructions.operations.VectorOp.TheVariants as op
 use Rattle.rv_model.specs.declared.instructions.operations.WidenOp.{WidenOp}
 use Rattle.rv_model.specs.declared.instructions.operations.WidenOp.TheVariants.{Vwaddu, Vwadd, Vwsubu, Vwsub, VwadduW, VwaddW, VwsubuW, VwsubW, Vwmulu, Vwmulsu, Vwmul}
-use Rattle.rv_model.specs.declared.instructions.operations.MultiplyAddOp.{MultiplyAddOp}
-use Rattle.rv_model.specs.declared.instructions.operations.MultiplyAddOp.TheVariants.{Vmadd, Vnmsub, Vmacc, Vnmsac, Vwmaccu, Vwmacc, Vwmaccus, Vwmaccsu}
 use Rattle.rv_model.specs.declared.instructions.operations.ReduceOp.{ReduceOp}
 use Rattle.rv_model.specs.declared.instructions.operations.ReduceOp.TheVariants.{Vredsum, Vredand, Vredor, Vredxor, Vredminu, Vredmin, Vredmaxu, Vredmax, Vwredsumu, Vwredsum}
 use Rattle.rv_model.specs.declared.instructions.operations.PermuteOp.{PermuteOp}
@@ -63,16 +61,6 @@ widen_shape Vwmulu = Widening
 widen_shape Vwmulsu = Widening
 widen_shape Vwmul = Widening
 
-abbrev pub multiply_add_shape : MultiplyAddOp → Shape
-multiply_add_shape Vmadd = Single
-multiply_add_shape Vnmsub = Single
-multiply_add_shape Vmacc = Single
-multiply_add_shape Vnmsac = Single
-multiply_add_shape Vwmaccu = Widening
-multiply_add_shape Vwmacc = Widening
-multiply_add_shape Vwmaccus = Widening
-multiply_add_shape Vwmaccsu = Widening
-
 abbrev pub reduce_shape : ReduceOp → Shape
 reduce_shape Vredsum = Reduction
 reduce_shape Vredand = Reduction
@@ -96,11 +84,13 @@ permute_shape Vslide1down = Single
 -- the shape of an operation
 abbrev pub shape_of : VectorOp → Shape
 shape_of (op.Binary o) = Single
+shape_of (op.CarryOut o) = Compare
 shape_of (op.Compare o) = Compare
 shape_of (op.FixedPoint o) = Single
 shape_of (op.Narrow o) = Narrowing
 shape_of (op.Widen o) = widen_shape o
-shape_of (op.MultiplyAdd o) = multiply_add_shape o
+shape_of (op.MultiplyAdd o) = Single
+shape_of (op.WidenMultiplyAdd o) = Widening
 shape_of (op.Reduce o) = reduce_shape o
 shape_of (op.Permute o) = permute_shape o
 

@@ -2,9 +2,9 @@
 use Rattle.std.specs.Prelude.{ℕ, ◌==◌, Bool, true, false, List, Option, Some, None, if◌then◌else◌}
 use Rattle.rv_model.specs.declared.instructions.instruction.Instr.{Instr}
 use Rattle.rv_model.specs.declared.instructions.instruction.Instr.TheVariants.{Upper, Jump, JumpRegister, Branch, Load, Store, RegisterImmediate, ShiftImmediate, ShiftImmediateWord, RegisterRegister, Fence, System, Csr, CsrImmediate, SetVli, SetIvli, SetVl, VectorArith, VectorCarry, VectorMove, WholeMove, MaskLogic, Compress, MaskToScalar, VectorExtend, MaskUnary, ElementIndex, MoveToScalar, MoveToVector, VectorUnit, VectorStrided, VectorIndexed, WholeLoad, WholeStore, MaskMemory}
-use Rattle.rv_model.specs.declared.instructions.operations.BinaryOp.{BinaryOp}
+use Rattle.rv_model.specs.declared.instructions.operations.CarryOp.{CarryOp}
 use Rattle.rv_model.specs.declared.instructions.operations.VectorOp.{VectorOp}
-use Rattle.rv_model.specs.declared.instructions.operations.VectorOp.TheVariants.{Binary}
+use Rattle.rv_model.specs.declared.instructions.operations.VectorOp.TheVariants.{Binary, CarryOut, Compare, FixedPoint, Narrow, Widen, MultiplyAdd, WidenMultiplyAdd, Reduce, Permute}
 use Rattle.rv_model.specs.declared.scalar.Scalar.{Scalar}
 use Rattle.rv_model.specs.declared.instructions.source.Source.{Source}
 use Rattle.rv_model.specs.declared.step.step_end.Cause.{Cause}
@@ -18,9 +18,8 @@ use Rattle.rv_model.specs.declared.vector.types.VType.{VType}
 use Rattle.rv_model.specs.step.Hart.{HartState, Stepped, ends_after, faults}
 use Rattle.rv_model.specs.legality.Legality.{is_legal}
 use Rattle.rv_model.specs.scalar.Registers.{advanced, read_register, with_register}
-use Rattle.rv_model.specs.elements.Arithmetic.{binary_file, body_of, fills_masked_off, fills_tail, group_type}
+use Rattle.rv_model.specs.elements.Arithmetic.{GroupType, binary_result, body_of, carry_out_result, carry_result, compare_result, fills_masked_off, fills_tail, group_type, multiply_add_result, second_element, with_mask_results, with_results}
 use Rattle.rv_model.specs.vector.Configuration.{Configuration}
-use Rattle.rv_model.specs.elements.Formulas.{is_carried_out}
 use Rattle.rv_model.specs.vector.TypeRules.{requested}
 
 -- whether an instruction is one of the vector extension; those of control registers are not
@@ -85,30 +84,62 @@ configures rd new s =
 abbrev pub vset_step : ℕ → ℕ → RequestedLength → HartState → VectorStepped
 vset_step rd vtype length s = configures rd (requested s.vector.conf (record { vtype = vtype; length = length })) s
 
--- the vector registers become these, and the next instruction begins with the first element
-abbrev pub leaves_registers : List ℕ → HartState → VectorStepped
-leaves_registers file s = vector_ends vector_end.Done (record s { vector = record s.vector { file = file; vstart = 0 } })
+-- the vector registers and vxsat become these, and the next instruction begins with the first element
+abbrev pub leaves : List ℕ → Bool → HartState → VectorStepped
+leaves file vxsat s =
+    vector_ends vector_end.Done (record s { vector = record s.vector { file = file; vxsat = vxsat; vstart = 0 } })
 
--- an operation of one width
-abbrev pub binary_step : VType → BinaryOp → Source → ℕ → ℕ → Bool → HartState → VectorStepped
-binary_step t op source vd vs2 vm s =
-    if is_carried_out op then leaves_registers
-    (let body = body_of vm s.vector in
-    binary_file (group_type t) op vd vs2 source body (fills_masked_off s.policy t body) (fills_tail s.policy t body) s.vector.file s.scalar) s
-    else vector_ends vector_end.Illegal s
+-- an instruction whose results stand in a group of elements
+abbrev pub element_wise : VType → GroupType → ℕ → Bool → (ℕ → ℕ) → HartState → VectorStepped
+element_wise t g vd unmasked result s =
+    let body = body_of unmasked s.vector in
+    leaves (with_results g vd body (fills_masked_off s.policy t body) (fills_tail s.policy t body) result s.vector.file) s.vector.vxsat s
 
--- an operation with a line of its own in the manual's table
-abbrev pub arith_step : Option VType → VectorOp → Source → ℕ → ℕ → Bool → HartState → VectorStepped
-arith_step None op source vd vs2 vm s = vector_ends vector_end.Illegal s
-arith_step (Some t) (Binary op) source vd vs2 vm s = binary_step t op source vd vs2 vm s
-arith_step (Some t) op source vd vs2 vm s = vector_ends vector_end.Illegal s
+-- an instruction whose results stand in a mask; whatever the policy is, no other bit of it changes
+abbrev pub mask_wise : ℕ → Bool → (ℕ → Bool) → HartState → VectorStepped
+mask_wise vd unmasked bit s = leaves (with_mask_results vd (body_of unmasked s.vector) bit s.vector.file) s.vector.vxsat s
+
+-- an operation with a line of its own in the manual's table, by the groups' type. Carries and borrows are written for the
+-- whole body.
+abbrev pub arith_step : VType → VectorOp → Source → ℕ → ℕ → Bool → HartState → VectorStepped
+arith_step t (Binary op) source vd vs2 vm s =
+    element_wise t (group_type t) vd vm (binary_result (group_type t) op vs2 source s.vector.file s.scalar) s
+arith_step t (MultiplyAdd op) source vd vs2 vm s =
+    element_wise t (group_type t) vd vm (multiply_add_result (group_type t) op vd vs2 source s.vector.file s.scalar) s
+arith_step t (Compare op) source vd vs2 vm s =
+    mask_wise vd vm (compare_result (group_type t) op vs2 source s.vector.file s.scalar) s
+arith_step t (CarryOut op) source vd vs2 vm s =
+    mask_wise vd true (carry_out_result (group_type t) op vm vs2 source s.vector.file s.scalar) s
+arith_step t (FixedPoint op) source vd vs2 vm s = vector_ends vector_end.Illegal s
+arith_step t (Narrow op) source vd vs2 vm s = vector_ends vector_end.Illegal s
+arith_step t (Widen op) source vd vs2 vm s = vector_ends vector_end.Illegal s
+arith_step t (WidenMultiplyAdd op) source vd vs2 vm s = vector_ends vector_end.Illegal s
+arith_step t (Reduce op) source vd vs2 vm s = vector_ends vector_end.Illegal s
+arith_step t (Permute op) source vd vs2 vm s = vector_ends vector_end.Illegal s
+
+-- an operation with v0 as an operand, of the whole body
+abbrev pub carry_step : VType → CarryOp → Source → ℕ → ℕ → HartState → VectorStepped
+carry_step t op source vd vs2 s =
+    element_wise t (group_type t) vd true (carry_result (group_type t) op vs2 source s.vector.file s.scalar) s
+
+-- vmv.v.v and the like
+abbrev pub move_step : VType → Source → ℕ → HartState → VectorStepped
+move_step t source vd s =
+    element_wise t (group_type t) vd true (second_element (group_type t) false source s.vector.file s.scalar) s
+
+-- an instruction that needs a vector type
+abbrev pub typed : Option VType → (VType → HartState → VectorStepped) → HartState → VectorStepped
+typed None step s = vector_ends vector_end.Illegal s
+typed (Some t) step s = step t s
 
 -- a legal vector instruction, by the ticks that are left; those that aren't carried out yet are illegal
 unfoldable pub performed : ℕ → Instr → HartState → VectorStepped
 performed limit (SetVli rd rs1 vtype) s = vset_step rd vtype (requested_length rd rs1 s.scalar) s
 performed limit (SetIvli rd avl vtype) s = vset_step rd vtype (Elements avl) s
 performed limit (SetVl rd rs1 rs2) s = vset_step rd (read_register s.scalar rs2) (requested_length rd rs1 s.scalar) s
-performed limit (VectorArith arith vd vs2 vm) s = arith_step s.vector.conf.vtype arith.0 arith.1 vd vs2 vm s
+performed limit (VectorArith arith vd vs2 vm) s = typed s.vector.conf.vtype (λ t. arith_step t arith.0 arith.1 vd vs2 vm) s
+performed limit (VectorCarry carry vd vs2) s = typed s.vector.conf.vtype (λ t. carry_step t carry.0 carry.1 vd vs2) s
+performed limit (VectorMove source vd) s = typed s.vector.conf.vtype (λ t. move_step t source vd) s
 performed limit _ s = vector_ends vector_end.Illegal s
 
 -- a vector instruction, by the ticks that are left: an illegal one changes nothing

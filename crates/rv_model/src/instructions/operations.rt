@@ -154,13 +154,17 @@ pub enum BinaryOp {
     Vmulh,
 }
 
-/// Operations whose result is a mask: comparisons, carries and borrows (V extension, "Vector
-/// Integer Compare Instructions" and "Vector Integer Add-with-Carry / Subtract-with-Borrow
-/// Instructions").
+/// Carries of sums and borrows of differences, as masks (V extension, "Vector Integer Add-with-Carry /
+/// Subtract-with-Borrow Instructions").
 #[derive(Clone, Copy)]
-pub enum CompareOp {
+pub enum CarryOutOp {
     Vmadc,
     Vmsbc,
+}
+
+/// Comparisons, whose result is a mask (V extension, "Vector Integer Compare Instructions").
+#[derive(Clone, Copy)]
+pub enum CompareOp {
     Vmseq,
     Vmsne,
     Vmsltu,
@@ -217,13 +221,19 @@ pub enum WidenOp {
 }
 
 /// Products added to a third operand (V extension, "Vector Single-Width Integer Multiply-Add
-/// Instructions" and "Vector Widening Integer Multiply-Add Instructions").
+/// Instructions").
 #[derive(Clone, Copy)]
 pub enum MultiplyAddOp {
     Vmadd,
     Vnmsub,
     Vmacc,
     Vnmsac,
+}
+
+/// Products of twice the width, added to a third operand (V extension, "Vector Widening Integer
+/// Multiply-Add Instructions").
+#[derive(Clone, Copy)]
+pub enum WidenMultiplyAddOp {
     Vwmaccu,
     Vwmacc,
     Vwmaccus,
@@ -261,11 +271,13 @@ pub enum PermuteOp {
 #[derive(Clone, Copy)]
 pub enum VectorOp {
     Binary(BinaryOp),
+    CarryOut(CarryOutOp),
     Compare(CompareOp),
     FixedPoint(FixedPointOp),
     Narrow(NarrowOp),
     Widen(WidenOp),
     MultiplyAdd(MultiplyAddOp),
+    WidenMultiplyAdd(WidenMultiplyAddOp),
     Reduce(ReduceOp),
     Permute(PermuteOp),
 }

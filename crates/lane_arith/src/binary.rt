@@ -1,0 +1,28 @@
+//! Operations of one width on two operands ("V" Vector Extension 1.0, chapter 11).
+ghost use Rattle.std.specs.Prelude.{◌≡◌, ℕ};
+ghost use Rattle.rv_model.specs.elements.Elements.{HasElement, element};
+ghost use Rattle.rv_model.specs.elements.Formulas.{formula, wrap};
+ghost use Rattle.rv_model.specs.vector.Configuration.{width_bytes};
+
+use crate::lane::Lane;
+use crate::operations::apply;
+use crate::results::Results;
+use rv_model::instructions::operations::BinaryOp;
+
+/// An operation on the elements of `a`, those of vs2, and of `b`, those of the second operand.
+#[derive(Clone, Copy)]
+pub struct Binary<'a> {
+    pub op: BinaryOp,
+    pub a: &'a [u8],
+    pub b: &'a [u8],
+}
+
+impl<'a, L: Lane> Results<L> for Binary<'a> {
+    ghost number = { λ r i. wrap L.width (formula r.op L.width (element (width_bytes L.width) r.a.now i) (element (width_bytes L.width) r.b.now i)) };
+
+    ghost has = { λ r i. HasElement (width_bytes L.width) r.a.now i × HasElement (width_bytes L.width) r.b.now i };
+
+    fn result(&self, index: usize) -> L {
+        apply(self.op, L::load(self.a, index), L::load(self.b, index))
+    }
+}

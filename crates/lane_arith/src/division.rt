@@ -1,0 +1,89 @@
+//! Quotients and remainders of elements ("V" Vector Extension 1.0, section 11.11): no division traps.
+ghost use Rattle.std.specs.Prelude.{◌≡◌, ◌%◌, ◌^◌, ◌<◌, int_div, int_rem};
+ghost use Rattle.std.specs.Int.{cast_signed, cast_unsigned};
+ghost use Rattle.rv_model.specs.declared.instructions.operations.BinaryOp.TheVariants.{Vdiv, Vdivu, Vrem, Vremu};
+ghost use Rattle.rv_model.specs.elements.Formulas.{formula, wrap};
+ghost use Rattle.rv_model.specs.scalar.Arithmetic.{overflows};
+ghost use mir.Val.{bits};
+
+use crate::lane::Lane;
+
+/// The unsigned quotient; all ones for a divisor of zero.
+pub(crate) fn quotient<L: Lane>(a: L, b: L) -> L
+    ensures { L.value result ≡ wrap L.width (formula Vdivu L.width (L.value a) (L.value b)) }
+{
+    match a.number().checked_div(b.number()) {
+        Some(quotient) => L::low_bits(quotient),
+        None => L::all_ones(),
+    }
+}
+
+/// The unsigned remainder; the dividend for a divisor of zero.
+pub(crate) fn remainder<L: Lane>(a: L, b: L) -> L
+    ensures { L.value result ≡ wrap L.width (formula Vremu L.width (L.value a) (L.value b)) }
+{
+    match a.number().checked_rem(b.number()) {
+        Some(remainder) => L::low_bits(remainder),
+        None => a,
+    }
+}
+
+/// Whether the least number is divided by -1.
+fn overflows<L: Lane>(a: L, b: L) -> bool
+    ensures { result ≡ overflows L.width (L.value a) (L.value b) }
+{
+    a.number() == 1 << (L::bits() - 1) && b.number() == L::all_ones().number()
+}
+
+/// The signed quotient by a number that isn't zero, where it fits.
+fn divided<L: Lane>(a: L, b: L) -> L
+    requires { 0 < L.value b }
+    ensures { L.value result ≡ cast_unsigned L.width (int_div (cast_signed L.width (L.value a)) (cast_signed L.width (L.value b)))
+        % 2 ^ bits L.width }
+{
+    L::low_bits(
+        a.signed_number()
+            .wrapping_div(b.signed_number())
+            .cast_unsigned(),
+    )
+}
+
+/// The signed quotient; all ones for a divisor of zero, and the dividend at an overflow.
+pub(crate) fn signed_quotient<L: Lane>(a: L, b: L) -> L
+    ensures { L.value result ≡ wrap L.width (formula Vdiv L.width (L.value a) (L.value b)) }
+{
+    if b.number() == 0 {
+        L::all_ones()
+    } else if overflows(a, b) {
+        L::low_bits(a.number())
+    } else {
+        divided(a, b)
+    }
+}
+
+/// The remainder of a signed division by a number that isn't zero.
+#[tactic(auto, using(rv_model::proofs::element_lemmas::Numbers::low_remainder))]
+fn left_over<L: Lane>(a: L, b: L) -> L
+    requires { 0 < L.value b }
+    ensures { L.value result ≡ cast_unsigned L.width (int_rem (cast_signed L.width (L.value a)) (cast_signed L.width (L.value b)))
+        % 2 ^ bits L.width }
+{
+    L::low_bits(
+        a.signed_number()
+            .wrapping_rem(b.signed_number())
+            .cast_unsigned(),
+    )
+}
+
+/// The signed remainder; the dividend for a divisor of zero, and zero at an overflow.
+pub(crate) fn signed_remainder<L: Lane>(a: L, b: L) -> L
+    ensures { L.value result ≡ wrap L.width (formula Vrem L.width (L.value a) (L.value b)) }
+{
+    if b.number() == 0 {
+        L::low_bits(a.number())
+    } else if overflows(a, b) {
+        L::low_bits(0)
+    } else {
+        left_over(a, b)
+    }
+}

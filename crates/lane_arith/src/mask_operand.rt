@@ -1,0 +1,63 @@
+//! Operations with v0 as an operand ("V" Vector Extension 1.0, sections 11.4 and 11.15).
+ghost use Rattle.std.specs.Prelude.{◌≡◌, ◌<◌, ℕ};
+ghost use Rattle.rv_model.specs.declared.vector.sizes.TheConstants.{GROUP_BYTES};
+ghost use Rattle.rv_model.specs.elements.Elements.{HasElement, element, mask_bit};
+ghost use Rattle.rv_model.specs.elements.Formulas.{carry_formula, wrap};
+ghost use Rattle.rv_model.specs.vector.Configuration.{width_bytes};
+
+use crate::lane::Lane;
+use crate::results::Results;
+use rv_model::instructions::operations::CarryOp;
+use rv_model::{GROUP_BYTES, VLENB};
+
+/// An operation on the elements of `a`, those of vs2, of `b`, those of the second operand, and on the
+/// bits of v0.
+#[derive(Clone, Copy)]
+pub struct WithMaskOperand<'a> {
+    pub op: CarryOp,
+    pub a: &'a [u8],
+    pub b: &'a [u8],
+    pub v0: &'a [u8; VLENB],
+}
+
+/// A bit of v0.
+pub(crate) fn bit_of(v0: &[u8; VLENB], index: usize) -> bool
+    requires { index < GROUP_BYTES }
+    ensures { result ≡ mask_bit v0.now index }
+{
+    v0[index / 8] >> (index % 8) & 1 == 1
+}
+
+/// One element of the result; `c` is the bit of v0.
+fn apply<L: Lane>(op: CarryOp, a: L, b: L, c: bool) -> L
+    ensures { L.value result ≡ wrap L.width (carry_formula op (L.value a) (L.value b) c) }
+{
+    let (a, b) = (a.number(), b.number());
+    L::low_bits(match op {
+        CarryOp::Vadc => a.wrapping_add(b).wrapping_add(u64::from(c)),
+        CarryOp::Vsbc => a.wrapping_sub(b).wrapping_sub(u64::from(c)),
+        CarryOp::Vmerge => {
+            if c {
+                b
+            } else {
+                a
+            }
+        }
+    })
+}
+
+impl<'a, L: Lane> Results<L> for WithMaskOperand<'a> {
+    ghost number = { λ r i. wrap L.width (carry_formula r.op (element (width_bytes L.width) r.a.now i)
+        (element (width_bytes L.width) r.b.now i) (mask_bit r.v0.now i)) };
+
+    ghost has = { λ r i. (i < GROUP_BYTES) × HasElement (width_bytes L.width) r.a.now i × HasElement (width_bytes L.width) r.b.now i };
+
+    fn result(&self, index: usize) -> L {
+        apply(
+            self.op,
+            L::load(self.a, index),
+            L::load(self.b, index),
+            bit_of(self.v0, index),
+        )
+    }
+}

@@ -1,0 +1,49 @@
+//! Products that a third operand is added to ("V" Vector Extension 1.0, section 11.13).
+ghost use Rattle.std.specs.Prelude.{◌≡◌, ℕ};
+ghost use Rattle.rv_model.specs.elements.Elements.{HasElement, element};
+ghost use Rattle.rv_model.specs.elements.Formulas.{multiply_add_formula, wrap};
+ghost use Rattle.rv_model.specs.vector.Configuration.{width_bytes};
+
+use crate::lane::Lane;
+use crate::results::Results;
+use rv_model::instructions::operations::MultiplyAddOp;
+
+/// An operation on the elements of `a`, those of vs2, of `b`, those of the second operand, and of `d`,
+/// those that vd had.
+#[derive(Clone, Copy)]
+pub struct MultiplyAdd<'a> {
+    pub op: MultiplyAddOp,
+    pub a: &'a [u8],
+    pub b: &'a [u8],
+    pub d: &'a [u8],
+}
+
+/// One element of the result.
+fn apply<L: Lane>(op: MultiplyAddOp, a: L, b: L, d: L) -> L
+    ensures { L.value result ≡ wrap L.width (multiply_add_formula op (L.value a) (L.value b) (L.value d)) }
+{
+    let (a, b, d) = (a.number(), b.number(), d.number());
+    L::low_bits(match op {
+        MultiplyAddOp::Vmadd => b.wrapping_mul(d).wrapping_add(a),
+        MultiplyAddOp::Vnmsub => a.wrapping_sub(b.wrapping_mul(d)),
+        MultiplyAddOp::Vmacc => a.wrapping_mul(b).wrapping_add(d),
+        MultiplyAddOp::Vnmsac => d.wrapping_sub(a.wrapping_mul(b)),
+    })
+}
+
+impl<'a, L: Lane> Results<L> for MultiplyAdd<'a> {
+    ghost number = { λ r i. wrap L.width (multiply_add_formula r.op (element (width_bytes L.width) r.a.now i)
+        (element (width_bytes L.width) r.b.now i) (element (width_bytes L.width) r.d.now i)) };
+
+    ghost has = { λ r i. HasElement (width_bytes L.width) r.a.now i × HasElement (width_bytes L.width) r.b.now i
+        × HasElement (width_bytes L.width) r.d.now i };
+
+    fn result(&self, index: usize) -> L {
+        apply(
+            self.op,
+            L::load(self.a, index),
+            L::load(self.b, index),
+            L::load(self.d, index),
+        )
+    }
+}

@@ -1,0 +1,115 @@
+-- Laws of lists of bytes of which some bits are replaced, byte after byte.
+use Rattle.std.proofs.Common.{ℕ, zero, suc, ◌+◌, ◌*◌, ◌/◌, ◌%◌, ◌^◌, ◌<◌, ◌≤◌, ◌≡◌, List, length, get_or, set, Bool, true, false, cond, ◌==◌, nat_lt, refl, sym, ap, ◌∙◌, arith, inl, inr, lt-ltb, le-ltb, get_or-set_other, length-set, lit<, zero-add}
+use Rattle.std.specs.Int.{from_bool}
+use Rattle.std.proofs.lemmas.Bool.{cases_order}
+use Rattle.std.proofs.lemmas.Grind.{same_number_lists}
+use Rattle.std.proofs.lemmas.List.{get_or-set_same}
+use Rattle.std.proofs.lemmas.List.FromFn.{get_or-map-range_with_len, length-map-range_with_len}
+use Rattle.rv_model.specs.elements.Elements.{byte_of, mask_bit}
+use Rattle.rv_model.specs.elements.Writes.{WritesBits, bit_or, byte_with_bits, written_bits}
+
+-- ---- the bits of a byte
+
+one_bit : (n : ℕ) → from_bool (n % 2 == 1) ≡ n % 2
+one_bit n = by (n % 2) (omega arith)
+  where
+    by : (r : ℕ) → r < 2 → from_bool (r == 1) ≡ r
+    by zero h = refl
+    by (suc zero) h = refl
+    by (suc (suc r)) h = absurd (omega (arith, h))
+
+-- a byte has its own bits
+byte_of_own : (x : ℕ) → x < 256 → byte_of (λ j. x / 2 ^ j % 2 == 1) ≡ x
+byte_of_own x h =
+    rw (one_bit (x / 1), one_bit (x / 2), one_bit (x / 4), one_bit (x / 8), one_bit (x / 16), one_bit (x / 32), one_bit (x / 64), one_bit (x / 128))
+    (omega (arith, h))
+
+mask_bit_in : (bytes : List ℕ) (q j : ℕ) → j < 8 → mask_bit bytes (8 * q + j) ≡ (get_or bytes q 0 / 2 ^ j % 2 == 1)
+mask_bit_in bytes q j h =
+    let at : (8 * q + j) / 8 ≡ q = omega (arith, h) in
+    let shift : (8 * q + j) % 8 ≡ j = omega (arith, h) in
+    rw (at, shift) refl
+
+same_byte : (f g : ℕ → Bool) → ((j : ℕ) → j < 8 → f j ≡ g j) → byte_of f ≡ byte_of g
+same_byte f g same =
+    rw (same 0 (lit< tt), same 1 (lit< tt), same 2 (lit< tt), same 3 (lit< tt), same 4 (lit< tt), same 5 (lit< tt), same 6 (lit< tt), same 7 (lit< tt)) refl
+
+-- ---- one byte after another
+
+module _ (changed bit : ℕ → Bool) where
+  -- the bytes before the index q are rebuilt, all others are as they were
+  pub record RebuiltTo (q : ℕ) (old new : List ℕ) : Type 0 where
+    pub same_length : length new ≡ length old
+    pub bytes : (x : ℕ) → x < length old → get_or new x 0 ≡ cond (nat_lt x q) (byte_with_bits changed bit old x) (get_or old x 0)
+
+  pub rebuild_begins : (xs : List ℕ) → RebuiltTo 0 xs xs
+  rebuild_begins xs = record { same_length = refl; bytes = λ x h. ap (λ t. cond t (byte_with_bits changed bit xs x) (get_or xs x 0)) (sym (le-ltb x 0 (omega arith))) }
+
+  -- a byte that isn't rebuilt yet gives the same bits
+  byte_same : (q : ℕ) (old mid : List ℕ) → q < length old → RebuiltTo q old mid → byte_with_bits changed bit mid q ≡ byte_with_bits changed bit old q
+  byte_same q old mid h was =
+      let here : get_or mid q 0 ≡ get_or old q 0 = was.bytes q h ∙ ap (λ t. cond t (byte_with_bits changed bit old q) (get_or old q 0)) (le-ltb q q (omega arith)) in
+      same_byte (λ j. bit_or changed bit mid (8 * q + j)) (λ j. bit_or changed bit old (8 * q + j))
+      (λ j l. ap (cond (changed (8 * q + j)) (bit (8 * q + j))) (mask_bit_in mid q j l ∙ ap (λ x. x / 2 ^ j % 2 == 1) here ∙ sym (mask_bit_in old q j l)))
+
+  pub rebuild_step : (q : ℕ) (old mid new : List ℕ) → q < length old → RebuiltTo q old mid → new ≡ set mid q (byte_with_bits changed bit mid q) → RebuiltTo (q + 1) old new
+  rebuild_step q old mid new h was e = record {
+    same_length = rw e (length-set mid q _) ∙ was.same_length;
+    bytes = λ x l. elim (cases_order x q) [
+      | inl is ↦ rw (e, is, get_or-set_same mid q _ 0 (omega (arith, h, was.same_length)), lt-ltb q (q + 1) (omega arith)) (byte_same q old mid h was)
+      | inr (inl low) ↦
+          rw (e, get_or-set_other mid q x _ 0 (λ z. omega (arith, low, z)), lt-ltb x (q + 1) (omega (arith, low)))
+          (was.bytes x l ∙ ap (λ t. cond t (byte_with_bits changed bit old x) (get_or old x 0)) (lt-ltb x q low))
+      | inr (inr high) ↦
+          rw (e, get_or-set_other mid q x _ 0 (λ z. omega (arith, high, z)), le-ltb x (q + 1) (omega (arith, high)))
+          (was.bytes x l ∙ ap (λ t. cond t (byte_with_bits changed bit old x) (get_or old x 0)) (le-ltb x q (omega (arith, high))))
+    ];
+  }
+
+  pub rebuild_ends : (q : ℕ) (old new : List ℕ) → length old ≤ q → RebuiltTo q old new → WritesBits changed bit old new
+  rebuild_ends q old new all was = record {
+    same_length = was.same_length;
+    bytes = λ x h. was.bytes x h ∙ ap (λ t. cond t (byte_with_bits changed bit old x) (get_or old x 0)) (lt-ltb x q (omega (arith, all, h)));
+  }
+
+  -- a byte past the last bit that changes is rebuilt as it is
+  pub byte_kept : (q end : ℕ) (old : List ℕ) → get_or old q 0 < 256 → ((i : ℕ) → changed i ≡ true → i < end) → end ≤ 8 * q
+      → get_or old q 0 ≡ byte_with_bits changed bit old q
+  byte_kept q end old byte past h =
+      sym (byte_of_own (get_or old q 0) byte)
+      ∙ sym (same_byte (λ j. bit_or changed bit old (8 * q + j)) (λ j. get_or old q 0 / 2 ^ j % 2 == 1) (λ j l. kept j l (changed (8 * q + j)) refl))
+    where
+      kept : (j : ℕ) → j < 8 → (c : Bool) → changed (8 * q + j) ≡ c → cond c (bit (8 * q + j)) (mask_bit old (8 * q + j)) ≡ (get_or old q 0 / 2 ^ j % 2 == 1)
+      kept j l true e = absurd (omega (arith, past (8 * q + j) e, h))
+      kept j l false e = mask_bit_in old q j l
+
+  -- ---- the bytes that are left
+
+  pub writes_bits_are : (old new : List ℕ) → WritesBits changed bit old new → new ≡ written_bits changed bit old
+  unfolding written_bits
+  writes_bits_are old new w =
+      let f : ℕ → ℕ = byte_with_bits changed bit old in
+      same_number_lists new (written_bits changed bit old) (w.same_length ∙ sym (length-map-range_with_len f 0 (length old)))
+      (λ j h.
+      let l : j < length old = omega (arith, w.same_length, h) in
+      w.bytes j l ∙ sym (get_or-map-range_with_len f 0 (length old) j j 0 l (zero-add j)))
+
+  pub written_bits_are : (old : List ℕ) → WritesBits changed bit old (written_bits changed bit old)
+  unfolding written_bits
+  written_bits_are old =
+      let f : ℕ → ℕ = byte_with_bits changed bit old in
+      record {
+        same_length = length-map-range_with_len f 0 (length old);
+        bytes = λ q l. get_or-map-range_with_len f 0 (length old) q q 0 l (zero-add q);
+      }
+
+-- the bits may be told another way, where they tell the same of those that change
+pub same_bits : (changed told bit : ℕ → Bool) (old new : List ℕ) → ((i : ℕ) → changed i ≡ true → told i ≡ bit i) → WritesBits changed told old new → WritesBits changed bit old new
+same_bits changed told bit old new same was = record {
+  same_length = was.same_length;
+  bytes = λ q h. was.bytes q h ∙ same_byte (λ j. bit_or changed told old (8 * q + j)) (λ j. bit_or changed bit old (8 * q + j)) (λ j l. either (8 * q + j) (changed (8 * q + j)) refl);
+}
+  where
+    either : (i : ℕ) (c : Bool) → changed i ≡ c → cond c (told i) (mask_bit old i) ≡ cond c (bit i) (mask_bit old i)
+    either i true e = same i e
+    either i false e = refl

@@ -1,0 +1,107 @@
+-- Whole numbers modulo 2 to a width, by way of a wider number.
+use Rattle.std.proofs.Common.{ℕ, zero, suc, ◌+◌, ◌-◌, ◌*◌, ◌/◌, ◌%◌, ◌^◌, ◌<◌, ◌≤◌, ◌≡◌, ℤ, pos, negsuc, neg_ℤ, refl, sym, ap, ◌∙◌, arith, mod-eq_of_lt}
+use Rattle.std.specs.Int.{Width, cast_signed, cast_unsigned, int_wrapping_div, w8, w16, w32, w64, w128}
+use Rattle.std.specs.Int.Signed.{mag, mag_rem}
+use Rattle.std.proofs.Math.Facts.{sfits_to_z}
+use Rattle.std.specs.Int.RustNames.{int_div, int_rem}
+use Rattle.std.proofs.Math.Nat.{div-add-mod, div-le_self, div-lt_iff_lt-mul, mod-lt, mul-add, mul-add-mod_self_left, mul_comm, mul-suc}
+use Rattle.std.proofs.lemmas.Nat.{pow-add}
+use Rattle.std.proofs.lemmas.Int.{of_z-to_z}
+use mir.Val.{bits, hbits}
+use Rattle.rv_model.specs.elements.Formulas.{wrap}
+use Rattle.rv_model.proofs.element_lemmas.Widths.{power_positive}
+
+-- what is left of a number below a multiple
+below_multiple : (m q n : ℕ) → 0 < m → n < m * q → (m * q - suc n) % m ≡ m - suc (n % m)
+below_multiple m q n p h =
+    let a : ℕ = n / m in
+    let k : ℕ = q - suc a in
+    let small : n % m < m = mod-lt n p in
+    let less : a < q = (div-lt_iff_lt-mul p).1 (rw (mul_comm q m) h) in
+    let parts : q ≡ suc a + k = omega (arith, less) in
+    let up : m * q ≡ m * suc a + m * k = ap (λ x. m * x) parts ∙ mul-add m (suc a) k in
+    let split : m * q - suc n ≡ m * k + (m - suc (n % m)) = omega (arith, up, mul-suc m a, div-add-mod n m, small) in
+    ap (λ x. x % m) split ∙ mul-add-mod_self_left m k (m - suc (n % m)) ∙ mod-eq_of_lt (omega (arith, small))
+
+-- the low bits of a signed number of a wider type are what is left of it
+pub low_bits_of : (v w : Width) → bits w ≤ bits v → (z : ℤ) → mag z < 2 ^ bits v → cast_unsigned v z % 2 ^ bits w ≡ wrap w z
+low_bits_of v w narrow (pos n) h = refl
+low_bits_of v w narrow (negsuc n) h =
+    let e : bits v ≡ bits w + (bits v - bits w) = omega (arith, narrow) in
+    let whole : 2 ^ bits v ≡ 2 ^ bits w * 2 ^ (bits v - bits w) = ap (λ x. 2 ^ x) e ∙ pow-add 2 (bits w) (bits v - bits w) in
+    ap (λ x. (x - suc n) % 2 ^ bits w) whole ∙ below_multiple (2 ^ bits w) (2 ^ (bits v - bits w)) n (power_positive w) (rw (sym whole) h)
+
+-- ---- quotients and remainders of signed numbers
+
+mag-neg : (r c : ℕ) → r ≤ suc c → mag (neg_ℤ (pos r)) ≤ c
+mag-neg zero c h = omega arith
+mag-neg (suc r) c h = omega (arith, h)
+
+mag-read : (w : Width) (n : ℕ) → n < 2 ^ bits w → mag (cast_signed w n) < 2 ^ hbits w
+mag-read w n h = (sfits_to_z {w = w} {n = n} (record { fits = h })).sfits
+
+-- a quotient is no further from zero than the dividend
+mag-quotient : (a d : ℤ) → mag (int_div a d) ≤ suc (mag a)
+mag-quotient (pos a) (pos b) = omega (arith, div-le_self a b)
+mag-quotient (pos a) (negsuc b) = mag-neg (a / suc b) (suc a) (omega (arith, div-le_self a (suc b)))
+mag-quotient (negsuc a) (pos b) = mag-neg (suc a / b) (suc a) (omega (arith, div-le_self (suc a) b))
+mag-quotient (negsuc a) (negsuc b) = div-le_self (suc a) (suc b)
+
+-- twice the positive half is the whole
+half : (w : Width) → 2 ^ hbits w + 2 ^ hbits w ≡ 2 ^ bits w
+half w8 = refl
+half w16 = refl
+half w32 = refl
+half w64 = refl
+half w128 = refl
+
+half_positive : (w : Width) → 0 < 2 ^ hbits w
+half_positive w = omega (arith, half w, power_positive w)
+
+power_below : (w : Width) → bits w ≤ 64 → 2 ^ bits w ≤ 2 ^ 64
+power_below w8 h = omega arith
+power_below w16 h = omega arith
+power_below w32 h = omega arith
+power_below w64 h = omega arith
+power_below w128 h = absurd (omega (arith, h))
+
+-- the low bits of a number of 64 bits are those of a number of the width, where that has the same value
+low_bits_same : (w : Width) → bits w ≤ 64 → (z : ℤ) → mag z < 2 ^ bits w → cast_unsigned w64 z % 2 ^ bits w ≡ cast_unsigned w z % 2 ^ bits w
+low_bits_same w narrow z h =
+    low_bits_of w64 w narrow z (omega (arith, h, power_below w narrow)) ∙ sym (low_bits_of w w (omega arith) z h)
+
+unsigned_below : (z : ℤ) → mag z < 2 ^ 64 → cast_unsigned w64 z < 2 ^ 64
+unsigned_below (pos n) h = h
+unsigned_below (negsuc n) h = omega (arith, h)
+
+-- the quotient may be the only one that 64 bits don't hold, and is then wrapped
+pub low_quotient : (w : Width) → bits w ≤ 64 → (a b : ℕ) → a < 2 ^ bits w
+    → cast_unsigned w64 (int_wrapping_div w64 (cast_signed w a) (cast_signed w b)) % 2 ^ bits w
+    ≡ cast_unsigned w (int_div (cast_signed w a) (cast_signed w b)) % 2 ^ bits w
+low_quotient w narrow a b h =
+    let x = cast_signed w a in
+    let z = int_div x (cast_signed w b) in
+    let inside : mag z < 2 ^ bits w = omega (arith, mag-quotient x (cast_signed w b), mag-read w a h, half w, half_positive w) in
+    let below : cast_unsigned w64 z < 2 ^ 64 = unsigned_below z (omega (arith, inside, power_below w narrow)) in
+    ap (λ n. n % 2 ^ bits w) (of_z-to_z w64 (cast_unsigned w64 z) below) ∙ low_bits_same w narrow z inside
+
+pub low_remainder : (w : Width) → bits w ≤ 64 → (a b : ℕ) → a < 2 ^ bits w
+    → cast_unsigned w64 (int_rem (cast_signed w a) (cast_signed w b)) % 2 ^ bits w ≡ cast_unsigned w (int_rem (cast_signed w a) (cast_signed w b)) % 2 ^ bits w
+low_remainder w narrow a b h =
+    let x = cast_signed w a in
+    low_bits_same w narrow (int_rem x (cast_signed w b))
+    (omega (arith, mag_rem x (cast_signed w b), mag-read w a h, half w, half_positive w))
+
+-- ---- numbers of 128 bits
+
+narrowed : (w : Width) → bits w ≤ 64 → (x : ℕ) → x % 2 ^ 64 % 2 ^ bits w ≡ x % 2 ^ bits w
+narrowed w8 h x = omega arith
+narrowed w16 h x = omega arith
+narrowed w32 h x = omega arith
+narrowed w64 h x = omega arith
+narrowed w128 h x = absurd (omega (arith, h))
+
+-- the low bits of the low half of a signed number are what is left of it
+pub low_bits_of_half : (w : Width) → bits w ≤ 64 → (z : ℤ) → mag z < 2 ^ 127 → cast_unsigned w128 z % 2 ^ 64 % 2 ^ bits w ≡ wrap w z
+low_bits_of_half w narrow z h =
+    narrowed w narrow (cast_unsigned w128 z) ∙ low_bits_of w128 w (omega (arith, narrow)) z (omega (arith, h))

@@ -1,0 +1,20 @@
+use Rattle.std.proofs.Common.{ℕ, ◌<◌, ◌≡◌, ◌∙◌, ap, arith, false}
+use Rattle.rv_model.specs.elements.Arithmetic.{GroupType, second_element}
+use Rattle.rv_model.specs.elements.Elements.{element}
+use Rattle.rv_model.specs.vector.Configuration.{width_bytes}
+use Rattle.rv_model.proofs.element_lemmas.Arithmetic.{results_same}
+use Rattle.vec_unit.proofs.moves.MoveElementWise.write.Goals as goal
+
+pub returns : goal.returns
+returns g c =
+    let t : GroupType = record { width = g.L.Lane.width; emul = c.args.destination.emul } in
+    let k : ℕ = width_bytes g.L.Lane.width in
+    let o = c.args.self.now in
+    let file = c.args.file.now in
+    let x = c.args.scalar.now in
+    let second : (i : ℕ) → i < c.args.body.now.end → element k c.second_copy-b.result.now i ≡ second_element t false o.source file x i =
+    λ i h. c.second_copy-b.ensures.elements i (omega (arith, h, c.end.ensures)) in
+    c.write_group.ensures
+    ∙ results_same t c.args.destination.vd c.args.body.now
+    c.args.destination.agnostic.fill_masked_off c.args.destination.agnostic.fill_tail
+    (λ i. element k c.second_copy-b.result.now i) (second_element t false o.source file x) file second

@@ -1,0 +1,79 @@
+//! Comparisons, and carries and borrows as masks ("V" Vector Extension 1.0, sections 11.4 and 11.8).
+ghost use Rattle.rv_model.specs.elements.Arithmetic.{carry_out_result, compare_result};
+ghost use Rattle.rv_model.specs.legality.GroupBounds.{IsInside, SourceIsInside};
+
+use crate::destination::write_mask;
+use crate::mask_wise::MaskWise;
+use crate::operands::{group_copy, second_copy};
+use lane_arith::{Body, CarryOut, Compare, Lane};
+use rv_model::instructions::operations::{CarryOutOp, CompareOp};
+use rv_model::{GROUP_BYTES, Scalar, Source, VFile, VReg};
+
+/// A comparison and its sources.
+#[derive(Clone, Copy)]
+pub(crate) struct CompareOperation {
+    pub op: CompareOp,
+    pub vs2: VReg,
+    pub source: Source,
+}
+
+impl MaskWise for CompareOperation {
+    ghost bit = { λ o g file x. compare_result g o.op o.vs2 o.source file x };
+
+    ghost inside = { λ o emul. IsInside o.vs2 emul × SourceIsInside o.source emul };
+
+    fn write<L: Lane>(
+        &self,
+        vd: VReg,
+        emul: u32,
+        body: &Body<'_>,
+        file: &mut VFile,
+        scalar: &Scalar,
+    ) {
+        let (mut first, mut second) = ([0; GROUP_BYTES], [0; GROUP_BYTES]);
+        let a = group_copy(file, self.vs2, emul, &mut first);
+        let b = second_copy::<L>(false, self.source, emul, body.end(), file, scalar, &mut second);
+        let results = Compare {
+            op: self.op,
+            a,
+            b,
+        };
+        write_mask::<L, Compare<'_>>(&results, vd, body, file);
+    }
+}
+
+/// Carries or borrows, and their sources; a bit of v0 comes in for each unless `alone`.
+#[derive(Clone, Copy)]
+pub(crate) struct CarryOutOperation {
+    pub op: CarryOutOp,
+    pub vs2: VReg,
+    pub source: Source,
+    pub alone: bool,
+}
+
+impl MaskWise for CarryOutOperation {
+    ghost bit = { λ o g file x. carry_out_result g o.op o.alone o.vs2 o.source file x };
+
+    ghost inside = { λ o emul. IsInside o.vs2 emul × SourceIsInside o.source emul };
+
+    fn write<L: Lane>(
+        &self,
+        vd: VReg,
+        emul: u32,
+        body: &Body<'_>,
+        file: &mut VFile,
+        scalar: &Scalar,
+    ) {
+        let (mut first, mut second) = ([0; GROUP_BYTES], [0; GROUP_BYTES]);
+        let a = group_copy(file, self.vs2, emul, &mut first);
+        let b = second_copy::<L>(false, self.source, emul, body.end(), file, scalar, &mut second);
+        let results = CarryOut {
+            op: self.op,
+            a,
+            b,
+            v0: body.mask(),
+            alone: self.alone,
+        };
+        write_mask::<L, CarryOut<'_>>(&results, vd, body, file);
+    }
+}

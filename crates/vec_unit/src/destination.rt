@@ -1,0 +1,102 @@
+//! The destination of an element-wise instruction: lent to a kernel, and then filled ("V" Vector Extension
+//! 1.0, sections 3.4.3, 5.3 and 5.4).
+ghost use Rattle.std.specs.Prelude.{◌≡◌, ◌*◌, ◌<◌, ◌≤◌, ℕ, length};
+ghost use Rattle.rv_model.specs.elements.Arithmetic.{fills_masked_off, fills_tail, with_mask_results, with_results};
+ghost use Rattle.rv_model.specs.elements.Elements.{is_changed, result_or_ones};
+ghost use Rattle.rv_model.specs.elements.Formulas.{ones};
+ghost use Rattle.rv_model.specs.elements.Writes.{Writes};
+ghost use Rattle.rv_model.specs.legality.GroupBounds.{HoldsBody, IsInside};
+ghost use Rattle.rv_model.specs.vector.Configuration.{width_bytes};
+
+use lane_arith::{Body, Lane, MaskResults, Results, fill, write_mask_results, write_results};
+use reg_groups::group_mut;
+use rv_model::{GROUP_BYTES, Policy, VFile, VReg, VType};
+
+/// What becomes of agnostic elements: whether those of the body that are masked off, and those of the tail,
+/// become all ones (section 3.4.3).
+#[derive(Clone, Copy)]
+pub(crate) struct Agnostic {
+    fill_masked_off: bool,
+    fill_tail: bool,
+}
+
+/// What becomes of agnostic elements under a policy.
+pub(crate) fn agnostic_under(policy: Policy, vtype: VType, body: &Body<'_>) -> Agnostic
+    ensures { result ≡ record {
+      fill_masked_off = fills_masked_off policy vtype body.now;
+      fill_tail = fills_tail policy vtype body.now;
+    } }
+{
+    let is_ones = match policy {
+        Policy::Keep => false,
+        Policy::Ones => true,
+    };
+    Agnostic {
+        fill_masked_off: is_ones && (vtype.mask_agnostic && !body.is_unmasked()),
+        fill_tail: is_ones && (vtype.tail_agnostic && body.start() < body.end()),
+    }
+}
+
+/// A group that takes results: its first register, its multiplier in eighths of a register, and how many
+/// elements its registers hold.
+#[derive(Clone, Copy)]
+pub(crate) struct Destination {
+    pub vd: VReg,
+    pub emul: u32,
+    pub count: usize,
+    pub agnostic: Agnostic,
+}
+
+/// Writes results to the bytes of a destination of `count` elements, and fills it.
+fn write_filled<L: Lane, R: Results<L>>(
+    results: &R,
+    body: &Body<'_>,
+    agnostic: Agnostic,
+    count: usize,
+    destination: &mut [u8],
+)
+    requires operands { (i : ℕ) → i < body.now.end → R.has results.now i }
+    requires least { body.now.end ≤ GROUP_BYTES }
+    requires room { width_bytes L.width * body.now.end ≤ length destination.old }
+    requires whole { length destination.old ≡ width_bytes L.width * count }
+    requires most { count ≤ GROUP_BYTES }
+    ensures { Writes (width_bytes L.width) (is_changed body.now agnostic.fill_masked_off agnostic.fill_tail)
+        (result_or_ones body.now (R.number results.now) (ones L.width)) destination.old destination.new }
+{
+    write_results(results, body, destination, agnostic.fill_masked_off);
+    if agnostic.fill_tail {
+        fill(L::all_ones(), body.end(), count, destination);
+    }
+}
+
+/// Writes results to a group, and fills it.
+pub(crate) fn write_group<L: Lane, R: Results<L>>(
+    results: &R,
+    destination: Destination,
+    body: &Body<'_>,
+    file: &mut VFile,
+)
+    requires operands { (i : ℕ) → i < body.now.end → R.has results.now i }
+    requires inside { IsInside destination.vd destination.emul }
+    requires holds { HoldsBody L.width destination.emul destination.count body.now.end }
+    ensures { file.new ≡ with_results (record { width = L.width; emul = destination.emul }) destination.vd body.now
+        destination.agnostic.fill_masked_off destination.agnostic.fill_tail (R.number results.now) file.old }
+{
+    let group = group_mut(file, destination.vd, destination.emul);
+    write_filled(results, body, destination.agnostic, destination.count, group);
+}
+
+/// Writes results to the bits of a mask.
+pub(crate) fn write_mask<L: Lane, R: MaskResults<L>>(
+    results: &R,
+    vd: VReg,
+    body: &Body<'_>,
+    file: &mut VFile,
+)
+    requires operands { (i : ℕ) → i < body.now.end → R.has results.now i }
+    requires least { body.now.end ≤ GROUP_BYTES }
+    ensures { file.new ≡ with_mask_results vd body.now (R.bit results.now) file.old }
+{
+    let mask = group_mut(file, vd, 8);
+    write_mask_results(results, body, mask);
+}

@@ -1,0 +1,85 @@
+//! Instructions whose results stand in a group of elements, carried out ("V" Vector Extension 1.0, sections
+//! 5.2 to 5.4 and chapter 11).
+ghost use Rattle.std.specs.Prelude.{◌≡◌, ◌≤◌, List, ℕ};
+ghost use Rattle.rv_model.specs.declared.scalar.Scalar.{Scalar as ScalarRegisters};
+ghost use Rattle.rv_model.specs.elements.Arithmetic.{GroupType, body_of, fills_masked_off, fills_tail, group_type, with_results};
+ghost use Rattle.rv_model.specs.legality.GroupBounds.{HoldsBody, IsInside};
+ghost use Rattle.rv_model.specs.vector.Configuration.{lmul_eighths, vlmax};
+ghost use Rattle.rv_model.specs.vector.Registers.{register_of};
+
+use crate::destination::{Destination, agnostic_under};
+use crate::operands::mask_register;
+use lane_arith::{Body, Lane};
+use reg_groups::registers;
+use rv_model::{Policy, Scalar, Sew, VFile, VLENB, VReg, VState, VType};
+
+/// An operation and its operands.
+pub(crate) trait ElementWise {
+    // The number for an element, by the type of the groups and what the registers hold.
+    ghost number: { Self → GroupType → List ℕ → ScalarRegisters → ℕ → ℕ };
+
+    // The operands lie inside the file, as groups of this multiplier in eighths of a register.
+    ghost inside: { Self → ℕ → Type 0 };
+
+    /// Writes the results to a destination; the mask of the body is v0.
+    fn write<L: Lane>(
+        &self,
+        destination: Destination,
+        body: &Body<'_>,
+        file: &mut VFile,
+        scalar: &Scalar,
+    )
+        requires operands { inside self.now destination.emul }
+        requires destination { IsInside destination.vd destination.emul }
+        requires holds { HoldsBody L.width destination.emul destination.count body.now.end }
+        requires mask { body.now.mask ≡ register_of file.old 0 }
+        ensures { file.new ≡ with_results (record { width = L.width; emul = destination.emul }) destination.vd body.now
+            destination.agnostic.fill_masked_off destination.agnostic.fill_tail
+            (number self.now (record { width = L.width; emul = destination.emul }) file.old scalar.now) file.old };
+}
+
+/// Carries out an operation on groups of the vector type. The next instruction begins with the first
+/// element.
+#[tactic(auto, using(rv_model::proofs::legality_lemmas::Bounds::groups_hold_body))]
+pub(crate) fn carry_out<O: ElementWise>(
+    operation: &O,
+    vd: VReg,
+    unmasked: bool,
+    vtype: VType,
+    policy: Policy,
+    state: &mut VState,
+    scalar: &Scalar,
+)
+    requires operands { O.inside operation.now (lmul_eighths vtype.lmul) }
+    requires destination { IsInside vd (lmul_eighths vtype.lmul) }
+    requires length { state.old.conf.vl ≤ vlmax vtype }
+    ensures { state.new ≡ record state.old {
+      file =
+          with_results (group_type vtype) vd (body_of unmasked state.old)
+          (fills_masked_off policy vtype (body_of unmasked state.old))
+          (fills_tail policy vtype (body_of unmasked state.old))
+          (O.number operation.now (group_type vtype) state.old.file scalar.now) state.old.file;
+      vstart = 0;
+    } }
+{
+    let mask = mask_register(&state.file);
+    let start = usize::from(state.vstart);
+    let body = Body::new(unmasked, &mask, start, usize::from(state.conf.vl()));
+    let emul = u32::from(vtype.lmul.eighths());
+    let length = VLENB * registers(emul) as usize;
+    let agnostic = agnostic_under(policy, vtype, &body);
+    let file = &mut state.file;
+    let destination = |count| Destination {
+        vd,
+        emul,
+        count,
+        agnostic,
+    };
+    match vtype.sew {
+        Sew::E8 => operation.write::<u8>(destination(length), &body, file, scalar),
+        Sew::E16 => operation.write::<u16>(destination(length / 2), &body, file, scalar),
+        Sew::E32 => operation.write::<u32>(destination(length / 4), &body, file, scalar),
+        Sew::E64 => operation.write::<u64>(destination(length / 8), &body, file, scalar),
+    }
+    state.vstart = 0;
+}
