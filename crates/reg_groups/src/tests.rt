@@ -6,8 +6,8 @@ ghost use Rattle.rv_model.specs.instructions.Sources.{form_of};
 
 use super::legal;
 use rv_model::instructions::operations::{
-    BinaryOp, CarryOp, CarryOutOp, CompareOp, Direction, ExtendOp, MaskToScalarOp, MaskUnaryOp, NarrowOp,
-    Order, PermuteOp, ReduceOp, RegisterCount, UnitOp, VectorOp, WidenOp, Width,
+    BinaryOp, CarryOp, CarryOutOp, CompareOp, Direction, ExtendOp, MaskToScalarOp, MaskUnaryOp,
+    NarrowOp, Order, PermuteOp, ReduceOp, RegisterCount, UnitOp, VectorOp, WidenOp, Width,
 };
 use rv_model::{Arith, Carry, Field, Instr, Lmul, Reg, Sew, Source, VConf, VReg, VType};
 use std::process::Abort;
@@ -205,6 +205,94 @@ fn v0_as_result(rt: HostRuntime) {
         m1,
         false,
     );
+}
+
+// The examples of sections 5.2, 5.3, 11.4 and 11.8 of the V extension.
+#[test]
+fn overlaps_that_the_manual_names(rt: HostRuntime) {
+    let m1 = conf(Sew::E8, Lmul::M1);
+    let m8 = conf(Sew::E32, Lmul::M8);
+    let vnsrl = VectorOp::Narrow(NarrowOp::Vnsrl);
+    let vmslt = VectorOp::Compare(CompareOp::Vmslt);
+    let vmadc = VectorOp::CarryOut(CarryOutOp::Vmadc);
+    let vmsbc = VectorOp::CarryOut(CarryOutOp::Vmsbc);
+    let vzext = ExtendOp::VzextVf4;
+    let rows = [
+        ("vnsrl.wv v0, v0, v8", arith(vnsrl, 0, 0, 8, true), m1, true),
+        (
+            "vnsrl.wv v1, v0, v8",
+            arith(vnsrl, 1, 0, 8, true),
+            m1,
+            false,
+        ),
+        ("vzext.vf4 v0, v6", extend(vzext, 0, 6), m8, true),
+        ("vzext.vf4 v0, v0", extend(vzext, 0, 0), m8, false),
+        ("vzext.vf4 v0, v2", extend(vzext, 0, 2), m8, false),
+        ("vzext.vf4 v0, v4", extend(vzext, 0, 4), m8, false),
+        (
+            "vmslt.vv v0, v8, v16, v0.t",
+            arith(vmslt, 0, 8, 16, false),
+            m8,
+            true,
+        ),
+        (
+            "vmslt.vv v8, v8, v16, v0.t",
+            arith(vmslt, 8, 8, 16, false),
+            m8,
+            true,
+        ),
+        (
+            "vmslt.vv v9, v8, v16, v0.t",
+            arith(vmslt, 9, 8, 16, false),
+            m8,
+            false,
+        ),
+        (
+            "vmadc.vvm v0, v8, v16, v0",
+            arith(vmadc, 0, 8, 16, false),
+            m8,
+            true,
+        ),
+        (
+            "vmadc.vv v16, v8, v16",
+            arith(vmadc, 16, 8, 16, true),
+            m8,
+            true,
+        ),
+        (
+            "vmsbc.vv v17, v8, v16",
+            arith(vmsbc, 17, 8, 16, true),
+            m8,
+            false,
+        ),
+        (
+            "vsbc.vvm v0, v8, v16, v0",
+            with_v0(CarryOp::Vsbc, 0, 8, 16),
+            m8,
+            false,
+        ),
+        (
+            "vsbc.vvm v8, v8, v16, v0",
+            with_v0(CarryOp::Vsbc, 8, 8, 16),
+            m8,
+            true,
+        ),
+        (
+            "vmerge.vvm v0, v8, v16, v0",
+            with_v0(CarryOp::Vmerge, 0, 8, 16),
+            m8,
+            false,
+        ),
+        (
+            "vmerge.vvm v8, v0, v16, v0",
+            with_v0(CarryOp::Vmerge, 8, 0, 16),
+            m8,
+            true,
+        ),
+    ];
+    for (name, instr, conf, expected) in rows {
+        row(&rt, name, instr, conf, expected);
+    }
 }
 
 #[test]
