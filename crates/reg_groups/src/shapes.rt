@@ -1,31 +1,13 @@
 //! The register operands of a vector operation, by its shape ("V" Vector Extension 1.0, sections 5.2,
 //! 10.2, 11, 12, 14 and 16).
 ghost use Rattle.std.specs.Prelude.{◌≡◌};
-ghost use Rattle.rv_model.specs.legality.OperandShapes.{destination, first_source, permute_shape, reduce_shape, second_source, shape_of, shape_operands, vector_source, widen_shape};
+ghost use Rattle.rv_model.specs.legality.OperandShapes.{destination, first_source, permute_shape, reduce_shape, second_source, shape_of, shape_operands, vector_source};
 ghost use Rattle.rv_model.specs.legality.RegisterOperands.{are_legal};
 
 use crate::agreement::are_legal;
 use crate::operands::{group, mask, v0, whole};
-use rv_model::instructions::operations::{PermuteOp, ReduceOp, VectorOp, WidenOp};
+use rv_model::instructions::operations::{PermuteOp, ReduceOp, VectorOp};
 use rv_model::{Operand, Role, Shape, Source, VReg, VType};
-
-/// The shape of an operation whose result has twice the width.
-fn widen_shape(op: WidenOp) -> Shape
-    ensures { result ≡ widen_shape op }
-{
-    match op {
-        WidenOp::VwadduW | WidenOp::VwaddW | WidenOp::VwsubuW | WidenOp::VwsubW => {
-            Shape::WideSource
-        }
-        WidenOp::Vwaddu
-        | WidenOp::Vwadd
-        | WidenOp::Vwsubu
-        | WidenOp::Vwsub
-        | WidenOp::Vwmulu
-        | WidenOp::Vwmulsu
-        | WidenOp::Vwmul => Shape::Widening,
-    }
-}
 
 /// The shape of a reduction.
 fn reduce_shape(op: ReduceOp) -> Shape
@@ -62,9 +44,9 @@ pub(crate) fn shape_of(op: VectorOp) -> Shape
     match op {
         VectorOp::Binary(_) | VectorOp::FixedPoint(_) | VectorOp::MultiplyAdd(_) => Shape::Single,
         VectorOp::CarryOut(_) | VectorOp::Compare(_) => Shape::Compare,
-        VectorOp::Narrow(_) => Shape::Narrowing,
-        VectorOp::Widen(op) => widen_shape(op),
-        VectorOp::WidenMultiplyAdd(_) => Shape::Widening,
+        VectorOp::NarrowShift(_) | VectorOp::Clip(_) => Shape::Narrowing,
+        VectorOp::WideSource(_) => Shape::WideSource,
+        VectorOp::Widen(_) | VectorOp::WidenMultiplyAdd(_) => Shape::Widening,
         VectorOp::Reduce(op) => reduce_shape(op),
         VectorOp::Permute(op) => permute_shape(op),
     }

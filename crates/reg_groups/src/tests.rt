@@ -7,7 +7,7 @@ ghost use Rattle.rv_model.specs.instructions.Sources.{form_of};
 use super::legal;
 use rv_model::instructions::operations::{
     BinaryOp, CarryOp, CarryOutOp, CompareOp, Direction, ExtendOp, MaskToScalarOp, MaskUnaryOp,
-    NarrowOp, Order, PermuteOp, ReduceOp, RegisterCount, UnitOp, VectorOp, WidenOp, Width,
+    NarrowShiftOp, Order, PermuteOp, ReduceOp, RegisterCount, UnitOp, VectorOp, WidenOp, Width,
 };
 use rv_model::{Arith, Carry, Field, Instr, Lmul, Reg, Sew, Source, VConf, VReg, VType};
 use std::process::Abort;
@@ -134,7 +134,7 @@ fn results_of_twice_the_width(rt: HostRuntime) {
 
 #[test]
 fn sources_of_twice_the_width(rt: HostRuntime) {
-    let vnsrl = VectorOp::Narrow(NarrowOp::Vnsrl);
+    let vnsrl = VectorOp::NarrowShift(NarrowShiftOp::Vnsrl);
     let m1 = conf(Sew::E8, Lmul::M1);
     row(
         &rt,
@@ -212,7 +212,7 @@ fn v0_as_result(rt: HostRuntime) {
 fn overlaps_that_the_manual_names(rt: HostRuntime) {
     let m1 = conf(Sew::E8, Lmul::M1);
     let m8 = conf(Sew::E32, Lmul::M8);
-    let vnsrl = VectorOp::Narrow(NarrowOp::Vnsrl);
+    let vnsrl = VectorOp::NarrowShift(NarrowShiftOp::Vnsrl);
     let vmslt = VectorOp::Compare(CompareOp::Vmslt);
     let vmadc = VectorOp::CarryOut(CarryOutOp::Vmadc);
     let vmsbc = VectorOp::CarryOut(CarryOutOp::Vmsbc);

@@ -1,10 +1,10 @@
 //! The lines of the manual's table of vector operations.
 ghost use Rattle.std.specs.Prelude.{◌≡◌, ◌<◌};
-ghost use Rattle.rv_model.specs.instructions.Operations.{binary_line, carry_out_line, compare_line, fixed_point_line, narrow_line, widen_line, multiply_add_line, widen_multiply_add_line, reduce_line, permute_line, carry_line, line, has_form, opi, opm};
+ghost use Rattle.rv_model.specs.instructions.Operations.{binary_line, carry_out_line, compare_line, fixed_point_line, narrow_shift_line, clip_line, widen_line, wide_source_line, multiply_add_line, widen_multiply_add_line, reduce_line, permute_line, carry_line, line, has_form, opi, opm};
 
 use rv_model::instructions::operations::{
-    BinaryOp, CarryOp, CarryOutOp, CompareOp, FixedPointOp, Form, Forms, Line, Major,
-    MultiplyAddOp, NarrowOp, PermuteOp, ReduceOp, VectorOp, WidenMultiplyAddOp, WidenOp,
+    BinaryOp, CarryOp, CarryOutOp, ClipOp, CompareOp, FixedPointOp, Form, Forms, Line, Major,
+    MultiplyAddOp, NarrowShiftOp, PermuteOp, ReduceOp, VectorOp, WideSourceOp, WidenMultiplyAddOp, WidenOp,
 };
 
 /// A line of OPIVV, OPIVX and OPIVI.
@@ -115,19 +115,27 @@ fn fixed_point_line(op: FixedPointOp) -> Line
     }
 }
 
-/// Narrowing shifts and clips.
-fn narrow_line(op: NarrowOp) -> Line
-    ensures { result ≡ narrow_line op }
+/// Narrowing shifts.
+fn narrow_shift_line(op: NarrowShiftOp) -> Line
+    ensures { result ≡ narrow_shift_line op }
 {
     match op {
-        NarrowOp::Vnsrl => opi(0x2c, Forms::Vxi),
-        NarrowOp::Vnsra => opi(0x2d, Forms::Vxi),
-        NarrowOp::Vnclipu => opi(0x2e, Forms::Vxi),
-        NarrowOp::Vnclip => opi(0x2f, Forms::Vxi),
+        NarrowShiftOp::Vnsrl => opi(0x2c, Forms::Vxi),
+        NarrowShiftOp::Vnsra => opi(0x2d, Forms::Vxi),
     }
 }
 
-/// Widening operations.
+/// Clips.
+fn clip_line(op: ClipOp) -> Line
+    ensures { result ≡ clip_line op }
+{
+    match op {
+        ClipOp::Vnclipu => opi(0x2e, Forms::Vxi),
+        ClipOp::Vnclip => opi(0x2f, Forms::Vxi),
+    }
+}
+
+/// Operations whose result has twice the width.
 fn widen_line(op: WidenOp) -> Line
     ensures { result ≡ widen_line op }
 {
@@ -136,13 +144,21 @@ fn widen_line(op: WidenOp) -> Line
         WidenOp::Vwadd => opm(0x31, Forms::Vx),
         WidenOp::Vwsubu => opm(0x32, Forms::Vx),
         WidenOp::Vwsub => opm(0x33, Forms::Vx),
-        WidenOp::VwadduW => opm(0x34, Forms::Vx),
-        WidenOp::VwaddW => opm(0x35, Forms::Vx),
-        WidenOp::VwsubuW => opm(0x36, Forms::Vx),
-        WidenOp::VwsubW => opm(0x37, Forms::Vx),
         WidenOp::Vwmulu => opm(0x38, Forms::Vx),
         WidenOp::Vwmulsu => opm(0x3a, Forms::Vx),
         WidenOp::Vwmul => opm(0x3b, Forms::Vx),
+    }
+}
+
+/// Operations whose result and first source have twice the width.
+fn wide_source_line(op: WideSourceOp) -> Line
+    ensures { result ≡ wide_source_line op }
+{
+    match op {
+        WideSourceOp::Vwaddu => opm(0x34, Forms::Vx),
+        WideSourceOp::Vwadd => opm(0x35, Forms::Vx),
+        WideSourceOp::Vwsubu => opm(0x36, Forms::Vx),
+        WideSourceOp::Vwsub => opm(0x37, Forms::Vx),
     }
 }
 
@@ -222,8 +238,10 @@ pub(crate) fn line(op: VectorOp) -> Line
         VectorOp::CarryOut(op) => carry_out_line(op),
         VectorOp::Compare(op) => compare_line(op),
         VectorOp::FixedPoint(op) => fixed_point_line(op),
-        VectorOp::Narrow(op) => narrow_line(op),
+        VectorOp::NarrowShift(op) => narrow_shift_line(op),
+        VectorOp::Clip(op) => clip_line(op),
         VectorOp::Widen(op) => widen_line(op),
+        VectorOp::WideSource(op) => wide_source_line(op),
         VectorOp::MultiplyAdd(op) => multiply_add_line(op),
         VectorOp::WidenMultiplyAdd(op) => widen_multiply_add_line(op),
         VectorOp::Reduce(op) => reduce_line(op),

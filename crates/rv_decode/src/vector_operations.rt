@@ -6,9 +6,9 @@ ghost use Rattle.rv_model.specs.instructions.Table.{find, find_at};
 
 use crate::lines::{has_form, line};
 use rv_model::instructions::operations::{
-    BinaryOp, CarryOp, CarryOutOp, CompareOp, ExtendOp, FixedPointOp, Form, Major, MaskLogicOp,
-    MaskToScalarOp, MaskUnaryOp, MultiplyAddOp, NarrowOp, PermuteOp, ReduceOp, RegisterCount, VectorOp,
-    WidenMultiplyAddOp, WidenOp,
+    BinaryOp, CarryOp, CarryOutOp, ClipOp, CompareOp, ExtendOp, FixedPointOp, Form, Major, MaskLogicOp,
+    MaskToScalarOp, MaskUnaryOp, MultiplyAddOp, NarrowShiftOp, PermuteOp, ReduceOp, RegisterCount, VectorOp,
+    WideSourceOp, WidenMultiplyAddOp, WidenOp,
 };
 
 /// The operation, if the manual's table has it in this form.
@@ -80,10 +80,10 @@ fn upper_opi(funct6: u32, form: Form) -> Option<VectorOp>
         0x29 => VectorOp::Binary(BinaryOp::Vsra),
         0x2a => VectorOp::FixedPoint(FixedPointOp::Vssrl),
         0x2b => VectorOp::FixedPoint(FixedPointOp::Vssra),
-        0x2c => VectorOp::Narrow(NarrowOp::Vnsrl),
-        0x2d => VectorOp::Narrow(NarrowOp::Vnsra),
-        0x2e => VectorOp::Narrow(NarrowOp::Vnclipu),
-        0x2f => VectorOp::Narrow(NarrowOp::Vnclip),
+        0x2c => VectorOp::NarrowShift(NarrowShiftOp::Vnsrl),
+        0x2d => VectorOp::NarrowShift(NarrowShiftOp::Vnsra),
+        0x2e => VectorOp::Clip(ClipOp::Vnclipu),
+        0x2f => VectorOp::Clip(ClipOp::Vnclip),
         0x30 => VectorOp::Reduce(ReduceOp::Vwredsumu),
         0x31 => VectorOp::Reduce(ReduceOp::Vwredsum),
         _ => return None,
@@ -154,10 +154,10 @@ fn upper_opm(funct6: u32, form: Form) -> Option<VectorOp>
         0x31 => VectorOp::Widen(WidenOp::Vwadd),
         0x32 => VectorOp::Widen(WidenOp::Vwsubu),
         0x33 => VectorOp::Widen(WidenOp::Vwsub),
-        0x34 => VectorOp::Widen(WidenOp::VwadduW),
-        0x35 => VectorOp::Widen(WidenOp::VwaddW),
-        0x36 => VectorOp::Widen(WidenOp::VwsubuW),
-        0x37 => VectorOp::Widen(WidenOp::VwsubW),
+        0x34 => VectorOp::WideSource(WideSourceOp::Vwaddu),
+        0x35 => VectorOp::WideSource(WideSourceOp::Vwadd),
+        0x36 => VectorOp::WideSource(WideSourceOp::Vwsubu),
+        0x37 => VectorOp::WideSource(WideSourceOp::Vwsub),
         0x38 => VectorOp::Widen(WidenOp::Vwmulu),
         0x3a => VectorOp::Widen(WidenOp::Vwmulsu),
         0x3b => VectorOp::Widen(WidenOp::Vwmul),

@@ -1,12 +1,13 @@
 -- Whole numbers modulo 2 to a width, by way of a wider number.
-use Rattle.std.proofs.Common.{ℕ, zero, suc, ◌+◌, ◌-◌, ◌*◌, ◌/◌, ◌%◌, ◌^◌, ◌<◌, ◌≤◌, ◌≡◌, ℤ, pos, negsuc, neg_ℤ, refl, sym, ap, ◌∙◌, arith, mod-eq_of_lt}
+use Rattle.std.proofs.Common.{ℕ, zero, suc, ◌+◌, ◌-◌, ◌*◌, ◌/◌, ◌%◌, ◌^◌, ◌<◌, ◌≤◌, ◌≡◌, ℤ, pos, negsuc, neg_ℤ, ◌+ℤ◌, inl, inr, refl, sym, ap, ◌∙◌, arith, mod-eq_of_lt}
 use Rattle.std.specs.Int.{Width, cast_signed, cast_unsigned, int_wrapping_div, w8, w16, w32, w64, w128}
 use Rattle.std.specs.Int.Signed.{mag, mag_rem}
 use Rattle.std.proofs.Math.Facts.{sfits_to_z}
 use Rattle.std.specs.Int.RustNames.{int_div, int_rem}
-use Rattle.std.proofs.Math.Nat.{div-add-mod, div-le_self, div-lt_iff_lt-mul, mod-lt, mul-add, mul-add-mod_self_left, mul_comm, mul-suc}
+use Rattle.std.proofs.Math.Nat.{add-mod, add-mul-mod_self_right, div-add-mod, div-le_self, div-lt_iff_lt-mul, mod-lt, mod-mod, mul-add, mul-add-mod_self_left, mul_comm, mul-le-mul_left, mul-suc}
 use Rattle.std.proofs.lemmas.Nat.{pow-add}
-use Rattle.std.proofs.lemmas.Int.{of_z-to_z}
+use Rattle.std.proofs.lemmas.Int.{ints, of_z-to_z}
+use Rattle.std.proofs.lemmas.Bool.{cases_lt}
 use mir.Val.{bits, hbits}
 use Rattle.rv_model.specs.elements.Formulas.{wrap}
 use Rattle.rv_model.proofs.element_lemmas.Widths.{power_positive}
@@ -105,3 +106,35 @@ narrowed w128 h x = absurd (omega (arith, h))
 pub low_bits_of_half : (w : Width) → bits w ≤ 64 → (z : ℤ) → mag z < 2 ^ 127 → cast_unsigned w128 z % 2 ^ 64 % 2 ^ bits w ≡ wrap w z
 low_bits_of_half w narrow z h =
     narrowed w narrow (cast_unsigned w128 z) ∙ low_bits_of w128 w (omega (arith, narrow)) z (omega (arith, h))
+
+-- ---- sums with what is left of a number
+
+-- what is left of a number is what is left of any natural number that differs from it by a multiple
+left_of : (w : Width) (n k m : ℕ) → m + suc n ≡ k * 2 ^ bits w → wrap w (negsuc n) ≡ m % 2 ^ bits w
+left_of w n k m e =
+    let p : ℕ = 2 ^ bits w in
+    let is : m ≡ p * k - suc n = omega (arith, e, mul_comm k p) in
+    let inside : n < p * k = omega (arith, e, mul_comm k p) in
+    sym (ap (λ x. x % p) is ∙ below_multiple p k n (power_positive w) inside)
+
+mod_sum : (n d p : ℕ) → (n % p + d) % p ≡ (n + d) % p
+mod_sum n d p = add-mod (n % p) d p ∙ ap (λ x. (x + d % p) % p) (mod-mod n p) ∙ sym (add-mod n d p)
+
+-- a sum with a natural number
+pub wrap-add : (w : Width) (z : ℤ) (d : ℕ) → (wrap w z + d) % 2 ^ bits w ≡ wrap w (z +ℤ pos d)
+wrap-add w (pos n) d = mod_sum n d (2 ^ bits w)
+wrap-add w (negsuc n) d =
+    let p : ℕ = 2 ^ bits w in
+    let m : ℕ = suc n * p - suc n in
+    let some : 0 < p = power_positive w in
+    let large : suc n * 1 ≤ suc n * p = mul-le-mul_left (suc n) some in
+    let e : m + suc n ≡ suc n * p = omega (arith, large) in
+    ap (λ x. (x + d) % p) (left_of w n (suc n) m e) ∙ mod_sum m d p ∙ elim (cases_lt n d) [
+      | inl less ↦
+          let positive : negsuc n +ℤ pos d ≡ pos (d - suc n) = omega (arith, ints, less) in
+          let parts : m + d ≡ d - suc n + suc n * p = omega (arith, e, less) in
+          ap (λ x. x % p) parts ∙ add-mul-mod_self_right (d - suc n) (suc n) p ∙ sym (ap (wrap w) positive)
+      | inr more ↦
+          let negative : negsuc n +ℤ pos d ≡ negsuc (n - d) = omega (arith, ints, more) in
+          sym (left_of w (n - d) (suc n) (m + d) (omega (arith, e, more))) ∙ sym (ap (wrap w) negative)
+    ]

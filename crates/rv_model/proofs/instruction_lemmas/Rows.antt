@@ -19,10 +19,14 @@ use Rattle.rv_model.specs.declared.instructions.operations.CompareOp.{CompareOp}
 use Rattle.rv_model.specs.declared.instructions.operations.CompareOp.TheVariants as compare
 use Rattle.rv_model.specs.declared.instructions.operations.FixedPointOp.{FixedPointOp}
 use Rattle.rv_model.specs.declared.instructions.operations.FixedPointOp.TheVariants as fixed_point
-use Rattle.rv_model.specs.declared.instructions.operations.NarrowOp.{NarrowOp}
-use Rattle.rv_model.specs.declared.instructions.operations.NarrowOp.TheVariants as narrow
+use Rattle.rv_model.specs.declared.instructions.operations.NarrowShiftOp.{NarrowShiftOp}
+use Rattle.rv_model.specs.declared.instructions.operations.NarrowShiftOp.TheVariants as narrow_shift
+use Rattle.rv_model.specs.declared.instructions.operations.ClipOp.{ClipOp}
+use Rattle.rv_model.specs.declared.instructions.operations.ClipOp.TheVariants as clip
 use Rattle.rv_model.specs.declared.instructions.operations.WidenOp.{WidenOp}
 use Rattle.rv_model.specs.declared.instructions.operations.WidenOp.TheVariants as widen
+use Rattle.rv_model.specs.declared.instructions.operations.WideSourceOp.{WideSourceOp}
+use Rattle.rv_model.specs.declared.instructions.operations.WideSourceOp.TheVariants as wide_source
 use Rattle.rv_model.specs.declared.instructions.operations.MultiplyAddOp.{MultiplyAddOp}
 use Rattle.rv_model.specs.declared.instructions.operations.MultiplyAddOp.TheVariants as multiply_add
 use Rattle.rv_model.specs.declared.instructions.operations.WidenMultiplyAddOp.{WidenMultiplyAddOp}
@@ -78,7 +82,7 @@ use Rattle.rv_model.specs.declared.instructions.instruction.Instr.TheVariants.{U
 use Rattle.rv_model.specs.instructions.BitFields.{fixed}
 use Rattle.rv_model.specs.instructions.Sources.{form_of}
 use Rattle.rv_model.specs.instructions.FixedBits.{upper_bits, branch_bits, load_bits, store_bits, immediate_op_bits, shift_immediate_bits, shift_immediate_word_bits, register_op_bits, system_bits, csr_bits, csr_immediate_bits, whole_move_bits, mask_logic_bits, mask_to_scalar_bits, extend_bits, mask_unary_bits, mask_memory_bits, upper_ops, branch_ops, load_ops, store_ops, immediate_ops, shift_immediate_ops, shift_immediate_word_ops, register_ops, system_ops, csr_ops, csr_immediate_ops, mask_logic_ops, mask_to_scalar_ops, extend_ops, mask_unary_ops, directions, counts}
-use Rattle.rv_model.specs.instructions.Operations.{has_form, line, carry_line, line_bits, those, vector_ops, carry_ops, binary_line, carry_out_line, compare_line, fixed_point_line, narrow_line, widen_line, multiply_add_line, widen_multiply_add_line, reduce_line, permute_line}
+use Rattle.rv_model.specs.instructions.Operations.{has_form, line, carry_line, line_bits, those, vector_ops, carry_ops, binary_line, carry_out_line, compare_line, fixed_point_line, narrow_shift_line, clip_line, widen_line, wide_source_line, multiply_add_line, widen_multiply_add_line, reduce_line, permute_line}
 use Rattle.rv_model.specs.instructions.Layout.{parts, bits, Allowed, unit_access_bits, strided_access_bits, indexed_access_bits, whole_load_bits, whole_store_bits}
 use Rattle.rv_model.specs.instructions.Table.{Row, row_of, families, rows, joined, table, In, find, unit_accesses, strided_accesses, indexed_accesses, whole_loads, Ariths}
 use Rattle.rv_model.proofs.instruction_lemmas.Scans.{is_inside, table_inside, all_in}
@@ -300,14 +304,23 @@ known_fixed_point _ form.X = refl
 known_fixed_point fixed_point.Vsaddu form.I = refl
 known_fixed_point _ form.I = refl
 
-known_narrow : (op : NarrowOp) (f : Form) → IsKnown (vector_op.Narrow op) (narrow_line op) f
+known_narrow_shift : (op : NarrowShiftOp) (f : Form) → IsKnown (vector_op.NarrowShift op) (narrow_shift_line op) f
 unfolding find
-known_narrow narrow.Vnsrl form.V = refl
-known_narrow _ form.V = refl
-known_narrow narrow.Vnsrl form.X = refl
-known_narrow _ form.X = refl
-known_narrow narrow.Vnsrl form.I = refl
-known_narrow _ form.I = refl
+known_narrow_shift narrow_shift.Vnsrl form.V = refl
+known_narrow_shift _ form.V = refl
+known_narrow_shift narrow_shift.Vnsrl form.X = refl
+known_narrow_shift _ form.X = refl
+known_narrow_shift narrow_shift.Vnsrl form.I = refl
+known_narrow_shift _ form.I = refl
+
+known_clip : (op : ClipOp) (f : Form) → IsKnown (vector_op.Clip op) (clip_line op) f
+unfolding find
+known_clip clip.Vnclipu form.V = refl
+known_clip _ form.V = refl
+known_clip clip.Vnclipu form.X = refl
+known_clip _ form.X = refl
+known_clip clip.Vnclipu form.I = refl
+known_clip _ form.I = refl
 
 known_widen : (op : WidenOp) (f : Form) → IsKnown (vector_op.Widen op) (widen_line op) f
 unfolding find
@@ -317,6 +330,15 @@ known_widen widen.Vwaddu form.X = refl
 known_widen _ form.X = refl
 known_widen widen.Vwaddu form.I = refl
 known_widen _ form.I = refl
+
+known_wide_source : (op : WideSourceOp) (f : Form) → IsKnown (vector_op.WideSource op) (wide_source_line op) f
+unfolding find
+known_wide_source wide_source.Vwaddu form.V = refl
+known_wide_source _ form.V = refl
+known_wide_source wide_source.Vwaddu form.X = refl
+known_wide_source _ form.X = refl
+known_wide_source wide_source.Vwaddu form.I = refl
+known_wide_source _ form.I = refl
 
 known_multiply_add : (op : MultiplyAddOp) (f : Form) → IsKnown (vector_op.MultiplyAdd op) (multiply_add_line op) f
 unfolding find
@@ -369,8 +391,10 @@ known_vector (vector_op.Binary op) f = known_binary op f
 known_vector (vector_op.CarryOut op) f = known_carry_out op f
 known_vector (vector_op.Compare op) f = known_compare op f
 known_vector (vector_op.FixedPoint op) f = known_fixed_point op f
-known_vector (vector_op.Narrow op) f = known_narrow op f
+known_vector (vector_op.NarrowShift op) f = known_narrow_shift op f
+known_vector (vector_op.Clip op) f = known_clip op f
 known_vector (vector_op.Widen op) f = known_widen op f
+known_vector (vector_op.WideSource op) f = known_wide_source op f
 known_vector (vector_op.MultiplyAdd op) f = known_multiply_add op f
 known_vector (vector_op.WidenMultiplyAdd op) f = known_widen_multiply_add op f
 known_vector (vector_op.Reduce op) f = known_reduce op f

@@ -5,7 +5,7 @@ use Rattle.std.specs.Int.{byte_len}
 use Rattle.std.proofs.lemmas.Bool.Decides.{nat_tests}
 use Rattle.rv_model.specs.declared.vector.control_register.ControlRegister.{ControlRegister}
 use Rattle.rv_model.specs.declared.instructions.instruction.Instr.{Instr}
-use Rattle.rv_model.specs.declared.instructions.instruction.Instr.TheVariants.{Upper, Jump, JumpRegister, Branch, Load, Store, RegisterImmediate, ShiftImmediate, ShiftImmediateWord, RegisterRegister, Fence, System, Csr, CsrImmediate, SetVli, SetIvli, SetVl, VectorArith, VectorCarry, VectorMove}
+use Rattle.rv_model.specs.declared.instructions.instruction.Instr.TheVariants.{Upper, Jump, JumpRegister, Branch, Load, Store, RegisterImmediate, ShiftImmediate, ShiftImmediateWord, RegisterRegister, Fence, System, Csr, CsrImmediate, SetVli, SetIvli, SetVl, VectorArith, VectorCarry, VectorExtend, VectorMove}
 use Rattle.rv_model.specs.declared.memory.Access.TheVariants as access
 use Rattle.rv_model.specs.declared.instructions.operations.CsrOp.{CsrOp}
 use Rattle.rv_model.specs.declared.instructions.operations.LoadOp.{LoadOp}
@@ -13,7 +13,7 @@ use Rattle.rv_model.specs.declared.instructions.operations.StoreOp.{StoreOp}
 use Rattle.rv_model.specs.declared.instructions.operations.SystemOp.{SystemOp}
 use Rattle.rv_model.specs.declared.instructions.operations.SystemOp.TheVariants as system
 use Rattle.rv_model.specs.declared.instructions.operations.VectorOp.{VectorOp}
-use Rattle.rv_model.specs.declared.instructions.operations.VectorOp.TheVariants.{Binary, CarryOut, Compare, MultiplyAdd}
+use Rattle.rv_model.specs.declared.instructions.operations.VectorOp.TheVariants.{Binary, CarryOut, Compare, MultiplyAdd, NarrowShift, Widen, WideSource, WidenMultiplyAdd}
 use Rattle.rv_model.specs.declared.scalar.Scalar.{Scalar}
 use Rattle.rv_model.specs.declared.instructions.source.Source.{Source}
 use Rattle.rv_model.specs.declared.step.step_end.Cause.{Cause}
@@ -35,7 +35,7 @@ use Rattle.rv_model.specs.scalar.Registers.{read_register, with_register}
 use Rattle.rv_model.specs.step.ScalarStep.{jumps, jump_step, branch_step, load_step, store_step, csr_step, environment_call, system_step}
 use Rattle.rv_model.specs.step.Step.{step, executed, word_at}
 use Rattle.rv_model.specs.vector.Control.{is_write, csr_form, control_value}
-use Rattle.rv_model.specs.step.VectorStep.{VectorStepped, arith_step, carry_step, move_step, performed, typed, requested_length, vset_step, vector_ticks, after_vector, vector_executed, vector_step}
+use Rattle.rv_model.specs.step.VectorStep.{VectorStepped, arith_step, carry_step, extend_step, move_step, performed, typed, requested_length, vset_step, vector_ticks, after_vector, vector_executed, vector_step}
 use Rattle.rv_model.specs.declared.memory.Access.TheVariants.{Fetch}
 use Rattle.rv_model.proofs.text_lemmas.Pieces.{of_either}
 
@@ -123,6 +123,10 @@ arith_keeps t (Binary op) source vd vs2 vm s = record { refused = tt; first = re
 arith_keeps t (MultiplyAdd op) source vd vs2 vm s = record { refused = tt; first = refl }
 arith_keeps t (Compare op) source vd vs2 vm s = record { refused = tt; first = refl }
 arith_keeps t (CarryOut op) source vd vs2 vm s = record { refused = tt; first = refl }
+arith_keeps t (Widen op) source vd vs2 vm s = record { refused = tt; first = refl }
+arith_keeps t (WideSource op) source vd vs2 vm s = record { refused = tt; first = refl }
+arith_keeps t (WidenMultiplyAdd op) source vd vs2 vm s = record { refused = tt; first = refl }
+arith_keeps t (NarrowShift op) source vd vs2 vm s = record { refused = tt; first = refl }
 arith_keeps t _ source vd vs2 vm s = record { refused = refl; first = refl }
 
 typed_keeps : (t : Option VType) (done : VType → HartState → VectorStepped) (s : HartState) → ((v : VType) → VectorKeeps s (done v s)) → VectorKeeps s (typed t done s)
@@ -140,6 +144,8 @@ performed_keeps limit (VectorCarry carry vd vs2) s =
     typed_keeps s.vector.conf.vtype (λ t. carry_step t carry.0 carry.1 vd vs2) s (λ t. record { refused = tt; first = refl })
 performed_keeps limit (VectorMove source vd) s =
     typed_keeps s.vector.conf.vtype (λ t. move_step t source vd) s (λ t. record { refused = tt; first = refl })
+performed_keeps limit (VectorExtend op vd vs2 vm) s =
+    typed_keeps s.vector.conf.vtype (λ t. extend_step t op vd vs2 vm) s (λ t. record { refused = tt; first = refl })
 performed_keeps limit _ s = record { refused = refl; first = refl }
 
 vector_keeps : (limit : ℕ) (i : Instr) (s : HartState) → VectorKeeps s (vector_executed limit i s)

@@ -31,10 +31,14 @@ use Rattle.rv_model.specs.declared.instructions.operations.CompareOp.{CompareOp}
 use Rattle.rv_model.specs.declared.instructions.operations.CompareOp.TheVariants as compare
 use Rattle.rv_model.specs.declared.instructions.operations.FixedPointOp.{FixedPointOp}
 use Rattle.rv_model.specs.declared.instructions.operations.FixedPointOp.TheVariants as fixed_point
-use Rattle.rv_model.specs.declared.instructions.operations.NarrowOp.{NarrowOp}
-use Rattle.rv_model.specs.declared.instructions.operations.NarrowOp.TheVariants as narrow
+use Rattle.rv_model.specs.declared.instructions.operations.NarrowShiftOp.{NarrowShiftOp}
+use Rattle.rv_model.specs.declared.instructions.operations.NarrowShiftOp.TheVariants as narrow_shift
+use Rattle.rv_model.specs.declared.instructions.operations.ClipOp.{ClipOp}
+use Rattle.rv_model.specs.declared.instructions.operations.ClipOp.TheVariants as clip
 use Rattle.rv_model.specs.declared.instructions.operations.WidenOp.{WidenOp}
 use Rattle.rv_model.specs.declared.instructions.operations.WidenOp.TheVariants as widen
+use Rattle.rv_model.specs.declared.instructions.operations.WideSourceOp.{WideSourceOp}
+use Rattle.rv_model.specs.declared.instructions.operations.WideSourceOp.TheVariants as wide_source
 use Rattle.rv_model.specs.declared.instructions.operations.MultiplyAddOp.{MultiplyAddOp}
 use Rattle.rv_model.specs.declared.instructions.operations.MultiplyAddOp.TheVariants as multiply_add
 use Rattle.rv_model.specs.declared.instructions.operations.WidenMultiplyAddOp.{WidenMultiplyAddOp}
@@ -231,12 +235,15 @@ fixed_point_name fixed_point.Vaadd = codes "vaadd"
 fixed_point_name fixed_point.Vasubu = codes "vasubu"
 fixed_point_name fixed_point.Vasub = codes "vasub"
 
--- "Vector Narrowing Integer Right Shift Instructions", "Vector Narrowing Fixed-Point Clip Instructions"
-abbrev pub narrow_name : NarrowOp → List ℕ
-narrow_name narrow.Vnsrl = codes "vnsrl"
-narrow_name narrow.Vnsra = codes "vnsra"
-narrow_name narrow.Vnclipu = codes "vnclipu"
-narrow_name narrow.Vnclip = codes "vnclip"
+-- "Vector Narrowing Integer Right Shift Instructions"
+abbrev pub narrow_shift_name : NarrowShiftOp → List ℕ
+narrow_shift_name narrow_shift.Vnsrl = codes "vnsrl"
+narrow_shift_name narrow_shift.Vnsra = codes "vnsra"
+
+-- "Vector Narrowing Fixed-Point Clip Instructions"
+abbrev pub clip_name : ClipOp → List ℕ
+clip_name clip.Vnclipu = codes "vnclipu"
+clip_name clip.Vnclip = codes "vnclip"
 
 -- "Vector Widening Integer Add/Subtract", "Vector Widening Integer Multiply Instructions"
 abbrev pub widen_name : WidenOp → List ℕ
@@ -244,13 +251,16 @@ widen_name widen.Vwaddu = codes "vwaddu"
 widen_name widen.Vwadd = codes "vwadd"
 widen_name widen.Vwsubu = codes "vwsubu"
 widen_name widen.Vwsub = codes "vwsub"
-widen_name widen.VwadduW = codes "vwaddu"
-widen_name widen.VwaddW = codes "vwadd"
-widen_name widen.VwsubuW = codes "vwsubu"
-widen_name widen.VwsubW = codes "vwsub"
 widen_name widen.Vwmulu = codes "vwmulu"
 widen_name widen.Vwmulsu = codes "vwmulsu"
 widen_name widen.Vwmul = codes "vwmul"
+
+-- "Vector Widening Integer Add/Subtract", with a first source of twice the width
+abbrev pub wide_source_name : WideSourceOp → List ℕ
+wide_source_name wide_source.Vwaddu = codes "vwaddu"
+wide_source_name wide_source.Vwadd = codes "vwadd"
+wide_source_name wide_source.Vwsubu = codes "vwsubu"
+wide_source_name wide_source.Vwsub = codes "vwsub"
 
 -- "Vector Single-Width Integer Multiply-Add Instructions"
 abbrev pub multiply_add_name : MultiplyAddOp → List ℕ
@@ -357,28 +367,16 @@ abbrev pub carry_out_suffix : Form → Bool → List ℕ
 carry_out_suffix f true = suffix f
 carry_out_suffix f false = carry_suffix f
 
--- whether the first source of a widening operation has twice the width already
-abbrev pub is_wide : WidenOp → Bool
-is_wide widen.Vwaddu = false
-is_wide widen.Vwadd = false
-is_wide widen.Vwsubu = false
-is_wide widen.Vwsub = false
-is_wide widen.VwadduW = true
-is_wide widen.VwaddW = true
-is_wide widen.VwsubuW = true
-is_wide widen.VwsubW = true
-is_wide widen.Vwmulu = false
-is_wide widen.Vwmulsu = false
-is_wide widen.Vwmul = false
-
 -- the name of an operation with a line of its own
 abbrev pub vector_name : VectorOp → Form → Bool → List ℕ
 vector_name (vector_op.Binary op) f vm = binary_name op ++ suffix f
 vector_name (vector_op.CarryOut op) f vm = carry_out_name op ++ carry_out_suffix f vm
 vector_name (vector_op.Compare op) f vm = compare_name op ++ suffix f
 vector_name (vector_op.FixedPoint op) f vm = fixed_point_name op ++ suffix f
-vector_name (vector_op.Narrow op) f vm = narrow_name op ++ wide_suffix f
-vector_name (vector_op.Widen op) f vm = widen_name op ++ (if is_wide op then wide_suffix f else suffix f)
+vector_name (vector_op.NarrowShift op) f vm = narrow_shift_name op ++ wide_suffix f
+vector_name (vector_op.Clip op) f vm = clip_name op ++ wide_suffix f
+vector_name (vector_op.Widen op) f vm = widen_name op ++ suffix f
+vector_name (vector_op.WideSource op) f vm = wide_source_name op ++ wide_suffix f
 vector_name (vector_op.MultiplyAdd op) f vm = multiply_add_name op ++ suffix f
 vector_name (vector_op.WidenMultiplyAdd op) f vm = widen_multiply_add_name op ++ suffix f
 vector_name (vector_op.Reduce op) f vm = reduce_name op ++ codes ".vs"

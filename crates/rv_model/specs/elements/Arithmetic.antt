@@ -1,13 +1,18 @@
 -- What an element-wise instruction leaves in the vector registers ("V" Vector Extension 1.0, sections 3.4.3, 5.4 and chapter
 -- 11). The operands are those of the state that it finds.
-use Rattle.std.specs.Prelude.{ℕ, ◌%◌, ◌^◌, ◌&&◌, not, nat_lt, Bool, true, false, List}
+use Rattle.std.specs.Prelude.{ℕ, ◌*◌, ◌/◌, ◌%◌, ◌^◌, ◌&&◌, not, nat_lt, Bool, true, false, List}
 use Rattle.std.specs.Int.{Width}
 use mir.Val.{bits}
 use Rattle.rv_model.specs.declared.instructions.operations.BinaryOp.{BinaryOp}
 use Rattle.rv_model.specs.declared.instructions.operations.CarryOp.{CarryOp}
 use Rattle.rv_model.specs.declared.instructions.operations.CarryOutOp.{CarryOutOp}
 use Rattle.rv_model.specs.declared.instructions.operations.CompareOp.{CompareOp}
+use Rattle.rv_model.specs.declared.instructions.operations.ExtendOp.{ExtendOp}
 use Rattle.rv_model.specs.declared.instructions.operations.MultiplyAddOp.{MultiplyAddOp}
+use Rattle.rv_model.specs.declared.instructions.operations.NarrowShiftOp.{NarrowShiftOp}
+use Rattle.rv_model.specs.declared.instructions.operations.WidenOp.{WidenOp}
+use Rattle.rv_model.specs.declared.instructions.operations.WideSourceOp.{WideSourceOp}
+use Rattle.rv_model.specs.declared.instructions.operations.WidenMultiplyAddOp.{WidenMultiplyAddOp}
 use Rattle.rv_model.specs.declared.vector.policy.Policy.{Policy}
 use Rattle.rv_model.specs.declared.vector.policy.Policy.TheVariants.{Keep, Ones}
 use Rattle.rv_model.specs.declared.scalar.Scalar.{Scalar}
@@ -20,7 +25,8 @@ use Rattle.rv_model.specs.elements.Writes.{written, written_bits}
 use Rattle.rv_model.specs.vector.Registers.{group_of, with_group, register_of}
 use Rattle.rv_model.specs.scalar.Registers.{read_register}
 use Rattle.rv_model.specs.vector.Configuration.{lmul_eighths, sew_width, width_bytes}
-use Rattle.rv_model.specs.elements.Formulas.{carry_formula, carry_out_formula, compare_formula, formula, has_unsigned_immediate, immediate_value, multiply_add_formula, ones, wrap}
+use Rattle.rv_model.specs.elements.Formulas.{carry_formula, carry_out_formula, compare_formula, doubled, extend_formula, formula, has_unsigned_immediate, immediate_value, multiply_add_formula, narrow_shift_formula, ones, part_width, wide_source_formula, widen_formula, widen_multiply_add_formula, wrap}
+use Rattle.rv_model.specs.legality.OperandShapes.{extension_divisor}
 
 abbrev pub is_ones : Policy → Bool
 is_ones Keep = false
@@ -79,6 +85,36 @@ compare_result g op vs2 source file x i =
 abbrev pub carry_out_result : GroupType → CarryOutOp → Bool → ℕ → Source → List ℕ → Scalar → ℕ → Bool
 carry_out_result g op alone vs2 source file x i =
     carry_out_formula op g.width (group_element g file vs2 i) (second_element g false source file x i) (not alone && mask_bit (register_of file 0) i)
+
+-- ---- the result at element i, where the operands have two widths; n is the type of the narrow groups, w that of the wide
+
+-- groups of twice the vector type's width, and of twice its multiplier
+abbrev pub wide_type : VType → GroupType
+wide_type t = record { width = doubled (sew_width t.sew); emul = 2 * lmul_eighths t.lmul }
+
+abbrev pub widen_result : GroupType → GroupType → WidenOp → ℕ → Source → List ℕ → Scalar → ℕ → ℕ
+widen_result n w op vs2 source file x i =
+    wrap w.width (widen_formula op n.width (group_element n file vs2 i) (second_element n false source file x i))
+
+abbrev pub wide_source_result : GroupType → GroupType → WideSourceOp → ℕ → Source → List ℕ → Scalar → ℕ → ℕ
+wide_source_result n w op vs2 source file x i =
+    wrap w.width (wide_source_formula op w.width n.width (group_element w file vs2 i) (second_element n false source file x i))
+
+abbrev pub widen_multiply_add_result : GroupType → GroupType → WidenMultiplyAddOp → ℕ → ℕ → Source → List ℕ → Scalar → ℕ → ℕ
+widen_multiply_add_result n w op vd vs2 source file x i =
+    wrap w.width
+    (widen_multiply_add_formula op n.width (group_element n file vs2 i) (second_element n false source file x i) (group_element w file vd i))
+
+abbrev pub narrow_shift_result : GroupType → GroupType → NarrowShiftOp → ℕ → Source → List ℕ → Scalar → ℕ → ℕ
+narrow_shift_result n w op vs2 source file x i =
+    wrap n.width (narrow_shift_formula op w.width (group_element w file vs2 i) (second_element n true source file x i))
+
+-- groups of a part of the vector type's width, and of that part of its multiplier
+abbrev pub part_type : ExtendOp → VType → GroupType
+part_type op t = record { width = part_width op (sew_width t.sew); emul = lmul_eighths t.lmul / extension_divisor op }
+
+abbrev pub extend_result : GroupType → GroupType → ExtendOp → ℕ → List ℕ → ℕ → ℕ
+extend_result n w op vs2 file i = wrap w.width (extend_formula op n.width (group_element n file vs2 i))
 
 -- ---- the vector registers with results
 

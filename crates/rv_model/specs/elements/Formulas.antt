@@ -1,8 +1,8 @@
 -- The result of each element-wise operation, as a whole number or a truth ("V" Vector Extension 1.0, chapter 11). An element is
 -- an unsigned number of the width in hand; a is that of vs2, b that of vs1, of x[rs1] or of the immediate. A number is taken
 -- modulo 2 to the width.
-use Rattle.std.specs.Prelude.{ℕ, ◌+◌, ◌-◌, ◌*◌, ◌%◌, ◌^◌, ◌==◌, nat_le, nat_lt, min, max, not, Bool, true, false, suc, ℤ, pos, negsuc, ◌+ℤ◌, ◌-ℤ◌, int_lt, int_le, bit_and, bit_or, bit_xor, if◌then◌else◌}
-use Rattle.std.specs.Int.{Width, cast_signed, from_bool, int_min, int_max, int_shr}
+use Rattle.std.specs.Prelude.{ℕ, ◌+◌, ◌-◌, ◌*◌, ◌%◌, ◌^◌, ◌==◌, nat_le, nat_lt, min, max, not, Bool, true, false, suc, ℤ, pos, negsuc, ◌+ℤ◌, ◌-ℤ◌, ◌*ℤ◌, int_lt, int_le, bit_and, bit_or, bit_xor, if◌then◌else◌}
+use Rattle.std.specs.Int.{Width, w8, w16, w32, w64, w128, cast_signed, from_bool, int_min, int_max, int_shr}
 use mir.Val.{bits}
 use Rattle.rv_model.specs.declared.instructions.operations.BinaryOp.{BinaryOp}
 use Rattle.rv_model.specs.declared.instructions.operations.BinaryOp.TheVariants.{Vadd, Vsub, Vrsub, Vminu, Vmin, Vmaxu, Vmax, Vand, Vor, Vxor, Vsll, Vsrl, Vsra, Vdivu, Vdiv, Vremu, Vrem, Vmulhu, Vmul, Vmulhsu, Vmulh}
@@ -12,6 +12,16 @@ use Rattle.rv_model.specs.declared.instructions.operations.CarryOutOp.{CarryOutO
 use Rattle.rv_model.specs.declared.instructions.operations.CarryOutOp.TheVariants.{Vmadc, Vmsbc}
 use Rattle.rv_model.specs.declared.instructions.operations.CompareOp.{CompareOp}
 use Rattle.rv_model.specs.declared.instructions.operations.CompareOp.TheVariants.{Vmseq, Vmsne, Vmsltu, Vmslt, Vmsleu, Vmsle, Vmsgtu, Vmsgt}
+use Rattle.rv_model.specs.declared.instructions.operations.ExtendOp.{ExtendOp}
+use Rattle.rv_model.specs.declared.instructions.operations.ExtendOp.TheVariants.{VzextVf8, VsextVf8, VzextVf4, VsextVf4, VzextVf2, VsextVf2}
+use Rattle.rv_model.specs.declared.instructions.operations.NarrowShiftOp.{NarrowShiftOp}
+use Rattle.rv_model.specs.declared.instructions.operations.NarrowShiftOp.TheVariants.{Vnsrl, Vnsra}
+use Rattle.rv_model.specs.declared.instructions.operations.WidenOp.{WidenOp}
+use Rattle.rv_model.specs.declared.instructions.operations.WidenOp.TheVariants as widen
+use Rattle.rv_model.specs.declared.instructions.operations.WideSourceOp.{WideSourceOp}
+use Rattle.rv_model.specs.declared.instructions.operations.WideSourceOp.TheVariants as wide_source
+use Rattle.rv_model.specs.declared.instructions.operations.WidenMultiplyAddOp.{WidenMultiplyAddOp}
+use Rattle.rv_model.specs.declared.instructions.operations.WidenMultiplyAddOp.TheVariants.{Vwmaccu, Vwmacc, Vwmaccus, Vwmaccsu}
 use Rattle.rv_model.specs.declared.instructions.operations.MultiplyAddOp.{MultiplyAddOp}
 use Rattle.rv_model.specs.declared.instructions.operations.MultiplyAddOp.TheVariants.{Vmadd, Vnmsub, Vmacc, Vnmsac}
 use Rattle.rv_model.specs.instructions.Immediates.{sign_extended}
@@ -56,6 +66,73 @@ multiply_add_formula Vmadd a b d = pos (b * d + a)
 multiply_add_formula Vnmsub a b d = pos a -ℤ pos (b * d)
 multiply_add_formula Vmacc a b d = pos (a * b + d)
 multiply_add_formula Vnmsac a b d = pos d -ℤ pos (a * b)
+
+-- ---- operations of two widths; w is the lesser
+
+-- twice the width
+abbrev pub doubled : Width → Width
+doubled w8 = w16
+doubled w16 = w32
+doubled w32 = w64
+doubled w64 = w128
+doubled w128 = w128
+
+-- whose result has twice the width
+abbrev pub widen_formula : WidenOp → Width → ℕ → ℕ → ℤ
+widen_formula widen.Vwaddu w a b = pos a +ℤ pos b
+widen_formula widen.Vwadd w a b = cast_signed w a +ℤ cast_signed w b
+widen_formula widen.Vwsubu w a b = pos a -ℤ pos b
+widen_formula widen.Vwsub w a b = cast_signed w a -ℤ cast_signed w b
+widen_formula widen.Vwmulu w a b = pos a *ℤ pos b
+widen_formula widen.Vwmulsu w a b = cast_signed w a *ℤ pos b
+widen_formula widen.Vwmul w a b = cast_signed w a *ℤ cast_signed w b
+
+-- whose result and first operand have twice the width, v
+abbrev pub wide_source_formula : WideSourceOp → Width → Width → ℕ → ℕ → ℤ
+wide_source_formula wide_source.Vwaddu v w a b = pos a +ℤ pos b
+wide_source_formula wide_source.Vwadd v w a b = cast_signed v a +ℤ cast_signed w b
+wide_source_formula wide_source.Vwsubu v w a b = pos a -ℤ pos b
+wide_source_formula wide_source.Vwsub v w a b = cast_signed v a -ℤ cast_signed w b
+
+-- products of twice the width, added to d, the element of vd
+abbrev pub widen_multiply_add_formula : WidenMultiplyAddOp → Width → ℕ → ℕ → ℕ → ℤ
+widen_multiply_add_formula Vwmaccu w a b d = pos a *ℤ pos b +ℤ pos d
+widen_multiply_add_formula Vwmacc w a b d = cast_signed w a *ℤ cast_signed w b +ℤ pos d
+widen_multiply_add_formula Vwmaccus w a b d = cast_signed w a *ℤ pos b +ℤ pos d
+widen_multiply_add_formula Vwmaccsu w a b d = pos a *ℤ cast_signed w b +ℤ pos d
+
+-- shifts of a first operand of twice the width, v, by the low bits of b: as many as a shift at that width takes
+abbrev pub narrow_shift_formula : NarrowShiftOp → Width → ℕ → ℕ → ℤ
+narrow_shift_formula Vnsrl v a b = pos (shifted_right v a b)
+narrow_shift_formula Vnsra v a b = int_shr (cast_signed v a) (b % bits v)
+
+-- half of the width
+abbrev pub halved : Width → Width
+halved w8 = w8
+halved w16 = w8
+halved w32 = w16
+halved w64 = w32
+halved w128 = w64
+
+-- the width of the source of an extension to a width
+abbrev pub part_width : ExtendOp → Width → Width
+part_width VzextVf8 w = halved (halved (halved w))
+part_width VsextVf8 w = halved (halved (halved w))
+part_width VzextVf4 w = halved (halved w)
+part_width VsextVf4 w = halved (halved w)
+part_width VzextVf2 w = halved w
+part_width VsextVf2 w = halved w
+
+-- extensions of an element of the width w, by zeros or by its sign
+abbrev pub extend_formula : ExtendOp → Width → ℕ → ℤ
+extend_formula VzextVf8 w a = pos a
+extend_formula VsextVf8 w a = cast_signed w a
+extend_formula VzextVf4 w a = pos a
+extend_formula VsextVf4 w a = cast_signed w a
+extend_formula VzextVf2 w a = pos a
+extend_formula VsextVf2 w a = cast_signed w a
+
+-- ---- operations with v0, and truths
 
 -- operations with v0 as an operand; c is its bit
 abbrev pub carry_formula : CarryOp → ℕ → ℕ → Bool → ℤ

@@ -19,10 +19,14 @@ use Rattle.rv_model.specs.declared.instructions.operations.CompareOp.{CompareOp}
 use Rattle.rv_model.specs.declared.instructions.operations.CompareOp.TheVariants as compare
 use Rattle.rv_model.specs.declared.instructions.operations.FixedPointOp.{FixedPointOp}
 use Rattle.rv_model.specs.declared.instructions.operations.FixedPointOp.TheVariants as fixed_point
-use Rattle.rv_model.specs.declared.instructions.operations.NarrowOp.{NarrowOp}
-use Rattle.rv_model.specs.declared.instructions.operations.NarrowOp.TheVariants as narrow
+use Rattle.rv_model.specs.declared.instructions.operations.NarrowShiftOp.{NarrowShiftOp}
+use Rattle.rv_model.specs.declared.instructions.operations.NarrowShiftOp.TheVariants as narrow_shift
+use Rattle.rv_model.specs.declared.instructions.operations.ClipOp.{ClipOp}
+use Rattle.rv_model.specs.declared.instructions.operations.ClipOp.TheVariants as clip
 use Rattle.rv_model.specs.declared.instructions.operations.WidenOp.{WidenOp}
 use Rattle.rv_model.specs.declared.instructions.operations.WidenOp.TheVariants as widen
+use Rattle.rv_model.specs.declared.instructions.operations.WideSourceOp.{WideSourceOp}
+use Rattle.rv_model.specs.declared.instructions.operations.WideSourceOp.TheVariants as wide_source
 use Rattle.rv_model.specs.declared.instructions.operations.MultiplyAddOp.{MultiplyAddOp}
 use Rattle.rv_model.specs.declared.instructions.operations.MultiplyAddOp.TheVariants as multiply_add
 use Rattle.rv_model.specs.declared.instructions.operations.WidenMultiplyAddOp.{WidenMultiplyAddOp}
@@ -133,16 +137,23 @@ fixed_point_ops =
     fixed_point.Vssrl ∷ fixed_point.Vssra ∷ fixed_point.Vaaddu ∷ fixed_point.Vaadd ∷ fixed_point.Vasubu ∷
     fixed_point.Vasub ∷ []
 
--- "Vector Narrowing Integer Right Shift Instructions", "Vector Narrowing Fixed-Point Clip Instructions"
-abbrev pub narrow_line : NarrowOp → Line
-narrow_line narrow.Vnsrl = opi 0x2c Vxi  -- vnsrl.wv, vnsrl.wx, vnsrl.wi
-narrow_line narrow.Vnsra = opi 0x2d Vxi  -- vnsra.wv, vnsra.wx, vnsra.wi
-narrow_line narrow.Vnclipu = opi 0x2e Vxi  -- vnclipu.wv, vnclipu.wx, vnclipu.wi
-narrow_line narrow.Vnclip = opi 0x2f Vxi  -- vnclip.wv, vnclip.wx, vnclip.wi
+-- "Vector Narrowing Integer Right Shift Instructions"
+abbrev pub narrow_shift_line : NarrowShiftOp → Line
+narrow_shift_line narrow_shift.Vnsrl = opi 0x2c Vxi  -- vnsrl.wv, vnsrl.wx, vnsrl.wi
+narrow_shift_line narrow_shift.Vnsra = opi 0x2d Vxi  -- vnsra.wv, vnsra.wx, vnsra.wi
 
 -- its operations
-abbrev pub narrow_ops : List NarrowOp
-narrow_ops = narrow.Vnsrl ∷ narrow.Vnsra ∷ narrow.Vnclipu ∷ narrow.Vnclip ∷ []
+abbrev pub narrow_shift_ops : List NarrowShiftOp
+narrow_shift_ops = narrow_shift.Vnsrl ∷ narrow_shift.Vnsra ∷ []
+
+-- "Vector Narrowing Fixed-Point Clip Instructions"
+abbrev pub clip_line : ClipOp → Line
+clip_line clip.Vnclipu = opi 0x2e Vxi  -- vnclipu.wv, vnclipu.wx, vnclipu.wi
+clip_line clip.Vnclip = opi 0x2f Vxi  -- vnclip.wv, vnclip.wx, vnclip.wi
+
+-- its operations
+abbrev pub clip_ops : List ClipOp
+clip_ops = clip.Vnclipu ∷ clip.Vnclip ∷ []
 
 -- "Vector Widening Integer Add/Subtract", "Vector Widening Integer Multiply Instructions"
 abbrev pub widen_line : WidenOp → Line
@@ -150,10 +161,6 @@ widen_line widen.Vwaddu = opm 0x30 Vx  -- vwaddu.vv, vwaddu.vx
 widen_line widen.Vwadd = opm 0x31 Vx  -- vwadd.vv, vwadd.vx
 widen_line widen.Vwsubu = opm 0x32 Vx  -- vwsubu.vv, vwsubu.vx
 widen_line widen.Vwsub = opm 0x33 Vx  -- vwsub.vv, vwsub.vx
-widen_line widen.VwadduW = opm 0x34 Vx  -- vwaddu.wv, vwaddu.wx
-widen_line widen.VwaddW = opm 0x35 Vx  -- vwadd.wv, vwadd.wx
-widen_line widen.VwsubuW = opm 0x36 Vx  -- vwsubu.wv, vwsubu.wx
-widen_line widen.VwsubW = opm 0x37 Vx  -- vwsub.wv, vwsub.wx
 widen_line widen.Vwmulu = opm 0x38 Vx  -- vwmulu.vv, vwmulu.vx
 widen_line widen.Vwmulsu = opm 0x3a Vx  -- vwmulsu.vv, vwmulsu.vx
 widen_line widen.Vwmul = opm 0x3b Vx  -- vwmul.vv, vwmul.vx
@@ -161,8 +168,18 @@ widen_line widen.Vwmul = opm 0x3b Vx  -- vwmul.vv, vwmul.vx
 -- its operations
 abbrev pub widen_ops : List WidenOp
 widen_ops =
-    widen.Vwaddu ∷ widen.Vwadd ∷ widen.Vwsubu ∷ widen.Vwsub ∷ widen.VwadduW ∷ widen.VwaddW ∷ widen.VwsubuW ∷
-    widen.VwsubW ∷ widen.Vwmulu ∷ widen.Vwmulsu ∷ widen.Vwmul ∷ []
+    widen.Vwaddu ∷ widen.Vwadd ∷ widen.Vwsubu ∷ widen.Vwsub ∷ widen.Vwmulu ∷ widen.Vwmulsu ∷ widen.Vwmul ∷ []
+
+-- "Vector Widening Integer Add/Subtract", with a first source of twice the width
+abbrev pub wide_source_line : WideSourceOp → Line
+wide_source_line wide_source.Vwaddu = opm 0x34 Vx  -- vwaddu.wv, vwaddu.wx
+wide_source_line wide_source.Vwadd = opm 0x35 Vx  -- vwadd.wv, vwadd.wx
+wide_source_line wide_source.Vwsubu = opm 0x36 Vx  -- vwsubu.wv, vwsubu.wx
+wide_source_line wide_source.Vwsub = opm 0x37 Vx  -- vwsub.wv, vwsub.wx
+
+-- its operations
+abbrev pub wide_source_ops : List WideSourceOp
+wide_source_ops = wide_source.Vwaddu ∷ wide_source.Vwadd ∷ wide_source.Vwsubu ∷ wide_source.Vwsub ∷ []
 
 -- "Vector Single-Width Integer Multiply-Add Instructions"
 abbrev pub multiply_add_line : MultiplyAddOp → Line
@@ -238,8 +255,10 @@ line (vector_op.Binary op) = binary_line op
 line (vector_op.CarryOut op) = carry_out_line op
 line (vector_op.Compare op) = compare_line op
 line (vector_op.FixedPoint op) = fixed_point_line op
-line (vector_op.Narrow op) = narrow_line op
+line (vector_op.NarrowShift op) = narrow_shift_line op
+line (vector_op.Clip op) = clip_line op
 line (vector_op.Widen op) = widen_line op
+line (vector_op.WideSource op) = wide_source_line op
 line (vector_op.MultiplyAdd op) = multiply_add_line op
 line (vector_op.WidenMultiplyAdd op) = widen_multiply_add_line op
 line (vector_op.Reduce op) = reduce_line op
@@ -252,8 +271,10 @@ vector_ops =
     ++ map vector_op.CarryOut carry_out_ops
     ++ map vector_op.Compare compare_ops
     ++ map vector_op.FixedPoint fixed_point_ops
-    ++ map vector_op.Narrow narrow_ops
+    ++ map vector_op.NarrowShift narrow_shift_ops
+    ++ map vector_op.Clip clip_ops
     ++ map vector_op.Widen widen_ops
+    ++ map vector_op.WideSource wide_source_ops
     ++ map vector_op.MultiplyAdd multiply_add_ops
     ++ map vector_op.WidenMultiplyAdd widen_multiply_add_ops
     ++ map vector_op.Reduce reduce_ops

@@ -8,7 +8,6 @@ use Rattle.rv_model.specs.declared.instructions.operations.BinaryOp.TheVariants.
 use Rattle.rv_model.specs.declared.instructions.operations.Direction.{Direction}
 use Rattle.rv_model.specs.declared.instructions.operations.Direction.TheVariants as direction
 use Rattle.rv_model.specs.declared.instructions.operations.ExtendOp.{ExtendOp}
-use Rattle.rv_model.specs.declared.instructions.operations.ExtendOp.TheVariants.{VzextVf8, VsextVf8, VzextVf4, VsextVf4, VzextVf2, VsextVf2}
 use Rattle.rv_model.specs.declared.instructions.operations.FixedPointOp.{FixedPointOp}
 use Rattle.rv_model.specs.declared.instructions.operations.FixedPointOp.TheVariants.{Vsmul}
 use Rattle.rv_model.specs.declared.instructions.operations.MaskUnaryOp.{MaskUnaryOp}
@@ -18,7 +17,7 @@ use Rattle.rv_model.specs.declared.instructions.operations.RegisterCount.TheVari
 use Rattle.rv_model.specs.declared.instructions.operations.UnitOp.{UnitOp}
 use Rattle.rv_model.specs.declared.instructions.operations.UnitOp.TheVariants as unit
 use Rattle.rv_model.specs.declared.instructions.operations.VectorOp.{VectorOp}
-use Rattle.rv_model.specs.declared.instructions.operations.VectorOp.TheVariants.{Binary, CarryOut, Compare, FixedPoint, Narrow, Widen, MultiplyAdd, WidenMultiplyAdd, Reduce, Permute}
+use Rattle.rv_model.specs.declared.instructions.operations.VectorOp.TheVariants.{Binary, CarryOut, Compare, FixedPoint, NarrowShift, Clip, Widen, WideSource, MultiplyAdd, WidenMultiplyAdd, Reduce, Permute}
 use Rattle.rv_model.specs.declared.instructions.operations.Width.{Width}
 use Rattle.rv_model.specs.declared.instructions.source.Source.{Source}
 use Rattle.rv_model.specs.declared.legality.Operand.{Operand}
@@ -26,7 +25,7 @@ use Rattle.rv_model.specs.declared.legality.Role.{Role}
 use Rattle.rv_model.specs.declared.legality.Role.TheVariants.{Read, Write, Apart}
 use Rattle.rv_model.specs.declared.legality.Shape.TheVariants.{Single}
 use Rattle.rv_model.specs.declared.vector.types.VType.{VType}
-use Rattle.rv_model.specs.legality.OperandShapes.{shape_of, destination, second_source, shape_operands, segment, group, whole, mask, v0}
+use Rattle.rv_model.specs.legality.OperandShapes.{extension_divisor, shape_of, destination, second_source, shape_operands, segment, group, whole, mask, v0}
 use Rattle.rv_model.specs.legality.RegisterOperands.{AreLegal, are_legal}
 use Rattle.rv_model.specs.vector.Configuration.{element_width, sew_bits}
 
@@ -36,15 +35,6 @@ register_count One = 1
 register_count Two = 2
 register_count Four = 4
 register_count Eight = 8
-
--- which part of SEW the source of an extension has: SEW divided by this
-abbrev pub extension_divisor : ExtendOp → ℕ
-extension_divisor VzextVf8 = 8
-extension_divisor VsextVf8 = 8
-extension_divisor VzextVf4 = 4
-extension_divisor VsextVf4 = 4
-extension_divisor VzextVf2 = 2
-extension_divisor VsextVf2 = 2
 
 -- ---- the operands of an instruction
 
@@ -152,8 +142,10 @@ is_reduction (Binary o) = false
 is_reduction (CarryOut o) = false
 is_reduction (Compare o) = false
 is_reduction (FixedPoint o) = false
-is_reduction (Narrow o) = false
+is_reduction (NarrowShift o) = false
+is_reduction (Clip o) = false
 is_reduction (Widen o) = false
+is_reduction (WideSource o) = false
 is_reduction (MultiplyAdd o) = false
 is_reduction (WidenMultiplyAdd o) = false
 is_reduction (Reduce o) = true
@@ -185,8 +177,10 @@ is_narrow_only (Binary o) = has_wide_product o
 is_narrow_only (CarryOut o) = false
 is_narrow_only (Compare o) = false
 is_narrow_only (FixedPoint o) = is_fractional_product o
-is_narrow_only (Narrow o) = false
+is_narrow_only (NarrowShift o) = false
+is_narrow_only (Clip o) = false
 is_narrow_only (Widen o) = false
+is_narrow_only (WideSource o) = false
 is_narrow_only (MultiplyAdd o) = false
 is_narrow_only (WidenMultiplyAdd o) = false
 is_narrow_only (Reduce o) = false

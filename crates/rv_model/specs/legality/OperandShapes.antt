@@ -1,10 +1,10 @@
 -- The register operands of a vector operation, by the shape of the operation ("V" Vector Extension 1.0, sections 5.2, 10.2,
 -- 11.1 to 11.12, 12, 14 and 16).
 use Rattle.std.specs.Prelude.{ℕ, ◌*◌, ◌/◌, Bool, List, [], ◌∷◌, if◌then◌else◌}
+use Rattle.rv_model.specs.declared.instructions.operations.ExtendOp.{ExtendOp}
+use Rattle.rv_model.specs.declared.instructions.operations.ExtendOp.TheVariants.{VzextVf8, VsextVf8, VzextVf4, VsextVf4, VzextVf2, VsextVf2}
 use Rattle.rv_model.specs.declared.instructions.operations.VectorOp.{VectorOp}
 use Rattle.rv_model.specs.declared.instructions.operations.VectorOp.TheVariants as op
-use Rattle.rv_model.specs.declared.instructions.operations.WidenOp.{WidenOp}
-use Rattle.rv_model.specs.declared.instructions.operations.WidenOp.TheVariants.{Vwaddu, Vwadd, Vwsubu, Vwsub, VwadduW, VwaddW, VwsubuW, VwsubW, Vwmulu, Vwmulsu, Vwmul}
 use Rattle.rv_model.specs.declared.instructions.operations.ReduceOp.{ReduceOp}
 use Rattle.rv_model.specs.declared.instructions.operations.ReduceOp.TheVariants.{Vredsum, Vredand, Vredor, Vredxor, Vredminu, Vredmin, Vredmaxu, Vredmax, Vwredsumu, Vwredsum}
 use Rattle.rv_model.specs.declared.instructions.operations.PermuteOp.{PermuteOp}
@@ -48,18 +48,14 @@ v0 unmasked = mask (if unmasked then Unused else Control) 0
 
 -- ---- shapes
 
-abbrev pub widen_shape : WidenOp → Shape
-widen_shape Vwaddu = Widening
-widen_shape Vwadd = Widening
-widen_shape Vwsubu = Widening
-widen_shape Vwsub = Widening
-widen_shape VwadduW = WideSource
-widen_shape VwaddW = WideSource
-widen_shape VwsubuW = WideSource
-widen_shape VwsubW = WideSource
-widen_shape Vwmulu = Widening
-widen_shape Vwmulsu = Widening
-widen_shape Vwmul = Widening
+-- which part of SEW the source of an extension has: SEW divided by this
+abbrev pub extension_divisor : ExtendOp → ℕ
+extension_divisor VzextVf8 = 8
+extension_divisor VsextVf8 = 8
+extension_divisor VzextVf4 = 4
+extension_divisor VsextVf4 = 4
+extension_divisor VzextVf2 = 2
+extension_divisor VsextVf2 = 2
 
 abbrev pub reduce_shape : ReduceOp → Shape
 reduce_shape Vredsum = Reduction
@@ -87,8 +83,10 @@ shape_of (op.Binary o) = Single
 shape_of (op.CarryOut o) = Compare
 shape_of (op.Compare o) = Compare
 shape_of (op.FixedPoint o) = Single
-shape_of (op.Narrow o) = Narrowing
-shape_of (op.Widen o) = widen_shape o
+shape_of (op.NarrowShift o) = Narrowing
+shape_of (op.Clip o) = Narrowing
+shape_of (op.Widen o) = Widening
+shape_of (op.WideSource o) = WideSource
 shape_of (op.MultiplyAdd o) = Single
 shape_of (op.WidenMultiplyAdd o) = Widening
 shape_of (op.Reduce o) = reduce_shape o

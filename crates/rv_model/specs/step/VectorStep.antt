@@ -3,8 +3,9 @@ use Rattle.std.specs.Prelude.{ℕ, ◌==◌, Bool, true, false, List, Option, So
 use Rattle.rv_model.specs.declared.instructions.instruction.Instr.{Instr}
 use Rattle.rv_model.specs.declared.instructions.instruction.Instr.TheVariants.{Upper, Jump, JumpRegister, Branch, Load, Store, RegisterImmediate, ShiftImmediate, ShiftImmediateWord, RegisterRegister, Fence, System, Csr, CsrImmediate, SetVli, SetIvli, SetVl, VectorArith, VectorCarry, VectorMove, WholeMove, MaskLogic, Compress, MaskToScalar, VectorExtend, MaskUnary, ElementIndex, MoveToScalar, MoveToVector, VectorUnit, VectorStrided, VectorIndexed, WholeLoad, WholeStore, MaskMemory}
 use Rattle.rv_model.specs.declared.instructions.operations.CarryOp.{CarryOp}
+use Rattle.rv_model.specs.declared.instructions.operations.ExtendOp.{ExtendOp}
 use Rattle.rv_model.specs.declared.instructions.operations.VectorOp.{VectorOp}
-use Rattle.rv_model.specs.declared.instructions.operations.VectorOp.TheVariants.{Binary, CarryOut, Compare, FixedPoint, Narrow, Widen, MultiplyAdd, WidenMultiplyAdd, Reduce, Permute}
+use Rattle.rv_model.specs.declared.instructions.operations.VectorOp.TheVariants.{Binary, CarryOut, Compare, FixedPoint, NarrowShift, Clip, Widen, WideSource, MultiplyAdd, WidenMultiplyAdd, Reduce, Permute}
 use Rattle.rv_model.specs.declared.scalar.Scalar.{Scalar}
 use Rattle.rv_model.specs.declared.instructions.source.Source.{Source}
 use Rattle.rv_model.specs.declared.step.step_end.Cause.{Cause}
@@ -18,7 +19,7 @@ use Rattle.rv_model.specs.declared.vector.types.VType.{VType}
 use Rattle.rv_model.specs.step.Hart.{HartState, Stepped, ends_after, faults}
 use Rattle.rv_model.specs.legality.Legality.{is_legal}
 use Rattle.rv_model.specs.scalar.Registers.{advanced, read_register, with_register}
-use Rattle.rv_model.specs.elements.Arithmetic.{GroupType, binary_result, body_of, carry_out_result, carry_result, compare_result, fills_masked_off, fills_tail, group_type, multiply_add_result, second_element, with_mask_results, with_results}
+use Rattle.rv_model.specs.elements.Arithmetic.{GroupType, binary_result, body_of, carry_out_result, carry_result, compare_result, extend_result, fills_masked_off, fills_tail, group_type, multiply_add_result, narrow_shift_result, part_type, second_element, wide_source_result, wide_type, widen_multiply_add_result, widen_result, with_mask_results, with_results}
 use Rattle.rv_model.specs.vector.Configuration.{Configuration}
 use Rattle.rv_model.specs.vector.TypeRules.{requested}
 
@@ -110,10 +111,17 @@ arith_step t (Compare op) source vd vs2 vm s =
     mask_wise vd vm (compare_result (group_type t) op vs2 source s.vector.file s.scalar) s
 arith_step t (CarryOut op) source vd vs2 vm s =
     mask_wise vd true (carry_out_result (group_type t) op vm vs2 source s.vector.file s.scalar) s
+arith_step t (Widen op) source vd vs2 vm s =
+    element_wise t (wide_type t) vd vm (widen_result (group_type t) (wide_type t) op vs2 source s.vector.file s.scalar) s
+arith_step t (WideSource op) source vd vs2 vm s =
+    element_wise t (wide_type t) vd vm (wide_source_result (group_type t) (wide_type t) op vs2 source s.vector.file s.scalar) s
+arith_step t (WidenMultiplyAdd op) source vd vs2 vm s =
+    element_wise t (wide_type t) vd vm
+    (widen_multiply_add_result (group_type t) (wide_type t) op vd vs2 source s.vector.file s.scalar) s
+arith_step t (NarrowShift op) source vd vs2 vm s =
+    element_wise t (group_type t) vd vm (narrow_shift_result (group_type t) (wide_type t) op vs2 source s.vector.file s.scalar) s
+arith_step t (Clip op) source vd vs2 vm s = vector_ends vector_end.Illegal s
 arith_step t (FixedPoint op) source vd vs2 vm s = vector_ends vector_end.Illegal s
-arith_step t (Narrow op) source vd vs2 vm s = vector_ends vector_end.Illegal s
-arith_step t (Widen op) source vd vs2 vm s = vector_ends vector_end.Illegal s
-arith_step t (WidenMultiplyAdd op) source vd vs2 vm s = vector_ends vector_end.Illegal s
 arith_step t (Reduce op) source vd vs2 vm s = vector_ends vector_end.Illegal s
 arith_step t (Permute op) source vd vs2 vm s = vector_ends vector_end.Illegal s
 
@@ -121,6 +129,11 @@ arith_step t (Permute op) source vd vs2 vm s = vector_ends vector_end.Illegal s
 abbrev pub carry_step : VType → CarryOp → Source → ℕ → ℕ → HartState → VectorStepped
 carry_step t op source vd vs2 s =
     element_wise t (group_type t) vd true (carry_result (group_type t) op vs2 source s.vector.file s.scalar) s
+
+-- vzext and vsext
+abbrev pub extend_step : VType → ExtendOp → ℕ → ℕ → Bool → HartState → VectorStepped
+extend_step t op vd vs2 vm s =
+    element_wise t (group_type t) vd vm (extend_result (part_type op t) (group_type t) op vs2 s.vector.file) s
 
 -- vmv.v.v and the like
 abbrev pub move_step : VType → Source → ℕ → HartState → VectorStepped
@@ -140,6 +153,7 @@ performed limit (SetVl rd rs1 rs2) s = vset_step rd (read_register s.scalar rs2)
 performed limit (VectorArith arith vd vs2 vm) s = typed s.vector.conf.vtype (λ t. arith_step t arith.0 arith.1 vd vs2 vm) s
 performed limit (VectorCarry carry vd vs2) s = typed s.vector.conf.vtype (λ t. carry_step t carry.0 carry.1 vd vs2) s
 performed limit (VectorMove source vd) s = typed s.vector.conf.vtype (λ t. move_step t source vd) s
+performed limit (VectorExtend op vd vs2 vm) s = typed s.vector.conf.vtype (λ t. extend_step t op vd vs2 vm) s
 performed limit _ s = vector_ends vector_end.Illegal s
 
 -- a vector instruction, by the ticks that are left: an illegal one changes nothing

@@ -192,32 +192,42 @@ pub enum FixedPointOp {
     Vasub,
 }
 
-/// Shifts and clips of a source of twice the width (V extension, "Vector Narrowing Integer Right
-/// Shift Instructions" and "Vector Narrowing Fixed-Point Clip Instructions").
+/// Shifts of a source of twice the width (V extension, "Vector Narrowing Integer Right Shift
+/// Instructions").
 #[derive(Clone, Copy)]
-pub enum NarrowOp {
+pub enum NarrowShiftOp {
     Vnsrl,
     Vnsra,
+}
+
+/// Clips of a source of twice the width (V extension, "Vector Narrowing Fixed-Point Clip Instructions").
+#[derive(Clone, Copy)]
+pub enum ClipOp {
     Vnclipu,
     Vnclip,
 }
 
 /// Operations whose result has twice the width (V extension, "Vector Widening Integer Add/Subtract"
-/// and "Vector Widening Integer Multiply Instructions"). Where the name ends in `W`, the first source
-/// has twice the width too.
+/// and "Vector Widening Integer Multiply Instructions").
 #[derive(Clone, Copy)]
 pub enum WidenOp {
     Vwaddu,
     Vwadd,
     Vwsubu,
     Vwsub,
-    VwadduW,
-    VwaddW,
-    VwsubuW,
-    VwsubW,
     Vwmulu,
     Vwmulsu,
     Vwmul,
+}
+
+/// Operations whose result and first source have twice the width: `vwaddu.wv` and the like (V extension,
+/// "Vector Widening Integer Add/Subtract").
+#[derive(Clone, Copy)]
+pub enum WideSourceOp {
+    Vwaddu,
+    Vwadd,
+    Vwsubu,
+    Vwsub,
 }
 
 /// Products added to a third operand (V extension, "Vector Single-Width Integer Multiply-Add
@@ -274,8 +284,10 @@ pub enum VectorOp {
     CarryOut(CarryOutOp),
     Compare(CompareOp),
     FixedPoint(FixedPointOp),
-    Narrow(NarrowOp),
+    NarrowShift(NarrowShiftOp),
+    Clip(ClipOp),
     Widen(WidenOp),
+    WideSource(WideSourceOp),
     MultiplyAdd(MultiplyAddOp),
     WidenMultiplyAdd(WidenMultiplyAddOp),
     Reduce(ReduceOp),

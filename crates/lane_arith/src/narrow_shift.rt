@@ -1,0 +1,49 @@
+//! Shifts of elements of twice the width ("V" Vector Extension 1.0, section 11.7).
+ghost use Rattle.std.specs.Prelude.{◌≡◌, ◌%◌, ℕ};
+ghost use Rattle.rv_model.specs.elements.Elements.{HasElement, element};
+ghost use Rattle.rv_model.specs.elements.Formulas.{narrow_shift_formula, wrap};
+ghost use Rattle.rv_model.specs.vector.Configuration.{width_bytes};
+ghost use mir.Val.{bits};
+
+use crate::lane::Lane;
+use crate::results::Results;
+use rv_model::instructions::operations::NarrowShiftOp;
+use std::marker::PhantomData;
+
+/// Shifts of the elements of `a`, those of vs2, of the width of `W`, by those of `b`, of the second operand.
+#[derive(Clone, Copy)]
+pub struct NarrowShift<'a, W> {
+    pub op: NarrowShiftOp,
+    pub a: &'a [u8],
+    pub b: &'a [u8],
+    pub element: PhantomData<W>,
+}
+
+/// How far a shift of a wide element moves.
+fn shift_amount<N: Lane, W: Lane>(amount: N) -> u32
+    ensures { result ≡ N.value amount % bits W.width }
+{
+    (amount.number() % u64::from(W::bits())) as u32
+}
+
+/// One element of the result.
+fn narrowed<N: Lane, W: Lane>(op: NarrowShiftOp, a: W, b: N) -> N
+    ensures { N.value result ≡ wrap N.width (narrow_shift_formula op W.width (W.value a) (N.value b)) }
+{
+    let amount = shift_amount::<N, W>(b);
+    match op {
+        NarrowShiftOp::Vnsrl => N::low_bits(a.number() >> amount),
+        NarrowShiftOp::Vnsra => N::low_bits((a.signed_number() >> amount).cast_unsigned()),
+    }
+}
+
+impl<'a, N: Lane, W: Lane> Results<N> for NarrowShift<'a, W> {
+    ghost number = { λ r i. wrap N.width (narrow_shift_formula r.op W.width (element (width_bytes W.width) r.a.now i)
+        (element (width_bytes N.width) r.b.now i)) };
+
+    ghost has = { λ r i. HasElement (width_bytes W.width) r.a.now i × HasElement (width_bytes N.width) r.b.now i };
+
+    fn result(&self, index: usize) -> N {
+        narrowed(self.op, W::load(self.a, index), N::load(self.b, index))
+    }
+}

@@ -1,0 +1,35 @@
+//! Whole products, and what is left of a whole number at the width of an element.
+ghost use Rattle.std.specs.Prelude.{◌≡◌, ◌%◌, ◌^◌, ◌*ℤ◌, pos};
+ghost use Rattle.std.specs.Int.{cast_unsigned, w128};
+ghost use Rattle.rv_model.specs.elements.Formulas.{wrap};
+
+use crate::lane::Lane;
+
+/// The low 64 bits of a number.
+fn low_half(number: i128) -> u64
+    ensures { result ≡ cast_unsigned w128 number % 2 ^ 64 }
+{
+    (number.cast_unsigned() % (1 << 64)) as u64
+}
+
+/// A number modulo 2 to the width.
+#[tactic(auto, using(rv_model::proofs::element_lemmas::Numbers::low_bits_of_half))]
+pub(crate) fn wrapped<L: Lane>(number: i128) -> L
+    ensures { L.value result ≡ wrap L.width number }
+{
+    L::low_bits(low_half(number))
+}
+
+/// The whole product of two signed numbers.
+pub(crate) fn full_signed(a: i64, b: i64) -> i128
+    ensures { result ≡ a *ℤ b }
+{
+    i128::from(a) * i128::from(b)
+}
+
+/// The whole product of a signed and an unsigned number.
+pub(crate) fn full_mixed(a: i64, b: u64) -> i128
+    ensures { result ≡ a *ℤ pos b }
+{
+    i128::from(a) * i128::from(b)
+}

@@ -1,0 +1,155 @@
+//! Operations whose result has twice the width of an operand ("V" Vector Extension 1.0, sections 11.2, 11.12
+//! and 11.14). `N` is the lesser width, and `W` the other.
+ghost use Rattle.std.specs.Prelude.{◌≡◌, ◌+◌, ◌%◌, ◌^◌, ◌*ℤ◌, pos, ℕ};
+ghost use Rattle.std.specs.Int.{cast_signed};
+ghost use Rattle.rv_model.specs.elements.Elements.{HasElement, element};
+ghost use Rattle.rv_model.specs.elements.Formulas.{wide_source_formula, widen_formula, widen_multiply_add_formula, wrap};
+ghost use Rattle.rv_model.specs.vector.Configuration.{width_bytes};
+ghost use mir.Val.{bits};
+
+use crate::lane::Lane;
+use crate::results::Results;
+use crate::whole_number::{full_mixed, full_signed, wrapped};
+use rv_model::instructions::operations::{WideSourceOp, WidenMultiplyAddOp, WidenOp};
+use std::marker::PhantomData;
+
+/// The product of two unsigned numbers.
+fn product<N: Lane, W: Lane>(a: N, b: N) -> W
+    ensures { W.value result ≡ wrap W.width (pos (N.value a) *ℤ pos (N.value b)) }
+{
+    W::low_bits(a.number().wrapping_mul(b.number()))
+}
+
+/// The product of two signed numbers.
+fn signed_product<N: Lane, W: Lane>(a: N, b: N) -> W
+    ensures { W.value result ≡ wrap W.width (cast_signed N.width (N.value a) *ℤ cast_signed N.width (N.value b)) }
+{
+    wrapped(full_signed(a.signed_number(), b.signed_number()))
+}
+
+/// The product of a signed and an unsigned number.
+fn mixed_product<N: Lane, W: Lane>(a: N, b: N) -> W
+    ensures { W.value result ≡ wrap W.width (cast_signed N.width (N.value a) *ℤ pos (N.value b)) }
+{
+    wrapped(full_mixed(a.signed_number(), b.number()))
+}
+
+/// An operation on the elements of `a`, those of vs2, and of `b`, those of the second operand.
+#[derive(Clone, Copy)]
+pub struct Widen<'a, N> {
+    pub op: WidenOp,
+    pub a: &'a [u8],
+    pub b: &'a [u8],
+    pub element: PhantomData<N>,
+}
+
+/// One element of the result.
+fn widened<N: Lane, W: Lane>(op: WidenOp, a: N, b: N) -> W
+    ensures { W.value result ≡ wrap W.width (widen_formula op N.width (N.value a) (N.value b)) }
+{
+    match op {
+        WidenOp::Vwaddu => W::low_bits(a.number().wrapping_add(b.number())),
+        WidenOp::Vwadd => wrapped(i128::from(a.signed_number()) + i128::from(b.signed_number())),
+        WidenOp::Vwsubu => W::low_bits(a.number().wrapping_sub(b.number())),
+        WidenOp::Vwsub => wrapped(i128::from(a.signed_number()) - i128::from(b.signed_number())),
+        WidenOp::Vwmulu => product(a, b),
+        WidenOp::Vwmulsu => mixed_product(a, b),
+        WidenOp::Vwmul => signed_product(a, b),
+    }
+}
+
+impl<'a, N: Lane, W: Lane> Results<W> for Widen<'a, N> {
+    ghost number = { λ r i. wrap W.width (widen_formula r.op N.width (element (width_bytes N.width) r.a.now i)
+        (element (width_bytes N.width) r.b.now i)) };
+
+    ghost has = { λ r i. HasElement (width_bytes N.width) r.a.now i × HasElement (width_bytes N.width) r.b.now i };
+
+    fn result(&self, index: usize) -> W {
+        widened(self.op, N::load(self.a, index), N::load(self.b, index))
+    }
+}
+
+/// An operation on the elements of `a`, those of vs2, of twice the width, and of `b`, those of the second
+/// operand.
+#[derive(Clone, Copy)]
+pub struct WideSource<'a, N> {
+    pub op: WideSourceOp,
+    pub a: &'a [u8],
+    pub b: &'a [u8],
+    pub element: PhantomData<N>,
+}
+
+/// One element of the result.
+fn with_wide<N: Lane, W: Lane>(op: WideSourceOp, a: W, b: N) -> W
+    ensures { W.value result ≡ wrap W.width (wide_source_formula op W.width N.width (W.value a) (N.value b)) }
+{
+    match op {
+        WideSourceOp::Vwaddu => W::low_bits(a.number().wrapping_add(b.number())),
+        WideSourceOp::Vwadd => {
+            wrapped(i128::from(a.signed_number()) + i128::from(b.signed_number()))
+        }
+        WideSourceOp::Vwsubu => W::low_bits(a.number().wrapping_sub(b.number())),
+        WideSourceOp::Vwsub => {
+            wrapped(i128::from(a.signed_number()) - i128::from(b.signed_number()))
+        }
+    }
+}
+
+impl<'a, N: Lane, W: Lane> Results<W> for WideSource<'a, N> {
+    ghost number = { λ r i. wrap W.width (wide_source_formula r.op W.width N.width (element (width_bytes W.width) r.a.now i)
+        (element (width_bytes N.width) r.b.now i)) };
+
+    ghost has = { λ r i. HasElement (width_bytes W.width) r.a.now i × HasElement (width_bytes N.width) r.b.now i };
+
+    fn result(&self, index: usize) -> W {
+        with_wide(self.op, W::load(self.a, index), N::load(self.b, index))
+    }
+}
+
+/// Products of the elements of `a`, those of vs2, and of `b`, those of the second operand, added to those of
+/// `d`, which vd had, of twice the width.
+#[derive(Clone, Copy)]
+pub struct WidenMultiplyAdd<'a, N> {
+    pub op: WidenMultiplyAddOp,
+    pub a: &'a [u8],
+    pub b: &'a [u8],
+    pub d: &'a [u8],
+    pub element: PhantomData<N>,
+}
+
+/// The sum of what is left of a number with an element.
+fn added<W: Lane>(product: W, d: W) -> W
+    ensures { W.value result ≡ (W.value product + W.value d) % 2 ^ bits W.width }
+{
+    W::low_bits(product.number().wrapping_add(d.number()))
+}
+
+/// One element of the result.
+fn product_added<N: Lane, W: Lane>(op: WidenMultiplyAddOp, a: N, b: N, d: W) -> W
+    ensures { W.value result ≡ wrap W.width (widen_multiply_add_formula op N.width (N.value a) (N.value b) (W.value d)) }
+{
+    let product: W = match op {
+        WidenMultiplyAddOp::Vwmaccu => product(a, b),
+        WidenMultiplyAddOp::Vwmacc => signed_product(a, b),
+        WidenMultiplyAddOp::Vwmaccus => mixed_product(a, b),
+        WidenMultiplyAddOp::Vwmaccsu => mixed_product(b, a),
+    };
+    added(product, d)
+}
+
+impl<'a, N: Lane, W: Lane> Results<W> for WidenMultiplyAdd<'a, N> {
+    ghost number = { λ r i. wrap W.width (widen_multiply_add_formula r.op N.width (element (width_bytes N.width) r.a.now i)
+        (element (width_bytes N.width) r.b.now i) (element (width_bytes W.width) r.d.now i)) };
+
+    ghost has = { λ r i. HasElement (width_bytes N.width) r.a.now i × HasElement (width_bytes N.width) r.b.now i
+        × HasElement (width_bytes W.width) r.d.now i };
+
+    fn result(&self, index: usize) -> W {
+        product_added(
+            self.op,
+            N::load(self.a, index),
+            N::load(self.b, index),
+            W::load(self.d, index),
+        )
+    }
+}
