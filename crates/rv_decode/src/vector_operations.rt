@@ -7,8 +7,8 @@ ghost use Rattle.rv_model.specs.instructions.Table.{find, find_at};
 use crate::lines::{has_form, line};
 use rv_model::instructions::operations::{
     BinaryOp, CarryOp, CarryOutOp, CompareOp, ExtendOp, FixedPointOp, Form, Major, MaskLogicOp,
-    MaskToScalarOp, MaskUnaryOp, MultiplyAddOp, NarrowOp, PermuteOp, ReduceOp, RegisterCount, VectorOp,
-    WidenMultiplyAddOp, WidenOp,
+    MaskToScalarOp, MaskUnaryOp, MultiplyAddOp, NarrowOp, PermuteOp, ReduceOp, RegisterCount,
+    VectorOp, WidenMultiplyAddOp, WidenOp,
 };
 
 /// The operation, if the manual's table has it in this form.
