@@ -8,8 +8,8 @@ ghost use Rattle.rv_model.specs.vector.Configuration.{width_bytes};
 use crate::lane::Lane;
 use crate::mask_operand::bit_of;
 use crate::mask_results::MaskResults;
-use rv_model::instructions::operations::{CarryOutOp, CompareOp};
 use rv_model::VLENB;
+use rv_model::instructions::operations::{CarryOutOp, CompareOp};
 
 /// A comparison of the elements of `a`, those of vs2, with those of `b`, those of the second operand.
 #[derive(Clone, Copy)]
@@ -41,11 +41,7 @@ impl<'a, L: Lane> MaskResults<L> for Compare<'a> {
     ghost has = { λ r i. HasElement (width_bytes L.width) r.a.now i × HasElement (width_bytes L.width) r.b.now i };
 
     fn bit(&self, index: usize) -> bool {
-        holds(
-            self.op,
-            L::load(self.a, index),
-            L::load(self.b, index),
-        )
+        holds(self.op, L::load(self.a, index), L::load(self.b, index))
     }
 }
 

@@ -36,13 +36,7 @@ fn apply<L: Lane>(op: CarryOp, a: L, b: L, c: bool) -> L
     L::low_bits(match op {
         CarryOp::Vadc => a.wrapping_add(b).wrapping_add(u64::from(c)),
         CarryOp::Vsbc => a.wrapping_sub(b).wrapping_sub(u64::from(c)),
-        CarryOp::Vmerge => {
-            if c {
-                b
-            } else {
-                a
-            }
-        }
+        CarryOp::Vmerge => { if c { b } else { a } }
     })
 }
 

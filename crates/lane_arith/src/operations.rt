@@ -11,7 +11,7 @@ use crate::lane::Lane;
 use rv_model::instructions::operations::BinaryOp;
 
 /// The sum.
-fn sum<L: Lane>(a: L, b: L) -> L
+pub(crate) fn sum<L: Lane>(a: L, b: L) -> L
     ensures { L.value result ≡ wrap L.width (formula Vadd L.width (L.value a) (L.value b)) }
 {
     L::low_bits(a.number().wrapping_add(b.number()))

@@ -1,5 +1,5 @@
-//! Whole products, and what is left of a whole number at the width of an element.
-ghost use Rattle.std.specs.Prelude.{◌≡◌, ◌%◌, ◌^◌, ◌*ℤ◌, pos};
+//! Whole sums and products, and what is left of a whole number at the width of an element.
+ghost use Rattle.std.specs.Prelude.{◌≡◌, ◌%◌, ◌^◌, ◌+ℤ◌, ◌-ℤ◌, ◌*ℤ◌, pos};
 ghost use Rattle.std.specs.Int.{cast_unsigned, w128};
 ghost use Rattle.rv_model.specs.elements.Formulas.{wrap};
 
@@ -32,4 +32,18 @@ pub(crate) fn full_mixed(a: i64, b: u64) -> i128
     ensures { result ≡ a *ℤ pos b }
 {
     i128::from(a) * i128::from(b)
+}
+
+/// The whole sum of two signed numbers.
+pub(crate) fn full_sum(a: i64, b: i64) -> i128
+    ensures { result ≡ a +ℤ b }
+{
+    i128::from(a) + i128::from(b)
+}
+
+/// The whole difference of two signed numbers.
+pub(crate) fn full_difference(a: i64, b: i64) -> i128
+    ensures { result ≡ a -ℤ b }
+{
+    i128::from(a) - i128::from(b)
 }

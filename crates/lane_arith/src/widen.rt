@@ -1,15 +1,15 @@
 //! Operations whose result has twice the width of an operand ("V" Vector Extension 1.0, sections 11.2, 11.12
 //! and 11.14). `N` is the lesser width, and `W` the other.
-ghost use Rattle.std.specs.Prelude.{◌≡◌, ◌+◌, ◌%◌, ◌^◌, ◌*ℤ◌, pos, ℕ};
+ghost use Rattle.std.specs.Prelude.{◌≡◌, ◌+ℤ◌, ◌*ℤ◌, pos, ℕ, ℤ};
 ghost use Rattle.std.specs.Int.{cast_signed};
 ghost use Rattle.rv_model.specs.elements.Elements.{HasElement, element};
 ghost use Rattle.rv_model.specs.elements.Formulas.{wide_source_formula, widen_formula, widen_multiply_add_formula, wrap};
 ghost use Rattle.rv_model.specs.vector.Configuration.{width_bytes};
-ghost use mir.Val.{bits};
 
 use crate::lane::Lane;
+use crate::operations::sum;
 use crate::results::Results;
-use crate::whole_number::{full_mixed, full_signed, wrapped};
+use crate::whole_number::{full_difference, full_mixed, full_signed, full_sum, wrapped};
 use rv_model::instructions::operations::{WideSourceOp, WidenMultiplyAddOp, WidenOp};
 use std::marker::PhantomData;
 
@@ -49,9 +49,9 @@ fn widened<N: Lane, W: Lane>(op: WidenOp, a: N, b: N) -> W
 {
     match op {
         WidenOp::Vwaddu => W::low_bits(a.number().wrapping_add(b.number())),
-        WidenOp::Vwadd => wrapped(i128::from(a.signed_number()) + i128::from(b.signed_number())),
+        WidenOp::Vwadd => wrapped(full_sum(a.signed_number(), b.signed_number())),
         WidenOp::Vwsubu => W::low_bits(a.number().wrapping_sub(b.number())),
-        WidenOp::Vwsub => wrapped(i128::from(a.signed_number()) - i128::from(b.signed_number())),
+        WidenOp::Vwsub => wrapped(full_difference(a.signed_number(), b.signed_number())),
         WidenOp::Vwmulu => product(a, b),
         WidenOp::Vwmulsu => mixed_product(a, b),
         WidenOp::Vwmul => signed_product(a, b),
@@ -85,13 +85,9 @@ fn with_wide<N: Lane, W: Lane>(op: WideSourceOp, a: W, b: N) -> W
 {
     match op {
         WideSourceOp::Vwaddu => W::low_bits(a.number().wrapping_add(b.number())),
-        WideSourceOp::Vwadd => {
-            wrapped(i128::from(a.signed_number()) + i128::from(b.signed_number()))
-        }
+        WideSourceOp::Vwadd => wrapped(full_sum(a.signed_number(), b.signed_number())),
         WideSourceOp::Vwsubu => W::low_bits(a.number().wrapping_sub(b.number())),
-        WideSourceOp::Vwsub => {
-            wrapped(i128::from(a.signed_number()) - i128::from(b.signed_number()))
-        }
+        WideSourceOp::Vwsub => wrapped(full_difference(a.signed_number(), b.signed_number())),
     }
 }
 
@@ -117,11 +113,11 @@ pub struct WidenMultiplyAdd<'a, N> {
     pub element: PhantomData<N>,
 }
 
-/// The sum of what is left of a number with an element.
+/// The sum with a product, which is what is left of a whole number.
 fn added<W: Lane>(product: W, d: W) -> W
-    ensures { W.value result ≡ (W.value product + W.value d) % 2 ^ bits W.width }
+    ensures { (z : ℤ) → W.value product ≡ wrap W.width z → W.value result ≡ wrap W.width (z +ℤ pos (W.value d)) }
 {
-    W::low_bits(product.number().wrapping_add(d.number()))
+    sum(product, d)
 }
 
 /// One element of the result.

@@ -4,7 +4,8 @@ ghost use Rattle.rv_model.specs.instructions.Operations.{binary_line, carry_out_
 
 use rv_model::instructions::operations::{
     BinaryOp, CarryOp, CarryOutOp, ClipOp, CompareOp, FixedPointOp, Form, Forms, Line, Major,
-    MultiplyAddOp, NarrowShiftOp, PermuteOp, ReduceOp, VectorOp, WideSourceOp, WidenMultiplyAddOp, WidenOp,
+    MultiplyAddOp, NarrowShiftOp, PermuteOp, ReduceOp, VectorOp, WideSourceOp, WidenMultiplyAddOp,
+    WidenOp,
 };
 
 /// A line of OPIVV, OPIVX and OPIVI.

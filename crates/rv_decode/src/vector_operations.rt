@@ -6,9 +6,9 @@ ghost use Rattle.rv_model.specs.instructions.Table.{find, find_at};
 
 use crate::lines::{has_form, line};
 use rv_model::instructions::operations::{
-    BinaryOp, CarryOp, CarryOutOp, ClipOp, CompareOp, ExtendOp, FixedPointOp, Form, Major, MaskLogicOp,
-    MaskToScalarOp, MaskUnaryOp, MultiplyAddOp, NarrowShiftOp, PermuteOp, ReduceOp, RegisterCount, VectorOp,
-    WideSourceOp, WidenMultiplyAddOp, WidenOp,
+    BinaryOp, CarryOp, CarryOutOp, ClipOp, CompareOp, ExtendOp, FixedPointOp, Form, Major,
+    MaskLogicOp, MaskToScalarOp, MaskUnaryOp, MultiplyAddOp, NarrowShiftOp, PermuteOp, ReduceOp,
+    RegisterCount, VectorOp, WideSourceOp, WidenMultiplyAddOp, WidenOp,
 };
 
 /// The operation, if the manual's table has it in this form.

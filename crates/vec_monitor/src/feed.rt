@@ -1,5 +1,6 @@
 //! A script, byte by byte.
 ghost use Rattle.std.specs.Prelude.{◌≡◌, ℕ, ◌<◌, length, take, OnOk, OnErr};
+ghost use Rattle.rv_model.specs.machine.Users.{user_count};
 ghost use Rattle.vec_monitor.specs.Device.{Rose};
 ghost use Rattle.vec_monitor.specs.Feed.{feed, fed, Cut};
 ghost use Rattle.vec_monitor.specs.MachineState.{after_line, line_output};
@@ -34,7 +35,7 @@ pub(crate) fn serve<A: Allocator, K: Sink>(
 ) -> Result<(), DeviceFault>
     ensures machine { machine.new ≡ after_line machine.old line.now }
     ensures setup { machine.new.setup ≡ machine.old.setup }
-    ensures eight { length machine.new.world.parts ≡ 8 }
+    ensures eight { length machine.new.world.parts ≡ user_count }
     ensures ok { OnOk result (K.took sink.old (line_output machine.old line.now) sink.new) }
     ensures unfailed { OnOk result (K.failures sink.new ≡ K.failures sink.old) }
     ensures cause { OnErr result (Rose (K.failures sink.old) (K.failures sink.new)) }

@@ -2,6 +2,8 @@
 #![tactic(auto)]
 
 mod addressee;
+#[cfg(test)]
+mod allocation_tests;
 mod arguments;
 mod command_line;
 #[cfg(test)]
@@ -29,12 +31,16 @@ mod programs;
 mod registers;
 mod running;
 mod script;
+#[cfg(test)]
+mod shell;
 mod stepping;
 mod streams;
 #[cfg(test)]
 mod tests;
 mod trace;
 mod users;
+#[cfg(test)]
+mod vecmon_tests;
 mod words;
 
 pub use arguments::vecmon_with_arguments;

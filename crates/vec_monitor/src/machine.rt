@@ -1,6 +1,7 @@
 //! The machine of eight users.
 ghost use Rattle.std.specs.Prelude.{◌≡◌, [], ◌∷◌, length, None, IsOk, IfOk, IfSome, IsErrOf, IsOkUnless};
 ghost use Rattle.rv_model.specs.machine.Script.{commands, after_events, told_by, new_world};
+ghost use Rattle.rv_model.specs.machine.Users.{user_count};
 ghost use Rattle.vec_monitor.specs.MachineState.{after_line, line_output};
 ghost use Rattle.vec_monitor.specs.Images.{setup_of};
 ghost use Rattle.vec_monitor.specs.NewFaults.{new_fault};
@@ -25,6 +26,7 @@ pub struct Machine<'a, A: Allocator = Global> {
 impl<'a, A: Allocator> Model for Machine<'a, A> {
     ghost use Rattle.std.specs.Coded.{codes};
     ghost use Rattle.std.specs.Prelude.{◌≡◌, length};
+    ghost use Rattle.rv_model.specs.machine.Users.{user_count};
     ghost use Rattle.rv_model.specs.memory.Memory.{coded_memory};
     ghost use Rattle.vec_monitor.specs.Images.{setup_of};
     ghost use Rattle.vec_monitor.specs.MachineState.{MachineState};
@@ -35,7 +37,7 @@ impl<'a, A: Allocator> Model for Machine<'a, A> {
 
     ghost view = { λ m. record { setup = setup_of m.quantum m.images.now; world = m.users } };
 
-    ghost invariant = { λ m. length m.users.parts ≡ 8 };
+    ghost invariant = { λ m. length m.users.parts ≡ user_count };
 }
 
 impl<'a, A: Allocator> Machine<'a, A> {
@@ -72,7 +74,7 @@ impl<'a, A: Allocator> Machine<'a, A> {
         ensures world { self.new.world
             ≡ after_events self.old.setup self.old.world (commands user line.now ∷ []) }
         ensures setup { self.new.setup ≡ self.old.setup }
-        ensures eight { length self.new.world.parts ≡ 8 }
+        ensures eight { length self.new.world.parts ≡ user_count }
         ensures reply { reply.new
             ≡ told_by self.old.setup self.old.world (commands user line.now ∷ []) }
     {
@@ -84,7 +86,7 @@ impl<'a, A: Allocator> Machine<'a, A> {
     #[tactic(auto, unfolding(rv_model::specs::machine::PrivateMachine::event, rv_model::specs::machine::Script::after, rv_model::specs::machine::Script::told, rv_model::specs::machine::Script::common))]
     pub(crate) fn answer(&mut self, line: &[u8], reply: &mut Reply)
         ensures machine { self.new ≡ after_line self.old line.now }
-        ensures eight { length self.new.world.parts ≡ 8 }
+        ensures eight { length self.new.world.parts ≡ user_count }
         ensures reply { reply.new ≡ line_output self.old line.now }
     {
         reply.clear();

@@ -2,6 +2,7 @@
 ghost use Rattle.std.specs.Prelude.{◌≡◌, ◌≢◌, ℕ, ◌+◌, ◌<◌, ◌≤◌, List, Err, length, take, OnOk, IfOk};
 ghost use Rattle.rv_model.specs.machine.PrivateMachine.{solo, solo_from};
 ghost use Rattle.rv_model.specs.machine.Script.{after_all, told_all, whole_from, after_script, lines, part, own, own_from, new_world};
+ghost use Rattle.rv_model.specs.machine.Users.{user_count};
 ghost use Rattle.vec_monitor.specs.Device.{Rose};
 ghost use Rattle.vec_monitor.specs.EndedLines.{ended_lines};
 ghost use Rattle.vec_monitor.specs.FailedWrites.{CutShort};
@@ -79,7 +80,7 @@ fn end_script<A: Allocator, K: Sink>(
 ) -> Result<(), RunFault>
     ensures machine { machine.new ≡ after_line machine.old line.now }
     ensures setup { machine.new.setup ≡ machine.old.setup }
-    ensures eight { length machine.new.world.parts ≡ 8 }
+    ensures eight { length machine.new.world.parts ≡ user_count }
     ensures ok { OnOk result (K.took sink.old (line_output machine.old line.now) sink.new) }
     ensures unfailed { OnOk result (K.failures sink.new ≡ K.failures sink.old) }
     ensures part { result ≡ Err RunFault.Write → (n : ℕ) × (
@@ -112,12 +113,12 @@ pub fn run<A: Allocator, S: Source, K: Sink>(
     ensures headline { machine.old.world ≡ new_world → OnOk result (
         (script : List ℕ) × ((output : List ℕ) × (
         S.gave source.old script source.new × S.ended source.new × K.took sink.old output sink.new
-        × ((u : ℕ) → 1 ≤ u → u ≤ 8 →
+        × ((u : ℕ) → 1 ≤ u → u ≤ user_count →
         lines u output ≡ solo machine.old.setup (own machine.old.setup u script))))) }
     // The same for a machine that has been used.
     ensures used_headline { OnOk result ((script : List ℕ) × ((output : List ℕ) × (
         S.gave source.old script source.new × S.ended source.new × K.took sink.old output sink.new
-        × ((u : ℕ) → 1 ≤ u → u ≤ 8 →
+        × ((u : ℕ) → 1 ≤ u → u ≤ user_count →
         lines u output ≡ solo_from machine.old.setup (part u machine.old.world)
         (own_from machine.old.setup u machine.old.world script))))) }
     ensures unfailed_source { OnOk result (S.failures source.new ≡ S.failures source.old) }

@@ -13,7 +13,7 @@ pub fn output_of(alloc: Global, script: &[u8]) -> Result<Vec<u8>, Fail> {
     Ok(output)
 }
 
-fn zeros(alloc: Global, count: usize) -> Result<Vec<u8>, AllocError> {
+pub fn zeros(alloc: Global, count: usize) -> Result<Vec<u8>, AllocError> {
     vec![in alloc; 0; count]
 }
 

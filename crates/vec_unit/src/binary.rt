@@ -42,12 +42,16 @@ impl ElementWise for BinaryOperation {
         let emul = destination.emul;
         let unsigned = has_unsigned_immediate(self.op);
         let a = group_copy(file, self.vs2, emul, &mut first);
-        let b = second_copy::<L>(unsigned, self.source, emul, body.end(), file, scalar, &mut second);
-        let results = Binary {
-            op: self.op,
-            a,
-            b,
-        };
+        let b = second_copy::<L>(
+            unsigned,
+            self.source,
+            emul,
+            body.end(),
+            file,
+            scalar,
+            &mut second,
+        );
+        let results = Binary { op: self.op, a, b };
         write_group::<L, Binary<'_>>(&results, destination, body, file);
     }
 }

@@ -32,12 +32,16 @@ impl MaskWise for CompareOperation {
     ) {
         let (mut first, mut second) = ([0; GROUP_BYTES], [0; GROUP_BYTES]);
         let a = group_copy(file, self.vs2, emul, &mut first);
-        let b = second_copy::<L>(false, self.source, emul, body.end(), file, scalar, &mut second);
-        let results = Compare {
-            op: self.op,
-            a,
-            b,
-        };
+        let b = second_copy::<L>(
+            false,
+            self.source,
+            emul,
+            body.end(),
+            file,
+            scalar,
+            &mut second,
+        );
+        let results = Compare { op: self.op, a, b };
         write_mask::<L, Compare<'_>>(&results, vd, body, file);
     }
 }
@@ -66,7 +70,15 @@ impl MaskWise for CarryOutOperation {
     ) {
         let (mut first, mut second) = ([0; GROUP_BYTES], [0; GROUP_BYTES]);
         let a = group_copy(file, self.vs2, emul, &mut first);
-        let b = second_copy::<L>(false, self.source, emul, body.end(), file, scalar, &mut second);
+        let b = second_copy::<L>(
+            false,
+            self.source,
+            emul,
+            body.end(),
+            file,
+            scalar,
+            &mut second,
+        );
         let results = CarryOut {
             op: self.op,
             a,

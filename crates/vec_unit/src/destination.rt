@@ -83,7 +83,13 @@ pub(crate) fn write_group<L: Lane, R: Results<L>>(
         destination.agnostic.fill_masked_off destination.agnostic.fill_tail (R.number results.now) file.old }
 {
     let group = group_mut(file, destination.vd, destination.emul);
-    write_filled(results, body, destination.agnostic, destination.count, group);
+    write_filled(
+        results,
+        body,
+        destination.agnostic,
+        destination.count,
+        group,
+    );
 }
 
 /// Writes results to the bits of a mask.

@@ -32,7 +32,15 @@ impl ElementWise for CarryOperation {
         let (mut first, mut second) = ([0; GROUP_BYTES], [0; GROUP_BYTES]);
         let emul = destination.emul;
         let a = group_copy(file, self.vs2, emul, &mut first);
-        let b = second_copy::<L>(false, self.source, emul, body.end(), file, scalar, &mut second);
+        let b = second_copy::<L>(
+            false,
+            self.source,
+            emul,
+            body.end(),
+            file,
+            scalar,
+            &mut second,
+        );
         let results = WithMaskOperand {
             op: self.op,
             a,

@@ -29,7 +29,15 @@ impl ElementWise for Move {
     ) {
         let mut copy = [0; GROUP_BYTES];
         let emul = destination.emul;
-        let b = second_copy::<L>(false, self.source, emul, body.end(), file, scalar, &mut copy);
+        let b = second_copy::<L>(
+            false,
+            self.source,
+            emul,
+            body.end(),
+            file,
+            scalar,
+            &mut copy,
+        );
         write_group::<L, Copies<'_>>(&Copies { b }, destination, body, file);
     }
 }

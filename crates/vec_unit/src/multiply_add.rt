@@ -34,7 +34,15 @@ impl ElementWise for MultiplyAddOperation {
         let mut third = [0; GROUP_BYTES];
         let emul = destination.emul;
         let a = group_copy(file, self.vs2, emul, &mut first);
-        let b = second_copy::<L>(false, self.source, emul, body.end(), file, scalar, &mut second);
+        let b = second_copy::<L>(
+            false,
+            self.source,
+            emul,
+            body.end(),
+            file,
+            scalar,
+            &mut second,
+        );
         let d = group_copy(file, self.vd, emul, &mut third);
         let results = MultiplyAdd {
             op: self.op,

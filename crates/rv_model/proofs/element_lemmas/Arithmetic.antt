@@ -1,7 +1,7 @@
 -- What an instruction's results leave in the vector registers.
-use Rattle.std.proofs.Common.{ℕ, ◌<◌, ◌≡◌, List, Bool, true, false, cond, refl, ap}
+use Rattle.std.proofs.Common.{ℕ, ◌<◌, ◌≡◌, List, Bool, ap}
 use Rattle.rv_model.specs.elements.Elements.{Body, is_active, is_changed, result_or_ones}
-use Rattle.rv_model.specs.elements.Writes.{Writes, WritesBits, bit_or, byte_with_bits, written, written_bits}
+use Rattle.rv_model.specs.elements.Writes.{Writes, WritesBits}
 use Rattle.rv_model.specs.vector.Registers.{group_of, with_group}
 use Rattle.rv_model.specs.elements.Arithmetic.{GroupType, with_mask_results, with_results}
 use Rattle.rv_model.specs.vector.Configuration.{width_bytes}

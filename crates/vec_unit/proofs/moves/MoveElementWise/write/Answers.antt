@@ -1,4 +1,4 @@
-use Rattle.std.proofs.Common.{ℕ, ◌<◌, ◌≡◌, ◌∙◌, ap, arith, false}
+use Rattle.std.proofs.Common.{ℕ, ◌<◌, ◌≡◌, ◌∙◌, arith, false}
 use Rattle.rv_model.specs.elements.Arithmetic.{GroupType, second_element}
 use Rattle.rv_model.specs.elements.Elements.{element}
 use Rattle.rv_model.specs.vector.Configuration.{width_bytes}
