@@ -124,13 +124,12 @@ fn added<W: Lane>(product: W, d: W) -> W
 fn product_added<N: Lane, W: Lane>(op: WidenMultiplyAddOp, a: N, b: N, d: W) -> W
     ensures { W.value result ≡ wrap W.width (widen_multiply_add_formula op N.width (N.value a) (N.value b) (W.value d)) }
 {
-    let product: W = match op {
-        WidenMultiplyAddOp::Vwmaccu => product(a, b),
-        WidenMultiplyAddOp::Vwmacc => signed_product(a, b),
-        WidenMultiplyAddOp::Vwmaccus => mixed_product(a, b),
-        WidenMultiplyAddOp::Vwmaccsu => mixed_product(b, a),
-    };
-    added(product, d)
+    match op {
+        WidenMultiplyAddOp::Vwmaccu => added(product(a, b), d),
+        WidenMultiplyAddOp::Vwmacc => added(signed_product(a, b), d),
+        WidenMultiplyAddOp::Vwmaccus => added(mixed_product(a, b), d),
+        WidenMultiplyAddOp::Vwmaccsu => added(mixed_product(b, a), d),
+    }
 }
 
 impl<'a, N: Lane, W: Lane> Results<W> for WidenMultiplyAdd<'a, N> {

@@ -3,21 +3,26 @@ ghost use Rattle.std.specs.Prelude.{◌≡◌, IsTrue, List, ℕ};
 ghost use Rattle.rv_model.specs.step.Hart.{hart_state};
 ghost use Rattle.rv_model.specs.memory.Memory.{Memory};
 ghost use Rattle.rv_model.specs.legality.Legality.{is_legal};
-ghost use Rattle.rv_model.specs.step.VectorStep.{arith_step, carry_step, move_step, typed, vector_ends};
+ghost use Rattle.rv_model.specs.step.VectorStep.{arith_step, carry_step, extend_step, move_step, typed, vector_ends};
 
 use crate::binary::BinaryOperation;
 use crate::compare::{CarryOutOperation, CompareOperation};
+use crate::destination::Target;
 use crate::element_wise::carry_out;
+use crate::extend::{ExtendOperation, carry_out_extension};
 use crate::mask_operand::CarryOperation;
 use crate::mask_wise::carry_out_mask;
 use crate::moves::Move;
 use crate::multiply_add::MultiplyAddOperation;
-use rv_model::instructions::operations::VectorOp;
+use crate::narrow_shift::NarrowShiftOperation;
+use crate::two_widths::{carry_out_narrowing, carry_out_widening};
+use crate::widen::{WideSourceOperation, WidenMultiplyAddOperation, WidenOperation};
+use rv_model::instructions::operations::{ExtendOp, VectorOp};
 use rv_model::{Arith, Carry, Instr, Policy, Scalar, Source, VEnd, VReg, VState};
 
 /// Carries out a legal operation with a line of its own in the manual's table, if it is one of those that are
 /// carried out so far; else it is illegal, and nothing changes.
-#[tactic(auto, using(rv_model::proofs::legality_lemmas::Bounds::binary_inside, rv_model::proofs::legality_lemmas::Bounds::multiply_add_inside, rv_model::proofs::legality_lemmas::Bounds::compare_inside, rv_model::proofs::legality_lemmas::Bounds::carry_out_inside))]
+#[tactic(auto, using(rv_model::proofs::legality_lemmas::Bounds::binary_inside, rv_model::proofs::legality_lemmas::Bounds::multiply_add_inside, rv_model::proofs::legality_lemmas::Bounds::compare_inside, rv_model::proofs::legality_lemmas::Bounds::carry_out_inside, rv_model::proofs::legality_lemmas::Bounds::widen_inside, rv_model::proofs::legality_lemmas::Bounds::wide_source_inside, rv_model::proofs::legality_lemmas::Bounds::widen_multiply_add_inside, rv_model::proofs::legality_lemmas::Bounds::narrow_shift_inside))]
 pub(crate) fn perform_arith(
     arith: Arith,
     vd: VReg,
@@ -39,23 +44,31 @@ pub(crate) fn perform_arith(
         return VEnd::Illegal;
     };
     let (op, source) = arith.parts();
+    let target = Target {
+        vd,
+        unmasked,
+        vtype,
+        policy,
+    };
     match op {
         VectorOp::Binary(op) => {
-            let operation = BinaryOperation { op, vs2, source };
-            carry_out(&operation, vd, unmasked, vtype, policy, state, scalar);
+            carry_out(&BinaryOperation { op, vs2, source }, target, state, scalar);
         }
         VectorOp::MultiplyAdd(op) => {
-            let operation = MultiplyAddOperation {
-                op,
-                vd,
-                vs2,
-                source,
-            };
-            carry_out(&operation, vd, unmasked, vtype, policy, state, scalar);
+            carry_out(
+                &MultiplyAddOperation {
+                    op,
+                    vd,
+                    vs2,
+                    source,
+                },
+                target,
+                state,
+                scalar,
+            );
         }
         VectorOp::Compare(op) => {
-            let operation = CompareOperation { op, vs2, source };
-            carry_out_mask(&operation, vd, unmasked, vtype, state, scalar);
+            carry_out_mask(&CompareOperation { op, vs2, source }, target, state, scalar);
         }
         VectorOp::CarryOut(op) => {
             let operation = CarryOutOperation {
@@ -64,14 +77,42 @@ pub(crate) fn perform_arith(
                 source,
                 alone: unmasked,
             };
-            carry_out_mask(&operation, vd, true, vtype, state, scalar);
+            let target = Target {
+                unmasked: true,
+                ..target
+            };
+            carry_out_mask(&operation, target, state, scalar);
         }
-        VectorOp::FixedPoint(_)
-        | VectorOp::Narrow(_)
-        | VectorOp::Widen(_)
-        | VectorOp::WidenMultiplyAdd(_)
-        | VectorOp::Reduce(_)
-        | VectorOp::Permute(_) => return VEnd::Illegal,
+        VectorOp::Widen(op) => {
+            carry_out_widening(&WidenOperation { op, vs2, source }, target, state, scalar);
+        }
+        VectorOp::WideSource(op) => {
+            carry_out_widening(
+                &WideSourceOperation { op, vs2, source },
+                target,
+                state,
+                scalar,
+            );
+        }
+        VectorOp::WidenMultiplyAdd(op) => {
+            let operation = WidenMultiplyAddOperation {
+                op,
+                vd,
+                vs2,
+                source,
+            };
+            carry_out_widening(&operation, target, state, scalar);
+        }
+        VectorOp::NarrowShift(op) => {
+            carry_out_narrowing(
+                &NarrowShiftOperation { op, vs2, source },
+                target,
+                state,
+                scalar,
+            );
+        }
+        VectorOp::FixedPoint(_) | VectorOp::Clip(_) | VectorOp::Reduce(_) | VectorOp::Permute(_) =>
+            return VEnd::Illegal,
     }
     VEnd::Done
 }
@@ -97,8 +138,13 @@ pub(crate) fn perform_carry(
         return VEnd::Illegal;
     };
     let (op, source) = carry.parts();
-    let operation = CarryOperation { op, vs2, source };
-    carry_out(&operation, vd, true, vtype, policy, state, scalar);
+    let target = Target {
+        vd,
+        unmasked: true,
+        vtype,
+        policy,
+    };
+    carry_out(&CarryOperation { op, vs2, source }, target, state, scalar);
     VEnd::Done
 }
 
@@ -121,6 +167,43 @@ pub(crate) fn perform_move(
     let Some(vtype) = state.conf.vtype() else {
         return VEnd::Illegal;
     };
-    carry_out(&Move { source }, vd, true, vtype, policy, state, scalar);
+    let target = Target {
+        vd,
+        unmasked: true,
+        vtype,
+        policy,
+    };
+    carry_out(&Move { source }, target, state, scalar);
+    VEnd::Done
+}
+
+/// Carries out a legal extension.
+#[tactic(auto, using(rv_model::proofs::legality_lemmas::Bounds::extension_inside))]
+pub(crate) fn perform_extension(
+    op: ExtendOp,
+    vd: VReg,
+    vs2: VReg,
+    unmasked: bool,
+    state: &mut VState,
+    scalar: &Scalar,
+    policy: Policy,
+) -> VEnd
+    requires legal { IsTrue (is_legal (Instr.VectorExtend op vd vs2 unmasked) state.old.conf.vtype state.old.vstart) }
+    ensures model { (memory : Memory) (output : List ℕ)
+        → typed state.old.conf.vtype (λ t. extend_step t op vd vs2 unmasked)
+        (hart_state scalar.now state.old memory policy output)
+        ≡ vector_ends result (hart_state scalar.now state.new memory policy output) }
+    ensures illegal { result ≡ VEnd.Illegal → state.new ≡ state.old }
+{
+    let Some(vtype) = state.conf.vtype() else {
+        return VEnd::Illegal;
+    };
+    let target = Target {
+        vd,
+        unmasked,
+        vtype,
+        policy,
+    };
+    carry_out_extension(ExtendOperation { op, vs2 }, target, state, scalar);
     VEnd::Done
 }

@@ -12,6 +12,16 @@ use lane_arith::{Body, Lane, MaskResults, Results, fill, write_mask_results, wri
 use reg_groups::group_mut;
 use rv_model::{GROUP_BYTES, Policy, VFile, VReg, VType};
 
+/// What an instruction writes, whether it is unmasked, and the type and the policy under which it is carried
+/// out.
+#[derive(Clone, Copy)]
+pub(crate) struct Target {
+    pub vd: VReg,
+    pub unmasked: bool,
+    pub vtype: VType,
+    pub policy: Policy,
+}
+
 /// What becomes of agnostic elements: whether those of the body that are masked off, and those of the tail,
 /// become all ones (section 3.4.3).
 #[derive(Clone, Copy)]

@@ -7,11 +7,11 @@ ghost use Rattle.rv_model.specs.legality.GroupBounds.{HoldsBody, IsInside};
 ghost use Rattle.rv_model.specs.vector.Configuration.{lmul_eighths, vlmax};
 ghost use Rattle.rv_model.specs.vector.Registers.{register_of};
 
-use crate::destination::{Destination, agnostic_under};
+use crate::destination::{Destination, Target, agnostic_under};
 use crate::operands::mask_register;
 use lane_arith::{Body, Lane};
 use reg_groups::registers;
-use rv_model::{Policy, Scalar, Sew, VFile, VLENB, VReg, VState, VType};
+use rv_model::{Scalar, Sew, VFile, VLENB, VState};
 
 /// An operation and its operands.
 pub(crate) trait ElementWise {
@@ -43,39 +43,36 @@ pub(crate) trait ElementWise {
 #[tactic(auto, using(rv_model::proofs::legality_lemmas::Bounds::groups_hold_body))]
 pub(crate) fn carry_out<O: ElementWise>(
     operation: &O,
-    vd: VReg,
-    unmasked: bool,
-    vtype: VType,
-    policy: Policy,
+    target: Target,
     state: &mut VState,
     scalar: &Scalar,
 )
-    requires operands { O.inside operation.now (lmul_eighths vtype.lmul) }
-    requires destination { IsInside vd (lmul_eighths vtype.lmul) }
-    requires length { state.old.conf.vl ≤ vlmax vtype }
+    requires operands { O.inside operation.now (lmul_eighths target.vtype.lmul) }
+    requires destination { IsInside target.vd (lmul_eighths target.vtype.lmul) }
+    requires length { state.old.conf.vl ≤ vlmax target.vtype }
     ensures { state.new ≡ record state.old {
       file =
-          with_results (group_type vtype) vd (body_of unmasked state.old)
-          (fills_masked_off policy vtype (body_of unmasked state.old))
-          (fills_tail policy vtype (body_of unmasked state.old))
-          (O.number operation.now (group_type vtype) state.old.file scalar.now) state.old.file;
+          with_results (group_type target.vtype) target.vd (body_of target.unmasked state.old)
+          (fills_masked_off target.policy target.vtype (body_of target.unmasked state.old))
+          (fills_tail target.policy target.vtype (body_of target.unmasked state.old))
+          (O.number operation.now (group_type target.vtype) state.old.file scalar.now) state.old.file;
       vstart = 0;
     } }
 {
     let mask = mask_register(&state.file);
     let start = usize::from(state.vstart);
-    let body = Body::new(unmasked, &mask, start, usize::from(state.conf.vl()));
-    let emul = u32::from(vtype.lmul.eighths());
+    let body = Body::new(target.unmasked, &mask, start, usize::from(state.conf.vl()));
+    let emul = u32::from(target.vtype.lmul.eighths());
     let length = VLENB * registers(emul) as usize;
-    let agnostic = agnostic_under(policy, vtype, &body);
+    let agnostic = agnostic_under(target.policy, target.vtype, &body);
     let file = &mut state.file;
     let destination = |count| Destination {
-        vd,
+        vd: target.vd,
         emul,
         count,
         agnostic,
     };
-    match vtype.sew {
+    match target.vtype.sew {
         Sew::E8 => operation.write::<u8>(destination(length), &body, file, scalar),
         Sew::E16 => operation.write::<u16>(destination(length / 2), &body, file, scalar),
         Sew::E32 => operation.write::<u32>(destination(length / 4), &body, file, scalar),

@@ -4,7 +4,7 @@ ghost use Rattle.rv_model.specs.step.Hart.{hart_state};
 ghost use Rattle.rv_model.specs.step.VectorStep.{is_vector, performed, vector_ends, vector_executed};
 ghost use Rattle.rv_model.specs.legality.Legality.{is_legal};
 
-use crate::arithmetic::{perform_arith, perform_carry, perform_move};
+use crate::arithmetic::{perform_arith, perform_carry, perform_extension, perform_move};
 use crate::vset::{configure, requested_length};
 use reg_groups::legal;
 use rv_model::{Instr, Policy, RequestedLength, Scalar, VEnd, VState, VectorRequest};
@@ -56,6 +56,9 @@ fn perform<M: UserBytes>(
         }
         Instr::VectorCarry { carry, vd, vs2 } => {
             perform_carry(carry, vd, vs2, state, scalar, policy)
+        }
+        Instr::VectorExtend { op, vd, vs2, vm } => {
+            perform_extension(op, vd, vs2, vm, state, scalar, policy)
         }
         Instr::VectorMove { source, vd } => perform_move(source, vd, state, scalar, policy),
         _ => VEnd::Illegal,

@@ -7,9 +7,10 @@ ghost use Rattle.rv_model.specs.legality.GroupBounds.{HoldsBody};
 ghost use Rattle.rv_model.specs.vector.Configuration.{lmul_eighths, vlmax, width_bytes};
 ghost use Rattle.rv_model.specs.vector.Registers.{register_of, registers};
 
+use crate::destination::Target;
 use crate::operands::mask_register;
 use lane_arith::{Body, Lane};
-use rv_model::{GROUP_BYTES, Scalar, Sew, VFile, VLENB, VReg, VState, VType};
+use rv_model::{GROUP_BYTES, Scalar, Sew, VFile, VLENB, VReg, VState};
 
 /// An operation and its operands.
 pub(crate) trait MaskWise {
@@ -43,31 +44,29 @@ pub(crate) trait MaskWise {
 #[tactic(auto, using(rv_model::proofs::legality_lemmas::Bounds::length_fits, rv_model::proofs::legality_lemmas::Bounds::length_below, rv_model::proofs::legality_lemmas::Bounds::multiplier_fits))]
 pub(crate) fn carry_out_mask<O: MaskWise>(
     operation: &O,
-    vd: VReg,
-    unmasked: bool,
-    vtype: VType,
+    target: Target,
     state: &mut VState,
     scalar: &Scalar,
 )
-    requires operands { O.inside operation.now (lmul_eighths vtype.lmul) }
-    requires length { state.old.conf.vl ≤ vlmax vtype }
+    requires operands { O.inside operation.now (lmul_eighths target.vtype.lmul) }
+    requires length { state.old.conf.vl ≤ vlmax target.vtype }
     ensures { state.new ≡ record state.old {
       file =
-          with_mask_results vd (body_of unmasked state.old)
-          (O.bit operation.now (group_type vtype) state.old.file scalar.now) state.old.file;
+          with_mask_results target.vd (body_of target.unmasked state.old)
+          (O.bit operation.now (group_type target.vtype) state.old.file scalar.now) state.old.file;
       vstart = 0;
     } }
 {
     let mask = mask_register(&state.file);
     let start = usize::from(state.vstart);
-    let body = Body::new(unmasked, &mask, start, usize::from(state.conf.vl()));
-    let emul = u32::from(vtype.lmul.eighths());
+    let body = Body::new(target.unmasked, &mask, start, usize::from(state.conf.vl()));
+    let emul = u32::from(target.vtype.lmul.eighths());
     let file = &mut state.file;
-    match vtype.sew {
-        Sew::E8 => operation.write::<u8>(vd, emul, &body, file, scalar),
-        Sew::E16 => operation.write::<u16>(vd, emul, &body, file, scalar),
-        Sew::E32 => operation.write::<u32>(vd, emul, &body, file, scalar),
-        Sew::E64 => operation.write::<u64>(vd, emul, &body, file, scalar),
+    match target.vtype.sew {
+        Sew::E8 => operation.write::<u8>(target.vd, emul, &body, file, scalar),
+        Sew::E16 => operation.write::<u16>(target.vd, emul, &body, file, scalar),
+        Sew::E32 => operation.write::<u32>(target.vd, emul, &body, file, scalar),
+        Sew::E64 => operation.write::<u64>(target.vd, emul, &body, file, scalar),
     }
     state.vstart = 0;
 }

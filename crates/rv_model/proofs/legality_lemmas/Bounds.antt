@@ -1,17 +1,24 @@
 -- What legality tells of the registers of an instruction: its groups end inside the file, and have room for each element.
 use Rattle.std.specs.Prelude.{Some}
-use Rattle.std.proofs.Common.{◌≡◌, ◌⊎◌, inl, inr, ℕ, ◌+◌, ◌*◌, ◌/◌, ◌≤◌, Bool, true, false, refl, subst, arith, lit≤, lit<, All}
+use Rattle.std.proofs.Common.{◌≡◌, ◌⊎◌, inl, inr, ℕ, ◌+◌, ◌*◌, ◌/◌, ◌%◌, ◌≤◌, Bool, true, false, refl, subst, arith, lit≤, lit<, All}
 use Rattle.std.proofs.Math.Nat.{mul-le-mul_left}
-use Rattle.rv_model.specs.declared.instructions.instruction.Instr.TheVariants.{VectorArith, VectorCarry, VectorMove}
+use Rattle.rv_model.specs.declared.instructions.instruction.Instr.TheVariants.{VectorArith, VectorCarry, VectorExtend, VectorMove}
 use Rattle.rv_model.specs.declared.instructions.operations.BinaryOp.{BinaryOp}
 use Rattle.rv_model.specs.declared.instructions.operations.CarryOp.{CarryOp}
 use Rattle.rv_model.specs.declared.instructions.operations.CarryOutOp.{CarryOutOp}
 use Rattle.rv_model.specs.declared.instructions.operations.CompareOp.{CompareOp}
+use Rattle.rv_model.specs.declared.instructions.operations.ExtendOp.{ExtendOp}
+use Rattle.rv_model.specs.declared.instructions.operations.ExtendOp.TheVariants.{VzextVf8, VsextVf8, VzextVf4, VsextVf4, VzextVf2, VsextVf2}
 use Rattle.rv_model.specs.declared.instructions.operations.MultiplyAddOp.{MultiplyAddOp}
+use Rattle.rv_model.specs.declared.instructions.operations.NarrowShiftOp.{NarrowShiftOp}
+use Rattle.rv_model.specs.declared.instructions.operations.WidenOp.{WidenOp}
+use Rattle.rv_model.specs.declared.instructions.operations.WideSourceOp.{WideSourceOp}
+use Rattle.rv_model.specs.declared.instructions.operations.WidenMultiplyAddOp.{WidenMultiplyAddOp}
 use Rattle.rv_model.specs.declared.instructions.operations.VectorOp.TheVariants as vector_op
-use Rattle.rv_model.specs.declared.legality.Role.TheVariants.{Unused}
+use Rattle.rv_model.specs.declared.legality.Role.{Role}
+use Rattle.rv_model.specs.declared.legality.Role.TheVariants.{Read, Unused, Write}
 use Rattle.rv_model.specs.declared.legality.Shape.{Shape}
-use Rattle.rv_model.specs.declared.legality.Shape.TheVariants.{Compare, Single}
+use Rattle.rv_model.specs.declared.legality.Shape.TheVariants.{Compare, Narrowing, Single, WideSource, Widening}
 use Rattle.rv_model.specs.declared.instructions.source.Source.{Source}
 use Rattle.rv_model.specs.declared.instructions.source.Source.TheVariants as source
 use Rattle.rv_model.specs.declared.vector.types.Lmul.{Lmul}
@@ -21,10 +28,11 @@ use Rattle.rv_model.specs.declared.vector.types.Sew.TheVariants.{E8, E16, E32, E
 use Rattle.rv_model.specs.declared.vector.types.VType.{VType}
 use Rattle.rv_model.specs.declared.vector.sizes.TheConstants.{GROUP_BYTES, VECTOR_REGISTERS, VLENB}
 use Rattle.rv_model.specs.legality.Legality.{operands, is_legal}
-use Rattle.rv_model.specs.legality.OperandShapes.{emul, mask, second_source, shape_operands, vector_source}
+use Rattle.rv_model.specs.legality.OperandShapes.{emul, extension_divisor, group, mask, second_source, shape_operands, vector_source}
 use Rattle.rv_model.specs.vector.Registers.{registers}
 use Rattle.rv_model.specs.legality.RegisterOperands.{IsGroup}
-use Rattle.rv_model.specs.legality.GroupBounds.{HoldsBody, IsInside, SourceIsInside}
+use Rattle.rv_model.specs.legality.GroupBounds.{HasRoom, HoldsBody, IsInside, SourceIsInside}
+use Rattle.rv_model.specs.elements.Formulas.{doubled, halved, part_width}
 use Rattle.rv_model.specs.vector.Configuration.{sew_bits, sew_width, width_bytes, lmul_eighths, vlmax}
 use Rattle.rv_model.proofs.legality_lemmas.Meaning.{is_legal_means}
 
@@ -204,3 +212,303 @@ groups_hold_body t vl h = record {
   whole = whole_elements t.sew t.lmul;
   size = omega (arith, fewer t.sew (VLENB * registers (lmul_eighths t.lmul)), multiplier_fits t.lmul);
 }
+
+-- ---- operands of two widths
+
+-- a group of this multiplier has room for as many bytes as the multiplier says
+multiplier_room : (m : Lmul) → 4 * lmul_eighths m ≤ VLENB * registers (lmul_eighths m)
+multiplier_room Mf8 = lit≤ tt
+multiplier_room Mf4 = lit≤ tt
+multiplier_room Mf2 = lit≤ tt
+multiplier_room M1 = lit≤ tt
+multiplier_room M2 = lit≤ tt
+multiplier_room M4 = lit≤ tt
+multiplier_room M8 = lit≤ tt
+
+-- twice a multiplier is one, if it isn't above 8
+twice : (l : Lmul) → 2 * lmul_eighths l ≤ 64 → (m : Lmul) × (lmul_eighths m ≡ 2 * lmul_eighths l)
+twice Mf8 h = (Mf4, refl)
+twice Mf4 h = (Mf2, refl)
+twice Mf2 h = (M1, refl)
+twice M1 h = (M2, refl)
+twice M2 h = (M4, refl)
+twice M4 h = (M8, refl)
+twice M8 h = absurd (omega (arith, h))
+
+room_of : (m : Lmul) (e : ℕ) → lmul_eighths m ≡ e → 4 * e ≤ VLENB * registers e
+room_of m e is = subst (λ n. 4 * n ≤ VLENB * registers n) is (multiplier_room m)
+
+-- the elements of the vector type, at twice the width
+wide_bytes : (s : Sew) (l vl : ℕ) → sew_bits s ≤ 32 → vl ≤ l * VLENB / sew_bits s → width_bytes (doubled (sew_width s)) * vl ≤ 4 * (2 * l)
+wide_bytes E8 l vl n h = omega (arith, h)
+wide_bytes E16 l vl n h = omega (arith, h)
+wide_bytes E32 l vl n h = omega (arith, h)
+wide_bytes E64 l vl n h = absurd (omega (arith, n))
+
+wide_elements : (s : Sew) (n : ℕ) → sew_bits s ≤ 32 → VLENB * n ≡ width_bytes (doubled (sew_width s)) * (VLENB * n / width_bytes (doubled (sew_width s)))
+wide_elements E8 n h = omega arith
+wide_elements E16 n h = omega arith
+wide_elements E32 n h = omega arith
+wide_elements E64 n h = absurd (omega (arith, h))
+
+wide_fewer : (s : Sew) (n : ℕ) → sew_bits s ≤ 32 → n / width_bytes (doubled (sew_width s)) ≤ n
+wide_fewer E8 n h = omega arith
+wide_fewer E16 n h = omega arith
+wide_fewer E32 n h = omega arith
+wide_fewer E64 n h = absurd (omega (arith, h))
+
+-- the groups of twice the width and the multiplier hold the body
+pub wide_groups_hold_body : (t : VType) (vl : ℕ) → vl ≤ vlmax t → sew_bits t.sew ≤ 32 → 2 * lmul_eighths t.lmul ≤ 64
+    → HoldsBody (doubled (sew_width t.sew)) (2 * lmul_eighths t.lmul)
+    (VLENB * registers (2 * lmul_eighths t.lmul) / width_bytes (doubled (sew_width t.sew))) vl
+wide_groups_hold_body t vl h narrow most =
+    let m = twice t.lmul most in
+    record {
+      most = most;
+      room = omega (arith, wide_bytes t.sew (lmul_eighths t.lmul) vl narrow h, room_of m.0 (2 * lmul_eighths t.lmul) m.1);
+      least = length_below t vl h;
+      whole = wide_elements t.sew (registers (2 * lmul_eighths t.lmul)) narrow;
+      size = omega (arith, wide_fewer t.sew (VLENB * registers (2 * lmul_eighths t.lmul)) narrow, most);
+    }
+
+-- the groups of the vector type have room for the body, and those of twice the width
+pub groups_have_room : (t : VType) (vl : ℕ) → vl ≤ vlmax t → HasRoom (sew_width t.sew) (lmul_eighths t.lmul) vl
+groups_have_room t vl h = record { most = multiplier_fits t.lmul; room = length_fits t vl h }
+
+pub wide_groups_have_room : (t : VType) (vl : ℕ) → vl ≤ vlmax t → sew_bits t.sew ≤ 32 → 2 * lmul_eighths t.lmul ≤ 64
+    → HasRoom (doubled (sew_width t.sew)) (2 * lmul_eighths t.lmul) vl
+wide_groups_have_room t vl h narrow most =
+    let holds = wide_groups_hold_body t vl h narrow most in
+    record { most = most; room = holds.room }
+
+-- elements of twice SEW have twice the vector type's multiplier
+emul-wide : (s : Sew) (e : ℕ) → 2 * sew_bits s * e / sew_bits s ≡ 2 * e
+emul-wide E8 e = omega arith
+emul-wide E16 e = omega arith
+emul-wide E32 e = omega arith
+emul-wide E64 e = omega arith
+
+wide_group : (r : ℕ) (t : VType) → r + 1 * registers (emul (2 * sew_bits t.sew) t) ≤ VECTOR_REGISTERS → IsInside r (2 * lmul_eighths t.lmul)
+wide_group r t h = inside r (emul (2 * sew_bits t.sew) t) (2 * lmul_eighths t.lmul) (emul-wide t.sew (lmul_eighths t.lmul)) h
+
+-- there are elements of twice SEW, in groups of twice the multiplier
+pub record HasDouble (t : VType) : Type 0 where
+  pub narrow : sew_bits t.sew ≤ 32
+  pub most : 2 * lmul_eighths t.lmul ≤ 64
+
+has_double : (role : Role) (r : ℕ) (t : VType) → IsGroup (group role r (2 * sew_bits t.sew) t) → HasDouble t
+has_double role r t g =
+    let same : emul (2 * sew_bits t.sew) t ≡ 2 * lmul_eighths t.lmul = emul-wide t.sew (lmul_eighths t.lmul) in
+    record { narrow = omega (arith, g.width.1); most = subst (λ n. n ≤ 64) same g.most }
+
+source_inside : (shape : Shape) (from : Source) (t : VType) → ((vs1 : ℕ) → vector_source shape vs1 t ≡ group Read vs1 (sew_bits t.sew) t)
+    → IsGroup (second_source shape from t) → SourceIsInside from (lmul_eighths t.lmul)
+source_inside shape (source.V vs1) t is g = sew_group vs1 t (subst IsGroup (is vs1) g).inside
+source_inside shape (source.X rs1) t is g = tt
+source_inside shape (source.I imm) t is g = tt
+
+-- the operands of operations whose result has twice the width
+pub record WideningInside (vd vs2 : ℕ) (from : Source) (t : VType) : Type 0 where
+  pub double : HasDouble t
+  pub destination : IsInside vd (2 * lmul_eighths t.lmul)
+  pub first : IsInside vs2 (lmul_eighths t.lmul)
+  pub second : SourceIsInside from (lmul_eighths t.lmul)
+
+widening_inside : (vd vs2 : ℕ) (from : Source) (vm : Bool) (t : VType) → All IsGroup (shape_operands Widening vd vs2 from vm t) → WideningInside vd vs2 from t
+unfolding shape_operands
+widening_inside vd vs2 from vm t groups = record {
+  double = has_double Write vd t (groups 0 (mask Unused 0) (lit< tt));
+  destination = wide_group vd t (groups 0 (mask Unused 0) (lit< tt)).inside;
+  first = sew_group vs2 t (groups 1 (mask Unused 0) (lit< tt)).inside;
+  second = source_inside Widening from t (λ vs1. refl) (groups 2 (mask Unused 0) (lit< tt));
+}
+
+pub widen_inside : (op : WidenOp) (from : Source) (vd vs2 : ℕ) (vm : Bool) (t : VType) (vstart : ℕ)
+    → is_legal (VectorArith (vector_op.Widen op, from) vd vs2 vm) (Some t) vstart ≡ true → WideningInside vd vs2 from t
+unfolding operands
+widen_inside op from vd vs2 vm t vstart h =
+    widening_inside vd vs2 from vm t ((is_legal_means (VectorArith (vector_op.Widen op, from) vd vs2 vm) (Some t) vstart).0 h).operands.groups
+
+pub widen_multiply_add_inside : (op : WidenMultiplyAddOp) (from : Source) (vd vs2 : ℕ) (vm : Bool) (t : VType) (vstart : ℕ)
+    → is_legal (VectorArith (vector_op.WidenMultiplyAdd op, from) vd vs2 vm) (Some t) vstart ≡ true → WideningInside vd vs2 from t
+unfolding operands
+widen_multiply_add_inside op from vd vs2 vm t vstart h =
+    widening_inside vd vs2 from vm t ((is_legal_means (VectorArith (vector_op.WidenMultiplyAdd op, from) vd vs2 vm) (Some t) vstart).0 h).operands.groups
+
+-- the operands of operations whose result and first source have twice the width
+pub record WideSourceInside (vd vs2 : ℕ) (from : Source) (t : VType) : Type 0 where
+  pub double : HasDouble t
+  pub destination : IsInside vd (2 * lmul_eighths t.lmul)
+  pub first : IsInside vs2 (2 * lmul_eighths t.lmul)
+  pub second : SourceIsInside from (lmul_eighths t.lmul)
+
+pub wide_source_inside : (op : WideSourceOp) (from : Source) (vd vs2 : ℕ) (vm : Bool) (t : VType) (vstart : ℕ)
+    → is_legal (VectorArith (vector_op.WideSource op, from) vd vs2 vm) (Some t) vstart ≡ true → WideSourceInside vd vs2 from t
+unfolding operands shape_operands
+wide_source_inside op from vd vs2 vm t vstart h =
+    let groups = ((is_legal_means (VectorArith (vector_op.WideSource op, from) vd vs2 vm) (Some t) vstart).0 h).operands.groups in
+    record {
+      double = has_double Write vd t (groups 0 (mask Unused 0) (lit< tt));
+      destination = wide_group vd t (groups 0 (mask Unused 0) (lit< tt)).inside;
+      first = wide_group vs2 t (groups 1 (mask Unused 0) (lit< tt)).inside;
+      second = source_inside WideSource from t (λ vs1. refl) (groups 2 (mask Unused 0) (lit< tt));
+    }
+
+-- the operands of operations whose first source has twice the width
+pub record NarrowingInside (vd vs2 : ℕ) (from : Source) (t : VType) : Type 0 where
+  pub double : HasDouble t
+  pub destination : IsInside vd (lmul_eighths t.lmul)
+  pub first : IsInside vs2 (2 * lmul_eighths t.lmul)
+  pub second : SourceIsInside from (lmul_eighths t.lmul)
+
+pub narrow_shift_inside : (op : NarrowShiftOp) (from : Source) (vd vs2 : ℕ) (vm : Bool) (t : VType) (vstart : ℕ)
+    → is_legal (VectorArith (vector_op.NarrowShift op, from) vd vs2 vm) (Some t) vstart ≡ true → NarrowingInside vd vs2 from t
+unfolding operands shape_operands
+narrow_shift_inside op from vd vs2 vm t vstart h =
+    let groups = ((is_legal_means (VectorArith (vector_op.NarrowShift op, from) vd vs2 vm) (Some t) vstart).0 h).operands.groups in
+    record {
+      double = has_double Read vs2 t (groups 1 (mask Unused 0) (lit< tt));
+      destination = sew_group vd t (groups 0 (mask Unused 0) (lit< tt)).inside;
+      first = wide_group vs2 t (groups 1 (mask Unused 0) (lit< tt)).inside;
+      second = source_inside Narrowing from t (λ vs1. refl) (groups 2 (mask Unused 0) (lit< tt));
+    }
+
+-- ---- sources of a part of SEW
+
+-- elements of a part of SEW have that part of the vector type's multiplier
+emul-half : (s : Sew) (e : ℕ) → sew_bits s / 2 * e / sew_bits s ≡ e / 2
+emul-half E8 e = omega arith
+emul-half E16 e = omega arith
+emul-half E32 e = omega arith
+emul-half E64 e = omega arith
+
+emul-quarter : (s : Sew) (e : ℕ) → sew_bits s / 4 * e / sew_bits s ≡ e / 4
+emul-quarter E8 e = omega arith
+emul-quarter E16 e = omega arith
+emul-quarter E32 e = omega arith
+emul-quarter E64 e = omega arith
+
+emul-eighth : (s : Sew) (e : ℕ) → sew_bits s / 8 * e / sew_bits s ≡ e / 8
+emul-eighth E8 e = omega arith
+emul-eighth E16 e = omega arith
+emul-eighth E32 e = omega arith
+emul-eighth E64 e = omega arith
+
+emul-part : (o : ExtendOp) (s : Sew) (e : ℕ) → sew_bits s / extension_divisor o * e / sew_bits s ≡ e / extension_divisor o
+emul-part VzextVf8 s e = emul-eighth s e
+emul-part VsextVf8 s e = emul-eighth s e
+emul-part VzextVf4 s e = emul-quarter s e
+emul-part VsextVf4 s e = emul-quarter s e
+emul-part VzextVf2 s e = emul-half s e
+emul-part VsextVf2 s e = emul-half s e
+
+-- a part of a multiplier that is at least 1/8 is a multiplier
+record PartOf (l : Lmul) (divisor : ℕ) : Type 0 where
+  part : Lmul
+  is : lmul_eighths part ≡ lmul_eighths l / divisor
+  whole : lmul_eighths l % divisor ≡ 0
+
+half : (l : Lmul) → 1 ≤ lmul_eighths l / 2 → PartOf l 2
+half Mf8 h = absurd (omega (arith, h))
+half Mf4 h = record { part = Mf8; is = refl; whole = refl }
+half Mf2 h = record { part = Mf4; is = refl; whole = refl }
+half M1 h = record { part = Mf2; is = refl; whole = refl }
+half M2 h = record { part = M1; is = refl; whole = refl }
+half M4 h = record { part = M2; is = refl; whole = refl }
+half M8 h = record { part = M4; is = refl; whole = refl }
+
+quarter : (l : Lmul) → 1 ≤ lmul_eighths l / 4 → PartOf l 4
+quarter Mf8 h = absurd (omega (arith, h))
+quarter Mf4 h = absurd (omega (arith, h))
+quarter Mf2 h = record { part = Mf8; is = refl; whole = refl }
+quarter M1 h = record { part = Mf4; is = refl; whole = refl }
+quarter M2 h = record { part = Mf2; is = refl; whole = refl }
+quarter M4 h = record { part = M1; is = refl; whole = refl }
+quarter M8 h = record { part = M2; is = refl; whole = refl }
+
+eighth : (l : Lmul) → 1 ≤ lmul_eighths l / 8 → PartOf l 8
+eighth Mf8 h = absurd (omega (arith, h))
+eighth Mf4 h = absurd (omega (arith, h))
+eighth Mf2 h = absurd (omega (arith, h))
+eighth M1 h = record { part = Mf8; is = refl; whole = refl }
+eighth M2 h = record { part = Mf4; is = refl; whole = refl }
+eighth M4 h = record { part = Mf2; is = refl; whole = refl }
+eighth M8 h = record { part = M1; is = refl; whole = refl }
+
+-- the elements of the vector type, at a part of the width
+bytes-half : (s : Sew) (l vl : ℕ) → 8 ≤ sew_bits s / 2 → l % 2 ≡ 0 → vl ≤ l * VLENB / sew_bits s → width_bytes (halved (sew_width s)) * vl ≤ 4 * (l / 2)
+bytes-half E8 l vl n e h = absurd (omega (arith, n))
+bytes-half E16 l vl n e h = omega (arith, e, h)
+bytes-half E32 l vl n e h = omega (arith, e, h)
+bytes-half E64 l vl n e h = omega (arith, e, h)
+
+bytes-quarter : (s : Sew) (l vl : ℕ) → 8 ≤ sew_bits s / 4 → l % 4 ≡ 0 → vl ≤ l * VLENB / sew_bits s → width_bytes (halved (halved (sew_width s))) * vl ≤ 4 * (l / 4)
+bytes-quarter E8 l vl n e h = absurd (omega (arith, n))
+bytes-quarter E16 l vl n e h = absurd (omega (arith, n))
+bytes-quarter E32 l vl n e h = omega (arith, e, h)
+bytes-quarter E64 l vl n e h = omega (arith, e, h)
+
+bytes-eighth : (s : Sew) (l vl : ℕ) → 8 ≤ sew_bits s / 8 → l % 8 ≡ 0 → vl ≤ l * VLENB / sew_bits s → width_bytes (halved (halved (halved (sew_width s)))) * vl ≤ 4 * (l / 8)
+bytes-eighth E8 l vl n e h = absurd (omega (arith, n))
+bytes-eighth E16 l vl n e h = absurd (omega (arith, n))
+bytes-eighth E32 l vl n e h = absurd (omega (arith, n))
+bytes-eighth E64 l vl n e h = omega (arith, e, h)
+
+part_room : (o : ExtendOp) (t : VType) (vl : ℕ) → vl ≤ vlmax t → 8 ≤ sew_bits t.sew / extension_divisor o → 1 ≤ lmul_eighths t.lmul / extension_divisor o
+    → width_bytes (part_width o (sew_width t.sew)) * vl ≤ VLENB * registers (lmul_eighths t.lmul / extension_divisor o)
+part_room VzextVf8 t vl h wide least =
+    let p = eighth t.lmul least in
+    omega (arith, bytes-eighth t.sew (lmul_eighths t.lmul) vl wide p.whole h, room_of p.part (lmul_eighths t.lmul / 8) p.is)
+part_room VsextVf8 t vl h wide least =
+    let p = eighth t.lmul least in
+    omega (arith, bytes-eighth t.sew (lmul_eighths t.lmul) vl wide p.whole h, room_of p.part (lmul_eighths t.lmul / 8) p.is)
+part_room VzextVf4 t vl h wide least =
+    let p = quarter t.lmul least in
+    omega (arith, bytes-quarter t.sew (lmul_eighths t.lmul) vl wide p.whole h, room_of p.part (lmul_eighths t.lmul / 4) p.is)
+part_room VsextVf4 t vl h wide least =
+    let p = quarter t.lmul least in
+    omega (arith, bytes-quarter t.sew (lmul_eighths t.lmul) vl wide p.whole h, room_of p.part (lmul_eighths t.lmul / 4) p.is)
+part_room VzextVf2 t vl h wide least =
+    let p = half t.lmul least in
+    omega (arith, bytes-half t.sew (lmul_eighths t.lmul) vl wide p.whole h, room_of p.part (lmul_eighths t.lmul / 2) p.is)
+part_room VsextVf2 t vl h wide least =
+    let p = half t.lmul least in
+    omega (arith, bytes-half t.sew (lmul_eighths t.lmul) vl wide p.whole h, room_of p.part (lmul_eighths t.lmul / 2) p.is)
+
+fewer_part : (o : ExtendOp) (n : ℕ) → n / extension_divisor o ≤ n
+fewer_part VzextVf8 n = omega arith
+fewer_part VsextVf8 n = omega arith
+fewer_part VzextVf4 n = omega arith
+fewer_part VsextVf4 n = omega arith
+fewer_part VzextVf2 n = omega arith
+fewer_part VsextVf2 n = omega arith
+
+-- the groups of a part of the width and the multiplier have room for the body
+pub part_groups_have_room : (o : ExtendOp) (t : VType) (vl : ℕ) → vl ≤ vlmax t → 8 ≤ sew_bits t.sew / extension_divisor o
+    → 1 ≤ lmul_eighths t.lmul / extension_divisor o
+    → HasRoom (part_width o (sew_width t.sew)) (lmul_eighths t.lmul / extension_divisor o) vl
+part_groups_have_room o t vl h wide least = record {
+  most = omega (arith, fewer_part o (lmul_eighths t.lmul), multiplier_fits t.lmul);
+  room = part_room o t vl h wide least;
+}
+
+-- the operands of an extension
+pub record ExtensionInside (o : ExtendOp) (vd vs2 : ℕ) (t : VType) : Type 0 where
+  pub wide : 8 ≤ sew_bits t.sew / extension_divisor o
+  pub least : 1 ≤ lmul_eighths t.lmul / extension_divisor o
+  pub destination : IsInside vd (lmul_eighths t.lmul)
+  pub first : IsInside vs2 (lmul_eighths t.lmul / extension_divisor o)
+
+pub extension_inside : (o : ExtendOp) (vd vs2 : ℕ) (vm : Bool) (t : VType) (vstart : ℕ)
+    → is_legal (VectorExtend o vd vs2 vm) (Some t) vstart ≡ true → ExtensionInside o vd vs2 t
+unfolding operands
+extension_inside o vd vs2 vm t vstart h =
+    let groups = ((is_legal_means (VectorExtend o vd vs2 vm) (Some t) vstart).0 h).operands.groups in
+    let source = groups 1 (mask Unused 0) (lit< tt) in
+    let same : emul (sew_bits t.sew / extension_divisor o) t ≡ lmul_eighths t.lmul / extension_divisor o = emul-part o t.sew (lmul_eighths t.lmul) in
+    record {
+      wide = source.width.0;
+      least = subst (λ n. 1 ≤ n) same source.least;
+      destination = sew_group vd t (groups 0 (mask Unused 0) (lit< tt)).inside;
+      first = inside vs2 (emul (sew_bits t.sew / extension_divisor o) t) (lmul_eighths t.lmul / extension_divisor o) same source.inside;
+    }

@@ -17,6 +17,11 @@ SourceIsInside (source.V vs1) emul = IsInside vs1 emul
 SourceIsInside (source.X rs1) emul = ⊤
 SourceIsInside (source.I imm) emul = ⊤
 
+-- groups of this multiplier have room for the elements of this width before the end of the body
+pub record HasRoom (width : Width) (emul end : ℕ) : Type 0 where
+  pub most : emul ≤ 64
+  pub room : width_bytes width * end ≤ VLENB * registers emul
+
 -- groups of this multiplier have so many elements of this width in their registers, and the elements before the end of the
 -- body are among them
 pub record HoldsBody (width : Width) (emul count end : ℕ) : Type 0 where

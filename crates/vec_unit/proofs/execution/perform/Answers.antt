@@ -15,3 +15,8 @@ pub returns-in-VectorMove-clause-model : goal.returns-in-VectorMove-clause-model
 unfolding performed
 returns-in-VectorMove-clause-model g c = λ output.
     rw c.in-VectorMove.is (c.perform_move.ensures.model (g.M.UserBytes.memory c.args.memory.now) output)
+
+pub returns-in-VectorExtend-clause-model : goal.returns-in-VectorExtend-clause-model
+unfolding performed
+returns-in-VectorExtend-clause-model g c = λ output.
+    rw c.in-VectorExtend.is (c.perform_extension.ensures.model (g.M.UserBytes.memory c.args.memory.now) output)

@@ -1,0 +1,151 @@
+//! Extensions of elements of a part of the width ("V" Vector Extension 1.0, section 11.3).
+ghost use Rattle.std.specs.Prelude.{◌≡◌, ◌/◌, ◌≤◌};
+ghost use Rattle.rv_model.specs.elements.Arithmetic.{body_of, extend_result, fills_masked_off, fills_tail, group_type, part_type, with_results};
+ghost use Rattle.rv_model.specs.legality.GroupBounds.{IsInside};
+ghost use Rattle.rv_model.specs.legality.OperandShapes.{extension_divisor};
+ghost use Rattle.rv_model.specs.vector.Configuration.{lmul_eighths, sew_bits, vlmax};
+
+use crate::destination::{Destination, Target, agnostic_under, write_group};
+use crate::operands::{group_copy, mask_register};
+use crate::two_widths::TwoWidths;
+use lane_arith::{Body, Extend, Lane};
+use reg_groups::registers;
+use rv_model::instructions::operations::ExtendOp;
+use rv_model::{GROUP_BYTES, Scalar, Sew, VFile, VLENB, VReg, VState};
+use std::marker::PhantomData;
+
+/// An extension and its source.
+#[derive(Clone, Copy)]
+pub(crate) struct ExtendOperation {
+    pub op: ExtendOp,
+    pub vs2: VReg,
+}
+
+impl TwoWidths for ExtendOperation {
+    ghost number = { λ o wide part file x. extend_result part wide o.op o.vs2 file };
+
+    ghost inside = { λ o wide part. IsInside o.vs2 part };
+
+    fn write<D: Lane, O: Lane>(
+        &self,
+        destination: Destination,
+        other: u32,
+        body: &Body<'_>,
+        file: &mut VFile,
+        _scalar: &Scalar,
+    ) {
+        let mut copy = [0; GROUP_BYTES];
+        let a = group_copy(file, self.vs2, other, &mut copy);
+        let results = Extend::<'_, O> {
+            op: self.op,
+            a,
+            element: PhantomData,
+        };
+        write_group::<D, Extend<'_, O>>(&results, destination, body, file);
+    }
+}
+
+/// Which part of the width the source of an extension has: the width divided by this.
+fn extension_divisor(op: ExtendOp) -> u32
+    ensures value { result ≡ extension_divisor op }
+    ensures some { 1 ≤ result }
+{
+    match op {
+        ExtendOp::VzextVf8 | ExtendOp::VsextVf8 => 8,
+        ExtendOp::VzextVf4 | ExtendOp::VsextVf4 => 4,
+        ExtendOp::VzextVf2 | ExtendOp::VsextVf2 => 2,
+    }
+}
+
+/// Carries out an extension. The next instruction begins with the first element.
+#[tactic(auto, using(rv_model::proofs::legality_lemmas::Bounds::groups_hold_body, rv_model::proofs::legality_lemmas::Bounds::part_groups_have_room))]
+pub(crate) fn carry_out_extension(
+    operation: ExtendOperation,
+    target: Target,
+    state: &mut VState,
+    scalar: &Scalar,
+)
+    requires source { IsInside operation.vs2 (lmul_eighths target.vtype.lmul / extension_divisor operation.op) }
+    requires destination { IsInside target.vd (lmul_eighths target.vtype.lmul) }
+    requires wide { 8 ≤ sew_bits target.vtype.sew / extension_divisor operation.op }
+    requires least { 1 ≤ lmul_eighths target.vtype.lmul / extension_divisor operation.op }
+    requires length { state.old.conf.vl ≤ vlmax target.vtype }
+    ensures { state.new ≡ record state.old {
+      file =
+          with_results (group_type target.vtype) target.vd (body_of target.unmasked state.old)
+          (fills_masked_off target.policy target.vtype (body_of target.unmasked state.old))
+          (fills_tail target.policy target.vtype (body_of target.unmasked state.old))
+          (extend_result (part_type operation.op target.vtype) (group_type target.vtype) operation.op operation.vs2
+          state.old.file) state.old.file;
+      vstart = 0;
+    } }
+{
+    let mask = mask_register(&state.file);
+    let start = usize::from(state.vstart);
+    let body = Body::new(target.unmasked, &mask, start, usize::from(state.conf.vl()));
+    let emul = u32::from(target.vtype.lmul.eighths());
+    let part = emul / extension_divisor(operation.op);
+    let length = VLENB * registers(emul) as usize;
+    let agnostic = agnostic_under(target.policy, target.vtype, &body);
+    let file = &mut state.file;
+    let destination = |count| Destination {
+        vd: target.vd,
+        emul,
+        count,
+        agnostic,
+    };
+    match operation.op {
+        ExtendOp::VzextVf2 | ExtendOp::VsextVf2 => match target.vtype.sew {
+            Sew::E16 => operation.write::<u16, u8>(
+                destination(length / 2),
+                part,
+                &body,
+                file,
+                scalar,
+            ),
+            Sew::E32 => operation.write::<u32, u16>(
+                destination(length / 4),
+                part,
+                &body,
+                file,
+                scalar,
+            ),
+            Sew::E64 => operation.write::<u64, u32>(
+                destination(length / 8),
+                part,
+                &body,
+                file,
+                scalar,
+            ),
+            Sew::E8 => unreachable!(),
+        },
+        ExtendOp::VzextVf4 | ExtendOp::VsextVf4 => match target.vtype.sew {
+            Sew::E32 => operation.write::<u32, u8>(
+                destination(length / 4),
+                part,
+                &body,
+                file,
+                scalar,
+            ),
+            Sew::E64 => operation.write::<u64, u16>(
+                destination(length / 8),
+                part,
+                &body,
+                file,
+                scalar,
+            ),
+            Sew::E8 | Sew::E16 => unreachable!(),
+        },
+        ExtendOp::VzextVf8 | ExtendOp::VsextVf8 => match target.vtype.sew {
+            Sew::E64 => operation.write::<u64, u8>(
+                destination(length / 8),
+                part,
+                &body,
+                file,
+                scalar,
+            ),
+            Sew::E8 | Sew::E16 | Sew::E32 => unreachable!(),
+        },
+    }
+    state.vstart = 0;
+}

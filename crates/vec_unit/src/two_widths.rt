@@ -1,0 +1,161 @@
+//! Instructions whose operands have two widths, carried out ("V" Vector Extension 1.0, sections 5.2, 11.2, 11.7,
+//! 11.12 and 11.14).
+ghost use Rattle.std.specs.Prelude.{◌≡◌, ◌*◌, ◌≤◌, List, ℕ};
+ghost use Rattle.rv_model.specs.declared.scalar.Scalar.{Scalar as ScalarRegisters};
+ghost use Rattle.rv_model.specs.elements.Arithmetic.{GroupType, body_of, fills_masked_off, fills_tail, group_type, wide_type, with_results};
+ghost use Rattle.rv_model.specs.legality.GroupBounds.{HasRoom, HoldsBody, IsInside};
+ghost use Rattle.rv_model.specs.vector.Configuration.{lmul_eighths, sew_bits, vlmax};
+ghost use Rattle.rv_model.specs.vector.Registers.{register_of};
+
+use crate::destination::{Destination, Target, agnostic_under};
+use crate::operands::mask_register;
+use lane_arith::{Body, Lane};
+use reg_groups::registers;
+use rv_model::{Scalar, Sew, VFile, VLENB, VState};
+
+/// An operation and its operands.
+pub(crate) trait TwoWidths {
+    // The number for an element, by the types of the destination's groups and of the others, and what the registers
+    // hold.
+    ghost number: { Self → GroupType → GroupType → List ℕ → ScalarRegisters → ℕ → ℕ };
+
+    // The operands lie inside the file, by the multipliers of the destination and of the others, in eighths of a
+    // register.
+    ghost inside: { Self → ℕ → ℕ → Type 0 };
+
+    /// Writes the results to a destination of elements of the width of `D`; `O` is the other width, and `other`
+    /// the multiplier of its groups. The mask of the body is v0.
+    fn write<D: Lane, O: Lane>(
+        &self,
+        destination: Destination,
+        other: u32,
+        body: &Body<'_>,
+        file: &mut VFile,
+        scalar: &Scalar,
+    )
+        requires operands { inside self.now destination.emul other }
+        requires destination { IsInside destination.vd destination.emul }
+        requires holds { HoldsBody D.width destination.emul destination.count body.now.end }
+        requires room { HasRoom O.width other body.now.end }
+        requires mask { body.now.mask ≡ register_of file.old 0 }
+        ensures { file.new ≡ with_results (record { width = D.width; emul = destination.emul }) destination.vd body.now
+            destination.agnostic.fill_masked_off destination.agnostic.fill_tail
+            (number self.now (record { width = D.width; emul = destination.emul }) (record { width = O.width; emul = other })
+            file.old scalar.now) file.old };
+}
+
+/// Carries out an operation whose destination has twice the vector type's width. The next instruction begins
+/// with the first element.
+#[tactic(auto, using(rv_model::proofs::legality_lemmas::Bounds::wide_groups_hold_body, rv_model::proofs::legality_lemmas::Bounds::groups_have_room))]
+pub(crate) fn carry_out_widening<O: TwoWidths>(
+    operation: &O,
+    target: Target,
+    state: &mut VState,
+    scalar: &Scalar,
+)
+    requires operands { O.inside operation.now (2 * lmul_eighths target.vtype.lmul) (lmul_eighths target.vtype.lmul) }
+    requires destination { IsInside target.vd (2 * lmul_eighths target.vtype.lmul) }
+    requires narrow { sew_bits target.vtype.sew ≤ 32 }
+    requires most { 2 * lmul_eighths target.vtype.lmul ≤ 64 }
+    requires length { state.old.conf.vl ≤ vlmax target.vtype }
+    ensures { state.new ≡ record state.old {
+      file =
+          with_results (wide_type target.vtype) target.vd (body_of target.unmasked state.old)
+          (fills_masked_off target.policy target.vtype (body_of target.unmasked state.old))
+          (fills_tail target.policy target.vtype (body_of target.unmasked state.old))
+          (O.number operation.now (wide_type target.vtype) (group_type target.vtype) state.old.file scalar.now) state.old.file;
+      vstart = 0;
+    } }
+{
+    let mask = mask_register(&state.file);
+    let start = usize::from(state.vstart);
+    let body = Body::new(target.unmasked, &mask, start, usize::from(state.conf.vl()));
+    let other = u32::from(target.vtype.lmul.eighths());
+    let emul = 2 * other;
+    let length = VLENB * registers(emul) as usize;
+    let agnostic = agnostic_under(target.policy, target.vtype, &body);
+    let file = &mut state.file;
+    let destination = |count| Destination {
+        vd: target.vd,
+        emul,
+        count,
+        agnostic,
+    };
+    match target.vtype.sew {
+        Sew::E8 => operation.write::<u16, u8>(destination(length / 2), other, &body, file, scalar),
+        Sew::E16 => operation.write::<u32, u16>(
+            destination(length / 4),
+            other,
+            &body,
+            file,
+            scalar,
+        ),
+        Sew::E32 => operation.write::<u64, u32>(
+            destination(length / 8),
+            other,
+            &body,
+            file,
+            scalar,
+        ),
+        Sew::E64 => unreachable!(),
+    }
+    state.vstart = 0;
+}
+
+/// Carries out an operation with a source of twice the vector type's width. The next instruction begins with
+/// the first element.
+#[tactic(auto, using(rv_model::proofs::legality_lemmas::Bounds::groups_hold_body, rv_model::proofs::legality_lemmas::Bounds::wide_groups_have_room))]
+pub(crate) fn carry_out_narrowing<O: TwoWidths>(
+    operation: &O,
+    target: Target,
+    state: &mut VState,
+    scalar: &Scalar,
+)
+    requires operands { O.inside operation.now (lmul_eighths target.vtype.lmul) (2 * lmul_eighths target.vtype.lmul) }
+    requires destination { IsInside target.vd (lmul_eighths target.vtype.lmul) }
+    requires narrow { sew_bits target.vtype.sew ≤ 32 }
+    requires most { 2 * lmul_eighths target.vtype.lmul ≤ 64 }
+    requires length { state.old.conf.vl ≤ vlmax target.vtype }
+    ensures { state.new ≡ record state.old {
+      file =
+          with_results (group_type target.vtype) target.vd (body_of target.unmasked state.old)
+          (fills_masked_off target.policy target.vtype (body_of target.unmasked state.old))
+          (fills_tail target.policy target.vtype (body_of target.unmasked state.old))
+          (O.number operation.now (group_type target.vtype) (wide_type target.vtype) state.old.file scalar.now) state.old.file;
+      vstart = 0;
+    } }
+{
+    let mask = mask_register(&state.file);
+    let start = usize::from(state.vstart);
+    let body = Body::new(target.unmasked, &mask, start, usize::from(state.conf.vl()));
+    let emul = u32::from(target.vtype.lmul.eighths());
+    let other = 2 * emul;
+    let length = VLENB * registers(emul) as usize;
+    let agnostic = agnostic_under(target.policy, target.vtype, &body);
+    let file = &mut state.file;
+    let destination = |count| Destination {
+        vd: target.vd,
+        emul,
+        count,
+        agnostic,
+    };
+    match target.vtype.sew {
+        Sew::E8 => operation.write::<u8, u16>(destination(length), other, &body, file, scalar),
+        Sew::E16 => operation.write::<u16, u32>(
+            destination(length / 2),
+            other,
+            &body,
+            file,
+            scalar,
+        ),
+        Sew::E32 => operation.write::<u32, u64>(
+            destination(length / 4),
+            other,
+            &body,
+            file,
+            scalar,
+        ),
+        Sew::E64 => unreachable!(),
+    }
+    state.vstart = 0;
+}

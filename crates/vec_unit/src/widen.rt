@@ -1,0 +1,142 @@
+//! Operations whose result has twice the width of an operand ("V" Vector Extension 1.0, sections 11.2, 11.12
+//! and 11.14).
+ghost use Rattle.rv_model.specs.elements.Arithmetic.{wide_source_result, widen_multiply_add_result, widen_result};
+ghost use Rattle.rv_model.specs.legality.GroupBounds.{IsInside, SourceIsInside};
+
+use crate::destination::{Destination, write_group};
+use crate::operands::{group_copy, second_copy};
+use crate::two_widths::TwoWidths;
+use lane_arith::{Body, Lane, WideSource, Widen, WidenMultiplyAdd};
+use rv_model::instructions::operations::{WideSourceOp, WidenMultiplyAddOp, WidenOp};
+use rv_model::{GROUP_BYTES, Scalar, Source, VFile, VReg};
+use std::marker::PhantomData;
+
+/// An operation and its sources.
+#[derive(Clone, Copy)]
+pub(crate) struct WidenOperation {
+    pub op: WidenOp,
+    pub vs2: VReg,
+    pub source: Source,
+}
+
+impl TwoWidths for WidenOperation {
+    ghost number = { λ o wide narrow file x. widen_result narrow wide o.op o.vs2 o.source file x };
+
+    ghost inside = { λ o wide narrow. IsInside o.vs2 narrow × SourceIsInside o.source narrow };
+
+    fn write<D: Lane, O: Lane>(
+        &self,
+        destination: Destination,
+        other: u32,
+        body: &Body<'_>,
+        file: &mut VFile,
+        scalar: &Scalar,
+    ) {
+        let (mut first, mut second) = ([0; GROUP_BYTES], [0; GROUP_BYTES]);
+        let a = group_copy(file, self.vs2, other, &mut first);
+        let b = second_copy::<O>(
+            false,
+            self.source,
+            other,
+            body.end(),
+            file,
+            scalar,
+            &mut second,
+        );
+        let results = Widen::<'_, O> {
+            op: self.op,
+            a,
+            b,
+            element: PhantomData,
+        };
+        write_group::<D, Widen<'_, O>>(&results, destination, body, file);
+    }
+}
+
+/// An operation and its sources, of which the first has twice the width.
+#[derive(Clone, Copy)]
+pub(crate) struct WideSourceOperation {
+    pub op: WideSourceOp,
+    pub vs2: VReg,
+    pub source: Source,
+}
+
+impl TwoWidths for WideSourceOperation {
+    ghost number = { λ o wide narrow file x. wide_source_result narrow wide o.op o.vs2 o.source file x };
+
+    ghost inside = { λ o wide narrow. IsInside o.vs2 wide × SourceIsInside o.source narrow };
+
+    fn write<D: Lane, O: Lane>(
+        &self,
+        destination: Destination,
+        other: u32,
+        body: &Body<'_>,
+        file: &mut VFile,
+        scalar: &Scalar,
+    ) {
+        let (mut first, mut second) = ([0; GROUP_BYTES], [0; GROUP_BYTES]);
+        let a = group_copy(file, self.vs2, destination.emul, &mut first);
+        let b = second_copy::<O>(
+            false,
+            self.source,
+            other,
+            body.end(),
+            file,
+            scalar,
+            &mut second,
+        );
+        let results = WideSource::<'_, O> {
+            op: self.op,
+            a,
+            b,
+            element: PhantomData,
+        };
+        write_group::<D, WideSource<'_, O>>(&results, destination, body, file);
+    }
+}
+
+/// An operation and its sources, of which `vd` is one.
+#[derive(Clone, Copy)]
+pub(crate) struct WidenMultiplyAddOperation {
+    pub op: WidenMultiplyAddOp,
+    pub vd: VReg,
+    pub vs2: VReg,
+    pub source: Source,
+}
+
+impl TwoWidths for WidenMultiplyAddOperation {
+    ghost number = { λ o wide narrow file x. widen_multiply_add_result narrow wide o.op o.vd o.vs2 o.source file x };
+
+    ghost inside = { λ o wide narrow. IsInside o.vd wide × IsInside o.vs2 narrow × SourceIsInside o.source narrow };
+
+    fn write<D: Lane, O: Lane>(
+        &self,
+        destination: Destination,
+        other: u32,
+        body: &Body<'_>,
+        file: &mut VFile,
+        scalar: &Scalar,
+    ) {
+        let (mut first, mut second) = ([0; GROUP_BYTES], [0; GROUP_BYTES]);
+        let mut third = [0; GROUP_BYTES];
+        let a = group_copy(file, self.vs2, other, &mut first);
+        let b = second_copy::<O>(
+            false,
+            self.source,
+            other,
+            body.end(),
+            file,
+            scalar,
+            &mut second,
+        );
+        let d = group_copy(file, self.vd, destination.emul, &mut third);
+        let results = WidenMultiplyAdd::<'_, O> {
+            op: self.op,
+            a,
+            b,
+            d,
+            element: PhantomData,
+        };
+        write_group::<D, WidenMultiplyAdd<'_, O>>(&results, destination, body, file);
+    }
+}
