@@ -1,5 +1,6 @@
 //! Arithmetic instructions, once they are known to be legal ("V" Vector Extension 1.0, chapter 11).
-ghost use Rattle.std.specs.Prelude.{◌≡◌, IsTrue, List, ℕ};
+ghost use Rattle.std.specs.Prelude.{◌≡◌, ◌≤◌, IsTrue, List, Some, ℕ};
+ghost use Rattle.rv_model.specs.vector.Configuration.{vlmax};
 ghost use Rattle.rv_model.specs.step.Hart.{hart_state};
 ghost use Rattle.rv_model.specs.memory.Memory.{Memory};
 ghost use Rattle.rv_model.specs.legality.Legality.{is_legal};
@@ -23,6 +24,62 @@ use rv_model::{Arith, Carry, Instr, Policy, Scalar, Source, VEnd, VReg, VState};
 /// Carries out a legal operation with a line of its own in the manual's table, if it is one of those that are
 /// carried out so far; else it is illegal, and nothing changes.
 #[tactic(auto, using(rv_model::proofs::legality_lemmas::Bounds::binary_inside, rv_model::proofs::legality_lemmas::Bounds::multiply_add_inside, rv_model::proofs::legality_lemmas::Bounds::compare_inside, rv_model::proofs::legality_lemmas::Bounds::carry_out_inside, rv_model::proofs::legality_lemmas::Bounds::widen_inside, rv_model::proofs::legality_lemmas::Bounds::wide_source_inside, rv_model::proofs::legality_lemmas::Bounds::widen_multiply_add_inside, rv_model::proofs::legality_lemmas::Bounds::narrow_shift_inside))]
+fn perform_operation(
+    op: VectorOp,
+    vs2: VReg,
+    source: Source,
+    target: Target,
+    state: &mut VState,
+    scalar: &Scalar,
+) -> VEnd
+    requires legal { IsTrue (is_legal (Instr.VectorArith (op, source) target.vd vs2 target.unmasked)
+        (Some target.vtype) state.old.vstart) }
+    requires length { state.old.conf.vl ≤ vlmax target.vtype }
+    ensures model { (memory : Memory) (output : List ℕ)
+        → arith_step target.vtype op source target.vd vs2 target.unmasked
+        (hart_state scalar.now state.old memory target.policy output)
+        ≡ vector_ends result (hart_state scalar.now state.new memory target.policy output) }
+    ensures illegal { result ≡ VEnd.Illegal → state.new ≡ state.old }
+{
+    match op {
+        VectorOp::Binary(op) => {
+            carry_out(&BinaryOperation { op, vs2, source }, target, state, scalar);
+        }
+        VectorOp::MultiplyAdd(op) => {
+            let operation = MultiplyAddOperation::new(op, target.vd, vs2, source);
+            carry_out(&operation, target, state, scalar);
+        }
+        VectorOp::Compare(op) => {
+            carry_out_mask(&CompareOperation { op, vs2, source }, target, state, scalar);
+        }
+        VectorOp::CarryOut(op) => {
+            let operation = CarryOutOperation::new(op, vs2, source, target.unmasked);
+            carry_out_mask(&operation, target.whole_body(), state, scalar);
+        }
+        VectorOp::Widen(op) => {
+            carry_out_widening(&WidenOperation { op, vs2, source }, target, state, scalar);
+        }
+        VectorOp::WideSource(op) => {
+            let operation = WideSourceOperation { op, vs2, source };
+            carry_out_widening(&operation, target, state, scalar);
+        }
+        VectorOp::WidenMultiplyAdd(op) => {
+            let operation = WidenMultiplyAddOperation::new(op, target.vd, vs2, source);
+            carry_out_widening(&operation, target, state, scalar);
+        }
+        VectorOp::NarrowShift(op) => {
+            let operation = NarrowShiftOperation { op, vs2, source };
+            carry_out_narrowing(&operation, target, state, scalar);
+        }
+        VectorOp::FixedPoint(_) | VectorOp::Clip(_) | VectorOp::Reduce(_) | VectorOp::Permute(_) =>
+            {
+                return VEnd::Illegal;
+            }
+    }
+    VEnd::Done
+}
+
+/// The same, if there is a vector type.
 pub(crate) fn perform_arith(
     arith: Arith,
     vd: VReg,
@@ -50,71 +107,7 @@ pub(crate) fn perform_arith(
         vtype,
         policy,
     };
-    match op {
-        VectorOp::Binary(op) => {
-            carry_out(&BinaryOperation { op, vs2, source }, target, state, scalar);
-        }
-        VectorOp::MultiplyAdd(op) => {
-            carry_out(
-                &MultiplyAddOperation {
-                    op,
-                    vd,
-                    vs2,
-                    source,
-                },
-                target,
-                state,
-                scalar,
-            );
-        }
-        VectorOp::Compare(op) => {
-            carry_out_mask(&CompareOperation { op, vs2, source }, target, state, scalar);
-        }
-        VectorOp::CarryOut(op) => {
-            let operation = CarryOutOperation {
-                op,
-                vs2,
-                source,
-                alone: unmasked,
-            };
-            let target = Target {
-                unmasked: true,
-                ..target
-            };
-            carry_out_mask(&operation, target, state, scalar);
-        }
-        VectorOp::Widen(op) => {
-            carry_out_widening(&WidenOperation { op, vs2, source }, target, state, scalar);
-        }
-        VectorOp::WideSource(op) => {
-            carry_out_widening(
-                &WideSourceOperation { op, vs2, source },
-                target,
-                state,
-                scalar,
-            );
-        }
-        VectorOp::WidenMultiplyAdd(op) => {
-            let operation = WidenMultiplyAddOperation {
-                op,
-                vd,
-                vs2,
-                source,
-            };
-            carry_out_widening(&operation, target, state, scalar);
-        }
-        VectorOp::NarrowShift(op) => {
-            carry_out_narrowing(
-                &NarrowShiftOperation { op, vs2, source },
-                target,
-                state,
-                scalar,
-            );
-        }
-        VectorOp::FixedPoint(_) | VectorOp::Clip(_) | VectorOp::Reduce(_) | VectorOp::Permute(_) =>
-            return VEnd::Illegal,
-    }
-    VEnd::Done
+    perform_operation(op, vs2, source, target, state, scalar)
 }
 
 /// Carries out a legal operation with v0 as an operand.

@@ -1,4 +1,5 @@
 //! Comparisons, and carries and borrows as masks ("V" Vector Extension 1.0, sections 11.4 and 11.8).
+ghost use Rattle.std.specs.Prelude.{◌≡◌};
 ghost use Rattle.rv_model.specs.elements.Arithmetic.{carry_out_result, compare_result};
 ghost use Rattle.rv_model.specs.legality.GroupBounds.{IsInside, SourceIsInside};
 
@@ -53,6 +54,20 @@ pub(crate) struct CarryOutOperation {
     pub vs2: VReg,
     pub source: Source,
     pub alone: bool,
+}
+
+impl CarryOutOperation {
+    /// The operation on `vs2` and a source.
+    pub(crate) fn new(op: CarryOutOp, vs2: VReg, source: Source, alone: bool) -> Self
+        ensures { result ≡ record { op = op; vs2 = vs2; source = source; alone = alone } }
+    {
+        CarryOutOperation {
+            op,
+            vs2,
+            source,
+            alone,
+        }
+    }
 }
 
 impl MaskWise for CarryOutOperation {

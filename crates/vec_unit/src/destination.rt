@@ -1,6 +1,6 @@
 //! The destination of an element-wise instruction: lent to a kernel, and then filled ("V" Vector Extension
 //! 1.0, sections 3.4.3, 5.3 and 5.4).
-ghost use Rattle.std.specs.Prelude.{◌≡◌, ◌*◌, ◌<◌, ◌≤◌, ℕ, length};
+ghost use Rattle.std.specs.Prelude.{◌≡◌, ◌*◌, ◌<◌, ◌≤◌, ℕ, length, true};
 ghost use Rattle.rv_model.specs.elements.Arithmetic.{fills_masked_off, fills_tail, with_mask_results, with_results};
 ghost use Rattle.rv_model.specs.elements.Elements.{is_changed, result_or_ones};
 ghost use Rattle.rv_model.specs.elements.Formulas.{ones};
@@ -20,6 +20,18 @@ pub(crate) struct Target {
     pub unmasked: bool,
     pub vtype: VType,
     pub policy: Policy,
+}
+
+impl Target {
+    /// The same, unmasked.
+    pub(crate) fn whole_body(self) -> Target
+        ensures { result ≡ record self { unmasked = true } }
+    {
+        Target {
+            unmasked: true,
+            ..self
+        }
+    }
 }
 
 /// What becomes of agnostic elements: whether those of the body that are masked off, and those of the tail,

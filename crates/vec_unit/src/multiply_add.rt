@@ -1,4 +1,5 @@
 //! Products that a third operand is added to ("V" Vector Extension 1.0, section 11.13).
+ghost use Rattle.std.specs.Prelude.{◌≡◌};
 ghost use Rattle.rv_model.specs.elements.Arithmetic.{multiply_add_result};
 ghost use Rattle.rv_model.specs.legality.GroupBounds.{IsInside, SourceIsInside};
 
@@ -16,6 +17,20 @@ pub(crate) struct MultiplyAddOperation {
     pub vd: VReg,
     pub vs2: VReg,
     pub source: Source,
+}
+
+impl MultiplyAddOperation {
+    /// The operation on `vs2` and a source, and on `vd`.
+    pub(crate) fn new(op: MultiplyAddOp, vd: VReg, vs2: VReg, source: Source) -> Self
+        ensures { result ≡ record { op = op; vd = vd; vs2 = vs2; source = source } }
+    {
+        MultiplyAddOperation {
+            op,
+            vd,
+            vs2,
+            source,
+        }
+    }
 }
 
 impl ElementWise for MultiplyAddOperation {

@@ -1,5 +1,6 @@
 //! Operations whose result has twice the width of an operand ("V" Vector Extension 1.0, sections 11.2, 11.12
 //! and 11.14).
+ghost use Rattle.std.specs.Prelude.{◌≡◌};
 ghost use Rattle.rv_model.specs.elements.Arithmetic.{wide_source_result, widen_multiply_add_result, widen_result};
 ghost use Rattle.rv_model.specs.legality.GroupBounds.{IsInside, SourceIsInside};
 
@@ -102,6 +103,20 @@ pub(crate) struct WidenMultiplyAddOperation {
     pub vd: VReg,
     pub vs2: VReg,
     pub source: Source,
+}
+
+impl WidenMultiplyAddOperation {
+    /// The operation on `vs2` and a source, and on `vd`.
+    pub(crate) fn new(op: WidenMultiplyAddOp, vd: VReg, vs2: VReg, source: Source) -> Self
+        ensures { result ≡ record { op = op; vd = vd; vs2 = vs2; source = source } }
+    {
+        WidenMultiplyAddOperation {
+            op,
+            vd,
+            vs2,
+            source,
+        }
+    }
 }
 
 impl TwoWidths for WidenMultiplyAddOperation {
