@@ -5,17 +5,10 @@
 //! table, and then words that no row has: `yes` and the same word again, or `none`.
 #![tactic(auto)]
 
-ghost use Rattle.std.specs.Prelude.{◌≡◌, ◌+◌, ◌*◌, ◌%◌, ◌^◌, IsTrue};
+ghost use Rattle.std.specs.Prelude.{◌≡◌, IsTrue};
 
 use rv_decode::encoded_again;
 use std::io;
-
-/// The word after this one, of a linear congruential generator.
-fn next_word(word: u32) -> u32
-    ensures { result ≡ (word * 1664525 + 1013904223) % 2 ^ 32 }
-{
-    word.wrapping_mul(1_664_525).wrapping_add(1_013_904_223)
-}
 
 /// Whether a word is no instruction, or the word of its instruction.
 fn is_same(word: u32) -> bool
@@ -34,7 +27,8 @@ fn mismatches(count: u32) -> u32
     let mut word = 0;
     let mut found = 0;
     for _ in 0..count {
-        word = next_word(word);
+        // A linear congruential generator.
+        word = word.wrapping_mul(1_664_525).wrapping_add(1_013_904_223);
         if !is_same(word) {
             found += 1;
         }

@@ -4,7 +4,8 @@ ghost use Rattle.rv_model.specs.declared.instructions.operations.BinaryOp.TheVar
 ghost use Rattle.rv_model.specs.elements.Formulas.{formula, wrap};
 
 use crate::lane::Lane;
-use crate::whole_number::{full_mixed, full_signed, wrapped};
+use crate::whole_number::wrapped;
+use scalar_core::{full_mixed, full_signed};
 
 /// Of two unsigned numbers.
 pub(crate) fn high_product<L: Lane>(a: L, b: L) -> L

@@ -17,6 +17,8 @@ mod operations;
 mod results;
 #[cfg(test)]
 mod tests;
+#[cfg(test)]
+mod two_width_tests;
 mod whole_number;
 mod widen;
 

@@ -1,5 +1,5 @@
-//! Whole sums and products, and what is left of a whole number at the width of an element.
-ghost use Rattle.std.specs.Prelude.{◌≡◌, ◌%◌, ◌^◌, ◌+ℤ◌, ◌-ℤ◌, ◌*ℤ◌, pos};
+//! Whole sums, and what is left of a whole number at the width of an element.
+ghost use Rattle.std.specs.Prelude.{◌≡◌, ◌%◌, ◌^◌, ◌+ℤ◌, ◌-ℤ◌};
 ghost use Rattle.std.specs.Int.{cast_unsigned, w128};
 ghost use Rattle.rv_model.specs.elements.Formulas.{wrap};
 
@@ -18,20 +18,6 @@ pub(crate) fn wrapped<L: Lane>(number: i128) -> L
     ensures { L.value result ≡ wrap L.width number }
 {
     L::low_bits(low_half(number))
-}
-
-/// The whole product of two signed numbers.
-pub(crate) fn full_signed(a: i64, b: i64) -> i128
-    ensures { result ≡ a *ℤ b }
-{
-    i128::from(a) * i128::from(b)
-}
-
-/// The whole product of a signed and an unsigned number.
-pub(crate) fn full_mixed(a: i64, b: u64) -> i128
-    ensures { result ≡ a *ℤ pos b }
-{
-    i128::from(a) * i128::from(b)
 }
 
 /// The whole sum of two signed numbers.

@@ -9,8 +9,9 @@ ghost use Rattle.rv_model.specs.vector.Configuration.{width_bytes};
 use crate::lane::Lane;
 use crate::operations::sum;
 use crate::results::Results;
-use crate::whole_number::{full_difference, full_mixed, full_signed, full_sum, wrapped};
+use crate::whole_number::{full_difference, full_sum, wrapped};
 use rv_model::instructions::operations::{WideSourceOp, WidenMultiplyAddOp, WidenOp};
+use scalar_core::{full_mixed, full_signed};
 use std::marker::PhantomData;
 
 /// The product of two unsigned numbers.

@@ -19,3 +19,4 @@ pub use immediate_operations::{
     register_immediate, shift_immediate, shift_immediate_word, upper_immediate,
 };
 pub use immediates::{b_immediate, i_immediate, j_immediate, s_immediate};
+pub use product::{full_mixed, full_signed};

@@ -1,17 +1,17 @@
-//! The upper halves of products (Unprivileged ISA 20191213, section 7.1).
+//! Whole products, and their upper halves (Unprivileged ISA 20191213, section 7.1).
 ghost use Rattle.std.specs.Prelude.{◌≡◌, ◌*ℤ◌, pos};
 ghost use Rattle.std.specs.Int.{w64, cast_unsigned};
 ghost use Rattle.rv_model.specs.scalar.Arithmetic.{high_product, mixed_high_product, signed_high_product};
 
 /// The whole product of two signed numbers.
-fn full_signed(a: i64, b: i64) -> i128
+pub fn full_signed(a: i64, b: i64) -> i128
     ensures { result ≡ a *ℤ b }
 {
     i128::from(a) * i128::from(b)
 }
 
 /// The whole product of a signed and an unsigned number.
-fn full_mixed(a: i64, b: u64) -> i128
+pub fn full_mixed(a: i64, b: u64) -> i128
     ensures { result ≡ a *ℤ pos b }
 {
     i128::from(a) * i128::from(b)
