@@ -1,9 +1,11 @@
 //! Extensions of elements of a part of the width ("V" Vector Extension 1.0, section 11.3).
 ghost use Rattle.std.specs.Prelude.{◌≡◌, ◌/◌, ◌≤◌};
 ghost use Rattle.rv_model.specs.elements.Arithmetic.{body_of, extend_result, fills_masked_off, fills_tail, group_type, part_type, with_results};
-ghost use Rattle.rv_model.specs.legality.GroupBounds.{IsInside};
+ghost use Rattle.rv_model.specs.legality.GroupBounds.{HasRoom, HoldsBody, IsInside};
+ghost use Rattle.rv_model.specs.elements.Formulas.{part_width};
+ghost use Rattle.rv_model.specs.vector.Registers.{register_of};
 ghost use Rattle.rv_model.specs.legality.OperandShapes.{extension_divisor};
-ghost use Rattle.rv_model.specs.vector.Configuration.{lmul_eighths, sew_bits, vlmax};
+ghost use Rattle.rv_model.specs.vector.Configuration.{lmul_eighths, sew_bits, sew_width, vlmax, width_bytes};
 
 use crate::destination::{Destination, Target, agnostic_under, write_group};
 use crate::operands::{group_copy, mask_register};
@@ -57,6 +59,59 @@ fn extension_divisor(op: ExtendOp) -> u32
     }
 }
 
+/// The bytes of an element.
+fn element_bytes(sew: Sew) -> usize
+    ensures value { result ≡ width_bytes (sew_width sew) }
+    ensures some { 1 ≤ result }
+{
+    match sew {
+        Sew::E8 => 1,
+        Sew::E16 => 2,
+        Sew::E32 => 4,
+        Sew::E64 => 8,
+    }
+}
+
+/// Writes an extension to elements of a width; `part` is the multiplier of the source.
+fn write_extension(
+    operation: ExtendOperation,
+    sew: Sew,
+    destination: Destination,
+    part: u32,
+    body: &Body<'_>,
+    file: &mut VFile,
+    scalar: &Scalar,
+)
+    requires source { IsInside operation.vs2 part }
+    requires destination { IsInside destination.vd destination.emul }
+    requires wide { 8 ≤ sew_bits sew / extension_divisor operation.op }
+    requires holds { HoldsBody (sew_width sew) destination.emul destination.count body.now.end }
+    requires room { HasRoom (part_width operation.op (sew_width sew)) part body.now.end }
+    requires mask { body.now.mask ≡ register_of file.old 0 }
+    ensures { file.new ≡ with_results (record { width = sew_width sew; emul = destination.emul }) destination.vd body.now
+        destination.agnostic.fill_masked_off destination.agnostic.fill_tail
+        (extend_result (record { width = part_width operation.op (sew_width sew); emul = part })
+        (record { width = sew_width sew; emul = destination.emul }) operation.op operation.vs2 file.old) file.old }
+{
+    match operation.op {
+        ExtendOp::VzextVf2 | ExtendOp::VsextVf2 => match sew {
+            Sew::E16 => operation.write::<u16, u8>(destination, part, body, file, scalar),
+            Sew::E32 => operation.write::<u32, u16>(destination, part, body, file, scalar),
+            Sew::E64 => operation.write::<u64, u32>(destination, part, body, file, scalar),
+            Sew::E8 => unreachable!(),
+        },
+        ExtendOp::VzextVf4 | ExtendOp::VsextVf4 => match sew {
+            Sew::E32 => operation.write::<u32, u8>(destination, part, body, file, scalar),
+            Sew::E64 => operation.write::<u64, u16>(destination, part, body, file, scalar),
+            Sew::E8 | Sew::E16 => unreachable!(),
+        },
+        ExtendOp::VzextVf8 | ExtendOp::VsextVf8 => match sew {
+            Sew::E64 => operation.write::<u64, u8>(destination, part, body, file, scalar),
+            Sew::E8 | Sew::E16 | Sew::E32 => unreachable!(),
+        },
+    }
+}
+
 /// Carries out an extension. The next instruction begins with the first element.
 #[tactic(auto, using(rv_model::proofs::legality_lemmas::Bounds::groups_hold_body, rv_model::proofs::legality_lemmas::Bounds::part_groups_have_room))]
 pub(crate) fn carry_out_extension(
@@ -85,67 +140,21 @@ pub(crate) fn carry_out_extension(
     let body = Body::new(target.unmasked, &mask, start, usize::from(state.conf.vl()));
     let emul = u32::from(target.vtype.lmul.eighths());
     let part = emul / extension_divisor(operation.op);
-    let length = VLENB * registers(emul) as usize;
-    let agnostic = agnostic_under(target.policy, target.vtype, &body);
-    let file = &mut state.file;
-    let destination = |count| Destination {
+    let destination = Destination {
         vd: target.vd,
         emul,
-        count,
-        agnostic,
+        count: VLENB * registers(emul) as usize / element_bytes(target.vtype.sew),
+        agnostic: agnostic_under(target.policy, target.vtype, &body),
     };
-    match operation.op {
-        ExtendOp::VzextVf2 | ExtendOp::VsextVf2 => match target.vtype.sew {
-            Sew::E16 => operation.write::<u16, u8>(
-                destination(length / 2),
-                part,
-                &body,
-                file,
-                scalar,
-            ),
-            Sew::E32 => operation.write::<u32, u16>(
-                destination(length / 4),
-                part,
-                &body,
-                file,
-                scalar,
-            ),
-            Sew::E64 => operation.write::<u64, u32>(
-                destination(length / 8),
-                part,
-                &body,
-                file,
-                scalar,
-            ),
-            Sew::E8 => unreachable!(),
-        },
-        ExtendOp::VzextVf4 | ExtendOp::VsextVf4 => match target.vtype.sew {
-            Sew::E32 => operation.write::<u32, u8>(
-                destination(length / 4),
-                part,
-                &body,
-                file,
-                scalar,
-            ),
-            Sew::E64 => operation.write::<u64, u16>(
-                destination(length / 8),
-                part,
-                &body,
-                file,
-                scalar,
-            ),
-            Sew::E8 | Sew::E16 => unreachable!(),
-        },
-        ExtendOp::VzextVf8 | ExtendOp::VsextVf8 => match target.vtype.sew {
-            Sew::E64 => operation.write::<u64, u8>(
-                destination(length / 8),
-                part,
-                &body,
-                file,
-                scalar,
-            ),
-            Sew::E8 | Sew::E16 | Sew::E32 => unreachable!(),
-        },
-    }
+    let sew = target.vtype.sew;
+    write_extension(
+        operation,
+        sew,
+        destination,
+        part,
+        &body,
+        &mut state.file,
+        scalar,
+    );
     state.vstart = 0;
 }
