@@ -24,7 +24,7 @@ fn is_same(word: u32) -> bool
 fn mismatches(count: u32) -> u32
     ensures { result ≡ 0 }
 {
-    let mut word = 0;
+    let mut word: u32 = 0;
     let mut found = 0;
     for _ in 0..count {
         // A linear congruential generator.
