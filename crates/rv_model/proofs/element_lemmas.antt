@@ -1,4 +1,4 @@
--- Laws of elements: `Widths` and `Writes` first, then `Reads`, `Sets` and `Arithmetic`.
+-- Laws of elements: `Widths` and `Writes` first, then `Reads`, `Sets`, `Bits` and `Arithmetic`; `Numbers` stands by itself.
 pub mod Arithmetic
 pub mod Bits
 pub mod Reads
