@@ -20,12 +20,12 @@ pub struct WithMaskOperand<'a> {
     pub v0: &'a [u8; VLENB],
 }
 
-/// A bit of v0.
-pub(crate) fn bit_of(v0: &[u8; VLENB], index: usize) -> bool
+/// A bit of a mask.
+pub fn bit_of(mask: &[u8; VLENB], index: usize) -> bool
     requires { index < GROUP_BYTES }
-    ensures { result ≡ mask_bit v0.now index }
+    ensures { result ≡ mask_bit mask.now index }
 {
-    v0[index / 8] >> (index % 8) & 1 == 1
+    mask[index / 8] >> (index % 8) & 1 == 1
 }
 
 /// One element of the result; `c` is the bit of v0.

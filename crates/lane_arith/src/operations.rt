@@ -110,8 +110,8 @@ fn signed_shifted_right<L: Lane>(a: L, amount: L) -> L
     L::low_bits((a.signed_number() >> shift_amount(amount)).cast_unsigned())
 }
 
-/// One element of the result.
-pub(crate) fn apply<L: Lane>(op: BinaryOp, a: L, b: L) -> L
+/// One element of the result of an operation of one width.
+pub fn apply<L: Lane>(op: BinaryOp, a: L, b: L) -> L
     ensures { L.value result ≡ wrap L.width (formula op L.width (L.value a) (L.value b)) }
 {
     match op {

@@ -14,7 +14,7 @@ fn low_half(number: i128) -> u64
 
 /// A number modulo 2 to the width.
 #[tactic(auto, using(rv_model::proofs::element_lemmas::Numbers::low_bits_of_half))]
-pub(crate) fn wrapped<L: Lane>(number: i128) -> L
+pub fn wrapped<L: Lane>(number: i128) -> L
     ensures { L.value result ≡ wrap L.width number }
 {
     L::low_bits(low_half(number))

@@ -80,8 +80,8 @@ pub struct WideSource<'a, N> {
     pub element: PhantomData<N>,
 }
 
-/// One element of the result.
-fn with_wide<N: Lane, W: Lane>(op: WideSourceOp, a: W, b: N) -> W
+/// One element of the result of an operation whose first operand has twice the width.
+pub fn apply_wide<N: Lane, W: Lane>(op: WideSourceOp, a: W, b: N) -> W
     ensures { W.value result ≡ wrap W.width (wide_source_formula op W.width N.width (W.value a) (N.value b)) }
 {
     match op {
@@ -99,7 +99,7 @@ impl<'a, N: Lane, W: Lane> Results<W> for WideSource<'a, N> {
     ghost has = { λ r i. HasElement (width_bytes W.width) r.a.now i × HasElement (width_bytes N.width) r.b.now i };
 
     fn result(&self, index: usize) -> W {
-        with_wide(self.op, W::load(self.a, index), N::load(self.b, index))
+        apply_wide(self.op, W::load(self.a, index), N::load(self.b, index))
     }
 }
 

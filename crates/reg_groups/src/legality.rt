@@ -23,7 +23,7 @@ fn element_bits(width: Width) -> u16
 }
 
 /// How many whole registers.
-fn register_count(count: RegisterCount) -> u8
+pub fn register_count(count: RegisterCount) -> u8
     ensures { result ≡ register_count count }
 {
     match count {
@@ -96,7 +96,7 @@ fn mask_result(op: MaskUnaryOp, vd: VReg, vtype: VType) -> Operand
 {
     match op {
         MaskUnaryOp::Viota => group(Role::Apart, vd, vtype.sew.bits(), vtype),
-        MaskUnaryOp::Vmsbf | MaskUnaryOp::Vmsof | MaskUnaryOp::Vmsif => mask(Role::Apart, vd),
+        MaskUnaryOp::Scan(_) => mask(Role::Apart, vd),
     }
 }
 
@@ -334,7 +334,7 @@ fn is_reduction(op: VectorOp) -> bool
     ensures { result ≡ is_reduction op }
 {
     match op {
-        VectorOp::Reduce(_) => true,
+        VectorOp::Reduce(_) | VectorOp::WidenReduce(_) => true,
         VectorOp::Binary(_)
         | VectorOp::CarryOut(_)
         | VectorOp::Compare(_)
@@ -399,6 +399,7 @@ fn is_narrow_only(op: VectorOp) -> bool
         | VectorOp::MultiplyAdd(_)
         | VectorOp::WidenMultiplyAdd(_)
         | VectorOp::Reduce(_)
+        | VectorOp::WidenReduce(_)
         | VectorOp::Permute(_) => false,
     }
 }

@@ -1,30 +1,13 @@
 //! The register operands of a vector operation, by its shape ("V" Vector Extension 1.0, sections 5.2,
 //! 10.2, 11, 12, 14 and 16).
 ghost use Rattle.std.specs.Prelude.{◌≡◌};
-ghost use Rattle.rv_model.specs.legality.OperandShapes.{destination, first_source, permute_shape, reduce_shape, second_source, shape_of, shape_operands, vector_source};
+ghost use Rattle.rv_model.specs.legality.OperandShapes.{destination, first_source, permute_shape, second_source, shape_of, shape_operands, vector_source};
 ghost use Rattle.rv_model.specs.legality.RegisterOperands.{are_legal};
 
 use crate::agreement::are_legal;
 use crate::operands::{group, mask, v0, whole};
-use rv_model::instructions::operations::{PermuteOp, ReduceOp, VectorOp};
+use rv_model::instructions::operations::{PermuteOp, VectorOp};
 use rv_model::{Operand, Role, Shape, Source, VReg, VType};
-
-/// The shape of a reduction.
-fn reduce_shape(op: ReduceOp) -> Shape
-    ensures { result ≡ reduce_shape op }
-{
-    match op {
-        ReduceOp::Vredsum
-        | ReduceOp::Vredand
-        | ReduceOp::Vredor
-        | ReduceOp::Vredxor
-        | ReduceOp::Vredminu
-        | ReduceOp::Vredmin
-        | ReduceOp::Vredmaxu
-        | ReduceOp::Vredmax => Shape::Reduction,
-        ReduceOp::Vwredsumu | ReduceOp::Vwredsum => Shape::WideReduction,
-    }
-}
 
 /// The shape of an operation that moves elements.
 fn permute_shape(op: PermuteOp) -> Shape
@@ -47,7 +30,8 @@ pub(crate) fn shape_of(op: VectorOp) -> Shape
         VectorOp::NarrowShift(_) | VectorOp::Clip(_) => Shape::Narrowing,
         VectorOp::WideSource(_) => Shape::WideSource,
         VectorOp::Widen(_) | VectorOp::WidenMultiplyAdd(_) => Shape::Widening,
-        VectorOp::Reduce(op) => reduce_shape(op),
+        VectorOp::Reduce(_) => Shape::Reduction,
+        VectorOp::WidenReduce(_) => Shape::WideReduction,
         VectorOp::Permute(op) => permute_shape(op),
     }
 }

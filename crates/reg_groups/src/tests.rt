@@ -6,8 +6,9 @@ ghost use Rattle.rv_model.specs.instructions.Sources.{form_of};
 
 use super::legal;
 use rv_model::instructions::operations::{
-    BinaryOp, CarryOp, CarryOutOp, CompareOp, Direction, ExtendOp, MaskToScalarOp, MaskUnaryOp,
-    NarrowShiftOp, Order, PermuteOp, ReduceOp, RegisterCount, UnitOp, VectorOp, WidenOp, Width,
+    BinaryOp, CarryOp, CarryOutOp, CompareOp, Direction, ExtendOp, MaskScanOp, MaskToScalarOp,
+    MaskUnaryOp, NarrowShiftOp, Order, PermuteOp, ReduceOp, RegisterCount, UnitOp, VectorOp,
+    WidenOp, WidenReduceOp, Width,
 };
 use rv_model::{Arith, Carry, Field, Instr, Lmul, Reg, Sew, Source, VConf, VReg, VType};
 use std::process::Abort;
@@ -368,7 +369,7 @@ fn reductions_overlap_anything(rt: HostRuntime) {
         m8,
         true,
     );
-    let vwredsum = VectorOp::Reduce(ReduceOp::Vwredsum);
+    let vwredsum = VectorOp::WidenReduce(WidenReduceOp::Vwredsum);
     row(
         &rt,
         "vwredsum.vs v0, v8, v16",
@@ -410,7 +411,7 @@ fn extensions_of_narrow_elements(rt: HostRuntime) {
 fn operations_on_one_mask(rt: HostRuntime) {
     let m1 = conf(Sew::E8, Lmul::M1);
     let scan = Instr::MaskUnary {
-        op: MaskUnaryOp::Vmsbf,
+        op: MaskUnaryOp::Scan(MaskScanOp::Vmsbf),
         vd: VReg::new(2),
         vs2: VReg::new(2),
         vm: true,

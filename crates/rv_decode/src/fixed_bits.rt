@@ -4,7 +4,7 @@ ghost use Rattle.rv_model.specs.instructions.FixedBits.{branch_bits, count_bits,
 
 use rv_model::instructions::operations::{
     BranchOp, CsrImmediateOp, CsrOp, Direction, ExtendOp, Form, ImmediateOp, LoadOp, MaskLogicOp,
-    MaskToScalarOp, MaskUnaryOp, Order, RegisterCount, RegisterOp, ShiftImmediateOp,
+    MaskScanOp, MaskToScalarOp, MaskUnaryOp, Order, RegisterCount, RegisterOp, ShiftImmediateOp,
     ShiftImmediateWordOp, StoreOp, SystemOp, UnitOp, UpperOp, Width,
 };
 
@@ -249,9 +249,9 @@ pub(crate) fn mask_unary_bits(op: MaskUnaryOp) -> u64
     ensures small { result < 2 ^ 32 }
 {
     match op {
-        MaskUnaryOp::Vmsbf => 0x5000_a057,
-        MaskUnaryOp::Vmsof => 0x5001_2057,
-        MaskUnaryOp::Vmsif => 0x5001_a057,
+        MaskUnaryOp::Scan(MaskScanOp::Vmsbf) => 0x5000_a057,
+        MaskUnaryOp::Scan(MaskScanOp::Vmsof) => 0x5001_2057,
+        MaskUnaryOp::Scan(MaskScanOp::Vmsif) => 0x5001_a057,
         MaskUnaryOp::Viota => 0x5008_2057,
     }
 }

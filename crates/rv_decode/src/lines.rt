@@ -1,11 +1,11 @@
 //! The lines of the manual's table of vector operations.
 ghost use Rattle.std.specs.Prelude.{◌≡◌, ◌<◌};
-ghost use Rattle.rv_model.specs.instructions.Operations.{binary_line, carry_out_line, compare_line, fixed_point_line, narrow_shift_line, clip_line, widen_line, wide_source_line, multiply_add_line, widen_multiply_add_line, reduce_line, permute_line, carry_line, line, has_form, opi, opm};
+ghost use Rattle.rv_model.specs.instructions.Operations.{binary_line, carry_out_line, compare_line, fixed_point_line, narrow_shift_line, clip_line, widen_line, wide_source_line, multiply_add_line, widen_multiply_add_line, reduce_line, widen_reduce_line, permute_line, carry_line, line, has_form, opi, opm};
 
 use rv_model::instructions::operations::{
     BinaryOp, CarryOp, CarryOutOp, ClipOp, CompareOp, FixedPointOp, Form, Forms, Line, Major,
     MultiplyAddOp, NarrowShiftOp, PermuteOp, ReduceOp, VectorOp, WideSourceOp, WidenMultiplyAddOp,
-    WidenOp,
+    WidenOp, WidenReduceOp,
 };
 
 /// A line of OPIVV, OPIVX and OPIVI.
@@ -200,8 +200,16 @@ fn reduce_line(op: ReduceOp) -> Line
         ReduceOp::Vredmin => opm(0x05, Forms::V),
         ReduceOp::Vredmaxu => opm(0x06, Forms::V),
         ReduceOp::Vredmax => opm(0x07, Forms::V),
-        ReduceOp::Vwredsumu => opi(0x30, Forms::V),
-        ReduceOp::Vwredsum => opi(0x31, Forms::V),
+    }
+}
+
+/// Reductions to twice the width.
+fn widen_reduce_line(op: WidenReduceOp) -> Line
+    ensures { result ≡ widen_reduce_line op }
+{
+    match op {
+        WidenReduceOp::Vwredsumu => opi(0x30, Forms::V),
+        WidenReduceOp::Vwredsum => opi(0x31, Forms::V),
     }
 }
 
@@ -246,6 +254,7 @@ pub(crate) fn line(op: VectorOp) -> Line
         VectorOp::MultiplyAdd(op) => multiply_add_line(op),
         VectorOp::WidenMultiplyAdd(op) => widen_multiply_add_line(op),
         VectorOp::Reduce(op) => reduce_line(op),
+        VectorOp::WidenReduce(op) => widen_reduce_line(op),
         VectorOp::Permute(op) => permute_line(op),
     }
 }

@@ -7,8 +7,8 @@ ghost use Rattle.rv_model.specs.instructions.Table.{find, find_at};
 use crate::lines::{has_form, line};
 use rv_model::instructions::operations::{
     BinaryOp, CarryOp, CarryOutOp, ClipOp, CompareOp, ExtendOp, FixedPointOp, Form, Major,
-    MaskLogicOp, MaskToScalarOp, MaskUnaryOp, MultiplyAddOp, NarrowShiftOp, PermuteOp, ReduceOp,
-    RegisterCount, VectorOp, WideSourceOp, WidenMultiplyAddOp, WidenOp,
+    MaskLogicOp, MaskScanOp, MaskToScalarOp, MaskUnaryOp, MultiplyAddOp, NarrowShiftOp, PermuteOp,
+    ReduceOp, RegisterCount, VectorOp, WideSourceOp, WidenMultiplyAddOp, WidenOp, WidenReduceOp,
 };
 
 /// The operation, if the manual's table has it in this form.
@@ -84,8 +84,8 @@ fn upper_opi(funct6: u32, form: Form) -> Option<VectorOp>
         0x2d => VectorOp::NarrowShift(NarrowShiftOp::Vnsra),
         0x2e => VectorOp::Clip(ClipOp::Vnclipu),
         0x2f => VectorOp::Clip(ClipOp::Vnclip),
-        0x30 => VectorOp::Reduce(ReduceOp::Vwredsumu),
-        0x31 => VectorOp::Reduce(ReduceOp::Vwredsum),
+        0x30 => VectorOp::WidenReduce(WidenReduceOp::Vwredsumu),
+        0x31 => VectorOp::WidenReduce(WidenReduceOp::Vwredsum),
         _ => return None,
     };
     if_allowed(op, form)
@@ -279,9 +279,9 @@ pub(crate) fn mask_unary_op(bits: u32) -> Option<MaskUnaryOp>
     ensures { result ≡ find mask_unary_bits mask_unary_ops bits }
 {
     match bits {
-        0x5000_a057 => Some(MaskUnaryOp::Vmsbf),
-        0x5001_2057 => Some(MaskUnaryOp::Vmsof),
-        0x5001_a057 => Some(MaskUnaryOp::Vmsif),
+        0x5000_a057 => Some(MaskUnaryOp::Scan(MaskScanOp::Vmsbf)),
+        0x5001_2057 => Some(MaskUnaryOp::Scan(MaskScanOp::Vmsof)),
+        0x5001_a057 => Some(MaskUnaryOp::Scan(MaskScanOp::Vmsif)),
         0x5008_2057 => Some(MaskUnaryOp::Viota),
         _ => None,
     }

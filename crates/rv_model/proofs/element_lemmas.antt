@@ -1,8 +1,13 @@
--- Laws of elements: `Widths` and `Writes` first, then `Reads`, `Sets`, `Bits` and `Arithmetic`; `Numbers` stands by itself.
+-- Laws of elements: `Widths` and `Writes` first, then `Reads`, `Sets`, `Bits`, `Actives`, `Packed` and `Arithmetic`; `Numbers` stands by
+-- itself, with `Rounding` upon it, and so does `Ranges`.
+pub mod Actives
 pub mod Arithmetic
 pub mod Bits
-pub mod Reads
-pub mod Sets
 pub mod Numbers
+pub mod Packed
+pub mod Ranges
+pub mod Reads
+pub mod Rounding
+pub mod Sets
 pub mod Widths
 pub mod Writes

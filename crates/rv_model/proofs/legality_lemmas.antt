@@ -1,3 +1,4 @@
 -- Laws of legality.
 pub mod Bounds
 pub mod Meaning
+pub mod Moves

@@ -7,23 +7,26 @@ ghost use Rattle.rv_model.specs.legality.Legality.{is_legal};
 ghost use Rattle.rv_model.specs.step.VectorStep.{arith_step, carry_step, extend_step, move_step, typed, vector_ends};
 
 use crate::binary::BinaryOperation;
+use crate::clip::carry_out_clip;
 use crate::compare::{CarryOutOperation, CompareOperation};
 use crate::destination::Target;
 use crate::element_wise::carry_out;
 use crate::extend::{ExtendOperation, carry_out_extension};
+use crate::fixed_point::carry_out_fixed_point;
 use crate::mask_operand::CarryOperation;
 use crate::mask_wise::carry_out_mask;
 use crate::moves::Move;
 use crate::multiply_add::MultiplyAddOperation;
 use crate::narrow_shift::NarrowShiftOperation;
+use crate::permute::carry_out_permutation;
+use crate::reduce::{carry_out_reduction, carry_out_widening_reduction};
 use crate::two_widths::{carry_out_narrowing, carry_out_widening};
 use crate::widen::{WideSourceOperation, WidenMultiplyAddOperation, WidenOperation};
 use rv_model::instructions::operations::{ExtendOp, VectorOp};
 use rv_model::{Arith, Carry, Instr, Policy, Scalar, Source, VEnd, VReg, VState};
 
-/// Carries out a legal operation with a line of its own in the manual's table, if it is one of those that are
-/// carried out so far; else it is illegal, and nothing changes.
-#[tactic(auto, using(rv_model::proofs::legality_lemmas::Bounds::binary_inside, rv_model::proofs::legality_lemmas::Bounds::multiply_add_inside, rv_model::proofs::legality_lemmas::Bounds::compare_inside, rv_model::proofs::legality_lemmas::Bounds::carry_out_inside, rv_model::proofs::legality_lemmas::Bounds::widen_inside, rv_model::proofs::legality_lemmas::Bounds::wide_source_inside, rv_model::proofs::legality_lemmas::Bounds::widen_multiply_add_inside, rv_model::proofs::legality_lemmas::Bounds::narrow_shift_inside))]
+/// Carries out a legal operation with a line of its own in the manual's table.
+#[tactic(auto, using(rv_model::proofs::legality_lemmas::Bounds::binary_inside, rv_model::proofs::legality_lemmas::Bounds::multiply_add_inside, rv_model::proofs::legality_lemmas::Bounds::compare_inside, rv_model::proofs::legality_lemmas::Bounds::carry_out_inside, rv_model::proofs::legality_lemmas::Bounds::widen_inside, rv_model::proofs::legality_lemmas::Bounds::wide_source_inside, rv_model::proofs::legality_lemmas::Bounds::widen_multiply_add_inside, rv_model::proofs::legality_lemmas::Bounds::narrow_shift_inside, rv_model::proofs::legality_lemmas::Bounds::fixed_point_inside, rv_model::proofs::legality_lemmas::Bounds::clip_inside, rv_model::proofs::legality_lemmas::Bounds::reduce_inside, rv_model::proofs::legality_lemmas::Bounds::widen_reduce_inside, rv_model::proofs::legality_lemmas::Bounds::permute_inside))]
 fn perform_operation(
     op: VectorOp,
     vs2: VReg,
@@ -31,15 +34,14 @@ fn perform_operation(
     target: Target,
     state: &mut VState,
     scalar: &Scalar,
-) -> VEnd
+)
     requires legal { IsTrue (is_legal (Instr.VectorArith (op, source) target.vd vs2 target.unmasked)
         (Some target.vtype) state.old.vstart) }
     requires length { state.old.conf.vl ≤ vlmax target.vtype }
     ensures model { (memory : Memory) (output : List ℕ)
         → arith_step target.vtype op source target.vd vs2 target.unmasked
         (hart_state scalar.now state.old memory target.policy output)
-        ≡ vector_ends result (hart_state scalar.now state.new memory target.policy output) }
-    ensures illegal { result ≡ VEnd.Illegal → state.new ≡ state.old }
+        ≡ vector_ends VEnd.Done (hart_state scalar.now state.new memory target.policy output) }
 {
     match op {
         VectorOp::Binary(op) => {
@@ -71,12 +73,14 @@ fn perform_operation(
             let operation = NarrowShiftOperation { op, vs2, source };
             carry_out_narrowing(&operation, target, state, scalar);
         }
-        VectorOp::FixedPoint(_) | VectorOp::Clip(_) | VectorOp::Reduce(_) | VectorOp::Permute(_) =>
-            {
-                return VEnd::Illegal;
-            }
+        VectorOp::FixedPoint(op) => carry_out_fixed_point(op, vs2, source, target, state, scalar),
+        VectorOp::Clip(op) => carry_out_clip(op, vs2, source, target, state, scalar),
+        VectorOp::Reduce(op) => carry_out_reduction(op, vs2, source, target, state, scalar),
+        VectorOp::WidenReduce(op) => {
+            carry_out_widening_reduction(op, vs2, source, target, state, scalar);
+        }
+        VectorOp::Permute(op) => carry_out_permutation(op, vs2, source, target, state, scalar),
     }
-    VEnd::Done
 }
 
 /// The same, if there is a vector type.
@@ -107,7 +111,8 @@ pub(crate) fn perform_arith(
         vtype,
         policy,
     };
-    perform_operation(op, vs2, source, target, state, scalar)
+    perform_operation(op, vs2, source, target, state, scalar);
+    VEnd::Done
 }
 
 /// Carries out a legal operation with v0 as an operand.

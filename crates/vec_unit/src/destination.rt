@@ -38,8 +38,8 @@ impl Target {
 /// become all ones (section 3.4.3).
 #[derive(Clone, Copy)]
 pub(crate) struct Agnostic {
-    fill_masked_off: bool,
-    fill_tail: bool,
+    pub fill_masked_off: bool,
+    pub fill_tail: bool,
 }
 
 /// What becomes of agnostic elements under a policy.

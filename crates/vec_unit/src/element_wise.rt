@@ -7,6 +7,7 @@ ghost use Rattle.rv_model.specs.legality.GroupBounds.{HoldsBody, IsInside};
 ghost use Rattle.rv_model.specs.vector.Configuration.{lmul_eighths, vlmax};
 ghost use Rattle.rv_model.specs.vector.Registers.{register_of};
 
+use crate::body::body_under;
 use crate::destination::{Destination, Target, agnostic_under};
 use crate::operands::mask_register;
 use lane_arith::{Body, Lane};
@@ -60,8 +61,7 @@ pub(crate) fn carry_out<O: ElementWise>(
     } }
 {
     let mask = mask_register(&state.file);
-    let start = usize::from(state.vstart);
-    let body = Body::new(target.unmasked, &mask, start, usize::from(state.conf.vl()));
+    let body = body_under(target.unmasked, &mask, state);
     let emul = u32::from(target.vtype.lmul.eighths());
     let length = VLENB * registers(emul) as usize;
     let agnostic = agnostic_under(target.policy, target.vtype, &body);

@@ -5,9 +5,15 @@ ghost use Rattle.rv_model.specs.step.VectorStep.{is_vector, performed, vector_en
 ghost use Rattle.rv_model.specs.legality.Legality.{is_legal};
 
 use crate::arithmetic::{perform_arith, perform_carry, perform_extension, perform_move};
+use crate::mask_instructions::{
+    perform_element_index, perform_mask_logic, perform_mask_to_scalar, perform_mask_unary,
+};
+use crate::permutation_instructions::{
+    perform_compress, perform_move_to_scalar, perform_move_to_vector, perform_whole_move,
+};
 use crate::vset::{configure, requested_length};
 use reg_groups::legal;
-use rv_model::{Instr, Policy, RequestedLength, Scalar, VEnd, VState, VectorRequest};
+use rv_model::{Instr, Policy, RequestedLength, Scalar, VEnd, VState};
 use vector_memory::UserBytes;
 
 /// Carries out a legal vector instruction, if it is one of those that are carried out so far; else it is
@@ -35,21 +41,15 @@ fn perform<M: UserBytes>(
     match *instr {
         Instr::SetVli { rd, rs1, vtype } => {
             let length = requested_length(rd, rs1, scalar);
-            let vtype = u64::from(vtype.value());
-            configure(rd, VectorRequest { vtype, length }, state, scalar);
-            VEnd::Done
+            configure(rd, u64::from(vtype.value()), length, state, scalar)
         }
         Instr::SetIvli { rd, avl, vtype } => {
             let length = RequestedLength::Elements(u64::from(avl.value()));
-            let vtype = u64::from(vtype.value());
-            configure(rd, VectorRequest { vtype, length }, state, scalar);
-            VEnd::Done
+            configure(rd, u64::from(vtype.value()), length, state, scalar)
         }
         Instr::SetVl { rd, rs1, rs2 } => {
             let length = requested_length(rd, rs1, scalar);
-            let vtype = scalar.read(rs2);
-            configure(rd, VectorRequest { vtype, length }, state, scalar);
-            VEnd::Done
+            configure(rd, scalar.read(rs2), length, state, scalar)
         }
         Instr::VectorArith { arith, vd, vs2, vm } => {
             perform_arith(arith, vd, vs2, vm, state, scalar, policy)
@@ -61,6 +61,18 @@ fn perform<M: UserBytes>(
             perform_extension(op, vd, vs2, vm, state, scalar, policy)
         }
         Instr::VectorMove { source, vd } => perform_move(source, vd, state, scalar, policy),
+        Instr::MaskLogic { op, vd, vs1, vs2 } => perform_mask_logic(op, vd, vs1, vs2, state),
+        Instr::MaskToScalar { op, rd, vs2, vm } => {
+            perform_mask_to_scalar(op, rd, vs2, vm, state, scalar)
+        }
+        Instr::MaskUnary { op, vd, vs2, vm } => {
+            perform_mask_unary(op, vd, vs2, vm, state, scalar, policy)
+        }
+        Instr::ElementIndex { vd, vm } => perform_element_index(vd, vm, state, scalar, policy),
+        Instr::Compress { vd, vs1, vs2 } => perform_compress(vd, vs1, vs2, state, policy),
+        Instr::MoveToScalar { rd, vs2 } => perform_move_to_scalar(rd, vs2, state, scalar),
+        Instr::MoveToVector { vd, rs1 } => perform_move_to_vector(vd, rs1, state, scalar, policy),
+        Instr::WholeMove { count, vd, vs2 } => perform_whole_move(count, vd, vs2, state),
         _ => VEnd::Illegal,
     }
 }

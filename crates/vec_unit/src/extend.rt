@@ -7,6 +7,7 @@ ghost use Rattle.rv_model.specs.vector.Registers.{register_of};
 ghost use Rattle.rv_model.specs.legality.OperandShapes.{extension_divisor};
 ghost use Rattle.rv_model.specs.vector.Configuration.{lmul_eighths, sew_bits, sew_width, vlmax, width_bytes};
 
+use crate::body::body_under;
 use crate::destination::{Destination, Target, agnostic_under, write_group};
 use crate::operands::{group_copy, mask_register};
 use crate::two_widths::TwoWidths;
@@ -136,8 +137,7 @@ pub(crate) fn carry_out_extension(
     } }
 {
     let mask = mask_register(&state.file);
-    let start = usize::from(state.vstart);
-    let body = Body::new(target.unmasked, &mask, start, usize::from(state.conf.vl()));
+    let body = body_under(target.unmasked, &mask, state);
     let emul = u32::from(target.vtype.lmul.eighths());
     let part = emul / extension_divisor(operation.op);
     let destination = Destination {

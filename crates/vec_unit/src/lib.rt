@@ -3,19 +3,32 @@
 
 mod arithmetic;
 mod binary;
+mod body;
+mod clip;
 mod compare;
+mod compress;
 mod destination;
 mod element_wise;
 mod execution;
 mod extend;
+mod first_element;
+mod fixed_point;
+mod mask_instructions;
 mod mask_operand;
 mod mask_wise;
+mod masks;
 mod moves;
 mod multiply_add;
 mod narrow_shift;
 mod operands;
+mod permutation_instructions;
+mod permute;
+mod reduce;
+mod saturating;
+mod scalar_moves;
 mod two_widths;
 mod vset;
+mod whole_moves;
 mod widen;
 
 pub use execution::exec;

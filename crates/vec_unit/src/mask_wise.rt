@@ -7,6 +7,7 @@ ghost use Rattle.rv_model.specs.legality.GroupBounds.{HoldsBody};
 ghost use Rattle.rv_model.specs.vector.Configuration.{lmul_eighths, vlmax, width_bytes};
 ghost use Rattle.rv_model.specs.vector.Registers.{register_of, registers};
 
+use crate::body::body_under;
 use crate::destination::Target;
 use crate::operands::mask_register;
 use lane_arith::{Body, Lane};
@@ -58,8 +59,7 @@ pub(crate) fn carry_out_mask<O: MaskWise>(
     } }
 {
     let mask = mask_register(&state.file);
-    let start = usize::from(state.vstart);
-    let body = Body::new(target.unmasked, &mask, start, usize::from(state.conf.vl()));
+    let body = body_under(target.unmasked, &mask, state);
     let emul = u32::from(target.vtype.lmul.eighths());
     let file = &mut state.file;
     match target.vtype.sew {

@@ -13,13 +13,20 @@ use lane_arith::{Lane, fill};
 use reg_groups::group;
 use rv_model::{Field, GROUP_BYTES, Scalar, Source, VFile, VLENB, VReg};
 
+/// A copy of the bytes of a register.
+pub(crate) fn register_copy(file: &VFile, register: VReg) -> [u8; VLENB]
+    ensures { result ≡ register_of file.now register }
+{
+    let mut copy = [0; VLENB];
+    copy.copy_from_slice(file.register(register));
+    copy
+}
+
 /// The bytes of v0.
 pub(crate) fn mask_register(file: &VFile) -> [u8; VLENB]
     ensures { result ≡ register_of file.now 0 }
 {
-    let mut mask = [0; VLENB];
-    mask.copy_from_slice(file.register(VReg::new(0)));
-    mask
+    register_copy(file, VReg::new(0))
 }
 
 /// A copy of the bytes of a group; `emul` is its multiplier in eighths of a register.

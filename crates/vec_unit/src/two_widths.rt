@@ -7,6 +7,7 @@ ghost use Rattle.rv_model.specs.legality.GroupBounds.{HasRoom, HoldsBody, IsInsi
 ghost use Rattle.rv_model.specs.vector.Configuration.{lmul_eighths, sew_bits, vlmax};
 ghost use Rattle.rv_model.specs.vector.Registers.{register_of};
 
+use crate::body::body_under;
 use crate::destination::{Destination, Target, agnostic_under};
 use crate::operands::mask_register;
 use lane_arith::{Body, Lane};
@@ -68,8 +69,7 @@ pub(crate) fn carry_out_widening<O: TwoWidths>(
     } }
 {
     let mask = mask_register(&state.file);
-    let start = usize::from(state.vstart);
-    let body = Body::new(target.unmasked, &mask, start, usize::from(state.conf.vl()));
+    let body = body_under(target.unmasked, &mask, state);
     let other = u32::from(target.vtype.lmul.eighths());
     let emul = 2 * other;
     let length = VLENB * registers(emul) as usize;
@@ -126,8 +126,7 @@ pub(crate) fn carry_out_narrowing<O: TwoWidths>(
     } }
 {
     let mask = mask_register(&state.file);
-    let start = usize::from(state.vstart);
-    let body = Body::new(target.unmasked, &mask, start, usize::from(state.conf.vl()));
+    let body = body_under(target.unmasked, &mask, state);
     let emul = u32::from(target.vtype.lmul.eighths());
     let other = 2 * emul;
     let length = VLENB * registers(emul) as usize;

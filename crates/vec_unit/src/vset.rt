@@ -4,7 +4,7 @@ ghost use Rattle.rv_model.specs.scalar.Registers.{with_register};
 ghost use Rattle.rv_model.specs.step.VectorStep.{requested_length};
 ghost use Rattle.rv_model.specs.vector.TypeRules.{requested};
 
-use rv_model::{Reg, RequestedLength, Scalar, VState, VectorRequest};
+use rv_model::{Reg, RequestedLength, Scalar, VEnd, VState, VectorRequest};
 
 /// The length that the registers ask for: that of `rs1`, unless it is x0.
 pub(crate) fn requested_length(rd: Reg, rs1: Reg, scalar: &Scalar) -> RequestedLength
@@ -20,13 +20,25 @@ pub(crate) fn requested_length(rd: Reg, rs1: Reg, scalar: &Scalar) -> RequestedL
 }
 
 /// Takes the length and type that a request leaves, and answers the length in `rd`. The next vector
-/// instruction begins with the first element.
-pub(crate) fn configure(rd: Reg, request: VectorRequest, state: &mut VState, scalar: &mut Scalar)
-    ensures state { state.new ≡ record state.old { conf = requested state.old.conf request; vstart = 0 } }
-    ensures scalar { scalar.new ≡ with_register rd (requested state.old.conf request).vl scalar.old }
+/// instruction begins with the first element. It is never illegal.
+pub(crate) fn configure(
+    rd: Reg,
+    vtype: u64,
+    length: RequestedLength,
+    state: &mut VState,
+    scalar: &mut Scalar,
+) -> VEnd
+    ensures end { result ≡ VEnd.Done }
+    ensures state { state.new ≡ record state.old {
+      conf = requested state.old.conf (record { vtype = vtype; length = length });
+      vstart = 0;
+    } }
+    ensures scalar { scalar.new ≡ with_register rd
+        (requested state.old.conf (record { vtype = vtype; length = length })).vl scalar.old }
 {
-    let conf = vtype_rules::set(&state.conf, request);
+    let conf = vtype_rules::set(&state.conf, VectorRequest { vtype, length });
     scalar.write(rd, u64::from(conf.vl()));
     state.conf = conf;
     state.vstart = 0;
+    VEnd::Done
 }

@@ -13,7 +13,7 @@ use Rattle.rv_model.specs.elements.Formulas.{wrap}
 use Rattle.rv_model.proofs.element_lemmas.Widths.{power_positive}
 
 -- what is left of a number below a multiple
-below_multiple : (m q n : ℕ) → 0 < m → n < m * q → (m * q - suc n) % m ≡ m - suc (n % m)
+pub below_multiple : (m q n : ℕ) → 0 < m → n < m * q → (m * q - suc n) % m ≡ m - suc (n % m)
 below_multiple m q n p h =
     let a : ℕ = n / m in
     let k : ℕ = q - suc a in
@@ -49,14 +49,14 @@ mag-quotient (negsuc a) (pos b) = mag-neg (suc a / b) (suc a) (omega (arith, div
 mag-quotient (negsuc a) (negsuc b) = div-le_self (suc a) (suc b)
 
 -- twice the positive half is the whole
-half : (w : Width) → 2 ^ hbits w + 2 ^ hbits w ≡ 2 ^ bits w
+pub half : (w : Width) → 2 ^ hbits w + 2 ^ hbits w ≡ 2 ^ bits w
 half w8 = refl
 half w16 = refl
 half w32 = refl
 half w64 = refl
 half w128 = refl
 
-half_positive : (w : Width) → 0 < 2 ^ hbits w
+pub half_positive : (w : Width) → 0 < 2 ^ hbits w
 half_positive w = omega (arith, half w, power_positive w)
 
 power_below : (w : Width) → bits w ≤ 64 → 2 ^ bits w ≤ 2 ^ 64

@@ -33,6 +33,8 @@ use Rattle.rv_model.specs.declared.instructions.operations.WidenMultiplyAddOp.{W
 use Rattle.rv_model.specs.declared.instructions.operations.WidenMultiplyAddOp.TheVariants as widen_multiply_add
 use Rattle.rv_model.specs.declared.instructions.operations.ReduceOp.{ReduceOp}
 use Rattle.rv_model.specs.declared.instructions.operations.ReduceOp.TheVariants as reduce
+use Rattle.rv_model.specs.declared.instructions.operations.WidenReduceOp.{WidenReduceOp}
+use Rattle.rv_model.specs.declared.instructions.operations.WidenReduceOp.TheVariants as widen_reduce
 use Rattle.rv_model.specs.declared.instructions.operations.PermuteOp.{PermuteOp}
 use Rattle.rv_model.specs.declared.instructions.operations.PermuteOp.TheVariants as permute
 use Rattle.rv_model.specs.declared.instructions.operations.CarryOp.{CarryOp}
@@ -65,6 +67,7 @@ use Rattle.rv_model.specs.declared.instructions.operations.MaskToScalarOp.{MaskT
 use Rattle.rv_model.specs.declared.instructions.operations.MaskToScalarOp.TheVariants as mask_to_scalar
 use Rattle.rv_model.specs.declared.instructions.operations.ExtendOp.{ExtendOp}
 use Rattle.rv_model.specs.declared.instructions.operations.ExtendOp.TheVariants as extend
+use Rattle.rv_model.specs.declared.instructions.operations.MaskScanOp.TheVariants as mask_scan
 use Rattle.rv_model.specs.declared.instructions.operations.MaskUnaryOp.{MaskUnaryOp}
 use Rattle.rv_model.specs.declared.instructions.operations.MaskUnaryOp.TheVariants as mask_unary
 use Rattle.rv_model.specs.declared.instructions.operations.Width.{Width}
@@ -82,7 +85,7 @@ use Rattle.rv_model.specs.declared.instructions.instruction.Instr.TheVariants.{U
 use Rattle.rv_model.specs.instructions.BitFields.{fixed}
 use Rattle.rv_model.specs.instructions.Sources.{form_of}
 use Rattle.rv_model.specs.instructions.FixedBits.{upper_bits, branch_bits, load_bits, store_bits, immediate_op_bits, shift_immediate_bits, shift_immediate_word_bits, register_op_bits, system_bits, csr_bits, csr_immediate_bits, whole_move_bits, mask_logic_bits, mask_to_scalar_bits, extend_bits, mask_unary_bits, mask_memory_bits, upper_ops, branch_ops, load_ops, store_ops, immediate_ops, shift_immediate_ops, shift_immediate_word_ops, register_ops, system_ops, csr_ops, csr_immediate_ops, mask_logic_ops, mask_to_scalar_ops, extend_ops, mask_unary_ops, directions, counts}
-use Rattle.rv_model.specs.instructions.Operations.{has_form, line, carry_line, line_bits, those, vector_ops, carry_ops, binary_line, carry_out_line, compare_line, fixed_point_line, narrow_shift_line, clip_line, widen_line, wide_source_line, multiply_add_line, widen_multiply_add_line, reduce_line, permute_line}
+use Rattle.rv_model.specs.instructions.Operations.{has_form, line, carry_line, line_bits, those, vector_ops, carry_ops, binary_line, carry_out_line, compare_line, fixed_point_line, narrow_shift_line, clip_line, widen_line, wide_source_line, multiply_add_line, widen_multiply_add_line, reduce_line, widen_reduce_line, permute_line}
 use Rattle.rv_model.specs.instructions.Layout.{parts, bits, Allowed, unit_access_bits, strided_access_bits, indexed_access_bits, whole_load_bits, whole_store_bits}
 use Rattle.rv_model.specs.instructions.Table.{Row, row_of, families, rows, joined, table, In, find, unit_accesses, strided_accesses, indexed_accesses, whole_loads, Ariths}
 use Rattle.rv_model.proofs.instruction_lemmas.Scans.{is_inside, table_inside, all_in}
@@ -193,8 +196,9 @@ known_extend _ = refl
 
 known_mask_unary : (op : MaskUnaryOp) → find mask_unary_bits mask_unary_ops (mask_unary_bits op) ≡ Some op
 unfolding find
-known_mask_unary mask_unary.Vmsbf = refl
-known_mask_unary _ = refl
+known_mask_unary (mask_unary.Scan mask_scan.Vmsbf) = refl
+known_mask_unary (mask_unary.Scan _) = refl
+known_mask_unary mask_unary.Viota = refl
 
 known_whole_store : (op : RegisterCount) → find whole_store_bits counts (whole_store_bits op) ≡ Some op
 unfolding find
@@ -367,6 +371,15 @@ known_reduce _ form.X = refl
 known_reduce reduce.Vredsum form.I = refl
 known_reduce _ form.I = refl
 
+known_widen_reduce : (op : WidenReduceOp) (f : Form) → IsKnown (vector_op.WidenReduce op) (widen_reduce_line op) f
+unfolding find
+known_widen_reduce widen_reduce.Vwredsumu form.V = refl
+known_widen_reduce _ form.V = refl
+known_widen_reduce widen_reduce.Vwredsumu form.X = refl
+known_widen_reduce _ form.X = refl
+known_widen_reduce widen_reduce.Vwredsumu form.I = refl
+known_widen_reduce _ form.I = refl
+
 known_permute : (op : PermuteOp) (f : Form) → IsKnown (vector_op.Permute op) (permute_line op) f
 unfolding find
 known_permute permute.Vrgather form.V = refl
@@ -398,6 +411,7 @@ known_vector (vector_op.WideSource op) f = known_wide_source op f
 known_vector (vector_op.MultiplyAdd op) f = known_multiply_add op f
 known_vector (vector_op.WidenMultiplyAdd op) f = known_widen_multiply_add op f
 known_vector (vector_op.Reduce op) f = known_reduce op f
+known_vector (vector_op.WidenReduce op) f = known_widen_reduce op f
 known_vector (vector_op.Permute op) f = known_permute op f
 
 cond-same : {A : Type 0} (b : Bool) (x y z : A) → cond b x z ≡ cond b y z → b ≡ true → x ≡ y

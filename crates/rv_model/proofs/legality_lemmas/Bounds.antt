@@ -2,23 +2,30 @@
 use Rattle.std.specs.Prelude.{Some}
 use Rattle.std.proofs.Common.{◌≡◌, ◌⊎◌, inl, inr, ℕ, ◌+◌, ◌*◌, ◌/◌, ◌%◌, ◌≤◌, Bool, true, false, refl, subst, arith, lit≤, lit<, All}
 use Rattle.std.proofs.Math.Nat.{mul-le-mul_left}
-use Rattle.rv_model.specs.declared.instructions.instruction.Instr.TheVariants.{VectorArith, VectorCarry, VectorExtend, VectorMove}
+use Rattle.rv_model.specs.declared.instructions.instruction.Instr.TheVariants.{ElementIndex, MaskUnary, VectorArith, VectorCarry, VectorExtend, VectorMove}
 use Rattle.rv_model.specs.declared.instructions.operations.BinaryOp.{BinaryOp}
 use Rattle.rv_model.specs.declared.instructions.operations.CarryOp.{CarryOp}
 use Rattle.rv_model.specs.declared.instructions.operations.CarryOutOp.{CarryOutOp}
+use Rattle.rv_model.specs.declared.instructions.operations.ClipOp.{ClipOp}
 use Rattle.rv_model.specs.declared.instructions.operations.CompareOp.{CompareOp}
 use Rattle.rv_model.specs.declared.instructions.operations.ExtendOp.{ExtendOp}
 use Rattle.rv_model.specs.declared.instructions.operations.ExtendOp.TheVariants.{VzextVf8, VsextVf8, VzextVf4, VsextVf4, VzextVf2, VsextVf2}
+use Rattle.rv_model.specs.declared.instructions.operations.FixedPointOp.{FixedPointOp}
+use Rattle.rv_model.specs.declared.instructions.operations.MaskUnaryOp.TheVariants as mask_unary
 use Rattle.rv_model.specs.declared.instructions.operations.MultiplyAddOp.{MultiplyAddOp}
 use Rattle.rv_model.specs.declared.instructions.operations.NarrowShiftOp.{NarrowShiftOp}
+use Rattle.rv_model.specs.declared.instructions.operations.PermuteOp.{PermuteOp}
+use Rattle.rv_model.specs.declared.instructions.operations.PermuteOp.TheVariants.{Vrgather, Vrgatherei16, Vslideup, Vslidedown, Vslide1up, Vslide1down}
+use Rattle.rv_model.specs.declared.instructions.operations.ReduceOp.{ReduceOp}
+use Rattle.rv_model.specs.declared.instructions.operations.WidenReduceOp.{WidenReduceOp}
 use Rattle.rv_model.specs.declared.instructions.operations.WidenOp.{WidenOp}
 use Rattle.rv_model.specs.declared.instructions.operations.WideSourceOp.{WideSourceOp}
 use Rattle.rv_model.specs.declared.instructions.operations.WidenMultiplyAddOp.{WidenMultiplyAddOp}
 use Rattle.rv_model.specs.declared.instructions.operations.VectorOp.TheVariants as vector_op
 use Rattle.rv_model.specs.declared.legality.Role.{Role}
-use Rattle.rv_model.specs.declared.legality.Role.TheVariants.{Read, Unused, Write}
+use Rattle.rv_model.specs.declared.legality.Role.TheVariants.{Apart, Read, Unused, Write}
 use Rattle.rv_model.specs.declared.legality.Shape.{Shape}
-use Rattle.rv_model.specs.declared.legality.Shape.TheVariants.{Compare, Narrowing, Single, WideSource, Widening}
+use Rattle.rv_model.specs.declared.legality.Shape.TheVariants.{Compare, Gather, GatherIndices16, Narrowing, Reduction, Single, WideReduction, WideSource, Widening}
 use Rattle.rv_model.specs.declared.instructions.source.Source.{Source}
 use Rattle.rv_model.specs.declared.instructions.source.Source.TheVariants as source
 use Rattle.rv_model.specs.declared.vector.types.Lmul.{Lmul}
@@ -28,10 +35,14 @@ use Rattle.rv_model.specs.declared.vector.types.Sew.TheVariants.{E8, E16, E32, E
 use Rattle.rv_model.specs.declared.vector.types.VType.{VType}
 use Rattle.rv_model.specs.declared.vector.sizes.TheConstants.{GROUP_BYTES, VECTOR_REGISTERS, VLENB}
 use Rattle.rv_model.specs.legality.Legality.{operands, is_legal}
-use Rattle.rv_model.specs.legality.OperandShapes.{emul, extension_divisor, group, mask, second_source, shape_operands, vector_source}
+use Rattle.rv_model.specs.legality.OperandShapes.{emul, extension_divisor, group, mask, permute_shape, second_source, shape_operands, vector_source, whole}
 use Rattle.rv_model.specs.vector.Registers.{registers}
 use Rattle.rv_model.specs.legality.RegisterOperands.{IsGroup}
-use Rattle.rv_model.specs.legality.GroupBounds.{HasRoom, HoldsBody, IsInside, SourceIsInside}
+use Rattle.rv_model.specs.legality.GroupBounds.{HasIndices, HasRoom, HoldsBody, IsInside, SourceIsInside}
+use mir.Val.{bits}
+use Rattle.std.specs.Int.{w16}
+use Rattle.rv_model.specs.elements.Arithmetic.{group_type}
+use Rattle.rv_model.specs.elements.PermutationResults.{source_type}
 use Rattle.rv_model.specs.elements.Formulas.{doubled, halved, part_width}
 use Rattle.rv_model.specs.vector.Configuration.{sew_bits, sew_width, width_bytes, lmul_eighths, vlmax}
 use Rattle.rv_model.proofs.legality_lemmas.Meaning.{is_legal_means}
@@ -43,7 +54,8 @@ emul-sew E16 e = omega arith
 emul-sew E32 e = omega arith
 emul-sew E64 e = omega arith
 
-inside : (r e f : ℕ) → e ≡ f → r + 1 * registers e ≤ VECTOR_REGISTERS → IsInside r f
+-- a group that legality finds, with a multiplier said in another way
+pub inside : (r e f : ℕ) → e ≡ f → r + 1 * registers e ≤ VECTOR_REGISTERS → IsInside r f
 inside r e f same h = let one : 1 * registers e ≡ registers e = omega arith in rw (← same, ← one) h
 
 -- the sources of an operation whose operands have the vector type's multiplier
@@ -57,7 +69,7 @@ pub record SingleInside (vd vs2 : ℕ) (from : Source) (t : VType) : Type 0 wher
   pub sources : SourcesInside vs2 from t
 
 -- a group with the vector type's multiplier
-sew_group : (r : ℕ) (t : VType) → r + 1 * registers (emul (sew_bits t.sew) t) ≤ VECTOR_REGISTERS → IsInside r (lmul_eighths t.lmul)
+pub sew_group : (r : ℕ) (t : VType) → r + 1 * registers (emul (sew_bits t.sew) t) ≤ VECTOR_REGISTERS → IsInside r (lmul_eighths t.lmul)
 sew_group r t h = inside r (emul (sew_bits t.sew) t) (lmul_eighths t.lmul) (emul-sew t.sew (lmul_eighths t.lmul)) h
 
 second_inside : (shape : Shape) (from : Source) (t : VType) → shape ≡ Single ⊎ shape ≡ Compare → IsGroup (second_source shape from t) → SourceIsInside from (lmul_eighths t.lmul)
@@ -88,6 +100,12 @@ pub binary_inside : (op : BinaryOp) (from : Source) (vd vs2 : ℕ) (vm : Bool) (
 unfolding operands
 binary_inside op from vd vs2 vm t vstart h =
     single_inside vd vs2 from vm t ((is_legal_means (VectorArith (vector_op.Binary op, from) vd vs2 vm) (Some t) vstart).0 h).operands.groups
+
+pub fixed_point_inside : (op : FixedPointOp) (from : Source) (vd vs2 : ℕ) (vm : Bool) (t : VType) (vstart : ℕ)
+    → is_legal (VectorArith (vector_op.FixedPoint op, from) vd vs2 vm) (Some t) vstart ≡ true → SingleInside vd vs2 from t
+unfolding operands
+fixed_point_inside op from vd vs2 vm t vstart h =
+    single_inside vd vs2 from vm t ((is_legal_means (VectorArith (vector_op.FixedPoint op, from) vd vs2 vm) (Some t) vstart).0 h).operands.groups
 
 pub multiply_add_inside : (op : MultiplyAddOp) (from : Source) (vd vs2 : ℕ) (vm : Bool) (t : VType) (vstart : ℕ)
     → is_legal (VectorArith (vector_op.MultiplyAdd op, from) vd vs2 vm) (Some t) vstart ≡ true → SingleInside vd vs2 from t
@@ -361,17 +379,163 @@ pub record NarrowingInside (vd vs2 : ℕ) (from : Source) (t : VType) : Type 0 w
   pub first : IsInside vs2 (2 * lmul_eighths t.lmul)
   pub second : SourceIsInside from (lmul_eighths t.lmul)
 
+narrowing_inside : (vd vs2 : ℕ) (from : Source) (vm : Bool) (t : VType) → All IsGroup (shape_operands Narrowing vd vs2 from vm t) → NarrowingInside vd vs2 from t
+unfolding shape_operands
+narrowing_inside vd vs2 from vm t groups = record {
+  double = has_double Read vs2 t (groups 1 (mask Unused 0) (lit< tt));
+  destination = sew_group vd t (groups 0 (mask Unused 0) (lit< tt)).inside;
+  first = wide_group vs2 t (groups 1 (mask Unused 0) (lit< tt)).inside;
+  second = source_inside Narrowing from t (λ vs1. refl) (groups 2 (mask Unused 0) (lit< tt));
+}
+
 pub narrow_shift_inside : (op : NarrowShiftOp) (from : Source) (vd vs2 : ℕ) (vm : Bool) (t : VType) (vstart : ℕ)
     → is_legal (VectorArith (vector_op.NarrowShift op, from) vd vs2 vm) (Some t) vstart ≡ true → NarrowingInside vd vs2 from t
-unfolding operands shape_operands
+unfolding operands
 narrow_shift_inside op from vd vs2 vm t vstart h =
-    let groups = ((is_legal_means (VectorArith (vector_op.NarrowShift op, from) vd vs2 vm) (Some t) vstart).0 h).operands.groups in
+    narrowing_inside vd vs2 from vm t ((is_legal_means (VectorArith (vector_op.NarrowShift op, from) vd vs2 vm) (Some t) vstart).0 h).operands.groups
+
+pub clip_inside : (op : ClipOp) (from : Source) (vd vs2 : ℕ) (vm : Bool) (t : VType) (vstart : ℕ)
+    → is_legal (VectorArith (vector_op.Clip op, from) vd vs2 vm) (Some t) vstart ≡ true → NarrowingInside vd vs2 from t
+unfolding operands
+clip_inside op from vd vs2 vm t vstart h =
+    narrowing_inside vd vs2 from vm t ((is_legal_means (VectorArith (vector_op.Clip op, from) vd vs2 vm) (Some t) vstart).0 h).operands.groups
+
+-- ---- reductions, whose destination is one register, and operations on one mask
+
+-- the first number of a reduction stands in one register
+first_inside : (shape : Shape) (bits : ℕ) (from : Source) (t : VType) → ((vs1 : ℕ) → vector_source shape vs1 t ≡ whole Read 1 vs1 bits)
+    → IsGroup (second_source shape from t) → SourceIsInside from 8
+first_inside shape bits (source.V vs1) t is g = inside vs1 8 8 refl (subst IsGroup (is vs1) g).inside
+first_inside shape bits (source.X rs1) t is g = tt
+first_inside shape bits (source.I imm) t is g = tt
+
+-- the sources of a reduction
+pub record ReduceInside (vs2 : ℕ) (from : Source) (t : VType) : Type 0 where
+  pub first : IsInside vs2 (lmul_eighths t.lmul)
+  pub second : SourceIsInside from 8
+
+pub reduce_inside : (op : ReduceOp) (from : Source) (vd vs2 : ℕ) (vm : Bool) (t : VType) (vstart : ℕ)
+    → is_legal (VectorArith (vector_op.Reduce op, from) vd vs2 vm) (Some t) vstart ≡ true → ReduceInside vs2 from t
+unfolding operands shape_operands
+reduce_inside op from vd vs2 vm t vstart h =
+    let groups = ((is_legal_means (VectorArith (vector_op.Reduce op, from) vd vs2 vm) (Some t) vstart).0 h).operands.groups in
     record {
-      double = has_double Read vs2 t (groups 1 (mask Unused 0) (lit< tt));
-      destination = sew_group vd t (groups 0 (mask Unused 0) (lit< tt)).inside;
-      first = wide_group vs2 t (groups 1 (mask Unused 0) (lit< tt)).inside;
-      second = source_inside Narrowing from t (λ vs1. refl) (groups 2 (mask Unused 0) (lit< tt));
+      first = sew_group vs2 t (groups 1 (mask Unused 0) (lit< tt)).inside;
+      second = first_inside Reduction (sew_bits t.sew) from t (λ vs1. refl) (groups 2 (mask Unused 0) (lit< tt));
     }
+
+-- the sources of a reduction to twice the width
+pub record WidenReduceInside (vs2 : ℕ) (from : Source) (t : VType) : Type 0 where
+  pub narrow : sew_bits t.sew ≤ 32
+  pub first : IsInside vs2 (lmul_eighths t.lmul)
+  pub second : SourceIsInside from 8
+
+pub widen_reduce_inside : (op : WidenReduceOp) (from : Source) (vd vs2 : ℕ) (vm : Bool) (t : VType) (vstart : ℕ)
+    → is_legal (VectorArith (vector_op.WidenReduce op, from) vd vs2 vm) (Some t) vstart ≡ true → WidenReduceInside vs2 from t
+unfolding operands shape_operands
+widen_reduce_inside op from vd vs2 vm t vstart h =
+    let groups = ((is_legal_means (VectorArith (vector_op.WidenReduce op, from) vd vs2 vm) (Some t) vstart).0 h).operands.groups in
+    record {
+      narrow = omega (arith, (groups 0 (mask Unused 0) (lit< tt)).width.1);
+      first = sew_group vs2 t (groups 1 (mask Unused 0) (lit< tt)).inside;
+      second = first_inside WideReduction (2 * sew_bits t.sew) from t (λ vs1. refl) (groups 2 (mask Unused 0) (lit< tt));
+    }
+
+pub iota_inside : (vd vs2 : ℕ) (vm : Bool) (t : VType) (vstart : ℕ)
+    → is_legal (MaskUnary mask_unary.Viota vd vs2 vm) (Some t) vstart ≡ true → IsInside vd (lmul_eighths t.lmul)
+unfolding operands
+iota_inside vd vs2 vm t vstart h =
+    let groups = ((is_legal_means (MaskUnary mask_unary.Viota vd vs2 vm) (Some t) vstart).0 h).operands.groups in
+    sew_group vd t (groups 0 (mask Unused 0) (lit< tt)).inside
+
+pub index_inside : (vd : ℕ) (vm : Bool) (t : VType) (vstart : ℕ)
+    → is_legal (ElementIndex vd vm) (Some t) vstart ≡ true → IsInside vd (lmul_eighths t.lmul)
+unfolding operands
+index_inside vd vm t vstart h =
+    let groups = ((is_legal_means (ElementIndex vd vm) (Some t) vstart).0 h).operands.groups in
+    sew_group vd t (groups 0 (mask Unused 0) (lit< tt)).inside
+
+-- ---- slides and gathers
+
+-- elements of 16 bits have 16 / SEW times the vector type's multiplier
+emul-16 : (t : VType) → emul 16 t ≡ 16 * lmul_eighths t.lmul / bits (sew_width t.sew)
+emul-16 t = named t.sew
+  where
+    named : (s : Sew) → 16 * lmul_eighths t.lmul / sew_bits s ≡ 16 * lmul_eighths t.lmul / bits (sew_width s)
+    named E8 = refl
+    named E16 = refl
+    named E32 = refl
+    named E64 = refl
+
+indices_fit : (s : Sew) (l : Lmul) → 2 * (lmul_eighths l * VLENB / sew_bits s) ≤ VLENB * registers (16 * lmul_eighths l / bits (sew_width s))
+indices_fit E8 Mf8 = lit≤ tt
+indices_fit E8 Mf4 = lit≤ tt
+indices_fit E8 Mf2 = lit≤ tt
+indices_fit E8 M1 = lit≤ tt
+indices_fit E8 M2 = lit≤ tt
+indices_fit E8 M4 = lit≤ tt
+indices_fit E8 M8 = lit≤ tt
+indices_fit E16 Mf8 = lit≤ tt
+indices_fit E16 Mf4 = lit≤ tt
+indices_fit E16 Mf2 = lit≤ tt
+indices_fit E16 M1 = lit≤ tt
+indices_fit E16 M2 = lit≤ tt
+indices_fit E16 M4 = lit≤ tt
+indices_fit E16 M8 = lit≤ tt
+indices_fit E32 Mf8 = lit≤ tt
+indices_fit E32 Mf4 = lit≤ tt
+indices_fit E32 Mf2 = lit≤ tt
+indices_fit E32 M1 = lit≤ tt
+indices_fit E32 M2 = lit≤ tt
+indices_fit E32 M4 = lit≤ tt
+indices_fit E32 M8 = lit≤ tt
+indices_fit E64 Mf8 = lit≤ tt
+indices_fit E64 Mf4 = lit≤ tt
+indices_fit E64 Mf2 = lit≤ tt
+indices_fit E64 M1 = lit≤ tt
+indices_fit E64 M2 = lit≤ tt
+indices_fit E64 M4 = lit≤ tt
+indices_fit E64 M8 = lit≤ tt
+
+-- the operands of a slide or gather
+pub record PermuteInside (op : PermuteOp) (vd vs2 : ℕ) (from : Source) (t : VType) : Type 0 where
+  pub destination : IsInside vd (lmul_eighths t.lmul)
+  pub first : IsInside vs2 (lmul_eighths t.lmul)
+  pub indices : (vl : ℕ) → vl ≤ vlmax t → HasIndices from (source_type op (group_type t)).width (source_type op (group_type t)).emul vl
+
+-- indices of SEW, and of 16 bits
+sew_indices : (shape : Shape) (from : Source) (t : VType) (vl : ℕ) → ((vs1 : ℕ) → vector_source shape vs1 t ≡ group Read vs1 (sew_bits t.sew) t)
+    → IsGroup (second_source shape from t) → vl ≤ vlmax t → HasIndices from (sew_width t.sew) (lmul_eighths t.lmul) vl
+sew_indices shape (source.V vs1) t vl is g h = (sew_group vs1 t (subst IsGroup (is vs1) g).inside, groups_have_room t vl h)
+sew_indices shape (source.X rs1) t vl is g h = tt
+sew_indices shape (source.I imm) t vl is g h = tt
+
+narrow_indices : (from : Source) (t : VType) (vl : ℕ) → IsGroup (second_source GatherIndices16 from t) → vl ≤ vlmax t
+    → HasIndices from w16 (16 * lmul_eighths t.lmul / bits (sew_width t.sew)) vl
+narrow_indices (source.V vs1) t vl g h = (
+  inside vs1 (emul 16 t) (16 * lmul_eighths t.lmul / bits (sew_width t.sew)) (emul-16 t) g.inside,
+  record { most = subst (λ n. n ≤ 64) (emul-16 t) g.most; room = omega (arith, h, indices_fit t.sew t.lmul) },
+)
+narrow_indices (source.X rs1) t vl g h = tt
+narrow_indices (source.I imm) t vl g h = tt
+
+pub permute_inside : (op : PermuteOp) (from : Source) (vd vs2 : ℕ) (vm : Bool) (t : VType) (vstart : ℕ)
+    → is_legal (VectorArith (vector_op.Permute op, from) vd vs2 vm) (Some t) vstart ≡ true → PermuteInside op vd vs2 from t
+unfolding operands shape_operands
+permute_inside op from vd vs2 vm t vstart h = by_op op ((is_legal_means (VectorArith (vector_op.Permute op, from) vd vs2 vm) (Some t) vstart).0 h).operands.groups
+  where
+    made : (op : PermuteOp) (role : Role) → IsGroup (group role vd (sew_bits t.sew) t) → IsGroup (group Read vs2 (sew_bits t.sew) t)
+        → ((vl : ℕ) → vl ≤ vlmax t → HasIndices from (source_type op (group_type t)).width (source_type op (group_type t)).emul vl)
+        → PermuteInside op vd vs2 from t
+    made op role d f i = record { destination = sew_group vd t d.inside; first = sew_group vs2 t f.inside; indices = i }
+
+    by_op : (op : PermuteOp) → All IsGroup (shape_operands (permute_shape op) vd vs2 from vm t) → PermuteInside op vd vs2 from t
+    by_op Vrgather g = made Vrgather Apart (g 0 (mask Unused 0) (lit< tt)) (g 1 (mask Unused 0) (lit< tt)) (λ vl h. sew_indices Gather from t vl (λ vs1. refl) (g 2 (mask Unused 0) (lit< tt)) h)
+    by_op Vrgatherei16 g = made Vrgatherei16 Apart (g 0 (mask Unused 0) (lit< tt)) (g 1 (mask Unused 0) (lit< tt)) (λ vl h. narrow_indices from t vl (g 2 (mask Unused 0) (lit< tt)) h)
+    by_op Vslideup g = made Vslideup Apart (g 0 (mask Unused 0) (lit< tt)) (g 1 (mask Unused 0) (lit< tt)) (λ vl h. sew_indices Gather from t vl (λ vs1. refl) (g 2 (mask Unused 0) (lit< tt)) h)
+    by_op Vslide1up g = made Vslide1up Apart (g 0 (mask Unused 0) (lit< tt)) (g 1 (mask Unused 0) (lit< tt)) (λ vl h. sew_indices Gather from t vl (λ vs1. refl) (g 2 (mask Unused 0) (lit< tt)) h)
+    by_op Vslidedown g = made Vslidedown Write (g 0 (mask Unused 0) (lit< tt)) (g 1 (mask Unused 0) (lit< tt)) (λ vl h. sew_indices Single from t vl (λ vs1. refl) (g 2 (mask Unused 0) (lit< tt)) h)
+    by_op Vslide1down g = made Vslide1down Write (g 0 (mask Unused 0) (lit< tt)) (g 1 (mask Unused 0) (lit< tt)) (λ vl h. sew_indices Single from t vl (λ vs1. refl) (g 2 (mask Unused 0) (lit< tt)) h)
 
 -- ---- sources of a part of SEW
 

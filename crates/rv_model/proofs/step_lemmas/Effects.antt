@@ -5,15 +5,17 @@ use Rattle.std.specs.Int.{byte_len}
 use Rattle.std.proofs.lemmas.Bool.Decides.{nat_tests}
 use Rattle.rv_model.specs.declared.vector.control_register.ControlRegister.{ControlRegister}
 use Rattle.rv_model.specs.declared.instructions.instruction.Instr.{Instr}
-use Rattle.rv_model.specs.declared.instructions.instruction.Instr.TheVariants.{Upper, Jump, JumpRegister, Branch, Load, Store, RegisterImmediate, ShiftImmediate, ShiftImmediateWord, RegisterRegister, Fence, System, Csr, CsrImmediate, SetVli, SetIvli, SetVl, VectorArith, VectorCarry, VectorExtend, VectorMove}
+use Rattle.rv_model.specs.declared.instructions.instruction.Instr.TheVariants.{Upper, Jump, JumpRegister, Branch, Load, Store, RegisterImmediate, ShiftImmediate, ShiftImmediateWord, RegisterRegister, Fence, System, Csr, CsrImmediate, SetVli, SetIvli, SetVl, VectorArith, VectorCarry, VectorExtend, VectorMove, MaskLogic, MaskToScalar, MaskUnary, ElementIndex, Compress, MoveToScalar, MoveToVector, WholeMove}
 use Rattle.rv_model.specs.declared.memory.Access.TheVariants as access
 use Rattle.rv_model.specs.declared.instructions.operations.CsrOp.{CsrOp}
 use Rattle.rv_model.specs.declared.instructions.operations.LoadOp.{LoadOp}
+use Rattle.rv_model.specs.declared.instructions.operations.MaskUnaryOp.{MaskUnaryOp}
+use Rattle.rv_model.specs.declared.instructions.operations.MaskUnaryOp.TheVariants.{Scan, Viota}
 use Rattle.rv_model.specs.declared.instructions.operations.StoreOp.{StoreOp}
 use Rattle.rv_model.specs.declared.instructions.operations.SystemOp.{SystemOp}
 use Rattle.rv_model.specs.declared.instructions.operations.SystemOp.TheVariants as system
 use Rattle.rv_model.specs.declared.instructions.operations.VectorOp.{VectorOp}
-use Rattle.rv_model.specs.declared.instructions.operations.VectorOp.TheVariants.{Binary, CarryOut, Compare, MultiplyAdd, NarrowShift, Widen, WideSource, WidenMultiplyAdd}
+use Rattle.rv_model.specs.declared.instructions.operations.VectorOp.TheVariants.{Binary}
 use Rattle.rv_model.specs.declared.scalar.Scalar.{Scalar}
 use Rattle.rv_model.specs.declared.instructions.source.Source.{Source}
 use Rattle.rv_model.specs.declared.step.step_end.Cause.{Cause}
@@ -35,7 +37,10 @@ use Rattle.rv_model.specs.scalar.Registers.{read_register, with_register}
 use Rattle.rv_model.specs.step.ScalarStep.{jumps, jump_step, branch_step, load_step, store_step, csr_step, environment_call, system_step}
 use Rattle.rv_model.specs.step.Step.{step, executed, word_at}
 use Rattle.rv_model.specs.vector.Control.{is_write, csr_form, control_value}
-use Rattle.rv_model.specs.step.VectorStep.{VectorStepped, arith_step, carry_step, extend_step, move_step, performed, typed, requested_length, vset_step, vector_ticks, after_vector, vector_executed, vector_step}
+use Rattle.rv_model.specs.step.VectorStep.{VectorStepped, answers, arith_step, carry_step, element_wise, extend_step, leaves, mask_to_scalar_step, mask_unary_step, mask_wise, move_step, performed, typed, requested_length, vset_step, vector_ticks, after_vector, vector_executed, vector_step}
+use Rattle.rv_model.specs.elements.Arithmetic.{group_type, index_result, mask_logic_result}
+use Rattle.rv_model.specs.elements.PermutationResults.{moved_to_scalar}
+use Rattle.rv_model.specs.step.PermutationStep.{compressed, moved_to_vector, whole_moved}
 use Rattle.rv_model.specs.declared.memory.Access.TheVariants.{Fetch}
 use Rattle.rv_model.proofs.text_lemmas.Pieces.{of_either}
 
@@ -120,14 +125,11 @@ either_keeps s b x y h k = of_either (λ r. VectorKeeps s r) b x y h k
 
 arith_keeps : (t : VType) (op : VectorOp) (source : Source) (vd vs2 : ℕ) (vm : Bool) (s : HartState) → VectorKeeps s (arith_step t op source vd vs2 vm s)
 arith_keeps t (Binary op) source vd vs2 vm s = record { refused = tt; first = refl }
-arith_keeps t (MultiplyAdd op) source vd vs2 vm s = record { refused = tt; first = refl }
-arith_keeps t (Compare op) source vd vs2 vm s = record { refused = tt; first = refl }
-arith_keeps t (CarryOut op) source vd vs2 vm s = record { refused = tt; first = refl }
-arith_keeps t (Widen op) source vd vs2 vm s = record { refused = tt; first = refl }
-arith_keeps t (WideSource op) source vd vs2 vm s = record { refused = tt; first = refl }
-arith_keeps t (WidenMultiplyAdd op) source vd vs2 vm s = record { refused = tt; first = refl }
-arith_keeps t (NarrowShift op) source vd vs2 vm s = record { refused = tt; first = refl }
-arith_keeps t _ source vd vs2 vm s = record { refused = refl; first = refl }
+arith_keeps t _ source vd vs2 vm s = record { refused = tt; first = refl }
+
+mask_unary_keeps : (t : VType) (op : MaskUnaryOp) (vd vs2 : ℕ) (vm : Bool) (s : HartState) → VectorKeeps s (mask_unary_step t op vd vs2 vm s)
+mask_unary_keeps t (Scan op) vd vs2 vm s = record { refused = tt; first = refl }
+mask_unary_keeps t Viota vd vs2 vm s = record { refused = tt; first = refl }
 
 typed_keeps : (t : Option VType) (done : VType → HartState → VectorStepped) (s : HartState) → ((v : VType) → VectorKeeps s (done v s)) → VectorKeeps s (typed t done s)
 typed_keeps None done s kept = record { refused = refl; first = refl }
@@ -146,6 +148,26 @@ performed_keeps limit (VectorMove source vd) s =
     typed_keeps s.vector.conf.vtype (λ t. move_step t source vd) s (λ t. record { refused = tt; first = refl })
 performed_keeps limit (VectorExtend op vd vs2 vm) s =
     typed_keeps s.vector.conf.vtype (λ t. extend_step t op vd vs2 vm) s (λ t. record { refused = tt; first = refl })
+performed_keeps limit (MaskLogic op vd vs1 vs2) s =
+    typed_keeps s.vector.conf.vtype (λ t. mask_wise vd true (mask_logic_result op vs1 vs2 s.vector.file)) s
+    (λ t. record { refused = tt; first = refl })
+performed_keeps limit (MaskToScalar op rd vs2 vm) s =
+    typed_keeps s.vector.conf.vtype (λ t. mask_to_scalar_step op rd vs2 vm) s
+    (λ t. record { refused = tt; first = first-with_register rd _ s.scalar })
+performed_keeps limit (MaskUnary op vd vs2 vm) s =
+    typed_keeps s.vector.conf.vtype (λ t. mask_unary_step t op vd vs2 vm) s (λ t. mask_unary_keeps t op vd vs2 vm s)
+performed_keeps limit (ElementIndex vd vm) s =
+    typed_keeps s.vector.conf.vtype (λ t. element_wise t (group_type t) vd vm (index_result (group_type t))) s
+    (λ t. record { refused = tt; first = refl })
+performed_keeps limit (Compress vd vs1 vs2) s =
+    typed_keeps s.vector.conf.vtype (λ t. leaves (compressed t vd vs1 vs2 s) s.vector.vxsat) s (λ t. record { refused = tt; first = refl })
+performed_keeps limit (MoveToScalar rd vs2) s =
+    typed_keeps s.vector.conf.vtype (λ t. answers rd (moved_to_scalar t vs2 s.vector.file)) s
+    (λ t. record { refused = tt; first = first-with_register rd _ s.scalar })
+performed_keeps limit (MoveToVector vd rs1) s =
+    typed_keeps s.vector.conf.vtype (λ t. leaves (moved_to_vector t vd rs1 s) s.vector.vxsat) s (λ t. record { refused = tt; first = refl })
+performed_keeps limit (WholeMove count vd vs2) s =
+    typed_keeps s.vector.conf.vtype (λ t. leaves (whole_moved t count vd vs2 s) s.vector.vxsat) s (λ t. record { refused = tt; first = refl })
 performed_keeps limit _ s = record { refused = refl; first = refl }
 
 vector_keeps : (limit : ℕ) (i : Instr) (s : HartState) → VectorKeeps s (vector_executed limit i s)

@@ -45,6 +45,8 @@ use Rattle.rv_model.specs.declared.instructions.operations.WidenMultiplyAddOp.{W
 use Rattle.rv_model.specs.declared.instructions.operations.WidenMultiplyAddOp.TheVariants as widen_multiply_add
 use Rattle.rv_model.specs.declared.instructions.operations.ReduceOp.{ReduceOp}
 use Rattle.rv_model.specs.declared.instructions.operations.ReduceOp.TheVariants as reduce
+use Rattle.rv_model.specs.declared.instructions.operations.WidenReduceOp.{WidenReduceOp}
+use Rattle.rv_model.specs.declared.instructions.operations.WidenReduceOp.TheVariants as widen_reduce
 use Rattle.rv_model.specs.declared.instructions.operations.PermuteOp.{PermuteOp}
 use Rattle.rv_model.specs.declared.instructions.operations.PermuteOp.TheVariants as permute
 use Rattle.rv_model.specs.declared.instructions.operations.CarryOp.{CarryOp}
@@ -55,6 +57,7 @@ use Rattle.rv_model.specs.declared.instructions.operations.MaskToScalarOp.{MaskT
 use Rattle.rv_model.specs.declared.instructions.operations.MaskToScalarOp.TheVariants as mask_to_scalar
 use Rattle.rv_model.specs.declared.instructions.operations.ExtendOp.{ExtendOp}
 use Rattle.rv_model.specs.declared.instructions.operations.ExtendOp.TheVariants as extend
+use Rattle.rv_model.specs.declared.instructions.operations.MaskScanOp.TheVariants as mask_scan
 use Rattle.rv_model.specs.declared.instructions.operations.MaskUnaryOp.{MaskUnaryOp}
 use Rattle.rv_model.specs.declared.instructions.operations.MaskUnaryOp.TheVariants as mask_unary
 use Rattle.rv_model.specs.declared.instructions.operations.VectorOp.{VectorOp}
@@ -276,7 +279,7 @@ widen_multiply_add_name widen_multiply_add.Vwmacc = codes "vwmacc"
 widen_multiply_add_name widen_multiply_add.Vwmaccus = codes "vwmaccus"
 widen_multiply_add_name widen_multiply_add.Vwmaccsu = codes "vwmaccsu"
 
--- "Vector Reduction Operations"
+-- "Vector Single-Width Integer Reduction Instructions"
 abbrev pub reduce_name : ReduceOp → List ℕ
 reduce_name reduce.Vredsum = codes "vredsum"
 reduce_name reduce.Vredand = codes "vredand"
@@ -286,8 +289,11 @@ reduce_name reduce.Vredminu = codes "vredminu"
 reduce_name reduce.Vredmin = codes "vredmin"
 reduce_name reduce.Vredmaxu = codes "vredmaxu"
 reduce_name reduce.Vredmax = codes "vredmax"
-reduce_name reduce.Vwredsumu = codes "vwredsumu"
-reduce_name reduce.Vwredsum = codes "vwredsum"
+
+-- "Vector Widening Integer Reduction Instructions"
+abbrev pub widen_reduce_name : WidenReduceOp → List ℕ
+widen_reduce_name widen_reduce.Vwredsumu = codes "vwredsumu"
+widen_reduce_name widen_reduce.Vwredsum = codes "vwredsum"
 
 -- "Vector Permutation Instructions"
 abbrev pub permute_name : PermuteOp → List ℕ
@@ -331,9 +337,9 @@ extend_name extend.VsextVf2 = codes "vsext.vf2"
 
 -- "vmsbf.m set-before-first mask bit" and the like, "Vector Iota Instruction"
 abbrev pub mask_unary_name : MaskUnaryOp → List ℕ
-mask_unary_name mask_unary.Vmsbf = codes "vmsbf"
-mask_unary_name mask_unary.Vmsof = codes "vmsof"
-mask_unary_name mask_unary.Vmsif = codes "vmsif"
+mask_unary_name (mask_unary.Scan mask_scan.Vmsbf) = codes "vmsbf"
+mask_unary_name (mask_unary.Scan mask_scan.Vmsof) = codes "vmsof"
+mask_unary_name (mask_unary.Scan mask_scan.Vmsif) = codes "vmsif"
 mask_unary_name mask_unary.Viota = codes "viota"
 
 -- ---- suffixes (V extension, "Vector Arithmetic Instruction encoding")
@@ -380,6 +386,7 @@ vector_name (vector_op.WideSource op) f vm = wide_source_name op ++ wide_suffix 
 vector_name (vector_op.MultiplyAdd op) f vm = multiply_add_name op ++ suffix f
 vector_name (vector_op.WidenMultiplyAdd op) f vm = widen_multiply_add_name op ++ suffix f
 vector_name (vector_op.Reduce op) f vm = reduce_name op ++ codes ".vs"
+vector_name (vector_op.WidenReduce op) f vm = widen_reduce_name op ++ codes ".vs"
 vector_name (vector_op.Permute op) f vm = permute_name op ++ suffix f
 
 -- ---- vector loads and stores (V extension, "Vector Loads and Stores")

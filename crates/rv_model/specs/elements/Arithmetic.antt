@@ -1,23 +1,29 @@
--- What an element-wise instruction leaves in the vector registers ("V" Vector Extension 1.0, sections 3.4.3, 5.4 and chapter
--- 11). The operands are those of the state that it finds.
+-- What an instruction of vector arithmetic leaves in the vector registers ("V" Vector Extension 1.0, sections 3.4.3, 5.4 and
+-- chapters 11, 12, 14 and 15). The operands are those of the state that it finds.
 use Rattle.std.specs.Prelude.{ℕ, ◌*◌, ◌/◌, ◌%◌, ◌^◌, ◌&&◌, not, nat_lt, Bool, true, false, List}
 use Rattle.std.specs.Int.{Width}
 use mir.Val.{bits}
 use Rattle.rv_model.specs.declared.instructions.operations.BinaryOp.{BinaryOp}
 use Rattle.rv_model.specs.declared.instructions.operations.CarryOp.{CarryOp}
 use Rattle.rv_model.specs.declared.instructions.operations.CarryOutOp.{CarryOutOp}
+use Rattle.rv_model.specs.declared.instructions.operations.ClipOp.{ClipOp}
 use Rattle.rv_model.specs.declared.instructions.operations.CompareOp.{CompareOp}
 use Rattle.rv_model.specs.declared.instructions.operations.ExtendOp.{ExtendOp}
+use Rattle.rv_model.specs.declared.instructions.operations.FixedPointOp.{FixedPointOp}
+use Rattle.rv_model.specs.declared.instructions.operations.MaskLogicOp.{MaskLogicOp}
 use Rattle.rv_model.specs.declared.instructions.operations.MultiplyAddOp.{MultiplyAddOp}
 use Rattle.rv_model.specs.declared.instructions.operations.NarrowShiftOp.{NarrowShiftOp}
+use Rattle.rv_model.specs.declared.instructions.operations.ReduceOp.{ReduceOp}
 use Rattle.rv_model.specs.declared.instructions.operations.WidenOp.{WidenOp}
 use Rattle.rv_model.specs.declared.instructions.operations.WideSourceOp.{WideSourceOp}
 use Rattle.rv_model.specs.declared.instructions.operations.WidenMultiplyAddOp.{WidenMultiplyAddOp}
+use Rattle.rv_model.specs.declared.instructions.operations.WidenReduceOp.{WidenReduceOp}
 use Rattle.rv_model.specs.declared.vector.policy.Policy.{Policy}
 use Rattle.rv_model.specs.declared.vector.policy.Policy.TheVariants.{Keep, Ones}
 use Rattle.rv_model.specs.declared.scalar.Scalar.{Scalar}
 use Rattle.rv_model.specs.declared.instructions.source.Source.{Source}
 use Rattle.rv_model.specs.declared.instructions.source.Source.TheVariants as source
+use Rattle.rv_model.specs.declared.vector.state.RoundingMode.{RoundingMode}
 use Rattle.rv_model.specs.declared.vector.state.VState.{VState}
 use Rattle.rv_model.specs.declared.vector.types.VType.{VType}
 use Rattle.rv_model.specs.elements.Elements.{Body, element, is_active, is_changed, mask_bit, result_or_ones}
@@ -26,6 +32,9 @@ use Rattle.rv_model.specs.vector.Registers.{group_of, with_group, register_of}
 use Rattle.rv_model.specs.scalar.Registers.{read_register}
 use Rattle.rv_model.specs.vector.Configuration.{lmul_eighths, sew_width, width_bytes}
 use Rattle.rv_model.specs.elements.Formulas.{carry_formula, carry_out_formula, compare_formula, doubled, extend_formula, formula, has_unsigned_immediate, immediate_value, multiply_add_formula, narrow_shift_formula, ones, part_width, wide_source_formula, widen_formula, widen_multiply_add_formula, wrap}
+use Rattle.rv_model.specs.elements.FixedPoint.{clip_formula, clip_saturates, fixed_point_formula, has_unsigned_shift, saturates}
+use Rattle.rv_model.specs.elements.Masks.{mask_logic_formula, set_count}
+use Rattle.rv_model.specs.elements.Reductions.{active_numbers, reduced, wide_reduced}
 use Rattle.rv_model.specs.legality.OperandShapes.{extension_divisor}
 
 abbrev pub is_ones : Policy → Bool
@@ -115,6 +124,53 @@ part_type op t = record { width = part_width op (sew_width t.sew); emul = lmul_e
 
 abbrev pub extend_result : GroupType → GroupType → ExtendOp → ℕ → List ℕ → ℕ → ℕ
 extend_result n w op vs2 file i = wrap w.width (extend_formula op n.width (group_element n file vs2 i))
+
+-- ---- fixed point: the result at element i, and whether it isn't the exact number
+
+abbrev pub fixed_point_result : GroupType → RoundingMode → FixedPointOp → ℕ → Source → List ℕ → Scalar → ℕ → ℕ
+fixed_point_result g mode op vs2 source file x i =
+    wrap g.width
+    (fixed_point_formula op mode g.width (group_element g file vs2 i) (second_element g (has_unsigned_shift op) source file x i))
+
+abbrev pub saturates_at : GroupType → RoundingMode → FixedPointOp → ℕ → Source → List ℕ → Scalar → ℕ → Bool
+saturates_at g mode op vs2 source file x i =
+    saturates op mode g.width (group_element g file vs2 i) (second_element g (has_unsigned_shift op) source file x i)
+
+-- n is the type of the narrow groups, w that of the wide
+abbrev pub clip_result : GroupType → GroupType → RoundingMode → ClipOp → ℕ → Source → List ℕ → Scalar → ℕ → ℕ
+clip_result n w mode op vs2 source file x i =
+    wrap n.width (clip_formula op mode w.width n.width (group_element w file vs2 i) (second_element n true source file x i))
+
+abbrev pub clip_saturates_at : GroupType → GroupType → RoundingMode → ClipOp → ℕ → Source → List ℕ → Scalar → ℕ → Bool
+clip_saturates_at n w mode op vs2 source file x i =
+    clip_saturates op mode w.width n.width (group_element w file vs2 i) (second_element n true source file x i)
+
+-- ---- reductions: the result, which begins with element 0 of vs1
+
+-- one register of elements of a width
+abbrev pub single_type : Width → GroupType
+single_type width = record { width = width; emul = 8 }
+
+abbrev pub reduce_result : GroupType → ReduceOp → Body → ℕ → Source → List ℕ → Scalar → ℕ
+reduce_result g op body vs2 source file x =
+    reduced op g.width (second_element (single_type g.width) false source file x 0) (active_numbers body (group_element g file vs2))
+
+abbrev pub widen_reduce_result : GroupType → GroupType → WidenReduceOp → Body → ℕ → Source → List ℕ → Scalar → ℕ
+widen_reduce_result n w op body vs2 source file x =
+    wide_reduced op w.width n.width (second_element (single_type w.width) false source file x 0)
+    (active_numbers body (group_element n file vs2))
+
+-- ---- mask instructions: the result at element i
+
+abbrev pub mask_logic_result : MaskLogicOp → ℕ → ℕ → List ℕ → ℕ → Bool
+mask_logic_result op vs1 vs2 file i =
+    mask_logic_formula op (mask_bit (register_of file vs2) i) (mask_bit (register_of file vs1) i)
+
+abbrev pub iota_result : GroupType → Body → ℕ → List ℕ → ℕ → ℕ
+iota_result g body vs2 file i = set_count body (register_of file vs2) i % 2 ^ bits g.width
+
+abbrev pub index_result : GroupType → ℕ → ℕ
+index_result g i = i % 2 ^ bits g.width
 
 -- ---- the vector registers with results
 

@@ -1,7 +1,8 @@
 -- Elements and mask bits of vector registers, and the sets of elements that an instruction changes ("V" Vector Extension
 -- 1.0, sections 3.4.3, 4.1, 4.5, 5.3 and 5.4). A list of bytes holds element 0 first, each with its least byte first.
-use Rattle.std.specs.Prelude.{ℕ, ◌+◌, ◌*◌, ◌/◌, ◌%◌, ◌^◌, ◌==◌, ◌&&◌, ◌||◌, ◌≤◌, nat_le, nat_lt, Bool, List, length, slice_index, if◌then◌else◌}
+use Rattle.std.specs.Prelude.{ℕ, ◌+◌, ◌*◌, ◌/◌, ◌%◌, ◌^◌, ◌==◌, ◌&&◌, ◌||◌, ◌≤◌, nat_le, nat_lt, Bool, true, List, length, slice_index, if◌then◌else◌}
 use Rattle.std.specs.Int.{from_bool}
+use Rattle.std.specs.List.{list_any, range_with_len}
 use Rattle.std.specs.Simd.Lanes.{chunk}
 use lib.Lanes.{number_l}
 
@@ -46,6 +47,14 @@ is_let body i = body.unmasked || mask_bit body.mask i
 -- the active elements
 abbrev pub is_active : Body → ℕ → Bool
 is_active body i = in_body body i && is_let body i
+
+-- whether a test holds for some active element
+abbrev pub some_active : Body → (ℕ → Bool) → Bool
+some_active body test = list_any (λ i. is_active body i && test i) (range_with_len 0 body.end)
+
+-- the first element alone, where there is any in the body
+abbrev pub first_alone : Body → Body
+first_alone body = record { unmasked = true; mask = body.mask; start = 0; end = from_bool (nat_lt body.start body.end) }
 
 -- the elements that become all ones: those of the body where the ones that are masked off do, and those of the tail where
 -- it does

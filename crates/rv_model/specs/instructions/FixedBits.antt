@@ -29,6 +29,7 @@ use Rattle.rv_model.specs.declared.instructions.operations.MaskToScalarOp.{MaskT
 use Rattle.rv_model.specs.declared.instructions.operations.MaskToScalarOp.TheVariants as mask_to_scalar
 use Rattle.rv_model.specs.declared.instructions.operations.ExtendOp.{ExtendOp}
 use Rattle.rv_model.specs.declared.instructions.operations.ExtendOp.TheVariants as extend
+use Rattle.rv_model.specs.declared.instructions.operations.MaskScanOp.TheVariants as mask_scan
 use Rattle.rv_model.specs.declared.instructions.operations.MaskUnaryOp.{MaskUnaryOp}
 use Rattle.rv_model.specs.declared.instructions.operations.MaskUnaryOp.TheVariants as mask_unary
 use Rattle.rv_model.specs.declared.instructions.operations.Form.{Form}
@@ -268,14 +269,16 @@ extend_ops =
 
 -- VMUNARY0 on a mask: "vmsbf.m set-before-first mask bit" and the like, "Vector Iota Instruction"
 abbrev pub mask_unary_bits : MaskUnaryOp → ℕ
-mask_unary_bits mask_unary.Vmsbf = vector_coded 2 0x14 0 1  -- vmsbf.m
-mask_unary_bits mask_unary.Vmsof = vector_coded 2 0x14 0 2  -- vmsof.m
-mask_unary_bits mask_unary.Vmsif = vector_coded 2 0x14 0 3  -- vmsif.m
+mask_unary_bits (mask_unary.Scan mask_scan.Vmsbf) = vector_coded 2 0x14 0 1  -- vmsbf.m
+mask_unary_bits (mask_unary.Scan mask_scan.Vmsof) = vector_coded 2 0x14 0 2  -- vmsof.m
+mask_unary_bits (mask_unary.Scan mask_scan.Vmsif) = vector_coded 2 0x14 0 3  -- vmsif.m
 mask_unary_bits mask_unary.Viota = vector_coded 2 0x14 0 16  -- viota.m
 
 -- its operations
 abbrev pub mask_unary_ops : List MaskUnaryOp
-mask_unary_ops = mask_unary.Vmsbf ∷ mask_unary.Vmsof ∷ mask_unary.Vmsif ∷ mask_unary.Viota ∷ []
+mask_unary_ops =
+    mask_unary.Scan mask_scan.Vmsbf ∷ mask_unary.Scan mask_scan.Vmsof ∷ mask_unary.Scan mask_scan.Vmsif ∷
+    mask_unary.Viota ∷ []
 
 -- ---- vector memory (V extension, "Vector Load/Store Instruction Encoding": nf 31 to 29, mew 28, mop 27 to 26, width
 -- 14 to 12)

@@ -33,6 +33,8 @@ use Rattle.rv_model.specs.declared.instructions.operations.WidenMultiplyAddOp.{W
 use Rattle.rv_model.specs.declared.instructions.operations.WidenMultiplyAddOp.TheVariants as widen_multiply_add
 use Rattle.rv_model.specs.declared.instructions.operations.ReduceOp.{ReduceOp}
 use Rattle.rv_model.specs.declared.instructions.operations.ReduceOp.TheVariants as reduce
+use Rattle.rv_model.specs.declared.instructions.operations.WidenReduceOp.{WidenReduceOp}
+use Rattle.rv_model.specs.declared.instructions.operations.WidenReduceOp.TheVariants as widen_reduce
 use Rattle.rv_model.specs.declared.instructions.operations.PermuteOp.{PermuteOp}
 use Rattle.rv_model.specs.declared.instructions.operations.PermuteOp.TheVariants as permute
 use Rattle.rv_model.specs.declared.instructions.operations.CarryOp.{CarryOp}
@@ -205,7 +207,7 @@ widen_multiply_add_ops =
     widen_multiply_add.Vwmaccu ∷ widen_multiply_add.Vwmacc ∷ widen_multiply_add.Vwmaccus ∷
     widen_multiply_add.Vwmaccsu ∷ []
 
--- "Vector Reduction Operations"
+-- "Vector Single-Width Integer Reduction Instructions"
 abbrev pub reduce_line : ReduceOp → Line
 reduce_line reduce.Vredsum = opm 0x00 V  -- vredsum.vs
 reduce_line reduce.Vredand = opm 0x01 V  -- vredand.vs
@@ -215,14 +217,21 @@ reduce_line reduce.Vredminu = opm 0x04 V  -- vredminu.vs
 reduce_line reduce.Vredmin = opm 0x05 V  -- vredmin.vs
 reduce_line reduce.Vredmaxu = opm 0x06 V  -- vredmaxu.vs
 reduce_line reduce.Vredmax = opm 0x07 V  -- vredmax.vs
-reduce_line reduce.Vwredsumu = opi 0x30 V  -- vwredsumu.vs
-reduce_line reduce.Vwredsum = opi 0x31 V  -- vwredsum.vs
 
 -- its operations
 abbrev pub reduce_ops : List ReduceOp
 reduce_ops =
     reduce.Vredsum ∷ reduce.Vredand ∷ reduce.Vredor ∷ reduce.Vredxor ∷ reduce.Vredminu ∷ reduce.Vredmin ∷
-    reduce.Vredmaxu ∷ reduce.Vredmax ∷ reduce.Vwredsumu ∷ reduce.Vwredsum ∷ []
+    reduce.Vredmaxu ∷ reduce.Vredmax ∷ []
+
+-- "Vector Widening Integer Reduction Instructions"
+abbrev pub widen_reduce_line : WidenReduceOp → Line
+widen_reduce_line widen_reduce.Vwredsumu = opi 0x30 V  -- vwredsumu.vs
+widen_reduce_line widen_reduce.Vwredsum = opi 0x31 V  -- vwredsum.vs
+
+-- its operations
+abbrev pub widen_reduce_ops : List WidenReduceOp
+widen_reduce_ops = widen_reduce.Vwredsumu ∷ widen_reduce.Vwredsum ∷ []
 
 -- "Vector Permutation Instructions"
 abbrev pub permute_line : PermuteOp → Line
@@ -262,6 +271,7 @@ line (vector_op.WideSource op) = wide_source_line op
 line (vector_op.MultiplyAdd op) = multiply_add_line op
 line (vector_op.WidenMultiplyAdd op) = widen_multiply_add_line op
 line (vector_op.Reduce op) = reduce_line op
+line (vector_op.WidenReduce op) = widen_reduce_line op
 line (vector_op.Permute op) = permute_line op
 
 -- every operation that has a line and a mask
@@ -278,6 +288,7 @@ vector_ops =
     ++ map vector_op.MultiplyAdd multiply_add_ops
     ++ map vector_op.WidenMultiplyAdd widen_multiply_add_ops
     ++ map vector_op.Reduce reduce_ops
+    ++ map vector_op.WidenReduce widen_reduce_ops
     ++ map vector_op.Permute permute_ops
 
 -- opcode and funct3 of a half of the opcode map, by form; no operation of the second half has an immediate, and the last place is

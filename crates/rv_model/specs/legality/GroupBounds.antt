@@ -22,6 +22,12 @@ pub record HasRoom (width : Width) (emul end : ℕ) : Type 0 where
   pub most : emul ≤ 64
   pub room : width_bytes width * end ≤ VLENB * registers emul
 
+-- the indices of a gather, where they stand in registers: groups of this multiplier with room for those of the body
+abbrev pub HasIndices : Source → Width → ℕ → ℕ → Type 0
+HasIndices (source.V vs1) width emul end = IsInside vs1 emul × HasRoom width emul end
+HasIndices (source.X rs1) width emul end = ⊤
+HasIndices (source.I imm) width emul end = ⊤
+
 -- groups of this multiplier have so many elements of this width in their registers, and the elements before the end of the
 -- body are among them
 pub record HoldsBody (width : Width) (emul count end : ℕ) : Type 0 where

@@ -11,13 +11,13 @@ use Rattle.rv_model.specs.declared.instructions.operations.ExtendOp.{ExtendOp}
 use Rattle.rv_model.specs.declared.instructions.operations.FixedPointOp.{FixedPointOp}
 use Rattle.rv_model.specs.declared.instructions.operations.FixedPointOp.TheVariants.{Vsmul}
 use Rattle.rv_model.specs.declared.instructions.operations.MaskUnaryOp.{MaskUnaryOp}
-use Rattle.rv_model.specs.declared.instructions.operations.MaskUnaryOp.TheVariants.{Vmsbf, Vmsof, Vmsif, Viota}
+use Rattle.rv_model.specs.declared.instructions.operations.MaskUnaryOp.TheVariants.{Scan, Viota}
 use Rattle.rv_model.specs.declared.instructions.operations.RegisterCount.{RegisterCount}
 use Rattle.rv_model.specs.declared.instructions.operations.RegisterCount.TheVariants.{One, Two, Four, Eight}
 use Rattle.rv_model.specs.declared.instructions.operations.UnitOp.{UnitOp}
 use Rattle.rv_model.specs.declared.instructions.operations.UnitOp.TheVariants as unit
 use Rattle.rv_model.specs.declared.instructions.operations.VectorOp.{VectorOp}
-use Rattle.rv_model.specs.declared.instructions.operations.VectorOp.TheVariants.{Binary, CarryOut, Compare, FixedPoint, NarrowShift, Clip, Widen, WideSource, MultiplyAdd, WidenMultiplyAdd, Reduce, Permute}
+use Rattle.rv_model.specs.declared.instructions.operations.VectorOp.TheVariants.{Binary, CarryOut, Compare, FixedPoint, NarrowShift, Clip, Widen, WideSource, MultiplyAdd, WidenMultiplyAdd, Reduce, WidenReduce, Permute}
 use Rattle.rv_model.specs.declared.instructions.operations.Width.{Width}
 use Rattle.rv_model.specs.declared.instructions.source.Source.{Source}
 use Rattle.rv_model.specs.declared.legality.Operand.{Operand}
@@ -56,9 +56,7 @@ indexed_role direction.Store nf = Read
 -- the destination of an operation on one mask
 abbrev pub mask_result : MaskUnaryOp → ℕ → VType → Operand
 mask_result Viota vd t = group Apart vd (sew_bits t.sew) t
-mask_result Vmsbf vd t = mask Apart vd
-mask_result Vmsof vd t = mask Apart vd
-mask_result Vmsif vd t = mask Apart vd
+mask_result (Scan o) vd t = mask Apart vd
 
 -- vmv.v.v and the like
 abbrev pub move_operands : Source → ℕ → VType → List Operand
@@ -149,6 +147,7 @@ is_reduction (WideSource o) = false
 is_reduction (MultiplyAdd o) = false
 is_reduction (WidenMultiplyAdd o) = false
 is_reduction (Reduce o) = true
+is_reduction (WidenReduce o) = true
 is_reduction (Permute o) = false
 
 -- those that have to begin with element 0: reductions, counts, searches and scans of masks, and compressions
@@ -184,6 +183,7 @@ is_narrow_only (WideSource o) = false
 is_narrow_only (MultiplyAdd o) = false
 is_narrow_only (WidenMultiplyAdd o) = false
 is_narrow_only (Reduce o) = false
+is_narrow_only (WidenReduce o) = false
 is_narrow_only (Permute o) = false
 
 -- instructions that there are for SEW below 64 alone

@@ -5,8 +5,6 @@ use Rattle.rv_model.specs.declared.instructions.operations.ExtendOp.{ExtendOp}
 use Rattle.rv_model.specs.declared.instructions.operations.ExtendOp.TheVariants.{VzextVf8, VsextVf8, VzextVf4, VsextVf4, VzextVf2, VsextVf2}
 use Rattle.rv_model.specs.declared.instructions.operations.VectorOp.{VectorOp}
 use Rattle.rv_model.specs.declared.instructions.operations.VectorOp.TheVariants as op
-use Rattle.rv_model.specs.declared.instructions.operations.ReduceOp.{ReduceOp}
-use Rattle.rv_model.specs.declared.instructions.operations.ReduceOp.TheVariants.{Vredsum, Vredand, Vredor, Vredxor, Vredminu, Vredmin, Vredmaxu, Vredmax, Vwredsumu, Vwredsum}
 use Rattle.rv_model.specs.declared.instructions.operations.PermuteOp.{PermuteOp}
 use Rattle.rv_model.specs.declared.instructions.operations.PermuteOp.TheVariants.{Vrgather, Vrgatherei16, Vslideup, Vslidedown, Vslide1up, Vslide1down}
 use Rattle.rv_model.specs.declared.legality.Operand.{Operand}
@@ -57,18 +55,6 @@ extension_divisor VsextVf4 = 4
 extension_divisor VzextVf2 = 2
 extension_divisor VsextVf2 = 2
 
-abbrev pub reduce_shape : ReduceOp → Shape
-reduce_shape Vredsum = Reduction
-reduce_shape Vredand = Reduction
-reduce_shape Vredor = Reduction
-reduce_shape Vredxor = Reduction
-reduce_shape Vredminu = Reduction
-reduce_shape Vredmin = Reduction
-reduce_shape Vredmaxu = Reduction
-reduce_shape Vredmax = Reduction
-reduce_shape Vwredsumu = WideReduction
-reduce_shape Vwredsum = WideReduction
-
 abbrev pub permute_shape : PermuteOp → Shape
 permute_shape Vrgather = Gather
 permute_shape Vrgatherei16 = GatherIndices16
@@ -89,7 +75,8 @@ shape_of (op.Widen o) = Widening
 shape_of (op.WideSource o) = WideSource
 shape_of (op.MultiplyAdd o) = Single
 shape_of (op.WidenMultiplyAdd o) = Widening
-shape_of (op.Reduce o) = reduce_shape o
+shape_of (op.Reduce o) = Reduction
+shape_of (op.WidenReduce o) = WideReduction
 shape_of (op.Permute o) = permute_shape o
 
 -- vd

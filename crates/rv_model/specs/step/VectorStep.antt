@@ -1,11 +1,15 @@
 -- One vector instruction, carried out ("V" Vector Extension 1.0).
-use Rattle.std.specs.Prelude.{ℕ, ◌==◌, Bool, true, false, List, Option, Some, None, if◌then◌else◌}
+use Rattle.std.specs.Prelude.{ℕ, ◌==◌, ◌||◌, Bool, true, false, List, Option, Some, None, if◌then◌else◌}
+use Rattle.std.specs.Int.{Width}
 use Rattle.rv_model.specs.declared.instructions.instruction.Instr.{Instr}
 use Rattle.rv_model.specs.declared.instructions.instruction.Instr.TheVariants.{Upper, Jump, JumpRegister, Branch, Load, Store, RegisterImmediate, ShiftImmediate, ShiftImmediateWord, RegisterRegister, Fence, System, Csr, CsrImmediate, SetVli, SetIvli, SetVl, VectorArith, VectorCarry, VectorMove, WholeMove, MaskLogic, Compress, MaskToScalar, VectorExtend, MaskUnary, ElementIndex, MoveToScalar, MoveToVector, VectorUnit, VectorStrided, VectorIndexed, WholeLoad, WholeStore, MaskMemory}
 use Rattle.rv_model.specs.declared.instructions.operations.CarryOp.{CarryOp}
 use Rattle.rv_model.specs.declared.instructions.operations.ExtendOp.{ExtendOp}
+use Rattle.rv_model.specs.declared.instructions.operations.MaskToScalarOp.{MaskToScalarOp}
+use Rattle.rv_model.specs.declared.instructions.operations.MaskUnaryOp.{MaskUnaryOp}
+use Rattle.rv_model.specs.declared.instructions.operations.MaskUnaryOp.TheVariants.{Scan, Viota}
 use Rattle.rv_model.specs.declared.instructions.operations.VectorOp.{VectorOp}
-use Rattle.rv_model.specs.declared.instructions.operations.VectorOp.TheVariants.{Binary, CarryOut, Compare, FixedPoint, NarrowShift, Clip, Widen, WideSource, MultiplyAdd, WidenMultiplyAdd, Reduce, Permute}
+use Rattle.rv_model.specs.declared.instructions.operations.VectorOp.TheVariants.{Binary, CarryOut, Compare, FixedPoint, NarrowShift, Clip, Widen, WideSource, MultiplyAdd, WidenMultiplyAdd, Reduce, WidenReduce, Permute}
 use Rattle.rv_model.specs.declared.scalar.Scalar.{Scalar}
 use Rattle.rv_model.specs.declared.instructions.source.Source.{Source}
 use Rattle.rv_model.specs.declared.step.step_end.Cause.{Cause}
@@ -19,8 +23,13 @@ use Rattle.rv_model.specs.declared.vector.types.VType.{VType}
 use Rattle.rv_model.specs.step.Hart.{HartState, Stepped, ends_after, faults}
 use Rattle.rv_model.specs.legality.Legality.{is_legal}
 use Rattle.rv_model.specs.scalar.Registers.{advanced, read_register, with_register}
-use Rattle.rv_model.specs.elements.Arithmetic.{GroupType, binary_result, body_of, carry_out_result, carry_result, compare_result, extend_result, fills_masked_off, fills_tail, group_type, multiply_add_result, narrow_shift_result, part_type, second_element, wide_source_result, wide_type, widen_multiply_add_result, widen_result, with_mask_results, with_results}
+use Rattle.rv_model.specs.elements.Arithmetic.{GroupType, binary_result, body_of, carry_out_result, carry_result, clip_result, clip_saturates_at, compare_result, extend_result, fills_masked_off, fills_tail, fixed_point_result, group_type, index_result, iota_result, mask_logic_result, multiply_add_result, narrow_shift_result, part_type, reduce_result, saturates_at, second_element, single_type, wide_source_result, wide_type, widen_multiply_add_result, widen_reduce_result, widen_result, with_mask_results, with_results}
+use Rattle.rv_model.specs.elements.Elements.{first_alone, some_active}
+use Rattle.rv_model.specs.elements.PermutationResults.{moved_to_scalar}
+use Rattle.rv_model.specs.step.PermutationStep.{compressed, moved_to_vector, permuted, whole_moved}
+use Rattle.rv_model.specs.elements.Masks.{first_set, mask_scan_formula, mask_to_scalar_formula}
 use Rattle.rv_model.specs.vector.Configuration.{Configuration}
+use Rattle.rv_model.specs.vector.Registers.{register_of}
 use Rattle.rv_model.specs.vector.TypeRules.{requested}
 
 -- whether an instruction is one of the vector extension; those of control registers are not
@@ -100,6 +109,22 @@ element_wise t g vd unmasked result s =
 abbrev pub mask_wise : ℕ → Bool → (ℕ → Bool) → HartState → VectorStepped
 mask_wise vd unmasked bit s = leaves (with_mask_results vd (body_of unmasked s.vector) bit s.vector.file) s.vector.vxsat s
 
+-- an instruction whose results stand in a group of elements, and that sets vxsat where one of them isn't the exact number; it
+-- never clears it
+abbrev pub saturating : VType → GroupType → ℕ → Bool → (ℕ → ℕ) → (ℕ → Bool) → HartState → VectorStepped
+saturating t g vd unmasked result saturated s =
+    let body = body_of unmasked s.vector in
+    leaves (with_results g vd body (fills_masked_off s.policy t body) (fills_tail s.policy t body) result s.vector.file)
+    (s.vector.vxsat || some_active body saturated) s
+
+-- an instruction whose one result, of the active elements, stands in element 0 of a register, whose tail begins with
+-- element 1; no element is masked off
+abbrev pub reducing : VType → Width → ℕ → Bool → ℕ → HartState → VectorStepped
+reducing t width vd unmasked result s =
+    let body = body_of unmasked s.vector in
+    leaves (with_results (single_type width) vd (first_alone body) false (fills_tail s.policy t body) (λ i. result) s.vector.file)
+    s.vector.vxsat s
+
 -- an operation with a line of its own in the manual's table, by the groups' type. Carries and borrows are written for the
 -- whole body.
 abbrev pub arith_step : VType → VectorOp → Source → ℕ → ℕ → Bool → HartState → VectorStepped
@@ -120,10 +145,21 @@ arith_step t (WidenMultiplyAdd op) source vd vs2 vm s =
     (widen_multiply_add_result (group_type t) (wide_type t) op vd vs2 source s.vector.file s.scalar) s
 arith_step t (NarrowShift op) source vd vs2 vm s =
     element_wise t (group_type t) vd vm (narrow_shift_result (group_type t) (wide_type t) op vs2 source s.vector.file s.scalar) s
-arith_step t (Clip op) source vd vs2 vm s = vector_ends vector_end.Illegal s
-arith_step t (FixedPoint op) source vd vs2 vm s = vector_ends vector_end.Illegal s
-arith_step t (Reduce op) source vd vs2 vm s = vector_ends vector_end.Illegal s
-arith_step t (Permute op) source vd vs2 vm s = vector_ends vector_end.Illegal s
+arith_step t (FixedPoint op) source vd vs2 vm s =
+    saturating t (group_type t) vd vm
+    (fixed_point_result (group_type t) s.vector.vxrm op vs2 source s.vector.file s.scalar)
+    (saturates_at (group_type t) s.vector.vxrm op vs2 source s.vector.file s.scalar) s
+arith_step t (Clip op) source vd vs2 vm s =
+    saturating t (group_type t) vd vm
+    (clip_result (group_type t) (wide_type t) s.vector.vxrm op vs2 source s.vector.file s.scalar)
+    (clip_saturates_at (group_type t) (wide_type t) s.vector.vxrm op vs2 source s.vector.file s.scalar) s
+arith_step t (Reduce op) source vd vs2 vm s =
+    reducing t (group_type t).width vd vm
+    (reduce_result (group_type t) op (body_of vm s.vector) vs2 source s.vector.file s.scalar) s
+arith_step t (WidenReduce op) source vd vs2 vm s =
+    reducing t (wide_type t).width vd vm
+    (widen_reduce_result (group_type t) (wide_type t) op (body_of vm s.vector) vs2 source s.vector.file s.scalar) s
+arith_step t (Permute op) source vd vs2 vm s = leaves (permuted t op source vd vs2 vm s) s.vector.vxsat s
 
 -- an operation with v0 as an operand, of the whole body
 abbrev pub carry_step : VType → CarryOp → Source → ℕ → ℕ → HartState → VectorStepped
@@ -140,6 +176,23 @@ abbrev pub move_step : VType → Source → ℕ → HartState → VectorStepped
 move_step t source vd s =
     element_wise t (group_type t) vd true (second_element (group_type t) false source s.vector.file s.scalar) s
 
+-- a scalar register takes a number, and the next instruction begins with the first element
+abbrev pub answers : ℕ → ℕ → HartState → VectorStepped
+answers rd number s =
+    vector_ends vector_end.Done (record s { scalar = with_register rd number s.scalar; vector = record s.vector { vstart = 0 } })
+
+-- counts and searches of a mask, to a scalar register
+abbrev pub mask_to_scalar_step : MaskToScalarOp → ℕ → ℕ → Bool → HartState → VectorStepped
+mask_to_scalar_step op rd vs2 vm s =
+    answers rd (mask_to_scalar_formula op (body_of vm s.vector) (register_of s.vector.file vs2)) s
+
+-- operations on one mask
+abbrev pub mask_unary_step : VType → MaskUnaryOp → ℕ → ℕ → Bool → HartState → VectorStepped
+mask_unary_step t (Scan op) vd vs2 vm s =
+    mask_wise vd vm (mask_scan_formula op (first_set (body_of vm s.vector) (register_of s.vector.file vs2))) s
+mask_unary_step t Viota vd vs2 vm s =
+    element_wise t (group_type t) vd vm (iota_result (group_type t) (body_of vm s.vector) vs2 s.vector.file) s
+
 -- an instruction that needs a vector type
 abbrev pub typed : Option VType → (VType → HartState → VectorStepped) → HartState → VectorStepped
 typed None step s = vector_ends vector_end.Illegal s
@@ -154,6 +207,19 @@ performed limit (VectorArith arith vd vs2 vm) s = typed s.vector.conf.vtype (λ 
 performed limit (VectorCarry carry vd vs2) s = typed s.vector.conf.vtype (λ t. carry_step t carry.0 carry.1 vd vs2) s
 performed limit (VectorMove source vd) s = typed s.vector.conf.vtype (λ t. move_step t source vd) s
 performed limit (VectorExtend op vd vs2 vm) s = typed s.vector.conf.vtype (λ t. extend_step t op vd vs2 vm) s
+performed limit (MaskLogic op vd vs1 vs2) s =
+    typed s.vector.conf.vtype (λ t. mask_wise vd true (mask_logic_result op vs1 vs2 s.vector.file)) s
+performed limit (MaskToScalar op rd vs2 vm) s = typed s.vector.conf.vtype (λ t. mask_to_scalar_step op rd vs2 vm) s
+performed limit (MaskUnary op vd vs2 vm) s = typed s.vector.conf.vtype (λ t. mask_unary_step t op vd vs2 vm) s
+performed limit (ElementIndex vd vm) s =
+    typed s.vector.conf.vtype (λ t. element_wise t (group_type t) vd vm (index_result (group_type t))) s
+performed limit (Compress vd vs1 vs2) s =
+    typed s.vector.conf.vtype (λ t. leaves (compressed t vd vs1 vs2 s) s.vector.vxsat) s
+performed limit (MoveToScalar rd vs2) s = typed s.vector.conf.vtype (λ t. answers rd (moved_to_scalar t vs2 s.vector.file)) s
+performed limit (MoveToVector vd rs1) s =
+    typed s.vector.conf.vtype (λ t. leaves (moved_to_vector t vd rs1 s) s.vector.vxsat) s
+performed limit (WholeMove count vd vs2) s =
+    typed s.vector.conf.vtype (λ t. leaves (whole_moved t count vd vs2 s) s.vector.vxsat) s
 performed limit _ s = vector_ends vector_end.Illegal s
 
 -- a vector instruction, by the ticks that are left: an illegal one changes nothing

@@ -261,6 +261,12 @@ pub enum ReduceOp {
     Vredmin,
     Vredmaxu,
     Vredmax,
+}
+
+/// Reductions to element 0 of twice the width (V extension, "Vector Widening Integer Reduction
+/// Instructions").
+#[derive(Clone, Copy)]
+pub enum WidenReduceOp {
     Vwredsumu,
     Vwredsum,
 }
@@ -291,6 +297,7 @@ pub enum VectorOp {
     MultiplyAdd(MultiplyAddOp),
     WidenMultiplyAdd(WidenMultiplyAddOp),
     Reduce(ReduceOp),
+    WidenReduce(WidenReduceOp),
     Permute(PermuteOp),
 }
 
@@ -335,12 +342,18 @@ pub enum ExtendOp {
     VsextVf2,
 }
 
-/// Operations on one mask, to a vector register (V extension, "Vector Mask Instructions").
+/// Bits by where a mask's first set bit is (V extension, "vmsbf.m set-before-first mask bit" and the like).
 #[derive(Clone, Copy)]
-pub enum MaskUnaryOp {
+pub enum MaskScanOp {
     Vmsbf,
     Vmsof,
     Vmsif,
+}
+
+/// Operations on one mask, to a vector register (V extension, "Vector Mask Instructions").
+#[derive(Clone, Copy)]
+pub enum MaskUnaryOp {
+    Scan(MaskScanOp),
     Viota,
 }
 

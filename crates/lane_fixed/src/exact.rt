@@ -1,0 +1,65 @@
+//! The exact numbers of operations of one width ("V" Vector Extension 1.0, sections 12.1 to 12.4), before
+//! they are brought into the width.
+ghost use Rattle.std.specs.Prelude.{◌≡◌, ◌+ℤ◌, ◌-ℤ◌, ◌*ℤ◌, pos};
+ghost use Rattle.std.specs.Int.{cast_signed};
+ghost use Rattle.rv_model.specs.elements.FixedPoint.{exact};
+
+use crate::rounding::{rounded, rounded_shift};
+use lane_arith::Lane;
+use rv_model::RoundingMode;
+use rv_model::instructions::operations::FixedPointOp;
+use scalar_core::full_signed;
+
+/// The sum of two unsigned numbers.
+fn sum<L: Lane>(a: L, b: L) -> i128
+    ensures { result ≡ pos (L.value a) +ℤ pos (L.value b) }
+{
+    i128::from(a.number()) + i128::from(b.number())
+}
+
+/// The sum of two signed numbers.
+fn signed_sum<L: Lane>(a: L, b: L) -> i128
+    ensures { result ≡ cast_signed L.width (L.value a) +ℤ cast_signed L.width (L.value b) }
+{
+    i128::from(a.signed_number()) + i128::from(b.signed_number())
+}
+
+/// The difference of two unsigned numbers.
+fn difference<L: Lane>(a: L, b: L) -> i128
+    ensures { result ≡ pos (L.value a) -ℤ pos (L.value b) }
+{
+    i128::from(a.number()) - i128::from(b.number())
+}
+
+/// The difference of two signed numbers.
+fn signed_difference<L: Lane>(a: L, b: L) -> i128
+    ensures { result ≡ cast_signed L.width (L.value a) -ℤ cast_signed L.width (L.value b) }
+{
+    i128::from(a.signed_number()) - i128::from(b.signed_number())
+}
+
+/// The product of two signed numbers, of twice the width.
+fn signed_product<L: Lane>(a: L, b: L) -> i128
+    ensures { result ≡ cast_signed L.width (L.value a) *ℤ cast_signed L.width (L.value b) }
+{
+    full_signed(a.signed_number(), b.signed_number())
+}
+
+/// The number that an operation has as its result, before it is brought into the width.
+pub(crate) fn exact<L: Lane>(op: FixedPointOp, mode: RoundingMode, a: L, b: L) -> i128
+    ensures { result ≡ exact op mode L.width (L.value a) (L.value b) }
+{
+    match op {
+        FixedPointOp::Vsaddu => sum(a, b),
+        FixedPointOp::Vsadd => signed_sum(a, b),
+        FixedPointOp::Vssubu => difference(a, b),
+        FixedPointOp::Vssub => signed_difference(a, b),
+        FixedPointOp::Vsmul => rounded(mode, L::bits() - 1, signed_product(a, b)),
+        FixedPointOp::Vssrl => rounded_shift::<L, L>(mode, i128::from(a.number()), b),
+        FixedPointOp::Vssra => rounded_shift::<L, L>(mode, i128::from(a.signed_number()), b),
+        FixedPointOp::Vaaddu => rounded(mode, 1, sum(a, b)),
+        FixedPointOp::Vaadd => rounded(mode, 1, signed_sum(a, b)),
+        FixedPointOp::Vasubu => rounded(mode, 1, difference(a, b)),
+        FixedPointOp::Vasub => rounded(mode, 1, signed_difference(a, b)),
+    }
+}

@@ -1,0 +1,15 @@
+//! Kernels of fixed-point operations, generic over the width of an element.
+#![tactic(auto)]
+
+mod clip;
+mod exact;
+mod fixed_point;
+mod rounding;
+mod saturating_results;
+mod saturation;
+#[cfg(test)]
+mod tests;
+
+pub use clip::Clip;
+pub use fixed_point::FixedPoint;
+pub use saturating_results::{Saturated, SaturatingResults, write_saturating_results};

@@ -1,0 +1,13 @@
+//! Kernels of permutations of elements, generic over the width of an element ("V" Vector Extension 1.0,
+//! chapter 16). Slides and gathers are results for `lane_arith::write_results`.
+#![tactic(auto)]
+
+mod gathers;
+mod packing;
+mod slides;
+#[cfg(test)]
+mod tests;
+
+pub use gathers::{Gather, GatherOne};
+pub use packing::compress;
+pub use slides::{SlideDown, SlideOneDown, SlideOneUp, SlideUp};

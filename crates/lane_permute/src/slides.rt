@@ -1,0 +1,103 @@
+//! Slides: elements of a source that move up or down by an offset, or by one place ("V" Vector Extension
+//! 1.0, section 16.3).
+ghost use Rattle.std.specs.Prelude.{◌≡◌, ◌+◌, ◌-◌, ◌*◌, ◌<◌, ◌≤◌, ℕ, length};
+ghost use Rattle.rv_model.specs.elements.Elements.{HasElement, element};
+ghost use Rattle.rv_model.specs.elements.Permutations.{from_offset, slid_down, slid_one_down, slid_one_up, slid_up};
+ghost use Rattle.rv_model.specs.vector.Configuration.{width_bytes};
+
+use crate::gathers::gathered;
+use lane_arith::{Body, Lane, Results};
+
+/// vslideup (section 16.3.1): the elements of `a`, those of vs2, `offset` places up. Below the offset no
+/// element changes: the results are for the elements of `SlideUp::body`. The offset is unsigned, of 64 bits
+/// at every width of an element.
+#[derive(Clone, Copy)]
+pub struct SlideUp<'a> {
+    pub a: &'a [u8],
+    pub offset: u64,
+}
+
+impl<'a> SlideUp<'a> {
+    /// The elements that it works on: those of the instruction's body from the offset on.
+    pub fn body<'b>(&self, body: &'b Body<'_>) -> Body<'b>
+        ensures { result ≡ from_offset body.now self.now.offset }
+    {
+        let start = body.start().max(self.offset as usize);
+        Body::new(body.is_unmasked(), body.mask(), start, body.end())
+    }
+}
+
+impl<'a, L: Lane> Results<L> for SlideUp<'a> {
+    ghost number = { λ r i. slid_up (element (width_bytes L.width) r.a.now) r.offset i };
+
+    ghost has = { λ r i. HasElement (width_bytes L.width) r.a.now (i - r.offset) };
+
+    fn result(&self, index: usize) -> L {
+        L::load(self.a, index.saturating_sub(self.offset as usize))
+    }
+}
+
+/// vslidedown (section 16.3.2): the elements of `a`, those of vs2, `offset` places down. The source has
+/// `limit` elements, which is VLMAX and not `vl`; past them come zeros. The offset is unsigned, of 64 bits at
+/// every width of an element.
+#[derive(Clone, Copy)]
+pub struct SlideDown<'a> {
+    pub a: &'a [u8],
+    pub limit: usize,
+    pub offset: u64,
+}
+
+impl<'a, L: Lane> Results<L> for SlideDown<'a> {
+    ghost number = { λ r i. slid_down r.limit (element (width_bytes L.width) r.a.now) r.offset i };
+
+    ghost has = { λ r i. width_bytes L.width * r.limit ≤ length r.a.now };
+
+    fn result(&self, index: usize) -> L {
+        gathered(self.a, self.limit, self.offset.saturating_add(index as u64))
+    }
+}
+
+/// vslide1up (section 16.3.3): the elements of `a`, those of vs2, one place up, and `first`, the low bits of a
+/// scalar, as element 0.
+#[derive(Clone, Copy)]
+pub struct SlideOneUp<'a, L> {
+    pub a: &'a [u8],
+    pub first: L,
+}
+
+impl<'a, L: Lane> Results<L> for SlideOneUp<'a, L> {
+    ghost number = { λ r i. slid_one_up (L.value r.first) (element (width_bytes L.width) r.a.now) i };
+
+    ghost has = { λ r i. 0 < i → HasElement (width_bytes L.width) r.a.now (i - 1) };
+
+    fn result(&self, index: usize) -> L {
+        if index == 0 {
+            self.first
+        } else {
+            L::load(self.a, index - 1)
+        }
+    }
+}
+
+/// vslide1down (section 16.3.5): the elements of `a`, those of vs2, one place down, and `last`, the low bits of
+/// a scalar, as the last element before `end`, which is `vl`.
+#[derive(Clone, Copy)]
+pub struct SlideOneDown<'a, L> {
+    pub a: &'a [u8],
+    pub end: usize,
+    pub last: L,
+}
+
+impl<'a, L: Lane> Results<L> for SlideOneDown<'a, L> {
+    ghost number = { λ r i. slid_one_down r.end (L.value r.last) (element (width_bytes L.width) r.a.now) i };
+
+    ghost has = { λ r i. (i < r.end) × (i + 1 < r.end → HasElement (width_bytes L.width) r.a.now (i + 1)) };
+
+    fn result(&self, index: usize) -> L {
+        if index == self.end - 1 {
+            self.last
+        } else {
+            L::load(self.a, index + 1)
+        }
+    }
+}

@@ -1,0 +1,10 @@
+//! Kernels of the reductions ("V" Vector Extension 1.0, chapter 14).
+#![tactic(auto)]
+
+mod combine;
+mod operations;
+#[cfg(test)]
+mod tests;
+
+pub use combine::{Combine, reduce};
+pub use operations::{Reduction, WideningReduction};

@@ -1,0 +1,45 @@
+//! The active elements whose bit of a mask is set: how many there are, and the first of them ("V" Vector
+//! Extension 1.0, sections 15.2, 15.3 and 15.8).
+ghost use Rattle.std.specs.Prelude.{◌≡◌, ◌<◌, ◌≤◌, ℕ, slice_index};
+ghost use Rattle.rv_model.specs.elements.Masks.{first_set, is_set, set_count};
+
+use lane_arith::{Body, bit_of};
+use rv_model::{GROUP_BYTES, VLENB};
+
+/// Whether an element is active and its bit is set.
+fn is_set(body: &Body<'_>, bits: &[u8; VLENB], index: usize) -> bool
+    requires count { body.now.end ≤ GROUP_BYTES }
+    requires room { index < GROUP_BYTES }
+    ensures { result ≡ is_set body.now bits.now index }
+{
+    body.is_active(index) && bit_of(bits, index)
+}
+
+/// How many active elements have their bit set (vcpop.m).
+pub fn count(body: &Body<'_>, bits: &[u8; VLENB]) -> usize
+    requires { body.now.end ≤ GROUP_BYTES }
+    ensures { result ≡ set_count body.now bits.now body.now.end }
+{
+    (0..body.end()).filter(|i| is_set(body, bits, *i)).count()
+}
+
+/// The first active element that has its bit set (vfirst.m).
+pub fn first(body: &Body<'_>, bits: &[u8; VLENB]) -> Option<usize>
+    requires { body.now.end ≤ GROUP_BYTES }
+    ensures { result ≡ first_set body.now bits.now }
+{
+    (0..body.end()).find(|i| is_set(body, bits, *i))
+}
+
+/// For each element of the body, and for those before it, how many active elements below it have their
+/// bit set (viota.m). There are at most 255 of them.
+pub fn counts_below(body: &Body<'_>, bits: &[u8; VLENB], counts: &mut [u8; GROUP_BYTES])
+    requires { body.now.end ≤ GROUP_BYTES }
+    ensures { (i : ℕ) → i < body.now.end → slice_index counts.new i ≡ set_count body.now bits.now i }
+{
+    let mut below = 0;
+    for i in 0..body.end() {
+        counts[i] = below as u8;
+        below += usize::from(is_set(body, bits, i));
+    }
+}

@@ -1,0 +1,91 @@
+-- Whether a test holds for some active element, as a loop over the body learns it.
+use Rattle.std.proofs.Common.{ℕ, zero, suc, ◌+◌, ◌-◌, ◌<◌, ◌≤◌, ◌≡◌, Bool, true, false, ◌&&◌, ◌||◌, refl, sym, ap, ◌∙◌, arith, add-one}
+use Rattle.std.specs.List.{list_any, range_with_len}
+use Rattle.rv_model.specs.elements.Elements.{Body, in_body, is_active, is_let, some_active}
+use Rattle.rv_model.proofs.element_lemmas.Sets.{from_start, inside_range, to_end}
+
+-- ---- tests of the first numbers
+
+or_joined : (a b c : Bool) → (a || (b || c)) ≡ ((a || b) || c)
+or_joined true b c = refl
+or_joined false b c = refl
+
+or_last : (a : Bool) → (a || false) ≡ a
+or_last true = refl
+or_last false = refl
+
+-- one more
+any_more : (test : ℕ → Bool) (a n : ℕ) → list_any test (range_with_len a (suc n)) ≡ (list_any test (range_with_len a n) || test (a + n))
+any_more test a zero = let e : a + 0 ≡ a = omega arith in or_last (test a) ∙ ap test (sym e)
+any_more test a (suc n) =
+    let e : a + 1 + n ≡ a + suc n = omega arith in
+    ap (λ t. test a || t) (any_more test (a + 1) n ∙ ap (λ m. list_any test (range_with_len (a + 1) n) || test m) e)
+    ∙ or_joined (test a) (list_any test (range_with_len (a + 1) n)) (test (a + suc n))
+
+-- ---- tests of active elements
+
+module _ (body : Body) (test : ℕ → Bool) where
+  -- whether the test holds for some active element before the index i
+  abbrev pub some_before : ℕ → Bool
+  some_before i = list_any (λ e. is_active body e && test e) (range_with_len 0 i)
+
+  -- one element more
+  some_more : (i : ℕ) → some_before (i + 1) ≡ (some_before i || (is_active body i && test i))
+  some_more i =
+      ap (λ m. list_any (λ e. is_active body e && test e) (range_with_len 0 m)) (add-one i) ∙ any_more (λ e. is_active body e && test e) 0 i
+      ∙ ap (λ m. some_before i || (is_active body m && test m)) (omega arith)
+
+  -- an element that isn't active
+  some_kept : (i : ℕ) → is_active body i ≡ false → some_before (i + 1) ≡ some_before i
+  some_kept i h = some_more i ∙ ap (λ a. some_before i || (a && test i)) h ∙ or_last (some_before i)
+
+  outside : (i : ℕ) → (in_body body i ≡ true → ⊥) → is_active body i ≡ false
+  outside i h = off (in_body body i) h
+    where
+      off : (b : Bool) → (b ≡ true → ⊥) → (b && is_let body i) ≡ false
+      off true h = absurd (h refl)
+      off false h = refl
+
+  -- before the first element of the body
+  pub some_begins : (i : ℕ) → i ≤ body.start → some_before i ≡ false
+  some_begins zero h = refl
+  some_begins (suc i) h =
+      let before : is_active body i ≡ false = outside i (λ b. omega (arith, from_start body.start body.end i b)) in
+      ap some_before (sym (add-one i)) ∙ some_kept i before ∙ some_begins i (omega arith)
+
+  -- at an element of the body
+  pub some_step : (i : ℕ) → body.start ≤ i → i < body.end → is_let body i ≡ true → some_before (i + 1) ≡ (some_before i || test i)
+  some_step i from to h =
+      let inside : in_body body i ≡ true = inside_range body.start body.end i from to in
+      let is : is_active body i ≡ true = rw (inside, h) refl in
+      some_more i ∙ ap (λ a. some_before i || (a && test i)) is
+
+  pub some_off : (i : ℕ) → is_let body i ≡ false → some_before (i + 1) ≡ some_before i
+  some_off i h = some_kept i (off (in_body body i) (is_let body i) h)
+    where
+      off : (b l : Bool) → l ≡ false → (b && l) ≡ false
+      off true l h = h
+      off false l h = refl
+
+  -- after the last
+  past_end : (k : ℕ) → some_before (body.end + k) ≡ some_active body test
+  past_end zero = let e : body.end + 0 ≡ body.end = omega arith in ap some_before e
+  past_end (suc k) =
+      let after : is_active body (body.end + k) ≡ false = outside (body.end + k) (λ b. omega (arith, to_end body.start body.end (body.end + k) b)) in
+      let e : body.end + suc k ≡ body.end + k + 1 = omega arith in
+      ap some_before e ∙ some_kept (body.end + k) after ∙ past_end k
+
+  pub some_ends : (i : ℕ) → body.end ≤ i → some_before i ≡ some_active body test
+  some_ends i h = let e : i ≡ body.end + (i - body.end) = omega arith in ap some_before e ∙ past_end (i - body.end)
+
+-- Tests that say the same of each element of the body are one.
+pub some_same : (body : Body) (told test : ℕ → Bool) → ((i : ℕ) → i < body.end → told i ≡ test i) → some_active body told ≡ some_active body test
+some_same body told test same = upto body.end (λ i h. same i h)
+  where
+    upto : (n : ℕ) → ((i : ℕ) → i < n → told i ≡ test i) → some_before body told n ≡ some_before body test n
+    upto zero h = refl
+    upto (suc n) h =
+        ap (some_before body told) (sym (add-one n)) ∙ some_more body told n
+        ∙ ap (λ t. some_before body told n || (is_active body n && t)) (h n (omega arith))
+        ∙ ap (λ t. t || (is_active body n && test n)) (upto n (λ i l. h i (omega arith)))
+        ∙ sym (ap (some_before body test) (sym (add-one n)) ∙ some_more body test n)

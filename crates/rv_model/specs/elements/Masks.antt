@@ -1,0 +1,57 @@
+-- Mask instructions ("V" Vector Extension 1.0, chapter 15).
+use Rattle.std.specs.Prelude.{ℕ, ◌-◌, ◌^◌, ◌==◌, ◌&&◌, ◌||◌, not, nat_le, nat_lt, Bool, true, false, List, length, Option, Some, None, if◌then◌else◌}
+use Rattle.std.specs.List.{filter, find, range_with_len}
+use Rattle.rv_model.specs.declared.instructions.operations.MaskLogicOp.{MaskLogicOp}
+use Rattle.rv_model.specs.declared.instructions.operations.MaskLogicOp.TheVariants.{Vmandn, Vmand, Vmor, Vmxor, Vmorn, Vmnand, Vmnor, Vmxnor}
+use Rattle.rv_model.specs.declared.instructions.operations.MaskScanOp.{MaskScanOp}
+use Rattle.rv_model.specs.declared.instructions.operations.MaskScanOp.TheVariants.{Vmsbf, Vmsof, Vmsif}
+use Rattle.rv_model.specs.declared.instructions.operations.MaskToScalarOp.{MaskToScalarOp}
+use Rattle.rv_model.specs.declared.instructions.operations.MaskToScalarOp.TheVariants.{Vcpop, Vfirst}
+use Rattle.rv_model.specs.elements.Elements.{Body, is_active, mask_bit}
+
+-- one of two bits, but not both
+abbrev pub exclusive_or : Bool → Bool → Bool
+exclusive_or a b = if a then not b else b
+
+-- logic on two masks; a is the bit of vs2, b that of vs1
+abbrev pub mask_logic_formula : MaskLogicOp → Bool → Bool → Bool
+mask_logic_formula Vmandn a b = a && not b
+mask_logic_formula Vmand a b = a && b
+mask_logic_formula Vmor a b = a || b
+mask_logic_formula Vmxor a b = exclusive_or a b
+mask_logic_formula Vmorn a b = a || not b
+mask_logic_formula Vmnand a b = not (a && b)
+mask_logic_formula Vmnor a b = not (a || b)
+mask_logic_formula Vmxnor a b = not (exclusive_or a b)
+
+-- the active elements whose bit is set
+abbrev pub is_set : Body → List ℕ → ℕ → Bool
+is_set body bits i = is_active body i && mask_bit bits i
+
+-- how many of them are below an index
+abbrev pub set_count : Body → List ℕ → ℕ → ℕ
+set_count body bits n = length (filter (is_set body bits) (range_with_len 0 n))
+
+-- the first of them
+abbrev pub first_set : Body → List ℕ → Option ℕ
+first_set body bits = find (is_set body bits) (range_with_len 0 body.end)
+
+-- an index, or -1 in 64 bits
+abbrev pub index_or_minus_one : Option ℕ → ℕ
+index_or_minus_one None = 2 ^ 64 - 1
+index_or_minus_one (Some i) = i
+
+-- what a scalar register takes
+abbrev pub mask_to_scalar_formula : MaskToScalarOp → Body → List ℕ → ℕ
+mask_to_scalar_formula Vcpop body bits = set_count body bits body.end
+mask_to_scalar_formula Vfirst body bits = index_or_minus_one (first_set body bits)
+
+-- whether the bit at an index is set: those before the first one, those up to it, or it alone. Where there is none, each
+-- bit is before it.
+abbrev pub mask_scan_formula : MaskScanOp → Option ℕ → ℕ → Bool
+mask_scan_formula Vmsbf None i = true
+mask_scan_formula Vmsbf (Some first) i = nat_lt i first
+mask_scan_formula Vmsif None i = true
+mask_scan_formula Vmsif (Some first) i = nat_le i first
+mask_scan_formula Vmsof None i = false
+mask_scan_formula Vmsof (Some first) i = i == first

@@ -1,0 +1,42 @@
+-- Reductions ("V" Vector Extension 1.0, chapter 14): a first number, combined with each active element in turn.
+use Rattle.std.specs.Prelude.{ℕ, List, map}
+use Rattle.std.specs.Int.{Width}
+use Rattle.std.specs.List.{filter, fold, range_with_len}
+use Rattle.rv_model.specs.declared.instructions.operations.BinaryOp.{BinaryOp}
+use Rattle.rv_model.specs.declared.instructions.operations.BinaryOp.TheVariants.{Vadd, Vand, Vor, Vxor, Vminu, Vmin, Vmaxu, Vmax}
+use Rattle.rv_model.specs.declared.instructions.operations.ReduceOp.{ReduceOp}
+use Rattle.rv_model.specs.declared.instructions.operations.ReduceOp.TheVariants.{Vredsum, Vredand, Vredor, Vredxor, Vredminu, Vredmin, Vredmaxu, Vredmax}
+use Rattle.rv_model.specs.declared.instructions.operations.WideSourceOp.{WideSourceOp}
+use Rattle.rv_model.specs.declared.instructions.operations.WideSourceOp.TheVariants.{Vwaddu, Vwadd}
+use Rattle.rv_model.specs.declared.instructions.operations.WidenReduceOp.{WidenReduceOp}
+use Rattle.rv_model.specs.declared.instructions.operations.WidenReduceOp.TheVariants.{Vwredsumu, Vwredsum}
+use Rattle.rv_model.specs.elements.Elements.{Body, is_active}
+use Rattle.rv_model.specs.elements.Formulas.{formula, wide_source_formula, wrap}
+
+-- the operation by which a reduction combines
+abbrev pub combining : ReduceOp → BinaryOp
+combining Vredsum = Vadd
+combining Vredand = Vand
+combining Vredor = Vor
+combining Vredxor = Vxor
+combining Vredminu = Vminu
+combining Vredmin = Vmin
+combining Vredmaxu = Vmaxu
+combining Vredmax = Vmax
+
+-- the operation by which a reduction to twice the width combines
+abbrev pub widening_combining : WidenReduceOp → WideSourceOp
+widening_combining Vwredsumu = Vwaddu
+widening_combining Vwredsum = Vwadd
+
+-- the numbers of the active elements, in their order
+abbrev pub active_numbers : Body → (ℕ → ℕ) → List ℕ
+active_numbers body number = map number (filter (is_active body) (range_with_len 0 body.end))
+
+-- a number of the width w, combined with numbers of that width
+abbrev pub reduced : ReduceOp → Width → ℕ → List ℕ → ℕ
+reduced op w first numbers = fold (λ x a. wrap w (formula (combining op) w x a)) first numbers
+
+-- a number of the width v, combined with numbers of the width w
+abbrev pub wide_reduced : WidenReduceOp → Width → Width → ℕ → List ℕ → ℕ
+wide_reduced op v w first numbers = fold (λ x a. wrap v (wide_source_formula (widening_combining op) v w x a)) first numbers

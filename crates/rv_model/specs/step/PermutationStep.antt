@@ -1,0 +1,47 @@
+-- The vector registers after a permutation ("V" Vector Extension 1.0, chapter 16).
+use Rattle.std.specs.Prelude.{ℕ, ◌%◌, ◌^◌, Bool, true, false, List}
+use Rattle.rv_model.specs.declared.instructions.operations.PermuteOp.{PermuteOp}
+use Rattle.rv_model.specs.declared.instructions.operations.RegisterCount.{RegisterCount}
+use Rattle.rv_model.specs.declared.instructions.source.Source.{Source}
+use Rattle.rv_model.specs.declared.vector.state.VState.{VState}
+use Rattle.rv_model.specs.declared.vector.types.VType.{VType}
+use Rattle.rv_model.specs.elements.Arithmetic.{GroupType, body_of, fills_masked_off, fills_tail, group_element, group_type, single_type, with_results}
+use Rattle.rv_model.specs.elements.Elements.{Body, first_alone}
+use Rattle.rv_model.specs.elements.PermutationResults.{element_count, permute_body, permute_result, whole_type, with_packed}
+use Rattle.rv_model.specs.elements.Permutations.{packed}
+use Rattle.rv_model.specs.scalar.Registers.{read_register}
+use Rattle.rv_model.specs.step.Hart.{HartState}
+use Rattle.rv_model.specs.vector.Configuration.{sew_bits, sew_width}
+use Rattle.rv_model.specs.vector.Registers.{register_of}
+
+-- slides and gathers. The tail is filled as of any instruction, also where a slide's offset is past the body.
+abbrev pub permuted : VType → PermuteOp → Source → ℕ → ℕ → Bool → HartState → List ℕ
+permuted t op source vd vs2 unmasked s =
+    let body = body_of unmasked s.vector in
+    with_results (group_type t) vd (permute_body op source s.scalar body) (fills_masked_off s.policy t body)
+    (fills_tail s.policy t body) (permute_result (group_type t) op body.end vs2 source s.vector.file s.scalar) s.vector.file
+
+-- vcompress; the bits of vs1 say which elements are packed
+abbrev pub compressed : VType → ℕ → ℕ → ℕ → HartState → List ℕ
+compressed t vd vs1 vs2 s =
+    let body = body_of true s.vector in
+    let file = s.vector.file in
+    with_packed (group_type t) vd body.end (fills_tail s.policy t body)
+    (packed (register_of file vs1) (group_element (group_type t) file vs2) body.end) file
+
+-- vmv.s.x: element 0 alone takes the low bits of x[rs1], whatever LMUL is, and the tail begins with element 1 (section 16.1)
+abbrev pub moved_to_vector : VType → ℕ → ℕ → HartState → List ℕ
+moved_to_vector t vd rs1 s =
+    let body = body_of true s.vector in
+    with_results (single_type (sew_width t.sew)) vd (first_alone body) false (fills_tail s.policy t body)
+    (λ i. read_register s.scalar rs1 % 2 ^ sew_bits t.sew) s.vector.file
+
+-- the elements of whole registers from vstart on, whatever vl is
+abbrev pub whole_body : GroupType → VState → Body
+whole_body g v = record { unmasked = true; mask = register_of v.file 0; start = v.vstart; end = element_count g }
+
+-- vmv1r.v and the like, which have no tail (section 16.6)
+abbrev pub whole_moved : VType → RegisterCount → ℕ → ℕ → HartState → List ℕ
+whole_moved t count vd vs2 s =
+    let g = whole_type t count in
+    with_results g vd (whole_body g s.vector) false false (group_element g s.vector.file vs2) s.vector.file

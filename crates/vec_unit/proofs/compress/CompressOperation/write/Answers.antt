@@ -1,0 +1,25 @@
+use Rattle.std.proofs.Common.{ℕ, List, ◌≡◌, ◌∙◌, ap, Bool}
+use Rattle.rv_model.specs.elements.Arithmetic.{GroupType, group_element}
+use Rattle.rv_model.specs.elements.Elements.{element}
+use Rattle.rv_model.specs.elements.PermutationResults.{with_packed}
+use Rattle.rv_model.specs.elements.Permutations.{packed}
+use Rattle.rv_model.specs.vector.Configuration.{width_bytes}
+use Rattle.rv_model.specs.vector.Registers.{register_of}
+use Rattle.rv_model.proofs.element_lemmas.Packed.{packed_are}
+use Rattle.vec_unit.proofs.compress.CompressOperation.write.Goals as goal
+
+pub returns : goal.returns
+returns g c =
+    let t : GroupType = record { width = g.L.Lane.width; emul = c.args.destination.emul } in
+    let k : ℕ = width_bytes g.L.Lane.width in
+    let o = c.args.self.now in
+    let file = c.args.file.now in
+    let vd : ℕ = c.args.destination.vd in
+    let fill_tail : Bool = c.args.destination.agnostic.fill_tail in
+    let numbers : List ℕ = packed c.register_copy-select.result (element k c.group_copy-a.result.now) c.args.end in
+    let same : numbers ≡ packed (register_of file o.vs1) (group_element t file o.vs2) c.args.end =
+    ap (λ (select : List ℕ). packed select (element k c.group_copy-a.result.now) c.args.end) c.register_copy-select.ensures
+    ∙ ap (λ (bytes : List ℕ). packed (register_of file o.vs1) (element k bytes) c.args.end) c.group_copy-a.ensures.value in
+    packed_are t vd c.args.end fill_tail numbers file c.compress_filled.new.destination
+    (rw (← c.group_mut-group.ensures.value) c.compress_filled.ensures)
+    ∙ ap (λ (l : List ℕ). with_packed t vd c.args.end fill_tail l file) same

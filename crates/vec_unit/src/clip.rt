@@ -1,0 +1,133 @@
+//! Clips of a source of twice the width, carried out ("V" Vector Extension 1.0, section 12.5).
+ghost use Rattle.std.specs.Prelude.{◌≡◌, ◌*◌, ◌≤◌, ◌||◌};
+ghost use Rattle.rv_model.specs.elements.Arithmetic.{body_of, clip_result, clip_saturates_at, fills_masked_off, fills_tail, group_type, wide_type, with_results};
+ghost use Rattle.rv_model.specs.elements.Elements.{some_active};
+ghost use Rattle.rv_model.specs.legality.GroupBounds.{HasRoom, HoldsBody, IsInside, SourceIsInside};
+ghost use Rattle.rv_model.specs.vector.Configuration.{lmul_eighths, sew_bits, vlmax};
+
+use crate::body::body_under;
+use crate::destination::{Destination, Target, agnostic_under};
+use crate::operands::{group_copy, mask_register, second_copy};
+use crate::saturating::write_saturating_group;
+use lane_arith::{Body, Lane};
+use lane_fixed::Clip;
+use reg_groups::registers;
+use rv_model::instructions::operations::ClipOp;
+use rv_model::{GROUP_BYTES, RoundingMode, Scalar, Sew, Source, VFile, VLENB, VReg, VState};
+use std::marker::PhantomData;
+
+/// A clip, how it rounds, and its sources.
+#[derive(Clone, Copy)]
+struct ClipOperation {
+    op: ClipOp,
+    mode: RoundingMode,
+    vs2: VReg,
+    source: Source,
+}
+
+impl ClipOperation {
+    /// Writes the results to a destination of elements of the width of `N`, and says whether an active element
+    /// saturates; `W` is twice that width, and `wide` the multiplier of the groups of `vs2`.
+    fn write<N: Lane, W: Lane>(
+        &self,
+        destination: Destination,
+        wide: u32,
+        body: &Body<'_>,
+        file: &mut VFile,
+        scalar: &Scalar,
+    ) -> bool
+        requires first { IsInside self.now.vs2 wide }
+        requires second { SourceIsInside self.now.source destination.emul }
+        requires destination { IsInside destination.vd destination.emul }
+        requires holds { HoldsBody N.width destination.emul destination.count body.now.end }
+        requires room { HasRoom W.width wide body.now.end }
+        ensures file { file.new ≡ with_results (record { width = N.width; emul = destination.emul }) destination.vd
+            body.now destination.agnostic.fill_masked_off destination.agnostic.fill_tail
+            (clip_result (record { width = N.width; emul = destination.emul }) (record { width = W.width; emul = wide })
+            self.now.mode self.now.op self.now.vs2 self.now.source file.old scalar.now) file.old }
+        ensures saturated { result ≡ some_active body.now
+            (clip_saturates_at (record { width = N.width; emul = destination.emul })
+            (record { width = W.width; emul = wide }) self.now.mode self.now.op self.now.vs2 self.now.source file.old
+            scalar.now) }
+    {
+        let (mut first, mut second) = ([0; GROUP_BYTES], [0; GROUP_BYTES]);
+        let emul = destination.emul;
+        let a = group_copy(file, self.vs2, wide, &mut first);
+        let b = second_copy::<N>(
+            true,
+            self.source,
+            emul,
+            body.end(),
+            file,
+            scalar,
+            &mut second,
+        );
+        let results = Clip::<'_, W> {
+            op: self.op,
+            mode: self.mode,
+            a,
+            b,
+            element: PhantomData,
+        };
+        write_saturating_group::<N, Clip<'_, W>>(&results, destination, body, file)
+    }
+}
+
+/// Carries out a clip to the width of the vector type, and sets `vxsat` where an active element saturates. The
+/// next instruction begins with the first element.
+#[tactic(auto, using(rv_model::proofs::legality_lemmas::Bounds::groups_hold_body, rv_model::proofs::legality_lemmas::Bounds::wide_groups_have_room))]
+pub(crate) fn carry_out_clip(
+    op: ClipOp,
+    vs2: VReg,
+    source: Source,
+    target: Target,
+    state: &mut VState,
+    scalar: &Scalar,
+)
+    requires first { IsInside vs2 (2 * lmul_eighths target.vtype.lmul) }
+    requires second { SourceIsInside source (lmul_eighths target.vtype.lmul) }
+    requires destination { IsInside target.vd (lmul_eighths target.vtype.lmul) }
+    requires narrow { sew_bits target.vtype.sew ≤ 32 }
+    requires most { 2 * lmul_eighths target.vtype.lmul ≤ 64 }
+    requires length { state.old.conf.vl ≤ vlmax target.vtype }
+    ensures { state.new ≡ record state.old {
+      file =
+          with_results (group_type target.vtype) target.vd (body_of target.unmasked state.old)
+          (fills_masked_off target.policy target.vtype (body_of target.unmasked state.old))
+          (fills_tail target.policy target.vtype (body_of target.unmasked state.old))
+          (clip_result (group_type target.vtype) (wide_type target.vtype) state.old.vxrm op vs2 source state.old.file scalar.now)
+          state.old.file;
+      vxsat = state.old.vxsat || some_active (body_of target.unmasked state.old)
+          (clip_saturates_at (group_type target.vtype) (wide_type target.vtype) state.old.vxrm op vs2 source state.old.file
+          scalar.now);
+      vstart = 0;
+    } }
+{
+    let mask = mask_register(&state.file);
+    let body = body_under(target.unmasked, &mask, state);
+    let emul = u32::from(target.vtype.lmul.eighths());
+    let wide = 2 * emul;
+    let length = VLENB * registers(emul) as usize;
+    let agnostic = agnostic_under(target.policy, target.vtype, &body);
+    let operation = ClipOperation {
+        op,
+        mode: state.vxrm,
+        vs2,
+        source,
+    };
+    let file = &mut state.file;
+    let destination = |count| Destination {
+        vd: target.vd,
+        emul,
+        count,
+        agnostic,
+    };
+    let saturated = match target.vtype.sew {
+        Sew::E8 => operation.write::<u8, u16>(destination(length), wide, &body, file, scalar),
+        Sew::E16 => operation.write::<u16, u32>(destination(length / 2), wide, &body, file, scalar),
+        Sew::E32 => operation.write::<u32, u64>(destination(length / 4), wide, &body, file, scalar),
+        Sew::E64 => unreachable!(),
+    };
+    state.vxsat = state.vxsat || saturated;
+    state.vstart = 0;
+}

@@ -1,0 +1,131 @@
+//! Fixed-point operations of one width, carried out ("V" Vector Extension 1.0, chapter 12).
+ghost use Rattle.std.specs.Prelude.{◌≡◌, ◌≤◌, ◌||◌};
+ghost use Rattle.rv_model.specs.elements.Arithmetic.{body_of, fills_masked_off, fills_tail, fixed_point_result, group_type, saturates_at, with_results};
+ghost use Rattle.rv_model.specs.elements.Elements.{some_active};
+ghost use Rattle.rv_model.specs.elements.FixedPoint.{has_unsigned_shift};
+ghost use Rattle.rv_model.specs.legality.GroupBounds.{HoldsBody, IsInside, SourceIsInside};
+ghost use Rattle.rv_model.specs.vector.Configuration.{lmul_eighths, vlmax};
+
+use crate::body::body_under;
+use crate::destination::{Destination, Target, agnostic_under};
+use crate::operands::{group_copy, mask_register, second_copy};
+use crate::saturating::write_saturating_group;
+use lane_arith::{Body, Lane};
+use lane_fixed::FixedPoint;
+use reg_groups::registers;
+use rv_model::instructions::operations::FixedPointOp;
+use rv_model::{GROUP_BYTES, RoundingMode, Scalar, Sew, Source, VFile, VLENB, VReg, VState};
+
+/// An operation, how it rounds, and its sources.
+#[derive(Clone, Copy)]
+struct FixedPointOperation {
+    op: FixedPointOp,
+    mode: RoundingMode,
+    vs2: VReg,
+    source: Source,
+}
+
+/// Whether the immediate of an operation is unsigned.
+fn has_unsigned_shift(op: FixedPointOp) -> bool
+    ensures { result ≡ has_unsigned_shift op }
+{
+    matches!(op, FixedPointOp::Vssrl | FixedPointOp::Vssra)
+}
+
+impl FixedPointOperation {
+    /// Writes the results to a destination, and says whether an active element saturates.
+    fn write<L: Lane>(
+        &self,
+        destination: Destination,
+        body: &Body<'_>,
+        file: &mut VFile,
+        scalar: &Scalar,
+    ) -> bool
+        requires first { IsInside self.now.vs2 destination.emul }
+        requires second { SourceIsInside self.now.source destination.emul }
+        requires destination { IsInside destination.vd destination.emul }
+        requires holds { HoldsBody L.width destination.emul destination.count body.now.end }
+        ensures file { file.new ≡ with_results (record { width = L.width; emul = destination.emul }) destination.vd
+            body.now destination.agnostic.fill_masked_off destination.agnostic.fill_tail
+            (fixed_point_result (record { width = L.width; emul = destination.emul }) self.now.mode self.now.op
+            self.now.vs2 self.now.source file.old scalar.now) file.old }
+        ensures saturated { result ≡ some_active body.now
+            (saturates_at (record { width = L.width; emul = destination.emul }) self.now.mode self.now.op self.now.vs2
+            self.now.source file.old scalar.now) }
+    {
+        let (mut first, mut second) = ([0; GROUP_BYTES], [0; GROUP_BYTES]);
+        let emul = destination.emul;
+        let unsigned = has_unsigned_shift(self.op);
+        let a = group_copy(file, self.vs2, emul, &mut first);
+        let b = second_copy::<L>(
+            unsigned,
+            self.source,
+            emul,
+            body.end(),
+            file,
+            scalar,
+            &mut second,
+        );
+        let results = FixedPoint {
+            op: self.op,
+            mode: self.mode,
+            a,
+            b,
+        };
+        write_saturating_group::<L, FixedPoint<'_>>(&results, destination, body, file)
+    }
+}
+
+/// Carries out an operation on groups of the vector type, and sets `vxsat` where an active element saturates.
+/// The next instruction begins with the first element.
+#[tactic(auto, using(rv_model::proofs::legality_lemmas::Bounds::groups_hold_body))]
+pub(crate) fn carry_out_fixed_point(
+    op: FixedPointOp,
+    vs2: VReg,
+    source: Source,
+    target: Target,
+    state: &mut VState,
+    scalar: &Scalar,
+)
+    requires first { IsInside vs2 (lmul_eighths target.vtype.lmul) }
+    requires second { SourceIsInside source (lmul_eighths target.vtype.lmul) }
+    requires destination { IsInside target.vd (lmul_eighths target.vtype.lmul) }
+    requires length { state.old.conf.vl ≤ vlmax target.vtype }
+    ensures { state.new ≡ record state.old {
+      file =
+          with_results (group_type target.vtype) target.vd (body_of target.unmasked state.old)
+          (fills_masked_off target.policy target.vtype (body_of target.unmasked state.old))
+          (fills_tail target.policy target.vtype (body_of target.unmasked state.old))
+          (fixed_point_result (group_type target.vtype) state.old.vxrm op vs2 source state.old.file scalar.now) state.old.file;
+      vxsat = state.old.vxsat || some_active (body_of target.unmasked state.old)
+          (saturates_at (group_type target.vtype) state.old.vxrm op vs2 source state.old.file scalar.now);
+      vstart = 0;
+    } }
+{
+    let mask = mask_register(&state.file);
+    let body = body_under(target.unmasked, &mask, state);
+    let emul = u32::from(target.vtype.lmul.eighths());
+    let length = VLENB * registers(emul) as usize;
+    let agnostic = agnostic_under(target.policy, target.vtype, &body);
+    let operation = FixedPointOperation {
+        op,
+        mode: state.vxrm,
+        vs2,
+        source,
+    };
+    let file = &mut state.file;
+    let destination = |count| Destination {
+        vd: target.vd,
+        emul,
+        count,
+        agnostic,
+    };
+    let saturated = match target.vtype.sew {
+        Sew::E8 => operation.write::<u8>(destination(length), &body, file, scalar),
+        Sew::E16 => operation.write::<u16>(destination(length / 2), &body, file, scalar),
+        Sew::E32 => operation.write::<u32>(destination(length / 4), &body, file, scalar),
+        Sew::E64 => operation.write::<u64>(destination(length / 8), &body, file, scalar),
+    };
+    state.vxsat = state.vxsat || saturated;
+    state.vstart = 0;
+}

@@ -1,0 +1,137 @@
+//! Mask instructions, carried out ("V" Vector Extension 1.0, chapter 15).
+ghost use Rattle.std.specs.Prelude.{◌≡◌, ◌%◌, ◌^◌, ◌<◌, ◌≤◌, ⊤, ℕ, slice_index, true};
+ghost use Rattle.rv_model.specs.elements.Arithmetic.{body_of, index_result, mask_logic_result, with_mask_results};
+ghost use Rattle.rv_model.specs.elements.Masks.{first_set, mask_scan_formula, mask_to_scalar_formula, set_count};
+ghost use Rattle.rv_model.specs.vector.Registers.{register_of};
+ghost use mir.Val.{bits};
+
+use crate::body::body_under;
+use crate::destination::{Destination, write_group, write_mask};
+use crate::element_wise::ElementWise;
+use crate::operands::{mask_register, register_copy};
+use lane_arith::{Body, Lane};
+use mask_unit::{Index, Iota, MaskLogic, MaskScan, count, counts_below, first};
+use rv_model::instructions::operations::{MaskLogicOp, MaskScanOp, MaskToScalarOp};
+use rv_model::{GROUP_BYTES, Scalar, VFile, VReg, VState};
+
+/// Carries out logic on two masks. The next instruction begins with the first element.
+pub(crate) fn carry_out_logic(op: MaskLogicOp, vd: VReg, vs1: VReg, vs2: VReg, state: &mut VState)
+    requires length { state.old.conf.vl ≤ GROUP_BYTES }
+    ensures { state.new ≡ record state.old {
+      file =
+          with_mask_results vd (body_of true state.old) (mask_logic_result op vs1 vs2 state.old.file) state.old.file;
+      vstart = 0;
+    } }
+{
+    let mask = mask_register(&state.file);
+    let body = body_under(true, &mask, state);
+    let (a, b) = (
+        register_copy(&state.file, vs2),
+        register_copy(&state.file, vs1),
+    );
+    let results = MaskLogic { op, a: &a, b: &b };
+    write_mask::<u8, MaskLogic<'_>>(&results, vd, &body, &mut state.file);
+    state.vstart = 0;
+}
+
+/// Sets bits by the first active bit of `vs2` that is set. The next instruction begins with the first element.
+pub(crate) fn carry_out_scan(
+    op: MaskScanOp,
+    vd: VReg,
+    vs2: VReg,
+    unmasked: bool,
+    state: &mut VState,
+)
+    requires length { state.old.conf.vl ≤ GROUP_BYTES }
+    ensures { state.new ≡ record state.old {
+      file =
+          with_mask_results vd (body_of unmasked state.old)
+          (mask_scan_formula op (first_set (body_of unmasked state.old) (register_of state.old.file vs2))) state.old.file;
+      vstart = 0;
+    } }
+{
+    let mask = mask_register(&state.file);
+    let body = body_under(unmasked, &mask, state);
+    let bits = register_copy(&state.file, vs2);
+    let results = MaskScan {
+        op,
+        first: first(&body, &bits),
+    };
+    write_mask::<u8, MaskScan>(&results, vd, &body, &mut state.file);
+    state.vstart = 0;
+}
+
+/// What a scalar register takes: how many active bits of `vs2` are set, or the index of the first, or -1.
+pub(crate) fn scalar_of_mask(op: MaskToScalarOp, vs2: VReg, unmasked: bool, state: &VState) -> u64
+    requires length { state.now.conf.vl ≤ GROUP_BYTES }
+    ensures { result ≡ mask_to_scalar_formula op (body_of unmasked state.now) (register_of state.now.file vs2) }
+{
+    let mask = mask_register(&state.file);
+    let body = body_under(unmasked, &mask, state);
+    let bits = register_copy(&state.file, vs2);
+    match op {
+        MaskToScalarOp::Vcpop => count(&body, &bits) as u64,
+        MaskToScalarOp::Vfirst => match first(&body, &bits) {
+            Some(index) => index as u64,
+            None => u64::MAX,
+        },
+    }
+}
+
+/// For each element, how many active bits of `vs2` below it are set.
+pub(crate) fn counts_of_mask(vs2: VReg, unmasked: bool, state: &VState) -> [u8; GROUP_BYTES]
+    requires length { state.now.conf.vl ≤ GROUP_BYTES }
+    ensures { (i : ℕ) → i < state.now.conf.vl
+        → slice_index result i ≡ set_count (body_of unmasked state.now) (register_of state.now.file vs2) i }
+{
+    let mask = mask_register(&state.file);
+    let body = body_under(unmasked, &mask, state);
+    let mut counts = [0; GROUP_BYTES];
+    counts_below(&body, &register_copy(&state.file, vs2), &mut counts);
+    counts
+}
+
+/// The counts of bits below each element, as elements.
+#[derive(Clone, Copy)]
+pub(crate) struct IotaOperation<'a> {
+    pub counts: &'a [u8; GROUP_BYTES],
+}
+
+impl<'a> ElementWise for IotaOperation<'a> {
+    ghost number = { λ o g file x i. slice_index o.counts.now i % 2 ^ bits g.width };
+
+    ghost inside = { λ o emul. ⊤ };
+
+    fn write<L: Lane>(
+        &self,
+        destination: Destination,
+        body: &Body<'_>,
+        file: &mut VFile,
+        scalar: &Scalar,
+    ) {
+        let results = Iota {
+            counts: self.counts,
+        };
+        write_group::<L, Iota<'_>>(&results, destination, body, file);
+    }
+}
+
+/// The indices of the elements.
+#[derive(Clone, Copy)]
+pub(crate) struct IndexOperation;
+
+impl ElementWise for IndexOperation {
+    ghost number = { λ o g file x. index_result g };
+
+    ghost inside = { λ o emul. ⊤ };
+
+    fn write<L: Lane>(
+        &self,
+        destination: Destination,
+        body: &Body<'_>,
+        file: &mut VFile,
+        scalar: &Scalar,
+    ) {
+        write_group::<L, Index>(&Index, destination, body, file);
+    }
+}

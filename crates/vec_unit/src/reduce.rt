@@ -1,0 +1,176 @@
+//! Reductions, carried out ("V" Vector Extension 1.0, chapter 14).
+ghost use Rattle.std.specs.Prelude.{◌≡◌, ◌*◌, ◌≤◌, false};
+ghost use Rattle.rv_model.specs.elements.Arithmetic.{body_of, fills_tail, group_type, reduce_result, single_type, wide_type, widen_reduce_result, with_results};
+ghost use Rattle.rv_model.specs.elements.Elements.{first_alone};
+ghost use Rattle.rv_model.specs.legality.GroupBounds.{HasRoom, IsInside, SourceIsInside};
+ghost use Rattle.rv_model.specs.vector.Configuration.{lmul_eighths, sew_bits, vlmax, width_bytes};
+
+use crate::body::body_under;
+use crate::destination::{Target, agnostic_under};
+use crate::first_element::{Register, write_first};
+use crate::operands::{group_copy, mask_register, second_copy};
+use lane_arith::{Body, Lane};
+use lane_reduce::{Reduction, WideningReduction, reduce};
+use rv_model::instructions::operations::{ReduceOp, WidenReduceOp};
+use rv_model::{GROUP_BYTES, Scalar, Sew, Source, VFile, VLENB, VReg, VState};
+
+/// A reduction and its sources.
+#[derive(Clone, Copy)]
+struct ReduceOperation {
+    op: ReduceOp,
+    vs2: VReg,
+    source: Source,
+}
+
+impl ReduceOperation {
+    /// Writes the result to element 0 of a register; `emul` is the multiplier of `vs2`.
+    fn write<L: Lane>(
+        &self,
+        register: Register,
+        emul: u32,
+        body: &Body<'_>,
+        file: &mut VFile,
+        scalar: &Scalar,
+    )
+        requires first { IsInside self.now.vs2 emul }
+        requires second { SourceIsInside self.now.source 8 }
+        requires room { HasRoom L.width emul body.now.end }
+        requires least { body.now.end ≤ GROUP_BYTES }
+        requires whole { VLENB ≡ width_bytes L.width * register.count }
+        ensures { file.new ≡ with_results (single_type L.width) register.vd (first_alone body.now) false register.fill_tail
+            (λ i. reduce_result (record { width = L.width; emul = emul }) self.now.op body.now self.now.vs2 self.now.source
+            file.old scalar.now) file.old }
+    {
+        let (mut first, mut second) = ([0; GROUP_BYTES], [0; GROUP_BYTES]);
+        let a = group_copy(file, self.vs2, emul, &mut first);
+        let b = second_copy::<L>(false, self.source, 8, 1, file, scalar, &mut second);
+        let number = reduce::<L, L, Reduction>(&Reduction { op: self.op }, L::load(b, 0), a, body);
+        write_first(number, register, body, file);
+    }
+}
+
+/// Carries out a reduction of a group of the vector type. The next instruction begins with the first element.
+#[tactic(auto, using(rv_model::proofs::legality_lemmas::Bounds::groups_have_room, rv_model::proofs::legality_lemmas::Bounds::length_below))]
+pub(crate) fn carry_out_reduction(
+    op: ReduceOp,
+    vs2: VReg,
+    source: Source,
+    target: Target,
+    state: &mut VState,
+    scalar: &Scalar,
+)
+    requires first { IsInside vs2 (lmul_eighths target.vtype.lmul) }
+    requires second { SourceIsInside source 8 }
+    requires length { state.old.conf.vl ≤ vlmax target.vtype }
+    ensures { state.new ≡ record state.old {
+      file =
+          with_results (single_type (group_type target.vtype).width) target.vd
+          (first_alone (body_of target.unmasked state.old)) false
+          (fills_tail target.policy target.vtype (body_of target.unmasked state.old))
+          (λ i. reduce_result (group_type target.vtype) op (body_of target.unmasked state.old) vs2 source state.old.file
+          scalar.now) state.old.file;
+      vstart = 0;
+    } }
+{
+    let mask = mask_register(&state.file);
+    let body = body_under(target.unmasked, &mask, state);
+    let emul = u32::from(target.vtype.lmul.eighths());
+    let fill_tail = agnostic_under(target.policy, target.vtype, &body).fill_tail;
+    let operation = ReduceOperation { op, vs2, source };
+    let file = &mut state.file;
+    let register = |count| Register {
+        vd: target.vd,
+        count,
+        fill_tail,
+    };
+    match target.vtype.sew {
+        Sew::E8 => operation.write::<u8>(register(VLENB), emul, &body, file, scalar),
+        Sew::E16 => operation.write::<u16>(register(VLENB / 2), emul, &body, file, scalar),
+        Sew::E32 => operation.write::<u32>(register(VLENB / 4), emul, &body, file, scalar),
+        Sew::E64 => operation.write::<u64>(register(VLENB / 8), emul, &body, file, scalar),
+    }
+    state.vstart = 0;
+}
+
+/// A reduction to twice the width, and its sources.
+#[derive(Clone, Copy)]
+struct WidenReduceOperation {
+    op: WidenReduceOp,
+    vs2: VReg,
+    source: Source,
+}
+
+impl WidenReduceOperation {
+    /// Writes the result to element 0 of a register of elements of the width of `W`; `emul` is the multiplier
+    /// of `vs2`, whose elements have the width of `N`.
+    fn write<N: Lane, W: Lane>(
+        &self,
+        register: Register,
+        emul: u32,
+        body: &Body<'_>,
+        file: &mut VFile,
+        scalar: &Scalar,
+    )
+        requires first { IsInside self.now.vs2 emul }
+        requires second { SourceIsInside self.now.source 8 }
+        requires room { HasRoom N.width emul body.now.end }
+        requires least { body.now.end ≤ GROUP_BYTES }
+        requires whole { VLENB ≡ width_bytes W.width * register.count }
+        ensures { file.new ≡ with_results (single_type W.width) register.vd (first_alone body.now) false register.fill_tail
+            (λ i. widen_reduce_result (record { width = N.width; emul = emul })
+            (record { width = W.width; emul = 2 * emul }) self.now.op body.now self.now.vs2 self.now.source file.old scalar.now)
+            file.old }
+    {
+        let (mut first, mut second) = ([0; GROUP_BYTES], [0; GROUP_BYTES]);
+        let a = group_copy(file, self.vs2, emul, &mut first);
+        let b = second_copy::<W>(false, self.source, 8, 1, file, scalar, &mut second);
+        let combine = WideningReduction { op: self.op };
+        let number = reduce::<N, W, WideningReduction>(&combine, W::load(b, 0), a, body);
+        write_first(number, register, body, file);
+    }
+}
+
+/// Carries out a reduction of a group of the vector type to twice its width. The next instruction begins with
+/// the first element.
+#[tactic(auto, using(rv_model::proofs::legality_lemmas::Bounds::groups_have_room, rv_model::proofs::legality_lemmas::Bounds::length_below))]
+pub(crate) fn carry_out_widening_reduction(
+    op: WidenReduceOp,
+    vs2: VReg,
+    source: Source,
+    target: Target,
+    state: &mut VState,
+    scalar: &Scalar,
+)
+    requires first { IsInside vs2 (lmul_eighths target.vtype.lmul) }
+    requires second { SourceIsInside source 8 }
+    requires narrow { sew_bits target.vtype.sew ≤ 32 }
+    requires length { state.old.conf.vl ≤ vlmax target.vtype }
+    ensures { state.new ≡ record state.old {
+      file =
+          with_results (single_type (wide_type target.vtype).width) target.vd
+          (first_alone (body_of target.unmasked state.old)) false
+          (fills_tail target.policy target.vtype (body_of target.unmasked state.old))
+          (λ i. widen_reduce_result (group_type target.vtype) (wide_type target.vtype) op
+          (body_of target.unmasked state.old) vs2 source state.old.file scalar.now) state.old.file;
+      vstart = 0;
+    } }
+{
+    let mask = mask_register(&state.file);
+    let body = body_under(target.unmasked, &mask, state);
+    let emul = u32::from(target.vtype.lmul.eighths());
+    let fill_tail = agnostic_under(target.policy, target.vtype, &body).fill_tail;
+    let operation = WidenReduceOperation { op, vs2, source };
+    let file = &mut state.file;
+    let register = |count| Register {
+        vd: target.vd,
+        count,
+        fill_tail,
+    };
+    match target.vtype.sew {
+        Sew::E8 => operation.write::<u8, u16>(register(VLENB / 2), emul, &body, file, scalar),
+        Sew::E16 => operation.write::<u16, u32>(register(VLENB / 4), emul, &body, file, scalar),
+        Sew::E32 => operation.write::<u32, u64>(register(VLENB / 8), emul, &body, file, scalar),
+        Sew::E64 => unreachable!(),
+    }
+    state.vstart = 0;
+}

@@ -1,0 +1,84 @@
+//! Moves of whole registers ("V" Vector Extension 1.0, section 16.6).
+ghost use Rattle.std.specs.Prelude.{◌≡◌, ◌*◌, false, true};
+ghost use Rattle.rv_model.specs.elements.Arithmetic.{group_element, with_results};
+ghost use Rattle.rv_model.specs.elements.PermutationResults.{whole_type};
+ghost use Rattle.rv_model.specs.legality.GroupBounds.{HoldsBody, IsInside};
+ghost use Rattle.rv_model.specs.legality.Legality.{register_count};
+ghost use Rattle.rv_model.specs.step.PermutationStep.{whole_body};
+ghost use Rattle.rv_model.specs.vector.Registers.{register_of};
+
+use crate::destination::{Agnostic, Destination, write_group};
+use crate::operands::{group_copy, mask_register};
+use lane_arith::{Body, Copies, Lane};
+use reg_groups::register_count;
+use rv_model::instructions::operations::RegisterCount;
+use rv_model::{GROUP_BYTES, Sew, VFile, VLENB, VReg, VState, VType};
+
+/// A move of whole registers; `emul` is how many, in eighths of a register.
+#[derive(Clone, Copy)]
+struct WholeMoveOperation {
+    vd: VReg,
+    vs2: VReg,
+    emul: u32,
+}
+
+impl WholeMoveOperation {
+    /// Moves the elements from `start` on, of `count` that the registers hold.
+    fn write<L: Lane>(&self, start: usize, count: usize, file: &mut VFile)
+        requires destination { IsInside self.now.vd self.now.emul }
+        requires source { IsInside self.now.vs2 self.now.emul }
+        requires holds { HoldsBody L.width self.now.emul count count }
+        ensures { file.new ≡ with_results (record { width = L.width; emul = self.now.emul }) self.now.vd
+            (record { unmasked = true; mask = register_of file.old 0; start = start; end = count }) false false
+            (group_element (record { width = L.width; emul = self.now.emul }) file.old self.now.vs2) file.old }
+    {
+        let mask = mask_register(file);
+        let mut copy = [0; GROUP_BYTES];
+        let b = group_copy(file, self.vs2, self.emul, &mut copy);
+        let body = Body::new(true, &mask, start, count);
+        let destination = Destination {
+            vd: self.vd,
+            emul: self.emul,
+            count,
+            agnostic: Agnostic {
+                fill_masked_off: false,
+                fill_tail: false,
+            },
+        };
+        write_group::<L, Copies<'_>>(&Copies { b }, destination, &body, file);
+    }
+}
+
+/// Carries out a move of whole registers, of elements of SEW, whatever `vl` is. The next instruction begins
+/// with the first element.
+#[tactic(auto, using(rv_model::proofs::legality_lemmas::Moves::whole_groups_hold_body))]
+pub(crate) fn carry_out_whole_move(
+    count: RegisterCount,
+    vd: VReg,
+    vs2: VReg,
+    vtype: VType,
+    state: &mut VState,
+)
+    requires destination { IsInside vd (8 * register_count count) }
+    requires source { IsInside vs2 (8 * register_count count) }
+    ensures { state.new ≡ record state.old {
+      file =
+          with_results (whole_type vtype count) vd (whole_body (whole_type vtype count) state.old) false false
+          (group_element (whole_type vtype count) state.old.file vs2) state.old.file;
+      vstart = 0;
+    } }
+{
+    let registers = register_count(count);
+    let emul = 8 * u32::from(registers);
+    let length = VLENB * usize::from(registers);
+    let start = usize::from(state.vstart);
+    let operation = WholeMoveOperation { vd, vs2, emul };
+    let file = &mut state.file;
+    match vtype.sew {
+        Sew::E8 => operation.write::<u8>(start, length, file),
+        Sew::E16 => operation.write::<u16>(start, length / 2, file),
+        Sew::E32 => operation.write::<u32>(start, length / 4, file),
+        Sew::E64 => operation.write::<u64>(start, length / 8, file),
+    }
+    state.vstart = 0;
+}
