@@ -15,10 +15,6 @@ mod multiply_add;
 mod narrow_shift;
 mod operations;
 mod results;
-#[cfg(test)]
-mod tests;
-#[cfg(test)]
-mod two_width_tests;
 mod whole_number;
 mod widen;
 

@@ -7,8 +7,6 @@ mod fixed_point;
 mod rounding;
 mod saturating_results;
 mod saturation;
-#[cfg(test)]
-mod tests;
 
 pub use clip::Clip;
 pub use fixed_point::FixedPoint;

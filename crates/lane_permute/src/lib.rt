@@ -5,8 +5,6 @@
 mod gathers;
 mod packing;
 mod slides;
-#[cfg(test)]
-mod tests;
 
 pub use gathers::{Gather, GatherOne};
 pub use packing::compress;

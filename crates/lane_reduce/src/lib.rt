@@ -3,8 +3,6 @@
 
 mod combine;
 mod operations;
-#[cfg(test)]
-mod tests;
 
 pub use combine::{Combine, reduce};
 pub use operations::{Reduction, WideningReduction};

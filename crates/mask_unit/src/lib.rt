@@ -5,8 +5,6 @@ mod element_numbers;
 mod logic;
 mod scan;
 mod set_bits;
-#[cfg(test)]
-mod tests;
 
 pub use element_numbers::{Index, Iota};
 pub use logic::MaskLogic;

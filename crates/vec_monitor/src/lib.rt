@@ -2,17 +2,11 @@
 #![tactic(auto)]
 
 mod addressee;
-#[cfg(test)]
-mod allocation_tests;
 mod arguments;
 mod command_line;
-#[cfg(test)]
-mod command_tests;
 mod commands;
 mod context;
 mod device;
-#[cfg(test)]
-mod device_tests;
 mod entering;
 mod feed;
 mod image;
@@ -25,22 +19,14 @@ mod memory;
 mod new_fault;
 mod program;
 mod program_fault;
-#[cfg(test)]
-mod program_tests;
 mod programs;
 mod registers;
 mod running;
 mod script;
-#[cfg(test)]
-mod shell;
 mod stepping;
 mod streams;
-#[cfg(test)]
-mod tests;
 mod trace;
 mod users;
-#[cfg(test)]
-mod vecmon_tests;
 mod words;
 
 pub use arguments::vecmon_with_arguments;

@@ -1,6 +1,6 @@
-//! Values of the kernels, worked by hand.
-use super::{Clip, FixedPoint, write_saturating_results};
+//! Values of the fixed-point kernels, worked by hand.
 use lane_arith::Body;
+use lane_fixed::{Clip, FixedPoint, write_saturating_results};
 use rv_model::RoundingMode;
 use rv_model::instructions::operations::{ClipOp, FixedPointOp};
 use std::marker::PhantomData;

@@ -1,5 +1,5 @@
 //! Values of the kernels of two widths, worked by hand.
-use super::{Body, Extend, NarrowShift, WideSource, Widen, WidenMultiplyAdd, write_results};
+use lane_arith::{Body, Extend, NarrowShift, WideSource, Widen, WidenMultiplyAdd, write_results};
 use rv_model::instructions::operations::{
     ExtendOp, NarrowShiftOp, WideSourceOp, WidenMultiplyAddOp, WidenOp,
 };

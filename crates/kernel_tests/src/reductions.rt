@@ -1,6 +1,6 @@
-//! Values of the kernels, worked by hand.
-use super::{Reduction, WideningReduction, reduce};
+//! Values of the reductions' kernels, worked by hand.
 use lane_arith::Body;
+use lane_reduce::{Reduction, WideningReduction, reduce};
 use rv_model::instructions::operations::{ReduceOp, WidenReduceOp};
 
 const NO_MASK: [u8; 32] = [0; 32];

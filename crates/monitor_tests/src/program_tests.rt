@@ -1,9 +1,9 @@
 //! Scripts that write programs by name and load them, with the answers that the monitor's description
 //! gives.
-use super::*;
 use crate::tests::output_of;
 use std::alloc::Global;
 use std::test::Fail;
+use vec_monitor::{Image, Machine, ReaderSource, WriterSink, run};
 
 /// One segment of 128 bytes, the whole file, read and executed at 10000; two instructions at 10078.
 pub const GOOD: [u8; 128] = [

@@ -1,8 +1,8 @@
 //! A machine takes its memory when it is made, and no command takes any more.
-use super::*;
 use crate::program_tests::GOOD;
 use bumpalo::Bump;
 use std::test::Fail;
+use vec_monitor::{Image, Machine, NewFault, ReaderSource, WriterSink, run};
 
 /// More bytes than an arena has left.
 const MORE_THAN_LEFT: usize = 1 << 26;

@@ -9,10 +9,10 @@ ghost use Rattle.rv_model.specs.machine.PrivateMachine.{solo};
 ghost use Rattle.rv_model.specs.machine.Script.{after_all, told_all, whole_from, after_script, lines, own, new_world};
 ghost use Rattle.vec_monitor.specs.EndedLines.{ended_lines};
 
-use crate::{DeviceFault, Machine, ReaderSource, RunFault, Sink, Source, WriterSink, run};
 use arrayvec::ArrayVec;
 use std::alloc::Allocator;
 use std::test::Fail;
+use vec_monitor::{DeviceFault, Machine, ReaderSource, RunFault, Sink, Source, WriterSink, run};
 
 /// A source of newlines that never ends.
 #[derive(Drop)]

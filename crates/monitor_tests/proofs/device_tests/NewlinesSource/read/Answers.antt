@@ -1,6 +1,6 @@
 use Rattle.std.proofs.Common.{◌≡◌, refl}
 use Rattle.std.proofs.lemmas.List.Elements.{All-take, All-same, All-replicate}
-use Rattle.vec_monitor.proofs.device_tests.NewlinesSource.read.Goals as goal
+use Rattle.monitor_tests.proofs.device_tests.NewlinesSource.read.Goals as goal
 
 pub returns-clause-bytes : goal.returns-clause-bytes
 returns-clause-bytes c =

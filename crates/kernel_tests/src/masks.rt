@@ -1,6 +1,6 @@
-//! Values of the kernels, worked by hand.
-use super::{Index, Iota, MaskLogic, MaskScan, count, counts_below, first};
+//! Values of the kernels of masks, worked by hand.
 use lane_arith::{Body, write_mask_results, write_results};
+use mask_unit::{Index, Iota, MaskLogic, MaskScan, count, counts_below, first};
 use rv_model::instructions::operations::{MaskLogicOp, MaskScanOp};
 
 const NO_MASK: [u8; 32] = [0; 32];

@@ -1,6 +1,6 @@
-//! Values of the kernels, worked by hand.
-use super::{Gather, GatherOne, SlideDown, SlideOneDown, SlideOneUp, SlideUp, compress};
+//! Values of the kernels of permutations, worked by hand.
 use lane_arith::{Body, write_results};
+use lane_permute::{Gather, GatherOne, SlideDown, SlideOneDown, SlideOneUp, SlideUp, compress};
 use std::marker::PhantomData;
 
 const NO_MASK: [u8; 32] = [0; 32];

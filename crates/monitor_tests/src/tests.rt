@@ -1,7 +1,7 @@
 //! Scripts with the answers that the monitor's description gives, and machines that there can't be.
-use super::*;
 use std::alloc::{AllocError, Global};
 use std::test::Fail;
+use vec_monitor::{Image, Machine, NewFault, ReaderSource, RunFault, WriterSink, run};
 
 /// The output of a script on a new machine.
 pub fn output_of(alloc: Global, script: &[u8]) -> Result<Vec<u8>, Fail> {

@@ -6,7 +6,7 @@ use Rattle.vec_monitor.specs.EndedLines.{ended_lines}
 use Rattle.vec_monitor.specs.MachineState.{MachineState}
 use Rattle.vec_monitor.proofs.Feeding.{moved}
 use Rattle.vec_monitor.proofs.DeviceLaws.{given_whole, same_front}
-use Rattle.vec_monitor.proofs.device_tests.run_slice.Goals as goal
+use Rattle.monitor_tests.proofs.device_tests.run_slice.Goals as goal
 
 pub returns-clause-length : goal.returns-clause-length
 returns-clause-length g c =

@@ -2,7 +2,7 @@ use Rattle.std.proofs.Common.{◌∙◌}
 use Rattle.std.proofs.lemmas.Result.{on_ok_weaker}
 use Rattle.vec_monitor.proofs.Feeding.{moved}
 use Rattle.vec_monitor.proofs.DeviceLaws.{never_rose, only_too_long, newlines_after, newlines_told, no_answer}
-use Rattle.vec_monitor.proofs.device_tests.run_newlines.Goals as goal
+use Rattle.monitor_tests.proofs.device_tests.run_newlines.Goals as goal
 
 pub returns-clause-result : goal.returns-clause-result
 returns-clause-result g c =

@@ -1,9 +1,9 @@
 //! The program on command lines, with its statuses and texts.
 use crate::shell::{Entry, Shell};
 use crate::tests::zeros;
-use crate::{UsageFault, options, vecmon};
 use std::alloc::Global;
 use std::test::Fail;
+use vec_monitor::{UsageFault, options, vecmon};
 
 const FILES: [(&str, Entry<'static>); 7] = [
     ("empty", Entry::File(b"")),

@@ -1,0 +1,16 @@
+//! Tests of the kernels, with values worked by hand. They stand beside the kernels' crates, since a crate with tests is
+//! proved twice.
+#![tactic(auto)]
+
+#[cfg(test)]
+mod fixed_point;
+#[cfg(test)]
+mod masks;
+#[cfg(test)]
+mod one_width;
+#[cfg(test)]
+mod permutations;
+#[cfg(test)]
+mod reductions;
+#[cfg(test)]
+mod two_widths;
