@@ -6,7 +6,7 @@ use std::test::Fail;
 use vec_monitor::{Image, Machine, ReaderSource, WriterSink, run};
 
 /// One segment of 128 bytes, the whole file, read and executed at 10000; two instructions at 10078.
-pub const GOOD: [u8; 128] = [
+pub(crate) const GOOD: [u8; 128] = [
     0x7f, b'E', b'L', b'F', 2, 1, 1, 0, 0, 0, 0, 0, 0, 0, 0, 0, // e_ident
     2, 0, 243, 0, 1, 0, 0, 0, // e_type, e_machine, e_version
     0x78, 0, 1, 0, 0, 0, 0, 0, // e_entry

@@ -12,7 +12,7 @@ use std::rt::Files;
 
 /// What a path stands for.
 #[derive(Clone, Copy)]
-pub enum Entry<'a> {
+pub(crate) enum Entry<'a> {
     File(&'a [u8]),
     /// It can be opened, and no read succeeds.
     Folder,
@@ -20,7 +20,7 @@ pub enum Entry<'a> {
 
 /// An open file.
 #[derive(Drop)]
-pub struct OpenEntry<'a> {
+pub(crate) struct OpenEntry<'a> {
     entry: Entry<'a>,
 }
 
@@ -82,7 +82,7 @@ fn unsupported<T>() -> io::Result<T>
 
 /// The runtime. Standard output takes `room` bytes, and then fails.
 #[derive(Drop)]
-pub struct Shell<'a> {
+pub(crate) struct Shell<'a> {
     pub alloc: Global,
     pub files: &'a [(&'a str, Entry<'a>)],
     pub input: &'a [u8],
@@ -93,7 +93,7 @@ pub struct Shell<'a> {
 
 impl<'a> Shell<'a> {
     /// Nothing was written yet.
-    pub fn new(alloc: Global, files: &'a [(&'a str, Entry<'a>)], input: &'a [u8]) -> Self {
+    pub(crate) fn new(alloc: Global, files: &'a [(&'a str, Entry<'a>)], input: &'a [u8]) -> Self {
         Shell {
             alloc,
             files,

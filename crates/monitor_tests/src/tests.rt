@@ -4,7 +4,7 @@ use std::test::Fail;
 use vec_monitor::{Image, Machine, NewFault, ReaderSource, RunFault, WriterSink, run};
 
 /// The output of a script on a new machine.
-pub fn output_of(alloc: Global, script: &[u8]) -> Result<Vec<u8>, Fail> {
+pub(crate) fn output_of(alloc: Global, script: &[u8]) -> Result<Vec<u8>, Fail> {
     let mut machine = Machine::new(alloc, 100, &[])?;
     let mut output = Vec::new(alloc);
     let mut source = ReaderSource::new(script);
@@ -13,7 +13,7 @@ pub fn output_of(alloc: Global, script: &[u8]) -> Result<Vec<u8>, Fail> {
     Ok(output)
 }
 
-pub fn zeros(alloc: Global, count: usize) -> Result<Vec<u8>, AllocError> {
+pub(crate) fn zeros(alloc: Global, count: usize) -> Result<Vec<u8>, AllocError> {
     vec![in alloc; 0; count]
 }
 

@@ -35,7 +35,7 @@ pub fn register_count(count: RegisterCount) -> u8
 }
 
 /// Which part of SEW the source of an extension has: SEW divided by this.
-fn extension_divisor(op: ExtendOp) -> u16
+pub fn extension_divisor(op: ExtendOp) -> u16
     ensures value { result ≡ extension_divisor op }
     ensures some { 1 ≤ result }
 {

@@ -10,4 +10,4 @@ mod shapes;
 mod tests;
 
 pub use groups::{group, group_mut, registers};
-pub use legality::{legal, register_count};
+pub use legality::{extension_divisor, legal, register_count};

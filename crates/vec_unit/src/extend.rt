@@ -12,7 +12,7 @@ use crate::destination::{Destination, Target, agnostic_under, write_group};
 use crate::operands::{group_copy, mask_register};
 use crate::two_widths::TwoWidths;
 use lane_arith::{Body, Extend, Lane};
-use reg_groups::registers;
+use reg_groups::{extension_divisor, registers};
 use rv_model::instructions::operations::ExtendOp;
 use rv_model::{GROUP_BYTES, Scalar, Sew, VFile, VLENB, VReg, VState};
 use std::marker::PhantomData;
@@ -45,18 +45,6 @@ impl TwoWidths for ExtendOperation {
             element: PhantomData,
         };
         write_group::<D, Extend<'_, O>>(&results, destination, body, file);
-    }
-}
-
-/// Which part of the width the source of an extension has: the width divided by this.
-fn extension_divisor(op: ExtendOp) -> u32
-    ensures value { result ≡ extension_divisor op }
-    ensures some { 1 ≤ result }
-{
-    match op {
-        ExtendOp::VzextVf8 | ExtendOp::VsextVf8 => 8,
-        ExtendOp::VzextVf4 | ExtendOp::VsextVf4 => 4,
-        ExtendOp::VzextVf2 | ExtendOp::VsextVf2 => 2,
     }
 }
 
@@ -139,7 +127,7 @@ pub(crate) fn carry_out_extension(
     let mask = mask_register(&state.file);
     let body = body_under(target.unmasked, &mask, state);
     let emul = u32::from(target.vtype.lmul.eighths());
-    let part = emul / extension_divisor(operation.op);
+    let part = emul / u32::from(extension_divisor(operation.op));
     let destination = Destination {
         vd: target.vd,
         emul,

@@ -1,11 +1,11 @@
 -- How a loop packs the elements whose bit is set, and what fills the tail after it.
-use Rattle.std.proofs.Common.{ℕ, ◌+◌, ◌*◌, ◌<◌, ◌≤◌, ◌≡◌, List, [], ◌∷◌, ◌++◌, length, map, slice_index, Bool, true, false, cond, not, ◌&&◌, ◌||◌, nat_lt, nat_le, refl, sym, ap, subst, ◌∙◌, arith, inl, inr, append-nil, lt-ltb, zero-add}
+use Rattle.std.proofs.Common.{ℕ, ◌+◌, ◌*◌, ◌<◌, ◌≤◌, ◌≡◌, List, [], ◌∷◌, ◌++◌, length, map, slice_index, Bool, true, false, cond, not, ◌&&◌, ◌||◌, nat_lt, nat_le, refl, sym, ap, subst, ◌∙◌, arith, inl, inr, append-nil, lt-ltb}
 use Rattle.std.proofs.lemmas.Bool.{cases_lt}
 use Rattle.std.proofs.lemmas.Bool.Decides.{nat_tests}
-use Rattle.std.proofs.lemmas.List.{get_or_append_left, length-append, length-map, map-append, map-id}
+use Rattle.std.proofs.lemmas.List.{get_or_append_left, length-append, length-map, map-append}
 use Rattle.std.proofs.lemmas.List.Elements.{filter-append}
 use Rattle.std.proofs.lemmas.List.Filters.{length-filter_both}
-use Rattle.std.proofs.lemmas.List.FromFn.{length-range_with_len, map-range_with_len_more}
+use Rattle.std.proofs.lemmas.List.FromFn.{length-range_with_len}
 use Rattle.std.proofs.Math.Nat.{mul-le-mul_left}
 use Rattle.std.proofs.Math.Seq.{get_or-append_seam}
 use Rattle.std.specs.Int.{bytes_low_first}
@@ -19,15 +19,11 @@ use Rattle.rv_model.specs.elements.Permutations.{is_packed, is_packed_or_filled,
 use Rattle.rv_model.specs.elements.Writes.{Writes}
 use Rattle.rv_model.specs.vector.Configuration.{width_bytes}
 use Rattle.rv_model.specs.vector.Registers.{group_of, with_group}
+use Rattle.rv_model.proofs.element_lemmas.Ranges.{range_more}
 use Rattle.rv_model.proofs.element_lemmas.Widths.{bytes_positive}
 use Rattle.rv_model.proofs.element_lemmas.Writes.{ends, step_written, writes_are, writes_same, writes_then}
 
 -- ---- one element after another
-
-range_more : (n : ℕ) → range_with_len 0 (n + 1) ≡ range_with_len 0 n ++ n ∷ []
-range_more n =
-    sym (map-id (range_with_len 0 (n + 1))) ∙ map-range_with_len_more (λ x. x) 0 n n (zero-add n)
-    ∙ ap (λ l. l ++ n ∷ []) (map-id (range_with_len 0 n))
 
 below : (n e : ℕ) → nat_lt e n ≡ true → e < n
 below n e h = grind (arith, nat_tests)
