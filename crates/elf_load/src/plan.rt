@@ -112,6 +112,3 @@ pub fn place<A: Allocator>(
     place_image(plan.image, user, pool);
     Ok(plan.entry())
 }
-
-#[cfg(test)]
-mod tests;

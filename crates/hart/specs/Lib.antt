@@ -1,4 +1,2 @@
-pub mod FlatMemory
-pub mod FlatMemoryLaws
 pub mod Seats
 pub mod States

@@ -7,7 +7,7 @@ use Rattle.rv_model.specs.declared.scalar.Scalar.{Scalar}
 use Rattle.rv_model.specs.declared.step.step_end.StepEnd.{StepEnd}
 use Rattle.rv_model.specs.declared.vector.state.Seat.{Seat}
 use Rattle.rv_model.specs.declared.vector.state.VState.{VState}
-use Rattle.rv_model.specs.step.Hart.{HartState, Stepped, hart_state, ends}
+use Rattle.rv_model.specs.step.Hart.{HartState, Stepped, hart_state, ends_after}
 use Rattle.rv_model.specs.instructions.Table.{scan, table}
 use Rattle.rv_model.specs.memory.Memory.{Memory, can_access}
 use Rattle.rv_model.specs.step.Step.{step, word_at}
@@ -17,15 +17,15 @@ abbrev pub IsStep : ℕ → (List ℕ → HartState) → (List ℕ → HartState
 IsStep limit before after end ticks =
     (output : List ℕ) → step limit (before output) ≡ record { state = after output; end = end; ticks = ticks }
 
--- whatever the output buffer holds, an instruction leads from the one state to the other, with this end, in one tick
-abbrev pub Leads : (HartState → Stepped) → (List ℕ → HartState) → (List ℕ → HartState) → StepEnd → Type 0
-Leads instruction before after end = (output : List ℕ) → instruction (before output) ≡ ends end (after output)
+-- whatever the output buffer holds, an instruction leads from the one state to the other, with this end and these ticks
+abbrev pub Leads : (HartState → Stepped) → (List ℕ → HartState) → (List ℕ → HartState) → StepEnd → ℕ → Type 0
+Leads instruction before after end ticks = (output : List ℕ) → instruction (before output) ≡ ends_after ticks end (after output)
 
--- the same for an instruction of scalar registers and memory, whatever all else is
+-- the same in one tick for an instruction of scalar registers and memory, whatever all else is
 abbrev pub LeadsScalar : (HartState → Stepped) → Scalar → Memory → Scalar → Memory → StepEnd → Type 0
 LeadsScalar instruction scalar memory scalar' memory' end =
     (vector : VState) (policy : Policy)
-    → Leads instruction (hart_state scalar vector memory policy) (hart_state scalar' vector memory' policy) end
+    → Leads instruction (hart_state scalar vector memory policy) (hart_state scalar' vector memory' policy) end 1
 
 -- the same for an instruction of scalar registers alone
 abbrev pub LeadsRegisters : (HartState → Stepped) → Scalar → Scalar → StepEnd → Type 0

@@ -1,6 +1,6 @@
 //! Accesses of control registers, on a vector state that was lent to them (Unprivileged ISA 20191213, chapter 9,
 //! "Zicsr").
-ghost use Rattle.std.specs.Prelude.{◌≡◌, ◌||◌, ◌&&◌};
+ghost use Rattle.std.specs.Prelude.{◌≡◌, ◌≢◌, ◌||◌, ◌&&◌};
 ghost use Rattle.rv_model.specs.declared.vector.policy.Policy.{Policy};
 ghost use Rattle.rv_model.specs.step.Hart.{hart_state};
 ghost use Rattle.rv_model.specs.memory.Memory.{Memory};
@@ -37,11 +37,12 @@ pub(crate) fn access_control(
     ensures model { (memory : Memory) (policy : Policy)
         → Leads (csr_step access.register access.op access.rd access.source access.operand word)
         (hart_state scalar.old seat.old.state memory policy)
-        (hart_state scalar.new seat.new.state memory policy) result }
+        (hart_state scalar.new seat.new.state memory policy) result 1 }
     ensures dirty { seat.new.dirty ≡ (seat.old.dirty
         || (touches_control access.register access.op access.source
         && is_write access.op access.source)) }
     ensures given_back { IsGivenBack seat.old seat.new }
+    ensures uncut { result ≢ StepEnd.Cut }
 {
     let Some(register) = access.register else {
         return illegal(word, scalar);

@@ -1,5 +1,5 @@
 //! Calls of the environment, and breakpoints (Unprivileged ISA 20191213, section 2.8).
-ghost use Rattle.std.specs.Prelude.{◌≡◌};
+ghost use Rattle.std.specs.Prelude.{◌≡◌, ◌≢◌};
 ghost use Rattle.rv_model.specs.step.ScalarStep.{environment_call, system_step};
 ghost use Rattle.hart.specs.States.{LeadsRegisters};
 
@@ -14,7 +14,8 @@ const NO_SUCH_CALL: u64 = 38;
 /// no such call.
 #[tactic(auto, unfolding(rv_model::specs::step::ScalarStep::environment_call))]
 fn call_environment(scalar: &mut Scalar) -> StepEnd
-    ensures { LeadsRegisters environment_call scalar.old scalar.new result }
+    ensures model { LeadsRegisters environment_call scalar.old scalar.new result }
+    ensures uncut { result ≢ StepEnd.Cut }
 {
     let number = scalar.read(Reg::new(17));
     if number == 93 || number == 94 {
@@ -25,7 +26,8 @@ fn call_environment(scalar: &mut Scalar) -> StepEnd
 
 /// ECALL, and EBREAK, which stops the program where it stands.
 pub(crate) fn system(op: SystemOp, scalar: &mut Scalar) -> StepEnd
-    ensures { LeadsRegisters (system_step op) scalar.old scalar.new result }
+    ensures model { LeadsRegisters (system_step op) scalar.old scalar.new result }
+    ensures uncut { result ≢ StepEnd.Cut }
 {
     match op {
         SystemOp::Ecall => call_environment(scalar),

@@ -1,5 +1,5 @@
 //! The instruction cycle: fetch, decode, execute.
-ghost use Rattle.std.specs.Prelude.{◌≡◌, ◌≤◌, Ok, Err, if◌then◌else◌};
+ghost use Rattle.std.specs.Prelude.{◌≡◌, ◌≢◌, ◌≤◌, Ok, Err, if◌then◌else◌};
 ghost use Rattle.rv_model.specs.declared.memory.Access.TheVariants.{Fetch};
 ghost use Rattle.rv_model.specs.step.Hart.{hart_state};
 ghost use Rattle.rv_model.specs.memory.Memory.{can_access};
@@ -12,7 +12,7 @@ use crate::touching_instructions::{execute_touching, is_touching};
 use crate::vectors::Vectors;
 use crate::view::View;
 use rv_decode::decode;
-use rv_model::{Access, Cause, Fault, Instr, Policy, Scalar, StepEnd};
+use rv_model::{Access, Cause, Fault, GROUP_BYTES, Instr, Policy, Scalar, StepEnd};
 use vector_memory::UserBytes;
 
 /// The word at an address.
@@ -36,12 +36,12 @@ fn execute<M: UserBytes, V: Vectors>(
     vectors: &mut V,
     limit: usize,
     policy: Policy,
-) -> StepEnd
+) -> (StepEnd, usize)
     requires ready { V.ready vectors.old }
     requires limit { 1 ≤ limit }
     ensures model { Leads (executed limit instr word)
         (hart_state scalar.old (V.lent vectors.old).state (M.memory memory.old) policy)
-        (hart_state scalar.new (V.lent vectors.new).state (M.memory memory.new) policy) result }
+        (hart_state scalar.new (V.lent vectors.new).state (M.memory memory.new) policy) result.0 result.1 }
     ensures memory { memory.new ≡ M.with_memory memory.old (M.memory memory.new) }
     ensures vectors { vectors.new
         ≡ (if touches instr then V.back vectors.old (V.lent vectors.new) else vectors.old) }
@@ -49,15 +49,16 @@ fn execute<M: UserBytes, V: Vectors>(
         (hart_state scalar.old (V.lent vectors.old).state (M.memory memory.old) policy)
         (V.lent vectors.old) (V.lent vectors.new) }
     ensures ready { V.ready vectors.new }
+    ensures uncut { GROUP_BYTES ≤ limit → result.0 ≢ StepEnd.Cut }
 {
     let Some(instr) = instr else {
-        return illegal(word, scalar);
+        return (illegal(word, scalar), 1);
     };
     if is_touching(&instr) {
         let seat = vectors.seat();
         execute_touching(&instr, word, scalar, memory, seat, limit, policy)
     } else {
-        execute_scalar(&instr, word, scalar, memory)
+        (execute_scalar(&instr, word, scalar, memory), 1)
     }
 }
 
@@ -79,6 +80,9 @@ pub fn step<M: UserBytes, V: Vectors>(
         result.0 result.1 }
     ensures policy { view.new.policy ≡ view.old.policy }
 
+    // No vector has more elements, so nothing is cut.
+    ensures uncut { GROUP_BYTES ≤ limit → result.0 ≢ StepEnd.Cut }
+
     // All else that the user's bytes and the lender hold stays.
     ensures memory { view.new.memory.now
         ≡ M.with_memory view.old.memory.now (M.memory view.new.memory.now) }
@@ -99,7 +103,7 @@ pub fn step<M: UserBytes, V: Vectors>(
     ensures same_vectors { view.new.vectors.ghost_name ≡ view.old.vectors.ghost_name }
 {
     let pc = view.scalar.pc;
-    let end = match fetch(&*view.memory, pc) {
+    match fetch(&*view.memory, pc) {
         Ok(word) => execute(
             decode(word),
             word,
@@ -109,7 +113,6 @@ pub fn step<M: UserBytes, V: Vectors>(
             limit,
             view.policy,
         ),
-        Err(_) => fault(Cause::FetchAccess, pc, &*view.scalar),
-    };
-    (end, 1)
+        Err(_) => (fault(Cause::FetchAccess, pc, &*view.scalar), 1),
+    }
 }

@@ -10,8 +10,7 @@ mod instruction_cycle;
 mod loads_and_stores;
 mod retirement;
 mod scalar_instructions;
-#[cfg(test)]
-mod tests;
+mod ticks;
 mod touching_instructions;
 mod vector_instructions;
 mod vectors;

@@ -1,5 +1,5 @@
 //! Loads and stores (Unprivileged ISA 20191213, sections 2.6 and 5.3).
-ghost use Rattle.std.specs.Prelude.{◌≡◌, Ok, Err, if◌then◌else◌};
+ghost use Rattle.std.specs.Prelude.{◌≡◌, ◌≢◌, Ok, Err, if◌then◌else◌};
 ghost use Rattle.std.specs.Int.{byte_len, w8, w16, w32, w64};
 ghost use Rattle.rv_model.specs.declared.memory.Access.TheVariants.{Load};
 ghost use Rattle.rv_model.specs.scalar.LoadsAndStores.{access_address, extended, load_width, number_at, store_width, stored_bytes};
@@ -86,8 +86,9 @@ pub(crate) fn load<M: UserBytes>(
     scalar: &mut Scalar,
     memory: &M,
 ) -> StepEnd
-    ensures { LeadsScalar (load_step op rd addr)
+    ensures model { LeadsScalar (load_step op rd addr)
         scalar.old (M.memory memory.now) scalar.new (M.memory memory.now) result }
+    ensures uncut { result ≢ StepEnd.Cut }
 {
     match loaded(op, addr, memory) {
         Ok(value) => give(rd, value, scalar),
@@ -118,6 +119,7 @@ pub(crate) fn store<M: UserBytes>(
     ensures model { LeadsScalar (store_step op addr value)
         scalar.old (M.memory memory.old) scalar.new (M.memory memory.new) result }
     ensures memory { memory.new ≡ M.with_memory memory.old (M.memory memory.new) }
+    ensures uncut { result ≢ StepEnd.Cut }
 {
     let bytes = value.to_le_bytes();
     match memory.write(addr, Access::Store, &bytes[..store_size(op)]) {

@@ -1,5 +1,5 @@
 //! Instructions that don't touch the vector unit.
-ghost use Rattle.std.specs.Prelude.{◌≡◌, ℕ, Some, false};
+ghost use Rattle.std.specs.Prelude.{◌≡◌, ◌≢◌, ℕ, Some, false};
 ghost use Rattle.rv_model.specs.step.Step.{dirties, executed, touches};
 ghost use Rattle.rv_model.specs.step.Hart.{HartState};
 ghost use Rattle.hart.specs.States.{LeadsScalar};
@@ -29,6 +29,7 @@ pub(crate) fn execute_scalar<M: UserBytes>(
         scalar.old (M.memory memory.old) scalar.new (M.memory memory.new) result }
     ensures memory { memory.new ≡ M.with_memory memory.old (M.memory memory.new) }
     ensures clean { (limit : ℕ) (before : HartState) → dirties limit (Some instr.now) before ≡ false }
+    ensures uncut { result ≢ StepEnd.Cut }
 {
     match *instr {
         Instr::Upper { op, rd, imm } => give(rd, upper_immediate(op, scalar.pc, imm), scalar),

@@ -1,5 +1,5 @@
 //! Instructions that touch the vector unit.
-ghost use Rattle.std.specs.Prelude.{◌≡◌, ◌≤◌, Some, true};
+ghost use Rattle.std.specs.Prelude.{◌≡◌, ◌≢◌, ◌≤◌, Some, true};
 ghost use Rattle.rv_model.specs.step.Hart.{hart_state};
 ghost use Rattle.rv_model.specs.step.Step.{dirties, executed, touches, touches_control};
 ghost use Rattle.rv_model.specs.step.VectorStep.{is_vector};
@@ -11,7 +11,7 @@ use crate::control_access::{ControlAccess, access_control};
 use crate::control_registers::{csr_form, is_write};
 use crate::vector_instructions::execute_vector;
 use rv_model::instructions::operations::CsrOp;
-use rv_model::{ControlRegister, Field, Instr, Policy, Scalar, Seat, StepEnd};
+use rv_model::{ControlRegister, Field, GROUP_BYTES, Instr, Policy, Scalar, Seat, StepEnd};
 use vector_memory::UserBytes;
 
 /// Whether an access of a control register is not illegal.
@@ -89,16 +89,17 @@ pub(crate) fn execute_touching<M: UserBytes>(
     seat: &mut Seat,
     limit: usize,
     policy: Policy,
-) -> StepEnd
+) -> (StepEnd, usize)
     requires touching { touches (Some instr.now) ≡ true }
     requires limit { 1 ≤ limit }
     ensures model { Leads (executed limit (Some instr.now) word)
         (hart_state scalar.old seat.old.state (M.memory memory.old) policy)
-        (hart_state scalar.new seat.new.state (M.memory memory.new) policy) result }
+        (hart_state scalar.new seat.new.state (M.memory memory.new) policy) result.0 result.1 }
     ensures memory { memory.new ≡ M.with_memory memory.old (M.memory memory.new) }
     ensures dirty { Marks (dirties limit (Some instr.now))
         (hart_state scalar.old seat.old.state (M.memory memory.old) policy) seat.old seat.new }
     ensures given_back { IsGivenBack seat.old seat.new }
+    ensures uncut { GROUP_BYTES ≤ limit → result.0 ≢ StepEnd.Cut }
 {
     let access = match *instr {
         Instr::Csr { op, rd, rs1, csr } => ControlAccess {
@@ -117,5 +118,5 @@ pub(crate) fn execute_touching<M: UserBytes>(
         },
         _ => return execute_vector(instr, word, scalar, memory, seat, limit, policy),
     };
-    access_control(access, word, scalar, seat)
+    (access_control(access, word, scalar, seat), 1)
 }

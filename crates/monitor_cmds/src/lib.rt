@@ -10,8 +10,6 @@ mod refusals;
 mod reply;
 mod stops;
 mod tag;
-#[cfg(test)]
-mod tests;
 mod trimming;
 mod words;
 

@@ -2,12 +2,12 @@
 #![tactic(auto)]
 
 mod agreement;
+mod copies;
 mod groups;
 mod legality;
 mod operands;
 mod shapes;
-#[cfg(test)]
-mod tests;
 
+pub use copies::{group_copy, mask_register, register_copy};
 pub use groups::{group, group_mut, registers};
 pub use legality::{extension_divisor, legal, register_count};

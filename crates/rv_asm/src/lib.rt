@@ -19,6 +19,3 @@ pub use fault::AsmFault;
 pub use laws::one_name;
 pub use print::Text;
 pub use table::{fixed_mask, slots_of};
-
-#[cfg(test)]
-mod tests;

@@ -1,5 +1,5 @@
--- Laws of elements: `Widths` and `Writes` first, then `Reads`, `Sets`, `Bits`, `Actives`, `Packed` and `Arithmetic`; `Numbers` stands by
--- itself, with `Rounding` upon it, and so does `Ranges`.
+-- Laws of elements: `Widths` and `Writes` first, then `Reads`, `Sets`, `Bits`, `Actives`, `Packed`, `Arithmetic` and `Tails`; `Numbers`
+-- stands by itself, with `Rounding` upon it, and so does `Ranges`.
 pub mod Actives
 pub mod Arithmetic
 pub mod Bits
@@ -9,5 +9,6 @@ pub mod Ranges
 pub mod Reads
 pub mod Rounding
 pub mod Sets
+pub mod Tails
 pub mod Widths
 pub mod Writes

@@ -1,4 +1,6 @@
 -- Laws of legality.
+pub mod Accesses
 pub mod Bounds
 pub mod Meaning
 pub mod Moves
+pub mod Overlaps

@@ -1,2 +1,9 @@
--- Laws of one instruction.
+-- Laws of one instruction, where a vector load or store is cut, the ticks that it takes, and that it can be run again.
+pub mod Cuts
 pub mod Effects
+pub mod FetchesResume
+pub mod Lengths
+pub mod StepsResume
+pub mod StoredWords
+pub mod TickBounds
+pub mod Ticks

@@ -1,3 +1,4 @@
+pub mod accesses
 pub mod assembler
 pub mod commands
 pub mod elements

@@ -26,7 +26,10 @@ pub use memory::{
     memory_laws,
 };
 pub use scalar::Scalar;
-pub use step::{Cause, StepEnd, Stop, VEnd};
+pub use step::{
+    Cause, MemEnd, StepEnd, Stop, VEnd, instructions_resume, loads_and_stores_resume,
+    ticks_and_cuts,
+};
 pub use vector::{
     ControlRegister, FILE_BYTES, GROUP_BYTES, Lmul, Policy, RegisterBytes, RequestedLength,
     RoundingMode, Seat, Sew, VConf, VECTOR_REGISTERS, VFile, VLENB, VState, VType, VectorRequest,

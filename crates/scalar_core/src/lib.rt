@@ -9,8 +9,6 @@ mod immediate_operations;
 mod immediates;
 mod product;
 mod shift;
-#[cfg(test)]
-mod tests;
 
 pub use arithmetic::alu;
 pub use comparison::branch;

@@ -222,6 +222,3 @@ fn no_tables() -> Tables
         ArrayVec::new(),
     ]
 }
-
-#[cfg(test)]
-mod tests;

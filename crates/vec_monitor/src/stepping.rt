@@ -1,5 +1,5 @@
 //! Instructions of one user.
-ghost use Rattle.std.specs.Prelude.{◌≡◌, ◌≤◌, ◌⊎◌, true, length, []};
+ghost use Rattle.std.specs.Prelude.{◌≡◌, ◌≢◌, ◌≤◌, ◌⊎◌, true, length, []};
 ghost use Rattle.rv_model.specs.machine.Runs.{following, stop_of as stop_spec, steps as steps_spec};
 ghost use Rattle.rv_model.specs.step.Hart.{hart_state};
 ghost use Rattle.rv_model.specs.step.Step.{step as step_spec};
@@ -31,6 +31,7 @@ fn stop_of(end: StepEnd) -> Option<Stop>
             pc: _,
             value,
         } => Some(Stop::Fault { cause, value }),
+        StepEnd::Cut => None,
     }
 }
 
@@ -45,6 +46,7 @@ fn step_parts<M: UserBytes, V: Vectors>(
         ≡ hart_state scalar.new (V.lent vectors.new).state (M.memory memory.new) Policy.Keep [] }
     ensures end { (step_spec 256 (hart_state scalar.old (V.lent vectors.old).state (M.memory memory.old) Policy.Keep [])).end
         ≡ result }
+    ensures uncut { result ≢ StepEnd.Cut }
     ensures others { memory.new ≡ M.with_memory memory.old (M.memory memory.new) }
     ensures vectors { (vectors.new ≡ V.back vectors.old (V.lent vectors.new)) ⊎ (vectors.new
         ≡ vectors.old) }
@@ -69,6 +71,7 @@ fn step_once<A: Allocator>(
     ensures state { (step_spec 256 (user_state scalar.old seat.old (memory_of_user pool.old user))).state
         ≡ user_state scalar.new seat.new (memory_of_user pool.new user) }
     ensures end { (step_spec 256 (user_state scalar.old seat.old (memory_of_user pool.old user))).end ≡ result }
+    ensures uncut { result ≢ StepEnd.Cut }
     ensures others { pool.new ≡ with_memory pool.old user (memory_of_user pool.new user) }
 {
     let mut memory = UserMemory { pool, user };

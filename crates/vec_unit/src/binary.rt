@@ -6,8 +6,9 @@ ghost use Rattle.std.specs.Prelude.{◌≡◌};
 
 use crate::destination::{Destination, write_group};
 use crate::element_wise::ElementWise;
-use crate::operands::{group_copy, second_copy};
+use crate::operands::second_copy;
 use lane_arith::{Binary, Body, Lane};
+use reg_groups::group_copy;
 use rv_model::instructions::operations::BinaryOp;
 use rv_model::{GROUP_BYTES, Scalar, Source, VFile, VReg};
 

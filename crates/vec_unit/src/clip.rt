@@ -7,11 +7,11 @@ ghost use Rattle.rv_model.specs.vector.Configuration.{lmul_eighths, sew_bits, vl
 
 use crate::body::body_under;
 use crate::destination::{Destination, Target, agnostic_under};
-use crate::operands::{group_copy, mask_register, second_copy};
+use crate::operands::second_copy;
 use crate::saturating::write_saturating_group;
 use lane_arith::{Body, Lane};
 use lane_fixed::Clip;
-use reg_groups::registers;
+use reg_groups::{group_copy, mask_register, registers};
 use rv_model::instructions::operations::ClipOp;
 use rv_model::{GROUP_BYTES, RoundingMode, Scalar, Sew, Source, VFile, VLENB, VReg, VState};
 use std::marker::PhantomData;

@@ -5,8 +5,9 @@ ghost use Rattle.rv_model.specs.legality.GroupBounds.{IsInside, SourceIsInside};
 
 use crate::destination::write_mask;
 use crate::mask_wise::MaskWise;
-use crate::operands::{group_copy, second_copy};
+use crate::operands::second_copy;
 use lane_arith::{Body, CarryOut, Compare, Lane};
+use reg_groups::group_copy;
 use rv_model::instructions::operations::{CarryOutOp, CompareOp};
 use rv_model::{GROUP_BYTES, Scalar, Source, VFile, VReg};
 

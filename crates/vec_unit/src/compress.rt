@@ -12,10 +12,9 @@ ghost use Rattle.rv_model.specs.vector.Registers.{register_of};
 
 use crate::body::body_under;
 use crate::destination::{Destination, Target, agnostic_under};
-use crate::operands::{group_copy, mask_register, register_copy};
 use lane_arith::{Lane, fill};
 use lane_permute::compress;
-use reg_groups::{group_mut, registers};
+use reg_groups::{group_copy, group_mut, mask_register, register_copy, registers};
 use rv_model::{GROUP_BYTES, Sew, VFile, VLENB, VReg, VState};
 
 /// Packs elements into the bytes of a destination of `count` elements, and fills its tail. The elements

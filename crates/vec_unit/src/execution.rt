@@ -8,6 +8,7 @@ use crate::arithmetic::{perform_arith, perform_carry, perform_extension, perform
 use crate::mask_instructions::{
     perform_element_index, perform_mask_logic, perform_mask_to_scalar, perform_mask_unary,
 };
+use crate::memory_instructions::perform_access;
 use crate::permutation_instructions::{
     perform_compress, perform_move_to_scalar, perform_move_to_vector, perform_whole_move,
 };
@@ -16,8 +17,7 @@ use reg_groups::legal;
 use rv_model::{Instr, Policy, RequestedLength, Scalar, VEnd, VState};
 use vector_memory::UserBytes;
 
-/// Carries out a legal vector instruction, if it is one of those that are carried out so far; else it is
-/// illegal, and nothing changes.
+/// Carries out a legal vector instruction.
 #[tactic(auto, unfolding(rv_model::specs::step::VectorStep::performed))]
 fn perform<M: UserBytes>(
     instr: &Instr,
@@ -73,12 +73,12 @@ fn perform<M: UserBytes>(
         Instr::MoveToScalar { rd, vs2 } => perform_move_to_scalar(rd, vs2, state, scalar),
         Instr::MoveToVector { vd, rs1 } => perform_move_to_vector(vd, rs1, state, scalar, policy),
         Instr::WholeMove { count, vd, vs2 } => perform_whole_move(count, vd, vs2, state),
-        _ => VEnd::Illegal,
+        _ => perform_access(instr, state, scalar, memory, limit, policy),
     }
 }
 
-/// Carries out a vector instruction of a user, of at most `limit` elements where it goes to memory. The
-/// program counter stays on it. Instructions that aren't carried out yet are illegal.
+/// Carries out a vector instruction of a user, of at most `limit` indices where it is a load or store. The
+/// program counter stays on it.
 #[tactic(auto, unfolding(rv_model::specs::step::VectorStep::vector_executed))]
 pub fn exec<M: UserBytes>(
     instr: &Instr,

@@ -9,10 +9,9 @@ ghost use Rattle.rv_model.specs.vector.Configuration.{lmul_eighths, sew_bits, se
 
 use crate::body::body_under;
 use crate::destination::{Destination, Target, agnostic_under, write_group};
-use crate::operands::{group_copy, mask_register};
 use crate::two_widths::TwoWidths;
 use lane_arith::{Body, Extend, Lane};
-use reg_groups::{extension_divisor, registers};
+use reg_groups::{extension_divisor, group_copy, mask_register, registers};
 use rv_model::instructions::operations::ExtendOp;
 use rv_model::{GROUP_BYTES, Scalar, Sew, VFile, VLENB, VReg, VState};
 use std::marker::PhantomData;

@@ -8,11 +8,11 @@ ghost use Rattle.rv_model.specs.vector.Configuration.{lmul_eighths, vlmax};
 
 use crate::body::body_under;
 use crate::destination::{Destination, Target, agnostic_under};
-use crate::operands::{group_copy, mask_register, second_copy};
+use crate::operands::second_copy;
 use crate::saturating::write_saturating_group;
 use lane_arith::{Body, Lane};
 use lane_fixed::FixedPoint;
-use reg_groups::registers;
+use reg_groups::{group_copy, mask_register, registers};
 use rv_model::instructions::operations::FixedPointOp;
 use rv_model::{GROUP_BYTES, RoundingMode, Scalar, Sew, Source, VFile, VLENB, VReg, VState};
 

@@ -9,8 +9,8 @@ ghost use Rattle.rv_model.specs.vector.Registers.{register_of, registers};
 
 use crate::body::body_under;
 use crate::destination::Target;
-use crate::operands::mask_register;
 use lane_arith::{Body, Lane};
+use reg_groups::mask_register;
 use rv_model::{GROUP_BYTES, Scalar, Sew, VFile, VLENB, VReg, VState};
 
 /// An operation and its operands.

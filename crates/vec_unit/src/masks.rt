@@ -8,9 +8,9 @@ ghost use mir.Val.{bits};
 use crate::body::body_under;
 use crate::destination::{Destination, write_group, write_mask};
 use crate::element_wise::ElementWise;
-use crate::operands::{mask_register, register_copy};
 use lane_arith::{Body, Lane};
 use mask_unit::{Index, Iota, MaskLogic, MaskScan, count, counts_below, first};
+use reg_groups::{mask_register, register_copy};
 use rv_model::instructions::operations::{MaskLogicOp, MaskScanOp, MaskToScalarOp};
 use rv_model::{GROUP_BYTES, Scalar, VFile, VReg, VState};
 

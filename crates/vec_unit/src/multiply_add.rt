@@ -5,8 +5,9 @@ ghost use Rattle.rv_model.specs.legality.GroupBounds.{IsInside, SourceIsInside};
 
 use crate::destination::{Destination, write_group};
 use crate::element_wise::ElementWise;
-use crate::operands::{group_copy, second_copy};
+use crate::operands::second_copy;
 use lane_arith::{Body, Lane, MultiplyAdd};
+use reg_groups::group_copy;
 use rv_model::instructions::operations::MultiplyAddOp;
 use rv_model::{GROUP_BYTES, Scalar, Source, VFile, VReg};
 

@@ -3,9 +3,10 @@ ghost use Rattle.rv_model.specs.elements.Arithmetic.{narrow_shift_result};
 ghost use Rattle.rv_model.specs.legality.GroupBounds.{IsInside, SourceIsInside};
 
 use crate::destination::{Destination, write_group};
-use crate::operands::{group_copy, second_copy};
+use crate::operands::second_copy;
 use crate::two_widths::TwoWidths;
 use lane_arith::{Body, Lane, NarrowShift};
+use reg_groups::group_copy;
 use rv_model::instructions::operations::NarrowShiftOp;
 use rv_model::{GROUP_BYTES, Scalar, Source, VFile, VReg};
 use std::marker::PhantomData;

@@ -9,10 +9,9 @@ ghost use Rattle.rv_model.specs.vector.Configuration.{lmul_eighths, vlmax, width
 
 use crate::body::body_under;
 use crate::destination::{Destination, Target, agnostic_under, write_group};
-use crate::operands::{group_copy, mask_register};
 use lane_arith::{Body, Lane};
 use lane_permute::{Gather, GatherOne, SlideDown, SlideOneDown, SlideOneUp, SlideUp};
-use reg_groups::registers;
+use reg_groups::{group_copy, mask_register, registers};
 use rv_model::instructions::operations::PermuteOp;
 use rv_model::{GROUP_BYTES, Scalar, Sew, Source, VFile, VLENB, VReg, VState};
 use std::marker::PhantomData;

@@ -8,9 +8,10 @@ ghost use Rattle.rv_model.specs.vector.Configuration.{lmul_eighths, sew_bits, vl
 use crate::body::body_under;
 use crate::destination::{Target, agnostic_under};
 use crate::first_element::{Register, write_first};
-use crate::operands::{group_copy, mask_register, second_copy};
+use crate::operands::second_copy;
 use lane_arith::{Body, Lane};
 use lane_reduce::{Reduction, WideningReduction, reduce};
+use reg_groups::{group_copy, mask_register};
 use rv_model::instructions::operations::{ReduceOp, WidenReduceOp};
 use rv_model::{GROUP_BYTES, Scalar, Sew, Source, VFile, VLENB, VReg, VState};
 

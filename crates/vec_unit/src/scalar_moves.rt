@@ -12,8 +12,8 @@ ghost use Rattle.rv_model.specs.vector.Configuration.{sew_bits, sew_width, width
 use crate::body::body_under;
 use crate::destination::{Target, agnostic_under};
 use crate::first_element::{Register, write_first};
-use crate::operands::mask_register;
 use lane_arith::Lane;
+use reg_groups::mask_register;
 use rv_model::{Reg, Scalar, Sew, VFile, VLENB, VReg, VState, VType};
 
 /// Element 0 of a list of bytes, sign-extended to 64 bits.

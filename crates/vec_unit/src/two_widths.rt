@@ -9,9 +9,8 @@ ghost use Rattle.rv_model.specs.vector.Registers.{register_of};
 
 use crate::body::body_under;
 use crate::destination::{Destination, Target, agnostic_under};
-use crate::operands::mask_register;
 use lane_arith::{Body, Lane};
-use reg_groups::registers;
+use reg_groups::{mask_register, registers};
 use rv_model::{Scalar, Sew, VFile, VLENB, VState};
 
 /// An operation and its operands.

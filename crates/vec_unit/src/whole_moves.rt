@@ -8,9 +8,8 @@ ghost use Rattle.rv_model.specs.step.PermutationStep.{whole_body};
 ghost use Rattle.rv_model.specs.vector.Registers.{register_of};
 
 use crate::destination::{Agnostic, Destination, write_group};
-use crate::operands::{group_copy, mask_register};
 use lane_arith::{Body, Copies, Lane};
-use reg_groups::register_count;
+use reg_groups::{group_copy, mask_register, register_count};
 use rv_model::instructions::operations::RegisterCount;
 use rv_model::{GROUP_BYTES, Sew, VFile, VLENB, VReg, VState, VType};
 

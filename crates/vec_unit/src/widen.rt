@@ -5,9 +5,10 @@ ghost use Rattle.rv_model.specs.elements.Arithmetic.{wide_source_result, widen_m
 ghost use Rattle.rv_model.specs.legality.GroupBounds.{IsInside, SourceIsInside};
 
 use crate::destination::{Destination, write_group};
-use crate::operands::{group_copy, second_copy};
+use crate::operands::second_copy;
 use crate::two_widths::TwoWidths;
 use lane_arith::{Body, Lane, WideSource, Widen, WidenMultiplyAdd};
+use reg_groups::group_copy;
 use rv_model::instructions::operations::{WideSourceOp, WidenMultiplyAddOp, WidenOp};
 use rv_model::{GROUP_BYTES, Scalar, Source, VFile, VReg};
 use std::marker::PhantomData;

@@ -1,6 +1,16 @@
-//! One user's bytes, as its instructions read and write them.
+//! Vector loads and stores on one user's bytes.
 #![tactic(auto)]
 
+mod addresses;
+mod ends;
+mod instructions;
+mod length;
+mod loads;
+mod runs;
+mod segments;
+mod stores;
 mod user_bytes;
 
+pub use instructions::run;
+pub use length::index_count;
 pub use user_bytes::UserBytes;

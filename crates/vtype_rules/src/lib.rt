@@ -2,8 +2,6 @@
 #![tactic(auto)]
 
 mod configuration;
-#[cfg(test)]
-mod tests;
 mod type_numbers;
 
 pub use configuration::set;

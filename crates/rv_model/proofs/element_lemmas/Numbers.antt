@@ -110,14 +110,14 @@ low_bits_of_half w narrow z h =
 -- ---- sums with what is left of a number
 
 -- what is left of a number is what is left of any natural number that differs from it by a multiple
-left_of : (w : Width) (n k m : ℕ) → m + suc n ≡ k * 2 ^ bits w → wrap w (negsuc n) ≡ m % 2 ^ bits w
+pub left_of : (w : Width) (n k m : ℕ) → m + suc n ≡ k * 2 ^ bits w → wrap w (negsuc n) ≡ m % 2 ^ bits w
 left_of w n k m e =
     let p : ℕ = 2 ^ bits w in
     let is : m ≡ p * k - suc n = omega (arith, e, mul_comm k p) in
     let inside : n < p * k = omega (arith, e, mul_comm k p) in
     sym (ap (λ x. x % p) is ∙ below_multiple p k n (power_positive w) inside)
 
-mod_sum : (n d p : ℕ) → (n % p + d) % p ≡ (n + d) % p
+pub mod_sum : (n d p : ℕ) → (n % p + d) % p ≡ (n + d) % p
 mod_sum n d p = add-mod (n % p) d p ∙ ap (λ x. (x + d % p) % p) (mod-mod n p) ∙ sym (add-mod n d p)
 
 -- a sum with a natural number

@@ -1,5 +1,5 @@
 -- What legality tells of the registers of an instruction: its groups end inside the file, and have room for each element.
-use Rattle.std.specs.Prelude.{Some}
+use Rattle.std.specs.Prelude.{None, Option, Some}
 use Rattle.std.proofs.Common.{◌≡◌, ◌⊎◌, inl, inr, ℕ, ◌+◌, ◌*◌, ◌/◌, ◌%◌, ◌≤◌, Bool, true, false, refl, subst, arith, lit≤, lit<, All}
 use Rattle.std.proofs.Math.Nat.{mul-le-mul_left}
 use Rattle.rv_model.specs.declared.instructions.instruction.Instr.TheVariants.{ElementIndex, MaskUnary, VectorArith, VectorCarry, VectorExtend, VectorMove}
@@ -44,11 +44,11 @@ use Rattle.std.specs.Int.{w16}
 use Rattle.rv_model.specs.elements.Arithmetic.{group_type}
 use Rattle.rv_model.specs.elements.PermutationResults.{source_type}
 use Rattle.rv_model.specs.elements.Formulas.{doubled, halved, part_width}
-use Rattle.rv_model.specs.vector.Configuration.{sew_bits, sew_width, width_bytes, lmul_eighths, vlmax}
+use Rattle.rv_model.specs.vector.Configuration.{Configuration, IsConfiguration, IsLength, sew_bits, sew_width, width_bytes, lmul_eighths, vlmax}
 use Rattle.rv_model.proofs.legality_lemmas.Meaning.{is_legal_means}
 
 -- elements of SEW have the vector type's multiplier
-emul-sew : (s : Sew) (e : ℕ) → sew_bits s * e / sew_bits s ≡ e
+pub emul-sew : (s : Sew) (e : ℕ) → sew_bits s * e / sew_bits s ≡ e
 emul-sew E8 e = omega arith
 emul-sew E16 e = omega arith
 emul-sew E32 e = omega arith
@@ -207,14 +207,23 @@ length_below t vl h = omega (arith, bytes_positive t.sew, length_in_bytes t.sew 
     length_in_bytes E32 n h = omega (arith, h)
     length_in_bytes E64 n h = omega (arith, h)
 
--- the registers of a group hold whole elements
-whole_elements : (s : Sew) (l : Lmul) → VLENB * registers (lmul_eighths l) ≡ width_bytes (sew_width s) * (VLENB * registers (lmul_eighths l) / width_bytes (sew_width s))
-whole_elements E8 l = omega arith
-whole_elements E16 l = omega arith
-whole_elements E32 l = omega arith
-whole_elements E64 l = omega arith
+-- whichever its type is, or with none
+pub configuration_below : (c : Configuration) → IsConfiguration c → c.vl ≤ GROUP_BYTES
+configuration_below c h = named c.vtype h
+  where
+    named : (t : Option VType) → IsLength t c.vl → c.vl ≤ GROUP_BYTES
+    named None h = omega (arith, h)
+    named (Some t) h = length_below t c.vl h.1
 
-fewer : (s : Sew) (n : ℕ) → n / width_bytes (sew_width s) ≤ n
+-- so many registers hold whole elements
+pub whole_elements : (s : Sew) (n : ℕ) → VLENB * n ≡ width_bytes (sew_width s) * (VLENB * n / width_bytes (sew_width s))
+whole_elements E8 n = omega arith
+whole_elements E16 n = omega arith
+whole_elements E32 n = omega arith
+whole_elements E64 n = omega arith
+
+-- and no more elements than bytes
+pub fewer : (s : Sew) (n : ℕ) → n / width_bytes (sew_width s) ≤ n
 fewer E8 n = omega arith
 fewer E16 n = omega arith
 fewer E32 n = omega arith
@@ -227,7 +236,7 @@ groups_hold_body t vl h = record {
   most = multiplier_fits t.lmul;
   room = length_fits t vl h;
   least = length_below t vl h;
-  whole = whole_elements t.sew t.lmul;
+  whole = whole_elements t.sew (registers (lmul_eighths t.lmul));
   size = omega (arith, fewer t.sew (VLENB * registers (lmul_eighths t.lmul)), multiplier_fits t.lmul);
 }
 

@@ -1,11 +1,11 @@
 -- A fault writes no scalar register, and x0 stays, whatever the instruction is.
-use Rattle.std.proofs.Common.{◌≡◌, ◌≢◌, ℕ, ◌+◌, ◌%◌, ◌^◌, Bool, true, false, cond, refl, ◌∙◌, arith, Option, Some, None, get_or-set_other}
+use Rattle.std.proofs.Common.{◌≡◌, ◌≢◌, ℕ, ◌+◌, ◌%◌, ◌^◌, Bool, true, false, List, cond, refl, ◌∙◌, arith, Option, Some, None, get_or-set_other}
 use Rattle.std.specs.Prelude.{◌-◌, ◌&&◌, ◌||◌, ◌==◌, slice_set}
 use Rattle.std.specs.Int.{byte_len}
 use Rattle.std.proofs.lemmas.Bool.Decides.{nat_tests}
 use Rattle.rv_model.specs.declared.vector.control_register.ControlRegister.{ControlRegister}
 use Rattle.rv_model.specs.declared.instructions.instruction.Instr.{Instr}
-use Rattle.rv_model.specs.declared.instructions.instruction.Instr.TheVariants.{Upper, Jump, JumpRegister, Branch, Load, Store, RegisterImmediate, ShiftImmediate, ShiftImmediateWord, RegisterRegister, Fence, System, Csr, CsrImmediate, SetVli, SetIvli, SetVl, VectorArith, VectorCarry, VectorExtend, VectorMove, MaskLogic, MaskToScalar, MaskUnary, ElementIndex, Compress, MoveToScalar, MoveToVector, WholeMove}
+use Rattle.rv_model.specs.declared.instructions.instruction.Instr.TheVariants.{Upper, Jump, JumpRegister, Branch, Load, Store, RegisterImmediate, ShiftImmediate, ShiftImmediateWord, RegisterRegister, Fence, System, Csr, CsrImmediate, SetVli, SetIvli, SetVl, VectorArith, VectorCarry, VectorExtend, VectorMove, MaskLogic, MaskToScalar, MaskUnary, ElementIndex, Compress, MoveToScalar, MoveToVector, WholeMove, VectorUnit, VectorStrided, VectorIndexed, WholeLoad, WholeStore, MaskMemory}
 use Rattle.rv_model.specs.declared.memory.Access.TheVariants as access
 use Rattle.rv_model.specs.declared.instructions.operations.CsrOp.{CsrOp}
 use Rattle.rv_model.specs.declared.instructions.operations.LoadOp.{LoadOp}
@@ -37,8 +37,10 @@ use Rattle.rv_model.specs.scalar.Registers.{read_register, with_register}
 use Rattle.rv_model.specs.step.ScalarStep.{jumps, jump_step, branch_step, load_step, store_step, csr_step, environment_call, system_step}
 use Rattle.rv_model.specs.step.Step.{step, executed, word_at}
 use Rattle.rv_model.specs.vector.Control.{is_write, csr_form, control_value}
-use Rattle.rv_model.specs.step.VectorStep.{VectorStepped, answers, arith_step, carry_step, element_wise, extend_step, leaves, mask_to_scalar_step, mask_unary_step, mask_wise, move_step, performed, typed, requested_length, vset_step, vector_ticks, after_vector, vector_executed, vector_step}
-use Rattle.rv_model.specs.elements.Arithmetic.{group_type, index_result, mask_logic_result}
+use Rattle.rv_model.specs.step.VectorStep.{VectorStepped, access_step, answers, arith_step, carry_step, element_wise, extend_step, fields_filled, leaves, mask_to_scalar_step, mask_unary_step, mask_wise, move_step, performed, plain_step, segment_step, typed, requested_length, vset_step, vector_ticks, after_vector, vector_executed, vector_step}
+use Rattle.rv_model.specs.accesses.VectorAccess.{access_type}
+use Rattle.rv_model.specs.elements.Arithmetic.{GroupType, body_of, fills_masked_off, group_type, index_result, mask_logic_result}
+use Rattle.rv_model.specs.step.MemoryStep.{is_load, is_unit_load}
 use Rattle.rv_model.specs.elements.PermutationResults.{moved_to_scalar}
 use Rattle.rv_model.specs.step.PermutationStep.{compressed, moved_to_vector, whole_moved}
 use Rattle.rv_model.specs.declared.memory.Access.TheVariants.{Fetch}
@@ -109,12 +111,12 @@ system_keeps system.Ecall s = environment_keeps s
 system_keeps system.Ebreak s = record { fault = tt; first = refl }
 
 -- a vector instruction that is not done wrote no scalar register
-abbrev UnlessDone : VEnd → Type 0 → Type 0
+abbrev pub UnlessDone : VEnd → Type 0 → Type 0
 UnlessDone vector_end.Done P = Unit {0}
 UnlessDone _ P = P
 
-record VectorKeeps (s : HartState) (r : VectorStepped) : Type 0 where
-  refused : UnlessDone r.end (r.state.scalar ≡ s.scalar)
+pub record VectorKeeps (s : HartState) (r : VectorStepped) : Type 0 where
+  pub refused : UnlessDone r.end (r.state.scalar ≡ s.scalar)
   first : SameFirst s.scalar r.state.scalar
 
 vset_keeps : (rd vtype : ℕ) (length : RequestedLength) (s : HartState) → VectorKeeps s (vset_step rd vtype length s)
@@ -134,6 +136,22 @@ mask_unary_keeps t Viota vd vs2 vm s = record { refused = tt; first = refl }
 typed_keeps : (t : Option VType) (done : VType → HartState → VectorStepped) (s : HartState) → ((v : VType) → VectorKeeps s (done v s)) → VectorKeeps s (typed t done s)
 typed_keeps None done s kept = record { refused = refl; first = refl }
 typed_keeps (Some t) done s kept = kept t
+
+-- no load or store writes a scalar register
+same_unless : (end : VEnd) (x : Scalar) → UnlessDone end (x ≡ x)
+same_unless vector_end.Done x = tt
+same_unless vector_end.Illegal x = refl
+same_unless (vector_end.Fault store addr) x = refl
+same_unless (vector_end.Cut index) x = refl
+
+access_keeps : (limit : ℕ) (masked_off loads : Bool) (fill : List ℕ → List ℕ) (i : Instr) (s : HartState) → VectorKeeps s (access_step limit masked_off loads fill i s)
+access_keeps limit masked_off loads fill i s =
+    record { refused = same_unless (access_step limit masked_off loads fill i s).end s.scalar; first = refl }
+
+segment_keeps : (limit : ℕ) (t : VType) (g : GroupType) (loads : Bool) (nf vd : ℕ) (vm : Bool) (i : Instr) (s : HartState) → VectorKeeps s (segment_step limit t g loads nf vd vm i s)
+segment_keeps limit t g true nf vd vm i s =
+    access_keeps limit (fills_masked_off s.policy t (body_of vm s.vector)) true (fields_filled t g nf vd vm s) i s
+segment_keeps limit t g false nf vd vm i s = access_keeps limit false false (λ file. file) i s
 
 performed_keeps : (limit : ℕ) (i : Instr) (s : HartState) → VectorKeeps s (performed limit i s)
 unfolding performed
@@ -168,9 +186,26 @@ performed_keeps limit (MoveToVector vd rs1) s =
     typed_keeps s.vector.conf.vtype (λ t. leaves (moved_to_vector t vd rs1 s) s.vector.vxsat) s (λ t. record { refused = tt; first = refl })
 performed_keeps limit (WholeMove count vd vs2) s =
     typed_keeps s.vector.conf.vtype (λ t. leaves (whole_moved t count vd vs2 s) s.vector.vxsat) s (λ t. record { refused = tt; first = refl })
+performed_keeps limit (VectorUnit op width nf vd rs1 vm) s =
+    typed_keeps s.vector.conf.vtype
+    (λ t. segment_step limit t (access_type t width) (is_unit_load op) nf vd vm (VectorUnit op width nf vd rs1 vm)) s
+    (λ t. segment_keeps limit t (access_type t width) (is_unit_load op) nf vd vm (VectorUnit op width nf vd rs1 vm) s)
+performed_keeps limit (VectorStrided direction width nf vd rs1 rs2 vm) s =
+    typed_keeps s.vector.conf.vtype
+    (λ t. segment_step limit t (access_type t width) (is_load direction) nf vd vm (VectorStrided direction width nf vd rs1 rs2 vm)) s
+    (λ t. segment_keeps limit t (access_type t width) (is_load direction) nf vd vm (VectorStrided direction width nf vd rs1 rs2 vm) s)
+performed_keeps limit (VectorIndexed direction order width nf vd rs1 vs2 vm) s =
+    typed_keeps s.vector.conf.vtype
+    (λ t. segment_step limit t (group_type t) (is_load direction) nf vd vm (VectorIndexed direction order width nf vd rs1 vs2 vm)) s
+    (λ t. segment_keeps limit t (group_type t) (is_load direction) nf vd vm (VectorIndexed direction order width nf vd rs1 vs2 vm) s)
+performed_keeps limit (WholeLoad count width vd rs1) s = access_keeps limit false true (λ file. file) (WholeLoad count width vd rs1) s
+performed_keeps limit (WholeStore count vd rs1) s = access_keeps limit false false (λ file. file) (WholeStore count vd rs1) s
+performed_keeps limit (MaskMemory direction vd rs1) s =
+    typed_keeps s.vector.conf.vtype (λ t. plain_step limit (is_load direction) (MaskMemory direction vd rs1)) s
+    (λ t. access_keeps limit false (is_load direction) (λ file. file) (MaskMemory direction vd rs1) s)
 performed_keeps limit _ s = record { refused = refl; first = refl }
 
-vector_keeps : (limit : ℕ) (i : Instr) (s : HartState) → VectorKeeps s (vector_executed limit i s)
+pub vector_keeps : (limit : ℕ) (i : Instr) (s : HartState) → VectorKeeps s (vector_executed limit i s)
 unfolding vector_executed
 vector_keeps limit i s =
     either_keeps s (is_legal i s.vector.conf.vtype s.vector.vstart) _ _ (performed_keeps limit i s) (record { refused = refl; first = refl })
@@ -179,12 +214,13 @@ after_vector_keeps : (ticks : ℕ) (end : VEnd) (word : ℕ) (s s' : HartState) 
 after_vector_keeps ticks vector_end.Done word s s' h k = record { fault = tt; first = k }
 after_vector_keeps ticks vector_end.Illegal word s s' h k = record { fault = h; first = k }
 after_vector_keeps ticks (vector_end.Fault store addr) word s s' h k = record { fault = h; first = k }
+after_vector_keeps ticks (vector_end.Cut index) word s s' h k = record { fault = tt; first = k }
 
 vector_step_keeps : (limit : ℕ) (i : Instr) (word : ℕ) (s : HartState) → Keeps s (vector_step limit i word s)
 vector_step_keeps limit i word s =
     let done : VectorStepped = vector_executed limit i s in
     let kept : VectorKeeps s done = vector_keeps limit i s in
-    after_vector_keeps (vector_ticks i s done) done.end word s done.state kept.refused kept.first
+    after_vector_keeps (vector_ticks limit i s done) done.end word s done.state kept.refused kept.first
 
 executed_keeps : (limit : ℕ) (i : Option Instr) (word : ℕ) (s : HartState) → Keeps s (executed limit i word s)
 unfolding executed

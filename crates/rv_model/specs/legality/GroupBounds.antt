@@ -1,9 +1,10 @@
--- Groups that end inside the list of all vector registers ("V" Vector Extension 1.0, section 3.2).
-use Rattle.std.specs.Prelude.{ℕ, ◌+◌, ◌*◌, ◌≤◌, ◌≡◌, ⊤}
+-- Groups that end inside the list of all vector registers ("V" Vector Extension 1.0, sections 3.2 and 7.8).
+use Rattle.std.specs.Prelude.{ℕ, ◌+◌, ◌*◌, ◌/◌, ◌≤◌, ◌≡◌, ⊤}
 use Rattle.std.specs.Int.{Width}
 use Rattle.rv_model.specs.declared.instructions.source.Source.{Source}
 use Rattle.rv_model.specs.declared.instructions.source.Source.TheVariants as source
 use Rattle.rv_model.specs.declared.vector.sizes.TheConstants.{GROUP_BYTES, VECTOR_REGISTERS, VLENB}
+use Rattle.rv_model.specs.elements.Arithmetic.{GroupType}
 use Rattle.rv_model.specs.vector.Configuration.{width_bytes}
 use Rattle.rv_model.specs.vector.Registers.{registers}
 
@@ -36,3 +37,9 @@ pub record HoldsBody (width : Width) (emul count end : ℕ) : Type 0 where
   pub least : end ≤ GROUP_BYTES
   pub whole : VLENB * registers emul ≡ width_bytes width * count
   pub size : count ≤ GROUP_BYTES
+
+-- each of the nf + 1 fields of a segment from a register on is a group inside the file, and holds the elements before vl
+pub record SegmentsInside (g : GroupType) (vd nf vl : ℕ) : Type 0 where
+  pub least : 1 ≤ g.emul
+  pub inside : vd + (nf + 1) * registers g.emul ≤ VECTOR_REGISTERS
+  pub holds : HoldsBody g.width g.emul (VLENB * registers g.emul / width_bytes g.width) vl

@@ -2,7 +2,7 @@
 use Rattle.std.specs.Prelude.{ℕ, zero, suc, ◌+◌, ◌-◌, ◌==◌, ◌&&◌, not, Bool, true, false, List, [], ◌∷◌, ◌++◌, length, drop, Option, Some, None, is_none, if◌then◌else◌}
 use Rattle.std.specs.List.{list_any}
 use Rattle.rv_model.specs.declared.step.step_end.StepEnd.{StepEnd}
-use Rattle.rv_model.specs.declared.step.step_end.StepEnd.TheVariants.{Ran, Exit, Ebreak, Fault}
+use Rattle.rv_model.specs.declared.step.step_end.StepEnd.TheVariants.{Ran, Exit, Ebreak, Fault, Cut}
 use Rattle.rv_model.specs.declared.step.step_end.Stop.{Stop}
 use Rattle.rv_model.specs.declared.step.step_end.Stop.TheVariants as stop
 use Rattle.rv_model.specs.machine.UserMachine.{Present}
@@ -22,6 +22,7 @@ following Ran = Next
 following (Exit status) = Stops (stop.Exit status)
 following Ebreak = Stops stop.Ebreak
 following (Fault cause pc value) = Stops (stop.Fault cause value)
+following Cut = Rest
 
 -- why the program stops, if it does
 abbrev pub stop_of : Following → Option Stop

@@ -1,7 +1,7 @@
 -- Laws of one instruction, whichever it is.
 use Rattle.std.specs.Prelude.{ℕ, ◌≡◌}
 use Rattle.rv_model.specs.declared.step.step_end.StepEnd.{StepEnd}
-use Rattle.rv_model.specs.declared.step.step_end.StepEnd.TheVariants.{Ran, Exit, Ebreak, Fault}
+use Rattle.rv_model.specs.declared.step.step_end.StepEnd.TheVariants.{Ran, Exit, Ebreak, Fault, Cut}
 use Rattle.rv_model.specs.step.Hart.{HartState}
 use Rattle.rv_model.specs.scalar.Registers.{read_register}
 use Rattle.rv_model.specs.step.Step.{step}
@@ -12,6 +12,7 @@ OnFault Ran P = Unit {0}
 OnFault (Exit status) P = Unit {0}
 OnFault Ebreak P = Unit {0}
 OnFault (Fault cause pc value) P = P
+OnFault Cut P = Unit {0}
 
 -- An instruction that faults writes no scalar register, and the program counter stays on it.
 abbrev pub FaultsWriteNoRegister : Type 0

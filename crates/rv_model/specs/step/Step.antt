@@ -1,5 +1,5 @@
--- One instruction of one machine (Unprivileged ISA 20191213; which words are executed so far, and the choices that the
--- standard leaves, stand in docs/DECISIONS.md). Nothing here knows of other users.
+-- One instruction of one machine (Unprivileged ISA 20191213; the choices that the standard leaves stand in docs/DECISIONS.md).
+-- Nothing here knows of other users.
 use Rattle.std.specs.Prelude.{ℕ, ◌&&◌, not, Bool, false, Option, Some, None, if◌then◌else◌}
 use Rattle.std.specs.Int.{from_le_bytes, w32}
 use Rattle.rv_model.specs.declared.vector.control_register.ControlRegister.{ControlRegister}

@@ -1,5 +1,5 @@
 -- One vector instruction, carried out ("V" Vector Extension 1.0).
-use Rattle.std.specs.Prelude.{ℕ, ◌==◌, ◌||◌, Bool, true, false, List, Option, Some, None, if◌then◌else◌}
+use Rattle.std.specs.Prelude.{ℕ, ◌+◌, ◌-◌, ◌==◌, ◌&&◌, ◌||◌, max, nat_lt, Bool, true, false, List, Option, Some, None, if◌then◌else◌}
 use Rattle.std.specs.Int.{Width}
 use Rattle.rv_model.specs.declared.instructions.instruction.Instr.{Instr}
 use Rattle.rv_model.specs.declared.instructions.instruction.Instr.TheVariants.{Upper, Jump, JumpRegister, Branch, Load, Store, RegisterImmediate, ShiftImmediate, ShiftImmediateWord, RegisterRegister, Fence, System, Csr, CsrImmediate, SetVli, SetIvli, SetVl, VectorArith, VectorCarry, VectorMove, WholeMove, MaskLogic, Compress, MaskToScalar, VectorExtend, MaskUnary, ElementIndex, MoveToScalar, MoveToVector, VectorUnit, VectorStrided, VectorIndexed, WholeLoad, WholeStore, MaskMemory}
@@ -12,14 +12,19 @@ use Rattle.rv_model.specs.declared.instructions.operations.VectorOp.{VectorOp}
 use Rattle.rv_model.specs.declared.instructions.operations.VectorOp.TheVariants.{Binary, CarryOut, Compare, FixedPoint, NarrowShift, Clip, Widen, WideSource, MultiplyAdd, WidenMultiplyAdd, Reduce, WidenReduce, Permute}
 use Rattle.rv_model.specs.declared.scalar.Scalar.{Scalar}
 use Rattle.rv_model.specs.declared.instructions.source.Source.{Source}
+use Rattle.rv_model.specs.declared.instructions.operations.UnitOp.TheVariants as unit
 use Rattle.rv_model.specs.declared.step.step_end.Cause.{Cause}
 use Rattle.rv_model.specs.declared.step.step_end.Cause.TheVariants.{IllegalInstruction, LoadAccess, StoreAccess}
-use Rattle.rv_model.specs.declared.step.step_end.StepEnd.TheVariants.{Ran, Fault}
+use Rattle.rv_model.specs.declared.step.step_end.StepEnd.TheVariants.{Ran, Fault, Cut}
 use Rattle.rv_model.specs.declared.step.vector_end.VEnd.{VEnd}
 use Rattle.rv_model.specs.declared.step.vector_end.VEnd.TheVariants as vector_end
 use Rattle.rv_model.specs.declared.vector.request.RequestedLength.{RequestedLength}
 use Rattle.rv_model.specs.declared.vector.request.RequestedLength.TheVariants.{Elements, Maximum, Keep}
+use Rattle.rv_model.specs.declared.vector.state.VState.{VState}
 use Rattle.rv_model.specs.declared.vector.types.VType.{VType}
+use Rattle.rv_model.specs.accesses.AccessRuns.{access_run}
+use Rattle.rv_model.specs.accesses.VectorAccess.{access_type, index_count}
+use Rattle.rv_model.specs.step.MemoryStep.{access_end, after_access, is_load, is_unit_load, tails_filled}
 use Rattle.rv_model.specs.step.Hart.{HartState, Stepped, ends_after, faults}
 use Rattle.rv_model.specs.legality.Legality.{is_legal}
 use Rattle.rv_model.specs.scalar.Registers.{advanced, read_register, with_register}
@@ -198,7 +203,29 @@ abbrev pub typed : Option VType → (VType → HartState → VectorStepped) → 
 typed None step s = vector_ends vector_end.Illegal s
 typed (Some t) step s = step t s
 
--- a legal vector instruction, by the ticks that are left; those that aren't carried out yet are illegal
+-- a load or store of at most `limit` indices; the flags say whether elements that are masked off become all ones and whether
+-- memory is read, and the function is what is done with the tail
+abbrev pub access_step : ℕ → Bool → Bool → (List ℕ → List ℕ) → Instr → HartState → VectorStepped
+access_step limit fill_masked_off loads fill i s =
+    let run = access_run limit fill_masked_off i s.vector s.scalar s.memory in
+    vector_ends (access_end loads run.end) (after_access fill run s)
+
+-- what a load of these fields does with its tail, the elements from the length on that it finds
+abbrev pub fields_filled : VType → GroupType → ℕ → ℕ → Bool → HartState → List ℕ → List ℕ
+fields_filled t g nf vd unmasked s file =
+    if fills_tail s.policy t (body_of unmasked s.vector) then tails_filled g vd (nf + 1) s.vector.conf.vl file else file
+
+-- an access of elements or segments that may be masked
+abbrev pub segment_step : ℕ → VType → GroupType → Bool → ℕ → ℕ → Bool → Instr → HartState → VectorStepped
+segment_step limit t g true nf vd unmasked i s =
+    access_step limit (fills_masked_off s.policy t (body_of unmasked s.vector)) true (fields_filled t g nf vd unmasked s) i s
+segment_step limit t g false nf vd unmasked i s = access_step limit false false (λ file. file) i s
+
+-- an access of whole registers or of a mask, whose tail keeps
+abbrev pub plain_step : ℕ → Bool → Instr → HartState → VectorStepped
+plain_step limit loads i s = access_step limit false loads (λ file. file) i s
+
+-- a legal vector instruction, by the ticks that are left
 unfoldable pub performed : ℕ → Instr → HartState → VectorStepped
 performed limit (SetVli rd rs1 vtype) s = vset_step rd vtype (requested_length rd rs1 s.scalar) s
 performed limit (SetIvli rd avl vtype) s = vset_step rd vtype (Elements avl) s
@@ -220,6 +247,19 @@ performed limit (MoveToVector vd rs1) s =
     typed s.vector.conf.vtype (λ t. leaves (moved_to_vector t vd rs1 s) s.vector.vxsat) s
 performed limit (WholeMove count vd vs2) s =
     typed s.vector.conf.vtype (λ t. leaves (whole_moved t count vd vs2 s) s.vector.vxsat) s
+performed limit (VectorUnit op width nf vd rs1 vm) s =
+    typed s.vector.conf.vtype
+    (λ t. segment_step limit t (access_type t width) (is_unit_load op) nf vd vm (VectorUnit op width nf vd rs1 vm)) s
+performed limit (VectorStrided direction width nf vd rs1 rs2 vm) s =
+    typed s.vector.conf.vtype
+    (λ t. segment_step limit t (access_type t width) (is_load direction) nf vd vm (VectorStrided direction width nf vd rs1 rs2 vm)) s
+performed limit (VectorIndexed direction order width nf vd rs1 vs2 vm) s =
+    typed s.vector.conf.vtype
+    (λ t. segment_step limit t (group_type t) (is_load direction) nf vd vm (VectorIndexed direction order width nf vd rs1 vs2 vm)) s
+performed limit (WholeLoad count width vd rs1) s = plain_step limit true (WholeLoad count width vd rs1) s
+performed limit (WholeStore count vd rs1) s = plain_step limit false (WholeStore count vd rs1) s
+performed limit (MaskMemory direction vd rs1) s =
+    typed s.vector.conf.vtype (λ t. plain_step limit (is_load direction) (MaskMemory direction vd rs1)) s
 performed limit _ s = vector_ends vector_end.Illegal s
 
 -- a vector instruction, by the ticks that are left: an illegal one changes nothing
@@ -232,24 +272,39 @@ abbrev pub access_cause : Bool → Cause
 access_cause true = StoreAccess
 access_cause false = LoadAccess
 
--- the ticks that a vector instruction takes, by the state that it begins with and how it is carried out. Only those of memory
--- take more than one, which aren't carried out yet.
-abbrev pub vector_ticks : Instr → HartState → VectorStepped → ℕ
-vector_ticks i s done = 1
+-- whether it is a fault-only-first load, the one instruction that may shorten the length
+abbrev pub is_fault_only_first : Instr → Bool
+is_fault_only_first (VectorUnit unit.FaultOnlyFirst width nf vd rs1 vm) = true
+is_fault_only_first _ = false
+
+-- the ticks that a vector instruction takes, by the vector states that it finds and leaves: one; or, if it is a load or store,
+-- one for each index that it comes to. One that is cut takes all that are left.
+abbrev pub access_ticks : ℕ → Instr → VState → VState → VEnd → ℕ
+access_ticks limit i before after vector_end.Illegal = 1
+access_ticks limit i before after vector_end.Done =
+    if is_fault_only_first i && nat_lt after.conf.vl before.conf.vl then after.conf.vl - before.vstart + 1
+    else max 1 (index_count i before.conf.vl - before.vstart)
+access_ticks limit i before after (vector_end.Fault store addr) = after.vstart - before.vstart + 1
+access_ticks limit i before after (vector_end.Cut index) = limit
+
+abbrev pub vector_ticks : ℕ → Instr → HartState → VectorStepped → ℕ
+vector_ticks limit i s done = access_ticks limit i s.vector done.state.vector done.end
 
 -- the step that a vector instruction of so many ticks makes, by the word that it is; an illegal one takes one
 abbrev pub after_vector : ℕ → VEnd → ℕ → HartState → Stepped
 after_vector ticks vector_end.Done word s = ends_after ticks Ran (record s { scalar = advanced s.scalar })
 after_vector ticks vector_end.Illegal word s = faults IllegalInstruction word s
 after_vector ticks (vector_end.Fault store addr) word s = ends_after ticks (Fault (access_cause store) s.scalar.pc addr) s
+after_vector ticks (vector_end.Cut index) word s = ends_after ticks Cut s
 
 abbrev pub vector_step : ℕ → Instr → ℕ → HartState → Stepped
 vector_step limit i word s =
     let done = vector_executed limit i s in
-    after_vector (vector_ticks i s done) done.end word done.state
+    after_vector (vector_ticks limit i s done) done.end word done.state
 
--- whether a vector instruction changes the vector state: unless it is illegal, also where it then faults
+-- whether a vector instruction changes the vector state: unless it is illegal, also where it then faults or is cut
 abbrev pub is_legal_end : VEnd → Bool
 is_legal_end vector_end.Illegal = false
 is_legal_end vector_end.Done = true
 is_legal_end (vector_end.Fault store addr) = true
+is_legal_end (vector_end.Cut index) = true

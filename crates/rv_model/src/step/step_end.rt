@@ -43,6 +43,8 @@ pub enum StepEnd {
     Ebreak,
     /// The instruction at `pc` faults; `value` is the address or the word that caused it.
     Fault { cause: Cause, pc: u64, value: u64 },
+    /// It is a vector load or store that was cut: the elements before `vstart` are done, and the rest of it is done the next time.
+    Cut,
 }
 
 /// Why a program stops.

@@ -9,4 +9,6 @@ pub enum VEnd {
     Illegal,
     /// The access at this address isn't allowed; the elements before it are done.
     Fault { store: bool, addr: u64 },
+    /// It is a load or store that was cut before that index; the elements before it are done.
+    Cut { index: usize },
 }

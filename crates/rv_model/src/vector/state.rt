@@ -1,5 +1,6 @@
 //! The vector state of a machine ("V" Vector Extension 1.0, section 3).
 use crate::vector::file::VFile;
+use crate::vector::sizes::GROUP_BYTES;
 use crate::vector::types::VType;
 use std::marker::Model;
 
@@ -47,10 +48,20 @@ impl VConf {
     }
 
     /// The vector length in elements, 0 to 256.
+    #[tactic(auto, using(crate::proofs::legality_lemmas::Bounds::configuration_below))]
     pub fn vl(self) -> u16
         ensures value { result ≡ self.vl }
+        ensures bound { result ≤ GROUP_BYTES }
     {
         self.vl
+    }
+
+    /// The same vector type with a length that is no greater.
+    pub fn shortened(self, vl: u16) -> VConf
+        requires { vl ≤ self.vl }
+        ensures { result ≡ record self { vl = vl } }
+    {
+        VConf { vl, ..self }
     }
 
     /// The vector type; `None` is `vill`.

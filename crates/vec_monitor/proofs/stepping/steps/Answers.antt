@@ -18,7 +18,7 @@ loop-preserved g c =
     record {
       steps =
           ap (λ (t : List ℕ). steps n true (present moved t (memory_of_user c.step_once-end.new.pool c.args.user))) c.record.ensures
-          ∙ sym (steps_on n c.loop.context moved c.loop.trace (memory_of_user c.loop.pool c.args.user) (memory_of_user c.step_once-end.new.pool c.args.user) c.step_once-end.result c.step_once-end.ensures.state c.step_once-end.ensures.end (sym c.stop_of.ensures ∙ c.in_default.is))
+          ∙ sym (steps_on n c.loop.context moved c.loop.trace (memory_of_user c.loop.pool c.args.user) (memory_of_user c.step_once-end.new.pool c.args.user) c.step_once-end.result c.step_once-end.ensures.state c.step_once-end.ensures.end c.step_once-end.ensures.uncut (sym c.stop_of.ensures ∙ c.in_default.is))
           ∙ ap (λ (k : ℕ). steps k true (present c.loop.context c.loop.trace (memory_of_user c.loop.pool c.args.user))) one_less
           ∙ c.loop.invariant.steps;
       entered = c.loop.invariant.entered;

@@ -1,0 +1,63 @@
+//! How many ticks vector instructions take.
+ghost use Rattle.std.specs.Prelude.{◌≡◌, ◌&&◌, ◌-◌, ◌+◌, max, nat_lt, if◌then◌else◌};
+ghost use Rattle.rv_model.specs.accesses.VectorAccess.{index_count};
+ghost use Rattle.rv_model.specs.step.VectorStep.{access_ticks, is_fault_only_first};
+
+use rv_model::instructions::operations::UnitOp;
+use rv_model::{Instr, VEnd, VState};
+use vector_memory::index_count;
+
+/// The vector length and `vstart` that an instruction finds.
+#[derive(Clone, Copy)]
+pub(crate) struct Found {
+    pub vl: usize,
+    pub vstart: usize,
+}
+
+/// Whether it is a fault-only-first load.
+fn is_fault_only_first(instr: &Instr) -> bool
+    ensures { result ≡ is_fault_only_first instr.now }
+{
+    match *instr {
+        Instr::VectorUnit { op, .. } => match op {
+            UnitOp::FaultOnlyFirst => true,
+            UnitOp::Load | UnitOp::Store => false,
+        },
+        _ => false,
+    }
+}
+
+/// The ticks of an instruction that is done, and leaves this vector length.
+fn done_ticks(instr: &Instr, found: Found, vl: u16) -> usize
+    ensures { result ≡ (if is_fault_only_first instr.now && nat_lt vl found.vl
+        then vl - found.vstart + 1
+        else max 1 (index_count instr.now found.vl - found.vstart)) }
+{
+    let vl = usize::from(vl);
+    if is_fault_only_first(instr) && vl < found.vl {
+        return vl.saturating_sub(found.vstart) + 1;
+    }
+    index_count(instr, found.vl)
+        .saturating_sub(found.vstart)
+        .max(1)
+}
+
+/// The ticks of an instruction that had `limit` of them, found this length and `vstart`, and left this state.
+pub(crate) fn ticks_taken(
+    instr: &Instr,
+    limit: usize,
+    found: Found,
+    state: &VState,
+    end: VEnd,
+) -> usize
+    ensures { result ≡ access_ticks limit instr.now
+        (record state.now { conf = record state.now.conf { vl = found.vl }; vstart = found.vstart })
+        state.now end }
+{
+    match end {
+        VEnd::Done => done_ticks(instr, found, state.conf.vl()),
+        VEnd::Illegal => 1,
+        VEnd::Fault { .. } => usize::from(state.vstart).saturating_sub(found.vstart) + 1,
+        VEnd::Cut { .. } => limit,
+    }
+}

@@ -1,0 +1,14 @@
+-- Laws of vector loads and stores. `Stops`: where an instruction stops; `Moves`: what transfers leave; `Segments`: transfers of one
+-- index; `Addresses`: sums modulo 2 ^ 64; `Growth`: memories that grow between two runs; `Resumes`: transfers that stop and go on;
+-- `Kept`: what a load leaves alone; `RunsResume`: loads and stores that are stopped and run again; `InstructionsResume`: the same
+-- of each instruction; `RunsAgain`: any number of runs.
+pub mod Addresses
+pub mod Growth
+pub mod InstructionsResume
+pub mod Kept
+pub mod Moves
+pub mod Resumes
+pub mod RunsAgain
+pub mod RunsResume
+pub mod Segments
+pub mod Stops

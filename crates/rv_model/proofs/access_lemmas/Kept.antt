@@ -1,0 +1,176 @@
+-- What a vector load that stops leaves alone: the mask, and the bytes that none of its transfers covers.
+use Rattle.std.proofs.Common.{◌≡◌, ℕ, zero, suc, ◌+◌, ◌-◌, ◌*◌, ◌<◌, ◌≤◌, ◌⊎◌, inl, inr, Bool, true, false, ◌||◌, cond, List, [], ◌∷◌, ◌++◌, length, map, min, drop, get_or, refl, sym, ◌∙◌, ap, arith, length-take, length-drop, length-append}
+use Rattle.std.specs.List.{AllByRecursion, range_with_len}
+use Rattle.std.specs.Prelude.{replicate}
+use Rattle.std.specs.Simd.Lanes.{chunk, put_chunk}
+use Rattle.std.proofs.Math.Nat.{mul_comm}
+use Rattle.std.proofs.lemmas.List.{ext_get_or, length-replicate}
+use Rattle.std.proofs.lemmas.Nat.{row_fits}
+use Rattle.std.proofs.lemmas.Simd.{get_or-chunk, get_or-put_chunk_above, get_or-put_chunk_below, length-put_chunk}
+use lib.Lanes.{number_l}
+use Rattle.rv_model.specs.declared.vector.sizes.TheConstants.{VLENB}
+use Rattle.rv_model.specs.accesses.Transfers.{Plan, Transfer, bytes_loaded, loaded, transfers}
+use Rattle.rv_model.specs.accesses.VectorAccess.{VectorAccess, filled_segment, place, plan, segment}
+use Rattle.rv_model.specs.elements.Arithmetic.{GroupType, group_element}
+use Rattle.rv_model.specs.elements.Elements.{is_let, mask_bit}
+use Rattle.rv_model.specs.memory.Memory.{Memory, bytes_at}
+use Rattle.rv_model.specs.vector.Configuration.{width_bytes}
+use Rattle.rv_model.specs.vector.Registers.{register_of, registers}
+use Rattle.rv_model.proofs.access_lemmas.Segments.{field_transfer, filled_transfer}
+use Rattle.rv_model.proofs.memory_lemmas.Memory.{length-bytes_at}
+
+-- ---- transfers that miss a byte
+
+-- a byte lies beside so many from one on
+abbrev pub Beside : ℕ → ℕ → ℕ → Type 0
+Beside b at size = (b < at) ⊎ (at + size ≤ b)
+
+abbrev Misses : (Transfer → ℕ) → ℕ → Transfer → Type 0
+Misses place b t = Beside b (place t) (t.size + t.ones)
+
+put_beside : (file : List ℕ) (at : ℕ) (bytes : List ℕ) (b : ℕ) → Beside b at (length bytes) → get_or (put_chunk at file bytes) b 0 ≡ get_or file b 0
+put_beside file at bytes b (inl l) = get_or-put_chunk_below at file bytes b 0 l
+put_beside file at bytes b (inr g) = get_or-put_chunk_above at file bytes b 0 g
+
+module _ (m : Memory) (place : Transfer → ℕ) where
+  missed : (b : ℕ) (ts : List Transfer) (file : List ℕ) → AllByRecursion (Misses place b) ts → get_or (loaded m place file ts) b 0 ≡ get_or file b 0
+  unfolding loaded
+  missed b [] file h = refl
+  missed b (t ∷ ts) file h =
+      let bytes : List ℕ = bytes_loaded m t in
+      let long : length bytes ≡ t.size + t.ones =
+      omega (arith, length-append (bytes_at m t.address t.size) (replicate t.ones 255), length-bytes_at m t.address t.size, length-replicate {A = ℕ} t.ones 255) in
+      let beside : Beside b (place t) (length bytes) = elim h.0 [ inl l ↦ inl l | inr g ↦ inr (omega arith) ] in
+      missed b ts (put_chunk (place t) file bytes) h.1 ∙ put_beside file (place t) bytes b beside
+
+  pub length-loaded : (ts : List Transfer) (file : List ℕ) → length (loaded m place file ts) ≡ length file
+  unfolding loaded
+  length-loaded [] file = refl
+  length-loaded (t ∷ ts) file =
+      length-loaded ts (put_chunk (place t) file (bytes_loaded m t)) ∙ length-put_chunk (place t) file (bytes_loaded m t)
+
+-- ---- the transfers of an access
+
+all_append : (P : Transfer → Type 0) (xs ys : List Transfer) → AllByRecursion P xs → AllByRecursion P ys → AllByRecursion P (xs ++ ys)
+all_append P [] ys h g = g
+all_append P (x ∷ xs) ys h g = (h.0, all_append P xs ys h.1 g)
+
+all_transfers : (P : Transfer → Type 0) (each : Plan) (i n : ℕ) → ((k : ℕ) → i ≤ k → k < i + n → AllByRecursion P (each k)) → AllByRecursion P (transfers each i n)
+unfolding transfers
+all_transfers P each i zero h = tt
+all_transfers P each i (suc n) h =
+    all_append P (each i) (transfers each (i + 1) n) (h i (omega arith) (omega arith)) (all_transfers P each (i + 1) n (λ k l g. h k (omega arith) (omega arith)))
+
+-- those of an index have its number, a field and a size
+abbrev IsOf : ℕ → ℕ → ℕ → Transfer → Type 0
+IsOf i size n t = (t.index ≡ i) × (t.field < n) × (t.size + t.ones ≡ size)
+
+all_fields : (P : Transfer → Type 0) (make : ℕ → Transfer) (i size a n : ℕ) → ((f : ℕ) → (make f).index ≡ i × (make f).field ≡ f × (make f).size + (make f).ones ≡ size)
+    → ((t : Transfer) → IsOf i size (a + n) t → P t) → AllByRecursion P (map make (range_with_len a n))
+all_fields P make i size a zero is h = tt
+all_fields P make i size a (suc n) is h = (
+  h (make a) ((is a).0, omega (arith, (is a).1), (is a).2),
+  all_fields P make i size (a + 1) n is (λ t x. h t (x.0, omega (arith, x.1), x.2)),
+)
+
+all_planned : (P : Transfer → Type 0) (a : VectorAccess) (fill : Bool) (i : ℕ) → ((t : Transfer) → IsOf i a.size a.fields t → P t) → AllByRecursion P (plan a fill i)
+unfolding plan
+all_planned P a fill i h =
+    elim (is_let a.body i) as (λ b. AllByRecursion P (cond b (segment i (a.address i) a.size a.fields) (cond fill (filled_segment i a.size a.fields) []))) [
+      | true ↦ all_fields P (field_transfer i (a.address i) a.size) i a.size 0 a.fields (λ f. (refl, refl, omega arith)) (λ t x. h t (x.0, omega (arith, x.1), x.2))
+      | false ↦ elim fill as (λ c. AllByRecursion P (cond c (filled_segment i a.size a.fields) [])) [
+        | true ↦ all_fields P (filled_transfer i a.size) i a.size 0 a.fields (λ f. (refl, refl, omega arith)) (λ t x. h t (x.0, omega (arith, x.1), x.2))
+        | false ↦ tt
+      ]
+    ]
+
+-- ---- bytes that a load up to an index leaves alone
+
+-- where an element of a field begins
+abbrev pub element_place : VectorAccess → ℕ → ℕ → ℕ
+element_place a field i = VLENB * (a.register + field * a.field_registers) + i * a.size
+
+-- the registers after the transfers up to an index
+abbrev pub loaded_to : Memory → VectorAccess → Bool → List ℕ → ℕ → List ℕ
+loaded_to m a fill file stop = loaded m (place a) file (transfers (plan a fill) a.body.start (stop - a.body.start))
+
+module _ (m : Memory) (a : VectorAccess) (fill : Bool) (file : List ℕ) (stop : ℕ) where
+  pub byte_kept : (b : ℕ) → ((field i : ℕ) → field < a.fields → i < stop → Beside b (element_place a field i) a.size)
+      → get_or (loaded_to m a fill file stop) b 0 ≡ get_or file b 0
+  byte_kept b beside =
+      missed m (place a) b (transfers (plan a fill) a.body.start (stop - a.body.start)) file
+      (all_transfers (Misses (place a) b) (plan a fill) a.body.start (stop - a.body.start)
+      (λ i low high. all_planned (Misses (place a) b) a fill i (λ t is. of t i is (omega (arith, low, high)))))
+    where
+      of : (t : Transfer) (i : ℕ) → IsOf i a.size a.fields t → i < stop → Misses (place a) b t
+      of t i is l =
+          let at : place a t ≡ element_place a t.field i = ap (λ (n : ℕ). VLENB * (a.register + t.field * a.field_registers) + n * a.size) is.0 in
+          let size : t.size + t.ones ≡ a.size = is.2 in
+          elim (beside t.field i is.1 l) [ inl below ↦ inl (omega (arith, at, below)) | inr above ↦ inr (omega (arith, at, above, size)) ]
+
+  pub length_kept : length (loaded_to m a fill file stop) ≡ length file
+  length_kept = length-loaded m (place a) (transfers (plan a fill) a.body.start (stop - a.body.start)) file
+
+-- ---- parts of lists with the same bytes
+
+same_chunk : (at n : ℕ) (xs ys : List ℕ) → length xs ≡ length ys → ((b : ℕ) → at ≤ b → b < at + n → get_or xs b 0 ≡ get_or ys b 0) → chunk at n xs ≡ chunk at n ys
+same_chunk at n xs ys e h =
+    ext_get_or 0 (chunk at n xs) (chunk at n ys)
+    (length-take n (drop at xs) ∙ ap (λ (k : ℕ). min n k) (length-drop at xs ∙ ap (λ (k : ℕ). k - at) e ∙ sym (length-drop at ys)) ∙ sym (length-take n (drop at ys)))
+    (λ j l.
+    let short : j < n = omega (arith, length-take n (drop at xs), l) in
+    get_or-chunk at n xs j 0 short ∙ h (at + j) (omega arith) (omega (arith, short)) ∙ sym (get_or-chunk at n ys j 0 short))
+
+length_chunk_same : (at n : ℕ) (xs ys : List ℕ) → length xs ≡ length ys → length (chunk at n xs) ≡ length (chunk at n ys)
+length_chunk_same at n xs ys e =
+    length-take n (drop at xs) ∙ ap (λ (k : ℕ). min n k) (length-drop at xs ∙ ap (λ (k : ℕ). k - at) e ∙ sym (length-drop at ys))
+    ∙ sym (length-take n (drop at ys))
+
+-- a load that begins above v0 leaves it
+pub mask_kept : (m : Memory) (a : VectorAccess) (fill : Bool) (file : List ℕ) (stop : ℕ) → 1 ≤ a.register
+    → register_of (loaded_to m a fill file stop) 0 ≡ register_of file 0
+unfolding register_of
+mask_kept m a fill file stop above =
+    same_chunk 0 32 (loaded_to m a fill file stop) file (length_kept m a fill file stop)
+    (λ b low high. byte_kept m a fill file stop b (λ field i f g. inl (omega (arith, above, high))))
+
+-- an element of a group none of whose bytes is covered
+pub element_kept : (g : GroupType) (first i count : ℕ) (xs ys : List ℕ) → length xs ≡ length ys → i < count → width_bytes g.width * count ≤ VLENB * registers g.emul
+    → ((b : ℕ) → VLENB * first + i * width_bytes g.width ≤ b → b < VLENB * first + i * width_bytes g.width + width_bytes g.width → get_or xs b 0 ≡ get_or ys b 0)
+    → group_element g xs first i ≡ group_element g ys first i
+element_kept g first i count xs ys e l room h =
+    ap (number_l 256) (same_chunk (k * i) k (chunk at n xs) (chunk at n ys) (length_chunk_same at n xs ys e)
+    (λ b low high.
+    let inside : b < n = omega (arith, low, high, turned, counted, room, row_fits i k count k l (omega arith)) in
+    get_or-chunk at n xs b 0 inside ∙ h (at + b) (omega (arith, low, turned)) (omega (arith, high, turned)) ∙ sym (get_or-chunk at n ys b 0 inside)))
+  where
+    k : ℕ
+    k = width_bytes g.width
+
+    at : ℕ
+    at = VLENB * first
+
+    n : ℕ
+    n = VLENB * registers g.emul
+
+    turned : k * i ≡ i * k
+    turned = mul_comm k i
+
+    counted : k * count ≡ count * k
+    counted = mul_comm k count
+
+-- ---- plans that stay
+
+-- elements that are let through by masks that are the same where there is a mask
+pub let_kept : (unmasked : Bool) (mask other : List ℕ) (i : ℕ) → (unmasked ≡ false → mask ≡ other) → (unmasked || mask_bit mask i) ≡ (unmasked || mask_bit other i)
+let_kept true mask other i h = refl
+let_kept false mask other i h = ap (λ (bits : List ℕ). mask_bit bits i) (h refl)
+
+pub plan_same : (a b : VectorAccess) (fill : Bool) (i : ℕ) → is_let b.body i ≡ is_let a.body i → b.address i ≡ a.address i → b.size ≡ a.size → b.fields ≡ a.fields
+    → plan b fill i ≡ plan a fill i
+unfolding plan
+plan_same a b fill i lets address size fields =
+    ap (λ (l : Bool). cond l (segment i (b.address i) b.size b.fields) (cond fill (filled_segment i b.size b.fields) [])) lets
+    ∙ ap (λ (x : ℕ). cond (is_let a.body i) (segment i x b.size b.fields) (cond fill (filled_segment i b.size b.fields) [])) address
+    ∙ ap (λ (x : ℕ). cond (is_let a.body i) (segment i (a.address i) x b.fields) (cond fill (filled_segment i x b.fields) [])) size
+    ∙ ap (λ (x : ℕ). cond (is_let a.body i) (segment i (a.address i) a.size x) (cond fill (filled_segment i a.size x) [])) fields

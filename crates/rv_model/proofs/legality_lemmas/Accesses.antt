@@ -1,0 +1,172 @@
+-- What legality tells of the registers of a vector load or store.
+use Rattle.std.specs.Prelude.{Option, Some, nat_le}
+use Rattle.std.specs.List.{list_all}
+use Rattle.std.proofs.Common.{◌≡◌, ℕ, ◌+◌, ◌*◌, ◌/◌, ◌≤◌, Bool, true, refl, subst, arith, lit<}
+use Rattle.std.proofs.Math.Nat.{mul-le-mul_left, mul-le-mul_right}
+use Rattle.std.proofs.lemmas.Bool.Decides.{nat_tests}
+use Rattle.rv_model.specs.declared.instructions.instruction.Instr.TheVariants.{MaskMemory, VectorIndexed, VectorStrided, VectorUnit, WholeLoad, WholeStore}
+use Rattle.rv_model.specs.declared.instructions.operations.Direction.{Direction}
+use Rattle.rv_model.specs.declared.instructions.operations.Order.{Order}
+use Rattle.rv_model.specs.declared.instructions.operations.RegisterCount.{RegisterCount}
+use Rattle.rv_model.specs.declared.instructions.operations.RegisterCount.TheVariants.{One, Two, Four, Eight}
+use Rattle.rv_model.specs.declared.instructions.operations.UnitOp.{UnitOp}
+use Rattle.rv_model.specs.declared.instructions.operations.Width.{Width}
+use Rattle.rv_model.specs.declared.legality.Role.{Role}
+use Rattle.rv_model.specs.declared.legality.Role.TheVariants.{Unused}
+use Rattle.rv_model.specs.declared.vector.types.Lmul.{Lmul}
+use Rattle.rv_model.specs.declared.vector.types.Lmul.TheVariants.{Mf8, Mf4, Mf2, M1, M2, M4, M8}
+use Rattle.rv_model.specs.declared.vector.types.Sew.{Sew}
+use Rattle.rv_model.specs.declared.vector.types.Sew.TheVariants.{E8, E16, E32, E64}
+use Rattle.rv_model.specs.declared.vector.types.VType.{VType}
+use Rattle.rv_model.specs.declared.vector.sizes.TheConstants.{VECTOR_REGISTERS, VLENB}
+use Rattle.rv_model.specs.accesses.VectorAccess.{access_type}
+use Rattle.rv_model.specs.elements.Arithmetic.{GroupType, group_type}
+use Rattle.rv_model.specs.legality.GroupBounds.{HasRoom, IsInside, SegmentsInside}
+use Rattle.rv_model.specs.legality.Legality.{data_role, indexed_role, is_legal, operands, register_count, unit_role}
+use Rattle.rv_model.specs.legality.OperandShapes.{emul, mask, segment}
+use Rattle.rv_model.specs.legality.RegisterOperands.{IsGroup}
+use Rattle.rv_model.specs.vector.Configuration.{element_width, lmul_eighths, sew_bits, sew_width, vlmax, width_bytes}
+use Rattle.rv_model.specs.vector.Registers.{registers}
+use Rattle.rv_model.specs.vector.TypeNames.{lmuls, sews}
+use Rattle.rv_model.proofs.assembler_lemmas.Naming.{all_at}
+use Rattle.rv_model.proofs.legality_lemmas.Bounds.{emul-sew, fewer, inside, length_below, whole_elements}
+use Rattle.rv_model.proofs.legality_lemmas.Meaning.{is_legal_means}
+
+-- ---- groups of elements of another width than SEW
+
+-- what a test says of all widths it says of each, and so for multipliers
+pub of_sews : (p : Sew → Bool) → list_all p sews ≡ true → (s : Sew) → p s ≡ true
+of_sews p h E8 = all_at p sews 0 E8 h (lit< tt)
+of_sews p h E16 = all_at p sews 1 E8 h (lit< tt)
+of_sews p h E32 = all_at p sews 2 E8 h (lit< tt)
+of_sews p h E64 = all_at p sews 3 E8 h (lit< tt)
+
+pub of_lmuls : (p : Lmul → Bool) → list_all p lmuls ≡ true → (l : Lmul) → p l ≡ true
+of_lmuls p h Mf8 = all_at p lmuls 0 M1 h (lit< tt)
+of_lmuls p h Mf4 = all_at p lmuls 1 M1 h (lit< tt)
+of_lmuls p h Mf2 = all_at p lmuls 2 M1 h (lit< tt)
+of_lmuls p h M1 = all_at p lmuls 3 M1 h (lit< tt)
+of_lmuls p h M2 = all_at p lmuls 4 M1 h (lit< tt)
+of_lmuls p h M4 = all_at p lmuls 5 M1 h (lit< tt)
+of_lmuls p h M8 = all_at p lmuls 6 M1 h (lit< tt)
+
+-- groups with as many elements of one width as a type with another SEW has: they have room for all of them
+abbrev has_room : Sew → Sew → Lmul → Bool
+has_room s sew l =
+    nat_le (width_bytes (sew_width s) * (lmul_eighths l * VLENB / sew_bits sew)) (VLENB * registers (sew_bits s * lmul_eighths l / sew_bits sew))
+
+each_has_room : (s sew : Sew) (l : Lmul) → has_room s sew l ≡ true
+each_has_room s sew l =
+    of_lmuls (has_room s sew)
+    (of_sews (λ e. list_all (has_room s e) lmuls) (of_sews (λ w. list_all (λ e. list_all (has_room w e) lmuls) sews) refl s) sew) l
+
+pub elements_fit : (s : Sew) (t : VType) (vl : ℕ) → vl ≤ vlmax t → width_bytes (sew_width s) * vl ≤ VLENB * registers (emul (sew_bits s) t)
+elements_fit s t vl h =
+    let up : width_bytes (sew_width s) * vl ≤ width_bytes (sew_width s) * vlmax t = mul-le-mul_left (width_bytes (sew_width s)) h in
+    let most : width_bytes (sew_width s) * vlmax t ≤ VLENB * registers (emul (sew_bits s) t) = told (each_has_room s t.sew t.lmul) in
+    omega (arith, up, most)
+  where
+    told : {a b : ℕ} → nat_le a b ≡ true → a ≤ b
+    told h = grind (arith, nat_tests, h)
+
+-- groups of elements of a width, as many as the vector type has
+abbrev pub sew_groups : Sew → VType → GroupType
+sew_groups s t = record { width = sew_width s; emul = emul (sew_bits s) t }
+
+-- ---- the registers of a segment
+
+-- the group of a field
+pub field_inside : (g : GroupType) (vd nf vl : ℕ) → SegmentsInside g vd nf vl → (f : ℕ) → f ≤ nf → IsInside (vd + f * registers g.emul) g.emul
+field_inside g vd nf vl s f h =
+    let up : (f + 1) * registers g.emul ≤ (nf + 1) * registers g.emul = mul-le-mul_right (registers g.emul) (omega (arith, h)) in
+    omega (arith, up, s.inside)
+
+segments_inside : (role : Role) (s : Sew) (vd nf vl : ℕ) (t : VType) → vl ≤ vlmax t → IsGroup (segment role (nf + 1) vd (sew_bits s) t)
+    → SegmentsInside (sew_groups s t) vd nf vl
+segments_inside role s vd nf vl t h group = record {
+  least = group.least;
+  inside = group.inside;
+  holds = record {
+    most = group.most;
+    room = elements_fit s t vl h;
+    least = length_below t vl h;
+    whole = whole_elements s (registers (emul (sew_bits s) t));
+    size = omega (arith, fewer s (VLENB * registers (emul (sew_bits s) t)), group.most);
+  };
+}
+
+-- ---- each instruction
+
+pub unit_inside : (op : UnitOp) (w : Width) (nf vd rs1 : ℕ) (vm : Bool) (t : VType) (vstart vl : ℕ)
+    → is_legal (VectorUnit op w nf vd rs1 vm) (Some t) vstart ≡ true → vl ≤ vlmax t → SegmentsInside (access_type t w) vd nf vl
+unfolding operands
+unit_inside op w nf vd rs1 vm t vstart vl legal h =
+    let groups = ((is_legal_means (VectorUnit op w nf vd rs1 vm) (Some t) vstart).0 legal).operands.groups in
+    segments_inside (unit_role op) (element_width w) vd nf vl t h (groups 0 (mask Unused 0) (lit< tt))
+
+pub strided_inside : (direction : Direction) (w : Width) (nf vd rs1 rs2 : ℕ) (vm : Bool) (t : VType) (vstart vl : ℕ)
+    → is_legal (VectorStrided direction w nf vd rs1 rs2 vm) (Some t) vstart ≡ true → vl ≤ vlmax t → SegmentsInside (access_type t w) vd nf vl
+unfolding operands
+strided_inside direction w nf vd rs1 rs2 vm t vstart vl legal h =
+    let groups = ((is_legal_means (VectorStrided direction w nf vd rs1 rs2 vm) (Some t) vstart).0 legal).operands.groups in
+    segments_inside (data_role direction) (element_width w) vd nf vl t h (groups 0 (mask Unused 0) (lit< tt))
+
+-- the indices of an indexed access: a group inside the file, with room for the elements before vl
+pub record IndicesInside (g : GroupType) (vs2 vl : ℕ) : Type 0 where
+  pub least : 1 ≤ g.emul
+  pub inside : IsInside vs2 g.emul
+  pub room : HasRoom g.width g.emul vl
+
+-- the data and the indices of an indexed access
+pub record IndexedInside (w : Width) (nf vd vs2 : ℕ) (t : VType) (vl : ℕ) : Type 0 where
+  pub fields : SegmentsInside (group_type t) vd nf vl
+  pub indices : IndicesInside (access_type t w) vs2 vl
+
+pub indexed_inside : (direction : Direction) (order : Order) (w : Width) (nf vd rs1 vs2 : ℕ) (vm : Bool) (t : VType) (vstart vl : ℕ)
+    → is_legal (VectorIndexed direction order w nf vd rs1 vs2 vm) (Some t) vstart ≡ true → vl ≤ vlmax t → IndexedInside w nf vd vs2 t vl
+unfolding operands
+indexed_inside direction order w nf vd rs1 vs2 vm t vstart vl legal h =
+    let groups = ((is_legal_means (VectorIndexed direction order w nf vd rs1 vs2 vm) (Some t) vstart).0 legal).operands.groups in
+    let indices = groups 1 (mask Unused 0) (lit< tt) in
+    let of_sew : SegmentsInside (sew_groups t.sew t) vd nf vl =
+    segments_inside (indexed_role direction nf) t.sew vd nf vl t h (groups 0 (mask Unused 0) (lit< tt)) in
+    record {
+      fields =
+          subst (λ e. SegmentsInside (record { width = sew_width t.sew; emul = e }) vd nf vl) (emul-sew t.sew (lmul_eighths t.lmul)) of_sew;
+      indices = record {
+        least = indices.least;
+        inside = inside vs2 (access_type t w).emul (access_type t w).emul refl indices.inside;
+        room = record { most = indices.most; room = elements_fit (element_width w) t vl h };
+      };
+    }
+
+-- ---- whole registers and masks
+
+-- so many registers are a group of so many registers
+whole_registers : (count : RegisterCount) → 1 * registers (8 * register_count count) ≡ register_count count
+whole_registers One = refl
+whole_registers Two = refl
+whole_registers Four = refl
+whole_registers Eight = refl
+
+pub whole_load_inside : (count : RegisterCount) (w : Width) (vd rs1 : ℕ) (t : Option VType) (vstart : ℕ)
+    → is_legal (WholeLoad count w vd rs1) t vstart ≡ true → vd + register_count count ≤ VECTOR_REGISTERS
+unfolding operands
+whole_load_inside count w vd rs1 t vstart legal =
+    let groups = ((is_legal_means (WholeLoad count w vd rs1) t vstart).0 legal).operands.groups in
+    subst (λ n. vd + n ≤ VECTOR_REGISTERS) (whole_registers count) (groups 0 (mask Unused 0) (lit< tt)).inside
+
+pub whole_store_inside : (count : RegisterCount) (vd rs1 : ℕ) (t : Option VType) (vstart : ℕ)
+    → is_legal (WholeStore count vd rs1) t vstart ≡ true → vd + register_count count ≤ VECTOR_REGISTERS
+unfolding operands
+whole_store_inside count vd rs1 t vstart legal =
+    let groups = ((is_legal_means (WholeStore count vd rs1) t vstart).0 legal).operands.groups in
+    subst (λ n. vd + n ≤ VECTOR_REGISTERS) (whole_registers count) (groups 0 (mask Unused 0) (lit< tt)).inside
+
+-- a mask is one register
+pub mask_memory_inside : (direction : Direction) (vd rs1 : ℕ) (t : VType) (vstart : ℕ)
+    → is_legal (MaskMemory direction vd rs1) (Some t) vstart ≡ true → vd + 1 ≤ VECTOR_REGISTERS
+unfolding operands
+mask_memory_inside direction vd rs1 t vstart legal =
+    let groups = ((is_legal_means (MaskMemory direction vd rs1) (Some t) vstart).0 legal).operands.groups in
+    (groups 0 (mask Unused 0) (lit< tt)).inside

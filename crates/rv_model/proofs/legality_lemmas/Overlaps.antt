@@ -1,0 +1,219 @@
+-- What legality tells of the overlaps of a vector load: its mask stays, and of its indices those that are still to be used.
+use Rattle.std.specs.Prelude.{Some, nat_le, nat_lt, ◌==◌}
+use Rattle.std.specs.List.{list_all}
+use Rattle.std.proofs.Common.{◌≡◌, ◌⊎◌, inl, inr, ℕ, ◌+◌, ◌-◌, ◌*◌, ◌/◌, ◌%◌, ◌<◌, ◌≤◌, Bool, true, false, ◌&&◌, ◌||◌, cond, refl, sym, ap, ◌∙◌, subst, arith, lit<}
+use Rattle.std.proofs.Math.Nat.{add-mul, mod-add-div', mul_comm}
+use Rattle.std.proofs.lemmas.Bool.{and_parts, cases_order, eqb-true, leb-true, ltb-true, or_cases}
+use Rattle.std.proofs.lemmas.Nat.{mul-le, row_fits}
+use Rattle.rv_model.specs.declared.instructions.instruction.Instr.TheVariants.{VectorIndexed, VectorStrided, VectorUnit}
+use Rattle.rv_model.specs.declared.instructions.operations.Direction.TheVariants as direction
+use Rattle.rv_model.specs.declared.instructions.operations.Order.{Order}
+use Rattle.rv_model.specs.declared.instructions.operations.UnitOp.TheVariants as unit
+use Rattle.rv_model.specs.declared.instructions.operations.Width.{Width}
+use Rattle.rv_model.specs.declared.legality.Content.TheVariants.{Elements, Mask}
+use Rattle.rv_model.specs.declared.legality.Operand.{Operand}
+use Rattle.rv_model.specs.declared.legality.Role.TheVariants.{Apart, Control, Read, Unused, Write}
+use Rattle.rv_model.specs.declared.vector.sizes.TheConstants.{VLENB}
+use Rattle.rv_model.specs.declared.vector.types.Lmul.{Lmul}
+use Rattle.rv_model.specs.declared.vector.types.Sew.{Sew}
+use Rattle.rv_model.specs.declared.vector.types.VType.{VType}
+use Rattle.rv_model.specs.accesses.Restarts.{IsByteOf, LaterIndicesStay}
+use Rattle.rv_model.specs.legality.Legality.{IsLegal, indexed_role, operands}
+use Rattle.rv_model.specs.legality.OperandShapes.{emul, group, mask, segment}
+use Rattle.rv_model.specs.legality.RegisterOperands.{AllowsAs, IsGroup, MayOverlap, Overlap}
+use Rattle.rv_model.specs.vector.Configuration.{element_width, lmul_eighths, sew_bits, sew_width, vlmax, width_bytes}
+use Rattle.rv_model.specs.vector.Registers.{registers}
+use Rattle.rv_model.specs.vector.TypeNames.{lmuls, sews}
+use Rattle.rv_model.proofs.legality_lemmas.Accesses.{elements_fit, of_lmuls, of_sews}
+use Rattle.rv_model.proofs.legality_lemmas.Bounds.{emul-sew}
+
+-- ---- groups with as many elements of a width as the vector type has
+
+-- those of whole registers are filled by them, and where the elements aren't wider than SEW, groups of SEW have whole registers
+abbrev fills : Sew → Sew → Lmul → Bool
+fills s sew l =
+    (nat_lt (sew_bits s * lmul_eighths l / sew_bits sew) 8
+    || (lmul_eighths l * VLENB / sew_bits sew * width_bytes (sew_width s) == VLENB * registers (sew_bits s * lmul_eighths l / sew_bits sew)))
+    && (nat_lt (sew_bits s * lmul_eighths l / sew_bits sew) 8
+    || (nat_lt (sew_bits sew) (sew_bits s) || nat_le 8 (sew_bits sew * lmul_eighths l / sew_bits sew)))
+
+each_fills : (s sew : Sew) (l : Lmul) → fills s sew l ≡ true
+each_fills s sew l =
+    of_lmuls (fills s sew)
+    (of_sews (λ e. list_all (fills s e) lmuls) (of_sews (λ w. list_all (λ e. list_all (fills w e) lmuls) sews) refl s) sew) l
+
+group_filled : (s : Sew) (t : VType) → 8 ≤ emul (sew_bits s) t → vlmax t * width_bytes (sew_width s) ≡ VLENB * registers (emul (sew_bits s) t)
+group_filled s t some = elim (or_cases _ _ (and_parts _ _ (each_fills s t.sew t.lmul)).0) [
+  | inl l ↦ let a : emul (sew_bits s) t < 8 = ltb-true _ _ l in absurd (omega arith)
+  | inr h ↦ eqb-true _ _ h
+]
+
+wider : (s : Sew) (t : VType) → 8 ≤ emul (sew_bits s) t → sew_bits s ≤ sew_bits t.sew → 8 ≤ emul (sew_bits t.sew) t
+wider s t some h = told (or_cases (nat_lt (emul (sew_bits s) t) 8) narrow (and_parts _ _ (each_fills s t.sew t.lmul)).1)
+  where
+    narrow : Bool
+    narrow = nat_lt (sew_bits t.sew) (sew_bits s) || nat_le 8 (emul (sew_bits t.sew) t)
+
+    told : ((nat_lt (emul (sew_bits s) t) 8 ≡ true) ⊎ (narrow ≡ true)) → 8 ≤ emul (sew_bits t.sew) t
+    told (inl l) = let a : emul (sew_bits s) t < 8 = ltb-true _ _ l in absurd (omega arith)
+    told (inr o) = elim (or_cases (nat_lt (sew_bits t.sew) (sew_bits s)) (nat_le 8 (emul (sew_bits t.sew) t)) o) [
+      | inl l ↦ let a : sew_bits t.sew < sew_bits s = ltb-true _ _ l in absurd (omega arith)
+      | inr g ↦ leb-true _ _ g
+    ]
+
+pub group_fits : (s : Sew) (t : VType) → vlmax t * width_bytes (sew_width s) ≤ VLENB * registers (emul (sew_bits s) t)
+group_fits s t = omega (arith, elements_fit s t (vlmax t) (omega arith), mul_comm (vlmax t) (width_bytes (sew_width s)))
+
+-- ---- two groups
+
+-- aligned groups of one size that overlap begin together
+aligned_same : (z a b : ℕ) → a % z ≡ 0 → b % z ≡ 0 → a < b + z → b < a + z → a ≡ b
+aligned_same z a b p q h g =
+    let x = mod-add-div' a z in
+    let y = mod-add-div' b z in
+    elim (cases_order (a / z) (b / z)) [
+      | inl e ↦ let same : a / z * z ≡ b / z * z = ap (λ (n : ℕ). n * z) e in omega arith
+      | inr s ↦ elim s [
+        | inl l ↦ absurd (omega (arith, row_fits (a / z) z (b / z) z l (omega arith)))
+        | inr l ↦ absurd (omega (arith, row_fits (b / z) z (a / z) z l (omega arith)))
+      ]
+    ]
+
+-- a byte of an element of a field is in one of its registers
+byte_register : (first n f z k v i b : ℕ) → f < n → i < v → v * k ≤ VLENB * z → IsByteOf (first + f * z) k i b
+    → (first ≤ b / 32) × (b / 32 < first + n * z)
+byte_register first n f z k v i b hf hi room h =
+    let low = row_fits i k v k hi (omega arith) in
+    let field = row_fits f z n z hf (omega arith) in
+    (omega arith, omega arith)
+
+-- ---- the mask
+
+clear : (b : Bool) (d s : Operand) (w : ℕ) → d.content ≡ Elements w → AllowsAs (cond b Write Apart) Control d s → ¬ Overlap d s
+clear true d s w e h o = let c : d.content ≡ Mask = h o in absurd (cc)
+clear false d s w e h o = h o
+
+above_v0 : (d : Operand) → ¬ Overlap d (mask Control 0) → 1 ≤ d.fields → 1 ≤ d.first
+above_v0 d h some = elim (cases_order d.first 0) [
+  | inl e ↦ absurd (h (0, ((omega arith, omega (arith, row_fits 0 (registers d.emul) d.fields (registers d.emul) some (omega arith))), (omega arith, omega arith))))
+  | inr s ↦ omega arith
+]
+
+-- a masked load writes no part of v0
+unit_masked : (first_only : Bool) (w : Width) (nf vd rs1 : ℕ) (t : VType) (vstart : ℕ)
+    → IsLegal (VectorUnit (cond first_only unit.FaultOnlyFirst unit.Load) w nf vd rs1 false) (Some t) vstart → 1 ≤ vd
+unfolding operands
+unit_masked true w nf vd rs1 t vstart legal =
+    let d = segment Write (nf + 1) vd (sew_bits (element_width w)) t in
+    above_v0 d (clear true d (mask Control 0) (sew_bits (element_width w)) refl (legal.operands.pairs 0 d (lit< tt) 1 d (lit< tt))) (omega arith)
+unit_masked false w nf vd rs1 t vstart legal =
+    let d = segment Write (nf + 1) vd (sew_bits (element_width w)) t in
+    above_v0 d (clear true d (mask Control 0) (sew_bits (element_width w)) refl (legal.operands.pairs 0 d (lit< tt) 1 d (lit< tt))) (omega arith)
+
+strided_masked : (w : Width) (nf vd rs1 rs2 : ℕ) (t : VType) (vstart : ℕ)
+    → IsLegal (VectorStrided direction.Load w nf vd rs1 rs2 false) (Some t) vstart → 1 ≤ vd
+unfolding operands
+strided_masked w nf vd rs1 rs2 t vstart legal =
+    let d = segment Write (nf + 1) vd (sew_bits (element_width w)) t in
+    above_v0 d (clear true d (mask Control 0) (sew_bits (element_width w)) refl (legal.operands.pairs 0 d (lit< tt) 1 d (lit< tt))) (omega arith)
+
+indexed_masked : (order : Order) (w : Width) (nf vd rs1 vs2 : ℕ) (t : VType) (vstart : ℕ)
+    → IsLegal (VectorIndexed direction.Load order w nf vd rs1 vs2 false) (Some t) vstart → 1 ≤ vd
+unfolding operands
+indexed_masked order w nf vd rs1 vs2 t vstart legal =
+    let d = segment (indexed_role direction.Load nf) (nf + 1) vd (sew_bits t.sew) t in
+    above_v0 d (clear (nf == 0) d (mask Control 0) (sew_bits t.sew) refl (legal.operands.pairs 0 d (lit< tt) 2 d (lit< tt))) (omega arith)
+
+-- the same, where an instruction may be masked or not
+pub unit_above : (first_only vm : Bool) (w : Width) (nf vd rs1 : ℕ) (t : VType) (vstart : ℕ)
+    → IsLegal (VectorUnit (cond first_only unit.FaultOnlyFirst unit.Load) w nf vd rs1 vm) (Some t) vstart → vm ≡ false → 1 ≤ vd
+unit_above first_only true w nf vd rs1 t vstart legal e = absurd (cc)
+unit_above first_only false w nf vd rs1 t vstart legal e = unit_masked first_only w nf vd rs1 t vstart legal
+
+pub strided_above : (vm : Bool) (w : Width) (nf vd rs1 rs2 : ℕ) (t : VType) (vstart : ℕ)
+    → IsLegal (VectorStrided direction.Load w nf vd rs1 rs2 vm) (Some t) vstart → vm ≡ false → 1 ≤ vd
+strided_above true w nf vd rs1 rs2 t vstart legal e = absurd (cc)
+strided_above false w nf vd rs1 rs2 t vstart legal e = strided_masked w nf vd rs1 rs2 t vstart legal
+
+pub indexed_above : (vm : Bool) (order : Order) (w : Width) (nf vd rs1 vs2 : ℕ) (t : VType) (vstart : ℕ)
+    → IsLegal (VectorIndexed direction.Load order w nf vd rs1 vs2 vm) (Some t) vstart → vm ≡ false → 1 ≤ vd
+indexed_above true order w nf vd rs1 vs2 t vstart legal e = absurd (cc)
+indexed_above false order w nf vd rs1 vs2 t vstart legal e = indexed_masked order w nf vd rs1 vs2 t vstart legal
+
+-- ---- the indices
+
+-- the data and the indices of an indexed load
+abbrev loaded_fields : ℕ → ℕ → VType → Operand
+loaded_fields nf vd t = segment (indexed_role direction.Load nf) (nf + 1) vd (sew_bits t.sew) t
+
+abbrev index_group : Width → ℕ → VType → Operand
+index_group w vs2 t = group Read vs2 (sew_bits (element_width w)) t
+
+may : (b : Bool) (d s : Operand) → AllowsAs (cond b Write Apart) Read d s → Overlap d s → (b ≡ true) × MayOverlap d s
+may true d s h o = (refl, h o)
+may false d s h o = absurd (h o)
+
+-- they are groups, and overlap as destinations and sources may, where there is one field
+record IndexedOperands (w : Width) (nf vd vs2 : ℕ) (t : VType) : Type 0 where
+  fields : IsGroup (loaded_fields nf vd t)
+  indices : IsGroup (index_group w vs2 t)
+  overlap : Overlap (loaded_fields nf vd t) (index_group w vs2 t) → ((nf == 0) ≡ true) × MayOverlap (loaded_fields nf vd t) (index_group w vs2 t)
+
+indexed_operands : (order : Order) (w : Width) (nf vd rs1 vs2 : ℕ) (vm : Bool) (t : VType) (vstart : ℕ)
+    → IsLegal (VectorIndexed direction.Load order w nf vd rs1 vs2 vm) (Some t) vstart → IndexedOperands w nf vd vs2 t
+unfolding operands
+indexed_operands order w nf vd rs1 vs2 vm t vstart legal = record {
+  fields = legal.operands.groups 0 (mask Unused 0) (lit< tt);
+  indices = legal.operands.groups 1 (mask Unused 0) (lit< tt);
+  overlap = may (nf == 0) (loaded_fields nf vd t) (index_group w vs2 t) (legal.operands.pairs 0 (mask Unused 0) (lit< tt) 1 (mask Unused 0) (lit< tt));
+}
+
+later_stay : (w : Width) (nf vd vs2 : ℕ) (t : VType) → IndexedOperands w nf vd vs2 t
+    → (f i k b : ℕ) → f ≤ nf → i < k → k < vlmax t
+    → IsByteOf (vd + f * registers (emul (sew_bits t.sew) t)) (width_bytes (sew_width t.sew)) i b
+    → ¬ IsByteOf vs2 (width_bytes (sew_width (element_width w))) k b
+later_stay w nf vd vs2 t legal f i k b hf hi hk x y =
+    let z : ℕ = registers (emul (sew_bits t.sew) t) in
+    let zs : ℕ = registers (emul (sew_bits (element_width w)) t) in
+    let v : ℕ = vlmax t in
+    let dk : ℕ = width_bytes (sew_width t.sew) in
+    let sk : ℕ = width_bytes (sew_width (element_width w)) in
+    let dg = legal.fields in
+    let sg = legal.indices in
+    let droom : v * dk ≤ VLENB * z = group_fits t.sew t in
+    let sroom : v * sk ≤ VLENB * zs = group_fits (element_width w) t in
+    let dhas = byte_register vd (nf + 1) f z dk v i b (omega arith) (omega arith) droom x in
+    let shas = byte_register vs2 1 0 zs sk v k b (omega arith) hk sroom (omega arith, omega arith) in
+    let both = legal.overlap (b / 32, (dhas, shas)) in
+    let one : nf ≡ 0 = eqb-true nf 0 both.0 in
+    let only : f ≡ 0 = omega arith in
+    let first : f * z ≡ 0 = ap (λ (j : ℕ). j * z) only ∙ omega arith in
+    let before : i * dk + dk ≤ k * dk = row_fits i dk k dk hi (omega arith) in
+    elim both.1 [
+      | inl same ↦
+          let sizes : z ≡ zs = ap (λ (n : ℕ). registers (emul n t)) same in
+          let widths : k * dk ≡ k * sk = ap (λ (n : ℕ). k * (n / 8)) same in
+          let aligned : vs2 % z ≡ 0 = ap (λ (q : ℕ). vs2 % q) sizes ∙ sg.aligned in
+          let together : vd ≡ vs2 = aligned_same z vd vs2 dg.aligned aligned (omega arith) (omega arith) in
+          omega arith
+      | inr other ↦ elim other [
+        | inl narrow ↦
+            let less : dk ≤ sk = omega arith in
+            let later : k * dk ≤ k * sk = mul-le k dk k sk (omega arith) less in
+            omega arith
+        | inr wide ↦
+            let less : sk ≤ dk = omega arith in
+            let whole : (nf + 1) * z ≡ z = ap (λ (j : ℕ). (j + 1) * z) one ∙ omega arith in
+            let full : v * dk ≡ VLENB * z = group_filled t.sew t (wider (element_width w) t wide.1 (omega arith)) in
+            let filled : v * sk ≡ VLENB * zs = group_filled (element_width w) t wide.1 in
+            let left : v * sk ≡ k * sk + (v - k) * sk = ap (λ (j : ℕ). j * sk) (omega arith) ∙ add-mul k (v - k) sk in
+            let over : v * dk ≡ k * dk + (v - k) * dk = ap (λ (j : ℕ). j * dk) (omega arith) ∙ add-mul k (v - k) dk in
+            let shorter : (v - k) * sk ≤ (v - k) * dk = mul-le (v - k) sk (v - k) dk (omega arith) less in
+            omega arith
+      ]
+    ]
+
+pub later_indices_stay : LaterIndicesStay
+later_indices_stay order w nf vd rs1 vs2 vm t vstart legal f i k b hf hi hk x =
+    later_stay w nf vd vs2 t (indexed_operands order w nf vd rs1 vs2 vm t vstart legal) f i k b hf hi hk
+    (subst (λ (e : ℕ). IsByteOf (vd + f * registers e) (width_bytes (sew_width t.sew)) i b) (sym (emul-sew t.sew (lmul_eighths t.lmul))) x)

@@ -1,0 +1,27 @@
+-- The laws of loads and stores that stop.
+use Rattle.rv_model.proofs.access_lemmas.Growth as growth
+use Rattle.rv_model.proofs.access_lemmas.InstructionsResume as resume
+use Rattle.rv_model.proofs.access_lemmas.RunsAgain as runs
+use Rattle.rv_model.proofs.legality_lemmas.Overlaps as overlaps
+use Rattle.rv_model.proofs.step.laws.loads_and_stores_resume.Goals as goal
+
+pub returns-clause-indices : goal.returns-clause-indices
+returns-clause-indices c = overlaps.later_indices_stay
+
+pub returns-clause-stops : goal.returns-clause-stops
+returns-clause-stops c = resume.stops_within
+
+pub returns-clause-again : goal.returns-clause-again
+returns-clause-again c = resume.access_resumes
+
+pub returns-clause-last : goal.returns-clause-last
+returns-clause-last c = runs.last_run_is_whole
+
+pub returns-clause-limit : goal.returns-clause-limit
+returns-clause-limit c = runs.larger_limit_is_same
+
+pub returns-clause-overlay : goal.returns-clause-overlay
+returns-clause-overlay c = growth.get-overlay
+
+pub returns-clause-grown : goal.returns-clause-grown
+returns-clause-grown c = growth.overlay_grown

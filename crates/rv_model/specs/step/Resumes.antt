@@ -1,0 +1,122 @@
+-- Laws of vector loads and stores that are cut or fault and are run again from vstart on, as whole instructions ("V" Vector
+-- Extension 1.0, sections 3.7, 7.7 and 17.1).
+use Rattle.std.specs.Prelude.{ℕ, ◌≡◌, ◌≢◌, ◌+◌, ◌-◌, ◌*◌, ◌<◌, ◌≤◌, ◌⊎◌, ⊤, false, All, Option, Some, None}
+use Rattle.rv_model.specs.declared.instructions.instruction.Instr.{Instr}
+use Rattle.rv_model.specs.declared.instructions.instruction.Instr.TheVariants.{MaskMemory, VectorIndexed, VectorStrided, VectorUnit, WholeStore}
+use Rattle.rv_model.specs.declared.instructions.operations.Direction.TheVariants as direction
+use Rattle.rv_model.specs.declared.instructions.operations.UnitOp.TheVariants as unit
+use Rattle.rv_model.specs.declared.scalar.Scalar.{Scalar}
+use Rattle.rv_model.specs.declared.vector.sizes.TheConstants.{VLENB}
+use Rattle.rv_model.specs.declared.vector.state.VState.{VState}
+use Rattle.rv_model.specs.declared.vector.types.VType.{VType}
+use Rattle.rv_model.specs.declared.step.step_end.StepEnd.TheVariants.{Cut}
+use Rattle.rv_model.specs.declared.step.vector_end.VEnd.{VEnd}
+use Rattle.rv_model.specs.declared.step.vector_end.VEnd.TheVariants as vector_end
+use Rattle.rv_model.specs.accesses.Restarts.{Extends, IsStopped, overlay}
+use Rattle.rv_model.specs.accesses.Transfers.{Transfer}
+use Rattle.rv_model.specs.accesses.VectorAccess.{VectorAccess, access_type, indexed_access, mask_length, plan, strided_access, unit_access, unmasked_access}
+use Rattle.rv_model.specs.elements.Arithmetic.{group_type}
+use Rattle.rv_model.specs.instructions.Table.{scan, table}
+use Rattle.rv_model.specs.legality.Legality.{register_count}
+use Rattle.rv_model.specs.memory.Memory.{Memory}
+use Rattle.rv_model.specs.step.Hart.{HartState, Stepped}
+use Rattle.rv_model.specs.step.Step.{step, word_at}
+use Rattle.rv_model.specs.step.VectorStep.{vector_executed, vector_step}
+use Rattle.rv_model.specs.vector.Configuration.{IsConfiguration}
+
+-- a vector instruction is cut or faults
+pub record StopsShort (end : VEnd) : Type 0 where
+  pub undone : end ≢ vector_end.Done
+  pub legal : end ≢ vector_end.Illegal
+
+-- a state with another memory
+abbrev pub finds : Memory → HartState → HartState
+finds m s = record s { memory = m }
+
+-- what an instruction that is cut or faults leaves: vstart is one of its indices, at or past the one where it began; the vector
+-- type and length, the scalar registers, the output buffer and the policy are as they were
+pub record LeavesPart (i : Instr) (before after : HartState) : Type 0 where
+  pub vector : IsStopped i before.vector after.vector
+  pub rest : after ≡ record before { vector = after.vector; memory = after.memory }
+
+abbrev pub InstructionStops : Type 0
+InstructionStops = (limit : ℕ) (i : Instr) (s : HartState)
+    → IsConfiguration s.vector.conf
+    → StopsShort (vector_executed limit i s).end
+    → LeavesPart i s (vector_executed limit i s).state
+
+-- it is run again in a memory that has grown, and ends and leaves what it would have if what is new had been there from the
+-- start, and the limit had counted what was done as well
+abbrev pub InstructionResumes : Type 0
+InstructionResumes = (limit later : ℕ) (i : Instr) (s : HartState) (more : Memory)
+    → IsConfiguration s.vector.conf
+    → StopsShort (vector_executed limit i s).end
+    → Extends (vector_executed limit i s).state.memory more
+    → vector_executed later i (finds more (vector_executed limit i s).state)
+    ≡ vector_executed ((vector_executed limit i s).state.vector.vstart - s.vector.vstart + later) i (finds (overlay s.memory more) s)
+
+-- ---- with the program counter and the ticks
+
+-- the same step, with so many ticks more
+abbrev pub after_ticks : ℕ → Stepped → Stepped
+after_ticks ticks r = record r { ticks = r.ticks + ticks }
+
+-- the same of a step: the whole one takes a tick for each index that was done before, and the ticks of the one that is run again
+abbrev pub StepResumes : Type 0
+StepResumes = (limit later : ℕ) (i : Instr) (word : ℕ) (s : HartState) (more : Memory)
+    → IsConfiguration s.vector.conf
+    → StopsShort (vector_executed limit i s).end
+    → Extends (vector_step limit i word s).state.memory more
+    → vector_step ((vector_step limit i word s).state.vector.vstart - s.vector.vstart + later) i word (finds (overlay s.memory more) s)
+    ≡ after_ticks ((vector_step limit i word s).state.vector.vstart - s.vector.vstart)
+    (vector_step later i word (finds more (vector_step limit i word s).state))
+
+-- and of one that is cut: that takes its limit, so the ticks of both are those of the whole one
+abbrev pub CutStepResumes : Type 0
+CutStepResumes = (limit later : ℕ) (i : Instr) (word : ℕ) (s : HartState) (more : Memory)
+    → IsConfiguration s.vector.conf
+    → (vector_step limit i word s).end ≡ Cut
+    → Extends (vector_step limit i word s).state.memory more
+    → vector_step (limit + later) i word (finds (overlay s.memory more) s)
+    ≡ after_ticks limit (vector_step later i word (finds more (vector_step limit i word s).state))
+
+-- ---- with the fetch
+
+-- an access that needs a vector type
+abbrev pub typed_access : Option VType → (VType → VectorAccess) → Option VectorAccess
+typed_access None make = None
+typed_access (Some t) make = Some (make t)
+
+-- what a vector store moves; nothing, if it is none
+abbrev pub store_access : Instr → VState → Scalar → Option VectorAccess
+store_access (VectorUnit unit.Store width nf vd rs1 vm) v x = typed_access v.conf.vtype (λ t. unit_access (access_type t width) nf vd rs1 vm v x)
+store_access (VectorStrided direction.Store width nf vd rs1 rs2 vm) v x =
+    typed_access v.conf.vtype (λ t. strided_access (access_type t width) nf vd rs1 rs2 vm v x)
+store_access (VectorIndexed direction.Store order width nf vd rs1 vs2 vm) v x =
+    typed_access v.conf.vtype (λ t. indexed_access (group_type t) (access_type t width) nf vd rs1 vs2 vm v x)
+store_access (WholeStore count vd rs1) v x = Some (unmasked_access (register_count count * VLENB) 1 (register_count count) vd rs1 v x)
+store_access (MaskMemory direction.Store vd rs1) v x = Some (unmasked_access (mask_length v.conf.vl) 1 1 vd rs1 v x)
+store_access _ v x = None
+
+-- a transfer has none of the four bytes at an address
+abbrev pub IsApart : ℕ → Transfer → Type 0
+IsApart pc t = (x : ℕ) → pc ≤ x → x < pc + 4 → (x < t.address) ⊎ (t.address + t.size ≤ x)
+
+-- nor has any transfer of an access from vstart on
+abbrev pub KeepsWord : ℕ → Option VectorAccess → Type 0
+KeepsWord pc None = ⊤
+KeepsWord pc (Some a) = (i : ℕ) → a.body.start ≤ i → i < a.body.end → All (IsApart pc) (plan a false i)
+
+-- an instruction that isn't a vector store with a byte in its own word
+abbrev pub KeepsOwnWord : Option Instr → HartState → Type 0
+KeepsOwnWord None s = ⊤
+KeepsOwnWord (Some i) s = KeepsWord s.scalar.pc (store_access i s.vector s.scalar)
+
+-- a step that is cut and made again fetches the same word, and both end and leave, and take as many ticks, as the whole one
+abbrev pub FetchedStepResumes : Type 0
+FetchedStepResumes = (limit later : ℕ) (s : HartState) (more : Memory)
+    → IsConfiguration s.vector.conf
+    → (step limit s).end ≡ Cut
+    → KeepsOwnWord (scan table (word_at s.memory s.scalar.pc)) s
+    → Extends (step limit s).state.memory more
+    → step (limit + later) (finds (overlay s.memory more) s) ≡ after_ticks limit (step later (finds more (step limit s).state))

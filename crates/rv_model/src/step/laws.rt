@@ -1,0 +1,37 @@
+//! Laws of vector loads and stores that stop before their end, and of the ticks that they take.
+ghost use Rattle.rv_model.specs.accesses.Restarts.{AccessResumes, LargerLimitIsSame, LastRunIsWhole, LaterIndicesStay, OverlayIsEither, OverlayOfGrown, StopsWithin};
+ghost use Rattle.rv_model.specs.step.Resumes.{CutStepResumes, FetchedStepResumes, InstructionResumes, InstructionStops, StepResumes};
+ghost use Rattle.rv_model.specs.step.Ticks.{CutTakesAllTicks, MoreTicksAreSame, TicksAreWithin};
+
+/// A legal vector load or store that is cut or faults, and is run again, any number of times, while
+/// pages may be mapped and filled in between, does what the whole one would with these pages there
+/// from the start: a legal indexed load changes no index element that is still to be used.
+pub fn loads_and_stores_resume()
+    ensures indices { LaterIndicesStay }
+    ensures stops { StopsWithin }
+    ensures again { AccessResumes }
+    ensures last { LastRunIsWhole }
+    ensures limit { LargerLimitIsSame }
+    ensures overlay { OverlayIsEither }
+    ensures grown { OverlayOfGrown }
+{}
+
+/// The same of a vector instruction as a whole, with its legality and its tail: one that is cut or
+/// faults leaves all but the vector state and the memory as they were, and is the whole one once it
+/// is run again, whose ticks are those of its parts if they are cut; so it is with the fetch, but
+/// for a store with a byte in its own word.
+pub fn instructions_resume()
+    ensures stops { InstructionStops }
+    ensures again { InstructionResumes }
+    ensures step { StepResumes }
+    ensures cut { CutStepResumes }
+    ensures fetched { FetchedStepResumes }
+{}
+
+/// A vector instruction takes a tick, and no more than are left. One that is cut takes all of them,
+/// and stays where it is; one that isn't does the same with more of them.
+pub fn ticks_and_cuts()
+    ensures within { TicksAreWithin }
+    ensures cut { CutTakesAllTicks }
+    ensures more { MoreTicksAreSame }
+{}

@@ -1,0 +1,2 @@
+pub mod FlatMemory
+pub mod FlatMemoryLaws

@@ -1,0 +1,14 @@
+-- What holds of an outcome that is known, and of a list of one number.
+use Rattle.std.proofs.Common.{◌≡◌, ℕ, zero, suc, ◌≤◌, ◌∷◌, take, refl, ap, arith}
+use Rattle.std.specs.Prelude.{Result, Ok, Err, IsOk, OnOk, replicate}
+
+-- of one that is well
+pub when_ok : {T E : Type 0} {P : Type 0} (r : Result T E) → IsOk r → OnOk r P → P
+when_ok (Ok x) well p = p
+when_ok (Err y) well p = absurd (cc)
+
+-- the first of many
+pub take-replicate : (x n m : ℕ) → n ≤ m → take n (replicate m x) ≡ replicate n x
+take-replicate x zero m h = refl
+take-replicate x (suc n) zero h = absurd (omega (arith, h))
+take-replicate x (suc n) (suc m) h = ap (λ xs. x ∷ xs) (take-replicate x n m (omega (arith, h)))

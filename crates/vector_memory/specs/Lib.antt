@@ -1,0 +1,2 @@
+pub mod AccessKinds
+pub mod SegmentRoom

@@ -1,0 +1,84 @@
+//! Where the segments of a load or store begin ("V" Vector Extension 1.0, sections 7.4 to 7.6).
+ghost use Rattle.std.specs.Prelude.{◌≡◌, ◌+◌, ◌*◌, ◌%◌, ◌^◌, ⊤, ℕ, pos, ◌+ℤ◌, ◌*ℤ◌};
+ghost use Rattle.std.specs.Int.{cast_signed, w64};
+ghost use Rattle.rv_model.specs.elements.Elements.{element, HasElement};
+ghost use Rattle.rv_model.specs.elements.Formulas.{wrap};
+ghost use Rattle.rv_model.specs.vector.Configuration.{element_width, sew_width, width_bytes};
+
+use lane_arith::Lane;
+use rv_model::instructions::operations::Width;
+
+/// The addresses of the segments of a load or store, by index.
+pub(crate) trait Addresses {
+    // The address at an index.
+    ghost address: { Self → ℕ → ℕ };
+
+    // There is one at this index.
+    ghost has: { Self → ℕ → Type 0 };
+
+    /// The address of the segment at an index.
+    fn address(&self, index: usize) -> u64
+        requires { has self.now index }
+        ensures { result ≡ address self.now index };
+}
+
+/// Segments that follow one another, `size` bytes each, from one at `base` on.
+#[derive(Clone, Copy)]
+pub(crate) struct UnitStride {
+    pub base: u64,
+    pub size: u64,
+}
+
+impl Addresses for UnitStride {
+    ghost address = { λ s i. (s.base + i * s.size) % 2 ^ 64 };
+
+    ghost has = { λ s i. ⊤ };
+
+    fn address(&self, index: usize) -> u64 {
+        self.base.wrapping_add(self.size.wrapping_mul(index as u64))
+    }
+}
+
+/// Segments at a distance of `stride` bytes, a signed number in two's complement, from one at `base` on.
+#[derive(Clone, Copy)]
+pub(crate) struct Strided {
+    pub base: u64,
+    pub stride: u64,
+}
+
+impl Addresses for Strided {
+    ghost address = { λ s i. wrap w64 (pos s.base +ℤ pos i *ℤ cast_signed w64 s.stride) };
+
+    ghost has = { λ s i. ⊤ };
+
+    #[tactic(auto, using(rv_model::proofs::access_lemmas::Addresses::stride_sum))]
+    fn address(&self, index: usize) -> u64 {
+        self.base
+            .wrapping_add(self.stride.wrapping_mul(index as u64))
+    }
+}
+
+/// Segments at offsets from `base`, in bytes: unsigned numbers of a width.
+#[derive(Drop)]
+pub(crate) struct Indexed<'a> {
+    pub base: u64,
+    pub offsets: &'a [u8],
+    pub width: Width,
+}
+
+impl Addresses for Indexed<'_> {
+    ghost address = { λ s i. (s.base
+        + element (width_bytes (sew_width (element_width s.width))) s.offsets.now i) % 2 ^ 64 };
+
+    ghost has = { λ s i. HasElement (width_bytes (sew_width (element_width s.width))) s.offsets.now i };
+
+    fn address(&self, index: usize) -> u64 {
+        let offset = match self.width {
+            Width::E8 => u8::load(self.offsets, index).number(),
+            Width::E16 => u16::load(self.offsets, index).number(),
+            Width::E32 => u32::load(self.offsets, index).number(),
+            Width::E64 => u64::load(self.offsets, index).number(),
+        };
+        self.base.wrapping_add(offset)
+    }
+}

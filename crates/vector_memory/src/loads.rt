@@ -1,0 +1,95 @@
+//! Loads, index by index ("V" Vector Extension 1.0, sections 7.4 to 7.9 and 17.1).
+ghost use Rattle.std.specs.Prelude.{◌≡◌, ◌↔◌, ◌+◌, ◌-◌, ◌≤◌, ◌<◌, ℕ, true, IsOk, IfErr, OnOk, OnErr};
+ghost use Rattle.rv_model.specs.declared.memory.Access.TheVariants.{Load};
+ghost use Rattle.rv_model.specs.accesses.Transfers.{are_allowed, bad_address, end_at, loaded, stop_index, transfers};
+ghost use Rattle.rv_model.specs.accesses.VectorAccess.{plan};
+ghost use Rattle.rv_model.specs.memory.Memory.{Memory};
+ghost use Rattle.vector_memory.specs.SegmentRoom.{HasRoom, StopsBefore, access_of, place_in};
+
+use crate::addresses::Addresses;
+use crate::segments::Segments;
+use crate::user_bytes::UserBytes;
+use lane_arith::Body;
+use rv_model::{Access, Fault, GROUP_BYTES, MemEnd, VFile};
+
+/// Loads the segment of one index, if it is active and wholly allowed; one that is masked off becomes all
+/// ones if that is asked for.
+fn load_index<M: UserBytes, A: Addresses>(
+    memory: &M,
+    segments: &Segments,
+    addresses: &A,
+    body: &Body<'_>,
+    fill_masked_off: bool,
+    index: usize,
+    file: &mut VFile,
+) -> Result<(), Fault>
+    requires room { HasRoom segments.now (index + 1) }
+    requires count { index < GROUP_BYTES }
+    requires address { A.has addresses.now index }
+    ensures ok { IsOk result ↔ (are_allowed Load (M.memory memory.now)
+        (plan (access_of segments.now body.now (A.address addresses.now)) fill_masked_off index) ≡ true) }
+    ensures fault { IfErr result (λ fault. fault.addr ≡ bad_address Load (M.memory memory.now)
+        (plan (access_of segments.now body.now (A.address addresses.now)) fill_masked_off index)) }
+    ensures value { OnOk result (file.new ≡ loaded (M.memory memory.now) (place_in segments.now) file.old
+        (plan (access_of segments.now body.now (A.address addresses.now)) fill_masked_off index)) }
+    ensures unchanged { OnErr result (file.new ≡ file.old) }
+{
+    if body.lets(index) {
+        let address = addresses.address(index);
+        segments.check(memory, Access::Load, address)?;
+        segments.load(memory, address, index, file);
+    } else if fill_masked_off {
+        segments.fill(index, file);
+    }
+    Ok(())
+}
+
+/// Loads the indices of the body, at most `limit` of them, up to the first that isn't wholly allowed.
+pub(crate) fn load<M: UserBytes, A: Addresses>(
+    memory: &M,
+    segments: &Segments,
+    addresses: &A,
+    body: &Body<'_>,
+    limit: usize,
+    fill_masked_off: bool,
+    file: &mut VFile,
+) -> MemEnd
+    requires room { HasRoom segments.now body.now.end }
+    requires count { body.now.end ≤ GROUP_BYTES }
+    requires addresses { (i : ℕ) → i < body.now.end → A.has addresses.now i }
+    ensures end { result ≡ end_at Load (M.memory memory.now)
+        (plan (access_of segments.now body.now (A.address addresses.now)) fill_masked_off)
+        (body.now.start + limit) body.now.end
+        (stop_index Load (M.memory memory.now)
+        (plan (access_of segments.now body.now (A.address addresses.now)) fill_masked_off)
+        body.now.start (body.now.start + limit) body.now.end) }
+    ensures value { file.new ≡ loaded (M.memory memory.now) (place_in segments.now) file.old
+        (transfers (plan (access_of segments.now body.now (A.address addresses.now)) fill_masked_off) body.now.start
+        (stop_index Load (M.memory memory.now)
+        (plan (access_of segments.now body.now (A.address addresses.now)) fill_masked_off)
+        body.now.start (body.now.start + limit) body.now.end - body.now.start)) }
+    ensures least { StopsBefore body.now.end result }
+{
+    let stop = body.start().saturating_add(limit).min(body.end());
+    for index in body.start()..stop {
+        if let Err(fault) = load_index(
+            memory,
+            segments,
+            addresses,
+            body,
+            fill_masked_off,
+            index,
+            file,
+        ) {
+            return MemEnd::Fault {
+                index,
+                addr: fault.addr,
+            };
+        }
+    }
+    if stop < body.end() {
+        MemEnd::Cut { index: stop }
+    } else {
+        MemEnd::Done
+    }
+}

@@ -1,0 +1,116 @@
+//! One segment: the fields of one index ("V" Vector Extension 1.0, section 7.8).
+ghost use Rattle.std.specs.Prelude.{◌≡◌, ◌↔◌, ◌+◌, ◌*◌, ◌%◌, ◌^◌, ◌≤◌, ◌<◌, ℕ, true, IsOk, IfErr};
+ghost use Rattle.rv_model.specs.declared.memory.Access.TheVariants.{Load, Store};
+ghost use Rattle.rv_model.specs.accesses.Transfers.{are_allowed, bad_address, loaded, stored};
+ghost use Rattle.rv_model.specs.accesses.VectorAccess.{filled_segment, segment};
+ghost use Rattle.rv_model.specs.memory.Memory.{Memory};
+ghost use Rattle.vector_memory.specs.SegmentRoom.{HasRoom, place_in};
+
+use crate::user_bytes::UserBytes;
+use rv_model::{Access, FILE_BYTES, Fault, VFile, VLENB, VReg};
+
+/// How many fields a segment has, and of how many bytes each; the register where the first field begins,
+/// and how many registers each takes.
+#[derive(Clone, Copy)]
+pub(crate) struct Segments {
+    pub fields: usize,
+    pub size: usize,
+    pub register: VReg,
+    pub field_registers: usize,
+}
+
+impl Segments {
+    /// The byte of the register file where an element begins.
+    fn place(&self, index: usize, field: usize) -> usize
+        requires room { HasRoom self.now (index + 1) }
+        requires field { field < self.now.fields }
+        ensures value { result ≡ VLENB * (self.now.register + field * self.now.field_registers) + index * self.now.size }
+        ensures inside { result + self.now.size ≤ FILE_BYTES }
+    {
+        let register = self.register.number() as usize + field * self.field_registers;
+        VLENB * register + index * self.size
+    }
+
+    /// The address of a field, by that of its segment.
+    fn field_address(&self, address: u64, field: usize) -> u64
+        requires size { self.now.size ≤ 8 }
+        requires field { field < 8 }
+        ensures { result ≡ (address + field * self.now.size) % 2 ^ 64 }
+    {
+        address.wrapping_add((field * self.size) as u64)
+    }
+
+    /// Whether each field of a segment may be accessed; if not, the address of the first that may not.
+    pub(crate) fn check<M: UserBytes>(
+        &self,
+        memory: &M,
+        access: Access,
+        address: u64,
+    ) -> Result<(), Fault>
+        requires size { self.now.size ≤ 8 }
+        requires fields { self.now.fields ≤ 8 }
+        ensures ok { (index : ℕ) → IsOk result
+            ↔ (are_allowed access (M.memory memory.now) (segment index address self.now.size self.now.fields) ≡ true) }
+        ensures fault { (index : ℕ) → IfErr result (λ fault. fault.addr
+            ≡ bad_address access (M.memory memory.now) (segment index address self.now.size self.now.fields)) }
+    {
+        for field in 0..self.fields {
+            memory.check(self.field_address(address, field), self.size, access)?;
+        }
+        Ok(())
+    }
+
+    /// Loads the fields of a segment, which may be loaded.
+    pub(crate) fn load<M: UserBytes>(
+        &self,
+        memory: &M,
+        address: u64,
+        index: usize,
+        file: &mut VFile,
+    )
+        requires room { HasRoom self.now (index + 1) }
+        requires allowed { are_allowed Load (M.memory memory.now) (segment index address self.now.size self.now.fields) ≡ true }
+        ensures { file.new ≡ loaded (M.memory memory.now) (place_in self.now) file.old
+            (segment index address self.now.size self.now.fields) }
+    {
+        for field in 0..self.fields {
+            let at = self.place(index, field);
+            let bytes = file.part_mut(at, at + self.size);
+            let _ = memory.read(self.field_address(address, field), Access::Load, bytes);
+        }
+    }
+
+    /// Makes the fields of an index all ones.
+    pub(crate) fn fill(&self, index: usize, file: &mut VFile)
+        requires room { HasRoom self.now (index + 1) }
+        ensures { (memory : Memory) → file.new ≡ loaded memory (place_in self.now) file.old
+            (filled_segment index self.now.size self.now.fields) }
+    {
+        for field in 0..self.fields {
+            let at = self.place(index, field);
+            file.part_mut(at, at + self.size)
+                .copy_from_slice(&[0xff; 8][..self.size]);
+        }
+    }
+
+    /// Stores the fields of a segment, which may be stored.
+    pub(crate) fn store<M: UserBytes>(
+        &self,
+        file: &VFile,
+        address: u64,
+        index: usize,
+        memory: &mut M,
+    )
+        requires room { HasRoom self.now (index + 1) }
+        requires allowed { are_allowed Store (M.memory memory.old) (segment index address self.now.size self.now.fields) ≡ true }
+        ensures value { M.memory memory.new ≡ stored (M.memory memory.old) (place_in self.now) file.now
+            (segment index address self.now.size self.now.fields) }
+        ensures others { memory.new ≡ M.with_memory memory.old (M.memory memory.new) }
+    {
+        for field in 0..self.fields {
+            let at = self.place(index, field);
+            let bytes = file.part(at, at + self.size);
+            let _ = memory.write(self.field_address(address, field), Access::Store, bytes);
+        }
+    }
+}

@@ -1,0 +1,83 @@
+//! Stores, index by index ("V" Vector Extension 1.0, sections 7.4 to 7.9 and 17.1).
+ghost use Rattle.std.specs.Prelude.{◌≡◌, ◌↔◌, ◌+◌, ◌-◌, ◌≤◌, ◌<◌, ℕ, true, false, IsOk, IfErr, OnOk, OnErr};
+ghost use Rattle.rv_model.specs.declared.memory.Access.TheVariants.{Store};
+ghost use Rattle.rv_model.specs.accesses.Transfers.{are_allowed, bad_address, end_at, stop_index, stored, transfers};
+ghost use Rattle.rv_model.specs.accesses.VectorAccess.{plan};
+ghost use Rattle.vector_memory.specs.SegmentRoom.{HasRoom, StopsBefore, access_of, place_in};
+
+use crate::addresses::Addresses;
+use crate::segments::Segments;
+use crate::user_bytes::UserBytes;
+use lane_arith::Body;
+use rv_model::{Access, Fault, GROUP_BYTES, MemEnd, VFile};
+
+/// Stores the segment of one index, if it is active and wholly allowed.
+fn store_index<M: UserBytes, A: Addresses>(
+    file: &VFile,
+    segments: &Segments,
+    addresses: &A,
+    body: &Body<'_>,
+    index: usize,
+    memory: &mut M,
+) -> Result<(), Fault>
+    requires room { HasRoom segments.now (index + 1) }
+    requires count { index < GROUP_BYTES }
+    requires address { A.has addresses.now index }
+    ensures ok { IsOk result ↔ (are_allowed Store (M.memory memory.old)
+        (plan (access_of segments.now body.now (A.address addresses.now)) false index) ≡ true) }
+    ensures fault { IfErr result (λ fault. fault.addr ≡ bad_address Store (M.memory memory.old)
+        (plan (access_of segments.now body.now (A.address addresses.now)) false index)) }
+    ensures value { OnOk result (M.memory memory.new ≡ stored (M.memory memory.old) (place_in segments.now) file.now
+        (plan (access_of segments.now body.now (A.address addresses.now)) false index)) }
+    ensures others { OnOk result (memory.new ≡ M.with_memory memory.old (M.memory memory.new)) }
+    ensures unchanged { OnErr result (memory.new ≡ memory.old) }
+{
+    if body.lets(index) {
+        let address = addresses.address(index);
+        segments.check(memory, Access::Store, address)?;
+        segments.store(file, address, index, memory);
+    }
+    Ok(())
+}
+
+/// Stores the indices of the body, at most `limit` of them, up to the first that isn't wholly allowed.
+pub(crate) fn store<M: UserBytes, A: Addresses>(
+    file: &VFile,
+    segments: &Segments,
+    addresses: &A,
+    body: &Body<'_>,
+    limit: usize,
+    memory: &mut M,
+) -> MemEnd
+    requires room { HasRoom segments.now body.now.end }
+    requires count { body.now.end ≤ GROUP_BYTES }
+    requires addresses { (i : ℕ) → i < body.now.end → A.has addresses.now i }
+    ensures end { result ≡ end_at Store (M.memory memory.old)
+        (plan (access_of segments.now body.now (A.address addresses.now)) false)
+        (body.now.start + limit) body.now.end
+        (stop_index Store (M.memory memory.old)
+        (plan (access_of segments.now body.now (A.address addresses.now)) false)
+        body.now.start (body.now.start + limit) body.now.end) }
+    ensures value { M.memory memory.new ≡ stored (M.memory memory.old) (place_in segments.now) file.now
+        (transfers (plan (access_of segments.now body.now (A.address addresses.now)) false) body.now.start
+        (stop_index Store (M.memory memory.old)
+        (plan (access_of segments.now body.now (A.address addresses.now)) false)
+        body.now.start (body.now.start + limit) body.now.end - body.now.start)) }
+    ensures others { memory.new ≡ M.with_memory memory.old (M.memory memory.new) }
+    ensures least { StopsBefore body.now.end result }
+{
+    let stop = body.start().saturating_add(limit).min(body.end());
+    for index in body.start()..stop {
+        if let Err(fault) = store_index(file, segments, addresses, body, index, memory) {
+            return MemEnd::Fault {
+                index,
+                addr: fault.addr,
+            };
+        }
+    }
+    if stop < body.end() {
+        MemEnd::Cut { index: stop }
+    } else {
+        MemEnd::Done
+    }
+}
