@@ -1,11 +1,13 @@
-//! The program on one command line after another, each with the status that it ends with.
+//! The program on one command line after another, each with the status that it ends with. The process ends with that of
+//! the last.
 #![tactic(auto)]
 
 use std::io;
+use std::process::ExitCode;
 use vec_monitor::vecmon;
 
 /// The words after the program's name.
-const LINES: [&[&str]; 14] = [
+const LINES: [&[&str]; 15] = [
     &["--help"],
     &[],
     &["empty"],
@@ -14,7 +16,6 @@ const LINES: [&[&str]; 14] = [
     &["empty", "a"],
     &["missing"],
     &["."],
-    &["empty", "a=missing"],
     &["missing", "good=good", "a=missing"],
     &["missing", "good=good", "a=missing", "a"],
     &["missing", "good=good", "good=good"],
@@ -26,15 +27,39 @@ const LINES: [&[&str]; 14] = [
         "sizes=sizes",
     ],
     &["--quantum", "7", "script", "short=good", "--", "good=short"],
+    &[
+        "images",
+        "magic=magic",
+        "class=class",
+        "order=order",
+        "machine=machine",
+        "entries=entries",
+        "interp=interp",
+        "entry=entry",
+        "bare=bare",
+        "later=later",
+        "stack=stack",
+        "good=good",
+    ],
+    &["empty", "a=missing"],
 ];
 
-fn main(rt: HostRuntime) -> io::Result<()> {
+/// Runs the program on each line, and answers the status of the last.
+fn last_status(rt: &HostRuntime) -> io::Result<u8> {
+    let mut status = 0;
     for words in LINES {
         let mut line: Vec<&str> = Vec::new(rt.alloc());
         line.push("vecmon")?;
         line.extend_from_slice(words)?;
-        let status = vecmon(&rt, rt.alloc(), line.as_slice());
+        status = vecmon(rt, rt.alloc(), line.as_slice());
         println!(rt; "{status} {words:?}")?;
     }
-    Ok(())
+    Ok(status)
+}
+
+fn main(rt: HostRuntime) -> ExitCode {
+    match last_status(&rt) {
+        Ok(status) => ExitCode::from(status),
+        Err(_) => ExitCode::FAILURE,
+    }
 }

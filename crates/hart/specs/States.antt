@@ -10,16 +10,21 @@ use Rattle.rv_model.specs.declared.vector.state.VState.{VState}
 use Rattle.rv_model.specs.step.Hart.{HartState, Stepped, hart_state, ends_after}
 use Rattle.rv_model.specs.instructions.Table.{scan, table}
 use Rattle.rv_model.specs.memory.Memory.{Memory, can_access}
-use Rattle.rv_model.specs.step.Step.{step, word_at}
+use Rattle.rv_model.specs.step.Step.{word_at}
 
--- whatever the output buffer holds, the step from the one state is to the other, with this end and these ticks
-abbrev pub IsStep : ℕ → (List ℕ → HartState) → (List ℕ → HartState) → StepEnd → ℕ → Type 0
-IsStep limit before after end ticks =
-    (output : List ℕ) → step limit (before output) ≡ record { state = after output; end = end; ticks = ticks }
+-- a step or an instruction leads from the one state to the other, with this end and these ticks
+abbrev pub LeadsTo : (HartState → Stepped) → HartState → HartState → StepEnd → ℕ → Type 0
+LeadsTo instruction before after end ticks = instruction before ≡ ends_after ticks end after
 
--- whatever the output buffer holds, an instruction leads from the one state to the other, with this end and these ticks
+-- the same in one tick for an instruction of scalar registers, memory and the output buffer, whatever all else is
+abbrev pub LeadsOutput : (HartState → Stepped) → Scalar → Memory → List ℕ → Scalar → Memory → List ℕ → StepEnd → Type 0
+LeadsOutput instruction scalar memory output scalar' memory' output' end =
+    (vector : VState) (policy : Policy)
+    → LeadsTo instruction (hart_state scalar vector memory policy output) (hart_state scalar' vector memory' policy output') end 1
+
+-- the same for an instruction that leaves the output buffer as it is, whatever it holds
 abbrev pub Leads : (HartState → Stepped) → (List ℕ → HartState) → (List ℕ → HartState) → StepEnd → ℕ → Type 0
-Leads instruction before after end ticks = (output : List ℕ) → instruction (before output) ≡ ends_after ticks end (after output)
+Leads instruction before after end ticks = (output : List ℕ) → LeadsTo instruction (before output) (after output) end ticks
 
 -- the same in one tick for an instruction of scalar registers and memory, whatever all else is
 abbrev pub LeadsScalar : (HartState → Stepped) → Scalar → Memory → Scalar → Memory → StepEnd → Type 0

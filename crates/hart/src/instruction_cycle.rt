@@ -2,17 +2,19 @@
 ghost use Rattle.std.specs.Prelude.{◌≡◌, ◌≢◌, ◌≤◌, Ok, Err, if◌then◌else◌};
 ghost use Rattle.rv_model.specs.declared.memory.Access.TheVariants.{Fetch};
 ghost use Rattle.rv_model.specs.step.Hart.{hart_state};
+ghost use Rattle.rv_model.specs.instructions.Table.{scan, table};
 ghost use Rattle.rv_model.specs.memory.Memory.{can_access};
-ghost use Rattle.rv_model.specs.step.Step.{dirties, executed, touches, word_at};
-ghost use Rattle.hart.specs.States.{fetched, IsStep, Leads, Marks};
+ghost use Rattle.rv_model.specs.step.Step.{dirties, executed, step as step_spec, touches, word_at};
+ghost use Rattle.hart.specs.States.{fetched, LeadsTo, Marks};
 
 use crate::faults::{fault, illegal};
 use crate::scalar_instructions::execute_scalar;
 use crate::touching_instructions::{execute_touching, is_touching};
 use crate::vectors::Vectors;
 use crate::view::View;
+use arrayvec::ArrayVec;
 use rv_decode::decode;
-use rv_model::{Access, Cause, Fault, GROUP_BYTES, Instr, Policy, Scalar, StepEnd};
+use rv_model::{Access, Cause, Fault, GROUP_BYTES, OUTPUT_SIZE, Policy, Scalar, StepEnd};
 use vector_memory::UserBytes;
 
 /// The word at an address.
@@ -26,39 +28,40 @@ fn fetch<M: UserBytes>(memory: &M, pc: u64) -> Result<u32, Fault>
     Ok(u32::from_le_bytes(bytes))
 }
 
-/// Carries out an instruction within `limit` ticks; there is none where the word is no instruction.
+/// Carries out the instruction that a word is within `limit` ticks; one that is none is illegal.
 #[tactic(auto, unfolding(rv_model::specs::step::Step::executed, rv_model::specs::step::Step::dirties))]
 fn execute<M: UserBytes, V: Vectors>(
-    instr: Option<Instr>,
     word: u32,
     scalar: &mut Scalar,
     memory: &mut M,
     vectors: &mut V,
+    output: &mut ArrayVec<u8, OUTPUT_SIZE>,
     limit: usize,
     policy: Policy,
 ) -> (StepEnd, usize)
     requires ready { V.ready vectors.old }
     requires limit { 1 ≤ limit }
-    ensures model { Leads (executed limit instr word)
-        (hart_state scalar.old (V.lent vectors.old).state (M.memory memory.old) policy)
-        (hart_state scalar.new (V.lent vectors.new).state (M.memory memory.new) policy) result.0 result.1 }
+    ensures model { LeadsTo (executed limit (scan table word) word)
+        (hart_state scalar.old (V.lent vectors.old).state (M.memory memory.old) policy output.old.items)
+        (hart_state scalar.new (V.lent vectors.new).state (M.memory memory.new) policy output.new.items)
+        result.0 result.1 }
     ensures memory { memory.new ≡ M.with_memory memory.old (M.memory memory.new) }
     ensures vectors { vectors.new
-        ≡ (if touches instr then V.back vectors.old (V.lent vectors.new) else vectors.old) }
-    ensures dirty { Marks (dirties limit instr)
+        ≡ (if touches (scan table word) then V.back vectors.old (V.lent vectors.new) else vectors.old) }
+    ensures dirty { Marks (dirties limit (scan table word))
         (hart_state scalar.old (V.lent vectors.old).state (M.memory memory.old) policy)
         (V.lent vectors.old) (V.lent vectors.new) }
     ensures ready { V.ready vectors.new }
     ensures uncut { GROUP_BYTES ≤ limit → result.0 ≢ StepEnd.Cut }
 {
-    let Some(instr) = instr else {
+    let Some(instr) = decode(word) else {
         return (illegal(word, scalar), 1);
     };
     if is_touching(&instr) {
         let seat = vectors.seat();
         execute_touching(&instr, word, scalar, memory, seat, limit, policy)
     } else {
-        (execute_scalar(&instr, word, scalar, memory), 1)
+        (execute_scalar(&instr, word, scalar, memory, output), 1)
     }
 }
 
@@ -67,16 +70,16 @@ fn execute<M: UserBytes, V: Vectors>(
 /// is marked as dirty where the instruction changed it.
 #[tactic(auto, unfolding(rv_model::specs::step::Step::step))]
 pub fn step<M: UserBytes, V: Vectors>(
-    view: &mut View<'_, '_, '_, M, V>,
+    view: &mut View<'_, '_, '_, '_, M, V>,
     limit: usize,
 ) -> (StepEnd, usize)
     requires ready { V.ready view.old.vectors.now }
     requires limit { 1 ≤ limit }
-    ensures model { IsStep limit
+    ensures model { LeadsTo (step_spec limit)
         (hart_state view.old.scalar.now (V.lent view.old.vectors.now).state
-        (M.memory view.old.memory.now) view.old.policy)
+        (M.memory view.old.memory.now) view.old.policy view.old.output.now.items)
         (hart_state view.new.scalar.now (V.lent view.new.vectors.now).state
-        (M.memory view.new.memory.now) view.new.policy)
+        (M.memory view.new.memory.now) view.new.policy view.new.output.now.items)
         result.0 result.1 }
     ensures policy { view.new.policy ≡ view.old.policy }
 
@@ -101,15 +104,16 @@ pub fn step<M: UserBytes, V: Vectors>(
     ensures same_scalar { view.new.scalar.ghost_name ≡ view.old.scalar.ghost_name }
     ensures same_memory { view.new.memory.ghost_name ≡ view.old.memory.ghost_name }
     ensures same_vectors { view.new.vectors.ghost_name ≡ view.old.vectors.ghost_name }
+    ensures same_output { view.new.output.ghost_name ≡ view.old.output.ghost_name }
 {
     let pc = view.scalar.pc;
     match fetch(&*view.memory, pc) {
         Ok(word) => execute(
-            decode(word),
             word,
             &mut *view.scalar,
             &mut *view.memory,
             &mut *view.vectors,
+            &mut *view.output,
             limit,
             view.policy,
         ),

@@ -15,6 +15,7 @@ mod touching_instructions;
 mod vector_instructions;
 mod vectors;
 mod view;
+mod write_call;
 
 pub use instruction_cycle::step;
 pub use vectors::Vectors;

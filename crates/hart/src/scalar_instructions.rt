@@ -2,14 +2,15 @@
 ghost use Rattle.std.specs.Prelude.{◌≡◌, ◌≢◌, ℕ, Some, false};
 ghost use Rattle.rv_model.specs.step.Step.{dirties, executed, touches};
 ghost use Rattle.rv_model.specs.step.Hart.{HartState};
-ghost use Rattle.hart.specs.States.{LeadsScalar};
+ghost use Rattle.hart.specs.States.{LeadsOutput};
 
 use crate::control_transfer::{branch_target, jump, jump_if, jump_target, register_target};
 use crate::environment_call::system;
 use crate::faults::illegal;
 use crate::loads_and_stores::{access_address, load, store};
 use crate::retirement::{give, run_on};
-use rv_model::{Instr, Scalar, StepEnd};
+use arrayvec::ArrayVec;
+use rv_model::{Instr, OUTPUT_SIZE, Scalar, StepEnd};
 use scalar_core::{
     alu, branch, i_immediate, register_immediate, s_immediate, shift_immediate,
     shift_immediate_word, upper_immediate,
@@ -23,10 +24,12 @@ pub(crate) fn execute_scalar<M: UserBytes>(
     word: u32,
     scalar: &mut Scalar,
     memory: &mut M,
+    output: &mut ArrayVec<u8, OUTPUT_SIZE>,
 ) -> StepEnd
     requires { touches (Some instr.now) ≡ false }
-    ensures model { (limit : ℕ) → LeadsScalar (executed limit (Some instr.now) word)
-        scalar.old (M.memory memory.old) scalar.new (M.memory memory.new) result }
+    ensures model { (limit : ℕ) → LeadsOutput (executed limit (Some instr.now) word)
+        scalar.old (M.memory memory.old) output.old.items
+        scalar.new (M.memory memory.new) output.new.items result }
     ensures memory { memory.new ≡ M.with_memory memory.old (M.memory memory.new) }
     ensures clean { (limit : ℕ) (before : HartState) → dirties limit (Some instr.now) before ≡ false }
     ensures uncut { result ≢ StepEnd.Cut }
@@ -66,7 +69,7 @@ pub(crate) fn execute_scalar<M: UserBytes>(
             give(rd, value, scalar)
         }
         Instr::Fence { .. } => run_on(scalar),
-        Instr::System { op } => system(op, scalar),
+        Instr::System { op } => system(op, scalar, memory, output),
         Instr::Csr { .. } | Instr::CsrImmediate { .. } => illegal(word, scalar),
         _ => unreachable!(),
     }

@@ -1,11 +1,14 @@
 //! What an instruction of a user works on.
-use rv_model::{Policy, Scalar};
+use arrayvec::ArrayVec;
+use rv_model::{OUTPUT_SIZE, Policy, Scalar};
 
-/// One user's registers, bytes and lender of its vector state, and what becomes of agnostic elements.
+/// One user's registers, bytes, lender of its vector state and output buffer, and what becomes of agnostic
+/// elements.
 #[derive(Drop)]
-pub struct View<'s, 'm, 'v, M, V> {
+pub struct View<'s, 'm, 'v, 'o, M, V> {
     pub scalar: &'s mut Scalar,
     pub memory: &'m mut M,
     pub vectors: &'v mut V,
+    pub output: &'o mut ArrayVec<u8, OUTPUT_SIZE>,
     pub policy: Policy,
 }

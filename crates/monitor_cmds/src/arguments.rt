@@ -1,10 +1,11 @@
 //! What a word means as an argument of a command.
 ghost use Rattle.std.specs.Prelude.{◌≡◌, ◌≤◌, ◌^◌, IfSome};
 ghost use Rattle.rv_model.specs.commands.Arguments.{decimal_number, number, address, instruction_address, scalar_register, vector_register, element_width, allowing, permissions};
+ghost use Rattle.rv_model.specs.machine.Users.{user_count};
 ghost use Rattle.rv_model.specs.text.Digits.{capped};
 
 use rv_model::text::digits;
-use rv_model::{Count, Permissions, Reg, Sew, VReg};
+use rv_model::{Count, Permissions, Reg, Sew, USER_COUNT, User, VReg};
 
 /// Larger numbers are read as this one, which no argument takes.
 const CAP: u128 = 1 << 64;
@@ -38,6 +39,14 @@ pub fn count<const MAX: usize>(word: &[u8]) -> Option<Count<MAX>>
 {
     let count = number(1, MAX, word)?;
     Some(Count::new(count))
+}
+
+/// A user's number, 1 to `USER_COUNT`.
+pub fn user(word: &[u8]) -> Option<User>
+    ensures { result ≡ number 1 user_count word.now }
+{
+    let number = number(1, USER_COUNT, word)?;
+    User::new(number as u8)
 }
 
 /// An address of 1 to 16 hexadecimal digits.

@@ -5,6 +5,7 @@ mod arguments;
 mod commands;
 mod lines;
 mod numerals;
+mod operator;
 mod parsing;
 mod refusals;
 mod reply;
@@ -13,13 +14,18 @@ mod tag;
 mod trimming;
 mod words;
 
+pub use commands::breakpoints::breaks_line;
 pub use commands::entering::{entered, left};
 pub use commands::memory::peek_line;
 pub use commands::programs::{asm_line, dis_lines, loaded_line};
 pub use commands::registers::{registers, vcsr_line, vreg_line};
-pub use commands::running::{state_line, step_line, trace_line};
+pub use commands::running::{
+    out_line, running_line, state_line, step_line, stopped_line, trace_line,
+};
 pub use lines::ok;
+pub use operator::{granted_line, list_line, parse_operator};
 pub use parsing::parse;
-pub use refusals::{bad_prefix, line_too_long, refused, unknown_operator_command};
+pub use refusals::{bad_prefix, line_too_long, refused};
 pub use reply::Reply;
+pub use stops::stop_line;
 pub use tag::Tag;

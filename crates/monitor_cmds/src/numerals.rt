@@ -1,7 +1,7 @@
 //! Numbers as replies show them.
-ghost use Rattle.std.specs.Prelude.{◌≡◌, ◌++◌, ◌+◌, ◌*◌, ◌≤◌, length, decimal};
+ghost use Rattle.std.specs.Prelude.{◌≡◌, ◌++◌, ◌+◌, ◌*◌, ◌≤◌, length, decimal, flat_map};
 ghost use Rattle.hex.specs.Hex.{encode_lower};
-ghost use Rattle.rv_model.specs.commands.Printing.{hex8, hex16};
+ghost use Rattle.rv_model.specs.commands.Printing.{hex8, hex16, listed};
 
 use crate::reply::Reply;
 use itoa::Buffer;
@@ -39,15 +39,28 @@ pub fn push_decimal(reply: &mut Reply, number: u64)
     reply.push(Buffer::new().format(number).as_bytes());
 }
 
-/// Adds at most 256 bytes, two hexadecimal digits each.
+/// Adds at most 1,024 bytes, two hexadecimal digits each.
 pub fn push_bytes(reply: &mut Reply, bytes: &[u8])
-    requires few { length bytes.now ≤ 256 }
+    requires few { length bytes.now ≤ 1024 }
     requires room { length reply.old + 2 * length bytes.now ≤ 4096 }
     ensures text { reply.new ≡ reply.old ++ encode_lower bytes.now }
     ensures bound { length reply.new ≡ length reply.old + 2 * length bytes.now }
 {
-    let mut digits = [0; 512];
+    let mut digits = [0; 2048];
     let size = 2 * bytes.len();
     let _ = hex::encode_to_slice(bytes, &mut digits[..size]);
     reply.push(&digits[..size]);
+}
+
+/// Adds addresses, each after a space.
+#[tactic(auto, unfolding(rv_model::specs::commands::Printing::listed))]
+pub fn push_addresses(reply: &mut Reply, addresses: &[u64])
+    requires { length reply.old + 17 * length addresses.now ≤ 4096 }
+    ensures text { reply.new ≡ reply.old ++ flat_map listed addresses.now }
+    ensures bound { length reply.new ≡ length reply.old + 17 * length addresses.now }
+{
+    for addr in addresses {
+        reply.push(b" ");
+        push_hex16(reply, *addr);
+    }
 }

@@ -3,6 +3,7 @@ ghost use Rattle.std.specs.Prelude.{◌≡◌};
 ghost use Rattle.rv_model.specs.commands.Commands.{parse, named};
 ghost use Rattle.rv_model.specs.text.Words.{words};
 
+use crate::commands::breakpoints::breakpoints_named;
 use crate::commands::entering::entering_named;
 use crate::commands::memory::memory_named;
 use crate::commands::programs::programs_named;
@@ -29,6 +30,9 @@ fn named<'a>(name: &[u8], args: &'a [u8], text: &'a [u8]) -> Result<Cmd<'a>, Ref
     }
     if let Some(command) = programs_named(name, args, text) {
         return Ok(Cmd::Programs(command.ok_or(Refusal::Argument)?));
+    }
+    if let Some(command) = breakpoints_named(name, args) {
+        return Ok(Cmd::Breakpoints(command.ok_or(Refusal::Argument)?));
     }
     if let Some(command) = running_named(name, args) {
         return Ok(Cmd::Running(command.ok_or(Refusal::Argument)?));

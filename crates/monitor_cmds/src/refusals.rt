@@ -30,6 +30,9 @@ fn push_refusal(reply: &mut Reply, refusal: Refusal)
         }
         Refusal::Quota => reply.push(b"E10"),
         Refusal::NotMapped => reply.push(b"E11"),
+        Refusal::BreakpointLimit => reply.push(b"E12"),
+        Refusal::Breakpoint => reply.push(b"E13"),
+        Refusal::NotRunning => reply.push(b"E14"),
         Refusal::Assembler(column) => {
             reply.push(b"E15 ");
             push_decimal(reply, column as u64);
@@ -67,13 +70,4 @@ pub fn line_too_long(reply: &mut Reply)
     ensures bound { length reply.new ≡ length reply.old + 6 }
 {
     push_line(reply, Tag::Common, b"E02");
-}
-
-/// Adds the line `* E03`: the operator has no such command.
-pub fn unknown_operator_command(reply: &mut Reply)
-    requires { length reply.old + 6 ≤ 4096 }
-    ensures text { reply.new ≡ reply.old ++ text 42 (codes "E03" ∷ []) }
-    ensures bound { length reply.new ≡ length reply.old + 6 }
-{
-    push_line(reply, Tag::Common, b"E03");
 }

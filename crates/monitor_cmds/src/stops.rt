@@ -40,6 +40,16 @@ fn push_cause(reply: &mut Reply, cause: Cause)
     push_decimal(reply, u64::from(cause.number()));
 }
 
+/// Adds words, and the address where a program stands.
+fn push_place(reply: &mut Reply, words: &[u8], pc: u64)
+    requires { length reply.old + length words.now + 16 ≤ 4096 }
+    ensures text { reply.new ≡ reply.old ++ (words.now ++ hex16 pc) }
+    ensures bound { length reply.new ≡ length reply.old + length words.now + 16 }
+{
+    reply.push(words);
+    push_hex16(reply, pc);
+}
+
 /// Adds why a program stopped.
 #[tactic(auto, unfolding(rv_model::specs::commands::Printing::stop_line))]
 fn push_stop(reply: &mut Reply, pc: u64, stop: Stop)
@@ -48,14 +58,8 @@ fn push_stop(reply: &mut Reply, pc: u64, stop: Stop)
     ensures bound { length reply.new ≤ length reply.old + 75 }
 {
     match stop {
-        Stop::Breakpoint => {
-            reply.push(b"break pc=");
-            push_hex16(reply, pc);
-        }
-        Stop::Ebreak => {
-            reply.push(b"ebreak pc=");
-            push_hex16(reply, pc);
-        }
+        Stop::Breakpoint => push_place(reply, b"break pc=", pc),
+        Stop::Ebreak => push_place(reply, b"ebreak pc=", pc),
         Stop::Exit(status) => {
             reply.push(b"exit ");
             push_decimal(reply, u64::from(status));
@@ -66,12 +70,13 @@ fn push_stop(reply: &mut Reply, pc: u64, stop: Stop)
             push_pc(reply, pc);
             push_value(reply, value);
         }
+        Stop::OutputFull => push_place(reply, b"outfull pc=", pc),
     }
 }
 
 /// Adds the line that says why a program stopped and where it stands, as
 /// `exit 7 pc=0000000000000008`.
-pub(crate) fn stop_line(reply: &mut Reply, tag: Tag, pc: u64, stop: Stop)
+pub fn stop_line(reply: &mut Reply, tag: Tag, pc: u64, stop: Stop)
     requires { length reply.old + 80 ≤ 4096 }
     ensures text { reply.new ≡ reply.old ++ text (tag_byte tag) (stop_line pc stop ∷ []) }
     ensures bound { length reply.new ≤ length reply.old + 80 }

@@ -1,8 +1,25 @@
 //! A machine takes its memory when it is made, and no command takes any more.
-use crate::program_tests::GOOD;
 use bumpalo::Bump;
 use std::test::Fail;
 use vec_monitor::{Image, Machine, NewFault, ReaderSource, WriterSink, run};
+
+/// One segment of 128 bytes, the whole file, read and executed at 10000; two instructions at 10078.
+const GOOD: [u8; 128] = [
+    0x7f, b'E', b'L', b'F', 2, 1, 1, 0, 0, 0, 0, 0, 0, 0, 0, 0, // e_ident
+    2, 0, 243, 0, 1, 0, 0, 0, // e_type, e_machine, e_version
+    0x78, 0, 1, 0, 0, 0, 0, 0, // e_entry
+    64, 0, 0, 0, 0, 0, 0, 0, // e_phoff
+    0, 0, 0, 0, 0, 0, 0, 0, // e_shoff
+    0, 0, 0, 0, 64, 0, 56, 0, 1, 0, 0, 0, 0, 0, 0, 0, // e_flags to e_shstrndx
+    1, 0, 0, 0, 5, 0, 0, 0, // p_type, p_flags
+    0, 0, 0, 0, 0, 0, 0, 0, // p_offset
+    0, 0, 1, 0, 0, 0, 0, 0, // p_vaddr
+    0, 0, 1, 0, 0, 0, 0, 0, // p_paddr
+    128, 0, 0, 0, 0, 0, 0, 0, // p_filesz
+    128, 0, 0, 0, 0, 0, 0, 0, // p_memsz
+    0, 0x10, 0, 0, 0, 0, 0, 0, // p_align
+    0x93, 0x08, 0xd0, 0x05, 0x73, 0, 0, 0, // the instructions
+];
 
 /// More bytes than an arena has left.
 const MORE_THAN_LEFT: usize = 1 << 26;
@@ -43,6 +60,7 @@ fn commands_take_no_memory(rt: HostRuntime) -> Result<(), Fail> {
 1 state
 1 step 2
 1 trace
+1 out
 1 leave
 ";
     let mut output = Vec::new(rt.alloc());
@@ -73,6 +91,7 @@ fn commands_take_no_memory(rt: HostRuntime) -> Result<(), Fail> {
 1 state stopped pc=0000000000010078
 1 exit 0 pc=000000000001007c
 1 trace 0000000000010078
+1 out 0
 1 left
 ";
     assert_eq!(rt; output.as_slice(), wanted.as_slice());

@@ -1,4 +1,4 @@
-//! Scripts with the answers that the monitor's description gives, and machines that there can't be.
+//! A first script, and machines that there can't be.
 use std::alloc::{AllocError, Global};
 use std::test::Fail;
 use vec_monitor::{Image, Machine, NewFault, ReaderSource, RunFault, WriterSink, run};
@@ -23,43 +23,6 @@ fn first_run(rt: HostRuntime) -> Result<(), Fail> {
     let output = output_of(rt.alloc(), script)?;
     let wanted = b"1 entered\n1 ok\n1 ok\n1 exit 7 pc=0000000000000008\n";
     assert_eq!(rt; output.as_slice(), wanted.as_slice());
-    Ok(())
-}
-
-#[test]
-fn each_refusal(rt: HostRuntime) -> Result<(), Fail> {
-    let script =
-        b"9 enter\n1\n1 \n* list\n1 regs\n1 enter\n1 enter\n1 map 0 257 r\n1 map 0 255 r\n1 map 0 1 r\n1 map 0 2 r\n1 poke feffff 00";
-    let output = output_of(rt.alloc(), script)?;
-    let wanted =
-        b"* E01\n* E01\n1 E03\n* E03\n1 E05\n1 entered\n1 E06\n1 E04\n1 ok\n1 E16\n1 E10\n1 E11\n";
-    assert_eq!(rt; output.as_slice(), wanted.as_slice());
-    Ok(())
-}
-
-#[test]
-fn users_apart(rt: HostRuntime) -> Result<(), Fail> {
-    let script =
-        b"1 enter\n1 map 0 1 rwx\n1 poke 0 130570009308d00573000000\n2 step 1\n2 enter\n2 map 0 1 rwx\n2 step 1\n1 step 3\n";
-    let output = output_of(rt.alloc(), script)?;
-    let wanted =
-        b"1 entered\n1 ok\n1 ok\n2 E05\n2 entered\n2 ok\n2 fault cause=2 pc=0000000000000000 value=0000000000000000\n1 exit 7 pc=0000000000000008\n";
-    assert_eq!(rt; output.as_slice(), wanted.as_slice());
-    Ok(())
-}
-
-#[test]
-fn long_lines(rt: HostRuntime) -> Result<(), Fail> {
-    let mut script = Vec::new(rt.alloc());
-    for spaces in [1017, 1018] {
-        script.extend_from_slice(b"1 enter")?;
-        for _ in 0..spaces {
-            script.push(b' ')?;
-        }
-        script.push(b'\n')?;
-    }
-    let output = output_of(rt.alloc(), script.as_slice())?;
-    assert_eq!(rt; output.as_slice(), b"1 entered\n* E02\n".as_slice());
     Ok(())
 }
 

@@ -9,6 +9,7 @@ use Rattle.rv_model.specs.declared.assembler.forms.UnsignedField.TheVariants as 
 use Rattle.rv_model.specs.declared.assembler.forms.SignedField.TheVariants as signed
 use Rattle.rv_model.specs.assembler.Fields.{lowest, parts_of, value_of, operand_parts}
 use Rattle.rv_model.proofs.instruction_lemmas.Parts.{of_word}
+use Rattle.rv_model.proofs.instruction_lemmas.Words.{low_again}
 use Rattle.rv_model.proofs.assembler_lemmas.Operands.{field_below}
 
 -- a piece that is a field already
@@ -23,9 +24,6 @@ four_same_parts {b = b} {c = c} {d = d} {e = e} {f = f} {g = g} h k l m = ap₂ 
 
 high_piece_of_store_offset : (a b : ℕ) → a < 2 ^ 5 → b < 2 ^ 7 → (a + b * 2 ^ 5) / 2 ^ 5 % 2 ^ 7 ≡ b
 high_piece_of_store_offset a b h k = omega arith
-
-low_piece_of_store_offset : (a b : ℕ) → a < 2 ^ 5 → (a + b * 2 ^ 5) % 2 ^ 5 ≡ a
-low_piece_of_store_offset a b h = omega arith
 
 bit_12_of_branch_offset : (a b c d : ℕ) → a < 2 ^ 4 → b < 2 ^ 6 → c < 2 ^ 1 → d < 2 ^ 1 → (a + b * 2 ^ 4 + c * 2 ^ 10 + d * 2 ^ 11) / 2 ^ 11 % 2 ^ 1 ≡ d
 bit_12_of_branch_offset a b c d ha hb hc hd = omega arith
@@ -89,7 +87,7 @@ parts_again (Unsigned unsigned.ShiftWord) w = one_same_part (same_part 20 5 w)
 parts_again (Unsigned unsigned.Upper) w = one_same_part (same_part 12 20 w)
 parts_again (Signed signed.Vector) w = one_same_part (same_part 15 5 w)
 parts_again (Signed signed.Immediate) w = one_same_part (same_part 20 12 w)
-parts_again (Signed signed.Store) w = two_same_parts (ap (part 25 7) (high_piece_of_store_offset (field 7 5 w) (field 25 7 w) (field_below 7 5 w) (field_below 25 7 w))) (ap (part 7 5) (low_piece_of_store_offset (field 7 5 w) (field 25 7 w) (field_below 7 5 w)))
+parts_again (Signed signed.Store) w = two_same_parts (ap (part 25 7) (high_piece_of_store_offset (field 7 5 w) (field 25 7 w) (field_below 7 5 w) (field_below 25 7 w))) (ap (part 7 5) (low_again (field 7 5 w) (field 25 7 w) (field_below 7 5 w)))
 parts_again (Signed signed.Branch) w = branch_parts w
 parts_again (Signed signed.Jump) w = jump_parts w
 parts_again Csr w = one_same_part (same_part 20 12 w)

@@ -1,6 +1,8 @@
 -- Laws of what commands print: no printed byte is a newline. One file for each group, as in `specs/commands`.
+pub mod Breakpoints
 pub mod Commands
 pub mod Memory
+pub mod Operator
 pub mod Printing
 pub mod Programs
 pub mod Registers

@@ -1,3 +1,5 @@
--- Laws of machines and scripts: `EventLines` first, then `Headline`.
+-- Laws of machines and scripts: `EventLines` and `Grants` first, then `Headline`.
 pub mod EventLines
+pub mod Grants
 pub mod Headline
+pub mod Slices

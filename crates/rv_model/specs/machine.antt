@@ -1,8 +1,9 @@
 -- Machines and scripts. `Users` first: how many there are; then `Setup`: what stays the same in a run; then `UserMachine`: what
 -- a user's machine is; then `Runs`: runs of instructions; then, with the commands, `PrivateMachine`: all that happens to one
--- user's machine; then `VectorUnit` and `Script`: all users' machines side by side, and the whole output; then `Laws`: the
--- headline and its kin. `Examples` are small scripts.
+-- user's machine; then `VectorUnit`, `World` and `Grants`: all users' machines side by side, and the slices that the operator
+-- grants; then `Script`: the whole output; then `Laws`: the headline and its kin. `Examples` are small scripts.
 pub mod Examples
+pub mod Grants
 pub mod Laws
 pub mod PrivateMachine
 pub mod Runs
@@ -11,3 +12,4 @@ pub mod Setup
 pub mod UserMachine
 pub mod Users
 pub mod VectorUnit
+pub mod World

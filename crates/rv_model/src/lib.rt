@@ -14,21 +14,24 @@ pub mod text;
 mod vector;
 
 pub use commands::{
-    ByteString, Cmd, Count, EnteringCommand, LinePart, MemoryCommand, PageRange, ProgramCommand,
-    Refusal, RegisterCommand, RunningCommand,
+    BreakpointCommand, ByteString, Cmd, Count, EnteringCommand, LinePart, MemoryCommand,
+    OperatorCommand, PageRange, ProgramCommand, Refusal, RegisterCommand, RunningCommand,
 };
 pub use images::{ElfFault, ProgramHeader};
 pub use instructions::{Arith, Carry, Field, Instr, Reg, Source, VReg};
 pub use legality::{Content, Operand, Role, Shape};
-pub use machine::{USER_COUNT, User, each_user_alone, registers_that_stay, small_scripts_print};
+pub use machine::{
+    Standing, USER_COUNT, User, each_user_alone, output_that_grows, registers_that_stay,
+    small_scripts_print,
+};
 pub use memory::{
     ADDRESS_END, Access, FRAME_COUNT, Fault, MapRefusal, PAGE_QUOTA, PAGE_SIZE, Permissions,
     memory_laws,
 };
 pub use scalar::Scalar;
 pub use step::{
-    Cause, MemEnd, StepEnd, Stop, VEnd, instructions_resume, loads_and_stores_resume,
-    ticks_and_cuts,
+    Cause, MemEnd, OUTPUT_SIZE, StepEnd, Stop, VEnd, WRITE_SIZE, instructions_resume,
+    loads_and_stores_resume, steps_take_ticks, ticks_and_cuts,
 };
 pub use vector::{
     ControlRegister, FILE_BYTES, GROUP_BYTES, Lmul, Policy, RegisterBytes, RequestedLength,

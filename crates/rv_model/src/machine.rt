@@ -1,6 +1,8 @@
-//! Users, and the laws of machines.
+//! Users, what their programs do, and the laws of machines.
 mod laws;
+mod standing;
 mod user;
 
-pub use laws::{each_user_alone, registers_that_stay, small_scripts_print};
+pub use laws::{each_user_alone, output_that_grows, registers_that_stay, small_scripts_print};
+pub use standing::Standing;
 pub use user::{USER_COUNT, User};

@@ -1,10 +1,12 @@
 //! How instructions end.
 mod laws;
 mod memory_end;
+mod output;
 mod step_end;
 mod vector_end;
 
-pub use laws::{instructions_resume, loads_and_stores_resume, ticks_and_cuts};
+pub use laws::{instructions_resume, loads_and_stores_resume, steps_take_ticks, ticks_and_cuts};
 pub use memory_end::MemEnd;
+pub use output::{OUTPUT_SIZE, WRITE_SIZE};
 pub use step_end::{Cause, StepEnd, Stop};
 pub use vector_end::VEnd;

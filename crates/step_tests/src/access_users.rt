@@ -4,6 +4,7 @@ ghost use Rattle.rv_model.specs.declared.vector.sizes.TheConstants.{FILE_BYTES};
 
 use crate::flat_memory::{Flat, with_words};
 use crate::seats::{OwnSeat, own_seat};
+use arrayvec::ArrayVec;
 use hart::{View, step};
 use rv_model::{FILE_BYTES, Policy, Scalar, StepEnd};
 use std::process::Abort;
@@ -59,10 +60,12 @@ impl User {
     pub(crate) fn step(&mut self, limit: usize) -> (StepEnd, usize)
         requires { 1 ≤ limit }
     {
+        let mut output = ArrayVec::new();
         let mut view = View {
             scalar: &mut self.scalar,
             memory: &mut self.memory,
             vectors: &mut self.vectors,
+            output: &mut output,
             policy: self.policy,
         };
         step(&mut view, limit)

@@ -16,3 +16,5 @@ mod seats;
 mod stopped_accesses;
 #[cfg(test)]
 mod vector_arithmetic;
+#[cfg(test)]
+mod write_calls;

@@ -1,15 +1,18 @@
 //! Small programs, carried out word by word.
 use crate::flat_memory::{Flat, with_words};
 use crate::seats::{OwnSeat, own_seat};
+use arrayvec::ArrayVec;
 use hart::{View, step};
 use rv_model::{Cause, Policy, Scalar, StepEnd};
 
 // The end of one instruction.
 fn one(scalar: &mut Scalar, memory: &mut Flat, vectors: &mut OwnSeat) -> StepEnd {
+    let mut output = ArrayVec::new();
     let mut view = View {
         scalar,
         memory,
         vectors,
+        output: &mut output,
         policy: Policy::Keep,
     };
     step(&mut view, 256).0

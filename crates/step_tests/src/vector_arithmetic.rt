@@ -1,6 +1,7 @@
 //! Vector additions and subtractions, with values of the public reference model.
 use crate::flat_memory::{Flat, with_words};
 use crate::seats::{OwnSeat, own_seat};
+use arrayvec::ArrayVec;
 use hart::{View, step};
 use rv_model::{Policy, Scalar, StepEnd};
 
@@ -12,10 +13,12 @@ fn run(
     vectors: &mut OwnSeat,
     policy: Policy,
 ) -> StepEnd {
+    let mut output = ArrayVec::new();
     let mut view = View {
         scalar,
         memory,
         vectors,
+        output: &mut output,
         policy,
     };
     for _ in 0..count {

@@ -1,5 +1,5 @@
 -- What the program reads of clap's matches.
-use Rattle.std.proofs.Common.{rules, ◌≡◌, ◌∙◌, ◌<◌, ◌≤◌, ◌&&◌, ◌==◌, ◌^◌, ap, ap₂, subst, sym, refl, ℕ, Bool, true, false, List, [], ◌∷◌, length, map, Option, Some, None, Result, Ok, Err, inl, inr, arith, zero, suc, pos, codes, true≢false, is_some}
+use Rattle.std.proofs.Common.{◌≡◌, ◌∙◌, ◌<◌, ◌≤◌, ◌&&◌, ap, subst, sym, refl, ℕ, Bool, true, false, List, [], ◌∷◌, length, map, Option, Some, None, Result, Ok, inl, inr, arith, zero, suc, pos, codes, true≢false, is_some}
 use Rattle.std.specs.Prelude.{unwrap_or, option_map, slice_get, option_and_then}
 use Rattle.std.specs.List.{All, slice_index_or, list_all}
 use Rattle.std.specs.Str.{bytes_eq}
@@ -9,14 +9,13 @@ use Rattle.std.proofs.lemmas.Slice.Eq.{bytes_eq-Decides}
 use Rattle.std.proofs.lemmas.Bool.{ne_eqb}
 use Rattle.std.proofs.lemmas.List.{get_or-map, length-map}
 use Rattle.std.proofs.lemmas.List.Elements.{All-get_or}
-use Rattle.clap.specs.Words.{App, IsParsedFrom, IsPlain, IsPlainArg, Rule, Text, app_of, args_of, found_of, groups_of, is_simple, matched_of, one_text, reading_of, read_as, rule_of, without_minus, Accepts, HasMatchesOf, IsSignedIn, SameRules, all_of, first_of, first_value, matches_of, one_of, raw_values, rows_of}
+use Rattle.clap.specs.Words.{App, IsParsedFrom, IsPlain, IsPlainArg, Rule, Text, app_of, args_of, found_of, groups_of, is_simple, matched_of, one_text, reading_of, read_as, rule_of, without_minus, Accepts, HasMatchesOf, IsSignedIn, all_of, first_of, first_value, matches_of, one_of, raw_values, rows_of}
 use Rattle.clap.proofs.WalkLemmas.{first_value-rows, one_text-rows, raw_values-rows}
 use Rattle.clap.specs.Facts.{Entry, EntryPasses, PassesArg, HasReading, parser_of, parser_of_value}
 use Rattle.clap.specs.Built.{IsAuto}
 use Rattle.clap.specs.Matches.{ReadsOne}
 use Rattle.clap.specs.Walk.{is_empty, is_free_arg, is_simple_arg, texts}
-use Rattle.clap.specs.Words.{FailsBy, fault_of, is_simple_and_free}
-use Rattle.clap.specs.declared.error.Error.{Error}
+use Rattle.clap.specs.Words.{fault_of, is_simple_and_free}
 use Rattle.clap.specs.Simple.{has_plain_fields}
 use Rattle.std.specs.Option.{UnwrapsOrElse}
 use Rattle.clap.proofs.CallerLemmas.{entry_by_id, same_rules_by_id}
@@ -29,9 +28,8 @@ use Rattle.clap.specs.declared.builder.value_parser.Reading.TheVariants.{Without
 use Rattle.clap.specs.declared.builder.value_parser.ValueParser.{ValueParser}
 use Rattle.clap.specs.declared.builder.value_parser.ValueParser.TheVariants.{Signed}
 use Rattle.clap.specs.declared.parser.matches.ArgMatches.{ArgMatches}
-use Rattle.clap.specs.declared.parser.matches.Found.{Found}
 use Rattle.clap.specs.declared.parser.matches.MatchedArg.{MatchedArg}
-use Rattle.vec_monitor.specs.CommandLine.{command_line, image_rule, quantum_rule, script_rule, image_words, quantum_word, script_word, words_fault, IsQuantum}
+use Rattle.vec_monitor.specs.CommandLine.{command_line, image_rule, quantum_rule, script_rule, quantum_word, script_word, words_fault, IsQuantum}
 
 -- ---- the command as it was built up
 

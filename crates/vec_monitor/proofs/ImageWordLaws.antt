@@ -7,7 +7,7 @@ use Rattle.vec_monitor.specs.ImageFiles.{named_file}
 use Rattle.vec_monitor.specs.NewFaults.{are_distinct, new_fault}
 use Rattle.vec_monitor.specs.declared.image.Image.{Image}
 use Rattle.vec_monitor.specs.declared.image_files.ImageFile.{ImageFile}
-use Rattle.std.proofs.Common.{ap₂, zero, suc, refl, ap, Bool, true, false, ◌≡◌, ◌≢◌, ◌<◌, ◌==◌, ◌+◌, ◌++◌, ◌∷◌, [], ℕ, List, length, subst, take, drop, true≢false, sym, ◌∙◌, arith}
+use Rattle.std.proofs.Common.{ap₂, zero, suc, refl, ap, false, ◌≡◌, ◌≢◌, ◌<◌, ◌==◌, ◌+◌, ◌++◌, ◌∷◌, [], ℕ, List, length, subst, take, true≢false, sym, ◌∙◌, arith}
 use Rattle.std.specs.Prelude.{slice_index}
 use Rattle.std.specs.List.{AllZip, after_first, before_first, position_or_len, slice_index_or}
 use Rattle.std.proofs.lemmas.List.{get_or-map, length-map, map_more, map_push, take_more}

@@ -1,7 +1,9 @@
+pub mod AddressLaws
 pub mod CommandLineLaws
 pub mod DeviceLaws
 pub mod EndedLaws
 pub mod Feeding
+pub mod GrantLaws
 pub mod ImageWordLaws
 pub mod LineBuffer
 pub mod MemoryOutcomes

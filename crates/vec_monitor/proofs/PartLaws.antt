@@ -41,27 +41,27 @@ pub trace_there : (ts : List Addresses) (u : ℕ) (t : Addresses) → u - 1 < le
 trace_there ts u t within = get_or-set_same ts (u - 1) t [] within
 
 -- a user's part, by the user's place i
-pub part_is : (cs : List Context) (ts : List Addresses) (ms : List Memory) (u i : ℕ) (d : Context) → i ≡ u - 1 → i < user_count → AreEight cs ts ms
-    → part u (world_of cs ts ms) ≡ private_of (get_or cs i d) (trace_of ts u) (memory_of_user ms u)
-part_is cs ts ms u i d at low eight =
+pub part_is : (cs : List Context) (ts : List Addresses) (ms : List Memory) (cursor u i : ℕ) (d : Context) → i ≡ u - 1 → i < user_count → AreEight cs ts ms
+    → part u (world_of cs ts ms cursor) ≡ private_of (get_or cs i d) (trace_of ts u) (memory_of_user ms u)
+part_is cs ts ms cursor u i d at low eight =
     parts_at cs ts ms (u - 1) d (omega (arith, eight.contexts, at, low)) (eight.contexts ∙ sym eight.traces) (eight.traces ∙ sym eight.memories)
     ∙ ap (λ (j : ℕ). private_of (get_or cs j d) (trace_of ts u) (memory_of_user ms u)) (sym at)
 
 -- the world after a change of one user's context, trace and memory
-pub world_with : (cs : List Context) (ts ts' : List Addresses) (ms ms' : List Memory) (u i : ℕ) (d c' : Context) (f : Private → Private) → i ≡ u - 1 → i < user_count → AreEight cs ts ms
+pub world_with : (cs : List Context) (ts ts' : List Addresses) (ms ms' : List Memory) (cursor u i : ℕ) (d c' : Context) (f : Private → Private) → i ≡ u - 1 → i < user_count → AreEight cs ts ms
     → private_of c' (trace_of ts' u) (memory_of_user ms' u) ≡ f (private_of (get_or cs i d) (trace_of ts u) (memory_of_user ms u)) → ts' ≡ with_trace ts u (trace_of ts' u) → ms' ≡ with_memory ms u (memory_of_user ms' u)
-    → world_of (set cs i c') ts' ms' ≡ with_part u (f (part u (world_of cs ts ms))) (world_of cs ts ms)
-world_with cs ts ts' ms ms' u i d c' f at low eight next traces others =
+    → world_of (set cs i c') ts' ms' cursor ≡ with_part u (f (part u (world_of cs ts ms cursor))) (world_of cs ts ms cursor)
+world_with cs ts ts' ms ms' cursor u i d c' f at low eight next traces others =
     let t' = trace_of ts' u in
     let m' = memory_of_user ms' u in
-    let done : private_of c' t' m' ≡ f (part u (world_of cs ts ms)) = next ∙ ap f (sym (part_is cs ts ms u i d at low eight)) in
+    let done : private_of c' t' m' ≡ f (part u (world_of cs ts ms cursor)) = next ∙ ap f (sym (part_is cs ts ms cursor u i d at low eight)) in
     let moved : parts_of (set cs (u - 1) c') ts' ms' ≡ set (parts_of cs ts ms) (u - 1) (private_of c' t' m') =
     ap (parts_of (set cs (u - 1) c') ts') others
     ∙ ap (λ (l : List Addresses). parts_of (set cs (u - 1) c') l (with_memory ms u m')) traces
     ∙ parts_of-set cs ts ms (u - 1) c' t' m' (eight.contexts ∙ sym eight.traces) (eight.traces ∙ sym eight.memories) in
-    ap (λ (j : ℕ). world_of (set cs j c') ts' ms') at
-    ∙ ap (λ (ps : List Private). let r : World = record { parts = ps; cursor = user_count; unit = unused_unit } in r) moved
-    ∙ ap (λ (p : Private). with_part u p (world_of cs ts ms)) done
+    ap (λ (j : ℕ). world_of (set cs j c') ts' ms' cursor) at
+    ∙ ap (λ (ps : List Private). let r : World = record { parts = ps; cursor = cursor; unit = unused_unit } in r) moved
+    ∙ ap (λ (p : Private). with_part u p (world_of cs ts ms cursor)) done
 
 -- one user's memory was changed twice, so it was changed
 pub changed_twice : (u : ℕ) (p q r : List Memory) → q ≡ with_memory p u (memory_of_user q u) → r ≡ with_memory q u (memory_of_user r u) → r ≡ with_memory p u (memory_of_user r u)
@@ -78,7 +78,7 @@ absent_parts zero = refl
 absent_parts (suc n) = ap (λ (ps : List Private). None ∷ ps) (absent_parts n)
 
 -- one for each user is the new world
-pub new_users : (cs : List Context) (ts : List Addresses) (ms : List Memory) → cs ≡ replicate user_count new_context → ts ≡ replicate user_count [] → ms ≡ no_memories → world_of cs ts ms ≡ new_world
+pub new_users : (cs : List Context) (ts : List Addresses) (ms : List Memory) → cs ≡ replicate user_count new_context → ts ≡ replicate user_count [] → ms ≡ no_memories → world_of cs ts ms user_count ≡ new_world
 unfolding new_world
 new_users cs ts ms p q r = rw (p, q, r) (ap (λ (ps : List Private). let w : World = record { parts = ps; cursor = user_count; unit = unused_unit } in w) (absent_parts user_count))
 

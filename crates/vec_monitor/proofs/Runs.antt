@@ -1,8 +1,7 @@
 -- A run of a script from read to read, and at its end.
-use Rattle.std.proofs.Common.{◌≡◌, ℕ, ◌+◌, ◌-◌, ◌<◌, ◌≤◌, ◌++◌, [], ◌∷◌, List, length, length-append, length-set, take, ap, ◌∙◌, sym, append_assoc, append-nil, arith, Bool, true, false, None, refl, subst}
+use Rattle.std.proofs.Common.{◌≡◌, ℕ, ◌+◌, ◌-◌, ◌<◌, ◌≤◌, ◌++◌, [], ◌∷◌, List, length, length-append, length-set, take, ap, ◌∙◌, sym, append_assoc, append-nil, arith, None, refl, subst}
 use Rattle.std.proofs.lemmas.List.{get_or-replicate, take_all}
 use Rattle.std.proofs.Math.Seq.{take-append-add}
-use Rattle.std.specs.Prelude.{if◌then◌else◌}
 use Rattle.rv_model.specs.machine.Setup.{Setup}
 use Rattle.rv_model.specs.machine.Script.{World, Happening, outcome_of, after_one, after, after_all, after_events, with_part, events_of, kind_of, told, told_all, whole_from, after_script, lines, part, own, own_from, new_world}
 use Rattle.rv_model.specs.machine.PrivateMachine.{Private, solo, solo_from}

@@ -1,53 +1,82 @@
--- Runs of instructions of a user whose program is stopped.
-use Rattle.std.proofs.Common.{◌≡◌, ◌≢◌, ℕ, zero, suc, refl, ap, ◌∙◌, true, false, Some, None}
-use Rattle.std.specs.Prelude.{if◌then◌else◌, is_none}
-use Rattle.rv_model.specs.declared.step.step_end.StepEnd.{StepEnd}
-use Rattle.rv_model.specs.declared.step.step_end.StepEnd.TheVariants.{Ran, Exit, Ebreak, Fault, Cut}
+-- Runs of instructions, one instruction at a time.
+use Rattle.std.proofs.Common.{◌≡◌, ℕ, suc, ◌-◌, ◌≤◌, Bool, ap, ◌∙◌, subst, true, false, Option, Some, None}
+use Rattle.std.specs.Prelude.{if◌then◌else◌, is_none, not, ◌&&◌}
 use Rattle.rv_model.specs.declared.step.step_end.Stop.{Stop}
-use Rattle.rv_model.specs.machine.Runs.{Following, Next, Stops, following, stop_of, recorded, after, Halted, halted, steps}
-use Rattle.rv_model.specs.memory.Memory.{Memory}
-use Rattle.rv_model.specs.step.Step.{HartState, step}
-use Rattle.vec_monitor.specs.declared.context.Context.{Context}
-use Rattle.vec_monitor.specs.Parts.{Addresses, context_state, present}
+use Rattle.rv_model.specs.declared.step.step_end.Stop.TheVariants as stop
+use Rattle.rv_model.specs.machine.Runs.{Following, following, stop_of, at_breakpoint, after, Halted, halted, steps, ticked}
+use Rattle.rv_model.specs.machine.UserMachine.{Present}
+use Rattle.rv_model.specs.step.Hart.{Stepped}
+use Rattle.rv_model.specs.step.Step.{step}
+use Rattle.rv_model.proofs.machine_lemmas.Slices.{ticked_is_one_more}
+use Rattle.rv_model.proofs.step_lemmas.StepTicks.{step_takes_ticks}
 
--- with no breakpoints it doesn't matter whether the first instruction is exempt from them
-exempt_or_not : (n : ℕ) (c : Context) (t : Addresses) (m : Memory) → steps n false (present c t m) ≡ steps n true (present c t m)
-exempt_or_not zero c t m = refl
-exempt_or_not (suc n) c t m = refl
+-- one instruction, and then a run of more
+abbrev pub run_on : Bool → Following → Present → Present → Halted → Halted
+run_on held end p next rest =
+    if held then halted p (Some stop.Breakpoint)
+    else if is_none (stop_of end) then rest
+    else halted next (stop_of end)
 
--- what comes after an instruction, by where it led and what follows it
-abbrev going_on : ℕ → Context → Addresses → Memory → HartState → Following → Halted
-going_on n c t m s end =
-    if is_none (stop_of end) then steps n false (after end s (present c t m))
-    else halted (after end s (present c t m)) (stop_of end)
+-- a breakpoint stops the program
+pub run_held : (held : Bool) (end : Following) (p next : Present) (rest : Halted) → held ≡ true → run_on held end p next rest ≡ halted p (Some stop.Breakpoint)
+run_held held end p next rest h = ap (λ (b : Bool). run_on b end p next rest) h
 
-first_step : (n : ℕ) (c c' : Context) (t : Addresses) (m m' : Memory) (end : Following) → (step 256 (context_state c m)).state ≡ context_state c' m' → following (step 256 (context_state c m)).end ≡ end
-    → steps (suc n) true (present c t m) ≡ going_on n c t m (context_state c' m') end
-first_step n c c' t m m' end moved ended =
-    ap (λ (s : HartState). going_on n c t m s (following (step 256 (context_state c m)).end)) moved ∙ ap (going_on n c t m (context_state c' m')) ended
+-- an instruction stops it
+pub run_stopped : (held : Bool) (end : Following) (p next : Present) (rest : Halted) (reason : Stop) → held ≡ false → stop_of end ≡ Some reason → run_on held end p next rest ≡ halted next (Some reason)
+run_stopped held end p next rest reason h k =
+    ap (λ (b : Bool). run_on b end p next rest) h
+    ∙ ap (λ (o : Option Stop). if is_none o then rest else halted next o) k
 
--- unless it was cut, an instruction that doesn't stop the program leads to the next one
-goes_on : (end : StepEnd) → end ≢ Cut → stop_of (following end) ≡ None → following end ≡ Next
-goes_on Ran uncut h = refl
-goes_on (Exit status) uncut h = absurd (cc h)
-goes_on Ebreak uncut h = absurd (cc h)
-goes_on (Fault cause pc value) uncut h = absurd (cc h)
-goes_on Cut uncut h = absurd (uncut refl)
+-- it goes on
+pub run_goes_on : (held : Bool) (end : Following) (p next : Present) (rest : Halted) → held ≡ false → stop_of end ≡ None → run_on held end p next rest ≡ rest
+run_goes_on held end p next rest h k =
+    ap (λ (b : Bool). run_on b end p next rest) h
+    ∙ ap (λ (o : Option Stop). if is_none o then rest else halted next o) k
 
--- the program goes on
-pub steps_on : (n : ℕ) (c c' : Context) (t : Addresses) (m m' : Memory) (end : StepEnd) → (step 256 (context_state c m)).state ≡ context_state c' m' → (step 256 (context_state c m)).end ≡ end → end ≢ Cut → stop_of (following end) ≡ None
-    → steps (suc n) true (present c t m) ≡ steps n true (present c' (recorded t c.scalar.pc) m')
-steps_on n c c' t m m' end moved ended uncut on =
-    first_step n c c' t m m' Next moved (ap following ended ∙ goes_on end uncut on) ∙ exempt_or_not n c' (recorded t c.scalar.pc) m'
+-- a run of at most n + 1 instructions: a breakpoint stops it, or its first instruction, or it goes on
+pub steps_held : (n : ℕ) (exempt : Bool) (p : Present) → (not exempt && at_breakpoint p) ≡ true → steps (suc n) exempt p ≡ halted p (Some stop.Breakpoint)
+steps_held n exempt p held =
+    let one : Stepped = step 256 p.hart in
+    run_held (not exempt && at_breakpoint p) (following one.end) p (after (following one.end) one.state p) (steps n false (after (following one.end) one.state p)) held
 
-stops_for : (end : StepEnd) (stop : Stop) → stop_of (following end) ≡ Some stop → following end ≡ Stops stop
-stops_for Ran stop h = absurd (cc h)
-stops_for (Exit status) stop h = cc h
-stops_for Ebreak stop h = cc h
-stops_for (Fault cause pc value) stop h = cc h
-stops_for Cut stop h = absurd (cc h)
+pub steps_stop : (n : ℕ) (exempt : Bool) (p q : Present) (reason : Stop) → (not exempt && at_breakpoint p) ≡ false
+    → after (following (step 256 p.hart).end) (step 256 p.hart).state p ≡ q → stop_of (following (step 256 p.hart).end) ≡ Some reason → steps (suc n) exempt p ≡ halted q (Some reason)
+steps_stop n exempt p q reason free moved stopped =
+    let one : Stepped = step 256 p.hart in
+    run_stopped (not exempt && at_breakpoint p) (following one.end) p (after (following one.end) one.state p) (steps n false (after (following one.end) one.state p)) reason free stopped
+    ∙ ap (λ (r : Present). halted r (Some reason)) moved
 
--- the program stops
-pub steps_stop : (n : ℕ) (c c' : Context) (t : Addresses) (m m' : Memory) (end : StepEnd) (stop : Stop) → (step 256 (context_state c m)).state ≡ context_state c' m' → (step 256 (context_state c m)).end ≡ end → stop_of (following end) ≡ Some stop
-    → steps (suc n) true (present c t m) ≡ halted (present c' t m') (Some stop)
-steps_stop n c c' t m m' end stop moved ended stopped = first_step n c c' t m m' (Stops stop) moved (ap following ended ∙ stops_for end stop stopped)
+pub steps_go_on : (n : ℕ) (exempt : Bool) (p q : Present) → (not exempt && at_breakpoint p) ≡ false
+    → after (following (step 256 p.hart).end) (step 256 p.hart).state p ≡ q → stop_of (following (step 256 p.hart).end) ≡ None → steps (suc n) exempt p ≡ steps n false q
+steps_go_on n exempt p q free moved on =
+    let one : Stepped = step 256 p.hart in
+    run_goes_on (not exempt && at_breakpoint p) (following one.end) p (after (following one.end) one.state p) (steps n false (after (following one.end) one.state p)) free on
+    ∙ ap (λ (r : Present). steps n false r) moved
+
+-- the same of a run of some ticks
+pub slice_held : (left : ℕ) (p : Present) → 1 ≤ left → (not p.fresh && at_breakpoint p) ≡ true → ticked left p ≡ halted p (Some stop.Breakpoint)
+slice_held left p some held =
+    let one : Stepped = step left p.hart in
+    ticked_is_one_more left p some
+    ∙ run_held (not p.fresh && at_breakpoint p) (following one.end) p (after (following one.end) one.state p) (ticked (left - one.ticks) (after (following one.end) one.state p)) held
+
+pub slice_stops : (left : ℕ) (p q : Present) (reason : Stop) → 1 ≤ left → (not p.fresh && at_breakpoint p) ≡ false
+    → after (following (step left p.hart).end) (step left p.hart).state p ≡ q → stop_of (following (step left p.hart).end) ≡ Some reason → ticked left p ≡ halted q (Some reason)
+slice_stops left p q reason some free moved stopped =
+    let one : Stepped = step left p.hart in
+    ticked_is_one_more left p some
+    ∙ run_stopped (not p.fresh && at_breakpoint p) (following one.end) p (after (following one.end) one.state p) (ticked (left - one.ticks) (after (following one.end) one.state p)) reason free stopped
+    ∙ ap (λ (r : Present). halted r (Some reason)) moved
+
+pub slice_goes_on : (left ticks : ℕ) (p q : Present) → 1 ≤ left → (not p.fresh && at_breakpoint p) ≡ false
+    → after (following (step left p.hart).end) (step left p.hart).state p ≡ q → stop_of (following (step left p.hart).end) ≡ None → (step left p.hart).ticks ≡ ticks → ticked left p ≡ ticked (left - ticks) q
+slice_goes_on left ticks p q some free moved on took =
+    let one : Stepped = step left p.hart in
+    ticked_is_one_more left p some
+    ∙ run_goes_on (not p.fresh && at_breakpoint p) (following one.end) p (after (following one.end) one.state p) (ticked (left - one.ticks) (after (following one.end) one.state p)) free on
+    ∙ ap (λ (n : ℕ). ticked (left - n) (after (following one.end) one.state p)) took
+    ∙ ap (λ (r : Present). ticked (left - ticks) r) moved
+
+-- the ticks of an instruction are some of those that are left
+pub took_some : (left ticks : ℕ) (p : Present) → 1 ≤ left → (step left p.hart).ticks ≡ ticks → (1 ≤ ticks) × (ticks ≤ left)
+took_some left ticks p some took = subst (λ (taken : ℕ). (1 ≤ taken) × (taken ≤ left)) took (step_takes_ticks left p.hart some)

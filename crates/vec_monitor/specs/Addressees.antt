@@ -12,7 +12,8 @@ kind_as BadPrefix rest = Bad
 kind_as Operator rest = OperatorLine rest
 kind_as (User user) rest = Of user rest
 
--- a user's line begins with two bytes of its own
+-- a user's line, and one of the operator, begins with two bytes of its own
 abbrev pub HasPrefix : Addressee → ℕ → Type 0
 HasPrefix (User user) n = 2 ≤ n
+HasPrefix Operator n = 2 ≤ n
 HasPrefix _ n = Unit {0}

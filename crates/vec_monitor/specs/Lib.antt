@@ -1,4 +1,5 @@
 pub mod Addressees
+pub mod AddressSets
 pub mod CommandLine
 pub mod Device
 pub mod EndedLines
@@ -12,3 +13,4 @@ pub mod MachineState
 pub mod NewFaults
 pub mod Parts
 pub mod Statuses
+pub mod StopRoom

@@ -1,6 +1,6 @@
 //! A user's commands, carried out on what the machine holds of that user.
 ghost use Rattle.std.specs.Prelude.{◌≡◌, ◌+◌, ◌-◌, ◌<◌, [], true, false, length};
-ghost use Rattle.rv_model.specs.commands.Commands.{carried_out, of_absent, of_present};
+ghost use Rattle.rv_model.specs.commands.Commands.{carried_out, needs_stopped, of_absent, of_present};
 ghost use Rattle.rv_model.specs.text.Lines.{text};
 ghost use Rattle.user_mem.specs.Users.{memory_of_user, with_memory};
 ghost use Rattle.vec_monitor.specs.Images.{named_images};
@@ -9,9 +9,9 @@ ghost use Rattle.vec_monitor.specs.Parts.{present, private_of, trace_of, with_tr
 use crate::context::Context;
 use crate::image::Image;
 use crate::trace::Trace;
-use crate::{entering, memory, programs, registers, running};
+use crate::{breakpoints, entering, memory, programs, registers, running};
 use monitor_cmds::{Reply, Tag};
-use rv_model::{Cmd, Refusal, User};
+use rv_model::{Cmd, EnteringCommand, Refusal, RunningCommand, User};
 use std::alloc::Allocator;
 use user_mem::Pool;
 
@@ -59,10 +59,23 @@ fn carry_out_own<A: Allocator>(
     ensures reply { reply.new
         ≡ text (48 + user) (carried_out (named_images images.now) cmd.now (private_of context.old trace.old (memory_of_user pool.old user))).lines }
 {
-    if context.entered {
-        carry_out_present(images, context, trace, pool, user, cmd, reply);
-    } else {
+    if !context.entered {
         carry_out_absent(context, trace, pool, user, cmd, reply);
+    } else if context.running && needs_stopped(cmd) {
+        monitor_cmds::refused(reply, Tag::User(user), Refusal::Running);
+    } else {
+        carry_out_present(images, context, trace, pool, user, cmd, reply);
+    }
+}
+
+/// Whether a command needs a stopped program.
+fn needs_stopped(cmd: &Cmd<'_>) -> bool
+    ensures { result ≡ needs_stopped cmd.now }
+{
+    match cmd {
+        Cmd::Entering(EnteringCommand::Enter)
+        | Cmd::Running(RunningCommand::Stop | RunningCommand::State) => false,
+        _ => true,
     }
 }
 
@@ -117,6 +130,7 @@ fn carry_out_present<A: Allocator>(
         Cmd::Programs(command) => programs::carry_out(
             images, context, trace, pool, user, command, reply,
         ),
+        Cmd::Breakpoints(command) => breakpoints::carry_out(context, user, command, reply),
         Cmd::Running(command) => running::carry_out(context, trace, pool, user, command, reply),
     }
 }

@@ -1,5 +1,7 @@
 //! What a user has beside memory.
-use rv_model::{Reg, Scalar, Seat, VState};
+use crate::address_set::AddressSet;
+use arrayvec::ArrayVec;
+use rv_model::{OUTPUT_SIZE, Reg, Scalar, Seat, Standing, VState};
 
 /// The number of the register that holds the stack pointer.
 const STACK_POINTER: u32 = 2;
@@ -7,17 +9,23 @@ const STACK_POINTER: u32 = 2;
 /// The stack pointer of a program that begins.
 const STACK_TOP: u64 = 0x7fff_efc0;
 
-/// What a user has beside memory: registers and vector state.
+/// What a user has beside memory and trace: registers, vector state, output buffer and breakpoints, whether the
+/// program runs, and whether it has just been told to.
 #[derive(Drop)]
 pub(crate) struct Context {
     pub(crate) entered: bool,
     pub(crate) scalar: Scalar,
     pub(crate) seat: Seat,
+    pub(crate) output: ArrayVec<u8, OUTPUT_SIZE>,
+    pub(crate) breakpoints: AddressSet,
+    pub(crate) running: bool,
+    pub(crate) fresh: bool,
 }
 
 impl Context {
-    ghost use Rattle.std.specs.Prelude.{◌≡◌, true, false};
-    ghost use Rattle.vec_monitor.specs.Parts.{new_context, loaded_context};
+    ghost use Rattle.std.specs.Prelude.{◌≡◌, ◌==◌, ◌&&◌, not, true, false};
+    ghost use Rattle.std.specs.List.{list_any};
+    ghost use Rattle.vec_monitor.specs.Parts.{new_context, loaded_context, is_running, context_standing};
 
     /// The context of an absent user.
     pub(crate) fn new() -> Context
@@ -30,6 +38,10 @@ impl Context {
                 state: VState::new(),
                 dirty: false,
             },
+            output: ArrayVec::new(),
+            breakpoints: AddressSet::new(),
+            running: false,
+            fresh: false,
         }
     }
 
@@ -53,5 +65,30 @@ impl Context {
         context.scalar.pc = entry;
         context.scalar.write(Reg::new(STACK_POINTER), STACK_TOP);
         context
+    }
+    /// Whether a breakpoint at the program counter stops the program, unless it is exempt.
+    pub(crate) fn is_held(&self, exempt: bool) -> bool
+        ensures { result ≡ (not exempt && list_any (λ a. a == self.now.scalar.pc) self.now.breakpoints) }
+    {
+        !exempt && self.breakpoints.contains(self.scalar.pc)
+    }
+    /// Whether the user has entered and the program runs.
+    pub(crate) fn is_running(&self) -> bool
+        ensures { result ≡ is_running self.now }
+    {
+        self.entered && self.running
+    }
+
+    /// What the user's program does.
+    pub(crate) fn standing(&self) -> Standing
+        ensures { result ≡ context_standing self.now }
+    {
+        if !self.entered {
+            Standing::Absent
+        } else if self.running {
+            Standing::Running
+        } else {
+            Standing::Stopped
+        }
     }
 }

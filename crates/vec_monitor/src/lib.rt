@@ -1,8 +1,10 @@
 //! The monitor: a machine for eight users, and scripts that it runs.
 #![tactic(auto)]
 
+mod address_set;
 mod addressee;
 mod arguments;
+mod breakpoints;
 mod command_line;
 mod commands;
 mod context;
@@ -17,12 +19,14 @@ mod line;
 mod machine;
 mod memory;
 mod new_fault;
+mod operator;
 mod program;
 mod program_fault;
 mod programs;
 mod registers;
 mod running;
 mod script;
+mod slices;
 mod stepping;
 mod streams;
 mod trace;

@@ -18,9 +18,9 @@ use std::marker::Model;
 /// Eight users, each with a private machine, and the images that they can load.
 #[derive(Drop)]
 pub struct Machine<'a, A: Allocator = Global> {
-    quantum: usize,
-    images: &'a [Image<'a>],
-    users: Users<A>,
+    pub(crate) quantum: usize,
+    pub(crate) images: &'a [Image<'a>],
+    pub(crate) users: Users<A>,
 }
 
 impl<'a, A: Allocator> Model for Machine<'a, A> {
@@ -95,7 +95,7 @@ impl<'a, A: Allocator> Machine<'a, A> {
             Addressee::Nobody => {}
             Addressee::TooLong => monitor_cmds::line_too_long(reply),
             Addressee::BadPrefix => monitor_cmds::bad_prefix(reply),
-            Addressee::Operator => monitor_cmds::unknown_operator_command(reply),
+            Addressee::Operator => self.carry_out_operator(&line[2..], reply),
             Addressee::User(user) => self.users.command(images, user, &line[2..], reply),
         }
     }

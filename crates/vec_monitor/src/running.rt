@@ -1,6 +1,7 @@
-//! Commands that run instructions and tell how far the program is, carried out.
-ghost use Rattle.std.specs.Prelude.{◌≡◌, ◌+◌, [], Some};
-ghost use Rattle.rv_model.specs.commands.Running.{running_command};
+//! Commands that run instructions and tell how far the program is and what it has put out, carried out.
+ghost use Rattle.std.specs.Prelude.{◌≡◌, ◌+◌, ℕ, List, [], Some};
+ghost use Rattle.rv_model.specs.commands.Running.{halts, running_command};
+ghost use Rattle.rv_model.specs.memory.Memory.{Memory};
 ghost use Rattle.rv_model.specs.text.Lines.{text};
 ghost use Rattle.user_mem.specs.Users.{memory_of_user, with_memory};
 ghost use Rattle.vec_monitor.specs.Parts.{present};
@@ -9,12 +10,12 @@ use crate::context::Context;
 use crate::stepping::steps;
 use crate::trace::Trace;
 use monitor_cmds::{Reply, Tag};
-use rv_model::{RunningCommand, User};
+use rv_model::{Refusal, RunningCommand, User};
 use std::alloc::Allocator;
 use user_mem::Pool;
 
 /// Carries out a command that runs instructions of a user who has entered, or tells how far the
-/// program is, and answers it.
+/// program is or what it has put out, and answers it.
 #[tactic(auto, unfolding(rv_model::specs::commands::Running::running_command), using(crate::specs::Lenders::same_memory))]
 pub(crate) fn carry_out<A: Allocator>(
     context: &mut Context,
@@ -39,10 +40,39 @@ pub(crate) fn carry_out<A: Allocator>(
             let stop = steps(context, trace, pool, user, count);
             monitor_cmds::step_line(reply, tag, count, context.scalar.pc, stop);
         }
-        RunningCommand::State => monitor_cmds::state_line(reply, tag, false, context.scalar.pc),
+        RunningCommand::Go => {
+            context.running = true;
+            context.fresh = true;
+            monitor_cmds::running_line(reply, tag, context.scalar.pc);
+        }
+        RunningCommand::Stop => stop(context, user, reply),
+        RunningCommand::State => {
+            monitor_cmds::state_line(reply, tag, context.running, context.scalar.pc);
+        }
         RunningCommand::Trace => {
             let (older, newer) = trace.as_slices();
             monitor_cmds::trace_line(reply, tag, older, newer);
         }
+        RunningCommand::Out => {
+            monitor_cmds::out_line(reply, tag, context.output.as_slice());
+            context.output.clear();
+        }
+    }
+}
+
+/// `stop`: the program stops where it stands, if it runs.
+fn stop(context: &mut Context, user: User, reply: &mut Reply)
+    requires clear { reply.old ≡ [] }
+    ensures next { (trace : List ℕ) (memory : Memory) → (halts (present context.old trace memory)).next
+        ≡ Some (present context.new trace memory) }
+    ensures entered { context.new.entered ≡ context.old.entered }
+    ensures reply { (trace : List ℕ) (memory : Memory) → reply.new
+        ≡ text (48 + user) (halts (present context.old trace memory)).lines }
+{
+    if context.running {
+        context.running = false;
+        monitor_cmds::stopped_line(reply, Tag::User(user), context.scalar.pc);
+    } else {
+        monitor_cmds::refused(reply, Tag::User(user), Refusal::NotRunning);
     }
 }

@@ -1,16 +1,17 @@
 //! Instructions of one user.
-ghost use Rattle.std.specs.Prelude.{◌≡◌, ◌≢◌, ◌≤◌, ◌⊎◌, true, length, []};
-ghost use Rattle.rv_model.specs.machine.Runs.{following, stop_of as stop_spec, steps as steps_spec};
+ghost use Rattle.std.specs.Prelude.{◌≡◌, ◌≤◌, ◌⊎◌, true, length};
+ghost use Rattle.rv_model.specs.machine.Runs.{after, at_breakpoint, following, steps as steps_spec, stop_of as stop_spec, ticked};
 ghost use Rattle.rv_model.specs.step.Hart.{hart_state};
 ghost use Rattle.rv_model.specs.step.Step.{step as step_spec};
 ghost use Rattle.user_mem.specs.Users.{memory_of_user, with_memory};
-ghost use Rattle.vec_monitor.specs.Parts.{user_state, present};
+ghost use Rattle.vec_monitor.specs.Parts.{context_state, user_state, present};
 
 use crate::context::Context;
 use crate::lenders::{OwnVectors, UserMemory};
 use crate::trace::Trace;
+use arrayvec::ArrayVec;
 use hart::{Vectors, View, step};
-use rv_model::{Policy, Scalar, Seat, StepEnd, Stop, User};
+use rv_model::{OUTPUT_SIZE, Policy, Scalar, Seat, StepEnd, Stop, User};
 use std::alloc::Allocator;
 use user_mem::Pool;
 use vector_memory::UserBytes;
@@ -31,22 +32,28 @@ fn stop_of(end: StepEnd) -> Option<Stop>
             pc: _,
             value,
         } => Some(Stop::Fault { cause, value }),
+        StepEnd::OutputFull => Some(Stop::OutputFull),
         StepEnd::Cut => None,
     }
 }
 
-/// One instruction over the registers, the bytes and the vector state that it works on.
+/// One instruction over the registers, the bytes, the vector state and the output buffer that it works on,
+/// within `limit` ticks. Answers how it ended, and the ticks that it took.
 fn step_parts<M: UserBytes, V: Vectors>(
     scalar: &mut Scalar,
     memory: &mut M,
     vectors: &mut V,
-) -> StepEnd
-    requires { V.ready vectors.old }
-    ensures state { (step_spec 256 (hart_state scalar.old (V.lent vectors.old).state (M.memory memory.old) Policy.Keep [])).state
-        ≡ hart_state scalar.new (V.lent vectors.new).state (M.memory memory.new) Policy.Keep [] }
-    ensures end { (step_spec 256 (hart_state scalar.old (V.lent vectors.old).state (M.memory memory.old) Policy.Keep [])).end
-        ≡ result }
-    ensures uncut { result ≢ StepEnd.Cut }
+    output: &mut ArrayVec<u8, OUTPUT_SIZE>,
+    limit: usize,
+) -> (StepEnd, usize)
+    requires ready { V.ready vectors.old }
+    requires limit { 1 ≤ limit }
+    ensures state { (step_spec limit (hart_state scalar.old (V.lent vectors.old).state (M.memory memory.old) Policy.Keep output.old.items)).state
+        ≡ hart_state scalar.new (V.lent vectors.new).state (M.memory memory.new) Policy.Keep output.new.items }
+    ensures end { (step_spec limit (hart_state scalar.old (V.lent vectors.old).state (M.memory memory.old) Policy.Keep output.old.items)).end
+        ≡ result.0 }
+    ensures ticks { (step_spec limit (hart_state scalar.old (V.lent vectors.old).state (M.memory memory.old) Policy.Keep output.old.items)).ticks
+        ≡ result.1 }
     ensures others { memory.new ≡ M.with_memory memory.old (M.memory memory.new) }
     ensures vectors { (vectors.new ≡ V.back vectors.old (V.lent vectors.new)) ⊎ (vectors.new
         ≡ vectors.old) }
@@ -55,31 +62,71 @@ fn step_parts<M: UserBytes, V: Vectors>(
         scalar,
         memory,
         vectors,
+        output,
         policy: Policy::Keep,
     };
-    let (end, _) = step(&mut view, MAX_TICKS);
-    end
+    step(&mut view, limit)
 }
 
-/// One instruction of a user.
+/// One instruction of a user, within `limit` ticks. Answers how it ended, and the ticks that it took.
 fn step_once<A: Allocator>(
     scalar: &mut Scalar,
     seat: &mut Seat,
+    output: &mut ArrayVec<u8, OUTPUT_SIZE>,
     pool: &mut Pool<A>,
     user: User,
-) -> StepEnd
-    ensures state { (step_spec 256 (user_state scalar.old seat.old (memory_of_user pool.old user))).state
-        ≡ user_state scalar.new seat.new (memory_of_user pool.new user) }
-    ensures end { (step_spec 256 (user_state scalar.old seat.old (memory_of_user pool.old user))).end ≡ result }
-    ensures uncut { result ≢ StepEnd.Cut }
+    limit: usize,
+) -> (StepEnd, usize)
+    requires { 1 ≤ limit }
+    ensures state { (step_spec limit (user_state scalar.old seat.old output.old.items (memory_of_user pool.old user))).state
+        ≡ user_state scalar.new seat.new output.new.items (memory_of_user pool.new user) }
+    ensures end { (step_spec limit (user_state scalar.old seat.old output.old.items (memory_of_user pool.old user))).end ≡ result.0 }
+    ensures ticks { (step_spec limit (user_state scalar.old seat.old output.old.items (memory_of_user pool.old user))).ticks ≡ result.1 }
     ensures others { pool.new ≡ with_memory pool.old user (memory_of_user pool.new user) }
 {
     let mut memory = UserMemory { pool, user };
     let mut vectors = OwnVectors { seat };
-    step_parts(scalar, &mut memory, &mut vectors)
+    step_parts(scalar, &mut memory, &mut vectors, output, limit)
 }
 
-/// At most `count` instructions, fewer where one stops the program. Answers why it stopped.
+/// Tries one instruction of a user, within `limit` ticks. Answers why the program stops, if it does,
+/// and the ticks that it took. An instruction that ran to its end goes into the trace; after one that
+/// was cut, the program goes on as if it had just been told to run.
+fn try_instruction<A: Allocator>(
+    context: &mut Context,
+    trace: &mut Trace<A>,
+    pool: &mut Pool<A>,
+    user: User,
+    limit: usize,
+) -> (Option<Stop>, usize)
+    requires { 1 ≤ limit }
+    ensures state { after (following (step_spec limit (context_state context.old (memory_of_user pool.old user))).end) (step_spec limit (context_state context.old (memory_of_user pool.old user))).state (present context.old trace.old (memory_of_user pool.old user))
+        ≡ present context.new trace.new (memory_of_user pool.new user) }
+    ensures stop { stop_spec (following (step_spec limit (context_state context.old (memory_of_user pool.old user))).end) ≡ result.0 }
+    ensures ticks { (step_spec limit (context_state context.old (memory_of_user pool.old user))).ticks ≡ result.1 }
+    ensures entered { context.new.entered ≡ context.old.entered }
+    ensures others { pool.new ≡ with_memory pool.old user (memory_of_user pool.new user) }
+{
+    let addr = context.scalar.pc;
+    let (end, ticks) = step_once(
+        &mut context.scalar,
+        &mut context.seat,
+        &mut context.output,
+        pool,
+        user,
+        limit,
+    );
+    context.fresh = false;
+    match end {
+        StepEnd::Ran => trace.record(addr),
+        StepEnd::Cut => context.fresh = true,
+        StepEnd::Exit(_) | StepEnd::Ebreak | StepEnd::Fault { .. } | StepEnd::OutputFull => {}
+    }
+    (stop_of(end), ticks)
+}
+
+/// At most `count` instructions, fewer where one stops the program, or where a breakpoint stands at one that
+/// isn't the first. Answers why it stopped.
 pub(crate) fn steps<A: Allocator>(
     context: &mut Context,
     trace: &mut Trace<A>,
@@ -93,13 +140,45 @@ pub(crate) fn steps<A: Allocator>(
     ensures entered { context.new.entered ≡ context.old.entered }
     ensures others { pool.new ≡ with_memory pool.old user (memory_of_user pool.new user) }
 {
+    let mut exempt = true;
     for _ in 0..count {
-        let addr = context.scalar.pc;
-        let end = step_once(&mut context.scalar, &mut context.seat, pool, user);
-        if let Some(stop) = stop_of(end) {
+        if context.is_held(exempt) {
+            return Some(Stop::Breakpoint);
+        }
+        exempt = false;
+        let (stop, _) = try_instruction(context, trace, pool, user, MAX_TICKS);
+        if let Some(stop) = stop {
             return Some(stop);
         }
-        trace.record(addr);
+    }
+    None
+}
+
+/// The instructions of so many ticks, fewer where one stops the program, or where a breakpoint stands at one that
+/// isn't the first after the program was told to run. Answers why it stopped.
+pub(crate) fn slice<A: Allocator>(
+    context: &mut Context,
+    trace: &mut Trace<A>,
+    pool: &mut Pool<A>,
+    user: User,
+    quantum: usize,
+) -> Option<Stop>
+    ensures state { (ticked quantum (present context.old trace.old (memory_of_user pool.old user))).state
+        ≡ present context.new trace.new (memory_of_user pool.new user) }
+    ensures stop { (ticked quantum (present context.old trace.old (memory_of_user pool.old user))).stop ≡ result }
+    ensures entered { context.new.entered ≡ context.old.entered }
+    ensures others { pool.new ≡ with_memory pool.old user (memory_of_user pool.new user) }
+{
+    let mut left = quantum;
+    while left > 0 {
+        if context.is_held(context.fresh) {
+            return Some(Stop::Breakpoint);
+        }
+        let (stop, ticks) = try_instruction(context, trace, pool, user, left);
+        if let Some(stop) = stop {
+            return Some(stop);
+        }
+        left -= ticks;
     }
     None
 }

@@ -1,29 +1,36 @@
-//! What a machine holds of its eight users.
-ghost use Rattle.std.specs.Prelude.{◌≡◌, ◌+◌, [], length, replicate, IfOk};
+//! What a machine holds of its eight users, and whose turn it is.
+ghost use Rattle.std.specs.Prelude.{◌≡◌, ◌+◌, ◌≤◌, ◌++◌, [], length, map, replicate, IfOk, IfNone, IfSome};
 ghost use Rattle.rv_model.specs.commands.Commands.{commanded};
 ghost use Rattle.rv_model.specs.commands.Commands.{parse as parse_spec};
+ghost use Rattle.rv_model.specs.machine.Grants.{next_running, runs, standing};
+ghost use Rattle.rv_model.specs.machine.PrivateMachine.{sliced};
 ghost use Rattle.rv_model.specs.machine.Script.{part, with_part, new_world};
 ghost use Rattle.rv_model.specs.machine.Users.{user_count};
 ghost use Rattle.rv_model.specs.text.Lines.{text};
 ghost use Rattle.vec_monitor.specs.Images.{named_images};
-ghost use Rattle.vec_monitor.specs.Parts.{new_context};
+ghost use Rattle.vec_monitor.specs.Parts.{context_standing, is_running, new_context};
+ghost use Rattle.vec_monitor.specs.StopRoom.{stops_room};
 
 use crate::commands::carry_out;
 use crate::context::Context;
 use crate::image::Image;
+use crate::slices::grant;
 use crate::trace::Trace;
 use monitor_cmds::{Reply, Tag, parse};
-use rv_model::{USER_COUNT, User};
+use rv_model::{Standing, USER_COUNT, User};
+use slice_sched::next;
 use std::alloc::{AllocError, Allocator};
 use std::marker::Model;
 use user_mem::{NoMemory, Pool};
 
-/// The contexts and traces of the eight users, and the pool with the memory of each.
+/// The contexts and traces of the eight users, the pool with the memory of each, and the user whose turn was
+/// the last.
 #[derive(Drop)]
 pub(crate) struct Users<A: Allocator> {
     contexts: [Context; USER_COUNT],
     traces: Vec<Trace<A>, A>,
     pool: Pool<A>,
+    cursor: User,
 }
 
 impl<A: Allocator> Model for Users<A> {
@@ -36,7 +43,7 @@ impl<A: Allocator> Model for Users<A> {
 
     ghost coded = { Prim.hlevel (codes, coded_memory) };
 
-    ghost view = { λ u. world_of u.contexts u.traces.items u.pool };
+    ghost view = { λ u. world_of u.contexts u.traces.items u.pool u.cursor };
 
     ghost invariant = { λ u. AreEight u.contexts u.traces.items u.pool };
 }
@@ -68,6 +75,28 @@ fn empty_traces<A: Allocator + Clone>(alloc: &A) -> Result<Vec<Trace<A>, A>, All
     Ok(traces)
 }
 
+/// Whether the program of each context runs.
+fn running_of(contexts: &[Context; USER_COUNT]) -> [bool; USER_COUNT]
+    ensures { result ≡ map is_running contexts.now }
+{
+    let mut running = [false; USER_COUNT];
+    for index in 0..USER_COUNT {
+        running[index] = contexts[index].is_running();
+    }
+    running
+}
+
+/// What the program of each context does.
+fn standings_of(contexts: &[Context; USER_COUNT]) -> [Standing; USER_COUNT]
+    ensures { result ≡ map context_standing contexts.now }
+{
+    let mut standings = [Standing::Absent; USER_COUNT];
+    for index in 0..USER_COUNT {
+        standings[index] = contexts[index].standing();
+    }
+    standings
+}
+
 impl<A: Allocator> Users<A> {
     /// Eight users who are absent.
     #[tactic(auto, using(crate::proofs::PartLaws::new_users))]
@@ -84,6 +113,7 @@ impl<A: Allocator> Users<A> {
             contexts: absent_contexts(),
             traces,
             pool,
+            cursor: User::at_index(USER_COUNT - 1),
         })
     }
 
@@ -115,5 +145,54 @@ impl<A: Allocator> Users<A> {
             }
             Err(refusal) => monitor_cmds::refused(reply, Tag::User(user), refusal),
         }
+    }
+    /// Grants a slice of `quantum` ticks to a user, if the user's program runs, and adds to the reply why it
+    /// stopped, if it did. Answers whether the program ran.
+    #[tactic(auto, using(crate::proofs::PartLaws::part_put_back))]
+    pub(crate) fn slice(&mut self, user: User, quantum: usize, reply: &mut Reply) -> bool
+        requires { length reply.old + stops_room self.old.parts ≤ 4096 }
+        ensures world { self.new ≡ with_part user (sliced quantum (part user self.old)).next self.old }
+        ensures reply { reply.new ≡ reply.old ++ text (48 + user) (sliced quantum (part user self.old)).lines }
+        ensures ran { result ≡ runs (part user self.old) }
+        ensures bound { length reply.new + stops_room self.new.parts
+            ≤ length reply.old + stops_room self.old.parts }
+    {
+        let context = &mut self.contexts[user.index()];
+        grant(
+            context,
+            self.traces.as_mut_slice(),
+            &mut self.pool,
+            user,
+            quantum,
+            reply,
+        )
+    }
+
+    /// The first user whose program runs, in the order of the users from the one on whose turn follows
+    /// the last; this user's turn is the last then.
+    pub(crate) fn take_turn(&mut self) -> Option<User>
+        ensures user { result ≡ next_running self.old }
+        ensures none { IfNone result (self.new ≡ self.old) }
+        ensures turn { IfSome result (λ user. self.new ≡ record self.old { cursor = user }) }
+    {
+        let user = next(self.cursor, &self.running())?;
+        self.cursor = user;
+        Some(user)
+    }
+
+    /// Whether each user's program runs, user 1 first.
+    #[tactic(auto, using(crate::proofs::GrantLaws::runs_of_parts))]
+    fn running(&self) -> [bool; USER_COUNT]
+        ensures { result ≡ map runs self.now.parts }
+    {
+        running_of(&self.contexts)
+    }
+
+    /// What each user's program does, user 1 first.
+    #[tactic(auto, using(crate::proofs::GrantLaws::standings_of_parts))]
+    pub(crate) fn standings(&self) -> [Standing; USER_COUNT]
+        ensures { result ≡ map standing self.now.parts }
+    {
+        standings_of(&self.contexts)
     }
 }

@@ -1,6 +1,7 @@
 //! One vector instruction, carried out.
 ghost use Rattle.std.specs.Prelude.{◌≡◌, ◌≤◌, IsTrue, List, ℕ};
 ghost use Rattle.rv_model.specs.step.Hart.{hart_state};
+ghost use Rattle.rv_model.specs.step.GoesOn.{InstructionGoesOn};
 ghost use Rattle.rv_model.specs.step.VectorStep.{is_vector, performed, vector_ends, vector_executed};
 ghost use Rattle.rv_model.specs.legality.Legality.{is_legal};
 
@@ -77,10 +78,9 @@ fn perform<M: UserBytes>(
     }
 }
 
-/// Carries out a vector instruction of a user, of at most `limit` indices where it is a load or store. The
-/// program counter stays on it.
+/// A vector instruction, legal or not.
 #[tactic(auto, unfolding(rv_model::specs::step::VectorStep::vector_executed))]
-pub fn exec<M: UserBytes>(
+fn execute<M: UserBytes>(
     instr: &Instr,
     state: &mut VState,
     scalar: &mut Scalar,
@@ -106,4 +106,37 @@ pub fn exec<M: UserBytes>(
         return VEnd::Illegal;
     }
     perform(instr, state, scalar, memory, limit, policy)
+}
+
+/// Carries out a vector instruction of a user, of at most `limit` indices where it is a load or store. The
+/// program counter stays on it.
+pub fn exec<M: UserBytes>(
+    instr: &Instr,
+    state: &mut VState,
+    scalar: &mut Scalar,
+    memory: &mut M,
+    limit: usize,
+    policy: Policy,
+) -> VEnd
+    requires vector { IsTrue (is_vector instr.now) }
+    requires limit { 1 ≤ limit }
+    ensures model { (output : List ℕ)
+        → vector_executed limit instr.now (hart_state scalar.old state.old (M.memory memory.old) policy output)
+        ≡ vector_ends result (hart_state scalar.new state.new (M.memory memory.new) policy output) }
+
+    // If it is cut or faults, it goes on from there, in a memory that may have grown.
+    ensures restarts { (output : List ℕ)
+        → InstructionGoesOn instr.now (hart_state scalar.old state.old (M.memory memory.old) policy output)
+        (vector_ends result (hart_state scalar.new state.new (M.memory memory.new) policy output)) }
+
+    // All else that the user's bytes hold stays.
+    ensures memory { memory.new ≡ M.with_memory memory.old (M.memory memory.new) }
+
+    // What the illegal instruction finds is what it leaves.
+    ensures illegal_state { result ≡ VEnd.Illegal → state.new ≡ state.old }
+    ensures illegal_scalar { result ≡ VEnd.Illegal → scalar.new ≡ scalar.old }
+    ensures illegal_memory { result ≡ VEnd.Illegal → memory.new ≡ memory.old }
+{
+    state.conf.length_law();
+    execute(instr, state, scalar, memory, limit, policy)
 }

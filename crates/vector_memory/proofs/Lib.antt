@@ -1,2 +1,4 @@
+pub mod BlockMoves
 pub mod Outcomes
 pub mod Room
+pub mod UnitStride

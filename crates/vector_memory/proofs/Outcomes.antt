@@ -1,6 +1,6 @@
 -- What holds of an outcome that is known, and of a list of one number.
 use Rattle.std.proofs.Common.{◌≡◌, ℕ, zero, suc, ◌≤◌, ◌∷◌, take, refl, ap, arith}
-use Rattle.std.specs.Prelude.{Result, Ok, Err, IsOk, OnOk, replicate}
+use Rattle.std.specs.Prelude.{Result, Ok, Err, IsOk, OnErr, OnOk, replicate}
 
 -- of one that is well
 pub when_ok : {T E : Type 0} {P : Type 0} (r : Result T E) → IsOk r → OnOk r P → P
@@ -12,3 +12,8 @@ pub take-replicate : (x n m : ℕ) → n ≤ m → take n (replicate m x) ≡ re
 take-replicate x zero m h = refl
 take-replicate x (suc n) zero h = absurd (omega (arith, h))
 take-replicate x (suc n) (suc m) h = ap (λ xs. x ∷ xs) (take-replicate x n m (omega (arith, h)))
+
+-- what follows from what holds of an outcome that isn't
+pub on_err : {T E : Type 0} {P Q : Type 0} (r : Result T E) → (P → Q) → OnErr r P → OnErr r Q
+on_err (Ok x) f p = p
+on_err (Err y) f p = f p

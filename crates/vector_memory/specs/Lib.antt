@@ -1,2 +1,3 @@
 pub mod AccessKinds
+pub mod Blocks
 pub mod SegmentRoom

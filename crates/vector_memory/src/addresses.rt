@@ -1,5 +1,5 @@
 //! Where the segments of a load or store begin ("V" Vector Extension 1.0, sections 7.4 to 7.6).
-ghost use Rattle.std.specs.Prelude.{◌≡◌, ◌+◌, ◌*◌, ◌%◌, ◌^◌, ⊤, ℕ, pos, ◌+ℤ◌, ◌*ℤ◌};
+ghost use Rattle.std.specs.Prelude.{◌≡◌, ◌+◌, ◌*◌, ◌%◌, ◌^◌, ⊤, ℕ, true, pos, ◌+ℤ◌, ◌*ℤ◌};
 ghost use Rattle.std.specs.Int.{cast_signed, w64};
 ghost use Rattle.rv_model.specs.elements.Elements.{element, HasElement};
 ghost use Rattle.rv_model.specs.elements.Formulas.{wrap};
@@ -20,6 +20,10 @@ pub(crate) trait Addresses {
     fn address(&self, index: usize) -> u64
         requires { has self.now index }
         ensures { result ≡ address self.now index };
+
+    /// Whether segments of `size` bytes follow one another without a gap.
+    fn are_contiguous(&self, size: usize) -> bool
+        ensures { result ≡ true → (i k : ℕ) → address self.now (i + k) ≡ (address self.now i + k * size) % 2 ^ 64 };
 }
 
 /// Segments that follow one another, `size` bytes each, from one at `base` on.
@@ -36,6 +40,11 @@ impl Addresses for UnitStride {
 
     fn address(&self, index: usize) -> u64 {
         self.base.wrapping_add(self.size.wrapping_mul(index as u64))
+    }
+
+    #[tactic(auto, using(crate::proofs::UnitStride::steps))]
+    fn are_contiguous(&self, size: usize) -> bool {
+        self.size == size as u64
     }
 }
 
@@ -55,6 +64,10 @@ impl Addresses for Strided {
     fn address(&self, index: usize) -> u64 {
         self.base
             .wrapping_add(self.stride.wrapping_mul(index as u64))
+    }
+
+    fn are_contiguous(&self, _size: usize) -> bool {
+        false
     }
 }
 
@@ -80,5 +93,9 @@ impl Addresses for Indexed<'_> {
             Width::E64 => u64::load(self.offsets, index).number(),
         };
         self.base.wrapping_add(offset)
+    }
+
+    fn are_contiguous(&self, _size: usize) -> bool {
+        false
     }
 }

@@ -1,11 +1,24 @@
 //! What a load or store leaves of `vstart` and of the vector length ("V" Vector Extension 1.0, sections 3.7,
 //! 7.7 and 17.1).
-ghost use Rattle.std.specs.Prelude.{◌≡◌, ◌≤◌, true, false};
+ghost use Rattle.std.specs.Prelude.{◌≡◌, ◌≤◌, true, false, cond, nat_lt};
 ghost use Rattle.rv_model.specs.accesses.AccessRuns.{load_ends, runs_to, store_ends};
+ghost use Rattle.rv_model.specs.declared.step.memory_end.MemEnd.TheVariants.{Done, Cut};
 ghost use Rattle.rv_model.specs.memory.Memory.{Memory};
 ghost use Rattle.vector_memory.specs.SegmentRoom.{StopsBefore};
 
 use rv_model::{GROUP_BYTES, MemEnd, VState};
+
+/// How an instruction ends where none of its indices up to `stop` faults, of which it has `end`.
+pub(crate) fn end_without_fault(stop: usize, end: usize) -> MemEnd
+    ensures value { result ≡ cond (nat_lt stop end) (Cut stop) Done }
+    ensures least { StopsBefore end result }
+{
+    if stop < end {
+        MemEnd::Cut { index: stop }
+    } else {
+        MemEnd::Done
+    }
+}
 
 /// The index at which it stopped becomes `vstart`, or 0 if it is done.
 pub(crate) fn leave(end: MemEnd, state: &mut VState)

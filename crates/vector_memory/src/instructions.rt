@@ -2,6 +2,7 @@
 ghost use Rattle.std.specs.Prelude.{◌≡◌, ◌+◌, ◌*◌, ◌/◌, ◌%◌, ◌^◌, ◌≤◌, IsTrue, Some, false, pos, true, ◌+ℤ◌, ◌*ℤ◌};
 ghost use Rattle.std.specs.Int.{cast_signed, w64};
 ghost use Rattle.rv_model.specs.accesses.AccessRuns.{access_run, direction_run, runs_to, unit_run};
+ghost use Rattle.rv_model.specs.accesses.Restarts.{GoesOn};
 ghost use Rattle.rv_model.specs.accesses.VectorAccess.{access_type};
 ghost use Rattle.rv_model.specs.elements.Arithmetic.{body_of, group_element};
 ghost use Rattle.rv_model.specs.elements.Formulas.{wrap};
@@ -308,18 +309,18 @@ fn whole_segments(size: usize, count: RegisterCount, register: VReg) -> Segments
 #[tactic(auto, unfolding(rv_model::specs::accesses::AccessRuns::access_run))]
 fn run_registers<M: UserBytes>(
     instr: &Instr,
-    limit: usize,
-    fill_masked_off: bool,
+    extent: Extent,
     scalar: &Scalar,
     memory: &mut M,
     state: &mut VState,
 ) -> MemEnd
     requires access { IsTrue (is_register_access instr.now) }
     requires legal { IsTrue (is_legal instr.now state.old.conf.vtype state.old.vstart) }
-    ensures run { access_run limit fill_masked_off instr.now state.old scalar.now (M.memory memory.old)
+    ensures run { access_run extent.limit extent.fill_masked_off instr.now state.old scalar.now (M.memory memory.old)
         ≡ runs_to result state.new (M.memory memory.new) }
     ensures others { memory.new ≡ M.with_memory memory.old (M.memory memory.new) }
 {
+    let limit = extent.limit;
     match *instr {
         Instr::WholeLoad {
             count,
@@ -350,9 +351,33 @@ fn run_registers<M: UserBytes>(
     }
 }
 
+/// A load or store, whichever it is.
+#[tactic(auto, unfolding(rv_model::specs::accesses::AccessRuns::access_run))]
+fn run_any<M: UserBytes>(
+    instr: &Instr,
+    extent: Extent,
+    scalar: &Scalar,
+    memory: &mut M,
+    state: &mut VState,
+) -> MemEnd
+    requires legal { IsTrue (is_legal instr.now state.old.conf.vtype state.old.vstart) }
+    ensures run { access_run extent.limit extent.fill_masked_off instr.now state.old scalar.now (M.memory memory.old)
+        ≡ runs_to result state.new (M.memory memory.new) }
+    ensures others { memory.new ≡ M.with_memory memory.old (M.memory memory.new) }
+{
+    match *instr {
+        Instr::VectorUnit { .. } | Instr::VectorStrided { .. } | Instr::VectorIndexed { .. } => {
+            run_segments(instr, extent, scalar, memory, state)
+        }
+        Instr::WholeLoad { .. } | Instr::WholeStore { .. } | Instr::MaskMemory { .. } => {
+            run_registers(instr, extent, scalar, memory, state)
+        }
+        _ => MemEnd::Done,
+    }
+}
+
 /// Carries out a vector load or store of a user, of at most `limit` indices from `vstart` on. A load leaves
 /// its tail as it is; its elements that are masked off become all ones where `fill_masked_off`.
-#[tactic(auto, unfolding(rv_model::specs::accesses::AccessRuns::access_run))]
 pub fn run<M: UserBytes>(
     instr: &Instr,
     state: &mut VState,
@@ -366,20 +391,17 @@ pub fn run<M: UserBytes>(
     ensures model { access_run limit fill_masked_off instr.now state.old scalar.now (M.memory memory.old)
         ≡ runs_to result state.new (M.memory memory.new) }
 
+    // If it is cut or faults, it goes on from there, in a memory that may have grown.
+    ensures restarts { GoesOn fill_masked_off instr.now scalar.now state.old (M.memory memory.old)
+        (runs_to result state.new (M.memory memory.new)) }
+
     // All else that the user's bytes hold stays.
     ensures memory { memory.new ≡ M.with_memory memory.old (M.memory memory.new) }
 {
-    match *instr {
-        Instr::VectorUnit { .. } | Instr::VectorStrided { .. } | Instr::VectorIndexed { .. } => {
-            let extent = Extent {
-                limit,
-                fill_masked_off,
-            };
-            run_segments(instr, extent, scalar, memory, state)
-        }
-        Instr::WholeLoad { .. } | Instr::WholeStore { .. } | Instr::MaskMemory { .. } => {
-            run_registers(instr, limit, fill_masked_off, scalar, memory, state)
-        }
-        _ => MemEnd::Done,
-    }
+    state.conf.length_law();
+    let extent = Extent {
+        limit,
+        fill_masked_off,
+    };
+    run_any(instr, extent, scalar, memory, state)
 }

@@ -2,6 +2,7 @@
 #![tactic(auto)]
 
 mod addresses;
+mod blocks;
 mod ends;
 mod instructions;
 mod length;

@@ -1,5 +1,5 @@
 //! Loads, index by index ("V" Vector Extension 1.0, sections 7.4 to 7.9 and 17.1).
-ghost use Rattle.std.specs.Prelude.{◌≡◌, ◌↔◌, ◌+◌, ◌-◌, ◌≤◌, ◌<◌, ℕ, true, IsOk, IfErr, OnOk, OnErr};
+ghost use Rattle.std.specs.Prelude.{◌≡◌, ◌↔◌, ◌+◌, ◌-◌, ◌≤◌, ◌<◌, ℕ, true, Bool, IsOk, IfErr, OnOk, OnErr, IfSome, IfNone};
 ghost use Rattle.rv_model.specs.declared.memory.Access.TheVariants.{Load};
 ghost use Rattle.rv_model.specs.accesses.Transfers.{are_allowed, bad_address, end_at, loaded, stop_index, transfers};
 ghost use Rattle.rv_model.specs.accesses.VectorAccess.{plan};
@@ -7,6 +7,8 @@ ghost use Rattle.rv_model.specs.memory.Memory.{Memory};
 ghost use Rattle.vector_memory.specs.SegmentRoom.{HasRoom, StopsBefore, access_of, place_in};
 
 use crate::addresses::Addresses;
+use crate::blocks::block_of;
+use crate::ends::end_without_fault;
 use crate::segments::Segments;
 use crate::user_bytes::UserBytes;
 use lane_arith::Body;
@@ -44,8 +46,8 @@ fn load_index<M: UserBytes, A: Addresses>(
     Ok(())
 }
 
-/// Loads the indices of the body, at most `limit` of them, up to the first that isn't wholly allowed.
-pub(crate) fn load<M: UserBytes, A: Addresses>(
+/// Loads the indices of the body one by one, at most `limit` of them, up to the first that isn't wholly allowed.
+fn load_each<M: UserBytes, A: Addresses>(
     memory: &M,
     segments: &Segments,
     addresses: &A,
@@ -87,9 +89,80 @@ pub(crate) fn load<M: UserBytes, A: Addresses>(
             };
         }
     }
-    if stop < body.end() {
-        MemEnd::Cut { index: stop }
-    } else {
-        MemEnd::Done
+    end_without_fault(stop, body.end())
+}
+
+/// Loads the indices of the body at once, where they are contiguous and each may be loaded.
+fn load_block<M: UserBytes, A: Addresses>(
+    memory: &M,
+    segments: &Segments,
+    addresses: &A,
+    body: &Body<'_>,
+    limit: usize,
+    file: &mut VFile,
+) -> Option<MemEnd>
+    requires room { HasRoom segments.now body.now.end }
+    requires count { body.now.end ≤ GROUP_BYTES }
+    requires addresses { (i : ℕ) → i < body.now.end → A.has addresses.now i }
+    ensures end { IfSome result (λ end. (fill_masked_off : Bool) → end ≡ end_at Load (M.memory memory.now)
+        (plan (access_of segments.now body.now (A.address addresses.now)) fill_masked_off)
+        (body.now.start + limit) body.now.end
+        (stop_index Load (M.memory memory.now)
+        (plan (access_of segments.now body.now (A.address addresses.now)) fill_masked_off)
+        body.now.start (body.now.start + limit) body.now.end)) }
+    ensures value { IfSome result (λ end. (fill_masked_off : Bool) → file.new
+        ≡ loaded (M.memory memory.now) (place_in segments.now) file.old
+        (transfers (plan (access_of segments.now body.now (A.address addresses.now)) fill_masked_off) body.now.start
+        (stop_index Load (M.memory memory.now)
+        (plan (access_of segments.now body.now (A.address addresses.now)) fill_masked_off)
+        body.now.start (body.now.start + limit) body.now.end - body.now.start))) }
+    ensures least { IfSome result (StopsBefore body.now.end) }
+    ensures unchanged { IfNone result (file.new ≡ file.old) }
+{
+    let stop = body.start().saturating_add(limit).min(body.end());
+    let block = block_of(segments, addresses, body, stop)?;
+    let Ok(()) = block.load(memory, file) else {
+        return None;
+    };
+    Some(end_without_fault(stop, body.end()))
+}
+
+/// Loads the indices of the body, at most `limit` of them, up to the first that isn't wholly allowed.
+pub(crate) fn load<M: UserBytes, A: Addresses>(
+    memory: &M,
+    segments: &Segments,
+    addresses: &A,
+    body: &Body<'_>,
+    limit: usize,
+    fill_masked_off: bool,
+    file: &mut VFile,
+) -> MemEnd
+    requires room { HasRoom segments.now body.now.end }
+    requires count { body.now.end ≤ GROUP_BYTES }
+    requires addresses { (i : ℕ) → i < body.now.end → A.has addresses.now i }
+    ensures end { result ≡ end_at Load (M.memory memory.now)
+        (plan (access_of segments.now body.now (A.address addresses.now)) fill_masked_off)
+        (body.now.start + limit) body.now.end
+        (stop_index Load (M.memory memory.now)
+        (plan (access_of segments.now body.now (A.address addresses.now)) fill_masked_off)
+        body.now.start (body.now.start + limit) body.now.end) }
+    ensures value { file.new ≡ loaded (M.memory memory.now) (place_in segments.now) file.old
+        (transfers (plan (access_of segments.now body.now (A.address addresses.now)) fill_masked_off) body.now.start
+        (stop_index Load (M.memory memory.now)
+        (plan (access_of segments.now body.now (A.address addresses.now)) fill_masked_off)
+        body.now.start (body.now.start + limit) body.now.end - body.now.start)) }
+    ensures least { StopsBefore body.now.end result }
+{
+    match load_block(memory, segments, addresses, body, limit, file) {
+        Some(end) => end,
+        None => load_each(
+            memory,
+            segments,
+            addresses,
+            body,
+            limit,
+            fill_masked_off,
+            file,
+        ),
     }
 }

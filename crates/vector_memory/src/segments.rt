@@ -21,7 +21,7 @@ pub(crate) struct Segments {
 
 impl Segments {
     /// The byte of the register file where an element begins.
-    fn place(&self, index: usize, field: usize) -> usize
+    pub(crate) fn place(&self, index: usize, field: usize) -> usize
         requires room { HasRoom self.now (index + 1) }
         requires field { field < self.now.fields }
         ensures value { result ≡ VLENB * (self.now.register + field * self.now.field_registers) + index * self.now.size }

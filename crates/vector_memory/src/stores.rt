@@ -1,11 +1,13 @@
 //! Stores, index by index ("V" Vector Extension 1.0, sections 7.4 to 7.9 and 17.1).
-ghost use Rattle.std.specs.Prelude.{◌≡◌, ◌↔◌, ◌+◌, ◌-◌, ◌≤◌, ◌<◌, ℕ, true, false, IsOk, IfErr, OnOk, OnErr};
+ghost use Rattle.std.specs.Prelude.{◌≡◌, ◌↔◌, ◌+◌, ◌-◌, ◌≤◌, ◌<◌, ℕ, true, false, IsOk, IfErr, OnOk, OnErr, IfSome, IfNone};
 ghost use Rattle.rv_model.specs.declared.memory.Access.TheVariants.{Store};
 ghost use Rattle.rv_model.specs.accesses.Transfers.{are_allowed, bad_address, end_at, stop_index, stored, transfers};
 ghost use Rattle.rv_model.specs.accesses.VectorAccess.{plan};
 ghost use Rattle.vector_memory.specs.SegmentRoom.{HasRoom, StopsBefore, access_of, place_in};
 
 use crate::addresses::Addresses;
+use crate::blocks::block_of;
+use crate::ends::end_without_fault;
 use crate::segments::Segments;
 use crate::user_bytes::UserBytes;
 use lane_arith::Body;
@@ -40,8 +42,8 @@ fn store_index<M: UserBytes, A: Addresses>(
     Ok(())
 }
 
-/// Stores the indices of the body, at most `limit` of them, up to the first that isn't wholly allowed.
-pub(crate) fn store<M: UserBytes, A: Addresses>(
+/// Stores the indices of the body one by one, at most `limit` of them, up to the first that isn't wholly allowed.
+fn store_each<M: UserBytes, A: Addresses>(
     file: &VFile,
     segments: &Segments,
     addresses: &A,
@@ -75,9 +77,73 @@ pub(crate) fn store<M: UserBytes, A: Addresses>(
             };
         }
     }
-    if stop < body.end() {
-        MemEnd::Cut { index: stop }
-    } else {
-        MemEnd::Done
+    end_without_fault(stop, body.end())
+}
+
+/// Stores the indices of the body at once, where they are contiguous and each may be stored.
+fn store_block<M: UserBytes, A: Addresses>(
+    file: &VFile,
+    segments: &Segments,
+    addresses: &A,
+    body: &Body<'_>,
+    limit: usize,
+    memory: &mut M,
+) -> Option<MemEnd>
+    requires room { HasRoom segments.now body.now.end }
+    requires count { body.now.end ≤ GROUP_BYTES }
+    requires addresses { (i : ℕ) → i < body.now.end → A.has addresses.now i }
+    ensures end { IfSome result (λ end. end ≡ end_at Store (M.memory memory.old)
+        (plan (access_of segments.now body.now (A.address addresses.now)) false)
+        (body.now.start + limit) body.now.end
+        (stop_index Store (M.memory memory.old)
+        (plan (access_of segments.now body.now (A.address addresses.now)) false)
+        body.now.start (body.now.start + limit) body.now.end)) }
+    ensures value { IfSome result (λ end. M.memory memory.new
+        ≡ stored (M.memory memory.old) (place_in segments.now) file.now
+        (transfers (plan (access_of segments.now body.now (A.address addresses.now)) false) body.now.start
+        (stop_index Store (M.memory memory.old)
+        (plan (access_of segments.now body.now (A.address addresses.now)) false)
+        body.now.start (body.now.start + limit) body.now.end - body.now.start))) }
+    ensures others { IfSome result (λ end. memory.new ≡ M.with_memory memory.old (M.memory memory.new)) }
+    ensures least { IfSome result (StopsBefore body.now.end) }
+    ensures unchanged { IfNone result (memory.new ≡ memory.old) }
+{
+    let stop = body.start().saturating_add(limit).min(body.end());
+    let block = block_of(segments, addresses, body, stop)?;
+    let Ok(()) = block.store(file, memory) else {
+        return None;
+    };
+    Some(end_without_fault(stop, body.end()))
+}
+
+/// Stores the indices of the body, at most `limit` of them, up to the first that isn't wholly allowed.
+pub(crate) fn store<M: UserBytes, A: Addresses>(
+    file: &VFile,
+    segments: &Segments,
+    addresses: &A,
+    body: &Body<'_>,
+    limit: usize,
+    memory: &mut M,
+) -> MemEnd
+    requires room { HasRoom segments.now body.now.end }
+    requires count { body.now.end ≤ GROUP_BYTES }
+    requires addresses { (i : ℕ) → i < body.now.end → A.has addresses.now i }
+    ensures end { result ≡ end_at Store (M.memory memory.old)
+        (plan (access_of segments.now body.now (A.address addresses.now)) false)
+        (body.now.start + limit) body.now.end
+        (stop_index Store (M.memory memory.old)
+        (plan (access_of segments.now body.now (A.address addresses.now)) false)
+        body.now.start (body.now.start + limit) body.now.end) }
+    ensures value { M.memory memory.new ≡ stored (M.memory memory.old) (place_in segments.now) file.now
+        (transfers (plan (access_of segments.now body.now (A.address addresses.now)) false) body.now.start
+        (stop_index Store (M.memory memory.old)
+        (plan (access_of segments.now body.now (A.address addresses.now)) false)
+        body.now.start (body.now.start + limit) body.now.end - body.now.start)) }
+    ensures others { memory.new ≡ M.with_memory memory.old (M.memory memory.new) }
+    ensures least { StopsBefore body.now.end result }
+{
+    match store_block(file, segments, addresses, body, limit, memory) {
+        Some(end) => end,
+        None => store_each(file, segments, addresses, body, limit, memory),
     }
 }

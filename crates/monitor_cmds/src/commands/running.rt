@@ -1,14 +1,14 @@
-//! The commands that run instructions, and that tell how far the program is: `step`, `state` and
-//! `trace`.
-ghost use Rattle.std.specs.Prelude.{◌≡◌, [], ◌∷◌, ◌++◌, ◌+◌, ◌*◌, ◌≤◌, length, codes, decimal, flat_map, if◌then◌else◌};
+//! The commands that run instructions, and that tell how far the program is and what it has put out:
+//! `step`, `go`, `stop`, `state`, `trace` and `out`.
+ghost use Rattle.std.specs.Prelude.{◌≡◌, [], ◌∷◌, ◌++◌, ◌+◌, ◌*◌, ◌≤◌, length, codes, decimal, if◌then◌else◌};
 ghost use Rattle.rv_model.specs.commands.Printing.{hex16};
-ghost use Rattle.rv_model.specs.commands.Running.{step_args, running_named, step_line, state_line, traced, trace_line};
+ghost use Rattle.rv_model.specs.commands.Running.{step_args, running_named, step_line, running_line, stopped_line, state_line, trace_line, spaced_bytes, out_line};
 ghost use Rattle.rv_model.specs.text.Lines.{tagged, text};
 ghost use Rattle.rv_model.specs.text.Words.{words};
 ghost use Rattle.monitor_cmds.specs.Tag.{tag_byte};
 
 use crate::arguments::count;
-use crate::numerals::{push_decimal, push_hex16};
+use crate::numerals::{push_addresses, push_bytes, push_decimal, push_hex16};
 use crate::reply::Reply;
 use crate::stops::{push_pc, stop_line};
 use crate::tag::Tag;
@@ -23,11 +23,20 @@ pub(crate) fn running_named(name: &[u8], args: &[u8]) -> Option<Option<RunningCo
     if name == b"step".as_slice() {
         return Some(step_args(args));
     }
+    if name == b"go".as_slice() {
+        return Some(done(Words::new(args), RunningCommand::Go));
+    }
+    if name == b"stop".as_slice() {
+        return Some(done(Words::new(args), RunningCommand::Stop));
+    }
     if name == b"state".as_slice() {
         return Some(done(Words::new(args), RunningCommand::State));
     }
     if name == b"trace".as_slice() {
         return Some(done(Words::new(args), RunningCommand::Trace));
+    }
+    if name == b"out".as_slice() {
+        return Some(done(Words::new(args), RunningCommand::Out));
     }
     None
 }
@@ -70,6 +79,39 @@ pub fn step_line(reply: &mut Reply, tag: Tag, count: usize, pc: u64, stop: Optio
     }
 }
 
+/// Adds a line of a word and where the program stands.
+fn place_line(reply: &mut Reply, tag: Tag, word: &[u8], pc: u64)
+    requires { length reply.old + (length word.now + 23) ≤ 4096 }
+    ensures text { reply.new ≡ reply.old
+        ++ tagged (tag_byte tag) (word.now ++ codes " pc=" ++ hex16 pc) }
+    ensures bound { length reply.new ≡ length reply.old + (length word.now + 23) }
+{
+    reply.push(&[tag.byte(), b' ']);
+    reply.push(word);
+    push_pc(reply, pc);
+    reply.push(b"\n");
+}
+
+/// Adds the answer to `go`, as `running pc=0000000000010000`.
+#[tactic(auto, unfolding(rv_model::specs::commands::Running::running_line))]
+pub fn running_line(reply: &mut Reply, tag: Tag, pc: u64)
+    requires { length reply.old + 30 ≤ 4096 }
+    ensures text { reply.new ≡ reply.old ++ text (tag_byte tag) (running_line pc ∷ []) }
+    ensures bound { length reply.new ≡ length reply.old + 30 }
+{
+    place_line(reply, tag, b"running", pc);
+}
+
+/// Adds the answer to `stop`, as `stopped pc=0000000000010000`.
+#[tactic(auto, unfolding(rv_model::specs::commands::Running::stopped_line))]
+pub fn stopped_line(reply: &mut Reply, tag: Tag, pc: u64)
+    requires { length reply.old + 30 ≤ 4096 }
+    ensures text { reply.new ≡ reply.old ++ text (tag_byte tag) (stopped_line pc ∷ []) }
+    ensures bound { length reply.new ≡ length reply.old + 30 }
+{
+    place_line(reply, tag, b"stopped", pc);
+}
+
 /// How the answer to `state` begins.
 fn state_words(running: bool) -> &'static [u8]
     ensures value { result.now ≡ (if running then codes "state running pc=" else codes "state stopped pc=") }
@@ -95,19 +137,6 @@ pub fn state_line(reply: &mut Reply, tag: Tag, running: bool, pc: u64)
     reply.push(b"\n");
 }
 
-/// Adds addresses of a trace.
-#[tactic(auto, unfolding(rv_model::specs::commands::Running::traced))]
-fn push_addresses(reply: &mut Reply, addresses: &[u64])
-    requires { length reply.old + 17 * length addresses.now ≤ 4096 }
-    ensures text { reply.new ≡ reply.old ++ flat_map traced addresses.now }
-    ensures bound { length reply.new ≡ length reply.old + 17 * length addresses.now }
-{
-    for addr in addresses {
-        reply.push(b" ");
-        push_hex16(reply, *addr);
-    }
-}
-
 /// Adds the answer to `trace`: the addresses of at most 16 instructions, the oldest first, in two
 /// runs, as `trace 0000000000010000 0000000000010004`.
 #[tactic(auto, unfolding(rv_model::specs::commands::Running::trace_line), using(std::proofs::lemmas::Grind::common_steps))]
@@ -121,5 +150,36 @@ pub fn trace_line(reply: &mut Reply, tag: Tag, older: &[u64], newer: &[u64])
     reply.push(b"trace");
     push_addresses(reply, older);
     push_addresses(reply, newer);
+    reply.push(b"\n");
+}
+
+/// Adds bytes after a space; nothing where there are none.
+#[tactic(auto, unfolding(rv_model::specs::commands::Running::spaced_bytes))]
+fn push_spaced(reply: &mut Reply, bytes: &[u8])
+    requires few { length bytes.now ≤ 1024 }
+    requires room { length reply.old + 1 + 2 * length bytes.now ≤ 4096 }
+    ensures text { reply.new ≡ reply.old ++ spaced_bytes bytes.now }
+    ensures bound { length reply.new ≤ length reply.old + 1 + 2 * length bytes.now }
+{
+    if bytes.is_empty() {
+        return;
+    }
+    reply.push(b" ");
+    push_bytes(reply, bytes);
+}
+
+/// Adds the answer to `out`: how many bytes a program has put out, at most 1,024, and the bytes, as
+/// `out 2 00ff`.
+#[tactic(auto, unfolding(rv_model::specs::commands::Running::out_line))]
+pub fn out_line(reply: &mut Reply, tag: Tag, bytes: &[u8])
+    requires few { length bytes.now ≤ 1024 }
+    requires room { length reply.old + 2076 ≤ 4096 }
+    ensures text { reply.new ≡ reply.old ++ text (tag_byte tag) (out_line bytes.now ∷ []) }
+    ensures bound { length reply.new ≤ length reply.old + 2076 }
+{
+    reply.push(&[tag.byte(), b' ']);
+    reply.push(b"out ");
+    push_decimal(reply, bytes.len() as u64);
+    push_spaced(reply, bytes);
     reply.push(b"\n");
 }

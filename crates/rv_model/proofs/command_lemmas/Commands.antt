@@ -1,7 +1,7 @@
 -- What any command prints are lines.
 use Rattle.std.proofs.Common.{List, ◌&&◌, Some, None, Ok, Err, refl}
 use Rattle.rv_model.specs.declared.commands.command.Cmd.{Cmd}
-use Rattle.rv_model.specs.declared.commands.command.Cmd.TheVariants.{Entering, Memory, Registers, Programs, Running}
+use Rattle.rv_model.specs.declared.commands.command.Cmd.TheVariants.{Entering, Memory, Registers, Programs, Breakpoints, Running}
 use Rattle.rv_model.specs.declared.commands.entering.EnteringCommand.{EnteringCommand}
 use Rattle.rv_model.specs.declared.commands.entering.EnteringCommand.TheVariants.{Enter, Leave}
 use Rattle.rv_model.specs.declared.commands.refusal.Refusal.TheVariants as refusal
@@ -9,6 +9,7 @@ use Rattle.rv_model.specs.commands.Commands.{Parsed, needs_stopped, of_absent, o
 use Rattle.rv_model.specs.commands.Entering.{entering_absent, entering}
 use Rattle.rv_model.specs.machine.Setup.{Image}
 use Rattle.rv_model.specs.machine.UserMachine.{Present, Private, refuses}
+use Rattle.rv_model.proofs.command_lemmas.Breakpoints.{breakpoints_print}
 use Rattle.rv_model.proofs.command_lemmas.Memory.{memory_prints}
 use Rattle.rv_model.proofs.command_lemmas.Printing.{PrintsLines, refusal_prints}
 use Rattle.rv_model.proofs.command_lemmas.Programs.{programs_print}
@@ -32,6 +33,7 @@ absent_prints (Entering c) = entering_absent_prints c
 absent_prints (Memory c) = refusal_prints None refusal.NotEntered
 absent_prints (Registers c) = refusal_prints None refusal.NotEntered
 absent_prints (Programs c) = refusal_prints None refusal.NotEntered
+absent_prints (Breakpoints c) = refusal_prints None refusal.NotEntered
 absent_prints (Running c) = refusal_prints None refusal.NotEntered
 
 present_prints : (images : List Image) (c : Cmd) (p : Present) → PrintsLines (of_present images c p)
@@ -40,6 +42,7 @@ present_prints images (Entering c) p = entering_prints c p
 present_prints images (Memory c) p = memory_prints c p
 present_prints images (Registers c) p = registers_print c p
 present_prints images (Programs c) p = programs_print images c p
+present_prints images (Breakpoints c) p = breakpoints_print c p
 present_prints images (Running c) p = running_prints c p
 
 carried_out_prints : (images : List Image) (c : Cmd) (p : Private) → PrintsLines (carried_out images c p)

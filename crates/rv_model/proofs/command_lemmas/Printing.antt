@@ -2,18 +2,18 @@
 use Rattle.std.proofs.Common.{ℕ, List, [], ◌∷◌, true, refl}
 use Rattle.std.specs.Prelude.{codes, map}
 use Rattle.rv_model.specs.declared.commands.refusal.Refusal.{Refusal}
-use Rattle.rv_model.specs.declared.commands.refusal.Refusal.TheVariants.{UnknownCommand, Argument, NotEntered, AlreadyEntered, Running, ImageName, ElfFault as BadImage, Quota, NotMapped, Assembler, AlreadyMapped}
+use Rattle.rv_model.specs.declared.commands.refusal.Refusal.TheVariants.{UnknownCommand, Argument, NotEntered, AlreadyEntered, Running, ImageName, ElfFault as BadImage, Quota, NotMapped, BreakpointLimit, Breakpoint, NotRunning, Assembler, AlreadyMapped}
 use Rattle.rv_model.specs.declared.images.ElfFault.{ElfFault}
 use Rattle.rv_model.specs.declared.images.ElfFault.TheVariants.{BadShort, BadMagic, BadClass, BadData, BadType, BadMachine, BadHeaderSize, BadHeaderTable, BadInterp, BadFileSize, BadOutside, BadAddress, BadEntry}
 use Rattle.rv_model.specs.declared.step.step_end.Stop.{Stop}
-use Rattle.rv_model.specs.declared.step.step_end.Stop.TheVariants.{Breakpoint, Ebreak, Exit, Fault}
-use Rattle.rv_model.specs.commands.Printing.{refused, stop_line}
+use Rattle.rv_model.specs.declared.step.step_end.Stop.TheVariants as stop
+use Rattle.rv_model.specs.commands.Printing.{listed, refused, stop_line}
 use Rattle.rv_model.specs.images.Faults.{fault_name}
 use Rattle.rv_model.specs.machine.UserMachine.{Private, Outcome, refuses}
 use Rattle.rv_model.specs.step.Causes.{cause_number}
 use Rattle.rv_model.specs.text.Lines.{is_line, IsLine, are_lines, AreLines}
 use Rattle.rv_model.proofs.text_lemmas.Lines.{both_of}
-use Rattle.rv_model.proofs.text_lemmas.Pieces.{Piece, ◌▸◌, hexadecimal, number}
+use Rattle.rv_model.proofs.text_lemmas.Pieces.{Piece, ◌▸◌, hexadecimal, number, space}
 
 no_newline_in_fault_name : (fault : ElfFault) → IsLine (fault_name fault)
 no_newline_in_fault_name BadShort = refl
@@ -30,7 +30,7 @@ no_newline_in_fault_name BadOutside = refl
 no_newline_in_fault_name BadAddress = refl
 no_newline_in_fault_name BadEntry = refl
 
-no_newline_in_refusal : (r : Refusal) → IsLine (refused r)
+pub no_newline_in_refusal : (r : Refusal) → IsLine (refused r)
 unfolding refused
 no_newline_in_refusal UnknownCommand = refl
 no_newline_in_refusal Argument = refl
@@ -44,22 +44,30 @@ no_newline_in_refusal (BadImage fault) =
     (code ▸ name).1
 no_newline_in_refusal Quota = refl
 no_newline_in_refusal NotMapped = refl
+no_newline_in_refusal BreakpointLimit = refl
+no_newline_in_refusal Breakpoint = refl
+no_newline_in_refusal NotRunning = refl
 no_newline_in_refusal (Assembler column) = let code : Piece = (codes "E15 ", refl) in (code ▸ number column).1
 no_newline_in_refusal AlreadyMapped = refl
 
+pub no_newline_in_listed : (addr : ℕ) → IsLine (listed addr)
+unfolding listed
+no_newline_in_listed addr = (space ▸ hexadecimal addr).1
+
 pub no_newline_in_stop_line : (pc : ℕ) (reason : Stop) → IsLine (stop_line pc reason)
 unfolding stop_line
-no_newline_in_stop_line pc Breakpoint = let word : Piece = (codes "break pc=", refl) in (word ▸ hexadecimal pc).1
-no_newline_in_stop_line pc Ebreak = let word : Piece = (codes "ebreak pc=", refl) in (word ▸ hexadecimal pc).1
-no_newline_in_stop_line pc (Exit status) =
+no_newline_in_stop_line pc stop.Breakpoint = let word : Piece = (codes "break pc=", refl) in (word ▸ hexadecimal pc).1
+no_newline_in_stop_line pc stop.Ebreak = let word : Piece = (codes "ebreak pc=", refl) in (word ▸ hexadecimal pc).1
+no_newline_in_stop_line pc (stop.Exit status) =
     let word : Piece = (codes "exit ", refl) in
     let place : Piece = (codes " pc=", refl) in
     (word ▸ number status ▸ place ▸ hexadecimal pc).1
-no_newline_in_stop_line pc (Fault cause value) =
+no_newline_in_stop_line pc (stop.Fault cause value) =
     let word : Piece = (codes "fault cause=", refl) in
     let place : Piece = (codes " pc=", refl) in
     let what : Piece = (codes " value=", refl) in
     (word ▸ number (cause_number cause) ▸ place ▸ hexadecimal pc ▸ what ▸ hexadecimal value).1
+no_newline_in_stop_line pc stop.OutputFull = let word : Piece = (codes "outfull pc=", refl) in (word ▸ hexadecimal pc).1
 
 -- what an outcome prints are lines
 abbrev pub PrintsLines : Outcome → Type 0

@@ -1,10 +1,10 @@
 -- Words as sums of parts that share no bits
-use Rattle.std.proofs.Common.{◌≡◌, refl, ap, ap₂, ◌∙◌, sym, ℕ, ◌+◌, ◌-◌, ◌*◌, ◌/◌, ◌%◌, ◌^◌, ◌<◌, List, [], ◌∷◌, Bool, true, false, nat_eq, ◌&&◌, min, max, arith, add-zero, zero-add}
+use Rattle.std.proofs.Common.{◌≡◌, refl, ap, ap₂, ◌∙◌, sym, ℕ, ◌+◌, ◌-◌, ◌*◌, ◌/◌, ◌%◌, ◌^◌, ◌<◌, List, [], ◌∷◌, Bool, true, nat_eq, ◌&&◌, min, max, arith, add-zero, zero-add}
 use Rattle.std.specs.Int.Bits.{bit_and, bit_or, and_comm, and_zero_r, or_disjoint, and_high, and_zero_l}
 use Rattle.std.specs.Int.{bit_at}
 use Rattle.std.proofs.lemmas.Nat.Bits.{same_from_bits, bit_at_and, bit_at_or}
 use Rattle.std.proofs.lemmas.Nat.{and_assoc, and_mask, pow_pos}
-use Rattle.std.proofs.lemmas.Bool.{eqb-true}
+use Rattle.std.proofs.lemmas.Bool.{and_parts, eqb-true}
 use Rattle.std.proofs.Math.Nat.{mul-div_cancel, mod-eq_of_lt}
 use Rattle.rv_model.specs.instructions.BitFields.{Part, part, place, sum_of, mask_of, AllFit}
 
@@ -26,10 +26,6 @@ share_none m (p ∷ ps) =
 abbrev pub Reads : ℕ → List Part → Type 0
 Reads word [] = Unit {0}
 Reads word (p ∷ ps) = (word / 2 ^ p.low % 2 ^ p.len ≡ p.value) × Reads word ps
-
-pub both_true : (a b : Bool) → (a && b) ≡ true → (a ≡ true) × (b ≡ true)
-both_true true b h = (refl, h)
-both_true false b h = absurd (cc)
 
 min_max : (x y z : ℕ) → min x (max y z) ≡ max (min x y) (min x z)
 min_max x y z = omega arith
@@ -80,9 +76,9 @@ record Step (m : ℕ) (p : Part) (ps : List Part) : Type 0 where
 
 step_of : (m : ℕ) (p : Part) (ps : List Part) → share_none m (p ∷ ps) ≡ true → Step m p ps
 step_of m p ps h =
-    let a : (nat_eq (bit_and (mask_of m ps) (place p)) 0 ≡ true) × ((nat_eq (bit_and (place p) m) 0 && (clear (place p) ps && share_none m ps)) ≡ true) = both_true (nat_eq (bit_and (mask_of m ps) (place p)) 0) (nat_eq (bit_and (place p) m) 0 && (clear (place p) ps && share_none m ps)) h in
-    let b : (nat_eq (bit_and (place p) m) 0 ≡ true) × ((clear (place p) ps && share_none m ps) ≡ true) = both_true (nat_eq (bit_and (place p) m) 0) (clear (place p) ps && share_none m ps) a.1 in
-    let c : (clear (place p) ps ≡ true) × (share_none m ps ≡ true) = both_true (clear (place p) ps) (share_none m ps) b.1 in
+    let a : (nat_eq (bit_and (mask_of m ps) (place p)) 0 ≡ true) × ((nat_eq (bit_and (place p) m) 0 && (clear (place p) ps && share_none m ps)) ≡ true) = and_parts (nat_eq (bit_and (mask_of m ps) (place p)) 0) (nat_eq (bit_and (place p) m) 0 && (clear (place p) ps && share_none m ps)) h in
+    let b : (nat_eq (bit_and (place p) m) 0 ≡ true) × ((clear (place p) ps && share_none m ps) ≡ true) = and_parts (nat_eq (bit_and (place p) m) 0) (clear (place p) ps && share_none m ps) a.1 in
+    let c : (clear (place p) ps ≡ true) × (share_none m ps ≡ true) = and_parts (clear (place p) ps) (share_none m ps) b.1 in
     record { new = eqb-true (bit_and (mask_of m ps) (place p)) 0 a.0; fixed = eqb-true (bit_and (place p) m) 0 b.0; others = c.0; rest = c.1 }
 
 pub inside_mask : (code m : ℕ) → bit_and code m ≡ code → (ps : List Part) → share_none m ps ≡ true → AllFit ps
@@ -132,7 +128,7 @@ keep_reads : (w u : ℕ) (qs : List Part) → ((k : ℕ) → bit_and u k ≡ bit
     → ((k : ℕ) → bit_and f k ≡ 0 → bit_and w k ≡ bit_and u k) → clear f qs ≡ true → Reads u qs → Reads w qs
 keep_reads w u [] r f same h all = tt
 keep_reads w u (q ∷ qs) r f same h all =
-    let a : (nat_eq (bit_and f (place q)) 0 ≡ true) × (clear f qs ≡ true) = both_true (nat_eq (bit_and f (place q)) 0) (clear f qs) h in
+    let a : (nat_eq (bit_and f (place q)) 0 ≡ true) × (clear f qs ≡ true) = and_parts (nat_eq (bit_and f (place q)) 0) (clear f qs) h in
     (same_field w u q.low q.len (same (place q) (eqb-true (bit_and f (place q)) 0 a.0)) ∙ all.0, keep_reads w u qs r f same a.1 all.1)
 
 -- each part of a sum is its value
@@ -147,7 +143,7 @@ reads code m within (p ∷ ps) h c fit =
     let iy : bit_and y (place p) ≡ y = put_inside p fit.0 in
     let xy : bit_and x y ≡ 0 = apart_from_places x y (mask_of m ps) (place p) ih iy s.new in
     let head : bit_and (x + y) (place p) ≡ bit_and y (place p) = sum_and x y (place p) xy ∙ ap (λ z. z + bit_and y (place p)) (off x (mask_of m ps) (place p) ih s.new) ∙ zero-add (bit_and y (place p)) in
-    let cs : (nat_eq (bit_and m (place p)) 0 ≡ true) × (clear m ps ≡ true) = both_true (nat_eq (bit_and m (place p)) 0) (clear m ps) c in (
+    let cs : (nat_eq (bit_and m (place p)) 0 ≡ true) × (clear m ps ≡ true) = and_parts (nat_eq (bit_and m (place p)) 0) (clear m ps) c in (
       same_field (x + y) y p.low p.len head ∙ ap (λ z. z % 2 ^ p.len) (times_back p.value p.low) ∙ mod-eq_of_lt fit.0,
       keep_reads (x + y) x ps (λ k. refl) (place p) (leaves code m within p ps s fit.0 fit.1) s.others (reads code m within ps s.rest cs.1 fit.1),
     )

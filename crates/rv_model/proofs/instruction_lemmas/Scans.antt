@@ -6,10 +6,9 @@ use Rattle.std.specs.Option.{option_or}
 use Rattle.std.specs.Int.Bits.{bit_and, and_comm}
 use Rattle.std.proofs.lemmas.Nat.{and_assoc}
 use Rattle.std.proofs.lemmas.Bool.Decides.{eqb_tells}
-use Rattle.std.proofs.lemmas.Bool.{eq-eqb, eqb-true}
+use Rattle.std.proofs.lemmas.Bool.{and_parts, eq-eqb, eqb-true}
 use Rattle.rv_model.specs.declared.instructions.instruction.Instr.{Instr}
 use Rattle.rv_model.specs.instructions.Table.{Row, rows, table, Matches, In, IsRow, scan}
-use Rattle.rv_model.proofs.instruction_lemmas.Parts.{both_true}
 
 -- no word can match both rows
 abbrev pub apart : Row → Row → Bool
@@ -88,7 +87,7 @@ outside-row : (m : ℕ) (vs : List ℕ) (word : ℕ) → list_any (λ v. nat_eq 
 outside-row m vs word none r fixed =
     elim (eqb_tells (bit_and word r.mask) r.bits) [
       | inl hit ↦
-          let both : (nat_eq (bit_and r.mask m) m ≡ true) × (list_any (λ v. nat_eq (bit_and r.bits m) v) vs ≡ true) = both_true (nat_eq (bit_and r.mask m) m) (list_any (λ v. nat_eq (bit_and r.bits m) v) vs) fixed in
+          let both : (nat_eq (bit_and r.mask m) m ≡ true) × (list_any (λ v. nat_eq (bit_and r.bits m) v) vs ≡ true) = and_parts (nat_eq (bit_and r.mask m) m) (list_any (λ v. nat_eq (bit_and r.bits m) v) vs) fixed in
           let e : bit_and r.bits m ≡ bit_and word m = ap (λ x. bit_and x m) (sym hit.1) ∙ and_assoc m word r.mask ∙ ap (bit_and word) (eqb-true (bit_and r.mask m) m both.0) in
           let t : list_any (λ v. nat_eq (bit_and word m) v) vs ≡ true = subst (λ x. list_any (λ v. nat_eq x v) vs ≡ true) e both.1 in
           cc
@@ -100,7 +99,7 @@ pub outside : (m : ℕ) (vs : List ℕ) (word : ℕ) → list_any (λ v. nat_eq 
 unfolding scan
 outside m vs word none [] all = refl
 outside m vs word none (r ∷ rs) all =
-    let both : (one_of m vs r ≡ true) × (list_all (one_of m vs) rs ≡ true) = both_true (one_of m vs r) (list_all (one_of m vs) rs) all in
+    let both : (one_of m vs r ≡ true) × (list_all (one_of m vs) rs ≡ true) = and_parts (one_of m vs r) (list_all (one_of m vs) rs) all in
     ap (λ b. cond b (Some (r.instr word)) (scan rs word)) (outside-row m vs word none r both.0) ∙ outside m vs word none rs both.1
 
 none_cons : (a v : ℕ) (vs : List ℕ) → a ≢ v → list_any (λ x. nat_eq a x) vs ≡ false
@@ -127,8 +126,8 @@ no_scan m vs word t all h = outside m vs word (none_of (bit_and word m) vs h) t 
 
 pub apart_in : (s r : Row) (ss : List Row) → apart_from s ss ≡ true → In r ss → apart s r ≡ true
 apart_in s r [] h here = absurd here
-apart_in s r (x ∷ ss) h (inl e) = subst (λ y. apart s y ≡ true) e (both_true (apart s x) (apart_from s ss) h).0
-apart_in s r (x ∷ ss) h (inr later) = apart_in s r ss (both_true (apart s x) (apart_from s ss) h).1 later
+apart_in s r (x ∷ ss) h (inl e) = subst (λ y. apart s y ≡ true) e (and_parts (apart s x) (apart_from s ss) h).0
+apart_in s r (x ∷ ss) h (inr later) = apart_in s r ss (and_parts (apart s x) (apart_from s ss) h).1 later
 
 not_true : (b : Bool) → not b ≡ true → b ≡ false
 not_true true h = absurd (cc)
@@ -155,7 +154,7 @@ found (s ∷ ss) h r (inl e) word is =
     let hit : nat_eq (bit_and word s.mask) s.bits ≡ true = eq-eqb (bit_and word s.mask) s.bits (subst (λ x. bit_and word x.mask ≡ x.bits) (sym e) is) in
     ap (λ b. cond b (Some (s.instr word)) (scan ss word)) hit ∙ ap (λ x. Some (x.instr word)) e
 found (s ∷ ss) h r (inr later) word is =
-    let parts : (apart_from s ss ≡ true) × (all_apart ss ≡ true) = both_true (apart_from s ss) (all_apart ss) h in
+    let parts : (apart_from s ss ≡ true) × (all_apart ss ≡ true) = and_parts (apart_from s ss) (all_apart ss) h in
     ap (λ b. cond b (Some (s.instr word)) (scan ss word)) (misses s r word (apart_in s r ss parts.0 later) is) ∙ found ss parts.1 r later word is
 
 pub table_apart : all_apart table ≡ true
@@ -170,13 +169,13 @@ one : (t : List Row) → all_apart t ≡ true → (r s : Row) → In r t → In 
 one [] h r s a b word hr hs = absurd a
 one (x ∷ xs) h r s (inl a) (inl b) word hr hs = sym a ∙ b
 one (x ∷ xs) h r s (inl a) (inr b) word hr hs =
-    let p : (apart_from x xs ≡ true) × (all_apart xs ≡ true) = both_true (apart_from x xs) (all_apart xs) h in
+    let p : (apart_from x xs ≡ true) × (all_apart xs ≡ true) = and_parts (apart_from x xs) (all_apart xs) h in
     absurd (true_false (nat_eq (bit_and word x.mask) x.bits) (eq-eqb (bit_and word x.mask) x.bits (subst (λ y. bit_and word y.mask ≡ y.bits) (sym a) hr)) (misses x s word (apart_in x s xs p.0 b) hs))
 one (x ∷ xs) h r s (inr a) (inl b) word hr hs =
-    let p : (apart_from x xs ≡ true) × (all_apart xs ≡ true) = both_true (apart_from x xs) (all_apart xs) h in
+    let p : (apart_from x xs ≡ true) × (all_apart xs ≡ true) = and_parts (apart_from x xs) (all_apart xs) h in
     absurd (true_false (nat_eq (bit_and word x.mask) x.bits) (eq-eqb (bit_and word x.mask) x.bits (subst (λ y. bit_and word y.mask ≡ y.bits) (sym b) hs)) (misses x r word (apart_in x r xs p.0 a) hr))
 one (x ∷ xs) h r s (inr a) (inr b) word hr hs =
-    one xs (both_true (apart_from x xs) (all_apart xs) h).1 r s a b word hr hs
+    one xs (and_parts (apart_from x xs) (all_apart xs) h).1 r s a b word hr hs
 
 -- no word matches two rows
 pub no_two_rows : (r s : Row) → In r table → In s table → (word : ℕ) → Matches r word → Matches s word → r ≡ s
@@ -217,5 +216,5 @@ table_inside = refl
 
 pub all_in : (p : Row → Bool) (t : List Row) → list_all p t ≡ true → (r : Row) → In r t → p r ≡ true
 all_in p [] h r here = absurd here
-all_in p (s ∷ ss) h r (inl e) = subst (λ x. p x ≡ true) e (both_true (p s) (list_all p ss) h).0
-all_in p (s ∷ ss) h r (inr later) = all_in p ss (both_true (p s) (list_all p ss) h).1 r later
+all_in p (s ∷ ss) h r (inl e) = subst (λ x. p x ≡ true) e (and_parts (p s) (list_all p ss) h).0
+all_in p (s ∷ ss) h r (inr later) = all_in p ss (and_parts (p s) (list_all p ss) h).1 r later

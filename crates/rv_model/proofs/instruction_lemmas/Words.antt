@@ -40,7 +40,7 @@ form_source_of form.V n = refl
 form_source_of form.X n = refl
 form_source_of form.I n = refl
 
-low_again : (a b : ℕ) → a < 2 ^ 5 → (a + b * 2 ^ 5) % 2 ^ 5 ≡ a
+pub low_again : (a b : ℕ) → a < 2 ^ 5 → (a + b * 2 ^ 5) % 2 ^ 5 ≡ a
 low_again a b h = omega arith
 
 high_again : (a b : ℕ) → a < 2 ^ 5 → (a + b * 2 ^ 5) / 2 ^ 5 ≡ b

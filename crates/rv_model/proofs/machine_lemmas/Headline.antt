@@ -10,7 +10,12 @@ use Rattle.rv_model.specs.machine.PrivateMachine.{Private, Event, event, solo_fr
 use Rattle.rv_model.specs.machine.Script.{World, new_world, part, with_part, Kind, Empty, Long, Bad, Operator, Of, prefixed, kind_of, events_of, common, Happening, outcome_of, after_one, after_events, told_by, after, told, after_all, told_all, schedule, whole_from, after_script, mine, own_from, own, lines, AreUsers}
 use Rattle.rv_model.specs.machine.Laws.{EachUserAlone, EachNewUserAlone, EachUserEndsAlone, OthersChangeNothing, MachinesStayEight}
 use Rattle.rv_model.proofs.text_lemmas.Lines.{lines_text, both}
+use Rattle.rv_model.specs.commands.Operator.{operator_parse}
+use Rattle.rv_model.specs.machine.Grants.{operator_line}
+use Rattle.rv_model.proofs.command_lemmas.Operator.{parsed_names_user}
+use Rattle.rv_model.proofs.command_lemmas.Printing.{one_line}
 use Rattle.rv_model.proofs.machine_lemmas.EventLines.{event_lines}
+use Rattle.rv_model.proofs.machine_lemmas.Grants.{grants_to_users, no_newline_in_operator_line}
 
 no_newline : (v : ℕ) → eqb (48 + v) 10 ≡ false
 no_newline v = grind (arith, nat_tests)
@@ -118,7 +123,7 @@ users_prefixed s w (d ∷ c ∷ rest) = spaced (c == 32) (d == 42) (nat_le 49 d 
   where
     spaced : (a b c : Bool) → c ≡ (nat_le 49 d && nat_le d 56) → AreUsers (events_of s w (if a then (if b then Operator rest else if c then Of (d - 48) rest else Bad) else Bad))
     spaced false b c h = tt
-    spaced true true c h = tt
+    spaced true true c h = grants_to_users s w (operator_parse rest) (parsed_names_user rest)
     spaced true false false h = tt
     spaced true false true h =
         let two = both (nat_le 49 d) (nat_le d 56) (sym h) in
@@ -138,7 +143,7 @@ unfolding common
 common_lines s w Empty = refl
 common_lines s w Long = refl
 common_lines s w Bad = refl
-common_lines s w (Operator line) = refl
+common_lines s w (Operator line) = one_line (operator_line s w (operator_parse line)) (no_newline_in_operator_line s w (operator_parse line))
 common_lines s w (Of u line) = refl
 
 lines_common : (s : Setup) (u : ℕ) (w : World) (k : Kind) (rest : List ℕ) → lines u (text 42 (common s w k) ++ rest) ≡ lines u rest

@@ -1,6 +1,6 @@
--- A fault writes no scalar register, and x0 stays, whatever the instruction is.
-use Rattle.std.proofs.Common.{◌≡◌, ◌≢◌, ℕ, ◌+◌, ◌%◌, ◌^◌, Bool, true, false, List, cond, refl, ◌∙◌, arith, Option, Some, None, get_or-set_other}
-use Rattle.std.specs.Prelude.{◌-◌, ◌&&◌, ◌||◌, ◌==◌, slice_set}
+-- A fault writes no scalar register, x0 stays, and the output buffer only grows, whatever the instruction is.
+use Rattle.std.proofs.Common.{◌≡◌, ◌≢◌, ℕ, ◌+◌, ◌%◌, ◌^◌, Bool, true, false, List, [], cond, refl, sym, subst, append-nil, ◌∙◌, arith, Option, Some, None, get_or-set_other}
+use Rattle.std.specs.Prelude.{◌-◌, ◌++◌, not, ◌&&◌, ◌||◌, ◌==◌, slice_set}
 use Rattle.std.specs.Int.{byte_len}
 use Rattle.std.proofs.lemmas.Bool.Decides.{nat_tests}
 use Rattle.rv_model.specs.declared.vector.control_register.ControlRegister.{ControlRegister}
@@ -27,12 +27,12 @@ use Rattle.rv_model.specs.declared.vector.types.VType.{VType}
 use Rattle.rv_model.specs.vector.ControlRegisters.{control_register, is_read_only}
 use Rattle.rv_model.specs.scalar.ControlTransfer.{is_aligned, is_taken, jump_target, register_target, branch_target}
 use Rattle.rv_model.specs.step.Hart.{HartState, Stepped, faults, runs_on, gives}
-use Rattle.rv_model.specs.step.Effects.{OnFault, FaultsWriteNoRegister, FirstRegisterStays}
+use Rattle.rv_model.specs.step.Effects.{OnFault, FaultsWriteNoRegister, FirstRegisterStays, OutputGrowsWithin, PutsOut}
 use Rattle.rv_model.specs.instructions.Immediates.{i_immediate, s_immediate}
 use Rattle.rv_model.specs.instructions.Table.{scan, table}
 use Rattle.rv_model.specs.legality.Legality.{is_legal}
 use Rattle.rv_model.specs.scalar.LoadsAndStores.{access_address, load_width, store_width}
-use Rattle.rv_model.specs.memory.Memory.{can_access}
+use Rattle.rv_model.specs.memory.Memory.{bytes_at, can_access}
 use Rattle.rv_model.specs.scalar.Registers.{read_register, with_register}
 use Rattle.rv_model.specs.step.ScalarStep.{jumps, jump_step, branch_step, load_step, store_step, csr_step, environment_call, system_step}
 use Rattle.rv_model.specs.step.Step.{step, executed, word_at}
@@ -42,18 +42,25 @@ use Rattle.rv_model.specs.accesses.VectorAccess.{access_type}
 use Rattle.rv_model.specs.elements.Arithmetic.{GroupType, body_of, fills_masked_off, group_type, index_result, mask_logic_result}
 use Rattle.rv_model.specs.step.MemoryStep.{is_load, is_unit_load}
 use Rattle.rv_model.specs.elements.PermutationResults.{moved_to_scalar}
+use Rattle.rv_model.specs.step.WriteCall.{call_fails, room, write_call, write_count}
 use Rattle.rv_model.specs.step.PermutationStep.{compressed, moved_to_vector, whole_moved}
 use Rattle.rv_model.specs.declared.memory.Access.TheVariants.{Fetch}
+use Rattle.rv_model.proofs.memory_lemmas.Memory.{length-bytes_at}
 use Rattle.rv_model.proofs.text_lemmas.Pieces.{of_either}
 
 -- x0 reads the same
 abbrev SameFirst : Scalar → Scalar → Type 0
 SameFirst old new = read_register new 0 ≡ read_register old 0
 
--- both laws, of one step from a state
+-- the three laws, of one step from a state
 record Keeps (s : HartState) (r : Stepped) : Type 0 where
   fault : OnFault r.end (r.state.scalar ≡ s.scalar)
   first : SameFirst s.scalar r.state.scalar
+  output : PutsOut s.output r.state.output
+
+-- nothing is put out
+nothing : (output : List ℕ) → PutsOut output output
+nothing output = record { more = []; added = sym (append-nil output); fits = omega arith }
 
 first-with_register : (rd value : ℕ) (s : Scalar) → SameFirst s (with_register rd value s)
 first-with_register rd value s = named (rd == 0) refl
@@ -66,19 +73,19 @@ either : (s : HartState) (b : Bool) (x y : Stepped) → Keeps s x → Keeps s y 
 either s b x y h k = of_either (λ r. Keeps s r) b x y h k
 
 faults_keep : (cause : Cause) (value : ℕ) (s : HartState) → Keeps s (faults cause value s)
-faults_keep cause value s = record { fault = refl; first = refl }
+faults_keep cause value s = record { fault = refl; first = refl; output = nothing s.output }
 
-runs_keep : (scalar : Scalar) (s s' : HartState) → SameFirst s.scalar scalar → Keeps s (runs_on scalar s')
-runs_keep scalar s s' h = record { fault = tt; first = h }
+runs_keep : (scalar : Scalar) (s s' : HartState) → SameFirst s.scalar scalar → PutsOut s.output s'.output → Keeps s (runs_on scalar s')
+runs_keep scalar s s' h puts = record { fault = tt; first = h; output = puts }
 
 jumps_keep : (target : ℕ) (scalar : Scalar) (s : HartState) → SameFirst s.scalar scalar → Keeps s (jumps target scalar s)
-jumps_keep target scalar s h = either s (is_aligned target) _ _ (record { fault = tt; first = h }) (record { fault = refl; first = refl })
+jumps_keep target scalar s h = either s (is_aligned target) _ _ (record { fault = tt; first = h; output = nothing s.output }) (record { fault = refl; first = refl; output = nothing s.output })
 
 branch_keeps : (taken : Bool) (target : ℕ) (s : HartState) → Keeps s (branch_step taken target s)
-branch_keeps taken target s = either s taken _ _ (jumps_keep target s.scalar s refl) (runs_keep s.scalar s s refl)
+branch_keeps taken target s = either s taken _ _ (jumps_keep target s.scalar s refl) (runs_keep s.scalar s s refl (nothing s.output))
 
-gives_keep : (rd value : ℕ) (s s' : HartState) → SameFirst s.scalar s'.scalar → Keeps s (gives rd value s')
-gives_keep rd value s s' h = runs_keep (with_register rd value s'.scalar) s s' (first-with_register rd value s'.scalar ∙ h)
+gives_keep : (rd value : ℕ) (s s' : HartState) → SameFirst s.scalar s'.scalar → PutsOut s.output s'.output → Keeps s (gives rd value s')
+gives_keep rd value s s' h puts = runs_keep (with_register rd value s'.scalar) s s' (first-with_register rd value s'.scalar ∙ h) puts
 
 jump_keeps : (rd target : ℕ) (s : HartState) → Keeps s (jump_step rd target s)
 jump_keeps rd target s =
@@ -86,29 +93,49 @@ jump_keeps rd target s =
 
 load_keeps : (op : LoadOp) (rd addr : ℕ) (s : HartState) → Keeps s (load_step op rd addr s)
 load_keeps op rd addr s =
-    either s (can_access access.Load s.memory addr (byte_len (load_width op))) _ _ (gives_keep rd _ s s refl) (record { fault = refl; first = refl })
+    either s (can_access access.Load s.memory addr (byte_len (load_width op))) _ _ (gives_keep rd _ s s refl (nothing s.output)) (record { fault = refl; first = refl; output = nothing s.output })
 
 store_keeps : (op : StoreOp) (addr value : ℕ) (s : HartState) → Keeps s (store_step op addr value s)
 store_keeps op addr value s =
-    either s (can_access access.Store s.memory addr (byte_len (store_width op))) _ _ (record { fault = tt; first = refl }) (record { fault = refl; first = refl })
+    either s (can_access access.Store s.memory addr (byte_len (store_width op))) _ _ (record { fault = tt; first = refl; output = nothing s.output }) (record { fault = refl; first = refl; output = nothing s.output })
 
 csr_keeps : (register : Option ControlRegister) (op : CsrOp) (rd source operand word : ℕ) (s : HartState) → Keeps s (csr_step register op rd source operand word s)
-csr_keeps None op rd source operand word s = record { fault = refl; first = refl }
+csr_keeps None op rd source operand word s = record { fault = refl; first = refl; output = nothing s.output }
 csr_keeps (Some register) op rd source operand word s =
-    either s (is_write op source && is_read_only register) _ _ (record { fault = refl; first = refl })
+    either s (is_write op source && is_read_only register) _ _ (record { fault = refl; first = refl; output = nothing s.output })
     (either s (is_write op source) _ _
-    (record { fault = tt; first = first-with_register rd (control_value register s.vector) s.scalar })
-    (record { fault = tt; first = first-with_register rd (control_value register s.vector) s.scalar }))
+    (record { fault = tt; first = first-with_register rd (control_value register s.vector) s.scalar; output = nothing s.output })
+    (record { fault = tt; first = first-with_register rd (control_value register s.vector) s.scalar; output = nothing s.output }))
+
+call_fails_keeps : (error : ℕ) (s : HartState) → Keeps s (call_fails error s)
+call_fails_keeps error s = gives_keep 10 (2 ^ 64 - error) s s refl (nothing s.output)
+
+write_keeps : (s : HartState) → Keeps s (write_call s)
+unfolding write_call
+write_keeps s =
+    let asked : ℕ = read_register s.scalar 12 in
+    let addr : ℕ = read_register s.scalar 11 in
+    let count : ℕ = write_count asked s.output in
+    let after : HartState = record s { output = s.output ++ bytes_at s.memory addr count } in
+    let written : PutsOut s.output after.output = record {
+      more = bytes_at s.memory addr count;
+      added = refl;
+      fits = omega (arith, length-bytes_at s.memory addr count);
+    } in
+    either s (not (read_register s.scalar 10 == 1)) _ _ (call_fails_keeps 9 s)
+    (either s (asked == 0) _ _ (gives_keep 10 0 s s refl (nothing s.output))
+    (either s (room s.output == 0) _ _ (record { fault = tt; first = refl; output = nothing s.output })
+    (either s (can_access access.Load s.memory addr count) _ _ (gives_keep 10 count s after refl written) (call_fails_keeps 14 s))))
 
 environment_keeps : (s : HartState) → Keeps s (environment_call s)
 unfolding environment_call
 environment_keeps s =
-    either s (read_register s.scalar 17 == 93 || read_register s.scalar 17 == 94) _ _ (record { fault = tt; first = refl })
-    (record { fault = tt; first = first-with_register 10 (2 ^ 64 - 38) s.scalar })
+    either s (read_register s.scalar 17 == 93 || read_register s.scalar 17 == 94) _ _ (record { fault = tt; first = refl; output = nothing s.output })
+    (either s (read_register s.scalar 17 == 64) _ _ (write_keeps s) (call_fails_keeps 38 s))
 
 system_keeps : (op : SystemOp) (s : HartState) → Keeps s (system_step op s)
 system_keeps system.Ecall s = environment_keeps s
-system_keeps system.Ebreak s = record { fault = tt; first = refl }
+system_keeps system.Ebreak s = record { fault = tt; first = refl; output = nothing s.output }
 
 -- a vector instruction that is not done wrote no scalar register
 abbrev pub UnlessDone : VEnd → Type 0 → Type 0
@@ -118,23 +145,24 @@ UnlessDone _ P = P
 pub record VectorKeeps (s : HartState) (r : VectorStepped) : Type 0 where
   pub refused : UnlessDone r.end (r.state.scalar ≡ s.scalar)
   first : SameFirst s.scalar r.state.scalar
+  output : r.state.output ≡ s.output
 
 vset_keeps : (rd vtype : ℕ) (length : RequestedLength) (s : HartState) → VectorKeeps s (vset_step rd vtype length s)
-vset_keeps rd vtype length s = record { refused = tt; first = first-with_register rd (vset_step rd vtype length s).state.vector.conf.vl s.scalar }
+vset_keeps rd vtype length s = record { refused = tt; first = first-with_register rd (vset_step rd vtype length s).state.vector.conf.vl s.scalar; output = refl }
 
 either_keeps : (s : HartState) (b : Bool) (x y : VectorStepped) → VectorKeeps s x → VectorKeeps s y → VectorKeeps s (cond b x y)
 either_keeps s b x y h k = of_either (λ r. VectorKeeps s r) b x y h k
 
 arith_keeps : (t : VType) (op : VectorOp) (source : Source) (vd vs2 : ℕ) (vm : Bool) (s : HartState) → VectorKeeps s (arith_step t op source vd vs2 vm s)
-arith_keeps t (Binary op) source vd vs2 vm s = record { refused = tt; first = refl }
-arith_keeps t _ source vd vs2 vm s = record { refused = tt; first = refl }
+arith_keeps t (Binary op) source vd vs2 vm s = record { refused = tt; first = refl; output = refl }
+arith_keeps t _ source vd vs2 vm s = record { refused = tt; first = refl; output = refl }
 
 mask_unary_keeps : (t : VType) (op : MaskUnaryOp) (vd vs2 : ℕ) (vm : Bool) (s : HartState) → VectorKeeps s (mask_unary_step t op vd vs2 vm s)
-mask_unary_keeps t (Scan op) vd vs2 vm s = record { refused = tt; first = refl }
-mask_unary_keeps t Viota vd vs2 vm s = record { refused = tt; first = refl }
+mask_unary_keeps t (Scan op) vd vs2 vm s = record { refused = tt; first = refl; output = refl }
+mask_unary_keeps t Viota vd vs2 vm s = record { refused = tt; first = refl; output = refl }
 
 typed_keeps : (t : Option VType) (done : VType → HartState → VectorStepped) (s : HartState) → ((v : VType) → VectorKeeps s (done v s)) → VectorKeeps s (typed t done s)
-typed_keeps None done s kept = record { refused = refl; first = refl }
+typed_keeps None done s kept = record { refused = refl; first = refl; output = refl }
 typed_keeps (Some t) done s kept = kept t
 
 -- no load or store writes a scalar register
@@ -146,7 +174,7 @@ same_unless (vector_end.Cut index) x = refl
 
 access_keeps : (limit : ℕ) (masked_off loads : Bool) (fill : List ℕ → List ℕ) (i : Instr) (s : HartState) → VectorKeeps s (access_step limit masked_off loads fill i s)
 access_keeps limit masked_off loads fill i s =
-    record { refused = same_unless (access_step limit masked_off loads fill i s).end s.scalar; first = refl }
+    record { refused = same_unless (access_step limit masked_off loads fill i s).end s.scalar; first = refl; output = refl }
 
 segment_keeps : (limit : ℕ) (t : VType) (g : GroupType) (loads : Bool) (nf vd : ℕ) (vm : Bool) (i : Instr) (s : HartState) → VectorKeeps s (segment_step limit t g loads nf vd vm i s)
 segment_keeps limit t g true nf vd vm i s =
@@ -161,31 +189,31 @@ performed_keeps limit (SetVl rd rs1 rs2) s = vset_keeps rd (read_register s.scal
 performed_keeps limit (VectorArith arith vd vs2 vm) s =
     typed_keeps s.vector.conf.vtype (λ t. arith_step t arith.0 arith.1 vd vs2 vm) s (λ t. arith_keeps t arith.0 arith.1 vd vs2 vm s)
 performed_keeps limit (VectorCarry carry vd vs2) s =
-    typed_keeps s.vector.conf.vtype (λ t. carry_step t carry.0 carry.1 vd vs2) s (λ t. record { refused = tt; first = refl })
+    typed_keeps s.vector.conf.vtype (λ t. carry_step t carry.0 carry.1 vd vs2) s (λ t. record { refused = tt; first = refl; output = refl })
 performed_keeps limit (VectorMove source vd) s =
-    typed_keeps s.vector.conf.vtype (λ t. move_step t source vd) s (λ t. record { refused = tt; first = refl })
+    typed_keeps s.vector.conf.vtype (λ t. move_step t source vd) s (λ t. record { refused = tt; first = refl; output = refl })
 performed_keeps limit (VectorExtend op vd vs2 vm) s =
-    typed_keeps s.vector.conf.vtype (λ t. extend_step t op vd vs2 vm) s (λ t. record { refused = tt; first = refl })
+    typed_keeps s.vector.conf.vtype (λ t. extend_step t op vd vs2 vm) s (λ t. record { refused = tt; first = refl; output = refl })
 performed_keeps limit (MaskLogic op vd vs1 vs2) s =
     typed_keeps s.vector.conf.vtype (λ t. mask_wise vd true (mask_logic_result op vs1 vs2 s.vector.file)) s
-    (λ t. record { refused = tt; first = refl })
+    (λ t. record { refused = tt; first = refl; output = refl })
 performed_keeps limit (MaskToScalar op rd vs2 vm) s =
     typed_keeps s.vector.conf.vtype (λ t. mask_to_scalar_step op rd vs2 vm) s
-    (λ t. record { refused = tt; first = first-with_register rd _ s.scalar })
+    (λ t. record { refused = tt; first = first-with_register rd _ s.scalar; output = refl })
 performed_keeps limit (MaskUnary op vd vs2 vm) s =
     typed_keeps s.vector.conf.vtype (λ t. mask_unary_step t op vd vs2 vm) s (λ t. mask_unary_keeps t op vd vs2 vm s)
 performed_keeps limit (ElementIndex vd vm) s =
     typed_keeps s.vector.conf.vtype (λ t. element_wise t (group_type t) vd vm (index_result (group_type t))) s
-    (λ t. record { refused = tt; first = refl })
+    (λ t. record { refused = tt; first = refl; output = refl })
 performed_keeps limit (Compress vd vs1 vs2) s =
-    typed_keeps s.vector.conf.vtype (λ t. leaves (compressed t vd vs1 vs2 s) s.vector.vxsat) s (λ t. record { refused = tt; first = refl })
+    typed_keeps s.vector.conf.vtype (λ t. leaves (compressed t vd vs1 vs2 s) s.vector.vxsat) s (λ t. record { refused = tt; first = refl; output = refl })
 performed_keeps limit (MoveToScalar rd vs2) s =
     typed_keeps s.vector.conf.vtype (λ t. answers rd (moved_to_scalar t vs2 s.vector.file)) s
-    (λ t. record { refused = tt; first = first-with_register rd _ s.scalar })
+    (λ t. record { refused = tt; first = first-with_register rd _ s.scalar; output = refl })
 performed_keeps limit (MoveToVector vd rs1) s =
-    typed_keeps s.vector.conf.vtype (λ t. leaves (moved_to_vector t vd rs1 s) s.vector.vxsat) s (λ t. record { refused = tt; first = refl })
+    typed_keeps s.vector.conf.vtype (λ t. leaves (moved_to_vector t vd rs1 s) s.vector.vxsat) s (λ t. record { refused = tt; first = refl; output = refl })
 performed_keeps limit (WholeMove count vd vs2) s =
-    typed_keeps s.vector.conf.vtype (λ t. leaves (whole_moved t count vd vs2 s) s.vector.vxsat) s (λ t. record { refused = tt; first = refl })
+    typed_keeps s.vector.conf.vtype (λ t. leaves (whole_moved t count vd vs2 s) s.vector.vxsat) s (λ t. record { refused = tt; first = refl; output = refl })
 performed_keeps limit (VectorUnit op width nf vd rs1 vm) s =
     typed_keeps s.vector.conf.vtype
     (λ t. segment_step limit t (access_type t width) (is_unit_load op) nf vd vm (VectorUnit op width nf vd rs1 vm)) s
@@ -203,29 +231,34 @@ performed_keeps limit (WholeStore count vd rs1) s = access_keeps limit false fal
 performed_keeps limit (MaskMemory direction vd rs1) s =
     typed_keeps s.vector.conf.vtype (λ t. plain_step limit (is_load direction) (MaskMemory direction vd rs1)) s
     (λ t. access_keeps limit false (is_load direction) (λ file. file) (MaskMemory direction vd rs1) s)
-performed_keeps limit _ s = record { refused = refl; first = refl }
+performed_keeps limit _ s = record { refused = refl; first = refl; output = refl }
 
 pub vector_keeps : (limit : ℕ) (i : Instr) (s : HartState) → VectorKeeps s (vector_executed limit i s)
 unfolding vector_executed
 vector_keeps limit i s =
-    either_keeps s (is_legal i s.vector.conf.vtype s.vector.vstart) _ _ (performed_keeps limit i s) (record { refused = refl; first = refl })
+    either_keeps s (is_legal i s.vector.conf.vtype s.vector.vstart) _ _ (performed_keeps limit i s) (record { refused = refl; first = refl; output = refl })
 
-after_vector_keeps : (ticks : ℕ) (end : VEnd) (word : ℕ) (s s' : HartState) → UnlessDone end (s'.scalar ≡ s.scalar) → SameFirst s.scalar s'.scalar → Keeps s (after_vector ticks end word s')
-after_vector_keeps ticks vector_end.Done word s s' h k = record { fault = tt; first = k }
-after_vector_keeps ticks vector_end.Illegal word s s' h k = record { fault = h; first = k }
-after_vector_keeps ticks (vector_end.Fault store addr) word s s' h k = record { fault = h; first = k }
-after_vector_keeps ticks (vector_end.Cut index) word s s' h k = record { fault = tt; first = k }
+-- an output buffer that is as it was
+as_before : {old new : List ℕ} → new ≡ old → PutsOut old new
+as_before {old} same = subst (λ (output : List ℕ). PutsOut old output) (sym same) (nothing old)
+
+after_vector_keeps : (ticks : ℕ) (end : VEnd) (word : ℕ) (s s' : HartState) → UnlessDone end (s'.scalar ≡ s.scalar) → SameFirst s.scalar s'.scalar → s'.output ≡ s.output
+    → Keeps s (after_vector ticks end word s')
+after_vector_keeps ticks vector_end.Done word s s' h k same = record { fault = tt; first = k; output = as_before same }
+after_vector_keeps ticks vector_end.Illegal word s s' h k same = record { fault = h; first = k; output = as_before same }
+after_vector_keeps ticks (vector_end.Fault store addr) word s s' h k same = record { fault = h; first = k; output = as_before same }
+after_vector_keeps ticks (vector_end.Cut index) word s s' h k same = record { fault = tt; first = k; output = as_before same }
 
 vector_step_keeps : (limit : ℕ) (i : Instr) (word : ℕ) (s : HartState) → Keeps s (vector_step limit i word s)
 vector_step_keeps limit i word s =
     let done : VectorStepped = vector_executed limit i s in
     let kept : VectorKeeps s done = vector_keeps limit i s in
-    after_vector_keeps (vector_ticks limit i s done) done.end word s done.state kept.refused kept.first
+    after_vector_keeps (vector_ticks limit i s done) done.end word s done.state kept.refused kept.first kept.output
 
 executed_keeps : (limit : ℕ) (i : Option Instr) (word : ℕ) (s : HartState) → Keeps s (executed limit i word s)
 unfolding executed
-executed_keeps limit None word s = record { fault = refl; first = refl }
-executed_keeps limit (Some (Upper op rd imm)) word s = gives_keep rd _ s s refl
+executed_keeps limit None word s = record { fault = refl; first = refl; output = nothing s.output }
+executed_keeps limit (Some (Upper op rd imm)) word s = gives_keep rd _ s s refl (nothing s.output)
 executed_keeps limit (Some (Jump rd imm)) word s = jump_keeps rd (jump_target s.scalar.pc imm) s
 executed_keeps limit (Some (JumpRegister rd rs1 imm)) word s = jump_keeps rd (register_target (read_register s.scalar rs1) imm) s
 executed_keeps limit (Some (Branch op rs1 rs2 imm)) word s =
@@ -233,11 +266,11 @@ executed_keeps limit (Some (Branch op rs1 rs2 imm)) word s =
 executed_keeps limit (Some (Load op rd rs1 imm)) word s = load_keeps op rd (access_address (read_register s.scalar rs1) (i_immediate imm)) s
 executed_keeps limit (Some (Store op rs1 rs2 imm)) word s =
     store_keeps op (access_address (read_register s.scalar rs1) (s_immediate imm)) (read_register s.scalar rs2) s
-executed_keeps limit (Some (RegisterImmediate op rd rs1 imm)) word s = gives_keep rd _ s s refl
-executed_keeps limit (Some (ShiftImmediate op rd rs1 shamt)) word s = gives_keep rd _ s s refl
-executed_keeps limit (Some (ShiftImmediateWord op rd rs1 shamt)) word s = gives_keep rd _ s s refl
-executed_keeps limit (Some (RegisterRegister op rd rs1 rs2)) word s = gives_keep rd _ s s refl
-executed_keeps limit (Some (Fence rd rs1 ordering)) word s = runs_keep s.scalar s s refl
+executed_keeps limit (Some (RegisterImmediate op rd rs1 imm)) word s = gives_keep rd _ s s refl (nothing s.output)
+executed_keeps limit (Some (ShiftImmediate op rd rs1 shamt)) word s = gives_keep rd _ s s refl (nothing s.output)
+executed_keeps limit (Some (ShiftImmediateWord op rd rs1 shamt)) word s = gives_keep rd _ s s refl (nothing s.output)
+executed_keeps limit (Some (RegisterRegister op rd rs1 rs2)) word s = gives_keep rd _ s s refl (nothing s.output)
+executed_keeps limit (Some (Fence rd rs1 ordering)) word s = runs_keep s.scalar s s refl (nothing s.output)
 executed_keeps limit (Some (System op)) word s = system_keeps op s
 executed_keeps limit (Some (Csr op rd rs1 csr)) word s = csr_keeps (control_register csr) op rd rs1 (read_register s.scalar rs1) word s
 executed_keeps limit (Some (CsrImmediate op rd imm csr)) word s = csr_keeps (control_register csr) (csr_form op) rd imm imm word s
@@ -248,10 +281,13 @@ unfolding step
 step_keeps limit s =
     either s (can_access Fetch s.memory s.scalar.pc 4) _ _
     (executed_keeps limit (scan table (word_at s.memory s.scalar.pc)) (word_at s.memory s.scalar.pc) s)
-    (record { fault = refl; first = refl })
+    (record { fault = refl; first = refl; output = nothing s.output })
 
 pub faults_write_no_register : FaultsWriteNoRegister
 faults_write_no_register limit s = (step_keeps limit s).fault
 
 pub first_register_stays : FirstRegisterStays
 first_register_stays limit s = (step_keeps limit s).first
+
+pub output_grows_within : OutputGrowsWithin
+output_grows_within limit s = (step_keeps limit s).output

@@ -1,5 +1,6 @@
 -- A step that is cut and made again, with the fetch of its word.
 use Rattle.std.proofs.Common.{◌≡◌, ◌≢◌, ℕ, zero, suc, ◌+◌, ◌%◌, ◌^◌, ◌<◌, ◌≤◌, Bool, true, false, ◌&&◌, ◌||◌, ◌==◌, cond, Option, Some, None, refl, sym, ◌∙◌, ap, subst, arith}
+use Rattle.std.specs.Prelude.{not}
 use Rattle.std.specs.FinMap.{get}
 use Rattle.std.specs.Int.{byte_len, from_le_bytes, w32}
 use Rattle.rv_model.specs.declared.instructions.instruction.Instr.{Instr}
@@ -25,6 +26,7 @@ use Rattle.rv_model.specs.step.Resumes.{FetchedStepResumes, KeepsOwnWord, after_
 use Rattle.rv_model.specs.step.ScalarStep.{branch_step, csr_step, environment_call, jumps, system_step}
 use Rattle.rv_model.specs.step.Step.{executed, step, word_at}
 use Rattle.rv_model.specs.step.VectorStep.{vector_step}
+use Rattle.rv_model.specs.step.WriteCall.{room, write_call, write_count}
 use Rattle.rv_model.specs.vector.Control.{csr_form, is_write}
 use Rattle.rv_model.specs.vector.ControlRegisters.{control_register, is_read_only}
 use Rattle.rv_model.proofs.access_lemmas.Growth.{allowed_by_get, byte_by_get, bytes_at_extends, can_access_extends, overlay_extends}
@@ -52,9 +54,17 @@ csr_uncut None op rd source operand word s = λ e. cc
 csr_uncut (Some register) op rd source operand word s =
     either (is_write op source && is_read_only register) _ _ (λ e. cc) (either (is_write op source) _ _ (λ e. cc) (λ e. cc))
 
+write_uncut : (s : HartState) → NeverCut (write_call s)
+unfolding write_call
+write_uncut s =
+    let asked : ℕ = read_register s.scalar 12 in
+    let readable : Bool = can_access access.Load s.memory (read_register s.scalar 11) (write_count asked s.output) in
+    either (not (read_register s.scalar 10 == 1)) _ _ (λ e. cc)
+    (either (asked == 0) _ _ (λ e. cc) (either (room s.output == 0) _ _ (λ e. cc) (either readable _ _ (λ e. cc) (λ e. cc))))
+
 system_uncut : (op : SystemOp) (s : HartState) → NeverCut (system_step op s)
 unfolding environment_call
-system_uncut system.Ecall s = either (read_register s.scalar 17 == 93 || read_register s.scalar 17 == 94) _ _ (λ e. cc) (λ e. cc)
+system_uncut system.Ecall s = either (read_register s.scalar 17 == 93 || read_register s.scalar 17 == 94) _ _ (λ e. cc) (either (read_register s.scalar 17 == 64) _ _ (write_uncut s) (λ e. cc))
 system_uncut system.Ebreak s = λ e. cc
 
 -- what is cut is a vector instruction, whatever the ticks and the state are

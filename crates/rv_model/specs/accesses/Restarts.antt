@@ -157,6 +157,16 @@ LastRunIsWhole = (i : Instr) (limit whole : ℕ) (fill_masked_off : Bool) (v : V
     → last_run fill_masked_off i x (access_run limit fill_masked_off i v x m) nexts
     ≡ access_run whole fill_masked_off i v x (with_new m nexts)
 
+-- the same of one run of a legal load or store, which found this memory and left that: run again once, and run again any number of
+-- times
+pub record GoesOn (fill_masked_off : Bool) (i : Instr) (x : Scalar) (v : VState) (m : Memory) (run : AccessRun) : Type 0 where
+  pub again : (later : ℕ) (more : Memory) → run.end ≢ Done → Extends run.memory more
+      → access_run later fill_masked_off i run.vector x more
+      ≡ access_run (run.vector.vstart - v.vstart + later) fill_masked_off i v x (overlay m more)
+  pub whole : (nexts : List NextRun) (limit : ℕ) → AreResumed fill_masked_off i x run nexts
+      → IsUncut (last_run fill_masked_off i x run nexts).end → index_count i v.conf.vl ≤ limit
+      → last_run fill_masked_off i x run nexts ≡ access_run limit fill_masked_off i v x (with_new m nexts)
+
 -- a larger limit changes nothing where the smaller cuts nothing
 abbrev pub LargerLimitIsSame : Type 0
 LargerLimitIsSame = (i : Instr) (limit larger : ℕ) (fill_masked_off : Bool) (v : VState) (x : Scalar) (m : Memory)

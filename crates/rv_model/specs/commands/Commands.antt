@@ -3,9 +3,10 @@
 -- the command itself refuses.
 use Rattle.std.specs.Prelude.{ℕ, ◌&&◌, Bool, List, [], ◌∷◌, Option, Some, None, Result, Ok, Err, if◌then◌else◌}
 use Rattle.rv_model.specs.declared.commands.command.Cmd.{Cmd}
-use Rattle.rv_model.specs.declared.commands.command.Cmd.TheVariants.{Entering, Memory, Registers, Programs, Running}
+use Rattle.rv_model.specs.declared.commands.command.Cmd.TheVariants.{Entering, Memory, Registers, Programs, Breakpoints, Running}
 use Rattle.rv_model.specs.declared.commands.refusal.Refusal.{Refusal}
 use Rattle.rv_model.specs.declared.commands.refusal.Refusal.TheVariants as refusal
+use Rattle.rv_model.specs.commands.Breakpoints.{breakpoints_named, breakpoints_need_stopped, breakpoint_command}
 use Rattle.rv_model.specs.commands.Entering.{entering_named, entering_needs_stopped, entering_absent, entering}
 use Rattle.rv_model.specs.commands.Memory.{memory_named, memory_needs_stopped, memory_command}
 use Rattle.rv_model.specs.commands.Programs.{programs_named, programs_need_stopped, program_command}
@@ -33,7 +34,8 @@ named name args text =
     (in_group Memory (memory_named name args)
     (in_group Registers (registers_named name args)
     (in_group Programs (programs_named name args text)
-    (in_group Running (running_named name args) (Err refusal.UnknownCommand)))))
+    (in_group Breakpoints (breakpoints_named name args)
+    (in_group Running (running_named name args) (Err refusal.UnknownCommand))))))
 
 abbrev pub command : List (List ℕ) → List ℕ → Parsed
 command [] text = Err refusal.UnknownCommand
@@ -51,6 +53,7 @@ needs_stopped (Entering c) = entering_needs_stopped c
 needs_stopped (Memory c) = memory_needs_stopped c
 needs_stopped (Registers c) = registers_need_stopped c
 needs_stopped (Programs c) = programs_need_stopped c
+needs_stopped (Breakpoints c) = breakpoints_need_stopped c
 needs_stopped (Running c) = running_needs_stopped c
 
 -- of a user who is absent: only `enter` is accepted
@@ -59,6 +62,7 @@ of_absent (Entering c) = entering_absent c
 of_absent (Memory c) = refuses None refusal.NotEntered
 of_absent (Registers c) = refuses None refusal.NotEntered
 of_absent (Programs c) = refuses None refusal.NotEntered
+of_absent (Breakpoints c) = refuses None refusal.NotEntered
 of_absent (Running c) = refuses None refusal.NotEntered
 
 -- of a user who has entered, whose program is stopped where it has to be
@@ -67,6 +71,7 @@ of_present images (Entering c) p = entering c p
 of_present images (Memory c) p = memory_command c p
 of_present images (Registers c) p = register_command c p
 of_present images (Programs c) p = program_command images c p
+of_present images (Breakpoints c) p = breakpoint_command c p
 of_present images (Running c) p = running_command c p
 
 -- of any user

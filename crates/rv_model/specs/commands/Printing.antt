@@ -3,9 +3,9 @@ use Rattle.std.specs.Prelude.{ℕ, List, ◌++◌, decimal, codes}
 use Rattle.std.specs.Int.{to_be_bytes, w32, w64}
 use Rattle.hex.specs.Hex.{encode_lower}
 use Rattle.rv_model.specs.declared.commands.refusal.Refusal.{Refusal}
-use Rattle.rv_model.specs.declared.commands.refusal.Refusal.TheVariants.{UnknownCommand, Argument, NotEntered, AlreadyEntered, Running, ImageName, ElfFault, Quota, NotMapped, Assembler, AlreadyMapped}
+use Rattle.rv_model.specs.declared.commands.refusal.Refusal.TheVariants.{UnknownCommand, Argument, NotEntered, AlreadyEntered, Running, ImageName, ElfFault, Quota, NotMapped, BreakpointLimit, Breakpoint, NotRunning, Assembler, AlreadyMapped}
 use Rattle.rv_model.specs.declared.step.step_end.Stop.{Stop}
-use Rattle.rv_model.specs.declared.step.step_end.Stop.TheVariants.{Breakpoint, Ebreak, Exit, Fault}
+use Rattle.rv_model.specs.declared.step.step_end.Stop.TheVariants as stop
 use Rattle.rv_model.specs.images.Faults.{fault_name}
 use Rattle.rv_model.specs.step.Causes.{cause_number}
 
@@ -17,6 +17,10 @@ hex16 n = encode_lower (to_be_bytes w64 n)
 unfoldable pub hex8 : ℕ → List ℕ
 hex8 n = encode_lower (to_be_bytes w32 n)
 
+-- an address of a list
+unfoldable pub listed : ℕ → List ℕ
+listed addr = codes " " ++ hex16 addr
+
 unfoldable pub refused : Refusal → List ℕ
 refused UnknownCommand = codes "E03"
 refused Argument = codes "E04"
@@ -27,12 +31,16 @@ refused ImageName = codes "E08"
 refused (ElfFault fault) = codes "E09 " ++ fault_name fault
 refused Quota = codes "E10"
 refused NotMapped = codes "E11"
+refused BreakpointLimit = codes "E12"
+refused Breakpoint = codes "E13"
+refused NotRunning = codes "E14"
 refused (Assembler column) = codes "E15 " ++ decimal column
 refused AlreadyMapped = codes "E16"
 
 -- why a program stopped, and where it stands
 unfoldable pub stop_line : ℕ → Stop → List ℕ
-stop_line pc Breakpoint = codes "break pc=" ++ hex16 pc
-stop_line pc Ebreak = codes "ebreak pc=" ++ hex16 pc
-stop_line pc (Exit status) = codes "exit " ++ decimal status ++ codes " pc=" ++ hex16 pc
-stop_line pc (Fault cause value) = codes "fault cause=" ++ decimal (cause_number cause) ++ codes " pc=" ++ hex16 pc ++ codes " value=" ++ hex16 value
+stop_line pc stop.Breakpoint = codes "break pc=" ++ hex16 pc
+stop_line pc stop.Ebreak = codes "ebreak pc=" ++ hex16 pc
+stop_line pc (stop.Exit status) = codes "exit " ++ decimal status ++ codes " pc=" ++ hex16 pc
+stop_line pc (stop.Fault cause value) = codes "fault cause=" ++ decimal (cause_number cause) ++ codes " pc=" ++ hex16 pc ++ codes " value=" ++ hex16 value
+stop_line pc stop.OutputFull = codes "outfull pc=" ++ hex16 pc

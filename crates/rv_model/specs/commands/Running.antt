@@ -1,14 +1,17 @@
--- The commands that run instructions, and that tell how far the program is: `step`, `state` and `trace`.
-use Rattle.std.specs.Prelude.{ℕ, Bool, true, false, List, ◌++◌, decimal, flat_map, Option, Some, None, if◌then◌else◌, codes}
+-- The commands that run instructions, and that tell how far the program is and what it has put out: `step`, `go`, `stop`, `state`,
+-- `trace` and `out`.
+use Rattle.std.specs.Prelude.{ℕ, Bool, true, false, List, [], ◌∷◌, ◌++◌, length, decimal, flat_map, Option, Some, None, if◌then◌else◌, codes}
 use Rattle.std.specs.Str.{bytes_eq}
+use Rattle.hex.specs.Hex.{encode_lower}
 use Rattle.rv_model.specs.declared.commands.running.RunningCommand.{RunningCommand}
-use Rattle.rv_model.specs.declared.commands.running.RunningCommand.TheVariants.{Step, State, Trace}
+use Rattle.rv_model.specs.declared.commands.running.RunningCommand.TheVariants.{Step, Go, Stop as StopRunning, State, Trace, Out}
+use Rattle.rv_model.specs.declared.commands.refusal.Refusal.TheVariants as refusal
 use Rattle.rv_model.specs.declared.step.step_end.Stop.{Stop}
 use Rattle.rv_model.specs.commands.Arguments.{number}
-use Rattle.rv_model.specs.commands.Printing.{hex16, stop_line}
+use Rattle.rv_model.specs.commands.Printing.{hex16, listed, stop_line}
 use Rattle.rv_model.specs.commands.Reading.{◌>>=◌, next, done}
 use Rattle.rv_model.specs.machine.Runs.{steps}
-use Rattle.rv_model.specs.machine.UserMachine.{Present, Outcome, answers}
+use Rattle.rv_model.specs.machine.UserMachine.{Present, Outcome, answers, refuses}
 
 -- ---- step N
 
@@ -28,6 +31,26 @@ runs_steps n p =
     let run = steps n true p in
     answers run.state (step_line n run.state.hart.scalar.pc run.stop)
 
+-- ---- go
+
+unfoldable pub running_line : ℕ → List ℕ
+running_line pc = codes "running pc=" ++ hex16 pc
+
+-- the program runs; a breakpoint at its first instruction doesn't stop it
+abbrev pub starts : Present → Outcome
+starts p = answers (record p { running = true; fresh = true }) (running_line p.hart.scalar.pc)
+
+-- ---- stop
+
+unfoldable pub stopped_line : ℕ → List ℕ
+stopped_line pc = codes "stopped pc=" ++ hex16 pc
+
+-- the program stops where it stands, if it runs
+abbrev pub halts : Present → Outcome
+halts p =
+    if p.running then answers (record p { running = false }) (stopped_line p.hart.scalar.pc)
+    else refuses (Some p) refusal.NotRunning
+
 -- ---- state
 
 -- whether the program runs, and where it stands
@@ -39,16 +62,31 @@ shows_state p = answers p (state_line p.running p.hart.scalar.pc)
 
 -- ---- trace
 
--- an address of a trace
-unfoldable pub traced : ℕ → List ℕ
-traced addr = codes " " ++ hex16 addr
-
 -- the addresses, the oldest first
 unfoldable pub trace_line : List ℕ → List ℕ
-trace_line addresses = codes "trace" ++ flat_map traced addresses
+trace_line addresses = codes "trace" ++ flat_map listed addresses
 
 abbrev pub shows_trace : Present → Outcome
 shows_trace p = answers p (trace_line p.trace)
+
+-- ---- out
+
+-- bytes after a space; nothing where there are none
+unfoldable pub spaced_bytes : List ℕ → List ℕ
+spaced_bytes [] = []
+spaced_bytes (b ∷ bs) = codes " " ++ encode_lower (b ∷ bs)
+
+-- how many bytes a program has put out, and the bytes
+unfoldable pub out_line : List ℕ → List ℕ
+out_line bytes = codes "out " ++ decimal (length bytes) ++ spaced_bytes bytes
+
+-- the machine with another output buffer
+abbrev pub with_output : List ℕ → Present → Present
+with_output output p = record p { hart = record p.hart { output = output } }
+
+-- what the program has put out is shown, and the output buffer is emptied
+abbrev pub shows_output : Present → Outcome
+shows_output p = answers (with_output [] p) (out_line p.hart.output)
 
 -- ---- all of them
 
@@ -56,18 +94,27 @@ shows_trace p = answers p (trace_line p.trace)
 abbrev pub running_named : List ℕ → List (List ℕ) → Option (Option RunningCommand)
 running_named name args =
     if bytes_eq name (codes "step") then Some (step_args args)
+    else if bytes_eq name (codes "go") then Some (done Go args)
+    else if bytes_eq name (codes "stop") then Some (done StopRunning args)
     else if bytes_eq name (codes "state") then Some (done State args)
     else if bytes_eq name (codes "trace") then Some (done Trace args)
+    else if bytes_eq name (codes "out") then Some (done Out args)
     else None
 
 -- whether a command needs a stopped program
 abbrev pub running_needs_stopped : RunningCommand → Bool
 running_needs_stopped (Step n) = true
+running_needs_stopped Go = true
+running_needs_stopped StopRunning = false
 running_needs_stopped State = false
 running_needs_stopped Trace = true
+running_needs_stopped Out = true
 
 -- what a command does of a user who has entered
 unfoldable pub running_command : RunningCommand → Present → Outcome
 running_command (Step n) p = runs_steps n p
+running_command Go p = starts p
+running_command StopRunning p = halts p
 running_command State p = shows_state p
 running_command Trace p = shows_trace p
+running_command Out p = shows_output p

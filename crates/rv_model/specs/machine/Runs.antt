@@ -1,11 +1,10 @@
 -- Runs of instructions of one user's machine.
-use Rattle.std.specs.Prelude.{ℕ, zero, suc, ◌+◌, ◌-◌, ◌==◌, ◌&&◌, not, Bool, true, false, List, [], ◌∷◌, ◌++◌, length, drop, Option, Some, None, is_none, if◌then◌else◌}
-use Rattle.std.specs.List.{list_any}
+use Rattle.std.specs.Prelude.{ℕ, zero, suc, ◌+◌, ◌-◌, ◌&&◌, not, Bool, true, false, List, [], ◌∷◌, ◌++◌, length, drop, Option, Some, None, is_none, if◌then◌else◌}
 use Rattle.rv_model.specs.declared.step.step_end.StepEnd.{StepEnd}
-use Rattle.rv_model.specs.declared.step.step_end.StepEnd.TheVariants.{Ran, Exit, Ebreak, Fault, Cut}
+use Rattle.rv_model.specs.declared.step.step_end.StepEnd.TheVariants.{Ran, Exit, Ebreak, Fault, OutputFull, Cut}
 use Rattle.rv_model.specs.declared.step.step_end.Stop.{Stop}
 use Rattle.rv_model.specs.declared.step.step_end.Stop.TheVariants as stop
-use Rattle.rv_model.specs.machine.UserMachine.{Present}
+use Rattle.rv_model.specs.machine.UserMachine.{Present, has_breakpoint}
 use Rattle.rv_model.specs.step.Hart.{HartState}
 use Rattle.rv_model.specs.step.Step.{step}
 
@@ -22,6 +21,7 @@ following Ran = Next
 following (Exit status) = Stops (stop.Exit status)
 following Ebreak = Stops stop.Ebreak
 following (Fault cause pc value) = Stops (stop.Fault cause value)
+following OutputFull = Stops stop.OutputFull
 following Cut = Rest
 
 -- why the program stops, if it does
@@ -31,7 +31,7 @@ stop_of (Stops reason) = Some reason
 stop_of Rest = None
 
 abbrev pub at_breakpoint : Present → Bool
-at_breakpoint p = list_any (λ addr. addr == p.hart.scalar.pc) p.breakpoints
+at_breakpoint p = has_breakpoint p p.hart.scalar.pc
 
 -- the last 16 of the addresses, with one more
 unfoldable pub recorded : List ℕ → ℕ → List ℕ

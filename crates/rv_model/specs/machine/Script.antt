@@ -1,28 +1,14 @@
--- All users' private machines side by side, and what a script makes of them: whose each line is, the events in order, the whole
--- output, and one user's part of each.
-use Rattle.std.specs.Prelude.{ℕ, ◌+◌, ◌-◌, ◌≤◌, ◌==◌, ◌&&◌, nat_lt, nat_le, Bool, false, List, [], ◌∷◌, ◌++◌, length, drop, map, filter, replicate, None, if◌then◌else◌, slice_index_or, slice_index, slice_set, codes}
-use Rattle.rv_model.specs.machine.PrivateMachine.{Private, Outcome, Event, Command, event}
+-- What a script makes of all users' private machines: whose each line is, the events in order, the whole output, and one user's
+-- part of each.
+use Rattle.std.specs.Prelude.{ℕ, ◌+◌, ◌-◌, ◌==◌, ◌&&◌, nat_lt, nat_le, false, List, [], ◌∷◌, ◌++◌, length, drop, map, filter, if◌then◌else◌, slice_index, codes}
+use Rattle.rv_model.specs.commands.Operator.{operator_parse}
+use Rattle.rv_model.specs.machine.Grants.{grants_of, operator_line}
+use Rattle.rv_model.specs.machine.PrivateMachine.{Event, Command}
 use Rattle.rv_model.specs.machine.Setup.{Setup}
 use Rattle.rv_model.specs.machine.Users.{user_count}
-use Rattle.rv_model.specs.machine.VectorUnit.{VectorUnit, unused_unit}
+unfoldable pub use Rattle.rv_model.specs.machine.World.{new_world}
+pub use Rattle.rv_model.specs.machine.World.{World, part, with_part, Happening, outcome_of, after_one, after_events, told_by, AreUsers}
 use Rattle.rv_model.specs.text.Lines.{text, pieces}
-
--- the machines of all users in order, who was last granted a slice in turn, and the vector unit
-pub record World : Type 0 where
-  pub parts : List Private
-  pub cursor : ℕ
-  pub unit : VectorUnit
-
--- everyone is absent, user 1 is the first to be granted a slice, and nobody has used the vector unit
-unfoldable pub new_world : World
-new_world = record { parts = replicate user_count None; cursor = user_count; unit = unused_unit }
-
--- a user's machine
-abbrev pub part : ℕ → World → Private
-part u w = slice_index_or w.parts (u - 1) None
-
-abbrev pub with_part : ℕ → Private → World → World
-with_part u p w = record w { parts = slice_set w.parts (u - 1) p }
 
 -- what a line is: nothing, too long, without a proper prefix, the operator's, or a user's
 pub data Kind : Type 0 where
@@ -43,22 +29,16 @@ prefixed (d ∷ s ∷ rest) =
 unfoldable pub kind_of : List ℕ → Kind
 kind_of line = if nat_lt 1024 (length line) then Long else prefixed line
 
--- what happens to a user, and whether that is the user's turn, after which the next user's comes
-pub record Happening : Type 0 where
-  pub user : ℕ
-  pub event : Event
-  pub turn : Bool
-
 -- a user's own command
 abbrev pub commands : ℕ → List ℕ → Happening
 commands u line = record { user = u; event = Command line; turn = false }
 
--- what happens by a line. There are no operator commands yet.
+-- what happens by a line
 abbrev pub events_of : Setup → World → Kind → List Happening
 events_of setup w Empty = []
 events_of setup w Long = []
 events_of setup w Bad = []
-events_of setup w (Operator line) = []
+events_of setup w (Operator line) = grants_of setup w (operator_parse line)
 events_of setup w (Of u line) = commands u line ∷ []
 
 -- what a line prints under the star
@@ -66,30 +46,8 @@ unfoldable pub common : Setup → World → Kind → List (List ℕ)
 common setup w Empty = []
 common setup w Long = codes "E02" ∷ []
 common setup w Bad = codes "E01" ∷ []
-common setup w (Operator line) = codes "E03" ∷ []
+common setup w (Operator line) = operator_line setup w (operator_parse line) ∷ []
 common setup w (Of u line) = []
-
--- what happens to the user's machine
-abbrev pub outcome_of : Setup → World → Happening → Outcome
-outcome_of setup w h = event setup (part h.user w) h.event
-
--- the world with the cursor at a user whose turn it was
-abbrev pub with_turn : Happening → World → World
-with_turn h w = if h.turn then record w { cursor = h.user } else w
-
--- the world after something has happened
-abbrev pub after_one : Setup → World → Happening → World
-after_one setup w h = with_turn h (with_part h.user (outcome_of setup w h).next w)
-
--- the world after all that happened
-abbrev pub after_events : Setup → World → List Happening → World
-after_events setup w [] = w
-after_events setup w (h ∷ hs) = after_events setup (after_one setup w h) hs
-
--- what is printed by all that happens, each line under its user's digit
-abbrev pub told_by : Setup → World → List Happening → List ℕ
-told_by setup w [] = []
-told_by setup w (h ∷ hs) = text (48 + h.user) (outcome_of setup w h).lines ++ told_by setup (after_one setup w h) hs
 
 -- the world after a line, and what the line prints
 unfoldable pub after : Setup → World → List ℕ → World
@@ -141,8 +99,3 @@ of_user u all = map (λ line. drop 2 line) (filter (λ line. slice_index line 0 
 -- a user's lines of an output
 unfoldable pub lines : ℕ → List ℕ → List (List ℕ)
 lines u output = of_user u (pieces output)
-
--- all happens to users
-abbrev pub AreUsers : List Happening → Type 0
-AreUsers [] = Unit {0}
-AreUsers (h ∷ hs) = (1 ≤ h.user) × (h.user ≤ user_count) × AreUsers hs

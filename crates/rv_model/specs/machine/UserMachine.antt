@@ -1,6 +1,7 @@
 -- One user's machine, and what a command or a slice makes of it.
-use Rattle.std.specs.Prelude.{ℕ, Bool, false, List, [], ◌∷◌, Option, Some}
+use Rattle.std.specs.Prelude.{ℕ, ◌==◌, Bool, false, List, [], ◌∷◌, Option, Some}
 use Rattle.std.specs.FinMap.{empty}
+use Rattle.std.specs.List.{list_any}
 use Rattle.rv_model.specs.declared.commands.refusal.Refusal.{Refusal}
 use Rattle.rv_model.specs.declared.vector.policy.Policy.TheVariants.{Keep}
 use Rattle.rv_model.specs.commands.Printing.{refused}
@@ -16,6 +17,10 @@ pub record Present : Type 0 where
   pub trace : List ℕ
   pub running : Bool
   pub fresh : Bool
+
+-- whether a breakpoint stands at an address
+abbrev pub has_breakpoint : Present → ℕ → Bool
+has_breakpoint p addr = list_any (λ a. a == addr) p.breakpoints
 
 -- absent, or present
 abbrev pub Private : Type 0

@@ -1,10 +1,11 @@
 -- Laws of one instruction, whichever it is.
-use Rattle.std.specs.Prelude.{ℕ, ◌≡◌}
+use Rattle.std.specs.Prelude.{ℕ, ◌≡◌, ◌≤◌, List, ◌++◌, length}
 use Rattle.rv_model.specs.declared.step.step_end.StepEnd.{StepEnd}
-use Rattle.rv_model.specs.declared.step.step_end.StepEnd.TheVariants.{Ran, Exit, Ebreak, Fault, Cut}
+use Rattle.rv_model.specs.declared.step.step_end.StepEnd.TheVariants.{Ran, Exit, Ebreak, Fault, OutputFull, Cut}
 use Rattle.rv_model.specs.step.Hart.{HartState}
 use Rattle.rv_model.specs.scalar.Registers.{read_register}
 use Rattle.rv_model.specs.step.Step.{step}
+use Rattle.rv_model.specs.step.WriteCall.{room}
 
 -- a fact where an instruction faults
 abbrev pub OnFault : StepEnd → Type 0 → Type 0
@@ -12,6 +13,7 @@ OnFault Ran P = Unit {0}
 OnFault (Exit status) P = Unit {0}
 OnFault Ebreak P = Unit {0}
 OnFault (Fault cause pc value) P = P
+OnFault OutputFull P = Unit {0}
 OnFault Cut P = Unit {0}
 
 -- An instruction that faults writes no scalar register, and the program counter stays on it.
@@ -23,3 +25,14 @@ FaultsWriteNoRegister =
 abbrev pub FirstRegisterStays : Type 0
 FirstRegisterStays =
     (limit : ℕ) (s : HartState) → read_register (step limit s).state.scalar 0 ≡ read_register s.scalar 0
+
+-- what is put out: something is added to the output buffer, or nothing, and the buffer has room for it
+pub record PutsOut (old new : List ℕ) : Type 0 where
+  pub more : List ℕ
+  pub added : new ≡ old ++ more
+  pub fits : length more ≤ room old
+
+-- No instruction takes back what was put out, and none puts out more than there is room for.
+abbrev pub OutputGrowsWithin : Type 0
+OutputGrowsWithin =
+    (limit : ℕ) (s : HartState) → PutsOut s.output (step limit s).state.output

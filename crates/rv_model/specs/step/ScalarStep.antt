@@ -1,5 +1,5 @@
 -- One scalar instruction, carried out (Unprivileged ISA 20191213, chapters 2, 5, 7 and 9).
-use Rattle.std.specs.Prelude.{ℕ, ◌+◌, ◌-◌, ◌%◌, ◌^◌, ◌==◌, ◌&&◌, ◌||◌, Bool, Option, Some, None, if◌then◌else◌}
+use Rattle.std.specs.Prelude.{ℕ, ◌+◌, ◌%◌, ◌^◌, ◌==◌, ◌&&◌, ◌||◌, Bool, Option, Some, None, if◌then◌else◌}
 use Rattle.std.specs.Int.{byte_len}
 use Rattle.rv_model.specs.declared.vector.control_register.ControlRegister.{ControlRegister}
 use Rattle.rv_model.specs.declared.memory.Access.TheVariants.{Load, Store}
@@ -17,6 +17,7 @@ use Rattle.rv_model.specs.step.Hart.{HartState, Stepped, ends, faults, runs_on, 
 use Rattle.rv_model.specs.scalar.LoadsAndStores.{load_width, extended, number_at, store_width, stored_bytes}
 use Rattle.rv_model.specs.memory.Memory.{can_access, put_bytes}
 use Rattle.rv_model.specs.scalar.Registers.{read_register, with_register}
+use Rattle.rv_model.specs.step.WriteCall.{call_fails, write_call}
 use Rattle.rv_model.specs.vector.Control.{control_value, with_control, written_value, is_write}
 
 -- the program goes on at a target, with these registers, unless no instruction may stand there
@@ -58,12 +59,13 @@ csr_step (Some register) op rd source operand word s =
     (record s { vector = with_control register (written_value op (control_value register s.vector) operand) s.vector })
     else gives rd (control_value register s.vector) s
 
--- ECALL by a7: 93 and 94 exit with a0 modulo 256, as in Linux; any other number answers -38 in a0
+-- ECALL by the number in a7, as in Linux: 93 and 94 exit with a0 modulo 256, 64 writes, and there is no other call (error 38)
 unfoldable pub environment_call : HartState → Stepped
 environment_call s =
     let number = read_register s.scalar 17 in
     if number == 93 || number == 94 then ends (Exit (read_register s.scalar 10 % 256)) s
-    else runs_on (with_register 10 (2 ^ 64 - 38) s.scalar) s
+    else if number == 64 then write_call s
+    else call_fails 38 s
 
 -- the instructions without operands; EBREAK stops the program where it stands
 abbrev pub system_step : SystemOp → HartState → Stepped

@@ -1,4 +1,5 @@
 //! Any command of a user.
+use crate::commands::breakpoints::BreakpointCommand;
 use crate::commands::entering::EnteringCommand;
 use crate::commands::memory::MemoryCommand;
 use crate::commands::programs::ProgramCommand;
@@ -16,6 +17,8 @@ pub enum Cmd<'a> {
     Registers(RegisterCommand),
     /// A command on programs in memory.
     Programs(ProgramCommand<'a>),
+    /// A command on the user's breakpoints.
+    Breakpoints(BreakpointCommand),
     /// A command that runs instructions, or tells how far the program is.
     Running(RunningCommand),
 }

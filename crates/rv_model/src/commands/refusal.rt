@@ -22,6 +22,12 @@ pub enum Refusal {
     Quota,
     /// E11: an address that isn't mapped.
     NotMapped,
+    /// E12: the user has 16 breakpoints.
+    BreakpointLimit,
+    /// E13: a breakpoint stands there that is to be set, or none that is to be removed.
+    Breakpoint,
+    /// E14: the user's program doesn't run.
+    NotRunning,
     /// E15: the text spells no instruction; the column, from 1, of the first token that doesn't fit.
     Assembler(usize),
     /// E16: a page that is mapped already.

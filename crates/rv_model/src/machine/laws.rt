@@ -1,6 +1,6 @@
 //! Laws of the definitions, and small examples of them.
 ghost use Rattle.rv_model.specs.machine.Laws.{EachUserAlone, EachNewUserAlone, EachUserEndsAlone, OthersChangeNothing, MachinesStayEight};
-ghost use Rattle.rv_model.specs.step.Effects.{FaultsWriteNoRegister, FirstRegisterStays};
+ghost use Rattle.rv_model.specs.step.Effects.{FaultsWriteNoRegister, FirstRegisterStays, OutputGrowsWithin};
 ghost use Rattle.rv_model.specs.machine.Examples.{SmallScriptsPrint};
 
 /// Each user's lines are those of a private machine that is given the user's own commands and
@@ -22,4 +22,9 @@ pub fn small_scripts_print()
 pub fn registers_that_stay()
     ensures fault { FaultsWriteNoRegister }
     ensures first { FirstRegisterStays }
+{}
+
+/// No instruction takes back what was put out, and none puts out more than there is room for.
+pub fn output_that_grows()
+    ensures { OutputGrowsWithin }
 {}

@@ -1,5 +1,5 @@
 //! The users of the monitor.
-ghost use Rattle.std.specs.Prelude.{◌≡◌, ◌≤◌, ◌-◌, ◌<◌, IfSome, IsSome, ◌↔◌};
+ghost use Rattle.std.specs.Prelude.{◌≡◌, ◌≤◌, ◌+◌, ◌-◌, ◌<◌, IfSome, IsSome, ◌↔◌};
 ghost use Rattle.rv_model.specs.machine.Users.{user_count};
 
 use std::marker::Model;
@@ -36,6 +36,16 @@ impl User {
             Some(User { number })
         } else {
             None
+        }
+    }
+
+    /// The user at a place in a table of all users, from 0.
+    pub fn at_index(index: usize) -> User
+        requires { index < user_count }
+        ensures { result ≡ index + 1 }
+    {
+        User {
+            number: index as u8 + 1,
         }
     }
 

@@ -1,6 +1,7 @@
 //! Laws of vector loads and stores that stop before their end, and of the ticks that they take.
 ghost use Rattle.rv_model.specs.accesses.Restarts.{AccessResumes, LargerLimitIsSame, LastRunIsWhole, LaterIndicesStay, OverlayIsEither, OverlayOfGrown, StopsWithin};
 ghost use Rattle.rv_model.specs.step.Resumes.{CutStepResumes, FetchedStepResumes, InstructionResumes, InstructionStops, StepResumes};
+ghost use Rattle.rv_model.specs.step.StepTicks.{CutStepTakesAllTicks, StepTakesTicks, UncutStepIsSame};
 ghost use Rattle.rv_model.specs.step.Ticks.{CutTakesAllTicks, MoreTicksAreSame, TicksAreWithin};
 
 /// A legal vector load or store that is cut or faults, and is run again, any number of times, while
@@ -34,4 +35,12 @@ pub fn ticks_and_cuts()
     ensures within { TicksAreWithin }
     ensures cut { CutTakesAllTicks }
     ensures more { MoreTicksAreSame }
+{}
+
+/// The same of every step, with its fetch, scalar instructions too, which take one tick each and are
+/// never cut.
+pub fn steps_take_ticks()
+    ensures within { StepTakesTicks }
+    ensures cut { CutStepTakesAllTicks }
+    ensures more { UncutStepIsSame }
 {}

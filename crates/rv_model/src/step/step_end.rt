@@ -43,6 +43,8 @@ pub enum StepEnd {
     Ebreak,
     /// The instruction at `pc` faults; `value` is the address or the word that caused it.
     Fault { cause: Cause, pc: u64, value: u64 },
+    /// It is a call that writes, and the output buffer has no room; the program stops there.
+    OutputFull,
     /// It is a vector load or store that was cut: the elements before `vstart` are done, and the rest of it is done the next time.
     Cut,
 }
@@ -58,4 +60,6 @@ pub enum Stop {
     Exit(u8),
     /// An instruction faults; `value` is the address or the word that caused it.
     Fault { cause: Cause, value: u64 },
+    /// A call that writes stands at the program counter, and the output buffer has no room.
+    OutputFull,
 }

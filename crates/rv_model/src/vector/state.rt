@@ -26,7 +26,7 @@ impl Model for VConf {
 
 impl VConf {
     ghost use Rattle.std.specs.Prelude.{◌≡◌, ◌≤◌, IfSome};
-    ghost use Rattle.rv_model.specs.vector.Configuration.{initial_configuration, IsSupported, vlmax};
+    ghost use Rattle.rv_model.specs.vector.Configuration.{initial_configuration, IsConfiguration, IsSupported, vlmax};
 
     /// `vill` alone, with a length of 0.
     pub fn vill() -> VConf
@@ -55,6 +55,11 @@ impl VConf {
     {
         self.vl
     }
+
+    /// The vector length is one that the vector type allows: a law, which does nothing.
+    pub fn length_law(self)
+        ensures { IsConfiguration self }
+    {}
 
     /// The same vector type with a length that is no greater.
     pub fn shortened(self, vl: u16) -> VConf

@@ -1,10 +1,9 @@
-use Rattle.std.proofs.Common.{rules, refl, ap, ap₂, ◌≡◌, ◌∙◌, pos, true, false, Option}
+use Rattle.std.proofs.Common.{rules, ap, ap₂, ◌≡◌, ◌∙◌, pos, false, Option}
 use Rattle.std.specs.Prelude.{Some, codes}
 use Rattle.clap.specs.Words.{Rule, new_rule, rule_of}
 use Rattle.clap.specs.declared.builder.arg.Arg.{Arg}
 use Rattle.clap.specs.declared.builder.value_parser.ValueParser.{ValueParser}
 use Rattle.clap.specs.declared.builder.value_parser.ValueParser.TheVariants.{Signed}
-use Rattle.vec_monitor.specs.CommandLine.{quantum_rule}
 use Rattle.vec_monitor.proofs.command_line.quantum.Goals as goal
 
 pub returns : goal.returns

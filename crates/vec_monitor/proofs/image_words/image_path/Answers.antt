@@ -1,5 +1,4 @@
-use Rattle.std.proofs.Common.{rules, arith, MatchOption}
-use Rattle.vec_monitor.specs.ImageWords.{IsNameAndPath, LacksEqualsSign}
+use Rattle.std.proofs.Common.{rules, arith}
 use Rattle.vec_monitor.proofs.ImageWordLaws.{lacks, splits}
 use Rattle.vec_monitor.proofs.image_words.image_path.Goals as goal
 

@@ -1,4 +1,4 @@
-use Rattle.std.proofs.Common.{rules, arith, subst, sym, refl, inr, ◌≡◌, ◌<◌, ◌⊎◌, length}
+use Rattle.std.proofs.Common.{rules, subst, sym, refl, inr, ◌<◌, length}
 use Rattle.std.specs.List.{AllZip}
 use Rattle.vec_monitor.specs.ImageWords.{IsPathOf}
 use Rattle.vec_monitor.proofs.ImageWordLaws.{some_lacks, zip_next}

@@ -7,7 +7,7 @@ use Rattle.vec_monitor.proofs.stepping.steps.Given as goal
 -- the steps that are left come to the same as all
 abbrev pub invariant-loop : goal.invariant-loop
 invariant-loop g l = record {
-  steps : steps (l.count - l.counter) true (present l.context l.trace (memory_of_user l.pool l.user)) ≡ steps l.count true (present l.fn.context l.fn.trace (memory_of_user l.fn.pool l.user));
+  steps : steps (l.count - l.counter) l.exempt (present l.context l.trace (memory_of_user l.pool l.user)) ≡ steps l.count true (present l.fn.context l.fn.trace (memory_of_user l.fn.pool l.user));
   entered : l.context.entered ≡ l.fn.context.entered;
   others : l.pool ≡ with_memory l.fn.pool l.user (memory_of_user l.pool l.user);
 }

@@ -1,8 +1,6 @@
-use Rattle.std.proofs.Common.{rules, ◌≡◌, ◌∙◌, ◌≤◌, IfOk, map, option_map, ℕ, List, Bor, ◌++◌, ap, sym, refl}
-use Rattle.clap.specs.Words.{found_of, matches_of, rows_of}
+use Rattle.std.proofs.Common.{rules, ◌∙◌, ◌++◌, ap}
 use Rattle.clap.specs.Walk.{texts}
 use Rattle.std.specs.Str.Parse.{ParsesUnsigned, ExplainsUnsignedError, HasUnsignedDigitsIfOk}
-use Rattle.vec_monitor.specs.CommandLine.{command_line, image_words, quantum_word, script_word, IsQuantum}
 use Rattle.vec_monitor.proofs.CommandLineLaws.{images_in, images_read, taken_by, quantum_read, rows_by, script_read}
 use Rattle.vec_monitor.proofs.words.options.Goals as goal
 

@@ -1,0 +1,65 @@
+//! The commands on breakpoints: `break`, `unbreak` and `breaks`.
+ghost use Rattle.std.specs.Prelude.{◌≡◌, [], ◌∷◌, ◌++◌, ◌+◌, ◌≤◌, length};
+ghost use Rattle.rv_model.specs.commands.Breakpoints.{break_args, unbreak_args, breakpoints_named, breaks_line};
+ghost use Rattle.rv_model.specs.text.Lines.{text};
+ghost use Rattle.rv_model.specs.text.Words.{words};
+ghost use Rattle.monitor_cmds.specs.Tag.{tag_byte};
+
+use crate::arguments::instruction_address;
+use crate::numerals::push_addresses;
+use crate::reply::Reply;
+use crate::tag::Tag;
+use crate::words::{Words, done};
+use rv_model::BreakpointCommand;
+
+/// The command of a name, by its arguments as they stand in the line. `None` where the group has no
+/// such name, and `Some(None)` where the arguments are wrong.
+pub(crate) fn breakpoints_named(name: &[u8], args: &[u8]) -> Option<Option<BreakpointCommand>>
+    ensures { result ≡ breakpoints_named name.now (words args.now) }
+{
+    if name == b"break".as_slice() {
+        return Some(break_args(args));
+    }
+    if name == b"unbreak".as_slice() {
+        return Some(unbreak_args(args));
+    }
+    if name == b"breaks".as_slice() {
+        return Some(done(Words::new(args), BreakpointCommand::Breaks));
+    }
+    None
+}
+
+/// `break ADDR`
+#[tactic(auto, unfolding(rv_model::specs::commands::Breakpoints::break_args))]
+fn break_args(args: &[u8]) -> Option<BreakpointCommand>
+    ensures { result ≡ break_args (words args.now) }
+{
+    let mut words = Words::new(args);
+    let addr = instruction_address(words.next_word()?)?;
+    done(words, BreakpointCommand::Break(addr))
+}
+
+/// `unbreak ADDR`
+#[tactic(auto, unfolding(rv_model::specs::commands::Breakpoints::unbreak_args))]
+fn unbreak_args(args: &[u8]) -> Option<BreakpointCommand>
+    ensures { result ≡ unbreak_args (words args.now) }
+{
+    let mut words = Words::new(args);
+    let addr = instruction_address(words.next_word()?)?;
+    done(words, BreakpointCommand::Unbreak(addr))
+}
+
+/// Adds the answer to `breaks`: at most 16 addresses, in rising order, as
+/// `breaks 0000000000010000 0000000000010008`.
+#[tactic(auto, unfolding(rv_model::specs::commands::Breakpoints::breaks_line))]
+pub fn breaks_line(reply: &mut Reply, tag: Tag, addresses: &[u64])
+    requires few { length addresses.now ≤ 16 }
+    requires room { length reply.old + 281 ≤ 4096 }
+    ensures text { reply.new ≡ reply.old ++ text (tag_byte tag) (breaks_line addresses.now ∷ []) }
+    ensures bound { length reply.new ≤ length reply.old + 281 }
+{
+    reply.push(&[tag.byte(), b' ']);
+    reply.push(b"breaks");
+    push_addresses(reply, addresses);
+    reply.push(b"\n");
+}

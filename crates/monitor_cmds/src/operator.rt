@@ -1,0 +1,130 @@
+//! The commands of the operator: `slices`, `run` and `list`.
+ghost use Rattle.std.specs.Prelude.{◌≡◌, [], ◌∷◌, ◌++◌, ◌+◌, ◌≤◌, length, flat_map};
+ghost use Rattle.rv_model.specs.commands.Operator.{slices_args, run_args, operator_named, operator_parse, granted_line, standing_word, listed_user, list_line};
+ghost use Rattle.rv_model.specs.machine.Users.{user_count, users};
+ghost use Rattle.rv_model.specs.text.Lines.{text};
+ghost use Rattle.rv_model.specs.text.Words.{words};
+
+use crate::arguments::{count, user};
+use crate::numerals::push_decimal;
+use crate::reply::Reply;
+use crate::words::{Words, done};
+use rv_model::{OperatorCommand, Refusal, Standing, USER_COUNT};
+
+/// The command of a name, by its arguments as they stand in the line. `None` where there is no such
+/// name, and `Some(None)` where the arguments are wrong.
+fn operator_named(name: &[u8], args: &[u8]) -> Option<Option<OperatorCommand>>
+    ensures { result ≡ operator_named name.now (words args.now) }
+{
+    if name == b"slices".as_slice() {
+        return Some(slices_args(args));
+    }
+    if name == b"run".as_slice() {
+        return Some(run_args(args));
+    }
+    if name == b"list".as_slice() {
+        return Some(done(Words::new(args), OperatorCommand::List));
+    }
+    None
+}
+
+/// `slices N`, with 1 to 1,000 slices.
+#[tactic(auto, unfolding(rv_model::specs::commands::Operator::slices_args))]
+fn slices_args(args: &[u8]) -> Option<OperatorCommand>
+    ensures { result ≡ slices_args (words args.now) }
+{
+    let mut words = Words::new(args);
+    let count = count(words.next_word()?)?;
+    done(words, OperatorCommand::Slices(count))
+}
+
+/// `run U`, with a user's number.
+#[tactic(auto, unfolding(rv_model::specs::commands::Operator::run_args))]
+fn run_args(args: &[u8]) -> Option<OperatorCommand>
+    ensures { result ≡ run_args (words args.now) }
+{
+    let mut words = Words::new(args);
+    let user = user(words.next_word()?)?;
+    done(words, OperatorCommand::Run(user))
+}
+
+/// The command that a line of the operator spells: a name and its arguments, with one or more spaces
+/// (byte 20) between words. The line comes without the star and the space after it.
+///
+/// Refused are a name that is no command's (E03), and then a wrong number of arguments or one out
+/// of its form or range (E04).
+#[tactic(auto, unfolding(rv_model::specs::commands::Operator::operator_parse))]
+pub fn parse_operator(line: &[u8]) -> Result<OperatorCommand, Refusal>
+    ensures { result ≡ operator_parse line.now }
+{
+    let mut words = Words::new(line);
+    let Some(name) = words.next_word() else {
+        return Err(Refusal::UnknownCommand);
+    };
+    match operator_named(name, words.rest()) {
+        Some(command) => command.ok_or(Refusal::Argument),
+        None => Err(Refusal::UnknownCommand),
+    }
+}
+
+/// Adds how many slices were granted, as `* granted 7`.
+#[tactic(auto, unfolding(rv_model::specs::commands::Operator::granted_line))]
+pub fn granted_line(reply: &mut Reply, count: usize)
+    requires { length reply.old + 31 ≤ 4096 }
+    ensures text { reply.new ≡ reply.old ++ text 42 (granted_line count ∷ []) }
+    ensures bound { length reply.new ≤ length reply.old + 31 }
+{
+    reply.push(b"* granted ");
+    push_decimal(reply, count as u64);
+    reply.push(b"\n");
+}
+
+/// What a user's program does, in a word.
+fn standing_word(standing: Standing) -> &'static [u8]
+    ensures value { result.now ≡ standing_word standing }
+    ensures bound { length result.now ≤ 7 }
+{
+    match standing {
+        Standing::Absent => b"-",
+        Standing::Stopped => b"stopped",
+        Standing::Running => b"running",
+    }
+}
+
+/// Adds the user at a place of the table of all users.
+#[tactic(auto, unfolding(rv_model::specs::commands::Operator::listed_user))]
+fn push_user(reply: &mut Reply, standings: &[Standing; USER_COUNT], index: usize)
+    requires within { index + 1 ≤ user_count }
+    requires room { length reply.old + 29 ≤ 4096 }
+    ensures text { reply.new ≡ reply.old ++ listed_user standings.now (index + 1) }
+    ensures bound { length reply.new ≤ length reply.old + 29 }
+{
+    reply.push(b" ");
+    push_decimal(reply, index as u64 + 1);
+    reply.push(b":");
+    reply.push(standing_word(standings[index]));
+}
+
+/// Adds all users.
+fn push_users(reply: &mut Reply, standings: &[Standing; USER_COUNT])
+    requires { length reply.old + 232 ≤ 4096 }
+    ensures text { reply.new ≡ reply.old ++ flat_map (listed_user standings.now) users }
+    ensures bound { length reply.new ≤ length reply.old + 232 }
+{
+    for index in 0..USER_COUNT {
+        push_user(reply, standings, index);
+    }
+}
+
+/// Adds what each user's program does, as
+/// `* list 1:running 2:stopped 3:- 4:- 5:- 6:- 7:- 8:-`.
+#[tactic(auto, unfolding(rv_model::specs::commands::Operator::list_line))]
+pub fn list_line(reply: &mut Reply, standings: &[Standing; USER_COUNT])
+    requires { length reply.old + 239 ≤ 4096 }
+    ensures text { reply.new ≡ reply.old ++ text 42 (list_line standings.now ∷ []) }
+    ensures bound { length reply.new ≤ length reply.old + 239 }
+{
+    reply.push(b"* list");
+    push_users(reply, standings);
+    reply.push(b"\n");
+}

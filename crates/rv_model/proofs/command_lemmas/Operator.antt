@@ -1,0 +1,75 @@
+-- A line of the operator names a user, if any, by one of the users' numbers.
+use Rattle.std.proofs.Common.{◌≡◌, ℕ, ◌≤◌, List, [], ◌∷◌, Bool, true, false, Option, Some, None, Ok, Err, refl, sym}
+use Rattle.std.specs.Prelude.{nat_le, ◌&&◌, if◌then◌else◌, codes}
+use Rattle.std.specs.Str.{bytes_eq}
+use Rattle.std.proofs.lemmas.Bool.{leb-true}
+use Rattle.rv_model.specs.declared.commands.operator.OperatorCommand.{OperatorCommand}
+use Rattle.rv_model.specs.declared.commands.operator.OperatorCommand.TheVariants.{Slices, Run, List as ListUsers}
+use Rattle.rv_model.specs.commands.Arguments.{number, within, decimal_number}
+use Rattle.rv_model.specs.commands.Operator.{OperatorParsed, slices_args, run_args, operator_named, accepted, operator_of_words, operator_parse}
+use Rattle.rv_model.specs.commands.Reading.{◌>>=◌, before, done}
+use Rattle.rv_model.specs.text.Words.{words}
+use Rattle.rv_model.proofs.text_lemmas.Lines.{both}
+use Rattle.rv_model.proofs.text_lemmas.Pieces.{of_either}
+
+abbrev pub NamesUser : OperatorCommand → Type 0
+NamesUser (Slices n) = Unit {0}
+NamesUser (Run u) = (1 ≤ u) × (u ≤ 8)
+NamesUser ListUsers = Unit {0}
+
+abbrev NamesUserIfAny : Option OperatorCommand → Type 0
+NamesUserIfAny None = Unit {0}
+NamesUserIfAny (Some c) = NamesUser c
+
+abbrev pub ParsedNamesUser : OperatorParsed → Type 0
+ParsedNamesUser (Err reason) = Unit {0}
+ParsedNamesUser (Ok c) = NamesUser c
+
+done_names : (c : OperatorCommand) (ws : List (List ℕ)) → NamesUser c → NamesUserIfAny (done c ws)
+done_names c [] h = h
+done_names c (w ∷ ws) h = tt
+
+slices_name : (ws : List (List ℕ)) → NamesUserIfAny (slices_args ws)
+unfolding slices_args
+slices_name [] = tt
+slices_name (w ∷ ws) = counted (number 1 1000 w)
+  where
+    counted : (o : Option ℕ) → NamesUserIfAny (before ws o >>= (λ count. done (Slices count.0) count.1))
+    counted None = tt
+    counted (Some n) = done_names (Slices n) ws tt
+
+run_names : (ws : List (List ℕ)) → NamesUserIfAny (run_args ws)
+unfolding run_args
+run_names [] = tt
+run_names (w ∷ ws) = numbered (decimal_number w)
+  where
+    tested : (n : ℕ) (b : Bool) → b ≡ (nat_le 1 n && nat_le n 8) → NamesUserIfAny (before ws (if b then Some n else None) >>= (λ user. done (Run user.0) user.1))
+    tested n false h = tt
+    tested n true h =
+        let two = both (nat_le 1 n) (nat_le n 8) (sym h) in
+        done_names (Run n) ws (leb-true 1 n two.0, leb-true n 8 two.1)
+
+    numbered : (o : Option ℕ) → NamesUserIfAny (before ws (within 1 8 o) >>= (λ user. done (Run user.0) user.1))
+    numbered None = tt
+    numbered (Some n) = tested n (nat_le 1 n && nat_le n 8) refl
+
+abbrev NamedNamesUser : Option (Option OperatorCommand) → Type 0
+NamedNamesUser o = ParsedNamesUser (accepted o)
+
+with_args : (o : Option OperatorCommand) → NamesUserIfAny o → NamedNamesUser (Some o)
+with_args None h = tt
+with_args (Some c) h = h
+
+named_names : (name : List ℕ) (args : List (List ℕ)) → NamedNamesUser (operator_named name args)
+named_names name args =
+    of_either NamedNamesUser (bytes_eq name (codes "slices")) (Some (slices_args args)) _ (with_args (slices_args args) (slices_name args))
+    (of_either NamedNamesUser (bytes_eq name (codes "run")) (Some (run_args args)) _ (with_args (run_args args) (run_names args))
+    (of_either NamedNamesUser (bytes_eq name (codes "list")) (Some (done ListUsers args)) None (with_args (done ListUsers args) (done_names ListUsers args tt)) tt))
+
+of_words_names : (ws : List (List ℕ)) → ParsedNamesUser (operator_of_words ws)
+of_words_names [] = tt
+of_words_names (name ∷ args) = named_names name args
+
+pub parsed_names_user : (line : List ℕ) → ParsedNamesUser (operator_parse line)
+unfolding operator_parse
+parsed_names_user line = of_words_names (words line)

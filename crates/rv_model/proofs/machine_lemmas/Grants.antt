@@ -1,0 +1,111 @@
+-- What the operator grants goes to users, and what the operator is told are lines.
+use Rattle.std.proofs.Common.{ℕ, zero, suc, ◌-◌, ◌≤◌, List, [], ◌∷◌, ◌++◌, length, Bool, true, false, Option, Some, None, Ok, Err, refl, arith}
+use Rattle.std.specs.Prelude.{drop, take, find, map, codes, flat_map, if◌then◌else◌, slice_index_or}
+use Rattle.rv_model.specs.declared.commands.operator.OperatorCommand.TheVariants.{Slices, Run, List as ListUsers}
+use Rattle.rv_model.specs.declared.machine.standing.Standing.{Standing}
+use Rattle.rv_model.specs.declared.machine.standing.Standing.TheVariants.{Absent, Stopped, Running}
+use Rattle.rv_model.specs.commands.Operator.{OperatorParsed, granted_line, standing_word, listed_user, list_line}
+use Rattle.rv_model.specs.machine.Grants.{turns_after, next_user, runs, next_running, slice_of, granted_first, granted, grants, grants_of, standing, operator_line}
+use Rattle.rv_model.specs.machine.Users.{users}
+use Rattle.rv_model.specs.machine.Setup.{Setup}
+use Rattle.rv_model.specs.machine.World.{World, Happening, part, after_one, AreUsers}
+use Rattle.rv_model.specs.text.Lines.{IsLine}
+use Rattle.rv_model.proofs.command_lemmas.Operator.{ParsedNamesUser}
+use Rattle.rv_model.proofs.command_lemmas.Printing.{no_newline_in_refusal}
+use Rattle.rv_model.proofs.text_lemmas.Pieces.{Piece, ◌▸◌, number, flat_map_line, of_either}
+
+-- one of the users
+abbrev pub IsUser : ℕ → Type 0
+IsUser u = (1 ≤ u) × (u ≤ 8)
+
+abbrev All : List ℕ → Type 0
+All [] = Unit {0}
+All (u ∷ us) = IsUser u × All us
+
+all-append : (xs ys : List ℕ) → All xs → All ys → All (xs ++ ys)
+all-append [] ys h k = k
+all-append (x ∷ xs) ys h k = (h.0, all-append xs ys h.1 k)
+
+all-take : (n : ℕ) (xs : List ℕ) → All xs → All (take n xs)
+all-take zero xs h = tt
+all-take (suc n) [] h = tt
+all-take (suc n) (x ∷ xs) h = (h.0, all-take n xs h.1)
+
+all-drop : (n : ℕ) (xs : List ℕ) → All xs → All (drop n xs)
+all-drop zero xs h = h
+all-drop (suc n) [] h = tt
+all-drop (suc n) (x ∷ xs) h = all-drop n xs h.1
+
+all_users : All users
+all_users =
+    let one : (n : ℕ) → 1 ≤ n → n ≤ 8 → IsUser n = λ n low high. (low, high) in
+    (one 1 (omega arith) (omega arith), (one 2 (omega arith) (omega arith), (one 3 (omega arith) (omega arith), (one 4 (omega arith) (omega arith), (one 5 (omega arith) (omega arith), (one 6 (omega arith) (omega arith), (one 7 (omega arith) (omega arith), (one 8 (omega arith) (omega arith), tt))))))))
+
+abbrev IsUserIfAny : Option ℕ → Type 0
+IsUserIfAny None = Unit {0}
+IsUserIfAny (Some u) = IsUser u
+
+found : (p : ℕ → Bool) (xs : List ℕ) → All xs → IsUserIfAny (find p xs)
+found p [] h = tt
+found p (x ∷ xs) h = of_either IsUserIfAny (p x) (Some x) (find p xs) h.0 (found p xs h.1)
+
+-- whose turn it is, if anybody's, is a user
+pub next_is_user : (cursor : ℕ) (flags : List Bool) → IsUserIfAny (next_user cursor flags)
+unfolding next_user
+next_is_user cursor flags =
+    found (λ u. slice_index_or flags (u - 1) false) (turns_after cursor)
+    (all-append (drop cursor users) (take cursor users) (all-drop cursor users all_users) (all-take cursor users all_users))
+
+pub granted_to_users : (s : Setup) (n : ℕ) (w : World) → AreUsers (granted s n w)
+unfolding granted
+granted_to_users s zero w = tt
+granted_to_users s (suc n) w =
+    first (next_running w) (λ h. granted s n (after_one s w h)) (next_is_user w.cursor (map runs w.parts))
+    (λ h. granted_to_users s n (after_one s w h))
+  where
+    first : (o : Option ℕ) (others : Happening → List Happening) → IsUserIfAny o → ((h : Happening) → AreUsers (others h)) → AreUsers (granted_first o others)
+    first None others h k = tt
+    first (Some u) others h k = (h.0, h.1, k (slice_of u true))
+
+pub grants_to_users : (s : Setup) (w : World) (r : OperatorParsed) → ParsedNamesUser r → AreUsers (grants_of s w r)
+grants_to_users s w (Err reason) named = tt
+grants_to_users s w (Ok (Slices n)) named = granted_to_users s n w
+grants_to_users s w (Ok (Run u)) named = run (runs (part u w))
+  where
+    run : (b : Bool) → AreUsers (if b then slice_of u false ∷ [] else [])
+    run true = (named.0, named.1, tt)
+    run false = tt
+grants_to_users s w (Ok ListUsers) named = tt
+
+-- ---- what the operator is told
+
+no_newline_in_granted_line : (n : ℕ) → IsLine (granted_line n)
+unfolding granted_line
+no_newline_in_granted_line n = let word : Piece = (codes "granted ", refl) in (word ▸ number n).1
+
+no_newline_in_standing : (s : Standing) → IsLine (standing_word s)
+no_newline_in_standing Absent = refl
+no_newline_in_standing Stopped = refl
+no_newline_in_standing Running = refl
+
+no_newline_in_listed_user : (standings : List Standing) (u : ℕ) → IsLine (listed_user standings u)
+unfolding listed_user
+no_newline_in_listed_user standings u =
+    let gap : Piece = (codes " ", refl) in
+    let colon : Piece = (codes ":", refl) in
+    let standing : Standing = slice_index_or standings (u - 1) Absent in
+    let word : Piece = (standing_word standing, no_newline_in_standing standing) in
+    (gap ▸ number u ▸ colon ▸ word).1
+
+no_newline_in_list_line : (standings : List Standing) → IsLine (list_line standings)
+unfolding list_line
+no_newline_in_list_line standings =
+    let word : Piece = (codes "list", refl) in
+    let all : Piece = (flat_map (listed_user standings) users, flat_map_line (listed_user standings) users (no_newline_in_listed_user standings)) in
+    (word ▸ all).1
+
+pub no_newline_in_operator_line : (s : Setup) (w : World) (r : OperatorParsed) → IsLine (operator_line s w r)
+no_newline_in_operator_line s w (Err reason) = no_newline_in_refusal reason
+no_newline_in_operator_line s w (Ok (Slices n)) = no_newline_in_granted_line (length (granted s n w))
+no_newline_in_operator_line s w (Ok (Run u)) = no_newline_in_granted_line (length (grants s w (Run u)))
+no_newline_in_operator_line s w (Ok ListUsers) = no_newline_in_list_line (map standing w.parts)

@@ -1,0 +1,81 @@
+-- The commands on breakpoints: `break`, `unbreak` and `breaks`. A user's breakpoints are addresses in rising order.
+use Rattle.std.specs.Prelude.{ℕ, ◌==◌, not, nat_lt, nat_le, Bool, true, List, ◌∷◌, ◌++◌, filter, flat_map, length, Option, Some, None, if◌then◌else◌, codes}
+use Rattle.std.specs.Str.{bytes_eq}
+use Rattle.rv_model.specs.declared.commands.breakpoints.BreakpointCommand.{BreakpointCommand}
+use Rattle.rv_model.specs.declared.commands.breakpoints.BreakpointCommand.TheVariants.{Break, Unbreak, Breaks}
+use Rattle.rv_model.specs.declared.commands.refusal.Refusal.TheVariants as refusal
+use Rattle.rv_model.specs.commands.Arguments.{instruction_address}
+use Rattle.rv_model.specs.commands.Printing.{listed}
+use Rattle.rv_model.specs.commands.Reading.{◌>>=◌, next, done}
+use Rattle.rv_model.specs.machine.UserMachine.{Present, Outcome, answers, refuses, has_breakpoint}
+
+-- the most breakpoints that a user may have
+abbrev pub breakpoint_limit : ℕ
+breakpoint_limit = 16
+
+-- ---- break ADDR
+
+unfoldable pub break_args : List (List ℕ) → Option BreakpointCommand
+break_args ws = do
+  addr ← next instruction_address ws
+  done (Break addr.0) addr.1
+
+-- addresses with one more, in its place
+unfoldable pub with_address : ℕ → List ℕ → List ℕ
+with_address addr addresses = filter (λ a. nat_lt a addr) addresses ++ addr ∷ filter (λ a. nat_lt addr a) addresses
+
+-- a breakpoint is set, where there are fewer than 16 and none stands there
+abbrev pub sets_breakpoint : ℕ → Present → Outcome
+sets_breakpoint addr p =
+    if nat_le breakpoint_limit (length p.breakpoints) then refuses (Some p) refusal.BreakpointLimit
+    else if has_breakpoint p addr then refuses (Some p) refusal.Breakpoint
+    else answers (record p { breakpoints = with_address addr p.breakpoints }) (codes "ok")
+
+-- ---- unbreak ADDR
+
+unfoldable pub unbreak_args : List (List ℕ) → Option BreakpointCommand
+unbreak_args ws = do
+  addr ← next instruction_address ws
+  done (Unbreak addr.0) addr.1
+
+-- addresses without one of them
+unfoldable pub without_address : ℕ → List ℕ → List ℕ
+without_address addr addresses = filter (λ a. not (a == addr)) addresses
+
+-- a breakpoint is removed, where one stands there
+abbrev pub removes_breakpoint : ℕ → Present → Outcome
+removes_breakpoint addr p =
+    if has_breakpoint p addr
+    then answers (record p { breakpoints = without_address addr p.breakpoints }) (codes "ok")
+    else refuses (Some p) refusal.Breakpoint
+
+-- ---- breaks
+
+-- the addresses, in rising order
+unfoldable pub breaks_line : List ℕ → List ℕ
+breaks_line addresses = codes "breaks" ++ flat_map listed addresses
+
+abbrev pub shows_breakpoints : Present → Outcome
+shows_breakpoints p = answers p (breaks_line p.breakpoints)
+
+-- ---- all of them
+
+-- the command of a name, by its arguments; none of this group where there is no such name
+abbrev pub breakpoints_named : List ℕ → List (List ℕ) → Option (Option BreakpointCommand)
+breakpoints_named name args =
+    if bytes_eq name (codes "break") then Some (break_args args)
+    else if bytes_eq name (codes "unbreak") then Some (unbreak_args args)
+    else if bytes_eq name (codes "breaks") then Some (done Breaks args)
+    else None
+
+-- whether a command needs a stopped program
+abbrev pub breakpoints_need_stopped : BreakpointCommand → Bool
+breakpoints_need_stopped (Break addr) = true
+breakpoints_need_stopped (Unbreak addr) = true
+breakpoints_need_stopped Breaks = true
+
+-- what a command does of a user who has entered
+unfoldable pub breakpoint_command : BreakpointCommand → Present → Outcome
+breakpoint_command (Break addr) p = sets_breakpoint addr p
+breakpoint_command (Unbreak addr) p = removes_breakpoint addr p
+breakpoint_command Breaks p = shows_breakpoints p

@@ -1,0 +1,71 @@
+-- What the operator grants: which user's turn it is, the slices of a command, and what the command prints.
+use Rattle.std.specs.Prelude.{ℕ, zero, suc, ◌-◌, Bool, true, false, List, [], ◌∷◌, ◌++◌, drop, take, find, length, map, Option, Some, None, Ok, Err, if◌then◌else◌, slice_index_or}
+use Rattle.rv_model.specs.declared.commands.operator.OperatorCommand.{OperatorCommand}
+use Rattle.rv_model.specs.declared.commands.operator.OperatorCommand.TheVariants.{Slices, Run, List as ListUsers}
+use Rattle.rv_model.specs.declared.machine.standing.Standing.{Standing}
+use Rattle.rv_model.specs.declared.machine.standing.Standing.TheVariants.{Absent, Stopped, Running}
+use Rattle.rv_model.specs.commands.Operator.{OperatorParsed, granted_line, list_line}
+use Rattle.rv_model.specs.commands.Printing.{refused}
+use Rattle.rv_model.specs.machine.PrivateMachine.{Private, Slice}
+use Rattle.rv_model.specs.machine.Setup.{Setup}
+use Rattle.rv_model.specs.machine.Users.{users}
+use Rattle.rv_model.specs.machine.World.{World, Happening, part, after_one}
+
+-- ---- whose turn it is
+
+-- the users in the order of their turns, where this user's was the last: those after it, then those up to it
+abbrev pub turns_after : ℕ → List ℕ
+turns_after cursor = drop cursor users ++ take cursor users
+
+-- the first user after the cursor whose flag is set, each user having one
+unfoldable pub next_user : ℕ → List Bool → Option ℕ
+next_user cursor flags = find (λ u. slice_index_or flags (u - 1) false) (turns_after cursor)
+
+-- whether a user's program runs
+abbrev pub runs : Private → Bool
+runs None = false
+runs (Some p) = p.running
+
+-- the user whose turn it is, if any program runs
+abbrev pub next_running : World → Option ℕ
+next_running w = next_user w.cursor (map runs w.parts)
+
+-- ---- slices
+
+-- a slice of a user, whose turn it may be
+abbrev pub slice_of : ℕ → Bool → Happening
+slice_of u turn = record { user = u; event = Slice; turn = turn }
+
+-- a user's slice, and the slices that follow it
+abbrev pub granted_first : Option ℕ → (Happening → List Happening) → List Happening
+granted_first None others = []
+granted_first (Some u) others = slice_of u true ∷ others (slice_of u true)
+
+-- at most n slices in turn, fewer only where nobody's program runs any more
+unfoldable pub granted : Setup → ℕ → World → List Happening
+granted setup zero w = []
+granted setup (suc n) w = granted_first (next_running w) (λ h. granted setup n (after_one setup w h))
+
+-- what an operator's command makes happen
+abbrev pub grants : Setup → World → OperatorCommand → List Happening
+grants setup w (Slices n) = granted setup n w
+grants setup w (Run u) = if runs (part u w) then slice_of u false ∷ [] else []
+grants setup w ListUsers = []
+
+abbrev pub grants_of : Setup → World → OperatorParsed → List Happening
+grants_of setup w (Err reason) = []
+grants_of setup w (Ok command) = grants setup w command
+
+-- ---- what the operator is told
+
+-- what a user's program does
+abbrev pub standing : Private → Standing
+standing None = Absent
+standing (Some p) = if p.running then Running else Stopped
+
+-- what a command prints under the star
+abbrev pub operator_line : Setup → World → OperatorParsed → List ℕ
+operator_line setup w (Err reason) = refused reason
+operator_line setup w (Ok (Slices n)) = granted_line (length (granted setup n w))
+operator_line setup w (Ok (Run u)) = granted_line (length (grants setup w (Run u)))
+operator_line setup w (Ok ListUsers) = list_line (map standing w.parts)

@@ -1,0 +1,57 @@
+-- All users' private machines side by side, and what becomes of them by what happens to one after another.
+use Rattle.std.specs.Prelude.{ℕ, ◌+◌, ◌-◌, ◌≤◌, Bool, List, [], ◌∷◌, ◌++◌, replicate, None, if◌then◌else◌, slice_index_or, slice_set}
+use Rattle.rv_model.specs.machine.PrivateMachine.{Private, Outcome, Event, event}
+use Rattle.rv_model.specs.machine.Setup.{Setup}
+use Rattle.rv_model.specs.machine.Users.{user_count}
+use Rattle.rv_model.specs.machine.VectorUnit.{VectorUnit, unused_unit}
+use Rattle.rv_model.specs.text.Lines.{text}
+
+-- the machines of all users in order, who was last granted a slice in turn, and the vector unit
+pub record World : Type 0 where
+  pub parts : List Private
+  pub cursor : ℕ
+  pub unit : VectorUnit
+
+-- everyone is absent, user 1 is the first to be granted a slice, and nobody has used the vector unit
+unfoldable pub new_world : World
+new_world = record { parts = replicate user_count None; cursor = user_count; unit = unused_unit }
+
+-- a user's machine
+abbrev pub part : ℕ → World → Private
+part u w = slice_index_or w.parts (u - 1) None
+
+abbrev pub with_part : ℕ → Private → World → World
+with_part u p w = record w { parts = slice_set w.parts (u - 1) p }
+
+-- what happens to a user, and whether that is the user's turn, after which the next user's comes
+pub record Happening : Type 0 where
+  pub user : ℕ
+  pub event : Event
+  pub turn : Bool
+
+-- what happens to the user's machine
+abbrev pub outcome_of : Setup → World → Happening → Outcome
+outcome_of setup w h = event setup (part h.user w) h.event
+
+-- the world with the cursor at a user whose turn it was
+abbrev pub with_turn : Happening → World → World
+with_turn h w = if h.turn then record w { cursor = h.user } else w
+
+-- the world after something has happened
+abbrev pub after_one : Setup → World → Happening → World
+after_one setup w h = with_turn h (with_part h.user (outcome_of setup w h).next w)
+
+-- the world after all that happened
+abbrev pub after_events : Setup → World → List Happening → World
+after_events setup w [] = w
+after_events setup w (h ∷ hs) = after_events setup (after_one setup w h) hs
+
+-- what is printed by all that happens, each line under its user's digit
+abbrev pub told_by : Setup → World → List Happening → List ℕ
+told_by setup w [] = []
+told_by setup w (h ∷ hs) = text (48 + h.user) (outcome_of setup w h).lines ++ told_by setup (after_one setup w h) hs
+
+-- all happens to users
+abbrev pub AreUsers : List Happening → Type 0
+AreUsers [] = Unit {0}
+AreUsers (h ∷ hs) = (1 ≤ h.user) × (h.user ≤ user_count) × AreUsers hs

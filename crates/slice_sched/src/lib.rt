@@ -1,0 +1,6 @@
+//! Whose slice comes next.
+#![tactic(auto)]
+
+mod turns;
+
+pub use turns::next;

@@ -1,0 +1,98 @@
+//! A slice of one user.
+ghost use Rattle.std.specs.Prelude.{◌≡◌, ◌+◌, ◌-◌, ◌≤◌, ◌<◌, ◌++◌, true, length};
+ghost use Rattle.rv_model.specs.machine.Grants.{runs};
+ghost use Rattle.rv_model.specs.machine.PrivateMachine.{sliced};
+ghost use Rattle.rv_model.specs.text.Lines.{text};
+ghost use Rattle.user_mem.specs.Users.{memory_of_user, with_memory};
+ghost use Rattle.vec_monitor.specs.Parts.{private_of, trace_of, with_trace};
+ghost use Rattle.vec_monitor.specs.StopRoom.{stop_room};
+
+use crate::context::Context;
+use crate::stepping;
+use crate::trace::Trace;
+use monitor_cmds::{Reply, Tag};
+use rv_model::User;
+use std::alloc::Allocator;
+use user_mem::Pool;
+
+/// Carries out a slice of `quantum` ticks of a user whose program runs, and adds to the reply why it
+/// stopped, if it did.
+#[tactic(auto, unfolding(rv_model::specs::machine::PrivateMachine::sliced), using(crate::specs::Lenders::same_memory))]
+fn run_slice<A: Allocator>(
+    context: &mut Context,
+    trace: &mut Trace<A>,
+    pool: &mut Pool<A>,
+    user: User,
+    quantum: usize,
+    reply: &mut Reply,
+)
+    requires entered { context.old.entered ≡ true }
+    requires running { context.old.running ≡ true }
+    requires room { length reply.old + 80 ≤ 4096 }
+    ensures next { private_of context.new trace.new (memory_of_user pool.new user)
+        ≡ (sliced quantum (private_of context.old trace.old (memory_of_user pool.old user))).next }
+    ensures others { pool.new ≡ with_memory pool.old user (memory_of_user pool.new user) }
+    ensures reply { reply.new
+        ≡ reply.old ++ text (48 + user) (sliced quantum (private_of context.old trace.old (memory_of_user pool.old user))).lines }
+    ensures bound { length reply.new + stop_room (private_of context.new trace.new (memory_of_user pool.new user)) ≤ length reply.old + 80 }
+{
+    if let Some(stop) = stepping::slice(context, trace, pool, user, quantum) {
+        context.running = false;
+        monitor_cmds::stop_line(reply, Tag::User(user), context.scalar.pc, stop);
+    }
+}
+
+/// Grants a slice of `quantum` ticks to a user, if the user's program runs, and adds to the reply why it stopped,
+/// if it did. Answers whether the program ran. `traces` are those of all users.
+#[tactic(auto, using(crate::proofs::PartLaws::trace_there))]
+pub(crate) fn grant<A: Allocator>(
+    context: &mut Context,
+    traces: &mut [Trace<A>],
+    pool: &mut Pool<A>,
+    user: User,
+    quantum: usize,
+    reply: &mut Reply,
+) -> bool
+    requires within { user - 1 < length pool.old }
+    requires traced { user - 1 < length traces.old }
+    requires room { length reply.old + stop_room (private_of context.old (trace_of traces.old user) (memory_of_user pool.old user)) ≤ 4096 }
+    ensures next { private_of context.new (trace_of traces.new user) (memory_of_user pool.new user)
+        ≡ (sliced quantum (private_of context.old (trace_of traces.old user) (memory_of_user pool.old user))).next }
+    ensures traces { traces.new ≡ with_trace traces.old user (trace_of traces.new user) }
+    ensures others { pool.new ≡ with_memory pool.old user (memory_of_user pool.new user) }
+    ensures reply { reply.new
+        ≡ reply.old ++ text (48 + user) (sliced quantum (private_of context.old (trace_of traces.old user) (memory_of_user pool.old user))).lines }
+    ensures ran { result ≡ runs (private_of context.old (trace_of traces.old user) (memory_of_user pool.old user)) }
+    ensures bound { length reply.new + stop_room (private_of context.new (trace_of traces.new user) (memory_of_user pool.new user))
+        ≤ length reply.old + stop_room (private_of context.old (trace_of traces.old user) (memory_of_user pool.old user)) }
+{
+    let trace = &mut traces[user.index()];
+    grant_own(context, trace, pool, user, quantum, reply)
+}
+
+/// The same, with the user's own trace.
+#[tactic(auto, unfolding(rv_model::specs::machine::PrivateMachine::sliced), using(crate::specs::Lenders::same_memory))]
+fn grant_own<A: Allocator>(
+    context: &mut Context,
+    trace: &mut Trace<A>,
+    pool: &mut Pool<A>,
+    user: User,
+    quantum: usize,
+    reply: &mut Reply,
+) -> bool
+    requires room { length reply.old + stop_room (private_of context.old trace.old (memory_of_user pool.old user)) ≤ 4096 }
+    ensures next { private_of context.new trace.new (memory_of_user pool.new user)
+        ≡ (sliced quantum (private_of context.old trace.old (memory_of_user pool.old user))).next }
+    ensures others { pool.new ≡ with_memory pool.old user (memory_of_user pool.new user) }
+    ensures reply { reply.new
+        ≡ reply.old ++ text (48 + user) (sliced quantum (private_of context.old trace.old (memory_of_user pool.old user))).lines }
+    ensures ran { result ≡ runs (private_of context.old trace.old (memory_of_user pool.old user)) }
+    ensures bound { length reply.new + stop_room (private_of context.new trace.new (memory_of_user pool.new user))
+        ≤ length reply.old + stop_room (private_of context.old trace.old (memory_of_user pool.old user)) }
+{
+    if !context.is_running() {
+        return false;
+    }
+    run_slice(context, trace, pool, user, quantum, reply);
+    true
+}

@@ -1,0 +1,32 @@
+use Rattle.std.proofs.Common.{◌≡◌, ◌+◌, min, cond, refl, sym, ap, ◌∙◌, arith}
+use Rattle.std.specs.Prelude.{nat_lt}
+use Rattle.rv_model.specs.declared.memory.Access.TheVariants.{Load}
+use Rattle.rv_model.specs.declared.step.memory_end.MemEnd.TheVariants.{Done, Cut}
+use Rattle.rv_model.specs.accesses.Transfers.{loaded}
+use Rattle.vector_memory.specs.SegmentRoom.{place_in}
+use Rattle.vector_memory.proofs.BlockMoves.{block_ends, loads_block}
+use Rattle.vector_memory.proofs.loads.load_block.Goals as goal
+
+pub returns-clause-end : goal.returns-clause-end
+returns-clause-end g c = λ fill.
+    let m = g.M.UserBytes.memory c.args.memory.now in
+    let body = c.args.body.now in
+    let stop : c.min-stop.result ≡ min body.end (body.start + c.args.limit) =
+    omega (arith, c.requires.count, c.min-stop.ensures, c.end.ensures, c.saturating_add.ensures, c.start.ensures) in
+    let stopped =
+    block_ends c.args.segments.now body (g.A.Addresses.address c.args.addresses.now) c.min-stop.result c.in_ok-block.block c.in_ok-block.ensures fill Load m
+    c.args.limit stop (c.in-Ok.ensures.ok refl) in
+    c.end_without_fault.ensures.value ∙ ap (λ end. cond (nat_lt c.min-stop.result end) (Cut c.min-stop.result) Done) c.end-2.ensures ∙ sym stopped.end
+
+pub returns-clause-value : goal.returns-clause-value
+returns-clause-value g c = λ fill.
+    let m = g.M.UserBytes.memory c.args.memory.now in
+    let s = c.args.segments.now in
+    let body = c.args.body.now in
+    let stop : c.min-stop.result ≡ min body.end (body.start + c.args.limit) =
+    omega (arith, c.requires.count, c.min-stop.ensures, c.end.ensures, c.saturating_add.ensures, c.start.ensures) in
+    let address = g.A.Addresses.address c.args.addresses.now in
+    let stopped =
+    block_ends s body address c.min-stop.result c.in_ok-block.block c.in_ok-block.ensures fill Load m c.args.limit stop (c.in-Ok.ensures.ok refl) in
+    c.in-Ok.ensures.value ∙ loads_block s body address c.min-stop.result c.in_ok-block.block c.in_ok-block.ensures fill m c.args.file.now
+    ∙ ap (loaded m (place_in s) c.args.file.now) (sym stopped.done)
