@@ -7,7 +7,7 @@ use std::process::ExitCode;
 use vec_monitor::vecmon;
 
 /// The words after the program's name.
-const LINES: [&[&str]; 15] = [
+const LINES: [&[&str]; 19] = [
     &["--help"],
     &[],
     &["empty"],
@@ -41,6 +41,10 @@ const LINES: [&[&str]; 15] = [
         "stack=stack",
         "good=good",
     ],
+    &["--quantum", "1", "twelve_slices"],
+    &["--quantum", "4", "three_slices"],
+    &["--quantum", "12", "one_slice"],
+    &["--quantum", "4", "cut_load"],
     &["empty", "a=missing"],
 ];
 

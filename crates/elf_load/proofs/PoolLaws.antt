@@ -16,12 +16,13 @@ use Rattle.elf_load.proofs.PageLaws.{header_ends}
 use Rattle.elf_load.proofs.ImageLaws.{all_pages_is_page_limit}
 use Rattle.elf_load.proofs.PlacingLaws.{blank_none, blank_all, blank_more, blank_accepted, memory_after_none, memory_after_all}
 use Rattle.elf_load.proofs.SegmentLaws.{file_size_fits, file_part_there, may_write, may_write_part, memory_after_other, segment_written}
-use Rattle.elf_load.proofs.UserLaws.{with_memory-twice, with_memory-own, memory_of_user-after, with_memory-after}
+use Rattle.user_mem.proofs.UserLaws.{later_memory, same_memory}
+use Rattle.elf_load.proofs.UserLaws.{memory_of_user-after, with_memory-after}
 
 -- ---- its pages
 
 pub mapped_none : (memories : List Memory) (user : ℕ) (image : List ℕ) → memory_of_user memories user ≡ empty → memories ≡ with_memory memories user (blank_memory image 0)
-mapped_none memories user image free = sym (ap (with_memory memories user) (sym (free ∙ blank_none image)) ∙ with_memory-own memories user)
+mapped_none memories user image free = sym (ap (with_memory memories user) (sym (free ∙ blank_none image)) ∙ same_memory memories user)
 
 pub map_accepted : (memories pool : List Memory) (user : ℕ) (image : List ℕ) (from page : ℕ) → user - 1 < length memories → pool ≡ with_memory memories user (blank_memory image from)
     → page < page_limit → IsFirst (is_touched (placed_headers image)) from page → page_count (memory_of_image image) ≤ page_quota → map_refusal (memory_of_user pool user) page 1 ≡ None
@@ -102,16 +103,16 @@ segment_done memories pool new user image number header bs known before e sound 
 pub segment_other : (memories : List Memory) (user : ℕ) (image : List ℕ) (number : ℕ) (header : ProgramHeader) → memory_of_user memories user ≡ memory_after image number
     → header ≡ program_header image number → (header.kind ≡ 1 → ⊥) → memories ≡ with_memory memories user (memory_after image (number + 1))
 segment_other memories user image number header before e other =
-    sym (ap (with_memory memories user) (sym (before ∙ memory_after_other image number (subst (λ (h : ProgramHeader). h.kind ≡ 1 → ⊥) e other))) ∙ with_memory-own memories user)
+    sym (ap (with_memory memories user) (sym (before ∙ memory_after_other image number (subst (λ (h : ProgramHeader). h.kind ≡ 1 → ⊥) e other))) ∙ same_memory memories user)
 
 -- ---- all segments
 
 pub segments_none : (memories : List Memory) (user : ℕ) (image : List ℕ) → memory_of_user memories user ≡ blank_memory image all_pages → memories ≡ with_memory memories user (memory_after image 0)
-segments_none memories user image blank = sym (ap (with_memory memories user) (sym (blank ∙ memory_after_none image)) ∙ with_memory-own memories user)
+segments_none memories user image blank = sym (ap (with_memory memories user) (sym (blank ∙ memory_after_none image)) ∙ same_memory memories user)
 
 pub segments_all : (memories pool : List Memory) (user : ℕ) (image : List ℕ) (number : ℕ) → number ≡ header_count image → pool ≡ with_memory memories user (memory_after image number) → pool ≡ with_memory memories user (memory_of_image image)
 segments_all memories pool user image number all done = done ∙ ap (with_memory memories user) (memory_after_all image number all)
 
 pub replaced_thrice : (memories free blank new : List Memory) (user : ℕ) (m n k : Memory) → free ≡ with_memory memories user m → blank ≡ with_memory free user n → new ≡ with_memory blank user k → new ≡ with_memory memories user k
 replaced_thrice memories free blank new user m n k a b c =
-    c ∙ ap (λ (ms : List Memory). with_memory ms user k) b ∙ with_memory-twice free user n k ∙ ap (λ (ms : List Memory). with_memory ms user k) a ∙ with_memory-twice memories user m k
+    c ∙ ap (λ (ms : List Memory). with_memory ms user k) b ∙ later_memory free user n k ∙ ap (λ (ms : List Memory). with_memory ms user k) a ∙ later_memory memories user m k

@@ -1,34 +1,25 @@
 -- One user's memory replaced again and again
 use Rattle.std.proofs.Common.{◌≡◌, ℕ, ◌+◌, ◌-◌, ◌<◌, ◌≤◌, List, length, take, replicate, true, refl, sym, ◌∙◌, ap, arith}
-use Rattle.std.specs.FinMap.{empty}
-use Rattle.std.proofs.lemmas.List.{set-set, set-get_or, get_or-set_same, length-take-le, length-replicate}
+use Rattle.std.proofs.lemmas.List.{length-take-le, length-replicate}
 use Rattle.rv_model.specs.declared.memory.Access.TheVariants.{Monitor}
 use Rattle.rv_model.specs.memory.Memory.{Memory, can_access, put_bytes}
 use Rattle.user_mem.specs.Users.{memory_of_user, with_memory}
+use Rattle.user_mem.proofs.UserLaws.{later_memory, memory_there, same_memory}
 use Rattle.elf_load.proofs.SegmentLaws.{put_zeros_more, put_no_zeros, may_write_part}
-
-pub memory_of_user-with_memory : (memories : List Memory) (user : ℕ) (m : Memory) → user - 1 < length memories → memory_of_user (with_memory memories user m) user ≡ m
-memory_of_user-with_memory memories user m l = get_or-set_same memories (user - 1) m empty l
-
-pub with_memory-twice : (memories : List Memory) (user : ℕ) (m n : Memory) → with_memory (with_memory memories user m) user n ≡ with_memory memories user n
-with_memory-twice memories user m n = set-set memories (user - 1) m n
-
-pub with_memory-own : (memories : List Memory) (user : ℕ) → with_memory memories user (memory_of_user memories user) ≡ memories
-with_memory-own memories user = set-get_or memories (user - 1) empty
 
 -- the user's memory in a pool that is known
 pub memory_of_user-after : (memories pool : List Memory) (user : ℕ) (m : Memory) → user - 1 < length memories → pool ≡ with_memory memories user m → memory_of_user pool user ≡ m
-memory_of_user-after memories pool user m l e = ap (λ (ms : List Memory). memory_of_user ms user) e ∙ memory_of_user-with_memory memories user m l
+memory_of_user-after memories pool user m l e = ap (λ (ms : List Memory). memory_of_user ms user) e ∙ memory_there memories user m l
 
 -- a step from one memory of the user to the next
 pub with_memory-after : (memories pool new : List Memory) (user : ℕ) (m n k : Memory) → user - 1 < length memories → pool ≡ with_memory memories user m → new ≡ with_memory pool user n → n ≡ k → new ≡ with_memory memories user k
 with_memory-after memories pool new user m n k l before after same =
-    after ∙ ap (λ (ms : List Memory). with_memory ms user n) before ∙ with_memory-twice memories user m n ∙ ap (with_memory memories user) same
+    after ∙ ap (λ (ms : List Memory). with_memory ms user n) before ∙ later_memory memories user m n ∙ ap (with_memory memories user) same
 
 -- ---- zeros
 
 pub clear_none : (memories : List Memory) (user a : ℕ) → memories ≡ with_memory memories user (put_bytes (memory_of_user memories user) a (replicate 0 0))
-clear_none memories user a = sym (ap (with_memory memories user) (sym (put_no_zeros (memory_of_user memories user) a)) ∙ with_memory-own memories user)
+clear_none memories user a = sym (ap (with_memory memories user) (sym (put_no_zeros (memory_of_user memories user) a)) ∙ same_memory memories user)
 
 pub clear_more : (memories pool new : List Memory) (user a done size limit : ℕ) → user - 1 < length memories → size ≤ limit
     → pool ≡ with_memory memories user (put_bytes (memory_of_user memories user) a (replicate done 0))

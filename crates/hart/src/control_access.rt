@@ -7,7 +7,7 @@ ghost use Rattle.rv_model.specs.memory.Memory.{Memory};
 ghost use Rattle.rv_model.specs.step.ScalarStep.{csr_step};
 ghost use Rattle.rv_model.specs.step.Step.{touches_control};
 ghost use Rattle.rv_model.specs.vector.Control.{is_write};
-ghost use Rattle.hart.specs.Seats.{IsGivenBack};
+ghost use Rattle.rv_model.specs.vector.Seats.{IsGivenBack};
 ghost use Rattle.hart.specs.States.{Leads};
 
 use crate::control_registers::{is_write, read, write, written_value};

@@ -1,10 +1,12 @@
 //! The instruction cycle: fetch, decode, execute.
 ghost use Rattle.std.specs.Prelude.{◌≡◌, ◌≢◌, ◌≤◌, Ok, Err, if◌then◌else◌};
 ghost use Rattle.rv_model.specs.declared.memory.Access.TheVariants.{Fetch};
-ghost use Rattle.rv_model.specs.step.Hart.{hart_state};
+ghost use Rattle.rv_model.specs.step.GoesOn.{StepGoesOn};
+ghost use Rattle.rv_model.specs.step.Hart.{ends_after, hart_state};
 ghost use Rattle.rv_model.specs.instructions.Table.{scan, table};
 ghost use Rattle.rv_model.specs.memory.Memory.{can_access};
 ghost use Rattle.rv_model.specs.step.Step.{dirties, executed, step as step_spec, touches, word_at};
+ghost use Rattle.rv_model.specs.vector.Configuration.{IsConfiguration};
 ghost use Rattle.hart.specs.States.{fetched, LeadsTo, Marks};
 
 use crate::faults::{fault, illegal};
@@ -53,12 +55,17 @@ fn execute<M: UserBytes, V: Vectors>(
         (V.lent vectors.old) (V.lent vectors.new) }
     ensures ready { V.ready vectors.new }
     ensures uncut { GROUP_BYTES ≤ limit → result.0 ≢ StepEnd.Cut }
+
+    // What is cut is a vector instruction, which finds a length that its vector type allows.
+    ensures configuration { result.0 ≡ StepEnd.Cut
+        → IsConfiguration (V.lent vectors.old).state.conf }
 {
     let Some(instr) = decode(word) else {
         return (illegal(word, scalar), 1);
     };
     if is_touching(&instr) {
         let seat = vectors.seat();
+        seat.state.conf.length_law();
         execute_touching(&instr, word, scalar, memory, seat, limit, policy)
     } else {
         (execute_scalar(&instr, word, scalar, memory, output), 1)
@@ -85,6 +92,14 @@ pub fn step<M: UserBytes, V: Vectors>(
 
     // No vector has more elements, so nothing is cut.
     ensures uncut { GROUP_BYTES ≤ limit → result.0 ≢ StepEnd.Cut }
+
+    // If it is cut, it goes on from there, in a memory that may have grown.
+    ensures goes_on { StepGoesOn limit
+        (hart_state view.old.scalar.now (V.lent view.old.vectors.now).state
+        (M.memory view.old.memory.now) view.old.policy view.old.output.now.items)
+        (ends_after result.1 result.0
+        (hart_state view.new.scalar.now (V.lent view.new.vectors.now).state
+        (M.memory view.new.memory.now) view.new.policy view.new.output.now.items)) }
 
     // All else that the user's bytes and the lender hold stays.
     ensures memory { view.new.memory.now

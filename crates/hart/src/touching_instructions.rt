@@ -4,7 +4,7 @@ ghost use Rattle.rv_model.specs.step.Hart.{hart_state};
 ghost use Rattle.rv_model.specs.step.Step.{dirties, executed, touches, touches_control};
 ghost use Rattle.rv_model.specs.step.VectorStep.{is_vector};
 ghost use Rattle.rv_model.specs.vector.ControlRegisters.{control_register};
-ghost use Rattle.hart.specs.Seats.{IsGivenBack};
+ghost use Rattle.rv_model.specs.vector.Seats.{IsGivenBack};
 ghost use Rattle.hart.specs.States.{Leads, Marks};
 
 use crate::control_access::{ControlAccess, access_control};

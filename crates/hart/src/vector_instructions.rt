@@ -2,7 +2,7 @@
 ghost use Rattle.std.specs.Prelude.{◌≡◌, ◌≢◌, ◌≤◌, IsTrue};
 ghost use Rattle.rv_model.specs.step.Hart.{hart_state};
 ghost use Rattle.rv_model.specs.step.VectorStep.{access_cause, is_legal_end, is_vector, vector_executed, vector_step};
-ghost use Rattle.hart.specs.Seats.{IsGivenBack};
+ghost use Rattle.rv_model.specs.vector.Seats.{IsGivenBack};
 ghost use Rattle.hart.specs.States.{Leads, Marks};
 
 use crate::faults::{fault, illegal};

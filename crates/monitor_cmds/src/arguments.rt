@@ -34,7 +34,7 @@ fn number(low: usize, high: usize, word: &[u8]) -> Option<usize>
 }
 
 /// A decimal number from 1 to `MAX`.
-pub fn count<const MAX: usize>(word: &[u8]) -> Option<Count<MAX>>
+pub(crate) fn count<const MAX: usize>(word: &[u8]) -> Option<Count<MAX>>
     ensures { result ≡ number 1 MAX word.now }
 {
     let count = number(1, MAX, word)?;
@@ -42,7 +42,7 @@ pub fn count<const MAX: usize>(word: &[u8]) -> Option<Count<MAX>>
 }
 
 /// A user's number, 1 to `USER_COUNT`.
-pub fn user(word: &[u8]) -> Option<User>
+pub(crate) fn user(word: &[u8]) -> Option<User>
     ensures { result ≡ number 1 user_count word.now }
 {
     let number = number(1, USER_COUNT, word)?;
@@ -50,7 +50,7 @@ pub fn user(word: &[u8]) -> Option<User>
 }
 
 /// An address of 1 to 16 hexadecimal digits.
-pub fn address(word: &[u8]) -> Option<u64>
+pub(crate) fn address(word: &[u8]) -> Option<u64>
     ensures { result ≡ address word.now }
 {
     if word.is_empty() || word.len() > 16 {
@@ -65,7 +65,7 @@ pub fn address(word: &[u8]) -> Option<u64>
 }
 
 /// An address that is divisible by 4.
-pub fn instruction_address(word: &[u8]) -> Option<u64>
+pub(crate) fn instruction_address(word: &[u8]) -> Option<u64>
     ensures { result ≡ instruction_address word.now }
 {
     let addr = address(word)?;
@@ -73,7 +73,7 @@ pub fn instruction_address(word: &[u8]) -> Option<u64>
 }
 
 /// One of `x1` to `x31`.
-pub fn scalar_register(word: &[u8]) -> Option<Reg>
+pub(crate) fn scalar_register(word: &[u8]) -> Option<Reg>
     ensures { result ≡ scalar_register word.now }
 {
     let [b'x', digits @ ..] = word else {
@@ -84,7 +84,7 @@ pub fn scalar_register(word: &[u8]) -> Option<Reg>
 }
 
 /// One of `v0` to `v31`.
-pub fn vector_register(word: &[u8]) -> Option<VReg>
+pub(crate) fn vector_register(word: &[u8]) -> Option<VReg>
     ensures { result ≡ vector_register word.now }
 {
     let [b'v', digits @ ..] = word else {
@@ -95,7 +95,7 @@ pub fn vector_register(word: &[u8]) -> Option<VReg>
 }
 
 /// The width of an element in bits: `8`, `16`, `32` or `64`.
-pub fn element_width(word: &[u8]) -> Option<Sew>
+pub(crate) fn element_width(word: &[u8]) -> Option<Sew>
     ensures { result ≡ element_width word.now }
 {
     if word == b"8".as_slice() {
@@ -125,7 +125,7 @@ fn allowing(read: bool, write: bool, execute: bool) -> Option<Permissions>
 }
 
 /// One of `r`, `w`, `x`, `rw`, `rx`, `wx`, `rwx`.
-pub fn permissions(word: &[u8]) -> Option<Permissions>
+pub(crate) fn permissions(word: &[u8]) -> Option<Permissions>
     ensures { result ≡ permissions word.now }
 {
     if word == b"r".as_slice() {

@@ -40,7 +40,7 @@ fn after_word(line: &[u8]) -> &[u8]
 
 /// What follows the first two words of a line, without the spaces (byte 20) around it.
 #[tactic(auto, unfolding(rv_model::specs::text::Words::after_two_words))]
-pub fn after_two_words(line: &[u8]) -> &[u8]
+pub(crate) fn after_two_words(line: &[u8]) -> &[u8]
     ensures { result.now ≡ after_two_words line.now }
 {
     trim_end(trim_start(after_word(after_word(line))))

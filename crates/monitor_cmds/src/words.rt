@@ -7,7 +7,7 @@ use std::marker::Model;
 
 /// The words of a line that are still to be read. Words stand between spaces (byte 20).
 #[derive(Drop)]
-pub struct Words<'a> {
+pub(crate) struct Words<'a> {
     rest: &'a [u8],
 }
 
@@ -22,14 +22,14 @@ impl<'a> Model for Words<'a> {
 
 impl<'a> Words<'a> {
     /// All words of a line.
-    pub fn new(line: &'a [u8]) -> Words<'a>
+    pub(crate) fn new(line: &'a [u8]) -> Words<'a>
         ensures { result ≡ words line.now }
     {
         Words { rest: line }
     }
 
     /// The next word, if one is left.
-    pub fn next_word(&mut self) -> Option<&'a [u8]>
+    pub(crate) fn next_word(&mut self) -> Option<&'a [u8]>
         ensures { MatchOption result (self.old ≡ []) (λ word. self.old ≡ word.now ∷ self.new) }
     {
         let (word, rest) = first_word(self.rest)?;
@@ -38,7 +38,7 @@ impl<'a> Words<'a> {
     }
 
     /// The words that are left, as they stand in the line.
-    pub fn rest(&self) -> &'a [u8]
+    pub(crate) fn rest(&self) -> &'a [u8]
         ensures { words result.now ≡ self.now }
     {
         self.rest
@@ -46,7 +46,7 @@ impl<'a> Words<'a> {
 }
 
 /// The command, if no word is left.
-pub fn done<C: Drop>(mut words: Words<'_>, command: C) -> Option<C>
+pub(crate) fn done<C: Drop>(mut words: Words<'_>, command: C) -> Option<C>
     ensures { result ≡ done command words.entry }
 {
     match words.next_word() {

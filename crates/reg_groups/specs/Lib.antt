@@ -1,2 +1,1 @@
-pub mod Accesses
 pub mod GroupLending

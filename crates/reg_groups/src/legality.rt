@@ -1,10 +1,10 @@
 //! Which vector instructions are legal.
 ghost use Rattle.std.specs.Prelude.{◌≡◌, ◌↔◌, ◌+◌, ◌≤◌, IsTrue, Some, None, is_none, true};
+ghost use Rattle.rv_model.specs.instructions.Accesses.{is_typed_access};
 ghost use Rattle.rv_model.specs.legality.OperandShapes.{extension_divisor};
 ghost use Rattle.rv_model.specs.legality.Legality.{IsLegal, access_operands, compress_operands, data_role, extension_operands, has_legal, has_wide_product, indexed_operands, indexed_role, is_below_64, is_fractional_product, is_legal, is_narrow, is_narrow_only, is_reduction, mask_logic_operands, mask_result, move_operands, operands, register_count, starts_at_zero, unit_role, whole_move_operands};
 ghost use Rattle.rv_model.specs.legality.RegisterOperands.{are_legal};
 ghost use Rattle.rv_model.specs.vector.Configuration.{element_width, sew_bits};
-ghost use Rattle.reg_groups.specs.Accesses.{is_typed_access};
 
 use crate::agreement::are_legal;
 use crate::operands::{group, mask, segment, v0, whole};

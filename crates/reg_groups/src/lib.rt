@@ -11,3 +11,4 @@ mod shapes;
 pub use copies::{group_copy, mask_register, register_copy};
 pub use groups::{group, group_mut, registers};
 pub use legality::{extension_divisor, legal, register_count};
+pub use operands::emul;

@@ -1,19 +1,26 @@
 //! The register operands of an instruction ("V" Vector Extension 1.0, section 5.2).
 ghost use Rattle.std.specs.Prelude.{◌≡◌};
-ghost use Rattle.rv_model.specs.legality.OperandShapes.{group, mask, segment, v0, whole};
+ghost use Rattle.rv_model.specs.legality.OperandShapes.{emul, group, mask, segment, v0, whole};
 
 use rv_model::{Content, Operand, Role, VReg, VType};
+
+/// The multiplier, in eighths of a register, of groups with elements of so many bits, as many as the vector
+/// type has.
+pub fn emul(bits: u16, vtype: VType) -> u32
+    ensures { result ≡ emul bits vtype }
+{
+    u32::from(bits) * u32::from(vtype.lmul.eighths()) / u32::from(vtype.sew.bits())
+}
 
 /// The fields of a segment, each with elements of so many bits, as many as the vector type has.
 pub(crate) fn segment(role: Role, fields: u8, first: VReg, bits: u16, vtype: VType) -> Operand
     ensures { result ≡ segment role fields first bits vtype }
 {
-    let emul = u32::from(bits) * u32::from(vtype.lmul.eighths()) / u32::from(vtype.sew.bits());
     Operand {
         role,
         first,
         content: Content::Elements(bits),
-        emul,
+        emul: emul(bits, vtype),
         fields,
     }
 }

@@ -9,7 +9,6 @@ use Rattle.rv_model.specs.assembler.Tokens.{in_run}
 use Rattle.rv_model.specs.assembler.Numbers.{digits_in, number, register, hex_digit, hex_digits}
 use Rattle.rv_model.specs.text.Digits.{digit, digits_after}
 use Rattle.rv_asm.proofs.Tokens.{all_run}
-use Rattle.rv_asm.proofs.Tokens.{both_hold}
 
 abbrev pub is_dec : ℕ → Bool
 is_dec c = leb 48 c && leb c 57
@@ -89,7 +88,7 @@ run_dec c h = or_right _ _ (or_left _ _ h)
 
 pub all_run_dec : (ds : List ℕ) → all_dec ds ≡ true → all_run ds ≡ true
 all_run_dec [] h = refl
-all_run_dec (c ∷ cs) h = let p = and_parts (is_dec c) (all_dec cs) h in cond-true (in_run c) (all_run cs) false (run_dec c p.0) ∙ all_run_dec cs p.1
+all_run_dec (c ∷ cs) h = let p = and_parts (is_dec c) (all_dec cs) h in and_from (in_run c) (all_run cs) (run_dec c p.0) (all_run_dec cs p.1)
 
 -- ---- registers
 
@@ -122,8 +121,8 @@ hex_digit_run : (d : ℕ) → d < 16 → in_run (hex_digit d) ≡ true
 hex_digit_run d lt = agree_below_at (λ (k : ℕ). in_run (hex_digit k)) (λ _. true) 16 d refl lt
 
 all_run_push : (xs : List ℕ) (c : ℕ) → all_run xs ≡ true → in_run c ≡ true → all_run (xs ++ c ∷ []) ≡ true
-all_run_push [] c h d = cond-true (in_run c) true false d
-all_run_push (x ∷ xs) c h d = let p = both_hold (in_run x) (all_run xs) h in cond-true (in_run x) (all_run (xs ++ c ∷ [])) false p.0 ∙ all_run_push xs c p.1 d
+all_run_push [] c h d = and_from (in_run c) true d refl
+all_run_push (x ∷ xs) c h d = let p = and_parts (in_run x) (all_run xs) h in and_from (in_run x) (all_run (xs ++ c ∷ [])) p.0 (all_run_push xs c p.1 d)
 
 pub hex_run : (k n : ℕ) → all_run (hex_digits k n) ≡ true
 unfolding hex_digits

@@ -3,7 +3,7 @@ use Rattle.std.proofs.Common.{◌≡◌, ℕ, zero, suc, ◌+◌, ◌-◌, ◌*�
 use Rattle.std.specs.Prelude.{codes}
 use Rattle.std.specs.Fmt.{decimal}
 use Rattle.std.specs.Str.{bytes_eq}
-use Rattle.std.proofs.lemmas.Bool.{le-leb, lt-ltb, le-ltb, eq-eqb, ne_eqb, cond-true, cond-false, cases_lt}
+use Rattle.std.proofs.lemmas.Bool.{and_from, and_parts, le-leb, lt-ltb, le-ltb, eq-eqb, ne_eqb, cond-true, cond-false, cases_lt}
 use Rattle.std.proofs.lemmas.List.{length-append}
 use Rattle.rv_model.specs.assembler.Tokens.{Token, in_run, runs_on, tokens}
 use Rattle.rv_model.specs.assembler.Numbers.{literal, register, number, at_most, in_steps, negated, hex_digits, vlmul, vta, vma, csr, csr_text}
@@ -18,14 +18,14 @@ use Rattle.rv_model.specs.instructions.BitFields.{flag_bit}
 use Rattle.rv_model.specs.vector.TypeNames.{lmul_name, mask_name, sew_name, tail_name}
 use Rattle.rv_model.specs.vector.TypeRules.{lmul_number, lmul_with_number, sew_number, sew_with_number}
 use Rattle.rv_model.proofs.assembler_lemmas.Operands.{limit_small}
-use Rattle.rv_asm.proofs.Tokens.{both_hold, all_run, run_first}
+use Rattle.rv_asm.proofs.Tokens.{all_run, run_first}
 use Rattle.rv_asm.proofs.NumberLaws.{is_decimal, number_again, all_run_dec, register_again, not_minus, hex_run, hex_again}
 use Rattle.rv_asm.proofs.NameLaws.{Means, csr_again, vsew_again, vlmul_again, vta_again, vma_again, sew_number_again, lmul_number_again, vsew_digits}
 
 -- a run of bytes is one token
 pub run_is_one_token : (p : ℕ) (ds more : List ℕ) → all_run ds ≡ true → 0 < length ds → runs_on more ≡ false → tokens p (ds ++ more) ≡ record { column = p; text = ds } ∷ tokens (p + length ds) more
 run_is_one_token p [] more h some m = absurd (omega arith)
-run_is_one_token p (c ∷ cs) more h some m = let k = both_hold (in_run c) (all_run cs) h in run_first p c cs more k.0 k.1 m
+run_is_one_token p (c ∷ cs) more h some m = let k = and_parts (in_run c) (all_run cs) h in run_first p c cs more k.0 k.1 m
 
 -- what may stand behind a slot's text
 abbrev pub Follows : Slot → List ℕ → Type 0
@@ -241,7 +241,7 @@ number_means largest v le small =
 register_means : (l v : ℕ) → in_run l ≡ true → v < 32 → Means (register l) (l ∷ decimal v) v
 register_means l v run lt =
     let d = is_decimal v (omega arith) in
-    record { run = cond-true (in_run l) (all_run (decimal v)) false run ∙ all_run_dec (decimal v) d.digits; some = omega arith; value = register_again l v lt }
+    record { run = and_from (in_run l) (all_run (decimal v)) run (all_run_dec (decimal v) d.digits); some = omega arith; value = register_again l v lt }
 
 word_means : (v : ℕ) → v < 2 ^ 32 → Means (λ t. at_most (2 ^ 32 - 1) (number t)) (48 ∷ 120 ∷ hex_digits 8 v) v
 unfolding hex_digits

@@ -1,6 +1,6 @@
 -- What the tokens of a text are, from the left.
 use Rattle.std.proofs.Common.{◌≡◌, ◌≢◌, ℕ, zero, suc, ◌+◌, ◌-◌, ◌<◌, ◌≤◌, Bool, true, false, cond, eqb, ◌&&◌, List, [], ◌∷◌, ◌++◌, length, get_or, take, drop, refl, sym, ap, subst, ◌∙◌, arith, inl, inr}
-use Rattle.std.proofs.lemmas.Bool.{ne_eqb, false≢true, and_right, and_left, cond-true, cases_lt}
+use Rattle.std.proofs.lemmas.Bool.{and_from, and_parts, ne_eqb, false≢true, and_right, and_left, cases_lt}
 use Rattle.std.proofs.lemmas.List.{drop_more, at_drop_more, at_drop_all, take-append-drop, drop-drop, length-take, length-drop}
 use Rattle.rv_model.specs.assembler.Tokens.{in_run, runs_on, joined, tokens}
 use Rattle.rv_asm.specs.Places.{rest}
@@ -14,15 +14,7 @@ space_skipped text at lt e =
 -- each byte makes runs
 abbrev pub all_run : List ℕ → Bool
 all_run [] = true
-all_run (c ∷ cs) = cond (in_run c) (all_run cs) false
-
--- both parts of a conjunction
-pub both_hold : (b d : Bool) → cond b d false ≡ true → (b ≡ true) × (d ≡ true)
-both_hold true d h = (refl, h)
-both_hold false d h = absurd cc
-
-all_run_parts : (c : ℕ) (cs : List ℕ) → all_run (c ∷ cs) ≡ true → (in_run c ≡ true) × (all_run cs ≡ true)
-all_run_parts c cs h = both_hold (in_run c) (all_run cs) h
+all_run (c ∷ cs) = in_run c && all_run cs
 
 space_not_run : (c : ℕ) → in_run c ≡ true → eqb c 32 ≡ false
 space_not_run c h = ne_eqb c 32 (λ e. let P : ℕ → Type 0 = λ x. in_run x ≡ true in false≢true (subst P e h))
@@ -46,7 +38,7 @@ pub run_first : (p c : ℕ) (run more : List ℕ) → in_run c ≡ true → all_
 unfolding tokens
 run_first p c [] more hc hr hm = single_byte_is_token p c more (space_not_run c hc) (and_right (in_run c) (runs_on more) hm)
 run_first p c (d ∷ run) more hc hr hm =
-    let parts = all_run_parts d run hr in
+    let parts = and_parts (in_run d) (all_run run) hr in
     let ts = tokens (p + 1) ((d ∷ run) ++ more) in
     let ind : ts ≡ record { column = p + 1; text = d ∷ run } ∷ tokens (p + 1 + length (d ∷ run)) more = run_first (p + 1) d run more parts.0 parts.1 hm in
     let here : tokens p ((c ∷ d ∷ run) ++ more) ≡ joined p c ts = pick_middle (eqb c 32) (in_run c) (in_run d) ts (joined p c ts) (record { column = p; text = c ∷ [] } ∷ ts) (space_not_run c hc) hc parts.0 in
@@ -61,7 +53,7 @@ all_run_from text (suc n) i h f =
     let lt : i < length text = omega arith in
     let first : in_run (get_or text i 0) ≡ true = f i (omega arith) (omega arith) in
     let others : all_run (take n (drop (i + 1) text)) ≡ true = all_run_from text n (i + 1) (omega arith) (λ k a b. f k (omega arith) (omega arith)) in
-    at_drop_more (λ (cs : List ℕ). all_run (take (suc n) cs)) text i 0 lt ∙ cond-true (in_run (get_or text i 0)) (all_run (take n (drop (i + 1) text))) false first ∙ others
+    at_drop_more (λ (cs : List ℕ). all_run (take (suc n) cs)) text i 0 lt ∙ and_from (in_run (get_or text i 0)) (all_run (take n (drop (i + 1) text))) first others
 
 runs_on_at : (text : List ℕ) (i : ℕ) → (i < length text → in_run (get_or text i 0) ≡ false) → runs_on (drop i text) ≡ false
 runs_on_at text i h =

@@ -1,21 +1,12 @@
 //! Where a slot's operand stands in the word.
 ghost use Rattle.std.specs.Prelude.{◌≡◌, ◌≤◌, ◌<◌, ◌^◌, ◌+◌, ◌*◌, ◌%◌};
-ghost use Rattle.rv_model.specs.instructions.BitFields.{field};
 ghost use Rattle.rv_model.specs.assembler.Slots.{room};
 ghost use Rattle.rv_model.specs.assembler.Fields.{lowest, placed, value_of};
 ghost use Rattle.rv_model.specs.instructions.Immediates.{store_immediate, branch_offset, jump_offset};
 ghost use Rattle.rv_asm.specs.Spans.{span};
 
 use rv_model::assembler::forms::{Place, SignedField, Slot, UnsignedField};
-
-/// The `len` bits of a word from bit `low` up.
-fn field(low: u32, len: u32, word: u32) -> u32
-    requires { low < 32 × len < 32 }
-    ensures value { result ≡ field low len word }
-    ensures small { result < 2 ^ len }
-{
-    (word >> low) % (1 << len)
-}
+use rv_model::instructions::bits;
 
 /// A value that begins at bit `low`.
 fn shifted(low: u32, value: u32) -> u32
@@ -131,10 +122,10 @@ fn unsigned_value(unsigned: UnsignedField, word: u32) -> u32
     ensures small { result < room (Slot.Unsigned unsigned) }
 {
     match unsigned {
-        UnsignedField::Immediate => field(15, 5, word),
-        UnsignedField::Shift => field(20, 6, word),
-        UnsignedField::ShiftWord => field(20, 5, word),
-        UnsignedField::Upper => field(12, 20, word),
+        UnsignedField::Immediate => bits(word, 15, 5),
+        UnsignedField::Shift => bits(word, 20, 6),
+        UnsignedField::ShiftWord => bits(word, 20, 5),
+        UnsignedField::Upper => bits(word, 12, 20),
     }
 }
 
@@ -143,7 +134,7 @@ fn store_immediate(word: u32) -> u32
     ensures value { result ≡ store_immediate word }
     ensures small { result < 2 ^ 12 }
 {
-    field(7, 5, word) + field(25, 7, word) * 32
+    bits(word, 7, 5) + bits(word, 25, 7) * 32
 }
 
 /// The 12 bits of the distance of a branch, in steps of two bytes.
@@ -151,10 +142,7 @@ fn branch_offset(word: u32) -> u32
     ensures value { result ≡ branch_offset word }
     ensures small { result < 2 ^ 12 }
 {
-    field(8, 4, word)
-        + field(25, 6, word) * 16
-        + field(7, 1, word) * 1024
-        + field(31, 1, word) * 2048
+    bits(word, 8, 4) + bits(word, 25, 6) * 16 + bits(word, 7, 1) * 1024 + bits(word, 31, 1) * 2048
 }
 
 /// The 20 bits of the distance of a jump, in steps of two bytes.
@@ -162,10 +150,10 @@ fn jump_offset(word: u32) -> u32
     ensures value { result ≡ jump_offset word }
     ensures small { result < 2 ^ 20 }
 {
-    field(21, 10, word)
-        + field(20, 1, word) * 1024
-        + field(12, 8, word) * 2048
-        + field(31, 1, word) * 0x8_0000
+    bits(word, 21, 10)
+        + bits(word, 20, 1) * 1024
+        + bits(word, 12, 8) * 2048
+        + bits(word, 31, 1) * 0x8_0000
 }
 
 /// The two's complement bits of the signed number that a word holds.
@@ -174,8 +162,8 @@ fn signed_value(signed: SignedField, word: u32) -> u32
     ensures small { result < room (Slot.Signed signed) }
 {
     match signed {
-        SignedField::Vector => field(15, 5, word),
-        SignedField::Immediate => field(20, 12, word),
+        SignedField::Vector => bits(word, 15, 5),
+        SignedField::Immediate => bits(word, 20, 12),
         SignedField::Store => store_immediate(word),
         SignedField::Branch => branch_offset(word),
         SignedField::Jump => jump_offset(word),
@@ -189,14 +177,14 @@ pub(crate) fn value_of(slot: &Slot, word: u32) -> u32
 {
     match slot {
         Slot::Comma | Slot::Open | Slot::Close | Slot::V0 => 0,
-        Slot::Scalar(place) => field(lowest(*place), 5, word),
-        Slot::Vector(place) => field(lowest(*place), 5, word),
+        Slot::Scalar(place) => bits(word, lowest(*place), 5),
+        Slot::Vector(place) => bits(word, lowest(*place), 5),
         Slot::Unsigned(unsigned) => unsigned_value(*unsigned, word),
         Slot::Signed(signed) => signed_value(*signed, word),
-        Slot::Csr => field(20, 12, word),
-        Slot::VectorType => field(20, 11, word),
-        Slot::ShortVectorType => field(20, 10, word),
-        Slot::Mask => field(25, 1, word),
+        Slot::Csr => bits(word, 20, 12),
+        Slot::VectorType => bits(word, 20, 11),
+        Slot::ShortVectorType => bits(word, 20, 10),
+        Slot::Mask => bits(word, 25, 1),
         Slot::Word => word,
     }
 }

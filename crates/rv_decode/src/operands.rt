@@ -1,9 +1,10 @@
 //! The operands of instructions, each at its place in a word.
 ghost use Rattle.std.specs.Prelude.{◌≡◌, ◌<◌, ◌*◌, ◌+◌, ◌/◌, ◌%◌, ◌^◌, true};
 ghost use Rattle.rv_model.specs.instructions.BitFields.{AllFit, flag_bit, sum_of};
+ghost use Rattle.rv_model.specs.instructions.Accesses.{is_access};
 ghost use Rattle.rv_model.specs.instructions.Sources.{number};
 ghost use Rattle.rv_model.specs.instructions.Layout.{parts};
-ghost use Rattle.rv_decode.specs.Opcodes.{is_access, is_operation};
+ghost use Rattle.rv_decode.specs.Opcodes.{is_operation};
 
 use rv_model::{Field, Instr, Reg, Source, VReg};
 

@@ -8,7 +8,8 @@ use crate::scalar_operations::{
     branch_op, csr_immediate_op, csr_op, immediate_op, load_op, register_op, shift_immediate_op,
     shift_immediate_word_op, store_op, system_op, upper_op,
 };
-use crate::word_fields::{bits, branch_offset, jump_offset, reg, store_immediate};
+use crate::word_fields::{branch_offset, jump_offset, reg, store_immediate};
+use rv_model::instructions::bits;
 use rv_model::{Field, Instr};
 
 /// LUI and AUIPC.

@@ -8,7 +8,8 @@ ghost use Rattle.rv_model.specs.instructions.Table.{scan, rows, SetVlis, SetIvli
 use crate::vector_operations::{
     carry_op, extend_op, mask_logic_op, mask_to_scalar_op, mask_unary_op, opi, opm, whole_move_op,
 };
-use crate::word_fields::{bits, is_unmasked, reg, source, vreg};
+use crate::word_fields::{is_unmasked, reg, source, vreg};
+use rv_model::instructions::bits;
 use rv_model::instructions::operations::{Form, Major};
 use rv_model::{Arith, Carry, Field, Instr};
 

@@ -6,7 +6,8 @@ use crate::memory_operations::{
     indexed_access, mask_memory_direction, strided_access, unit_access, whole_load_access,
     whole_store_count,
 };
-use crate::word_fields::{bits, is_unmasked, reg, vreg};
+use crate::word_fields::{is_unmasked, reg, vreg};
+use rv_model::instructions::bits;
 use rv_model::{Field, Instr};
 
 /// Unit stride.

@@ -4,17 +4,9 @@ ghost use Rattle.rv_model.specs.instructions.BitFields.{field, flag};
 ghost use Rattle.rv_model.specs.instructions.Immediates.{store_immediate, branch_offset, jump_offset};
 ghost use Rattle.rv_model.specs.instructions.Sources.{source_of};
 
+use rv_model::instructions::bits;
 use rv_model::instructions::operations::Form;
 use rv_model::{Field, Reg, Source, VReg};
-
-/// Bits `low` to `low + len - 1` of a word.
-pub(crate) fn bits(word: u32, low: u32, len: u32) -> u32
-    requires { low + len ≤ 32 × len < 32 × 0 < len }
-    ensures value { result ≡ field low len word }
-    ensures small { result < 2 ^ len }
-{
-    (word >> low) % (1 << len)
-}
 
 /// The scalar register at bit `low`.
 pub(crate) fn reg(word: u32, low: u32) -> Reg

@@ -1,4 +1,5 @@
 -- Laws of one instruction, where a vector load or store is cut, the ticks that it takes, and that it can be run again.
+pub mod Configurations
 pub mod Cuts
 pub mod Effects
 pub mod FetchesResume

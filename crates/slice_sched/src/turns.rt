@@ -6,7 +6,7 @@ ghost use Rattle.rv_model.specs.machine.Users.{user_count};
 use rv_model::{USER_COUNT, User};
 
 /// The user whose turn it is a number of turns after the first one that follows that of `last`.
-#[tactic(auto, using(crate::proofs::TurnLaws::turn_at))]
+#[tactic(auto, using(rv_model::proofs::machine_lemmas::Turns::turn_at))]
 fn turn(last: User, turns: usize) -> User
     requires { turns < user_count }
     ensures { result ≡ slice_index_or (turns_after last) turns 0 }

@@ -1,12 +1,12 @@
 -- What the program reads of clap's matches.
-use Rattle.std.proofs.Common.{◌≡◌, ◌∙◌, ◌<◌, ◌≤◌, ◌&&◌, ap, subst, sym, refl, ℕ, Bool, true, false, List, [], ◌∷◌, length, map, Option, Some, None, Result, Ok, inl, inr, arith, zero, suc, pos, codes, true≢false, is_some}
-use Rattle.std.specs.Prelude.{unwrap_or, option_map, slice_get, option_and_then}
-use Rattle.std.specs.List.{All, slice_index_or, list_all}
+use Rattle.std.proofs.Common.{◌≡◌, ◌∙◌, ◌<◌, ◌≤◌, ap, subst, sym, refl, ℕ, true, false, List, [], ◌∷◌, length, map, Option, Some, None, Result, Ok, inl, inr, arith, zero, suc, pos, codes, true≢false, is_some}
+use Rattle.std.specs.Prelude.{unwrap_or, option_map, slice_get}
+use Rattle.std.specs.List.{All, slice_index_or}
 use Rattle.std.specs.Str.{bytes_eq}
 use Rattle.std.specs.Borrow.{Bor}
 use Rattle.std.specs.Str.Parse.{ParsesUnsigned, digits_value, without_leading_plus}
 use Rattle.std.proofs.lemmas.Slice.Eq.{bytes_eq-Decides}
-use Rattle.std.proofs.lemmas.Bool.{ne_eqb}
+use Rattle.std.proofs.lemmas.Bool.{and_parts, ne_eqb, not-true}
 use Rattle.std.proofs.lemmas.List.{get_or-map, length-map}
 use Rattle.std.proofs.lemmas.List.Elements.{All-get_or}
 use Rattle.clap.specs.Words.{App, IsParsedFrom, IsPlain, IsPlainArg, Rule, Text, app_of, args_of, found_of, groups_of, is_simple, matched_of, one_text, reading_of, read_as, rule_of, without_minus, Accepts, HasMatchesOf, IsSignedIn, all_of, first_of, first_value, matches_of, one_of, raw_values, rows_of}
@@ -33,26 +33,18 @@ use Rattle.vec_monitor.specs.CommandLine.{command_line, image_rule, quantum_rule
 
 -- ---- the command as it was built up
 
-both : (a b : Bool) → (a && b) ≡ true → (a ≡ true) × (b ≡ true)
-both true b e = (refl, e)
-both false b e = cc
-
 none_in : {X : Type 0} (xs : List X) → is_empty xs ≡ true → xs ≡ []
 none_in [] e = refl
 none_in (x ∷ xs) e = absurd (true≢false (sym e ∙ ne_eqb _ _ (λ z. omega arith)))
 
-not_true : (b : Bool) → Rattle.std.specs.Prelude.not b ≡ true → b ≡ false
-not_true true e = cc
-not_true false e = refl
-
 pub plain_by_rule : (a : Arg) → is_simple_arg a ≡ true → is_free_arg a ≡ true → IsPlainArg a
 plain_by_rule a simple free =
-    let overrides = both _ _ simple in
-    let defaults = both _ _ overrides.1 in
-    let groups = both _ _ defaults.1 in
-    let exclusive = both _ _ free in
-    let conflicts = both _ _ exclusive.1 in
-    (not_true _ exclusive.0, none_in _ conflicts.0, none_in _ overrides.0, none_in _ groups.0)
+    let overrides = and_parts _ _ simple in
+    let defaults = and_parts _ _ overrides.1 in
+    let groups = and_parts _ _ defaults.1 in
+    let exclusive = and_parts _ _ free in
+    let conflicts = and_parts _ _ exclusive.1 in
+    (not-true _ exclusive.0, none_in _ conflicts.0, none_in _ overrides.0, none_in _ groups.0)
 
 rules_are : (c : Command) → app_of c ≡ command_line → map rule_of (args_of c) ≡ quantum_rule ∷ script_rule ∷ image_rule ∷ []
 rules_are c is = ap (λ (a : App). a.top.rules) is
@@ -84,13 +76,13 @@ plain c is =
       λ k d lt. plain_by_rule (slice_index_or (args_of c) k d)
           (ap (λ (r : Rule). r.is_simple) (rule_at c is k d lt) ∙ simple_at k)
           (ap (λ (r : Rule). r.is_free) (rule_at c is k d lt) ∙ free_at k),
-      none_in _ (both _ _ settings).0,
+      none_in _ (and_parts _ _ settings).0,
     )
 
 pub local : (c : Command) → app_of c ≡ command_line → (out-Command c).has_globals ≡ false
 local c is =
     let settings : has_plain_fields (out-Command c) ≡ true = ap (λ (a : App). a.top.is_plain) is in
-    not_true _ (both _ _ (both _ _ (both _ _ settings).1).1).0
+    not-true _ (and_parts _ _ (and_parts _ _ (and_parts _ _ settings).1).1).0
 
 -- no other argument has the id of the first
 alone_at : (j : ℕ) → (slice_index_or (quantum_rule ∷ script_rule ∷ image_rule ∷ []) j quantum_rule).id ≡ codes "quantum" → j < 3 → j ≡ 0

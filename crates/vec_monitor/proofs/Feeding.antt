@@ -2,12 +2,11 @@
 use Rattle.std.proofs.Common.{◌≡◌, ℕ, ◌+◌, ◌<◌, inl, inr, List, [], ◌∷◌, ◌++◌, length, take, Bool, true, false, refl, ap, ◌∙◌, sym, append_assoc, arith, eqb, cond, get_or, drop, drop-cons, add-one, subst, Result, Ok, Err}
 use Rattle.std.specs.Prelude.{nat_lt, not}
 use Rattle.std.specs.Result.{OnErr}
-use Rattle.std.proofs.lemmas.Bool.{cases_lt, lt-ltb}
+use Rattle.std.proofs.lemmas.Bool.{cases_lt, lt-ltb, and_parts, and_from}
 use Rattle.std.proofs.lemmas.List.{take_all, take-take, take_more, take-append-drop, length-take-le, take-append-le}
 use Rattle.rv_model.specs.machine.Setup.{Setup}
 use Rattle.rv_model.specs.text.Lines.{is_newline, text, is_line, IsLine}
 use Rattle.rv_model.specs.machine.Script.{World, Kind, kind_of, prefixed, Long, events_of, common, after_events, told_by, after, told, after_all, told_all}
-use Rattle.rv_model.proofs.text_lemmas.Lines.{both, both_of}
 use Rattle.vec_monitor.specs.MachineState.{MachineState, after_line, line_output}
 use Rattle.vec_monitor.specs.Feed.{Fed, longer, feed, fed}
 
@@ -53,8 +52,8 @@ longer_clipped a b = elim (cases_lt (length a) 1025) [
 pub is_line_push : (a : List ℕ) (b : ℕ) → IsLine a → is_newline b ≡ false → IsLine (a ++ b ∷ [])
 is_line_push [] b h other = rw other refl
 is_line_push (c ∷ a) b h other =
-    let two = both (not (is_newline c)) (is_line a) h in
-    both_of (not (is_newline c)) (is_line (a ++ b ∷ [])) two.0 (is_line_push a b two.1 other)
+    let two = and_parts (not (is_newline c)) (is_line a) h in
+    and_from (not (is_newline c)) (is_line (a ++ b ∷ [])) two.0 (is_line_push a b two.1 other)
 
 -- the machine after all lines, and what they print
 abbrev pub after_lines : MachineState → List (List ℕ) → MachineState

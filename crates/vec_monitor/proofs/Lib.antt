@@ -1,5 +1,6 @@
 pub mod AddressLaws
 pub mod CommandLineLaws
+pub mod CutLaws
 pub mod DeviceLaws
 pub mod EndedLaws
 pub mod Feeding

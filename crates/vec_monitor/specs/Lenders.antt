@@ -1,28 +1,16 @@
 -- Laws of the memories of all users that the lender of one user's bytes keeps.
-use Rattle.std.specs.Prelude.{ℕ, suc, ◌+◌, ◌-◌, ◌≡◌, ◌<◌, Bool, true, false, ◌&&◌, List, [], ◌∷◌, length, Option}
+use Rattle.std.specs.Prelude.{ℕ, suc, ◌+◌, ◌-◌, ◌≡◌, Bool, true, false, ◌&&◌, List, [], ◌∷◌, length, Option}
 use Rattle.std.specs.FinMap.{empty, get-empty}
 use Rattle.std.specs.List.{list_all, range_with_len}
 use Rattle.std.specs.Option.{option_map_or}
 use Rattle.std.specs.Ordering.{nat_cmp}
-use Rattle.std.proofs.Common.{◌∙◌, sym, ap, get_or-set_same, inl, inr}
+use Rattle.std.proofs.Common.{◌∙◌, sym, ap, inl, inr}
 use Rattle.std.proofs.Math.ListN.{get_or-eq_default}
 use Rattle.std.proofs.lemmas.Bool.{cases_lt}
-use Rattle.std.proofs.lemmas.List.{set-set, set-get_or}
 use Rattle.rv_model.specs.declared.memory.Access.{Access}
 use Rattle.rv_model.specs.memory.Memory.{Memory, Cell, permits, is_allowed, can_access, put_bytes}
 use Rattle.user_mem.specs.Users.{memory_of_user, with_memory}
-
--- a user's memory put back changes nothing
-pub same_memory : (memories : List Memory) (user : ℕ) → with_memory memories user (memory_of_user memories user) ≡ memories
-same_memory memories user = set-get_or memories (user - 1) empty
-
--- of two memories put there, the later one stays
-pub later_memory : (memories : List Memory) (user : ℕ) (one two : Memory) → with_memory (with_memory memories user one) user two ≡ with_memory memories user two
-later_memory memories user one two = set-set memories (user - 1) one two
-
--- a user's memory that was put there is there
-pub memory_there : (memories : List Memory) (user : ℕ) (memory : Memory) → user - 1 < length memories → memory_of_user (with_memory memories user memory) user ≡ memory
-memory_there memories user memory within = get_or-set_same memories (user - 1) memory empty within
+pub use Rattle.user_mem.proofs.UserLaws.{later_memory, memory_there, same_memory}
 
 nothing_allowed : (access : Access) (addr : ℕ) → is_allowed access empty addr ≡ false
 unfolding is_allowed

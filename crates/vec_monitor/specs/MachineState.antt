@@ -1,7 +1,11 @@
--- What a machine stands for: its fixed parameters, and the world of the eight private machines.
-use Rattle.std.specs.Prelude.{ℕ, List}
+-- What a machine stands for: its fixed parameters, and the world of the eight private machines; what a line makes of it; and what
+-- a slice comes to with the next one.
+use Rattle.std.specs.Prelude.{ℕ, ◌≡◌, ◌+◌, ◌++◌, List, All}
+use Rattle.rv_model.specs.machine.Cuts.{KeepsWordIfCut, tried_in}
+use Rattle.rv_model.specs.machine.PrivateMachine.{sliced}
 use Rattle.rv_model.specs.machine.Setup.{Setup}
-use Rattle.rv_model.specs.machine.Script.{World, after, told}
+use Rattle.rv_model.specs.machine.Script.{World, after, part, told}
+use Rattle.rv_model.specs.text.Lines.{text}
 
 -- the fixed parameters, and what moves
 pub record MachineState : Type 0 where
@@ -15,3 +19,12 @@ after_line m line = record m { world = after m.setup m.world line }
 -- what the line prints
 abbrev pub line_output : MachineState → List ℕ → List ℕ
 line_output m line = told m.setup m.world line
+
+-- A user's slice left this machine and printed this. It and one of so many ticks more leave the user's private machine, and print,
+-- what one slice of all these ticks does, unless the first cuts an instruction that stores over its own word.
+abbrev pub SliceGoesOn : MachineState → ℕ → MachineState → List ℕ → Type 0
+SliceGoesOn before u now printed = (later : ℕ)
+    → All KeepsWordIfCut (tried_in before.setup.quantum (part u before.world))
+    → ((sliced (before.setup.quantum + later) (part u before.world)).next ≡ (sliced later (part u now.world)).next)
+    × (text (48 + u) (sliced (before.setup.quantum + later) (part u before.world)).lines
+    ≡ printed ++ text (48 + u) (sliced later (part u now.world)).lines)

@@ -9,8 +9,8 @@ const STACK_POINTER: u32 = 2;
 /// The stack pointer of a program that begins.
 const STACK_TOP: u64 = 0x7fff_efc0;
 
-/// What a user has beside memory and trace: registers, vector state, output buffer and breakpoints, whether the
-/// program runs, and whether it has just been told to.
+/// What a user has beside memory and trace: registers, vector state, output buffer and breakpoints,
+/// whether the program runs, and whether it has just been told to.
 #[derive(Drop)]
 pub(crate) struct Context {
     pub(crate) entered: bool,

@@ -3,8 +3,10 @@ ghost use Rattle.std.specs.Prelude.{◌≡◌, ◌+◌, ◌≤◌, ◌++◌, [],
 ghost use Rattle.rv_model.specs.commands.Operator.{granted_line, operator_parse};
 ghost use Rattle.rv_model.specs.machine.Grants.{granted, grants, grants_of, operator_line, runs, slice_of};
 ghost use Rattle.rv_model.specs.machine.Script.{after_events, part, told_by};
+ghost use Rattle.rv_model.specs.machine.Turns.{AreInTurn};
 ghost use Rattle.rv_model.specs.machine.Users.{user_count};
 ghost use Rattle.rv_model.specs.text.Lines.{text};
+ghost use Rattle.vec_monitor.specs.MachineState.{SliceGoesOn};
 
 use crate::machine::Machine;
 use monitor_cmds::{Reply, Tag, parse_operator};
@@ -12,9 +14,9 @@ use rv_model::{OperatorCommand, User};
 use std::alloc::Allocator;
 
 impl<A: Allocator> Machine<'_, A> {
-    /// Grants a slice to a user, and answers whether the user's program ran. The reply is then the line
-    /// that says why the program stopped, or empty where it still runs; it is empty, too, and nothing
-    /// changes where the program didn't run. Nobody else's machine changes.
+    /// Grants a slice to a user, and answers whether the user's program ran. The reply is then the
+    /// line that says why the program stopped, or empty where it still runs; it is empty, too, and
+    /// nothing changes where the program didn't run. Nobody else's machine changes.
     #[tactic(auto, unfolding(rv_model::specs::machine::PrivateMachine::event), using(crate::proofs::GrantLaws::stops_room_is_small))]
     pub fn slice(&mut self, user: User, reply: &mut Reply) -> bool
         ensures world { self.new.world
@@ -26,14 +28,17 @@ impl<A: Allocator> Machine<'_, A> {
         ensures ran { result ≡ runs (part user self.old.world) }
         ensures silent { result ≡ false → reply.new ≡ [] }
         ensures same { result ≡ false → self.new ≡ self.old }
+
+        // It and a slice of so many ticks more come to one of all these ticks.
+        ensures adds_up { SliceGoesOn self.old user self.new reply.new }
     {
         reply.clear();
         self.users.slice(user, self.quantum, reply)
     }
 
-    /// Grants at most `count` slices in turn to users whose programs run, fewer only where none runs any
-    /// more. The reply, which is empty, is then why programs stopped: each stops at most once. Answers how many
-    /// slices were granted.
+    /// Grants at most `count` slices in turn to users whose programs run, fewer only where none
+    /// runs any more. The reply, which is empty, is then why programs stopped: each stops at most
+    /// once. Answers how many slices were granted.
     #[tactic(auto, using(crate::proofs::GrantLaws::stops_room_is_small))]
     fn grant_slices(&mut self, count: usize, reply: &mut Reply) -> usize
         requires { reply.old ≡ [] }
@@ -81,7 +86,8 @@ impl<A: Allocator> Machine<'_, A> {
         monitor_cmds::granted_line(reply, usize::from(ran));
     }
 
-    /// Carries out a command of the operator that is accepted. The reply, which is empty, is then its answer.
+    /// Carries out a command of the operator that is accepted. The reply, which is empty, is then
+    /// its answer.
     fn carry_out_accepted(&mut self, command: OperatorCommand, reply: &mut Reply)
         requires { reply.old ≡ [] }
         ensures world { self.new.world
@@ -113,14 +119,17 @@ impl<A: Allocator> Machine<'_, A> {
     }
 
     /// Carries out one command of the operator: the line without the star and the space after it.
-    /// Answers it in place of what the reply held: a line for each program that stopped, and then what the
-    /// operator is told. Refused are an unknown command (E03) and a wrong argument (E04) alone.
+    /// Answers it in place of what the reply held: a line for each program that stopped, and then
+    /// what the operator is told. Refused are an unknown command (E03) and a wrong argument (E04)
+    /// alone. Each slice that is granted in turn is one of the user whose turn it is then.
+    #[tactic(auto, using(rv_model::proofs::machine_lemmas::Turns::grants_are_in_turn))]
     pub fn operator(&mut self, line: &[u8], reply: &mut Reply)
         ensures world { self.new.world
             ≡ after_events self.old.setup self.old.world (grants_of self.old.setup self.old.world (operator_parse line.now)) }
         ensures setup { self.new.setup ≡ self.old.setup }
         ensures reply { reply.new ≡ told_by self.old.setup self.old.world (grants_of self.old.setup self.old.world (operator_parse line.now))
             ++ text 42 (operator_line self.old.setup self.old.world (operator_parse line.now) ∷ []) }
+        ensures in_turn { AreInTurn self.old.setup self.old.world (grants_of self.old.setup self.old.world (operator_parse line.now)) }
     {
         reply.clear();
         self.carry_out_operator(line, reply);

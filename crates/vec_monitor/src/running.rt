@@ -1,4 +1,5 @@
-//! Commands that run instructions and tell how far the program is and what it has put out, carried out.
+//! Commands that run instructions and tell how far the program is and what it has put out, carried
+//! out.
 ghost use Rattle.std.specs.Prelude.{◌≡◌, ◌+◌, ℕ, List, [], Some};
 ghost use Rattle.rv_model.specs.commands.Running.{halts, running_command};
 ghost use Rattle.rv_model.specs.memory.Memory.{Memory};

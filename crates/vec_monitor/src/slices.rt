@@ -1,5 +1,6 @@
 //! A slice of one user.
 ghost use Rattle.std.specs.Prelude.{◌≡◌, ◌+◌, ◌-◌, ◌≤◌, ◌<◌, ◌++◌, true, length};
+ghost use Rattle.rv_model.specs.machine.Cuts.{IsConfigured};
 ghost use Rattle.rv_model.specs.machine.Grants.{runs};
 ghost use Rattle.rv_model.specs.machine.PrivateMachine.{sliced};
 ghost use Rattle.rv_model.specs.text.Lines.{text};
@@ -15,8 +16,8 @@ use rv_model::User;
 use std::alloc::Allocator;
 use user_mem::Pool;
 
-/// Carries out a slice of `quantum` ticks of a user whose program runs, and adds to the reply why it
-/// stopped, if it did.
+/// Carries out a slice of `quantum` ticks of a user whose program runs, and adds to the reply why
+/// it stopped, if it did.
 #[tactic(auto, unfolding(rv_model::specs::machine::PrivateMachine::sliced), using(crate::specs::Lenders::same_memory))]
 fn run_slice<A: Allocator>(
     context: &mut Context,
@@ -42,8 +43,8 @@ fn run_slice<A: Allocator>(
     }
 }
 
-/// Grants a slice of `quantum` ticks to a user, if the user's program runs, and adds to the reply why it stopped,
-/// if it did. Answers whether the program ran. `traces` are those of all users.
+/// Grants a slice of `quantum` ticks to a user, if the user's program runs, and adds to the reply
+/// why it stopped, if it did. Answers whether the program ran. `traces` are those of all users.
 #[tactic(auto, using(crate::proofs::PartLaws::trace_there))]
 pub(crate) fn grant<A: Allocator>(
     context: &mut Context,
@@ -65,7 +66,9 @@ pub(crate) fn grant<A: Allocator>(
     ensures ran { result ≡ runs (private_of context.old (trace_of traces.old user) (memory_of_user pool.old user)) }
     ensures bound { length reply.new + stop_room (private_of context.new (trace_of traces.new user) (memory_of_user pool.new user))
         ≤ length reply.old + stop_room (private_of context.old (trace_of traces.old user) (memory_of_user pool.old user)) }
+    ensures configured { IsConfigured (private_of context.old (trace_of traces.old user) (memory_of_user pool.old user)) }
 {
+    context.seat.state.conf.length_law();
     let trace = &mut traces[user.index()];
     grant_own(context, trace, pool, user, quantum, reply)
 }

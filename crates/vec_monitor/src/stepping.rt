@@ -37,8 +37,8 @@ fn stop_of(end: StepEnd) -> Option<Stop>
     }
 }
 
-/// One instruction over the registers, the bytes, the vector state and the output buffer that it works on,
-/// within `limit` ticks. Answers how it ended, and the ticks that it took.
+/// One instruction over the registers, the bytes, the vector state and the output buffer that it
+/// works on, within `limit` ticks. Answers how it ended, and the ticks that it took.
 fn step_parts<M: UserBytes, V: Vectors>(
     scalar: &mut Scalar,
     memory: &mut M,
@@ -68,7 +68,8 @@ fn step_parts<M: UserBytes, V: Vectors>(
     step(&mut view, limit)
 }
 
-/// One instruction of a user, within `limit` ticks. Answers how it ended, and the ticks that it took.
+/// One instruction of a user, within `limit` ticks. Answers how it ended, and the ticks that it
+/// took.
 fn step_once<A: Allocator>(
     scalar: &mut Scalar,
     seat: &mut Seat,
@@ -89,9 +90,9 @@ fn step_once<A: Allocator>(
     step_parts(scalar, &mut memory, &mut vectors, output, limit)
 }
 
-/// Tries one instruction of a user, within `limit` ticks. Answers why the program stops, if it does,
-/// and the ticks that it took. An instruction that ran to its end goes into the trace; after one that
-/// was cut, the program goes on as if it had just been told to run.
+/// Tries one instruction of a user, within `limit` ticks. Answers why the program stops, if it
+/// does, and the ticks that it took. An instruction that ran to its end goes into the trace; after
+/// one that was cut, the program goes on as if it had just been told to run.
 fn try_instruction<A: Allocator>(
     context: &mut Context,
     trace: &mut Trace<A>,
@@ -125,8 +126,8 @@ fn try_instruction<A: Allocator>(
     (stop_of(end), ticks)
 }
 
-/// At most `count` instructions, fewer where one stops the program, or where a breakpoint stands at one that
-/// isn't the first. Answers why it stopped.
+/// At most `count` instructions, fewer where one stops the program, or where a breakpoint stands at
+/// one that isn't the first. Answers why it stopped.
 pub(crate) fn steps<A: Allocator>(
     context: &mut Context,
     trace: &mut Trace<A>,
@@ -154,8 +155,8 @@ pub(crate) fn steps<A: Allocator>(
     None
 }
 
-/// The instructions of so many ticks, fewer where one stops the program, or where a breakpoint stands at one that
-/// isn't the first after the program was told to run. Answers why it stopped.
+/// The instructions of so many ticks, fewer where one stops the program, or where a breakpoint
+/// stands at one that isn't the first after the program was told to run. Answers why it stopped.
 pub(crate) fn slice<A: Allocator>(
     context: &mut Context,
     trace: &mut Trace<A>,

@@ -6,8 +6,8 @@ use std::marker::Model;
 /// How many instructions a trace tells.
 const TRACE_LENGTH: usize = 16;
 
-/// The addresses of the last 16 instructions of a user that ran to their end, the oldest first. Only
-/// `new` takes memory.
+/// The addresses of the last 16 instructions of a user that ran to their end, the oldest first.
+/// Only `new` takes memory.
 #[derive(Drop)]
 pub(crate) struct Trace<A: Allocator> {
     ring: HeapCircularBuffer<u64, A>,

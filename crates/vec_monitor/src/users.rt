@@ -2,6 +2,7 @@
 ghost use Rattle.std.specs.Prelude.{◌≡◌, ◌+◌, ◌≤◌, ◌++◌, [], length, map, replicate, IfOk, IfNone, IfSome};
 ghost use Rattle.rv_model.specs.commands.Commands.{commanded};
 ghost use Rattle.rv_model.specs.commands.Commands.{parse as parse_spec};
+ghost use Rattle.rv_model.specs.machine.Cuts.{IsConfigured};
 ghost use Rattle.rv_model.specs.machine.Grants.{next_running, runs, standing};
 ghost use Rattle.rv_model.specs.machine.PrivateMachine.{sliced};
 ghost use Rattle.rv_model.specs.machine.Script.{part, with_part, new_world};
@@ -23,8 +24,8 @@ use std::alloc::{AllocError, Allocator};
 use std::marker::Model;
 use user_mem::{NoMemory, Pool};
 
-/// The contexts and traces of the eight users, the pool with the memory of each, and the user whose turn was
-/// the last.
+/// The contexts and traces of the eight users, the pool with the memory of each, and the user whose
+/// turn was the last.
 #[derive(Drop)]
 pub(crate) struct Users<A: Allocator> {
     contexts: [Context; USER_COUNT],
@@ -146,8 +147,8 @@ impl<A: Allocator> Users<A> {
             Err(refusal) => monitor_cmds::refused(reply, Tag::User(user), refusal),
         }
     }
-    /// Grants a slice of `quantum` ticks to a user, if the user's program runs, and adds to the reply why it
-    /// stopped, if it did. Answers whether the program ran.
+    /// Grants a slice of `quantum` ticks to a user, if the user's program runs, and adds to the
+    /// reply why it stopped, if it did. Answers whether the program ran.
     #[tactic(auto, using(crate::proofs::PartLaws::part_put_back))]
     pub(crate) fn slice(&mut self, user: User, quantum: usize, reply: &mut Reply) -> bool
         requires { length reply.old + stops_room self.old.parts ≤ 4096 }
@@ -156,6 +157,8 @@ impl<A: Allocator> Users<A> {
         ensures ran { result ≡ runs (part user self.old) }
         ensures bound { length reply.new + stops_room self.new.parts
             ≤ length reply.old + stops_room self.old.parts }
+        ensures next { part user self.new ≡ (sliced quantum (part user self.old)).next }
+        ensures configured { IsConfigured (part user self.old) }
     {
         let context = &mut self.contexts[user.index()];
         grant(
@@ -168,8 +171,8 @@ impl<A: Allocator> Users<A> {
         )
     }
 
-    /// The first user whose program runs, in the order of the users from the one on whose turn follows
-    /// the last; this user's turn is the last then.
+    /// The first user whose program runs, in the order of the users from the one on whose turn
+    /// follows the last; this user's turn is the last then.
     pub(crate) fn take_turn(&mut self) -> Option<User>
         ensures user { result ≡ next_running self.old }
         ensures none { IfNone result (self.new ≡ self.old) }

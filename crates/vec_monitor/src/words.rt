@@ -6,9 +6,9 @@ ghost use Rattle.vec_monitor.specs.CommandLine.{image_words, quantum_word, scrip
 use crate::command_line::{DEFAULT_QUANTUM, Options, UsageFault, command};
 use std::alloc::Global;
 
-/// Reads the words of the command line, the program's name first: the quantum, the script's path and
-/// the image words are those that clap reads as `--quantum`, SCRIPT and NAME=PATH. Refused where
-/// clap refuses the words, for help or another fault, and for want of memory.
+/// Reads the words of the command line, the program's name first: the quantum, the script's path
+/// and the image words are those that clap reads as `--quantum`, SCRIPT and NAME=PATH. Refused
+/// where clap refuses the words, for help or another fault, and for want of memory.
 pub fn options<'a>(alloc: Global, words: &'a [&'a str]) -> Result<Options<'a>, UsageFault>
     ensures quantum { IfOk result (λ options.
         IsQuantum (quantum_word (texts words.entry.now)) options.quantum) }

@@ -1,1 +1,2 @@
+mod CopiedOperands
 mod SegmentSteps

@@ -3,18 +3,19 @@
 ghost use Rattle.std.specs.Prelude.{◌≡◌, ◌≢◌, ◌+◌, ◌≤◌, IsTrue, List, Some, ℕ, false, if◌then◌else◌, true};
 ghost use Rattle.rv_model.specs.declared.vector.policy.Policy.{Policy as AgnosticPolicy};
 ghost use Rattle.rv_model.specs.declared.vector.types.VType.{VType as VectorType};
+ghost use Rattle.rv_model.specs.instructions.Accesses.{is_access};
 ghost use Rattle.rv_model.specs.legality.GroupBounds.{SegmentsInside};
 ghost use Rattle.rv_model.specs.legality.Legality.{is_legal};
 ghost use Rattle.rv_model.specs.step.Hart.{hart_state};
 ghost use Rattle.rv_model.specs.step.MemoryStep.{access_end, is_load, is_unit_load, tails_filled};
 ghost use Rattle.rv_model.specs.step.VectorStep.{access_step, performed, plain_step, segment_step, typed, vector_ends};
 ghost use Rattle.rv_model.specs.vector.Configuration.{sew_width, vlmax};
-ghost use Rattle.vec_unit.specs.MemoryInstructions.{data_type, is_access};
+ghost use Rattle.vec_unit.specs.MemoryInstructions.{data_type};
 
 use crate::body::body_under;
 use crate::destination::{Agnostic, agnostic_under};
 use crate::tails::{Fields, fill_tails};
-use reg_groups::mask_register;
+use reg_groups::{emul, mask_register};
 use rv_model::instructions::operations::{Direction, UnitOp, Width};
 use rv_model::{Field, Instr, MemEnd, Policy, Scalar, Sew, VEnd, VReg, VState, VType};
 use vector_memory::UserBytes;
@@ -117,7 +118,7 @@ fn perform_load<M: UserBytes>(
 /// An access of segments: whether it reads memory, the width of its data unless that is SEW, its `nf` + 1
 /// fields from `vd` on, and whether it is unmasked.
 #[derive(Clone, Copy)]
-struct Segments {
+struct SegmentAccess {
     loads: bool,
     width: Option<Width>,
     nf: Field<3>,
@@ -125,12 +126,18 @@ struct Segments {
     unmasked: bool,
 }
 
-impl Segments {
+impl SegmentAccess {
     /// An access of these segments.
-    fn new(loads: bool, width: Option<Width>, nf: Field<3>, vd: VReg, unmasked: bool) -> Segments
+    fn new(
+        loads: bool,
+        width: Option<Width>,
+        nf: Field<3>,
+        vd: VReg,
+        unmasked: bool,
+    ) -> SegmentAccess
         ensures { result ≡ record { loads = loads; width = width; nf = nf; vd = vd; unmasked = unmasked } }
     {
-        Segments {
+        SegmentAccess {
             loads,
             width,
             nf,
@@ -149,12 +156,11 @@ impl Segments {
             Some(width) => Sew::from_width(width),
             None => vtype.sew,
         };
-        let eighths = u32::from(sew.bits()) * u32::from(vtype.lmul.eighths());
         Fields {
             vd: self.vd,
             nf: self.nf,
             sew,
-            emul: eighths / u32::from(vtype.sew.bits()),
+            emul: emul(sew.bits(), vtype),
         }
     }
 }
@@ -162,7 +168,7 @@ impl Segments {
 /// Carries out a legal access of segments.
 fn perform_segments<M: UserBytes>(
     instr: &Instr,
-    segments: Segments,
+    segments: SegmentAccess,
     state: &mut VState,
     scalar: &Scalar,
     memory: &mut M,
@@ -249,7 +255,7 @@ pub(crate) fn perform_access<M: UserBytes>(
             vm,
             ..
         } => {
-            let segments = Segments::new(is_unit_load(op), Some(width), nf, vd, vm);
+            let segments = SegmentAccess::new(is_unit_load(op), Some(width), nf, vd, vm);
             perform_segments(instr, segments, state, scalar, memory, limit, policy)
         }
         Instr::VectorStrided {
@@ -260,7 +266,7 @@ pub(crate) fn perform_access<M: UserBytes>(
             vm,
             ..
         } => {
-            let segments = Segments::new(is_load(direction), Some(width), nf, vd, vm);
+            let segments = SegmentAccess::new(is_load(direction), Some(width), nf, vd, vm);
             perform_segments(instr, segments, state, scalar, memory, limit, policy)
         }
         Instr::VectorIndexed {
@@ -270,7 +276,7 @@ pub(crate) fn perform_access<M: UserBytes>(
             vm,
             ..
         } => {
-            let segments = Segments::new(is_load(direction), None, nf, vd, vm);
+            let segments = SegmentAccess::new(is_load(direction), None, nf, vd, vm);
             perform_segments(instr, segments, state, scalar, memory, limit, policy)
         }
         Instr::WholeLoad { .. } => perform_plain(instr, true, state, scalar, memory, limit),

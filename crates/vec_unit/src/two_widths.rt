@@ -44,16 +44,60 @@ pub(crate) trait TwoWidths {
             file.old scalar.now) file.old };
 }
 
-/// Carries out an operation whose destination has twice the vector type's width. The next instruction begins
-/// with the first element.
-#[tactic(auto, using(rv_model::proofs::legality_lemmas::Bounds::wide_groups_hold_body, rv_model::proofs::legality_lemmas::Bounds::groups_have_room))]
-pub(crate) fn carry_out_widening<O: TwoWidths>(
-    operation: &O,
+/// The multiplier of the destination's groups, how many elements they have, and the multiplier of the groups
+/// of the other width, both in eighths of a register.
+#[derive(Clone, Copy)]
+struct Groups {
+    emul: u32,
+    count: usize,
+    other: u32,
+}
+
+/// Carries out an operation whose destination has elements of the width of `D`; `O` is the other width. The
+/// next instruction begins with the first element.
+fn carry_out<D: Lane, O: Lane, T: TwoWidths>(
+    operation: &T,
+    groups: Groups,
     target: Target,
     state: &mut VState,
     scalar: &Scalar,
 )
-    requires operands { O.inside operation.now (2 * lmul_eighths target.vtype.lmul) (lmul_eighths target.vtype.lmul) }
+    requires operands { T.inside operation.now groups.emul groups.other }
+    requires destination { IsInside target.vd groups.emul }
+    requires holds { HoldsBody D.width groups.emul groups.count state.old.conf.vl }
+    requires room { HasRoom O.width groups.other state.old.conf.vl }
+    ensures { state.new ≡ record state.old {
+      file =
+          with_results (record { width = D.width; emul = groups.emul }) target.vd (body_of target.unmasked state.old)
+          (fills_masked_off target.policy target.vtype (body_of target.unmasked state.old))
+          (fills_tail target.policy target.vtype (body_of target.unmasked state.old))
+          (T.number operation.now (record { width = D.width; emul = groups.emul }) (record { width = O.width; emul = groups.other })
+          state.old.file scalar.now) state.old.file;
+      vstart = 0;
+    } }
+{
+    let mask = mask_register(&state.file);
+    let body = body_under(target.unmasked, &mask, state);
+    let destination = Destination {
+        vd: target.vd,
+        emul: groups.emul,
+        count: groups.count,
+        agnostic: agnostic_under(target.policy, target.vtype, &body),
+    };
+    operation.write::<D, O>(destination, groups.other, &body, &mut state.file, scalar);
+    state.vstart = 0;
+}
+
+/// Carries out an operation whose destination has twice the vector type's width. The next instruction begins
+/// with the first element.
+#[tactic(auto, using(rv_model::proofs::legality_lemmas::Bounds::wide_groups_hold_body, rv_model::proofs::legality_lemmas::Bounds::groups_have_room))]
+pub(crate) fn carry_out_widening<T: TwoWidths>(
+    operation: &T,
+    target: Target,
+    state: &mut VState,
+    scalar: &Scalar,
+)
+    requires operands { T.inside operation.now (2 * lmul_eighths target.vtype.lmul) (lmul_eighths target.vtype.lmul) }
     requires destination { IsInside target.vd (2 * lmul_eighths target.vtype.lmul) }
     requires narrow { sew_bits target.vtype.sew ≤ 32 }
     requires most { 2 * lmul_eighths target.vtype.lmul ≤ 64 }
@@ -63,54 +107,32 @@ pub(crate) fn carry_out_widening<O: TwoWidths>(
           with_results (wide_type target.vtype) target.vd (body_of target.unmasked state.old)
           (fills_masked_off target.policy target.vtype (body_of target.unmasked state.old))
           (fills_tail target.policy target.vtype (body_of target.unmasked state.old))
-          (O.number operation.now (wide_type target.vtype) (group_type target.vtype) state.old.file scalar.now) state.old.file;
+          (T.number operation.now (wide_type target.vtype) (group_type target.vtype) state.old.file scalar.now) state.old.file;
       vstart = 0;
     } }
 {
-    let mask = mask_register(&state.file);
-    let body = body_under(target.unmasked, &mask, state);
     let other = u32::from(target.vtype.lmul.eighths());
     let emul = 2 * other;
     let length = VLENB * registers(emul) as usize;
-    let agnostic = agnostic_under(target.policy, target.vtype, &body);
-    let file = &mut state.file;
-    let destination = |count| Destination {
-        vd: target.vd,
-        emul,
-        count,
-        agnostic,
-    };
+    let groups = |count| Groups { emul, count, other };
     match target.vtype.sew {
-        Sew::E8 => operation.write::<u16, u8>(destination(length / 2), other, &body, file, scalar),
-        Sew::E16 => operation.write::<u32, u16>(
-            destination(length / 4),
-            other,
-            &body,
-            file,
-            scalar,
-        ),
-        Sew::E32 => operation.write::<u64, u32>(
-            destination(length / 8),
-            other,
-            &body,
-            file,
-            scalar,
-        ),
+        Sew::E8 => carry_out::<u16, u8, T>(operation, groups(length / 2), target, state, scalar),
+        Sew::E16 => carry_out::<u32, u16, T>(operation, groups(length / 4), target, state, scalar),
+        Sew::E32 => carry_out::<u64, u32, T>(operation, groups(length / 8), target, state, scalar),
         Sew::E64 => unreachable!(),
     }
-    state.vstart = 0;
 }
 
 /// Carries out an operation with a source of twice the vector type's width. The next instruction begins with
 /// the first element.
 #[tactic(auto, using(rv_model::proofs::legality_lemmas::Bounds::groups_hold_body, rv_model::proofs::legality_lemmas::Bounds::wide_groups_have_room))]
-pub(crate) fn carry_out_narrowing<O: TwoWidths>(
-    operation: &O,
+pub(crate) fn carry_out_narrowing<T: TwoWidths>(
+    operation: &T,
     target: Target,
     state: &mut VState,
     scalar: &Scalar,
 )
-    requires operands { O.inside operation.now (lmul_eighths target.vtype.lmul) (2 * lmul_eighths target.vtype.lmul) }
+    requires operands { T.inside operation.now (lmul_eighths target.vtype.lmul) (2 * lmul_eighths target.vtype.lmul) }
     requires destination { IsInside target.vd (lmul_eighths target.vtype.lmul) }
     requires narrow { sew_bits target.vtype.sew ≤ 32 }
     requires most { 2 * lmul_eighths target.vtype.lmul ≤ 64 }
@@ -120,40 +142,18 @@ pub(crate) fn carry_out_narrowing<O: TwoWidths>(
           with_results (group_type target.vtype) target.vd (body_of target.unmasked state.old)
           (fills_masked_off target.policy target.vtype (body_of target.unmasked state.old))
           (fills_tail target.policy target.vtype (body_of target.unmasked state.old))
-          (O.number operation.now (group_type target.vtype) (wide_type target.vtype) state.old.file scalar.now) state.old.file;
+          (T.number operation.now (group_type target.vtype) (wide_type target.vtype) state.old.file scalar.now) state.old.file;
       vstart = 0;
     } }
 {
-    let mask = mask_register(&state.file);
-    let body = body_under(target.unmasked, &mask, state);
     let emul = u32::from(target.vtype.lmul.eighths());
     let other = 2 * emul;
     let length = VLENB * registers(emul) as usize;
-    let agnostic = agnostic_under(target.policy, target.vtype, &body);
-    let file = &mut state.file;
-    let destination = |count| Destination {
-        vd: target.vd,
-        emul,
-        count,
-        agnostic,
-    };
+    let groups = |count| Groups { emul, count, other };
     match target.vtype.sew {
-        Sew::E8 => operation.write::<u8, u16>(destination(length), other, &body, file, scalar),
-        Sew::E16 => operation.write::<u16, u32>(
-            destination(length / 2),
-            other,
-            &body,
-            file,
-            scalar,
-        ),
-        Sew::E32 => operation.write::<u32, u64>(
-            destination(length / 4),
-            other,
-            &body,
-            file,
-            scalar,
-        ),
+        Sew::E8 => carry_out::<u8, u16, T>(operation, groups(length), target, state, scalar),
+        Sew::E16 => carry_out::<u16, u32, T>(operation, groups(length / 2), target, state, scalar),
+        Sew::E32 => carry_out::<u32, u64, T>(operation, groups(length / 4), target, state, scalar),
         Sew::E64 => unreachable!(),
     }
-    state.vstart = 0;
 }

@@ -20,7 +20,7 @@ use crate::runs::{Extent, run_direction, run_unit};
 use crate::segments::Segments;
 use crate::user_bytes::UserBytes;
 use lane_arith::Body;
-use reg_groups::{group_copy, mask_register, register_count, registers};
+use reg_groups::{emul, group_copy, mask_register, register_count, registers};
 use rv_model::instructions::operations::{Direction, RegisterCount, UnitOp, Width};
 use rv_model::{Field, GROUP_BYTES, Instr, MemEnd, Scalar, Sew, VReg, VState, VType};
 
@@ -28,8 +28,7 @@ use rv_model::{Field, GROUP_BYTES, Instr, MemEnd, Scalar, Sew, VReg, VState, VTy
 fn emul_of(width: Width, vtype: VType) -> u32
     ensures { result ≡ emul (sew_bits (element_width width)) vtype }
 {
-    let bits = u32::from(Sew::from_width(width).bits());
-    bits * u32::from(vtype.lmul.eighths()) / u32::from(vtype.sew.bits())
+    emul(Sew::from_width(width).bits(), vtype)
 }
 
 /// Segments of `nf` + 1 fields of so many bytes, in groups of a multiplier in eighths of a register.

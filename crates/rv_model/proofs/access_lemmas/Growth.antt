@@ -111,6 +111,17 @@ overlay_grown m more grown = same_memory _ _ (λ x. at x (get m x) refl)
     at x None e = get-overlay m more x ∙ ap (λ (o : Option Cell). option_or o (get more x)) e
     at x (Some c) e = overlay_extends m more x c e ∙ sym (grown x c e)
 
+-- over one that maps none but its addresses, nothing is new
+pub overlay_same : (m more : Memory) → ((x : ℕ) → memory.is_allowed Monitor more x ≡ memory.is_allowed Monitor m x)
+    → overlay m more ≡ m
+overlay_same m more same = same_memory _ _ (λ x. at x (get m x) (get more x) refl refl)
+  where
+    at : (x : ℕ) (o p : Option Cell) → get m x ≡ o → get more x ≡ p → get (overlay m more) x ≡ get m x
+    at x (Some c) p e f = overlay_extends m more x c e ∙ sym e
+    at x None None e f = get-overlay m more x ∙ ap (λ (o : Option Cell). option_or o (get more x)) e ∙ f ∙ sym e
+    at x None (Some c) e f =
+        let cell = allowed_mapped Monitor m x (sym (same x) ∙ mapped_allowed more x c f) in let there = cell.1 in absurd (cc)
+
 -- ---- stores
 
 -- what is written at an address depends on the memory at that address alone

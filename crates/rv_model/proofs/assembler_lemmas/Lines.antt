@@ -2,7 +2,7 @@
 use Rattle.std.proofs.Common.{◌≡◌, ℕ, zero, suc, Option, Some, None, ◌+◌, ◌-◌, ◌*◌, ◌/◌, ◌%◌, ◌<◌, ◌≤◌, List, [], ◌∷◌, Bool, true, false, refl, ap, arith, eqb, inl, inr}
 use Rattle.std.specs.Prelude.{not, codes, ◌==◌, nat_lt}
 use Rattle.std.proofs.Math.ListN.{get_or-eq_default}
-use Rattle.std.proofs.lemmas.Bool.{agree_below_at, cases_lt}
+use Rattle.std.proofs.lemmas.Bool.{agree_below_at, cases_lt, and_from}
 use Rattle.std.proofs.lemmas.Bool.Decides.{nat_tests}
 use Rattle.rv_model.specs.declared.assembler.forms.Slot.{Slot}
 use Rattle.rv_model.specs.declared.assembler.forms.Slot.TheVariants.{Comma, Open, Close, V0, Scalar, Vector, Unsigned, Signed, Csr, VectorType, ShortVectorType, Mask, Word}
@@ -23,17 +23,16 @@ use Rattle.rv_model.specs.vector.ControlRegisters.{control_register, control_reg
 use Rattle.rv_model.specs.vector.TypeNames.{lmul_name, mask_name, sew_name, tail_name}
 use Rattle.rv_model.specs.vector.TypeRules.{lmul_with_number, sew_with_number}
 use Rattle.rv_model.proofs.assembler_lemmas.Found.{found_passes}
-use Rattle.rv_model.proofs.text_lemmas.Lines.{both_of}
 use Rattle.rv_model.proofs.text_lemmas.Pieces.{of_either, is_line-append, Piece, ◌▸◌, number, decimal_line}
 
 no_newline_in_hex_digit : (d : ℕ) → IsLine (hex_digit d ∷ [])
 no_newline_in_hex_digit d = of_either (λ c. IsLine (c ∷ [])) (nat_lt d 10) _ _ (small d) (large d)
   where
     small : (d : ℕ) → IsLine ((48 + d) ∷ [])
-    small d = let e : eqb (48 + d) 10 ≡ false = grind (arith, nat_tests) in both_of _ true (ap not e) refl
+    small d = let e : eqb (48 + d) 10 ≡ false = grind (arith, nat_tests) in and_from _ true (ap not e) refl
 
     large : (d : ℕ) → IsLine ((87 + d) ∷ [])
-    large d = let e : eqb (87 + d) 10 ≡ false = grind (arith, nat_tests) in both_of _ true (ap not e) refl
+    large d = let e : eqb (87 + d) 10 ≡ false = grind (arith, nat_tests) in and_from _ true (ap not e) refl
 
 no_newline_in_hex_digits : (k n : ℕ) → IsLine (hex_digits k n)
 unfolding hex_digits

@@ -2,14 +2,13 @@
 use Rattle.std.proofs.Common.{◌≡◌, ℕ, ◌≤◌, List, [], ◌∷◌, Bool, true, false, Option, Some, None, Ok, Err, refl, sym}
 use Rattle.std.specs.Prelude.{nat_le, ◌&&◌, if◌then◌else◌, codes}
 use Rattle.std.specs.Str.{bytes_eq}
-use Rattle.std.proofs.lemmas.Bool.{leb-true}
+use Rattle.std.proofs.lemmas.Bool.{leb-true, and_parts}
 use Rattle.rv_model.specs.declared.commands.operator.OperatorCommand.{OperatorCommand}
 use Rattle.rv_model.specs.declared.commands.operator.OperatorCommand.TheVariants.{Slices, Run, List as ListUsers}
 use Rattle.rv_model.specs.commands.Arguments.{number, within, decimal_number}
 use Rattle.rv_model.specs.commands.Operator.{OperatorParsed, slices_args, run_args, operator_named, accepted, operator_of_words, operator_parse}
 use Rattle.rv_model.specs.commands.Reading.{◌>>=◌, before, done}
 use Rattle.rv_model.specs.text.Words.{words}
-use Rattle.rv_model.proofs.text_lemmas.Lines.{both}
 use Rattle.rv_model.proofs.text_lemmas.Pieces.{of_either}
 
 abbrev pub NamesUser : OperatorCommand → Type 0
@@ -46,7 +45,7 @@ run_names (w ∷ ws) = numbered (decimal_number w)
     tested : (n : ℕ) (b : Bool) → b ≡ (nat_le 1 n && nat_le n 8) → NamesUserIfAny (before ws (if b then Some n else None) >>= (λ user. done (Run user.0) user.1))
     tested n false h = tt
     tested n true h =
-        let two = both (nat_le 1 n) (nat_le n 8) (sym h) in
+        let two = and_parts (nat_le 1 n) (nat_le n 8) (sym h) in
         done_names (Run n) ws (leb-true 1 n two.0, leb-true n 8 two.1)
 
     numbered : (o : Option ℕ) → NamesUserIfAny (before ws (within 1 8 o) >>= (λ user. done (Run user.0) user.1))

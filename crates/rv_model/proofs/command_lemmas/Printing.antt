@@ -1,6 +1,7 @@
 -- What more than one command prints has no newline.
 use Rattle.std.proofs.Common.{ℕ, List, [], ◌∷◌, true, refl}
 use Rattle.std.specs.Prelude.{codes, map}
+use Rattle.std.proofs.lemmas.Bool.{and_from}
 use Rattle.rv_model.specs.declared.commands.refusal.Refusal.{Refusal}
 use Rattle.rv_model.specs.declared.commands.refusal.Refusal.TheVariants.{UnknownCommand, Argument, NotEntered, AlreadyEntered, Running, ImageName, ElfFault as BadImage, Quota, NotMapped, BreakpointLimit, Breakpoint, NotRunning, Assembler, AlreadyMapped}
 use Rattle.rv_model.specs.declared.images.ElfFault.{ElfFault}
@@ -12,7 +13,6 @@ use Rattle.rv_model.specs.images.Faults.{fault_name}
 use Rattle.rv_model.specs.machine.UserMachine.{Private, Outcome, refuses}
 use Rattle.rv_model.specs.step.Causes.{cause_number}
 use Rattle.rv_model.specs.text.Lines.{is_line, IsLine, are_lines, AreLines}
-use Rattle.rv_model.proofs.text_lemmas.Lines.{both_of}
 use Rattle.rv_model.proofs.text_lemmas.Pieces.{Piece, ◌▸◌, hexadecimal, number, space}
 
 no_newline_in_fault_name : (fault : ElfFault) → IsLine (fault_name fault)
@@ -75,7 +75,7 @@ PrintsLines o = AreLines o.lines
 
 -- one line
 pub one_line : (line : List ℕ) → IsLine line → AreLines (line ∷ [])
-one_line line h = both_of (is_line line) true h refl
+one_line line h = and_from (is_line line) true h refl
 
 -- a refusal is a line
 pub refusal_prints : (p : Private) (reason : Refusal) → PrintsLines (refuses p reason)
@@ -84,4 +84,4 @@ refusal_prints p reason = one_line (refused reason) (no_newline_in_refusal reaso
 -- the lines of some items
 pub mapped_lines : {A : Type 0} (f : A → List ℕ) (xs : List A) → ((x : A) → IsLine (f x)) → AreLines (map f xs)
 mapped_lines f [] h = refl
-mapped_lines f (x ∷ xs) h = both_of (is_line (f x)) (are_lines (map f xs)) (h x) (mapped_lines f xs h)
+mapped_lines f (x ∷ xs) h = and_from (is_line (f x)) (are_lines (map f xs)) (h x) (mapped_lines f xs h)

@@ -2,6 +2,7 @@
 use Rattle.std.proofs.Common.{ℕ, zero, suc, ◌+◌, ◌*◌, ◌/◌, List, refl}
 use Rattle.std.specs.Prelude.{codes, flat_map, reverse, slice_index, slice_range}
 use Rattle.std.specs.List.{range_with_len}
+use Rattle.std.proofs.lemmas.Bool.{and_from}
 use Rattle.rv_model.specs.declared.commands.registers.RegisterCommand.{RegisterCommand}
 use Rattle.rv_model.specs.declared.commands.registers.RegisterCommand.TheVariants.{Set, Regs, SetPc, Vreg, Vset, Vcsr}
 use Rattle.rv_model.specs.declared.scalar.Scalar.{Scalar}
@@ -16,7 +17,6 @@ use Rattle.rv_model.specs.vector.Registers.{register_of}
 use Rattle.rv_model.specs.vector.RoundingModes.{rounding_number}
 use Rattle.rv_model.specs.vector.TypeRules.{vtype_number}
 use Rattle.rv_model.proofs.command_lemmas.Printing.{PrintsLines, one_line}
-use Rattle.rv_model.proofs.text_lemmas.Lines.{both_of}
 use Rattle.rv_model.proofs.text_lemmas.Pieces.{Piece, ◌▸◌, hexadecimal, number, bytes, space, flat_map_line}
 
 no_newline_in_register : (s : Scalar) (i : ℕ) → IsLine (register_text s i)
@@ -31,11 +31,11 @@ no_newline_in_register_line s i =
 
 register_lines_are_lines : (n i : ℕ) (s : Scalar) → AreLines (register_lines n i s)
 register_lines_are_lines zero i s = refl
-register_lines_are_lines (suc n) i s = both_of _ _ (no_newline_in_register_line s i) (register_lines_are_lines n (i + 4) s)
+register_lines_are_lines (suc n) i s = and_from _ _ (no_newline_in_register_line s i) (register_lines_are_lines n (i + 4) s)
 
 regs_lines_are_lines : (s : Scalar) → AreLines (regs_lines s)
 unfolding regs_lines
-regs_lines_are_lines s = let pc : Piece = (codes "pc ", refl) in both_of _ _ (pc ▸ hexadecimal s.pc).1 (register_lines_are_lines 8 0 s)
+regs_lines_are_lines s = let pc : Piece = (codes "pc ", refl) in and_from _ _ (pc ▸ hexadecimal s.pc).1 (register_lines_are_lines 8 0 s)
 
 no_newline_in_element : (k : ℕ) (register : List ℕ) (i : ℕ) → IsLine (element_text k register i)
 unfolding element_text

@@ -6,7 +6,7 @@ use Rattle.std.specs.Option.{option_or}
 use Rattle.std.specs.Int.Bits.{bit_and, and_comm}
 use Rattle.std.proofs.lemmas.Nat.{and_assoc}
 use Rattle.std.proofs.lemmas.Bool.Decides.{eqb_tells}
-use Rattle.std.proofs.lemmas.Bool.{and_parts, eq-eqb, eqb-true}
+use Rattle.std.proofs.lemmas.Bool.{and_parts, eq-eqb, eqb-true, not-true}
 use Rattle.rv_model.specs.declared.instructions.instruction.Instr.{Instr}
 use Rattle.rv_model.specs.instructions.Table.{Row, rows, table, Matches, In, IsRow, scan}
 
@@ -129,10 +129,6 @@ apart_in s r [] h here = absurd here
 apart_in s r (x ∷ ss) h (inl e) = subst (λ y. apart s y ≡ true) e (and_parts (apart s x) (apart_from s ss) h).0
 apart_in s r (x ∷ ss) h (inr later) = apart_in s r ss (and_parts (apart s x) (apart_from s ss) h).1 later
 
-not_true : (b : Bool) → not b ≡ true → b ≡ false
-not_true true h = absurd (cc)
-not_true false h = refl
-
 pub misses : (s r : Row) (word : ℕ) → apart s r ≡ true → bit_and word r.mask ≡ r.bits
     → nat_eq (bit_and word s.mask) s.bits ≡ false
 misses s r word h is =
@@ -140,7 +136,7 @@ misses s r word h is =
       | inl hit ↦
           let e : bit_and s.bits r.mask ≡ bit_and r.bits s.mask = ap (λ x. bit_and x r.mask) (sym hit.1) ∙ and_swap word s.mask r.mask ∙ ap (λ x. bit_and x s.mask) is in
           let t : nat_eq (bit_and s.bits r.mask) (bit_and r.bits s.mask) ≡ true = eq-eqb (bit_and s.bits r.mask) (bit_and r.bits s.mask) e in
-          let f : nat_eq (bit_and s.bits r.mask) (bit_and r.bits s.mask) ≡ false = not_true (nat_eq (bit_and s.bits r.mask) (bit_and r.bits s.mask)) h in
+          let f : nat_eq (bit_and s.bits r.mask) (bit_and r.bits s.mask) ≡ false = not-true (nat_eq (bit_and s.bits r.mask) (bit_and r.bits s.mask)) h in
           cc
       | inr n ↦ n.0
     ]

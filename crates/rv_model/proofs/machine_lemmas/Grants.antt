@@ -41,7 +41,7 @@ all_users =
     let one : (n : ℕ) → 1 ≤ n → n ≤ 8 → IsUser n = λ n low high. (low, high) in
     (one 1 (omega arith) (omega arith), (one 2 (omega arith) (omega arith), (one 3 (omega arith) (omega arith), (one 4 (omega arith) (omega arith), (one 5 (omega arith) (omega arith), (one 6 (omega arith) (omega arith), (one 7 (omega arith) (omega arith), (one 8 (omega arith) (omega arith), tt))))))))
 
-abbrev IsUserIfAny : Option ℕ → Type 0
+abbrev pub IsUserIfAny : Option ℕ → Type 0
 IsUserIfAny None = Unit {0}
 IsUserIfAny (Some u) = IsUser u
 

@@ -2,14 +2,14 @@
 use Rattle.std.proofs.Common.{◌≡◌, ◌≢◌, inl, inr, ℕ, ◌+◌, ◌-◌, ◌≤◌, List, [], ◌∷◌, ◌++◌, length, length-set, get_or, get_or-set_same, get_or-set_other, Bool, true, false, refl, ap, ◌∙◌, sym, subst, append_assoc, arith, eqb, cond, None}
 use Rattle.std.proofs.lemmas.List.{get_or-replicate}
 use Rattle.std.specs.Prelude.{if◌then◌else◌, ◌==◌, ◌&&◌, nat_le, nat_lt}
-use Rattle.std.proofs.lemmas.Bool.{cases_eq, leb-true}
+use Rattle.std.proofs.lemmas.Bool.{cases_eq, leb-true, and_parts}
 use Rattle.std.proofs.lemmas.Bool.Decides.{nat_tests}
 use Rattle.rv_model.specs.text.Lines.{pieces, text, AreLines}
 use Rattle.rv_model.specs.machine.Setup.{Setup}
 use Rattle.rv_model.specs.machine.PrivateMachine.{Private, Event, event, solo_from, solo, end_of}
 use Rattle.rv_model.specs.machine.Script.{World, new_world, part, with_part, Kind, Empty, Long, Bad, Operator, Of, prefixed, kind_of, events_of, common, Happening, outcome_of, after_one, after_events, told_by, after, told, after_all, told_all, schedule, whole_from, after_script, mine, own_from, own, lines, AreUsers}
 use Rattle.rv_model.specs.machine.Laws.{EachUserAlone, EachNewUserAlone, EachUserEndsAlone, OthersChangeNothing, MachinesStayEight}
-use Rattle.rv_model.proofs.text_lemmas.Lines.{lines_text, both}
+use Rattle.rv_model.proofs.text_lemmas.Lines.{lines_text}
 use Rattle.rv_model.specs.commands.Operator.{operator_parse}
 use Rattle.rv_model.specs.machine.Grants.{operator_line}
 use Rattle.rv_model.proofs.command_lemmas.Operator.{parsed_names_user}
@@ -23,10 +23,10 @@ no_newline v = grind (arith, nat_tests)
 same_digit : (u v : ℕ) → eqb (48 + v) (48 + u) ≡ eqb v u
 same_digit u v = grind (arith, nat_tests)
 
-same_number : (u : ℕ) → eqb u u ≡ true
+pub same_number : (u : ℕ) → eqb u u ≡ true
 same_number u = grind (arith, nat_tests)
 
-other_number : (u v : ℕ) → v ≢ u → eqb v u ≡ false
+pub other_number : (u v : ℕ) → v ≢ u → eqb v u ≡ false
 other_number u v h = grind (arith, nat_tests)
 
 part_same : (u : ℕ) (p : Private) (w : World) → 1 ≤ u → u ≤ length w.parts → part u (with_part u p w) ≡ p
@@ -126,7 +126,7 @@ users_prefixed s w (d ∷ c ∷ rest) = spaced (c == 32) (d == 42) (nat_le 49 d 
     spaced true true c h = grants_to_users s w (operator_parse rest) (parsed_names_user rest)
     spaced true false false h = tt
     spaced true false true h =
-        let two = both (nat_le 49 d) (nat_le d 56) (sym h) in
+        let two = and_parts (nat_le 49 d) (nat_le d 56) (sym h) in
         (omega (arith, leb-true 49 d two.0, leb-true d 56 two.1), omega (arith, leb-true 49 d two.0, leb-true d 56 two.1), tt)
 
 users_of : (s : Setup) (w : World) (line : List ℕ) → AreUsers (events_of s w (kind_of line))

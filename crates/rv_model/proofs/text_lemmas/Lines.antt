@@ -1,35 +1,24 @@
 -- How an output falls into lines.
 use Rattle.std.proofs.Common.{◌≡◌, ℕ, ◌+◌, List, [], ◌∷◌, ◌++◌, Bool, true, false, refl, ap, ◌∙◌, append_assoc, eqb, cond, get_or, drop}
-use Rattle.std.specs.Prelude.{not, ◌&&◌, if◌then◌else◌, filter, map}
+use Rattle.std.specs.Prelude.{not, if◌then◌else◌, filter, map}
+use Rattle.std.proofs.lemmas.Bool.{and_parts, and_from, not-true}
 use Rattle.rv_model.specs.text.Lines.{is_newline, pieces, tagged, text, is_line, IsLine, are_lines, AreLines}
 use Rattle.rv_model.specs.machine.Script.{lines, of_user}
-
--- both parts of a conjunction
-pub both : (a b : Bool) → (a && b) ≡ true → (a ≡ true) × (b ≡ true)
-both true b h = (refl, h)
-both false b h = absurd (cc)
-
-pub both_of : (a b : Bool) → a ≡ true → b ≡ true → (a && b) ≡ true
-both_of a b h k = rw (h, k) refl
-
-pub not_true : (a : Bool) → not a ≡ true → a ≡ false
-not_true true h = absurd (cc)
-not_true false h = refl
 
 -- a line that ends is the first piece
 pub pieces_at : (line rest : List ℕ) → IsLine line → pieces (line ++ 10 ∷ rest) ≡ line ∷ pieces rest
 pieces_at [] rest h = refl
 pieces_at (b ∷ bs) rest h =
-    let two = both (not (is_newline b)) (is_line bs) h in
-    let other : eqb b 10 ≡ false = not_true (is_newline b) two.0 in
+    let two = and_parts (not (is_newline b)) (is_line bs) h in
+    let other : eqb b 10 ≡ false = not-true (is_newline b) two.0 in
     rw (other, pieces_at bs rest two.1) refl
 
 -- a line that doesn't end is the one piece
 pub pieces_of_line : (line : List ℕ) → IsLine line → pieces line ≡ line ∷ []
 pieces_of_line [] h = refl
 pieces_of_line (b ∷ bs) h =
-    let two = both (not (is_newline b)) (is_line bs) h in
-    let other : eqb b 10 ≡ false = not_true (is_newline b) two.0 in
+    let two = and_parts (not (is_newline b)) (is_line bs) h in
+    let other : eqb b 10 ≡ false = not-true (is_newline b) two.0 in
     rw (other, pieces_of_line bs two.1) refl
 
 shown : (b : Bool) (line : List ℕ) (ps : List (List ℕ)) (tag : ℕ) → map (λ (l : List ℕ). drop 2 l) (cond b ((tag ∷ 32 ∷ line) ∷ ps) ps) ≡ cond b (line ∷ map (λ (l : List ℕ). drop 2 l) ps) (map (λ (l : List ℕ). drop 2 l) ps)
@@ -44,7 +33,7 @@ joined false l ls all rest h = h
 pub lines_tagged : (u tag : ℕ) (line rest : List ℕ) → is_newline tag ≡ false → IsLine line → lines u (tagged tag line ++ rest) ≡ (if eqb tag (48 + u) then line ∷ lines u rest else lines u rest)
 unfolding lines
 lines_tagged u tag line rest plain h =
-    let all : IsLine (tag ∷ 32 ∷ line) = both_of (not (is_newline tag)) (is_line (32 ∷ line)) (ap not plain) h in
+    let all : IsLine (tag ∷ 32 ∷ line) = and_from (not (is_newline tag)) (is_line (32 ∷ line)) (ap not plain) h in
     let e : tagged tag line ++ rest ≡ (tag ∷ 32 ∷ line) ++ 10 ∷ rest = ap (λ (l : List ℕ). tag ∷ 32 ∷ l) (append_assoc line (10 ∷ []) rest) in
     ap (λ (t : List ℕ). of_user u (pieces t)) e ∙ ap (of_user u) (pieces_at (tag ∷ 32 ∷ line) rest all)
     ∙ shown (eqb tag (48 + u)) line (filter (λ l. eqb (get_or l 0 0) (48 + u)) (pieces rest)) tag
@@ -53,7 +42,7 @@ lines_tagged u tag line rest plain h =
 pub lines_text : (u tag : ℕ) (ls : List (List ℕ)) (rest : List ℕ) → is_newline tag ≡ false → AreLines ls → lines u (text tag ls ++ rest) ≡ (if eqb tag (48 + u) then ls else []) ++ lines u rest
 lines_text u tag [] rest plain h = elim (eqb tag (48 + u)) as (λ b. lines u rest ≡ (if b then [] else []) ++ lines u rest) [ true ↦ refl | false ↦ refl ]
 lines_text u tag (l ∷ ls) rest plain h =
-    let two = both (is_line l) (are_lines ls) h in
+    let two = and_parts (is_line l) (are_lines ls) h in
     ap (lines u) (append_assoc (tagged tag l) (text tag ls) rest)
     ∙ lines_tagged u tag l (text tag ls ++ rest) plain two.0
     ∙ joined (eqb tag (48 + u)) l ls (lines u (text tag ls ++ rest)) (lines u rest) (lines_text u tag ls rest plain two.1)

@@ -4,10 +4,10 @@ use Rattle.std.specs.Prelude.{not, decimal, codes, ◌==◌, nat_lt, flat_map}
 use Rattle.std.specs.Int.{to_be_bytes, w32, w64}
 use Rattle.std.proofs.lemmas.Bool.Decides.{nat_tests}
 use Rattle.std.specs.Fmt.{digits, digits_onto, digit_glyph}
+use Rattle.std.proofs.lemmas.Bool.{and_parts, and_from}
 use Rattle.hex.specs.Hex.{encode_lower, encode_with, lower_digits}
 use Rattle.rv_model.specs.commands.Printing.{hex8, hex16}
 use Rattle.rv_model.specs.text.Lines.{is_newline, is_line, IsLine}
-use Rattle.rv_model.proofs.text_lemmas.Lines.{both, both_of}
 
 -- what holds of both holds of the one that a test picks
 pub of_either : {A : Type 0} (P : A → Type 0) (b : Bool) (x y : A) → P x → P y → P (cond b x y)
@@ -18,19 +18,19 @@ of_either P false x y h k = k
 pub is_line-append : (a b : List ℕ) → IsLine a → IsLine b → IsLine (a ++ b)
 is_line-append [] b h k = k
 is_line-append (c ∷ a) b h k =
-    let two = both (not (is_newline c)) (is_line a) h in
-    both_of (not (is_newline c)) (is_line (a ++ b)) two.0 (is_line-append a b two.1 k)
+    let two = and_parts (not (is_newline c)) (is_line a) h in
+    and_from (not (is_newline c)) (is_line (a ++ b)) two.0 (is_line-append a b two.1 k)
 
 digit_line : (t : List ℕ) (k : ℕ) → IsLine t → not (is_newline (get_or t k 0)) ≡ true
 digit_line [] k h = refl
-digit_line (c ∷ t) zero h = (both (not (is_newline c)) (is_line t) h).0
-digit_line (c ∷ t) (suc k) h = digit_line t k (both (not (is_newline c)) (is_line t) h).1
+digit_line (c ∷ t) zero h = (and_parts (not (is_newline c)) (is_line t) h).0
+digit_line (c ∷ t) (suc k) h = digit_line t k (and_parts (not (is_newline c)) (is_line t) h).1
 
 pub encode_line : (t bytes : List ℕ) → IsLine t → IsLine (encode_with t bytes)
 unfolding encode_with
 encode_line t [] h = refl
 encode_line t (b ∷ bs) h =
-    both_of _ _ (digit_line t (b / 16) h) (both_of _ _ (digit_line t (b % 16) h) (encode_line t bs h))
+    and_from _ _ (digit_line t (b / 16) h) (and_from _ _ (digit_line t (b % 16) h) (encode_line t bs h))
 
 pub hex8_line : (n : ℕ) → IsLine (hex8 n)
 unfolding hex8
@@ -43,7 +43,7 @@ hex16_line n = encode_line lower_digits (to_be_bytes w64 n) refl
 digits_line : (k n : ℕ) (after : List ℕ) → IsLine after → IsLine (digits_onto k 10 false n after)
 digits_line zero n after h = h
 digits_line (suc k) n after h =
-    let line = both_of _ _ (glyph (n % 10)) h in
+    let line = and_from _ _ (glyph (n % 10)) h in
     of_either IsLine (n / 10 == 0) _ _ line (digits_line k (n / 10) (digit_glyph false (n % 10) ∷ after) line)
   where
     small : (d : ℕ) → not (eqb (48 + d) 10) ≡ true

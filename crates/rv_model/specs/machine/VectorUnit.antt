@@ -1,7 +1,7 @@
 -- The one vector unit of all users, as it is counted: whose state it holds, whether that state was changed since it was saved
 -- last, whose states are saved, and how often a state was saved, restored and used for the first time (Privileged Architecture
 -- 20211203, section 3.1.6.6, the field VS). Each user has a vector state of its own so far, so nothing is counted yet.
-use Rattle.std.specs.Prelude.{ℕ, Bool, false, List, Option, None, replicate}
+use Rattle.std.specs.Prelude.{ℕ, ◌+◌, ◌-◌, ◌^◌, ◌==◌, Bool, true, false, List, Option, Some, None, if◌then◌else◌, min, replicate, slice_index_or, slice_set}
 use Rattle.rv_model.specs.machine.Users.{user_count}
 
 pub record VectorUnit : Type 0 where
@@ -15,3 +15,62 @@ pub record VectorUnit : Type 0 where
 -- nobody has used it, and nobody's state is saved
 abbrev pub unused_unit : VectorUnit
 unused_unit = record { owner = None; dirty = false; saved = replicate user_count false; saves = 0; restores = 0; first_uses = 0 }
+
+-- ---- what moves the record. The field VS of a user's status is Off for everyone but the owner; the owner's is Initial after
+-- a first use, Clean after a restore, and Dirty after a change.
+
+-- one more; a count that has come to the greatest number of 64 bits stays there
+abbrev pub counted : ℕ → ℕ
+counted count = min (count + 1) (2 ^ 64 - 1)
+
+-- whether an owner, if there is one, is this user
+abbrev pub is_owned_by : Option ℕ → ℕ → Bool
+is_owned_by None user = false
+is_owned_by (Some owner) user = owner == user
+
+-- whether a user's state is saved, by the marks of all users in order
+abbrev pub is_marked : List Bool → ℕ → Bool
+is_marked saved user = slice_index_or saved (user - 1) false
+
+-- the marks with that of one user set or taken away
+abbrev pub with_mark : ℕ → Bool → List Bool → List Bool
+with_mark user mark saved = slice_set saved (user - 1) mark
+
+-- the owner's state is saved if it was changed since it was saved last
+abbrev pub owner_saved : Option ℕ → VectorUnit → VectorUnit
+owner_saved None unit = unit
+owner_saved (Some owner) unit =
+    if unit.dirty then record unit { saved = with_mark owner true unit.saved; saves = counted unit.saves } else unit
+
+-- a user becomes the owner: the user's state is restored if it is saved, and is the initial one at a first use
+abbrev pub owner_changed : ℕ → VectorUnit → VectorUnit
+owner_changed user unit =
+    if is_marked unit.saved user
+    then record unit { owner = Some user; dirty = false; restores = counted unit.restores }
+    else record unit { owner = Some user; dirty = false; first_uses = counted unit.first_uses }
+
+-- a user touches the unit; where the user is the owner already, nothing is saved and nothing restored
+abbrev pub unit_touched : ℕ → VectorUnit → VectorUnit
+unit_touched user unit =
+    if is_owned_by unit.owner user then unit else owner_changed user (owner_saved unit.owner unit)
+
+-- the owner's state is changed
+abbrev pub unit_changed : VectorUnit → VectorUnit
+unit_changed unit = record unit { dirty = true }
+
+-- an instruction of a user: it may touch the unit, and one that touches it may change the user's state, which a vector
+-- instruction that isn't illegal does, and a write of a vector control register
+abbrev pub unit_after_instruction : Bool → Bool → ℕ → VectorUnit → VectorUnit
+unit_after_instruction touched changed user unit =
+    if touched then (if changed then unit_changed (unit_touched user unit) else unit_touched user unit) else unit
+
+-- a command writes a vector register of a user: the owner's state is changed; another user's is saved, and not counted
+abbrev pub unit_register_written : ℕ → VectorUnit → VectorUnit
+unit_register_written user unit =
+    if is_owned_by unit.owner user then unit_changed unit else record unit { saved = with_mark user true unit.saved }
+
+-- what a user had is dropped, as the user leaves or loads a program: nothing is saved or counted, and a unit that was the
+-- user's has no owner
+abbrev pub unit_discarded : ℕ → VectorUnit → VectorUnit
+unit_discarded user unit =
+    record unit { owner = (if is_owned_by unit.owner user then None else unit.owner); saved = with_mark user false unit.saved }

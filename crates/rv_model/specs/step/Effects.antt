@@ -2,7 +2,10 @@
 use Rattle.std.specs.Prelude.{ℕ, ◌≡◌, ◌≤◌, List, ◌++◌, length}
 use Rattle.rv_model.specs.declared.step.step_end.StepEnd.{StepEnd}
 use Rattle.rv_model.specs.declared.step.step_end.StepEnd.TheVariants.{Ran, Exit, Ebreak, Fault, OutputFull, Cut}
+use Rattle.rv_model.specs.declared.memory.Access.{Access}
+use Rattle.rv_model.specs.memory.Memory.{is_allowed}
 use Rattle.rv_model.specs.step.Hart.{HartState}
+use Rattle.rv_model.specs.vector.Configuration.{IsConfiguration}
 use Rattle.rv_model.specs.scalar.Registers.{read_register}
 use Rattle.rv_model.specs.step.Step.{step}
 use Rattle.rv_model.specs.step.WriteCall.{room}
@@ -36,3 +39,14 @@ pub record PutsOut (old new : List ℕ) : Type 0 where
 abbrev pub OutputGrowsWithin : Type 0
 OutputGrowsWithin =
     (limit : ℕ) (s : HartState) → PutsOut s.output (step limit s).state.output
+
+-- Every instruction that finds a vector length that is one of the vector type leaves one that is.
+abbrev pub StepKeepsConfiguration : Type 0
+StepKeepsConfiguration =
+    (limit : ℕ) (s : HartState) → IsConfiguration s.vector.conf → IsConfiguration (step limit s).state.vector.conf
+
+-- No instruction changes what is allowed at an address, so none maps an address.
+abbrev pub StepKeepsPermissions : Type 0
+StepKeepsPermissions =
+    (access : Access) (limit : ℕ) (s : HartState) (x : ℕ)
+    → is_allowed access (step limit s).state.memory x ≡ is_allowed access s.memory x

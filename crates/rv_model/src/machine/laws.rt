@@ -1,7 +1,9 @@
 //! Laws of the definitions, and small examples of them.
+ghost use Rattle.rv_model.specs.machine.Cuts.{CutsAreInvisible, SliceKeepsConfiguration, SlicesAddUp};
 ghost use Rattle.rv_model.specs.machine.Laws.{EachUserAlone, EachNewUserAlone, EachUserEndsAlone, OthersChangeNothing, MachinesStayEight};
-ghost use Rattle.rv_model.specs.step.Effects.{FaultsWriteNoRegister, FirstRegisterStays, OutputGrowsWithin};
+ghost use Rattle.rv_model.specs.step.Effects.{FaultsWriteNoRegister, FirstRegisterStays, OutputGrowsWithin, StepKeepsConfiguration, StepKeepsPermissions};
 ghost use Rattle.rv_model.specs.machine.Examples.{SmallScriptsPrint};
+ghost use Rattle.rv_model.specs.machine.Turns.{NobodyHasTwoTurns, EachRunningUserHasATurn, GrantsAreInTurn, ScriptsAreInTurn, OneTurnBetweenTurns};
 
 /// Each user's lines are those of a private machine that is given the user's own commands and
 /// slices: from any eight machines, and from new ones.
@@ -27,4 +29,30 @@ pub fn registers_that_stay()
 /// No instruction takes back what was put out, and none puts out more than there is room for.
 pub fn output_that_grows()
     ensures { OutputGrowsWithin }
+{}
+
+/// No instruction leaves a vector length that isn't one of the vector type, and none maps an
+/// address or changes what is allowed at one.
+pub fn configurations_that_stay()
+    ensures length { StepKeepsConfiguration }
+    ensures permissions { StepKeepsPermissions }
+{}
+
+/// A slice and then another are one of the ticks of both, and so are any number of them: where an
+/// instruction was cut shows nowhere, unless it stores over its own word.
+pub fn slices_add_up()
+    ensures cuts { CutsAreInvisible }
+    ensures slices { SlicesAddUp }
+    ensures configuration { SliceKeepsConfiguration }
+{}
+
+/// No user whose program runs waits for ever. Slices are granted in turn; while the user has no
+/// turn nobody else has two, as between two turns of the user in a script; and one of any eight
+/// turns in a row is the user's.
+pub fn turns_are_fair()
+    ensures at_most_one { NobodyHasTwoTurns }
+    ensures in_eight { EachRunningUserHasATurn }
+    ensures grants { GrantsAreInTurn }
+    ensures scripts { ScriptsAreInTurn }
+    ensures between { OneTurnBetweenTurns }
 {}

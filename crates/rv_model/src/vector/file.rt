@@ -62,6 +62,13 @@ impl VFile {
             .copy_from_slice(bytes.as_slice());
     }
 
+    /// Takes the registers of another file.
+    pub(crate) fn copy_from(&mut self, other: &VFile)
+        ensures { self.new ≡ other.now }
+    {
+        self.cells.bytes = other.cells.bytes;
+    }
+
     /// The bytes from one place up to another; register r begins at byte 32 r.
     pub fn part(&self, from: usize, to: usize) -> &[u8]
         requires order { from ≤ to }

@@ -21,6 +21,13 @@ impl Model for RegisterBytes {
 }
 
 impl RegisterBytes {
+    /// These bytes.
+    pub fn new(bytes: &[u8; VLENB]) -> RegisterBytes
+        ensures { result ≡ bytes.now }
+    {
+        RegisterBytes { bytes: *bytes }
+    }
+
     /// The bytes that exactly 64 hexadecimal digits spell.
     pub fn from_hex(text: &[u8]) -> Option<RegisterBytes>
         ensures { result ≡ register_bytes text.now }

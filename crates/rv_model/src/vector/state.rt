@@ -145,6 +145,17 @@ impl VState {
             vxsat: false,
         }
     }
+
+    /// Takes another vector state whole.
+    pub fn copy_from(&mut self, other: &VState)
+        ensures { self.new ≡ other.now }
+    {
+        self.file.copy_from(&other.file);
+        self.conf = other.conf;
+        self.vstart = other.vstart;
+        self.vxrm = other.vxrm;
+        self.vxsat = other.vxsat;
+    }
 }
 
 /// A vector state that is lent, and whether it was changed since it was last saved.

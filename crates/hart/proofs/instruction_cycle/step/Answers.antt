@@ -1,9 +1,24 @@
--- Where no instruction is fetched, nothing marks the seat.
-use Rattle.std.proofs.Common.{arith}
+-- Where no instruction is fetched, nothing marks the seat. A step that is cut goes on: the vector state that it found was lent.
+use Rattle.std.proofs.Common.{◌≡◌, arith}
 use Rattle.std.proofs.lemmas.Grind.{common_steps}
-use Rattle.rv_model.specs.step.Step.{dirties}
+use Rattle.rv_model.specs.step.Hart.{HartState, Stepped, ends_after, hart_state}
+use Rattle.rv_model.specs.step.Step.{dirties, step}
+use Rattle.rv_model.proofs.step_lemmas.GoesOn.{step_goes_on}
 use Rattle.hart.proofs.instruction_cycle.step.Goals as goal
 
 pub returns-in-Err-clause-dirty : goal.returns-in-Err-clause-dirty
 unfolding dirties
 returns-in-Err-clause-dirty g c = grind (arith, common_steps)
+
+pub returns-in-Ok-clause-goes_on : goal.returns-in-Ok-clause-goes_on
+unfolding step
+returns-in-Ok-clause-goes_on g c = λ later more cut keeps grown.
+    let v = c.args.view.now in
+    let n = c.execute.new in
+    let before : HartState =
+    hart_state v.scalar.now (g.V.Vectors.lent v.vectors.now).state (g.M.UserBytes.memory v.memory.now) v.policy v.output.now.items in
+    let after : Stepped =
+    ends_after c.execute.result.1 c.execute.result.0
+    (hart_state n.scalar (g.V.Vectors.lent n.vectors).state (g.M.UserBytes.memory n.memory) v.policy n.output.items) in
+    let is : step c.args.limit before ≡ after = grind (arith, common_steps) in
+    step_goes_on c.args.limit before after (c.execute.ensures.configuration cut) is later more cut keeps grown

@@ -3,7 +3,7 @@ use Rattle.rv_model.specs.declared.instructions.instruction.Instr.TheVariants.{V
 use Rattle.rv_model.specs.step.MemoryStep.{is_load, is_unit_load}
 use Rattle.rv_model.specs.step.VectorStep.{performed}
 use Rattle.rv_model.proofs.legality_lemmas.Accesses.{indexed_inside, strided_inside, unit_inside}
-use Rattle.vec_unit.specs.declared.memory_instructions.Segments.{Segments}
+use Rattle.vec_unit.specs.declared.memory_instructions.SegmentAccess.{SegmentAccess}
 use Rattle.vec_unit.proofs.SegmentSteps.{same_inside, same_legal, same_mask_access, same_plain, same_step}
 use Rattle.vec_unit.proofs.memory_instructions.perform_access.Goals as goal
 
@@ -38,7 +38,7 @@ pub returns-in-VectorUnit-clause-model : goal.returns-in-VectorUnit-clause-model
 unfolding performed
 returns-in-VectorUnit-clause-model g c = λ output.
     let i = c.in-VectorUnit in
-    let segments : Bool → Segments = λ loads. record { loads = loads; width = Some i.width; nf = i.nf; vd = i.vd; unmasked = i.vm } in
+    let segments : Bool → SegmentAccess = λ loads. record { loads = loads; width = Some i.width; nf = i.nf; vd = i.vd; unmasked = i.vm } in
     rw i.is
     (same_step c.args.limit c.args.state.now.conf.vtype c.new-segments.result (segments (is_unit_load i.op)) c.args.instr.now
     (VectorUnit i.op i.width i.nf i.vd i.rs1 i.vm) _ _ (c.new-segments.ensures ∙ ap segments c.is_unit_load.ensures) i.is
@@ -48,7 +48,7 @@ pub returns-in-VectorStrided-clause-model : goal.returns-in-VectorStrided-clause
 unfolding performed
 returns-in-VectorStrided-clause-model g c = λ output.
     let i = c.in-VectorStrided in
-    let segments : Bool → Segments = λ loads. record { loads = loads; width = Some i.width; nf = i.nf; vd = i.vd; unmasked = i.vm } in
+    let segments : Bool → SegmentAccess = λ loads. record { loads = loads; width = Some i.width; nf = i.nf; vd = i.vd; unmasked = i.vm } in
     rw i.is
     (same_step c.args.limit c.args.state.now.conf.vtype c.new-segments-in-VectorStrided.result (segments (is_load i.direction)) c.args.instr.now
     (VectorStrided i.direction i.width i.nf i.vd i.rs1 i.rs2 i.vm) _ _
@@ -59,7 +59,7 @@ pub returns-in-VectorIndexed-clause-model : goal.returns-in-VectorIndexed-clause
 unfolding performed
 returns-in-VectorIndexed-clause-model g c = λ output.
     let i = c.in-VectorIndexed in
-    let segments : Bool → Segments = λ loads. record { loads = loads; width = None; nf = i.nf; vd = i.vd; unmasked = i.vm } in
+    let segments : Bool → SegmentAccess = λ loads. record { loads = loads; width = None; nf = i.nf; vd = i.vd; unmasked = i.vm } in
     rw i.is
     (same_step c.args.limit c.args.state.now.conf.vtype c.new-segments-in-VectorIndexed.result (segments (is_load i.direction)) c.args.instr.now
     (VectorIndexed i.direction i.order i.width i.nf i.vd i.rs1 i.vs2 i.vm) _ _

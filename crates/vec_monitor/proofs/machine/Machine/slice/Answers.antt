@@ -1,9 +1,10 @@
-use Rattle.std.proofs.Common.{◌+◌, ◌++◌, List, [], ℕ, ap, ◌∙◌, sym}
-use Rattle.rv_model.specs.machine.PrivateMachine.{Outcome}
+use Rattle.std.proofs.Common.{◌+◌, ◌++◌, List, [], ℕ, ap, subst, ◌∙◌, sym}
+use Rattle.rv_model.specs.machine.PrivateMachine.{Outcome, sliced}
 use Rattle.rv_model.specs.machine.Script.{World, part, with_part}
 use Rattle.rv_model.specs.text.Lines.{text}
-use Rattle.vec_monitor.specs.MachineState.{MachineState}
+use Rattle.vec_monitor.specs.MachineState.{MachineState, SliceGoesOn}
 use Rattle.vec_monitor.specs.Images.{setup_of}
+use Rattle.vec_monitor.proofs.CutLaws.{slice_goes_on}
 use Rattle.vec_monitor.proofs.GrantLaws.{not_sliced}
 use Rattle.vec_monitor.proofs.PartLaws.{part_put_back}
 use Rattle.vec_monitor.proofs.machine.Machine.slice.Goals as goal
@@ -22,3 +23,14 @@ returns-clause-same g c = λ stopped.
     let none = not_sliced c.self.inside.quantum (part user c.self.inside.users) (sym c.slice.ensures.ran ∙ stopped) in
     let world = c.slice.ensures.world ∙ ap (λ (o : Outcome). with_part user o.next c.self.inside.users) none ∙ part_put_back user c.self.inside.users in
     ap (λ (w : World). let m : MachineState = record { setup = setup_of c.self.inside.quantum c.self.inside.images.now; world = w } in m) world ∙ c.self.view_is
+
+pub returns-clause-adds_up : goal.returns-clause-adds_up
+returns-clause-adds_up g c =
+    let user : ℕ = c.args.user in
+    let before : MachineState =
+    record { setup = setup_of c.self.inside.quantum c.self.inside.images.now; world = c.self.inside.users } in
+    let now : MachineState = record { setup = before.setup; world = c.slice.new.self } in
+    let lines : List (List ℕ) = (sliced c.self.inside.quantum (part user c.self.inside.users)).lines in
+    let printed = c.slice.ensures.reply ∙ ap (λ (bytes : List ℕ). bytes ++ text (48 + user) lines) c.clear.ensures in
+    subst (λ (m : MachineState). SliceGoesOn m user now c.slice.new.reply) c.self.view_is
+    (slice_goes_on before now user c.slice.new.reply c.slice.ensures.configured c.slice.ensures.next printed)

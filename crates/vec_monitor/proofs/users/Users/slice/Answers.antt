@@ -1,5 +1,6 @@
-use Rattle.std.proofs.Common.{◌≡◌, ◌+◌, ◌-◌, ℕ, List, ◌++◌, length, length-set, get_or, set, ap, ◌∙◌, sym, arith}
+use Rattle.std.proofs.Common.{◌≡◌, ◌+◌, ◌-◌, ℕ, List, ◌++◌, length, length-set, get_or, get_or-set_same, set, ap, subst, ◌∙◌, sym, arith, None}
 use Rattle.std.proofs.lemmas.List.{with_items_is}
+use Rattle.rv_model.specs.machine.Cuts.{IsConfigured}
 use Rattle.rv_model.specs.machine.Grants.{runs}
 use Rattle.rv_model.specs.machine.PrivateMachine.{sliced}
 use Rattle.rv_model.specs.machine.UserMachine.{Private}
@@ -67,3 +68,21 @@ returns-clause-bound g c =
     ∙ part_count c.self.inside.contexts c.self.inside.traces.items c.self.inside.pool (c.self.invariant.contexts ∙ sym c.self.invariant.traces) (c.self.invariant.traces ∙ sym c.self.invariant.memories) in
     let changed = stops_room_set c.args.self.now.parts (user - 1) (sliced c.args.quantum (part user c.args.self.now)).next (omega (arith, count, c.self.invariant.contexts, c.index.ensures.value, c.index.ensures.small)) in
     room_left _ _ _ _ _ _ _ _ _ c.grant.ensures.bound (ap stop_room after) (ap stop_room before) (ap (λ (w : World). stops_room w.parts) (returns-clause-world g c)) changed
+
+pub returns-clause-next : goal.returns-clause-next
+returns-clause-next g c =
+    let user : ℕ = c.args.user in
+    let count =
+    sym (ap (λ (w : World). length w.parts) c.self.view_is)
+    ∙ part_count c.self.inside.contexts c.self.inside.traces.items c.self.inside.pool (c.self.invariant.contexts ∙ sym c.self.invariant.traces) (c.self.invariant.traces ∙ sym c.self.invariant.memories) in
+    ap (λ (w : World). part user w) (returns-clause-world g c)
+    ∙ get_or-set_same c.args.self.now.parts (user - 1) (sliced c.args.quantum (part user c.args.self.now)).next None (omega (arith, count, c.self.invariant.contexts, c.index.ensures.value, c.index.ensures.small))
+
+pub returns-clause-configured : goal.returns-clause-configured
+returns-clause-configured g c =
+    let user : ℕ = c.args.user in
+    let before =
+    ap (λ (ts : List Addresses). private_of (get_or c.self.inside.contexts c.index.result c.index-self-index.result) (trace_of ts user) (memory_of_user c.self.inside.pool user)) c.as_mut_slice.ensures.value
+    ∙ sym (part_is c.self.inside.contexts c.self.inside.traces.items c.self.inside.pool c.self.inside.cursor user c.index.result c.index-self-index.result c.index.ensures.value c.index.ensures.small c.self.invariant)
+    ∙ ap (λ (w : World). part user w) c.self.view_is in
+    subst (λ (p : Private). IsConfigured p) before c.grant.ensures.configured

@@ -1,28 +1,22 @@
-use Rattle.std.proofs.Common.{ℕ, ◌<◌, ◌≡◌, ◌∙◌, ap, arith}
-use Rattle.rv_model.specs.elements.Arithmetic.{GroupType, binary_result, group_element, second_element}
-use Rattle.rv_model.specs.elements.Elements.{element}
+use Rattle.std.proofs.Common.{◌∙◌, ap, arith}
+use Rattle.rv_model.specs.elements.Arithmetic.{GroupType, binary_result, second_element}
 use Rattle.rv_model.specs.elements.Formulas.{formula, has_unsigned_immediate, wrap}
-use Rattle.rv_model.specs.vector.Configuration.{width_bytes}
 use Rattle.rv_model.proofs.element_lemmas.Arithmetic.{results_same}
+use Rattle.vec_unit.proofs.CopiedOperands.{two_operands}
 use Rattle.vec_unit.proofs.binary.BinaryOperationElementWise.write.Goals as goal
 
 pub returns : goal.returns
 returns g c =
     let t : GroupType = record { width = g.L.Lane.width; emul = c.args.destination.emul } in
-    let k : ℕ = width_bytes g.L.Lane.width in
     let o = c.args.self.now in
     let file = c.args.file.now in
     let x = c.args.scalar.now in
-    let first : (i : ℕ) → element k c.group_copy-a.result.now i ≡ group_element t file o.vs2 i =
-    λ i. ap (λ bytes. element k bytes i) c.group_copy-a.ensures.value in
-    let second : (i : ℕ) → i < c.args.body.now.end
-    → element k c.second_copy-b.result.now i ≡ second_element t (has_unsigned_immediate o.op) o.source file x i =
-    λ i h. c.second_copy-b.ensures.elements i (omega (arith, h, c.end.ensures))
-    ∙ ap (λ u. second_element t u o.source file x i) c.has_unsigned_immediate-unsigned.ensures in
-    let told : ℕ → ℕ → ℕ = λ a b. wrap t.width (formula o.op t.width a b) in
     c.write_group.ensures
     ∙ results_same t c.args.destination.vd c.args.body.now
     c.args.destination.agnostic.fill_masked_off c.args.destination.agnostic.fill_tail
-    (λ i. told (element k c.group_copy-a.result.now i) (element k c.second_copy-b.result.now i))
-    (binary_result t o.op o.vs2 o.source file x) file
-    (λ i h. ap (λ a. told a (element k c.second_copy-b.result.now i)) (first i) ∙ ap (told (group_element t file o.vs2 i)) (second i h))
+    _ (binary_result t o.op o.vs2 o.source file x) file
+    (two_operands t t (λ a b. wrap t.width (formula o.op t.width a b))
+    c.group_copy-a.result.now c.second_copy-b.result.now file o.vs2
+    c.args.body.now.end (second_element t (has_unsigned_immediate o.op) o.source file x) c.group_copy-a.ensures.value
+    (λ i h. c.second_copy-b.ensures.elements i (omega (arith, h, c.end.ensures))
+    ∙ ap (λ u. second_element t u o.source file x i) c.has_unsigned_immediate-unsigned.ensures))

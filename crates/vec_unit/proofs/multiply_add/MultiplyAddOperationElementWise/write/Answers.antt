@@ -1,31 +1,25 @@
-use Rattle.std.proofs.Common.{ℕ, ◌<◌, ◌≡◌, ◌∙◌, ap, arith, false}
+use Rattle.std.proofs.Common.{◌∙◌, ap, arith, false}
 use Rattle.rv_model.specs.elements.Arithmetic.{GroupType, group_element, multiply_add_result, second_element}
 use Rattle.rv_model.specs.elements.Elements.{element}
 use Rattle.rv_model.specs.elements.Formulas.{multiply_add_formula, wrap}
 use Rattle.rv_model.specs.vector.Configuration.{width_bytes}
 use Rattle.rv_model.proofs.element_lemmas.Arithmetic.{results_same}
+use Rattle.vec_unit.proofs.CopiedOperands.{three_operands}
 use Rattle.vec_unit.proofs.multiply_add.MultiplyAddOperationElementWise.write.Goals as goal
 
 pub returns : goal.returns
 returns g c =
     let t : GroupType = record { width = g.L.Lane.width; emul = c.args.destination.emul } in
-    let k : ℕ = width_bytes g.L.Lane.width in
     let o = c.args.self.now in
     let file = c.args.file.now in
     let x = c.args.scalar.now in
-    let first : (i : ℕ) → element k c.group_copy-a.result.now i ≡ group_element t file o.vs2 i =
-    λ i. ap (λ bytes. element k bytes i) c.group_copy-a.ensures.value in
-    let second : (i : ℕ) → i < c.args.body.now.end → element k c.second_copy-b.result.now i ≡ second_element t false o.source file x i =
-    λ i h. c.second_copy-b.ensures.elements i (omega (arith, h, c.end.ensures)) in
-    let third : (i : ℕ) → element k c.group_copy-d.result.now i ≡ group_element t file o.vd i =
-    λ i. ap (λ bytes. element k bytes i) c.group_copy-d.ensures.value in
-    let told : ℕ → ℕ → ℕ → ℕ = λ a b d. wrap t.width (multiply_add_formula o.op a b d) in
     c.write_group.ensures
     ∙ results_same t c.args.destination.vd c.args.body.now
     c.args.destination.agnostic.fill_masked_off c.args.destination.agnostic.fill_tail
-    (λ i. told (element k c.group_copy-a.result.now i) (element k c.second_copy-b.result.now i) (element k c.group_copy-d.result.now i))
-    (multiply_add_result t o.op o.vd o.vs2 o.source file x) file
-    (λ i h.
-    ap (λ a. told a (element k c.second_copy-b.result.now i) (element k c.group_copy-d.result.now i)) (first i)
-    ∙ ap (λ b. told (group_element t file o.vs2 i) b (element k c.group_copy-d.result.now i)) (second i h)
-    ∙ ap (told (group_element t file o.vs2 i) (second_element t false o.source file x i)) (third i))
+    _ (multiply_add_result t o.op o.vd o.vs2 o.source file x) file
+    (three_operands t t (λ a b d. wrap t.width (multiply_add_formula o.op a b d))
+    c.group_copy-a.result.now c.second_copy-b.result.now file o.vs2
+    c.args.body.now.end (second_element t false o.source file x)
+    (λ i. element (width_bytes t.width) c.group_copy-d.result.now i) (group_element t file o.vd) c.group_copy-a.ensures.value
+    (λ i h. c.second_copy-b.ensures.elements i (omega (arith, h, c.end.ensures)))
+    (λ i. ap (λ bytes. element (width_bytes t.width) bytes i) c.group_copy-d.ensures.value))

@@ -1,9 +1,8 @@
-use Rattle.std.proofs.Common.{ℕ, ◌<◌, ◌≡◌, ◌∙◌, ap, arith, false}
-use Rattle.rv_model.specs.elements.Arithmetic.{GroupType, group_element, second_element, wide_source_result}
-use Rattle.rv_model.specs.elements.Elements.{element}
+use Rattle.std.proofs.Common.{◌∙◌, arith, false}
+use Rattle.rv_model.specs.elements.Arithmetic.{GroupType, second_element, wide_source_result}
 use Rattle.rv_model.specs.elements.Formulas.{wide_source_formula, wrap}
-use Rattle.rv_model.specs.vector.Configuration.{width_bytes}
 use Rattle.rv_model.proofs.element_lemmas.Arithmetic.{results_same}
+use Rattle.vec_unit.proofs.CopiedOperands.{two_operands}
 use Rattle.vec_unit.proofs.widen.WideSourceOperationTwoWidths.write.Goals as goal
 
 pub returns : goal.returns
@@ -13,14 +12,11 @@ returns g c =
     let o = c.args.self.now in
     let file = c.args.file.now in
     let x = c.args.scalar.now in
-    let first : (i : ℕ) → element (width_bytes t.width) c.group_copy-a.result.now i ≡ group_element t file o.vs2 i =
-    λ i. ap (λ bytes. element (width_bytes t.width) bytes i) c.group_copy-a.ensures.value in
-    let second : (i : ℕ) → i < c.args.body.now.end → element (width_bytes u.width) c.second_copy-b.result.now i ≡ second_element u false o.source file x i =
-    λ i h. c.second_copy-b.ensures.elements i (omega (arith, h, c.end.ensures)) in
-    let told : ℕ → ℕ → ℕ = λ a b. wrap t.width (wide_source_formula o.op t.width u.width a b) in
     c.write_group.ensures
     ∙ results_same t c.args.destination.vd c.args.body.now
     c.args.destination.agnostic.fill_masked_off c.args.destination.agnostic.fill_tail
-    (λ i. told (element (width_bytes t.width) c.group_copy-a.result.now i) (element (width_bytes u.width) c.second_copy-b.result.now i))
-    (wide_source_result u t o.op o.vs2 o.source file x) file
-    (λ i h. ap (λ a. told a (element (width_bytes u.width) c.second_copy-b.result.now i)) (first i) ∙ ap (told (group_element t file o.vs2 i)) (second i h))
+    _ (wide_source_result u t o.op o.vs2 o.source file x) file
+    (two_operands t u (λ a b. wrap t.width (wide_source_formula o.op t.width u.width a b))
+    c.group_copy-a.result.now c.second_copy-b.result.now file o.vs2
+    c.args.body.now.end (second_element u false o.source file x) c.group_copy-a.ensures.value
+    (λ i h. c.second_copy-b.ensures.elements i (omega (arith, h, c.end.ensures))))

@@ -1,0 +1,150 @@
+-- Laws of the lazily switched vector unit.
+use Rattle.std.specs.Prelude.{ℕ, zero, suc, ◌-◌, ◌≡◌, ◌≢◌, ◌<◌, ◌≤◌, Bool, true, false, List, Option, Some, None, ◌&&◌, if◌then◌else◌, length, replicate, refl}
+use Rattle.std.proofs.Common.{ap, arith, get_or, get_or-set_other, get_or-set_same, inl, inr}
+use Rattle.rv_model.specs.declared.vector.state.Seat.{Seat}
+use Rattle.rv_model.specs.declared.vector.state.VState.{VState}
+use Rattle.rv_model.specs.machine.Users.{user_count}
+use Rattle.rv_model.specs.machine.VectorUnit.{is_owned_by, unit_discarded, unit_register_written, unit_touched}
+use Rattle.rv_model.specs.vector.Seats.{IsGivenBack}
+use Rattle.rv_model.specs.vector.State.{initial_vector}
+use Rattle.lazy_context.specs.declared.areas.Areas.{Areas}
+use Rattle.lazy_context.specs.declared.unit.Unit.{Unit}
+use Rattle.lazy_context.specs.LazyUnit.{IsOwnerAUser, IsSettled, IsSettledWith, KeepsArea, KeepsAreas, OthersKeep, areas_saved, discarded, new_unit, poked, record_of, state_among, state_of, taken, touched, with_seat}
+use Rattle.lazy_context.specs.SaveAreas.{area, new_areas, saved_state, with_register, with_saved}
+
+none_marked : (n m : ℕ) → get_or (replicate n false) m false ≡ false
+none_marked zero m = refl
+none_marked (suc n) zero = refl
+none_marked (suc n) (suc m) = none_marked n m
+
+-- before its first use a unit has the initial state for everyone
+pub initial_states : (user : ℕ) → state_of new_unit user ≡ initial_vector
+initial_states user =
+    ap (λ (b : Bool). if b then area new_areas user else initial_vector) (none_marked user_count (user - 1))
+
+settled_given : (owner : Option ℕ) (lent back : Seat) (areas : Areas) → IsSettledWith owner lent areas → IsGivenBack lent back
+    → IsSettledWith owner back areas
+settled_given owner lent back areas h (inl e) = λ n b d. cc
+settled_given owner lent back areas h (inr e) = rw e h
+
+settled_taken : (user : ℕ) (areas : Areas) (unit : Unit) → IsSettled (taken user areas unit)
+settled_taken user areas unit = grind arith
+
+settled_touched : (user : ℕ) (unit : Unit) → IsSettled unit → IsSettled (touched user unit)
+settled_touched user unit h = grind (arith, settled_taken)
+
+-- the unit is settled again where the seat came back dirty or as it was lent
+pub settled_again : (user : ℕ) (unit : Unit) (back : Seat) → IsSettled unit → IsGivenBack (touched user unit).seat back
+    → IsSettled (with_seat back (touched user unit))
+settled_again user unit back h g =
+    let after = touched user unit in
+    settled_given after.owner after.seat back after.areas (settled_touched user unit h) g
+
+same_saved : (user : ℕ) (state : VState) (areas : Areas) → user - 1 < length areas.states → user - 1 < length areas.marks
+    → saved_state (with_saved user state areas) user ≡ state
+same_saved user state areas h g = grind (arith, get_or-set_same)
+
+other_saved : (user other : ℕ) (state : VState) (areas : Areas) → other - 1 ≢ user - 1
+    → saved_state (with_saved user state areas) other ≡ saved_state areas other
+other_saved user other state areas h = grind (arith, get_or-set_other)
+
+-- once the owner's state is saved, the areas show what everyone has
+pub saved_keep : (owner : Option ℕ) (seat : Seat) (areas : Areas) (user : ℕ) → length areas.states ≡ user_count
+    → length areas.marks ≡ user_count → IsOwnerAUser owner → IsSettledWith owner seat areas → 1 ≤ user
+    → saved_state (areas_saved owner seat areas) user ≡ state_among owner seat areas user
+saved_keep None seat areas user p q r h low = refl
+saved_keep (Some n) seat areas user p q r h low = grind (arith, same_saved, other_saved)
+
+-- who takes the unit changes nobody's state
+pub taken_keeps : (user other : ℕ) (areas : Areas) (unit : Unit)
+    → state_of (taken user areas unit) other ≡ saved_state areas other
+taken_keeps user other areas unit = grind arith
+
+-- who takes the unit finds there what the save areas show
+pub taken_state : (user : ℕ) (areas : Areas) (unit : Unit) → (taken user areas unit).seat.state ≡ saved_state areas user
+taken_state user areas unit = grind arith
+
+-- a touch by the owner changes nothing
+pub owner_touches : (user : ℕ) (unit : Unit) → is_owned_by unit.owner user ≡ true → touched user unit ≡ unit
+owner_touches user unit h = grind arith
+
+-- who has touched the unit is the owner
+pub touched_again : (user : ℕ) (unit : Unit) (back : Seat)
+    → touched user (with_seat back (touched user unit)) ≡ with_seat back (touched user unit)
+touched_again user unit back = grind arith
+
+counts_by : (user : ℕ) (unit : Unit) (owner : Option ℕ) → unit.owner ≡ owner
+    → record_of (touched user unit) ≡ unit_touched user (record_of unit)
+counts_by user unit None e = grind arith
+counts_by user unit (Some n) e = grind arith
+
+-- a touch is counted as it is written
+pub touch_counts : (user : ℕ) (unit : Unit) → record_of (touched user unit) ≡ unit_touched user (record_of unit)
+touch_counts user unit = counts_by user unit unit.owner refl
+
+clean_by : (user : ℕ) (unit : Unit) (owner : Option ℕ) → unit.owner ≡ owner → unit.seat.dirty ≡ false
+    → KeepsAreas unit (touched user unit)
+clean_by user unit None e h = grind arith
+clean_by user unit (Some n) e h = grind arith
+
+-- where the owner's state isn't dirty, a touch writes no save area
+pub clean_touches : (user : ℕ) (unit : Unit) → unit.seat.dirty ≡ false → KeepsAreas unit (touched user unit)
+clean_touches user unit h = clean_by user unit unit.owner refl h
+
+-- a save writes no area but the dirty owner's
+pub other_areas : (owner : Option ℕ) (seat : Seat) (areas : Areas) (other : ℕ) → IsOwnerAUser owner → 1 ≤ other
+    → (is_owned_by owner other && seat.dirty) ≡ false → KeepsArea other areas (areas_saved owner seat areas)
+other_areas None seat areas other r low h = (refl, refl)
+other_areas (Some n) seat areas other r low h =
+    let bounds : (1 ≤ n) × (n ≤ user_count) = r n refl in grind (arith, get_or-set_other)
+
+-- who takes the unit writes no area
+pub taken_areas : (user other : ℕ) (areas : Areas) (unit : Unit) → KeepsArea other areas (taken user areas unit).areas
+taken_areas user other areas unit = grind arith
+
+-- ---- a register is written by a command
+
+pub poke_own : (user register : ℕ) (bytes : List ℕ) (unit : Unit) → user - 1 < length unit.areas.states
+    → user - 1 < length unit.areas.marks
+    → state_of (poked user register bytes unit) user ≡ with_register register bytes (state_of unit user)
+poke_own user register bytes unit h g = grind (arith, same_saved)
+
+pub poke_others : (user register : ℕ) (bytes : List ℕ) (unit : Unit) → 1 ≤ user
+    → OthersKeep user unit (poked user register bytes unit)
+poke_others user register bytes unit low = λ other from apart. grind (arith, other_saved)
+
+pub poke_counts : (user register : ℕ) (bytes : List ℕ) (unit : Unit)
+    → record_of (poked user register bytes unit) ≡ unit_register_written user (record_of unit)
+poke_counts user register bytes unit = grind arith
+
+poke_settled_by : (user register : ℕ) (bytes : List ℕ) (unit : Unit) (owner : Option ℕ) → unit.owner ≡ owner → 1 ≤ user
+    → IsOwnerAUser owner → IsSettledWith owner unit.seat unit.areas
+    → IsSettledWith owner (poked user register bytes unit).seat (poked user register bytes unit).areas
+poke_settled_by user register bytes unit None e low r h = λ owner none clean. cc
+poke_settled_by user register bytes unit (Some n) e low r h = grind (arith, other_saved)
+
+pub poke_settled : (user register : ℕ) (bytes : List ℕ) (unit : Unit) → 1 ≤ user → IsOwnerAUser unit.owner → IsSettled unit
+    → IsSettled (poked user register bytes unit)
+poke_settled user register bytes unit low r h = grind (arith, poke_settled_by)
+
+-- ---- a user is dropped
+
+pub discard_own : (user : ℕ) (unit : Unit) → user - 1 < length unit.areas.marks
+    → state_of (discarded user unit) user ≡ initial_vector
+discard_own user unit h = grind (arith, get_or-set_same)
+
+pub discard_others : (user : ℕ) (unit : Unit) → 1 ≤ user → OthersKeep user unit (discarded user unit)
+discard_others user unit low = λ other from apart. grind (arith, get_or-set_other)
+
+pub discard_counts : (user : ℕ) (unit : Unit) → record_of (discarded user unit) ≡ unit_discarded user (record_of unit)
+discard_counts user unit = refl
+
+discard_settled_by : (user : ℕ) (unit : Unit) (owner : Option ℕ) → unit.owner ≡ owner → 1 ≤ user → IsOwnerAUser owner
+    → IsSettledWith owner unit.seat unit.areas
+    → IsSettledWith (if is_owned_by owner user then None else owner) unit.seat (discarded user unit).areas
+discard_settled_by user unit None e low r h = λ owner none clean. cc
+discard_settled_by user unit (Some n) e low r h = grind (arith, get_or-set_other)
+
+pub discard_settled : (user : ℕ) (unit : Unit) → 1 ≤ user → IsOwnerAUser unit.owner → IsSettled unit
+    → IsSettled (discarded user unit)
+discard_settled user unit low r h = discard_settled_by user unit unit.owner refl low r h

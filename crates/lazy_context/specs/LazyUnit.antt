@@ -1,0 +1,136 @@
+-- One vector unit that all users share: it holds the vector state of one of them, its owner, and the states of the others are
+-- saved or initial (Privileged Architecture 20211203, section 3.1.6.6, the field VS).
+use Rattle.std.specs.Prelude.{ℕ, ◌≡◌, ◌≤◌, ◌≢◌, Bool, true, false, List, Option, Some, None, if◌then◌else◌, ◌&&◌}
+use Rattle.std.specs.Borrow.{Fml, Lends, MutBor}
+use Rattle.std.specs.Option.{ForSome}
+use Rattle.rv_model.specs.contracts.vector.state.Seat as seat_type
+use Rattle.rv_model.specs.declared.vector.state.Seat.{Seat}
+use Rattle.rv_model.specs.declared.vector.state.VState.{VState}
+use Rattle.rv_model.specs.machine.Users.{user_count}
+use Rattle.rv_model.specs.machine.VectorUnit.{VectorUnit, counted, is_owned_by, with_mark}
+use Rattle.rv_model.specs.vector.Seats.{IsGivenBack}
+use Rattle.rv_model.specs.vector.State.{initial_vector}
+use Rattle.lazy_context.specs.contracts.unit.Unit.{the_row}
+use Rattle.lazy_context.specs.declared.areas.Areas.{Areas}
+use Rattle.lazy_context.specs.declared.unit.Unit.{Unit}
+use Rattle.lazy_context.specs.SaveAreas.{area, areas_poked, count_restore, count_save, is_saved, new_areas, saved_state, with_register, with_saved}
+
+-- the state of a user, by the owner, the seat and the save areas
+abbrev pub state_among : Option ℕ → Seat → Areas → ℕ → VState
+state_among owner seat areas user = if is_owned_by owner user then seat.state else saved_state areas user
+
+-- the vector state that a user has: the owner's is in the unit, the others' are saved or initial
+abbrev pub state_of : Unit → ℕ → VState
+state_of unit user = state_among unit.owner unit.seat unit.areas user
+
+-- what is counted of the unit, which holds no vector state
+abbrev pub record_of : Unit → VectorUnit
+record_of unit =
+    record {
+      owner = unit.owner;
+      dirty = unit.seat.dirty;
+      saved = unit.areas.marks;
+      saves = unit.areas.saves;
+      restores = unit.areas.restores;
+      first_uses = unit.first_uses;
+    }
+
+-- an owner's state that isn't dirty is the one that the save areas show
+abbrev pub IsSettledWith : Option ℕ → Seat → Areas → Type 0
+IsSettledWith owner seat areas = ForSome owner (λ user. seat.dirty ≡ false → seat.state ≡ saved_state areas user)
+
+-- where there is an owner whose state isn't dirty, the state is the saved one, or the initial one where none is saved
+abbrev pub IsSettled : Unit → Type 0
+IsSettled unit = IsSettledWith unit.owner unit.seat unit.areas
+
+-- the save areas once the owner's state is saved, which it is if it is dirty
+abbrev pub areas_saved : Option ℕ → Seat → Areas → Areas
+areas_saved None seat areas = areas
+areas_saved (Some owner) seat areas =
+    if seat.dirty then count_save (with_saved owner seat.state areas) else areas
+
+-- the unit once the owner's state is saved, which it is if it is dirty
+abbrev pub owner_written_back : Unit → Unit
+owner_written_back unit = record unit { areas = areas_saved unit.owner unit.seat unit.areas }
+
+-- a state that wasn't changed since it came into the unit
+abbrev pub clean_seat : VState → Seat
+clean_seat state = record { state = state; dirty = false }
+
+-- a user becomes the owner, with what the save areas show
+abbrev pub taken : ℕ → Areas → Unit → Unit
+taken user areas unit =
+    if is_saved areas user
+    then record unit { seat = clean_seat (saved_state areas user); owner = Some user; areas = count_restore areas }
+    else record unit { seat = clean_seat initial_vector; owner = Some user; areas = areas; first_uses = counted unit.first_uses }
+
+-- the unit once a user has touched it: the owner's touch changes nothing
+abbrev pub touched : ℕ → Unit → Unit
+touched user unit =
+    if is_owned_by unit.owner user then unit else taken user (areas_saved unit.owner unit.seat unit.areas) unit
+
+-- the unit with another state and mark in its seat
+abbrev pub with_seat : Seat → Unit → Unit
+with_seat seat unit = record unit { seat = seat }
+
+-- once the loan ends, the unit is touched, and holds what came back
+abbrev pub LendsSeat : MutBor Unit → ℕ → MutBor Seat → Fml
+LendsSeat unit user seat = Lends the_row seat_type.the_row unit seat (λ back. with_seat back (touched user unit.now))
+
+-- nobody owns the unit, and nobody's state is saved
+abbrev pub new_unit : Unit
+new_unit = record { seat = clean_seat initial_vector; owner = None; first_uses = 0; areas = new_areas }
+
+-- the unit with a vector register of a user written: the owner's in the unit, which becomes dirty, another's in the save area
+abbrev pub poked : ℕ → ℕ → List ℕ → Unit → Unit
+poked user register bytes unit =
+    if is_owned_by unit.owner user
+    then record unit { seat = record { state = with_register register bytes unit.seat.state; dirty = true } }
+    else record unit { areas = areas_poked user register bytes unit.areas }
+
+-- the unit without what a user had: nothing of it is saved, and the user isn't the owner
+abbrev pub discarded : ℕ → Unit → Unit
+discarded user unit =
+    let owner = if is_owned_by unit.owner user then None else unit.owner in
+    record unit { owner = owner; areas = record unit.areas { marks = with_mark user false unit.areas.marks } }
+
+-- an owner, if there is one, is a user
+abbrev pub IsOwnerAUser : Option ℕ → Type 0
+IsOwnerAUser owner = ForSome owner (λ user. (1 ≤ user) × (user ≤ user_count))
+
+-- all users but one have the states that they had
+abbrev pub OthersKeep : ℕ → Unit → Unit → Type 0
+OthersKeep user old new = (other : ℕ) → 1 ≤ other → other ≢ user → state_of new other ≡ state_of old other
+
+-- all users have the states that they had
+abbrev pub AllKeep : Unit → Unit → Type 0
+AllKeep old new = (user : ℕ) → 1 ≤ user → state_of new user ≡ state_of old user
+
+-- whether a user is the owner, whose state is dirty
+abbrev pub is_dirty_owner : Unit → ℕ → Bool
+is_dirty_owner unit user = is_owned_by unit.owner user && unit.seat.dirty
+
+-- a user's save area holds what it held, and the mark is the same
+abbrev pub KeepsArea : ℕ → Areas → Areas → Type 0
+KeepsArea user old new = (area new user ≡ area old user) × (is_saved new user ≡ is_saved old user)
+
+-- the save areas hold what they held, and for the same users
+abbrev pub KeepsAreas : Unit → Unit → Type 0
+KeepsAreas old new = (new.areas.states ≡ old.areas.states) × (new.areas.marks ≡ old.areas.marks)
+
+-- the save areas of all users keep what they hold, but for that of an owner whose state is dirty
+abbrev pub KeepsOtherAreas : Unit → Unit → Type 0
+KeepsOtherAreas old new = (other : ℕ) → 1 ≤ other → is_dirty_owner old other ≡ false → KeepsArea other old.areas new.areas
+
+-- the save areas show what everyone has
+abbrev pub ShowAll : Areas → Unit → Type 0
+ShowAll areas unit = (user : ℕ) → 1 ≤ user → saved_state areas user ≡ state_of unit user
+
+-- once the seat that a user was lent has come back dirty or as it was, the unit is settled
+abbrev pub ComesBackSettled : ℕ → Unit → Type 0
+ComesBackSettled user unit =
+    (back : Seat) → IsGivenBack (touched user unit).seat back → IsSettled (with_seat back (touched user unit))
+
+-- whatever came back, the user's next touch changes nothing
+abbrev pub IsLentAgain : ℕ → Unit → Type 0
+IsLentAgain user unit = (back : Seat) → touched user (with_seat back (touched user unit)) ≡ with_seat back (touched user unit)

@@ -1,0 +1,2 @@
+pub mod LazyUnit
+pub mod SaveAreas

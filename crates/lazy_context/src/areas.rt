@@ -1,0 +1,108 @@
+//! The save areas of all users.
+ghost use Rattle.std.specs.Prelude.{◌≡◌, false, length};
+ghost use Rattle.lazy_context.specs.SaveAreas.{IsSaved, areas_poked, count_restore, count_save, is_saved, new_areas, saved_state, with_saved};
+ghost use Rattle.rv_model.specs.machine.Users.{user_count};
+ghost use Rattle.rv_model.specs.machine.VectorUnit.{with_mark};
+
+use rv_model::{RegisterBytes, USER_COUNT, User, VReg, VState};
+
+/// A save area for each user, with a mark that says whether it holds the user's vector state, and
+/// how many states were saved and restored.
+#[derive(Drop)]
+pub struct Areas {
+    states: [VState; USER_COUNT],
+    marks: [bool; USER_COUNT],
+    saves: u64,
+    restores: u64,
+}
+
+impl Areas {
+    /// No state is saved.
+    pub fn new() -> Areas
+        ensures { result ≡ new_areas }
+    {
+        Areas {
+            states: [
+                VState::new(),
+                VState::new(),
+                VState::new(),
+                VState::new(),
+                VState::new(),
+                VState::new(),
+                VState::new(),
+                VState::new(),
+            ],
+            marks: [false; USER_COUNT],
+            saves: 0,
+            restores: 0,
+        }
+    }
+
+    /// Whether a user's state is saved.
+    pub fn marked(&self, user: User) -> bool
+        ensures { result ≡ is_saved self.now user }
+    {
+        self.marks[user.index()]
+    }
+
+    /// Saves a user's state, and counts it.
+    pub fn save(&mut self, user: User, state: &VState)
+        ensures areas { self.new ≡ count_save (with_saved user state.now self.old) }
+        ensures whole { (length self.old.states ≡ user_count) × (length self.old.marks ≡ user_count) }
+    {
+        let place = user.index();
+        self.states[place].copy_from(state);
+        self.marks[place] = true;
+        self.saves = self.saves.saturating_add(1);
+    }
+
+    /// Copies a saved state out, and counts it.
+    pub fn restore(&mut self, user: User, state: &mut VState)
+        requires { IsSaved self.old user }
+        ensures areas { self.new ≡ count_restore self.old }
+        ensures state { state.new ≡ saved_state self.old user }
+    {
+        state.copy_from(&self.states[user.index()]);
+        self.restores = self.restores.saturating_add(1);
+    }
+
+    /// The saved state of a user, or the initial one where none is saved.
+    pub fn peek(&self, user: User) -> VState
+        ensures { result ≡ saved_state self.now user }
+    {
+        let place = user.index();
+        let mut state = VState::new();
+        if self.marks[place] {
+            state.copy_from(&self.states[place]);
+        }
+        state
+    }
+
+    /// Writes a vector register of a user's saved state, which is the initial one before where none
+    /// is saved; that isn't counted.
+    pub fn poke(&mut self, user: User, vreg: VReg, bytes: &[u8; 32])
+        ensures areas { self.new ≡ areas_poked user vreg bytes.now self.old }
+        ensures whole { (length self.old.states ≡ user_count) × (length self.old.marks ≡ user_count) }
+    {
+        let mut state = self.peek(user);
+        state.file.set_register(vreg, &RegisterBytes::new(bytes));
+        let place = user.index();
+        self.states[place] = state;
+        self.marks[place] = true;
+    }
+
+    /// Drops a user's saved state.
+    pub fn clear(&mut self, user: User)
+        ensures areas { self.new ≡ record self.old { marks = with_mark user false self.old.marks } }
+        ensures whole { length self.old.marks ≡ user_count }
+    {
+        self.marks[user.index()] = false;
+    }
+
+    /// How many states were saved, and how many restored.
+    pub fn counts(&self) -> (u64, u64)
+        ensures { result ≡ (self.now.saves, self.now.restores) }
+    {
+        (self.saves, self.restores)
+    }
+}

@@ -1,0 +1,203 @@
+//! The vector unit, which holds the state of one user at a time.
+ghost use Rattle.lazy_context.specs.LazyUnit.{AllKeep, ComesBackSettled, IsLentAgain, IsOwnerAUser, IsSettled, KeepsAreas, KeepsOtherAreas, LendsSeat, OthersKeep, ShowAll, discarded, new_unit, owner_written_back, poked, record_of, state_of, taken, touched};
+ghost use Rattle.lazy_context.specs.SaveAreas.{with_register};
+ghost use Rattle.rv_model.specs.machine.Users.{user_count};
+ghost use Rattle.rv_model.specs.machine.VectorUnit.{is_owned_by, unit_discarded, unit_register_written, unit_touched, unused_unit};
+ghost use Rattle.rv_model.specs.vector.State.{initial_vector};
+ghost use Rattle.std.specs.Borrow.{sem};
+ghost use Rattle.std.specs.Prelude.{ℕ, ◌≡◌, ◌≤◌, false, true};
+
+use crate::areas::Areas;
+use rv_model::{RegisterBytes, Seat, User, VReg, VState};
+
+/// How often the vector unit was switched, and whose state it holds.
+#[derive(Clone, Copy)]
+pub struct Stats {
+    pub saves: u64,
+    pub restores: u64,
+    pub inits: u64,
+    pub owner: Option<User>,
+}
+
+/// The one vector unit: the state of its owner, marked as dirty if it was changed since it came
+/// there, the states of the other users in save areas, and how many users' states began as the
+/// initial one.
+#[derive(Drop)]
+pub struct Unit {
+    seat: Seat,
+    owner: Option<User>,
+    first_uses: u64,
+    areas: Areas,
+}
+
+impl Unit {
+    /// Nobody has used the unit.
+    #[tactic(auto, using(crate::proofs::UnitLaws::initial_states))]
+    pub fn new() -> Unit
+        ensures value { result ≡ new_unit }
+        ensures states { (user : ℕ) → state_of result user ≡ initial_vector }
+        ensures counts { record_of result ≡ unused_unit }
+        ensures settled { IsSettled result }
+    {
+        Unit {
+            seat: Seat {
+                state: VState::new(),
+                dirty: false,
+            },
+            owner: None,
+            first_uses: 0,
+            areas: Areas::new(),
+        }
+    }
+
+    fn is_owner(&self, user: User) -> bool
+        ensures value { result ≡ is_owned_by self.now.owner user }
+        ensures user { (1 ≤ user) × (user ≤ user_count) }
+        ensures owner { IsOwnerAUser self.now.owner }
+    {
+        let number = user.number();
+        match self.owner {
+            Some(owner) => owner.number() == number,
+            None => false,
+        }
+    }
+
+    /// Saves the owner's state if it is dirty.
+    #[tactic(auto, using(crate::proofs::UnitLaws::saved_keep, crate::proofs::UnitLaws::other_areas))]
+    fn write_back(&mut self)
+        ensures value { self.new ≡ owner_written_back self.old }
+        ensures shown { IsSettled self.old → ShowAll self.new.areas self.old }
+        ensures kept { KeepsOtherAreas self.old self.new }
+    {
+        if let Some(owner) = self.owner {
+            let _ = owner.number();
+            if self.seat.dirty {
+                self.areas.save(owner, &self.seat.state);
+            }
+        }
+    }
+
+    /// Makes a user the owner, whose state is copied in if it is saved.
+    fn take(&mut self, user: User)
+        ensures { self.new ≡ taken user self.old.areas self.old }
+    {
+        self.owner = Some(user);
+        self.seat.dirty = false;
+        if self.areas.marked(user) {
+            self.areas.restore(user, &mut self.seat.state);
+        } else {
+            self.seat.state = VState::new();
+            self.first_uses = self.first_uses.saturating_add(1);
+        }
+    }
+
+    /// Makes a user the owner, who may be that already.
+    #[tactic(auto, using(crate::proofs::UnitLaws::taken_keeps, crate::proofs::UnitLaws::taken_state, crate::proofs::UnitLaws::taken_areas))]
+    fn switch(&mut self, user: User)
+        ensures value { self.new ≡ touched user self.old }
+        ensures states { IsSettled self.old → AllKeep self.old self.new }
+        ensures kept { KeepsOtherAreas self.old self.new }
+        ensures own { IsSettled self.old → self.new.seat.state ≡ state_of self.old user }
+    {
+        if !self.is_owner(user) {
+            self.write_back();
+            self.take(user);
+        }
+    }
+
+    /// What a touch means: a law, which does nothing.
+    #[tactic(auto, using(crate::proofs::UnitLaws::settled_again, crate::proofs::UnitLaws::touch_counts, crate::proofs::UnitLaws::touched_again, crate::proofs::UnitLaws::owner_touches, crate::proofs::UnitLaws::clean_touches))]
+    fn touch_law(&self, user: User)
+        ensures counts { record_of (touched user self.now) ≡ unit_touched user (record_of self.now) }
+        ensures settled { IsSettled self.now → ComesBackSettled user self.now }
+        ensures by_owner { is_owned_by self.now.owner user ≡ true → touched user self.now ≡ self.now }
+        ensures clean { self.now.seat.dirty ≡ false → KeepsAreas self.now (touched user self.now) }
+        ensures again { IsLentAgain user self.now }
+    {}
+
+    /// Makes a user the owner and lends the user's state. Whoever changes it marks it as dirty, and
+    /// never clears the mark.
+    pub fn touch(&mut self, user: User) -> &mut Seat
+        requires { IsSettled self.old }
+        ensures* writes_back { sem 𝓛 (LendsSeat self.entry user result) }
+        ensures value { result.now ≡ (touched user self.old).seat }
+        ensures states { AllKeep self.old (touched user self.old) }
+        ensures own { result.now.state ≡ state_of self.old user }
+        ensures counts { record_of (touched user self.old) ≡ unit_touched user (record_of self.old) }
+        ensures settled { ComesBackSettled user self.old }
+        ensures by_owner { is_owned_by self.old.owner user ≡ true → touched user self.old ≡ self.old }
+        ensures kept { KeepsOtherAreas self.old (touched user self.old) }
+        ensures clean { self.old.seat.dirty ≡ false → KeepsAreas self.old (touched user self.old) }
+        ensures again { IsLentAgain user self.old }
+    {
+        self.touch_law(user);
+        self.switch(user);
+        &mut self.seat
+    }
+
+    /// A copy of a user's state.
+    pub fn peek(&self, user: User) -> VState
+        ensures { result ≡ state_of self.now user }
+    {
+        if self.is_owner(user) {
+            let mut state = VState::new();
+            state.copy_from(&self.seat.state);
+            state
+        } else {
+            self.areas.peek(user)
+        }
+    }
+
+    /// Writes a vector register of a user; nothing is switched or counted.
+    #[tactic(auto, using(crate::proofs::UnitLaws::poke_own, crate::proofs::UnitLaws::poke_others, crate::proofs::UnitLaws::poke_counts, crate::proofs::UnitLaws::poke_settled))]
+    pub fn poke(&mut self, user: User, vreg: VReg, bytes: &[u8; 32])
+        ensures value { self.new ≡ poked user vreg bytes.now self.old }
+        ensures own { state_of self.new user ≡ with_register vreg bytes.now (state_of self.old user) }
+        ensures others { OthersKeep user self.old self.new }
+        ensures counts { record_of self.new ≡ unit_register_written user (record_of self.old) }
+        ensures areas { is_owned_by self.old.owner user ≡ true → self.new.areas ≡ self.old.areas }
+        ensures settled { IsSettled self.old → IsSettled self.new }
+    {
+        if self.is_owner(user) {
+            self.seat
+                .state
+                .file
+                .set_register(vreg, &RegisterBytes::new(bytes));
+            self.seat.dirty = true;
+        } else {
+            self.areas.poke(user, vreg, bytes);
+        }
+    }
+
+    /// Drops what a user has: the user's state is the initial one again.
+    #[tactic(auto, using(crate::proofs::UnitLaws::discard_own, crate::proofs::UnitLaws::discard_others, crate::proofs::UnitLaws::discard_counts, crate::proofs::UnitLaws::discard_settled))]
+    pub fn discard(&mut self, user: User)
+        ensures value { self.new ≡ discarded user self.old }
+        ensures own { state_of self.new user ≡ initial_vector }
+        ensures others { OthersKeep user self.old self.new }
+        ensures counts { record_of self.new ≡ unit_discarded user (record_of self.old) }
+        ensures areas { self.new.areas.states ≡ self.old.areas.states }
+        ensures settled { IsSettled self.old → IsSettled self.new }
+    {
+        self.areas.clear(user);
+        if self.is_owner(user) {
+            self.owner = None;
+        }
+    }
+
+    /// How often the unit was switched, and whose state it holds.
+    pub fn stats(&self) -> Stats
+        ensures saves { result.saves ≡ (record_of self.now).saves }
+        ensures restores { result.restores ≡ (record_of self.now).restores }
+        ensures inits { result.inits ≡ (record_of self.now).first_uses }
+        ensures owner { result.owner ≡ (record_of self.now).owner }
+    {
+        let (saves, restores) = self.areas.counts();
+        Stats {
+            saves,
+            restores,
+            inits: self.first_uses,
+            owner: self.owner,
+        }
+    }
+}

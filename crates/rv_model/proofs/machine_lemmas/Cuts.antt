@@ -1,0 +1,325 @@
+-- A slice of m ticks and then one of n are one of m + n.
+use Rattle.std.proofs.Common.{◌≡◌, ◌≢◌, ℕ, zero, suc, ◌+◌, ◌*◌, ◌-◌, ◌≤◌, Bool, true, false, List, [], ◌∷◌, ◌++◌, Option, Some, None, refl, sym, ◌∙◌, ap, subst, ◌⊎◌, inl, inr, arith}
+use Rattle.std.specs.Prelude.{All, is_none, not, ◌&&◌, if◌then◌else◌}
+use Rattle.std.proofs.lemmas.Bool.{cases_Bool}
+use Rattle.std.proofs.lemmas.List.{append-nil}
+use Rattle.std.proofs.lemmas.List.Elements.{All-cons, All-head, All-tail, All-same, All-nil}
+use Rattle.rv_model.specs.declared.step.step_end.StepEnd.{StepEnd}
+use Rattle.rv_model.specs.declared.step.step_end.StepEnd.TheVariants.{Ran, Exit, Ebreak, Fault, OutputFull, Cut}
+use Rattle.rv_model.specs.declared.step.step_end.Stop.{Stop}
+use Rattle.rv_model.specs.declared.step.step_end.Stop.TheVariants as stop
+use Rattle.rv_model.specs.accesses.Restarts.{overlay}
+use Rattle.rv_model.specs.instructions.Table.{scan, table}
+use Rattle.rv_model.specs.machine.Cuts.{CutsAreInvisible, IsConfigured, KeepsWordIfCut, SliceKeepsConfiguration, SlicesAddUp, Try, joined, slices, tried_in, tried_in_slices, tries}
+use Rattle.rv_model.specs.machine.PrivateMachine.{slice_ends, sliced}
+use Rattle.rv_model.specs.machine.Runs.{Following, Next, Stops, Rest, following, stop_of, at_breakpoint, recorded, after, Halted, halted, slice_steps, ticked}
+use Rattle.rv_model.specs.machine.UserMachine.{Outcome, Present, Private}
+use Rattle.rv_model.specs.memory.Memory.{Memory}
+use Rattle.rv_model.specs.declared.memory.Access.TheVariants.{Monitor}
+use Rattle.rv_model.specs.step.Hart.{HartState, Stepped}
+use Rattle.rv_model.specs.step.Resumes.{KeepsOwnWord, after_ticks, finds}
+use Rattle.rv_model.specs.step.Step.{step, word_at}
+use Rattle.rv_model.specs.vector.Configuration.{IsConfiguration}
+use Rattle.rv_model.proofs.access_lemmas.Growth.{overlay_same}
+use Rattle.rv_model.proofs.machine_lemmas.Slices.{fuel_is_enough}
+use Rattle.rv_model.proofs.step_lemmas.Configurations.{step_keeps_configuration, step_keeps_permissions}
+use Rattle.rv_model.proofs.step_lemmas.FetchesResume.{fetched_step_resumes}
+use Rattle.rv_model.proofs.text_lemmas.Pieces.{of_either}
+use Rattle.rv_model.proofs.step_lemmas.StepTicks.{cut_step_takes_all_ticks, step_takes_ticks, uncut_step_is_same}
+
+All-left : {X : Type 0} (P : X → Type 0) (xs ys : List X) → All P (xs ++ ys) → All P xs
+All-left P [] ys h = All-nil P
+All-left P (x ∷ xs) ys h = All-cons P x xs (All-head P x (xs ++ ys) h) (All-left P xs ys (All-tail P x (xs ++ ys) h))
+
+All-right : {X : Type 0} (P : X → Type 0) (xs ys : List X) → All P (xs ++ ys) → All P ys
+All-right P [] ys h = h
+All-right P (x ∷ xs) ys h = All-right P xs ys (All-tail P x (xs ++ ys) h)
+
+-- ---- one instruction
+
+-- one that is cut, and goes on in the memory that it left, is the whole one
+resumed : (limit later : ℕ) (s : HartState) → IsConfiguration s.vector.conf → (step limit s).end ≡ Cut
+    → KeepsOwnWord (scan table (word_at s.memory s.scalar.pc)) s
+    → step (limit + later) s ≡ after_ticks limit (step later (step limit s).state)
+resumed limit later s is cut keeps =
+    let left : HartState = (step limit s).state in
+    let same : overlay s.memory left.memory ≡ s.memory =
+    overlay_same s.memory left.memory (step_keeps_permissions Monitor limit s) in
+    ap (λ (m : Memory). step (limit + later) (finds m s)) (sym same)
+    ∙ fetched_step_resumes limit later s left.memory is cut keeps (λ x c e. e)
+
+-- an instruction ran, was cut, or stops the program
+ended : (e : StepEnd)
+    → ((following e ≡ Next) × (e ≢ Cut)) ⊎ ((e ≡ Cut) ⊎ ((reason : Stop) × ((following e ≡ Stops reason) × (e ≢ Cut))))
+ended Ran = inl (refl, λ q. cc)
+ended (Exit status) = inr (inr (stop.Exit status, (refl, λ q. cc)))
+ended Ebreak = inr (inr (stop.Ebreak, (refl, λ q. cc)))
+ended (Fault cause pc value) = inr (inr (stop.Fault cause value, (refl, λ q. cc)))
+ended OutputFull = inr (inr (stop.OutputFull, (refl, λ q. cc)))
+ended Cut = inr (inl refl)
+
+-- what an instruction that goes on leaves is what it would leave uncut
+after_resumed : (e : Following) (state half : HartState) (p : Present) → half.scalar ≡ p.hart.scalar
+    → after e state (after Rest half p) ≡ after e state p
+after_resumed Next state half p h = ap (λ x. record p { hart = state; trace = recorded p.trace x.pc; fresh = false }) h
+after_resumed (Stops reason) state half p h = refl
+after_resumed Rest state half p h = refl
+
+hart_after : (e : Following) (state : HartState) (p : Present) → (after e state p).hart ≡ state
+hart_after Next state p = refl
+hart_after (Stops reason) state p = refl
+hart_after Rest state p = refl
+
+running_after : (e : Following) (state : HartState) (p : Present) → (after e state p).running ≡ p.running
+running_after Next state p = refl
+running_after (Stops reason) state p = refl
+running_after Rest state p = refl
+
+-- ---- a run of instructions
+
+-- a breakpoint stops the program before its next instruction
+abbrev is_held : Present → Bool
+is_held p = not p.fresh && at_breakpoint p
+
+-- what follows an instruction
+follows : ℕ → ℕ → Present → Stepped → Halted
+follows n left p one =
+    if is_none (stop_of (following one.end)) then slice_steps n (left - one.ticks) (after (following one.end) one.state p)
+    else halted (after (following one.end) one.state p) (stop_of (following one.end))
+
+steps_none : (n : ℕ) (p : Present) → slice_steps n 0 p ≡ halted p None
+steps_none zero p = refl
+steps_none (suc n) p = refl
+
+steps_held : (n left : ℕ) (p : Present) → is_held p ≡ true → 1 ≤ left
+    → slice_steps (suc n) left p ≡ halted p (Some stop.Breakpoint)
+steps_held n zero p h l = absurd (omega (arith, l))
+steps_held n (suc left) p h l = rw h refl
+
+steps_tried : (n left : ℕ) (p : Present) → is_held p ≡ false → 1 ≤ left
+    → slice_steps (suc n) left p ≡ follows n left p (step left p.hart)
+unfolding follows
+steps_tried n zero p h l = absurd (omega (arith, l))
+steps_tried n (suc left) p h l = rw h refl
+
+-- the tries after an instruction
+tries_after : ℕ → ℕ → Present → Stepped → List Try
+tries_after n left p one =
+    if is_none (stop_of (following one.end)) then tries n (left - one.ticks) (after (following one.end) one.state p) else []
+
+tries_tried : (n left : ℕ) (p : Present) → is_held p ≡ false → 1 ≤ left
+    → tries (suc n) left p ≡ record { left = left; hart = p.hart } ∷ tries_after n left p (step left p.hart)
+unfolding tries tries_after
+tries_tried n zero p h l = absurd (omega (arith, l))
+tries_tried n (suc left) p h l = rw h refl
+
+follows_on : (n left : ℕ) (p : Present) (one : Stepped) (e : Following) → following one.end ≡ e → stop_of e ≡ None
+    → follows n left p one ≡ slice_steps n (left - one.ticks) (after e one.state p)
+unfolding follows
+follows_on n left p one e h s = rw (h, s) refl
+
+follows_stop : (n left : ℕ) (p : Present) (one : Stepped) (reason : Stop) → following one.end ≡ Stops reason
+    → follows n left p one ≡ halted (after (Stops reason) one.state p) (Some reason)
+unfolding follows
+follows_stop n left p one reason h = rw h refl
+
+tries_on : (n left : ℕ) (p : Present) (one : Stepped) → following one.end ≡ Next
+    → tries_after n left p one ≡ tries n (left - one.ticks) (after Next one.state p)
+unfolding tries_after
+tries_on n left p one h = rw h refl
+
+-- what follows an instruction that was cut and goes on is what follows it uncut
+follows_resumed : (b c left more : ℕ) (p : Present) (half : HartState) (two : Stepped) → half.scalar ≡ p.hart.scalar
+    → left + more ≤ suc b → more ≤ suc c → 1 ≤ left → 1 ≤ two.ticks
+    → follows b (left + more) p (after_ticks left two) ≡ follows c more (after Rest half p) two
+unfolding follows
+follows_resumed b c left more p half two h lb lc some least =
+    let over : (left + more) - (two.ticks + left) ≡ more - two.ticks = omega arith in
+    let whole : Present = after (following two.end) two.state p in
+    let reason : Option Stop = stop_of (following two.end) in
+    ap (λ (n : ℕ). if is_none reason then slice_steps b n whole else halted whole reason) over
+    ∙ ap (λ (r : Halted). if is_none reason then r else halted whole reason)
+    (fuel_is_enough b c (more - two.ticks) whole (omega (arith, lb, some, least)) (omega (arith, lc, least)))
+    ∙ ap (λ (q : Present). if is_none reason then slice_steps c (more - two.ticks) q else halted q reason)
+    (sym (after_resumed (following two.end) two.state half p h))
+
+-- a run, and then another from where it ends, unless it stopped
+abbrev goes_on : Halted → (Present → Halted) → Halted
+goes_on first more = if is_none first.stop then more first.state else first
+
+adds_none : (a b c more : ℕ) (p : Present) → more ≤ b → more ≤ c
+    → slice_steps b (0 + more) p ≡ goes_on (slice_steps a 0 p) (slice_steps c more)
+adds_none a b c more p lb lc =
+    let zeros : 0 + more ≡ more = omega arith in
+    ap (λ (n : ℕ). slice_steps b n p) zeros ∙ fuel_is_enough b c more p lb lc
+    ∙ ap (λ (r : Halted). goes_on r (slice_steps c more)) (sym (steps_none a p))
+
+adds : (a b c left more : ℕ) (p : Present) → left ≤ a → left + more ≤ b → more ≤ c → 1 ≤ more
+    → IsConfiguration p.hart.vector.conf
+    → All KeepsWordIfCut (tries a left p)
+    → slice_steps b (left + more) p ≡ goes_on (slice_steps a left p) (slice_steps c more)
+adds a b c zero more p la lb lc some is keeps = adds_none a b c more p (omega (arith, lb)) lc
+adds zero b c (suc left) more p la lb lc some is keeps = absurd (omega (arith, la))
+adds (suc a) zero c (suc left) more p la lb lc some is keeps = absurd (omega (arith, lb))
+adds (suc a) (suc b) zero (suc left) more p la lb lc some is keeps = absurd (omega (arith, lc, some))
+adds (suc a) (suc b) (suc c) (suc left) more p la lb lc some is keeps =
+    let here : 1 ≤ suc left = omega arith in
+    let both : 1 ≤ suc left + more = omega arith in
+    let larger : suc left ≤ suc left + more = omega arith in
+    let one : Stepped = step (suc left) p.hart in
+    let ticks = step_takes_ticks (suc left) p.hart here in
+    let onwards : Halted → Halted = λ r. goes_on r (slice_steps (suc c) more) in
+    elim (cases_Bool (is_held p)) [
+      | inl h ↦ steps_held b (suc left + more) p h both ∙ ap onwards (sym (steps_held a (suc left) p h here))
+      | inr h ↦
+          let whole = steps_tried b (suc left + more) p h both in
+          let first = ap onwards (sym (steps_tried a (suc left) p h here)) in
+          let each = All-same KeepsWordIfCut _ _ (sym (tries_tried a (suc left) p h here)) keeps in
+          elim (ended one.end) [
+            | inl (ran, uncut) ↦
+                let same = uncut_step_is_same (suc left) (suc left + more) p.hart larger uncut in
+                let q : Present = after Next one.state p in
+                let apart : (suc left + more) - one.ticks ≡ (suc left - one.ticks) + more = omega (arith, ticks.1) in
+                let rest =
+                All-same KeepsWordIfCut _ _ (sym (tries_on a (suc left) p one ran)) (All-tail KeepsWordIfCut _ _ each) in
+                whole
+                ∙ ap (follows b (suc left + more) p) same
+                ∙ follows_on b (suc left + more) p one Next ran refl
+                ∙ ap (λ (n : ℕ). slice_steps b n q) apart
+                ∙ adds a b (suc c) (suc left - one.ticks) more q (omega (arith, la, ticks.0)) (omega (arith, lb, ticks.0)) lc some
+                (step_keeps_configuration (suc left) p.hart is) rest
+                ∙ ap onwards (sym (follows_on a (suc left) p one Next ran refl))
+                ∙ first
+            | inr (inl cut) ↦
+                let two : Stepped = step more one.state in
+                let spent = cut_step_takes_all_ticks (suc left) p.hart cut in
+                let shown = resumed (suc left) more p.hart is cut (All-head KeepsWordIfCut _ _ each cut) in
+                let rests : following one.end ≡ Rest = ap following cut in
+                let q : Present = after Rest one.state p in
+                let over : suc left - one.ticks ≡ 0 = omega (arith, spent.0) in
+                whole
+                ∙ ap (follows b (suc left + more) p) shown
+                ∙ follows_resumed b c (suc left) more p one.state two spent.1 lb lc here (step_takes_ticks more one.state some).0
+                ∙ sym (steps_tried c more q refl some)
+                ∙ ap onwards
+                (sym (follows_on a (suc left) p one Rest rests refl ∙ ap (λ (n : ℕ). slice_steps a n q) over ∙ steps_none a q))
+                ∙ first
+            | inr (inr (reason, (stops, uncut))) ↦
+                let same = uncut_step_is_same (suc left) (suc left + more) p.hart larger uncut in
+                whole
+                ∙ ap (follows b (suc left + more) p) same
+                ∙ follows_stop b (suc left + more) p one reason stops
+                ∙ ap onwards (sym (follows_stop a (suc left) p one reason stops))
+                ∙ first
+          ]
+    ]
+
+-- a run ends in a machine that runs as before, with a vector length of the type
+record Runs (p : Present) (r : Halted) : Type 0 where
+  running : r.state.running ≡ p.running
+  configured : IsConfiguration p.hart.vector.conf → IsConfiguration r.state.hart.vector.conf
+
+steps_run : (a left : ℕ) (p : Present) → Runs p (slice_steps a left p)
+steps_run zero left p = record { running = refl; configured = λ is. is }
+steps_run (suc a) zero p = record { running = refl; configured = λ is. is }
+steps_run (suc a) (suc left) p =
+    let one : Stepped = step (suc left) p.hart in
+    let end : Following = following one.end in
+    let q : Present = after end one.state p in
+    let rest : Runs q (slice_steps a (suc left - one.ticks) q) = steps_run a (suc left - one.ticks) q in
+    let is_after : IsConfiguration p.hart.vector.conf → IsConfiguration q.hart.vector.conf =
+    λ is. subst (λ (s : HartState). IsConfiguration s.vector.conf) (sym (hart_after end one.state p))
+    (step_keeps_configuration (suc left) p.hart is) in
+    of_either (Runs p) (is_held p) _ _ (record { running = refl; configured = λ is. is })
+    (of_either (Runs p) (is_none (stop_of end)) _ _
+    (record { running = rest.running ∙ running_after end one.state p; configured = λ is. rest.configured (is_after is) })
+    (record { running = running_after end one.state p; configured = is_after }))
+
+-- ---- a slice
+
+sliced_running : (quantum : ℕ) (p : Present) → p.running ≡ true
+    → sliced quantum (Some p) ≡ slice_ends (ticked quantum p) (ticked quantum p).stop
+unfolding sliced
+sliced_running quantum p h = rw h refl
+
+sliced_stopped : (quantum : ℕ) (p : Present) → p.running ≡ false → sliced quantum (Some p) ≡ record { next = Some p; lines = [] }
+unfolding sliced
+sliced_stopped quantum p h = rw h refl
+
+sliced_absent : (quantum : ℕ) → sliced quantum None ≡ record { next = None; lines = [] }
+unfolding sliced
+sliced_absent quantum = refl
+
+tried_running : (quantum : ℕ) (p : Present) → p.running ≡ true → tried_in quantum (Some p) ≡ tries quantum quantum p
+unfolding tried_in
+tried_running quantum p h = rw h refl
+
+ends_configured : (run : Halted) (reason : Option Stop) → IsConfiguration run.state.hart.vector.conf
+    → IsConfigured (slice_ends run reason).next
+ends_configured run None h = h
+ends_configured run (Some reason) h = h
+
+pub slice_keeps_configuration : SliceKeepsConfiguration
+unfolding sliced
+slice_keeps_configuration quantum None is = tt
+slice_keeps_configuration quantum (Some p) is =
+    of_either (λ (o : Outcome). IsConfigured o.next) p.running _ _
+    (ends_configured (ticked quantum p) (ticked quantum p).stop ((steps_run quantum quantum p).configured is)) is
+
+-- no ticks change nothing
+sliced_nothing : (p : Private) → sliced 0 p ≡ record { next = p; lines = [] }
+sliced_nothing None = sliced_absent 0
+sliced_nothing (Some p) = elim (cases_Bool p.running) [
+  | inl h ↦ sliced_running 0 p h ∙ ap (λ (r : Halted). slice_ends r r.stop) (steps_none 0 p)
+  | inr h ↦ sliced_stopped 0 p h
+]
+
+-- nothing comes after
+joined_nothing : (first : Outcome) → joined first (sliced 0 first.next) ≡ first
+joined_nothing first =
+    ap (joined first) (sliced_nothing first.next)
+    ∙ ap (λ (ls : List (List ℕ)). record { next = first.next; lines = ls }) (append-nil first.lines)
+
+ends_joined : (n : ℕ) (state : Present) (reason : Option Stop) → state.running ≡ true
+    → joined (slice_ends (halted state reason) reason) (sliced n (slice_ends (halted state reason) reason).next)
+    ≡ slice_ends (goes_on (halted state reason) (slice_steps n n)) (goes_on (halted state reason) (slice_steps n n)).stop
+ends_joined n state None h = ap (joined (record { next = Some state; lines = [] })) (sliced_running n state h)
+ends_joined n state (Some reason) h =
+    ap (joined (slice_ends (halted state (Some reason)) (Some reason))) (sliced_stopped n (record state { running = false }) refl)
+
+pub cuts_are_invisible : CutsAreInvisible
+cuts_are_invisible m zero p is keeps =
+    let same : m ≡ m + 0 = omega arith in
+    joined_nothing (sliced m p) ∙ ap (λ (q : ℕ). sliced q p) same
+cuts_are_invisible m (suc n) None is keeps =
+    ap (λ (first : Outcome). joined first (sliced (suc n) first.next)) (sliced_absent m)
+    ∙ ap (joined (record { next = None; lines = [] })) (sliced_absent (suc n)) ∙ sym (sliced_absent (m + suc n))
+cuts_are_invisible m (suc n) (Some p) is keeps = elim (cases_Bool p.running) [
+  | inl h ↦
+      let run : Halted = ticked m p in
+      let on : run.state.running ≡ true = (steps_run m m p).running ∙ h in
+      ap (λ (first : Outcome). joined first (sliced (suc n) first.next)) (sliced_running m p h)
+      ∙ ends_joined (suc n) run.state run.stop on
+      ∙ ap (λ (r : Halted). slice_ends r r.stop)
+      (sym (adds m (m + suc n) (suc n) m (suc n) p (omega arith) (omega arith) (omega arith) (omega arith) is
+      (All-same KeepsWordIfCut _ _ (sym (tried_running m p h)) keeps)))
+      ∙ sym (sliced_running (m + suc n) p h)
+  | inr h ↦
+      ap (λ (first : Outcome). joined first (sliced (suc n) first.next)) (sliced_stopped m p h)
+      ∙ ap (joined (record { next = Some p; lines = [] })) (sliced_stopped (suc n) p h) ∙ sym (sliced_stopped (m + suc n) p h)
+]
+
+pub slices_add_up : SlicesAddUp
+unfolding slices tried_in_slices
+slices_add_up zero quantum p is keeps =
+    let none : 0 ≡ 0 * quantum = omega arith in
+    sym (sliced_nothing p) ∙ ap (λ (q : ℕ). sliced q p) none
+slices_add_up (suc k) quantum p is keeps =
+    let first : Outcome = sliced quantum p in
+    let one : List Try = tried_in quantum p in
+    let rest : List Try = tried_in_slices k quantum first.next in
+    let more : quantum + k * quantum ≡ suc k * quantum = omega arith in
+    ap (joined first)
+    (slices_add_up k quantum first.next (slice_keeps_configuration quantum p is) (All-right KeepsWordIfCut one rest keeps))
+    ∙ cuts_are_invisible quantum (k * quantum) p is (All-left KeepsWordIfCut one rest keeps)
+    ∙ ap (λ (q : ℕ). sliced q p) more

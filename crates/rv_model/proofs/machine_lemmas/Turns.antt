@@ -1,0 +1,296 @@
+-- Turns go round: no user whose program runs waits for ever.
+use Rattle.std.proofs.Common.{◌≡◌, ◌≢◌, inl, inr, ℕ, zero, suc, ◌+◌, ◌-◌, ◌*◌, ◌/◌, ◌%◌, ◌<◌, ◌≤◌, List, [], ◌∷◌, ◌++◌, length, get_or, Bool, true, false, Option, Some, None, Ok, Err, cond, eqb, refl, ap, ◌∙◌, sym, subst, append_assoc, arith}
+use Rattle.std.specs.Prelude.{find, filter, map, if◌then◌else◌, ◌==◌, ◌&&◌, slice_index_or}
+use Rattle.std.proofs.lemmas.Bool.{agree_below_at, cases_Bool, cases_eq, eqb-true, false≢true}
+use Rattle.std.proofs.lemmas.Option.{same_Some}
+use Rattle.rv_model.specs.declared.commands.operator.OperatorCommand.TheVariants.{Slices, Run, List as ListUsers}
+use Rattle.rv_model.specs.commands.Operator.{operator_parse}
+use Rattle.rv_model.specs.machine.Grants.{turns_after, next_user, runs, next_running, slice_of, granted_first, granted}
+use Rattle.rv_model.specs.machine.PrivateMachine.{Private}
+use Rattle.rv_model.specs.machine.Script.{Kind, Empty, Long, Bad, Operator, Of, kind_of, events_of, after, schedule}
+use Rattle.rv_model.specs.machine.Setup.{Setup}
+use Rattle.rv_model.specs.machine.Turns.{AtEachTurn, IsTurn, AreInTurn, RunsAtEachTurn, turns, turns_of, NobodyHasTwoTurns, EachRunningUserHasATurn, GrantsAreInTurn, ScriptsAreInTurn, OneTurnBetweenTurns}
+use Rattle.rv_model.specs.machine.World.{World, Happening, part, with_part, outcome_of, after_one, after_events}
+use Rattle.rv_model.specs.text.Lines.{pieces}
+use Rattle.rv_model.proofs.machine_lemmas.Grants.{IsUser, IsUserIfAny, next_is_user}
+use Rattle.rv_model.proofs.machine_lemmas.Headline.{same_number, other_number}
+
+-- ---- the order of turns
+
+-- the user of a turn, by numbers: 8 times the last user, and the turn
+abbrev turn_is : ℕ → Bool
+turn_is n = eqb (slice_index_or (turns_after (n / 8)) (n % 8) 0) ((n / 8 + n % 8) % 8 + 1)
+
+pub turn_at : (last turns : ℕ) → last ≤ 8 → turns < 8 → (last + turns) % 8 + 1 ≡ slice_index_or (turns_after last) turns 0
+turn_at last turns low small =
+    let n : ℕ = 8 * last + turns in
+    let quotient : n / 8 ≡ last = omega (arith, small) in
+    let remainder : n % 8 ≡ turns = omega (arith, small) in
+    let is = eqb-true _ _ (agree_below_at turn_is (λ _. true) 72 n refl (omega (arith, low, small))) in
+    sym (ap (λ q. (q + n % 8) % 8 + 1) quotient ∙ ap (λ r. (last + r) % 8 + 1) remainder) ∙ sym is
+    ∙ ap (λ q. slice_index_or (turns_after q) (n % 8) 0) quotient ∙ ap (λ r. slice_index_or (turns_after last) r 0) remainder
+
+-- there are eight turns after each cursor
+long_is : (last : ℕ) → last ≤ 8 → length (turns_after last) ≡ 8
+long_is last low =
+    eqb-true _ _ (agree_below_at (λ n. eqb (length (turns_after n)) 8) (λ _. true) 9 last refl (omega (arith, low)))
+
+-- how many users come before a user, of those after the cursor and so on around
+abbrev ahead : ℕ → ℕ → ℕ
+ahead cursor u = (u + 7 - cursor) % 8
+
+picked : (p : ℕ → Bool) (y : ℕ) (ys : List ℕ) (b : Bool) → p y ≡ b → find p (y ∷ ys) ≡ cond b (Some y) (find p ys)
+picked p y ys b is = ap (λ (b : Bool). cond b (Some y) (find p ys)) is
+
+-- the first number that passes stands no later than any that passes
+found_first : (p : ℕ → Bool) (xs : List ℕ) (j x : ℕ) → j < length xs → p (get_or xs j 0) ≡ true → find p xs ≡ Some x
+    → (i : ℕ) × (i ≤ j) × (get_or xs i 0 ≡ x)
+found_first p [] j x within passes found = absurd (omega (arith, within))
+found_first p (y ∷ ys) zero x within passes found =
+    (0, omega arith, same_Some y x (sym (picked p y ys true passes) ∙ found))
+found_first p (y ∷ ys) (suc j) x within passes found =
+    let later = found_first p ys j x (omega (arith, within)) passes in
+    elim (cases_Bool (p y)) [
+      | inl h ↦ (0, omega arith, same_Some y x (sym (picked p y ys true h) ∙ found))
+      | inr h ↦ let i = later (sym (picked p y ys false h) ∙ found) in (suc i.0, omega (arith, i.1), i.2)
+    ]
+
+-- the user whose turn it is comes no later than any whose flag is set
+pub next_comes_first : (cursor u x : ℕ) (flags : List Bool) → cursor ≤ 8 → IsUser u → slice_index_or flags (u - 1) false ≡ true
+    → next_user cursor flags ≡ Some x → ahead cursor x ≤ ahead cursor u
+unfolding next_user
+next_comes_first cursor u x flags low user set found =
+    let j : ℕ = ahead cursor u in
+    let p : ℕ → Bool = λ v. slice_index_or flags (v - 1) false in
+    let small : j < 8 = omega arith in
+    let here : slice_index_or (turns_after cursor) j 0 ≡ u = omega (arith, turn_at cursor j low small, low, user.0, user.1) in
+    let i = found_first p (turns_after cursor) j x (rw (long_is cursor low) small) (ap p here ∙ set) found in
+    omega (arith, low, user.0, user.1, i.1, i.2, turn_at cursor i.0 low (omega (arith, i.1, small)))
+
+-- a flag of a user is whether the user's program runs
+flag_of : (parts : List Private) (i : ℕ) → get_or (map runs parts) i false ≡ runs (get_or parts i None)
+flag_of [] i = refl
+flag_of (p ∷ ps) zero = refl
+flag_of (p ∷ ps) (suc i) = flag_of ps i
+
+-- ---- who has the turns, one after another
+
+-- the users whose turns they are
+abbrev takers : List Happening → List ℕ
+takers [] = []
+takers (h ∷ hs) = if h.turn then h.user ∷ takers hs else takers hs
+
+-- how often a number is there
+abbrev count : ℕ → List ℕ → ℕ
+count u [] = 0
+count u (x ∷ xs) = (if x == u then 1 else 0) + count u xs
+
+-- each is a user who comes no later than user u, of those after the one before
+abbrev NoneIsLater : ℕ → ℕ → List ℕ → Type 0
+NoneIsLater u cursor [] = Unit {0}
+NoneIsLater u cursor (x ∷ xs) = IsUser x × (cursor ≤ 8 → ahead cursor x ≤ ahead cursor u) × NoneIsLater u x xs
+
+turns_are : (hs : List Happening) → turns hs ≡ length (takers hs)
+turns_are [] = refl
+turns_are (h ∷ hs) = one h.turn (turns_are hs)
+  where
+    all : List Happening
+    all = filter (λ h. h.turn) hs
+
+    one : (b : Bool) → turns hs ≡ length (takers hs)
+        → length (if b then h ∷ all else all) ≡ length (if b then h.user ∷ takers hs else takers hs)
+    one true same = ap (λ n. suc n) same
+    one false same = same
+
+turns_of_are : (u : ℕ) (hs : List Happening) → turns_of u hs ≡ count u (takers hs)
+turns_of_are u [] = refl
+turns_of_are u (h ∷ hs) = turn h.turn (turns_of_are u hs)
+  where
+    mine : List Happening
+    mine = filter (λ h. h.turn && h.user == u) hs
+
+    one : (b : Bool) → turns_of u hs ≡ count u (takers hs)
+        → length (if b then h ∷ mine else mine) ≡ (if b then 1 else 0) + count u (takers hs)
+    one true same = omega (arith, same)
+    one false same = omega (arith, same)
+
+    turn : (b : Bool) → turns_of u hs ≡ count u (takers hs)
+        → length (if b && h.user == u then h ∷ mine else mine) ≡ count u (if b then h.user ∷ takers hs else takers hs)
+    turn true same = one (h.user == u) same
+    turn false same = same
+
+first_counts : (u x : ℕ) (xs : List ℕ) → x ≡ u → count u (x ∷ xs) ≡ suc (count u xs)
+first_counts u x xs same =
+    ap (λ (b : Bool). (if b then 1 else 0) + count u xs) (ap (λ y. eqb y u) same ∙ same_number u) ∙ omega arith
+
+others_count : (u x : ℕ) (xs : List ℕ) → x ≢ u → count u (x ∷ xs) ≡ count u xs
+others_count u x xs other =
+    ap (λ (b : Bool). (if b then 1 else 0) + count u xs) (other_number u x other) ∙ omega arith
+
+-- a number that doesn't come is neither the first nor among the rest
+absent : (u x : ℕ) (xs : List ℕ) → count u (x ∷ xs) ≡ 0 → (x ≢ u) × (count u xs ≡ 0)
+absent u x xs none =
+    elim (cases_eq x u) [
+      | inl same ↦ absurd (omega (arith, none, first_counts u x xs same))
+      | inr other ↦ (other, omega (arith, none, others_count u x xs other))
+    ]
+
+-- as long as user u has no turn, a user who comes later than u has none
+none_later : (u v cursor : ℕ) (xs : List ℕ) → IsUser u → IsUser v → cursor ≤ 8 → ahead cursor u < ahead cursor v
+    → NoneIsLater u cursor xs → count u xs ≡ 0 → count v xs ≡ 0
+none_later u v cursor [] is_u is_v low later turns none = refl
+none_later u v cursor (x ∷ xs) is_u is_v low later turns none =
+    let rest = absent u x xs none in
+    let is_x = turns.0 in
+    let sooner = turns.1 low in
+    let still : ahead x u < ahead x v =
+    omega (arith, low, later, sooner, rest.0, is_u.0, is_u.1, is_v.0, is_v.1, is_x.0, is_x.1) in
+    others_count v x xs (λ same. omega (arith, later, sooner, ap (ahead cursor) same))
+    ∙ none_later u v x xs is_u is_v is_x.1 still turns.2 rest.1
+
+-- as long as user u has no turn, nobody has two
+one_at_most : (u v cursor : ℕ) (xs : List ℕ) → IsUser u → NoneIsLater u cursor xs → count u xs ≡ 0 → count v xs ≤ 1
+one_at_most u v cursor [] is_u turns none = omega arith
+one_at_most u v cursor (x ∷ xs) is_u turns none =
+    let rest = absent u x xs none in
+    let is_x = turns.0 in
+    let later : ahead x u < ahead x x = omega (arith, rest.0, is_u.0, is_u.1, is_x.0, is_x.1) in
+    let no_more = none_later u x x xs is_u is_x is_x.1 later turns.2 rest.1 in
+    let all = one_at_most u v x xs is_u turns.2 rest.1 in
+    elim (cases_eq x v) [
+      | inl same ↦ omega (arith, first_counts v x xs same, ap (λ y. count y xs) same, no_more)
+      | inr other ↦ omega (arith, all, others_count v x xs other)
+    ]
+
+-- as long as user u has no turn, there are no more turns than users before u
+few : (u cursor : ℕ) (xs : List ℕ) → IsUser u → cursor ≤ 8 → NoneIsLater u cursor xs → count u xs ≡ 0 → length xs ≤ ahead cursor u
+few u cursor [] is_u low turns none = omega arith
+few u cursor (x ∷ xs) is_u low turns none =
+    let rest = absent u x xs none in
+    let is_x = turns.0 in
+    let fewer = few u x xs is_u is_x.1 turns.2 rest.1 in
+    omega (arith, low, turns.1 low, fewer, rest.0, is_u.0, is_u.1, is_x.0, is_x.1)
+
+below_eight : (u cursor : ℕ) (xs : List ℕ) → IsUser u → NoneIsLater u cursor xs → count u xs ≡ 0 → length xs < 8
+below_eight u cursor [] is_u turns none = omega arith
+below_eight u cursor (x ∷ xs) is_u turns none =
+    let rest = absent u x xs none in
+    let is_x = turns.0 in
+    let fewer = few u x xs is_u is_x.1 turns.2 rest.1 in
+    omega (arith, fewer, rest.0, is_u.0, is_u.1, is_x.0, is_x.1)
+
+-- ---- the turns of happenings
+
+cursor_after_turn : (turn : Bool) (u : ℕ) (w : World)
+    → (if turn then record w { cursor = u } else w).cursor ≡ (if turn then u else w.cursor)
+cursor_after_turn true u w = refl
+cursor_after_turn false u w = refl
+
+-- a turn moves the cursor to its user, and nothing else moves it
+cursor_after : (s : Setup) (w : World) (h : Happening) (b : Bool) → h.turn ≡ b
+    → (after_one s w h).cursor ≡ (if b then h.user else w.cursor)
+cursor_after s w h b turn =
+    cursor_after_turn h.turn h.user (with_part h.user (outcome_of s w h).next w)
+    ∙ ap (λ (b : Bool). if b then h.user else w.cursor) turn
+
+-- where user u runs at each turn, no turn goes past u
+none_is_later : (s : Setup) (w : World) (hs : List Happening) (u : ℕ) → IsUser u → AreInTurn s w hs → RunsAtEachTurn u s w hs
+    → NoneIsLater u w.cursor (takers hs)
+none_is_later s w [] u is_u in_turn running = tt
+none_is_later s w (h ∷ hs) u is_u in_turn running =
+    turn h.turn refl (none_is_later s (after_one s w h) hs u is_u in_turn.1 running.1)
+  where
+    first : next_running w ≡ Some h.user → runs (part u w) ≡ true → (w.cursor ≤ 8 → ahead w.cursor h.user ≤ ahead w.cursor u)
+    first next set = λ low. next_comes_first w.cursor u h.user (map runs w.parts) low is_u (flag_of w.parts (u - 1) ∙ set) next
+
+    turn : (b : Bool) → h.turn ≡ b → NoneIsLater u (after_one s w h).cursor (takers hs)
+        → NoneIsLater u w.cursor (if b then h.user ∷ takers hs else takers hs)
+    turn true is rest =
+        let next = (in_turn.0 is).1 in
+        let is_user = subst IsUserIfAny next (next_is_user w.cursor (map runs w.parts)) in
+        (is_user, first next (running.0 is), subst (λ c. NoneIsLater u c (takers hs)) (cursor_after s w h true is) rest)
+    turn false is rest = subst (λ c. NoneIsLater u c (takers hs)) (cursor_after s w h false is) rest
+
+-- ---- what is in turn
+
+at_each-append : (P : World → Happening → Type 0) (s : Setup) (w : World) (one two : List Happening)
+    → AtEachTurn P s w one → AtEachTurn P s (after_events s w one) two → AtEachTurn P s w (one ++ two)
+at_each-append P s w [] two first second = second
+at_each-append P s w (h ∷ hs) two first second = (first.0, at_each-append P s (after_one s w h) hs two first.1 second)
+
+at_each-front : (P : World → Happening → Type 0) (s : Setup) (w : World) (one two : List Happening)
+    → AtEachTurn P s w (one ++ two) → AtEachTurn P s w one
+at_each-front P s w [] two all = tt
+at_each-front P s w (h ∷ hs) two all = (all.0, at_each-front P s (after_one s w h) hs two all.1)
+
+at_each-rest : (P : World → Happening → Type 0) (s : Setup) (w : World) (one two : List Happening)
+    → AtEachTurn P s w (one ++ two) → AtEachTurn P s (after_events s w one) two
+at_each-rest P s w [] two all = all
+at_each-rest P s w (h ∷ hs) two all = at_each-rest P s (after_one s w h) hs two all.1
+
+granted_in_turn : (s : Setup) (n : ℕ) (w : World) → AreInTurn s w (granted s n w)
+unfolding granted
+granted_in_turn s zero w = tt
+granted_in_turn s (suc n) w = first (next_running w) refl (λ h. granted_in_turn s n (after_one s w h))
+  where
+    first : (o : Option ℕ) → next_running w ≡ o
+        → ((h : Happening) → AreInTurn s (after_one s w h) (granted s n (after_one s w h)))
+        → AreInTurn s w (granted_first o (λ h. granted s n (after_one s w h)))
+    first None next rest = tt
+    first (Some u) next rest = (λ _. (refl, next), rest (slice_of u true))
+
+pub grants_are_in_turn : GrantsAreInTurn
+grants_are_in_turn s w (Err reason) = tt
+grants_are_in_turn s w (Ok (Slices n)) = granted_in_turn s n w
+grants_are_in_turn s w (Ok (Run u)) = run (runs (part u w))
+  where
+    run : (b : Bool) → AreInTurn s w (if b then slice_of u false ∷ [] else [])
+    run true = (λ turn. absurd (false≢true turn), tt)
+    run false = tt
+grants_are_in_turn s w (Ok ListUsers) = tt
+
+events_in_turn : (s : Setup) (w : World) (k : Kind) → AreInTurn s w (events_of s w k)
+events_in_turn s w Empty = tt
+events_in_turn s w Long = tt
+events_in_turn s w Bad = tt
+events_in_turn s w (Operator line) = grants_are_in_turn s w (operator_parse line)
+events_in_turn s w (Of u line) = (λ turn. absurd (false≢true turn), tt)
+
+lines_in_turn : (s : Setup) (w : World) (all : List (List ℕ)) → AreInTurn s w (schedule s w all)
+unfolding after
+lines_in_turn s w [] = tt
+lines_in_turn s w (line ∷ lines) =
+    at_each-append IsTurn s w (events_of s w (kind_of line)) (schedule s (after s w line) lines)
+    (events_in_turn s w (kind_of line)) (lines_in_turn s (after s w line) lines)
+
+pub scripts_are_in_turn : ScriptsAreInTurn
+scripts_are_in_turn s w script = lines_in_turn s w (pieces script)
+
+-- ---- the laws
+
+pub nobody_has_two_turns : NobodyHasTwoTurns
+nobody_has_two_turns s w hs u v low high in_turn running none =
+    let none_later = none_is_later s w hs u (low, high) in_turn running in
+    rw (turns_of_are v hs) (one_at_most u v w.cursor (takers hs) (low, high) none_later (sym (turns_of_are u hs) ∙ none))
+
+pub each_running_user_has_a_turn : EachRunningUserHasATurn
+each_running_user_has_a_turn s w hs u low high in_turn running eight =
+    let none_later = none_is_later s w hs u (low, high) in_turn running in
+    let few_turns = below_eight u w.cursor (takers hs) (low, high) none_later in
+    elim (cases_eq (turns_of u hs) 0) [
+      | inl none ↦ absurd (omega (arith, eight, turns_are hs, few_turns (sym (turns_of_are u hs) ∙ none)))
+      | inr some ↦ omega (arith, some)
+    ]
+
+pub one_turn_between_turns : OneTurnBetweenTurns
+one_turn_between_turns s w script before between later u v split none running =
+    let one : List Happening = slice_of u true ∷ [] in
+    let rest : List Happening = between ++ slice_of u true ∷ later in
+    let all : AreInTurn s w (before ++ slice_of u true ∷ rest) = subst (AreInTurn s w) split (scripts_are_in_turn s w script) in
+    let mine = at_each-rest IsTurn s w before (slice_of u true ∷ rest) all in
+    let here : World = after_events s w before in
+    let user = subst IsUserIfAny (mine.0 refl).1 (next_is_user here.cursor (map runs here.parts)) in
+    let joined : AreInTurn s w ((before ++ one) ++ rest) = subst (AreInTurn s w) (sym (append_assoc before one rest)) all in
+    let after_mine = at_each-rest IsTurn s w (before ++ one) rest joined in
+    let in_turn = at_each-front IsTurn s (after_events s w (before ++ one)) between (slice_of u true ∷ later) after_mine in
+    nobody_has_two_turns s (after_events s w (before ++ one)) between u v user.0 user.1 in_turn running none

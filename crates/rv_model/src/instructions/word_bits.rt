@@ -1,0 +1,12 @@
+//! The bits of a word.
+ghost use Rattle.std.specs.Prelude.{◌≡◌, ◌<◌, ◌^◌};
+ghost use Rattle.rv_model.specs.instructions.BitFields.{field};
+
+/// The `len` bits of a word from bit `low` up.
+pub fn bits(word: u32, low: u32, len: u32) -> u32
+    requires { low < 32 × len < 32 }
+    ensures value { result ≡ field low len word }
+    ensures small { result < 2 ^ len }
+{
+    (word >> low) % (1 << len)
+}

@@ -1,0 +1,10 @@
+use Rattle.std.proofs.Common.{ℕ}
+use Rattle.user_mem.specs.Users.{memory_of_user}
+use Rattle.vec_monitor.specs.Parts.{trace_of}
+use Rattle.vec_monitor.proofs.CutLaws.{configured_as}
+use Rattle.vec_monitor.proofs.slices.grant.Goals as goal
+
+pub returns-clause-configured : goal.returns-clause-configured
+returns-clause-configured g c =
+    let user : ℕ = c.args.user in
+    configured_as c.args.context.now (trace_of c.args.traces.now user) (memory_of_user c.args.pool.now user) c.length_law.ensures

@@ -1,0 +1,30 @@
+-- Copies of operands stand for the operands.
+use Rattle.std.proofs.Common.{ℕ, ◌<◌, ◌≡◌, ◌∙◌, ap, List}
+use Rattle.rv_model.specs.elements.Arithmetic.{GroupType, group_element}
+use Rattle.rv_model.specs.elements.Elements.{element}
+use Rattle.rv_model.specs.vector.Configuration.{width_bytes}
+use Rattle.rv_model.specs.vector.Registers.{group_of}
+
+-- what is made of an element of each of two copies, the first of a group and the second of elements that are told
+pub two_operands : {A : Type 0} (u v : GroupType) (made : ℕ → ℕ → A) (first second file : List ℕ) (vs2 end : ℕ) (told : ℕ → ℕ)
+    → first ≡ group_of file vs2 u.emul
+    → ((i : ℕ) → i < end → element (width_bytes v.width) second i ≡ told i)
+    → (i : ℕ) → i < end
+    → made (element (width_bytes u.width) first i) (element (width_bytes v.width) second i)
+    ≡ made (group_element u file vs2 i) (told i)
+two_operands u v made first second file vs2 end told copied same i h =
+    ap (λ bytes. made (element (width_bytes u.width) bytes i) (element (width_bytes v.width) second i)) copied
+    ∙ ap (made (group_element u file vs2 i)) (same i h)
+
+-- the same with a third operand
+pub three_operands : {A B : Type 0} (u v : GroupType) (made : ℕ → ℕ → B → A) (first second file : List ℕ) (vs2 end : ℕ)
+    (told : ℕ → ℕ) (given third : ℕ → B)
+    → first ≡ group_of file vs2 u.emul
+    → ((i : ℕ) → i < end → element (width_bytes v.width) second i ≡ told i)
+    → ((i : ℕ) → given i ≡ third i)
+    → (i : ℕ) → i < end
+    → made (element (width_bytes u.width) first i) (element (width_bytes v.width) second i) (given i)
+    ≡ made (group_element u file vs2 i) (told i) (third i)
+three_operands u v made first second file vs2 end told given third copied same also i h =
+    two_operands u v (λ a b. made a b (given i)) first second file vs2 end told copied same i h
+    ∙ ap (made (group_element u file vs2 i) (told i)) (also i)
