@@ -1,5 +1,6 @@
 //! The program on one command line after another, each with the status that it ends with. The process ends with that of
-//! the last.
+//! the last. Each line has a machine of its own, so scripts that show the counts of the vector unit stand here; `manual` is
+//! the examples of docs/COMMANDS.md.
 #![tactic(auto)]
 
 use std::io;
@@ -7,7 +8,7 @@ use std::process::ExitCode;
 use vec_monitor::vecmon;
 
 /// The words after the program's name.
-const LINES: [&[&str]; 19] = [
+const LINES: [&[&str]; 32] = [
     &["--help"],
     &[],
     &["empty"],
@@ -45,6 +46,19 @@ const LINES: [&[&str]; 19] = [
     &["--quantum", "4", "three_slices"],
     &["--quantum", "12", "one_slice"],
     &["--quantum", "4", "cut_load"],
+    &["lazy_switching"],
+    &["left_state"],
+    &["reads_of_control_registers"],
+    &["switched_by_faults"],
+    &["owners_of_the_unit", "good=good"],
+    &["counted_switches"],
+    &["saturation_flag"],
+    &["policies", "good=good"],
+    &["policies_side_by_side"],
+    &["agnostic_arithmetic"],
+    &["agnostic_short_load"],
+    &["agnostic_reductions"],
+    &["manual"],
     &["empty", "a=missing"],
 ];
 

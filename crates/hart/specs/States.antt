@@ -1,16 +1,12 @@
 -- The model's step, told by the parts of one user.
-use Rattle.std.specs.Prelude.{ℕ, ◌≡◌, ◌||◌, Bool, List, Option, None, if◌then◌else◌}
-use Rattle.rv_model.specs.declared.instructions.instruction.Instr.{Instr}
-use Rattle.rv_model.specs.declared.memory.Access.TheVariants.{Fetch}
+use Rattle.std.specs.Prelude.{ℕ, ◌≡◌, ◌||◌, Bool, List}
 use Rattle.rv_model.specs.declared.vector.policy.Policy.{Policy}
 use Rattle.rv_model.specs.declared.scalar.Scalar.{Scalar}
 use Rattle.rv_model.specs.declared.step.step_end.StepEnd.{StepEnd}
 use Rattle.rv_model.specs.declared.vector.state.Seat.{Seat}
 use Rattle.rv_model.specs.declared.vector.state.VState.{VState}
 use Rattle.rv_model.specs.step.Hart.{HartState, Stepped, hart_state, ends_after}
-use Rattle.rv_model.specs.instructions.Table.{scan, table}
-use Rattle.rv_model.specs.memory.Memory.{Memory, can_access}
-use Rattle.rv_model.specs.step.Step.{word_at}
+use Rattle.rv_model.specs.memory.Memory.{Memory}
 
 -- a step or an instruction leads from the one state to the other, with this end and these ticks
 abbrev pub LeadsTo : (HartState → Stepped) → HartState → HartState → StepEnd → ℕ → Type 0
@@ -36,10 +32,6 @@ LeadsScalar instruction scalar memory scalar' memory' end =
 abbrev pub LeadsRegisters : (HartState → Stepped) → Scalar → Scalar → StepEnd → Type 0
 LeadsRegisters instruction scalar scalar' end =
     (memory : Memory) → LeadsScalar instruction scalar memory scalar' memory end
-
--- the instruction at an address, if it may be fetched from there and the word is one
-abbrev pub fetched : Memory → ℕ → Option Instr
-fetched m pc = if can_access Fetch m pc 4 then scan table (word_at m pc) else None
 
 -- an instruction marks the seat if it changes the vector state, whatever the output buffer holds, and leaves a mark that is there
 abbrev pub Marks : (HartState → Bool) → (List ℕ → HartState) → Seat → Seat → Type 0

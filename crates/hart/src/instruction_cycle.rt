@@ -5,9 +5,9 @@ ghost use Rattle.rv_model.specs.step.GoesOn.{StepGoesOn};
 ghost use Rattle.rv_model.specs.step.Hart.{ends_after, hart_state};
 ghost use Rattle.rv_model.specs.instructions.Table.{scan, table};
 ghost use Rattle.rv_model.specs.memory.Memory.{can_access};
-ghost use Rattle.rv_model.specs.step.Step.{dirties, executed, step as step_spec, touches, word_at};
+ghost use Rattle.rv_model.specs.step.Step.{dirties, executed, fetched, step as step_spec, touches, word_at};
 ghost use Rattle.rv_model.specs.vector.Configuration.{IsConfiguration};
-ghost use Rattle.hart.specs.States.{fetched, LeadsTo, Marks};
+ghost use Rattle.hart.specs.States.{LeadsTo, Marks};
 
 use crate::faults::{fault, illegal};
 use crate::scalar_instructions::execute_scalar;

@@ -11,6 +11,8 @@ mod one_width;
 #[cfg(test)]
 mod permutations;
 #[cfg(test)]
+mod plain_loops;
+#[cfg(test)]
 mod reductions;
 #[cfg(test)]
 mod two_widths;

@@ -4,7 +4,9 @@ ghost use Rattle.rv_model.specs.elements.Elements.{HasElement, element};
 ghost use Rattle.rv_model.specs.elements.Formulas.{formula, wrap};
 ghost use Rattle.rv_model.specs.vector.Configuration.{width_bytes};
 
+use crate::chunk::binary;
 use crate::lane::Lane;
+use crate::operand::operand_chunk;
 use crate::operations::apply;
 use crate::results::Results;
 use rv_model::instructions::operations::BinaryOp;
@@ -24,5 +26,11 @@ impl<'a, L: Lane> Results<L> for Binary<'a> {
 
     fn result(&self, index: usize) -> L {
         apply(self.op, L::load(self.a, index), L::load(self.b, index))
+    }
+
+    fn chunk_results(&self, chunk: usize) -> Option<L::Vector> {
+        let a = operand_chunk::<L>(self.a, chunk)?;
+        let b = operand_chunk::<L>(self.b, chunk)?;
+        binary::<L>(self.op, a, b)
     }
 }

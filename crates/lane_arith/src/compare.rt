@@ -5,9 +5,11 @@ ghost use Rattle.rv_model.specs.elements.Elements.{HasElement, element, mask_bit
 ghost use Rattle.rv_model.specs.elements.Formulas.{carry_out_formula, compare_formula};
 ghost use Rattle.rv_model.specs.vector.Configuration.{width_bytes};
 
+use crate::chunk::compare;
 use crate::lane::Lane;
 use crate::mask_operand::bit_of;
 use crate::mask_results::MaskResults;
+use crate::operand::operand_chunk;
 use rv_model::VLENB;
 use rv_model::instructions::operations::{CarryOutOp, CompareOp};
 
@@ -42,6 +44,12 @@ impl<'a, L: Lane> MaskResults<L> for Compare<'a> {
 
     fn bit(&self, index: usize) -> bool {
         holds(self.op, L::load(self.a, index), L::load(self.b, index))
+    }
+
+    fn chunk_bits(&self, chunk: usize) -> Option<u64> {
+        let a = operand_chunk::<L>(self.a, chunk)?;
+        let b = operand_chunk::<L>(self.b, chunk)?;
+        Some(compare::<L>(self.op, a, b))
     }
 }
 

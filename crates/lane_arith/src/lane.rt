@@ -1,14 +1,17 @@
-//! Elements of 8, 16, 32 and 64 bits.
-ghost use Rattle.std.specs.Prelude.{◌≡◌, ◌+◌, ◌*◌, ◌%◌, ◌^◌, ◌<◌, ◌≤◌, ℕ, length};
-ghost use Rattle.std.specs.Int.{Width, bytes_low_first, cast_signed, w8, w16, w32, w64};
-ghost use Rattle.std.proofs.Common.{rules};
+//! Elements of 8, 16, 32 and 64 bits, one by one, and side by side in 32 bytes.
+ghost use Rattle.std.specs.Prelude.{◌≡◌, ◌+◌, ◌*◌, ◌/◌, ◌%◌, ◌^◌, ◌<◌, ◌≤◌, ◌==◌, ℕ, bit_and, bit_or, bit_xor, length, nat_lt, not, slice_index, if◌then◌else◌};
+ghost use Rattle.std.specs.Int.{Width, byte_at, bytes_low_first, cast_signed, w8, w16, w32, w64};
+ghost use Rattle.std.proofs.Common.{refl, rules};
+ghost use lib.ListN.{get_or};
 ghost use Rattle.std.specs.Simd.Lanes.{put_chunk};
+ghost use Rattle.rv_model.specs.declared.instructions.operations.BinaryOp.TheVariants.{Vadd, Vmul, Vsll, Vsub};
 ghost use Rattle.rv_model.specs.elements.Elements.{element};
 ghost use Rattle.rv_model.specs.vector.Configuration.{width_bytes};
-ghost use Rattle.rv_model.specs.elements.Formulas.{ones};
+ghost use Rattle.rv_model.specs.elements.Formulas.{formula, ones, wrap};
 ghost use mir.Val.{bits};
 
 use byteorder::{ByteOrder, LittleEndian};
+use std::simd::prelude::*;
 
 /// An element of a vector register, of one width.
 pub trait Lane: Copy + Drop {
@@ -17,6 +20,15 @@ pub trait Lane: Copy + Drop {
 
     // The unsigned number.
     ghost value: { Self → ℕ };
+
+    /// The elements of 32 bytes, side by side.
+    type Vector: Copy + Drop;
+
+    // How many there are.
+    ghost count: { ℕ };
+
+    // The unsigned number of one of them.
+    ghost lane: { Self.Vector → ℕ → ℕ };
 
     /// The element at an index of a list of bytes.
     fn load(bytes: &[u8], index: usize) -> Self
@@ -51,16 +63,116 @@ pub trait Lane: Copy + Drop {
     fn bits() -> u32
         ensures { result ≡ bits width };
 
+    /// How many elements 32 bytes have.
+    fn count() -> usize
+        ensures { result ≡ count };
+
+    /// The elements of 32 bytes.
+    fn from_bytes(bytes: u8x32) -> Self::Vector
+        ensures value { (i : ℕ) → i < count → lane result i ≡ element (width_bytes width) bytes i }
+        ensures bound { (i : ℕ) → i < count → lane result i < 2 ^ bits width };
+
+    /// Their bytes.
+    fn to_bytes(elements: Self::Vector) -> u8x32
+        ensures { (i m : ℕ) → i < count → m < width_bytes width → slice_index result (width_bytes width * i + m) ≡ byte_at m (lane elements i) };
+
+    /// One number in each element.
+    fn repeated(number: Self) -> Self::Vector
+        ensures { (i : ℕ) → i < count → lane result i ≡ value number };
+
+    /// A mask: an element is 0 where its bit of the word is not set.
+    fn choose(word: u64) -> Self::Vector
+        ensures { (i : ℕ) → i < count → (lane result i == 0) ≡ (word / 2 ^ i % 2 == 0) };
+
+    /// The elements of `chosen` where the mask is not 0, and else those of `others`.
+    fn select(mask: Self::Vector, chosen: Self::Vector, others: Self::Vector) -> Self::Vector
+        ensures { (i : ℕ) → i < count → lane result i ≡ (if lane mask i == 0 then lane others i else lane chosen i) };
+
+    /// A mask: an element is 0 where that of `a` is not less than that of `b`, as unsigned numbers.
+    fn less(a: Self::Vector, b: Self::Vector) -> Self::Vector
+        ensures { (i : ℕ) → i < count → (lane result i == 0) ≡ not (nat_lt (lane a i) (lane b i)) };
+
+    /// A mask: an element is 0 where those of `a` and `b` differ.
+    fn equal(a: Self::Vector, b: Self::Vector) -> Self::Vector
+        ensures { (i : ℕ) → i < count → (lane result i == 0) ≡ not (lane a i == lane b i) };
+
+    /// A bit for each element of a mask, set where that is not 0.
+    fn to_bits(mask: Self::Vector) -> u64
+        ensures value { (i : ℕ) → i < count → (result / 2 ^ i % 2 == 0) ≡ (lane mask i == 0) }
+        ensures bound { result < 2 ^ count };
+
+    /// The sums, modulo 2 to the width.
+    fn sums(a: Self::Vector, b: Self::Vector) -> Self::Vector
+        ensures { (i : ℕ) → i < count → lane result i ≡ wrap width (formula Vadd width (lane a i) (lane b i)) };
+
+    /// The differences, modulo 2 to the width.
+    fn differences(a: Self::Vector, b: Self::Vector) -> Self::Vector
+        ensures { (i : ℕ) → i < count → lane result i ≡ wrap width (formula Vsub width (lane a i) (lane b i)) };
+
+    /// The products, modulo 2 to the width.
+    fn products(a: Self::Vector, b: Self::Vector) -> Self::Vector
+        ensures { (i : ℕ) → i < count → lane result i ≡ wrap width (formula Vmul width (lane a i) (lane b i)) };
+
+    /// The bits that both have.
+    fn each_and(a: Self::Vector, b: Self::Vector) -> Self::Vector
+        ensures { (i : ℕ) → i < count → lane result i ≡ bit_and (lane a i) (lane b i) };
+
+    /// The bits that either has.
+    fn each_or(a: Self::Vector, b: Self::Vector) -> Self::Vector
+        ensures { (i : ℕ) → i < count → lane result i ≡ bit_or (lane a i) (lane b i) };
+
+    /// The bits that one of them has.
+    fn each_exclusive_or(a: Self::Vector, b: Self::Vector) -> Self::Vector
+        ensures { (i : ℕ) → i < count → lane result i ≡ bit_xor (lane a i) (lane b i) };
+
+    /// Each shifted left, by the low bits of the amount.
+    fn each_shifted_left(a: Self::Vector, amounts: Self::Vector) -> Self::Vector
+        ensures { (i : ℕ) → i < count → lane result i ≡ wrap width (formula Vsll width (lane a i) (lane amounts i)) };
+
+    /// Each shifted right, by the low bits of the amount, with zeros for the upper bits.
+    fn each_shifted_right(a: Self::Vector, amounts: Self::Vector) -> Self::Vector
+        ensures { (i : ℕ) → i < count → lane result i ≡ lane a i / 2 ^ (lane amounts i % bits width) };
+
     // At most 64 bits.
     ghost fits_64: { bits width ≤ 64 };
+
+    // The elements fill the 32 bytes.
+    ghost fills: { width_bytes width * count ≡ 32 };
 }
+
+// The bit of a mask that tells of each of 32 elements in its byte, and that byte's place.
+const BIT_OF_BYTE: [u8; 32] = [
+    1, 2, 4, 8, 16, 32, 64, 128, 1, 2, 4, 8, 16, 32, 64, 128, 1, 2, 4, 8, 16, 32, 64, 128, 1, 2, 4,
+    8, 16, 32, 64, 128,
+];
+
+const PLACE_OF_BYTE: [usize; 32] = [
+    0, 0, 0, 0, 0, 0, 0, 0, 1, 1, 1, 1, 1, 1, 1, 1, 2, 2, 2, 2, 2, 2, 2, 2, 3, 3, 3, 3, 3, 3, 3, 3,
+];
+
+// The bit that tells of each of 16, 8 and 4 elements.
+const BIT_OF_HALF: [u16; 16] = [
+    1, 2, 4, 8, 16, 32, 64, 128, 256, 512, 1024, 2048, 4096, 8192, 16384, 32768,
+];
+
+const BIT_OF_WORD: [u32; 8] = [1, 2, 4, 8, 16, 32, 64, 128];
+
+const BIT_OF_LONG: [u64; 4] = [1, 2, 4, 8];
 
 impl Lane for u8 {
     ghost width = { w8 };
 
     ghost value = { λ x. x };
 
+    type Vector = u8x32;
+
+    ghost count = { 32 };
+
+    ghost lane = { λ elements i. get_or elements i 0 };
+
     ghost fits_64 = { Prim.search rules };
+
+    ghost fills = { refl };
 
     fn load(bytes: &[u8], index: usize) -> u8 {
         bytes[index]
@@ -89,6 +201,75 @@ impl Lane for u8 {
     fn bits() -> u32 {
         u8::BITS
     }
+
+    fn count() -> usize {
+        32
+    }
+
+    fn from_bytes(bytes: u8x32) -> u8x32 {
+        bytes
+    }
+
+    fn to_bytes(elements: u8x32) -> u8x32 {
+        elements
+    }
+
+    fn repeated(number: u8) -> u8x32 {
+        u8x32::splat(number)
+    }
+
+    fn choose(word: u64) -> u8x32 {
+        let bytes = u64x1::splat(word).to_le_bytes();
+        bytes.swizzle(PLACE_OF_BYTE) & u8x32::from_array(BIT_OF_BYTE)
+    }
+
+    fn select(mask: u8x32, chosen: u8x32, others: u8x32) -> u8x32 {
+        mask.simd_eq(u8x32::splat(0)).select(others, chosen)
+    }
+
+    fn less(a: u8x32, b: u8x32) -> u8x32 {
+        a.simd_lt(b).select(u8x32::splat(u8::MAX), u8x32::splat(0))
+    }
+
+    fn equal(a: u8x32, b: u8x32) -> u8x32 {
+        a.simd_eq(b).select(u8x32::splat(u8::MAX), u8x32::splat(0))
+    }
+
+    fn to_bits(mask: u8x32) -> u64 {
+        mask.simd_ne(u8x32::splat(0)).to_bitmask()
+    }
+
+    fn sums(a: u8x32, b: u8x32) -> u8x32 {
+        a + b
+    }
+
+    fn differences(a: u8x32, b: u8x32) -> u8x32 {
+        a - b
+    }
+
+    fn products(a: u8x32, b: u8x32) -> u8x32 {
+        a * b
+    }
+
+    fn each_and(a: u8x32, b: u8x32) -> u8x32 {
+        a & b
+    }
+
+    fn each_or(a: u8x32, b: u8x32) -> u8x32 {
+        a | b
+    }
+
+    fn each_exclusive_or(a: u8x32, b: u8x32) -> u8x32 {
+        a ^ b
+    }
+
+    fn each_shifted_left(a: u8x32, amounts: u8x32) -> u8x32 {
+        a << (amounts & u8x32::splat(7))
+    }
+
+    fn each_shifted_right(a: u8x32, amounts: u8x32) -> u8x32 {
+        a >> (amounts & u8x32::splat(7))
+    }
 }
 
 impl Lane for u16 {
@@ -96,7 +277,15 @@ impl Lane for u16 {
 
     ghost value = { λ x. x };
 
+    type Vector = u16x16;
+
+    ghost count = { 16 };
+
+    ghost lane = { λ elements i. get_or elements i 0 };
+
     ghost fits_64 = { Prim.search rules };
+
+    ghost fills = { refl };
 
     fn load(bytes: &[u8], index: usize) -> u16 {
         LittleEndian::read_u16(&bytes[2 * index..])
@@ -125,6 +314,76 @@ impl Lane for u16 {
     fn bits() -> u32 {
         u16::BITS
     }
+
+    fn count() -> usize {
+        16
+    }
+
+    fn from_bytes(bytes: u8x32) -> u16x16 {
+        u16x16::from_le_bytes(bytes)
+    }
+
+    fn to_bytes(elements: u16x16) -> u8x32 {
+        elements.to_le_bytes()
+    }
+
+    fn repeated(number: u16) -> u16x16 {
+        u16x16::splat(number)
+    }
+
+    fn choose(word: u64) -> u16x16 {
+        u16x16::splat((word % (1 << 16)) as u16) & u16x16::from_array(BIT_OF_HALF)
+    }
+
+    fn select(mask: u16x16, chosen: u16x16, others: u16x16) -> u16x16 {
+        mask.simd_eq(u16x16::splat(0)).select(others, chosen)
+    }
+
+    fn less(a: u16x16, b: u16x16) -> u16x16 {
+        a.simd_lt(b)
+            .select(u16x16::splat(u16::MAX), u16x16::splat(0))
+    }
+
+    fn equal(a: u16x16, b: u16x16) -> u16x16 {
+        a.simd_eq(b)
+            .select(u16x16::splat(u16::MAX), u16x16::splat(0))
+    }
+
+    fn to_bits(mask: u16x16) -> u64 {
+        mask.simd_ne(u16x16::splat(0)).to_bitmask()
+    }
+
+    fn sums(a: u16x16, b: u16x16) -> u16x16 {
+        a + b
+    }
+
+    fn differences(a: u16x16, b: u16x16) -> u16x16 {
+        a - b
+    }
+
+    fn products(a: u16x16, b: u16x16) -> u16x16 {
+        a * b
+    }
+
+    fn each_and(a: u16x16, b: u16x16) -> u16x16 {
+        a & b
+    }
+
+    fn each_or(a: u16x16, b: u16x16) -> u16x16 {
+        a | b
+    }
+
+    fn each_exclusive_or(a: u16x16, b: u16x16) -> u16x16 {
+        a ^ b
+    }
+
+    fn each_shifted_left(a: u16x16, amounts: u16x16) -> u16x16 {
+        a << (amounts & u16x16::splat(15))
+    }
+
+    fn each_shifted_right(a: u16x16, amounts: u16x16) -> u16x16 {
+        a >> (amounts & u16x16::splat(15))
+    }
 }
 
 impl Lane for u32 {
@@ -132,7 +391,15 @@ impl Lane for u32 {
 
     ghost value = { λ x. x };
 
+    type Vector = u32x8;
+
+    ghost count = { 8 };
+
+    ghost lane = { λ elements i. get_or elements i 0 };
+
     ghost fits_64 = { Prim.search rules };
+
+    ghost fills = { refl };
 
     fn load(bytes: &[u8], index: usize) -> u32 {
         LittleEndian::read_u32(&bytes[4 * index..])
@@ -161,6 +428,74 @@ impl Lane for u32 {
     fn bits() -> u32 {
         u32::BITS
     }
+
+    fn count() -> usize {
+        8
+    }
+
+    fn from_bytes(bytes: u8x32) -> u32x8 {
+        u32x8::from_le_bytes(bytes)
+    }
+
+    fn to_bytes(elements: u32x8) -> u8x32 {
+        elements.to_le_bytes()
+    }
+
+    fn repeated(number: u32) -> u32x8 {
+        u32x8::splat(number)
+    }
+
+    fn choose(word: u64) -> u32x8 {
+        u32x8::splat((word % (1 << 32)) as u32) & u32x8::from_array(BIT_OF_WORD)
+    }
+
+    fn select(mask: u32x8, chosen: u32x8, others: u32x8) -> u32x8 {
+        mask.simd_eq(u32x8::splat(0)).select(others, chosen)
+    }
+
+    fn less(a: u32x8, b: u32x8) -> u32x8 {
+        a.simd_lt(b).select(u32x8::splat(u32::MAX), u32x8::splat(0))
+    }
+
+    fn equal(a: u32x8, b: u32x8) -> u32x8 {
+        a.simd_eq(b).select(u32x8::splat(u32::MAX), u32x8::splat(0))
+    }
+
+    fn to_bits(mask: u32x8) -> u64 {
+        mask.simd_ne(u32x8::splat(0)).to_bitmask()
+    }
+
+    fn sums(a: u32x8, b: u32x8) -> u32x8 {
+        a + b
+    }
+
+    fn differences(a: u32x8, b: u32x8) -> u32x8 {
+        a - b
+    }
+
+    fn products(a: u32x8, b: u32x8) -> u32x8 {
+        a * b
+    }
+
+    fn each_and(a: u32x8, b: u32x8) -> u32x8 {
+        a & b
+    }
+
+    fn each_or(a: u32x8, b: u32x8) -> u32x8 {
+        a | b
+    }
+
+    fn each_exclusive_or(a: u32x8, b: u32x8) -> u32x8 {
+        a ^ b
+    }
+
+    fn each_shifted_left(a: u32x8, amounts: u32x8) -> u32x8 {
+        a << (amounts & u32x8::splat(31))
+    }
+
+    fn each_shifted_right(a: u32x8, amounts: u32x8) -> u32x8 {
+        a >> (amounts & u32x8::splat(31))
+    }
 }
 
 impl Lane for u64 {
@@ -168,7 +503,15 @@ impl Lane for u64 {
 
     ghost value = { λ x. x };
 
+    type Vector = u64x4;
+
+    ghost count = { 4 };
+
+    ghost lane = { λ elements i. get_or elements i 0 };
+
     ghost fits_64 = { Prim.search rules };
+
+    ghost fills = { refl };
 
     fn load(bytes: &[u8], index: usize) -> u64 {
         LittleEndian::read_u64(&bytes[8 * index..])
@@ -196,5 +539,73 @@ impl Lane for u64 {
 
     fn bits() -> u32 {
         u64::BITS
+    }
+
+    fn count() -> usize {
+        4
+    }
+
+    fn from_bytes(bytes: u8x32) -> u64x4 {
+        u64x4::from_le_bytes(bytes)
+    }
+
+    fn to_bytes(elements: u64x4) -> u8x32 {
+        elements.to_le_bytes()
+    }
+
+    fn repeated(number: u64) -> u64x4 {
+        u64x4::splat(number)
+    }
+
+    fn choose(word: u64) -> u64x4 {
+        u64x4::splat(word) & u64x4::from_array(BIT_OF_LONG)
+    }
+
+    fn select(mask: u64x4, chosen: u64x4, others: u64x4) -> u64x4 {
+        mask.simd_eq(u64x4::splat(0)).select(others, chosen)
+    }
+
+    fn less(a: u64x4, b: u64x4) -> u64x4 {
+        a.simd_lt(b).select(u64x4::splat(u64::MAX), u64x4::splat(0))
+    }
+
+    fn equal(a: u64x4, b: u64x4) -> u64x4 {
+        a.simd_eq(b).select(u64x4::splat(u64::MAX), u64x4::splat(0))
+    }
+
+    fn to_bits(mask: u64x4) -> u64 {
+        mask.simd_ne(u64x4::splat(0)).to_bitmask()
+    }
+
+    fn sums(a: u64x4, b: u64x4) -> u64x4 {
+        a + b
+    }
+
+    fn differences(a: u64x4, b: u64x4) -> u64x4 {
+        a - b
+    }
+
+    fn products(a: u64x4, b: u64x4) -> u64x4 {
+        a * b
+    }
+
+    fn each_and(a: u64x4, b: u64x4) -> u64x4 {
+        a & b
+    }
+
+    fn each_or(a: u64x4, b: u64x4) -> u64x4 {
+        a | b
+    }
+
+    fn each_exclusive_or(a: u64x4, b: u64x4) -> u64x4 {
+        a ^ b
+    }
+
+    fn each_shifted_left(a: u64x4, amounts: u64x4) -> u64x4 {
+        a << (amounts & u64x4::splat(63))
+    }
+
+    fn each_shifted_right(a: u64x4, amounts: u64x4) -> u64x4 {
+        a >> (amounts & u64x4::splat(63))
     }
 }

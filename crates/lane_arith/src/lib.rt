@@ -3,6 +3,8 @@
 
 mod binary;
 mod body;
+mod chunk;
+mod chunk_bits;
 mod compare;
 mod copies;
 mod division;
@@ -13,6 +15,7 @@ mod mask_operand;
 mod mask_results;
 mod multiply_add;
 mod narrow_shift;
+mod operand;
 mod operations;
 mod results;
 mod whole_number;

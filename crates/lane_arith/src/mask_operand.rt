@@ -5,7 +5,10 @@ ghost use Rattle.rv_model.specs.elements.Elements.{HasElement, element, mask_bit
 ghost use Rattle.rv_model.specs.elements.Formulas.{carry_formula, wrap};
 ghost use Rattle.rv_model.specs.vector.Configuration.{width_bytes};
 
+use crate::chunk::with_mask_operand;
+use crate::chunk_bits::mask_bits;
 use crate::lane::Lane;
+use crate::operand::operand_chunk;
 use crate::results::Results;
 use rv_model::instructions::operations::CarryOp;
 use rv_model::{GROUP_BYTES, VLENB};
@@ -53,5 +56,13 @@ impl<'a, L: Lane> Results<L> for WithMaskOperand<'a> {
             L::load(self.b, index),
             bit_of(self.v0, index),
         )
+    }
+
+    fn chunk_results(&self, chunk: usize) -> Option<L::Vector> {
+        let a = operand_chunk::<L>(self.a, chunk)?;
+        let b = operand_chunk::<L>(self.b, chunk)?;
+        let count = L::count();
+        let word = mask_bits(self.v0, count * chunk, count);
+        Some(with_mask_operand::<L>(self.op, a, b, word))
     }
 }

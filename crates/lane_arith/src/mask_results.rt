@@ -1,13 +1,14 @@
 //! The results of instructions whose destination is a mask, written to its bits ("V" Vector Extension
 //! 1.0, sections 4.5, 5.3 and 5.4).
-ghost use Rattle.std.specs.Prelude.{◌≡◌, ◌*◌, ◌<◌, ◌≤◌, ℕ, Bool, length};
+ghost use Rattle.std.specs.Prelude.{◌≡◌, ◌+◌, ◌*◌, ◌/◌, ◌%◌, ◌^◌, ◌<◌, ◌≤◌, ◌==◌, ℕ, Bool, IfSome, length, nat_lt, not, slice_index, if◌then◌else◌};
 ghost use Rattle.std.specs.Int.{from_bool};
-ghost use Rattle.rv_model.specs.elements.Elements.{is_active};
+ghost use Rattle.rv_model.specs.elements.Elements.{is_active, mask_bit};
 ghost use Rattle.rv_model.specs.elements.Writes.{WritesBits, bit_or, byte_with_bits};
 
 use crate::body::Body;
+use crate::chunk_bits::active_bits;
 use crate::lane::Lane;
-use rv_model::GROUP_BYTES;
+use rv_model::{GROUP_BYTES, VLENB};
 
 /// What an instruction gives to the bits of its destination, from elements of a width.
 pub trait MaskResults<L: Lane> {
@@ -21,6 +22,15 @@ pub trait MaskResults<L: Lane> {
     fn bit(&self, index: usize) -> bool
         requires { has self.now index }
         ensures { result ≡ bit self.now index };
+
+    /// The results for the elements of a chunk of 32 bytes, a bit for each, where they are made side by side.
+    fn chunk_bits(&self, _chunk: usize) -> Option<u64>
+        requires { L.count * _chunk + L.count ≤ GROUP_BYTES }
+        ensures value { IfSome result (λ word. (i : ℕ) → i < L.count → (word / 2 ^ i % 2 == 0) ≡ not (bit self.now (L.count * _chunk + i))) }
+        ensures bound { IfSome result (λ word. word < 2 ^ L.count) }
+    {
+        None
+    }
 }
 
 /// The result, if the bit is active, else the bit as it is.
@@ -94,6 +104,64 @@ fn rebuilt<L: Lane, R: MaskResults<L>>(
     }
 }
 
+/// The results for the 32 bits of a word of the destination, where their chunks are made side by side.
+fn word_results<L: Lane, R: MaskResults<L>>(results: &R, word: usize) -> Option<u64>
+    requires { 32 * word + 32 ≤ GROUP_BYTES }
+    ensures { IfSome result (λ bits. (i : ℕ) → i < 32 → (bits / 2 ^ i % 2 == 0) ≡ not (R.bit results.now (32 * word + i))) }
+{
+    let count = L::count();
+    let chunks = 32 / count;
+    let mut bits = 0;
+    for j in 0..chunks {
+        let Some(more) = results.chunk_bits(chunks * word + j) else {
+            return None;
+        };
+        bits += more << (count * j);
+    }
+    Some(bits)
+}
+
+/// A word of a mask.
+fn word_of(mask: &[u8], word: usize) -> u32
+    requires { 4 * word + 4 ≤ length mask.now }
+    ensures { (i : ℕ) → i < 32 → (result / 2 ^ i % 2 == 1) ≡ mask_bit mask.now (32 * word + i) }
+{
+    u32::load(mask, word)
+}
+
+/// A word with its active bits replaced.
+fn replaced(old: u32, new: u64, active: u64) -> u32
+    ensures { (i : ℕ) → i < 32 → (result / 2 ^ i % 2 == 1)
+        ≡ (if active / 2 ^ i % 2 == 0 then old / 2 ^ i % 2 == 1 else not (new / 2 ^ i % 2 == 0)) }
+{
+    let old = u64::from(old);
+    ((old ^ ((old ^ new) & active)) % (1 << 32)) as u32
+}
+
+/// Writes the results to the active bits of the destination, four bytes at a time, up to the first chunk whose
+/// results aren't made side by side. Answers how many bytes are done.
+fn write_words<L: Lane, R: MaskResults<L>>(
+    results: &R,
+    body: &Body<'_>,
+    destination: &mut [u8],
+) -> usize
+    requires most { length destination.old ≤ GROUP_BYTES }
+    requires count { body.now.end ≤ GROUP_BYTES }
+    ensures length { length destination.new ≡ length destination.old }
+    ensures bytes { (q : ℕ) → q < length destination.old → slice_index destination.new q
+        ≡ (if nat_lt q result then byte_with_bits (is_active body.now) (R.bit results.now) destination.old q else slice_index destination.old q) }
+{
+    let words = (destination.len() / 4).min(VLENB / 4);
+    for word in 0..words {
+        let Some(new) = word_results(results, word) else {
+            return 4 * word;
+        };
+        let active = active_bits(body, 32 * word, 32);
+        replaced(word_of(destination, word), new, active).store(destination, word);
+    }
+    4 * words
+}
+
 /// Writes the result to each active bit of the destination; all others keep.
 pub fn write_mask_results<L: Lane, R: MaskResults<L>>(
     results: &R,
@@ -105,7 +173,8 @@ pub fn write_mask_results<L: Lane, R: MaskResults<L>>(
     requires count { body.now.end ≤ GROUP_BYTES }
     ensures { WritesBits (is_active body.now) (R.bit results.now) destination.old destination.new }
 {
-    for i in 0..destination.len() {
+    let done = write_words(results, body, destination);
+    for i in done..destination.len() {
         destination[i] = rebuilt(results, body, destination, i);
     }
 }

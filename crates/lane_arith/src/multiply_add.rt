@@ -4,7 +4,9 @@ ghost use Rattle.rv_model.specs.elements.Elements.{HasElement, element};
 ghost use Rattle.rv_model.specs.elements.Formulas.{multiply_add_formula, wrap};
 ghost use Rattle.rv_model.specs.vector.Configuration.{width_bytes};
 
+use crate::chunk::multiply_add;
 use crate::lane::Lane;
+use crate::operand::operand_chunk;
 use crate::results::Results;
 use rv_model::instructions::operations::MultiplyAddOp;
 
@@ -45,5 +47,12 @@ impl<'a, L: Lane> Results<L> for MultiplyAdd<'a> {
             L::load(self.b, index),
             L::load(self.d, index),
         )
+    }
+
+    fn chunk_results(&self, chunk: usize) -> Option<L::Vector> {
+        let a = operand_chunk::<L>(self.a, chunk)?;
+        let b = operand_chunk::<L>(self.b, chunk)?;
+        let d = operand_chunk::<L>(self.d, chunk)?;
+        Some(multiply_add::<L>(self.op, a, b, d))
     }
 }

@@ -1,14 +1,19 @@
 //! The results of element-wise instructions, written to the elements of their destination ("V" Vector
 //! Extension 1.0, sections 5.3 and 5.4).
-ghost use Rattle.std.specs.Prelude.{◌≡◌, ◌+◌, ◌*◌, ◌<◌, ◌≤◌, ℕ, length, false};
+ghost use Rattle.std.specs.Prelude.{◌≡◌, ◌+◌, ◌*◌, ◌/◌, ◌%◌, ◌^◌, ◌<◌, ◌≤◌, ◌==◌, ◌&&◌, ℕ, IfSome, List, length, nat_lt, false, slice_index, if◌then◌else◌};
+ghost use Rattle.std.specs.Int.{byte_at};
+ghost use Rattle.std.specs.Simd.Lanes.{chunk, put_chunk};
 ghost use Rattle.rv_model.specs.elements.Elements.{in_range, is_changed, result_or_ones};
 ghost use Rattle.rv_model.specs.elements.Formulas.{ones};
 ghost use Rattle.rv_model.specs.elements.Writes.{Writes};
 ghost use Rattle.rv_model.specs.vector.Configuration.{width_bytes};
 
 use crate::body::Body;
+use crate::chunk::merged;
+use crate::chunk_bits::{active_bits, filled_bits};
 use crate::lane::Lane;
 use rv_model::GROUP_BYTES;
+use std::simd::prelude::*;
 
 /// What an instruction gives to the elements of its destination.
 pub trait Results<L: Lane> {
@@ -22,11 +27,18 @@ pub trait Results<L: Lane> {
     fn result(&self, index: usize) -> L
         requires { has self.now index }
         ensures { L.value result ≡ number self.now index };
+
+    /// The results for the elements of a chunk of 32 bytes, where they are made side by side.
+    fn chunk_results(&self, _chunk: usize) -> Option<L::Vector>
+        requires { L.count * _chunk + L.count ≤ GROUP_BYTES }
+        ensures { IfSome result (λ made. (i : ℕ) → i < L.count → L.lane made i ≡ number self.now (L.count * _chunk + i)) }
+    {
+        None
+    }
 }
 
-/// Writes the result to each active element of the destination. Where `fill_masked_off`, the elements of
-/// the body that are masked off become all ones; all others keep.
-pub fn write_results<L: Lane, R: Results<L>>(
+/// `write_results`, element by element.
+fn write_each<L: Lane, R: Results<L>>(
     results: &R,
     body: &Body<'_>,
     destination: &mut [u8],
@@ -45,6 +57,72 @@ pub fn write_results<L: Lane, R: Results<L>>(
             L::all_ones().store(destination, i);
         }
     }
+}
+
+/// Writes a chunk of results from the byte `at` on: those where the bit of `active` is set, and ones where only
+/// that of `filled` is.
+fn put_results<L: Lane>(
+    results: L::Vector,
+    active: u64,
+    filled: u64,
+    at: usize,
+    destination: &mut [u8],
+)
+    requires { at + 32 ≤ length destination.old }
+    ensures { (made : List ℕ) × (destination.new ≡ put_chunk at destination.old made) × (length made ≡ 32)
+        × ((i m : ℕ) → i < L.count → m < width_bytes L.width → slice_index made (width_bytes L.width * i + m)
+        ≡ (if active / 2 ^ i % 2 == 0
+        then (if filled / 2 ^ i % 2 == 0 then slice_index (chunk at 32 destination.old) (width_bytes L.width * i + m) else byte_at m (ones L.width))
+        else byte_at m (L.lane results i))) }
+{
+    let old = u8x32::from_slice(&destination[at..]);
+    let new = merged::<L>(results, old, active, filled);
+    new.copy_to_slice(&mut destination[at..]);
+}
+
+/// `write_results`, chunk by chunk, up to the first chunk whose results aren't made side by side. Answers the
+/// index of the first element that is left.
+fn write_chunks<L: Lane, R: Results<L>>(
+    results: &R,
+    body: &Body<'_>,
+    destination: &mut [u8],
+    fill_masked_off: bool,
+) -> usize
+    requires { body.now.end ≤ GROUP_BYTES }
+    ensures { Writes (width_bytes L.width) (λ e. is_changed body.now fill_masked_off false e && nat_lt e result)
+        (result_or_ones body.now (R.number results.now) (ones L.width)) destination.old destination.new }
+{
+    let count = L::count();
+    let whole = (destination.len() / 32).min(body.end().div_ceil(count));
+    for c in 0..whole {
+        let Some(made) = results.chunk_results(c) else {
+            return count * c;
+        };
+        let active = active_bits(body, count * c, count);
+        let filled = filled_bits(body, fill_masked_off, count * c, count);
+        put_results::<L>(made, active, filled, 32 * c, destination);
+    }
+    count * whole
+}
+
+/// Writes the result to each active element of the destination. Where `fill_masked_off`, the elements of
+/// the body that are masked off become all ones; all others keep.
+pub fn write_results<L: Lane, R: Results<L>>(
+    results: &R,
+    body: &Body<'_>,
+    destination: &mut [u8],
+    fill_masked_off: bool,
+)
+    requires operands { (i : ℕ) → i < body.now.end → R.has results.now i }
+    requires room { width_bytes L.width * body.now.end ≤ length destination.old }
+    requires count { body.now.end ≤ GROUP_BYTES }
+    ensures { Writes (width_bytes L.width) (is_changed body.now fill_masked_off false)
+        (result_or_ones body.now (R.number results.now) (ones L.width)) destination.old destination.new }
+{
+    let left = write_chunks(results, body, destination, fill_masked_off);
+    let start = body.start().max(left);
+    let rest = Body::new(body.is_unmasked(), body.mask(), start, body.end());
+    write_each(results, &rest, destination, fill_masked_off);
 }
 
 /// Writes one number to each element from `start` up to `end`.

@@ -1,6 +1,6 @@
 -- Laws of the lazily switched vector unit.
 use Rattle.std.specs.Prelude.{ℕ, zero, suc, ◌-◌, ◌≡◌, ◌≢◌, ◌<◌, ◌≤◌, Bool, true, false, List, Option, Some, None, ◌&&◌, if◌then◌else◌, length, replicate, refl}
-use Rattle.std.proofs.Common.{ap, arith, get_or, get_or-set_other, get_or-set_same, inl, inr}
+use Rattle.std.proofs.Common.{ap, sym, ◌∙◌, arith, get_or, get_or-set_other, get_or-set_same, inl, inr}
 use Rattle.rv_model.specs.declared.vector.state.Seat.{Seat}
 use Rattle.rv_model.specs.declared.vector.state.VState.{VState}
 use Rattle.rv_model.specs.machine.Users.{user_count}
@@ -63,6 +63,30 @@ taken_keeps user other areas unit = grind arith
 -- who takes the unit finds there what the save areas show
 pub taken_state : (user : ℕ) (areas : Areas) (unit : Unit) → (taken user areas unit).seat.state ≡ saved_state areas user
 taken_state user areas unit = grind arith
+
+touched_keeps_by : (user other : ℕ) (unit : Unit) (b : Bool) → is_owned_by unit.owner user ≡ b
+    → ((n : ℕ) → 1 ≤ n → saved_state (areas_saved unit.owner unit.seat unit.areas) n ≡ state_of unit n) → 1 ≤ other
+    → state_of (if b then unit else taken user (areas_saved unit.owner unit.seat unit.areas) unit) other ≡ state_of unit other
+touched_keeps_by user other unit true is shown low = refl
+touched_keeps_by user other unit false is shown low =
+    taken_keeps user other (areas_saved unit.owner unit.seat unit.areas) unit ∙ shown other low
+
+-- a touch changes nobody's state
+pub touched_keeps : (user other : ℕ) (unit : Unit) → length unit.areas.states ≡ user_count → length unit.areas.marks ≡ user_count
+    → IsOwnerAUser unit.owner → IsSettled unit → 1 ≤ other → state_of (touched user unit) other ≡ state_of unit other
+touched_keeps user other unit states marks is_user settled low =
+    touched_keeps_by user other unit (is_owned_by unit.owner user) refl
+    (λ n from. saved_keep unit.owner unit.seat unit.areas n states marks is_user settled from) low
+
+touched_owner : (user : ℕ) (unit : Unit) → is_owned_by (touched user unit).owner user ≡ true
+touched_owner user unit = grind arith
+
+-- what is lent is the user's state
+pub touched_state : (user : ℕ) (unit : Unit) → length unit.areas.states ≡ user_count → length unit.areas.marks ≡ user_count
+    → IsOwnerAUser unit.owner → IsSettled unit → 1 ≤ user → (touched user unit).seat.state ≡ state_of unit user
+touched_state user unit states marks is_user settled low =
+    ap (λ (b : Bool). if b then (touched user unit).seat.state else saved_state (touched user unit).areas user) (sym (touched_owner user unit))
+    ∙ touched_keeps user user unit states marks is_user settled low
 
 -- a touch by the owner changes nothing
 pub owner_touches : (user : ℕ) (unit : Unit) → is_owned_by unit.owner user ≡ true → touched user unit ≡ unit

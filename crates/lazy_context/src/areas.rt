@@ -3,8 +3,9 @@ ghost use Rattle.std.specs.Prelude.{◌≡◌, false, length};
 ghost use Rattle.lazy_context.specs.SaveAreas.{IsSaved, areas_poked, count_restore, count_save, is_saved, new_areas, saved_state, with_saved};
 ghost use Rattle.rv_model.specs.machine.Users.{user_count};
 ghost use Rattle.rv_model.specs.machine.VectorUnit.{with_mark};
+ghost use Rattle.rv_model.specs.vector.Configuration.{IsConfiguration};
 
-use rv_model::{RegisterBytes, USER_COUNT, User, VReg, VState};
+use rv_model::{RegisterBytes, USER_COUNT, User, VConf, VReg, VState};
 
 /// A save area for each user, with a mark that says whether it holds the user's vector state, and
 /// how many states were saved and restored.
@@ -97,6 +98,28 @@ impl Areas {
         ensures whole { length self.old.marks ≡ user_count }
     {
         self.marks[user.index()] = false;
+    }
+
+    /// There is an area and a mark for each user: a law, which does nothing.
+    pub(crate) fn whole_law(&self)
+        ensures states { length self.now.states ≡ user_count }
+        ensures marks { length self.now.marks ≡ user_count }
+    {
+        let _ = self.states[0].vstart;
+        let _ = self.marks[0];
+    }
+
+    /// The vector length of what the area shows is one that the vector type allows: a law, which does
+    /// nothing.
+    #[tactic(auto, unfolding(rv_model::specs::vector::State::initial_vector))]
+    pub(crate) fn length_law(&self, user: User)
+        ensures { IsConfiguration (saved_state self.now user).conf }
+    {
+        if self.marked(user) {
+            self.states[user.index()].conf.length_law();
+        } else {
+            VConf::vill().length_law();
+        }
     }
 
     /// How many states were saved, and how many restored.

@@ -5,4 +5,4 @@ mod areas;
 mod unit;
 
 pub use areas::Areas;
-pub use unit::{Stats, Unit};
+pub use unit::Unit;

@@ -2,22 +2,14 @@
 ghost use Rattle.lazy_context.specs.LazyUnit.{AllKeep, ComesBackSettled, IsLentAgain, IsOwnerAUser, IsSettled, KeepsAreas, KeepsOtherAreas, LendsSeat, OthersKeep, ShowAll, discarded, new_unit, owner_written_back, poked, record_of, state_of, taken, touched};
 ghost use Rattle.lazy_context.specs.SaveAreas.{with_register};
 ghost use Rattle.rv_model.specs.machine.Users.{user_count};
-ghost use Rattle.rv_model.specs.machine.VectorUnit.{is_owned_by, unit_discarded, unit_register_written, unit_touched, unused_unit};
+ghost use Rattle.rv_model.specs.machine.VectorUnit.{is_owned_by, stats_of, unit_discarded, unit_register_written, unit_touched, unused_unit};
+ghost use Rattle.rv_model.specs.vector.Configuration.{IsConfiguration};
 ghost use Rattle.rv_model.specs.vector.State.{initial_vector};
 ghost use Rattle.std.specs.Borrow.{sem};
 ghost use Rattle.std.specs.Prelude.{ℕ, ◌≡◌, ◌≤◌, false, true};
 
 use crate::areas::Areas;
-use rv_model::{RegisterBytes, Seat, User, VReg, VState};
-
-/// How often the vector unit was switched, and whose state it holds.
-#[derive(Clone, Copy)]
-pub struct Stats {
-    pub saves: u64,
-    pub restores: u64,
-    pub inits: u64,
-    pub owner: Option<User>,
-}
+use rv_model::{RegisterBytes, Seat, Stats, User, VReg, VState};
 
 /// The one vector unit: the state of its owner, marked as dirty if it was changed since it came
 /// there, the states of the other users in save areas, and how many users' states began as the
@@ -185,12 +177,31 @@ impl Unit {
         }
     }
 
+    /// What the unit holds for a user once the user has touched it: a law, which does nothing.
+    #[tactic(auto, using(crate::proofs::UnitLaws::touched_state, crate::proofs::UnitLaws::touched_keeps, crate::proofs::UnitLaws::touch_counts))]
+    pub fn lending_law(&self, user: User)
+        ensures own { IsSettled self.now → (touched user self.now).seat.state ≡ state_of self.now user }
+        ensures states { IsSettled self.now → AllKeep self.now (touched user self.now) }
+        ensures counts { record_of (touched user self.now) ≡ unit_touched user (record_of self.now) }
+    {
+        self.areas.whole_law();
+        let _ = self.is_owner(user);
+    }
+
+    /// The vector length of a user is one that the vector type allows: a law, which does nothing.
+    pub fn length_law(&self, user: User)
+        ensures { IsConfiguration (state_of self.now user).conf }
+    {
+        if self.is_owner(user) {
+            self.seat.state.conf.length_law();
+        } else {
+            self.areas.length_law(user);
+        }
+    }
+
     /// How often the unit was switched, and whose state it holds.
     pub fn stats(&self) -> Stats
-        ensures saves { result.saves ≡ (record_of self.now).saves }
-        ensures restores { result.restores ≡ (record_of self.now).restores }
-        ensures inits { result.inits ≡ (record_of self.now).first_uses }
-        ensures owner { result.owner ≡ (record_of self.now).owner }
+        ensures { result ≡ stats_of (record_of self.now) }
     {
         let (saves, restores) = self.areas.counts();
         Stats {

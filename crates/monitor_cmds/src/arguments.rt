@@ -1,11 +1,11 @@
 //! What a word means as an argument of a command.
 ghost use Rattle.std.specs.Prelude.{◌≡◌, ◌≤◌, ◌^◌, IfSome};
-ghost use Rattle.rv_model.specs.commands.Arguments.{decimal_number, number, address, instruction_address, scalar_register, vector_register, element_width, allowing, permissions};
+ghost use Rattle.rv_model.specs.commands.Arguments.{decimal_number, number, address, instruction_address, scalar_register, vector_register, element_width, policy_word, allowing, permissions};
 ghost use Rattle.rv_model.specs.machine.Users.{user_count};
 ghost use Rattle.rv_model.specs.text.Digits.{capped};
 
 use rv_model::text::digits;
-use rv_model::{Count, Permissions, Reg, Sew, USER_COUNT, User, VReg};
+use rv_model::{Count, Permissions, Policy, Reg, Sew, USER_COUNT, User, VReg};
 
 /// Larger numbers are read as this one, which no argument takes.
 const CAP: u128 = 1 << 64;
@@ -109,6 +109,19 @@ pub(crate) fn element_width(word: &[u8]) -> Option<Sew>
     }
     if word == b"64".as_slice() {
         return Some(Sew::E64);
+    }
+    None
+}
+
+/// What becomes of agnostic elements: `keep` or `ones`.
+pub(crate) fn policy(word: &[u8]) -> Option<Policy>
+    ensures { result ≡ policy_word word.now }
+{
+    if word == b"keep".as_slice() {
+        return Some(Policy::Keep);
+    }
+    if word == b"ones".as_slice() {
+        return Some(Policy::Ones);
     }
     None
 }

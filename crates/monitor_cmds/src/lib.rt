@@ -23,7 +23,7 @@ pub use commands::running::{
     out_line, running_line, state_line, step_line, stopped_line, trace_line,
 };
 pub use lines::ok;
-pub use operator::{granted_line, list_line, parse_operator};
+pub use operator::{granted_line, list_line, parse_operator, stats_line};
 pub use parsing::parse;
 pub use refusals::{bad_prefix, line_too_long, refused};
 pub use reply::Reply;

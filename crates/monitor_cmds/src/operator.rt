@@ -1,6 +1,6 @@
-//! The commands of the operator: `slices`, `run` and `list`.
+//! The commands of the operator: `slices`, `run`, `list` and `stats`.
 ghost use Rattle.std.specs.Prelude.{◌≡◌, [], ◌∷◌, ◌++◌, ◌+◌, ◌≤◌, length, flat_map};
-ghost use Rattle.rv_model.specs.commands.Operator.{slices_args, run_args, operator_named, operator_parse, granted_line, standing_word, listed_user, list_line};
+ghost use Rattle.rv_model.specs.commands.Operator.{slices_args, run_args, operator_named, operator_parse, granted_line, standing_word, listed_user, list_line, owner_number, stats_line};
 ghost use Rattle.rv_model.specs.machine.Users.{user_count, users};
 ghost use Rattle.rv_model.specs.text.Lines.{text};
 ghost use Rattle.rv_model.specs.text.Words.{words};
@@ -9,7 +9,7 @@ use crate::arguments::{count, user};
 use crate::numerals::push_decimal;
 use crate::reply::Reply;
 use crate::words::{Words, done};
-use rv_model::{OperatorCommand, Refusal, Standing, USER_COUNT};
+use rv_model::{OperatorCommand, Refusal, Standing, Stats, USER_COUNT, User};
 
 /// The command of a name, by its arguments as they stand in the line. `None` where there is no such
 /// name, and `Some(None)` where the arguments are wrong.
@@ -24,6 +24,9 @@ fn operator_named(name: &[u8], args: &[u8]) -> Option<Option<OperatorCommand>>
     }
     if name == b"list".as_slice() {
         return Some(done(Words::new(args), OperatorCommand::List));
+    }
+    if name == b"stats".as_slice() {
+        return Some(done(Words::new(args), OperatorCommand::Stats));
     }
     None
 }
@@ -126,5 +129,43 @@ pub fn list_line(reply: &mut Reply, standings: &[Standing; USER_COUNT])
 {
     reply.push(b"* list");
     push_users(reply, standings);
+    reply.push(b"\n");
+}
+
+/// The number of a user; 0 where there is none.
+fn owner_number(owner: Option<User>) -> u64
+    ensures { result ≡ owner_number owner }
+{
+    match owner {
+        Some(user) => u64::from(user.number()),
+        None => 0,
+    }
+}
+
+/// Adds how the vector unit was used.
+#[tactic(auto, unfolding(rv_model::specs::commands::Operator::stats_line))]
+fn push_stats(reply: &mut Reply, stats: &Stats)
+    requires { length reply.old + 110 ≤ 4096 }
+    ensures text { reply.new ≡ reply.old ++ stats_line stats.now }
+    ensures bound { length reply.new ≤ length reply.old + 110 }
+{
+    reply.push(b"saves ");
+    push_decimal(reply, stats.saves);
+    reply.push(b" restores ");
+    push_decimal(reply, stats.restores);
+    reply.push(b" inits ");
+    push_decimal(reply, stats.inits);
+    reply.push(b" owner ");
+    push_decimal(reply, owner_number(stats.owner));
+}
+
+/// Adds how the vector unit was used, as `* saves 2 restores 1 inits 2 owner 1`; owner 0 is nobody.
+pub fn stats_line(reply: &mut Reply, stats: &Stats)
+    requires { length reply.old + 113 ≤ 4096 }
+    ensures text { reply.new ≡ reply.old ++ text 42 (stats_line stats.now ∷ []) }
+    ensures bound { length reply.new ≤ length reply.old + 113 }
+{
+    reply.push(b"* ");
+    push_stats(reply, stats);
     reply.push(b"\n");
 }

@@ -1,6 +1,7 @@
 -- Machines and scripts. `Users` first: how many there are; then `Setup`: what stays the same in a run; then `UserMachine`: what
 -- a user's machine is; then `Runs`: runs of instructions; then, with the commands, `PrivateMachine`: all that happens to one
--- user's machine; then `Cuts`: slices one after another, and that they add up; then `VectorUnit`, `World` and `Grants`: all
+-- user's machine; then `Cuts`: slices one after another, and that they add up; then `VectorUnit` and `UnitEvents`: the one
+-- vector unit, as it is counted; then `World` and `Grants`: all
 -- users' machines side by side, and the slices that the operator grants; then `Script`: the whole output; then `Laws`: the
 -- headline and its kin; then `Turns`: that slices in turn are fair. `Examples` are small scripts.
 pub mod Cuts
@@ -13,6 +14,7 @@ pub mod Script
 pub mod Setup
 pub mod Turns
 pub mod UserMachine
+pub mod UnitEvents
 pub mod Users
 pub mod VectorUnit
 pub mod World

@@ -21,7 +21,7 @@ pub use images::{ElfFault, ProgramHeader};
 pub use instructions::{Arith, Carry, Field, Instr, Reg, Source, VReg};
 pub use legality::{Content, Operand, Role, Shape};
 pub use machine::{
-    Standing, USER_COUNT, User, each_user_alone, output_that_grows, registers_that_stay,
+    Standing, Stats, USER_COUNT, User, each_user_alone, output_that_grows, registers_that_stay,
     small_scripts_print,
 };
 pub use memory::{

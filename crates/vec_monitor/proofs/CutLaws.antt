@@ -1,5 +1,6 @@
 -- A slice that is granted, and then one of so many ticks more.
 use Rattle.std.proofs.Common.{◌≡◌, ℕ, ◌+◌, List, [], ◌∷◌, ◌++◌, append_assoc, refl, ap, ◌∙◌, sym, true, false, Bool, if◌then◌else◌, Some, None}
+use Rattle.rv_model.specs.declared.vector.state.VState.{VState}
 use Rattle.rv_model.specs.machine.Cuts.{IsConfigured}
 use Rattle.rv_model.specs.machine.PrivateMachine.{Outcome, Private, sliced}
 use Rattle.rv_model.specs.machine.Script.{part}
@@ -12,11 +13,11 @@ use Rattle.vec_monitor.specs.MachineState.{MachineState, SliceGoesOn}
 use Rattle.vec_monitor.specs.Parts.{Addresses, present, private_of}
 
 -- a machine is configured if its user's vector state is, whether or not the user has entered
-pub configured_as : (c : Context) (t : Addresses) (m : Memory) → IsConfiguration c.seat.state.conf
-    → IsConfigured (private_of c t m)
-configured_as c t m is = entered c.entered
+pub configured_as : (c : Context) (t : Addresses) (v : VState) (m : Memory) → IsConfiguration v.conf
+    → IsConfigured (private_of c t v m)
+configured_as c t v m is = entered c.entered
   where
-    entered : (b : Bool) → IsConfigured (if b then Some (present c t m) else None)
+    entered : (b : Bool) → IsConfigured (if b then Some (present c t v m) else None)
     entered true = is
     entered false = tt
 

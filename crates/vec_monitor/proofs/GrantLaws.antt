@@ -4,19 +4,24 @@ use Rattle.std.specs.Prelude.{◌&&◌, map, if◌then◌else◌}
 use Rattle.std.proofs.lemmas.Bool.{cases_eq}
 use Rattle.std.proofs.lemmas.List.{ext_get_or, get_or-map, length-map}
 use Rattle.rv_model.specs.declared.machine.standing.Standing.TheVariants.{Absent, Stopped, Running}
+use Rattle.rv_model.specs.machine.Cuts.{Try, tried_in, tries}
 use Rattle.rv_model.specs.machine.Grants.{granted, granted_first, next_running, runs, slice_of, standing}
 use Rattle.rv_model.specs.machine.PrivateMachine.{Private, Outcome, event, slice_ends, sliced}
 use Rattle.rv_model.specs.machine.Runs.{Halted, ticked}
-use Rattle.rv_model.specs.machine.Script.{World, Happening, part, with_part, after_one, after_events, told_by}
+use Rattle.rv_model.specs.machine.Script.{World, Happening, part, with_part, with_unit, after_one, after_events, told_by}
 use Rattle.rv_model.specs.machine.Setup.{Setup}
+use Rattle.rv_model.specs.machine.UnitEvents.{unit_after_event, unit_after_tries}
 use Rattle.rv_model.specs.machine.Users.{user_count}
+use Rattle.rv_model.specs.declared.vector.state.VState.{VState}
 use Rattle.rv_model.specs.memory.Memory.{Memory}
+use Rattle.lazy_context.specs.declared.unit.Unit.{Unit}
 use Rattle.rv_model.specs.text.Lines.{text}
 use Rattle.rv_model.proofs.machine_lemmas.Headline.{eight_after_events}
 use Rattle.vec_monitor.specs.declared.context.Context.{Context}
-use Rattle.vec_monitor.specs.Parts.{Addresses, AreEight, context_standing, is_running, parts_of, present, private_of}
+use Rattle.vec_monitor.specs.MachineState.{after_slice}
+use Rattle.vec_monitor.specs.Parts.{Addresses, IsWhole, context_standing, is_running, parts_of, present, private_of, states_of}
 use Rattle.vec_monitor.specs.StopRoom.{stop_room, stops_room}
-use Rattle.vec_monitor.proofs.PartLaws.{part_put_back}
+use Rattle.vec_monitor.proofs.PartLaws.{eight_states, part_put_back}
 
 stop_room_is_small : (p : Private) → stop_room p ≤ 80
 stop_room_is_small p = either (runs p)
@@ -65,35 +70,42 @@ one_filled f xs ys d e i within each k below = elim (cases_eq k i) [
   | inr other ↦ get_or-set_other ys i k (f (get_or xs i d)) e other ∙ each k (omega (arith, below, other))
 ]
 
-runs_as : (c : Context) (t : Addresses) (m : Memory) → runs (private_of c t m) ≡ is_running c
-runs_as c t m = entered c.entered
+runs_as : (c : Context) (t : Addresses) (v : VState) (m : Memory) → runs (private_of c t v m) ≡ is_running c
+runs_as c t v m = entered c.entered
   where
-    entered : (b : Bool) → runs (if b then Some (present c t m) else None) ≡ (b && c.running)
+    entered : (b : Bool) → runs (if b then Some (present c t v m) else None) ≡ (b && c.running)
     entered true = refl
     entered false = refl
 
-standing_as : (c : Context) (t : Addresses) (m : Memory) → standing (private_of c t m) ≡ context_standing c
-standing_as c t m = entered c.entered
+standing_as : (c : Context) (t : Addresses) (v : VState) (m : Memory) → standing (private_of c t v m) ≡ context_standing c
+standing_as c t v m = entered c.entered
   where
-    entered : (b : Bool) → standing (if b then Some (present c t m) else None) ≡ (if b then (if c.running then Running else Stopped) else Absent)
+    entered : (b : Bool) → standing (if b then Some (present c t v m) else None) ≡ (if b then (if c.running then Running else Stopped) else Absent)
     entered true = refl
     entered false = refl
 
 -- what holds of each context holds of the parts
-of_parts : {B : Type 0} (f : Private → B) (g : Context → B) → ((c : Context) (t : Addresses) (m : Memory) → f (private_of c t m) ≡ g c)
-    → (cs : List Context) (ts : List Addresses) (ms : List Memory) → length cs ≡ length ts → length ts ≡ length ms → map f (parts_of cs ts ms) ≡ map g cs
-of_parts f g same [] ts ms h k = refl
-of_parts f g same (c ∷ cs) [] ms h k = absurd (omega (arith, h))
-of_parts f g same (c ∷ cs) (t ∷ ts) [] h k = absurd (omega (arith, k))
-of_parts {B} f g same (c ∷ cs) (t ∷ ts) (m ∷ ms) h k =
-    ap (λ (b : B). b ∷ map f (parts_of cs ts ms)) (same c t m)
-    ∙ ap (λ (bs : List B). g c ∷ bs) (of_parts f g same cs ts ms (omega (arith, h)) (omega (arith, k)))
+of_parts : {B : Type 0} (f : Private → B) (g : Context → B) → ((c : Context) (t : Addresses) (v : VState) (m : Memory) → f (private_of c t v m) ≡ g c)
+    → (cs : List Context) (ts : List Addresses) (vs : List VState) (ms : List Memory) → length cs ≡ length ts → length ts ≡ length vs → length vs ≡ length ms
+    → map f (parts_of cs ts vs ms) ≡ map g cs
+of_parts f g same [] ts vs ms h k j = refl
+of_parts f g same (c ∷ cs) [] vs ms h k j = absurd (omega (arith, h))
+of_parts f g same (c ∷ cs) (t ∷ ts) [] ms h k j = absurd (omega (arith, k))
+of_parts f g same (c ∷ cs) (t ∷ ts) (v ∷ vs) [] h k j = absurd (omega (arith, j))
+of_parts {B} f g same (c ∷ cs) (t ∷ ts) (v ∷ vs) (m ∷ ms) h k j =
+    ap (λ (b : B). b ∷ map f (parts_of cs ts vs ms)) (same c t v m)
+    ∙ ap (λ (bs : List B). g c ∷ bs) (of_parts f g same cs ts vs ms (omega (arith, h)) (omega (arith, k)) (omega (arith, j)))
 
-pub runs_of_parts : (cs : List Context) (ts : List Addresses) (ms : List Memory) → AreEight cs ts ms → map runs (parts_of cs ts ms) ≡ map is_running cs
-runs_of_parts cs ts ms eight = of_parts runs is_running runs_as cs ts ms (eight.contexts ∙ sym eight.traces) (eight.traces ∙ sym eight.memories)
+of_whole : {B : Type 0} (f : Private → B) (g : Context → B) → ((c : Context) (t : Addresses) (v : VState) (m : Memory) → f (private_of c t v m) ≡ g c)
+    → (cs : List Context) (ts : List Addresses) (unit : Unit) (ms : List Memory) → IsWhole cs ts unit ms → map f (parts_of cs ts (states_of unit) ms) ≡ map g cs
+of_whole f g same cs ts unit ms whole =
+    of_parts f g same cs ts (states_of unit) ms (whole.contexts ∙ sym whole.traces) (whole.traces ∙ sym (eight_states unit)) (eight_states unit ∙ sym whole.memories)
 
-pub standings_of_parts : (cs : List Context) (ts : List Addresses) (ms : List Memory) → AreEight cs ts ms → map standing (parts_of cs ts ms) ≡ map context_standing cs
-standings_of_parts cs ts ms eight = of_parts standing context_standing standing_as cs ts ms (eight.contexts ∙ sym eight.traces) (eight.traces ∙ sym eight.memories)
+pub runs_of_parts : (cs : List Context) (ts : List Addresses) (unit : Unit) (ms : List Memory) → IsWhole cs ts unit ms → map runs (parts_of cs ts (states_of unit) ms) ≡ map is_running cs
+runs_of_parts cs ts unit ms whole = of_whole runs is_running runs_as cs ts unit ms whole
+
+pub standings_of_parts : (cs : List Context) (ts : List Addresses) (unit : Unit) (ms : List Memory) → IsWhole cs ts unit ms → map standing (parts_of cs ts (states_of unit) ms) ≡ map context_standing cs
+standings_of_parts cs ts unit ms whole = of_whole standing context_standing standing_as cs ts unit ms whole
 
 -- ---- slices
 
@@ -104,6 +116,19 @@ not_sliced quantum None stopped = refl
 not_sliced quantum (Some p) stopped =
     let run : Halted = ticked quantum p in
     ap (λ (b : Bool). if b then slice_ends run run.stop else record { next = Some p; lines = [] }) stopped
+
+none_tried : (quantum : ℕ) (p : Private) → runs p ≡ false → tried_in quantum p ≡ []
+unfolding tried_in
+none_tried quantum None stopped = refl
+none_tried quantum (Some p) stopped = ap (λ (b : Bool). if b then tries quantum quantum p else []) stopped
+
+-- so the world stays
+pub nothing_sliced : (quantum u : ℕ) (w : World) → runs (part u w) ≡ false → after_slice quantum u w ≡ w
+unfolding unit_after_tries
+nothing_sliced quantum u w stopped =
+    ap (λ (ts : List Try). with_unit (unit_after_tries u ts w.unit) (with_part u (sliced quantum (part u w)).next w)) (none_tried quantum (part u w) stopped)
+    ∙ ap (λ (o : Outcome). with_unit w.unit (with_part u o.next w)) (not_sliced quantum (part u w) stopped)
+    ∙ ap (with_unit w.unit) (part_put_back u w)
 
 -- one slice in turn, and then those that are left
 pub granted_on : (s : Setup) (n u : ℕ) (w : World) → next_running w ≡ Some u → granted s (suc n) w ≡ slice_of u true ∷ granted s n (after_one s w (slice_of u true))
@@ -117,12 +142,12 @@ granted_to_nobody s zero w turn = refl
 granted_to_nobody s (suc n) w turn = ap (λ (o : Option ℕ). granted_first o (λ h. granted s n (after_one s w h))) turn
 
 -- a world after one slice in turn
-pub after_one_grant : (s : Setup) (u : ℕ) (w turned next : World) → turned ≡ record w { cursor = u } → next ≡ with_part u (sliced s.quantum (part u turned)).next turned → after_one s w (slice_of u true) ≡ next
-unfolding event
-after_one_grant s u w turned next turn moved = sym (moved ∙ ap (λ (v : World). with_part u (sliced s.quantum (part u v)).next v) turn)
+pub after_one_grant : (s : Setup) (u : ℕ) (w turned next : World) → turned ≡ record w { cursor = u } → next ≡ after_slice s.quantum u turned → after_one s w (slice_of u true) ≡ next
+unfolding event unit_after_event
+after_one_grant s u w turned next turn moved = sym (moved ∙ ap (λ (v : World). after_slice s.quantum u v) turn)
 
 -- what one slice in turn tells, and then what the others tell
-pub told_by_grant : (s : Setup) (u : ℕ) (w turned next : World) (hs : List Happening) → turned ≡ record w { cursor = u } → next ≡ with_part u (sliced s.quantum (part u turned)).next turned
+pub told_by_grant : (s : Setup) (u : ℕ) (w turned next : World) (hs : List Happening) → turned ≡ record w { cursor = u } → next ≡ after_slice s.quantum u turned
     → told_by s w (slice_of u true ∷ hs) ≡ text (48 + u) (sliced s.quantum (part u turned)).lines ++ told_by s next hs
 unfolding event
 told_by_grant s u w turned next hs turn moved =
@@ -130,13 +155,13 @@ told_by_grant s u w turned next hs turn moved =
     ∙ ap (λ (v : World). text (48 + u) (sliced s.quantum (part u v)).lines ++ told_by s next hs) (sym turn)
 
 -- the world after the slices that are left, where one more is granted
-pub world_granted_on : (s : Setup) (n u : ℕ) (w turned next : World) → next_running w ≡ Some u → turned ≡ record w { cursor = u } → next ≡ with_part u (sliced s.quantum (part u turned)).next turned
+pub world_granted_on : (s : Setup) (n u : ℕ) (w turned next : World) → next_running w ≡ Some u → turned ≡ record w { cursor = u } → next ≡ after_slice s.quantum u turned
     → after_events s w (granted s (suc n) w) ≡ after_events s next (granted s n next)
 world_granted_on s n u w turned next turns turn moved =
     ap (after_events s w) (granted_on s n u w turns)
     ∙ ap (λ (v : World). after_events s v (granted s n v)) (after_one_grant s u w turned next turn moved)
 
-pub told_granted_on : (s : Setup) (n u : ℕ) (w turned next : World) (before after : List ℕ) → next_running w ≡ Some u → turned ≡ record w { cursor = u } → next ≡ with_part u (sliced s.quantum (part u turned)).next turned
+pub told_granted_on : (s : Setup) (n u : ℕ) (w turned next : World) (before after : List ℕ) → next_running w ≡ Some u → turned ≡ record w { cursor = u } → next ≡ after_slice s.quantum u turned
     → after ≡ before ++ text (48 + u) (sliced s.quantum (part u turned)).lines
     → before ++ told_by s w (granted s (suc n) w) ≡ after ++ told_by s next (granted s n next)
 told_granted_on s n u w turned next before after turns turn moved more =
@@ -147,7 +172,7 @@ told_granted_on s n u w turned next before after turns turn moved more =
     ∙ sym (append_assoc before lines (told_by s next (granted s n next)))
     ∙ ap (λ (bytes : List ℕ). bytes ++ told_by s next (granted s n next)) (sym more)
 
-pub count_granted_on : (s : Setup) (n u : ℕ) (w turned next : World) → next_running w ≡ Some u → turned ≡ record w { cursor = u } → next ≡ with_part u (sliced s.quantum (part u turned)).next turned
+pub count_granted_on : (s : Setup) (n u : ℕ) (w turned next : World) → next_running w ≡ Some u → turned ≡ record w { cursor = u } → next ≡ after_slice s.quantum u turned
     → length (granted s (suc n) w) ≡ suc (length (granted s n next))
 count_granted_on s n u w turned next turns turn moved =
     ap length (granted_on s n u w turns)
@@ -164,13 +189,13 @@ abbrev ran_lines : Bool → ℕ → List Happening
 ran_lines ran u = if ran then slice_of u false ∷ [] else []
 
 -- what becomes of the world where a slice is granted if the user's program runs
-pub one_run_world : (s : Setup) (u : ℕ) (w next : World) → next ≡ with_part u (sliced s.quantum (part u w)).next w → after_events s w (if runs (part u w) then slice_of u false ∷ [] else []) ≡ next
-unfolding event
+pub one_run_world : (s : Setup) (u : ℕ) (w next : World) → next ≡ after_slice s.quantum u w → after_events s w (if runs (part u w) then slice_of u false ∷ [] else []) ≡ next
+unfolding event unit_after_event
 one_run_world s u w next moved = by_case (runs (part u w)) refl
   where
     by_case : (b : Bool) → runs (part u w) ≡ b → after_events s w (ran_lines b u) ≡ next
     by_case true ran = sym moved
-    by_case false ran = sym (moved ∙ ap (λ (o : Outcome). with_part u o.next w) (not_sliced s.quantum (part u w) ran) ∙ part_put_back u w)
+    by_case false ran = sym (moved ∙ nothing_sliced s.quantum u w ran)
 
 pub one_run_told : (s : Setup) (u : ℕ) (w : World) → told_by s w (if runs (part u w) then slice_of u false ∷ [] else []) ≡ text (48 + u) (sliced s.quantum (part u w)).lines
 unfolding event

@@ -13,3 +13,5 @@ pub mod PrefixLaws
 pub mod ProgramOutcomes
 pub mod Runs
 pub mod StepLaws
+pub mod UnitRuns
+pub mod UnitSteps

@@ -3,7 +3,7 @@ use Rattle.std.proofs.Common.{◌≡◌, ℕ, ◌+◌, ◌-◌, ◌<◌, ◌≤�
 use Rattle.std.proofs.lemmas.List.{get_or-replicate, take_all}
 use Rattle.std.proofs.Math.Seq.{take-append-add}
 use Rattle.rv_model.specs.machine.Setup.{Setup}
-use Rattle.rv_model.specs.machine.Script.{World, Happening, outcome_of, after_one, after, after_all, after_events, with_part, events_of, kind_of, told, told_all, whole_from, after_script, lines, part, own, own_from, new_world}
+use Rattle.rv_model.specs.machine.Script.{World, Happening, outcome_of, unit_after, after_one, after, after_all, after_events, with_part, with_unit, events_of, kind_of, told, told_all, whole_from, after_script, lines, part, own, own_from, new_world}
 use Rattle.rv_model.specs.machine.PrivateMachine.{Private, solo, solo_from}
 use Rattle.rv_model.specs.text.Lines.{pieces}
 use Rattle.rv_model.proofs.machine_lemmas.Headline.{headline, parts_after_turn}
@@ -139,7 +139,7 @@ parts_after_events s w [] = refl
 parts_after_events s w (h ∷ hs) =
     let p : Private = (outcome_of s w h).next in
     parts_after_events s (after_one s w h) hs
-    ∙ ap length (parts_after_turn h.turn h.user (with_part h.user p w))
+    ∙ ap length (parts_after_turn h.turn h.user (with_unit (unit_after s w h) (with_part h.user p w)))
     ∙ length-set w.parts (h.user - 1) p
 
 parts_after : (s : Setup) (w : World) (line : List ℕ) → length (after s w line).parts ≡ length w.parts

@@ -1,4 +1,4 @@
--- Laws of the memories of all users that the lender of one user's bytes keeps.
+-- Laws that the lenders of one user's bytes and vector state keep: of the memories of all users, and of their one vector unit.
 use Rattle.std.specs.Prelude.{ℕ, suc, ◌+◌, ◌-◌, ◌≡◌, Bool, true, false, ◌&&◌, List, [], ◌∷◌, length, Option}
 use Rattle.std.specs.FinMap.{empty, get-empty}
 use Rattle.std.specs.List.{list_all, range_with_len}
@@ -10,6 +10,7 @@ use Rattle.std.proofs.lemmas.Bool.{cases_lt}
 use Rattle.rv_model.specs.declared.memory.Access.{Access}
 use Rattle.rv_model.specs.memory.Memory.{Memory, Cell, permits, is_allowed, can_access, put_bytes}
 use Rattle.user_mem.specs.Users.{memory_of_user, with_memory}
+pub use Rattle.lazy_context.proofs.UnitLaws.{settled_again, touched_again}
 pub use Rattle.user_mem.proofs.UserLaws.{later_memory, memory_there, same_memory}
 
 nothing_allowed : (access : Access) (addr : ℕ) → is_allowed access empty addr ≡ false

@@ -1,10 +1,12 @@
 -- What a machine stands for: its fixed parameters, and the world of the eight private machines; what a line makes of it; and what
 -- a slice comes to with the next one.
 use Rattle.std.specs.Prelude.{ℕ, ◌≡◌, ◌+◌, ◌++◌, List, All}
+use Rattle.rv_model.specs.commands.Commands.{Parsed, commanded, parse}
 use Rattle.rv_model.specs.machine.Cuts.{KeepsWordIfCut, tried_in}
 use Rattle.rv_model.specs.machine.PrivateMachine.{sliced}
-use Rattle.rv_model.specs.machine.Setup.{Setup}
-use Rattle.rv_model.specs.machine.Script.{World, after, part, told}
+use Rattle.rv_model.specs.machine.Setup.{Image, Setup}
+use Rattle.rv_model.specs.machine.Script.{World, after, part, told, with_part, with_unit}
+use Rattle.rv_model.specs.machine.UnitEvents.{unit_after_line, unit_after_tries}
 use Rattle.rv_model.specs.text.Lines.{text}
 
 -- the fixed parameters, and what moves
@@ -19,6 +21,18 @@ after_line m line = record m { world = after m.setup m.world line }
 -- what the line prints
 abbrev pub line_output : MachineState → List ℕ → List ℕ
 line_output m line = told m.setup m.world line
+
+-- the world after a command of a user, which a line spells, and after a slice of so many ticks of a user
+abbrev pub after_parsed : List Image → ℕ → Parsed → World → World
+after_parsed images u parsed w =
+    with_unit (unit_after_line images u (part u w) parsed w.unit) (with_part u (commanded images (part u w) parsed).next w)
+
+abbrev pub after_command : List Image → ℕ → List ℕ → World → World
+after_command images u line w = after_parsed images u (parse line) w
+
+abbrev pub after_slice : ℕ → ℕ → World → World
+after_slice quantum u w =
+    with_unit (unit_after_tries u (tried_in quantum (part u w)) w.unit) (with_part u (sliced quantum (part u w)).next w)
 
 -- A user's slice left this machine and printed this. It and one of so many ticks more leave the user's private machine, and print,
 -- what one slice of all these ticks does, unless the first cuts an instruction that stores over its own word.

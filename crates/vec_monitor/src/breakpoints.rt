@@ -1,5 +1,6 @@
 //! Commands on breakpoints, carried out.
 ghost use Rattle.std.specs.Prelude.{◌≡◌, ◌+◌, ℕ, List, [], Some};
+ghost use Rattle.rv_model.specs.declared.vector.state.VState.{VState};
 ghost use Rattle.rv_model.specs.commands.Breakpoints.{breakpoint_command, removes_breakpoint, sets_breakpoint};
 ghost use Rattle.rv_model.specs.memory.Memory.{Memory};
 ghost use Rattle.rv_model.specs.text.Lines.{text};
@@ -18,11 +19,11 @@ pub(crate) fn carry_out(
     reply: &mut Reply,
 )
     requires clear { reply.old ≡ [] }
-    ensures next { (trace : List ℕ) (memory : Memory) → (breakpoint_command command.now (present context.old trace memory)).next
-        ≡ Some (present context.new trace memory) }
+    ensures next { (trace : List ℕ) (vector : VState) (memory : Memory) → (breakpoint_command command.now (present context.old trace vector memory)).next
+        ≡ Some (present context.new trace vector memory) }
     ensures entered { context.new.entered ≡ context.old.entered }
-    ensures reply { (trace : List ℕ) (memory : Memory) → reply.new
-        ≡ text (48 + user) (breakpoint_command command.now (present context.old trace memory)).lines }
+    ensures reply { (trace : List ℕ) (vector : VState) (memory : Memory) → reply.new
+        ≡ text (48 + user) (breakpoint_command command.now (present context.old trace vector memory)).lines }
 {
     match command {
         BreakpointCommand::Break(addr) => set(context, user, *addr, reply),
@@ -36,11 +37,11 @@ pub(crate) fn carry_out(
 /// `break`: a breakpoint is set, where there are fewer than 16 and none stands there.
 fn set(context: &mut Context, user: User, addr: u64, reply: &mut Reply)
     requires clear { reply.old ≡ [] }
-    ensures next { (trace : List ℕ) (memory : Memory) → (sets_breakpoint addr (present context.old trace memory)).next
-        ≡ Some (present context.new trace memory) }
+    ensures next { (trace : List ℕ) (vector : VState) (memory : Memory) → (sets_breakpoint addr (present context.old trace vector memory)).next
+        ≡ Some (present context.new trace vector memory) }
     ensures entered { context.new.entered ≡ context.old.entered }
-    ensures reply { (trace : List ℕ) (memory : Memory) → reply.new
-        ≡ text (48 + user) (sets_breakpoint addr (present context.old trace memory)).lines }
+    ensures reply { (trace : List ℕ) (vector : VState) (memory : Memory) → reply.new
+        ≡ text (48 + user) (sets_breakpoint addr (present context.old trace vector memory)).lines }
 {
     let tag = Tag::User(user);
     if context.breakpoints.is_full() {
@@ -56,11 +57,11 @@ fn set(context: &mut Context, user: User, addr: u64, reply: &mut Reply)
 /// `unbreak`: a breakpoint is removed, where one stands there.
 fn remove(context: &mut Context, user: User, addr: u64, reply: &mut Reply)
     requires clear { reply.old ≡ [] }
-    ensures next { (trace : List ℕ) (memory : Memory) → (removes_breakpoint addr (present context.old trace memory)).next
-        ≡ Some (present context.new trace memory) }
+    ensures next { (trace : List ℕ) (vector : VState) (memory : Memory) → (removes_breakpoint addr (present context.old trace vector memory)).next
+        ≡ Some (present context.new trace vector memory) }
     ensures entered { context.new.entered ≡ context.old.entered }
-    ensures reply { (trace : List ℕ) (memory : Memory) → reply.new
-        ≡ text (48 + user) (removes_breakpoint addr (present context.old trace memory)).lines }
+    ensures reply { (trace : List ℕ) (vector : VState) (memory : Memory) → reply.new
+        ≡ text (48 + user) (removes_breakpoint addr (present context.old trace vector memory)).lines }
 {
     let tag = Tag::User(user);
     if context.breakpoints.contains(addr) {

@@ -15,9 +15,9 @@ pub const DEFAULT_QUANTUM: u16 = 100;
 /// What help says after the words.
 const AFTER_HELP: &str = "\
 A script has a command on each line, after the digit of its user, 1 to 8, and a space:
-  enter  leave  load  map  poke  peek  set  regs  setpc  vreg  vset  vcsr
+  enter  leave  load  map  poke  peek  set  regs  setpc  vreg  vset  vcsr  policy
   asm  dis  break  unbreak  breaks  step  go  stop  state  out  trace
-The operator's lines begin with a star and a space: slices  run  list
+The operator's lines begin with a star and a space: slices  run  list  stats
 docs/COMMANDS.md says what each does and answers.
 
 Example, a program of one instruction:

@@ -1,7 +1,7 @@
-//! What a user has beside memory.
+//! What a user has beside memory and vector state.
 use crate::address_set::AddressSet;
 use arrayvec::ArrayVec;
-use rv_model::{OUTPUT_SIZE, Reg, Scalar, Seat, Standing, VState};
+use rv_model::{OUTPUT_SIZE, Policy, Reg, Scalar, Standing};
 
 /// The number of the register that holds the stack pointer.
 const STACK_POINTER: u32 = 2;
@@ -9,13 +9,14 @@ const STACK_POINTER: u32 = 2;
 /// The stack pointer of a program that begins.
 const STACK_TOP: u64 = 0x7fff_efc0;
 
-/// What a user has beside memory and trace: registers, vector state, output buffer and breakpoints,
-/// whether the program runs, and whether it has just been told to.
+/// What a user has beside memory, vector state and trace: registers, what becomes of agnostic
+/// elements, output buffer and breakpoints, whether the program runs, and whether it has just been
+/// told to.
 #[derive(Drop)]
 pub(crate) struct Context {
     pub(crate) entered: bool,
     pub(crate) scalar: Scalar,
-    pub(crate) seat: Seat,
+    pub(crate) policy: Policy,
     pub(crate) output: ArrayVec<u8, OUTPUT_SIZE>,
     pub(crate) breakpoints: AddressSet,
     pub(crate) running: bool,
@@ -34,10 +35,7 @@ impl Context {
         Context {
             entered: false,
             scalar: Scalar::new(),
-            seat: Seat {
-                state: VState::new(),
-                dirty: false,
-            },
+            policy: Policy::Keep,
             output: ArrayVec::new(),
             breakpoints: AddressSet::new(),
             running: false,

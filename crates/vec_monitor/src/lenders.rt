@@ -3,6 +3,7 @@
 ghost use Rattle.std.specs.Prelude.{◌≡◌, ◌≤◌, length};
 
 use hart::Vectors;
+use lazy_context::Unit;
 use rv_model::{Access, Fault, Seat, User};
 use std::alloc::Allocator;
 use user_mem::Pool;
@@ -45,26 +46,32 @@ impl<A: Allocator> UserBytes for UserMemory<'_, A> {
     }
 }
 
-/// The vector state of one user, in a seat of its own.
+/// The vector state of one user in the vector unit of all users.
 #[derive(Drop)]
-pub(crate) struct OwnVectors<'a> {
-    pub(crate) seat: &'a mut Seat,
+pub(crate) struct UserVectors<'a> {
+    pub(crate) unit: &'a mut Unit,
+    pub(crate) user: User,
 }
 
-impl Vectors for OwnVectors<'_> {
-    ghost use Rattle.std.specs.Prelude.{refl};
+impl Vectors for UserVectors<'_> {
+    ghost use Rattle.lazy_context.specs.LazyUnit.{IsSettled, touched, with_seat};
+    ghost use Rattle.std.proofs.Common.{ap};
+    ghost use Rattle.vec_monitor.specs.Lenders.{settled_again, touched_again};
 
-    ghost ready = { λ _. Unit {0} };
+    ghost ready = { λ v. IsSettled v.unit.now };
 
-    ghost lent = { λ v. v.seat.now };
+    ghost lent = { λ v. (touched v.user v.unit.now).seat };
 
-    ghost back = { λ v s. record v { seat = record v.seat { now = s } } };
+    ghost back = { λ v s.
+        record v { unit = record v.unit { now = with_seat s (touched v.user v.unit.now) } } };
 
-    ghost ready_again = { λ _ _ _ _. tt };
+    ghost ready_again = { λ v s is given. settled_again v.user v.unit.now s is given };
 
-    ghost lent_again = { λ _ _ _. refl };
+    ghost lent_again = { λ v s is. ap (λ u. u.seat) (touched_again v.user v.unit.now s) };
 
     fn seat(&mut self) -> &mut Seat {
-        &mut *self.seat
+        let user = self.user;
+        let unit = &mut *self.unit;
+        unit.touch(user)
     }
 }

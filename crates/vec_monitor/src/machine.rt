@@ -69,7 +69,7 @@ impl<'a, A: Allocator> Machine<'a, A> {
 
     /// Carries out one command of a user: the line without the user's digit and the space after it.
     /// Answers it in place of what the reply held. Nobody else's machine changes.
-    #[tactic(auto, unfolding(rv_model::specs::machine::PrivateMachine::event))]
+    #[tactic(auto, unfolding(rv_model::specs::machine::PrivateMachine::event, rv_model::specs::machine::UnitEvents::unit_after_event))]
     pub fn command(&mut self, user: User, line: &[u8], reply: &mut Reply)
         ensures world { self.new.world
             ≡ after_events self.old.setup self.old.world (commands user line.now ∷ []) }
@@ -83,7 +83,7 @@ impl<'a, A: Allocator> Machine<'a, A> {
     }
 
     /// Answers one line of a script.
-    #[tactic(auto, unfolding(rv_model::specs::machine::PrivateMachine::event, rv_model::specs::machine::Script::after, rv_model::specs::machine::Script::told, rv_model::specs::machine::Script::common))]
+    #[tactic(auto, unfolding(rv_model::specs::machine::PrivateMachine::event, rv_model::specs::machine::UnitEvents::unit_after_event, rv_model::specs::machine::Script::after, rv_model::specs::machine::Script::told, rv_model::specs::machine::Script::common))]
     pub(crate) fn answer(&mut self, line: &[u8], reply: &mut Reply)
         ensures machine { self.new ≡ after_line self.old line.now }
         ensures eight { length self.new.world.parts ≡ user_count }

@@ -1,5 +1,6 @@
 //! Commands on a user's memory, carried out.
 ghost use Rattle.std.specs.Prelude.{◌≡◌, ◌+◌, ◌-◌, ◌<◌, ◌≤◌, [], Some, length, List, ℕ};
+ghost use Rattle.rv_model.specs.declared.vector.state.VState.{VState};
 ghost use Rattle.rv_model.specs.commands.Memory.{why_not_mapped as reason_of, maps, pokes, peeks, memory_command};
 ghost use Rattle.rv_model.specs.text.Lines.{text};
 ghost use Rattle.user_mem.specs.Users.{memory_of_user, with_memory};
@@ -26,11 +27,11 @@ pub(crate) fn carry_out<A: Allocator>(
 )
     requires clear { reply.old ≡ [] }
     requires within { user - 1 < length pool.old }
-    ensures next { (c : Context) (trace : List ℕ) → (memory_command command.now (present c trace (memory_of_user pool.old user))).next
-        ≡ Some (present c trace (memory_of_user pool.new user)) }
+    ensures next { (c : Context) (trace : List ℕ) (vector : VState) → (memory_command command.now (present c trace vector (memory_of_user pool.old user))).next
+        ≡ Some (present c trace vector (memory_of_user pool.new user)) }
     ensures others { pool.new ≡ with_memory pool.old user (memory_of_user pool.new user) }
-    ensures reply { (c : Context) (trace : List ℕ) → reply.new
-        ≡ text (48 + user) (memory_command command.now (present c trace (memory_of_user pool.old user))).lines }
+    ensures reply { (c : Context) (trace : List ℕ) (vector : VState) → reply.new
+        ≡ text (48 + user) (memory_command command.now (present c trace vector (memory_of_user pool.old user))).lines }
 {
     match command {
         MemoryCommand::Map { pages, permissions } => map(pool, user, *pages, *permissions, reply),
@@ -60,11 +61,11 @@ fn map<A: Allocator>(
 )
     requires clear { reply.old ≡ [] }
     requires within { user - 1 < length pool.old }
-    ensures next { (c : Context) (trace : List ℕ) → (maps pages permissions (present c trace (memory_of_user pool.old user))).next
-        ≡ Some (present c trace (memory_of_user pool.new user)) }
+    ensures next { (c : Context) (trace : List ℕ) (vector : VState) → (maps pages permissions (present c trace vector (memory_of_user pool.old user))).next
+        ≡ Some (present c trace vector (memory_of_user pool.new user)) }
     ensures others { pool.new ≡ with_memory pool.old user (memory_of_user pool.new user) }
-    ensures reply { (c : Context) (trace : List ℕ) → reply.new
-        ≡ text (48 + user) (maps pages permissions (present c trace (memory_of_user pool.old user))).lines }
+    ensures reply { (c : Context) (trace : List ℕ) (vector : VState) → reply.new
+        ≡ text (48 + user) (maps pages permissions (present c trace vector (memory_of_user pool.old user))).lines }
 {
     match pool.map(user, pages.first(), pages.count(), permissions) {
         Ok(()) => monitor_cmds::ok(reply, Tag::User(user)),
@@ -83,11 +84,11 @@ fn poke<A: Allocator>(
 )
     requires clear { reply.old ≡ [] }
     requires within { user - 1 < length pool.old }
-    ensures next { (c : Context) (trace : List ℕ) → (pokes addr bytes.now (present c trace (memory_of_user pool.old user))).next
-        ≡ Some (present c trace (memory_of_user pool.new user)) }
+    ensures next { (c : Context) (trace : List ℕ) (vector : VState) → (pokes addr bytes.now (present c trace vector (memory_of_user pool.old user))).next
+        ≡ Some (present c trace vector (memory_of_user pool.new user)) }
     ensures others { pool.new ≡ with_memory pool.old user (memory_of_user pool.new user) }
-    ensures reply { (c : Context) (trace : List ℕ) → reply.new
-        ≡ text (48 + user) (pokes addr bytes.now (present c trace (memory_of_user pool.old user))).lines }
+    ensures reply { (c : Context) (trace : List ℕ) (vector : VState) → reply.new
+        ≡ text (48 + user) (pokes addr bytes.now (present c trace vector (memory_of_user pool.old user))).lines }
 {
     match pool.write(user, addr, Access::Monitor, bytes.as_slice()) {
         Ok(()) => monitor_cmds::ok(reply, Tag::User(user)),
@@ -106,10 +107,10 @@ fn show_bytes<A: Allocator>(
 )
     requires clear { reply.old ≡ [] }
     requires few { length buffer.old ≤ 256 }
-    ensures next { (c : Context) (trace : List ℕ) → (peeks addr (length buffer.old) (present c trace (memory_of_user pool.now user))).next
-        ≡ Some (present c trace (memory_of_user pool.now user)) }
-    ensures reply { (c : Context) (trace : List ℕ) → reply.new
-        ≡ text (48 + user) (peeks addr (length buffer.old) (present c trace (memory_of_user pool.now user))).lines }
+    ensures next { (c : Context) (trace : List ℕ) (vector : VState) → (peeks addr (length buffer.old) (present c trace vector (memory_of_user pool.now user))).next
+        ≡ Some (present c trace vector (memory_of_user pool.now user)) }
+    ensures reply { (c : Context) (trace : List ℕ) (vector : VState) → reply.new
+        ≡ text (48 + user) (peeks addr (length buffer.old) (present c trace vector (memory_of_user pool.now user))).lines }
 {
     match pool.read(user, addr, Access::Monitor, buffer) {
         Ok(()) => monitor_cmds::peek_line(reply, Tag::User(user), addr, buffer),
@@ -126,10 +127,10 @@ fn peek<A: Allocator>(
     reply: &mut Reply,
 )
     requires clear { reply.old ≡ [] }
-    ensures next { (c : Context) (trace : List ℕ) → (peeks addr count (present c trace (memory_of_user pool.now user))).next
-        ≡ Some (present c trace (memory_of_user pool.now user)) }
-    ensures reply { (c : Context) (trace : List ℕ) → reply.new
-        ≡ text (48 + user) (peeks addr count (present c trace (memory_of_user pool.now user))).lines }
+    ensures next { (c : Context) (trace : List ℕ) (vector : VState) → (peeks addr count (present c trace vector (memory_of_user pool.now user))).next
+        ≡ Some (present c trace vector (memory_of_user pool.now user)) }
+    ensures reply { (c : Context) (trace : List ℕ) (vector : VState) → reply.new
+        ≡ text (48 + user) (peeks addr count (present c trace vector (memory_of_user pool.now user))).lines }
 {
     let mut buffer = [0; MAX_SHOWN];
     show_bytes(pool, user, addr, &mut buffer[..count.get()], reply);

@@ -17,7 +17,7 @@ impl<A: Allocator> Machine<'_, A> {
     /// Grants a slice to a user, and answers whether the user's program ran. The reply is then the
     /// line that says why the program stopped, or empty where it still runs; it is empty, too, and
     /// nothing changes where the program didn't run. Nobody else's machine changes.
-    #[tactic(auto, unfolding(rv_model::specs::machine::PrivateMachine::event), using(crate::proofs::GrantLaws::stops_room_is_small))]
+    #[tactic(auto, unfolding(rv_model::specs::machine::PrivateMachine::event, rv_model::specs::machine::UnitEvents::unit_after_event), using(crate::proofs::GrantLaws::stops_room_is_small))]
     pub fn slice(&mut self, user: User, reply: &mut Reply) -> bool
         ensures world { self.new.world
             ≡ after_events self.old.setup self.old.world (slice_of user false ∷ []) }
@@ -100,6 +100,7 @@ impl<A: Allocator> Machine<'_, A> {
             OperatorCommand::Slices(count) => self.carry_out_slices(count.get(), reply),
             OperatorCommand::Run(user) => self.carry_out_run(user, reply),
             OperatorCommand::List => monitor_cmds::list_line(reply, &self.users.standings()),
+            OperatorCommand::Stats => monitor_cmds::stats_line(reply, &self.users.stats()),
         }
     }
 

@@ -1,17 +1,21 @@
 //! Instructions of one user.
-ghost use Rattle.std.specs.Prelude.{◌≡◌, ◌≤◌, ◌⊎◌, true, length};
+ghost use Rattle.std.specs.Prelude.{◌≡◌, ◌≤◌, ◌||◌, true, length, if◌then◌else◌};
+ghost use Rattle.lazy_context.specs.LazyUnit.{IsSettled, record_of, state_of};
+ghost use Rattle.rv_model.specs.machine.Cuts.{tries};
 ghost use Rattle.rv_model.specs.machine.Runs.{after, at_breakpoint, following, steps as steps_spec, stop_of as stop_spec, ticked};
+ghost use Rattle.rv_model.specs.machine.UnitEvents.{tried_steps, unit_after_tries, unit_after_try};
 ghost use Rattle.rv_model.specs.step.Hart.{hart_state};
-ghost use Rattle.rv_model.specs.step.Step.{step as step_spec};
+ghost use Rattle.rv_model.specs.step.Step.{dirties, fetched, step as step_spec, touches};
 ghost use Rattle.user_mem.specs.Users.{memory_of_user, with_memory};
-ghost use Rattle.vec_monitor.specs.Parts.{context_state, user_state, present};
+ghost use Rattle.vec_monitor.specs.Parts.{UnitMoves, context_state, present, try_of};
 
 use crate::context::Context;
-use crate::lenders::{OwnVectors, UserMemory};
+use crate::lenders::{UserMemory, UserVectors};
 use crate::trace::Trace;
 use arrayvec::ArrayVec;
 use hart::{Vectors, View, step};
-use rv_model::{OUTPUT_SIZE, Policy, Scalar, Seat, StepEnd, Stop, User};
+use lazy_context::Unit;
+use rv_model::{OUTPUT_SIZE, Policy, Scalar, StepEnd, Stop, User};
 use std::alloc::Allocator;
 use user_mem::Pool;
 use vector_memory::UserBytes;
@@ -44,50 +48,95 @@ fn step_parts<M: UserBytes, V: Vectors>(
     memory: &mut M,
     vectors: &mut V,
     output: &mut ArrayVec<u8, OUTPUT_SIZE>,
+    policy: Policy,
     limit: usize,
 ) -> (StepEnd, usize)
     requires ready { V.ready vectors.old }
     requires limit { 1 ≤ limit }
-    ensures state { (step_spec limit (hart_state scalar.old (V.lent vectors.old).state (M.memory memory.old) Policy.Keep output.old.items)).state
-        ≡ hart_state scalar.new (V.lent vectors.new).state (M.memory memory.new) Policy.Keep output.new.items }
-    ensures end { (step_spec limit (hart_state scalar.old (V.lent vectors.old).state (M.memory memory.old) Policy.Keep output.old.items)).end
+    ensures state { (step_spec limit (hart_state scalar.old (V.lent vectors.old).state (M.memory memory.old) policy output.old.items)).state
+        ≡ hart_state scalar.new (V.lent vectors.new).state (M.memory memory.new) policy output.new.items }
+    ensures end { (step_spec limit (hart_state scalar.old (V.lent vectors.old).state (M.memory memory.old) policy output.old.items)).end
         ≡ result.0 }
-    ensures ticks { (step_spec limit (hart_state scalar.old (V.lent vectors.old).state (M.memory memory.old) Policy.Keep output.old.items)).ticks
+    ensures ticks { (step_spec limit (hart_state scalar.old (V.lent vectors.old).state (M.memory memory.old) policy output.old.items)).ticks
         ≡ result.1 }
     ensures others { memory.new ≡ M.with_memory memory.old (M.memory memory.new) }
-    ensures vectors { (vectors.new ≡ V.back vectors.old (V.lent vectors.new)) ⊎ (vectors.new
-        ≡ vectors.old) }
+    ensures vectors { vectors.new ≡ (if touches (fetched (M.memory memory.old) scalar.old.pc)
+        then V.back vectors.old (V.lent vectors.new)
+        else vectors.old) }
+    ensures dirty { (V.lent vectors.new).dirty ≡ ((V.lent vectors.old).dirty
+        || dirties limit (fetched (M.memory memory.old) scalar.old.pc)
+        (hart_state scalar.old (V.lent vectors.old).state (M.memory memory.old) policy output.old.items)) }
+    ensures ready { V.ready vectors.new }
 {
     let mut view = View {
         scalar,
         memory,
         vectors,
         output,
-        policy: Policy::Keep,
+        policy,
     };
     step(&mut view, limit)
+}
+
+/// The same over the vector state of a user in the vector unit of all users.
+fn step_lent<M: UserBytes>(
+    scalar: &mut Scalar,
+    memory: &mut M,
+    vectors: &mut UserVectors<'_>,
+    output: &mut ArrayVec<u8, OUTPUT_SIZE>,
+    policy: Policy,
+    limit: usize,
+) -> (StepEnd, usize)
+    requires limit { 1 ≤ limit }
+    requires settled { IsSettled vectors.old.unit.now }
+    ensures state { (step_spec limit (hart_state scalar.old (state_of vectors.old.unit.now vectors.old.user) (M.memory memory.old) policy output.old.items)).state
+        ≡ hart_state scalar.new (state_of vectors.new.unit.now vectors.old.user) (M.memory memory.new) policy output.new.items }
+    ensures end { (step_spec limit (hart_state scalar.old (state_of vectors.old.unit.now vectors.old.user) (M.memory memory.old) policy output.old.items)).end
+        ≡ result.0 }
+    ensures ticks { (step_spec limit (hart_state scalar.old (state_of vectors.old.unit.now vectors.old.user) (M.memory memory.old) policy output.old.items)).ticks
+        ≡ result.1 }
+    ensures others { memory.new ≡ M.with_memory memory.old (M.memory memory.new) }
+    ensures unit { UnitMoves vectors.old.user vectors.old.unit.now vectors.new.unit.now
+        (unit_after_try vectors.old.user
+        (record { left = limit; hart = hart_state scalar.old (state_of vectors.old.unit.now vectors.old.user) (M.memory memory.old) policy output.old.items })
+        (record_of vectors.old.unit.now)) }
+    ensures same_unit { vectors.new.unit.ghost_name ≡ vectors.old.unit.ghost_name }
+{
+    vectors.unit.lending_law(vectors.user);
+    step_parts(scalar, memory, vectors, output, policy, limit)
 }
 
 /// One instruction of a user, within `limit` ticks. Answers how it ended, and the ticks that it
 /// took.
 fn step_once<A: Allocator>(
-    scalar: &mut Scalar,
-    seat: &mut Seat,
-    output: &mut ArrayVec<u8, OUTPUT_SIZE>,
+    context: &mut Context,
+    unit: &mut Unit,
     pool: &mut Pool<A>,
     user: User,
     limit: usize,
 ) -> (StepEnd, usize)
-    requires { 1 ≤ limit }
-    ensures state { (step_spec limit (user_state scalar.old seat.old output.old.items (memory_of_user pool.old user))).state
-        ≡ user_state scalar.new seat.new output.new.items (memory_of_user pool.new user) }
-    ensures end { (step_spec limit (user_state scalar.old seat.old output.old.items (memory_of_user pool.old user))).end ≡ result.0 }
-    ensures ticks { (step_spec limit (user_state scalar.old seat.old output.old.items (memory_of_user pool.old user))).ticks ≡ result.1 }
+    requires limit { 1 ≤ limit }
+    requires settled { IsSettled unit.old }
+    ensures state { (step_spec limit (context_state context.old (state_of unit.old user) (memory_of_user pool.old user))).state
+        ≡ context_state context.new (state_of unit.new user) (memory_of_user pool.new user) }
+    ensures end { (step_spec limit (context_state context.old (state_of unit.old user) (memory_of_user pool.old user))).end ≡ result.0 }
+    ensures ticks { (step_spec limit (context_state context.old (state_of unit.old user) (memory_of_user pool.old user))).ticks ≡ result.1 }
+    ensures context { context.new ≡ record context.old { scalar = context.new.scalar; output = context.new.output } }
+    ensures unit { UnitMoves user unit.old unit.new
+        (unit_after_try user (try_of limit context.old (state_of unit.old user) (memory_of_user pool.old user)) (record_of unit.old)) }
     ensures others { pool.new ≡ with_memory pool.old user (memory_of_user pool.new user) }
 {
+    let policy = context.policy;
     let mut memory = UserMemory { pool, user };
-    let mut vectors = OwnVectors { seat };
-    step_parts(scalar, &mut memory, &mut vectors, output, limit)
+    let mut vectors = UserVectors { unit, user };
+    step_lent(
+        &mut context.scalar,
+        &mut memory,
+        &mut vectors,
+        &mut context.output,
+        policy,
+        limit,
+    )
 }
 
 /// Tries one instruction of a user, within `limit` ticks. Answers why the program stops, if it
@@ -96,27 +145,24 @@ fn step_once<A: Allocator>(
 fn try_instruction<A: Allocator>(
     context: &mut Context,
     trace: &mut Trace<A>,
+    unit: &mut Unit,
     pool: &mut Pool<A>,
     user: User,
     limit: usize,
 ) -> (Option<Stop>, usize)
-    requires { 1 ≤ limit }
-    ensures state { after (following (step_spec limit (context_state context.old (memory_of_user pool.old user))).end) (step_spec limit (context_state context.old (memory_of_user pool.old user))).state (present context.old trace.old (memory_of_user pool.old user))
-        ≡ present context.new trace.new (memory_of_user pool.new user) }
-    ensures stop { stop_spec (following (step_spec limit (context_state context.old (memory_of_user pool.old user))).end) ≡ result.0 }
-    ensures ticks { (step_spec limit (context_state context.old (memory_of_user pool.old user))).ticks ≡ result.1 }
+    requires limit { 1 ≤ limit }
+    requires settled { IsSettled unit.old }
+    ensures state { after (following (step_spec limit (context_state context.old (state_of unit.old user) (memory_of_user pool.old user))).end) (step_spec limit (context_state context.old (state_of unit.old user) (memory_of_user pool.old user))).state (present context.old trace.old (state_of unit.old user) (memory_of_user pool.old user))
+        ≡ present context.new trace.new (state_of unit.new user) (memory_of_user pool.new user) }
+    ensures stop { stop_spec (following (step_spec limit (context_state context.old (state_of unit.old user) (memory_of_user pool.old user))).end) ≡ result.0 }
+    ensures ticks { (step_spec limit (context_state context.old (state_of unit.old user) (memory_of_user pool.old user))).ticks ≡ result.1 }
     ensures entered { context.new.entered ≡ context.old.entered }
+    ensures unit { UnitMoves user unit.old unit.new
+        (unit_after_try user (try_of limit context.old (state_of unit.old user) (memory_of_user pool.old user)) (record_of unit.old)) }
     ensures others { pool.new ≡ with_memory pool.old user (memory_of_user pool.new user) }
 {
     let addr = context.scalar.pc;
-    let (end, ticks) = step_once(
-        &mut context.scalar,
-        &mut context.seat,
-        &mut context.output,
-        pool,
-        user,
-        limit,
-    );
+    let (end, ticks) = step_once(context, unit, pool, user, limit);
     context.fresh = false;
     match end {
         StepEnd::Ran => trace.record(addr),
@@ -131,14 +177,18 @@ fn try_instruction<A: Allocator>(
 pub(crate) fn steps<A: Allocator>(
     context: &mut Context,
     trace: &mut Trace<A>,
+    unit: &mut Unit,
     pool: &mut Pool<A>,
     user: User,
     count: usize,
 ) -> Option<Stop>
-    ensures state { (steps_spec count true (present context.old trace.old (memory_of_user pool.old user))).state
-        ≡ present context.new trace.new (memory_of_user pool.new user) }
-    ensures stop { (steps_spec count true (present context.old trace.old (memory_of_user pool.old user))).stop ≡ result }
+    requires { IsSettled unit.old }
+    ensures state { (steps_spec count true (present context.old trace.old (state_of unit.old user) (memory_of_user pool.old user))).state
+        ≡ present context.new trace.new (state_of unit.new user) (memory_of_user pool.new user) }
+    ensures stop { (steps_spec count true (present context.old trace.old (state_of unit.old user) (memory_of_user pool.old user))).stop ≡ result }
     ensures entered { context.new.entered ≡ context.old.entered }
+    ensures unit { UnitMoves user unit.old unit.new
+        (unit_after_tries user (tried_steps count true (present context.old trace.old (state_of unit.old user) (memory_of_user pool.old user))) (record_of unit.old)) }
     ensures others { pool.new ≡ with_memory pool.old user (memory_of_user pool.new user) }
 {
     let mut exempt = true;
@@ -147,7 +197,7 @@ pub(crate) fn steps<A: Allocator>(
             return Some(Stop::Breakpoint);
         }
         exempt = false;
-        let (stop, _) = try_instruction(context, trace, pool, user, MAX_TICKS);
+        let (stop, _) = try_instruction(context, trace, unit, pool, user, MAX_TICKS);
         if let Some(stop) = stop {
             return Some(stop);
         }
@@ -160,14 +210,18 @@ pub(crate) fn steps<A: Allocator>(
 pub(crate) fn slice<A: Allocator>(
     context: &mut Context,
     trace: &mut Trace<A>,
+    unit: &mut Unit,
     pool: &mut Pool<A>,
     user: User,
     quantum: usize,
 ) -> Option<Stop>
-    ensures state { (ticked quantum (present context.old trace.old (memory_of_user pool.old user))).state
-        ≡ present context.new trace.new (memory_of_user pool.new user) }
-    ensures stop { (ticked quantum (present context.old trace.old (memory_of_user pool.old user))).stop ≡ result }
+    requires { IsSettled unit.old }
+    ensures state { (ticked quantum (present context.old trace.old (state_of unit.old user) (memory_of_user pool.old user))).state
+        ≡ present context.new trace.new (state_of unit.new user) (memory_of_user pool.new user) }
+    ensures stop { (ticked quantum (present context.old trace.old (state_of unit.old user) (memory_of_user pool.old user))).stop ≡ result }
     ensures entered { context.new.entered ≡ context.old.entered }
+    ensures unit { UnitMoves user unit.old unit.new
+        (unit_after_tries user (tries quantum quantum (present context.old trace.old (state_of unit.old user) (memory_of_user pool.old user))) (record_of unit.old)) }
     ensures others { pool.new ≡ with_memory pool.old user (memory_of_user pool.new user) }
 {
     let mut left = quantum;
@@ -175,7 +229,7 @@ pub(crate) fn slice<A: Allocator>(
         if context.is_held(context.fresh) {
             return Some(Stop::Breakpoint);
         }
-        let (stop, ticks) = try_instruction(context, trace, pool, user, left);
+        let (stop, ticks) = try_instruction(context, trace, unit, pool, user, left);
         if let Some(stop) = stop {
             return Some(stop);
         }

@@ -5,10 +5,12 @@ ghost use Rattle.rv_model.specs.commands.Commands.{parse as parse_spec};
 ghost use Rattle.rv_model.specs.machine.Cuts.{IsConfigured};
 ghost use Rattle.rv_model.specs.machine.Grants.{next_running, runs, standing};
 ghost use Rattle.rv_model.specs.machine.PrivateMachine.{sliced};
-ghost use Rattle.rv_model.specs.machine.Script.{part, with_part, new_world};
+ghost use Rattle.rv_model.specs.machine.Script.{part, new_world};
 ghost use Rattle.rv_model.specs.machine.Users.{user_count};
+ghost use Rattle.rv_model.specs.machine.VectorUnit.{stats_of};
 ghost use Rattle.rv_model.specs.text.Lines.{text};
 ghost use Rattle.vec_monitor.specs.Images.{named_images};
+ghost use Rattle.vec_monitor.specs.MachineState.{after_command, after_slice};
 ghost use Rattle.vec_monitor.specs.Parts.{context_standing, is_running, new_context};
 ghost use Rattle.vec_monitor.specs.StopRoom.{stops_room};
 
@@ -17,19 +19,21 @@ use crate::context::Context;
 use crate::image::Image;
 use crate::slices::grant;
 use crate::trace::Trace;
+use lazy_context::Unit;
 use monitor_cmds::{Reply, Tag, parse};
-use rv_model::{Standing, USER_COUNT, User};
+use rv_model::{Standing, Stats, USER_COUNT, User};
 use slice_sched::next;
 use std::alloc::{AllocError, Allocator};
 use std::marker::Model;
 use user_mem::{NoMemory, Pool};
 
-/// The contexts and traces of the eight users, the pool with the memory of each, and the user whose
-/// turn was the last.
+/// The contexts and traces of the eight users, the one vector unit with the vector state of each, the
+/// pool with the memory of each, and the user whose turn was the last.
 #[derive(Drop)]
 pub(crate) struct Users<A: Allocator> {
     contexts: [Context; USER_COUNT],
     traces: Vec<Trace<A>, A>,
+    unit: Unit,
     pool: Pool<A>,
     cursor: User,
 }
@@ -38,15 +42,15 @@ impl<A: Allocator> Model for Users<A> {
     ghost use Rattle.std.specs.Coded.{codes};
     ghost use Rattle.rv_model.specs.memory.Memory.{coded_memory};
     ghost use Rattle.rv_model.specs.machine.Script.{World};
-    ghost use Rattle.vec_monitor.specs.Parts.{world_of, AreEight};
+    ghost use Rattle.vec_monitor.specs.Parts.{world_of, IsWhole};
 
     ghost Value = { World };
 
     ghost coded = { Prim.hlevel (codes, coded_memory) };
 
-    ghost view = { λ u. world_of u.contexts u.traces.items u.pool u.cursor };
+    ghost view = { λ u. world_of u.contexts u.traces.items u.unit u.pool u.cursor };
 
-    ghost invariant = { λ u. AreEight u.contexts u.traces.items u.pool };
+    ghost invariant = { λ u. IsWhole u.contexts u.traces.items u.unit u.pool };
 }
 
 /// Eight contexts of absent users.
@@ -113,6 +117,7 @@ impl<A: Allocator> Users<A> {
         Ok(Users {
             contexts: absent_contexts(),
             traces,
+            unit: Unit::new(),
             pool,
             cursor: User::at_index(USER_COUNT - 1),
         })
@@ -128,16 +133,18 @@ impl<A: Allocator> Users<A> {
         reply: &mut Reply,
     )
         requires { reply.old ≡ [] }
-        ensures world { self.new ≡ with_part user (commanded (named_images images.now) (part user self.old) (parse_spec line.now)).next self.old }
+        ensures world { self.new ≡ after_command (named_images images.now) user line.now self.old }
         ensures reply { reply.new ≡ text (48 + user) (commanded (named_images images.now) (part user self.old) (parse_spec line.now)).lines }
     {
         match parse(line) {
             Ok(cmd) => {
+                user.number();
                 let context = &mut self.contexts[user.index()];
                 carry_out(
                     images,
                     context,
                     self.traces.as_mut_slice(),
+                    &mut self.unit,
                     &mut self.pool,
                     user,
                     &cmd,
@@ -152,7 +159,7 @@ impl<A: Allocator> Users<A> {
     #[tactic(auto, using(crate::proofs::PartLaws::part_put_back))]
     pub(crate) fn slice(&mut self, user: User, quantum: usize, reply: &mut Reply) -> bool
         requires { length reply.old + stops_room self.old.parts ≤ 4096 }
-        ensures world { self.new ≡ with_part user (sliced quantum (part user self.old)).next self.old }
+        ensures world { self.new ≡ after_slice quantum user self.old }
         ensures reply { reply.new ≡ reply.old ++ text (48 + user) (sliced quantum (part user self.old)).lines }
         ensures ran { result ≡ runs (part user self.old) }
         ensures bound { length reply.new + stops_room self.new.parts
@@ -160,10 +167,12 @@ impl<A: Allocator> Users<A> {
         ensures next { part user self.new ≡ (sliced quantum (part user self.old)).next }
         ensures configured { IsConfigured (part user self.old) }
     {
+        user.number();
         let context = &mut self.contexts[user.index()];
         grant(
             context,
             self.traces.as_mut_slice(),
+            &mut self.unit,
             &mut self.pool,
             user,
             quantum,
@@ -197,5 +206,12 @@ impl<A: Allocator> Users<A> {
         ensures { result ≡ map standing self.now.parts }
     {
         standings_of(&self.contexts)
+    }
+
+    /// How the vector unit was used.
+    pub(crate) fn stats(&self) -> Stats
+        ensures { result ≡ stats_of self.now.unit }
+    {
+        self.unit.stats()
     }
 }

@@ -1,8 +1,9 @@
-//! The commands on a user's registers: `set`, `regs`, `setpc`, `vreg`, `vset` and `vcsr`.
+//! The commands on a user's registers, `set`, `regs`, `setpc`, `vreg`, `vset` and `vcsr`, and the one
+//! on what becomes of agnostic elements, `policy`.
 ghost use Rattle.std.specs.Prelude.{◌≡◌, [], ◌∷◌, ◌++◌, ◌+◌, ◌*◌, ◌/◌, ◌<◌, ◌≤◌, length, codes, decimal, flat_map};
 ghost use Rattle.std.specs.List.{range_with_len};
 ghost use Rattle.rv_model.specs.commands.Printing.{hex16};
-ghost use Rattle.rv_model.specs.commands.Registers.{set_args, setpc_args, vreg_args, vset_args, registers_named};
+ghost use Rattle.rv_model.specs.commands.Registers.{set_args, setpc_args, vreg_args, vset_args, policy_args, registers_named};
 ghost use Rattle.rv_model.specs.commands.Registers.{register_text, register_line, regs_lines, element_text, vreg_line, vcsr_line};
 ghost use Rattle.rv_model.specs.instructions.BitFields.{flag_bit};
 ghost use Rattle.rv_model.specs.text.Lines.{tagged, text};
@@ -13,7 +14,7 @@ ghost use Rattle.rv_model.specs.vector.TypeRules.{vtype_number};
 ghost use Rattle.monitor_cmds.specs.Tag.{tag_byte};
 
 use crate::arguments::{
-    address, element_width, instruction_address, scalar_register, vector_register,
+    address, element_width, instruction_address, policy, scalar_register, vector_register,
 };
 use crate::numerals::{push_bytes, push_decimal, push_hex16};
 use crate::reply::Reply;
@@ -46,6 +47,9 @@ pub(crate) fn registers_named(name: &[u8], args: &[u8]) -> Option<Option<Registe
     }
     if name == b"vcsr".as_slice() {
         return Some(done(Words::new(args), RegisterCommand::Vcsr));
+    }
+    if name == b"policy".as_slice() {
+        return Some(policy_args(args));
     }
     None
 }
@@ -91,6 +95,16 @@ fn vset_args(args: &[u8]) -> Option<RegisterCommand>
     let register = vector_register(words.next_word()?)?;
     let bytes = RegisterBytes::from_hex(words.next_word()?)?;
     done(words, RegisterCommand::Vset { register, bytes })
+}
+
+/// `policy keep` or `policy ones`
+#[tactic(auto, unfolding(rv_model::specs::commands::Registers::policy_args))]
+fn policy_args(args: &[u8]) -> Option<RegisterCommand>
+    ensures { result ≡ policy_args (words args.now) }
+{
+    let mut words = Words::new(args);
+    let policy = policy(words.next_word()?)?;
+    done(words, RegisterCommand::SetPolicy(policy))
 }
 
 /// Adds a register's name and its value.

@@ -4,7 +4,7 @@ use Rattle.std.specs.Prelude.{nat_le, ◌&&◌, if◌then◌else◌, codes}
 use Rattle.std.specs.Str.{bytes_eq}
 use Rattle.std.proofs.lemmas.Bool.{leb-true, and_parts}
 use Rattle.rv_model.specs.declared.commands.operator.OperatorCommand.{OperatorCommand}
-use Rattle.rv_model.specs.declared.commands.operator.OperatorCommand.TheVariants.{Slices, Run, List as ListUsers}
+use Rattle.rv_model.specs.declared.commands.operator.OperatorCommand.TheVariants.{Slices, Run, List as ListUsers, Stats as ShowStats}
 use Rattle.rv_model.specs.commands.Arguments.{number, within, decimal_number}
 use Rattle.rv_model.specs.commands.Operator.{OperatorParsed, slices_args, run_args, operator_named, accepted, operator_of_words, operator_parse}
 use Rattle.rv_model.specs.commands.Reading.{◌>>=◌, before, done}
@@ -15,6 +15,7 @@ abbrev pub NamesUser : OperatorCommand → Type 0
 NamesUser (Slices n) = Unit {0}
 NamesUser (Run u) = (1 ≤ u) × (u ≤ 8)
 NamesUser ListUsers = Unit {0}
+NamesUser ShowStats = Unit {0}
 
 abbrev NamesUserIfAny : Option OperatorCommand → Type 0
 NamesUserIfAny None = Unit {0}
@@ -63,7 +64,8 @@ named_names : (name : List ℕ) (args : List (List ℕ)) → NamedNamesUser (ope
 named_names name args =
     of_either NamedNamesUser (bytes_eq name (codes "slices")) (Some (slices_args args)) _ (with_args (slices_args args) (slices_name args))
     (of_either NamedNamesUser (bytes_eq name (codes "run")) (Some (run_args args)) _ (with_args (run_args args) (run_names args))
-    (of_either NamedNamesUser (bytes_eq name (codes "list")) (Some (done ListUsers args)) None (with_args (done ListUsers args) (done_names ListUsers args tt)) tt))
+    (of_either NamedNamesUser (bytes_eq name (codes "list")) (Some (done ListUsers args)) _ (with_args (done ListUsers args) (done_names ListUsers args tt))
+    (of_either NamedNamesUser (bytes_eq name (codes "stats")) (Some (done ShowStats args)) None (with_args (done ShowStats args) (done_names ShowStats args tt)) tt)))
 
 of_words_names : (ws : List (List ℕ)) → ParsedNamesUser (operator_of_words ws)
 of_words_names [] = tt

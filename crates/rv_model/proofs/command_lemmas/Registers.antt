@@ -4,7 +4,7 @@ use Rattle.std.specs.Prelude.{codes, flat_map, reverse, slice_index, slice_range
 use Rattle.std.specs.List.{range_with_len}
 use Rattle.std.proofs.lemmas.Bool.{and_from}
 use Rattle.rv_model.specs.declared.commands.registers.RegisterCommand.{RegisterCommand}
-use Rattle.rv_model.specs.declared.commands.registers.RegisterCommand.TheVariants.{Set, Regs, SetPc, Vreg, Vset, Vcsr}
+use Rattle.rv_model.specs.declared.commands.registers.RegisterCommand.TheVariants.{Set, Regs, SetPc, Vreg, Vset, Vcsr, SetPolicy}
 use Rattle.rv_model.specs.declared.scalar.Scalar.{Scalar}
 use Rattle.rv_model.specs.declared.vector.state.VState.{VState}
 use Rattle.rv_model.specs.declared.vector.types.Sew.{Sew}
@@ -71,3 +71,4 @@ registers_print (Vreg register width) p =
     one_line (vreg_line register width shown) (no_newline_in_vreg_line register width shown)
 registers_print (Vset register bytes) p = refl
 registers_print Vcsr p = one_line (vcsr_line p.hart.vector) (no_newline_in_vcsr_line p.hart.vector)
+registers_print (SetPolicy policy) p = refl

@@ -1,12 +1,14 @@
 -- What the operator grants goes to users, and what the operator is told are lines.
 use Rattle.std.proofs.Common.{ℕ, zero, suc, ◌-◌, ◌≤◌, List, [], ◌∷◌, ◌++◌, length, Bool, true, false, Option, Some, None, Ok, Err, refl, arith}
 use Rattle.std.specs.Prelude.{drop, take, find, map, codes, flat_map, if◌then◌else◌, slice_index_or}
-use Rattle.rv_model.specs.declared.commands.operator.OperatorCommand.TheVariants.{Slices, Run, List as ListUsers}
+use Rattle.rv_model.specs.declared.commands.operator.OperatorCommand.TheVariants.{Slices, Run, List as ListUsers, Stats as ShowStats}
 use Rattle.rv_model.specs.declared.machine.standing.Standing.{Standing}
 use Rattle.rv_model.specs.declared.machine.standing.Standing.TheVariants.{Absent, Stopped, Running}
-use Rattle.rv_model.specs.commands.Operator.{OperatorParsed, granted_line, standing_word, listed_user, list_line}
+use Rattle.rv_model.specs.declared.machine.stats.Stats.{Stats}
+use Rattle.rv_model.specs.commands.Operator.{OperatorParsed, granted_line, standing_word, listed_user, list_line, owner_number, stats_line}
 use Rattle.rv_model.specs.machine.Grants.{turns_after, next_user, runs, next_running, slice_of, granted_first, granted, grants, grants_of, standing, operator_line}
 use Rattle.rv_model.specs.machine.Users.{users}
+use Rattle.rv_model.specs.machine.VectorUnit.{stats_of}
 use Rattle.rv_model.specs.machine.Setup.{Setup}
 use Rattle.rv_model.specs.machine.World.{World, Happening, part, after_one, AreUsers}
 use Rattle.rv_model.specs.text.Lines.{IsLine}
@@ -76,6 +78,7 @@ grants_to_users s w (Ok (Run u)) named = run (runs (part u w))
     run true = (named.0, named.1, tt)
     run false = tt
 grants_to_users s w (Ok ListUsers) named = tt
+grants_to_users s w (Ok ShowStats) named = tt
 
 -- ---- what the operator is told
 
@@ -104,8 +107,19 @@ no_newline_in_list_line standings =
     let all : Piece = (flat_map (listed_user standings) users, flat_map_line (listed_user standings) users (no_newline_in_listed_user standings)) in
     (word ▸ all).1
 
+no_newline_in_stats_line : (stats : Stats) → IsLine (stats_line stats)
+unfolding stats_line
+no_newline_in_stats_line stats =
+    let saves : Piece = (codes "saves ", refl) in
+    let restores : Piece = (codes " restores ", refl) in
+    let inits : Piece = (codes " inits ", refl) in
+    let owner : Piece = (codes " owner ", refl) in
+    (saves ▸ number stats.saves ▸ restores ▸ number stats.restores ▸ inits ▸ number stats.inits
+    ▸ owner ▸ number (owner_number stats.owner)).1
+
 pub no_newline_in_operator_line : (s : Setup) (w : World) (r : OperatorParsed) → IsLine (operator_line s w r)
 no_newline_in_operator_line s w (Err reason) = no_newline_in_refusal reason
 no_newline_in_operator_line s w (Ok (Slices n)) = no_newline_in_granted_line (length (granted s n w))
 no_newline_in_operator_line s w (Ok (Run u)) = no_newline_in_granted_line (length (grants s w (Run u)))
 no_newline_in_operator_line s w (Ok ListUsers) = no_newline_in_list_line (map standing w.parts)
+no_newline_in_operator_line s w (Ok ShowStats) = no_newline_in_stats_line (stats_of w.unit)

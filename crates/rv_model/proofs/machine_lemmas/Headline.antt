@@ -7,8 +7,8 @@ use Rattle.std.proofs.lemmas.Bool.Decides.{nat_tests}
 use Rattle.rv_model.specs.text.Lines.{pieces, text, AreLines}
 use Rattle.rv_model.specs.machine.Setup.{Setup}
 use Rattle.rv_model.specs.machine.PrivateMachine.{Private, Event, event, solo_from, solo, end_of}
-use Rattle.rv_model.specs.machine.Script.{World, new_world, part, with_part, Kind, Empty, Long, Bad, Operator, Of, prefixed, kind_of, events_of, common, Happening, outcome_of, after_one, after_events, told_by, after, told, after_all, told_all, schedule, whole_from, after_script, mine, own_from, own, lines, AreUsers}
-use Rattle.rv_model.specs.machine.Laws.{EachUserAlone, EachNewUserAlone, EachUserEndsAlone, OthersChangeNothing, MachinesStayEight}
+use Rattle.rv_model.specs.machine.Script.{World, new_world, part, with_part, with_unit, Kind, Empty, Long, Bad, Operator, Of, prefixed, kind_of, events_of, common, Happening, outcome_of, unit_after, after_one, after_events, told_by, after, told, after_all, told_all, schedule, whole_from, after_script, mine, own_from, own, lines, AreUsers}
+use Rattle.rv_model.specs.machine.Laws.{EachUserAlone, EachNewUserAlone, EachUserEndsAlone, OthersChangeNothing, EqualPartsAnswerAlike, MachinesStayEight}
 use Rattle.rv_model.proofs.text_lemmas.Lines.{lines_text}
 use Rattle.rv_model.specs.commands.Operator.{operator_parse}
 use Rattle.rv_model.specs.machine.Grants.{operator_line}
@@ -42,11 +42,11 @@ parts_after_turn false u w = refl
 
 part_after_one : (s : Setup) (u : ℕ) (w : World) (h : Happening) → part u (after_one s w h) ≡ part u (with_part h.user (outcome_of s w h).next w)
 part_after_one s u w h =
-    ap (λ parts. get_or parts (u - 1) None) (parts_after_turn h.turn h.user (with_part h.user (outcome_of s w h).next w))
+    ap (λ parts. get_or parts (u - 1) None) (parts_after_turn h.turn h.user (with_unit (unit_after s w h) (with_part h.user (outcome_of s w h).next w)))
 
 eight_after_one : (s : Setup) (w : World) (h : Happening) → length w.parts ≡ 8 → length (after_one s w h).parts ≡ 8
 eight_after_one s w h eight =
-    ap length (parts_after_turn h.turn h.user (with_part h.user (outcome_of s w h).next w))
+    ap length (parts_after_turn h.turn h.user (with_unit (unit_after s w h) (with_part h.user (outcome_of s w h).next w)))
     ∙ length-set w.parts (h.user - 1) (outcome_of s w h).next
     ∙ eight
 
@@ -232,6 +232,19 @@ each_user_ends_alone s w script u eight low high = part_after_all s u w (pieces 
 pub others_change_nothing : OthersChangeNothing
 others_change_nothing s one two u low high same =
     each_new_user_alone s one u low high ∙ ap (solo s) same ∙ sym (each_new_user_alone s two u low high)
+
+part_moves : (s : Setup) (w : World) (h : Happening) → 1 ≤ h.user → h.user ≤ 8 → length w.parts ≡ 8
+    → part h.user (after_one s w h) ≡ (outcome_of s w h).next
+part_moves s w h low high eight =
+    part_after_one s h.user w h ∙ part_same h.user (outcome_of s w h).next w low (omega (arith, high, eight))
+
+pub equal_parts_answer_alike : EqualPartsAnswerAlike
+equal_parts_answer_alike s one two h low high first second same = (
+  ap (λ (p : Private). text (48 + h.user) (event s p h.event).lines ++ []) same,
+  part_moves s one h low high first
+      ∙ ap (λ (p : Private). (event s p h.event).next) same
+      ∙ sym (part_moves s two h low high second),
+)
 
 pub machines_stay_eight : MachinesStayEight
 unfolding after_script

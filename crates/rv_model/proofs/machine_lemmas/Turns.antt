@@ -3,14 +3,14 @@ use Rattle.std.proofs.Common.{◌≡◌, ◌≢◌, inl, inr, ℕ, zero, suc, �
 use Rattle.std.specs.Prelude.{find, filter, map, if◌then◌else◌, ◌==◌, ◌&&◌, slice_index_or}
 use Rattle.std.proofs.lemmas.Bool.{agree_below_at, cases_Bool, cases_eq, eqb-true, false≢true}
 use Rattle.std.proofs.lemmas.Option.{same_Some}
-use Rattle.rv_model.specs.declared.commands.operator.OperatorCommand.TheVariants.{Slices, Run, List as ListUsers}
+use Rattle.rv_model.specs.declared.commands.operator.OperatorCommand.TheVariants.{Slices, Run, List as ListUsers, Stats as ShowStats}
 use Rattle.rv_model.specs.commands.Operator.{operator_parse}
 use Rattle.rv_model.specs.machine.Grants.{turns_after, next_user, runs, next_running, slice_of, granted_first, granted}
 use Rattle.rv_model.specs.machine.PrivateMachine.{Private}
 use Rattle.rv_model.specs.machine.Script.{Kind, Empty, Long, Bad, Operator, Of, kind_of, events_of, after, schedule}
 use Rattle.rv_model.specs.machine.Setup.{Setup}
 use Rattle.rv_model.specs.machine.Turns.{AtEachTurn, IsTurn, AreInTurn, RunsAtEachTurn, turns, turns_of, NobodyHasTwoTurns, EachRunningUserHasATurn, GrantsAreInTurn, ScriptsAreInTurn, OneTurnBetweenTurns}
-use Rattle.rv_model.specs.machine.World.{World, Happening, part, with_part, outcome_of, after_one, after_events}
+use Rattle.rv_model.specs.machine.World.{World, Happening, part, with_part, with_unit, outcome_of, unit_after, after_one, after_events}
 use Rattle.rv_model.specs.text.Lines.{pieces}
 use Rattle.rv_model.proofs.machine_lemmas.Grants.{IsUser, IsUserIfAny, next_is_user}
 use Rattle.rv_model.proofs.machine_lemmas.Headline.{same_number, other_number}
@@ -190,7 +190,7 @@ cursor_after_turn false u w = refl
 cursor_after : (s : Setup) (w : World) (h : Happening) (b : Bool) → h.turn ≡ b
     → (after_one s w h).cursor ≡ (if b then h.user else w.cursor)
 cursor_after s w h b turn =
-    cursor_after_turn h.turn h.user (with_part h.user (outcome_of s w h).next w)
+    cursor_after_turn h.turn h.user (with_unit (unit_after s w h) (with_part h.user (outcome_of s w h).next w))
     ∙ ap (λ (b : Bool). if b then h.user else w.cursor) turn
 
 -- where user u runs at each turn, no turn goes past u
@@ -248,6 +248,7 @@ grants_are_in_turn s w (Ok (Run u)) = run (runs (part u w))
     run true = (λ turn. absurd (false≢true turn), tt)
     run false = tt
 grants_are_in_turn s w (Ok ListUsers) = tt
+grants_are_in_turn s w (Ok ShowStats) = tt
 
 events_in_turn : (s : Setup) (w : World) (k : Kind) → AreInTurn s w (events_of s w k)
 events_in_turn s w Empty = tt

@@ -6,6 +6,8 @@ use Rattle.hex.specs.declared.error.FromHexError.{FromHexError}
 use Rattle.rv_model.specs.memory.Sizes.{page_size, address_end, page_limit}
 use Rattle.rv_model.specs.text.Digits.{digits_after}
 use Rattle.rv_model.specs.declared.memory.Permissions.{Permissions}
+use Rattle.rv_model.specs.declared.vector.policy.Policy.{Policy}
+use Rattle.rv_model.specs.declared.vector.policy.Policy.TheVariants.{Keep, Ones}
 use Rattle.rv_model.specs.declared.vector.types.Sew.{Sew}
 use Rattle.rv_model.specs.declared.vector.types.Sew.TheVariants.{E8, E16, E32, E64}
 
@@ -54,6 +56,13 @@ element_width word =
     else if bytes_eq word (codes "16") then Some E16
     else if bytes_eq word (codes "32") then Some E32
     else if bytes_eq word (codes "64") then Some E64
+    else None
+
+-- what becomes of agnostic elements
+abbrev pub policy_word : List ℕ → Option Policy
+policy_word word =
+    if bytes_eq word (codes "keep") then Some Keep
+    else if bytes_eq word (codes "ones") then Some Ones
     else None
 
 abbrev pub decoded : Result (List ℕ) FromHexError → Option (List ℕ)

@@ -1,13 +1,14 @@
--- The commands of the operator: `slices`, `run` and `list`, as a line spells them, and what they print. Of refusals they have an
+-- The commands of the operator: `slices`, `run`, `list` and `stats`, as a line spells them, and what they print. Of refusals they have an
 -- unknown command (E03) and a wrong argument (E04) alone.
 use Rattle.std.specs.Prelude.{ℕ, ◌-◌, ◌++◌, decimal, flat_map, slice_index_or, List, [], ◌∷◌, Option, Some, None, Result, Ok, Err, if◌then◌else◌, codes}
 use Rattle.std.specs.Str.{bytes_eq}
 use Rattle.rv_model.specs.declared.commands.operator.OperatorCommand.{OperatorCommand}
-use Rattle.rv_model.specs.declared.commands.operator.OperatorCommand.TheVariants.{Slices, Run, List as ListUsers}
+use Rattle.rv_model.specs.declared.commands.operator.OperatorCommand.TheVariants.{Slices, Run, List as ListUsers, Stats as ShowStats}
 use Rattle.rv_model.specs.declared.commands.refusal.Refusal.{Refusal}
 use Rattle.rv_model.specs.declared.commands.refusal.Refusal.TheVariants as refusal
 use Rattle.rv_model.specs.declared.machine.standing.Standing.{Standing}
 use Rattle.rv_model.specs.declared.machine.standing.Standing.TheVariants.{Absent, Stopped, Running}
+use Rattle.rv_model.specs.declared.machine.stats.Stats.{Stats}
 use Rattle.rv_model.specs.commands.Arguments.{number}
 use Rattle.rv_model.specs.commands.Reading.{◌>>=◌, next, done}
 use Rattle.rv_model.specs.machine.Users.{user_count, users}
@@ -46,6 +47,19 @@ listed_user standings u = codes " " ++ decimal u ++ codes ":" ++ standing_word (
 unfoldable pub list_line : List Standing → List ℕ
 list_line standings = codes "list" ++ flat_map (listed_user standings) users
 
+-- ---- stats
+
+-- the user whose state the vector unit holds; 0 where it holds nobody's
+abbrev pub owner_number : Option ℕ → ℕ
+owner_number None = 0
+owner_number (Some user) = user
+
+-- how often a vector state was saved, restored and used for the first time, and whose state the unit holds
+unfoldable pub stats_line : Stats → List ℕ
+stats_line stats =
+    codes "saves " ++ decimal stats.saves ++ codes " restores " ++ decimal stats.restores ++ codes " inits "
+    ++ decimal stats.inits ++ codes " owner " ++ decimal (owner_number stats.owner)
+
 -- ---- all of them
 
 -- the command of a name, by its arguments; none where there is no such name
@@ -54,6 +68,7 @@ operator_named name args =
     if bytes_eq name (codes "slices") then Some (slices_args args)
     else if bytes_eq name (codes "run") then Some (run_args args)
     else if bytes_eq name (codes "list") then Some (done ListUsers args)
+    else if bytes_eq name (codes "stats") then Some (done ShowStats args)
     else None
 
 abbrev pub OperatorParsed : Type 0

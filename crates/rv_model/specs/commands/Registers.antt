@@ -1,14 +1,16 @@
--- The commands on a user's registers: `set`, `regs`, `setpc`, `vreg`, `vset` and `vcsr`.
+-- The commands on a user's registers, `set`, `regs`, `setpc`, `vreg`, `vset` and `vcsr`, and the one on what becomes of agnostic
+-- elements, `policy`.
 use Rattle.std.specs.Prelude.{ℕ, zero, suc, ◌+◌, ◌*◌, ◌/◌, Bool, true, List, [], ◌∷◌, ◌++◌, decimal, slice_index, slice_range, reverse, flat_map, Option, Some, None, if◌then◌else◌, codes}
 use Rattle.std.specs.List.{range_with_len}
 use Rattle.std.specs.Str.{bytes_eq}
 use Rattle.hex.specs.Hex.{encode_lower}
 use Rattle.rv_model.specs.declared.commands.registers.RegisterCommand.{RegisterCommand}
-use Rattle.rv_model.specs.declared.commands.registers.RegisterCommand.TheVariants.{Set, Regs, SetPc, Vreg, Vset, Vcsr}
+use Rattle.rv_model.specs.declared.commands.registers.RegisterCommand.TheVariants.{Set, Regs, SetPc, Vreg, Vset, Vcsr, SetPolicy}
 use Rattle.rv_model.specs.declared.scalar.Scalar.{Scalar}
+use Rattle.rv_model.specs.declared.vector.policy.Policy.{Policy}
 use Rattle.rv_model.specs.declared.vector.state.VState.{VState}
 use Rattle.rv_model.specs.declared.vector.types.Sew.{Sew}
-use Rattle.rv_model.specs.commands.Arguments.{address, instruction_address, scalar_register, vector_register, element_width, register_bytes}
+use Rattle.rv_model.specs.commands.Arguments.{address, instruction_address, scalar_register, vector_register, element_width, register_bytes, policy_word}
 use Rattle.rv_model.specs.commands.Printing.{hex16}
 use Rattle.rv_model.specs.commands.Reading.{◌>>=◌, next, done}
 use Rattle.rv_model.specs.instructions.BitFields.{flag_bit}
@@ -115,6 +117,17 @@ vcsr_line v =
 abbrev pub shows_control : Present → Outcome
 shows_control p = answers p (vcsr_line p.hart.vector)
 
+-- ---- policy keep, policy ones
+
+unfoldable pub policy_args : List (List ℕ) → Option RegisterCommand
+policy_args ws = do
+  policy ← next policy_word ws
+  done (SetPolicy policy.0) policy.1
+
+-- what becomes of agnostic elements from now on
+abbrev pub sets_policy : Policy → Present → Outcome
+sets_policy policy p = answers (record p { hart = record p.hart { policy = policy } }) (codes "ok")
+
 -- ---- all of them
 
 -- the command of a name, by its arguments; none of this group where there is no such name
@@ -126,6 +139,7 @@ registers_named name args =
     else if bytes_eq name (codes "vreg") then Some (vreg_args args)
     else if bytes_eq name (codes "vset") then Some (vset_args args)
     else if bytes_eq name (codes "vcsr") then Some (done Vcsr args)
+    else if bytes_eq name (codes "policy") then Some (policy_args args)
     else None
 
 -- whether a command needs a stopped program
@@ -136,6 +150,7 @@ registers_need_stopped (SetPc addr) = true
 registers_need_stopped (Vreg register width) = true
 registers_need_stopped (Vset register bytes) = true
 registers_need_stopped Vcsr = true
+registers_need_stopped (SetPolicy policy) = true
 
 -- what a command does of a user who has entered
 unfoldable pub register_command : RegisterCommand → Present → Outcome
@@ -145,3 +160,4 @@ register_command (SetPc addr) p = sets_pc addr p
 register_command (Vreg register width) p = shows_elements register width p
 register_command (Vset register bytes) p = sets_vector register bytes p
 register_command Vcsr p = shows_control p
+register_command (SetPolicy policy) p = sets_policy policy p

@@ -1,14 +1,15 @@
 -- What the operator grants: which user's turn it is, the slices of a command, and what the command prints.
 use Rattle.std.specs.Prelude.{ℕ, zero, suc, ◌-◌, Bool, true, false, List, [], ◌∷◌, ◌++◌, drop, take, find, length, map, Option, Some, None, Ok, Err, if◌then◌else◌, slice_index_or}
 use Rattle.rv_model.specs.declared.commands.operator.OperatorCommand.{OperatorCommand}
-use Rattle.rv_model.specs.declared.commands.operator.OperatorCommand.TheVariants.{Slices, Run, List as ListUsers}
+use Rattle.rv_model.specs.declared.commands.operator.OperatorCommand.TheVariants.{Slices, Run, List as ListUsers, Stats as ShowStats}
 use Rattle.rv_model.specs.declared.machine.standing.Standing.{Standing}
 use Rattle.rv_model.specs.declared.machine.standing.Standing.TheVariants.{Absent, Stopped, Running}
-use Rattle.rv_model.specs.commands.Operator.{OperatorParsed, granted_line, list_line}
+use Rattle.rv_model.specs.commands.Operator.{OperatorParsed, granted_line, list_line, stats_line}
 use Rattle.rv_model.specs.commands.Printing.{refused}
 use Rattle.rv_model.specs.machine.PrivateMachine.{Private, Slice}
 use Rattle.rv_model.specs.machine.Setup.{Setup}
 use Rattle.rv_model.specs.machine.Users.{users}
+use Rattle.rv_model.specs.machine.VectorUnit.{stats_of}
 use Rattle.rv_model.specs.machine.World.{World, Happening, part, after_one}
 
 -- ---- whose turn it is
@@ -51,6 +52,7 @@ abbrev pub grants : Setup → World → OperatorCommand → List Happening
 grants setup w (Slices n) = granted setup n w
 grants setup w (Run u) = if runs (part u w) then slice_of u false ∷ [] else []
 grants setup w ListUsers = []
+grants setup w ShowStats = []
 
 abbrev pub grants_of : Setup → World → OperatorParsed → List Happening
 grants_of setup w (Err reason) = []
@@ -69,3 +71,4 @@ operator_line setup w (Err reason) = refused reason
 operator_line setup w (Ok (Slices n)) = granted_line (length (granted setup n w))
 operator_line setup w (Ok (Run u)) = granted_line (length (grants setup w (Run u)))
 operator_line setup w (Ok ListUsers) = list_line (map standing w.parts)
+operator_line setup w (Ok ShowStats) = stats_line (stats_of w.unit)

@@ -1,7 +1,7 @@
 -- The laws that tie one user's lines of an output to that user's machine alone.
-use Rattle.std.specs.Prelude.{ℕ, ◌≡◌, ◌≤◌, List, length}
+use Rattle.std.specs.Prelude.{ℕ, ◌≡◌, ◌≤◌, List, [], ◌∷◌, length}
 use Rattle.rv_model.specs.machine.PrivateMachine.{solo_from, solo, end_of}
-use Rattle.rv_model.specs.machine.Script.{World, part, whole_from, whole, after_script, own_from, own, lines}
+use Rattle.rv_model.specs.machine.Script.{World, Happening, part, after_one, told_by, whole_from, whole, after_script, own_from, own, lines}
 use Rattle.rv_model.specs.machine.Setup.{Setup}
 use Rattle.rv_model.specs.machine.Users.{user_count}
 
@@ -29,6 +29,15 @@ abbrev pub OthersChangeNothing : Type 0
 OthersChangeNothing =
     (setup : Setup) (one two : List ℕ) (u : ℕ) → 1 ≤ u → u ≤ user_count → own setup u one ≡ own setup u two
     → lines u (whole setup one) ≡ lines u (whole setup two)
+
+-- Two worlds of machines in which a user's machines are equal tell the same of what happens to that user, and leave the user's
+-- machines equal, whatever else differs.
+abbrev pub EqualPartsAnswerAlike : Type 0
+EqualPartsAnswerAlike =
+    (setup : Setup) (one two : World) (h : Happening) → 1 ≤ h.user → h.user ≤ user_count → length one.parts ≡ user_count
+    → length two.parts ≡ user_count → part h.user one ≡ part h.user two
+    → (told_by setup one (h ∷ []) ≡ told_by setup two (h ∷ []))
+    × (part h.user (after_one setup one h) ≡ part h.user (after_one setup two h))
 
 -- No script changes how many machines there are.
 abbrev pub MachinesStayEight : Type 0

@@ -7,7 +7,7 @@ use Rattle.rv_model.specs.machine.PrivateMachine.{Event, Command}
 use Rattle.rv_model.specs.machine.Setup.{Setup}
 use Rattle.rv_model.specs.machine.Users.{user_count}
 unfoldable pub use Rattle.rv_model.specs.machine.World.{new_world}
-pub use Rattle.rv_model.specs.machine.World.{World, part, with_part, Happening, outcome_of, after_one, after_events, told_by, AreUsers}
+pub use Rattle.rv_model.specs.machine.World.{World, part, with_part, with_unit, Happening, outcome_of, unit_after, after_one, after_events, told_by, AreUsers}
 use Rattle.rv_model.specs.text.Lines.{text, pieces}
 
 -- what a line is: nothing, too long, without a proper prefix, the operator's, or a user's

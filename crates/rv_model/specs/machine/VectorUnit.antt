@@ -1,7 +1,8 @@
 -- The one vector unit of all users, as it is counted: whose state it holds, whether that state was changed since it was saved
 -- last, whose states are saved, and how often a state was saved, restored and used for the first time (Privileged Architecture
--- 20211203, section 3.1.6.6, the field VS). Each user has a vector state of its own so far, so nothing is counted yet.
+-- 20211203, section 3.1.6.6, the field VS).
 use Rattle.std.specs.Prelude.{ℕ, ◌+◌, ◌-◌, ◌^◌, ◌==◌, Bool, true, false, List, Option, Some, None, if◌then◌else◌, min, replicate, slice_index_or, slice_set}
+use Rattle.rv_model.specs.declared.machine.stats.Stats.{Stats}
 use Rattle.rv_model.specs.machine.Users.{user_count}
 
 pub record VectorUnit : Type 0 where
@@ -15,6 +16,10 @@ pub record VectorUnit : Type 0 where
 -- nobody has used it, and nobody's state is saved
 abbrev pub unused_unit : VectorUnit
 unused_unit = record { owner = None; dirty = false; saved = replicate user_count false; saves = 0; restores = 0; first_uses = 0 }
+
+-- what is told of it
+abbrev pub stats_of : VectorUnit → Stats
+stats_of unit = record { saves = unit.saves; restores = unit.restores; inits = unit.first_uses; owner = unit.owner }
 
 -- ---- what moves the record. The field VS of a user's status is Off for everyone but the owner; the owner's is Initial after
 -- a first use, Clean after a restore, and Dirty after a change.

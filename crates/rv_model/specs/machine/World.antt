@@ -3,6 +3,7 @@ use Rattle.std.specs.Prelude.{ℕ, ◌+◌, ◌-◌, ◌≤◌, Bool, List, [], 
 use Rattle.rv_model.specs.machine.PrivateMachine.{Private, Outcome, Event, event}
 use Rattle.rv_model.specs.machine.Setup.{Setup}
 use Rattle.rv_model.specs.machine.Users.{user_count}
+use Rattle.rv_model.specs.machine.UnitEvents.{unit_after_event}
 use Rattle.rv_model.specs.machine.VectorUnit.{VectorUnit, unused_unit}
 use Rattle.rv_model.specs.text.Lines.{text}
 
@@ -23,6 +24,10 @@ part u w = slice_index_or w.parts (u - 1) None
 abbrev pub with_part : ℕ → Private → World → World
 with_part u p w = record w { parts = slice_set w.parts (u - 1) p }
 
+-- the world with another record of the vector unit
+abbrev pub with_unit : VectorUnit → World → World
+with_unit unit w = record w { unit = unit }
+
 -- what happens to a user, and whether that is the user's turn, after which the next user's comes
 pub record Happening : Type 0 where
   pub user : ℕ
@@ -33,13 +38,17 @@ pub record Happening : Type 0 where
 abbrev pub outcome_of : Setup → World → Happening → Outcome
 outcome_of setup w h = event setup (part h.user w) h.event
 
+-- what becomes of the vector unit
+abbrev pub unit_after : Setup → World → Happening → VectorUnit
+unit_after setup w h = unit_after_event setup h.user (part h.user w) h.event w.unit
+
 -- the world with the cursor at a user whose turn it was
 abbrev pub with_turn : Happening → World → World
 with_turn h w = if h.turn then record w { cursor = h.user } else w
 
 -- the world after something has happened
 abbrev pub after_one : Setup → World → Happening → World
-after_one setup w h = with_turn h (with_part h.user (outcome_of setup w h).next w)
+after_one setup w h = with_turn h (with_unit (unit_after setup w h) (with_part h.user (outcome_of setup w h).next w))
 
 -- the world after all that happened
 abbrev pub after_events : Setup → World → List Happening → World

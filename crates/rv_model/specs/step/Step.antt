@@ -73,6 +73,10 @@ step limit s =
     if can_access Fetch s.memory s.scalar.pc 4 then executed limit (scan table word) word s
     else faults FetchAccess s.scalar.pc s
 
+-- the instruction at an address, if it may be fetched from there and the word is one
+abbrev pub fetched : Memory → ℕ → Option Instr
+fetched m pc = if can_access Fetch m pc 4 then scan table (word_at m pc) else None
+
 -- ---- when the vector unit is used (Privileged Architecture 20211203, section 3.1.6.6, the field VS)
 
 -- an access of a control register touches the vector unit, unless it is illegal

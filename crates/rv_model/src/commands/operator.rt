@@ -11,4 +11,6 @@ pub enum OperatorCommand {
     Run(User),
     /// `list`: what each user's program does.
     List,
+    /// `stats`: how often the vector unit was switched, and whose state it holds.
+    Stats,
 }

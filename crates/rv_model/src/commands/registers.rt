@@ -1,8 +1,8 @@
-//! Commands on a user's registers.
+//! Commands on a user's registers, and on what becomes of agnostic elements.
 use crate::instructions::{Reg, VReg};
-use crate::vector::{RegisterBytes, Sew};
+use crate::vector::{Policy, RegisterBytes, Sew};
 
-/// A command on the user's registers.
+/// A command on the user's registers, or on what becomes of agnostic elements.
 #[derive(Drop)]
 pub enum RegisterCommand {
     /// `set xN HEX`: one of the registers x1 to x31 is written.
@@ -26,4 +26,6 @@ pub enum RegisterCommand {
     },
     /// `vcsr`: the vector length and type, and the other vector control registers, are shown.
     Vcsr,
+    /// `policy keep` or `policy ones`: what becomes of agnostic elements from now on.
+    SetPolicy(Policy),
 }

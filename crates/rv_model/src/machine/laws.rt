@@ -1,6 +1,6 @@
 //! Laws of the definitions, and small examples of them.
 ghost use Rattle.rv_model.specs.machine.Cuts.{CutsAreInvisible, SliceKeepsConfiguration, SlicesAddUp};
-ghost use Rattle.rv_model.specs.machine.Laws.{EachUserAlone, EachNewUserAlone, EachUserEndsAlone, OthersChangeNothing, MachinesStayEight};
+ghost use Rattle.rv_model.specs.machine.Laws.{EachUserAlone, EachNewUserAlone, EachUserEndsAlone, OthersChangeNothing, EqualPartsAnswerAlike, MachinesStayEight};
 ghost use Rattle.rv_model.specs.step.Effects.{FaultsWriteNoRegister, FirstRegisterStays, OutputGrowsWithin, StepKeepsConfiguration, StepKeepsPermissions};
 ghost use Rattle.rv_model.specs.machine.Examples.{SmallScriptsPrint};
 ghost use Rattle.rv_model.specs.machine.Turns.{NobodyHasTwoTurns, EachRunningUserHasATurn, GrantsAreInTurn, ScriptsAreInTurn, OneTurnBetweenTurns};
@@ -12,6 +12,7 @@ pub fn each_user_alone()
     ensures from_new { EachNewUserAlone }
     ensures end_state { EachUserEndsAlone }
     ensures others { OthersChangeNothing }
+    ensures equal { EqualPartsAnswerAlike }
     ensures eight { MachinesStayEight }
 {}
 

@@ -39,11 +39,18 @@ impl RegisterBytes {
         }
     }
 
+    /// The bytes, as an array.
+    pub fn as_array(&self) -> &[u8; VLENB]
+        ensures { result.now ≡ self.now }
+    {
+        &self.bytes
+    }
+
     /// The bytes.
     pub fn as_slice(&self) -> &[u8]
         ensures value { result.now ≡ self.now }
         ensures size { length result.now ≡ VLENB }
     {
-        &self.bytes
+        self.as_array()
     }
 }

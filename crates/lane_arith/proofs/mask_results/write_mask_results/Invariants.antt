@@ -3,4 +3,4 @@ use Rattle.rv_model.proofs.element_lemmas.Bits.{RebuiltTo}
 use Rattle.lane_arith.proofs.mask_results.write_mask_results.Given as goal
 
 abbrev pub invariant-loop-i : goal.invariant-loop-i
-invariant-loop-i g l = RebuiltTo (is_active l.body) (g.R.MaskResults.bit l.results) l.i l.initial.destination l.destination
+invariant-loop-i g l = RebuiltTo (is_active l.body) (g.R.MaskResults.bit l.results) l.i l.fn.destination l.destination

@@ -1,30 +1,14 @@
-use Rattle.std.proofs.Common.{ℕ, ◌*◌, ◌+◌, ◌<◌, ◌≤◌, arith, length, sym, ap, ◌∙◌}
-use Rattle.std.specs.Int.{bytes_low_first}
-use lib.Lanes.{put_chunk}
+use Rattle.std.proofs.Common.{◌≡◌, ◌∙◌, max, refl}
 use Rattle.rv_model.specs.elements.Elements.{Body}
 use Rattle.rv_model.specs.vector.Configuration.{width_bytes}
-use Rattle.rv_model.proofs.element_lemmas.Sets.{step_result, step_ones, step_off, body_ends, room_for}
+use Rattle.lane_arith.proofs.ChunkWrites.{then_rest}
 use Rattle.lane_arith.proofs.results.write_results.Goals as goal
-use Rattle.lane_arith.proofs.results.write_results.Goals.{then-lets, else-lets+then-fill_masked_off, else-lets+else-fill_masked_off}
-
-pub loop-i-preserved : goal.loop-i-preserved
-loop-i-preserved g c =
-    let k : ℕ = width_bytes g.L.Lane.width in
-    let body : Body = c.args.body.now in
-    let from : body.start ≤ c.loop-i.i = omega (arith, c.loop-i.auto.i, c.start-i.ensures) in
-    let to : c.loop-i.i < body.end = omega (arith, c.loop-i-test.true, c.end-i-end.ensures) in
-    let room : k * c.loop-i.i + k ≤ length c.args.destination.now = room_for _ _ _ _ to c.requires.room in
-    elim c.if-lets.branch [
-      | then-lets w ↦
-          step_result _ body _ _ _ _ _ _ _ from to c.loop-i.invariant room (sym c.lets.ensures ∙ w.if-lets.true)
-          (w.destination-is ∙ w.store.ensures ∙ ap (λ n. put_chunk (k * c.loop-i.i) c.loop-i.destination (bytes_low_first 0 k n)) w.result.ensures)
-      | else-lets+then-fill_masked_off w ↦
-          step_ones _ body _ _ _ _ _ _ _ from to c.loop-i.invariant room (sym c.lets.ensures ∙ w.if-lets.false) w.if-fill_masked_off.true
-          (w.destination-is ∙ w.store-then-fill_masked_off.ensures ∙ ap (λ n. put_chunk (k * c.loop-i.i) c.loop-i.destination (bytes_low_first 0 k n)) w.all_ones.ensures)
-      | else-lets+else-fill_masked_off w ↦
-          step_off _ body _ _ _ _ _ _ _ from to c.loop-i.invariant (sym c.lets.ensures ∙ w.if-lets.false) w.if-fill_masked_off.false
-          w.destination-is
-    ]
 
 pub returns : goal.returns
-returns g c = body_ends _ c.args.body.now _ _ _ _ _ (omega (arith, c.loop-i-test.false, c.end-i-end.ensures)) c.loop-i.invariant
+returns g c =
+    let body : Body = c.args.body.now in
+    let from : c.max-start.result ≡ max body.start c.write_chunks-left.result = rw c.start.ensures at c.max-start.ensures in
+    let rest : c.new-rest.result ≡ record { unmasked = body.unmasked; mask = body.mask; start = max body.start c.write_chunks-left.result; end = body.end } =
+    c.new-rest.ensures ∙ rw (c.is_unmasked.ensures, c.mask.ensures, from, c.end.ensures) refl in
+    then_rest (width_bytes g.L.Lane.width) body.unmasked body.mask body.start body.end c.args.fill_masked_off c.write_chunks-left.result _ _
+    c.new-rest.result c.args.destination.now c.write_chunks-left.new.destination c.write_each.new.destination rest c.write_chunks-left.ensures c.write_each.ensures

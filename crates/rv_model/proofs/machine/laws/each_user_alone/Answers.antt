@@ -13,5 +13,8 @@ returns-clause-end_state c = law.each_user_ends_alone
 pub returns-clause-others : goal.returns-clause-others
 returns-clause-others c = law.others_change_nothing
 
+pub returns-clause-equal : goal.returns-clause-equal
+returns-clause-equal c = law.equal_parts_answer_alike
+
 pub returns-clause-eight : goal.returns-clause-eight
 returns-clause-eight c = law.machines_stay_eight

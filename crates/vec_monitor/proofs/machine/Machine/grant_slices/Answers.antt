@@ -1,9 +1,10 @@
 use Rattle.std.proofs.Common.{◌≡◌, ℕ, suc, ◌+◌, ◌-◌, List, ◌++◌, length, length-set, ap, ◌∙◌, sym, arith, append-nil}
 use Rattle.rv_model.specs.machine.Grants.{granted}
 use Rattle.rv_model.specs.machine.PrivateMachine.{sliced}
-use Rattle.rv_model.specs.machine.Script.{World, Happening, part, with_part, after_events, told_by}
+use Rattle.rv_model.specs.machine.Script.{World, Happening, part, after_events, told_by}
 use Rattle.rv_model.specs.machine.Setup.{Setup}
 use Rattle.rv_model.specs.text.Lines.{text}
+use Rattle.vec_monitor.specs.MachineState.{after_slice}
 use Rattle.vec_monitor.specs.StopRoom.{stops_room}
 use Rattle.vec_monitor.proofs.GrantLaws.{count_granted_on, granted_to_nobody, none_granted, told_granted_on, world_granted_on}
 use Rattle.vec_monitor.proofs.machine.Machine.grant_slices.Goals as goal
@@ -43,7 +44,7 @@ loop-granted-preserved g c =
     let quantum : c.loop-granted.self-inside.quantum ≡ setup.quantum = ap (λ (s : Setup). s.quantum) c.loop-granted.invariant.same in
     let turns = sym c.take_turn.ensures.user ∙ c.in-Some.is in
     let turn = c.in-Some.ensures.turn in
-    let moved = c.slice.ensures.world ∙ ap (λ (q : ℕ). with_part user (sliced q (part user turned)).next turned) quantum in
+    let moved = c.slice.ensures.world ∙ ap (λ (q : ℕ). after_slice q user turned) quantum in
     record {
       same = c.loop-granted.invariant.same;
       eight =

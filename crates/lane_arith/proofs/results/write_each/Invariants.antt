@@ -4,7 +4,7 @@ use Rattle.rv_model.specs.elements.Elements.{is_changed, result_or_ones}
 use Rattle.rv_model.specs.elements.Writes.{Writes}
 use Rattle.rv_model.specs.vector.Configuration.{width_bytes}
 use Rattle.rv_model.specs.elements.Formulas.{ones}
-use Rattle.lane_arith.proofs.results.write_results.Given as goal
+use Rattle.lane_arith.proofs.results.write_each.Given as goal
 
 abbrev pub invariant-loop-i : goal.invariant-loop-i
 invariant-loop-i g l =

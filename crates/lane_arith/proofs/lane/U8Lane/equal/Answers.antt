@@ -1,0 +1,7 @@
+use Rattle.std.proofs.Common.{eqb}
+use Rattle.std.specs.Int.{w8}
+use Rattle.lane_arith.proofs.VectorLanes.{compared}
+use Rattle.lane_arith.proofs.lane.U8Lane.equal.Goals as goal
+
+pub returns : goal.returns
+returns c = compared w8 eqb c.args.a c.args.b 32 c.fits-a.0 c.fits-b.0

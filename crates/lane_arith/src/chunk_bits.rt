@@ -1,0 +1,76 @@
+//! The elements of a chunk of 32 bytes that count, as the bits of a word ("V" Vector Extension 1.0, sections
+//! 5.3 and 5.4).
+ghost use Rattle.std.specs.Prelude.{◌≡◌, ◌+◌, ◌/◌, ◌%◌, ◌^◌, ◌<◌, ◌≤◌, ◌==◌, ◌&&◌, ℕ, nat_le, not};
+ghost use Rattle.rv_model.specs.elements.Elements.{in_body, in_range, is_active, is_let, mask_bit};
+
+use crate::body::Body;
+use crate::lane::Lane;
+use rv_model::{GROUP_BYTES, VLENB};
+
+/// A bit for each of `count` indices from `first` on, set from `start` up to `end`.
+fn range_bits(start: usize, end: usize, first: usize, count: usize) -> u64
+    requires { count ≤ 32 }
+    ensures { (i : ℕ) → i < count → (result / 2 ^ i % 2 == 0) ≡ not (in_range start end (first + i)) }
+{
+    let low = start.saturating_sub(first).min(count);
+    let high = end.saturating_sub(first).min(count).max(low);
+    (1 << high) - (1 << low)
+}
+
+/// The bits of a mask for `count` elements from `first` on.
+pub(crate) fn mask_bits(mask: &[u8; VLENB], first: usize, count: usize) -> u64
+    requires word { first % 32 + count ≤ 32 }
+    requires inside { first + count ≤ GROUP_BYTES }
+    requires some { 0 < count }
+    ensures { (i : ℕ) → i < count → (result / 2 ^ i % 2 == 0) ≡ not (mask_bit mask.now (first + i)) }
+{
+    u64::from(u32::load(mask, first / 32)) >> (first % 32)
+}
+
+/// A bit for each of `count` elements from `first` on, set where the mask lets it through.
+fn let_bits(body: &Body<'_>, first: usize, count: usize) -> u64
+    requires word { first % 32 + count ≤ 32 }
+    requires inside { first + count ≤ GROUP_BYTES }
+    requires some { 0 < count }
+    ensures { (i : ℕ) → i < count → (result / 2 ^ i % 2 == 0) ≡ not (is_let body.now (first + i)) }
+{
+    if body.is_unmasked() {
+        u64::MAX
+    } else {
+        mask_bits(body.mask(), first, count)
+    }
+}
+
+/// Whether all of `count` elements from `first` on are active, with no look at the mask.
+fn is_whole(body: &Body<'_>, first: usize, count: usize) -> bool
+    requires { first + count ≤ GROUP_BYTES }
+    ensures { result ≡ (body.now.unmasked && (nat_le body.now.start first && nat_le (first + count) body.now.end)) }
+{
+    body.is_unmasked() && (body.start() <= first && first + count <= body.end())
+}
+
+/// A bit for each of `count` elements from `first` on, set where it is active.
+pub(crate) fn active_bits(body: &Body<'_>, first: usize, count: usize) -> u64
+    requires word { first % 32 + count ≤ 32 }
+    requires inside { first + count ≤ GROUP_BYTES }
+    requires some { 0 < count }
+    ensures { (i : ℕ) → i < count → (result / 2 ^ i % 2 == 0) ≡ not (is_active body.now (first + i)) }
+{
+    if is_whole(body, first, count) {
+        u64::MAX
+    } else {
+        range_bits(body.start(), body.end(), first, count) & let_bits(body, first, count)
+    }
+}
+
+/// The same, set in the body where `fill_masked_off`.
+pub(crate) fn filled_bits(body: &Body<'_>, fill_masked_off: bool, first: usize, count: usize) -> u64
+    requires { count ≤ 32 }
+    ensures { (i : ℕ) → i < count → (result / 2 ^ i % 2 == 0) ≡ not (fill_masked_off && in_body body.now (first + i)) }
+{
+    if fill_masked_off {
+        range_bits(body.start(), body.end(), first, count)
+    } else {
+        0
+    }
+}
