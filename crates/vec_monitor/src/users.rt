@@ -138,6 +138,7 @@ impl<A: Allocator> Users<A> {
     {
         match parse(line) {
             Ok(cmd) => {
+                // The user's number is 1 or more: `number` says so.
                 user.number();
                 let context = &mut self.contexts[user.index()];
                 carry_out(
@@ -167,6 +168,7 @@ impl<A: Allocator> Users<A> {
         ensures next { part user self.new ≡ (sliced quantum (part user self.old)).next }
         ensures configured { IsConfigured (part user self.old) }
     {
+        // The user's number is 1 or more: `number` says so.
         user.number();
         let context = &mut self.contexts[user.index()];
         grant(
