@@ -1,0 +1,141 @@
+//! A terminal that the program is run at: both of its outputs go to the page.
+ghost use Rattle.std.specs.Prelude.{IsErr};
+
+use anyhow::Result;
+use std::alloc::{Allocator, Global};
+use std::fmt::Display;
+use std::fs::{Metadata, OpenOptions};
+use std::io;
+use std::io::{BufRead, ErrorKind, Lines};
+use std::rt::Files;
+use vec_monitor::vecmon;
+
+/// How a run is written whose standard output takes nothing.
+const FULL: &str = " > /dev/full";
+
+/// What the program never asks for.
+fn unsupported<T>() -> io::Result<T>
+    ensures { IsErr result }
+{
+    Err(io::Error::from(ErrorKind::Unsupported))
+}
+
+/// A terminal over a runtime: its files, an empty standard input, and both outputs as one, unless standard output is full.
+#[derive(Drop)]
+struct Terminal<'r, R> {
+    rt: &'r R,
+    is_full: bool,
+}
+
+impl<R: Print> Print for Terminal<'_, R> {
+    fn print<D: Display + Drop>(&self, value: D) -> io::Result<()> {
+        if self.is_full {
+            return unsupported();
+        }
+        self.rt.print(value)
+    }
+
+    fn println<D: Display + Drop>(&self, value: D) -> io::Result<()> {
+        if self.is_full {
+            return unsupported();
+        }
+        self.rt.println(value)
+    }
+
+    fn write_all(&self, bytes: &[u8]) -> io::Result<()> {
+        if self.is_full {
+            return unsupported();
+        }
+        self.rt.write_all(bytes)
+    }
+}
+
+impl<R: Print> Eprint for Terminal<'_, R> {
+    fn eprint<D: Display + Drop>(&self, value: D) -> io::Result<()> {
+        self.rt.print(value)
+    }
+
+    fn eprintln<D: Display + Drop>(&self, value: D) -> io::Result<()> {
+        self.rt.println(value)
+    }
+}
+
+impl<R> Input for Terminal<'_, R> {
+    type Reader = &'static [u8];
+
+    fn read_line<B: Allocator + Clone>(&self, _line: &mut String<B>) -> io::Result<usize> {
+        Ok(0)
+    }
+
+    fn lines<B: Allocator>(&self, alloc: B) -> Lines<&'static [u8], B> {
+        b"".as_slice().lines(alloc)
+    }
+
+    fn reader(&self) -> &'static [u8] {
+        b"".as_slice()
+    }
+}
+
+impl<R: Files> Files for Terminal<'_, R> {
+    type File = R::File;
+
+    type Dir = R::Dir;
+
+    fn open_file(&self, how: &OpenOptions, path: &str) -> io::Result<R::File> {
+        self.rt.open_file(how, path)
+    }
+
+    fn open_dir(&self, _path: &str) -> io::Result<R::Dir> {
+        unsupported()
+    }
+
+    fn metadata(&self, _path: &str) -> io::Result<Metadata> {
+        unsupported()
+    }
+
+    fn symlink_metadata(&self, _path: &str) -> io::Result<Metadata> {
+        unsupported()
+    }
+
+    fn copy(&self, _from: &str, _to: &str) -> io::Result<u64> {
+        unsupported()
+    }
+
+    fn rename(&self, _from: &str, _to: &str) -> io::Result<()> {
+        unsupported()
+    }
+
+    fn remove_file(&self, _path: &str) -> io::Result<()> {
+        unsupported()
+    }
+
+    fn create_dir(&self, _path: &str) -> io::Result<()> {
+        unsupported()
+    }
+
+    fn remove_dir(&self, _path: &str) -> io::Result<()> {
+        unsupported()
+    }
+
+    fn remove_dir_all<B: Allocator>(&self, _alloc: B, _path: &str) -> io::Result<()> {
+        unsupported()
+    }
+}
+
+/// Prints a run of the program as a shell shows it, with its status.
+pub(crate) fn print_program<R: AllocGlobal + Files + Print>(rt: &R, words: &str) -> Result<()> {
+    let given = words.strip_suffix(FULL);
+    let terminal = Terminal {
+        rt,
+        is_full: given.is_some(),
+    };
+    let mut line: Vec<&str> = Vec::new(rt.alloc());
+    line.push("vecmon")?;
+    for word in given.unwrap_or(words).split_ascii_whitespace() {
+        line.push(word)?;
+    }
+    println!(rt; "$ vecmon{words}")?;
+    let status = vecmon(&terminal, rt.alloc(), line.as_slice());
+    println!(rt; "$ echo $?\n{status}")?;
+    Ok(())
+}
