@@ -1,6 +1,14 @@
 //! The program on one command line after another, each with the status that it ends with. The process ends with that of
 //! the last. Each line has a machine of its own, so scripts that show the counts of the vector unit stand here; `manual` is
-//! the examples of docs/COMMANDS.md.
+//! the examples of docs/COMMANDS.md. The expected output comes from elsewhere.
+//!
+//! `recorded/script` has each refusal, users side by side, traces, texts of instructions and what a line means as a command;
+//! then what programs put out; then images that are loaded or refused, and a pool that eight users fill; then values of
+//! scalar instructions, vector lengths and types, and the manual's rules of which registers may be named together, at small
+//! examples; and then single instructions as QEMU carries them out at VLEN 256, and small programs with answers worked out
+//! by hand; then programs that run in slices, with breakpoints, output and an instruction that is cut, side by side
+//! and each alone; and last vector instructions under the policy that makes agnostic elements ones, as QEMU carries them
+//! out.
 #![tactic(auto)]
 
 use std::io;
@@ -8,7 +16,7 @@ use std::process::ExitCode;
 use vec_monitor::vecmon;
 
 /// The words after the program's name.
-const LINES: [&[&str]; 32] = [
+const LINES: [&[&str]; 33] = [
     &["--help"],
     &[],
     &["empty"],
@@ -59,6 +67,25 @@ const LINES: [&[&str]; 32] = [
     &["agnostic_short_load"],
     &["agnostic_reductions"],
     &["manual"],
+    &[
+        "recorded/script",
+        "good=good",
+        "short=short",
+        "dyn=dyn",
+        "sizes=sizes",
+        "cut0=recorded/cut0",
+        "cut63=recorded/cut63",
+        "cut64=recorded/cut64",
+        "cut119=recorded/cut119",
+        "cut120=recorded/cut120",
+        "cut127=recorded/cut127",
+        "many=recorded/many",
+        "addr=recorded/addr",
+        "outside=recorded/outside",
+        "huge=recorded/huge",
+        "stack=recorded/stack",
+        "sortgcc=recorded/sortgcc",
+    ],
     &["empty", "a=missing"],
 ];
 

@@ -1,6 +1,6 @@
 //! Tests of the monitor and of users' memory: machines, devices and command lines. They stand beside them, since a crate
-//! with tests is proved twice. Scripts with the answers that the description of the monitor gives are stored runs:
-//! `recorded_runs` and `command_lines`.
+//! with tests is proved twice. Scripts with the answers that the description of the monitor gives are stored runs, in
+//! `command_lines`.
 #![tactic(auto)]
 
 #[cfg(test)]
