@@ -1,5 +1,5 @@
 -- The bytes of one page from an address on: one frame holds them, one after another
-use Rattle.std.proofs.Common.{◌≡◌, ℕ, ◌+◌, ◌-◌, ◌*◌, ◌/◌, ◌%◌, ◌<◌, ◌≤◌, true, false, List, length, get_or, take, drop, Option, Some, None, refl, sym, ◌∙◌, ap, ◌⊎◌, inl, inr, arith}
+use Rattle.std.proofs.Common.{◌≡◌, ℕ, ◌+◌, ◌-◌, ◌*◌, ◌/◌, ◌%◌, ◌<◌, ◌≤◌, Bool, true, false, List, length, get_or, take, drop, Option, Some, None, refl, sym, ◌∙◌, ap, ◌⊎◌, inl, inr, arith}
 use Rattle.std.proofs.Math.Seq.{take-add}
 use Rattle.std.specs.Option.{option_map_or}
 use Rattle.std.specs.FinMap.{get}
@@ -7,8 +7,8 @@ use Rattle.std.proofs.lemmas.Bool.{cases_eq, cases_lt}
 use Rattle.std.proofs.lemmas.List.{length-take-le, length-drop, get_or-take, get_or-drop}
 use Rattle.rv_model.specs.declared.memory.Access.{Access}
 use Rattle.rv_model.specs.declared.memory.Access.TheVariants.{Monitor}
-use Rattle.rv_model.specs.memory.Memory.{Memory, permits, byte_at, is_allowed, put_bytes}
-use Rattle.rv_model.proofs.memory_lemmas.Memory.{same_memory, with_byte, get-put_bytes_within, get-put_bytes_outside, put_bytes-append}
+use Rattle.rv_model.specs.memory.Memory.{Memory, permits, byte_at, bytes_at, can_access, is_allowed, put_bytes}
+use Rattle.rv_model.proofs.memory_lemmas.Memory.{same_memory, with_byte, get-put_bytes_within, get-put_bytes_outside, put_bytes-append, can_access_from, can_access_not, bytes_read}
 use Rattle.rv_model.specs.memory.Sizes.{page_size}
 use Rattle.user_mem.specs.declared.entry.Entry.{Entry}
 use Rattle.user_mem.specs.Table.{entry_at, memory_of, AreSeparate, AreApart}
@@ -47,10 +47,10 @@ allowed_more access frames es a done next n here fits ok before j l = elim (case
 ]
 
 -- a byte read in the page
-run_read : (frames : List ℕ) (es : List Entry) (x k i : ℕ) → x % page_size + k < page_size → is_allowed Monitor (memory_of frames es) x ≡ true
+run_read : (access : Access) (frames : List ℕ) (es : List Entry) (x k i : ℕ) → x % page_size + k < page_size → is_allowed access (memory_of frames es) x ≡ true
     → ((e : Entry) → entry_at es (x / page_size) ≡ Some e → i ≡ page_size * e.frame + x % page_size) → get_or frames (i + k) 0 ≡ byte_at (memory_of frames es) (x + k)
-run_read frames es x k i l ok place =
-    let some = entry_from_allowed Monitor frames es x ok in
+run_read access frames es x k i l ok place =
+    let some = entry_from_allowed access frames es x ok in
     let here = place some.0 some.1 in
     let index : i + k ≡ page_size * some.0.frame + (x + k) % page_size = omega arith in
     ap (λ (j : ℕ). get_or frames j 0) index ∙ sym (byte_at-memory_of frames es (x + k) some.0 (ap (entry_at es) (same_page x k l) ∙ some.1))
@@ -70,8 +70,31 @@ read_more frames es a done next start n part buffer after here fits ok place lon
       let within : j - done < n = omega arith in
       let address : next + (j - done) ≡ a + j = omega arith in
       ap (λ (i : ℕ). get_or after i 0) at ∙ pasted (j - done) (omega arith) ∙ same (j - done) within
-      ∙ run_read frames es next (j - done) start (omega arith) ok place ∙ ap (byte_at (memory_of frames es)) address
+      ∙ run_read Monitor frames es next (j - done) start (omega arith) ok place ∙ ap (byte_at (memory_of frames es)) address
 ]
+
+-- an access of bytes in one page is allowed where its first byte is
+pub allowed_in_page : (access : Access) (frames : List ℕ) (es : List Entry) (a n : ℕ) → 0 < n → a % page_size + n ≤ page_size → can_access access (memory_of frames es) a n ≡ is_allowed access (memory_of frames es) a
+allowed_in_page access frames es a n some fits = split (is_allowed access (memory_of frames es) a) refl
+  where
+    split : (b : Bool) → is_allowed access (memory_of frames es) a ≡ b → can_access access (memory_of frames es) a n ≡ is_allowed access (memory_of frames es) a
+    split true e = can_access_from access (memory_of frames es) a n (λ k l. is_allowed_in_page access frames es a k (omega arith) ∙ e) ∙ sym e
+    split false e = can_access_not access (memory_of frames es) a n 0 a some (omega arith) e ∙ sym e
+
+-- where the byte of an address lies, by the frame of its page
+pub place_in_frame : (es : List Entry) (a start frame : ℕ) → ((e : Entry) × ((entry_at es (a / page_size) ≡ Some e) × (e.frame ≡ frame))) → start ≡ page_size * frame + a % page_size
+    → (e : Entry) → entry_at es (a / page_size) ≡ Some e → start ≡ page_size * e.frame + a % page_size
+place_in_frame es a start frame found place e here =
+    let same : Some found.0 ≡ Some e = sym found.1.0 ∙ here in
+    let entry : found.0 ≡ e = cc in
+    place ∙ ap (λ (f : ℕ). page_size * f + a % page_size) (sym found.1.1 ∙ ap (λ (x : Entry). x.frame) entry)
+
+-- a part of a frame is the bytes of the memory
+pub page_read : (access : Access) (frames : List ℕ) (es : List Entry) (a start n : ℕ) (part : List ℕ) → a % page_size + n ≤ page_size → is_allowed access (memory_of frames es) a ≡ true
+    → ((e : Entry) → entry_at es (a / page_size) ≡ Some e → start ≡ page_size * e.frame + a % page_size)
+    → length part ≡ n → ((k : ℕ) → k < n → get_or part k 0 ≡ get_or frames (start + k) 0) → part ≡ bytes_at (memory_of frames es) a n
+page_read access frames es a start n part fits ok place long same =
+    bytes_read (memory_of frames es) a n part long (λ k l. same k l ∙ run_read access frames es a k start (omega arith) ok place)
 
 -- where a run lies, all that is another frame's or another offset's lies beside it
 beside : (f e start o a n : ℕ) → start ≡ page_size * e + a → a + n ≤ page_size → o < page_size → (f ≡ e → ((o < a) ⊎ (a + n ≤ o))) → ((page_size * f + o < start) ⊎ (start + n ≤ page_size * f + o))
@@ -122,22 +145,22 @@ module _ (frames after : List ℕ) (es : List Entry) (a start : ℕ) (bs : List 
     ]
   ])
 
-pub run_written : (frames after : List ℕ) (es : List Entry) (a start : ℕ) (bs : List ℕ) → AreSeparate es → is_allowed Monitor (memory_of frames es) a ≡ true
+pub run_written : (access : Access) (frames after : List ℕ) (es : List Entry) (a start : ℕ) (bs : List ℕ) → AreSeparate es → is_allowed access (memory_of frames es) a ≡ true
     → ((e : Entry) → entry_at es (a / page_size) ≡ Some e → start ≡ page_size * e.frame + a % page_size) → a % page_size + length bs ≤ page_size
     → ((k : ℕ) → k < length bs → get_or after (start + k) 0 ≡ get_or bs k 0)
     → ((i : ℕ) → ((i < start) ⊎ (start + length bs ≤ i)) → get_or after i 0 ≡ get_or frames i 0)
     → memory_of after es ≡ put_bytes (memory_of frames es) a bs
-run_written frames after es a start bs separate ok place fits pasted kept =
-    let some = entry_from_allowed Monitor frames es a ok in
+run_written access frames after es a start bs separate ok place fits pasted kept =
+    let some = entry_from_allowed access frames es a ok in
     run_written_at frames after es a start bs some.0 separate some.1 (place some.0 some.1) fits pasted kept
 
 -- and no table that shares no frame means anything else
-pub others_unwritten : (frames after : List ℕ) (es other : List Entry) (a start n : ℕ) → AreApart es other → is_allowed Monitor (memory_of frames es) a ≡ true
+pub others_unwritten : (access : Access) (frames after : List ℕ) (es other : List Entry) (a start n : ℕ) → AreApart es other → is_allowed access (memory_of frames es) a ≡ true
     → ((e : Entry) → entry_at es (a / page_size) ≡ Some e → start ≡ page_size * e.frame + a % page_size) → a % page_size + n ≤ page_size
     → ((i : ℕ) → ((i < start) ⊎ (start + n ≤ i)) → get_or after i 0 ≡ get_or frames i 0)
     → memory_of after other ≡ memory_of frames other
-others_unwritten frames after es other a start n apart ok place fits kept =
-    let some = entry_from_allowed Monitor frames es a ok in
+others_unwritten access frames after es other a start n apart ok place fits kept =
+    let some = entry_from_allowed access frames es a ok in
     memory_of_same frames after other (λ p f k q l.
     kept (page_size * f.frame + k) (beside f.frame some.0.frame start k (a % page_size) n (place some.0 some.1) fits l (λ same. absurd (apart (a / page_size) p some.0 f some.1 q (sym same)))))
 

@@ -1,6 +1,6 @@
 -- The memories that callers see, and the tables and frames below them
 use Rattle.std.proofs.Common.{Option, Some, None, Result, Ok, Err, ◌≡◌, ℕ, zero, suc, ◌-◌, ◌*◌, ◌<◌, ◌≤◌, List, [], cond, length, get_or, map, replicate, refl, sym, ◌∙◌, ap, subst, arith, add-zero}
-use Rattle.std.specs.Prelude.{nat_lt, ◌↔◌}
+use Rattle.std.specs.Prelude.{nat_lt, ◌↔◌, OnOk}
 use Rattle.std.specs.FinMap.{empty}
 use Rattle.std.proofs.lemmas.List.{length-map, get_or-map}
 use Rattle.rv_model.specs.declared.memory.MapRefusal.{MapRefusal}
@@ -55,6 +55,11 @@ fresh_pool tables free frames e size once len = subst (λ (ts : List (List Entry
 pub fresh_memories : (tables : List (List Entry)) (frames : List ℕ) → tables ≡ replicate user_count [] → memories_of frames tables ≡ no_memories
 unfolding memory_of
 fresh_memories tables frames e = ap (λ (ts : List (List Entry)). memories_of frames ts) e
+
+-- what follows from a fact of a call that succeeded
+pub if_done : {X E P Q : Type 0} (r : Result X E) → (P → Q) → OnOk r P → OnOk r Q
+if_done (Ok _) follows fact = follows fact
+if_done (Err _) follows fact = tt
 
 -- ---- why pages can't be mapped
 

@@ -1,5 +1,5 @@
 //! The bytes of all frames, each of which holds a page: reads and writes through a user's table.
-ghost use Rattle.std.specs.Prelude.{◌≡◌, ℕ, List, ◌≤◌, ◌<◌, ◌+◌, ◌*◌, ◌/◌, ◌%◌, ◌⊎◌, cond, nat_eq, true, Some, None, length, slice_index};
+ghost use Rattle.std.specs.Prelude.{◌≡◌, ℕ, List, ◌≤◌, ◌<◌, ◌+◌, ◌*◌, ◌/◌, ◌%◌, ◌^◌, ◌⊎◌, cond, nat_eq, true, Some, None, length, slice_index};
 ghost use Rattle.arrayvec.specs.ArrayVec.{array_vec_len};
 ghost use Rattle.rv_model.specs.memory.Memory.{is_allowed, can_access, bytes_at, put_bytes, with_pages};
 ghost use Rattle.rv_model.specs.memory.Sizes.{page_size, page_quota};
@@ -14,6 +14,15 @@ use rv_model::{Access, PAGE_SIZE, Permissions};
 /// The bytes of a frame.
 pub(crate) const FRAME_SIZE: usize = PAGE_SIZE as usize;
 
+/// Where the byte at an address lies, in the frame that holds its page.
+#[inline(always)]
+pub(crate) fn index_in(frame: usize, addr: u64) -> usize
+    requires { page_size * frame + page_size < 2 ^ 64 }
+    ensures { result ≡ page_size * frame + addr % page_size }
+{
+    FRAME_SIZE * frame + addr as usize % FRAME_SIZE
+}
+
 /// Where the byte of a mapped address lies.
 fn index_of(entries: &[Entry], frames: &[u8], addr: u64) -> usize
     requires sorted { IsSorted entries.now }
@@ -24,13 +33,14 @@ fn index_of(entries: &[Entry], frames: &[u8], addr: u64) -> usize
         → result ≡ page_size * e.frame + addr % page_size }
 {
     match locate(entries, addr / PAGE_SIZE) {
-        Some(entry) => FRAME_SIZE * entry.frame + addr as usize % FRAME_SIZE,
+        Some(entry) => index_in(entry.frame, addr),
         None => unreachable!(),
     }
 }
 
 /// Copies bytes over a part of others.
-fn paste(target: &mut [u8], at: usize, bytes: &[u8])
+#[inline(always)]
+pub(crate) fn paste(target: &mut [u8], at: usize, bytes: &[u8])
     requires { at + length bytes.now ≤ length target.old }
     ensures size { length target.new ≡ length target.old }
     ensures pasted { (k : ℕ) → k < length bytes.now

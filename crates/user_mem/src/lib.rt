@@ -2,10 +2,12 @@
 //! bytes with permissions, which no call for another user changes.
 #![tactic(auto)]
 
+mod access;
 mod entry;
 mod frames;
 mod free;
 mod isolation;
+mod places;
 mod pool;
 mod table;
 mod users;

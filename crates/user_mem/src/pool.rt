@@ -7,12 +7,14 @@ ghost use Rattle.rv_model.specs.machine.Users.{user_count};
 ghost use Rattle.user_mem.specs.Users.{no_memories, memory_of_user, with_memory};
 ghost use Rattle.user_mem.specs.Pool.{entries_of};
 
-use crate::frames::{FRAME_SIZE, copy_out};
+use crate::access::{is_allowed, read};
+use crate::frames::FRAME_SIZE;
 use crate::free::{FreeFrames, all_free};
-use crate::table::{is_access_allowed, refusal};
-use crate::users::{Tables, drop_pages, map_user, write_user};
+use crate::places::NO_GUESSES;
+use crate::table::refusal;
+use crate::users::{Places, Tables, drop_pages, map_user, note_user, write_user};
 use arrayvec::ArrayVec;
-use rv_model::{Access, FRAME_COUNT, Fault, MapRefusal, Permissions, User};
+use rv_model::{Access, FRAME_COUNT, Fault, MapRefusal, Permissions, USER_COUNT, User};
 use std::alloc::{AllocError, Allocator, Global};
 use std::marker::Model;
 
@@ -30,6 +32,7 @@ pub struct NoMemory;
 #[derive(Drop)]
 pub struct Pool<A: Allocator = Global> {
     tables: Tables,
+    places: Places,
     free: FreeFrames,
     frames: Vec<u8, A>,
 }
@@ -59,6 +62,7 @@ impl<A: Allocator> Pool<A> {
         };
         Ok(Pool {
             tables: no_tables(),
+            places: [NO_GUESSES; USER_COUNT],
             free: all_free(),
             frames,
         })
@@ -105,6 +109,7 @@ impl<A: Allocator> Pool<A> {
             count,
             permissions,
         );
+        note_user(&mut self.places, &self.tables, user.index());
         Ok(())
     }
 
@@ -131,13 +136,16 @@ impl<A: Allocator> Pool<A> {
 
     /// Checks that each of `len` bytes from an address on may be accessed so. A fault names the
     /// address of the first. An access of no bytes is allowed anywhere.
+    #[inline(always)]
     pub fn check(&self, user: User, addr: u64, len: usize, access: Access) -> Result<(), Fault>
         ensures users { length self.now ≡ user_count }
         ensures allowed { IsOk result
             ↔ (can_access access (memory_of_user self.now user) addr len ≡ true) }
         ensures fault { IfErr result (λ fault. fault.addr ≡ addr) }
     {
-        if is_access_allowed(self.tables[user.index()].as_slice(), access, addr, len) {
+        let user = user.index();
+        let entries = self.tables[user].as_slice();
+        if is_allowed(entries, &self.places[user], access, addr, len) {
             Ok(())
         } else {
             Err(Fault { addr })
@@ -146,6 +154,7 @@ impl<A: Allocator> Pool<A> {
 
     /// Reads a user's bytes from an address on, until the buffer is full. After a fault, as of
     /// `check`, the buffer is as it was.
+    #[inline(always)]
     pub fn read(
         &self,
         user: User,
@@ -161,17 +170,14 @@ impl<A: Allocator> Pool<A> {
         ensures err { OnErr result (buffer.new ≡ buffer.old) }
         ensures fault { IfErr result (λ fault. fault.addr ≡ addr) }
     {
-        self.check(user, addr, buffer.len(), access)?;
-        copy_out(
-            self.tables[user.index()].as_slice(),
-            self.frames.as_slice(),
-            addr,
-            buffer,
-        );
-        Ok(())
+        let user = user.index();
+        let entries = self.tables[user].as_slice();
+        let frames = self.frames.as_slice();
+        read(entries, &self.places[user], frames, access, addr, buffer)
     }
 
     /// Writes bytes of a user from an address on. After a fault, as of `check`, nothing has changed.
+    #[inline(always)]
     pub fn write(
         &mut self,
         user: User,
@@ -187,16 +193,16 @@ impl<A: Allocator> Pool<A> {
         ensures err { OnErr result (self.new ≡ self.old) }
         ensures fault { IfErr result (λ fault. fault.addr ≡ addr) }
     {
-        self.check(user, addr, bytes.len(), access)?;
         write_user(
             &self.tables,
+            &self.places,
             user.index(),
             &self.free,
             self.frames.as_mut_slice(),
+            access,
             addr,
             bytes,
-        );
-        Ok(())
+        )
     }
 }
 

@@ -15,7 +15,7 @@ use rv_model::{Access, MapRefusal, PAGE_QUOTA, PAGE_SIZE};
 pub(crate) type Table = ArrayVec<Entry, PAGE_QUOTA>;
 
 /// Where the entry of a page is, or where it would go.
-fn search(entries: &[Entry], page: u64) -> Result<usize, usize>
+pub(crate) fn search(entries: &[Entry], page: u64) -> Result<usize, usize>
     requires { IsSorted entries.now }
     ensures found { IfOk result (IsAt entries.now page) }
     ensures absent { IfErr result (IsGapFor entries.now page) }
@@ -46,6 +46,7 @@ fn is_byte_allowed(entries: &[Entry], access: Access, addr: u64) -> bool
 }
 
 /// How many of the next `left` bytes from an address on lie in its page.
+#[inline(always)]
 pub(crate) fn bytes_in_page(addr: u64, left: usize) -> usize
     ensures { result ≡ min left (page_size - addr % page_size) }
 {

@@ -1,18 +1,23 @@
 //! The tables of all users over the pool's frames.
-ghost use Rattle.std.specs.Prelude.{◌≡◌, ℕ, ◌<◌, ◌≤◌, ◌+◌, [], None, true, length, slice_set};
+ghost use Rattle.std.specs.Prelude.{◌≡◌, ℕ, ◌<◌, ◌≤◌, ◌+◌, ◌↔◌, [], None, true, IsOk, IfErr, OnOk, OnErr, length, slice_index_or, slice_set};
 ghost use Rattle.rv_model.specs.memory.Memory.{can_access, put_bytes, with_pages};
 ghost use Rattle.rv_model.specs.memory.Sizes.{page_quota, page_limit};
 ghost use Rattle.rv_model.specs.machine.Users.{user_count};
 ghost use Rattle.user_mem.specs.Table.{entry_at, memory_of};
+ghost use Rattle.user_mem.specs.Places.{AreNoted};
 ghost use Rattle.user_mem.specs.Pool.{IsPool, entries_of, table_at, memories_of};
 
-use crate::frames::copy_in;
+use crate::access;
 use crate::free::{FreeFrames, give_back, take_pages};
+use crate::places::{LikelyPlaces, note_places};
 use crate::table::Table;
-use rv_model::{Access, Permissions, USER_COUNT};
+use rv_model::{Access, Fault, Permissions, USER_COUNT};
 
 /// The tables of all users, user 1 first.
 pub(crate) type Tables = [Table; USER_COUNT];
+
+/// The likely places of the pages of all users, user 1 first.
+pub(crate) type Places = [LikelyPlaces; USER_COUNT];
 
 /// Maps pages of zeros for the user at a place.
 pub(crate) fn map_user(
@@ -40,6 +45,15 @@ pub(crate) fn map_user(
     take_pages(&mut tables[user], free, frames, page, count, permissions);
 }
 
+/// Makes the places of the pages of the user at a place the likely ones.
+pub(crate) fn note_user(places: &mut Places, tables: &Tables, user: usize)
+    requires { user < user_count }
+    ensures { AreNoted (slice_index_or places.new user []) (table_at (entries_of tables.now) user)
+        (length (table_at (entries_of tables.now) user)) }
+{
+    note_places(&mut places[user], &tables[user]);
+}
+
 /// Unmaps all pages of the user at a place.
 pub(crate) fn drop_pages(tables: &mut Tables, user: usize, free: &mut FreeFrames, frames: &[u8])
     requires user { user < user_count }
@@ -51,24 +65,36 @@ pub(crate) fn drop_pages(tables: &mut Tables, user: usize, free: &mut FreeFrames
 }
 
 /// Writes bytes of the user at a place.
+#[inline(always)]
 pub(crate) fn write_user(
     tables: &Tables,
+    places: &Places,
     user: usize,
     free: &FreeFrames,
     frames: &mut [u8],
+    access: Access,
     addr: u64,
     bytes: &[u8],
-)
+) -> Result<(), Fault>
     requires user { user < user_count }
     requires pool { IsPool (entries_of tables.now) free.now.items frames.old }
-    requires mapped { can_access Access.Monitor
+    ensures allowed { IsOk result ↔ (can_access access
         (memory_of frames.old (table_at (entries_of tables.now) user)) addr (length bytes.now)
-        ≡ true }
+        ≡ true) }
     ensures pool { IsPool (entries_of tables.now) free.now.items frames.new }
-    ensures written { memories_of frames.new (entries_of tables.now)
+    ensures ok { OnOk result (memories_of frames.new (entries_of tables.now)
         ≡ slice_set (memories_of frames.old (entries_of tables.now)) user
-        (put_bytes (memory_of frames.old (table_at (entries_of tables.now) user)) addr bytes.now) }
+        (put_bytes (memory_of frames.old (table_at (entries_of tables.now) user)) addr bytes.now)) }
+    ensures err { OnErr result (frames.new ≡ frames.old) }
+    ensures fault { IfErr result (λ fault. fault.addr ≡ addr) }
     ensures size { length frames.new ≡ length frames.old }
 {
-    copy_in(tables[user].as_slice(), frames, addr, bytes);
+    access::write(
+        tables[user].as_slice(),
+        &places[user],
+        frames,
+        access,
+        addr,
+        bytes,
+    )
 }

@@ -46,10 +46,10 @@ loop-done-preserved c =
       within = room;
       size = c.paste.ensures.size ∙ c.loop-done.invariant.size;
       written =
-          run_written c.loop-done.frames c.paste.new.target c.args.entries.now next start part c.requires.separate ok c.index_of-start.ensures.place (omega arith) c.paste.ensures.pasted c.paste.ensures.kept
+          run_written Monitor c.loop-done.frames c.paste.new.target c.args.entries.now next start part c.requires.separate ok c.index_of-start.ensures.place (omega arith) c.paste.ensures.pasted c.paste.ensures.kept
           ∙ ap (λ (m : Memory). put_bytes m next part) c.loop-done.invariant.written
           ∙ sym (put_bytes_run (memory_of c.args.frames.now c.args.entries.now) c.args.addr done len c.args.bytes.now part c.loop-done.invariant.within (part_is c.args.bytes.now done len));
       others = λ other apart.
-          others_unwritten c.loop-done.frames c.paste.new.target c.args.entries.now other next start (length part) apart ok c.index_of-start.ensures.place (omega arith) c.paste.ensures.kept
+          others_unwritten Monitor c.loop-done.frames c.paste.new.target c.args.entries.now other next start (length part) apart ok c.index_of-start.ensures.place (omega arith) c.paste.ensures.kept
           ∙ c.loop-done.invariant.others other apart;
     }

@@ -5,10 +5,11 @@ use Rattle.user_mem.specs.declared.entry.Entry.{Entry}
 use Rattle.user_mem.specs.Table.{memory_of}
 use Rattle.user_mem.specs.Pool.{table_at, memories_of}
 use Rattle.user_mem.proofs.PoolLaws.{table_fits, table_is_separate, tables_are_apart, IsPool-written, memories_of-set}
+use Rattle.user_mem.proofs.ViewLaws.{if_done}
 use Rattle.user_mem.proofs.users.write_user.Goals as goal
 
-pub copy_in-requires : goal.copy_in-requires
-copy_in-requires c =
+pub write-requires : goal.write-requires
+write-requires c =
     let tables = map (λ t. t.items) c.args.tables.now in
     rw (c.as_slice.ensures.value, ← get_or-map (λ t. t.items) c.args.tables.now c.args.user c.index-tables-user.result [] (omega arith))
     (record {
@@ -16,23 +17,23 @@ copy_in-requires c =
       below = c.requires.pool.below c.args.user;
       fit = table_fits (map (λ t. t.items) c.args.tables.now) c.args.free.now.items c.args.frames.now c.args.user c.requires.pool c.requires.user;
       separate = table_is_separate (map (λ t. t.items) c.args.tables.now) c.args.free.now.items c.args.frames.now c.args.user c.requires.pool c.requires.user;
-      mapped = c.requires.mapped;
     })
 
 pub returns-clause-pool : goal.returns-clause-pool
-returns-clause-pool c = IsPool-written (map (λ t. t.items) c.args.tables.now) c.args.free.now.items c.args.frames.now c.copy_in.new.frames c.requires.pool c.copy_in.ensures.size
+returns-clause-pool c = IsPool-written (map (λ t. t.items) c.args.tables.now) c.args.free.now.items c.args.frames.now c.write.new.frames c.requires.pool c.write.ensures.size
 
-pub returns-clause-written : goal.returns-clause-written
-returns-clause-written c =
+pub returns-clause-ok : goal.returns-clause-ok
+returns-clause-ok c =
     let item = get_or-map (λ t. t.items) c.args.tables.now c.args.user c.index-tables-user.result [] (omega arith) in
     let table = sym (c.as_slice.ensures.value ∙ sym item) in
     let users = c.requires.pool.users in
     let unset = set-get_or (map (λ t. t.items) c.args.tables.now) c.args.user [] in
+    if_done c.write.result (λ done.
     let written =
-    ap (λ (t : List Entry). memory_of c.copy_in.new.frames t) table ∙ c.copy_in.ensures.written
+    ap (λ (t : List Entry). memory_of c.write.new.frames t) table ∙ done
     ∙ ap (λ (t : List Entry). put_bytes (memory_of c.args.frames.now t) c.args.addr c.args.bytes.now) (sym table) in
-    ap (λ (ts : List (List Entry)). memories_of c.copy_in.new.frames ts) (sym unset)
-    ∙ memories_of-set c.args.frames.now c.copy_in.new.frames (map (λ t. t.items) c.args.tables.now) c.args.user (table_at (map (λ t. t.items) c.args.tables.now) c.args.user) _ (omega (arith, users))
-    (λ v within other. c.copy_in.ensures.others (table_at (map (λ t. t.items) c.args.tables.now) v)
+    ap (λ (ts : List (List Entry)). memories_of c.write.new.frames ts) (sym unset)
+    ∙ memories_of-set c.args.frames.now c.write.new.frames (map (λ t. t.items) c.args.tables.now) c.args.user (table_at (map (λ t. t.items) c.args.tables.now) c.args.user) _ (omega (arith, users))
+    (λ v within other. c.write.ensures.others (table_at (map (λ t. t.items) c.args.tables.now) v)
     (rw (← table) (tables_are_apart (map (λ t. t.items) c.args.tables.now) c.args.free.now.items c.args.frames.now c.args.user v c.requires.pool c.requires.user (omega (arith, users)) (λ q. other (sym q)))))
-    written
+    written) c.write.ensures.ok
