@@ -20,6 +20,7 @@ use rv_model::{Access, Cause, Fault, GROUP_BYTES, OUTPUT_SIZE, Policy, Scalar, S
 use vector_memory::UserBytes;
 
 /// The word at an address.
+#[inline(always)]
 fn fetch<M: UserBytes>(memory: &M, pc: u64) -> Result<u32, Fault>
     ensures { result ≡ (if can_access Fetch (M.memory memory.now) pc 4
         then Ok (word_at (M.memory memory.now) pc)
@@ -32,6 +33,7 @@ fn fetch<M: UserBytes>(memory: &M, pc: u64) -> Result<u32, Fault>
 
 /// Carries out the instruction that a word is within `limit` ticks; one that is none is illegal.
 #[tactic(auto, unfolding(rv_model::specs::step::Step::executed, rv_model::specs::step::Step::dirties))]
+#[inline(always)]
 fn execute<M: UserBytes, V: Vectors>(
     word: u32,
     scalar: &mut Scalar,
@@ -60,15 +62,16 @@ fn execute<M: UserBytes, V: Vectors>(
     ensures configuration { result.0 ≡ StepEnd.Cut
         → IsConfiguration (V.lent vectors.old).state.conf }
 {
-    let Some(instr) = decode(word) else {
+    let decoded = decode(word);
+    let Some(instr) = &decoded else {
         return (illegal(word, scalar), 1);
     };
-    if is_touching(&instr) {
+    if is_touching(instr) {
         let seat = vectors.seat();
         seat.state.conf.length_law();
-        execute_touching(&instr, word, scalar, memory, seat, limit, policy)
+        execute_touching(instr, word, scalar, memory, seat, limit, policy)
     } else {
-        (execute_scalar(&instr, word, scalar, memory, output), 1)
+        (execute_scalar(instr, word, scalar, memory, output), 1)
     }
 }
 
@@ -76,6 +79,7 @@ fn execute<M: UserBytes, V: Vectors>(
 /// ticks it took. The vector state is lent once where the instruction touches it, and else not at all; it
 /// is marked as dirty where the instruction changed it.
 #[tactic(auto, unfolding(rv_model::specs::step::Step::step))]
+#[inline(always)]
 pub fn step<M: UserBytes, V: Vectors>(
     view: &mut View<'_, '_, '_, '_, M, V>,
     limit: usize,

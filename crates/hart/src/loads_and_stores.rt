@@ -22,6 +22,7 @@ pub(crate) fn access_address(base: u64, immediate: u64) -> u64
 }
 
 /// The byte at an address.
+#[inline(always)]
 fn read_8<M: UserBytes>(memory: &M, addr: u64) -> Result<u8, Fault>
     ensures { result ≡ (if can_access Load (M.memory memory.now) addr 1
         then Ok (number_at w8 (M.memory memory.now) addr) else Err (record { addr = addr })) }
@@ -32,6 +33,7 @@ fn read_8<M: UserBytes>(memory: &M, addr: u64) -> Result<u8, Fault>
 }
 
 /// The number of two bytes at an address.
+#[inline(always)]
 fn read_16<M: UserBytes>(memory: &M, addr: u64) -> Result<u16, Fault>
     ensures { result ≡ (if can_access Load (M.memory memory.now) addr 2
         then Ok (number_at w16 (M.memory memory.now) addr) else Err (record { addr = addr })) }
@@ -42,6 +44,7 @@ fn read_16<M: UserBytes>(memory: &M, addr: u64) -> Result<u16, Fault>
 }
 
 /// The number of four bytes at an address.
+#[inline(always)]
 fn read_32<M: UserBytes>(memory: &M, addr: u64) -> Result<u32, Fault>
     ensures { result ≡ (if can_access Load (M.memory memory.now) addr 4
         then Ok (number_at w32 (M.memory memory.now) addr) else Err (record { addr = addr })) }
@@ -52,6 +55,7 @@ fn read_32<M: UserBytes>(memory: &M, addr: u64) -> Result<u32, Fault>
 }
 
 /// The number of eight bytes at an address.
+#[inline(always)]
 fn read_64<M: UserBytes>(memory: &M, addr: u64) -> Result<u64, Fault>
     ensures { result ≡ (if can_access Load (M.memory memory.now) addr 8
         then Ok (number_at w64 (M.memory memory.now) addr) else Err (record { addr = addr })) }
@@ -62,6 +66,7 @@ fn read_64<M: UserBytes>(memory: &M, addr: u64) -> Result<u64, Fault>
 }
 
 /// The value that a load gives.
+#[inline(always)]
 fn loaded<M: UserBytes>(op: LoadOp, addr: u64, memory: &M) -> Result<u64, Fault>
     ensures { result ≡ (if can_access Load (M.memory memory.now) addr (byte_len (load_width op))
         then Ok (extended op (number_at (load_width op) (M.memory memory.now) addr))
@@ -79,6 +84,7 @@ fn loaded<M: UserBytes>(op: LoadOp, addr: u64, memory: &M) -> Result<u64, Fault>
 }
 
 /// A load, which is refused where one of its bytes may not be read.
+#[inline(always)]
 pub(crate) fn load<M: UserBytes>(
     op: LoadOp,
     rd: Reg,
@@ -109,6 +115,7 @@ fn store_size(op: StoreOp) -> usize
 }
 
 /// A store of the lowest bytes of a value, which is refused where one of its bytes may not be written.
+#[inline(always)]
 pub(crate) fn store<M: UserBytes>(
     op: StoreOp,
     addr: u64,

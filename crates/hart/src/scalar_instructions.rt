@@ -19,6 +19,7 @@ use vector_memory::UserBytes;
 
 /// Carries out an instruction that doesn't touch the vector unit.
 #[tactic(auto, unfolding(rv_model::specs::step::Step::executed, rv_model::specs::step::Step::dirties))]
+#[inline(always)]
 pub(crate) fn execute_scalar<M: UserBytes>(
     instr: &Instr,
     word: u32,

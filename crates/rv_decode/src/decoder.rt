@@ -19,6 +19,7 @@ use rv_model::instructions::operations::{Form, Major};
 
 /// OP-IMM.
 #[tactic(auto, using(rv_model::proofs::instruction_lemmas::Scans::scan_append))]
+#[inline(always)]
 fn immediates(word: u32) -> Option<Instr>
     ensures { result ≡ scan (rows RegisterImmediates ++ rows ShiftImmediates) word }
 {
@@ -30,6 +31,7 @@ fn immediates(word: u32) -> Option<Instr>
 
 /// OP-IMM-32.
 #[tactic(auto, using(rv_model::proofs::instruction_lemmas::Scans::scan_append))]
+#[inline(always)]
 fn word_immediates(word: u32) -> Option<Instr>
     ensures { result ≡ scan (rows RegisterImmediates ++ rows ShiftImmediateWords) word }
 {
@@ -41,6 +43,7 @@ fn word_immediates(word: u32) -> Option<Instr>
 
 /// SYSTEM.
 #[tactic(auto, using(rv_model::proofs::instruction_lemmas::Scans::scan_append))]
+#[inline(always)]
 fn system_or_csr(word: u32) -> Option<Instr>
     ensures { result ≡ scan (rows Systems ++ rows Csrs ++ rows CsrImmediates) word }
 {
@@ -55,6 +58,7 @@ fn system_or_csr(word: u32) -> Option<Instr>
 
 /// LOAD-FP and STORE-FP.
 #[tactic(auto, using(rv_model::proofs::instruction_lemmas::Scans::scan_append))]
+#[inline(always)]
 fn memory(word: u32) -> Option<Instr>
     ensures { result
         ≡ scan
@@ -174,6 +178,7 @@ fn set_vector_length(word: u32) -> Option<Instr>
 
 /// OP-V, by funct3.
 #[tactic(auto, using(crate::proofs::Scan::place_steps))]
+#[inline(always)]
 fn vector(word: u32) -> Option<Instr>
     requires { bit_and word 0x7f ≡ 0x57 }
     ensures { result ≡ scan table word }
@@ -191,6 +196,7 @@ fn vector(word: u32) -> Option<Instr>
 
 /// The instruction of a word, by its opcode.
 #[tactic(auto, using(crate::proofs::Scan::opcode_steps))]
+#[inline(always)]
 fn by_opcode(word: u32) -> Option<Instr>
     ensures { result ≡ scan table word }
 {
@@ -216,6 +222,7 @@ fn by_opcode(word: u32) -> Option<Instr>
 }
 
 /// The instruction of the one row of the table that the word matches, if there is one.
+#[inline(always)]
 pub fn decode(word: u32) -> Option<Instr>
     ensures row { result ≡ scan table word }
     ensures word { IfSome result (λ i. word_of i ≡ word) }

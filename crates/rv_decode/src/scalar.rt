@@ -14,6 +14,7 @@ use rv_model::{Field, Instr};
 
 /// LUI and AUIPC.
 #[tactic(auto, using(crate::proofs::Scan::scan_upper))]
+#[inline(always)]
 pub(crate) fn upper(word: u32) -> Option<Instr>
     ensures { result ≡ scan (rows Uppers) word }
 {
@@ -26,6 +27,7 @@ pub(crate) fn upper(word: u32) -> Option<Instr>
 }
 
 /// JAL.
+#[inline(always)]
 pub(crate) fn jump(word: u32) -> Option<Instr>
     ensures { result ≡ scan (rows Jumps) word }
 {
@@ -40,6 +42,7 @@ pub(crate) fn jump(word: u32) -> Option<Instr>
 }
 
 /// JALR.
+#[inline(always)]
 pub(crate) fn jump_register(word: u32) -> Option<Instr>
     ensures { result ≡ scan (rows JumpRegisters) word }
 {
@@ -56,6 +59,7 @@ pub(crate) fn jump_register(word: u32) -> Option<Instr>
 
 /// BRANCH.
 #[tactic(auto, using(crate::proofs::Scan::scan_branch))]
+#[inline(always)]
 pub(crate) fn branch(word: u32) -> Option<Instr>
     ensures { result ≡ scan (rows Branches) word }
 {
@@ -70,6 +74,7 @@ pub(crate) fn branch(word: u32) -> Option<Instr>
 
 /// LOAD.
 #[tactic(auto, using(crate::proofs::Scan::scan_load))]
+#[inline(always)]
 pub(crate) fn load(word: u32) -> Option<Instr>
     ensures { result ≡ scan (rows Loads) word }
 {
@@ -84,6 +89,7 @@ pub(crate) fn load(word: u32) -> Option<Instr>
 
 /// STORE.
 #[tactic(auto, using(crate::proofs::Scan::scan_store))]
+#[inline(always)]
 pub(crate) fn store(word: u32) -> Option<Instr>
     ensures { result ≡ scan (rows Stores) word }
 {
@@ -98,6 +104,7 @@ pub(crate) fn store(word: u32) -> Option<Instr>
 
 /// OP-IMM and OP-IMM-32 with an immediate of 12 bits.
 #[tactic(auto, using(crate::proofs::Scan::scan_register_immediate))]
+#[inline(always)]
 pub(crate) fn register_immediate(word: u32) -> Option<Instr>
     ensures { result ≡ scan (rows RegisterImmediates) word }
 {
@@ -112,6 +119,7 @@ pub(crate) fn register_immediate(word: u32) -> Option<Instr>
 
 /// OP-IMM with a shift amount.
 #[tactic(auto, using(crate::proofs::Scan::scan_shift_immediate))]
+#[inline(always)]
 pub(crate) fn shift_immediate(word: u32) -> Option<Instr>
     ensures { result ≡ scan (rows ShiftImmediates) word }
 {
@@ -126,6 +134,7 @@ pub(crate) fn shift_immediate(word: u32) -> Option<Instr>
 
 /// OP-IMM-32 with a shift amount.
 #[tactic(auto, using(crate::proofs::Scan::scan_shift_immediate_word))]
+#[inline(always)]
 pub(crate) fn shift_immediate_word(word: u32) -> Option<Instr>
     ensures { result ≡ scan (rows ShiftImmediateWords) word }
 {
@@ -140,6 +149,7 @@ pub(crate) fn shift_immediate_word(word: u32) -> Option<Instr>
 
 /// OP and OP-32.
 #[tactic(auto, using(crate::proofs::Scan::scan_register_register))]
+#[inline(always)]
 pub(crate) fn register_register(word: u32) -> Option<Instr>
     ensures { result ≡ scan (rows RegisterRegisters) word }
 {
@@ -153,6 +163,7 @@ pub(crate) fn register_register(word: u32) -> Option<Instr>
 }
 
 /// FENCE of MISC-MEM.
+#[inline(always)]
 pub(crate) fn fence(word: u32) -> Option<Instr>
     ensures { result ≡ scan (rows Fences) word }
 {

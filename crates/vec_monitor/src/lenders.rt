@@ -32,15 +32,18 @@ impl<A: Allocator> UserBytes for UserMemory<'_, A> {
     ghost with_memory_twice = { λ m one two.
         ap (λ p. record m { pool = record m.pool { now = p } }) (later_memory m.pool.now m.user one two) };
 
+    #[inline(always)]
     fn check(&self, addr: u64, len: usize, access: Access) -> Result<(), Fault> {
         self.pool.check(self.user, addr, len, access)
     }
 
+    #[inline(always)]
     fn read(&self, addr: u64, access: Access, bytes: &mut [u8]) -> Result<(), Fault> {
         self.pool.read(self.user, addr, access, bytes)
     }
 
     #[tactic(auto, using(crate::specs::Lenders::memory_written))]
+    #[inline(always)]
     fn write(&mut self, addr: u64, access: Access, bytes: &[u8]) -> Result<(), Fault> {
         self.pool.write(self.user, addr, access, bytes)
     }

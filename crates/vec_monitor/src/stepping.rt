@@ -43,6 +43,7 @@ fn stop_of(end: StepEnd) -> Option<Stop>
 
 /// One instruction over the registers, the bytes, the vector state and the output buffer that it
 /// works on, within `limit` ticks. Answers how it ended, and the ticks that it took.
+#[inline(always)]
 fn step_parts<M: UserBytes, V: Vectors>(
     scalar: &mut Scalar,
     memory: &mut M,
@@ -79,6 +80,7 @@ fn step_parts<M: UserBytes, V: Vectors>(
 }
 
 /// The same over the vector state of a user in the vector unit of all users.
+#[inline(always)]
 fn step_lent<M: UserBytes>(
     scalar: &mut Scalar,
     memory: &mut M,
@@ -108,6 +110,7 @@ fn step_lent<M: UserBytes>(
 
 /// One instruction of a user, within `limit` ticks. Answers how it ended, and the ticks that it
 /// took.
+#[inline(always)]
 fn step_once<A: Allocator>(
     context: &mut Context,
     unit: &mut Unit,
@@ -142,6 +145,7 @@ fn step_once<A: Allocator>(
 /// Tries one instruction of a user, within `limit` ticks. Answers why the program stops, if it
 /// does, and the ticks that it took. An instruction that ran to its end goes into the trace; after
 /// one that was cut, the program goes on as if it had just been told to run.
+#[inline(always)]
 fn try_instruction<A: Allocator>(
     context: &mut Context,
     trace: &mut Trace<A>,
