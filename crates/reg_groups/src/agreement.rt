@@ -47,7 +47,7 @@ fn end(operand: &Operand) -> u64
 
 /// Whether the multiplier is one of 1/8 to 8, for the fields together at most 8, and the registers are
 /// aligned and there.
-fn is_group(operand: &Operand) -> bool
+pub(crate) fn is_group(operand: &Operand) -> bool
     ensures { result ≡ is_group operand.now }
 {
     is_width(operand.content)
@@ -82,7 +82,7 @@ fn may_overlap(destination: &Operand, source: &Operand) -> bool
 
 /// Whether what an instruction does with the registers of the first operand agrees with what it does with
 /// those of the second.
-fn allows(destination: &Operand, other: &Operand) -> bool
+pub(crate) fn allows(destination: &Operand, other: &Operand) -> bool
     ensures { result ≡ allows destination.now other.now }
 {
     match (destination.role, other.role) {

@@ -1,12 +1,12 @@
 //! Which vector instructions are legal.
-ghost use Rattle.std.specs.Prelude.{◌≡◌, ◌↔◌, ◌+◌, ◌≤◌, IsTrue, Some, None, is_none, true};
+ghost use Rattle.std.specs.Prelude.{[], ◌∷◌, ◌≡◌, ◌↔◌, ◌+◌, ◌≤◌, IsTrue, Some, None, is_none, true};
 ghost use Rattle.rv_model.specs.instructions.Accesses.{is_typed_access};
-ghost use Rattle.rv_model.specs.legality.OperandShapes.{extension_divisor};
+ghost use Rattle.rv_model.specs.legality.OperandShapes.{extension_divisor, v0};
 ghost use Rattle.rv_model.specs.legality.Legality.{IsLegal, access_operands, compress_operands, data_role, extension_operands, has_legal, has_wide_product, indexed_operands, indexed_role, is_below_64, is_fractional_product, is_legal, is_narrow, is_narrow_only, is_reduction, mask_logic_operands, mask_result, move_operands, operands, register_count, starts_at_zero, unit_role, whole_move_operands};
 ghost use Rattle.rv_model.specs.legality.RegisterOperands.{are_legal};
 ghost use Rattle.rv_model.specs.vector.Configuration.{element_width, sew_bits};
 
-use crate::agreement::are_legal;
+use crate::agreement::{allows, are_legal, is_group};
 use crate::operands::{group, mask, segment, v0, whole};
 use crate::shapes::{destination, is_legal_shape, second_source, shape_of};
 use rv_model::instructions::operations::{
@@ -100,6 +100,14 @@ fn mask_result(op: MaskUnaryOp, vd: VReg, vtype: VType) -> Operand
     }
 }
 
+/// Whether one operand beside the mask is legal.
+#[tactic(auto, using(crate::proofs::Sources::masked_legal))]
+fn is_legal_with_mask(operand: &Operand, unmasked: bool) -> bool
+    ensures { result ≡ are_legal (operand.now ∷ v0 unmasked ∷ []) }
+{
+    is_group(operand) && allows(operand, &v0(unmasked))
+}
+
 /// Whether the operands of an extension are legal.
 fn is_legal_extension(op: ExtendOp, vd: VReg, vs2: VReg, unmasked: bool, vtype: VType) -> bool
     ensures { result ≡ are_legal (extension_operands op vd vs2 unmasked vtype) }
@@ -168,10 +176,8 @@ fn is_legal_access(
 ) -> bool
     ensures { result ≡ are_legal (access_operands role width nf vd unmasked vtype) }
 {
-    are_legal(&[
-        segment(role, fields(nf), vd, element_bits(width), vtype),
-        v0(unmasked),
-    ])
+    let data = segment(role, fields(nf), vd, element_bits(width), vtype);
+    is_legal_with_mask(&data, unmasked)
 }
 
 /// Whether the operands of an indexed access are legal.
@@ -313,12 +319,14 @@ fn has_legal_operands(instr: &Instr, vtype: VType) -> bool
         Instr::WholeMove { count, vd, vs2 } => is_legal_whole_move(count, vd, vs2, vtype),
         Instr::MaskLogic { vd, vs1, vs2, .. } => is_legal_mask_logic(vd, vs1, vs2),
         Instr::Compress { vd, vs1, vs2 } => is_legal_compression(vd, vs1, vs2, vtype),
-        Instr::MaskToScalar { vs2, vm, .. } => are_legal(&[mask(Role::Read, vs2), v0(vm)]),
+        Instr::MaskToScalar { vs2, vm, .. } => { is_legal_with_mask(&mask(Role::Read, vs2), vm) },
         Instr::VectorExtend { op, vd, vs2, vm } => is_legal_extension(op, vd, vs2, vm, vtype),
         Instr::MaskUnary { op, vd, vs2, vm } => {
             are_legal(&[mask_result(op, vd, vtype), mask(Role::Read, vs2), v0(vm)])
         }
-        Instr::ElementIndex { vd, vm } => are_legal(&[group(Role::Write, vd, sew, vtype), v0(vm)]),
+        Instr::ElementIndex { vd, vm } => {
+            is_legal_with_mask(&group(Role::Write, vd, sew, vtype), vm)
+        }
         Instr::MoveToScalar { vs2, .. } => are_legal(&[whole(Role::Read, 1, vs2, sew)]),
         Instr::MoveToVector { vd, .. } => are_legal(&[whole(Role::Write, 1, vd, sew)]),
         Instr::VectorUnit { .. }

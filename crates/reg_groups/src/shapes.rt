@@ -1,13 +1,14 @@
 //! The register operands of a vector operation, by its shape ("V" Vector Extension 1.0, sections 5.2,
 //! 10.2, 11, 12, 14 and 16).
 ghost use Rattle.std.specs.Prelude.{◌≡◌};
-ghost use Rattle.rv_model.specs.legality.OperandShapes.{destination, first_source, permute_shape, second_source, shape_of, shape_operands, vector_source};
-ghost use Rattle.rv_model.specs.legality.RegisterOperands.{are_legal};
+ghost use Rattle.rv_model.specs.legality.OperandShapes.{destination, first_source, group, permute_shape, second_source, shape_of, shape_operands, vector_source};
+ghost use Rattle.rv_model.specs.legality.RegisterOperands.{are_legal, is_group};
+ghost use Rattle.rv_model.specs.vector.Configuration.{sew_bits};
 
-use crate::agreement::are_legal;
+use crate::agreement::{allows, is_group};
 use crate::operands::{group, mask, v0, whole};
 use rv_model::instructions::operations::{PermuteOp, VectorOp};
-use rv_model::{Operand, Role, Shape, Source, VReg, VType};
+use rv_model::{Lmul, Operand, Role, Shape, Source, VReg, VType};
 
 /// The shape of an operation that moves elements.
 fn permute_shape(op: PermuteOp) -> Shape
@@ -96,8 +97,44 @@ pub(crate) fn second_source(shape: Shape, source: Source, vtype: VType) -> Opera
     }
 }
 
+/// Whether a group of the vector type's multiplier may begin with a register. One that is aligned ends inside
+/// the file.
+fn is_aligned(first: VReg, vtype: VType) -> bool
+    ensures { result ≡ is_group (group Role.Read first (sew_bits vtype.sew) vtype) }
+{
+    let number = first.number();
+    match vtype.lmul {
+        Lmul::Mf8 | Lmul::Mf4 | Lmul::Mf2 | Lmul::M1 => true,
+        Lmul::M2 => number % 2 == 0,
+        Lmul::M4 => number % 4 == 0,
+        Lmul::M8 => number % 8 == 0,
+    }
+}
+
+/// The same of a second source, if it is a group.
+fn is_source_aligned(source: Source, vtype: VType) -> bool
+    ensures { result ≡ is_group (second_source Shape.Single source vtype) }
+{
+    match source {
+        Source::V(vs1) => is_aligned(vs1, vtype),
+        Source::X(_) | Source::I(_) => true,
+    }
+}
+
+/// Whether an operation whose operands all have SEW may have these. Equal widths may overlap, and an
+/// aligned group that holds v0 begins with it.
+#[tactic(auto, using(crate::proofs::EqualWidths::single_legal))]
+fn is_legal_single(vd: VReg, vs2: VReg, source: Source, unmasked: bool, vtype: VType) -> bool
+    ensures { result ≡ are_legal (shape_operands Shape.Single vd vs2 source unmasked vtype) }
+{
+    is_aligned(vd, vtype)
+        && is_aligned(vs2, vtype)
+        && is_source_aligned(source, vtype)
+        && (unmasked || vd.number() != 0)
+}
+
 /// Whether an operation of this shape may have these operands.
-#[tactic(auto, unfolding(rv_model::specs::legality::OperandShapes::shape_operands))]
+#[tactic(auto, using(crate::proofs::Sources::shape_legal))]
 pub(crate) fn is_legal_shape(
     shape: Shape,
     vd: VReg,
@@ -108,10 +145,16 @@ pub(crate) fn is_legal_shape(
 ) -> bool
     ensures { result ≡ are_legal (shape_operands shape vd vs2 source unmasked vtype) }
 {
-    are_legal(&[
-        destination(shape, vd, vtype),
-        first_source(shape, vs2, vtype),
-        second_source(shape, source, vtype),
-        v0(unmasked),
-    ])
+    if let Shape::Single = shape {
+        return is_legal_single(vd, vs2, source, unmasked, vtype);
+    }
+    let destination = destination(shape, vd, vtype);
+    let first = first_source(shape, vs2, vtype);
+    let second = second_source(shape, source, vtype);
+    is_group(&destination)
+        && is_group(&first)
+        && is_group(&second)
+        && allows(&destination, &first)
+        && allows(&destination, &second)
+        && allows(&destination, &v0(unmasked))
 }

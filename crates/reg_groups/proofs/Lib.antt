@@ -1,0 +1,2 @@
+mod EqualWidths
+mod Sources
