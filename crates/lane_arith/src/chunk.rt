@@ -22,6 +22,9 @@ pub(crate) fn merged<L: Lane>(results: L::Vector, old: u8x32, active: u64, fille
     if active == u64::MAX {
         return L::to_bytes(results);
     }
+    if filled == 0 {
+        return L::to_bytes(L::select(L::choose(active), results, L::from_bytes(old)));
+    }
     let rest = L::select(
         L::choose(filled),
         L::repeated(L::all_ones()),
