@@ -8,7 +8,7 @@ use Rattle.std.proofs.lemmas.Nat.Bits.{bit_at_cat_high, bit_at_cat_low, bit_at_x
 use Rattle.std.proofs.lemmas.Simd.{length-chunk, get_or-chunk, chunk-fits, below_from_Fits}
 use Rattle.std.specs.Int.{w8}
 use lib.Lanes.{Each1, number_l, chunk}
-use Rattle.rv_model.specs.elements.Elements.{Body, element, in_range, is_active, mask_bit}
+use Rattle.rv_model.specs.elements.Elements.{element, in_range, mask_bit}
 
 -- both bits are set
 pub both_bits : (a b i : ℕ) (p q : Bool) → eqb (a / 2 ^ i % 2) 0 ≡ not p → eqb (b / 2 ^ i % 2) 0 ≡ not q → eqb (bit_and a b / 2 ^ i % 2) 0 ≡ not (p && q)
@@ -90,10 +90,9 @@ word_bit mask first count i long fits word h =
     flip : (x : ℕ) → eqb (x % 2) 0 ≡ not (eqb (x % 2) 1)
     flip x = grind (arith, nat_tests)
 
--- where the chunk is inside the body and nothing is masked
-pub all_active : (body : Body) (first count i : ℕ) → i < count → (body.unmasked && (nat_le body.start first && nat_le (first + count) body.end)) ≡ true
-    → is_active body (first + i) ≡ true
-all_active body first count i h whole = grind (arith, nat_tests)
+-- where the chunk is inside the range
+pub all_in_range : (start end first count i : ℕ) → i < count → (nat_le start first && nat_le count (end - first)) ≡ true → in_range start end (first + i) ≡ true
+all_in_range start end first count i h whole = grind (arith, nat_tests)
 
 -- what is told by a bit that is not zero
 pub told_set : (word i : ℕ) (b : Bool) → eqb (word / 2 ^ i % 2) 0 ≡ not b → not (eqb (word / 2 ^ i % 2) 0) ≡ b

@@ -1,17 +1,27 @@
 //! The elements of a chunk of 32 bytes that count, as the bits of a word ("V" Vector Extension 1.0, sections
 //! 5.3 and 5.4).
-ghost use Rattle.std.specs.Prelude.{◌≡◌, ◌+◌, ◌/◌, ◌%◌, ◌^◌, ◌<◌, ◌≤◌, ◌==◌, ◌&&◌, ℕ, nat_le, not};
+ghost use Rattle.std.specs.Prelude.{◌≡◌, ◌+◌, ◌-◌, ◌/◌, ◌%◌, ◌^◌, ◌<◌, ◌≤◌, ◌==◌, ◌&&◌, ℕ, nat_le, not};
 ghost use Rattle.rv_model.specs.elements.Elements.{in_body, in_range, is_active, is_let, mask_bit};
 
 use crate::body::Body;
 use crate::lane::Lane;
 use rv_model::{GROUP_BYTES, VLENB};
 
+/// Whether all of `count` indices from `first` on are from `start` on and below `end`.
+fn is_within(start: usize, end: usize, first: usize, count: usize) -> bool
+    ensures { result ≡ (nat_le start first && nat_le count (end - first)) }
+{
+    start <= first && count <= end.saturating_sub(first)
+}
+
 /// A bit for each of `count` indices from `first` on, set from `start` up to `end`.
 fn range_bits(start: usize, end: usize, first: usize, count: usize) -> u64
     requires { count ≤ 32 }
     ensures { (i : ℕ) → i < count → (result / 2 ^ i % 2 == 0) ≡ not (in_range start end (first + i)) }
 {
+    if is_within(start, end, first, count) {
+        return u64::MAX;
+    }
     let low = start.saturating_sub(first).min(count);
     let high = end.saturating_sub(first).min(count).max(low);
     (1 << high) - (1 << low)
@@ -41,14 +51,6 @@ fn let_bits(body: &Body<'_>, first: usize, count: usize) -> u64
     }
 }
 
-/// Whether all of `count` elements from `first` on are active, with no look at the mask.
-fn is_whole(body: &Body<'_>, first: usize, count: usize) -> bool
-    requires { first + count ≤ GROUP_BYTES }
-    ensures { result ≡ (body.now.unmasked && (nat_le body.now.start first && nat_le (first + count) body.now.end)) }
-{
-    body.is_unmasked() && (body.start() <= first && first + count <= body.end())
-}
-
 /// A bit for each of `count` elements from `first` on, set where it is active.
 pub(crate) fn active_bits(body: &Body<'_>, first: usize, count: usize) -> u64
     requires word { first % 32 + count ≤ 32 }
@@ -56,11 +58,7 @@ pub(crate) fn active_bits(body: &Body<'_>, first: usize, count: usize) -> u64
     requires some { 0 < count }
     ensures { (i : ℕ) → i < count → (result / 2 ^ i % 2 == 0) ≡ not (is_active body.now (first + i)) }
 {
-    if is_whole(body, first, count) {
-        u64::MAX
-    } else {
-        range_bits(body.start(), body.end(), first, count) & let_bits(body, first, count)
-    }
+    range_bits(body.start(), body.end(), first, count) & let_bits(body, first, count)
 }
 
 /// The same, set in the body where `fill_masked_off`.

@@ -1,7 +1,7 @@
 //! Which vector instructions are legal.
 ghost use Rattle.std.specs.Prelude.{[], ◌∷◌, ◌≡◌, ◌↔◌, ◌+◌, ◌≤◌, IsTrue, Some, None, is_none, true};
 ghost use Rattle.rv_model.specs.instructions.Accesses.{is_typed_access};
-ghost use Rattle.rv_model.specs.legality.OperandShapes.{extension_divisor, v0};
+ghost use Rattle.rv_model.specs.legality.OperandShapes.{extension_divisor, group, mask, v0, whole};
 ghost use Rattle.rv_model.specs.legality.Legality.{IsLegal, access_operands, compress_operands, data_role, extension_operands, has_legal, has_wide_product, indexed_operands, indexed_role, is_below_64, is_fractional_product, is_legal, is_narrow, is_narrow_only, is_reduction, mask_logic_operands, mask_result, move_operands, operands, register_count, starts_at_zero, unit_role, whole_move_operands};
 ghost use Rattle.rv_model.specs.legality.RegisterOperands.{are_legal};
 ghost use Rattle.rv_model.specs.vector.Configuration.{element_width, sew_bits};
@@ -128,6 +128,42 @@ fn is_legal_move(source: Source, vd: VReg, vtype: VType) -> bool
         destination(Shape::Single, vd, vtype),
         second_source(Shape::Single, source, vtype),
     ])
+}
+
+/// Whether the operands of an operation on one mask are legal.
+#[inline(never)]
+fn is_legal_mask_unary(op: MaskUnaryOp, vd: VReg, vs2: VReg, unmasked: bool, vtype: VType) -> bool
+    ensures { result ≡ are_legal (mask_result op vd vtype ∷ mask Role.Read vs2 ∷ v0 unmasked ∷ []) }
+{
+    are_legal(&[
+        mask_result(op, vd, vtype),
+        mask(Role::Read, vs2),
+        v0(unmasked),
+    ])
+}
+
+/// Whether the operands of an operation from a mask to a scalar register are legal.
+#[inline(never)]
+fn is_legal_mask_source(vs2: VReg, unmasked: bool) -> bool
+    ensures { result ≡ are_legal (mask Role.Read vs2 ∷ v0 unmasked ∷ []) }
+{
+    is_legal_with_mask(&mask(Role::Read, vs2), unmasked)
+}
+
+/// Whether the operands of a write of indices are legal.
+#[inline(never)]
+fn is_legal_index(vd: VReg, unmasked: bool, vtype: VType) -> bool
+    ensures { result ≡ are_legal (group Role.Write vd (sew_bits vtype.sew) vtype ∷ v0 unmasked ∷ []) }
+{
+    is_legal_with_mask(&group(Role::Write, vd, vtype.sew.bits(), vtype), unmasked)
+}
+
+/// Whether a register of elements of SEW is a legal operand.
+#[inline(never)]
+fn is_legal_register(role: Role, register: VReg, vtype: VType) -> bool
+    ensures { result ≡ are_legal (whole role 1 register (sew_bits vtype.sew) ∷ []) }
+{
+    are_legal(&[whole(role, 1, register, vtype.sew.bits())])
 }
 
 /// Whether the operands of logic on masks are legal.
@@ -305,7 +341,6 @@ fn has_legal_memory_operands(instr: &Instr, vtype: VType) -> bool
 fn has_legal_operands(instr: &Instr, vtype: VType) -> bool
     ensures { result ≡ has_legal (operands instr.now (Some vtype)) }
 {
-    let sew = vtype.sew.bits();
     match *instr {
         Instr::VectorArith { arith, vd, vs2, vm } => {
             let (op, source) = arith.parts();
@@ -319,16 +354,12 @@ fn has_legal_operands(instr: &Instr, vtype: VType) -> bool
         Instr::WholeMove { count, vd, vs2 } => is_legal_whole_move(count, vd, vs2, vtype),
         Instr::MaskLogic { vd, vs1, vs2, .. } => is_legal_mask_logic(vd, vs1, vs2),
         Instr::Compress { vd, vs1, vs2 } => is_legal_compression(vd, vs1, vs2, vtype),
-        Instr::MaskToScalar { vs2, vm, .. } => { is_legal_with_mask(&mask(Role::Read, vs2), vm) },
+        Instr::MaskToScalar { vs2, vm, .. } => is_legal_mask_source(vs2, vm),
         Instr::VectorExtend { op, vd, vs2, vm } => is_legal_extension(op, vd, vs2, vm, vtype),
-        Instr::MaskUnary { op, vd, vs2, vm } => {
-            are_legal(&[mask_result(op, vd, vtype), mask(Role::Read, vs2), v0(vm)])
-        }
-        Instr::ElementIndex { vd, vm } => {
-            is_legal_with_mask(&group(Role::Write, vd, sew, vtype), vm)
-        }
-        Instr::MoveToScalar { vs2, .. } => are_legal(&[whole(Role::Read, 1, vs2, sew)]),
-        Instr::MoveToVector { vd, .. } => are_legal(&[whole(Role::Write, 1, vd, sew)]),
+        Instr::MaskUnary { op, vd, vs2, vm } => is_legal_mask_unary(op, vd, vs2, vm, vtype),
+        Instr::ElementIndex { vd, vm } => is_legal_index(vd, vm, vtype),
+        Instr::MoveToScalar { vs2, .. } => is_legal_register(Role::Read, vs2, vtype),
+        Instr::MoveToVector { vd, .. } => is_legal_register(Role::Write, vd, vtype),
         Instr::VectorUnit { .. }
         | Instr::VectorStrided { .. }
         | Instr::VectorIndexed { .. }

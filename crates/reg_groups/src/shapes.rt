@@ -123,6 +123,7 @@ fn is_source_aligned(source: Source, vtype: VType) -> bool
 
 /// Whether an operation whose operands all have SEW may have these. Equal widths may overlap, and an
 /// aligned group that holds v0 begins with it.
+#[inline(always)]
 #[tactic(auto, using(crate::proofs::EqualWidths::single_legal))]
 fn is_legal_single(vd: VReg, vs2: VReg, source: Source, unmasked: bool, vtype: VType) -> bool
     ensures { result ≡ are_legal (shape_operands Shape.Single vd vs2 source unmasked vtype) }
@@ -133,8 +134,32 @@ fn is_legal_single(vd: VReg, vs2: VReg, source: Source, unmasked: bool, vtype: V
         && (unmasked || vd.number() != 0)
 }
 
-/// Whether an operation of this shape may have these operands.
+/// Whether an operation of any shape may have these operands.
+#[inline(never)]
 #[tactic(auto, using(crate::proofs::Sources::shape_legal))]
+fn are_legal_operands(
+    shape: Shape,
+    vd: VReg,
+    vs2: VReg,
+    source: Source,
+    unmasked: bool,
+    vtype: VType,
+) -> bool
+    ensures { result ≡ are_legal (shape_operands shape vd vs2 source unmasked vtype) }
+{
+    let destination = destination(shape, vd, vtype);
+    let first = first_source(shape, vs2, vtype);
+    let second = second_source(shape, source, vtype);
+    is_group(&destination)
+        && is_group(&first)
+        && is_group(&second)
+        && allows(&destination, &first)
+        && allows(&destination, &second)
+        && allows(&destination, &v0(unmasked))
+}
+
+/// The same, by the shorter test where all have SEW.
+#[inline(always)]
 pub(crate) fn is_legal_shape(
     shape: Shape,
     vd: VReg,
@@ -146,15 +171,8 @@ pub(crate) fn is_legal_shape(
     ensures { result ≡ are_legal (shape_operands shape vd vs2 source unmasked vtype) }
 {
     if let Shape::Single = shape {
-        return is_legal_single(vd, vs2, source, unmasked, vtype);
+        is_legal_single(vd, vs2, source, unmasked, vtype)
+    } else {
+        are_legal_operands(shape, vd, vs2, source, unmasked, vtype)
     }
-    let destination = destination(shape, vd, vtype);
-    let first = first_source(shape, vs2, vtype);
-    let second = second_source(shape, source, vtype);
-    is_group(&destination)
-        && is_group(&first)
-        && is_group(&second)
-        && allows(&destination, &first)
-        && allows(&destination, &second)
-        && allows(&destination, &v0(unmasked))
 }

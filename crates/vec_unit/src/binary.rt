@@ -1,16 +1,19 @@
 //! Operations of one width on two operands ("V" Vector Extension 1.0, chapter 11).
-ghost use Rattle.rv_model.specs.elements.Arithmetic.{binary_result};
+ghost use Rattle.rv_model.specs.elements.Arithmetic.{binary_result, second_element, with_results};
+ghost use Rattle.rv_model.specs.elements.Elements.{element};
 ghost use Rattle.rv_model.specs.elements.Formulas.{has_unsigned_immediate};
-ghost use Rattle.rv_model.specs.legality.GroupBounds.{IsInside, SourceIsInside};
-ghost use Rattle.std.specs.Prelude.{◌≡◌};
+ghost use Rattle.rv_model.specs.legality.GroupBounds.{HoldsBody, IsInside, SourceIsInside};
+ghost use Rattle.rv_model.specs.vector.Configuration.{width_bytes};
+ghost use Rattle.rv_model.specs.vector.Registers.{group_of};
+ghost use Rattle.std.specs.Prelude.{◌≡◌, ◌*◌, ◌<◌, ◌≤◌, ℕ, length};
 
 use crate::destination::{Destination, write_group};
 use crate::element_wise::ElementWise;
-use crate::operands::second_copy;
+use crate::operands::{second_copy, second_single_copy, single_copy};
 use lane_arith::{Binary, Body, Lane};
-use reg_groups::group_copy;
+use reg_groups::{group_copy, registers};
 use rv_model::instructions::operations::BinaryOp;
-use rv_model::{GROUP_BYTES, Scalar, Source, VFile, VReg};
+use rv_model::{GROUP_BYTES, Scalar, Source, VFile, VLENB, VReg};
 
 /// An operation and its sources.
 #[derive(Clone, Copy)]
@@ -27,6 +30,35 @@ fn has_unsigned_immediate(op: BinaryOp) -> bool
     matches!(op, BinaryOp::Vsll | BinaryOp::Vsrl | BinaryOp::Vsra)
 }
 
+impl BinaryOperation {
+    /// Writes the results to a destination; `a` is a copy of the group of `vs2`, and `b` of the second operand.
+    fn write_from<L: Lane>(
+        &self,
+        a: &[u8],
+        b: &[u8],
+        destination: Destination,
+        body: &Body<'_>,
+        file: &mut VFile,
+        scalar: &Scalar,
+    )
+        requires first { a.now ≡ group_of file.old self.now.vs2 destination.emul }
+        requires second { (i : ℕ) → i < body.now.end → element (width_bytes L.width) b.now i
+            ≡ second_element (record { width = L.width; emul = destination.emul }) (has_unsigned_immediate self.now.op)
+            self.now.source file.old scalar.now i }
+        requires first_room { width_bytes L.width * body.now.end ≤ length a.now }
+        requires second_room { width_bytes L.width * body.now.end ≤ length b.now }
+        requires destination { IsInside destination.vd destination.emul }
+        requires holds { HoldsBody L.width destination.emul destination.count body.now.end }
+        ensures { file.new ≡ with_results (record { width = L.width; emul = destination.emul }) destination.vd body.now
+            destination.agnostic.fill_masked_off destination.agnostic.fill_tail
+            (binary_result (record { width = L.width; emul = destination.emul }) self.now.op self.now.vs2 self.now.source
+            file.old scalar.now) file.old }
+    {
+        let results = Binary { op: self.op, a, b };
+        write_group::<L, Binary<'_>>(&results, destination, body, file);
+    }
+}
+
 impl ElementWise for BinaryOperation {
     ghost number = { λ o g file x. binary_result g o.op o.vs2 o.source file x };
 
@@ -39,20 +71,18 @@ impl ElementWise for BinaryOperation {
         file: &mut VFile,
         scalar: &Scalar,
     ) {
-        let (mut first, mut second) = ([0; GROUP_BYTES], [0; GROUP_BYTES]);
-        let emul = destination.emul;
+        let (source, emul, end) = (self.source, destination.emul, body.end());
         let unsigned = has_unsigned_immediate(self.op);
-        let a = group_copy(file, self.vs2, emul, &mut first);
-        let b = second_copy::<L>(
-            unsigned,
-            self.source,
-            emul,
-            body.end(),
-            file,
-            scalar,
-            &mut second,
-        );
-        let results = Binary { op: self.op, a, b };
-        write_group::<L, Binary<'_>>(&results, destination, body, file);
+        if registers(emul) == 1 {
+            let a = single_copy(file, self.vs2, emul);
+            let mut second = [0; VLENB];
+            let b = second_single_copy::<L>(unsigned, source, emul, end, file, scalar, &mut second);
+            self.write_from::<L>(&a, b, destination, body, file, scalar);
+        } else {
+            let (mut first, mut second) = ([0; GROUP_BYTES], [0; GROUP_BYTES]);
+            let a = group_copy(file, self.vs2, emul, &mut first);
+            let b = second_copy::<L>(unsigned, source, emul, end, file, scalar, &mut second);
+            self.write_from::<L>(a, b, destination, body, file, scalar);
+        }
     }
 }
