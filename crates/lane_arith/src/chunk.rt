@@ -134,7 +134,7 @@ fn signed_shifted_right<L: Lane>(a: L::Vector, amounts: L::Vector) -> L::Vector
 }
 
 /// The results of an operation of one width, where they are made side by side.
-pub(crate) fn binary<L: Lane>(op: BinaryOp, a: L::Vector, b: L::Vector) -> Option<L::Vector>
+pub fn binary<L: Lane>(op: BinaryOp, a: L::Vector, b: L::Vector) -> Option<L::Vector>
     requires first { (i : ℕ) → i < L.count → L.lane a i < 2 ^ bits L.width }
     requires second { (i : ℕ) → i < L.count → L.lane b i < 2 ^ bits L.width }
     ensures { IfSome result (λ made. (i : ℕ) → i < L.count

@@ -28,7 +28,7 @@ fn range_bits(start: usize, end: usize, first: usize, count: usize) -> u64
 }
 
 /// The bits of a mask for `count` elements from `first` on.
-pub(crate) fn mask_bits(mask: &[u8; VLENB], first: usize, count: usize) -> u64
+pub fn mask_bits(mask: &[u8; VLENB], first: usize, count: usize) -> u64
     requires word { first % 32 + count ≤ 32 }
     requires inside { first + count ≤ GROUP_BYTES }
     requires some { 0 < count }
@@ -52,7 +52,7 @@ fn let_bits(body: &Body<'_>, first: usize, count: usize) -> u64
 }
 
 /// A bit for each of `count` elements from `first` on, set where it is active.
-pub(crate) fn active_bits(body: &Body<'_>, first: usize, count: usize) -> u64
+pub fn active_bits(body: &Body<'_>, first: usize, count: usize) -> u64
     requires word { first % 32 + count ≤ 32 }
     requires inside { first + count ≤ GROUP_BYTES }
     requires some { 0 < count }

@@ -8,7 +8,7 @@ use crate::lane::Lane;
 use std::simd::prelude::*;
 
 /// The elements of a chunk of an operand, if it has that chunk.
-pub(crate) fn operand_chunk<L: Lane>(bytes: &[u8], chunk: usize) -> Option<L::Vector>
+pub fn operand_chunk<L: Lane>(bytes: &[u8], chunk: usize) -> Option<L::Vector>
     ensures value { IfSome result (λ elements. (i : ℕ) → i < L.count
         → L.lane elements i ≡ element (width_bytes L.width) bytes.now (L.count * chunk + i)) }
     ensures bound { IfSome result (λ elements. (i : ℕ) → i < L.count → L.lane elements i < 2 ^ bits L.width) }

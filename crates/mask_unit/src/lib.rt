@@ -1,6 +1,7 @@
 //! Kernels of the mask instructions ("V" Vector Extension 1.0, chapter 15).
 #![tactic(auto)]
 
+mod chunk;
 mod element_numbers;
 mod logic;
 mod scan;

@@ -4,7 +4,8 @@ ghost use Rattle.rv_model.specs.declared.vector.sizes.TheConstants.{GROUP_BYTES}
 ghost use Rattle.rv_model.specs.elements.Elements.{mask_bit};
 ghost use Rattle.rv_model.specs.elements.Masks.{mask_logic_formula};
 
-use lane_arith::{Lane, MaskResults, bit_of};
+use crate::chunk::logic;
+use lane_arith::{Lane, MaskResults, bit_of, mask_bits};
 use rv_model::VLENB;
 use rv_model::instructions::operations::MaskLogicOp;
 
@@ -39,5 +40,12 @@ impl<'a, L: Lane> MaskResults<L> for MaskLogic<'a> {
 
     fn bit(&self, index: usize) -> bool {
         apply(self.op, bit_of(self.a, index), bit_of(self.b, index))
+    }
+
+    fn chunk_bits(&self, chunk: usize) -> Option<u64> {
+        let count = L::count();
+        let a = mask_bits(self.a, count * chunk, count);
+        let b = mask_bits(self.b, count * chunk, count);
+        Some(logic(self.op, a, b) % (1 << count))
     }
 }

@@ -1,9 +1,10 @@
 //! The active elements whose bit of a mask is set: how many there are, and the first of them ("V" Vector
 //! Extension 1.0, sections 15.2, 15.3 and 15.8).
-ghost use Rattle.std.specs.Prelude.{◌≡◌, ◌<◌, ◌≤◌, ℕ, slice_index};
+ghost use Rattle.std.specs.Prelude.{◌≡◌, ◌+◌, ◌*◌, ◌<◌, ◌≤◌, ℕ, slice_index};
 ghost use Rattle.rv_model.specs.elements.Masks.{first_set, is_set, set_count};
 
-use lane_arith::{Body, bit_of};
+use crate::chunk::set_in_both;
+use lane_arith::{Body, active_bits, bit_of, mask_bits};
 use rv_model::{GROUP_BYTES, VLENB};
 
 /// Whether an element is active and its bit is set.
@@ -15,12 +16,27 @@ fn is_set(body: &Body<'_>, bits: &[u8; VLENB], index: usize) -> bool
     body.is_active(index) && bit_of(bits, index)
 }
 
+/// How many of the 32 elements of a word of the mask are active and have their bit set.
+fn set_in_word(body: &Body<'_>, bits: &[u8; VLENB], word: usize) -> usize
+    requires count { body.now.end ≤ GROUP_BYTES }
+    requires room { 32 * word + 32 ≤ GROUP_BYTES }
+    ensures { set_count body.now bits.now (32 * word) + result ≡ set_count body.now bits.now (32 * word + 32) }
+{
+    let active = active_bits(body, 32 * word, 32);
+    let set = mask_bits(bits, 32 * word, 32);
+    set_in_both(active, set) as usize
+}
+
 /// How many active elements have their bit set (vcpop.m).
 pub fn count(body: &Body<'_>, bits: &[u8; VLENB]) -> usize
     requires { body.now.end ≤ GROUP_BYTES }
     ensures { result ≡ set_count body.now bits.now body.now.end }
 {
-    (0..body.end()).filter(|i| is_set(body, bits, *i)).count()
+    let mut set = 0;
+    for word in 0..body.end().div_ceil(32) {
+        set += set_in_word(body, bits, word);
+    }
+    set
 }
 
 /// The first active element that has its bit set (vfirst.m).
