@@ -57,7 +57,7 @@ chunk_more k n c W F old mid new was step = record {
     join true x y z p q = p
     join false x y z p q = p ∙ q
 
-chunk_of_chunk : (s l t k : ℕ) (xs : List ℕ) → t + k ≤ l → chunk t k (chunk s l xs) ≡ chunk (s + t) k xs
+pub chunk_of_chunk : (s l t k : ℕ) (xs : List ℕ) → t + k ≤ l → chunk t k (chunk s l xs) ≡ chunk (s + t) k xs
 chunk_of_chunk s l t k xs h =
     let e : l ≡ t + (l - t) = omega arith in
     let cut : drop t (take l (drop s xs)) ≡ take (l - t) (drop t (drop s xs)) = ap (λ n. drop t (take n (drop s xs))) e ∙ drop-take t (l - t) (drop s xs) in

@@ -1,12 +1,19 @@
 //! The active elements of a body, combined with a first number ("V" Vector Extension 1.0, chapter 14).
-ghost use Rattle.std.specs.Prelude.{◌≡◌, ◌*◌, ◌≤◌, ℕ, length};
-ghost use Rattle.std.specs.List.{fold};
-ghost use Rattle.rv_model.specs.elements.Elements.{element};
+ghost use Rattle.std.specs.Prelude.{◌≡◌, ◌*◌, ◌≤◌, ℕ, IfSome, length, map};
+ghost use Rattle.std.specs.List.{filter, fold, range_with_len};
+ghost use Rattle.rv_model.specs.elements.Elements.{element, is_active};
 ghost use Rattle.rv_model.specs.elements.Reductions.{active_numbers};
 ghost use Rattle.rv_model.specs.vector.Configuration.{width_bytes};
 
 use lane_arith::{Body, Lane};
 use rv_model::GROUP_BYTES;
+
+/// What comes of a first number and of so many elements.
+#[derive(Clone, Copy)]
+pub struct Combined<R> {
+    pub number: R,
+    pub count: usize,
+}
 
 /// How a reduction of elements of the width of `E` combines them to a result of the width of `R`.
 pub trait Combine<E: Lane, R: Lane> {
@@ -16,6 +23,16 @@ pub trait Combine<E: Lane, R: Lane> {
     /// What is combined so far, combined with one element more.
     fn combined(&self, so_far: R, element: E) -> R
         ensures { R.value result ≡ combined self.now (R.value so_far) (E.value element) };
+
+    /// The active elements of whole chunks of 32 bytes, from the first on, combined with a first number, where
+    /// chunks are combined side by side.
+    fn combined_chunks(&self, _first: R, _elements: &[u8], _body: &Body<'_>) -> Option<Combined<R>>
+        requires { _body.now.end ≤ GROUP_BYTES }
+        ensures { IfSome result (λ made. R.value made.number ≡ fold (combined self.now) (R.value _first)
+            (map (element (width_bytes E.width) _elements.now) (filter (is_active _body.now) (range_with_len 0 made.count)))) }
+    {
+        None
+    }
 }
 
 /// Combines each active element, in order, with what comes of `first` and those before it.
@@ -30,8 +47,14 @@ pub fn reduce<E: Lane, R: Lane, C: Combine<E, R>>(
     ensures { R.value result ≡ fold (C.combined combine.now) (R.value first)
         (active_numbers body.now (element (width_bytes E.width) elements.now)) }
 {
-    let mut so_far = first;
-    for i in 0..body.end() {
+    let Combined { number, count } = combine
+        .combined_chunks(first, elements, body)
+        .unwrap_or(Combined {
+            number: first,
+            count: 0,
+        });
+    let mut so_far = number;
+    for i in count..body.end() {
         if body.is_active(i) {
             so_far = combine.combined(so_far, E::load(elements, i));
         }

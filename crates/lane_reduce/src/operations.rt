@@ -3,8 +3,9 @@ ghost use Rattle.std.specs.Prelude.{◌≡◌};
 ghost use Rattle.rv_model.specs.elements.Formulas.{formula, wide_source_formula, wrap};
 ghost use Rattle.rv_model.specs.elements.Reductions.{combining, widening_combining};
 
-use crate::combine::Combine;
-use lane_arith::{Lane, apply, apply_wide};
+use crate::combine::{Combine, Combined};
+use crate::lanes::reduce_chunks;
+use lane_arith::{Body, Lane, apply, apply_wide};
 use rv_model::instructions::operations::{BinaryOp, ReduceOp, WideSourceOp, WidenReduceOp};
 
 /// A reduction to a result of the elements' width.
@@ -14,7 +15,7 @@ pub struct Reduction {
 }
 
 /// The operation by which a reduction combines.
-fn combining(op: ReduceOp) -> BinaryOp
+pub(crate) fn combining(op: ReduceOp) -> BinaryOp
     ensures { result ≡ combining op }
 {
     match op {
@@ -34,6 +35,10 @@ impl<L: Lane> Combine<L, L> for Reduction {
 
     fn combined(&self, so_far: L, element: L) -> L {
         apply(combining(self.op), so_far, element)
+    }
+
+    fn combined_chunks(&self, first: L, elements: &[u8], body: &Body<'_>) -> Option<Combined<L>> {
+        reduce_chunks(self.op, first, elements, body)
     }
 }
 

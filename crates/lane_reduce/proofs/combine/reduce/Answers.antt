@@ -1,7 +1,8 @@
-use Rattle.std.proofs.Common.{◌∙◌, sym}
+use Rattle.std.proofs.Common.{ℕ, ◌+◌, ◌-◌, ◌≡◌, ◌∙◌, arith, sym}
 use Rattle.rv_model.specs.elements.Elements.{element, is_active}
 use Rattle.rv_model.specs.vector.Configuration.{width_bytes}
 use Rattle.rv_model.proofs.element_lemmas.Ranges.{combined_more, combined_same}
+use Rattle.lane_reduce.proofs.Folds.{fold_beyond}
 use Rattle.lane_reduce.proofs.combine.reduce.Goals as goal
 use Rattle.lane_reduce.proofs.combine.reduce.Goals.{then-is_active, else-is_active}
 
@@ -19,3 +20,11 @@ loop-i-preserved g c =
           rw w.so_far-is
           (combined_same test combined first number c.loop-i.i _ (sym c.is_active.ensures ∙ w.if-is_active.false) c.loop-i.invariant)
     ]
+
+pub returns : goal.returns
+returns g c =
+    let end : ℕ = c.args.body.now.end in
+    let past : ℕ = c.loop-i.i - end in
+    let whole : c.loop-i.i ≡ end + past = omega (arith, c.loop-i-test.false, c.end-i-end.ensures) in
+    c.loop-i.invariant
+    ∙ fold_beyond c.args.body.now (g.C.Combine.combined c.args.combine.now) (g.R.Lane.value c.args.first) (element (width_bytes g.E.Lane.width) c.args.elements.now) past c.loop-i.i whole

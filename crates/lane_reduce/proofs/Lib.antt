@@ -1,0 +1,3 @@
+pub mod Folds
+pub mod Laws
+pub mod MovedLanes
