@@ -11,6 +11,8 @@ mod one_width;
 #[cfg(test)]
 mod permutations;
 #[cfg(test)]
+mod plain_folds;
+#[cfg(test)]
 mod plain_loops;
 #[cfg(test)]
 mod reductions;

@@ -12,7 +12,7 @@ use rv_model::instructions::operations::{BinaryOp, CarryOp, CompareOp, MultiplyA
 const LONGEST: usize = 520;
 
 /// Bytes that differ from one another in many bits.
-fn bytes(seed: u64) -> [u8; LONGEST] {
+pub(crate) fn bytes(seed: u64) -> [u8; LONGEST] {
     let mut bytes = [0; LONGEST];
     let mut number = seed;
     for i in 0..LONGEST {
@@ -45,7 +45,7 @@ fn agrees<L: Lane, R: Results<L>>(results: &R, body: &Body<'_>, fill_masked_off:
 }
 
 /// A byte with one bit replaced.
-fn with_bit(byte: u8, index: usize, bit: bool) -> u8 {
+pub(crate) fn with_bit(byte: u8, index: usize, bit: bool) -> u8 {
     let place = 1 << (index % 8);
     if bit { byte | place } else { byte & !place }
 }
@@ -66,12 +66,12 @@ fn mask_agrees<L: Lane, R: MaskResults<L>>(results: &R, body: &Body<'_>) -> bool
     written == plain
 }
 
-const MASK: [u8; 32] = [
+pub(crate) const MASK: [u8; 32] = [
     0x96, 0x3d, 0x00, 0xff, 0x5a, 0x01, 0x80, 0xe7, 0x9c, 0x55, 0x0f, 0x96, 0x3d, 0x00, 0xff, 0x5a,
     0x01, 0x80, 0xe7, 0x9c, 0x55, 0x0f, 0x96, 0x3d, 0x00, 0xff, 0x5a, 0x01, 0x80, 0xe7, 0x9c, 0x55,
 ];
 
-const STARTS: [usize; 4] = [0, 1, 7, 33];
+pub(crate) const STARTS: [usize; 4] = [0, 1, 7, 33];
 
 /// The same at each width, with the masked-off elements kept and filled.
 fn binary_agrees(op: BinaryOp, body: &Body<'_>) -> bool
