@@ -5,6 +5,8 @@
 #[cfg(test)]
 mod fixed_point;
 #[cfg(test)]
+mod fixed_point_loops;
+#[cfg(test)]
 mod masks;
 #[cfg(test)]
 mod one_width;

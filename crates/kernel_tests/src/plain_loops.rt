@@ -9,7 +9,7 @@ use lane_arith::{
 use rv_model::instructions::operations::{BinaryOp, CarryOp, CompareOp, MultiplyAddOp};
 
 /// The bytes of 65 elements of the greatest width.
-const LONGEST: usize = 520;
+pub(crate) const LONGEST: usize = 520;
 
 /// Bytes that differ from one another in many bits.
 pub(crate) fn bytes(seed: u64) -> [u8; LONGEST] {

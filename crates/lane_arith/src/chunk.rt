@@ -51,15 +51,15 @@ fn maxima<L: Lane>(a: L::Vector, b: L::Vector) -> L::Vector
     L::select(L::less(a, b), b, a)
 }
 
-/// The top bit, in each element.
-fn top_bits<L: Lane>() -> L::Vector
+/// The top bit alone, in each element.
+pub fn top_bits<L: Lane>() -> L::Vector
     ensures { (i : ℕ) → i < L.count → L.lane result i ≡ 2 ^ hbits L.width }
 {
     L::repeated(L::low_bits(1 << (L::bits() - 1)))
 }
 
 /// A mask: an element is 0 where that of `a` is not less than that of `b`, as signed numbers.
-fn signed_less<L: Lane>(a: L::Vector, b: L::Vector) -> L::Vector
+pub fn signed_less<L: Lane>(a: L::Vector, b: L::Vector) -> L::Vector
     requires first { (i : ℕ) → i < L.count → L.lane a i < 2 ^ bits L.width }
     requires second { (i : ℕ) → i < L.count → L.lane b i < 2 ^ bits L.width }
     ensures { (i : ℕ) → i < L.count → (L.lane result i == 0)
@@ -265,7 +265,7 @@ fn complement<L: Lane>(mask: L::Vector) -> L::Vector
 }
 
 /// A mask: an element is 0 where that of `a` is not at most that of `b`, as unsigned numbers.
-fn at_most<L: Lane>(a: L::Vector, b: L::Vector) -> L::Vector
+pub fn at_most<L: Lane>(a: L::Vector, b: L::Vector) -> L::Vector
     ensures { (i : ℕ) → i < L.count → (L.lane result i == 0) ≡ not (nat_le (L.lane a i) (L.lane b i)) }
 {
     complement::<L>(L::less(b, a))

@@ -51,7 +51,8 @@ fn let_bits(body: &Body<'_>, first: usize, count: usize) -> u64
     }
 }
 
-/// A bit for each of `count` elements from `first` on, set where it is active.
+/// A bit for each of `count` elements from `first` on, the lowest for the first, set where it is active. They lie
+/// in one of the mask's words of 32 bits.
 pub fn active_bits(body: &Body<'_>, first: usize, count: usize) -> u64
     requires word { first % 32 + count ≤ 32 }
     requires inside { first + count ≤ GROUP_BYTES }
@@ -61,8 +62,9 @@ pub fn active_bits(body: &Body<'_>, first: usize, count: usize) -> u64
     range_bits(body.start(), body.end(), first, count) & let_bits(body, first, count)
 }
 
-/// The same, set in the body where `fill_masked_off`.
-pub(crate) fn filled_bits(body: &Body<'_>, fill_masked_off: bool, first: usize, count: usize) -> u64
+/// A bit for each of `count` elements from `first` on, the lowest for the first, set in the body where
+/// `fill_masked_off`.
+pub fn filled_bits(body: &Body<'_>, fill_masked_off: bool, first: usize, count: usize) -> u64
     requires { count ≤ 32 }
     ensures { (i : ℕ) → i < count → (result / 2 ^ i % 2 == 0) ≡ not (fill_masked_off && in_body body.now (first + i)) }
 {

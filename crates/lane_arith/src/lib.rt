@@ -23,7 +23,7 @@ mod widen;
 
 pub use binary::Binary;
 pub use body::Body;
-pub use chunk_bits::{active_bits, mask_bits};
+pub use chunk_bits::{active_bits, filled_bits, mask_bits};
 pub use compare::{CarryOut, Compare};
 pub use copies::Copies;
 pub use extend::Extend;
@@ -34,6 +34,6 @@ pub use multiply_add::MultiplyAdd;
 pub use narrow_shift::NarrowShift;
 pub use operand::operand_chunk;
 pub use operations::apply;
-pub use results::{Results, fill, write_results};
+pub use results::{Results, fill, put_results, write_results};
 pub use whole_number::wrapped;
 pub use widen::{WideSource, Widen, WidenMultiplyAdd, apply_wide};

@@ -7,7 +7,8 @@ ghost use mir.Val.{bits};
 use crate::lane::Lane;
 use std::simd::prelude::*;
 
-/// The elements of a chunk of an operand, if it has that chunk.
+/// The elements of a chunk of 32 bytes of an operand, side by side; `None` where the operand ends before the
+/// chunk does.
 pub fn operand_chunk<L: Lane>(bytes: &[u8], chunk: usize) -> Option<L::Vector>
     ensures value { IfSome result (λ elements. (i : ℕ) → i < L.count
         → L.lane elements i ≡ element (width_bytes L.width) bytes.now (L.count * chunk + i)) }

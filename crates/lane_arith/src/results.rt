@@ -59,9 +59,9 @@ fn write_each<L: Lane, R: Results<L>>(
     }
 }
 
-/// Writes a chunk of results from the byte `at` on: those where the bit of `active` is set, and ones where only
-/// that of `filled` is.
-fn put_results<L: Lane>(
+/// Writes a chunk of 32 bytes of results from the byte `at` on: those where the bit of `active` is set, ones
+/// where only that of `filled` is; all others keep.
+pub fn put_results<L: Lane>(
     results: L::Vector,
     active: u64,
     filled: u64,

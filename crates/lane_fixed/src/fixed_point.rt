@@ -5,10 +5,11 @@ ghost use Rattle.rv_model.specs.elements.FixedPoint.{clipped, fixed_point_formul
 ghost use Rattle.rv_model.specs.elements.Formulas.{wrap};
 ghost use Rattle.rv_model.specs.vector.Configuration.{width_bytes};
 
+use crate::chunk::fixed_point;
 use crate::exact::exact;
-use crate::saturating_results::{Saturated, SaturatingResults};
+use crate::saturating_results::{Saturated, SaturatedChunk, SaturatingResults};
 use crate::saturation::{saturate_signed, saturate_unsigned};
-use lane_arith::{Lane, wrapped};
+use lane_arith::{Lane, operand_chunk, wrapped};
 use rv_model::RoundingMode;
 use rv_model::instructions::operations::FixedPointOp;
 
@@ -69,5 +70,11 @@ impl<'a, L: Lane> SaturatingResults<L> for FixedPoint<'a> {
             L::load(self.a, index),
             L::load(self.b, index),
         )
+    }
+
+    fn chunk_results(&self, chunk: usize) -> Option<SaturatedChunk<L::Vector>> {
+        let a = operand_chunk::<L>(self.a, chunk)?;
+        let b = operand_chunk::<L>(self.b, chunk)?;
+        fixed_point::<L>(self.op, self.mode, a, b)
     }
 }

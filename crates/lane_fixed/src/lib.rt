@@ -1,6 +1,7 @@
 //! Kernels of fixed-point operations, generic over the width of an element.
 #![tactic(auto)]
 
+mod chunk;
 mod clip;
 mod exact;
 mod fixed_point;
@@ -10,4 +11,6 @@ mod saturation;
 
 pub use clip::Clip;
 pub use fixed_point::FixedPoint;
-pub use saturating_results::{Saturated, SaturatingResults, write_saturating_results};
+pub use saturating_results::{
+    Saturated, SaturatedChunk, SaturatingResults, write_saturating_results,
+};

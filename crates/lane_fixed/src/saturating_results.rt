@@ -1,12 +1,13 @@
 //! The results of element-wise instructions that may saturate, written to the elements of their destination
 //! ("V" Vector Extension 1.0, sections 3.9, 5.3 and 5.4).
-ghost use Rattle.std.specs.Prelude.{◌≡◌, ◌*◌, ◌<◌, ◌≤◌, ℕ, Bool, length, false};
-ghost use Rattle.rv_model.specs.elements.Elements.{is_changed, result_or_ones, some_active};
+ghost use Rattle.std.specs.Prelude.{◌≡◌, ◌+◌, ◌*◌, ◌/◌, ◌%◌, ◌^◌, ◌<◌, ◌≤◌, ◌==◌, ◌&&◌, ℕ, Bool, IfSome, length, false, nat_lt, not};
+ghost use Rattle.std.specs.List.{list_any, range_with_len};
+ghost use Rattle.rv_model.specs.elements.Elements.{is_active, is_changed, result_or_ones, some_active};
 ghost use Rattle.rv_model.specs.elements.Formulas.{ones};
 ghost use Rattle.rv_model.specs.elements.Writes.{Writes};
 ghost use Rattle.rv_model.specs.vector.Configuration.{width_bytes};
 
-use lane_arith::{Body, Lane};
+use lane_arith::{Body, Lane, active_bits, filled_bits, put_results};
 use rv_model::GROUP_BYTES;
 
 /// An element of a result, and whether it isn't the exact number but the nearest one of the width.
@@ -14,6 +15,14 @@ use rv_model::GROUP_BYTES;
 pub struct Saturated<L> {
     pub value: L,
     pub saturated: bool,
+}
+
+/// The elements of a chunk of 32 bytes of a result, side by side, and a bit for each of them, the lowest for
+/// the first: whether it isn't the exact number but the nearest one of the width.
+#[derive(Clone, Copy, Drop)]
+pub struct SaturatedChunk<V> {
+    pub values: V,
+    pub saturated: u64,
 }
 
 /// What an instruction gives to the elements of its destination, which have the width of `L`.
@@ -32,12 +41,21 @@ pub trait SaturatingResults<L: Lane> {
         requires { has self.now index }
         ensures value { L.value result.value ≡ number self.now index }
         ensures saturated { result.saturated ≡ saturates self.now index };
+
+    /// The results for the elements of a chunk of 32 bytes, where they are made side by side.
+    fn chunk_results(&self, _chunk: usize) -> Option<SaturatedChunk<L::Vector>>
+        requires { L.count * _chunk + L.count ≤ GROUP_BYTES }
+        ensures value { IfSome result (λ made. (i : ℕ) → i < L.count → L.lane made.values i ≡ number self.now (L.count * _chunk + i)) }
+        ensures saturated { IfSome result (λ made. (i : ℕ) → i < L.count
+            → (made.saturated / 2 ^ i % 2 == 0) ≡ not (saturates self.now (L.count * _chunk + i))) }
+        ensures bound { IfSome result (λ made. made.saturated < 2 ^ L.count) }
+    {
+        None
+    }
 }
 
-/// Writes the result to each active element of the destination, and says whether one of these saturated,
-/// so that `vxsat` is set (section 3.9). Where `fill_masked_off`, the elements of the body that are masked
-/// off become all ones; all others keep.
-pub fn write_saturating_results<L: Lane, R: SaturatingResults<L>>(
+/// `write_saturating_results`, element by element.
+fn write_each<L: Lane, R: SaturatingResults<L>>(
     results: &R,
     body: &Body<'_>,
     destination: &mut [u8],
@@ -61,4 +79,69 @@ pub fn write_saturating_results<L: Lane, R: SaturatingResults<L>>(
         }
     }
     saturated
+}
+
+/// How far a destination is written: the index of the first element that is left, and whether an active one
+/// before it saturated.
+#[derive(Drop)]
+struct Progress {
+    left: usize,
+    saturated: bool,
+}
+
+/// `write_saturating_results`, chunk by chunk, up to the first chunk whose results aren't made side by side.
+fn write_chunks<L: Lane, R: SaturatingResults<L>>(
+    results: &R,
+    body: &Body<'_>,
+    destination: &mut [u8],
+    fill_masked_off: bool,
+) -> Progress
+    requires { body.now.end ≤ GROUP_BYTES }
+    ensures writes { Writes (width_bytes L.width) (λ e. is_changed body.now fill_masked_off false e && nat_lt e result.left)
+        (result_or_ones body.now (R.number results.now) (ones L.width)) destination.old destination.new }
+    ensures saturated { result.saturated
+        ≡ list_any (λ e. is_active body.now e && R.saturates results.now e) (range_with_len 0 result.left) }
+{
+    let count = L::count();
+    let whole = (destination.len() / 32).min(body.end().div_ceil(count));
+    let mut saturated = false;
+    for c in 0..whole {
+        let Some(made) = results.chunk_results(c) else {
+            return Progress {
+                left: count * c,
+                saturated,
+            };
+        };
+        let active = active_bits(body, count * c, count);
+        let filled = filled_bits(body, fill_masked_off, count * c, count);
+        put_results::<L>(made.values, active, filled, 32 * c, destination);
+        saturated |= made.saturated & active != 0;
+    }
+    Progress {
+        left: count * whole,
+        saturated,
+    }
+}
+
+/// Writes the result to each active element of the destination, and says whether one of these saturated,
+/// so that `vxsat` is set (section 3.9). Where `fill_masked_off`, the elements of the body that are masked
+/// off become all ones; all others keep.
+pub fn write_saturating_results<L: Lane, R: SaturatingResults<L>>(
+    results: &R,
+    body: &Body<'_>,
+    destination: &mut [u8],
+    fill_masked_off: bool,
+) -> bool
+    requires operands { (i : ℕ) → i < body.now.end → R.has results.now i }
+    requires room { width_bytes L.width * body.now.end ≤ length destination.old }
+    requires count { body.now.end ≤ GROUP_BYTES }
+    ensures writes { Writes (width_bytes L.width) (is_changed body.now fill_masked_off false)
+        (result_or_ones body.now (R.number results.now) (ones L.width)) destination.old destination.new }
+    ensures saturated { result ≡ some_active body.now (R.saturates results.now) }
+{
+    let done = write_chunks(results, body, destination, fill_masked_off);
+    let start = body.start().max(done.left);
+    let rest = Body::new(body.is_unmasked(), body.mask(), start, body.end());
+    let saturated = write_each(results, &rest, destination, fill_masked_off);
+    done.saturated | saturated
 }

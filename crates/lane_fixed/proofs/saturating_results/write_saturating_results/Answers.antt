@@ -1,53 +1,21 @@
-use Rattle.std.proofs.Common.{ℕ, Bool, ◌*◌, ◌+◌, ◌<◌, ◌≤◌, ◌||◌, arith, length, sym, ap, ◌∙◌}
-use Rattle.std.specs.Int.{bytes_low_first}
-use lib.Lanes.{put_chunk}
+use Rattle.std.proofs.Common.{Bool, ℕ, ◌≡◌, ◌∙◌, max, refl}
 use Rattle.rv_model.specs.elements.Elements.{Body}
 use Rattle.rv_model.specs.vector.Configuration.{width_bytes}
-use Rattle.rv_model.proofs.element_lemmas.Actives.{some_begins, some_ends, some_off, some_step}
-use Rattle.rv_model.proofs.element_lemmas.Sets.{step_result, step_ones, step_off, body_begins, body_ends, room_for}
+use Rattle.lane_arith.proofs.ChunkWrites.{then_rest}
+use Rattle.lane_fixed.proofs.SomeActive.{rest_tells}
 use Rattle.lane_fixed.proofs.saturating_results.write_saturating_results.Goals as goal
-use Rattle.lane_fixed.proofs.saturating_results.write_saturating_results.Goals.{then-lets, else-lets+then-fill_masked_off, else-lets+else-fill_masked_off}
-
-pub loop-i-init : goal.loop-i-init
-loop-i-init g c = record {
-  writes = rw c.start-i.ensures (body_begins _ c.args.body.now _ _ _);
-  saturated = sym (some_begins c.args.body.now _ _ (omega (arith, c.start-i.ensures)));
-}
-
-pub loop-i-preserved : goal.loop-i-preserved
-loop-i-preserved g c =
-    let k : ℕ = width_bytes g.L.Lane.width in
-    let body : Body = c.args.body.now in
-    let i : ℕ = c.loop-i.i in
-    let saturates : ℕ → Bool = g.R.SaturatingResults.saturates c.args.results.now in
-    let from : body.start ≤ i = omega (arith, c.loop-i.auto.i, c.start-i.ensures) in
-    let to : i < body.end = omega (arith, c.loop-i-test.true, c.end-i-end.ensures) in
-    let room : k * i + k ≤ length c.args.destination.now = room_for _ _ _ _ to c.requires.room in
-    elim c.if-lets.branch [
-      | then-lets w ↦ record {
-        writes = step_result _ body _ _ _ _ _ _ _ from to c.loop-i.invariant.writes room (sym c.lets.ensures ∙ w.if-lets.true)
-            (w.destination-is ∙ w.store.ensures
-            ∙ ap (λ n. put_chunk (k * i) c.loop-i.destination (bytes_low_first 0 k n)) w.result-result.ensures.value);
-        saturated = w.saturated-is ∙ ap (λ b. c.loop-i.saturated || b) w.result-result.ensures.saturated
-            ∙ ap (λ b. b || saturates i) c.loop-i.invariant.saturated
-            ∙ sym (some_step body saturates i from to (sym c.lets.ensures ∙ w.if-lets.true));
-      }
-      | else-lets+then-fill_masked_off w ↦ record {
-        writes = step_ones _ body _ _ _ _ _ _ _ from to c.loop-i.invariant.writes room (sym c.lets.ensures ∙ w.if-lets.false)
-            w.if-fill_masked_off.true
-            (w.destination-is ∙ w.store-then-fill_masked_off.ensures
-            ∙ ap (λ n. put_chunk (k * i) c.loop-i.destination (bytes_low_first 0 k n)) w.all_ones.ensures);
-        saturated = w.saturated-is ∙ c.loop-i.invariant.saturated ∙ sym (some_off body saturates i (sym c.lets.ensures ∙ w.if-lets.false));
-      }
-      | else-lets+else-fill_masked_off w ↦ record {
-        writes = step_off _ body _ _ _ _ _ _ _ from to c.loop-i.invariant.writes (sym c.lets.ensures ∙ w.if-lets.false) w.if-fill_masked_off.false
-            w.destination-is;
-        saturated = w.saturated-is ∙ c.loop-i.invariant.saturated ∙ sym (some_off body saturates i (sym c.lets.ensures ∙ w.if-lets.false));
-      }
-    ]
 
 pub returns : goal.returns
-returns g c = record {
-  writes = body_ends _ c.args.body.now _ _ _ _ _ (omega (arith, c.loop-i-test.false, c.end-i-end.ensures)) c.loop-i.invariant.writes;
-  saturated = c.loop-i.invariant.saturated ∙ some_ends c.args.body.now _ _ (omega (arith, c.loop-i-test.false, c.end-i-end.ensures));
-}
+returns g c =
+    let body : Body = c.args.body.now in
+    let left : ℕ = c.write_chunks-done.result.left in
+    let saturates : ℕ → Bool = g.R.SaturatingResults.saturates c.args.results.now in
+    let from : c.max-start.result ≡ max body.start left = rw c.start.ensures at c.max-start.ensures in
+    let rest : c.new-rest.result ≡ record { unmasked = body.unmasked; mask = body.mask; start = max body.start left; end = body.end } =
+    c.new-rest.ensures ∙ rw (c.is_unmasked.ensures, c.mask.ensures, from, c.end.ensures) refl in
+    record {
+      writes = then_rest (width_bytes g.L.Lane.width) body.unmasked body.mask body.start body.end c.args.fill_masked_off left _ _
+          c.new-rest.result c.args.destination.now c.write_chunks-done.new.destination c.write_each-saturated.new.destination rest
+          c.write_chunks-done.ensures.writes c.write_each-saturated.ensures.writes;
+      saturated = rw (c.write_chunks-done.ensures.saturated, c.write_each-saturated.ensures.saturated) (rest_tells body c.new-rest.result saturates left rest);
+    }

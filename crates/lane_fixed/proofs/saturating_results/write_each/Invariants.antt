@@ -5,7 +5,7 @@ use Rattle.rv_model.specs.elements.Writes.{Writes}
 use Rattle.rv_model.specs.vector.Configuration.{width_bytes}
 use Rattle.rv_model.specs.elements.Formulas.{ones}
 use Rattle.rv_model.proofs.element_lemmas.Actives.{some_before}
-use Rattle.lane_fixed.proofs.saturating_results.write_saturating_results.Given as goal
+use Rattle.lane_fixed.proofs.saturating_results.write_each.Given as goal
 
 abbrev pub invariant-loop-i : goal.invariant-loop-i
 invariant-loop-i g l =

@@ -1,0 +1,2 @@
+pub mod SomeActive
+pub mod WiderNumbers

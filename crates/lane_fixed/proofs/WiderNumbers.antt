@@ -1,0 +1,59 @@
+-- Whole numbers that need one bit more than a width has: sums and differences, their halves and the nearest numbers.
+use Rattle.std.proofs.Common.{◌≡◌, ℕ, ◌+◌, ◌/◌, ◌%◌, ◌^◌, ◌<◌, ℤ, ◌+ℤ◌, ◌-ℤ◌, refl, ap, arith, Bool, true, false, not, eqb, nat_le, w8, w16, w32, w64}
+use Rattle.std.proofs.Math.Nat.{zero-div}
+use Rattle.std.proofs.lemmas.Bool.Decides.{nat_tests}
+use Rattle.std.proofs.lemmas.Int.{ints}
+use Rattle.std.specs.Int.{Width, cast_signed, w128}
+use Rattle.std.specs.Int.Signed.{mag}
+use Rattle.std.specs.Ordering.{int_eq}
+use mir.Val.{bits, hbits}
+use Rattle.rv_model.specs.elements.Formulas.{wrap}
+use Rattle.rv_model.specs.elements.FixedPoint.{has_bit}
+
+-- ---- sums of signed numbers
+
+-- the low bits
+pub signed_sum_low : (w : Width) (a b : ℕ) → a < 2 ^ bits w → b < 2 ^ bits w → (a + b) % 2 ^ bits w ≡ wrap w (cast_signed w a +ℤ cast_signed w b)
+signed_sum_low w8 a b h k = grind (arith, ints)
+signed_sum_low w16 a b h k = grind (arith, ints)
+signed_sum_low w32 a b h k = grind (arith, ints)
+signed_sum_low w64 a b h k = grind (arith, ints)
+signed_sum_low w128 a b h k = grind (arith, ints)
+
+-- the bit above
+pub signed_sum_above : (w : Width) (a b : ℕ) → a < 2 ^ bits w → b < 2 ^ bits w
+    → nat_le ((a + 2 ^ hbits w) % 2 ^ bits w) ((a + b) % 2 ^ bits w) ≡ has_bit (bits w) (cast_signed w a +ℤ cast_signed w b)
+signed_sum_above w8 a b h k = grind (arith, ints, nat_tests)
+signed_sum_above w16 a b h k = grind (arith, ints, nat_tests)
+signed_sum_above w32 a b h k = grind (arith, ints, nat_tests)
+signed_sum_above w64 a b h k = grind (arith, ints, nat_tests)
+signed_sum_above w128 a b h k = grind (arith, ints, nat_tests)
+
+-- ---- what saturates
+
+-- sums and differences of signed numbers need no more than one bit more
+pub small_signed_sum : (w : Width) (a b : ℕ) → a < 2 ^ bits w → b < 2 ^ bits w → mag (cast_signed w a +ℤ cast_signed w b) < 2 ^ bits w
+small_signed_sum w8 a b h k = grind (arith, ints)
+small_signed_sum w16 a b h k = grind (arith, ints)
+small_signed_sum w32 a b h k = grind (arith, ints)
+small_signed_sum w64 a b h k = grind (arith, ints)
+small_signed_sum w128 a b h k = grind (arith, ints)
+
+pub small_signed_difference : (w : Width) (a b : ℕ) → a < 2 ^ bits w → b < 2 ^ bits w → mag (cast_signed w a -ℤ cast_signed w b) < 2 ^ bits w
+small_signed_difference w8 a b h k = grind (arith, ints)
+small_signed_difference w16 a b h k = grind (arith, ints)
+small_signed_difference w32 a b h k = grind (arith, ints)
+small_signed_difference w64 a b h k = grind (arith, ints)
+small_signed_difference w128 a b h k = grind (arith, ints)
+
+-- a number is itself
+pub is_itself : (v : ℤ) → true ≡ not (not (int_eq v v))
+is_itself v = grind (arith, ints)
+
+pub twice_not : (b : Bool) → b ≡ not (not b)
+twice_not true = refl
+twice_not false = refl
+
+-- no bit of 0 is set
+pub clear_bit : (i : ℕ) → eqb (0 / 2 ^ i % 2) 0 ≡ true
+clear_bit i = ap (λ x. eqb (x % 2) 0) (zero-div (2 ^ i))
