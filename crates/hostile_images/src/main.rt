@@ -1,0 +1,73 @@
+//! Images made to do harm, as `elf_load` checks and places them and as they are read slowly here: by rules that each stand
+//! by themselves, with the pages as a union of ranges and each byte found by a search among all segments.
+//!
+//! A line for each kind has how many images were placed, how many take too many pages, how many have each fault, and how
+//! many ended otherwise than the slow reading says. It compares the first fault, the entry, how many pages there are, and of
+//! each page all bytes and what it may be used for.
+#![tactic(auto)]
+
+mod building;
+mod comparison;
+mod extremes;
+mod layout;
+mod many_segments;
+mod random_bytes;
+mod reading;
+mod segments;
+
+use anyhow::{Context, Result};
+use comparison::Bench;
+use extremes::{compare_fields, compare_pairs};
+use many_segments::{compare_shapes, compare_sizes};
+use rand_core::SeedableRng;
+use rand_xoshiro::Xoshiro256PlusPlus;
+use random_bytes::compare_random;
+use rv_model::User;
+use segments::compare_generated;
+use std::alloc::AllocError;
+use std::fs;
+use user_mem::Pool;
+
+/// How many segments lie over the same pages.
+const SEGMENTS: u64 = 2000;
+
+/// How many images of segments are generated.
+const GENERATED: usize = 4000;
+
+/// How many images of random bytes there are of each kind.
+const RANDOM: usize = 20_000;
+
+/// Each cut of an image.
+fn compare_cuts(image: &[u8], bench: &mut Bench) -> Result<(), AllocError> {
+    for size in 0..=image.len() {
+        bench.compare(&image[..size])?;
+    }
+    Ok(())
+}
+
+fn main(rt: HostRuntime) -> Result<()> {
+    let alloc = rt.alloc();
+    let good = fs::read(&rt, "good")?;
+    let sort = fs::read(&rt, "sortgcc")?;
+    let pool = Pool::new(alloc).ok().context("out of memory")?;
+    let user = User::new(1).context("no user")?;
+    let mut bench = Bench::new(alloc, pool, user);
+    let mut generator = Xoshiro256PlusPlus::seed_from_u64(1);
+    compare_cuts(good.as_slice(), &mut bench)?;
+    bench.print(&rt, "cuts of a small image")?;
+    compare_cuts(sort.as_slice(), &mut bench)?;
+    bench.print(&rt, "cuts of a compiler's image")?;
+    compare_fields(alloc, good.as_slice(), &mut bench)?;
+    bench.print(&rt, "fields at their extremes")?;
+    compare_pairs(alloc, good.as_slice(), &mut bench)?;
+    bench.print(&rt, "two fields at their extremes")?;
+    compare_sizes(alloc, &mut bench)?;
+    bench.print(&rt, "large segments")?;
+    compare_shapes(alloc, SEGMENTS, &mut bench)?;
+    bench.print(&rt, "many segments")?;
+    compare_generated(alloc, GENERATED, &mut generator, &mut bench)?;
+    bench.print(&rt, "generated segments")?;
+    compare_random(RANDOM, &mut generator, &mut bench)?;
+    bench.print(&rt, "random bytes")?;
+    Ok(())
+}
