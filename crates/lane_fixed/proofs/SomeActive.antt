@@ -1,6 +1,6 @@
 -- Whether a test holds for some active element: of the elements of a chunk, and then of the rest.
 use Rattle.std.proofs.Common.{◌≡◌, ℕ, zero, suc, ◌+◌, ◌*◌, ◌/◌, ◌%◌, ◌^◌, ◌<◌, ◌≤◌, Bool, true, false, ◌&&◌, ◌||◌, not, eqb, bit_and, max, refl, sym, ap, ◌∙◌, arith, zero-add}
-use Rattle.std.proofs.Math.Bool.{or_assoc}
+use Rattle.std.proofs.Math.Bool.{and_comm, or_assoc}
 use Rattle.std.proofs.Math.Nat.{div-div-eq-div-mul, mul-add, mul-one, pow-succ'}
 use Rattle.std.proofs.lemmas.Bool.Decides.{nat_tests}
 use Rattle.std.proofs.lemmas.Nat.{and_le_l}
@@ -24,6 +24,7 @@ any_joined test a (suc m) n =
     ∙ ap (λ t. test a || t) (any_joined test (a + 1) m n ∙ ap (λ x. list_any test (range_with_len (a + 1) m) || list_any test (range_with_len x n)) f)
     ∙ sym (or_assoc (test a) (list_any test (range_with_len (a + 1) m)) (list_any test (range_with_len (a + suc m) n)))
 
+-- the first numbers and those after them
 first_and_next : (test : ℕ → Bool) (m n : ℕ) → list_any test (range_with_len 0 (m + n)) ≡ (list_any test (range_with_len 0 m) || list_any test (range_with_len m n))
 first_and_next test m n = any_joined test 0 m n ∙ ap (λ x. list_any test (range_with_len 0 m) || list_any test (range_with_len x n)) (zero-add m)
 
@@ -38,13 +39,14 @@ any_same test other a (suc n) h =
 
 -- ---- a word with a bit for each index
 
+-- the word is 0 where none is set
 any_bit : (test : ℕ → Bool) (n a x : ℕ) → x < 2 ^ n → ((i : ℕ) → i < n → eqb (x / 2 ^ i % 2) 0 ≡ not (test (a + i)))
     → not (eqb x 0) ≡ list_any test (range_with_len a n)
 any_bit test zero a x small bits = let none : x ≡ 0 = omega (arith, small) in ap (λ y. not (eqb y 0)) none
 any_bit test (suc n) a x small bits =
     let twice : 2 ^ suc n ≡ 2 * 2 ^ n = pow-succ' 2 n in
     let half : x / 2 < 2 ^ n = omega (arith, small, twice) in
-    lowest (test a) (eqb-here (bits 0 (omega arith)))
+    lowest (test a) (here_is (bits 0 (omega arith)))
     ∙ ap (λ t. test a || t) (any_bit test n (a + 1) (x / 2) half (λ i h. later i ∙ bits (suc i) (omega (arith, h)) ∙ ap (λ e. not (test e)) (next i)))
   where
     next : (i : ℕ) → a + suc i ≡ a + 1 + i
@@ -53,8 +55,8 @@ any_bit test (suc n) a x small bits =
     later : (i : ℕ) → eqb (x / 2 / 2 ^ i % 2) 0 ≡ eqb (x / 2 ^ suc i % 2) 0
     later i = ap (λ y. eqb (y % 2) 0) (div-div-eq-div-mul x 2 (2 ^ i) ∙ ap (λ y. x / y) (sym (pow-succ' 2 i)))
 
-    eqb-here : eqb (x / 2 ^ 0 % 2) 0 ≡ not (test (a + 0)) → eqb (x % 2) 0 ≡ not (test a)
-    eqb-here h =
+    here_is : eqb (x / 2 ^ 0 % 2) 0 ≡ not (test (a + 0)) → eqb (x % 2) 0 ≡ not (test a)
+    here_is h =
         let e : a + 0 ≡ a = omega arith in
         let f : x ≡ x / 2 ^ 0 = omega arith in
         ap (λ y. eqb (y % 2) 0) f ∙ h ∙ ap (λ y. not (test y)) e
@@ -77,14 +79,8 @@ chunk_tells body test n c was holds active told small held actives =
     ∙ ap (λ t. some_before body test (n * c) || t)
     (any_bit both n (n * c) (bit_and holds active) (omega (arith, and_le_l holds active, small))
     (λ i h. both_bits holds active i (test (n * c + i)) (is_active body (n * c + i)) (held i h) (actives i h)
-    ∙ ap not (turned (test (n * c + i)) (is_active body (n * c + i)))))
+    ∙ ap not (and_comm (test (n * c + i)) (is_active body (n * c + i)))))
     ∙ sym (first_and_next both (n * c) n) ∙ ap (some_before body test) more
-  where
-    turned : (a b : Bool) → (a && b) ≡ (b && a)
-    turned true true = refl
-    turned true false = refl
-    turned false true = refl
-    turned false false = refl
 
 -- the elements before a cut, and those of a body from it on
 pub rest_tells : (body rest : Body) (test : ℕ → Bool) (cut : ℕ)

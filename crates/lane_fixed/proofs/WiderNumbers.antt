@@ -1,5 +1,5 @@
 -- Whole numbers that need one bit more than a width has: sums and differences, their halves and the nearest numbers.
-use Rattle.std.proofs.Common.{◌≡◌, ℕ, ◌+◌, ◌/◌, ◌%◌, ◌^◌, ◌<◌, ℤ, ◌+ℤ◌, ◌-ℤ◌, refl, ap, arith, Bool, true, false, not, eqb, nat_le, w8, w16, w32, w64}
+use Rattle.std.proofs.Common.{◌≡◌, ℕ, ◌+◌, ◌/◌, ◌%◌, ◌^◌, ◌<◌, ℤ, ◌+ℤ◌, ◌-ℤ◌, ap, arith, true, not, eqb, nat_le, w8, w16, w32, w64}
 use Rattle.std.proofs.Math.Nat.{zero-div}
 use Rattle.std.proofs.lemmas.Bool.Decides.{nat_tests}
 use Rattle.std.proofs.lemmas.Int.{ints}
@@ -49,10 +49,6 @@ small_signed_difference w128 a b h k = grind (arith, ints)
 -- a number is itself
 pub is_itself : (v : ℤ) → true ≡ not (not (int_eq v v))
 is_itself v = grind (arith, ints)
-
-pub twice_not : (b : Bool) → b ≡ not (not b)
-twice_not true = refl
-twice_not false = refl
 
 -- no bit of 0 is set
 pub clear_bit : (i : ℕ) → eqb (0 / 2 ^ i % 2) 0 ≡ true
