@@ -10,6 +10,7 @@ use rv_model::{Cause, Field, Reg, Scalar, StepEnd};
 use scalar_core::{b_immediate, i_immediate, j_immediate};
 
 /// Where JAL goes.
+#[inline(always)]
 pub(crate) fn jump_target(pc: u64, imm: Field<20>) -> u64
     ensures { result ≡ jump_target pc imm }
 {
@@ -17,6 +18,7 @@ pub(crate) fn jump_target(pc: u64, imm: Field<20>) -> u64
 }
 
 /// Where JALR goes.
+#[inline(always)]
 pub(crate) fn register_target(base: u64, imm: Field<12>) -> u64
     ensures { result ≡ register_target base imm }
 {
@@ -25,6 +27,7 @@ pub(crate) fn register_target(base: u64, imm: Field<12>) -> u64
 }
 
 /// Where a branch goes.
+#[inline(always)]
 pub(crate) fn branch_target(pc: u64, imm: Field<12>) -> u64
     ensures { result ≡ branch_target pc imm }
 {
@@ -33,6 +36,7 @@ pub(crate) fn branch_target(pc: u64, imm: Field<12>) -> u64
 
 /// A jump, which leaves in `rd` the address of the instruction that follows it. Nothing changes where no
 /// instruction may stand at the target.
+#[inline(always)]
 pub(crate) fn jump(rd: Reg, target: u64, scalar: &mut Scalar) -> StepEnd
     ensures model { LeadsRegisters (jump_step rd target) scalar.old scalar.new result }
     ensures uncut { result ≢ StepEnd.Cut }
@@ -47,6 +51,7 @@ pub(crate) fn jump(rd: Reg, target: u64, scalar: &mut Scalar) -> StepEnd
 }
 
 /// A branch.
+#[inline(always)]
 pub(crate) fn jump_if(taken: bool, target: u64, scalar: &mut Scalar) -> StepEnd
     ensures model { LeadsRegisters (branch_step taken target) scalar.old scalar.new result }
     ensures uncut { result ≢ StepEnd.Cut }

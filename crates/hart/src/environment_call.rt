@@ -36,6 +36,7 @@ fn call_environment<M: UserBytes>(
 }
 
 /// ECALL, and EBREAK, which stops the program where it stands.
+#[inline(always)]
 pub(crate) fn system<M: UserBytes>(
     op: SystemOp,
     scalar: &mut Scalar,

@@ -4,6 +4,7 @@ ghost use Rattle.std.specs.Prelude.{◌≡◌};
 use rv_model::{Cause, Scalar, StepEnd};
 
 /// The instruction faults, with the address or the word that caused it.
+#[inline(always)]
 pub(crate) fn fault(cause: Cause, value: u64, scalar: &Scalar) -> StepEnd
     ensures { result ≡ StepEnd.Fault cause scalar.now.pc value }
 {
@@ -15,6 +16,7 @@ pub(crate) fn fault(cause: Cause, value: u64, scalar: &Scalar) -> StepEnd
 }
 
 /// The word is no instruction, or one that is illegal here.
+#[inline(always)]
 pub(crate) fn illegal(word: u32, scalar: &Scalar) -> StepEnd
     ensures { result ≡ StepEnd.Fault Cause.IllegalInstruction scalar.now.pc word }
 {

@@ -66,13 +66,15 @@ fn execute<M: UserBytes, V: Vectors>(
     let Some(instr) = &decoded else {
         return (illegal(word, scalar), 1);
     };
-    if is_touching(instr) {
-        let seat = vectors.seat();
-        seat.state.conf.length_law();
-        execute_touching(instr, word, scalar, memory, seat, limit, policy)
-    } else {
-        (execute_scalar(instr, word, scalar, memory, output), 1)
+    if !is_touching(instr) {
+        return (execute_scalar(instr, word, scalar, memory, output), 1);
     }
+
+    // A copy, so that a scalar instruction needs no place in memory.
+    let touching = *instr;
+    let seat = vectors.seat();
+    seat.state.conf.length_law();
+    execute_touching(&touching, word, scalar, memory, seat, limit, policy)
 }
 
 /// Carries out one instruction of a user within `limit` ticks, and answers how it ended and how many

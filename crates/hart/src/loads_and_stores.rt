@@ -102,18 +102,6 @@ pub(crate) fn load<M: UserBytes>(
     }
 }
 
-/// How many bytes a store writes.
-fn store_size(op: StoreOp) -> usize
-    ensures { result ≡ byte_len (store_width op) }
-{
-    match op {
-        StoreOp::Sb => 1,
-        StoreOp::Sh => 2,
-        StoreOp::Sw => 4,
-        StoreOp::Sd => 8,
-    }
-}
-
 /// A store of the lowest bytes of a value, which is refused where one of its bytes may not be written.
 #[inline(always)]
 pub(crate) fn store<M: UserBytes>(
@@ -129,7 +117,13 @@ pub(crate) fn store<M: UserBytes>(
     ensures uncut { result ≢ StepEnd.Cut }
 {
     let bytes = value.to_le_bytes();
-    match memory.write(addr, Access::Store, &bytes[..store_size(op)]) {
+    let written = match op {
+        StoreOp::Sb => memory.write(addr, Access::Store, &bytes[..1]),
+        StoreOp::Sh => memory.write(addr, Access::Store, &bytes[..2]),
+        StoreOp::Sw => memory.write(addr, Access::Store, &bytes[..4]),
+        StoreOp::Sd => memory.write(addr, Access::Store, &bytes),
+    };
+    match written {
         Ok(()) => run_on(scalar),
         Err(_) => fault(Cause::StoreAccess, addr, scalar),
     }

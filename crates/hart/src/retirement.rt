@@ -6,6 +6,7 @@ ghost use Rattle.rv_model.specs.scalar.Registers.{advanced, with_register};
 use rv_model::{Reg, Scalar, StepEnd};
 
 /// The instruction ran, and the next one follows it.
+#[inline(always)]
 pub(crate) fn run_on(scalar: &mut Scalar) -> StepEnd
     ensures end { result ≡ StepEnd.Ran }
     ensures scalar { scalar.new ≡ advanced scalar.old }
@@ -15,6 +16,7 @@ pub(crate) fn run_on(scalar: &mut Scalar) -> StepEnd
 }
 
 /// The instruction ran, gave a register this value, and the next one follows it.
+#[inline(always)]
 pub(crate) fn give(rd: Reg, value: u64, scalar: &mut Scalar) -> StepEnd
     ensures end { result ≡ StepEnd.Ran }
     ensures scalar { scalar.new ≡ advanced (with_register rd value scalar.old) }

@@ -81,6 +81,7 @@ pub(crate) fn is_touching(instr: &Instr) -> bool
 
 /// Carries out an instruction that touches the vector unit within `limit` ticks.
 #[tactic(auto, unfolding(rv_model::specs::step::Step::executed, rv_model::specs::step::Step::dirties))]
+#[inline(always)]
 pub(crate) fn execute_touching<M: UserBytes>(
     instr: &Instr,
     word: u32,

@@ -106,6 +106,7 @@ pub(crate) fn shift_immediate_word_op(bits: u32) -> Option<ShiftImmediateWordOp>
 }
 
 /// The operation of these bits, for `Instr::RegisterRegister`.
+#[inline(always)]
 pub(crate) fn register_op(bits: u32) -> Option<RegisterOp>
     ensures { result ≡ find register_op_bits register_ops bits }
 {
