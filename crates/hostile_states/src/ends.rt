@@ -1,0 +1,98 @@
+//! How instructions end where no memory is mapped, and registers hold ones.
+use crate::shapes::{Access, Shape};
+use rv_model::VEnd;
+
+/// What an instruction finds.
+#[derive(Clone, Copy, Drop)]
+pub(crate) struct Found {
+    pub vl: u64,
+    pub vstart: u8,
+    /// Whether its elements are active: those of a masked instruction all are, or none is.
+    pub is_active: bool,
+    /// How many indices it may carry out.
+    pub limit: u64,
+}
+
+/// How an instruction ends, and the vstart that it leaves.
+#[derive(Clone, Copy, Drop)]
+pub(crate) struct Ending {
+    pub end: VEnd,
+    pub vstart: u64,
+}
+
+/// How many indices there are.
+fn length(access: Access, vl: u64) -> u64 {
+    match access {
+        Access::Whole(count, _) => count,
+        Access::Mask => vl.div_ceil(8),
+        _ => vl,
+    }
+}
+
+/// The address of an index: the base and the stride are all ones, and so is each offset.
+fn address(access: Access, index: u64) -> u64 {
+    let distance = match access {
+        Access::Unit(bytes) | Access::FaultOnlyFirst(bytes) | Access::Whole(_, bytes) => {
+            index.wrapping_mul(bytes)
+        }
+        Access::Strided => index.wrapping_neg(),
+        Access::Indexed(8) => 0xff,
+        Access::Indexed(16) => 0xffff,
+        Access::Indexed(32) => 0xffff_ffff,
+        Access::Indexed(_) => u64::MAX,
+        Access::Mask => index,
+    };
+    u64::MAX.wrapping_add(distance)
+}
+
+/// The end of a legal load or store.
+fn access_ending(access: Access, store: bool, found: Found) -> Ending {
+    let index = u64::from(found.vstart);
+    let length = length(access, found.vl);
+    let done = Ending {
+        end: VEnd::Done,
+        vstart: 0,
+    };
+    let last = index.wrapping_add(found.limit);
+    if index >= length {
+        return done;
+    }
+    if found.is_active {
+        return match access {
+            Access::FaultOnlyFirst(_) if index > 0 => done,
+            _ => Ending {
+                end: VEnd::Fault {
+                    store,
+                    addr: address(access, index),
+                },
+                vstart: index,
+            },
+        };
+    }
+    if last < length {
+        return Ending {
+            end: VEnd::Cut {
+                index: last as usize,
+            },
+            vstart: last,
+        };
+    }
+    done
+}
+
+/// The end of an instruction, legal or not.
+pub(crate) fn ending_of(shape: &Shape, legal: bool, found: Found) -> Ending {
+    if !legal {
+        return Ending {
+            end: VEnd::Illegal,
+            vstart: u64::from(found.vstart),
+        };
+    }
+    match shape.access {
+        Some(access) => access_ending(access, shape.destination.is_none(), found),
+        None => Ending {
+            end: VEnd::Done,
+            vstart: 0,
+        },
+    }
+}
