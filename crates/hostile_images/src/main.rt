@@ -28,9 +28,6 @@ use std::alloc::AllocError;
 use std::fs;
 use user_mem::Pool;
 
-/// How many segments lie over the same pages.
-const SEGMENTS: u64 = 2000;
-
 /// How many images of segments are generated.
 const GENERATED: usize = 4000;
 
@@ -63,7 +60,7 @@ fn main(rt: HostRuntime) -> Result<()> {
     bench.print(&rt, "two fields at their extremes")?;
     compare_sizes(alloc, &mut bench)?;
     bench.print(&rt, "large segments")?;
-    compare_shapes(alloc, SEGMENTS, &mut bench)?;
+    compare_shapes(alloc, &mut bench)?;
     bench.print(&rt, "many segments")?;
     compare_generated(alloc, GENERATED, &mut generator, &mut bench)?;
     bench.print(&rt, "generated segments")?;
