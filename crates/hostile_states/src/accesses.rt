@@ -2,8 +2,8 @@
 use crate::shapes::Elements::{Bits, Mask, Sew, Whole};
 use crate::shapes::{Access, Shape, Sharing};
 
-/// Those of contiguous elements, of masks and of whole registers.
-pub(crate) fn contiguous() -> [Shape; 12] {
+/// Those of contiguous elements.
+pub(crate) fn contiguous() -> [Shape; 7] {
     [
         Shape::new(&["vle8.v v8, (x10)", "vle8.v v8, (x10), v0.t"])
             .to(8, Bits(3))
@@ -26,6 +26,12 @@ pub(crate) fn contiguous() -> [Shape; 12] {
         Shape::new(&["vsseg3e8.v v26, (x10)", "vsseg3e8.v v26, (x10), v0.t"])
             .from_fields(26, Bits(3), 3)
             .access(Access::Unit(3)),
+    ]
+}
+
+/// Those of masks and of whole registers.
+pub(crate) fn of_registers() -> [Shape; 5] {
+    [
         Shape::new(&["vlm.v v9, (x10)"])
             .to(9, Mask)
             .access(Access::Mask),

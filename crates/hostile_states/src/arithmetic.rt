@@ -2,8 +2,8 @@
 use crate::shapes::Elements::{Bits, Mask, One, Sew, Whole};
 use crate::shapes::{Shape, Sharing};
 
-/// Operations of one width, moves and vset instructions.
-pub(crate) fn of_one_width() -> [Shape; 8] {
+/// Operations of one width, and vset instructions.
+pub(crate) fn of_one_width() -> [Shape; 4] {
     [
         Shape::new(&[
             "vsetvli x5, x6, e8, m1, ta, ma",
@@ -41,6 +41,12 @@ pub(crate) fn of_one_width() -> [Shape; 8] {
         ])
         .to(0, Sew(0))
         .from(8, Sew(0)),
+    ]
+}
+
+/// High products, and moves.
+pub(crate) fn products_and_moves() -> [Shape; 4] {
+    [
         Shape::new(&[
             "vmulh.vv v8, v16, v24",
             "vmulhsu.vv v8, v16, v24, v0.t",
@@ -98,8 +104,8 @@ pub(crate) fn of_two_widths() -> [Shape; 9] {
     ]
 }
 
-/// Instructions on masks, and reductions.
-pub(crate) fn on_masks() -> [Shape; 10] {
+/// Instructions whose results are masks.
+pub(crate) fn mask_results() -> [Shape; 4] {
     [
         Shape::new(&[
             "vmadc.vvm v8, v16, v24, v0",
@@ -119,6 +125,12 @@ pub(crate) fn on_masks() -> [Shape; 10] {
             .to(0, Mask)
             .from(8, Sew(0))
             .sharing(Sharing::ByWidthOrMask),
+    ]
+}
+
+/// Instructions on masks, and reductions.
+pub(crate) fn on_masks() -> [Shape; 6] {
+    [
         Shape::new(&["vmand.mm v9, v9, v11", "vmxnor.mm v9, v9, v11"])
             .to(9, Mask)
             .from(9, Mask)

@@ -14,9 +14,11 @@ mod rules;
 mod running;
 mod shapes;
 
-use accesses::{contiguous, scattered};
+use accesses::{contiguous, of_registers, scattered};
 use anyhow::{Context, Result};
-use arithmetic::{of_one_width, of_two_widths, on_masks, permutations};
+use arithmetic::{
+    mask_results, of_one_width, of_two_widths, on_masks, permutations, products_and_moves,
+};
 use running::counts_of;
 use shapes::Shape;
 
@@ -42,10 +44,13 @@ fn compare_shapes(rt: &impl Print, shapes: &[Shape]) -> Result<()> {
 
 fn main(rt: HostRuntime) -> Result<()> {
     compare_shapes(&rt, &of_one_width())?;
+    compare_shapes(&rt, &products_and_moves())?;
     compare_shapes(&rt, &of_two_widths())?;
+    compare_shapes(&rt, &mask_results())?;
     compare_shapes(&rt, &on_masks())?;
     compare_shapes(&rt, &permutations())?;
     compare_shapes(&rt, &contiguous())?;
+    compare_shapes(&rt, &of_registers())?;
     compare_shapes(&rt, &scattered())?;
     Ok(())
 }
