@@ -16,7 +16,7 @@ use std::process::ExitCode;
 use vec_monitor::vecmon;
 
 /// The words after the program's name.
-const LINES: [&[&str]; 33] = [
+const LINES: [&[&str]; 38] = [
     &["--help"],
     &[],
     &["empty"],
@@ -28,6 +28,30 @@ const LINES: [&[&str]; 33] = [
     &["missing", "good=good", "a=missing"],
     &["missing", "good=good", "a=missing", "a"],
     &["missing", "good=good", "good=good"],
+    &["empty", "a b=empty"],
+    &["empty", "a=missing=b"],
+    &[
+        "empty",
+        "n0=empty",
+        "n1=empty",
+        "n2=empty",
+        "n3=empty",
+        "n4=empty",
+        "n5=empty",
+        "n6=empty",
+        "n7=empty",
+        "n8=empty",
+        "n9=empty",
+        "n10=empty",
+        "n11=empty",
+        "n12=empty",
+        "n13=empty",
+        "n14=empty",
+        "n15=empty",
+        "n16=empty",
+    ],
+    &["two_lines"],
+    &["refusals"],
     &[
         "script",
         "good=good",
