@@ -2,7 +2,7 @@
 use std::str;
 
 /// How many kinds of lines there are.
-const KIND_COUNT: usize = 41;
+const KIND_COUNT: usize = 43;
 
 /// How lines begin after their user's digit: those of vector registers with v, and those of instructions with 0.
 const KINDS: [&str; KIND_COUNT] = [
@@ -32,6 +32,8 @@ const KINDS: [&str; KIND_COUNT] = [
     "fault cause=2",
     "fault cause=5",
     "fault cause=7",
+    "E01",
+    "E02",
     "E03",
     "E04",
     "E05",

@@ -1,9 +1,12 @@
 //! One machine of eight users beside eight machines of one user each.
 use crate::answers::Answers;
+use crate::visits::showing;
+use anyhow::Result;
 use monitor_cmds::Reply;
-use rv_model::{USER_COUNT, User};
-use std::alloc::{AllocError, Global};
-use vec_monitor::Machine;
+use rv_model::{Standing, USER_COUNT, User};
+use std::alloc::Global;
+use std::str;
+use vec_monitor::{Image, Machine, ReaderSource, WriterSink, run};
 
 /// What was compared, and what was answered.
 #[derive(Drop)]
@@ -42,6 +45,17 @@ impl Counts {
     }
 }
 
+/// The output of a script on a machine.
+fn output_of(alloc: Global, machine: &mut Machine<'_>, script: &[u8]) -> Result<Vec<u8>> {
+    let mut output = Vec::new(alloc);
+    run(
+        machine,
+        &mut ReaderSource::new(script),
+        &mut WriterSink::new(&mut output),
+    )?;
+    Ok(output)
+}
+
 /// The machines, whose slice was the last in turn, and what was answered last by the one machine and by a private one.
 #[derive(Drop)]
 pub(crate) struct Bench<'i> {
@@ -53,15 +67,19 @@ pub(crate) struct Bench<'i> {
 }
 
 impl<'i> Bench<'i> {
-    /// A machine for all users, and one for each.
-    pub(crate) fn new(one: Machine<'i>, private: Vec<Machine<'i>>) -> Self {
-        Bench {
-            one,
+    /// A machine for all users, and one for each, with slices of so many ticks.
+    pub(crate) fn new(alloc: Global, quantum: usize, images: &'i [Image<'i>]) -> Result<Self> {
+        let mut private = Vec::new(alloc);
+        for _ in 0..USER_COUNT {
+            private.push(Machine::new(alloc, quantum, images)?)?;
+        }
+        Ok(Bench {
+            one: Machine::new(alloc, quantum, images)?,
             private,
             last: User::at_index(USER_COUNT - 1),
             answer: Reply::new(),
             private_answer: Reply::new(),
-        }
+        })
     }
 
     /// Carries out a user's command on the one machine and on the user's own.
@@ -74,8 +92,50 @@ impl<'i> Bench<'i> {
         counts.compare(self.answer.as_slice(), self.private_answer.as_slice());
     }
 
+    /// Shows all that each user has.
+    pub(crate) fn show(&mut self, alloc: Global, counts: &mut Counts) -> Result<()> {
+        let after = showing(alloc)?;
+        for index in 0..USER_COUNT {
+            for line in after.as_str().lines() {
+                self.command(User::at_index(index), line, counts);
+            }
+        }
+        Ok(())
+    }
+
+    /// Runs a script of one line on the one machine and on a user's own.
+    pub(crate) fn script_line(
+        &mut self,
+        alloc: Global,
+        user: User,
+        line: &[u8],
+        counts: &mut Counts,
+    ) -> Result<()> {
+        let answer = output_of(alloc, &mut self.one, line)?;
+        let Some(machine) = self.private.get_mut(user.index()) else {
+            return Ok(());
+        };
+        let private = output_of(alloc, machine, line)?;
+        counts.compare(answer.as_slice(), private.as_slice());
+        Ok(())
+    }
+
+    /// What a user's program does, by the operator's list of the user's own machine.
+    pub(crate) fn standing(&mut self, user: User) -> Standing {
+        let Some(machine) = self.private.get_mut(user.index()) else {
+            return Standing::Absent;
+        };
+        machine.operator(b"list", &mut self.private_answer);
+        let text = str::from_utf8(self.private_answer.as_slice()).unwrap_or_default();
+        match text.split_whitespace().nth(2 + user.index()) {
+            Some(word) if word.ends_with(":running") => Standing::Running,
+            Some(word) if word.ends_with(":stopped") => Standing::Stopped,
+            _ => Standing::Absent,
+        }
+    }
+
     /// A slice of a user on the user's own machine, and whether the program ran. What it told is added.
-    fn private_slice(&mut self, user: User, told: &mut Vec<u8>) -> Result<bool, AllocError> {
+    fn private_slice(&mut self, user: User, told: &mut Vec<u8>) -> Result<bool> {
         let Some(machine) = self.private.get_mut(user.index()) else {
             return Ok(false);
         };
@@ -85,7 +145,7 @@ impl<'i> Bench<'i> {
     }
 
     /// A slice in turn: of the first user whose program runs, after the one whose turn was the last. Whether there is one.
-    fn private_turn(&mut self, told: &mut Vec<u8>) -> Result<bool, AllocError> {
+    fn private_turn(&mut self, told: &mut Vec<u8>) -> Result<bool> {
         for place in 0..USER_COUNT {
             let user = User::at_index((self.last.index() + 1 + place) % USER_COUNT);
             if self.private_slice(user, told)? {
@@ -102,7 +162,7 @@ impl<'i> Bench<'i> {
         alloc: Global,
         count: usize,
         counts: &mut Counts,
-    ) -> Result<(), AllocError> {
+    ) -> Result<()> {
         let line = format!(in alloc; "slices {count}")?;
         self.one
             .operator(line.as_str().as_bytes(), &mut self.answer);
@@ -122,12 +182,7 @@ impl<'i> Bench<'i> {
     }
 
     /// Grants a slice to a user, out of turn.
-    pub(crate) fn run(
-        &mut self,
-        alloc: Global,
-        user: User,
-        counts: &mut Counts,
-    ) -> Result<(), AllocError> {
+    pub(crate) fn run(&mut self, alloc: Global, user: User, counts: &mut Counts) -> Result<()> {
         let line = format!(in alloc; "run {}", user.number())?;
         self.one
             .operator(line.as_str().as_bytes(), &mut self.answer);

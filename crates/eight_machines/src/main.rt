@@ -5,27 +5,34 @@
 //! to the own machine of the user who is granted it; what the one machine answers is compared with what these answer, and at
 //! the end what each user has.
 //!
+//! Then the same for rounds of eight users of whom nobody acts in good faith: each has a script of 80 generated lines, of each
+//! command with arguments at their limits and past them, of no command, of no text, of nobody, or too long.
+//!
 //! A line for each length of slices has how many commands were carried out, how many slices were granted, and how many
-//! commands were answered differently. Then comes how many lines of each kind were answered.
+//! commands were answered differently, and a line for the hostile scripts the same. The latter also has how many commands came
+//! while their user was absent, stopped or running, of all that there are. Then comes how many lines of each kind were answered.
 #![tactic(auto)]
 
 mod actions;
 mod answers;
 mod bench;
 mod draws;
+mod hostile_lines;
+mod hostile_scripts;
 mod places;
 mod programs;
 mod visits;
 
-use anyhow::Result;
+use anyhow::{Context, Result};
 use bench::{Bench, Counts};
 use draws::Draws;
+use hostile_scripts::{Coverage, compare_hostile};
 use rv_model::{USER_COUNT, User};
-use std::alloc::{AllocError, Global};
-use std::fs;
+use std::alloc::Global;
 use std::str::Lines;
-use vec_monitor::{Image, Machine};
-use visits::{script_of, showing};
+use std::{env, fs};
+use vec_monitor::Image;
+use visits::script_of;
 
 /// The ticks of a slice.
 const QUANTA: [usize; 3] = [1, 12, 100];
@@ -45,7 +52,7 @@ fn carry_out_one(
     draws: &mut Draws,
     bench: &mut Bench<'_>,
     counts: &mut Counts,
-) -> Result<(), AllocError> {
+) -> Result<()> {
     match draws.below(20) {
         0..=3 => bench.slices(alloc, 1 + draws.below(30), counts),
         4 => bench.run(alloc, user(draws), counts),
@@ -59,26 +66,6 @@ fn carry_out_one(
     }
 }
 
-/// A machine for all users, and one for each.
-fn bench_of<'i>(alloc: Global, quantum: usize, images: &'i [Image<'i>]) -> Result<Bench<'i>> {
-    let mut private = Vec::new(alloc);
-    for _ in 0..USER_COUNT {
-        private.push(Machine::new(alloc, quantum, images)?)?;
-    }
-    Ok(Bench::new(Machine::new(alloc, quantum, images)?, private))
-}
-
-/// Shows all that each user has.
-fn show(alloc: Global, bench: &mut Bench<'_>, counts: &mut Counts) -> Result<(), AllocError> {
-    let after = showing(alloc)?;
-    for index in 0..USER_COUNT {
-        for line in after.as_str().lines() {
-            bench.command(User::at_index(index), line, counts);
-        }
-    }
-    Ok(())
-}
-
 /// Carries out scripts of eight users, mixed, with slices of so many ticks.
 fn compare(alloc: Global, quantum: usize, images: &[Image<'_>], counts: &mut Counts) -> Result<()> {
     let mut draws = Draws::new(quantum as u64);
@@ -90,16 +77,57 @@ fn compare(alloc: Global, quantum: usize, images: &[Image<'_>], counts: &mut Cou
     for script in scripts.iter() {
         pending.push(script.as_str().lines())?;
     }
-    let mut bench = bench_of(alloc, quantum, images)?;
+    let mut bench = Bench::new(alloc, quantum, images)?;
     for _ in 0..LINES {
         carry_out_one(alloc, &mut pending, &mut draws, &mut bench, counts)?;
     }
-    show(alloc, &mut bench, counts)?;
+    bench.show(alloc, counts)
+}
+
+/// Compares what users are told who act in good faith, and prints how it went for each length of slices.
+fn compare_visits(rt: &HostRuntime, images: &[Image<'_>], counts: &mut Counts) -> Result<()> {
+    for quantum in QUANTA {
+        counts.begin();
+        compare(rt.alloc(), quantum, images, counts)?;
+        println!(rt;
+            "slices of {quantum}: {} commands, {} slices, {} differ",
+            counts.commands, counts.slices, counts.differ
+        )?;
+    }
     Ok(())
 }
 
+/// Compares so many rounds of eight hostile scripts, and prints how it went.
+fn compare_rounds(
+    rt: &HostRuntime,
+    rounds: u64,
+    images: &[Image<'_>],
+    counts: &mut Counts,
+) -> Result<()> {
+    let mut coverage = Coverage::new();
+    counts.begin();
+    for round in 0..rounds {
+        let quantum = QUANTA[(round % 3) as usize];
+        compare_hostile(rt.alloc(), round, quantum, images, counts, &mut coverage)?;
+    }
+    println!(rt;
+        "hostile lines, {} of {} commands by standings, {rounds} rounds: {} commands, {} slices, {} differ",
+        coverage.count(),
+        coverage.all(),
+        counts.commands,
+        counts.slices,
+        counts.differ
+    )?;
+    Ok(())
+}
+
+/// The word after the program's name: how many rounds of hostile scripts there are.
+fn rounds(rt: &HostRuntime) -> Result<u64> {
+    let word = env::args(rt)?.nth(1).context("no number of rounds")?;
+    Ok(word.as_str().parse()?)
+}
+
 fn main(rt: HostRuntime) -> Result<()> {
-    let alloc = rt.alloc();
     let good = fs::read(&rt, "good")?;
     let short = fs::read(&rt, "short")?;
     let sort = fs::read(&rt, "sortgcc")?;
@@ -118,14 +146,8 @@ fn main(rt: HostRuntime) -> Result<()> {
         },
     ];
     let mut counts = Counts::new();
-    for quantum in QUANTA {
-        counts.begin();
-        compare(alloc, quantum, &images, &mut counts)?;
-        println!(rt;
-            "slices of {quantum}: {} commands, {} slices, {} differ",
-            counts.commands, counts.slices, counts.differ
-        )?;
-    }
+    compare_visits(&rt, &images, &mut counts)?;
+    compare_rounds(&rt, rounds(&rt)?, &images, &mut counts)?;
     counts.answers.print(&rt)?;
     Ok(())
 }
