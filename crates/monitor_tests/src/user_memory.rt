@@ -1,21 +1,13 @@
 //! What users read of the pool after what they wrote, and what it refuses.
-use bumpalo::Bump;
 use rv_model::{Access, Fault, MapRefusal, Permissions, User};
 use std::test::Fail;
-use user_mem::{NoMemory, Pool};
+use user_mem::Pool;
 
 const READ_WRITE: Permissions = Permissions {
     read: true,
     write: true,
     execute: false,
 };
-
-#[test]
-fn without_memory_there_is_no_pool(rt: HostRuntime) {
-    let bump = Bump::new(rt.alloc());
-    bump.set_allocation_limit(Some(0));
-    assert!(rt; matches!(Pool::new(&bump), Err(NoMemory)));
-}
 
 #[test]
 fn reads_what_was_written_across_pages(rt: HostRuntime) -> Result<(), Fail> {

@@ -1,12 +1,12 @@
-use Rattle.std.proofs.Common.{◌≡◌, ◌<◌, ◌++◌, ℕ, List, length, take, ap, ◌∙◌, sym, arith, length-append}
+use Rattle.std.proofs.Common.{◌≡◌, ◌<◌, ◌++◌, ℕ, List, length, ap, ◌∙◌, sym, arith, length-append}
 use Rattle.std.proofs.lemmas.Result.{on_ok_weaker}
-use Rattle.rv_model.specs.machine.Script.{whole_from, after_script, after_all, own, lines}
+use Rattle.rv_model.specs.machine.Script.{whole_from, after_script, after_all, own}
 use Rattle.rv_model.specs.machine.PrivateMachine.{solo}
 use Rattle.vec_monitor.specs.EndedLines.{ended_lines}
 use Rattle.vec_monitor.specs.MachineState.{MachineState}
 use Rattle.vec_monitor.proofs.Feeding.{moved}
 use Rattle.vec_monitor.proofs.DeviceLaws.{given_whole, same_front}
-use Rattle.monitor_tests.proofs.device_tests.run_slice.Goals as goal
+use Rattle.failures_in_turn.proofs.known_devices.run_slice.Goals as goal
 
 pub returns-clause-length : goal.returns-clause-length
 returns-clause-length g c =

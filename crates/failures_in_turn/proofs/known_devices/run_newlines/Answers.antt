@@ -2,7 +2,7 @@ use Rattle.std.proofs.Common.{◌∙◌}
 use Rattle.std.proofs.lemmas.Result.{on_ok_weaker}
 use Rattle.vec_monitor.proofs.Feeding.{moved}
 use Rattle.vec_monitor.proofs.DeviceLaws.{never_rose, only_too_long, newlines_after, newlines_told, no_answer}
-use Rattle.monitor_tests.proofs.device_tests.run_newlines.Goals as goal
+use Rattle.failures_in_turn.proofs.known_devices.run_newlines.Goals as goal
 
 pub returns-clause-result : goal.returns-clause-result
 returns-clause-result g c =
@@ -11,14 +11,14 @@ returns-clause-result g c =
     (λ e. never_rose (c.run.ensures.read e))
     (λ e.
     let p = c.run.ensures.after_write e in
-    no_answer c.args.machine.now p.0 _ _ _ p.1.0 p.1.1)
+    no_answer c.args.machine.now p.0 _ _ _ p.1.0.1 p.1.1)
 
 pub returns-clause-world : goal.returns-clause-world
 returns-clause-world g c =
     let p = c.run.ensures.after_too_long (returns-clause-result g c) in
-    p.1.4 ∙ newlines_after c.args.machine.now p.0 p.1.0
+    p.1.4 ∙ newlines_after c.args.machine.now p.0 p.1.0.1
 
 pub returns-clause-nothing : goal.returns-clause-nothing
 returns-clause-nothing g c =
     let p = c.run.ensures.after_too_long (returns-clause-result g c) in
-    moved g.K.Sink.took _ _ _ _ (newlines_told c.args.machine.now p.0 p.1.0) p.1.5
+    moved g.K.Sink.took _ _ _ _ (newlines_told c.args.machine.now p.0 p.1.0.1) p.1.5
