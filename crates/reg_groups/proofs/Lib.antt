@@ -1,2 +1,3 @@
 mod EqualWidths
+mod SingleRegisters
 mod Sources

@@ -1,11 +1,12 @@
 //! The register operands of a vector operation, by its shape ("V" Vector Extension 1.0, sections 5.2,
 //! 10.2, 11, 12, 14 and 16).
-ghost use Rattle.std.specs.Prelude.{◌≡◌};
-ghost use Rattle.rv_model.specs.legality.OperandShapes.{destination, first_source, group, permute_shape, second_source, shape_of, shape_operands, vector_source};
-ghost use Rattle.rv_model.specs.legality.RegisterOperands.{are_legal, is_group};
+ghost use Rattle.std.specs.Prelude.{◌&&◌, ◌≡◌};
+ghost use Rattle.rv_model.specs.legality.OperandShapes.{destination, first_source, group, mask, permute_shape, second_source, shape_of, shape_operands, vector_source, whole};
+ghost use Rattle.rv_model.specs.legality.RegisterOperands.{allows, are_legal, is_group};
 ghost use Rattle.rv_model.specs.vector.Configuration.{sew_bits};
 
 use crate::agreement::{allows, is_group};
+use crate::groups::registers;
 use crate::operands::{group, mask, v0, whole};
 use rv_model::instructions::operations::{PermuteOp, VectorOp};
 use rv_model::{Lmul, Operand, Role, Shape, Source, VReg, VType};
@@ -158,7 +159,80 @@ fn are_legal_operands(
         && allows(&destination, &v0(unmasked))
 }
 
-/// The same, by the shorter test where all have SEW.
+/// Whether a mask may be written to a register beside a group that is read: outside of it, or its first.
+#[inline(always)]
+#[tactic(auto, using(crate::proofs::SingleRegisters::mask_allows))]
+fn allows_mask(register: VReg, first: VReg, vtype: VType) -> bool
+    ensures { result ≡ allows (mask Role.Write register) (group Role.Read first (sew_bits vtype.sew) vtype) }
+{
+    let size = registers(u32::from(vtype.lmul.eighths()));
+    register.number() <= first.number() || first.number() + size <= register.number()
+}
+
+/// Whether a group may be read where a mask is written.
+#[inline(always)]
+fn is_beside_mask(register: VReg, first: VReg, vtype: VType) -> bool
+    ensures { result ≡ (is_group (group Role.Read first (sew_bits vtype.sew) vtype)
+        && allows (mask Role.Write register) (group Role.Read first (sew_bits vtype.sew) vtype)) }
+{
+    is_aligned(first, vtype) && allows_mask(register, first, vtype)
+}
+
+/// The same of a second source, if it is a group.
+#[inline(always)]
+fn is_source_beside_mask(register: VReg, source: Source, vtype: VType) -> bool
+    ensures { result ≡ (is_group (second_source Shape.Compare source vtype)
+        && allows (mask Role.Write register) (second_source Shape.Compare source vtype)) }
+{
+    match source {
+        Source::V(vs1) => is_beside_mask(register, vs1, vtype),
+        Source::X(_) | Source::I(_) => true,
+    }
+}
+
+/// Whether a comparison to a mask may have these operands. The mask may be v0.
+#[inline(always)]
+#[tactic(auto, using(crate::proofs::SingleRegisters::compare_legal))]
+fn is_legal_compare(vd: VReg, vs2: VReg, source: Source, unmasked: bool, vtype: VType) -> bool
+    ensures { result ≡ are_legal (shape_operands Shape.Compare vd vs2 source unmasked vtype) }
+{
+    is_register(vd, vtype)
+        && is_beside_mask(vd, vs2, vtype)
+        && is_source_beside_mask(vd, source, vtype)
+}
+
+/// Whether a register may stand by itself: each may.
+#[inline(always)]
+fn is_register(register: VReg, vtype: VType) -> bool
+    ensures free { result ≡ is_group (whole Role.Free 1 register (sew_bits vtype.sew)) }
+    ensures mask { result ≡ is_group (mask Role.Write register) }
+{
+    let _number = register.number();
+    let _bits = vtype.sew.bits();
+    true
+}
+
+/// The same of a second source, if it is a register.
+#[inline(always)]
+fn is_source_register(source: Source, vtype: VType) -> bool
+    ensures { result ≡ is_group (second_source Shape.Reduction source vtype) }
+{
+    match source {
+        Source::V(vs1) => is_register(vs1, vtype),
+        Source::X(_) | Source::I(_) => true,
+    }
+}
+
+/// Whether a reduction may have these operands: of one register each, which may overlap anything, but for vs2.
+#[inline(always)]
+#[tactic(auto, using(crate::proofs::SingleRegisters::reduction_legal))]
+fn is_legal_reduction(vd: VReg, vs2: VReg, source: Source, unmasked: bool, vtype: VType) -> bool
+    ensures { result ≡ are_legal (shape_operands Shape.Reduction vd vs2 source unmasked vtype) }
+{
+    is_register(vd, vtype) && is_aligned(vs2, vtype) && is_source_register(source, vtype)
+}
+
+/// The same, by a shorter test for the shapes that are most used.
 #[inline(always)]
 pub(crate) fn is_legal_shape(
     shape: Shape,
@@ -170,9 +244,15 @@ pub(crate) fn is_legal_shape(
 ) -> bool
     ensures { result ≡ are_legal (shape_operands shape vd vs2 source unmasked vtype) }
 {
-    if let Shape::Single = shape {
-        is_legal_single(vd, vs2, source, unmasked, vtype)
-    } else {
-        are_legal_operands(shape, vd, vs2, source, unmasked, vtype)
+    match shape {
+        Shape::Single => is_legal_single(vd, vs2, source, unmasked, vtype),
+        Shape::Compare => is_legal_compare(vd, vs2, source, unmasked, vtype),
+        Shape::Reduction => is_legal_reduction(vd, vs2, source, unmasked, vtype),
+        Shape::Widening
+        | Shape::WideSource
+        | Shape::Narrowing
+        | Shape::Gather
+        | Shape::GatherIndices16
+        | Shape::WideReduction => are_legal_operands(shape, vd, vs2, source, unmasked, vtype),
     }
 }
