@@ -84,7 +84,6 @@ fn loaded<M: UserBytes>(op: LoadOp, addr: u64, memory: &M) -> Result<u64, Fault>
 }
 
 /// A load, which is refused where one of its bytes may not be read.
-#[inline(always)]
 pub(crate) fn load<M: UserBytes>(
     op: LoadOp,
     rd: Reg,
@@ -103,7 +102,6 @@ pub(crate) fn load<M: UserBytes>(
 }
 
 /// A store of the lowest bytes of a value, which is refused where one of its bytes may not be written.
-#[inline(always)]
 pub(crate) fn store<M: UserBytes>(
     op: StoreOp,
     addr: u64,
