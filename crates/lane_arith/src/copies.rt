@@ -4,7 +4,6 @@ ghost use Rattle.rv_model.specs.elements.Elements.{HasElement, element};
 ghost use Rattle.rv_model.specs.vector.Configuration.{width_bytes};
 
 use crate::lane::Lane;
-use crate::operand::operand_chunk;
 use crate::results::Results;
 
 /// The elements of `b`, those of the one operand.
@@ -20,9 +19,5 @@ impl<'a, L: Lane> Results<L> for Copies<'a> {
 
     fn result(&self, index: usize) -> L {
         L::load(self.b, index)
-    }
-
-    fn chunk_results(&self, chunk: usize) -> Option<L::Vector> {
-        operand_chunk::<L>(self.b, chunk)
     }
 }

@@ -207,6 +207,7 @@ fn is_register(register: VReg, vtype: VType) -> bool
     ensures free { result ≡ is_group (whole Role.Free 1 register (sew_bits vtype.sew)) }
     ensures mask { result ≡ is_group (mask Role.Write register) }
 {
+    // The number and the width are looked at for their bounds alone, of which the proof is made.
     let _number = register.number();
     let _bits = vtype.sew.bits();
     true
