@@ -36,6 +36,13 @@ impl<'a> Body<'a> {
         }
     }
 
+    /// The same elements, under the same mask.
+    pub fn copied(&self) -> Body<'a>
+        ensures { result ≡ self.now }
+    {
+        Body::new(self.unmasked, self.mask, self.start, self.end)
+    }
+
     /// Whether all elements are active.
     pub fn is_unmasked(&self) -> bool
         ensures { result ≡ self.now.unmasked }

@@ -38,6 +38,7 @@ pub trait Results<L: Lane> {
 }
 
 /// `write_results`, element by element.
+#[inline(never)]
 fn write_each<L: Lane, R: Results<L>>(
     results: &R,
     body: &Body<'_>,
@@ -82,6 +83,7 @@ pub fn put_results<L: Lane>(
 
 /// `write_results`, chunk by chunk, up to the first chunk whose results aren't made side by side. Answers the
 /// index of the first element that is left.
+#[inline(always)]
 fn write_chunks<L: Lane, R: Results<L>>(
     results: &R,
     body: &Body<'_>,
@@ -107,6 +109,7 @@ fn write_chunks<L: Lane, R: Results<L>>(
 
 /// Writes the result to each active element of the destination. Where `fill_masked_off`, the elements of
 /// the body that are masked off become all ones; all others keep.
+#[inline(always)]
 pub fn write_results<L: Lane, R: Results<L>>(
     results: &R,
     body: &Body<'_>,
@@ -121,8 +124,11 @@ pub fn write_results<L: Lane, R: Results<L>>(
 {
     let left = write_chunks(results, body, destination, fill_masked_off);
     let start = body.start().max(left);
-    let rest = Body::new(body.is_unmasked(), body.mask(), start, body.end());
-    write_each(results, &rest, destination, fill_masked_off);
+    let end = body.end();
+    if start < end {
+        let rest = Body::new(body.is_unmasked(), body.mask(), start, end);
+        write_each(results, &rest, destination, fill_masked_off);
+    }
 }
 
 /// Writes one number to each element from `start` up to `end`.

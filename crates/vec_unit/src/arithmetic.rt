@@ -1,10 +1,11 @@
 //! Arithmetic instructions, once they are known to be legal ("V" Vector Extension 1.0, chapter 11).
-ghost use Rattle.std.specs.Prelude.{◌≡◌, ◌≤◌, IsTrue, List, Some, ℕ};
+ghost use Rattle.std.specs.Prelude.{◌≡◌, ◌≤◌, IsTrue, List, Some, not, ℕ};
 ghost use Rattle.rv_model.specs.vector.Configuration.{vlmax};
 ghost use Rattle.rv_model.specs.step.Hart.{hart_state};
 ghost use Rattle.rv_model.specs.memory.Memory.{Memory};
 ghost use Rattle.rv_model.specs.legality.Legality.{is_legal};
 ghost use Rattle.rv_model.specs.step.VectorStep.{arith_step, carry_step, extend_step, move_step, typed, vector_ends};
+ghost use Rattle.vec_unit.specs.Arithmetic.{is_binary};
 
 use crate::binary::BinaryOperation;
 use crate::clip::carry_out_clip;
@@ -25,9 +26,11 @@ use crate::widen::{WideSourceOperation, WidenMultiplyAddOperation, WidenOperatio
 use rv_model::instructions::operations::{ExtendOp, VectorOp};
 use rv_model::{Arith, Carry, Instr, Policy, Scalar, Source, VEnd, VReg, VState};
 
-/// Carries out a legal operation with a line of its own in the manual's table.
-#[tactic(auto, using(rv_model::proofs::legality_lemmas::Bounds::binary_inside, rv_model::proofs::legality_lemmas::Bounds::multiply_add_inside, rv_model::proofs::legality_lemmas::Bounds::compare_inside, rv_model::proofs::legality_lemmas::Bounds::carry_out_inside, rv_model::proofs::legality_lemmas::Bounds::widen_inside, rv_model::proofs::legality_lemmas::Bounds::wide_source_inside, rv_model::proofs::legality_lemmas::Bounds::widen_multiply_add_inside, rv_model::proofs::legality_lemmas::Bounds::narrow_shift_inside, rv_model::proofs::legality_lemmas::Bounds::fixed_point_inside, rv_model::proofs::legality_lemmas::Bounds::clip_inside, rv_model::proofs::legality_lemmas::Bounds::reduce_inside, rv_model::proofs::legality_lemmas::Bounds::widen_reduce_inside, rv_model::proofs::legality_lemmas::Bounds::permute_inside))]
-fn perform_operation(
+/// Carries out a legal operation with a line of its own in the manual's table that isn't one of one width on two
+/// operands.
+#[tactic(auto, using(rv_model::proofs::legality_lemmas::Bounds::multiply_add_inside, rv_model::proofs::legality_lemmas::Bounds::compare_inside, rv_model::proofs::legality_lemmas::Bounds::carry_out_inside, rv_model::proofs::legality_lemmas::Bounds::widen_inside, rv_model::proofs::legality_lemmas::Bounds::wide_source_inside, rv_model::proofs::legality_lemmas::Bounds::widen_multiply_add_inside, rv_model::proofs::legality_lemmas::Bounds::narrow_shift_inside, rv_model::proofs::legality_lemmas::Bounds::fixed_point_inside, rv_model::proofs::legality_lemmas::Bounds::clip_inside, rv_model::proofs::legality_lemmas::Bounds::reduce_inside, rv_model::proofs::legality_lemmas::Bounds::widen_reduce_inside, rv_model::proofs::legality_lemmas::Bounds::permute_inside))]
+#[inline(never)]
+fn perform_rest(
     op: VectorOp,
     vs2: VReg,
     source: Source,
@@ -37,6 +40,7 @@ fn perform_operation(
 )
     requires legal { IsTrue (is_legal (Instr.VectorArith (op, source) target.vd vs2 target.unmasked)
         (Some target.vtype) state.old.vstart) }
+    requires rest { IsTrue (not (is_binary op)) }
     requires length { state.old.conf.vl ≤ vlmax target.vtype }
     ensures model { (memory : Memory) (output : List ℕ)
         → arith_step target.vtype op source target.vd vs2 target.unmasked
@@ -44,9 +48,7 @@ fn perform_operation(
         ≡ vector_ends VEnd.Done (hart_state scalar.now state.new memory target.policy output) }
 {
     match op {
-        VectorOp::Binary(op) => {
-            carry_out(&BinaryOperation { op, vs2, source }, target, state, scalar);
-        }
+        VectorOp::Binary(_) => unreachable!(),
         VectorOp::MultiplyAdd(op) => {
             let operation = MultiplyAddOperation::new(op, target.vd, vs2, source);
             carry_out(&operation, target, state, scalar);
@@ -83,7 +85,35 @@ fn perform_operation(
     }
 }
 
+/// Carries out a legal operation with a line of its own in the manual's table.
+#[tactic(auto, using(rv_model::proofs::legality_lemmas::Bounds::binary_inside))]
+#[inline(always)]
+fn perform_operation(
+    op: VectorOp,
+    vs2: VReg,
+    source: Source,
+    target: Target,
+    state: &mut VState,
+    scalar: &Scalar,
+)
+    requires legal { IsTrue (is_legal (Instr.VectorArith (op, source) target.vd vs2 target.unmasked)
+        (Some target.vtype) state.old.vstart) }
+    requires length { state.old.conf.vl ≤ vlmax target.vtype }
+    ensures model { (memory : Memory) (output : List ℕ)
+        → arith_step target.vtype op source target.vd vs2 target.unmasked
+        (hart_state scalar.now state.old memory target.policy output)
+        ≡ vector_ends VEnd.Done (hart_state scalar.now state.new memory target.policy output) }
+{
+    match op {
+        VectorOp::Binary(op) => {
+            carry_out(&BinaryOperation { op, vs2, source }, target, state, scalar);
+        }
+        _ => perform_rest(op, vs2, source, target, state, scalar),
+    }
+}
+
 /// The same, if there is a vector type.
+#[inline(always)]
 pub(crate) fn perform_arith(
     arith: Arith,
     vd: VReg,

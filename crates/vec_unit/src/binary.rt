@@ -32,6 +32,7 @@ fn has_unsigned_immediate(op: BinaryOp) -> bool
 
 impl BinaryOperation {
     /// Writes the results to a destination; `a` is a copy of the group of `vs2`, and `b` of the second operand.
+    #[inline(always)]
     fn write_from<L: Lane>(
         &self,
         a: &[u8],
@@ -57,6 +58,56 @@ impl BinaryOperation {
         let results = Binary { op: self.op, a, b };
         write_group::<L, Binary<'_>>(&results, destination, body, file);
     }
+
+    /// Writes the results to a destination of one register.
+    #[inline(always)]
+    fn write_single<L: Lane>(
+        &self,
+        destination: Destination,
+        body: &Body<'_>,
+        file: &mut VFile,
+        scalar: &Scalar,
+    )
+        requires operands { IsInside self.now.vs2 destination.emul × SourceIsInside self.now.source destination.emul }
+        requires destination { IsInside destination.vd destination.emul }
+        requires holds { HoldsBody L.width destination.emul destination.count body.now.end }
+        requires single { registers destination.emul ≡ 1 }
+        ensures { file.new ≡ with_results (record { width = L.width; emul = destination.emul }) destination.vd body.now
+            destination.agnostic.fill_masked_off destination.agnostic.fill_tail
+            (binary_result (record { width = L.width; emul = destination.emul }) self.now.op self.now.vs2 self.now.source
+            file.old scalar.now) file.old }
+    {
+        let (source, emul, end) = (self.source, destination.emul, body.end());
+        let unsigned = has_unsigned_immediate(self.op);
+        let a = single_copy(file, self.vs2, emul);
+        let b = second_single_copy::<L>(unsigned, source, emul, end, file, scalar);
+        self.write_from::<L>(&a, &b, destination, body, file, scalar);
+    }
+
+    /// Writes the results to a destination of any size.
+    #[inline(never)]
+    fn write_group<L: Lane>(
+        self,
+        destination: Destination,
+        body: Body<'_>,
+        file: &mut VFile,
+        scalar: &Scalar,
+    )
+        requires operands { IsInside self.vs2 destination.emul × SourceIsInside self.source destination.emul }
+        requires destination { IsInside destination.vd destination.emul }
+        requires holds { HoldsBody L.width destination.emul destination.count body.end }
+        ensures { file.new ≡ with_results (record { width = L.width; emul = destination.emul }) destination.vd body
+            destination.agnostic.fill_masked_off destination.agnostic.fill_tail
+            (binary_result (record { width = L.width; emul = destination.emul }) self.op self.vs2 self.source
+            file.old scalar.now) file.old }
+    {
+        let (source, emul, end) = (self.source, destination.emul, body.end());
+        let unsigned = has_unsigned_immediate(self.op);
+        let (mut first, mut second) = ([0; GROUP_BYTES], [0; GROUP_BYTES]);
+        let a = group_copy(file, self.vs2, emul, &mut first);
+        let b = second_copy::<L>(unsigned, source, emul, end, file, scalar, &mut second);
+        self.write_from::<L>(a, b, destination, &body, file, scalar);
+    }
 }
 
 impl ElementWise for BinaryOperation {
@@ -64,6 +115,8 @@ impl ElementWise for BinaryOperation {
 
     ghost inside = { λ o emul. IsInside o.vs2 emul × SourceIsInside o.source emul };
 
+    // What a larger group takes is copied, so that one register needs no place in memory.
+    #[inline(always)]
     fn write<L: Lane>(
         &self,
         destination: Destination,
@@ -71,18 +124,10 @@ impl ElementWise for BinaryOperation {
         file: &mut VFile,
         scalar: &Scalar,
     ) {
-        let (source, emul, end) = (self.source, destination.emul, body.end());
-        let unsigned = has_unsigned_immediate(self.op);
-        if registers(emul) == 1 {
-            let a = single_copy(file, self.vs2, emul);
-            let mut second = [0; VLENB];
-            let b = second_single_copy::<L>(unsigned, source, emul, end, file, scalar, &mut second);
-            self.write_from::<L>(&a, b, destination, body, file, scalar);
+        if registers(destination.emul) == 1 {
+            self.write_single::<L>(destination, body, file, scalar);
         } else {
-            let (mut first, mut second) = ([0; GROUP_BYTES], [0; GROUP_BYTES]);
-            let a = group_copy(file, self.vs2, emul, &mut first);
-            let b = second_copy::<L>(unsigned, source, emul, end, file, scalar, &mut second);
-            self.write_from::<L>(a, b, destination, body, file, scalar);
+            (*self).write_group::<L>(destination, body.copied(), file, scalar);
         }
     }
 }

@@ -70,6 +70,7 @@ pub(crate) struct Destination {
 }
 
 /// Writes results to the bytes of a destination of `count` elements, and fills it.
+#[inline(always)]
 fn write_filled<L: Lane, R: Results<L>>(
     results: &R,
     body: &Body<'_>,
@@ -92,6 +93,7 @@ fn write_filled<L: Lane, R: Results<L>>(
 }
 
 /// Writes results to a group, and fills it.
+#[inline(always)]
 pub(crate) fn write_group<L: Lane, R: Results<L>>(
     results: &R,
     destination: Destination,

@@ -41,6 +41,7 @@ pub(crate) trait ElementWise {
 /// Carries out an operation on groups of the vector type. The next instruction begins with the first
 /// element.
 #[tactic(auto, using(rv_model::proofs::legality_lemmas::Bounds::groups_hold_body))]
+#[inline(always)]
 pub(crate) fn carry_out<O: ElementWise>(
     operation: &O,
     target: Target,

@@ -1,9 +1,10 @@
 //! One vector instruction, carried out.
-ghost use Rattle.std.specs.Prelude.{◌≡◌, ◌≤◌, IsTrue, List, ℕ};
+ghost use Rattle.std.specs.Prelude.{◌≡◌, ◌≤◌, IsTrue, List, not, ℕ};
 ghost use Rattle.rv_model.specs.step.Hart.{hart_state};
 ghost use Rattle.rv_model.specs.step.GoesOn.{InstructionGoesOn};
 ghost use Rattle.rv_model.specs.step.VectorStep.{is_vector, performed, vector_ends, vector_executed};
 ghost use Rattle.rv_model.specs.legality.Legality.{is_legal};
+ghost use Rattle.vec_unit.specs.Arithmetic.{is_arith};
 
 use crate::arithmetic::{perform_arith, perform_carry, perform_extension, perform_move};
 use crate::mask_instructions::{
@@ -18,9 +19,10 @@ use reg_groups::legal;
 use rv_model::{Instr, Policy, RequestedLength, Scalar, VEnd, VState};
 use vector_memory::UserBytes;
 
-/// Carries out a legal vector instruction.
+/// Carries out a legal vector instruction that isn't an operation with a line of its own in the manual's table.
 #[tactic(auto, unfolding(rv_model::specs::step::VectorStep::performed))]
-fn perform<M: UserBytes>(
+#[inline(never)]
+fn perform_rest<M: UserBytes>(
     instr: &Instr,
     state: &mut VState,
     scalar: &mut Scalar,
@@ -29,6 +31,7 @@ fn perform<M: UserBytes>(
     policy: Policy,
 ) -> VEnd
     requires vector { IsTrue (is_vector instr.now) }
+    requires rest { IsTrue (not (is_arith instr.now)) }
     requires legal { IsTrue (is_legal instr.now state.old.conf.vtype state.old.vstart) }
     requires limit { 1 ≤ limit }
     ensures model { (output : List ℕ)
@@ -52,9 +55,6 @@ fn perform<M: UserBytes>(
             let length = requested_length(rd, rs1, scalar);
             configure(rd, scalar.read(rs2), length, state, scalar)
         }
-        Instr::VectorArith { arith, vd, vs2, vm } => {
-            perform_arith(arith, vd, vs2, vm, state, scalar, policy)
-        }
         Instr::VectorCarry { carry, vd, vs2 } => {
             perform_carry(carry, vd, vs2, state, scalar, policy)
         }
@@ -75,6 +75,36 @@ fn perform<M: UserBytes>(
         Instr::MoveToVector { vd, rs1 } => perform_move_to_vector(vd, rs1, state, scalar, policy),
         Instr::WholeMove { count, vd, vs2 } => perform_whole_move(count, vd, vs2, state),
         _ => perform_access(instr, state, scalar, memory, limit, policy),
+    }
+}
+
+/// Carries out a legal vector instruction.
+#[tactic(auto, unfolding(rv_model::specs::step::VectorStep::performed))]
+#[inline(always)]
+fn perform<M: UserBytes>(
+    instr: &Instr,
+    state: &mut VState,
+    scalar: &mut Scalar,
+    memory: &mut M,
+    limit: usize,
+    policy: Policy,
+) -> VEnd
+    requires vector { IsTrue (is_vector instr.now) }
+    requires legal { IsTrue (is_legal instr.now state.old.conf.vtype state.old.vstart) }
+    requires limit { 1 ≤ limit }
+    ensures model { (output : List ℕ)
+        → performed limit instr.now (hart_state scalar.old state.old (M.memory memory.old) policy output)
+        ≡ vector_ends result (hart_state scalar.new state.new (M.memory memory.new) policy output) }
+    ensures memory { memory.new ≡ M.with_memory memory.old (M.memory memory.new) }
+    ensures illegal_state { result ≡ VEnd.Illegal → state.new ≡ state.old }
+    ensures illegal_scalar { result ≡ VEnd.Illegal → scalar.new ≡ scalar.old }
+    ensures illegal_memory { result ≡ VEnd.Illegal → memory.new ≡ memory.old }
+{
+    match *instr {
+        Instr::VectorArith { arith, vd, vs2, vm } => {
+            perform_arith(arith, vd, vs2, vm, state, scalar, policy)
+        }
+        _ => perform_rest(instr, state, scalar, memory, limit, policy),
     }
 }
 

@@ -25,11 +25,11 @@ fn immediate_value(unsigned: bool, imm: Field<5>) -> u64
 }
 
 /// The low bits of a number, `count` times.
-fn repeated<L: Lane, const BYTES: usize>(number: u64, count: usize, copy: &mut [u8; BYTES]) -> &[u8]
-    requires room { width_bytes L.width * count ≤ BYTES }
+fn repeated<L: Lane>(number: u64, count: usize, copy: &mut [u8; GROUP_BYTES]) -> &[u8]
+    requires room { width_bytes L.width * count ≤ GROUP_BYTES }
     requires count { count ≤ GROUP_BYTES }
     ensures elements { (i : ℕ) → i < count → element (width_bytes L.width) result.now i ≡ number % 2 ^ bits L.width }
-    ensures len { length result.now ≡ BYTES }
+    ensures len { length result.now ≡ GROUP_BYTES }
 {
     fill(L::low_bits(number), 0, count, copy);
     copy
@@ -55,12 +55,13 @@ pub(crate) fn second_copy<'a, L: Lane>(
 {
     match source {
         Source::V(vs1) => group_copy(file, vs1, emul, copy),
-        Source::X(rs1) => repeated::<L, GROUP_BYTES>(scalar.read(rs1), count, copy),
-        Source::I(imm) => repeated::<L, GROUP_BYTES>(immediate_value(unsigned, imm), count, copy),
+        Source::X(rs1) => repeated::<L>(scalar.read(rs1), count, copy),
+        Source::I(imm) => repeated::<L>(immediate_value(unsigned, imm), count, copy),
     }
 }
 
 /// A copy of the bytes of a group that is one register.
+#[inline(always)]
 #[tactic(auto, unfolding(rv_model::specs::vector::Registers::register_of))]
 pub(crate) fn single_copy(file: &VFile, register: VReg, emul: u32) -> [u8; VLENB]
     requires { registers emul ≡ 1 }
@@ -70,28 +71,28 @@ pub(crate) fn single_copy(file: &VFile, register: VReg, emul: u32) -> [u8; VLENB
 }
 
 /// A copy of the elements of the second operand, `count` of them, where a group is one register.
-pub(crate) fn second_single_copy<'a, L: Lane>(
+#[inline(always)]
+pub(crate) fn second_single_copy<L: Lane>(
     unsigned: bool,
     source: Source,
     emul: u32,
     count: usize,
     file: &VFile,
     scalar: &Scalar,
-    copy: &'a mut [u8; VLENB],
-) -> &'a [u8]
+) -> [u8; VLENB]
     requires single { registers emul ≡ 1 }
     requires room { width_bytes L.width * count ≤ VLENB }
     requires count { count ≤ GROUP_BYTES }
-    ensures elements { (i : ℕ) → i < count → element (width_bytes L.width) result.now i
+    ensures elements { (i : ℕ) → i < count → element (width_bytes L.width) result i
         ≡ second_element (record { width = L.width; emul = emul }) unsigned source file.now scalar.now i }
-    ensures len { length result.now ≡ VLENB }
+    ensures len { length result ≡ VLENB }
 {
-    match source {
-        Source::V(vs1) => {
-            *copy = single_copy(file, vs1, emul);
-            copy
-        }
-        Source::X(rs1) => repeated::<L, VLENB>(scalar.read(rs1), count, copy),
-        Source::I(imm) => { repeated::<L, VLENB>(immediate_value(unsigned, imm), count, copy) }
-    }
+    let number = match source {
+        Source::V(vs1) => return single_copy(file, vs1, emul),
+        Source::X(rs1) => scalar.read(rs1),
+        Source::I(imm) => immediate_value(unsigned, imm),
+    };
+    let mut copy = [0; VLENB];
+    fill(L::low_bits(number), 0, count, &mut copy);
+    copy
 }
