@@ -12,11 +12,12 @@ ghost use Rattle.hart.specs.States.{LeadsTo, Marks};
 use crate::faults::{fault, illegal};
 use crate::scalar_instructions::execute_scalar;
 use crate::touching_instructions::{execute_touching, is_touching};
+use crate::vector_instructions::execute_vector;
 use crate::vectors::Vectors;
 use crate::view::View;
 use arrayvec::ArrayVec;
-use rv_decode::decode;
-use rv_model::{Access, Cause, Fault, GROUP_BYTES, OUTPUT_SIZE, Policy, Scalar, StepEnd};
+use rv_decode::{decode, decode_arith, decode_scalar, decode_unit};
+use rv_model::{Access, Cause, Fault, GROUP_BYTES, Instr, OUTPUT_SIZE, Policy, Scalar, StepEnd};
 use vector_memory::UserBytes;
 
 /// The word at an address.
@@ -33,8 +34,8 @@ fn fetch<M: UserBytes>(memory: &M, pc: u64) -> Result<u32, Fault>
 
 /// Carries out the instruction that a word is within `limit` ticks; one that is none is illegal.
 #[tactic(auto, unfolding(rv_model::specs::step::Step::executed, rv_model::specs::step::Step::dirties))]
-#[inline(always)]
-fn execute<M: UserBytes, V: Vectors>(
+#[inline(never)]
+fn execute_other<M: UserBytes, V: Vectors>(
     word: u32,
     scalar: &mut Scalar,
     memory: &mut M,
@@ -70,11 +71,121 @@ fn execute<M: UserBytes, V: Vectors>(
         return (execute_scalar(instr, word, scalar, memory, output), 1);
     }
 
-    // A copy, so that a scalar instruction needs no place in memory.
-    let touching = *instr;
     let seat = vectors.seat();
     seat.state.conf.length_law();
-    execute_touching(&touching, word, scalar, memory, seat, limit, policy)
+    execute_touching(instr, word, scalar, memory, seat, limit, policy)
+}
+
+/// The same, sooner for a vector operation and for a unit-stride access, whose layouts are known.
+#[tactic(auto, unfolding(rv_model::specs::step::Step::executed, rv_model::specs::step::Step::dirties))]
+#[inline(never)]
+fn execute_vector_word<M: UserBytes, V: Vectors>(
+    word: u32,
+    scalar: &mut Scalar,
+    memory: &mut M,
+    vectors: &mut V,
+    output: &mut ArrayVec<u8, OUTPUT_SIZE>,
+    limit: usize,
+    policy: Policy,
+) -> (StepEnd, usize)
+    requires ready { V.ready vectors.old }
+    requires limit { 1 ≤ limit }
+    ensures model { LeadsTo (executed limit (scan table word) word)
+        (hart_state scalar.old (V.lent vectors.old).state (M.memory memory.old) policy output.old.items)
+        (hart_state scalar.new (V.lent vectors.new).state (M.memory memory.new) policy output.new.items)
+        result.0 result.1 }
+    ensures memory { memory.new ≡ M.with_memory memory.old (M.memory memory.new) }
+    ensures vectors { vectors.new
+        ≡ (if touches (scan table word) then V.back vectors.old (V.lent vectors.new) else vectors.old) }
+    ensures dirty { Marks (dirties limit (scan table word))
+        (hart_state scalar.old (V.lent vectors.old).state (M.memory memory.old) policy)
+        (V.lent vectors.old) (V.lent vectors.new) }
+    ensures ready { V.ready vectors.new }
+    ensures uncut { GROUP_BYTES ≤ limit → result.0 ≢ StepEnd.Cut }
+
+    // What is cut is a vector instruction, which finds a length that its vector type allows.
+    ensures configuration { result.0 ≡ StepEnd.Cut
+        → IsConfiguration (V.lent vectors.old).state.conf }
+{
+    let operation = decode_arith(word);
+    if let Some(instr) = &operation {
+        if let Instr::VectorArith { arith, vd, vs2, vm } = *instr {
+            let seat = vectors.seat();
+            seat.state.conf.length_law();
+            let instr = Instr::VectorArith { arith, vd, vs2, vm };
+            return execute_vector(&instr, word, scalar, memory, seat, limit, policy);
+        }
+    }
+    let access = decode_unit(word);
+    if let Some(instr) = &access {
+        if let Instr::VectorUnit {
+            op,
+            width,
+            nf,
+            vd,
+            rs1,
+            vm,
+        } = *instr
+        {
+            let seat = vectors.seat();
+            seat.state.conf.length_law();
+            let instr = Instr::VectorUnit {
+                op,
+                width,
+                nf,
+                vd,
+                rs1,
+                vm,
+            };
+            return execute_vector(&instr, word, scalar, memory, seat, limit, policy);
+        }
+    }
+    execute_other(word, scalar, memory, vectors, output, limit, policy)
+}
+
+/// The same, vector instructions out of line, so that a scalar instruction needs no place in memory.
+#[tactic(auto, unfolding(rv_model::specs::step::Step::executed, rv_model::specs::step::Step::dirties))]
+#[inline(always)]
+fn execute<M: UserBytes, V: Vectors>(
+    word: u32,
+    scalar: &mut Scalar,
+    memory: &mut M,
+    vectors: &mut V,
+    output: &mut ArrayVec<u8, OUTPUT_SIZE>,
+    limit: usize,
+    policy: Policy,
+) -> (StepEnd, usize)
+    requires ready { V.ready vectors.old }
+    requires limit { 1 ≤ limit }
+    ensures model { LeadsTo (executed limit (scan table word) word)
+        (hart_state scalar.old (V.lent vectors.old).state (M.memory memory.old) policy output.old.items)
+        (hart_state scalar.new (V.lent vectors.new).state (M.memory memory.new) policy output.new.items)
+        result.0 result.1 }
+    ensures memory { memory.new ≡ M.with_memory memory.old (M.memory memory.new) }
+    ensures vectors { vectors.new
+        ≡ (if touches (scan table word) then V.back vectors.old (V.lent vectors.new) else vectors.old) }
+    ensures dirty { Marks (dirties limit (scan table word))
+        (hart_state scalar.old (V.lent vectors.old).state (M.memory memory.old) policy)
+        (V.lent vectors.old) (V.lent vectors.new) }
+    ensures ready { V.ready vectors.new }
+    ensures uncut { GROUP_BYTES ≤ limit → result.0 ≢ StepEnd.Cut }
+
+    // What is cut is a vector instruction, which finds a length that its vector type allows.
+    ensures configuration { result.0 ≡ StepEnd.Cut
+        → IsConfiguration (V.lent vectors.old).state.conf }
+{
+    let decoded = decode_scalar(word);
+    let Some(instr) = &decoded else {
+        let (end, ticks) = execute_vector_word(
+            word, scalar, memory, vectors, output, limit, policy,
+        );
+        return (end, ticks);
+    };
+    if is_touching(instr) {
+        let (end, ticks) = execute_other(word, scalar, memory, vectors, output, limit, policy);
+        return (end, ticks);
+    }
+    (execute_scalar(instr, word, scalar, memory, output), 1)
 }
 
 /// Carries out one instruction of a user within `limit` ticks, and answers how it ended and how many

@@ -15,6 +15,7 @@ pub(crate) struct Found {
 }
 
 /// Whether it is a fault-only-first load.
+#[inline(always)]
 fn is_fault_only_first(instr: &Instr) -> bool
     ensures { result ≡ is_fault_only_first instr.now }
 {
@@ -27,8 +28,9 @@ fn is_fault_only_first(instr: &Instr) -> bool
     }
 }
 
-/// The ticks of an instruction that is done, and leaves this vector length.
-fn done_ticks(instr: &Instr, found: Found, vl: u16) -> usize
+/// The ticks of a load or store that is done, and leaves this vector length.
+#[inline(always)]
+fn access_ticks(instr: &Instr, found: Found, vl: u16) -> usize
     ensures { result ≡ (if is_fault_only_first instr.now && nat_lt vl found.vl
         then vl - found.vstart + 1
         else max 1 (index_count instr.now found.vl - found.vstart)) }
@@ -42,7 +44,26 @@ fn done_ticks(instr: &Instr, found: Found, vl: u16) -> usize
         .max(1)
 }
 
+/// The ticks of an instruction that is done, and leaves this vector length: one, but for loads and stores.
+#[inline(always)]
+fn done_ticks(instr: &Instr, found: Found, vl: u16) -> usize
+    ensures { result ≡ (if is_fault_only_first instr.now && nat_lt vl found.vl
+        then vl - found.vstart + 1
+        else max 1 (index_count instr.now found.vl - found.vstart)) }
+{
+    match *instr {
+        Instr::VectorUnit { .. }
+        | Instr::VectorStrided { .. }
+        | Instr::VectorIndexed { .. }
+        | Instr::WholeLoad { .. }
+        | Instr::WholeStore { .. }
+        | Instr::MaskMemory { .. } => access_ticks(instr, found, vl),
+        _ => 1,
+    }
+}
+
 /// The ticks of an instruction that had `limit` of them, found this length and `vstart`, and left this state.
+#[inline(always)]
 pub(crate) fn ticks_taken(
     instr: &Instr,
     limit: usize,

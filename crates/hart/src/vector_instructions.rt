@@ -24,6 +24,7 @@ fn access_cause(store: bool) -> Cause
 }
 
 /// Carries out a vector instruction within `limit` ticks, and answers how it ended and how many it took.
+#[inline(always)]
 pub(crate) fn execute_vector<M: UserBytes>(
     instr: &Instr,
     word: u32,

@@ -1,1 +1,2 @@
 pub mod GroupLending
+pub mod Roles

@@ -5,10 +5,11 @@ ghost use Rattle.rv_model.specs.legality.OperandShapes.{extension_divisor, group
 ghost use Rattle.rv_model.specs.legality.Legality.{IsLegal, access_operands, compress_operands, data_role, extension_operands, has_legal, has_wide_product, indexed_operands, indexed_role, is_below_64, is_fractional_product, is_legal, is_narrow, is_narrow_only, is_reduction, mask_logic_operands, mask_result, move_operands, operands, register_count, starts_at_zero, unit_role, whole_move_operands};
 ghost use Rattle.rv_model.specs.legality.RegisterOperands.{are_legal};
 ghost use Rattle.rv_model.specs.vector.Configuration.{element_width, sew_bits};
+ghost use Rattle.reg_groups.specs.Roles.{is_apart_from_mask};
 
 use crate::agreement::{allows, are_legal, is_group};
 use crate::operands::{group, mask, segment, v0, whole};
-use crate::shapes::{destination, is_legal_shape, second_source, shape_of};
+use crate::shapes::{destination, is_aligned, is_legal_shape, second_source, shape_of};
 use rv_model::instructions::operations::{
     BinaryOp, Direction, ExtendOp, FixedPointOp, MaskUnaryOp, RegisterCount, UnitOp, VectorOp,
     Width,
@@ -201,8 +202,9 @@ fn is_legal_whole_move(count: RegisterCount, vd: VReg, vs2: VReg, vtype: VType) 
     ])
 }
 
-/// Whether the operands of a unit-stride or strided access are legal.
-fn is_legal_access(
+/// Whether the operands of an access to fields of any width are legal.
+#[inline(never)]
+fn are_legal_fields(
     role: Role,
     width: Width,
     nf: Field<3>,
@@ -214,6 +216,45 @@ fn is_legal_access(
 {
     let data = segment(role, fields(nf), vd, element_bits(width), vtype);
     is_legal_with_mask(&data, unmasked)
+}
+
+/// Whether an operand of this role may not stand where the mask is.
+#[inline(always)]
+fn is_apart_from_mask(role: Role) -> bool
+    ensures { result ≡ is_apart_from_mask role }
+{
+    match role {
+        Role::Write | Role::Apart => true,
+        Role::Read | Role::Control | Role::Unused | Role::Free => false,
+    }
+}
+
+/// Whether one group of elements of SEW may be loaded or stored. An aligned group that holds v0 begins with it.
+#[inline(always)]
+#[tactic(auto, using(crate::proofs::EqualWidths::group_with_mask))]
+fn is_legal_group(role: Role, vd: VReg, unmasked: bool, vtype: VType) -> bool
+    ensures { result ≡ are_legal (group role vd (sew_bits vtype.sew) vtype ∷ v0 unmasked ∷ []) }
+{
+    is_aligned(vd, vtype) && (unmasked || !is_apart_from_mask(role) || vd.number() != 0)
+}
+
+/// Whether the operands of a unit-stride or strided access are legal.
+#[inline(always)]
+fn is_legal_access(
+    role: Role,
+    width: Width,
+    nf: Field<3>,
+    vd: VReg,
+    unmasked: bool,
+    vtype: VType,
+) -> bool
+    ensures { result ≡ are_legal (access_operands role width nf vd unmasked vtype) }
+{
+    if nf.value() == 0 && element_bits(width) == vtype.sew.bits() {
+        is_legal_group(role, vd, unmasked, vtype)
+    } else {
+        are_legal_fields(role, width, nf, vd, unmasked, vtype)
+    }
 }
 
 /// Whether the operands of an indexed access are legal.
@@ -301,6 +342,7 @@ fn has_legal_untyped_operands(instr: &Instr) -> bool
 
 /// Whether a load or store that needs a vector type may have its operands.
 #[tactic(auto, unfolding(rv_model::specs::legality::Legality::operands))]
+#[inline(always)]
 fn has_legal_memory_operands(instr: &Instr, vtype: VType) -> bool
     requires { IsTrue (is_typed_access instr.now) }
     ensures { result ≡ has_legal (operands instr.now (Some vtype)) }
@@ -338,6 +380,7 @@ fn has_legal_memory_operands(instr: &Instr, vtype: VType) -> bool
 
 /// Whether an instruction may have its operands under a vector type.
 #[tactic(auto, unfolding(rv_model::specs::legality::Legality::operands))]
+#[inline(always)]
 fn has_legal_operands(instr: &Instr, vtype: VType) -> bool
     ensures { result ≡ has_legal (operands instr.now (Some vtype)) }
 {
@@ -369,6 +412,7 @@ fn has_legal_operands(instr: &Instr, vtype: VType) -> bool
 }
 
 /// Whether it is a reduction.
+#[inline(always)]
 fn is_reduction(op: VectorOp) -> bool
     ensures { result ≡ is_reduction op }
 {
@@ -389,6 +433,7 @@ fn is_reduction(op: VectorOp) -> bool
 }
 
 /// Whether an instruction has to begin with element 0.
+#[inline(always)]
 fn starts_at_zero(instr: &Instr) -> bool
     ensures { result ≡ starts_at_zero instr.now }
 {
@@ -403,6 +448,7 @@ fn starts_at_zero(instr: &Instr) -> bool
 }
 
 /// Whether it is an upper half of a product.
+#[inline(always)]
 fn has_wide_product(op: BinaryOp) -> bool
     ensures { result ≡ has_wide_product op }
 {
@@ -413,6 +459,7 @@ fn has_wide_product(op: BinaryOp) -> bool
 }
 
 /// Whether it is a fractional product.
+#[inline(always)]
 fn is_fractional_product(op: FixedPointOp) -> bool
     ensures { result ≡ is_fractional_product op }
 {
@@ -423,6 +470,7 @@ fn is_fractional_product(op: FixedPointOp) -> bool
 }
 
 /// Whether there is the operation for SEW below 64 alone.
+#[inline(always)]
 fn is_narrow_only(op: VectorOp) -> bool
     ensures { result ≡ is_narrow_only op }
 {
@@ -444,6 +492,7 @@ fn is_narrow_only(op: VectorOp) -> bool
 }
 
 /// Whether there is the instruction for SEW below 64 alone.
+#[inline(always)]
 fn is_below_64(instr: &Instr) -> bool
     ensures { result ≡ is_below_64 instr.now }
 {
@@ -457,6 +506,7 @@ fn is_below_64(instr: &Instr) -> bool
 }
 
 /// Whether an instruction has its vector type, if it needs one, and may have its operands.
+#[inline(always)]
 fn may_have_operands(instr: &Instr, vtype: Option<VType>) -> bool
     ensures { result ≡ has_legal (operands instr.now vtype) }
 {
@@ -467,6 +517,7 @@ fn may_have_operands(instr: &Instr, vtype: Option<VType>) -> bool
 }
 
 /// Whether there is a vector type with a SEW below 64.
+#[inline(always)]
 fn is_narrow(vtype: Option<VType>) -> bool
     ensures { result ≡ is_narrow vtype }
 {
@@ -478,6 +529,7 @@ fn is_narrow(vtype: Option<VType>) -> bool
 
 /// Whether an instruction is legal; the test that the definitions have.
 #[tactic(auto, unfolding(rv_model::specs::legality::Legality::is_legal))]
+#[inline(always)]
 fn is_legal(instr: &Instr, conf: &VConf, vstart: u8) -> bool
     ensures { result ≡ is_legal instr.now conf.now.vtype vstart }
 {
@@ -489,6 +541,7 @@ fn is_legal(instr: &Instr, conf: &VConf, vstart: u8) -> bool
 /// Whether an instruction is legal with this vector type and vstart; the length has no part in it. Scalar
 /// instructions are.
 #[tactic(auto, using(rv_model::proofs::legality_lemmas::Meaning::is_legal_means))]
+#[inline(always)]
 pub fn legal(instr: &Instr, conf: &VConf, vstart: u8) -> bool
     ensures value { result ≡ is_legal instr.now conf.now.vtype vstart }
     ensures meaning { (result ≡ true) ↔ IsLegal instr.now conf.now.vtype vstart }

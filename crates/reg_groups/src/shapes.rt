@@ -23,6 +23,7 @@ fn permute_shape(op: PermuteOp) -> Shape
 }
 
 /// The shape of an operation.
+#[inline(always)]
 pub(crate) fn shape_of(op: VectorOp) -> Shape
     ensures { result ≡ shape_of op }
 {
@@ -100,7 +101,8 @@ pub(crate) fn second_source(shape: Shape, source: Source, vtype: VType) -> Opera
 
 /// Whether a group of the vector type's multiplier may begin with a register. One that is aligned ends inside
 /// the file.
-fn is_aligned(first: VReg, vtype: VType) -> bool
+#[inline(always)]
+pub(crate) fn is_aligned(first: VReg, vtype: VType) -> bool
     ensures { result ≡ is_group (group Role.Read first (sew_bits vtype.sew) vtype) }
 {
     let number = first.number();
@@ -113,6 +115,7 @@ fn is_aligned(first: VReg, vtype: VType) -> bool
 }
 
 /// The same of a second source, if it is a group.
+#[inline(always)]
 fn is_source_aligned(source: Source, vtype: VType) -> bool
     ensures { result ≡ is_group (second_source Shape.Single source vtype) }
 {

@@ -1,5 +1,5 @@
 -- Which opcodes an instruction's word has (V extension, "Vector Instruction Formats").
-use Rattle.std.specs.Prelude.{Bool, true, false}
+use Rattle.std.specs.Prelude.{ℕ, Bool, true, false, nat_eq, ◌||◌}
 use Rattle.rv_model.specs.declared.instructions.instruction.Instr.{Instr}
 use Rattle.rv_model.specs.declared.instructions.instruction.Instr.TheVariants.{Upper, Jump, JumpRegister, Branch, Load, Store, RegisterImmediate, ShiftImmediate, ShiftImmediateWord, RegisterRegister, Fence, System, Csr, CsrImmediate, SetVli, SetIvli, SetVl, VectorArith, VectorCarry, VectorMove, WholeMove, MaskLogic, Compress, MaskToScalar, VectorExtend, MaskUnary, ElementIndex, MoveToScalar, MoveToVector, VectorUnit, VectorStrided, VectorIndexed, WholeLoad, WholeStore, MaskMemory}
 
@@ -40,3 +40,7 @@ is_operation (VectorIndexed direction order width nf vd rs1 vs2 vm) = false
 is_operation (WholeLoad count width vd rs1) = false
 is_operation (WholeStore count vd rs1) = false
 is_operation (MaskMemory direction vd rs1) = false
+
+-- LOAD-FP, STORE-FP and OP-V, the opcodes of vector instructions
+abbrev pub is_vector_opcode : ℕ → Bool
+is_vector_opcode opcode = nat_eq opcode 0x07 || (nat_eq opcode 0x27 || nat_eq opcode 0x57)

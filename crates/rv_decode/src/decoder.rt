@@ -1,8 +1,9 @@
 //! Words to instructions.
-ghost use Rattle.std.specs.Prelude.{◌≡◌, ◌++◌, bit_and, IfSome, IfNone};
+ghost use Rattle.std.specs.Prelude.{◌≡◌, ◌++◌, bit_and, IfSome, IfNone, None, Some, if◌then◌else◌};
 ghost use Rattle.rv_model.specs.declared.instructions.operations.Form.TheVariants as form;
 ghost use Rattle.rv_model.specs.instructions.Operations.{major_bits};
 ghost use Rattle.rv_model.specs.instructions.Layout.{word_of};
+ghost use Rattle.rv_decode.specs.Opcodes.{is_vector_opcode};
 ghost use Rattle.rv_model.specs.instructions.Table.{Row, IsRow, scan, rows, table, Uppers, Jumps, JumpRegisters, Branches, Loads, Stores, RegisterImmediates, ShiftImmediates, ShiftImmediateWords, RegisterRegisters, Fences, Systems, Csrs, CsrImmediates, SetVlis, SetIvlis, SetVls, Ariths, Carries, Moves, WholeMoves, MaskLogics, Compresses, MasksToScalar, Extends, MaskUnaries, ElementIndices, MovesToScalar, MovesToVector, Units, Strideds, Indexeds, WholeLoads, WholeStores, MaskMemories};
 
 use crate::scalar::{
@@ -230,4 +231,70 @@ pub fn decode(word: u32) -> Option<Instr>
     ensures none { IfNone result ((r : Row) → IsRow word r → ⊥) }
 {
     by_opcode(word)
+}
+
+/// The vector operation that a word is, if it is one with a line of its own in the table.
+#[tactic(auto, using(crate::proofs::Shortcuts::operation_found))]
+#[inline(always)]
+pub fn decode_arith(word: u32) -> Option<Instr>
+    ensures { IfSome result (λ i. scan table word ≡ Some i) }
+{
+    match word & 0x707f {
+        0x0057 => arith(word, Major::Opi, Form::V),
+        0x4057 => arith(word, Major::Opi, Form::X),
+        0x3057 => arith(word, Major::Opi, Form::I),
+        0x2057 => arith(word, Major::Opm, Form::V),
+        0x6057 => arith(word, Major::Opm, Form::X),
+        _ => None,
+    }
+}
+
+/// The unit-stride access that a word is, if it is one.
+#[tactic(auto, using(crate::proofs::Shortcuts::access_found))]
+#[inline(always)]
+pub fn decode_unit(word: u32) -> Option<Instr>
+    ensures { IfSome result (λ i. scan table word ≡ Some i) }
+{
+    match word & 0x7f {
+        0x07 => unit(word),
+        0x27 => unit(word),
+        _ => None,
+    }
+}
+
+/// The instruction of a word, by its opcode, unless that is one of vector instructions.
+#[tactic(auto, using(crate::proofs::Scan::opcode_steps))]
+#[inline(always)]
+fn by_scalar_opcode(word: u32) -> Option<Instr>
+    ensures { result ≡ (if is_vector_opcode (bit_and word 0x7f) then None else scan table word) }
+{
+    match word & 0x7f {
+        0x03 => load(word),
+        0x07 => None,
+        0x0f => fence(word),
+        0x13 => immediates(word),
+        0x17 => upper(word),
+        0x1b => word_immediates(word),
+        0x23 => store(word),
+        0x27 => None,
+        0x33 => register_register(word),
+        0x37 => upper(word),
+        0x3b => register_register(word),
+        0x57 => None,
+        0x63 => branch(word),
+        0x67 => jump_register(word),
+        0x6f => jump(word),
+        0x73 => system_or_csr(word),
+        _ => None,
+    }
+}
+
+/// The same as `decode`, but for the opcodes of vector instructions, where it is `None`.
+#[tactic(auto, using(crate::proofs::Shortcuts::found_unless))]
+#[inline(always)]
+pub fn decode_scalar(word: u32) -> Option<Instr>
+    ensures value { result ≡ (if is_vector_opcode (bit_and word 0x7f) then None else scan table word) }
+    ensures found { IfSome result (λ i. scan table word ≡ Some i) }
+{
+    by_scalar_opcode(word)
 }

@@ -31,6 +31,7 @@ fn opm(funct6: u32, forms: Forms) -> Line
 }
 
 /// Whether a form is one of these.
+#[inline(always)]
 pub(crate) fn has_form(forms: Forms, form: Form) -> bool
     ensures { result ≡ has_form forms form }
 {

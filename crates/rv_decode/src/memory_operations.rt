@@ -9,6 +9,7 @@ ghost use Rattle.rv_model.specs.instructions.Table.{find, unit_accesses, strided
 use rv_model::instructions::operations::{Direction, Order, RegisterCount, UnitOp, Width};
 
 /// The unit-stride access of these bits.
+#[inline(always)]
 pub(crate) fn unit_access(bits: u32) -> Option<(UnitOp, Width)>
     ensures { result ≡ find unit_access_bits unit_accesses bits }
 {

@@ -15,6 +15,7 @@ use rv_model::{Arith, Carry, Field, Instr};
 
 /// An operation with a line of its own in the table, masked or not.
 #[tactic(auto, using(crate::proofs::Scan::scan_arith, rv_model::proofs::instruction_lemmas::Words::form_source_of))]
+#[inline(always)]
 pub(crate) fn arith(word: u32, major: Major, form: Form) -> Option<Instr>
     requires { bit_and word 0x707f ≡ major_bits major form }
     ensures { result ≡ scan (rows (Ariths major form)) word }

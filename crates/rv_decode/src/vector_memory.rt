@@ -12,6 +12,7 @@ use rv_model::{Field, Instr};
 
 /// Unit stride.
 #[tactic(auto, using(crate::proofs::Scan::scan_unit))]
+#[inline(always)]
 pub(crate) fn unit(word: u32) -> Option<Instr>
     ensures { result ≡ scan (rows Units) word }
 {

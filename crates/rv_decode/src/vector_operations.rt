@@ -4,19 +4,21 @@ ghost use Rattle.rv_model.specs.instructions.FixedBits.{whole_move_bits, mask_lo
 ghost use Rattle.rv_model.specs.instructions.Operations.{has_form, line, carry_line, line_bits, those, vector_ops, carry_ops};
 ghost use Rattle.rv_model.specs.instructions.Table.{find, find_at};
 
-use crate::lines::{has_form, line};
+use crate::lines::has_form;
 use rv_model::instructions::operations::{
-    BinaryOp, CarryOp, CarryOutOp, ClipOp, CompareOp, ExtendOp, FixedPointOp, Form, Major,
+    BinaryOp, CarryOp, CarryOutOp, ClipOp, CompareOp, ExtendOp, FixedPointOp, Form, Forms, Major,
     MaskLogicOp, MaskScanOp, MaskToScalarOp, MaskUnaryOp, MultiplyAddOp, NarrowShiftOp, PermuteOp,
     ReduceOp, RegisterCount, VectorOp, WideSourceOp, WidenMultiplyAddOp, WidenOp, WidenReduceOp,
 };
 
-/// The operation, if the manual's table has it in this form.
-fn if_allowed(op: VectorOp, form: Form) -> Option<VectorOp>
+/// The operation, if it has this form; `forms` are those that the manual's table has.
+#[inline(always)]
+fn if_allowed(op: VectorOp, forms: Forms, form: Form) -> Option<VectorOp>
+    requires { forms ≡ (line op).forms }
     ensures row { result ≡ (if has_form (line op).forms form then Some op else None) }
     ensures allowed { IfSome result (λ op. has_form (line op).forms form ≡ true) }
 {
-    if has_form(line(op).forms, form) {
+    if has_form(forms, form) {
         Some(op)
     } else {
         None
@@ -25,73 +27,76 @@ fn if_allowed(op: VectorOp, form: Form) -> Option<VectorOp>
 
 /// The operation of OPIVV, OPIVX or OPIVI with this funct6, below 0x18, and form.
 #[tactic(auto, unfolding(rv_model::specs::instructions::Table::find_at))]
+#[inline(always)]
 fn lower_opi(funct6: u32, form: Form) -> Option<VectorOp>
     requires { funct6 < 0x18 }
     ensures row { result ≡ find_at line Major.Opi form funct6 vector_ops }
     ensures allowed { IfSome result (λ op. has_form (line op).forms form ≡ true) }
 {
-    let op = match funct6 {
-        0x00 => VectorOp::Binary(BinaryOp::Vadd),
-        0x02 => VectorOp::Binary(BinaryOp::Vsub),
-        0x03 => VectorOp::Binary(BinaryOp::Vrsub),
-        0x04 => VectorOp::Binary(BinaryOp::Vminu),
-        0x05 => VectorOp::Binary(BinaryOp::Vmin),
-        0x06 => VectorOp::Binary(BinaryOp::Vmaxu),
-        0x07 => VectorOp::Binary(BinaryOp::Vmax),
-        0x09 => VectorOp::Binary(BinaryOp::Vand),
-        0x0a => VectorOp::Binary(BinaryOp::Vor),
-        0x0b => VectorOp::Binary(BinaryOp::Vxor),
-        0x0c => VectorOp::Permute(PermuteOp::Vrgather),
+    let (op, forms) = match funct6 {
+        0x00 => (VectorOp::Binary(BinaryOp::Vadd), Forms::Vxi),
+        0x02 => (VectorOp::Binary(BinaryOp::Vsub), Forms::Vx),
+        0x03 => (VectorOp::Binary(BinaryOp::Vrsub), Forms::Xi),
+        0x04 => (VectorOp::Binary(BinaryOp::Vminu), Forms::Vx),
+        0x05 => (VectorOp::Binary(BinaryOp::Vmin), Forms::Vx),
+        0x06 => (VectorOp::Binary(BinaryOp::Vmaxu), Forms::Vx),
+        0x07 => (VectorOp::Binary(BinaryOp::Vmax), Forms::Vx),
+        0x09 => (VectorOp::Binary(BinaryOp::Vand), Forms::Vxi),
+        0x0a => (VectorOp::Binary(BinaryOp::Vor), Forms::Vxi),
+        0x0b => (VectorOp::Binary(BinaryOp::Vxor), Forms::Vxi),
+        0x0c => (VectorOp::Permute(PermuteOp::Vrgather), Forms::Vxi),
         0x0e => match form {
-            Form::V => VectorOp::Permute(PermuteOp::Vrgatherei16),
-            Form::X | Form::I => VectorOp::Permute(PermuteOp::Vslideup),
+            Form::V => (VectorOp::Permute(PermuteOp::Vrgatherei16), Forms::V),
+            Form::X | Form::I => (VectorOp::Permute(PermuteOp::Vslideup), Forms::Xi),
         },
-        0x0f => VectorOp::Permute(PermuteOp::Vslidedown),
-        0x11 => VectorOp::CarryOut(CarryOutOp::Vmadc),
-        0x13 => VectorOp::CarryOut(CarryOutOp::Vmsbc),
+        0x0f => (VectorOp::Permute(PermuteOp::Vslidedown), Forms::Xi),
+        0x11 => (VectorOp::CarryOut(CarryOutOp::Vmadc), Forms::Vxi),
+        0x13 => (VectorOp::CarryOut(CarryOutOp::Vmsbc), Forms::Vx),
         _ => return None,
     };
-    if_allowed(op, form)
+    if_allowed(op, forms, form)
 }
 
 /// The operation of OPIVV, OPIVX or OPIVI with this funct6, from 0x18 on, and form.
 #[tactic(auto, unfolding(rv_model::specs::instructions::Table::find_at))]
+#[inline(always)]
 fn upper_opi(funct6: u32, form: Form) -> Option<VectorOp>
     requires { 0x18 ≤ funct6 }
     ensures row { result ≡ find_at line Major.Opi form funct6 vector_ops }
     ensures allowed { IfSome result (λ op. has_form (line op).forms form ≡ true) }
 {
-    let op = match funct6 {
-        0x18 => VectorOp::Compare(CompareOp::Vmseq),
-        0x19 => VectorOp::Compare(CompareOp::Vmsne),
-        0x1a => VectorOp::Compare(CompareOp::Vmsltu),
-        0x1b => VectorOp::Compare(CompareOp::Vmslt),
-        0x1c => VectorOp::Compare(CompareOp::Vmsleu),
-        0x1d => VectorOp::Compare(CompareOp::Vmsle),
-        0x1e => VectorOp::Compare(CompareOp::Vmsgtu),
-        0x1f => VectorOp::Compare(CompareOp::Vmsgt),
-        0x20 => VectorOp::FixedPoint(FixedPointOp::Vsaddu),
-        0x21 => VectorOp::FixedPoint(FixedPointOp::Vsadd),
-        0x22 => VectorOp::FixedPoint(FixedPointOp::Vssubu),
-        0x23 => VectorOp::FixedPoint(FixedPointOp::Vssub),
-        0x25 => VectorOp::Binary(BinaryOp::Vsll),
-        0x27 => VectorOp::FixedPoint(FixedPointOp::Vsmul),
-        0x28 => VectorOp::Binary(BinaryOp::Vsrl),
-        0x29 => VectorOp::Binary(BinaryOp::Vsra),
-        0x2a => VectorOp::FixedPoint(FixedPointOp::Vssrl),
-        0x2b => VectorOp::FixedPoint(FixedPointOp::Vssra),
-        0x2c => VectorOp::NarrowShift(NarrowShiftOp::Vnsrl),
-        0x2d => VectorOp::NarrowShift(NarrowShiftOp::Vnsra),
-        0x2e => VectorOp::Clip(ClipOp::Vnclipu),
-        0x2f => VectorOp::Clip(ClipOp::Vnclip),
-        0x30 => VectorOp::WidenReduce(WidenReduceOp::Vwredsumu),
-        0x31 => VectorOp::WidenReduce(WidenReduceOp::Vwredsum),
+    let (op, forms) = match funct6 {
+        0x18 => (VectorOp::Compare(CompareOp::Vmseq), Forms::Vxi),
+        0x19 => (VectorOp::Compare(CompareOp::Vmsne), Forms::Vxi),
+        0x1a => (VectorOp::Compare(CompareOp::Vmsltu), Forms::Vx),
+        0x1b => (VectorOp::Compare(CompareOp::Vmslt), Forms::Vx),
+        0x1c => (VectorOp::Compare(CompareOp::Vmsleu), Forms::Vxi),
+        0x1d => (VectorOp::Compare(CompareOp::Vmsle), Forms::Vxi),
+        0x1e => (VectorOp::Compare(CompareOp::Vmsgtu), Forms::Xi),
+        0x1f => (VectorOp::Compare(CompareOp::Vmsgt), Forms::Xi),
+        0x20 => (VectorOp::FixedPoint(FixedPointOp::Vsaddu), Forms::Vxi),
+        0x21 => (VectorOp::FixedPoint(FixedPointOp::Vsadd), Forms::Vxi),
+        0x22 => (VectorOp::FixedPoint(FixedPointOp::Vssubu), Forms::Vx),
+        0x23 => (VectorOp::FixedPoint(FixedPointOp::Vssub), Forms::Vx),
+        0x25 => (VectorOp::Binary(BinaryOp::Vsll), Forms::Vxi),
+        0x27 => (VectorOp::FixedPoint(FixedPointOp::Vsmul), Forms::Vx),
+        0x28 => (VectorOp::Binary(BinaryOp::Vsrl), Forms::Vxi),
+        0x29 => (VectorOp::Binary(BinaryOp::Vsra), Forms::Vxi),
+        0x2a => (VectorOp::FixedPoint(FixedPointOp::Vssrl), Forms::Vxi),
+        0x2b => (VectorOp::FixedPoint(FixedPointOp::Vssra), Forms::Vxi),
+        0x2c => (VectorOp::NarrowShift(NarrowShiftOp::Vnsrl), Forms::Vxi),
+        0x2d => (VectorOp::NarrowShift(NarrowShiftOp::Vnsra), Forms::Vxi),
+        0x2e => (VectorOp::Clip(ClipOp::Vnclipu), Forms::Vxi),
+        0x2f => (VectorOp::Clip(ClipOp::Vnclip), Forms::Vxi),
+        0x30 => (VectorOp::WidenReduce(WidenReduceOp::Vwredsumu), Forms::V),
+        0x31 => (VectorOp::WidenReduce(WidenReduceOp::Vwredsum), Forms::V),
         _ => return None,
     };
-    if_allowed(op, form)
+    if_allowed(op, forms, form)
 }
 
 /// The operation of OPIVV, OPIVX or OPIVI with this funct6 and form.
+#[inline(always)]
 pub(crate) fn opi(funct6: u32, form: Form) -> Option<VectorOp>
     ensures row { result ≡ find_at line Major.Opi form funct6 vector_ops }
     ensures allowed { IfSome result (λ op. has_form (line op).forms form ≡ true) }
@@ -105,72 +110,87 @@ pub(crate) fn opi(funct6: u32, form: Form) -> Option<VectorOp>
 
 /// The operation of OPMVV or OPMVX with this funct6, below 0x20, and form.
 #[tactic(auto, unfolding(rv_model::specs::instructions::Table::find_at))]
+#[inline(always)]
 fn lower_opm(funct6: u32, form: Form) -> Option<VectorOp>
     requires { funct6 < 0x20 }
     ensures row { result ≡ find_at line Major.Opm form funct6 vector_ops }
     ensures allowed { IfSome result (λ op. has_form (line op).forms form ≡ true) }
 {
-    let op = match funct6 {
-        0x00 => VectorOp::Reduce(ReduceOp::Vredsum),
-        0x01 => VectorOp::Reduce(ReduceOp::Vredand),
-        0x02 => VectorOp::Reduce(ReduceOp::Vredor),
-        0x03 => VectorOp::Reduce(ReduceOp::Vredxor),
-        0x04 => VectorOp::Reduce(ReduceOp::Vredminu),
-        0x05 => VectorOp::Reduce(ReduceOp::Vredmin),
-        0x06 => VectorOp::Reduce(ReduceOp::Vredmaxu),
-        0x07 => VectorOp::Reduce(ReduceOp::Vredmax),
-        0x08 => VectorOp::FixedPoint(FixedPointOp::Vaaddu),
-        0x09 => VectorOp::FixedPoint(FixedPointOp::Vaadd),
-        0x0a => VectorOp::FixedPoint(FixedPointOp::Vasubu),
-        0x0b => VectorOp::FixedPoint(FixedPointOp::Vasub),
-        0x0e => VectorOp::Permute(PermuteOp::Vslide1up),
-        0x0f => VectorOp::Permute(PermuteOp::Vslide1down),
+    let (op, forms) = match funct6 {
+        0x00 => (VectorOp::Reduce(ReduceOp::Vredsum), Forms::V),
+        0x01 => (VectorOp::Reduce(ReduceOp::Vredand), Forms::V),
+        0x02 => (VectorOp::Reduce(ReduceOp::Vredor), Forms::V),
+        0x03 => (VectorOp::Reduce(ReduceOp::Vredxor), Forms::V),
+        0x04 => (VectorOp::Reduce(ReduceOp::Vredminu), Forms::V),
+        0x05 => (VectorOp::Reduce(ReduceOp::Vredmin), Forms::V),
+        0x06 => (VectorOp::Reduce(ReduceOp::Vredmaxu), Forms::V),
+        0x07 => (VectorOp::Reduce(ReduceOp::Vredmax), Forms::V),
+        0x08 => (VectorOp::FixedPoint(FixedPointOp::Vaaddu), Forms::Vx),
+        0x09 => (VectorOp::FixedPoint(FixedPointOp::Vaadd), Forms::Vx),
+        0x0a => (VectorOp::FixedPoint(FixedPointOp::Vasubu), Forms::Vx),
+        0x0b => (VectorOp::FixedPoint(FixedPointOp::Vasub), Forms::Vx),
+        0x0e => (VectorOp::Permute(PermuteOp::Vslide1up), Forms::X),
+        0x0f => (VectorOp::Permute(PermuteOp::Vslide1down), Forms::X),
         _ => return None,
     };
-    if_allowed(op, form)
+    if_allowed(op, forms, form)
 }
 
 /// The operation of OPMVV or OPMVX with this funct6, from 0x20 on, and form.
 #[tactic(auto, unfolding(rv_model::specs::instructions::Table::find_at))]
+#[inline(always)]
 fn upper_opm(funct6: u32, form: Form) -> Option<VectorOp>
     requires { 0x20 ≤ funct6 }
     ensures row { result ≡ find_at line Major.Opm form funct6 vector_ops }
     ensures allowed { IfSome result (λ op. has_form (line op).forms form ≡ true) }
 {
-    let op = match funct6 {
-        0x20 => VectorOp::Binary(BinaryOp::Vdivu),
-        0x21 => VectorOp::Binary(BinaryOp::Vdiv),
-        0x22 => VectorOp::Binary(BinaryOp::Vremu),
-        0x23 => VectorOp::Binary(BinaryOp::Vrem),
-        0x24 => VectorOp::Binary(BinaryOp::Vmulhu),
-        0x25 => VectorOp::Binary(BinaryOp::Vmul),
-        0x26 => VectorOp::Binary(BinaryOp::Vmulhsu),
-        0x27 => VectorOp::Binary(BinaryOp::Vmulh),
-        0x29 => VectorOp::MultiplyAdd(MultiplyAddOp::Vmadd),
-        0x2b => VectorOp::MultiplyAdd(MultiplyAddOp::Vnmsub),
-        0x2d => VectorOp::MultiplyAdd(MultiplyAddOp::Vmacc),
-        0x2f => VectorOp::MultiplyAdd(MultiplyAddOp::Vnmsac),
-        0x30 => VectorOp::Widen(WidenOp::Vwaddu),
-        0x31 => VectorOp::Widen(WidenOp::Vwadd),
-        0x32 => VectorOp::Widen(WidenOp::Vwsubu),
-        0x33 => VectorOp::Widen(WidenOp::Vwsub),
-        0x34 => VectorOp::WideSource(WideSourceOp::Vwaddu),
-        0x35 => VectorOp::WideSource(WideSourceOp::Vwadd),
-        0x36 => VectorOp::WideSource(WideSourceOp::Vwsubu),
-        0x37 => VectorOp::WideSource(WideSourceOp::Vwsub),
-        0x38 => VectorOp::Widen(WidenOp::Vwmulu),
-        0x3a => VectorOp::Widen(WidenOp::Vwmulsu),
-        0x3b => VectorOp::Widen(WidenOp::Vwmul),
-        0x3c => VectorOp::WidenMultiplyAdd(WidenMultiplyAddOp::Vwmaccu),
-        0x3d => VectorOp::WidenMultiplyAdd(WidenMultiplyAddOp::Vwmacc),
-        0x3e => VectorOp::WidenMultiplyAdd(WidenMultiplyAddOp::Vwmaccus),
-        0x3f => VectorOp::WidenMultiplyAdd(WidenMultiplyAddOp::Vwmaccsu),
+    let (op, forms) = match funct6 {
+        0x20 => (VectorOp::Binary(BinaryOp::Vdivu), Forms::Vx),
+        0x21 => (VectorOp::Binary(BinaryOp::Vdiv), Forms::Vx),
+        0x22 => (VectorOp::Binary(BinaryOp::Vremu), Forms::Vx),
+        0x23 => (VectorOp::Binary(BinaryOp::Vrem), Forms::Vx),
+        0x24 => (VectorOp::Binary(BinaryOp::Vmulhu), Forms::Vx),
+        0x25 => (VectorOp::Binary(BinaryOp::Vmul), Forms::Vx),
+        0x26 => (VectorOp::Binary(BinaryOp::Vmulhsu), Forms::Vx),
+        0x27 => (VectorOp::Binary(BinaryOp::Vmulh), Forms::Vx),
+        0x29 => (VectorOp::MultiplyAdd(MultiplyAddOp::Vmadd), Forms::Vx),
+        0x2b => (VectorOp::MultiplyAdd(MultiplyAddOp::Vnmsub), Forms::Vx),
+        0x2d => (VectorOp::MultiplyAdd(MultiplyAddOp::Vmacc), Forms::Vx),
+        0x2f => (VectorOp::MultiplyAdd(MultiplyAddOp::Vnmsac), Forms::Vx),
+        0x30 => (VectorOp::Widen(WidenOp::Vwaddu), Forms::Vx),
+        0x31 => (VectorOp::Widen(WidenOp::Vwadd), Forms::Vx),
+        0x32 => (VectorOp::Widen(WidenOp::Vwsubu), Forms::Vx),
+        0x33 => (VectorOp::Widen(WidenOp::Vwsub), Forms::Vx),
+        0x34 => (VectorOp::WideSource(WideSourceOp::Vwaddu), Forms::Vx),
+        0x35 => (VectorOp::WideSource(WideSourceOp::Vwadd), Forms::Vx),
+        0x36 => (VectorOp::WideSource(WideSourceOp::Vwsubu), Forms::Vx),
+        0x37 => (VectorOp::WideSource(WideSourceOp::Vwsub), Forms::Vx),
+        0x38 => (VectorOp::Widen(WidenOp::Vwmulu), Forms::Vx),
+        0x3a => (VectorOp::Widen(WidenOp::Vwmulsu), Forms::Vx),
+        0x3b => (VectorOp::Widen(WidenOp::Vwmul), Forms::Vx),
+        0x3c => (
+            VectorOp::WidenMultiplyAdd(WidenMultiplyAddOp::Vwmaccu),
+            Forms::Vx,
+        ),
+        0x3d => (
+            VectorOp::WidenMultiplyAdd(WidenMultiplyAddOp::Vwmacc),
+            Forms::Vx,
+        ),
+        0x3e => (
+            VectorOp::WidenMultiplyAdd(WidenMultiplyAddOp::Vwmaccus),
+            Forms::X,
+        ),
+        0x3f => (
+            VectorOp::WidenMultiplyAdd(WidenMultiplyAddOp::Vwmaccsu),
+            Forms::Vx,
+        ),
         _ => return None,
     };
-    if_allowed(op, form)
+    if_allowed(op, forms, form)
 }
 
 /// The operation of OPMVV or OPMVX with this funct6 and form.
+#[inline(always)]
 pub(crate) fn opm(funct6: u32, form: Form) -> Option<VectorOp>
     ensures row { result ≡ find_at line Major.Opm form funct6 vector_ops }
     ensures allowed { IfSome result (λ op. has_form (line op).forms form ≡ true) }

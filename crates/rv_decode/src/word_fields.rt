@@ -17,6 +17,7 @@ pub(crate) fn reg(word: u32, low: u32) -> Reg
 }
 
 /// The vector register at bit `low`.
+#[inline(always)]
 pub(crate) fn vreg(word: u32, low: u32) -> VReg
     requires { low + 5 ≤ 32 }
     ensures { result ≡ field low 5 word }
@@ -25,6 +26,7 @@ pub(crate) fn vreg(word: u32, low: u32) -> VReg
 }
 
 /// Whether a vector instruction is not masked.
+#[inline(always)]
 pub(crate) fn is_unmasked(word: u32) -> bool
     ensures { result ≡ flag word }
 {
@@ -32,6 +34,7 @@ pub(crate) fn is_unmasked(word: u32) -> bool
 }
 
 /// The second operand of a vector operation of this form.
+#[inline(always)]
 pub(crate) fn source(word: u32, form: Form) -> Source
     ensures { result ≡ source_of form (field 15 5 word) }
 {

@@ -110,6 +110,7 @@ fn perform<M: UserBytes>(
 
 /// A vector instruction, legal or not.
 #[tactic(auto, unfolding(rv_model::specs::step::VectorStep::vector_executed))]
+#[inline(always)]
 fn execute<M: UserBytes>(
     instr: &Instr,
     state: &mut VState,
@@ -140,6 +141,7 @@ fn execute<M: UserBytes>(
 
 /// Carries out a vector instruction of a user, of at most `limit` indices where it is a load or store. The
 /// program counter stays on it.
+#[inline(always)]
 pub fn exec<M: UserBytes>(
     instr: &Instr,
     state: &mut VState,

@@ -1,0 +1,74 @@
+-- What the shorter ways find is what the table holds
+use Rattle.std.proofs.Common.{◌≡◌, refl, ap, ◌∙◌, sym, ℕ, List, ◌++◌, Option, Some, None, Bool, true, false, cond}
+use Rattle.std.specs.Prelude.{IfSome}
+use Rattle.std.specs.Int.Bits.{bit_and}
+use Rattle.std.specs.Option.{option_or}
+use Rattle.rv_model.specs.declared.instructions.operations.Major.TheVariants.{Opi, Opm}
+use Rattle.rv_model.specs.declared.instructions.operations.Form.TheVariants as form
+use Rattle.rv_model.specs.declared.instructions.instruction.Instr.{Instr}
+use Rattle.rv_model.specs.instructions.Table.{Row, rows, table, scan, Ariths, Carries, Moves, WholeMoves, MaskLogics, Compresses, MasksToScalar, Extends, MaskUnaries, ElementIndices, MovesToScalar, MovesToVector, Units, Strideds, Indexeds, WholeLoads, WholeStores, MaskMemories}
+use Rattle.rv_model.proofs.instruction_lemmas.Scans.{scan_append}
+use Rattle.rv_decode.proofs.Scan.{at_07, at_27, at_0057, at_2057, at_3057, at_4057, at_6057}
+
+-- what is found among the first rows is found among all
+first_found : (all first : Option Instr) (xs ys : List Row) (word : ℕ)
+    → all ≡ scan (xs ++ ys) word → first ≡ scan xs word → IfSome first (λ i. all ≡ Some i)
+first_found all None xs ys word whole part = tt
+first_found all (Some i) xs ys word whole part =
+    whole ∙ scan_append xs ys word ∙ ap (λ o. option_or o (scan ys word)) (sym part)
+
+pub found_0057 : (word : ℕ) (found : Option Instr) → bit_and word 0x707f ≡ 0x0057
+    → found ≡ scan (rows (Ariths Opi form.V)) word → IfSome found (λ i. scan table word ≡ Some i)
+unfolding rows
+found_0057 word found is e =
+    first_found (scan table word) found (rows (Ariths Opi form.V)) (rows (Carries form.V) ++ rows (Moves form.V)) word (at_0057 word is) e
+
+pub found_4057 : (word : ℕ) (found : Option Instr) → bit_and word 0x707f ≡ 0x4057
+    → found ≡ scan (rows (Ariths Opi form.X)) word → IfSome found (λ i. scan table word ≡ Some i)
+unfolding rows
+found_4057 word found is e =
+    first_found (scan table word) found (rows (Ariths Opi form.X)) (rows (Carries form.X) ++ rows (Moves form.X)) word (at_4057 word is) e
+
+pub found_3057 : (word : ℕ) (found : Option Instr) → bit_and word 0x707f ≡ 0x3057
+    → found ≡ scan (rows (Ariths Opi form.I)) word → IfSome found (λ i. scan table word ≡ Some i)
+unfolding rows
+found_3057 word found is e =
+    first_found (scan table word) found (rows (Ariths Opi form.I)) (rows (Carries form.I) ++ rows (Moves form.I) ++ rows WholeMoves) word (at_3057 word is) e
+
+pub found_2057 : (word : ℕ) (found : Option Instr) → bit_and word 0x707f ≡ 0x2057
+    → found ≡ scan (rows (Ariths Opm form.V)) word → IfSome found (λ i. scan table word ≡ Some i)
+unfolding rows
+found_2057 word found is e =
+    first_found (scan table word) found (rows (Ariths Opm form.V)) (rows MaskLogics ++ rows Compresses ++ rows MasksToScalar ++ rows Extends ++ rows MaskUnaries ++ rows ElementIndices ++ rows MovesToScalar) word (at_2057 word is) e
+
+pub found_6057 : (word : ℕ) (found : Option Instr) → bit_and word 0x707f ≡ 0x6057
+    → found ≡ scan (rows (Ariths Opm form.X)) word → IfSome found (λ i. scan table word ≡ Some i)
+found_6057 word found is e = first_found (scan table word) found (rows (Ariths Opm form.X)) (rows MovesToVector) word (at_6057 word is) e
+
+pub found_07 : (word : ℕ) (found : Option Instr) → bit_and word 0x7f ≡ 0x07
+    → found ≡ scan (rows Units) word → IfSome found (λ i. scan table word ≡ Some i)
+unfolding rows
+found_07 word found is e =
+    first_found (scan table word) found (rows Units) (rows Strideds ++ rows Indexeds ++ rows WholeLoads ++ rows WholeStores ++ rows MaskMemories) word (at_07 word is) e
+
+pub found_27 : (word : ℕ) (found : Option Instr) → bit_and word 0x7f ≡ 0x27
+    → found ≡ scan (rows Units) word → IfSome found (λ i. scan table word ≡ Some i)
+unfolding rows
+found_27 word found is e =
+    first_found (scan table word) found (rows Units) (rows Strideds ++ rows Indexeds ++ rows WholeLoads ++ rows WholeStores ++ rows MaskMemories) word (at_27 word is) e
+
+-- what is found where nothing is left out is what there is
+pub found_unless : (left_out : Bool) (all found : Option Instr) → found ≡ cond left_out None all → IfSome found (λ i. all ≡ Some i)
+found_unless true all None e = tt
+found_unless false all None e = tt
+found_unless true all (Some i) e = absurd (cc)
+found_unless false all (Some i) e = sym e
+
+-- where there is nothing, it doesn't matter what is left out
+pub none_left : (left_out : Bool) (all : Option Instr) → all ≡ None → None ≡ cond left_out None all
+none_left true all e = refl
+none_left false all e = sym e
+
+pub ruleset operation_found = (found_0057, found_4057, found_3057, found_2057, found_6057)
+
+pub ruleset access_found = (found_07, found_27)
