@@ -140,7 +140,8 @@ fn execute_vector_word<M: UserBytes, V: Vectors>(
             return execute_vector(&instr, word, scalar, memory, seat, limit, policy);
         }
     }
-    execute_other(word, scalar, memory, vectors, output, limit, policy)
+    let (end, ticks) = execute_other(word, scalar, memory, vectors, output, limit, policy);
+    (end, ticks)
 }
 
 /// The same, vector instructions out of line, so that a scalar instruction needs no place in memory.

@@ -105,13 +105,13 @@ pub(crate) fn second_source(shape: Shape, source: Source, vtype: VType) -> Opera
 pub(crate) fn is_aligned(first: VReg, vtype: VType) -> bool
     ensures { result ≡ is_group (group Role.Read first (sew_bits vtype.sew) vtype) }
 {
-    let number = first.number();
-    match vtype.lmul {
-        Lmul::Mf8 | Lmul::Mf4 | Lmul::Mf2 | Lmul::M1 => true,
-        Lmul::M2 => number % 2 == 0,
-        Lmul::M4 => number % 4 == 0,
-        Lmul::M8 => number % 8 == 0,
-    }
+    let low_bits = match vtype.lmul {
+        Lmul::Mf8 | Lmul::Mf4 | Lmul::Mf2 | Lmul::M1 => 0,
+        Lmul::M2 => 1,
+        Lmul::M4 => 3,
+        Lmul::M8 => 7,
+    };
+    first.number() & low_bits == 0
 }
 
 /// The same of a second source, if it is a group.
