@@ -1,4 +1,5 @@
 pub mod BlockMoves
+pub mod OneField
 pub mod Outcomes
 pub mod Room
 pub mod UnitStride

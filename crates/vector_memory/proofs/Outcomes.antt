@@ -17,3 +17,8 @@ take-replicate x (suc n) (suc m) h = ap (λ xs. x ∷ xs) (take-replicate x n m 
 pub on_err : {T E : Type 0} {P Q : Type 0} (r : Result T E) → (P → Q) → OnErr r P → OnErr r Q
 on_err (Ok x) f p = p
 on_err (Err y) f p = f p
+
+-- what follows from what holds of an outcome that is well
+pub on_ok : {T E : Type 0} {P Q : Type 0} (r : Result T E) → (P → Q) → OnOk r P → OnOk r Q
+on_ok (Ok x) f p = f p
+on_ok (Err y) f p = p

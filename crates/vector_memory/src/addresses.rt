@@ -38,11 +38,13 @@ impl Addresses for UnitStride {
 
     ghost has = { λ s i. ⊤ };
 
+    #[inline(always)]
     fn address(&self, index: usize) -> u64 {
         self.base.wrapping_add(self.size.wrapping_mul(index as u64))
     }
 
     #[tactic(auto, using(crate::proofs::UnitStride::steps))]
+    #[inline(always)]
     fn are_contiguous(&self, size: usize) -> bool {
         self.size == size as u64
     }
@@ -61,11 +63,13 @@ impl Addresses for Strided {
     ghost has = { λ s i. ⊤ };
 
     #[tactic(auto, using(rv_model::proofs::access_lemmas::Addresses::stride_sum))]
+    #[inline(always)]
     fn address(&self, index: usize) -> u64 {
         self.base
             .wrapping_add(self.stride.wrapping_mul(index as u64))
     }
 
+    #[inline(always)]
     fn are_contiguous(&self, _size: usize) -> bool {
         false
     }
@@ -85,6 +89,7 @@ impl Addresses for Indexed<'_> {
 
     ghost has = { λ s i. HasElement (width_bytes (sew_width (element_width s.width))) s.offsets.now i };
 
+    #[inline(always)]
     fn address(&self, index: usize) -> u64 {
         let offset = match self.width {
             Width::E8 => u8::load(self.offsets, index).number(),
@@ -95,6 +100,7 @@ impl Addresses for Indexed<'_> {
         self.base.wrapping_add(offset)
     }
 
+    #[inline(always)]
     fn are_contiguous(&self, _size: usize) -> bool {
         false
     }

@@ -23,6 +23,7 @@ pub(crate) struct Block {
 
 impl Block {
     /// Loads the block, if each of its bytes may be loaded.
+    #[inline(always)]
     pub(crate) fn load<M: UserBytes>(&self, memory: &M, file: &mut VFile) -> Result<(), Fault>
         requires { self.now.place + self.now.length ≤ FILE_BYTES }
         ensures ok { IsOk result → can_access Load (M.memory memory.now) self.now.address self.now.length ≡ true }
@@ -35,6 +36,7 @@ impl Block {
     }
 
     /// Stores the block, if each of its bytes may be stored.
+    #[inline(always)]
     pub(crate) fn store<M: UserBytes>(&self, file: &VFile, memory: &mut M) -> Result<(), Fault>
         requires { self.now.place + self.now.length ≤ FILE_BYTES }
         ensures ok { IsOk result → can_access Store (M.memory memory.old) self.now.address self.now.length ≡ true }
@@ -50,6 +52,7 @@ impl Block {
 }
 
 /// The block of the indices of a body up to `stop`, where they are contiguous and not masked.
+#[inline(always)]
 pub(crate) fn block_of<A: Addresses>(
     segments: &Segments,
     addresses: &A,

@@ -9,6 +9,7 @@ ghost use Rattle.vector_memory.specs.SegmentRoom.{StopsBefore};
 use rv_model::{GROUP_BYTES, MemEnd, VState};
 
 /// How an instruction ends where none of its indices up to `stop` faults, of which it has `end`.
+#[inline(always)]
 pub(crate) fn end_without_fault(stop: usize, end: usize) -> MemEnd
     ensures value { result ≡ cond (nat_lt stop end) (Cut stop) Done }
     ensures least { StopsBefore end result }
@@ -21,6 +22,7 @@ pub(crate) fn end_without_fault(stop: usize, end: usize) -> MemEnd
 }
 
 /// The index at which it stopped becomes `vstart`, or 0 if it is done.
+#[inline(always)]
 pub(crate) fn leave(end: MemEnd, state: &mut VState)
     requires { StopsBefore GROUP_BYTES end }
     ensures store { (memory : Memory) → store_ends state.old memory end ≡ runs_to end state.new memory }
@@ -34,6 +36,7 @@ pub(crate) fn leave(end: MemEnd, state: &mut VState)
 
 /// The same for a fault-only-first load: a fault at another index than 0 shortens the length to it, and the
 /// load is done.
+#[inline(always)]
 pub(crate) fn leave_first_only(end: MemEnd, state: &mut VState) -> MemEnd
     requires length { StopsBefore state.old.conf.vl end }
     requires most { StopsBefore GROUP_BYTES end }

@@ -25,6 +25,7 @@ use rv_model::instructions::operations::{Direction, RegisterCount, UnitOp, Width
 use rv_model::{Field, GROUP_BYTES, Instr, MemEnd, Scalar, Sew, VReg, VState, VType};
 
 /// The multiplier, in eighths of a register, of groups of as many elements of a width as the vector type has.
+#[inline(always)]
 fn emul_of(width: Width, vtype: VType) -> u32
     ensures { result ≡ emul (sew_bits (element_width width)) vtype }
 {
@@ -32,6 +33,7 @@ fn emul_of(width: Width, vtype: VType) -> u32
 }
 
 /// Segments of `nf` + 1 fields of so many bytes, in groups of a multiplier in eighths of a register.
+#[inline(always)]
 fn grouped_segments(nf: Field<3>, size: usize, emul: u32, register: VReg) -> Segments
     ensures value { result ≡ record { fields = nf + 1; size = size; register = register; field_registers = registers emul } }
     ensures fields { nf + 1 ≤ 8 }
@@ -45,6 +47,7 @@ fn grouped_segments(nf: Field<3>, size: usize, emul: u32, register: VReg) -> Seg
 }
 
 /// Loads or stores segments that follow one another from `base` on.
+#[inline(always)]
 fn run_unit_stride<M: UserBytes>(
     op: UnitOp,
     segments: &Segments,
@@ -69,6 +72,7 @@ fn run_unit_stride<M: UserBytes>(
 }
 
 /// Loads or stores segments at a distance of `stride` bytes from `base` on.
+#[inline(never)]
 fn run_strided<M: UserBytes>(
     direction: Direction,
     segments: &Segments,
@@ -103,6 +107,7 @@ struct Offsets {
 }
 
 /// Loads or stores segments at offsets from `base`.
+#[inline(never)]
 fn run_indexed<M: UserBytes>(
     direction: Direction,
     segments: &Segments,
@@ -138,6 +143,7 @@ fn run_indexed<M: UserBytes>(
 }
 
 /// Loads or stores so many elements that follow one another from `base` on, none of them masked off.
+#[inline(never)]
 fn run_unmasked<M: UserBytes>(
     direction: Direction,
     segments: &Segments,
@@ -170,6 +176,7 @@ fn run_unmasked<M: UserBytes>(
 
 /// A load or store at a distance, under a vector type.
 #[tactic(auto, unfolding(rv_model::specs::accesses::AccessRuns::access_run))]
+#[inline(always)]
 fn run_distances<M: UserBytes>(
     instr: &Instr,
     vtype: VType,
@@ -222,6 +229,7 @@ fn run_distances<M: UserBytes>(
 
 /// A load or store at offsets, under a vector type; its elements have the width that the type has.
 #[tactic(auto, unfolding(rv_model::specs::accesses::AccessRuns::access_run))]
+#[inline(never)]
 fn run_offsets<M: UserBytes>(
     instr: &Instr,
     vtype: VType,
@@ -267,6 +275,7 @@ fn run_offsets<M: UserBytes>(
 
 /// A load or store of elements or segments, which needs a vector type.
 #[tactic(auto, unfolding(rv_model::specs::accesses::AccessRuns::access_run))]
+#[inline(always)]
 fn run_segments<M: UserBytes>(
     instr: &Instr,
     extent: Extent,
@@ -293,6 +302,7 @@ fn run_segments<M: UserBytes>(
 }
 
 /// Segments of one field: elements of so many bytes in so many whole registers.
+#[inline(always)]
 fn whole_segments(size: usize, count: RegisterCount, register: VReg) -> Segments
     ensures { result ≡ record { fields = 1; size = size; register = register; field_registers = register_count count } }
 {
@@ -306,6 +316,7 @@ fn whole_segments(size: usize, count: RegisterCount, register: VReg) -> Segments
 
 /// A load or store of whole registers or of a mask.
 #[tactic(auto, unfolding(rv_model::specs::accesses::AccessRuns::access_run))]
+#[inline(never)]
 fn run_registers<M: UserBytes>(
     instr: &Instr,
     extent: Extent,
@@ -352,6 +363,7 @@ fn run_registers<M: UserBytes>(
 
 /// A load or store, whichever it is.
 #[tactic(auto, unfolding(rv_model::specs::accesses::AccessRuns::access_run))]
+#[inline(always)]
 fn run_any<M: UserBytes>(
     instr: &Instr,
     extent: Extent,
@@ -377,6 +389,7 @@ fn run_any<M: UserBytes>(
 
 /// Carries out a vector load or store of a user, of at most `limit` indices from `vstart` on. A load leaves
 /// its tail as it is; its elements that are masked off become all ones where `fill_masked_off`.
+#[inline(always)]
 pub fn run<M: UserBytes>(
     instr: &Instr,
     state: &mut VState,

@@ -8,6 +8,7 @@ use rv_model::instructions::operations::{RegisterCount, Width};
 use rv_model::{Instr, VLENB};
 
 /// The bytes of a memory element.
+#[inline(always)]
 pub(crate) fn element_bytes(width: Width) -> usize
     ensures value { result ≡ width_bytes (sew_width (element_width width)) }
     ensures some { 1 ≤ result }

@@ -4,6 +4,7 @@
 mod addresses;
 mod blocks;
 mod ends;
+mod field_bytes;
 mod instructions;
 mod length;
 mod loads;

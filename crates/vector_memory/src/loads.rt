@@ -16,6 +16,7 @@ use rv_model::{Access, Fault, GROUP_BYTES, MemEnd, VFile};
 
 /// Loads the segment of one index, if it is active and wholly allowed; one that is masked off becomes all
 /// ones if that is asked for.
+#[inline(always)]
 fn load_index<M: UserBytes, A: Addresses>(
     memory: &M,
     segments: &Segments,
@@ -38,8 +39,7 @@ fn load_index<M: UserBytes, A: Addresses>(
 {
     if body.lets(index) {
         let address = addresses.address(index);
-        segments.check(memory, Access::Load, address)?;
-        segments.load(memory, address, index, file);
+        return segments.load_allowed(memory, address, index, file);
     } else if fill_masked_off {
         segments.fill(index, file);
     }
@@ -47,6 +47,7 @@ fn load_index<M: UserBytes, A: Addresses>(
 }
 
 /// Loads the indices of the body one by one, at most `limit` of them, up to the first that isn't wholly allowed.
+#[inline(never)]
 fn load_each<M: UserBytes, A: Addresses>(
     memory: &M,
     segments: &Segments,
@@ -93,6 +94,7 @@ fn load_each<M: UserBytes, A: Addresses>(
 }
 
 /// Loads the indices of the body at once, where they are contiguous and each may be loaded.
+#[inline(always)]
 fn load_block<M: UserBytes, A: Addresses>(
     memory: &M,
     segments: &Segments,
@@ -128,6 +130,7 @@ fn load_block<M: UserBytes, A: Addresses>(
 }
 
 /// Loads the indices of the body, at most `limit` of them, up to the first that isn't wholly allowed.
+#[inline(always)]
 pub(crate) fn load<M: UserBytes, A: Addresses>(
     memory: &M,
     segments: &Segments,

@@ -24,6 +24,7 @@ pub(crate) struct Extent {
 
 /// Loads segments.
 #[tactic(auto, unfolding(rv_model::specs::accesses::AccessRuns::load_run))]
+#[inline(always)]
 fn load_segments<M: UserBytes, A: Addresses>(
     segments: &Segments,
     addresses: &A,
@@ -53,6 +54,7 @@ fn load_segments<M: UserBytes, A: Addresses>(
 
 /// Loads segments, where the first alone may fault.
 #[tactic(auto, unfolding(rv_model::specs::accesses::AccessRuns::load_run))]
+#[inline(always)]
 fn load_first_only<M: UserBytes, A: Addresses>(
     segments: &Segments,
     addresses: &A,
@@ -82,6 +84,7 @@ fn load_first_only<M: UserBytes, A: Addresses>(
 
 /// Stores segments.
 #[tactic(auto, unfolding(rv_model::specs::accesses::AccessRuns::store_run))]
+#[inline(always)]
 fn store_segments<M: UserBytes, A: Addresses>(
     segments: &Segments,
     addresses: &A,
@@ -103,6 +106,7 @@ fn store_segments<M: UserBytes, A: Addresses>(
 }
 
 /// Loads or stores segments.
+#[inline(always)]
 pub(crate) fn run_direction<M: UserBytes, A: Addresses>(
     direction: Direction,
     segments: &Segments,
@@ -127,6 +131,7 @@ pub(crate) fn run_direction<M: UserBytes, A: Addresses>(
 }
 
 /// Loads or stores segments that follow one another.
+#[inline(always)]
 pub(crate) fn run_unit<M: UserBytes, A: Addresses>(
     op: UnitOp,
     segments: &Segments,

@@ -1,11 +1,12 @@
 //! One segment: the fields of one index ("V" Vector Extension 1.0, section 7.8).
-ghost use Rattle.std.specs.Prelude.{◌≡◌, ◌↔◌, ◌+◌, ◌*◌, ◌%◌, ◌^◌, ◌≤◌, ◌<◌, ℕ, true, IsOk, IfErr};
+ghost use Rattle.std.specs.Prelude.{◌≡◌, ◌↔◌, ◌+◌, ◌*◌, ◌%◌, ◌^◌, ◌≤◌, ◌<◌, ℕ, true, IsOk, IfErr, OnOk, OnErr};
 ghost use Rattle.rv_model.specs.declared.memory.Access.TheVariants.{Load, Store};
 ghost use Rattle.rv_model.specs.accesses.Transfers.{are_allowed, bad_address, loaded, stored};
 ghost use Rattle.rv_model.specs.accesses.VectorAccess.{filled_segment, segment};
 ghost use Rattle.rv_model.specs.memory.Memory.{Memory};
 ghost use Rattle.vector_memory.specs.SegmentRoom.{HasRoom, place_in};
 
+use crate::field_bytes::{load_bytes, store_bytes};
 use crate::user_bytes::UserBytes;
 use rv_model::{Access, FILE_BYTES, Fault, VFile, VLENB, VReg};
 
@@ -21,6 +22,7 @@ pub(crate) struct Segments {
 
 impl Segments {
     /// The byte of the register file where an element begins.
+    #[inline(always)]
     pub(crate) fn place(&self, index: usize, field: usize) -> usize
         requires room { HasRoom self.now (index + 1) }
         requires field { field < self.now.fields }
@@ -80,6 +82,52 @@ impl Segments {
         }
     }
 
+    /// Loads the one field of a segment, if it may be loaded.
+    #[inline(always)]
+    fn load_only_field<M: UserBytes>(
+        &self,
+        memory: &M,
+        address: u64,
+        index: usize,
+        file: &mut VFile,
+    ) -> Result<(), Fault>
+        requires room { HasRoom self.now (index + 1) }
+        requires one { self.now.fields ≡ 1 }
+        ensures ok { IsOk result ↔ (are_allowed Load (M.memory memory.now) (segment index address self.now.size self.now.fields) ≡ true) }
+        ensures fault { IfErr result (λ fault. fault.addr
+            ≡ bad_address Load (M.memory memory.now) (segment index address self.now.size self.now.fields)) }
+        ensures value { OnOk result (file.new ≡ loaded (M.memory memory.now) (place_in self.now) file.old
+            (segment index address self.now.size self.now.fields)) }
+        ensures unchanged { OnErr result (file.new ≡ file.old) }
+    {
+        load_bytes(memory, address, self.place(index, 0), self.size, file)
+    }
+
+    /// Loads the fields of a segment, if each may be loaded; if not, the address of the first that may not.
+    #[inline(always)]
+    pub(crate) fn load_allowed<M: UserBytes>(
+        &self,
+        memory: &M,
+        address: u64,
+        index: usize,
+        file: &mut VFile,
+    ) -> Result<(), Fault>
+        requires room { HasRoom self.now (index + 1) }
+        ensures ok { IsOk result ↔ (are_allowed Load (M.memory memory.now) (segment index address self.now.size self.now.fields) ≡ true) }
+        ensures fault { IfErr result (λ fault. fault.addr
+            ≡ bad_address Load (M.memory memory.now) (segment index address self.now.size self.now.fields)) }
+        ensures value { OnOk result (file.new ≡ loaded (M.memory memory.now) (place_in self.now) file.old
+            (segment index address self.now.size self.now.fields)) }
+        ensures unchanged { OnErr result (file.new ≡ file.old) }
+    {
+        if self.fields == 1 {
+            return self.load_only_field(memory, address, index, file);
+        }
+        self.check(memory, Access::Load, address)?;
+        self.load(memory, address, index, file);
+        Ok(())
+    }
+
     /// Makes the fields of an index all ones.
     pub(crate) fn fill(&self, index: usize, file: &mut VFile)
         requires room { HasRoom self.now (index + 1) }
@@ -112,5 +160,53 @@ impl Segments {
             let bytes = file.part(at, at + self.size);
             let _ = memory.write(self.field_address(address, field), Access::Store, bytes);
         }
+    }
+
+    /// Stores the one field of a segment, if it may be stored.
+    #[inline(always)]
+    fn store_only_field<M: UserBytes>(
+        &self,
+        file: &VFile,
+        address: u64,
+        index: usize,
+        memory: &mut M,
+    ) -> Result<(), Fault>
+        requires room { HasRoom self.now (index + 1) }
+        requires one { self.now.fields ≡ 1 }
+        ensures ok { IsOk result ↔ (are_allowed Store (M.memory memory.old) (segment index address self.now.size self.now.fields) ≡ true) }
+        ensures fault { IfErr result (λ fault. fault.addr
+            ≡ bad_address Store (M.memory memory.old) (segment index address self.now.size self.now.fields)) }
+        ensures value { OnOk result (M.memory memory.new ≡ stored (M.memory memory.old) (place_in self.now) file.now
+            (segment index address self.now.size self.now.fields)) }
+        ensures others { OnOk result (memory.new ≡ M.with_memory memory.old (M.memory memory.new)) }
+        ensures unchanged { OnErr result (memory.new ≡ memory.old) }
+    {
+        store_bytes(file, self.place(index, 0), self.size, address, memory)
+    }
+
+    /// Stores the fields of a segment, if each may be stored; if not, the address of the first that may not.
+    #[inline(always)]
+    pub(crate) fn store_allowed<M: UserBytes>(
+        &self,
+        file: &VFile,
+        address: u64,
+        index: usize,
+        memory: &mut M,
+    ) -> Result<(), Fault>
+        requires room { HasRoom self.now (index + 1) }
+        ensures ok { IsOk result ↔ (are_allowed Store (M.memory memory.old) (segment index address self.now.size self.now.fields) ≡ true) }
+        ensures fault { IfErr result (λ fault. fault.addr
+            ≡ bad_address Store (M.memory memory.old) (segment index address self.now.size self.now.fields)) }
+        ensures value { OnOk result (M.memory memory.new ≡ stored (M.memory memory.old) (place_in self.now) file.now
+            (segment index address self.now.size self.now.fields)) }
+        ensures others { OnOk result (memory.new ≡ M.with_memory memory.old (M.memory memory.new)) }
+        ensures unchanged { OnErr result (memory.new ≡ memory.old) }
+    {
+        if self.fields == 1 {
+            return self.store_only_field(file, address, index, memory);
+        }
+        self.check(memory, Access::Store, address)?;
+        self.store(file, address, index, memory);
+        Ok(())
     }
 }

@@ -14,6 +14,7 @@ use lane_arith::Body;
 use rv_model::{Access, Fault, GROUP_BYTES, MemEnd, VFile};
 
 /// Stores the segment of one index, if it is active and wholly allowed.
+#[inline(always)]
 fn store_index<M: UserBytes, A: Addresses>(
     file: &VFile,
     segments: &Segments,
@@ -36,13 +37,13 @@ fn store_index<M: UserBytes, A: Addresses>(
 {
     if body.lets(index) {
         let address = addresses.address(index);
-        segments.check(memory, Access::Store, address)?;
-        segments.store(file, address, index, memory);
+        return segments.store_allowed(file, address, index, memory);
     }
     Ok(())
 }
 
 /// Stores the indices of the body one by one, at most `limit` of them, up to the first that isn't wholly allowed.
+#[inline(never)]
 fn store_each<M: UserBytes, A: Addresses>(
     file: &VFile,
     segments: &Segments,
@@ -81,6 +82,7 @@ fn store_each<M: UserBytes, A: Addresses>(
 }
 
 /// Stores the indices of the body at once, where they are contiguous and each may be stored.
+#[inline(always)]
 fn store_block<M: UserBytes, A: Addresses>(
     file: &VFile,
     segments: &Segments,
@@ -117,6 +119,7 @@ fn store_block<M: UserBytes, A: Addresses>(
 }
 
 /// Stores the indices of the body, at most `limit` of them, up to the first that isn't wholly allowed.
+#[inline(always)]
 pub(crate) fn store<M: UserBytes, A: Addresses>(
     file: &VFile,
     segments: &Segments,

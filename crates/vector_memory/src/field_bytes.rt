@@ -1,0 +1,96 @@
+//! The bytes of one field. The sizes of an element stand as constants, so that each is moved at once.
+ghost use Rattle.std.specs.Prelude.{◌≡◌, ◌↔◌, ◌+◌, ◌≤◌, true, length, IsOk, IfErr, OnOk, OnErr};
+ghost use Rattle.std.specs.Simd.Lanes.{chunk, put_chunk};
+ghost use Rattle.rv_model.specs.declared.memory.Access.TheVariants.{Load, Store};
+ghost use Rattle.rv_model.specs.memory.Memory.{bytes_at, can_access, put_bytes};
+
+use crate::user_bytes::UserBytes;
+use rv_model::{Access, FILE_BYTES, Fault, VFile};
+
+/// Loads so many bytes to a place in the register file, if each may be loaded.
+#[inline(always)]
+fn load_part<M: UserBytes>(
+    memory: &M,
+    address: u64,
+    place: usize,
+    size: usize,
+    file: &mut VFile,
+) -> Result<(), Fault>
+    requires { place + size ≤ FILE_BYTES }
+    ensures ok { IsOk result ↔ (can_access Load (M.memory memory.now) address size ≡ true) }
+    ensures fault { IfErr result (λ fault. fault.addr ≡ address) }
+    ensures value { OnOk result (file.new ≡ put_chunk place file.old (bytes_at (M.memory memory.now) address size)) }
+    ensures unchanged { OnErr result (file.new ≡ file.old) }
+{
+    let bytes = file.part_mut(place, place + size);
+    memory.read(address, Access::Load, bytes)
+}
+
+/// The same, for fields of elements.
+#[inline(always)]
+pub(crate) fn load_bytes<M: UserBytes>(
+    memory: &M,
+    address: u64,
+    place: usize,
+    size: usize,
+    file: &mut VFile,
+) -> Result<(), Fault>
+    requires { place + size ≤ FILE_BYTES }
+    ensures ok { IsOk result ↔ (can_access Load (M.memory memory.now) address size ≡ true) }
+    ensures fault { IfErr result (λ fault. fault.addr ≡ address) }
+    ensures value { OnOk result (file.new ≡ put_chunk place file.old (bytes_at (M.memory memory.now) address size)) }
+    ensures unchanged { OnErr result (file.new ≡ file.old) }
+{
+    match size {
+        1 => load_part(memory, address, place, 1, file),
+        2 => load_part(memory, address, place, 2, file),
+        4 => load_part(memory, address, place, 4, file),
+        8 => load_part(memory, address, place, 8, file),
+        _ => load_part(memory, address, place, size, file),
+    }
+}
+
+/// Stores so many bytes from a place in the register file, if each may be stored.
+#[inline(always)]
+fn store_part<M: UserBytes>(
+    file: &VFile,
+    place: usize,
+    size: usize,
+    address: u64,
+    memory: &mut M,
+) -> Result<(), Fault>
+    requires { place + size ≤ FILE_BYTES }
+    ensures ok { IsOk result ↔ (can_access Store (M.memory memory.old) address size ≡ true) }
+    ensures fault { IfErr result (λ fault. fault.addr ≡ address) }
+    ensures value { OnOk result (M.memory memory.new ≡ put_bytes (M.memory memory.old) address (chunk place size file.now)) }
+    ensures others { OnOk result (memory.new ≡ M.with_memory memory.old (M.memory memory.new)) }
+    ensures unchanged { OnErr result (memory.new ≡ memory.old) }
+{
+    let bytes = file.part(place, place + size);
+    memory.write(address, Access::Store, bytes)
+}
+
+/// The same, for fields of elements.
+#[inline(always)]
+pub(crate) fn store_bytes<M: UserBytes>(
+    file: &VFile,
+    place: usize,
+    size: usize,
+    address: u64,
+    memory: &mut M,
+) -> Result<(), Fault>
+    requires { place + size ≤ FILE_BYTES }
+    ensures ok { IsOk result ↔ (can_access Store (M.memory memory.old) address size ≡ true) }
+    ensures fault { IfErr result (λ fault. fault.addr ≡ address) }
+    ensures value { OnOk result (M.memory memory.new ≡ put_bytes (M.memory memory.old) address (chunk place size file.now)) }
+    ensures others { OnOk result (memory.new ≡ M.with_memory memory.old (M.memory memory.new)) }
+    ensures unchanged { OnErr result (memory.new ≡ memory.old) }
+{
+    match size {
+        1 => store_part(file, place, 1, address, memory),
+        2 => store_part(file, place, 2, address, memory),
+        4 => store_part(file, place, 4, address, memory),
+        8 => store_part(file, place, 8, address, memory),
+        _ => store_part(file, place, size, address, memory),
+    }
+}
