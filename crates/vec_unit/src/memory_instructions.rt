@@ -21,6 +21,7 @@ use rv_model::{Field, Instr, MemEnd, Policy, Scalar, Sew, VEnd, VReg, VState, VT
 use vector_memory::UserBytes;
 
 /// Whether memory is read.
+#[inline(always)]
 fn is_load(direction: Direction) -> bool
     ensures { result ≡ is_load direction }
 {
@@ -31,6 +32,7 @@ fn is_load(direction: Direction) -> bool
 }
 
 /// Whether a unit-stride access reads memory.
+#[inline(always)]
 fn is_unit_load(op: UnitOp) -> bool
     ensures { result ≡ is_unit_load op }
 {
@@ -41,6 +43,7 @@ fn is_unit_load(op: UnitOp) -> bool
 }
 
 /// How the instruction ends whose access ends so.
+#[inline(always)]
 fn access_end(loads: bool, end: MemEnd) -> VEnd
     ensures value { result ≡ access_end loads end }
     ensures carried_out { result ≢ VEnd.Illegal }
@@ -56,6 +59,7 @@ fn access_end(loads: bool, end: MemEnd) -> VEnd
 }
 
 /// Carries out a legal load or store whose tail keeps.
+#[inline(always)]
 fn perform_plain<M: UserBytes>(
     instr: &Instr,
     loads: bool,
@@ -78,6 +82,7 @@ fn perform_plain<M: UserBytes>(
 
 /// Carries out a legal load of segments. Where agnostic tails are filled, those of its fields are filled once
 /// it is done, from the length on that it found.
+#[inline(always)]
 fn perform_load<M: UserBytes>(
     instr: &Instr,
     fields: Fields,
@@ -128,6 +133,7 @@ struct SegmentAccess {
 
 impl SegmentAccess {
     /// An access of these segments.
+    #[inline(always)]
     fn new(
         loads: bool,
         width: Option<Width>,
@@ -147,6 +153,7 @@ impl SegmentAccess {
     }
 
     /// The groups of the fields under a vector type: as many elements as it has.
+    #[inline(always)]
     fn fields(&self, vtype: VType) -> Fields
         ensures data { record { width = sew_width result.sew; emul = result.emul } ≡ data_type self.now.width vtype }
         ensures first { result.vd ≡ self.now.vd }
@@ -166,6 +173,7 @@ impl SegmentAccess {
 }
 
 /// Carries out a legal access of segments.
+#[inline(always)]
 fn perform_segments<M: UserBytes>(
     instr: &Instr,
     segments: SegmentAccess,
@@ -228,6 +236,7 @@ fn perform_mask_access<M: UserBytes>(
 
 /// Carries out a legal vector load or store, of at most `limit` indices.
 #[tactic(auto, unfolding(rv_model::specs::step::VectorStep::performed))]
+#[inline(never)]
 pub(crate) fn perform_access<M: UserBytes>(
     instr: &Instr,
     state: &mut VState,
