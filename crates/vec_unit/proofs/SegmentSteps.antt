@@ -3,6 +3,7 @@ use Rattle.std.specs.Option.{is_some}
 use Rattle.std.specs.Prelude.{Option, Some, None}
 use Rattle.std.proofs.Common.{ℕ, ◌+◌, ◌≡◌, Bool, true, false, if◌then◌else◌, subst, sym}
 use Rattle.rv_model.specs.declared.instructions.instruction.Instr.{Instr}
+use Rattle.rv_model.specs.declared.vector.policy.Policy.TheVariants.{Keep}
 use Rattle.rv_model.specs.declared.vector.types.VType.{VType}
 use Rattle.rv_model.specs.elements.Arithmetic.{GroupType, body_of, fills_masked_off, fills_tail}
 use Rattle.rv_model.specs.legality.GroupBounds.{SegmentsInside}
@@ -29,6 +30,15 @@ module _ (limit : ℕ) (t : VType) (g : GroupType) (nf vd : ℕ) (unmasked : Boo
   pub store_is : (loads : Bool) → loads ≡ false → plain_step limit false i s ≡ stepped
       → segment_step limit t g loads nf vd unmasked i s ≡ stepped
   store_is loads is h = rw is h
+
+  -- a load under the policy that keeps
+  pub kept_is : (loads : Bool) → loads ≡ true → s.policy ≡ Keep → plain_step limit true i s ≡ stepped
+      → segment_step limit t g loads nf vd unmasked i s ≡ stepped
+  kept_is loads does keeps h =
+      rw does
+      (subst (λ p. access_step limit (fills_masked_off p t (body_of unmasked s.vector)) true
+      (λ file. if fills_tail p t (body_of unmasked s.vector) then tails_filled g vd (nf + 1) s.vector.conf.vl file else file) i s ≡ stepped)
+      (sym keeps) h)
 
   -- a load of these fields, by what becomes of agnostic elements
   abbrev loading : GroupType → ℕ → ℕ → Agnostic → VectorStepped

@@ -82,7 +82,7 @@ fn perform_plain<M: UserBytes>(
 
 /// Carries out a legal load of segments. Where agnostic tails are filled, those of its fields are filled once
 /// it is done, from the length on that it found.
-#[inline(always)]
+#[inline(never)]
 fn perform_load<M: UserBytes>(
     instr: &Instr,
     fields: Fields,
@@ -201,6 +201,9 @@ fn perform_segments<M: UserBytes>(
     };
     if !segments.loads {
         return perform_plain(instr, false, state, scalar, memory, limit);
+    }
+    if let Policy::Keep = policy {
+        return perform_plain(instr, true, state, scalar, memory, limit);
     }
     let mask = mask_register(&state.file);
     let body = body_under(segments.unmasked, &mask, state);

@@ -5,7 +5,7 @@ use Rattle.rv_model.specs.elements.Elements.{Body}
 use Rattle.rv_model.specs.vector.Configuration.{sew_width}
 use Rattle.vec_unit.specs.MemoryInstructions.{data_type}
 use Rattle.vec_unit.specs.declared.destination.Agnostic.{Agnostic}
-use Rattle.vec_unit.proofs.SegmentSteps.{load_is, store_is, typed_is}
+use Rattle.vec_unit.proofs.SegmentSteps.{kept_is, load_is, store_is, typed_is}
 use Rattle.vec_unit.proofs.memory_instructions.perform_segments.Goals as goal
 
 pub returns-then-not-segments-clause-model : goal.returns-then-not-segments-clause-model
@@ -14,6 +14,13 @@ returns-then-not-segments-clause-model g c = λ output.
     typed_is c.args.state.now.conf.vtype t _ _ _ (sym c.vtype.ensures.value ∙ c.in-Some.is)
     (store_is c.args.limit t (data_type c.args.segments.width t) c.args.segments.nf c.args.segments.vd c.args.segments.unmasked c.args.instr.now _ _
     c.args.segments.loads c.if-not-segments.true (c.perform_plain.ensures.model c.args.policy output))
+
+pub returns-in-Keep-clause-model : goal.returns-in-Keep-clause-model
+returns-in-Keep-clause-model g c = λ output.
+    let t : VType = c.in-Some.vtype in
+    typed_is c.args.state.now.conf.vtype t _ _ _ (sym c.vtype.ensures.value ∙ c.in-Some.is)
+    (kept_is c.args.limit t (data_type c.args.segments.width t) c.args.segments.nf c.args.segments.vd c.args.segments.unmasked c.args.instr.now _ _
+    c.args.segments.loads c.if-not-segments.false c.in-Keep.is (c.perform_plain-in-Keep.ensures.model c.args.policy output))
 
 pub returns-clause-model : goal.returns-clause-model
 returns-clause-model g c = λ output.
