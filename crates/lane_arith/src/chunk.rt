@@ -3,6 +3,7 @@ ghost use Rattle.std.specs.Prelude.{◌≡◌, ◌+◌, ◌*◌, ◌-ℤ◌, pos
 ghost use Rattle.std.specs.Int.{byte_at, cast_signed, from_bool};
 ghost use Rattle.rv_model.specs.declared.instructions.operations.BinaryOp.TheVariants.{Vand, Vmax, Vmaxu, Vmin, Vminu, Vor, Vsra, Vsrl, Vxor};
 ghost use Rattle.rv_model.specs.declared.instructions.operations.CarryOp.TheVariants.{Vadc, Vmerge, Vsbc};
+ghost use Rattle.rv_model.specs.declared.instructions.operations.CompareOp.TheVariants.{Vmsle};
 ghost use Rattle.rv_model.specs.elements.Formulas.{carry_formula, compare_formula, formula, multiply_add_formula, ones, wrap};
 ghost use Rattle.rv_model.specs.vector.Configuration.{width_bytes};
 ghost use mir.Val.{bits, hbits};
@@ -281,30 +282,33 @@ fn signed_at_most<L: Lane>(a: L::Vector, b: L::Vector) -> L::Vector
     complement::<L>(signed_less::<L>(b, a))
 }
 
-/// A mask: an element is 0 where those of `a` and `b` don't compare so.
-fn compared<L: Lane>(op: CompareOp, a: L::Vector, b: L::Vector) -> L::Vector
+/// A bit for each element, set where that of `a` is at most that of `b`, as signed numbers.
+#[inline(never)]
+fn signed_at_most_bits<L: Lane>(a: L::Vector, b: L::Vector) -> u64
     requires first { (i : ℕ) → i < L.count → L.lane a i < 2 ^ bits L.width }
     requires second { (i : ℕ) → i < L.count → L.lane b i < 2 ^ bits L.width }
-    ensures { (i : ℕ) → i < L.count → (L.lane result i == 0) ≡ not (compare_formula op L.width (L.lane a i) (L.lane b i)) }
+    ensures value { (i : ℕ) → i < L.count → (result / 2 ^ i % 2 == 0) ≡ not (compare_formula Vmsle L.width (L.lane a i) (L.lane b i)) }
+    ensures bound { result < 2 ^ L.count }
 {
-    match op {
-        CompareOp::Vmseq => L::equal(a, b),
-        CompareOp::Vmsne => complement::<L>(L::equal(a, b)),
-        CompareOp::Vmsltu => L::less(a, b),
-        CompareOp::Vmslt => signed_less::<L>(a, b),
-        CompareOp::Vmsleu => at_most::<L>(a, b),
-        CompareOp::Vmsle => signed_at_most::<L>(a, b),
-        CompareOp::Vmsgtu => L::less(b, a),
-        CompareOp::Vmsgt => signed_less::<L>(b, a),
-    }
+    L::to_bits(signed_at_most::<L>(a, b))
 }
 
-/// The results of a comparison, a bit for each element.
+/// The results of a comparison, a bit for each element. One arm is a call, so that the compiler joins the arms in a
+/// number, and not in a vector of bits that it would take apart.
 pub(crate) fn compare<L: Lane>(op: CompareOp, a: L::Vector, b: L::Vector) -> u64
     requires first { (i : ℕ) → i < L.count → L.lane a i < 2 ^ bits L.width }
     requires second { (i : ℕ) → i < L.count → L.lane b i < 2 ^ bits L.width }
     ensures value { (i : ℕ) → i < L.count → (result / 2 ^ i % 2 == 0) ≡ not (compare_formula op L.width (L.lane a i) (L.lane b i)) }
     ensures bound { result < 2 ^ L.count }
 {
-    L::to_bits(compared::<L>(op, a, b))
+    match op {
+        CompareOp::Vmseq => L::to_bits(L::equal(a, b)),
+        CompareOp::Vmsne => L::to_bits(complement::<L>(L::equal(a, b))),
+        CompareOp::Vmsltu => L::to_bits(L::less(a, b)),
+        CompareOp::Vmslt => L::to_bits(signed_less::<L>(a, b)),
+        CompareOp::Vmsleu => L::to_bits(at_most::<L>(a, b)),
+        CompareOp::Vmsle => signed_at_most_bits::<L>(a, b),
+        CompareOp::Vmsgtu => L::to_bits(L::less(b, a)),
+        CompareOp::Vmsgt => L::to_bits(signed_less::<L>(b, a)),
+    }
 }

@@ -62,6 +62,7 @@ fn write_each<L: Lane, R: Results<L>>(
 
 /// Writes a chunk of 32 bytes of results from the byte `at` on: those where the bit of `active` is set, ones
 /// where only that of `filled` is; all others keep.
+#[inline(always)]
 pub fn put_results<L: Lane>(
     results: L::Vector,
     active: u64,
