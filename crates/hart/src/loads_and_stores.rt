@@ -15,6 +15,7 @@ use scalar_core::sign_extend;
 use vector_memory::UserBytes;
 
 /// The address that a load or store names, by a register and an immediate that is sign-extended to 64 bits.
+#[inline(always)]
 pub(crate) fn access_address(base: u64, immediate: u64) -> u64
     ensures { result ≡ access_address base immediate }
 {
@@ -84,6 +85,7 @@ fn loaded<M: UserBytes>(op: LoadOp, addr: u64, memory: &M) -> Result<u64, Fault>
 }
 
 /// A load, which is refused where one of its bytes may not be read.
+#[inline(always)]
 pub(crate) fn load<M: UserBytes>(
     op: LoadOp,
     rd: Reg,
@@ -102,6 +104,7 @@ pub(crate) fn load<M: UserBytes>(
 }
 
 /// A store of the lowest bytes of a value, which is refused where one of its bytes may not be written.
+#[inline(always)]
 pub(crate) fn store<M: UserBytes>(
     op: StoreOp,
     addr: u64,

@@ -1,8 +1,9 @@
 //! Words to instructions.
-ghost use Rattle.std.specs.Prelude.{◌≡◌, ◌++◌, bit_and, IfSome, IfNone, None, Some, if◌then◌else◌};
+ghost use Rattle.std.specs.Prelude.{◌≡◌, ◌++◌, bit_and, false, IfSome, IfNone, None, Some, if◌then◌else◌};
 ghost use Rattle.rv_model.specs.declared.instructions.operations.Form.TheVariants as form;
 ghost use Rattle.rv_model.specs.instructions.Operations.{major_bits};
 ghost use Rattle.rv_model.specs.instructions.Layout.{word_of};
+ghost use Rattle.rv_model.specs.step.Step.{touches};
 ghost use Rattle.rv_decode.specs.Opcodes.{is_vector_opcode};
 ghost use Rattle.rv_model.specs.instructions.Table.{Row, IsRow, scan, rows, table, Uppers, Jumps, JumpRegisters, Branches, Loads, Stores, RegisterImmediates, ShiftImmediates, ShiftImmediateWords, RegisterRegisters, Fences, Systems, Csrs, CsrImmediates, SetVlis, SetIvlis, SetVls, Ariths, Carries, Moves, WholeMoves, MaskLogics, Compresses, MasksToScalar, Extends, MaskUnaries, ElementIndices, MovesToScalar, MovesToVector, Units, Strideds, Indexeds, WholeLoads, WholeStores, MaskMemories};
 
@@ -22,7 +23,8 @@ use rv_model::instructions::operations::{Form, Major};
 #[tactic(auto, using(rv_model::proofs::instruction_lemmas::Scans::scan_append))]
 #[inline(always)]
 fn immediates(word: u32) -> Option<Instr>
-    ensures { result ≡ scan (rows RegisterImmediates ++ rows ShiftImmediates) word }
+    ensures row { result ≡ scan (rows RegisterImmediates ++ rows ShiftImmediates) word }
+    ensures plain { touches result ≡ false }
 {
     if let Some(instr) = register_immediate(word) {
         return Some(instr);
@@ -193,6 +195,61 @@ fn vector(word: u32) -> Option<Instr>
         0x7057 => set_vector_length(word),
         _ => None,
     }
+}
+
+/// The instruction of a word whose opcode is that of a load, as `decode`.
+#[tactic(auto, using(crate::proofs::Scan::opcode_steps))]
+#[inline(always)]
+pub fn decode_load(word: u32) -> Option<Instr>
+    requires { bit_and word 0x7f ≡ 0x03 }
+    ensures row { result ≡ scan table word }
+    ensures plain { touches result ≡ false }
+{
+    load(word)
+}
+
+/// The instruction of a word whose opcode is that of an operation of a register and an immediate, of 64 bits, as `decode`.
+#[tactic(auto, using(crate::proofs::Scan::opcode_steps))]
+#[inline(always)]
+pub fn decode_immediate(word: u32) -> Option<Instr>
+    requires { bit_and word 0x7f ≡ 0x13 }
+    ensures row { result ≡ scan table word }
+    ensures plain { touches result ≡ false }
+{
+    immediates(word)
+}
+
+/// The instruction of a word whose opcode is that of a store, as `decode`.
+#[tactic(auto, using(crate::proofs::Scan::opcode_steps))]
+#[inline(always)]
+pub fn decode_store(word: u32) -> Option<Instr>
+    requires { bit_and word 0x7f ≡ 0x23 }
+    ensures row { result ≡ scan table word }
+    ensures plain { touches result ≡ false }
+{
+    store(word)
+}
+
+/// The instruction of a word whose opcode is that of an operation of two registers, of 64 bits, as `decode`.
+#[tactic(auto, using(crate::proofs::Scan::opcode_steps))]
+#[inline(always)]
+pub fn decode_operation(word: u32) -> Option<Instr>
+    requires { bit_and word 0x7f ≡ 0x33 }
+    ensures row { result ≡ scan table word }
+    ensures plain { touches result ≡ false }
+{
+    register_register(word)
+}
+
+/// The instruction of a word whose opcode is that of a branch, as `decode`.
+#[tactic(auto, using(crate::proofs::Scan::opcode_steps))]
+#[inline(always)]
+pub fn decode_branch(word: u32) -> Option<Instr>
+    requires { bit_and word 0x7f ≡ 0x63 }
+    ensures row { result ≡ scan table word }
+    ensures plain { touches result ≡ false }
+{
+    branch(word)
 }
 
 /// The instruction of a word, by its opcode.

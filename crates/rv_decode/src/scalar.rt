@@ -1,7 +1,8 @@
 //! Words to scalar instructions, a function for each layout of operands.
 #![tactic(auto, unfolding(rv_model::specs::instructions::Table::scan, rv_model::specs::instructions::Table::rows))]
 
-ghost use Rattle.std.specs.Prelude.{◌≡◌};
+ghost use Rattle.std.specs.Prelude.{◌≡◌, false};
+ghost use Rattle.rv_model.specs.step.Step.{touches};
 ghost use Rattle.rv_model.specs.instructions.Table.{scan, rows, Uppers, Jumps, JumpRegisters, Branches, Loads, Stores, RegisterImmediates, ShiftImmediates, ShiftImmediateWords, RegisterRegisters, Fences, Systems, Csrs, CsrImmediates};
 
 use crate::scalar_operations::{
@@ -61,7 +62,8 @@ pub(crate) fn jump_register(word: u32) -> Option<Instr>
 #[tactic(auto, using(crate::proofs::Scan::scan_branch))]
 #[inline(always)]
 pub(crate) fn branch(word: u32) -> Option<Instr>
-    ensures { result ≡ scan (rows Branches) word }
+    ensures row { result ≡ scan (rows Branches) word }
+    ensures plain { touches result ≡ false }
 {
     let op = branch_op(word & 0x0000_707f)?;
     Some(Instr::Branch {
@@ -76,7 +78,8 @@ pub(crate) fn branch(word: u32) -> Option<Instr>
 #[tactic(auto, using(crate::proofs::Scan::scan_load))]
 #[inline(always)]
 pub(crate) fn load(word: u32) -> Option<Instr>
-    ensures { result ≡ scan (rows Loads) word }
+    ensures row { result ≡ scan (rows Loads) word }
+    ensures plain { touches result ≡ false }
 {
     let op = load_op(word & 0x0000_707f)?;
     Some(Instr::Load {
@@ -91,7 +94,8 @@ pub(crate) fn load(word: u32) -> Option<Instr>
 #[tactic(auto, using(crate::proofs::Scan::scan_store))]
 #[inline(always)]
 pub(crate) fn store(word: u32) -> Option<Instr>
-    ensures { result ≡ scan (rows Stores) word }
+    ensures row { result ≡ scan (rows Stores) word }
+    ensures plain { touches result ≡ false }
 {
     let op = store_op(word & 0x0000_707f)?;
     Some(Instr::Store {
@@ -106,7 +110,8 @@ pub(crate) fn store(word: u32) -> Option<Instr>
 #[tactic(auto, using(crate::proofs::Scan::scan_register_immediate))]
 #[inline(always)]
 pub(crate) fn register_immediate(word: u32) -> Option<Instr>
-    ensures { result ≡ scan (rows RegisterImmediates) word }
+    ensures row { result ≡ scan (rows RegisterImmediates) word }
+    ensures plain { touches result ≡ false }
 {
     let op = immediate_op(word & 0x0000_707f)?;
     Some(Instr::RegisterImmediate {
@@ -121,7 +126,8 @@ pub(crate) fn register_immediate(word: u32) -> Option<Instr>
 #[tactic(auto, using(crate::proofs::Scan::scan_shift_immediate))]
 #[inline(always)]
 pub(crate) fn shift_immediate(word: u32) -> Option<Instr>
-    ensures { result ≡ scan (rows ShiftImmediates) word }
+    ensures row { result ≡ scan (rows ShiftImmediates) word }
+    ensures plain { touches result ≡ false }
 {
     let op = shift_immediate_op(word & 0xfc00_707f)?;
     Some(Instr::ShiftImmediate {
@@ -151,7 +157,8 @@ pub(crate) fn shift_immediate_word(word: u32) -> Option<Instr>
 #[tactic(auto, using(crate::proofs::Scan::scan_register_register))]
 #[inline(always)]
 pub(crate) fn register_register(word: u32) -> Option<Instr>
-    ensures { result ≡ scan (rows RegisterRegisters) word }
+    ensures row { result ≡ scan (rows RegisterRegisters) word }
+    ensures plain { touches result ≡ false }
 {
     let op = register_op(word & 0xfe00_707f)?;
     Some(Instr::RegisterRegister {

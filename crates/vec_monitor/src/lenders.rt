@@ -72,6 +72,7 @@ impl Vectors for UserVectors<'_> {
 
     ghost lent_again = { λ v s is. ap (λ u. u.seat) (touched_again v.user v.unit.now s) };
 
+    #[inline(always)]
     fn seat(&mut self) -> &mut Seat {
         let user = self.user;
         let unit = &mut *self.unit;
