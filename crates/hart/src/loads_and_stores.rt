@@ -74,13 +74,31 @@ fn loaded<M: UserBytes>(op: LoadOp, addr: u64, memory: &M) -> Result<u64, Fault>
         else Err (record { addr = addr })) }
 {
     match op {
-        LoadOp::Lb => Ok(sign_extend(8, u64::from(read_8(memory, addr)?))),
-        LoadOp::Lh => Ok(sign_extend(16, u64::from(read_16(memory, addr)?))),
-        LoadOp::Lw => Ok(sign_extend(32, u64::from(read_32(memory, addr)?))),
+        LoadOp::Lb | LoadOp::Lbu => {
+            let byte = u64::from(read_8(memory, addr)?);
+            Ok(if op == LoadOp::Lb {
+                sign_extend(8, byte)
+            } else {
+                byte
+            })
+        }
+        LoadOp::Lh | LoadOp::Lhu => {
+            let half = u64::from(read_16(memory, addr)?);
+            Ok(if op == LoadOp::Lh {
+                sign_extend(16, half)
+            } else {
+                half
+            })
+        }
+        LoadOp::Lw | LoadOp::Lwu => {
+            let word = u64::from(read_32(memory, addr)?);
+            Ok(if op == LoadOp::Lw {
+                sign_extend(32, word)
+            } else {
+                word
+            })
+        }
         LoadOp::Ld => read_64(memory, addr),
-        LoadOp::Lbu => Ok(u64::from(read_8(memory, addr)?)),
-        LoadOp::Lhu => Ok(u64::from(read_16(memory, addr)?)),
-        LoadOp::Lwu => Ok(u64::from(read_32(memory, addr)?)),
     }
 }
 
