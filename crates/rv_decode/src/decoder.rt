@@ -208,7 +208,8 @@ pub fn decode_load(word: u32) -> Option<Instr>
     load(word)
 }
 
-/// The instruction of a word whose opcode is that of an operation of a register and an immediate, of 64 bits, as `decode`.
+/// The instruction of a word whose opcode is that of an operation of a register and an immediate, of 64 bits, as
+/// `decode`.
 #[tactic(auto, using(crate::proofs::Scan::opcode_steps))]
 #[inline(always)]
 pub fn decode_immediate(word: u32) -> Option<Instr>

@@ -104,6 +104,7 @@ fn perform<M: UserBytes>(
         Instr::VectorArith { arith, vd, vs2, vm } => {
             perform_arith(arith, vd, vs2, vm, state, scalar, policy)
         }
+        Instr::VectorUnit { .. } => perform_access(instr, state, scalar, memory, limit, policy),
         _ => perform_rest(instr, state, scalar, memory, limit, policy),
     }
 }
