@@ -1,133 +1,27 @@
-//! The program on one command line after another, each with the status that it ends with. The process ends with that of
-//! the last. Each line has a machine of its own, so scripts that show the counts of the vector unit stand here; `manual` is
-//! the examples of docs/COMMANDS.md. The expected output comes from elsewhere.
-//!
-//! `recorded/script` has each refusal, users side by side, traces, texts of instructions and what a line means as a command;
-//! then what programs put out; then images that are loaded or refused, and a pool that eight users fill; then values of
-//! scalar instructions, vector lengths and types, and the manual's rules of which registers may be named together, at small
-//! examples; and then single instructions as QEMU carries them out at VLEN 256, and small programs with answers worked out
-//! by hand; then programs that run in slices, with breakpoints, output and an instruction that is cut, side by side
-//! and each alone; and last vector instructions under the policy that makes agnostic elements ones, as QEMU carries them
-//! out.
+//! What the program answers, in stored runs: first the pages of docs/ that show it (`pages.rt`), then the program on one command line after
+//! another (`lines.rt`), with the status of the last of which the process ends. What answers are expected was worked out without the program.
 #![tactic(auto)]
 
-use std::io;
+mod lines;
+mod page;
+mod pages;
+mod steps;
+mod terminal;
+mod transcript;
+
+use anyhow::Result;
+use lines::last_status;
+use pages::print_pages;
 use std::process::ExitCode;
-use vec_monitor::vecmon;
 
-/// The words after the program's name.
-const LINES: [&[&str]; 38] = [
-    &["--help"],
-    &[],
-    &["empty"],
-    &["--quantum", "0"],
-    &["--quantum=1001"],
-    &["empty", "a"],
-    &["missing"],
-    &["."],
-    &["missing", "good=good", "a=missing"],
-    &["missing", "good=good", "a=missing", "a"],
-    &["missing", "good=good", "good=good"],
-    &["empty", "a b=empty"],
-    &["empty", "a=missing=b"],
-    &[
-        "empty",
-        "n0=empty",
-        "n1=empty",
-        "n2=empty",
-        "n3=empty",
-        "n4=empty",
-        "n5=empty",
-        "n6=empty",
-        "n7=empty",
-        "n8=empty",
-        "n9=empty",
-        "n10=empty",
-        "n11=empty",
-        "n12=empty",
-        "n13=empty",
-        "n14=empty",
-        "n15=empty",
-        "n16=empty",
-    ],
-    &["two_lines"],
-    &["refusals"],
-    &[
-        "script",
-        "good=good",
-        "short=short",
-        "dyn=dyn",
-        "sizes=sizes",
-    ],
-    &["--quantum", "7", "script", "short=good", "--", "good=short"],
-    &[
-        "images",
-        "magic=magic",
-        "class=class",
-        "order=order",
-        "machine=machine",
-        "entries=entries",
-        "interp=interp",
-        "entry=entry",
-        "bare=bare",
-        "later=later",
-        "stack=stack",
-        "good=good",
-    ],
-    &["--quantum", "1", "twelve_slices"],
-    &["--quantum", "4", "three_slices"],
-    &["--quantum", "12", "one_slice"],
-    &["--quantum", "4", "cut_load"],
-    &["lazy_switching"],
-    &["left_state"],
-    &["reads_of_control_registers"],
-    &["switched_by_faults"],
-    &["owners_of_the_unit", "good=good"],
-    &["counted_switches"],
-    &["saturation_flag"],
-    &["policies", "good=good"],
-    &["policies_side_by_side"],
-    &["agnostic_arithmetic"],
-    &["agnostic_short_load"],
-    &["agnostic_reductions"],
-    &["manual"],
-    &[
-        "recorded/script",
-        "good=good",
-        "short=short",
-        "dyn=dyn",
-        "sizes=sizes",
-        "cut0=recorded/cut0",
-        "cut63=recorded/cut63",
-        "cut64=recorded/cut64",
-        "cut119=recorded/cut119",
-        "cut120=recorded/cut120",
-        "cut127=recorded/cut127",
-        "many=recorded/many",
-        "addr=recorded/addr",
-        "outside=recorded/outside",
-        "huge=recorded/huge",
-        "stack=recorded/stack",
-        "sortgcc=recorded/sortgcc",
-    ],
-    &["empty", "a=missing"],
-];
-
-/// Runs the program on each line, and answers the status of the last.
-fn last_status(rt: &HostRuntime) -> io::Result<u8> {
-    let mut status = 0;
-    for words in LINES {
-        let mut line: Vec<&str> = Vec::new(rt.alloc());
-        line.push("vecmon")?;
-        line.extend_from_slice(words)?;
-        status = vecmon(rt, rt.alloc(), line.as_slice());
-        println!(rt; "{status} {words:?}")?;
-    }
-    Ok(status)
+/// Prints the pages and the lines, and answers the status of the last line.
+fn print_all(rt: &HostRuntime) -> Result<u8> {
+    print_pages(rt)?;
+    Ok(last_status(rt)?)
 }
 
 fn main(rt: HostRuntime) -> ExitCode {
-    match last_status(&rt) {
+    match print_all(&rt) {
         Ok(status) => ExitCode::from(status),
         Err(_) => ExitCode::FAILURE,
     }
