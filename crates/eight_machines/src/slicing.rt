@@ -5,8 +5,6 @@
 //!
 //! A line for each program has how many runs were compared, how many slices these took, how often the program stopped
 //! in them and how often by a fault, and how many were told something else.
-#![tactic(auto)]
-
 mod commands;
 mod listener;
 mod programs;
@@ -155,7 +153,8 @@ fn compare_program(alloc: Global, program: &Program, after: &str) -> Result<Coun
     Ok(counts)
 }
 
-fn main(rt: HostRuntime) -> Result<()> {
+/// Compares the runs of all programs, and prints how it went for each.
+pub(crate) fn compare_slicing(rt: &HostRuntime) -> Result<()> {
     let alloc = rt.alloc();
     let after = showing(alloc)?;
     for program in PROGRAMS {

@@ -1,7 +1,7 @@
 //! The commands that set a user up for a program, with generated registers and memory.
 ghost use Rattle.std.specs.Prelude.{◌≤◌, ◌<◌};
 
-use crate::programs::Program;
+use crate::slicing::programs::Program;
 use rand_core::{Rng, SeedableRng};
 use rand_xoshiro::Xoshiro256PlusPlus;
 use std::alloc::{AllocError, Global};
