@@ -4,7 +4,7 @@ ghost use Rattle.rv_model.specs.elements.Elements.{element};
 ghost use Rattle.rv_model.specs.elements.Formulas.{has_unsigned_immediate};
 ghost use Rattle.rv_model.specs.legality.GroupBounds.{HoldsBody, IsInside, SourceIsInside};
 ghost use Rattle.rv_model.specs.vector.Configuration.{width_bytes};
-ghost use Rattle.rv_model.specs.vector.Registers.{group_of};
+ghost use Rattle.rv_model.specs.vector.Registers.{group_of, registers};
 ghost use Rattle.std.specs.Prelude.{◌≡◌, ◌*◌, ◌<◌, ◌≤◌, ℕ, length};
 
 use crate::destination::{Destination, write_group};
@@ -89,14 +89,14 @@ impl BinaryOperation {
     fn write_group<L: Lane>(
         self,
         destination: Destination,
-        body: Body<'_>,
+        body: &Body<'_>,
         file: &mut VFile,
         scalar: &Scalar,
     )
         requires operands { IsInside self.vs2 destination.emul × SourceIsInside self.source destination.emul }
         requires destination { IsInside destination.vd destination.emul }
-        requires holds { HoldsBody L.width destination.emul destination.count body.end }
-        ensures { file.new ≡ with_results (record { width = L.width; emul = destination.emul }) destination.vd body
+        requires holds { HoldsBody L.width destination.emul destination.count body.now.end }
+        ensures { file.new ≡ with_results (record { width = L.width; emul = destination.emul }) destination.vd body.now
             destination.agnostic.fill_masked_off destination.agnostic.fill_tail
             (binary_result (record { width = L.width; emul = destination.emul }) self.op self.vs2 self.source
             file.old scalar.now) file.old }
@@ -106,7 +106,7 @@ impl BinaryOperation {
         let (mut first, mut second) = ([0; GROUP_BYTES], [0; GROUP_BYTES]);
         let a = group_copy(file, self.vs2, emul, &mut first);
         let b = second_copy::<L>(unsigned, source, emul, end, file, scalar, &mut second);
-        self.write_from::<L>(a, b, destination, &body, file, scalar);
+        self.write_from::<L>(a, b, destination, body, file, scalar);
     }
 }
 
@@ -127,7 +127,7 @@ impl ElementWise for BinaryOperation {
         if registers(destination.emul) == 1 {
             self.write_single::<L>(destination, body, file, scalar);
         } else {
-            (*self).write_group::<L>(destination, body.copied(), file, scalar);
+            (*self).write_group::<L>(destination, &body.copied(), file, scalar);
         }
     }
 }

@@ -70,6 +70,19 @@ pub(crate) fn single_copy(file: &VFile, register: VReg, emul: u32) -> [u8; VLENB
     register_copy(file, register)
 }
 
+/// The low bits of a number, `count` times, in one register.
+#[inline(always)]
+fn repeated_single<L: Lane>(number: u64, count: usize) -> [u8; VLENB]
+    requires room { width_bytes L.width * count ≤ VLENB }
+    requires count { count ≤ GROUP_BYTES }
+    ensures elements { (i : ℕ) → i < count → element (width_bytes L.width) result i ≡ number % 2 ^ bits L.width }
+    ensures len { length result ≡ VLENB }
+{
+    let mut copy = [0; VLENB];
+    fill(L::low_bits(number), 0, count, &mut copy);
+    copy
+}
+
 /// A copy of the elements of the second operand, `count` of them, where a group is one register.
 #[inline(always)]
 pub(crate) fn second_single_copy<L: Lane>(
@@ -87,12 +100,9 @@ pub(crate) fn second_single_copy<L: Lane>(
         ≡ second_element (record { width = L.width; emul = emul }) unsigned source file.now scalar.now i }
     ensures len { length result ≡ VLENB }
 {
-    let number = match source {
-        Source::V(vs1) => return single_copy(file, vs1, emul),
-        Source::X(rs1) => scalar.read(rs1),
-        Source::I(imm) => immediate_value(unsigned, imm),
-    };
-    let mut copy = [0; VLENB];
-    fill(L::low_bits(number), 0, count, &mut copy);
-    copy
+    match source {
+        Source::V(vs1) => single_copy(file, vs1, emul),
+        Source::X(rs1) => repeated_single::<L>(scalar.read(rs1), count),
+        Source::I(imm) => repeated_single::<L>(immediate_value(unsigned, imm), count),
+    }
 }
