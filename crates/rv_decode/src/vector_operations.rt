@@ -136,11 +136,12 @@ fn lower_opm(funct6: u32, form: Form) -> Option<VectorOp>
     if_allowed(op, forms, form)
 }
 
-/// The operation of OPMVV or OPMVX with this funct6, from 0x20 on, and form.
+/// The operation of OPMVV or OPMVX with this funct6, from 0x20 on and below 0x30, and form.
 #[tactic(auto, unfolding(rv_model::specs::instructions::Table::find_at))]
 #[inline(always)]
-fn upper_opm(funct6: u32, form: Form) -> Option<VectorOp>
-    requires { 0x20 ≤ funct6 }
+fn middle_opm(funct6: u32, form: Form) -> Option<VectorOp>
+    requires from { 0x20 ≤ funct6 }
+    requires below { funct6 < 0x30 }
     ensures row { result ≡ find_at line Major.Opm form funct6 vector_ops }
     ensures allowed { IfSome result (λ op. has_form (line op).forms form ≡ true) }
 {
@@ -157,6 +158,20 @@ fn upper_opm(funct6: u32, form: Form) -> Option<VectorOp>
         0x2b => (VectorOp::MultiplyAdd(MultiplyAddOp::Vnmsub), Forms::Vx),
         0x2d => (VectorOp::MultiplyAdd(MultiplyAddOp::Vmacc), Forms::Vx),
         0x2f => (VectorOp::MultiplyAdd(MultiplyAddOp::Vnmsac), Forms::Vx),
+        _ => return None,
+    };
+    if_allowed(op, forms, form)
+}
+
+/// The operation of OPMVV or OPMVX with this funct6, from 0x30 on, and form.
+#[tactic(auto, unfolding(rv_model::specs::instructions::Table::find_at))]
+#[inline(always)]
+fn upper_opm(funct6: u32, form: Form) -> Option<VectorOp>
+    requires { 0x30 ≤ funct6 }
+    ensures row { result ≡ find_at line Major.Opm form funct6 vector_ops }
+    ensures allowed { IfSome result (λ op. has_form (line op).forms form ≡ true) }
+{
+    let (op, forms) = match funct6 {
         0x30 => (VectorOp::Widen(WidenOp::Vwaddu), Forms::Vx),
         0x31 => (VectorOp::Widen(WidenOp::Vwadd), Forms::Vx),
         0x32 => (VectorOp::Widen(WidenOp::Vwsubu), Forms::Vx),
@@ -197,6 +212,8 @@ pub(crate) fn opm(funct6: u32, form: Form) -> Option<VectorOp>
 {
     if funct6 < 0x20 {
         lower_opm(funct6, form)
+    } else if funct6 < 0x30 {
+        middle_opm(funct6, form)
     } else {
         upper_opm(funct6, form)
     }
