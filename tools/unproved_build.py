@@ -1,0 +1,109 @@
+#!/usr/bin/env python3
+"""Builds a program without its proofs, optimized: `tools/unproved_build.py CRATE OUT`, at the top of the repository.
+
+So a change is measured before it is proved. `rt try` compiles a program with checks of its own; this keeps the module that it gives to
+clang, drops the checks, marks the functions that stand under `#[inline(..)]`, and compiles the rest at -O3. What the program then takes
+lies within 3 % of the proved one. Nothing else may be concluded from it: the program that counts is the proved one.
+"""
+
+import glob
+import os
+import re
+import shutil
+import subprocess
+import sys
+import tempfile
+
+STAND_IN = """#!/bin/bash
+for word in "$@"; do
+    [ "$word" = module.bc ] && [ "$(stat -c %s module.bc)" -gt 100000 ] && {{ cp module.bc {kept}; exit 1; }}
+done
+exec {clang} "$@"
+"""
+TARGET = "x86_64-unknown-linux-gnu"
+FLAGS = (
+    "-march=x86-64-v2 -mllvm -no-trap-after-noreturn -ffunction-sections -fdata-sections -mllvm -trap-unreachable "
+    "-mllvm -no-x86-call-frame-opt -mllvm -disable-machine-licm -mllvm -disable-postra-machine-licm "
+    "-mllvm -sink-common-insts=false --no-default-config -no-canonical-prefixes -fno-crash-diagnostics -fPIE -O3"
+).split()
+CHECK = re.compile(
+    r'\s*call void @"rattle-llvm-checks::|\s*call void @llvm\.trap\(\)|\s*call void @llvm\.memset\.p0\.i64\(ptr %r\d+, i8 -86,'
+)
+COMMON = 'nounwind "frame-pointer"="all" "probe-stack"="inline-asm" "stack-probe-size"="3072" "target-cpu"="x86-64-v2"'
+
+
+def kit_with_stand_in(kit, room, kept):
+    """Makes a folder that is the kit but for its clang, which keeps the large module and goes no further."""
+    for part in os.listdir(kit):
+        if part not in ("bin", "toolchain"):
+            os.symlink(f"{kit}/{part}", f"{room}/{part}")
+    for folder in ("bin", "toolchain/bin"):
+        os.makedirs(f"{room}/{folder}")
+        for name in os.listdir(f"{kit}/{folder}"):
+            if name not in ("rt", "rtlib.py", "clang"):
+                os.symlink(f"{kit}/{folder}/{name}", f"{room}/{folder}/{name}")
+    os.symlink(f"{kit}/toolchain/lib", f"{room}/toolchain/lib")
+    for name in ("rt", "rtlib.py"):
+        shutil.copy(f"{kit}/bin/{name}", f"{room}/bin/{name}")
+    stand_in = f"{room}/toolchain/bin/clang"
+    with open(stand_in, "w", encoding="utf-8") as it:
+        it.write(STAND_IN.format(kept=kept, clang=f"{kit}/toolchain/bin/clang"))
+    os.chmod(stand_in, 0o755)
+
+
+def inlined(crates):
+    """The functions under `#[inline(always)]` and `#[inline(never)]`, by crate and name."""
+    found = {}
+    for file in glob.glob(f"{crates}/*/src/**/*.rt", recursive=True):
+        crate, lines = os.path.relpath(file, crates).split("/")[0], open(file, encoding="utf-8").read().split("\n")
+        module = os.path.relpath(file, f"{crates}/{crate}/src")[:-3].replace("/", "::")
+        for at, line in enumerate(lines):
+            kind = re.fullmatch(r"\s*#\[inline\((always|never)\)\]", line)
+            names = (re.match(r"\s*(?:pub(?:\(\w+\))? )?fn (\w+)", it) for it in lines[at + 1 : at + 6])
+            name = next((it for it in names if it), None)
+            if kind and name:
+                found[crate, module, name[1]] = kind[1]
+    return found
+
+
+def without_checks(module, marks):
+    """The lines of the module without its checks, and with the marks."""
+    for line in module:
+        if CHECK.match(line):
+            continue
+        name = re.match(r'define internal .*?@"([^"]*)"\(', line)
+        path = name[1].split("::<")[0].split("::") if name else []
+        kinds = (marks.get((path[0], "::".join(path[1:end]), path[-1])) for end in range(1, len(path)))
+        kind = next((it for it in kinds if it), None)
+        if kind:
+            line = line.replace(") #0 {", f") {'#90' if kind == 'always' else '#91'} {{")
+        if line.startswith("attributes #0 "):
+            yield f"attributes #0 = {{ {COMMON} }}\n"
+            yield f"attributes #90 = {{ alwaysinline {COMMON} }}\nattributes #91 = {{ noinline {COMMON} }}\n"
+        else:
+            yield line.replace("sanitize_address ", "")
+
+
+def main(crate, out):
+    kit = os.path.dirname(subprocess.run(["rt", "doc"], capture_output=True, text=True, check=True).stdout.strip())
+    clang, crates = f"{kit}/toolchain/bin/clang", os.path.abspath("crates")
+    with tempfile.TemporaryDirectory() as room:
+        kept, text, fast, made = (f"{room}/{it}" for it in ("kept.bc", "kept.ll", "fast.ll", "fast.o"))
+        os.mkdir(f"{room}/kit")
+        kit_with_stand_in(kit, f"{room}/kit", kept)
+        tried = subprocess.run([f"{room}/kit/bin/rt", "try", "--steps", "1"], cwd=f"{crates}/{crate}", capture_output=True, text=True)
+        if not os.path.isfile(kept):
+            sys.exit(f"{tried.stdout}{tried.stderr}no module was made")
+        subprocess.run([clang, f"--target={TARGET}", "-x", "ir", "-S", "-emit-llvm", "-O0", kept, "-o", text], check=True)
+        with open(text, encoding="utf-8") as module, open(fast, "w", encoding="utf-8") as it:
+            it.writelines(without_checks(module, inlined(crates)))
+        subprocess.run([clang, f"--target={TARGET}", *FLAGS, "-c", "-x", "ir", fast, "-o", made], check=True)
+        libraries = [f"{kit}/c/libos_c.a", f"{kit}/c/liblibc_c.a"]
+        linker = [f"{kit}/bin/rattle-link", "--target", TARGET, "--toolchain", f"{kit}/toolchain", "-o", out]
+        subprocess.run([*linker, made, *libraries], check=True, capture_output=True)
+
+
+if __name__ == "__main__":
+    if len(sys.argv) != 3:
+        sys.exit(__doc__)
+    main(sys.argv[1], sys.argv[2])
