@@ -10,16 +10,13 @@ ghost use Rattle.rv_model.specs.vector.Configuration.{IsConfiguration};
 ghost use Rattle.hart.specs.States.{LeadsTo, Marks};
 
 use crate::faults::{fault, illegal};
-use crate::scalar_instructions::{execute_plain, execute_scalar};
+use crate::scalar_instructions::execute_scalar;
 use crate::touching_instructions::{execute_touching, is_touching};
 use crate::vector_instructions::execute_vector;
 use crate::vectors::Vectors;
 use crate::view::View;
 use arrayvec::ArrayVec;
-use rv_decode::{
-    decode, decode_arith, decode_branch, decode_immediate, decode_load, decode_operation,
-    decode_scalar, decode_store, decode_unit,
-};
+use rv_decode::{decode, decode_arith, decode_scalar, decode_unit};
 use rv_model::{Access, Cause, Fault, GROUP_BYTES, Instr, OUTPUT_SIZE, Policy, Scalar, StepEnd};
 use vector_memory::UserBytes;
 
@@ -150,7 +147,7 @@ fn execute_vector_word<M: UserBytes, V: Vectors>(
 /// The same, vector instructions out of line, so that a scalar instruction needs no place in memory.
 #[tactic(auto, unfolding(rv_model::specs::step::Step::executed, rv_model::specs::step::Step::dirties))]
 #[inline(always)]
-fn execute_any<M: UserBytes, V: Vectors>(
+fn execute<M: UserBytes, V: Vectors>(
     word: u32,
     scalar: &mut Scalar,
     memory: &mut M,
@@ -190,49 +187,6 @@ fn execute_any<M: UserBytes, V: Vectors>(
         return (end, ticks);
     }
     (execute_scalar(instr, word, scalar, memory, output), 1)
-}
-
-/// The same; the opcodes of most scalar instructions have an arm each, in which it is known what the word
-/// can be.
-#[tactic(auto, unfolding(rv_model::specs::step::Step::executed, rv_model::specs::step::Step::dirties))]
-#[inline(always)]
-fn execute<M: UserBytes, V: Vectors>(
-    word: u32,
-    scalar: &mut Scalar,
-    memory: &mut M,
-    vectors: &mut V,
-    output: &mut ArrayVec<u8, OUTPUT_SIZE>,
-    limit: usize,
-    policy: Policy,
-) -> (StepEnd, usize)
-    requires ready { V.ready vectors.old }
-    requires limit { 1 ≤ limit }
-    ensures model { LeadsTo (executed limit (scan table word) word)
-        (hart_state scalar.old (V.lent vectors.old).state (M.memory memory.old) policy output.old.items)
-        (hart_state scalar.new (V.lent vectors.new).state (M.memory memory.new) policy output.new.items)
-        result.0 result.1 }
-    ensures memory { memory.new ≡ M.with_memory memory.old (M.memory memory.new) }
-    ensures vectors { vectors.new
-        ≡ (if touches (scan table word) then V.back vectors.old (V.lent vectors.new) else vectors.old) }
-    ensures dirty { Marks (dirties limit (scan table word))
-        (hart_state scalar.old (V.lent vectors.old).state (M.memory memory.old) policy)
-        (V.lent vectors.old) (V.lent vectors.new) }
-    ensures ready { V.ready vectors.new }
-    ensures uncut { GROUP_BYTES ≤ limit → result.0 ≢ StepEnd.Cut }
-
-    // What is cut is a vector instruction, which finds a length that its vector type allows.
-    ensures configuration { result.0 ≡ StepEnd.Cut
-        → IsConfiguration (V.lent vectors.old).state.conf }
-{
-    let end = match word & 0x7f {
-        0x03 => execute_plain(&decode_load(word), word, scalar, memory, output),
-        0x13 => execute_plain(&decode_immediate(word), word, scalar, memory, output),
-        0x23 => execute_plain(&decode_store(word), word, scalar, memory, output),
-        0x33 => execute_plain(&decode_operation(word), word, scalar, memory, output),
-        0x63 => execute_plain(&decode_branch(word), word, scalar, memory, output),
-        _ => return execute_any(word, scalar, memory, vectors, output, limit, policy),
-    };
-    (end, 1)
 }
 
 /// Carries out one instruction of a user within `limit` ticks, and answers how it ended and how many

@@ -75,28 +75,3 @@ pub(crate) fn execute_scalar<M: UserBytes>(
         _ => unreachable!(),
     }
 }
-
-/// Carries out what a word was decoded to, which doesn't touch the vector unit; a word that is no instruction is
-/// illegal.
-#[tactic(auto, unfolding(rv_model::specs::step::Step::executed, rv_model::specs::step::Step::dirties))]
-#[inline(always)]
-pub(crate) fn execute_plain<M: UserBytes>(
-    decoded: &Option<Instr>,
-    word: u32,
-    scalar: &mut Scalar,
-    memory: &mut M,
-    output: &mut ArrayVec<u8, OUTPUT_SIZE>,
-) -> StepEnd
-    requires { touches decoded.now ≡ false }
-    ensures model { (limit : ℕ) → LeadsOutput (executed limit decoded.now word)
-        scalar.old (M.memory memory.old) output.old.items
-        scalar.new (M.memory memory.new) output.new.items result }
-    ensures memory { memory.new ≡ M.with_memory memory.old (M.memory memory.new) }
-    ensures clean { (limit : ℕ) (before : HartState) → dirties limit decoded.now before ≡ false }
-    ensures uncut { result ≢ StepEnd.Cut }
-{
-    match decoded {
-        Some(instr) => execute_scalar(instr, word, scalar, memory, output),
-        None => illegal(word, scalar),
-    }
-}

@@ -197,62 +197,6 @@ fn vector(word: u32) -> Option<Instr>
     }
 }
 
-/// The instruction of a word whose opcode is that of a load, as `decode`.
-#[tactic(auto, using(crate::proofs::Scan::opcode_steps))]
-#[inline(always)]
-pub fn decode_load(word: u32) -> Option<Instr>
-    requires { bit_and word 0x7f ≡ 0x03 }
-    ensures row { result ≡ scan table word }
-    ensures plain { touches result ≡ false }
-{
-    load(word)
-}
-
-/// The instruction of a word whose opcode is that of an operation of a register and an immediate, of 64 bits, as
-/// `decode`.
-#[tactic(auto, using(crate::proofs::Scan::opcode_steps))]
-#[inline(always)]
-pub fn decode_immediate(word: u32) -> Option<Instr>
-    requires { bit_and word 0x7f ≡ 0x13 }
-    ensures row { result ≡ scan table word }
-    ensures plain { touches result ≡ false }
-{
-    immediates(word)
-}
-
-/// The instruction of a word whose opcode is that of a store, as `decode`.
-#[tactic(auto, using(crate::proofs::Scan::opcode_steps))]
-#[inline(always)]
-pub fn decode_store(word: u32) -> Option<Instr>
-    requires { bit_and word 0x7f ≡ 0x23 }
-    ensures row { result ≡ scan table word }
-    ensures plain { touches result ≡ false }
-{
-    store(word)
-}
-
-/// The instruction of a word whose opcode is that of an operation of two registers, of 64 bits, as `decode`.
-#[tactic(auto, using(crate::proofs::Scan::opcode_steps))]
-#[inline(always)]
-pub fn decode_operation(word: u32) -> Option<Instr>
-    requires { bit_and word 0x7f ≡ 0x33 }
-    ensures row { result ≡ scan table word }
-    ensures plain { touches result ≡ false }
-{
-    register_register(word)
-}
-
-/// The instruction of a word whose opcode is that of a branch, as `decode`.
-#[tactic(auto, using(crate::proofs::Scan::opcode_steps))]
-#[inline(always)]
-pub fn decode_branch(word: u32) -> Option<Instr>
-    requires { bit_and word 0x7f ≡ 0x63 }
-    ensures row { result ≡ scan table word }
-    ensures plain { touches result ≡ false }
-{
-    branch(word)
-}
-
 /// The instruction of a word, by its opcode.
 #[tactic(auto, using(crate::proofs::Scan::opcode_steps))]
 #[inline(always)]

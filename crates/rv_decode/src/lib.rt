@@ -15,9 +15,6 @@ mod vector_memory;
 mod vector_operations;
 mod word_fields;
 
-pub use decoder::{
-    decode, decode_arith, decode_branch, decode_immediate, decode_load, decode_operation,
-    decode_scalar, decode_store, decode_unit,
-};
+pub use decoder::{decode, decode_arith, decode_scalar, decode_unit};
 pub use encoder::encode;
 pub use laws::{decoded_again, encoded_again, one_row};
