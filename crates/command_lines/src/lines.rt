@@ -13,7 +13,7 @@ use std::io;
 use vec_monitor::vecmon;
 
 /// The words after the program's name.
-const LINES: [&[&str]; 38] = [
+const LINES: [&[&str]; 57] = [
     &["--help"],
     &[],
     &["empty"],
@@ -47,6 +47,31 @@ const LINES: [&[&str]; 38] = [
         "n15=empty",
         "n16=empty",
     ],
+    &["loads"],
+    &["loads", "a=odd"],
+    &["--quantum=1", "loads", "a=odd"],
+    &["loads", "--quantum", "1000", "a=odd"],
+    &["loads", "a=x=y"],
+    &["a=b"],
+    &["-"],
+    &["missing", "a=missing", "a"],
+    &["recorded"],
+    &["missing", "b=odd", "a=recorded", "a"],
+    &["missing", "b=odd", "a=recorded", "b=odd"],
+    &["missing", "a=odd", "a=odd"],
+    &["missing", "=odd"],
+    &[
+        "loads", "a=odd", "c=odd", "d=odd", "e=odd", "f=odd", "g=odd", "h=odd", "i=odd", "j=odd",
+        "k=odd", "l=odd", "m=odd", "n=odd", "o=odd", "p=odd", "q=odd",
+    ],
+    &[
+        "loads", "a=odd", "c=odd", "d=odd", "e=odd", "f=odd", "g=odd", "h=odd", "i=odd", "j=odd",
+        "k=odd", "l=odd", "m=odd", "n=odd", "o=odd", "p=odd", "q=odd", "r=odd",
+    ],
+    &["missing", "a", "-h"],
+    &["--quantum", "1001", "missing"],
+    &["--quantum=1", "--quantum=1"],
+    &["--quanta"],
     &["two_lines"],
     &["refusals"],
     &[

@@ -1,4 +1,4 @@
-//! What the program answers, in stored runs: first the pages of docs/ that show it (`pages.rt`), then the program on one command line after
+//! What the program answers, in stored runs: first pages that show it (`pages.rt`), then the program on one command line after
 //! another (`lines.rt`), with the status of the last of which the process ends. What answers are expected was worked out without the program.
 #![tactic(auto)]
 

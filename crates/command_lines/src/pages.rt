@@ -1,12 +1,18 @@
-//! The pages of docs/ that show what the program answers: the tour, the refusals, and programs of stock compilers. A page is
-//! Markdown in a file of `data/`, in which some lines stand for answers (`page.rt`); all that the pages run is there too.
+//! The pages of docs/ that show what the program answers: the tour, the refusals, and programs of stock compilers; and one that
+//! stands in no document, with command lines and small scripts beside those of docs/. A page is Markdown in a file of `data/`, in which
+//! some lines stand for answers (`page.rt`); all that the pages run is there too.
 use crate::page::print_page;
 use anyhow::Result;
 use std::fs;
 use vec_monitor::Image;
 
 /// The files of the pages.
-const PAGES: [&str; 3] = ["tour.page", "refusals.page", "compiling.page"];
+const PAGES: [&str; 4] = [
+    "tour.page",
+    "refusals.page",
+    "compiling.page",
+    "program.page",
+];
 
 /// Prints the pages, one after another.
 pub(crate) fn print_pages(rt: &HostRuntime) -> Result<()> {

@@ -1,6 +1,7 @@
 //! Whatever can fail fails in turn: each read and each write of two scripts, by devices in memory that give and take a few bytes
 //! at a call; scripts that are too long; and memory, before a machine stands and after. What should come then is found in another
-//! way: line by line, by hand, or with memory in plenty.
+//! way: line by line, by hand, or with memory in plenty. Last come files in memory that are too large for the program, outputs that take
+//! little, and what machines and pools refuse.
 //!
 //! A line for each kind of failure has how many runs there were, and how many went otherwise than they should. Between these
 //! stand the ends of a script of two lines, which were worked out by hand.
@@ -11,7 +12,10 @@ mod devices;
 mod growths;
 mod known_devices;
 mod lengths;
+mod limits;
+mod program;
 mod scripts;
+mod shell;
 mod tally;
 mod transcript;
 mod two_lines;
@@ -92,9 +96,28 @@ fn print_memory(rt: &HostRuntime) -> Result<()> {
     Ok(())
 }
 
+/// Prints what comes of files that are too large, outputs that are full, and words, images and accesses that are refused.
+fn print_limits(rt: &HostRuntime) -> Result<()> {
+    let alloc = rt.alloc();
+    print_tally(
+        rt,
+        "files as large as may be, and larger",
+        program::sizes(alloc)?,
+    )?;
+    print_tally(rt, "outputs with little room", program::rooms(alloc)?)?;
+    print_tally(rt, "words that are read", program::words(alloc))?;
+    print_tally(
+        rt,
+        "machines that there can't be, and one that there can",
+        limits::new_machines(alloc)?,
+    )?;
+    print_tally(rt, "accesses of a pool", limits::accesses(alloc)?)
+}
+
 fn main(rt: HostRuntime) -> Result<()> {
     print_scripts(&rt)?;
     two_lines::print_runs(&rt)?;
     print_lengths(&rt)?;
-    print_memory(&rt)
+    print_memory(&rt)?;
+    print_limits(&rt)
 }
