@@ -12,13 +12,13 @@ ghost use Rattle.hart.specs.States.{LeadsTo, Marks};
 use crate::faults::{fault, illegal};
 use crate::scalar_instructions::execute_scalar;
 use crate::touching_instructions::{execute_touching, is_touching};
-use crate::vector_instructions::execute_vector;
+use crate::vector_instructions::{execute_arith, execute_unit};
 use crate::vectors::Vectors;
 use crate::view::View;
 use arrayvec::ArrayVec;
 use rv_decode::{decode, decode_arith, decode_scalar, decode_unit};
 use rv_model::{Access, Cause, Fault, GROUP_BYTES, Instr, OUTPUT_SIZE, Policy, Scalar, StepEnd};
-use vector_memory::UserBytes;
+use vector_memory::{UnitAccess, UserBytes};
 
 /// The word at an address.
 #[inline(always)]
@@ -112,12 +112,11 @@ fn execute_vector_word<M: UserBytes, V: Vectors>(
         if let Instr::VectorArith { arith, vd, vs2, vm } = *instr {
             let seat = vectors.seat();
             seat.state.conf.length_law();
-            let instr = Instr::VectorArith { arith, vd, vs2, vm };
-            return execute_vector(&instr, word, scalar, memory, seat, limit, policy);
+            return execute_arith(arith, vd, vs2, vm, word, scalar, seat, policy);
         }
     }
-    let access = decode_unit(word);
-    if let Some(instr) = &access {
+    let transfer = decode_unit(word);
+    if let Some(instr) = &transfer {
         if let Instr::VectorUnit {
             op,
             width,
@@ -129,15 +128,15 @@ fn execute_vector_word<M: UserBytes, V: Vectors>(
         {
             let seat = vectors.seat();
             seat.state.conf.length_law();
-            let instr = Instr::VectorUnit {
+            let access = UnitAccess {
                 op,
                 width,
                 nf,
                 vd,
                 rs1,
-                vm,
+                unmasked: vm,
             };
-            return execute_vector(&instr, word, scalar, memory, seat, limit, policy);
+            return execute_unit(access, word, scalar, memory, seat, limit, policy);
         }
     }
     let (end, ticks) = execute_other(word, scalar, memory, vectors, output, limit, policy);

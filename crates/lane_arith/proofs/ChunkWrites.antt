@@ -64,7 +64,7 @@ chunk_of_chunk s l t k xs h =
     ap (λ ys. take k ys) cut ∙ take-take k (l - t) (drop t (drop s xs)) (omega arith) ∙ ap (λ ys. take k ys) (drop-drop t s xs)
 
 -- where element i of the chunk c stands
-place : (k n c i : ℕ) → k * n ≡ 32 → k * (n * c + i) ≡ 32 * c + k * i
+pub place : (k n c i : ℕ) → k * n ≡ 32 → k * (n * c + i) ≡ 32 * c + k * i
 place k n c i e = mul-add k (n * c) i ∙ ap (λ x. x + k * i) (sym (mul_assoc k n c) ∙ ap (λ x. x * c) e)
 
 pub element_of_chunk : (k n c i : ℕ) (xs : List ℕ) → k * n ≡ 32 → i < n → element k (chunk (32 * c) 32 xs) i ≡ element k xs (n * c + i)
@@ -73,22 +73,23 @@ element_of_chunk k n c i xs e h =
     ap (number_l 256) (chunk_of_chunk (32 * c) 32 (k * i) k xs (omega (arith, mul-suc k i)) ∙ ap (λ x. chunk x k xs) (sym (place k n c i e)))
 
 -- results, ones and bytes that stay, as the bits of two numbers tell
-pub step_chunk : (k n c : ℕ) (body : Body) (fill_masked_off : Bool) (result chunk_result : ℕ → ℕ) (ones : ℕ) (mid new made : List ℕ) (active filled : ℕ)
+pub step_any : (k n c : ℕ) (is_result is_one changed : ℕ → Bool) (number chunk_result : ℕ → ℕ) (ones : ℕ) (mid new made : List ℕ) (active filled : ℕ)
     → k * n ≡ 32 → 32 * c + 32 ≤ length mid → new ≡ put_chunk (32 * c) mid made → length made ≡ 32
     → ((i m : ℕ) → i < n → m < k → get_or made (k * i + m) 0
     ≡ cond (eqb (active / 2 ^ i % 2) 0) (cond (eqb (filled / 2 ^ i % 2) 0) (get_or (chunk (32 * c) 32 mid) (k * i + m) 0) (byte_at m ones)) (byte_at m (chunk_result i)))
-    → ((i : ℕ) → i < n → eqb (active / 2 ^ i % 2) 0 ≡ not (is_active body (n * c + i)))
-    → ((i : ℕ) → i < n → eqb (filled / 2 ^ i % 2) 0 ≡ not (fill_masked_off && in_body body (n * c + i)))
-    → ((i : ℕ) → i < n → chunk_result i ≡ result (n * c + i))
-    → WritesChunk k n c (is_changed body fill_masked_off false) (result_or_ones body result ones) mid new
-step_chunk k n c body fill_masked_off result chunk_result ones mid new made active filled e room is long bytes actives filleds same = record {
+    → ((i : ℕ) → i < n → eqb (active / 2 ^ i % 2) 0 ≡ not (is_result i))
+    → ((i : ℕ) → i < n → eqb (filled / 2 ^ i % 2) 0 ≡ not (is_one i))
+    → ((i : ℕ) → i < n → changed (n * c + i) ≡ (is_result i || (is_one i || false)))
+    → ((i : ℕ) → i < n → number (n * c + i) ≡ cond (is_result i) (chunk_result i) ones)
+    → WritesChunk k n c changed number mid new
+step_any k n c is_result is_one changed number chunk_result ones mid new made active filled e room is long bytes actives filleds changes numbers = record {
   same_length = ap length is ∙ length-put_chunk (32 * c) mid made;
   inside = λ i m h l.
       let low : k * suc i ≤ k * n = mul-le-mul_left k h in
       let short : k * i + m < 32 = omega (arith, mul-suc k i) in
       let here : k * (n * c + i) + m ≡ 32 * c + (k * i + m) = omega (arith, place k n c i e) in
-      rw (here, is, get_or-put_chunk_at (32 * c) mid made (k * i + m) 0 (omega arith) (omega arith), bytes i m h l, actives i h, filleds i h, same i h, get_or-chunk (32 * c) 32 mid (k * i + m) 0 short)
-      (pick (is_active body (n * c + i)) (fill_masked_off && in_body body (n * c + i)) m _ (result (n * c + i)));
+      rw (changes i h, numbers i h, here, is, get_or-put_chunk_at (32 * c) mid made (k * i + m) 0 (omega arith) (omega arith), bytes i m h l, actives i h, filleds i h, get_or-chunk (32 * c) 32 mid (k * i + m) 0 short)
+      (pick (is_result i) (is_one i) m _ (chunk_result i));
   outside = λ j o. rw is (apart j o);
 }
   where
@@ -100,6 +101,20 @@ step_chunk k n c body fill_masked_off result chunk_result ones mid new made acti
     apart : (j : ℕ) → (j < k * (n * c)) ⊎ (k * (n * c + n) ≤ j) → get_or (put_chunk (32 * c) mid made) j 0 ≡ get_or mid j 0
     apart j (inl low) = get_or-put_chunk_below (32 * c) mid made j 0 (omega (arith, place k n c 0 e, add-zero (n * c), mul-zero k))
     apart j (inr high) = get_or-put_chunk_above (32 * c) mid made j 0 (omega (arith, place k n c n e))
+
+-- the same for the chunk of that index of a list
+pub step_chunk : (k n c : ℕ) (body : Body) (fill_masked_off : Bool) (result chunk_result : ℕ → ℕ) (ones : ℕ) (mid new made : List ℕ) (active filled : ℕ)
+    → k * n ≡ 32 → 32 * c + 32 ≤ length mid → new ≡ put_chunk (32 * c) mid made → length made ≡ 32
+    → ((i m : ℕ) → i < n → m < k → get_or made (k * i + m) 0
+    ≡ cond (eqb (active / 2 ^ i % 2) 0) (cond (eqb (filled / 2 ^ i % 2) 0) (get_or (chunk (32 * c) 32 mid) (k * i + m) 0) (byte_at m ones)) (byte_at m (chunk_result i)))
+    → ((i : ℕ) → i < n → eqb (active / 2 ^ i % 2) 0 ≡ not (is_active body (n * c + i)))
+    → ((i : ℕ) → i < n → eqb (filled / 2 ^ i % 2) 0 ≡ not (fill_masked_off && in_body body (n * c + i)))
+    → ((i : ℕ) → i < n → chunk_result i ≡ result (n * c + i))
+    → WritesChunk k n c (is_changed body fill_masked_off false) (result_or_ones body result ones) mid new
+step_chunk k n c body fill_masked_off result chunk_result ones mid new made active filled e room is long bytes actives filleds same =
+    step_any k n c (λ i. is_active body (n * c + i)) (λ i. fill_masked_off && in_body body (n * c + i))
+    (is_changed body fill_masked_off false) (result_or_ones body result ones) chunk_result ones mid new made active filled e room is long bytes
+    actives filleds (λ i h. refl) (λ i h. rw (same i h) refl)
 
 -- how many elements a chunk has
 pub few_in_chunk : (k n : ℕ) → 0 < k → k * n ≡ 32 → n ≤ 32

@@ -1,5 +1,5 @@
 //! Whole chunks of 32 bytes: their elements side by side, and what they become.
-ghost use Rattle.std.specs.Prelude.{◌≡◌, ◌+◌, ◌*◌, ◌-ℤ◌, pos, ◌/◌, ◌%◌, ◌^◌, ◌<◌, ◌==◌, ℕ, IfSome, int_le, int_lt, nat_le, not, slice_index, if◌then◌else◌};
+ghost use Rattle.std.specs.Prelude.{◌≡◌, ◌+◌, ◌*◌, ◌-ℤ◌, pos, ◌/◌, ◌%◌, ◌^◌, ◌<◌, ◌==◌, ℕ, IfSome, IsTrue, int_le, int_lt, nat_le, not, slice_index, if◌then◌else◌};
 ghost use Rattle.std.specs.Int.{byte_at, cast_signed, from_bool};
 ghost use Rattle.rv_model.specs.declared.instructions.operations.BinaryOp.TheVariants.{Vand, Vmax, Vmaxu, Vmin, Vminu, Vor, Vsra, Vsrl, Vxor};
 ghost use Rattle.rv_model.specs.declared.instructions.operations.CarryOp.TheVariants.{Vadc, Vmerge, Vsbc};
@@ -7,6 +7,7 @@ ghost use Rattle.rv_model.specs.declared.instructions.operations.CompareOp.TheVa
 ghost use Rattle.rv_model.specs.elements.Formulas.{carry_formula, compare_formula, formula, multiply_add_formula, ones, wrap};
 ghost use Rattle.rv_model.specs.vector.Configuration.{width_bytes};
 ghost use mir.Val.{bits, hbits};
+ghost use Rattle.lane_arith.specs.SideBySide.{is_side_by_side};
 
 use crate::lane::Lane;
 use rv_model::instructions::operations::{BinaryOp, CarryOp, CompareOp, MultiplyAddOp};
@@ -14,6 +15,7 @@ use std::simd::prelude::*;
 
 /// A chunk: results where the bit of `active` is set, else ones where that of `filled` is, and else the
 /// elements of `old`.
+#[inline(always)]
 pub(crate) fn merged<L: Lane>(results: L::Vector, old: u8x32, active: u64, filled: u64) -> u8x32
     ensures { (i m : ℕ) → i < L.count → m < width_bytes L.width → slice_index result (width_bytes L.width * i + m)
         ≡ (if active / 2 ^ i % 2 == 0
@@ -134,14 +136,31 @@ fn signed_shifted_right<L: Lane>(a: L::Vector, amounts: L::Vector) -> L::Vector
     L::differences(turned, L::each_shifted_right(top, amounts))
 }
 
-/// The results of an operation of one width, where they are made side by side.
-pub fn binary<L: Lane>(op: BinaryOp, a: L::Vector, b: L::Vector) -> Option<L::Vector>
+/// Whether the results of an operation of one width are made side by side.
+pub fn is_side_by_side(op: BinaryOp) -> bool
+    ensures { result ≡ is_side_by_side op }
+{
+    !matches!(
+        op,
+        BinaryOp::Vdivu
+            | BinaryOp::Vdiv
+            | BinaryOp::Vremu
+            | BinaryOp::Vrem
+            | BinaryOp::Vmulhu
+            | BinaryOp::Vmulhsu
+            | BinaryOp::Vmulh
+    )
+}
+
+/// The results of an operation of one width that are made side by side.
+#[inline(always)]
+pub fn side_by_side<L: Lane>(op: BinaryOp, a: L::Vector, b: L::Vector) -> L::Vector
+    requires made { IsTrue (is_side_by_side op) }
     requires first { (i : ℕ) → i < L.count → L.lane a i < 2 ^ bits L.width }
     requires second { (i : ℕ) → i < L.count → L.lane b i < 2 ^ bits L.width }
-    ensures { IfSome result (λ made. (i : ℕ) → i < L.count
-        → L.lane made i ≡ wrap L.width (formula op L.width (L.lane a i) (L.lane b i))) }
+    ensures { (i : ℕ) → i < L.count → L.lane result i ≡ wrap L.width (formula op L.width (L.lane a i) (L.lane b i)) }
 {
-    Some(match op {
+    match op {
         BinaryOp::Vadd => L::sums(a, b),
         BinaryOp::Vsub => L::differences(a, b),
         BinaryOp::Vrsub => L::differences(b, a),
@@ -156,14 +175,22 @@ pub fn binary<L: Lane>(op: BinaryOp, a: L::Vector, b: L::Vector) -> Option<L::Ve
         BinaryOp::Vsrl => shifted_right::<L>(a, b),
         BinaryOp::Vsra => signed_shifted_right::<L>(a, b),
         BinaryOp::Vmul => L::products(a, b),
-        BinaryOp::Vdivu
-        | BinaryOp::Vdiv
-        | BinaryOp::Vremu
-        | BinaryOp::Vrem
-        | BinaryOp::Vmulhu
-        | BinaryOp::Vmulhsu
-        | BinaryOp::Vmulh => return None,
-    })
+        _ => unreachable!(),
+    }
+}
+
+/// The results of an operation of one width, where they are made side by side.
+pub fn binary<L: Lane>(op: BinaryOp, a: L::Vector, b: L::Vector) -> Option<L::Vector>
+    requires first { (i : ℕ) → i < L.count → L.lane a i < 2 ^ bits L.width }
+    requires second { (i : ℕ) → i < L.count → L.lane b i < 2 ^ bits L.width }
+    ensures { IfSome result (λ made. (i : ℕ) → i < L.count
+        → L.lane made i ≡ wrap L.width (formula op L.width (L.lane a i) (L.lane b i))) }
+{
+    if is_side_by_side(op) {
+        Some(side_by_side::<L>(op, a, b))
+    } else {
+        None
+    }
 }
 
 /// Numbers that products are added to.

@@ -8,26 +8,39 @@ use crate::lane::Lane;
 use rv_model::{GROUP_BYTES, VLENB};
 
 /// Whether all of `count` indices from `first` on are from `start` on and below `end`.
+#[inline(always)]
 fn is_within(start: usize, end: usize, first: usize, count: usize) -> bool
     ensures { result ≡ (nat_le start first && nat_le count (end - first)) }
 {
     start <= first && count <= end.saturating_sub(first)
 }
 
-/// A bit for each of `count` indices from `first` on, set from `start` up to `end`.
-fn range_bits(start: usize, end: usize, first: usize, count: usize) -> u64
+/// `range_bits`, where not all of the bits are set.
+#[inline(never)]
+fn part_bits(start: usize, end: usize, first: usize, count: usize) -> u64
     requires { count ≤ 32 }
     ensures { (i : ℕ) → i < count → (result / 2 ^ i % 2 == 0) ≡ not (in_range start end (first + i)) }
 {
-    if is_within(start, end, first, count) {
-        return u64::MAX;
-    }
     let low = start.saturating_sub(first).min(count);
     let high = end.saturating_sub(first).min(count).max(low);
     (1 << high) - (1 << low)
 }
 
+/// A bit for each of `count` indices from `first` on, set from `start` up to `end`.
+#[inline(always)]
+fn range_bits(start: usize, end: usize, first: usize, count: usize) -> u64
+    requires { count ≤ 32 }
+    ensures { (i : ℕ) → i < count → (result / 2 ^ i % 2 == 0) ≡ not (in_range start end (first + i)) }
+{
+    if is_within(start, end, first, count) {
+        u64::MAX
+    } else {
+        part_bits(start, end, first, count)
+    }
+}
+
 /// The bits of a mask for `count` elements from `first` on.
+#[inline(always)]
 pub fn mask_bits(mask: &[u8; VLENB], first: usize, count: usize) -> u64
     requires word { first % 32 + count ≤ 32 }
     requires inside { first + count ≤ GROUP_BYTES }
@@ -38,7 +51,8 @@ pub fn mask_bits(mask: &[u8; VLENB], first: usize, count: usize) -> u64
 }
 
 /// A bit for each of `count` elements from `first` on, set where the mask lets it through.
-fn let_bits(body: &Body<'_>, first: usize, count: usize) -> u64
+#[inline(always)]
+pub fn let_bits(body: &Body<'_>, first: usize, count: usize) -> u64
     requires word { first % 32 + count ≤ 32 }
     requires inside { first + count ≤ GROUP_BYTES }
     requires some { 0 < count }
@@ -53,6 +67,7 @@ fn let_bits(body: &Body<'_>, first: usize, count: usize) -> u64
 
 /// A bit for each of `count` elements from `first` on, the lowest for the first, set where it is active. They lie
 /// in one of the mask's words of 32 bits.
+#[inline(always)]
 pub fn active_bits(body: &Body<'_>, first: usize, count: usize) -> u64
     requires word { first % 32 + count ≤ 32 }
     requires inside { first + count ≤ GROUP_BYTES }
@@ -64,6 +79,7 @@ pub fn active_bits(body: &Body<'_>, first: usize, count: usize) -> u64
 
 /// A bit for each of `count` elements from `first` on, the lowest for the first, set in the body where
 /// `fill_masked_off`.
+#[inline(always)]
 pub fn filled_bits(body: &Body<'_>, fill_masked_off: bool, first: usize, count: usize) -> u64
     requires { count ≤ 32 }
     ensures { (i : ℕ) → i < count → (result / 2 ^ i % 2 == 0) ≡ not (fill_masked_off && in_body body.now (first + i)) }

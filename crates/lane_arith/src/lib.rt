@@ -23,7 +23,7 @@ mod widen;
 
 pub use binary::Binary;
 pub use body::Body;
-pub use chunk_bits::{active_bits, filled_bits, mask_bits};
+pub use chunk_bits::{active_bits, filled_bits, let_bits, mask_bits};
 pub use compare::{CarryOut, Compare};
 pub use copies::Copies;
 pub use extend::Extend;
@@ -32,7 +32,7 @@ pub use mask_operand::{WithMaskOperand, bit_of};
 pub use mask_results::{MaskResults, write_mask_results};
 pub use multiply_add::MultiplyAdd;
 pub use narrow_shift::NarrowShift;
-pub use operand::operand_chunk;
+pub use operand::{chunk_elements, operand_chunk};
 pub use operations::apply;
 pub use results::{Results, fill, put_results, write_results};
 pub use whole_number::wrapped;

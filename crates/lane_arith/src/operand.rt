@@ -1,11 +1,22 @@
 //! Operands as chunks of 32 bytes.
-ghost use Rattle.std.specs.Prelude.{◌≡◌, ◌+◌, ◌*◌, ◌^◌, ◌<◌, ℕ, IfSome};
+ghost use Rattle.std.specs.Prelude.{◌≡◌, ◌+◌, ◌*◌, ◌^◌, ◌<◌, ◌≤◌, ℕ, IfSome, length};
 ghost use Rattle.rv_model.specs.elements.Elements.{element};
 ghost use Rattle.rv_model.specs.vector.Configuration.{width_bytes};
 ghost use mir.Val.{bits};
 
 use crate::lane::Lane;
 use std::simd::prelude::*;
+
+/// The elements of a chunk of 32 bytes, side by side.
+#[inline(always)]
+pub fn chunk_elements<L: Lane>(bytes: &[u8], chunk: usize) -> L::Vector
+    requires inside { 32 * chunk + 32 ≤ length bytes.now }
+    ensures value { (i : ℕ) → i < L.count
+        → L.lane result i ≡ element (width_bytes L.width) bytes.now (L.count * chunk + i) }
+    ensures bound { (i : ℕ) → i < L.count → L.lane result i < 2 ^ bits L.width }
+{
+    L::from_bytes(u8x32::from_slice(&bytes[32 * chunk..]))
+}
 
 /// The elements of a chunk of 32 bytes of an operand, side by side; `None` where the operand ends before the
 /// chunk does.
@@ -17,5 +28,5 @@ pub fn operand_chunk<L: Lane>(bytes: &[u8], chunk: usize) -> Option<L::Vector>
     if bytes.len() / 32 <= chunk {
         return None;
     }
-    Some(L::from_bytes(u8x32::from_slice(&bytes[32 * chunk..])))
+    Some(chunk_elements::<L>(bytes, chunk))
 }

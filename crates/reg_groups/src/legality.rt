@@ -1,5 +1,5 @@
 //! Which vector instructions are legal.
-ghost use Rattle.std.specs.Prelude.{[], ◌∷◌, ◌≡◌, ◌↔◌, ◌+◌, ◌≤◌, IsTrue, Some, None, is_none, true};
+ghost use Rattle.std.specs.Prelude.{[], ◌∷◌, ◌≡◌, ◌↔◌, ◌+◌, ◌≤◌, IsTrue, Some, None, is_none, true, ℕ};
 ghost use Rattle.rv_model.specs.instructions.Accesses.{is_typed_access};
 ghost use Rattle.rv_model.specs.legality.OperandShapes.{extension_divisor, group, mask, v0, whole};
 ghost use Rattle.rv_model.specs.legality.Legality.{IsLegal, access_operands, compress_operands, data_role, extension_operands, has_legal, has_wide_product, indexed_operands, indexed_role, is_below_64, is_fractional_product, is_legal, is_narrow, is_narrow_only, is_reduction, mask_logic_operands, mask_result, move_operands, operands, register_count, starts_at_zero, unit_role, whole_move_operands};
@@ -14,7 +14,7 @@ use rv_model::instructions::operations::{
     BinaryOp, Direction, ExtendOp, FixedPointOp, MaskUnaryOp, RegisterCount, UnitOp, VectorOp,
     Width,
 };
-use rv_model::{Field, Instr, Operand, Role, Sew, Shape, Source, VConf, VReg, VType};
+use rv_model::{Arith, Field, Instr, Operand, Role, Sew, Shape, Source, VConf, VReg, VType};
 
 /// The width of memory elements, or of indices, in bits.
 fn element_bits(width: Width) -> u16
@@ -536,6 +536,50 @@ fn is_legal(instr: &Instr, conf: &VConf, vstart: u8) -> bool
     may_have_operands(instr, conf.vtype())
         && (!starts_at_zero(instr) || vstart == 0)
         && (!is_below_64(instr) || is_narrow(conf.vtype()))
+}
+
+/// Whether an operation with a line of its own in the manual's table is legal with this vector type and vstart,
+/// by its parts (sections 3.4.2, 5.2, 5.3 and 14).
+#[tactic(auto, unfolding(rv_model::specs::legality::Legality::is_legal, rv_model::specs::legality::Legality::operands))]
+#[inline(always)]
+pub fn legal_arith(
+    arith: Arith,
+    vd: VReg,
+    vs2: VReg,
+    unmasked: bool,
+    conf: &VConf,
+    vstart: u8,
+) -> bool
+    ensures { result ≡ is_legal (Instr.VectorArith arith vd vs2 unmasked) conf.now.vtype vstart }
+{
+    let Some(vtype) = conf.vtype() else {
+        return false;
+    };
+    let (op, source) = arith.parts();
+    is_legal_shape(shape_of(op), vd, vs2, source, unmasked, vtype)
+        && (!is_reduction(op) || vstart == 0)
+        && (!is_narrow_only(op) || vtype.sew.bits() != 64)
+}
+
+/// Whether a unit-stride load or store of `nf` + 1 fields is legal with this vector type, wherever it reads or
+/// writes and whatever vstart is, by its parts (sections 3.4.2, 5.3, 7.3 and 7.8).
+#[tactic(auto, unfolding(rv_model::specs::legality::Legality::is_legal, rv_model::specs::legality::Legality::operands))]
+#[inline(always)]
+pub fn legal_unit(
+    op: UnitOp,
+    width: Width,
+    nf: Field<3>,
+    vd: VReg,
+    unmasked: bool,
+    conf: &VConf,
+) -> bool
+    ensures { (rs1 : ℕ) (vstart : ℕ)
+        → result ≡ is_legal (Instr.VectorUnit op width nf vd rs1 unmasked) conf.now.vtype vstart }
+{
+    let Some(vtype) = conf.vtype() else {
+        return false;
+    };
+    is_legal_access(unit_role(op), width, nf, vd, unmasked, vtype)
 }
 
 /// Whether an instruction is legal with this vector type and vstart; the length has no part in it. Scalar

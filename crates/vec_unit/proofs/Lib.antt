@@ -1,2 +1,4 @@
 mod CopiedOperands
 mod SegmentSteps
+mod Turns
+mod WrittenGroups

@@ -1,7 +1,7 @@
 -- The step of an access of segments, by parts that are told in another way.
 use Rattle.std.specs.Option.{is_some}
 use Rattle.std.specs.Prelude.{Option, Some, None}
-use Rattle.std.proofs.Common.{ℕ, ◌+◌, ◌≡◌, Bool, true, false, if◌then◌else◌, subst, sym}
+use Rattle.std.proofs.Common.{ℕ, ◌+◌, ◌≡◌, Bool, true, false, if◌then◌else◌, refl, subst, sym}
 use Rattle.rv_model.specs.declared.instructions.instruction.Instr.{Instr}
 use Rattle.rv_model.specs.declared.vector.policy.Policy.TheVariants.{Keep}
 use Rattle.rv_model.specs.declared.vector.types.VType.{VType}
@@ -39,6 +39,12 @@ module _ (limit : ℕ) (t : VType) (g : GroupType) (nf vd : ℕ) (unmasked : Boo
       (subst (λ p. access_step limit (fills_masked_off p t (body_of unmasked s.vector)) true
       (λ file. if fills_tail p t (body_of unmasked s.vector) then tails_filled g vd (nf + 1) s.vector.conf.vl file else file) i s ≡ stepped)
       (sym keeps) h)
+
+  -- a load or store under the policy that keeps
+  pub keeping_is : (loads : Bool) → s.policy ≡ Keep → plain_step limit loads i s ≡ stepped
+      → segment_step limit t g loads nf vd unmasked i s ≡ stepped
+  keeping_is true keeps h = kept_is true refl keeps h
+  keeping_is false keeps h = store_is false refl h
 
   -- a load of these fields, by what becomes of agnostic elements
   abbrev loading : GroupType → ℕ → ℕ → Agnostic → VectorStepped

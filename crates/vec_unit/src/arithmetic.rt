@@ -1,10 +1,11 @@
 //! Arithmetic instructions, once they are known to be legal ("V" Vector Extension 1.0, chapter 11).
-ghost use Rattle.std.specs.Prelude.{◌≡◌, ◌≤◌, IsTrue, List, Some, not, ℕ};
+ghost use Rattle.std.specs.Prelude.{◌≡◌, ◌≢◌, ◌≤◌, IsTrue, List, Some, not, ℕ};
 ghost use Rattle.rv_model.specs.vector.Configuration.{vlmax};
 ghost use Rattle.rv_model.specs.step.Hart.{hart_state};
 ghost use Rattle.rv_model.specs.memory.Memory.{Memory};
 ghost use Rattle.rv_model.specs.legality.Legality.{is_legal};
-ghost use Rattle.rv_model.specs.step.VectorStep.{arith_step, carry_step, extend_step, move_step, typed, vector_ends};
+ghost use Rattle.rv_model.specs.declared.vector.state.VState.{VState as VectorState};
+ghost use Rattle.rv_model.specs.step.VectorStep.{access_ticks, arith_step, carry_step, extend_step, move_step, typed, vector_ends};
 ghost use Rattle.vec_unit.specs.Arithmetic.{is_binary};
 
 use crate::binary::BinaryOperation;
@@ -130,6 +131,9 @@ pub(crate) fn perform_arith(
         (hart_state scalar.now state.old memory policy output)
         ≡ vector_ends result (hart_state scalar.now state.new memory policy output) }
     ensures illegal { result ≡ VEnd.Illegal → state.new ≡ state.old }
+    ensures one_tick { (limit : ℕ) (before : VectorState) (after : VectorState)
+        → access_ticks limit (Instr.VectorArith arith vd vs2 unmasked) before after result ≡ 1 }
+    ensures uncut { (index : ℕ) → result ≢ VEnd.Cut index }
 {
     let Some(vtype) = state.conf.vtype() else {
         return VEnd::Illegal;

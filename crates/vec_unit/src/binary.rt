@@ -5,15 +5,19 @@ ghost use Rattle.rv_model.specs.elements.Formulas.{has_unsigned_immediate};
 ghost use Rattle.rv_model.specs.legality.GroupBounds.{HoldsBody, IsInside, SourceIsInside};
 ghost use Rattle.rv_model.specs.vector.Configuration.{width_bytes};
 ghost use Rattle.rv_model.specs.vector.Registers.{group_of, registers};
-ghost use Rattle.std.specs.Prelude.{◌≡◌, ◌*◌, ◌<◌, ◌≤◌, ℕ, length};
+ghost use Rattle.lane_arith.specs.SideBySide.{is_side_by_side};
+ghost use Rattle.std.specs.Prelude.{◌≡◌, ◌*◌, ◌<◌, ◌≤◌, IsTrue, ℕ, false, length, true};
+ghost use Rattle.vec_unit.specs.InTurn.{IsReadFirst, SourceIsReadFirst};
 
 use crate::destination::{Destination, write_group};
 use crate::element_wise::ElementWise;
-use crate::operands::{second_copy, second_single_copy, single_copy};
+use crate::in_turn::{InTurn, is_read_first, is_source_read_first, second_number};
+use crate::operands::second_copy;
+use lane_arith::chunk::is_side_by_side;
 use lane_arith::{Binary, Body, Lane};
-use reg_groups::{group_copy, registers};
+use reg_groups::{group_copy, group_mut, registers};
 use rv_model::instructions::operations::BinaryOp;
-use rv_model::{GROUP_BYTES, Scalar, Source, VFile, VLENB, VReg};
+use rv_model::{GROUP_BYTES, Scalar, Source, VECTOR_REGISTERS, VFile, VReg};
 
 /// An operation and its sources.
 #[derive(Clone, Copy)]
@@ -59,9 +63,114 @@ impl BinaryOperation {
         write_group::<L, Binary<'_>>(&results, destination, body, file);
     }
 
-    /// Writes the results to a destination of one register.
+    /// Whether the results can be written in turn to so many registers from `vd` on: they are made side by side, and no
+    /// register of the operands is written before it is read.
     #[inline(always)]
-    fn write_single<L: Lane>(
+    fn is_in_turn(&self, vd: VReg, size: u32) -> bool
+        requires { size ≤ VECTOR_REGISTERS }
+        ensures made { result ≡ true → IsTrue (is_side_by_side self.now.op) }
+        ensures first { result ≡ true → IsReadFirst self.now.vs2 vd size }
+        ensures second { result ≡ true → SourceIsReadFirst self.now.source vd size }
+    {
+        is_side_by_side(self.op)
+            && is_read_first(self.vs2, vd, size)
+            && is_source_read_first(self.source, vd, size)
+    }
+
+    /// Writes the results in turn. Where `all`, the body is all elements of the destination.
+    #[inline(always)]
+    fn write_in_turn<L: Lane>(
+        &self,
+        all: bool,
+        fill_masked_off: bool,
+        destination: Destination,
+        body: &Body<'_>,
+        file: &mut VFile,
+        scalar: &Scalar,
+    )
+        requires all { all ≡ true → (body.now.start ≡ 0) × (body.now.end ≡ destination.count) }
+        requires operands { IsInside self.now.vs2 destination.emul × SourceIsInside self.now.source destination.emul }
+        requires destination { IsInside destination.vd destination.emul }
+        requires holds { HoldsBody L.width destination.emul destination.count body.now.end }
+        requires in_turn { IsTrue (is_side_by_side self.now.op)
+            × IsReadFirst self.now.vs2 destination.vd (registers destination.emul)
+            × SourceIsReadFirst self.now.source destination.vd (registers destination.emul) }
+        requires no_tail { destination.agnostic.fill_tail ≡ true → body.now.end ≡ destination.count }
+        ensures { file.new ≡ with_results (record { width = L.width; emul = destination.emul }) destination.vd body.now
+            fill_masked_off destination.agnostic.fill_tail
+            (binary_result (record { width = L.width; emul = destination.emul }) self.now.op self.now.vs2 self.now.source
+            file.old scalar.now) file.old }
+    {
+        let unsigned = has_unsigned_immediate(self.op);
+        let operation = InTurn {
+            op: self.op,
+            vs2: self.vs2,
+            source: self.source,
+            number: second_number(unsigned, self.source, scalar),
+        };
+        let size = registers(destination.emul) as usize;
+        let used = size.min(body.end().div_ceil(L::count()));
+        let bytes = group_mut(file, VReg::new(0), 8 * 32);
+        operation.write::<L>(destination.vd, used, body, all, fill_masked_off, bytes);
+    }
+
+    /// Writes the results in turn, of any body.
+    #[inline(never)]
+    fn write_part_in_turn<L: Lane>(
+        self,
+        destination: Destination,
+        body: &Body<'_>,
+        file: &mut VFile,
+        scalar: &Scalar,
+    )
+        requires operands { IsInside self.vs2 destination.emul × SourceIsInside self.source destination.emul }
+        requires destination { IsInside destination.vd destination.emul }
+        requires holds { HoldsBody L.width destination.emul destination.count body.now.end }
+        requires in_turn { IsTrue (is_side_by_side self.op)
+            × IsReadFirst self.vs2 destination.vd (registers destination.emul)
+            × SourceIsReadFirst self.source destination.vd (registers destination.emul) }
+        requires no_tail { destination.agnostic.fill_tail ≡ true → body.now.end ≡ destination.count }
+        ensures { file.new ≡ with_results (record { width = L.width; emul = destination.emul }) destination.vd body.now
+            destination.agnostic.fill_masked_off destination.agnostic.fill_tail
+            (binary_result (record { width = L.width; emul = destination.emul }) self.op self.vs2 self.source
+            file.old scalar.now) file.old }
+    {
+        let fill = destination.agnostic.fill_masked_off;
+        self.write_in_turn::<L>(false, fill, destination, body, file, scalar);
+    }
+
+    /// Writes the results in turn, of a body that is masked and is all elements of the destination; those that are masked off
+    /// keep.
+    #[inline(never)]
+    fn write_masked_in_turn<L: Lane>(
+        self,
+        destination: Destination,
+        body: &Body<'_>,
+        file: &mut VFile,
+        scalar: &Scalar,
+    )
+        requires full { (body.now.start ≡ 0) × (body.now.end ≡ destination.count) }
+        requires masked { body.now.unmasked ≡ false }
+        requires kept { destination.agnostic.fill_masked_off ≡ false }
+        requires operands { IsInside self.vs2 destination.emul × SourceIsInside self.source destination.emul }
+        requires destination { IsInside destination.vd destination.emul }
+        requires holds { HoldsBody L.width destination.emul destination.count body.now.end }
+        requires in_turn { IsTrue (is_side_by_side self.op)
+            × IsReadFirst self.vs2 destination.vd (registers destination.emul)
+            × SourceIsReadFirst self.source destination.vd (registers destination.emul) }
+        requires no_tail { destination.agnostic.fill_tail ≡ true → body.now.end ≡ destination.count }
+        ensures { file.new ≡ with_results (record { width = L.width; emul = destination.emul }) destination.vd body.now
+            destination.agnostic.fill_masked_off destination.agnostic.fill_tail
+            (binary_result (record { width = L.width; emul = destination.emul }) self.op self.vs2 self.source
+            file.old scalar.now) file.old }
+    {
+        let all = Body::new(false, body.mask(), 0, body.end());
+        self.write_in_turn::<L>(true, false, destination, &all, file, scalar);
+    }
+
+    /// Writes the results in turn; where all elements of the destination are active, in line.
+    #[inline(always)]
+    fn write_all<L: Lane>(
         &self,
         destination: Destination,
         body: &Body<'_>,
@@ -71,17 +180,24 @@ impl BinaryOperation {
         requires operands { IsInside self.now.vs2 destination.emul × SourceIsInside self.now.source destination.emul }
         requires destination { IsInside destination.vd destination.emul }
         requires holds { HoldsBody L.width destination.emul destination.count body.now.end }
-        requires single { registers destination.emul ≡ 1 }
+        requires in_turn { IsTrue (is_side_by_side self.now.op)
+            × IsReadFirst self.now.vs2 destination.vd (registers destination.emul)
+            × SourceIsReadFirst self.now.source destination.vd (registers destination.emul) }
+        requires no_tail { destination.agnostic.fill_tail ≡ true → body.now.end ≡ destination.count }
         ensures { file.new ≡ with_results (record { width = L.width; emul = destination.emul }) destination.vd body.now
             destination.agnostic.fill_masked_off destination.agnostic.fill_tail
             (binary_result (record { width = L.width; emul = destination.emul }) self.now.op self.now.vs2 self.now.source
             file.old scalar.now) file.old }
     {
-        let (source, emul, end) = (self.source, destination.emul, body.end());
-        let unsigned = has_unsigned_immediate(self.op);
-        let a = single_copy(file, self.vs2, emul);
-        let b = second_single_copy::<L>(unsigned, source, emul, end, file, scalar);
-        self.write_from::<L>(&a, &b, destination, body, file, scalar);
+        let keeps = !destination.agnostic.fill_masked_off;
+        if !(body.start() == 0 && body.end() == destination.count && keeps) {
+            (*self).write_part_in_turn::<L>(destination, &body.copied(), file, scalar);
+        } else if body.is_unmasked() {
+            let all = Body::new(true, body.mask(), 0, body.end());
+            self.write_in_turn::<L>(true, false, destination, &all, file, scalar);
+        } else {
+            (*self).write_masked_in_turn::<L>(destination, &body.copied(), file, scalar);
+        }
     }
 
     /// Writes the results to a destination of any size.
@@ -115,7 +231,7 @@ impl ElementWise for BinaryOperation {
 
     ghost inside = { λ o emul. IsInside o.vs2 emul × SourceIsInside o.source emul };
 
-    // What a larger group takes is copied, so that one register needs no place in memory.
+    // The elements of a body that begins with the first one and isn't masked are in line.
     #[inline(always)]
     fn write<L: Lane>(
         &self,
@@ -124,8 +240,9 @@ impl ElementWise for BinaryOperation {
         file: &mut VFile,
         scalar: &Scalar,
     ) {
-        if registers(destination.emul) == 1 {
-            self.write_single::<L>(destination, body, file, scalar);
+        let has_tail = destination.agnostic.fill_tail && body.end() != destination.count;
+        if !has_tail && self.is_in_turn(destination.vd, registers(destination.emul)) {
+            self.write_all::<L>(destination, body, file, scalar);
         } else {
             (*self).write_group::<L>(destination, &body.copied(), file, scalar);
         }

@@ -1,8 +1,10 @@
 //! One vector instruction, carried out.
-ghost use Rattle.std.specs.Prelude.{◌≡◌, ◌≤◌, IsTrue, List, not, ℕ};
+ghost use Rattle.std.specs.Prelude.{◌≡◌, ◌≢◌, ◌≤◌, IsTrue, List, not, ℕ};
+ghost use Rattle.rv_model.specs.declared.vector.state.VState.{VState as VectorState};
+ghost use Rattle.rv_model.specs.memory.Memory.{Memory};
 ghost use Rattle.rv_model.specs.step.Hart.{hart_state};
 ghost use Rattle.rv_model.specs.step.GoesOn.{InstructionGoesOn};
-ghost use Rattle.rv_model.specs.step.VectorStep.{is_vector, performed, vector_ends, vector_executed};
+ghost use Rattle.rv_model.specs.step.VectorStep.{access_ticks, is_vector, performed, vector_ends, vector_executed};
 ghost use Rattle.rv_model.specs.legality.Legality.{is_legal};
 ghost use Rattle.vec_unit.specs.Arithmetic.{is_arith};
 
@@ -10,14 +12,14 @@ use crate::arithmetic::{perform_arith, perform_carry, perform_extension, perform
 use crate::mask_instructions::{
     perform_element_index, perform_mask_logic, perform_mask_to_scalar, perform_mask_unary,
 };
-use crate::memory_instructions::perform_access;
+use crate::memory_instructions::{perform_access, perform_unit};
 use crate::permutation_instructions::{
     perform_compress, perform_move_to_scalar, perform_move_to_vector, perform_whole_move,
 };
 use crate::vset::{configure, requested_length};
-use reg_groups::legal;
-use rv_model::{Instr, Policy, RequestedLength, Scalar, VEnd, VState};
-use vector_memory::UserBytes;
+use reg_groups::{legal, legal_arith, legal_unit};
+use rv_model::{Arith, Instr, Policy, RequestedLength, Scalar, VEnd, VReg, VState};
+use vector_memory::{UnitAccess, UserBytes};
 
 /// Carries out a legal vector instruction that isn't an operation with a line of its own in the manual's table.
 #[tactic(auto, unfolding(rv_model::specs::step::VectorStep::performed))]
@@ -138,6 +140,78 @@ fn execute<M: UserBytes>(
         return VEnd::Illegal;
     }
     perform(instr, state, scalar, memory, limit, policy)
+}
+
+/// Carries out an operation with a line of its own in the manual's table, by its parts: the same as `exec` of
+/// the instruction, which neither reads nor writes memory.
+#[tactic(auto, unfolding(rv_model::specs::step::VectorStep::vector_executed, rv_model::specs::step::VectorStep::performed))]
+#[inline(always)]
+pub fn exec_arith(
+    arith: Arith,
+    vd: VReg,
+    vs2: VReg,
+    unmasked: bool,
+    state: &mut VState,
+    scalar: &Scalar,
+    policy: Policy,
+) -> VEnd
+    ensures model { (limit : ℕ) (memory : Memory) (output : List ℕ)
+        → vector_executed limit (Instr.VectorArith arith vd vs2 unmasked)
+        (hart_state scalar.now state.old memory policy output)
+        ≡ vector_ends result (hart_state scalar.now state.new memory policy output) }
+
+    // What the illegal instruction finds is what it leaves.
+    ensures illegal_state { result ≡ VEnd.Illegal → state.new ≡ state.old }
+
+    // It ends at once.
+    ensures one_tick { (limit : ℕ) (before : VectorState) (after : VectorState)
+        → access_ticks limit (Instr.VectorArith arith vd vs2 unmasked) before after result ≡ 1 }
+    ensures uncut { (index : ℕ) → result ≢ VEnd.Cut index }
+{
+    if !legal_arith(arith, vd, vs2, unmasked, &state.conf, state.vstart) {
+        return VEnd::Illegal;
+    }
+    perform_arith(arith, vd, vs2, unmasked, state, scalar, policy)
+}
+
+/// Carries out a unit-stride load or store of a user, of at most `limit` indices, by its parts: the same as `exec` of
+/// the instruction.
+#[tactic(auto, unfolding(rv_model::specs::step::VectorStep::vector_executed))]
+#[inline(always)]
+pub fn exec_unit<M: UserBytes>(
+    access: UnitAccess,
+    state: &mut VState,
+    scalar: &Scalar,
+    memory: &mut M,
+    limit: usize,
+    policy: Policy,
+) -> VEnd
+    requires limit { 1 ≤ limit }
+    ensures model { (output : List ℕ)
+        → vector_executed limit
+        (Instr.VectorUnit access.op access.width access.nf access.vd access.rs1 access.unmasked)
+        (hart_state scalar.now state.old (M.memory memory.old) policy output)
+        ≡ vector_ends result (hart_state scalar.now state.new (M.memory memory.new) policy output) }
+
+    // All else that the user's bytes hold stays.
+    ensures memory { memory.new ≡ M.with_memory memory.old (M.memory memory.new) }
+
+    // What the illegal instruction finds is what it leaves.
+    ensures illegal_state { result ≡ VEnd.Illegal → state.new ≡ state.old }
+    ensures illegal_memory { result ≡ VEnd.Illegal → memory.new ≡ memory.old }
+{
+    let UnitAccess {
+        op,
+        width,
+        nf,
+        vd,
+        unmasked,
+        ..
+    } = access;
+    if !legal_unit(op, width, nf, vd, unmasked, &state.conf) {
+        return VEnd::Illegal;
+    }
+    perform_unit(access, state, scalar, memory, limit, policy)
 }
 
 /// Carries out a vector instruction of a user, of at most `limit` indices where it is a load or store. The

@@ -13,6 +13,7 @@ mod execution;
 mod extend;
 mod first_element;
 mod fixed_point;
+mod in_turn;
 mod mask_instructions;
 mod mask_operand;
 mod mask_wise;
@@ -33,4 +34,4 @@ mod vset;
 mod whole_moves;
 mod widen;
 
-pub use execution::exec;
+pub use execution::{exec, exec_arith, exec_unit};

@@ -18,7 +18,7 @@ use crate::tails::{Fields, fill_tails};
 use reg_groups::{emul, mask_register};
 use rv_model::instructions::operations::{Direction, UnitOp, Width};
 use rv_model::{Field, Instr, MemEnd, Policy, Scalar, Sew, VEnd, VReg, VState, VType};
-use vector_memory::UserBytes;
+use vector_memory::{UnitAccess, UserBytes};
 
 /// Whether memory is read.
 #[inline(always)]
@@ -237,6 +237,107 @@ fn perform_mask_access<M: UserBytes>(
     perform_plain(instr, is_load(direction), state, scalar, memory, limit)
 }
 
+/// Carries out a legal unit-stride load or store whose tail keeps.
+#[inline(always)]
+fn perform_block<M: UserBytes>(
+    access: UnitAccess,
+    state: &mut VState,
+    scalar: &Scalar,
+    memory: &mut M,
+    limit: usize,
+) -> VEnd
+    requires legal { IsTrue (is_legal (Instr.VectorUnit access.op access.width access.nf access.vd access.rs1 access.unmasked)
+        state.old.conf.vtype state.old.vstart) }
+    requires limit { 1 ≤ limit }
+    ensures model { (policy : AgnosticPolicy) (output : List ℕ)
+        → plain_step limit (is_unit_load access.op)
+        (Instr.VectorUnit access.op access.width access.nf access.vd access.rs1 access.unmasked)
+        (hart_state scalar.now state.old (M.memory memory.old) policy output)
+        ≡ vector_ends result (hart_state scalar.now state.new (M.memory memory.new) policy output) }
+    ensures memory { memory.new ≡ M.with_memory memory.old (M.memory memory.new) }
+    ensures carried_out { result ≢ VEnd.Illegal }
+{
+    let loads = is_unit_load(access.op);
+    let end = vector_memory::run_block(access, state, scalar, memory, limit);
+    access_end(loads, end)
+}
+
+/// Carries out a legal unit-stride load or store by way of its instruction.
+#[tactic(auto, unfolding(rv_model::specs::step::VectorStep::performed))]
+#[inline(never)]
+fn perform_unit_part<M: UserBytes>(
+    access: UnitAccess,
+    state: &mut VState,
+    scalar: &Scalar,
+    memory: &mut M,
+    limit: usize,
+    policy: Policy,
+) -> VEnd
+    requires legal { IsTrue (is_legal (Instr.VectorUnit access.op access.width access.nf access.vd access.rs1 access.unmasked)
+        state.old.conf.vtype state.old.vstart) }
+    requires limit { 1 ≤ limit }
+    ensures model { (output : List ℕ)
+        → performed limit (Instr.VectorUnit access.op access.width access.nf access.vd access.rs1 access.unmasked)
+        (hart_state scalar.now state.old (M.memory memory.old) policy output)
+        ≡ vector_ends result (hart_state scalar.now state.new (M.memory memory.new) policy output) }
+    ensures memory { memory.new ≡ M.with_memory memory.old (M.memory memory.new) }
+    ensures illegal_state { result ≡ VEnd.Illegal → state.new ≡ state.old }
+    ensures illegal_memory { result ≡ VEnd.Illegal → memory.new ≡ memory.old }
+{
+    let instr = Instr::VectorUnit {
+        op: access.op,
+        width: access.width,
+        nf: access.nf,
+        vd: access.vd,
+        rs1: access.rs1,
+        vm: access.unmasked,
+    };
+    let segments = SegmentAccess::new(
+        is_unit_load(access.op),
+        Some(access.width),
+        access.nf,
+        access.vd,
+        access.unmasked,
+    );
+    perform_segments(&instr, segments, state, scalar, memory, limit, policy)
+}
+
+/// Carries out a legal unit-stride load or store, of at most `limit` indices.
+#[inline(always)]
+pub(crate) fn perform_unit<M: UserBytes>(
+    access: UnitAccess,
+    state: &mut VState,
+    scalar: &Scalar,
+    memory: &mut M,
+    limit: usize,
+    policy: Policy,
+) -> VEnd
+    requires legal { IsTrue (is_legal (Instr.VectorUnit access.op access.width access.nf access.vd access.rs1 access.unmasked)
+        state.old.conf.vtype state.old.vstart) }
+    requires limit { 1 ≤ limit }
+    ensures model { (output : List ℕ)
+        → performed limit (Instr.VectorUnit access.op access.width access.nf access.vd access.rs1 access.unmasked)
+        (hart_state scalar.now state.old (M.memory memory.old) policy output)
+        ≡ vector_ends result (hart_state scalar.now state.new (M.memory memory.new) policy output) }
+    ensures memory { memory.new ≡ M.with_memory memory.old (M.memory memory.new) }
+    ensures illegal_state { result ≡ VEnd.Illegal → state.new ≡ state.old }
+    ensures illegal_memory { result ≡ VEnd.Illegal → memory.new ≡ memory.old }
+{
+    if let Policy::Keep = policy {
+        return perform_block(access, state, scalar, memory, limit);
+    }
+    // A copy of its own for the other function, so that the operands need no place in memory before.
+    let copy = UnitAccess {
+        op: access.op,
+        width: access.width,
+        nf: access.nf,
+        vd: access.vd,
+        rs1: access.rs1,
+        unmasked: access.unmasked,
+    };
+    perform_unit_part(copy, state, scalar, memory, limit, policy)
+}
+
 /// Carries out a legal vector load or store, of at most `limit` indices.
 #[tactic(auto, unfolding(rv_model::specs::step::VectorStep::performed))]
 #[inline(never)]
@@ -264,11 +365,11 @@ pub(crate) fn perform_access<M: UserBytes>(
             width,
             nf,
             vd,
+            rs1,
             vm,
-            ..
         } => {
-            let segments = SegmentAccess::new(is_unit_load(op), Some(width), nf, vd, vm);
-            perform_segments(instr, segments, state, scalar, memory, limit, policy)
+            let access = UnitAccess::new(op, width, nf, vd, rs1, vm);
+            perform_unit(access, state, scalar, memory, limit, policy)
         }
         Instr::VectorStrided {
             direction,

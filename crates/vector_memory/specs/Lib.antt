@@ -1,3 +1,4 @@
 pub mod AccessKinds
 pub mod Blocks
 pub mod SegmentRoom
+pub mod WholeBlocks

@@ -8,11 +8,16 @@ mod field_bytes;
 mod instructions;
 mod length;
 mod loads;
+mod part_blocks;
 mod runs;
 mod segments;
 mod stores;
+mod unit_access;
 mod user_bytes;
+mod whole_blocks;
 
 pub use instructions::run;
 pub use length::index_count;
+pub use unit_access::UnitAccess;
 pub use user_bytes::UserBytes;
+pub use whole_blocks::run_block;

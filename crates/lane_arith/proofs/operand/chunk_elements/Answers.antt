@@ -1,7 +1,7 @@
 use Rattle.std.proofs.Common.{◌∙◌}
 use Rattle.rv_model.specs.vector.Configuration.{width_bytes}
 use Rattle.lane_arith.proofs.ChunkWrites.{element_of_chunk}
-use Rattle.lane_arith.proofs.operand.operand_chunk.Goals as goal
+use Rattle.lane_arith.proofs.operand.chunk_elements.Goals as goal
 
 pub returns-clause-value : goal.returns-clause-value
 returns-clause-value g c = λ i h.

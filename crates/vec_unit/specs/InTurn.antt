@@ -1,0 +1,59 @@
+-- Groups of one width whose registers are replaced one after another, each by what is made of the operands' registers of the
+-- same place ("V" Vector Extension 1.0, sections 3.4.2 and 5.2). The elements of all registers are numbered through: those of
+-- register r begin with element n * r, where a register has n.
+use Rattle.std.specs.Prelude.{ℕ, ◌+◌, ◌*◌, ◌-◌, ◌≤◌, ◌%◌, ◌^◌, ◌&&◌, ◌⊎◌, nat_le, Bool, List, ⊤}
+use Rattle.std.specs.Int.{Width}
+use mir.Val.{bits}
+use Rattle.rv_model.specs.declared.instructions.operations.BinaryOp.{BinaryOp}
+use Rattle.rv_model.specs.declared.instructions.source.Source.{Source}
+use Rattle.rv_model.specs.declared.instructions.source.Source.TheVariants as source
+use Rattle.rv_model.specs.declared.scalar.Scalar.{Scalar}
+use Rattle.rv_model.specs.elements.Elements.{element}
+use Rattle.rv_model.specs.elements.Formulas.{formula, immediate_value, wrap}
+use Rattle.rv_model.specs.scalar.Registers.{read_register}
+use Rattle.rv_model.specs.vector.Configuration.{width_bytes}
+
+-- a test of the elements of the group that begins with element `first`, as a test of all elements
+abbrev pub test_from : ℕ → (ℕ → Bool) → ℕ → Bool
+test_from first test e = nat_le first e && test (e - first)
+
+-- numbers of the elements of that group, as numbers of all elements
+abbrev pub number_from : ℕ → (ℕ → ℕ) → ℕ → ℕ
+number_from first number e = number (e - first)
+
+-- no register of the first of two groups of so many registers is replaced before its turn, where those of the second are in
+-- turn
+abbrev pub IsReadFirst : ℕ → ℕ → ℕ → Type 0
+IsReadFirst read written registers = (written ≤ read) ⊎ (read + registers ≤ written)
+
+-- the same of a second operand, if it stands in registers
+abbrev pub SourceIsReadFirst : Source → ℕ → ℕ → Type 0
+SourceIsReadFirst (source.V vs1) written registers = IsReadFirst vs1 written registers
+SourceIsReadFirst (source.X rs1) written registers = ⊤
+SourceIsReadFirst (source.I imm) written registers = ⊤
+
+-- the number of a second operand that is a scalar or an immediate
+abbrev pub second_number : Bool → Source → Scalar → ℕ
+second_number unsigned (source.V vs1) x = 0
+second_number unsigned (source.X rs1) x = read_register x rs1
+second_number unsigned (source.I imm) x = immediate_value unsigned imm
+
+-- element i of the second operand, where elements have k bytes, and a register has n: of vs1 in the list of all registers'
+-- bytes, or else this number
+abbrev pub second_in : ℕ → ℕ → Source → ℕ → List ℕ → ℕ → ℕ
+second_in k n (source.V vs1) number bytes i = element k bytes (n * vs1 + i)
+second_in k n (source.X rs1) number bytes i = number
+second_in k n (source.I imm) number bytes i = number
+
+-- the result at element i of an operation on the group from register vs2 on and a second operand, in the list of all registers'
+-- bytes; a register has n elements
+abbrev pub turn_result : Width → ℕ → BinaryOp → ℕ → Source → ℕ → List ℕ → ℕ → ℕ
+turn_result w n op vs2 source number bytes i =
+    wrap w
+    (formula op w (element (width_bytes w) bytes (n * vs2 + i)) (second_in (width_bytes w) n source (number % 2 ^ bits w) bytes i))
+
+-- registers of the second operand, if it has any
+abbrev pub SourceHasRegisters : Source → ℕ → Type 0
+SourceHasRegisters (source.V vs1) registers = vs1 + registers ≤ 32
+SourceHasRegisters (source.X rs1) registers = ⊤
+SourceHasRegisters (source.I imm) registers = ⊤

@@ -1,0 +1,134 @@
+//! Operations of one width on groups, register by register in turn ("V" Vector Extension 1.0, sections 3.4.2, 5.2
+//! and chapter 11).
+ghost use Rattle.std.specs.Prelude.{◌≡◌, ◌+◌, ◌*◌, ◌%◌, ◌^◌, ◌<◌, ◌/◌, ◌≤◌, ◌==◌, IsTrue, ℕ, false, length, not, true};
+ghost use Rattle.lane_arith.specs.SideBySide.{is_side_by_side};
+ghost use Rattle.rv_model.specs.elements.Elements.{is_active, is_changed, result_or_ones};
+ghost use Rattle.rv_model.specs.elements.Formulas.{ones};
+ghost use Rattle.rv_model.specs.elements.Writes.{Writes};
+ghost use Rattle.rv_model.specs.vector.Configuration.{width_bytes};
+ghost use Rattle.vec_unit.specs.InTurn.{IsReadFirst, SourceHasRegisters, SourceIsReadFirst, number_from, second_in, second_number, test_from, turn_result};
+ghost use mir.Val.{bits};
+
+use crate::operands::immediate_value;
+use lane_arith::chunk::side_by_side;
+use lane_arith::{Body, Lane, active_bits, chunk_elements, filled_bits, let_bits, put_results};
+use rv_model::instructions::operations::BinaryOp;
+use rv_model::{FILE_BYTES, GROUP_BYTES, Scalar, Source, VECTOR_REGISTERS, VLENB, VReg};
+
+/// Whether each of so many registers from one on is read before it is written, where those from `written` on are
+/// written in turn.
+#[inline(always)]
+pub(crate) fn is_read_first(read: VReg, written: VReg, registers: u32) -> bool
+    requires { registers ≤ VECTOR_REGISTERS }
+    ensures { result ≡ true → IsReadFirst read written registers }
+{
+    let (read, written) = (read.number(), written.number());
+    written <= read || read + registers <= written
+}
+
+/// The same of a second operand.
+#[inline(always)]
+pub(crate) fn is_source_read_first(source: Source, written: VReg, registers: u32) -> bool
+    requires { registers ≤ VECTOR_REGISTERS }
+    ensures { result ≡ true → SourceIsReadFirst source written registers }
+{
+    match source {
+        Source::V(vs1) => is_read_first(vs1, written, registers),
+        _ => true,
+    }
+}
+
+/// The number of a second operand that is a scalar or an immediate.
+#[inline(always)]
+pub(crate) fn second_number(unsigned: bool, source: Source, scalar: &Scalar) -> u64
+    ensures { result ≡ second_number unsigned source scalar.now }
+{
+    match source {
+        Source::V(_) => 0,
+        Source::X(rs1) => scalar.read(rs1),
+        Source::I(imm) => immediate_value(unsigned, imm),
+    }
+}
+
+/// `active_bits`; where `all`, the elements lie in the body, and only the mask is asked.
+#[inline(always)]
+fn active_in_turn(all: bool, body: &Body<'_>, first: usize, count: usize) -> u64
+    requires all { all ≡ true → (body.now.start ≡ 0) × (first + count ≤ body.now.end) }
+    requires word { first % 32 + count ≤ 32 }
+    requires inside { first + count ≤ GROUP_BYTES }
+    requires some { 0 < count }
+    ensures { (i : ℕ) → i < count → (result / 2 ^ i % 2 == 0) ≡ not (is_active body.now (first + i)) }
+{
+    if all {
+        let_bits(body, first, count)
+    } else {
+        active_bits(body, first, count)
+    }
+}
+
+/// An operation on the group from `vs2` on and a second operand, whose number is `number` where it is a scalar or an
+/// immediate.
+#[derive(Clone, Copy)]
+pub(crate) struct InTurn {
+    pub op: BinaryOp,
+    pub vs2: VReg,
+    pub source: Source,
+    pub number: u64,
+}
+
+impl InTurn {
+    /// The elements of a register of the second operand, side by side.
+    #[inline(always)]
+    fn second<L: Lane>(&self, register: usize, bytes: &[u8]) -> L::Vector
+        requires inside { SourceHasRegisters self.now.source (register + 1) }
+        requires whole { length bytes.now ≡ FILE_BYTES }
+        ensures value { (i : ℕ) → i < L.count → L.lane result i
+            ≡ second_in (width_bytes L.width) L.count self.now.source (self.now.number % 2 ^ bits L.width) bytes.now (L.count * register + i) }
+        ensures bound { (i : ℕ) → i < L.count → L.lane result i < 2 ^ bits L.width }
+    {
+        match self.source {
+            Source::V(vs1) => chunk_elements::<L>(bytes, vs1.number() as usize + register),
+            Source::X(_) => L::repeated(L::low_bits(self.number)),
+            Source::I(_) => L::repeated(L::low_bits(self.number)),
+        }
+    }
+
+    /// Writes the results to the first `registers` registers from `vd` on, of the bytes of all registers: in turn, so that
+    /// those of the operands are read before they are written. Where `all`, the body is all their elements.
+    #[inline(always)]
+    pub(crate) fn write<L: Lane>(
+        &self,
+        vd: VReg,
+        registers: usize,
+        body: &Body<'_>,
+        all: bool,
+        fill_masked_off: bool,
+        bytes: &mut [u8],
+    )
+        requires all { all ≡ true → (body.now.start ≡ 0) × (body.now.end ≡ L.count * registers) }
+        requires made { IsTrue (is_side_by_side self.now.op) }
+        requires first { self.now.vs2 + registers ≤ VECTOR_REGISTERS }
+        requires second { SourceHasRegisters self.now.source registers }
+        requires destination { vd + registers ≤ VECTOR_REGISTERS }
+        requires first_read { IsReadFirst self.now.vs2 vd registers }
+        requires second_read { SourceIsReadFirst self.now.source vd registers }
+        requires few { L.count * registers ≤ GROUP_BYTES }
+        requires covers { body.now.end ≤ L.count * registers }
+        requires whole { length bytes.old ≡ FILE_BYTES }
+        ensures { Writes (width_bytes L.width) (test_from (L.count * vd) (is_changed body.now fill_masked_off false))
+            (number_from (L.count * vd) (result_or_ones body.now
+            (turn_result L.width L.count self.now.op self.now.vs2 self.now.source self.now.number bytes.old) (ones L.width)))
+            bytes.old bytes.new }
+    {
+        let count = L::count();
+        let (first, vd) = (self.vs2.number() as usize, vd.number() as usize);
+        for r in 0..registers {
+            let a = chunk_elements::<L>(bytes, first + r);
+            let b = self.second::<L>(r, bytes);
+            let made = side_by_side::<L>(self.op, a, b);
+            let active = active_in_turn(all, body, count * r, count);
+            let filled = filled_bits(body, fill_masked_off, count * r, count);
+            put_results::<L>(made, active, filled, VLENB * (vd + r), bytes);
+        }
+    }
+}
