@@ -9,7 +9,9 @@ ghost use Rattle.reg_groups.specs.Roles.{is_apart_from_mask};
 
 use crate::agreement::{allows, are_legal, is_group};
 use crate::operands::{group, mask, segment, v0, whole};
-use crate::shapes::{destination, is_aligned, is_legal_shape, second_source, shape_of};
+use crate::shapes::{
+    destination, is_aligned, is_legal_shape, is_legal_single, second_source, shape_of,
+};
 use rv_model::instructions::operations::{
     BinaryOp, Direction, ExtendOp, FixedPointOp, MaskUnaryOp, RegisterCount, UnitOp, VectorOp,
     Width,
@@ -556,9 +558,17 @@ pub fn legal_arith(
         return false;
     };
     let (op, source) = arith.parts();
-    is_legal_shape(shape_of(op), vd, vs2, source, unmasked, vtype)
-        && (!is_reduction(op) || vstart == 0)
-        && (!is_narrow_only(op) || vtype.sew.bits() != 64)
+    match op {
+        VectorOp::Binary(op) => {
+            is_legal_single(vd, vs2, source, unmasked, vtype)
+                && (!has_wide_product(op) || vtype.sew.bits() != 64)
+        }
+        _ => {
+            is_legal_shape(shape_of(op), vd, vs2, source, unmasked, vtype)
+                && (!is_reduction(op) || vstart == 0)
+                && (!is_narrow_only(op) || vtype.sew.bits() != 64)
+        }
+    }
 }
 
 /// Whether a unit-stride load or store of `nf` + 1 fields is legal with this vector type, wherever it reads or

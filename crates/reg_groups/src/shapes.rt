@@ -129,7 +129,13 @@ fn is_source_aligned(source: Source, vtype: VType) -> bool
 /// aligned group that holds v0 begins with it.
 #[inline(always)]
 #[tactic(auto, using(crate::proofs::EqualWidths::single_legal))]
-fn is_legal_single(vd: VReg, vs2: VReg, source: Source, unmasked: bool, vtype: VType) -> bool
+pub(crate) fn is_legal_single(
+    vd: VReg,
+    vs2: VReg,
+    source: Source,
+    unmasked: bool,
+    vtype: VType,
+) -> bool
     ensures { result ≡ are_legal (shape_operands Shape.Single vd vs2 source unmasked vtype) }
 {
     is_aligned(vd, vtype)

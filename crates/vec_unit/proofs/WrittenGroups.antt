@@ -65,10 +65,14 @@ few_elements k n size some e small =
     let most : n * size ≤ n * 8 = mul-le-mul_left n small in
     omega arith
 
+pub within : (k n size end : ℕ) → 0 < k → k * n ≡ 32 → k * end ≤ 32 * size → end ≤ n * size
+within k n size end some e room =
+    let all : k * end ≤ k * (n * size) = rw (← mul_assoc k n size, e) room in
+    le_of_mul-le-mul_left all some
+
 pub covered : (k n size end : ℕ) → 0 < k → k * n ≡ 32 → k * end ≤ 32 * size → end ≤ n * min size (end / n + min 1 (end % n))
 covered k n size end some e room =
-    let all : k * end ≤ k * (n * size) = rw (← mul_assoc k n size, e) room in
-    let by_size : end ≤ n * size = le_of_mul-le-mul_left all some in
+    let by_size : end ≤ n * size = within k n size end some e room in
     let positive : 0 < n = positive_count n e in
     let by_count = (div_ceil_times end n positive).0 in
     least (n * size) (rw (mul_comm (end / n + min 1 (end % n)) n) at by_count) by_size
@@ -83,15 +87,12 @@ covered k n size end some e room =
       | inr high ↦ (let m : min size (end / n + min 1 (end % n)) ≡ end / n + min 1 (end % n) = omega arith in rw m a)
     ]
 
-pub all_covered : (k n size end count : ℕ) → 0 < k → k * n ≡ 32 → k * end ≤ 32 * size → 32 * size ≡ k * count → end ≡ count
-    → end ≡ n * min size (end / n + min 1 (end % n))
-all_covered k n size end count some e room whole is =
-    let covers : end ≤ n * min size (end / n + min 1 (end % n)) = covered k n size end some e room in
-    let less : min size (end / n + min 1 (end % n)) ≤ size = omega arith in
-    let most : n * min size (end / n + min 1 (end % n)) ≤ n * size = mul-le-mul_left n less in
+pub all_covered : (k n size end count : ℕ) → 0 < k → k * n ≡ 32 → 32 * size ≡ k * count → end ≡ count → end ≡ n * size
+all_covered k n size end count some e whole is =
+    let covers : end ≤ n * size = within k n size end some e (rw (is, whole) (omega arith)) in
     let full : k * (n * size) ≤ k * end = rw (← mul_assoc k n size, e, is, whole) (omega arith) in
     let least : n * size ≤ end = le_of_mul-le-mul_left full some in
-    omega (arith, covers, most, least)
+    omega (arith, covers, least)
 
 -- ---- what is written
 
@@ -213,8 +214,7 @@ turned_results g n vd number op vs2 from x body fill_masked_off fill_tail count 
     let numbers : ℕ → ℕ = result_or_ones body told (ones g.width) in
     let fits : 32 * (vd + regs) ≤ length file = omega arith in
     let written = group_written k n vd regs changes numbers file new e fits was in
-    let all : k * body.end ≤ k * (n * regs) = rw (← mul_assoc k n regs, e) room in
-    let covers : body.end ≤ n * regs = le_of_mul-le-mul_left all some in
+    let covers : body.end ≤ n * regs = within k n regs body.end some e room in
     group_replaced k n vd regs changes numbers file new e fits was some (λ i h. unchanged body fill_masked_off i (omega (arith, covers, h)))
     ∙ results_are g vd body fill_masked_off fill_tail told (binary_result g op vs2 from file x) file (group_of new vd g.emul)
     (λ i h.

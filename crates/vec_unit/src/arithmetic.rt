@@ -109,7 +109,11 @@ fn perform_operation(
         VectorOp::Binary(op) => {
             carry_out(&BinaryOperation { op, vs2, source }, target, state, scalar);
         }
-        _ => perform_rest(op, vs2, source, target, state, scalar),
+        _ => {
+            // A copy, so that the target itself needs no place in memory.
+            let target = Target { ..target };
+            perform_rest(op, vs2, source, target, state, scalar);
+        }
     }
 }
 

@@ -109,7 +109,11 @@ impl BinaryOperation {
             number: second_number(unsigned, self.source, scalar),
         };
         let size = registers(destination.emul) as usize;
-        let used = size.min(body.end().div_ceil(L::count()));
+        let used = if all {
+            size
+        } else {
+            size.min(body.end().div_ceil(L::count()))
+        };
         let bytes = group_mut(file, VReg::new(0), 8 * 32);
         operation.write::<L>(destination.vd, used, body, all, fill_masked_off, bytes);
     }
@@ -168,7 +172,8 @@ impl BinaryOperation {
         self.write_in_turn::<L>(true, false, destination, &all, file, scalar);
     }
 
-    /// Writes the results in turn; where all elements of the destination are active, in line.
+    /// Writes the results in turn; where all elements of the destination are active, in line. What is out of line is handed
+    /// copies, so that the destination and the body themselves need no place in memory.
     #[inline(always)]
     fn write_all<L: Lane>(
         &self,
@@ -191,11 +196,13 @@ impl BinaryOperation {
     {
         let keeps = !destination.agnostic.fill_masked_off;
         if !(body.start() == 0 && body.end() == destination.count && keeps) {
+            let destination = Destination { ..destination };
             (*self).write_part_in_turn::<L>(destination, &body.copied(), file, scalar);
         } else if body.is_unmasked() {
             let all = Body::new(true, body.mask(), 0, body.end());
             self.write_in_turn::<L>(true, false, destination, &all, file, scalar);
         } else {
+            let destination = Destination { ..destination };
             (*self).write_masked_in_turn::<L>(destination, &body.copied(), file, scalar);
         }
     }
@@ -244,6 +251,7 @@ impl ElementWise for BinaryOperation {
         if !has_tail && self.is_in_turn(destination.vd, registers(destination.emul)) {
             self.write_all::<L>(destination, body, file, scalar);
         } else {
+            let destination = Destination { ..destination };
             (*self).write_group::<L>(destination, &body.copied(), file, scalar);
         }
     }

@@ -36,6 +36,7 @@ pub(crate) fn mask_length(vl: usize) -> usize
 }
 
 /// How many indices an instruction has, by the vector length: none, but for loads and stores.
+#[inline(always)]
 pub fn index_count(instr: &Instr, vl: usize) -> usize
     ensures { result ≡ index_count instr.now vl }
 {

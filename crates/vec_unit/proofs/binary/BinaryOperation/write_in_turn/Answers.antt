@@ -1,31 +1,53 @@
-use Rattle.std.proofs.Common.{ℕ, ◌≡◌, ◌*◌, List, length, false, arith}
+use Rattle.std.proofs.Common.{ℕ, ◌≡◌, ◌*◌, ◌<◌, List, length, false, arith}
 use Rattle.rv_model.specs.elements.Arithmetic.{GroupType}
 use Rattle.rv_model.specs.elements.Elements.{is_changed, result_or_ones}
 use Rattle.rv_model.specs.elements.Formulas.{ones}
 use Rattle.rv_model.specs.elements.Writes.{Writes}
 use Rattle.rv_model.specs.vector.Configuration.{width_bytes}
+use Rattle.rv_model.specs.vector.Registers.{registers}
 use Rattle.rv_model.proofs.element_lemmas.Widths.{bytes_positive}
-use Rattle.vec_unit.proofs.WrittenGroups.{all_bytes, all_covered, all_put, covered, few_elements, turned_results}
+use Rattle.vec_unit.proofs.WrittenGroups.{all_bytes, all_covered, all_put, covered, few_elements, turned_results, within}
 use Rattle.vec_unit.specs.InTurn.{number_from, test_from, turn_result}
+use Rattle.vec_unit.proofs.binary.BinaryOperation.write_in_turn.Goals.{then-all, else-all}
 use Rattle.vec_unit.proofs.binary.BinaryOperation.write_in_turn.Goals as goal
 
 pub write-requires-clause-few : goal.write-requires-clause-few
 write-requires-clause-few g c =
-    few_elements (width_bytes g.L.Lane.width) g.L.Lane.count c.min-used.result (bytes_positive g.L.Lane.width) g.met.L.Lane.fills
-    (omega (arith, c.min-used.ensures, c.registers-size.ensures.value, c.requires.holds.most))
-
-pub write-requires-clause-covers : goal.write-requires-clause-covers
-write-requires-clause-covers g c =
-    rw (c.min-used.ensures, c.div_ceil.ensures, c.end.ensures, c.count.ensures, c.registers-size.ensures.value)
-    (covered (width_bytes g.L.Lane.width) g.L.Lane.count _ c.args.body.now.end (bytes_positive g.L.Lane.width) g.met.L.Lane.fills c.requires.holds.room)
+    let k : ℕ = width_bytes g.L.Lane.width in
+    let some : 0 < k = bytes_positive g.L.Lane.width in
+    elim c.if-all.branch [
+      | then-all w ↦
+          rw w.used-is
+          (few_elements k g.L.Lane.count _ some g.met.L.Lane.fills (omega (arith, c.registers-size.ensures.value, c.requires.holds.most)))
+      | else-all w ↦
+          rw w.used-is
+          (few_elements k g.L.Lane.count w.min-used.result some g.met.L.Lane.fills
+          (omega (arith, w.min-used.ensures, c.registers-size.ensures.value, c.requires.holds.most)))
+    ]
 
 pub write-requires-clause-all : goal.write-requires-clause-all
 write-requires-clause-all g c = λ all.
-    let whole : c.args.body.now.end ≡ g.L.Lane.count * c.min-used.result =
-    rw (c.min-used.ensures, c.div_ceil.ensures, c.end.ensures, c.count.ensures, c.registers-size.ensures.value)
-    (all_covered (width_bytes g.L.Lane.width) g.L.Lane.count _ c.args.body.now.end c.args.destination.count (bytes_positive g.L.Lane.width)
-    g.met.L.Lane.fills c.requires.holds.room c.requires.holds.whole (c.requires.all all).1) in
-    ((c.requires.all all).0, whole)
+    elim c.if-all.branch [
+      | then-all w ↦
+          let whole : c.args.body.now.end ≡ g.L.Lane.count * registers c.args.destination.emul =
+          all_covered (width_bytes g.L.Lane.width) g.L.Lane.count (registers c.args.destination.emul) c.args.body.now.end
+          c.args.destination.count (bytes_positive g.L.Lane.width) g.met.L.Lane.fills c.requires.holds.whole (c.requires.all all).1 in
+          rw (w.used-is, c.registers-size.ensures.value) ((c.requires.all all).0, whole)
+      | else-all w ↦ absurd (cc)
+    ]
+
+pub write-requires-clause-covers : goal.write-requires-clause-covers
+write-requires-clause-covers g c =
+    let k : ℕ = width_bytes g.L.Lane.width in
+    let some : 0 < k = bytes_positive g.L.Lane.width in
+    elim c.if-all.branch [
+      | then-all w ↦
+          rw (w.used-is, c.registers-size.ensures.value)
+          (within k g.L.Lane.count (registers c.args.destination.emul) c.args.body.now.end some g.met.L.Lane.fills c.requires.holds.room)
+      | else-all w ↦
+          rw (w.used-is, w.min-used.ensures, w.div_ceil.ensures, w.end.ensures, w.count.ensures, c.registers-size.ensures.value)
+          (covered k g.L.Lane.count _ c.args.body.now.end some g.met.L.Lane.fills c.requires.holds.room)
+    ]
 
 pub returns : goal.returns
 returns g c =
