@@ -9,14 +9,10 @@ use Rattle.std.specs.Int.{byte_at, bytes_low_first}
 use lib.Lanes.{put_chunk}
 use Rattle.rv_model.specs.elements.Elements.{byte_of, element, mask_bit}
 use Rattle.rv_model.specs.elements.Writes.{bit_or, byte_with_bits}
-use Rattle.rv_model.proofs.element_lemmas.Bits.{RebuiltTo, byte_kept}
+use Rattle.rv_model.proofs.element_lemmas.Bits.{RebuiltTo, byte_kept, same_byte}
 use Rattle.rv_model.proofs.element_lemmas.Writes.{get_or-bytes, length-bytes}
 use Rattle.lane_arith.proofs.MaskBits.{bytes_power, low_bit, word_bit}
 use Rattle.lane_arith.proofs.VectorLanes.{byte_at-is}
-
-same_byte : (f g : ℕ → Bool) → ((j : ℕ) → j < 8 → f j ≡ g j) → byte_of f ≡ byte_of g
-same_byte f g same =
-    rw (same 0 (lit< tt), same 1 (lit< tt), same 2 (lit< tt), same 3 (lit< tt), same 4 (lit< tt), same 5 (lit< tt), same 6 (lit< tt), same 7 (lit< tt)) refl
 
 -- a byte has its own bits
 byte_of_own : (y : ℕ) → y < 256 → y ≡ byte_of (λ j. y / 2 ^ j % 2 == 1)

@@ -2,7 +2,7 @@
 ghost use Rattle.std.specs.Prelude.{◌≤◌};
 
 use rv_model::instructions::operations::{Direction, Order, RegisterCount, UnitOp, Width};
-use rv_model::{Field, Instr, Reg, VReg};
+use rv_model::{Field, Instr, Reg, Sew, VReg};
 
 /// The kinds of vector loads and stores.
 #[derive(Clone, Copy)]
@@ -28,12 +28,7 @@ pub(crate) struct Form {
 pub(crate) fn bytes_of(width: Width) -> usize
     ensures { result ≤ 8 }
 {
-    match width {
-        Width::E8 => 1,
-        Width::E16 => 2,
-        Width::E32 => 4,
-        Width::E64 => 8,
-    }
+    usize::from(Sew::from_width(width).bits() / 8)
 }
 
 impl Form {

@@ -30,7 +30,7 @@ mask_bit_in bytes q j h =
     let shift : (8 * q + j) % 8 ≡ j = omega (arith, h) in
     rw (at, shift) refl
 
-same_byte : (f g : ℕ → Bool) → ((j : ℕ) → j < 8 → f j ≡ g j) → byte_of f ≡ byte_of g
+pub same_byte : (f g : ℕ → Bool) → ((j : ℕ) → j < 8 → f j ≡ g j) → byte_of f ≡ byte_of g
 same_byte f g same =
     rw (same 0 (lit< tt), same 1 (lit< tt), same 2 (lit< tt), same 3 (lit< tt), same 4 (lit< tt), same 5 (lit< tt), same 6 (lit< tt), same 7 (lit< tt)) refl
 
