@@ -16,7 +16,7 @@ use crate::vector_instructions::{execute_arith, execute_unit};
 use crate::vectors::Vectors;
 use crate::view::View;
 use arrayvec::ArrayVec;
-use rv_decode::{decode, decode_arith, decode_scalar, decode_unit};
+use rv_decode::{ArithOperation, decode, decode_arith, decode_scalar, decode_unit};
 use rv_model::{Access, Cause, Fault, GROUP_BYTES, Instr, OUTPUT_SIZE, Policy, Scalar, StepEnd};
 use vector_memory::{UnitAccess, UserBytes};
 
@@ -107,13 +107,16 @@ fn execute_vector_word<M: UserBytes, V: Vectors>(
     ensures configuration { result.0 ≡ StepEnd.Cut
         → IsConfiguration (V.lent vectors.old).state.conf }
 {
-    let operation = decode_arith(word);
-    if let Some(instr) = &operation {
-        if let Instr::VectorArith { arith, vd, vs2, vm } = *instr {
-            let seat = vectors.seat();
-            seat.state.conf.length_law();
-            return execute_arith(arith, vd, vs2, vm, word, scalar, seat, policy);
-        }
+    if let Some(operation) = decode_arith(word) {
+        let ArithOperation {
+            arith,
+            vd,
+            vs2,
+            unmasked,
+        } = operation;
+        let seat = vectors.seat();
+        seat.state.conf.length_law();
+        return execute_arith(arith, vd, vs2, unmasked, word, scalar, seat, policy);
     }
     let transfer = decode_unit(word);
     if let Some(instr) = &transfer {
@@ -175,17 +178,13 @@ fn execute<M: UserBytes, V: Vectors>(
         → IsConfiguration (V.lent vectors.old).state.conf }
 {
     let decoded = decode_scalar(word);
-    let Some(instr) = &decoded else {
-        let (end, ticks) = execute_vector_word(
-            word, scalar, memory, vectors, output, limit, policy,
-        );
-        return (end, ticks);
-    };
-    if is_touching(instr) {
-        let (end, ticks) = execute_other(word, scalar, memory, vectors, output, limit, policy);
-        return (end, ticks);
+    if let Some(instr) = &decoded {
+        if !is_touching(instr) {
+            return (execute_scalar(instr, word, scalar, memory, output), 1);
+        }
     }
-    (execute_scalar(instr, word, scalar, memory, output), 1)
+    let (end, ticks) = execute_vector_word(word, scalar, memory, vectors, output, limit, policy);
+    (end, ticks)
 }
 
 /// Carries out one instruction of a user within `limit` ticks, and answers how it ended and how many

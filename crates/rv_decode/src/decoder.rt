@@ -235,22 +235,6 @@ pub fn decode(word: u32) -> Option<Instr>
     by_opcode(word)
 }
 
-/// The vector operation that a word is, if it is one with a line of its own in the table.
-#[tactic(auto, using(crate::proofs::Shortcuts::operation_found))]
-#[inline(always)]
-pub fn decode_arith(word: u32) -> Option<Instr>
-    ensures { IfSome result (λ i. scan table word ≡ Some i) }
-{
-    match word & 0x707f {
-        0x0057 => arith(word, Major::Opi, Form::V),
-        0x4057 => arith(word, Major::Opi, Form::X),
-        0x3057 => arith(word, Major::Opi, Form::I),
-        0x2057 => arith(word, Major::Opm, Form::V),
-        0x6057 => arith(word, Major::Opm, Form::X),
-        _ => None,
-    }
-}
-
 /// The unit-stride access that a word is, if it is one.
 #[tactic(auto, using(crate::proofs::Shortcuts::access_found))]
 #[inline(always)]

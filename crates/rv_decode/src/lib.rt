@@ -1,6 +1,7 @@
 //! Words to instructions, and instructions to words.
 #![tactic(auto)]
 
+mod arith_operation;
 mod decoder;
 mod encoder;
 mod fixed_bits;
@@ -15,6 +16,7 @@ mod vector_memory;
 mod vector_operations;
 mod word_fields;
 
-pub use decoder::{decode, decode_arith, decode_scalar, decode_unit};
+pub use arith_operation::{ArithOperation, decode_arith};
+pub use decoder::{decode, decode_scalar, decode_unit};
 pub use encoder::encode;
 pub use laws::{decoded_again, encoded_again, one_row};

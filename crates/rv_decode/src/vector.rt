@@ -1,7 +1,8 @@
 //! Words to vector instructions on registers, a function for each layout of operands.
 #![tactic(auto, unfolding(rv_model::specs::instructions::Table::scan, rv_model::specs::instructions::Table::rows))]
 
-ghost use Rattle.std.specs.Prelude.{◌≡◌, bit_and};
+ghost use Rattle.std.specs.Prelude.{◌≡◌, IfSome, None, Some, bit_and};
+ghost use Rattle.rv_model.specs.instructions.BitFields.{field, flag};
 ghost use Rattle.rv_model.specs.instructions.Operations.{major_bits};
 ghost use Rattle.rv_model.specs.instructions.Table.{scan, rows, SetVlis, SetIvlis, SetVls, WholeMoves, MaskLogics, Compresses, MasksToScalar, Extends, MaskUnaries, ElementIndices, MovesToScalar, MovesToVector, Ariths, Carries, Moves};
 
@@ -13,19 +14,31 @@ use rv_model::instructions::bits;
 use rv_model::instructions::operations::{Form, Major};
 use rv_model::{Arith, Carry, Field, Instr};
 
-/// An operation with a line of its own in the table, masked or not.
+/// The operation, with a line of its own in the table, and the second source of a word of these forms.
 #[tactic(auto, using(crate::proofs::Scan::scan_arith, rv_model::proofs::instruction_lemmas::Words::form_source_of))]
 #[inline(always)]
-pub(crate) fn arith(word: u32, major: Major, form: Form) -> Option<Instr>
+pub(crate) fn operation(word: u32, major: Major, form: Form) -> Option<Arith>
     requires { bit_and word 0x707f ≡ major_bits major form }
-    ensures { result ≡ scan (rows (Ariths major form)) word }
+    ensures some { IfSome result (λ arith. scan (rows (Ariths major form)) word
+        ≡ Some (Instr.VectorArith arith (field 7 5 word) (field 20 5 word) (flag word))) }
+    ensures none { result ≡ None → scan (rows (Ariths major form)) word ≡ None }
 {
     let op = match major {
         Major::Opi => opi(word >> 26, form)?,
         Major::Opm => opm(word >> 26, form)?,
     };
+    Some(Arith::new(op, source(word, form)))
+}
+
+/// An operation with a line of its own in the table, masked or not.
+#[inline(always)]
+pub(crate) fn arith(word: u32, major: Major, form: Form) -> Option<Instr>
+    requires { bit_and word 0x707f ≡ major_bits major form }
+    ensures { result ≡ scan (rows (Ariths major form)) word }
+{
+    let arith = operation(word, major, form)?;
     Some(Instr::VectorArith {
-        arith: Arith::new(op, source(word, form)),
+        arith,
         vd: vreg(word, 7),
         vs2: vreg(word, 20),
         vm: is_unmasked(word),
