@@ -1,7 +1,7 @@
 //! What a user does once the program stands: lines by chance, of each command.
 
-use crate::draws::Draws;
 use crate::places::{CODE, GAP, address, instruction_address};
+use draws::Draws;
 use std::alloc::AllocError;
 
 /// Words that name images, of which one isn't there and one has a fault.

@@ -1,7 +1,7 @@
 //! Lines that nobody gives in good faith: each command with arguments at their limits and past them, too few or too many words,
 //! more spaces than one, bytes that are no text, lines that are too long, and lines that are nobody's.
 
-use crate::draws::Draws;
+use draws::Draws;
 use rv_model::User;
 use std::alloc::AllocError;
 

@@ -2,9 +2,9 @@
 //! at which standing of their user.
 
 use crate::bench::{Bench, Counts};
-use crate::draws::Draws;
 use crate::hostile_lines::{COMMAND_COUNT, make_line};
 use anyhow::Result;
+use draws::Draws;
 use rv_model::{Standing, USER_COUNT, User};
 use std::alloc::Global;
 use vec_monitor::Image;

@@ -5,7 +5,6 @@
 mod actions;
 mod answers;
 mod bench;
-mod draws;
 mod hostile_lines;
 mod hostile_scripts;
 mod mixing;

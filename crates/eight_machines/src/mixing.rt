@@ -12,10 +12,10 @@
 //! commands were answered differently, and a line for the hostile scripts the same. The latter also has how many commands came
 //! while their user was absent, stopped or running, of all that there are. Then comes how many lines of each kind were answered.
 use crate::bench::{Bench, Counts};
-use crate::draws::Draws;
 use crate::hostile_scripts::{Coverage, compare_hostile};
 use crate::visits::script_of;
 use anyhow::{Context, Result};
+use draws::Draws;
 use rv_model::{USER_COUNT, User};
 use std::alloc::Global;
 use std::str::Lines;

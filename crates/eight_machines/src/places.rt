@@ -1,7 +1,7 @@
 //! Where code and data lie in a user's memory.
 ghost use Rattle.std.specs.Prelude.{◌≤◌, ◌+◌, ◌*◌};
 
-use crate::draws::Draws;
+use draws::Draws;
 
 /// The bytes of a page.
 pub(crate) const PAGE: usize = 0x1000;

@@ -2,9 +2,9 @@
 //! memory for it. Commands follow each other by chance, so many are refused.
 
 use crate::actions::{add_action, add_vector, add_words};
-use crate::draws::Draws;
 use crate::places::{CODE, DATA, GAP, PAGE, address};
 use crate::programs::PROGRAMS;
+use draws::Draws;
 use std::alloc::{AllocError, Global};
 
 /// How often a user enters.

@@ -17,10 +17,9 @@ mod segments;
 
 use anyhow::{Context, Result};
 use comparison::Bench;
+use draws::Draws;
 use extremes::{compare_fields, compare_pairs};
 use many_segments::{compare_shapes, compare_sizes};
-use rand_core::SeedableRng;
-use rand_xoshiro::Xoshiro256PlusPlus;
 use random_bytes::compare_random;
 use rv_model::User;
 use segments::compare_generated;
@@ -49,7 +48,7 @@ fn main(rt: HostRuntime) -> Result<()> {
     let pool = Pool::new(alloc).ok().context("out of memory")?;
     let user = User::new(1).context("no user")?;
     let mut bench = Bench::new(alloc, pool, user);
-    let mut generator = Xoshiro256PlusPlus::seed_from_u64(1);
+    let mut draws = Draws::new(1);
     compare_cuts(good.as_slice(), &mut bench)?;
     bench.print(&rt, "cuts of a small image")?;
     compare_cuts(sort.as_slice(), &mut bench)?;
@@ -62,9 +61,9 @@ fn main(rt: HostRuntime) -> Result<()> {
     bench.print(&rt, "large segments")?;
     compare_shapes(alloc, &mut bench)?;
     bench.print(&rt, "many segments")?;
-    compare_generated(alloc, GENERATED, &mut generator, &mut bench)?;
+    compare_generated(alloc, GENERATED, &mut draws, &mut bench)?;
     bench.print(&rt, "generated segments")?;
-    compare_random(RANDOM, &mut generator, &mut bench)?;
+    compare_random(RANDOM, &mut draws, &mut bench)?;
     bench.print(&rt, "random bytes")?;
     Ok(())
 }

@@ -1,20 +1,19 @@
 //! Images of random bytes, whose file header is right at first and then less and less.
 use crate::building::file_header;
 use crate::comparison::Bench;
-use rand_core::Rng;
-use rand_xoshiro::Xoshiro256PlusPlus;
+use draws::Draws;
 use std::alloc::AllocError;
 
 /// How many bytes the longest of these images has.
 const SIZE: usize = 400;
 
 /// An image of random bytes, with a file header in which each byte is right but for one in 64.
-fn with_header(generator: &mut Xoshiro256PlusPlus) -> [u8; SIZE] {
+fn with_header(draws: &mut Draws) -> [u8; SIZE] {
     let mut image = [0; SIZE];
-    generator.fill_bytes(&mut image);
-    let header = file_header((generator.next_u32() % 5) as u16);
+    draws.fill(&mut image);
+    let header = file_header(draws.below(5) as u16);
     for (byte, told) in image.iter_mut().zip(header.iter()) {
-        if generator.next_u32() % 64 != 0 {
+        if draws.below(64) != 0 {
             *byte = *told;
         }
     }
@@ -24,15 +23,15 @@ fn with_header(generator: &mut Xoshiro256PlusPlus) -> [u8; SIZE] {
 /// So many images of random bytes, and as many that begin as an image does.
 pub(crate) fn compare_random(
     count: usize,
-    generator: &mut Xoshiro256PlusPlus,
+    draws: &mut Draws,
     bench: &mut Bench,
 ) -> Result<(), AllocError> {
     for _ in 0..count {
         let mut image = [0; SIZE];
-        generator.fill_bytes(&mut image);
-        let size = generator.next_u32() as usize % SIZE;
+        draws.fill(&mut image);
+        let size = draws.below(SIZE);
         bench.compare(&image[..size])?;
-        let image = with_header(generator);
+        let image = with_header(draws);
         bench.compare(&image)?;
     }
     Ok(())

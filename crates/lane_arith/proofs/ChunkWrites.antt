@@ -9,9 +9,8 @@ use Rattle.std.specs.Int.{byte_at}
 use lib.Lanes.{Each1, number_l, chunk, put_chunk}
 use Rattle.rv_model.specs.elements.Elements.{Body, element, in_body, in_range, is_let, is_active, is_changed, result_or_ones}
 use Rattle.rv_model.specs.elements.Writes.{Writes, byte_or}
-use Rattle.rv_model.proofs.element_lemmas.Writes.{writes_same, writes_then}
+use Rattle.rv_model.proofs.element_lemmas.Writes.{byte_at-is, writes_same, writes_then}
 use Rattle.lane_arith.proofs.MaskBits.{byte_of_number}
-use Rattle.lane_arith.proofs.VectorLanes.{byte_at-is}
 
 -- the chunk c of n elements, each written where the test lets it through
 pub record WritesChunk (k n c : ℕ) (changed : ℕ → Bool) (number : ℕ → ℕ) (old new : List ℕ) : Type 0 where

@@ -1,6 +1,6 @@
 -- Bits that tell of the elements of a chunk.
 use Rattle.std.proofs.Common.{bit_xor, cond, lit<, ◌≡◌, ℕ, zero, suc, ◌+◌, ◌-◌, ◌*◌, ◌/◌, ◌%◌, ◌^◌, ◌<◌, ◌≤◌, Bool, true, false, not, eqb, List, [], ◌∷◌, length, get_or, refl, sym, ap, ◌∙◌, arith, bit_and, min, max, ◌&&◌, inl, inr, nat_le, le-leb, lt-ltb, le-ltb}
-use Rattle.std.proofs.Math.Nat.{mul-add, mul-div-le, mul-div_cancel, mul-le-mul_left, mul-suc, mul-zero, mul_assoc, mul-le-mul_right, mul_comm, pow-le-pow_right, suc-mul, div-div-eq-div-mul, div-one, pow-suc, pow-succ'}
+use Rattle.std.proofs.Math.Nat.{mul-add, mul-div-le, mul-div_cancel, mul-le-mul_left, mul-suc, mul-zero, mul_assoc, mul-le-mul_right, mul_comm, pow-le-pow_right, suc-mul, div-div-eq-div-mul, div-one, pow-succ'}
 use Rattle.std.proofs.lemmas.Bool.{cases_lt}
 use Rattle.std.proofs.lemmas.Bool.Decides.{nat_tests}
 use Rattle.std.proofs.lemmas.Nat.{pow-add, pow_pos, and_mask}
@@ -9,6 +9,7 @@ use Rattle.std.proofs.lemmas.Simd.{length-chunk, get_or-chunk, chunk-fits, below
 use Rattle.std.specs.Int.{w8}
 use lib.Lanes.{Each1, number_l, chunk}
 use Rattle.rv_model.specs.elements.Elements.{element, in_range, mask_bit}
+use Rattle.rv_model.proofs.element_lemmas.Reads.{bytes_power}
 
 -- both bits are set
 pub both_bits : (a b i : ℕ) (p q : Bool) → eqb (a / 2 ^ i % 2) 0 ≡ not p → eqb (b / 2 ^ i % 2) 0 ≡ not q → eqb (bit_and a b / 2 ^ i % 2) 0 ≡ not (p && q)
@@ -57,12 +58,6 @@ pub low_bit : (n k i : ℕ) → i < k → n % 2 ^ k / 2 ^ i % 2 ≡ n / 2 ^ i % 
 low_bit n k i h =
     let one : (2 ^ k - 1) / 2 ^ i % 2 ≡ 1 = bit_at_ones k i h in
     ap (λ x. x / 2 ^ i % 2) (sym (and_mask n k)) ∙ bit_at_and n (2 ^ k - 1) i ∙ omega (arith, one, bit_at-lt n i)
-
-pub bytes_power : (k : ℕ) → 2 ^ (8 * k) ≡ 256 ^ k
-bytes_power zero = refl
-bytes_power (suc k) =
-    let e : 8 * suc k ≡ 8 * k + 8 = omega arith in
-    ap (λ n. 2 ^ n) e ∙ pow-add 2 (8 * k) 8 ∙ ap (λ x. x * 256) (bytes_power k) ∙ sym (pow-suc 256 k)
 
 -- a bit of the mask, read as words of 32 bits
 pub word_bit : (mask : List ℕ) (first count i : ℕ) → 4 * (first / 32) + 4 ≤ length mask → ((j : ℕ) → get_or mask j 0 < 256) → first % 32 + count ≤ 32 → i < count

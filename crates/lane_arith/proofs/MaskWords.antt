@@ -10,9 +10,9 @@ use lib.Lanes.{put_chunk}
 use Rattle.rv_model.specs.elements.Elements.{byte_of, element, mask_bit}
 use Rattle.rv_model.specs.elements.Writes.{bit_or, byte_with_bits}
 use Rattle.rv_model.proofs.element_lemmas.Bits.{RebuiltTo, byte_kept, same_byte}
-use Rattle.rv_model.proofs.element_lemmas.Writes.{get_or-bytes, length-bytes}
-use Rattle.lane_arith.proofs.MaskBits.{bytes_power, low_bit, word_bit}
-use Rattle.lane_arith.proofs.VectorLanes.{byte_at-is}
+use Rattle.rv_model.proofs.element_lemmas.Reads.{bytes_power}
+use Rattle.rv_model.proofs.element_lemmas.Writes.{byte_at-is, get_or-bytes, length-bytes}
+use Rattle.lane_arith.proofs.MaskBits.{low_bit, word_bit}
 
 -- a byte has its own bits
 byte_of_own : (y : ℕ) → y < 256 → y ≡ byte_of (λ j. y / 2 ^ j % 2 == 1)

@@ -1,6 +1,6 @@
 -- The operations on vectors, element by element.
 use Rattle.std.proofs.Common.{lit<, not, ◌≡◌, ℕ, zero, suc, ◌+◌, ◌-◌, ◌*◌, ◌/◌, ◌%◌, ◌^◌, ◌<◌, ◌≤◌, Bool, true, false, cond, eqb, List, [], ◌∷◌, map, length, get_or, replicate, refl, sym, ap, ◌∙◌, zero-add, arith, ◌&&◌, eqb-true, Fits, bit_and, inl, inr, mod-eq_of_lt}
-use Rattle.std.proofs.Math.Nat.{zero-mul, suc-mul, div-div-eq-div-mul, mod-lt, div-one}
+use Rattle.std.proofs.Math.Nat.{zero-mul, suc-mul, div-div-eq-div-mul, mod-lt}
 use Rattle.std.proofs.lemmas.Bool.{cases_lt, false≢true}
 use Rattle.std.proofs.lemmas.Bool.Decides.{nat_tests}
 use Rattle.std.proofs.lemmas.List.{get_or-map, length-map}
@@ -12,16 +12,13 @@ use lib.Lanes.{mask_l, zip2, sel_l, top, Each1, Each2, number_l, digits_l}
 use mir.Syntax.{w16, w32, w64, w128}
 use mir.Val.{bits, hbits}
 use Rattle.rv_model.specs.elements.Elements.{element}
+use Rattle.rv_model.proofs.element_lemmas.Writes.{byte_at-is}
 use Rattle.lane_arith.proofs.MaskBits.{low_bit}
 
 -- ---- elements and bytes
 
 pub wider : (k n : ℕ) (xs : List ℕ) → Each1 (Fits w8) xs → (i : ℕ) → i < n → get_or (digits_l (256 ^ k) n (number_l 256 xs)) i 0 ≡ element k xs i
 wider k n xs f i h = get_or_wider 256 k (256 ^ k) n xs i refl (below_from_Fits w8 xs f) h
-
-pub byte_at-is : (m n : ℕ) → byte_at m n ≡ n / 256 ^ m % 256
-byte_at-is zero n = ap (λ y. y % 256) (sym (div-one n))
-byte_at-is (suc m) n = refl
 
 pub narrower : (w : Width) (k n : ℕ) (xs : List ℕ) → 2 ^ bits w ≡ 256 ^ k → Each1 (Fits w) xs → (i m : ℕ) → m < k → k * i + m < n
     → get_or (digits_l 256 n (number_l (2 ^ bits w) xs)) (k * i + m) 0 ≡ byte_at m (get_or xs i 0)

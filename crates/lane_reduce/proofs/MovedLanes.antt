@@ -9,10 +9,11 @@ use lib.Lanes.{Each1, number_l, chunk, put_chunk}
 use mir.Val.{Fits, bits}
 use Rattle.rv_model.specs.elements.Elements.{element}
 use Rattle.rv_model.specs.vector.Configuration.{width_bytes}
+use Rattle.rv_model.proofs.element_lemmas.Reads.{bytes_power}
 use Rattle.rv_model.proofs.element_lemmas.Widths.{whole_bytes}
+use Rattle.rv_model.proofs.element_lemmas.Writes.{byte_at-is}
 use Rattle.lane_arith.proofs.ChunkWrites.{chunk_of_chunk}
-use Rattle.lane_arith.proofs.MaskBits.{bytes_power, count_positive}
-use Rattle.lane_arith.proofs.VectorLanes.{byte_at-is}
+use Rattle.lane_arith.proofs.MaskBits.{count_positive}
 
 -- a number of as many bytes as a width has is below 2 to the width
 pub bytes_of_width : (w : Width) → 2 ^ bits w ≡ 256 ^ width_bytes w

@@ -32,7 +32,8 @@ holds_v0 : (a n : ℕ) → 1 ≤ n → nat_lt (max a 0) (min (a + 1 * n) (0 + 1 
 holds_v0 zero n h = grind (arith, nat_tests)
 holds_v0 (suc a) n h = grind (arith, nat_tests)
 
-some_registers : (e : ℕ) → 1 ≤ registers e
+-- a group has a register
+pub some_registers : (e : ℕ) → 1 ≤ registers e
 some_registers e = omega arith
 
 masked_allows : (a : ℕ) (unmasked : Bool) (t : VType) → allows (group Write a (sew_bits t.sew) t) (v0 unmasked) ≡ (unmasked || not (a == 0))

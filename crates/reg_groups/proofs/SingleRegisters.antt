@@ -16,6 +16,7 @@ use Rattle.rv_model.specs.legality.RegisterOperands.{allows, are_legal, is_group
 use Rattle.rv_model.specs.vector.Configuration.{lmul_eighths, sew_bits}
 use Rattle.rv_model.specs.vector.Registers.{registers}
 use Rattle.rv_model.proofs.legality_lemmas.Bounds.{emul-sew}
+use Rattle.reg_groups.proofs.EqualWidths.{some_registers}
 use Rattle.reg_groups.proofs.Sources.{shape_legal}
 
 -- what a reduction asks of its operands
@@ -58,9 +59,6 @@ outside_or_first vd b m some = elim (cases_order vd b) [
     | inr above ↦ grind (arith, nat_tests, above, some)
   ]
 ]
-
-some_registers : (e : ℕ) → 1 ≤ registers e
-some_registers e = omega arith
 
 beside_elements : (s : Sew) (vd b e : ℕ)
     → allows (mask Write vd) (record { role = Read; first = b; content = Elements (sew_bits s); emul = e; fields = 1 })

@@ -101,11 +101,6 @@ put_byte-flat bs a b h = same_memory _ _ at
       | inr other ↦ elim (cases_lt x (length bs)) [ inl l ↦ inside x other l | inr l ↦ outside x other l ]
     ]
 
--- no byte written
-pub put_bytes_nothing : (m : Memory) (a : ℕ) → put_bytes m a [] ≡ m
-unfolding put_bytes
-put_bytes_nothing m a = refl
-
 -- one more byte written
 pub put_bytes_flat_more : (old bs cs : List ℕ) (a k : ℕ) → k < length cs → a + k < length bs → flat_memory bs ≡ put_bytes (flat_memory old) a (take k cs) → flat_memory (slice_set bs (a + k) (get_or cs k 0)) ≡ put_bytes (flat_memory old) a (take (k + 1) cs)
 unfolding put_bytes

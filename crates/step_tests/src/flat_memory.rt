@@ -38,7 +38,7 @@ fn copy_out(all: &[u8], addr: u64, bytes: &mut [u8])
 }
 
 // Writes the bytes from an address on.
-#[tactic(auto, using(crate::specs::FlatMemoryLaws::put_bytes_nothing, crate::specs::FlatMemoryLaws::put_bytes_flat_more))]
+#[tactic(auto, using(rv_model::proofs::memory_lemmas::Memory::put_no_bytes, crate::specs::FlatMemoryLaws::put_bytes_flat_more))]
 fn copy_in(all: &mut [u8], addr: u64, bytes: &[u8])
     requires { 0 < length bytes.now → addr + length bytes.now ≤ length all.old }
     ensures { flat_memory all.new ≡ put_bytes (flat_memory all.old) addr bytes.now }

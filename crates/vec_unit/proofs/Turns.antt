@@ -1,5 +1,5 @@
 -- Registers that are replaced in turn.
-use Rattle.std.proofs.Common.{ℕ, suc, ◌+◌, ◌-◌, ◌*◌, ◌/◌, ◌%◌, ◌^◌, ◌<◌, ◌≤◌, ◌≡◌, List, length, get_or, Bool, true, false, cond, ◌&&◌, ◌||◌, nat_lt, nat_le, refl, sym, ap, ◌∙◌, arith, inl, inr, le-leb, le-ltb, not, eqb}
+use Rattle.std.proofs.Common.{ℕ, suc, ◌+◌, ◌-◌, ◌*◌, ◌/◌, ◌%◌, ◌^◌, ◌<◌, ◌≤◌, ◌≡◌, List, length, get_or, Bool, true, false, cond, ◌&&◌, nat_lt, nat_le, refl, sym, ap, ◌∙◌, arith, inl, inr, le-leb, le-ltb, not, eqb}
 use Rattle.std.proofs.lemmas.Bool.Decides.{nat_tests}
 use Rattle.std.proofs.lemmas.Grind.{same_number_lists}
 use Rattle.std.proofs.lemmas.Simd.{length-chunk, get_or-chunk}
@@ -10,7 +10,7 @@ use Rattle.rv_model.specs.declared.instructions.source.Source.{Source}
 use Rattle.rv_model.specs.declared.instructions.source.Source.TheVariants as source
 use Rattle.rv_model.specs.elements.Elements.{Body, element, in_body, is_active, is_changed, is_let, result_or_ones}
 use Rattle.rv_model.specs.elements.Writes.{Writes}
-use Rattle.rv_model.proofs.element_lemmas.Sets.{to_end}
+use Rattle.rv_model.proofs.element_lemmas.Sets.{changed_inside, to_end}
 use Rattle.rv_model.proofs.element_lemmas.Writes.{begins, ends}
 use Rattle.lane_arith.proofs.ChunkWrites.{chunk_more, place, step_any}
 use Rattle.vec_unit.specs.InTurn.{IsReadFirst, SourceHasRegisters, SourceIsReadFirst, number_from, second_in, test_from}
@@ -45,11 +45,6 @@ at_most x y h = grind (arith, nat_tests)
 
 pub beyond : (x y : ℕ) → y < x → nat_le x y ≡ false
 beyond x y h = grind (arith, nat_tests)
-
-changed_inside : (b l o t : Bool) → ((b && l) || ((o && b) || (false && t))) ≡ true → b ≡ true
-changed_inside true l o t h = refl
-changed_inside false l true t h = h
-changed_inside false l false t h = h
 
 -- an element that isn't replaced
 kept_element : (k : ℕ) (V : ℕ → Bool) (F : ℕ → ℕ) (old new : List ℕ) (e : ℕ) → Writes k V F old new → V e ≡ false → k * e + k ≤ length old

@@ -16,9 +16,9 @@ use crate::body::body_under;
 use crate::destination::{Agnostic, agnostic_under};
 use crate::tails::{Fields, fill_tails};
 use reg_groups::{emul, mask_register};
-use rv_model::instructions::operations::{Direction, UnitOp, Width};
+use rv_model::instructions::operations::{Direction, Width};
 use rv_model::{Field, Instr, MemEnd, Policy, Scalar, Sew, VEnd, VReg, VState, VType};
-use vector_memory::{UnitAccess, UserBytes};
+use vector_memory::{UnitAccess, UserBytes, is_unit_load};
 
 /// Whether memory is read.
 #[inline(always)]
@@ -28,17 +28,6 @@ fn is_load(direction: Direction) -> bool
     match direction {
         Direction::Load => true,
         Direction::Store => false,
-    }
-}
-
-/// Whether a unit-stride access reads memory.
-#[inline(always)]
-fn is_unit_load(op: UnitOp) -> bool
-    ensures { result ≡ is_unit_load op }
-{
-    match op {
-        UnitOp::Load | UnitOp::FaultOnlyFirst => true,
-        UnitOp::Store => false,
     }
 }
 

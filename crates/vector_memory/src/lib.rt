@@ -18,6 +18,6 @@ mod whole_blocks;
 
 pub use instructions::run;
 pub use length::index_count;
-pub use unit_access::UnitAccess;
+pub use unit_access::{UnitAccess, is_unit_load};
 pub use user_bytes::UserBytes;
 pub use whole_blocks::run_block;

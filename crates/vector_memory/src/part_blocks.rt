@@ -13,9 +13,8 @@ ghost use Rattle.vector_memory.specs.declared.segments.Segments.{Segments};
 use crate::blocks::Block;
 use crate::ends::{end_without_fault, leave};
 use crate::length::element_bytes;
-use crate::unit_access::UnitAccess;
+use crate::unit_access::{UnitAccess, is_unit_load};
 use crate::user_bytes::UserBytes;
-use crate::whole_blocks::is_load;
 use rv_model::instructions::operations::Width;
 use rv_model::{FILE_BYTES, Field, GROUP_BYTES, MemEnd, VLENB, VReg, VState};
 
@@ -129,7 +128,7 @@ pub(crate) fn run_piece<M: UserBytes>(
         return None;
     }
     let block = part_block(access.width, access.vd, base, start, stop)?;
-    if is_load(access.op) {
+    if is_unit_load(access.op) {
         load_part(&block, stop, memory, state)
     } else {
         store_part(&block, stop, memory, state)

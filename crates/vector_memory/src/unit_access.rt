@@ -1,5 +1,6 @@
 //! Unit-stride loads and stores by their operands ("V" Vector Extension 1.0, sections 7.4 and 7.8).
 ghost use Rattle.std.specs.Prelude.{◌≡◌};
+ghost use Rattle.rv_model.specs.step.MemoryStep.{is_unit_load};
 
 use rv_model::instructions::operations::{UnitOp, Width};
 use rv_model::{Field, Reg, VReg};
@@ -37,5 +38,16 @@ impl UnitAccess {
             rs1,
             unmasked,
         }
+    }
+}
+
+/// Whether a unit-stride access reads memory.
+#[inline(always)]
+pub fn is_unit_load(op: UnitOp) -> bool
+    ensures { result ≡ is_unit_load op }
+{
+    match op {
+        UnitOp::Load | UnitOp::FaultOnlyFirst => true,
+        UnitOp::Store => false,
     }
 }

@@ -7,7 +7,6 @@ ghost use Rattle.rv_model.specs.declared.step.memory_end.MemEnd.TheVariants.{Don
 ghost use Rattle.rv_model.specs.declared.vector.state.VState.{VState as VectorState};
 ghost use Rattle.rv_model.specs.elements.Arithmetic.{body_of};
 ghost use Rattle.rv_model.specs.legality.Legality.{is_legal};
-ghost use Rattle.rv_model.specs.step.MemoryStep.{is_unit_load};
 ghost use Rattle.vector_memory.specs.Blocks.{IsBlock};
 ghost use Rattle.vector_memory.specs.SegmentRoom.{access_of};
 ghost use Rattle.vector_memory.specs.WholeBlocks.{element_size, unit_address, unit_segments};
@@ -17,21 +16,10 @@ use crate::blocks::Block;
 use crate::instructions::run;
 use crate::length::element_bytes;
 use crate::part_blocks::run_piece;
-use crate::unit_access::UnitAccess;
+use crate::unit_access::{UnitAccess, is_unit_load};
 use crate::user_bytes::UserBytes;
-use rv_model::instructions::operations::{UnitOp, Width};
+use rv_model::instructions::operations::Width;
 use rv_model::{FILE_BYTES, Field, GROUP_BYTES, Instr, MemEnd, Scalar, VLENB, VReg, VState};
-
-/// Whether memory is read.
-#[inline(always)]
-pub(crate) fn is_load(op: UnitOp) -> bool
-    ensures { result ≡ is_unit_load op }
-{
-    match op {
-        UnitOp::Load | UnitOp::FaultOnlyFirst => true,
-        UnitOp::Store => false,
-    }
-}
 
 /// Loads the block, if each of its bytes may be loaded; then the load is done.
 #[inline(always)]
@@ -127,7 +115,7 @@ fn run_whole<M: UserBytes>(
     let Some(block) = whole_block(access.width, access.vd, base, count) else {
         return false;
     };
-    if is_load(access.op) {
+    if is_unit_load(access.op) {
         load_whole(&block, limit, memory, state)
     } else {
         store_whole(&block, limit, memory, state)

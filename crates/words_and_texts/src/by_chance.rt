@@ -9,7 +9,6 @@
 //! The instructions and names that are expected are those of the disassembler of GNU binutils 2.40, for the names that the profile
 //! has; the numbers for texts are those of a second reader of the grammar (docs/ASSEMBLER.md), in another language.
 mod digest;
-mod draws;
 mod texts;
 mod words;
 

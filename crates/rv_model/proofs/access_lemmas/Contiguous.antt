@@ -18,7 +18,7 @@ use Rattle.rv_model.specs.memory.Memory.{Memory, bytes_at, byte_at, can_access, 
 use Rattle.rv_model.proofs.access_lemmas.Moves.{loaded-append, loaded_none, loaded_one, stored-append, stored_none, stored_one}
 use Rattle.rv_model.proofs.access_lemmas.Segments.{plan_active}
 use Rattle.rv_model.proofs.access_lemmas.Stops.{AllAllowed, Stopped, stops_cut, stops_done, transfers_more}
-use Rattle.rv_model.proofs.memory_lemmas.Memory.{can_access-at, can_access_from, length-bytes_at, put_bytes-append}
+use Rattle.rv_model.proofs.memory_lemmas.Memory.{can_access-at, can_access_from, length-bytes_at, put_bytes-append, put_no_bytes}
 
 -- ---- lists of bytes
 
@@ -51,10 +51,6 @@ bytes_after m a n k = ap (map (byte_at m)) (range_after a (a + n) n k refl) ∙ 
 no_bytes : (m : Memory) (a : ℕ) → bytes_at m a 0 ≡ []
 unfolding bytes_at
 no_bytes m a = refl
-
-put_no_bytes : (m : Memory) (a : ℕ) → put_bytes m a [] ≡ m
-unfolding put_bytes
-put_no_bytes m a = refl
 
 chunk_after : (at n k : ℕ) (file : List ℕ) → chunk at (n + k) file ≡ chunk at n file ++ chunk (at + n) k file
 chunk_after at n k file = take-add n k (drop at file) ∙ ap (λ xs. take n (drop at file) ++ take k xs) (drop-drop n at file)

@@ -18,7 +18,8 @@ element-take k n i xs h =
     let cut : drop (k * i) (take n xs) ≡ take (n - k * i) (drop (k * i) xs) = ap (λ m. drop (k * i) (take m xs)) e ∙ drop-take (k * i) (n - k * i) xs in
     ap (λ ys. number_l 256 (take k ys)) cut ∙ ap (number_l 256) (take-take k (n - k * i) (drop (k * i) xs) (omega arith))
 
-bytes_power : (k : ℕ) → 2 ^ (8 * k) ≡ 256 ^ k
+-- the bits of bytes
+pub bytes_power : (k : ℕ) → 2 ^ (8 * k) ≡ 256 ^ k
 bytes_power zero = refl
 bytes_power (suc k) =
     let e : 8 * suc k ≡ 8 * k + 8 = omega arith in

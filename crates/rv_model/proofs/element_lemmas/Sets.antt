@@ -20,7 +20,7 @@ pub inside_range : (s v e : ℕ) → s ≤ e → e < v → in_range s v e ≡ tr
 inside_range s v e from to = rw (le-leb s e from, lt-ltb e v to) refl
 
 -- Without the tail, only elements of the body change.
-changed_inside : (b l o t : Bool) → ((b && l) || ((o && b) || (false && t))) ≡ true → b ≡ true
+pub changed_inside : (b l o t : Bool) → ((b && l) || ((o && b) || (false && t))) ≡ true → b ≡ true
 changed_inside true l o t h = refl
 changed_inside false l true t h = h
 changed_inside false l false t h = h
@@ -64,18 +64,15 @@ module _ (k : ℕ) (body : Body) (fill_masked_off : Bool) (i : ℕ) (result : �
 
 -- Before and after the loop.
 module _ (k : ℕ) (body : Body) (fill_masked_off : Bool) (number : ℕ → ℕ) where
-  abbrev changes : ℕ → Bool
-  changes e = is_changed body fill_masked_off false e
-
-  in_it : (e : ℕ) → changes e ≡ true → in_body body e ≡ true
+  in_it : (e : ℕ) → is_changed body fill_masked_off false e ≡ true → in_body body e ≡ true
   in_it e h = changed_inside (in_body body e) (is_let body e) fill_masked_off (nat_le body.end e) h
 
-  pub body_begins : (xs : List ℕ) → Writes k (λ e. changes e && nat_lt e body.start) number xs xs
-  body_begins xs = begins k changes number xs body.start (λ e h. from_start body.start body.end e (in_it e h))
+  pub body_begins : (xs : List ℕ) → Writes k (λ e. is_changed body fill_masked_off false e && nat_lt e body.start) number xs xs
+  body_begins xs = begins k (is_changed body fill_masked_off false) number xs body.start (λ e h. from_start body.start body.end e (in_it e h))
 
-  pub body_ends : (old new : List ℕ) (i : ℕ) → body.end ≤ i → Writes k (λ e. changes e && nat_lt e i) number old new
-      → Writes k changes number old new
-  body_ends old new i past was = ends k changes number old new i was (λ e h. omega (arith, to_end body.start body.end e (in_it e h)))
+  pub body_ends : (old new : List ℕ) (i : ℕ) → body.end ≤ i → Writes k (λ e. is_changed body fill_masked_off false e && nat_lt e i) number old new
+      → Writes k (is_changed body fill_masked_off false) number old new
+  body_ends old new i past was = ends k (is_changed body fill_masked_off false) number old new i was (λ e h. omega (arith, to_end body.start body.end e (in_it e h)))
 
 -- A loop that writes one number to each index of a range.
 module _ (k start end : ℕ) (number : ℕ → ℕ) where
@@ -97,9 +94,6 @@ room_for k i end long h room =
 
 -- Results in the body, and then ones in the tail up to the last of n elements.
 module _ (k : ℕ) (body : Body) (fill_masked_off : Bool) (n : ℕ) (result : ℕ → ℕ) (ones : ℕ) where
-  abbrev value : ℕ → ℕ
-  value e = result_or_ones body result ones e
-
   joined : (a o t l : Bool) → l ≡ true → (a || (o || (true && t))) ≡ ((a || (o || (false && t))) || (t && l))
   joined true o t l h = refl
   joined false true t l h = refl
@@ -110,13 +104,13 @@ module _ (k : ℕ) (body : Body) (fill_masked_off : Bool) (n : ℕ) (result : �
   past_body e h = grind (arith, nat_tests)
 
   pub with_tail : (old mid new : List ℕ) → 0 < k → length old ≡ k * n
-      → Writes k (is_changed body fill_masked_off false) value old mid
+      → Writes k (is_changed body fill_masked_off false) (result_or_ones body result ones) old mid
       → Writes k (in_range body.end n) (λ e. ones) mid new
-      → Writes k (is_changed body fill_masked_off true) value old new
+      → Writes k (is_changed body fill_masked_off true) (result_or_ones body result ones) old new
   with_tail old mid new positive long first second =
       writes_same k (λ e. is_changed body fill_masked_off false e || in_range body.end n e)
-      (is_changed body fill_masked_off true) (λ e. cond (in_range body.end n e) ones (value e)) value old new
-      (writes_then k (is_changed body fill_masked_off false) (in_range body.end n) value (λ e. ones) old mid new first second)
+      (is_changed body fill_masked_off true) (λ e. cond (in_range body.end n e) ones (result_or_ones body result ones e)) (result_or_ones body result ones) old new
+      (writes_then k (is_changed body fill_masked_off false) (in_range body.end n) (result_or_ones body result ones) (λ e. ones) old mid new first second)
       (λ e h. joined (is_active body e) (fill_masked_off && in_body body e) (nat_le body.end e) (nat_lt e n)
       (lt-ltb e n (below e (omega (arith, h, long)))))
       (λ e h. numbers e (in_range body.end n e) refl)
@@ -127,7 +121,7 @@ module _ (k : ℕ) (body : Body) (fill_masked_off : Bool) (n : ℕ) (result : �
         | inr high ↦ (let up : k * n ≤ k * e = mul-le-mul_left k high in absurd (omega arith))
       ]
 
-      numbers : (e : ℕ) (b : Bool) → in_range body.end n e ≡ b → value e ≡ cond b ones (value e)
+      numbers : (e : ℕ) (b : Bool) → in_range body.end n e ≡ b → result_or_ones body result ones e ≡ cond b ones (result_or_ones body result ones e)
       numbers e true h = let off : in_body body e ≡ false = past_body e (from_start body.end n e h) in rw off refl
       numbers e false h = refl
 

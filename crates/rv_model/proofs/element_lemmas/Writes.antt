@@ -25,7 +25,8 @@ get_or-bytes i zero n m h = absurd (omega arith)
 get_or-bytes i (suc k) n zero h = let e : i + 0 ≡ i = omega arith in rw e refl
 get_or-bytes i (suc k) n (suc m) h = let e : i + suc m ≡ suc i + m = omega arith in rw e (get_or-bytes (suc i) k n m (omega arith))
 
-byte_at-is : (m n : ℕ) → byte_at m n ≡ n / 256 ^ m % 256
+-- a byte of a number
+pub byte_at-is : (m n : ℕ) → byte_at m n ≡ n / 256 ^ m % 256
 byte_at-is zero n = ap (λ y. y % 256) (sym (div-one n))
 byte_at-is (suc m) n = refl
 

@@ -53,6 +53,11 @@ pub get-put_byte_other : (m : Memory) (a b x : ℕ) → x ≢ a → get (put_byt
 unfolding put_byte put_at
 get-put_byte_other m a b x h = put_at_other m a b x (get m a) h
 
+-- no byte written
+pub put_no_bytes : (m : Memory) (a : ℕ) → put_bytes m a [] ≡ m
+unfolding put_bytes
+put_no_bytes m a = refl
+
 pub get-put_bytes_outside : (m : Memory) (a : ℕ) (bs : List ℕ) (x : ℕ) → ((x < a) ⊎ (a + length bs ≤ x)) → get (put_bytes m a bs) x ≡ get m x
 unfolding put_bytes
 get-put_bytes_outside m a [] x h = refl

@@ -2,9 +2,9 @@
 ghost use Rattle.std.specs.Prelude.{◌≤◌, length};
 
 use crate::by_chance::digest::Digest;
-use crate::by_chance::draws::Draws;
 use crate::by_chance::words::{OPCODES, word};
 use arrayvec::ArrayVec;
+use draws::Draws;
 use rv_asm::{Text, assemble, text_of};
 use std::io;
 

@@ -1,6 +1,6 @@
 //! Words through the decoder, the text and the assembler, and back.
 use crate::by_chance::digest::Digest;
-use crate::by_chance::draws::Draws;
+use draws::Draws;
 use rv_asm::{Text, assemble, text_of};
 use rv_decode::{decode, encode};
 use rv_model::Instr;
