@@ -9,11 +9,15 @@
 //! by hand; then programs that run in slices, with breakpoints, output and an instruction that is cut, side by side
 //! and each alone; and last vector instructions under the policy that makes agnostic elements ones, as QEMU carries them
 //! out.
+//!
+//! `accesses_in_parts` has each kind of vector load and store, whole and cut into slices of a few ticks: where the first
+//! slice leaves it, how many slices are left, and then the registers or the bytes, with those beside. `stopped_accesses`
+//! has the same of loads and stores that come to the end of memory, and `write_calls` what calls put out and answer.
 use std::io;
 use vec_monitor::vecmon;
 
 /// The words after the program's name.
-const LINES: [&[&str]; 57] = [
+const LINES: [&[&str]; 67] = [
     &["--help"],
     &[],
     &["empty"],
@@ -132,6 +136,16 @@ const LINES: [&[&str]; 57] = [
         "stack=recorded/stack",
         "sortgcc=recorded/sortgcc",
     ],
+    &["--quantum", "1", "accesses_in_parts"],
+    &["--quantum", "2", "accesses_in_parts"],
+    &["--quantum", "5", "accesses_in_parts"],
+    &["--quantum", "7", "accesses_in_parts"],
+    &["--quantum", "1000", "accesses_in_parts"],
+    &["--quantum", "1", "stopped_accesses"],
+    &["--quantum", "2", "stopped_accesses"],
+    &["--quantum", "5", "stopped_accesses"],
+    &["--quantum", "1000", "stopped_accesses"],
+    &["write_calls"],
     &["empty", "a=missing"],
 ];
 

@@ -1,6 +1,4 @@
 //! A terminal that the program is run at: both of its outputs go to the page.
-ghost use Rattle.std.specs.Prelude.{IsErr};
-
 use anyhow::Result;
 use std::alloc::{Allocator, Global};
 use std::fmt::Display;
@@ -13,13 +11,6 @@ use vec_monitor::vecmon;
 /// How a run is written whose standard output takes nothing.
 const FULL: &str = " > /dev/full";
 
-/// What the program never asks for.
-fn unsupported<T>() -> io::Result<T>
-    ensures { IsErr result }
-{
-    Err(io::Error::from(ErrorKind::Unsupported))
-}
-
 /// A terminal over a runtime: its files, an empty standard input, and both outputs as one, unless standard output is full.
 #[derive(Drop)]
 struct Terminal<'r, R> {
@@ -30,21 +21,21 @@ struct Terminal<'r, R> {
 impl<R: Print> Print for Terminal<'_, R> {
     fn print<D: Display + Drop>(&self, value: D) -> io::Result<()> {
         if self.is_full {
-            return unsupported();
+            return Err(io::Error::from(ErrorKind::Unsupported));
         }
         self.rt.print(value)
     }
 
     fn println<D: Display + Drop>(&self, value: D) -> io::Result<()> {
         if self.is_full {
-            return unsupported();
+            return Err(io::Error::from(ErrorKind::Unsupported));
         }
         self.rt.println(value)
     }
 
     fn write_all(&self, bytes: &[u8]) -> io::Result<()> {
         if self.is_full {
-            return unsupported();
+            return Err(io::Error::from(ErrorKind::Unsupported));
         }
         self.rt.write_all(bytes)
     }
@@ -86,39 +77,39 @@ impl<R: Files> Files for Terminal<'_, R> {
     }
 
     fn open_dir(&self, _path: &str) -> io::Result<R::Dir> {
-        unsupported()
+        Err(io::Error::from(ErrorKind::Unsupported))
     }
 
     fn metadata(&self, _path: &str) -> io::Result<Metadata> {
-        unsupported()
+        Err(io::Error::from(ErrorKind::Unsupported))
     }
 
     fn symlink_metadata(&self, _path: &str) -> io::Result<Metadata> {
-        unsupported()
+        Err(io::Error::from(ErrorKind::Unsupported))
     }
 
     fn copy(&self, _from: &str, _to: &str) -> io::Result<u64> {
-        unsupported()
+        Err(io::Error::from(ErrorKind::Unsupported))
     }
 
     fn rename(&self, _from: &str, _to: &str) -> io::Result<()> {
-        unsupported()
+        Err(io::Error::from(ErrorKind::Unsupported))
     }
 
     fn remove_file(&self, _path: &str) -> io::Result<()> {
-        unsupported()
+        Err(io::Error::from(ErrorKind::Unsupported))
     }
 
     fn create_dir(&self, _path: &str) -> io::Result<()> {
-        unsupported()
+        Err(io::Error::from(ErrorKind::Unsupported))
     }
 
     fn remove_dir(&self, _path: &str) -> io::Result<()> {
-        unsupported()
+        Err(io::Error::from(ErrorKind::Unsupported))
     }
 
     fn remove_dir_all<B: Allocator>(&self, _alloc: B, _path: &str) -> io::Result<()> {
-        unsupported()
+        Err(io::Error::from(ErrorKind::Unsupported))
     }
 }
 

@@ -78,7 +78,7 @@ fn execute_other<M: UserBytes, V: Vectors>(
 
 /// The same, sooner for a vector operation and for a unit-stride access, whose layouts are known.
 #[tactic(auto, unfolding(rv_model::specs::step::Step::executed, rv_model::specs::step::Step::dirties))]
-#[inline(never)]
+#[inline(always)]
 fn execute_vector_word<M: UserBytes, V: Vectors>(
     word: u32,
     scalar: &mut Scalar,
@@ -146,6 +146,62 @@ fn execute_vector_word<M: UserBytes, V: Vectors>(
     (end, ticks)
 }
 
+/// What an instruction is carried out under: the ticks that it may take, and what becomes of agnostic elements.
+#[derive(Clone, Copy)]
+struct Terms {
+    limit: usize,
+    policy: Policy,
+}
+
+/// Writes how an instruction ended, over `Ran`.
+#[inline(always)]
+fn write_end(ending: StepEnd, end: &mut StepEnd)
+    requires { end.old ≡ StepEnd.Ran }
+    ensures { end.new ≡ ending }
+{
+    if !matches!(ending, StepEnd::Ran) {
+        *end = ending;
+    }
+}
+
+/// The same, out of line. Answers the ticks, and writes how it ended to `end`, which is `Ran` before and mostly stays
+/// so: an answer of both would go through memory.
+#[inline(never)]
+fn execute_out_of_line<M: UserBytes, V: Vectors>(
+    word: u32,
+    scalar: &mut Scalar,
+    memory: &mut M,
+    vectors: &mut V,
+    output: &mut ArrayVec<u8, OUTPUT_SIZE>,
+    terms: Terms,
+    end: &mut StepEnd,
+) -> usize
+    requires ready { V.ready vectors.old }
+    requires limit { 1 ≤ terms.limit }
+    requires end { end.old ≡ StepEnd.Ran }
+    ensures model { LeadsTo (executed terms.limit (scan table word) word)
+        (hart_state scalar.old (V.lent vectors.old).state (M.memory memory.old) terms.policy output.old.items)
+        (hart_state scalar.new (V.lent vectors.new).state (M.memory memory.new) terms.policy output.new.items)
+        end.new result }
+    ensures memory { memory.new ≡ M.with_memory memory.old (M.memory memory.new) }
+    ensures vectors { vectors.new
+        ≡ (if touches (scan table word) then V.back vectors.old (V.lent vectors.new) else vectors.old) }
+    ensures dirty { Marks (dirties terms.limit (scan table word))
+        (hart_state scalar.old (V.lent vectors.old).state (M.memory memory.old) terms.policy)
+        (V.lent vectors.old) (V.lent vectors.new) }
+    ensures ready { V.ready vectors.new }
+    ensures uncut { GROUP_BYTES ≤ terms.limit → end.new ≢ StepEnd.Cut }
+
+    // What is cut is a vector instruction, which finds a length that its vector type allows.
+    ensures configuration { end.new ≡ StepEnd.Cut
+        → IsConfiguration (V.lent vectors.old).state.conf }
+{
+    let Terms { limit, policy } = terms;
+    let (ending, ticks) = execute_vector_word(word, scalar, memory, vectors, output, limit, policy);
+    write_end(ending, end);
+    ticks
+}
+
 /// The same, vector instructions out of line, so that a scalar instruction needs no place in memory.
 #[tactic(auto, unfolding(rv_model::specs::step::Step::executed, rv_model::specs::step::Step::dirties))]
 #[inline(always)]
@@ -183,7 +239,9 @@ fn execute<M: UserBytes, V: Vectors>(
             return (execute_scalar(instr, word, scalar, memory, output), 1);
         }
     }
-    let (end, ticks) = execute_vector_word(word, scalar, memory, vectors, output, limit, policy);
+    let mut end = StepEnd::Ran;
+    let terms = Terms { limit, policy };
+    let ticks = execute_out_of_line(word, scalar, memory, vectors, output, terms, &mut end);
     (end, ticks)
 }
 

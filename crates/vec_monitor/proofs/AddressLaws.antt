@@ -1,5 +1,7 @@
 -- Lists of addresses in rising order: what a binary search finds in one, and what an address added or taken out leaves.
-use Rattle.std.proofs.Common.{◌≡◌, ℕ, suc, ◌+◌, ◌<◌, ◌≤◌, Bool, true, false, List, [], ◌∷◌, ◌++◌, length, get_or, set, take, drop, not, cond, nat_lt, eqb, All, AllPairs, filter, insert, remove, Ok, Err, refl, sym, ◌∙◌, ap, ap₂, subst, arith, append-nil, take-append-drop, get_or-take, get_or-drop, length-take, length-drop, nat_cmp}
+use Rattle.std.proofs.Common.{◌≡◌, ℕ, suc, ◌+◌, ◌<◌, ◌≤◌, Bool, true, false, List, [], ◌∷◌, ◌++◌, length, get_or, set, take, drop, not, cond, nat_le, nat_lt, eqb, All, AllPairs, filter, insert, remove, Ok, Err, refl, sym, ◌∙◌, ap, ap₂, subst, arith, append-nil, take-append-drop, get_or-take, get_or-drop, length-take, length-drop, nat_cmp}
+use Rattle.std.specs.List.{list_any}
+use Rattle.std.specs.Prelude.{◌&&◌}
 use Rattle.std.specs.List.Sorted.{IsBinarySearchResult, IsNonDecreasingBy}
 use Rattle.std.specs.Ordering.{ordering_index}
 use Rattle.std.proofs.lemmas.Bool.Decides.{nat_tests}
@@ -9,6 +11,12 @@ use Rattle.std.proofs.lemmas.List.Elements.{All-cons, All-head, All-tail, All-ap
 use Rattle.std.proofs.lemmas.List.Kept.{AllPairs-cons, AllPairs-filter}
 use Rattle.rv_model.specs.commands.Breakpoints.{with_address, without_address}
 use Rattle.vec_monitor.specs.AddressSets.{IsRising}
+
+-- no address of none holds a program
+pub none_holds : (asked : Bool) (p : ℕ → Bool) (xs : List ℕ) → nat_le (length xs) 0 ≡ true → false ≡ (asked && list_any p xs)
+none_holds true p [] e = refl
+none_holds false p [] e = refl
+none_holds asked p (x ∷ xs) e = absurd (grind (arith, nat_tests, e))
 
 -- what a filter keeps where all pass, none passes, or a part of the list passes
 module _ (p : ℕ → Bool) where

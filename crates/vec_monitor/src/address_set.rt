@@ -43,6 +43,14 @@ impl AddressSet {
         self.addresses.as_slice().contains(&addr)
     }
 
+    /// Whether there is no address.
+    #[inline(always)]
+    pub(crate) fn is_empty(&self) -> bool
+        ensures { result ≡ nat_le (length self.now) 0 }
+    {
+        self.addresses.is_empty()
+    }
+
     /// Whether there is no room for another address.
     pub(crate) fn is_full(&self) -> bool
         ensures { result ≡ nat_le breakpoint_limit (length self.now) }

@@ -65,9 +65,13 @@ impl Context {
         context
     }
     /// Whether a breakpoint at the program counter stops the program, unless it is exempt.
+    #[tactic(auto, using(crate::proofs::AddressLaws::none_holds))]
     pub(crate) fn is_held(&self, exempt: bool) -> bool
         ensures { result ≡ (not exempt && list_any (λ a. a == self.now.scalar.pc) self.now.breakpoints) }
     {
+        if self.breakpoints.is_empty() {
+            return false;
+        }
         !exempt && self.breakpoints.contains(self.scalar.pc)
     }
     /// Whether the user has entered and the program runs.

@@ -102,78 +102,93 @@ fn step_lent<M: UserBytes>(
         (unit_after_try vectors.old.user
         (record { left = limit; hart = hart_state scalar.old (state_of vectors.old.unit.now vectors.old.user) (M.memory memory.old) policy output.old.items })
         (record_of vectors.old.unit.now)) }
+    ensures same_user { vectors.new.user ≡ vectors.old.user }
     ensures same_unit { vectors.new.unit.ghost_name ≡ vectors.old.unit.ghost_name }
 {
     vectors.unit.lending_law(vectors.user);
     step_parts(scalar, memory, vectors, output, policy, limit)
 }
 
-/// One instruction of a user, within `limit` ticks. Answers how it ended, and the ticks that it
-/// took.
-#[inline(always)]
-fn step_once<A: Allocator>(
-    context: &mut Context,
-    unit: &mut Unit,
-    pool: &mut Pool<A>,
-    user: User,
-    limit: usize,
-) -> (StepEnd, usize)
-    requires limit { 1 ≤ limit }
-    requires settled { IsSettled unit.old }
-    ensures state { (step_spec limit (context_state context.old (state_of unit.old user) (memory_of_user pool.old user))).state
-        ≡ context_state context.new (state_of unit.new user) (memory_of_user pool.new user) }
-    ensures end { (step_spec limit (context_state context.old (state_of unit.old user) (memory_of_user pool.old user))).end ≡ result.0 }
-    ensures ticks { (step_spec limit (context_state context.old (state_of unit.old user) (memory_of_user pool.old user))).ticks ≡ result.1 }
-    ensures context { context.new ≡ record context.old { scalar = context.new.scalar; output = context.new.output } }
-    ensures unit { UnitMoves user unit.old unit.new
-        (unit_after_try user (try_of limit context.old (state_of unit.old user) (memory_of_user pool.old user)) (record_of unit.old)) }
-    ensures others { pool.new ≡ with_memory pool.old user (memory_of_user pool.new user) }
-{
-    let policy = context.policy;
-    let mut memory = UserMemory { pool, user };
-    let mut vectors = UserVectors { unit, user };
-    step_lent(
-        &mut context.scalar,
-        &mut memory,
-        &mut vectors,
-        &mut context.output,
-        policy,
-        limit,
-    )
-}
-
 /// Tries one instruction of a user, within `limit` ticks. Answers why the program stops, if it
 /// does, and the ticks that it took. An instruction that ran to its end goes into the trace; after
 /// one that was cut, the program goes on as if it had just been told to run.
 #[inline(always)]
-fn try_instruction<A: Allocator>(
+fn try_instruction<A: Allocator, M: UserBytes>(
     context: &mut Context,
     trace: &mut Trace<A>,
-    unit: &mut Unit,
-    pool: &mut Pool<A>,
+    vectors: &mut UserVectors<'_>,
+    memory: &mut M,
     user: User,
     limit: usize,
 ) -> (Option<Stop>, usize)
     requires limit { 1 ≤ limit }
-    requires settled { IsSettled unit.old }
-    ensures state { after (following (step_spec limit (context_state context.old (state_of unit.old user) (memory_of_user pool.old user))).end) (step_spec limit (context_state context.old (state_of unit.old user) (memory_of_user pool.old user))).state (present context.old trace.old (state_of unit.old user) (memory_of_user pool.old user))
-        ≡ present context.new trace.new (state_of unit.new user) (memory_of_user pool.new user) }
-    ensures stop { stop_spec (following (step_spec limit (context_state context.old (state_of unit.old user) (memory_of_user pool.old user))).end) ≡ result.0 }
-    ensures ticks { (step_spec limit (context_state context.old (state_of unit.old user) (memory_of_user pool.old user))).ticks ≡ result.1 }
+    requires settled { IsSettled vectors.old.unit.now }
+    requires owner { vectors.old.user ≡ user }
+    ensures state { after (following (step_spec limit (context_state context.old (state_of vectors.old.unit.now user) (M.memory memory.old))).end) (step_spec limit (context_state context.old (state_of vectors.old.unit.now user) (M.memory memory.old))).state (present context.old trace.old (state_of vectors.old.unit.now user) (M.memory memory.old))
+        ≡ present context.new trace.new (state_of vectors.new.unit.now user) (M.memory memory.new) }
+    ensures stop { stop_spec (following (step_spec limit (context_state context.old (state_of vectors.old.unit.now user) (M.memory memory.old))).end) ≡ result.0 }
+    ensures ticks { (step_spec limit (context_state context.old (state_of vectors.old.unit.now user) (M.memory memory.old))).ticks ≡ result.1 }
     ensures entered { context.new.entered ≡ context.old.entered }
-    ensures unit { UnitMoves user unit.old unit.new
-        (unit_after_try user (try_of limit context.old (state_of unit.old user) (memory_of_user pool.old user)) (record_of unit.old)) }
-    ensures others { pool.new ≡ with_memory pool.old user (memory_of_user pool.new user) }
+    ensures unit { UnitMoves user vectors.old.unit.now vectors.new.unit.now
+        (unit_after_try user (try_of limit context.old (state_of vectors.old.unit.now user) (M.memory memory.old)) (record_of vectors.old.unit.now)) }
+    ensures others { memory.new ≡ M.with_memory memory.old (M.memory memory.new) }
+    ensures owner { vectors.new.user ≡ user }
+    ensures same_unit { vectors.new.unit.ghost_name ≡ vectors.old.unit.ghost_name }
 {
     let addr = context.scalar.pc;
-    let (end, ticks) = step_once(context, unit, pool, user, limit);
+    let policy = context.policy;
+    let (end, ticks) = step_lent(
+        &mut context.scalar,
+        memory,
+        vectors,
+        &mut context.output,
+        policy,
+        limit,
+    );
     context.fresh = false;
-    match end {
-        StepEnd::Ran => trace.record(addr),
-        StepEnd::Cut => context.fresh = true,
-        StepEnd::Exit(_) | StepEnd::Ebreak | StepEnd::Fault { .. } | StepEnd::OutputFull => {}
+    if matches!(end, StepEnd::Ran) {
+        trace.record(addr);
+        return (None, ticks);
+    }
+    if matches!(end, StepEnd::Cut) {
+        context.fresh = true;
     }
     (stop_of(end), ticks)
+}
+
+/// `steps` over what the instructions of the user are lent.
+#[inline(always)]
+fn steps_lent<A: Allocator, M: UserBytes>(
+    context: &mut Context,
+    trace: &mut Trace<A>,
+    vectors: &mut UserVectors<'_>,
+    memory: &mut M,
+    user: User,
+    count: usize,
+) -> Option<Stop>
+    requires settled { IsSettled vectors.old.unit.now }
+    requires owner { vectors.old.user ≡ user }
+    ensures state { (steps_spec count true (present context.old trace.old (state_of vectors.old.unit.now user) (M.memory memory.old))).state
+        ≡ present context.new trace.new (state_of vectors.new.unit.now user) (M.memory memory.new) }
+    ensures stop { (steps_spec count true (present context.old trace.old (state_of vectors.old.unit.now user) (M.memory memory.old))).stop ≡ result }
+    ensures entered { context.new.entered ≡ context.old.entered }
+    ensures unit { UnitMoves user vectors.old.unit.now vectors.new.unit.now
+        (unit_after_tries user (tried_steps count true (present context.old trace.old (state_of vectors.old.unit.now user) (M.memory memory.old))) (record_of vectors.old.unit.now)) }
+    ensures others { memory.new ≡ M.with_memory memory.old (M.memory memory.new) }
+    ensures same_unit { vectors.new.unit.ghost_name ≡ vectors.old.unit.ghost_name }
+{
+    let mut exempt = true;
+    for _ in 0..count {
+        if context.is_held(exempt) {
+            return Some(Stop::Breakpoint);
+        }
+        exempt = false;
+        let (stop, _) = try_instruction(context, trace, vectors, memory, user, MAX_TICKS);
+        if let Some(stop) = stop {
+            return Some(stop);
+        }
+    }
+    None
 }
 
 /// At most `count` instructions, fewer where one stops the program, or where a breakpoint stands at
@@ -195,16 +210,42 @@ pub(crate) fn steps<A: Allocator>(
         (unit_after_tries user (tried_steps count true (present context.old trace.old (state_of unit.old user) (memory_of_user pool.old user))) (record_of unit.old)) }
     ensures others { pool.new ≡ with_memory pool.old user (memory_of_user pool.new user) }
 {
-    let mut exempt = true;
-    for _ in 0..count {
-        if context.is_held(exempt) {
+    let mut memory = UserMemory { pool, user };
+    let mut vectors = UserVectors { unit, user };
+    steps_lent(context, trace, &mut vectors, &mut memory, user, count)
+}
+
+/// `slice` over what the instructions of the user are lent.
+#[inline(always)]
+fn slice_lent<A: Allocator, M: UserBytes>(
+    context: &mut Context,
+    trace: &mut Trace<A>,
+    vectors: &mut UserVectors<'_>,
+    memory: &mut M,
+    user: User,
+    quantum: usize,
+) -> Option<Stop>
+    requires settled { IsSettled vectors.old.unit.now }
+    requires owner { vectors.old.user ≡ user }
+    ensures state { (ticked quantum (present context.old trace.old (state_of vectors.old.unit.now user) (M.memory memory.old))).state
+        ≡ present context.new trace.new (state_of vectors.new.unit.now user) (M.memory memory.new) }
+    ensures stop { (ticked quantum (present context.old trace.old (state_of vectors.old.unit.now user) (M.memory memory.old))).stop ≡ result }
+    ensures entered { context.new.entered ≡ context.old.entered }
+    ensures unit { UnitMoves user vectors.old.unit.now vectors.new.unit.now
+        (unit_after_tries user (tries quantum quantum (present context.old trace.old (state_of vectors.old.unit.now user) (M.memory memory.old))) (record_of vectors.old.unit.now)) }
+    ensures others { memory.new ≡ M.with_memory memory.old (M.memory memory.new) }
+    ensures same_unit { vectors.new.unit.ghost_name ≡ vectors.old.unit.ghost_name }
+{
+    let mut left = quantum;
+    while left > 0 {
+        if context.is_held(context.fresh) {
             return Some(Stop::Breakpoint);
         }
-        exempt = false;
-        let (stop, _) = try_instruction(context, trace, unit, pool, user, MAX_TICKS);
+        let (stop, ticks) = try_instruction(context, trace, vectors, memory, user, left);
         if let Some(stop) = stop {
             return Some(stop);
         }
+        left -= ticks;
     }
     None
 }
@@ -228,16 +269,7 @@ pub(crate) fn slice<A: Allocator>(
         (unit_after_tries user (tries quantum quantum (present context.old trace.old (state_of unit.old user) (memory_of_user pool.old user))) (record_of unit.old)) }
     ensures others { pool.new ≡ with_memory pool.old user (memory_of_user pool.new user) }
 {
-    let mut left = quantum;
-    while left > 0 {
-        if context.is_held(context.fresh) {
-            return Some(Stop::Breakpoint);
-        }
-        let (stop, ticks) = try_instruction(context, trace, unit, pool, user, left);
-        if let Some(stop) = stop {
-            return Some(stop);
-        }
-        left -= ticks;
-    }
-    None
+    let mut memory = UserMemory { pool, user };
+    let mut vectors = UserVectors { unit, user };
+    slice_lent(context, trace, &mut vectors, &mut memory, user, quantum)
 }

@@ -48,3 +48,6 @@ returns-clause-unit g c =
 
 pub returns-clause-same_unit : goal.returns-clause-same_unit
 returns-clause-same_unit g c = (lender_back _ c.args.vectors.now c.step_parts.new.vectors c.step_parts.ensures.vectors).1
+
+pub returns-clause-same_user : goal.returns-clause-same_user
+returns-clause-same_user g c = (lender_back _ c.args.vectors.now c.step_parts.new.vectors c.step_parts.ensures.vectors).2

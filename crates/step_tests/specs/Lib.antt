@@ -1,2 +1,0 @@
-pub mod FlatMemory
-pub mod FlatMemoryLaws
