@@ -1,5 +1,5 @@
 //! The instruction cycle: fetch, decode, execute.
-ghost use Rattle.std.specs.Prelude.{◌≡◌, ◌≢◌, ◌≤◌, Ok, Err, if◌then◌else◌};
+ghost use Rattle.std.specs.Prelude.{◌≡◌, ◌≢◌, ◌≤◌, IfSome, Ok, Err, Some, if◌then◌else◌, true};
 ghost use Rattle.rv_model.specs.declared.memory.Access.TheVariants.{Fetch};
 ghost use Rattle.rv_model.specs.step.GoesOn.{StepGoesOn};
 ghost use Rattle.rv_model.specs.step.Hart.{ends_after, hart_state};
@@ -7,17 +7,21 @@ ghost use Rattle.rv_model.specs.instructions.Table.{scan, table};
 ghost use Rattle.rv_model.specs.memory.Memory.{can_access};
 ghost use Rattle.rv_model.specs.step.Step.{dirties, executed, fetched, step as step_spec, touches, word_at};
 ghost use Rattle.rv_model.specs.vector.Configuration.{IsConfiguration};
-ghost use Rattle.hart.specs.States.{LeadsTo, Marks};
+ghost use Rattle.rv_model.specs.vector.Seats.{IsGivenBack};
+ghost use Rattle.hart.specs.States.{Leads, LeadsTo, Marks};
 
+use crate::ends::write_end;
 use crate::faults::{fault, illegal};
 use crate::scalar_instructions::execute_scalar;
 use crate::touching_instructions::{execute_touching, is_touching};
-use crate::vector_instructions::{execute_arith, execute_unit};
+use crate::vector_instructions::{execute_arith, execute_unit, execute_whole_unit};
 use crate::vectors::Vectors;
 use crate::view::View;
 use arrayvec::ArrayVec;
 use rv_decode::{ArithOperation, decode, decode_arith, decode_scalar, decode_unit};
-use rv_model::{Access, Cause, Fault, GROUP_BYTES, Instr, OUTPUT_SIZE, Policy, Scalar, StepEnd};
+use rv_model::{
+    Access, Cause, Fault, GROUP_BYTES, Instr, OUTPUT_SIZE, Policy, Scalar, Seat, StepEnd,
+};
 use vector_memory::{UnitAccess, UserBytes};
 
 /// The word at an address.
@@ -32,7 +36,15 @@ fn fetch<M: UserBytes>(memory: &M, pc: u64) -> Result<u32, Fault>
     Ok(u32::from_le_bytes(bytes))
 }
 
-/// Carries out the instruction that a word is within `limit` ticks; one that is none is illegal.
+/// What an instruction is carried out under: the ticks that it may take, and what becomes of agnostic elements.
+#[derive(Clone, Copy)]
+struct Terms {
+    limit: usize,
+    policy: Policy,
+}
+
+/// Carries out the instruction that a word is; one that is none is illegal. Answers the ticks, and writes how it ended to
+/// `end`, which is `Ran` before and mostly stays so: an answer of both would go through memory.
 #[tactic(auto, unfolding(rv_model::specs::step::Step::executed, rv_model::specs::step::Step::dirties))]
 #[inline(never)]
 fn execute_other<M: UserBytes, V: Vectors>(
@@ -41,85 +53,110 @@ fn execute_other<M: UserBytes, V: Vectors>(
     memory: &mut M,
     vectors: &mut V,
     output: &mut ArrayVec<u8, OUTPUT_SIZE>,
-    limit: usize,
-    policy: Policy,
-) -> (StepEnd, usize)
+    terms: Terms,
+    end: &mut StepEnd,
+) -> usize
     requires ready { V.ready vectors.old }
-    requires limit { 1 ≤ limit }
-    ensures model { LeadsTo (executed limit (scan table word) word)
-        (hart_state scalar.old (V.lent vectors.old).state (M.memory memory.old) policy output.old.items)
-        (hart_state scalar.new (V.lent vectors.new).state (M.memory memory.new) policy output.new.items)
-        result.0 result.1 }
+    requires limit { 1 ≤ terms.limit }
+    requires end { end.old ≡ StepEnd.Ran }
+    ensures model { LeadsTo (executed terms.limit (scan table word) word)
+        (hart_state scalar.old (V.lent vectors.old).state (M.memory memory.old) terms.policy output.old.items)
+        (hart_state scalar.new (V.lent vectors.new).state (M.memory memory.new) terms.policy output.new.items)
+        end.new result }
     ensures memory { memory.new ≡ M.with_memory memory.old (M.memory memory.new) }
     ensures vectors { vectors.new
         ≡ (if touches (scan table word) then V.back vectors.old (V.lent vectors.new) else vectors.old) }
-    ensures dirty { Marks (dirties limit (scan table word))
-        (hart_state scalar.old (V.lent vectors.old).state (M.memory memory.old) policy)
+    ensures dirty { Marks (dirties terms.limit (scan table word))
+        (hart_state scalar.old (V.lent vectors.old).state (M.memory memory.old) terms.policy)
         (V.lent vectors.old) (V.lent vectors.new) }
     ensures ready { V.ready vectors.new }
-    ensures uncut { GROUP_BYTES ≤ limit → result.0 ≢ StepEnd.Cut }
+    ensures uncut { GROUP_BYTES ≤ terms.limit → end.new ≢ StepEnd.Cut }
 
     // What is cut is a vector instruction, which finds a length that its vector type allows.
-    ensures configuration { result.0 ≡ StepEnd.Cut
+    ensures configuration { end.new ≡ StepEnd.Cut
         → IsConfiguration (V.lent vectors.old).state.conf }
 {
     let decoded = decode(word);
     let Some(instr) = &decoded else {
-        return (illegal(word, scalar), 1);
+        write_end(illegal(word, scalar), end);
+        return 1;
     };
     if !is_touching(instr) {
-        return (execute_scalar(instr, word, scalar, memory, output), 1);
+        let ending = execute_scalar(instr, word, scalar, memory, output);
+        write_end(ending, end);
+        return 1;
     }
 
     let seat = vectors.seat();
     seat.state.conf.length_law();
-    execute_touching(instr, word, scalar, memory, seat, limit, policy)
+    let Terms { limit, policy } = terms;
+    let (ending, ticks) = execute_touching(instr, word, scalar, memory, seat, limit, policy);
+    write_end(ending, end);
+    ticks
 }
 
-/// The same, sooner for a vector operation and for a unit-stride access, whose layouts are known.
+/// Carries out the instruction that a word is, which touches the vector unit, on the seat that was lent to it. Answers the
+/// ticks, and writes how it ended to `end`, which is `Ran` before.
 #[tactic(auto, unfolding(rv_model::specs::step::Step::executed, rv_model::specs::step::Step::dirties))]
-#[inline(always)]
-fn execute_vector_word<M: UserBytes, V: Vectors>(
+#[inline(never)]
+fn execute_seated<M: UserBytes>(
     word: u32,
     scalar: &mut Scalar,
     memory: &mut M,
-    vectors: &mut V,
-    output: &mut ArrayVec<u8, OUTPUT_SIZE>,
-    limit: usize,
-    policy: Policy,
-) -> (StepEnd, usize)
-    requires ready { V.ready vectors.old }
-    requires limit { 1 ≤ limit }
-    ensures model { LeadsTo (executed limit (scan table word) word)
-        (hart_state scalar.old (V.lent vectors.old).state (M.memory memory.old) policy output.old.items)
-        (hart_state scalar.new (V.lent vectors.new).state (M.memory memory.new) policy output.new.items)
-        result.0 result.1 }
+    seat: &mut Seat,
+    terms: Terms,
+    end: &mut StepEnd,
+) -> usize
+    requires touching { touches (scan table word) ≡ true }
+    requires limit { 1 ≤ terms.limit }
+    requires end { end.old ≡ StepEnd.Ran }
+    ensures model { Leads (executed terms.limit (scan table word) word)
+        (hart_state scalar.old seat.old.state (M.memory memory.old) terms.policy)
+        (hart_state scalar.new seat.new.state (M.memory memory.new) terms.policy) end.new result }
     ensures memory { memory.new ≡ M.with_memory memory.old (M.memory memory.new) }
-    ensures vectors { vectors.new
-        ≡ (if touches (scan table word) then V.back vectors.old (V.lent vectors.new) else vectors.old) }
-    ensures dirty { Marks (dirties limit (scan table word))
-        (hart_state scalar.old (V.lent vectors.old).state (M.memory memory.old) policy)
-        (V.lent vectors.old) (V.lent vectors.new) }
-    ensures ready { V.ready vectors.new }
-    ensures uncut { GROUP_BYTES ≤ limit → result.0 ≢ StepEnd.Cut }
-
-    // What is cut is a vector instruction, which finds a length that its vector type allows.
-    ensures configuration { result.0 ≡ StepEnd.Cut
-        → IsConfiguration (V.lent vectors.old).state.conf }
+    ensures dirty { Marks (dirties terms.limit (scan table word))
+        (hart_state scalar.old seat.old.state (M.memory memory.old) terms.policy) seat.old seat.new }
+    ensures given_back { IsGivenBack seat.old seat.new }
+    ensures uncut { GROUP_BYTES ≤ terms.limit → end.new ≢ StepEnd.Cut }
 {
-    if let Some(operation) = decode_arith(word) {
-        let ArithOperation {
-            arith,
+    let Terms { limit, policy } = terms;
+    let decoded = decode(word);
+    let Some(instr) = &decoded else {
+        unreachable!()
+    };
+    let (ending, ticks) = match *instr {
+        Instr::VectorUnit {
+            op,
+            width,
+            nf,
             vd,
-            vs2,
-            unmasked,
-        } = operation;
-        let seat = vectors.seat();
-        seat.state.conf.length_law();
-        return execute_arith(arith, vd, vs2, unmasked, word, scalar, seat, policy);
-    }
-    let transfer = decode_unit(word);
-    if let Some(instr) = &transfer {
+            rs1,
+            vm,
+        } => {
+            let access = UnitAccess {
+                op,
+                width,
+                nf,
+                vd,
+                rs1,
+                unmasked: vm,
+            };
+            execute_unit(access, word, scalar, memory, seat, limit, policy)
+        }
+        _ => execute_touching(instr, word, scalar, memory, seat, limit, policy),
+    };
+    write_end(ending, end);
+    ticks
+}
+
+/// The operands of the unit-stride access that a word is, if it is one.
+#[inline(always)]
+fn decode_access(word: u32) -> Option<UnitAccess>
+    ensures { IfSome result (λ access. scan table word
+        ≡ Some (Instr.VectorUnit access.op access.width access.nf access.vd access.rs1 access.unmasked)) }
+{
+    let decoded = decode_unit(word);
+    if let Some(instr) = &decoded {
         if let Instr::VectorUnit {
             op,
             width,
@@ -129,43 +166,21 @@ fn execute_vector_word<M: UserBytes, V: Vectors>(
             vm,
         } = *instr
         {
-            let seat = vectors.seat();
-            seat.state.conf.length_law();
-            let access = UnitAccess {
+            return Some(UnitAccess {
                 op,
                 width,
                 nf,
                 vd,
                 rs1,
                 unmasked: vm,
-            };
-            return execute_unit(access, word, scalar, memory, seat, limit, policy);
+            });
         }
     }
-    let (end, ticks) = execute_other(word, scalar, memory, vectors, output, limit, policy);
-    (end, ticks)
+    None
 }
 
-/// What an instruction is carried out under: the ticks that it may take, and what becomes of agnostic elements.
-#[derive(Clone, Copy)]
-struct Terms {
-    limit: usize,
-    policy: Policy,
-}
-
-/// Writes how an instruction ended, over `Ran`.
-#[inline(always)]
-fn write_end(ending: StepEnd, end: &mut StepEnd)
-    requires { end.old ≡ StepEnd.Ran }
-    ensures { end.new ≡ ending }
-{
-    if !matches!(ending, StepEnd::Ran) {
-        *end = ending;
-    }
-}
-
-/// The same, out of line. Answers the ticks, and writes how it ended to `end`, which is `Ran` before and mostly stays
-/// so: an answer of both would go through memory.
+/// The same as `execute_other`, sooner for a vector operation and for a unit-stride access, whose layouts are known.
+#[tactic(auto, unfolding(rv_model::specs::step::Step::executed, rv_model::specs::step::Step::dirties))]
 #[inline(never)]
 fn execute_out_of_line<M: UserBytes, V: Vectors>(
     word: u32,
@@ -197,12 +212,68 @@ fn execute_out_of_line<M: UserBytes, V: Vectors>(
         → IsConfiguration (V.lent vectors.old).state.conf }
 {
     let Terms { limit, policy } = terms;
-    let (ending, ticks) = execute_vector_word(word, scalar, memory, vectors, output, limit, policy);
-    write_end(ending, end);
-    ticks
+    if let Some(operation) = decode_arith(word) {
+        let ArithOperation {
+            arith,
+            vd,
+            vs2,
+            unmasked,
+        } = operation;
+        let seat = vectors.seat();
+        seat.state.conf.length_law();
+        let (ending, ticks) = execute_arith(arith, vd, vs2, unmasked, word, scalar, seat, policy);
+        write_end(ending, end);
+        return ticks;
+    }
+    if let Some(access) = decode_access(word) {
+        let seat = vectors.seat();
+        seat.state.conf.length_law();
+        if let Some(ticks) = execute_whole_unit(access, scalar, memory, seat, limit, policy) {
+            return ticks;
+        }
+        return execute_seated(word, scalar, memory, seat, terms, end);
+    }
+    execute_other(word, scalar, memory, vectors, output, terms, end)
 }
 
-/// The same, vector instructions out of line, so that a scalar instruction needs no place in memory.
+/// The same as `execute_out_of_line`. It stands by itself since the place for how it ended is made zero where its function
+/// begins, which a scalar instruction needn't wait for.
+#[inline(always)]
+fn execute_vector_word<M: UserBytes, V: Vectors>(
+    word: u32,
+    scalar: &mut Scalar,
+    memory: &mut M,
+    vectors: &mut V,
+    output: &mut ArrayVec<u8, OUTPUT_SIZE>,
+    limit: usize,
+    policy: Policy,
+) -> (StepEnd, usize)
+    requires ready { V.ready vectors.old }
+    requires limit { 1 ≤ limit }
+    ensures model { LeadsTo (executed limit (scan table word) word)
+        (hart_state scalar.old (V.lent vectors.old).state (M.memory memory.old) policy output.old.items)
+        (hart_state scalar.new (V.lent vectors.new).state (M.memory memory.new) policy output.new.items)
+        result.0 result.1 }
+    ensures memory { memory.new ≡ M.with_memory memory.old (M.memory memory.new) }
+    ensures vectors { vectors.new
+        ≡ (if touches (scan table word) then V.back vectors.old (V.lent vectors.new) else vectors.old) }
+    ensures dirty { Marks (dirties limit (scan table word))
+        (hart_state scalar.old (V.lent vectors.old).state (M.memory memory.old) policy)
+        (V.lent vectors.old) (V.lent vectors.new) }
+    ensures ready { V.ready vectors.new }
+    ensures uncut { GROUP_BYTES ≤ limit → result.0 ≢ StepEnd.Cut }
+
+    // What is cut is a vector instruction, which finds a length that its vector type allows.
+    ensures configuration { result.0 ≡ StepEnd.Cut
+        → IsConfiguration (V.lent vectors.old).state.conf }
+{
+    let mut end = StepEnd::Ran;
+    let terms = Terms { limit, policy };
+    let ticks = execute_out_of_line(word, scalar, memory, vectors, output, terms, &mut end);
+    (end, ticks)
+}
+
+/// The same as `execute_other`, vector instructions out of line, so that a scalar one needs no place in memory.
 #[tactic(auto, unfolding(rv_model::specs::step::Step::executed, rv_model::specs::step::Step::dirties))]
 #[inline(always)]
 fn execute<M: UserBytes, V: Vectors>(
@@ -239,10 +310,7 @@ fn execute<M: UserBytes, V: Vectors>(
             return (execute_scalar(instr, word, scalar, memory, output), 1);
         }
     }
-    let mut end = StepEnd::Ran;
-    let terms = Terms { limit, policy };
-    let ticks = execute_out_of_line(word, scalar, memory, vectors, output, terms, &mut end);
-    (end, ticks)
+    execute_vector_word(word, scalar, memory, vectors, output, limit, policy)
 }
 
 /// Carries out one instruction of a user within `limit` ticks, and answers how it ended and how many

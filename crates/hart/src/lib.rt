@@ -4,6 +4,7 @@
 mod control_access;
 mod control_registers;
 mod control_transfer;
+mod ends;
 mod environment_call;
 mod faults;
 mod instruction_cycle;

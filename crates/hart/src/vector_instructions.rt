@@ -1,5 +1,5 @@
 //! Instructions of the vector extension, on a vector state that was lent to them.
-ghost use Rattle.std.specs.Prelude.{◌≡◌, ◌≢◌, ◌≤◌, ◌||◌, IsTrue, List, ℕ};
+ghost use Rattle.std.specs.Prelude.{◌≡◌, ◌≢◌, ◌≤◌, ◌||◌, IfNone, IfSome, IsTrue, List, ℕ};
 ghost use Rattle.rv_model.specs.declared.vector.policy.Policy.{Policy as AgnosticPolicy};
 ghost use Rattle.rv_model.specs.memory.Memory.{Memory};
 ghost use Rattle.rv_model.specs.step.Hart.{ends_after, hart_state};
@@ -11,7 +11,7 @@ use crate::faults::{fault, illegal};
 use crate::retirement::run_on;
 use crate::ticks::{Found, ticks_taken};
 use rv_model::{Arith, Cause, GROUP_BYTES, Instr, Policy, Scalar, Seat, StepEnd, VEnd, VReg};
-use vec_unit::{exec, exec_arith, exec_unit};
+use vec_unit::{exec, exec_arith, exec_unit, exec_whole_unit};
 use vector_memory::{UnitAccess, UserBytes};
 
 /// Why an access is refused.
@@ -154,4 +154,57 @@ pub(crate) fn execute_unit<M: UserBytes>(
     let end = exec_unit(access, &mut seat.state, scalar, memory, limit, policy);
     let ticks = ticks_taken(&instr, limit, found, &seat.state, end);
     step_end(end, ticks, word, scalar, seat)
+}
+
+/// Carries out a unit-stride load or store at once, by its parts, if it is legal and its elements come at once, within
+/// `limit` ticks. Answers how many it took; where it isn't done, nothing has changed.
+#[inline(always)]
+pub(crate) fn execute_whole_unit<M: UserBytes>(
+    access: UnitAccess,
+    scalar: &mut Scalar,
+    memory: &mut M,
+    seat: &mut Seat,
+    limit: usize,
+    policy: Policy,
+) -> Option<usize>
+    ensures model { IfSome result (λ ticks. (word : ℕ) → Leads (vector_step limit
+        (Instr.VectorUnit access.op access.width access.nf access.vd access.rs1 access.unmasked) word)
+        (hart_state scalar.old seat.old.state (M.memory memory.old) policy)
+        (hart_state scalar.new seat.new.state (M.memory memory.new) policy) StepEnd.Ran ticks) }
+    ensures memory { memory.new ≡ M.with_memory memory.old (M.memory memory.new) }
+    ensures dirty { IfSome result (λ ticks. Marks (λ before. is_legal_end (vector_executed limit
+        (Instr.VectorUnit access.op access.width access.nf access.vd access.rs1 access.unmasked) before).end)
+        (hart_state scalar.old seat.old.state (M.memory memory.old) policy) seat.old seat.new) }
+    ensures given_back { IsGivenBack seat.old seat.new }
+    ensures unchanged_scalar { IfNone result (scalar.new ≡ scalar.old) }
+    ensures unchanged_memory { IfNone result (memory.new ≡ memory.old) }
+    ensures unchanged_seat { IfNone result (seat.new ≡ seat.old) }
+{
+    let found = Found {
+        vl: usize::from(seat.state.conf.vl()),
+        vstart: usize::from(seat.state.vstart),
+    };
+    let UnitAccess {
+        op,
+        width,
+        nf,
+        vd,
+        rs1,
+        unmasked,
+    } = access;
+    if !exec_whole_unit(access, &mut seat.state, scalar, memory, limit, policy) {
+        return None;
+    }
+    let instr = Instr::VectorUnit {
+        op,
+        width,
+        nf,
+        vd,
+        rs1,
+        vm: unmasked,
+    };
+    let ticks = ticks_taken(&instr, limit, found, &seat.state, VEnd::Done);
+    seat.dirty = true;
+    run_on(scalar);
+    Some(ticks)
 }

@@ -38,7 +38,7 @@ pub trait Results<L: Lane> {
 }
 
 /// `write_results`, element by element.
-#[inline(never)]
+#[inline(always)]
 fn write_each<L: Lane, R: Results<L>>(
     results: &R,
     body: &Body<'_>,

@@ -1,5 +1,5 @@
 //! One vector instruction, carried out.
-ghost use Rattle.std.specs.Prelude.{◌≡◌, ◌≢◌, ◌≤◌, IsTrue, List, not, ℕ};
+ghost use Rattle.std.specs.Prelude.{◌≡◌, ◌≢◌, ◌≤◌, IsTrue, List, false, not, true, ℕ};
 ghost use Rattle.rv_model.specs.declared.vector.state.VState.{VState as VectorState};
 ghost use Rattle.rv_model.specs.memory.Memory.{Memory};
 ghost use Rattle.rv_model.specs.step.Hart.{hart_state};
@@ -12,7 +12,7 @@ use crate::arithmetic::{perform_arith, perform_carry, perform_extension, perform
 use crate::mask_instructions::{
     perform_element_index, perform_mask_logic, perform_mask_to_scalar, perform_mask_unary,
 };
-use crate::memory_instructions::{perform_access, perform_unit};
+use crate::memory_instructions::{perform_access, perform_unit, perform_whole_unit};
 use crate::permutation_instructions::{
     perform_compress, perform_move_to_scalar, perform_move_to_vector, perform_whole_move,
 };
@@ -212,6 +212,48 @@ pub fn exec_unit<M: UserBytes>(
         return VEnd::Illegal;
     }
     perform_unit(access, state, scalar, memory, limit, policy)
+}
+
+/// Carries out a unit-stride load or store of a user at once, by its parts, if it is legal, its elements come at once,
+/// from the first one on and within `limit` indices, and each may be loaded or stored. Answers whether it is done, which
+/// is the same as `exec` of the instruction; where it isn't, nothing has changed.
+#[tactic(auto, unfolding(rv_model::specs::step::VectorStep::vector_executed))]
+#[inline(always)]
+pub fn exec_whole_unit<M: UserBytes>(
+    access: UnitAccess,
+    state: &mut VState,
+    scalar: &Scalar,
+    memory: &mut M,
+    limit: usize,
+    policy: Policy,
+) -> bool
+    ensures model { result ≡ true → (output : List ℕ)
+        → vector_executed limit
+        (Instr.VectorUnit access.op access.width access.nf access.vd access.rs1 access.unmasked)
+        (hart_state scalar.now state.old (M.memory memory.old) policy output)
+        ≡ vector_ends VEnd.Done (hart_state scalar.now state.new (M.memory memory.new) policy output) }
+
+    // All else that the user's bytes hold stays.
+    ensures memory { memory.new ≡ M.with_memory memory.old (M.memory memory.new) }
+    ensures unchanged_state { result ≡ false → state.new ≡ state.old }
+    ensures unchanged_memory { result ≡ false → memory.new ≡ memory.old }
+{
+    let UnitAccess {
+        op,
+        width,
+        nf,
+        vd,
+        unmasked,
+        ..
+    } = access;
+    if !unmasked || nf.value() != 0 {
+        return false;
+    }
+    let legal = legal_unit(op, width, nf, vd, unmasked, &state.conf);
+    if !legal {
+        return false;
+    }
+    perform_whole_unit(access, state, scalar, memory, limit, policy)
 }
 
 /// Carries out a vector instruction of a user, of at most `limit` indices where it is a load or store. The

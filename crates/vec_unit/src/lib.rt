@@ -34,4 +34,4 @@ mod vset;
 mod whole_moves;
 mod widen;
 
-pub use execution::{exec, exec_arith, exec_unit};
+pub use execution::{exec, exec_arith, exec_unit, exec_whole_unit};

@@ -18,7 +18,7 @@ use crate::tails::{Fields, fill_tails};
 use reg_groups::{emul, mask_register};
 use rv_model::instructions::operations::{Direction, Width};
 use rv_model::{Field, Instr, MemEnd, Policy, Scalar, Sew, VEnd, VReg, VState, VType};
-use vector_memory::{UnitAccess, UserBytes, is_unit_load};
+use vector_memory::{UnitAccess, UserBytes, is_unit_load, run_whole_block};
 
 /// Whether memory is read.
 #[inline(always)]
@@ -251,6 +251,30 @@ fn perform_block<M: UserBytes>(
     access_end(loads, end)
 }
 
+/// Carries out a legal unit-stride load or store whose tail keeps at once, if all of its elements come at once. Answers
+/// whether it is done.
+#[inline(always)]
+fn perform_whole_block<M: UserBytes>(
+    access: UnitAccess,
+    state: &mut VState,
+    scalar: &Scalar,
+    memory: &mut M,
+    limit: usize,
+) -> bool
+    requires legal { IsTrue (is_legal (Instr.VectorUnit access.op access.width access.nf access.vd access.rs1 access.unmasked)
+        state.old.conf.vtype state.old.vstart) }
+    ensures model { result ≡ true → (policy : AgnosticPolicy) (output : List ℕ)
+        → plain_step limit (is_unit_load access.op)
+        (Instr.VectorUnit access.op access.width access.nf access.vd access.rs1 access.unmasked)
+        (hart_state scalar.now state.old (M.memory memory.old) policy output)
+        ≡ vector_ends VEnd.Done (hart_state scalar.now state.new (M.memory memory.new) policy output) }
+    ensures memory { memory.new ≡ M.with_memory memory.old (M.memory memory.new) }
+    ensures unchanged_state { result ≡ false → state.new ≡ state.old }
+    ensures unchanged_memory { result ≡ false → memory.new ≡ memory.old }
+{
+    run_whole_block(access, state, scalar, memory, limit)
+}
+
 /// Carries out a legal unit-stride load or store by way of its instruction.
 #[tactic(auto, unfolding(rv_model::specs::step::VectorStep::performed))]
 #[inline(never)]
@@ -325,6 +349,33 @@ pub(crate) fn perform_unit<M: UserBytes>(
         unmasked: access.unmasked,
     };
     perform_unit_part(copy, state, scalar, memory, limit, policy)
+}
+
+/// Carries out a legal unit-stride load or store at once, if its tail and its elements that are masked off keep and
+/// all of its elements come at once. Answers whether it is done.
+#[inline(always)]
+pub(crate) fn perform_whole_unit<M: UserBytes>(
+    access: UnitAccess,
+    state: &mut VState,
+    scalar: &Scalar,
+    memory: &mut M,
+    limit: usize,
+    policy: Policy,
+) -> bool
+    requires legal { IsTrue (is_legal (Instr.VectorUnit access.op access.width access.nf access.vd access.rs1 access.unmasked)
+        state.old.conf.vtype state.old.vstart) }
+    ensures model { result ≡ true → (output : List ℕ)
+        → performed limit (Instr.VectorUnit access.op access.width access.nf access.vd access.rs1 access.unmasked)
+        (hart_state scalar.now state.old (M.memory memory.old) policy output)
+        ≡ vector_ends VEnd.Done (hart_state scalar.now state.new (M.memory memory.new) policy output) }
+    ensures memory { memory.new ≡ M.with_memory memory.old (M.memory memory.new) }
+    ensures unchanged_state { result ≡ false → state.new ≡ state.old }
+    ensures unchanged_memory { result ≡ false → memory.new ≡ memory.old }
+{
+    match policy {
+        Policy::Keep => perform_whole_block(access, state, scalar, memory, limit),
+        Policy::Ones => false,
+    }
 }
 
 /// Carries out a legal vector load or store, of at most `limit` indices.

@@ -20,4 +20,4 @@ pub use instructions::run;
 pub use length::index_count;
 pub use unit_access::{UnitAccess, is_unit_load};
 pub use user_bytes::UserBytes;
-pub use whole_blocks::run_block;
+pub use whole_blocks::{run_block, run_whole_block};

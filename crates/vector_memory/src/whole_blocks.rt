@@ -122,6 +122,34 @@ fn run_whole<M: UserBytes>(
     }
 }
 
+/// Carries out a unit-stride load or store of a user by its operands at once, if it is of one field and its elements
+/// come at once, from the first one on and within `limit` indices, and each may be loaded or stored. Answers whether
+/// it is done; where it isn't, nothing has changed.
+#[inline(always)]
+pub fn run_whole_block<M: UserBytes>(
+    access: UnitAccess,
+    state: &mut VState,
+    scalar: &Scalar,
+    memory: &mut M,
+    limit: usize,
+) -> bool
+    requires legal { IsTrue (is_legal (Instr.VectorUnit access.op access.width access.nf access.vd access.rs1 access.unmasked)
+        state.old.conf.vtype state.old.vstart) }
+    ensures model { result ≡ true → access_run limit false
+        (Instr.VectorUnit access.op access.width access.nf access.vd access.rs1 access.unmasked)
+        state.old scalar.now (M.memory memory.old)
+        ≡ runs_to Done state.new (M.memory memory.new) }
+
+    // All else that the user's bytes hold stays.
+    ensures memory { memory.new ≡ M.with_memory memory.old (M.memory memory.new) }
+    ensures unchanged_state { result ≡ false → state.new ≡ state.old }
+    ensures unchanged_memory { result ≡ false → memory.new ≡ memory.old }
+{
+    state.conf.length_law();
+    let base = scalar.read(access.rs1);
+    run_whole(access, base, limit, memory, state)
+}
+
 /// Carries out the instruction however far it comes.
 #[inline(never)]
 fn run_part<M: UserBytes>(
