@@ -95,60 +95,6 @@ fn execute_other<M: UserBytes, V: Vectors>(
     ticks
 }
 
-/// Carries out the instruction that a word is, which touches the vector unit, on the seat that was lent to it. Answers the
-/// ticks, and writes how it ended to `end`, which is `Ran` before.
-#[tactic(auto, unfolding(rv_model::specs::step::Step::executed, rv_model::specs::step::Step::dirties))]
-#[inline(never)]
-fn execute_seated<M: UserBytes>(
-    word: u32,
-    scalar: &mut Scalar,
-    memory: &mut M,
-    seat: &mut Seat,
-    terms: Terms,
-    end: &mut StepEnd,
-) -> usize
-    requires touching { touches (scan table word) ≡ true }
-    requires limit { 1 ≤ terms.limit }
-    requires end { end.old ≡ StepEnd.Ran }
-    ensures model { Leads (executed terms.limit (scan table word) word)
-        (hart_state scalar.old seat.old.state (M.memory memory.old) terms.policy)
-        (hart_state scalar.new seat.new.state (M.memory memory.new) terms.policy) end.new result }
-    ensures memory { memory.new ≡ M.with_memory memory.old (M.memory memory.new) }
-    ensures dirty { Marks (dirties terms.limit (scan table word))
-        (hart_state scalar.old seat.old.state (M.memory memory.old) terms.policy) seat.old seat.new }
-    ensures given_back { IsGivenBack seat.old seat.new }
-    ensures uncut { GROUP_BYTES ≤ terms.limit → end.new ≢ StepEnd.Cut }
-{
-    let Terms { limit, policy } = terms;
-    let decoded = decode(word);
-    let Some(instr) = &decoded else {
-        unreachable!()
-    };
-    let (ending, ticks) = match *instr {
-        Instr::VectorUnit {
-            op,
-            width,
-            nf,
-            vd,
-            rs1,
-            vm,
-        } => {
-            let access = UnitAccess {
-                op,
-                width,
-                nf,
-                vd,
-                rs1,
-                unmasked: vm,
-            };
-            execute_unit(access, word, scalar, memory, seat, limit, policy)
-        }
-        _ => execute_touching(instr, word, scalar, memory, seat, limit, policy),
-    };
-    write_end(ending, end);
-    ticks
-}
-
 /// The operands of the unit-stride access that a word is, if it is one.
 #[inline(always)]
 fn decode_access(word: u32) -> Option<UnitAccess>
@@ -177,6 +123,45 @@ fn decode_access(word: u32) -> Option<UnitAccess>
         }
     }
     None
+}
+
+/// Carries out the instruction that a word is, which touches the vector unit, on the seat that was lent to it; sooner for
+/// a unit-stride access. Answers the ticks, and writes how it ended to `end`, which is `Ran` before.
+#[tactic(auto, unfolding(rv_model::specs::step::Step::executed, rv_model::specs::step::Step::dirties))]
+#[inline(never)]
+fn execute_seated<M: UserBytes>(
+    word: u32,
+    scalar: &mut Scalar,
+    memory: &mut M,
+    seat: &mut Seat,
+    terms: Terms,
+    end: &mut StepEnd,
+) -> usize
+    requires touching { touches (scan table word) ≡ true }
+    requires limit { 1 ≤ terms.limit }
+    requires end { end.old ≡ StepEnd.Ran }
+    ensures model { Leads (executed terms.limit (scan table word) word)
+        (hart_state scalar.old seat.old.state (M.memory memory.old) terms.policy)
+        (hart_state scalar.new seat.new.state (M.memory memory.new) terms.policy) end.new result }
+    ensures memory { memory.new ≡ M.with_memory memory.old (M.memory memory.new) }
+    ensures dirty { Marks (dirties terms.limit (scan table word))
+        (hart_state scalar.old seat.old.state (M.memory memory.old) terms.policy) seat.old seat.new }
+    ensures given_back { IsGivenBack seat.old seat.new }
+    ensures uncut { GROUP_BYTES ≤ terms.limit → end.new ≢ StepEnd.Cut }
+{
+    let Terms { limit, policy } = terms;
+    if let Some(access) = decode_access(word) {
+        let (ending, ticks) = execute_unit(access, word, scalar, memory, seat, limit, policy);
+        write_end(ending, end);
+        return ticks;
+    }
+    let decoded = decode(word);
+    let Some(instr) = &decoded else {
+        unreachable!()
+    };
+    let (ending, ticks) = execute_touching(instr, word, scalar, memory, seat, limit, policy);
+    write_end(ending, end);
+    ticks
 }
 
 /// The same as `execute_other`, sooner for a vector operation and for a unit-stride access, whose layouts are known.
