@@ -1,7 +1,11 @@
 //! Numbers of a fixed generator, from which the programs that try many inputs make them.
 #![tactic(auto)]
 
-ghost use Rattle.std.specs.Prelude.{◌≤◌, ◌<◌, length};
+ghost use Rattle.std.specs.Prelude.{◌≡◌, ◌≤◌, ◌<◌, ◌%◌, length, slice_index_or};
+ghost use Rattle.rand_core.specs.Stream.{fill_bytes, next_u32, next_u64};
+ghost use Rattle.rand_xoshiro.specs.SplitMix64.{splitmix_seed};
+ghost use Rattle.rand_xoshiro.specs.Xoshiro256.{of_seed};
+ghost use Rattle.draws.specs.Drawn.{drawn};
 
 use rand_core::{Rng, SeedableRng};
 use rand_xoshiro::Xoshiro256PlusPlus;
@@ -14,43 +18,58 @@ pub struct Draws {
 
 impl Draws {
     /// The draws that begin with a seed.
-    pub fn new(seed: u64) -> Draws {
+    pub fn new(seed: u64) -> Draws
+        ensures { result.generator ≡ of_seed (splitmix_seed 32 seed) }
+    {
         Draws {
             generator: Xoshiro256PlusPlus::seed_from_u64(seed),
         }
     }
 
     /// A number of 32 bits.
-    pub fn word(&mut self) -> u32 {
+    pub fn word(&mut self) -> u32
+        ensures { (result, drawn self.new) ≡ next_u32 (drawn self.old) }
+    {
         self.generator.next_u32()
     }
 
     /// A number of 64 bits.
-    pub fn double_word(&mut self) -> u64 {
+    pub fn double_word(&mut self) -> u64
+        ensures { (result, drawn self.new) ≡ next_u64 (drawn self.old) }
+    {
         self.generator.next_u64()
     }
 
-    /// A byte.
-    pub fn byte(&mut self) -> u8 {
+    /// A byte: the low one of a number of 32 bits.
+    pub fn byte(&mut self) -> u8
+        ensures value { result ≡ (next_u32 (drawn self.old)).0 % 256 }
+        ensures rest { drawn self.new ≡ (next_u32 (drawn self.old)).1 }
+    {
         (self.word() % 256) as u8
     }
 
     /// A byte in each place.
-    pub fn fill(&mut self, bytes: &mut [u8]) {
+    pub fn fill(&mut self, bytes: &mut [u8])
+        ensures { (bytes.new, drawn self.new) ≡ fill_bytes (length bytes.old) (drawn self.old) }
+    {
         self.generator.fill_bytes(bytes);
     }
 
-    /// A number below a bound.
+    /// A number below a bound: the rest of a number of 32 bits.
     pub fn below(&mut self, bound: usize) -> usize
         requires { 1 ≤ bound }
-        ensures { result < bound }
+        ensures bound { result < bound }
+        ensures value { result ≡ (next_u32 (drawn self.old)).0 % bound }
+        ensures rest { drawn self.new ≡ (next_u32 (drawn self.old)).1 }
     {
         self.word() as usize % bound
     }
 
-    /// One of some texts.
+    /// One of some texts: that at a number below their count.
     pub fn choice(&mut self, texts: &[&'static str]) -> &'static str
         requires { 1 ≤ length texts.now }
+        ensures value { result ≡ slice_index_or texts.now ((next_u32 (drawn self.old)).0 % length texts.now) result }
+        ensures rest { drawn self.new ≡ (next_u32 (drawn self.old)).1 }
     {
         texts[self.below(texts.len())]
     }
