@@ -1,12 +1,6 @@
 -- The first equals sign of an image word.
-use Rattle.vec_monitor.specs.declared.image_words.ImagePath.{ImagePath}
 use Rattle.std.specs.Prelude.{None, nat_lt, ◌≤◌, map}
 use Rattle.std.proofs.lemmas.Bool.Decides.{nat_tests}
-use Rattle.vec_monitor.specs.Images.{named_image, named_images, setup_of}
-use Rattle.vec_monitor.specs.ImageFiles.{named_file}
-use Rattle.vec_monitor.specs.NewFaults.{are_distinct, new_fault}
-use Rattle.vec_monitor.specs.declared.image.Image.{Image}
-use Rattle.vec_monitor.specs.declared.image_files.ImageFile.{ImageFile}
 use Rattle.std.proofs.Common.{ap₂, zero, suc, refl, ap, false, ◌≡◌, ◌≢◌, ◌<◌, ◌==◌, ◌+◌, ◌++◌, ◌∷◌, [], ℕ, List, length, subst, take, true≢false, sym, ◌∙◌, arith}
 use Rattle.std.specs.Prelude.{slice_index}
 use Rattle.std.specs.List.{AllZip, after_first, before_first, position_or_len, slice_index_or}
@@ -15,6 +9,12 @@ use Rattle.std.proofs.lemmas.Bool.{eq-eqb, eqb-true}
 use Rattle.std.proofs.lemmas.List.Sums.{fails_before_first, passes_at_first}
 use Rattle.std.specs.Borrow.{Bor}
 use Rattle.clap.specs.Walk.{Text, texts}
+use Rattle.monitor_machine.specs.Images.{named_image, named_images, setup_of}
+use Rattle.monitor_machine.specs.NewFaults.{are_distinct, new_fault}
+use Rattle.monitor_machine.specs.declared.image.Image.{Image}
+use Rattle.vec_monitor.specs.declared.image_words.ImagePath.{ImagePath}
+use Rattle.vec_monitor.specs.ImageFiles.{named_file}
+use Rattle.vec_monitor.specs.declared.image_files.ImageFile.{ImageFile}
 use Rattle.vec_monitor.specs.ImageWords.{IsNameAndPath, IsPathOf, LacksEqualsSign, SomeLacksEqualsSign}
 
 before : (word : List ℕ) (k : ℕ) → k < position_or_len (λ b. b == 61) word → slice_index word k ≢ 61

@@ -3,14 +3,14 @@ use Rattle.std.specs.Prelude.{◌≡◌, ◌≢◌, ◌⊎◌, ℕ, List, []}
 use Rattle.clap.specs.Words.{IsAmong, Text}
 use Rattle.clap.specs.declared.error.kind.ErrorKind.{ErrorKind}
 use Rattle.clap.specs.declared.error.kind.ErrorKind.TheVariants.{DisplayHelp}
+use Rattle.monitor_machine.specs.declared.new_fault.NewFault.{NewFault}
+use Rattle.monitor_machine.specs.declared.new_fault.NewFault.TheVariants as new_fault
+use Rattle.monitor_script.specs.declared.script.RunFault.{RunFault}
+use Rattle.monitor_script.specs.declared.script.RunFault.TheVariants.{Read, TooLong, Write}
 use Rattle.vec_monitor.specs.CommandLine.{image_words, words_fault}
 use Rattle.vec_monitor.specs.ImageWords.{SomeLacksEqualsSign}
-use Rattle.vec_monitor.specs.declared.new_fault.NewFault.{NewFault}
-use Rattle.vec_monitor.specs.declared.new_fault.NewFault.TheVariants as new_fault
 use Rattle.vec_monitor.specs.declared.program_fault.ProgramFault.{ProgramFault}
 use Rattle.vec_monitor.specs.declared.program_fault.ProgramFault.TheVariants.{NoText, Usage, ImageWord, ImageRead, ImageList, Run, NoMemory}
-use Rattle.vec_monitor.specs.declared.script.RunFault.{RunFault}
-use Rattle.vec_monitor.specs.declared.script.RunFault.TheVariants.{Read, TooLong, Write}
 
 -- the script's faults have one status, the output's another
 abbrev pub run_status : RunFault → ℕ

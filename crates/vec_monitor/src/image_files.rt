@@ -1,14 +1,13 @@
 //! The files of images.
 ghost use Rattle.std.specs.Prelude.{◌≡◌, ◌⊎◌, IfErr, IfOk, map};
 ghost use Rattle.std.specs.List.{AllZip, Any};
-ghost use Rattle.vec_monitor.specs.Images.{named_images};
+ghost use Rattle.monitor_machine.specs.Images.{named_images};
 ghost use Rattle.vec_monitor.specs.ImageFiles.{named_file};
 ghost use Rattle.vec_monitor.specs.declared.program_fault.ProgramFault.TheVariants.{ImageRead, NoMemory};
 
-use crate::image::Image;
 use crate::image_words::ImagePath;
-use crate::new_fault::MAX_IMAGE;
 use crate::program_fault::ProgramFault;
+use monitor_machine::{Image, MAX_IMAGE};
 use std::alloc::{AllocError, Allocator};
 use std::fs;
 use std::io::{ErrorKind, Read};

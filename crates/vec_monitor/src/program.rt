@@ -9,11 +9,10 @@ ghost use Rattle.vec_monitor.specs.declared.program_fault.ProgramFault.TheVarian
 use crate::command_line::{Options, UsageFault};
 use crate::image_files::{borrowed_images, read_images};
 use crate::image_words::image_paths;
-use crate::machine::Machine;
 use crate::program_fault::{ProgramFault, STATUS_DONE};
-use crate::script::{RunFault, run};
-use crate::streams::{ReaderSource, WriterSink};
 use crate::words::options;
+use monitor_machine::Machine;
+use monitor_script::{ReaderSource, RunFault, WriterSink, run};
 use std::alloc::{Allocator, Global};
 use std::rt::Files;
 use std::{fs, io};

@@ -3,8 +3,8 @@ ghost use Rattle.std.specs.Prelude.{◌≡◌};
 ghost use Rattle.vec_monitor.specs.Statuses.{machine_fault, program_status};
 ghost use Rattle.vec_monitor.specs.declared.program_fault.ProgramFault.TheVariants.{NoMemory, Run};
 
-use crate::new_fault::NewFault;
-use crate::script::RunFault;
+use monitor_machine::NewFault;
+use monitor_script::RunFault;
 use std::alloc::{AllocError, AllocFailed};
 use thiserror::Error;
 

@@ -1,5 +1,5 @@
 use Rattle.std.proofs.Common.{map, take, ◌≡◌}
-use Rattle.vec_monitor.specs.Images.{named_images}
+use Rattle.monitor_machine.specs.Images.{named_images}
 use Rattle.vec_monitor.specs.ImageFiles.{named_file}
 use Rattle.vec_monitor.proofs.image_files.borrowed_images.Given as goal
 

@@ -1,5 +1,5 @@
 use Rattle.std.proofs.Common.{rules, ap, ◌≡◌, ◌∙◌, []}
-use Rattle.vec_monitor.specs.Images.{named_images}
+use Rattle.monitor_machine.specs.Images.{named_images}
 use Rattle.vec_monitor.proofs.ImageWordLaws.{no_machine_fault, none_lacks, nothing_named, zip_nothing}
 use Rattle.vec_monitor.proofs.program.run_options.Goals as goal
 

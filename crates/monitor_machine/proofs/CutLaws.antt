@@ -1,0 +1,45 @@
+-- A slice that is granted, and then one of so many ticks more.
+use Rattle.std.proofs.Common.{◌≡◌, ℕ, ◌+◌, List, [], ◌∷◌, ◌++◌, append_assoc, refl, ap, ◌∙◌, sym, true, false, Bool, if◌then◌else◌, Some, None}
+use Rattle.rv_model.specs.declared.vector.state.VState.{VState}
+use Rattle.rv_model.specs.machine.Cuts.{IsConfigured}
+use Rattle.rv_model.specs.machine.PrivateMachine.{Outcome, Private, sliced}
+use Rattle.rv_model.specs.machine.Script.{part}
+use Rattle.rv_model.specs.memory.Memory.{Memory}
+use Rattle.rv_model.specs.text.Lines.{tagged, text}
+use Rattle.rv_model.specs.vector.Configuration.{IsConfiguration}
+use Rattle.rv_model.proofs.machine_lemmas.Cuts.{cuts_are_invisible}
+use Rattle.monitor_machine.specs.declared.context.Context.{Context}
+use Rattle.monitor_machine.specs.MachineState.{MachineState, SliceGoesOn}
+use Rattle.monitor_machine.specs.Parts.{Addresses, present, private_of}
+
+-- a machine is configured if its user's vector state is, whether or not the user has entered
+pub configured_as : (c : Context) (t : Addresses) (v : VState) (m : Memory) → IsConfiguration v.conf
+    → IsConfigured (private_of c t v m)
+configured_as c t v m is = entered c.entered
+  where
+    entered : (b : Bool) → IsConfigured (if b then Some (present c t v m) else None)
+    entered true = is
+    entered false = tt
+
+text-append : (tag : ℕ) (xs ys : List (List ℕ)) → text tag (xs ++ ys) ≡ text tag xs ++ text tag ys
+text-append tag [] ys = refl
+text-append tag (x ∷ xs) ys =
+    ap (λ (bytes : List ℕ). tagged tag x ++ bytes) (text-append tag xs ys)
+    ∙ sym (append_assoc (tagged tag x) (text tag xs) (text tag ys))
+
+-- what a slice and the next come to, by what it left of the user's private machine and what it printed
+pub slice_goes_on : (before now : MachineState) (u : ℕ) (printed : List ℕ) → IsConfigured (part u before.world)
+    → part u now.world ≡ (sliced before.setup.quantum (part u before.world)).next
+    → printed ≡ text (48 + u) (sliced before.setup.quantum (part u before.world)).lines
+    → SliceGoesOn before u now printed
+slice_goes_on before now u printed is moved prints later keeps =
+    let quantum : ℕ = before.setup.quantum in
+    let first : Outcome = sliced quantum (part u before.world) in
+    let rest : Outcome = sliced later first.next in
+    let whole = sym (cuts_are_invisible quantum later (part u before.world) is keeps) in (
+      ap (λ (o : Outcome). o.next) whole ∙ ap (λ (p : Private). (sliced later p).next) (sym moved),
+      ap (λ (o : Outcome). text (48 + u) o.lines) whole
+          ∙ text-append (48 + u) first.lines rest.lines
+          ∙ ap (λ (bytes : List ℕ). bytes ++ text (48 + u) rest.lines) (sym prints)
+          ∙ ap (λ (p : Private). printed ++ text (48 + u) (sliced later p).lines) (sym moved),
+    )

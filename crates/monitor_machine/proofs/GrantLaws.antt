@@ -1,0 +1,214 @@
+-- Slices that are granted one after another.
+use Rattle.std.proofs.Common.{◌≡◌, inl, inr, ℕ, zero, suc, ◌+◌, ◌*◌, ◌≤◌, ◌<◌, Bool, true, false, cond, List, [], ◌∷◌, ◌++◌, length, append_assoc, append-nil, get_or, get_or-set_same, get_or-set_other, set, Option, Some, None, refl, ap, ◌∙◌, subst, sym, arith}
+use Rattle.std.specs.Prelude.{◌&&◌, map, if◌then◌else◌}
+use Rattle.std.proofs.lemmas.Bool.{cases_eq}
+use Rattle.std.proofs.lemmas.List.{ext_get_or, get_or-map, length-map}
+use Rattle.rv_model.specs.declared.machine.standing.Standing.TheVariants.{Absent, Stopped, Running}
+use Rattle.rv_model.specs.machine.Cuts.{Try, tried_in, tries}
+use Rattle.rv_model.specs.machine.Grants.{granted, granted_first, next_running, runs, slice_of, standing}
+use Rattle.rv_model.specs.machine.PrivateMachine.{Private, Outcome, event, slice_ends, sliced}
+use Rattle.rv_model.specs.machine.Runs.{Halted, ticked}
+use Rattle.rv_model.specs.machine.Script.{World, Happening, part, with_part, with_unit, after_one, after_events, told_by}
+use Rattle.rv_model.specs.machine.Setup.{Setup}
+use Rattle.rv_model.specs.machine.UnitEvents.{unit_after_event, unit_after_tries}
+use Rattle.rv_model.specs.machine.Users.{user_count}
+use Rattle.rv_model.specs.declared.vector.state.VState.{VState}
+use Rattle.rv_model.specs.memory.Memory.{Memory}
+use Rattle.lazy_context.specs.declared.unit.Unit.{Unit}
+use Rattle.rv_model.specs.text.Lines.{text}
+use Rattle.rv_model.proofs.machine_lemmas.Headline.{eight_after_events}
+use Rattle.monitor_machine.specs.declared.context.Context.{Context}
+use Rattle.monitor_machine.specs.MachineState.{after_slice}
+use Rattle.monitor_machine.specs.Parts.{Addresses, IsWhole, context_standing, is_running, parts_of, present, private_of, states_of}
+use Rattle.monitor_machine.specs.StopRoom.{stop_room, stops_room}
+use Rattle.monitor_machine.proofs.PartLaws.{eight_states, part_put_back}
+
+stop_room_is_small : (p : Private) → stop_room p ≤ 80
+stop_room_is_small p = either (runs p)
+  where
+    either : (b : Bool) → cond b 80 0 ≤ 80
+    either true = omega arith
+    either false = omega arith
+
+stops_room_by_count : (ps : List Private) → stops_room ps ≤ 80 * length ps
+stops_room_by_count [] = omega arith
+stops_room_by_count (p ∷ ps) = omega (arith, stop_room_is_small p, stops_room_by_count ps)
+
+-- the stop lines of all users fit into a reply
+pub stops_room_is_small : (ps : List Private) → length ps ≡ user_count → stops_room ps ≤ 640
+stops_room_is_small ps eight = omega (arith, eight, stops_room_by_count ps)
+
+-- the room for another machine in place of a user's
+pub stops_room_set : (ps : List Private) (i : ℕ) (q : Private) → i < length ps
+    → stops_room (set ps i q) + stop_room (get_or ps i None) ≡ stops_room ps + stop_room q
+stops_room_set [] i q lt = absurd (omega (arith, lt))
+stops_room_set (p ∷ ps) zero q lt = omega arith
+stops_room_set (p ∷ ps) (suc i) q lt = omega (arith, stops_room_set ps i q (omega (arith, lt)))
+
+-- the room for a user's stop line is a part of that for all
+pub stop_room_within : (ps : List Private) (i : ℕ) → i < length ps → stop_room (get_or ps i None) ≤ stops_room ps
+stop_room_within [] i lt = absurd (omega (arith, lt))
+stop_room_within (p ∷ ps) zero lt = omega arith
+stop_room_within (p ∷ ps) (suc i) lt = omega (arith, stop_room_within ps i (omega (arith, lt)))
+
+-- what is left of the room for all, where a user's machine and lines were changed within the room for that user
+pub room_left : (old new before after part next rest parts all : ℕ) → new + after ≤ old + before → after ≡ next → before ≡ part → rest ≡ parts → parts + part ≡ all + next → new + rest ≤ old + all
+room_left old new before after part next rest parts all h is_next is_part is_parts set = omega (arith, h, is_next, is_part, is_parts, set)
+
+-- ---- what programs do, by contexts
+
+-- a list whose elements are those of another by a function
+pub filled : {A B : Type 0} (f : A → B) (xs : List A) (ys : List B) (d : A) (e : B) → length ys ≡ length xs → ((k : ℕ) → k < length xs → get_or ys k e ≡ f (get_or xs k d)) → ys ≡ map f xs
+filled f xs ys d e same each =
+    ext_get_or e ys (map f xs) (same ∙ sym (length-map xs f)) (λ k lt. each k (omega (arith, lt, same)) ∙ sym (get_or-map f xs k d e (omega (arith, lt, same))))
+
+-- one element more is that of another list by a function
+pub one_filled : {A B : Type 0} (f : A → B) (xs : List A) (ys : List B) (d : A) (e : B) (i : ℕ) → i < length ys → ((k : ℕ) → k < i → get_or ys k e ≡ f (get_or xs k d))
+    → (k : ℕ) → k < i + 1 → get_or (set ys i (f (get_or xs i d))) k e ≡ f (get_or xs k d)
+one_filled f xs ys d e i within each k below = elim (cases_eq k i) [
+  | inl here ↦ subst (λ n. get_or (set ys i (f (get_or xs i d))) n e ≡ f (get_or xs n d)) (sym here) (get_or-set_same ys i (f (get_or xs i d)) e within)
+  | inr other ↦ get_or-set_other ys i k (f (get_or xs i d)) e other ∙ each k (omega (arith, below, other))
+]
+
+runs_as : (c : Context) (t : Addresses) (v : VState) (m : Memory) → runs (private_of c t v m) ≡ is_running c
+runs_as c t v m = entered c.entered
+  where
+    entered : (b : Bool) → runs (if b then Some (present c t v m) else None) ≡ (b && c.running)
+    entered true = refl
+    entered false = refl
+
+standing_as : (c : Context) (t : Addresses) (v : VState) (m : Memory) → standing (private_of c t v m) ≡ context_standing c
+standing_as c t v m = entered c.entered
+  where
+    entered : (b : Bool) → standing (if b then Some (present c t v m) else None) ≡ (if b then (if c.running then Running else Stopped) else Absent)
+    entered true = refl
+    entered false = refl
+
+-- what holds of each context holds of the parts
+of_parts : {B : Type 0} (f : Private → B) (g : Context → B) → ((c : Context) (t : Addresses) (v : VState) (m : Memory) → f (private_of c t v m) ≡ g c)
+    → (cs : List Context) (ts : List Addresses) (vs : List VState) (ms : List Memory) → length cs ≡ length ts → length ts ≡ length vs → length vs ≡ length ms
+    → map f (parts_of cs ts vs ms) ≡ map g cs
+of_parts f g same [] ts vs ms h k j = refl
+of_parts f g same (c ∷ cs) [] vs ms h k j = absurd (omega (arith, h))
+of_parts f g same (c ∷ cs) (t ∷ ts) [] ms h k j = absurd (omega (arith, k))
+of_parts f g same (c ∷ cs) (t ∷ ts) (v ∷ vs) [] h k j = absurd (omega (arith, j))
+of_parts {B} f g same (c ∷ cs) (t ∷ ts) (v ∷ vs) (m ∷ ms) h k j =
+    ap (λ (b : B). b ∷ map f (parts_of cs ts vs ms)) (same c t v m)
+    ∙ ap (λ (bs : List B). g c ∷ bs) (of_parts f g same cs ts vs ms (omega (arith, h)) (omega (arith, k)) (omega (arith, j)))
+
+of_whole : {B : Type 0} (f : Private → B) (g : Context → B) → ((c : Context) (t : Addresses) (v : VState) (m : Memory) → f (private_of c t v m) ≡ g c)
+    → (cs : List Context) (ts : List Addresses) (unit : Unit) (ms : List Memory) → IsWhole cs ts unit ms → map f (parts_of cs ts (states_of unit) ms) ≡ map g cs
+of_whole f g same cs ts unit ms whole =
+    of_parts f g same cs ts (states_of unit) ms (whole.contexts ∙ sym whole.traces) (whole.traces ∙ sym (eight_states unit)) (eight_states unit ∙ sym whole.memories)
+
+pub runs_of_parts : (cs : List Context) (ts : List Addresses) (unit : Unit) (ms : List Memory) → IsWhole cs ts unit ms → map runs (parts_of cs ts (states_of unit) ms) ≡ map is_running cs
+runs_of_parts cs ts unit ms whole = of_whole runs is_running runs_as cs ts unit ms whole
+
+pub standings_of_parts : (cs : List Context) (ts : List Addresses) (unit : Unit) (ms : List Memory) → IsWhole cs ts unit ms → map standing (parts_of cs ts (states_of unit) ms) ≡ map context_standing cs
+standings_of_parts cs ts unit ms whole = of_whole standing context_standing standing_as cs ts unit ms whole
+
+-- ---- slices
+
+-- a program that doesn't run has no slice
+pub not_sliced : (quantum : ℕ) (p : Private) → runs p ≡ false → sliced quantum p ≡ record { next = p; lines = [] }
+unfolding sliced
+not_sliced quantum None stopped = refl
+not_sliced quantum (Some p) stopped =
+    let run : Halted = ticked quantum p in
+    ap (λ (b : Bool). if b then slice_ends run run.stop else record { next = Some p; lines = [] }) stopped
+
+none_tried : (quantum : ℕ) (p : Private) → runs p ≡ false → tried_in quantum p ≡ []
+unfolding tried_in
+none_tried quantum None stopped = refl
+none_tried quantum (Some p) stopped = ap (λ (b : Bool). if b then tries quantum quantum p else []) stopped
+
+-- so the world stays
+pub nothing_sliced : (quantum u : ℕ) (w : World) → runs (part u w) ≡ false → after_slice quantum u w ≡ w
+unfolding unit_after_tries
+nothing_sliced quantum u w stopped =
+    ap (λ (ts : List Try). with_unit (unit_after_tries u ts w.unit) (with_part u (sliced quantum (part u w)).next w)) (none_tried quantum (part u w) stopped)
+    ∙ ap (λ (o : Outcome). with_unit w.unit (with_part u o.next w)) (not_sliced quantum (part u w) stopped)
+    ∙ ap (with_unit w.unit) (part_put_back u w)
+
+-- one slice in turn, and then those that are left
+pub granted_on : (s : Setup) (n u : ℕ) (w : World) → next_running w ≡ Some u → granted s (suc n) w ≡ slice_of u true ∷ granted s n (after_one s w (slice_of u true))
+unfolding granted
+granted_on s n u w turn = ap (λ (o : Option ℕ). granted_first o (λ h. granted s n (after_one s w h))) turn
+
+-- nobody's program runs
+pub granted_to_nobody : (s : Setup) (n : ℕ) (w : World) → next_running w ≡ None → granted s n w ≡ []
+unfolding granted
+granted_to_nobody s zero w turn = refl
+granted_to_nobody s (suc n) w turn = ap (λ (o : Option ℕ). granted_first o (λ h. granted s n (after_one s w h))) turn
+
+-- a world after one slice in turn
+pub after_one_grant : (s : Setup) (u : ℕ) (w turned next : World) → turned ≡ record w { cursor = u } → next ≡ after_slice s.quantum u turned → after_one s w (slice_of u true) ≡ next
+unfolding event unit_after_event
+after_one_grant s u w turned next turn moved = sym (moved ∙ ap (λ (v : World). after_slice s.quantum u v) turn)
+
+-- what one slice in turn tells, and then what the others tell
+pub told_by_grant : (s : Setup) (u : ℕ) (w turned next : World) (hs : List Happening) → turned ≡ record w { cursor = u } → next ≡ after_slice s.quantum u turned
+    → told_by s w (slice_of u true ∷ hs) ≡ text (48 + u) (sliced s.quantum (part u turned)).lines ++ told_by s next hs
+unfolding event
+told_by_grant s u w turned next hs turn moved =
+    ap (λ (v : World). text (48 + u) (sliced s.quantum (part u w)).lines ++ told_by s v hs) (after_one_grant s u w turned next turn moved)
+    ∙ ap (λ (v : World). text (48 + u) (sliced s.quantum (part u v)).lines ++ told_by s next hs) (sym turn)
+
+-- the world after the slices that are left, where one more is granted
+pub world_granted_on : (s : Setup) (n u : ℕ) (w turned next : World) → next_running w ≡ Some u → turned ≡ record w { cursor = u } → next ≡ after_slice s.quantum u turned
+    → after_events s w (granted s (suc n) w) ≡ after_events s next (granted s n next)
+world_granted_on s n u w turned next turns turn moved =
+    ap (after_events s w) (granted_on s n u w turns)
+    ∙ ap (λ (v : World). after_events s v (granted s n v)) (after_one_grant s u w turned next turn moved)
+
+pub told_granted_on : (s : Setup) (n u : ℕ) (w turned next : World) (before after : List ℕ) → next_running w ≡ Some u → turned ≡ record w { cursor = u } → next ≡ after_slice s.quantum u turned
+    → after ≡ before ++ text (48 + u) (sliced s.quantum (part u turned)).lines
+    → before ++ told_by s w (granted s (suc n) w) ≡ after ++ told_by s next (granted s n next)
+told_granted_on s n u w turned next before after turns turn moved more =
+    let lines = text (48 + u) (sliced s.quantum (part u turned)).lines in
+    ap (λ (hs : List Happening). before ++ told_by s w hs) (granted_on s n u w turns)
+    ∙ ap (λ (v : World). before ++ told_by s w (slice_of u true ∷ granted s n v)) (after_one_grant s u w turned next turn moved)
+    ∙ ap (λ (bytes : List ℕ). before ++ bytes) (told_by_grant s u w turned next (granted s n next) turn moved)
+    ∙ sym (append_assoc before lines (told_by s next (granted s n next)))
+    ∙ ap (λ (bytes : List ℕ). bytes ++ told_by s next (granted s n next)) (sym more)
+
+pub count_granted_on : (s : Setup) (n u : ℕ) (w turned next : World) → next_running w ≡ Some u → turned ≡ record w { cursor = u } → next ≡ after_slice s.quantum u turned
+    → length (granted s (suc n) w) ≡ suc (length (granted s n next))
+count_granted_on s n u w turned next turns turn moved =
+    ap length (granted_on s n u w turns)
+    ∙ ap (λ (v : World). suc (length (granted s n v))) (after_one_grant s u w turned next turn moved)
+
+-- no slice is left
+pub none_granted : (s : Setup) (w : World) → granted s 0 w ≡ []
+unfolding granted
+none_granted s w = refl
+
+-- ---- one slice of a user who is named
+
+abbrev ran_lines : Bool → ℕ → List Happening
+ran_lines ran u = if ran then slice_of u false ∷ [] else []
+
+-- what becomes of the world where a slice is granted if the user's program runs
+pub one_run_world : (s : Setup) (u : ℕ) (w next : World) → next ≡ after_slice s.quantum u w → after_events s w (if runs (part u w) then slice_of u false ∷ [] else []) ≡ next
+unfolding event unit_after_event
+one_run_world s u w next moved = by_case (runs (part u w)) refl
+  where
+    by_case : (b : Bool) → runs (part u w) ≡ b → after_events s w (ran_lines b u) ≡ next
+    by_case true ran = sym moved
+    by_case false ran = sym (moved ∙ nothing_sliced s.quantum u w ran)
+
+pub one_run_told : (s : Setup) (u : ℕ) (w : World) → told_by s w (if runs (part u w) then slice_of u false ∷ [] else []) ≡ text (48 + u) (sliced s.quantum (part u w)).lines
+unfolding event
+one_run_told s u w = by_case (runs (part u w)) refl
+  where
+    by_case : (b : Bool) → runs (part u w) ≡ b → told_by s w (ran_lines b u) ≡ text (48 + u) (sliced s.quantum (part u w)).lines
+    by_case true ran = append-nil (text (48 + u) (sliced s.quantum (part u w)).lines)
+    by_case false ran = sym (ap (λ (o : Outcome). text (48 + u) o.lines) (not_sliced s.quantum (part u w) ran))
+
+pub one_run_count : (u : ℕ) (b : Bool) → length (if b then slice_of u false ∷ [] else []) ≡ (if b then 1 else 0)
+one_run_count u true = refl
+one_run_count u false = refl
+
+-- there is a machine for each user after some events, too
+pub eight_stay : (s : Setup) (w next : World) (es : List Happening) → next ≡ after_events s w es → length w.parts ≡ 8 → length next.parts ≡ 8
+eight_stay s w next es moved eight = ap (λ (v : World). length v.parts) moved ∙ eight_after_events s w es eight

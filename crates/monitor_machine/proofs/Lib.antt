@@ -1,0 +1,10 @@
+pub mod AddressLaws
+pub mod CutLaws
+pub mod GrantLaws
+pub mod MemoryOutcomes
+pub mod PartLaws
+pub mod PrefixLaws
+pub mod ProgramOutcomes
+pub mod StepLaws
+pub mod UnitRuns
+pub mod UnitSteps

@@ -1,0 +1,195 @@
+-- A change of one user's context, vector state and memory changes that user's part alone.
+use Rattle.std.proofs.Common.{◌≡◌, inl, inr, ℕ, zero, suc, ◌+◌, ◌-◌, ◌<◌, ◌≤◌, List, [], ◌∷◌, length, get_or, get_or-set_other, get_or-set_same, length-set, set, refl, ap, ◌∙◌, sym, subst, arith, Bool, true, false, Some, None, replicate}
+use Rattle.std.proofs.lemmas.Bool.{cases_eq}
+use Rattle.std.proofs.lemmas.List.{ext_get_or, set-get_or}
+use Rattle.std.proofs.lemmas.List.FromFn.{get_or-map-range_with_len, length-map-range_with_len}
+use Rattle.std.specs.FinMap.{empty}
+use Rattle.std.specs.Prelude.{if◌then◌else◌}
+use Rattle.rv_model.specs.declared.vector.state.VState.{VState}
+use Rattle.rv_model.specs.memory.Memory.{Memory}
+use Rattle.rv_model.specs.machine.PrivateMachine.{Private}
+use Rattle.rv_model.specs.machine.Script.{World, new_world, part, with_part, with_unit}
+use Rattle.rv_model.specs.machine.Users.{user_count}
+use Rattle.rv_model.specs.machine.VectorUnit.{VectorUnit, unused_unit}
+use Rattle.rv_model.specs.vector.State.{initial_vector}
+use Rattle.lazy_context.specs.declared.unit.Unit.{Unit}
+use Rattle.lazy_context.specs.LazyUnit.{IsSettled, record_of, state_of}
+use Rattle.user_mem.specs.Users.{no_memories, memory_of_user, with_memory}
+use Rattle.monitor_machine.specs.declared.context.Context.{Context}
+use Rattle.monitor_machine.specs.Lenders.{later_memory}
+use Rattle.monitor_machine.specs.Parts.{Addresses, trace_of, with_trace, new_context, present, private_of, parts_of, states_of, world_of, IsWhole, UnitMoves}
+
+pub parts_of-set : (cs : List Context) (ts : List Addresses) (vs : List VState) (ms : List Memory) (i : ℕ) (c : Context) (t : Addresses) (v : VState) (m : Memory)
+    → length cs ≡ length ts → length ts ≡ length vs → length vs ≡ length ms
+    → parts_of (set cs i c) (set ts i t) (set vs i v) (set ms i m) ≡ set (parts_of cs ts vs ms) i (private_of c t v m)
+parts_of-set [] ts vs ms i c t v m e f g = refl
+parts_of-set (d ∷ cs) [] vs ms i c t v m e f g = absurd (omega (arith, e))
+parts_of-set (d ∷ cs) (u ∷ ts) [] ms i c t v m e f g = absurd (omega (arith, f))
+parts_of-set (d ∷ cs) (u ∷ ts) (w ∷ vs) [] i c t v m e f g = absurd (omega (arith, g))
+parts_of-set (d ∷ cs) (u ∷ ts) (w ∷ vs) (n ∷ ms) zero c t v m e f g = refl
+parts_of-set (d ∷ cs) (u ∷ ts) (w ∷ vs) (n ∷ ms) (suc i) c t v m e f g =
+    ap (λ (ps : List Private). private_of d u w n ∷ ps)
+    (parts_of-set cs ts vs ms i c t v m (omega (arith, e)) (omega (arith, f)) (omega (arith, g)))
+
+pub parts_at : (cs : List Context) (ts : List Addresses) (vs : List VState) (ms : List Memory) (i : ℕ) (c : Context) → i < length cs
+    → length cs ≡ length ts → length ts ≡ length vs → length vs ≡ length ms
+    → get_or (parts_of cs ts vs ms) i None ≡ private_of (get_or cs i c) (get_or ts i []) (get_or vs i initial_vector) (get_or ms i empty)
+parts_at [] ts vs ms i c lt e f g = absurd (omega (arith, lt))
+parts_at (d ∷ cs) [] vs ms i c lt e f g = absurd (omega (arith, e))
+parts_at (d ∷ cs) (u ∷ ts) [] ms i c lt e f g = absurd (omega (arith, f))
+parts_at (d ∷ cs) (u ∷ ts) (w ∷ vs) [] i c lt e f g = absurd (omega (arith, g))
+parts_at (d ∷ cs) (u ∷ ts) (w ∷ vs) (n ∷ ms) zero c lt e f g = refl
+parts_at (d ∷ cs) (u ∷ ts) (w ∷ vs) (n ∷ ms) (suc i) c lt e f g =
+    parts_at cs ts vs ms i c (omega (arith, lt)) (omega (arith, e)) (omega (arith, f)) (omega (arith, g))
+
+pub part_count : (cs : List Context) (ts : List Addresses) (vs : List VState) (ms : List Memory)
+    → length cs ≡ length ts → length ts ≡ length vs → length vs ≡ length ms → length (parts_of cs ts vs ms) ≡ length cs
+part_count [] ts vs ms e f g = refl
+part_count (c ∷ cs) [] vs ms e f g = absurd (omega (arith, e))
+part_count (c ∷ cs) (t ∷ ts) [] ms e f g = absurd (omega (arith, f))
+part_count (c ∷ cs) (t ∷ ts) (v ∷ vs) [] e f g = absurd (omega (arith, g))
+part_count (c ∷ cs) (t ∷ ts) (v ∷ vs) (m ∷ ms) e f g =
+    ap (λ (n : ℕ). suc n) (part_count cs ts vs ms (omega (arith, e)) (omega (arith, f)) (omega (arith, g)))
+
+-- ---- the vector states of all users
+
+pub eight_states : (unit : Unit) → length (states_of unit) ≡ user_count
+unfolding states_of
+eight_states unit = length-map-range_with_len (state_of unit) 1 user_count
+
+states_at : (unit : Unit) (i : ℕ) → i < user_count → get_or (states_of unit) i initial_vector ≡ state_of unit (1 + i)
+unfolding states_of
+states_at unit i low = get_or-map-range_with_len (state_of unit) 1 user_count i (1 + i) initial_vector low refl
+
+state_at : (unit : Unit) (u : ℕ) → 1 ≤ u → u ≤ user_count → get_or (states_of unit) (u - 1) initial_vector ≡ state_of unit u
+state_at unit u low high =
+    states_at unit (u - 1) (omega (arith, low, high))
+    ∙ ap (state_of unit) (let back : 1 + (u - 1) ≡ u = omega (arith, low) in back)
+
+-- where only one user's state is another, only that place of the states is
+states_moved : (user : ℕ) (old new : Unit) (count : VectorUnit) → 1 ≤ user → user ≤ user_count → UnitMoves user old new count
+    → states_of new ≡ set (states_of old) (user - 1) (state_of new user)
+states_moved user old new count low high moves =
+    let before : List VState = states_of old in
+    let after : List VState = states_of new in
+    let unset = length-set before (user - 1) (state_of new user) in
+    ext_get_or initial_vector after (set before (user - 1) (state_of new user)) (omega (arith, eight_states new, eight_states old, unset))
+    (λ k lt. elim (cases_eq k (user - 1)) [
+      | inl here ↦
+          subst (λ n. get_or after n initial_vector ≡ get_or (set before (user - 1) (state_of new user)) n initial_vector) (sym here)
+          (state_at new user low high
+          ∙ sym (get_or-set_same before (user - 1) (state_of new user) initial_vector (omega (arith, eight_states old, low, high))))
+      | inr other ↦
+          states_at new k (omega (arith, lt, eight_states new))
+          ∙ moves.strangers (1 + k) (omega arith) (λ e. other (omega (arith, e)))
+          ∙ sym (states_at old k (omega (arith, lt, eight_states new)))
+          ∙ sym (get_or-set_other before (user - 1) k (state_of new user) initial_vector other)
+    ])
+
+-- nothing has moved
+pub unit_stays : (user : ℕ) (unit : Unit) → IsSettled unit → UnitMoves user unit unit (record_of unit)
+unit_stays user unit settled = record { settled = settled; strangers = λ other low apart. refl; counts = refl }
+
+-- it moved twice, so it moved
+pub unit_moves_twice : (user : ℕ) (first second third : Unit) (one two : VectorUnit) → UnitMoves user first second one → UnitMoves user second third two
+    → UnitMoves user first third two
+unit_moves_twice user first second third one two h k = record {
+  settled = k.settled;
+  strangers = λ other low apart. k.strangers other low apart ∙ h.strangers other low apart;
+  counts = k.counts;
+}
+
+-- what it is counted as, said otherwise
+pub unit_counts : (user : ℕ) (old new : Unit) (one two : VectorUnit) → UnitMoves user old new one → one ≡ two → UnitMoves user old new two
+unit_counts user old new one two h same = record { settled = h.settled; strangers = h.strangers; counts = h.counts ∙ same }
+
+pub unit_counted_so : (user : ℕ) (old new : Unit) (one : VectorUnit) → UnitMoves user old new one → UnitMoves user old new (record_of new)
+unit_counted_so user old new one h = unit_counts user old new one (record_of new) h (sym h.counts)
+
+-- ---- the parts of a world
+
+-- a user's trace that was put there is there
+pub trace_there : (ts : List Addresses) (u : ℕ) (t : Addresses) → u - 1 < length ts → trace_of (with_trace ts u t) u ≡ t
+trace_there ts u t within = get_or-set_same ts (u - 1) t [] within
+
+-- a user's part, by the user's place i
+pub part_is : (cs : List Context) (ts : List Addresses) (unit : Unit) (ms : List Memory) (cursor u i : ℕ) (d : Context) → i ≡ u - 1 → i < user_count → 1 ≤ u
+    → IsWhole cs ts unit ms
+    → part u (world_of cs ts unit ms cursor) ≡ private_of (get_or cs i d) (trace_of ts u) (state_of unit u) (memory_of_user ms u)
+part_is cs ts unit ms cursor u i d at low user whole =
+    parts_at cs ts (states_of unit) ms (u - 1) d (omega (arith, whole.contexts, at, low)) (whole.contexts ∙ sym whole.traces)
+    (whole.traces ∙ sym (eight_states unit)) (eight_states unit ∙ sym whole.memories)
+    ∙ ap (λ (v : VState). private_of (get_or cs (u - 1) d) (trace_of ts u) v (memory_of_user ms u)) (state_at unit u user (omega (arith, at, low)))
+    ∙ ap (λ (j : ℕ). private_of (get_or cs j d) (trace_of ts u) (state_of unit u) (memory_of_user ms u)) (sym at)
+
+-- how many parts there are
+pub eight_parts : (cs : List Context) (ts : List Addresses) (unit : Unit) (ms : List Memory) → IsWhole cs ts unit ms
+    → length (parts_of cs ts (states_of unit) ms) ≡ user_count
+eight_parts cs ts unit ms whole =
+    part_count cs ts (states_of unit) ms (whole.contexts ∙ sym whole.traces) (whole.traces ∙ sym (eight_states unit)) (eight_states unit ∙ sym whole.memories)
+    ∙ whole.contexts
+
+-- the world after a change of one user's context, trace, vector state and memory
+pub world_with : (cs : List Context) (ts ts' : List Addresses) (unit unit' : Unit) (ms ms' : List Memory) (cursor u i : ℕ) (d c' : Context) (f : Private → Private) (g : Private → VectorUnit → VectorUnit)
+    → i ≡ u - 1 → i < user_count → 1 ≤ u → IsWhole cs ts unit ms
+    → private_of c' (trace_of ts' u) (state_of unit' u) (memory_of_user ms' u)
+    ≡ f (private_of (get_or cs i d) (trace_of ts u) (state_of unit u) (memory_of_user ms u))
+    → ts' ≡ with_trace ts u (trace_of ts' u)
+    → UnitMoves u unit unit' (g (private_of (get_or cs i d) (trace_of ts u) (state_of unit u) (memory_of_user ms u)) (record_of unit)) → ms' ≡ with_memory ms u (memory_of_user ms' u)
+    → world_of (set cs i c') ts' unit' ms' cursor
+    ≡ with_unit (g (part u (world_of cs ts unit ms cursor)) (record_of unit)) (with_part u (f (part u (world_of cs ts unit ms cursor))) (world_of cs ts unit ms cursor))
+world_with cs ts ts' unit unit' ms ms' cursor u i d c' f g at low user whole next traces moves others =
+    let t' = trace_of ts' u in
+    let v' = state_of unit' u in
+    let m' = memory_of_user ms' u in
+    let world : World = world_of cs ts unit ms cursor in
+    let before : Private = private_of (get_or cs i d) (trace_of ts u) (state_of unit u) (memory_of_user ms u) in
+    let same : part u world ≡ before = part_is cs ts unit ms cursor u i d at low user whole in
+    let done : private_of c' t' v' m' ≡ f (part u world) = next ∙ ap f (sym same) in
+    let moved : parts_of (set cs (u - 1) c') ts' (states_of unit') ms' ≡ set (parts_of cs ts (states_of unit) ms) (u - 1) (private_of c' t' v' m') =
+    ap (parts_of (set cs (u - 1) c') ts' (states_of unit')) others
+    ∙ ap (λ (l : List Addresses). parts_of (set cs (u - 1) c') l (states_of unit') (with_memory ms u m')) traces
+    ∙ ap (λ (l : List VState). parts_of (set cs (u - 1) c') (with_trace ts u t') l (with_memory ms u m')) (states_moved u unit unit' (g before (record_of unit)) user (omega (arith, at, low)) moves)
+    ∙ parts_of-set cs ts (states_of unit) ms (u - 1) c' t' v' m' (whole.contexts ∙ sym whole.traces) (whole.traces ∙ sym (eight_states unit)) (eight_states unit ∙ sym whole.memories) in
+    ap (λ (j : ℕ). world_of (set cs j c') ts' unit' ms' cursor) at
+    ∙ ap (λ (ps : List Private). let r : World = record { parts = ps; cursor = cursor; unit = record_of unit' } in r) moved
+    ∙ ap (λ (p : Private). with_unit (record_of unit') (with_part u p world)) done
+    ∙ ap (λ (r : VectorUnit). with_unit r (with_part u (f (part u world)) world)) (moves.counts ∙ ap (λ (p : Private). g p (record_of unit)) (sym same))
+
+-- one user's memory was changed twice, so it was changed
+pub changed_twice : (u : ℕ) (p q r : List Memory) → q ≡ with_memory p u (memory_of_user q u) → r ≡ with_memory q u (memory_of_user r u) → r ≡ with_memory p u (memory_of_user r u)
+changed_twice u p q r h k =
+    k ∙ ap (λ (ms : List Memory). with_memory ms u (memory_of_user r u)) h ∙ later_memory p u (memory_of_user q u) (memory_of_user r u)
+
+-- a part put back changes nothing
+pub part_put_back : (u : ℕ) (w : World) → with_part u (part u w) w ≡ w
+part_put_back u w = ap (λ (ps : List Private). record w { parts = ps }) (set-get_or w.parts (u - 1) None)
+
+pub world_put_back : (u : ℕ) (w : World) → with_unit w.unit (with_part u (part u w) w) ≡ w
+world_put_back u w = ap (with_unit w.unit) (part_put_back u w)
+
+-- new contexts over empty traces and memories are absent users, whatever the vector states are
+absent_parts : (n : ℕ) (vs : List VState) → length vs ≡ n → parts_of (replicate n new_context) (replicate n []) vs (replicate n empty) ≡ replicate n None
+absent_parts zero vs e = refl
+absent_parts (suc n) [] e = absurd (omega (arith, e))
+absent_parts (suc n) (v ∷ vs) e = ap (λ (ps : List Private). None ∷ ps) (absent_parts n vs (omega (arith, e)))
+
+-- one for each user is the new world
+pub new_users : (cs : List Context) (ts : List Addresses) (unit : Unit) (ms : List Memory) → cs ≡ replicate user_count new_context → ts ≡ replicate user_count [] → record_of unit ≡ unused_unit
+    → ms ≡ no_memories → world_of cs ts unit ms user_count ≡ new_world
+unfolding new_world
+new_users cs ts unit ms p q counts r =
+    ap (λ (v : VectorUnit). let w : World = record { parts = parts_of cs ts (states_of unit) ms; cursor = user_count; unit = v } in w) counts
+    ∙ rw (p, q, r) (ap (λ (ps : List Private). let w : World = record { parts = ps; cursor = user_count; unit = unused_unit } in w) (absent_parts user_count (states_of unit) (eight_states unit)))
+
+-- there is one for each user
+pub new_are_eight : (w : World) → w ≡ new_world → length w.parts ≡ user_count
+unfolding new_world
+new_are_eight w h = ap (λ (v : World). length v.parts) h
+
+-- the machine of a user that has entered, and of one that is absent
+pub entered_as : (c : Context) (t : Addresses) (v : VState) (m : Memory) → c.entered ≡ true → private_of c t v m ≡ Some (present c t v m)
+entered_as c t v m h = ap (λ (b : Bool). if b then Some (present c t v m) else None) h
+
+pub absent_as : (c : Context) (t : Addresses) (v : VState) (m : Memory) → c.entered ≡ false → private_of c t v m ≡ None
+absent_as c t v m h = ap (λ (b : Bool). if b then Some (present c t v m) else None) h

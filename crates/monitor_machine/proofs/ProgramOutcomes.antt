@@ -1,0 +1,162 @@
+-- What commands on programs come to, by what is tested.
+use Rattle.std.proofs.Common.{◌≡◌, ◌↔◌, ℕ, ◌+◌, ◌*◌, ◌<◌, ◌≤◌, List, [], ◌∷◌, ◌++◌, sym, ap, ◌∙◌, inl, inr, Bool, true, false, Option, Some, None, Result, Ok, Err, lt-ltb, le-ltb}
+use Rattle.std.specs.Prelude.{if◌then◌else◌, not}
+use Rattle.std.proofs.lemmas.Bool.{cases_lt}
+use Rattle.std.specs.Int.{to_le_bytes, w32}
+use Rattle.rv_model.specs.declared.commands.refusal.Refusal.TheVariants as refusal
+use Rattle.rv_model.specs.declared.images.ElfFault.{ElfFault}
+use Rattle.rv_model.specs.declared.memory.Access.TheVariants.{Monitor}
+use Rattle.rv_model.specs.declared.memory.MapRefusal.{MapRefusal}
+use Rattle.rv_model.specs.assembler.Table.{spelled}
+use Rattle.rv_model.specs.commands.Printing.{refused}
+use Rattle.rv_model.specs.commands.Programs.{image_named, loaded, loaded_line, loading, loading_named, loads, asm_line, assembling, assembles, dis_lines, shows_instructions}
+use Rattle.rv_model.specs.images.Faults.{first_fault}
+use Rattle.rv_model.specs.images.Fields.{entry_of}
+use Rattle.rv_model.specs.images.Image.{memory_of_image}
+use Rattle.rv_model.specs.machine.Setup.{Image}
+use Rattle.rv_model.specs.declared.vector.state.VState.{VState}
+use Rattle.rv_model.specs.machine.UnitEvents.{can_be_loaded, unit_after_load}
+use Rattle.rv_model.specs.machine.VectorUnit.{VectorUnit, unit_discarded}
+use Rattle.rv_model.specs.machine.UserMachine.{Outcome, answers, refuses}
+use Rattle.rv_model.specs.memory.Memory.{Memory, bytes_at, can_access, put_bytes, page_count}
+use Rattle.rv_model.specs.memory.Sizes.{page_quota}
+use Rattle.rv_model.specs.text.Lines.{text}
+use Rattle.rv_model.specs.vector.State.{initial_vector}
+use Rattle.monitor_machine.specs.declared.context.Context.{Context}
+use Rattle.monitor_machine.specs.Parts.{Addresses, loaded_context, present, private_of}
+use Rattle.monitor_machine.proofs.MemoryOutcomes.{allowed, not_allowed}
+use Rattle.monitor_machine.proofs.PartLaws.{entered_as}
+
+-- where the address isn't mapped
+pub assembles_unmapped : (c : Context) (t : Addresses) (v : VState) (m : Memory) (addr : ℕ) (text : List ℕ) → can_access Monitor m addr 4 ≡ false
+    → assembles addr text (present c t v m) ≡ refuses (Some (present c t v m)) refusal.NotMapped
+assembles_unmapped c t v m addr text h =
+    not_allowed (assembling addr (spelled text) (present c t v m)) (refuses (Some (present c t v m)) refusal.NotMapped) (can_access Monitor m addr 4) h
+
+assembles_mapped : (c : Context) (t : Addresses) (v : VState) (m : Memory) (addr : ℕ) (text : List ℕ) (r : Result ℕ ℕ) → can_access Monitor m addr 4 ≡ true → spelled text ≡ r
+    → assembles addr text (present c t v m) ≡ assembling addr r (present c t v m)
+assembles_mapped c t v m addr text r h k =
+    allowed (assembling addr (spelled text) (present c t v m)) (refuses (Some (present c t v m)) refusal.NotMapped) (can_access Monitor m addr 4) h
+    ∙ ap (λ (r : Result ℕ ℕ). assembling addr r (present c t v m)) k
+
+-- where the text spells no instruction
+pub assembles_misspelled : (c : Context) (t : Addresses) (v : VState) (m : Memory) (addr : ℕ) (text : List ℕ) (column : ℕ) → can_access Monitor m addr 4 ≡ true → spelled text ≡ Err column
+    → assembles addr text (present c t v m) ≡ refuses (Some (present c t v m)) (refusal.Assembler column)
+assembles_misspelled c t v m addr text column h k = assembles_mapped c t v m addr text (Err column) h k
+
+-- where it spells one
+pub assembles_accepted : (c : Context) (t : Addresses) (v : VState) (m : Memory) (addr : ℕ) (text : List ℕ) (word : ℕ) → can_access Monitor m addr 4 ≡ true → spelled text ≡ Ok word
+    → assembles addr text (present c t v m) ≡ answers (present c t v (put_bytes m addr (to_le_bytes w32 word))) (asm_line addr word)
+assembles_accepted c t v m addr text word h k = assembles_mapped c t v m addr text (Ok word) h k
+
+-- the instructions of mapped pages
+abbrev shown : Context → Addresses → VState → Memory → ℕ → ℕ → Outcome
+shown c t v m addr count = record { next = Some (present c t v m); lines = dis_lines addr count (bytes_at m addr (4 * count)) }
+
+pub shows_accepted : (c : Context) (t : Addresses) (v : VState) (m : Memory) (addr count : ℕ) → can_access Monitor m addr (4 * count) ≡ true
+    → shows_instructions addr count (present c t v m) ≡ record { next = Some (present c t v m); lines = dis_lines addr count (bytes_at m addr (4 * count)) }
+shows_accepted c t v m addr count h =
+    allowed (shown c t v m addr count) (refuses (Some (present c t v m)) refusal.NotMapped) (can_access Monitor m addr (4 * count)) h
+
+pub shows_refused : (c : Context) (t : Addresses) (v : VState) (m : Memory) (addr count : ℕ) → can_access Monitor m addr (4 * count) ≡ false
+    → shows_instructions addr count (present c t v m) ≡ refuses (Some (present c t v m)) refusal.NotMapped
+shows_refused c t v m addr count h =
+    not_allowed (shown c t v m addr count) (refuses (Some (present c t v m)) refusal.NotMapped) (can_access Monitor m addr (4 * count)) h
+
+-- where no image has the name
+pub loads_unknown : (images : List Image) (c : Context) (t : Addresses) (v : VState) (m : Memory) (name : List ℕ) → image_named images name ≡ None
+    → loads images name (present c t v m) ≡ refuses (Some (present c t v m)) refusal.ImageName
+loads_unknown images c t v m name h = ap (λ (image : Option (List ℕ)). loading_named image (present c t v m)) h
+
+loads_named : (images : List Image) (c : Context) (t : Addresses) (v : VState) (m : Memory) (name image : List ℕ) (fault : Option ElfFault) → image_named images name ≡ Some image → first_fault image ≡ fault
+    → loads images name (present c t v m) ≡ loading image fault (present c t v m)
+loads_named images c t v m name image fault h k =
+    ap (λ (i : Option (List ℕ)). loading_named i (present c t v m)) h ∙ ap (λ (f : Option ElfFault). loading image f (present c t v m)) k
+
+-- where the image has a fault
+pub loads_faulty : (images : List Image) (c : Context) (t : Addresses) (v : VState) (m : Memory) (name image : List ℕ) (fault : ElfFault) → image_named images name ≡ Some image → first_fault image ≡ Some fault
+    → loads images name (present c t v m) ≡ refuses (Some (present c t v m)) (refusal.ElfFault fault)
+loads_faulty images c t v m name image fault h k = loads_named images c t v m name image (Some fault) h k
+
+-- where it has none
+pub loads_sound : (images : List Image) (c : Context) (t : Addresses) (v : VState) (m : Memory) (name image : List ℕ) → image_named images name ≡ Some image → first_fault image ≡ None
+    → loads images name (present c t v m) ≡ loading image None (present c t v m)
+loads_sound images c t v m name image h k = loads_named images c t v m name image None h k
+
+-- where a sound image has too many pages, and where it hasn't
+abbrev loads_by : Context → Addresses → VState → Memory → List ℕ → Bool → Outcome
+loads_by c t v m image many =
+    if many then refuses (Some (present c t v m)) refusal.Quota
+    else answers (loaded image) (loaded_line (entry_of image) (page_count (memory_of_image image)))
+
+pub loading_too_large : (c : Context) (t : Addresses) (v : VState) (m : Memory) (image : List ℕ) → page_quota < page_count (memory_of_image image)
+    → loading image None (present c t v m) ≡ refuses (Some (present c t v m)) refusal.Quota
+loading_too_large c t v m image many = ap (loads_by c t v m image) (lt-ltb page_quota (page_count (memory_of_image image)) many)
+
+pub loading_accepted : (c : Context) (t : Addresses) (v : VState) (m : Memory) (image : List ℕ) → page_count (memory_of_image image) ≤ page_quota
+    → loading image None (present c t v m) ≡ answers (present (loaded_context (entry_of image)) [] initial_vector (memory_of_image image)) (loaded_line (entry_of image) (page_count (memory_of_image image)))
+loading_accepted c t v m image few = ap (loads_by c t v m image) (le-ltb page_quota (page_count (memory_of_image image)) few)
+
+-- an image that was placed has at most 256 pages
+pub few_pages : (n entry : ℕ) (r : MapRefusal) → (let placed : Result ℕ MapRefusal = Ok entry in placed ≡ Err r) ↔ (page_quota < n) → n ≤ page_quota
+few_pages n entry r h = elim (cases_lt page_quota n) [
+  | inl many ↦ absurd (let never = h.1 many in cc never)
+  | inr few ↦ few
+]
+
+-- a placed image is the machine that `load` makes
+pub placed_next : (c c' : Context) (t t' : Addresses) (v v' : VState) (m m' : Memory) (image : List ℕ) (entry : ℕ) → page_count (memory_of_image image) ≤ page_quota
+    → entry ≡ entry_of image → c' ≡ loaded_context entry → t' ≡ [] → v' ≡ initial_vector → m' ≡ memory_of_image image → private_of c' t' v' m' ≡ (loading image None (present c t v m)).next
+placed_next c c' t t' v v' m m' image entry few at context trace vector memory =
+    ap (λ (d : Context). private_of d t' v' m') context
+    ∙ ap (λ (e : ℕ). private_of (loaded_context e) t' v' m') at
+    ∙ ap (λ (u : Addresses). private_of (loaded_context (entry_of image)) u v' m') trace
+    ∙ ap (λ (w : VState). private_of (loaded_context (entry_of image)) [] w m') vector
+    ∙ ap (λ (n : Memory). private_of (loaded_context (entry_of image)) [] initial_vector n) memory
+    ∙ sym (ap (λ (o : Outcome). o.next) (loading_accepted c t v m image few))
+
+-- and its line is what `load` prints
+pub placed_reply : (c : Context) (t : Addresses) (v : VState) (m m' : Memory) (image : List ℕ) (entry pages user : ℕ) (before after : List ℕ) → page_count (memory_of_image image) ≤ page_quota
+    → entry ≡ entry_of image → m' ≡ memory_of_image image → pages ≡ page_count m' → before ≡ [] → after ≡ before ++ text (48 + user) (loaded_line entry pages ∷ []) → after ≡ text (48 + user) (loading image None (present c t v m)).lines
+placed_reply c t v m m' image entry pages user before after few at memory counted clear printed =
+    printed
+    ∙ ap (λ (b : List ℕ). b ++ text (48 + user) (loaded_line entry pages ∷ [])) clear
+    ∙ ap (λ (e : ℕ). text (48 + user) (loaded_line e pages ∷ [])) at
+    ∙ ap (λ (n : ℕ). text (48 + user) (loaded_line (entry_of image) n ∷ [])) (counted ∙ ap page_count memory)
+    ∙ sym (ap (λ (o : Outcome). text (48 + user) o.lines) (loading_accepted c t v m image few))
+
+-- a machine whose image is too large stays, and the refusal is printed
+pub too_large_next : (c : Context) (t : Addresses) (v : VState) (m m' : Memory) (image : List ℕ) → page_quota < page_count (memory_of_image image) → c.entered ≡ true → m' ≡ m
+    → private_of c t v m' ≡ (loading image None (present c t v m)).next
+too_large_next c t v m m' image many entered same =
+    ap (private_of c t v) same ∙ entered_as c t v m entered ∙ sym (ap (λ (o : Outcome). o.next) (loading_too_large c t v m image many))
+
+pub too_large_reply : (c : Context) (t : Addresses) (v : VState) (m : Memory) (image : List ℕ) (user : ℕ) (before after : List ℕ) → page_quota < page_count (memory_of_image image) → before ≡ []
+    → after ≡ before ++ text (48 + user) (refused refusal.Quota ∷ []) → after ≡ text (48 + user) (loading image None (present c t v m)).lines
+too_large_reply c t v m image user before after many clear printed =
+    printed ∙ ap (λ (b : List ℕ). b ++ text (48 + user) (refused refusal.Quota ∷ [])) clear ∙ sym (ap (λ (o : Outcome). text (48 + user) o.lines) (loading_too_large c t v m image many))
+
+-- the vector unit after a sound image was placed, and after one that is too large
+unit_by : ℕ → Bool → VectorUnit → VectorUnit
+unit_by user many unit = if not many then unit_discarded user unit else unit
+
+pub loaded_unit : (user : ℕ) (image : List ℕ) (unit : VectorUnit) → page_count (memory_of_image image) ≤ page_quota
+    → (if can_be_loaded image None then unit_discarded user unit else unit) ≡ unit_discarded user unit
+unfolding unit_by
+loaded_unit user image unit few = ap (λ (b : Bool). unit_by user b unit) (le-ltb page_quota (page_count (memory_of_image image)) few)
+
+pub too_large_unit : (user : ℕ) (image : List ℕ) (unit : VectorUnit) → page_quota < page_count (memory_of_image image)
+    → (if can_be_loaded image None then unit_discarded user unit else unit) ≡ unit
+unfolding unit_by
+too_large_unit user image unit many = ap (λ (b : Bool). unit_by user b unit) (lt-ltb page_quota (page_count (memory_of_image image)) many)
+
+-- the same of the image of a name
+pub load_unit_unknown : (images : List Image) (user : ℕ) (name : List ℕ) (unit : VectorUnit) → image_named images name ≡ None
+    → unit_after_load user (image_named images name) unit ≡ unit
+load_unit_unknown images user name unit h = ap (λ (image : Option (List ℕ)). unit_after_load user image unit) h
+
+pub load_unit_named : (images : List Image) (user : ℕ) (name image : List ℕ) (fault : Option ElfFault) (unit : VectorUnit) → image_named images name ≡ Some image → first_fault image ≡ fault
+    → unit_after_load user (image_named images name) unit ≡ (if can_be_loaded image fault then unit_discarded user unit else unit)
+load_unit_named images user name image fault unit h k =
+    ap (λ (i : Option (List ℕ)). unit_after_load user i unit) h
+    ∙ ap (λ (f : Option ElfFault). if can_be_loaded image f then unit_discarded user unit else unit) k

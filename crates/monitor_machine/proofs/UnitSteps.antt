@@ -1,0 +1,66 @@
+-- What one instruction of a user does to the one vector unit of all users, by how the unit was lent.
+use Rattle.std.proofs.Common.{◌≡◌, ℕ, Bool, true, false, refl, ap, ◌∙◌, sym, arith}
+use Rattle.std.specs.Prelude.{if◌then◌else◌, ◌||◌, ◌≢◌}
+use Rattle.rv_model.specs.declared.vector.state.Seat.{Seat}
+use Rattle.rv_model.specs.machine.VectorUnit.{VectorUnit, unit_after_instruction, unit_changed, unit_touched}
+use Rattle.lazy_context.specs.declared.unit.Unit.{Unit}
+use Rattle.lazy_context.specs.LazyUnit.{AllKeep, OthersKeep, record_of, state_of, touched, with_seat}
+use Rattle.monitor_machine.specs.declared.lenders.UserVectors.{UserVectors}
+
+-- how the unit came back: if an instruction touched it, with what is in the user's seat then, else as it was
+abbrev pub came_back : Bool → ℕ → Unit → Unit → Unit
+came_back touches user old new = if touches then with_seat (touched user new).seat (touched user old) else old
+
+-- a user's lender came back with the unit that came back to it
+pub lender_back : (touches : Bool) (old new : UserVectors) → new ≡ (if touches then record old { unit = record old.unit { now = with_seat (touched new.user new.unit.now).seat (touched old.user old.unit.now) } } else old)
+    → (new.unit.now ≡ came_back touches old.user old.unit.now new.unit.now) × (new.unit.ghost_name ≡ old.unit.ghost_name) × (new.user ≡ old.user)
+lender_back true old new back =
+    let same = ap (λ (v : UserVectors). v.user) back in (
+      ap (λ (v : UserVectors). v.unit.now) back ∙ ap (λ (u : ℕ). with_seat (touched u new.unit.now).seat (touched old.user old.unit.now)) same,
+      ap (λ (v : UserVectors). v.unit.ghost_name) back,
+      same,
+    )
+lender_back false old new back =
+    (ap (λ (v : UserVectors). v.unit.now) back, ap (λ (v : UserVectors). v.unit.ghost_name) back, ap (λ (v : UserVectors). v.user) back)
+
+-- the unit with the user's seat changed holds what was put there
+seat_is : (user : ℕ) (old : Unit) (s : Seat) → state_of (with_seat s (touched user old)) user ≡ s.state
+seat_is user old s = grind arith
+
+-- what is lent is the user's state, after as before
+pub state_lent : (touches : Bool) (user : ℕ) (old new : Unit) → new ≡ came_back touches user old new
+    → (touched user old).seat.state ≡ state_of old user → (touched user new).seat.state ≡ state_of new user
+state_lent true user old new back own =
+    sym (ap (λ (u : Unit). state_of u user) back ∙ seat_is user old (touched user new).seat)
+state_lent false user old new back own =
+    ap (λ (u : Unit). (touched user u).seat.state) back ∙ own ∙ sym (ap (λ (u : Unit). state_of u user) back)
+
+others_seated : (user other : ℕ) (old : Unit) (s : Seat) → other ≢ user → state_of (with_seat s (touched user old)) other ≡ state_of (touched user old) other
+others_seated user other old s apart = grind arith
+
+-- nobody else's state changes
+pub strangers_keep : (touches : Bool) (user : ℕ) (old new : Unit) → new ≡ came_back touches user old new → AllKeep old (touched user old)
+    → OthersKeep user old new
+strangers_keep true user old new back keep = λ other low apart.
+    ap (λ (u : Unit). state_of u other) back ∙ others_seated user other old (touched user new).seat apart ∙ keep other low
+strangers_keep false user old new back keep = λ other low apart. ap (λ (u : Unit). state_of u other) back
+
+counted_dirty : (b : Bool) (unit : VectorUnit) → record unit { dirty = unit.dirty || b } ≡ (if b then unit_changed unit else unit)
+counted_dirty b unit = by_mark unit.dirty b refl
+  where
+    by_mark : (d b : Bool) → unit.dirty ≡ d → record unit { dirty = d || b } ≡ (if b then unit_changed unit else unit)
+    by_mark true true e = refl
+    by_mark false true e = refl
+    by_mark true false e = ap (λ (x : Bool). record unit { dirty = x }) (sym e)
+    by_mark false false e = ap (λ (x : Bool). record unit { dirty = x }) (sym e)
+
+-- it is counted as an instruction that touches the unit, or doesn't
+pub counts_instruction : (touches changes : Bool) (user : ℕ) (old new : Unit) → new ≡ came_back touches user old new
+    → record_of (touched user old) ≡ unit_touched user (record_of old) → (touched user new).seat.dirty ≡ ((touched user old).seat.dirty || changes)
+    → record_of new ≡ unit_after_instruction touches changes user (record_of old)
+counts_instruction true changes user old new back touch marked =
+    ap record_of back
+    ∙ ap (λ (d : Bool). record (record_of (touched user old)) { dirty = d }) marked
+    ∙ counted_dirty changes (record_of (touched user old))
+    ∙ ap (λ (r : VectorUnit). if changes then unit_changed r else r) touch
+counts_instruction false changes user old new back touch marked = ap record_of back

@@ -1,0 +1,21 @@
+use Rattle.std.proofs.Common.{◌≡◌, ◌+◌, ◌-◌, ◌≤◌, ◌++◌, length}
+use Rattle.rv_model.specs.machine.Grants.{granted}
+use Rattle.rv_model.specs.machine.Script.{after_events, told_by}
+use Rattle.monitor_machine.specs.Images.{setup_of}
+use Rattle.monitor_machine.specs.StopRoom.{stops_room}
+use Rattle.monitor_machine.proofs.machine.Machine.grant_slices.Given as goal
+
+-- the slices that are left come to the same as all
+abbrev pub invariant-loop-granted : goal.invariant-loop-granted
+invariant-loop-granted g l =
+    let setup = l.fn.self.setup in
+    let now = l.self-inside.users in
+    let before = l.fn.self.world in
+    record {
+      same : setup_of l.self-inside.quantum l.self-inside.images.now ≡ setup;
+      eight : length now.parts ≡ 8;
+      world : after_events setup now (granted setup (l.count - l.granted) now) ≡ after_events setup before (granted setup l.count before);
+      told : l.reply ++ told_by setup now (granted setup (l.count - l.granted) now) ≡ told_by setup before (granted setup l.count before);
+      number : l.granted + length (granted setup (l.count - l.granted) now) ≡ length (granted setup l.count before);
+      room : length l.reply + stops_room now.parts ≤ 640;
+    }

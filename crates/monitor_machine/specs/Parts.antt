@@ -1,0 +1,107 @@
+-- What the fields of a machine stand for.
+use Rattle.std.specs.Prelude.{ℕ, ◌-◌, ◌≡◌, ◌&&◌, Bool, length, map, slice_index_or, slice_set, List, [], ◌∷◌, true, false, if◌then◌else◌, Some, None}
+use Rattle.rv_model.specs.declared.vector.policy.Policy.TheVariants.{Keep}
+use Rattle.rv_model.specs.declared.vector.state.VState.{VState}
+use Rattle.rv_model.specs.memory.Memory.{Memory}
+use Rattle.rv_model.specs.step.Step.{HartState}
+use Rattle.rv_model.specs.machine.Cuts.{Try}
+use Rattle.rv_model.specs.machine.PrivateMachine.{Private, Present}
+use Rattle.rv_model.specs.scalar.Registers.{initial_scalar, with_register}
+use Rattle.rv_model.specs.declared.machine.standing.Standing.{Standing}
+use Rattle.rv_model.specs.declared.machine.standing.Standing.TheVariants.{Absent, Stopped, Running}
+use Rattle.rv_model.specs.machine.Script.{World}
+use Rattle.rv_model.specs.machine.Users.{user_count, users}
+use Rattle.rv_model.specs.machine.VectorUnit.{VectorUnit}
+use Rattle.lazy_context.specs.declared.unit.Unit.{Unit}
+use Rattle.lazy_context.specs.LazyUnit.{IsSettled, OthersKeep, record_of, state_of}
+use Rattle.monitor_machine.specs.declared.context.Context.{Context}
+
+-- the context of a user who is absent
+abbrev pub new_context : Context
+new_context = record {
+  entered = false;
+  scalar = initial_scalar;
+  policy = Keep;
+  output = record { items = [] };
+  breakpoints = [];
+  running = false;
+  fresh = false;
+}
+
+-- the context of a user who has loaded an image, by the image's entry
+abbrev pub loaded_context : ℕ → Context
+loaded_context entry = record new_context { entered = true; scalar = with_register 2 0x7fffefc0 (record initial_scalar { pc = entry }) }
+
+-- what instructions work on, with a user's vector state and memory
+abbrev pub context_state : Context → VState → Memory → HartState
+context_state c vector memory =
+    record { scalar = c.scalar; vector = vector; memory = memory; output = c.output.items; policy = c.policy }
+
+-- an instruction that is tried with so many ticks left
+abbrev pub try_of : ℕ → Context → VState → Memory → Try
+try_of left c vector memory = record { left = left; hart = context_state c vector memory }
+
+-- the addresses of a trace, the oldest first
+abbrev pub Addresses : Type 0
+Addresses = List ℕ
+
+-- a user's trace among those of all users, user 1 first
+abbrev pub trace_of : List Addresses → ℕ → Addresses
+trace_of traces user = slice_index_or traces (user - 1) []
+
+-- the traces with another one for a user, and all others as they were
+abbrev pub with_trace : List Addresses → ℕ → Addresses → List Addresses
+with_trace traces user trace = slice_set traces (user - 1) trace
+
+-- a user that has entered
+abbrev pub present : Context → Addresses → VState → Memory → Present
+present c trace vector memory = record {
+  hart = context_state c vector memory;
+  breakpoints = c.breakpoints;
+  trace = trace;
+  running = c.running;
+  fresh = c.fresh;
+}
+
+-- the private machine of a context, a trace, a vector state and a memory
+abbrev pub private_of : Context → Addresses → VState → Memory → Private
+private_of c trace vector memory = if c.entered then Some (present c trace vector memory) else None
+
+-- whether the user of a context has entered and the program runs
+abbrev pub is_running : Context → Bool
+is_running c = c.entered && c.running
+
+-- what the user's program does
+abbrev pub context_standing : Context → Standing
+context_standing c = if c.entered then (if c.running then Running else Stopped) else Absent
+
+-- all private machines
+abbrev pub parts_of : List Context → List Addresses → List VState → List Memory → List Private
+parts_of [] traces vectors memories = []
+parts_of (c ∷ cs) [] vectors memories = []
+parts_of (c ∷ cs) (t ∷ ts) [] memories = []
+parts_of (c ∷ cs) (t ∷ ts) (v ∷ vs) [] = []
+parts_of (c ∷ cs) (t ∷ ts) (v ∷ vs) (m ∷ memories) = private_of c t v m ∷ parts_of cs ts vs memories
+
+-- the vector states of all users, which one vector unit has
+unfoldable pub states_of : Unit → List VState
+states_of unit = map (state_of unit) users
+
+-- the world of these contexts and traces, of this vector unit and these memories, by the user whose turn was the last
+abbrev pub world_of : List Context → List Addresses → Unit → List Memory → ℕ → World
+world_of contexts traces unit memories cursor =
+    record { parts = parts_of contexts traces (states_of unit) memories; cursor = cursor; unit = record_of unit }
+
+-- there is a context, a trace and a memory for each user, and the vector unit is settled
+pub record IsWhole (cs : List Context) (ts : List Addresses) (unit : Unit) (ms : List Memory) : Type 0 where
+  pub contexts : length cs ≡ user_count
+  pub traces : length ts ≡ user_count
+  pub memories : length ms ≡ user_count
+  pub settled : IsSettled unit
+
+-- what becomes of the vector unit by what happens to a user: it is settled, the others have their vector states, and it is
+-- counted so
+pub record UnitMoves (user : ℕ) (old new : Unit) (count : VectorUnit) : Type 0 where
+  pub settled : IsSettled new
+  pub strangers : OthersKeep user old new
+  pub counts : record_of new ≡ count

@@ -1,0 +1,87 @@
+//! The addresses of a user's breakpoints.
+use arrayvec::ArrayVec;
+use std::marker::Model;
+
+/// The most addresses of a set.
+const MAX_ADDRESSES: usize = 16;
+
+/// At most 16 addresses, in rising order.
+#[derive(Drop)]
+pub(crate) struct AddressSet {
+    addresses: ArrayVec<u64, MAX_ADDRESSES>,
+}
+
+impl Model for AddressSet {
+    ghost use Rattle.std.specs.Prelude.{List, ℕ};
+    ghost use Rattle.monitor_machine.specs.AddressSets.{IsRising};
+
+    ghost Value = { List ℕ };
+
+    ghost view = { λ s. s.addresses.items };
+
+    ghost invariant = { λ s. IsRising s.addresses.items };
+}
+
+impl AddressSet {
+    ghost use Rattle.std.specs.Prelude.{◌≡◌, ◌≤◌, ◌<◌, ◌==◌, nat_le, [], length};
+    ghost use Rattle.std.specs.List.{list_any};
+    ghost use Rattle.rv_model.specs.commands.Breakpoints.{breakpoint_limit, with_address, without_address};
+
+    /// No addresses.
+    pub(crate) fn new() -> AddressSet
+        ensures { result ≡ [] }
+    {
+        AddressSet {
+            addresses: ArrayVec::new(),
+        }
+    }
+
+    /// Whether an address is there.
+    pub(crate) fn contains(&self, addr: u64) -> bool
+        ensures { result ≡ list_any (λ a. a == addr) self.now }
+    {
+        self.addresses.as_slice().contains(&addr)
+    }
+
+    /// Whether there is no address.
+    #[inline(always)]
+    pub(crate) fn is_empty(&self) -> bool
+        ensures { result ≡ nat_le (length self.now) 0 }
+    {
+        self.addresses.is_empty()
+    }
+
+    /// Whether there is no room for another address.
+    pub(crate) fn is_full(&self) -> bool
+        ensures { result ≡ nat_le breakpoint_limit (length self.now) }
+    {
+        self.addresses.is_full()
+    }
+
+    /// Adds an address, if it isn't there.
+    pub(crate) fn insert(&mut self, addr: u64)
+        requires { length self.old < breakpoint_limit }
+        ensures { self.new ≡ with_address addr self.old }
+    {
+        if let Err(place) = self.addresses.as_slice().binary_search(&addr) {
+            self.addresses.insert(place, addr);
+        }
+    }
+
+    /// Takes an address out, if it is there.
+    pub(crate) fn remove(&mut self, addr: u64)
+        ensures { self.new ≡ without_address addr self.old }
+    {
+        if let Ok(place) = self.addresses.as_slice().binary_search(&addr) {
+            self.addresses.remove(place);
+        }
+    }
+
+    /// The addresses, in rising order.
+    pub(crate) fn as_slice(&self) -> &[u64]
+        ensures value { result.now ≡ self.now }
+        ensures few { length result.now ≤ 16 }
+    {
+        self.addresses.as_slice()
+    }
+}

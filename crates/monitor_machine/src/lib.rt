@@ -1,0 +1,27 @@
+//! A machine for eight users: each user's commands, slices of their programs, and the operator who
+//! grants them.
+#![tactic(auto)]
+
+mod address_set;
+mod addressee;
+mod breakpoints;
+mod commands;
+mod context;
+mod entering;
+mod image;
+mod lenders;
+mod machine;
+mod memory;
+mod new_fault;
+mod operator;
+mod programs;
+mod registers;
+mod running;
+mod slices;
+mod stepping;
+mod trace;
+mod users;
+
+pub use image::Image;
+pub use machine::Machine;
+pub use new_fault::{MAX_IMAGE, NewFault};

@@ -1,0 +1,137 @@
+//! What a new machine is refused for.
+ghost use Rattle.std.specs.Prelude.{◌≡◌, map};
+ghost use Rattle.std.specs.List.{list_all, list_any};
+ghost use Rattle.std.specs.Str.{bytes_eq};
+ghost use Rattle.monitor_machine.specs.Images.{named_images, setup_of};
+ghost use Rattle.monitor_machine.specs.NewFaults.{is_name as is_name_spec, is_name_byte as is_name_byte_spec, is_small, are_distinct as are_distinct_spec, new_fault};
+
+use crate::image::Image;
+use thiserror::Error;
+
+/// The most ticks of a slice.
+pub const MAX_QUANTUM: usize = 1000;
+
+/// The most images of a machine.
+pub const MAX_IMAGES: usize = 16;
+
+/// The most bytes of an image's name.
+pub const MAX_NAME: usize = 32;
+
+/// The most bytes of an image.
+pub const MAX_IMAGE: usize = 4_194_304;
+
+/// Why there is no new machine, in the order in which the reasons are tested.
+#[derive(Debug, Drop, Error)]
+pub enum NewFault {
+    /// The quantum isn't 1 to 1,000 ticks.
+    #[error("quantum out of range")]
+    Quantum,
+    /// There are more than 16 images.
+    #[error("too many images")]
+    ImageCount,
+    /// A name isn't 1 to 32 letters, digits, `.`, `_` or `-`, or is there twice.
+    #[error("bad image name")]
+    ImageName,
+    /// An image has more than 4,194,304 bytes.
+    #[error("image too large")]
+    ImageSize,
+    #[error("out of memory")]
+    NoMemory,
+}
+
+fn is_name_byte(byte: u8) -> bool
+    ensures { result ≡ is_name_byte_spec byte }
+{
+    match byte {
+        b'a'..=b'z' => true,
+        b'A'..=b'Z' => true,
+        b'0'..=b'9' => true,
+        b'.' => true,
+        b'_' => true,
+        b'-' => true,
+        _ => false,
+    }
+}
+
+#[tactic(auto, unfolding(crate::specs::NewFaults::is_name))]
+fn is_name(name: &str) -> bool
+    ensures { result ≡ is_name_spec name.now }
+{
+    let bytes = name.as_bytes();
+    if bytes.is_empty() || bytes.len() > MAX_NAME {
+        return false;
+    }
+    for byte in bytes {
+        if !is_name_byte(*byte) {
+            return false;
+        }
+    }
+    true
+}
+
+fn are_named(images: &[Image<'_>]) -> bool
+    ensures { result ≡ list_all (λ image. is_name_spec image.name) (named_images images.now) }
+{
+    for image in images {
+        if !is_name(image.name) {
+            return false;
+        }
+    }
+    true
+}
+
+fn are_small(images: &[Image<'_>]) -> bool
+    ensures { result ≡ list_all is_small (named_images images.now) }
+{
+    for image in images {
+        if image.bytes.len() > MAX_IMAGE {
+            return false;
+        }
+    }
+    true
+}
+
+/// Whether an image has this name.
+fn is_named(name: &str, images: &[Image<'_>]) -> bool
+    ensures { result ≡ list_any (λ image. bytes_eq image.name name.now) (named_images images.now) }
+{
+    for image in images {
+        if image.name == name {
+            return true;
+        }
+    }
+    false
+}
+
+/// Whether no two images have one name.
+#[tactic(auto, unfolding(crate::specs::NewFaults::are_distinct))]
+fn are_distinct(images: &[Image<'_>]) -> bool
+    ensures { result ≡ are_distinct_spec (named_images images.now) }
+{
+    for (place, image) in images.iter().enumerate() {
+        if is_named(image.name, &images[place + 1..]) {
+            return false;
+        }
+    }
+    true
+}
+
+/// The first fault that applies to this quantum and these images.
+#[tactic(auto, unfolding(crate::specs::NewFaults::new_fault))]
+pub(crate) fn fault_of(quantum: usize, images: &[Image<'_>]) -> Option<NewFault>
+    ensures { result ≡ new_fault (setup_of quantum images.now) }
+{
+    if quantum < 1 || quantum > MAX_QUANTUM {
+        return Some(NewFault::Quantum);
+    }
+    if images.len() > MAX_IMAGES {
+        return Some(NewFault::ImageCount);
+    }
+    if !are_named(images) || !are_distinct(images) {
+        return Some(NewFault::ImageName);
+    }
+    if !are_small(images) {
+        return Some(NewFault::ImageSize);
+    }
+    None
+}

@@ -1,0 +1,138 @@
+//! Slices, and the commands of the operator, who grants them.
+ghost use Rattle.std.specs.Prelude.{◌≡◌, ◌+◌, ◌≤◌, ◌++◌, [], ◌∷◌, false, Ok, length};
+ghost use Rattle.rv_model.specs.commands.Operator.{granted_line, operator_parse};
+ghost use Rattle.rv_model.specs.machine.Grants.{granted, grants, grants_of, operator_line, runs, slice_of};
+ghost use Rattle.rv_model.specs.machine.Script.{after_events, part, told_by};
+ghost use Rattle.rv_model.specs.machine.Turns.{AreInTurn};
+ghost use Rattle.rv_model.specs.machine.Users.{user_count};
+ghost use Rattle.rv_model.specs.text.Lines.{text};
+ghost use Rattle.monitor_machine.specs.MachineState.{SliceGoesOn};
+
+use crate::machine::Machine;
+use monitor_cmds::{Reply, Tag, parse_operator};
+use rv_model::{OperatorCommand, User};
+use std::alloc::Allocator;
+
+impl<A: Allocator> Machine<'_, A> {
+    /// Grants a slice to a user, and answers whether the user's program ran. The reply is then the
+    /// line that says why the program stopped, or empty where it still runs; it is empty, too, and
+    /// nothing changes where the program didn't run. Nobody else's machine changes.
+    #[tactic(auto, unfolding(rv_model::specs::machine::PrivateMachine::event, rv_model::specs::machine::UnitEvents::unit_after_event), using(crate::proofs::GrantLaws::stops_room_is_small))]
+    pub fn slice(&mut self, user: User, reply: &mut Reply) -> bool
+        ensures world { self.new.world
+            ≡ after_events self.old.setup self.old.world (slice_of user false ∷ []) }
+        ensures setup { self.new.setup ≡ self.old.setup }
+        ensures eight { length self.new.world.parts ≡ user_count }
+        ensures reply { reply.new
+            ≡ told_by self.old.setup self.old.world (slice_of user false ∷ []) }
+        ensures ran { result ≡ runs (part user self.old.world) }
+        ensures silent { result ≡ false → reply.new ≡ [] }
+        ensures same { result ≡ false → self.new ≡ self.old }
+
+        // It and a slice of so many ticks more come to one of all these ticks.
+        ensures adds_up { SliceGoesOn self.old user self.new reply.new }
+    {
+        reply.clear();
+        self.users.slice(user, self.quantum, reply)
+    }
+
+    /// Grants at most `count` slices in turn to users whose programs run, fewer only where none
+    /// runs any more. The reply, which is empty, is then why programs stopped: each stops at most
+    /// once. Answers how many slices were granted.
+    #[tactic(auto, using(crate::proofs::GrantLaws::stops_room_is_small))]
+    fn grant_slices(&mut self, count: usize, reply: &mut Reply) -> usize
+        requires { reply.old ≡ [] }
+        ensures world { self.new.world
+            ≡ after_events self.old.setup self.old.world (granted self.old.setup count self.old.world) }
+        ensures setup { self.new.setup ≡ self.old.setup }
+        ensures reply { reply.new
+            ≡ told_by self.old.setup self.old.world (granted self.old.setup count self.old.world) }
+        ensures count { result ≡ length (granted self.old.setup count self.old.world) }
+        ensures bound { length reply.new ≤ 640 }
+    {
+        for granted in 0..count {
+            let Some(user) = self.users.take_turn() else {
+                return granted;
+            };
+            self.users.slice(user, self.quantum, reply);
+        }
+        count
+    }
+
+    /// `* slices N`: grants slices in turn, and answers how many.
+    fn carry_out_slices(&mut self, count: usize, reply: &mut Reply)
+        requires { reply.old ≡ [] }
+        ensures world { self.new.world
+            ≡ after_events self.old.setup self.old.world (granted self.old.setup count self.old.world) }
+        ensures setup { self.new.setup ≡ self.old.setup }
+        ensures reply { reply.new ≡ told_by self.old.setup self.old.world (granted self.old.setup count self.old.world)
+            ++ text 42 (granted_line (length (granted self.old.setup count self.old.world)) ∷ []) }
+    {
+        let granted = self.grant_slices(count, reply);
+        monitor_cmds::granted_line(reply, granted);
+    }
+
+    /// `* run U`: grants a slice to a user, if the user's program runs, and answers whether it did.
+    #[tactic(auto, using(crate::proofs::GrantLaws::stops_room_is_small, crate::proofs::GrantLaws::one_run_world, crate::proofs::GrantLaws::one_run_told, crate::proofs::GrantLaws::one_run_count))]
+    fn carry_out_run(&mut self, user: User, reply: &mut Reply)
+        requires { reply.old ≡ [] }
+        ensures world { self.new.world
+            ≡ after_events self.old.setup self.old.world (grants self.old.setup self.old.world (OperatorCommand.Run user)) }
+        ensures setup { self.new.setup ≡ self.old.setup }
+        ensures reply { reply.new ≡ told_by self.old.setup self.old.world (grants self.old.setup self.old.world (OperatorCommand.Run user))
+            ++ text 42 (granted_line (length (grants self.old.setup self.old.world (OperatorCommand.Run user))) ∷ []) }
+    {
+        let ran = self.users.slice(user, self.quantum, reply);
+        monitor_cmds::granted_line(reply, usize::from(ran));
+    }
+
+    /// Carries out a command of the operator that is accepted. The reply, which is empty, is then
+    /// its answer.
+    fn carry_out_accepted(&mut self, command: OperatorCommand, reply: &mut Reply)
+        requires { reply.old ≡ [] }
+        ensures world { self.new.world
+            ≡ after_events self.old.setup self.old.world (grants self.old.setup self.old.world command) }
+        ensures setup { self.new.setup ≡ self.old.setup }
+        ensures reply { reply.new ≡ told_by self.old.setup self.old.world (grants self.old.setup self.old.world command)
+            ++ text 42 (operator_line self.old.setup self.old.world (Ok command) ∷ []) }
+    {
+        match command {
+            OperatorCommand::Slices(count) => self.carry_out_slices(count.get(), reply),
+            OperatorCommand::Run(user) => self.carry_out_run(user, reply),
+            OperatorCommand::List => monitor_cmds::list_line(reply, &self.users.standings()),
+            OperatorCommand::Stats => monitor_cmds::stats_line(reply, &self.users.stats()),
+        }
+    }
+
+    /// Carries out a line of the operator. The reply, which is empty, is then its answer.
+    pub(crate) fn carry_out_operator(&mut self, line: &[u8], reply: &mut Reply)
+        requires { reply.old ≡ [] }
+        ensures world { self.new.world
+            ≡ after_events self.old.setup self.old.world (grants_of self.old.setup self.old.world (operator_parse line.now)) }
+        ensures setup { self.new.setup ≡ self.old.setup }
+        ensures reply { reply.new ≡ told_by self.old.setup self.old.world (grants_of self.old.setup self.old.world (operator_parse line.now))
+            ++ text 42 (operator_line self.old.setup self.old.world (operator_parse line.now) ∷ []) }
+    {
+        match parse_operator(line) {
+            Ok(command) => self.carry_out_accepted(command, reply),
+            Err(refusal) => monitor_cmds::refused(reply, Tag::Common, refusal),
+        }
+    }
+
+    /// Carries out one command of the operator: the line without the star and the space after it.
+    /// Answers it in place of what the reply held: a line for each program that stopped, and then
+    /// what the operator is told. Refused are an unknown command (E03) and a wrong argument (E04)
+    /// alone. Each slice that is granted in turn is one of the user whose turn it is then.
+    #[tactic(auto, using(rv_model::proofs::machine_lemmas::Turns::grants_are_in_turn))]
+    pub fn operator(&mut self, line: &[u8], reply: &mut Reply)
+        ensures world { self.new.world
+            ≡ after_events self.old.setup self.old.world (grants_of self.old.setup self.old.world (operator_parse line.now)) }
+        ensures setup { self.new.setup ≡ self.old.setup }
+        ensures reply { reply.new ≡ told_by self.old.setup self.old.world (grants_of self.old.setup self.old.world (operator_parse line.now))
+            ++ text 42 (operator_line self.old.setup self.old.world (operator_parse line.now) ∷ []) }
+        ensures in_turn { AreInTurn self.old.setup self.old.world (grants_of self.old.setup self.old.world (operator_parse line.now)) }
+    {
+        reply.clear();
+        self.carry_out_operator(line, reply);
+    }
+}

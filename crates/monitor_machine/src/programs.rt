@@ -1,0 +1,243 @@
+//! Commands on programs in a user's memory, carried out.
+ghost use Rattle.std.specs.Prelude.{◌≡◌, ◌+◌, ◌-◌, ◌*◌, ◌<◌, ◌≤◌, [], Some, None, true, length, List, ℕ, MatchOption, if◌then◌else◌};
+ghost use Rattle.std.specs.Int.{to_le_bytes, w32};
+ghost use Rattle.lazy_context.specs.LazyUnit.{IsSettled, record_of, state_of};
+ghost use Rattle.rv_model.specs.declared.vector.state.VState.{VState};
+ghost use Rattle.rv_model.specs.declared.memory.Access.TheVariants.{Monitor};
+ghost use Rattle.rv_model.specs.images.Faults.{first_fault};
+ghost use Rattle.rv_model.specs.memory.Memory.{can_access, put_bytes};
+ghost use Rattle.rv_model.specs.commands.Programs.{image_named as image_named_of, loading, loads, assembles};
+ghost use Rattle.rv_model.specs.commands.Programs.{shows_instructions, program_command};
+ghost use Rattle.rv_model.specs.machine.UnitEvents.{can_be_loaded, unit_after_load, unit_after_programs};
+ghost use Rattle.rv_model.specs.machine.VectorUnit.{unit_discarded};
+ghost use Rattle.rv_model.specs.text.Lines.{text};
+ghost use Rattle.user_mem.specs.Users.{memory_of_user, with_memory};
+ghost use Rattle.monitor_machine.specs.declared.context.Context.{Context};
+ghost use Rattle.monitor_machine.specs.Images.{named_images};
+ghost use Rattle.monitor_machine.specs.Parts.{UnitMoves, present, private_of};
+
+use crate::context::Context;
+use crate::image::Image;
+use crate::trace::Trace;
+use elf_load::{Plan, check, place};
+use lazy_context::Unit;
+use monitor_cmds::{Reply, Tag};
+use rv_asm::assemble;
+use rv_model::{Access, Count, LinePart, ProgramCommand, Refusal, User};
+use std::alloc::Allocator;
+use user_mem::Pool;
+
+/// The bytes of an instruction.
+const WORD_SIZE: usize = 4;
+
+/// The most instructions that are shown at once.
+const MAX_SHOWN: usize = 16;
+
+/// Carries out a command on programs in the memory of a user who has entered, and answers it.
+#[tactic(auto, unfolding(rv_model::specs::commands::Programs::program_command), using(crate::proofs::PartLaws::entered_as, crate::proofs::PartLaws::unit_stays, crate::specs::Lenders::same_memory))]
+pub(crate) fn carry_out<A: Allocator>(
+    images: &[Image<'_>],
+    context: &mut Context,
+    trace: &mut Trace<A>,
+    unit: &mut Unit,
+    pool: &mut Pool<A>,
+    user: User,
+    command: &ProgramCommand<'_>,
+    reply: &mut Reply,
+)
+    requires present { context.old.entered ≡ true }
+    requires clear { reply.old ≡ [] }
+    requires settled { IsSettled unit.old }
+    requires within { user - 1 < length pool.old }
+    ensures next { private_of context.new trace.new (state_of unit.new user) (memory_of_user pool.new user)
+        ≡ (program_command (named_images images.now) command.now (present context.old trace.old (state_of unit.old user) (memory_of_user pool.old user))).next }
+    ensures unit { UnitMoves user unit.old unit.new
+        (unit_after_programs (named_images images.now) user command.now (record_of unit.old)) }
+    ensures others { pool.new ≡ with_memory pool.old user (memory_of_user pool.new user) }
+    ensures reply { reply.new
+        ≡ text (48 + user) (program_command (named_images images.now) command.now (present context.old trace.old (state_of unit.old user) (memory_of_user pool.old user))).lines }
+{
+    match command {
+        ProgramCommand::Load(name) => load(images, context, trace, unit, pool, user, name, reply),
+        ProgramCommand::Asm { addr, text } => assemble_at(pool, user, *addr, text, reply),
+        ProgramCommand::Dis { addr, count } => show_instructions(pool, user, *addr, *count, reply),
+    }
+}
+
+/// Writes a word to mapped pages, least byte first.
+fn write_word<A: Allocator>(pool: &mut Pool<A>, user: User, addr: u64, word: u32)
+    requires { can_access Monitor (memory_of_user pool.old user) addr 4 ≡ true }
+    ensures { pool.new ≡ with_memory pool.old user
+        (put_bytes (memory_of_user pool.old user) addr (to_le_bytes w32 word)) }
+{
+    let Ok(()) = pool.write(user, addr, Access::Monitor, &word.to_le_bytes()) else {
+        unreachable!();
+    };
+}
+
+/// `asm`: an instruction's word, written to mapped pages, whatever these allow a program.
+#[tactic(auto, using(crate::specs::Lenders::memory_there, crate::proofs::ProgramOutcomes::assembles_unmapped, crate::proofs::ProgramOutcomes::assembles_misspelled, crate::proofs::ProgramOutcomes::assembles_accepted))]
+fn assemble_at<A: Allocator>(
+    pool: &mut Pool<A>,
+    user: User,
+    addr: u64,
+    instruction: &LinePart<'_>,
+    reply: &mut Reply,
+)
+    requires clear { reply.old ≡ [] }
+    requires within { user - 1 < length pool.old }
+    ensures next { (c : Context) (trace : List ℕ) (vector : VState) → (assembles addr instruction.now (present c trace vector (memory_of_user pool.old user))).next
+        ≡ Some (present c trace vector (memory_of_user pool.new user)) }
+    ensures others { pool.new ≡ with_memory pool.old user (memory_of_user pool.new user) }
+    ensures reply { (c : Context) (trace : List ℕ) (vector : VState) → reply.new
+        ≡ text (48 + user) (assembles addr instruction.now (present c trace vector (memory_of_user pool.old user))).lines }
+{
+    let Ok(()) = pool.check(user, addr, WORD_SIZE, Access::Monitor) else {
+        monitor_cmds::refused(reply, Tag::User(user), Refusal::NotMapped);
+        return;
+    };
+    match assemble(instruction.as_slice()) {
+        Ok(word) => {
+            write_word(pool, user, addr, word);
+            monitor_cmds::asm_line(reply, Tag::User(user), addr, word);
+        }
+        Err(fault) => monitor_cmds::refused(
+            reply,
+            Tag::User(user),
+            Refusal::Assembler(fault.column),
+        ),
+    }
+}
+
+/// Shows as many instructions of mapped pages as the buffer holds.
+#[tactic(auto, using(crate::proofs::ProgramOutcomes::shows_accepted, crate::proofs::ProgramOutcomes::shows_refused))]
+fn show_words<A: Allocator>(
+    pool: &Pool<A>,
+    user: User,
+    addr: u64,
+    count: usize,
+    buffer: &mut [u8],
+    reply: &mut Reply,
+)
+    requires clear { reply.old ≡ [] }
+    requires few { count ≤ 16 }
+    requires size { length buffer.old ≡ 4 * count }
+    ensures next { (c : Context) (trace : List ℕ) (vector : VState) → (shows_instructions addr count (present c trace vector (memory_of_user pool.now user))).next
+        ≡ Some (present c trace vector (memory_of_user pool.now user)) }
+    ensures reply { (c : Context) (trace : List ℕ) (vector : VState) → reply.new
+        ≡ text (48 + user) (shows_instructions addr count (present c trace vector (memory_of_user pool.now user))).lines }
+{
+    match pool.read(user, addr, Access::Monitor, buffer) {
+        Ok(()) => monitor_cmds::dis_lines(reply, Tag::User(user), addr, count, buffer),
+        Err(_) => monitor_cmds::refused(reply, Tag::User(user), Refusal::NotMapped),
+    }
+}
+
+/// `dis`: words of mapped pages, whatever these allow a program, with their text.
+fn show_instructions<A: Allocator>(
+    pool: &Pool<A>,
+    user: User,
+    addr: u64,
+    count: Count<MAX_SHOWN>,
+    reply: &mut Reply,
+)
+    requires clear { reply.old ≡ [] }
+    ensures next { (c : Context) (trace : List ℕ) (vector : VState) → (shows_instructions addr count (present c trace vector (memory_of_user pool.now user))).next
+        ≡ Some (present c trace vector (memory_of_user pool.now user)) }
+    ensures reply { (c : Context) (trace : List ℕ) (vector : VState) → reply.new
+        ≡ text (48 + user) (shows_instructions addr count (present c trace vector (memory_of_user pool.now user))).lines }
+{
+    let count = count.get();
+    let mut buffer = [0; MAX_SHOWN * WORD_SIZE];
+    show_words(
+        pool,
+        user,
+        addr,
+        count,
+        &mut buffer[..WORD_SIZE * count],
+        reply,
+    );
+}
+
+/// The bytes of the image of a name.
+#[tactic(auto, unfolding(rv_model::specs::commands::Programs::image_named))]
+fn image_named<'a>(images: &[Image<'a>], name: &[u8]) -> Option<&'a [u8]>
+    ensures { MatchOption result (image_named_of (named_images images.now) name.now ≡ None)
+        (λ bytes. image_named_of (named_images images.now) name.now ≡ Some bytes.now) }
+{
+    for image in images {
+        if image.name.as_bytes() == name {
+            return Some(image.bytes);
+        }
+    }
+    None
+}
+
+/// `load` of an image without a fault.
+fn load_plan<A: Allocator>(
+    plan: &Plan<'_>,
+    context: &mut Context,
+    trace: &mut Trace<A>,
+    unit: &mut Unit,
+    pool: &mut Pool<A>,
+    user: User,
+    reply: &mut Reply,
+)
+    requires sound { first_fault plan.now ≡ None }
+    requires present { context.old.entered ≡ true }
+    requires clear { reply.old ≡ [] }
+    requires settled { IsSettled unit.old }
+    requires within { user - 1 < length pool.old }
+    ensures next { private_of context.new trace.new (state_of unit.new user) (memory_of_user pool.new user)
+        ≡ (loading plan.now None (present context.old trace.old (state_of unit.old user) (memory_of_user pool.old user))).next }
+    ensures unit { UnitMoves user unit.old unit.new
+        (if can_be_loaded plan.now None then unit_discarded user (record_of unit.old) else record_of unit.old) }
+    ensures others { pool.new ≡ with_memory pool.old user (memory_of_user pool.new user) }
+    ensures reply { reply.new
+        ≡ text (48 + user) (loading plan.now None (present context.old trace.old (state_of unit.old user) (memory_of_user pool.old user))).lines }
+{
+    match place(plan, user, pool) {
+        Ok(entry) => {
+            *context = Context::loaded(entry);
+            trace.clear();
+            unit.discard(user);
+            monitor_cmds::loaded_line(reply, Tag::User(user), entry, pool.pages(user));
+        }
+        Err(_) => monitor_cmds::refused(reply, Tag::User(user), Refusal::Quota),
+    }
+}
+
+/// `load`: the user's machine begins anew with the memory of an image. A refused `load` changes
+/// nothing.
+#[tactic(auto, using(crate::proofs::PartLaws::entered_as, crate::proofs::PartLaws::unit_stays, crate::specs::Lenders::same_memory, crate::proofs::ProgramOutcomes::loads_unknown, crate::proofs::ProgramOutcomes::loads_faulty, crate::proofs::ProgramOutcomes::loads_sound))]
+fn load<A: Allocator>(
+    images: &[Image<'_>],
+    context: &mut Context,
+    trace: &mut Trace<A>,
+    unit: &mut Unit,
+    pool: &mut Pool<A>,
+    user: User,
+    name: &LinePart<'_>,
+    reply: &mut Reply,
+)
+    requires present { context.old.entered ≡ true }
+    requires clear { reply.old ≡ [] }
+    requires settled { IsSettled unit.old }
+    requires within { user - 1 < length pool.old }
+    ensures next { private_of context.new trace.new (state_of unit.new user) (memory_of_user pool.new user)
+        ≡ (loads (named_images images.now) name.now (present context.old trace.old (state_of unit.old user) (memory_of_user pool.old user))).next }
+    ensures unit { UnitMoves user unit.old unit.new
+        (unit_after_load user (image_named_of (named_images images.now) name.now) (record_of unit.old)) }
+    ensures others { pool.new ≡ with_memory pool.old user (memory_of_user pool.new user) }
+    ensures reply { reply.new
+        ≡ text (48 + user) (loads (named_images images.now) name.now (present context.old trace.old (state_of unit.old user) (memory_of_user pool.old user))).lines }
+{
+    let Some(image) = image_named(images, name.as_slice()) else {
+        monitor_cmds::refused(reply, Tag::User(user), Refusal::ImageName);
+        return;
+    };
+    match check(image) {
+        Ok(plan) => load_plan(&plan, context, trace, unit, pool, user, reply),
+        Err(fault) => monitor_cmds::refused(reply, Tag::User(user), Refusal::ElfFault(fault)),
+    }
+}

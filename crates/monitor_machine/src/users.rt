@@ -1,0 +1,219 @@
+//! What a machine holds of its eight users, and whose turn it is.
+ghost use Rattle.std.specs.Prelude.{◌≡◌, ◌+◌, ◌≤◌, ◌++◌, [], length, map, replicate, IfOk, IfNone, IfSome};
+ghost use Rattle.rv_model.specs.commands.Commands.{commanded};
+ghost use Rattle.rv_model.specs.commands.Commands.{parse as parse_spec};
+ghost use Rattle.rv_model.specs.machine.Cuts.{IsConfigured};
+ghost use Rattle.rv_model.specs.machine.Grants.{next_running, runs, standing};
+ghost use Rattle.rv_model.specs.machine.PrivateMachine.{sliced};
+ghost use Rattle.rv_model.specs.machine.Script.{part, new_world};
+ghost use Rattle.rv_model.specs.machine.Users.{user_count};
+ghost use Rattle.rv_model.specs.machine.VectorUnit.{stats_of};
+ghost use Rattle.rv_model.specs.text.Lines.{text};
+ghost use Rattle.monitor_machine.specs.Images.{named_images};
+ghost use Rattle.monitor_machine.specs.MachineState.{after_command, after_slice};
+ghost use Rattle.monitor_machine.specs.Parts.{context_standing, is_running, new_context};
+ghost use Rattle.monitor_machine.specs.StopRoom.{stops_room};
+
+use crate::commands::carry_out;
+use crate::context::Context;
+use crate::image::Image;
+use crate::slices::grant;
+use crate::trace::Trace;
+use lazy_context::Unit;
+use monitor_cmds::{Reply, Tag, parse};
+use rv_model::{Standing, Stats, USER_COUNT, User};
+use slice_sched::next;
+use std::alloc::{AllocError, Allocator};
+use std::marker::Model;
+use user_mem::{NoMemory, Pool};
+
+/// The contexts and traces of the eight users, the one vector unit with the vector state of each, the
+/// pool with the memory of each, and the user whose turn was the last.
+#[derive(Drop)]
+pub(crate) struct Users<A: Allocator> {
+    contexts: [Context; USER_COUNT],
+    traces: Vec<Trace<A>, A>,
+    unit: Unit,
+    pool: Pool<A>,
+    cursor: User,
+}
+
+impl<A: Allocator> Model for Users<A> {
+    ghost use Rattle.std.specs.Coded.{codes};
+    ghost use Rattle.rv_model.specs.memory.Memory.{coded_memory};
+    ghost use Rattle.rv_model.specs.machine.Script.{World};
+    ghost use Rattle.monitor_machine.specs.Parts.{world_of, IsWhole};
+
+    ghost Value = { World };
+
+    ghost coded = { Prim.hlevel (codes, coded_memory) };
+
+    ghost view = { λ u. world_of u.contexts u.traces.items u.unit u.pool u.cursor };
+
+    ghost invariant = { λ u. IsWhole u.contexts u.traces.items u.unit u.pool };
+}
+
+/// Eight contexts of absent users.
+fn absent_contexts() -> [Context; USER_COUNT]
+    ensures { result ≡ replicate user_count new_context }
+{
+    [
+        Context::new(),
+        Context::new(),
+        Context::new(),
+        Context::new(),
+        Context::new(),
+        Context::new(),
+        Context::new(),
+        Context::new(),
+    ]
+}
+
+/// Eight empty traces.
+fn empty_traces<A: Allocator + Clone>(alloc: &A) -> Result<Vec<Trace<A>, A>, AllocError>
+    ensures { IfOk result (λ traces. traces.items ≡ replicate user_count []) }
+{
+    let mut traces = Vec::with_capacity(alloc.clone()?, USER_COUNT)?;
+    for _ in 0..USER_COUNT {
+        traces.push(Trace::new(alloc.clone()?)?)?;
+    }
+    Ok(traces)
+}
+
+/// Whether the program of each context runs.
+fn running_of(contexts: &[Context; USER_COUNT]) -> [bool; USER_COUNT]
+    ensures { result ≡ map is_running contexts.now }
+{
+    let mut running = [false; USER_COUNT];
+    for index in 0..USER_COUNT {
+        running[index] = contexts[index].is_running();
+    }
+    running
+}
+
+/// What the program of each context does.
+fn standings_of(contexts: &[Context; USER_COUNT]) -> [Standing; USER_COUNT]
+    ensures { result ≡ map context_standing contexts.now }
+{
+    let mut standings = [Standing::Absent; USER_COUNT];
+    for index in 0..USER_COUNT {
+        standings[index] = contexts[index].standing();
+    }
+    standings
+}
+
+impl<A: Allocator> Users<A> {
+    /// Eight users who are absent.
+    #[tactic(auto, using(crate::proofs::PartLaws::new_users))]
+    pub(crate) fn new(alloc: A) -> Result<Self, NoMemory>
+    where
+        A: Clone,
+        ensures { IfOk result (λ users. users ≡ new_world) }
+    {
+        let Ok(traces) = empty_traces(&alloc) else {
+            return Err(NoMemory);
+        };
+        let pool = Pool::new(alloc)?;
+        Ok(Users {
+            contexts: absent_contexts(),
+            traces,
+            unit: Unit::new(),
+            pool,
+            cursor: User::at_index(USER_COUNT - 1),
+        })
+    }
+
+    /// Carries out one command of a user, and answers it.
+    #[tactic(auto, using(crate::proofs::PartLaws::part_put_back))]
+    pub(crate) fn command(
+        &mut self,
+        images: &[Image<'_>],
+        user: User,
+        line: &[u8],
+        reply: &mut Reply,
+    )
+        requires { reply.old ≡ [] }
+        ensures world { self.new ≡ after_command (named_images images.now) user line.now self.old }
+        ensures reply { reply.new ≡ text (48 + user) (commanded (named_images images.now) (part user self.old) (parse_spec line.now)).lines }
+    {
+        match parse(line) {
+            Ok(cmd) => {
+                // The user's number is 1 or more: `number` says so.
+                user.number();
+                let context = &mut self.contexts[user.index()];
+                carry_out(
+                    images,
+                    context,
+                    self.traces.as_mut_slice(),
+                    &mut self.unit,
+                    &mut self.pool,
+                    user,
+                    &cmd,
+                    reply,
+                );
+            }
+            Err(refusal) => monitor_cmds::refused(reply, Tag::User(user), refusal),
+        }
+    }
+    /// Grants a slice of `quantum` ticks to a user, if the user's program runs, and adds to the
+    /// reply why it stopped, if it did. Answers whether the program ran.
+    #[tactic(auto, using(crate::proofs::PartLaws::part_put_back))]
+    pub(crate) fn slice(&mut self, user: User, quantum: usize, reply: &mut Reply) -> bool
+        requires { length reply.old + stops_room self.old.parts ≤ 4096 }
+        ensures world { self.new ≡ after_slice quantum user self.old }
+        ensures reply { reply.new ≡ reply.old ++ text (48 + user) (sliced quantum (part user self.old)).lines }
+        ensures ran { result ≡ runs (part user self.old) }
+        ensures bound { length reply.new + stops_room self.new.parts
+            ≤ length reply.old + stops_room self.old.parts }
+        ensures next { part user self.new ≡ (sliced quantum (part user self.old)).next }
+        ensures configured { IsConfigured (part user self.old) }
+    {
+        // The user's number is 1 or more: `number` says so.
+        user.number();
+        let context = &mut self.contexts[user.index()];
+        grant(
+            context,
+            self.traces.as_mut_slice(),
+            &mut self.unit,
+            &mut self.pool,
+            user,
+            quantum,
+            reply,
+        )
+    }
+
+    /// The first user whose program runs, in the order of the users from the one on whose turn
+    /// follows the last; this user's turn is the last then.
+    pub(crate) fn take_turn(&mut self) -> Option<User>
+        ensures user { result ≡ next_running self.old }
+        ensures none { IfNone result (self.new ≡ self.old) }
+        ensures turn { IfSome result (λ user. self.new ≡ record self.old { cursor = user }) }
+    {
+        let user = next(self.cursor, &self.running())?;
+        self.cursor = user;
+        Some(user)
+    }
+
+    /// Whether each user's program runs, user 1 first.
+    #[tactic(auto, using(crate::proofs::GrantLaws::runs_of_parts))]
+    fn running(&self) -> [bool; USER_COUNT]
+        ensures { result ≡ map runs self.now.parts }
+    {
+        running_of(&self.contexts)
+    }
+
+    /// What each user's program does, user 1 first.
+    #[tactic(auto, using(crate::proofs::GrantLaws::standings_of_parts))]
+    pub(crate) fn standings(&self) -> [Standing; USER_COUNT]
+        ensures { result ≡ map standing self.now.parts }
+    {
+        standings_of(&self.contexts)
+    }
+
+    /// How the vector unit was used.
+    pub(crate) fn stats(&self) -> Stats
+        ensures { result ≡ stats_of self.now.unit }
+    {
+        self.unit.stats()
+    }
+}

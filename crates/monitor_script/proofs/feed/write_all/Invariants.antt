@@ -1,0 +1,13 @@
+use Rattle.std.proofs.Common.{length, ◌-◌, ◌≡◌, ◌≤◌, take}
+use Rattle.monitor_script.proofs.feed.write_all.Given as goal
+
+-- the sink took the front that was written
+abbrev pub invariant-loop-at : goal.invariant-loop-at
+invariant-loop-at g l = record {
+  front : g.K.Sink.took l.fn.sink (take l.at l.bytes) l.sink;
+  within : l.at ≤ length l.bytes;
+  count : g.K.Sink.failures l.sink ≡ g.K.Sink.failures l.fn.sink;
+}
+
+abbrev pub decreases-loop-at : goal.decreases-loop-at
+decreases-loop-at g l = length l.bytes - l.at

@@ -1,0 +1,4 @@
+pub mod Device
+pub mod EndedLines
+pub mod FailedWrites
+pub mod Feed

@@ -1,0 +1,47 @@
+#!/usr/bin/env python3
+"""Sees that each must-fail edit can be applied: `tools/check_edits.py`, at the top of the repository.
+
+Each text after `old: ` in a file `crates/NAME/must-fail/*.edit` has to stand exactly once in the file that the line `file: ` before it
+names, once the pairs before it are applied. This takes no proof; whether an edit is refused, only `rt ci` tells. The status is 1 where one
+can't be applied.
+"""
+
+import pathlib
+import sys
+
+
+def fault_of(edit: pathlib.Path) -> str | None:
+    """Why an edit can't be applied, if it can't."""
+    crate, texts = edit.parent.parent, dict[str, str]()
+    path = old = ""
+    pairs = 0
+    for line in edit.read_text(encoding="utf-8").splitlines():
+        if line.startswith("file: "):
+            path = line.removeprefix("file: ").strip()
+            if not (crate / path).is_file():
+                return f"there is no file {path}"
+            texts.setdefault(path, (crate / path).read_text(encoding="utf-8"))
+        elif line.startswith("old: "):
+            old = line.removeprefix("old: ")
+        elif line.startswith("new:"):
+            if not path or not old:
+                return "a line `new:` without `file:` and `old:`"
+            found = texts[path].count(old)
+            if found != 1:
+                return f"the text after `old:` stands {found} times in {path}: {old.strip()}"
+            texts[path] = texts[path].replace(old, line.removeprefix("new:").removeprefix(" "))
+            old, pairs = "", pairs + 1
+    return None if pairs else "no pair of `old:` and `new:`"
+
+
+def main() -> int:
+    edits = sorted(pathlib.Path("crates").glob("*/must-fail/*.edit"))
+    faults = [(edit, fault) for edit in edits if (fault := fault_of(edit))]
+    for edit, fault in faults:
+        print(f"{edit}: {fault}")
+    print(f"{len(edits)} must-fail edits, {len(faults)} of them can't be applied")
+    return 1 if faults or not edits else 0
+
+
+if __name__ == "__main__":
+    sys.exit(main())
