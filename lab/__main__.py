@@ -1,0 +1,52 @@
+"""The program `vecmon-lab`: commands by name, each in a module of its own, imported only where it is asked for."""
+
+import argparse
+import importlib
+import sys
+from typing import NoReturn
+
+from . import LabError
+
+SUMMARIES: dict[str, str] = {  # lab/NAME.py has `add_arguments(parser)`, and `run(arguments)`, which answers the status
+    "lesson": "a page that steps forth and back through a script or an assembler source",
+    "tour": "the ten lessons of the tour",
+}
+
+
+class _Parser(argparse.ArgumentParser):
+    """A parser that tells a mistake in one line."""
+
+    def error(self, message: str) -> NoReturn:
+        self.exit(2, f"{self.prog}: {message}; --help says more\n")
+
+
+def main() -> int:
+    """Carries out the command that the program's words name; its status is 2, after one line, for bad input."""
+    parser = _Parser(prog="vecmon-lab", description="A front end for vecmon, the trainer machine for RISC-V vectors.")
+    commands = parser.add_subparsers(dest="command", metavar="COMMAND", required=True)
+    for name, summary in SUMMARIES.items():
+        command = commands.add_parser(name, help=summary, description=f"{summary.capitalize()}.")
+        if sys.argv[1:2] == [name]:
+            module = importlib.import_module(f"lab.{name}")
+            module.add_arguments(command)
+            command.set_defaults(run=module.run)
+    arguments = parser.parse_args()
+    try:
+        status: int = arguments.run(arguments)
+    except LabError as error:
+        return _told(str(error))
+    except OSError as error:
+        return _told(f"{error.filename}: {error.strerror}" if error.filename else str(error))
+    except KeyboardInterrupt:
+        return 130
+    return status
+
+
+def _told(mistake: str) -> int:
+    """The status of a mistake, which is told."""
+    print(f"vecmon-lab: {mistake}", file=sys.stderr)
+    return 2
+
+
+if __name__ == "__main__":
+    raise SystemExit(main())

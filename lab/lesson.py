@@ -1,0 +1,54 @@
+"""Makes a lesson: one page, without a server, that steps forth and back through a script or an assembler source."""
+
+import argparse
+import pathlib
+import sys
+from collections.abc import Mapping
+
+from . import LabError
+from .frames import make_frames
+from .lesson_page import lesson_page
+from .lesson_script import read_script, read_source
+from .program import find_program
+
+SOURCE_SUFFIXES = (".s", ".S")
+
+
+def add_arguments(parser: argparse.ArgumentParser) -> None:
+    """The words of `vecmon-lab lesson`."""
+    parser.add_argument("script", metavar="SCRIPT", type=pathlib.Path, help="a script, or an assembler source (.s, .S)")
+    parser.add_argument("images", metavar="NAME=PATH", nargs="*", help="an image that the script loads by this name")
+    parser.add_argument("-o", dest="output", metavar="FILE", type=pathlib.Path, help="the page; else standard output")
+    parser.add_argument("--title", help="else the line of the file that begins with ##, else its name")
+    parser.add_argument("--quantum", metavar="N", type=int, help="the ticks of a slice, 1 to 1000; else 100")
+
+
+def run(arguments: argparse.Namespace) -> int:
+    """Writes the page. Raises LabError and OSError for bad input."""
+    page = _made(arguments.script, _images(arguments.images), arguments.title, arguments.quantum)
+    if arguments.output is None:
+        sys.stdout.buffer.write(page.encode("utf-8"))
+    else:
+        arguments.output.write_text(page, "utf-8")
+    return 0
+
+
+def _made(path: pathlib.Path, images: Mapping[str, pathlib.Path], title: str | None, quantum: int | None) -> str:
+    """The page of the lesson in a file."""
+    text = path.read_text("utf-8", "replace")
+    script = read_source(text, path.name) if path.suffix in SOURCE_SUFFIXES else read_script(text)
+    frames = make_frames(script, find_program(), images, quantum)
+    return lesson_page(title or script.title or path.name, frames, script.labels)
+
+
+def _images(words: list[str]) -> dict[str, pathlib.Path]:
+    """The images by name. Raises LabError for a word that names none."""
+    images = {}
+    for word in words:
+        name, separator, path = word.partition("=")
+        if not separator:
+            raise LabError(f"{word} is no image; NAME=PATH is")
+        if not pathlib.Path(path).is_file():
+            raise LabError(f"image {name}: there is no file {path}")
+        images[name] = pathlib.Path(path)
+    return images

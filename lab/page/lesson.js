@@ -1,0 +1,181 @@
+"use strict";
+
+// A lesson: frames that were made beforehand, stepped forth and back. Each has what changed of the users' states.
+
+/** What a merge patch (RFC 7396) makes of a value, which stays as it is. */
+function patched(value, patch) {
+  if (patch === null || typeof patch !== "object" || Array.isArray(patch)) return patch;
+  const result = { ...value };
+  for (const [key, part] of Object.entries(patch)) {
+    if (part === null) delete result[key];
+    else result[key] = patched(result[key], part);
+  }
+  return result;
+}
+
+/** A text of the author's, in which backquotes stand around what is code, as elements. */
+function prose(text) {
+  return text.split("`").map((part, place) => (place % 2 ? make("code", "", part) : part));
+}
+
+/** A line or an answer in the transcript: lines begin with `>`, answers with `<`, other sentences with `!`. */
+function logEntry(entry) {
+  const text = entry.slice(1);
+  const stopped = entry[0] === "!" || (entry[0] === "<" && (STOP_LINE.test(text) || refusalWords(text)));
+  const kind = { ">": "asked", "<": "answered", "!": "unsent" }[entry[0]];
+  const item = make("li", stopped ? `${kind} stopped` : kind);
+  item.textContent = entry[0] === ">" ? `> ${text}` : text;
+  return item;
+}
+
+const ADDRESS_DELAY = 300; // ms: a browser takes only so many new addresses in a time
+const STOP_LINE = /^[1-8] (e?break|exit|outfull|fault) /;
+
+class Lesson {
+  constructor({ frames, labels }) {
+    this.frames = frames;
+    this.labels = labels;
+    this.view = new View(() => this.show(this.place));
+    this.user = ""; // the user chosen to be shown; without one it is the line's
+    this.states = [];
+    let states = {};
+    for (const frame of frames) this.states.push((states = patched(states, frame.states)));
+    this.entries = frames.flatMap((frame) => frame.log);
+    this.users = Object.keys(states);
+    this.used = Object.fromEntries(this.users.map((user) => [user, this.usedRegisters(user)]));
+    byId("sentence").hidden = !frames.some((frame) => frame.note);
+    this.listen();
+    this.show(Number(location.hash.slice(1) || 1) - 1);
+  }
+
+  /** The vector registers of a user that aren't zero in some frame. */
+  usedRegisters(user) {
+    const vectors = this.states.flatMap((states) => states[user]?.v ?? []);
+    const numbers = Array.from({ length: 32 }, (_, number) => number);
+    return new Set(numbers.filter((number) => vectors.some((v) => /[^0]/.test(v[number]))));
+  }
+
+  listen() {
+    const go = (id, place) => byId(id).addEventListener("click", () => this.show(place()));
+    go("first", () => 0);
+    go("back", () => this.place - 1);
+    go("next", () => this.place + 1);
+    go("last", () => this.frames.length - 1);
+    byId("place").max = this.frames.length - 1;
+    byId("place").addEventListener("input", () => this.show(Number(byId("place").value)));
+    document.addEventListener("keydown", (event) => this.pressed(event));
+    byId("users").hidden = this.users.length < 2;
+    ["", ...this.users].forEach((user) => byId("users").append(this.userButton(user)));
+  }
+
+  userButton(user) {
+    const button = make("button", "", user ? `user ${user}` : "the line's user");
+    button.dataset.user = user;
+    button.addEventListener("click", () => {
+      this.user = user;
+      this.show(this.place);
+    });
+    return button;
+  }
+
+  pressed(event) {
+    if (event.ctrlKey || event.altKey || event.metaKey || event.target.matches("select, input")) return;
+    const box = event.target.closest(".scroll, #output");
+    if (box && box.scrollWidth > box.clientWidth) return; // there the keys move the box
+    const sentences = (places) => places.find((place) => this.frames[place]?.note) ?? this.place;
+    const moves = {
+      ArrowRight: () => this.place + 1,
+      ArrowLeft: () => this.place - 1,
+      Home: () => 0,
+      End: () => this.frames.length - 1,
+    };
+    const leaps = {
+      ArrowRight: () => sentences(this.frames.map((_, place) => place).slice(this.place + 1)),
+      ArrowLeft: () => sentences(this.frames.map((_, place) => place).slice(0, this.place).reverse()),
+    };
+    const move = (event.shiftKey ? leaps : moves)[event.key];
+    if (!move) return;
+    event.preventDefault();
+    this.show(move());
+  }
+
+  /** Shows a frame, the nearest one where there is none of this number. */
+  show(wanted) {
+    this.place = Math.min(this.frames.length - 1, Math.max(0, wanted || 0));
+    const frame = this.frames[this.place];
+    const user = this.user || frame.user;
+    const states = this.states[this.place];
+    const state = states[user] ?? { run: "absent" };
+    this.showPlace(user, states);
+    this.showStage(frame, state, user, states);
+    this.showLog(frame.log.length);
+    this.view.paint({ ...state, labels: this.labels }, this.states[this.place - 1]?.[user], this.used[user]);
+    byId("log").scrollTop = byId("log").scrollHeight;
+    clearTimeout(this.address);
+    this.address = setTimeout(() => history.replaceState(null, "", `#${this.place + 1}`), ADDRESS_DELAY);
+  }
+
+  showPlace(user, states) {
+    const count = `${this.place + 1} of ${this.frames.length}`;
+    byId("count").textContent = count;
+    byId("place").value = this.place;
+    byId("place").setAttribute("aria-valuetext", `frame ${count}`);
+    byId("first").disabled = byId("back").disabled = this.place === 0;
+    byId("last").disabled = byId("next").disabled = this.place === this.frames.length - 1;
+    for (const button of byId("users").children) {
+      const own = button.dataset.user;
+      button.setAttribute("aria-pressed", own === this.user);
+      button.classList.toggle("shown", own === user);
+      if (own) button.textContent = `user ${own}: ${states[own]?.run ?? "absent"}`;
+    }
+  }
+
+  /** The author's sentence, which stands until the next one, what was done, and what stopped or was refused. */
+  showStage(frame, state, user, states) {
+    const note = this.frames.slice(0, this.place + 1).findLast((each) => each.note)?.note ?? "";
+    replaceText(byId("sentence"), note, prose(note));
+    const words = frame.log.map((_, place) => this.entryWords(frame.log, place, states)).filter(Boolean).join(" ");
+    replaceText(byId("stop"), words, prose(words));
+    byId("stop").classList.toggle("said", words !== "");
+    const more = frame.more ? `, and ${frame.more} line${frame.more > 1 ? "s" : ""} more` : "";
+    const parts = frame.line ? [make("span", "line", frame.line, make("small", "", more))] : [];
+    const remark = (text) => parts.push(make("small", "", text));
+    if (frame.line && user !== frame.line[0] && this.users.length > 1) remark(`shown: user ${user}`);
+    if (state.run === "absent") remark(`user ${user} isn't there`);
+    if (state.run === "running") remark("it runs: registers and memory are those from before");
+    if (state.instruction) {
+      const text = withNames(toldInstruction(state), byId("names").value === "abi");
+      parts.push(make("span", "instruction", make("small", "", state.faulted ? "stopped at " : "carried out "), text));
+    }
+    byId("step").replaceChildren(...parts);
+  }
+
+  /** What an entry of a frame's log tells of a stop or a refusal, in words; "" for most. */
+  entryWords(log, place, states) {
+    const text = log[place].slice(1);
+    if (log[place][0] === "!") return text;
+    if (log[place][0] === ">") return "";
+    const stop = STOP_LINE.test(text) ? (states[text[0]]?.stop ?? "") : "";
+    if (stop) return this.users.length > 1 ? `User ${text[0]}: ${stop}` : stop;
+    const refusal = refusalWords(text);
+    const isFirst = place < 2; // then its line stands beside it
+    return refusal && !isFirst ? `\`${log[place - 1].slice(1)}\`: ${refusal}` : refusal;
+  }
+
+  /** The transcript up to this frame, whose own entries are `current`. Those that are there already stay. */
+  showLog(current) {
+    const log = byId("log");
+    const end = this.frames.slice(0, this.place + 1).reduce((sum, frame) => sum + frame.log.length, 0);
+    while (log.childElementCount > end) log.lastChild.remove();
+    log.append(...this.entries.slice(log.childElementCount, end).map(logEntry));
+    log.querySelectorAll(".current").forEach((item) => item.classList.remove("current"));
+    [...log.children].slice(end - current).forEach((item) => item.classList.add("current"));
+  }
+}
+
+/** Puts a text in only where it is another one, so that it isn't read aloud again. */
+function replaceText(element, text, contents) {
+  if (element.textContent !== text.replaceAll("`", "")) element.replaceChildren(...contents);
+}
+
+new Lesson(JSON.parse(byId("lesson").textContent));

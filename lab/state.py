@@ -1,0 +1,192 @@
+"""What a page shows of one user: a plain object, made from the machine's answers to lines that only look."""
+
+import re
+from collections.abc import Iterator, Sequence
+from typing import Any
+
+from .lines import is_refusal, words_of
+from .machine import Session
+from .reasons import VectorView, describe_stop
+
+State = dict[str, Any]
+"""A user's state; addresses and values are hexadecimal digits without leading zeros, and bytes two digits each.
+
+run: `absent`, `stopped` or `running`; without a machine there is nothing else
+pc; x: 32 values by number; v: 32 times 32 bytes by number
+vl, vstart, vxrm, vxsat: numbers; vtype; policy: `keep` or `ones`
+code: words of the program with their texts by address; breaks: addresses
+memory: rows of 16 bytes by address
+instruction: the address of the instruction that was carried out last, or faulted, in what was just done; faulted: true
+stop: why the program stopped in what was just done, in words
+output: the bytes that answers to `out` have shown
+"""
+
+ABSENT: State = {"run": "absent"}
+ROW_BYTES = 16
+PEEK_BYTES = 256
+PAGE_BYTES = 4096
+MAPPED_PAGES, MOST_PAGES = 8, 32  # how many pages are looked at since they were mapped, and in all
+MOST_WORDS = 512
+WORDS_AHEAD = 8
+
+_STOP_LINE = re.compile(r"[1-8] (break|ebreak|exit|outfull|fault) ")
+_OUTPUT = re.compile(r"[1-8] out \d+ ([0-9a-f]+)")
+_ADDRESS = re.compile(r"(-?\d+)?\(x(\d+)\)")
+_STORE = re.compile(r"(s[bhwd]|vs\S+) .*\(x\d+\)")
+
+
+class Watch:
+    """The places of one user's memory that are looked at: words of the program, and pages of data."""
+
+    def __init__(self) -> None:
+        self.code: set[int] = set()  # addresses of words
+        self.pages: set[int] = set()  # addresses of pages
+        self.named: set[int] = set()  # addresses of rows that lines named
+        self.trace: list[str] = []  # as it was when it was looked at last
+
+    def follow(self, line: str, answer: Sequence[str]) -> None:
+        """Takes up the places that a user's line names, if it was accepted."""
+        if is_refusal(answer):
+            return
+        match words_of(line):
+            case ["enter"] | ["leave"] | ["load", _]:
+                for places in (self.code, self.pages, self.named):
+                    places.clear()
+            case ["map", address, pages, _]:
+                self._add_pages(int(address, 16), int(pages) * PAGE_BYTES, MAPPED_PAGES)
+            case ["poke", address, digits]:
+                self._name(int(address, 16), len(digits) // 2)
+            case ["peek", address, length]:
+                self._name(int(address, 16), int(length))
+            case ["asm", address, *_]:
+                self.code.add(int(address, 16))
+
+    def _name(self, address: int, length: int) -> None:
+        self.named.update(range(address // ROW_BYTES * ROW_BYTES, address + length, ROW_BYTES))
+        self._add_pages(address, length)
+
+    def _add_pages(self, address: int, length: int, most: int = MOST_PAGES) -> None:
+        pages = range(address // PAGE_BYTES * PAGE_BYTES, address + length, PAGE_BYTES)
+        self.pages.update(pages[: max(0, most - len(self.pages))])
+
+    def add_accessed(self, text: str, registers: dict[str, str]) -> None:
+        """Takes up the page that an instruction with a base register begins its access in."""
+        base = _ADDRESS.search(text)
+        if base:
+            self._add_pages((int(registers[base[2]], 16) + int(base[1] or "0")) % (1 << 48), 1)
+
+    def runs(self) -> Iterator[tuple[int, int]]:
+        """The words of the program in runs of at most 16: the address of the first, and how many they are."""
+        first = length = 0
+        for address in sorted(self.code):
+            if address != first + 4 * length or length == 16:
+                if length:
+                    yield first, length
+                first, length = address, 0
+            length += 1
+        if length:
+            yield first, length
+
+
+def look_at(
+    session: Session, user: int, watch: Watch, before: State, answers: Sequence[str] = (), carried_out: str = ""
+) -> State:
+    """The user's state after a line that was answered by these lines; before it the state was `before`.
+
+    carried_out: the text of the instruction that the line may have carried out, if it did nothing else
+    While the program runs the machine shows nothing else, so that all but `run` and `pc` stays as it was.
+    """
+    looks = _Looks(session, user)
+    answer = looks.ask("state")
+    if not answer:
+        return dict(ABSENT)
+    _, run, pc = answer[0].split()
+    state = {key: value for key, value in before.items() if key not in ("instruction", "faulted", "stop")}
+    state |= {"run": run, "pc": _short(pc.removeprefix("pc="))}
+    for output in filter(None, map(_OUTPUT.fullmatch, answers)):
+        state["output"] = state.get("output", "") + output[1]
+    if run == "running":
+        return state
+    state |= looks.registers() | {"policy": session.policy[user]}
+    if not carried_out or carried_out.startswith("v"):
+        state["v"] = looks.vectors()
+    trace = looks.ask("trace")[0].split()[1:]
+    stops = [line[2:] for line in answers if _STOP_LINE.match(line)]
+    stepped = any(line[2:].startswith("stepped ") for line in answers)
+    state["code"] = looks.code(watch, state["pc"], trace)
+    text = state["code"].get(state["pc"], "")
+    pages = len(watch.pages)
+    watch.add_accessed(text[9:], state["x"])
+    if not carried_out or _STORE.match(carried_out) or len(watch.pages) > pages:
+        state["memory"] = looks.memory(watch)
+    if trace and (stepped or trace != watch.trace):
+        state["instruction"] = _short(trace[-1])
+    if stops:
+        word = int(text[:8], 16) if text else None
+        state["stop"] = describe_stop(stops[-1], word, VectorView(int(state["vtype"], 16), state["vstart"]), text[9:])
+    if stops and stops[-1].startswith("fault "):
+        state |= {"instruction": state["pc"], "faulted": True}
+    watch.trace = trace
+    return state
+
+
+class _Looks:
+    """What one user is shown."""
+
+    def __init__(self, session: Session, user: int) -> None:
+        self._session, self._user = session, user
+
+    def ask(self, command: str) -> list[str]:
+        """The answer's lines without the user's digit; none where it is refused."""
+        answer = self._session.look(f"{self._user} {command}")
+        return [] if is_refusal(answer) else [line[2:] for line in answer]
+
+    def registers(self) -> State:
+        """Scalar registers, vector control registers and breakpoints."""
+        words = " ".join(self.ask("regs")).split()
+        control = dict(word.split("=") for word in self.ask("vcsr")[0].split())
+        return {
+            "x": {name.removeprefix("x"): _short(value) for name, value in zip(words[2::2], words[3::2])},
+            "vtype": _short(control.pop("vtype")),
+            **{name: int(value) for name, value in control.items()},
+            "breaks": [_short(address) for address in self.ask("breaks")[0].split()[1:]],
+        }
+
+    def vectors(self) -> dict[str, str]:
+        """The vector registers."""
+        answers = (self.ask(f"vreg v{number} 8")[0].split()[1:] for number in range(32))
+        return {str(number): "".join(elements) for number, elements in enumerate(answers)}
+
+    def code(self, watch: Watch, pc: str, trace: Sequence[str]) -> dict[str, str]:
+        """The listing: words that lines wrote, words that were carried out, and some from the program counter on."""
+        if len(watch.code) < MOST_WORDS:
+            watch.code.update(int(address, 16) for address in trace)
+            watch.code.update(self._ahead(int(pc, 16)))
+        lines = [line for first, length in watch.runs() for line in self.ask(f"dis {first:x} {length}")]
+        return {_short(line[:16]): line[17:] for line in lines}
+
+    def _ahead(self, pc: int) -> Iterator[int]:
+        """The addresses of instructions from one on, up to a later word that is none, or the end of the page."""
+        length = min(WORDS_AHEAD, (PAGE_BYTES - pc % PAGE_BYTES) // 4)
+        for place, line in enumerate(self.ask(f"dis {pc:x} {length}")):
+            if place and line[26:].startswith(".word"):
+                return
+            yield int(line[:16], 16)
+
+    def memory(self, watch: Watch) -> dict[str, str]:
+        """The rows of all pages that are watched and mapped."""
+        rows = {}
+        for page in sorted(watch.pages):
+            for address in range(page, page + PAGE_BYTES, PEEK_BYTES):
+                answer = self.ask(f"peek {address:x} {PEEK_BYTES}")
+                if not answer:
+                    break
+                digits = answer[0].split()[2]
+                for place in range(0, PEEK_BYTES, ROW_BYTES):
+                    rows[f"{address + place:x}"] = digits[2 * place : 2 * (place + ROW_BYTES)]
+        return rows
+
+
+def _short(digits: str) -> str:
+    """Hexadecimal digits without leading zeros."""
+    return digits.lstrip("0") or "0"

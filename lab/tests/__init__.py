@@ -1,0 +1,1 @@
+"""Tests of the lab, against the program itself and recorded answers of others."""

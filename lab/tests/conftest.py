@@ -1,0 +1,63 @@
+"""What tests share: the program, a session, and a browser."""
+
+import importlib.util
+import os
+import pathlib
+import shutil
+from collections.abc import Iterator
+from typing import TYPE_CHECKING
+
+import pytest
+from _pytest.terminal import TerminalReporter
+
+from lab.machine import Session
+from lab.program import find_program
+
+if TYPE_CHECKING:
+    from selenium.webdriver import Chrome
+
+NO_BROWSER = "there is no Chromium"
+
+
+@pytest.fixture(scope="session")
+def program() -> pathlib.Path:
+    """The program vecmon."""
+    return find_program()
+
+
+@pytest.fixture
+def session(program: pathlib.Path) -> Iterator[Session]:
+    """A session on a new machine without images."""
+    with Session(program) as session:
+        yield session
+
+
+@pytest.fixture(scope="session")
+def browser() -> Iterator["Chrome"]:
+    """Chromium without a window, for all tests that want one; its console is in `get_log("browser")`.
+
+    Where there is none, a test that wants it is left out and counted; where CI is set, it fails.
+    """
+    chromium, driver = shutil.which("chromium"), shutil.which("chromedriver")
+    if not chromium or not driver or not importlib.util.find_spec("selenium"):
+        if os.environ.get("CI"):
+            pytest.fail(NO_BROWSER)
+        pytest.skip(NO_BROWSER)
+    from selenium.webdriver import Chrome, ChromeOptions
+    from selenium.webdriver.chrome.service import Service
+
+    options = ChromeOptions()
+    options.binary_location = chromium
+    for word in ("headless=new", "no-sandbox", "disable-dev-shm-usage", "disable-gpu", "window-size=1280,900"):
+        options.add_argument(f"--{word}")
+    options.set_capability("goog:loggingPrefs", {"browser": "ALL"})
+    chrome = Chrome(options=options, service=Service(driver))
+    yield chrome
+    chrome.quit()
+
+
+def pytest_terminal_summary(terminalreporter: TerminalReporter) -> None:
+    """Says how many tests in the browser were left out."""
+    left_out = sum(NO_BROWSER in str(report.longrepr) for report in terminalreporter.getreports("skipped"))
+    if left_out:
+        terminalreporter.write_line(f"{left_out} tests in a browser were left out: {NO_BROWSER}")
