@@ -1,7 +1,10 @@
--- Laws of machines and scripts: `EventLines` and `Grants` first, then `Headline`.
+-- Laws of machines and scripts: `EventLines` and `Grants` first, then `Headline`, then `Refusals` and
+-- `AbsentUsers`.
+pub mod AbsentUsers
 pub mod Cuts
 pub mod EventLines
 pub mod Grants
 pub mod Headline
+pub mod Refusals
 pub mod Slices
 pub mod Turns

@@ -3,12 +3,15 @@
 -- user's machine; then `Cuts`: slices one after another, and that they add up; then `VectorUnit` and `UnitEvents`: the one
 -- vector unit, as it is counted; then `World` and `Grants`: all
 -- users' machines side by side, and the slices that the operator grants; then `Script`: the whole output; then `Laws`: the
--- headline and its kin; then `Turns`: that slices in turn are fair. `Examples` are small scripts.
+-- headline and its kin; then `Turns`: that slices in turn are fair; then `Refusals`:
+-- that a refusal changes nothing; then `AbsentUsers`: that these have nothing of the vector unit. `Examples` are small scripts.
+pub mod AbsentUsers
 pub mod Cuts
 pub mod Examples
 pub mod Grants
 pub mod Laws
 pub mod PrivateMachine
+pub mod Refusals
 pub mod Runs
 pub mod Script
 pub mod Setup

@@ -21,8 +21,9 @@ pub use images::{ElfFault, ProgramHeader};
 pub use instructions::{Arith, Carry, Field, Instr, Reg, Source, VReg};
 pub use legality::{Content, Operand, Role, Shape};
 pub use machine::{
-    Standing, Stats, USER_COUNT, User, each_user_alone, output_that_grows, registers_that_stay,
-    small_scripts_print,
+    Standing, Stats, USER_COUNT, User, absent_users_have_nothing, configurations_that_stay,
+    each_user_alone, output_that_grows, refusals_change_nothing, registers_that_stay,
+    slices_add_up, small_scripts_print, turns_are_fair,
 };
 pub use memory::{
     ADDRESS_END, Access, FRAME_COUNT, Fault, MapRefusal, PAGE_QUOTA, PAGE_SIZE, Permissions,

@@ -4,7 +4,11 @@ mod standing;
 mod stats;
 mod user;
 
-pub use laws::{each_user_alone, output_that_grows, registers_that_stay, small_scripts_print};
+pub use laws::{
+    absent_users_have_nothing, configurations_that_stay, each_user_alone, output_that_grows,
+    refusals_change_nothing, registers_that_stay, slices_add_up, small_scripts_print,
+    turns_are_fair,
+};
 pub use standing::Standing;
 pub use stats::Stats;
 pub use user::{USER_COUNT, User};

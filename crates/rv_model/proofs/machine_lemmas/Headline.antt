@@ -17,7 +17,7 @@ use Rattle.rv_model.proofs.command_lemmas.Printing.{one_line}
 use Rattle.rv_model.proofs.machine_lemmas.EventLines.{event_lines}
 use Rattle.rv_model.proofs.machine_lemmas.Grants.{grants_to_users, no_newline_in_operator_line}
 
-no_newline : (v : ℕ) → eqb (48 + v) 10 ≡ false
+pub no_newline : (v : ℕ) → eqb (48 + v) 10 ≡ false
 no_newline v = grind (arith, nat_tests)
 
 same_digit : (u v : ℕ) → eqb (48 + v) (48 + u) ≡ eqb v u
@@ -29,10 +29,10 @@ same_number u = grind (arith, nat_tests)
 pub other_number : (u v : ℕ) → v ≢ u → eqb v u ≡ false
 other_number u v h = grind (arith, nat_tests)
 
-part_same : (u : ℕ) (p : Private) (w : World) → 1 ≤ u → u ≤ length w.parts → part u (with_part u p w) ≡ p
+pub part_same : (u : ℕ) (p : Private) (w : World) → 1 ≤ u → u ≤ length w.parts → part u (with_part u p w) ≡ p
 part_same u p w low high = get_or-set_same w.parts (u - 1) p None (omega arith)
 
-part_other : (u v : ℕ) (p : Private) (w : World) → 1 ≤ u → 1 ≤ v → v ≢ u → part u (with_part v p w) ≡ part u w
+pub part_other : (u v : ℕ) (p : Private) (w : World) → 1 ≤ u → 1 ≤ v → v ≢ u → part u (with_part v p w) ≡ part u w
 part_other u v p w low low' ne = get_or-set_other w.parts (v - 1) (u - 1) p None (λ e. ne (omega (arith, e)))
 
 -- a turn changes no user's machine
@@ -40,11 +40,11 @@ pub parts_after_turn : (turn : Bool) (u : ℕ) (w : World) → (if turn then rec
 parts_after_turn true u w = refl
 parts_after_turn false u w = refl
 
-part_after_one : (s : Setup) (u : ℕ) (w : World) (h : Happening) → part u (after_one s w h) ≡ part u (with_part h.user (outcome_of s w h).next w)
+pub part_after_one : (s : Setup) (u : ℕ) (w : World) (h : Happening) → part u (after_one s w h) ≡ part u (with_part h.user (outcome_of s w h).next w)
 part_after_one s u w h =
     ap (λ parts. get_or parts (u - 1) None) (parts_after_turn h.turn h.user (with_unit (unit_after s w h) (with_part h.user (outcome_of s w h).next w)))
 
-eight_after_one : (s : Setup) (w : World) (h : Happening) → length w.parts ≡ 8 → length (after_one s w h).parts ≡ 8
+pub eight_after_one : (s : Setup) (w : World) (h : Happening) → length w.parts ≡ 8 → length (after_one s w h).parts ≡ 8
 eight_after_one s w h eight =
     ap length (parts_after_turn h.turn h.user (with_unit (unit_after s w h) (with_part h.user (outcome_of s w h).next w)))
     ∙ length-set w.parts (h.user - 1) (outcome_of s w h).next
@@ -129,7 +129,7 @@ users_prefixed s w (d ∷ c ∷ rest) = spaced (c == 32) (d == 42) (nat_le 49 d 
         let two = and_parts (nat_le 49 d) (nat_le d 56) (sym h) in
         (omega (arith, leb-true 49 d two.0, leb-true d 56 two.1), omega (arith, leb-true 49 d two.0, leb-true d 56 two.1), tt)
 
-users_of : (s : Setup) (w : World) (line : List ℕ) → AreUsers (events_of s w (kind_of line))
+pub users_of : (s : Setup) (w : World) (line : List ℕ) → AreUsers (events_of s w (kind_of line))
 unfolding kind_of
 users_of s w line = long (nat_lt 1024 (length line))
   where
@@ -163,7 +163,7 @@ mine-append u (h ∷ a) b = joined (eqb h.user u) (mine-append u a b)
     joined true same = ap (λ (x : List Event). h.event ∷ x) same
     joined false same = same
 
-eight_after : (s : Setup) (w : World) (line : List ℕ) → length w.parts ≡ 8 → length (after s w line).parts ≡ 8
+pub eight_after : (s : Setup) (w : World) (line : List ℕ) → length w.parts ≡ 8 → length (after s w line).parts ≡ 8
 unfolding after
 eight_after s w line eight = eight_after_events s w (events_of s w (kind_of line)) eight
 

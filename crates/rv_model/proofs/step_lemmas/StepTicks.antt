@@ -2,6 +2,7 @@
 use Rattle.std.proofs.Common.{◌≡◌, ◌≢◌, ℕ, ◌+◌, ◌%◌, ◌^◌, ◌≤◌, Bool, true, false, ◌&&◌, ◌||◌, ◌==◌, cond, Option, Some, None, refl, arith}
 use Rattle.std.specs.Int.{byte_len}
 use Rattle.std.specs.Prelude.{not}
+use Rattle.std.proofs.lemmas.Bool.{false≢true}
 use Rattle.rv_model.specs.declared.instructions.instruction.Instr.{Instr}
 use Rattle.rv_model.specs.declared.instructions.instruction.Instr.TheVariants.{Upper, Jump, JumpRegister, Branch, Load, Store, RegisterImmediate, ShiftImmediate, ShiftImmediateWord, RegisterRegister, Fence, System, Csr, CsrImmediate}
 use Rattle.rv_model.specs.declared.instructions.operations.CsrOp.{CsrOp}
@@ -20,7 +21,8 @@ use Rattle.rv_model.specs.scalar.LoadsAndStores.{access_address, load_width, sto
 use Rattle.rv_model.specs.scalar.Registers.{read_register, with_register}
 use Rattle.rv_model.specs.step.Hart.{HartState, Stepped, faults}
 use Rattle.rv_model.specs.step.ScalarStep.{csr_step, environment_call, jumps, system_step}
-use Rattle.rv_model.specs.step.Step.{executed, step, word_at}
+use Rattle.rv_model.specs.step.OneTick.{ScalarStepsTakeOneTick, is_scalar}
+use Rattle.rv_model.specs.step.Step.{executed, fetched, step, word_at}
 use Rattle.rv_model.specs.step.StepTicks.{CutStepTakesAllTicks, StepTakesTicks, UncutStepIsSame}
 use Rattle.rv_model.specs.step.VectorStep.{vector_step}
 use Rattle.rv_model.specs.step.WriteCall.{room, write_call, write_count}
@@ -67,26 +69,30 @@ system_at_once system.Ebreak s = record { ticks = refl; uncut = λ e. cc }
 
 -- ---- steps of either kind, by the ticks that are left
 
-record IsTimed (of : ℕ → Stepped) (scalar : Scalar) : Type 0 where
+-- in one tick or not
+record IsTimed (once : Bool) (of : ℕ → Stepped) (scalar : Scalar) : Type 0 where
+  at_once : once ≡ true → (limit : ℕ) → AtOnce (of limit)
   within : (limit : ℕ) → 1 ≤ limit → (1 ≤ (of limit).ticks) × ((of limit).ticks ≤ limit)
   cut : (limit : ℕ) → (of limit).end ≡ Cut → ((of limit).ticks ≡ limit) × ((of limit).state.scalar ≡ scalar)
   same : (limit larger : ℕ) → limit ≤ larger → (of limit).end ≢ Cut → of larger ≡ of limit
 
-at_once_timed : (r : Stepped) (scalar : Scalar) → AtOnce r → IsTimed (λ limit. r) scalar
+at_once_timed : (r : Stepped) (scalar : Scalar) → AtOnce r → IsTimed true (λ limit. r) scalar
 at_once_timed r scalar once = record {
+  at_once = λ is limit. once;
   within = λ limit some. (omega (arith, once.ticks), omega (arith, once.ticks, some));
   cut = λ limit e. absurd (once.uncut e);
   same = λ limit larger more uncut. refl;
 }
 
-vector_timed : (i : Instr) (word : ℕ) (s : HartState) → IsTimed (λ limit. vector_step limit i word s) s.scalar
+vector_timed : (i : Instr) (word : ℕ) (s : HartState) → IsTimed false (λ limit. vector_step limit i word s) s.scalar
 vector_timed i word s = record {
+  at_once = λ is. absurd (false≢true is);
   within = λ limit some. ticks_are_within limit i word s some;
   cut = λ limit e. cut_takes_all_ticks limit i word s e;
   same = λ limit larger more uncut. more_ticks_are_same limit larger i word s more uncut;
 }
 
-executed_timed : (o : Option Instr) (word : ℕ) (s : HartState) → IsTimed (λ limit. executed limit o word s) s.scalar
+executed_timed : (o : Option Instr) (word : ℕ) (s : HartState) → IsTimed (is_scalar o) (λ limit. executed limit o word s) s.scalar
 unfolding executed
 executed_timed None word s = at_once_timed _ s.scalar (record { ticks = refl; uncut = λ e. cc })
 executed_timed (Some (Upper op rd imm)) word s = at_once_timed _ s.scalar (record { ticks = refl; uncut = λ e. cc })
@@ -117,14 +123,15 @@ executed_timed (Some (Csr op rd rs1 csr)) word s =
 executed_timed (Some (CsrImmediate op rd imm csr)) word s = at_once_timed _ s.scalar (csr_at_once (control_register csr) (csr_form op) rd imm imm word s)
 executed_timed (Some i) word s = vector_timed i word s
 
-step_timed : (s : HartState) → IsTimed (λ limit. step limit s) s.scalar
+step_timed : (s : HartState) → IsTimed (is_scalar (fetched s.memory s.scalar.pc)) (λ limit. step limit s) s.scalar
 unfolding step
 step_timed s = named (can_access access.Fetch s.memory s.scalar.pc 4)
   where
     word : ℕ
     word = word_at s.memory s.scalar.pc
 
-    named : (b : Bool) → IsTimed (λ limit. cond b (executed limit (scan table word) word s) (faults FetchAccess s.scalar.pc s)) s.scalar
+    named : (b : Bool)
+        → IsTimed (is_scalar (cond b (scan table word) None)) (λ limit. cond b (executed limit (scan table word) word s) (faults FetchAccess s.scalar.pc s)) s.scalar
     named true = executed_timed (scan table word) word s
     named false = at_once_timed _ s.scalar (record { ticks = refl; uncut = λ e. cc })
 
@@ -136,3 +143,6 @@ cut_step_takes_all_ticks limit s cut = (step_timed s).cut limit cut
 
 pub uncut_step_is_same : UncutStepIsSame
 uncut_step_is_same limit larger s more uncut = (step_timed s).same limit larger more uncut
+
+pub scalar_steps_take_one_tick : ScalarStepsTakeOneTick
+scalar_steps_take_one_tick limit s scalar = let once = (step_timed s).at_once scalar limit in (once.ticks, once.uncut)

@@ -1,6 +1,8 @@
 //! Laws of the definitions, and small examples of them.
+ghost use Rattle.rv_model.specs.machine.AbsentUsers.{AbsentUsersLeaveTheUnit, HappeningsKeepNothing, NewWorldHasNothing, ScriptsKeepNothing};
 ghost use Rattle.rv_model.specs.machine.Cuts.{CutsAreInvisible, SliceKeepsConfiguration, SlicesAddUp};
 ghost use Rattle.rv_model.specs.machine.Laws.{EachUserAlone, EachNewUserAlone, EachUserEndsAlone, OthersChangeNothing, EqualPartsAnswerAlike, MachinesStayEight};
+ghost use Rattle.rv_model.specs.machine.Refusals.{ReasonsAreRefusals, RefusedHappeningsChangeNothing, RefusedLinesChangeNothing};
 ghost use Rattle.rv_model.specs.step.Effects.{FaultsWriteNoRegister, FirstRegisterStays, OutputGrowsWithin, StepKeepsConfiguration, StepKeepsPermissions};
 ghost use Rattle.rv_model.specs.machine.Examples.{SmallScriptsPrint};
 ghost use Rattle.rv_model.specs.machine.Turns.{NobodyHasTwoTurns, EachRunningUserHasATurn, GrantsAreInTurn, ScriptsAreInTurn, OneTurnBetweenTurns};
@@ -56,4 +58,21 @@ pub fn turns_are_fair()
     ensures grants { GrantsAreInTurn }
     ensures scripts { ScriptsAreInTurn }
     ensures between { OneTurnBetweenTurns }
+{}
+
+/// What is answered by a refusal, an answer that begins with E, changes nothing: neither a machine of
+/// any user, nor whose turn it is, nor the record of the vector unit with its counts.
+pub fn refusals_change_nothing()
+    ensures reasons { ReasonsAreRefusals }
+    ensures happenings { RefusedHappeningsChangeNothing }
+    ensures lines { RefusedLinesChangeNothing }
+{}
+
+/// A user who is absent doesn't own the vector unit and has no state saved, at first and after
+/// whatever happens. So what happens to an absent user, `enter` too, leaves the unit's record.
+pub fn absent_users_have_nothing()
+    ensures new { NewWorldHasNothing }
+    ensures happenings { HappeningsKeepNothing }
+    ensures scripts { ScriptsKeepNothing }
+    ensures unit { AbsentUsersLeaveTheUnit }
 {}

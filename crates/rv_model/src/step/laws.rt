@@ -1,5 +1,6 @@
 //! Laws of vector loads and stores that stop before their end, and of the ticks that they take.
 ghost use Rattle.rv_model.specs.accesses.Restarts.{AccessResumes, LargerLimitIsSame, LastRunIsWhole, LaterIndicesStay, OverlayIsEither, OverlayOfGrown, StopsWithin};
+ghost use Rattle.rv_model.specs.step.OneTick.{ScalarStepsTakeOneTick};
 ghost use Rattle.rv_model.specs.step.Resumes.{CutStepResumes, FetchedStepResumes, InstructionResumes, InstructionStops, StepResumes};
 ghost use Rattle.rv_model.specs.step.StepTicks.{CutStepTakesAllTicks, StepTakesTicks, UncutStepIsSame};
 ghost use Rattle.rv_model.specs.step.Ticks.{CutTakesAllTicks, MoreTicksAreSame, TicksAreWithin};
@@ -37,10 +38,11 @@ pub fn ticks_and_cuts()
     ensures more { MoreTicksAreSame }
 {}
 
-/// The same of every step, with its fetch, scalar instructions too, which take one tick each and are
-/// never cut.
+/// The same of every step, with its fetch. One of no vector instruction takes one tick and is never
+/// cut.
 pub fn steps_take_ticks()
     ensures within { StepTakesTicks }
     ensures cut { CutStepTakesAllTicks }
     ensures more { UncutStepIsSame }
+    ensures scalar { ScalarStepsTakeOneTick }
 {}

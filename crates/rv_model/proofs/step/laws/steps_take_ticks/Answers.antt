@@ -10,3 +10,6 @@ returns-clause-cut c = law.cut_step_takes_all_ticks
 
 pub returns-clause-more : goal.returns-clause-more
 returns-clause-more c = law.uncut_step_is_same
+
+pub returns-clause-scalar : goal.returns-clause-scalar
+returns-clause-scalar c = law.scalar_steps_take_one_tick

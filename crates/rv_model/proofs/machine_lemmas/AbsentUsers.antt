@@ -1,0 +1,330 @@
+-- An absent user owns no vector unit and has nothing saved: what happens to one user moves the unit for that user, and saves the
+-- state of its owner alone.
+use Rattle.std.proofs.Common.{◌≡◌, ◌≢◌, inl, inr, ℕ, zero, suc, ◌-◌, ◌≤◌, List, [], ◌∷◌, get_or, length, set, Bool, true, false, ◌&&◌, cond, eqb, Option, Some, None, Ok, Err, refl, ap, sym, ◌∙◌, subst, arith}
+use Rattle.std.specs.Prelude.{if◌then◌else◌}
+use Rattle.std.proofs.lemmas.Bool.{cases_eq, false≢true}
+use Rattle.std.proofs.lemmas.Bool.Decides.{nat_tests}
+use Rattle.std.proofs.lemmas.List.{get_or-replicate, get_or-set_other, set-get_or}
+use Rattle.rv_model.specs.declared.commands.command.Cmd.{Cmd}
+use Rattle.rv_model.specs.declared.commands.command.Cmd.TheVariants.{Entering, Memory, Registers, Programs, Breakpoints, Running}
+use Rattle.rv_model.specs.declared.commands.entering.EnteringCommand.TheVariants.{Enter, Leave}
+use Rattle.rv_model.specs.declared.commands.programs.ProgramCommand.TheVariants.{Load, Asm, Dis}
+use Rattle.rv_model.specs.declared.commands.registers.RegisterCommand.{RegisterCommand}
+use Rattle.rv_model.specs.declared.commands.registers.RegisterCommand.TheVariants.{Set, Regs, SetPc, Vreg, Vset, Vcsr, SetPolicy}
+use Rattle.rv_model.specs.declared.commands.running.RunningCommand.{RunningCommand}
+use Rattle.rv_model.specs.declared.commands.running.RunningCommand.TheVariants.{Step, Go, Stop as StopRunning, State, Trace, Out}
+use Rattle.rv_model.specs.declared.commands.refusal.Refusal.TheVariants as refusal
+use Rattle.rv_model.specs.declared.step.step_end.Stop.{Stop}
+use Rattle.rv_model.specs.commands.Commands.{Parsed, carried_out, commanded, needs_stopped, of_present, parse}
+use Rattle.rv_model.specs.commands.Programs.{image_named}
+use Rattle.rv_model.specs.images.Faults.{first_fault}
+use Rattle.rv_model.specs.machine.AbsentUsers.{AbsentUsersHaveNothing, AbsentUsersLeaveTheUnit, HappeningsKeepNothing, HasNothing, NewWorldHasNothing, OwnerIsUser, ScriptsKeepNothing}
+use Rattle.rv_model.specs.machine.Cuts.{Try, tried_in}
+use Rattle.rv_model.specs.machine.PrivateMachine.{Private, Event, Command, Slice, event, sliced, slice_ends}
+use Rattle.rv_model.specs.machine.Runs.{Halted, ticked}
+use Rattle.rv_model.specs.machine.Script.{after, after_all, after_script, events_of, kind_of, new_world}
+use Rattle.rv_model.specs.machine.Setup.{Image, Setup}
+use Rattle.rv_model.specs.machine.UnitEvents.{can_be_loaded, tried_steps, unit_after_command, unit_after_event, unit_after_line, unit_after_load, unit_after_registers, unit_after_running, unit_after_tries, unit_after_try, unit_of_absent, unit_of_present}
+use Rattle.rv_model.specs.machine.UserMachine.{Outcome, Present, refuses}
+use Rattle.rv_model.specs.machine.VectorUnit.{VectorUnit, is_marked, is_owned_by, owner_changed, owner_saved, unit_after_instruction, unit_changed, unit_discarded, unit_register_written, unit_touched, with_mark}
+use Rattle.rv_model.specs.machine.World.{AreUsers, World, Happening, after_events, after_one, outcome_of, part, unit_after, with_part, with_unit}
+use Rattle.rv_model.specs.step.Step.{dirties, fetched, touches}
+use Rattle.rv_model.specs.text.Lines.{pieces}
+use Rattle.rv_model.proofs.command_lemmas.Refusals.{IsThere, present_there}
+use Rattle.rv_model.proofs.machine_lemmas.Headline.{eight_after, eight_after_one, part_after_one, part_other, part_same, users_of}
+use Rattle.rv_model.proofs.text_lemmas.Pieces.{of_either}
+
+-- ---- marks and owners
+
+-- a mark that was taken away isn't there
+unmarked : (saved : List Bool) (i : ℕ) → get_or (set saved i false) i false ≡ false
+unmarked [] i = refl
+unmarked (b ∷ saved) zero = refl
+unmarked (b ∷ saved) (suc i) = unmarked saved i
+
+-- another user's mark stays
+other_mark : (user u : ℕ) (mark : Bool) (saved : List Bool) → 1 ≤ user → 1 ≤ u → u ≢ user
+    → is_marked (with_mark user mark saved) u ≡ is_marked saved u
+other_mark user u mark saved low here other =
+    get_or-set_other saved (user - 1) (u - 1) mark false (λ e. other (omega (arith, e, low, here)))
+
+-- who isn't the owner is another than the owner
+not_owner : (owner u : ℕ) → is_owned_by (Some owner) u ≡ false → u ≢ owner
+not_owner owner u h e = false≢true (sym h ∙ ap (λ n. eqb owner n) e ∙ (let same : eqb owner owner ≡ true = grind (arith, nat_tests) in same))
+
+another_owns : (owner u : ℕ) → u ≢ owner → is_owned_by (Some owner) u ≡ false
+another_owns owner u h = grind (arith, nat_tests)
+
+-- ---- what moves the unit
+
+-- by what a user does, the owner stays a user, and others who have nothing of the unit get nothing
+record Moves (user : ℕ) (before after : VectorUnit) : Type 0 where
+  owner : OwnerIsUser before.owner → OwnerIsUser after.owner
+  others : (u : ℕ) → 1 ≤ u → u ≢ user → OwnerIsUser before.owner → HasNothing u before → HasNothing u after
+
+still : (user : ℕ) (unit : VectorUnit) → Moves user unit unit
+still user unit = record { owner = λ is. is; others = λ u low other is nothing. nothing }
+
+and_then : (user : ℕ) (one two three : VectorUnit) → Moves user one two → Moves user two three → Moves user one three
+and_then user one two three first second = record {
+  owner = λ is. second.owner (first.owner is);
+  others = λ u low other is nothing. second.others u low other (first.owner is) (first.others u low other is nothing);
+}
+
+picks : (b : Bool) (user : ℕ) (unit x y : VectorUnit) → Moves user unit x → Moves user unit y → Moves user unit (cond b x y)
+picks b user unit x y h k = of_either (λ (after : VectorUnit). Moves user unit after) b x y h k
+
+module _ (user : ℕ) (low : 1 ≤ user) (high : user ≤ 8) where
+  saves : (owner : Option ℕ) (unit : VectorUnit) → unit.owner ≡ owner → Moves user unit (owner_saved owner unit)
+  saves None unit is = still user unit
+  saves (Some owner) unit is =
+      picks unit.dirty user unit _ unit
+      (record {
+        owner = λ known. known;
+        others = λ u here other known nothing.
+            let user_owns = subst OwnerIsUser is known in
+            let apart = not_owner owner u (sym (ap (λ o. is_owned_by o u) is) ∙ nothing.0) in
+            (nothing.0, other_mark owner u true unit.saved user_owns.0 here apart ∙ nothing.1);
+      })
+      (still user unit)
+
+  changes_owner : (unit : VectorUnit) → Moves user unit (owner_changed user unit)
+  changes_owner unit =
+      picks (is_marked unit.saved user) user unit _ _
+      (record { owner = λ known. (low, high); others = λ u here other known nothing. (another_owns user u other, nothing.1) })
+      (record { owner = λ known. (low, high); others = λ u here other known nothing. (another_owns user u other, nothing.1) })
+
+  touched : (unit : VectorUnit) → Moves user unit (unit_touched user unit)
+  touched unit =
+      picks (is_owned_by unit.owner user) user unit unit _ (still user unit)
+      (and_then user unit (owner_saved unit.owner unit) _ (saves unit.owner unit refl) (changes_owner (owner_saved unit.owner unit)))
+
+  changed : (unit : VectorUnit) → Moves user unit (unit_changed unit)
+  changed unit = record { owner = λ is. is; others = λ u here other is nothing. nothing }
+
+  instruction : (touches changes : Bool) (unit : VectorUnit) → Moves user unit (unit_after_instruction touches changes user unit)
+  instruction false changes unit = still user unit
+  instruction true false unit = touched unit
+  instruction true true unit = and_then user unit (unit_touched user unit) _ (touched unit) (changed (unit_touched user unit))
+
+  tries : (ts : List Try) (unit : VectorUnit) → Moves user unit (unit_after_tries user ts unit)
+  unfolding unit_after_tries
+  tries [] unit = still user unit
+  tries (t ∷ ts) unit =
+      let i = fetched t.hart.memory t.hart.scalar.pc in
+      and_then user unit (unit_after_try user t unit) _ (instruction (touches i) (dirties t.left i t.hart) unit)
+      (tries ts (unit_after_try user t unit))
+
+  writes : (unit : VectorUnit) → Moves user unit (unit_register_written user unit)
+  writes unit =
+      picks (is_owned_by unit.owner user) user unit _ _ (changed unit)
+      (record {
+        owner = λ is. is;
+        others = λ u here other is nothing. (nothing.0, other_mark user u true unit.saved low here other ∙ nothing.1);
+      })
+
+  discards : (unit : VectorUnit) → Moves user unit (unit_discarded user unit)
+  discards unit = record {
+    owner = λ is. of_either OwnerIsUser (is_owned_by unit.owner user) None unit.owner tt is;
+    others = λ u here other is nothing. (
+      of_either (λ (o : Option ℕ). is_owned_by o u ≡ false) (is_owned_by unit.owner user) None unit.owner refl nothing.0,
+      other_mark user u false unit.saved low here other ∙ nothing.1,
+    );
+  }
+
+  -- who drops a vector state has nothing of the unit
+  nothing_left : (unit : VectorUnit) → HasNothing user (unit_discarded user unit)
+  nothing_left unit = (gone (is_owned_by unit.owner user) refl, unmarked unit.saved (user - 1))
+    where
+      gone : (b : Bool) → is_owned_by unit.owner user ≡ b → is_owned_by (if b then None else unit.owner) user ≡ false
+      gone true is = refl
+      gone false is = is
+
+  -- who has nothing drops nothing
+  nothing_dropped : (unit : VectorUnit) → HasNothing user unit → unit_discarded user unit ≡ unit
+  nothing_dropped unit nothing =
+      let marks : with_mark user false unit.saved ≡ unit.saved =
+      ap (set unit.saved (user - 1)) (sym nothing.1) ∙ set-get_or unit.saved (user - 1) false in
+      ap (λ (b : Bool). record unit { owner = (if b then None else unit.owner); saved = with_mark user false unit.saved }) nothing.0
+      ∙ ap (λ (saved : List Bool). record unit { saved = saved }) marks
+
+  -- ---- events
+
+  registers_move : (c : RegisterCommand) (unit : VectorUnit) → Moves user unit (unit_after_registers user c unit)
+  registers_move (Set register value) unit = still user unit
+  registers_move Regs unit = still user unit
+  registers_move (SetPc addr) unit = still user unit
+  registers_move (Vreg register width) unit = still user unit
+  registers_move (Vset register bytes) unit = writes unit
+  registers_move Vcsr unit = still user unit
+  registers_move (SetPolicy policy) unit = still user unit
+
+  load_moves : (image : Option (List ℕ)) (unit : VectorUnit) → Moves user unit (unit_after_load user image unit)
+  load_moves None unit = still user unit
+  load_moves (Some image) unit = picks (can_be_loaded image (first_fault image)) user unit _ unit (discards unit) (still user unit)
+
+  running_moves : (c : RunningCommand) (p : Present) (unit : VectorUnit) → Moves user unit (unit_after_running user c p unit)
+  running_moves (Step n) p unit = tries (tried_steps n true p) unit
+  running_moves Go p unit = still user unit
+  running_moves StopRunning p unit = still user unit
+  running_moves State p unit = still user unit
+  running_moves Trace p unit = still user unit
+  running_moves Out p unit = still user unit
+
+  present_moves : (images : List Image) (c : Cmd) (p : Present) (unit : VectorUnit) → Moves user unit (unit_of_present images user c p unit)
+  present_moves images (Entering Enter) p unit = still user unit
+  present_moves images (Entering Leave) p unit = discards unit
+  present_moves images (Memory c) p unit = still user unit
+  present_moves images (Registers c) p unit = registers_move c unit
+  present_moves images (Programs (Load name)) p unit = load_moves (image_named images name) unit
+  present_moves images (Programs (Asm addr text)) p unit = still user unit
+  present_moves images (Programs (Dis addr count)) p unit = still user unit
+  present_moves images (Breakpoints c) p unit = still user unit
+  present_moves images (Running c) p unit = running_moves c p unit
+
+  absent_moves : (c : Cmd) (unit : VectorUnit) → Moves user unit (unit_of_absent user c unit)
+  absent_moves (Entering Enter) unit = discards unit
+  absent_moves (Entering Leave) unit = still user unit
+  absent_moves (Memory c) unit = still user unit
+  absent_moves (Registers c) unit = still user unit
+  absent_moves (Programs c) unit = still user unit
+  absent_moves (Breakpoints c) unit = still user unit
+  absent_moves (Running c) unit = still user unit
+
+  command_moves : (images : List Image) (c : Cmd) (p : Private) (unit : VectorUnit) → Moves user unit (unit_after_command images user c p unit)
+  command_moves images c None unit = absent_moves c unit
+  command_moves images c (Some p) unit =
+      picks (p.running && needs_stopped c) user unit unit _ (still user unit) (present_moves images c p unit)
+
+  event_moves : (s : Setup) (p : Private) (e : Event) (unit : VectorUnit) → Moves user unit (unit_after_event s user p e unit)
+  unfolding unit_after_event
+  event_moves s p (Command line) unit = parsed (parse line)
+    where
+      parsed : (r : Parsed) → Moves user unit (unit_after_line s.images user p r unit)
+      parsed (Err reason) = still user unit
+      parsed (Ok c) = command_moves s.images c p unit
+  event_moves s p Slice unit = tries (tried_in s.quantum p) unit
+
+  -- ---- a user who is absent
+
+  absent_command : (c : Cmd) (unit : VectorUnit) → HasNothing user unit → unit_of_absent user c unit ≡ unit
+  absent_command (Entering Enter) unit nothing = nothing_dropped unit nothing
+  absent_command (Entering Leave) unit nothing = refl
+  absent_command (Memory c) unit nothing = refl
+  absent_command (Registers c) unit nothing = refl
+  absent_command (Programs c) unit nothing = refl
+  absent_command (Breakpoints c) unit nothing = refl
+  absent_command (Running c) unit nothing = refl
+
+  absent_event : (s : Setup) (e : Event) (unit : VectorUnit) → HasNothing user unit → unit_after_event s user None e unit ≡ unit
+  unfolding unit_after_event tried_in unit_after_tries
+  absent_event s (Command line) unit nothing = parsed (parse line)
+    where
+      parsed : (r : Parsed) → unit_after_line s.images user None r unit ≡ unit
+      parsed (Err reason) = refl
+      parsed (Ok c) = absent_command c unit nothing
+  absent_event s Slice unit nothing = refl
+
+  -- ---- a user who becomes absent
+
+  there_not : (p : Private) → IsThere p → p ≡ None → ⊥
+  there_not p there none = subst IsThere none there
+
+  left : (images : List Image) (p : Present) (c : Cmd) (unit : VectorUnit) → (of_present images c p).next ≡ None
+      → HasNothing user (unit_of_present images user c p unit)
+  left images p c unit none =
+      elim (present_there images user p unit c) [
+        | inl leaves ↦ subst (λ (c : Cmd). HasNothing user (unit_of_present images user c p unit)) (sym leaves) (nothing_left unit)
+        | inr there ↦ absurd (there_not (of_present images c p).next there none)
+      ]
+
+  present_leaves : (images : List Image) (p : Present) (c : Cmd) (unit : VectorUnit) → (carried_out images c (Some p)).next ≡ None
+      → HasNothing user (unit_after_command images user c (Some p) unit)
+  unfolding carried_out
+  present_leaves images p c unit none = held (p.running && needs_stopped c) none
+    where
+      held : (b : Bool) → (cond b (refuses (Some p) refusal.Running) (of_present images c p)).next ≡ None
+          → HasNothing user (cond b unit (unit_of_present images user c p unit))
+      held true none = absurd (there_not (Some p) tt none)
+      held false none = left images p c unit none
+
+  slice_there : (quantum : ℕ) (p : Present) → IsThere (sliced quantum (Some p)).next
+  unfolding sliced
+  slice_there quantum p =
+      let run : Halted = ticked quantum p in
+      of_either (λ (o : Outcome). IsThere o.next) p.running _ _ (ends run run.stop) tt
+    where
+      ends : (run : Halted) (reason : Option Stop) → IsThere (slice_ends run reason).next
+      ends run None = tt
+      ends run (Some reason) = tt
+
+  -- who is absent after an event has nothing of the unit, if who was absent had nothing
+  absent_after : (s : Setup) (p : Private) (e : Event) (unit : VectorUnit) → (p ≡ None → HasNothing user unit)
+      → (event s p e).next ≡ None → HasNothing user (unit_after_event s user p e unit)
+  unfolding event unit_after_event
+  absent_after s None e unit nothing none = subst (HasNothing user) (sym (absent_event s e unit (nothing refl))) (nothing refl)
+  absent_after s (Some p) (Command line) unit nothing none = parsed (parse line) none
+    where
+      parsed : (r : Parsed) → (commanded s.images (Some p) r).next ≡ None → HasNothing user (unit_after_line s.images user (Some p) r unit)
+      parsed (Err reason) none = absurd (there_not (Some p) tt none)
+      parsed (Ok c) none = present_leaves s.images p c unit none
+  absent_after s (Some p) Slice unit nothing none =
+      absurd (there_not (sliced s.quantum (Some p)).next (slice_there s.quantum p) none)
+
+-- ---- the laws
+
+pub new_world_has_nothing : NewWorldHasNothing
+unfolding new_world
+new_world_has_nothing = (tt, λ u low high absent. (refl, get_or-replicate 8 (u - 1) false false (omega (arith, low, high))))
+
+unit_after_turn : (turn : Bool) (u : ℕ) (w : World) → (if turn then record w { cursor = u } else w).unit ≡ w.unit
+unit_after_turn true u w = refl
+unit_after_turn false u w = refl
+
+unit_after_one : (s : Setup) (w : World) (h : Happening) → (after_one s w h).unit ≡ unit_after s w h
+unit_after_one s w h = unit_after_turn h.turn h.user (with_unit (unit_after s w h) (with_part h.user (outcome_of s w h).next w))
+
+pub happenings_keep_nothing : HappeningsKeepNothing
+happenings_keep_nothing s w h low high eight nothing =
+    let moves : Moves h.user w.unit (unit_after s w h) = event_moves h.user low high s (part h.user w) h.event w.unit in
+    let is_unit = sym (unit_after_one s w h) in
+    let next : Private = (outcome_of s w h).next in (
+      subst (λ (unit : VectorUnit). OwnerIsUser unit.owner) is_unit (moves.owner nothing.0),
+      λ u here there absent.
+          let found : part u (with_part h.user next w) ≡ None = sym (part_after_one s u w h) ∙ absent in
+          subst (HasNothing u) is_unit (elim (cases_eq u h.user) [
+            | inl same ↦
+                let gone : next ≡ None =
+                sym (part_same h.user next w low (omega (arith, high, eight)))
+                ∙ ap (λ (v : ℕ). part v (with_part h.user next w)) (sym same) ∙ found in
+                subst (λ (v : ℕ). HasNothing v (unit_after s w h)) (sym same)
+                (absent_after h.user low high s (part h.user w) h.event w.unit (nothing.1 h.user low high) gone)
+            | inr other ↦
+                let before : part u w ≡ None = sym (part_other u h.user next w here low (λ e. other (sym e))) ∙ found in
+                moves.others u here other nothing.0 (nothing.1 u here there before)
+          ]),
+    )
+
+all_keep_nothing : (s : Setup) (w : World) (hs : List Happening) → length w.parts ≡ 8 → AreUsers hs → AbsentUsersHaveNothing w
+    → AbsentUsersHaveNothing (after_events s w hs)
+all_keep_nothing s w [] eight users nothing = nothing
+all_keep_nothing s w (h ∷ hs) eight users nothing =
+    all_keep_nothing s (after_one s w h) hs (eight_after_one s w h eight) users.2
+    (happenings_keep_nothing s w h users.0 users.1 eight nothing)
+
+lines_keep_nothing : (s : Setup) (w : World) (lines : List (List ℕ)) → length w.parts ≡ 8 → AbsentUsersHaveNothing w
+    → AbsentUsersHaveNothing (after_all s w lines)
+unfolding after
+lines_keep_nothing s w [] eight nothing = nothing
+lines_keep_nothing s w (line ∷ lines) eight nothing =
+    lines_keep_nothing s (after s w line) lines (eight_after s w line eight)
+    (all_keep_nothing s w (events_of s w (kind_of line)) eight (users_of s w line) nothing)
+
+pub scripts_keep_nothing : ScriptsKeepNothing
+unfolding after_script
+scripts_keep_nothing s w script eight nothing = lines_keep_nothing s w (pieces script) eight nothing
+
+pub absent_users_leave_the_unit : AbsentUsersLeaveTheUnit
+absent_users_leave_the_unit s w h low high nothing absent =
+    ap (λ (p : Private). unit_after_event s h.user p h.event w.unit) absent
+    ∙ absent_event h.user low high s h.event w.unit (nothing.1 h.user low high absent)

@@ -1,0 +1,196 @@
+-- What is answered by a refusal changes nothing.
+use Rattle.std.proofs.Common.{◌≡◌, inl, inr, ℕ, zero, suc, ◌+◌, ◌-◌, ◌<◌, List, [], ◌∷◌, ◌++◌, get_or, length, drop, map, Bool, true, false, eqb, Option, Some, None, Ok, Err, refl, ap, sym, ◌∙◌, subst, append_assoc, arith}
+use Rattle.std.specs.Prelude.{not, if◌then◌else◌}
+use Rattle.std.specs.List.{Any}
+use Rattle.std.proofs.lemmas.Bool.{and_from, and_parts, false≢true}
+use Rattle.std.proofs.lemmas.List.{append-nil, set-get_or}
+use Rattle.rv_model.specs.declared.commands.operator.OperatorCommand.{OperatorCommand}
+use Rattle.rv_model.specs.declared.commands.operator.OperatorCommand.TheVariants.{Slices, Run, List as ListUsers, Stats as ShowStats}
+use Rattle.rv_model.specs.declared.step.step_end.Stop.{Stop}
+use Rattle.rv_model.specs.commands.Commands.{parse}
+use Rattle.rv_model.specs.commands.Operator.{OperatorParsed, granted_line, list_line, operator_parse, stats_line}
+use Rattle.rv_model.specs.commands.Printing.{stop_line}
+use Rattle.rv_model.specs.machine.Grants.{granted, granted_first, grants, grants_of, next_running, operator_line, runs, slice_of}
+use Rattle.rv_model.specs.machine.PrivateMachine.{Private, Outcome, Event, Command, Slice, event, sliced, slice_ends}
+use Rattle.rv_model.specs.machine.Refusals.{answers_in, IsRefusal, RefusedHappeningsChangeNothing, RefusedLinesChangeNothing}
+use Rattle.rv_model.specs.machine.Runs.{Halted, ticked}
+use Rattle.rv_model.specs.machine.Script.{Kind, Empty, Long, Bad, Operator, Of, after, commands, common, events_of, kind_of, told}
+use Rattle.rv_model.specs.machine.Setup.{Setup}
+use Rattle.rv_model.specs.machine.UnitEvents.{unit_after_event}
+use Rattle.rv_model.specs.machine.VectorUnit.{VectorUnit}
+use Rattle.rv_model.specs.machine.World.{World, Happening, after_events, after_one, outcome_of, part, told_by, unit_after, with_part, with_unit}
+use Rattle.rv_model.specs.text.Lines.{is_line, is_newline, are_lines, tagged, text, AreLines, IsLine}
+use Rattle.rv_model.proofs.command_lemmas.Printing.{one_line}
+use Rattle.rv_model.proofs.command_lemmas.Refusals.{are_plain, commanded_settles, is_plain, plain_line, stop_line_plain, Settles}
+use Rattle.rv_model.proofs.machine_lemmas.EventLines.{event_lines}
+use Rattle.rv_model.proofs.machine_lemmas.Grants.{no_newline_in_operator_line}
+use Rattle.rv_model.proofs.machine_lemmas.Headline.{no_newline}
+use Rattle.rv_model.proofs.text_lemmas.Lines.{pieces_at}
+use Rattle.rv_model.proofs.text_lemmas.Pieces.{of_either}
+
+-- ---- the answers of an output
+
+plain_at : (answers : List (List ℕ)) (k : ℕ) (d : List ℕ) → are_plain answers ≡ true → k < length answers
+    → is_plain (get_or answers k d) ≡ true
+plain_at [] k d plain below = absurd (omega (arith, below))
+plain_at (a ∷ rest) zero d plain below = (and_parts (is_plain a) (are_plain rest) plain).0
+plain_at (a ∷ rest) (suc k) d plain below =
+    plain_at rest k d (and_parts (is_plain a) (are_plain rest) plain).1 (omega (arith, below))
+
+-- among plain answers is no refusal
+none_refused : (answers : List (List ℕ)) → are_plain answers ≡ true → Any IsRefusal answers → ⊥
+none_refused answers plain any =
+    let here : is_plain any.1 ≡ true = sym (ap is_plain any.3) ∙ plain_at answers any.0 any.1 plain any.2 in
+    let letter : eqb (get_or any.1 0 0) 69 ≡ true = ap (λ n. eqb n 69) any.4 in
+    false≢true (sym (ap not letter) ∙ here)
+
+answers_tagged : (tag : ℕ) (line rest : List ℕ) → is_newline tag ≡ false → IsLine line
+    → answers_in (tagged tag line ++ rest) ≡ line ∷ answers_in rest
+answers_tagged tag line rest plain h =
+    let all : IsLine (tag ∷ 32 ∷ line) = and_from (not (is_newline tag)) (is_line (32 ∷ line)) (ap not plain) h in
+    ap (λ (l : List ℕ). answers_in (tag ∷ 32 ∷ l)) (append_assoc line (10 ∷ []) rest)
+    ∙ ap (map (λ (l : List ℕ). drop 2 l)) (pieces_at (tag ∷ 32 ∷ line) rest all)
+
+-- where lines are plain and what follows them, the whole is
+plain_text : (tag : ℕ) (ls : List (List ℕ)) (rest : List ℕ) → is_newline tag ≡ false → AreLines ls → are_plain ls ≡ true
+    → are_plain (answers_in rest) ≡ true → are_plain (answers_in (text tag ls ++ rest)) ≡ true
+plain_text tag [] rest plain lines h k = k
+plain_text tag (l ∷ ls) rest plain lines h k =
+    let here = and_parts (is_line l) (are_lines ls) lines in
+    let two = and_parts (is_plain l) (are_plain ls) h in
+    ap (λ (t : List ℕ). are_plain (answers_in t)) (append_assoc (tagged tag l) (text tag ls) rest)
+    ∙ ap are_plain (answers_tagged tag l (text tag ls ++ rest) plain here.0)
+    ∙ and_from _ _ two.0 (plain_text tag ls rest plain here.1 two.1 k)
+
+plain_all : (tag : ℕ) (ls : List (List ℕ)) → is_newline tag ≡ false → AreLines ls → are_plain ls ≡ true
+    → are_plain (answers_in (text tag ls)) ≡ true
+plain_all tag ls plain lines h =
+    ap (λ (t : List ℕ). are_plain (answers_in t)) (sym (append-nil (text tag ls))) ∙ plain_text tag ls [] plain lines h refl
+
+-- ---- what happens to a user
+
+slice_ends_plain : (run : Halted) (reason : Option Stop) → are_plain (slice_ends run reason).lines ≡ true
+slice_ends_plain run None = refl
+slice_ends_plain run (Some reason) =
+    plain_line (stop_line run.state.hart.scalar.pc reason) (stop_line_plain run.state.hart.scalar.pc reason)
+
+sliced_plain : (quantum : ℕ) (p : Private) → are_plain (sliced quantum p).lines ≡ true
+unfolding sliced
+sliced_plain quantum None = refl
+sliced_plain quantum (Some p) =
+    let run : Halted = ticked quantum p in
+    of_either (λ (o : Outcome). are_plain o.lines ≡ true) p.running _ _ (slice_ends_plain run run.stop) refl
+
+slice_plain : (s : Setup) (p : Private) (e : Event) → e ≡ Slice → are_plain (event s p e).lines ≡ true
+unfolding event
+slice_plain s p e is =
+    subst (λ (e : Event). are_plain (event s p e).lines ≡ true) (sym is) (sliced_plain s.quantum p)
+
+event_settles : (s : Setup) (user : ℕ) (p : Private) (e : Event) (unit : VectorUnit)
+    → Settles p (event s p e) unit (unit_after_event s user p e unit)
+unfolding event unit_after_event
+event_settles s user p (Command line) unit = commanded_settles s.images user p (parse line) unit
+event_settles s user p Slice unit = inr (sliced_plain s.quantum p)
+
+-- where neither a user's machine nor the unit moves and it's nobody's turn, the world stays
+same_world : (s : Setup) (w : World) (h : Happening) → h.turn ≡ false → (outcome_of s w h).next ≡ part h.user w
+    → unit_after s w h ≡ w.unit → after_one s w h ≡ w
+same_world s w h turn same still =
+    let moved : World = with_unit (unit_after s w h) (with_part h.user (outcome_of s w h).next w) in
+    ap (λ (t : Bool). if t then record moved { cursor = h.user } else moved) turn
+    ∙ ap (λ (p : Private). with_unit (unit_after s w h) (with_part h.user p w)) same
+    ∙ ap (λ (unit : VectorUnit). with_unit unit (with_part h.user (part h.user w) w)) still
+    ∙ ap (λ (parts : List Private). record w { parts = parts }) (set-get_or w.parts (h.user - 1) None)
+
+pub refused_happenings_change_nothing : RefusedHappeningsChangeNothing
+refused_happenings_change_nothing s w h slices refused = named h.turn refl
+  where
+    named : (b : Bool) → h.turn ≡ b → after_one s w h ≡ w
+    named true turn =
+        absurd (none_refused (outcome_of s w h).lines (slice_plain s (part h.user w) h.event (slices turn)) refused)
+    named false turn =
+        elim (event_settles s h.user (part h.user w) h.event w.unit) [
+          | inl same ↦ same_world s w h turn same.0 same.1
+          | inr plain ↦ absurd (none_refused (outcome_of s w h).lines plain refused)
+        ]
+
+-- ---- what the operator grants
+
+abbrev AreSlices : List Happening → Type 0
+AreSlices [] = Unit {0}
+AreSlices (h ∷ hs) = (h.event ≡ Slice) × AreSlices hs
+
+granted_are_slices : (s : Setup) (n : ℕ) (w : World) → AreSlices (granted s n w)
+unfolding granted
+granted_are_slices s zero w = tt
+granted_are_slices s (suc n) w =
+    first (next_running w) (λ h. granted s n (after_one s w h)) (λ h. granted_are_slices s n (after_one s w h))
+  where
+    first : (o : Option ℕ) (others : Happening → List Happening) → ((h : Happening) → AreSlices (others h))
+        → AreSlices (granted_first o others)
+    first None others k = tt
+    first (Some u) others k = (refl, k (slice_of u true))
+
+grants_are_slices : (s : Setup) (w : World) (c : OperatorCommand) → AreSlices (grants s w c)
+grants_are_slices s w (Slices n) = granted_are_slices s n w
+grants_are_slices s w (Run u) = run (runs (part u w))
+  where
+    run : (b : Bool) → AreSlices (if b then slice_of u false ∷ [] else [])
+    run true = (refl, tt)
+    run false = tt
+grants_are_slices s w ListUsers = tt
+grants_are_slices s w ShowStats = tt
+
+plain_told_by : (s : Setup) (w : World) (hs : List Happening) (rest : List ℕ) → AreSlices hs
+    → are_plain (answers_in rest) ≡ true → are_plain (answers_in (told_by s w hs ++ rest)) ≡ true
+plain_told_by s w [] rest slices k = k
+plain_told_by s w (h ∷ hs) rest slices k =
+    let ls : List (List ℕ) = (outcome_of s w h).lines in
+    ap (λ (t : List ℕ). are_plain (answers_in t)) (append_assoc (text (48 + h.user) ls) (told_by s (after_one s w h) hs) rest)
+    ∙ plain_text (48 + h.user) ls (told_by s (after_one s w h) hs ++ rest) (no_newline h.user)
+    (event_lines s (part h.user w) h.event) (slice_plain s (part h.user w) h.event slices.0)
+    (plain_told_by s (after_one s w h) hs rest slices.1 k)
+
+operator_line_plain : (s : Setup) (w : World) (c : OperatorCommand) → is_plain (operator_line s w (Ok c)) ≡ true
+unfolding granted_line list_line stats_line
+operator_line_plain s w (Slices n) = refl
+operator_line_plain s w (Run u) = refl
+operator_line_plain s w ListUsers = refl
+operator_line_plain s w ShowStats = refl
+
+-- ---- a line of a script
+
+-- what a user's line prints
+user_line : (s : Setup) (w : World) (u : ℕ) (line : List ℕ)
+    → Any IsRefusal (answers_in (told_by s w (commands u line ∷ []) ++ [])) → after_one s w (commands u line) ≡ w
+user_line s w u line refused =
+    let h : Happening = commands u line in
+    elim (event_settles s u (part u w) (Command line) w.unit) [
+      | inl same ↦ same_world s w h refl same.0 same.1
+      | inr plain ↦
+          let ls : List (List ℕ) = (outcome_of s w h).lines in
+          let all = plain_text (48 + u) ls [] (no_newline u) (event_lines s (part u w) (Command line)) plain refl in
+          absurd (none_refused _ (ap (λ (t : List ℕ). are_plain (answers_in t)) (append_assoc (text (48 + u) ls) [] []) ∙ all) refused)
+    ]
+
+operator_line_refused : (s : Setup) (w : World) (r : OperatorParsed)
+    → Any IsRefusal (answers_in (told_by s w (grants_of s w r) ++ text 42 (operator_line s w r ∷ [])))
+    → after_events s w (grants_of s w r) ≡ w
+operator_line_refused s w (Err reason) refused = refl
+operator_line_refused s w (Ok c) refused =
+    let line : List ℕ = operator_line s w (Ok c) in
+    let last = plain_all 42 (line ∷ []) refl (one_line line (no_newline_in_operator_line s w (Ok c)))
+    (plain_line line (operator_line_plain s w c)) in
+    absurd (none_refused _ (plain_told_by s w (grants s w c) (text 42 (line ∷ [])) (grants_are_slices s w c) last) refused)
+
+pub refused_lines_change_nothing : RefusedLinesChangeNothing
+unfolding after told common
+refused_lines_change_nothing s w line refused = named (kind_of line) refused
+  where
+    named : (k : Kind) → Any IsRefusal (answers_in (told_by s w (events_of s w k) ++ text 42 (common s w k)))
+        → after_events s w (events_of s w k) ≡ w
+    named Empty refused = refl
+    named Long refused = refl
+    named Bad refused = refl
+    named (Operator rest) refused = operator_line_refused s w (operator_parse rest) refused
+    named (Of u rest) refused = user_line s w u rest refused

@@ -1,0 +1,37 @@
+-- A refusal changes nothing. Whatever is printed, a line is a refusal if its answer, which follows the user's digit or the star and
+-- a space, begins with the letter E (byte 45 in hexadecimal), as in `1 E05`.
+use Rattle.std.specs.Prelude.{ℕ, ◌≡◌, true, List, drop, map, slice_index}
+use Rattle.std.specs.List.{Any}
+use Rattle.rv_model.specs.declared.commands.refusal.Refusal.{Refusal}
+use Rattle.rv_model.specs.commands.Printing.{refused}
+use Rattle.rv_model.specs.machine.PrivateMachine.{Slice}
+use Rattle.rv_model.specs.machine.Script.{after, told}
+use Rattle.rv_model.specs.machine.Setup.{Setup}
+use Rattle.rv_model.specs.machine.World.{World, Happening, after_one, outcome_of}
+use Rattle.rv_model.specs.text.Lines.{pieces}
+
+-- an answer is a refusal
+abbrev pub IsRefusal : List ℕ → Type 0
+IsRefusal answer = slice_index answer 0 ≡ 69
+
+-- the answers of an output, each without the digit or the star, and without the space
+abbrev pub answers_in : List ℕ → List (List ℕ)
+answers_in output = map (λ line. drop 2 line) (pieces output)
+
+-- ---- the laws
+
+-- The code of each reason is such an answer.
+abbrev pub ReasonsAreRefusals : Type 0
+ReasonsAreRefusals = (reason : Refusal) → IsRefusal (refused reason)
+
+-- What happens to a user and is answered by a refusal leaves the world as it was: the machines of all users, whose turn it is, and
+-- the record of the vector unit with its counts. A turn is a slice, as `IsTurn` has it.
+abbrev pub RefusedHappeningsChangeNothing : Type 0
+RefusedHappeningsChangeNothing =
+    (setup : Setup) (w : World) (h : Happening) → (h.turn ≡ true → h.event ≡ Slice)
+    → Any IsRefusal (outcome_of setup w h).lines → after_one setup w h ≡ w
+
+-- So does a line of a script, whoever's it is, that prints a refusal.
+abbrev pub RefusedLinesChangeNothing : Type 0
+RefusedLinesChangeNothing =
+    (setup : Setup) (w : World) (line : List ℕ) → Any IsRefusal (answers_in (told setup w line)) → after setup w line ≡ w
