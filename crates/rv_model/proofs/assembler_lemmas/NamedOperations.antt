@@ -32,19 +32,19 @@ use Rattle.rv_model.proofs.assembler_lemmas.Naming.{all_at, bits_of_name, covers
 -- ---- the bits that a name tells besides the operation
 
 -- bit 25 of vmadc and vmsbc, which says whether a carry or a borrow comes in
-abbrev told_by_operation : VectorOp → ℕ
+abbrev pub told_by_operation : VectorOp → ℕ
 told_by_operation (vector_op.CarryOut op) = 2 ^ 25
 told_by_operation op = 0
 
 -- and the number of fields
-abbrev told : Instr → ℕ
+abbrev pub told : Instr → ℕ
 told (VectorArith arith vd vs2 vm) = told_by_operation arith.0
 told (VectorUnit op width nf vd rs1 vm) = 7 * 2 ^ 29
 told (VectorStrided direction width nf vd rs1 rs2 vm) = 7 * 2 ^ 29
 told (VectorIndexed direction order width nf vd rs1 vs2 vm) = 7 * 2 ^ 29
 told i = 0
 
-same_flag : (w v : ℕ) → bit_and w (2 ^ 25) ≡ bit_and v (2 ^ 25) → flag w ≡ flag v
+pub same_flag : (w v : ℕ) → bit_and w (2 ^ 25) ≡ bit_and v (2 ^ 25) → flag w ≡ flag v
 same_flag w v h =
     let same : field 25 1 w ≡ field 25 1 v = omega (arith, h, and_high w 1 25, and_high v 1 25) in
     ap (λ (n : ℕ). nat_eq n 1) same
@@ -116,9 +116,18 @@ within_mask w v mask some inside is =
 own_bits : (w mask bits : ℕ) → bit_and w mask ≡ bits → bit_and bits mask ≡ bits
 own_bits w mask bits is = sym (within_mask w bits mask mask (and_self mask) is) ∙ is
 
-pub names_operation : (row word : ℕ) → row < name_count → HasBitsOf row word → NamesOperation (name_at row) (scan table word)
+-- a word with the bits of a name is of the same row of the instruction table as the bits themselves, and agrees with them in what the name tells
+pub record OfName (row word : ℕ) : Type 0 where
+  pub r : Row
+  pub of_table : In r table
+  pub is : scan table word ≡ Some (r.instr word)
+  pub at_zeros : scan table (bits_at row) ≡ Some (r.instr (bits_at row))
+  pub named : mnemonic (r.instr (bits_at row)) ≡ name_at row
+  pub agrees : bit_and word (told (r.instr (bits_at row))) ≡ bit_and (bits_at row) (told (r.instr (bits_at row)))
+
+pub of_name : (row word : ℕ) → row < name_count → HasBitsOf row word → OfName row word
 unfolding name_at slots_at bits_at
-names_operation row word lt is =
+of_name row word lt is =
     let m = row_at row in
     let mask = fixed_mask (slots_of m.1) in
     let inside = in_names row lt in
@@ -130,8 +139,17 @@ names_operation row word lt is =
     let i = r.0.instr m.2 in
     let P : Option Instr → Type 0 = λ o. named_by m o ≡ true in
     let tests = and_parts (bytes_eq (mnemonic i) (unpadded m.0)) (nat_eq (bit_and (told i) mask) (told i)) (subst P at_zeros (own_name row lt)) in
-    let same : mnemonic (r.0.instr word) ≡ unpadded m.0 =
-    same_in_row r.0 r.1 word m.2 (within_mask word m.2 mask (told i) (eqb-true (bit_and (told i) mask) (told i) tests.1) is)
-    ∙ (bytes_eq-Decides (mnemonic i) (unpadded m.0)).0 tests.0 in
-    let Q : Option Instr → Type 0 = λ o. NamesOperation (unpadded m.0) o in
-    subst Q (sym here) same
+    record {
+      r = r.0;
+      of_table = r.1;
+      is = here;
+      at_zeros = at_zeros;
+      named = (bytes_eq-Decides (mnemonic i) (unpadded m.0)).0 tests.0;
+      agrees = within_mask word m.2 mask (told i) (eqb-true (bit_and (told i) mask) (told i) tests.1) is;
+    }
+
+pub names_operation : (row word : ℕ) → row < name_count → HasBitsOf row word → NamesOperation (name_at row) (scan table word)
+names_operation row word lt is =
+    let named = of_name row word lt is in
+    let P : Option Instr → Type 0 = λ o. NamesOperation (name_at row) o in
+    subst P (sym named.is) (same_in_row named.r named.of_table word (bits_at row) named.agrees ∙ named.named)

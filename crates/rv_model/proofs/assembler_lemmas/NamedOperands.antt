@@ -1,0 +1,272 @@
+-- The slots of a name hold the operands of the instruction that a word with its bits is.
+use Rattle.std.proofs.Common.{◌≡◌, ℕ, ◌<◌, Bool, true, false, List, [], ◌∷◌, map, take, get_or, Option, Some, None, refl, sym, ap, subst, ◌∙◌}
+use Rattle.std.specs.List.{list_all}
+use Rattle.std.specs.Str.{bytes_eq}
+use Rattle.std.specs.Int.Bits.{bit_and}
+use Rattle.std.proofs.lemmas.List.{get_or-take}
+use Rattle.std.proofs.lemmas.Slice.Eq.{bytes_eq-Decides}
+use Rattle.rv_model.specs.declared.instructions.operations.VectorOp.{VectorOp}
+use Rattle.rv_model.specs.declared.instructions.operations.VectorOp.TheVariants as vector_op
+use Rattle.rv_model.specs.declared.instructions.operations.Form.{Form}
+use Rattle.rv_model.specs.declared.instructions.operations.Form.TheVariants as form
+use Rattle.rv_model.specs.declared.instructions.instruction.Instr.{Instr}
+use Rattle.rv_model.specs.declared.instructions.instruction.Instr.TheVariants.{Upper, Jump, JumpRegister, Branch, Load, Store, RegisterImmediate, ShiftImmediate, ShiftImmediateWord, RegisterRegister, Fence, System, Csr, CsrImmediate, SetVli, SetIvli, SetVl, VectorArith, VectorCarry, VectorMove, WholeMove, MaskLogic, Compress, MaskToScalar, VectorExtend, MaskUnary, ElementIndex, MoveToScalar, MoveToVector, VectorUnit, VectorStrided, VectorIndexed, WholeLoad, WholeStore, MaskMemory}
+use Rattle.rv_model.specs.declared.assembler.forms.Place.TheVariants.{Rd, Rs1, Rs2}
+use Rattle.rv_model.specs.declared.assembler.forms.UnsignedField.TheVariants as unsigned
+use Rattle.rv_model.specs.declared.assembler.forms.SignedField.TheVariants as signed
+use Rattle.rv_model.specs.declared.assembler.forms.Slot.{Slot}
+use Rattle.rv_model.specs.declared.assembler.forms.Slot.TheVariants as slot
+use Rattle.rv_model.specs.declared.assembler.forms.Slot.TheVariants.{Comma, Open, Close, V0, Scalar, Vector, Unsigned, Signed, Mask}
+use Rattle.rv_model.specs.declared.assembler.forms.TheConstants.{PLAIN, REGISTER, IMMEDIATE, SHIFT, SHIFT_WORD, LOAD, STORE, BRANCH, JUMP, UPPER, CSR, CSR_IMMEDIATE, SET_VLI, SET_IVLI, UNMASKED_VECTOR, MOVE_SCALAR, MOVE_TO_SCALAR, WHOLE_MOVE, MASK_TO_SCALAR, VECTOR_UNARY, ELEMENT_INDEX, UNIT, UNMASKED_UNIT, STRIDED, INDEXED}
+use Rattle.rv_model.specs.declared.assembler.mnemonics.Mnemonic.{Mnemonic}
+use Rattle.rv_model.specs.declared.assembler.mnemonics.TheConstants.{MNEMONICS}
+use Rattle.rv_model.specs.elements.Formulas.{has_unsigned_immediate}
+use Rattle.rv_model.specs.elements.FixedPoint.{has_unsigned_shift}
+use Rattle.rv_model.specs.instructions.BitFields.{field, flag}
+use Rattle.rv_model.specs.instructions.Layout.{filled}
+use Rattle.rv_model.specs.instructions.Sources.{form_of, source_of}
+use Rattle.rv_model.specs.instructions.Table.{Row, In, rows, table, scan}
+use Rattle.rv_model.specs.assembler.Fields.{fixed_mask}
+use Rattle.rv_model.specs.assembler.Naming.{HasBitsOf}
+use Rattle.rv_model.specs.assembler.Operands.{TextOperand, X, V, HoldsOperands, arith_operands, carry_operands, carry_out_operands, multiply_add_operands, operand_in, operands_in, second, text_operands, usual_operands}
+use Rattle.rv_model.specs.assembler.Operands as operand
+use Rattle.rv_model.specs.assembler.Table.{bits_at, name_count, row_at, slots_at, slots_of}
+use Rattle.rv_model.proofs.instruction_lemmas.RoundTrips.{template_of}
+use Rattle.rv_model.proofs.assembler_lemmas.Naming.{all_at, none}
+use Rattle.rv_model.proofs.assembler_lemmas.NamedOperations.{of_name, same_flag, told, told_by_operation}
+
+-- ---- the slots that hold an instruction's operands
+
+-- vs1, rs1 or an immediate at its place
+abbrev second_slot : Bool → Form → Slot
+second_slot is_unsigned form.V = Vector Rs1
+second_slot is_unsigned form.X = Scalar Rs1
+second_slot true form.I = Unsigned unsigned.Immediate
+second_slot false form.I = Signed signed.Vector
+
+abbrev usual_slots : Bool → Form → List Slot
+usual_slots is_unsigned f = Vector Rd ∷ Comma ∷ Vector Rs2 ∷ Comma ∷ second_slot is_unsigned f ∷ Mask ∷ []
+
+abbrev multiply_add_slots : Form → List Slot
+multiply_add_slots f = Vector Rd ∷ Comma ∷ second_slot false f ∷ Comma ∷ Vector Rs2 ∷ Mask ∷ []
+
+abbrev carry_slots : Form → List Slot
+carry_slots f = Vector Rd ∷ Comma ∷ Vector Rs2 ∷ Comma ∷ second_slot false f ∷ Comma ∷ V0 ∷ []
+
+abbrev carry_out_slots : Bool → Form → List Slot
+carry_out_slots true f = Vector Rd ∷ Comma ∷ Vector Rs2 ∷ Comma ∷ second_slot false f ∷ []
+carry_out_slots false f = carry_slots f
+
+abbrev arith_slots : VectorOp → Form → Bool → List Slot
+arith_slots (vector_op.Binary op) f vm = usual_slots (has_unsigned_immediate op) f
+arith_slots (vector_op.CarryOut op) f vm = carry_out_slots vm f
+arith_slots (vector_op.FixedPoint op) f vm = usual_slots (has_unsigned_shift op) f
+arith_slots (vector_op.NarrowShift op) f vm = usual_slots true f
+arith_slots (vector_op.Clip op) f vm = usual_slots true f
+arith_slots (vector_op.MultiplyAdd op) f vm = multiply_add_slots f
+arith_slots (vector_op.WidenMultiplyAdd op) f vm = multiply_add_slots f
+arith_slots (vector_op.Permute op) f vm = usual_slots true f
+arith_slots op f vm = usual_slots false f
+
+abbrev instr_slots : Instr → List Slot
+instr_slots (Upper op rd imm) = UPPER
+instr_slots (Jump rd imm) = JUMP
+instr_slots (JumpRegister rd rs1 imm) = LOAD
+instr_slots (Branch op rs1 rs2 imm) = BRANCH
+instr_slots (Load op rd rs1 imm) = LOAD
+instr_slots (Store op rs1 rs2 imm) = STORE
+instr_slots (RegisterImmediate op rd rs1 imm) = IMMEDIATE
+instr_slots (ShiftImmediate op rd rs1 shamt) = SHIFT
+instr_slots (ShiftImmediateWord op rd rs1 shamt) = SHIFT_WORD
+instr_slots (RegisterRegister op rd rs1 rs2) = REGISTER
+instr_slots (Fence rd rs1 ordering) = PLAIN
+instr_slots (System op) = PLAIN
+instr_slots (Csr op rd rs1 csr) = CSR
+instr_slots (CsrImmediate op rd imm csr) = CSR_IMMEDIATE
+instr_slots (SetVli rd rs1 vtype) = SET_VLI
+instr_slots (SetIvli rd avl vtype) = SET_IVLI
+instr_slots (SetVl rd rs1 rs2) = REGISTER
+instr_slots (VectorArith arith vd vs2 vm) = arith_slots arith.0 (form_of arith.1) vm
+instr_slots (VectorCarry carry vd vs2) = carry_slots (form_of carry.1)
+instr_slots (VectorMove source vd) = Vector Rd ∷ Comma ∷ second_slot false (form_of source) ∷ []
+instr_slots (WholeMove count vd vs2) = WHOLE_MOVE
+instr_slots (MaskLogic op vd vs1 vs2) = UNMASKED_VECTOR
+instr_slots (Compress vd vs1 vs2) = UNMASKED_VECTOR
+instr_slots (MaskToScalar op rd vs2 vm) = MASK_TO_SCALAR
+instr_slots (VectorExtend op vd vs2 vm) = VECTOR_UNARY
+instr_slots (MaskUnary op vd vs2 vm) = VECTOR_UNARY
+instr_slots (ElementIndex vd vm) = ELEMENT_INDEX
+instr_slots (MoveToScalar rd vs2) = MOVE_TO_SCALAR
+instr_slots (MoveToVector vd rs1) = MOVE_SCALAR
+instr_slots (VectorUnit op width nf vd rs1 vm) = UNIT
+instr_slots (VectorStrided direction width nf vd rs1 rs2 vm) = STRIDED
+instr_slots (VectorIndexed direction order width nf vd rs1 vs2 vm) = INDEXED
+instr_slots (WholeLoad count width vd rs1) = UNMASKED_UNIT
+instr_slots (WholeStore count vd rs1) = UNMASKED_UNIT
+instr_slots (MaskMemory direction vd rs1) = UNMASKED_UNIT
+
+-- ---- they hold them
+
+-- the second source of a word w, in the slot of that of a word v of the same form
+second_held : (is_unsigned : Bool) (f : Form) (w v : ℕ)
+    → operand_in w (second_slot is_unsigned (form_of (source_of f (field 15 5 v)))) ≡ second is_unsigned (source_of f (field 15 5 w))
+second_held is_unsigned form.V w v = refl
+second_held is_unsigned form.X w v = refl
+second_held true form.I w v = refl
+second_held false form.I w v = refl
+
+usual_held : (is_unsigned : Bool) (f : Form) (w v : ℕ)
+    → operands_in w (usual_slots is_unsigned (form_of (source_of f (field 15 5 v)))) ≡ usual_operands is_unsigned (source_of f (field 15 5 w)) (field 7 5 w) (field 20 5 w) (flag w)
+usual_held is_unsigned f w v =
+    ap (λ (o : TextOperand). V (field 7 5 w) ∷ operand.Comma ∷ V (field 20 5 w) ∷ operand.Comma ∷ o ∷ operand.Mask (flag w) ∷ []) (second_held is_unsigned f w v)
+
+multiply_add_held : (f : Form) (w v : ℕ)
+    → operands_in w (multiply_add_slots (form_of (source_of f (field 15 5 v)))) ≡ multiply_add_operands (source_of f (field 15 5 w)) (field 7 5 w) (field 20 5 w) (flag w)
+multiply_add_held f w v =
+    ap (λ (o : TextOperand). V (field 7 5 w) ∷ operand.Comma ∷ o ∷ operand.Comma ∷ V (field 20 5 w) ∷ operand.Mask (flag w) ∷ []) (second_held false f w v)
+
+carry_held : (f : Form) (w v : ℕ)
+    → operands_in w (carry_slots (form_of (source_of f (field 15 5 v)))) ≡ carry_operands (source_of f (field 15 5 w)) (field 7 5 w) (field 20 5 w)
+carry_held f w v =
+    ap (λ (o : TextOperand). V (field 7 5 w) ∷ operand.Comma ∷ V (field 20 5 w) ∷ operand.Comma ∷ o ∷ operand.Comma ∷ operand.V0 ∷ []) (second_held false f w v)
+
+carry_out_held : (vm : Bool) (f : Form) (w v : ℕ)
+    → operands_in w (carry_out_slots vm (form_of (source_of f (field 15 5 v)))) ≡ carry_out_operands vm (source_of f (field 15 5 w)) (field 7 5 w) (field 20 5 w)
+carry_out_held true f w v =
+    ap (λ (o : TextOperand). V (field 7 5 w) ∷ operand.Comma ∷ V (field 20 5 w) ∷ operand.Comma ∷ o ∷ []) (second_held false f w v)
+carry_out_held false f w v = carry_held f w v
+
+arith_held : (op : VectorOp) (f : Form) (w v : ℕ) → bit_and w (told_by_operation op) ≡ bit_and v (told_by_operation op)
+    → operands_in w (arith_slots op (form_of (source_of f (field 15 5 v))) (flag v)) ≡ arith_operands op (source_of f (field 15 5 w)) (field 7 5 w) (field 20 5 w) (flag w)
+arith_held (vector_op.Binary op) f w v told_same = usual_held (has_unsigned_immediate op) f w v
+arith_held (vector_op.CarryOut op) f w v told_same =
+    ap (λ (vm : Bool). operands_in w (carry_out_slots vm (form_of (source_of f (field 15 5 v))))) (sym (same_flag w v told_same)) ∙ carry_out_held (flag w) f w v
+arith_held (vector_op.FixedPoint op) f w v told_same = usual_held (has_unsigned_shift op) f w v
+arith_held (vector_op.NarrowShift op) f w v told_same = usual_held true f w v
+arith_held (vector_op.Clip op) f w v told_same = usual_held true f w v
+arith_held (vector_op.MultiplyAdd op) f w v told_same = multiply_add_held f w v
+arith_held (vector_op.WidenMultiplyAdd op) f w v told_same = multiply_add_held f w v
+arith_held (vector_op.Permute op) f w v told_same = usual_held true f w v
+arith_held op f w v told_same = usual_held false f w v
+
+-- of two words of one row that agree in what the name tells
+held : (t : Instr) (w v : ℕ) → bit_and w (told (filled t v)) ≡ bit_and v (told (filled t v)) → operands_in w (instr_slots (filled t v)) ≡ text_operands (filled t w)
+held (VectorArith arith vd vs2 vm) w v told_same = arith_held arith.0 (form_of arith.1) w v told_same
+held (VectorCarry carry vd vs2) w v told_same = carry_held (form_of carry.1) w v
+held (VectorMove source vd) w v told_same =
+    ap (λ (o : TextOperand). V (field 7 5 w) ∷ operand.Comma ∷ o ∷ []) (second_held false (form_of source) w v)
+held _ w v told_same = refl
+
+held_in_row : (r : Row) → In r table → (w v : ℕ) → bit_and w (told (r.instr v)) ≡ bit_and v (told (r.instr v)) → operands_in w (instr_slots (r.instr v)) ≡ text_operands (r.instr w)
+held_in_row r here w v =
+    let t = template_of r here in
+    let P : Row → Type 0 = λ s. bit_and w (told (s.instr v)) ≡ bit_and v (told (s.instr v)) → operands_in w (instr_slots (s.instr v)) ≡ text_operands (s.instr w) in
+    subst P t.1 (held t.0 w v)
+
+-- ---- each row of the table of names has these slots
+
+-- slots by number, so that lists of them can be compared
+every_slot : List Slot
+every_slot =
+    Comma ∷ Open ∷ Close ∷ V0 ∷ Scalar Rd ∷ Scalar Rs1 ∷ Scalar Rs2 ∷ Vector Rd ∷ Vector Rs1 ∷ Vector Rs2 ∷
+    Unsigned unsigned.Immediate ∷ Unsigned unsigned.Shift ∷ Unsigned unsigned.ShiftWord ∷ Unsigned unsigned.Upper ∷
+    Signed signed.Vector ∷ Signed signed.Immediate ∷ Signed signed.Store ∷ Signed signed.Branch ∷ Signed signed.Jump ∷
+    slot.Csr ∷ slot.VectorType ∷ slot.ShortVectorType ∷ Mask ∷ slot.Word ∷ []
+
+abbrev slot_number : Slot → ℕ
+slot_number Comma = 0
+slot_number Open = 1
+slot_number Close = 2
+slot_number V0 = 3
+slot_number (Scalar Rd) = 4
+slot_number (Scalar Rs1) = 5
+slot_number (Scalar Rs2) = 6
+slot_number (Vector Rd) = 7
+slot_number (Vector Rs1) = 8
+slot_number (Vector Rs2) = 9
+slot_number (Unsigned unsigned.Immediate) = 10
+slot_number (Unsigned unsigned.Shift) = 11
+slot_number (Unsigned unsigned.ShiftWord) = 12
+slot_number (Unsigned unsigned.Upper) = 13
+slot_number (Signed signed.Vector) = 14
+slot_number (Signed signed.Immediate) = 15
+slot_number (Signed signed.Store) = 16
+slot_number (Signed signed.Branch) = 17
+slot_number (Signed signed.Jump) = 18
+slot_number slot.Csr = 19
+slot_number slot.VectorType = 20
+slot_number slot.ShortVectorType = 21
+slot_number Mask = 22
+slot_number slot.Word = 23
+
+slot_with_number : ℕ → Slot
+slot_with_number n = get_or every_slot n Comma
+
+slot_again : (s : Slot) → slot_with_number (slot_number s) ≡ s
+unfolding slot_with_number every_slot
+slot_again Comma = refl
+slot_again Open = refl
+slot_again Close = refl
+slot_again V0 = refl
+slot_again (Scalar Rd) = refl
+slot_again (Scalar Rs1) = refl
+slot_again (Scalar Rs2) = refl
+slot_again (Vector Rd) = refl
+slot_again (Vector Rs1) = refl
+slot_again (Vector Rs2) = refl
+slot_again (Unsigned unsigned.Immediate) = refl
+slot_again (Unsigned unsigned.Shift) = refl
+slot_again (Unsigned unsigned.ShiftWord) = refl
+slot_again (Unsigned unsigned.Upper) = refl
+slot_again (Signed signed.Vector) = refl
+slot_again (Signed signed.Immediate) = refl
+slot_again (Signed signed.Store) = refl
+slot_again (Signed signed.Branch) = refl
+slot_again (Signed signed.Jump) = refl
+slot_again slot.Csr = refl
+slot_again slot.VectorType = refl
+slot_again slot.ShortVectorType = refl
+slot_again Mask = refl
+slot_again slot.Word = refl
+
+slots_again : (ss : List Slot) → map slot_with_number (map slot_number ss) ≡ ss
+slots_again [] = refl
+slots_again (s ∷ ss) = ap (λ (x : Slot). x ∷ map slot_with_number (map slot_number ss)) (slot_again s) ∙ ap (λ (xs : List Slot). s ∷ xs) (slots_again ss)
+
+abbrev same_numbers : List Slot → List Slot → Bool
+same_numbers ss ts = bytes_eq (map slot_number ss) (map slot_number ts)
+
+same_slots : (ss ts : List Slot) → same_numbers ss ts ≡ true → ss ≡ ts
+same_slots ss ts h =
+    sym (slots_again ss) ∙ ap (map slot_with_number) ((bytes_eq-Decides (map slot_number ss) (map slot_number ts)).0 h) ∙ slots_again ts
+
+abbrev has_slots_of : Mnemonic → Option Instr → Bool
+has_slots_of m None = false
+has_slots_of m (Some i) = same_numbers (slots_of m.1) (instr_slots i)
+
+abbrev has_its_slots : Mnemonic → Bool
+has_its_slots m = has_slots_of m (scan table m.2)
+
+unfoldable each_has_its_slots : Bool
+each_has_its_slots = list_all has_its_slots (take name_count MNEMONICS)
+
+each_has_its_slots_true : each_has_its_slots ≡ true
+unfolding each_has_its_slots table rows scan fixed_mask
+each_has_its_slots_true = refl
+
+its_slots : (row : ℕ) → row < name_count → has_its_slots (row_at row) ≡ true
+unfolding each_has_its_slots row_at
+its_slots row lt =
+    let P : Mnemonic → Type 0 = λ m. has_its_slots m ≡ true in
+    subst P (get_or-take name_count MNEMONICS row none lt) (all_at has_its_slots (take name_count MNEMONICS) row none each_has_its_slots_true lt)
+
+pub names_take_operands : (row word : ℕ) → row < name_count → HasBitsOf row word → HoldsOperands (slots_at row) word (scan table word)
+unfolding slots_at bits_at
+names_take_operands row word lt is =
+    let m = row_at row in
+    let named = of_name row word lt is in
+    let i = named.r.instr m.2 in
+    let P : Option Instr → Type 0 = λ o. has_slots_of m o ≡ true in
+    let same : slots_of m.1 ≡ instr_slots i = same_slots (slots_of m.1) (instr_slots i) (subst P named.at_zeros (its_slots row lt)) in
+    let Q : Option Instr → Type 0 = λ o. HoldsOperands (slots_of m.1) word o in
+    subst Q (sym named.is) (ap (operands_in word) same ∙ held_in_row named.r named.of_table word m.2 named.agrees)
