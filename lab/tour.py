@@ -10,7 +10,7 @@ from .lesson_page import lesson_page
 from .lesson_script import Script, Step, add_line
 from .program import find_program
 
-DATA = pathlib.Path(__file__).resolve().parent.parent / "crates" / "test_command_lines" / "data"
+DATA = pathlib.Path(__file__).resolve().parent.parent / "tests" / "command_lines" / "data"
 
 
 def add_arguments(parser: argparse.ArgumentParser) -> None:

@@ -13,7 +13,8 @@ from lab.lines import BadLine, OutOfStep, is_look, is_refusal, is_whole
 from lab.machine import Session
 
 CRATES = pathlib.Path(__file__).parents[2] / "crates"
-DATA = CRATES / "test_command_lines" / "data"
+TESTS = pathlib.Path(__file__).parents[2] / "tests"
+DATA = TESTS / "command_lines" / "data"
 IMAGES = {name: DATA / name for name in "magic class order machine entries interp entry bare good short".split()}
 IMAGES |= {name: DATA / "images" / name for name in ("sum", "squares")}
 COMMANDS = set("enter leave load map poke peek set setpc regs vset vreg vcsr policy asm dis".split())
@@ -46,7 +47,7 @@ WORDS = {
 
 def stored_scripts() -> Iterator[pathlib.Path]:
     """The scripts of the repository: files whose first line is a user's or the operator's; `.steps` are sentences."""
-    for file in sorted([*CRATES.glob("*/stdin"), *CRATES.glob("*/data/**/*")]):
+    for file in sorted([*CRATES.glob("*/stdin"), *CRATES.glob("*/data/**/*"), *TESTS.glob("*/data/**/*")]):
         if file.is_file() and file.suffix != ".steps" and re.match(rb"[1-8*] ", file.read_bytes()):
             yield file
 

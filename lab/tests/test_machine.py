@@ -9,9 +9,9 @@ import pytest
 
 from lab.machine import OutOfStep, ProgramGone, ReplayDiffers, ScriptFull, Session
 
-CRATES = pathlib.Path(__file__).parents[2] / "crates"
-SUM = CRATES / "test_command_lines" / "data" / "images" / "sum"
-SHORT = CRATES / "test_command_lines" / "data" / "short"
+DATA = pathlib.Path(__file__).parents[2] / "tests" / "command_lines" / "data"
+SUM = DATA / "images" / "sum"
+SHORT = DATA / "short"
 COUNTING = ["1 enter", "1 map 10000 1 rwx", "1 asm 10000 addi x5, x5, 1", "1 asm 10004 jal x0, -4", "1 setpc 10000"]
 
 

@@ -1,0 +1,102 @@
+"""Pages that show what the program answers, made from templates.
+
+A template is Markdown. A line `## TITLE` begins a section, with a machine of its own. Some lines stand for what is answered:
+
+- `> LINE`: a line of a script for the section's machine; its answer comes behind it;
+- `$ vecmon WORDS`: a run of the program; both of its outputs come behind it as one, and then its status. With ` > /dev/full` behind the
+  words its standard output takes nothing;
+- `@steps NAME`: the script in the file NAME beside what is answered, in the steps that NAME.steps has: how many lines of the script a
+  step takes, and a sentence;
+- `@file NAME`: the text of the file.
+"""
+
+import pathlib
+import re
+import subprocess
+from collections.abc import Iterator
+
+from tests.program import answers, lines_of
+
+DATA = pathlib.Path(__file__).parent / "data"
+IMAGES = [f"{name}=images/{name}" for name in ("good", "short", "sum", "squares")]
+FULL = " > /dev/full"
+LONGEST_SHOWN = 300  # bytes of a line that is shown whole
+BEGINNING_SHOWN = 40  # bytes of a longer one
+
+TEMPLATES = {"TOUR.md": "tour.page", "REFUSALS.md": "refusals.page", "COMPILING.md": "compiling.page"}
+"""The pages of docs/, in the order in which they are stored."""
+
+MORE = "program.page"
+"""The template of a page that stands in no document, with what those of docs/ don't show."""
+
+
+def read(name: str) -> str:
+    """A file of `data/`, a character for each byte."""
+    return (DATA / name).read_bytes().decode("latin-1")
+
+
+def page(program: pathlib.Path, name: str) -> str:
+    """The page of a template."""
+    sections = re.split(r"^(?=## )", read(name), flags=re.MULTILINE)
+    return "".join(f"{line}\n" for section in sections for line in _section(program, lines_of(section)))
+
+
+def _section(program: pathlib.Path, lines: list[str]) -> Iterator[str]:
+    """The lines of a section of a page."""
+    script = [asked for line in lines for asked in _script_lines(line)]
+    told = zip(script, answers(program, IMAGES, script, DATA) if script else [])
+    for line in lines:
+        if line.startswith("> "):
+            asked, answer = next(told)
+            yield from (f"> {_shown(asked)}", *map(_shown, answer))
+        elif line.startswith("$ vecmon"):
+            yield from (line, *_program_run(program, line.removeprefix("$ vecmon")))
+        elif line.startswith("@steps "):
+            yield from _steps(line.removeprefix("@steps "), told)
+        elif line.startswith("@file "):
+            yield from lines_of(read(line.removeprefix("@file ")))
+        else:
+            yield line
+
+
+def _script_lines(line: str) -> list[str]:
+    """The lines of a script for the section's machine that a line of a template has."""
+    if line.startswith("@steps "):
+        return lines_of(read(line.removeprefix("@steps ")))
+    return [line.removeprefix("> ")] if line.startswith("> ") else []
+
+
+def _shown(line: str) -> str:
+    """A line as it is shown, a long one by how it begins."""
+    return line if len(line) <= LONGEST_SHOWN else f"{line[:BEGINNING_SHOWN]} .. ({len(line)} bytes)"
+
+
+def _program_run(program: pathlib.Path, words: str) -> Iterator[str]:
+    """What a run of the program tells at a terminal, and its status."""
+    is_full, pipe = words.endswith(FULL), subprocess.PIPE
+    with open("/dev/full", "wb") as full:
+        ran = subprocess.run(
+            [str(program), *words.removesuffix(FULL).split()],
+            cwd=DATA,
+            stdin=subprocess.DEVNULL,
+            stdout=full if is_full else pipe,
+            stderr=pipe if is_full else subprocess.STDOUT,
+            check=False,
+        )
+    told = ran.stderr if is_full else ran.stdout
+    yield from lines_of(told.decode("latin-1"))
+    yield from ("$ echo $?", str(ran.returncode))
+
+
+def _steps(name: str, told: Iterator[tuple[str, list[str]]]) -> Iterator[str]:
+    """A script beside what is answered, in steps. Raises ValueError where the steps don't take all lines."""
+    steps = [step.split(" ", 1) for step in lines_of(read(f"{name}.steps"))]
+    if sum(int(count) for count, _ in steps) != len(_script_lines(f"@steps {name}")):
+        raise ValueError(f"the steps of {name} don't take its lines")
+    for count, sentence in steps:
+        yield from (sentence, "", "| script | transcript |", "|---|---|")
+        for _ in range(int(count)):
+            asked, (first, *more) = next(told)
+            yield f"| `{asked}` | `{first}` |"
+            yield from (f"| | `{part}` |" for part in more)
+        yield ""

@@ -1,0 +1,73 @@
+"""The program under test: where it is, what a run of it gives, and which of its answers belongs to which line of a script."""
+
+import os
+import pathlib
+import subprocess
+from collections.abc import Sequence
+from dataclasses import dataclass
+
+TOP = pathlib.Path(__file__).resolve().parent.parent
+CONTEXT = 3  # lines before a difference
+SHOWN = 12  # lines from it on
+
+
+@dataclass(frozen=True)
+class Run:
+    """What a run of the program gave. Texts have a character for each byte."""
+
+    stdout: str
+    stderr: str
+    status: int
+
+
+def built() -> pathlib.Path:
+    """The program that the variable VECMON names; without it the one that is built in this checkout."""
+    return pathlib.Path(os.environ.get("VECMON") or TOP / "crates/vecmon/out/vecmon").absolute()
+
+
+def run(program: pathlib.Path, words: Sequence[str], script: str, folder: pathlib.Path) -> Run:
+    """Runs the program on words in a folder, with a script on standard input."""
+    ran = subprocess.run(
+        [program, *words], input=script.encode("latin-1"), cwd=folder, capture_output=True, check=False
+    )
+    return Run(ran.stdout.decode("latin-1"), ran.stderr.decode("latin-1"), ran.returncode)
+
+
+def lines_of(text: str) -> list[str]:
+    """The lines of a text; a newline alone ends one."""
+    return text.removesuffix("\n").split("\n") if text else []
+
+
+def mark_behind(line: str) -> tuple[str, str]:
+    """A line that changes nothing, to be written behind a line of a script, and its answer, which is no answer to that line.
+
+    A user's line is answered by a user's lines, and nobody's line by `* E01` or `* E02`; the operator's line never by `* E01`.
+    """
+    return ("9", "* E01") if line.startswith("* ") else ("* dance", "* E03")
+
+
+def answers(program: pathlib.Path, words: Sequence[str], lines: Sequence[str], folder: pathlib.Path) -> list[list[str]]:
+    """What is answered to each line of a script, a text a line. Raises ValueError where that isn't what a plain run answers."""
+    script = "".join(f"{line}\n{mark_behind(line)[0]}\n" for line in lines)
+    told = iter(lines_of(run(program, ["/dev/stdin", *words], script, folder).stdout))
+    divided = []
+    for line in lines:
+        end = mark_behind(line)[1]
+        divided.append(list(iter(lambda: next(told), end)))
+    plain = run(program, ["/dev/stdin", *words], "".join(f"{line}\n" for line in lines), folder)
+    if "".join(f"{part}\n" for answer in divided for part in answer) != plain.stdout:
+        raise ValueError("marks between the lines of a script change what is answered")
+    return divided
+
+
+def difference(told: str, stored: str) -> str:
+    """The first lines where what was told isn't what is stored; no text where nothing differs."""
+    if told == stored:
+        return ""
+    now, wanted = told.split("\n"), stored.split("\n")
+    same = 0
+    while same < min(len(now), len(wanted)) and now[same] == wanted[same]:
+        same += 1
+    shown = [f"line {same + 1} differs:", *(f"  {line}" for line in now[max(0, same - CONTEXT) : same])]
+    shown += [f"- {line}" for line in wanted[same : same + SHOWN]] + [f"+ {line}" for line in now[same : same + SHOWN]]
+    return "\n".join(shown)
