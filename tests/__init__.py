@@ -1,6 +1,7 @@
 """Tests of the built program `vecmon` from outside: words and scripts go in, and what comes out is compared with what was stored.
 
-- `command_lines`: one command line after another, and the pages of docs/ that show what is answered.
+- `command_lines`: one command line after another, and the pages of docs/ that show what is answered;
+- `instruction_loops`: what loops of one kind of instruction leave, and how to measure them.
 
 With the program built (`rt run < stdin` in crates/vecmon) and the packages of `lab/setup`, at the top of the repository:
 
