@@ -19,5 +19,6 @@ mod view;
 mod write_call;
 
 pub use instruction_cycle::step;
+pub use rv_model::StepEnd;
 pub use vectors::Vectors;
 pub use view::View;

@@ -5,4 +5,5 @@ mod areas;
 mod unit;
 
 pub use areas::Areas;
+pub use rv_model::Stats;
 pub use unit::Unit;

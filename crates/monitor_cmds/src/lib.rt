@@ -27,5 +27,6 @@ pub use operator::{granted_line, list_line, parse_operator, stats_line};
 pub use parsing::parse;
 pub use refusals::{bad_prefix, line_too_long, refused};
 pub use reply::Reply;
+pub use rv_model::{Cmd, Refusal};
 pub use stops::stop_line;
 pub use tag::Tag;

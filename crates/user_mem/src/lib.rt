@@ -14,3 +14,4 @@ mod users;
 
 pub use isolation::isolation_law;
 pub use pool::{NoMemory, Pool};
+pub use rv_model::{Access, Fault, MapRefusal};

@@ -35,3 +35,4 @@ mod whole_moves;
 mod widen;
 
 pub use execution::{exec, exec_arith, exec_unit, exec_whole_unit};
+pub use rv_model::VEnd;

@@ -18,6 +18,7 @@ mod whole_blocks;
 
 pub use instructions::run;
 pub use length::index_count;
+pub use rv_model::MemEnd;
 pub use unit_access::{UnitAccess, is_unit_load};
 pub use user_bytes::UserBytes;
 pub use whole_blocks::{run_block, run_whole_block};
