@@ -1,4 +1,4 @@
-//! The bytes of a group of vector registers ("V" Vector Extension 1.0, sections 3.2 and 3.4.2).
+//! The bytes of a group of vector registers ("V" Vector Extension 1.0, sections 3.1 and 3.4.2).
 ghost use Rattle.std.specs.Prelude.{◌≡◌, ◌+◌, ◌*◌, ◌≤◌, length};
 ghost use Rattle.std.specs.Borrow.{sem};
 ghost use Rattle.rv_model.specs.vector.Registers.{group_of, registers};

@@ -1,4 +1,4 @@
--- Groups that end inside the list of all vector registers ("V" Vector Extension 1.0, sections 3.2 and 7.8).
+-- Groups that end inside the list of all vector registers ("V" Vector Extension 1.0, sections 3.1 and 7.8).
 use Rattle.std.specs.Prelude.{ℕ, ◌+◌, ◌*◌, ◌/◌, ◌≤◌, ◌≡◌, ⊤}
 use Rattle.std.specs.Int.{Width}
 use Rattle.rv_model.specs.declared.instructions.source.Source.{Source}

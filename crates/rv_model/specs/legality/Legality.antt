@@ -1,5 +1,5 @@
 -- Which vector instructions are legal under a vector type and with a vstart ("V" Vector Extension 1.0, sections 3.4.4, 3.7,
--- 5.2, 5.3, 7.4 to 7.9, 11, 12.3, 14, 15 and 16; what the standard leaves open stands in docs/DECISIONS.md). vl has no part in it.
+-- 5.2, 5.3, 7.4 to 7.9, 11, 12.3, 14, 15, 16 and 18.2; what the standard leaves open stands in docs/DECISIONS.md). vl has no part in it.
 use Rattle.std.specs.Prelude.{◌≡◌, ◌≢◌, ℕ, ◌+◌, ◌/◌, Bool, true, false, ◌&&◌, ◌||◌, not, ◌==◌, List, [], ◌∷◌, Option, Some, None, if◌then◌else◌}
 use Rattle.rv_model.specs.declared.instructions.instruction.Instr.{Instr}
 use Rattle.rv_model.specs.declared.instructions.instruction.Instr.TheVariants.{Upper, Jump, JumpRegister, Branch, Load, Store, RegisterImmediate, ShiftImmediate, ShiftImmediateWord, RegisterRegister, Fence, System, Csr, CsrImmediate, SetVli, SetIvli, SetVl, VectorArith, VectorCarry, VectorMove, WholeMove, MaskLogic, Compress, MaskToScalar, VectorExtend, MaskUnary, ElementIndex, MoveToScalar, MoveToVector, VectorUnit, VectorStrided, VectorIndexed, WholeLoad, WholeStore, MaskMemory}
@@ -158,14 +158,14 @@ starts_at_zero (MaskToScalar o rd vs2 vm) = true
 starts_at_zero (MaskUnary o vd vs2 vm) = true
 starts_at_zero _ = false
 
--- upper halves of products
+-- upper halves of products; Zve64x has none of 64-bit elements (section 18.2)
 abbrev pub has_wide_product : BinaryOp → Bool
 has_wide_product Vmulhu = true
 has_wide_product Vmulhsu = true
 has_wide_product Vmulh = true
 has_wide_product _ = false
 
--- fractional products
+-- fractional products; Zve64x has none of 64-bit elements (section 18.2)
 abbrev pub is_fractional_product : FixedPointOp → Bool
 is_fractional_product Vsmul = true
 is_fractional_product _ = false

@@ -1,5 +1,5 @@
 -- The register operands of a vector operation, by the shape of the operation ("V" Vector Extension 1.0, sections 5.2, 10.2,
--- 11.1 to 11.12, 12, 14 and 16).
+-- 10.3, 11.1 to 11.12, 12, 14 and 16).
 use Rattle.std.specs.Prelude.{ℕ, ◌*◌, ◌/◌, Bool, List, [], ◌∷◌, if◌then◌else◌}
 use Rattle.rv_model.specs.declared.instructions.operations.ExtendOp.{ExtendOp}
 use Rattle.rv_model.specs.declared.instructions.operations.ExtendOp.TheVariants.{VzextVf8, VsextVf8, VzextVf4, VsextVf4, VzextVf2, VsextVf2}

@@ -1,5 +1,5 @@
 -- Register operands as sets of register numbers, and which of them may stand together in one instruction ("V" Vector
--- Extension 1.0, sections 3.4.2, 5.2 and 5.3). An overlap is in the lowest-numbered part of the source where both groups
+-- Extension 1.0, sections 3.4.2, 5.2, 5.3, 10.2 and 10.3). An overlap is in the lowest-numbered part of the source where both groups
 -- begin together, and in the highest-numbered part of the destination where both end together.
 use Rattle.std.specs.Prelude.{◌≡◌, ℕ, ◌+◌, ◌*◌, ◌%◌, ◌<◌, ◌≤◌, ◌⊎◌, ⊤, Bool, true, false, ◌&&◌, ◌||◌, not, nat_lt, nat_le, ◌==◌, max, min, List, All}
 use Rattle.std.specs.List.{list_all}

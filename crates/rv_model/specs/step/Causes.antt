@@ -1,4 +1,4 @@
--- The numbers of the causes of faults (Privileged Architecture 20211203, section 4.1.9).
+-- The numbers of the causes of faults (Privileged Architecture 20211203, section 4.1.8).
 use Rattle.std.specs.Prelude.{ℕ}
 use Rattle.rv_model.specs.declared.step.step_end.Cause.{Cause}
 use Rattle.rv_model.specs.declared.step.step_end.Cause.TheVariants.{MisalignedTarget, FetchAccess, IllegalInstruction, LoadAccess, StoreAccess}

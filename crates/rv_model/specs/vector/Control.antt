@@ -1,5 +1,5 @@
--- What the control registers of the vector extension read, and what a write leaves ("V" Vector Extension 1.0, sections 3.5 to
--- 3.9; Unprivileged ISA 20191213, chapter 9, "Zicsr"). Bits that a register doesn't hold are dropped.
+-- What the control registers of the vector extension read, and what a write leaves ("V" Vector Extension 1.0, sections 3.4 to
+-- 3.10; Unprivileged ISA 20191213, chapter 9, "Zicsr"). Bits that a register doesn't hold are dropped.
 use Rattle.std.specs.Prelude.{ℕ, ◌+◌, ◌*◌, ◌/◌, ◌%◌, ◌^◌, ◌==◌, not, bit_and, bit_or, Bool, true}
 use Rattle.std.specs.Int.{w64, bit_not}
 use Rattle.rv_model.specs.declared.vector.control_register.ControlRegister.{ControlRegister}

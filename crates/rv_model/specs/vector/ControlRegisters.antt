@@ -1,5 +1,5 @@
 -- The control registers of the vector extension: their numbers, their names, and which of them may be written ("V" Vector
--- Extension 1.0, section 3). There are no others.
+-- Extension 1.0, sections 3.4 to 3.10). There are no others.
 use Rattle.std.specs.Prelude.{ℕ, ◌==◌, Bool, true, false, List, [], ◌∷◌, Option, find, codes}
 use Rattle.std.specs.Str.{bytes_eq}
 use Rattle.rv_model.specs.declared.vector.control_register.ControlRegister.{ControlRegister}

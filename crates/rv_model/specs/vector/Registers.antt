@@ -1,4 +1,4 @@
--- Vector registers, and groups of them, as parts of the list of all registers' bytes ("V" Vector Extension 1.0, sections 3.2
+-- Vector registers, and groups of them, as parts of the list of all registers' bytes ("V" Vector Extension 1.0, sections 3.1
 -- and 3.4.2).
 use Rattle.std.specs.Prelude.{ℕ, ◌*◌, ◌/◌, List, max}
 use Rattle.std.specs.Simd.Lanes.{chunk, put_chunk}

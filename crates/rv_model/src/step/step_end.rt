@@ -2,14 +2,15 @@
 ghost use Rattle.std.specs.Prelude.{◌≡◌};
 ghost use Rattle.rv_model.specs.step.Causes.{cause_number};
 
-/// Why an instruction faults (Privileged Architecture 20211203, section 4.1.9, "scause").
+/// Why an instruction faults (Privileged Architecture 20211203, section 4.1.8, "scause").
 #[derive(Clone, Copy, Debug, PartialEq, Eq)]
 pub enum Cause {
     /// A jump or branch to an address that isn't divisible by 4.
     MisalignedTarget,
     /// An instruction fetch that isn't allowed.
     FetchAccess,
-    /// A word that is no instruction.
+    /// A word that is no instruction, a vector instruction that isn't legal, or an access of a control register that
+    /// isn't there or may not be written.
     IllegalInstruction,
     /// A load that isn't wholly allowed.
     LoadAccess,

@@ -1,5 +1,5 @@
 //! The control registers that a program may access: those of the vector extension.
-/// A control register of the vector extension ("V" Vector Extension 1.0, section 3).
+/// A control register of the vector extension ("V" Vector Extension 1.0, sections 3.4 to 3.10).
 #[derive(Clone, Copy, Debug, PartialEq, Eq)]
 pub enum ControlRegister {
     /// The element that the next vector instruction begins with.

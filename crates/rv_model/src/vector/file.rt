@@ -1,4 +1,4 @@
-//! The vector registers ("V" Vector Extension 1.0, section 3.2).
+//! The vector registers ("V" Vector Extension 1.0, section 3.1).
 ghost use Rattle.std.specs.Prelude.{◌≡◌, ◌+◌, ◌≤◌, length, slice_range};
 ghost use Rattle.std.specs.Borrow.{sem};
 
@@ -8,7 +8,7 @@ use crate::vector::register_bytes::RegisterBytes;
 use crate::vector::sizes::{FILE_BYTES, VLENB};
 use std::marker::Model;
 
-/// The vector registers v0 to v31 of 32 bytes each, in order (section 3.2, VLEN 256).
+/// The vector registers v0 to v31 of 32 bytes each, in order (section 3.1, VLEN 256).
 #[derive(Drop)]
 pub struct VFile {
     cells: Cells<FILE_BYTES>,

@@ -5,7 +5,7 @@ ghost use Rattle.rv_model.specs.commands.Arguments.{register_bytes};
 use crate::vector::sizes::VLENB;
 use std::marker::Model;
 
-/// The 32 bytes of a vector register, byte 0 first ("V" Vector Extension 1.0, section 3.2, VLEN
+/// The 32 bytes of a vector register, byte 0 first ("V" Vector Extension 1.0, section 3.1, VLEN
 /// 256).
 #[derive(Drop)]
 pub struct RegisterBytes {

@@ -1,6 +1,6 @@
 //! The sizes of vector registers for VLEN 256 ("V" Vector Extension 1.0, sections 2 and 3).
 
-/// The bytes of a vector register (section 3.7, `vlenb`).
+/// The bytes of a vector register (section 3.6, `vlenb`).
 pub const VLENB: usize = 32;
 
 /// How many vector registers there are (section 3.1).

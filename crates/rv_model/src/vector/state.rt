@@ -118,7 +118,7 @@ impl RoundingMode {
 }
 
 /// All of a machine's vector state: the registers, `vl` and `vtype`, `vstart` below 256, the
-/// rounding mode and the saturation flag `vxsat` (sections 3.2 to 3.9).
+/// rounding mode and the saturation flag `vxsat` (sections 3.1, 3.4, 3.5 and 3.7 to 3.9).
 #[derive(Drop)]
 pub struct VState {
     pub file: VFile,
