@@ -15,7 +15,7 @@ from typing import NamedTuple
 
 TOP = pathlib.Path(__file__).resolve().parent.parent
 DATA = TOP / "crates/vecmon"
-IMAGES = TOP / "crates/test_command_lines/data"
+IMAGES = TOP / "tests/command_lines/data"
 
 # Less than the frames of the users' memory, which are 8 MiB, and enough to start.
 TOO_LITTLE_MEMORY = 8000 * 1024
