@@ -2,34 +2,7 @@
 
 // A lesson: frames that were made beforehand, stepped forth and back. Each has what changed of the users' states.
 
-/** What a merge patch (RFC 7396) makes of a value, which stays as it is. */
-function patched(value, patch) {
-  if (patch === null || typeof patch !== "object" || Array.isArray(patch)) return patch;
-  const result = { ...value };
-  for (const [key, part] of Object.entries(patch)) {
-    if (part === null) delete result[key];
-    else result[key] = patched(result[key], part);
-  }
-  return result;
-}
-
-/** A text of the author's, in which backquotes stand around what is code, as elements. */
-function prose(text) {
-  return text.split("`").map((part, place) => (place % 2 ? make("code", "", part) : part));
-}
-
-/** A line or an answer in the transcript: lines begin with `>`, answers with `<`, other sentences with `!`. */
-function logEntry(entry) {
-  const text = entry.slice(1);
-  const stopped = entry[0] === "!" || (entry[0] === "<" && (STOP_LINE.test(text) || refusalWords(text)));
-  const kind = { ">": "asked", "<": "answered", "!": "unsent" }[entry[0]];
-  const item = make("li", stopped ? `${kind} stopped` : kind);
-  item.textContent = entry[0] === ">" ? `> ${text}` : text;
-  return item;
-}
-
 const ADDRESS_DELAY = 300; // ms: a browser takes only so many new addresses in a time
-const STOP_LINE = /^[1-8] (e?break|exit|outfull|fault) /;
 
 class Lesson {
   constructor({ frames, labels }) {
@@ -171,11 +144,6 @@ class Lesson {
     log.querySelectorAll(".current").forEach((item) => item.classList.remove("current"));
     [...log.children].slice(end - current).forEach((item) => item.classList.add("current"));
   }
-}
-
-/** Puts a text in only where it is another one, so that it isn't read aloud again. */
-function replaceText(element, text, contents) {
-  if (element.textContent !== text.replaceAll("`", "")) element.replaceChildren(...contents);
 }
 
 new Lesson(JSON.parse(byId("lesson").textContent));

@@ -1,6 +1,7 @@
 "use strict";
 
-// Paints what the machine told of one user: a plain object goes in, and what it was before, for what changed.
+// Paints what the machine told of one user: a plain object goes in, and what it was before, for what changed. What can be
+// changed has the beginning of the line that does it as `data-edit`; a vector element its register, width, place and form.
 
 const byId = (id) => document.getElementById(id);
 
@@ -45,6 +46,42 @@ function outputText(digits) {
   const picture = (character) => String.fromCharCode(0x2400 + character.charCodeAt(0));
   return new TextDecoder().decode(bytes).replace(/[\x00-\x08\x0b-\x1f]/g, picture);
 }
+
+/** What a merge patch (RFC 7396) makes of a value, which stays as it is. */
+function patched(value, patch) {
+  if (patch === null || typeof patch !== "object" || Array.isArray(patch)) return patch;
+  const result = { ...value };
+  for (const [key, part] of Object.entries(patch)) {
+    if (part === null) delete result[key];
+    else result[key] = patched(result[key], part);
+  }
+  return result;
+}
+
+/** A text of the author's, in which backquotes stand around what is code, as elements. */
+function prose(text) {
+  return text.split("`").map((part, place) => (place % 2 ? make("code", "", part) : part));
+}
+
+/**
+ * A line or an answer in the transcript: lines begin with `>`, answers with `<`, other sentences with `!`.
+ * Of an only user's entries the digit is left out.
+ */
+function logEntry(entry, isOnly = false) {
+  const text = entry.slice(1);
+  const stopped = entry[0] === "!" || (entry[0] === "<" && (STOP_LINE.test(text) || refusalWords(text)));
+  const kind = { ">": "asked", "<": "answered", "!": "unsent" }[entry[0]];
+  const item = make("li", stopped ? `${kind} stopped` : kind);
+  item.textContent = (entry[0] === ">" ? "> " : "") + (isOnly && entry[0] !== "!" ? text.slice(2) : text);
+  return item;
+}
+
+/** Puts a text in only where it is another one, so that it isn't read aloud again. */
+function replaceText(element, text, contents) {
+  if (element.textContent !== text.replaceAll("`", "")) element.replaceChildren(...contents);
+}
+
+const STOP_LINE = /^[1-8] (e?break|exit|outfull|fault) /;
 
 const KINDS = { masked: "masked off", tail: "tail", prestart: "before vstart", active: "active" };
 
@@ -124,6 +161,7 @@ function listingRow(state, before, address, abi) {
   if (before.code[address] !== line && (before.code[address] || !state.instruction)) word.classList.add("changed");
   const row = make("tr", kinds.join(" "), marks, header("row", address), word, text);
   row.dataset.address = address;
+  row.dataset.edit = `break ${address}`;
   return row;
 }
 
@@ -219,6 +257,7 @@ function groupRows(state, before, shape, operand, type) {
       const kind = kinds[0] === kinds[1] ? kinds[0] : "";
       const cell = elementCell(state.v[register], before.v[register], shape, isMask ? first + column : column, kind);
       cell.title = `element ${first + column} of v${shape.register}${kind ? `, ${KINDS[kind]}` : ""}: ${cell.title}`;
+      cell.dataset.edit = `vset v${register} ${isMask ? 1 : shape.width} ${isMask ? first + column : column} ${shape.form}`;
       return cell;
     });
     const row = make("tr", [place ? "" : "first", way ?? ""].join(" "), head, ...cells);
@@ -270,11 +309,13 @@ function paintRegisters(state, before) {
       const cell = make("td", value === "0" ? "zero" : "", signed ? signedText(value) : value);
       if (before.x[number] !== value) cell.classList.add("changed");
       cell.title = `x${number}, ${ABI_NAMES[number]}: ${value} = ${signedText(value)}`;
+      if (number) cell.dataset.edit = `set x${number}`;
       return [header("row", abi ? ABI_NAMES[number] : `x${number}`), cell];
     });
     return make("tr", "", ...pairs);
   });
   const pc = make("tr", "", header("row", "pc"), make("td", "", state.pc));
+  pc.lastChild.dataset.edit = "setpc";
   byId("registers").replaceChildren(table("Scalar registers", make("tbody", "", ...rows, pc)));
 }
 
@@ -296,7 +337,9 @@ function memoryRow(address, digits, digitsBefore) {
   const bytes = digits.match(/../g);
   const spans = bytes.map((byte, place) => {
     const changed = digitsBefore !== undefined && digitsBefore.slice(2 * place, 2 * place + 2) !== byte;
-    return make("span", changed ? "changed" : byte === "00" ? "zero" : "", byte);
+    const span = make("span", changed ? "changed" : byte === "00" ? "zero" : "", byte);
+    span.dataset.edit = `poke ${(BigInt("0x" + address) + BigInt(place)).toString(16)}`;
+    return span;
   });
   const groups = [0, 4, 8, 12].map((first) => {
     return make("td", "", ...spans.slice(first, first + 4).flatMap((span, place) => (place ? [" ", span] : [span])));
