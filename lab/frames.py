@@ -1,7 +1,6 @@
 """The frames of a lesson: what each line of a script answers, and what it leaves of each user."""
 
 import pathlib
-from collections import Counter
 from collections.abc import Mapping, Sequence
 from contextlib import ExitStack, suppress
 from dataclasses import dataclass
@@ -10,9 +9,8 @@ from . import LabError
 from .lesson_script import Script, Step, refused_statement
 from .lines import BadLine, is_look, is_refusal, words_of
 from .machine import Session
-from .state import State, Watch, look_at
+from .state import RowChoice, State, Watch, look_at, with_rows
 
-MOST_ROWS = 64
 USERS = "12345678"
 
 
@@ -126,12 +124,13 @@ class _Maker:
     def finish(self) -> list[Frame]:
         """The frames, with those rows of memory alone that tell most."""
         for user, watch in self._watches.items():
-            rows = _telling_rows([frame.states[user] for frame in self._frames if user in frame.states], watch)
+            choice = RowChoice()
             for frame in self._frames:
-                if "memory" in frame.states.get(user, {}):
-                    memory = frame.states[user]["memory"]
-                    kept = {row: digits for row, digits in memory.items() if row in rows}
-                    frame.states[user] = frame.states[user] | {"memory": kept}
+                choice.add(frame.states.get(user, {}))
+            rows = choice.rows(watch)
+            for frame in self._frames:
+                if user in frame.states:
+                    frame.states[user] = with_rows(frame.states[user], rows)
         return self._frames
 
 
@@ -141,24 +140,3 @@ def _steps(step: Step, answers: Sequence[str]) -> int:
         case [["step", number]] if answers and not is_refusal(answers[:1]):
             return int(number)
     return 0
-
-
-def _telling_rows(states: Sequence[State], watch: Watch) -> set[str]:
-    """The rows of a user's memory that a lesson shows: those that lines name, that change, and that aren't zero.
-
-    What stands in the listing isn't shown again, unless a line names it.
-    """
-    memories = [state["memory"] for state in states if "memory" in state]
-    weights: Counter[str] = Counter()
-    for number, memory in enumerate(memories):
-        before = memories[number - 1] if number else {}
-        for row, digits in memory.items():
-            if digits != before.get(row, digits):
-                weights[row] = 2
-            elif digits.strip("0"):
-                weights[row] = max(weights[row], 1)
-    for row in list(weights):
-        if any(int(row, 16) + place in watch.code for place in range(0, 16, 4)):
-            del weights[row]
-    weights.update({f"{row:x}": 3 for row in watch.named if any(f"{row:x}" in memory for memory in memories)})
-    return {row for row, _ in weights.most_common(MOST_ROWS)}

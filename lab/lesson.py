@@ -9,7 +9,7 @@ from . import LabError
 from .frames import make_frames
 from .lesson_page import lesson_page
 from .lesson_script import read_script, read_source
-from .program import find_program
+from .program import find_program, images_of
 
 SOURCE_SUFFIXES = (".s", ".S")
 
@@ -25,7 +25,7 @@ def add_arguments(parser: argparse.ArgumentParser) -> None:
 
 def run(arguments: argparse.Namespace) -> int:
     """Writes the page. Raises LabError and OSError for bad input."""
-    page = _made(arguments.script, _images(arguments.images), arguments.title, arguments.quantum)
+    page = _made(arguments.script, images_of(arguments.images), arguments.title, arguments.quantum)
     if arguments.output is None:
         sys.stdout.buffer.write(page.encode("utf-8"))
     else:
@@ -39,16 +39,3 @@ def _made(path: pathlib.Path, images: Mapping[str, pathlib.Path], title: str | N
     script = read_source(text, path.name) if path.suffix in SOURCE_SUFFIXES else read_script(text)
     frames = make_frames(script, find_program(), images, quantum)
     return lesson_page(title or script.title or path.name, frames, script.labels)
-
-
-def _images(words: list[str]) -> dict[str, pathlib.Path]:
-    """The images by name. Raises LabError for a word that names none."""
-    images = {}
-    for word in words:
-        name, separator, path = word.partition("=")
-        if not separator:
-            raise LabError(f"{word} is no image; NAME=PATH is")
-        if not pathlib.Path(path).is_file():
-            raise LabError(f"image {name}: there is no file {path}")
-        images[name] = pathlib.Path(path)
-    return images

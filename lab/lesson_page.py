@@ -13,30 +13,39 @@ from typing import Any
 from .frames import Frame
 
 FILES = pathlib.Path(__file__).with_name("page")
+STYLE = "page.css"
 SCRIPTS = ["words.js", "operands.js", "view.js", "lesson.js"]
 
 
 def lesson_page(title: str, frames: Sequence[Frame], labels: Mapping[int, list[str]] = {}) -> str:
     """The page, in HTML."""
     lesson = {"labels": {f"{address:x}": names for address, names in labels.items()}, "frames": _differences(frames)}
-    style = _file("page.css")
-    scripts = [_file(name) for name in SCRIPTS]
     policy = [
         "default-src 'none'",
         "img-src data:",
-        f"style-src {_source_of(style)}",
-        f"script-src {' '.join(map(_source_of, scripts))}",
+        f"style-src {in_line([STYLE])}",
+        f"script-src {in_line(SCRIPTS)}",
         "base-uri 'none'",
         "form-action 'none'",
     ]
-    return string.Template(_file("lesson.html")).substitute(
-        policy="; ".join(policy),
-        title=html.escape(title),
-        style=style,
+    data = json.dumps(lesson, separators=(",", ":")).replace("<", "\\u003c")
+    return page_text("lesson.html", SCRIPTS, policy="; ".join(policy), title=html.escape(title), lesson=data)
+
+
+def page_text(template: str, scripts: Sequence[str], **texts: str) -> str:
+    """A page of `lab/page`, with its scripts, the style, and the parts that show a machine in line."""
+    return string.Template(_file(template)).substitute(
+        texts,
+        style=_file(STYLE),
         machine=_file("machine.html"),
-        lesson=json.dumps(lesson, separators=(",", ":")).replace("<", "\\u003c"),
-        scripts="\n".join(f"<script>{script}</script>" for script in scripts),
+        scripts="\n".join(f"<script>{_file(name)}</script>" for name in scripts),
     )
+
+
+def in_line(names: Sequence[str]) -> str:
+    """What a content policy calls these files of `lab/page`, each in line."""
+    digests = (hashlib.sha256(_file(name).encode("utf-8")).digest() for name in names)
+    return " ".join(f"'sha256-{base64.b64encode(digest).decode('ascii')}'" for digest in digests)
 
 
 def merge_patch(old: Mapping[str, Any], new: Mapping[str, Any]) -> dict[str, Any]:
@@ -63,8 +72,3 @@ def _differences(frames: Sequence[Frame]) -> list[dict[str, Any]]:
 
 def _file(name: str) -> str:
     return (FILES / name).read_text("utf-8")
-
-
-def _source_of(text: str) -> str:
-    """What a content policy calls a text in line."""
-    return f"'sha256-{base64.b64encode(hashlib.sha256(text.encode('utf-8')).digest()).decode('ascii')}'"

@@ -84,6 +84,11 @@ def is_refusal(answer: Sequence[str]) -> bool:
     return _REFUSAL.fullmatch(answer[0]) is not None
 
 
+def is_stop(line: str) -> bool:
+    """Whether a line of an answer says that a program has stopped by itself."""
+    return _STOP_LINE.fullmatch(line) is not None
+
+
 def is_whole(line: str, answer: Sequence[str]) -> bool:
     """Whether these lines, one at least, are all of the answer to `line`.
 

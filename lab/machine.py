@@ -19,6 +19,7 @@ from .lines import BadLine, OutOfStep, check_line, is_look, is_refusal, is_whole
 __all__ = ["BadLine", "OutOfStep", "ProgramGone", "ReplayDiffers", "ScriptFull", "Session"]
 
 SCRIPT_BYTES = 15_000_000  # a process takes 16,777,216 bytes at most, and lines that look need room as well
+MARK_BYTES = 8
 NEW_MACHINE = "* list 1:- 2:- 3:- 4:- 5:- 6:- 7:- 8:-"
 
 
@@ -105,9 +106,13 @@ class _Process:
             how = ": ".join([how, *complaint.splitlines()[:1]])
         return f"the program ended {how}"
 
-    def close(self) -> None:
-        """Ends the process, whatever it does."""
+    def kill(self) -> None:
+        """Ends the process, whatever it does, also from another thread."""
         self._child.kill()
+
+    def close(self) -> None:
+        """Ends the process, and its pipes."""
+        self.kill()
         with self._child:  # which closes the pipes, and waits
             pass
 
@@ -117,7 +122,7 @@ class Session:
 
     Its process is replaced where it ended, hangs, or has no room for more lines; then the new one carries out the
     script again. `policy` has the policy for agnostic elements, `keep` or `ones`, of each user who is there: no
-    command shows it.
+    command shows it. `command` starts the program, and `losses` says why processes that were asked gave no answer, and were replaced.
     """
 
     def __init__(
@@ -137,12 +142,15 @@ class Session:
         """
         options = [] if quantum is None else ["--quantum", str(quantum)]
         words = [f"{name}={path}" for name, path in images.items()]
-        self._command = [str(program), *options, "--", "/dev/stdin", *words]  # images are taken after a script alone
+        self.command = [str(program), *options, "--", "/dev/stdin", *words]  # images are taken after a script alone
         self._patience = patience
         self._script_bytes = script_bytes
         self._script = bytearray()
         self._answers = hashlib.sha256()
+        self._marks = bytearray()  # the first bytes of the digest after each line: where a replay differs first
+        self._has_ended = False
         self.policy: dict[int, str] = {}
+        self.losses: list[str] = []
         self._process: _Process | None = self._replay()
         try:
             for line in filter(None, script.decode("latin-1").split("\n")):
@@ -163,6 +171,16 @@ class Session:
     def script(self) -> bytes:
         """The lines that were done, each with its newline: a plain run of the program makes the machine from them."""
         return bytes(self._script)
+
+    @property
+    def size(self) -> int:
+        """How many bytes the script has."""
+        return len(self._script)
+
+    @property
+    def lines(self) -> int:
+        """How many lines the script has."""
+        return len(self._marks) // MARK_BYTES
 
     @property
     def digest(self) -> str:
@@ -198,6 +216,12 @@ class Session:
             self._process.close()
         self._process = None
 
+    def end(self) -> None:
+        """Ends the process for good, also while another thread waits for it: that one gets ProgramGone."""
+        self._has_ended = True
+        if self._process:
+            self._process.kill()
+
     def _ask(self, line: str) -> list[str]:
         """The answer to a line, which is recorded unless it only looks. No process outlives an error or interrupt."""
         if self._process and self._process.fed + len(line) >= self._script_bytes + self._script_bytes // 10:
@@ -216,21 +240,27 @@ class Session:
         if self._process:
             try:
                 return self._process.ask(line)
-            except ProgramGone:
+            except ProgramGone as gone:
+                self.losses.append(str(gone))
                 self.close()
         self._process = self._replay()
         return self._process.ask(line)
 
     def _replay(self) -> _Process:
         """A new process that has carried out the script, and has answered as the one before."""
-        process, answers = _Process(self._command, self._patience), hashlib.sha256()
+        if self._has_ended:
+            raise ProgramGone("the session has ended")
+        process, answers = _Process(self.command, self._patience), hashlib.sha256()
         try:
             if process.ask("* list") != [NEW_MACHINE]:
                 raise OutOfStep("the program doesn't begin with a new machine")
-            for line in self._script.decode("ascii").splitlines():
-                _count(answers, process.ask(line))
-            if answers.digest() != self._answers.digest():
-                raise ReplayDiffers("a new process answers the script otherwise than the one before")
+            for number, line in enumerate(self._script.decode("ascii").splitlines(), 1):
+                answer = process.ask(line)
+                _count(answers, answer)
+                mark = self._marks[(number - 1) * MARK_BYTES : number * MARK_BYTES]
+                if answers.digest()[:MARK_BYTES] != mark:
+                    now = f"line {number}, {line[:60]!r}, now with {answer[0][:60]!r}"
+                    raise ReplayDiffers(f"a new process answers the script otherwise than the one before: {now}")
         except BaseException:
             process.close()
             raise
@@ -240,6 +270,7 @@ class Session:
         """Adds a line to the script, and its answer to the digest; follows the policy of the line's user."""
         self._script += line.encode("ascii") + b"\n"
         _count(self._answers, answer)
+        self._marks += self._answers.digest()[:MARK_BYTES]
         if line[0] == "*" or is_refusal(answer):
             return
         match words_of(line):

@@ -1,4 +1,4 @@
-"""Where the program vecmon is."""
+"""Where the program vecmon and its images are."""
 
 import os
 import pathlib
@@ -25,3 +25,16 @@ def find_program() -> pathlib.Path:
         missing = f"VECMON={named} is no program" if named else "there is no program vecmon"
         raise NoProgram(f"{missing}; {HOW_TO_BUILD}")
     return pathlib.Path(found).absolute()
+
+
+def images_of(words: list[str]) -> dict[str, pathlib.Path]:
+    """The images by name. Raises LabError for a word that names none."""
+    images = {}
+    for word in words:
+        name, separator, path = word.partition("=")
+        if not separator:
+            raise LabError(f"{word} is no image; NAME=PATH is")
+        if not pathlib.Path(path).is_file():
+            raise LabError(f"image {name}: there is no file {path}")
+        images[name] = pathlib.Path(path)
+    return images

@@ -1,6 +1,7 @@
 """What a page shows of one user: a plain object, made from the machine's answers to lines that only look."""
 
 import re
+from collections import Counter
 from collections.abc import Iterator, Sequence
 from typing import Any
 
@@ -23,6 +24,7 @@ output: the bytes that answers to `out` have shown
 
 ABSENT: State = {"run": "absent"}
 ROW_BYTES = 16
+MOST_ROWS = 64
 PEEK_BYTES = 256
 PAGE_BYTES = 4096
 MAPPED_PAGES, MOST_PAGES = 8, 32  # how many pages are looked at since they were mapped, and in all
@@ -128,6 +130,45 @@ def look_at(
         state |= {"instruction": state["pc"], "faulted": True}
     watch.trace = trace
     return state
+
+
+class RowChoice:
+    """The rows of a user's memory that are shown: those that lines name, that change, and that aren't zero.
+
+    What stands in the listing isn't shown again, unless a line names it.
+    """
+
+    def __init__(self) -> None:
+        self._weights: Counter[str] = Counter()
+        self._seen: set[str] = set()
+        self._last: dict[str, str] = {}
+
+    def add(self, state: State) -> None:
+        """Takes up the next one of the user's states."""
+        if "memory" not in state or state["memory"] is self._last:
+            return
+        for row, digits in state["memory"].items():
+            if digits != self._last.get(row, digits):
+                self._weights[row] = 2
+            elif digits.strip("0"):
+                self._weights[row] = max(self._weights[row], 1)
+        self._last = state["memory"]
+        self._seen.update(self._last)
+
+    def rows(self, watch: Watch) -> set[str]:
+        """The addresses of the rows that tell most."""
+        weights = Counter(self._weights)
+        for row in list(weights):
+            if any(int(row, 16) + place in watch.code for place in range(0, 16, 4)):
+                del weights[row]
+        weights.update({f"{row:x}": 3 for row in watch.named if f"{row:x}" in self._seen})
+        return {row for row, _ in weights.most_common(MOST_ROWS)}
+
+
+def with_rows(state: State, rows: set[str]) -> State:
+    """The state with these rows of memory alone."""
+    memory = {row: digits for row, digits in state.get("memory", {}).items() if row in rows}
+    return state | {"memory": memory} if "memory" in state else state
 
 
 class _Looks:

@@ -1,0 +1,235 @@
+"""A class without its transport: its machines, who may ask for what, and what each tab hasn't been told yet."""
+
+import asyncio
+import contextlib
+import json
+from collections.abc import Callable, Iterable, Mapping
+from typing import Any
+
+from . import LabError
+from .class_room import SEAT_BYTES, BadRequest, Room, Seat
+from .class_seats import DIGITS, TEACHER
+from .class_store import ScriptFile, Store
+from .lesson_page import merge_patch
+from .machine import SCRIPT_BYTES
+
+Message = dict[str, Any]
+
+
+class Tab:
+    """What a tab of somebody's has been told. `changed` is set when there may be more; `is_open` falls with its code."""
+
+    def __init__(self, who: str) -> None:
+        self.who = who
+        self.shoulder: Seat | None = None  # whom a teacher looks at
+        self.view: Message = {}
+        self.since: dict[str, int] = {}  # how many entries of each log were told
+        self.changed = asyncio.Event()
+        self.is_open = True
+
+
+class Class:
+    """The machines of a class by letter, its codes, and the tabs that are open."""
+
+    def __init__(self, store: Store, patience: float) -> None:
+        """Starts the machines, and brings each to where it was. Raises LabError where that can't be."""
+        self.store, self.codes = store, store.codes
+        self.tabs: set[Tab] = set()
+        self.rooms: dict[str, Room] = {}
+        self._kept: dict[str, Message] = {}
+        try:
+            for letter in store.machines:
+                file = ScriptFile(store.folder / f"{letter}.script")
+                self.rooms[letter] = room = Room(letter, store.session(patience), file)
+                room.changed = self._tell
+                room.restore(store.read(f"{letter}.json"))
+        except BaseException:
+            self.end()
+            raise
+
+    def end(self) -> None:
+        """Ends the machines, and keeps what isn't kept yet."""
+        for room in self.rooms.values():
+            room.end()
+        self.keep()
+
+    def keep(self) -> None:
+        """Keeps what is another than before beside each script, and brings scripts up to date where the disk was full."""
+        for room in self.rooms.values():
+            if room.is_busy():
+                continue
+            room.file.catch_up()
+            notes = room.notes()
+            name = f"{room.letter}.json"
+            if room.file.is_saved and self._kept.get(name) != notes and self.store.write(name, notes):
+                self._kept[name] = notes
+        if self.store.trouble:
+            self.store.write("codes.json", self.codes.codes)
+
+    def seat(self, name: Any) -> Seat:
+        """The seat of a name. Raises BadRequest."""
+        with contextlib.suppress(KeyError, IndexError, TypeError):
+            return self.rooms[name[:-1]].seats[name[-1]]
+        raise BadRequest("there is no such seat")
+
+    def hello(self, tab: Tab) -> Message:
+        """The first message to a tab, which joins the class; news follow it."""
+        self.tabs.add(tab)
+        self._tell([tab.who])
+        return {"kind": "hello", "who": tab.who, **self.news(tab)}
+
+    def leave(self, tab: Tab) -> None:
+        """The tab is gone."""
+        self.tabs.discard(tab)
+        self._tell([tab.who])
+
+    async def answer(self, tab: Tab, text: str) -> Message:
+        """The answer to a request, with what is new."""
+        answer: Message = {"kind": "answer", "id": 0}
+        done: list[list[str]] = []
+        try:
+            request = json.loads(text)
+            if not isinstance(request, dict) or type(request.get("id")) is not int:
+                raise BadRequest("a request is an object with a whole number as id")
+            answer["id"] = request["id"]
+            asks = self._teachers if tab.who == TEACHER else self._students
+            if request.get("ask") not in asks:
+                raise BadRequest("there is no such request for this seat")
+            answer |= await asks[request["ask"]](self, tab, request, done)
+        except (LabError, ValueError, RecursionError) as error:
+            answer |= {"error": str(error), "done": done}
+        return answer | self.news(tab)
+
+    def news(self, tab: Tab) -> Message:
+        """What the tab hasn't been told: a patch of its view, and entries of logs."""
+        tab.changed.clear()
+        view = self._teacher_view(tab) if tab.who == TEACHER else self._student_view(self.seat(tab.who))
+        patch, tab.view = merge_patch(tab.view, view), view
+        logs = {}
+        for seat in self._logs(tab):
+            new = seat.number - tab.since.get(seat.name, 0)
+            if new:
+                logs[seat.name] = list(seat.log)[-new:]
+            tab.since[seat.name] = seat.number
+        return ({"patch": patch} if patch else {}) | ({"logs": logs} if logs else {})
+
+    def _logs(self, tab: Tab) -> list[Seat]:
+        if tab.who != TEACHER:
+            return [self.seat(tab.who)]
+        operators = [room.operator for room in self.rooms.values()]
+        return operators if tab.shoulder is None else [*operators, tab.shoulder]
+
+    def _tell(self, names: Iterable[str]) -> None:
+        """Wakes the tabs of these seats, and the teacher's."""
+        names = {TEACHER, *names}
+        for tab in self.tabs:
+            if tab.who in names:
+                tab.changed.set()
+
+    def _student_view(self, seat: Seat) -> Message:
+        room = self.rooms[seat.name[0]]
+        return {
+            "seat": seat.name,
+            "state": _shown(seat),
+            "stop": seat.stop,
+            "images": list(self.store.images),
+            "quantum": self.store.quantum,
+            "clock": room.clock["on"],
+            "own_slices": room.own_slices,
+            "share": {"used": seat.used, "of": SEAT_BYTES},
+            "trouble": room.trouble,
+        }
+
+    def _teacher_view(self, tab: Tab) -> Message:
+        return {
+            "machines": {letter: self._machine_view(room) for letter, room in self.rooms.items()},
+            "share": SEAT_BYTES,
+            "images": list(self.store.images),
+            "quantum": self.store.quantum,
+            "trouble": self.store.trouble,
+            "shoulder": tab.shoulder.name if tab.shoulder else "",
+            "state": _shown(tab.shoulder) if tab.shoulder else {},
+        }
+
+    def _machine_view(self, room: Room) -> Message:
+        return {
+            "seats": {seat.digit: self._seat_view(seat) for seat in room.seats.values()},
+            "clock": room.clock.copy(),
+            "own_slices": room.own_slices,
+            "script": room.session.size,
+            "of": SCRIPT_BYTES,
+            "lines": room.session.lines,
+            "digest": room.session.digest,
+            "restarts": len(room.session.losses),
+            "loss": room.loss,
+            "trouble": room.trouble,
+        }
+
+    def _seat_view(self, seat: Seat) -> Message:
+        return {
+            "code": self.codes.codes[seat.name],
+            "tabs": sum(tab.who == seat.name for tab in self.tabs),
+            "run": seat.state["run"],
+            "pc": seat.state.get("pc", ""),
+            "stop": seat.stop,
+            "line": seat.line,
+            "answer": seat.answer,
+            "used": seat.used,
+        }
+
+    async def _lines(self, tab: Tab, request: Message, done: list[list[str]]) -> Message:
+        if tab.who == TEACHER:
+            room = self._room(request)
+            seat = room.operator
+        else:
+            seat = self.seat(tab.who)
+            room = self.rooms[seat.name[0]]
+        do, look, slices = request.get("do", []), request.get("look", []), request.get("slices", 0)
+        looks = await room.lines(seat, do, look, slices, done)
+        return {"do": done, "look": looks}
+
+    async def _source(self, tab: Tab, request: Message, done: list[list[str]]) -> Message:
+        seat = self.seat(tab.who)
+        return {"mistakes": await self.rooms[seat.name[0]].source(seat, request.get("text"))}
+
+    async def _clock(self, tab: Tab, request: Message, done: list[list[str]]) -> Message:
+        self._room(request).set_clock(request)
+        return {}
+
+    async def _rights(self, tab: Tab, request: Message, done: list[list[str]]) -> Message:
+        self._room(request).set_rights(request.get("own_slices"))
+        return {}
+
+    async def _renew(self, tab: Tab, request: Message, done: list[list[str]]) -> Message:
+        seat = self.seat(request.get("seat"))
+        self.codes.renew(seat.name)
+        for other in self.tabs:
+            other.is_open = other.is_open and other.who != seat.name
+        self._tell([seat.name])
+        self.store.write("codes.json", self.codes.codes)
+        return {}
+
+    async def _look_over(self, tab: Tab, request: Message, done: list[list[str]]) -> Message:
+        tab.shoulder = self.seat(request["seat"]) if request.get("seat") else None
+        if tab.shoulder:
+            tab.since.pop(tab.shoulder.name, None)
+        return {}
+
+    def _room(self, request: Message) -> Room:
+        if request.get("machine") not in list(self.rooms):
+            raise BadRequest("there is no such machine")
+        return self.rooms[request["machine"]]
+
+    _students: Mapping[str, Callable[..., Any]] = {"lines": _lines, "source": _source}
+    _teachers: Mapping[str, Callable[..., Any]] = {
+        "lines": _lines,
+        "clock": _clock,
+        "rights": _rights,
+        "renew": _renew,
+        "shoulder": _look_over,
+    }
+
+
+def _shown(seat: Seat) -> Message:
+    """A seat's state as pages show it."""
+    return seat.shown | {"labels": seat.labels}
