@@ -183,7 +183,6 @@ class Student {
   async request(request, words) {
     const answer = await this.connection.ask(request, words.replaceAll("`", ""));
     if (request.slices || request.ask === "source") this.refuse(answer?.error ?? "");
-    window.requestAnimationFrame(() => document.dispatchEvent(new Event("painted")));
     return answer;
   }
 

@@ -7,6 +7,9 @@ function put(cell, text) {
   if (cell.textContent !== text) cell.textContent = text;
 }
 
+/** An answer without the leading zeros of its addresses. */
+const short = (answer) => answer.replace(/=0+(?=[0-9a-f])/g, "=");
+
 /** A machine of the class, with its eight seats. */
 class ClassMachine {
   constructor(letter, teacher) {
@@ -34,9 +37,9 @@ class ClassMachine {
     renew.ariaLabel = `New code for seat ${seat}`;
     renew.addEventListener("click", () => this.teacher.request({ ask: "renew", seat }, `a new code for ${seat}`));
     const run = make("span", "pill");
-    const [tabs, pc, stop, line, used] = ["", "code", "code", "code last", ""].map((kind) => make("td", kind));
-    const [codeCell, runCell] = [make("td", "code", code), make("td", "", run)];
-    const row = make("tr", "", header("row", seat), codeCell, tabs, runCell, pc, stop, line, used, make("td", "", look, " ", renew));
+    const [tabs, pc, stop, line, used] = ["", "", "wraps", "wraps", ""].map((kind) => make("td", kind));
+    const cells = [make("td", "", look), make("td", "", code, " ", renew), tabs, make("td", "", run), pc, stop, line, used];
+    const row = make("tr", "", header("row", seat), ...cells);
     row.dataset.seat = seat;
     return { row, code, tabs, run, pc, stop, line, used, look };
   }
@@ -68,8 +71,8 @@ class ClassMachine {
       put(run, seat.run === "absent" ? "not entered" : seat.run);
       run.className = `pill ${seat.run}`;
       put(pc, seat.pc);
-      put(stop, seat.stop.replace(/ pc=[0-9a-f]+/, "").replace(/=0+(?=.)/, "="));
-      put(line, seat.line || seat.answer ? `${seat.line.slice(0, 40)} → ${seat.answer.slice(0, 60)}` : "");
+      put(stop, short(seat.stop.replace(/ pc=[0-9a-f]+/, "")));
+      put(line, seat.line || seat.answer ? `${seat.line.slice(0, 40)} → ${short(seat.answer.slice(0, 80))}` : "");
       put(used, `${Math.ceil((100 * seat.used) / share)} %`);
       look.ariaPressed = `${row.dataset.seat === shoulder}`;
     });
@@ -83,7 +86,7 @@ class ClassMachine {
     put(trouble, machine.trouble);
     const restarts = machine.restarts ? `; ${machine.restarts} processes replaced` : "";
     const bytes = `${machine.script.toLocaleString("en")} of ${machine.of.toLocaleString("en")} bytes`;
-    const digest = `SHA-256 of all answers ${machine.digest.slice(0, 16)}…`;
+    const digest = `SHA-256 of all answers: ${machine.digest}`;
     put(this.box.querySelector(".figures"), `Script: ${machine.lines.toLocaleString("en")} lines, ${bytes}${restarts}; ${digest}`);
   }
 }
