@@ -19,7 +19,7 @@ from .source import SourceError, assemble, refusal
 from .state import ABSENT, RowChoice, State, Watch, look_at, with_rows
 
 SEAT_BYTES = 1_500_000  # of a seat's lines in the script: eight leave 3,000,000 to the operator and the clock
-REQUEST_LINES, SOURCE_LINES = 256, 4096
+REQUEST_LINES, SOURCE_LINES, SOURCE_LETTERS = 256, 4096, 1 << 16
 MOST_SLICES = 100
 LOG_ENTRIES = 500
 OUTPUT_DIGITS = 8192
@@ -172,8 +172,8 @@ class Room:
 
     async def source(self, seat: Seat, text: Any) -> list[dict[str, Any]]:
         """Brings an assembler source into a new machine of the seat's; the mistakes in it: {line, column, message}."""
-        if not isinstance(text, str):
-            raise BadRequest("a source is a text")
+        if not isinstance(text, str) or len(text) > SOURCE_LETTERS:
+            raise BadRequest(f"a source is a text of {SOURCE_LETTERS} characters at most")
         mistakes: list[SourceError] = []
         labels: dict[str, list[str]] = {}
 

@@ -1,16 +1,17 @@
 """The server of a class, on aiohttp: the page, one WebSocket a tab, scripts and transcripts (docs/CLASS_PROTOCOL.md)."""
 
 import asyncio
+import contextlib
 import ipaddress
 import json
+import re
 import resource
 import signal
 import socket
 import subprocess
 import sys
-import urllib.parse
 import weakref
-from collections.abc import Awaitable, Callable
+from collections.abc import AsyncIterator, Awaitable, Callable
 from typing import Any
 
 from aiohttp import WSMsgType, web
@@ -21,12 +22,13 @@ from .lesson_page import FILES, in_line, page_text
 
 SCRIPTS = ["words.js", "operands.js", "view.js", "connection.js", "desk.js", "teacher.js", "class.js"]
 STYLES = ["page.css", "class.css"]
-MESSAGE_BYTES = 128 << 10
+MESSAGE_BYTES = 400_000
 PATIENCE = 10.0  # seconds for a first request, and for a tab's code
 UNKNOWN = 500  # connections without a whole request, and sockets without a code
 SOCKETS = 8  # of a seat; of the teacher twice as many
 READ_SECONDS = 20.0  # in which a tab has to take a message
 WRONG_CODE_SECONDS = 0.5
+HOST = re.compile(r"(?:\[([0-9a-fA-F:.]+)\]|([A-Za-z0-9.-]+))(?::[0-9]+)?")
 CLOSED, CROWDED = 4403, 4429  # why a socket is closed: its code is none, or none any more; the seat has too many
 
 
@@ -64,13 +66,13 @@ class Server:
 
         A site's name can be made to lead here, and a page of another site can ask: both name themselves.
         """
-        name = urllib.parse.urlsplit(f"//{host}").hostname or ""
-        if origin is not None and origin not in (f"http://{host}", f"https://{host}"):
+        parts = HOST.fullmatch(host)
+        if parts is None or origin not in (None, f"http://{host}", f"https://{host}"):
             return False
         try:
-            ipaddress.ip_address(name)
+            ipaddress.ip_address(parts[1] or parts[2])
         except ValueError:
-            return name in self.names
+            return parts[2] in self.names
         return True
 
     async def sweep(self, runner: web.AppRunner) -> None:
@@ -97,11 +99,7 @@ class Server:
         self, request: web.Request, handler: Callable[[web.Request], Awaitable[web.StreamResponse]]
     ) -> web.StreamResponse:
         self._spoke.add(request.protocol)
-        try:
-            is_ours = self.is_ours(request.headers.get("Host", ""), request.headers.get("Origin"))
-        except ValueError:
-            is_ours = False
-        if not is_ours:
+        if not self.is_ours(request.headers.get("Host", ""), request.headers.get("Origin")):
             raise web.HTTPForbidden
         return await handler(request)
 
@@ -199,29 +197,36 @@ class Server:
                 pusher.cancel()
 
 
-async def serve(members: Class, host: str, port: int, names: set[str]) -> None:
-    """Serves a class until SIGINT or SIGTERM. Raises OSError where the address can't be had."""
-    most = resource.getrlimit(resource.RLIMIT_NOFILE)[1]
-    resource.setrlimit(resource.RLIMIT_NOFILE, (most, most))
+@contextlib.asynccontextmanager
+async def served(members: Class, host: str, port: int, names: set[str]) -> AsyncIterator[int]:
+    """Serves a class; the port. Ends it behind. Raises OSError where the address can't be had."""
     server = Server(members, {host, socket.gethostname(), *names})
     runner = web.AppRunner(server.application(), access_log=None, keepalive_timeout=15.0, lingering_time=2.0)
     await runner.setup()
-    ended, loop = asyncio.Event(), asyncio.get_running_loop()
-    for sign in (signal.SIGINT, signal.SIGTERM):
-        loop.add_signal_handler(sign, ended.set)
     tasks = []
     try:
         await web.TCPSite(runner, host, port, shutdown_timeout=2.0).start()
-        tasks = [asyncio.create_task(room.run_clock()) for room in members.rooms.values()]
-        tasks += [asyncio.create_task(server.sweep(runner)), asyncio.create_task(_keep(members))]
-        _announce(host, runner.addresses[0][1], members.codes.codes[TEACHER])
-        await ended.wait()
+        work = [server.sweep(runner), _keep(members), *(room.run_clock() for room in members.rooms.values())]
+        tasks = [asyncio.create_task(each) for each in work]
+        yield runner.addresses[0][1]
     finally:
         for task in tasks:
             task.cancel()
         await server.close()
         await asyncio.to_thread(members.end)
         await runner.cleanup()
+
+
+async def serve(members: Class, host: str, port: int, names: set[str]) -> None:
+    """Serves a class until SIGINT or SIGTERM. Raises OSError where the address can't be had."""
+    most = resource.getrlimit(resource.RLIMIT_NOFILE)[1]
+    resource.setrlimit(resource.RLIMIT_NOFILE, (most, most))
+    ended, loop = asyncio.Event(), asyncio.get_running_loop()
+    for sign in (signal.SIGINT, signal.SIGTERM):
+        loop.add_signal_handler(sign, ended.set)
+    async with served(members, host, port, names) as own_port:
+        _announce(host, own_port, members.codes.codes[TEACHER])
+        await ended.wait()
 
 
 async def _keep(members: Class) -> None:

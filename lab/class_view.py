@@ -93,9 +93,10 @@ class Class:
                 raise BadRequest("a request is an object with a whole number as id")
             answer["id"] = request["id"]
             asks = self._teachers if tab.who == TEACHER else self._students
-            if request.get("ask") not in asks:
+            ask = asks.get(str(request.get("ask")))
+            if ask is None:
                 raise BadRequest("there is no such request for this seat")
-            answer |= await asks[request["ask"]](self, tab, request, done)
+            answer |= await ask(self, tab, request, done)
         except (LabError, ValueError, RecursionError) as error:
             answer |= {"error": str(error), "done": done}
         return answer | self.news(tab)
