@@ -43,17 +43,22 @@ def browser() -> Iterator["Chrome"]:
         if os.environ.get("CI"):
             pytest.fail(NO_BROWSER)
         pytest.skip(NO_BROWSER)
+    chrome = start_browser()
+    yield chrome
+    chrome.quit()
+
+
+def start_browser(*more: str) -> "Chrome":
+    """Chromium without a window, with more words than it needs for that."""
     from selenium.webdriver import Chrome, ChromeOptions
     from selenium.webdriver.chrome.service import Service
 
     options = ChromeOptions()
-    options.binary_location = chromium
-    for word in ("headless=new", "no-sandbox", "disable-dev-shm-usage", "disable-gpu", "window-size=1280,900"):
+    options.binary_location = shutil.which("chromium")
+    for word in ("headless=new", "no-sandbox", "disable-dev-shm-usage", "disable-gpu", "window-size=1280,900", *more):
         options.add_argument(f"--{word}")
     options.set_capability("goog:loggingPrefs", {"browser": "ALL"})
-    chrome = Chrome(options=options, service=Service(driver))
-    yield chrome
-    chrome.quit()
+    return Chrome(options=options, service=Service(shutil.which("chromedriver")))
 
 
 def pytest_terminal_summary(terminalreporter: TerminalReporter) -> None:
