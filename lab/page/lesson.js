@@ -108,19 +108,14 @@ class Lesson {
     const note = this.frames.slice(0, this.place + 1).findLast((each) => each.note)?.note ?? "";
     replaceText(byId("sentence"), note, prose(note));
     const words = frame.log.map((_, place) => this.entryWords(frame.log, place, states)).filter(Boolean).join(" ");
-    replaceText(byId("stop"), words, prose(words));
-    byId("stop").classList.toggle("said", words !== "");
+    showStop(words);
     const more = frame.more ? `, and ${frame.more} line${frame.more > 1 ? "s" : ""} more` : "";
     const parts = frame.line ? [make("span", "line", frame.line, make("small", "", more))] : [];
     const remark = (text) => parts.push(make("small", "", text));
     if (frame.line && user !== frame.line[0] && this.users.length > 1) remark(`shown: user ${user}`);
     if (state.run === "absent") remark(`user ${user} isn't there`);
-    if (state.run === "running") remark("it runs: registers and memory are those from before");
-    if (state.instruction) {
-      const text = withNames(toldInstruction(state), byId("names").value === "abi");
-      parts.push(make("span", "instruction", make("small", "", state.faulted ? "stopped at " : "carried out "), text));
-    }
-    byId("step").replaceChildren(...parts);
+    if (state.run === "running") remark(RUNS);
+    byId("step").replaceChildren(...parts, ...instructionPart(state));
   }
 
   /** What an entry of a frame's log tells of a stop or a refusal, in words; "" for most. */

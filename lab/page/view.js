@@ -82,7 +82,7 @@ function replaceText(element, text, contents) {
 }
 
 const STOP_LINE = /^[1-8] (e?break|exit|outfull|fault) /;
-
+const RUNS = "it runs: registers and memory are those from before";
 const KINDS = { masked: "masked off", tail: "tail", prestart: "before vstart", active: "active" };
 
 class View {
@@ -113,6 +113,19 @@ class View {
 /** The instruction that the marks tell of: the one that was carried out last, or that faulted; "" without one. */
 function toldInstruction(state) {
   return (state.code[state.instruction] ?? "").slice(9);
+}
+
+/** The instruction that the marks tell of, as the stage has it. */
+function instructionPart(state) {
+  if (!state.instruction) return [];
+  const text = withNames(toldInstruction(state), byId("names").value === "abi");
+  return [make("span", "instruction", make("small", "", state.faulted ? "stopped at " : "carried out "), text)];
+}
+
+/** Why something stopped or was refused, on the stage. */
+function showStop(words) {
+  replaceText(byId("stop"), words, prose(words));
+  byId("stop").classList.toggle("said", words !== "");
 }
 
 /** The program: labels, breakpoints, the program counter, the instruction that is told of, and words that are new. */

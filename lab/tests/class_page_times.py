@@ -42,7 +42,10 @@ SEEN = """window.seen = []; new MutationObserver(() => window.seen.push(performa
 def told(name: str, taken: Sequence[float]) -> None:
     """Prints what was measured."""
     ninth = statistics.quantiles(taken, n=10)[-1]
-    print(f"{name}: median {statistics.median(taken):.0f} ms, nine of ten within {ninth:.0f} ms, of {len(taken)}", flush=True)
+    print(
+        f"{name}: median {statistics.median(taken):.0f} ms, nine of ten within {ninth:.0f} ms, of {len(taken)}",
+        flush=True,
+    )
 
 
 def main(count: int) -> None:
@@ -59,7 +62,9 @@ def main(count: int) -> None:
             told("a click until it is painted, alone", first.execute_async_script(CLICKS, count))
             for tab in students[1:]:
                 tab.front().execute_script(BUSY)
-            told("the same, seven others step 3 times a second", students[0].front().execute_async_script(CLICKS, count))
+            told(
+                "the same, seven others step 3 times a second", students[0].front().execute_async_script(CLICKS, count)
+            )
             for tab in students[1:]:
                 tab.run("clearInterval(window.busy)")
             teacher, taken = Tab(browser, served, "teacher"), []

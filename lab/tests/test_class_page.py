@@ -193,7 +193,7 @@ def test_lines_of_before_and_refusals(sit: Sit) -> None:
     tab.keys("#line", "é\n")
     tab.wait("id('stop').textContent.includes('printable ASCII')")
     teacher = sit("teacher")
-    teacher.click("tr[data-seat='A4'] .look")
+    teacher.click("tr[data-seat='A4'] td:nth-child(2) button")
     teacher.wait("id('log').textContent.includes(arguments[0])", tag)
     assert "vill" in teacher.text("#stop") and "vle32.v" in teacher.text("#listing")
     teacher.keys("#operator-line", f"{tag}\n")
@@ -211,7 +211,7 @@ def test_the_teacher_sees_and_settles(sit: Sit, tmp_path: pathlib.Path, served: 
     tab.command("break 10004")
     tab.click("#go")
     teacher.wait(f"one(\"{row} .pill\").textContent === 'running'")
-    teacher.click(f"{row} .look")
+    teacher.click(f"{row} td:nth-child(2) button")
     teacher.keys("#operator-line", "run 5\n")
     teacher.wait(f"one(\"{row}\").textContent.includes('break')")
     teacher.wait("id('operator-log').textContent.includes('granted 1') && id('listing').querySelector('.breakpoint')")
@@ -266,7 +266,7 @@ def test_a_server_is_killed_and_begun_again(tabs: "Chrome", own_class: Served) -
     tab.click("#one")
     tab.wait("id('step').textContent.includes('addi x5')")
     tab.run("window.marked = 1")
-    teacher.click("tr[data-seat='A1'] .look")
+    teacher.click("tr[data-seat='A1'] td:nth-child(2) button")
     (machine,) = own_class.programs()
     os.kill(machine, signal.SIGSTOP)
     tab.click("#one")
@@ -300,7 +300,7 @@ def test_a_program_is_killed_or_hangs(program: pathlib.Path, tmp_path: pathlib.P
     os.kill(machine, sign)
     tab.command("step 7")
     assert "stepped 7 pc=0000000000010004" in tab.text("#log") and tab.text("[data-edit='set x5']").startswith("4")
-    teacher.wait("one('.figures').textContent.includes('1 processes replaced')")
+    teacher.wait("one('.figures').textContent.includes('processes replaced: 1')")
     served.check_replay(digest_of(teacher))
     served.end()
 
@@ -312,7 +312,7 @@ def test_pages_are_legible_and_narrow(sit: Sit, scheme: str) -> None:
     tab.run("id('number').value = 2")
     tab.click("#many")
     tab.command("dance")
-    teacher.click("tr[data-seat='A8'] .look")
+    teacher.click("tr[data-seat='A8'] td:nth-child(2) button")
     teacher.wait("id('listing').textContent.includes('vadd.vi')")
     for page in (tab, teacher):
         page.front()
@@ -324,7 +324,7 @@ def test_pages_are_legible_and_narrow(sit: Sit, scheme: str) -> None:
             assert page.run("document.documentElement.scrollWidth") <= width
         page.browser.execute_cdp_cmd("Emulation.clearDeviceMetricsOverride", {})
         media(page.browser)
-    teacher.click("tr[data-seat='A8'] .look")
+    teacher.click("tr[data-seat='A8'] td:nth-child(2) button")
     teacher.wait("id('desk').hidden")
 
 
