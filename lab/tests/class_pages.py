@@ -107,7 +107,7 @@ class Tab:
         return self.front().execute_script(f"{helpers} return {script}", *arguments)
 
     def wait(self, script: str, *arguments: Any) -> Any:
-        """What a script answers as soon as that is true. A page shows nothing false for so long that a test could see it."""
+        """What a script answers as soon as that is true."""
         from selenium.common.exceptions import TimeoutException
         from selenium.webdriver.support.wait import WebDriverWait
 

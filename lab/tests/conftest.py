@@ -53,12 +53,14 @@ def start_browser(*more: str) -> "Chrome":
     from selenium.webdriver import Chrome, ChromeOptions
     from selenium.webdriver.chrome.service import Service
 
+    chromium, driver = shutil.which("chromium"), shutil.which("chromedriver")
+    assert chromium and driver
     options = ChromeOptions()
-    options.binary_location = shutil.which("chromium")
+    options.binary_location = chromium
     for word in ("headless=new", "no-sandbox", "disable-dev-shm-usage", "disable-gpu", "window-size=1280,900", *more):
         options.add_argument(f"--{word}")
     options.set_capability("goog:loggingPrefs", {"browser": "ALL"})
-    return Chrome(options=options, service=Service(shutil.which("chromedriver")))
+    return Chrome(options=options, service=Service(driver))
 
 
 def pytest_terminal_summary(terminalreporter: TerminalReporter) -> None:

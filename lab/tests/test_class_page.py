@@ -37,7 +37,7 @@ def own_class(program: pathlib.Path, tmp_path: pathlib.Path) -> Iterator[Served]
 
 @pytest.fixture
 def tabs(browser: "Chrome") -> Iterator["Chrome"]:
-    """The browser, for tabs, which are closed behind the test. Its console has said nothing then but of refused reconnections."""
+    """The browser, for tabs, closed behind the test. Its console has said nothing then but of refused reconnections."""
     first = browser.current_window_handle
     browser.get_log("browser")
     yield browser
@@ -62,15 +62,14 @@ def test_eight_tabs_alone(tabs: "Chrome", own_class: Served) -> None:
         tab.run("id('number').value = 3")
         tab.click("#many")
     for tab in students * 2:
-        number = tab.who[1]
-        own = [f"000000{number}{element}" for element in range(8)]
+        own = [f"000000{tab.who[1]}{element}" for element in range(8)]
         tab.wait("id('step').textContent.includes('vadd.vx v2, v1, x10')")
         cells = "all(\"#elements [data-register='2'] td\").map((cell) => cell.firstChild.data)"
         assert tab.run(cells) == own
         assert "stepped 3 pc=000000000001000c" in tab.text("#log")
         tab.front().refresh()
-        tab.wait(f"id('elements').textContent.includes('000000{number}7')")
-        assert tab.text("#who") == f"Seat A{number}" and "> set x10" in tab.text("#log")
+        tab.wait("id('elements').textContent.includes(arguments[0])", own[7])
+        assert tab.text("#who") == f"Seat {tab.who}" and "> set x10" in tab.text("#log")
         assert tab.run("location.href") == f"http://127.0.0.1:{own_class.port}/"
     students[2].command("2 leave", "* list")
     assert students[2].run("all('#log li').slice(-4).map((item) => item.firstChild.data)") == [
