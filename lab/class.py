@@ -46,6 +46,4 @@ def run(arguments: argparse.Namespace) -> int:
     except (OSError, OverflowError) as error:
         reason = getattr(error, "strerror", None) or str(error)
         raise LabError(f"{arguments.host}, port {arguments.port}: {reason}") from error
-    finally:
-        members.end()
     return 0

@@ -235,9 +235,11 @@ class Room:
 
     def end(self) -> None:
         """Ends the machine, whatever it does."""
+        self.stopped = self.stopped or "the server ends"
         self.session.end()
         self._thread.shutdown()
         self.session.close()
+        self.file.close()
 
     def _set_clock(self) -> None:
         (self._clock_on.set if self.clock["on"] else self._clock_on.clear)()

@@ -45,6 +45,7 @@ class Server:
             "base-uri 'none'; form-action 'none'; frame-ancestors 'none'; connect-src 'self'"
         )
         self._spoke: set[Any] = set()  # connections that have made a whole request
+        self._is_ending = False
         self._nameless = 0  # sockets without a code
         self._sockets: weakref.WeakSet[web.WebSocketResponse] = weakref.WeakSet()
 
@@ -91,7 +92,7 @@ class Server:
 
     async def close(self) -> None:
         """Tells all tabs that the server ends."""
-        sockets = list(self._sockets)
+        self._is_ending, sockets = True, list(self._sockets)
         await asyncio.gather(*(each.close(code=1001, message=b"the server ends") for each in sockets))
 
     @web.middleware
@@ -187,8 +188,8 @@ class Server:
                 if message.type is not WSMsgType.TEXT or not tab.is_open:
                     break
                 await send(await self.members.answer(tab, message.data))
-            if not tab.is_open:
-                await own.close(code=CLOSED, message=b"another code")
+            code = 1001 if self._is_ending else 1000 if tab.is_open else CLOSED
+            await own.close(code=code)  # as whoever closes it from elsewhere, who may come later
         except ConnectionError:
             pass  # the tab is gone
         finally:
@@ -213,12 +214,14 @@ async def served(members: Class, host: str, port: int, names: set[str]) -> Async
         for task in tasks:
             task.cancel()
         await server.close()
-        await asyncio.to_thread(members.end)
+        members.keep()
+        members.end()
         await runner.cleanup()
 
 
 async def serve(members: Class, host: str, port: int, names: set[str]) -> None:
     """Serves a class until SIGINT or SIGTERM. Raises OSError where the address can't be had."""
+    sys.setswitchinterval(0.0005)  # so long a machine's thread waits for the event loop's, which may be busy
     most = resource.getrlimit(resource.RLIMIT_NOFILE)[1]
     resource.setrlimit(resource.RLIMIT_NOFILE, (most, most))
     ended, loop = asyncio.Event(), asyncio.get_running_loop()

@@ -60,6 +60,10 @@ class ScriptFile:
             os.ftruncate(self._file, size)
             self._saved = size
 
+    def close(self) -> None:
+        """Closes the file."""
+        os.close(self._file)
+
     def catch_up(self) -> None:
         """Writes what waits, if the disk takes it."""
         try:
@@ -108,6 +112,10 @@ class Store:
         for name, value in (("class.json", facts), ("codes.json", self.codes.codes)):
             if not self.write(name, value):
                 raise BadFolder(self.trouble)
+
+    def close(self) -> None:
+        """Leaves the folder to others."""
+        os.close(self._lock)
 
     def session(self, patience: float) -> Session:
         """A new machine of this class."""

@@ -48,23 +48,26 @@ class Class:
             raise
 
     def end(self) -> None:
-        """Ends the machines, and keeps what isn't kept yet."""
+        """Ends the machines, and leaves the folder."""
         for room in self.rooms.values():
             room.end()
-        self.keep()
+        self.store.close()
 
     def keep(self) -> None:
         """Keeps what is another than before beside each script, and brings scripts up to date where the disk was full."""
         for room in self.rooms.values():
             if room.is_busy():
                 continue
+            trouble = room.trouble
             room.file.catch_up()
+            if room.trouble != trouble:
+                self._tell(room.names())
             notes = room.notes()
             name = f"{room.letter}.json"
             if room.file.is_saved and self._kept.get(name) != notes and self.store.write(name, notes):
                 self._kept[name] = notes
-        if self.store.trouble:
-            self.store.write("codes.json", self.codes.codes)
+        if self.store.trouble and self.store.write("codes.json", self.codes.codes):
+            self._tell([])
 
     def seat(self, name: Any) -> Seat:
         """The seat of a name. Raises BadRequest."""

@@ -248,19 +248,21 @@ class Session:
 
     def _replay(self) -> _Process:
         """A new process that has carried out the script, and has answered as the one before."""
-        if self._has_ended:
-            raise ProgramGone("the session has ended")
         process, answers = _Process(self.command, self._patience), hashlib.sha256()
         try:
             if process.ask("* list") != [NEW_MACHINE]:
                 raise OutOfStep("the program doesn't begin with a new machine")
             for number, line in enumerate(self._script.decode("ascii").splitlines(), 1):
+                if self._has_ended:
+                    break
                 answer = process.ask(line)
                 _count(answers, answer)
                 mark = self._marks[(number - 1) * MARK_BYTES : number * MARK_BYTES]
                 if answers.digest()[:MARK_BYTES] != mark:
                     now = f"line {number}, {line[:60]!r}, now with {answer[0][:60]!r}"
                     raise ReplayDiffers(f"a new process answers the script otherwise than the one before: {now}")
+            if self._has_ended:
+                raise ProgramGone("the session has ended")
         except BaseException:
             process.close()
             raise

@@ -53,7 +53,8 @@ class Tab:
         """The next message, taken up. Raises EOFError with the code where the server has closed."""
         message = await asyncio.wait_for(self.socket.receive(), SECONDS)
         if message.type is not aiohttp.WSMsgType.TEXT:
-            raise EOFError(self.socket.close_code)
+            is_told = message.type is aiohttp.WSMsgType.CLOSE
+            raise EOFError(message.data if is_told else self.socket.close_code)
         told: Message = json.loads(message.data)
         self.view = patched(self.view, told.get("patch", {}))
         for name, entries in told.get("logs", {}).items():

@@ -68,7 +68,8 @@ async def test_a_server_that_is_killed_and_begun_again(tmp_path: pathlib.Path) -
         await teacher.ask("rights", machine="A", own_slices=False)
         await teacher.do("run 2", machine="A")
         codes, seats = room.codes, teacher.view["machines"]["A"]["seats"]
-        while json.loads((folder / "A.json").read_text())["lines"] < teacher.view["machines"]["A"]["lines"]:
+        notes = folder / "A.json"
+        while not notes.exists() or json.loads(notes.read_text())["lines"] < teacher.view["machines"]["A"]["lines"]:
             await asyncio.sleep(0.05)
         await tab.do("step 1")  # which the digest doesn't cover yet
         await room.end(signal.SIGKILL)
@@ -94,7 +95,7 @@ async def test_a_script_that_is_answered_otherwise(tmp_path: pathlib.Path) -> No
     script = (folder / "A.script").read_bytes()
     for changed in (script.replace(b"step 1", b"step 3"), script[: script.rindex(b"1 step")], b""):
         (folder / "A.script").write_bytes(changed)
-        run = subprocess.run(command(folder), capture_output=True, text=True)
+        run = subprocess.run(command(folder), capture_output=True, text=True, timeout=SECONDS)
         assert (run.returncode, run.stdout, run.stderr.count("\n")) == (2, "", 1)
         assert "otherwise than before" in run.stderr or "lost lines" in run.stderr
     (folder / "A.script").write_bytes(script + b"1 step 1\n")  # not covered by the digest
@@ -102,7 +103,7 @@ async def test_a_script_that_is_answered_otherwise(tmp_path: pathlib.Path) -> No
         assert (await room.sit("A1")).view["state"]["pc"] == "10000"
     for broken in (b"9 enter\n", b"1 \xff\n", b"\n"):
         (folder / "A.script").write_bytes(script + broken)
-        run = subprocess.run(command(folder), capture_output=True, text=True)
+        run = subprocess.run(command(folder), capture_output=True, text=True, timeout=SECONDS)
         assert (run.returncode, run.stdout, run.stderr.count("\n")) == (2, "", 1), broken
 
 
@@ -113,7 +114,9 @@ async def test_a_replay_that_differs_stops_the_class(tmp_path: pathlib.Path) -> 
     room = members.rooms["A"]
     for line in LOOP:
         await room.lines(room.seats["1"], [line], [], 0, [])
+    program.unlink()
     program.write_text(f"#!/bin/sh\nsed -u s/00128293/00128293/ | {find_program()} | sed -u s/00128293/00128294/\n")
+    program.chmod(0o755)
     assert room.session.process
     os.kill(room.session.process, signal.SIGKILL)
     for _ in range(2):
@@ -203,9 +206,10 @@ async def test_a_flood(tmp_path: pathlib.Path) -> None:
         while not floods.done():
             await teacher.ask("rights", machine="A", own_slices=True)
             await other.do("step 1")
+            await asyncio.sleep(0.02)
             asked += 1
         told = await asyncio.wait_for(floods, SECONDS)
-        assert asked > 20  # the teacher and the other machine were answered all the while
+        assert asked > 9  # the teacher and the other machine were answered all the while
         transcript = (await room.check_replay())[1].decode().splitlines()
         for digit, lines in zip("12345678", told):
             own = [line[2:] for line in transcript if line[0] == digit]
@@ -248,7 +252,7 @@ async def test_a_clock_without_room_for_its_lines(tmp_path: pathlib.Path, monkey
 async def test_a_torn_connection(tmp_path: pathlib.Path) -> None:
     """What a tab sent before it went away is carried out once, or not at all."""
     async with served(tmp_path / "class") as room:
-        for _ in range(20):
+        for _ in range(7):
             tab = await room.sit("A1")
             await tab.socket.send_json({"id": 1, "ask": "lines", "do": ["enter"] * 50})
             connection = tab.socket._response.connection
@@ -256,6 +260,6 @@ async def test_a_torn_connection(tmp_path: pathlib.Path) -> None:
             connection.transport.abort()
         tab = await room.sit("A2")
         assert await tab.do("enter") == [["entered"]]
-        while (script := await room.check_replay())[0].count(b"1 enter\n") % 50:
-            pass
-        assert script[1].count(b"1 entered\n") <= 1
+        await (await room.sit("A1")).ask("lines", look=["state"])  # behind what the others asked
+        script, transcript = await room.check_replay()
+        assert script.count(b"1 enter\n") % 50 == 0 and transcript.count(b"1 entered\n") <= 1
