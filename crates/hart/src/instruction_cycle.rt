@@ -1,5 +1,5 @@
 //! The instruction cycle: fetch, decode, execute.
-ghost use Rattle.std.specs.Prelude.{◌≡◌, ◌≢◌, ◌≤◌, IfSome, Ok, Err, Some, if◌then◌else◌, true};
+ghost use Rattle.std.specs.Prelude.{◌≡◌, ◌≢◌, ◌≤◌, IfSome, Ok, Err, Some, if◌then◌else◌, true, false};
 ghost use Rattle.rv_model.specs.declared.memory.Access.TheVariants.{Fetch};
 ghost use Rattle.rv_model.specs.step.GoesOn.{StepGoesOn};
 ghost use Rattle.rv_model.specs.step.Hart.{ends_after, hart_state};
@@ -69,11 +69,13 @@ fn execute_other<M: UserBytes, V: Vectors>(
     ensures dirty { Marks (dirties terms.limit (scan table word))
         (hart_state scalar.old (V.lent vectors.old).state (M.memory memory.old) terms.policy)
         (V.lent vectors.old) (V.lent vectors.new) }
+    ensures clean { (V.lent vectors.new).dirty ≡ false
+        → (V.lent vectors.new).state ≡ (V.lent vectors.old).state }
     ensures ready { V.ready vectors.new }
     ensures uncut { GROUP_BYTES ≤ terms.limit → end.new ≢ StepEnd.Cut }
 
-    // What is cut is a vector instruction, which finds a length that its vector type allows.
-    ensures configuration { end.new ≡ StepEnd.Cut
+    // The vector state that is lent has a length that its vector type allows.
+    ensures configuration { touches (scan table word) ≡ true
         → IsConfiguration (V.lent vectors.old).state.conf }
 {
     let decoded = decode(word);
@@ -189,11 +191,13 @@ fn execute_out_of_line<M: UserBytes, V: Vectors>(
     ensures dirty { Marks (dirties terms.limit (scan table word))
         (hart_state scalar.old (V.lent vectors.old).state (M.memory memory.old) terms.policy)
         (V.lent vectors.old) (V.lent vectors.new) }
+    ensures clean { (V.lent vectors.new).dirty ≡ false
+        → (V.lent vectors.new).state ≡ (V.lent vectors.old).state }
     ensures ready { V.ready vectors.new }
     ensures uncut { GROUP_BYTES ≤ terms.limit → end.new ≢ StepEnd.Cut }
 
-    // What is cut is a vector instruction, which finds a length that its vector type allows.
-    ensures configuration { end.new ≡ StepEnd.Cut
+    // The vector state that is lent has a length that its vector type allows.
+    ensures configuration { touches (scan table word) ≡ true
         → IsConfiguration (V.lent vectors.old).state.conf }
 {
     let Terms { limit, policy } = terms;
@@ -245,11 +249,13 @@ fn execute_vector_word<M: UserBytes, V: Vectors>(
     ensures dirty { Marks (dirties limit (scan table word))
         (hart_state scalar.old (V.lent vectors.old).state (M.memory memory.old) policy)
         (V.lent vectors.old) (V.lent vectors.new) }
+    ensures clean { (V.lent vectors.new).dirty ≡ false
+        → (V.lent vectors.new).state ≡ (V.lent vectors.old).state }
     ensures ready { V.ready vectors.new }
     ensures uncut { GROUP_BYTES ≤ limit → result.0 ≢ StepEnd.Cut }
 
-    // What is cut is a vector instruction, which finds a length that its vector type allows.
-    ensures configuration { result.0 ≡ StepEnd.Cut
+    // The vector state that is lent has a length that its vector type allows.
+    ensures configuration { touches (scan table word) ≡ true
         → IsConfiguration (V.lent vectors.old).state.conf }
 {
     let mut end = StepEnd::Ran;
@@ -282,11 +288,13 @@ fn execute<M: UserBytes, V: Vectors>(
     ensures dirty { Marks (dirties limit (scan table word))
         (hart_state scalar.old (V.lent vectors.old).state (M.memory memory.old) policy)
         (V.lent vectors.old) (V.lent vectors.new) }
+    ensures clean { (V.lent vectors.new).dirty ≡ false
+        → (V.lent vectors.new).state ≡ (V.lent vectors.old).state }
     ensures ready { V.ready vectors.new }
     ensures uncut { GROUP_BYTES ≤ limit → result.0 ≢ StepEnd.Cut }
 
-    // What is cut is a vector instruction, which finds a length that its vector type allows.
-    ensures configuration { result.0 ≡ StepEnd.Cut
+    // The vector state that is lent has a length that its vector type allows.
+    ensures configuration { touches (scan table word) ≡ true
         → IsConfiguration (V.lent vectors.old).state.conf }
 {
     let decoded = decode_scalar(word);
@@ -320,7 +328,7 @@ pub fn step<M: UserBytes, V: Vectors>(
     // No vector has more elements, so nothing is cut.
     ensures uncut { GROUP_BYTES ≤ limit → result.0 ≢ StepEnd.Cut }
 
-    // If it is cut, it goes on from there, in a memory that may have grown.
+    // If it is cut or faults, it goes on from there, any number of times, in memories that may grow.
     ensures goes_on { StepGoesOn limit
         (hart_state view.old.scalar.now (V.lent view.old.vectors.now).state
         (M.memory view.old.memory.now) view.old.policy view.old.output.now.items)
@@ -340,6 +348,8 @@ pub fn step<M: UserBytes, V: Vectors>(
         (hart_state view.old.scalar.now (V.lent view.old.vectors.now).state
         (M.memory view.old.memory.now) view.old.policy)
         (V.lent view.old.vectors.now) (V.lent view.new.vectors.now) }
+    ensures clean { (V.lent view.new.vectors.now).dirty ≡ false
+        → (V.lent view.new.vectors.now).state ≡ (V.lent view.old.vectors.now).state }
     ensures ready { V.ready view.new.vectors.now }
 
     // The view refers to the same parts as before.

@@ -5,6 +5,7 @@ pub mod Effects
 pub mod FetchesResume
 pub mod GoesOn
 pub mod Lengths
+pub mod Repeats
 pub mod StepTicks
 pub mod StepsResume
 pub mod StoredWords

@@ -273,9 +273,9 @@ pub fn exec<M: UserBytes>(
         → vector_executed limit instr.now (hart_state scalar.old state.old (M.memory memory.old) policy output)
         ≡ vector_ends result (hart_state scalar.new state.new (M.memory memory.new) policy output) }
 
-    // If it is cut or faults, it goes on from there, in a memory that may have grown.
+    // If it is cut or faults, it goes on from there, any number of times, in memories that may grow.
     ensures restarts { (output : List ℕ)
-        → InstructionGoesOn instr.now (hart_state scalar.old state.old (M.memory memory.old) policy output)
+        → InstructionGoesOn limit instr.now (hart_state scalar.old state.old (M.memory memory.old) policy output)
         (vector_ends result (hart_state scalar.new state.new (M.memory memory.new) policy output)) }
 
     // All else that the user's bytes hold stays.

@@ -24,6 +24,7 @@ use Rattle.rv_model.specs.vector.Configuration.{IsConfiguration, IsLength, eleme
 use Rattle.rv_model.specs.vector.Registers.{register_of}
 use Rattle.rv_model.specs.declared.vector.sizes.TheConstants.{VLENB}
 use Rattle.rv_model.proofs.access_lemmas.Kept.{Beside, byte_kept, element_kept, element_place, length_kept, let_kept, mask_kept, plan_same}
+use Rattle.rv_model.proofs.access_lemmas.LeavesOff.{access_off}
 use Rattle.rv_model.proofs.access_lemmas.RunsResume.{IsResumed, Resumes, Run, access_again, load_resumes, load_transfers, store_resumes}
 use Rattle.rv_model.proofs.legality_lemmas.Accesses.{elements_fit}
 use Rattle.rv_model.proofs.legality_lemmas.Overlaps.{indexed_above, later_indices_stay, strided_above, unit_above}
@@ -215,4 +216,5 @@ access_resumes i limit later fill v x m more legal is ended grown = (resumes lim
 pub stops_within : StopsWithin
 stops_within i limit fill v x m legal is ended =
     let r = resumes limit 0 fill v x m (access_run limit fill i v x m).memory i legal is ended (λ a c e. e) in
-    record { from = r.from; below = r.below; conf = r.conf }
+    let off = access_off limit fill i v x m in
+    record { from = r.from; below = r.below; conf = r.conf; rounding = off.rounding; saturation = off.saturation; registers = off.registers }

@@ -9,7 +9,6 @@ use Rattle.rv_model.specs.declared.step.step_end.StepEnd.TheVariants.{Ran, Exit,
 use Rattle.rv_model.specs.declared.step.step_end.Stop.{Stop}
 use Rattle.rv_model.specs.declared.step.step_end.Stop.TheVariants as stop
 use Rattle.rv_model.specs.accesses.Restarts.{overlay}
-use Rattle.rv_model.specs.instructions.Table.{scan, table}
 use Rattle.rv_model.specs.machine.Cuts.{CutsAreInvisible, IsConfigured, KeepsWordIfCut, SliceKeepsConfiguration, SlicesAddUp, Try, joined, slices, tried_in, tried_in_slices, tries}
 use Rattle.rv_model.specs.machine.PrivateMachine.{slice_ends, sliced}
 use Rattle.rv_model.specs.machine.Runs.{Following, Next, Stops, Rest, following, stop_of, at_breakpoint, recorded, after, Halted, halted, slice_steps, ticked}
@@ -17,13 +16,13 @@ use Rattle.rv_model.specs.machine.UserMachine.{Outcome, Present, Private}
 use Rattle.rv_model.specs.memory.Memory.{Memory}
 use Rattle.rv_model.specs.declared.memory.Access.TheVariants.{Monitor}
 use Rattle.rv_model.specs.step.Hart.{HartState, Stepped}
-use Rattle.rv_model.specs.step.Resumes.{KeepsOwnWord, after_ticks, finds}
-use Rattle.rv_model.specs.step.Step.{step, word_at}
+use Rattle.rv_model.specs.step.Resumes.{IsUndone, KeepsOwnWord, after_ticks, finds}
+use Rattle.rv_model.specs.step.Step.{fetched, step}
 use Rattle.rv_model.specs.vector.Configuration.{IsConfiguration}
 use Rattle.rv_model.proofs.access_lemmas.Growth.{overlay_same}
 use Rattle.rv_model.proofs.machine_lemmas.Slices.{fuel_is_enough}
 use Rattle.rv_model.proofs.step_lemmas.Configurations.{step_keeps_configuration, step_keeps_permissions}
-use Rattle.rv_model.proofs.step_lemmas.FetchesResume.{fetched_step_resumes}
+use Rattle.rv_model.proofs.step_lemmas.FetchesResume.{cut_step_leaves_off, fetched_step_resumes}
 use Rattle.rv_model.proofs.text_lemmas.Pieces.{of_either}
 use Rattle.rv_model.proofs.step_lemmas.StepTicks.{cut_step_takes_all_ticks, step_takes_ticks, uncut_step_is_same}
 
@@ -39,14 +38,18 @@ All-right P (x ∷ xs) ys h = All-right P xs ys (All-tail P x (xs ++ ys) h)
 
 -- one that is cut, and goes on in the memory that it left, is the whole one
 resumed : (limit later : ℕ) (s : HartState) → IsConfiguration s.vector.conf → (step limit s).end ≡ Cut
-    → KeepsOwnWord (scan table (word_at s.memory s.scalar.pc)) s
+    → KeepsOwnWord (s.vector.vstart + limit) (fetched s.memory s.scalar.pc) s
     → step (limit + later) s ≡ after_ticks limit (step later (step limit s).state)
 resumed limit later s is cut keeps =
     let left : HartState = (step limit s).state in
     let same : overlay s.memory left.memory ≡ s.memory =
     overlay_same s.memory left.memory (step_keeps_permissions Monitor limit s) in
+    let off : left.vector.vstart ≡ s.vector.vstart + limit = cut_step_leaves_off limit s is cut in
+    let done : left.vector.vstart - s.vector.vstart ≡ limit = omega (arith, off) in
     ap (λ (m : Memory). step (limit + later) (finds m s)) (sym same)
-    ∙ fetched_step_resumes limit later s left.memory is cut keeps (λ x c e. e)
+    ∙ subst (λ (n : ℕ). step (n + later) (finds (overlay s.memory left.memory) s) ≡ after_ticks n (step later left)) done
+    (fetched_step_resumes limit later s left.memory is (subst IsUndone (sym cut) tt)
+    (subst (λ (n : ℕ). KeepsOwnWord n (fetched s.memory s.scalar.pc) s) (sym off) keeps) (λ x c e. e))
 
 -- an instruction ran, was cut, or stops the program
 ended : (e : StepEnd)

@@ -21,6 +21,8 @@ use Rattle.rv_model.specs.declared.instructions.source.Source.{Source}
 use Rattle.rv_model.specs.declared.step.step_end.Cause.{Cause}
 use Rattle.rv_model.specs.declared.vector.request.RequestedLength.{RequestedLength}
 use Rattle.rv_model.specs.declared.vector.request.RequestedLength.TheVariants.{Elements}
+use Rattle.rv_model.specs.declared.step.memory_end.MemEnd.{MemEnd}
+use Rattle.rv_model.specs.declared.step.memory_end.MemEnd.TheVariants as memory_end
 use Rattle.rv_model.specs.declared.step.vector_end.VEnd.{VEnd}
 use Rattle.rv_model.specs.declared.step.vector_end.VEnd.TheVariants as vector_end
 use Rattle.rv_model.specs.declared.vector.types.VType.{VType}
@@ -38,9 +40,10 @@ use Rattle.rv_model.specs.step.ScalarStep.{jumps, jump_step, branch_step, load_s
 use Rattle.rv_model.specs.step.Step.{step, executed, word_at}
 use Rattle.rv_model.specs.vector.Control.{is_write, csr_form, control_value}
 use Rattle.rv_model.specs.step.VectorStep.{VectorStepped, access_step, answers, arith_step, carry_step, element_wise, extend_step, fields_filled, leaves, mask_to_scalar_step, mask_unary_step, mask_wise, move_step, performed, plain_step, segment_step, typed, requested_length, vset_step, vector_ticks, after_vector, vector_executed, vector_step}
+use Rattle.rv_model.specs.accesses.AccessRuns.{access_run}
 use Rattle.rv_model.specs.accesses.VectorAccess.{access_type}
 use Rattle.rv_model.specs.elements.Arithmetic.{GroupType, body_of, fills_masked_off, group_type, index_result, mask_logic_result}
-use Rattle.rv_model.specs.step.MemoryStep.{is_load, is_unit_load}
+use Rattle.rv_model.specs.step.MemoryStep.{access_end, is_load, is_unit_load}
 use Rattle.rv_model.specs.elements.PermutationResults.{moved_to_scalar}
 use Rattle.rv_model.specs.step.WriteCall.{call_fails, room, write_call, write_count}
 use Rattle.rv_model.specs.step.PermutationStep.{compressed, moved_to_vector, whole_moved}
@@ -142,27 +145,33 @@ abbrev pub UnlessDone : VEnd → Type 0 → Type 0
 UnlessDone vector_end.Done P = Unit {0}
 UnlessDone _ P = P
 
+-- a fact of an illegal vector instruction
+abbrev pub IfIllegal : VEnd → Type 0 → Type 0
+IfIllegal vector_end.Illegal P = P
+IfIllegal _ P = Unit {0}
+
 pub record VectorKeeps (s : HartState) (r : VectorStepped) : Type 0 where
   pub refused : UnlessDone r.end (r.state.scalar ≡ s.scalar)
   first : SameFirst s.scalar r.state.scalar
   output : r.state.output ≡ s.output
+  pub illegal : IfIllegal r.end (r.state ≡ s)
 
 vset_keeps : (rd vtype : ℕ) (length : RequestedLength) (s : HartState) → VectorKeeps s (vset_step rd vtype length s)
-vset_keeps rd vtype length s = record { refused = tt; first = first-with_register rd (vset_step rd vtype length s).state.vector.conf.vl s.scalar; output = refl }
+vset_keeps rd vtype length s = record { refused = tt; first = first-with_register rd (vset_step rd vtype length s).state.vector.conf.vl s.scalar; output = refl; illegal = tt }
 
 either_keeps : (s : HartState) (b : Bool) (x y : VectorStepped) → VectorKeeps s x → VectorKeeps s y → VectorKeeps s (cond b x y)
 either_keeps s b x y h k = of_either (λ r. VectorKeeps s r) b x y h k
 
 arith_keeps : (t : VType) (op : VectorOp) (source : Source) (vd vs2 : ℕ) (vm : Bool) (s : HartState) → VectorKeeps s (arith_step t op source vd vs2 vm s)
-arith_keeps t (Binary op) source vd vs2 vm s = record { refused = tt; first = refl; output = refl }
-arith_keeps t _ source vd vs2 vm s = record { refused = tt; first = refl; output = refl }
+arith_keeps t (Binary op) source vd vs2 vm s = record { refused = tt; first = refl; output = refl; illegal = tt }
+arith_keeps t _ source vd vs2 vm s = record { refused = tt; first = refl; output = refl; illegal = tt }
 
 mask_unary_keeps : (t : VType) (op : MaskUnaryOp) (vd vs2 : ℕ) (vm : Bool) (s : HartState) → VectorKeeps s (mask_unary_step t op vd vs2 vm s)
-mask_unary_keeps t (Scan op) vd vs2 vm s = record { refused = tt; first = refl; output = refl }
-mask_unary_keeps t Viota vd vs2 vm s = record { refused = tt; first = refl; output = refl }
+mask_unary_keeps t (Scan op) vd vs2 vm s = record { refused = tt; first = refl; output = refl; illegal = tt }
+mask_unary_keeps t Viota vd vs2 vm s = record { refused = tt; first = refl; output = refl; illegal = tt }
 
 typed_keeps : (t : Option VType) (done : VType → HartState → VectorStepped) (s : HartState) → ((v : VType) → VectorKeeps s (done v s)) → VectorKeeps s (typed t done s)
-typed_keeps None done s kept = record { refused = refl; first = refl; output = refl }
+typed_keeps None done s kept = record { refused = refl; first = refl; output = refl; illegal = refl }
 typed_keeps (Some t) done s kept = kept t
 
 -- no load or store writes a scalar register
@@ -172,9 +181,21 @@ same_unless vector_end.Illegal x = refl
 same_unless (vector_end.Fault store addr) x = refl
 same_unless (vector_end.Cut index) x = refl
 
+-- none is illegal where it is carried out
+access_is_legal : (loads : Bool) (end : MemEnd) (P : Type 0) → IfIllegal (access_end loads end) P
+access_is_legal loads memory_end.Done P = tt
+access_is_legal true (memory_end.Fault index addr) P = tt
+access_is_legal false (memory_end.Fault index addr) P = tt
+access_is_legal loads (memory_end.Cut index) P = tt
+
 access_keeps : (limit : ℕ) (masked_off loads : Bool) (fill : List ℕ → List ℕ) (i : Instr) (s : HartState) → VectorKeeps s (access_step limit masked_off loads fill i s)
 access_keeps limit masked_off loads fill i s =
-    record { refused = same_unless (access_step limit masked_off loads fill i s).end s.scalar; first = refl; output = refl }
+    record {
+      refused = same_unless (access_step limit masked_off loads fill i s).end s.scalar;
+      first = refl;
+      output = refl;
+      illegal = access_is_legal loads (access_run limit masked_off i s.vector s.scalar s.memory).end _;
+    }
 
 segment_keeps : (limit : ℕ) (t : VType) (g : GroupType) (loads : Bool) (nf vd : ℕ) (vm : Bool) (i : Instr) (s : HartState) → VectorKeeps s (segment_step limit t g loads nf vd vm i s)
 segment_keeps limit t g true nf vd vm i s =
@@ -189,31 +210,31 @@ performed_keeps limit (SetVl rd rs1 rs2) s = vset_keeps rd (read_register s.scal
 performed_keeps limit (VectorArith arith vd vs2 vm) s =
     typed_keeps s.vector.conf.vtype (λ t. arith_step t arith.0 arith.1 vd vs2 vm) s (λ t. arith_keeps t arith.0 arith.1 vd vs2 vm s)
 performed_keeps limit (VectorCarry carry vd vs2) s =
-    typed_keeps s.vector.conf.vtype (λ t. carry_step t carry.0 carry.1 vd vs2) s (λ t. record { refused = tt; first = refl; output = refl })
+    typed_keeps s.vector.conf.vtype (λ t. carry_step t carry.0 carry.1 vd vs2) s (λ t. record { refused = tt; first = refl; output = refl; illegal = tt })
 performed_keeps limit (VectorMove source vd) s =
-    typed_keeps s.vector.conf.vtype (λ t. move_step t source vd) s (λ t. record { refused = tt; first = refl; output = refl })
+    typed_keeps s.vector.conf.vtype (λ t. move_step t source vd) s (λ t. record { refused = tt; first = refl; output = refl; illegal = tt })
 performed_keeps limit (VectorExtend op vd vs2 vm) s =
-    typed_keeps s.vector.conf.vtype (λ t. extend_step t op vd vs2 vm) s (λ t. record { refused = tt; first = refl; output = refl })
+    typed_keeps s.vector.conf.vtype (λ t. extend_step t op vd vs2 vm) s (λ t. record { refused = tt; first = refl; output = refl; illegal = tt })
 performed_keeps limit (MaskLogic op vd vs1 vs2) s =
     typed_keeps s.vector.conf.vtype (λ t. mask_wise vd true (mask_logic_result op vs1 vs2 s.vector.file)) s
-    (λ t. record { refused = tt; first = refl; output = refl })
+    (λ t. record { refused = tt; first = refl; output = refl; illegal = tt })
 performed_keeps limit (MaskToScalar op rd vs2 vm) s =
     typed_keeps s.vector.conf.vtype (λ t. mask_to_scalar_step op rd vs2 vm) s
-    (λ t. record { refused = tt; first = first-with_register rd _ s.scalar; output = refl })
+    (λ t. record { refused = tt; first = first-with_register rd _ s.scalar; output = refl; illegal = tt })
 performed_keeps limit (MaskUnary op vd vs2 vm) s =
     typed_keeps s.vector.conf.vtype (λ t. mask_unary_step t op vd vs2 vm) s (λ t. mask_unary_keeps t op vd vs2 vm s)
 performed_keeps limit (ElementIndex vd vm) s =
     typed_keeps s.vector.conf.vtype (λ t. element_wise t (group_type t) vd vm (index_result (group_type t))) s
-    (λ t. record { refused = tt; first = refl; output = refl })
+    (λ t. record { refused = tt; first = refl; output = refl; illegal = tt })
 performed_keeps limit (Compress vd vs1 vs2) s =
-    typed_keeps s.vector.conf.vtype (λ t. leaves (compressed t vd vs1 vs2 s) s.vector.vxsat) s (λ t. record { refused = tt; first = refl; output = refl })
+    typed_keeps s.vector.conf.vtype (λ t. leaves (compressed t vd vs1 vs2 s) s.vector.vxsat) s (λ t. record { refused = tt; first = refl; output = refl; illegal = tt })
 performed_keeps limit (MoveToScalar rd vs2) s =
     typed_keeps s.vector.conf.vtype (λ t. answers rd (moved_to_scalar t vs2 s.vector.file)) s
-    (λ t. record { refused = tt; first = first-with_register rd _ s.scalar; output = refl })
+    (λ t. record { refused = tt; first = first-with_register rd _ s.scalar; output = refl; illegal = tt })
 performed_keeps limit (MoveToVector vd rs1) s =
-    typed_keeps s.vector.conf.vtype (λ t. leaves (moved_to_vector t vd rs1 s) s.vector.vxsat) s (λ t. record { refused = tt; first = refl; output = refl })
+    typed_keeps s.vector.conf.vtype (λ t. leaves (moved_to_vector t vd rs1 s) s.vector.vxsat) s (λ t. record { refused = tt; first = refl; output = refl; illegal = tt })
 performed_keeps limit (WholeMove count vd vs2) s =
-    typed_keeps s.vector.conf.vtype (λ t. leaves (whole_moved t count vd vs2 s) s.vector.vxsat) s (λ t. record { refused = tt; first = refl; output = refl })
+    typed_keeps s.vector.conf.vtype (λ t. leaves (whole_moved t count vd vs2 s) s.vector.vxsat) s (λ t. record { refused = tt; first = refl; output = refl; illegal = tt })
 performed_keeps limit (VectorUnit op width nf vd rs1 vm) s =
     typed_keeps s.vector.conf.vtype
     (λ t. segment_step limit t (access_type t width) (is_unit_load op) nf vd vm (VectorUnit op width nf vd rs1 vm)) s
@@ -231,12 +252,12 @@ performed_keeps limit (WholeStore count vd rs1) s = access_keeps limit false fal
 performed_keeps limit (MaskMemory direction vd rs1) s =
     typed_keeps s.vector.conf.vtype (λ t. plain_step limit (is_load direction) (MaskMemory direction vd rs1)) s
     (λ t. access_keeps limit false (is_load direction) (λ file. file) (MaskMemory direction vd rs1) s)
-performed_keeps limit _ s = record { refused = refl; first = refl; output = refl }
+performed_keeps limit _ s = record { refused = refl; first = refl; output = refl; illegal = refl }
 
 pub vector_keeps : (limit : ℕ) (i : Instr) (s : HartState) → VectorKeeps s (vector_executed limit i s)
 unfolding vector_executed
 vector_keeps limit i s =
-    either_keeps s (is_legal i s.vector.conf.vtype s.vector.vstart) _ _ (performed_keeps limit i s) (record { refused = refl; first = refl; output = refl })
+    either_keeps s (is_legal i s.vector.conf.vtype s.vector.vstart) _ _ (performed_keeps limit i s) (record { refused = refl; first = refl; output = refl; illegal = refl })
 
 -- an output buffer that is as it was
 as_before : {old new : List ℕ} → new ≡ old → PutsOut old new

@@ -1,5 +1,5 @@
--- A step that is cut and made again, with the fetch of its word.
-use Rattle.std.proofs.Common.{◌≡◌, ◌≢◌, ℕ, zero, suc, ◌+◌, ◌%◌, ◌^◌, ◌<◌, ◌≤◌, Bool, true, false, ◌&&◌, ◌||◌, ◌==◌, cond, Option, Some, None, refl, sym, ◌∙◌, ap, subst, arith}
+-- A step that is cut or faults and is made again, with the fetch of its word.
+use Rattle.std.proofs.Common.{◌≡◌, ◌≢◌, ◌⊎◌, inl, inr, ℕ, zero, suc, ◌+◌, ◌-◌, ◌%◌, ◌^◌, ◌<◌, ◌≤◌, Bool, true, false, ◌&&◌, ◌||◌, ◌==◌, cond, Option, Some, None, refl, sym, ◌∙◌, ap, subst, arith}
 use Rattle.std.specs.Prelude.{not}
 use Rattle.std.specs.FinMap.{get}
 use Rattle.std.specs.Int.{byte_len, from_le_bytes, w32}
@@ -12,8 +12,12 @@ use Rattle.rv_model.specs.declared.memory.Access.{Access}
 use Rattle.rv_model.specs.declared.memory.Access.TheVariants as access
 use Rattle.rv_model.specs.declared.scalar.Scalar.{Scalar}
 use Rattle.rv_model.specs.declared.step.step_end.Cause.TheVariants.{FetchAccess}
+use Rattle.rv_model.specs.declared.step.step_end.StepEnd.{StepEnd}
 use Rattle.rv_model.specs.declared.step.step_end.StepEnd.TheVariants.{Cut}
+use Rattle.rv_model.specs.declared.step.vector_end.VEnd.{VEnd}
+use Rattle.rv_model.specs.declared.step.vector_end.VEnd.TheVariants as vector_end
 use Rattle.rv_model.specs.declared.vector.control_register.ControlRegister.{ControlRegister}
+use Rattle.rv_model.specs.declared.vector.sizes.TheConstants.{GROUP_BYTES}
 use Rattle.rv_model.specs.accesses.Restarts.{Extends, overlay}
 use Rattle.rv_model.specs.instructions.Immediates.{i_immediate, s_immediate}
 use Rattle.rv_model.specs.instructions.Table.{scan, table}
@@ -22,76 +26,90 @@ use Rattle.rv_model.specs.scalar.ControlTransfer.{branch_target, is_aligned, is_
 use Rattle.rv_model.specs.scalar.LoadsAndStores.{access_address, load_width, store_width}
 use Rattle.rv_model.specs.scalar.Registers.{read_register, with_register}
 use Rattle.rv_model.specs.step.Hart.{HartState, Stepped, faults}
-use Rattle.rv_model.specs.step.Resumes.{FetchedStepResumes, KeepsOwnWord, after_ticks, finds}
+use Rattle.rv_model.specs.step.Resumes.{CutStepLeavesOff, FetchedStepResumes, IsUndone, KeepsOwnWord, StopsShort, after_ticks, finds}
 use Rattle.rv_model.specs.step.ScalarStep.{branch_step, csr_step, environment_call, jumps, system_step}
-use Rattle.rv_model.specs.step.Step.{executed, step, word_at}
-use Rattle.rv_model.specs.step.VectorStep.{vector_step}
+use Rattle.rv_model.specs.step.Step.{executed, fetched, step, touches, word_at}
+use Rattle.rv_model.specs.step.VectorStep.{VectorStepped, after_vector, vector_executed, vector_step, vector_ticks}
 use Rattle.rv_model.specs.step.WriteCall.{room, write_call, write_count}
+use Rattle.rv_model.specs.vector.Configuration.{IsConfiguration}
 use Rattle.rv_model.specs.vector.Control.{csr_form, is_write}
 use Rattle.rv_model.specs.vector.ControlRegisters.{control_register, is_read_only}
-use Rattle.rv_model.proofs.access_lemmas.Growth.{allowed_by_get, byte_by_get, bytes_at_extends, can_access_extends, overlay_extends}
-use Rattle.rv_model.proofs.step_lemmas.StepsResume.{cut_keeps_word, cut_step_resumes}
+use Rattle.rv_model.proofs.access_lemmas.Growth.{allowed_by_get, byte_by_get, bytes_at_extends, can_access_extends, overlay_extends, overlay_grown}
+use Rattle.rv_model.proofs.legality_lemmas.Bounds.{configuration_below}
+use Rattle.rv_model.proofs.step_lemmas.Cuts.{uncut}
+use Rattle.rv_model.proofs.step_lemmas.Effects.{IfIllegal, vector_keeps}
+use Rattle.rv_model.proofs.step_lemmas.StepsResume.{after_short, cut_index, cut_short, instruction_leaves_off, instruction_stops, part_keeps_word, step_resumes}
 use Rattle.rv_model.proofs.step_lemmas.StoredWords.{SameWord}
-use Rattle.rv_model.proofs.step_lemmas.Ticks.{cut_takes_all_ticks}
 use Rattle.rv_model.proofs.text_lemmas.Pieces.{of_either}
 
--- ---- what isn't a vector instruction isn't cut
+-- ---- what isn't a vector instruction isn't cut, and changes nothing where it faults
 
-abbrev NeverCut : Stepped → Type 0
-NeverCut r = r.end ≢ Cut
+abbrev AllOrNothing : HartState → Stepped → Type 0
+AllOrNothing s r = IsUndone r.end → (r.state ≡ s) × (r.end ≢ Cut)
 
-either : (b : Bool) (x y : Stepped) → NeverCut x → NeverCut y → NeverCut (cond b x y)
-either b x y h k = of_either (λ r. NeverCut r) b x y h k
+either : (s : HartState) (b : Bool) (x y : Stepped) → AllOrNothing s x → AllOrNothing s y → AllOrNothing s (cond b x y)
+either s b x y h k = of_either (λ r. AllOrNothing s r) b x y h k
 
-jumps_uncut : (target : ℕ) (scalar : Scalar) (s : HartState) → NeverCut (jumps target scalar s)
-jumps_uncut target scalar s = either (is_aligned target) _ _ (λ e. cc) (λ e. cc)
+jumps_whole : (target : ℕ) (scalar : Scalar) (s : HartState) → AllOrNothing s (jumps target scalar s)
+jumps_whole target scalar s = either s (is_aligned target) _ _ (λ u. absurd u) (λ u. (refl, λ e. cc))
 
-branch_uncut : (taken : Bool) (target : ℕ) (s : HartState) → NeverCut (branch_step taken target s)
-branch_uncut taken target s = either taken _ _ (jumps_uncut target s.scalar s) (λ e. cc)
+branch_whole : (taken : Bool) (target : ℕ) (s : HartState) → AllOrNothing s (branch_step taken target s)
+branch_whole taken target s = either s taken _ _ (jumps_whole target s.scalar s) (λ u. absurd u)
 
-csr_uncut : (register : Option ControlRegister) (op : CsrOp) (rd source operand word : ℕ) (s : HartState) → NeverCut (csr_step register op rd source operand word s)
-csr_uncut None op rd source operand word s = λ e. cc
-csr_uncut (Some register) op rd source operand word s =
-    either (is_write op source && is_read_only register) _ _ (λ e. cc) (either (is_write op source) _ _ (λ e. cc) (λ e. cc))
+csr_whole : (register : Option ControlRegister) (op : CsrOp) (rd source operand word : ℕ) (s : HartState) → AllOrNothing s (csr_step register op rd source operand word s)
+csr_whole None op rd source operand word s = λ u. (refl, λ e. cc)
+csr_whole (Some register) op rd source operand word s =
+    either s (is_write op source && is_read_only register) _ _ (λ u. (refl, λ e. cc))
+    (either s (is_write op source) _ _ (λ u. absurd u) (λ u. absurd u))
 
-write_uncut : (s : HartState) → NeverCut (write_call s)
+write_whole : (s : HartState) → AllOrNothing s (write_call s)
 unfolding write_call
-write_uncut s =
+write_whole s =
     let asked : ℕ = read_register s.scalar 12 in
     let readable : Bool = can_access access.Load s.memory (read_register s.scalar 11) (write_count asked s.output) in
-    either (not (read_register s.scalar 10 == 1)) _ _ (λ e. cc)
-    (either (asked == 0) _ _ (λ e. cc) (either (room s.output == 0) _ _ (λ e. cc) (either readable _ _ (λ e. cc) (λ e. cc))))
+    either s (not (read_register s.scalar 10 == 1)) _ _ (λ u. absurd u)
+    (either s (asked == 0) _ _ (λ u. absurd u)
+    (either s (room s.output == 0) _ _ (λ u. absurd u) (either s readable _ _ (λ u. absurd u) (λ u. absurd u))))
 
-system_uncut : (op : SystemOp) (s : HartState) → NeverCut (system_step op s)
+system_whole : (op : SystemOp) (s : HartState) → AllOrNothing s (system_step op s)
 unfolding environment_call
-system_uncut system.Ecall s = either (read_register s.scalar 17 == 93 || read_register s.scalar 17 == 94) _ _ (λ e. cc) (either (read_register s.scalar 17 == 64) _ _ (write_uncut s) (λ e. cc))
-system_uncut system.Ebreak s = λ e. cc
+system_whole system.Ecall s =
+    either s (read_register s.scalar 17 == 93 || read_register s.scalar 17 == 94) _ _ (λ u. absurd u)
+    (either s (read_register s.scalar 17 == 64) _ _ (write_whole s) (λ u. absurd u))
+system_whole system.Ebreak s = λ u. absurd u
 
--- what is cut is a vector instruction, whatever the ticks and the state are
-abbrev IsVectorStep : Option Instr → ℕ → Type 0
-IsVectorStep o word = (i : Instr) × ((o ≡ Some i) × ((n : ℕ) (w : HartState) → executed n o word w ≡ vector_step n i word w))
+-- what is a vector instruction, whatever the ticks and the state are
+record IsVectorStep (o : Option Instr) (word : ℕ) : Type 0 where
+  instr : Instr
+  is : o ≡ Some instr
+  touching : touches o ≡ true
+  same : (n : ℕ) (w : HartState) → executed n o word w ≡ vector_step n instr word w
 
-vector_alone : (limit : ℕ) (o : Option Instr) (word : ℕ) (s : HartState) → (executed limit o word s).end ≡ Cut → IsVectorStep o word
+vector_or_whole : (limit : ℕ) (o : Option Instr) (word : ℕ) (s : HartState) → (AllOrNothing s (executed limit o word s)) ⊎ IsVectorStep o word
 unfolding executed
-vector_alone limit None word s e = absurd (cc)
-vector_alone limit (Some (Upper op rd imm)) word s e = absurd (cc)
-vector_alone limit (Some (Jump rd imm)) word s e =
-    absurd (jumps_uncut (jump_target s.scalar.pc imm) (with_register rd ((s.scalar.pc + 4) % 2 ^ 64) s.scalar) s e)
-vector_alone limit (Some (JumpRegister rd rs1 imm)) word s e =
-    absurd (jumps_uncut (register_target (read_register s.scalar rs1) imm) (with_register rd ((s.scalar.pc + 4) % 2 ^ 64) s.scalar) s e)
-vector_alone limit (Some (Branch op rs1 rs2 imm)) word s e =
-    absurd (branch_uncut (is_taken op (read_register s.scalar rs1) (read_register s.scalar rs2)) (branch_target s.scalar.pc imm) s e)
-vector_alone limit (Some (Load op rd rs1 imm)) word s e = absurd (either (can_access access.Load s.memory (access_address (read_register s.scalar rs1) (i_immediate imm)) (byte_len (load_width op))) _ _ (λ e. cc) (λ e. cc) e)
-vector_alone limit (Some (Store op rs1 rs2 imm)) word s e = absurd (either (can_access access.Store s.memory (access_address (read_register s.scalar rs1) (s_immediate imm)) (byte_len (store_width op))) _ _ (λ e. cc) (λ e. cc) e)
-vector_alone limit (Some (RegisterImmediate op rd rs1 imm)) word s e = absurd (cc)
-vector_alone limit (Some (ShiftImmediate op rd rs1 shamt)) word s e = absurd (cc)
-vector_alone limit (Some (ShiftImmediateWord op rd rs1 shamt)) word s e = absurd (cc)
-vector_alone limit (Some (RegisterRegister op rd rs1 rs2)) word s e = absurd (cc)
-vector_alone limit (Some (Fence rd rs1 ordering)) word s e = absurd (cc)
-vector_alone limit (Some (System op)) word s e = absurd (system_uncut op s e)
-vector_alone limit (Some (Csr op rd rs1 csr)) word s e = absurd (csr_uncut (control_register csr) op rd rs1 (read_register s.scalar rs1) word s e)
-vector_alone limit (Some (CsrImmediate op rd imm csr)) word s e = absurd (csr_uncut (control_register csr) (csr_form op) rd imm imm word s e)
-vector_alone limit (Some i) word s e = (i, (refl, λ n w. refl))
+vector_or_whole limit None word s = inl (λ u. (refl, λ e. cc))
+vector_or_whole limit (Some (Upper op rd imm)) word s = inl (λ u. absurd u)
+vector_or_whole limit (Some (Jump rd imm)) word s =
+    inl (jumps_whole (jump_target s.scalar.pc imm) (with_register rd ((s.scalar.pc + 4) % 2 ^ 64) s.scalar) s)
+vector_or_whole limit (Some (JumpRegister rd rs1 imm)) word s =
+    inl (jumps_whole (register_target (read_register s.scalar rs1) imm) (with_register rd ((s.scalar.pc + 4) % 2 ^ 64) s.scalar) s)
+vector_or_whole limit (Some (Branch op rs1 rs2 imm)) word s =
+    inl (branch_whole (is_taken op (read_register s.scalar rs1) (read_register s.scalar rs2)) (branch_target s.scalar.pc imm) s)
+vector_or_whole limit (Some (Load op rd rs1 imm)) word s =
+    inl (either s (can_access access.Load s.memory (access_address (read_register s.scalar rs1) (i_immediate imm)) (byte_len (load_width op))) _ _
+    (λ u. absurd u) (λ u. (refl, λ e. cc)))
+vector_or_whole limit (Some (Store op rs1 rs2 imm)) word s =
+    inl (either s (can_access access.Store s.memory (access_address (read_register s.scalar rs1) (s_immediate imm)) (byte_len (store_width op))) _ _
+    (λ u. absurd u) (λ u. (refl, λ e. cc)))
+vector_or_whole limit (Some (RegisterImmediate op rd rs1 imm)) word s = inl (λ u. absurd u)
+vector_or_whole limit (Some (ShiftImmediate op rd rs1 shamt)) word s = inl (λ u. absurd u)
+vector_or_whole limit (Some (ShiftImmediateWord op rd rs1 shamt)) word s = inl (λ u. absurd u)
+vector_or_whole limit (Some (RegisterRegister op rd rs1 rs2)) word s = inl (λ u. absurd u)
+vector_or_whole limit (Some (Fence rd rs1 ordering)) word s = inl (λ u. absurd u)
+vector_or_whole limit (Some (System op)) word s = inl (system_whole op s)
+vector_or_whole limit (Some (Csr op rd rs1 csr)) word s = inl (csr_whole (control_register csr) op rd rs1 (read_register s.scalar rs1) word s)
+vector_or_whole limit (Some (CsrImmediate op rd imm csr)) word s = inl (csr_whole (control_register csr) (csr_form op) rd imm imm word s)
+vector_or_whole limit (Some i) word s = inr (record { instr = i; is = refl; touching = refl; same = λ n w. refl })
 
 -- ---- the word that is fetched
 
@@ -136,35 +154,179 @@ fetch_kept word s left scalar same f = record {
       ∙ ap (λ bs. from_le_bytes w32 bs) (bytes_kept s.memory left.memory s.scalar.pc 4 same) ∙ f.reads;
 }
 
--- a step whose fetch is refused isn't cut
-fetched : (limit : ℕ) (s : HartState) → (step limit s).end ≡ Cut → Fetches (word_at s.memory s.scalar.pc) s
-unfolding step
-fetched limit s cut = named (can_access access.Fetch s.memory s.scalar.pc 4) refl
+-- ---- a step that changes nothing
+
+-- a state that a step left goes on as the whole step
+abbrev ResumesFrom : ℕ → HartState → Memory → HartState → Type 0
+ResumesFrom later s more left =
+    step (left.vector.vstart - s.vector.vstart + later) (finds (overlay s.memory more) s)
+    ≡ after_ticks (left.vector.vstart - s.vector.vstart) (step later (finds more left))
+
+no_ticks : (n : ℕ) (r : Stepped) → n ≡ 0 → after_ticks n r ≡ r
+no_ticks n r none = let same : r.ticks + n ≡ r.ticks = omega (arith, none) in ap (λ (t : ℕ). record r { ticks = t }) same
+
+unchanged_resumes : (later : ℕ) (s : HartState) (more : Memory) (left : HartState) → left ≡ s → Extends left.memory more → ResumesFrom later s more left
+unchanged_resumes later s more left same grown =
+    let wider : Extends s.memory more = subst (λ (w : HartState). Extends w.memory more) same grown in
+    let none : s.vector.vstart - s.vector.vstart ≡ 0 = omega arith in
+    let all : s.vector.vstart - s.vector.vstart + later ≡ later = omega arith in
+    subst (λ (w : HartState). ResumesFrom later s more w) (sym same)
+    (ap (λ (n : ℕ). step n (finds (overlay s.memory more) s)) all
+    ∙ ap (λ (m : Memory). step later (finds m s)) (overlay_grown s.memory more wider)
+    ∙ sym (no_ticks (s.vector.vstart - s.vector.vstart) (step later (finds more s)) none))
+
+-- ---- a vector instruction
+
+-- a step that is undone is one whose instruction stops, or leaves all
+short_or_same : (ticks word : ℕ) (d : VectorStepped) (s : HartState) → IfIllegal d.end (d.state ≡ s) → IsUndone (after_vector ticks d.end word d.state).end
+    → StopsShort d.end ⊎ ((after_vector ticks d.end word d.state).state ≡ s)
+short_or_same ticks word d s = named d.end
   where
-    named : (b : Bool) → can_access access.Fetch s.memory s.scalar.pc 4 ≡ b → Fetches (word_at s.memory s.scalar.pc) s
-    named true e = record { allowed = e; reads = refl }
+    named : (end : VEnd) → IfIllegal end (d.state ≡ s) → IsUndone (after_vector ticks end word d.state).end
+        → StopsShort end ⊎ ((after_vector ticks end word d.state).state ≡ s)
+    named vector_end.Done h u = absurd u
+    named vector_end.Illegal h u = inr h
+    named (vector_end.Fault store addr) h u = inl (record { undone = λ e. cc; legal = λ e. cc })
+    named (vector_end.Cut index) h u = inl (record { undone = λ e. cc; legal = λ e. cc })
+
+module _ (limit later : ℕ) (s : HartState) (more : Memory) (is : IsConfiguration s.vector.conf) where
+  -- one that stops, and whose word is fetched again
+  short_resumes : (word : ℕ) (f : Fetches word s) (v : IsVectorStep (scan table word) word) → StopsShort (vector_executed limit v.instr s).end
+      → KeepsOwnWord (vector_step limit v.instr word s).state.vector.vstart (Some v.instr) s
+      → Extends (vector_step limit v.instr word s).state.memory more
+      → ResumesFrom later s more (vector_step limit v.instr word s).state
+  short_resumes word f v stops keeps grown =
+      let i : Instr = v.instr in
+      let d : VectorStepped = vector_executed limit i s in
+      let left : HartState = (vector_step limit i word s).state in
+      let leaves_part : left ≡ d.state = after_short (vector_ticks limit i s d) d.end word d.state stops in
+      let scalar : left.scalar ≡ s.scalar =
+      ap (λ (w : HartState). w.scalar) leaves_part ∙ ap (λ (w : HartState). w.scalar) (instruction_stops limit i s is stops).rest in
+      let same : SameWord s.scalar.pc s.memory left.memory =
+      subst (λ (w : HartState). SameWord s.scalar.pc s.memory w.memory) (sym leaves_part)
+      (part_keeps_word limit i s is stops (subst (λ (w : HartState). KeepsOwnWord w.vector.vstart (Some i) s) leaves_part keeps)) in
+      let again : Fetches word (finds more left) = fetch_grown word left more grown (fetch_kept word s left scalar same f) in
+      let first : Fetches word (finds (overlay s.memory more) s) = fetch_grown word s (overlay s.memory more) (overlay_extends s.memory more) f in
+      let done : ℕ = left.vector.vstart - s.vector.vstart in
+      step_of (done + later) word (finds (overlay s.memory more) s) first
+      ∙ v.same (done + later) (finds (overlay s.memory more) s)
+      ∙ step_resumes limit later i word s more is stops grown
+      ∙ ap (λ (r : Stepped). after_ticks done r) (sym (step_of later word (finds more left) again ∙ v.same later (finds more left)))
+
+  vector_resumes : (word : ℕ) (f : Fetches word s) (v : IsVectorStep (scan table word) word)
+      → IsUndone (vector_step limit v.instr word s).end
+      → KeepsOwnWord (vector_step limit v.instr word s).state.vector.vstart (Some v.instr) s
+      → Extends (vector_step limit v.instr word s).state.memory more
+      → ResumesFrom later s more (vector_step limit v.instr word s).state
+  vector_resumes word f v undone keeps grown =
+      let d : VectorStepped = vector_executed limit v.instr s in
+      elim (short_or_same (vector_ticks limit v.instr s d) word d s (vector_keeps limit v.instr s).illegal undone) [
+        | inl stops ↦ short_resumes word f v stops keeps grown
+        | inr same ↦ unchanged_resumes later s more (vector_step limit v.instr word s).state same grown
+      ]
+
+-- ---- a step
+
+step_refused : (limit : ℕ) (s : HartState) → can_access access.Fetch s.memory s.scalar.pc 4 ≡ false → step limit s ≡ faults FetchAccess s.scalar.pc s
+unfolding step
+step_refused limit s e =
+    ap (λ (b : Bool). cond b (executed limit (scan table (word_at s.memory s.scalar.pc)) (word_at s.memory s.scalar.pc) s) (faults FetchAccess s.scalar.pc s)) e
+
+-- the step of a fetched instruction that isn't one of vectors is whole, or leaves all
+record IsTold (limit : ℕ) (s : HartState) : Type 0 where
+  whole : AllOrNothing s (step limit s)
+
+record IsVector (s : HartState) : Type 0 where
+  fetches : Fetches (word_at s.memory s.scalar.pc) s
+  vector : IsVectorStep (scan table (word_at s.memory s.scalar.pc)) (word_at s.memory s.scalar.pc)
+  is_fetched : fetched s.memory s.scalar.pc ≡ Some vector.instr
+  touching : touches (fetched s.memory s.scalar.pc) ≡ true
+  same : (n : ℕ) → step n s ≡ vector_step n vector.instr (word_at s.memory s.scalar.pc) s
+
+told : (limit : ℕ) (s : HartState) → IsTold limit s ⊎ IsVector s
+told limit s = named (can_access access.Fetch s.memory s.scalar.pc 4) refl
+  where
+    word : ℕ
+    word = word_at s.memory s.scalar.pc
+
+    named : (b : Bool) → can_access access.Fetch s.memory s.scalar.pc 4 ≡ b → IsTold limit s ⊎ IsVector s
     named false e =
-        let refused = ap (λ (b : Bool). (cond b (executed limit (scan table (word_at s.memory s.scalar.pc)) (word_at s.memory s.scalar.pc) s) (faults FetchAccess s.scalar.pc s)).end) (sym e) ∙ cut in
-        absurd (cc)
+        inl (record { whole = subst (λ (r : Stepped). AllOrNothing s r) (sym (step_refused limit s e)) (λ u. (refl, λ q. cc)) })
+    named true e =
+        let f : Fetches word s = record { allowed = e; reads = refl } in
+        let at : fetched s.memory s.scalar.pc ≡ scan table word = ap (λ (b : Bool). cond b (scan table word) None) e in
+        elim (vector_or_whole limit (scan table word) word s) [
+          | inl whole ↦ inl (record { whole = subst (λ (r : Stepped). AllOrNothing s r) (sym (step_of limit word s f)) whole })
+          | inr v ↦
+              inr (record {
+                fetches = f;
+                vector = v;
+                is_fetched = at ∙ v.is;
+                touching = ap (λ (o : Option Instr). touches o) at ∙ v.touching;
+                same = λ n. step_of n word s f ∙ v.same n s;
+              })
+        ]
+
+cut_is_undone : (e : StepEnd) → e ≡ Cut → IsUndone e
+cut_is_undone e is = subst IsUndone (sym is) tt
+
+-- one that is undone finds a length of the vector type, if each that touches the vector unit does; or it leaves all
+pub fetched_resumes : (limit later : ℕ) (s : HartState) (more : Memory)
+    → (touches (fetched s.memory s.scalar.pc) ≡ true → IsConfiguration s.vector.conf)
+    → IsUndone (step limit s).end
+    → KeepsOwnWord (step limit s).state.vector.vstart (fetched s.memory s.scalar.pc) s
+    → Extends (step limit s).state.memory more
+    → ResumesFrom later s more (step limit s).state
+fetched_resumes limit later s more is undone keeps grown = elim (told limit s) [
+  | inl t ↦ unchanged_resumes later s more (step limit s).state (t.whole undone).0 grown
+  | inr t ↦
+      let i : Instr = t.vector.instr in
+      let word : ℕ = word_at s.memory s.scalar.pc in
+      let at : step limit s ≡ vector_step limit i word s = t.same limit in
+      subst (λ (r : Stepped). ResumesFrom later s more r.state) (sym at)
+      (vector_resumes limit later s more (is t.touching) word t.fetches t.vector
+      (subst (λ (r : Stepped). IsUndone r.end) at undone)
+      (subst (λ (r : Stepped). KeepsOwnWord r.state.vector.vstart (Some i) s) at
+      (subst (λ (o : Option Instr). KeepsOwnWord (step limit s).state.vector.vstart o s) t.is_fetched keeps))
+      (subst (λ (r : Stepped). Extends r.state.memory more) at grown))
+]
 
 pub fetched_step_resumes : FetchedStepResumes
-fetched_step_resumes limit later s more is cut keeps grown =
+fetched_step_resumes limit later s more is undone keeps grown = fetched_resumes limit later s more (λ t. is) undone keeps grown
+
+-- a step that is cut is that of a vector instruction which is
+record CutIndex (limit : ℕ) (s : HartState) : Type 0 where
+  vector : IsVector s
+  index : ℕ
+  end : (vector_executed limit vector.vector.instr s).end ≡ vector_end.Cut index
+
+cut_step : (limit : ℕ) (s : HartState) → (step limit s).end ≡ Cut → CutIndex limit s
+cut_step limit s cut = elim (told limit s) [
+  | inl t ↦ absurd ((t.whole (cut_is_undone (step limit s).end cut)).1 cut)
+  | inr t ↦
+      let word : ℕ = word_at s.memory s.scalar.pc in
+      let d : VectorStepped = vector_executed limit t.vector.instr s in
+      let at = cut_index (vector_ticks limit t.vector.instr s d) d.end word d.state (ap (λ (r : Stepped). r.end) (sym (t.same limit)) ∙ cut) in
+      record { vector = t; index = at.0; end = at.1 }
+]
+
+pub cut_leaves_off : (limit : ℕ) (s : HartState) → (touches (fetched s.memory s.scalar.pc) ≡ true → IsConfiguration s.vector.conf)
+    → (step limit s).end ≡ Cut → (step limit s).state.vector.vstart ≡ s.vector.vstart + limit
+cut_leaves_off limit s is cut =
+    let c : CutIndex limit s = cut_step limit s cut in
+    let i : Instr = c.vector.vector.instr in
     let word : ℕ = word_at s.memory s.scalar.pc in
-    let o : Option Instr = scan table word in
-    let f : Fetches word s = fetched limit s cut in
-    let here = step_of limit word s f in
-    let v = vector_alone limit o word s (ap (λ (r : Stepped). r.end) (sym here) ∙ cut) in
-    let i : Instr = v.0 in
-    let at : step limit s ≡ vector_step limit i word s = here ∙ v.1.1 limit s in
-    let is_cut : (vector_step limit i word s).end ≡ Cut = ap (λ (r : Stepped). r.end) (sym at) ∙ cut in
-    let left : HartState = (vector_step limit i word s).state in
-    let wider : Extends left.memory more = subst (λ (r : Stepped). Extends r.state.memory more) at grown in
-    let same = cut_keeps_word limit i word s is is_cut (subst (λ (p : Option Instr). KeepsOwnWord p s) v.1.0 keeps) in
-    let again : Fetches word (finds more left) =
-    fetch_grown word left more wider (fetch_kept word s left (cut_takes_all_ticks limit i word s is_cut).1 same f) in
-    let first : Fetches word (finds (overlay s.memory more) s) = fetch_grown word s (overlay s.memory more) (overlay_extends s.memory more) f in
-    step_of (limit + later) word (finds (overlay s.memory more) s) first
-    ∙ v.1.1 (limit + later) (finds (overlay s.memory more) s)
-    ∙ cut_step_resumes limit later i word s more is is_cut wider
-    ∙ ap (λ (r : Stepped). after_ticks limit r) (sym (step_of later word (finds more left) again ∙ v.1.1 later (finds more left)))
-    ∙ ap (λ (r : Stepped). after_ticks limit (step later (finds more r.state))) (sym at)
+    let d : VectorStepped = vector_executed limit i s in
+    let off = instruction_leaves_off limit i s c.index (is c.vector.touching) c.end in
+    ap (λ (r : Stepped). r.state.vector.vstart) (c.vector.same limit)
+    ∙ ap (λ (w : HartState). w.vector.vstart) (after_short (vector_ticks limit i s d) d.end word d.state (cut_short d.end c.index c.end))
+    ∙ off.1 ∙ off.0
+
+pub cut_step_leaves_off : CutStepLeavesOff
+cut_step_leaves_off limit s is cut = cut_leaves_off limit s (λ t. is) cut
+
+-- so many ticks are enough for any step
+pub step_uncut : (limit : ℕ) (s : HartState) → IsConfiguration s.vector.conf → GROUP_BYTES ≤ limit → (step limit s).end ≢ Cut
+step_uncut limit s is enough cut =
+    let c : CutIndex limit s = cut_step limit s cut in
+    uncut limit c.vector.vector.instr s c.index (configuration_below s.vector.conf is) enough c.end

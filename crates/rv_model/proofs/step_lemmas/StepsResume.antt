@@ -27,7 +27,7 @@ use Rattle.rv_model.specs.legality.Legality.{IsLegal, is_legal}
 use Rattle.rv_model.specs.memory.Memory.{Memory}
 use Rattle.rv_model.specs.step.Hart.{HartState}
 use Rattle.rv_model.specs.step.MemoryStep.{access_end, after_access, is_load, is_unit_load, tails_filled, with_tail}
-use Rattle.rv_model.specs.step.Resumes.{CutStepResumes, KeepsWord, InstructionResumes, InstructionStops, LeavesPart, StepResumes, StopsShort, after_ticks, finds, store_access}
+use Rattle.rv_model.specs.step.Resumes.{CutStepResumes, KeepsWord, InstructionLeavesOff, InstructionResumes, InstructionStops, LeavesPart, StepResumes, StopsShort, after_ticks, finds, store_access}
 use Rattle.rv_model.specs.step.VectorStep.{VectorStepped, access_step, access_ticks, after_vector, answers, arith_step, carry_step, element_wise, extend_step, fields_filled, is_fault_only_first, leaves, mask_to_scalar_step, mask_unary_step, mask_wise, move_step, performed, plain_step, segment_step, typed, vector_ends, vector_executed, vector_step, vector_ticks}
 use Rattle.rv_model.specs.vector.Configuration.{IsConfiguration}
 use Rattle.rv_model.proofs.access_lemmas.InstructionsResume.{access_resumes, stops_within}
@@ -89,7 +89,7 @@ module _ (limit later : ℕ) (s : HartState) (more : Memory) where
     left : LeavesPart i s (does limit s).state
     anywhere : IsLegalAnywhere i
     cut : VectorCutAt (does limit s)
-    word : KeepsWord s.scalar.pc (store_access i s.vector s.scalar) → SameWord s.scalar.pc s.memory (does limit s).state.memory
+    word : KeepsWord s.scalar.pc (does limit s).state.vector.vstart (store_access i s.vector s.scalar) → SameWord s.scalar.pc s.memory (does limit s).state.memory
     again : GoesOn (does limit s).state.vector (does later (finds more (does limit s).state))
     same : does later (finds more (does limit s).state) ≡ does ((does limit s).state.vector.vstart - s.vector.vstart + later) (finds (overlay s.memory more) s)
 
@@ -114,7 +114,7 @@ module _ (limit later : ℕ) (s : HartState) (more : Memory) where
       record {
         left = record { vector = subst (λ (v : VState). IsStopped i s.vector v) (sym vector) stopped; rest = refl };
         anywhere = anywhere;
-        word = access_keeps_word limit fill_masked_off i s.vector s.scalar s.memory s.scalar.pc;
+        word = access_keeps_word limit fill_masked_off i s.vector s.scalar s.memory s.scalar.pc ended;
         cut = end_cut loads run.end run.vector.vstart (access_leaves limit fill_masked_off i s.vector s.scalar s.memory).cut;
         again = access_goes_on later fill_masked_off loads (fill (finds more (access_step limit fill_masked_off loads (fill s) i s).state)) i
             (finds more (access_step limit fill_masked_off loads (fill s) i s).state);
@@ -170,7 +170,9 @@ module _ (limit later : ℕ) (s : HartState) (more : Memory) where
             left = subst (λ (d : VectorStepped). LeavesPart i s d.state) (sym here) r.left;
             anywhere = r.anywhere;
             cut = subst (λ (d : VectorStepped). VectorCutAt d) (sym here) r.cut;
-            word = λ keeps. subst (λ (d : VectorStepped). SameWord s.scalar.pc s.memory d.state.memory) (sym here) (r.word keeps);
+            word =
+                subst (λ (d : VectorStepped). KeepsWord s.scalar.pc d.state.vector.vstart (store_access i s.vector s.scalar)
+                → SameWord s.scalar.pc s.memory d.state.memory) (sym here) r.word;
             again =
                 subst (λ (d : VectorStepped). GoesOn d.state.vector (under later (finds more d.state))) (sym here)
                 (subst (λ (d : VectorStepped). GoesOn (does t limit s).state.vector d) (sym (at later (finds more (does t limit s).state) r.left.vector.conf)) r.again);
@@ -271,7 +273,9 @@ module _ (limit later : ℕ) (s : HartState) (more : Memory) where
             left = subst (λ (d : VectorStepped). LeavesPart i s d.state) (sym here) r.left;
             anywhere = r.anywhere;
             cut = subst (λ (d : VectorStepped). VectorCutAt d) (sym here) r.cut;
-            word = λ keeps. subst (λ (d : VectorStepped). SameWord s.scalar.pc s.memory d.state.memory) (sym here) (r.word keeps);
+            word =
+                subst (λ (d : VectorStepped). KeepsWord s.scalar.pc d.state.vector.vstart (store_access i s.vector s.scalar)
+                → SameWord s.scalar.pc s.memory d.state.memory) (sym here) r.word;
             again =
                 subst (λ (d : VectorStepped). GoesOn d.state.vector (vector_executed later i (finds more d.state))) (sym here)
                 (subst (λ (d : VectorStepped). GoesOn part.vector d) (sym (at later (finds more part) true legal)) r.again);
@@ -323,7 +327,7 @@ after_more ticks more (vector_end.Fault store addr) word s legal = refl
 after_more ticks more (vector_end.Cut index) word s legal = refl
 
 -- a step that is cut or faults leaves the state that its instruction does
-after_short : (ticks : ℕ) (end : VEnd) (word : ℕ) (s : HartState) → StopsShort end → (after_vector ticks end word s).state ≡ s
+pub after_short : (ticks : ℕ) (end : VEnd) (word : ℕ) (s : HartState) → StopsShort end → (after_vector ticks end word s).state ≡ s
 after_short ticks vector_end.Done word s stops = absurd (stops.undone refl)
 after_short ticks vector_end.Illegal word s stops = absurd (stops.legal refl)
 after_short ticks (vector_end.Fault store addr) word s stops = refl
@@ -357,14 +361,20 @@ step_resumes limit later i word s more is stops grown =
     (part_resumes limit later i word s more is stops (subst (λ (part : HartState). Extends part.memory more) leaves_part grown))
 
 -- a step that is cut is one whose instruction is
-cut_index : (ticks : ℕ) (end : VEnd) (word : ℕ) (s : HartState) → (after_vector ticks end word s).end ≡ step_end.Cut → (index : ℕ) × (end ≡ vector_end.Cut index)
+pub cut_index : (ticks : ℕ) (end : VEnd) (word : ℕ) (s : HartState) → (after_vector ticks end word s).end ≡ step_end.Cut → (index : ℕ) × (end ≡ vector_end.Cut index)
 cut_index ticks vector_end.Done word s e = absurd (cc)
 cut_index ticks vector_end.Illegal word s e = absurd (cc)
 cut_index ticks (vector_end.Fault store addr) word s e = absurd (cc)
 cut_index ticks (vector_end.Cut index) word s e = (index, refl)
 
-cut_short : (end : VEnd) (index : ℕ) → end ≡ vector_end.Cut index → StopsShort end
+pub cut_short : (end : VEnd) (index : ℕ) → end ≡ vector_end.Cut index → StopsShort end
 cut_short end index e = record { undone = λ q. cc; legal = λ q. cc }
+
+pub instruction_leaves_off : InstructionLeavesOff
+instruction_leaves_off limit i s index is e =
+    let d : VectorStepped = vector_executed limit i s in
+    let place : IsCutAt limit s.vector.vstart (index_count i s.vector.conf.vl) index = cut_at limit i s index e in
+    (place.at, (executed_part limit 0 s d.state.memory i is (cut_short d.end index e) (λ a c q. q)).cut index e)
 
 pub cut_step_resumes : CutStepResumes
 cut_step_resumes limit later i word s more is cut grown =
@@ -372,21 +382,15 @@ cut_step_resumes limit later i word s more is cut grown =
     let at = cut_index (vector_ticks limit i s d) d.end word d.state cut in
     let stops : StopsShort d.end = cut_short d.end at.0 at.1 in
     let leaves_part : (vector_step limit i word s).state ≡ d.state = after_short (vector_ticks limit i s d) d.end word d.state stops in
-    let short : Extends d.state.memory more = subst (λ (part : HartState). Extends part.memory more) leaves_part grown in
-    let r : IsPart limit later s more i (λ n w. vector_executed n i w) = executed_part limit later s more i is stops short in
-    let place : IsCutAt limit s.vector.vstart (index_count i s.vector.conf.vl) at.0 = cut_at limit i s at.0 at.1 in
-    let vstart : d.state.vector.vstart ≡ at.0 = r.cut at.0 at.1 in
+    let place = instruction_leaves_off limit i s at.0 is at.1 in
     let done : (vector_step limit i word s).state.vector.vstart - s.vector.vstart ≡ limit =
-    ap (λ (part : HartState). part.vector.vstart - s.vector.vstart) leaves_part ∙ omega (arith, vstart, place.at) in
+    ap (λ (part : HartState). part.vector.vstart - s.vector.vstart) leaves_part ∙ omega (arith, place.0, place.1) in
     subst (λ (n : ℕ). vector_step (n + later) i word (finds (overlay s.memory more) s) ≡ after_ticks n (vector_step later i word (finds more (vector_step limit i word s).state)))
     done (step_resumes limit later i word s more is stops grown)
 
--- a step that is cut leaves the scalar registers, and the word at the program counter if no byte of that is stored
-pub cut_keeps_word : (limit : ℕ) (i : Instr) (word : ℕ) (s : HartState) → IsConfiguration s.vector.conf → (vector_step limit i word s).end ≡ step_end.Cut
-    → KeepsWord s.scalar.pc (store_access i s.vector s.scalar) → SameWord s.scalar.pc s.memory (vector_step limit i word s).state.memory
-cut_keeps_word limit i word s is cut keeps =
-    let d : VectorStepped = vector_executed limit i s in
-    let at = cut_index (vector_ticks limit i s d) d.end word d.state cut in
-    let stops : StopsShort d.end = cut_short d.end at.0 at.1 in
-    let r : IsPart limit 0 s d.state.memory i (λ n w. vector_executed n i w) = executed_part limit 0 s d.state.memory i is stops (λ a c e. e) in
-    subst (λ (part : HartState). SameWord s.scalar.pc s.memory part.memory) (sym (after_short (vector_ticks limit i s d) d.end word d.state stops)) (r.word keeps)
+-- an instruction that is cut or faults leaves the word at the program counter, if what it did before stored no byte of that
+pub part_keeps_word : (limit : ℕ) (i : Instr) (s : HartState) → IsConfiguration s.vector.conf → StopsShort (vector_executed limit i s).end
+    → KeepsWord s.scalar.pc (vector_executed limit i s).state.vector.vstart (store_access i s.vector s.scalar)
+    → SameWord s.scalar.pc s.memory (vector_executed limit i s).state.memory
+part_keeps_word limit i s is stops =
+    (executed_part limit 0 s (vector_executed limit i s).state.memory i is stops (λ a c e. e)).word

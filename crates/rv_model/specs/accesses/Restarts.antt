@@ -1,17 +1,18 @@
 -- Vector loads and stores that stop before their end and are run again from vstart on ("V" Vector Extension 1.0, sections 3.7, 7.7
 -- and 17.1; the overlaps of registers are those of sections 5.2, 5.3 and 7.8).
-use Rattle.std.specs.Prelude.{◌≡◌, ◌≢◌, ℕ, ◌+◌, ◌-◌, ◌*◌, ◌<◌, ◌≤◌, Bool, List, [], ◌∷◌, ◌++◌, Some, ⊤}
+use Rattle.std.specs.Prelude.{◌≡◌, ◌≢◌, ℕ, ◌+◌, ◌-◌, ◌*◌, ◌<◌, ◌≤◌, Bool, true, false, List, [], ◌∷◌, ◌++◌, Some, ⊤}
 use Rattle.std.specs.FinMap.{get, from_entries, entries}
 use Rattle.std.specs.Option.{option_or}
 use Rattle.rv_model.specs.declared.instructions.instruction.Instr.{Instr}
-use Rattle.rv_model.specs.declared.instructions.instruction.Instr.TheVariants.{VectorIndexed}
+use Rattle.rv_model.specs.declared.instructions.instruction.Instr.TheVariants.{MaskMemory, VectorIndexed, VectorStrided, VectorUnit, WholeStore}
 use Rattle.rv_model.specs.declared.instructions.operations.Direction.TheVariants as direction
 use Rattle.rv_model.specs.declared.instructions.operations.Order.{Order}
+use Rattle.rv_model.specs.declared.instructions.operations.UnitOp.TheVariants as unit
 use Rattle.rv_model.specs.declared.instructions.operations.Width.{Width}
 use Rattle.rv_model.specs.declared.memory.Access.TheVariants as access
 use Rattle.rv_model.specs.declared.scalar.Scalar.{Scalar}
 use Rattle.rv_model.specs.declared.step.memory_end.MemEnd.{MemEnd}
-use Rattle.rv_model.specs.declared.step.memory_end.MemEnd.TheVariants.{Cut, Done}
+use Rattle.rv_model.specs.declared.step.memory_end.MemEnd.TheVariants.{Cut, Done, Fault}
 use Rattle.rv_model.specs.declared.vector.sizes.TheConstants.{VLENB}
 use Rattle.rv_model.specs.declared.vector.state.VState.{VState}
 use Rattle.rv_model.specs.declared.vector.types.VType.{VType}
@@ -91,12 +92,24 @@ LaterIndicesStay = (order : Order) (width : Width) (nf vd rs1 vs2 : ℕ) (vm : B
 
 -- ---- an instruction that stops and is run again
 
--- what an instruction that stops leaves in the control registers: vstart is one of its indices, at or past the one where it began;
--- the vector type and length are as they were
+-- whether an instruction is a vector store
+abbrev pub is_store : Instr → Bool
+is_store (VectorUnit unit.Store width nf vd rs1 vm) = true
+is_store (VectorStrided direction.Store width nf vd rs1 rs2 vm) = true
+is_store (VectorIndexed direction.Store order width nf vd rs1 vs2 vm) = true
+is_store (WholeStore count vd rs1) = true
+is_store (MaskMemory direction.Store vd rs1) = true
+is_store _ = false
+
+-- what an instruction that stops leaves in the vector state: vstart is one of its indices, at or past the one where it began; the
+-- vector type and length, the rounding mode and the saturation flag are as they were, and so are the registers after a store
 pub record IsStopped (i : Instr) (before after : VState) : Type 0 where
   pub from : before.vstart ≤ after.vstart
   pub below : after.vstart < index_count i before.conf.vl
   pub conf : after.conf ≡ before.conf
+  pub rounding : after.vxrm ≡ before.vxrm
+  pub saturation : after.vxsat ≡ before.vxsat
+  pub registers : is_store i ≡ true → after.file ≡ before.file
 
 abbrev pub StopsWithin : Type 0
 StopsWithin = (i : Instr) (limit : ℕ) (fill_masked_off : Bool) (v : VState) (x : Scalar) (m : Memory)
@@ -104,6 +117,16 @@ StopsWithin = (i : Instr) (limit : ℕ) (fill_masked_off : Bool) (v : VState) (x
     → IsConfiguration v.conf
     → (access_run limit fill_masked_off i v x m).end ≢ Done
     → IsStopped i v (access_run limit fill_masked_off i v x m).vector
+
+-- One that is cut has done just so many indices as it might, and one that faults fewer. Its vstart is the first index that isn't
+-- done.
+pub record LeavesOff (limit : ℕ) (v : VState) (run : AccessRun) : Type 0 where
+  pub cut : (index : ℕ) → run.end ≡ Cut index → (index ≡ v.vstart + limit) × (run.vector.vstart ≡ index)
+  pub fault : (index addr : ℕ) → run.end ≡ Fault index addr → (index < v.vstart + limit) × (run.vector.vstart ≡ index)
+
+abbrev pub AccessLeavesOff : Type 0
+AccessLeavesOff = (i : Instr) (limit : ℕ) (fill_masked_off : Bool) (v : VState) (x : Scalar) (m : Memory)
+    → LeavesOff limit v (access_run limit fill_masked_off i v x m)
 
 -- a legal load or store that is cut or faults, and is run again in a memory that has grown, ends and leaves what it would have if
 -- what is new had been there from the start, and the limit had counted what was done as well

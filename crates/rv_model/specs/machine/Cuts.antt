@@ -2,13 +2,12 @@
 -- in the next one, so what slices come to depends on the sum of their ticks alone.
 use Rattle.std.specs.Prelude.{ℕ, zero, suc, ◌+◌, ◌-◌, ◌*◌, ◌≡◌, ◌&&◌, not, List, [], ◌∷◌, ◌++◌, Some, None, All, is_none, ⊤, if◌then◌else◌}
 use Rattle.rv_model.specs.declared.step.step_end.StepEnd.TheVariants.{Cut}
-use Rattle.rv_model.specs.instructions.Table.{scan, table}
 use Rattle.rv_model.specs.machine.PrivateMachine.{sliced}
 use Rattle.rv_model.specs.machine.Runs.{after, at_breakpoint, following, stop_of}
 use Rattle.rv_model.specs.machine.UserMachine.{Outcome, Present, Private}
 use Rattle.rv_model.specs.step.Hart.{HartState}
 use Rattle.rv_model.specs.step.Resumes.{KeepsOwnWord}
-use Rattle.rv_model.specs.step.Step.{step, word_at}
+use Rattle.rv_model.specs.step.Step.{fetched, step}
 use Rattle.rv_model.specs.vector.Configuration.{IsConfiguration}
 
 -- ---- one after another
@@ -50,9 +49,11 @@ unfoldable pub tried_in_slices : ℕ → ℕ → Private → List Try
 tried_in_slices zero quantum p = []
 tried_in_slices (suc k) quantum p = tried_in quantum p ++ tried_in_slices k quantum (sliced quantum p).next
 
--- an instruction that is cut there stores nothing over its own word
+-- an instruction that is cut there has stored nothing over its own word before
 abbrev pub KeepsWordIfCut : Try → Type 0
-KeepsWordIfCut t = (step t.left t.hart).end ≡ Cut → KeepsOwnWord (scan table (word_at t.hart.memory t.hart.scalar.pc)) t.hart
+KeepsWordIfCut t =
+    (step t.left t.hart).end ≡ Cut
+    → KeepsOwnWord (t.hart.vector.vstart + t.left) (fetched t.hart.memory t.hart.scalar.pc) t.hart
 
 -- ---- the laws
 
@@ -66,7 +67,7 @@ abbrev pub SliceKeepsConfiguration : Type 0
 SliceKeepsConfiguration = (quantum : ℕ) (p : Private) → IsConfigured p → IsConfigured (sliced quantum p).next
 
 -- A slice of m ticks and then one of n give the lines and leave the machine of one slice of m + n ticks, unless the first cuts an
--- instruction that stores over its own word.
+-- instruction that has stored over its own word before.
 abbrev pub CutsAreInvisible : Type 0
 CutsAreInvisible = (m n : ℕ) (p : Private)
     → IsConfigured p

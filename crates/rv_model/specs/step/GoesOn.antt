@@ -1,27 +1,42 @@
--- What the laws of vector instructions that stop and are run again say of one of them, by what it found and what it left.
-use Rattle.std.specs.Prelude.{ℕ, ◌≡◌, ◌+◌, ◌-◌}
+-- What the laws of vector instructions and of steps that stop and are made again say of one of them, by what it found and what it
+-- left.
+use Rattle.std.specs.Prelude.{ℕ, ◌≡◌, ◌≢◌, ◌+◌, ◌-◌, ◌≤◌, List}
 use Rattle.rv_model.specs.declared.instructions.instruction.Instr.{Instr}
 use Rattle.rv_model.specs.declared.step.step_end.StepEnd.TheVariants.{Cut}
-use Rattle.rv_model.specs.accesses.Restarts.{Extends, overlay}
-use Rattle.rv_model.specs.instructions.Table.{scan, table}
+use Rattle.rv_model.specs.declared.step.vector_end.VEnd.TheVariants as vector_end
+use Rattle.rv_model.specs.declared.vector.sizes.TheConstants.{GROUP_BYTES}
+use Rattle.rv_model.specs.accesses.Restarts.{Extends, NextRun, overlay, with_new}
+use Rattle.rv_model.specs.accesses.VectorAccess.{index_count}
 use Rattle.rv_model.specs.memory.Memory.{Memory}
 use Rattle.rv_model.specs.step.Hart.{HartState, Stepped}
-use Rattle.rv_model.specs.step.Resumes.{KeepsOwnWord, LeavesPart, StopsShort, after_ticks, finds}
-use Rattle.rv_model.specs.step.Step.{step, word_at}
+use Rattle.rv_model.specs.step.Repeats.{AreExecutedAgain, AreMadeAgain, IsUncutEnd, last_executed, last_step}
+use Rattle.rv_model.specs.step.Resumes.{IsUndone, KeepsOwnWord, LeavesPart, StopsShort, after_ticks, finds, indices_done}
+use Rattle.rv_model.specs.step.Step.{fetched, step}
 use Rattle.rv_model.specs.step.VectorStep.{VectorStepped, vector_executed}
+use Rattle.rv_model.specs.vector.Configuration.{IsConfiguration}
 
--- a vector instruction that is cut or faults leaves a part done; it is run again in a memory that has grown, and ends and leaves
--- what it would have if what is new had been there from the start, and the limit had counted what was done as well
-pub record InstructionGoesOn (i : Instr) (s : HartState) (r : VectorStepped) : Type 0 where
+-- A vector instruction of at most `limit` indices that is cut or faults leaves a part done, all indices that it might if it is cut.
+-- It is run again in a memory that has grown, and ends and leaves what it would have if what is new had been there from the start,
+-- and the limit had counted what was done as well; and so it is with any number of runs.
+pub record InstructionGoesOn (limit : ℕ) (i : Instr) (s : HartState) (r : VectorStepped) : Type 0 where
   pub part : StopsShort r.end → LeavesPart i s r.state
+  pub cut : (index : ℕ) → r.end ≡ vector_end.Cut index → (index ≡ s.vector.vstart + limit) × (r.state.vector.vstart ≡ index)
   pub again : (later : ℕ) (more : Memory) → StopsShort r.end → Extends r.state.memory more
       → vector_executed later i (finds more r.state)
       ≡ vector_executed (r.state.vector.vstart - s.vector.vstart + later) i (finds (overlay s.memory more) s)
+  pub whole : (nexts : List NextRun) (enough : ℕ) → AreExecutedAgain i r nexts
+      → IsUncutEnd (last_executed i r nexts).end → index_count i s.vector.conf.vl ≤ enough
+      → last_executed i r nexts ≡ vector_executed enough i (finds (with_new s.memory nexts) s)
 
--- a step of at most `limit` ticks that is cut is made again, and both end and leave, and take as many ticks, as the whole one
-abbrev pub StepGoesOn : ℕ → HartState → Stepped → Type 0
-StepGoesOn limit s r = (later : ℕ) (more : Memory)
-    → r.end ≡ Cut
-    → KeepsOwnWord (scan table (word_at s.memory s.scalar.pc)) s
-    → Extends r.state.memory more
-    → step (limit + later) (finds (overlay s.memory more) s) ≡ after_ticks limit (step later (finds more r.state))
+-- A step of at most `limit` ticks that is cut or faults is made again, and both end and leave, and take as many ticks, as the whole
+-- one; and so it is with any number of steps, from a vector length that is one of the vector type.
+pub record StepGoesOn (limit : ℕ) (s : HartState) (r : Stepped) : Type 0 where
+  pub cut : r.end ≡ Cut → r.state.vector.vstart ≡ s.vector.vstart + limit
+  pub again : (later : ℕ) (more : Memory) → IsUndone r.end
+      → KeepsOwnWord r.state.vector.vstart (fetched s.memory s.scalar.pc) s
+      → Extends r.state.memory more
+      → step (indices_done s r + later) (finds (overlay s.memory more) s)
+      ≡ after_ticks (indices_done s r) (step later (finds more r.state))
+  pub whole : (nexts : List NextRun) (enough : ℕ) → IsConfiguration s.vector.conf → AreMadeAgain s r nexts
+      → (last_step s r nexts).end ≢ Cut → GROUP_BYTES ≤ enough
+      → last_step s r nexts ≡ step enough (finds (with_new s.memory nexts) s)

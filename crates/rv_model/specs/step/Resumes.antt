@@ -9,18 +9,18 @@ use Rattle.rv_model.specs.declared.scalar.Scalar.{Scalar}
 use Rattle.rv_model.specs.declared.vector.sizes.TheConstants.{VLENB}
 use Rattle.rv_model.specs.declared.vector.state.VState.{VState}
 use Rattle.rv_model.specs.declared.vector.types.VType.{VType}
-use Rattle.rv_model.specs.declared.step.step_end.StepEnd.TheVariants.{Cut}
+use Rattle.rv_model.specs.declared.step.step_end.StepEnd.{StepEnd}
+use Rattle.rv_model.specs.declared.step.step_end.StepEnd.TheVariants.{Cut, Ebreak, Exit, Fault, OutputFull, Ran}
 use Rattle.rv_model.specs.declared.step.vector_end.VEnd.{VEnd}
 use Rattle.rv_model.specs.declared.step.vector_end.VEnd.TheVariants as vector_end
 use Rattle.rv_model.specs.accesses.Restarts.{Extends, IsStopped, overlay}
 use Rattle.rv_model.specs.accesses.Transfers.{Transfer}
 use Rattle.rv_model.specs.accesses.VectorAccess.{VectorAccess, access_type, indexed_access, mask_length, plan, strided_access, unit_access, unmasked_access}
 use Rattle.rv_model.specs.elements.Arithmetic.{group_type}
-use Rattle.rv_model.specs.instructions.Table.{scan, table}
 use Rattle.rv_model.specs.legality.Legality.{register_count}
 use Rattle.rv_model.specs.memory.Memory.{Memory}
 use Rattle.rv_model.specs.step.Hart.{HartState, Stepped}
-use Rattle.rv_model.specs.step.Step.{step, word_at}
+use Rattle.rv_model.specs.step.Step.{fetched, step}
 use Rattle.rv_model.specs.step.VectorStep.{vector_executed, vector_step}
 use Rattle.rv_model.specs.vector.Configuration.{IsConfiguration}
 
@@ -44,6 +44,13 @@ InstructionStops = (limit : ℕ) (i : Instr) (s : HartState)
     → IsConfiguration s.vector.conf
     → StopsShort (vector_executed limit i s).end
     → LeavesPart i s (vector_executed limit i s).state
+
+-- One that is cut has done just so many indices as there were ticks, and vstart is the first that isn't done.
+abbrev pub InstructionLeavesOff : Type 0
+InstructionLeavesOff = (limit : ℕ) (i : Instr) (s : HartState) (index : ℕ)
+    → IsConfiguration s.vector.conf
+    → (vector_executed limit i s).end ≡ vector_end.Cut index
+    → (index ≡ s.vector.vstart + limit) × ((vector_executed limit i s).state.vector.vstart ≡ index)
 
 -- it is run again in a memory that has grown, and ends and leaves what it would have if what is new had been there from the
 -- start, and the limit had counted what was done as well
@@ -102,21 +109,44 @@ store_access _ v x = None
 abbrev pub IsApart : ℕ → Transfer → Type 0
 IsApart pc t = (x : ℕ) → pc ≤ x → x < pc + 4 → (x < t.address) ⊎ (t.address + t.size ≤ x)
 
--- nor has any transfer of an access from vstart on
-abbrev pub KeepsWord : ℕ → Option VectorAccess → Type 0
-KeepsWord pc None = ⊤
-KeepsWord pc (Some a) = (i : ℕ) → a.body.start ≤ i → i < a.body.end → All (IsApart pc) (plan a false i)
+-- nor has any transfer of an access from vstart on, up to the index `stop`
+abbrev pub KeepsWord : ℕ → ℕ → Option VectorAccess → Type 0
+KeepsWord pc stop None = ⊤
+KeepsWord pc stop (Some a) = (i : ℕ) → a.body.start ≤ i → i < stop → All (IsApart pc) (plan a false i)
 
--- an instruction that isn't a vector store with a byte in its own word
-abbrev pub KeepsOwnWord : Option Instr → HartState → Type 0
-KeepsOwnWord None s = ⊤
-KeepsOwnWord (Some i) s = KeepsWord s.scalar.pc (store_access i s.vector s.scalar)
+-- an instruction that isn't a vector store that stores over its own word before the index `stop`
+abbrev pub KeepsOwnWord : ℕ → Option Instr → HartState → Type 0
+KeepsOwnWord stop None s = ⊤
+KeepsOwnWord stop (Some i) s = KeepsWord s.scalar.pc stop (store_access i s.vector s.scalar)
 
--- a step that is cut and made again fetches the same word, and both end and leave, and take as many ticks, as the whole one
+-- a step is cut or faults, so it is made again
+abbrev pub IsUndone : StepEnd → Type 0
+IsUndone Ran = ⊥
+IsUndone (Exit status) = ⊥
+IsUndone Ebreak = ⊥
+IsUndone OutputFull = ⊥
+IsUndone (Fault cause pc value) = ⊤
+IsUndone Cut = ⊤
+
+-- how many indices a step did; none, unless it was a vector load or store
+abbrev pub indices_done : HartState → Stepped → ℕ
+indices_done before r = r.state.vector.vstart - before.vector.vstart
+
+-- A step that is cut leaves vstart after just so many indices as there were ticks.
+abbrev pub CutStepLeavesOff : Type 0
+CutStepLeavesOff = (limit : ℕ) (s : HartState)
+    → IsConfiguration s.vector.conf
+    → (step limit s).end ≡ Cut
+    → (step limit s).state.vector.vstart ≡ s.vector.vstart + limit
+
+-- A step that is cut or faults, whatever the instruction and the fault are, and is made again in a memory that has grown, ends and
+-- leaves what the whole one does. That takes a tick for each index that was done before, and the ticks of the one that is made again.
+-- Only what a vector store did before it stopped matters for its own word.
 abbrev pub FetchedStepResumes : Type 0
 FetchedStepResumes = (limit later : ℕ) (s : HartState) (more : Memory)
     → IsConfiguration s.vector.conf
-    → (step limit s).end ≡ Cut
-    → KeepsOwnWord (scan table (word_at s.memory s.scalar.pc)) s
+    → IsUndone (step limit s).end
+    → KeepsOwnWord (step limit s).state.vector.vstart (fetched s.memory s.scalar.pc) s
     → Extends (step limit s).state.memory more
-    → step (limit + later) (finds (overlay s.memory more) s) ≡ after_ticks limit (step later (finds more (step limit s).state))
+    → step (indices_done s (step limit s) + later) (finds (overlay s.memory more) s)
+    ≡ after_ticks (indices_done s (step limit s)) (step later (finds more (step limit s).state))

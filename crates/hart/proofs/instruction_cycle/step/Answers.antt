@@ -1,4 +1,5 @@
--- Where no instruction is fetched, nothing marks the seat. A step that is cut goes on: the vector state that it found was lent.
+-- Where no instruction is fetched, nothing marks the seat. A step that is cut or faults goes on: the vector state that it found was lent
+-- where it touched the vector unit.
 use Rattle.std.proofs.Common.{◌≡◌, arith}
 use Rattle.std.proofs.lemmas.Grind.{common_steps}
 use Rattle.rv_model.specs.step.Hart.{HartState, Stepped, ends_after, hart_state}
@@ -12,7 +13,7 @@ returns-in-Err-clause-dirty g c = grind (arith, common_steps)
 
 pub returns-in-Ok-clause-goes_on : goal.returns-in-Ok-clause-goes_on
 unfolding step
-returns-in-Ok-clause-goes_on g c = λ later more cut keeps grown.
+returns-in-Ok-clause-goes_on g c =
     let v = c.args.view.now in
     let n = c.execute.new in
     let before : HartState =
@@ -21,4 +22,14 @@ returns-in-Ok-clause-goes_on g c = λ later more cut keeps grown.
     ends_after c.execute.result.1 c.execute.result.0
     (hart_state n.scalar (g.V.Vectors.lent n.vectors).state (g.M.UserBytes.memory n.memory) v.policy n.output.items) in
     let is : step c.args.limit before ≡ after = grind (arith, common_steps) in
-    step_goes_on c.args.limit before after (c.execute.ensures.configuration cut) is later more cut keeps grown
+    step_goes_on c.args.limit before after (λ touching. c.execute.ensures.configuration (grind (arith, common_steps))) is
+
+pub returns-in-Err-clause-goes_on : goal.returns-in-Err-clause-goes_on
+unfolding step
+returns-in-Err-clause-goes_on g c =
+    let v = c.args.view.now in
+    let before : HartState =
+    hart_state v.scalar.now (g.V.Vectors.lent v.vectors.now).state (g.M.UserBytes.memory v.memory.now) v.policy v.output.now.items in
+    let after : Stepped = ends_after 1 c.fault.result before in
+    let is : step c.args.limit before ≡ after = grind (arith, common_steps) in
+    step_goes_on c.args.limit before after (λ touching. grind (arith, common_steps)) is

@@ -1,12 +1,16 @@
 -- The laws of loads and stores that stop.
 use Rattle.rv_model.proofs.access_lemmas.Growth as growth
 use Rattle.rv_model.proofs.access_lemmas.InstructionsResume as resume
+use Rattle.rv_model.proofs.access_lemmas.LeavesOff as off
 use Rattle.rv_model.proofs.access_lemmas.RunsAgain as runs
 use Rattle.rv_model.proofs.legality_lemmas.Overlaps as overlaps
 use Rattle.rv_model.proofs.step.laws.loads_and_stores_resume.Goals as goal
 
 pub returns-clause-indices : goal.returns-clause-indices
 returns-clause-indices c = overlaps.later_indices_stay
+
+pub returns-clause-leaves : goal.returns-clause-leaves
+returns-clause-leaves c = off.access_leaves_off
 
 pub returns-clause-stops : goal.returns-clause-stops
 returns-clause-stops c = resume.stops_within
