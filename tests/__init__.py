@@ -1,13 +1,17 @@
-"""Tests of the built program `vecmon` from outside: words and scripts go in, and what comes out is compared with what was stored.
+"""Tests of the built program `vecmon` from outside: words and scripts go in, and what comes out is compared with what
+was stored.
 
 - `command_lines`: one command line after another, and the pages of docs/ that show what is answered;
-- `instruction_loops`: what loops of one kind of instruction leave, and how to measure them.
+- `instruction_loops`: what loops of one kind of instruction leave, and how to measure them;
+- `isolation`: programs in slices of each length, and eight users at one machine beside eight private ones.
 
-With the program built (`rt run < stdin` in crates/vecmon) and the packages of `lab/setup`, at the top of the repository:
+With the program built (`rt run < stdin` in crates/vecmon) and the packages of `lab/setup`, at the top of the
+repository:
 
     .venv/bin/python -m pytest tests
     VECMON=crates/vecmon/out/vecmon.by-rattle .venv/bin/python -m pytest tests
 
-The variable VECMON names the program; without it, it is crates/vecmon/out/vecmon. `tools/test` runs both, the program as LLVM builds it
-and as Rattle's own compiler does. What is stored was worked out without the program; no test writes it.
+The variable VECMON names the program; without it, it is crates/vecmon/out/vecmon. `tools/test` runs both, the program
+as LLVM builds it and as Rattle's own compiler does. What is stored was worked out without the program, but for
+counts of how much was compared; no test writes it.
 """

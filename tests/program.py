@@ -1,4 +1,5 @@
-"""The program under test: where it is, what a run of it gives, and which of its answers belongs to which line of a script."""
+"""The program under test: where it is, what a run of it gives, and which of its answers belongs to which line of a
+script."""
 
 import os
 import pathlib
@@ -39,15 +40,15 @@ def lines_of(text: str) -> list[str]:
 
 
 def mark_behind(line: str) -> tuple[str, str]:
-    """A line that changes nothing, to be written behind a line of a script, and its answer, which is no answer to that line.
+    """A line that changes nothing, to be written behind a line of a script, and its answer, which that line never has.
 
-    A user's line is answered by a user's lines, and nobody's line by `* E01` or `* E02`; the operator's line never by `* E01`.
+    A user's line is answered by a user's lines, nobody's by `* E01` or `* E02`, the operator's never by `* E01`.
     """
     return ("9", "* E01") if line.startswith("* ") else ("* dance", "* E03")
 
 
 def answers(program: pathlib.Path, words: Sequence[str], lines: Sequence[str], folder: pathlib.Path) -> list[list[str]]:
-    """What is answered to each line of a script, a text a line. Raises ValueError where that isn't what a plain run answers."""
+    """What is answered to each line of a script. Raises ValueError where a plain run answers otherwise."""
     script = "".join(f"{line}\n{mark_behind(line)[0]}\n" for line in lines)
     told = iter(lines_of(run(program, ["/dev/stdin", *words], script, folder).stdout))
     divided = []

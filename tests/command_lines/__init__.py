@@ -1,18 +1,22 @@
 """What the program answers, in stored runs: pages that show it, and the program on one command line after another.
 
-- `data/`: templates of pages (`*.page`), command lines (`lines`), and the scripts and images that both run; the program runs there;
+- `data/`: templates of pages (`*.page`), command lines (`lines`), and the scripts and images that both run; the program
+  runs there;
 - `stdin`: what stands on standard input of each command line;
-- `stdout`: what is expected: the pages in the order of `pages.py`, a heading, and then what each line of `lines` puts out on standard
-  output, with a line behind it that has the status, the words and, if there is any, what goes to standard error.
+- `stdout`: what is expected: the pages in the order of `pages.py`, a heading, and then what each line of `lines` puts
+  out on standard output, with a line behind it that has the status, the words and, if there is any, what goes to
+  standard error.
 
-`data/manual` is the examples of docs/COMMANDS.md. `data/recorded/script` has each refusal, users side by side, traces, texts of
-instructions and what a line means as a command; then what programs put out; then images that are loaded or refused, and a pool that eight
-users fill; then values of scalar instructions, vector lengths and types, and the manual's rules of which registers may be named together,
-at small examples; and then single instructions as QEMU carries them out at VLEN 256, and small programs with answers worked out by hand;
-then programs that run in slices, with breakpoints, output and an instruction that is cut, side by side and each alone; and last vector
-instructions under the policy that makes agnostic elements ones, as QEMU carries them out.
+`data/manual` is the examples of docs/COMMANDS.md. `data/recorded/script` has each refusal, users side by side, traces,
+texts of instructions and what a line means as a command; then what programs put out; then images that are loaded or
+refused, and a pool that eight users fill; then values of scalar instructions, vector lengths and types, and the
+manual's rules of which registers may be named together, at small examples; and then single instructions as QEMU carries
+them out at VLEN 256, and small programs with answers worked out by hand; then programs that run in slices, with
+breakpoints, output and an instruction that is cut, side by side and each alone; and last vector instructions under the
+policy that makes agnostic elements ones, as QEMU carries them out.
 
-`data/accesses_in_parts` has each kind of vector load and store, whole and cut into slices of a few ticks: where the first slice leaves it,
-how many slices are left, and then the registers or the bytes, with those beside. `data/stopped_accesses` has the same of loads and stores
-that come to the end of memory, and `data/write_calls` what calls put out and answer.
+`data/accesses_in_parts` has each kind of vector load and store, whole and cut into slices of a few ticks: where the
+first slice leaves it, how many slices are left, and then the registers or the bytes, with those beside.
+`data/stopped_accesses` has the same of loads and stores that come to the end of memory, and `data/write_calls` what
+calls put out and answer.
 """

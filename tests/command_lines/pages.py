@@ -1,12 +1,13 @@
 """Pages that show what the program answers, made from templates.
 
-A template is Markdown. A line `## TITLE` begins a section, with a machine of its own. Some lines stand for what is answered:
+A template is Markdown. A line `## TITLE` begins a section, with a machine of its own. Some lines stand for what is
+answered:
 
 - `> LINE`: a line of a script for the section's machine; its answer comes behind it;
-- `$ vecmon WORDS`: a run of the program; both of its outputs come behind it as one, and then its status. With ` > /dev/full` behind the
-  words its standard output takes nothing;
-- `@steps NAME`: the script in the file NAME beside what is answered, in the steps that NAME.steps has: how many lines of the script a
-  step takes, and a sentence;
+- `$ vecmon WORDS`: a run of the program; both of its outputs come behind it as one, and then its status. With
+  ` > /dev/full` behind the words its standard output takes nothing;
+- `@steps NAME`: the script in the file NAME beside what is answered, in the steps that NAME.steps has: how many lines
+  of the script a step takes, and a sentence;
 - `@file NAME`: the text of the file.
 """
 

@@ -35,7 +35,7 @@ def stored() -> Stored:
 
 
 def record(program: pathlib.Path, line: str) -> str:
-    """What the program puts out on a command line, with a line behind it: the status, the words and what goes to standard error."""
+    """What the program puts out, and a line with the status, the words and what goes to standard error."""
     ran = run(program, json.loads(line), (HERE / "stdin").read_text("ascii"), DATA)
     return f"{ran.stdout}{ran.status} {line}{' ' + json.dumps(ran.stderr) if ran.stderr else ''}\n"
 

@@ -25,7 +25,10 @@ def script(name: str, count: int) -> str:
 
 
 def checksums(program: pathlib.Path, count: int) -> str:
-    """The name of each loop and the checksum of what it leaves on one machine, a line each. Raises ValueError where one doesn't end."""
+    """The name of each loop and the checksum of what it leaves on one machine, a line each.
+
+    Raises ValueError where one doesn't end.
+    """
     told = run(program, ["--quantum", QUANTUM], "".join(script(name, count) for name in LOOPS), DATA).stdout
     visits = told.split("1 left\n")
     return "".join(f"{name} {_checksum(_left(visit)):016x}\n" for name, visit in zip(LOOPS, visits[:-1], strict=True))

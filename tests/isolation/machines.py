@@ -1,0 +1,144 @@
+"""One machine of eight users beside eight machines of one user each."""
+
+import pathlib
+import subprocess
+from types import TracebackType
+from typing import Self
+
+from tests.program import difference, mark_behind, run
+
+DATA = pathlib.Path(__file__).parent / "data"
+IMAGES = [f"{name}={name}" for name in ("good", "short", "sortgcc")]
+USERS = range(1, 9)
+MOST_PENDING = 32_768  # bytes of lines that are written at once; a pipe takes them all, so nobody waits for a reader
+
+
+class PrivateMachine:
+    """A machine that a user has alone: a process that is told lines and grants one slice at a time."""
+
+    def __init__(self, program: pathlib.Path, user: int, quantum: int) -> None:
+        words = [str(program), "--quantum", str(quantum), "/dev/stdin", *IMAGES]
+        self._process = subprocess.Popen(words, cwd=DATA, stdin=subprocess.PIPE, stdout=subprocess.PIPE)
+        self._user = user
+        self._is_idle = True  # no slice can be taken, since the program stood when nothing had been told yet behind it
+        self._pending: list[tuple[str, list[str]]] = []
+        self._size = 0
+
+    def tell(self, line: str) -> list[str]:
+        """Has a line carried out at some time before the next slice. Its answer comes into the list."""
+        answer: list[str] = []
+        self._pending.append((line, answer))
+        self._size += len(line)
+        self._is_idle = False
+        if self._size > MOST_PENDING:
+            self.carry_out()
+        return answer
+
+    def carry_out(self) -> None:
+        """Has all lines carried out that were told."""
+        assert self._process.stdin and self._process.stdout
+        lines = (part for line, _ in self._pending for part in (line, mark_behind(line)[0]))
+        self._process.stdin.write("".join(f"{line}\n" for line in lines).encode("latin-1"))
+        self._process.stdin.flush()
+        for line, answer in self._pending:
+            end = f"{mark_behind(line)[1]}\n".encode("latin-1")
+            while (told := self._process.stdout.readline()) != end:
+                assert told.endswith(b"\n"), "a private machine has ended"
+                answer.append(told.decode("latin-1"))
+        self._pending, self._size = [], 0
+
+    def slice(self) -> list[str] | None:
+        """Takes a slice; the stop line, if there is one. None where the program doesn't run."""
+        if self._is_idle:
+            return None
+        answer = self.tell(f"* run {self._user}")
+        self.carry_out()
+        *stop, granted = answer
+        self._is_idle = bool(stop) or granted == "* granted 0\n"
+        return None if granted == "* granted 0\n" else stop
+
+    def end(self) -> None:
+        """Ends the process, with all lines carried out."""
+        self.carry_out()
+        self._process.communicate()
+
+
+class Machines:
+    """The script of the machine that has all users, and what it should answer, which the private machines tell."""
+
+    def __init__(self, program: pathlib.Path, quantum: int) -> None:
+        self.commands = 0
+        self.slices = 0
+        self._program = program
+        self._quantum = quantum
+        self._private = {user: PrivateMachine(program, user, quantum) for user in USERS}
+        self._last = USERS[-1]  # whose slice was the last in turn
+        self._script: list[str] = []
+        self._wanted: list[list[str]] = []
+
+    def __enter__(self) -> Self:
+        return self
+
+    def __exit__(self, kind: type[BaseException] | None, fault: BaseException | None, at: TracebackType | None) -> None:
+        for machine in self._private.values():
+            machine.end()
+
+    def line(self, user: int, line: str) -> None:
+        """A line of a user, or one that a user writes who isn't in good faith: it comes to both machines."""
+        self._add(line, self._private[user].tell(line))
+
+    def command(self, user: int, command: str) -> None:
+        """A user's command."""
+        self.line(user, f"{user} {command}")
+
+    def show(self, everything: list[str]) -> None:
+        """Commands of each user, which show all that a user has."""
+        for user in USERS:
+            for command in everything:
+                self.command(user, command)
+
+    def operators(self, user: int) -> list[str]:
+        """What the operator of a user's own machine is told about it; the answer comes into the list."""
+        return self._private[user].tell("* list")
+
+    def slices_in_turn(self, count: int) -> None:
+        """The operator grants at most so many slices in turn."""
+        told: list[str] = []
+        granted = 0
+        while granted < count and (stop := self._turn()) is not None:
+            told += stop
+            granted += 1
+        self._grant(f"* slices {count}", told, granted)
+
+    def run(self, user: int) -> None:
+        """The operator grants a slice to a user, out of turn."""
+        stop = self._private[user].slice()
+        self._grant(f"* run {user}", stop or [], 0 if stop is None else 1)
+
+    def difference(self) -> tuple[str, str]:
+        """What the machine that has all users answers, and where that isn't what it should."""
+        for machine in self._private.values():
+            machine.carry_out()
+        script = "".join(f"{line}\n" for line in self._script)
+        told = run(self._program, ["--quantum", str(self._quantum), "/dev/stdin", *IMAGES], script, DATA).stdout
+        return told, difference(told, "".join(part for answer in self._wanted for part in answer))
+
+    def _turn(self) -> list[str] | None:
+        """A slice of the first user whose program runs, behind the one whose turn was last. None if there is none."""
+        for user in (*range(self._last + 1, USERS.stop), *range(1, self._last + 1)):
+            stop = self._private[user].slice()
+            if stop is not None:
+                self._last = user
+                return stop
+        return None
+
+    def _grant(self, line: str, told: list[str], granted: int) -> None:
+        """An operator's line that grants slices, and what these told."""
+        self.slices += granted
+        self._add(line, [*told, f"* granted {granted}\n"])
+
+    def _add(self, line: str, wanted: list[str]) -> None:
+        """A line of the script, and its answer."""
+        self.commands += 1
+        self._script.append(line)
+        self._wanted.append(wanted)
