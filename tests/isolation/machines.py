@@ -20,7 +20,7 @@ class PrivateMachine:
         words = [str(program), "--quantum", str(quantum), "/dev/stdin", *IMAGES]
         self._process = subprocess.Popen(words, cwd=DATA, stdin=subprocess.PIPE, stdout=subprocess.PIPE)
         self._user = user
-        self._is_idle = True  # no slice can be taken, since the program stood when nothing had been told yet behind it
+        self._is_idle = True  # whether it is known that the program doesn't run: nothing was told since it stopped
         self._pending: list[tuple[str, list[str]]] = []
         self._size = 0
 
