@@ -1,5 +1,6 @@
 //! The files of images.
-ghost use Rattle.std.specs.Prelude.{◌≡◌, ◌⊎◌, IfErr, IfOk, map};
+ghost use Rattle.std.specs.Prelude.{◌≡◌, ◌≤◌, ◌⊎◌, IfErr, IfOk, length, map};
+ghost use Rattle.std.specs.Io.KnownBytes.{Consumes, IsAtEnd};
 ghost use Rattle.std.specs.List.{AllZip, Any};
 ghost use Rattle.monitor_machine.specs.Images.{named_images};
 ghost use Rattle.vec_monitor.specs.ImageFiles.{named_file};
@@ -10,7 +11,7 @@ use crate::program_fault::ProgramFault;
 use monitor_machine::{Image, MAX_IMAGE};
 use std::alloc::{AllocError, Allocator};
 use std::fs;
-use std::io::{ErrorKind, Read};
+use std::io::Read;
 use std::rt::Files;
 
 /// The file of an image, by the image's name.
@@ -20,8 +21,45 @@ pub struct ImageFile<'a, A: Allocator> {
     pub bytes: Vec<u8, A>,
 }
 
-/// Reads the file of an image: all its bytes, or one more than an image may have. Refused where the
-/// file can't be opened or read, and for want of memory.
+/// The most bytes that are read of a file: one more than an image may have.
+const MOST_READ: usize = MAX_IMAGE + 1;
+
+/// The most bytes of a read.
+const PIECE: usize = 4096;
+
+/// The bytes that a file gives, up to its end or up to one more than an image may have. A read that
+/// fails isn't tried again, not even one that was interrupted.
+fn read_bytes<'a, F: Read, A: Allocator>(
+    file: &mut F,
+    alloc: A,
+    name: &'a str,
+) -> Result<Vec<u8, A>, ProgramFault<'a>>
+    ensures given { IfOk result (λ bytes.
+        Consumes (F.remaining file.old) (F.remaining file.new) bytes.items) }
+    ensures most { IfOk result (λ bytes. length bytes.items ≤ 4194305) }
+    ensures whole { IfOk result (λ bytes.
+        length bytes.items ≤ 4194304 → IsAtEnd (F.remaining file.new)) }
+    ensures refused { IfErr result (λ fault. (fault ≡ NoMemory) ⊎ (fault ≡ ImageRead name.entry)) }
+{
+    let mut bytes = Vec::new(alloc);
+    let mut left = MOST_READ;
+    let mut piece = [0; PIECE];
+    while left > 0 {
+        let room = left.min(PIECE);
+        let Ok(count) = file.read(&mut piece[..room]) else {
+            return Err(ProgramFault::ImageRead(name));
+        };
+        if count == 0 {
+            return Ok(bytes);
+        }
+        bytes.extend_from_slice(&piece[..count])?;
+        left -= count;
+    }
+    Ok(bytes)
+}
+
+/// Reads the file of an image. Refused where the file can't be opened or read, and for want of
+/// memory.
 fn read_image<'a, R: Files, A: Allocator>(
     rt: &R,
     alloc: A,
@@ -31,15 +69,11 @@ fn read_image<'a, R: Files, A: Allocator>(
     ensures refused { IfErr result (λ fault. (fault ≡ NoMemory) ⊎ (fault ≡ ImageRead image.entry.name)) }
 {
     let name = image.name;
-    let Ok(file) = fs::open(rt, image.path) else {
+    let Ok(mut file) = fs::open(rt, image.path) else {
         return Err(ProgramFault::ImageRead(name));
     };
-    let mut bytes = Vec::new(alloc);
-    match file.take(MAX_IMAGE as u64 + 1).read_to_end(&mut bytes) {
-        Ok(_) => Ok(ImageFile { name, bytes }),
-        Err(error) if error.kind() == ErrorKind::OutOfMemory => Err(ProgramFault::NoMemory),
-        Err(_) => Err(ProgramFault::ImageRead(name)),
-    }
+    let bytes = read_bytes(&mut file, alloc, name)?;
+    Ok(ImageFile { name, bytes })
 }
 
 /// Reads the files of the images, in their order, up to the first that can't be read.

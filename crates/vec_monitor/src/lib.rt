@@ -2,7 +2,6 @@
 //! the scripts that it runs.
 #![tactic(auto)]
 
-mod arguments;
 mod command_line;
 mod image_files;
 mod image_words;
@@ -10,12 +9,12 @@ mod program;
 mod program_fault;
 mod words;
 
-pub use arguments::vecmon_with_arguments;
 pub use command_line::{Options, UsageFault};
 pub use monitor_machine::{Image, Machine, NewFault};
 pub use monitor_script::{DeviceFault, ReaderSource, RunFault, Sink, Source, WriterSink, run};
-pub use program::vecmon;
+pub use program::{report, vecmon};
 pub use program_fault::{
-    STATUS_DONE, STATUS_IMAGE, STATUS_NO_MEMORY, STATUS_OUTPUT, STATUS_SCRIPT, STATUS_USAGE,
+    ProgramFault, STATUS_DONE, STATUS_IMAGE, STATUS_NO_MEMORY, STATUS_OUTPUT, STATUS_SCRIPT,
+    STATUS_USAGE,
 };
 pub use words::options;
