@@ -103,6 +103,13 @@ class Store:
             fcntl.flock(self._lock, fcntl.LOCK_EX | fcntl.LOCK_NB)
         except BlockingIOError:
             raise BadFolder(f"{folder} is served by another server") from None
+        try:
+            self._open(images, quantum, machines)
+        except BaseException:
+            self.close()
+            raise
+
+    def _open(self, images: Mapping[str, pathlib.Path], quantum: int | None, machines: int | None) -> None:
         kept = self.read("class.json")
         facts = self._facts(kept, images, quantum, machines) if kept else self._begin(images, quantum, machines)
         self.quantum: int = facts["quantum"]

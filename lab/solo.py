@@ -1,6 +1,7 @@
 """One student's part of a class: a script that gives the same lines again, alone on a machine."""
 
 import argparse
+import contextlib
 import pathlib
 import sys
 from collections.abc import Iterable, Iterator
@@ -25,16 +26,16 @@ def run(arguments: argparse.Namespace) -> int:
     """Prints the script, when it has given the same lines. Raises LabError where there is none."""
     if not (arguments.folder / "class.json").is_file():
         raise LabError(f"{arguments.folder} has no class")
-    store = Store(arguments.folder, find_program())
-    machine, digit = arguments.seat[:-1], arguments.seat[-1:]
-    if not machine or machine not in list(store.machines) or digit not in list(DIGITS):
-        raise LabError(f"there is no seat {arguments.seat}; A1 is one")
-    lines = ScriptFile(arguments.folder / f"{machine}.script").kept.decode("ascii").splitlines()
-    with store.session(PATIENCE) as session:
-        script, expected = solo_script(session, lines, digit)
-    with store.session(PATIENCE) as session:
-        if own_lines(session, script, digit) != expected:
-            raise LabError(f"the lines of {arguments.seat} alone are others than in the class")
+    with contextlib.closing(Store(arguments.folder, find_program())) as store:
+        machine, digit = arguments.seat[:-1], arguments.seat[-1:]
+        if not machine or machine not in list(store.machines) or digit not in list(DIGITS):
+            raise LabError(f"there is no seat {arguments.seat}; A1 is one")
+        lines = ScriptFile(arguments.folder / f"{machine}.script").kept.decode("ascii").splitlines()
+        with store.session(PATIENCE) as session:
+            script, expected = solo_script(session, lines, digit)
+        with store.session(PATIENCE) as session:
+            if own_lines(session, script, digit) != expected:
+                raise LabError(f"the lines of {arguments.seat} alone are others than in the class")
     sys.stdout.writelines(f"{line}\n" for line in script)
     return 0
 
