@@ -17,15 +17,17 @@ pytestmark = pytest.mark.asyncio
 
 
 class StandIn:
-    """A machine at which nobody is there; it waits before each line that does something."""
+    """A machine at which nobody is there; it waits before each line that does something, which is on the disk then."""
 
-    def __init__(self) -> None:
+    def __init__(self, path: pathlib.Path) -> None:
+        self.path = path
         self.order: list[str] = []
         self.go = threading.Semaphore(0)
         self.size, self.lines, self.digest, self.losses = 0, 0, "", list[str]()
 
     def do(self, line: str) -> list[str]:
         self.go.acquire()
+        assert self.path.read_text("ascii").endswith(f"{line}\n")
         self.order.append(line[0])
         return [f"{line[0]} E05" if line[0] != "*" else "* granted 0"]
 
@@ -43,7 +45,7 @@ class Machine:
     """A room with a stand-in."""
 
     def __init__(self, folder: pathlib.Path) -> None:
-        self.session: Any = StandIn()
+        self.session: Any = StandIn(folder / "A.script")
         session: Session = self.session
         self.room = Room("A", session, ScriptFile(folder / "A.script"))
 
