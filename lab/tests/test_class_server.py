@@ -58,7 +58,8 @@ async def test_looks_are_not_recorded_and_change_nothing(room: Served) -> None:
 @pytest.mark.parametrize("look", ["step 1", "out", "set x1 1", "", "list", "regsx", "Regs"])
 async def test_looks_that_are_none(room: Served, look: str) -> None:
     tab = await room.sit("A1")
-    assert "isn't a line that only looks" in (await tab.ask("lines", do=["enter"], look=[look]))["error"]
+    told = await tab.ask("lines", do=["enter"], look=[look])
+    assert "isn't a line that only looks" in told["error"] and told["done"] == []
     assert tab.view["state"]["run"] == "absent"
 
 
