@@ -1,11 +1,4 @@
-"use strict";
-
-// A tab of the class: its code, what it was told, and whose page it is.
-
-/** Puts a text into an element where it is another one. */
-function put(element, text) {
-  if (element.textContent !== text) element.textContent = text;
-}
+"use strict"; // A tab of the class: its code, what it was told, and whose page it is.
 
 /** Shows a sentence at the top, or nothing. */
 function say(id, words) {
@@ -49,11 +42,8 @@ class ClassTab {
 
 window.addEventListener("hashchange", () => (sitDown(location.hash.slice(1)), location.reload()));
 byId("forget").addEventListener("click", () => (sitDown(""), location.reload()));
-byId("join").addEventListener("submit", (event) => {
-  event.preventDefault();
-  sitDown(byId("code").value.trim());
-  location.reload();
-});
+document.addEventListener("submit", (event) => event.preventDefault());
+byId("join").addEventListener("submit", () => (sitDown(byId("code").value.trim()), location.reload()));
 if (location.hash) sitDown(location.hash.slice(1));
 if (sessionStorage.getItem("code")) new ClassTab(sessionStorage.getItem("code"));
 else askForCode("");

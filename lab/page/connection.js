@@ -1,9 +1,6 @@
-"use strict";
+"use strict"; // The way to the class: one WebSocket, one request after the other, growing pauses where it is gone.
 
-// The way to the class: one WebSocket, one request after the other, and growing pauses where the server is gone.
-
-const FIRST_PAUSE = 500; // ms
-const LONGEST_PAUSE = 15000;
+const [FIRST_PAUSE, LONGEST_PAUSE] = [500, 15000]; // ms
 const LONGEST_SILENCE = 60000; // until a request without an answer tells that the connection is broken
 const ENDINGS = { 4403: "This code isn't valid, or not any more.", 4429: "This seat is open in too many tabs." };
 
@@ -45,7 +42,7 @@ class Connection {
       this.gone(`The class isn't there now. ${this.lost}`);
       return null;
     }
-    if (this.lost) this.gone((this.lost = ""));
+    if (this.lost && request.ask !== "shoulder") this.gone((this.lost = ""));
     return new Promise((done) => {
       this.waiting.push({ request: { id: ++this.number, ...request }, words, done });
       if (this.waiting.length === 1) this.next();

@@ -1,9 +1,7 @@
-"use strict";
-
-// A seat's machine, live: what a tab was told of it is painted, and what a student clicks and types becomes lines.
+"use strict"; // A seat's machine, live: what was told of it is painted, and what a student does becomes lines.
 
 const LOG_LENGTH = 500;
-const MOST_WAITING = 5; // requests; keys that repeat faster are left out
+const MOST_WAITING = 5; // requests: keys that repeat faster are left out
 const NEW_MACHINE = ["enter", "map 10000 1 rwx", "map 20000 1 rw", "setpc 10000"];
 
 /** Adds entries to a log in one batch, and shows its end. */
@@ -21,21 +19,6 @@ function seatEntry(entry) {
   return item;
 }
 
-/** Gives a place in a panel the focus. */
-function focusPlace(place) {
-  if (place) place.tabIndex = -1;
-  place?.focus();
-}
-
-/** The place that an arrow key leads to: beside this one, or in the next row. */
-function nextPlace(box, from, key) {
-  const places = (row) => (row.dataset.edit ? [row] : [...row.querySelectorAll("[data-edit]")]);
-  const rows = [...box.querySelectorAll("tr")].map(places).filter((row) => row.length);
-  const row = rows.findIndex((each) => each.includes(from));
-  const [down, right] = { ArrowUp: [-1, 0], ArrowDown: [1, 0], ArrowLeft: [0, -1], ArrowRight: [0, 1] }[key];
-  return row < 0 ? rows[0]?.[0] : rows[row + down]?.[rows[row].indexOf(from) + right];
-}
-
 /** The bytes of a register with another element; all bytes in hexadecimal, the least first. */
 function withElement(bytes, width, place, value) {
   const turned = (digits) => digits.match(/../g).reverse().join("");
@@ -51,7 +34,6 @@ class Desk {
     this.state = this.before = { run: "absent" };
     this.used = new Set(); // vector registers that weren't zero since the machine began
     this.refusal = ""; // of what was sent last
-    this.focused = ""; // the place that was changed last
   }
 
   show(state, entries, isAnew) {
@@ -65,19 +47,14 @@ class Desk {
     this.paint();
   }
 
-  /** Paints it; the place that had the focus has it again. A machine that runs may never have been looked at. */
+  /** Paints it. A machine that runs may never have been looked at. */
   paint() {
-    const focused = document.activeElement.dataset.edit ?? this.focused;
     this.view.paint(this.state.x ? this.state : { run: "absent" }, this.before.x && this.before, this.used);
     this.showStage();
-    if (!focused || document.activeElement !== document.body) return;
-    this.focused = "";
-    focusPlace(byId("machine").querySelector(`[data-edit="${focused}"]`));
   }
 
   showStage() {
-    const remarks = { absent: "Nobody has entered here: a new machine, a source or an image begins one.", running: RUNS };
-    const remark = remarks[this.state.run];
+    const remark = { absent: "nobody has entered: a new machine or a source begins", running: RUNS }[this.state.run];
     byId("step").replaceChildren(...(remark ? [make("small", "", remark)] : []), ...instructionPart(this.state));
     showStop([this.refusal, this.state.stop].filter(Boolean).join(" "));
   }
@@ -101,19 +78,13 @@ class Student {
 
   listen() {
     const on = (id, event, heard) => byId(id).addEventListener(event, heard);
-    const onSubmit = (id, heard) => on(id, "submit", (event) => (event.preventDefault(), heard()));
-    for (const button of document.querySelectorAll("[data-do]")) {
-      button.addEventListener("click", () => this.send([button.dataset.do]));
-    }
-    onSubmit("steps", () => this.send([`step ${byId("number").value}`]));
-    onSubmit("command", () => this.command());
-    onSubmit("change", () => this.change());
+    document.querySelectorAll("[data-do]").forEach(({ id, dataset }) => on(id, "click", () => this.send([dataset.do])));
+    on("steps", "submit", () => this.send([`step ${byId("number").value}`]));
+    on("command", "submit", () => this.command());
+    on("change", "submit", () => this.change());
     on("slice", "click", () => this.request({ ask: "lines", slices: 1 }, "a slice"));
     on("new", "click", () => this.send([...this.leaving(), ...NEW_MACHINE]));
-    on("images", "change", () => {
-      this.send([...this.leaving(), "enter", `load ${byId("images").value}`]);
-      byId("images").selectedIndex = 0;
-    });
+    on("images", "change", () => this.send([...this.leaving(), "enter", `load ${byId("images").value}`]));
     on("line", "keydown", (event) => this.recall(event));
     on("source", "input", () => this.numberLines());
     on("source", "scroll", () => (byId("numbers-of-lines").scrollTop = byId("source").scrollTop));
@@ -121,7 +92,6 @@ class Student {
     for (const side of ["listing", "source"]) on(`show-${side}`, "click", () => this.showSide(side));
     on("edit-close", "click", () => byId("edit").close());
     on("machine", "click", (event) => this.edit(event.target.closest("[data-edit]")));
-    on("machine", "keydown", (event) => this.move(event));
     document.addEventListener("keydown", (event) => this.pressed(event));
   }
 
@@ -136,11 +106,12 @@ class Student {
     byId("slice").hidden = !view.own_slices;
     put(byId("clock"), `the clock is ${view.clock ? "on" : "off"}`);
     const share = Math.floor((100 * view.share.used) / view.share.of);
-    say("trouble", `${view.trouble} ${share < 90 ? "" : `${share} % of this seat's share of the script is used up.`}`.trim());
-    if (byId("images").length <= view.images.length) {
-      byId("images").replaceChildren(...["Load …", ...view.images].map((name) => make("option", "", name)));
-    }
+    const warning = share < 90 ? "" : `${share} % of this seat's share of the script is used up.`;
+    say("trouble", [view.trouble, warning].join(" ").trim());
+    const images = ["Load …", ...view.images].map((name) => make("option", "", name));
+    if (byId("images").length < images.length) byId("images").replaceChildren(...images);
     byId("images").hidden = view.images.length === 0;
+    byId("images").selectedIndex = 0;
     this.desk.show(view.state, logs[view.seat] ?? [], isAnew);
     byId("log").ariaLive = "polite";
   }
@@ -156,7 +127,7 @@ class Student {
   }
 
   send(lines) {
-    return this.request({ ask: "lines", do: lines }, lines.length > 1 ? `${lines[0]} and ${lines.length - 1} more` : lines[0]);
+    return this.request({ ask: "lines", do: lines }, lines.join(", "));
   }
 
   refuse(words) {
@@ -194,35 +165,22 @@ class Student {
     if (this.connection.waiting.length < MOST_WAITING) byId(id).click();
   }
 
-  /** Arrow keys go through the values of a panel, Enter changes one. */
-  move(event) {
-    const box = event.target.closest(".scroll:not(#log)");
-    if (!box || event.ctrlKey || event.altKey || event.metaKey) return;
-    if (event.key.startsWith("Arrow")) focusPlace(nextPlace(box, event.target, event.key));
-    else if (event.key === "Enter") this.edit(event.target.closest("[data-edit]"));
-    else return;
-    event.preventDefault();
-  }
-
   /** Sets or removes a breakpoint, or asks for another value. */
   edit(place) {
-    if (!place || this.desk.state.run !== "stopped") return;
+    if (!place || this.desk.state.run !== "stopped") return undefined;
     const [word, first, , index] = place.dataset.edit.split(" ");
-    if (word === "break") return void this.send([`${this.desk.state.breaks.includes(first) ? "un" : ""}break ${first}`]);
-    this.desk.focused = place.dataset.edit;
+    if (word === "break") return this.send([`${this.desk.state.breaks.includes(first) ? "un" : ""}break ${first}`]);
+    this.changed = place.dataset.edit;
     byId("edit-name").textContent = [word, first, index && `element ${index}`].filter(Boolean).join(" ");
     byId("value").value = place.firstChild.data;
-    const { left, bottom } = place.getBoundingClientRect();
-    byId("edit").style.left = `${Math.max(4, Math.min(left, innerWidth - 420))}px`;
-    byId("edit").style.top = `${Math.min(bottom + 4, innerHeight - 60)}px`;
     byId("edit").showModal();
-    byId("value").select();
+    return byId("value").select();
   }
 
   /** Sends the line that writes a value, which is decimal where decimal ones are shown. */
   change() {
     const text = byId("value").value.trim();
-    const [word, first, width, index, form] = this.desk.focused.split(" ");
+    const [word, first, width, index, form] = this.changed.split(" ");
     byId("edit").close();
     if (word === "setpc" || word === "poke") return this.send([`${word} ${first ?? ""} ${text}`]);
     const isDecimal = form ? form !== "hexadecimal" : byId("numbers").value === "signed";

@@ -1,6 +1,4 @@
-"use strict";
-
-// A lesson: frames that were made beforehand, stepped forth and back. Each has what changed of the users' states.
+"use strict"; // A lesson: frames made beforehand, stepped forth and back. Each has what changed of the states.
 
 const ADDRESS_DELAY = 300; // ms: a browser takes only so many new addresses in a time
 
@@ -23,9 +21,8 @@ class Lesson {
 
   /** The vector registers of a user that aren't zero in some frame. */
   usedRegisters(user) {
-    const vectors = this.states.flatMap((states) => states[user]?.v ?? []);
-    const numbers = Array.from({ length: 32 }, (_, number) => number);
-    return new Set(numbers.filter((number) => vectors.some((v) => /[^0]/.test(v[number]))));
+    const registers = this.states.flatMap((states) => Object.entries(states[user]?.v ?? {}));
+    return new Set(registers.filter(([, bytes]) => /[^0]/.test(bytes)).map(([number]) => Number(number)));
   }
 
   listen() {
@@ -55,21 +52,13 @@ class Lesson {
     if (event.ctrlKey || event.altKey || event.metaKey || event.target.matches("select, input")) return;
     const box = event.target.closest(".scroll, #output");
     if (box && box.scrollWidth > box.clientWidth) return; // there the keys move the box
-    const sentences = (places) => places.find((place) => this.frames[place]?.note) ?? this.place;
-    const moves = {
-      ArrowRight: () => this.place + 1,
-      ArrowLeft: () => this.place - 1,
-      Home: () => 0,
-      End: () => this.frames.length - 1,
-    };
-    const leaps = {
-      ArrowRight: () => sentences(this.frames.map((_, place) => place).slice(this.place + 1)),
-      ArrowLeft: () => sentences(this.frames.map((_, place) => place).slice(0, this.place).reverse()),
-    };
-    const move = (event.shiftKey ? leaps : moves)[event.key];
-    if (!move) return;
+    const step = { ArrowRight: 1, ArrowLeft: -1 }[event.key];
+    const end = event.shiftKey ? undefined : { Home: 0, End: this.frames.length - 1 }[event.key];
+    if (!step && end === undefined) return;
     event.preventDefault();
-    this.show(move());
+    let place = end ?? this.place + step;
+    while (event.shiftKey && this.frames[place] && !this.frames[place].note) place += step; // to the next sentence
+    if (this.frames[place]) this.show(place);
   }
 
   /** Shows a frame, the nearest one where there is none of this number. */
@@ -106,7 +95,7 @@ class Lesson {
   /** The author's sentence, which stands until the next one, what was done, and what stopped or was refused. */
   showStage(frame, state, user, states) {
     const note = this.frames.slice(0, this.place + 1).findLast((each) => each.note)?.note ?? "";
-    replaceText(byId("sentence"), note, prose(note));
+    put(byId("sentence"), note, prose(note));
     const words = frame.log.map((_, place) => this.entryWords(frame.log, place, states)).filter(Boolean).join(" ");
     showStop(words);
     const more = frame.more ? `, and ${frame.more} line${frame.more > 1 ? "s" : ""} more` : "";
@@ -135,7 +124,7 @@ class Lesson {
     const log = byId("log");
     const end = this.frames.slice(0, this.place + 1).reduce((sum, frame) => sum + frame.log.length, 0);
     while (log.childElementCount > end) log.lastChild.remove();
-    log.append(...this.entries.slice(log.childElementCount, end).map(logEntry));
+    log.append(...this.entries.slice(log.childElementCount, end).map((entry) => logEntry(entry)));
     log.querySelectorAll(".current").forEach((item) => item.classList.remove("current"));
     [...log.children].slice(end - current).forEach((item) => item.classList.add("current"));
   }

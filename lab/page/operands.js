@@ -1,6 +1,4 @@
-"use strict";
-
-// Which vector registers an instruction names, and what they hold for it: told by its canonical text.
+"use strict"; // Which vector registers an instruction names, and what they hold for it: told by its canonical text.
 
 // Loads and stores: direction, fields of a segment, whether the width is that of indices, width; or a mask; or how many
 // whole registers, and their width.

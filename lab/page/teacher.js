@@ -1,16 +1,10 @@
-"use strict";
-
-// The teacher's page: the seats of each machine, the clock, the operator's lines, and a seat looked at over the shoulder.
+"use strict"; // The teacher's page: seats, clocks, the operator's lines, and a seat looked at.
 
 /** An answer without the leading zeros of its addresses. */
 const short = (answer) => answer.replace(/=0+(?=[0-9a-f])/g, "=");
 
-function namedButton(text, name, clicked) {
-  const button = make("button", "", text);
-  button.ariaLabel = name;
-  button.addEventListener("click", clicked);
-  return button;
-}
+/** A button whose name says more than its text. */
+const button = (text, ariaLabel, onclick) => Object.assign(make("button", "", text), { ariaLabel, onclick });
 
 /** A machine of the class, with its eight seats. */
 class ClassMachine {
@@ -21,7 +15,7 @@ class ClassMachine {
     this.box.querySelector("tbody").append(...this.rows.map(({ row }) => row));
     this.box.querySelector("h2").textContent = `Machine ${letter}`;
     const on = (name, kind, heard) => this.part(name).addEventListener(kind, heard);
-    const ask = (request) => teacher.request({ machine: letter, ...request }, request.ask);
+    const ask = (request) => teacher.request({ machine: letter, ...request });
     for (const name of ["on", "slices", "ms"]) {
       const [slices, ms] = [this.part("slices"), this.part("ms")];
       on(name, "change", () => {
@@ -34,14 +28,14 @@ class ClassMachine {
   }
 
   row(seat, teacher) {
-    const code = make("a", "");
-    Object.assign(code, { target: "_blank", rel: "noopener" });
-    const look = namedButton("Look", `Look at seat ${seat}`, () => teacher.lookAt(seat));
-    const renew = namedButton("New code", `New code for seat ${seat}`, () => teacher.request({ ask: "renew", seat }, "renew"));
+    const code = Object.assign(make("a", ""), { target: "_blank", rel: "noopener" });
+    const lookAt = () => teacher.request({ ask: "shoulder", seat: seat === teacher.seat ? "" : seat });
+    const look = button("Look", `Look at seat ${seat}`, lookAt);
+    const renew = button("New code", `New code for seat ${seat}`, () => teacher.request({ ask: "renew", seat }));
     const run = make("span", "pill");
     const [tabs, pc, stop, line, used] = ["", "", "wraps", "wraps", ""].map((kind) => make("td", kind));
-    const cells = [make("td", "", look), make("td", "", code, " ", renew), tabs, make("td", "", run), pc, stop, line, used];
-    const row = make("tr", "", header("row", seat), ...cells);
+    const controls = [make("td", "", look), make("td", "", code, " ", renew), tabs, make("td", "", run)];
+    const row = make("tr", "", header("row", seat), ...controls, pc, stop, line, used);
     row.dataset.seat = seat;
     return { seat, row, code, look, tabs, run, pc, stop, line, used };
   }
@@ -65,13 +59,12 @@ class ClassMachine {
     }
     this.part("on").checked = machine.clock.on;
     this.part("own").checked = machine.own_slices;
-    const trouble = this.box.querySelector(".trouble");
-    trouble.hidden = !machine.trouble;
-    put(trouble, machine.trouble);
-    const [lines, bytes, most] = [machine.lines, machine.script, machine.of].map((number) => number.toLocaleString("en"));
-    const replaced = machine.restarts ? `; processes replaced: ${machine.restarts}` : "";
-    const figures = `Script: ${lines} lines, ${bytes} of ${most} bytes${replaced}; SHA-256 of all answers: ${machine.digest}`;
-    put(this.box.querySelector(".figures"), figures);
+    this.box.querySelector(".trouble").hidden = !machine.trouble;
+    put(this.box.querySelector(".trouble"), machine.trouble);
+    const [lines, bytes, most] = [machine.lines, machine.script, machine.of].map((each) => each.toLocaleString("en"));
+    const replaced = machine.restarts ? `; processes replaced: ${machine.restarts} (${machine.loss})` : "";
+    const script = `Script: ${lines} lines, ${bytes} of ${most} bytes${replaced}`;
+    put(this.box.querySelector(".figures"), `${script}; SHA-256 of all answers: ${machine.digest}`);
   }
 }
 
@@ -84,7 +77,7 @@ class Teacher {
     document.title = "Teacher – vecmon";
     put(byId("who"), "Teacher");
     byId("teacher").hidden = false;
-    byId("operate").addEventListener("submit", (event) => (event.preventDefault(), this.operate()));
+    byId("operate").addEventListener("submit", () => this.operate());
   }
 
   show(view, logs, isAnew) {
@@ -98,10 +91,10 @@ class Teacher {
     for (const letter of letters) this.machines[letter].show(view.machines[letter], view.share, view.shoulder);
     say("trouble", view.trouble);
     if (isAnew) byId("operator-log").replaceChildren();
-    const items = letters.flatMap((letter) => (logs[letter] ?? []).map((entry) => logEntry(entry)));
-    addToLog(byId("operator-log"), items);
+    const item = (letter) => (entry) => logEntry(entry, false, letters.length > 1 ? `${letter} ` : "");
+    addToLog(byId("operator-log"), letters.flatMap((letter) => (logs[letter] ?? []).map(item(letter))));
     byId("operator-log").ariaLive = "polite";
-    if (isAnew && this.seat) this.request({ ask: "shoulder", seat: this.seat }, "shoulder"); // as before the connection broke
+    if (isAnew && this.seat) this.request({ ask: "shoulder", seat: this.seat }); // as before the connection broke
     const isOther = isAnew || view.shoulder !== this.seat;
     this.seat = view.shoulder;
     byId("desk").hidden = !this.seat;
@@ -109,18 +102,14 @@ class Teacher {
     if (this.seat) this.desk.show(view.state, logs[this.seat] ?? [], isOther);
   }
 
-  lookAt(seat) {
-    this.request({ ask: "shoulder", seat: seat === this.seat ? "" : seat }, "shoulder");
-  }
-
   operate() {
     const line = byId("operator-line").value.trim();
     byId("operator-line").value = "";
-    if (line) this.request({ ask: "lines", machine: byId("operated").value, do: [line] }, line);
+    if (line) this.request({ ask: "lines", machine: byId("operated").value, do: [line] });
   }
 
-  async request(request, words) {
-    const answer = await this.connection.ask(request, words);
+  async request(request) {
+    const answer = await this.connection.ask(request, request.do?.[0] ?? request.ask);
     if (answer?.error) say("gone", answer.error);
   }
 

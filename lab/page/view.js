@@ -1,7 +1,5 @@
-"use strict";
-
-// Paints what the machine told of one user: a plain object goes in, and what it was before, for what changed. What can be
-// changed has the beginning of the line that does it as `data-edit`; a vector element its register, width, place and form.
+"use strict"; // Paints what the machine told of one user: an object goes in, and what it was before, for what changed.
+// What a line can change has the line's beginning as `data-edit`; an element has its register, width, place and form.
 
 const byId = (id) => document.getElementById(id);
 
@@ -17,11 +15,7 @@ function make(tag, kind, ...contents) {
 const unseen = (text) => make("span", "unseen", text);
 
 /** A column's or a row's header. */
-function header(scope, ...contents) {
-  const cell = make("th", "", ...contents);
-  cell.scope = scope;
-  return cell;
-}
+const header = (scope, ...contents) => Object.assign(make("th", "", ...contents), { scope });
 
 /** A table with a caption that is only heard. */
 const table = (caption, ...parts) => make("table", "", make("caption", "unseen", caption), ...parts);
@@ -65,19 +59,19 @@ function prose(text) {
 
 /**
  * A line or an answer in the transcript: lines begin with `>`, answers with `<`, other sentences with `!`.
- * Of an only user's entries the digit is left out.
+ * Of an only user's entries the digit is left out; `place` stands before all.
  */
-function logEntry(entry, isOnly = false) {
+function logEntry(entry, isOnly = false, place = "") {
   const text = entry.slice(1);
   const stopped = entry[0] === "!" || (entry[0] === "<" && (STOP_LINE.test(text) || refusalWords(text)));
   const kind = { ">": "asked", "<": "answered", "!": "unsent" }[entry[0]];
   const item = make("li", stopped ? `${kind} stopped` : kind);
-  item.textContent = (entry[0] === ">" ? "> " : "") + (isOnly && entry[0] !== "!" ? text.slice(2) : text);
+  item.textContent = place + (entry[0] === ">" ? "> " : "") + (isOnly && entry[0] !== "!" ? text.slice(2) : text);
   return item;
 }
 
 /** Puts a text in only where it is another one, so that it isn't read aloud again. */
-function replaceText(element, text, contents) {
+function put(element, text, contents = [text]) {
   if (element.textContent !== text.replaceAll("`", "")) element.replaceChildren(...contents);
 }
 
@@ -124,21 +118,24 @@ function instructionPart(state) {
 
 /** Why something stopped or was refused, on the stage. */
 function showStop(words) {
-  replaceText(byId("stop"), words, prose(words));
+  put(byId("stop"), words, prose(words));
   byId("stop").classList.toggle("said", words !== "");
 }
 
 /** The program: labels, breakpoints, the program counter, the instruction that is told of, and words that are new. */
 function paintListing(state, before) {
   const abi = byId("names").value === "abi";
+  const rows = inOrder(Object.keys(state.code)).map((address) => listingRow(state, before, address, abi));
+  const names = ["marks", "address", "word", "instruction"];
+  paintRows(byId("listing"), "Program", names, rows, 4, state, "No program stands in memory yet.");
+}
+
+/** A table of rows by address, so many bytes each, with gaps and labels; a sentence where there are none. */
+function paintRows(box, caption, names, rows, bytes, state, empty) {
   const body = make("tbody", "");
-  for (const address of inOrder(Object.keys(state.code))) {
-    body.append(...rowsBefore(body, state, address, 4), listingRow(state, before, address, abi));
-  }
-  const heads = ["marks", "address", "word", "instruction"].map((name) => header("col", unseen(name)));
-  const listing = table("Program", make("thead", "", make("tr", "", ...heads)), body);
-  const empty = make("p", "empty", "No program stands in memory yet.");
-  byId("listing").replaceChildren(body.firstChild ? listing : empty);
+  for (const row of rows) body.append(...rowsBefore(body, state, row.dataset.address, bytes), row);
+  const heads = make("tr", "", ...names.map((name) => header("col", unseen(name))));
+  box.replaceChildren(rows.length ? table(caption, make("thead", "", heads), body) : make("p", "empty", empty));
 }
 
 /** The rows before one of the listing or of memory: a gap where it doesn't follow the one before, and labels. */
@@ -148,33 +145,23 @@ function rowsBefore(body, state, address, bytes) {
   const gap = last && BigInt("0x" + last) + BigInt(bytes) !== place ? [make("td", "gap", "⋯")] : [];
   const offsets = Array.from({ length: bytes }, (_, offset) => (place + BigInt(offset)).toString(16));
   const labels = offsets.flatMap((each) => state.labels?.[each] ?? []).map((label) => make("td", "label", `${label}:`));
-  return [...gap, ...labels].map((cell) => {
-    cell.colSpan = 6;
-    return make("tr", "", cell);
-  });
+  return [...gap, ...labels].map((cell) => make("tr", "", Object.assign(cell, { colSpan: 6 })));
 }
 
 function listingRow(state, before, address, abi) {
   const line = state.code[address];
   const marks = make("td", "marks");
-  const kinds = [];
+  const kinds = [address === state.pc ? "next" : "", address === state.instruction ? "told" : ""];
   if (state.breaks.includes(address)) marks.append(make("span", "breakpoint", "●"), unseen("breakpoint"));
-  if (address === state.pc) {
-    marks.append(make("span", "arrow", "▶"), unseen("next instruction"));
-    kinds.push("next");
-  }
-  if (address === state.instruction) {
-    marks.append(unseen(state.faulted ? "stopped here" : "carried out"));
-    kinds.push("told");
-  }
+  if (kinds[0]) marks.append(make("span", "arrow", "▶"), unseen("next instruction"));
+  if (kinds[1]) marks.append(unseen(state.faulted ? "stopped here" : "carried out"));
   const text = make("td", "text", withNames(line.slice(9), abi));
   const goal = target(address, line.slice(9));
   if (goal) text.append(make("span", "goal", ` → ${state.labels?.[goal]?.[0] ?? goal}`));
   const word = make("td", "word", line.slice(0, 8));
   if (before.code[address] !== line && (before.code[address] || !state.instruction)) word.classList.add("changed");
   const row = make("tr", kinds.join(" "), marks, header("row", address), word, text);
-  row.dataset.address = address;
-  row.dataset.edit = `break ${address}`;
+  Object.assign(row.dataset, { address, edit: `break ${address}` });
   return row;
 }
 
@@ -183,25 +170,23 @@ function scrollIntoBox(box, ...selectors) {
   const row = selectors.map((selector) => box.querySelector(selector)).find(Boolean);
   if (!row) return;
   const place = row.getBoundingClientRect().top - box.getBoundingClientRect().top + box.scrollTop;
-  if (place < box.scrollTop + 30 || place > box.scrollTop + box.clientHeight - 60) {
-    box.scrollTop = place - box.clientHeight / 3;
-  }
+  const isSeen = place >= box.scrollTop + 30 && place <= box.scrollTop + box.clientHeight - 60;
+  if (!isSeen) box.scrollTop = place - box.clientHeight / 3;
 }
 
 /** Vector length, type, and the other control registers. */
 function paintFacts(state, before) {
   const type = vectorType(state.vtype);
   const facts = [
-    ["vl", type.vill ? `${state.vl}` : `${state.vl} of ${type.most}`, before.vl !== state.vl],
-    ["vtype", typeText(type), before.vtype !== state.vtype],
-    ["vstart", `${state.vstart}`, before.vstart !== state.vstart],
-    ["vxrm", `${state.vxrm} ${ROUNDING[state.vxrm]}`, before.vxrm !== state.vxrm],
-    ["vxsat", `${state.vxsat}`, before.vxsat !== state.vxsat],
-    ["policy", state.policy, before.policy !== state.policy],
+    ["vl", type.vill ? `${state.vl}` : `${state.vl} of ${type.most}`],
+    ["vtype", typeText(type)],
+    ["vstart", `${state.vstart}`],
+    ["vxrm", `${state.vxrm} ${ROUNDING[state.vxrm]}`],
+    ["vxsat", `${state.vxsat}`],
+    ["policy", state.policy],
   ];
-  const pairs = facts.map(([name, text, changed]) =>
-    make("div", "", make("dt", "", name), make("dd", changed ? "changed" : "", text)),
-  );
+  const kind = (name) => (before[name] === state[name] ? "" : "changed");
+  const pairs = facts.map(([name, text]) => make("div", "", make("dt", "", name), make("dd", kind(name), text)));
   byId("facts").replaceChildren(...pairs, make("p", "", typeWords(type)));
 }
 
@@ -245,12 +230,8 @@ function chosenShape(register, shapes, type) {
 }
 
 function columnHeads(columns) {
-  const heads = Array.from({ length: columns }, (_, column) => {
-    const head = header("col", `${column}`);
-    head.colSpan = 32 / columns;
-    return head;
-  });
-  return make("tr", "heads", make("td", ""), ...heads);
+  const head = (_, column) => Object.assign(header("col", `${column}`), { colSpan: 32 / columns });
+  return make("tr", "heads", make("td", ""), ...Array.from({ length: columns }, head));
 }
 
 /** The rows of a register group, or of a mask, which has a bit in one register for each element that there can be. */
@@ -265,12 +246,14 @@ function groupRows(state, before, shape, operand, type) {
     if (rows > 1) head.append(make("small", "", ` ${first}–${first + shape.columns - 1}`));
     if (operand) head.append(make("small", "way", operand.writes ? " to" : " from"));
     const cells = Array.from({ length: shape.columns }, (_, column) => {
-      const elements = isMask ? [first + column, first + column] : ownElements(register, column, shape);
-      const kinds = elements.map((element) => elementKind(state, type, element, operand?.masked));
+      const element = first + column;
+      const own = isMask ? [element, element] : ownElements(register, column, shape);
+      const kinds = own.map((each) => elementKind(state, type, each, operand?.masked));
       const kind = kinds[0] === kinds[1] ? kinds[0] : "";
-      const cell = elementCell(state.v[register], before.v[register], shape, isMask ? first + column : column, kind);
-      cell.title = `element ${first + column} of v${shape.register}${kind ? `, ${KINDS[kind]}` : ""}: ${cell.title}`;
-      cell.dataset.edit = `vset v${register} ${isMask ? 1 : shape.width} ${isMask ? first + column : column} ${shape.form}`;
+      const part = isMask ? element : column; // of the register
+      const cell = elementCell(state.v[register], before.v[register], shape, part, kind);
+      cell.title = `element ${element} of v${shape.register}${kind ? `, ${KINDS[kind]}` : ""}: ${cell.title}`;
+      cell.dataset.edit = `vset v${register} ${isMask ? 1 : shape.width} ${part} ${shape.form}`;
       return cell;
     });
     const row = make("tr", [place ? "" : "first", way ?? ""].join(" "), head, ...cells);
@@ -301,15 +284,11 @@ function elementCell(bytes, bytesBefore, shape, place, kind) {
   const now = cut(bytes);
   const cell = make("td", kind, isMask ? now : elementText(now, shape.form));
   if (isMask) cell.classList.add(now === "1" ? "set" : "clear");
-  cell.colSpan = shape.width / 8;
   const forms = isMask ? [now] : ["hexadecimal", "unsigned", "signed"].map((form) => elementText(now, form));
-  cell.title = forms.join(" = ");
   if (kind && kind !== "active") cell.append(unseen(KINDS[kind]));
-  if (now !== cut(bytesBefore)) {
-    cell.classList.add("changed");
-    cell.append(unseen("changed"));
-  }
-  return cell;
+  if (now !== cut(bytesBefore)) cell.append(unseen("changed"));
+  cell.classList.toggle("changed", now !== cut(bytesBefore));
+  return Object.assign(cell, { colSpan: shape.width / 8, title: forms.join(" = ") });
 }
 
 /** The scalar registers, eight rows of four. */
@@ -334,16 +313,10 @@ function paintRegisters(state, before) {
 
 /** Memory in rows of 16 bytes, with a gap where rows are left out. */
 function paintMemory(state, before) {
-  const body = make("tbody", "");
-  for (const address of inOrder(Object.keys(state.memory))) {
-    const row = memoryRow(address, state.memory[address], before.memory[address]);
-    body.append(...rowsBefore(body, state, address, 16), row);
-  }
+  const row = (address) => memoryRow(address, state.memory[address], before.memory[address]);
+  const rows = inOrder(Object.keys(state.memory)).map(row);
   const names = ["address", "bytes 0 to 3", "4 to 7", "8 to 11", "12 to 15", "text"];
-  const heads = names.map((name) => header("col", unseen(name)));
-  const memory = table("Memory", make("thead", "", make("tr", "", ...heads)), body);
-  const empty = make("p", "empty", "No memory but the program is in use yet.");
-  byId("bytes").replaceChildren(body.firstChild ? memory : empty);
+  paintRows(byId("bytes"), "Memory", names, rows, 16, state, "No memory but the program is in use yet.");
 }
 
 function memoryRow(address, digits, digitsBefore) {

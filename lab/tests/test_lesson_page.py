@@ -232,6 +232,7 @@ def test_texts_stay_texts(opened: Callable[[str], "Chrome"], program: pathlib.Pa
     press(browser, Keys.END)
     assert text_of(browser, "#output") == f"{tag}</script><!--\n␁é"
     assert f"> 1 {tag}" in text_of(browser, "#log")
+    assert "> 1 setpc 10000" in text_of(browser, "#log") and "1 out " in text_of(browser, "#log")
     assert browser.find_elements(By.TAG_NAME, "img") == [] and browser.title == tag
     assert browser.get_log("browser") == []
 
