@@ -61,21 +61,26 @@ class _Process:
         """The system's number of the process."""
         return self._child.pid
 
-    def ask(self, line: str) -> list[str]:
-        """The answer to a line. Raises ProgramGone and OutOfStep, and is of no use any more after that."""
+    def ask(self, lines: Sequence[str]) -> list[list[str]]:
+        """The answers to lines that go in together. Raises ProgramGone and OutOfStep; then it is of no use any more."""
         if self._unread or self._receive(0):
-            raise OutOfStep(f"before {line[:60]!r} was sent there came {self._unread[:60]!r}")
-        data = line.encode("ascii") + b"\n"
+            raise OutOfStep(f"before {lines[0][:60]!r} was sent there came {self._unread[:60]!r}")
+        data = "".join(f"{line}\n" for line in lines).encode("ascii")
         try:
             os.write(self._feed, data)
         except OSError as error:
             raise ProgramGone(self._end()) from error
         self.fed += len(data)
+        answers = [self._answer(line) for line in lines]
+        if self._unread:
+            raise OutOfStep(f"after the answer to {lines[-1][:60]!r} there came {self._unread[:60]!r}")
+        return answers
+
+    def _answer(self, line: str) -> list[str]:
+        """The lines of the next answer."""
         answer = [self._line()]
         while not is_whole(line, answer):
             answer.append(self._line())
-        if self._unread:
-            raise OutOfStep(f"after the answer to {line[:60]!r} there came {self._unread[:60]!r}")
         return answer
 
     def _line(self) -> str:
@@ -201,14 +206,19 @@ class Session:
         check_line(line)
         if not is_look(line) and len(self._script) + len(line) >= self._script_bytes:
             raise ScriptFull(f"the script has {self._script_bytes:,} bytes at most, so only lines that look go on")
-        return self._ask(line)
+        return self._ask([line])[0]
 
     def look(self, line: str) -> list[str]:
         """The answer to a line that only looks. Raises BadLine for any other one, and else as `do`."""
-        check_line(line)
-        if not is_look(line):
-            raise BadLine(f"{line[:40]!r} isn't a line that only looks")
-        return self._ask(line)
+        return self.look_all([line])[0]
+
+    def look_all(self, lines: Sequence[str]) -> list[list[str]]:
+        """The answers to some dozens of lines that only look."""
+        for line in lines:
+            check_line(line)
+            if not is_look(line):
+                raise BadLine(f"{line[:40]!r} isn't a line that only looks")
+        return self._ask(lines)
 
     def close(self) -> None:
         """Ends the process. The session goes on with a new one where it is asked again."""
@@ -222,40 +232,42 @@ class Session:
         if self._process:
             self._process.kill()
 
-    def _ask(self, line: str) -> list[str]:
-        """The answer to a line, which is recorded unless it only looks. No process outlives an error or interrupt."""
-        if self._process and self._process.fed + len(line) >= self._script_bytes + self._script_bytes // 10:
+    def _ask(self, lines: Sequence[str]) -> list[list[str]]:
+        """The answers to lines, which are recorded unless they only look. No process outlives an error or interrupt."""
+        size = sum(map(len, lines))
+        if self._process and self._process.fed + size >= self._script_bytes + self._script_bytes // 10:
             self.close()
         try:
-            answer = self._answer(line)
-            if not is_look(line):
-                self._record(line, answer)
+            answers = self._answers_to(lines)
+            for line, answer in zip(lines, answers):
+                if not is_look(line):
+                    self._record(line, answer)
         except BaseException:
             self.close()
             raise
-        return answer
+        return answers
 
-    def _answer(self, line: str) -> list[str]:
+    def _answers_to(self, lines: Sequence[str]) -> list[list[str]]:
         """What the process answers, or a new one where that one is gone."""
         if self._process:
             try:
-                return self._process.ask(line)
+                return self._process.ask(lines)
             except ProgramGone as gone:
                 self.losses.append(str(gone))
                 self.close()
         self._process = self._replay()
-        return self._process.ask(line)
+        return self._process.ask(lines)
 
     def _replay(self) -> _Process:
         """A new process that has carried out the script, and has answered as the one before."""
         process, answers = _Process(self.command, self._patience), hashlib.sha256()
         try:
-            if process.ask("* list") != [NEW_MACHINE]:
+            if process.ask(["* list"]) != [[NEW_MACHINE]]:
                 raise OutOfStep("the program doesn't begin with a new machine")
             for number, line in enumerate(self._script.decode("ascii").splitlines(), 1):
                 if self._has_ended:
                     break
-                answer = process.ask(line)
+                (answer,) = process.ask([line])
                 _count(answers, answer)
                 mark = self._marks[(number - 1) * MARK_BYTES : number * MARK_BYTES]
                 if answers.digest()[:MARK_BYTES] != mark:

@@ -179,31 +179,37 @@ class _Looks:
 
     def ask(self, command: str) -> list[str]:
         """The answer's lines without the user's digit; none where it is refused."""
-        answer = self._session.look(f"{self._user} {command}")
-        return [] if is_refusal(answer) else [line[2:] for line in answer]
+        return self.ask_all([command])[0]
+
+    def ask_all(self, commands: Sequence[str]) -> list[list[str]]:
+        """As `ask`, for commands that are sent together."""
+        answers = self._session.look_all([f"{self._user} {command}" for command in commands])
+        return [[] if is_refusal(answer) else [line[2:] for line in answer] for answer in answers]
 
     def registers(self) -> State:
         """Scalar registers, vector control registers and breakpoints."""
-        words = " ".join(self.ask("regs")).split()
-        control = dict(word.split("=") for word in self.ask("vcsr")[0].split())
+        lines, (control_line,), (breaks,) = self.ask_all(["regs", "vcsr", "breaks"])
+        words = " ".join(lines).split()
+        control = dict(word.split("=") for word in control_line.split())
         return {
             "x": {name.removeprefix("x"): _short(value) for name, value in zip(words[2::2], words[3::2])},
             "vtype": _short(control.pop("vtype")),
             **{name: int(value) for name, value in control.items()},
-            "breaks": [_short(address) for address in self.ask("breaks")[0].split()[1:]],
+            "breaks": [_short(address) for address in breaks.split()[1:]],
         }
 
     def vectors(self) -> dict[str, str]:
         """The vector registers."""
-        answers = (self.ask(f"vreg v{number} 8")[0].split()[1:] for number in range(32))
-        return {str(number): "".join(elements) for number, elements in enumerate(answers)}
+        answers = self.ask_all([f"vreg v{number} 8" for number in range(32)])
+        return {str(number): "".join(line.split()[1:]) for number, (line,) in enumerate(answers)}
 
     def code(self, watch: Watch, pc: str, trace: Sequence[str]) -> dict[str, str]:
         """The listing: words that lines wrote, words that were carried out, and some from the program counter on."""
         if len(watch.code) < MOST_WORDS:
             watch.code.update(int(address, 16) for address in trace)
             watch.code.update(self._ahead(int(pc, 16)))
-        lines = [line for first, length in watch.runs() for line in self.ask(f"dis {first:x} {length}")]
+        answers = self.ask_all([f"dis {first:x} {length}" for first, length in watch.runs()])
+        lines = [line for answer in answers for line in answer]
         return {_short(line[:16]): line[17:] for line in lines}
 
     def _ahead(self, pc: int) -> Iterator[int]:
@@ -218,11 +224,10 @@ class _Looks:
         """The rows of all pages that are watched and mapped."""
         rows = {}
         for page in sorted(watch.pages):
-            for address in range(page, page + PAGE_BYTES, PEEK_BYTES):
-                answer = self.ask(f"peek {address:x} {PEEK_BYTES}")
-                if not answer:
-                    break
-                digits = answer[0].split()[2]
+            addresses = range(page, page + PAGE_BYTES, PEEK_BYTES)
+            answers = self.ask_all([f"peek {address:x} {PEEK_BYTES}" for address in addresses])
+            for address, (line,) in zip(addresses, filter(None, answers)):
+                digits = line.split()[2]
                 for place in range(0, PEEK_BYTES, ROW_BYTES):
                     rows[f"{address + place:x}"] = digits[2 * place : 2 * (place + ROW_BYTES)]
         return rows
