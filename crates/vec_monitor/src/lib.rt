@@ -17,4 +17,8 @@ pub use program_fault::{
     ProgramFault, STATUS_DONE, STATUS_IMAGE, STATUS_NO_MEMORY, STATUS_OUTPUT, STATUS_SCRIPT,
     STATUS_USAGE,
 };
+pub use rv_model::{
+    absent_users_have_nothing, configurations_that_stay, each_user_alone, refusals_change_nothing,
+    slices_add_up, steps_take_ticks, turns_are_fair,
+};
 pub use words::options;
