@@ -1,5 +1,5 @@
--- The operands of each instruction's text, in their order, each with its kind: what stands behind the name (Unprivileged ISA,
--- "RISC-V Assembly Programmer's Handbook", and the sections that stand beside each layout; V extension, likewise)
+-- The operands of each instruction's text, in their order, each with its kind: what stands behind the name (Unprivileged
+-- ISA, "RISC-V Assembly Programmer's Handbook", and the sections that stand beside each layout; V extension, likewise)
 use Rattle.std.specs.Prelude.{ℕ, ◌-◌, ◌^◌, ◌≡◌, ◌==◌, List, [], ◌∷◌, map, Bool, true, false, Option, Some, None, ◌<◌}
 use Rattle.rv_model.specs.declared.instructions.operations.VectorOp.{VectorOp}
 use Rattle.rv_model.specs.declared.instructions.operations.VectorOp.TheVariants as vector_op
@@ -74,7 +74,8 @@ second is_unsigned (source.I imm) = immediate is_unsigned imm
 abbrev pub usual_operands : Bool → Source → ℕ → ℕ → Bool → List TextOperand
 usual_operands is_unsigned source vd vs2 vm = V vd ∷ Comma ∷ V vs2 ∷ Comma ∷ second is_unsigned source ∷ Mask vm ∷ []
 
--- `vd, vs1, vs2, vm` or `vd, rs1, vs2, vm`: the factors first, as in vd + vs1 * vs2 ("Vector Arithmetic Instruction encoding")
+-- `vd, vs1, vs2, vm` or `vd, rs1, vs2, vm`: of multiply-adds, whose vs1 or rs1 stands before vs2 ("Vector Arithmetic
+-- Instruction encoding")
 abbrev pub multiply_add_operands : Source → ℕ → ℕ → Bool → List TextOperand
 multiply_add_operands source vd vs2 vm = V vd ∷ Comma ∷ second false source ∷ Comma ∷ V vs2 ∷ Mask vm ∷ []
 
@@ -89,7 +90,7 @@ carry_out_operands false source vd vs2 = carry_operands source vd vs2
 
 -- by the operation: which immediates are unsigned, and which operations are multiply-adds
 abbrev pub arith_operands : VectorOp → Source → ℕ → ℕ → Bool → List TextOperand
--- "Vector Integer Arithmetic Instructions"; the amount of a shift is unsigned ("Vector Single-Width Shift Instructions")
+-- "Vector Integer Arithmetic Instructions"; the amount of a shift is unsigned, "Vector Single-Width Shift Instructions"
 arith_operands (vector_op.Binary op) source vd vs2 vm = usual_operands (has_unsigned_immediate op) source vd vs2 vm
 -- "Vector Integer Add-with-Carry / Subtract-with-Borrow Instructions"
 arith_operands (vector_op.CarryOut op) source vd vs2 vm = carry_out_operands vm source vd vs2
@@ -154,10 +155,10 @@ text_operands (SetVli rd rs1 vtype) = X rd ∷ Comma ∷ X rs1 ∷ Comma ∷ VTy
 text_operands (SetIvli rd avl vtype) = X rd ∷ Comma ∷ unsigned 5 avl ∷ Comma ∷ VType 10 vtype ∷ []
 -- `vsetvl rd, rs1, rs2`: V, "Configuration-Setting Instructions"
 text_operands (SetVl rd rs1 rs2) = X rd ∷ Comma ∷ X rs1 ∷ Comma ∷ X rs2 ∷ []
--- above
+-- `vadd.vv vd, vs2, vs1, vm` and the like: by the operation, above
 text_operands (VectorArith arith vd vs2 vm) = arith_operands arith.0 arith.1 vd vs2 vm
--- `vadc.vvm vd, vs2, vs1, v0`: V, "Vector Integer Add-with-Carry / Subtract-with-Borrow Instructions", "Vector Integer Merge
--- Instructions"
+-- `vadc.vvm vd, vs2, vs1, v0`: V, "Vector Integer Add-with-Carry / Subtract-with-Borrow Instructions", "Vector Integer
+-- Merge Instructions"
 text_operands (VectorCarry carry vd vs2) = carry_operands carry.1 vd vs2
 -- `vmv.v.v vd, vs1`: V, "Vector Integer Move Instructions"
 text_operands (VectorMove source vd) = V vd ∷ Comma ∷ second false source ∷ []
@@ -179,13 +180,15 @@ text_operands (ElementIndex vd vm) = V vd ∷ Mask vm ∷ []
 text_operands (MoveToScalar rd vs2) = X rd ∷ Comma ∷ V vs2 ∷ []
 -- `vmv.s.x vd, rs1`: V, "Integer Scalar Move Instructions"
 text_operands (MoveToVector vd rs1) = V vd ∷ Comma ∷ X rs1 ∷ []
--- `vle8.v vd, (rs1), vm`: V, "Vector Unit-Stride Instructions", "Unit-stride Fault-Only-First Loads", "Unit-Stride Segment Loads
--- and Stores"
+-- `vle8.v vd, (rs1), vm`: V, "Vector Unit-Stride Instructions", "Unit-stride Fault-Only-First Loads", "Unit-Stride
+-- Segment Loads and Stores"
 text_operands (VectorUnit op width nf vd rs1 vm) = V vd ∷ Comma ∷ Open ∷ X rs1 ∷ Close ∷ Mask vm ∷ []
 -- `vlse8.v vd, (rs1), rs2, vm`: V, "Vector Strided Instructions", "Vector Strided Segment Loads and Stores"
-text_operands (VectorStrided direction width nf vd rs1 rs2 vm) = V vd ∷ Comma ∷ Open ∷ X rs1 ∷ Close ∷ Comma ∷ X rs2 ∷ Mask vm ∷ []
+text_operands (VectorStrided direction width nf vd rs1 rs2 vm) =
+    V vd ∷ Comma ∷ Open ∷ X rs1 ∷ Close ∷ Comma ∷ X rs2 ∷ Mask vm ∷ []
 -- `vluxei8.v vd, (rs1), vs2, vm`: V, "Vector Indexed Instructions", "Vector Indexed Segment Loads and Stores"
-text_operands (VectorIndexed direction order width nf vd rs1 vs2 vm) = V vd ∷ Comma ∷ Open ∷ X rs1 ∷ Close ∷ Comma ∷ V vs2 ∷ Mask vm ∷ []
+text_operands (VectorIndexed direction order width nf vd rs1 vs2 vm) =
+    V vd ∷ Comma ∷ Open ∷ X rs1 ∷ Close ∷ Comma ∷ V vs2 ∷ Mask vm ∷ []
 -- `vl1re8.v vd, (rs1)`: V, "Vector Load/Store Whole Register Instructions"
 text_operands (WholeLoad count width vd rs1) = V vd ∷ Comma ∷ Open ∷ X rs1 ∷ Close ∷ []
 -- `vs1r.v vs3, (rs1)`: V, "Vector Load/Store Whole Register Instructions"
@@ -222,4 +225,5 @@ HoldsOperands slots word (Some i) = operands_in word slots ≡ text_operands i
 
 -- the slots of each name hold the operands of the instruction that any word with the name's bits is
 abbrev pub NamesTakeOperands : Type 0
-NamesTakeOperands = (row word : ℕ) → row < name_count → HasBitsOf row word → HoldsOperands (slots_at row) word (scan table word)
+NamesTakeOperands =
+    (row word : ℕ) → row < name_count → HasBitsOf row word → HoldsOperands (slots_at row) word (scan table word)
