@@ -1,9 +1,10 @@
 #!/usr/bin/env python3
 """Tries a built program from outside: `tools/try_program.py VECMON`, with the path of any vecmon.
 
-It runs README's first script, a script file with images in small slices, mistakes in the words, files that can't be read, an output that is
-full, and too little memory; and it writes lines to a program that waits for more. Output, standard error and status have to be exactly those
-that stand here, in README.md and in `crates/vecmon`, where they were worked out by hand. The status is 1 where something differs.
+It runs README's first script, a script file with images in small slices, mistakes in the words, files that can't be
+read, an output that is full, and too little memory; and it writes lines to a program that waits for more. Output,
+standard error and status have to be exactly those that stand here, in README.md and in `crates/vecmon`, where they were
+worked out by hand. The status is 1 where something differs.
 """
 
 import pathlib
@@ -46,7 +47,9 @@ def runs() -> list[Run]:
     two_images = [f"good={IMAGES}/good", f"short={IMAGES}/short"]
     slices = (DATA / "slices_and_images_answers").read_text(encoding="utf-8")
     needs_path = "vecmon: image argument needs NAME=PATH\n"
-    bad_quantum = "error: invalid value '0' for '--quantum <N>': 0 is not in 1..=1000\n\nFor more information, try '--help'.\n"
+    bad_quantum = (
+        "error: invalid value '0' for '--quantum <N>': 0 is not in 1..=1000\n\nFor more information, try '--help'.\n"
+    )
     no_text = "error: invalid UTF-8 was detected in one or more arguments\n"
     return [
         Run([], script, answers),
@@ -70,17 +73,26 @@ def differences(program: str, run: Run) -> list[str]:
             resource.setrlimit(resource.RLIMIT_AS, (run.memory, run.memory))
 
     ended = subprocess.run(
-        [program, *run.words], input=run.script.encode(), capture_output=True, preexec_fn=limit, timeout=SECONDS, check=False
+        [program, *run.words],
+        input=run.script.encode(),
+        capture_output=True,
+        preexec_fn=limit,
+        timeout=SECONDS,
+        check=False,
     )
     wanted = {"output": run.output.encode(), "errors": run.errors.encode(), "status": run.status}
     came = {"output": ended.stdout, "errors": ended.stderr, "status": ended.returncode}
-    return [f"{run.words}: {part}: {came[part]!r} and not {wanted[part]!r}" for part in wanted if came[part] != wanted[part]]
+    return [
+        f"{run.words}: {part}: {came[part]!r} and not {wanted[part]!r}" for part in wanted if came[part] != wanted[part]
+    ]
 
 
 def full_output(program: str) -> list[str]:
     """An output that takes no byte."""
     with open("/dev/full", "wb") as full:
-        ended = subprocess.run([program], input=b"1 enter\n", stdout=full, stderr=subprocess.PIPE, timeout=SECONDS, check=False)
+        ended = subprocess.run(
+            [program], input=b"1 enter\n", stdout=full, stderr=subprocess.PIPE, timeout=SECONDS, check=False
+        )
     came = (ended.stderr, ended.returncode)
     return [] if came == (b"vecmon: cannot write output\n", 5) else [f"a full output: {came}"]
 
@@ -89,13 +101,17 @@ def line_by_line(program: str) -> list[str]:
     """Lines to a program whose input stays open: each is answered before the next is written."""
     script, answers = first_script()
     lines, faults = list(zip(script.splitlines(), answers.splitlines(), strict=True)), []
-    with subprocess.Popen([program], stdin=subprocess.PIPE, stdout=subprocess.PIPE, bufsize=0) as started:
+    with subprocess.Popen(
+        [program], stdin=subprocess.PIPE, stdout=subprocess.PIPE, stderr=subprocess.DEVNULL, bufsize=0
+    ) as started:
         assert started.stdin and started.stdout
         for line, answer in lines:
-            started.stdin.write(line.encode() + b"\n")
+            try:
+                started.stdin.write(line.encode() + b"\n")
+            except BrokenPipeError:
+                return [*faults, f"{line}: the program has ended"]
             if not select.select([started.stdout], [], [], SECONDS)[0]:
-                faults.append(f"{line}: no answer while the input stays open")
-                break
+                return [*faults, f"{line}: no answer while the input stays open"]
             came = started.stdout.readline()
             if came != answer.encode() + b"\n":
                 faults.append(f"{line}: {came!r} and not {answer!r}")
