@@ -35,6 +35,9 @@ class StandIn:
         assert is_look(line)
         return [f"{line[0]} E05"]
 
+    def look_all(self, lines: list[str]) -> list[list[str]]:
+        return [self.look(line) for line in lines]
+
     def end(self) -> None:
         ...
 
