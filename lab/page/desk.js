@@ -99,7 +99,8 @@ class Student {
     const { run } = view.state;
     document.title = `Seat ${view.seat} – vecmon`;
     put(byId("who"), `Seat ${view.seat}`);
-    put(byId("run"), { absent: "not entered", stopped: view.stop.split(" ")[0] || run, running: run }[run]);
+    const stop = run === "stopped" && view.state.stop && view.stop.split(" ")[0];
+    put(byId("run"), run === "absent" ? "not entered" : stop || run);
     byId("run").className = `pill ${run}`;
     for (const id of ["one", "many", "number", "go", "out"]) byId(id).disabled = run !== "stopped";
     byId("halt").disabled = byId("slice").disabled = run !== "running";
@@ -110,8 +111,7 @@ class Student {
     say("trouble", [view.trouble, warning].join(" ").trim());
     const images = ["Load …", ...view.images].map((name) => make("option", "", name));
     if (byId("images").length < images.length) byId("images").replaceChildren(...images);
-    byId("images").hidden = view.images.length === 0;
-    byId("images").selectedIndex = 0;
+    Object.assign(byId("images"), { hidden: view.images.length === 0, selectedIndex: 0 });
     this.desk.show(view.state, logs[view.seat] ?? [], isAnew);
     byId("log").ariaLive = "polite";
   }
