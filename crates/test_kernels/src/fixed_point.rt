@@ -1,195 +1,198 @@
-//! Saturating and averaging operations, compared with plain loops over exact numbers.
-ghost use Rattle.std.specs.Prelude.{◌*◌, ◌≤◌};
-ghost use Rattle.rv_model.specs.vector.Configuration.{width_bytes};
-
-use crate::comparison::{Kernel, Tally, compare_kernels};
-use crate::operands::{LONGEST, bytes};
-use lane_arith::{Body, Lane};
-use lane_fixed::{FixedPoint, write_saturating_results};
+//! Fixed-point operations ("V" Vector Extension 1.0, chapter 12, and section 3.8 for the rounding modes). `a` is
+//! vs2, and `b` is vs1 or the other second operand.
+use crate::comparison::{Case, Kernel, Limits, MASKED, Sweep, compare_kernels};
+use crate::numbers::{low_bits, power, shift, signed, unsigned};
+use crate::operands::{LONGEST, Operands};
+use lane_fixed::{Clip, FixedPoint, write_saturating_results};
 use rv_model::RoundingMode;
-use rv_model::instructions::operations::FixedPointOp;
+use rv_model::instructions::operations::{ClipOp, FixedPointOp};
 use std::io;
+use std::marker::PhantomData;
 
-const MODES: [RoundingMode; 4] = [
-    RoundingMode::NearestUp,
-    RoundingMode::NearestEven,
-    RoundingMode::Down,
-    RoundingMode::Odd,
+const UNSIGNED: [(FixedPointOp, &str); 2] = [
+    (FixedPointOp::Vsaddu, "vsaddu"),
+    (FixedPointOp::Vssubu, "vssubu"),
 ];
 
-const SATURATING: [(Saturating, &str); 4] = [
-    (Saturating(FixedPointOp::Vsaddu), "vsaddu"),
-    (Saturating(FixedPointOp::Vsadd), "vsadd"),
-    (Saturating(FixedPointOp::Vssubu), "vssubu"),
-    (Saturating(FixedPointOp::Vssub), "vssub"),
+const SIGNED: [(FixedPointOp, &str); 3] = [
+    (FixedPointOp::Vsadd, "vsadd"),
+    (FixedPointOp::Vssub, "vssub"),
+    (FixedPointOp::Vsmul, "vsmul"),
 ];
 
-const AVERAGING: [(Averaging, &str); 4] = [
-    (Averaging(FixedPointOp::Vaaddu), "vaaddu"),
-    (Averaging(FixedPointOp::Vaadd), "vaadd"),
-    (Averaging(FixedPointOp::Vasubu), "vasubu"),
-    (Averaging(FixedPointOp::Vasub), "vasub"),
+const ROUNDED: [(FixedPointOp, &str); 6] = [
+    (FixedPointOp::Vssrl, "vssrl"),
+    (FixedPointOp::Vssra, "vssra"),
+    (FixedPointOp::Vaaddu, "vaaddu"),
+    (FixedPointOp::Vaadd, "vaadd"),
+    (FixedPointOp::Vasubu, "vasubu"),
+    (FixedPointOp::Vasub, "vasub"),
 ];
 
-/// Small numbers, so that no sum of them saturates, but for one byte in 24.
-fn mostly_small(seed: u64) -> [u8; LONGEST] {
-    let mut bytes = bytes(seed);
-    for i in 0..LONGEST {
-        if i % 24 != 23 {
-            bytes[i] %= 64;
-        }
+const SMALL_UNSIGNED: [(FixedPointOp, &str); 2] = [
+    (FixedPointOp::Vsaddu, "vsaddu of small numbers"),
+    (FixedPointOp::Vssubu, "vssubu of small numbers"),
+];
+
+const SMALL_SIGNED: [(FixedPointOp, &str); 2] = [
+    (FixedPointOp::Vsadd, "vsadd of small numbers"),
+    (FixedPointOp::Vssub, "vssub of small numbers"),
+];
+
+/// In each rounding mode, which is the variant.
+const IN_EACH_MODE: Sweep = Sweep {
+    variants: 4,
+    ..MASKED
+};
+
+/// The same, to the nearest unsigned number.
+const TO_UNSIGNED: Sweep = Sweep {
+    limits: Limits::Unsigned,
+    ..IN_EACH_MODE
+};
+
+/// The same, to the nearest signed number.
+const TO_SIGNED: Sweep = Sweep {
+    limits: Limits::Signed,
+    ..IN_EACH_MODE
+};
+
+/// Clips to half the width.
+const CLIPPED_UNSIGNED: Sweep = Sweep {
+    widths: &[8, 16, 32],
+    ..TO_UNSIGNED
+};
+
+/// The same, to signed numbers.
+const CLIPPED_SIGNED: Sweep = Sweep {
+    widths: &[8, 16, 32],
+    ..TO_SIGNED
+};
+
+/// The rounding modes are the variants, by their numbers in vxrm.
+fn mode(case: &Case<'_>) -> RoundingMode {
+    match case.variant {
+        0 => RoundingMode::NearestUp,
+        1 => RoundingMode::NearestEven,
+        2 => RoundingMode::Down,
+        _ => RoundingMode::Odd,
     }
-    bytes
 }
 
-/// Half of a number, rounded.
-fn half(mode: RoundingMode, number: i128) -> i128 {
-    let floor = number.div_euclid(2);
-    let is_between = number.rem_euclid(2) == 1;
-    let is_odd = floor.rem_euclid(2) == 1;
-    let goes_up = match mode {
-        RoundingMode::NearestUp => is_between,
-        RoundingMode::NearestEven => is_between && is_odd,
+/// A number divided by two to a power, rounded: by what is left of it, in whole numbers.
+fn rounded(case: &Case<'_>, number: i128, exponent: u32) -> i128 {
+    let floor = number >> (exponent % 128);
+    let unit = power(exponent);
+    let rest = low_bits(number, exponent);
+    let is_odd = floor & 1 == 1;
+    let twice = rest.wrapping_mul(2);
+    let goes_up = match mode(case) {
+        RoundingMode::NearestUp => twice >= unit,
+        RoundingMode::NearestEven => twice > unit || (twice == unit && is_odd),
         RoundingMode::Down => false,
-        RoundingMode::Odd => is_between && !is_odd,
+        RoundingMode::Odd => rest != 0 && !is_odd,
     };
     floor.wrapping_add(i128::from(goes_up))
 }
 
-/// The exact sum or difference, or half of it, rounded.
-fn exact<L: Lane>(op: FixedPointOp, mode: RoundingMode, a: L, b: L) -> i128 {
-    let (a_unsigned, b_unsigned) = (i128::from(a.number()), i128::from(b.number()));
-    let (a_signed, b_signed) = (i128::from(a.signed_number()), i128::from(b.signed_number()));
-    match op {
-        FixedPointOp::Vsaddu => a_unsigned.wrapping_add(b_unsigned),
-        FixedPointOp::Vsadd => a_signed.wrapping_add(b_signed),
-        FixedPointOp::Vssubu => a_unsigned.wrapping_sub(b_unsigned),
-        FixedPointOp::Vssub => a_signed.wrapping_sub(b_signed),
-        FixedPointOp::Vaaddu => half(mode, a_unsigned.wrapping_add(b_unsigned)),
-        FixedPointOp::Vaadd => half(mode, a_signed.wrapping_add(b_signed)),
-        FixedPointOp::Vasubu => half(mode, a_unsigned.wrapping_sub(b_unsigned)),
-        _ => half(mode, a_signed.wrapping_sub(b_signed)),
-    }
-}
-
-/// The number nearest to another that a result of the operation can have.
-fn nearest<L: Lane>(op: FixedPointOp, number: i128) -> i128 {
-    let ones = i128::from(L::all_ones().number());
-    match op {
-        FixedPointOp::Vsaddu | FixedPointOp::Vssubu => number.max(0).min(ones),
-        FixedPointOp::Vsadd | FixedPointOp::Vssub => {
-            let greatest = ones.div_euclid(2);
-            let least = greatest.wrapping_neg().wrapping_sub(1);
-            number.max(least).min(greatest)
-        }
-        _ => number,
-    }
-}
-
-/// Operands: the elements of `a`, those of vs2, and of `b`, those of the second operand.
-#[derive(Drop)]
-struct Operands {
-    a: [u8; LONGEST],
-    b: [u8; LONGEST],
-}
-
-/// What is left of a number at a width.
-fn low_bits<L: Lane>(number: i128) -> L {
-    L::low_bits((number.cast_unsigned() % (1 << 64)) as u64)
-}
-
-/// Whether a kernel leaves and answers what a plain loop over exact numbers does.
-#[tactic(auto, using(rv_model::proofs::element_lemmas::Sets::room_for))]
-fn agrees<L: Lane>(
-    op: FixedPointOp,
-    mode: RoundingMode,
-    operands: &Operands,
-    body: &Body<'_>,
-    fill_masked_off: bool,
-) -> bool
-    requires room { width_bytes L.width * body.now.end ≤ 520 }
-    requires count { body.now.end ≤ 65 }
-{
-    let (a, b) = (&operands.a, &operands.b);
-    let mut written = bytes(7);
-    let mut plain = bytes(7);
-    let results = FixedPoint { op, mode, a, b };
-    let told = write_saturating_results::<L, FixedPoint<'_>>(
-        &results,
-        body,
-        &mut written,
-        fill_masked_off,
-    );
-    let mut saturated = false;
-    for i in body.start()..body.end() {
-        if body.lets(i) {
-            let number = exact(op, mode, L::load(a, i), L::load(b, i));
-            let nearest = nearest::<L>(op, number);
-            low_bits::<L>(nearest).store(&mut plain, i);
-            saturated |= nearest != number;
-        } else if fill_masked_off {
-            L::all_ones().store(&mut plain, i);
+impl Kernel for FixedPointOp {
+    fn write(&self, case: &Case<'_>, destination: &mut [u8; LONGEST]) -> bool {
+        let kernel = FixedPoint {
+            op: *self,
+            mode: mode(case),
+            a: &case.operands.a,
+            b: &case.operands.b,
+        };
+        let (body, fill) = (case.body, case.fill);
+        match case.bits {
+            8 => write_saturating_results::<u8, FixedPoint<'_>>(&kernel, body, destination, fill),
+            16 => write_saturating_results::<u16, FixedPoint<'_>>(&kernel, body, destination, fill),
+            32 => write_saturating_results::<u32, FixedPoint<'_>>(&kernel, body, destination, fill),
+            _ => write_saturating_results::<u64, FixedPoint<'_>>(&kernel, body, destination, fill),
         }
     }
-    written == plain && told == saturated
-}
 
-/// The same at each width, with the masked-off elements kept and filled.
-fn count_widths(
-    op: FixedPointOp,
-    mode: RoundingMode,
-    operands: &Operands,
-    body: &Body<'_>,
-    tally: &mut Tally,
-)
-    requires { body.now.end ≤ 65 }
-{
-    tally.count(agrees::<u8>(op, mode, operands, body, false));
-    tally.count(agrees::<u8>(op, mode, operands, body, true));
-    tally.count(agrees::<u16>(op, mode, operands, body, false));
-    tally.count(agrees::<u32>(op, mode, operands, body, true));
-    tally.count(agrees::<u64>(op, mode, operands, body, false));
-}
-
-/// A saturating sum or difference.
-#[derive(Clone, Copy, Drop)]
-struct Saturating(FixedPointOp);
-
-impl Kernel for Saturating {
-    /// Of any numbers, and of mostly small ones.
-    fn compare(&self, body: &Body<'_>, tally: &mut Tally) {
-        let any = Operands {
-            a: bytes(3),
-            b: bytes(5),
-        };
-        let small = Operands {
-            a: mostly_small(3),
-            b: mostly_small(5),
-        };
-        count_widths(self.0, RoundingMode::Down, &any, body, tally);
-        count_widths(self.0, RoundingMode::Down, &small, body, tally);
+    fn number(&self, case: &Case<'_>, index: usize) -> i128 {
+        let Operands { a, b, .. } = case.operands;
+        let bits = case.bits;
+        let (x, y) = (unsigned(a, bits, index), unsigned(b, bits, index));
+        let (signed_x, signed_y) = (signed(a, bits, index), signed(b, bits, index));
+        match *self {
+            FixedPointOp::Vsaddu => x.wrapping_add(y),
+            FixedPointOp::Vsadd => signed_x.wrapping_add(signed_y),
+            FixedPointOp::Vssubu => x.wrapping_sub(y),
+            FixedPointOp::Vssub => signed_x.wrapping_sub(signed_y),
+            FixedPointOp::Vsmul => {
+                rounded(case, signed_x.wrapping_mul(signed_y), bits.wrapping_sub(1))
+            }
+            FixedPointOp::Vssrl => rounded(case, x, shift(y, bits)),
+            FixedPointOp::Vssra => rounded(case, signed_x, shift(y, bits)),
+            FixedPointOp::Vaaddu => rounded(case, x.wrapping_add(y), 1),
+            FixedPointOp::Vaadd => rounded(case, signed_x.wrapping_add(signed_y), 1),
+            FixedPointOp::Vasubu => rounded(case, x.wrapping_sub(y), 1),
+            FixedPointOp::Vasub => rounded(case, signed_x.wrapping_sub(signed_y), 1),
+        }
     }
 }
 
-/// An averaging sum or difference.
-#[derive(Clone, Copy, Drop)]
-struct Averaging(FixedPointOp);
+impl Kernel for ClipOp {
+    fn write(&self, case: &Case<'_>, destination: &mut [u8; LONGEST]) -> bool {
+        let (op, mode) = (*self, mode(case));
+        let (a, b) = (&case.operands.a, &case.operands.b);
+        let (body, fill) = (case.body, case.fill);
+        match case.bits {
+            8 => {
+                let kernel = Clip::<'_, u16> {
+                    op,
+                    mode,
+                    a,
+                    b,
+                    element: PhantomData,
+                };
+                write_saturating_results::<u8, Clip<'_, u16>>(&kernel, body, destination, fill)
+            }
+            16 => {
+                let kernel = Clip::<'_, u32> {
+                    op,
+                    mode,
+                    a,
+                    b,
+                    element: PhantomData,
+                };
+                write_saturating_results::<u16, Clip<'_, u32>>(&kernel, body, destination, fill)
+            }
+            _ => {
+                let kernel = Clip::<'_, u64> {
+                    op,
+                    mode,
+                    a,
+                    b,
+                    element: PhantomData,
+                };
+                write_saturating_results::<u32, Clip<'_, u64>>(&kernel, body, destination, fill)
+            }
+        }
+    }
 
-impl Kernel for Averaging {
-    /// In each rounding mode.
-    fn compare(&self, body: &Body<'_>, tally: &mut Tally) {
-        let operands = Operands {
-            a: bytes(3),
-            b: bytes(5),
-        };
-        for mode in MODES {
-            count_widths(self.0, mode, &operands, body, tally);
+    fn number(&self, case: &Case<'_>, index: usize) -> i128 {
+        let Operands { a, b, .. } = case.operands;
+        let twice = 2 * (case.bits % 64);
+        let amount = shift(unsigned(b, case.bits, index), twice);
+        match *self {
+            ClipOp::Vnclipu => rounded(case, unsigned(a, twice, index), amount),
+            ClipOp::Vnclip => rounded(case, signed(a, twice, index), amount),
         }
     }
 }
 
 /// Compares all of them.
 pub(crate) fn compare(rt: &impl Print) -> io::Result<()> {
-    compare_kernels(rt, &SATURATING)?;
-    compare_kernels(rt, &AVERAGING)
+    let (any, small) = (Operands::any(), Operands::small());
+    compare_kernels(rt, &UNSIGNED, &any, &TO_UNSIGNED)?;
+    compare_kernels(rt, &SMALL_UNSIGNED, &small, &TO_UNSIGNED)?;
+    compare_kernels(rt, &SIGNED, &any, &TO_SIGNED)?;
+    compare_kernels(rt, &SMALL_SIGNED, &small, &TO_SIGNED)?;
+    compare_kernels(rt, &ROUNDED, &any, &IN_EACH_MODE)?;
+    compare_kernels(rt, &[(ClipOp::Vnclipu, "vnclipu")], &any, &CLIPPED_UNSIGNED)?;
+    compare_kernels(rt, &[(ClipOp::Vnclip, "vnclip")], &any, &CLIPPED_SIGNED)
 }

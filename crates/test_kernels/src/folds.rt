@@ -1,13 +1,16 @@
-//! Reductions, logic on masks and counts of set bits.
+//! Reductions, and counts and searches of set bits ("V" Vector Extension 1.0, chapter 14, sections 15.2 and 15.3):
+//! their result is element 0. `a` is vs2, and the first element of `b` is that of vs1.
 ghost use Rattle.std.specs.Prelude.{◌*◌, ◌≤◌};
 ghost use Rattle.rv_model.specs.vector.Configuration.{width_bytes};
 
-use crate::comparison::{Kernel, Tally, compare_kernels};
-use crate::operands::{MASK, bit_at, bytes, set_bit};
-use lane_arith::{Body, Lane, write_mask_results};
-use lane_reduce::{Reduction, reduce};
-use mask_unit::{MaskLogic, count};
-use rv_model::instructions::operations::{MaskLogicOp, ReduceOp};
+use crate::comparison::{Case, Kernel, MASKED, Sweep, Written, compare_kernels, is_active};
+use crate::mask_results::bits_of;
+use crate::numbers::{bit_at, low_bits, signed, two_complement, unsigned};
+use crate::operands::{LONGEST, Operands};
+use lane_arith::Lane;
+use lane_reduce::{Combine, Reduction, WideningReduction, reduce};
+use mask_unit::{count, first};
+use rv_model::instructions::operations::{MaskToScalarOp, ReduceOp, WidenReduceOp};
 use std::io;
 
 const REDUCTIONS: [(ReduceOp, &str); 8] = [
@@ -21,159 +24,152 @@ const REDUCTIONS: [(ReduceOp, &str); 8] = [
     (ReduceOp::Vredmax, "vredmax"),
 ];
 
-const LOGIC: [(MaskLogicOp, &str); 8] = [
-    (MaskLogicOp::Vmandn, "vmandn"),
-    (MaskLogicOp::Vmand, "vmand"),
-    (MaskLogicOp::Vmor, "vmor"),
-    (MaskLogicOp::Vmxor, "vmxor"),
-    (MaskLogicOp::Vmorn, "vmorn"),
-    (MaskLogicOp::Vmnand, "vmnand"),
-    (MaskLogicOp::Vmnor, "vmnor"),
-    (MaskLogicOp::Vmxnor, "vmxnor"),
+const WIDENING: [(WidenReduceOp, &str); 2] = [
+    (WidenReduceOp::Vwredsumu, "vwredsumu"),
+    (WidenReduceOp::Vwredsum, "vwredsum"),
 ];
 
-/// The bits of another mask.
-const BITS: [u8; 32] = [
-    0x0f, 0xc3, 0xff, 0x00, 0x99, 0x5a, 0x7e, 0x18, 0xe1, 0x3c, 0x66, 0xb7, 0x0f, 0xc3, 0xff, 0x00,
-    0x99, 0x5a, 0x7e, 0x18, 0xe1, 0x3c, 0x66, 0xb7, 0x0f, 0xc3, 0xff, 0x00, 0x99, 0x5a, 0x7e, 0x18,
+const COUNTS: [(MaskToScalarOp, &str); 2] = [
+    (MaskToScalarOp::Vcpop, "vcpop"),
+    (MaskToScalarOp::Vfirst, "vfirst"),
 ];
 
-/// Whether an element counts.
-fn counts(body: &Body<'_>, index: usize) -> bool {
-    body.start() <= index
-        && index < body.end()
-        && (body.is_unmasked() || bit_at(body.mask(), index))
-}
+/// Reductions, by the width of their result.
+const REDUCED: Sweep = Sweep {
+    ways: 4,
+    written: Written::First,
+    ..MASKED
+};
 
-/// The number that some bytes make, the first byte the lowest.
-fn number_of(bytes: &[u8]) -> u64 {
-    let mut number = 0;
-    for byte in bytes.iter().rev() {
-        number = number << 8 | u64::from(*byte);
-    }
-    number
-}
+/// Reductions to twice the width.
+const WIDENED: Sweep = Sweep {
+    widths: &[16, 32, 64],
+    ..REDUCED
+};
 
-/// Two numbers combined, of a width that leaves so many bits of 64 unused.
-fn combined(op: ReduceOp, unused: u32, x: u64, a: u64) -> u64
-    requires { unused ≤ 56 }
-{
-    let is_less = a < x;
-    let is_less_signed = (a << unused).cast_signed() < (x << unused).cast_signed();
-    match op {
-        ReduceOp::Vredsum => x.wrapping_add(a) << unused >> unused,
-        ReduceOp::Vredand => x & a,
-        ReduceOp::Vredor => x | a,
-        ReduceOp::Vredxor => x ^ a,
-        ReduceOp::Vredminu => { if is_less { a } else { x } }
-        ReduceOp::Vredmin => { if is_less_signed { a } else { x } }
-        ReduceOp::Vredmaxu => { if is_less { x } else { a } }
-        ReduceOp::Vredmax => { if is_less_signed { x } else { a } }
-    }
-}
+/// Counts and searches of four masks, as numbers of 64 bits.
+const COUNTED: Sweep = Sweep {
+    widths: &[64],
+    variants: 4,
+    ..REDUCED
+};
 
-/// What a plain loop gives.
-fn reduced(op: ReduceOp, unused: u32, first: u64, elements: &[u8], body: &Body<'_>) -> u64
-    requires { unused ≤ 56 }
-{
-    let size = (64 - unused as usize) / 8;
-    let mut so_far = first;
-    for (index, element) in elements.chunks_exact(size).enumerate() {
-        if counts(body, index) {
-            so_far = combined(op, unused, so_far, number_of(element));
-        }
-    }
-    so_far
-}
-
-/// Whether a reduction gives what a plain loop gives.
-fn reduction_agrees<L: Lane>(op: ReduceOp, unused: u32, body: &Body<'_>) -> bool
-    requires room { width_bytes L.width * body.now.end ≤ 520 }
-    requires count { body.now.end ≤ 256 }
-    requires spare { unused ≤ 56 }
-{
-    let elements = bytes(11);
-    let first = number_of(&bytes(13)[..8]) << unused >> unused;
-    let result = reduce::<L, L, Reduction>(&Reduction { op }, L::low_bits(first), &elements, body);
-    result.number() == reduced(op, unused, first, &elements, body)
-}
-
-/// The result for two bits, of the four that the manual's table has for 11, 10, 01 and 00.
-fn logic_of(op: MaskLogicOp, a: bool, b: bool) -> bool {
-    let table: u8 = match op {
-        MaskLogicOp::Vmandn => 0b0100,
-        MaskLogicOp::Vmand => 0b1000,
-        MaskLogicOp::Vmor => 0b1110,
-        MaskLogicOp::Vmxor => 0b0110,
-        MaskLogicOp::Vmorn => 0b1101,
-        MaskLogicOp::Vmnand => 0b0111,
-        MaskLogicOp::Vmnor => 0b0001,
-        MaskLogicOp::Vmxnor => 0b1001,
+/// Two numbers of so many bits combined.
+fn combined(op: ReduceOp, bits: u32, x: i128, y: i128) -> i128 {
+    let (signed_x, signed_y) = (two_complement(x, bits), two_complement(y, bits));
+    let number = match op {
+        ReduceOp::Vredsum => x.wrapping_add(y),
+        ReduceOp::Vredand => x & y,
+        ReduceOp::Vredor => x | y,
+        ReduceOp::Vredxor => x ^ y,
+        ReduceOp::Vredminu => x.min(y),
+        ReduceOp::Vredmin => signed_x.min(signed_y),
+        ReduceOp::Vredmaxu => x.max(y),
+        ReduceOp::Vredmax => signed_x.max(signed_y),
     };
-    table >> (2 * u32::from(a) + u32::from(b)) & 1 == 1
+    low_bits(number, bits)
 }
 
-/// Whether logic on two masks leaves what a plain loop leaves.
-fn logic_agrees<L: Lane>(op: MaskLogicOp, body: &Body<'_>) -> bool
-    requires { body.now.end ≤ 256 }
+/// Calls a reduction, whose result is element 0.
+fn reduce_to<E: Lane, R: Lane, C: Combine<E, R>>(
+    kernel: &C,
+    case: &Case<'_>,
+    destination: &mut [u8; LONGEST],
+)
+    requires elements { width_bytes E.width * 65 ≤ 520 }
+    requires first { width_bytes R.width ≤ 520 }
+    requires count { case.now.body.now.end ≤ 65 }
 {
-    let mut written = [0x5a; 32];
-    let mut plain = [0x5a; 32];
-    let logic = MaskLogic {
-        op,
-        a: &BITS,
-        b: &MASK,
-    };
-    write_mask_results::<L, MaskLogic<'_>>(&logic, body, &mut written);
-    for i in 0..256 {
-        if counts(body, i) {
-            let bit = logic_of(op, bit_at(&BITS, i), bit_at(&MASK, i));
-            set_bit(&mut plain, i, bit);
-        }
-    }
-    written == plain
-}
-
-/// How many bits of the other mask are active and set.
-fn counted(body: &Body<'_>) -> usize {
-    let mut found: usize = 0;
-    for i in 0..256 {
-        if counts(body, i) && bit_at(&BITS, i) {
-            found = found.wrapping_add(1);
-        }
-    }
-    found
+    let Operands { a, b, .. } = case.operands;
+    reduce::<E, R, C>(kernel, R::load(b, 0), a, case.body).store(destination, 0);
 }
 
 impl Kernel for ReduceOp {
-    fn compare(&self, body: &Body<'_>, tally: &mut Tally) {
-        tally.count(reduction_agrees::<u8>(*self, 56, body));
-        tally.count(reduction_agrees::<u16>(*self, 48, body));
-        tally.count(reduction_agrees::<u32>(*self, 32, body));
-        tally.count(reduction_agrees::<u64>(*self, 0, body));
+    fn write(&self, case: &Case<'_>, destination: &mut [u8; LONGEST]) -> bool {
+        let kernel = &Reduction { op: *self };
+        match case.bits {
+            8 => reduce_to::<u8, u8, Reduction>(kernel, case, destination),
+            16 => reduce_to::<u16, u16, Reduction>(kernel, case, destination),
+            32 => reduce_to::<u32, u32, Reduction>(kernel, case, destination),
+            _ => reduce_to::<u64, u64, Reduction>(kernel, case, destination),
+        }
+        false
+    }
+
+    fn number(&self, case: &Case<'_>, _index: usize) -> i128 {
+        let mut number = unsigned(&case.operands.b, case.bits, 0);
+        for index in 0..case.body.end() {
+            if is_active(case.body, index) {
+                let element = unsigned(&case.operands.a, case.bits, index);
+                number = combined(*self, case.bits, number, element);
+            }
+        }
+        number
     }
 }
 
-impl Kernel for MaskLogicOp {
-    fn compare(&self, body: &Body<'_>, tally: &mut Tally) {
-        tally.count(logic_agrees::<u8>(*self, body));
-        tally.count(logic_agrees::<u64>(*self, body));
+impl Kernel for WidenReduceOp {
+    fn write(&self, case: &Case<'_>, destination: &mut [u8; LONGEST]) -> bool {
+        let kernel = &WideningReduction { op: *self };
+        match case.bits {
+            16 => reduce_to::<u8, u16, WideningReduction>(kernel, case, destination),
+            32 => reduce_to::<u16, u32, WideningReduction>(kernel, case, destination),
+            _ => reduce_to::<u32, u64, WideningReduction>(kernel, case, destination),
+        }
+        false
+    }
+
+    fn number(&self, case: &Case<'_>, _index: usize) -> i128 {
+        let half = case.bits / 2;
+        let mut sum = unsigned(&case.operands.b, case.bits, 0);
+        for index in 0..case.body.end() {
+            if is_active(case.body, index) {
+                sum = sum.wrapping_add(match *self {
+                    WidenReduceOp::Vwredsumu => unsigned(&case.operands.a, half, index),
+                    WidenReduceOp::Vwredsum => signed(&case.operands.a, half, index),
+                });
+            }
+        }
+        low_bits(sum, case.bits)
     }
 }
 
-/// The count of the bits of a mask.
-#[derive(Clone, Copy, Drop)]
-struct Count;
+impl Kernel for MaskToScalarOp {
+    /// The variant is the bits of vs2.
+    fn write(&self, case: &Case<'_>, destination: &mut [u8; LONGEST]) -> bool {
+        let bits = bits_of(case.variant);
+        let answer = match *self {
+            MaskToScalarOp::Vcpop => count(case.body, &bits) as u64,
+            MaskToScalarOp::Vfirst => match first(case.body, &bits) {
+                Some(index) => index as u64,
+                None => u64::MAX,
+            },
+        };
+        answer.store(destination, 0);
+        false
+    }
 
-impl Kernel for Count {
-    fn compare(&self, body: &Body<'_>, tally: &mut Tally) {
-        tally.count(count(body, &BITS) == counted(body));
+    fn number(&self, case: &Case<'_>, _index: usize) -> i128 {
+        let bits = bits_of(case.variant);
+        let mut found: i128 = 0;
+        let mut least = -1;
+        for index in 0..case.body.end() {
+            if is_active(case.body, index) && bit_at(&bits, index) {
+                found = found.wrapping_add(1);
+                least = if found == 1 { index as i128 } else { least };
+            }
+        }
+        match *self {
+            MaskToScalarOp::Vcpop => found,
+            MaskToScalarOp::Vfirst => least,
+        }
     }
 }
 
 /// Compares all of them.
 pub(crate) fn compare(rt: &impl Print) -> io::Result<()> {
-    compare_kernels(rt, &REDUCTIONS)?;
-    compare_kernels(rt, &LOGIC)?;
-    compare_kernels(rt, &[(Count, "vcpop")])
+    let any = Operands::any();
+    compare_kernels(rt, &REDUCTIONS, &any, &REDUCED)?;
+    compare_kernels(rt, &WIDENING, &any, &WIDENED)?;
+    compare_kernels(rt, &COUNTS, &any, &COUNTED)
 }

@@ -1,17 +1,13 @@
-//! Operations of one width.
-ghost use Rattle.std.specs.Prelude.{◌*◌, ◌<◌, ◌≤◌, ℕ, length};
-ghost use Rattle.rv_model.specs.vector.Configuration.{width_bytes};
-
-use crate::comparison::{Kernel, Tally, compare_kernels};
-use crate::operands::{MASK, bytes, set_bit};
-use lane_arith::{
-    Binary, Body, Compare, Lane, MaskResults, MultiplyAdd, Results, WithMaskOperand,
-    write_mask_results, write_results,
-};
-use rv_model::instructions::operations::{BinaryOp, CarryOp, CompareOp, MultiplyAddOp};
+//! Operations of one width ("V" Vector Extension 1.0, sections 11.1, 11.4 to 11.6, 11.9 to 11.11, 11.13, 11.15 and
+//! 11.16). `a` is vs2, `b` is vs1 or the other second operand, and `d` is vd.
+use crate::comparison::{Case, Kernel, MASKED, Sweep, compare_kernels};
+use crate::numbers::{bit_at, shift, signed, unsigned};
+use crate::operands::{ALL, LONGEST, MIXED, NO_MASK, Operands};
+use lane_arith::{Binary, Copies, Lane, MultiplyAdd, WithMaskOperand, fill, write_results};
+use rv_model::instructions::operations::{BinaryOp, CarryOp, MultiplyAddOp};
 use std::io;
 
-const BINARY: [(BinaryOp, &str); 15] = [
+const BINARY: [(BinaryOp, &str); 21] = [
     (BinaryOp::Vadd, "vadd"),
     (BinaryOp::Vsub, "vsub"),
     (BinaryOp::Vrsub, "vrsub"),
@@ -25,8 +21,14 @@ const BINARY: [(BinaryOp, &str); 15] = [
     (BinaryOp::Vsll, "vsll"),
     (BinaryOp::Vsrl, "vsrl"),
     (BinaryOp::Vsra, "vsra"),
-    (BinaryOp::Vmul, "vmul"),
+    (BinaryOp::Vdivu, "vdivu"),
     (BinaryOp::Vdiv, "vdiv"),
+    (BinaryOp::Vremu, "vremu"),
+    (BinaryOp::Vrem, "vrem"),
+    (BinaryOp::Vmulhu, "vmulhu"),
+    (BinaryOp::Vmul, "vmul"),
+    (BinaryOp::Vmulhsu, "vmulhsu"),
+    (BinaryOp::Vmulh, "vmulh"),
 ];
 
 const MULTIPLY_ADDS: [(MultiplyAddOp, &str); 4] = [
@@ -42,126 +44,199 @@ const CARRIES: [(CarryOp, &str); 3] = [
     (CarryOp::Vmerge, "vmerge"),
 ];
 
-const COMPARISONS: [(CompareOp, &str); 8] = [
-    (CompareOp::Vmseq, "vmseq"),
-    (CompareOp::Vmsne, "vmsne"),
-    (CompareOp::Vmsltu, "vmsltu"),
-    (CompareOp::Vmslt, "vmslt"),
-    (CompareOp::Vmsleu, "vmsleu"),
-    (CompareOp::Vmsle, "vmsle"),
-    (CompareOp::Vmsgtu, "vmsgtu"),
-    (CompareOp::Vmsgt, "vmsgt"),
-];
-
-/// Whether a kernel leaves what a plain loop leaves.
-#[tactic(auto, using(rv_model::proofs::element_lemmas::Sets::room_for))]
-fn agrees<L: Lane, R: Results<L>>(results: &R, body: &Body<'_>, fill_masked_off: bool) -> bool
-    requires operands { (i : ℕ) → i < body.now.end → R.has results.now i }
-    requires room { width_bytes L.width * body.now.end ≤ 520 }
-    requires count { body.now.end ≤ 256 }
-{
-    let mut written = bytes(7);
-    let mut plain = bytes(7);
-    write_results::<L, R>(results, body, &mut written, fill_masked_off);
-    for i in body.start()..body.end() {
-        if body.lets(i) {
-            results.result(i).store(&mut plain, i);
-        } else if fill_masked_off {
-            L::all_ones().store(&mut plain, i);
-        }
+/// The bits of v0 that an operation takes.
+pub(crate) fn mask_operand(variant: usize) -> [u8; 32] {
+    match variant {
+        0 => ALL,
+        1 => NO_MASK,
+        _ => MIXED,
     }
-    written == plain
 }
 
-/// The same of a kernel that leaves a mask.
-fn mask_agrees<L: Lane, R: MaskResults<L>>(results: &R, body: &Body<'_>) -> bool
-    requires operands { (i : ℕ) → i < body.now.end → R.has results.now i }
-    requires count { body.now.end ≤ 256 }
-{
-    let mut written = [0x5a; 32];
-    let mut plain = [0x5a; 32];
-    write_mask_results::<L, R>(results, body, &mut written);
-    for i in body.start()..body.end() {
-        if body.lets(i) {
-            set_bit(&mut plain, i, results.bit(i));
-        }
+/// The number that division gives, by whole numbers: a divisor of 0 gives ones, or the dividend as what remains.
+fn divided(op: BinaryOp, a: i128, b: i128) -> i128 {
+    match op {
+        BinaryOp::Vdivu | BinaryOp::Vdiv => a.checked_div(b).unwrap_or(-1),
+        _ => a.checked_rem(b).unwrap_or(a),
     }
-    written == plain
+}
+
+/// The upper half of a product of unsigned numbers.
+fn upper_half(a: i128, b: i128, bits: u32) -> i128 {
+    let product = a.cast_unsigned().wrapping_mul(b.cast_unsigned());
+    (product >> (bits % 128)).cast_signed()
 }
 
 impl Kernel for BinaryOp {
-    /// With the masked-off elements kept and filled.
-    fn compare(&self, body: &Body<'_>, tally: &mut Tally) {
-        let (a, b) = (bytes(3), bytes(5));
-        let binary = Binary {
+    fn write(&self, case: &Case<'_>, destination: &mut [u8; LONGEST]) -> bool {
+        let kernel = Binary {
             op: *self,
-            a: &a,
-            b: &b,
+            a: &case.operands.a,
+            b: &case.operands.b,
         };
-        tally.count(agrees::<u8, Binary<'_>>(&binary, body, false));
-        tally.count(agrees::<u8, Binary<'_>>(&binary, body, true));
-        tally.count(agrees::<u16, Binary<'_>>(&binary, body, true));
-        tally.count(agrees::<u32, Binary<'_>>(&binary, body, false));
-        tally.count(agrees::<u64, Binary<'_>>(&binary, body, true));
+        let (body, fill) = (case.body, case.fill);
+        match case.bits {
+            8 => write_results::<u8, Binary<'_>>(&kernel, body, destination, fill),
+            16 => write_results::<u16, Binary<'_>>(&kernel, body, destination, fill),
+            32 => write_results::<u32, Binary<'_>>(&kernel, body, destination, fill),
+            _ => write_results::<u64, Binary<'_>>(&kernel, body, destination, fill),
+        }
+        false
+    }
+
+    fn number(&self, case: &Case<'_>, index: usize) -> i128 {
+        let Operands { a, b, .. } = case.operands;
+        let bits = case.bits;
+        let (x, y) = (unsigned(a, bits, index), unsigned(b, bits, index));
+        let (signed_x, signed_y) = (signed(a, bits, index), signed(b, bits, index));
+        match *self {
+            BinaryOp::Vadd => x.wrapping_add(y),
+            BinaryOp::Vsub => x.wrapping_sub(y),
+            BinaryOp::Vrsub => y.wrapping_sub(x),
+            BinaryOp::Vminu => x.min(y),
+            BinaryOp::Vmin => signed_x.min(signed_y),
+            BinaryOp::Vmaxu => x.max(y),
+            BinaryOp::Vmax => signed_x.max(signed_y),
+            BinaryOp::Vand => x & y,
+            BinaryOp::Vor => x | y,
+            BinaryOp::Vxor => x ^ y,
+            BinaryOp::Vsll => x << shift(y, bits),
+            BinaryOp::Vsrl => x >> shift(y, bits),
+            BinaryOp::Vsra => signed_x >> shift(y, bits),
+            BinaryOp::Vdivu | BinaryOp::Vremu => divided(*self, x, y),
+            BinaryOp::Vdiv | BinaryOp::Vrem => divided(*self, signed_x, signed_y),
+            BinaryOp::Vmul => x.wrapping_mul(y),
+            BinaryOp::Vmulhu => upper_half(x, y, bits),
+            BinaryOp::Vmulhsu => signed_x.wrapping_mul(y) >> (bits % 128),
+            BinaryOp::Vmulh => signed_x.wrapping_mul(signed_y) >> (bits % 128),
+        }
     }
 }
 
 impl Kernel for MultiplyAddOp {
-    fn compare(&self, body: &Body<'_>, tally: &mut Tally) {
-        let (a, b, d) = (bytes(3), bytes(5), bytes(7));
-        let products = MultiplyAdd {
+    fn write(&self, case: &Case<'_>, destination: &mut [u8; LONGEST]) -> bool {
+        let kernel = MultiplyAdd {
             op: *self,
-            a: &a,
-            b: &b,
-            d: &d,
+            a: &case.operands.a,
+            b: &case.operands.b,
+            d: &case.operands.d,
         };
-        tally.count(agrees::<u8, MultiplyAdd<'_>>(&products, body, true));
-        tally.count(agrees::<u16, MultiplyAdd<'_>>(&products, body, false));
-        tally.count(agrees::<u32, MultiplyAdd<'_>>(&products, body, true));
-        tally.count(agrees::<u64, MultiplyAdd<'_>>(&products, body, false));
+        let (body, fill) = (case.body, case.fill);
+        match case.bits {
+            8 => write_results::<u8, MultiplyAdd<'_>>(&kernel, body, destination, fill),
+            16 => write_results::<u16, MultiplyAdd<'_>>(&kernel, body, destination, fill),
+            32 => write_results::<u32, MultiplyAdd<'_>>(&kernel, body, destination, fill),
+            _ => write_results::<u64, MultiplyAdd<'_>>(&kernel, body, destination, fill),
+        }
+        false
+    }
+
+    fn number(&self, case: &Case<'_>, index: usize) -> i128 {
+        let Operands { a, b, d } = case.operands;
+        let (vs2, vs1) = (unsigned(a, case.bits, index), unsigned(b, case.bits, index));
+        let vd = unsigned(d, case.bits, index);
+        match *self {
+            MultiplyAddOp::Vmadd => vs1.wrapping_mul(vd).wrapping_add(vs2),
+            MultiplyAddOp::Vnmsub => vs2.wrapping_sub(vs1.wrapping_mul(vd)),
+            MultiplyAddOp::Vmacc => vs1.wrapping_mul(vs2).wrapping_add(vd),
+            MultiplyAddOp::Vnmsac => vd.wrapping_sub(vs1.wrapping_mul(vs2)),
+        }
     }
 }
 
 impl Kernel for CarryOp {
-    fn compare(&self, body: &Body<'_>, tally: &mut Tally) {
-        let (a, b) = (bytes(3), bytes(5));
-        let carries = WithMaskOperand {
+    /// The variant is the bits of v0.
+    fn write(&self, case: &Case<'_>, destination: &mut [u8; LONGEST]) -> bool {
+        let v0 = mask_operand(case.variant);
+        let kernel = WithMaskOperand {
             op: *self,
-            a: &a,
-            b: &b,
-            v0: &MASK,
+            a: &case.operands.a,
+            b: &case.operands.b,
+            v0: &v0,
         };
-        tally.count(agrees::<u8, WithMaskOperand<'_>>(&carries, body, true));
-        tally.count(agrees::<u16, WithMaskOperand<'_>>(&carries, body, true));
-        tally.count(agrees::<u32, WithMaskOperand<'_>>(&carries, body, true));
-        tally.count(agrees::<u64, WithMaskOperand<'_>>(&carries, body, true));
+        let body = case.body;
+        match case.bits {
+            8 => write_results::<u8, WithMaskOperand<'_>>(&kernel, body, destination, false),
+            16 => write_results::<u16, WithMaskOperand<'_>>(&kernel, body, destination, false),
+            32 => write_results::<u32, WithMaskOperand<'_>>(&kernel, body, destination, false),
+            _ => write_results::<u64, WithMaskOperand<'_>>(&kernel, body, destination, false),
+        }
+        false
+    }
+
+    fn number(&self, case: &Case<'_>, index: usize) -> i128 {
+        let x = unsigned(&case.operands.a, case.bits, index);
+        let y = unsigned(&case.operands.b, case.bits, index);
+        let carry = bit_at(&mask_operand(case.variant), index);
+        match *self {
+            CarryOp::Vadc => x.wrapping_add(y).wrapping_add(i128::from(carry)),
+            CarryOp::Vsbc => x.wrapping_sub(y).wrapping_sub(i128::from(carry)),
+            CarryOp::Vmerge => { if carry { y } else { x } }
+        }
     }
 }
 
-impl Kernel for CompareOp {
-    /// The second operand has the bytes of the first, but for one in 16.
-    fn compare(&self, body: &Body<'_>, tally: &mut Tally) {
-        let (a, other) = (bytes(3), bytes(5));
-        let mut b = a;
-        for i in 0..32 {
-            b[16 * i] = other[i];
-        }
-        let compare = Compare {
-            op: *self,
-            a: &a,
-            b: &b,
+/// Copies of elements.
+struct Copied;
+
+impl Kernel for Copied {
+    fn write(&self, case: &Case<'_>, destination: &mut [u8; LONGEST]) -> bool {
+        let kernel = Copies {
+            b: &case.operands.b,
         };
-        tally.count(mask_agrees::<u8, Compare<'_>>(&compare, body));
-        tally.count(mask_agrees::<u16, Compare<'_>>(&compare, body));
-        tally.count(mask_agrees::<u32, Compare<'_>>(&compare, body));
-        tally.count(mask_agrees::<u64, Compare<'_>>(&compare, body));
+        let body = case.body;
+        match case.bits {
+            8 => write_results::<u8, Copies<'_>>(&kernel, body, destination, false),
+            16 => write_results::<u16, Copies<'_>>(&kernel, body, destination, false),
+            32 => write_results::<u32, Copies<'_>>(&kernel, body, destination, false),
+            _ => write_results::<u64, Copies<'_>>(&kernel, body, destination, false),
+        }
+        false
+    }
+
+    fn number(&self, case: &Case<'_>, index: usize) -> i128 {
+        unsigned(&case.operands.b, case.bits, index)
     }
 }
+
+/// One number in each element of a range.
+struct Filled;
+
+const FILLING: u64 = 0x8182_8384_8586_8788;
+
+impl Kernel for Filled {
+    fn write(&self, case: &Case<'_>, destination: &mut [u8; LONGEST]) -> bool {
+        let (start, end) = (case.body.start(), case.body.end());
+        match case.bits {
+            8 => fill(u8::low_bits(FILLING), start, end, destination),
+            16 => fill(u16::low_bits(FILLING), start, end, destination),
+            32 => fill(u32::low_bits(FILLING), start, end, destination),
+            _ => fill(u64::low_bits(FILLING), start, end, destination),
+        }
+        false
+    }
+
+    fn number(&self, _case: &Case<'_>, _index: usize) -> i128 {
+        i128::from(FILLING)
+    }
+}
+
+/// Under each mask operand.
+const CARRIED: Sweep = Sweep {
+    ways: 1,
+    variants: 3,
+    ..MASKED
+};
+
+/// Under no mask.
+const UNMASKED: Sweep = Sweep { ways: 1, ..MASKED };
 
 /// Compares all of them.
 pub(crate) fn compare(rt: &impl Print) -> io::Result<()> {
-    compare_kernels(rt, &BINARY)?;
-    compare_kernels(rt, &MULTIPLY_ADDS)?;
-    compare_kernels(rt, &CARRIES)?;
-    compare_kernels(rt, &COMPARISONS)
+    let any = Operands::any();
+    compare_kernels(rt, &BINARY, &any, &MASKED)?;
+    compare_kernels(rt, &MULTIPLY_ADDS, &any, &MASKED)?;
+    compare_kernels(rt, &CARRIES, &any, &CARRIED)?;
+    compare_kernels(rt, &[(Copied, "vmv.v.v")], &any, &UNMASKED)?;
+    compare_kernels(rt, &[(Filled, "one number in a range")], &any, &UNMASKED)
 }

@@ -1,15 +1,26 @@
 //! What kernels are given: bytes of elements, and masks.
+ghost use Rattle.std.specs.Prelude.{◌<◌, ◌≤◌};
+
 /// The bytes of 65 elements of the greatest width.
 pub(crate) const LONGEST: usize = 520;
 
-/// The bits of a mask.
-pub(crate) const MASK: [u8; 32] = [
+/// The bits of a mask, of which some are set.
+pub(crate) const MIXED: [u8; 32] = [
     0x96, 0x3d, 0x00, 0xff, 0x5a, 0x01, 0x80, 0xe7, 0x9c, 0x55, 0x0f, 0x96, 0x3d, 0x00, 0xff, 0x5a,
     0x01, 0x80, 0xe7, 0x9c, 0x55, 0x0f, 0x96, 0x3d, 0x00, 0xff, 0x5a, 0x01, 0x80, 0xe7, 0x9c, 0x55,
 ];
 
+/// The bits of another mask.
+pub(crate) const BITS: [u8; 32] = [
+    0x0f, 0xc3, 0xff, 0x00, 0x99, 0x5a, 0x7e, 0x18, 0xe1, 0x3c, 0x66, 0xb7, 0x0f, 0xc3, 0xff, 0x00,
+    0x99, 0x5a, 0x7e, 0x18, 0xe1, 0x3c, 0x66, 0xb7, 0x0f, 0xc3, 0xff, 0x00, 0x99, 0x5a, 0x7e, 0x18,
+];
+
 /// No bits.
 pub(crate) const NO_MASK: [u8; 32] = [0; 32];
+
+/// All bits.
+pub(crate) const ALL: [u8; 32] = [0xff; 32];
 
 /// The mask with this first byte, and others that are the same.
 pub(crate) fn mask_of(first: u8, others: u8) -> [u8; 32] {
@@ -18,8 +29,59 @@ pub(crate) fn mask_of(first: u8, others: u8) -> [u8; 32] {
     mask
 }
 
+/// The bytes of elements: `a` of vs2, `b` of the second operand, `d` those that the destination has.
+#[derive(Drop)]
+pub(crate) struct Operands {
+    pub(crate) a: [u8; LONGEST],
+    pub(crate) b: [u8; LONGEST],
+    pub(crate) d: [u8; LONGEST],
+}
+
+impl Operands {
+    /// Numbers of every kind. Some 8 bytes together are a least, a greatest, a 0 or a -1 of each width; the
+    /// least is beside -1, and others beside 0.
+    pub(crate) fn any() -> Operands {
+        Operands {
+            a: with_limits(&bytes(3), 0, 8),
+            b: with_limits(&bytes(5), 4, 7),
+            d: bytes(7),
+        }
+    }
+
+    /// Numbers of which every third is the same in both.
+    pub(crate) fn near() -> Operands {
+        let Operands { a, b, d } = Operands::any();
+        Operands {
+            a,
+            b: mixed(&a, &b),
+            d,
+        }
+    }
+
+    /// Small numbers, so that few sums of them saturate: one byte in 24 may be large.
+    pub(crate) fn small() -> Operands {
+        Operands {
+            a: mostly_small(&bytes(3)),
+            b: mostly_small(&bytes(5)),
+            d: bytes(7),
+        }
+    }
+
+    /// Any numbers, and indices of so many bytes: numbers below 80, 64 and 65 among them, and one in nine that is
+    /// much larger.
+    pub(crate) fn indices(size: usize) -> Operands
+        requires { 0 < size }
+    {
+        Operands {
+            a: bytes(3),
+            b: indices(&bytes(9), size),
+            d: bytes(7),
+        }
+    }
+}
+
 /// Bytes that differ from one another in many bits.
-pub(crate) fn bytes(seed: u64) -> [u8; LONGEST] {
+fn bytes(seed: u64) -> [u8; LONGEST] {
     let mut bytes = [0; LONGEST];
     let mut number = seed;
     for byte in bytes.iter_mut() {
@@ -31,18 +93,69 @@ pub(crate) fn bytes(seed: u64) -> [u8; LONGEST] {
     bytes
 }
 
-/// A bit of a mask.
-pub(crate) fn bit_at(mask: &[u8; 32], index: usize) -> bool {
-    mask[index / 8 % 32] & (1 << (index % 8)) != 0
+/// A byte of a number that is a limit of each width, or another byte.
+fn limit(kind: usize, is_last: bool, other: u8) -> u8 {
+    match kind {
+        1 => { if is_last { 0x80 } else { 0 } }
+        3 => 0,
+        5 => 0xff,
+        6 => { if is_last { 0x7f } else { 0xff } }
+        _ => other,
+    }
 }
 
-/// Replaces a bit of a mask.
-pub(crate) fn set_bit(mask: &mut [u8; 32], index: usize, bit: bool) {
-    let place = 1 << (index % 8);
-    let byte = &mut mask[index / 8 % 32];
-    if bit {
-        *byte |= place;
-    } else {
-        *byte &= !place;
+/// The bytes, of which some 8 together are limits: their kinds follow one another with a period.
+fn with_limits(bytes: &[u8; LONGEST], first: usize, period: usize) -> [u8; LONGEST]
+    requires few { first ≤ 8 }
+    requires some { 0 < period }
+{
+    let mut made = *bytes;
+    for i in 0..LONGEST {
+        made[i] = limit((i / 8 + first) % period, i % 8 == 7, bytes[i]);
     }
+    made
+}
+
+/// The bytes of `b`, of which every third 8 are those of `a`.
+fn mixed(a: &[u8; LONGEST], b: &[u8; LONGEST]) -> [u8; LONGEST] {
+    let mut made = *b;
+    for i in 0..LONGEST {
+        if i / 8 % 3 == 0 {
+            made[i] = a[i];
+        }
+    }
+    made
+}
+
+/// Small bytes, but for one in 24.
+fn mostly_small(bytes: &[u8; LONGEST]) -> [u8; LONGEST] {
+    let mut made = *bytes;
+    for i in 0..LONGEST {
+        if i % 24 != 23 {
+            made[i] %= 64;
+        }
+    }
+    made
+}
+
+/// A byte of an index: among nine are one of ones, one of 65, one of 64, and small ones.
+fn index_byte(kind: usize, is_first: bool, small: u8) -> u8 {
+    match (kind, is_first) {
+        (8, _) => 0xff,
+        (_, false) => 0,
+        (7, true) => 65,
+        (6, true) => 64,
+        (_, true) => small,
+    }
+}
+
+/// Elements of so many bytes, which are small but for one in nine.
+fn indices(bytes: &[u8; LONGEST], size: usize) -> [u8; LONGEST]
+    requires { 0 < size }
+{
+    let mut made = [0; LONGEST];
+    for i in 0..LONGEST {
+        made[i] = index_byte(i / size % 9, i % size == 0, bytes[i] % 80);
+    }
+    made
 }
