@@ -2,4 +2,5 @@ pub mod DeviceLaws
 pub mod EndedLaws
 pub mod Feeding
 pub mod LineBuffer
+pub mod ReadsInTurn
 pub mod Runs

@@ -34,8 +34,9 @@ pub trait Source {
     /// No byte may have been given at once.
     ghost gave_none: { (s : Self) → gave s [] s };
 
-    /// Bytes that were given one after another.
-    ghost gave_more: { (a b c : Self) (xs ys : List ℕ) → gave a xs b → gave b ys c → gave a (xs ++ ys) c };
+    /// Bytes that were given one after another, without an end between them.
+    ghost gave_more: { (a b c : Self) (xs ys : List ℕ) → gave a xs b → ¬ (ended b) → gave b ys c
+        → gave a (xs ++ ys) c };
 }
 
 /// A device that takes bytes in order.

@@ -103,24 +103,20 @@ pub fn run<A: Allocator, S: Source, K: Sink>(
     source: &mut S,
     sink: &mut K,
 ) -> Result<(), RunFault>
-    // The source came to its end, and what it gave is the script.
-    ensures ok { OnOk result ((script : List ℕ) × (
-        S.gave source.old script source.new × S.ended source.new × (length script ≤ 16777216)
-        × (machine.new.world ≡ after_script machine.old.setup machine.old.world script)
-        × K.took sink.old (whole_from machine.old.setup machine.old.world script) sink.new)) }
-    ensures setup { machine.new.setup ≡ machine.old.setup }
-    // Each user's lines are those of a private machine that is given that user's events alone.
-    ensures headline { machine.old.world ≡ new_world → OnOk result (
-        (script : List ℕ) × ((output : List ℕ) × (
+    // What the source gave up to its end is the script, and the sink took the script's output. Each
+    // user's lines are those of a private machine that is given that user's events alone: a new
+    // one, or, where the machine has been used, the user's own from where it stood.
+    ensures headline { OnOk result ((script : List ℕ) × ((output : List ℕ) × (
         S.gave source.old script source.new × S.ended source.new × K.took sink.old output sink.new
-        × ((u : ℕ) → 1 ≤ u → u ≤ user_count →
-        lines u output ≡ solo machine.old.setup (own machine.old.setup u script))))) }
-    // The same for a machine that has been used.
-    ensures used_headline { OnOk result ((script : List ℕ) × ((output : List ℕ) × (
-        S.gave source.old script source.new × S.ended source.new × K.took sink.old output sink.new
+        × (machine.old.world ≡ new_world → (u : ℕ) → 1 ≤ u → u ≤ user_count →
+        lines u output ≡ solo machine.old.setup (own machine.old.setup u script))
         × ((u : ℕ) → 1 ≤ u → u ≤ user_count →
         lines u output ≡ solo_from machine.old.setup (part u machine.old.world)
-        (own_from machine.old.setup u machine.old.world script))))) }
+        (own_from machine.old.setup u machine.old.world script))
+        × (output ≡ whole_from machine.old.setup machine.old.world script)
+        × (machine.new.world ≡ after_script machine.old.setup machine.old.world script)
+        × (length script ≤ 16777216)))) }
+    ensures setup { machine.new.setup ≡ machine.old.setup }
     ensures unfailed_source { OnOk result (S.failures source.new ≡ S.failures source.old) }
     ensures unfailed_sink { OnOk result (K.failures sink.new ≡ K.failures sink.old) }
     ensures read { result ≡ Err RunFault.Read →

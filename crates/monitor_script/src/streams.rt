@@ -51,7 +51,7 @@ impl<R: Read> Source for ReaderSource<R> {
 
     ghost gave_none = { λ s. Consumes-nil (R.remaining s.reader) };
 
-    ghost gave_more = { λ a b c xs ys. Consumes-trans (R.remaining a.reader) (R.remaining b.reader) (R.remaining c.reader) xs ys };
+    ghost gave_more = { λ a b c xs ys first _ then. Consumes-trans (R.remaining a.reader) (R.remaining b.reader) (R.remaining c.reader) xs ys first then };
 }
 
 /// A writer as a sink.

@@ -1,7 +1,7 @@
 //! A machine in an arena that has nothing left once the machine stands, and a machine with memory in plenty: each command, each
-//! vector instruction and a million steps are answered alike.
+//! vector instruction and a million steps are answered alike, and the second takes none of its memory either.
 
-use crate::growths::{arena_with, machine_size};
+use crate::growths::{LARGE, arena_with, machine_size};
 use anyhow::{Result, ensure};
 use bumpalo::Bump;
 use std::alloc::{Allocator, Global};
@@ -60,10 +60,14 @@ fn output_without_memory(alloc: Global, images: &[Image<'_>], script: &str) -> R
     output_of(alloc, &mut machine, script)
 }
 
-/// The output of a script on a machine with memory in plenty.
+/// The output of a script on a machine in an arena with memory in plenty, of which the script takes none.
 fn output_with_memory(alloc: Global, images: &[Image<'_>], script: &str) -> Result<Vec<u8>> {
-    let mut machine = Machine::new(alloc, QUANTUM, images)?;
-    output_of(alloc, &mut machine, script)
+    let arena = arena_with(alloc, LARGE)?;
+    let mut machine = Machine::new(&arena, QUANTUM, images)?;
+    let left = arena.chunk_capacity();
+    let output = output_of(alloc, &mut machine, script)?;
+    ensure!(arena.chunk_capacity() == left, "the script took memory");
+    Ok(output)
 }
 
 /// What two outputs have, one without memory and one with it.

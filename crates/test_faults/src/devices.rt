@@ -9,13 +9,13 @@ use vec_monitor::{DeviceFault, Machine, RunFault, Sink, Source, run};
 
 /// Counts the calls of a device down to the one that fails: with 1 the next one does, with 0 none.
 #[derive(Clone, Copy, Drop)]
-struct Countdown {
-    calls: u64,
+pub(crate) struct Countdown {
+    pub calls: u64,
 }
 
 impl Countdown {
     /// Counts a call. Whether it is the one that fails.
-    fn is_over(&mut self) -> bool {
+    pub(crate) fn is_over(&mut self) -> bool {
         match self.calls {
             0 => false,
             calls => {
@@ -81,7 +81,7 @@ impl Source for PieceSource<'_> {
 
     ghost gave_none = { λ s. Consumes-nil (Some s.left.now) };
 
-    ghost gave_more = { λ a b c xs ys. Consumes-trans (Some a.left.now) (Some b.left.now) (Some c.left.now) xs ys };
+    ghost gave_more = { λ a b c xs ys first _ then. Consumes-trans (Some a.left.now) (Some b.left.now) (Some c.left.now) xs ys first then };
 }
 
 /// A sink that keeps what it takes.

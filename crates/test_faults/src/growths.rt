@@ -14,7 +14,7 @@ use vec_monitor::{Machine, NewFault};
 const SMALL: usize = 2048;
 
 /// More bytes than a machine takes.
-const LARGE: usize = 1 << 24;
+pub(crate) const LARGE: usize = 1 << 24;
 
 /// Zeros that an arena is filled with.
 const FILLING: [u8; 8192] = [0; 8192];

@@ -29,7 +29,7 @@ impl Source for EndlessSource {
 
     ghost gave_none = { λ s. no_bytes s.byte };
 
-    ghost gave_more = { λ a b c xs ys. more_bytes a.byte b.byte c.byte xs ys };
+    ghost gave_more = { λ a b c xs ys first _ then. more_bytes a.byte b.byte c.byte xs ys first then };
 }
 
 /// Runs the script that a slice holds.
@@ -73,12 +73,13 @@ pub(crate) fn run_twice<A: Allocator, S: Source, K: Sink>(
     source: &mut S,
     sink: &mut K,
 ) -> Result<(), RunFault>
-    ensures { OnOk result ((one : List ℕ) × ((two : List ℕ) × (
-        S.gave source.old (one ++ two) source.new
+    ensures { OnOk result ((one : List ℕ) × ((two : List ℕ) × ((between : S) × (
+        S.gave source.old one between × S.ended between × S.gave between two source.new
+        × S.ended source.new
         × (machine.new.world ≡ after_script machine.old.setup
         (after_script machine.old.setup machine.old.world one) two)
         × K.took sink.old (whole_from machine.old.setup machine.old.world one ++ whole_from
-        machine.old.setup (after_script machine.old.setup machine.old.world one) two) sink.new))) }
+        machine.old.setup (after_script machine.old.setup machine.old.world one) two) sink.new)))) }
 {
     run(machine, source, sink)?;
     run(machine, source, sink)

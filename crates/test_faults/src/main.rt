@@ -1,7 +1,8 @@
 //! Whatever can fail fails in turn: each read and each write of two scripts, by devices in memory that give and take a few bytes
 //! at a call; scripts that are too long; and memory, before a machine stands and after. What should come then is found in another
 //! way: line by line, by hand, or with memory in plenty. Last come files in memory that are too large for the program, outputs that take
-//! little, and what machines and pools refuse.
+//! little, calls of files and outputs that fail, and what machines and pools refuse. Beside these, a source and a sink that know of each
+//! other see in which order a script is read and answered.
 //!
 //! A line for each kind of failure has how many runs there were, and how many went otherwise than they should. Between these
 //! stand the ends of a script of two lines, which were worked out by hand.
@@ -18,6 +19,7 @@ mod scripts;
 mod shell;
 mod tally;
 mod transcript;
+mod turns;
 mod two_lines;
 
 use anyhow::{Result, ensure};
@@ -26,6 +28,7 @@ use scripts::{failing_reads, failing_writes, whole};
 use std::fs;
 use tally::Tally;
 use transcript::Transcript;
+use turns::in_turn;
 
 /// The most bytes that a device gives or takes at a call.
 const PIECES: [usize; 3] = [1, 7, 512];
@@ -36,12 +39,13 @@ fn print_tally(rt: &HostRuntime, kind: &str, tally: Tally) -> Result<()> {
     Ok(())
 }
 
-/// Runs a script whole, and with each of its reads and writes failing in turn.
+/// Runs a script whole, looks whether it reads and answers in turn, and lets each of its reads and writes fail.
 fn print_script(rt: &HostRuntime, name: &str, transcript: &Transcript<'_>) -> Result<()> {
     let alloc = rt.alloc();
     for piece in PIECES {
         println!(rt; "{name}, moved by {piece} at most")?;
         print_tally(rt, "  whole", whole(alloc, transcript, piece)?)?;
+        print_tally(rt, "  in turn", in_turn(alloc, transcript, piece)?)?;
         print_tally(
             rt,
             "  failed reads",
@@ -96,7 +100,8 @@ fn print_memory(rt: &HostRuntime) -> Result<()> {
     Ok(())
 }
 
-/// Prints what comes of files that are too large, outputs that are full, and words, images and accesses that are refused.
+/// Prints what comes of files that are too large, outputs that are full, calls that fail, and words, images and accesses that are
+/// refused.
 fn print_limits(rt: &HostRuntime) -> Result<()> {
     let alloc = rt.alloc();
     print_tally(
@@ -105,6 +110,11 @@ fn print_limits(rt: &HostRuntime) -> Result<()> {
         program::sizes(alloc)?,
     )?;
     print_tally(rt, "outputs with little room", program::rooms(alloc)?)?;
+    print_tally(
+        rt,
+        "calls of which one fails",
+        program::failed_calls(alloc)?,
+    )?;
     print_tally(rt, "words that are read", program::words(alloc))?;
     print_tally(
         rt,

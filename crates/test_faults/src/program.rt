@@ -1,9 +1,10 @@
-//! The program on files in memory: files as large as may be and a byte larger, outputs without room, and words that are read.
-//! What should come is what docs/PROGRAM.md and docs/COMMANDS.md say.
+//! The program on files in memory: files as large as may be and a byte larger, outputs without room, calls of which one fails, and
+//! words that are read. What should come is what docs/PROGRAM.md and docs/COMMANDS.md say.
 
-use crate::shell::Shell;
+use crate::shell::{Failure, NO_FAILURE, OUTPUT, Shell};
 use crate::tally::Tally;
 use std::alloc::{AllocError, Global};
+use std::io::ErrorKind;
 use vec_monitor::{UsageFault, options, vecmon};
 
 /// The script of each run that has a script of its own.
@@ -13,6 +14,7 @@ const SCRIPT: &[u8] = b"1 enter\n1 load a\n1 load b";
 const NO_OUTPUT: &str = "vecmon: cannot write output\n";
 
 /// A run: the words after the program's name, the bytes that standard output takes, and what should come.
+#[derive(Clone, Copy)]
 struct Run {
     words: &'static [&'static str],
     room: usize,
@@ -78,14 +80,119 @@ const ROOMS: [Run; 3] = [
     },
 ];
 
+/// What standard error has where the image isn't read, and where the script isn't.
+const NO_IMAGE: &str = "vecmon: cannot read image a\n";
+
+const NO_SCRIPT: &str = "vecmon: cannot read script\n";
+
+/// A call that fails, and what should come of the run: its status, its output and its errors.
+#[derive(Clone, Copy)]
+struct FailedCall {
+    path: &'static str,
+    call: u64,
+    status: u8,
+    output: &'static str,
+    errors: &'static str,
+}
+
+/// The reads of an image of 5,000 bytes, which are three, those of the script, which are two, and the writes of the three answers; and
+/// of each a call more than there is.
+const FAILED_CALLS: [FailedCall; 11] = [
+    FailedCall {
+        path: "image",
+        call: 1,
+        status: 4,
+        output: "",
+        errors: NO_IMAGE,
+    },
+    FailedCall {
+        path: "image",
+        call: 2,
+        status: 4,
+        output: "",
+        errors: NO_IMAGE,
+    },
+    FailedCall {
+        path: "image",
+        call: 3,
+        status: 4,
+        output: "",
+        errors: NO_IMAGE,
+    },
+    FailedCall {
+        path: "image",
+        call: 4,
+        status: 0,
+        output: "1 entered\n1 E09 Magic\n1 E08\n",
+        errors: "",
+    },
+    FailedCall {
+        path: "script",
+        call: 1,
+        status: 3,
+        output: "",
+        errors: NO_SCRIPT,
+    },
+    FailedCall {
+        path: "script",
+        call: 2,
+        status: 3,
+        output: "1 entered\n1 E09 Magic\n",
+        errors: NO_SCRIPT,
+    },
+    FailedCall {
+        path: "script",
+        call: 3,
+        status: 0,
+        output: "1 entered\n1 E09 Magic\n1 E08\n",
+        errors: "",
+    },
+    FailedCall {
+        path: OUTPUT,
+        call: 1,
+        status: 5,
+        output: "",
+        errors: NO_OUTPUT,
+    },
+    FailedCall {
+        path: OUTPUT,
+        call: 2,
+        status: 5,
+        output: "1 entered\n",
+        errors: NO_OUTPUT,
+    },
+    FailedCall {
+        path: OUTPUT,
+        call: 3,
+        status: 5,
+        output: "1 entered\n1 E09 Magic\n",
+        errors: NO_OUTPUT,
+    },
+    FailedCall {
+        path: OUTPUT,
+        call: 4,
+        status: 0,
+        output: "1 entered\n1 E09 Magic\n1 E08\n",
+        errors: "",
+    },
+];
+
+/// What a call fails of: an interruption, and something else.
+const KINDS: [ErrorKind; 2] = [ErrorKind::Interrupted, ErrorKind::Other];
+
 /// So many zeros.
 pub(crate) fn zeros(alloc: Global, count: usize) -> Result<Vec<u8>, AllocError> {
     vec![in alloc; 0; count]
 }
 
 /// Whether the program ends on these files as it should.
-fn ends_so(alloc: Global, files: &[(&str, &[u8])], run: &Run) -> Result<bool, AllocError> {
-    let shell = Shell::new(alloc, files, run.room);
+fn ends_so(
+    alloc: Global,
+    files: &[(&str, &[u8])],
+    run: &Run,
+    failure: Failure,
+) -> Result<bool, AllocError> {
+    let shell = Shell::new(alloc, files, run.room, failure);
     let mut line: Vec<&str> = Vec::new(alloc);
     line.push("vecmon")?;
     line.extend_from_slice(run.words)?;
@@ -108,7 +215,7 @@ pub(crate) fn sizes(alloc: Global) -> Result<Tally, AllocError> {
     ];
     let mut tally = Tally::new();
     for run in &SIZES {
-        tally.add(ends_so(alloc, &files, run)?);
+        tally.add(ends_so(alloc, &files, run, NO_FAILURE)?);
     }
     Ok(tally)
 }
@@ -117,7 +224,38 @@ pub(crate) fn sizes(alloc: Global) -> Result<Tally, AllocError> {
 pub(crate) fn rooms(alloc: Global) -> Result<Tally, AllocError> {
     let mut tally = Tally::new();
     for run in &ROOMS {
-        tally.add(ends_so(alloc, &[("script", SCRIPT)], run)?);
+        tally.add(ends_so(alloc, &[("script", SCRIPT)], run, NO_FAILURE)?);
+    }
+    Ok(tally)
+}
+
+/// Calls of which one fails, for one reason.
+fn add_failed_calls(alloc: Global, kind: ErrorKind, tally: &mut Tally) -> Result<(), AllocError> {
+    let image = zeros(alloc, 5_000)?;
+    let files = [("script", SCRIPT), ("image", image.as_slice())];
+    for failed in &FAILED_CALLS {
+        let failure = Failure {
+            path: failed.path,
+            call: failed.call,
+            kind,
+        };
+        let run = Run {
+            words: &["script", "a=image"],
+            room: usize::MAX,
+            status: failed.status,
+            output: failed.output,
+            errors: failed.errors,
+        };
+        tally.add(ends_so(alloc, &files, &run, failure)?);
+    }
+    Ok(())
+}
+
+/// Each read of an image and of a script, and each write, fails in turn, once: it isn't tried again, whatever the reason.
+pub(crate) fn failed_calls(alloc: Global) -> Result<Tally, AllocError> {
+    let mut tally = Tally::new();
+    for kind in KINDS {
+        add_failed_calls(alloc, kind, &mut tally)?;
     }
     Ok(tally)
 }

@@ -1,7 +1,8 @@
 //! A runtime in memory that the program is run in: files by their paths, an empty standard input, and what was written to the
-//! two outputs.
+//! two outputs. A call of a file or of standard output may fail, once.
 ghost use Rattle.std.specs.Prelude.{IsErr};
 
+use crate::devices::Countdown;
 use std::alloc::{Allocator, Global};
 use std::cell::RefCell;
 use std::fmt::Display;
@@ -10,14 +11,45 @@ use std::io;
 use std::io::{BufRead, ErrorKind, Lines, Read, Seek, SeekFrom, Write};
 use std::rt::Files;
 
+/// A call that fails, of those of one file or of standard output, whose path is `OUTPUT`.
+#[derive(Clone, Copy)]
+pub(crate) struct Failure {
+    pub path: &'static str,
+    pub call: u64,
+    pub kind: ErrorKind,
+}
+
+/// What stands for standard output where a path should.
+pub(crate) const OUTPUT: &str = "standard output";
+
+/// No call fails.
+pub(crate) const NO_FAILURE: Failure = Failure {
+    path: OUTPUT,
+    call: 0,
+    kind: ErrorKind::Other,
+};
+
+impl Failure {
+    /// The calls up to the one that fails, of the file of this path.
+    fn countdown(&self, path: &str) -> Countdown {
+        let calls = if self.path == path { self.call } else { 0 };
+        Countdown { calls }
+    }
+}
+
 /// An open file, by what is left to read.
 #[derive(Drop)]
 pub(crate) struct OpenEntry<'a> {
     left: &'a [u8],
+    countdown: Countdown,
+    kind: ErrorKind,
 }
 
 impl Read for OpenEntry<'_> {
     fn read(&mut self, buffer: &mut [u8]) -> io::Result<usize> {
+        if self.countdown.is_over() {
+            return Err(io::Error::from(self.kind));
+        }
         let count = self.left.len().min(buffer.len());
         let (front, rest) = self.left.split_at(count);
         buffer[..count].copy_from_slice(front);
@@ -73,20 +105,40 @@ pub(crate) struct Shell<'a> {
     pub alloc: Global,
     pub files: &'a [(&'a str, &'a [u8])],
     pub room: usize,
+    pub failure: Failure,
+    pub output_calls: RefCell<Countdown>,
     pub output: RefCell<Vec<u8>>,
     pub errors: RefCell<Vec<u8>>,
 }
 
 impl<'a> Shell<'a> {
     /// Nothing was written yet.
-    pub(crate) fn new(alloc: Global, files: &'a [(&'a str, &'a [u8])], room: usize) -> Self {
+    pub(crate) fn new(
+        alloc: Global,
+        files: &'a [(&'a str, &'a [u8])],
+        room: usize,
+        failure: Failure,
+    ) -> Self {
         Shell {
             alloc,
             files,
             room,
+            failure,
+            output_calls: RefCell::new(failure.countdown(OUTPUT)),
             output: RefCell::new(Vec::new(alloc)),
             errors: RefCell::new(Vec::new(alloc)),
         }
+    }
+
+    /// Adds bytes to standard output, unless this is the call that fails.
+    fn put_out(&self, bytes: &[u8]) -> io::Result<()> {
+        let Ok(mut calls) = self.output_calls.try_borrow_mut() else {
+            return unsupported();
+        };
+        if calls.is_over() {
+            return Err(io::Error::from(self.failure.kind));
+        }
+        add(&self.output, bytes, self.room)
     }
 
     /// Whether the outputs took these bytes, and no other.
@@ -114,23 +166,15 @@ fn add(to: &RefCell<Vec<u8>>, bytes: &[u8], room: usize) -> io::Result<()> {
 
 impl Print for Shell<'_> {
     fn print<D: Display + Drop>(&self, value: D) -> io::Result<()> {
-        add(
-            &self.output,
-            format!(in self.alloc; "{value}")?.as_bytes(),
-            self.room,
-        )
+        self.put_out(format!(in self.alloc; "{value}")?.as_bytes())
     }
 
     fn println<D: Display + Drop>(&self, value: D) -> io::Result<()> {
-        add(
-            &self.output,
-            format!(in self.alloc; "{value}\n")?.as_bytes(),
-            self.room,
-        )
+        self.put_out(format!(in self.alloc; "{value}\n")?.as_bytes())
     }
 
     fn write_all(&self, bytes: &[u8]) -> io::Result<()> {
-        add(&self.output, bytes, self.room)
+        self.put_out(bytes)
     }
 }
 
@@ -176,7 +220,11 @@ impl<'a> Files for Shell<'a> {
     fn open_file(&self, _how: &OpenOptions, path: &str) -> io::Result<OpenEntry<'a>> {
         for (name, bytes) in self.files {
             if *name == path {
-                return Ok(OpenEntry { left: *bytes });
+                return Ok(OpenEntry {
+                    left: *bytes,
+                    countdown: self.failure.countdown(path),
+                    kind: self.failure.kind,
+                });
             }
         }
         Err(io::Error::from(ErrorKind::NotFound))

@@ -1,4 +1,4 @@
-use Rattle.std.proofs.Common.{◌≡◌, ℕ, ◌<◌, ◌≤◌, ◌++◌, List, length, take, ◌∙◌, append-nil, arith, length-append, Err}
+use Rattle.std.proofs.Common.{◌≡◌, ℕ, ◌<◌, ◌≤◌, ◌++◌, List, length, take, ◌∙◌, append-nil, arith, inr, length-append, refl, Err}
 use Rattle.std.proofs.lemmas.List.{length-take-le}
 use Rattle.std.proofs.lemmas.Result.{on_ok_weaker, err_from_is_err_and}
 use Rattle.monitor_machine.specs.MachineState.{MachineState}
@@ -6,6 +6,7 @@ use Rattle.rv_model.specs.machine.Script.{whole_from}
 use Rattle.rv_model.proofs.machine_lemmas.Headline.{headline}
 use Rattle.monitor_script.specs.declared.script.RunFault.TheVariants.{TooLong, Write}
 use Rattle.monitor_script.proofs.Feeding.{moved}
+use Rattle.monitor_script.proofs.ReadsInTurn.{one_read_more}
 use Rattle.monitor_script.proofs.Runs.{so_far_more, output_more, world_ends, output_ends, world_before_end, output_before_end, world_too_long, output_too_long, cut_at_end, cut_in_piece, eight_before, new_headline, nothing_read}
 use Rattle.monitor_script.proofs.script.run.Goals as goal
 
@@ -17,7 +18,8 @@ loop-count-preserved g c =
     let piece : List ℕ = take c.in-Ok.count c.read.new.buffer in (
       front ++ piece,
       record {
-        gave = g.met.S.Source.gave_more _ _ _ _ _ so_far.gave c.in-Ok.ensures.bytes;
+        gave = one_read_more g.S.Source.gave g.S.Source.ended g.met.S.Source.gave_more _ _ _ _ _ so_far.gave so_far.no_end c.in-Ok.ensures.bytes;
+        no_end = inr (c.in-Ok.ensures.more (omega (arith, c.if-count-eq0.false)));
         so_far = so_far_more m0 front piece _ _ _ _ _ _ so_far.so_far c.in_ok-left.ensures.left c.in_ok-left.ensures.machine c.in_ok-left.ensures.line;
         took = moved g.K.Sink.took _ _ _ _ (output_more m0 front piece _ _ _ so_far.so_far)
             (g.met.K.Sink.took_more _ _ _ _ _ so_far.took c.in_ok-left.ensures.ok);
@@ -27,53 +29,35 @@ loop-count-preserved g c =
       },
     )
 
-pub returns-then-count-eq0-clause-ok : goal.returns-then-count-eq0-clause-ok
-returns-then-count-eq0-clause-ok g c =
+pub returns-then-count-eq0-clause-headline : goal.returns-then-count-eq0-clause-headline
+returns-then-count-eq0-clause-headline g c =
     let m0 : MachineState = c.args.machine.now in
     let front : List ℕ = c.loop-count.invariant.0 in
     let so_far = c.loop-count.invariant.1 in
     let zero : c.in-Ok.count ≡ 0 = c.if-count-eq0.true in
     let room : 0 < length c.read.new.buffer = omega arith in
     let limit = so_far.so_far.limit in
+    let world = world_ends m0 front _ _ _ _ so_far.so_far c.end_script.ensures.machine in
+    let eight = eight_before m0 c.end_script.new.machine.world front world c.end_script.ensures.eight in
     on_ok_weaker c.end_script.result
     (λ took. (
       front,
       (
-        moved g.S.Source.gave _ _ _ _ (nothing_read front c.read.new.buffer c.in-Ok.count zero)
-            (g.met.S.Source.gave_more _ _ _ _ _ so_far.gave c.in-Ok.ensures.bytes),
-        c.in-Ok.ensures.end room zero,
-        omega (arith, limit),
-        world_ends m0 front _ _ _ _ so_far.so_far c.end_script.ensures.machine,
-        moved g.K.Sink.took _ _ _ _ (output_ends m0 front _ _ _ so_far.so_far) (g.met.K.Sink.took_more _ _ _ _ _ so_far.took took),
+        whole_from m0.setup m0.world front,
+        (
+          moved g.S.Source.gave _ _ _ _ (nothing_read front c.read.new.buffer c.in-Ok.count zero)
+              (one_read_more g.S.Source.gave g.S.Source.ended g.met.S.Source.gave_more _ _ _ _ _ so_far.gave so_far.no_end c.in-Ok.ensures.bytes),
+          c.in-Ok.ensures.end room zero,
+          moved g.K.Sink.took _ _ _ _ (output_ends m0 front _ _ _ so_far.so_far) (g.met.K.Sink.took_more _ _ _ _ _ so_far.took took),
+          λ new. new_headline m0 front eight new,
+          λ u low high. headline m0.setup u m0.world front low high eight,
+          refl,
+          world,
+          omega (arith, limit),
+        ),
       ),
     ))
     c.end_script.ensures.ok
-
-pub returns-then-count-eq0-clause-used_headline : goal.returns-then-count-eq0-clause-used_headline
-returns-then-count-eq0-clause-used_headline g c =
-    let m0 : MachineState = c.args.machine.now in
-    on_ok_weaker c.end_script.result
-    (λ p. (
-      p.0,
-      (
-        whole_from m0.setup m0.world p.0,
-        (p.1.0, p.1.1, p.1.4, λ u low high. headline m0.setup u m0.world p.0 low high (eight_before m0 c.end_script.new.machine.world p.0 p.1.3 c.end_script.ensures.eight)),
-      ),
-    ))
-    (returns-then-count-eq0-clause-ok g c)
-
-pub returns-then-count-eq0-clause-headline : goal.returns-then-count-eq0-clause-headline
-returns-then-count-eq0-clause-headline g c = λ new.
-    let m0 : MachineState = c.args.machine.now in
-    on_ok_weaker c.end_script.result
-    (λ p. (
-      p.0,
-      (
-        whole_from m0.setup m0.world p.0,
-        (p.1.0, p.1.1, p.1.4, new_headline m0 p.0 (eight_before m0 c.end_script.new.machine.world p.0 p.1.3 c.end_script.ensures.eight) new),
-      ),
-    ))
-    (returns-then-count-eq0-clause-ok g c)
 
 pub returns-then-count-eq0-clause-after_write : goal.returns-then-count-eq0-clause-after_write
 returns-then-count-eq0-clause-after_write g c = λ fault.
@@ -86,7 +70,7 @@ returns-then-count-eq0-clause-after_write g c = λ fault.
       front,
       (
         moved g.S.Source.gave _ _ _ _ (nothing_read front c.read.new.buffer c.in-Ok.count zero)
-            (g.met.S.Source.gave_more _ _ _ _ _ so_far.gave c.in-Ok.ensures.bytes),
+            (one_read_more g.S.Source.gave g.S.Source.ended g.met.S.Source.gave_more _ _ _ _ _ so_far.gave so_far.no_end c.in-Ok.ensures.bytes),
         cut_at_end m0 front _ _ _ _ _ part.0 _ so_far.so_far (c.in-Ok.ensures.end room zero) c.end_script.ensures.machine part.1.0
             (g.met.K.Sink.took_more _ _ _ _ _ so_far.took part.1.1),
       ),
@@ -100,7 +84,7 @@ returns-in_default-clause-after_read g c = λ fault.
     let limit = so_far.so_far.limit in (
       front,
       (
-        moved g.S.Source.gave _ _ _ _ (append-nil front) (g.met.S.Source.gave_more _ _ _ _ _ so_far.gave c.in_default.ensures.kept),
+        moved g.S.Source.gave _ _ _ _ (append-nil front) (one_read_more g.S.Source.gave g.S.Source.ended g.met.S.Source.gave_more _ _ _ _ _ so_far.gave so_far.no_end c.in_default.ensures.kept),
         omega (arith, limit),
         world_before_end m0 c.loop-count.machine front so_far.so_far.machine,
         moved g.K.Sink.took _ _ _ _ (output_before_end m0 front) so_far.took,
@@ -125,7 +109,7 @@ returns-in_err-left-clause-after_too_long g c = λ fault.
     let more : c.loop-count.left < length piece = c.in_err-left.ensures.long e in (
       front ++ piece,
       (
-        g.met.S.Source.gave_more _ _ _ _ _ so_far.gave c.in-Ok.ensures.bytes,
+        one_read_more g.S.Source.gave g.S.Source.ended g.met.S.Source.gave_more _ _ _ _ _ so_far.gave so_far.no_end c.in-Ok.ensures.bytes,
         c.in-Ok.ensures.more some,
         omega (arith, limit, more, len, length-append front piece),
         omega (arith, limit, most, len, length-append front piece),
@@ -145,7 +129,7 @@ returns-in_err-left-clause-after_write g c = λ fault.
     let e : Err c.in_err-left.field-0.0 ≡ Err Write = cc (p.1, p.2, fault) in (
       front ++ piece,
       (
-        g.met.S.Source.gave_more _ _ _ _ _ so_far.gave c.in-Ok.ensures.bytes,
+        one_read_more g.S.Source.gave g.S.Source.ended g.met.S.Source.gave_more _ _ _ _ _ so_far.gave so_far.no_end c.in-Ok.ensures.bytes,
         cut_in_piece m0 front piece _ _ _ _ _ _ _ so_far.so_far (c.in_err-left.ensures.cut e)
             (λ xs took. g.met.K.Sink.took_more _ _ _ _ _ so_far.took took),
       ),

@@ -7,7 +7,7 @@ use Rattle.test_faults.proofs.known_devices.run_newlines.Goals as goal
 pub returns-clause-result : goal.returns-clause-result
 returns-clause-result g c =
     only_too_long c.run.result
-    (on_ok_weaker c.run.result (λ p. p.1.1) c.run.ensures.ok)
+    (on_ok_weaker c.run.result (λ p. p.1.1.1) c.run.ensures.headline)
     (λ e. never_rose (c.run.ensures.read e))
     (λ e.
     let p = c.run.ensures.after_write e in

@@ -12,27 +12,27 @@ pub returns-clause-length : goal.returns-clause-length
 returns-clause-length g c =
     on_ok_weaker c.run.result
     (λ p.
-    let same : c.args.script.now ≡ p.0 = given_whole c.args.script.now c.new-source.result.reader.now p.0 _ (cc c.new-source.ensures.reader) p.1.0 p.1.1.1 in
-    omega (arith, p.1.2, ap length same))
-    c.run.ensures.ok
+    let same : c.args.script.now ≡ p.0 = given_whole c.args.script.now c.new-source.result.reader.now p.0 _ (cc c.new-source.ensures.reader) p.1.1.0 p.1.1.1.1 in
+    omega (arith, p.1.1.7, ap length same))
+    c.run.ensures.headline
 
 pub returns-clause-world : goal.returns-clause-world
 returns-clause-world g c =
     let m : MachineState = c.args.machine.now in
     on_ok_weaker c.run.result
     (λ p.
-    let same : c.args.script.now ≡ p.0 = given_whole c.args.script.now c.new-source.result.reader.now p.0 _ (cc c.new-source.ensures.reader) p.1.0 p.1.1.1 in
-    p.1.3 ∙ ap (after_script m.setup m.world) (sym same))
-    c.run.ensures.ok
+    let same : c.args.script.now ≡ p.0 = given_whole c.args.script.now c.new-source.result.reader.now p.0 _ (cc c.new-source.ensures.reader) p.1.1.0 p.1.1.1.1 in
+    p.1.1.6 ∙ ap (after_script m.setup m.world) (sym same))
+    c.run.ensures.headline
 
 pub returns-clause-output : goal.returns-clause-output
 returns-clause-output g c =
     let m : MachineState = c.args.machine.now in
     on_ok_weaker c.run.result
     (λ p.
-    let same : c.args.script.now ≡ p.0 = given_whole c.args.script.now c.new-source.result.reader.now p.0 _ (cc c.new-source.ensures.reader) p.1.0 p.1.1.1 in
-    moved g.K.Sink.took _ _ _ _ (ap (whole_from m.setup m.world) (sym same)) p.1.4)
-    c.run.ensures.ok
+    let same : c.args.script.now ≡ p.0 = given_whole c.args.script.now c.new-source.result.reader.now p.0 _ (cc c.new-source.ensures.reader) p.1.1.0 p.1.1.1.1 in
+    moved g.K.Sink.took _ _ _ _ (p.1.1.5 ∙ ap (whole_from m.setup m.world) (sym same)) p.1.1.2)
+    c.run.ensures.headline
 
 pub returns-clause-headline : goal.returns-clause-headline
 returns-clause-headline g c = λ new.
@@ -40,8 +40,8 @@ returns-clause-headline g c = λ new.
     on_ok_weaker c.run.result
     (λ p.
     let same : c.args.script.now ≡ p.0 = given_whole c.args.script.now c.new-source.result.reader.now p.0 _ (cc c.new-source.ensures.reader) p.1.1.0 p.1.1.1.1 in
-    (p.1.0, (p.1.1.2, λ u low high. p.1.1.3 u low high ∙ ap (λ (x : List ℕ). solo m.setup (own m.setup u x)) (sym same))))
-    (c.run.ensures.headline new)
+    (p.1.0, (p.1.1.2, λ u low high. p.1.1.3 new u low high ∙ ap (λ (x : List ℕ). solo m.setup (own m.setup u x)) (sym same))))
+    c.run.ensures.headline
 
 pub returns-clause-too_long : goal.returns-clause-too_long
 returns-clause-too_long g c = λ fault.
