@@ -16,7 +16,7 @@ if TYPE_CHECKING:
     from selenium.webdriver import Chrome
 
 TOP = pathlib.Path(__file__).resolve().parent.parent.parent
-SUM = TOP / "crates/test_command_lines/data/images/sum"
+SUM = TOP / "tests/command_lines/data/images/sum"
 PATIENCE = 15  # seconds: after so long a test that waits has failed
 
 

@@ -20,7 +20,7 @@ from lab.class_view import Class
 from lab.program import find_program
 
 TOP = pathlib.Path(__file__).parents[2]
-SUM = TOP / "crates" / "test_command_lines" / "data" / "images" / "sum"
+SUM = TOP / "tests" / "command_lines" / "data" / "images" / "sum"
 LOOP = ["enter", "map 10000 1 rwx", "asm 10000 addi x5, x5, 1", "asm 10004 jal x0, -4", "setpc 10000"]
 SECONDS = 60.0  # until a test that waits in vain is given up
 

@@ -12,7 +12,7 @@ from lab.solo import own_lines, solo_script
 
 from .class_tabs import LOOP, SECONDS, SUM, TOP, served
 
-CLASS_OF_THREE = TOP / "crates" / "test_command_lines" / "data" / "tour" / "class_of_three"
+CLASS_OF_THREE = TOP / "tests" / "command_lines" / "data" / "tour" / "class_of_three"
 WORDS = (
     ["go"] * 6 + ["stop"] * 2 + ["step 3", "break 10004", "unbreak 10004", "regs", "out", "leave", "enter", "load sum"]
 )
