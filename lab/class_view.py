@@ -3,7 +3,7 @@
 import asyncio
 import contextlib
 import json
-from collections.abc import Callable, Iterable, Mapping
+from collections.abc import Iterable
 from typing import Any
 
 from . import LabError
@@ -95,11 +95,7 @@ class Class:
             if not isinstance(request, dict) or type(request.get("id")) is not int:
                 raise BadRequest("a request is an object with a whole number as id")
             answer["id"] = request["id"]
-            asks = self._teachers if tab.who == TEACHER else self._students
-            ask = asks.get(str(request.get("ask")))
-            if ask is None:
-                raise BadRequest("there is no such request for this seat")
-            answer |= await ask(self, tab, request, done)
+            answer |= await self._carry_out(tab, request, done)
         except (LabError, ValueError, RecursionError) as error:
             answer |= {"error": str(error), "done": done}
         return answer | self.news(tab)
@@ -181,57 +177,43 @@ class Class:
             "used": seat.used,
         }
 
-    async def _lines(self, tab: Tab, request: Message, done: list[list[str]]) -> Message:
-        if tab.who == TEACHER:
-            room = self._room(request)
-            seat = room.operator
-        else:
-            seat = self.seat(tab.who)
-            room = self.rooms[seat.name[0]]
-        do, look, slices = request.get("do", []), request.get("look", []), request.get("slices", 0)
-        looks = await room.lines(seat, do, look, slices, done)
-        return {"do": done, "look": looks}
-
-    async def _source(self, tab: Tab, request: Message, done: list[list[str]]) -> Message:
-        seat = self.seat(tab.who)
-        return {"mistakes": await self.rooms[seat.name[0]].source(seat, request.get("text"))}
-
-    async def _clock(self, tab: Tab, request: Message, done: list[list[str]]) -> Message:
-        self._room(request).set_clock(request)
+    async def _carry_out(self, tab: Tab, request: Message, done: list[list[str]]) -> Message:
+        """Carries out a request, and tells what its answer has of its own."""
+        match request.get("ask"), tab.who == TEACHER:
+            case "lines", is_teacher:
+                seat = self._room(request).operator if is_teacher else self.seat(tab.who)
+                do, look, slices = request.get("do", []), request.get("look", []), request.get("slices", 0)
+                looks = await self.rooms[seat.name[0]].lines(seat, do, look, slices, done)
+                return {"do": done, "look": looks}
+            case "source", False:
+                seat = self.seat(tab.who)
+                return {"mistakes": await self.rooms[seat.name[0]].source(seat, request.get("text"))}
+            case "clock", True:
+                self._room(request).set_clock(request)
+            case "rights", True:
+                self._room(request).set_rights(request.get("own_slices"))
+            case "renew", True:
+                self._renew(self.seat(request.get("seat")).name)
+            case "shoulder", True:
+                tab.shoulder = self.seat(request["seat"]) if request.get("seat") else None
+                if tab.shoulder:
+                    tab.since.pop(tab.shoulder.name, None)
+            case _:
+                raise BadRequest("there is no such request for this seat")
         return {}
 
-    async def _rights(self, tab: Tab, request: Message, done: list[list[str]]) -> Message:
-        self._room(request).set_rights(request.get("own_slices"))
-        return {}
-
-    async def _renew(self, tab: Tab, request: Message, done: list[list[str]]) -> Message:
-        seat = self.seat(request.get("seat"))
-        self.codes.renew(seat.name)
-        for other in self.tabs:
-            other.is_open = other.is_open and other.who != seat.name
-        self._tell([seat.name])
+    def _renew(self, name: str) -> None:
+        """Gives a seat a new code, and ends its tabs."""
+        self.codes.renew(name)
+        for tab in self.tabs:
+            tab.is_open = tab.is_open and tab.who != name
+        self._tell([name])
         self.store.write("codes.json", self.codes.codes)
-        return {}
-
-    async def _look_over(self, tab: Tab, request: Message, done: list[list[str]]) -> Message:
-        tab.shoulder = self.seat(request["seat"]) if request.get("seat") else None
-        if tab.shoulder:
-            tab.since.pop(tab.shoulder.name, None)
-        return {}
 
     def _room(self, request: Message) -> Room:
         if request.get("machine") not in list(self.rooms):
             raise BadRequest("there is no such machine")
         return self.rooms[request["machine"]]
-
-    _students: Mapping[str, Callable[..., Any]] = {"lines": _lines, "source": _source}
-    _teachers: Mapping[str, Callable[..., Any]] = {
-        "lines": _lines,
-        "clock": _clock,
-        "rights": _rights,
-        "renew": _renew,
-        "shoulder": _look_over,
-    }
 
 
 def _shown(seat: Seat) -> Message:

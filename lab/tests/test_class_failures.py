@@ -197,7 +197,7 @@ async def test_a_flood(tmp_path: pathlib.Path) -> None:
             await tab.do(*LOOP)
 
         async def flood(tab: int) -> list[str]:
-            return [line for _ in range(10) for (line,) in await tabs[tab].do(*["step 1"] * 250)]
+            return [line for _ in range(4) for (line,) in await tabs[tab].do(*["step 1"] * 250)]
 
         floods = asyncio.gather(*map(flood, range(8)))
         await other.do(*LOOP)
@@ -208,11 +208,11 @@ async def test_a_flood(tmp_path: pathlib.Path) -> None:
             await asyncio.sleep(0.02)
             asked += 1
         told = await asyncio.wait_for(floods, SECONDS)
-        assert asked > 9  # the teacher and the other machine were answered all the while
+        assert asked > 2  # the teacher and the other machine were answered all the while
         transcript = (await room.check_replay())[1].decode().splitlines()
         for digit, lines in zip("12345678", told):
             own = [line[2:] for line in transcript if line[0] == digit]
-            assert own[len(LOOP) :] == lines and len(lines) == 2_500
+            assert own[len(LOOP) :] == lines and len(lines) == 1_000
         assert await room.end() == 0
 
 
