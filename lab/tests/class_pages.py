@@ -17,7 +17,7 @@ if TYPE_CHECKING:
 
 TOP = pathlib.Path(__file__).resolve().parent.parent.parent
 SUM = TOP / "tests/command_lines/data/images/sum"
-PATIENCE = 15  # seconds: after so long a test that waits has failed
+PATIENCE = 60  # seconds: after so long a test that waits has failed
 
 
 class Served:
@@ -149,7 +149,9 @@ class Tab:
 
 
 def digest_of(teacher: Tab) -> str:
-    """The digest of all answers, as the teacher is told it."""
+    """The digest of all answers, as the teacher is told it, once the page knows the whole script."""
+    size = len(teacher.served.fetch("A/script"))
+    teacher.wait("one('.figures').textContent.includes(arguments[0])", f" {size:,} of ")
     digest: str = teacher.run("one('.figures').textContent.match(/[0-9a-f]{64}/)[0]")
     return digest
 
