@@ -18,5 +18,6 @@ policy that makes agnostic elements ones, as QEMU carries them out.
 `data/accesses_in_parts` has each kind of vector load and store, whole and cut into slices of a few ticks: where the
 first slice leaves it, how many slices are left, and then the registers or the bytes, with those beside.
 `data/stopped_accesses` has the same of loads and stores that come to the end of memory, and `data/write_calls` what
-calls put out and answer.
+calls put out and answer. `data/own_word_behind_a_fault` has a store that faults before the index that is to hit its own
+word: it is the same in slices of 4 and of 12 ticks, worked out by hand.
 """
