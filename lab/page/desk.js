@@ -184,11 +184,12 @@ class Student {
     byId("edit").close();
     if (word === "setpc" || word === "poke") return this.send([`${word} ${first ?? ""} ${text}`]);
     const isDecimal = form ? form !== "hexadecimal" : byId("numbers").value === "signed";
-    if (!(isDecimal ? /^-?\d{1,20}$/ : /^[0-9a-f]{1,16}$/i).test(text)) {
-      return this.refuse(`\`${text}\` is no ${isDecimal ? "decimal" : "hexadecimal"} number: nothing was sent.`);
-    }
-    const value = BigInt(isDecimal ? text : "0x" + text);
-    const bytes = form && withElement(this.desk.state.v[first.slice(1)], Number(width), Number(index), value);
+    const [bits, kind] = [Number(width ?? 64), isDecimal ? "decimal" : "hexadecimal"];
+    const isNumber = (isDecimal ? /^-?\d{1,20}$/ : /^[0-9a-f]{1,16}$/i).test(text);
+    const value = isNumber ? BigInt(isDecimal ? text : "0x" + text) : 1n << 64n; // which fits nowhere
+    const fits = [BigInt.asUintN(bits, value), BigInt.asIntN(bits, value)].includes(value);
+    if (!fits) return this.refuse(`\`${text}\` is no ${kind} number of ${bits} bits: nothing was sent.`);
+    const bytes = form && withElement(this.desk.state.v[first.slice(1)], bits, Number(index), value);
     return this.send([`${word} ${first} ${bytes ?? BigInt.asUintN(64, value).toString(16)}`]);
   }
 

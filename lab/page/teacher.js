@@ -110,16 +110,15 @@ class Teacher {
 
   async request(request) {
     const answer = await this.connection.ask(request, request.do?.[0] ?? request.ask);
-    if (answer?.error) say("gone", answer.error);
+    if (answer?.error || (answer && request.ask !== "shoulder")) say("gone", answer.error ?? "");
   }
 
   async download(letter, name) {
     const headers = { Authorization: `Bearer ${this.connection.code}` };
     const answer = await fetch(`${letter}/${name}`, { headers }).catch(() => null);
     if (!answer?.ok) return say("gone", `The ${name} can't be fetched.`);
-    const link = make("a", "");
-    link.href = URL.createObjectURL(await answer.blob());
-    link.download = `${letter}.${name}.txt`;
+    const file = { href: URL.createObjectURL(await answer.blob()), download: `${letter}.${name}.txt` };
+    const link = Object.assign(make("a", ""), file);
     link.click();
     return setTimeout(() => URL.revokeObjectURL(link.href), 60000);
   }

@@ -157,7 +157,11 @@ def test_values_are_changed_by_clicks_and_keys(sit: Sit) -> None:
     assert tab.text("[data-edit='vset v1 32 3 hexadecimal']").startswith("89abcdef")
     tab.click("[data-edit='set x10']")
     tab.keys("#value", Keys.CONTROL, "a", Keys.NULL, "-g", Keys.ENTER)
-    assert "no hexadecimal number" in tab.text("#stop") and not tab.run("id('edit').open")
+    assert "no hexadecimal number of 64 bits" in tab.text("#stop") and not tab.run("id('edit').open")
+    tab.click("[data-edit='vset v1 32 3 hexadecimal']")
+    tab.keys("#value", Keys.CONTROL, "a", Keys.NULL, "1ffffffff", Keys.ENTER)
+    assert "1ffffffff is no hexadecimal number of 32 bits" in tab.text("#stop")
+    assert "1ffffffff" not in tab.text("#log")
 
 
 def test_lines_of_before_and_refusals(sit: Sit) -> None:
