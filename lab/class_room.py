@@ -21,6 +21,7 @@ from .state import ABSENT, RowChoice, State, Watch, look_at, with_rows
 SEAT_BYTES = 1_500_000  # of a seat's lines in the script: eight leave 3,000,000 to the operator and the clock
 REQUEST_LINES, SOURCE_LINES, SOURCE_LETTERS = 256, 4096, 1 << 16
 MOST_SLICES = 100
+TOGETHER = 32  # lines that go to the program at once: each has to fit into its pipe
 LOG_ENTRIES = 500
 OUTPUT_DIGITS = 8192
 
@@ -153,11 +154,11 @@ class Room:
                 raise BadRequest(f"{line[2:42]!r} isn't a line that only looks")
 
         def carry_out(work: _Work) -> None:
-            for line in own:
-                self._do(work, line)
+            for place in range(0, len(own), TOGETHER):
+                self._do(work, *own[place : place + TOGETHER])
             if slices and "running" in self.session.look(f"{seat.digit} state")[0]:
                 for _ in range(slices):
-                    if self._do(work, f"* run {seat.digit}") != ["* granted 1"]:
+                    if self._do(work, f"* run {seat.digit}") != [["* granted 1"]]:
                         break
             work.looks += [self.session.look(line) for line in seen]
 
@@ -186,7 +187,7 @@ class Room:
             self._check_share(seat, [f"{seat.digit} {line}" for line in lines])
             statements = {f"asm {each.address:x} {each.text}": each for each in program.statements}
             for line in lines:
-                answer = self._do(work, f"{seat.digit} {line}")
+                (answer,) = self._do(work, f"{seat.digit} {line}")
                 code, _, column = answer[0][2:].partition(" ")
                 if code == "E15":
                     mistakes.append(refusal(statements[line], int(column)))
@@ -284,20 +285,20 @@ class Room:
                 self.seats[digit].state, self.seats[digit].shown = states
             self.changed([self.letter, *self.names()])
 
-    def _do(self, work: _Work, line: str) -> list[str]:
-        """Carries out a line in the machine's thread. A line that is recorded is on the disk before it is sent."""
-        if is_look(line):
-            answer = self.session.do(line)
-        else:
-            self.file.append(line)
-            try:
-                answer = self.session.do(line)
-            except BaseException:
-                self.file.cut(self.session.size)
-                raise
-        self._follow(line, answer)
-        work.answers.append((line, answer))
-        return answer
+    def _do(self, work: _Work, *lines: str) -> list[list[str]]:
+        """Carries out lines in the machine's thread. Those that are recorded are on the disk before they are sent."""
+        for line in lines:
+            if not is_look(line):
+                self.file.append(line)
+        try:
+            answers = self.session.do_all(lines)
+        except BaseException:
+            self.file.cut(self.session.size)
+            raise
+        for line, answer in zip(lines, answers):
+            self._follow(line, answer)
+            work.answers.append((line, answer))
+        return answers
 
     def _follow(self, line: str, answer: Sequence[str]) -> None:
         """Takes up what a user's line says of the user's memory."""

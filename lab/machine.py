@@ -203,10 +203,16 @@ class Session:
         Raises BadLine and ScriptFull for a line that isn't sent; ProgramGone, OutOfStep and ReplayDiffers where there
         is no answer. Then the line isn't recorded, and the session is as before it.
         """
-        check_line(line)
-        if not is_look(line) and len(self._script) + len(line) >= self._script_bytes:
+        return self.do_all([line])[0]
+
+    def do_all(self, lines: Sequence[str]) -> list[list[str]]:
+        """As `do`, for some dozens of lines that go to the program together: all of them are done, or none is."""
+        for line in lines:
+            check_line(line)
+        size = sum(len(line) + 1 for line in lines if not is_look(line))
+        if size and len(self._script) + size > self._script_bytes:
             raise ScriptFull(f"the script has {self._script_bytes:,} bytes at most, so only lines that look go on")
-        return self._ask([line])[0]
+        return self._ask(lines)
 
     def look(self, line: str) -> list[str]:
         """The answer to a line that only looks. Raises BadLine for any other one, and else as `do`."""

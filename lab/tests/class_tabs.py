@@ -91,6 +91,7 @@ class Served:
         self.url = f"http://127.0.0.1:{port}/"
         self.codes: dict[str, str] = json.loads((folder / "codes.json").read_text())
         self.server: asyncio.subprocess.Process | None = None
+        self.members: Class | None = None
 
     async def open(self, code: Any, **headers: str) -> Tab:
         """A socket that has sent a code and waits for what comes."""
@@ -144,7 +145,9 @@ async def served(
     """A class that is served in this process."""
     members = Class(Store(folder, find_program(), images, None, machines), 5.0)
     async with class_server.served(members, "127.0.0.1", 0, {name}) as port, _session() as session:
-        yield Served(folder, port, session)
+        room = Served(folder, port, session)
+        room.members = members
+        yield room
 
 
 def command(folder: pathlib.Path, *words: str) -> list[str]:

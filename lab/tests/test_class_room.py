@@ -3,6 +3,7 @@
 import asyncio
 import pathlib
 import threading
+from collections.abc import Sequence
 from typing import Any
 
 import pytest
@@ -25,11 +26,11 @@ class StandIn:
         self.go = threading.Semaphore(0)
         self.size, self.lines, self.digest, self.losses = 0, 0, "", list[str]()
 
-    def do(self, line: str) -> list[str]:
+    def do_all(self, lines: Sequence[str]) -> list[list[str]]:
         self.go.acquire()
-        assert self.path.read_text("ascii").endswith(f"{line}\n")
-        self.order.append(line[0])
-        return [f"{line[0]} E05" if line[0] != "*" else "* granted 0"]
+        assert self.path.read_text("ascii").endswith("".join(f"{line}\n" for line in lines))
+        self.order.append(lines[0][0])
+        return [[f"{line[0]} E05" if line[0] != "*" else "* granted 0"] for line in lines]
 
     def look(self, line: str) -> list[str]:
         assert is_look(line)
@@ -78,7 +79,7 @@ async def test_a_seat_with_many_requests_has_one_turn(tmp_path: pathlib.Path) ->
 async def test_turns_go_round(tmp_path: pathlib.Path) -> None:
     machine = Machine(tmp_path)
     tasks = [machine.ask(machine.room.seats[digit], "step 1", "step 1") for digit in "312" for _ in range(3)]
-    assert await machine.order(18, *tasks) == "331122" * 3
+    assert await machine.order(9, *tasks) == "312" * 3
 
 
 async def test_the_clock_has_its_turn(tmp_path: pathlib.Path) -> None:

@@ -2,8 +2,10 @@
 
 import asyncio
 import json
+import os
 import pathlib
 import re
+import signal
 from collections.abc import AsyncIterator
 from typing import Any
 
@@ -390,6 +392,13 @@ async def test_machines_apart(tmp_path: pathlib.Path) -> None:
         assert list(teacher.view["machines"]) == ["A", "B"]
         await teacher.ask("clock", machine="A", on=False)
         assert (await room.check_replay("B"))[0].count(b"\n") == len(LOOP) + 1
+        assert room.members and (stuck := room.members.rooms["A"].session.process)
+        os.kill(stuck, signal.SIGSTOP)
+        hanging = asyncio.create_task(one.do("stop"))
+        assert await two.do("step 1") == [["stepped 1 pc=0000000000010000"]]
+        assert not hanging.done()
+        os.kill(stuck, signal.SIGCONT)
+        assert len(await hanging) == 1
         await room.check_replay("A")
 
 
