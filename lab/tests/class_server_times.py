@@ -81,13 +81,13 @@ async def main() -> None:
     with tempfile.TemporaryDirectory() as folder:
         async with process(pathlib.Path(folder) / "class") as room:
             tabs = [await room.sit(f"A{digit}") for digit in "12345678"]
-            teacher = await room.sit("teacher")
             for tab in tabs:
                 await tab.do(*LOOP, "asm 10008 vsetivli x0, 8, e32, m1, ta, ma", "asm 1000c vadd.vv v1, v1, v1")
             print(await requests(tabs, "step 1"))
             for tab in tabs:
                 await tab.do("asm 10010 jal x0, -4", "setpc 10008", "step 1")
             print(await requests(tabs, "step 1"), "(two of three of vectors)")
+            teacher = await room.sit("teacher")  # not before, since a tab that reads nothing for long is dropped
             print(await stops(tabs[0], teacher))
             print(await flood(tabs, teacher))
             print(await hours(room, tabs))
