@@ -35,7 +35,8 @@ after_slice quantum u w =
     with_unit (unit_after_tries u (tried_in quantum (part u w)) w.unit) (with_part u (sliced quantum (part u w)).next w)
 
 -- A user's slice left this machine and printed this. It and one of so many ticks more leave the user's private machine, and print,
--- what one slice of all these ticks does, unless the first cuts an instruction that stores over its own word.
+-- what one slice of all these ticks does, unless the first cuts an instruction that has stored over its own
+-- word before.
 abbrev pub SliceGoesOn : MachineState → ℕ → MachineState → List ℕ → Type 0
 SliceGoesOn before u now printed = (later : ℕ)
     → All KeepsWordIfCut (tried_in before.setup.quantum (part u before.world))

@@ -42,7 +42,7 @@ pub fn configurations_that_stay()
 {}
 
 /// A slice and then another are one of the ticks of both, and so are any number of them: where an
-/// instruction was cut shows nowhere, unless it stores over its own word.
+/// instruction was cut shows nowhere, unless it has stored over its own word before.
 pub fn slices_add_up()
     ensures cuts { CutsAreInvisible }
     ensures slices { SlicesAddUp }
