@@ -8,11 +8,11 @@ use Rattle.std.proofs.lemmas.List.{get_or-replicate, get_or-set_other, set-get_o
 use Rattle.rv_model.specs.declared.commands.command.Cmd.{Cmd}
 use Rattle.rv_model.specs.declared.commands.command.Cmd.TheVariants.{Entering, Memory, Registers, Programs, Breakpoints, Running}
 use Rattle.rv_model.specs.declared.commands.entering.EnteringCommand.TheVariants.{Enter, Leave}
-use Rattle.rv_model.specs.declared.commands.programs.ProgramCommand.TheVariants.{Load, Asm, Dis}
+use Rattle.rv_model.specs.declared.commands.programs.ProgramCommand.TheVariants.{Load}
 use Rattle.rv_model.specs.declared.commands.registers.RegisterCommand.{RegisterCommand}
-use Rattle.rv_model.specs.declared.commands.registers.RegisterCommand.TheVariants.{Set, Regs, SetPc, Vreg, Vset, Vcsr, SetPolicy}
+use Rattle.rv_model.specs.declared.commands.registers.RegisterCommand.TheVariants.{Vset}
 use Rattle.rv_model.specs.declared.commands.running.RunningCommand.{RunningCommand}
-use Rattle.rv_model.specs.declared.commands.running.RunningCommand.TheVariants.{Step, Go, Stop as StopRunning, State, Trace, Out}
+use Rattle.rv_model.specs.declared.commands.running.RunningCommand.TheVariants.{Step}
 use Rattle.rv_model.specs.declared.commands.refusal.Refusal.TheVariants as refusal
 use Rattle.rv_model.specs.declared.step.step_end.Stop.{Stop}
 use Rattle.rv_model.specs.commands.Commands.{Parsed, carried_out, commanded, needs_stopped, of_present, parse}
@@ -151,13 +151,8 @@ module _ (user : ℕ) (low : 1 ≤ user) (high : user ≤ 8) where
   -- ---- events
 
   registers_move : (c : RegisterCommand) (unit : VectorUnit) → Moves user unit (unit_after_registers user c unit)
-  registers_move (Set register value) unit = still user unit
-  registers_move Regs unit = still user unit
-  registers_move (SetPc addr) unit = still user unit
-  registers_move (Vreg register width) unit = still user unit
   registers_move (Vset register bytes) unit = writes unit
-  registers_move Vcsr unit = still user unit
-  registers_move (SetPolicy policy) unit = still user unit
+  registers_move c unit = still user unit
 
   load_moves : (image : Option (List ℕ)) (unit : VectorUnit) → Moves user unit (unit_after_load user image unit)
   load_moves None unit = still user unit
@@ -165,11 +160,7 @@ module _ (user : ℕ) (low : 1 ≤ user) (high : user ≤ 8) where
 
   running_moves : (c : RunningCommand) (p : Present) (unit : VectorUnit) → Moves user unit (unit_after_running user c p unit)
   running_moves (Step n) p unit = tries (tried_steps n true p) unit
-  running_moves Go p unit = still user unit
-  running_moves StopRunning p unit = still user unit
-  running_moves State p unit = still user unit
-  running_moves Trace p unit = still user unit
-  running_moves Out p unit = still user unit
+  running_moves c p unit = still user unit
 
   present_moves : (images : List Image) (c : Cmd) (p : Present) (unit : VectorUnit) → Moves user unit (unit_of_present images user c p unit)
   present_moves images (Entering Enter) p unit = still user unit
@@ -177,8 +168,7 @@ module _ (user : ℕ) (low : 1 ≤ user) (high : user ≤ 8) where
   present_moves images (Memory c) p unit = still user unit
   present_moves images (Registers c) p unit = registers_move c unit
   present_moves images (Programs (Load name)) p unit = load_moves (image_named images name) unit
-  present_moves images (Programs (Asm addr text)) p unit = still user unit
-  present_moves images (Programs (Dis addr count)) p unit = still user unit
+  present_moves images (Programs c) p unit = still user unit
   present_moves images (Breakpoints c) p unit = still user unit
   present_moves images (Running c) p unit = running_moves c p unit
 
