@@ -9,9 +9,10 @@ With the program built (`rt run < stdin` in crates/vecmon) and the packages of `
 repository:
 
     .venv/bin/python -m pytest tests
-    VECMON=crates/vecmon/out/vecmon.by-rattle .venv/bin/python -m pytest tests
+    VECMON=/tmp/other/vecmon .venv/bin/python -m pytest tests
 
-The variable VECMON names the program; without it, it is crates/vecmon/out/vecmon. `tools/test` runs both, the program
-as LLVM builds it and as Rattle's own compiler does. What is stored was worked out without the program, but for
+The variable VECMON names the program; without it, it is crates/vecmon/out/vecmon. Its file has to be called `vecmon`,
+since its help and its messages have the name that it is called by. `tools/test` runs the program as LLVM builds it, and
+as Rattle's own compiler does. What is stored was worked out without the program, but for
 counts of how much was compared; no test writes it.
 """
