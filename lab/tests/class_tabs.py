@@ -28,7 +28,7 @@ Message = dict[str, Any]
 
 
 def patched(value: Any, patch: Any) -> Any:
-    """What a merge patch (RFC 7396) makes of a value."""
+    """What a merge patch makes of a value: the pseudo-code of RFC 7396, section 2."""
     if not isinstance(patch, dict):
         return patch
     result = dict(value) if isinstance(value, dict) else {}

@@ -149,12 +149,14 @@ async def test_a_program_that_cannot_be_had_for_a_while(tmp_path: pathlib.Path) 
     assert (tmp_path / "class" / "A.script").read_bytes() == room.session.script
 
 
-async def test_a_full_disk(tmp_path: pathlib.Path) -> None:
-    def limit() -> None:
-        resource.setrlimit(resource.RLIMIT_FSIZE, (2000, resource.RLIM_INFINITY))
+def fill_the_disk() -> None:
+    """Lets no file of this process grow beyond 2,000 bytes, as a disk does that is full."""
+    resource.setrlimit(resource.RLIMIT_FSIZE, (2000, resource.RLIM_INFINITY))
 
+
+async def test_a_full_disk(tmp_path: pathlib.Path) -> None:
     folder = tmp_path / "class"
-    async with process(folder, preexec_fn=limit) as room:
+    async with process(folder, preexec_fn=fill_the_disk) as room:
         tab, teacher = await room.sit("A1"), await room.sit("teacher")
         await tab.do(*LOOP)
         for _ in range(30):
@@ -174,11 +176,8 @@ async def test_a_full_disk(tmp_path: pathlib.Path) -> None:
 
 
 async def test_a_server_that_is_killed_while_the_disk_is_full(tmp_path: pathlib.Path) -> None:
-    def limit() -> None:
-        resource.setrlimit(resource.RLIMIT_FSIZE, (2000, resource.RLIM_INFINITY))
-
     folder = tmp_path / "class"
-    async with process(folder, preexec_fn=limit) as room:
+    async with process(folder, preexec_fn=fill_the_disk) as room:
         tab, teacher = await room.sit("A1"), await room.sit("teacher")
         await tab.do(*LOOP, *["step 1"] * 240)
         await teacher.until(lambda view: "isn't saved" in view["machines"]["A"]["trouble"])

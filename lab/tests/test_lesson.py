@@ -16,6 +16,7 @@ from lab.frames import Frame, make_frames
 from lab.lesson_page import FILES, lesson_page, merge_patch
 from lab.lesson_script import read_script, read_source
 from lab.machine import Session
+from lab.tests.class_tabs import patched
 from lab.tour import DATA, tours
 
 EXAMPLES = pathlib.Path(__file__).resolve().parent.parent / "examples"
@@ -202,18 +203,7 @@ OBJECTS = st.recursive(
 @settings(derandomize=True, database=None, deadline=None, max_examples=200)
 @given(st.dictionaries(st.text("abc", max_size=1), OBJECTS), st.dictionaries(st.text("abc", max_size=1), OBJECTS))
 def test_merge_patches(old: dict[str, Any], new: dict[str, Any]) -> None:
-    def applied(value: Any, patch: Any) -> Any:  # the pseudo-code of RFC 7396, section 2
-        if not isinstance(patch, dict):
-            return patch
-        result = dict(value) if isinstance(value, dict) else {}
-        for key, part in patch.items():
-            if part is None:
-                result.pop(key, None)
-            else:
-                result[key] = applied(result.get(key), part)
-        return result
-
-    assert applied(old, merge_patch(old, new)) == new
+    assert patched(old, merge_patch(old, new)) == new
 
 
 def test_the_files_of_the_page_stay_within_their_elements() -> None:
