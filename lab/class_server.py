@@ -18,7 +18,7 @@ from aiohttp import WSMsgType, web
 
 from .class_seats import TEACHER
 from .class_view import Class, Message, Tab
-from .lesson_page import FILES, in_line, page_text
+from .lesson_page import content_policy, page_text
 
 SCRIPTS = ["words.js", "operands.js", "view.js", "connection.js", "desk.js", "teacher.js", "class.js"]
 STYLES = ["page.css", "class.css"]
@@ -38,28 +38,20 @@ class Server:
     def __init__(self, members: Class, names: set[str]) -> None:
         """names: hosts that the page may be opened under, besides all numeric addresses."""
         self.members, self.names = members, {"localhost", *names}
-        style = (FILES / "class.css").read_text("utf-8")
-        self._page = page_text("class.html", SCRIPTS, class_style=style)
-        self._policy = (
-            f"default-src 'none'; img-src data:; style-src {in_line(STYLES)}; script-src {in_line(SCRIPTS)}; "
-            "base-uri 'none'; form-action 'none'; frame-ancestors 'none'; connect-src 'self'"
-        )
+        self._page = page_text("class.html", STYLES, SCRIPTS)
+        self._policy = f"{content_policy(STYLES, SCRIPTS)}; frame-ancestors 'none'; connect-src 'self'"
         self._spoke: set[Any] = set()  # connections that have made a whole request
         self._is_ending = False
-        self._nameless = 0  # sockets without a code
+        self._nameless = asyncio.Semaphore(UNKNOWN)  # had by sockets without a code
         self._sockets: weakref.WeakSet[web.WebSocketResponse] = weakref.WeakSet()
 
     def application(self) -> web.Application:
         """The application, to be served by one runner."""
         application = web.Application(middlewares=[self._check], client_max_size=MESSAGE_BYTES)
         application.on_response_prepare.append(self._add_headers)
-        application.add_routes(
-            [
-                web.get("/", self._get_page),
-                web.get("/socket", self._socket),
-                web.get("/{machine:[A-L]}/{what:script|transcript}", self._get_file),
-            ]
-        )
+        application.router.add_get("/", self._get_page)
+        application.router.add_get("/socket", self._socket)
+        application.router.add_get("/{machine:[A-L]}/{what:script|transcript}", self._get_file)
         return application
 
     def is_ours(self, host: str, origin: str | None) -> bool:
@@ -132,16 +124,13 @@ class Server:
         return web.Response(body=data, content_type="text/plain")
 
     async def _socket(self, request: web.Request) -> web.WebSocketResponse:
-        if self._nameless >= UNKNOWN:
+        if self._nameless.locked():
             raise web.HTTPServiceUnavailable
         own = web.WebSocketResponse(heartbeat=READ_SECONDS, max_msg_size=MESSAGE_BYTES, compress=False, timeout=2)
-        self._nameless += 1
-        try:
+        async with self._nameless:
             await own.prepare(request)
             self._sockets.add(own)
             who = await self._who(own)
-        finally:
-            self._nameless -= 1
         others = sum(tab.who == who for tab in self.members.tabs)
         if who is None:
             await own.close(code=CLOSED, message=b"no such code")

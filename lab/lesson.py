@@ -3,7 +3,6 @@
 import argparse
 import pathlib
 import sys
-from collections.abc import Mapping
 
 from . import LabError
 from .frames import make_frames
@@ -25,17 +24,13 @@ def add_arguments(parser: argparse.ArgumentParser) -> None:
 
 def run(arguments: argparse.Namespace) -> int:
     """Writes the page. Raises LabError and OSError for bad input."""
-    page = _made(arguments.script, images_of(arguments.images), arguments.title, arguments.quantum)
+    path, images = arguments.script, images_of(arguments.images)
+    text = path.read_text("utf-8", "replace")
+    script = read_source(text, path.name) if path.suffix in SOURCE_SUFFIXES else read_script(text)
+    frames = make_frames(script, find_program(), images, arguments.quantum)
+    page = lesson_page(arguments.title or script.title or path.name, frames, script.labels)
     if arguments.output is None:
         sys.stdout.buffer.write(page.encode("utf-8"))
     else:
         arguments.output.write_text(page, "utf-8")
     return 0
-
-
-def _made(path: pathlib.Path, images: Mapping[str, pathlib.Path], title: str | None, quantum: int | None) -> str:
-    """The page of the lesson in a file."""
-    text = path.read_text("utf-8", "replace")
-    script = read_source(text, path.name) if path.suffix in SOURCE_SUFFIXES else read_script(text)
-    frames = make_frames(script, find_program(), images, quantum)
-    return lesson_page(title or script.title or path.name, frames, script.labels)

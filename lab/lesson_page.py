@@ -13,39 +13,34 @@ from typing import Any
 from .frames import Frame
 
 FILES = pathlib.Path(__file__).with_name("page")
-STYLE = "page.css"
+STYLES = ["page.css"]
 SCRIPTS = ["words.js", "operands.js", "view.js", "lesson.js"]
 
 
-def lesson_page(title: str, frames: Sequence[Frame], labels: Mapping[int, list[str]] = {}) -> str:
+def lesson_page(title: str, frames: Sequence[Frame], labels: Mapping[str, list[str]] = {}) -> str:
     """The page, in HTML."""
-    lesson = {"labels": {f"{address:x}": names for address, names in labels.items()}, "frames": _differences(frames)}
-    policy = [
-        "default-src 'none'",
-        "img-src data:",
-        f"style-src {in_line([STYLE])}",
-        f"script-src {in_line(SCRIPTS)}",
-        "base-uri 'none'",
-        "form-action 'none'",
-    ]
+    lesson = {"labels": labels, "frames": _differences(frames)}
     data = json.dumps(lesson, separators=(",", ":")).replace("<", "\\u003c")
-    return page_text("lesson.html", SCRIPTS, policy="; ".join(policy), title=html.escape(title), lesson=data)
+    policy = content_policy(STYLES, SCRIPTS)
+    return page_text("lesson.html", STYLES, SCRIPTS, policy=policy, title=html.escape(title), lesson=data)
 
 
-def page_text(template: str, scripts: Sequence[str], **texts: str) -> str:
-    """A page of `lab/page`, with its scripts, the style, and the parts that show a machine in line."""
+def page_text(template: str, styles: Sequence[str], scripts: Sequence[str], **texts: str) -> str:
+    """A page of `lab/page`, with its styles, its scripts, and the parts that show a machine in line."""
     return string.Template(_file(template)).substitute(
         texts,
-        style=_file(STYLE),
         machine=_file("machine.html"),
+        styles="\n".join(f"<style>{_file(name)}</style>" for name in styles),
         scripts="\n".join(f"<script>{_file(name)}</script>" for name in scripts),
     )
 
 
-def in_line(names: Sequence[str]) -> str:
-    """What a content policy calls these files of `lab/page`, each in line."""
-    digests = (hashlib.sha256(_file(name).encode("utf-8")).digest() for name in names)
-    return " ".join(f"'sha256-{base64.b64encode(digest).decode('ascii')}'" for digest in digests)
+def content_policy(styles: Sequence[str], scripts: Sequence[str]) -> str:
+    """The content policy of a page: these files of `lab/page`, which it has in line, and pictures that it has in itself."""
+    return (
+        f"default-src 'none'; img-src data:; style-src {_in_line(styles)}; script-src {_in_line(scripts)}; "
+        "base-uri 'none'; form-action 'none'"
+    )
 
 
 def merge_patch(old: Mapping[str, Any], new: Mapping[str, Any]) -> dict[str, Any]:
@@ -62,12 +57,15 @@ def merge_patch(old: Mapping[str, Any], new: Mapping[str, Any]) -> dict[str, Any
 
 def _differences(frames: Sequence[Frame]) -> list[dict[str, Any]]:
     """The frames, with what changed of the states."""
-    before: Mapping[str, Any] = {}
-    told = []
-    for frame in frames:
-        told.append(dataclasses.asdict(frame) | {"states": merge_patch(before, frame.states)})
-        before = frame.states
-    return told
+    before: list[Mapping[str, Any]] = [{}, *(frame.states for frame in frames)]
+    patches = [merge_patch(old, frame.states) for old, frame in zip(before, frames)]
+    return [dataclasses.asdict(frame) | {"states": patch} for frame, patch in zip(frames, patches)]
+
+
+def _in_line(names: Sequence[str]) -> str:
+    """What a content policy calls these files, each in line."""
+    digests = (hashlib.sha256(_file(name).encode("utf-8")).digest() for name in names)
+    return " ".join(f"'sha256-{base64.b64encode(digest).decode('ascii')}'" for digest in digests)
 
 
 def _file(name: str) -> str:

@@ -34,7 +34,7 @@ class Script:
     title: str
     steps: list[Step]
     source: str = ""
-    labels: dict[int, list[str]] = field(default_factory=dict)
+    labels: dict[str, list[str]] = field(default_factory=dict)
     statements: dict[str, Statement] = field(default_factory=dict)
     notes: dict[int, str] = field(default_factory=dict)
 
@@ -57,11 +57,8 @@ def read_script(text: str) -> Script:
 
 def add_line(steps: list[Step], line: str, note: str = "") -> None:
     """Adds a line as a step, or to the last step: if it only looks, or both write instructions of one user."""
-    if (
-        steps
-        and not note
-        and (is_look(line) or _begins(line) == _begins(steps[-1].lines[-1]) and "asm" in _begins(line))
-    ):
+    begins = _begins(line)
+    if steps and not note and (is_look(line) or "asm" in begins and begins == _begins(steps[-1].lines[-1])):
         steps[-1].lines.append(line)
     else:
         steps.append(Step([line], note))
@@ -82,10 +79,8 @@ def read_source(text: str, name: str) -> Script:
     runs = any(words_of(line)[:1] in (["step"], ["go"]) for line in set_up)
     for line in set_up + ([] if runs else RUN_LINES):
         add_line(steps, line)
-    labels: dict[int, list[str]] = {}
-    for label, address in program.labels.items():
-        labels.setdefault(address, []).append(label)
-    return Script(title, steps, name, labels, _written(program), notes)
+    statements = {f"1 {each.command}": each for each in program.statements}
+    return Script(title, steps, name, program.names(), statements, notes)
 
 
 def refused_statement(script: Script, line: str, answer: str) -> LabError:
@@ -127,11 +122,6 @@ def _source_notes(lines: list[str], program: Program) -> tuple[str, dict[int, st
             notes[addresses[number]] = _sentence(waiting)
             waiting.clear()
     return introduction, {address: note for address, note in notes.items() if note}
-
-
-def _written(program: Program) -> dict[str, Statement]:
-    """The instructions of a source by the line that writes them."""
-    return {f"1 asm {statement.address:x} {statement.text}": statement for statement in program.statements}
 
 
 def _set_up_line(line: str, labels: dict[str, int]) -> str:

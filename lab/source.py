@@ -29,6 +29,13 @@ class Program:
     statements: list[Statement]
     entry: int
 
+    def names(self) -> dict[str, list[str]]:
+        """The labels by address, which is in hexadecimal digits."""
+        names: dict[str, list[str]] = {}
+        for label, address in self.labels.items():
+            names.setdefault(f"{address:x}", []).append(label)
+        return names
+
 
 def assemble(text: str, origin: int = 0x10000) -> Program:
     """Assembles a source. The text's address is the origin, a multiple of 4,096. Raises SourceError."""
@@ -85,7 +92,7 @@ class _Assembler:
         statements = [statement for item in self._instructions for statement in item.statements(self._symbols)]
         filled = [section for section in self._sections.values() if section.size]
         lines = [f"map {section.base:x} {section.pages()} {section.permissions}" for section in filled]
-        lines += [f"asm {statement.address:x} {statement.text}" for statement in statements]
+        lines += [statement.command for statement in statements]
         lines += [line for section in filled for line in section.pokes()]
         labels = self._symbols.addresses()
         return Program(lines, labels, statements, labels.get("_start", self._text.base))

@@ -27,6 +27,11 @@ class Statement:
     text: str
     columns: tuple[int, ...]  # the text's end has one too
 
+    @property
+    def command(self) -> str:
+        """The monitor's command that writes it."""
+        return f"asm {self.address:x} {self.text}"
+
 
 def refusal(statement: Statement, column: int) -> SourceError:
     """The error in the source for the machine's answer E15 to a statement, with the column that it names."""
