@@ -11,9 +11,8 @@ from dataclasses import dataclass, field
 from typing import Any
 
 from . import LabError
-from .class_seats import DIGITS
 from .class_store import BadFolder, ScriptFile
-from .lines import check_line, is_look, is_refusal, is_stop, words_of
+from .lines import DIGITS, check_line, is_look, is_refusal, is_stop, words_of
 from .machine import OutOfStep, ProgramGone, ReplayDiffers, ScriptFull, Session
 from .source import SourceError, assemble, refusal
 from .state import ABSENT, RowChoice, State, Watch, look_at, with_rows
@@ -185,7 +184,7 @@ class Room:
             ways = {"absent": list[str](), "running": ["stop", "leave"], "stopped": ["leave"]}
             lines = [*ways[seat.state["run"]], "enter", *program.lines, f"setpc {program.entry:x}"]
             self._check_share(seat, [f"{seat.digit} {line}" for line in lines])
-            statements = {f"asm {each.address:x} {each.text}": each for each in program.statements}
+            statements = {each.command: each for each in program.statements}
             for line in lines:
                 (answer,) = self._do(work, f"{seat.digit} {line}")
                 code, _, column = answer[0][2:].partition(" ")
@@ -193,8 +192,7 @@ class Room:
                     mistakes.append(refusal(statements[line], int(column)))
                 elif is_refusal(answer):
                     raise BadRequest(f"the machine answers {code} to {line[:60]}")
-            for label, address in program.labels.items():
-                labels.setdefault(f"{address:x}", []).append(label)
+            labels.update(program.names())
 
         async with seat.turn, self._lock:
             try:
@@ -356,10 +354,8 @@ class Room:
 
 
 def _line(seat: Seat, text: Any) -> str:
-    """The line that a seat sends. Raises BadLine and BadRequest."""
-    if not isinstance(text, str):
-        raise BadRequest("a line is a text")
-    line = f"{seat.digit} {text}"
+    """The line that a seat sends. Raises BadLine."""
+    line: str = f"{seat.digit} {text}" if isinstance(text, str) else text
     check_line(line)
     return line
 

@@ -3,8 +3,9 @@
 import secrets
 from collections.abc import Iterable, Mapping
 
+from .lines import DIGITS
+
 TEACHER = "teacher"
-DIGITS = "12345678"
 LETTERS = "ABCDEFGHIJKL"  # of machines
 CODE_LETTERS = "abcdefghjkmnpqrstuvwxyz23456789"  # none looks like another one
 CODE_LENGTH = 14  # 69 bits

@@ -8,7 +8,7 @@ from typing import Any
 
 from . import LabError
 from .class_room import SEAT_BYTES, BadRequest, Room, Seat
-from .class_seats import DIGITS, TEACHER
+from .class_seats import TEACHER
 from .class_store import ScriptFile, Store
 from .lesson_page import merge_patch
 from .machine import SCRIPT_BYTES

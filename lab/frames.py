@@ -2,16 +2,14 @@
 
 import pathlib
 from collections.abc import Mapping, Sequence
-from contextlib import ExitStack, suppress
+from contextlib import suppress
 from dataclasses import dataclass
 
 from . import LabError
 from .lesson_script import Script, Step, refused_statement
-from .lines import BadLine, is_look, is_refusal, words_of
+from .lines import DIGITS, BadLine, is_look, is_refusal, words_of
 from .machine import Session
 from .state import RowChoice, State, Watch, look_at, with_rows
-
-USERS = "12345678"
 
 
 @dataclass(frozen=True)
@@ -39,8 +37,7 @@ def make_frames(
     """The frames of a script. Raises LabError where it has no line, or the program can't run or refuses a source."""
     if not script.steps:
         raise LabError("a lesson has a line at least, and this one has none")
-    with ExitStack() as stack:
-        whole, single = (stack.enter_context(Session(program, images, quantum=quantum)) for _ in range(2))
+    with Session(program, images, quantum=quantum) as whole, Session(program, images, quantum=quantum) as single:
         maker = _Maker(script, whole, single)
         for step in script.steps:
             maker.add(step)
@@ -82,7 +79,7 @@ class _Maker:
             return [f">{line}", f"!Not sent: {error}."]
         if line in self._script.statements and is_refusal(answer):
             raise refused_statement(self._script, line, answer[0])
-        if line[0] in USERS:
+        if line[0] in DIGITS:
             self._watches.setdefault(line[0], Watch()).follow(line, answer)
         return [f">{line}", *(f"<{part}" for part in answer)]
 

@@ -10,7 +10,8 @@ from collections.abc import Sequence
 
 from . import LabError
 
-LOOKS = {f"{user} {word}" for user in range(1, 9) for word in "regs vcsr vreg dis peek state breaks trace".split()}
+DIGITS = "12345678"  # of the users
+LOOKS = {f"{digit} {word}" for digit in DIGITS for word in "regs vcsr vreg dis peek state breaks trace".split()}
 LOOKS |= {"* list", "* stats"}
 
 _LINE = re.compile(r"[1-8*] [ -~]{0,1022}")

@@ -7,9 +7,8 @@ import sys
 from collections.abc import Iterable, Iterator
 
 from . import LabError
-from .class_seats import DIGITS
 from .class_store import ScriptFile, Store
-from .lines import is_refusal, is_stop, words_of
+from .lines import DIGITS, is_refusal, is_stop, words_of
 from .machine import Session
 from .program import find_program
 
