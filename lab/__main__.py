@@ -35,17 +35,13 @@ def main() -> int:
     arguments = parser.parse_args()
     try:
         status: int = arguments.run(arguments)
-    except LabError as error:
-        return _told(str(error))
-    except OSError as error:
-        return _told(f"{error.filename}: {error.strerror}" if error.filename else str(error))
+        return status
     except KeyboardInterrupt:
         return 130
-    return status
-
-
-def _told(mistake: str) -> int:
-    """The status of a mistake, which is told."""
+    except LabError as error:
+        mistake = str(error)
+    except OSError as error:
+        mistake = f"{error.filename}: {error.strerror}" if error.filename else str(error)
     print(f"vecmon-lab: {mistake}", file=sys.stderr)
     return 2
 

@@ -116,9 +116,8 @@ class Store:
         self.machines = LETTERS[: facts["machines"]]
         self.images = {name: self._image(name) for name in facts["images"]}
         self.codes = Codes(self.machines, self.read("codes.json"))
-        for name, value in (("class.json", facts), ("codes.json", self.codes.codes)):
-            if not self.write(name, value):
-                raise BadFolder(self.trouble)
+        if not (self.write("class.json", facts) and self.write("codes.json", self.codes.codes)):
+            raise BadFolder(self.trouble)
 
     def close(self) -> None:
         """Leaves the folder to others."""

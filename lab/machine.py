@@ -11,7 +11,6 @@ import select
 import signal
 import subprocess
 from collections.abc import Mapping, Sequence
-from types import TracebackType
 
 from . import LabError
 from .lines import BadLine, OutOfStep, check_line, is_look, is_refusal, is_whole, words_of
@@ -36,7 +35,11 @@ class ReplayDiffers(LabError):
 
 
 class _Process:
-    """A process of the program: a line goes in, its whole answer comes out. `fed` is how many bytes went in."""
+    """A process of the program: a line goes in, its whole answer comes out.
+
+    fed: how many bytes went in
+    number: the system's number of the process
+    """
 
     def __init__(self, command: Sequence[str], patience: float) -> None:
         self.fed = 0
@@ -50,16 +53,12 @@ class _Process:
         except OSError as error:
             raise ProgramGone(f"{command[0]} can't be started: {error.strerror}") from error
         assert self._child.stdin and self._child.stdout and self._child.stderr
+        self.number = self._child.pid
         self._feed, self._source = self._child.stdin.fileno(), self._child.stdout.fileno()
         self._complaints = self._child.stderr.fileno()
         os.set_blocking(self._complaints, False)
         self._readable = select.poll()
         self._readable.register(self._source, select.POLLIN)
-
-    @property
-    def number(self) -> int:
-        """The system's number of the process."""
-        return self._child.pid
 
     def ask(self, lines: Sequence[str]) -> list[list[str]]:
         """The answers to lines that go in together. Raises ProgramGone and OutOfStep; then it is of no use any more."""
@@ -167,9 +166,7 @@ class Session:
     def __enter__(self) -> "Session":
         return self
 
-    def __exit__(
-        self, kind: type[BaseException] | None, error: BaseException | None, trace: TracebackType | None
-    ) -> None:
+    def __exit__(self, *error: object) -> None:
         self.close()
 
     @property

@@ -5,7 +5,7 @@ from collections import Counter
 from collections.abc import Iterator, Sequence
 from typing import Any
 
-from .lines import is_refusal, words_of
+from .lines import is_refusal, is_stop, words_of
 from .machine import Session
 from .reasons import VectorView, describe_stop
 
@@ -31,7 +31,6 @@ MAPPED_PAGES, MOST_PAGES = 8, 32  # how many pages are looked at since they were
 MOST_WORDS = 512
 WORDS_AHEAD = 8
 
-_STOP_LINE = re.compile(r"[1-8] (break|ebreak|exit|outfull|fault) ")
 _OUTPUT = re.compile(r"[1-8] out \d+ ([0-9a-f]+)")
 _ADDRESS = re.compile(r"(-?\d+)?\(x(\d+)\)")
 _STORE = re.compile(r"(s[bhwd]|vs\S+) .*\(x\d+\)")
@@ -77,17 +76,14 @@ class Watch:
         if base:
             self._add_pages((int(registers[base[2]], 16) + int(base[1] or "0")) % (1 << 48), 1)
 
-    def runs(self) -> Iterator[tuple[int, int]]:
-        """The words of the program in runs of at most 16: the address of the first, and how many they are."""
-        first = length = 0
+    def runs(self) -> list[list[int]]:
+        """The addresses of the program's words, in runs of at most 16 that stand one behind another."""
+        runs: list[list[int]] = []
         for address in sorted(self.code):
-            if address != first + 4 * length or length == 16:
-                if length:
-                    yield first, length
-                first, length = address, 0
-            length += 1
-        if length:
-            yield first, length
+            if not runs or len(runs[-1]) == 16 or address != runs[-1][-1] + 4:
+                runs.append([])
+            runs[-1].append(address)
+        return runs
 
 
 def look_at(
@@ -113,7 +109,7 @@ def look_at(
     if not carried_out or carried_out.startswith("v"):
         state["v"] = looks.vectors()
     trace = looks.ask("trace")[0].split()[1:]
-    stops = [line[2:] for line in answers if _STOP_LINE.match(line)]
+    stops = [line[2:] for line in answers if is_stop(line)]
     stepped = any(line[2:].startswith("stepped ") for line in answers)
     state["code"] = looks.code(watch, state["pc"], trace)
     text = state["code"].get(state["pc"], "")
@@ -157,10 +153,8 @@ class RowChoice:
 
     def rows(self, watch: Watch) -> set[str]:
         """The addresses of the rows that tell most."""
-        weights = Counter(self._weights)
-        for row in list(weights):
-            if any(int(row, 16) + place in watch.code for place in range(0, 16, 4)):
-                del weights[row]
+        listing = {f"{address // ROW_BYTES * ROW_BYTES:x}" for address in watch.code}
+        weights = Counter({row: weight for row, weight in self._weights.items() if row not in listing})
         weights.update({f"{row:x}": 3 for row in watch.named if f"{row:x}" in self._seen})
         return {row for row, _ in weights.most_common(MOST_ROWS)}
 
@@ -208,9 +202,8 @@ class _Looks:
         if len(watch.code) < MOST_WORDS:
             watch.code.update(int(address, 16) for address in trace)
             watch.code.update(self._ahead(int(pc, 16)))
-        answers = self.ask_all([f"dis {first:x} {length}" for first, length in watch.runs()])
-        lines = [line for answer in answers for line in answer]
-        return {_short(line[:16]): line[17:] for line in lines}
+        answers = self.ask_all([f"dis {run[0]:x} {len(run)}" for run in watch.runs()])
+        return {_short(line[:16]): line[17:] for answer in answers for line in answer}
 
     def _ahead(self, pc: int) -> Iterator[int]:
         """The addresses of instructions from one on, up to a later word that is none, or the end of the page."""
