@@ -1,6 +1,8 @@
 pub mod CommandLine
 pub mod ImageFiles
 pub mod ImageWords
+pub mod KnownBytes
+pub mod ProgramRuns
 pub mod Statuses
 pub use Rattle.monitor_machine.specs.Images
 pub use Rattle.monitor_machine.specs.MachineState

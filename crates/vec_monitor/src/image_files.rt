@@ -3,16 +3,15 @@ ghost use Rattle.std.specs.Prelude.{◌≡◌, ◌≤◌, ◌⊎◌, IfErr, IfOk
 ghost use Rattle.std.specs.Io.KnownBytes.{Consumes, IsAtEnd};
 ghost use Rattle.std.specs.List.{AllZip, Any};
 ghost use Rattle.monitor_machine.specs.Images.{named_images};
-ghost use Rattle.vec_monitor.specs.ImageFiles.{named_file};
+ghost use Rattle.vec_monitor.specs.ImageFiles.{named_file, IsFileOf};
 ghost use Rattle.vec_monitor.specs.declared.program_fault.ProgramFault.TheVariants.{ImageRead, NoMemory};
 
 use crate::image_words::ImagePath;
+use crate::inputs::Inputs;
 use crate::program_fault::ProgramFault;
 use monitor_machine::{Image, MAX_IMAGE};
 use std::alloc::{AllocError, Allocator};
-use std::fs;
 use std::io::Read;
-use std::rt::Files;
 
 /// The file of an image, by the image's name.
 #[derive(Drop)]
@@ -60,16 +59,16 @@ fn read_bytes<'a, F: Read, A: Allocator>(
 
 /// Reads the file of an image. Refused where the file can't be opened or read, and for want of
 /// memory.
-fn read_image<'a, R: Files, A: Allocator>(
-    rt: &R,
+fn read_image<'a, I: Inputs, A: Allocator>(
+    inputs: &I,
     alloc: A,
     image: ImagePath<'a>,
 ) -> Result<ImageFile<'a, A>, ProgramFault<'a>>
-    ensures name { IfOk result (λ file. file.name.now ≡ image.entry.name.now) }
+    ensures file { IfOk result (IsFileOf (I.file_bytes inputs.now) image.entry) }
     ensures refused { IfErr result (λ fault. (fault ≡ NoMemory) ⊎ (fault ≡ ImageRead image.entry.name)) }
 {
     let name = image.name;
-    let Ok(mut file) = fs::open(rt, image.path) else {
+    let Ok(mut file) = inputs.open(image.path) else {
         return Err(ProgramFault::ImageRead(name));
     };
     let bytes = read_bytes(&mut file, alloc, name)?;
@@ -77,19 +76,19 @@ fn read_image<'a, R: Files, A: Allocator>(
 }
 
 /// Reads the files of the images, in their order, up to the first that can't be read.
-pub fn read_images<'a, R: Files, A: Allocator + Clone>(
-    rt: &R,
+pub fn read_images<'a, I: Inputs, A: Allocator + Clone>(
+    inputs: &I,
     alloc: A,
     images: &[ImagePath<'a>],
 ) -> Result<Vec<ImageFile<'a, A>, A>, ProgramFault<'a>>
-    ensures names { IfOk result (λ files.
-        AllZip (λ image file. file.name.now ≡ image.name.now) images.now files.items) }
+    ensures files { IfOk result (λ files.
+        AllZip (IsFileOf (I.file_bytes inputs.now)) images.now files.items) }
     ensures refused { IfErr result (λ fault. (fault ≡ NoMemory)
         ⊎ Any (λ image. fault ≡ ImageRead image.name) images.now) }
 {
     let mut files = Vec::new(alloc.clone()?);
     for image in images {
-        files.push(read_image(rt, alloc.clone()?, *image)?)?;
+        files.push(read_image(inputs, alloc.clone()?, *image)?)?;
     }
     Ok(files)
 }

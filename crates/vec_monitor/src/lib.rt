@@ -5,11 +5,13 @@
 mod command_line;
 mod image_files;
 mod image_words;
+mod inputs;
 mod program;
 mod program_fault;
 mod words;
 
 pub use command_line::{Options, UsageFault};
+pub use inputs::Inputs;
 pub use monitor_machine::{Image, Machine, NewFault};
 pub use monitor_script::{DeviceFault, ReaderSource, RunFault, Sink, Source, WriterSink, run};
 pub use program::{report, vecmon};

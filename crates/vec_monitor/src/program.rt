@@ -1,46 +1,71 @@
-//! The program: a script from a file or standard input, the output to standard output.
-ghost use Rattle.std.specs.Prelude.{◌≡◌, ◌≢◌, ◌≤◌, ◌⊎◌, [], IfErr, IsErrAnd};
+//! The program: a script from a file or standard input, its answers to an output.
+ghost use Rattle.std.specs.Prelude.{◌≡◌, ◌≢◌, ◌≤◌, ◌⊎◌, [], IfErr, IsErrAnd, OnOk, option_map};
 ghost use Rattle.clap.specs.Walk.{texts};
-ghost use Rattle.vec_monitor.specs.CommandLine.{image_words};
+ghost use Rattle.clap.specs.Words.{IsAmong};
+ghost use Rattle.clap.specs.declared.error.kind.ErrorKind.TheVariants.{DisplayHelp};
+ghost use Rattle.rv_model.specs.machine.Script.{new_world};
+ghost use Rattle.vec_monitor.specs.CommandLine.{image_words, words_fault};
 ghost use Rattle.vec_monitor.specs.ImageWords.{SomeLacksEqualsSign};
+ghost use Rattle.vec_monitor.specs.ProgramRuns.{script_bytes, RanOptions, RanScript, RanWords};
 ghost use Rattle.vec_monitor.specs.Statuses.{program_status, AreRefused, MayBeRefused};
 ghost use Rattle.vec_monitor.specs.declared.program_fault.ProgramFault.TheVariants.{ImageWord, NoMemory};
 
 use crate::command_line::{Options, UsageFault};
 use crate::image_files::{borrowed_images, read_images};
 use crate::image_words::image_paths;
+use crate::inputs::Inputs;
 use crate::program_fault::{ProgramFault, STATUS_DONE};
 use crate::words::options;
 use monitor_machine::Machine;
-use monitor_script::{ReaderSource, RunFault, WriterSink, run};
+use monitor_script::{ReaderSource, RunFault, Sink, run};
 use std::alloc::{Allocator, Global};
-use std::rt::Files;
-use std::{fs, io};
+use std::io::Read;
+
+/// Runs the script that a reader gives.
+fn run_reader<F: Read + Drop, K: Sink, A: Allocator>(
+    machine: &mut Machine<'_, A>,
+    reader: F,
+    output: &mut K,
+) -> Result<(), RunFault>
+    ensures { machine.old.world ≡ new_world → OnOk result (RanScript machine.old.setup
+        (F.remaining reader) (λ told. K.took output.old told output.new)) }
+{
+    run(machine, &mut ReaderSource::new(reader), output)
+}
 
 /// Runs the script that the options name, or standard input.
-fn run_script<'a, R: Files + Input + Print, A: Allocator>(
-    rt: &R,
+fn run_script<I: Inputs, K: Sink, A: Allocator>(
+    inputs: &I,
     machine: &mut Machine<'_, A>,
     script: Option<&str>,
-) -> Result<(), RunFault> {
-    let mut sink = WriterSink::new(io::writer(rt));
+    output: &mut K,
+) -> Result<(), RunFault>
+    ensures { machine.old.world ≡ new_world → OnOk result (RanScript machine.old.setup
+        (script_bytes (I.file_bytes inputs.now) (I.input_bytes inputs.now)
+        (option_map (λ path. path.now) script.entry))
+        (λ told. K.took output.old told output.new)) }
+{
     match script {
         Some(path) => {
-            let Ok(file) = fs::open(rt, path) else {
+            let Ok(file) = inputs.open(path) else {
                 return Err(RunFault::Read);
             };
-            run(machine, &mut ReaderSource::new(file), &mut sink)
+            run_reader(machine, file, output)
         }
-        None => run(machine, &mut ReaderSource::new(rt.reader()), &mut sink),
+        None => run_reader(machine, inputs.standard_input(), output),
     }
 }
 
 /// Does what the options ask for. The images are read before the script is opened.
-fn run_options<'a, R: Files + Input + Print, A: Allocator + Clone>(
-    rt: &R,
+fn run_options<'a, I: Inputs, K: Sink, A: Allocator + Clone>(
+    inputs: &I,
     alloc: A,
     options: &Options<'a>,
+    output: &mut K,
 ) -> Result<(), ProgramFault<'a>>
+    ensures ran { OnOk result (RanOptions (I.file_bytes inputs.now) (I.input_bytes inputs.now)
+        options.now.quantum (option_map (λ path. path.now) options.now.script)
+        (texts options.now.images.items) (λ told. K.took output.old told output.new)) }
     ensures usage { IfErr result (λ fault.
         program_status fault ≡ 2 → SomeLacksEqualsSign (texts options.now.images.items)) }
     ensures refused { SomeLacksEqualsSign (texts options.now.images.items) →
@@ -49,19 +74,23 @@ fn run_options<'a, R: Files + Input + Print, A: Allocator + Clone>(
         options.now.images.items ≡ [] → IfErr result (λ fault. program_status fault ≢ 4) }
 {
     let paths = image_paths(alloc.clone()?, options.images.as_slice())?;
-    let files = read_images(rt, alloc.clone()?, paths.as_slice())?;
+    let files = read_images(inputs, alloc.clone()?, paths.as_slice())?;
     let images = borrowed_images(alloc.clone()?, files.as_slice())?;
     let mut machine = Machine::new(alloc, options.quantum, images.as_slice())?;
-    run_script(rt, &mut machine, options.script)?;
+    run_script(inputs, &mut machine, options.script, output)?;
     Ok(())
 }
 
 /// Does what the words ask for: help, or a run.
-fn run_words<'a, R: Files + Input + Print>(
+fn run_words<'a, R: Inputs + Print, K: Sink>(
     rt: &R,
     alloc: Global,
     words: &'a [&'a str],
+    output: &mut K,
 ) -> Result<(), ProgramFault<'a>>
+    ensures ran { OnOk result (IsAmong DisplayHelp (words_fault (texts words.now))
+        ⊎ RanWords (R.file_bytes rt.now) (R.input_bytes rt.now) (texts words.now)
+        (λ told. K.took output.old told output.new)) }
     ensures usage { IfErr result (λ fault.
         program_status fault ≡ 2 → MayBeRefused (texts words.now)) }
     ensures refused { AreRefused (texts words.now) →
@@ -70,7 +99,7 @@ fn run_words<'a, R: Files + Input + Print>(
         IfErr result (λ fault. program_status fault ≢ 4) }
 {
     match options(alloc, words) {
-        Ok(options) => run_options(rt, alloc, &options),
+        Ok(options) => run_options(rt, alloc, &options, output),
         Err(UsageFault::Help(text)) => match print!(rt; "{text}") {
             Ok(()) => Ok(()),
             Err(_) => Err(ProgramFault::Run(RunFault::Write)),
@@ -88,16 +117,27 @@ pub fn report<R: Eprint>(rt: &R, fault: &ProgramFault<'_>) -> u8
     fault.status()
 }
 
-/// The program. `words` is the command line, the program's name first. Answers the status that it
-/// ends with; for any but `STATUS_DONE` standard error says why.
-pub fn vecmon<R: Files + Input + Print + Eprint>(rt: &R, alloc: Global, words: &[&str]) -> u8
+/// The program. `words` is the command line, the program's name first. What the script's lines
+/// answer goes to `output`; help and messages are printed. Answers the status that the program ends
+/// with; for any but `STATUS_DONE` standard error says why.
+pub fn vecmon<R: Inputs + Print + Eprint, K: Sink>(
+    rt: &R,
+    alloc: Global,
+    words: &[&str],
+    output: &mut K,
+) -> u8
     ensures statuses { (result ≡ 0) ⊎ ((result ≡ 2) ⊎ ((result ≡ 3) ⊎ ((result ≡ 4)
         ⊎ ((result ≡ 5) ⊎ (result ≡ 6))))) }
+    // It ends with 0 where help was asked for, or where the machine that the words ask for ran the
+    // script that they name.
+    ensures ran { result ≡ 0 → IsAmong DisplayHelp (words_fault (texts words.now))
+        ⊎ RanWords (R.file_bytes rt.now) (R.input_bytes rt.now) (texts words.now)
+        (λ told. K.took output.old told output.new) }
     ensures usage { result ≡ 2 → MayBeRefused (texts words.now) }
     ensures refused { AreRefused (texts words.now) → (result ≡ 2) ⊎ (result ≡ 6) }
     ensures images { image_words (texts words.now) ≡ [] → result ≢ 4 }
 {
-    match run_words(rt, alloc, words) {
+    match run_words(rt, alloc, words, output) {
         Ok(()) => STATUS_DONE,
         Err(fault) => report(rt, &fault),
     }

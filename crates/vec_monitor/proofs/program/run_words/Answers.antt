@@ -1,8 +1,25 @@
-use Rattle.std.proofs.Common.{inl, subst}
+use Rattle.std.proofs.Common.{inl, inr, refl, subst}
+use Rattle.std.proofs.lemmas.Result.{on_ok_weaker}
 use Rattle.clap.specs.Walk.{texts}
-use Rattle.clap.specs.Words.{kind_of}
+use Rattle.clap.specs.Words.{kind_of, IsAmong}
 use Rattle.vec_monitor.specs.CommandLine.{words_fault, IsRefusedFor}
+use Rattle.vec_monitor.proofs.ProgramRunLaws.{ran_words}
 use Rattle.vec_monitor.proofs.program.run_words.Goals as goal
+
+pub returns-in-Ok-clause-ran : goal.returns-in-Ok-clause-ran
+returns-in-Ok-clause-ran g c =
+    let words = texts c.args.words.now in
+    let asked = c.in-Ok.ensures in
+    on_ok_weaker c.run_options.result
+    (λ ran. inr (ran_words (g.R.Inputs.file_bytes c.args.rt.now) (g.R.Inputs.input_bytes c.args.rt.now) words _ _ _
+    (λ told. g.K.Sink.took c.args.output.now told c.run_options.new.output) (asked.taken refl) asked.quantum asked.script asked.images ran))
+    c.run_options.ensures.ran
+
+pub returns-in-Ok-print-clause-ran : goal.returns-in-Ok-print-clause-ran
+returns-in-Ok-print-clause-ran g c =
+    let kinds = words_fault (texts c.args.words.now) in
+    let refused = subst (IsRefusedFor kinds) c.in-Err-Help.field-0-is c.in-Err-Help.ensures.refused in
+    inl (subst (λ kind. IsAmong kind kinds) refused.0 refused.1)
 
 pub returns-in-Err-Usage-clause-usage : goal.returns-in-Err-Usage-clause-usage
 returns-in-Err-Usage-clause-usage g c = λ two.

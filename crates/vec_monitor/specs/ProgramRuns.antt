@@ -1,0 +1,49 @@
+-- What the program did with its words where it ended with 0: the machine that it made, the script that it read, and what it put out.
+-- Of files and of standard input it says as much as is known of their bytes.
+use Rattle.std.specs.Prelude.{◌≡◌, ◌≤◌, ℕ, List, [], Option, Some, None, length}
+use Rattle.std.specs.List.{AllZip}
+use Rattle.clap.specs.Words.{Text}
+use Rattle.monitor_machine.specs.NewFaults.{new_fault}
+use Rattle.rv_model.specs.machine.PrivateMachine.{solo}
+use Rattle.rv_model.specs.machine.Script.{lines, own, whole}
+use Rattle.rv_model.specs.machine.Setup.{Image, Setup}
+use Rattle.rv_model.specs.machine.Users.{user_count}
+use Rattle.vec_monitor.specs.CommandLine.{image_words, quantum_word, script_word, words_fault, IsQuantum}
+use Rattle.vec_monitor.specs.ImageWords.{IsNameAndPath}
+use Rattle.vec_monitor.specs.KnownBytes.{AreKnownAs}
+
+-- A new machine of these fixed parameters read a script to its end and put out the script's output. Each user's lines are those of a
+-- private machine that is given that user's events alone.
+pub record RanScript (setup : Setup) (known : Option (List ℕ)) (took : List ℕ → Type 0) : Type 0 where
+  pub script : List ℕ
+  pub output : List ℕ
+  pub read : AreKnownAs known script
+  pub not_too_long : length script ≤ 16777216
+  pub taken : took output
+  pub all : output ≡ whole setup script
+  pub each_user : (u : ℕ) → 1 ≤ u → u ≤ user_count → lines u output ≡ solo setup (own setup u script)
+
+-- the image that a word names: its name, and the bytes of the file at its path
+abbrev pub IsImageOf : (Text → Option (List ℕ)) → Text → Image → Type 0
+IsImageOf file_bytes word image =
+    (path : Text) × IsNameAndPath word image.name path × AreKnownAs (file_bytes path) image.bytes
+
+-- the script's bytes are those of the file at its path, and those of standard input without a path
+abbrev pub script_bytes : (Text → Option (List ℕ)) → Option (List ℕ) → Option Text → Option (List ℕ)
+script_bytes file_bytes input_bytes None = input_bytes
+script_bytes file_bytes input_bytes (Some path) = file_bytes path
+
+-- a machine of this quantum and of the images that these words name, none of which is refused, ran the script
+pub record RanOptions (file_bytes : Text → Option (List ℕ)) (input_bytes : Option (List ℕ)) (quantum : ℕ) (script : Option Text) (images : List Text) (took : List ℕ → Type 0) : Type 0 where
+  pub setup : Setup
+  pub ticks : setup.quantum ≡ quantum
+  pub files : AllZip (IsImageOf file_bytes) images setup.images
+  pub faultless : new_fault setup ≡ None
+  pub run : RanScript setup (script_bytes file_bytes input_bytes script) took
+
+-- clap took the words, and what they ask for was done
+pub record RanWords (file_bytes : Text → Option (List ℕ)) (input_bytes : Option (List ℕ)) (words : List Text) (took : List ℕ → Type 0) : Type 0 where
+  pub accepted : words_fault words ≡ []
+  pub quantum : ℕ
+  pub ticks : IsQuantum (quantum_word words) quantum
+  pub run : RanOptions file_bytes input_bytes quantum (script_word words) (image_words words) took
