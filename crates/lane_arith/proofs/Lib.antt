@@ -1,5 +1,6 @@
 pub mod ChunkWrites
 pub mod MaskBits
+pub mod MaskBytes
 pub mod MaskWords
 pub mod SignedLanes
 pub mod VectorLanes

@@ -15,7 +15,7 @@ use Rattle.rv_model.proofs.element_lemmas.Writes.{byte_at-is, get_or-bytes, leng
 use Rattle.lane_arith.proofs.MaskBits.{low_bit, word_bit}
 
 -- a byte has its own bits
-byte_of_own : (y : ℕ) → y < 256 → y ≡ byte_of (λ j. y / 2 ^ j % 2 == 1)
+pub byte_of_own : (y : ℕ) → y < 256 → y ≡ byte_of (λ j. y / 2 ^ j % 2 == 1)
 byte_of_own y h = byte_kept (λ i. false) (λ i. false) 0 0 (y ∷ []) h (λ i e. absurd (cc)) (omega arith)
 
 -- a bit of a byte of a word

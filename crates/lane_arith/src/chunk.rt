@@ -1,9 +1,11 @@
 //! Whole chunks of 32 bytes: their elements side by side, and what they become.
-ghost use Rattle.std.specs.Prelude.{◌≡◌, ◌+◌, ◌*◌, ◌-ℤ◌, pos, ◌/◌, ◌%◌, ◌^◌, ◌<◌, ◌==◌, ℕ, IfSome, IsTrue, int_le, int_lt, nat_le, not, slice_index, if◌then◌else◌};
+ghost use Rattle.std.specs.Prelude.{◌≡◌, ◌+◌, ◌*◌, ◌-ℤ◌, pos, ◌/◌, ◌%◌, ◌^◌, ◌<◌, ◌==◌, ◌&&◌, ℕ, IfSome, IsTrue, int_le, int_lt, length, nat_le, not, slice_index, if◌then◌else◌};
 ghost use Rattle.std.specs.Int.{byte_at, cast_signed, from_bool};
 ghost use Rattle.rv_model.specs.declared.instructions.operations.BinaryOp.TheVariants.{Vand, Vmax, Vmaxu, Vmin, Vminu, Vor, Vsra, Vsrl, Vxor};
 ghost use Rattle.rv_model.specs.declared.instructions.operations.CarryOp.TheVariants.{Vadc, Vmerge, Vsbc};
 ghost use Rattle.rv_model.specs.declared.instructions.operations.CompareOp.TheVariants.{Vmsle};
+ghost use Rattle.rv_model.specs.declared.vector.sizes.TheConstants.{GROUP_BYTES};
+ghost use Rattle.rv_model.specs.elements.Elements.{mask_bit};
 ghost use Rattle.rv_model.specs.elements.Formulas.{carry_formula, compare_formula, formula, multiply_add_formula, ones, wrap};
 ghost use Rattle.rv_model.specs.vector.Configuration.{width_bytes};
 ghost use mir.Val.{bits, hbits};
@@ -34,6 +36,30 @@ pub(crate) fn merged<L: Lane>(results: L::Vector, old: u8x32, active: u64, fille
         L::from_bytes(old),
     );
     L::to_bytes(L::select(L::choose(active), results, rest))
+}
+
+/// The bits that two mask registers both have.
+pub(crate) fn both_bytes(a: u8x32, b: u8x32) -> u8x32
+    ensures { (i : ℕ) → i < GROUP_BYTES → mask_bit result i ≡ (mask_bit a i && mask_bit b i) }
+{
+    a & b
+}
+
+/// The bits that the first of two mask registers has alone.
+pub(crate) fn first_alone(a: u8x32, b: u8x32) -> u8x32
+    ensures { (i : ℕ) → i < GROUP_BYTES → mask_bit result i ≡ (mask_bit a i && not (mask_bit b i)) }
+{
+    a & !b
+}
+
+/// A mask register with its active bits replaced by results.
+pub(crate) fn replaced_bytes(old: u8x32, results: u8x32, active: u8x32) -> u8x32
+    ensures length { length result ≡ 32 }
+    ensures bytes { (q : ℕ) → q < 32 → slice_index result q < 256 }
+    ensures bits { (i : ℕ) → i < GROUP_BYTES
+        → mask_bit result i ≡ (if mask_bit active i then mask_bit results i else mask_bit old i) }
+{
+    old ^ ((old ^ results) & active)
 }
 
 /// The lesser of each two unsigned numbers.

@@ -1,14 +1,17 @@
 //! The results of instructions whose destination is a mask, written to its bits ("V" Vector Extension
 //! 1.0, sections 4.5, 5.3 and 5.4).
-ghost use Rattle.std.specs.Prelude.{◌≡◌, ◌+◌, ◌*◌, ◌/◌, ◌%◌, ◌^◌, ◌<◌, ◌≤◌, ◌==◌, ℕ, Bool, IfSome, length, nat_lt, not, slice_index, if◌then◌else◌};
+ghost use Rattle.std.specs.Prelude.{◌≡◌, ◌+◌, ◌*◌, ◌/◌, ◌%◌, ◌^◌, ◌<◌, ◌≤◌, ◌==◌, ℕ, Bool, IfSome, length, nat_lt, not, slice_index, true, false, if◌then◌else◌};
 ghost use Rattle.std.specs.Int.{from_bool};
 ghost use Rattle.rv_model.specs.elements.Elements.{is_active, mask_bit};
 ghost use Rattle.rv_model.specs.elements.Writes.{WritesBits, bit_or, byte_with_bits};
 
 use crate::body::Body;
+use crate::chunk::replaced_bytes;
 use crate::chunk_bits::active_bits;
 use crate::lane::Lane;
+use crate::mask_bytes::active_bytes;
 use rv_model::{GROUP_BYTES, VLENB};
+use std::simd::prelude::*;
 
 /// What an instruction gives to the bits of its destination, from elements of a width.
 pub trait MaskResults<L: Lane> {
@@ -30,6 +33,15 @@ pub trait MaskResults<L: Lane> {
         ensures bound { IfSome result (λ word. word < 2 ^ L.count) }
     {
         None
+    }
+
+    /// `write_mask_results` to a whole register, where the results are made side by side. Answers whether they are.
+    fn write_register(&self, _body: &Body<'_>, _destination: &mut [u8]) -> bool
+        requires { _body.now.end ≤ GROUP_BYTES }
+        ensures done { result ≡ true → WritesBits (is_active _body.now) (bit self.now) _destination.old _destination.new }
+        ensures kept { result ≡ false → _destination.new ≡ _destination.old }
+    {
+        false
     }
 }
 
@@ -162,6 +174,34 @@ fn write_words<L: Lane, R: MaskResults<L>>(
     4 * words
 }
 
+/// Writes bits, made side by side, to the active ones of the destination, where that is a whole register. Answers
+/// whether it is.
+pub fn put_bits(results: u8x32, body: &Body<'_>, destination: &mut [u8]) -> bool
+    requires { body.now.end ≤ GROUP_BYTES }
+    ensures done { result ≡ true → WritesBits (is_active body.now) (mask_bit results) destination.old destination.new }
+    ensures kept { result ≡ false → destination.new ≡ destination.old }
+{
+    if destination.len() != VLENB {
+        return false;
+    }
+    let old = u8x32::from_slice(destination);
+    replaced_bytes(old, results, active_bytes(body)).copy_to_slice(destination);
+    true
+}
+
+/// `write_mask_results`, word by word as far as their results are made side by side, and then byte by byte.
+fn write_in_turn<L: Lane, R: MaskResults<L>>(results: &R, body: &Body<'_>, destination: &mut [u8])
+    requires operands { (i : ℕ) → i < body.now.end → R.has results.now i }
+    requires most { length destination.old ≤ GROUP_BYTES }
+    requires count { body.now.end ≤ GROUP_BYTES }
+    ensures { WritesBits (is_active body.now) (R.bit results.now) destination.old destination.new }
+{
+    let done = write_words(results, body, destination);
+    for i in done..destination.len() {
+        destination[i] = rebuilt(results, body, destination, i);
+    }
+}
+
 /// Writes the result to each active bit of the destination; all others keep.
 pub fn write_mask_results<L: Lane, R: MaskResults<L>>(
     results: &R,
@@ -173,8 +213,8 @@ pub fn write_mask_results<L: Lane, R: MaskResults<L>>(
     requires count { body.now.end ≤ GROUP_BYTES }
     ensures { WritesBits (is_active body.now) (R.bit results.now) destination.old destination.new }
 {
-    let done = write_words(results, body, destination);
-    for i in done..destination.len() {
-        destination[i] = rebuilt(results, body, destination, i);
+    if results.write_register(body, destination) {
+        return;
     }
+    write_in_turn(results, body, destination);
 }

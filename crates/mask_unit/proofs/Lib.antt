@@ -1,1 +1,1 @@
-pub mod WordBits
+pub mod SetBits

@@ -1,14 +1,17 @@
-//! Words of masks: their bits side by side, and what they become ("V" Vector Extension 1.0, sections 15.1 and 15.2).
-ghost use Rattle.std.specs.Prelude.{◌≡◌, ◌/◌, ◌%◌, ◌^◌, ◌<◌, ◌==◌, ℕ, bit_and, not};
-ghost use Rattle.std.specs.Int.RustNames.{count_ones};
+//! Whole mask registers: their 32 bytes side by side, with a bit for each of 256 elements, and what they become
+//! ("V" Vector Extension 1.0, sections 15.1 and 15.2).
+ghost use Rattle.std.specs.Prelude.{◌≡◌, ◌<◌, ◌&&◌, ℕ, length};
+ghost use Rattle.std.specs.List.{filter, range_with_len};
+ghost use Rattle.rv_model.specs.declared.vector.sizes.TheConstants.{GROUP_BYTES};
+ghost use Rattle.rv_model.specs.elements.Elements.{mask_bit};
 ghost use Rattle.rv_model.specs.elements.Masks.{mask_logic_formula};
 
 use rv_model::instructions::operations::MaskLogicOp;
+use std::simd::prelude::*;
 
 /// The results of an operation on the bits of `a`, those of vs2, and of `b`, those of vs1.
-pub(crate) fn logic(op: MaskLogicOp, a: u64, b: u64) -> u64
-    ensures { (i : ℕ) → i < 64 → (result / 2 ^ i % 2 == 0)
-        ≡ not (mask_logic_formula op (not (a / 2 ^ i % 2 == 0)) (not (b / 2 ^ i % 2 == 0))) }
+pub(crate) fn logic(op: MaskLogicOp, a: u8x32, b: u8x32) -> u8x32
+    ensures { (i : ℕ) → i < GROUP_BYTES → mask_bit result i ≡ mask_logic_formula op (mask_bit a i) (mask_bit b i) }
 {
     match op {
         MaskLogicOp::Vmandn => a & !b,
@@ -22,9 +25,9 @@ pub(crate) fn logic(op: MaskLogicOp, a: u64, b: u64) -> u64
     }
 }
 
-/// How many of the low 32 bits are set in both.
-pub(crate) fn set_in_both(a: u64, b: u64) -> u32
-    ensures { result ≡ count_ones (bit_and a b % 2 ^ 32) }
+/// How many bits are set in both.
+pub(crate) fn set_in_both(a: u8x32, b: u8x32) -> u16
+    ensures { result ≡ length (filter (λ i. mask_bit a i && mask_bit b i) (range_with_len 0 GROUP_BYTES)) }
 {
-    ((a & b) % (1 << 32)).count_ones()
+    (a & b).count_ones().cast::<u16>().reduce_sum()
 }

@@ -5,9 +5,10 @@ ghost use Rattle.rv_model.specs.elements.Elements.{mask_bit};
 ghost use Rattle.rv_model.specs.elements.Masks.{mask_logic_formula};
 
 use crate::chunk::logic;
-use lane_arith::{Lane, MaskResults, bit_of, mask_bits};
+use lane_arith::{Body, Lane, MaskResults, bit_of, put_bits};
 use rv_model::VLENB;
 use rv_model::instructions::operations::MaskLogicOp;
+use std::simd::prelude::*;
 
 /// An operation on the bits of `a`, those of vs2, and of `b`, those of vs1.
 #[derive(Clone, Copy)]
@@ -42,10 +43,9 @@ impl<'a, L: Lane> MaskResults<L> for MaskLogic<'a> {
         apply(self.op, bit_of(self.a, index), bit_of(self.b, index))
     }
 
-    fn chunk_bits(&self, chunk: usize) -> Option<u64> {
-        let count = L::count();
-        let a = mask_bits(self.a, count * chunk, count);
-        let b = mask_bits(self.b, count * chunk, count);
-        Some(logic(self.op, a, b) % (1 << count))
+    fn write_register(&self, body: &Body<'_>, destination: &mut [u8]) -> bool {
+        let a = u8x32::from_array(*self.a);
+        let b = u8x32::from_array(*self.b);
+        put_bits(logic(self.op, a, b), body, destination)
     }
 }

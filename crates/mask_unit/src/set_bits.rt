@@ -4,8 +4,9 @@ ghost use Rattle.std.specs.Prelude.{◌≡◌, ◌+◌, ◌*◌, ◌<◌, ◌≤
 ghost use Rattle.rv_model.specs.elements.Masks.{first_set, is_set, set_count};
 
 use crate::chunk::set_in_both;
-use lane_arith::{Body, active_bits, bit_of, mask_bits};
+use lane_arith::{Body, active_bytes, bit_of};
 use rv_model::{GROUP_BYTES, VLENB};
+use std::simd::prelude::*;
 
 /// Whether an element is active and its bit is set.
 fn is_set(body: &Body<'_>, bits: &[u8; VLENB], index: usize) -> bool
@@ -16,27 +17,13 @@ fn is_set(body: &Body<'_>, bits: &[u8; VLENB], index: usize) -> bool
     body.is_active(index) && bit_of(bits, index)
 }
 
-/// How many of the 32 elements of a word of the mask are active and have their bit set.
-fn set_in_word(body: &Body<'_>, bits: &[u8; VLENB], word: usize) -> usize
-    requires count { body.now.end ≤ GROUP_BYTES }
-    requires room { 32 * word + 32 ≤ GROUP_BYTES }
-    ensures { set_count body.now bits.now (32 * word) + result ≡ set_count body.now bits.now (32 * word + 32) }
-{
-    let active = active_bits(body, 32 * word, 32);
-    let set = mask_bits(bits, 32 * word, 32);
-    set_in_both(active, set) as usize
-}
-
 /// How many active elements have their bit set (vcpop.m).
 pub fn count(body: &Body<'_>, bits: &[u8; VLENB]) -> usize
     requires { body.now.end ≤ GROUP_BYTES }
     ensures { result ≡ set_count body.now bits.now body.now.end }
 {
-    let mut set = 0;
-    for word in 0..body.end().div_ceil(32) {
-        set += set_in_word(body, bits, word);
-    }
-    set
+    let set = u8x32::from_array(*bits);
+    usize::from(set_in_both(active_bytes(body), set))
 }
 
 /// The first active element that has its bit set (vfirst.m).

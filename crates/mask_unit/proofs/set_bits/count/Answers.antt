@@ -1,24 +1,19 @@
-use Rattle.std.proofs.Common.{ℕ, List, ◌+◌, ◌-◌, ◌*◌, ◌≡◌, ◌≤◌, ◌<◌, ◌&&◌, refl, Bool, true, false, ap, ◌∙◌, arith}
-use Rattle.rv_model.specs.elements.Elements.{Body, is_active}
-use Rattle.rv_model.specs.elements.Masks.{is_set, set_count}
-use Rattle.rv_model.proofs.element_lemmas.Ranges.{count_most}
+use Rattle.std.proofs.Common.{ℕ, List, ◌+◌, ◌-◌, ◌≡◌, ◌≤◌, ◌<◌, ◌&&◌, refl, Bool, true, false, ap, ◌∙◌, arith}
+use Rattle.rv_model.specs.elements.Elements.{Body, is_active, mask_bit}
+use Rattle.rv_model.specs.elements.Masks.{is_set}
 use Rattle.rv_model.proofs.element_lemmas.Sets.{active_end}
-use Rattle.mask_unit.proofs.WordBits.{none_counted}
+use Rattle.mask_unit.proofs.SetBits.{none_counted, passing, passing_same}
 use Rattle.mask_unit.proofs.set_bits.count.Goals as goal
-
-pub overflow_add-set : goal.overflow_add-set
-overflow_add-set c =
-    let next : ℕ = 32 * c.loop-word.word + 32 in
-    let most : set_count c.args.body.now c.args.bits.now next ≤ next = count_most _ next in
-    record { fits = omega (arith, most, c.loop-word.invariant, c.set_in_word-set.ensures, c.loop-word-test.true, c.div_ceil-word-end.ensures, c.end.ensures, c.requires) }
 
 pub returns : goal.returns
 returns c =
     let body : Body = c.args.body.now in
-    let past : ℕ = 32 * c.loop-word.word - body.end in
-    let whole : 32 * c.loop-word.word ≡ body.end + past = omega (arith, c.loop-word-test.false, c.div_ceil-word-end.ensures, c.end.ensures) in
-    c.loop-word.invariant ∙ ap (set_count body c.args.bits.now) whole
-    ∙ none_counted (is_set body c.args.bits.now) body.end past (λ i h. beyond body c.args.bits.now i h)
+    let bits : List ℕ = c.args.bits.now in
+    let whole : 256 ≡ body.end + (256 - body.end) = omega (arith, c.requires) in
+    c.from.ensures ∙ c.set_in_both.ensures
+    ∙ passing_same (λ i. mask_bit c.active_bytes.result i && mask_bit bits i) (is_set body bits) 256 (λ i h. ap (λ t. t && mask_bit bits i) (c.active_bytes.ensures i h))
+    ∙ ap (passing (is_set body bits)) whole
+    ∙ none_counted (is_set body bits) body.end (256 - body.end) (λ i h. beyond body bits i h)
   where
     beyond : (body : Body) (bits : List ℕ) (i : ℕ) → body.end ≤ i → is_set body bits i ≡ false
     beyond body bits i h = go (is_active body i) _ (λ e. active_end body i e)

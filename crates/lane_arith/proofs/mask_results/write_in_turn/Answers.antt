@@ -1,7 +1,7 @@
 use Rattle.std.proofs.Common.{ap, arith, set}
 use Rattle.rv_model.specs.elements.Elements.{is_active}
 use Rattle.rv_model.proofs.element_lemmas.Bits.{rebuild_ends, rebuild_step}
-use Rattle.lane_arith.proofs.mask_results.write_mask_results.Goals as goal
+use Rattle.lane_arith.proofs.mask_results.write_in_turn.Goals as goal
 
 pub loop-i-preserved : goal.loop-i-preserved
 loop-i-preserved g c =

@@ -1,0 +1,121 @@
+-- How many bits of a mask are set.
+use Rattle.std.proofs.Common.{◌≡◌, ℕ, zero, suc, ◌+◌, ◌*◌, ◌/◌, ◌%◌, ◌^◌, ◌<◌, ◌≤◌, ◌==◌, Bool, true, false, Fits, List, [], ◌∷◌, length, map, refl, ap, ◌∙◌, sym, arith, mod-eq_of_lt, zero-add}
+use Rattle.std.proofs.lemmas.Bool.Decides.{nat_tests}
+use Rattle.std.proofs.lemmas.Nat.{mod-pow-add, ones-le, ones_cat, pow_pos}
+use Rattle.std.proofs.lemmas.Nat.Bits.{bit_at-lt}
+use Rattle.std.proofs.Math.Nat.{mod-lt}
+use Rattle.std.specs.Int.{from_bool, w8, w16}
+use Rattle.std.specs.Int.RustNames.{count_ones}
+use Rattle.std.specs.List.{filter, range_with_len}
+use lib.Lanes.{Each1, fold_l, sum_l}
+use Rattle.rv_model.specs.elements.Elements.{mask_bit}
+use Rattle.rv_model.proofs.element_lemmas.Ranges.{count_more, count_most}
+
+-- one bit more
+ones_more : (x m : ℕ) → count_ones (x % 2 ^ (m + 1)) ≡ count_ones (x % 2 ^ m) + count_ones (x / 2 ^ m % 2)
+ones_more x m =
+    let turn : m + 1 ≡ 1 + m = omega arith in
+    ap (λ k. count_ones (x % 2 ^ k)) turn ∙ ap count_ones (mod-pow-add x 1 m) ∙ ones_cat m (x / 2 ^ m % 2) (x % 2 ^ m) (mod-lt x (pow_pos m))
+    ∙ omega arith
+
+one_bit : (b : ℕ) (t : Bool) → b < 2 → (b == 1) ≡ t → count_ones b ≡ from_bool t
+unfolding count_ones
+one_bit zero true h e = absurd (grind (arith, nat_tests))
+one_bit zero false h e = refl
+one_bit (suc zero) true h e = refl
+one_bit (suc zero) false h e = absurd (grind (arith, nat_tests))
+one_bit (suc (suc b)) t h e = absurd (omega (arith, h))
+
+-- how many numbers below another pass a test
+abbrev pub passing : (ℕ → Bool) → ℕ → ℕ
+passing test n = length (filter test (range_with_len 0 n))
+
+-- a number whose bits tell which of the next numbers pass
+ones_counted : (test : ℕ → Bool) (x from n m : ℕ) → m ≤ n → ((i : ℕ) → i < n → (x / 2 ^ i % 2 == 1) ≡ test (from + i))
+    → passing test from + count_ones (x % 2 ^ m) ≡ passing test (from + m)
+unfolding count_ones
+ones_counted test x from n zero h told =
+    let none : x % 2 ^ 0 ≡ 0 = omega arith in
+    let here : from + 0 ≡ from = omega arith in
+    rw (none, here) (omega arith)
+ones_counted test x from n (suc m) h told =
+    let less : m < n = omega (arith, h) in
+    let was = ones_counted test x from n m (omega (arith, h)) told in
+    let next : suc m ≡ m + 1 = omega arith in
+    let place : from + (m + 1) ≡ from + m + 1 = omega arith in
+    let bit : count_ones (x / 2 ^ m % 2) ≡ from_bool (test (from + m)) = one_bit (x / 2 ^ m % 2) (test (from + m)) (bit_at-lt x m) (told m less) in
+    let more : passing test (from + m + 1) ≡ passing test (from + m) + from_bool (test (from + m)) = count_more test (from + m) in
+    rw (next, place) (omega (arith, ones_more x m, was, bit, more))
+
+-- bytes whose bits tell it
+pub bytes_counted : (test : ℕ → Bool) (xs : List ℕ) (from : ℕ) → Each1 (Fits w8) xs → ((i : ℕ) → i < 8 * length xs → mask_bit xs i ≡ test (from + i))
+    → passing test from + sum_l (map count_ones xs) ≡ passing test (from + 8 * length xs)
+bytes_counted test [] from f told = let here : from + 8 * 0 ≡ from = omega arith in rw here (omega arith)
+bytes_counted test (x ∷ xs) from f told =
+    let low : x % 2 ^ 8 ≡ x = mod-eq_of_lt f.0.fits in
+    let all : 8 ≤ 8 = omega arith in
+    let first : passing test from + count_ones x ≡ passing test (from + 8) =
+    ap (λ y. passing test from + count_ones y) (sym low)
+    ∙ ones_counted test x from 8 8 all (λ i h.
+    let byte : i / 8 ≡ 0 = omega (arith, h) in
+    let bit : i % 8 ≡ i = omega (arith, h) in
+    let inside : i < 8 * length (x ∷ xs) = omega (arith, h) in
+    let one = told i inside in
+    rw (byte, bit) at one) in
+    let rest : passing test (from + 8) + sum_l (map count_ones xs) ≡ passing test (from + 8 + 8 * length xs) =
+    bytes_counted test xs (from + 8) f.1 (λ i h.
+    let byte : (8 + i) / 8 ≡ suc (i / 8) = omega arith in
+    let bit : (8 + i) % 8 ≡ i % 8 = omega arith in
+    let place : from + (8 + i) ≡ from + 8 + i = omega arith in
+    let inside : 8 + i < 8 * length (x ∷ xs) = omega (arith, h) in
+    let one = told (8 + i) inside in
+    rw (byte, bit, place) at one) in
+    let end : from + 8 + 8 * length xs ≡ from + 8 * suc (length xs) = omega arith in
+    omega (arith, first, rest, ap (passing test) end)
+
+-- how many bits of each byte are set, in bytes and in lanes of 16 bits
+pub ones_fit : (xs : List ℕ) → Each1 (Fits w8) xs → Each1 (Fits w8) (map count_ones xs)
+ones_fit [] f = tt
+ones_fit (x ∷ xs) f = (record { fits = omega (arith, ones-le 8 x f.0.fits) }, ones_fit xs f.1)
+
+pub ones_fit_16 : (xs : List ℕ) → Each1 (Fits w8) xs → Each1 (Fits w16) (map (λ x. x) (map count_ones xs))
+ones_fit_16 [] f = tt
+ones_fit_16 (x ∷ xs) f = (record { fits = omega (arith, ones-le 8 x f.0.fits) }, ones_fit_16 xs f.1)
+
+-- their sum, which doesn't wrap
+sum_in_16 : (xs : List ℕ) (a : ℕ) → a + sum_l (map count_ones xs) < 2 ^ 16
+    → fold_l (λ s x. (s + x) % 2 ^ 16) a (map (λ x. x) (map (λ x. x) (map count_ones xs))) ≡ a + sum_l (map count_ones xs)
+sum_in_16 [] a h = omega arith
+sum_in_16 (x ∷ xs) a h =
+    let here : (a + count_ones x) % 2 ^ 16 ≡ a + count_ones x = mod-eq_of_lt (omega (arith, h)) in
+    ap (λ s. fold_l (λ s x. (s + x) % 2 ^ 16) s (map (λ x. x) (map (λ x. x) (map count_ones xs)))) here ∙ sum_in_16 xs (a + count_ones x) (omega (arith, h)) ∙ omega arith
+
+-- so many numbers pass
+pub all_counted : (test : ℕ → Bool) (xs : List ℕ) (n : ℕ) → n ≡ 8 * length xs → n < 2 ^ 16 → Each1 (Fits w8) xs → ((i : ℕ) → i < n → mask_bit xs i ≡ test i)
+    → fold_l (λ s x. (s + x) % 2 ^ 16) 0 (map (λ x. x) (map (λ x. x) (map count_ones xs))) ≡ passing test n
+all_counted test xs n is few f told =
+    let told_on : passing test 0 + sum_l (map count_ones xs) ≡ passing test (0 + 8 * length xs) =
+    bytes_counted test xs 0 f (λ i h. told i (omega (arith, h, is)) ∙ ap test (sym (zero-add i))) in
+    let end : 0 + 8 * length xs ≡ n = omega (arith, is) in
+    let none : passing test 0 ≡ 0 = refl in
+    let sum : sum_l (map count_ones xs) ≡ passing test n = omega (arith, told_on, none, ap (passing test) end) in
+    let most : passing test n ≤ n = count_most test n in
+    sum_in_16 xs 0 (omega (arith, sum, most, few)) ∙ zero-add (sum_l (map count_ones xs)) ∙ sum
+
+-- tests that agree
+pub passing_same : (p q : ℕ → Bool) (n : ℕ) → ((i : ℕ) → i < n → p i ≡ q i) → passing p n ≡ passing q n
+passing_same p q zero same = refl
+passing_same p q (suc n) same =
+    let next : suc n ≡ n + 1 = omega arith in
+    let was : passing p n ≡ passing q n = passing_same p q n (λ i h. same i (omega (arith, h))) in
+    let one : from_bool (p n) ≡ from_bool (q n) = ap from_bool (same n (omega arith)) in
+    ap (passing p) next ∙ count_more p n ∙ omega (arith, was, one) ∙ sym (count_more q n) ∙ sym (ap (passing q) next)
+
+-- numbers of which none pass
+pub none_counted : (test : ℕ → Bool) (from m : ℕ) → ((i : ℕ) → from ≤ i → test i ≡ false) → passing test (from + m) ≡ passing test from
+none_counted test from zero fails = ap (passing test) (let e : from + 0 ≡ from = omega arith in e)
+none_counted test from (suc m) fails =
+    let place : from + suc m ≡ from + m + 1 = omega arith in
+    let off_here : from_bool (test (from + m)) ≡ 0 = ap from_bool (fails (from + m) (omega arith)) in
+    let more : passing test (from + m + 1) ≡ passing test (from + m) + from_bool (test (from + m)) = count_more test (from + m) in
+    ap (passing test) place ∙ omega (arith, more, off_here, none_counted test from m fails)
