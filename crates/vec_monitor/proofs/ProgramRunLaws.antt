@@ -1,5 +1,5 @@
 -- What the program's run came to, from the files that it read to the machine that it made.
-use Rattle.std.proofs.Common.{◌≡◌, ◌≢◌, ◌≤◌, ◌∙◌, ℕ, List, [], ◌∷◌, Bool, true, false, Option, Some, None, ap, arith, subst, sym, refl, length, map, not, ◌&&◌, ◌||◌, nat_lt, if◌then◌else◌, is_some, true≢false, leb-true}
+use Rattle.std.proofs.Common.{◌≡◌, ◌≢◌, ◌∙◌, ℕ, List, [], ◌∷◌, Bool, true, false, Option, Some, None, ap, arith, subst, sym, refl, length, map, not, ◌&&◌, ◌||◌, nat_lt, if◌then◌else◌, is_some, true≢false, leb-true}
 use Rattle.std.specs.Borrow.{Bor}
 use Rattle.std.specs.Io.KnownBytes.{Consumes, IsAtEnd, Keeps}
 use Rattle.std.specs.List.{AllZip, list_all}
