@@ -15,7 +15,7 @@ pub fn chunk_elements<L: Lane>(bytes: &[u8], chunk: usize) -> L::Vector
         → L.lane result i ≡ element (width_bytes L.width) bytes.now (L.count * chunk + i) }
     ensures bound { (i : ℕ) → i < L.count → L.lane result i < 2 ^ bits L.width }
 {
-    L::from_bytes(u8x32::from_slice(&bytes[32 * chunk..]))
+    L::from_bytes(u8x32::from_array(bytes.as_chunks::<32>().0[chunk]))
 }
 
 /// The elements of a chunk of 32 bytes of an operand, side by side; `None` where the operand ends before the
