@@ -4,9 +4,8 @@
 use crate::shell::{Failure, NO_FAILURE, OUTPUT, Shell};
 use crate::tally::Tally;
 use std::alloc::{AllocError, Global};
-use std::io;
 use std::io::ErrorKind;
-use vec_monitor::{UsageFault, WriterSink, options, vecmon};
+use vec_monitor::{UsageFault, options, vecmon};
 
 /// The script of each run that has a script of its own.
 const SCRIPT: &[u8] = b"1 enter\n1 load a\n1 load b";
@@ -197,12 +196,7 @@ fn ends_so(
     let mut line: Vec<&str> = Vec::new(alloc);
     line.push("vecmon")?;
     line.extend_from_slice(run.words)?;
-    let status = vecmon(
-        &shell,
-        alloc,
-        line.as_slice(),
-        &mut WriterSink::new(io::writer(&shell)),
-    );
+    let status = vecmon(&shell, alloc, line.as_slice());
     Ok(status == run.status && shell.has_put_out(run.output.as_bytes(), run.errors.as_bytes()))
 }
 

@@ -14,7 +14,7 @@ pub use command_line::{Options, UsageFault};
 pub use inputs::Inputs;
 pub use monitor_machine::{Image, Machine, NewFault};
 pub use monitor_script::{DeviceFault, ReaderSource, RunFault, Sink, Source, WriterSink, run};
-pub use program::{report, vecmon};
+pub use program::{report, vecmon, vecmon_into};
 pub use program_fault::{
     ProgramFault, STATUS_DONE, STATUS_IMAGE, STATUS_NO_MEMORY, STATUS_OUTPUT, STATUS_SCRIPT,
     STATUS_USAGE,

@@ -1,5 +1,5 @@
 //! The program: a script from a file or standard input, its answers to an output.
-ghost use Rattle.std.specs.Prelude.{◌≡◌, ◌≢◌, ◌≤◌, ◌⊎◌, [], IfErr, IsErrAnd, OnOk, option_map};
+ghost use Rattle.std.specs.Prelude.{◌≡◌, ◌≢◌, ◌≤◌, ◌⊎◌, [], IfErr, IsErrAnd, OnOk, option_map, ⊤};
 ghost use Rattle.clap.specs.Walk.{texts};
 ghost use Rattle.clap.specs.Words.{IsAmong};
 ghost use Rattle.clap.specs.declared.error.kind.ErrorKind.TheVariants.{DisplayHelp};
@@ -17,9 +17,9 @@ use crate::inputs::Inputs;
 use crate::program_fault::{ProgramFault, STATUS_DONE};
 use crate::words::options;
 use monitor_machine::Machine;
-use monitor_script::{ReaderSource, RunFault, Sink, run};
+use monitor_script::{ReaderSource, RunFault, Sink, WriterSink, run};
 use std::alloc::{Allocator, Global};
-use std::io::Read;
+use std::io::{self, Read};
 
 /// Runs the script that a reader gives.
 fn run_reader<F: Read + Drop, K: Sink, A: Allocator>(
@@ -120,7 +120,7 @@ pub fn report<R: Eprint>(rt: &R, fault: &ProgramFault<'_>) -> u8
 /// The program. `words` is the command line, the program's name first. What the script's lines
 /// answer goes to `output`; help and messages are printed. Answers the status that the program ends
 /// with; for any but `STATUS_DONE` standard error says why.
-pub fn vecmon<R: Inputs + Print + Eprint, K: Sink>(
+pub fn vecmon_into<R: Inputs + Print + Eprint, K: Sink>(
     rt: &R,
     alloc: Global,
     words: &[&str],
@@ -141,4 +141,17 @@ pub fn vecmon<R: Inputs + Print + Eprint, K: Sink>(
         Ok(()) => STATUS_DONE,
         Err(fault) => report(rt, &fault),
     }
+}
+
+/// The program, as `vecmon_into` with standard output, of which nothing is known.
+pub fn vecmon<R: Inputs + Print + Eprint>(rt: &R, alloc: Global, words: &[&str]) -> u8
+    ensures statuses { (result ≡ 0) ⊎ ((result ≡ 2) ⊎ ((result ≡ 3) ⊎ ((result ≡ 4)
+        ⊎ ((result ≡ 5) ⊎ (result ≡ 6))))) }
+    ensures ran { result ≡ 0 → IsAmong DisplayHelp (words_fault (texts words.now))
+        ⊎ RanWords (R.file_bytes rt.now) (R.input_bytes rt.now) (texts words.now) (λ _. ⊤) }
+    ensures usage { result ≡ 2 → MayBeRefused (texts words.now) }
+    ensures refused { AreRefused (texts words.now) → (result ≡ 2) ⊎ (result ≡ 6) }
+    ensures images { image_words (texts words.now) ≡ [] → result ≢ 4 }
+{
+    vecmon_into(rt, alloc, words, &mut WriterSink::new(io::writer(rt)))
 }

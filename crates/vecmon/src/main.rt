@@ -4,10 +4,10 @@
 ghost use Rattle.std.specs.Prelude.{◌≡◌, ◌⊎◌, IfErr};
 ghost use Rattle.vec_monitor.specs.declared.program_fault.ProgramFault.TheVariants.{NoMemory, NoText};
 
+use std::env;
 use std::io::ErrorKind;
 use std::process::ExitCode;
-use std::{env, io};
-use vec_monitor::{ProgramFault, WriterSink, report, vecmon};
+use vec_monitor::{ProgramFault, report, vecmon};
 
 /// The words that the process was started with, the program's name first.
 fn arguments(rt: &HostRuntime) -> Result<Vec<String>, ProgramFault<'static>>
@@ -34,10 +34,7 @@ fn run(rt: &HostRuntime) -> u8
         .map(|word| word.as_str())
         .collect(rt.alloc());
     match words {
-        Ok(words) => {
-            let mut output = WriterSink::new(io::writer(rt));
-            vecmon(rt, rt.alloc(), words.as_slice(), &mut output)
-        }
+        Ok(words) => vecmon(rt, rt.alloc(), words.as_slice()),
         Err(_) => report(rt, &ProgramFault::NoMemory),
     }
 }
