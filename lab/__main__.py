@@ -8,7 +8,7 @@ from typing import NoReturn
 from . import LabError
 
 SUMMARIES: dict[str, str] = {  # lab/NAME.py has `add_arguments(parser)`, and `run(arguments)`, which answers the status
-    "lesson": "a page that steps forth and back through a script or an assembler source",
+    "lesson": "a page that steps back and forth through a script or an assembler source",
     "tour": "the ten lessons of the tour",
     "class": "a page for each of eight students or more, and one for their teacher",
     "solo": "one student's part of a class, as a script of its own",

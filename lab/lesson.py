@@ -1,4 +1,4 @@
-"""Makes a lesson: one page, without a server, that steps forth and back through a script or an assembler source."""
+"""Makes a lesson: one page, without a server, that steps back and forth through a script or an assembler source."""
 
 import argparse
 import pathlib
@@ -18,7 +18,7 @@ def add_arguments(parser: argparse.ArgumentParser) -> None:
     parser.add_argument("script", metavar="SCRIPT", type=pathlib.Path, help="a script, or an assembler source (.s, .S)")
     parser.add_argument("images", metavar="NAME=PATH", nargs="*", help="an image that the script loads by this name")
     parser.add_argument("-o", dest="output", metavar="FILE", type=pathlib.Path, help="the page; else standard output")
-    parser.add_argument("--title", help="else the line of the file that begins with ##, else its name")
+    parser.add_argument("--title", help="the title; else the line of the file that begins with ##, else its name")
     parser.add_argument("--quantum", metavar="N", type=int, help="the ticks of a slice, 1 to 1000; else 100")
 
 

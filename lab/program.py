@@ -9,7 +9,7 @@ from . import LabError
 BUILT = pathlib.Path(__file__).resolve().parent.parent / "crates" / "vecmon" / "out" / "vecmon"
 HOW_TO_BUILD = (
     "it is built with its proofs by `cd crates/vecmon && rt run < stdin`, in a quarter of an hour or more, and without "
-    "them by `python3 tools/unproved_build.py vecmon OUT`, in a minute, which VECMON=OUT then names"
+    "them by `python3 tools/unproved_build.py vecmon OUT`, in a minute or two, which VECMON=OUT then names"
 )
 
 

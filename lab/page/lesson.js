@@ -1,4 +1,4 @@
-"use strict"; // A lesson: frames made beforehand, stepped forth and back. Each has what changed of the states.
+"use strict"; // A lesson: frames made beforehand, stepped back and forth. Each has what changed of the states.
 
 const ADDRESS_DELAY = 300; // ms: a browser takes only so many new addresses in a time
 
