@@ -20,9 +20,14 @@ SCRIPTS = ["words.js", "operands.js", "view.js", "lesson.js"]
 def lesson_page(title: str, frames: Sequence[Frame], labels: Mapping[str, list[str]] = {}) -> str:
     """The page, in HTML."""
     lesson = {"labels": labels, "frames": _differences(frames)}
-    data = json.dumps(lesson, separators=(",", ":")).replace("<", "\\u003c")
-    policy = content_policy(STYLES, SCRIPTS)
-    return page_text("lesson.html", STYLES, SCRIPTS, policy=policy, title=html.escape(title), lesson=data)
+    return lone_page("lesson.html", title, lesson, STYLES, SCRIPTS)
+
+
+def lone_page(template: str, title: str, data: Any, styles: Sequence[str], scripts: Sequence[str]) -> str:
+    """A page that loads nothing, with what its scripts show."""
+    text = json.dumps(data, separators=(",", ":")).replace("<", "\\u003c")
+    policy = content_policy(styles, scripts)
+    return page_text(template, styles, scripts, policy=policy, title=html.escape(title), data=text)
 
 
 def page_text(template: str, styles: Sequence[str], scripts: Sequence[str], **texts: str) -> str:

@@ -126,7 +126,8 @@ class Session:
 
     Its process is replaced where it ended, hangs, or has no room for more lines; then the new one carries out the
     script again. `policy` has the policy for agnostic elements, `keep` or `ones`, of each user who is there: no
-    command shows it. `command` starts the program, and `losses` says why processes that were asked gave no answer, and were replaced.
+    command shows it. `quantum` is the ticks of a slice. `command` starts the program, and `losses` says why processes
+    that were asked gave no answer, and were replaced.
     """
 
     def __init__(
@@ -144,6 +145,7 @@ class Session:
         A process hangs that says nothing for `patience` seconds. The script has room for `script_bytes`. Raises as `do`
         does.
         """
+        self.quantum = 100 if quantum is None else quantum
         options = [] if quantum is None else ["--quantum", str(quantum)]
         words = [f"{name}={path}" for name, path in images.items()]
         self.command = [str(program), *options, "--", "/dev/stdin", *words]  # images are taken after a script alone

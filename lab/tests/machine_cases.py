@@ -3,14 +3,13 @@
 import functools
 import pathlib
 import random
-import re
 import subprocess
 from collections.abc import Iterator
 from dataclasses import dataclass
 
+from lab.instruction_table import instruction_table
 from lab.reasons import VectorView
 
-INSTRUCTIONS = pathlib.Path(__file__).resolve().parents[2] / "docs" / "INSTRUCTIONS.md"
 CODE = 0x10000
 SET_TYPE, SET_VSTART = 0x80A5F057, 0x00861073  # vsetvl x0, x11, x10; csrrw x0, vstart, x12
 OP_V, LOAD_FP, STORE_FP, SYSTEM = 0x57, 0x07, 0x27, 0x73
@@ -23,8 +22,7 @@ CONTROL_REGISTERS = (0x008, 0x009, 0x00A, 0x00F, 0xC20, 0xC21, 0xC22)
 @functools.cache
 def encodings() -> list[tuple[str, str]]:
     """The names of the manual's table of instructions, each with its 32 bits, where `-` is a bit of an operand."""
-    rows = re.findall(r"^\| `(\S+)[^`]*` \| `([01 -]+)` \|$", INSTRUCTIONS.read_text(), re.MULTILINE)
-    return [(name, bits.replace(" ", "")) for name, bits in rows if name != ".word"]
+    return [(row.name, row.bits) for row in instruction_table().values()]
 
 
 def fixed_bits(bits: str) -> tuple[int, int]:
