@@ -2,6 +2,7 @@
 
 import argparse
 import importlib
+import os
 import sys
 from typing import NoReturn
 
@@ -12,6 +13,13 @@ SUMMARIES: dict[str, str] = {  # lab/NAME.py has `add_arguments(parser)`, and `r
     "tour": "the ten lessons of the tour",
     "class": "a page for each of eight students or more, and one for their teacher",
     "solo": "one student's part of a class, as a script of its own",
+    "compare": "an image with agnostic elements kept and as ones, and in slices of three lengths",
+    "profile": "where an image spends its instructions, and what it makes of its vectors' elements",
+    "run": "an image to its end, as a plain program; a trace of it; counts of its instructions",
+    "console": "a prompt at one user's machine",
+    "gdb": "a machine with an image, for gdb's target remote",
+    "vectors": "golden results of single instructions, for tests of an emulator, a core or a compiler",
+    "grade": "which answers to an exercise are right, and where each other one goes wrong first",
 }
 
 
@@ -40,6 +48,9 @@ def main() -> int:
         return 130
     except LabError as error:
         mistake = str(error)
+    except BrokenPipeError:  # whoever reads has gone, as `head` does; what is left is written nowhere
+        os.dup2(os.open(os.devnull, os.O_WRONLY), sys.stdout.fileno())
+        return 141
     except OSError as error:
         mistake = f"{error.filename}: {error.strerror}" if error.filename else str(error)
     print(f"vecmon-lab: {mistake}", file=sys.stderr)

@@ -1,11 +1,12 @@
-"""What tests share: the program, a session, and a browser."""
+"""What tests share: the program, a session, a browser, and an emulator."""
 
 import importlib.util
 import os
 import pathlib
 import shutil
+import subprocess
 from collections.abc import Iterator
-from typing import TYPE_CHECKING
+from typing import TYPE_CHECKING, NoReturn
 
 import pytest
 from _pytest.terminal import TerminalReporter
@@ -17,6 +18,8 @@ if TYPE_CHECKING:
     from selenium.webdriver import Chrome
 
 NO_BROWSER = "there is no Chromium"
+NO_GDB = "there is no gdb-multiarch"
+NO_QEMU = "there is no qemu-riscv64 of version 7.2"
 
 
 @pytest.fixture(scope="session")
@@ -40,12 +43,26 @@ def browser() -> Iterator["Chrome"]:
     """
     chromium, driver = shutil.which("chromium"), shutil.which("chromedriver")
     if not chromium or not driver or not importlib.util.find_spec("selenium"):
-        if os.environ.get("CI"):
-            pytest.fail(NO_BROWSER)
-        pytest.skip(NO_BROWSER)
+        _leave_out(NO_BROWSER)
     chrome = start_browser()
     yield chrome
     chrome.quit()
+
+
+@pytest.fixture(scope="session")
+def qemu() -> None:
+    """QEMU's user mode; as with the browser, a test that wants it is left out and counted where there is none."""
+    command = shutil.which("qemu-riscv64")
+    told = subprocess.run([command, "--version"], stdout=subprocess.PIPE, check=True).stdout if command else b""
+    if b" version 7.2." not in told:
+        _leave_out(NO_QEMU)
+
+
+def _leave_out(reason: str) -> NoReturn:
+    """Leaves a test out; where CI is set, it fails."""
+    if os.environ.get("CI"):
+        pytest.fail(reason)
+    pytest.skip(reason)
 
 
 def start_browser(*more: str) -> "Chrome":
@@ -64,7 +81,8 @@ def start_browser(*more: str) -> "Chrome":
 
 
 def pytest_terminal_summary(terminalreporter: TerminalReporter) -> None:
-    """Says how many tests in the browser were left out."""
-    left_out = sum(NO_BROWSER in str(report.longrepr) for report in terminalreporter.getreports("skipped"))
-    if left_out:
-        terminalreporter.write_line(f"{left_out} tests in a browser were left out: {NO_BROWSER}")
+    """Says how many tests were left out, for want of a browser, of gdb or of QEMU."""
+    for what, reason in {"in a browser": NO_BROWSER, "with gdb": NO_GDB, "on QEMU": NO_QEMU}.items():
+        left_out = sum(reason in str(report.longrepr) for report in terminalreporter.getreports("skipped"))
+        if left_out:
+            terminalreporter.write_line(f"{left_out} tests {what} were left out: {reason}")

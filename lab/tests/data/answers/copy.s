@@ -1,0 +1,9 @@
+# A right answer to "Strip-mined copy with a tail".
+next:   vsetvli t0, a2, e8, m1, ta, ma
+        vle8.v v8, (a1)
+        vse8.v v8, (a0)
+        add a0, a0, t0
+        add a1, a1, t0
+        sub a2, a2, t0
+        bnez a2, next
+        ret

@@ -1,0 +1,7 @@
+# All in one group: what has no room in it is left out, and none is one.
+        vsetivli x0, 16, e16, m1, ta, ma
+        vle16.v v8, (a1)
+        vle16.v v9, (a2)
+        vsadd.vv v8, v8, v9
+        vse16.v v8, (a0)
+        ret

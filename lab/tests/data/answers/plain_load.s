@@ -1,0 +1,13 @@
+# A load that reads past the page faults.
+        mv t0, a0
+next:   vsetvli t1, x0, e8, m8, ta, ma
+        vle8.v v8, (t0)
+        csrr t1, vl
+        vmseq.vi v0, v8, 0
+        vfirst.m t2, v0
+        add t0, t0, t1
+        bltz t2, next
+        sub t0, t0, t1
+        add t0, t0, t2
+        sub a0, t0, a0
+        ret
