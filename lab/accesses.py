@@ -9,7 +9,7 @@ from .reasons import VectorView
 SCALAR_STORE, VECTOR_STORE = 0x23, 0x27
 UNIT_STRIDE, STRIDED = 0, 2  # mop; 1 and 3 are indexed
 WHOLE_REGISTERS, MASK = 0b01000, 0b01011  # sumop
-REGISTER_BYTES, ROW_BYTES, PEEK_BYTES, PAGE_BYTES = 32, 16, 256, 4096  # one look shows PEEK_BYTES
+REGISTER_BYTES, ROW_BYTES, LINE_BYTES, PAGE_BYTES = 32, 16, 256, 4096  # a line shows or writes LINE_BYTES of memory
 
 Span = tuple[int, int]
 """An address, and how many bytes."""
@@ -68,7 +68,7 @@ def _joined(spans: Iterable[Span]) -> list[Span]:
     blocks: dict[int, list[int]] = {}
     rows = {row for address, length in spans for row in _rows(address % (1 << 64), length)}
     for row in sorted(rows):
-        blocks.setdefault(row * ROW_BYTES // PEEK_BYTES, []).append(row)
+        blocks.setdefault(row * ROW_BYTES // LINE_BYTES, []).append(row)
     return [(held[0] * ROW_BYTES, (held[-1] + 1 - held[0]) * ROW_BYTES) for held in blocks.values()]
 
 

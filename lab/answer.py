@@ -7,8 +7,8 @@ from dataclasses import dataclass, replace
 
 from . import LabError
 from .commands import refusal_in_words
-from .exercise import Case, Exercise, Place, Results
-from .guest import IMAGE_BYTES, POKE_BYTES, QUANTUM, STACK_END, STACK_POINTER, Guest
+from .exercise import Case, Exercise, Results
+from .guest import IMAGE_BYTES, QUANTUM, STACK_END, STACK_POINTER, Guest, pokes
 from .lesson_script import Script, read_source, refused_statement
 from .lines import check_line, is_refusal, words_of
 from .machine import Session
@@ -18,7 +18,6 @@ RETURN = STACK_END
 
 _RETURN_PAGE = (f"map {RETURN:x} 1 rx", f"poke {RETURN:x} 73001000", f"set x1 {RETURN:x}")
 _STACK = (f"map {STACK_END - 0x4000:x} 4 rw", f"set x2 {STACK_POINTER:x}")
-_LINES_AT_ONCE = 40
 
 
 @dataclass(frozen=True)
@@ -97,36 +96,26 @@ def _inputs(exercise: Exercise, case: Case) -> Iterator[str]:
     yield from (*exercise.set_up, *_RETURN_PAGE, f"policy {case.policy}")
     opposite = [(place.address, bytes(255 - byte for byte in place.data)) for place in case.expected.memory]
     for address, data in (*opposite, *((place.address, place.data) for place in case.memory)):
-        for at in range(0, len(data), POKE_BYTES):
-            yield f"poke {address + at:x} {data[at : at + POKE_BYTES].hex()}"
+        yield from pokes(address, data)
     registers = {name: value ^ (1 << 64) - 1 for name, value in case.expected.registers.items()} | dict(case.registers)
     yield from (f"set {name} {value:x}" for name, value in registers.items())
 
 
 def _ask(guest: Guest, commands: Sequence[str], source: Script | None = None) -> None:
     """Sends commands. Raises LabError where one is refused."""
-    for at in range(0, len(commands), _LINES_AT_ONCE):
-        piece = commands[at : at + _LINES_AT_ONCE]
-        for command, (told, *_) in zip(piece, guest.ask(*piece)):
-            if is_refusal([f"1 {told}"]):
-                if source and f"1 {command}" in source.statements:
-                    raise refused_statement(source, f"1 {command}", f"1 {told}")
-                raise LabError(f"{command[:60]}: {refusal_in_words(f'1 {command}', f'1 {told}')[-1]}")
+    for command, (told, *_) in zip(commands, guest.ask(*commands)):
+        if is_refusal([f"1 {told}"]):
+            if source and f"1 {command}" in source.statements:
+                raise refused_statement(source, f"1 {command}", f"1 {told}")
+            raise LabError(f"{command[:60]}: {refusal_in_words(f'1 {command}', f'1 {told}')[-1]}")
 
 
 def _results(guest: Guest, expected: Results, output: bytes) -> Results:
     """What stands in the places where something is expected."""
     values = dict(re.findall(r"(x\d+) (\w+)", " ".join(guest.ask("regs")[0])))
     registers = {name: int(values[name], 16) for name in expected.registers}
-    memory = [place.holding(_bytes_at(guest, place)) for place in expected.memory]
+    memory = [place.holding(guest.peek(place.address, len(place.data))) for place in expected.memory]
     return Results(registers, memory, None if expected.output is None else output)
-
-
-def _bytes_at(guest: Guest, place: Place) -> bytes:
-    """The bytes of a place as they are now."""
-    size = len(place.data)
-    looks = [f"peek {place.address + at:x} {min(POKE_BYTES, size - at)}" for at in range(0, size, POKE_BYTES)]
-    return bytes.fromhex("".join(told.split()[2] for look in looks for (told,) in guest.ask(look)))
 
 
 def settled(program: pathlib.Path, exercise: Exercise) -> Exercise:

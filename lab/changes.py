@@ -1,12 +1,12 @@
 """What an instruction changed: registers, elements of vector registers, control registers and memory."""
 
 import itertools
-from collections.abc import Iterator, Mapping, Sequence
+from collections.abc import Iterator, Sequence
 from dataclasses import dataclass
 from fractions import Fraction
 
 from .accesses import PAGE_BYTES, REGISTER_BYTES, Span, stored_spans, vector_instruction
-from .guest import Guest, Stop
+from .guest import Guest, Stop, control_values
 from .instruction_words import Operand
 from .reasons import VectorView
 
@@ -96,6 +96,12 @@ class Registers:
         """The same registers, which later looks don't change."""
         return Registers(list(self.x), dict(self.control), bytearray(self.v))
 
+    def groups(self, operand: Operand) -> Iterator[tuple[int, list[int]]]:
+        """The first register of each of an operand's groups, and the elements of the group."""
+        for register in range(operand.registers.start, min(operand.registers.stop, 32), operand.group):
+            group = self.v[register * REGISTER_BYTES : (register + operand.group) * REGISTER_BYTES]
+            yield register, _elements(group, operand.eew)
+
 
 class Stepper:
     """Steps a guest, and tells what each instruction changed. Whoever changes the guest otherwise calls `look` then.
@@ -159,8 +165,7 @@ class Stepper:
                 self.guest.pc = int(words[1], 16)
                 self.registers.x = [int(value, 16) for value in words[3::2]]
             elif look == "vcsr":
-                values = dict(word.split("=") for word in words)
-                self.registers.control = {name: int(values[name], 16 if name == "vtype" else 10) for name in CONTROL}
+                self.registers.control = control_values(answer[0])
             else:
                 at = int(words[0][1:]) * REGISTER_BYTES
                 parts = [int(value, 16).to_bytes(8, "little") for value in words[1:]]
@@ -172,11 +177,11 @@ class Stepper:
         pairs = [*zip(SCALARS, before.x, now.x), *zip(CONTROL, before.control.values(), now.control.values())]
         changes: list[Change] = [RegisterChange(*pair) for pair in pairs if pair[1] != pair[2]]
         for target in targets:
-            changes += _element_changes(target, before.v, now.v)
+            changes += _element_changes(target, before, now)
         return changes
 
 
-def elements(group: bytes, width: int) -> list[int]:
+def _elements(group: bytes, width: int) -> list[int]:
     """The elements of a group of registers, of so many bits each."""
     if width == 1:
         return [byte >> bit & 1 for byte in group for bit in range(8)]
@@ -194,23 +199,21 @@ def _looks(word: int, targets: Sequence[Operand]) -> list[str]:
     return looks + [f"vreg v{number} 64" for number in sorted(numbers)]
 
 
-def _element_changes(target: Operand, before: bytes, after: bytes) -> Iterator[ElementsChange]:
+def _element_changes(target: Operand, before: Registers, after: Registers) -> Iterator[ElementsChange]:
     """The elements that changed in each of a destination's groups."""
-    for register in range(target.registers.start, min(target.registers.stop, 32), target.group):
-        place = slice(register * REGISTER_BYTES, (register + target.group) * REGISTER_BYTES)
-        old, new = (elements(state[place], target.eew) for state in (before, after))
-        for first, last in _runs(old, new, target.eew == 1):
+    for (register, old), (_, new) in zip(before.groups(target), after.groups(target)):
+        for first, last in runs(old, new, target.eew == 1):
             yield ElementsChange(register, target.eew, first, old[first:last], new[first:last])
 
 
 def _memory_changes(span: Span, *answers: Sequence[str]) -> Iterator[MemoryChange]:
     """The bytes of a span that changed, in runs, by what `peek` shows before and after; none where it isn't mapped."""
     before, after = (bytes.fromhex("".join(answer[0].split()[2:])) for answer in answers)
-    for first, last in _runs(before, after):
+    for first, last in runs(before, after):
         yield MemoryChange(span[0] + first, before[first:last], after[first:last])
 
 
-def _runs(before: Sequence[int], after: Sequence[int], is_joined: bool = False) -> Iterator[tuple[int, int]]:
+def runs(before: Sequence[int], after: Sequence[int], is_joined: bool = False) -> Iterator[tuple[int, int]]:
     """Where values that changed follow each other: the first, and the one behind the last. Joined, they are one run."""
     changed = [place for place, pair in enumerate(zip(before, after)) if pair[0] != pair[1]]
     if is_joined and changed:

@@ -6,6 +6,7 @@ import os
 import pathlib
 
 from . import LabError
+from .arguments import between
 from .class_seats import LETTERS
 from .class_server import serve
 from .class_store import Store
@@ -15,24 +16,15 @@ from .program import find_program, images_of
 
 def add_arguments(parser: argparse.ArgumentParser) -> None:
     """The words of `vecmon-lab class`."""
-    parser.add_argument(
-        "folder", metavar="DIR", type=pathlib.Path, help="keeps the class; it is made if it isn't there"
-    )
+    parser.add_argument("folder", metavar="DIR", type=pathlib.Path, help="keeps the class; made if it isn't there")
     parser.add_argument("images", metavar="NAME=PATH", nargs="*", help="an image that students load by this name")
     parser.add_argument("--host", default="127.0.0.1", help="the address to serve at; 0.0.0.0 is a whole network")
     parser.add_argument("--port", type=int, default=8765, help="the port; 0 is one that is free (default: %(default)s)")
     parser.add_argument("--name", action="append", default=[], help="a host name that the page is opened under as well")
-    parser.add_argument(
-        "--machines",
-        metavar="N",
-        type=int,
-        choices=range(1, len(LETTERS) + 1),
-        help="eight seats each, 1 to 12; else 1",
-    )
+    machines = between(1, len(LETTERS))
+    parser.add_argument("--machines", metavar="N", type=machines, help="eight seats each, 1 to 12; else 1")
     parser.add_argument("--quantum", metavar="N", type=int, help="the ticks of a slice, 1 to 1000; else 100")
-    parser.add_argument(
-        "--patience", metavar="S", type=float, default=10.0, help="seconds until a silent program is replaced"
-    )
+    parser.add_argument("--patience", metavar="S", type=float, default=10.0, help="seconds a program may be silent")
 
 
 def run(arguments: argparse.Namespace) -> int:

@@ -13,14 +13,13 @@ from typing import Any
 from . import LabError
 from .class_store import BadFolder, ScriptFile
 from .lines import DIGITS, check_line, is_look, is_refusal, is_stop, words_of
-from .machine import OutOfStep, ProgramGone, ReplayDiffers, ScriptFull, Session
+from .machine import TOGETHER, OutOfStep, ProgramGone, ReplayDiffers, ScriptFull, Session
 from .source import SourceError, assemble, refusal
 from .state import ABSENT, RowChoice, State, Watch, look_at, with_rows
 
 SEAT_BYTES = 1_500_000  # of a seat's lines in the script: eight leave 3,000,000 to the operator and the clock
 REQUEST_LINES, SOURCE_LINES, SOURCE_LETTERS = 256, 4096, 1 << 16
 MOST_SLICES = 100
-TOGETHER = 32  # lines that go to the program at once: each has to fit into its pipe
 LOG_ENTRIES = 500
 OUTPUT_DIGITS = 8192
 

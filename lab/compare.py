@@ -7,10 +7,10 @@ from collections.abc import Iterator, Sequence
 from contextlib import ExitStack
 
 from .accesses import REGISTER_BYTES, vector_instruction
-from .changes import Registers, Stepper, elements
+from .arguments import add_image
+from .changes import Registers, Stepper
 from .counts import elements_of, is_whole
 from .guest import started
-from .run import add_image
 from .symbols import Symbols
 
 POLICIES, QUANTUMS = ("keep", "ones"), (1000, 7, 1)
@@ -94,9 +94,7 @@ def _values(word: int, before: Registers, after: Registers) -> Iterator[tuple[st
         return
     active = [0] if instruction.name.startswith(("vred", "vwred")) else found.active
     for operand in instruction.operands:
-        for register in range(operand.registers.start, operand.registers.stop, operand.group):
-            group = after.v[register * REGISTER_BYTES : (register + operand.group) * REGISTER_BYTES]
-            values = elements(group, operand.eew) if operand.noun != "source" else []
+        for register, values in after.groups(operand) if operand.noun != "source" else ():
             for number in active[: len(values)]:
                 yield f"v{register}.e{operand.eew}[{number}]", values[number]
 

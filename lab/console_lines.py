@@ -67,7 +67,7 @@ class Console:
 
     def choices(self, kind: str) -> Iterable[str]:
         """What may stand for a word of a command's form."""
-        return self._symbols if kind in ("ADDR", "VALUE") else CHOICES.get(kind, [])
+        return self._symbols.addresses if kind in ("ADDR", "VALUE") else CHOICES.get(kind, [])
 
     def bar(self) -> str:
         """Where the program stands, the vector type, vl and the policy."""
@@ -128,7 +128,7 @@ class Console:
         if kind not in ("ADDR", "VALUE"):
             return word
         name, _, offset = word.partition("+")
-        address = self._symbols.address(name)
+        address = self._symbols.addresses.get(name)
         if address is None or not re.fullmatch("(0x)?[0-9a-fA-F]+", offset or "0"):
             return word.removeprefix("0x")
         return f"{address + int(offset or '0', 16):x}"

@@ -4,6 +4,7 @@ import sys
 from collections.abc import Iterator, Mapping, Sequence
 from fractions import Fraction
 
+from .accesses import ROW_BYTES
 from .changes import Change, RegisterChange, vtype_text
 from .reasons import VectorView
 from .table import read_table
@@ -11,7 +12,6 @@ from .table import read_table
 COLOURS = {"tail": "2", "masked": "35", "changed": "33", "refused": "31"}
 ROUNDING = ["rnu", "rne", "rdn", "rod"]  # vxrm, the manual's section 3.8
 ELEMENTS_WIDTH = 72  # characters that the elements of a row take at most
-PEEK_ROW = 16
 
 ABI_NAMES = {number: name for name, number in reversed(read_table("registers"))}  # x8 is s0, which stands first
 
@@ -92,7 +92,7 @@ def memory_rows(answer: str) -> Iterator[str]:
     """The bytes in an answer to `peek`, 16 to a row, as digits and as ASCII."""
     _, address, digits = answer.split()
     data = bytes.fromhex(digits)
-    for place in range(0, len(data), PEEK_ROW):
-        row = data[place : place + PEEK_ROW]
+    for place in range(0, len(data), ROW_BYTES):
+        row = data[place : place + ROW_BYTES]
         text = "".join(chr(byte) if 32 <= byte < 127 else "." for byte in row)
-        yield f"{int(address, 16) + place:8x}  {row.hex(' '):{3 * PEEK_ROW - 1}}  {text}"
+        yield f"{int(address, 16) + place:8x}  {row.hex(' '):{3 * ROW_BYTES - 1}}  {text}"

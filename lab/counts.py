@@ -108,8 +108,7 @@ def _unit_stride(word: int) -> int | None:
 
 def _lengths(word: int, instruction: VectorInstruction, control: Mapping[str, int]) -> tuple[int, int]:
     """How many elements an instruction has up to its length, and how many its group has."""
-    view, vl = VectorView(control["vtype"], control["vstart"]), control["vl"]
-    most = int(256 // view.sew * view.lmul)
+    vl, most = control["vl"], VectorView(control["vtype"], control["vstart"]).vlmax
     if is_whole(word, instruction):
         return (len(instruction.operands[0].registers) * 256 // instruction.operands[0].eew,) * 2
     if _unit_stride(word) == MASK:

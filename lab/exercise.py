@@ -1,9 +1,10 @@
 """Exercises: what an answer is given, what is expected of it, and its limits. The file exercise.toml of a folder has them."""
 
 import pathlib
+import struct
 import tomllib
 from collections.abc import Mapping, Sequence
-from dataclasses import dataclass
+from dataclasses import dataclass, replace
 from typing import Any
 
 from . import LabError
@@ -15,7 +16,7 @@ PLACE_BYTES = 1 << 20  # all that a user's pages have
 
 _NAMES = {bool: "true or false", int: "a number", str: "a text", list: "a list", dict: "a table"}
 _REGISTERS = dict(read_table("registers")) | {f"x{number}": f"x{number}" for number in range(32)}
-_TYPES = {f"{sign}{bits}": (bits // 8, sign == "i") for sign in "iu" for bits in (8, 16, 32, 64)}
+_FORMATS = {"i8": "b", "u8": "B", "i16": "h", "u16": "H", "i32": "i", "u32": "I", "i64": "q", "u64": "Q"}  # of struct
 
 
 @dataclass(frozen=True)
@@ -29,15 +30,11 @@ class Place:
     @property
     def data(self) -> bytes:
         """The bytes of the numbers."""
-        size, signed = _TYPES[self.type]
-        return b"".join(number.to_bytes(size, "little", signed=signed) for number in self.numbers)
+        return struct.pack(f"<{len(self.numbers)}{_FORMATS[self.type]}", *self.numbers)
 
     def holding(self, data: bytes) -> "Place":
         """The place with the numbers that these bytes are."""
-        size, signed = _TYPES[self.type]
-        parts = range(0, len(data), size)
-        numbers = [int.from_bytes(data[part : part + size], "little", signed=signed) for part in parts]
-        return Place(self.address, self.type, numbers)
+        return replace(self, numbers=struct.unpack(f"<{len(self.numbers)}{_FORMATS[self.type]}", data))
 
 
 @dataclass(frozen=True)
@@ -144,6 +141,6 @@ def _place(where: str, entries: Any, by_reference: bool) -> Place:
         place = Place(address, kind, numbers)
         if not 0 <= address < 1 << 48 or not 0 < len(place.data) <= PLACE_BYTES:
             raise ValueError
-    except (AttributeError, KeyError, OverflowError, TypeError, ValueError) as error:
+    except (AttributeError, KeyError, TypeError, ValueError, struct.error) as error:
         raise LabError(f"{where}: a place is `at`, an address, and a text or numbers from i8 to u64") from error
     return place

@@ -105,10 +105,8 @@ class _Maker:
         users = {line[:1] for line in lines if not is_look(line)}
         for user, watch in self._watches.items():
             if user in users or "*" in users:
-                own = [answer for answer in answers if answer[0] == user]
-                self._states[user] = look_at(
-                    self._single, int(user), watch, self._states.get(user, {}), own, carried_out
-                )
+                own, before = [answer for answer in answers if answer[0] == user], self._states.get(user, {})
+                self._states[user] = look_at(self._single, int(user), watch, before, own, carried_out)
 
     def _instruction_note(self, user: str) -> str:
         """The author's sentence before the instruction of the source that a user carried out."""

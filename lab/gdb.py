@@ -9,18 +9,17 @@ import argparse
 import contextlib
 import pathlib
 import re
-import sys
 
+from .accesses import LINE_BYTES
 from .changes import CONTROL
 from .gdb_packets import Link
-from .guest import Guest, Stop, started
+from .guest import Guest, Stop, control_values, started
 from .lines import BadLine, is_look, words_of
 
 INTERRUPTED, ILLEGAL, TRAPPED, MISALIGNED, UNMAPPED = "S02", "S04", "S05", "S0a", "S0b"  # SIGINT, ILL, TRAP, BUS, SEGV
 FAULTS = {0: MISALIGNED, 1: UNMAPPED, 2: ILLEGAL, 5: UNMAPPED, 7: UNMAPPED}  # by cause
 REFUSED, THERE_ALREADY = "E04", "E13"
 PACKET_BYTES = 512  # so that what gdb writes at once, in two digits a byte, isn't too much for `poke`
-BLOCK_BYTES = 256  # of memory, which `peek` shows at once
 DESCRIPTION = (pathlib.Path(__file__).with_name("tables") / "gdb_registers.xml").read_text("ascii")
 PC, FIRST_CONTROL = 32, 33  # numbers of registers: x0 to x31, pc, the control registers, v0 to v31
 FIRST_VECTOR = FIRST_CONTROL + len(CONTROL)
@@ -33,7 +32,7 @@ def add_arguments(parser: argparse.ArgumentParser) -> None:
 
 def run(arguments: argparse.Namespace) -> int:
     """Answers gdb until it goes away. Raises LabError and OSError where the image isn't taken."""
-    link = Link(sys.stdin.fileno(), sys.stdout.fileno())
+    link = Link()
     with started(arguments.image, write=lambda data: link.send(f"O{data.hex()}")) as guest:
         target = Target(guest, link)
         with contextlib.suppress(EOFError, BrokenPipeError):
@@ -70,9 +69,10 @@ class Target:
                 return "OK"
             case "?", _:
                 return self._last
-            case ("c" | "C" | "s" | "S"), _:
-                self._last = self._go() if letter in "cC" else self._step()
-                return self._last
+            case ("c" | "C"), _:
+                return self._stopped(self._guest.go(None, self._link.is_interrupted), INTERRUPTED)
+            case ("s" | "S"), _:
+                return self._stopped(self._guest.step(), TRAPPED)
             case "g", _:
                 return "".join(self._scalars())
             case "p", [number]:
@@ -80,7 +80,7 @@ class Target:
             case "P", [number, digits]:
                 return self._write_register(int(number, 16), digits)
             case "m", [address, length]:  # gdb asks again for what is left
-                most = BLOCK_BYTES - int(address, 16) % BLOCK_BYTES
+                most = LINE_BYTES - int(address, 16) % LINE_BYTES
                 return self._guest.ask(f"peek {address} {min(int(length, 16), most)}")[0][0].split()[-1]
             case "M", [address, _, digits]:
                 return self._do(f"poke {address} {digits}")
@@ -93,26 +93,17 @@ class Target:
                 raise EOFError
         return ""
 
-    def _go(self) -> str:
-        """The program runs to its next stop, or until gdb interrupts it."""
-        stop = self._guest.go(None, self._link.is_interrupted)
-        return self._stopped(stop) if stop else INTERRUPTED
-
-    def _step(self) -> str:
-        """Carries out one instruction."""
-        stop = self._guest.step()
+    def _stopped(self, stop: Stop | None, signal: str) -> str:
+        """A stop by its signal, or the program's end; without one the signal. Why it faulted is put out in words."""
         self._guest.empty_buffer()
-        return self._stopped(stop) if stop else TRAPPED
-
-    def _stopped(self, stop: Stop) -> str:
-        """A stop by its signal, or the program's end; why it faulted is put out in words."""
-        if stop.kind == "exit":
-            return f"W{stop.status:02x}"
-        if stop.kind == "fault":
+        self._last = TRAPPED if stop else signal
+        if stop and stop.kind == "exit":
+            self._last = f"W{stop.status:02x}"
+        if stop and stop.kind == "fault":
             words = f"vecmon: {self._guest.explain(stop)}\n"
             self._link.send(f"O{words.encode().hex()}")
-            return FAULTS[stop.cause]
-        return TRAPPED
+            self._last = FAULTS[stop.cause]
+        return self._last
 
     def _scalars(self) -> list[str]:
         """The registers x0 to x31 and pc."""
@@ -125,9 +116,8 @@ class Target:
             return self._scalars()[number]
         if number >= FIRST_VECTOR:
             return "".join(self._guest.ask(f"vreg v{number - FIRST_VECTOR} 8")[0][0].split()[1:]) or REFUSED
-        name = CONTROL[number - FIRST_CONTROL]
-        values = dict(word.split("=") for word in self._guest.ask("vcsr")[0][0].split())
-        return int(values[name], 16 if name == "vtype" else 10).to_bytes(8, "little").hex()
+        values = control_values(self._guest.ask("vcsr")[0][0])
+        return values[CONTROL[number - FIRST_CONTROL]].to_bytes(8, "little").hex()
 
     def _write_register(self, number: int, digits: str) -> str:
         """Writes a register; the control registers can't be written from outside."""

@@ -7,16 +7,19 @@ again by `-`, until gdb says that it needs no such acknowledgements. A byte 03 o
 import os
 import re
 import select
+import sys
+
+from .output import write_out
 
 _PACKET = re.compile(rb"\$([^$#]*)#([0-9A-Fa-f]{2})")
 _INTERRUPT = b"\x03"
 
 
 class Link:
-    """The two ends of the pipe to gdb."""
+    """The pipes from gdb and to it, which are standard input and output."""
 
-    def __init__(self, source: int, sink: int) -> None:
-        self._source, self._sink = source, sink
+    def __init__(self) -> None:
+        self._source = sys.stdin.fileno()
         self._unread = b""
         self._acknowledges = True
 
@@ -28,7 +31,7 @@ class Link:
             self._unread = self._unread[packet.end() :]
             data, is_good = packet[1], sum(packet[1]) % 256 == int(packet[2], 16)
             if self._acknowledges:
-                self._write(b"+" if is_good else b"-")
+                write_out(b"+" if is_good else b"-")
             if is_good:
                 self._acknowledges &= data != b"QStartNoAckMode"
                 return data.decode("latin-1")
@@ -36,7 +39,7 @@ class Link:
     def send(self, text: str) -> None:
         """Sends a packet."""
         data = re.sub(rb"[#$}*]", lambda odd: b"}" + bytes([odd[0][0] ^ 0x20]), text.encode("latin-1"))
-        self._write(b"$" + data + b"#%02x" % (sum(data) % 256))
+        write_out(b"$" + data + b"#%02x" % (sum(data) % 256))
 
     def is_interrupted(self) -> bool:
         """Whether gdb asks for a stop, while it waits for an answer. Raises EOFError at the end."""
@@ -51,7 +54,3 @@ class Link:
         if not data:
             raise EOFError
         self._unread += data
-
-    def _write(self, data: bytes) -> None:
-        while data:
-            data = data[os.write(self._sink, data) :]

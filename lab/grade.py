@@ -12,6 +12,7 @@ from . import LabError
 from .answer import attempt, read_answer, settled
 from .exercise import Exercise, Results, read_exercise
 from .program import find_program
+from .table import table_lines
 
 Grades = list[tuple[pathlib.Path, list[str]]]
 """Answers, each with why it fails, or nothing, for each case."""
@@ -97,10 +98,7 @@ def _print_table(exercise: Exercise, grades: Grades) -> None:
     for path, outcomes in grades:
         marks = ["-" if outcome else "ok" for outcome in outcomes]
         rows.append([str(path), *marks, f"{outcomes.count('')} of {len(marks)}"])
-    widths = [max(map(len, column)) for column in zip(*rows)]
-    print(exercise.title)
-    for row in rows:
-        print("  ".join(map(str.ljust, row, widths)).rstrip())
+    print("\n".join([exercise.title, *table_lines(rows, len(rows[0]))]))
     for path, outcomes in grades:
         for reason in filter(None, _reasons(exercise, outcomes)):
             print(f"{path}: {reason}")

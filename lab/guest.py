@@ -9,13 +9,14 @@ from collections.abc import Callable, Iterator, Sequence
 from dataclasses import dataclass
 
 from . import LabError
+from .accesses import LINE_BYTES
 from .lines import is_look
-from .machine import Session
+from .machine import TOGETHER, Session
 from .program import find_program
 from .reasons import VectorView, describe_stop
 from .table import read_table
 
-IMAGE_BYTES, ARGUMENT_BYTES, POKE_BYTES = 4_194_304, 8192, 256  # of a file; of the stack's 16 KiB; of a line
+IMAGE_BYTES, ARGUMENT_BYTES = 4_194_304, 8192  # of a file; of the stack's 16 KiB
 QUANTUM, MOST_SLICES = 1000, 1000  # the longest slices, as the program is alone; and how many one line grants
 STACK_POINTER, STACK_END = 0x7FFF_EFC0, 0x7FFF_F000  # as `load` leaves them
 
@@ -46,10 +47,6 @@ class Stop:
         kind, status, cause, pc, value = match.groups("0")
         return cls(kind, int(pc, 16), line[2:], int(status), int(cause), int(value, 16))
 
-    def explain(self, word: int | None = None, view: VectorView | None = None, text: str = "") -> str:
-        """The stop in sentences, by the word at pc, the vector state, and the word's text, where they are known."""
-        return describe_stop(self.line, word, view, text)
-
 
 class Guest:
     """A user's program, alone in its session, which stands still between calls.
@@ -66,10 +63,19 @@ class Guest:
         self._hands_on, self._write = write is not None, write or self._kept.append
 
     def ask(self, *commands: str) -> list[list[str]]:
-        """The lines of each answer to commands that go to the machine together, without the user's digit."""
-        lines = [f"{self.user} {command}" for command in commands]
-        send = self.session.look_all if all(map(is_look, lines)) else self.session.do_all
-        return [[line[2:] for line in answer] for answer in send(lines)]
+        """The lines of each answer to commands, without the user's digit. Some dozens go to the machine together."""
+        answers = list[list[str]]()
+        for at in range(0, len(commands), TOGETHER):
+            lines = [f"{self.user} {command}" for command in commands[at : at + TOGETHER]]
+            send = self.session.look_all if all(map(is_look, lines)) else self.session.do_all
+            answers += [[line[2:] for line in answer] for answer in send(lines)]
+        return answers
+
+    def peek(self, address: int, length: int) -> bytes:
+        """The bytes from an address on, which are all in pages that are mapped."""
+        end = address + length
+        looks = (f"peek {at:x} {min(LINE_BYTES, end - at)}" for at in range(address, end, LINE_BYTES))
+        return bytes.fromhex("".join(told.split()[2] for (told,) in self.ask(*looks)))
 
     def start(self, image: str, policy: str = "keep", arguments: Sequence[str] = ()) -> None:
         """The user enters, and an image is loaded; arguments, the first of them its name, are laid on the stack.
@@ -83,9 +89,7 @@ class Guest:
         self.pc = _pc(loaded)
         if arguments:
             place = STACK_END - len(block)
-            parts = range(0, len(block), POKE_BYTES)
-            self.ask(*(f"poke {place + part:x} {block[part : part + POKE_BYTES].hex()}" for part in parts))
-            self.ask(f"set x2 {place:x}")
+            self.ask(*pokes(place, block), f"set x2 {place:x}")
 
     def go(self, ticks: int | None = None, is_interrupted: Callable[[], bool] = lambda: False) -> Stop | None:
         """The program runs to a stop; None where so many ticks, rounded up to slices, ran out, or it is interrupted.
@@ -136,13 +140,18 @@ class Guest:
 
     def explain(self, stop: Stop) -> str:
         """A stop in sentences, by what stands at its place."""
-        (listing, *_), (control,) = self.ask(f"dis {stop.pc:x} 1", "vcsr")
-        values = dict(part.split("=") for part in control.split())
-        view = VectorView(int(values["vtype"], 16), int(values["vstart"]))
-        return stop.explain(int(listing[17:25] or "0", 16), view, listing[26:])  # a refusal is shorter
+        (listing, *_), (told,) = self.ask(f"dis {stop.pc:x} 1", "vcsr")
+        control = control_values(told)
+        view = VectorView(control["vtype"], control["vstart"])
+        return describe_stop(stop.line, int(listing[17:25] or "0", 16), view, listing[26:])  # a refusal is shorter
 
-    def tell(self, stop: Stop, place: str = "") -> str:
-        """A stop in a line: its address, and the place by a symbol; the instruction there; and why, in sentences."""
+    def tell(self, stop: Stop | None, place: str = "") -> str:
+        """A stop in a line: its address, and the place by a symbol; the instruction there; and why, in sentences.
+
+        Without a stop the ticks ran out where the program stands.
+        """
+        if stop is None:
+            return f"the ticks ran out at {self.pc:x} {place}".rstrip()
         text = self.ask(f"dis {stop.pc:x} 1")[0][0][26:]
         return ": ".join(filter(None, [f"{stop.pc:x} {place}".rstrip(), text, self.explain(stop)]))
 
@@ -197,6 +206,18 @@ def started(
         except LabError as error:
             raise LabError(f"{path}: {error}") from error
         yield guest
+
+
+def pokes(address: int, data: bytes) -> Iterator[str]:
+    """The commands that write bytes from an address on."""
+    for at in range(0, len(data), LINE_BYTES):
+        yield f"poke {address + at:x} {data[at : at + LINE_BYTES].hex()}"
+
+
+def control_values(answer: str) -> dict[str, int]:
+    """The vector control registers by name, from an answer to `vcsr`."""
+    pairs = (word.split("=") for word in answer.split())
+    return {name: int(value, 16 if name == "vtype" else 10) for name, value in pairs}
 
 
 def _pc(answer: str) -> int:

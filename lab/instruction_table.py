@@ -40,7 +40,5 @@ def instruction_table() -> dict[str, Row]:
     """The rows by name, in the page's order, but for `.word`. Raises LabError where the page isn't there."""
     if not PAGE.is_file():
         raise LabError(f"the table of instructions stands in a checkout of the repository, and there is no file {PAGE}")
-    rows = [
-        Row(name, operands, bits.replace(" ", "")) for name, operands, bits in _ROW.findall(PAGE.read_text("utf-8"))
-    ]
-    return {row.name: row for row in rows if row.name != ".word"}
+    rows = _ROW.findall(PAGE.read_text("utf-8"))
+    return {name: Row(name, operands, bits.replace(" ", "")) for name, operands, bits in rows if name != ".word"}

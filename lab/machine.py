@@ -18,6 +18,7 @@ from .lines import BadLine, OutOfStep, check_line, is_look, is_refusal, is_whole
 __all__ = ["BadLine", "OutOfStep", "ProgramGone", "ReplayDiffers", "ScriptFull", "Session"]
 
 SCRIPT_BYTES = 15_000_000  # a process takes 16,777,216 bytes at most, and lines that look need room as well
+TOGETHER = 40  # lines that go to the program at once: each has to fit into its pipe
 MARK_BYTES = 8
 NEW_MACHINE = "* list 1:- 2:- 3:- 4:- 5:- 6:- 7:- 8:-"
 
@@ -121,7 +122,7 @@ class _Process:
             pass
 
 
-class Session:
+class Session(contextlib.AbstractContextManager["Session"]):
     """A machine for eight users, and the script that makes it anew.
 
     Its process is replaced where it ended, hangs, or has no room for more lines; then the new one carries out the
@@ -164,9 +165,6 @@ class Session:
         except BaseException:
             self.close()
             raise
-
-    def __enter__(self) -> "Session":
-        return self
 
     def __exit__(self, *error: object) -> None:
         self.close()

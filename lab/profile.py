@@ -7,11 +7,12 @@ import sys
 from collections.abc import Iterator, Sequence
 
 from . import LabError
+from .arguments import add_image
 from .counts import Counts, count
 from .guest import started
 from .lesson_page import lone_page
-from .run import add_image
 from .symbols import Symbols
+from .table import table_lines
 
 HEAD = ("address", "place", "source", "instruction", "times", "ticks", "active", "masked off", "tail", "work")
 STYLES, SCRIPTS = ["page.css", "profile.css"], ["profile.js"]
@@ -35,12 +36,10 @@ def run(arguments: argparse.Namespace) -> int:
         print(f"vecmon-lab: {symbols.trouble}", file=sys.stderr)
     with started(image, arguments=[image.name]) as guest:
         counts, stop = count(guest, arguments.ticks)
-        end = guest.tell(stop, symbols.place(stop.pc)) if stop else f"the ticks ran out at {guest.pc:x}"
-    if stop and stop.kind == "exit":
-        end = f"status {stop.status}"
+        end = f"status {stop.status}" if stop and stop.kind == "exit" else guest.tell(stop, symbols.place(guest.pc))
     rows = [*_rows(counts, symbols)]
     summary = [*_summary(counts, end)]
-    print("\n".join([*_table([HEAD, *rows]), "", *_histogram(counts), "", *summary]))
+    print("\n".join([*table_lines([HEAD, *rows], 4), "", *_histogram(counts), "", *summary]))
     if page:
         with page.with_suffix(".csv").open("w", newline="", encoding="utf-8") as file:
             csv.writer(file).writerows([HEAD, *rows])
@@ -79,11 +78,3 @@ def _histogram(counts: Counts) -> Iterator[str]:
     most = max(counts.lengths.values(), default=1)
     for (kind, vl), times in sorted(counts.lengths.items()):
         yield f"{kind:<14} vl={vl:<4} {times:>10,}  {'#' * -(-40 * times // most)}"
-
-
-def _table(rows: Sequence[Sequence[object]]) -> Iterator[str]:
-    """Rows as lines with columns, of which the first four are texts."""
-    widths = [max(len(str(row[column])) for row in rows) for column in range(len(HEAD))]
-    for row in rows:
-        cells = [f"{cell!s:{'<' if at < 4 else '>'}{width}}" for at, (cell, width) in enumerate(zip(row, widths))]
-        yield "  ".join(cells).rstrip()

@@ -31,6 +31,11 @@ class VectorView:
         """The group multiplier, 1/8 to 8."""
         return Fraction(2) ** (((self.vtype & 7) + 4) % 8 - 4)
 
+    @property
+    def vlmax(self) -> int:
+        """How many elements a group has; 0 where the type is vill."""
+        return 0 if self.vtype >> 63 else int(256 * self.lmul / self.sew)
+
 
 def illegal_reasons(word: int, view: VectorView) -> list[str]:
     """Why a word is illegal in this state, a sentence each, the most telling first; empty where it is legal."""

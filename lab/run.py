@@ -1,35 +1,19 @@
 """Runs an image to its end: its output is standard output, and its status the status."""
 
 import argparse
-import os
 import pathlib
 import sys
 from collections import Counter
-from collections.abc import Callable, Iterator
+from collections.abc import Iterator
 
+from .arguments import add_image, between
 from .changes import Carried
 from .counts import Counts, count
 from .guest import QUANTUM, Guest, Stop, started
+from .output import write_out
 from .symbols import Symbols
 
 TICKS_RAN_OUT, BREAKPOINT, FAULT = 124, 133, 139  # as timeout says, and a shell of SIGTRAP and SIGSEGV
-
-
-def add_image(parser: argparse.ArgumentParser) -> None:
-    """The words of all commands that run an image to its end."""
-    parser.add_argument("image", metavar="IMAGE", type=pathlib.Path, help="an ELF file")
-    parser.add_argument("--ticks", metavar="N", type=between(1, 1 << 63), help="how many ticks it has at most")
-
-
-def between(least: int, most: int) -> Callable[[str], int]:
-    """What reads a decimal number in these bounds from a word."""
-
-    def number(word: str) -> int:
-        if not word.isdecimal() or not least <= int(word) <= most:
-            raise argparse.ArgumentTypeError(f"{word} is no number from {least} to {most}")
-        return int(word)
-
-    return number
 
 
 def add_arguments(parser: argparse.ArgumentParser) -> None:
@@ -37,9 +21,8 @@ def add_arguments(parser: argparse.ArgumentParser) -> None:
     add_image(parser)
     parser.add_argument("words", metavar="ARG", nargs="*", help="the program's arguments; -- before one with a dash")
     parser.add_argument("--policy", choices=("keep", "ones"), default="keep", help="what becomes of agnostic elements")
-    parser.add_argument(
-        "--quantum", metavar="Q", type=between(1, 1000), default=QUANTUM, help="the ticks of a slice; else %(default)s"
-    )
+    ticks = between(1, QUANTUM)
+    parser.add_argument("--quantum", metavar="Q", type=ticks, default=QUANTUM, help="of a slice; else %(default)s")
     parser.add_argument("--trace", metavar="FILE", type=pathlib.Path, help="a line for each instruction goes there")
     parser.add_argument("--stats", action="store_true", help="counts go to standard error: of names, vector lengths")
 
@@ -48,7 +31,7 @@ def run(arguments: argparse.Namespace) -> int:
     """Runs the image; its status, or one that says how it stopped. Raises LabError and OSError for bad input."""
     image, symbols = arguments.image, Symbols.read(arguments.image)
     words = [image.name, *arguments.words]
-    with started(image, policy=arguments.policy, quantum=arguments.quantum, arguments=words, write=_write_out) as guest:
+    with started(image, policy=arguments.policy, quantum=arguments.quantum, arguments=words, write=write_out) as guest:
         stop, counts = _carried_out(guest, arguments, symbols)
         if counts and arguments.stats:
             print("\n".join(stats(counts)), file=sys.stderr)
@@ -87,14 +70,5 @@ def _status(guest: Guest, stop: Stop | None, who: str, place: str) -> int:
     """The status for a stop; one that isn't the program's own is told."""
     if stop and stop.kind == "exit":
         return stop.status
-    if stop is None:
-        print(f"{who}: the ticks ran out at {guest.pc:x} {place}".rstrip(), file=sys.stderr)
-        return TICKS_RAN_OUT
     print(f"{who}: {guest.tell(stop, place)}", file=sys.stderr)
-    return FAULT if stop.kind == "fault" else BREAKPOINT
-
-
-def _write_out(data: bytes) -> None:
-    """Writes bytes to standard output at once."""
-    while data:
-        data = data[os.write(sys.stdout.fileno(), data) :]
+    return TICKS_RAN_OUT if stop is None else FAULT if stop.kind == "fault" else BREAKPOINT

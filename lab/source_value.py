@@ -4,12 +4,11 @@ from collections import Counter
 from collections.abc import Callable, Iterator
 from dataclasses import dataclass, field
 
+from .accesses import LINE_BYTES
 from .source_line import Kind, Operand, Token
 
 PAGE = 4096
 """The bytes of a page of the machine."""
-
-_POKE_BYTES = 256
 
 
 @dataclass(eq=False)
@@ -33,8 +32,8 @@ class Section:
                 runs.append((offset, bytearray()))
             runs[-1][1].extend(make())
         for offset, run in runs:
-            for start in range(0, len(run), _POKE_BYTES):
-                piece = run[start : start + _POKE_BYTES]
+            for start in range(0, len(run), LINE_BYTES):
+                piece = run[start : start + LINE_BYTES]
                 if any(piece):
                     yield f"poke {self.base + offset + start:x} {piece.hex()}"
 

@@ -5,6 +5,7 @@ from collections import Counter
 from collections.abc import Iterator, Sequence
 from typing import Any
 
+from .accesses import LINE_BYTES, PAGE_BYTES, ROW_BYTES
 from .lines import is_refusal, is_stop, words_of
 from .machine import Session
 from .reasons import VectorView, describe_stop
@@ -23,10 +24,7 @@ output: the bytes that answers to `out` have shown
 """
 
 ABSENT: State = {"run": "absent"}
-ROW_BYTES = 16
 MOST_ROWS = 64
-PEEK_BYTES = 256
-PAGE_BYTES = 4096
 MAPPED_PAGES, MOST_PAGES = 8, 32  # how many pages are looked at since they were mapped, and in all
 MOST_WORDS = 512
 WORDS_AHEAD = 8
@@ -217,11 +215,11 @@ class _Looks:
         """The rows of all pages that are watched and mapped."""
         rows = {}
         for page in sorted(watch.pages):
-            addresses = range(page, page + PAGE_BYTES, PEEK_BYTES)
-            answers = self.ask_all([f"peek {address:x} {PEEK_BYTES}" for address in addresses])
+            addresses = range(page, page + PAGE_BYTES, LINE_BYTES)
+            answers = self.ask_all([f"peek {address:x} {LINE_BYTES}" for address in addresses])
             for address, (line,) in zip(addresses, filter(None, answers)):
                 digits = line.split()[2]
-                for place in range(0, PEEK_BYTES, ROW_BYTES):
+                for place in range(0, LINE_BYTES, ROW_BYTES):
                     rows[f"{address + place:x}"] = digits[2 * place : 2 * (place + ROW_BYTES)]
         return rows
 

@@ -10,7 +10,8 @@ from typing import Any
 from elftools.elf.elffile import ELFFile
 from elftools.elf.sections import SymbolTableSection
 
-PAGE_BYTES = 4096
+from .accesses import PAGE_BYTES
+
 ALLOCATED = 2  # SHF_ALLOC: the section is a part of the memory
 NAMING = ("STT_NOTYPE", "STT_OBJECT", "STT_FUNC")
 BINDINGS = ("STB_LOCAL", "STB_WEAK", "STB_GLOBAL")
@@ -49,13 +50,6 @@ class Symbols:
         end = (max((address for address, _ in places), default=0) | PAGE_BYTES - 1) + 1
         addresses = {name: address for address, names in places for name in names}
         return cls(addresses, None, [(address, end, names[-1]) for address, names in places])
-
-    def __iter__(self) -> Iterator[str]:
-        return iter(self.addresses)
-
-    def address(self, name: str) -> int | None:
-        """The address of a symbol; None where there is none of this name."""
-        return self.addresses.get(name)
 
     def place(self, address: int) -> str:
         """An address by the last symbol at or before it in its section, as `main+0x8`; "" where there is none."""

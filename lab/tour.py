@@ -15,9 +15,7 @@ DATA = pathlib.Path(__file__).resolve().parent.parent / "tests" / "command_lines
 
 def add_arguments(parser: argparse.ArgumentParser) -> None:
     """The words of `vecmon-lab tour`."""
-    parser.add_argument(
-        "folder", metavar="DIR", type=pathlib.Path, help="where the pages go; it is made if it isn't there"
-    )
+    parser.add_argument("folder", metavar="DIR", type=pathlib.Path, help="where the pages go; made if it isn't there")
 
 
 def run(arguments: argparse.Namespace) -> int:

@@ -123,7 +123,7 @@ def draw_case(row: Row, number: int, seed: int) -> Case:
     kind = kinds[number % len(kinds)]
     word, view = _draw_word(row, kind, draws)
     policies = 0 if kind.vtype == VILL else draws.randrange(4) << 6
-    most = _vlmax(kind.vtype)
+    most = view.vlmax
     vl = draws.choice((most, most, min(most, 1), draws.randrange(most + 1), draws.randrange(most + 1)))
     case = Case(word, kind.vtype | policies, vl, view.vstart, draws.randrange(4), draws.randrange(2))
     operands = _operands(row, word, view)
@@ -144,12 +144,6 @@ def _is_strided(row: Row) -> bool:
     return row.opcode in VECTOR_ACCESSES and "rs2" in row.fields()
 
 
-def _vlmax(vtype: int) -> int:
-    """How many elements a group has."""
-    view = VectorView(vtype, 0)
-    return 0 if vtype == VILL else int(256 * view.lmul / view.sew)
-
-
 def _operands(row: Row, word: int, view: VectorView) -> list[Operand]:
     """The vector register operands, and the mask."""
     instruction = decode(word, view.sew, view.lmul) if _is_vector(row) else None
@@ -163,7 +157,8 @@ def _draw_word(row: Row, kind: Kind, draws: _Draws, steps: Sequence[int] = (1, 2
     steps: of one of these numbers the numbers of vector registers are multiples
     """
     for _ in range(_DRAWS):
-        starts = (0, 0, 0, 0, 0, 0, draws.randrange(4), draws.randrange(_vlmax(kind.vtype) + 1), draws.randrange(256))
+        vlmax = VectorView(kind.vtype, 0).vlmax
+        starts = (0, 0, 0, 0, 0, 0, draws.randrange(4), draws.randrange(vlmax + 1), draws.randrange(256))
         view = VectorView(kind.vtype, draws.choice(starts))
         word, step = draws.getrandbits(32), draws.choice(steps)
         if _MASKABLE in row.operands:
@@ -173,9 +168,8 @@ def _draw_word(row: Row, kind: Kind, draws: _Draws, steps: Sequence[int] = (1, 2
             word = word & ~(mask << _PLACES[name]) | value << _PLACES[name]
         word = row.word(word)
         is_illegal = bool(illegal_reasons(word, view))
-        is_odd = (
-            _reads_two_widths(_operands(row, word, view)) or _is_strided(row) and not (word >> 15 ^ word >> 20) & 31
-        )
+        stride_is_base = _is_strided(row) and not (word >> 15 ^ word >> 20) & 31
+        is_odd = stride_is_base or _reads_two_widths(_operands(row, word, view))
         if is_illegal == kind.is_illegal and (is_illegal or not is_odd):
             break
     return word, view
@@ -210,15 +204,14 @@ def _fill_vectors(case: Case, operands: list[Operand], draws: _Draws) -> None:
         case.v = {number: draws.randbytes(32) for number in (0, first.start - 1, first.stop) if 0 <= number < 32}
     for operand in operands:
         is_offset = operand.noun == "index" and case.word & 0x7F in VECTOR_ACCESSES
-        limit = _REACH if is_offset else _vlmax(case.vtype) + 2
+        limit = _REACH if is_offset else VectorView(case.vtype, 0).vlmax + 2
         case.v |= {n: draws.elements(operand.eew, limit, is_offset) for n in operand.registers if n < 32}
 
 
 def _fill_memory(case: Case, row: Row, operands: list[Operand], is_astray: bool, draws: _Draws) -> None:
     """Gives the base register an address, the stride a value, and bytes to the memory around it."""
-    base, distance, before, after = 11, 0, 0, 256
-    if row.name != "ecall":
-        base = case.register("rs1")
+    base = 11 if row.name == "ecall" else case.register("rs1")
+    distance, before, after = 0, 0, 256
     if _is_strided(row):
         stride = draws.stride(case.vl)
         case.x[case.register("rs2")] = stride % (1 << 64)

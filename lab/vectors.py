@@ -3,14 +3,13 @@
 import argparse
 import json
 import pathlib
-import re
 import sys
 from collections.abc import Iterator
 from typing import Any
 
 from . import LabError
-from .changes import Registers, Stepper
-from .guest import POKE_BYTES, Guest
+from .changes import Registers, Stepper, runs
+from .guest import Guest, pokes
 from .instruction_table import Row, instruction_table
 from .machine import Session
 from .program import find_program
@@ -60,10 +59,11 @@ def carry_out(session: Session, row: Row, case: Case, policy: str = "keep") -> d
     guest = Guest(session)
     guest.ask(*_set_up(case, pages, policy))
     stepper = Stepper(guest)
-    text, before, old = guest.ask(f"dis {PC:x} 1")[0][0][26:], _named(PC, stepper.registers), _data(guest, pages)
+    length = DATA_END - DATA if DATA in pages else 0
+    text, before, old = stepper.fetch(PC)[1], _named(PC, stepper.registers), guest.peek(DATA, length)
     stop = guest.step()
     stepper.look()
-    after, new, output = _named(guest.pc, stepper.registers), _data(guest, pages), guest.output()
+    after, new, output = _named(guest.pc, stepper.registers), guest.peek(DATA, length), guest.output()
     guest.ask("leave")
     golden = {"name": row.name, "word": f"{case.word:08x}", "text": text, "policy": policy} | before
     golden |= {key: {number: value for number, value in before[key].items() if value.strip("0")} for key in ("x", "v")}
@@ -76,7 +76,8 @@ def carry_out(session: Session, row: Row, case: Case, policy: str = "keep") -> d
     changes = {key: value for key, value in after.items() if key not in ("x", "v") and value != before[key]}
     for key in ("x", "v"):
         changes[key] = {number: value for number, value in after[key].items() if value != before[key][number]}
-    changes |= {"memory": dict(_runs(old, new)), "output": output.hex()}
+    stored = {f"{DATA + first:x}": new[first:last].hex() for first, last in runs(old, new)}
+    changes |= {"memory": stored, "output": output.hex()}
     return golden | {"after": {key: value for key, value in changes.items() if value not in ({}, "")}}
 
 
@@ -89,8 +90,7 @@ def _set_up(case: Case, pages: dict[int, str], policy: str) -> Iterator[str]:
     yield f"poke {CODE:x} {_PROLOGUE}"
     yield f"poke {PC:x} {case.word.to_bytes(4, 'little').hex()}"
     for address, data in case.memory.items():
-        for place in range(0, len(data), POKE_BYTES):
-            yield f"poke {address + place:x} {data[place : place + POKE_BYTES].hex()}"
+        yield from pokes(address, data)
     yield from (f"set x{number} {value:x}" for number, value in control.items())
     yield from (f"setpc {CODE:x}", "step 4", f"setpc {PC:x}")
     yield from (f"set x{number} {value:x}" for number, value in (dict.fromkeys(control, 0) | case.x).items())
@@ -102,16 +102,3 @@ def _named(pc: int, registers: Registers) -> dict[str, Any]:
     named: dict[str, Any] = {"pc": f"{pc:x}"} | registers.control | {"vtype": f"{registers.control['vtype']:x}"}
     named["x"] = {number: f"{value:x}" for number, value in enumerate(registers.x) if number}
     return named | {"v": {number: registers.v[32 * number : 32 * number + 32].hex() for number in range(32)}}
-
-
-def _data(guest: Guest, pages: dict[int, str]) -> bytes:
-    """The pages of data, if there are any."""
-    looks = [f"peek {at:x} {POKE_BYTES}" for at in range(DATA, DATA_END, POKE_BYTES)] if DATA in pages else []
-    return bytes.fromhex("".join(told.split()[2] for (told,) in guest.ask(*looks)))
-
-
-def _runs(before: bytes, after: bytes) -> Iterator[tuple[str, str]]:
-    """The runs of bytes that changed, by address."""
-    differ = (int.from_bytes(before) ^ int.from_bytes(after)).to_bytes(len(before))
-    for run in re.finditer(b"[^\0]+", differ):
-        yield f"{DATA + run.start():x}", after[run.start() : run.end()].hex()

@@ -8,9 +8,9 @@ from lab.tests.images import SQUARES, SQUARES_DWARF5, STOCK, SUM, SUM_DWARF4, SU
 
 def test_names_and_places() -> None:
     symbols = Symbols.read(SUM)
-    assert sorted(symbols) == ["_start", "_start.squares"]
-    assert symbols.address("_start") == 0x11190 and symbols.address("_start.squares") == 0x122E8
-    assert symbols.address("start") is None
+    assert sorted(symbols.addresses) == ["_start", "_start.squares"]
+    assert symbols.addresses["_start"] == 0x11190 and symbols.addresses["_start.squares"] == 0x122E8
+    assert "start" not in symbols.addresses
     assert symbols.place(0x11190) == "_start" and symbols.place(0x11198) == "_start+0x8"
     assert symbols.place(0x112E4) == "_start+0x154" and symbols.place(0x112E8) == ""
     assert symbols.place(0x1118C) == symbols.place(0x122E7) == symbols.place(0x7FFFEFC0) == ""
@@ -28,7 +28,7 @@ def test_which_of_several_symbols_names_an_address() -> None:
         "next",
         "next+0x4",
     ]
-    assert symbols.address("__global_pointer$") == 0x11800
+    assert symbols.addresses["__global_pointer$"] == 0x11800
 
 
 def test_files_without_symbols(tmp_path: pathlib.Path) -> None:
@@ -36,9 +36,14 @@ def test_files_without_symbols(tmp_path: pathlib.Path) -> None:
     for data in (b"", b"\x7fELF", SUM.read_bytes()[:100], SUM.read_bytes()[:1500]):
         damaged.write_bytes(data)
         symbols = Symbols.read(damaged)
-        assert (list(symbols), symbols.place(0x11190), symbols.line(0x11190), symbols.trouble) == ([], "", "", "")
+        assert (list(symbols.addresses), symbols.place(0x11190), symbols.line(0x11190), symbols.trouble) == (
+            [],
+            "",
+            "",
+            "",
+        )
     for file in (SQUARES, STOCK / "sum.c"):
-        assert list(Symbols.read(file)) == [] and Symbols.read(file).place(0x10174) == ""
+        assert not Symbols.read(file).addresses and Symbols.read(file).place(0x10174) == ""
 
 
 def test_source_lines() -> None:
