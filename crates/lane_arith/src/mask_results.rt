@@ -178,6 +178,7 @@ fn write_words<L: Lane, R: MaskResults<L>>(
 /// whether it is.
 pub fn put_bits(results: u8x32, body: &Body<'_>, destination: &mut [u8]) -> bool
     requires { body.now.end ≤ GROUP_BYTES }
+    ensures answer { result ≡ (length destination.old == VLENB) }
     ensures done { result ≡ true → WritesBits (is_active body.now) (mask_bit results) destination.old destination.new }
     ensures kept { result ≡ false → destination.new ≡ destination.old }
 {
