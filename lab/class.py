@@ -17,14 +17,15 @@ from .program import find_program, images_of
 def add_arguments(parser: argparse.ArgumentParser) -> None:
     """The words of `vecmon-lab class`."""
     parser.add_argument("folder", metavar="DIR", type=pathlib.Path, help="keeps the class; made if it isn't there")
-    parser.add_argument("images", metavar="NAME=PATH", nargs="*", help="an image that students load by this name")
+    parser.add_argument("images", metavar="NAME=PATH", nargs="*", default=[], help="images that students load by name")
     parser.add_argument("--host", default="127.0.0.1", help="the address to serve at; 0.0.0.0 is a whole network")
     parser.add_argument("--port", type=int, default=8765, help="the port; 0 is one that is free (default: %(default)s)")
     parser.add_argument("--name", action="append", default=[], help="a host name that the page is opened under as well")
     machines = between(1, len(LETTERS))
     parser.add_argument("--machines", metavar="N", type=machines, help="eight seats each, 1 to 12; else 1")
     parser.add_argument("--quantum", metavar="N", type=int, help="the ticks of a slice, 1 to 1000; else 100")
-    parser.add_argument("--patience", metavar="S", type=float, default=10.0, help="seconds a program may be silent")
+    patience = between(1, 3600)
+    parser.add_argument("--patience", metavar="S", type=patience, default=10, help="seconds of silence; else 10")
 
 
 def run(arguments: argparse.Namespace) -> int:

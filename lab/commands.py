@@ -20,8 +20,8 @@ class Command:
 
 
 def _plain(text: str) -> str:
-    """Markdown without its links and backquotes."""
-    return re.sub(r"\[([^]]*)\]\([^)]*\)", r"\1", text).replace("`", "")
+    """Markdown without its backquotes, its links, and parentheses that have a link alone."""
+    return re.sub(r" \(\[[^]]*\]\([^)]*\)\)|\[([^]]*)\]\([^)]*\)", r"\1", text).replace("`", "")
 
 
 def _name(form: str) -> str:

@@ -16,7 +16,7 @@ SOURCE_SUFFIXES = (".s", ".S")
 def add_arguments(parser: argparse.ArgumentParser) -> None:
     """The words of `vecmon-lab lesson`."""
     parser.add_argument("script", metavar="SCRIPT", type=pathlib.Path, help="a script, or an assembler source (.s, .S)")
-    parser.add_argument("images", metavar="NAME=PATH", nargs="*", help="an image that the script loads by this name")
+    parser.add_argument("images", metavar="NAME=PATH", nargs="*", default=[], help="images that it loads by name")
     parser.add_argument("-o", dest="output", metavar="FILE", type=pathlib.Path, help="the page; else standard output")
     parser.add_argument("--title", help="the title; else the line of the file that begins with ##, else its name")
     parser.add_argument("--quantum", metavar="N", type=int, help="the ticks of a slice, 1 to 1000; else 100")

@@ -10,6 +10,7 @@ import string
 from collections.abc import Mapping, Sequence
 from typing import Any
 
+from .commands import MEANINGS
 from .frames import Frame
 
 FILES = pathlib.Path(__file__).with_name("page")
@@ -74,4 +75,5 @@ def _in_line(names: Sequence[str]) -> str:
 
 
 def _file(name: str) -> str:
-    return (FILES / name).read_text("utf-8")
+    """A file of `lab/page`, with the meanings of refusals where it names them."""
+    return (FILES / name).read_text("utf-8").replace("$refusals", json.dumps(MEANINGS))

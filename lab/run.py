@@ -19,7 +19,7 @@ TICKS_RAN_OUT, BREAKPOINT, FAULT = 124, 133, 139  # as timeout says, and a shell
 def add_arguments(parser: argparse.ArgumentParser) -> None:
     """The words of `vecmon-lab run`."""
     add_image(parser)
-    parser.add_argument("words", metavar="ARG", nargs="*", help="the program's arguments; -- before one with a dash")
+    parser.add_argument("words", metavar="ARG", nargs="*", default=[], help="its arguments; -- before one with a dash")
     parser.add_argument("--policy", choices=("keep", "ones"), default="keep", help="what becomes of agnostic elements")
     ticks = between(1, QUANTUM)
     parser.add_argument("--quantum", metavar="Q", type=ticks, default=QUANTUM, help="of a slice; else %(default)s")

@@ -5,24 +5,7 @@ const ABI_NAMES =
 
 const ROUNDING = ["to nearest, ties up (rnu)", "to nearest, ties to even (rne)", "down (rdn)", "to odd (rod)"];
 
-const REFUSALS = {
-  E01: "the line doesn't begin with 1 to 8 or * and a space",
-  E02: "the line is too long",
-  E03: "there is no such command",
-  E04: "an argument is missing, too many, out of its form or out of range",
-  E05: "the user has not entered",
-  E06: "the user has entered already",
-  E07: "the user's program runs, so only stop and state are answered",
-  E08: "there is no image of this name",
-  E09: "the image has a fault",
-  E10: "the user would have more than 256 pages",
-  E11: "an address isn't mapped",
-  E12: "there are sixteen breakpoints already",
-  E13: "the breakpoint is there already, or isn't there",
-  E14: "the user's program doesn't run",
-  E15: "the text spells no instruction; the first token that doesn't fit is at this column",
-  E16: "a page is mapped already",
-};
+const REFUSALS = $refusals; // the meanings by code, of lab/tables/refusals.txt
 
 /** The words for an answer that refuses a line, or "" for any other answer. */
 function refusalWords(answer) {

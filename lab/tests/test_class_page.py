@@ -9,6 +9,7 @@ from typing import TYPE_CHECKING
 
 import pytest
 
+from lab.commands import MEANINGS
 from lab.tests.class_pages import Served, Tab, close_all, digest_of
 from lab.tests.test_lesson_page import CONTRAST, EXAMPLES, media, press
 
@@ -172,6 +173,8 @@ def test_lines_of_before_and_refusals(sit: Sit) -> None:
     tab.command("enter", "map 10000 1 rwx", "map 10000 1 rwx", tag)
     assert "E03: there is no such command" in tab.text("#stop") and tag in tab.text("#stop")
     assert "a page is mapped already" in tab.text("#log") and f"> {tag}" in tab.text("#log")
+    told = {code: tab.run("refusalWords(`1 ${arguments[0]} 14`)", code) for code in MEANINGS}
+    assert told == {code: f"{code} 14: {meaning}" for code, meaning in MEANINGS.items()}
     tab.keys("#line", Keys.ARROW_UP)
     assert tab.run("id('line').value") == tag
     tab.keys("#line", Keys.ARROW_UP)

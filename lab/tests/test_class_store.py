@@ -146,8 +146,10 @@ def test_what_the_command_refuses(
     (tmp_path / "file").touch()
     for bad in ("/proc/nowhere", str(tmp_path / "file"), str(tmp_path)):
         failed("class", bad)
-    for words in (["--host", "192.0.2.1"], ["--host", "no such host"], ["--port", "70000"], ["--machines", "13"]):
-        failed("class", str(folder), *words)
+    numbers = ("--port 70000", "--machines 13", "--patience 0", "--patience nan")
+    for option in ("--host 192.0.2.1", "--host nowhere.invalid", *numbers):
+        failed("class", str(folder), *option.split())
+    assert "are required: DIR;" in failed("class")
     failed("class", str(tmp_path / "new"), "sum=nowhere")
     for seat in ("A9", "B1", "", "1", "A"):
         assert "there is no seat" in failed("solo", str(folder), seat)

@@ -185,7 +185,11 @@ def test_a_user_who_is_absent_or_runs() -> None:
         "1 state stopped pc=0000000000010000",
     ]
     told = shown(lines)
-    assert told[4:8] == ["=> 10000  ebreak", "running pc=0000000000010000", *["E07: the user's program runs"] * 2]
+    assert told[4:8] == [
+        "=> 10000  ebreak",
+        "running pc=0000000000010000",
+        *["E07: the user's program runs, and has to be stopped first"] * 2,
+    ]
     assert told[8:] == ["An ebreak stands at 0x10000.", "=> 10000  ebreak"] * 2
 
 

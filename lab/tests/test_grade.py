@@ -92,6 +92,33 @@ def test_the_exercises_of_the_lab(program: pathlib.Path, exercise: str, right: l
     assert any(grade(program, settled_exercise, ANSWERS / wrong))
 
 
+@pytest.mark.parametrize(
+    "exercise, source, fails",
+    [
+        (
+            "saturating_sum",
+            ["vsetvli t0, a3, e16, m8, ta, ma", "vle16.v v8, (a1)", "vle16.v v16, (a2)", "vsadd.vv v8, v8, v16"]
+            + ["vse16.v v8, (a0)"],
+            "many",
+        ),
+        ("strip_mined_copy", ["vsetvli t0, a2, e8, m8, ta, ma", "vle8.v v8, (a1)", "vse8.v v8, (a0)"], "a tail"),
+        (
+            "strlen",
+            ["vsetvli t0, x0, e8, m8, ta, ma", "vle8ff.v v8, (a0)", "vmseq.vi v0, v8, 0", "vfirst.m a0, v0"],
+            "long",
+        ),
+    ],
+)
+def test_one_round_in_the_largest_group_is_not_enough(
+    program: pathlib.Path, tmp_path: pathlib.Path, exercise: str, source: list[str], fails: str
+) -> None:
+    answer = tmp_path / "answer.s"
+    answer.write_text("\n".join([*source, "ret"]))
+    cases = settled(program, read_exercise(pathlib.Path(exercise)))
+    outcomes = grade(program, cases, answer)
+    assert [case.name for case, outcome in zip(cases.cases, outcomes) if outcome] == [fails]
+
+
 @pytest.mark.parametrize("end", ["ret", "ebreak", "li a7, 93\necall"])
 def test_a_source_is_right_however_it_ends(echo: Echo, end: str) -> None:
     assert echo(ECHOES + end, "answer.s") == ""

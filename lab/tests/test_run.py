@@ -122,7 +122,7 @@ def test_output_comes_while_it_runs_and_ctrl_c_ends_it(program: pathlib.Path, tm
 @pytest.mark.parametrize(
     "words, told",
     [
-        ([], "vecmon-lab run: the following arguments are required: IMAGE, ARG; --help says more"),
+        ([], "vecmon-lab run: the following arguments are required: IMAGE; --help says more"),
         (["--ticks", "0", SUM], "vecmon-lab run: argument --ticks: 0 is no number from 1 to 9223372036854775808; "),
         (["--quantum", "1001", SUM], "vecmon-lab run: argument --quantum: 1001 is no number from 1 to 1000; "),
         (["--quantum", "-1", SUM], "vecmon-lab run: argument --quantum: "),
