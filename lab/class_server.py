@@ -4,6 +4,7 @@ import asyncio
 import contextlib
 import ipaddress
 import json
+import logging
 import re
 import resource
 import signal
@@ -15,6 +16,7 @@ from collections.abc import AsyncIterator, Awaitable, Callable
 from typing import Any
 
 from aiohttp import WSMsgType, web
+from aiohttp.http import HttpProcessingError
 
 from .class_seats import TEACHER
 from .class_view import Class, Message, Tab
@@ -190,6 +192,7 @@ class Server:
 @contextlib.asynccontextmanager
 async def served(members: Class, host: str, port: int, names: set[str]) -> AsyncIterator[int]:
     """Serves a class; the port. Ends it behind. Raises OSError where the address can't be had."""
+    logging.getLogger("aiohttp.server").addFilter(_is_ours)
     server = Server(members, {host, socket.gethostname(), *names})
     runner = web.AppRunner(server.application(), access_log=None, keepalive_timeout=15.0, lingering_time=2.0)
     await runner.setup()
@@ -219,6 +222,11 @@ async def serve(members: Class, host: str, port: int, names: set[str]) -> None:
     async with served(members, host, port, names) as own_port:
         _announce(host, own_port, members.codes.codes[TEACHER])
         await ended.wait()
+
+
+def _is_ours(record: logging.LogRecord) -> bool:
+    """Whether a log tells of a fault of the server's: not of a request in bad form, as TLS is here, which gets status 400."""
+    return not (record.exc_info and isinstance(record.exc_info[1], HttpProcessingError))
 
 
 async def _keep(members: Class) -> None:

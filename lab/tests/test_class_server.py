@@ -6,6 +6,7 @@ import os
 import pathlib
 import re
 import signal
+import subprocess
 from collections.abc import AsyncIterator
 from typing import Any
 
@@ -15,7 +16,7 @@ import pytest_asyncio
 
 from lab import class_server
 
-from .class_tabs import LOOP, SECONDS, SUM, Served, Tab, served
+from .class_tabs import LOOP, SECONDS, SUM, Served, Tab, process, served
 
 pytestmark = pytest.mark.asyncio
 
@@ -420,6 +421,19 @@ async def test_connections_that_say_nothing(tmp_path: pathlib.Path, monkeypatch:
         for each in silent:
             assert (await asyncio.wait_for(each.receive(), SECONDS)).data == 4403
         await room.sit("A1")
+
+
+async def test_requests_in_bad_form(tmp_path: pathlib.Path) -> None:
+    long, twice = b"GET / HTTP/1.1\r\nX: %b\r\n\r\n" % (b"a" * 20_000), b"GET / HTTP/1.1\r\nHost: a\r\nHost: b\r\n\r\n"
+    async with process(tmp_path / "class", stderr=subprocess.PIPE) as room:
+        for request in (b"\x16\x03\x01\x02\x00\x01\x00\x01\xfc\x03\x03", b"one line\r\n\r\n", long, twice):
+            reader, writer = await asyncio.open_connection("127.0.0.1", room.port)
+            writer.write(request)
+            assert (await asyncio.wait_for(reader.readline(), SECONDS)).endswith(b" 400 Bad Request\r\n")
+            writer.close()
+        assert await room.end() == 0
+        assert room.server and room.server.stderr
+        assert await room.server.stderr.read() == b""
 
 
 async def test_clients_that_do_not_read(room: Served) -> None:
