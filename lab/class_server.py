@@ -19,6 +19,7 @@ from aiohttp import WSMsgType, web
 from aiohttp.http import HttpProcessingError
 
 from .class_seats import TEACHER
+from .class_store import BadFolder
 from .class_view import Class, Message, Tab
 from .lesson_page import content_policy, page_text
 
@@ -123,6 +124,10 @@ class Server:
         data = room.session.script
         if request.match_info["what"] == "transcript":
             data = await asyncio.to_thread(_transcript, room.session.command, data)
+            try:
+                self.members.store.check_program()
+            except BadFolder as error:
+                raise web.HTTPServiceUnavailable from error
         return web.Response(body=data, content_type="text/plain")
 
     async def _socket(self, request: web.Request) -> web.WebSocketResponse:
@@ -212,7 +217,10 @@ async def served(members: Class, host: str, port: int, names: set[str]) -> Async
 
 
 async def serve(members: Class, host: str, port: int, names: set[str]) -> None:
-    """Serves a class until SIGINT or SIGTERM. Raises OSError where the address can't be had."""
+    """Serves a class until SIGINT or SIGTERM.
+
+    Raises OSError where the address can't be had, and BadFolder once the program was replaced, as by an upgrade.
+    """
     sys.setswitchinterval(0.0005)  # so long a machine's thread waits for the event loop's, which may be busy
     most = resource.getrlimit(resource.RLIMIT_NOFILE)[1]
     resource.setrlimit(resource.RLIMIT_NOFILE, (most, most))
@@ -221,7 +229,10 @@ async def serve(members: Class, host: str, port: int, names: set[str]) -> None:
         loop.add_signal_handler(sign, ended.set)
     async with served(members, host, port, names) as own_port:
         _announce(host, own_port, members.codes.codes[TEACHER])
-        await ended.wait()
+        while not ended.is_set():
+            members.store.check_program()
+            with contextlib.suppress(asyncio.TimeoutError):
+                await asyncio.wait_for(ended.wait(), 1)
 
 
 def _is_ours(record: logging.LogRecord) -> bool:

@@ -112,6 +112,7 @@ class Store:
     def _open(self, images: Mapping[str, pathlib.Path], quantum: int | None, machines: int | None) -> None:
         kept = self.read("class.json")
         facts = self._facts(kept, images, quantum, machines) if kept else self._begin(images, quantum, machines)
+        self._program_digest: str = facts["program"]
         self.quantum: int = facts["quantum"]
         self.machines = LETTERS[: facts["machines"]]
         self.images = {name: self._image(name) for name in facts["images"]}
@@ -124,8 +125,15 @@ class Store:
         os.close(self._lock)
 
     def session(self, patience: float) -> Session:
-        """A new machine of this class."""
-        return Session(self.program, self.images, quantum=self.quantum, patience=patience)
+        """A new machine of this class, of which each process has the program that the class was begun with."""
+        check = self.check_program
+        return Session(self.program, self.images, quantum=self.quantum, patience=patience, check=check)
+
+    def check_program(self) -> None:
+        """Raises BadFolder where another program stands in the place of this one, as after an upgrade."""
+        with contextlib.suppress(FileNotFoundError):
+            if _digest(self.program) != self._program_digest:
+                raise BadFolder(f"the class has ended, since {self.program} is another program now")
 
     def read(self, name: str) -> dict[str, Any]:
         """An object that was kept; an empty one if there is none."""

@@ -10,7 +10,7 @@ import pathlib
 import select
 import signal
 import subprocess
-from collections.abc import Mapping, Sequence
+from collections.abc import Callable, Mapping, Sequence
 
 from . import LabError
 from .lines import BadLine, OutOfStep, check_line, is_look, is_refusal, is_whole, words_of
@@ -140,11 +140,12 @@ class Session(contextlib.AbstractContextManager["Session"]):
         patience: float = 30.0,
         script: bytes = b"",
         script_bytes: int = SCRIPT_BYTES,
+        check: Callable[[], None] = lambda: None,
     ) -> None:
         """Starts the program with these images by name, and does what the script has.
 
-        A process hangs that says nothing for `patience` seconds. The script has room for `script_bytes`. Raises as `do`
-        does.
+        A process hangs that says nothing for `patience` seconds. The script has room for `script_bytes`. `check` is
+        called once a process has started, and raises where that mustn't be used. Raises as `do` does.
         """
         self.quantum = 100 if quantum is None else quantum
         options = [] if quantum is None else ["--quantum", str(quantum)]
@@ -152,6 +153,7 @@ class Session(contextlib.AbstractContextManager["Session"]):
         self.command = [str(program), *options, "--", "/dev/stdin", *words]  # images are taken after a script alone
         self._patience = patience
         self._script_bytes = script_bytes
+        self._check = check
         self._script = bytearray()
         self._answers = hashlib.sha256()
         self._marks = bytearray()  # the first bytes of the digest after each line: where a replay differs first
@@ -267,6 +269,7 @@ class Session(contextlib.AbstractContextManager["Session"]):
         try:
             if process.ask(["* list"]) != [[NEW_MACHINE]]:
                 raise OutOfStep("the program doesn't begin with a new machine")
+            self._check()
             for number, line in enumerate(self._script.decode("ascii").splitlines(), 1):
                 if self._has_ended:
                     break

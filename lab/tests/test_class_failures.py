@@ -57,6 +57,31 @@ async def test_a_server_that_is_told_to_end(tmp_path: pathlib.Path, sign: signal
         assert script.splitlines() == [f"1 {line}" for line in LOOP]
 
 
+async def test_a_program_that_is_replaced(tmp_path: pathlib.Path) -> None:
+    program, old, new = (tmp_path / name for name in ("vecmon", "old", "new"))
+    shutil.copy(find_program(), program)
+    new.write_bytes(program.read_bytes() + b"\0")
+    new.chmod(0o755)
+    environment = os.environ | {"VECMON": str(program)}
+    async with process(tmp_path / "class", env=environment, stderr=asyncio.subprocess.PIPE) as room:
+        tab = await room.sit("A1")
+        await tab.do(*LOOP, "step 7")
+        assert room.server and room.server.stderr
+        program.rename(old)
+        new.rename(program)  # as an upgrade does it
+        os.kill(room.machine(), signal.SIGKILL)
+        with pytest.raises((EOFError, AssertionError)):
+            await tab.do("step 1")  # which no new program carries out
+        assert await asyncio.wait_for(room.server.wait(), SECONDS) == 2
+        errors = (await room.server.stderr.read()).decode()
+    assert errors == f"vecmon-lab: the class has ended, since {program} is another program now\n"
+    assert (tmp_path / "class" / "A.script").read_text().count("step") == 1
+    async with process(tmp_path / "class", env=environment | {"VECMON": str(old)}) as room:
+        tab = await room.sit("A1")
+        assert await tab.do("step 1") == [["stepped 1 pc=0000000000010000"]]
+        assert await room.end() == 0
+
+
 async def test_a_server_that_is_killed_and_begun_again(tmp_path: pathlib.Path) -> None:
     folder = tmp_path / "class"
     async with process(folder) as room:
@@ -107,17 +132,16 @@ async def test_a_script_that_is_answered_otherwise(tmp_path: pathlib.Path, progr
 
 
 async def test_a_replay_that_differs_stops_the_class(tmp_path: pathlib.Path) -> None:
-    program = tmp_path / "vecmon"
-    shutil.copy(find_program(), program)
+    program, word = tmp_path / "vecmon", tmp_path / "word"
+    program.write_text(f"#!/bin/sh\n{find_program()} | sed -u s/00128293/$(cat {word})/\n")
+    program.chmod(0o755)
+    word.write_text("00128293")
     members = Class(Store(tmp_path / "class", program), 5.0)
     room = members.rooms["A"]
     for line in LOOP:
         await room.lines(room.seats["1"], [line], [], 0, [])
-    program.unlink()
-    program.write_text(f"#!/bin/sh\nsed -u s/00128293/00128293/ | {find_program()} | sed -u s/00128293/00128294/\n")
-    program.chmod(0o755)
-    assert room.session.process
-    os.kill(room.session.process, signal.SIGKILL)
+    word.write_text("00128294")
+    room.session.close()
     for _ in range(2):
         with pytest.raises(Stopped, match="in doubt.*line 3, '1 asm 10000 .*now with '1 0000000000010000 00128294'"):
             await room.lines(room.seats["1"], ["step 1"], [], 0, [])
