@@ -20,6 +20,7 @@ SUMMARIES: dict[str, str] = {  # lab/NAME.py has `add_arguments(parser)`, and `r
     "gdb": "a machine with an image, for gdb's target remote",
     "vectors": "golden results of single instructions, for tests of an emulator, a core or a compiler",
     "grade": "which answers to an exercise are right, and where each other one goes wrong first",
+    "check": "whether the program answers README's first script, and on what program and lab stand",
 }
 
 
@@ -32,6 +33,27 @@ class _Parser(argparse.ArgumentParser):
 
 def main() -> int:
     """Carries out the command that the program's words name; its status is 2, after one line, for bad input."""
+    try:
+        arguments = _arguments()
+        status: int = arguments.run(arguments)
+        return status
+    except KeyboardInterrupt:
+        return 130
+    except LabError as error:
+        mistake = str(error)
+    except ModuleNotFoundError as error:
+        mistake = f"this needs the Python library {error.name}, which isn't installed"
+    except BrokenPipeError:  # whoever reads has gone, as `head` does; what is left is written nowhere
+        os.dup2(os.open(os.devnull, os.O_WRONLY), sys.stdout.fileno())
+        return 141
+    except OSError as error:
+        mistake = f"{error.filename}: {error.strerror}" if error.filename else str(error)
+    print(f"vecmon-lab: {mistake}", file=sys.stderr)
+    return 2
+
+
+def _arguments() -> argparse.Namespace:
+    """What the program's words are, with the function `run` of the command that they name."""
     parser = _Parser(prog="vecmon-lab", description="A front end for vecmon, the trainer machine for RISC-V vectors.")
     commands = parser.add_subparsers(dest="command", metavar="COMMAND", required=True)
     for name, summary in SUMMARIES.items():
@@ -40,21 +62,7 @@ def main() -> int:
             module = importlib.import_module(f"lab.{name}")
             module.add_arguments(command)
             command.set_defaults(run=module.run)
-    arguments = parser.parse_args()
-    try:
-        status: int = arguments.run(arguments)
-        return status
-    except KeyboardInterrupt:
-        return 130
-    except LabError as error:
-        mistake = str(error)
-    except BrokenPipeError:  # whoever reads has gone, as `head` does; what is left is written nowhere
-        os.dup2(os.open(os.devnull, os.O_WRONLY), sys.stdout.fileno())
-        return 141
-    except OSError as error:
-        mistake = f"{error.filename}: {error.strerror}" if error.filename else str(error)
-    print(f"vecmon-lab: {mistake}", file=sys.stderr)
-    return 2
+    return parser.parse_args()
 
 
 if __name__ == "__main__":

@@ -57,6 +57,13 @@ def test_wrong_words(words: list[str]) -> None:
     assert run.stderr.startswith("vecmon-lab: ")
 
 
+def test_a_library_that_is_missing() -> None:
+    code = "import sys; sys.modules['aiohttp'] = None; sys.argv[1:] = 'class', 'x'; from lab.__main__ import main; sys.exit(main())"
+    run = subprocess.run([sys.executable, "-c", code], cwd=TOP, capture_output=True, text=True)
+    assert (run.returncode, run.stdout) == (2, "")
+    assert run.stderr == "vecmon-lab: this needs the Python library aiohttp, which isn't installed\n"
+
+
 def test_what_is_imported_before_a_command_is_named() -> None:
     names = {"aiohttp", "prompt_toolkit", "elftools", "lab.machine"}
     code = f"import sys, lab.__main__; sys.exit(bool({names} & set(sys.modules)))"
@@ -73,6 +80,11 @@ def test_what_is_imported_before_a_command_is_named() -> None:
             "vecmon-lab: loop.s: No such file or directory\n",
         ),
         (OSError("odd"), 2, "vecmon-lab: odd\n"),
+        (
+            ModuleNotFoundError(name="elftools"),
+            2,
+            "vecmon-lab: this needs the Python library elftools, which isn't installed\n",
+        ),
         (KeyboardInterrupt(), 130, ""),
     ],
 )
