@@ -1,0 +1,40 @@
+# Installs the program that `rt ci` or `rt run` has built, the lab, manual pages and documents: it builds no program.
+#
+#     make install [prefix=/usr/local] [bindir=..] [mandir=..] [docdir=..] [DESTDIR=..]
+#
+# The lab lies in share/vecmon with all that it reads, as in the repository, so that it needs no documents to run.
+prefix = /usr/local
+bindir = $(prefix)/bin
+mandir = $(prefix)/share/man
+docdir = $(prefix)/share/doc/vecmon
+lab = $(prefix)/share/vecmon
+completions = $(prefix)/share/bash-completion/completions
+program = crates/vecmon/out/vecmon
+
+lab_files = README.md docs/INSTRUCTIONS.md lab/tests/vectors_on_qemu.py lab/tests/data/vectors_on_qemu.txt $(wildcard \
+    lab/*.py lab/examples/* lab/exercises/*/* lab/page/* lab/tables/* tests/command_lines/data/tour.page tests/command_lines/data/tour/*)
+documents = CHANGELOG.md CONTRIBUTING.md crates.txt crates/monitor_script/src/script.rt $(wildcard docs/*.md docs/pictures/*)
+copy = install -D -m 644
+link = ln -s -f -n --relative
+page = umask 022; packaging/manual_page $(1) $(2) $(3) docs/$(4) > "$(DESTDIR)$(mandir)/man$(2)/$(1).$(2)"
+
+install:
+	@test -x "$(program)" || { echo 'make install: there is no $(program): rt ci builds it' >&2; exit 2; }
+	@command -v lowdown > /dev/null || { echo 'make install: there is no lowdown, which makes the manual pages' >&2; exit 2; }
+	install -d "$(DESTDIR)$(mandir)/man1" "$(DESTDIR)$(mandir)/man5" "$(DESTDIR)$(docdir)/examples"
+	install -D -m 755 "$(program)" packaging/vecmon-lab -t "$(DESTDIR)$(bindir)"
+	sed -i 's,\.\./share/vecmon,$(shell realpath -m --relative-to="$(bindir)" "$(lab)"),' "$(DESTDIR)$(bindir)/vecmon-lab"
+	for file in $(lab_files); do $(copy) $$file "$(DESTDIR)$(lab)/$$file" || exit; done
+	for file in $(documents); do $(copy) $$file "$(DESTDIR)$(docdir)/$$file" || exit; done
+	for file in README.md docs/INSTRUCTIONS.md lab; do $(link) "$(DESTDIR)$(lab)/$$file" "$(DESTDIR)$(docdir)/$$file" || exit; done
+	$(copy) crates/vecmon/first_vectors "$(DESTDIR)$(docdir)/examples/first_vectors"
+	$(link) "$(DESTDIR)$(lab)/lab/examples" "$(DESTDIR)$(docdir)/examples/sources"
+	$(link) "$(DESTDIR)$(lab)/lab/exercises" "$(DESTDIR)$(docdir)/examples/exercises"
+	$(link) "$(DESTDIR)$(lab)/tests/command_lines/data/tour" "$(DESTDIR)$(docdir)/examples/tour"
+	$(call page,vecmon,1,'trainer machine for the RISC-V vector extension',PROGRAM.md)
+	$(call page,vecmon-lab,1,'front end of vecmon with lessons and classes',LAB.md)
+	$(call page,vecmon-commands,5,'scripts and commands of vecmon',COMMANDS.md)
+	$(copy) packaging/completion "$(DESTDIR)$(completions)/vecmon"
+	$(link) "$(DESTDIR)$(completions)/vecmon" "$(DESTDIR)$(completions)/vecmon-lab"
+
+.PHONY: install
