@@ -226,31 +226,6 @@ fn perform_mask_access<M: UserBytes>(
     perform_plain(instr, is_load(direction), state, scalar, memory, limit)
 }
 
-/// Carries out a legal unit-stride load or store whose tail keeps.
-#[inline(always)]
-fn perform_block<M: UserBytes>(
-    access: UnitAccess,
-    state: &mut VState,
-    scalar: &Scalar,
-    memory: &mut M,
-    limit: usize,
-) -> VEnd
-    requires legal { IsTrue (is_legal (Instr.VectorUnit access.op access.width access.nf access.vd access.rs1 access.unmasked)
-        state.old.conf.vtype state.old.vstart) }
-    requires limit { 1 ≤ limit }
-    ensures model { (policy : AgnosticPolicy) (output : List ℕ)
-        → plain_step limit (is_unit_load access.op)
-        (Instr.VectorUnit access.op access.width access.nf access.vd access.rs1 access.unmasked)
-        (hart_state scalar.now state.old (M.memory memory.old) policy output)
-        ≡ vector_ends result (hart_state scalar.now state.new (M.memory memory.new) policy output) }
-    ensures memory { memory.new ≡ M.with_memory memory.old (M.memory memory.new) }
-    ensures carried_out { result ≢ VEnd.Illegal }
-{
-    let loads = is_unit_load(access.op);
-    let end = vector_memory::run_block(access, state, scalar, memory, limit);
-    access_end(loads, end)
-}
-
 /// Carries out a legal unit-stride load or store whose tail keeps at once, if all of its elements come at once. Answers
 /// whether it is done.
 #[inline(always)]
@@ -275,10 +250,10 @@ fn perform_whole_block<M: UserBytes>(
     run_whole_block(access, state, scalar, memory, limit)
 }
 
-/// Carries out a legal unit-stride load or store by way of its instruction.
+/// Carries out a legal unit-stride load or store, of at most `limit` indices.
 #[tactic(auto, unfolding(rv_model::specs::step::VectorStep::performed))]
 #[inline(never)]
-fn perform_unit_part<M: UserBytes>(
+pub(crate) fn perform_unit<M: UserBytes>(
     access: UnitAccess,
     state: &mut VState,
     scalar: &Scalar,
@@ -313,42 +288,6 @@ fn perform_unit_part<M: UserBytes>(
         access.unmasked,
     );
     perform_segments(&instr, segments, state, scalar, memory, limit, policy)
-}
-
-/// Carries out a legal unit-stride load or store, of at most `limit` indices.
-#[inline(always)]
-pub(crate) fn perform_unit<M: UserBytes>(
-    access: UnitAccess,
-    state: &mut VState,
-    scalar: &Scalar,
-    memory: &mut M,
-    limit: usize,
-    policy: Policy,
-) -> VEnd
-    requires legal { IsTrue (is_legal (Instr.VectorUnit access.op access.width access.nf access.vd access.rs1 access.unmasked)
-        state.old.conf.vtype state.old.vstart) }
-    requires limit { 1 ≤ limit }
-    ensures model { (output : List ℕ)
-        → performed limit (Instr.VectorUnit access.op access.width access.nf access.vd access.rs1 access.unmasked)
-        (hart_state scalar.now state.old (M.memory memory.old) policy output)
-        ≡ vector_ends result (hart_state scalar.now state.new (M.memory memory.new) policy output) }
-    ensures memory { memory.new ≡ M.with_memory memory.old (M.memory memory.new) }
-    ensures illegal_state { result ≡ VEnd.Illegal → state.new ≡ state.old }
-    ensures illegal_memory { result ≡ VEnd.Illegal → memory.new ≡ memory.old }
-{
-    if let Policy::Keep = policy {
-        return perform_block(access, state, scalar, memory, limit);
-    }
-    // A copy of its own for the other function, so that the operands need no place in memory before.
-    let copy = UnitAccess {
-        op: access.op,
-        width: access.width,
-        nf: access.nf,
-        vd: access.vd,
-        rs1: access.rs1,
-        unmasked: access.unmasked,
-    };
-    perform_unit_part(copy, state, scalar, memory, limit, policy)
 }
 
 /// Carries out a legal unit-stride load or store at once, if its tail and its elements that are masked off keep and
@@ -405,11 +344,11 @@ pub(crate) fn perform_access<M: UserBytes>(
             width,
             nf,
             vd,
-            rs1,
             vm,
+            ..
         } => {
-            let access = UnitAccess::new(op, width, nf, vd, rs1, vm);
-            perform_unit(access, state, scalar, memory, limit, policy)
+            let segments = SegmentAccess::new(is_unit_load(op), Some(width), nf, vd, vm);
+            perform_segments(instr, segments, state, scalar, memory, limit, policy)
         }
         Instr::VectorStrided {
             direction,

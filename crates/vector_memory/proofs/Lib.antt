@@ -1,7 +1,9 @@
+pub mod Blends
 pub mod BlockMoves
+pub mod FieldSteps
 pub mod OneField
 pub mod Outcomes
-pub mod PartBlocks
 pub mod Room
-pub mod UnitStride
+pub mod SpanMoves
+pub mod Strides
 pub mod WholeBlocks

@@ -17,8 +17,10 @@ use Rattle.rv_model.specs.declared.vector.sizes.TheConstants.{FILE_BYTES, VLENB}
 use Rattle.rv_model.specs.declared.vector.state.VState.{VState}
 use Rattle.rv_model.specs.declared.vector.types.VType.{VType}
 use Rattle.rv_model.specs.accesses.AccessRuns.{AccessRun, access_run, load_ends, load_run, runs_to, store_ends, store_run, typed_run, unit_run}
-use Rattle.rv_model.specs.accesses.VectorAccess.{VectorAccess, access_type}
+use Rattle.rv_model.specs.accesses.Transfers.{end_at, loaded, stop_index, stored, transfers}
+use Rattle.rv_model.specs.accesses.VectorAccess.{VectorAccess, access_type, plan}
 use Rattle.rv_model.specs.elements.Arithmetic.{body_of}
+use Rattle.rv_model.specs.elements.Elements.{Body}
 use Rattle.rv_model.specs.legality.Legality.{is_legal, operands}
 use Rattle.rv_model.specs.memory.Memory.{Memory, bytes_at, can_access, put_bytes}
 use Rattle.rv_model.specs.scalar.Registers.{read_register}
@@ -27,11 +29,55 @@ use Rattle.rv_model.specs.vector.Configuration.{IsConfiguration, IsLength}
 use Rattle.rv_model.specs.vector.Registers.{registers}
 use Rattle.rv_model.proofs.legality_lemmas.Accesses.{unit_inside}
 use Rattle.vector_memory.specs.Blocks.{IsBlock}
-use Rattle.vector_memory.specs.SegmentRoom.{access_of}
+use Rattle.vector_memory.specs.SegmentRoom.{access_of, place_in}
 use Rattle.vector_memory.specs.WholeBlocks.{element_size, unit_address, unit_segments}
 use Rattle.vector_memory.specs.declared.blocks.Block.{Block}
 use Rattle.vector_memory.specs.declared.segments.Segments.{Segments}
-use Rattle.vector_memory.proofs.PartBlocks.{part_loaded, part_stored}
+use Rattle.vector_memory.proofs.BlockMoves.{block_ends, loads_block, stores_block}
+
+-- ---- a block of elements
+
+-- a load that doesn't fault ends like any other
+ends_alike : (first_only : Bool) (v : VState) (m : Memory) (is_cut : Bool) (stop : ℕ)
+    → load_ends first_only v m (cond is_cut (Cut stop) Done) ≡ load_ends false v m (cond is_cut (Cut stop) Done)
+ends_alike first_only v m true stop = refl
+ends_alike first_only v m false stop = refl
+
+module _ (s : Segments) (address : ℕ → ℕ) (b : Block) (v : VState) (m : Memory) (limit stop : ℕ)
+    (is : IsBlock s (body_of true v) address stop b) (reach : stop ≡ min v.conf.vl (v.vstart + limit)) where
+  -- how an instruction ends that moves it
+  abbrev pub part_end : MemEnd
+  part_end = cond (nat_lt stop v.conf.vl) (Cut stop) Done
+
+  pub part_loaded : (first_only : Bool) (file : List ℕ)
+      → can_access Load m b.address b.length ≡ true → file ≡ put_chunk b.place v.file (bytes_at m b.address b.length)
+      → load_run limit first_only false (access_of s (body_of true v) address) v m ≡ load_ends false (record v { file = file }) m part_end
+  unfolding load_run
+  part_loaded first_only file all moved =
+      let body : Body = body_of true v in
+      let each = plan (access_of s body address) false in
+      let last : ℕ = stop_index Load m each v.vstart (v.vstart + limit) v.conf.vl in
+      let stopped = block_ends s body address stop b is false Load m limit reach all in
+      let left : loaded m (place_in s) v.file (transfers each v.vstart (last - v.vstart)) ≡ file =
+      ap (loaded m (place_in s) v.file) stopped.done ∙ sym (loads_block s body address stop b is false m v.file) ∙ sym moved in
+      ap (λ f. load_ends first_only (record v { file = f }) m (end_at Load m each (v.vstart + limit) v.conf.vl last)) left
+      ∙ ap (load_ends first_only (record v { file = file }) m) stopped.end
+      ∙ ends_alike first_only (record v { file = file }) m (nat_lt stop v.conf.vl) stop
+
+  pub part_stored : (more : Memory)
+      → can_access Store m b.address b.length ≡ true → more ≡ put_bytes m b.address (chunk b.place b.length v.file)
+      → length (chunk b.place b.length v.file) ≡ b.length
+      → store_run limit (access_of s (body_of true v) address) v m ≡ store_ends v more part_end
+  unfolding store_run
+  part_stored more all moved whole =
+      let body : Body = body_of true v in
+      let each = plan (access_of s body address) false in
+      let last : ℕ = stop_index Store m each v.vstart (v.vstart + limit) v.conf.vl in
+      let stopped = block_ends s body address stop b is false Store m limit reach all in
+      let left : stored m (place_in s) v.file (transfers each v.vstart (last - v.vstart)) ≡ more =
+      ap (stored m (place_in s) v.file) stopped.done ∙ sym (stores_block s body address stop b is false m v.file whole) ∙ sym moved in
+      ap (λ n. store_ends v n (end_at Store m each (v.vstart + limit) v.conf.vl last)) left
+      ∙ ap (store_ends v more) stopped.end
 
 -- ---- a block of all elements
 

@@ -1,8 +1,6 @@
 //! Where the segments of a load or store begin ("V" Vector Extension 1.0, sections 7.4 to 7.6).
-ghost use Rattle.std.specs.Prelude.{◌≡◌, ◌+◌, ◌*◌, ◌%◌, ◌^◌, ⊤, ℕ, true, pos, ◌+ℤ◌, ◌*ℤ◌};
-ghost use Rattle.std.specs.Int.{cast_signed, w64};
+ghost use Rattle.std.specs.Prelude.{◌≡◌, ◌+◌, ◌*◌, ◌%◌, ◌^◌, ⊤, ℕ, IfSome};
 ghost use Rattle.rv_model.specs.elements.Elements.{element, HasElement};
-ghost use Rattle.rv_model.specs.elements.Formulas.{wrap};
 ghost use Rattle.rv_model.specs.vector.Configuration.{element_width, sew_width, width_bytes};
 
 use lane_arith::Lane;
@@ -21,36 +19,12 @@ pub(crate) trait Addresses {
         requires { has self.now index }
         ensures { result ≡ address self.now index };
 
-    /// Whether segments of `size` bytes follow one another without a gap.
-    fn are_contiguous(&self, size: usize) -> bool
-        ensures { result ≡ true → (i k : ℕ) → address self.now (i + k) ≡ (address self.now i + k * size) % 2 ^ 64 };
+    /// How many bytes after one segment the next begins, where it does so for each.
+    fn distance(&self) -> Option<usize>
+        ensures { IfSome result (λ distance. (i k : ℕ) → address self.now (i + k) ≡ (address self.now i + k * distance) % 2 ^ 64) };
 }
 
-/// Segments that follow one another, `size` bytes each, from one at `base` on.
-#[derive(Clone, Copy)]
-pub(crate) struct UnitStride {
-    pub base: u64,
-    pub size: u64,
-}
-
-impl Addresses for UnitStride {
-    ghost address = { λ s i. (s.base + i * s.size) % 2 ^ 64 };
-
-    ghost has = { λ s i. ⊤ };
-
-    #[inline(always)]
-    fn address(&self, index: usize) -> u64 {
-        self.base.wrapping_add(self.size.wrapping_mul(index as u64))
-    }
-
-    #[tactic(auto, using(crate::proofs::UnitStride::steps))]
-    #[inline(always)]
-    fn are_contiguous(&self, size: usize) -> bool {
-        self.size == size as u64
-    }
-}
-
-/// Segments at a distance of `stride` bytes, a signed number in two's complement, from one at `base` on.
+/// Segments at a distance of `stride` bytes, modulo 2 ^ 64, from one at `base` on.
 #[derive(Clone, Copy)]
 pub(crate) struct Strided {
     pub base: u64,
@@ -58,20 +32,20 @@ pub(crate) struct Strided {
 }
 
 impl Addresses for Strided {
-    ghost address = { λ s i. wrap w64 (pos s.base +ℤ pos i *ℤ cast_signed w64 s.stride) };
+    ghost address = { λ s i. (s.base + i * s.stride) % 2 ^ 64 };
 
     ghost has = { λ s i. ⊤ };
 
-    #[tactic(auto, using(rv_model::proofs::access_lemmas::Addresses::stride_sum))]
     #[inline(always)]
     fn address(&self, index: usize) -> u64 {
         self.base
             .wrapping_add(self.stride.wrapping_mul(index as u64))
     }
 
+    #[tactic(auto, using(crate::proofs::Strides::steps))]
     #[inline(always)]
-    fn are_contiguous(&self, _size: usize) -> bool {
-        false
+    fn distance(&self) -> Option<usize> {
+        Some(self.stride as usize)
     }
 }
 
@@ -101,7 +75,7 @@ impl Addresses for Indexed<'_> {
     }
 
     #[inline(always)]
-    fn are_contiguous(&self, _size: usize) -> bool {
-        false
+    fn distance(&self) -> Option<usize> {
+        None
     }
 }

@@ -50,34 +50,3 @@ impl Block {
         memory.write(self.address, Access::Store, bytes)
     }
 }
-
-/// The block of the indices of a body up to `stop`, where they are contiguous and not masked.
-#[inline(always)]
-pub(crate) fn block_of<A: Addresses>(
-    segments: &Segments,
-    addresses: &A,
-    body: &Body<'_>,
-    stop: usize,
-) -> Option<Block>
-    requires stop { stop ≤ body.now.end }
-    requires room { HasRoom segments.now body.now.end }
-    requires count { body.now.end ≤ GROUP_BYTES }
-    requires addresses { (i : ℕ) → i < body.now.end → A.has addresses.now i }
-    ensures { IfSome result (IsBlock segments.now body.now (A.address addresses.now) stop) }
-{
-    let start = body.start();
-    if stop <= start || !body.is_unmasked() || segments.fields != 1 {
-        return None;
-    }
-    if !addresses.are_contiguous(segments.size) {
-        return None;
-    }
-    let address = addresses.address(start);
-    let length = (stop - start) * segments.size;
-    address.checked_add(length as u64)?;
-    Some(Block {
-        address,
-        place: segments.place(start, 0),
-        length,
-    })
-}

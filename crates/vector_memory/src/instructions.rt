@@ -14,10 +14,11 @@ ghost use Rattle.rv_model.specs.vector.Registers.{register_of, registers};
 ghost use Rattle.vector_memory.specs.AccessKinds.{is_distance_access, is_offset_access, is_register_access, is_segment_access};
 ghost use Rattle.vector_memory.specs.SegmentRoom.{HasRoom, access_of};
 
-use crate::addresses::{Indexed, Strided, UnitStride};
+use crate::addresses::{Indexed, Strided};
 use crate::length::{element_bytes, mask_length, whole_length};
-use crate::runs::{Extent, run_direction, run_unit};
+use crate::runs::{Extent, run_unit};
 use crate::segments::Segments;
+use crate::transfers::{Transfer, operation};
 use crate::user_bytes::UserBytes;
 use lane_arith::Body;
 use reg_groups::{emul, group_copy, mask_register, register_count, registers};
@@ -63,16 +64,19 @@ fn run_unit_stride<M: UserBytes>(
         state.old (M.memory memory.old) ≡ runs_to result state.new (M.memory memory.new) }
     ensures others { memory.new ≡ M.with_memory memory.old (M.memory memory.new) }
 {
-    let mask = mask_register(&state.file);
-    let start = usize::from(state.vstart);
-    let body = Body::new(unmasked, &mask, start, usize::from(state.conf.vl()));
-    let size = (segments.fields * segments.size) as u64;
-    let addresses = UnitStride { base, size };
-    run_unit(op, segments, &addresses, &body, extent, memory, state)
+    let stride = (segments.fields * segments.size) as u64;
+    let transfer = Transfer {
+        op,
+        unmasked,
+        segments: *segments,
+        addresses: Strided { base, stride },
+        count: usize::from(state.conf.vl()),
+    };
+    transfer.run(extent, memory, state)
 }
 
 /// Loads or stores segments at a distance of `stride` bytes from `base` on.
-#[inline(never)]
+#[inline(always)]
 fn run_strided<M: UserBytes>(
     direction: Direction,
     segments: &Segments,
@@ -89,12 +93,14 @@ fn run_strided<M: UserBytes>(
         state.old (M.memory memory.old) ≡ runs_to result state.new (M.memory memory.new) }
     ensures others { memory.new ≡ M.with_memory memory.old (M.memory memory.new) }
 {
-    let mask = mask_register(&state.file);
-    let start = usize::from(state.vstart);
-    let body = Body::new(unmasked, &mask, start, usize::from(state.conf.vl()));
-    run_direction(
-        direction, segments, &addresses, &body, extent, memory, state,
-    )
+    let transfer = Transfer {
+        op: operation(direction),
+        unmasked,
+        segments: *segments,
+        addresses,
+        count: usize::from(state.conf.vl()),
+    };
+    transfer.run(extent, memory, state)
 }
 
 /// A group of offsets in bytes: its first register, the width of an offset, and the multiplier in eighths of
@@ -137,13 +143,12 @@ fn run_indexed<M: UserBytes>(
         offsets: group_copy(&state.file, offsets.first, offsets.emul, &mut copy),
         width: offsets.width,
     };
-    run_direction(
-        direction, segments, &addresses, &body, extent, memory, state,
-    )
+    let op = operation(direction);
+    run_unit(op, segments, &addresses, &body, extent, memory, state)
 }
 
 /// Loads or stores so many elements that follow one another from `base` on, none of them masked off.
-#[inline(never)]
+#[inline(always)]
 fn run_unmasked<M: UserBytes>(
     direction: Direction,
     segments: &Segments,
@@ -161,17 +166,21 @@ fn run_unmasked<M: UserBytes>(
         state.old (M.memory memory.old) ≡ runs_to result state.new (M.memory memory.new) }
     ensures others { memory.new ≡ M.with_memory memory.old (M.memory memory.new) }
 {
-    let mask = mask_register(&state.file);
-    let body = Body::new(true, &mask, usize::from(state.vstart), length);
-    let size = segments.size as u64;
-    let addresses = UnitStride { base, size };
+    let transfer = Transfer {
+        op: operation(direction),
+        unmasked: true,
+        segments: *segments,
+        addresses: Strided {
+            base,
+            stride: segments.size as u64,
+        },
+        count: length,
+    };
     let extent = Extent {
         limit,
         fill_masked_off: false,
     };
-    run_direction(
-        direction, segments, &addresses, &body, extent, memory, state,
-    )
+    transfer.run(extent, memory, state)
 }
 
 /// A load or store at a distance, under a vector type.

@@ -7,9 +7,9 @@ ghost use Rattle.rv_model.specs.memory.Memory.{Memory};
 ghost use Rattle.vector_memory.specs.SegmentRoom.{HasRoom, StopsBefore, access_of, place_in};
 
 use crate::addresses::Addresses;
-use crate::blocks::block_of;
 use crate::ends::end_without_fault;
 use crate::segments::Segments;
+use crate::spans::span_of;
 use crate::user_bytes::UserBytes;
 use lane_arith::Body;
 use rv_model::{Access, Fault, GROUP_BYTES, MemEnd, VFile};
@@ -93,26 +93,27 @@ fn load_each<M: UserBytes, A: Addresses>(
     end_without_fault(stop, body.end())
 }
 
-/// Loads the indices of the body at once, where they are contiguous and each may be loaded.
+/// Loads the indices of the body at once, where they lie close together and all bytes between them may be loaded.
 #[inline(always)]
-fn load_block<M: UserBytes, A: Addresses>(
+fn load_span<M: UserBytes, A: Addresses>(
     memory: &M,
     segments: &Segments,
     addresses: &A,
     body: &Body<'_>,
     limit: usize,
+    fill_masked_off: bool,
     file: &mut VFile,
 ) -> Option<MemEnd>
     requires room { HasRoom segments.now body.now.end }
     requires count { body.now.end ≤ GROUP_BYTES }
     requires addresses { (i : ℕ) → i < body.now.end → A.has addresses.now i }
-    ensures end { IfSome result (λ end. (fill_masked_off : Bool) → end ≡ end_at Load (M.memory memory.now)
+    ensures end { IfSome result (λ end. end ≡ end_at Load (M.memory memory.now)
         (plan (access_of segments.now body.now (A.address addresses.now)) fill_masked_off)
         (body.now.start + limit) body.now.end
         (stop_index Load (M.memory memory.now)
         (plan (access_of segments.now body.now (A.address addresses.now)) fill_masked_off)
         body.now.start (body.now.start + limit) body.now.end)) }
-    ensures value { IfSome result (λ end. (fill_masked_off : Bool) → file.new
+    ensures value { IfSome result (λ end. file.new
         ≡ loaded (M.memory memory.now) (place_in segments.now) file.old
         (transfers (plan (access_of segments.now body.now (A.address addresses.now)) fill_masked_off) body.now.start
         (stop_index Load (M.memory memory.now)
@@ -122,10 +123,10 @@ fn load_block<M: UserBytes, A: Addresses>(
     ensures unchanged { IfNone result (file.new ≡ file.old) }
 {
     let stop = body.start().saturating_add(limit).min(body.end());
-    let block = block_of(segments, addresses, body, stop)?;
-    let Ok(()) = block.load(memory, file) else {
+    let span = span_of(segments, addresses, body, stop)?;
+    if !span.load(memory, segments, body, stop, fill_masked_off, file) {
         return None;
-    };
+    }
     Some(end_without_fault(stop, body.end()))
 }
 
@@ -156,16 +157,24 @@ pub(crate) fn load<M: UserBytes, A: Addresses>(
         body.now.start (body.now.start + limit) body.now.end - body.now.start)) }
     ensures least { StopsBefore body.now.end result }
 {
-    match load_block(memory, segments, addresses, body, limit, file) {
-        Some(end) => end,
-        None => load_each(
-            memory,
-            segments,
-            addresses,
-            body,
-            limit,
-            fill_masked_off,
-            file,
-        ),
+    if let Some(end) = load_span(
+        memory,
+        segments,
+        addresses,
+        body,
+        limit,
+        fill_masked_off,
+        file,
+    ) {
+        return end;
     }
+    load_each(
+        memory,
+        segments,
+        addresses,
+        body,
+        limit,
+        fill_masked_off,
+        file,
+    )
 }

@@ -1,7 +1,7 @@
 //! Loads and stores of segments, with what they leave of the vector state ("V" Vector Extension 1.0, sections
 //! 7.4 to 7.9).
 ghost use Rattle.std.specs.Prelude.{◌≡◌, ◌≤◌, ◌<◌, ℕ, true, false};
-ghost use Rattle.rv_model.specs.accesses.AccessRuns.{direction_run, load_run, runs_to, store_run, unit_run};
+ghost use Rattle.rv_model.specs.accesses.AccessRuns.{load_run, runs_to, store_run, unit_run};
 ghost use Rattle.vector_memory.specs.SegmentRoom.{HasRoom, access_of};
 
 use crate::addresses::Addresses;
@@ -11,7 +11,7 @@ use crate::segments::Segments;
 use crate::stores::store;
 use crate::user_bytes::UserBytes;
 use lane_arith::Body;
-use rv_model::instructions::operations::{Direction, UnitOp};
+use rv_model::instructions::operations::UnitOp;
 use rv_model::{GROUP_BYTES, MemEnd, VState};
 
 /// How many indices a load or store may come to, and whether the elements that are masked off become all
@@ -107,31 +107,6 @@ fn store_segments<M: UserBytes, A: Addresses>(
 
 /// Loads or stores segments.
 #[inline(always)]
-pub(crate) fn run_direction<M: UserBytes, A: Addresses>(
-    direction: Direction,
-    segments: &Segments,
-    addresses: &A,
-    body: &Body<'_>,
-    extent: Extent,
-    memory: &mut M,
-    state: &mut VState,
-) -> MemEnd
-    requires room { HasRoom segments.now body.now.end }
-    requires count { body.now.end ≤ GROUP_BYTES }
-    requires addresses { (i : ℕ) → i < body.now.end → A.has addresses.now i }
-    ensures run { direction_run direction extent.limit extent.fill_masked_off
-        (access_of segments.now body.now (A.address addresses.now)) state.old (M.memory memory.old)
-        ≡ runs_to result state.new (M.memory memory.new) }
-    ensures others { memory.new ≡ M.with_memory memory.old (M.memory memory.new) }
-{
-    match direction {
-        Direction::Load => load_segments(segments, addresses, body, extent, memory, state),
-        Direction::Store => store_segments(segments, addresses, body, extent.limit, memory, state),
-    }
-}
-
-/// Loads or stores segments that follow one another.
-#[inline(always)]
 pub(crate) fn run_unit<M: UserBytes, A: Addresses>(
     op: UnitOp,
     segments: &Segments,
@@ -143,7 +118,7 @@ pub(crate) fn run_unit<M: UserBytes, A: Addresses>(
 ) -> MemEnd
     requires room { HasRoom segments.now body.now.end }
     requires count { body.now.end ≤ GROUP_BYTES }
-    requires length { body.now.end ≡ state.old.conf.vl }
+    requires length { op ≡ UnitOp.FaultOnlyFirst → body.now.end ≡ state.old.conf.vl }
     requires addresses { (i : ℕ) → i < body.now.end → A.has addresses.now i }
     ensures run { unit_run op extent.limit extent.fill_masked_off
         (access_of segments.now body.now (A.address addresses.now)) state.old (M.memory memory.old)

@@ -6,9 +6,9 @@ ghost use Rattle.rv_model.specs.accesses.VectorAccess.{plan};
 ghost use Rattle.vector_memory.specs.SegmentRoom.{HasRoom, StopsBefore, access_of, place_in};
 
 use crate::addresses::Addresses;
-use crate::blocks::block_of;
 use crate::ends::end_without_fault;
 use crate::segments::Segments;
+use crate::spans::span_of;
 use crate::user_bytes::UserBytes;
 use lane_arith::Body;
 use rv_model::{Access, Fault, GROUP_BYTES, MemEnd, VFile};
@@ -81,9 +81,9 @@ fn store_each<M: UserBytes, A: Addresses>(
     end_without_fault(stop, body.end())
 }
 
-/// Stores the indices of the body at once, where they are contiguous and each may be stored.
+/// Stores the indices of the body at once, where they lie close together and all bytes between them may be stored.
 #[inline(always)]
-fn store_block<M: UserBytes, A: Addresses>(
+fn store_span<M: UserBytes, A: Addresses>(
     file: &VFile,
     segments: &Segments,
     addresses: &A,
@@ -111,10 +111,10 @@ fn store_block<M: UserBytes, A: Addresses>(
     ensures unchanged { IfNone result (memory.new ≡ memory.old) }
 {
     let stop = body.start().saturating_add(limit).min(body.end());
-    let block = block_of(segments, addresses, body, stop)?;
-    let Ok(()) = block.store(file, memory) else {
+    let span = span_of(segments, addresses, body, stop)?;
+    if !span.store(file, segments, body, stop, memory) {
         return None;
-    };
+    }
     Some(end_without_fault(stop, body.end()))
 }
 
@@ -145,8 +145,8 @@ pub(crate) fn store<M: UserBytes, A: Addresses>(
     ensures others { memory.new ≡ M.with_memory memory.old (M.memory memory.new) }
     ensures least { StopsBefore body.now.end result }
 {
-    match store_block(file, segments, addresses, body, limit, memory) {
-        Some(end) => end,
-        None => store_each(file, segments, addresses, body, limit, memory),
+    if let Some(end) = store_span(file, segments, addresses, body, limit, memory) {
+        return end;
     }
+    store_each(file, segments, addresses, body, limit, memory)
 }

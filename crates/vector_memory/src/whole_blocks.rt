@@ -2,7 +2,6 @@
 //! done ("V" Vector Extension 1.0, sections 7.4 and 7.7).
 ghost use Rattle.std.specs.Prelude.{◌≡◌, ◌+◌, ◌*◌, ◌≤◌, Bool, IsTrue, IfSome, ℕ, true, false};
 ghost use Rattle.rv_model.specs.accesses.AccessRuns.{access_run, load_run, runs_to, store_run, unit_run};
-ghost use Rattle.rv_model.specs.accesses.Restarts.{GoesOn};
 ghost use Rattle.rv_model.specs.declared.step.memory_end.MemEnd.TheVariants.{Done};
 ghost use Rattle.rv_model.specs.declared.vector.state.VState.{VState as VectorState};
 ghost use Rattle.rv_model.specs.elements.Arithmetic.{body_of};
@@ -13,13 +12,11 @@ ghost use Rattle.vector_memory.specs.WholeBlocks.{element_size, unit_address, un
 ghost use Rattle.vector_memory.specs.declared.segments.Segments.{Segments};
 
 use crate::blocks::Block;
-use crate::instructions::run;
 use crate::length::element_bytes;
-use crate::part_blocks::run_piece;
 use crate::unit_access::{UnitAccess, is_unit_load};
 use crate::user_bytes::UserBytes;
 use rv_model::instructions::operations::Width;
-use rv_model::{FILE_BYTES, Field, GROUP_BYTES, Instr, MemEnd, Scalar, VLENB, VReg, VState};
+use rv_model::{FILE_BYTES, Field, GROUP_BYTES, Instr, Scalar, VLENB, VReg, VState};
 
 /// Loads the block, if each of its bytes may be loaded; then the load is done.
 #[inline(always)]
@@ -148,99 +145,4 @@ pub fn run_whole_block<M: UserBytes>(
     state.conf.length_law();
     let base = scalar.read(access.rs1);
     run_whole(access, base, limit, memory, state)
-}
-
-/// Carries out the instruction however far it comes.
-#[inline(never)]
-fn run_part<M: UserBytes>(
-    access: UnitAccess,
-    state: &mut VState,
-    scalar: &Scalar,
-    memory: &mut M,
-    limit: usize,
-) -> MemEnd
-    requires legal { IsTrue (is_legal (Instr.VectorUnit access.op access.width access.nf access.vd access.rs1 access.unmasked)
-        state.old.conf.vtype state.old.vstart) }
-    requires limit { 1 ≤ limit }
-    ensures model { access_run limit false
-        (Instr.VectorUnit access.op access.width access.nf access.vd access.rs1 access.unmasked)
-        state.old scalar.now (M.memory memory.old)
-        ≡ runs_to result state.new (M.memory memory.new) }
-    ensures memory { memory.new ≡ M.with_memory memory.old (M.memory memory.new) }
-{
-    let UnitAccess {
-        op,
-        width,
-        nf,
-        vd,
-        rs1,
-        unmasked,
-    } = access;
-    state.conf.length_law();
-    let base = scalar.read(rs1);
-    if let Some(end) = run_piece(access, base, limit, memory, state) {
-        return end;
-    }
-    let instr = Instr::VectorUnit {
-        op,
-        width,
-        nf,
-        vd,
-        rs1,
-        vm: unmasked,
-    };
-    run(&instr, state, scalar, memory, limit, false)
-}
-
-/// Carries out a unit-stride load or store of a user by its operands, of at most `limit` indices from `vstart` on:
-/// of `nf` + 1 fields of elements of a width, masked by v0 unless it is unmasked. A load leaves its tail and its
-/// elements that are masked off as they are.
-#[inline(always)]
-pub fn run_block<M: UserBytes>(
-    access: UnitAccess,
-    state: &mut VState,
-    scalar: &Scalar,
-    memory: &mut M,
-    limit: usize,
-) -> MemEnd
-    requires legal { IsTrue (is_legal (Instr.VectorUnit access.op access.width access.nf access.vd access.rs1 access.unmasked)
-        state.old.conf.vtype state.old.vstart) }
-    requires limit { 1 ≤ limit }
-    ensures model { access_run limit false
-        (Instr.VectorUnit access.op access.width access.nf access.vd access.rs1 access.unmasked)
-        state.old scalar.now (M.memory memory.old)
-        ≡ runs_to result state.new (M.memory memory.new) }
-
-    // If it is cut or faults, it goes on from there, in a memory that may have grown.
-    ensures restarts { GoesOn false
-        (Instr.VectorUnit access.op access.width access.nf access.vd access.rs1 access.unmasked)
-        scalar.now state.old (M.memory memory.old)
-        (runs_to result state.new (M.memory memory.new)) }
-
-    // All else that the user's bytes hold stays.
-    ensures memory { memory.new ≡ M.with_memory memory.old (M.memory memory.new) }
-{
-    let UnitAccess {
-        op,
-        width,
-        nf,
-        vd,
-        rs1,
-        unmasked,
-    } = access;
-    state.conf.length_law();
-    let base = scalar.read(rs1);
-    if run_whole(access, base, limit, memory, state) {
-        return MemEnd::Done;
-    }
-    // Another value for the other function, so that the operands need no place in memory before.
-    let operands = UnitAccess {
-        op,
-        width,
-        nf,
-        vd,
-        rs1,
-        unmasked,
-    };
-    run_part(operands, state, scalar, memory, limit)
 }
