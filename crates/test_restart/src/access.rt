@@ -44,6 +44,19 @@ impl Form {
         }
     }
 
+    /// How many indices the access has under a vector length.
+    pub(crate) fn length(&self, vl: u16) -> usize {
+        let registers = if self.fields.value() == 0 { 1 } else { 2 };
+        match (self.kind, self.width) {
+            (Kind::Whole(_), Width::E8) => registers * 32,
+            (Kind::Whole(_), Width::E16) => registers * 16,
+            (Kind::Whole(_), Width::E32) => registers * 8,
+            (Kind::Whole(_), Width::E64) => registers * 4,
+            (Kind::Mask(_), _) => usize::from(vl.div_ceil(8)),
+            _ => usize::from(vl),
+        }
+    }
+
     /// The bytes from one index to the next, where these follow one another.
     pub(crate) fn step(&self) -> usize {
         match self.kind {

@@ -1,13 +1,13 @@
 //! One access in parts, against the same access as a whole.
 ghost use Rattle.std.specs.Prelude.{◌≤◌};
 
-use crate::lending::UserMemory;
+use crate::lending::{OneSeat, UserMemory};
 use crate::pages::{Pages, are_same};
 use crate::registers::Registers;
-use reg_groups::legal;
-use rv_model::{FILE_BYTES, GROUP_BYTES, Instr, MemEnd, User, VState};
+use crate::ways::{Case, Way};
+use rv_decode::encode;
+use rv_model::{FILE_BYTES, GROUP_BYTES, Instr, MemEnd, Scalar, User, VState};
 use user_mem::Pool;
-use vector_memory::{UserBytes, run};
 
 /// How many accesses were run in parts, how often these were cut and faulted, and how many left something else than
 /// the whole one.
@@ -19,60 +19,34 @@ pub(crate) struct Counts {
     pub differ: u64,
 }
 
-/// The pool, the two users whose memories are compared, and what their pages hold.
+/// The pool, the two users whose memories are compared, what their pages hold, and what carries out accesses.
 #[derive(Drop)]
 pub(crate) struct Bench {
     pub pool: Pool,
     pub parts: User,
     pub whole: User,
     pub pages: Pages,
+    pub way: Way,
 }
 
-/// What runs of an access leave in registers, how the last one ended, and whether the gap was filled.
+/// What parts of an access leave in registers, how the last one ended, and whether the gap was filled.
 #[derive(Drop)]
 struct Left {
-    state: VState,
-    end: MemEnd,
+    scalar: Scalar,
+    vectors: OneSeat,
+    end: Option<MemEnd>,
     is_filled: bool,
-}
-
-/// Carries out an access from vstart on.
-fn run_on<M: UserBytes>(
-    instr: &Instr,
-    registers: &Registers,
-    limit: usize,
-    memory: &mut M,
-    state: &mut VState,
-) -> MemEnd
-    requires { 1 ≤ limit }
-{
-    if !legal(instr, &state.conf, state.vstart) {
-        return MemEnd::Done;
-    }
-    run(
-        instr,
-        state,
-        &registers.scalar,
-        memory,
-        limit,
-        registers.fill_masked_off,
-    )
 }
 
 /// Carries out an access, again and again from where it stops; the gap is filled at the first fault, and a second one
 /// is its end.
-fn run_parts(
-    instr: &Instr,
-    registers: &Registers,
-    limit: usize,
-    bench: &mut Bench,
-    counts: &mut Counts,
-) -> Left
+fn run_parts(case: Case<'_>, limit: usize, bench: &mut Bench, counts: &mut Counts) -> Left
     requires { 1 ≤ limit }
 {
     let mut left = Left {
-        state: registers.state(),
-        end: MemEnd::Done,
+        scalar: case.registers.scalar,
+        vectors: case.registers.vectors(),
+        end: None,
         is_filled: false,
     };
     for _ in 0..2 * GROUP_BYTES {
@@ -80,11 +54,11 @@ fn run_parts(
             pool: &mut bench.pool,
             user: bench.parts,
         };
-        left.end = run_on(instr, registers, limit, &mut memory, &mut left.state);
+        left.end = case.carry_out(limit, &mut left.vectors, &mut left.scalar, &mut memory);
         match left.end {
-            MemEnd::Done => return left,
-            MemEnd::Cut { .. } => counts.cuts = counts.cuts.wrapping_add(1),
-            MemEnd::Fault { .. } => {
+            None | Some(MemEnd::Done) => return left,
+            Some(MemEnd::Cut { .. }) => counts.cuts = counts.cuts.wrapping_add(1),
+            Some(MemEnd::Fault { .. }) => {
                 counts.faults = counts.faults.wrapping_add(1);
                 if left.is_filled {
                     return left;
@@ -114,20 +88,30 @@ pub(crate) fn compare(
 ) -> Option<()>
     requires { 1 ≤ limit }
 {
-    bench.pages.reset(&mut bench.pool, bench.parts)?;
-    bench.pages.reset(&mut bench.pool, bench.whole)?;
-    let left = run_parts(instr, registers, limit, bench, counts);
+    let word = encode(instr);
+    let case = Case {
+        way: bench.way,
+        instr,
+        registers,
+    };
+    bench.pages.reset(&mut bench.pool, bench.parts, word)?;
+    bench.pages.reset(&mut bench.pool, bench.whole, word)?;
+    let left = run_parts(case, limit, bench, counts);
     if left.is_filled {
         bench.pages.fill_gap(&mut bench.pool, bench.whole)?;
     }
-    let mut state = registers.state();
+    let mut scalar = registers.scalar;
+    let mut vectors = registers.vectors();
     let mut memory = UserMemory {
         pool: &mut bench.pool,
         user: bench.whole,
     };
-    let end = run_on(instr, registers, GROUP_BYTES, &mut memory, &mut state);
-    let is_same = end == left.end
-        && is_same_state(&state, &left.state)
+    let end = case.carry_out(GROUP_BYTES, &mut vectors, &mut scalar, &mut memory);
+    let is_same = end.is_some()
+        && end == left.end
+        && scalar.pc == left.scalar.pc
+        && scalar.x == left.scalar.x
+        && is_same_state(&vectors.seat.state, &left.vectors.seat.state)
         && are_same(&bench.pool, bench.parts, bench.whole);
     counts.accesses = counts.accesses.wrapping_add(1);
     counts.differ = counts.differ.wrapping_add(u64::from(!is_same));

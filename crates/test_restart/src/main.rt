@@ -2,7 +2,8 @@
 //! them, with each index at the start of a page that isn't mapped, or none, and with generated registers, masks,
 //! strides and offsets. A part goes on where the one before it was cut or faulted; the page is mapped and filled at
 //! the first fault. What the parts leave in registers and in memory, and how the last one ends, is compared with what
-//! the whole access does that finds the page from the start.
+//! the whole access does that finds the page from the start. A step of the hart fetches the access and carries it out;
+//! after that a tenth as many are carried out by `run` of `vector_memory` alone.
 //!
 //! A line for each kind has how many accesses were carried out in parts, how often these were cut and faulted, and
 //! how many left something else than the whole.
@@ -14,6 +15,7 @@ mod generator;
 mod lending;
 mod pages;
 mod registers;
+mod ways;
 
 use access::{Form, Kind};
 use comparison::{Bench, Counts, compare};
@@ -24,7 +26,7 @@ use rv_model::instructions::operations::{Direction, UnitOp, Width};
 use rv_model::{Field, User};
 use std::io;
 use user_mem::Pool;
-use vector_memory::index_count;
+use ways::Way;
 
 const KINDS: [(Kind, &str); 11] = [
     (Kind::Unit(UnitOp::Load), "unit-stride loads"),
@@ -42,8 +44,13 @@ const KINDS: [(Kind, &str); 11] = [
 
 const WIDTHS: [Width; 4] = [Width::E8, Width::E16, Width::E32, Width::E64];
 
-/// How often each form is generated.
-const ROUNDS: usize = 10;
+/// How often each form is generated, by what carries it out.
+fn rounds(way: Way) -> usize {
+    match way {
+        Way::Step => 10,
+        Way::Run => 1,
+    }
+}
 
 /// Each limit, for accesses whose index `at` is where the gap begins. None where a page can't be mapped.
 fn compare_limits(
@@ -55,8 +62,7 @@ fn compare_limits(
 ) -> Option<()> {
     let instr = form.instr();
     let registers = Registers::new(form, at, generator);
-    let length = index_count(&instr, usize::from(registers.conf.vl()));
-    for limit in 1..=length {
+    for limit in 1..=form.length(registers.conf.vl()) {
         compare(&instr, &registers, limit, bench, counts)?;
     }
     Some(())
@@ -72,9 +78,7 @@ fn compare_places(
     if !form.is_there() {
         return Some(());
     }
-    let vl = configuration(&form.kind).vl();
-    let length = index_count(&form.instr(), usize::from(vl));
-    for at in 0..=length {
+    for at in 0..=form.length(configuration(&form.kind).vl()) {
         compare_limits(form, at, generator, bench, counts)?;
     }
     Some(())
@@ -96,12 +100,30 @@ fn compare_forms(kind: Kind, generator: &mut Generator, bench: &mut Bench) -> Op
                 fields: Field::new(fields),
                 masked,
             };
-            for _ in 0..ROUNDS {
+            for _ in 0..rounds(bench.way) {
                 compare_places(&form, generator, bench, &mut counts)?;
             }
         }
     }
     Some(counts)
+}
+
+/// Each kind, a line each.
+fn compare_kinds(rt: &impl Print, generator: &mut Generator, bench: &mut Bench) -> io::Result<()> {
+    let by = match bench.way {
+        Way::Step => "",
+        Way::Run => " by `run`",
+    };
+    for (kind, name) in KINDS {
+        let Some(counts) = compare_forms(kind, generator, bench) else {
+            return Err(io::Error::other("a page can't be mapped"));
+        };
+        println!(rt;
+            "{name}{by}: {} accesses, {} cuts, {} faults, {} differ",
+            counts.accesses, counts.cuts, counts.faults, counts.differ
+        )?;
+    }
+    Ok(())
 }
 
 /// The users whose memories are compared.
@@ -118,16 +140,10 @@ fn main(rt: HostRuntime) -> io::Result<()> {
         parts,
         whole,
         pages: Pages::new(),
+        way: Way::Step,
     };
     let mut generator = Generator::new(1);
-    for (kind, name) in KINDS {
-        let Some(counts) = compare_forms(kind, &mut generator, &mut bench) else {
-            return Err(io::Error::other("a page can't be mapped"));
-        };
-        println!(rt;
-            "{name}: {} accesses, {} cuts, {} faults, {} differ",
-            counts.accesses, counts.cuts, counts.faults, counts.differ
-        )?;
-    }
-    Ok(())
+    compare_kinds(&rt, &mut generator, &mut bench)?;
+    bench.way = Way::Run;
+    compare_kinds(&rt, &mut generator, &mut bench)
 }

@@ -1,4 +1,4 @@
-//! The memory that accesses find: a page, a gap of a page, and another page.
+//! The memory that accesses find: a page, a gap of a page, another page, and one with the word that is carried out.
 ghost use Rattle.std.specs.Prelude.{◌<◌};
 ghost use Rattle.rv_model.specs.memory.Sizes.{page_limit};
 
@@ -14,8 +14,14 @@ const GAP_PAGE: u64 = 17;
 
 const LAST_PAGE: u64 = 18;
 
+/// The page of the word.
+const CODE_PAGE: u64 = 32;
+
 /// The address where the gap begins.
 pub(crate) const GAP: u64 = GAP_PAGE * PAGE_SIZE;
+
+/// The address of the word.
+pub(crate) const CODE: u64 = CODE_PAGE * PAGE_SIZE;
 
 /// What the pages hold when they are mapped.
 #[derive(Clone, Copy, Drop)]
@@ -48,6 +54,18 @@ fn map_page(pool: &mut Pool, user: User, page: u64, bytes: &[u8; PAGE_BYTES]) ->
         .ok()
 }
 
+/// Maps a page that may be executed alone, and begins with a word. None where that is refused.
+fn map_word(pool: &mut Pool, user: User, word: u32) -> Option<()> {
+    let permissions = Permissions {
+        read: false,
+        write: false,
+        execute: true,
+    };
+    pool.map(user, CODE_PAGE, 1, permissions).ok()?;
+    pool.write(user, CODE, Access::Monitor, &word.to_le_bytes())
+        .ok()
+}
+
 impl Pages {
     /// Pages with bytes that differ.
     pub(crate) fn new() -> Pages {
@@ -63,9 +81,10 @@ impl Pages {
         map_page(pool, user, GAP_PAGE, &self.gap)
     }
 
-    /// Gives a user the pages around the gap alone. None where that is refused.
-    pub(crate) fn reset(&self, pool: &mut Pool, user: User) -> Option<()> {
+    /// Gives a user the pages around the gap and a word, alone. None where that is refused.
+    pub(crate) fn reset(&self, pool: &mut Pool, user: User, word: u32) -> Option<()> {
         pool.drop_user(user);
+        map_word(pool, user, word)?;
         map_page(pool, user, FIRST_PAGE, &self.first)?;
         map_page(pool, user, LAST_PAGE, &self.last)
     }

@@ -3,17 +3,18 @@ ghost use Rattle.std.specs.Prelude.{◌≤◌};
 
 use crate::access::{Form, Kind, bytes_of};
 use crate::generator::Generator;
-use crate::pages::GAP;
+use crate::lending::OneSeat;
+use crate::pages::{CODE, GAP};
 use rv_model::instructions::operations::Width;
-use rv_model::{FILE_BYTES, Lmul, Scalar, Sew, VConf, VState, VType};
+use rv_model::{FILE_BYTES, Lmul, Policy, Scalar, Seat, Sew, VConf, VState, VType};
 
-/// The registers that an access finds, and whether its elements that are masked off become all ones.
+/// The registers that an access finds, and what becomes of agnostic elements.
 #[derive(Drop)]
 pub(crate) struct Registers {
     pub scalar: Scalar,
     pub conf: VConf,
     pub bytes: [u8; FILE_BYTES],
-    pub fill_masked_off: bool,
+    pub policy: Policy,
 }
 
 /// Eight elements of 16 bits in half a register; of masks, 29 bits.
@@ -99,22 +100,32 @@ impl Registers {
         let mut scalar = Scalar::new();
         scalar.x[10] = GAP.wrapping_sub(before);
         scalar.x[11] = stride;
+        scalar.pc = CODE;
         Registers {
             scalar,
             conf: configuration(&form.kind),
             bytes,
-            fill_masked_off: generator.next() % 2 == 1,
+            policy: if generator.next() % 2 == 1 {
+                Policy::Ones
+            } else {
+                Policy::Keep
+            },
         }
     }
 
     /// The vector state with these registers.
-    pub(crate) fn state(&self) -> VState {
+    pub(crate) fn vectors(&self) -> OneSeat {
         let mut state = VState::new();
         state
             .file
             .part_mut(0, FILE_BYTES)
             .copy_from_slice(&self.bytes);
         state.conf = self.conf;
-        state
+        OneSeat {
+            seat: Seat {
+                state,
+                dirty: false,
+            },
+        }
     }
 }

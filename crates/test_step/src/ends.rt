@@ -1,4 +1,4 @@
-//! How instructions end where no memory is mapped, and registers hold ones.
+//! How instructions end where no byte may be loaded or stored, and registers hold ones.
 use crate::shapes::{Access, Shape};
 use rv_model::VEnd;
 
@@ -13,11 +13,21 @@ pub(crate) struct Found {
     pub limit: u64,
 }
 
-/// How an instruction ends, and the vstart that it leaves.
+/// How an instruction ends, the vstart that it leaves, and the ticks that it takes.
 #[derive(Clone, Copy, Drop)]
 pub(crate) struct Ending {
     pub end: VEnd,
     pub vstart: u64,
+    pub ticks: u64,
+}
+
+/// The end of an instruction that is done, after so many ticks.
+fn done_after(ticks: u64) -> Ending {
+    Ending {
+        end: VEnd::Done,
+        vstart: 0,
+        ticks,
+    }
 }
 
 /// How many indices there are.
@@ -49,23 +59,20 @@ fn address(access: Access, index: u64) -> u64 {
 fn access_ending(access: Access, store: bool, found: Found) -> Ending {
     let index = u64::from(found.vstart);
     let length = length(access, found.vl);
-    let done = Ending {
-        end: VEnd::Done,
-        vstart: 0,
-    };
     let last = index.wrapping_add(found.limit);
     if index >= length {
-        return done;
+        return done_after(1);
     }
     if found.is_active {
         return match access {
-            Access::FaultOnlyFirst(_) if index > 0 => done,
+            Access::FaultOnlyFirst(_) if index > 0 => done_after(1),
             _ => Ending {
                 end: VEnd::Fault {
                     store,
                     addr: address(access, index),
                 },
                 vstart: index,
+                ticks: 1,
             },
         };
     }
@@ -75,9 +82,10 @@ fn access_ending(access: Access, store: bool, found: Found) -> Ending {
                 index: last as usize,
             },
             vstart: last,
+            ticks: found.limit,
         };
     }
-    done
+    done_after(length.wrapping_sub(index))
 }
 
 /// The end of an instruction, legal or not.
@@ -86,13 +94,11 @@ pub(crate) fn ending_of(shape: &Shape, legal: bool, found: Found) -> Ending {
         return Ending {
             end: VEnd::Illegal,
             vstart: u64::from(found.vstart),
+            ticks: 1,
         };
     }
     match shape.access {
         Some(access) => access_ending(access, shape.destination.is_none(), found),
-        None => Ending {
-            end: VEnd::Done,
-            vstart: 0,
-        },
+        None => done_after(1),
     }
 }

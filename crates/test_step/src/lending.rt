@@ -1,0 +1,98 @@
+//! What instructions are lent: the bytes of one user, and a vector state.
+ghost use Rattle.std.proofs.Common.{refl};
+
+use hart::Vectors;
+use rv_model::{Access, Fault, PAGE_SIZE, Permissions, Seat, USER_COUNT, User};
+use std::alloc::Global;
+use user_mem::Pool;
+use vector_memory::UserBytes;
+
+/// The page of the word that is carried out.
+const CODE_PAGE: u64 = 16;
+
+/// The address of that word.
+pub(crate) const CODE: u64 = CODE_PAGE * PAGE_SIZE;
+
+/// The bytes of one user in a pool.
+#[derive(Drop)]
+pub(crate) struct UserMemory {
+    pub pool: Pool,
+    pub user: User,
+}
+
+impl UserMemory {
+    /// The memory of one page, which may be executed, and neither read nor written. None where that is refused.
+    pub(crate) fn new(alloc: Global) -> Option<UserMemory> {
+        let mut pool = Pool::new(alloc).ok()?;
+        let user = User::new(1)?;
+        let permissions = Permissions {
+            read: false,
+            write: false,
+            execute: true,
+        };
+        pool.map(user, CODE_PAGE, 1, permissions).ok()?;
+        Some(UserMemory { pool, user })
+    }
+
+    /// Puts a word there. None where that is refused.
+    pub(crate) fn set_word(&mut self, word: u32) -> Option<()> {
+        self.pool
+            .write(self.user, CODE, Access::Monitor, &word.to_le_bytes())
+            .ok()
+    }
+}
+
+impl UserBytes for UserMemory {
+    ghost use Rattle.std.proofs.Common.{ap};
+    ghost use Rattle.std.specs.FinMap.{empty};
+    ghost use Rattle.std.specs.Prelude.{◌-◌};
+    ghost use Rattle.std.proofs.lemmas.List.{set-get_or, set-set};
+    ghost use Rattle.user_mem.specs.Users.{memory_of_user, with_memory as with_user_memory};
+
+    ghost memory = { λ m. memory_of_user m.pool m.user };
+
+    ghost with_memory = { λ m memory. record m { pool = with_user_memory m.pool m.user memory } };
+
+    ghost with_memory_same = { λ m. ap (λ p. record m { pool = p }) (set-get_or m.pool (m.user - 1) empty) };
+
+    ghost with_memory_twice = { λ m one two. ap (λ p. record m { pool = p }) (set-set m.pool (m.user - 1) one two) };
+
+    fn check(&self, addr: u64, len: usize, access: Access) -> Result<(), Fault> {
+        self.pool.check(self.user, addr, len, access)
+    }
+
+    fn read(&self, addr: u64, access: Access, bytes: &mut [u8]) -> Result<(), Fault> {
+        self.pool.read(self.user, addr, access, bytes)
+    }
+
+    #[tactic(auto, using(user_mem::proofs::UserLaws::replaces_own))]
+    fn write(&mut self, addr: u64, access: Access, bytes: &[u8]) -> Result<(), Fault> {
+        // Each user has a memory in the pool.
+        prove!(self.user.index() < USER_COUNT);
+        self.pool.write(self.user, addr, access, bytes)
+    }
+}
+
+/// A vector state, which is lent to each instruction.
+#[derive(Drop)]
+pub(crate) struct OneSeat {
+    pub seat: Seat,
+}
+
+impl Vectors for OneSeat {
+    ghost use Rattle.std.specs.Prelude.{⊤};
+
+    ghost ready = { λ _. ⊤ };
+
+    ghost lent = { λ v. v.seat };
+
+    ghost back = { λ v s. record v { seat = s } };
+
+    ghost ready_again = { λ _ _ is _. is };
+
+    ghost lent_again = { λ _ _ _. refl };
+
+    fn seat(&mut self) -> &mut Seat {
+        &mut self.seat
+    }
+}

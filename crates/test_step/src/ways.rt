@@ -1,0 +1,133 @@
+//! The ways in which a word is carried out, and whether it ends as it should.
+ghost use Rattle.std.specs.Prelude.{◌≡◌};
+ghost use Rattle.rv_model.specs.step.VectorStep.{is_vector};
+
+use crate::ends::Ending;
+use crate::lending::{CODE, OneSeat, UserMemory};
+use crate::shapes::Shape;
+use arrayvec::ArrayVec;
+use hart::{Vectors, View, step};
+use rv_decode::decode;
+use rv_model::{Cause, Instr, OUTPUT_SIZE, Policy, Scalar, StepEnd, VEnd, VState};
+use vec_unit::exec;
+use vector_memory::UserBytes;
+
+/// How many indices a load or store may carry out.
+pub(crate) const LIMIT: usize = 7;
+
+/// What carries out a word: a step of the hart, or the vector unit alone.
+#[derive(Clone, Copy, PartialEq, Eq)]
+pub(crate) enum Way {
+    Step,
+    Exec,
+}
+
+/// An instruction and what carries it out: its word, whether it has a mask, and its operands.
+#[derive(Clone, Copy, Drop)]
+pub(crate) struct Case<'a> {
+    pub way: Way,
+    pub word: u32,
+    pub masked: bool,
+    pub shape: &'a Shape,
+}
+
+/// Whether an instruction is one of the vector extension.
+fn is_vector(instr: &Instr) -> bool
+    ensures { result ≡ is_vector instr.now }
+{
+    match *instr {
+        Instr::Upper { .. }
+        | Instr::Jump { .. }
+        | Instr::JumpRegister { .. }
+        | Instr::Branch { .. }
+        | Instr::Load { .. }
+        | Instr::Store { .. }
+        | Instr::RegisterImmediate { .. }
+        | Instr::ShiftImmediate { .. }
+        | Instr::ShiftImmediateWord { .. }
+        | Instr::RegisterRegister { .. }
+        | Instr::Fence { .. }
+        | Instr::System { .. }
+        | Instr::Csr { .. }
+        | Instr::CsrImmediate { .. } => false,
+        _ => true,
+    }
+}
+
+/// Carries out the instruction of a word by the vector unit. None where it is none of the vector extension.
+fn run_exec<M: UserBytes>(
+    word: u32,
+    state: &mut VState,
+    scalar: &mut Scalar,
+    memory: &mut M,
+    policy: Policy,
+) -> Option<VEnd> {
+    let Some(instr) = decode(word) else {
+        return None;
+    };
+    if is_vector(&instr) {
+        Some(exec(&instr, state, scalar, memory, LIMIT, policy))
+    } else {
+        None
+    }
+}
+
+/// Carries out the word at the program counter by a step. Answers how it ended, and the ticks that it took.
+fn run_step<M: UserBytes, V: Vectors>(
+    vectors: &mut V,
+    scalar: &mut Scalar,
+    memory: &mut M,
+    policy: Policy,
+) -> (StepEnd, usize)
+    requires { V.ready vectors.old }
+{
+    let mut output: ArrayVec<u8, OUTPUT_SIZE> = ArrayVec::new();
+    let mut view = View {
+        scalar,
+        memory,
+        vectors,
+        output: &mut output,
+        policy,
+    };
+    step(&mut view, LIMIT)
+}
+
+/// How a step ends whose instruction ends so, and the program counter that it leaves.
+fn step_end(end: VEnd, word: u32) -> (StepEnd, u64) {
+    let (cause, value) = match end {
+        VEnd::Done => return (StepEnd::Ran, CODE + 4),
+        VEnd::Cut { .. } => return (StepEnd::Cut, CODE),
+        VEnd::Illegal => (Cause::IllegalInstruction, u64::from(word)),
+        VEnd::Fault { store: false, addr } => (Cause::LoadAccess, addr),
+        VEnd::Fault { store: true, addr } => (Cause::StoreAccess, addr),
+    };
+    let fault = StepEnd::Fault {
+        cause,
+        pc: CODE,
+        value,
+    };
+    (fault, CODE)
+}
+
+impl Case<'_> {
+    /// Carries out the word, which stands in memory, and answers whether it ends as wanted.
+    pub(crate) fn ends_so(
+        &self,
+        wanted: Ending,
+        policy: Policy,
+        vectors: &mut OneSeat,
+        scalar: &mut Scalar,
+        memory: &mut UserMemory,
+    ) -> bool {
+        match self.way {
+            Way::Step => {
+                let (end, ticks) = run_step(vectors, scalar, memory, policy);
+                (end, scalar.pc) == step_end(wanted.end, self.word) && ticks as u64 == wanted.ticks
+            }
+            Way::Exec => {
+                let state = &mut vectors.seat.state;
+                run_exec(self.word, state, scalar, memory, policy) == Some(wanted.end)
+            }
+        }
+    }
+}
