@@ -57,7 +57,7 @@ def _arguments() -> argparse.Namespace:
     parser = _Parser(prog="vecmon-lab", description="A front end for vecmon, the trainer machine for RISC-V vectors.")
     commands = parser.add_subparsers(dest="command", metavar="COMMAND", required=True)
     for name, summary in SUMMARIES.items():
-        command = commands.add_parser(name, help=summary, description=f"{summary.capitalize()}.")
+        command = commands.add_parser(name, help=summary, description=f"{summary[0].upper()}{summary[1:]}.")
         if sys.argv[1:2] == [name]:
             module = importlib.import_module(f"lab.{name}")
             module.add_arguments(command)

@@ -17,10 +17,12 @@ from .table import table_lines
 Grades = list[tuple[pathlib.Path, list[str]]]
 """Answers, each with why it fails, or nothing, for each case."""
 
+EXERCISE = "a folder with a file exercise.toml, or the name of an exercise that comes with the lab"
+
 
 def add_arguments(parser: argparse.ArgumentParser) -> None:
     """The words of `vecmon-lab grade`."""
-    parser.add_argument("exercise", metavar="EXERCISE", type=pathlib.Path, help="a folder with the file exercise.toml")
+    parser.add_argument("exercise", metavar="EXERCISE", type=pathlib.Path, help=EXERCISE)
     parser.add_argument("answers", metavar="ANSWER", type=pathlib.Path, nargs="+", help="an image, source or script")
     form = parser.add_mutually_exclusive_group()
     form.add_argument("--csv", action="store_true", help="a row of CSV for each answer, below a header, and no table")
