@@ -1,10 +1,13 @@
 //! Bits around the first one that is set in another mask ("V" Vector Extension 1.0, sections 15.4 to 15.6).
 ghost use Rattle.std.specs.Prelude.{◌≡◌, ◌<◌, ℕ};
 ghost use Rattle.rv_model.specs.declared.vector.sizes.TheConstants.{GROUP_BYTES};
+ghost use Rattle.rv_model.specs.elements.Elements.{in_range, mask_bit};
 ghost use Rattle.rv_model.specs.elements.Masks.{mask_scan_formula};
 
-use lane_arith::{Lane, MaskResults};
+use lane_arith::{Body, Lane, MaskResults, active_bytes, put_bits};
 use rv_model::instructions::operations::MaskScanOp;
+use rv_model::{GROUP_BYTES, VLENB};
+use std::simd::prelude::*;
 
 /// The bits before the first one that is set, those up to it, or it alone (vmsbf.m, vmsif.m, vmsof.m);
 /// `first` is its index, if there is one.
@@ -25,6 +28,32 @@ fn apply(op: MaskScanOp, first: Option<usize>, index: usize) -> bool
     }
 }
 
+/// A bit for each of 256 elements, set from one index up to another.
+fn range(start: usize, end: usize) -> u8x32
+    ensures { (i : ℕ) → i < GROUP_BYTES → mask_bit result i ≡ in_range start end i }
+{
+    let mask = [0; VLENB];
+    active_bytes(&Body::new(true, &mask, start, end.min(GROUP_BYTES)))
+}
+
+/// All bits of the result.
+fn results(op: MaskScanOp, first: Option<usize>) -> u8x32
+    ensures { (i : ℕ) → i < GROUP_BYTES → mask_bit result i ≡ mask_scan_formula op first i }
+{
+    match first {
+        None => match op {
+            MaskScanOp::Vmsbf => range(0, GROUP_BYTES),
+            MaskScanOp::Vmsof => range(0, 0),
+            MaskScanOp::Vmsif => range(0, GROUP_BYTES),
+        },
+        Some(first) => match op {
+            MaskScanOp::Vmsbf => range(0, first),
+            MaskScanOp::Vmsof => range(first, first.saturating_add(1)),
+            MaskScanOp::Vmsif => range(0, first.saturating_add(1)),
+        },
+    }
+}
+
 impl<L: Lane> MaskResults<L> for MaskScan {
     ghost bit = { λ r i. mask_scan_formula r.op r.first i };
 
@@ -32,5 +61,9 @@ impl<L: Lane> MaskResults<L> for MaskScan {
 
     fn bit(&self, index: usize) -> bool {
         apply(self.op, self.first, index)
+    }
+
+    fn write_register(&self, body: &Body<'_>, destination: &mut [u8]) -> bool {
+        put_bits(results(self.op, self.first), body, destination)
     }
 }

@@ -1,0 +1,81 @@
+-- The first number that passes a test, found by words of 32 bits.
+use Rattle.std.proofs.Common.{ℕ, zero, suc, ◌+◌, ◌-◌, ◌*◌, ◌/◌, ◌%◌, ◌^◌, ◌<◌, ◌≡◌, ◌==◌, Bool, true, false, not, Some, None, refl, sym, ap, ◌∙◌, arith, inl, inr, w64}
+use Rattle.std.proofs.lemmas.Bool.{cases_lt}
+use Rattle.std.proofs.lemmas.Nat.Bits.{bit_at-trailing_zeros, bit_at-zero, bit_at_above}
+use Rattle.std.specs.Int.{trailing_zeros}
+use Rattle.std.specs.List.{find, range_with_len}
+
+-- the first of the numbers from one on
+found_from : (p : ℕ → Bool) (from n j : ℕ) → j < n → p (from + j) ≡ true → ((i : ℕ) → i < j → p (from + i) ≡ false)
+    → find p (range_with_len from n) ≡ Some (from + j)
+found_from p from zero j h is before = absurd (omega (arith, h))
+found_from p from (suc n) zero h is before =
+    let here : from + 0 ≡ from = omega arith in
+    let first : p from ≡ true = ap p (sym here) ∙ is in
+    rw (first, here) refl
+found_from p from (suc n) (suc j) h is before =
+    let here : from + 0 ≡ from = omega arith in
+    let next : from + suc j ≡ (from + 1) + j = omega arith in
+    let first : p from ≡ false = ap p (sym here) ∙ before 0 (omega arith) in
+    rw (first, next) (found_from p ((from + 1)) n j (omega (arith, h)) (ap p (sym next) ∙ is) (λ i l.
+    let place : (from + 1) + i ≡ from + suc i = omega arith in ap p place ∙ before (suc i) (omega (arith, l))))
+
+pub first_found : (p : ℕ → Bool) (n j : ℕ) → j < n → p j ≡ true → ((i : ℕ) → i < j → p i ≡ false) → find p (range_with_len 0 n) ≡ Some j
+first_found p n j h is before =
+    let at : (i : ℕ) → 0 + i ≡ i = λ i. omega arith in
+    found_from p 0 n j h (ap p (at j) ∙ is) (λ i l. ap p (at i) ∙ before i l) ∙ ap Some (at j)
+
+none_from : (p : ℕ → Bool) (from n : ℕ) → ((i : ℕ) → i < n → p (from + i) ≡ false) → find p (range_with_len from n) ≡ None
+none_from p from zero fails = refl
+none_from p from (suc n) fails =
+    let here : from + 0 ≡ from = omega arith in
+    let first : p from ≡ false = ap p (sym here) ∙ fails 0 (omega arith) in
+    rw first (none_from p ((from + 1)) n (λ i l.
+    let place : (from + 1) + i ≡ from + suc i = omega arith in ap p place ∙ fails (suc i) (omega (arith, l))))
+
+pub none_found : (p : ℕ → Bool) (n : ℕ) → ((i : ℕ) → i < n → p i ≡ false) → find p (range_with_len 0 n) ≡ None
+none_found p n fails = none_from p 0 n (λ i l. let at : 0 + i ≡ i = omega arith in ap p at ∙ fails i l)
+
+-- what a bit tells
+told_true : (x : ℕ) (b : Bool) → x ≡ 1 → (x == 0) ≡ not b → b ≡ true
+told_true x true one told = refl
+told_true x false one told = let not_none = rw one at told in absurd (cc)
+
+told_false : (x : ℕ) (b : Bool) → x ≡ 0 → (x == 0) ≡ not b → b ≡ false
+told_false x false none told = refl
+told_false x true none told = let some = rw none at told in absurd (cc)
+
+-- the numbers of which a word tells by its bits
+module _ (p : ℕ → Bool) (w set : ℕ) (told : (i : ℕ) → i < 32 → (set / 2 ^ i % 2 == 0) ≡ not (p (32 * w + i))) where
+  -- in none of its bits is one
+  pub none_in_word : set ≡ 0 → ((i : ℕ) → i < 32 * w → p i ≡ false) → (i : ℕ) → i < 32 * (w + 1) → p i ≡ false
+  none_in_word empty before i h = elim (cases_lt i (32 * w)) [
+    | inl low ↦ before i low
+    | inr high ↦
+        let at : 32 * w + (i - 32 * w) ≡ i = omega (arith, high) in
+        ap p (sym at) ∙ told_false (set / 2 ^ (i - 32 * w) % 2) (p (32 * w + (i - 32 * w)))
+        (rw empty (bit_at-zero (i - 32 * w))) (told (i - 32 * w) (omega (arith, h, high)))
+  ]
+
+  -- the first that passes is at the lowest one
+  pub first_in_word : 0 < set → set < 2 ^ 32 → ((i : ℕ) → i < 32 * w → p i ≡ false)
+      → (p (32 * w + trailing_zeros w64 set) ≡ true) × ((i : ℕ) → i < 32 * w + trailing_zeros w64 set → p i ≡ false)
+  first_in_word some few before =
+      let lowest = bit_at-trailing_zeros w64 set some (omega (arith, few)) in
+      let t : ℕ = trailing_zeros w64 set in
+      let inside : t < 32 = below_top t lowest.1 in (
+        told_true (set / 2 ^ t % 2) (p (32 * w + t)) lowest.1 (told t inside),
+        λ i h. elim (cases_lt i (32 * w)) [
+          | inl low ↦ before i low
+          | inr high ↦
+              let at : 32 * w + (i - 32 * w) ≡ i = omega (arith, high) in
+              ap p (sym at) ∙ told_false (set / 2 ^ (i - 32 * w) % 2) (p (32 * w + (i - 32 * w)))
+              (lowest.2 (i - 32 * w) (omega (arith, h, high))) (told (i - 32 * w) (omega (arith, h, high, inside)))
+        ],
+      )
+    where
+      below_top : (t : ℕ) → set / 2 ^ t % 2 ≡ 1 → t < 32
+      below_top t one = elim (cases_lt t 32) [
+        | inl low ↦ low
+        | inr high ↦ absurd (let none = bit_at_above set 32 t few high in omega (arith, none, one))
+      ]

@@ -1,0 +1,12 @@
+use Rattle.std.proofs.Common.{◌<◌, arith}
+use Rattle.rv_model.specs.elements.Elements.{is_active, mask_bit}
+use Rattle.rv_model.specs.elements.Masks.{mask_scan_formula}
+use Rattle.rv_model.proofs.element_lemmas.Bits.{same_bits}
+use Rattle.rv_model.proofs.element_lemmas.Sets.{active_end}
+use Rattle.mask_unit.proofs.scan.MaskScanMaskResults.write_register.Goals as goal
+
+pub returns-clause-done : goal.returns-clause-done
+returns-clause-done g c = λ e.
+    same_bits (is_active c.args.body.now) (mask_bit c.results.result) (mask_scan_formula c.args.self.now.op c.args.self.now.first) _ _
+    (λ i h. let inside : i < c.args.body.now.end = active_end c.args.body.now i h in c.results.ensures i (omega (arith, inside, c.requires)))
+    (c.put_bits.ensures.done e)
