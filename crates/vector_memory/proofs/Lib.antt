@@ -1,9 +1,11 @@
 pub mod Blends
 pub mod BlockMoves
 pub mod FieldSteps
+pub mod MovedRuns
 pub mod OneField
 pub mod Outcomes
 pub mod Room
 pub mod SpanMoves
 pub mod Strides
+pub mod Transferred
 pub mod WholeBlocks

@@ -1,6 +1,8 @@
 pub mod AccessKinds
 pub mod Blocks
+pub mod Distances
 pub mod FieldOrder
+pub mod Moves
 pub mod SegmentRoom
 pub mod Spans
 pub mod WholeBlocks

@@ -1,29 +1,38 @@
 //! Each vector load and store ("V" Vector Extension 1.0, chapter 7).
-ghost use Rattle.std.specs.Prelude.{◌≡◌, ◌+◌, ◌*◌, ◌/◌, ◌%◌, ◌^◌, ◌≤◌, IsTrue, Some, false, pos, true, ◌+ℤ◌, ◌*ℤ◌};
-ghost use Rattle.std.specs.Int.{cast_signed, w64};
-ghost use Rattle.rv_model.specs.accesses.AccessRuns.{access_run, direction_run, runs_to, unit_run};
+ghost use Rattle.std.specs.Prelude.{◌≡◌, ◌+◌, ◌%◌, ◌^◌, ◌≤◌, Bool, IfSome, IsTrue, Some, false, true};
+ghost use Rattle.rv_model.specs.accesses.AccessRuns.{access_run, direction_run, runs_to};
 ghost use Rattle.rv_model.specs.accesses.Restarts.{GoesOn};
-ghost use Rattle.rv_model.specs.accesses.VectorAccess.{access_type};
 ghost use Rattle.rv_model.specs.elements.Arithmetic.{body_of, group_element};
-ghost use Rattle.rv_model.specs.elements.Formulas.{wrap};
 ghost use Rattle.rv_model.specs.legality.GroupBounds.{HasRoom as GroupHasRoom, IsInside};
-ghost use Rattle.rv_model.specs.legality.Legality.{is_legal, register_count};
+ghost use Rattle.rv_model.specs.legality.Legality.{is_legal};
 ghost use Rattle.rv_model.specs.legality.OperandShapes.{emul};
-ghost use Rattle.rv_model.specs.vector.Configuration.{element_width, sew_bits, sew_width, vlmax, width_bytes};
-ghost use Rattle.rv_model.specs.vector.Registers.{register_of, registers};
-ghost use Rattle.vector_memory.specs.AccessKinds.{is_distance_access, is_offset_access, is_register_access, is_segment_access};
+ghost use Rattle.rv_model.specs.vector.Configuration.{IsConfiguration, element_width, sew_bits, sew_width, vlmax};
+ghost use Rattle.rv_model.specs.vector.Registers.{registers};
+ghost use Rattle.vector_memory.specs.AccessKinds.{is_offset_access, is_segment_access};
+ghost use Rattle.vector_memory.specs.Distances.{grouped, operation, transfer_of, whole};
 ghost use Rattle.vector_memory.specs.SegmentRoom.{HasRoom, access_of};
 
 use crate::addresses::{Indexed, Strided};
 use crate::length::{element_bytes, mask_length, whole_length};
 use crate::runs::{Extent, run_unit};
 use crate::segments::Segments;
-use crate::transfers::{Transfer, operation};
+use crate::transfers::Transfer;
 use crate::user_bytes::UserBytes;
 use lane_arith::Body;
 use reg_groups::{emul, group_copy, mask_register, register_count, registers};
 use rv_model::instructions::operations::{Direction, RegisterCount, UnitOp, Width};
 use rv_model::{Field, GROUP_BYTES, Instr, MemEnd, Scalar, Sew, VReg, VState, VType};
+
+/// The same direction, of an operation that may be a fault-only-first load.
+#[inline(always)]
+fn operation(direction: Direction) -> UnitOp
+    ensures { result ≡ operation direction }
+{
+    match direction {
+        Direction::Load => UnitOp::Load,
+        Direction::Store => UnitOp::Store,
+    }
+}
 
 /// The multiplier, in eighths of a register, of groups of as many elements of a width as the vector type has.
 #[inline(always)]
@@ -47,60 +56,151 @@ fn grouped_segments(nf: Field<3>, size: usize, emul: u32, register: VReg) -> Seg
     }
 }
 
-/// Loads or stores segments that follow one another from `base` on.
+/// A transfer of segments of `nf` + 1 fields of a width, as many as the vector length says, if there is a vector type.
 #[inline(always)]
-fn run_unit_stride<M: UserBytes>(
+fn grouped_transfer(
     op: UnitOp,
-    segments: &Segments,
-    base: u64,
-    unmasked: bool,
-    extent: Extent,
-    memory: &mut M,
-    state: &mut VState,
-) -> MemEnd
-    requires room { HasRoom segments.now state.old.conf.vl }
-    ensures run { unit_run op extent.limit extent.fill_masked_off
-        (access_of segments.now (body_of unmasked state.old) (λ i. (base + i * (segments.now.fields * segments.now.size)) % 2 ^ 64))
-        state.old (M.memory memory.old) ≡ runs_to result state.new (M.memory memory.new) }
-    ensures others { memory.new ≡ M.with_memory memory.old (M.memory memory.new) }
-{
-    let stride = (segments.fields * segments.size) as u64;
-    let transfer = Transfer {
-        op,
-        unmasked,
-        segments: *segments,
-        addresses: Strided { base, stride },
-        count: usize::from(state.conf.vl()),
-    };
-    transfer.run(extent, memory, state)
-}
-
-/// Loads or stores segments at a distance of `stride` bytes from `base` on.
-#[inline(always)]
-fn run_strided<M: UserBytes>(
-    direction: Direction,
-    segments: &Segments,
+    width: Width,
+    nf: Field<3>,
+    vd: VReg,
     addresses: Strided,
     unmasked: bool,
-    extent: Extent,
-    memory: &mut M,
-    state: &mut VState,
-) -> MemEnd
-    requires room { HasRoom segments.now state.old.conf.vl }
-    ensures run { direction_run direction extent.limit extent.fill_masked_off
-        (access_of segments.now (body_of unmasked state.old)
-        (λ i. wrap w64 (pos addresses.base +ℤ pos i *ℤ cast_signed w64 addresses.stride)))
-        state.old (M.memory memory.old) ≡ runs_to result state.new (M.memory memory.new) }
-    ensures others { memory.new ≡ M.with_memory memory.old (M.memory memory.new) }
+    fill_masked_off: bool,
+    state: &VState,
+) -> Option<Transfer>
+    ensures value { result ≡ grouped op width nf vd addresses unmasked fill_masked_off state.now state.now.conf.vtype }
+    ensures fields { IfSome result (λ t. t.segments.fields ≤ 8) }
 {
-    let transfer = Transfer {
-        op: operation(direction),
+    let vtype = state.conf.vtype()?;
+    Some(Transfer {
+        op,
         unmasked,
-        segments: *segments,
+        fill_masked_off,
+        segments: grouped_segments(nf, element_bytes(width), emul_of(width, vtype), vd),
         addresses,
         count: usize::from(state.conf.vl()),
-    };
-    transfer.run(extent, memory, state)
+    })
+}
+
+/// A transfer of `count` elements of so many bytes that follow one another from `base` on, in so many whole registers.
+#[inline(always)]
+fn whole_transfer(
+    op: UnitOp,
+    size: usize,
+    registers: u8,
+    vd: VReg,
+    base: u64,
+    count: usize,
+) -> Transfer
+    ensures { result ≡ whole op size registers vd base count }
+{
+    Transfer {
+        op,
+        unmasked: true,
+        fill_masked_off: false,
+        segments: Segments {
+            fields: 1,
+            size,
+            register: vd,
+            field_registers: usize::from(registers),
+        },
+        addresses: Strided {
+            base,
+            stride: size as u64,
+        },
+        count,
+    }
+}
+
+/// The transfer that a load or store of whole registers or of a mask is.
+#[inline(always)]
+fn register_transfer(instr: &Instr, state: &VState, scalar: &Scalar) -> Option<Transfer>
+    requires segments { is_segment_access instr.now ≡ false }
+    ensures value { (fill : Bool) → result ≡ transfer_of fill instr.now state.now scalar.now }
+    ensures fields { IfSome result (λ t. t.segments.fields ≤ 8) }
+{
+    match *instr {
+        Instr::WholeLoad {
+            count,
+            width,
+            vd,
+            rs1,
+        } => {
+            let size = element_bytes(width);
+            let length = whole_length(count, width);
+            let registers = register_count(count);
+            Some(whole_transfer(UnitOp::Load, size, registers, vd, scalar.read(rs1), length))
+        }
+        Instr::WholeStore { count, vd, rs1 } => {
+            let length = whole_length(count, Width::E8);
+            let registers = register_count(count);
+            Some(whole_transfer(UnitOp::Store, 1, registers, vd, scalar.read(rs1), length))
+        }
+        Instr::MaskMemory { direction, vd, rs1 } => {
+            let length = mask_length(usize::from(state.conf.vl()));
+            let op = operation(direction);
+            Some(whole_transfer(op, 1, 1, vd, scalar.read(rs1), length))
+        }
+        _ => None,
+    }
+}
+
+/// The transfer that a load or store at a distance is: none without the vector type that it needs.
+#[inline(always)]
+fn transfer_of(
+    instr: &Instr,
+    fill_masked_off: bool,
+    state: &VState,
+    scalar: &Scalar,
+) -> Option<Transfer>
+    ensures value { result ≡ transfer_of fill_masked_off instr.now state.now scalar.now }
+    ensures fields { IfSome result (λ t. t.segments.fields ≤ 8) }
+{
+    match *instr {
+        Instr::VectorUnit {
+            op,
+            width,
+            nf,
+            vd,
+            rs1,
+            vm,
+        } => {
+            let addresses = Strided {
+                base: scalar.read(rs1),
+                stride: (nf.value() as u64 + 1) * element_bytes(width) as u64,
+            };
+            grouped_transfer(op, width, nf, vd, addresses, vm, fill_masked_off, state)
+        }
+        Instr::VectorStrided {
+            direction,
+            width,
+            nf,
+            vd,
+            rs1,
+            rs2,
+            vm,
+        } => {
+            let addresses = Strided {
+                base: scalar.read(rs1),
+                stride: scalar.read(rs2),
+            };
+            let op = operation(direction);
+            grouped_transfer(op, width, nf, vd, addresses, vm, fill_masked_off, state)
+        }
+        Instr::VectorIndexed { .. } => None,
+        _ => register_transfer(instr, state, scalar),
+    }
+}
+
+/// Whether it is a load or store at offsets.
+#[inline(always)]
+fn is_indexed(instr: &Instr) -> bool
+    ensures { result ≡ is_offset_access instr.now }
+{
+    match *instr {
+        Instr::VectorIndexed { .. } => true,
+        _ => false,
+    }
 }
 
 /// A group of offsets in bytes: its first register, the width of an offset, and the multiplier in eighths of
@@ -147,99 +247,10 @@ fn run_indexed<M: UserBytes>(
     run_unit(op, segments, &addresses, &body, extent, memory, state)
 }
 
-/// Loads or stores so many elements that follow one another from `base` on, none of them masked off.
-#[inline(always)]
-fn run_unmasked<M: UserBytes>(
-    direction: Direction,
-    segments: &Segments,
-    base: u64,
-    length: usize,
-    limit: usize,
-    memory: &mut M,
-    state: &mut VState,
-) -> MemEnd
-    requires room { HasRoom segments.now length }
-    requires count { length ≤ GROUP_BYTES }
-    ensures run { direction_run direction limit false
-        (access_of segments.now (record { unmasked = true; mask = register_of state.old.file 0; start = state.old.vstart; end = length })
-        (λ i. (base + i * segments.now.size) % 2 ^ 64))
-        state.old (M.memory memory.old) ≡ runs_to result state.new (M.memory memory.new) }
-    ensures others { memory.new ≡ M.with_memory memory.old (M.memory memory.new) }
-{
-    let transfer = Transfer {
-        op: operation(direction),
-        unmasked: true,
-        segments: *segments,
-        addresses: Strided {
-            base,
-            stride: segments.size as u64,
-        },
-        count: length,
-    };
-    let extent = Extent {
-        limit,
-        fill_masked_off: false,
-    };
-    transfer.run(extent, memory, state)
-}
-
-/// A load or store at a distance, under a vector type.
-#[tactic(auto, unfolding(rv_model::specs::accesses::AccessRuns::access_run))]
-#[inline(always)]
-fn run_distances<M: UserBytes>(
-    instr: &Instr,
-    vtype: VType,
-    extent: Extent,
-    scalar: &Scalar,
-    memory: &mut M,
-    state: &mut VState,
-) -> MemEnd
-    requires access { IsTrue (is_distance_access instr.now) }
-    requires vtype { state.old.conf.vtype ≡ Some vtype }
-    requires length { state.old.conf.vl ≤ vlmax vtype }
-    requires legal { IsTrue (is_legal instr.now (Some vtype) state.old.vstart) }
-    ensures run { access_run extent.limit extent.fill_masked_off instr.now state.old scalar.now (M.memory memory.old)
-        ≡ runs_to result state.new (M.memory memory.new) }
-    ensures others { memory.new ≡ M.with_memory memory.old (M.memory memory.new) }
-{
-    match *instr {
-        Instr::VectorUnit {
-            op,
-            width,
-            nf,
-            vd,
-            rs1,
-            vm,
-        } => {
-            let emul = emul_of(width, vtype);
-            let segments = grouped_segments(nf, element_bytes(width), emul, vd);
-            run_unit_stride(op, &segments, scalar.read(rs1), vm, extent, memory, state)
-        }
-        Instr::VectorStrided {
-            direction,
-            width,
-            nf,
-            vd,
-            rs1,
-            rs2,
-            vm,
-        } => {
-            let emul = emul_of(width, vtype);
-            let segments = grouped_segments(nf, element_bytes(width), emul, vd);
-            let addresses = Strided {
-                base: scalar.read(rs1),
-                stride: scalar.read(rs2),
-            };
-            run_strided(direction, &segments, addresses, vm, extent, memory, state)
-        }
-        _ => MemEnd::Done,
-    }
-}
-
 /// A load or store at offsets, under a vector type; its elements have the width that the type has.
 #[tactic(auto, unfolding(rv_model::specs::accesses::AccessRuns::access_run))]
-#[inline(never)]
-fn run_offsets<M: UserBytes>(
+#[inline(always)]
+fn run_offsets_under<M: UserBytes>(
     instr: &Instr,
     vtype: VType,
     extent: Extent,
@@ -282,17 +293,17 @@ fn run_offsets<M: UserBytes>(
     }
 }
 
-/// A load or store of elements or segments, which needs a vector type.
+/// A load or store at offsets, under the vector type that there is.
 #[tactic(auto, unfolding(rv_model::specs::accesses::AccessRuns::access_run))]
 #[inline(always)]
-fn run_segments<M: UserBytes>(
+fn run_offsets<M: UserBytes>(
     instr: &Instr,
     extent: Extent,
     scalar: &Scalar,
     memory: &mut M,
     state: &mut VState,
 ) -> MemEnd
-    requires access { IsTrue (is_segment_access instr.now) }
+    requires access { IsTrue (is_offset_access instr.now) }
     requires legal { IsTrue (is_legal instr.now state.old.conf.vtype state.old.vstart) }
     ensures run { access_run extent.limit extent.fill_masked_off instr.now state.old scalar.now (M.memory memory.old)
         ≡ runs_to result state.new (M.memory memory.new) }
@@ -301,77 +312,60 @@ fn run_segments<M: UserBytes>(
     let Some(vtype) = state.conf.vtype() else {
         return MemEnd::Done;
     };
-    match *instr {
-        Instr::VectorUnit { .. } | Instr::VectorStrided { .. } => {
-            run_distances(instr, vtype, extent, scalar, memory, state)
-        }
-        Instr::VectorIndexed { .. } => run_offsets(instr, vtype, extent, scalar, memory, state),
-        _ => MemEnd::Done,
-    }
+    run_offsets_under(instr, vtype, extent, scalar, memory, state)
 }
 
-/// Segments of one field: elements of so many bytes in so many whole registers.
+/// Carries out a load or store at a distance at once, if it can be. Answers whether it is done.
 #[inline(always)]
-fn whole_segments(size: usize, count: RegisterCount, register: VReg) -> Segments
-    ensures { result ≡ record { fields = 1; size = size; register = register; field_registers = register_count count } }
+fn run_at_once<M: UserBytes>(
+    instr: &Instr,
+    extent: Extent,
+    scalar: &Scalar,
+    memory: &mut M,
+    state: &mut VState,
+) -> bool
+    requires configured { IsConfiguration state.old.conf }
+    requires legal { IsTrue (is_legal instr.now state.old.conf.vtype state.old.vstart) }
+    ensures done { result ≡ true → access_run extent.limit extent.fill_masked_off instr.now state.old scalar.now (M.memory memory.old)
+        ≡ runs_to MemEnd.Done state.new (M.memory memory.new) }
+    ensures others { memory.new ≡ M.with_memory memory.old (M.memory memory.new) }
+    ensures unchanged_state { result ≡ false → state.new ≡ state.old }
+    ensures unchanged_memory { result ≡ false → memory.new ≡ memory.old }
 {
-    Segments {
-        fields: 1,
-        size,
-        register,
-        field_registers: usize::from(register_count(count)),
+    if is_indexed(instr) {
+        return false;
     }
+    let Some(transfer) = transfer_of(instr, extent.fill_masked_off, state, scalar) else {
+        return false;
+    };
+    transfer.run_block(extent.limit, memory, state)
 }
 
-/// A load or store of whole registers or of a mask.
-#[tactic(auto, unfolding(rv_model::specs::accesses::AccessRuns::access_run))]
+/// Carries out a load or store segment by segment.
 #[inline(never)]
-fn run_registers<M: UserBytes>(
+fn run_in_turn<M: UserBytes>(
     instr: &Instr,
     extent: Extent,
     scalar: &Scalar,
     memory: &mut M,
     state: &mut VState,
 ) -> MemEnd
-    requires access { IsTrue (is_register_access instr.now) }
+    requires configured { IsConfiguration state.old.conf }
     requires legal { IsTrue (is_legal instr.now state.old.conf.vtype state.old.vstart) }
     ensures run { access_run extent.limit extent.fill_masked_off instr.now state.old scalar.now (M.memory memory.old)
         ≡ runs_to result state.new (M.memory memory.new) }
     ensures others { memory.new ≡ M.with_memory memory.old (M.memory memory.new) }
 {
-    let limit = extent.limit;
-    match *instr {
-        Instr::WholeLoad {
-            count,
-            width,
-            vd,
-            rs1,
-        } => {
-            let segments = whole_segments(element_bytes(width), count, vd);
-            let length = whole_length(count, width);
-            let direction = Direction::Load;
-            let base = scalar.read(rs1);
-            run_unmasked(direction, &segments, base, length, limit, memory, state)
-        }
-        Instr::WholeStore { count, vd, rs1 } => {
-            let segments = whole_segments(1, count, vd);
-            let length = whole_length(count, Width::E8);
-            let direction = Direction::Store;
-            let base = scalar.read(rs1);
-            run_unmasked(direction, &segments, base, length, limit, memory, state)
-        }
-        Instr::MaskMemory { direction, vd, rs1 } => {
-            let segments = whole_segments(1, RegisterCount::One, vd);
-            let length = mask_length(usize::from(state.conf.vl()));
-            let base = scalar.read(rs1);
-            run_unmasked(direction, &segments, base, length, limit, memory, state)
-        }
-        _ => MemEnd::Done,
+    if is_indexed(instr) {
+        return run_offsets(instr, extent, scalar, memory, state);
     }
+    let Some(transfer) = transfer_of(instr, extent.fill_masked_off, state, scalar) else {
+        return MemEnd::Done;
+    };
+    transfer.run_segments(extent.limit, memory, state)
 }
 
 /// A load or store, whichever it is.
-#[tactic(auto, unfolding(rv_model::specs::accesses::AccessRuns::access_run))]
 #[inline(always)]
 fn run_any<M: UserBytes>(
     instr: &Instr,
@@ -380,20 +374,18 @@ fn run_any<M: UserBytes>(
     memory: &mut M,
     state: &mut VState,
 ) -> MemEnd
+    requires configured { IsConfiguration state.old.conf }
     requires legal { IsTrue (is_legal instr.now state.old.conf.vtype state.old.vstart) }
     ensures run { access_run extent.limit extent.fill_masked_off instr.now state.old scalar.now (M.memory memory.old)
         ≡ runs_to result state.new (M.memory memory.new) }
     ensures others { memory.new ≡ M.with_memory memory.old (M.memory memory.new) }
 {
-    match *instr {
-        Instr::VectorUnit { .. } | Instr::VectorStrided { .. } | Instr::VectorIndexed { .. } => {
-            run_segments(instr, extent, scalar, memory, state)
-        }
-        Instr::WholeLoad { .. } | Instr::WholeStore { .. } | Instr::MaskMemory { .. } => {
-            run_registers(instr, extent, scalar, memory, state)
-        }
-        _ => MemEnd::Done,
+    if run_at_once(instr, extent, scalar, memory, state) {
+        return MemEnd::Done;
     }
+    // A copy of its own for the other function, so that the operands need no place in memory before.
+    let copy = *instr;
+    run_in_turn(&copy, extent, scalar, memory, state)
 }
 
 /// Carries out a vector load or store of a user, of at most `limit` indices from `vstart` on. A load leaves

@@ -12,6 +12,7 @@ use rv_model::{Instr, VLENB};
 pub(crate) fn element_bytes(width: Width) -> usize
     ensures value { result ≡ width_bytes (sew_width (element_width width)) }
     ensures some { 1 ≤ result }
+    ensures most { result ≤ 8 }
 {
     match width {
         Width::E8 => 1,

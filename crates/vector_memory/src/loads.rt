@@ -1,9 +1,9 @@
 //! Loads, index by index ("V" Vector Extension 1.0, sections 7.4 to 7.9 and 17.1).
-ghost use Rattle.std.specs.Prelude.{◌≡◌, ◌↔◌, ◌+◌, ◌-◌, ◌≤◌, ◌<◌, ℕ, true, Bool, IsOk, IfErr, OnOk, OnErr, IfSome, IfNone};
+ghost use Rattle.std.specs.Prelude.{◌≡◌, ◌↔◌, ◌+◌, ◌≤◌, ◌<◌, ℕ, true, IsOk, IfErr, OnOk, OnErr, IfSome, IfNone};
 ghost use Rattle.rv_model.specs.declared.memory.Access.TheVariants.{Load};
-ghost use Rattle.rv_model.specs.accesses.Transfers.{are_allowed, bad_address, end_at, loaded, stop_index, transfers};
+ghost use Rattle.rv_model.specs.accesses.Transfers.{are_allowed, bad_address, loaded};
 ghost use Rattle.rv_model.specs.accesses.VectorAccess.{plan};
-ghost use Rattle.rv_model.specs.memory.Memory.{Memory};
+ghost use Rattle.vector_memory.specs.Moves.{IsLoaded};
 ghost use Rattle.vector_memory.specs.SegmentRoom.{HasRoom, StopsBefore, access_of, place_in};
 
 use crate::addresses::Addresses;
@@ -60,17 +60,8 @@ fn load_each<M: UserBytes, A: Addresses>(
     requires room { HasRoom segments.now body.now.end }
     requires count { body.now.end ≤ GROUP_BYTES }
     requires addresses { (i : ℕ) → i < body.now.end → A.has addresses.now i }
-    ensures end { result ≡ end_at Load (M.memory memory.now)
-        (plan (access_of segments.now body.now (A.address addresses.now)) fill_masked_off)
-        (body.now.start + limit) body.now.end
-        (stop_index Load (M.memory memory.now)
-        (plan (access_of segments.now body.now (A.address addresses.now)) fill_masked_off)
-        body.now.start (body.now.start + limit) body.now.end) }
-    ensures value { file.new ≡ loaded (M.memory memory.now) (place_in segments.now) file.old
-        (transfers (plan (access_of segments.now body.now (A.address addresses.now)) fill_masked_off) body.now.start
-        (stop_index Load (M.memory memory.now)
-        (plan (access_of segments.now body.now (A.address addresses.now)) fill_masked_off)
-        body.now.start (body.now.start + limit) body.now.end - body.now.start)) }
+    ensures loaded { IsLoaded limit fill_masked_off (access_of segments.now body.now (A.address addresses.now))
+        (M.memory memory.now) file.old result file.new }
     ensures least { StopsBefore body.now.end result }
 {
     let stop = body.start().saturating_add(limit).min(body.end());
@@ -107,18 +98,8 @@ fn load_span<M: UserBytes, A: Addresses>(
     requires room { HasRoom segments.now body.now.end }
     requires count { body.now.end ≤ GROUP_BYTES }
     requires addresses { (i : ℕ) → i < body.now.end → A.has addresses.now i }
-    ensures end { IfSome result (λ end. end ≡ end_at Load (M.memory memory.now)
-        (plan (access_of segments.now body.now (A.address addresses.now)) fill_masked_off)
-        (body.now.start + limit) body.now.end
-        (stop_index Load (M.memory memory.now)
-        (plan (access_of segments.now body.now (A.address addresses.now)) fill_masked_off)
-        body.now.start (body.now.start + limit) body.now.end)) }
-    ensures value { IfSome result (λ end. file.new
-        ≡ loaded (M.memory memory.now) (place_in segments.now) file.old
-        (transfers (plan (access_of segments.now body.now (A.address addresses.now)) fill_masked_off) body.now.start
-        (stop_index Load (M.memory memory.now)
-        (plan (access_of segments.now body.now (A.address addresses.now)) fill_masked_off)
-        body.now.start (body.now.start + limit) body.now.end - body.now.start))) }
+    ensures loaded { IfSome result (λ end. IsLoaded limit fill_masked_off (access_of segments.now body.now (A.address addresses.now))
+        (M.memory memory.now) file.old end file.new) }
     ensures least { IfSome result (StopsBefore body.now.end) }
     ensures unchanged { IfNone result (file.new ≡ file.old) }
 {
@@ -144,17 +125,8 @@ pub(crate) fn load<M: UserBytes, A: Addresses>(
     requires room { HasRoom segments.now body.now.end }
     requires count { body.now.end ≤ GROUP_BYTES }
     requires addresses { (i : ℕ) → i < body.now.end → A.has addresses.now i }
-    ensures end { result ≡ end_at Load (M.memory memory.now)
-        (plan (access_of segments.now body.now (A.address addresses.now)) fill_masked_off)
-        (body.now.start + limit) body.now.end
-        (stop_index Load (M.memory memory.now)
-        (plan (access_of segments.now body.now (A.address addresses.now)) fill_masked_off)
-        body.now.start (body.now.start + limit) body.now.end) }
-    ensures value { file.new ≡ loaded (M.memory memory.now) (place_in segments.now) file.old
-        (transfers (plan (access_of segments.now body.now (A.address addresses.now)) fill_masked_off) body.now.start
-        (stop_index Load (M.memory memory.now)
-        (plan (access_of segments.now body.now (A.address addresses.now)) fill_masked_off)
-        body.now.start (body.now.start + limit) body.now.end - body.now.start)) }
+    ensures loaded { IsLoaded limit fill_masked_off (access_of segments.now body.now (A.address addresses.now))
+        (M.memory memory.now) file.old result file.new }
     ensures least { StopsBefore body.now.end result }
 {
     if let Some(end) = load_span(

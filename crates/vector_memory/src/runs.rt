@@ -22,89 +22,6 @@ pub(crate) struct Extent {
     pub fill_masked_off: bool,
 }
 
-/// Loads segments.
-#[tactic(auto, unfolding(rv_model::specs::accesses::AccessRuns::load_run))]
-#[inline(always)]
-fn load_segments<M: UserBytes, A: Addresses>(
-    segments: &Segments,
-    addresses: &A,
-    body: &Body<'_>,
-    extent: Extent,
-    memory: &M,
-    state: &mut VState,
-) -> MemEnd
-    requires room { HasRoom segments.now body.now.end }
-    requires count { body.now.end ≤ GROUP_BYTES }
-    requires addresses { (i : ℕ) → i < body.now.end → A.has addresses.now i }
-    ensures { load_run extent.limit false extent.fill_masked_off (access_of segments.now body.now (A.address addresses.now))
-        state.old (M.memory memory.now) ≡ runs_to result state.new (M.memory memory.now) }
-{
-    let end = load(
-        memory,
-        segments,
-        addresses,
-        body,
-        extent.limit,
-        extent.fill_masked_off,
-        &mut state.file,
-    );
-    leave(end, state);
-    end
-}
-
-/// Loads segments, where the first alone may fault.
-#[tactic(auto, unfolding(rv_model::specs::accesses::AccessRuns::load_run))]
-#[inline(always)]
-fn load_first_only<M: UserBytes, A: Addresses>(
-    segments: &Segments,
-    addresses: &A,
-    body: &Body<'_>,
-    extent: Extent,
-    memory: &M,
-    state: &mut VState,
-) -> MemEnd
-    requires room { HasRoom segments.now body.now.end }
-    requires count { body.now.end ≤ GROUP_BYTES }
-    requires length { body.now.end ≡ state.old.conf.vl }
-    requires addresses { (i : ℕ) → i < body.now.end → A.has addresses.now i }
-    ensures { load_run extent.limit true extent.fill_masked_off (access_of segments.now body.now (A.address addresses.now))
-        state.old (M.memory memory.now) ≡ runs_to result state.new (M.memory memory.now) }
-{
-    let end = load(
-        memory,
-        segments,
-        addresses,
-        body,
-        extent.limit,
-        extent.fill_masked_off,
-        &mut state.file,
-    );
-    leave_first_only(end, state)
-}
-
-/// Stores segments.
-#[tactic(auto, unfolding(rv_model::specs::accesses::AccessRuns::store_run))]
-#[inline(always)]
-fn store_segments<M: UserBytes, A: Addresses>(
-    segments: &Segments,
-    addresses: &A,
-    body: &Body<'_>,
-    limit: usize,
-    memory: &mut M,
-    state: &mut VState,
-) -> MemEnd
-    requires room { HasRoom segments.now body.now.end }
-    requires count { body.now.end ≤ GROUP_BYTES }
-    requires addresses { (i : ℕ) → i < body.now.end → A.has addresses.now i }
-    ensures run { store_run limit (access_of segments.now body.now (A.address addresses.now)) state.old (M.memory memory.old)
-        ≡ runs_to result state.new (M.memory memory.new) }
-    ensures others { memory.new ≡ M.with_memory memory.old (M.memory memory.new) }
-{
-    let end = store(&state.file, segments, addresses, body, limit, memory);
-    leave(end, state);
-    end
-}
-
 /// Loads or stores segments.
 #[inline(always)]
 pub(crate) fn run_unit<M: UserBytes, A: Addresses>(
@@ -126,10 +43,37 @@ pub(crate) fn run_unit<M: UserBytes, A: Addresses>(
     ensures others { memory.new ≡ M.with_memory memory.old (M.memory memory.new) }
 {
     match op {
-        UnitOp::Load => load_segments(segments, addresses, body, extent, memory, state),
-        UnitOp::FaultOnlyFirst => {
-            load_first_only(segments, addresses, body, extent, memory, state)
+        UnitOp::Load => {
+            let fill = extent.fill_masked_off;
+            let end = load(
+                memory,
+                segments,
+                addresses,
+                body,
+                extent.limit,
+                fill,
+                &mut state.file,
+            );
+            leave(end, state);
+            end
         }
-        UnitOp::Store => store_segments(segments, addresses, body, extent.limit, memory, state),
+        UnitOp::FaultOnlyFirst => {
+            let fill = extent.fill_masked_off;
+            let end = load(
+                memory,
+                segments,
+                addresses,
+                body,
+                extent.limit,
+                fill,
+                &mut state.file,
+            );
+            leave_first_only(end, state)
+        }
+        UnitOp::Store => {
+            let end = store(&state.file, segments, addresses, body, extent.limit, memory);
+            leave(end, state);
+            end
+        }
     }
 }

@@ -5,18 +5,16 @@ ghost use Rattle.rv_model.specs.accesses.Transfers.{loaded, stored, transfers};
 ghost use Rattle.rv_model.specs.accesses.VectorAccess.{plan};
 ghost use Rattle.rv_model.specs.declared.memory.Access.TheVariants.{Load, Store};
 ghost use Rattle.rv_model.specs.memory.Memory.{Memory, can_access, put_bytes};
-ghost use Rattle.vector_memory.specs.Blocks.{IsBlock};
 ghost use Rattle.vector_memory.specs.SegmentRoom.{HasRoom, access_of, place_in};
 ghost use Rattle.vector_memory.specs.Spans.{Follows, IsSpan};
 
 use crate::addresses::Addresses;
-use crate::blocks::Block;
 use crate::segments::Segments;
 use crate::span_blends::{read_contiguous, write_contiguous};
 use crate::span_elements::{read_elements, write_elements};
 use crate::user_bytes::UserBytes;
 use lane_arith::Body;
-use rv_model::{Access, FILE_BYTES, GROUP_BYTES, VFile};
+use rv_model::{Access, GROUP_BYTES, VFile};
 
 /// The bytes from the first of some segments on to the end of the last: their address, and how many they are. Each segment
 /// begins `distance` bytes after the one before.
@@ -66,27 +64,6 @@ pub(crate) fn span_of<A: Addresses>(
 }
 
 impl Span {
-    /// The span as a block that stands in the registers as it does in memory, where its elements are contiguous and none is
-    /// masked off.
-    #[inline(always)]
-    fn block(&self, segments: &Segments, body: &Body<'_>, stop: usize) -> Option<Block>
-        requires room { HasRoom segments.now stop }
-        requires span { IsSpan segments.now body.now stop self.now }
-        ensures value { IfSome result (λ block. (address : ℕ → ℕ) → Follows body.now stop address self.now
-            → IsBlock segments.now body.now address stop block) }
-        ensures same { IfSome result (λ block. (block.address ≡ self.now.address) × (block.length ≡ self.now.length)) }
-        ensures inside { IfSome result (λ block. block.place + block.length ≤ FILE_BYTES) }
-    {
-        if !body.is_unmasked() || segments.fields != 1 || self.distance != segments.size {
-            return None;
-        }
-        Some(Block {
-            address: self.address,
-            place: segments.place(body.start(), 0),
-            length: self.length,
-        })
-    }
-
     /// Loads the indices of a body up to `stop`, if each byte of the span may be loaded. Answers whether it did.
     #[inline(always)]
     pub(crate) fn load<M: UserBytes>(
@@ -107,12 +84,6 @@ impl Span {
             (transfers (plan (access_of segments.now body.now address) fill_masked_off) body.now.start (stop - body.now.start)) }
         ensures unchanged { result ≡ false → file.new ≡ file.old }
     {
-        if let Some(block) = self.block(segments, body, stop) {
-            let Ok(()) = block.load(memory, file) else {
-                return false;
-            };
-            return true;
-        }
         let mut buffer = [0; GROUP_BYTES];
         let bytes = &mut buffer[..self.length];
         let Ok(()) = memory.read(self.address, Access::Load, bytes) else {
@@ -169,12 +140,6 @@ impl Span {
         ensures others { result ≡ true → memory.new ≡ M.with_memory memory.old (M.memory memory.new) }
         ensures unchanged { result ≡ false → memory.new ≡ memory.old }
     {
-        if let Some(block) = self.block(segments, body, stop) {
-            let Ok(()) = block.store(file, memory) else {
-                return false;
-            };
-            return true;
-        }
         let mut buffer = [0; GROUP_BYTES];
         let bytes = &mut buffer[..self.length];
         let Ok(()) = memory.read(self.address, Access::Store, bytes) else {

@@ -1,8 +1,9 @@
 //! Stores, index by index ("V" Vector Extension 1.0, sections 7.4 to 7.9 and 17.1).
-ghost use Rattle.std.specs.Prelude.{◌≡◌, ◌↔◌, ◌+◌, ◌-◌, ◌≤◌, ◌<◌, ℕ, true, false, IsOk, IfErr, OnOk, OnErr, IfSome, IfNone};
+ghost use Rattle.std.specs.Prelude.{◌≡◌, ◌↔◌, ◌+◌, ◌≤◌, ◌<◌, ℕ, true, false, IsOk, IfErr, OnOk, OnErr, IfSome, IfNone};
 ghost use Rattle.rv_model.specs.declared.memory.Access.TheVariants.{Store};
-ghost use Rattle.rv_model.specs.accesses.Transfers.{are_allowed, bad_address, end_at, stop_index, stored, transfers};
+ghost use Rattle.rv_model.specs.accesses.Transfers.{are_allowed, bad_address, stored};
 ghost use Rattle.rv_model.specs.accesses.VectorAccess.{plan};
+ghost use Rattle.vector_memory.specs.Moves.{IsStored};
 ghost use Rattle.vector_memory.specs.SegmentRoom.{HasRoom, StopsBefore, access_of, place_in};
 
 use crate::addresses::Addresses;
@@ -55,19 +56,10 @@ fn store_each<M: UserBytes, A: Addresses>(
     requires room { HasRoom segments.now body.now.end }
     requires count { body.now.end ≤ GROUP_BYTES }
     requires addresses { (i : ℕ) → i < body.now.end → A.has addresses.now i }
-    ensures end { result ≡ end_at Store (M.memory memory.old)
-        (plan (access_of segments.now body.now (A.address addresses.now)) false)
-        (body.now.start + limit) body.now.end
-        (stop_index Store (M.memory memory.old)
-        (plan (access_of segments.now body.now (A.address addresses.now)) false)
-        body.now.start (body.now.start + limit) body.now.end) }
-    ensures value { M.memory memory.new ≡ stored (M.memory memory.old) (place_in segments.now) file.now
-        (transfers (plan (access_of segments.now body.now (A.address addresses.now)) false) body.now.start
-        (stop_index Store (M.memory memory.old)
-        (plan (access_of segments.now body.now (A.address addresses.now)) false)
-        body.now.start (body.now.start + limit) body.now.end - body.now.start)) }
-    ensures others { memory.new ≡ M.with_memory memory.old (M.memory memory.new) }
+    ensures stored { IsStored limit (access_of segments.now body.now (A.address addresses.now)) file.now
+        (M.memory memory.old) result (M.memory memory.new) }
     ensures least { StopsBefore body.now.end result }
+    ensures others { memory.new ≡ M.with_memory memory.old (M.memory memory.new) }
 {
     let stop = body.start().saturating_add(limit).min(body.end());
     for index in body.start()..stop {
@@ -94,18 +86,8 @@ fn store_span<M: UserBytes, A: Addresses>(
     requires room { HasRoom segments.now body.now.end }
     requires count { body.now.end ≤ GROUP_BYTES }
     requires addresses { (i : ℕ) → i < body.now.end → A.has addresses.now i }
-    ensures end { IfSome result (λ end. end ≡ end_at Store (M.memory memory.old)
-        (plan (access_of segments.now body.now (A.address addresses.now)) false)
-        (body.now.start + limit) body.now.end
-        (stop_index Store (M.memory memory.old)
-        (plan (access_of segments.now body.now (A.address addresses.now)) false)
-        body.now.start (body.now.start + limit) body.now.end)) }
-    ensures value { IfSome result (λ end. M.memory memory.new
-        ≡ stored (M.memory memory.old) (place_in segments.now) file.now
-        (transfers (plan (access_of segments.now body.now (A.address addresses.now)) false) body.now.start
-        (stop_index Store (M.memory memory.old)
-        (plan (access_of segments.now body.now (A.address addresses.now)) false)
-        body.now.start (body.now.start + limit) body.now.end - body.now.start))) }
+    ensures stored { IfSome result (λ end. IsStored limit (access_of segments.now body.now (A.address addresses.now)) file.now
+        (M.memory memory.old) end (M.memory memory.new)) }
     ensures others { IfSome result (λ end. memory.new ≡ M.with_memory memory.old (M.memory memory.new)) }
     ensures least { IfSome result (StopsBefore body.now.end) }
     ensures unchanged { IfNone result (memory.new ≡ memory.old) }
@@ -131,19 +113,10 @@ pub(crate) fn store<M: UserBytes, A: Addresses>(
     requires room { HasRoom segments.now body.now.end }
     requires count { body.now.end ≤ GROUP_BYTES }
     requires addresses { (i : ℕ) → i < body.now.end → A.has addresses.now i }
-    ensures end { result ≡ end_at Store (M.memory memory.old)
-        (plan (access_of segments.now body.now (A.address addresses.now)) false)
-        (body.now.start + limit) body.now.end
-        (stop_index Store (M.memory memory.old)
-        (plan (access_of segments.now body.now (A.address addresses.now)) false)
-        body.now.start (body.now.start + limit) body.now.end) }
-    ensures value { M.memory memory.new ≡ stored (M.memory memory.old) (place_in segments.now) file.now
-        (transfers (plan (access_of segments.now body.now (A.address addresses.now)) false) body.now.start
-        (stop_index Store (M.memory memory.old)
-        (plan (access_of segments.now body.now (A.address addresses.now)) false)
-        body.now.start (body.now.start + limit) body.now.end - body.now.start)) }
-    ensures others { memory.new ≡ M.with_memory memory.old (M.memory memory.new) }
+    ensures stored { IsStored limit (access_of segments.now body.now (A.address addresses.now)) file.now
+        (M.memory memory.old) result (M.memory memory.new) }
     ensures least { StopsBefore body.now.end result }
+    ensures others { memory.new ≡ M.with_memory memory.old (M.memory memory.new) }
 {
     if let Some(end) = store_span(file, segments, addresses, body, limit, memory) {
         return end;

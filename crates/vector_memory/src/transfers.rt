@@ -1,68 +1,147 @@
 //! Loads and stores of segments at one distance from one another: all but the indexed ones ("V" Vector Extension 1.0,
 //! sections 7.4, 7.5 and 7.7 to 7.9).
-ghost use Rattle.std.specs.Prelude.{◌≡◌, ◌+◌, ◌*◌, ◌%◌, ◌^◌, ◌≤◌, Bool, ℕ};
-ghost use Rattle.rv_model.specs.accesses.AccessRuns.{direction_run, runs_to, unit_run};
-ghost use Rattle.rv_model.specs.accesses.VectorAccess.{VectorAccess};
-ghost use Rattle.rv_model.specs.declared.vector.state.VState.{VState as VectorState};
-ghost use Rattle.rv_model.specs.memory.Memory.{Memory};
-ghost use Rattle.rv_model.specs.vector.Registers.{register_of};
+ghost use Rattle.std.specs.Prelude.{◌≡◌, ◌+◌, ◌*◌, ◌%◌, ◌^◌, ◌≤◌, Bool, IfSome, List, false, true, ℕ};
+ghost use Rattle.rv_model.specs.accesses.AccessRuns.{load_run, runs_to, store_run};
+ghost use Rattle.rv_model.specs.declared.step.memory_end.MemEnd.TheVariants.{Done};
+ghost use Rattle.rv_model.specs.elements.Elements.{Body as BodyOf};
+ghost use Rattle.vector_memory.specs.Blocks.{IsBlock};
+ghost use Rattle.vector_memory.specs.Distances.{transfer_run};
 ghost use Rattle.vector_memory.specs.SegmentRoom.{HasRoom, access_of};
+ghost use Rattle.vector_memory.specs.declared.segments.Segments.{Segments as SegmentsOf};
 
 use crate::addresses::Strided;
+use crate::blocks::Block;
 use crate::runs::{Extent, run_unit};
 use crate::segments::Segments;
 use crate::user_bytes::UserBytes;
 use lane_arith::Body;
 use reg_groups::mask_register;
-use rv_model::instructions::operations::{Direction, UnitOp};
-use rv_model::{GROUP_BYTES, MemEnd, VState};
+use rv_model::instructions::operations::UnitOp;
+use rv_model::{FILE_BYTES, GROUP_BYTES, MemEnd, VLENB, VState};
 
-/// What such a load or store does: whether none of its segments is masked off, the segments and their count, and where they
-/// lie in memory.
+/// What such a load or store does: whether none of its segments is masked off, whether those that are become all ones, the
+/// segments and their count, and where they lie in memory.
 #[derive(Clone, Copy)]
 pub(crate) struct Transfer {
     pub op: UnitOp,
     pub unmasked: bool,
+    pub fill_masked_off: bool,
     pub segments: Segments,
     pub addresses: Strided,
     pub count: usize,
 }
 
-/// The same direction, of an operation that may be a fault-only-first load.
+/// Loads a block, if each of its bytes may be loaded; then a load of all of its elements is done.
 #[inline(always)]
-pub(crate) fn operation(direction: Direction) -> UnitOp
-    ensures same { (limit : ℕ) (fill : Bool) (a : VectorAccess) (v : VectorState) (m : Memory)
-        → unit_run result limit fill a v m ≡ direction_run direction limit fill a v m }
-    ensures each { result ≡ UnitOp.FaultOnlyFirst → ⊥ }
+fn load_whole<M: UserBytes>(block: &Block, memory: &M, state: &mut VState) -> bool
+    requires inside { block.now.place + block.now.length ≤ FILE_BYTES }
+    requires first { state.old.vstart ≡ 0 }
+    ensures done { result ≡ true → (s : SegmentsOf) (body : BodyOf) (address : ℕ → ℕ) (limit : ℕ) (first_only fill : Bool)
+        → IsBlock s body address body.end block.now → body.start ≡ 0 → body.end ≤ limit
+        → load_run limit first_only fill (access_of s body address) state.old (M.memory memory.now)
+        ≡ runs_to Done state.new (M.memory memory.now) }
+    ensures unchanged { result ≡ false → state.new ≡ state.old }
 {
-    match direction {
-        Direction::Load => UnitOp::Load,
-        Direction::Store => UnitOp::Store,
-    }
+    let Ok(()) = block.load(memory, &mut state.file) else {
+        return false;
+    };
+    true
+}
+
+/// Stores a block, if each of its bytes may be stored; then a store of all of its elements is done.
+#[inline(always)]
+fn store_whole<M: UserBytes>(block: &Block, memory: &mut M, state: &VState) -> bool
+    requires inside { block.now.place + block.now.length ≤ FILE_BYTES }
+    requires first { state.now.vstart ≡ 0 }
+    ensures done { result ≡ true → (s : SegmentsOf) (body : BodyOf) (address : ℕ → ℕ) (limit : ℕ)
+        → IsBlock s body address body.end block.now → body.start ≡ 0 → body.end ≤ limit
+        → store_run limit (access_of s body address) state.now (M.memory memory.old)
+        ≡ runs_to Done state.now (M.memory memory.new) }
+    ensures others { memory.new ≡ M.with_memory memory.old (M.memory memory.new) }
+    ensures unchanged { result ≡ false → memory.new ≡ memory.old }
+{
+    let Ok(()) = block.store(&state.file, memory) else {
+        return false;
+    };
+    true
 }
 
 impl Transfer {
-    /// Carries it out.
-    #[inline(never)]
-    pub(crate) fn run<M: UserBytes>(
+    /// All of it as a block that stands in the registers as it does in memory, where it begins at index 0 and comes within a number
+    /// of indices, and its elements are contiguous and none is masked off.
+    #[inline(always)]
+    fn block(&self, start: u8, limit: usize) -> Option<Block>
+        requires room { HasRoom self.now.segments self.now.count }
+        requires count { self.now.count ≤ GROUP_BYTES }
+        ensures first { IfSome result (λ block. start ≡ 0) }
+        ensures reach { IfSome result (λ block. self.now.count ≤ limit) }
+        ensures value { IfSome result (λ block. (mask : List ℕ) → IsBlock self.now.segments
+            (record { unmasked = self.now.unmasked; mask = mask; start = start; end = self.now.count })
+            (λ i. (self.now.addresses.base + i * self.now.addresses.stride) % 2 ^ 64) self.now.count block) }
+        ensures inside { IfSome result (λ block. block.place + block.length ≤ FILE_BYTES) }
+    {
+        let size = self.segments.size;
+        if !self.unmasked || self.segments.fields != 1 || self.addresses.stride != size as u64 {
+            return None;
+        }
+        if start != 0 || limit < self.count {
+            return None;
+        }
+        let length = self.count * size;
+        self.addresses.base.checked_add(length as u64)?;
+        Some(Block {
+            address: self.addresses.base,
+            place: VLENB * self.segments.register.number() as usize,
+            length,
+        })
+    }
+
+    /// Carries all of it out at once, if it is a block each byte of which may be loaded or stored. Answers whether it is done.
+    #[inline(always)]
+    pub(crate) fn run_block<M: UserBytes>(
         &self,
-        extent: Extent,
+        limit: usize,
+        memory: &mut M,
+        state: &mut VState,
+    ) -> bool
+        requires room { HasRoom self.now.segments self.now.count }
+        requires count { self.now.count ≤ GROUP_BYTES }
+        ensures done { result ≡ true → transfer_run limit self.now state.old (M.memory memory.old)
+            ≡ runs_to Done state.new (M.memory memory.new) }
+        ensures others { memory.new ≡ M.with_memory memory.old (M.memory memory.new) }
+        ensures unchanged_state { result ≡ false → state.new ≡ state.old }
+        ensures unchanged_memory { result ≡ false → memory.new ≡ memory.old }
+    {
+        let Some(block) = self.block(state.vstart, limit) else {
+            return false;
+        };
+        match self.op {
+            UnitOp::Load => load_whole(&block, memory, state),
+            UnitOp::FaultOnlyFirst => load_whole(&block, memory, state),
+            UnitOp::Store => store_whole(&block, memory, state),
+        }
+    }
+
+    /// Carries it out segment by segment, as far as so many indices.
+    pub(crate) fn run_segments<M: UserBytes>(
+        &self,
+        limit: usize,
         memory: &mut M,
         state: &mut VState,
     ) -> MemEnd
         requires room { HasRoom self.now.segments self.now.count }
         requires count { self.now.count ≤ GROUP_BYTES }
         requires length { self.now.op ≡ UnitOp.FaultOnlyFirst → self.now.count ≡ state.old.conf.vl }
-        ensures run { unit_run self.now.op extent.limit extent.fill_masked_off
-            (access_of self.now.segments
-            (record { unmasked = self.now.unmasked; mask = register_of state.old.file 0; start = state.old.vstart; end = self.now.count })
-            (λ i. (self.now.addresses.base + i * self.now.addresses.stride) % 2 ^ 64))
-            state.old (M.memory memory.old) ≡ runs_to result state.new (M.memory memory.new) }
+        ensures run { transfer_run limit self.now state.old (M.memory memory.old) ≡ runs_to result state.new (M.memory memory.new) }
         ensures others { memory.new ≡ M.with_memory memory.old (M.memory memory.new) }
     {
         let mask = mask_register(&state.file);
         let start = usize::from(state.vstart);
         let body = Body::new(self.unmasked, &mask, start, self.count);
+        let extent = Extent {
+            limit,
+            fill_masked_off: self.fill_masked_off,
+        };
         run_unit(
             self.op,
             &self.segments,

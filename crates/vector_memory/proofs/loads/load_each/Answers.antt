@@ -41,8 +41,8 @@ loop-index-preserved g c =
       most = omega (arith, c.loop-index-test.true, c.min-stop.ensures, c.end.ensures);
     }
 
-pub returns-in-Err-clause-end : goal.returns-in-Err-clause-end
-returns-in-Err-clause-end g c =
+pub returns-in-Err-clause-loaded : goal.returns-in-Err-clause-loaded
+returns-in-Err-clause-loaded g c =
     let m = g.M.UserBytes.memory c.args.memory.now in
     let each = plan (access_of c.args.segments.now c.args.body.now (g.A.Addresses.address c.args.addresses.now)) c.args.fill_masked_off in
     let start = c.args.body.now.start in
@@ -50,32 +50,13 @@ returns-in-Err-clause-end g c =
     let bad : are_allowed Load m (each i) ≡ false = false_from_ne_true _ (λ t. let is_not = c.in-Err.ensures.ok.1 t in cc) in
     let low : start ≤ i = omega (arith, c.loop-index.auto.index, c.start-index.ensures) in
     let stopped = stops_bad Load m each start (start + c.args.limit) c.args.body.now.end i low (omega arith) (omega arith) c.loop-index.invariant.allowed bad in
-    ap (λ addr. Fault i addr) c.in-Err.ensures.fault ∙ sym stopped.end
+    record {
+      end = ap (λ addr. Fault i addr) c.in-Err.ensures.fault ∙ sym stopped.end;
+      value = c.in-Err.ensures.unchanged ∙ c.loop-index.invariant.value ∙ ap (loaded m (place_in c.args.segments.now) c.args.file.now) (sym stopped.done);
+    }
 
-pub returns-in-Err-clause-value : goal.returns-in-Err-clause-value
-returns-in-Err-clause-value g c =
-    let m = g.M.UserBytes.memory c.args.memory.now in
-    let each = plan (access_of c.args.segments.now c.args.body.now (g.A.Addresses.address c.args.addresses.now)) c.args.fill_masked_off in
-    let start = c.args.body.now.start in
-    let i = c.loop-index.index in
-    let bad : are_allowed Load m (each i) ≡ false = false_from_ne_true _ (λ t. let is_not = c.in-Err.ensures.ok.1 t in cc) in
-    let low : start ≤ i = omega (arith, c.loop-index.auto.index, c.start-index.ensures) in
-    let stopped = stops_bad Load m each start (start + c.args.limit) c.args.body.now.end i low (omega arith) (omega arith) c.loop-index.invariant.allowed bad in
-    c.in-Err.ensures.unchanged ∙ c.loop-index.invariant.value ∙ ap (loaded m (place_in c.args.segments.now) c.args.file.now) (sym stopped.done)
-
-pub returns-clause-end : goal.returns-clause-end
-returns-clause-end g c =
-    let m = g.M.UserBytes.memory c.args.memory.now in
-    let each = plan (access_of c.args.segments.now c.args.body.now (g.A.Addresses.address c.args.addresses.now)) c.args.fill_masked_off in
-    let body = c.args.body.now in
-    let stop : c.min-stop.result ≡ min body.end (body.start + c.args.limit) =
-    omega (arith, c.requires.count, c.min-stop.ensures, c.end.ensures, c.saturating_add.ensures, c.start.ensures) in
-    let stopped = stops_all Load m each body.start (body.start + c.args.limit) body.end c.min-stop.result stop (omega arith)
-    (λ k low high. c.loop-index.invariant.allowed k low (omega (arith, high, c.loop-index-test.false))) in
-    c.end_without_fault.ensures.value ∙ ap (λ end. cond (nat_lt c.min-stop.result end) (Cut c.min-stop.result) Done) c.end-2.ensures ∙ sym stopped.end
-
-pub returns-clause-value : goal.returns-clause-value
-returns-clause-value g c =
+pub returns-clause-loaded : goal.returns-clause-loaded
+returns-clause-loaded g c =
     let m = g.M.UserBytes.memory c.args.memory.now in
     let each = plan (access_of c.args.segments.now c.args.body.now (g.A.Addresses.address c.args.addresses.now)) c.args.fill_masked_off in
     let body = c.args.body.now in
@@ -88,4 +69,7 @@ returns-clause-value g c =
       | inl past ↦ omega (arith, past, stop, c.loop-index-test.false, c.loop-index.invariant.most)
       | inr within ↦ omega (arith, c.loop-index-test.false, c.loop-index.auto.index-end (omega (arith, within, c.start-index.ensures)))
     ] in
-    c.loop-index.invariant.value ∙ ap (loaded m (place_in c.args.segments.now) c.args.file.now) (ap (transfers each body.start) count ∙ sym stopped.done)
+    record {
+      end = c.end_without_fault.ensures.value ∙ ap (λ end. cond (nat_lt c.min-stop.result end) (Cut c.min-stop.result) Done) c.end-2.ensures ∙ sym stopped.end;
+      value = c.loop-index.invariant.value ∙ ap (loaded m (place_in c.args.segments.now) c.args.file.now) (ap (transfers each body.start) count ∙ sym stopped.done);
+    }

@@ -3,15 +3,8 @@ use Rattle.rv_model.specs.accesses.Transfers.{stored, transfers}
 use Rattle.rv_model.specs.accesses.VectorAccess.{plan}
 use Rattle.rv_model.specs.memory.Memory.{put_bytes}
 use Rattle.vector_memory.specs.SegmentRoom.{access_of, place_in}
-use Rattle.vector_memory.proofs.BlockMoves.{stores_block}
 use Rattle.vector_memory.proofs.SpanMoves.{put_read}
 use Rattle.vector_memory.proofs.spans.Span.store.Goals as goal
-
-pub returns-in-Some-clause-value : goal.returns-in-Some-clause-value
-returns-in-Some-clause-value g c = λ done address follows.
-    c.in-Ok.ensures.value
-    ∙ stores_block c.args.segments.now c.args.body.now address c.args.stop c.in-Some.block (c.in-Some.ensures.value address follows) false
-    (g.M.UserBytes.memory c.args.memory.now) c.args.file.now c.in-Ok.ensures.whole
 
 pub returns-clause-value : goal.returns-clause-value
 returns-clause-value g c = λ done address follows.
@@ -21,5 +14,5 @@ returns-clause-value g c = λ done address follows.
     let span = c.args.self.now in
     let each = transfers (plan (access_of s body address) false) body.start (c.args.stop - body.start) in
     c.in-Ok-write.ensures.value ∙ c.write.ensures.value m address follows
-    ∙ ap (λ bytes. stored (put_bytes m span.address bytes) (place_in s) c.args.file.now each) c.in-Ok-read.ensures.value
+    ∙ ap (λ bytes. stored (put_bytes m span.address bytes) (place_in s) c.args.file.now each) c.in-Ok.ensures.value
     ∙ ap (λ n. stored n (place_in s) c.args.file.now each) (put_read m span.address _)
