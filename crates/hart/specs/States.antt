@@ -1,5 +1,5 @@
 -- The model's step, told by the parts of one user.
-use Rattle.std.specs.Prelude.{ℕ, ◌≡◌, ◌||◌, Bool, List}
+use Rattle.std.specs.Prelude.{ℕ, ◌≡◌, ◌||◌, Bool, List, false, true, if◌then◌else◌}
 use Rattle.rv_model.specs.declared.vector.policy.Policy.{Policy}
 use Rattle.rv_model.specs.declared.scalar.Scalar.{Scalar}
 use Rattle.rv_model.specs.declared.step.step_end.StepEnd.{StepEnd}
@@ -7,6 +7,7 @@ use Rattle.rv_model.specs.declared.vector.state.Seat.{Seat}
 use Rattle.rv_model.specs.declared.vector.state.VState.{VState}
 use Rattle.rv_model.specs.step.Hart.{HartState, Stepped, hart_state, ends_after}
 use Rattle.rv_model.specs.memory.Memory.{Memory}
+use Rattle.rv_model.specs.vector.Configuration.{IsConfiguration}
 
 -- a step or an instruction leads from the one state to the other, with this end and these ticks
 abbrev pub LeadsTo : (HartState → Stepped) → HartState → HartState → StepEnd → ℕ → Type 0
@@ -36,3 +37,14 @@ LeadsRegisters instruction scalar scalar' end =
 -- an instruction marks the seat if it changes the vector state, whatever the output buffer holds, and leaves a mark that is there
 abbrev pub Marks : (HartState → Bool) → (List ℕ → HartState) → Seat → Seat → Type 0
 Marks dirties before old new = (output : List ℕ) → new.dirty ≡ (old.dirty || dirties (before output))
+
+-- an instruction leaves the seat that it may have been lent: marked where it changed the vector state, and else as it was; what was
+-- lent has a length that its vector type allows
+abbrev pub LeavesSeat : Bool → (HartState → Bool) → (List ℕ → HartState) → Seat → Seat → Type 0
+LeavesSeat touched dirties before old new =
+    Marks dirties before old new × (new.dirty ≡ false → new.state ≡ old.state) × (touched ≡ true → IsConfiguration old.state.conf)
+
+-- the same, and the lender of the seat: it lent it if the instruction touches the vector unit, and may lend it again
+abbrev pub Returns : {V : Type 0} → (V → Type 0) → (V → Seat) → (V → Seat → V) → Bool → (HartState → Bool) → (List ℕ → HartState) → V → V → Type 0
+Returns ready lent back touched dirties before old new =
+    LeavesSeat touched dirties before (lent old) (lent new) × (new ≡ (if touched then back old (lent new) else old)) × ready new

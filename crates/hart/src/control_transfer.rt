@@ -5,7 +5,7 @@ ghost use Rattle.rv_model.specs.step.ScalarStep.{branch_step, jump_step, jumps};
 ghost use Rattle.hart.specs.States.{LeadsRegisters};
 
 use crate::faults::fault;
-use crate::retirement::run_on;
+use crate::retirement::retire;
 use rv_model::{Cause, Field, Reg, Scalar, StepEnd};
 use scalar_core::{b_immediate, i_immediate, j_immediate};
 
@@ -57,7 +57,7 @@ pub(crate) fn jump_if(taken: bool, target: u64, scalar: &mut Scalar) -> StepEnd
     ensures uncut { result ≢ StepEnd.Cut }
 {
     if !taken {
-        return run_on(scalar);
+        return retire(scalar);
     }
     if target % 4 != 0 {
         return fault(Cause::MisalignedTarget, target, scalar);

@@ -3,7 +3,7 @@ ghost use Rattle.std.specs.Prelude.{◌≡◌, ◌≢◌};
 ghost use Rattle.rv_model.specs.step.ScalarStep.{environment_call, system_step};
 ghost use Rattle.hart.specs.States.{LeadsOutput};
 
-use crate::retirement::give;
+use crate::retirement::write_rd;
 use crate::write_call::write;
 use arrayvec::ArrayVec;
 use rv_model::instructions::operations::SystemOp;
@@ -32,7 +32,7 @@ fn call_environment<M: UserBytes>(
     if number == 64 {
         return write(scalar, memory, output);
     }
-    give(Reg::new(10), NO_SUCH_CALL.wrapping_neg(), scalar)
+    write_rd(Reg::new(10), NO_SUCH_CALL.wrapping_neg(), scalar)
 }
 
 /// ECALL, and EBREAK, which stops the program where it stands.

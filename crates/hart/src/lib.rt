@@ -1,18 +1,16 @@
 //! One instruction of one user: fetched, decoded and carried out.
 #![tactic(auto)]
 
-mod control_access;
 mod control_registers;
 mod control_transfer;
-mod ends;
 mod environment_call;
 mod faults;
 mod instruction_cycle;
 mod loads_and_stores;
 mod retirement;
 mod scalar_instructions;
+mod system_instructions;
 mod ticks;
-mod touching_instructions;
 mod vector_instructions;
 mod vectors;
 mod view;

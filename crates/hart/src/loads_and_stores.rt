@@ -9,7 +9,7 @@ ghost use Rattle.rv_model.specs.step.ScalarStep.{load_step, store_step};
 ghost use Rattle.hart.specs.States.{LeadsScalar};
 
 use crate::faults::fault;
-use crate::retirement::{give, run_on};
+use crate::retirement::{retire, write_rd};
 use rv_model::instructions::operations::{LoadOp, StoreOp};
 use rv_model::{Access, Cause, Fault, Reg, Scalar, StepEnd};
 use scalar_core::sign_extend;
@@ -117,7 +117,7 @@ pub(crate) fn load<M: UserBytes>(
     ensures uncut { result ≢ StepEnd.Cut }
 {
     match loaded(op, addr, memory) {
-        Ok(value) => give(rd, value, scalar),
+        Ok(value) => write_rd(rd, value, scalar),
         Err(_) => fault(Cause::LoadAccess, addr, scalar),
     }
 }
@@ -155,7 +155,7 @@ pub(crate) fn store<M: UserBytes>(
         StoreOp::Sd => memory.write(addr, Access::Store, &bytes),
     };
     match written {
-        Ok(()) => run_on(scalar),
+        Ok(()) => retire(scalar),
         Err(_) => fault(Cause::StoreAccess, addr, scalar),
     }
 }

@@ -7,7 +7,7 @@ use rv_model::{Reg, Scalar, StepEnd};
 
 /// The instruction ran, and the next one follows it.
 #[inline(always)]
-pub(crate) fn run_on(scalar: &mut Scalar) -> StepEnd
+pub(crate) fn retire(scalar: &mut Scalar) -> StepEnd
     ensures end { result ≡ StepEnd.Ran }
     ensures scalar { scalar.new ≡ advanced scalar.old }
 {
@@ -15,12 +15,12 @@ pub(crate) fn run_on(scalar: &mut Scalar) -> StepEnd
     StepEnd::Ran
 }
 
-/// The instruction ran, gave a register this value, and the next one follows it.
+/// The instruction ran and wrote this value to a register, and the next one follows it.
 #[inline(always)]
-pub(crate) fn give(rd: Reg, value: u64, scalar: &mut Scalar) -> StepEnd
+pub(crate) fn write_rd(rd: Reg, value: u64, scalar: &mut Scalar) -> StepEnd
     ensures end { result ≡ StepEnd.Ran }
     ensures scalar { scalar.new ≡ advanced (with_register rd value scalar.old) }
 {
     scalar.write(rd, value);
-    run_on(scalar)
+    retire(scalar)
 }

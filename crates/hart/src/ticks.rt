@@ -1,10 +1,10 @@
 //! How many ticks vector instructions take.
-ghost use Rattle.std.specs.Prelude.{◌≡◌, ◌&&◌, ◌-◌, ◌+◌, max, nat_lt, if◌then◌else◌};
+ghost use Rattle.std.specs.Prelude.{◌≡◌, ◌≤◌, ◌&&◌, ◌-◌, ◌+◌, max, nat_lt, if◌then◌else◌};
 ghost use Rattle.rv_model.specs.accesses.VectorAccess.{index_count};
 ghost use Rattle.rv_model.specs.step.VectorStep.{access_ticks, is_fault_only_first};
 
 use rv_model::instructions::operations::UnitOp;
-use rv_model::{Instr, VEnd, VState};
+use rv_model::{GROUP_BYTES, Instr, VEnd, VState};
 use vector_memory::index_count;
 
 /// The vector length and `vstart` that an instruction finds.
@@ -12,6 +12,20 @@ use vector_memory::index_count;
 pub(crate) struct Found {
     pub vl: usize,
     pub vstart: usize,
+}
+
+impl Found {
+    /// What a vector state has.
+    #[inline(always)]
+    pub(crate) fn new(state: &VState) -> Found
+        ensures value { result ≡ record { vl = state.now.conf.vl; vstart = state.now.vstart } }
+        ensures bound { state.now.conf.vl ≤ GROUP_BYTES }
+    {
+        Found {
+            vl: usize::from(state.conf.vl()),
+            vstart: usize::from(state.vstart),
+        }
+    }
 }
 
 /// Whether it is a fault-only-first load.

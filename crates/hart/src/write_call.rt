@@ -5,7 +5,7 @@ ghost use Rattle.rv_model.specs.memory.Memory.{bytes_at, can_access};
 ghost use Rattle.rv_model.specs.step.WriteCall.{output_size, write_call, write_count, write_size};
 ghost use Rattle.hart.specs.States.{LeadsOutput};
 
-use crate::retirement::give;
+use crate::retirement::write_rd;
 use arrayvec::ArrayVec;
 use rv_model::{Access, Fault, OUTPUT_SIZE, Reg, Scalar, StepEnd, WRITE_SIZE};
 use vector_memory::UserBytes;
@@ -64,17 +64,17 @@ pub(crate) fn write<M: UserBytes>(
 {
     let asked = scalar.read(Reg::new(12));
     if scalar.read(Reg::new(10)) != OUTPUT {
-        return give(Reg::new(10), BAD_FILE.wrapping_neg(), scalar);
+        return write_rd(Reg::new(10), BAD_FILE.wrapping_neg(), scalar);
     }
     if asked == 0 {
-        return give(Reg::new(10), 0, scalar);
+        return write_rd(Reg::new(10), 0, scalar);
     }
     if output.is_full() {
         return StepEnd::OutputFull;
     }
     let count = write_count(asked, output);
     match put_out(scalar.read(Reg::new(11)), count, memory, output) {
-        Ok(()) => give(Reg::new(10), count as u64, scalar),
-        Err(_) => give(Reg::new(10), BAD_ADDRESS.wrapping_neg(), scalar),
+        Ok(()) => write_rd(Reg::new(10), count as u64, scalar),
+        Err(_) => write_rd(Reg::new(10), BAD_ADDRESS.wrapping_neg(), scalar),
     }
 }

@@ -1,5 +1,5 @@
 -- What a scan of each family finds, and which families a word can be of
-use Rattle.std.proofs.Common.{◌≡◌, refl, ap, ap₂, ◌∙◌, sym, ℕ, ◌+◌, ◌*◌, ◌/◌, ◌%◌, ◌^◌, ◌<◌, List, [], ◌∷◌, ◌++◌, map, Option, Some, None, Bool, true, false, nat_eq, cond, ◌&&◌, inl, inr, arith}
+use Rattle.std.proofs.Common.{◌≡◌, refl, ap, ap₂, ◌∙◌, sym, ℕ, ◌+◌, ◌*◌, ◌/◌, ◌%◌, ◌^◌, ◌<◌, List, [], ◌∷◌, ◌++◌, map, Option, Some, None, Bool, true, false, nat_eq, cond, ◌&&◌, inl, inr, ◌⊎◌, arith}
 use Rattle.std.specs.Int.Bits.{bit_and}
 use Rattle.std.proofs.lemmas.Nat.{and_mask}
 use Rattle.std.proofs.lemmas.Bool.Decides.{eqb_tells}
@@ -325,6 +325,11 @@ pub at_7057 : (word : ℕ) → bit_and word 0x707f ≡ 0x7057
 unfolding table rows
 at_7057 word is = same_narrow 0x707f 0x7057 word is table _ refl
 
+pub at_access : (word : ℕ) → (bit_and word 0x7f ≡ 0x07) ⊎ (bit_and word 0x7f ≡ 0x27)
+    → scan table word ≡ scan (rows Units ++ rows Strideds ++ rows Indexeds ++ rows WholeLoads ++ rows WholeStores ++ rows MaskMemories) word
+at_access word (inl load) = at_07 word load
+at_access word (inr store) = at_27 word store
+
 -- every opcode of the table
 abbrev pub opcodes : List ℕ
 opcodes =
@@ -344,7 +349,10 @@ unfolding table rows
 no_place word is h =
     scan_narrow 0x7f 0x57 word is table ∙ no_scan 0x707f places word (narrowed 0x7f 0x57 table) refl h
 
-pub ruleset opcode_steps =
-    (at_03, at_07, at_0f, at_13, at_17, at_1b, at_23, at_27, at_33, at_37, at_3b, at_63, at_67, at_6f, at_73)
+-- where there is nothing, it doesn't matter what is left out
+pub none_either_way : (kept : Bool) (all : Option Instr) → all ≡ None → None ≡ cond kept all None
+none_either_way true all e = sym e
+none_either_way false all e = refl
 
-pub ruleset place_steps = (at_0057, at_4057, at_3057, at_2057, at_6057, at_7057)
+pub ruleset opcode_steps =
+    (at_03, at_0f, at_13, at_17, at_1b, at_23, at_33, at_37, at_3b, at_63, at_67, at_6f)

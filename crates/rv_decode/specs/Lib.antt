@@ -1,1 +1,2 @@
+pub mod Irregular
 pub mod Opcodes

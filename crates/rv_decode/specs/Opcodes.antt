@@ -1,46 +1,38 @@
--- Which opcodes an instruction's word has (V extension, "Vector Instruction Formats").
-use Rattle.std.specs.Prelude.{ℕ, Bool, true, false, nat_eq, ◌||◌}
+-- The groups of instructions by the opcodes of their words (Unprivileged ISA 20191213, chapter 24; V extension, "Vector Instruction
+-- Formats").
+use Rattle.std.specs.Prelude.{ℕ, Bool, true, false, not, nat_eq, ◌&&◌, ◌||◌}
 use Rattle.rv_model.specs.declared.instructions.instruction.Instr.{Instr}
-use Rattle.rv_model.specs.declared.instructions.instruction.Instr.TheVariants.{Upper, Jump, JumpRegister, Branch, Load, Store, RegisterImmediate, ShiftImmediate, ShiftImmediateWord, RegisterRegister, Fence, System, Csr, CsrImmediate, SetVli, SetIvli, SetVl, VectorArith, VectorCarry, VectorMove, WholeMove, MaskLogic, Compress, MaskToScalar, VectorExtend, MaskUnary, ElementIndex, MoveToScalar, MoveToVector, VectorUnit, VectorStrided, VectorIndexed, WholeLoad, WholeStore, MaskMemory}
+use Rattle.rv_model.specs.declared.instructions.instruction.Instr.TheVariants.{System, Csr, CsrImmediate, VectorArith}
+use Rattle.rv_model.specs.instructions.Accesses.{is_access}
+use Rattle.rv_model.specs.step.VectorStep.{is_vector}
 
 -- OP-V: vector operations and the setting of vector types
 abbrev pub is_operation : Instr → Bool
-is_operation (Upper op rd imm) = false
-is_operation (Jump rd imm) = false
-is_operation (JumpRegister rd rs1 imm) = false
-is_operation (Branch op rs1 rs2 imm) = false
-is_operation (Load op rd rs1 imm) = false
-is_operation (Store op rs1 rs2 imm) = false
-is_operation (RegisterImmediate op rd rs1 imm) = false
-is_operation (ShiftImmediate op rd rs1 shamt) = false
-is_operation (ShiftImmediateWord op rd rs1 shamt) = false
-is_operation (RegisterRegister op rd rs1 rs2) = false
-is_operation (Fence rd rs1 ordering) = false
-is_operation (System op) = false
-is_operation (Csr op rd rs1 csr) = false
-is_operation (CsrImmediate op rd imm csr) = false
-is_operation (SetVli rd rs1 vtype) = true
-is_operation (SetIvli rd avl vtype) = true
-is_operation (SetVl rd rs1 rs2) = true
-is_operation (VectorArith arith vd vs2 vm) = true
-is_operation (VectorCarry carry vd vs2) = true
-is_operation (VectorMove source vd) = true
-is_operation (WholeMove count vd vs2) = true
-is_operation (MaskLogic op vd vs1 vs2) = true
-is_operation (Compress vd vs1 vs2) = true
-is_operation (MaskToScalar op rd vs2 vm) = true
-is_operation (VectorExtend op vd vs2 vm) = true
-is_operation (MaskUnary op vd vs2 vm) = true
-is_operation (ElementIndex vd vm) = true
-is_operation (MoveToScalar rd vs2) = true
-is_operation (MoveToVector vd rs1) = true
-is_operation (VectorUnit op width nf vd rs1 vm) = false
-is_operation (VectorStrided direction width nf vd rs1 rs2 vm) = false
-is_operation (VectorIndexed direction order width nf vd rs1 vs2 vm) = false
-is_operation (WholeLoad count width vd rs1) = false
-is_operation (WholeStore count vd rs1) = false
-is_operation (MaskMemory direction vd rs1) = false
+is_operation i = is_vector i && not (is_access i)
 
--- LOAD-FP, STORE-FP and OP-V, the opcodes of vector instructions
-abbrev pub is_vector_opcode : ℕ → Bool
-is_vector_opcode opcode = nat_eq opcode 0x07 || (nat_eq opcode 0x27 || nat_eq opcode 0x57)
+-- vector operations with a line of their own in the manual's table
+abbrev pub is_regular : Instr → Bool
+is_regular (VectorArith arith vd vs2 vm) = true
+is_regular _ = false
+
+-- any other vector instruction
+abbrev pub is_rest : Instr → Bool
+is_rest i = is_vector i && not (is_regular i)
+
+-- LOAD-FP and STORE-FP: vector loads and stores
+abbrev pub is_vector_access : Instr → Bool
+is_vector_access i = is_vector i && is_access i
+
+-- SYSTEM: calls, breakpoints and accesses of control registers
+abbrev pub is_system : Instr → Bool
+is_system (System op) = true
+is_system (Csr op rd rs1 csr) = true
+is_system (CsrImmediate op rd imm csr) = true
+is_system _ = false
+
+-- any other opcode: instructions on scalar registers and memory alone
+abbrev pub is_scalar : Instr → Bool
+is_scalar i = not (is_vector i || is_system i)
+
+abbrev pub is_scalar_opcode : ℕ → Bool
+is_scalar_opcode opcode = not (nat_eq opcode 0x07 || (nat_eq opcode 0x27 || (nat_eq opcode 0x57 || nat_eq opcode 0x73)))

@@ -1,12 +1,13 @@
 //! Words to instructions.
-ghost use Rattle.std.specs.Prelude.{◌≡◌, ◌++◌, bit_and, false, IfSome, IfNone, None, Some, if◌then◌else◌};
+ghost use Rattle.std.specs.Prelude.{◌≡◌, ◌++◌, ◌⊎◌, bit_and, true, IfSome, IfNone, None, Some, if◌then◌else◌};
 ghost use Rattle.rv_model.specs.declared.instructions.operations.Form.TheVariants as form;
 ghost use Rattle.rv_model.specs.instructions.Operations.{major_bits};
 ghost use Rattle.rv_model.specs.instructions.Layout.{word_of};
-ghost use Rattle.rv_model.specs.step.Step.{touches};
-ghost use Rattle.rv_decode.specs.Opcodes.{is_vector_opcode};
+ghost use Rattle.rv_decode.specs.Opcodes.{is_rest, is_scalar, is_scalar_opcode, is_system, is_vector_access};
+ghost use Rattle.rv_decode.specs.Irregular.{irregular, other_accesses};
 ghost use Rattle.rv_model.specs.instructions.Table.{Row, IsRow, scan, rows, table, Uppers, Jumps, JumpRegisters, Branches, Loads, Stores, RegisterImmediates, ShiftImmediates, ShiftImmediateWords, RegisterRegisters, Fences, Systems, Csrs, CsrImmediates, SetVlis, SetIvlis, SetVls, Ariths, Carries, Moves, WholeMoves, MaskLogics, Compresses, MasksToScalar, Extends, MaskUnaries, ElementIndices, MovesToScalar, MovesToVector, Units, Strideds, Indexeds, WholeLoads, WholeStores, MaskMemories};
 
+use crate::arith_operation::ArithOperation;
 use crate::scalar::{
     branch, csr, csr_immediate, fence, jump, jump_register, load, register_immediate,
     register_register, shift_immediate, shift_immediate_word, store, system, upper,
@@ -24,7 +25,7 @@ use rv_model::instructions::operations::{Form, Major};
 #[inline(always)]
 fn immediates(word: u32) -> Option<Instr>
     ensures row { result ≡ scan (rows RegisterImmediates ++ rows ShiftImmediates) word }
-    ensures plain { touches result ≡ false }
+    ensures group { IfSome result (λ i. is_scalar i ≡ true) }
 {
     if let Some(instr) = register_immediate(word) {
         return Some(instr);
@@ -36,7 +37,8 @@ fn immediates(word: u32) -> Option<Instr>
 #[tactic(auto, using(rv_model::proofs::instruction_lemmas::Scans::scan_append))]
 #[inline(always)]
 fn word_immediates(word: u32) -> Option<Instr>
-    ensures { result ≡ scan (rows RegisterImmediates ++ rows ShiftImmediateWords) word }
+    ensures row { result ≡ scan (rows RegisterImmediates ++ rows ShiftImmediateWords) word }
+    ensures group { IfSome result (λ i. is_scalar i ≡ true) }
 {
     if let Some(instr) = register_immediate(word) {
         return Some(instr);
@@ -44,58 +46,33 @@ fn word_immediates(word: u32) -> Option<Instr>
     shift_immediate_word(word)
 }
 
-/// SYSTEM.
-#[tactic(auto, using(rv_model::proofs::instruction_lemmas::Scans::scan_append))]
+/// The vector operation that a word of OP-V is, if it is one with a line of its own in the table: by funct3, which says the
+/// place of that line.
+#[tactic(auto, using(crate::proofs::Irregular::regular_steps))]
 #[inline(always)]
-fn system_or_csr(word: u32) -> Option<Instr>
-    ensures { result ≡ scan (rows Systems ++ rows Csrs ++ rows CsrImmediates) word }
+pub fn decode_regular(word: u32) -> Option<ArithOperation>
+    requires { bit_and word 0x7f ≡ 0x57 }
+    ensures some { IfSome result (λ o. scan table word
+        ≡ Some (Instr.VectorArith o.arith o.vd o.vs2 o.unmasked)) }
+    ensures none { IfNone result (scan table word ≡ scan irregular word) }
 {
-    if let Some(instr) = system(word) {
-        return Some(instr);
+    match word & 0x707f {
+        0x0057 => arith(word, Major::Opi, Form::V),
+        0x2057 => arith(word, Major::Opm, Form::V),
+        0x3057 => arith(word, Major::Opi, Form::I),
+        0x4057 => arith(word, Major::Opi, Form::X),
+        0x6057 => arith(word, Major::Opm, Form::X),
+        0x7057 => None,
+        _ => None,
     }
-    if let Some(instr) = csr(word) {
-        return Some(instr);
-    }
-    csr_immediate(word)
-}
-
-/// LOAD-FP and STORE-FP.
-#[tactic(auto, using(rv_model::proofs::instruction_lemmas::Scans::scan_append))]
-#[inline(always)]
-fn memory(word: u32) -> Option<Instr>
-    ensures { result
-        ≡ scan
-        (rows Units ++ rows Strideds ++ rows Indexeds ++ rows WholeLoads ++ rows WholeStores
-        ++ rows MaskMemories)
-        word }
-{
-    if let Some(instr) = unit(word) {
-        return Some(instr);
-    }
-    if let Some(instr) = strided(word) {
-        return Some(instr);
-    }
-    if let Some(instr) = indexed(word) {
-        return Some(instr);
-    }
-    if let Some(instr) = whole_load(word) {
-        return Some(instr);
-    }
-    if let Some(instr) = whole_store(word) {
-        return Some(instr);
-    }
-    mask_memory(word)
 }
 
 /// OPIVV and OPIVX, and OPIVI but for moves of whole registers.
 #[tactic(auto, using(rv_model::proofs::instruction_lemmas::Scans::scan_append))]
-fn integer(word: u32, form: Form) -> Option<Instr>
-    requires { bit_and word 0x707f ≡ major_bits Major.Opi form }
-    ensures { result ≡ scan (rows (Ariths Major.Opi form) ++ rows (Carries form) ++ rows (Moves form)) word }
+fn carry_or_move(word: u32, form: Form) -> Option<Instr>
+    ensures row { result ≡ scan (rows (Carries form) ++ rows (Moves form)) word }
+    ensures group { IfSome result (λ i. is_rest i ≡ true) }
 {
-    if let Some(instr) = arith(word, Major::Opi, form) {
-        return Some(instr);
-    }
     if let Some(instr) = carry(word, form) {
         return Some(instr);
     }
@@ -104,15 +81,11 @@ fn integer(word: u32, form: Form) -> Option<Instr>
 
 /// OPIVI.
 #[tactic(auto, using(rv_model::proofs::instruction_lemmas::Scans::scan_append))]
-fn integer_immediate(word: u32) -> Option<Instr>
-    requires { bit_and word 0x707f ≡ 0x3057 }
-    ensures { result
-        ≡ scan
-        (rows (Ariths Major.Opi form.I) ++ rows (Carries form.I) ++ rows (Moves form.I)
-        ++ rows WholeMoves)
-        word }
+fn immediate(word: u32) -> Option<Instr>
+    ensures row { result ≡ scan (rows (Carries form.I) ++ rows (Moves form.I) ++ rows WholeMoves) word }
+    ensures group { IfSome result (λ i. is_rest i ≡ true) }
 {
-    if let Some(instr) = integer(word, Form::I) {
+    if let Some(instr) = carry_or_move(word, Form::I) {
         return Some(instr);
     }
     whole_move(word)
@@ -120,18 +93,14 @@ fn integer_immediate(word: u32) -> Option<Instr>
 
 /// OPMVV.
 #[tactic(auto, using(rv_model::proofs::instruction_lemmas::Scans::scan_append))]
-fn multiply_vector(word: u32) -> Option<Instr>
-    requires { bit_and word 0x707f ≡ 0x2057 }
-    ensures { result
+fn mask_or_unary(word: u32) -> Option<Instr>
+    ensures row { result
         ≡ scan
-        (rows (Ariths Major.Opm form.V) ++ rows MaskLogics ++ rows Compresses
-        ++ rows MasksToScalar ++ rows Extends ++ rows MaskUnaries ++ rows ElementIndices
-        ++ rows MovesToScalar)
+        (rows MaskLogics ++ rows Compresses ++ rows MasksToScalar ++ rows Extends
+        ++ rows MaskUnaries ++ rows ElementIndices ++ rows MovesToScalar)
         word }
+    ensures group { IfSome result (λ i. is_rest i ≡ true) }
 {
-    if let Some(instr) = arith(word, Major::Opm, Form::V) {
-        return Some(instr);
-    }
     if let Some(instr) = mask_logic(word) {
         return Some(instr);
     }
@@ -153,22 +122,11 @@ fn multiply_vector(word: u32) -> Option<Instr>
     move_to_scalar(word)
 }
 
-/// OPMVX.
-#[tactic(auto, using(rv_model::proofs::instruction_lemmas::Scans::scan_append))]
-fn multiply_scalar(word: u32) -> Option<Instr>
-    requires { bit_and word 0x707f ≡ 0x6057 }
-    ensures { result ≡ scan (rows (Ariths Major.Opm form.X) ++ rows MovesToVector) word }
-{
-    if let Some(instr) = arith(word, Major::Opm, Form::X) {
-        return Some(instr);
-    }
-    move_to_vector(word)
-}
-
 /// OPCFG.
 #[tactic(auto, using(rv_model::proofs::instruction_lemmas::Scans::scan_append))]
 fn set_vector_length(word: u32) -> Option<Instr>
-    ensures { result ≡ scan (rows SetVlis ++ rows SetIvlis ++ rows SetVls) word }
+    ensures row { result ≡ scan (rows SetVlis ++ rows SetIvlis ++ rows SetVls) word }
+    ensures group { IfSome result (λ i. is_rest i ≡ true) }
 {
     if let Some(instr) = set_vli(word) {
         return Some(instr);
@@ -179,80 +137,125 @@ fn set_vector_length(word: u32) -> Option<Instr>
     set_vl(word)
 }
 
-/// OP-V, by funct3.
-#[tactic(auto, using(crate::proofs::Scan::place_steps))]
+/// A word of OP-V that has no line of its own in the table.
+#[tactic(auto, using(crate::proofs::Irregular::irregular_steps))]
 #[inline(always)]
-fn vector(word: u32) -> Option<Instr>
+fn irregular_operation(word: u32) -> Option<Instr>
     requires { bit_and word 0x7f ≡ 0x57 }
-    ensures { result ≡ scan table word }
+    ensures row { result ≡ scan irregular word }
+    ensures group { IfSome result (λ i. is_rest i ≡ true) }
 {
     match word & 0x707f {
-        0x0057 => integer(word, Form::V),
-        0x4057 => integer(word, Form::X),
-        0x3057 => integer_immediate(word),
-        0x2057 => multiply_vector(word),
-        0x6057 => multiply_scalar(word),
+        0x0057 => carry_or_move(word, Form::V),
+        0x2057 => mask_or_unary(word),
+        0x3057 => immediate(word),
+        0x4057 => carry_or_move(word, Form::X),
+        0x6057 => move_to_vector(word),
         0x7057 => set_vector_length(word),
         _ => None,
     }
 }
 
-/// The instruction of a word, by its opcode.
-#[tactic(auto, using(crate::proofs::Scan::opcode_steps))]
+/// The unit-stride load or store that a word of LOAD-FP or STORE-FP is, if it is one.
+#[tactic(auto, using(crate::proofs::Irregular::unit_steps))]
 #[inline(always)]
-fn by_opcode(word: u32) -> Option<Instr>
+pub fn decode_unit_stride(word: u32) -> Option<Instr>
+    requires { (bit_and word 0x7f ≡ 0x07) ⊎ (bit_and word 0x7f ≡ 0x27) }
+    ensures some { IfSome result (λ i. scan table word ≡ Some i) }
+    ensures none { IfNone result (scan table word ≡ scan other_accesses word) }
+    ensures group { IfSome result (λ i. is_vector_access i ≡ true) }
+{
+    unit(word)
+}
+
+/// A vector load or store that isn't of unit stride.
+#[tactic(auto, unfolding(crate::specs::Irregular::other_accesses), using(rv_model::proofs::instruction_lemmas::Scans::scan_append))]
+#[inline(always)]
+fn other_access(word: u32) -> Option<Instr>
+    ensures row { result ≡ scan other_accesses word }
+    ensures group { IfSome result (λ i. is_rest i ≡ true) }
+{
+    if let Some(instr) = strided(word) {
+        return Some(instr);
+    }
+    if let Some(instr) = indexed(word) {
+        return Some(instr);
+    }
+    if let Some(instr) = whole_load(word) {
+        return Some(instr);
+    }
+    if let Some(instr) = whole_store(word) {
+        return Some(instr);
+    }
+    mask_memory(word)
+}
+
+/// The vector instruction of a word that neither `decode_regular` nor `decode_unit_stride` knows.
+#[inline(always)]
+pub fn decode_rest(word: u32) -> Option<Instr>
+    requires opcode { (bit_and word 0x7f ≡ 0x57) ⊎ ((bit_and word 0x7f ≡ 0x07) ⊎ (bit_and word 0x7f ≡ 0x27)) }
+    requires operation { bit_and word 0x7f ≡ 0x57 → scan table word ≡ scan irregular word }
+    requires access { (bit_and word 0x7f ≡ 0x07) ⊎ (bit_and word 0x7f ≡ 0x27) → scan table word ≡ scan other_accesses word }
+    ensures row { result ≡ scan table word }
+    ensures group { IfSome result (λ i. is_rest i ≡ true) }
+{
+    match word & 0x7f {
+        0x57 => irregular_operation(word),
+        _ => other_access(word),
+    }
+}
+
+/// The vector operation that a word of OP-V is.
+fn operation(word: u32) -> Option<Instr>
+    requires { bit_and word 0x7f ≡ 0x57 }
     ensures { result ≡ scan table word }
 {
-    match word & 0x7f {
-        0x03 => load(word),
-        0x07 => memory(word),
-        0x0f => fence(word),
-        0x13 => immediates(word),
-        0x17 => upper(word),
-        0x1b => word_immediates(word),
-        0x23 => store(word),
-        0x27 => memory(word),
-        0x33 => register_register(word),
-        0x37 => upper(word),
-        0x3b => register_register(word),
-        0x57 => vector(word),
-        0x63 => branch(word),
-        0x67 => jump_register(word),
-        0x6f => jump(word),
-        0x73 => system_or_csr(word),
-        _ => None,
+    if let Some(operation) = decode_regular(word) {
+        return Some(Instr::VectorArith {
+            arith: operation.arith,
+            vd: operation.vd,
+            vs2: operation.vs2,
+            vm: operation.unmasked,
+        });
     }
+    irregular_operation(word)
 }
 
-/// The instruction of the one row of the table that the word matches, if there is one.
+/// The vector load or store that a word of LOAD-FP or STORE-FP is.
+fn access(word: u32) -> Option<Instr>
+    requires { (bit_and word 0x7f ≡ 0x07) ⊎ (bit_and word 0x7f ≡ 0x27) }
+    ensures { result ≡ scan table word }
+{
+    if let Some(instr) = decode_unit_stride(word) {
+        return Some(instr);
+    }
+    other_access(word)
+}
+
+/// The call, breakpoint or access of a control register that a word of SYSTEM is.
+#[tactic(auto, using(crate::proofs::Scan::at_73, rv_model::proofs::instruction_lemmas::Scans::scan_append))]
 #[inline(always)]
-pub fn decode(word: u32) -> Option<Instr>
+pub fn decode_system(word: u32) -> Option<Instr>
+    requires { bit_and word 0x7f ≡ 0x73 }
     ensures row { result ≡ scan table word }
-    ensures word { IfSome result (λ i. word_of i ≡ word) }
-    ensures found { IfSome result (λ i. (r : Row) × IsRow word r × (r.instr word ≡ i)) }
-    ensures none { IfNone result ((r : Row) → IsRow word r → ⊥) }
+    ensures group { IfSome result (λ i. is_system i ≡ true) }
 {
-    by_opcode(word)
-}
-
-/// The unit-stride access that a word is, if it is one.
-#[tactic(auto, using(crate::proofs::Shortcuts::access_found))]
-#[inline(always)]
-pub fn decode_unit(word: u32) -> Option<Instr>
-    ensures { IfSome result (λ i. scan table word ≡ Some i) }
-{
-    match word & 0x7f {
-        0x07 => unit(word),
-        0x27 => unit(word),
-        _ => None,
+    if let Some(instr) = system(word) {
+        return Some(instr);
     }
+    if let Some(instr) = csr(word) {
+        return Some(instr);
+    }
+    csr_immediate(word)
 }
 
-/// The instruction of a word, by its opcode, unless that is one of vector instructions.
+/// The instruction of a word that works on scalar registers and memory alone: of any opcode but SYSTEM and those of vector
+/// instructions, which have decoders of their own.
 #[tactic(auto, using(crate::proofs::Scan::opcode_steps))]
 #[inline(always)]
-fn by_scalar_opcode(word: u32) -> Option<Instr>
-    ensures { result ≡ (if is_vector_opcode (bit_and word 0x7f) then None else scan table word) }
+pub fn decode_scalar(word: u32) -> Option<Instr>
+    ensures row { result ≡ (if is_scalar_opcode (bit_and word 0x7f) then scan table word else None) }
+    ensures group { IfSome result (λ i. is_scalar i ≡ true) }
 {
     match word & 0x7f {
         0x03 => load(word),
@@ -270,17 +273,31 @@ fn by_scalar_opcode(word: u32) -> Option<Instr>
         0x63 => branch(word),
         0x67 => jump_register(word),
         0x6f => jump(word),
-        0x73 => system_or_csr(word),
+        0x73 => None,
         _ => None,
     }
 }
 
-/// The same as `decode`, but for the opcodes of vector instructions, where it is `None`.
-#[tactic(auto, using(crate::proofs::Shortcuts::found_unless))]
+/// The instruction of a word, by its opcode.
 #[inline(always)]
-pub fn decode_scalar(word: u32) -> Option<Instr>
-    ensures value { result ≡ (if is_vector_opcode (bit_and word 0x7f) then None else scan table word) }
-    ensures found { IfSome result (λ i. scan table word ≡ Some i) }
+fn by_opcode(word: u32) -> Option<Instr>
+    ensures { result ≡ scan table word }
 {
-    by_scalar_opcode(word)
+    match word & 0x7f {
+        0x07 | 0x27 => access(word),
+        0x57 => operation(word),
+        0x73 => decode_system(word),
+        _ => decode_scalar(word),
+    }
+}
+
+/// The instruction of the one row of the table that the word matches, if there is one.
+#[inline(never)]
+pub fn decode(word: u32) -> Option<Instr>
+    ensures row { result ≡ scan table word }
+    ensures word { IfSome result (λ i. word_of i ≡ word) }
+    ensures found { IfSome result (λ i. (r : Row) × IsRow word r × (r.instr word ≡ i)) }
+    ensures none { IfNone result ((r : Row) → IsRow word r → ⊥) }
+{
+    by_opcode(word)
 }

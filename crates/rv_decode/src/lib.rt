@@ -16,7 +16,9 @@ mod vector_memory;
 mod vector_operations;
 mod word_fields;
 
-pub use arith_operation::{ArithOperation, decode_arith};
-pub use decoder::{decode, decode_scalar, decode_unit};
+pub use arith_operation::ArithOperation;
+pub use decoder::{
+    decode, decode_regular, decode_rest, decode_scalar, decode_system, decode_unit_stride,
+};
 pub use encoder::encode;
 pub use laws::{decoded_again, encoded_again, one_row};

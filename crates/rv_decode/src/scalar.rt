@@ -1,8 +1,8 @@
 //! Words to scalar instructions, a function for each layout of operands.
 #![tactic(auto, unfolding(rv_model::specs::instructions::Table::scan, rv_model::specs::instructions::Table::rows))]
 
-ghost use Rattle.std.specs.Prelude.{◌≡◌, false};
-ghost use Rattle.rv_model.specs.step.Step.{touches};
+ghost use Rattle.std.specs.Prelude.{◌≡◌, IfSome, true};
+ghost use Rattle.rv_decode.specs.Opcodes.{is_scalar, is_system};
 ghost use Rattle.rv_model.specs.instructions.Table.{scan, rows, Uppers, Jumps, JumpRegisters, Branches, Loads, Stores, RegisterImmediates, ShiftImmediates, ShiftImmediateWords, RegisterRegisters, Fences, Systems, Csrs, CsrImmediates};
 
 use crate::scalar_operations::{
@@ -17,7 +17,8 @@ use rv_model::{Field, Instr};
 #[tactic(auto, using(crate::proofs::Scan::scan_upper))]
 #[inline(always)]
 pub(crate) fn upper(word: u32) -> Option<Instr>
-    ensures { result ≡ scan (rows Uppers) word }
+    ensures row { result ≡ scan (rows Uppers) word }
+    ensures group { IfSome result (λ i. is_scalar i ≡ true) }
 {
     let op = upper_op(word & 0x0000_007f)?;
     Some(Instr::Upper {
@@ -30,7 +31,8 @@ pub(crate) fn upper(word: u32) -> Option<Instr>
 /// JAL.
 #[inline(always)]
 pub(crate) fn jump(word: u32) -> Option<Instr>
-    ensures { result ≡ scan (rows Jumps) word }
+    ensures row { result ≡ scan (rows Jumps) word }
+    ensures group { IfSome result (λ i. is_scalar i ≡ true) }
 {
     if word & 0x0000_007f == 0x0000_006f {
         Some(Instr::Jump {
@@ -45,7 +47,8 @@ pub(crate) fn jump(word: u32) -> Option<Instr>
 /// JALR.
 #[inline(always)]
 pub(crate) fn jump_register(word: u32) -> Option<Instr>
-    ensures { result ≡ scan (rows JumpRegisters) word }
+    ensures row { result ≡ scan (rows JumpRegisters) word }
+    ensures group { IfSome result (λ i. is_scalar i ≡ true) }
 {
     if word & 0x0000_707f == 0x0000_0067 {
         Some(Instr::JumpRegister {
@@ -63,7 +66,7 @@ pub(crate) fn jump_register(word: u32) -> Option<Instr>
 #[inline(always)]
 pub(crate) fn branch(word: u32) -> Option<Instr>
     ensures row { result ≡ scan (rows Branches) word }
-    ensures plain { touches result ≡ false }
+    ensures group { IfSome result (λ i. is_scalar i ≡ true) }
 {
     let op = branch_op(word & 0x0000_707f)?;
     Some(Instr::Branch {
@@ -79,7 +82,7 @@ pub(crate) fn branch(word: u32) -> Option<Instr>
 #[inline(always)]
 pub(crate) fn load(word: u32) -> Option<Instr>
     ensures row { result ≡ scan (rows Loads) word }
-    ensures plain { touches result ≡ false }
+    ensures group { IfSome result (λ i. is_scalar i ≡ true) }
 {
     let op = load_op(word & 0x0000_707f)?;
     Some(Instr::Load {
@@ -95,7 +98,7 @@ pub(crate) fn load(word: u32) -> Option<Instr>
 #[inline(always)]
 pub(crate) fn store(word: u32) -> Option<Instr>
     ensures row { result ≡ scan (rows Stores) word }
-    ensures plain { touches result ≡ false }
+    ensures group { IfSome result (λ i. is_scalar i ≡ true) }
 {
     let op = store_op(word & 0x0000_707f)?;
     Some(Instr::Store {
@@ -111,7 +114,7 @@ pub(crate) fn store(word: u32) -> Option<Instr>
 #[inline(always)]
 pub(crate) fn register_immediate(word: u32) -> Option<Instr>
     ensures row { result ≡ scan (rows RegisterImmediates) word }
-    ensures plain { touches result ≡ false }
+    ensures group { IfSome result (λ i. is_scalar i ≡ true) }
 {
     let op = immediate_op(word & 0x0000_707f)?;
     Some(Instr::RegisterImmediate {
@@ -127,7 +130,7 @@ pub(crate) fn register_immediate(word: u32) -> Option<Instr>
 #[inline(always)]
 pub(crate) fn shift_immediate(word: u32) -> Option<Instr>
     ensures row { result ≡ scan (rows ShiftImmediates) word }
-    ensures plain { touches result ≡ false }
+    ensures group { IfSome result (λ i. is_scalar i ≡ true) }
 {
     let op = shift_immediate_op(word & 0xfc00_707f)?;
     Some(Instr::ShiftImmediate {
@@ -142,7 +145,8 @@ pub(crate) fn shift_immediate(word: u32) -> Option<Instr>
 #[tactic(auto, using(crate::proofs::Scan::scan_shift_immediate_word))]
 #[inline(always)]
 pub(crate) fn shift_immediate_word(word: u32) -> Option<Instr>
-    ensures { result ≡ scan (rows ShiftImmediateWords) word }
+    ensures row { result ≡ scan (rows ShiftImmediateWords) word }
+    ensures group { IfSome result (λ i. is_scalar i ≡ true) }
 {
     let op = shift_immediate_word_op(word & 0xfe00_707f)?;
     Some(Instr::ShiftImmediateWord {
@@ -158,7 +162,7 @@ pub(crate) fn shift_immediate_word(word: u32) -> Option<Instr>
 #[inline(always)]
 pub(crate) fn register_register(word: u32) -> Option<Instr>
     ensures row { result ≡ scan (rows RegisterRegisters) word }
-    ensures plain { touches result ≡ false }
+    ensures group { IfSome result (λ i. is_scalar i ≡ true) }
 {
     let op = register_op(word & 0xfe00_707f)?;
     Some(Instr::RegisterRegister {
@@ -172,7 +176,8 @@ pub(crate) fn register_register(word: u32) -> Option<Instr>
 /// FENCE of MISC-MEM.
 #[inline(always)]
 pub(crate) fn fence(word: u32) -> Option<Instr>
-    ensures { result ≡ scan (rows Fences) word }
+    ensures row { result ≡ scan (rows Fences) word }
+    ensures group { IfSome result (λ i. is_scalar i ≡ true) }
 {
     if word & 0x0000_707f == 0x0000_000f {
         Some(Instr::Fence {
@@ -188,7 +193,8 @@ pub(crate) fn fence(word: u32) -> Option<Instr>
 /// ECALL and EBREAK of SYSTEM.
 #[tactic(auto, using(crate::proofs::Scan::scan_system))]
 pub(crate) fn system(word: u32) -> Option<Instr>
-    ensures { result ≡ scan (rows Systems) word }
+    ensures row { result ≡ scan (rows Systems) word }
+    ensures group { IfSome result (λ i. is_system i ≡ true) }
 {
     let op = system_op(word)?;
     Some(Instr::System { op })
@@ -197,7 +203,8 @@ pub(crate) fn system(word: u32) -> Option<Instr>
 /// Zicsr with a scalar register.
 #[tactic(auto, using(crate::proofs::Scan::scan_csr))]
 pub(crate) fn csr(word: u32) -> Option<Instr>
-    ensures { result ≡ scan (rows Csrs) word }
+    ensures row { result ≡ scan (rows Csrs) word }
+    ensures group { IfSome result (λ i. is_system i ≡ true) }
 {
     let op = csr_op(word & 0x0000_707f)?;
     Some(Instr::Csr {
@@ -211,7 +218,8 @@ pub(crate) fn csr(word: u32) -> Option<Instr>
 /// Zicsr with an immediate.
 #[tactic(auto, using(crate::proofs::Scan::scan_csr_immediate))]
 pub(crate) fn csr_immediate(word: u32) -> Option<Instr>
-    ensures { result ≡ scan (rows CsrImmediates) word }
+    ensures row { result ≡ scan (rows CsrImmediates) word }
+    ensures group { IfSome result (λ i. is_system i ≡ true) }
 {
     let op = csr_immediate_op(word & 0x0000_707f)?;
     Some(Instr::CsrImmediate {

@@ -1,11 +1,12 @@
 //! Words to vector instructions on registers, a function for each layout of operands.
 #![tactic(auto, unfolding(rv_model::specs::instructions::Table::scan, rv_model::specs::instructions::Table::rows))]
 
-ghost use Rattle.std.specs.Prelude.{◌≡◌, IfSome, None, Some, bit_and};
-ghost use Rattle.rv_model.specs.instructions.BitFields.{field, flag};
+ghost use Rattle.std.specs.Prelude.{◌≡◌, IfNone, IfSome, None, Some, bit_and, true};
+ghost use Rattle.rv_decode.specs.Opcodes.{is_rest};
 ghost use Rattle.rv_model.specs.instructions.Operations.{major_bits};
 ghost use Rattle.rv_model.specs.instructions.Table.{scan, rows, SetVlis, SetIvlis, SetVls, WholeMoves, MaskLogics, Compresses, MasksToScalar, Extends, MaskUnaries, ElementIndices, MovesToScalar, MovesToVector, Ariths, Carries, Moves};
 
+use crate::arith_operation::ArithOperation;
 use crate::vector_operations::{
     carry_op, extend_op, mask_logic_op, mask_to_scalar_op, mask_unary_op, opi, opm, whole_move_op,
 };
@@ -14,41 +15,32 @@ use rv_model::instructions::bits;
 use rv_model::instructions::operations::{Form, Major};
 use rv_model::{Arith, Carry, Field, Instr};
 
-/// The operation, with a line of its own in the table, and the second source of a word of these forms.
+/// An operation with a line of its own in the table, masked or not.
 #[tactic(auto, using(crate::proofs::Scan::scan_arith, rv_model::proofs::instruction_lemmas::Words::form_source_of))]
 #[inline(always)]
-pub(crate) fn operation(word: u32, major: Major, form: Form) -> Option<Arith>
+pub(crate) fn arith(word: u32, major: Major, form: Form) -> Option<ArithOperation>
     requires { bit_and word 0x707f ≡ major_bits major form }
-    ensures some { IfSome result (λ arith. scan (rows (Ariths major form)) word
-        ≡ Some (Instr.VectorArith arith (field 7 5 word) (field 20 5 word) (flag word))) }
-    ensures none { result ≡ None → scan (rows (Ariths major form)) word ≡ None }
+    ensures some { IfSome result (λ o. scan (rows (Ariths major form)) word
+        ≡ Some (Instr.VectorArith o.arith o.vd o.vs2 o.unmasked)) }
+    ensures none { IfNone result (scan (rows (Ariths major form)) word ≡ None) }
 {
     let op = match major {
         Major::Opi => opi(word >> 26, form)?,
         Major::Opm => opm(word >> 26, form)?,
     };
-    Some(Arith::new(op, source(word, form)))
-}
-
-/// An operation with a line of its own in the table, masked or not.
-#[inline(always)]
-pub(crate) fn arith(word: u32, major: Major, form: Form) -> Option<Instr>
-    requires { bit_and word 0x707f ≡ major_bits major form }
-    ensures { result ≡ scan (rows (Ariths major form)) word }
-{
-    let arith = operation(word, major, form)?;
-    Some(Instr::VectorArith {
-        arith,
+    Some(ArithOperation {
+        arith: Arith::new(op, source(word, form)),
         vd: vreg(word, 7),
         vs2: vreg(word, 20),
-        vm: is_unmasked(word),
+        unmasked: is_unmasked(word),
     })
 }
 
 /// An operation that takes v0.
 #[tactic(auto, using(crate::proofs::Scan::scan_carry, rv_model::proofs::instruction_lemmas::Words::form_source_of))]
 pub(crate) fn carry(word: u32, form: Form) -> Option<Instr>
-    ensures { result ≡ scan (rows (Carries form)) word }
+    ensures row { result ≡ scan (rows (Carries form)) word }
+    ensures group { IfSome result (λ i. is_rest i ≡ true) }
 {
     let op = carry_op(word & 0xfe00_707f, form)?;
     Some(Instr::VectorCarry {
@@ -60,7 +52,8 @@ pub(crate) fn carry(word: u32, form: Form) -> Option<Instr>
 
 /// `vmv.v.v`, `vmv.v.x` or `vmv.v.i`, whose vs2 is 0.
 pub(crate) fn vector_move(word: u32, form: Form) -> Option<Instr>
-    ensures { result ≡ scan (rows (Moves form)) word }
+    ensures row { result ≡ scan (rows (Moves form)) word }
+    ensures group { IfSome result (λ i. is_rest i ≡ true) }
 {
     let code = match form {
         Form::V => 0x5e00_0057,
@@ -79,7 +72,8 @@ pub(crate) fn vector_move(word: u32, form: Form) -> Option<Instr>
 
 /// `vsetvli`.
 pub(crate) fn set_vli(word: u32) -> Option<Instr>
-    ensures { result ≡ scan (rows SetVlis) word }
+    ensures row { result ≡ scan (rows SetVlis) word }
+    ensures group { IfSome result (λ i. is_rest i ≡ true) }
 {
     if word & 0x8000_707f == 0x0000_7057 {
         Some(Instr::SetVli {
@@ -94,7 +88,8 @@ pub(crate) fn set_vli(word: u32) -> Option<Instr>
 
 /// `vsetivli`.
 pub(crate) fn set_ivli(word: u32) -> Option<Instr>
-    ensures { result ≡ scan (rows SetIvlis) word }
+    ensures row { result ≡ scan (rows SetIvlis) word }
+    ensures group { IfSome result (λ i. is_rest i ≡ true) }
 {
     if word & 0xc000_707f == 0xc000_7057 {
         Some(Instr::SetIvli {
@@ -109,7 +104,8 @@ pub(crate) fn set_ivli(word: u32) -> Option<Instr>
 
 /// `vsetvl`.
 pub(crate) fn set_vl(word: u32) -> Option<Instr>
-    ensures { result ≡ scan (rows SetVls) word }
+    ensures row { result ≡ scan (rows SetVls) word }
+    ensures group { IfSome result (λ i. is_rest i ≡ true) }
 {
     if word & 0xfe00_707f == 0x8000_7057 {
         Some(Instr::SetVl {
@@ -125,7 +121,8 @@ pub(crate) fn set_vl(word: u32) -> Option<Instr>
 /// `vmv1r.v` to `vmv8r.v`.
 #[tactic(auto, using(crate::proofs::Scan::scan_whole_move))]
 pub(crate) fn whole_move(word: u32) -> Option<Instr>
-    ensures { result ≡ scan (rows WholeMoves) word }
+    ensures row { result ≡ scan (rows WholeMoves) word }
+    ensures group { IfSome result (λ i. is_rest i ≡ true) }
 {
     let count = whole_move_op(word & 0xfe0f_f07f)?;
     Some(Instr::WholeMove {
@@ -138,7 +135,8 @@ pub(crate) fn whole_move(word: u32) -> Option<Instr>
 /// Mask logic, which is never masked.
 #[tactic(auto, using(crate::proofs::Scan::scan_mask_logic))]
 pub(crate) fn mask_logic(word: u32) -> Option<Instr>
-    ensures { result ≡ scan (rows MaskLogics) word }
+    ensures row { result ≡ scan (rows MaskLogics) word }
+    ensures group { IfSome result (λ i. is_rest i ≡ true) }
 {
     let op = mask_logic_op(word & 0xfe00_707f)?;
     Some(Instr::MaskLogic {
@@ -151,7 +149,8 @@ pub(crate) fn mask_logic(word: u32) -> Option<Instr>
 
 /// `vcompress.vm`, which is never masked.
 pub(crate) fn compress(word: u32) -> Option<Instr>
-    ensures { result ≡ scan (rows Compresses) word }
+    ensures row { result ≡ scan (rows Compresses) word }
+    ensures group { IfSome result (λ i. is_rest i ≡ true) }
 {
     if word & 0xfe00_707f == 0x5e00_2057 {
         Some(Instr::Compress {
@@ -167,7 +166,8 @@ pub(crate) fn compress(word: u32) -> Option<Instr>
 /// `vcpop.m` and `vfirst.m`.
 #[tactic(auto, using(crate::proofs::Scan::scan_mask_to_scalar))]
 pub(crate) fn mask_to_scalar(word: u32) -> Option<Instr>
-    ensures { result ≡ scan (rows MasksToScalar) word }
+    ensures row { result ≡ scan (rows MasksToScalar) word }
+    ensures group { IfSome result (λ i. is_rest i ≡ true) }
 {
     let op = mask_to_scalar_op(word & 0xfc0f_f07f)?;
     Some(Instr::MaskToScalar {
@@ -181,7 +181,8 @@ pub(crate) fn mask_to_scalar(word: u32) -> Option<Instr>
 /// VXUNARY0.
 #[tactic(auto, using(crate::proofs::Scan::scan_extend))]
 pub(crate) fn extend(word: u32) -> Option<Instr>
-    ensures { result ≡ scan (rows Extends) word }
+    ensures row { result ≡ scan (rows Extends) word }
+    ensures group { IfSome result (λ i. is_rest i ≡ true) }
 {
     let op = extend_op(word & 0xfc0f_f07f)?;
     Some(Instr::VectorExtend {
@@ -195,7 +196,8 @@ pub(crate) fn extend(word: u32) -> Option<Instr>
 /// VMUNARY0 on a mask.
 #[tactic(auto, using(crate::proofs::Scan::scan_mask_unary))]
 pub(crate) fn mask_unary(word: u32) -> Option<Instr>
-    ensures { result ≡ scan (rows MaskUnaries) word }
+    ensures row { result ≡ scan (rows MaskUnaries) word }
+    ensures group { IfSome result (λ i. is_rest i ≡ true) }
 {
     let op = mask_unary_op(word & 0xfc0f_f07f)?;
     Some(Instr::MaskUnary {
@@ -208,7 +210,8 @@ pub(crate) fn mask_unary(word: u32) -> Option<Instr>
 
 /// `vid.v`.
 pub(crate) fn element_index(word: u32) -> Option<Instr>
-    ensures { result ≡ scan (rows ElementIndices) word }
+    ensures row { result ≡ scan (rows ElementIndices) word }
+    ensures group { IfSome result (λ i. is_rest i ≡ true) }
 {
     if word & 0xfdff_f07f == 0x5008_a057 {
         Some(Instr::ElementIndex {
@@ -222,7 +225,8 @@ pub(crate) fn element_index(word: u32) -> Option<Instr>
 
 /// `vmv.x.s`.
 pub(crate) fn move_to_scalar(word: u32) -> Option<Instr>
-    ensures { result ≡ scan (rows MovesToScalar) word }
+    ensures row { result ≡ scan (rows MovesToScalar) word }
+    ensures group { IfSome result (λ i. is_rest i ≡ true) }
 {
     if word & 0xfe0f_f07f == 0x4200_2057 {
         Some(Instr::MoveToScalar {
@@ -236,7 +240,8 @@ pub(crate) fn move_to_scalar(word: u32) -> Option<Instr>
 
 /// `vmv.s.x`.
 pub(crate) fn move_to_vector(word: u32) -> Option<Instr>
-    ensures { result ≡ scan (rows MovesToVector) word }
+    ensures row { result ≡ scan (rows MovesToVector) word }
+    ensures group { IfSome result (λ i. is_rest i ≡ true) }
 {
     if word & 0xfff0_707f == 0x4200_6057 {
         Some(Instr::MoveToVector {

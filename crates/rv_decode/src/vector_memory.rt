@@ -1,5 +1,6 @@
 //! Words to vector accesses of memory, a function for each layout of operands.
-ghost use Rattle.std.specs.Prelude.{◌≡◌};
+ghost use Rattle.std.specs.Prelude.{◌≡◌, IfSome, true};
+ghost use Rattle.rv_decode.specs.Opcodes.{is_rest, is_vector_access};
 ghost use Rattle.rv_model.specs.instructions.Table.{scan, rows, Units, Strideds, Indexeds, WholeLoads, WholeStores, MaskMemories};
 
 use crate::memory_operations::{
@@ -14,7 +15,8 @@ use rv_model::{Field, Instr};
 #[tactic(auto, using(crate::proofs::Scan::scan_unit))]
 #[inline(always)]
 pub(crate) fn unit(word: u32) -> Option<Instr>
-    ensures { result ≡ scan (rows Units) word }
+    ensures row { result ≡ scan (rows Units) word }
+    ensures group { IfSome result (λ i. is_vector_access i ≡ true) }
 {
     let (op, width) = unit_access(word & 0x1df0_707f)?;
     Some(Instr::VectorUnit {
@@ -30,7 +32,8 @@ pub(crate) fn unit(word: u32) -> Option<Instr>
 /// Strided.
 #[tactic(auto, using(crate::proofs::Scan::scan_strided))]
 pub(crate) fn strided(word: u32) -> Option<Instr>
-    ensures { result ≡ scan (rows Strideds) word }
+    ensures row { result ≡ scan (rows Strideds) word }
+    ensures group { IfSome result (λ i. is_rest i ≡ true) }
 {
     let (direction, width) = strided_access(word & 0x1c00_707f)?;
     Some(Instr::VectorStrided {
@@ -47,7 +50,8 @@ pub(crate) fn strided(word: u32) -> Option<Instr>
 /// Indexed.
 #[tactic(auto, using(crate::proofs::Scan::scan_indexed))]
 pub(crate) fn indexed(word: u32) -> Option<Instr>
-    ensures { result ≡ scan (rows Indexeds) word }
+    ensures row { result ≡ scan (rows Indexeds) word }
+    ensures group { IfSome result (λ i. is_rest i ≡ true) }
 {
     let ((direction, order), width) = indexed_access(word & 0x1c00_707f)?;
     Some(Instr::VectorIndexed {
@@ -65,7 +69,8 @@ pub(crate) fn indexed(word: u32) -> Option<Instr>
 /// Loads of whole registers.
 #[tactic(auto, using(crate::proofs::Scan::scan_whole_load))]
 pub(crate) fn whole_load(word: u32) -> Option<Instr>
-    ensures { result ≡ scan (rows WholeLoads) word }
+    ensures row { result ≡ scan (rows WholeLoads) word }
+    ensures group { IfSome result (λ i. is_rest i ≡ true) }
 {
     let (count, width) = whole_load_access(word & 0xfff0_707f)?;
     Some(Instr::WholeLoad {
@@ -79,7 +84,8 @@ pub(crate) fn whole_load(word: u32) -> Option<Instr>
 /// Stores of whole registers.
 #[tactic(auto, using(crate::proofs::Scan::scan_whole_store))]
 pub(crate) fn whole_store(word: u32) -> Option<Instr>
-    ensures { result ≡ scan (rows WholeStores) word }
+    ensures row { result ≡ scan (rows WholeStores) word }
+    ensures group { IfSome result (λ i. is_rest i ≡ true) }
 {
     let count = whole_store_count(word & 0xfff0_707f)?;
     Some(Instr::WholeStore {
@@ -92,7 +98,8 @@ pub(crate) fn whole_store(word: u32) -> Option<Instr>
 /// `vlm.v` and `vsm.v`.
 #[tactic(auto, using(crate::proofs::Scan::scan_mask_memory))]
 pub(crate) fn mask_memory(word: u32) -> Option<Instr>
-    ensures { result ≡ scan (rows MaskMemories) word }
+    ensures row { result ≡ scan (rows MaskMemories) word }
+    ensures group { IfSome result (λ i. is_rest i ≡ true) }
 {
     let direction = mask_memory_direction(word & 0xfff0_707f)?;
     Some(Instr::MaskMemory {

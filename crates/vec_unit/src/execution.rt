@@ -1,18 +1,19 @@
 //! One vector instruction, carried out.
-ghost use Rattle.std.specs.Prelude.{◌≡◌, ◌≢◌, ◌≤◌, IsTrue, List, false, not, true, ℕ};
+ghost use Rattle.std.specs.Prelude.{◌≡◌, ◌≢◌, ◌≤◌, ◌||◌, IsTrue, List, ℕ};
 ghost use Rattle.rv_model.specs.declared.vector.state.VState.{VState as VectorState};
 ghost use Rattle.rv_model.specs.memory.Memory.{Memory};
+ghost use Rattle.rv_model.specs.instructions.Accesses.{is_access};
 ghost use Rattle.rv_model.specs.step.Hart.{hart_state};
 ghost use Rattle.rv_model.specs.step.GoesOn.{InstructionGoesOn};
 ghost use Rattle.rv_model.specs.step.VectorStep.{access_ticks, is_vector, performed, vector_ends, vector_executed};
 ghost use Rattle.rv_model.specs.legality.Legality.{is_legal};
-ghost use Rattle.vec_unit.specs.Arithmetic.{is_arith};
+ghost use Rattle.vec_unit.specs.Arithmetic.{is_irregular};
 
 use crate::arithmetic::{perform_arith, perform_carry, perform_extension, perform_move};
 use crate::mask_instructions::{
     perform_element_index, perform_mask_logic, perform_mask_to_scalar, perform_mask_unary,
 };
-use crate::memory_instructions::{perform_access, perform_unit, perform_whole_unit};
+use crate::memory_instructions::{perform_access, perform_unit};
 use crate::permutation_instructions::{
     perform_compress, perform_move_to_scalar, perform_move_to_vector, perform_whole_move,
 };
@@ -21,28 +22,34 @@ use reg_groups::{legal, legal_arith, legal_unit};
 use rv_model::{Arith, Instr, Policy, RequestedLength, Scalar, VEnd, VReg, VState};
 use vector_memory::{UnitAccess, UserBytes};
 
-/// Carries out a legal vector instruction that isn't an operation with a line of its own in the manual's table.
+/// Whether an instruction is a vector load or store.
+#[inline(always)]
+fn is_access(instr: &Instr) -> bool
+    ensures { result ≡ is_access instr.now }
+{
+    match *instr {
+        Instr::VectorUnit { .. }
+        | Instr::VectorStrided { .. }
+        | Instr::VectorIndexed { .. }
+        | Instr::WholeLoad { .. }
+        | Instr::WholeStore { .. }
+        | Instr::MaskMemory { .. } => true,
+        _ => false,
+    }
+}
+
+/// Carries out a legal vector operation that has no line of its own in the manual's table.
 #[tactic(auto, unfolding(rv_model::specs::step::VectorStep::performed))]
-#[inline(never)]
-fn perform_rest<M: UserBytes>(
-    instr: &Instr,
-    state: &mut VState,
-    scalar: &mut Scalar,
-    memory: &mut M,
-    limit: usize,
-    policy: Policy,
-) -> VEnd
+#[inline(always)]
+fn perform_irregular(instr: &Instr, state: &mut VState, scalar: &mut Scalar, policy: Policy) -> VEnd
     requires vector { IsTrue (is_vector instr.now) }
-    requires rest { IsTrue (not (is_arith instr.now)) }
+    requires irregular { IsTrue (is_irregular instr.now) }
     requires legal { IsTrue (is_legal instr.now state.old.conf.vtype state.old.vstart) }
-    requires limit { 1 ≤ limit }
-    ensures model { (output : List ℕ)
-        → performed limit instr.now (hart_state scalar.old state.old (M.memory memory.old) policy output)
-        ≡ vector_ends result (hart_state scalar.new state.new (M.memory memory.new) policy output) }
-    ensures memory { memory.new ≡ M.with_memory memory.old (M.memory memory.new) }
+    ensures model { (limit : ℕ) (memory : Memory) (output : List ℕ)
+        → performed limit instr.now (hart_state scalar.old state.old memory policy output)
+        ≡ vector_ends result (hart_state scalar.new state.new memory policy output) }
     ensures illegal_state { result ≡ VEnd.Illegal → state.new ≡ state.old }
     ensures illegal_scalar { result ≡ VEnd.Illegal → scalar.new ≡ scalar.old }
-    ensures illegal_memory { result ≡ VEnd.Illegal → memory.new ≡ memory.old }
 {
     match *instr {
         Instr::SetVli { rd, rs1, vtype } => {
@@ -76,74 +83,30 @@ fn perform_rest<M: UserBytes>(
         Instr::MoveToScalar { rd, vs2 } => perform_move_to_scalar(rd, vs2, state, scalar),
         Instr::MoveToVector { vd, rs1 } => perform_move_to_vector(vd, rs1, state, scalar, policy),
         Instr::WholeMove { count, vd, vs2 } => perform_whole_move(count, vd, vs2, state),
-        _ => perform_access(instr, state, scalar, memory, limit, policy),
+        _ => unreachable!(),
     }
 }
 
-/// Carries out a legal vector instruction.
-#[tactic(auto, unfolding(rv_model::specs::step::VectorStep::performed))]
-#[inline(always)]
-fn perform<M: UserBytes>(
-    instr: &Instr,
-    state: &mut VState,
-    scalar: &mut Scalar,
-    memory: &mut M,
-    limit: usize,
-    policy: Policy,
-) -> VEnd
-    requires vector { IsTrue (is_vector instr.now) }
-    requires legal { IsTrue (is_legal instr.now state.old.conf.vtype state.old.vstart) }
-    requires limit { 1 ≤ limit }
-    ensures model { (output : List ℕ)
-        → performed limit instr.now (hart_state scalar.old state.old (M.memory memory.old) policy output)
-        ≡ vector_ends result (hart_state scalar.new state.new (M.memory memory.new) policy output) }
-    ensures memory { memory.new ≡ M.with_memory memory.old (M.memory memory.new) }
-    ensures illegal_state { result ≡ VEnd.Illegal → state.new ≡ state.old }
-    ensures illegal_scalar { result ≡ VEnd.Illegal → scalar.new ≡ scalar.old }
-    ensures illegal_memory { result ≡ VEnd.Illegal → memory.new ≡ memory.old }
-{
-    match *instr {
-        Instr::VectorArith { arith, vd, vs2, vm } => {
-            perform_arith(arith, vd, vs2, vm, state, scalar, policy)
-        }
-        Instr::VectorUnit { .. } => perform_access(instr, state, scalar, memory, limit, policy),
-        _ => perform_rest(instr, state, scalar, memory, limit, policy),
-    }
-}
-
-/// A vector instruction, legal or not.
+/// Carries out a vector operation that has no line of its own in the manual's table, legal or not.
 #[tactic(auto, unfolding(rv_model::specs::step::VectorStep::vector_executed))]
 #[inline(always)]
-fn execute<M: UserBytes>(
-    instr: &Instr,
-    state: &mut VState,
-    scalar: &mut Scalar,
-    memory: &mut M,
-    limit: usize,
-    policy: Policy,
-) -> VEnd
+fn exec_irregular(instr: &Instr, state: &mut VState, scalar: &mut Scalar, policy: Policy) -> VEnd
     requires vector { IsTrue (is_vector instr.now) }
-    requires limit { 1 ≤ limit }
-    ensures model { (output : List ℕ)
-        → vector_executed limit instr.now (hart_state scalar.old state.old (M.memory memory.old) policy output)
-        ≡ vector_ends result (hart_state scalar.new state.new (M.memory memory.new) policy output) }
-
-    // All else that the user's bytes hold stays.
-    ensures memory { memory.new ≡ M.with_memory memory.old (M.memory memory.new) }
-
-    // What the illegal instruction finds is what it leaves.
+    requires irregular { IsTrue (is_irregular instr.now) }
+    ensures model { (limit : ℕ) (memory : Memory) (output : List ℕ)
+        → vector_executed limit instr.now (hart_state scalar.old state.old memory policy output)
+        ≡ vector_ends result (hart_state scalar.new state.new memory policy output) }
     ensures illegal_state { result ≡ VEnd.Illegal → state.new ≡ state.old }
     ensures illegal_scalar { result ≡ VEnd.Illegal → scalar.new ≡ scalar.old }
-    ensures illegal_memory { result ≡ VEnd.Illegal → memory.new ≡ memory.old }
 {
     if !legal(instr, &state.conf, state.vstart) {
         return VEnd::Illegal;
     }
-    perform(instr, state, scalar, memory, limit, policy)
+    perform_irregular(instr, state, scalar, policy)
 }
 
-/// Carries out an operation with a line of its own in the manual's table, by its parts: the same as `exec` of
-/// the instruction, which neither reads nor writes memory.
+/// Carries out a vector operation of a user that has a line of its own in the manual's table, by its operands: the same as
+/// `exec` of the instruction.
 #[tactic(auto, unfolding(rv_model::specs::step::VectorStep::vector_executed, rv_model::specs::step::VectorStep::performed))]
 #[inline(always)]
 pub fn exec_arith(
@@ -174,11 +137,37 @@ pub fn exec_arith(
     perform_arith(arith, vd, vs2, unmasked, state, scalar, policy)
 }
 
-/// Carries out a unit-stride load or store of a user, of at most `limit` indices, by its parts: the same as `exec` of
-/// the instruction.
+/// Carries out a vector load or store, legal or not.
+#[tactic(auto, unfolding(rv_model::specs::step::VectorStep::vector_executed))]
+#[inline(never)]
+fn exec_any_access<M: UserBytes>(
+    instr: &Instr,
+    state: &mut VState,
+    scalar: &Scalar,
+    memory: &mut M,
+    limit: usize,
+    policy: Policy,
+) -> VEnd
+    requires access { IsTrue (is_access instr.now) }
+    requires limit { 1 ≤ limit }
+    ensures model { (output : List ℕ)
+        → vector_executed limit instr.now (hart_state scalar.now state.old (M.memory memory.old) policy output)
+        ≡ vector_ends result (hart_state scalar.now state.new (M.memory memory.new) policy output) }
+    ensures memory { memory.new ≡ M.with_memory memory.old (M.memory memory.new) }
+    ensures illegal_state { result ≡ VEnd.Illegal → state.new ≡ state.old }
+    ensures illegal_memory { result ≡ VEnd.Illegal → memory.new ≡ memory.old }
+{
+    if legal(instr, &state.conf, state.vstart) {
+        perform_access(instr, state, scalar, memory, limit, policy)
+    } else {
+        VEnd::Illegal
+    }
+}
+
+/// Carries out a unit-stride load or store, by its parts.
 #[tactic(auto, unfolding(rv_model::specs::step::VectorStep::vector_executed))]
 #[inline(always)]
-pub fn exec_unit<M: UserBytes>(
+fn exec_unit_stride<M: UserBytes>(
     access: UnitAccess,
     state: &mut VState,
     scalar: &Scalar,
@@ -192,11 +181,7 @@ pub fn exec_unit<M: UserBytes>(
         (Instr.VectorUnit access.op access.width access.nf access.vd access.rs1 access.unmasked)
         (hart_state scalar.now state.old (M.memory memory.old) policy output)
         ≡ vector_ends result (hart_state scalar.now state.new (M.memory memory.new) policy output) }
-
-    // All else that the user's bytes hold stays.
     ensures memory { memory.new ≡ M.with_memory memory.old (M.memory memory.new) }
-
-    // What the illegal instruction finds is what it leaves.
     ensures illegal_state { result ≡ VEnd.Illegal → state.new ≡ state.old }
     ensures illegal_memory { result ≡ VEnd.Illegal → memory.new ≡ memory.old }
 {
@@ -214,51 +199,85 @@ pub fn exec_unit<M: UserBytes>(
     perform_unit(access, state, scalar, memory, limit, policy)
 }
 
-/// Carries out a unit-stride load or store of a user at once, by its parts, if it is legal, its elements come at once,
-/// from the first one on and within `limit` indices, and each may be loaded or stored. Answers whether it is done, which
-/// is the same as `exec` of the instruction; where it isn't, nothing has changed.
-#[tactic(auto, unfolding(rv_model::specs::step::VectorStep::vector_executed))]
+/// Carries out a vector load or store of a user, of at most `limit` indices.
 #[inline(always)]
-pub fn exec_whole_unit<M: UserBytes>(
-    access: UnitAccess,
+pub fn exec_access<M: UserBytes>(
+    instr: &Instr,
     state: &mut VState,
     scalar: &Scalar,
     memory: &mut M,
     limit: usize,
     policy: Policy,
-) -> bool
-    ensures model { result ≡ true → (output : List ℕ)
-        → vector_executed limit
-        (Instr.VectorUnit access.op access.width access.nf access.vd access.rs1 access.unmasked)
-        (hart_state scalar.now state.old (M.memory memory.old) policy output)
-        ≡ vector_ends VEnd.Done (hart_state scalar.now state.new (M.memory memory.new) policy output) }
+) -> VEnd
+    requires access { IsTrue (is_access instr.now) }
+    requires limit { 1 ≤ limit }
+    ensures model { (output : List ℕ)
+        → vector_executed limit instr.now (hart_state scalar.now state.old (M.memory memory.old) policy output)
+        ≡ vector_ends result (hart_state scalar.now state.new (M.memory memory.new) policy output) }
 
     // All else that the user's bytes hold stays.
     ensures memory { memory.new ≡ M.with_memory memory.old (M.memory memory.new) }
-    ensures unchanged_state { result ≡ false → state.new ≡ state.old }
-    ensures unchanged_memory { result ≡ false → memory.new ≡ memory.old }
+
+    // What the illegal instruction finds is what it leaves.
+    ensures illegal_state { result ≡ VEnd.Illegal → state.new ≡ state.old }
+    ensures illegal_memory { result ≡ VEnd.Illegal → memory.new ≡ memory.old }
 {
-    let UnitAccess {
-        op,
-        width,
-        nf,
-        vd,
-        unmasked,
-        ..
-    } = access;
-    if !unmasked || nf.value() != 0 {
-        return false;
+    match *instr {
+        Instr::VectorUnit {
+            op,
+            width,
+            nf,
+            vd,
+            rs1,
+            vm,
+        } => {
+            let access = UnitAccess::new(op, width, nf, vd, rs1, vm);
+            exec_unit_stride(access, state, scalar, memory, limit, policy)
+        }
+        _ => {
+            // A copy of its own for the other function, so that the operands need no place in memory before.
+            let copy = *instr;
+            exec_any_access(&copy, state, scalar, memory, limit, policy)
+        }
     }
-    let legal = legal_unit(op, width, nf, vd, unmasked, &state.conf);
-    if !legal {
-        return false;
+}
+
+/// Carries out a vector instruction of a user without a line of its own in the manual's table, of at most `limit` indices
+/// where it is a load or store: the same as `exec`.
+#[inline(always)]
+pub fn exec_rest<M: UserBytes>(
+    instr: &Instr,
+    state: &mut VState,
+    scalar: &mut Scalar,
+    memory: &mut M,
+    limit: usize,
+    policy: Policy,
+) -> VEnd
+    requires vector { IsTrue (is_vector instr.now) }
+    requires rest { IsTrue (is_irregular instr.now || is_access instr.now) }
+    requires limit { 1 ≤ limit }
+    ensures model { (output : List ℕ)
+        → vector_executed limit instr.now (hart_state scalar.old state.old (M.memory memory.old) policy output)
+        ≡ vector_ends result (hart_state scalar.new state.new (M.memory memory.new) policy output) }
+
+    // All else that the user's bytes hold stays.
+    ensures memory { memory.new ≡ M.with_memory memory.old (M.memory memory.new) }
+
+    // What the illegal instruction finds is what it leaves.
+    ensures illegal_state { result ≡ VEnd.Illegal → state.new ≡ state.old }
+    ensures illegal_scalar { result ≡ VEnd.Illegal → scalar.new ≡ scalar.old }
+    ensures illegal_memory { result ≡ VEnd.Illegal → memory.new ≡ memory.old }
+{
+    if is_access(instr) {
+        exec_any_access(instr, state, scalar, memory, limit, policy)
+    } else {
+        exec_irregular(instr, state, scalar, policy)
     }
-    perform_whole_unit(access, state, scalar, memory, limit, policy)
 }
 
 /// Carries out a vector instruction of a user, of at most `limit` indices where it is a load or store. The
 /// program counter stays on it.
-#[inline(always)]
+#[inline(never)]
 pub fn exec<M: UserBytes>(
     instr: &Instr,
     state: &mut VState,
@@ -287,5 +306,10 @@ pub fn exec<M: UserBytes>(
     ensures illegal_memory { result ≡ VEnd.Illegal → memory.new ≡ memory.old }
 {
     state.conf.length_law();
-    execute(instr, state, scalar, memory, limit, policy)
+    match *instr {
+        Instr::VectorArith { arith, vd, vs2, vm } => {
+            exec_arith(arith, vd, vs2, vm, state, scalar, policy)
+        }
+        _ => exec_rest(instr, state, scalar, memory, limit, policy),
+    }
 }

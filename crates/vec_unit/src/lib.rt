@@ -34,5 +34,5 @@ mod vset;
 mod whole_moves;
 mod widen;
 
-pub use execution::{exec, exec_arith, exec_unit, exec_whole_unit};
+pub use execution::{exec, exec_access, exec_arith, exec_rest};
 pub use rv_model::VEnd;

@@ -250,10 +250,10 @@ fn perform_whole_block<M: UserBytes>(
     run_whole_block(access, state, scalar, memory, limit)
 }
 
-/// Carries out a legal unit-stride load or store, of at most `limit` indices.
+/// Carries out a legal unit-stride load or store, of at most `limit` indices, as one of segments.
 #[tactic(auto, unfolding(rv_model::specs::step::VectorStep::performed))]
 #[inline(never)]
-pub(crate) fn perform_unit<M: UserBytes>(
+fn perform_unit_segments<M: UserBytes>(
     access: UnitAccess,
     state: &mut VState,
     scalar: &Scalar,
@@ -293,7 +293,7 @@ pub(crate) fn perform_unit<M: UserBytes>(
 /// Carries out a legal unit-stride load or store at once, if its tail and its elements that are masked off keep and
 /// all of its elements come at once. Answers whether it is done.
 #[inline(always)]
-pub(crate) fn perform_whole_unit<M: UserBytes>(
+fn perform_whole_unit<M: UserBytes>(
     access: UnitAccess,
     state: &mut VState,
     scalar: &Scalar,
@@ -315,6 +315,42 @@ pub(crate) fn perform_whole_unit<M: UserBytes>(
         Policy::Keep => perform_whole_block(access, state, scalar, memory, limit),
         Policy::Ones => false,
     }
+}
+
+/// Carries out a legal unit-stride load or store, of at most `limit` indices: at once, if it can be.
+#[inline(always)]
+pub(crate) fn perform_unit<M: UserBytes>(
+    access: UnitAccess,
+    state: &mut VState,
+    scalar: &Scalar,
+    memory: &mut M,
+    limit: usize,
+    policy: Policy,
+) -> VEnd
+    requires legal { IsTrue (is_legal (Instr.VectorUnit access.op access.width access.nf access.vd access.rs1 access.unmasked)
+        state.old.conf.vtype state.old.vstart) }
+    requires limit { 1 ≤ limit }
+    ensures model { (output : List ℕ)
+        → performed limit (Instr.VectorUnit access.op access.width access.nf access.vd access.rs1 access.unmasked)
+        (hart_state scalar.now state.old (M.memory memory.old) policy output)
+        ≡ vector_ends result (hart_state scalar.now state.new (M.memory memory.new) policy output) }
+    ensures memory { memory.new ≡ M.with_memory memory.old (M.memory memory.new) }
+    ensures illegal_state { result ≡ VEnd.Illegal → state.new ≡ state.old }
+    ensures illegal_memory { result ≡ VEnd.Illegal → memory.new ≡ memory.old }
+{
+    // A copy of its own for the other function, so that the operands need no place in memory before.
+    let copy = UnitAccess {
+        op: access.op,
+        width: access.width,
+        nf: access.nf,
+        vd: access.vd,
+        rs1: access.rs1,
+        unmasked: access.unmasked,
+    };
+    if perform_whole_unit(access, state, scalar, memory, limit, policy) {
+        return VEnd::Done;
+    }
+    perform_unit_segments(copy, state, scalar, memory, limit, policy)
 }
 
 /// Carries out a legal vector load or store, of at most `limit` indices.

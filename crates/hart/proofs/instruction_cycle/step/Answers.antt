@@ -22,7 +22,7 @@ returns-in-Ok-clause-goes_on g c =
     ends_after c.execute.result.1 c.execute.result.0
     (hart_state n.scalar (g.V.Vectors.lent n.vectors).state (g.M.UserBytes.memory n.memory) v.policy n.output.items) in
     let is : step c.args.limit before ≡ after = grind (arith, common_steps) in
-    step_goes_on c.args.limit before after (λ touching. c.execute.ensures.configuration (grind (arith, common_steps))) is
+    step_goes_on c.args.limit before after (λ touching. c.execute.ensures.vectors.0.2 (grind (arith, common_steps))) is
 
 pub returns-in-Err-clause-goes_on : goal.returns-in-Err-clause-goes_on
 unfolding step

@@ -6,6 +6,6 @@ use Rattle.hart.proofs.vector_instructions.execute_vector.Goals as goal
 
 pub returns-clause-uncut : goal.returns-clause-uncut
 returns-clause-uncut g c = λ enough same.
-    let cut = c.step_end.ensures.cut same in
-    uncut c.args.limit c.args.instr.now _ cut.0 (omega (arith, c.vl.ensures.value, c.vl.ensures.bound)) enough
-    (ap (λ (done : VectorStepped). done.end) (c.exec-end.ensures.model []) ∙ cut.1)
+    let cut = c.retire_vector.ensures.cut same in
+    uncut c.args.limit c.in-Some.instr _ cut.0 (omega (arith, c.new-found.ensures.bound)) enough
+    (ap (λ (done : VectorStepped). done.end) (c.exec_rest-ending.ensures.model []) ∙ cut.1)

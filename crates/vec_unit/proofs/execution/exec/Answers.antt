@@ -3,10 +3,19 @@ use Rattle.rv_model.specs.step.VectorStep.{vector_ends}
 use Rattle.rv_model.proofs.step_lemmas.GoesOn.{instruction_goes_on}
 use Rattle.vec_unit.proofs.execution.exec.Goals as goal
 
-pub returns-clause-restarts : goal.returns-clause-restarts
-returns-clause-restarts g c = λ output.
+pub returns-in-VectorArith-clause-restarts : goal.returns-in-VectorArith-clause-restarts
+returns-in-VectorArith-clause-restarts g c = λ output.
+    let memory = g.M.UserBytes.memory c.args.memory.now in
+    instruction_goes_on c.args.limit c.args.instr.now
+    (hart_state c.args.scalar.now c.args.state.now memory c.args.policy output)
+    (vector_ends c.exec_arith.result
+    (hart_state c.args.scalar.now c.exec_arith.new.state memory c.args.policy output))
+    c.length_law.ensures (rw c.in-VectorArith.is (c.exec_arith.ensures.model c.args.limit memory output))
+
+pub returns-in_default-clause-restarts : goal.returns-in_default-clause-restarts
+returns-in_default-clause-restarts g c = λ output.
     instruction_goes_on c.args.limit c.args.instr.now
     (hart_state c.args.scalar.now c.args.state.now (g.M.UserBytes.memory c.args.memory.now) c.args.policy output)
-    (vector_ends c.execute.result
-    (hart_state c.execute.new.scalar c.execute.new.state (g.M.UserBytes.memory c.execute.new.memory) c.args.policy output))
-    c.length_law.ensures (c.execute.ensures.model output)
+    (vector_ends c.exec_rest.result
+    (hart_state c.exec_rest.new.scalar c.exec_rest.new.state (g.M.UserBytes.memory c.exec_rest.new.memory) c.args.policy output))
+    c.length_law.ensures (c.exec_rest.ensures.model output)

@@ -5,7 +5,7 @@ use Rattle.rv_model.specs.step.VectorStep.{performed}
 use Rattle.rv_model.proofs.legality_lemmas.Accesses.{unit_inside}
 use Rattle.vec_unit.specs.declared.memory_instructions.SegmentAccess.{SegmentAccess}
 use Rattle.vec_unit.proofs.SegmentSteps.{same_inside, same_legal, same_step}
-use Rattle.vec_unit.proofs.memory_instructions.perform_unit.Goals as goal
+use Rattle.vec_unit.proofs.memory_instructions.perform_unit_segments.Goals as goal
 
 pub perform_segments-requires-clause-fields : goal.perform_segments-requires-clause-fields
 perform_segments-requires-clause-fields g c = λ t is h.

@@ -1,0 +1,150 @@
+//! Calls of the environment, breakpoints and accesses of control registers (Unprivileged ISA 20191213, section 2.8 and chapter
+//! 9, "Zicsr").
+ghost use Rattle.std.specs.Prelude.{◌≡◌, ◌≢◌, ◌&&◌, ◌||◌, IfNone, IfSome, Some, bit_and, false, if◌then◌else◌, true, ℕ};
+ghost use Rattle.rv_model.specs.declared.vector.policy.Policy.{Policy};
+ghost use Rattle.rv_model.specs.instructions.Table.{scan, table};
+ghost use Rattle.rv_model.specs.memory.Memory.{Memory};
+ghost use Rattle.rv_model.specs.step.Hart.{hart_state};
+ghost use Rattle.rv_model.specs.step.ScalarStep.{csr_step};
+ghost use Rattle.rv_model.specs.step.Step.{dirties, executed, touches, touches_control};
+ghost use Rattle.rv_model.specs.vector.Control.{is_write};
+ghost use Rattle.rv_model.specs.vector.ControlRegisters.{control_register};
+ghost use Rattle.rv_model.specs.vector.Configuration.{IsConfiguration};
+ghost use Rattle.hart.specs.States.{Leads, LeadsTo, Marks};
+
+use crate::control_registers::{csr_form, is_write, read, write, written_value};
+use crate::environment_call::system;
+use crate::faults::illegal;
+use crate::retirement::write_rd;
+use crate::vectors::Vectors;
+use arrayvec::ArrayVec;
+use rv_decode::decode_system;
+use rv_model::instructions::operations::CsrOp;
+use rv_model::{ControlRegister, Field, Instr, OUTPUT_SIZE, Reg, Scalar, StepEnd};
+use vector_memory::UserBytes;
+
+/// An access of the control register of this number.
+#[derive(Clone, Copy)]
+struct ControlAccess {
+    csr: Field<12>,
+    op: CsrOp,
+    rd: Reg,
+    /// The number of the register that is the operand, or the immediate.
+    source: u32,
+    operand: u64,
+}
+
+impl ControlAccess {
+    /// The register, unless the access is illegal: there has to be one, which isn't read-only if it is written.
+    fn register(&self) -> Option<ControlRegister>
+        ensures some { IfSome result (λ register. control_register self.now.csr ≡ Some register) }
+        ensures legal { IfSome result (λ register. touches_control (control_register self.now.csr) self.now.op self.now.source ≡ true) }
+        ensures illegal { IfNone result (touches_control (control_register self.now.csr) self.now.op self.now.source ≡ false) }
+    {
+        let register = ControlRegister::with_number(self.csr.value())?;
+        if is_write(self.op, self.source) && register.is_read_only() {
+            return None;
+        }
+        Some(register)
+    }
+}
+
+/// Reads a control register, and writes it unless the operand is x0 or the immediate 0.
+fn access_control<V: Vectors>(
+    access: ControlAccess,
+    word: u32,
+    scalar: &mut Scalar,
+    vectors: &mut V,
+) -> StepEnd
+    requires ready { V.ready vectors.old }
+    ensures model { (memory : Memory) (policy : Policy)
+        → Leads (csr_step (control_register access.csr) access.op access.rd access.source access.operand word)
+        (hart_state scalar.old (V.lent vectors.old).state memory policy)
+        (hart_state scalar.new (V.lent vectors.new).state memory policy) result 1 }
+    ensures dirty { (V.lent vectors.new).dirty ≡ ((V.lent vectors.old).dirty
+        || (touches_control (control_register access.csr) access.op access.source && is_write access.op access.source)) }
+    ensures clean { (V.lent vectors.new).dirty ≡ false
+        → (V.lent vectors.new).state ≡ (V.lent vectors.old).state }
+    ensures configuration { touches_control (control_register access.csr) access.op access.source ≡ true
+        → IsConfiguration (V.lent vectors.old).state.conf }
+    ensures vectors { vectors.new
+        ≡ (if touches_control (control_register access.csr) access.op access.source
+        then V.back vectors.old (V.lent vectors.new) else vectors.old) }
+    ensures ready { V.ready vectors.new }
+    ensures uncut { result ≢ StepEnd.Cut }
+{
+    let Some(register) = access.register() else {
+        return illegal(word, scalar);
+    };
+    let seat = vectors.seat();
+    seat.state.conf.length_law();
+    let value = read(register, &seat.state);
+    if is_write(access.op, access.source) {
+        write(
+            register,
+            written_value(access.op, value, access.operand),
+            &mut seat.state,
+        );
+        seat.dirty = true;
+    }
+    write_rd(access.rd, value, scalar)
+}
+
+/// Carries out the instruction that a word of SYSTEM is, in one tick. Writes how it ended.
+#[tactic(auto, unfolding(rv_model::specs::step::Step::executed, rv_model::specs::step::Step::dirties))]
+#[inline(never)]
+pub(crate) fn execute_system<M: UserBytes, V: Vectors>(
+    word: u32,
+    scalar: &mut Scalar,
+    memory: &M,
+    vectors: &mut V,
+    output: &mut ArrayVec<u8, OUTPUT_SIZE>,
+    end: &mut StepEnd,
+)
+    requires ready { V.ready vectors.old }
+    requires opcode { bit_and word 0x7f ≡ 0x73 }
+    ensures model { (limit : ℕ) (policy : Policy) → LeadsTo (executed limit (scan table word) word)
+        (hart_state scalar.old (V.lent vectors.old).state (M.memory memory.now) policy output.old.items)
+        (hart_state scalar.new (V.lent vectors.new).state (M.memory memory.now) policy output.new.items) end.new 1 }
+    ensures dirty { (limit : ℕ) (policy : Policy) → Marks (dirties limit (scan table word))
+        (hart_state scalar.old (V.lent vectors.old).state (M.memory memory.now) policy)
+        (V.lent vectors.old) (V.lent vectors.new) }
+    ensures clean { (V.lent vectors.new).dirty ≡ false
+        → (V.lent vectors.new).state ≡ (V.lent vectors.old).state }
+    ensures configuration { touches (scan table word) ≡ true
+        → IsConfiguration (V.lent vectors.old).state.conf }
+    ensures vectors { vectors.new
+        ≡ (if touches (scan table word) then V.back vectors.old (V.lent vectors.new) else vectors.old) }
+    ensures ready { V.ready vectors.new }
+    ensures uncut { end.new ≢ StepEnd.Cut }
+{
+    let decoded = decode_system(word);
+    let Some(instr) = &decoded else {
+        *end = illegal(word, scalar);
+        return;
+    };
+    *end = match *instr {
+        Instr::System { op } => system(op, scalar, memory, output),
+        Instr::Csr { op, rd, rs1, csr } => {
+            let access = ControlAccess {
+                csr,
+                op,
+                rd,
+                source: rs1.number(),
+                operand: scalar.read(rs1),
+            };
+            access_control(access, word, scalar, vectors)
+        }
+        Instr::CsrImmediate { op, rd, imm, csr } => {
+            let access = ControlAccess {
+                csr,
+                op: csr_form(op),
+                rd,
+                source: imm.value(),
+                operand: u64::from(imm.value()),
+            };
+            access_control(access, word, scalar, vectors)
+        }
+        _ => unreachable!(),
+    };
+}

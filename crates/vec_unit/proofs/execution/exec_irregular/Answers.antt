@@ -1,0 +1,11 @@
+use Rattle.std.proofs.Common.{◌≡◌, true, sym, ◌∙◌}
+use Rattle.rv_model.specs.step.VectorStep.{vector_executed}
+use Rattle.rv_model.specs.legality.Legality.{is_legal}
+use Rattle.vec_unit.proofs.execution.exec_irregular.Goals as goal
+
+pub returns-clause-model : goal.returns-clause-model
+unfolding vector_executed
+returns-clause-model c = λ limit memory output.
+    let allowed : is_legal c.args.instr.now c.args.state.now.conf.vtype c.args.state.now.vstart ≡ true =
+    sym c.legal.ensures.value ∙ c.if-not-legal.false in
+    rw allowed (c.perform_irregular.ensures.model limit memory output)
