@@ -5,7 +5,7 @@ use Rattle.std.proofs.lemmas.Bool.{cases_eq, cases_lt}
 use Rattle.rv_model.specs.declared.images.ProgramHeader.{ProgramHeader}
 use Rattle.rv_model.specs.images.Fields.{program_header}
 use Rattle.rv_model.specs.images.Faults.{first_fault}
-use Rattle.rv_model.specs.images.Image.{stack, placed_headers, covers, touches_page, is_touched, byte_of, permissions_of, cell_of, all_pages, memory_of_image}
+use Rattle.rv_model.specs.images.Image.{stack, placed_headers, covers, touches_page, is_touched, permissions_of, cell_of, all_pages, memory_of_image, image_byte}
 use Rattle.rv_model.specs.memory.Sizes.{page_size, page_limit}
 use Rattle.elf_load.specs.Pages.{EndsInMemory}
 use Rattle.elf_load.specs.Laws.{HoldsItsCells, TouchesWhatItCovers}
@@ -30,7 +30,7 @@ untouched_past image page sound l =
 
 no_cell : (image : List ℕ) (x : ℕ) → is_touched (placed_headers image) (x / page_size) ≡ false → cell_of image x ≡ None
 unfolding cell_of
-no_cell image x e = ap (λ (b : Bool). if b then Some (record { byte = byte_of image (placed_headers image) x; permissions = permissions_of (placed_headers image) (x / page_size) }) else None) e
+no_cell image x e = ap (λ (b : Bool). if b then Some (record { byte = image_byte image (placed_headers image) x; permissions = permissions_of (placed_headers image) (x / page_size) }) else None) e
 
 pub holds_its_cells : HoldsItsCells
 unfolding memory_of_image

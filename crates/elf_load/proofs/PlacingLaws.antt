@@ -9,9 +9,9 @@ use Rattle.std.proofs.lemmas.Bool.{cases_eq, cases_lt}
 use Rattle.rv_model.specs.declared.images.ProgramHeader.{ProgramHeader}
 use Rattle.rv_model.specs.declared.memory.Permissions.{Permissions}
 use Rattle.rv_model.specs.declared.memory.Access.TheVariants.{Monitor}
-use Rattle.rv_model.specs.memory.Memory.{Cell, Memory, with_pages, page_count, map_refusal, put_bytes, permits, is_allowed}
+use Rattle.rv_model.specs.memory.Memory.{Cell, Memory, with_pages, page_count, map_refusal, put_bytes, permits, can_access_byte}
 use Rattle.rv_model.specs.images.Fields.{header_count, program_header}
-use Rattle.rv_model.specs.images.Image.{stack, covers, byte_in, placed_headers, is_touched, permissions_of, byte_of, cell_of, all_pages, memory_of_image}
+use Rattle.rv_model.specs.images.Image.{stack, covers, byte_in, placed_headers, is_touched, permissions_of, cell_of, all_pages, memory_of_image, image_byte}
 use Rattle.rv_model.proofs.memory_lemmas.Memory.{same_memory, get-add_cells_within, get-add_cells_outside, any_page_mapped_none, map_refusal_none, with_byte, get-put_bytes_within, get-put_bytes_outside}
 use Rattle.rv_model.specs.memory.Sizes.{page_size, page_quota}
 use Rattle.elf_load.specs.Headers.{first_headers}
@@ -177,8 +177,8 @@ unfolding first_placed
 first_placed_more image number = ap (λ (hs : List ProgramHeader). stack ∷ hs) (first_headers_more image number)
 
 byte_of_more : (image : List ℕ) (headers : List ProgramHeader) (header : ProgramHeader) (x : ℕ)
-    → byte_of image (headers ++ header ∷ []) x ≡ cond (covers x header) (byte_in image x header) (byte_of image headers x)
-unfolding byte_of
+    → image_byte image (headers ++ header ∷ []) x ≡ cond (covers x header) (byte_in image x header) (image_byte image headers x)
+unfolding image_byte
 byte_of_more image headers header x =
     ap (λ (hs : List ProgramHeader). option_map_or (byte_in image x) (find (covers x) hs) 0) (reverse-append headers (header ∷ []))
     ∙ split (covers x header) (find (covers x) (reverse headers))
@@ -188,13 +188,13 @@ byte_of_more image headers header x =
     split false rest = refl
 
 pub byte_after : (image : List ℕ) (number x : ℕ)
-    → byte_of image (first_placed image (number + 1)) x ≡ cond (covers x (program_header image number)) (byte_in image x (program_header image number)) (byte_of image (first_placed image number) x)
+    → image_byte image (first_placed image (number + 1)) x ≡ cond (covers x (program_header image number)) (byte_in image x (program_header image number)) (image_byte image (first_placed image number) x)
 byte_after image number x =
-    ap (λ (hs : List ProgramHeader). byte_of image hs x) (first_placed_more image number) ∙ byte_of_more image (first_placed image number) (program_header image number) x
+    ap (λ (hs : List ProgramHeader). image_byte image hs x) (first_placed_more image number) ∙ byte_of_more image (first_placed image number) (program_header image number) x
 
 -- the stack alone has zeros
-byte_in_stack : (image : List ℕ) (x : ℕ) → byte_of image (first_placed image 0) x ≡ 0
-unfolding first_placed first_headers byte_of byte_in stack
+byte_in_stack : (image : List ℕ) (x : ℕ) → image_byte image (first_placed image 0) x ≡ 0
+unfolding first_placed first_headers image_byte byte_in stack
 byte_in_stack image x = split (covers x stack)
   where
     split : (b : Bool) → option_map_or (byte_in image x) (cond b (Some stack) None) 0 ≡ 0
@@ -212,17 +212,17 @@ same_bytes image bytes other same = is_memory_with (memory_with image bytes all_
 
 pub memory_after_none : (image : List ℕ) → blank_memory image all_pages ≡ memory_after image 0
 unfolding memory_after
-memory_after_none image = same_bytes image (λ _. 0) (byte_of image (first_placed image 0)) (λ x. sym (byte_in_stack image x))
+memory_after_none image = same_bytes image (λ _. 0) (image_byte image (first_placed image 0)) (λ x. sym (byte_in_stack image x))
 
 pub memory_after_all : (image : List ℕ) (number : ℕ) → number ≡ header_count image → memory_after image number ≡ memory_of_image image
 unfolding memory_after memory_of_image cell_of cell_if
 memory_after_all image number e =
     is_memory_below (memory_after image number) (cell_of image) (page_size * all_pages)
-    (λ x l. get-memory_with image (byte_of image (first_placed image number)) all_pages x (omega arith)
-    ∙ cells_with-is image (byte_of image (first_placed image number)) all_pages x (is_touched (placed_headers image) (x / page_size)) (before_end all_pages x (is_touched (placed_headers image) (x / page_size)) (omega arith))
-    ∙ ap (λ (hs : List ProgramHeader). cell_if image (byte_of image hs) x (is_touched (placed_headers image) (x / page_size))) (first_placed_all image number e))
-    (λ x g. get-memory_with image (byte_of image (first_placed image number)) all_pages x (omega arith)
-    ∙ cells_with-is image (byte_of image (first_placed image number)) all_pages x false (past_end all_pages x (is_touched (placed_headers image) (x / page_size)) (omega arith)))
+    (λ x l. get-memory_with image (image_byte image (first_placed image number)) all_pages x (omega arith)
+    ∙ cells_with-is image (image_byte image (first_placed image number)) all_pages x (is_touched (placed_headers image) (x / page_size)) (before_end all_pages x (is_touched (placed_headers image) (x / page_size)) (omega arith))
+    ∙ ap (λ (hs : List ProgramHeader). cell_if image (image_byte image hs) x (is_touched (placed_headers image) (x / page_size))) (first_placed_all image number e))
+    (λ x g. get-memory_with image (image_byte image (first_placed image number)) all_pages x (omega arith)
+    ∙ cells_with-is image (image_byte image (first_placed image number)) all_pages x false (past_end all_pages x (is_touched (placed_headers image) (x / page_size)) (omega arith)))
 
 -- bytes written
 pub put_with : (image : List ℕ) (bytes other : ℕ → ℕ) (a : ℕ) (bs : List ℕ) → ((k : ℕ) → k < length bs → other (a + k) ≡ get_or bs k 0)
@@ -255,8 +255,8 @@ put_with image bytes other a bs inside outside = is_memory_with (put_bytes (memo
     replaced x n false e = refl
 
 -- a mapped byte may be written
-pub monitor_is_allowed : (image : List ℕ) (bytes : ℕ → ℕ) (x : ℕ) → x < page_size * all_pages → is_touched (placed_headers image) (x / page_size) ≡ true → is_allowed Monitor (memory_with image bytes all_pages) x ≡ true
-unfolding is_allowed cell_if
+pub monitor_is_allowed : (image : List ℕ) (bytes : ℕ → ℕ) (x : ℕ) → x < page_size * all_pages → is_touched (placed_headers image) (x / page_size) ≡ true → can_access_byte Monitor (memory_with image bytes all_pages) x ≡ true
+unfolding can_access_byte cell_if
 monitor_is_allowed image bytes x l touched =
     ap (λ (o : Option Cell). option_map_or (λ c. permits Monitor c.permissions) o false)
     (get-memory_with image bytes all_pages x (omega arith)

@@ -7,7 +7,7 @@ use Rattle.rv_model.specs.declared.memory.Access.TheVariants.{Monitor}
 use Rattle.rv_model.specs.images.Fields.{header_count, program_header}
 use Rattle.rv_model.specs.images.Faults.{first_fault}
 use Rattle.rv_model.specs.memory.Memory.{Memory, can_access, put_bytes, with_pages, page_count, map_refusal}
-use Rattle.rv_model.specs.images.Image.{placed_headers, is_touched, permissions_of, byte_of, all_pages, memory_of_image}
+use Rattle.rv_model.specs.images.Image.{placed_headers, is_touched, permissions_of, all_pages, memory_of_image, image_byte}
 use Rattle.rv_model.specs.memory.Sizes.{page_quota, page_limit}
 use Rattle.user_mem.specs.Users.{memory_of_user, with_memory}
 use Rattle.elf_load.specs.Pages.{IsFirst, EndsInMemory, first_placed}
@@ -60,7 +60,7 @@ may_write_segment : (image : List ℕ) (number n : ℕ) (header : ProgramHeader)
 unfolding memory_after
 may_write_segment image number n header e sound l =
     subst (λ (h : ProgramHeader). h.kind ≡ 1 → n ≤ h.memory_size → can_access Monitor (memory_after image number) h.address n ≡ true) (sym e)
-    (λ kind fits. may_write image (byte_of image (first_placed image number)) number (program_header image number).address n sound l kind (omega arith) (omega arith))
+    (λ kind fits. may_write image (image_byte image (first_placed image number)) number (program_header image number).address n sound l kind (omega arith) (omega arith))
 
 pub may_write_file_part : (memories : List Memory) (user : ℕ) (image : List ℕ) (number : ℕ) (header : ProgramHeader) (bs : List ℕ) → memory_of_user memories user ≡ memory_after image number
     → header ≡ program_header image number → first_fault image ≡ None → number < header_count image → header.kind ≡ 1 → length bs ≡ header.file_size

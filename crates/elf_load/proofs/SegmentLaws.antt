@@ -10,7 +10,7 @@ use Rattle.rv_model.specs.declared.images.ElfFault.TheVariants.{BadFileSize, Bad
 use Rattle.rv_model.specs.images.Fields.{header_count, program_header}
 use Rattle.rv_model.specs.images.Faults.{header_has, first_fault}
 use Rattle.rv_model.specs.memory.Memory.{Memory, can_access, put_bytes}
-use Rattle.rv_model.specs.images.Image.{stack, placed_headers, covers, touches_page, is_touched, byte_in, byte_of, all_pages}
+use Rattle.rv_model.specs.images.Image.{stack, placed_headers, covers, touches_page, is_touched, byte_in, all_pages, image_byte}
 use Rattle.rv_model.proofs.memory_lemmas.Memory.{can_access_from, can_access-at, is_allowed-put_bytes, put_bytes-append}
 use Rattle.rv_model.specs.memory.Sizes.{page_size}
 use Rattle.elf_load.specs.Pages.{first_placed}
@@ -100,34 +100,34 @@ unfolding byte_in
 byte_past_file image x header l = grind (arith, l)
 
 byte_within : (image : List ℕ) (number x : ℕ) → (program_header image number).kind ≡ 1 → (program_header image number).address ≤ x → x < (program_header image number).address + (program_header image number).memory_size
-    → byte_of image (first_placed image (number + 1)) x ≡ byte_in image x (program_header image number)
+    → image_byte image (first_placed image (number + 1)) x ≡ byte_in image x (program_header image number)
 byte_within image number x kind low high =
     byte_after image number x
-    ∙ ap (λ (b : Bool). cond b (byte_in image x (program_header image number)) (byte_of image (first_placed image number) x)) (covers_within x (program_header image number) kind low high)
+    ∙ ap (λ (b : Bool). cond b (byte_in image x (program_header image number)) (image_byte image (first_placed image number) x)) (covers_within x (program_header image number) kind low high)
 
-byte_outside : (image : List ℕ) (number x : ℕ) → covers x (program_header image number) ≡ false → byte_of image (first_placed image (number + 1)) x ≡ byte_of image (first_placed image number) x
+byte_outside : (image : List ℕ) (number x : ℕ) → covers x (program_header image number) ≡ false → image_byte image (first_placed image (number + 1)) x ≡ image_byte image (first_placed image number) x
 byte_outside image number x e =
     byte_after image number x
-    ∙ ap (λ (b : Bool). cond b (byte_in image x (program_header image number)) (byte_of image (first_placed image number) x)) e
+    ∙ ap (λ (b : Bool). cond b (byte_in image x (program_header image number)) (image_byte image (first_placed image number) x)) e
 
 -- another program header changes nothing
 pub memory_after_other : (image : List ℕ) (number : ℕ) → ((program_header image number).kind ≡ 1 → ⊥) → memory_after image number ≡ memory_after image (number + 1)
 unfolding memory_after
 memory_after_other image number other =
-    same_bytes image (byte_of image (first_placed image number)) (byte_of image (first_placed image (number + 1)))
+    same_bytes image (image_byte image (first_placed image number)) (image_byte image (first_placed image (number + 1)))
     (λ x. sym (byte_outside image number x (covers_other x (program_header image number) other)))
 
 -- the bytes once the file's part is written
 halfway : List ℕ → ℕ → ℕ → ℕ
 halfway image number x =
     cond (nat_lt x ((program_header image number).address + (program_header image number).file_size))
-    (byte_of image (first_placed image (number + 1)) x) (byte_of image (first_placed image number) x)
+    (image_byte image (first_placed image (number + 1)) x) (image_byte image (first_placed image number) x)
 
-halfway_low : (image : List ℕ) (number x : ℕ) → x < (program_header image number).address + (program_header image number).file_size → halfway image number x ≡ byte_of image (first_placed image (number + 1)) x
+halfway_low : (image : List ℕ) (number x : ℕ) → x < (program_header image number).address + (program_header image number).file_size → halfway image number x ≡ image_byte image (first_placed image (number + 1)) x
 unfolding halfway
 halfway_low image number x l = grind (arith, l)
 
-halfway_high : (image : List ℕ) (number x : ℕ) → (program_header image number).address + (program_header image number).file_size ≤ x → halfway image number x ≡ byte_of image (first_placed image number) x
+halfway_high : (image : List ℕ) (number x : ℕ) → (program_header image number).address + (program_header image number).file_size ≤ x → halfway image number x ≡ image_byte image (first_placed image number) x
 unfolding halfway
 halfway_high image number x l = grind (arith, l)
 
@@ -139,7 +139,7 @@ file_part_written : (image : List ℕ) (number : ℕ) (bs : List ℕ) → (progr
     → put_bytes (memory_after image number) (program_header image number).address bs ≡ memory_with image (halfway image number) all_pages
 unfolding memory_after
 file_part_written image number bs kind fits e size =
-    put_with image (byte_of image (first_placed image number)) (halfway image number) (program_header image number).address bs
+    put_with image (image_byte image (first_placed image number)) (halfway image number) (program_header image number).address bs
     (λ k l. halfway_low image number ((program_header image number).address + k) (omega arith)
     ∙ byte_within image number ((program_header image number).address + k) kind (omega arith) (omega arith)
     ∙ byte_in_file image ((program_header image number).address + k) (program_header image number) (omega arith)
@@ -155,7 +155,7 @@ rest_cleared : (image : List ℕ) (number a n : ℕ) → (program_header image n
     → put_bytes (memory_with image (halfway image number) all_pages) a (replicate n 0) ≡ memory_after image (number + 1)
 unfolding memory_after
 rest_cleared image number a n kind from end =
-    put_with image (halfway image number) (byte_of image (first_placed image (number + 1))) a (replicate n 0)
+    put_with image (halfway image number) (image_byte image (first_placed image (number + 1))) a (replicate n 0)
     (λ k l. let small : k < n = omega (arith, length-replicate {A = ℕ} n 0) in
     byte_within image number (a + k) kind (omega arith) (omega arith) ∙ byte_past_file image (a + k) (program_header image number) (omega arith)
     ∙ sym (get_or-replicate n k 0 0 small))

@@ -1,7 +1,7 @@
 -- The memory of an image while it is placed: first its pages with zeros, then the bytes of one segment after the other
 use Rattle.std.specs.Prelude.{ℕ, ◌*◌, ◌/◌, ◌&&◌, nat_lt, List, Option, Some, None, if◌then◌else◌}
 use Rattle.rv_model.specs.memory.Memory.{Cell, Memory}
-use Rattle.rv_model.specs.images.Image.{placed_headers, is_touched, permissions_of, byte_of, memory_below, all_pages}
+use Rattle.rv_model.specs.images.Image.{placed_headers, is_touched, permissions_of, memory_below, all_pages, image_byte}
 use Rattle.rv_model.specs.memory.Sizes.{page_size}
 use Rattle.elf_load.specs.Pages.{first_placed}
 
@@ -22,4 +22,4 @@ blank_memory image end = memory_with image (λ _. 0) end
 
 -- the memory with the stack and the segments before a number
 unfoldable pub memory_after : List ℕ → ℕ → Memory
-memory_after image number = memory_with image (byte_of image (first_placed image number)) all_pages
+memory_after image number = memory_with image (image_byte image (first_placed image number)) all_pages

@@ -1,1 +1,3 @@
+pub mod AccessTicks
+pub mod Uncut
 pub mod VectorWords

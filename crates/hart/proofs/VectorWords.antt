@@ -2,12 +2,13 @@
 use Rattle.std.proofs.Common.{◌≡◌, refl, sym, ℕ, Bool, true, false, not, cond, ◌||◌, Option, None, Some}
 use Rattle.std.proofs.lemmas.Bool.{and_parts}
 use Rattle.rv_model.specs.declared.instructions.instruction.Instr.{Instr}
-use Rattle.rv_model.specs.declared.instructions.instruction.Instr.TheVariants.{Upper, Jump, JumpRegister, Branch, Load, Store, RegisterImmediate, ShiftImmediate, ShiftImmediateWord, RegisterRegister, Fence, System, Csr, CsrImmediate, SetVli, SetIvli, SetVl, VectorArith, VectorCarry, VectorMove, WholeMove, MaskLogic, Compress, MaskToScalar, VectorExtend, MaskUnary, ElementIndex, MoveToScalar, MoveToVector, VectorUnit, VectorStrided, VectorIndexed, WholeLoad, WholeStore, MaskMemory}
-use Rattle.rv_model.specs.instructions.Accesses.{is_access}
+use Rattle.rv_model.specs.declared.instructions.instruction.Instr.TheVariants as instr
+use Rattle.rv_model.specs.declared.instructions.vector.VectorInstr.TheVariants.{Arith}
+use Rattle.rv_model.specs.lending.Accesses.{is_access}
 use Rattle.rv_model.specs.step.Hart.{HartState}
 use Rattle.rv_model.specs.step.Step.{dirties, executed, touches}
 use Rattle.rv_model.specs.step.VectorStep.{is_legal_end, is_vector, vector_executed, vector_step}
-use Rattle.rv_decode.specs.Opcodes.{is_regular, is_rest, is_vector_access}
+use Rattle.rv_decode.specs.Opcodes.{is_regular, is_rest}
 use Rattle.vec_unit.specs.Arithmetic.{is_irregular}
 
 -- it is carried out, touches the vector unit, and changes it unless it is illegal
@@ -18,41 +19,10 @@ StepsAsVector limit i word s =
 
 vector_word : (limit : ℕ) (i : Instr) (word : ℕ) (s : HartState) → is_vector i ≡ true → StepsAsVector limit i word s
 unfolding executed dirties
-vector_word limit (Upper op rd imm) word s h = absurd (cc)
-vector_word limit (Jump rd imm) word s h = absurd (cc)
-vector_word limit (JumpRegister rd rs1 imm) word s h = absurd (cc)
-vector_word limit (Branch op rs1 rs2 imm) word s h = absurd (cc)
-vector_word limit (Load op rd rs1 imm) word s h = absurd (cc)
-vector_word limit (Store op rs1 rs2 imm) word s h = absurd (cc)
-vector_word limit (RegisterImmediate op rd rs1 imm) word s h = absurd (cc)
-vector_word limit (ShiftImmediate op rd rs1 shamt) word s h = absurd (cc)
-vector_word limit (ShiftImmediateWord op rd rs1 shamt) word s h = absurd (cc)
-vector_word limit (RegisterRegister op rd rs1 rs2) word s h = absurd (cc)
-vector_word limit (Fence rd rs1 ordering) word s h = absurd (cc)
-vector_word limit (System op) word s h = absurd (cc)
-vector_word limit (Csr op rd rs1 csr) word s h = absurd (cc)
-vector_word limit (CsrImmediate op rd imm csr) word s h = absurd (cc)
-vector_word limit (SetVli rd rs1 vtype) word s h = (refl, refl, refl)
-vector_word limit (SetIvli rd avl vtype) word s h = (refl, refl, refl)
-vector_word limit (SetVl rd rs1 rs2) word s h = (refl, refl, refl)
-vector_word limit (VectorArith arith vd vs2 vm) word s h = (refl, refl, refl)
-vector_word limit (VectorCarry carry vd vs2) word s h = (refl, refl, refl)
-vector_word limit (VectorMove source vd) word s h = (refl, refl, refl)
-vector_word limit (WholeMove count vd vs2) word s h = (refl, refl, refl)
-vector_word limit (MaskLogic op vd vs1 vs2) word s h = (refl, refl, refl)
-vector_word limit (Compress vd vs1 vs2) word s h = (refl, refl, refl)
-vector_word limit (MaskToScalar op rd vs2 vm) word s h = (refl, refl, refl)
-vector_word limit (VectorExtend op vd vs2 vm) word s h = (refl, refl, refl)
-vector_word limit (MaskUnary op vd vs2 vm) word s h = (refl, refl, refl)
-vector_word limit (ElementIndex vd vm) word s h = (refl, refl, refl)
-vector_word limit (MoveToScalar rd vs2) word s h = (refl, refl, refl)
-vector_word limit (MoveToVector vd rs1) word s h = (refl, refl, refl)
-vector_word limit (VectorUnit op width nf vd rs1 vm) word s h = (refl, refl, refl)
-vector_word limit (VectorStrided direction width nf vd rs1 rs2 vm) word s h = (refl, refl, refl)
-vector_word limit (VectorIndexed direction order width nf vd rs1 vs2 vm) word s h = (refl, refl, refl)
-vector_word limit (WholeLoad count width vd rs1) word s h = (refl, refl, refl)
-vector_word limit (WholeStore count vd rs1) word s h = (refl, refl, refl)
-vector_word limit (MaskMemory direction vd rs1) word s h = (refl, refl, refl)
+vector_word limit (instr.Scalar i) word s h = absurd (cc)
+vector_word limit (instr.Csr i) word s h = absurd (cc)
+vector_word limit (instr.Vector i) word s h = (refl, refl, refl)
+vector_word limit (instr.Access i) word s h = (refl, refl, refl)
 
 pub executed_vector : (limit : ℕ) (i : Instr) (word : ℕ) (s : HartState) → is_vector i ≡ true
     → executed limit (Some i) word s ≡ vector_step limit i word s
@@ -67,14 +37,11 @@ dirties_vector limit i word s h = (vector_word limit i word s h).2
 
 -- ---- what the decoders answer
 
-pub access_is_vector : (i : Instr) → is_vector_access i ≡ true → is_vector i ≡ true
-access_is_vector i h = (and_parts (is_vector i) (is_access i) h).0
-
 pub rest_is_vector : (i : Instr) → is_rest i ≡ true → is_vector i ≡ true
 rest_is_vector i h = (and_parts (is_vector i) (not (is_regular i)) h).0
 
 not_regular : (i : Instr) → not (is_regular i) ≡ true → is_irregular i || is_access i ≡ true
-not_regular (VectorArith arith vd vs2 vm) h = absurd (cc)
+not_regular (instr.Vector (Arith arith vd vs2 vm)) h = absurd (cc)
 not_regular _ h = refl
 
 pub rest_is_irregular : (i : Instr) → is_rest i ≡ true → is_irregular i || is_access i ≡ true
@@ -89,4 +56,4 @@ pub scalar_missed : (kept : Bool) (all : Option Instr) → None ≡ cond kept al
 scalar_missed true all e h = sym e
 scalar_missed false all e h = absurd (cc)
 
-pub ruleset vector_steps = (executed_vector, touches_vector, dirties_vector, access_is_vector, rest_is_vector, rest_is_irregular)
+pub ruleset vector_steps = (executed_vector, touches_vector, dirties_vector, rest_is_vector, rest_is_irregular)

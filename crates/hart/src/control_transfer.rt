@@ -1,5 +1,5 @@
 //! Jumps and branches (Unprivileged ISA 20191213, section 2.5).
-ghost use Rattle.std.specs.Prelude.{◌≡◌, ◌≢◌};
+ghost use Rattle.std.specs.Prelude.{◌≡◌};
 ghost use Rattle.rv_model.specs.scalar.ControlTransfer.{branch_target, jump_target, register_target};
 ghost use Rattle.rv_model.specs.step.ScalarStep.{branch_step, jump_step, jumps};
 ghost use Rattle.hart.specs.States.{LeadsRegisters};
@@ -39,7 +39,6 @@ pub(crate) fn branch_target(pc: u64, imm: Field<12>) -> u64
 #[inline(always)]
 pub(crate) fn jump(rd: Reg, target: u64, scalar: &mut Scalar) -> StepEnd
     ensures model { LeadsRegisters (jump_step rd target) scalar.old scalar.new result }
-    ensures uncut { result ≢ StepEnd.Cut }
 {
     let link = scalar.pc.wrapping_add(4);
     if target % 4 != 0 {
@@ -54,7 +53,6 @@ pub(crate) fn jump(rd: Reg, target: u64, scalar: &mut Scalar) -> StepEnd
 #[inline(always)]
 pub(crate) fn jump_if(taken: bool, target: u64, scalar: &mut Scalar) -> StepEnd
     ensures model { LeadsRegisters (branch_step taken target) scalar.old scalar.new result }
-    ensures uncut { result ≢ StepEnd.Cut }
 {
     if !taken {
         return retire(scalar);

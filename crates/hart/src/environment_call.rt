@@ -1,5 +1,4 @@
 //! Calls of the environment, and breakpoints (Unprivileged ISA 20191213, section 2.8).
-ghost use Rattle.std.specs.Prelude.{◌≡◌, ◌≢◌};
 ghost use Rattle.rv_model.specs.step.ScalarStep.{environment_call, system_step};
 ghost use Rattle.hart.specs.States.{LeadsOutput};
 
@@ -23,7 +22,6 @@ fn call_environment<M: UserBytes>(
 ) -> StepEnd
     ensures model { LeadsOutput environment_call scalar.old (M.memory memory.now) output.old.items
         scalar.new (M.memory memory.now) output.new.items result }
-    ensures uncut { result ≢ StepEnd.Cut }
 {
     let number = scalar.read(Reg::new(17));
     if number == 93 || number == 94 {
@@ -45,7 +43,6 @@ pub(crate) fn system<M: UserBytes>(
 ) -> StepEnd
     ensures model { LeadsOutput (system_step op) scalar.old (M.memory memory.now) output.old.items
         scalar.new (M.memory memory.now) output.new.items result }
-    ensures uncut { result ≢ StepEnd.Cut }
 {
     match op {
         SystemOp::Ecall => call_environment(scalar, memory, output),

@@ -17,7 +17,7 @@ use crate::vectors::Vectors;
 use crate::view::View;
 use arrayvec::ArrayVec;
 use rv_decode::decode_scalar;
-use rv_model::{Access, Cause, Fault, GROUP_BYTES, OUTPUT_SIZE, Policy, Scalar, StepEnd};
+use rv_model::{Access, Cause, Fault, GROUP_BYTES, Instr, OUTPUT_SIZE, Policy, Scalar, StepEnd};
 use vector_memory::UserBytes;
 
 /// The word at an address.
@@ -56,7 +56,6 @@ fn hand_on<M: UserBytes, V: Vectors>(
     ensures memory { memory.new ≡ M.with_memory memory.old (M.memory memory.new) }
     ensures vectors { Returns V.ready V.lent V.back (touches (scan table word)) (dirties limit (scan table word))
         (hart_state scalar.old (V.lent vectors.old).state (M.memory memory.old) policy) vectors.old vectors.new }
-    ensures uncut { GROUP_BYTES ≤ limit → result.0 ≢ StepEnd.Cut }
 {
     let mut end = StepEnd::Ran;
     match word & 0x7f {
@@ -97,10 +96,9 @@ fn execute<M: UserBytes, V: Vectors>(
     ensures memory { memory.new ≡ M.with_memory memory.old (M.memory memory.new) }
     ensures vectors { Returns V.ready V.lent V.back (touches (scan table word)) (dirties limit (scan table word))
         (hart_state scalar.old (V.lent vectors.old).state (M.memory memory.old) policy) vectors.old vectors.new }
-    ensures uncut { GROUP_BYTES ≤ limit → result.0 ≢ StepEnd.Cut }
 {
     let decoded = decode_scalar(word);
-    if let Some(instr) = &decoded {
+    if let Some(Instr::Scalar(instr)) = &decoded {
         return (execute_scalar(instr, scalar, memory), 1);
     }
     hand_on(word, scalar, memory, vectors, output, limit, policy)

@@ -1,9 +1,9 @@
 //! Loads and stores (Unprivileged ISA 20191213, sections 2.6 and 5.3). Those narrower than a register stand out of line,
 //! so that the others stay in line wherever a step is made.
-ghost use Rattle.std.specs.Prelude.{◌≡◌, ◌≢◌, ◌↔◌, IsOk, OnErr, OnOk, Ok, Err, if◌then◌else◌, length, true};
+ghost use Rattle.std.specs.Prelude.{◌≡◌, ◌↔◌, IsOk, OnErr, OnOk, Ok, Err, if◌then◌else◌, length, true};
 ghost use Rattle.std.specs.Int.{byte_len, w8, w16, w32, w64};
 ghost use Rattle.rv_model.specs.declared.memory.Access.TheVariants.{Load, Store};
-ghost use Rattle.rv_model.specs.scalar.LoadsAndStores.{access_address, extended, load_width, number_at, store_width, stored_bytes};
+ghost use Rattle.rv_model.specs.scalar.LoadsAndStores.{access_address, extended, load_width, number_at};
 ghost use Rattle.rv_model.specs.memory.Memory.{can_access, put_bytes};
 ghost use Rattle.rv_model.specs.step.ScalarStep.{load_step, store_step};
 ghost use Rattle.hart.specs.States.{LeadsScalar};
@@ -114,7 +114,6 @@ pub(crate) fn load<M: UserBytes>(
 ) -> StepEnd
     ensures model { LeadsScalar (load_step op rd addr)
         scalar.old (M.memory memory.now) scalar.new (M.memory memory.now) result }
-    ensures uncut { result ≢ StepEnd.Cut }
 {
     match loaded(op, addr, memory) {
         Ok(value) => write_rd(rd, value, scalar),
@@ -145,7 +144,6 @@ pub(crate) fn store<M: UserBytes>(
     ensures model { LeadsScalar (store_step op addr value)
         scalar.old (M.memory memory.old) scalar.new (M.memory memory.new) result }
     ensures memory { memory.new ≡ M.with_memory memory.old (M.memory memory.new) }
-    ensures uncut { result ≢ StepEnd.Cut }
 {
     let bytes = value.to_le_bytes();
     let written = match op {

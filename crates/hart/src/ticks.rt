@@ -1,10 +1,9 @@
 //! How many ticks vector instructions take.
-ghost use Rattle.std.specs.Prelude.{◌≡◌, ◌≤◌, ◌&&◌, ◌-◌, ◌+◌, max, nat_lt, if◌then◌else◌};
-ghost use Rattle.rv_model.specs.accesses.VectorAccess.{index_count};
-ghost use Rattle.rv_model.specs.step.VectorStep.{access_ticks, is_fault_only_first};
+ghost use Rattle.std.specs.Prelude.{◌≡◌, ℕ};
+ghost use Rattle.rv_model.specs.step.Hart.{HartState};
+ghost use Rattle.rv_model.specs.step.VectorStep.{after_vector, vector_ends, vector_executed, vector_step};
 
-use rv_model::instructions::operations::UnitOp;
-use rv_model::{GROUP_BYTES, Instr, VEnd, VState};
+use rv_model::{AccessInstr, Instr, VEnd, VState};
 use vector_memory::index_count;
 
 /// The vector length and `vstart` that an instruction finds.
@@ -18,8 +17,7 @@ impl Found {
     /// What a vector state has.
     #[inline(always)]
     pub(crate) fn new(state: &VState) -> Found
-        ensures value { result ≡ record { vl = state.now.conf.vl; vstart = state.now.vstart } }
-        ensures bound { state.now.conf.vl ≤ GROUP_BYTES }
+        ensures { result ≡ record { vl = state.now.conf.vl; vstart = state.now.vstart } }
     {
         Found {
             vl: usize::from(state.conf.vl()),
@@ -28,71 +26,54 @@ impl Found {
     }
 }
 
-/// Whether it is a fault-only-first load.
+/// The ticks of a load or store that had `limit` of them, found this length and `vstart`, and left this state: one for each
+/// index that it came to, and one if it is illegal. Where it leaves a shorter length, it is a fault-only-first load, and came
+/// to that index.
 #[inline(always)]
-fn is_fault_only_first(instr: &Instr) -> bool
-    ensures { result ≡ is_fault_only_first instr.now }
+pub(crate) fn access_ticks(
+    access: &AccessInstr,
+    limit: usize,
+    found: Found,
+    state: &VState,
+    end: VEnd,
+) -> usize
+    ensures { (word : ℕ) (before after : HartState)
+        → before.vector.conf.vl ≡ found.vl → before.vector.vstart ≡ found.vstart → after.vector ≡ state.now
+        → vector_executed limit (Instr.Access access.now) before ≡ vector_ends end after
+        → vector_step limit (Instr.Access access.now) word before ≡ after_vector result end word after }
 {
-    match *instr {
-        Instr::VectorUnit { op, .. } => match op {
-            UnitOp::FaultOnlyFirst => true,
-            UnitOp::Load | UnitOp::Store => false,
-        },
-        _ => false,
+    match end {
+        VEnd::Done => {
+            let vl = usize::from(state.conf.vl());
+            if vl < found.vl {
+                return vl.saturating_sub(found.vstart) + 1;
+            }
+            index_count(access, found.vl)
+                .saturating_sub(found.vstart)
+                .max(1)
+        }
+        VEnd::Illegal => 1,
+        VEnd::Fault { .. } => usize::from(state.vstart).saturating_sub(found.vstart) + 1,
+        VEnd::Cut { .. } => limit,
     }
 }
 
-/// The ticks of a load or store that is done, and leaves this vector length.
+/// The ticks of a vector instruction: the same of a load or store, and one of any other.
 #[inline(always)]
-fn access_ticks(instr: &Instr, found: Found, vl: u16) -> usize
-    ensures { result ≡ (if is_fault_only_first instr.now && nat_lt vl found.vl
-        then vl - found.vstart + 1
-        else max 1 (index_count instr.now found.vl - found.vstart)) }
-{
-    let vl = usize::from(vl);
-    if is_fault_only_first(instr) && vl < found.vl {
-        return vl.saturating_sub(found.vstart) + 1;
-    }
-    index_count(instr, found.vl)
-        .saturating_sub(found.vstart)
-        .max(1)
-}
-
-/// The ticks of an instruction that is done, and leaves this vector length: one, but for loads and stores.
-#[inline(always)]
-fn done_ticks(instr: &Instr, found: Found, vl: u16) -> usize
-    ensures { result ≡ (if is_fault_only_first instr.now && nat_lt vl found.vl
-        then vl - found.vstart + 1
-        else max 1 (index_count instr.now found.vl - found.vstart)) }
-{
-    match *instr {
-        Instr::VectorUnit { .. }
-        | Instr::VectorStrided { .. }
-        | Instr::VectorIndexed { .. }
-        | Instr::WholeLoad { .. }
-        | Instr::WholeStore { .. }
-        | Instr::MaskMemory { .. } => access_ticks(instr, found, vl),
-        _ => 1,
-    }
-}
-
-/// The ticks of an instruction that had `limit` of them, found this length and `vstart`, and left this state.
-#[inline(always)]
-pub(crate) fn ticks_taken(
+pub(crate) fn vector_ticks(
     instr: &Instr,
     limit: usize,
     found: Found,
     state: &VState,
     end: VEnd,
 ) -> usize
-    ensures { result ≡ access_ticks limit instr.now
-        (record state.now { conf = record state.now.conf { vl = found.vl }; vstart = found.vstart })
-        state.now end }
+    ensures { (word : ℕ) (before after : HartState)
+        → before.vector.conf.vl ≡ found.vl → before.vector.vstart ≡ found.vstart → after.vector ≡ state.now
+        → vector_executed limit instr.now before ≡ vector_ends end after
+        → vector_step limit instr.now word before ≡ after_vector result end word after }
 {
-    match end {
-        VEnd::Done => done_ticks(instr, found, state.conf.vl()),
-        VEnd::Illegal => 1,
-        VEnd::Fault { .. } => usize::from(state.vstart).saturating_sub(found.vstart) + 1,
-        VEnd::Cut { .. } => limit,
+    match instr {
+        Instr::Access(access) => access_ticks(access, limit, found, state, end),
+        Instr::Scalar(_) | Instr::Csr(_) | Instr::Vector(_) => 1,
     }
 }

@@ -1,5 +1,5 @@
 //! Instructions of the vector extension, on a vector state that is lent to them.
-ghost use Rattle.std.specs.Prelude.{◌≡◌, ◌≢◌, ◌≤◌, ◌⊎◌, ◌||◌, List, bit_and, ℕ};
+ghost use Rattle.std.specs.Prelude.{◌≡◌, ◌≤◌, ◌⊎◌, ◌||◌, List, bit_and, ℕ};
 ghost use Rattle.rv_decode.specs.Irregular.{irregular, other_accesses};
 ghost use Rattle.rv_model.specs.declared.vector.policy.Policy.{Policy as AgnosticPolicy};
 ghost use Rattle.rv_model.specs.instructions.Table.{scan, table};
@@ -11,10 +11,10 @@ ghost use Rattle.hart.specs.States.{Leads, Returns};
 
 use crate::faults::{fault, illegal};
 use crate::retirement::retire;
-use crate::ticks::{Found, ticks_taken};
+use crate::ticks::{Found, access_ticks, vector_ticks};
 use crate::vectors::Vectors;
 use rv_decode::{ArithOperation, decode_regular, decode_rest, decode_unit_stride};
-use rv_model::{Cause, GROUP_BYTES, Policy, Scalar, Seat, StepEnd, VEnd};
+use rv_model::{Cause, Instr, Policy, Scalar, Seat, StepEnd, VEnd};
 use vec_unit::{exec_access, exec_arith, exec_rest};
 use vector_memory::UserBytes;
 
@@ -46,7 +46,6 @@ fn retire_vector(
         ≡ ends_after result end.new (hart_state scalar.new seat.new.state memory policy output) }
     ensures state { seat.new.state ≡ seat.old.state }
     ensures dirty { seat.new.dirty ≡ (seat.old.dirty || is_legal_end ending) }
-    ensures cut { end.new ≡ StepEnd.Cut → (index : ℕ) × (ending ≡ VEnd.Cut index) }
 {
     match ending {
         VEnd::Done => {
@@ -96,7 +95,6 @@ fn execute_vector<M: UserBytes, V: Vectors>(
     ensures memory { memory.new ≡ M.with_memory memory.old (M.memory memory.new) }
     ensures vectors { Returns V.ready V.lent V.back (touches (scan table word)) (dirties limit (scan table word))
         (hart_state scalar.old (V.lent vectors.old).state (M.memory memory.old) policy) vectors.old vectors.new }
-    ensures uncut { GROUP_BYTES ≤ limit → end.new ≢ StepEnd.Cut }
 {
     let decoded = decode_rest(word);
     let Some(instr) = &decoded else {
@@ -107,13 +105,13 @@ fn execute_vector<M: UserBytes, V: Vectors>(
     seat.state.conf.length_law();
     let found = Found::new(&seat.state);
     let ending = exec_rest(instr, &mut seat.state, scalar, memory, limit, policy);
-    let ticks = ticks_taken(instr, limit, found, &seat.state, ending);
+    let ticks = vector_ticks(instr, limit, found, &seat.state, ending);
     retire_vector(ending, ticks, word, scalar, seat, end)
 }
 
 /// Carries out the vector operation that a word of OP-V is: a regular one in line. Writes how it ended over `Ran`, and answers
 /// its one tick.
-#[tactic(auto, unfolding(rv_model::specs::step::Step::executed, rv_model::specs::step::Step::dirties), using(crate::proofs::VectorWords::vector_steps))]
+#[tactic(auto, unfolding(rv_model::specs::step::Step::executed, rv_model::specs::step::Step::dirties))]
 #[inline(never)]
 pub(crate) fn execute_operation<M: UserBytes, V: Vectors>(
     word: u32,
@@ -134,7 +132,6 @@ pub(crate) fn execute_operation<M: UserBytes, V: Vectors>(
     ensures memory { memory.new ≡ M.with_memory memory.old (M.memory memory.new) }
     ensures vectors { Returns V.ready V.lent V.back (touches (scan table word)) (dirties limit (scan table word))
         (hart_state scalar.old (V.lent vectors.old).state (M.memory memory.old) policy) vectors.old vectors.new }
-    ensures uncut { GROUP_BYTES ≤ limit → end.new ≢ StepEnd.Cut }
 {
     let Some(operation) = decode_regular(word) else {
         return execute_vector(word, scalar, memory, vectors, limit, policy, end);
@@ -153,7 +150,7 @@ pub(crate) fn execute_operation<M: UserBytes, V: Vectors>(
 
 /// Carries out the vector load or store that a word of LOAD-FP or STORE-FP is, within `limit` ticks: one of unit stride in line.
 /// Writes how it ended over `Ran`, and answers how many ticks it took.
-#[tactic(auto, unfolding(rv_model::specs::step::Step::executed, rv_model::specs::step::Step::dirties), using(crate::proofs::VectorWords::vector_steps))]
+#[tactic(auto, unfolding(rv_model::specs::step::Step::executed, rv_model::specs::step::Step::dirties))]
 #[inline(never)]
 pub(crate) fn execute_access<M: UserBytes, V: Vectors>(
     word: u32,
@@ -174,16 +171,15 @@ pub(crate) fn execute_access<M: UserBytes, V: Vectors>(
     ensures memory { memory.new ≡ M.with_memory memory.old (M.memory memory.new) }
     ensures vectors { Returns V.ready V.lent V.back (touches (scan table word)) (dirties limit (scan table word))
         (hart_state scalar.old (V.lent vectors.old).state (M.memory memory.old) policy) vectors.old vectors.new }
-    ensures uncut { GROUP_BYTES ≤ limit → end.new ≢ StepEnd.Cut }
 {
     let decoded = decode_unit_stride(word);
-    let Some(instr) = &decoded else {
+    let Some(Instr::Access(access)) = &decoded else {
         return execute_vector(word, scalar, memory, vectors, limit, policy, end);
     };
     let seat = vectors.seat();
     seat.state.conf.length_law();
     let found = Found::new(&seat.state);
-    let ending = exec_access(instr, &mut seat.state, scalar, memory, limit, policy);
-    let ticks = ticks_taken(instr, limit, found, &seat.state, ending);
+    let ending = exec_access(access, &mut seat.state, scalar, memory, limit, policy);
+    let ticks = access_ticks(access, limit, found, &seat.state, ending);
     retire_vector(ending, ticks, word, scalar, seat, end)
 }

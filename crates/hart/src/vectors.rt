@@ -3,7 +3,7 @@ ghost use Rattle.std.specs.Prelude.{◌≡◌};
 ghost use Rattle.std.specs.Borrow.{sem, Lends};
 ghost use Rattle.rv_model.specs.declared.vector.state.Seat.{Seat};
 ghost use Rattle.rv_model.specs.contracts.vector.state.Seat as seat_type;
-ghost use Rattle.rv_model.specs.vector.Seats.{IsGivenBack};
+ghost use Rattle.rv_model.specs.lending.Seats.{IsGivenBack};
 
 use rv_model::Seat;
 

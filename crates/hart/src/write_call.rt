@@ -1,5 +1,5 @@
 //! The call of the environment that writes, as Linux has it. Its one file is the output buffer.
-ghost use Rattle.std.specs.Prelude.{◌≡◌, ◌≢◌, ◌≤◌, ◌+◌, ◌-◌, ◌++◌, length, min, Ok, Err, if◌then◌else◌};
+ghost use Rattle.std.specs.Prelude.{◌≡◌, ◌≤◌, ◌+◌, ◌-◌, ◌++◌, length, min, Ok, Err, if◌then◌else◌};
 ghost use Rattle.rv_model.specs.declared.memory.Access.TheVariants.{Load};
 ghost use Rattle.rv_model.specs.memory.Memory.{bytes_at, can_access};
 ghost use Rattle.rv_model.specs.step.WriteCall.{output_size, write_call, write_count, write_size};
@@ -60,7 +60,6 @@ pub(crate) fn write<M: UserBytes>(
 ) -> StepEnd
     ensures model { LeadsOutput write_call scalar.old (M.memory memory.now) output.old.items
         scalar.new (M.memory memory.now) output.new.items result }
-    ensures uncut { result ≢ StepEnd.Cut }
 {
     let asked = scalar.read(Reg::new(12));
     if scalar.read(Reg::new(10)) != OUTPUT {

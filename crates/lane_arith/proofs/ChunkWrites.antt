@@ -8,7 +8,8 @@ use Rattle.std.proofs.lemmas.Simd.{length-put_chunk, get_or-put_chunk_at, get_or
 use Rattle.std.specs.Int.{byte_at}
 use lib.Lanes.{Each1, number_l, chunk, put_chunk}
 use Rattle.rv_model.specs.elements.Elements.{Body, element, in_body, in_range, is_let, is_active, is_changed, result_or_ones}
-use Rattle.rv_model.specs.elements.Writes.{Writes, byte_or}
+use Rattle.rv_model.specs.elements.Writes.{byte_or}
+use Rattle.rv_model.specs.lending.Writes.{Writes}
 use Rattle.rv_model.proofs.element_lemmas.Writes.{byte_at-is, writes_same, writes_then}
 use Rattle.lane_arith.proofs.MaskBits.{byte_of_number}
 
@@ -113,7 +114,14 @@ pub step_chunk : (k n c : ℕ) (body : Body) (fill_masked_off : Bool) (result ch
 step_chunk k n c body fill_masked_off result chunk_result ones mid new made active filled e room is long bytes actives filleds same =
     step_any k n c (λ i. is_active body (n * c + i)) (λ i. fill_masked_off && in_body body (n * c + i))
     (is_changed body fill_masked_off false) (result_or_ones body result ones) chunk_result ones mid new made active filled e room is long bytes
-    actives filleds (λ i h. refl) (λ i h. rw (same i h) refl)
+    actives filleds (λ i h. either_way fill_masked_off (in_body body (n * c + i)) (is_let body (n * c + i))) (λ i h. rw (same i h) refl)
+  where
+    -- of those in the body, the ones that the mask lets through change anyway
+    either_way : (m b l : Bool) → ((b && l) || ((m && (b && not l)) || false)) ≡ ((b && l) || ((m && b) || false))
+    either_way false b l = refl
+    either_way true false l = refl
+    either_way true true true = refl
+    either_way true true false = refl
 
 -- how many elements a chunk has
 pub few_in_chunk : (k n : ℕ) → 0 < k → k * n ≡ 32 → n ≤ 32
@@ -146,7 +154,7 @@ module _ (k : ℕ) (unmasked : Bool) (mask : List ℕ) (start end : ℕ) (fill_m
   -- The test of the second, where b is whether the element is in the body, t whether it is before the cut, l whether the
   -- mask lets it through, and m whether those masked off are filled.
   abbrev test : Bool → Bool → Bool → Bool
-  test m b l = (b && l) || ((m && b) || false)
+  test m b l = (b && l) || ((m && (b && not l)) || false)
 
   tests : (m b t l : Bool) → test m b l ≡ ((test m b l && t) || test m (b && not t) l)
   tests false false t l = refl

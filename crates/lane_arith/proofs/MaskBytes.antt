@@ -1,4 +1,4 @@
--- Mask registers as 32 bytes side by side, and their bits.
+-- Mask registers as SIMD vectors of 32 bytes, and their bits.
 use Rattle.std.proofs.Common.{bit_and, bit_or, bit_xor, ◌≡◌, ℕ, zero, suc, ◌+◌, ◌-◌, ◌*◌, ◌/◌, ◌%◌, ◌^◌, ◌<◌, ◌==◌, Bool, true, false, not, cond, eqb, ltb, List, length, get_or, map, replicate, refl, sym, ap, ◌∙◌, arith, min, max, ◌&&◌, ◌||◌, Fits, inl, inr, eqb-true, lt-ltb, le-ltb}
 use Rattle.std.proofs.lemmas.Bool.{cases_lt, cases_order}
 use Rattle.std.proofs.lemmas.Bool.Decides.{nat_tests}
@@ -11,8 +11,9 @@ use Rattle.std.specs.Int.{bit_not, w8}
 use lib.Bits.{and_le_r}
 use lib.Lanes.{Each1, sel_l, top, zip2}
 use Rattle.rv_model.specs.elements.Elements.{in_range, mask_bit}
-use Rattle.rv_model.specs.elements.Masks.{exclusive_or}
-use Rattle.rv_model.specs.elements.Writes.{WritesBits, bit_or as old_or_new}
+use Rattle.rv_model.specs.elements.Masks.{xor}
+use Rattle.rv_model.specs.elements.Writes.{bit_or as old_or_new}
+use Rattle.rv_model.specs.lending.Writes.{WritesBits}
 use Rattle.rv_model.proofs.element_lemmas.Bits.{same_byte}
 use Rattle.lane_arith.proofs.MaskWords.{byte_of_own}
 use Rattle.lane_arith.proofs.VectorLanes.{all_below, every_below}
@@ -59,10 +60,10 @@ mask_or = both bit_or (λ x y. x || y) (λ a b i. ap (λ x. x == 1) (bit_at_or a
     go : (x y : ℕ) → x < 2 → y < 2 → (max x y == 1) ≡ ((x == 1) || (y == 1))
     go x y s t = grind (arith, nat_tests)
 
-pub mask_xor : {xs ys : List ℕ} {p q : ℕ → Bool} → IsMask xs p → IsMask ys q → IsMask (zip2 bit_xor xs ys) (λ i. exclusive_or (p i) (q i))
-mask_xor = both bit_xor exclusive_or (λ a b i. ap (λ x. x == 1) (bit_at_xor a b i) ∙ go (a / 2 ^ i % 2) (b / 2 ^ i % 2) (bit_at-lt a i) (bit_at-lt b i)) (xor_lt 8)
+pub mask_xor : {xs ys : List ℕ} {p q : ℕ → Bool} → IsMask xs p → IsMask ys q → IsMask (zip2 bit_xor xs ys) (λ i. xor (p i) (q i))
+mask_xor = both bit_xor xor (λ a b i. ap (λ x. x == 1) (bit_at_xor a b i) ∙ go (a / 2 ^ i % 2) (b / 2 ^ i % 2) (bit_at-lt a i) (bit_at-lt b i)) (xor_lt 8)
   where
-    go : (x y : ℕ) → x < 2 → y < 2 → ((x + y) % 2 == 1) ≡ exclusive_or (x == 1) (y == 1)
+    go : (x y : ℕ) → x < 2 → y < 2 → ((x + y) % 2 == 1) ≡ xor (x == 1) (y == 1)
     go zero zero s t = refl
     go zero (suc zero) s t = refl
     go (suc zero) zero s t = refl
@@ -97,7 +98,7 @@ mask_replaced {o} {r} {a} x y z =
     let made = mask_xor x (mask_and (mask_xor x y) z) in
     record { long = made.long; fits = made.fits; bits = λ i h. made.bits i h ∙ pick (o i) (r i) (a i) }
   where
-    pick : (o r a : Bool) → exclusive_or o (exclusive_or o r && a) ≡ cond a r o
+    pick : (o r a : Bool) → xor o (xor o r && a) ≡ cond a r o
     pick true true true = refl
     pick true true false = refl
     pick true false true = refl

@@ -7,7 +7,7 @@ use Rattle.std.proofs.lemmas.Simd.{length-put_chunk, get_or-put_chunk_at, get_or
 use Rattle.std.proofs.Math.Nat.{div-div-eq-div-mul, div-one, mod-lt}
 use Rattle.std.specs.Int.{byte_at, bytes_low_first}
 use lib.Lanes.{put_chunk}
-use Rattle.rv_model.specs.elements.Elements.{byte_of, element, mask_bit}
+use Rattle.rv_model.specs.elements.Elements.{element, mask_bit, byte_of_bits}
 use Rattle.rv_model.specs.elements.Writes.{bit_or, byte_with_bits}
 use Rattle.rv_model.proofs.element_lemmas.Bits.{RebuiltTo, byte_kept, same_byte}
 use Rattle.rv_model.proofs.element_lemmas.Reads.{bytes_power}
@@ -15,7 +15,7 @@ use Rattle.rv_model.proofs.element_lemmas.Writes.{byte_at-is, get_or-bytes, leng
 use Rattle.lane_arith.proofs.MaskBits.{low_bit, word_bit}
 
 -- a byte has its own bits
-pub byte_of_own : (y : ℕ) → y < 256 → y ≡ byte_of (λ j. y / 2 ^ j % 2 == 1)
+pub byte_of_own : (y : ℕ) → y < 256 → y ≡ byte_of_bits (λ j. y / 2 ^ j % 2 == 1)
 byte_of_own y h = byte_kept (λ i. false) (λ i. false) 0 0 (y ∷ []) h (λ i e. absurd (cc)) (omega arith)
 
 -- a bit of a byte of a word

@@ -1,1 +1,1 @@
-pub mod SideBySide
+pub mod SimdOperations

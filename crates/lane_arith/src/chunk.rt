@@ -1,4 +1,4 @@
-//! Whole chunks of 32 bytes: their elements side by side, and what they become.
+//! Whole chunks of 32 bytes: their elements as SIMD vectors, and what they become.
 ghost use Rattle.std.specs.Prelude.{◌≡◌, ◌+◌, ◌*◌, ◌-ℤ◌, pos, ◌/◌, ◌%◌, ◌^◌, ◌<◌, ◌==◌, ◌&&◌, ℕ, IfSome, IsTrue, int_le, int_lt, length, nat_le, not, slice_index, if◌then◌else◌};
 ghost use Rattle.std.specs.Int.{byte_at, cast_signed, from_bool};
 ghost use Rattle.rv_model.specs.declared.instructions.operations.BinaryOp.TheVariants.{Vand, Vmax, Vmaxu, Vmin, Vminu, Vor, Vsra, Vsrl, Vxor};
@@ -9,7 +9,7 @@ ghost use Rattle.rv_model.specs.elements.Elements.{mask_bit};
 ghost use Rattle.rv_model.specs.elements.Formulas.{carry_formula, compare_formula, formula, multiply_add_formula, ones, wrap};
 ghost use Rattle.rv_model.specs.vector.Configuration.{width_bytes};
 ghost use mir.Val.{bits, hbits};
-ghost use Rattle.lane_arith.specs.SideBySide.{is_side_by_side};
+ghost use Rattle.lane_arith.specs.SimdOperations.{is_simd};
 
 use crate::lane::Lane;
 use rv_model::instructions::operations::{BinaryOp, CarryOp, CompareOp, MultiplyAddOp};
@@ -39,14 +39,14 @@ pub(crate) fn merged<L: Lane>(results: L::Vector, old: u8x32, active: u64, fille
 }
 
 /// The bits that two mask registers both have.
-pub(crate) fn both_bytes(a: u8x32, b: u8x32) -> u8x32
+pub(crate) fn and_bytes(a: u8x32, b: u8x32) -> u8x32
     ensures { (i : ℕ) → i < GROUP_BYTES → mask_bit result i ≡ (mask_bit a i && mask_bit b i) }
 {
     a & b
 }
 
 /// The bits that the first of two mask registers has alone.
-pub(crate) fn first_alone(a: u8x32, b: u8x32) -> u8x32
+pub(crate) fn and_not_bytes(a: u8x32, b: u8x32) -> u8x32
     ensures { (i : ℕ) → i < GROUP_BYTES → mask_bit result i ≡ (mask_bit a i && not (mask_bit b i)) }
 {
     a & !b
@@ -117,7 +117,7 @@ fn signed_maxima<L: Lane>(a: L::Vector, b: L::Vector) -> L::Vector
 }
 
 /// The bits that both have.
-fn both<L: Lane>(a: L::Vector, b: L::Vector) -> L::Vector
+fn and<L: Lane>(a: L::Vector, b: L::Vector) -> L::Vector
     requires first { (i : ℕ) → i < L.count → L.lane a i < 2 ^ bits L.width }
     requires second { (i : ℕ) → i < L.count → L.lane b i < 2 ^ bits L.width }
     ensures { (i : ℕ) → i < L.count → L.lane result i ≡ wrap L.width (formula Vand L.width (L.lane a i) (L.lane b i)) }
@@ -126,7 +126,7 @@ fn both<L: Lane>(a: L::Vector, b: L::Vector) -> L::Vector
 }
 
 /// The bits that either has.
-fn either<L: Lane>(a: L::Vector, b: L::Vector) -> L::Vector
+fn or<L: Lane>(a: L::Vector, b: L::Vector) -> L::Vector
     requires first { (i : ℕ) → i < L.count → L.lane a i < 2 ^ bits L.width }
     requires second { (i : ℕ) → i < L.count → L.lane b i < 2 ^ bits L.width }
     ensures { (i : ℕ) → i < L.count → L.lane result i ≡ wrap L.width (formula Vor L.width (L.lane a i) (L.lane b i)) }
@@ -135,12 +135,12 @@ fn either<L: Lane>(a: L::Vector, b: L::Vector) -> L::Vector
 }
 
 /// The bits that one of them has.
-fn one_of<L: Lane>(a: L::Vector, b: L::Vector) -> L::Vector
+fn xor<L: Lane>(a: L::Vector, b: L::Vector) -> L::Vector
     requires first { (i : ℕ) → i < L.count → L.lane a i < 2 ^ bits L.width }
     requires second { (i : ℕ) → i < L.count → L.lane b i < 2 ^ bits L.width }
     ensures { (i : ℕ) → i < L.count → L.lane result i ≡ wrap L.width (formula Vxor L.width (L.lane a i) (L.lane b i)) }
 {
-    L::each_exclusive_or(a, b)
+    L::each_xor(a, b)
 }
 
 /// Each shifted right, with zeros for the upper bits.
@@ -162,9 +162,9 @@ fn signed_shifted_right<L: Lane>(a: L::Vector, amounts: L::Vector) -> L::Vector
     L::differences(turned, L::each_shifted_right(top, amounts))
 }
 
-/// Whether the results of an operation of one width are made side by side.
-pub fn is_side_by_side(op: BinaryOp) -> bool
-    ensures { result ≡ is_side_by_side op }
+/// Whether the results of an operation of one width are made by SIMD.
+pub fn is_simd(op: BinaryOp) -> bool
+    ensures { result ≡ is_simd op }
 {
     !matches!(
         op,
@@ -178,10 +178,10 @@ pub fn is_side_by_side(op: BinaryOp) -> bool
     )
 }
 
-/// The results of an operation of one width that are made side by side.
+/// The results of an operation of one width that are made by SIMD.
 #[inline(always)]
-pub fn side_by_side<L: Lane>(op: BinaryOp, a: L::Vector, b: L::Vector) -> L::Vector
-    requires made { IsTrue (is_side_by_side op) }
+pub fn simd_results<L: Lane>(op: BinaryOp, a: L::Vector, b: L::Vector) -> L::Vector
+    requires made { IsTrue (is_simd op) }
     requires first { (i : ℕ) → i < L.count → L.lane a i < 2 ^ bits L.width }
     requires second { (i : ℕ) → i < L.count → L.lane b i < 2 ^ bits L.width }
     ensures { (i : ℕ) → i < L.count → L.lane result i ≡ wrap L.width (formula op L.width (L.lane a i) (L.lane b i)) }
@@ -194,9 +194,9 @@ pub fn side_by_side<L: Lane>(op: BinaryOp, a: L::Vector, b: L::Vector) -> L::Vec
         BinaryOp::Vmin => signed_minima::<L>(a, b),
         BinaryOp::Vmaxu => maxima::<L>(a, b),
         BinaryOp::Vmax => signed_maxima::<L>(a, b),
-        BinaryOp::Vand => both::<L>(a, b),
-        BinaryOp::Vor => either::<L>(a, b),
-        BinaryOp::Vxor => one_of::<L>(a, b),
+        BinaryOp::Vand => and::<L>(a, b),
+        BinaryOp::Vor => or::<L>(a, b),
+        BinaryOp::Vxor => xor::<L>(a, b),
         BinaryOp::Vsll => L::each_shifted_left(a, b),
         BinaryOp::Vsrl => shifted_right::<L>(a, b),
         BinaryOp::Vsra => signed_shifted_right::<L>(a, b),
@@ -205,15 +205,15 @@ pub fn side_by_side<L: Lane>(op: BinaryOp, a: L::Vector, b: L::Vector) -> L::Vec
     }
 }
 
-/// The results of an operation of one width, where they are made side by side.
+/// The results of an operation of one width, where they are made by SIMD.
 pub fn binary<L: Lane>(op: BinaryOp, a: L::Vector, b: L::Vector) -> Option<L::Vector>
     requires first { (i : ℕ) → i < L.count → L.lane a i < 2 ^ bits L.width }
     requires second { (i : ℕ) → i < L.count → L.lane b i < 2 ^ bits L.width }
     ensures { IfSome result (λ made. (i : ℕ) → i < L.count
         → L.lane made i ≡ wrap L.width (formula op L.width (L.lane a i) (L.lane b i))) }
 {
-    if is_side_by_side(op) {
-        Some(side_by_side::<L>(op, a, b))
+    if is_simd(op) {
+        Some(simd_results::<L>(op, a, b))
     } else {
         None
     }

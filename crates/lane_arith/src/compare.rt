@@ -1,7 +1,8 @@
 //! Comparisons, and carries and borrows as masks ("V" Vector Extension 1.0, sections 11.4 and 11.8).
 ghost use Rattle.std.specs.Prelude.{◌≡◌, ◌<◌, ◌&&◌, not, ℕ};
 ghost use Rattle.rv_model.specs.declared.vector.sizes.TheConstants.{GROUP_BYTES};
-ghost use Rattle.rv_model.specs.elements.Elements.{HasElement, element, mask_bit};
+ghost use Rattle.rv_model.specs.elements.Elements.{element, mask_bit};
+ghost use Rattle.rv_model.specs.lending.Writes.{HasElement};
 ghost use Rattle.rv_model.specs.elements.Formulas.{carry_out_formula, compare_formula};
 ghost use Rattle.rv_model.specs.vector.Configuration.{width_bytes};
 

@@ -1,4 +1,4 @@
-//! Elements of 8, 16, 32 and 64 bits, one by one, and side by side in 32 bytes.
+//! Elements of 8, 16, 32 and 64 bits, one by one, and as SIMD vectors of 32 bytes.
 ghost use Rattle.std.specs.Prelude.{◌≡◌, ◌+◌, ◌*◌, ◌/◌, ◌%◌, ◌^◌, ◌<◌, ◌≤◌, ◌==◌, ℕ, bit_and, bit_or, bit_xor, length, nat_lt, not, slice_index, if◌then◌else◌};
 ghost use Rattle.std.specs.Int.{Width, byte_at, bytes_low_first, cast_signed, w8, w16, w32, w64};
 ghost use Rattle.std.proofs.Common.{refl, rules};
@@ -21,7 +21,7 @@ pub trait Lane: Copy + Drop {
     // The unsigned number.
     ghost value: { Self → ℕ };
 
-    /// The elements of 32 bytes, side by side.
+    /// The elements of 32 bytes, as a SIMD vector.
     type Vector: Copy + Drop;
 
     // How many there are.
@@ -122,7 +122,7 @@ pub trait Lane: Copy + Drop {
         ensures { (i : ℕ) → i < count → lane result i ≡ bit_or (lane a i) (lane b i) };
 
     /// The bits that one of them has.
-    fn each_exclusive_or(a: Self::Vector, b: Self::Vector) -> Self::Vector
+    fn each_xor(a: Self::Vector, b: Self::Vector) -> Self::Vector
         ensures { (i : ℕ) → i < count → lane result i ≡ bit_xor (lane a i) (lane b i) };
 
     /// Each shifted left, by the low bits of the amount.
@@ -259,7 +259,7 @@ impl Lane for u8 {
         a | b
     }
 
-    fn each_exclusive_or(a: u8x32, b: u8x32) -> u8x32 {
+    fn each_xor(a: u8x32, b: u8x32) -> u8x32 {
         a ^ b
     }
 
@@ -373,7 +373,7 @@ impl Lane for u16 {
         a | b
     }
 
-    fn each_exclusive_or(a: u16x16, b: u16x16) -> u16x16 {
+    fn each_xor(a: u16x16, b: u16x16) -> u16x16 {
         a ^ b
     }
 
@@ -485,7 +485,7 @@ impl Lane for u32 {
         a | b
     }
 
-    fn each_exclusive_or(a: u32x8, b: u32x8) -> u32x8 {
+    fn each_xor(a: u32x8, b: u32x8) -> u32x8 {
         a ^ b
     }
 
@@ -597,7 +597,7 @@ impl Lane for u64 {
         a | b
     }
 
-    fn each_exclusive_or(a: u64x4, b: u64x4) -> u64x4 {
+    fn each_xor(a: u64x4, b: u64x4) -> u64x4 {
         a ^ b
     }
 

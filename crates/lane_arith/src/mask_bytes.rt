@@ -4,7 +4,7 @@ ghost use Rattle.std.specs.Prelude.{◌≡◌, ◌<◌, ◌≤◌, ℕ, nat_lt};
 ghost use Rattle.rv_model.specs.elements.Elements.{in_range, is_active, mask_bit};
 
 use crate::body::Body;
-use crate::chunk::{both_bytes, first_alone};
+use crate::chunk::{and_bytes, and_not_bytes};
 use rv_model::GROUP_BYTES;
 use std::simd::prelude::*;
 
@@ -37,7 +37,7 @@ fn range_bytes(start: usize, end: usize) -> u8x32
     if start == 0 {
         return low;
     }
-    first_alone(low, low_bytes(start.min(end)))
+    and_not_bytes(low, low_bytes(start.min(end)))
 }
 
 /// A bit for each element, set where it is active.
@@ -50,5 +50,5 @@ pub fn active_bytes(body: &Body<'_>) -> u8x32
     if body.is_unmasked() {
         return range;
     }
-    both_bytes(range, u8x32::from_array(*body.mask()))
+    and_bytes(range, u8x32::from_array(*body.mask()))
 }

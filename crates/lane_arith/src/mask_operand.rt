@@ -1,7 +1,8 @@
 //! Operations with v0 as an operand ("V" Vector Extension 1.0, sections 11.4 and 11.15).
 ghost use Rattle.std.specs.Prelude.{◌≡◌, ◌<◌, ℕ};
 ghost use Rattle.rv_model.specs.declared.vector.sizes.TheConstants.{GROUP_BYTES};
-ghost use Rattle.rv_model.specs.elements.Elements.{HasElement, element, mask_bit};
+ghost use Rattle.rv_model.specs.elements.Elements.{element, mask_bit};
+ghost use Rattle.rv_model.specs.lending.Writes.{HasElement};
 ghost use Rattle.rv_model.specs.elements.Formulas.{carry_formula, wrap};
 ghost use Rattle.rv_model.specs.vector.Configuration.{width_bytes};
 

@@ -3,7 +3,8 @@
 ghost use Rattle.std.specs.Prelude.{◌≡◌, ◌+◌, ◌*◌, ◌/◌, ◌%◌, ◌^◌, ◌<◌, ◌≤◌, ◌==◌, ℕ, Bool, IfSome, length, nat_lt, not, slice_index, true, false, if◌then◌else◌};
 ghost use Rattle.std.specs.Int.{from_bool};
 ghost use Rattle.rv_model.specs.elements.Elements.{is_active, mask_bit};
-ghost use Rattle.rv_model.specs.elements.Writes.{WritesBits, bit_or, byte_with_bits};
+ghost use Rattle.rv_model.specs.elements.Writes.{bit_or, byte_with_bits};
+ghost use Rattle.rv_model.specs.lending.Writes.{WritesBits};
 
 use crate::body::Body;
 use crate::chunk::replaced_bytes;
@@ -26,7 +27,7 @@ pub trait MaskResults<L: Lane> {
         requires { has self.now index }
         ensures { result ≡ bit self.now index };
 
-    /// The results for the elements of a chunk of 32 bytes, a bit for each, where they are made side by side.
+    /// The results for the elements of a chunk of 32 bytes, a bit for each, where they are made by SIMD.
     fn chunk_bits(&self, _chunk: usize) -> Option<u64>
         requires { L.count * _chunk + L.count ≤ GROUP_BYTES }
         ensures value { IfSome result (λ word. (i : ℕ) → i < L.count → (word / 2 ^ i % 2 == 0) ≡ not (bit self.now (L.count * _chunk + i))) }
@@ -35,7 +36,7 @@ pub trait MaskResults<L: Lane> {
         None
     }
 
-    /// `write_mask_results` to a whole register, where the results are made side by side. Answers whether they are.
+    /// `write_mask_results` to a whole register, where the results are made by SIMD. Answers whether they are.
     fn write_register(&self, _body: &Body<'_>, _destination: &mut [u8]) -> bool
         requires { _body.now.end ≤ GROUP_BYTES }
         ensures done { result ≡ true → WritesBits (is_active _body.now) (bit self.now) _destination.old _destination.new }
@@ -116,7 +117,7 @@ fn rebuilt<L: Lane, R: MaskResults<L>>(
     }
 }
 
-/// The results for the 32 bits of a word of the destination, where their chunks are made side by side.
+/// The results for the 32 bits of a word of the destination, where their chunks are made by SIMD.
 fn word_results<L: Lane, R: MaskResults<L>>(results: &R, word: usize) -> Option<u64>
     requires { 32 * word + 32 ≤ GROUP_BYTES }
     ensures { IfSome result (λ bits. (i : ℕ) → i < 32 → (bits / 2 ^ i % 2 == 0) ≡ not (R.bit results.now (32 * word + i))) }
@@ -151,7 +152,7 @@ fn replaced(old: u32, new: u64, active: u64) -> u32
 }
 
 /// Writes the results to the active bits of the destination, four bytes at a time, up to the first chunk whose
-/// results aren't made side by side. Answers how many bytes are done.
+/// results aren't made by SIMD. Answers how many bytes are done.
 fn write_words<L: Lane, R: MaskResults<L>>(
     results: &R,
     body: &Body<'_>,
@@ -174,7 +175,7 @@ fn write_words<L: Lane, R: MaskResults<L>>(
     4 * words
 }
 
-/// Writes bits, made side by side, to the active ones of the destination, where that is a whole register. Answers
+/// Writes bits, made by SIMD, to the active ones of the destination, where that is a whole register. Answers
 /// whether it is.
 pub fn put_bits(results: u8x32, body: &Body<'_>, destination: &mut [u8]) -> bool
     requires { body.now.end ≤ GROUP_BYTES }
@@ -190,7 +191,7 @@ pub fn put_bits(results: u8x32, body: &Body<'_>, destination: &mut [u8]) -> bool
     true
 }
 
-/// `write_mask_results`, word by word as far as their results are made side by side, and then byte by byte.
+/// `write_mask_results`, word by word as far as their results are made by SIMD, and then byte by byte.
 fn write_in_turn<L: Lane, R: MaskResults<L>>(results: &R, body: &Body<'_>, destination: &mut [u8])
     requires operands { (i : ℕ) → i < body.now.end → R.has results.now i }
     requires most { length destination.old ≤ GROUP_BYTES }

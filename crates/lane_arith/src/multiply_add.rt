@@ -1,6 +1,7 @@
 //! Products that a third operand is added to ("V" Vector Extension 1.0, section 11.13).
 ghost use Rattle.std.specs.Prelude.{◌≡◌, ℕ};
-ghost use Rattle.rv_model.specs.elements.Elements.{HasElement, element};
+ghost use Rattle.rv_model.specs.elements.Elements.{element};
+ghost use Rattle.rv_model.specs.lending.Writes.{HasElement};
 ghost use Rattle.rv_model.specs.elements.Formulas.{multiply_add_formula, wrap};
 ghost use Rattle.rv_model.specs.vector.Configuration.{width_bytes};
 

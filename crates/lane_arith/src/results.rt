@@ -5,7 +5,7 @@ ghost use Rattle.std.specs.Int.{byte_at};
 ghost use Rattle.std.specs.Simd.Lanes.{chunk, put_chunk};
 ghost use Rattle.rv_model.specs.elements.Elements.{in_range, is_changed, result_or_ones};
 ghost use Rattle.rv_model.specs.elements.Formulas.{ones};
-ghost use Rattle.rv_model.specs.elements.Writes.{Writes};
+ghost use Rattle.rv_model.specs.lending.Writes.{Writes};
 ghost use Rattle.rv_model.specs.vector.Configuration.{width_bytes};
 
 use crate::body::Body;
@@ -28,7 +28,7 @@ pub trait Results<L: Lane> {
         requires { has self.now index }
         ensures { L.value result ≡ number self.now index };
 
-    /// The results for the elements of a chunk of 32 bytes, where they are made side by side.
+    /// The results for the elements of a chunk of 32 bytes, where they are made by SIMD.
     fn chunk_results(&self, _chunk: usize) -> Option<L::Vector>
         requires { L.count * _chunk + L.count ≤ GROUP_BYTES }
         ensures { IfSome result (λ made. (i : ℕ) → i < L.count → L.lane made i ≡ number self.now (L.count * _chunk + i)) }
@@ -82,7 +82,7 @@ pub fn put_results<L: Lane>(
     new.copy_to_slice(&mut destination[at..]);
 }
 
-/// `write_results`, chunk by chunk, up to the first chunk whose results aren't made side by side. Answers the
+/// `write_results`, chunk by chunk, up to the first chunk whose results aren't made by SIMD. Answers the
 /// index of the first element that is left.
 #[inline(always)]
 fn write_chunks<L: Lane, R: Results<L>>(

@@ -2,7 +2,8 @@
 //! and 11.14). `N` is the lesser width, and `W` the other.
 ghost use Rattle.std.specs.Prelude.{◌≡◌, ◌+ℤ◌, ◌*ℤ◌, pos, ℕ, ℤ};
 ghost use Rattle.std.specs.Int.{cast_signed};
-ghost use Rattle.rv_model.specs.elements.Elements.{HasElement, element};
+ghost use Rattle.rv_model.specs.elements.Elements.{element};
+ghost use Rattle.rv_model.specs.lending.Writes.{HasElement};
 ghost use Rattle.rv_model.specs.elements.Formulas.{wide_source_formula, widen_formula, widen_multiply_add_formula, wrap};
 ghost use Rattle.rv_model.specs.vector.Configuration.{width_bytes};
 

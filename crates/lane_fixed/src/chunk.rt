@@ -1,4 +1,4 @@
-//! Whole chunks of 32 bytes of fixed-point operations: their elements side by side, and what they become ("V"
+//! Whole chunks of 32 bytes of fixed-point operations: their elements as SIMD vectors, and what they become ("V"
 //! Vector Extension 1.0, sections 3.8, 12.1 and 12.2).
 ghost use Rattle.std.specs.Prelude.{◌≡◌, ◌+ℤ◌, ◌-ℤ◌, pos, ◌/◌, ◌%◌, ◌^◌, ◌<◌, ◌==◌, ℕ, ℤ, IfSome, not, if◌then◌else◌};
 ghost use Rattle.std.specs.Int.{cast_signed, from_bool, int_shr, saturate_signed, saturate_unsigned};
@@ -15,7 +15,7 @@ use lane_arith::chunk::{at_most, signed_less, top_bits};
 use rv_model::RoundingMode;
 use rv_model::instructions::operations::FixedPointOp;
 
-/// Numbers of one bit more than the width, side by side: their low bits, and a mask that is 0 where the bit
+/// Numbers of one bit more than the width, as SIMD vectors: their low bits, and a mask that is 0 where the bit
 /// above these isn't set.
 #[derive(Clone, Copy, Drop)]
 struct Wider<V> {
@@ -193,7 +193,7 @@ fn signed_saturated<L: Lane>(numbers: Wider<L::Vector>) -> SaturatedChunk<L::Vec
     limited::<L>(numbers.low, limits, beyond)
 }
 
-/// The results of an operation of one width, where they are made side by side.
+/// The results of an operation of one width, where they are made by SIMD.
 pub(crate) fn fixed_point<L: Lane>(
     op: FixedPointOp,
     mode: RoundingMode,

@@ -1,7 +1,8 @@
 //! Shifts of elements of twice the width, which are rounded and clipped ("V" Vector Extension 1.0, section
 //! 12.5).
 ghost use Rattle.std.specs.Prelude.{◌≡◌, ℕ};
-ghost use Rattle.rv_model.specs.elements.Elements.{HasElement, element};
+ghost use Rattle.rv_model.specs.elements.Elements.{element};
+ghost use Rattle.rv_model.specs.lending.Writes.{HasElement};
 ghost use Rattle.rv_model.specs.elements.FixedPoint.{clip_formula, clip_saturates, exact_shift, narrowed};
 ghost use Rattle.rv_model.specs.elements.Formulas.{wrap};
 ghost use Rattle.rv_model.specs.vector.Configuration.{width_bytes};

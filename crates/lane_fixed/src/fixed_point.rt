@@ -1,6 +1,7 @@
 //! Fixed-point operations of one width on two operands ("V" Vector Extension 1.0, sections 12.1 to 12.4).
 ghost use Rattle.std.specs.Prelude.{◌≡◌, ℕ};
-ghost use Rattle.rv_model.specs.elements.Elements.{HasElement, element};
+ghost use Rattle.rv_model.specs.elements.Elements.{element};
+ghost use Rattle.rv_model.specs.lending.Writes.{HasElement};
 ghost use Rattle.rv_model.specs.elements.FixedPoint.{clipped, fixed_point_formula, saturates};
 ghost use Rattle.rv_model.specs.elements.Formulas.{wrap};
 ghost use Rattle.rv_model.specs.vector.Configuration.{width_bytes};

@@ -1,6 +1,7 @@
 //! How a number is rounded where its low bits are dropped ("V" Vector Extension 1.0, section 3.8).
 ghost use Rattle.std.specs.Prelude.{◌≡◌, ◌%◌, ◌<◌};
-ghost use Rattle.rv_model.specs.elements.FixedPoint.{has_bit, has_low_bits, low_bits, rounded, rounds_up};
+ghost use Rattle.rv_model.specs.elements.FixedPoint.{has_bit, has_low_bits, rounded, rounds_up};
+ghost use Rattle.rv_model.specs.elements.Formulas.{low_bits};
 ghost use mir.Val.{bits};
 
 use lane_arith::Lane;

@@ -4,7 +4,7 @@ ghost use Rattle.std.specs.Prelude.{◌≡◌, ◌+◌, ◌*◌, ◌/◌, ◌%�
 ghost use Rattle.std.specs.List.{list_any, range_with_len};
 ghost use Rattle.rv_model.specs.elements.Elements.{is_active, is_changed, result_or_ones, some_active};
 ghost use Rattle.rv_model.specs.elements.Formulas.{ones};
-ghost use Rattle.rv_model.specs.elements.Writes.{Writes};
+ghost use Rattle.rv_model.specs.lending.Writes.{Writes};
 ghost use Rattle.rv_model.specs.vector.Configuration.{width_bytes};
 
 use lane_arith::{Body, Lane, active_bits, filled_bits, put_results};
@@ -17,7 +17,7 @@ pub struct Saturated<L> {
     pub saturated: bool,
 }
 
-/// The elements of a chunk of 32 bytes of a result, side by side, and a bit for each of them, the lowest for
+/// The elements of a chunk of 32 bytes of a result, as a SIMD vector, and a bit for each of them, the lowest for
 /// the first: whether it isn't the exact number but the nearest one of the width.
 #[derive(Clone, Copy, Drop)]
 pub struct SaturatedChunk<V> {
@@ -42,7 +42,7 @@ pub trait SaturatingResults<L: Lane> {
         ensures value { L.value result.value ≡ number self.now index }
         ensures saturated { result.saturated ≡ saturates self.now index };
 
-    /// The results for the elements of a chunk of 32 bytes, where they are made side by side.
+    /// The results for the elements of a chunk of 32 bytes, where they are made by SIMD.
     fn chunk_results(&self, _chunk: usize) -> Option<SaturatedChunk<L::Vector>>
         requires { L.count * _chunk + L.count ≤ GROUP_BYTES }
         ensures value { IfSome result (λ made. (i : ℕ) → i < L.count → L.lane made.values i ≡ number self.now (L.count * _chunk + i)) }
@@ -89,7 +89,7 @@ struct Progress {
     saturated: bool,
 }
 
-/// `write_saturating_results`, chunk by chunk, up to the first chunk whose results aren't made side by side.
+/// `write_saturating_results`, chunk by chunk, up to the first chunk whose results aren't made by SIMD.
 fn write_chunks<L: Lane, R: SaturatingResults<L>>(
     results: &R,
     body: &Body<'_>,

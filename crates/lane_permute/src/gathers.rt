@@ -1,6 +1,7 @@
 //! Gathers: elements of a source by their index ("V" Vector Extension 1.0, section 16.4).
 ghost use Rattle.std.specs.Prelude.{◌≡◌, ◌*◌, ◌≤◌, ℕ, length};
-ghost use Rattle.rv_model.specs.elements.Elements.{HasElement, element};
+ghost use Rattle.rv_model.specs.elements.Elements.{element};
+ghost use Rattle.rv_model.specs.lending.Writes.{HasElement};
 ghost use Rattle.rv_model.specs.elements.Permutations.{gathered};
 ghost use Rattle.rv_model.specs.vector.Configuration.{width_bytes};
 

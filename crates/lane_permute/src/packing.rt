@@ -2,7 +2,7 @@
 ghost use Rattle.std.specs.Prelude.{◌≡◌, ◌*◌, ◌<◌, ◌≤◌, ℕ, length, slice_index};
 ghost use Rattle.rv_model.specs.elements.Elements.{element};
 ghost use Rattle.rv_model.specs.elements.Permutations.{is_packed, packed};
-ghost use Rattle.rv_model.specs.elements.Writes.{Writes};
+ghost use Rattle.rv_model.specs.lending.Writes.{Writes};
 ghost use Rattle.rv_model.specs.vector.Configuration.{width_bytes};
 
 use lane_arith::{Lane, bit_of};

@@ -1,7 +1,8 @@
 //! Slides: elements of a source that move up or down by an offset, or by one place ("V" Vector Extension
 //! 1.0, section 16.3).
 ghost use Rattle.std.specs.Prelude.{◌≡◌, ◌+◌, ◌-◌, ◌*◌, ◌<◌, ◌≤◌, ℕ, length};
-ghost use Rattle.rv_model.specs.elements.Elements.{HasElement, element};
+ghost use Rattle.rv_model.specs.elements.Elements.{element};
+ghost use Rattle.rv_model.specs.lending.Writes.{HasElement};
 ghost use Rattle.rv_model.specs.elements.Permutations.{from_offset, slid_down, slid_one_down, slid_one_up, slid_up};
 ghost use Rattle.rv_model.specs.vector.Configuration.{width_bytes};
 

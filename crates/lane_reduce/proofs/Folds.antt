@@ -1,4 +1,4 @@
--- Numbers combined in any order: side by side in the lanes of a chunk, and the lanes by halves.
+-- Numbers combined in any order: by SIMD in the lanes of a chunk, and the lanes by halves.
 use Rattle.std.proofs.Common.{ℕ, zero, suc, ◌+◌, ◌<◌, ◌≡◌, [], ◌∷◌, map, Bool, true, false, cond, refl, sym, ap, ◌∙◌, arith}
 use Rattle.std.specs.List.{filter, fold, range_with_len}
 use Rattle.std.proofs.lemmas.List.FromFn.{map-range_with_len_more}

@@ -1,4 +1,4 @@
-//! Whole chunks of 32 bytes: their elements side by side, combined lane by lane.
+//! Whole chunks of 32 bytes: their elements as SIMD vectors, combined lane by lane.
 ghost use Rattle.std.specs.Prelude.{◌≡◌, ◌/◌, ◌%◌, ◌^◌, ◌<◌, ◌==◌, ℕ, IfSome, if◌then◌else◌};
 ghost use Rattle.lane_reduce.specs.AnyOrder.{combination, neutral_number};
 ghost use mir.Val.{bits};

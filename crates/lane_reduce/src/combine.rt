@@ -25,7 +25,7 @@ pub trait Combine<E: Lane, R: Lane> {
         ensures { R.value result ≡ combined self.now (R.value so_far) (E.value element) };
 
     /// The active elements of whole chunks of 32 bytes, from the first on, combined with a first number, where
-    /// chunks are combined side by side.
+    /// chunks are combined by SIMD.
     fn combined_chunks(&self, _first: R, _elements: &[u8], _body: &Body<'_>) -> Option<Combined<R>>
         requires { _body.now.end ≤ GROUP_BYTES }
         ensures { IfSome result (λ made. R.value made.number ≡ fold (combined self.now) (R.value _first)

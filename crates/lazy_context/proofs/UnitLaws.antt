@@ -5,7 +5,7 @@ use Rattle.rv_model.specs.declared.vector.state.Seat.{Seat}
 use Rattle.rv_model.specs.declared.vector.state.VState.{VState}
 use Rattle.rv_model.specs.machine.Users.{user_count}
 use Rattle.rv_model.specs.machine.VectorUnit.{is_owned_by, unit_discarded, unit_register_written, unit_touched}
-use Rattle.rv_model.specs.vector.Seats.{IsGivenBack}
+use Rattle.rv_model.specs.lending.Seats.{IsGivenBack}
 use Rattle.rv_model.specs.vector.State.{initial_vector}
 use Rattle.lazy_context.specs.declared.areas.Areas.{Areas}
 use Rattle.lazy_context.specs.declared.unit.Unit.{Unit}

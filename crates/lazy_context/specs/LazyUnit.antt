@@ -8,7 +8,7 @@ use Rattle.rv_model.specs.declared.vector.state.Seat.{Seat}
 use Rattle.rv_model.specs.declared.vector.state.VState.{VState}
 use Rattle.rv_model.specs.machine.Users.{user_count}
 use Rattle.rv_model.specs.machine.VectorUnit.{VectorUnit, counted, is_owned_by, with_mark}
-use Rattle.rv_model.specs.vector.Seats.{IsGivenBack}
+use Rattle.rv_model.specs.lending.Seats.{IsGivenBack}
 use Rattle.rv_model.specs.vector.State.{initial_vector}
 use Rattle.lazy_context.specs.contracts.unit.Unit.{the_row}
 use Rattle.lazy_context.specs.declared.areas.Areas.{Areas}

@@ -1,4 +1,4 @@
-//! Whole mask registers: their 32 bytes side by side, with a bit for each of 256 elements, and what they become
+//! Whole mask registers: their 32 bytes as a SIMD vector, with a bit for each of 256 elements, and what they become
 //! ("V" Vector Extension 1.0, sections 15.1 and 15.2).
 ghost use Rattle.std.specs.Prelude.{◌≡◌, ◌<◌, ◌&&◌, ℕ, length};
 ghost use Rattle.std.specs.List.{filter, range_with_len};

@@ -5,7 +5,8 @@ use Rattle.std.proofs.lemmas.Bool.Decides.{nat_tests}
 use Rattle.std.proofs.lemmas.List.Splits.{slice_split_none, slice_split_first}
 use Rattle.std.proofs.lemmas.List.{take_rest}
 use Rattle.std.proofs.lemmas.List.Sums.{fails_before_first}
-use Rattle.rv_model.specs.text.Words.{words, is_space, has_bytes, with_piece}
+use Rattle.rv_model.specs.text.Words.{words, is_space, has_bytes}
+use Rattle.rv_model.specs.lending.Text.{with_piece}
 
 -- an empty piece is no word
 filter_keeps_a_piece_with_bytes : (piece : List ℕ) (pieces : List (List ℕ)) → filter has_bytes (piece ∷ pieces) ≡ with_piece piece (filter has_bytes pieces)

@@ -1,8 +1,8 @@
 //! What a word means as an argument of a command.
 ghost use Rattle.std.specs.Prelude.{◌≡◌, ◌≤◌, ◌^◌, IfSome};
-ghost use Rattle.rv_model.specs.commands.Arguments.{decimal_number, number, address, instruction_address, scalar_register, vector_register, element_width, policy_word, allowing, permissions};
+ghost use Rattle.rv_model.specs.commands.Arguments.{decimal_number, address, instruction_address, scalar_register, vector_register, policy_word, allowing, permissions, number_between, sew_argument};
 ghost use Rattle.rv_model.specs.machine.Users.{user_count};
-ghost use Rattle.rv_model.specs.text.Digits.{capped};
+ghost use Rattle.rv_model.specs.lending.Text.{capped};
 
 use rv_model::text::digits;
 use rv_model::{Count, Permissions, Policy, Reg, Sew, USER_COUNT, User, VReg};
@@ -22,7 +22,7 @@ fn decimal_number(word: &[u8]) -> Option<u128>
 
 /// A decimal number from low to high.
 fn number(low: usize, high: usize, word: &[u8]) -> Option<usize>
-    ensures value { result ≡ number low high word.now }
+    ensures value { result ≡ number_between low high word.now }
     ensures bound { IfSome result (λ n. n ≤ high) }
 {
     let value = decimal_number(word)?;
@@ -35,7 +35,7 @@ fn number(low: usize, high: usize, word: &[u8]) -> Option<usize>
 
 /// A decimal number from 1 to `MAX`.
 pub(crate) fn count<const MAX: usize>(word: &[u8]) -> Option<Count<MAX>>
-    ensures { result ≡ number 1 MAX word.now }
+    ensures { result ≡ number_between 1 MAX word.now }
 {
     let count = number(1, MAX, word)?;
     Some(Count::new(count))
@@ -43,7 +43,7 @@ pub(crate) fn count<const MAX: usize>(word: &[u8]) -> Option<Count<MAX>>
 
 /// A user's number, 1 to `USER_COUNT`.
 pub(crate) fn user(word: &[u8]) -> Option<User>
-    ensures { result ≡ number 1 user_count word.now }
+    ensures { result ≡ number_between 1 user_count word.now }
 {
     let number = number(1, USER_COUNT, word)?;
     User::new(number as u8)
@@ -96,7 +96,7 @@ pub(crate) fn vector_register(word: &[u8]) -> Option<VReg>
 
 /// The width of an element in bits: `8`, `16`, `32` or `64`.
 pub(crate) fn element_width(word: &[u8]) -> Option<Sew>
-    ensures { result ≡ element_width word.now }
+    ensures { result ≡ sew_argument word.now }
 {
     if word == b"8".as_slice() {
         return Some(Sew::E8);

@@ -1,7 +1,8 @@
 //! The words of a command line.
 ghost use Rattle.std.specs.Prelude.{◌≡◌, ◌∷◌, [], length, ◌<◌, position, IfSome, MatchOption};
 ghost use Rattle.rv_model.specs.commands.Reading.{done};
-ghost use Rattle.rv_model.specs.text.Words.{words, is_space, with_piece};
+ghost use Rattle.rv_model.specs.text.Words.{words, is_space};
+ghost use Rattle.rv_model.specs.lending.Text.{with_piece};
 
 use std::marker::Model;
 

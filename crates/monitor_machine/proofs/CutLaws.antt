@@ -3,7 +3,7 @@ use Rattle.std.proofs.Common.{◌≡◌, ℕ, ◌+◌, List, [], ◌∷◌, ◌+
 use Rattle.rv_model.specs.declared.vector.state.VState.{VState}
 use Rattle.rv_model.specs.machine.Cuts.{IsConfigured}
 use Rattle.rv_model.specs.machine.PrivateMachine.{Outcome, Private, sliced}
-use Rattle.rv_model.specs.machine.Script.{part}
+use Rattle.rv_model.specs.machine.Script.{user_machine}
 use Rattle.rv_model.specs.memory.Memory.{Memory}
 use Rattle.rv_model.specs.text.Lines.{tagged, text}
 use Rattle.rv_model.specs.vector.Configuration.{IsConfiguration}
@@ -28,15 +28,15 @@ text-append tag (x ∷ xs) ys =
     ∙ sym (append_assoc (tagged tag x) (text tag xs) (text tag ys))
 
 -- what a slice and the next come to, by what it left of the user's private machine and what it printed
-pub slice_goes_on : (before now : MachineState) (u : ℕ) (printed : List ℕ) → IsConfigured (part u before.world)
-    → part u now.world ≡ (sliced before.setup.quantum (part u before.world)).next
-    → printed ≡ text (48 + u) (sliced before.setup.quantum (part u before.world)).lines
+pub slice_goes_on : (before now : MachineState) (u : ℕ) (printed : List ℕ) → IsConfigured (user_machine u before.world)
+    → user_machine u now.world ≡ (sliced before.setup.quantum (user_machine u before.world)).next
+    → printed ≡ text (48 + u) (sliced before.setup.quantum (user_machine u before.world)).lines
     → SliceGoesOn before u now printed
 slice_goes_on before now u printed is moved prints later keeps =
     let quantum : ℕ = before.setup.quantum in
-    let first : Outcome = sliced quantum (part u before.world) in
+    let first : Outcome = sliced quantum (user_machine u before.world) in
     let rest : Outcome = sliced later first.next in
-    let whole = sym (cuts_are_invisible quantum later (part u before.world) is keeps) in (
+    let whole = sym (cuts_are_invisible quantum later (user_machine u before.world) is keeps) in (
       ap (λ (o : Outcome). o.next) whole ∙ ap (λ (p : Private). (sliced later p).next) (sym moved),
       ap (λ (o : Outcome). text (48 + u) o.lines) whole
           ∙ text-append (48 + u) first.lines rest.lines

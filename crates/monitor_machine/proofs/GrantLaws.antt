@@ -8,7 +8,7 @@ use Rattle.rv_model.specs.machine.Cuts.{Try, tried_in, tries}
 use Rattle.rv_model.specs.machine.Grants.{granted, granted_first, next_running, runs, slice_of, standing}
 use Rattle.rv_model.specs.machine.PrivateMachine.{Private, Outcome, event, slice_ends, sliced}
 use Rattle.rv_model.specs.machine.Runs.{Halted, ticked}
-use Rattle.rv_model.specs.machine.Script.{World, Happening, part, with_part, with_unit, after_one, after_events, told_by}
+use Rattle.rv_model.specs.machine.Script.{World, Happening, with_unit, after_one, after_events, told_by, user_machine, with_user_machine}
 use Rattle.rv_model.specs.machine.Setup.{Setup}
 use Rattle.rv_model.specs.machine.UnitEvents.{unit_after_event, unit_after_tries}
 use Rattle.rv_model.specs.machine.Users.{user_count}
@@ -123,11 +123,11 @@ none_tried quantum None stopped = refl
 none_tried quantum (Some p) stopped = ap (λ (b : Bool). if b then tries quantum quantum p else []) stopped
 
 -- so the world stays
-pub nothing_sliced : (quantum u : ℕ) (w : World) → runs (part u w) ≡ false → after_slice quantum u w ≡ w
+pub nothing_sliced : (quantum u : ℕ) (w : World) → runs (user_machine u w) ≡ false → after_slice quantum u w ≡ w
 unfolding unit_after_tries
 nothing_sliced quantum u w stopped =
-    ap (λ (ts : List Try). with_unit (unit_after_tries u ts w.unit) (with_part u (sliced quantum (part u w)).next w)) (none_tried quantum (part u w) stopped)
-    ∙ ap (λ (o : Outcome). with_unit w.unit (with_part u o.next w)) (not_sliced quantum (part u w) stopped)
+    ap (λ (ts : List Try). with_unit (unit_after_tries u ts w.unit) (with_user_machine u (sliced quantum (user_machine u w)).next w)) (none_tried quantum (user_machine u w) stopped)
+    ∙ ap (λ (o : Outcome). with_unit w.unit (with_user_machine u o.next w)) (not_sliced quantum (user_machine u w) stopped)
     ∙ ap (with_unit w.unit) (part_put_back u w)
 
 -- one slice in turn, and then those that are left
@@ -148,11 +148,11 @@ after_one_grant s u w turned next turn moved = sym (moved ∙ ap (λ (v : World)
 
 -- what one slice in turn tells, and then what the others tell
 pub told_by_grant : (s : Setup) (u : ℕ) (w turned next : World) (hs : List Happening) → turned ≡ record w { cursor = u } → next ≡ after_slice s.quantum u turned
-    → told_by s w (slice_of u true ∷ hs) ≡ text (48 + u) (sliced s.quantum (part u turned)).lines ++ told_by s next hs
+    → told_by s w (slice_of u true ∷ hs) ≡ text (48 + u) (sliced s.quantum (user_machine u turned)).lines ++ told_by s next hs
 unfolding event
 told_by_grant s u w turned next hs turn moved =
-    ap (λ (v : World). text (48 + u) (sliced s.quantum (part u w)).lines ++ told_by s v hs) (after_one_grant s u w turned next turn moved)
-    ∙ ap (λ (v : World). text (48 + u) (sliced s.quantum (part u v)).lines ++ told_by s next hs) (sym turn)
+    ap (λ (v : World). text (48 + u) (sliced s.quantum (user_machine u w)).lines ++ told_by s v hs) (after_one_grant s u w turned next turn moved)
+    ∙ ap (λ (v : World). text (48 + u) (sliced s.quantum (user_machine u v)).lines ++ told_by s next hs) (sym turn)
 
 -- the world after the slices that are left, where one more is granted
 pub world_granted_on : (s : Setup) (n u : ℕ) (w turned next : World) → next_running w ≡ Some u → turned ≡ record w { cursor = u } → next ≡ after_slice s.quantum u turned
@@ -162,10 +162,10 @@ world_granted_on s n u w turned next turns turn moved =
     ∙ ap (λ (v : World). after_events s v (granted s n v)) (after_one_grant s u w turned next turn moved)
 
 pub told_granted_on : (s : Setup) (n u : ℕ) (w turned next : World) (before after : List ℕ) → next_running w ≡ Some u → turned ≡ record w { cursor = u } → next ≡ after_slice s.quantum u turned
-    → after ≡ before ++ text (48 + u) (sliced s.quantum (part u turned)).lines
+    → after ≡ before ++ text (48 + u) (sliced s.quantum (user_machine u turned)).lines
     → before ++ told_by s w (granted s (suc n) w) ≡ after ++ told_by s next (granted s n next)
 told_granted_on s n u w turned next before after turns turn moved more =
-    let lines = text (48 + u) (sliced s.quantum (part u turned)).lines in
+    let lines = text (48 + u) (sliced s.quantum (user_machine u turned)).lines in
     ap (λ (hs : List Happening). before ++ told_by s w hs) (granted_on s n u w turns)
     ∙ ap (λ (v : World). before ++ told_by s w (slice_of u true ∷ granted s n v)) (after_one_grant s u w turned next turn moved)
     ∙ ap (λ (bytes : List ℕ). before ++ bytes) (told_by_grant s u w turned next (granted s n next) turn moved)
@@ -189,21 +189,21 @@ abbrev ran_lines : Bool → ℕ → List Happening
 ran_lines ran u = if ran then slice_of u false ∷ [] else []
 
 -- what becomes of the world where a slice is granted if the user's program runs
-pub one_run_world : (s : Setup) (u : ℕ) (w next : World) → next ≡ after_slice s.quantum u w → after_events s w (if runs (part u w) then slice_of u false ∷ [] else []) ≡ next
+pub one_run_world : (s : Setup) (u : ℕ) (w next : World) → next ≡ after_slice s.quantum u w → after_events s w (if runs (user_machine u w) then slice_of u false ∷ [] else []) ≡ next
 unfolding event unit_after_event
-one_run_world s u w next moved = by_case (runs (part u w)) refl
+one_run_world s u w next moved = by_case (runs (user_machine u w)) refl
   where
-    by_case : (b : Bool) → runs (part u w) ≡ b → after_events s w (ran_lines b u) ≡ next
+    by_case : (b : Bool) → runs (user_machine u w) ≡ b → after_events s w (ran_lines b u) ≡ next
     by_case true ran = sym moved
     by_case false ran = sym (moved ∙ nothing_sliced s.quantum u w ran)
 
-pub one_run_told : (s : Setup) (u : ℕ) (w : World) → told_by s w (if runs (part u w) then slice_of u false ∷ [] else []) ≡ text (48 + u) (sliced s.quantum (part u w)).lines
+pub one_run_told : (s : Setup) (u : ℕ) (w : World) → told_by s w (if runs (user_machine u w) then slice_of u false ∷ [] else []) ≡ text (48 + u) (sliced s.quantum (user_machine u w)).lines
 unfolding event
-one_run_told s u w = by_case (runs (part u w)) refl
+one_run_told s u w = by_case (runs (user_machine u w)) refl
   where
-    by_case : (b : Bool) → runs (part u w) ≡ b → told_by s w (ran_lines b u) ≡ text (48 + u) (sliced s.quantum (part u w)).lines
-    by_case true ran = append-nil (text (48 + u) (sliced s.quantum (part u w)).lines)
-    by_case false ran = sym (ap (λ (o : Outcome). text (48 + u) o.lines) (not_sliced s.quantum (part u w) ran))
+    by_case : (b : Bool) → runs (user_machine u w) ≡ b → told_by s w (ran_lines b u) ≡ text (48 + u) (sliced s.quantum (user_machine u w)).lines
+    by_case true ran = append-nil (text (48 + u) (sliced s.quantum (user_machine u w)).lines)
+    by_case false ran = sym (ap (λ (o : Outcome). text (48 + u) o.lines) (not_sliced s.quantum (user_machine u w) ran))
 
 pub one_run_count : (u : ℕ) (b : Bool) → length (if b then slice_of u false ∷ [] else []) ≡ (if b then 1 else 0)
 one_run_count u true = refl

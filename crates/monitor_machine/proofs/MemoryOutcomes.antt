@@ -8,7 +8,7 @@ use Rattle.rv_model.specs.declared.memory.Permissions.{Permissions}
 use Rattle.rv_model.specs.commands.Arguments.{Pages}
 use Rattle.rv_model.specs.commands.Memory.{why_not_mapped, mapping, maps, pokes, peek_line, peeks}
 use Rattle.rv_model.specs.declared.vector.state.VState.{VState}
-use Rattle.rv_model.specs.machine.UserMachine.{Outcome, answers, refuses}
+use Rattle.rv_model.specs.machine.UserMachine.{Outcome, refuses, replies}
 use Rattle.rv_model.specs.memory.Memory.{Memory, bytes_at, can_access, put_bytes, map_refusal, with_pages}
 use Rattle.monitor_machine.specs.declared.context.Context.{Context}
 use Rattle.monitor_machine.specs.Parts.{Addresses, present}
@@ -21,7 +21,7 @@ pub not_allowed : (o p : Outcome) (b : Bool) → b ≡ false → (if b then o el
 not_allowed o p b h = ap (λ (x : Bool). if x then o else p) h
 
 pub maps_accepted : (c : Context) (t : Addresses) (v : VState) (m : Memory) (pages : Pages) (p : Permissions) → map_refusal m pages.first pages.count ≡ None
-    → maps pages p (present c t v m) ≡ answers (present c t v (with_pages m pages.first pages.count p)) (codes "ok")
+    → maps pages p (present c t v m) ≡ replies (present c t v (with_pages m pages.first pages.count p)) (codes "ok")
 maps_accepted c t v m pages p h = ap (λ (r : Option MapRefusal). mapping r pages p (present c t v m)) h
 
 pub maps_refused : (c : Context) (t : Addresses) (v : VState) (m : Memory) (pages : Pages) (p : Permissions) (r : MapRefusal) → map_refusal m pages.first pages.count ≡ Some r
@@ -29,21 +29,21 @@ pub maps_refused : (c : Context) (t : Addresses) (v : VState) (m : Memory) (page
 maps_refused c t v m pages p r h = ap (λ (r : Option MapRefusal). mapping r pages p (present c t v m)) h
 
 pub pokes_accepted : (c : Context) (t : Addresses) (v : VState) (m : Memory) (addr : ℕ) (bytes : List ℕ) → can_access Monitor m addr (length bytes) ≡ true
-    → pokes addr bytes (present c t v m) ≡ answers (present c t v (put_bytes m addr bytes)) (codes "ok")
+    → pokes addr bytes (present c t v m) ≡ replies (present c t v (put_bytes m addr bytes)) (codes "ok")
 pokes_accepted c t v m addr bytes h =
-    allowed (answers (present c t v (put_bytes m addr bytes)) (codes "ok")) (refuses (Some (present c t v m)) refusal.NotMapped) (can_access Monitor m addr (length bytes)) h
+    allowed (replies (present c t v (put_bytes m addr bytes)) (codes "ok")) (refuses (Some (present c t v m)) refusal.NotMapped) (can_access Monitor m addr (length bytes)) h
 
 pub pokes_refused : (c : Context) (t : Addresses) (v : VState) (m : Memory) (addr : ℕ) (bytes : List ℕ) → can_access Monitor m addr (length bytes) ≡ false
     → pokes addr bytes (present c t v m) ≡ refuses (Some (present c t v m)) refusal.NotMapped
 pokes_refused c t v m addr bytes h =
-    not_allowed (answers (present c t v (put_bytes m addr bytes)) (codes "ok")) (refuses (Some (present c t v m)) refusal.NotMapped) (can_access Monitor m addr (length bytes)) h
+    not_allowed (replies (present c t v (put_bytes m addr bytes)) (codes "ok")) (refuses (Some (present c t v m)) refusal.NotMapped) (can_access Monitor m addr (length bytes)) h
 
 pub peeks_accepted : (c : Context) (t : Addresses) (v : VState) (m : Memory) (addr count : ℕ) → can_access Monitor m addr count ≡ true
-    → peeks addr count (present c t v m) ≡ answers (present c t v m) (peek_line addr (bytes_at m addr count))
+    → peeks addr count (present c t v m) ≡ replies (present c t v m) (peek_line addr (bytes_at m addr count))
 peeks_accepted c t v m addr count h =
-    allowed (answers (present c t v m) (peek_line addr (bytes_at m addr count))) (refuses (Some (present c t v m)) refusal.NotMapped) (can_access Monitor m addr count) h
+    allowed (replies (present c t v m) (peek_line addr (bytes_at m addr count))) (refuses (Some (present c t v m)) refusal.NotMapped) (can_access Monitor m addr count) h
 
 pub peeks_refused : (c : Context) (t : Addresses) (v : VState) (m : Memory) (addr count : ℕ) → can_access Monitor m addr count ≡ false
     → peeks addr count (present c t v m) ≡ refuses (Some (present c t v m)) refusal.NotMapped
 peeks_refused c t v m addr count h =
-    not_allowed (answers (present c t v m) (peek_line addr (bytes_at m addr count))) (refuses (Some (present c t v m)) refusal.NotMapped) (can_access Monitor m addr count) h
+    not_allowed (replies (present c t v m) (peek_line addr (bytes_at m addr count))) (refuses (Some (present c t v m)) refusal.NotMapped) (can_access Monitor m addr count) h

@@ -8,7 +8,7 @@ use Rattle.std.specs.Prelude.{if◌then◌else◌}
 use Rattle.rv_model.specs.declared.vector.state.VState.{VState}
 use Rattle.rv_model.specs.memory.Memory.{Memory}
 use Rattle.rv_model.specs.machine.PrivateMachine.{Private}
-use Rattle.rv_model.specs.machine.Script.{World, new_world, part, with_part, with_unit}
+use Rattle.rv_model.specs.machine.Script.{World, new_world, with_unit, user_machine, with_user_machine}
 use Rattle.rv_model.specs.machine.Users.{user_count}
 use Rattle.rv_model.specs.machine.VectorUnit.{VectorUnit, unused_unit}
 use Rattle.rv_model.specs.vector.State.{initial_vector}
@@ -115,7 +115,7 @@ trace_there ts u t within = get_or-set_same ts (u - 1) t [] within
 -- a user's part, by the user's place i
 pub part_is : (cs : List Context) (ts : List Addresses) (unit : Unit) (ms : List Memory) (cursor u i : ℕ) (d : Context) → i ≡ u - 1 → i < user_count → 1 ≤ u
     → IsWhole cs ts unit ms
-    → part u (world_of cs ts unit ms cursor) ≡ private_of (get_or cs i d) (trace_of ts u) (state_of unit u) (memory_of_user ms u)
+    → user_machine u (world_of cs ts unit ms cursor) ≡ private_of (get_or cs i d) (trace_of ts u) (state_of unit u) (memory_of_user ms u)
 part_is cs ts unit ms cursor u i d at low user whole =
     parts_at cs ts (states_of unit) ms (u - 1) d (omega (arith, whole.contexts, at, low)) (whole.contexts ∙ sym whole.traces)
     (whole.traces ∙ sym (eight_states unit)) (eight_states unit ∙ sym whole.memories)
@@ -137,15 +137,15 @@ pub world_with : (cs : List Context) (ts ts' : List Addresses) (unit unit' : Uni
     → ts' ≡ with_trace ts u (trace_of ts' u)
     → UnitMoves u unit unit' (g (private_of (get_or cs i d) (trace_of ts u) (state_of unit u) (memory_of_user ms u)) (record_of unit)) → ms' ≡ with_memory ms u (memory_of_user ms' u)
     → world_of (set cs i c') ts' unit' ms' cursor
-    ≡ with_unit (g (part u (world_of cs ts unit ms cursor)) (record_of unit)) (with_part u (f (part u (world_of cs ts unit ms cursor))) (world_of cs ts unit ms cursor))
+    ≡ with_unit (g (user_machine u (world_of cs ts unit ms cursor)) (record_of unit)) (with_user_machine u (f (user_machine u (world_of cs ts unit ms cursor))) (world_of cs ts unit ms cursor))
 world_with cs ts ts' unit unit' ms ms' cursor u i d c' f g at low user whole next traces moves others =
     let t' = trace_of ts' u in
     let v' = state_of unit' u in
     let m' = memory_of_user ms' u in
     let world : World = world_of cs ts unit ms cursor in
     let before : Private = private_of (get_or cs i d) (trace_of ts u) (state_of unit u) (memory_of_user ms u) in
-    let same : part u world ≡ before = part_is cs ts unit ms cursor u i d at low user whole in
-    let done : private_of c' t' v' m' ≡ f (part u world) = next ∙ ap f (sym same) in
+    let same : user_machine u world ≡ before = part_is cs ts unit ms cursor u i d at low user whole in
+    let done : private_of c' t' v' m' ≡ f (user_machine u world) = next ∙ ap f (sym same) in
     let moved : parts_of (set cs (u - 1) c') ts' (states_of unit') ms' ≡ set (parts_of cs ts (states_of unit) ms) (u - 1) (private_of c' t' v' m') =
     ap (parts_of (set cs (u - 1) c') ts' (states_of unit')) others
     ∙ ap (λ (l : List Addresses). parts_of (set cs (u - 1) c') l (states_of unit') (with_memory ms u m')) traces
@@ -153,8 +153,8 @@ world_with cs ts ts' unit unit' ms ms' cursor u i d c' f g at low user whole nex
     ∙ parts_of-set cs ts (states_of unit) ms (u - 1) c' t' v' m' (whole.contexts ∙ sym whole.traces) (whole.traces ∙ sym (eight_states unit)) (eight_states unit ∙ sym whole.memories) in
     ap (λ (j : ℕ). world_of (set cs j c') ts' unit' ms' cursor) at
     ∙ ap (λ (ps : List Private). let r : World = record { parts = ps; cursor = cursor; unit = record_of unit' } in r) moved
-    ∙ ap (λ (p : Private). with_unit (record_of unit') (with_part u p world)) done
-    ∙ ap (λ (r : VectorUnit). with_unit r (with_part u (f (part u world)) world)) (moves.counts ∙ ap (λ (p : Private). g p (record_of unit)) (sym same))
+    ∙ ap (λ (p : Private). with_unit (record_of unit') (with_user_machine u p world)) done
+    ∙ ap (λ (r : VectorUnit). with_unit r (with_user_machine u (f (user_machine u world)) world)) (moves.counts ∙ ap (λ (p : Private). g p (record_of unit)) (sym same))
 
 -- one user's memory was changed twice, so it was changed
 pub changed_twice : (u : ℕ) (p q r : List Memory) → q ≡ with_memory p u (memory_of_user q u) → r ≡ with_memory q u (memory_of_user r u) → r ≡ with_memory p u (memory_of_user r u)
@@ -162,10 +162,10 @@ changed_twice u p q r h k =
     k ∙ ap (λ (ms : List Memory). with_memory ms u (memory_of_user r u)) h ∙ later_memory p u (memory_of_user q u) (memory_of_user r u)
 
 -- a part put back changes nothing
-pub part_put_back : (u : ℕ) (w : World) → with_part u (part u w) w ≡ w
+pub part_put_back : (u : ℕ) (w : World) → with_user_machine u (user_machine u w) w ≡ w
 part_put_back u w = ap (λ (ps : List Private). record w { parts = ps }) (set-get_or w.parts (u - 1) None)
 
-pub world_put_back : (u : ℕ) (w : World) → with_unit w.unit (with_part u (part u w) w) ≡ w
+pub world_put_back : (u : ℕ) (w : World) → with_unit w.unit (with_user_machine u (user_machine u w) w) ≡ w
 world_put_back u w = ap (with_unit w.unit) (part_put_back u w)
 
 -- new contexts over empty traces and memories are absent users, whatever the vector states are

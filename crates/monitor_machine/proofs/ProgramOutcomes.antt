@@ -9,7 +9,7 @@ use Rattle.rv_model.specs.declared.memory.Access.TheVariants.{Monitor}
 use Rattle.rv_model.specs.declared.memory.MapRefusal.{MapRefusal}
 use Rattle.rv_model.specs.assembler.Table.{spelled}
 use Rattle.rv_model.specs.commands.Printing.{refused}
-use Rattle.rv_model.specs.commands.Programs.{image_named, loaded, loaded_line, loading, loading_named, loads, asm_line, assembling, assembles, dis_lines, shows_instructions}
+use Rattle.rv_model.specs.commands.Programs.{image_named, loaded_line, loading, loading_named, loads, asm_line, assembling, assembles, dis_lines, shows_instructions, with_image}
 use Rattle.rv_model.specs.images.Faults.{first_fault}
 use Rattle.rv_model.specs.images.Fields.{entry_of}
 use Rattle.rv_model.specs.images.Image.{memory_of_image}
@@ -17,7 +17,7 @@ use Rattle.rv_model.specs.machine.Setup.{Image}
 use Rattle.rv_model.specs.declared.vector.state.VState.{VState}
 use Rattle.rv_model.specs.machine.UnitEvents.{can_be_loaded, unit_after_load}
 use Rattle.rv_model.specs.machine.VectorUnit.{VectorUnit, unit_discarded}
-use Rattle.rv_model.specs.machine.UserMachine.{Outcome, answers, refuses}
+use Rattle.rv_model.specs.machine.UserMachine.{Outcome, refuses, replies}
 use Rattle.rv_model.specs.memory.Memory.{Memory, bytes_at, can_access, put_bytes, page_count}
 use Rattle.rv_model.specs.memory.Sizes.{page_quota}
 use Rattle.rv_model.specs.text.Lines.{text}
@@ -46,7 +46,7 @@ assembles_misspelled c t v m addr text column h k = assembles_mapped c t v m add
 
 -- where it spells one
 pub assembles_accepted : (c : Context) (t : Addresses) (v : VState) (m : Memory) (addr : ℕ) (text : List ℕ) (word : ℕ) → can_access Monitor m addr 4 ≡ true → spelled text ≡ Ok word
-    → assembles addr text (present c t v m) ≡ answers (present c t v (put_bytes m addr (to_le_bytes w32 word))) (asm_line addr word)
+    → assembles addr text (present c t v m) ≡ replies (present c t v (put_bytes m addr (to_le_bytes w32 word))) (asm_line addr word)
 assembles_accepted c t v m addr text word h k = assembles_mapped c t v m addr text (Ok word) h k
 
 -- the instructions of mapped pages
@@ -87,14 +87,14 @@ loads_sound images c t v m name image h k = loads_named images c t v m name imag
 abbrev loads_by : Context → Addresses → VState → Memory → List ℕ → Bool → Outcome
 loads_by c t v m image many =
     if many then refuses (Some (present c t v m)) refusal.Quota
-    else answers (loaded image) (loaded_line (entry_of image) (page_count (memory_of_image image)))
+    else replies (with_image image) (loaded_line (entry_of image) (page_count (memory_of_image image)))
 
 pub loading_too_large : (c : Context) (t : Addresses) (v : VState) (m : Memory) (image : List ℕ) → page_quota < page_count (memory_of_image image)
     → loading image None (present c t v m) ≡ refuses (Some (present c t v m)) refusal.Quota
 loading_too_large c t v m image many = ap (loads_by c t v m image) (lt-ltb page_quota (page_count (memory_of_image image)) many)
 
 pub loading_accepted : (c : Context) (t : Addresses) (v : VState) (m : Memory) (image : List ℕ) → page_count (memory_of_image image) ≤ page_quota
-    → loading image None (present c t v m) ≡ answers (present (loaded_context (entry_of image)) [] initial_vector (memory_of_image image)) (loaded_line (entry_of image) (page_count (memory_of_image image)))
+    → loading image None (present c t v m) ≡ replies (present (loaded_context (entry_of image)) [] initial_vector (memory_of_image image)) (loaded_line (entry_of image) (page_count (memory_of_image image)))
 loading_accepted c t v m image few = ap (loads_by c t v m image) (le-ltb page_quota (page_count (memory_of_image image)) few)
 
 -- an image that was placed has at most 256 pages

@@ -8,18 +8,18 @@ use Rattle.std.proofs.Common.{◌∙◌, sym, ap, inl, inr}
 use Rattle.std.proofs.Math.ListN.{get_or-eq_default}
 use Rattle.std.proofs.lemmas.Bool.{cases_lt}
 use Rattle.rv_model.specs.declared.memory.Access.{Access}
-use Rattle.rv_model.specs.memory.Memory.{Memory, Cell, permits, is_allowed, can_access, put_bytes}
+use Rattle.rv_model.specs.memory.Memory.{Memory, Cell, permits, can_access, put_bytes, can_access_byte}
 use Rattle.user_mem.specs.Users.{memory_of_user, with_memory}
 pub use Rattle.lazy_context.proofs.UnitLaws.{settled_again, touched_again}
 pub use Rattle.user_mem.proofs.UserLaws.{later_memory, memory_there, same_memory}
 
-nothing_allowed : (access : Access) (addr : ℕ) → is_allowed access empty addr ≡ false
-unfolding is_allowed
+nothing_allowed : (access : Access) (addr : ℕ) → can_access_byte access empty addr ≡ false
+unfolding can_access_byte
 nothing_allowed access addr = ap (λ (o : Option Cell). option_map_or (λ c. permits access c.permissions) o false) (get-empty nat_cmp addr)
 
 no_access : (access : Access) (addr n : ℕ) → can_access access empty addr (suc n) ≡ false
 unfolding can_access
-no_access access addr n = ap (λ (b : Bool). b && list_all (is_allowed access empty) (range_with_len (addr + 1) n)) (nothing_allowed access addr)
+no_access access addr n = ap (λ (b : Bool). b && list_all (can_access_byte access empty) (range_with_len (addr + 1) n)) (nothing_allowed access addr)
 
 outside : (memories : List Memory) (user addr : ℕ) (access : Access) (bytes : List ℕ) → memory_of_user memories user ≡ empty → can_access access (memory_of_user memories user) addr (length bytes) ≡ true → memory_of_user (with_memory memories user (put_bytes (memory_of_user memories user) addr bytes)) user ≡ put_bytes (memory_of_user memories user) addr bytes
 unfolding put_bytes

@@ -27,7 +27,7 @@ impl<'a, A: Allocator> Model for Machine<'a, A> {
     ghost use Rattle.std.specs.Coded.{codes};
     ghost use Rattle.std.specs.Prelude.{◌≡◌, length};
     ghost use Rattle.rv_model.specs.machine.Users.{user_count};
-    ghost use Rattle.rv_model.specs.memory.Memory.{coded_memory};
+    ghost use Rattle.rv_model.specs.lending.StoredMemory.{coded_memory};
     ghost use Rattle.monitor_machine.specs.Images.{setup_of};
     ghost use Rattle.monitor_machine.specs.MachineState.{MachineState};
 
@@ -85,7 +85,7 @@ impl<'a, A: Allocator> Machine<'a, A> {
     /// Answers one line of a script, without its newline, in place of what the reply held: a
     /// command of a user or of the operator, after the digit or the star and a space. An empty line
     /// has no answer; one of more than 1,024 bytes, or without such a prefix, is refused.
-    #[tactic(auto, unfolding(rv_model::specs::machine::PrivateMachine::event, rv_model::specs::machine::UnitEvents::unit_after_event, rv_model::specs::machine::Script::after, rv_model::specs::machine::Script::told, rv_model::specs::machine::Script::common))]
+    #[tactic(auto, unfolding(rv_model::specs::machine::PrivateMachine::event, rv_model::specs::machine::UnitEvents::unit_after_event, rv_model::specs::machine::Script::world_after, rv_model::specs::machine::Script::told, rv_model::specs::machine::Script::common))]
     pub fn answer(&mut self, line: &[u8], reply: &mut Reply)
         ensures machine { self.new ≡ after_line self.old line.now }
         ensures eight { length self.new.world.parts ≡ user_count }

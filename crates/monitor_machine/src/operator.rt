@@ -2,7 +2,7 @@
 ghost use Rattle.std.specs.Prelude.{◌≡◌, ◌+◌, ◌≤◌, ◌++◌, [], ◌∷◌, false, Ok, length};
 ghost use Rattle.rv_model.specs.commands.Operator.{granted_line, operator_parse};
 ghost use Rattle.rv_model.specs.machine.Grants.{granted, grants, grants_of, operator_line, runs, slice_of};
-ghost use Rattle.rv_model.specs.machine.Script.{after_events, part, told_by};
+ghost use Rattle.rv_model.specs.machine.Script.{after_events, told_by, user_machine};
 ghost use Rattle.rv_model.specs.machine.Turns.{AreInTurn};
 ghost use Rattle.rv_model.specs.machine.Users.{user_count};
 ghost use Rattle.rv_model.specs.text.Lines.{text};
@@ -25,7 +25,7 @@ impl<A: Allocator> Machine<'_, A> {
         ensures eight { length self.new.world.parts ≡ user_count }
         ensures reply { reply.new
             ≡ told_by self.old.setup self.old.world (slice_of user false ∷ []) }
-        ensures ran { result ≡ runs (part user self.old.world) }
+        ensures ran { result ≡ runs (user_machine user self.old.world) }
         ensures silent { result ≡ false → reply.new ≡ [] }
         ensures same { result ≡ false → self.new ≡ self.old }
 

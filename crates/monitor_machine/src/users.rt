@@ -1,11 +1,10 @@
 //! What a machine holds of its eight users, and whose turn it is.
 ghost use Rattle.std.specs.Prelude.{◌≡◌, ◌+◌, ◌≤◌, ◌++◌, [], length, map, replicate, IfOk, IfNone, IfSome};
-ghost use Rattle.rv_model.specs.commands.Commands.{commanded};
-ghost use Rattle.rv_model.specs.commands.Commands.{parse as parse_spec};
+ghost use Rattle.rv_model.specs.commands.Commands.{commanded, parse as parse_spec};
 ghost use Rattle.rv_model.specs.machine.Cuts.{IsConfigured};
 ghost use Rattle.rv_model.specs.machine.Grants.{next_running, runs, standing};
 ghost use Rattle.rv_model.specs.machine.PrivateMachine.{sliced};
-ghost use Rattle.rv_model.specs.machine.Script.{part, new_world};
+ghost use Rattle.rv_model.specs.machine.Script.{new_world, user_machine};
 ghost use Rattle.rv_model.specs.machine.Users.{user_count};
 ghost use Rattle.rv_model.specs.machine.VectorUnit.{stats_of};
 ghost use Rattle.rv_model.specs.text.Lines.{text};
@@ -40,7 +39,7 @@ pub(crate) struct Users<A: Allocator> {
 
 impl<A: Allocator> Model for Users<A> {
     ghost use Rattle.std.specs.Coded.{codes};
-    ghost use Rattle.rv_model.specs.memory.Memory.{coded_memory};
+    ghost use Rattle.rv_model.specs.lending.StoredMemory.{coded_memory};
     ghost use Rattle.rv_model.specs.machine.Script.{World};
     ghost use Rattle.monitor_machine.specs.Parts.{world_of, IsWhole};
 
@@ -134,7 +133,7 @@ impl<A: Allocator> Users<A> {
     )
         requires { reply.old ≡ [] }
         ensures world { self.new ≡ after_command (named_images images.now) user line.now self.old }
-        ensures reply { reply.new ≡ text (48 + user) (commanded (named_images images.now) (part user self.old) (parse_spec line.now)).lines }
+        ensures reply { reply.new ≡ text (48 + user) (commanded (named_images images.now) (user_machine user self.old) (parse_spec line.now)).lines }
     {
         match parse(line) {
             Ok(cmd) => {
@@ -161,12 +160,12 @@ impl<A: Allocator> Users<A> {
     pub(crate) fn slice(&mut self, user: User, quantum: usize, reply: &mut Reply) -> bool
         requires { length reply.old + stops_room self.old.parts ≤ 4096 }
         ensures world { self.new ≡ after_slice quantum user self.old }
-        ensures reply { reply.new ≡ reply.old ++ text (48 + user) (sliced quantum (part user self.old)).lines }
-        ensures ran { result ≡ runs (part user self.old) }
+        ensures reply { reply.new ≡ reply.old ++ text (48 + user) (sliced quantum (user_machine user self.old)).lines }
+        ensures ran { result ≡ runs (user_machine user self.old) }
         ensures bound { length reply.new + stops_room self.new.parts
             ≤ length reply.old + stops_room self.old.parts }
-        ensures next { part user self.new ≡ (sliced quantum (part user self.old)).next }
-        ensures configured { IsConfigured (part user self.old) }
+        ensures next { user_machine user self.new ≡ (sliced quantum (user_machine user self.old)).next }
+        ensures configured { IsConfigured (user_machine user self.old) }
     {
         // The user's number is 1 or more: `number` says so.
         user.number();

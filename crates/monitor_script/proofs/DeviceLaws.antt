@@ -6,7 +6,7 @@ use Rattle.std.proofs.lemmas.List.{take-append-le}
 use Rattle.std.proofs.lemmas.List.Elements.{All-head, All-tail, All-take}
 use Rattle.monitor_machine.specs.MachineState.{MachineState}
 use Rattle.rv_model.specs.machine.Setup.{Setup}
-use Rattle.rv_model.specs.machine.Script.{World, kind_of, common, after, after_all, told, told_all}
+use Rattle.rv_model.specs.machine.Script.{World, kind_of, common, after_all, told, told_all, world_after}
 use Rattle.rv_model.specs.text.Lines.{pieces}
 use Rattle.monitor_script.specs.Device.{Rose}
 use Rattle.monitor_script.specs.EndedLines.{ended_lines}
@@ -59,14 +59,14 @@ ended_empty m text h =
     subst AreEmpty (sym (ended_are m text _ t)) (empty_front t.before (t.last ∷ []) (subst AreEmpty t.all (newline_pieces text h)))
 
 after_empty : (s : Setup) (w : World) (ls : List (List ℕ)) → AreEmpty ls → after_all s w ls ≡ w
-unfolding after kind_of
+unfolding world_after kind_of
 after_empty s w [] h = refl
-after_empty s w (l ∷ ls) h = ap (λ (x : List ℕ). after_all s (after s w x) ls) h.0 ∙ after_empty s w ls h.1
+after_empty s w (l ∷ ls) h = ap (λ (x : List ℕ). after_all s (world_after s w x) ls) h.0 ∙ after_empty s w ls h.1
 
 told_empty : (s : Setup) (w : World) (ls : List (List ℕ)) → AreEmpty ls → told_all s w ls ≡ []
-unfolding after told kind_of common
+unfolding world_after told kind_of common
 told_empty s w [] h = refl
-told_empty s w (l ∷ ls) h = ap (λ (x : List ℕ). told s w x ++ told_all s (after s w x) ls) h.0 ∙ told_empty s w ls h.1
+told_empty s w (l ∷ ls) h = ap (λ (x : List ℕ). told s w x ++ told_all s (world_after s w x) ls) h.0 ∙ told_empty s w ls h.1
 
 told_none : (s : Setup) (w : World) (line : List ℕ) → line ≡ [] → told s w line ≡ []
 unfolding told kind_of common

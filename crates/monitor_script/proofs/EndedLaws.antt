@@ -4,8 +4,9 @@ use Rattle.std.proofs.lemmas.Bool.{eqb-true}
 use Rattle.std.proofs.Math.Seq.{take-append_seam}
 use Rattle.monitor_machine.specs.MachineState.{MachineState, after_line, line_output}
 use Rattle.rv_model.specs.machine.Setup.{Setup}
-use Rattle.rv_model.specs.machine.Script.{World, after, after_all, told, told_all}
-use Rattle.rv_model.specs.text.Lines.{is_newline, pieces, IsLine}
+use Rattle.rv_model.specs.machine.Script.{World, after_all, told, told_all, world_after}
+use Rattle.rv_model.specs.text.Lines.{is_newline, pieces}
+use Rattle.rv_model.proofs.text_lemmas.Newlines.{IsLine}
 use Rattle.rv_model.proofs.text_lemmas.Lines.{pieces_at, pieces_of_line}
 use Rattle.monitor_script.specs.EndedLines.{ended_lines}
 use Rattle.monitor_script.specs.Feed.{Fed, longer, fed}
@@ -91,15 +92,15 @@ ended_are m s r l =
     ∙ ap (λ (n : ℕ). take n (l.before ++ l.last ∷ [])) count
     ∙ take-append_seam l.before (l.last ∷ [])
 
-after_all-push : (s : Setup) (w : World) (ls : List (List ℕ)) (l : List ℕ) → after_all s w (ls ++ l ∷ []) ≡ after s (after_all s w ls) l
+after_all-push : (s : Setup) (w : World) (ls : List (List ℕ)) (l : List ℕ) → after_all s w (ls ++ l ∷ []) ≡ world_after s (after_all s w ls) l
 after_all-push s w [] l = refl
-after_all-push s w (x ∷ ls) l = after_all-push s (after s w x) ls l
+after_all-push s w (x ∷ ls) l = after_all-push s (world_after s w x) ls l
 
 told_all-push : (s : Setup) (w : World) (ls : List (List ℕ)) (l : List ℕ) → told_all s w (ls ++ l ∷ []) ≡ told_all s w ls ++ told s (after_all s w ls) l
 told_all-push s w [] l = append-nil (told s w l)
 told_all-push s w (x ∷ ls) l =
-    ap (λ (t : List ℕ). told s w x ++ t) (told_all-push s (after s w x) ls l)
-    ∙ sym (append_assoc (told s w x) (told_all s (after s w x) ls) (told s (after_all s (after s w x) ls) l))
+    ap (λ (t : List ℕ). told s w x ++ t) (told_all-push s (world_after s w x) ls l)
+    ∙ sym (append_assoc (told s w x) (told_all s (world_after s w x) ls) (told s (after_all s (world_after s w x) ls) l))
 
 -- byte by byte and then the last line, a script comes to the same as line by line
 pub machine_of_all : (m : MachineState) (s : List ℕ) → after_line (fed m [] s).machine (fed m [] s).line ≡ after_lines m (pieces s)

@@ -6,8 +6,9 @@ use Rattle.std.proofs.lemmas.Bool.{cases_lt, lt-ltb, and_parts, and_from}
 use Rattle.std.proofs.lemmas.List.{take_all, take-take, take_more, take-append-drop, length-take-le, take-append-le}
 use Rattle.monitor_machine.specs.MachineState.{MachineState, after_line, line_output}
 use Rattle.rv_model.specs.machine.Setup.{Setup}
-use Rattle.rv_model.specs.text.Lines.{is_newline, text, is_line, IsLine}
-use Rattle.rv_model.specs.machine.Script.{World, Kind, kind_of, prefixed, Long, events_of, common, after_events, told_by, after, told, after_all, told_all}
+use Rattle.rv_model.specs.text.Lines.{is_newline, text}
+use Rattle.rv_model.proofs.text_lemmas.Newlines.{is_line, IsLine}
+use Rattle.rv_model.specs.machine.Script.{World, Kind, kind_of, prefixed, Long, events_of, common, after_events, told_by, told, after_all, told_all, world_after}
 use Rattle.monitor_script.specs.Feed.{Fed, longer, feed, fed}
 
 -- the same bytes, written otherwise
@@ -34,8 +35,8 @@ pub output_clipped : (m : MachineState) (a : List ℕ) → line_output m (take 1
 unfolding told
 output_clipped m a = ap (λ (k : Kind). told_by m.setup m.world (events_of m.setup m.world k) ++ text 42 (common m.setup m.world k)) (kind_clipped a)
 
-world_clipped : (s : Setup) (w : World) (a : List ℕ) → after s w (take 1025 a) ≡ after s w a
-unfolding after
+world_clipped : (s : Setup) (w : World) (a : List ℕ) → world_after s w (take 1025 a) ≡ world_after s w a
+unfolding world_after
 world_clipped s w a = ap (λ (k : Kind). after_events s w (events_of s w k)) (kind_clipped a)
 
 pub after_clipped : (m : MachineState) (a : List ℕ) → after_line m (take 1025 a) ≡ after_line m a

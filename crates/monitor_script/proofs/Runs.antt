@@ -4,7 +4,7 @@ use Rattle.std.proofs.lemmas.List.{get_or-replicate, take_all}
 use Rattle.std.proofs.Math.Seq.{take-append-add}
 use Rattle.monitor_machine.specs.MachineState.{MachineState, after_line, line_output}
 use Rattle.rv_model.specs.machine.Setup.{Setup}
-use Rattle.rv_model.specs.machine.Script.{World, Happening, outcome_of, unit_after, after_one, after, after_all, after_events, with_part, with_unit, events_of, kind_of, told, told_all, whole_from, after_script, lines, part, own, own_from, new_world}
+use Rattle.rv_model.specs.machine.Script.{World, Happening, outcome_of, unit_after, after_one, after_all, after_events, with_unit, events_of, kind_of, told, told_all, whole_from, after_script, lines, own, own_from, new_world, world_after, with_user_machine, user_machine}
 use Rattle.rv_model.specs.machine.PrivateMachine.{Private, solo, solo_from}
 use Rattle.rv_model.specs.text.Lines.{pieces}
 use Rattle.rv_model.proofs.machine_lemmas.Headline.{headline, parts_after_turn}
@@ -139,16 +139,16 @@ parts_after_events s w [] = refl
 parts_after_events s w (h ∷ hs) =
     let p : Private = (outcome_of s w h).next in
     parts_after_events s (after_one s w h) hs
-    ∙ ap length (parts_after_turn h.turn h.user (with_unit (unit_after s w h) (with_part h.user p w)))
+    ∙ ap length (parts_after_turn h.turn h.user (with_unit (unit_after s w h) (with_user_machine h.user p w)))
     ∙ length-set w.parts (h.user - 1) p
 
-parts_after : (s : Setup) (w : World) (line : List ℕ) → length (after s w line).parts ≡ length w.parts
-unfolding after
+parts_after : (s : Setup) (w : World) (line : List ℕ) → length (world_after s w line).parts ≡ length w.parts
+unfolding world_after
 parts_after s w line = parts_after_events s w (events_of s w (kind_of line))
 
 parts_after_all : (s : Setup) (w : World) (ls : List (List ℕ)) → length (after_all s w ls).parts ≡ length w.parts
 parts_after_all s w [] = refl
-parts_after_all s w (l ∷ ls) = parts_after_all s (after s w l) ls ∙ parts_after s w l
+parts_after_all s w (l ∷ ls) = parts_after_all s (world_after s w l) ls ∙ parts_after s w l
 
 parts_after_script : (s : Setup) (w : World) (script : List ℕ) → length (after_script s w script).parts ≡ length w.parts
 unfolding after_script
@@ -158,7 +158,7 @@ parts_after_script s w script = parts_after_all s w (pieces script)
 pub eight_before : (m : MachineState) (now : World) (script : List ℕ) → now ≡ after_script m.setup m.world script → length now.parts ≡ 8 → length m.world.parts ≡ 8
 eight_before m now script e eight = sym (parts_after_script m.setup m.world script) ∙ sym (ap (λ (w : World). length w.parts) e) ∙ eight
 
-new_part : (u : ℕ) → 1 ≤ u → u ≤ 8 → part u new_world ≡ None
+new_part : (u : ℕ) → 1 ≤ u → u ≤ 8 → user_machine u new_world ≡ None
 unfolding new_world
 new_part u low high = get_or-replicate 8 (u - 1) None None (omega arith)
 
@@ -166,5 +166,5 @@ new_part u low high = get_or-replicate 8 (u - 1) None None (omega arith)
 pub new_headline : (m : MachineState) (script : List ℕ) → length m.world.parts ≡ 8 → m.world ≡ new_world → (u : ℕ) → 1 ≤ u → u ≤ 8 → lines u (whole_from m.setup m.world script) ≡ solo m.setup (own m.setup u script)
 new_headline m script eight new u low high =
     headline m.setup u m.world script low high eight
-    ∙ ap (λ (w : World). solo_from m.setup (part u w) (own_from m.setup u w script)) new
+    ∙ ap (λ (w : World). solo_from m.setup (user_machine u w) (own_from m.setup u w script)) new
     ∙ ap (λ (p : Private). solo_from m.setup p (own m.setup u script)) (new_part u low high)

@@ -1,7 +1,7 @@
 -- What stands after a write that failed in the middle of a script.
 use Rattle.std.specs.Prelude.{ℕ, ◌≡◌, ◌<◌, List, [], ◌∷◌, ◌++◌, length, take}
 use Rattle.monitor_machine.specs.MachineState.{MachineState}
-use Rattle.rv_model.specs.machine.Script.{World, after, after_all, told, told_all}
+use Rattle.rv_model.specs.machine.Script.{World, after_all, told, told_all, world_after}
 use Rattle.rv_model.specs.text.Lines.{pieces}
 
 -- Of the lines of a text's first 16,777,216 bytes, those before some line have been carried out and answered whole. That line has
@@ -13,6 +13,6 @@ pub record CutShort (machine : MachineState) (text : List ℕ) (ended : Type 0) 
   pub count : ℕ
   pub lines : pieces (take 16777216 text) ≡ before ++ line ∷ more
   pub last : more ≡ [] → ended
-  pub world : now ≡ after machine.setup (after_all machine.setup machine.world before) line
+  pub world : now ≡ world_after machine.setup (after_all machine.setup machine.world before) line
   pub less : count < length (told machine.setup (after_all machine.setup machine.world before) line)
   pub output : took (told_all machine.setup machine.world before ++ take count (told machine.setup (after_all machine.setup machine.world before) line))

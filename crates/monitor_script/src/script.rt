@@ -2,7 +2,7 @@
 ghost use Rattle.std.specs.Prelude.{◌≡◌, ◌≢◌, ℕ, ◌+◌, ◌<◌, ◌≤◌, List, Err, length, take, OnOk, IfOk};
 ghost use Rattle.monitor_machine.specs.MachineState.{after_line, line_output};
 ghost use Rattle.rv_model.specs.machine.PrivateMachine.{solo, solo_from};
-ghost use Rattle.rv_model.specs.machine.Script.{after_all, told_all, whole_from, after_script, lines, part, own, own_from, new_world};
+ghost use Rattle.rv_model.specs.machine.Script.{after_all, told_all, whole_from, after_script, lines, own, own_from, new_world, user_machine};
 ghost use Rattle.rv_model.specs.machine.Users.{user_count};
 ghost use Rattle.monitor_script.specs.Device.{Rose};
 ghost use Rattle.monitor_script.specs.EndedLines.{ended_lines};
@@ -111,7 +111,7 @@ pub fn run<A: Allocator, S: Source, K: Sink>(
         × (machine.old.world ≡ new_world → (u : ℕ) → 1 ≤ u → u ≤ user_count →
         lines u output ≡ solo machine.old.setup (own machine.old.setup u script))
         × ((u : ℕ) → 1 ≤ u → u ≤ user_count →
-        lines u output ≡ solo_from machine.old.setup (part u machine.old.world)
+        lines u output ≡ solo_from machine.old.setup (user_machine u machine.old.world)
         (own_from machine.old.setup u machine.old.world script))
         × (output ≡ whole_from machine.old.setup machine.old.world script)
         × (machine.new.world ≡ after_script machine.old.setup machine.old.world script)

@@ -1,22 +1,25 @@
 -- Legality of operands that have the vector type's multiplier: their groups are aligned, and equal widths may overlap.
 use Rattle.std.proofs.Common.{◌≡◌, ℕ, zero, suc, ◌+◌, ◌*◌, ◌≤◌, Bool, true, false, ◌&&◌, ◌||◌, not, nat_lt, ◌==◌, max, min, refl, arith, ◌∙◌, ap}
-use Rattle.std.proofs.Math.Bool.{or-false, or-true}
+use Rattle.std.proofs.Math.Bool.{and-true, or-false, or-true}
 use Rattle.std.proofs.lemmas.Bool.Decides.{nat_tests}
+use Rattle.std.specs.Prelude.{[], ◌∷◌}
 use Rattle.rv_model.specs.declared.instructions.source.Source.{Source}
 use Rattle.rv_model.specs.declared.instructions.source.Source.TheVariants as source
-use Rattle.rv_model.specs.declared.legality.Role.TheVariants.{Read, Control, Unused, Write, Apart, Free}
+use Rattle.rv_model.specs.declared.legality.Role.{Role}
+use Rattle.rv_model.specs.declared.legality.Role.TheVariants.{Read, Control, Write, Apart}
 use Rattle.rv_model.specs.declared.legality.Shape.TheVariants.{Single}
 use Rattle.rv_model.specs.declared.vector.types.Sew.{Sew}
 use Rattle.rv_model.specs.declared.vector.types.Sew.TheVariants.{E8, E16, E32, E64}
 use Rattle.rv_model.specs.declared.vector.types.VType.{VType}
-use Rattle.rv_model.specs.legality.OperandShapes.{emul, group, second_source, shape_operands, v0}
+use Rattle.rv_model.specs.declared.instructions.operations.Eew.{Eew}
+use Rattle.rv_model.specs.legality.Legality.{access_operands, move_operands}
+use Rattle.rv_model.specs.legality.OperandShapes.{group, mask, shape_operands, v0}
 use Rattle.rv_model.specs.legality.RegisterOperands.{allows, are_legal, is_group}
-use Rattle.rv_model.specs.vector.Configuration.{sew_bits}
+use Rattle.rv_model.specs.vector.Configuration.{element_width, group_type, lmul_eighths, sew_bits}
 use Rattle.rv_model.specs.vector.Registers.{registers}
-use Rattle.std.specs.Prelude.{[], ◌∷◌}
-use Rattle.rv_model.specs.declared.legality.Role.{Role}
-use Rattle.reg_groups.specs.Roles.{is_apart_from_mask}
-use Rattle.reg_groups.proofs.Sources.{masked_legal, shape_legal}
+use Rattle.rv_model.proofs.legality_lemmas.Bounds.{emul-sew}
+use Rattle.reg_groups.specs.Roles.{is_apart_from_mask, of_vector, stands_beside}
+use Rattle.reg_groups.proofs.Sources.{masked_legal, shape_legal, sources_legal}
 
 itself : (s : Sew) → (sew_bits s == sew_bits s) ≡ true
 itself E8 = refl
@@ -24,7 +27,7 @@ itself E16 = refl
 itself E32 = refl
 itself E64 = refl
 
-equal_widths : (a b : ℕ) (t : VType) → allows (group Write a (sew_bits t.sew) t) (group Read b (sew_bits t.sew) t) ≡ true
+equal_widths : (a b : ℕ) (t : VType) → allows (group Write a (group_type t)) (group Read b (group_type t)) ≡ true
 equal_widths a b t = rw (itself t.sew) (or-true _)
 
 -- a destination holds v0 exactly where it begins with it
@@ -36,45 +39,50 @@ holds_v0 (suc a) n h = grind (arith, nat_tests)
 pub some_registers : (e : ℕ) → 1 ≤ registers e
 some_registers e = omega arith
 
-masked_allows : (a : ℕ) (unmasked : Bool) (t : VType) → allows (group Write a (sew_bits t.sew) t) (v0 unmasked) ≡ (unmasked || not (a == 0))
-masked_allows a true t = refl
-masked_allows a false t =
-    or-false _ ∙ ap not (holds_v0 a (registers (emul (sew_bits t.sew) t)) (some_registers (emul (sew_bits t.sew) t)))
+apart_from_v0 : (a : ℕ) (t : VType) → not (nat_lt (max a 0) (min (a + 1 * registers (lmul_eighths t.lmul)) (0 + 1 * 1))) ≡ not (a == 0)
+apart_from_v0 a t = ap not (holds_v0 a (registers (lmul_eighths t.lmul)) (some_registers (lmul_eighths t.lmul)))
+
+role_allows : (r : Role) (a : ℕ) (t : VType)
+    → allows (group r a (group_type t)) (mask Control 0) ≡ (not (is_apart_from_mask r) || not (a == 0))
+role_allows Write a t = or-false _ ∙ apart_from_v0 a t
+role_allows Apart a t = apart_from_v0 a t
+role_allows _ a t = refl
 
 second_allowed : (a : ℕ) (from : Source) (t : VType)
-    → allows (group Write a (sew_bits t.sew) t) (second_source Single from t) ≡ true
-second_allowed a (source.V vs1) t = equal_widths a vs1 t
+    → of_vector from (λ vs1. stands_beside (group Write a (group_type t)) (group Read vs1 (group_type t)))
+    ≡ of_vector from (λ vs1. is_group (group Read vs1 (group_type t)))
+second_allowed a (source.V vs1) t = rw (equal_widths a vs1 t) (and-true (is_group (group Read vs1 (group_type t))))
 second_allowed a (source.X rs1) t = refl
 second_allowed a (source.I imm) t = refl
 
 -- what an operation whose operands have SEW asks of them
 pub single_legal : (vd vs2 : ℕ) (from : Source) (unmasked : Bool) (t : VType)
     → are_legal (shape_operands Single vd vs2 from unmasked t)
-    ≡ (is_group (group Read vd (sew_bits t.sew) t) && (is_group (group Read vs2 (sew_bits t.sew) t)
-    && (is_group (second_source Single from t) && (unmasked || not (vd == 0)))))
+    ≡ (is_group (group Read vd (group_type t)) && (is_group (group Read vs2 (group_type t))
+    && (of_vector from (λ vs1. is_group (group Read vs1 (group_type t))) && (unmasked || not (vd == 0)))))
 single_legal vd vs2 from unmasked t =
     shape_legal Single vd vs2 from unmasked t
-    ∙ rw (equal_widths vd vs2 t, second_allowed vd from t, masked_allows vd unmasked t) refl
+    ∙ rw (second_allowed vd from t, role_allows Write vd t, equal_widths vd vs2 t, and-true (is_group (group Read vs2 (group_type t)))) refl
 
-role_allows : (r : Role) (a : ℕ) (unmasked : Bool) (t : VType)
-    → allows (group r a (sew_bits t.sew) t) (v0 unmasked) ≡ (unmasked || (not (is_apart_from_mask r) || not (a == 0)))
-role_allows Write a true t = refl
-role_allows Apart a true t = refl
-role_allows Read a true t = refl
-role_allows Control a true t = refl
-role_allows Unused a true t = refl
-role_allows Free a true t = refl
-role_allows Write a false t = masked_allows a false t
-role_allows Apart a false t =
-    ap not (holds_v0 a (registers (emul (sew_bits t.sew) t)) (some_registers (emul (sew_bits t.sew) t)))
-role_allows Read a false t = refl
-role_allows Control a false t = refl
-role_allows Unused a false t = refl
-role_allows Free a false t = refl
+-- what a move asks of its operands
+pub move_legal : (from : Source) (vd : ℕ) (t : VType)
+    → are_legal (move_operands from vd t)
+    ≡ (is_group (group Read vd (group_type t)) && of_vector from (λ vs1. is_group (group Read vs1 (group_type t))))
+move_legal (source.V vs1) vd t =
+    let d = group Write vd (group_type t) in
+    sources_legal d (group Read vs1 (group_type t) ∷ []) (tt, tt)
+    ∙ ap (λ b. is_group d && b) (and-true _ ∙ second_allowed vd (source.V vs1) t)
+move_legal (source.X rs1) vd t = sources_legal (group Write vd (group_type t)) [] tt
+move_legal (source.I imm) vd t = sources_legal (group Write vd (group_type t)) [] tt
 
 -- one group of elements of SEW beside the mask
 pub group_with_mask : (r : Role) (a : ℕ) (unmasked : Bool) (t : VType)
-    → are_legal (group r a (sew_bits t.sew) t ∷ v0 unmasked ∷ [])
-    ≡ (is_group (group Read a (sew_bits t.sew) t) && (unmasked || (not (is_apart_from_mask r) || not (a == 0))))
-group_with_mask r a unmasked t =
-    masked_legal (group r a (sew_bits t.sew) t) unmasked ∙ rw (role_allows r a unmasked t) refl
+    → are_legal (group r a (group_type t) ∷ v0 unmasked)
+    ≡ (is_group (group Read a (group_type t)) && (unmasked || (not (is_apart_from_mask r) || not (a == 0))))
+group_with_mask r a unmasked t = masked_legal (group r a (group_type t)) unmasked ∙ rw (role_allows r a t) refl
+
+-- an access to one field of elements of SEW has one group of the vector type
+pub access_of_sew : (r : Role) (width : Eew) (nf vd : ℕ) (unmasked : Bool) (t : VType)
+    → nf ≡ 0 → sew_bits (element_width width) ≡ sew_bits t.sew
+    → are_legal (access_operands r width nf vd unmasked t) ≡ are_legal (group r vd (group_type t) ∷ v0 unmasked)
+access_of_sew r width nf vd unmasked t one same = rw (one, same, emul-sew t.sew (lmul_eighths t.lmul)) refl

@@ -1,3 +1,4 @@
 mod EqualWidths
 mod SingleRegisters
 mod Sources
+mod Widths

@@ -1,116 +1,117 @@
 -- Legality of a destination beside sources: only the destination has to agree with others.
-use Rattle.std.proofs.Common.{◌≡◌, ℕ, Bool, true, false, ◌&&◌, List, refl}
-use Rattle.std.specs.Prelude.{⊤, [], ◌∷◌}
+use Rattle.std.proofs.Common.{◌≡◌, ℕ, Bool, true, false, ◌&&◌, ◌||◌, List, refl, ap, ◌∙◌}
+use Rattle.std.proofs.Math.Bool.{and-true}
+use Rattle.std.specs.Prelude.{⊤, [], ◌∷◌, ◌++◌}
 use Rattle.std.specs.List.{list_all}
 use Rattle.rv_model.specs.declared.instructions.source.Source.{Source}
 use Rattle.rv_model.specs.declared.instructions.source.Source.TheVariants as source
 use Rattle.rv_model.specs.declared.legality.Operand.{Operand}
 use Rattle.rv_model.specs.declared.legality.Role.{Role}
-use Rattle.rv_model.specs.declared.legality.Role.TheVariants.{Read, Control, Unused, Write, Apart, Free}
+use Rattle.rv_model.specs.declared.legality.Role.TheVariants.{Read, Control}
 use Rattle.rv_model.specs.declared.legality.Shape.{Shape}
-use Rattle.rv_model.specs.declared.legality.Shape.TheVariants.{Single, Widening, WideSource, Narrowing, Compare, Gather, GatherIndices16, Reduction, WideReduction}
+use Rattle.rv_model.specs.declared.legality.Shape.TheVariants.{Single, GatherIndices16, Reduction, WideReduction, WideSource, Narrowing}
 use Rattle.rv_model.specs.declared.vector.types.VType.{VType}
-use Rattle.rv_model.specs.legality.OperandShapes.{destination, first_source, second_source, shape_operands, v0, vector_source}
+use Rattle.rv_model.specs.legality.OperandShapes.{destination, first_source, mask, second_source, shape_operands, v0, vector_source}
 use Rattle.rv_model.specs.legality.RegisterOperands.{allows, allows_as, are_legal, is_group}
+use Rattle.reg_groups.specs.Roles.{of_vector, stands_beside}
 
 -- the registers of an operand aren't written
 abbrev IsSource : Role → Type 0
 IsSource Read = ⊤
 IsSource Control = ⊤
-IsSource Unused = ⊤
-IsSource Write = ⊥
-IsSource Apart = ⊥
-IsSource Free = ⊥
+IsSource _ = ⊥
+
+abbrev AreSources : List Operand → Type 0
+AreSources [] = ⊤
+AreSources (x ∷ xs) = IsSource x.role × AreSources xs
 
 source_agrees : (r q : Role) (d s : Operand) → IsSource r → allows_as r q d s ≡ true
 source_agrees Read q d s h = refl
 source_agrees Control q d s h = refl
-source_agrees Unused q d s h = refl
-source_agrees Write q d s h = absurd h
-source_agrees Apart q d s h = absurd h
-source_agrees Free q d s h = absurd h
+source_agrees _ q d s h = absurd h
 
 source_allows : (a : Operand) (xs : List Operand) → IsSource a.role → list_all (allows a) xs ≡ true
 source_allows a [] h = refl
 source_allows a (x ∷ xs) h = rw (source_agrees a.role x.role a x h) (source_allows a xs h)
 
+sources_allow : (xs all : List Operand) → AreSources xs → list_all (λ s. list_all (allows s) all) xs ≡ true
+sources_allow [] all h = refl
+sources_allow (x ∷ xs) all h = rw (source_allows x all h.0) (sources_allow xs all h.1)
+
 itself_agrees : (r : Role) (d : Operand) → allows_as r r d d ≡ true
 itself_agrees Read d = refl
-itself_agrees Control d = refl
-itself_agrees Unused d = refl
-itself_agrees Write d = refl
-itself_agrees Apart d = refl
-itself_agrees Free d = refl
+itself_agrees _ d = refl
 
-mask_is_source : (unmasked : Bool) → IsSource (v0 unmasked).role
+zipped : (d : Operand) (xs : List Operand) → (list_all is_group xs && list_all (allows d) xs) ≡ list_all (stands_beside d) xs
+zipped d [] = refl
+zipped d (x ∷ xs) = pair (is_group x) _ (allows d x) _ ∙ ap (λ b. stands_beside d x && b) (zipped d xs)
+  where
+    pair : (a b x y : Bool) → ((a && b) && (x && y)) ≡ ((a && x) && (b && y))
+    pair true true x y = refl
+    pair true false true y = refl
+    pair true false false y = refl
+    pair false b x y = refl
+
+-- a destination beside sources
+pub sources_legal : (d : Operand) (xs : List Operand) → AreSources xs → are_legal (d ∷ xs) ≡ (is_group d && list_all (stands_beside d) xs)
+unfolding are_legal
+sources_legal d xs h =
+    rw (itself_agrees d.role d, sources_allow xs (d ∷ xs) h) (tests (is_group d) (list_all is_group xs) (list_all (allows d) xs))
+    ∙ ap (λ b. is_group d && b) (zipped d xs)
+  where
+    tests : (g a b : Bool) → ((g && a) && (b && true)) ≡ (g && (a && b))
+    tests true a b = ap (λ x. a && x) (and-true b)
+    tests false a b = refl
+
+-- v0 is a group, so a destination has to agree with it alone
+mask_beside : (d : Operand) (unmasked : Bool) → list_all (stands_beside d) (v0 unmasked) ≡ (unmasked || allows d (mask Control 0))
+mask_beside d true = refl
+mask_beside d false = and-true _
+
+mask_is_source : (unmasked : Bool) → AreSources (v0 unmasked)
 mask_is_source true = tt
-mask_is_source false = tt
-
-masked_tests : (g x : Bool) → ((g && true) && ((x && true) && true)) ≡ (g && x)
-masked_tests false x = refl
-masked_tests true true = refl
-masked_tests true false = refl
+mask_is_source false = (tt, tt)
 
 -- one operand beside the mask
-pub masked_legal : (o : Operand) (unmasked : Bool) → are_legal (o ∷ v0 unmasked ∷ []) ≡ (is_group o && allows o (v0 unmasked))
-unfolding are_legal
-masked_legal o unmasked =
-    rw (itself_agrees o.role o, source_allows (v0 unmasked) (o ∷ v0 unmasked ∷ []) (mask_is_source unmasked))
-    (masked_tests (is_group o) (allows o (v0 unmasked)))
-
-tests : (d a b x y z : Bool) → ((d && (a && (b && true))) && ((x && (y && (z && true))) && true)) ≡ (d && (a && (b && (x && (y && z)))))
-tests false a b x y z = refl
-tests true false b x y z = refl
-tests true true false x y z = refl
-tests true true true false y z = refl
-tests true true true true false z = refl
-tests true true true true true false = refl
-tests true true true true true true = refl
-
--- a destination beside two sources and the mask
-sources_legal : (d a b : Operand) (unmasked : Bool) → IsSource a.role → IsSource b.role
-    → are_legal (d ∷ a ∷ b ∷ v0 unmasked ∷ [])
-    ≡ (is_group d && (is_group a && (is_group b && (allows d a && (allows d b && allows d (v0 unmasked))))))
-unfolding are_legal
-sources_legal d a b unmasked first second =
-    let all : List Operand = d ∷ a ∷ b ∷ v0 unmasked ∷ [] in
-    rw (itself_agrees d.role d, source_allows a all first, source_allows b all second, source_allows (v0 unmasked) all (mask_is_source unmasked))
-    (tests (is_group d) (is_group a) (is_group b) (allows d a) (allows d b) (allows d (v0 unmasked)))
+pub masked_legal : (o : Operand) (unmasked : Bool) → are_legal (o ∷ v0 unmasked) ≡ (is_group o && (unmasked || allows o (mask Control 0)))
+masked_legal o unmasked = sources_legal o (v0 unmasked) (mask_is_source unmasked) ∙ ap (λ b. is_group o && b) (mask_beside o unmasked)
 
 first_is_source : (shape : Shape) (vs2 : ℕ) (t : VType) → IsSource (first_source shape vs2 t).role
-first_is_source Single vs2 t = tt
-first_is_source Widening vs2 t = tt
 first_is_source WideSource vs2 t = tt
 first_is_source Narrowing vs2 t = tt
-first_is_source Compare vs2 t = tt
-first_is_source Gather vs2 t = tt
-first_is_source GatherIndices16 vs2 t = tt
-first_is_source Reduction vs2 t = tt
-first_is_source WideReduction vs2 t = tt
+first_is_source _ vs2 t = tt
 
 vector_is_source : (shape : Shape) (vs1 : ℕ) (t : VType) → IsSource (vector_source shape vs1 t).role
-vector_is_source Single vs1 t = tt
-vector_is_source Widening vs1 t = tt
-vector_is_source WideSource vs1 t = tt
-vector_is_source Narrowing vs1 t = tt
-vector_is_source Compare vs1 t = tt
-vector_is_source Gather vs1 t = tt
 vector_is_source GatherIndices16 vs1 t = tt
 vector_is_source Reduction vs1 t = tt
 vector_is_source WideReduction vs1 t = tt
+vector_is_source _ vs1 t = tt
 
-second_is_source : (shape : Shape) (from : Source) (t : VType) → IsSource (second_source shape from t).role
-second_is_source shape (source.V vs1) t = vector_is_source shape vs1 t
-second_is_source shape (source.X rs1) t = tt
-second_is_source shape (source.I imm) t = tt
+second_is_source : (shape : Shape) (from : Source) (t : VType) (rest : List Operand) → AreSources rest → AreSources (second_source shape from t ++ rest)
+second_is_source shape (source.V vs1) t rest h = (vector_is_source shape vs1 t, h)
+second_is_source shape (source.X rs1) t rest h = h
+second_is_source shape (source.I imm) t rest h = h
+
+-- the second source, if it is one of vectors
+second_beside : (d : Operand) (shape : Shape) (from : Source) (t : VType) (rest : List Operand)
+    → list_all (stands_beside d) (second_source shape from t ++ rest)
+    ≡ (of_vector from (λ vs1. stands_beside d (vector_source shape vs1 t)) && list_all (stands_beside d) rest)
+second_beside d shape (source.V vs1) t rest = refl
+second_beside d shape (source.X rs1) t rest = refl
+second_beside d shape (source.I imm) t rest = refl
 
 -- what a shape asks of its operands
 pub shape_legal : (shape : Shape) (vd vs2 : ℕ) (from : Source) (unmasked : Bool) (t : VType)
     → are_legal (shape_operands shape vd vs2 from unmasked t)
-    ≡ (is_group (destination shape vd t) && (is_group (first_source shape vs2 t) && (is_group (second_source shape from t)
-    && (allows (destination shape vd t) (first_source shape vs2 t) && (allows (destination shape vd t) (second_source shape from t)
-    && allows (destination shape vd t) (v0 unmasked))))))
+    ≡ (is_group (destination shape vd t) && (stands_beside (destination shape vd t) (first_source shape vs2 t)
+    && (of_vector from (λ vs1. stands_beside (destination shape vd t) (vector_source shape vs1 t))
+    && (unmasked || allows (destination shape vd t) (mask Control 0)))))
 unfolding shape_operands
 shape_legal shape vd vs2 from unmasked t =
-    sources_legal (destination shape vd t) (first_source shape vs2 t) (second_source shape from t) unmasked
-    (first_is_source shape vs2 t) (second_is_source shape from t)
+    let d : Operand = destination shape vd t in
+    let a : Operand = first_source shape vs2 t in
+    sources_legal d (a ∷ (second_source shape from t ++ v0 unmasked))
+    (first_is_source shape vs2 t, second_is_source shape from t (v0 unmasked) (mask_is_source unmasked))
+    ∙ ap (λ b. is_group d && (stands_beside d a && b))
+    (second_beside d shape from t (v0 unmasked)
+    ∙ ap (λ b. of_vector from (λ vs1. stands_beside d (vector_source shape vs1 t)) && b) (mask_beside d unmasked))

@@ -1,53 +1,26 @@
 //! Which vector instructions are legal.
-ghost use Rattle.std.specs.Prelude.{[], ◌∷◌, ◌≡◌, ◌↔◌, ◌+◌, ◌≤◌, IsTrue, Some, None, is_none, true, ℕ};
-ghost use Rattle.rv_model.specs.instructions.Accesses.{is_typed_access};
-ghost use Rattle.rv_model.specs.legality.OperandShapes.{extension_divisor, group, mask, v0, whole};
-ghost use Rattle.rv_model.specs.legality.Legality.{IsLegal, access_operands, compress_operands, data_role, extension_operands, has_legal, has_wide_product, indexed_operands, indexed_role, is_below_64, is_fractional_product, is_legal, is_narrow, is_narrow_only, is_reduction, mask_logic_operands, mask_result, move_operands, operands, register_count, starts_at_zero, unit_role, whole_move_operands};
+ghost use Rattle.std.specs.Prelude.{[], ◌∷◌, ◌≡◌, ◌↔◌, ◌+◌, Some, None, true, ℕ};
+ghost use Rattle.rv_model.specs.legality.Legality.{IsLegal, access_operands, compress_operands, data_role, extension_operands, has_legal, has_wide_product, indexed_operands, indexed_role, is_below_64, is_fractional_product, is_legal, is_narrow, is_narrow_only, is_reduction, mask_logic_operands, mask_result, operands, starts_at_zero, unit_role, whole_move_operands};
+ghost use Rattle.rv_model.specs.legality.OperandShapes.{group, mask, v0};
 ghost use Rattle.rv_model.specs.legality.RegisterOperands.{are_legal};
-ghost use Rattle.rv_model.specs.vector.Configuration.{element_width, sew_bits};
+ghost use Rattle.rv_model.specs.vector.Configuration.{group_type, sew_width};
+ghost use Rattle.rv_model.specs.vector.Groups.{single_type};
 ghost use Rattle.reg_groups.specs.Roles.{is_apart_from_mask};
 
-use crate::agreement::{allows, are_legal, is_group};
-use crate::operands::{group, mask, segment, v0, whole};
+use crate::agreement::{are_legal, is_group};
+use crate::operands::{
+    access_groups, element_bits, extension_source, field_groups, group, mask, register,
+    whole_registers,
+};
 use crate::shapes::{
-    destination, is_aligned, is_legal_shape, is_legal_single, second_source, shape_of,
+    allows_v0, is_aligned, is_legal_move, is_legal_shape, is_legal_single, shape_of,
 };
 use rv_model::instructions::operations::{
-    BinaryOp, Direction, ExtendOp, FixedPointOp, MaskUnaryOp, RegisterCount, UnitOp, VectorOp,
-    Width,
+    BinaryOp, Direction, Eew, ExtendOp, FixedPointOp, MaskUnaryOp, RegisterCount, UnitOp, VectorOp,
 };
-use rv_model::{Arith, Field, Instr, Operand, Role, Sew, Shape, Source, VConf, VReg, VType};
-
-/// The width of memory elements, or of indices, in bits.
-fn element_bits(width: Width) -> u16
-    ensures { result ≡ sew_bits (element_width width) }
-{
-    Sew::from_width(width).bits()
-}
-
-/// How many whole registers.
-pub fn register_count(count: RegisterCount) -> u8
-    ensures { result ≡ register_count count }
-{
-    match count {
-        RegisterCount::One => 1,
-        RegisterCount::Two => 2,
-        RegisterCount::Four => 4,
-        RegisterCount::Eight => 8,
-    }
-}
-
-/// Which part of SEW the source of an extension has: SEW divided by this.
-pub fn extension_divisor(op: ExtendOp) -> u16
-    ensures value { result ≡ extension_divisor op }
-    ensures some { 1 ≤ result }
-{
-    match op {
-        ExtendOp::VzextVf8 | ExtendOp::VsextVf8 => 8,
-        ExtendOp::VzextVf4 | ExtendOp::VsextVf4 => 4,
-        ExtendOp::VzextVf2 | ExtendOp::VsextVf2 => 2,
-    }
-}
+use rv_model::{
+    AccessInstr, Arith, Field, Instr, Operand, Role, Sew, Shape, VConf, VReg, VType, VectorInstr,
+};
 
 /// How many fields `nf` says.
 fn fields(nf: Field<3>) -> u8
@@ -98,7 +71,7 @@ fn mask_result(op: MaskUnaryOp, vd: VReg, vtype: VType) -> Operand
     ensures { result ≡ mask_result op vd vtype }
 {
     match op {
-        MaskUnaryOp::Viota => group(Role::Apart, vd, vtype.sew.bits(), vtype),
+        MaskUnaryOp::Viota => group(Role::Apart, vd, vtype),
         MaskUnaryOp::Scan(_) => mask(Role::Apart, vd),
     }
 }
@@ -106,49 +79,42 @@ fn mask_result(op: MaskUnaryOp, vd: VReg, vtype: VType) -> Operand
 /// Whether one operand beside the mask is legal.
 #[tactic(auto, using(crate::proofs::Sources::masked_legal))]
 fn is_legal_with_mask(operand: &Operand, unmasked: bool) -> bool
-    ensures { result ≡ are_legal (operand.now ∷ v0 unmasked ∷ []) }
+    ensures { result ≡ are_legal (operand.now ∷ v0 unmasked) }
 {
-    is_group(operand) && allows(operand, &v0(unmasked))
+    is_group(operand) && allows_v0(operand, unmasked)
+}
+
+/// Whether a destination and a source beside the mask are legal.
+fn are_legal_with_mask(destination: Operand, source: Operand, unmasked: bool) -> bool
+    ensures { result ≡ are_legal (destination ∷ source ∷ v0 unmasked) }
+{
+    if unmasked {
+        are_legal(&[destination, source])
+    } else {
+        are_legal(&[destination, source, mask(Role::Control, VReg::new(0))])
+    }
 }
 
 /// Whether the operands of an extension are legal.
 fn is_legal_extension(op: ExtendOp, vd: VReg, vs2: VReg, unmasked: bool, vtype: VType) -> bool
     ensures { result ≡ are_legal (extension_operands op vd vs2 unmasked vtype) }
 {
-    let sew = vtype.sew.bits();
-    are_legal(&[
-        group(Role::Write, vd, sew, vtype),
-        group(Role::Read, vs2, sew / extension_divisor(op), vtype),
-        v0(unmasked),
-    ])
-}
-
-/// Whether the operands of a move of one group are legal.
-fn is_legal_move(source: Source, vd: VReg, vtype: VType) -> bool
-    ensures { result ≡ are_legal (move_operands source vd vtype) }
-{
-    are_legal(&[
-        destination(Shape::Single, vd, vtype),
-        second_source(Shape::Single, source, vtype),
-    ])
+    let destination = group(Role::Write, vd, vtype);
+    are_legal_with_mask(destination, extension_source(op, vs2, vtype), unmasked)
 }
 
 /// Whether the operands of an operation on one mask are legal.
 #[inline(never)]
 fn is_legal_mask_unary(op: MaskUnaryOp, vd: VReg, vs2: VReg, unmasked: bool, vtype: VType) -> bool
-    ensures { result ≡ are_legal (mask_result op vd vtype ∷ mask Role.Read vs2 ∷ v0 unmasked ∷ []) }
+    ensures { result ≡ are_legal (mask_result op vd vtype ∷ mask Role.Read vs2 ∷ v0 unmasked) }
 {
-    are_legal(&[
-        mask_result(op, vd, vtype),
-        mask(Role::Read, vs2),
-        v0(unmasked),
-    ])
+    are_legal_with_mask(mask_result(op, vd, vtype), mask(Role::Read, vs2), unmasked)
 }
 
 /// Whether the operands of an operation from a mask to a scalar register are legal.
 #[inline(never)]
 fn is_legal_mask_source(vs2: VReg, unmasked: bool) -> bool
-    ensures { result ≡ are_legal (mask Role.Read vs2 ∷ v0 unmasked ∷ []) }
+    ensures { result ≡ are_legal (mask Role.Read vs2 ∷ v0 unmasked) }
 {
     is_legal_with_mask(&mask(Role::Read, vs2), unmasked)
 }
@@ -156,17 +122,17 @@ fn is_legal_mask_source(vs2: VReg, unmasked: bool) -> bool
 /// Whether the operands of a write of indices are legal.
 #[inline(never)]
 fn is_legal_index(vd: VReg, unmasked: bool, vtype: VType) -> bool
-    ensures { result ≡ are_legal (group Role.Write vd (sew_bits vtype.sew) vtype ∷ v0 unmasked ∷ []) }
+    ensures { result ≡ are_legal (group Role.Write vd (group_type vtype) ∷ v0 unmasked) }
 {
-    is_legal_with_mask(&group(Role::Write, vd, vtype.sew.bits(), vtype), unmasked)
+    is_legal_with_mask(&group(Role::Write, vd, vtype), unmasked)
 }
 
 /// Whether a register of elements of SEW is a legal operand.
 #[inline(never)]
-fn is_legal_register(role: Role, register: VReg, vtype: VType) -> bool
-    ensures { result ≡ are_legal (whole role 1 register (sew_bits vtype.sew) ∷ []) }
+fn is_legal_register(role: Role, first: VReg, vtype: VType) -> bool
+    ensures { result ≡ are_legal (group role first (single_type (sew_width vtype.sew)) ∷ []) }
 {
-    are_legal(&[whole(role, 1, register, vtype.sew.bits())])
+    are_legal(&[register(role, first, vtype)])
 }
 
 /// Whether the operands of logic on masks are legal.
@@ -184,10 +150,9 @@ fn is_legal_mask_logic(vd: VReg, vs1: VReg, vs2: VReg) -> bool
 fn is_legal_compression(vd: VReg, vs1: VReg, vs2: VReg, vtype: VType) -> bool
     ensures { result ≡ are_legal (compress_operands vd vs1 vs2 vtype) }
 {
-    let sew = vtype.sew.bits();
     are_legal(&[
-        group(Role::Apart, vd, sew, vtype),
-        group(Role::Read, vs2, sew, vtype),
+        group(Role::Apart, vd, vtype),
+        group(Role::Read, vs2, vtype),
         mask(Role::Read, vs1),
     ])
 }
@@ -196,11 +161,9 @@ fn is_legal_compression(vd: VReg, vs1: VReg, vs2: VReg, vtype: VType) -> bool
 fn is_legal_whole_move(count: RegisterCount, vd: VReg, vs2: VReg, vtype: VType) -> bool
     ensures { result ≡ are_legal (whole_move_operands count vd vs2 vtype) }
 {
-    let registers = register_count(count);
-    let sew = vtype.sew.bits();
     are_legal(&[
-        whole(Role::Write, registers, vd, sew),
-        whole(Role::Read, registers, vs2, sew),
+        whole_registers(Role::Write, vd, vtype.sew, count),
+        whole_registers(Role::Read, vs2, vtype.sew, count),
     ])
 }
 
@@ -208,7 +171,7 @@ fn is_legal_whole_move(count: RegisterCount, vd: VReg, vs2: VReg, vtype: VType) 
 #[inline(never)]
 fn are_legal_fields(
     role: Role,
-    width: Width,
+    width: Eew,
     nf: Field<3>,
     vd: VReg,
     unmasked: bool,
@@ -216,7 +179,7 @@ fn are_legal_fields(
 ) -> bool
     ensures { result ≡ are_legal (access_operands role width nf vd unmasked vtype) }
 {
-    let data = segment(role, fields(nf), vd, element_bits(width), vtype);
+    let data = access_groups(role, fields(nf), vd, width, vtype);
     is_legal_with_mask(&data, unmasked)
 }
 
@@ -227,7 +190,7 @@ fn is_apart_from_mask(role: Role) -> bool
 {
     match role {
         Role::Write | Role::Apart => true,
-        Role::Read | Role::Control | Role::Unused | Role::Free => false,
+        _ => false,
     }
 }
 
@@ -235,16 +198,17 @@ fn is_apart_from_mask(role: Role) -> bool
 #[inline(always)]
 #[tactic(auto, using(crate::proofs::EqualWidths::group_with_mask))]
 fn is_legal_group(role: Role, vd: VReg, unmasked: bool, vtype: VType) -> bool
-    ensures { result ≡ are_legal (group role vd (sew_bits vtype.sew) vtype ∷ v0 unmasked ∷ []) }
+    ensures { result ≡ are_legal (group role vd (group_type vtype) ∷ v0 unmasked) }
 {
     is_aligned(vd, vtype) && (unmasked || !is_apart_from_mask(role) || vd.number() != 0)
 }
 
 /// Whether the operands of a unit-stride or strided access are legal.
 #[inline(always)]
+#[tactic(auto, using(crate::proofs::EqualWidths::access_of_sew))]
 fn is_legal_access(
     role: Role,
-    width: Width,
+    width: Eew,
     nf: Field<3>,
     vd: VReg,
     unmasked: bool,
@@ -262,7 +226,7 @@ fn is_legal_access(
 /// Whether the operands of an indexed access are legal.
 fn is_legal_indexed(
     direction: Direction,
-    width: Width,
+    width: Eew,
     nf: Field<3>,
     vd: VReg,
     vs2: VReg,
@@ -271,55 +235,27 @@ fn is_legal_indexed(
 ) -> bool
     ensures { result ≡ are_legal (indexed_operands direction width nf vd vs2 unmasked vtype) }
 {
-    let role = indexed_role(direction, nf);
-    are_legal(&[
-        segment(role, fields(nf), vd, vtype.sew.bits(), vtype),
-        group(Role::Read, vs2, element_bits(width), vtype),
-        v0(unmasked),
-    ])
+    let data = field_groups(indexed_role(direction, nf), fields(nf), vd, vtype);
+    let indices = access_groups(Role::Read, 1, vs2, width, vtype);
+    are_legal_with_mask(data, indices, unmasked)
 }
 
-/// Whether an instruction needs a vector type.
+/// Whether a load or store may have its operands without a vector type: not if it needs one.
 #[tactic(auto, unfolding(rv_model::specs::legality::Legality::operands))]
-fn needs_type(instr: &Instr) -> bool
-    ensures { result ≡ is_none (operands instr.now None) }
+fn has_legal_untyped_access(instr: AccessInstr) -> bool
+    ensures { result ≡ has_legal (operands (Instr.Access instr) None) }
 {
-    match *instr {
-        Instr::Upper { .. }
-        | Instr::Jump { .. }
-        | Instr::JumpRegister { .. }
-        | Instr::Branch { .. }
-        | Instr::Load { .. }
-        | Instr::Store { .. }
-        | Instr::RegisterImmediate { .. }
-        | Instr::ShiftImmediate { .. }
-        | Instr::ShiftImmediateWord { .. }
-        | Instr::RegisterRegister { .. }
-        | Instr::Fence { .. }
-        | Instr::System { .. }
-        | Instr::Csr { .. }
-        | Instr::CsrImmediate { .. }
-        | Instr::SetVli { .. }
-        | Instr::SetIvli { .. }
-        | Instr::SetVl { .. }
-        | Instr::WholeLoad { .. }
-        | Instr::WholeStore { .. } => false,
-        Instr::VectorArith { .. }
-        | Instr::VectorCarry { .. }
-        | Instr::VectorMove { .. }
-        | Instr::WholeMove { .. }
-        | Instr::MaskLogic { .. }
-        | Instr::Compress { .. }
-        | Instr::MaskToScalar { .. }
-        | Instr::VectorExtend { .. }
-        | Instr::MaskUnary { .. }
-        | Instr::ElementIndex { .. }
-        | Instr::MoveToScalar { .. }
-        | Instr::MoveToVector { .. }
-        | Instr::VectorUnit { .. }
-        | Instr::VectorStrided { .. }
-        | Instr::VectorIndexed { .. }
-        | Instr::MaskMemory { .. } => true,
+    match instr {
+        AccessInstr::WholeLoad {
+            count,
+            width,
+            vd,
+            ..
+        } => { are_legal(&[whole_registers(Role::Write, vd, Sew::from_width(width), count)]) }
+        AccessInstr::WholeStore { count, vd, .. } => {
+            are_legal(&[whole_registers(Role::Read, vd, Sew::E8, count)])
+        }
+        _ => false,
     }
 }
 
@@ -329,44 +265,40 @@ fn has_legal_untyped_operands(instr: &Instr) -> bool
     ensures { result ≡ has_legal (operands instr.now None) }
 {
     match *instr {
-        Instr::WholeLoad {
-            count,
-            width,
-            vd,
-            ..
-        } => are_legal(&[whole(Role::Write, register_count(count), vd, element_bits(width))]),
-        Instr::WholeStore { count, vd, .. } => {
-            are_legal(&[whole(Role::Read, register_count(count), vd, 8)])
-        }
-        _ => !needs_type(instr),
+        Instr::Scalar(_)
+        | Instr::Csr(_)
+        | Instr::Vector(VectorInstr::SetVli { .. })
+        | Instr::Vector(VectorInstr::SetIvli { .. })
+        | Instr::Vector(VectorInstr::SetVl { .. }) => true,
+        Instr::Vector(_) => false,
+        Instr::Access(access) => has_legal_untyped_access(access),
     }
 }
 
-/// Whether a load or store that needs a vector type may have its operands.
+/// Whether a load or store may have its operands under a vector type.
 #[tactic(auto, unfolding(rv_model::specs::legality::Legality::operands))]
 #[inline(always)]
-fn has_legal_memory_operands(instr: &Instr, vtype: VType) -> bool
-    requires { IsTrue (is_typed_access instr.now) }
-    ensures { result ≡ has_legal (operands instr.now (Some vtype)) }
+fn has_legal_access(instr: AccessInstr, vtype: VType) -> bool
+    ensures { result ≡ has_legal (operands (Instr.Access instr) (Some vtype)) }
 {
-    match *instr {
-        Instr::VectorUnit {
+    match instr {
+        AccessInstr::UnitStride {
             op,
             width,
             nf,
             vd,
             vm,
             ..
-        } => is_legal_access(unit_role(op), width, nf, vd, vm, vtype),
-        Instr::VectorStrided {
+        } => { is_legal_access(unit_role(op), width, nf, vd, vm, vtype) }
+        AccessInstr::Strided {
             direction,
             width,
             nf,
             vd,
             vm,
             ..
-        } => is_legal_access(data_role(direction), width, nf, vd, vm, vtype),
-        Instr::VectorIndexed {
+        } => { is_legal_access(data_role(direction), width, nf, vd, vm, vtype) }
+        AccessInstr::Indexed {
             direction,
             width,
             nf,
@@ -374,42 +306,57 @@ fn has_legal_memory_operands(instr: &Instr, vtype: VType) -> bool
             vs2,
             vm,
             ..
-        } => is_legal_indexed(direction, width, nf, vd, vs2, vm, vtype),
-        Instr::MaskMemory { direction, vd, .. } => are_legal(&[mask(data_role(direction), vd)]),
-        _ => false,
+        } => { is_legal_indexed(direction, width, nf, vd, vs2, vm, vtype) }
+        AccessInstr::MaskAccess { direction, vd, .. } => are_legal(&[mask(
+            data_role(direction),
+            vd,
+        )]),
+        AccessInstr::WholeLoad { .. } | AccessInstr::WholeStore { .. } => {
+            has_legal_untyped_access(instr)
+        }
+    }
+}
+
+/// Whether an instruction of vectors, but for loads and stores, may have its operands under a vector type.
+#[tactic(auto, unfolding(rv_model::specs::legality::Legality::operands, rv_model::specs::legality::RegisterOperands::are_legal))]
+#[inline(always)]
+fn has_legal_vector(instr: VectorInstr, vtype: VType) -> bool
+    ensures { result ≡ has_legal (operands (Instr.Vector instr) (Some vtype)) }
+{
+    match instr {
+        VectorInstr::Arith { arith, vd, vs2, vm } => {
+            let (op, source) = arith.parts();
+            is_legal_shape(shape_of(op), vd, vs2, source, vm, vtype)
+        }
+        VectorInstr::Carry { carry, vd, vs2 } => {
+            let (_, source) = carry.parts();
+            is_legal_shape(Shape::Single, vd, vs2, source, false, vtype)
+        }
+        VectorInstr::Move { source, vd } => is_legal_move(source, vd, vtype),
+        VectorInstr::WholeMove { count, vd, vs2 } => is_legal_whole_move(count, vd, vs2, vtype),
+        VectorInstr::MaskLogic { vd, vs1, vs2, .. } => is_legal_mask_logic(vd, vs1, vs2),
+        VectorInstr::Compress { vd, vs1, vs2 } => is_legal_compression(vd, vs1, vs2, vtype),
+        VectorInstr::MaskToScalar { vs2, vm, .. } => is_legal_mask_source(vs2, vm),
+        VectorInstr::Extend { op, vd, vs2, vm } => is_legal_extension(op, vd, vs2, vm, vtype),
+        VectorInstr::MaskUnary { op, vd, vs2, vm } => is_legal_mask_unary(op, vd, vs2, vm, vtype),
+        VectorInstr::ElementIndex { vd, vm } => is_legal_index(vd, vm, vtype),
+        VectorInstr::MoveToScalar { vs2, .. } => is_legal_register(Role::Read, vs2, vtype),
+        VectorInstr::MoveToVector { vd, .. } => is_legal_register(Role::Write, vd, vtype),
+        VectorInstr::SetVli { .. } | VectorInstr::SetIvli { .. } | VectorInstr::SetVl { .. } =>
+            true,
     }
 }
 
 /// Whether an instruction may have its operands under a vector type.
-#[tactic(auto, unfolding(rv_model::specs::legality::Legality::operands))]
+#[tactic(auto, unfolding(rv_model::specs::legality::Legality::operands, rv_model::specs::legality::RegisterOperands::are_legal))]
 #[inline(always)]
 fn has_legal_operands(instr: &Instr, vtype: VType) -> bool
     ensures { result ≡ has_legal (operands instr.now (Some vtype)) }
 {
     match *instr {
-        Instr::VectorArith { arith, vd, vs2, vm } => {
-            let (op, source) = arith.parts();
-            is_legal_shape(shape_of(op), vd, vs2, source, vm, vtype)
-        }
-        Instr::VectorCarry { carry, vd, vs2 } => {
-            let (_, source) = carry.parts();
-            is_legal_shape(Shape::Single, vd, vs2, source, false, vtype)
-        }
-        Instr::VectorMove { source, vd } => is_legal_move(source, vd, vtype),
-        Instr::WholeMove { count, vd, vs2 } => is_legal_whole_move(count, vd, vs2, vtype),
-        Instr::MaskLogic { vd, vs1, vs2, .. } => is_legal_mask_logic(vd, vs1, vs2),
-        Instr::Compress { vd, vs1, vs2 } => is_legal_compression(vd, vs1, vs2, vtype),
-        Instr::MaskToScalar { vs2, vm, .. } => is_legal_mask_source(vs2, vm),
-        Instr::VectorExtend { op, vd, vs2, vm } => is_legal_extension(op, vd, vs2, vm, vtype),
-        Instr::MaskUnary { op, vd, vs2, vm } => is_legal_mask_unary(op, vd, vs2, vm, vtype),
-        Instr::ElementIndex { vd, vm } => is_legal_index(vd, vm, vtype),
-        Instr::MoveToScalar { vs2, .. } => is_legal_register(Role::Read, vs2, vtype),
-        Instr::MoveToVector { vd, .. } => is_legal_register(Role::Write, vd, vtype),
-        Instr::VectorUnit { .. }
-        | Instr::VectorStrided { .. }
-        | Instr::VectorIndexed { .. }
-        | Instr::MaskMemory { .. } => has_legal_memory_operands(instr, vtype),
-        _ => has_legal_untyped_operands(instr),
+        Instr::Vector(vector) => has_legal_vector(vector, vtype),
+        Instr::Access(access) => has_legal_access(access, vtype),
+        Instr::Scalar(_) | Instr::Csr(_) => true,
     }
 }
 
@@ -440,11 +387,13 @@ fn starts_at_zero(instr: &Instr) -> bool
     ensures { result ≡ starts_at_zero instr.now }
 {
     match *instr {
-        Instr::VectorArith { arith, .. } => {
+        Instr::Vector(VectorInstr::Arith { arith, .. }) => {
             let (op, _) = arith.parts();
             is_reduction(op)
         }
-        Instr::Compress { .. } | Instr::MaskToScalar { .. } | Instr::MaskUnary { .. } => true,
+        Instr::Vector(VectorInstr::Compress { .. })
+        | Instr::Vector(VectorInstr::MaskToScalar { .. })
+        | Instr::Vector(VectorInstr::MaskUnary { .. }) => true,
         _ => false,
     }
 }
@@ -499,7 +448,7 @@ fn is_below_64(instr: &Instr) -> bool
     ensures { result ≡ is_below_64 instr.now }
 {
     match *instr {
-        Instr::VectorArith { arith, .. } => {
+        Instr::Vector(VectorInstr::Arith { arith, .. }) => {
             let (op, _) = arith.parts();
             is_narrow_only(op)
         }
@@ -552,7 +501,7 @@ pub fn legal_arith(
     conf: &VConf,
     vstart: u8,
 ) -> bool
-    ensures { result ≡ is_legal (Instr.VectorArith arith vd vs2 unmasked) conf.now.vtype vstart }
+    ensures { result ≡ is_legal (Instr.Vector (VectorInstr.Arith arith vd vs2 unmasked)) conf.now.vtype vstart }
 {
     let Some(vtype) = conf.vtype() else {
         return false;
@@ -577,14 +526,14 @@ pub fn legal_arith(
 #[inline(always)]
 pub fn legal_unit(
     op: UnitOp,
-    width: Width,
+    width: Eew,
     nf: Field<3>,
     vd: VReg,
     unmasked: bool,
     conf: &VConf,
 ) -> bool
     ensures { (rs1 : ℕ) (vstart : ℕ)
-        → result ≡ is_legal (Instr.VectorUnit op width nf vd rs1 unmasked) conf.now.vtype vstart }
+        → result ≡ is_legal (Instr.Access (AccessInstr.UnitStride op width nf vd rs1 unmasked)) conf.now.vtype vstart }
 {
     let Some(vtype) = conf.vtype() else {
         return false;

@@ -1,8 +1,14 @@
 //! The register operands of an instruction ("V" Vector Extension 1.0, section 5.2).
-ghost use Rattle.std.specs.Prelude.{◌≡◌};
-ghost use Rattle.rv_model.specs.legality.OperandShapes.{emul, group, mask, segment, v0, whole};
+ghost use Rattle.std.specs.Prelude.{◌≡◌, ◌≤◌};
+ghost use Rattle.rv_model.specs.legality.Legality.{extension_source};
+ghost use Rattle.rv_model.specs.legality.OperandShapes.{field_groups, group, mask};
+ghost use Rattle.rv_model.specs.lending.GroupBounds.{emul};
+ghost use Rattle.rv_model.specs.vector.Configuration.{element_width, group_type, sew_bits, sew_width};
+ghost use Rattle.rv_model.specs.vector.Groups.{access_type, extension_divisor, index_type, register_count, registers_type, single_type, wide_type};
+ghost use Rattle.reg_groups.specs.Roles.{groups_of};
 
-use rv_model::{Content, Operand, Role, VReg, VType};
+use rv_model::instructions::operations::{Eew, ExtendOp, RegisterCount};
+use rv_model::{Content, Operand, Role, Sew, VReg, VType};
 
 /// The multiplier, in eighths of a register, of groups with elements of so many bits, as many as the vector
 /// type has.
@@ -12,37 +18,130 @@ pub fn emul(bits: u16, vtype: VType) -> u32
     u32::from(bits) * u32::from(vtype.lmul.eighths()) / u32::from(vtype.sew.bits())
 }
 
-/// The fields of a segment, each with elements of so many bits, as many as the vector type has.
-pub(crate) fn segment(role: Role, fields: u8, first: VReg, bits: u16, vtype: VType) -> Operand
-    ensures { result ≡ segment role fields first bits vtype }
+/// The width of memory elements, or of indices, in bits.
+pub(crate) fn element_bits(width: Eew) -> u16
+    ensures { result ≡ sew_bits (element_width width) }
+{
+    Sew::from_width(width).bits()
+}
+
+/// How many whole registers.
+pub fn register_count(count: RegisterCount) -> u8
+    ensures { result ≡ register_count count }
+{
+    match count {
+        RegisterCount::One => 1,
+        RegisterCount::Two => 2,
+        RegisterCount::Four => 4,
+        RegisterCount::Eight => 8,
+    }
+}
+
+/// Which part of SEW the source of an extension has: SEW divided by this.
+pub fn extension_divisor(op: ExtendOp) -> u16
+    ensures value { result ≡ extension_divisor op }
+    ensures some { 1 ≤ result }
+{
+    match op {
+        ExtendOp::VzextVf8 | ExtendOp::VsextVf8 => 8,
+        ExtendOp::VzextVf4 | ExtendOp::VsextVf4 => 4,
+        ExtendOp::VzextVf2 | ExtendOp::VsextVf2 => 2,
+    }
+}
+
+/// For each field a group of elements of so many bits; `emul` is the multiplier of one, in eighths of a register.
+fn groups_of(role: Role, fields: u8, first: VReg, bits: u16, emul: u32) -> Operand
+    ensures { result ≡ groups_of role fields first bits emul }
 {
     Operand {
         role,
         first,
         content: Content::Elements(bits),
-        emul: emul(bits, vtype),
+        emul,
         fields,
     }
 }
 
-/// A group with elements of so many bits, as many as the vector type has.
-pub(crate) fn group(role: Role, first: VReg, bits: u16, vtype: VType) -> Operand
-    ensures { result ≡ group role first bits vtype }
+/// The fields of a segment, each a group of the vector type.
+pub(crate) fn field_groups(role: Role, fields: u8, first: VReg, vtype: VType) -> Operand
+    ensures { result ≡ field_groups role fields first (group_type vtype) }
 {
-    segment(role, 1, first, bits, vtype)
+    let emul = u32::from(vtype.lmul.eighths());
+    groups_of(role, fields, first, vtype.sew.bits(), emul)
 }
 
-/// Whole registers with elements of so many bits.
-pub(crate) fn whole(role: Role, count: u8, first: VReg, bits: u16) -> Operand
-    ensures { result ≡ whole role count first bits }
+/// A group of the vector type.
+pub(crate) fn group(role: Role, first: VReg, vtype: VType) -> Operand
+    ensures { result ≡ group role first (group_type vtype) }
 {
-    Operand {
+    field_groups(role, 1, first, vtype)
+}
+
+/// A group of elements of twice SEW, as many as the vector type has.
+#[tactic(auto, using(crate::proofs::Widths::doubled_group))]
+pub(crate) fn wide_group(role: Role, first: VReg, vtype: VType) -> Operand
+    ensures { result ≡ group role first (wide_type vtype) }
+{
+    let bits = 2 * vtype.sew.bits();
+    groups_of(role, 1, first, bits, emul(bits, vtype))
+}
+
+/// A group of indices of 16 bits, as many as the vector type has elements.
+pub(crate) fn index_group(role: Role, first: VReg, vtype: VType) -> Operand
+    ensures { result ≡ group role first (index_type (group_type vtype)) }
+{
+    groups_of(role, 1, first, 16, emul(16, vtype))
+}
+
+/// The fields of a load or store, each a group of elements of its width, as many as the vector type has.
+pub(crate) fn access_groups(
+    role: Role,
+    fields: u8,
+    first: VReg,
+    width: Eew,
+    vtype: VType,
+) -> Operand
+    ensures { result ≡ field_groups role fields first (access_type vtype width) }
+{
+    let bits = element_bits(width);
+    groups_of(role, fields, first, bits, emul(bits, vtype))
+}
+
+/// vs2 of an extension: a group of elements of a part of SEW, which may be below 8 bits.
+#[tactic(auto, using(crate::proofs::Widths::part_group))]
+pub(crate) fn extension_source(op: ExtendOp, first: VReg, vtype: VType) -> Operand
+    ensures { result ≡ extension_source op first vtype }
+{
+    let bits = vtype.sew.bits() / extension_divisor(op);
+    groups_of(Role::Read, 1, first, bits, emul(bits.max(8), vtype))
+}
+
+/// A register of elements of SEW.
+pub(crate) fn register(role: Role, first: VReg, vtype: VType) -> Operand
+    ensures { result ≡ group role first (single_type (sew_width vtype.sew)) }
+{
+    groups_of(role, 1, first, vtype.sew.bits(), 8)
+}
+
+/// A register of elements of twice SEW.
+#[tactic(auto, using(crate::proofs::Widths::doubled_register))]
+pub(crate) fn wide_register(role: Role, first: VReg, vtype: VType) -> Operand
+    ensures { result ≡ group role first (single_type (wide_type vtype).width) }
+{
+    groups_of(role, 1, first, 2 * vtype.sew.bits(), 8)
+}
+
+/// Whole registers of elements of a width.
+pub(crate) fn whole_registers(role: Role, first: VReg, sew: Sew, count: RegisterCount) -> Operand
+    ensures { result ≡ group role first (registers_type (sew_width sew) count) }
+{
+    groups_of(
         role,
+        1,
         first,
-        content: Content::Elements(bits),
-        emul: 8 * u32::from(count),
-        fields: 1,
-    }
+        sew.bits(),
+        8 * u32::from(register_count(count)),
+    )
 }
 
 /// A register with a mask.
@@ -56,16 +155,4 @@ pub(crate) fn mask(role: Role, first: VReg) -> Operand
         emul: 8,
         fields: 1,
     }
-}
-
-/// v0, the mask of an instruction that is masked.
-pub(crate) fn v0(unmasked: bool) -> Operand
-    ensures { result ≡ v0 unmasked }
-{
-    let role = if unmasked {
-        Role::Unused
-    } else {
-        Role::Control
-    };
-    mask(role, VReg::new(0))
 }

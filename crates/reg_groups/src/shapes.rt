@@ -1,13 +1,16 @@
 //! The register operands of a vector operation, by its shape ("V" Vector Extension 1.0, sections 5.2,
 //! 10.2, 11, 12, 14 and 16).
-ghost use Rattle.std.specs.Prelude.{◌&&◌, ◌≡◌};
-ghost use Rattle.rv_model.specs.legality.OperandShapes.{destination, first_source, group, mask, permute_shape, second_source, shape_of, shape_operands, vector_source, whole};
+ghost use Rattle.std.specs.Prelude.{◌&&◌, ◌||◌, ◌≡◌};
+ghost use Rattle.rv_model.specs.legality.Legality.{move_operands};
+ghost use Rattle.rv_model.specs.legality.OperandShapes.{destination, first_source, group, mask, permute_shape, shape_of, shape_operands, vector_source};
 ghost use Rattle.rv_model.specs.legality.RegisterOperands.{allows, are_legal, is_group};
-ghost use Rattle.rv_model.specs.vector.Configuration.{sew_bits};
+ghost use Rattle.rv_model.specs.vector.Configuration.{group_type, sew_width};
+ghost use Rattle.rv_model.specs.vector.Groups.{single_type};
+ghost use Rattle.reg_groups.specs.Roles.{of_vector, stands_beside};
 
 use crate::agreement::{allows, is_group};
 use crate::groups::registers;
-use crate::operands::{group, mask, v0, whole};
+use crate::operands::{group, index_group, mask, register, wide_group, wide_register};
 use rv_model::instructions::operations::{PermuteOp, VectorOp};
 use rv_model::{Lmul, Operand, Role, Shape, Source, VReg, VType};
 
@@ -40,17 +43,16 @@ pub(crate) fn shape_of(op: VectorOp) -> Shape
 }
 
 /// What `vd` is to an operation of this shape.
-pub(crate) fn destination(shape: Shape, vd: VReg, vtype: VType) -> Operand
+fn destination(shape: Shape, vd: VReg, vtype: VType) -> Operand
     ensures { result ≡ destination shape vd vtype }
 {
-    let sew = vtype.sew.bits();
     match shape {
-        Shape::Single | Shape::Narrowing => group(Role::Write, vd, sew, vtype),
-        Shape::Widening | Shape::WideSource => group(Role::Write, vd, 2 * sew, vtype),
+        Shape::Single | Shape::Narrowing => group(Role::Write, vd, vtype),
+        Shape::Widening | Shape::WideSource => wide_group(Role::Write, vd, vtype),
         Shape::Compare => mask(Role::Write, vd),
-        Shape::Gather | Shape::GatherIndices16 => group(Role::Apart, vd, sew, vtype),
-        Shape::Reduction => whole(Role::Free, 1, vd, sew),
-        Shape::WideReduction => whole(Role::Free, 1, vd, 2 * sew),
+        Shape::Gather | Shape::GatherIndices16 => group(Role::Apart, vd, vtype),
+        Shape::Reduction => register(Role::Free, vd, vtype),
+        Shape::WideReduction => wide_register(Role::Free, vd, vtype),
     }
 }
 
@@ -58,16 +60,15 @@ pub(crate) fn destination(shape: Shape, vd: VReg, vtype: VType) -> Operand
 fn first_source(shape: Shape, vs2: VReg, vtype: VType) -> Operand
     ensures { result ≡ first_source shape vs2 vtype }
 {
-    let sew = vtype.sew.bits();
     match shape {
-        Shape::WideSource | Shape::Narrowing => group(Role::Read, vs2, 2 * sew, vtype),
+        Shape::WideSource | Shape::Narrowing => wide_group(Role::Read, vs2, vtype),
         Shape::Single
         | Shape::Widening
         | Shape::Compare
         | Shape::Gather
         | Shape::GatherIndices16
         | Shape::Reduction
-        | Shape::WideReduction => group(Role::Read, vs2, sew, vtype),
+        | Shape::WideReduction => group(Role::Read, vs2, vtype),
     }
 }
 
@@ -75,27 +76,16 @@ fn first_source(shape: Shape, vs2: VReg, vtype: VType) -> Operand
 fn vector_source(shape: Shape, vs1: VReg, vtype: VType) -> Operand
     ensures { result ≡ vector_source shape vs1 vtype }
 {
-    let sew = vtype.sew.bits();
     match shape {
-        Shape::GatherIndices16 => group(Role::Read, vs1, 16, vtype),
-        Shape::Reduction => whole(Role::Read, 1, vs1, sew),
-        Shape::WideReduction => whole(Role::Read, 1, vs1, 2 * sew),
+        Shape::GatherIndices16 => index_group(Role::Read, vs1, vtype),
+        Shape::Reduction => register(Role::Read, vs1, vtype),
+        Shape::WideReduction => wide_register(Role::Read, vs1, vtype),
         Shape::Single
         | Shape::Widening
         | Shape::WideSource
         | Shape::Narrowing
         | Shape::Compare
-        | Shape::Gather => group(Role::Read, vs1, sew, vtype),
-    }
-}
-
-/// What the second source is to an operation of this shape.
-pub(crate) fn second_source(shape: Shape, source: Source, vtype: VType) -> Operand
-    ensures { result ≡ second_source shape source vtype }
-{
-    match source {
-        Source::V(vs1) => vector_source(shape, vs1, vtype),
-        Source::X(_) | Source::I(_) => mask(Role::Unused, VReg::new(0)),
+        | Shape::Gather => group(Role::Read, vs1, vtype),
     }
 }
 
@@ -103,7 +93,7 @@ pub(crate) fn second_source(shape: Shape, source: Source, vtype: VType) -> Opera
 /// the file.
 #[inline(always)]
 pub(crate) fn is_aligned(first: VReg, vtype: VType) -> bool
-    ensures { result ≡ is_group (group Role.Read first (sew_bits vtype.sew) vtype) }
+    ensures { result ≡ is_group (group Role.Read first (group_type vtype)) }
 {
     let low_bits = match vtype.lmul {
         Lmul::Mf8 | Lmul::Mf4 | Lmul::Mf2 | Lmul::M1 => 0,
@@ -117,7 +107,7 @@ pub(crate) fn is_aligned(first: VReg, vtype: VType) -> bool
 /// The same of a second source, if it is a group.
 #[inline(always)]
 fn is_source_aligned(source: Source, vtype: VType) -> bool
-    ensures { result ≡ is_group (second_source Shape.Single source vtype) }
+    ensures { result ≡ of_vector source (λ vs1. is_group (group Role.Read vs1 (group_type vtype))) }
 {
     match source {
         Source::V(vs1) => is_aligned(vs1, vtype),
@@ -144,6 +134,38 @@ pub(crate) fn is_legal_single(
         && (unmasked || vd.number() != 0)
 }
 
+/// Whether a move of one group may have these operands.
+#[tactic(auto, using(crate::proofs::EqualWidths::move_legal))]
+pub(crate) fn is_legal_move(source: Source, vd: VReg, vtype: VType) -> bool
+    ensures { result ≡ are_legal (move_operands source vd vtype) }
+{
+    is_aligned(vd, vtype) && is_source_aligned(source, vtype)
+}
+
+/// Whether a source is a group, and the destination agrees with it.
+fn stands_beside(destination: &Operand, source: &Operand) -> bool
+    ensures { result ≡ stands_beside destination.now source.now }
+{
+    is_group(source) && allows(destination, source)
+}
+
+/// The same of a second source, if it is one of vectors.
+fn stands_beside_second(destination: &Operand, shape: Shape, source: Source, vtype: VType) -> bool
+    ensures { result ≡ of_vector source (λ vs1. stands_beside destination.now (vector_source shape vs1 vtype)) }
+{
+    match source {
+        Source::V(vs1) => stands_beside(destination, &vector_source(shape, vs1, vtype)),
+        Source::X(_) | Source::I(_) => true,
+    }
+}
+
+/// Whether what an instruction does with the registers of an operand agrees with its mask, if it has one.
+pub(crate) fn allows_v0(operand: &Operand, unmasked: bool) -> bool
+    ensures { result ≡ (unmasked || allows operand.now (mask Role.Control 0)) }
+{
+    unmasked || allows(operand, &mask(Role::Control, VReg::new(0)))
+}
+
 /// Whether an operation of any shape may have these operands.
 #[inline(never)]
 #[tactic(auto, using(crate::proofs::Sources::shape_legal))]
@@ -158,21 +180,17 @@ fn are_legal_operands(
     ensures { result ≡ are_legal (shape_operands shape vd vs2 source unmasked vtype) }
 {
     let destination = destination(shape, vd, vtype);
-    let first = first_source(shape, vs2, vtype);
-    let second = second_source(shape, source, vtype);
     is_group(&destination)
-        && is_group(&first)
-        && is_group(&second)
-        && allows(&destination, &first)
-        && allows(&destination, &second)
-        && allows(&destination, &v0(unmasked))
+        && stands_beside(&destination, &first_source(shape, vs2, vtype))
+        && stands_beside_second(&destination, shape, source, vtype)
+        && allows_v0(&destination, unmasked)
 }
 
 /// Whether a mask may be written to a register beside a group that is read: outside of it, or its first.
 #[inline(always)]
 #[tactic(auto, using(crate::proofs::SingleRegisters::mask_allows))]
 fn allows_mask(register: VReg, first: VReg, vtype: VType) -> bool
-    ensures { result ≡ allows (mask Role.Write register) (group Role.Read first (sew_bits vtype.sew) vtype) }
+    ensures { result ≡ allows (mask Role.Write register) (group Role.Read first (group_type vtype)) }
 {
     let size = registers(u32::from(vtype.lmul.eighths()));
     register.number() <= first.number() || first.number() + size <= register.number()
@@ -181,8 +199,7 @@ fn allows_mask(register: VReg, first: VReg, vtype: VType) -> bool
 /// Whether a group may be read where a mask is written.
 #[inline(always)]
 fn is_beside_mask(register: VReg, first: VReg, vtype: VType) -> bool
-    ensures { result ≡ (is_group (group Role.Read first (sew_bits vtype.sew) vtype)
-        && allows (mask Role.Write register) (group Role.Read first (sew_bits vtype.sew) vtype)) }
+    ensures { result ≡ stands_beside (mask Role.Write register) (group Role.Read first (group_type vtype)) }
 {
     is_aligned(first, vtype) && allows_mask(register, first, vtype)
 }
@@ -190,8 +207,7 @@ fn is_beside_mask(register: VReg, first: VReg, vtype: VType) -> bool
 /// The same of a second source, if it is a group.
 #[inline(always)]
 fn is_source_beside_mask(register: VReg, source: Source, vtype: VType) -> bool
-    ensures { result ≡ (is_group (second_source Shape.Compare source vtype)
-        && allows (mask Role.Write register) (second_source Shape.Compare source vtype)) }
+    ensures { result ≡ of_vector source (λ vs1. stands_beside (mask Role.Write register) (group Role.Read vs1 (group_type vtype))) }
 {
     match source {
         Source::V(vs1) => is_beside_mask(register, vs1, vtype),
@@ -213,7 +229,7 @@ fn is_legal_compare(vd: VReg, vs2: VReg, source: Source, unmasked: bool, vtype: 
 /// Whether a register may stand by itself: each may.
 #[inline(always)]
 fn is_register(register: VReg, vtype: VType) -> bool
-    ensures free { result ≡ is_group (whole Role.Free 1 register (sew_bits vtype.sew)) }
+    ensures free { result ≡ is_group (group Role.Free register (single_type (sew_width vtype.sew))) }
     ensures mask { result ≡ is_group (mask Role.Write register) }
 {
     // The number and the width are looked at for their bounds alone, of which the proof is made.
@@ -225,7 +241,7 @@ fn is_register(register: VReg, vtype: VType) -> bool
 /// The same of a second source, if it is a register.
 #[inline(always)]
 fn is_source_register(source: Source, vtype: VType) -> bool
-    ensures { result ≡ is_group (second_source Shape.Reduction source vtype) }
+    ensures { result ≡ of_vector source (λ vs1. is_group (group Role.Read vs1 (single_type (sew_width vtype.sew)))) }
 {
     match source {
         Source::V(vs1) => is_register(vs1, vtype),

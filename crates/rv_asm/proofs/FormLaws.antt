@@ -1,7 +1,7 @@
 -- A form reads the operands that it prints
 use Rattle.std.proofs.Common.{◌≡◌, ℕ, zero, suc, ◌+◌, ◌<◌, Bool, true, false, ◌&&◌, List, [], ◌∷◌, ◌++◌, length, Result, Ok, refl, sym, ap, ◌∙◌, arith}
 use Rattle.std.proofs.lemmas.Bool.{and_parts}
-use Rattle.rv_model.specs.assembler.Tokens.{Token, runs_on, tokens}
+use Rattle.rv_model.specs.assembler.Tokens.{Token, tokens, begins_run}
 use Rattle.rv_model.specs.instructions.BitFields.{sum_of}
 use Rattle.rv_model.specs.declared.assembler.forms.Slot.{Slot}
 use Rattle.rv_model.specs.declared.assembler.forms.Slot.TheVariants.{Comma, Open, Close, V0, Scalar, Vector, Unsigned, Signed, Csr, VectorType, ShortVectorType, Mask, Word}
@@ -39,12 +39,12 @@ unfolding printed_operands
 no_slot_prints_nothing [] w h = refl
 no_slot_prints_nothing (s ∷ ss) w h = absurd cc
 
-mask_breaks : (v : ℕ) (more : List ℕ) → v < 2 → more ≡ [] → runs_on (printed Mask v ++ more) ≡ false
+mask_breaks : (v : ℕ) (more : List ℕ) → v < 2 → more ≡ [] → begins_run (printed Mask v ++ more) ≡ false
 mask_breaks zero more lt e = refl
-mask_breaks (suc zero) more lt e = ap runs_on e
+mask_breaks (suc zero) more lt e = ap begins_run e
 mask_breaks (suc (suc v)) more lt e = absurd (omega arith)
 
-run_ends : (ss : List Slot) (w : ℕ) → breaks ss ≡ true → is_form ss ≡ true → runs_on (printed_operands ss w) ≡ false
+run_ends : (ss : List Slot) (w : ℕ) → breaks ss ≡ true → is_form ss ≡ true → begins_run (printed_operands ss w) ≡ false
 unfolding printed_operands
 run_ends [] w h f = refl
 run_ends (Comma ∷ ss) w h f = refl
@@ -65,7 +65,7 @@ no_slot_form : (ss : List Slot) → no_slot ss ≡ true → is_form ss ≡ true
 no_slot_form [] h = refl
 no_slot_form (s ∷ ss) h = absurd cc
 
-run_follows : (ss : List Slot) (w : ℕ) → (breaks ss && is_form ss) ≡ true → (runs_on (printed_operands ss w) ≡ false) × (is_form ss ≡ true)
+run_follows : (ss : List Slot) (w : ℕ) → (breaks ss && is_form ss) ≡ true → (begins_run (printed_operands ss w) ≡ false) × (is_form ss ≡ true)
 run_follows ss w f = let k = and_parts (breaks ss) (is_form ss) f in (run_ends ss w k.0 k.1, k.1)
 
 follows_form : (s : Slot) (ss : List Slot) (w : ℕ) → is_form (s ∷ ss) ≡ true → Follows s (printed_operands ss w) × (is_form ss ≡ true)

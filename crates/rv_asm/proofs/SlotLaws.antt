@@ -5,13 +5,14 @@ use Rattle.std.specs.Fmt.{decimal}
 use Rattle.std.specs.Str.{bytes_eq}
 use Rattle.std.proofs.lemmas.Bool.{and_from, and_parts, le-leb, lt-ltb, le-ltb, eq-eqb, ne_eqb, cond-true, cond-false, cases_lt}
 use Rattle.std.proofs.lemmas.List.{length-append}
-use Rattle.rv_model.specs.assembler.Tokens.{Token, in_run, runs_on, tokens}
+use Rattle.rv_model.specs.assembler.Tokens.{Token, in_run, tokens, begins_run}
 use Rattle.rv_model.specs.assembler.Numbers.{literal, register, number, at_most, in_steps, negated, hex_digits, vlmul, vta, vma, csr, csr_text}
 use Rattle.rv_model.specs.declared.assembler.forms.SignedField.{SignedField}
 use Rattle.rv_model.specs.declared.assembler.forms.SignedField.TheVariants as signed
 use Rattle.rv_model.specs.declared.assembler.forms.Slot.{Slot}
 use Rattle.rv_model.specs.declared.assembler.forms.Slot.TheVariants.{Comma, Open, Close, V0, Scalar, Vector, Unsigned, Signed, Csr, VectorType, ShortVectorType, Mask, Word}
-use Rattle.rv_model.specs.assembler.Slots.{◌>>=◌, accept, one, limit, half, step, steps, signed_number, vtype_names, vtype_from, vtype, read, room, signed_text, vtype_named, vtype_text, printed}
+use Rattle.rv_model.specs.assembler.Slots.{◌>>=◌, accept, one, limit, half, signed_number, vtype_names, vtype_from, vtype, read, signed_text, vtype_named, vtype_text, printed, scale, scaled}
+use Rattle.rv_model.specs.lending.Slots.{value_count}
 use Rattle.rv_model.specs.declared.vector.types.Sew.{Sew}
 use Rattle.rv_model.specs.declared.vector.types.Lmul.{Lmul}
 use Rattle.rv_model.specs.instructions.BitFields.{flag_bit}
@@ -23,7 +24,7 @@ use Rattle.rv_asm.proofs.NumberLaws.{is_decimal, number_again, all_run_dec, regi
 use Rattle.rv_asm.proofs.NameLaws.{Means, csr_again, vsew_again, vlmul_again, vta_again, vma_again, sew_number_again, lmul_number_again, vsew_digits}
 
 -- a run of bytes is one token
-pub run_is_one_token : (p : ℕ) (ds more : List ℕ) → all_run ds ≡ true → 0 < length ds → runs_on more ≡ false → tokens p (ds ++ more) ≡ record { column = p; text = ds } ∷ tokens (p + length ds) more
+pub run_is_one_token : (p : ℕ) (ds more : List ℕ) → all_run ds ≡ true → 0 < length ds → begins_run more ≡ false → tokens p (ds ++ more) ≡ record { column = p; text = ds } ∷ tokens (p + length ds) more
 run_is_one_token p [] more h some m = absurd (omega arith)
 run_is_one_token p (c ∷ cs) more h some m = let k = and_parts (in_run c) (all_run cs) h in run_first p c cs more k.0 k.1 m
 
@@ -33,14 +34,14 @@ Follows Comma more = Unit {0}
 Follows Open more = Unit {0}
 Follows Close more = Unit {0}
 Follows Mask more = more ≡ []
-Follows s more = runs_on more ≡ false
+Follows s more = begins_run more ≡ false
 
 -- a reader takes this text for this value
 abbrev Takes : (List Token → Result (ℕ × List Token) ℕ) → List ℕ → ℕ → ℕ → List ℕ → Type 0
 Takes reader text v p more = reader (tokens p (text ++ more)) ≡ Ok (v, tokens (p + length text) more)
 
 -- one token, and what it means
-one_again : (p end v : ℕ) (f : List ℕ → Option ℕ) (ds more : List ℕ) → Means f ds v → runs_on more ≡ false → Takes (one end f) ds v p more
+one_again : (p end v : ℕ) (f : List ℕ → Option ℕ) (ds more : List ℕ) → Means f ds v → begins_run more ≡ false → Takes (one end f) ds v p more
 one_again p end v f ds more m follows = ap (one end f) (run_is_one_token p ds more m.run m.some follows) ∙ ap (accept p (tokens (p + length ds) more)) m.value
 
 at_most_again : (limit n : ℕ) → n ≤ limit → at_most limit (Some n) ≡ Some n
@@ -48,38 +49,38 @@ at_most_again limit n le = cond-true (leb n limit) (Some n) None (le-leb n limit
 
 -- ---- signed numbers
 
-steps_back : (s : SignedField) (v : ℕ) → in_steps (step s) (Some (step s * v)) ≡ Some v
+steps_back : (s : SignedField) (v : ℕ) → in_steps (scale s) (Some (scale s * v)) ≡ Some v
 steps_back signed.Vector v = let a : 1 * v % 1 ≡ 0 = omega arith in let b : 1 * v / 1 ≡ v = omega arith in cond-true (eqb (1 * v % 1) 0) (Some (1 * v / 1)) None (eq-eqb (1 * v % 1) 0 a) ∙ ap (λ (x : ℕ). Some x) b
 steps_back signed.Immediate v = let a : 1 * v % 1 ≡ 0 = omega arith in let b : 1 * v / 1 ≡ v = omega arith in cond-true (eqb (1 * v % 1) 0) (Some (1 * v / 1)) None (eq-eqb (1 * v % 1) 0 a) ∙ ap (λ (x : ℕ). Some x) b
 steps_back signed.Store v = let a : 1 * v % 1 ≡ 0 = omega arith in let b : 1 * v / 1 ≡ v = omega arith in cond-true (eqb (1 * v % 1) 0) (Some (1 * v / 1)) None (eq-eqb (1 * v % 1) 0 a) ∙ ap (λ (x : ℕ). Some x) b
 steps_back signed.Branch v = let a : 2 * v % 2 ≡ 0 = omega arith in let b : 2 * v / 2 ≡ v = omega arith in cond-true (eqb (2 * v % 2) 0) (Some (2 * v / 2)) None (eq-eqb (2 * v % 2) 0 a) ∙ ap (λ (x : ℕ). Some x) b
 steps_back signed.Jump v = let a : 2 * v % 2 ≡ 0 = omega arith in let b : 2 * v / 2 ≡ v = omega arith in cond-true (eqb (2 * v % 2) 0) (Some (2 * v / 2)) None (eq-eqb (2 * v % 2) 0 a) ∙ ap (λ (x : ℕ). Some x) b
 
-steps_below : (s : SignedField) (v : ℕ) → v < half s → step s * v ≤ step s * half s - 1
+steps_below : (s : SignedField) (v : ℕ) → v < half s → scale s * v ≤ scale s * half s - 1
 steps_below signed.Vector v lt = omega arith
 steps_below signed.Immediate v lt = omega arith
 steps_below signed.Store v lt = omega arith
 steps_below signed.Branch v lt = omega arith
 steps_below signed.Jump v lt = omega arith
 
-steps_up_to : (s : SignedField) (v : ℕ) → v ≤ half s → step s * v ≤ step s * half s
+steps_up_to : (s : SignedField) (v : ℕ) → v ≤ half s → scale s * v ≤ scale s * half s
 steps_up_to signed.Vector v le = omega arith
 steps_up_to signed.Immediate v le = omega arith
 steps_up_to signed.Store v le = omega arith
 steps_up_to signed.Branch v le = omega arith
 steps_up_to signed.Jump v le = omega arith
 
-steps_small : (s : SignedField) → step s * half s < 2 ^ 64
+steps_small : (s : SignedField) → scale s * half s < 2 ^ 64
 steps_small signed.Vector = lit< tt
 steps_small signed.Immediate = lit< tt
 steps_small signed.Store = lit< tt
 steps_small signed.Branch = lit< tt
 steps_small signed.Jump = lit< tt
 
-signed_again : (s : SignedField) (v p end : ℕ) (more : List ℕ) → v < 2 * half s → runs_on more ≡ false → Takes (signed_number end (step s) (half s)) (signed_text (step s) (half s) v) v p more
+signed_again : (s : SignedField) (v p end : ℕ) (more : List ℕ) → v < 2 * half s → begins_run more ≡ false → Takes (signed_number end (scale s) (half s)) (signed_text (scale s) (half s) v) v p more
 unfolding tokens
 signed_again s v p end more lt follows =
-    let size = step s in
+    let size = scale s in
     let count = half s in
     elim (cases_lt v count) [
       | inl small ↦
@@ -90,7 +91,7 @@ signed_again s v p end more lt follows =
           let ts = tokens (p + length (decimal n)) more in
           let reads : Takes (signed_number end size count) (decimal n) v p more =
           ap (signed_number end size count) (run_is_one_token p (decimal n) more (all_run_dec (decimal n) d.digits) d.some follows)
-          ∙ cond-false (bytes_eq (decimal n) (45 ∷ [])) (one end (λ t. negated count (steps size count t)) ts) (accept p ts (in_steps size (at_most (size * count - 1) (number (decimal n))))) (not_minus n (decimal n) d)
+          ∙ cond-false (bytes_eq (decimal n) (45 ∷ [])) (one end (λ t. negated count (scaled size count t)) ts) (accept p ts (in_steps size (at_most (size * count - 1) (number (decimal n))))) (not_minus n (decimal n) d)
           ∙ ap (accept p ts) value in
           subst (λ (t : List ℕ). Takes (signed_number end size count) t v p more) (sym text) reads
       | inr large ↦
@@ -100,14 +101,14 @@ signed_again s v p end more lt follows =
           let d = is_decimal n (omega (arith, steps_up_to s k le, steps_small s)) in
           let text : signed_text size count v ≡ 45 ∷ decimal n = cond-false (ltb v count) (decimal (size * v)) (45 ∷ decimal n) (le-ltb v count large) in
           let back : 2 * count - k ≡ v = omega arith in
-          let value : negated count (steps size count (decimal n)) ≡ Some v =
+          let value : negated count (scaled size count (decimal n)) ≡ Some v =
           ap (λ o. negated count (in_steps size (at_most (size * count) o))) (number_again n (decimal n) d)
           ∙ ap (λ o. negated count (in_steps size o)) (at_most_again (size * count) n (steps_up_to s k le))
           ∙ ap (negated count) (steps_back s k)
           ∙ ap (λ (x : ℕ). Some x) (cond-false (eqb k 0) 0 (2 * count - k) (ne_eqb k 0 (λ e. omega arith)) ∙ back) in
           let at : (p + 1) + length (decimal n) ≡ p + length (45 ∷ decimal n) = omega arith in
           let reads : Takes (signed_number end size count) (45 ∷ decimal n) v p more =
-          one_again (p + 1) end v (λ t. negated count (steps size count t)) (decimal n) more (record { run = all_run_dec (decimal n) d.digits; some = d.some; value = value }) follows
+          one_again (p + 1) end v (λ t. negated count (scaled size count t)) (decimal n) more (record { run = all_run_dec (decimal n) d.digits; some = d.some; value = value }) follows
           ∙ ap (λ (q : ℕ). Ok (v, tokens q more)) at in
           subst (λ (t : List ℕ). Takes (signed_number end size count) t v p more) (sym text) reads
     ]
@@ -133,7 +134,7 @@ with_multiplier end width ts = one end vlmul ts >>= λ x. (comma end x.1 >>= λ 
 bind_ok : (r : Result (ℕ × List Token) ℕ) (x : ℕ × List Token) (f : ℕ × List Token → Result (ℕ × List Token) ℕ) → r ≡ Ok x → (r >>= f) ≡ f x
 bind_ok r x f h = ap (λ (q : Result (ℕ × List Token) ℕ). q >>= f) h
 
-names_again : (end width : ℕ) (lmul : Lmul) (tail inactive : Bool) (p : ℕ) (more : List ℕ) → runs_on more ≡ false
+names_again : (end width : ℕ) (lmul : Lmul) (tail inactive : Bool) (p : ℕ) (more : List ℕ) → begins_run more ≡ false
     → vtype_names end width (tokens p (44 ∷ 32 ∷ (lmul_name lmul ++ (44 ∷ 32 ∷ (tail_name tail ++ (44 ∷ 32 ∷ (mask_name inactive ++ more)))))))
     ≡ Ok (lmul_number lmul + width * 8 + flag_bit tail * 64 + flag_bit inactive * 128, tokens (p + 2 + length (lmul_name lmul) + 2 + length (tail_name tail) + 2 + length (mask_name inactive)) more)
 unfolding vtype_names
@@ -165,7 +166,7 @@ names_text_length w l t i = simp length-append refl
 abbrev names_text : Sew → Lmul → Bool → Bool → List ℕ
 names_text sew lmul tail inactive = sew_name sew ++ codes ", " ++ lmul_name lmul ++ codes ", " ++ tail_name tail ++ codes ", " ++ mask_name inactive
 
-named_parts : (end count : ℕ) (sew : Sew) (lmul : Lmul) (tail inactive : Bool) (p : ℕ) (more : List ℕ) → runs_on more ≡ false
+named_parts : (end count : ℕ) (sew : Sew) (lmul : Lmul) (tail inactive : Bool) (p : ℕ) (more : List ℕ) → begins_run more ≡ false
     → Takes (vtype end count) (names_text sew lmul tail inactive) (lmul_number lmul + sew_number sew * 8 + flag_bit tail * 64 + flag_bit inactive * 128) p more
 named_parts end count sew lmul tail inactive p more follows =
     let others = 44 ∷ 32 ∷ (lmul_name lmul ++ (44 ∷ 32 ∷ (tail_name tail ++ (44 ∷ 32 ∷ (mask_name inactive ++ more))))) in
@@ -188,7 +189,7 @@ bit_again (suc (suc n)) lt = absurd (omega arith)
 parts_sum : (v sew lmul tail inactive : ℕ) → v < 256 → v / 8 % 8 ≡ sew → v % 8 ≡ lmul → v / 64 % 2 ≡ tail → v / 128 % 2 ≡ inactive → lmul + sew * 8 + tail * 64 + inactive * 128 ≡ v
 parts_sum v sew lmul tail inactive small a b c d = omega arith
 
-named_vtype : (end count v p : ℕ) (sew : Sew) (lmul : Lmul) (more : List ℕ) → v < 256 → sew_with_number (v / 8 % 8) ≡ Some sew → lmul_with_number (v % 8) ≡ Some lmul → runs_on more ≡ false
+named_vtype : (end count v p : ℕ) (sew : Sew) (lmul : Lmul) (more : List ℕ) → v < 256 → sew_with_number (v / 8 % 8) ≡ Some sew → lmul_with_number (v % 8) ≡ Some lmul → begins_run more ≡ false
     → Takes (vtype end count) (names_text sew lmul (eqb (v / 64 % 2) 1) (eqb (v / 128 % 2) 1)) v p more
 named_vtype end count v p sew lmul more small wide grouped follows =
     let tail = eqb (v / 64 % 2) 1 in
@@ -197,7 +198,7 @@ named_vtype end count v p sew lmul more small wide grouped follows =
     parts_sum v (sew_number sew) (lmul_number lmul) (flag_bit tail) (flag_bit inactive) small (sew_number_again (v / 8 % 8) sew wide) (lmul_number_again (v % 8) lmul grouped) (bit_again (v / 64 % 2) (omega arith)) (bit_again (v / 128 % 2) (omega arith)) in
     subst (λ (x : ℕ). Takes (vtype end count) (names_text sew lmul tail inactive) x p more) is (named_parts end count sew lmul tail inactive p more follows)
 
-plain_vtype : (end count v p : ℕ) (more : List ℕ) → v < count → count ≤ 2 ^ 32 → runs_on more ≡ false → Takes (vtype end count) (decimal v) v p more
+plain_vtype : (end count v p : ℕ) (more : List ℕ) → v < count → count ≤ 2 ^ 32 → begins_run more ≡ false → Takes (vtype end count) (decimal v) v p more
 plain_vtype end count v p more lt small follows =
     let d = is_decimal v (omega arith) in
     let ts = tokens (p + length (decimal v)) more in
@@ -207,13 +208,13 @@ plain_vtype end count v p more lt small follows =
     ∙ ap (accept p ts) (at_most_again (count - 1) v (omega arith))
 
 -- by names where the parts have them
-either_vtype : (end count v p : ℕ) (sew : Option Sew) (lmul : Option Lmul) (more : List ℕ) → v < 256 → sew_with_number (v / 8 % 8) ≡ sew → lmul_with_number (v % 8) ≡ lmul → v < count → count ≤ 2 ^ 32 → runs_on more ≡ false
+either_vtype : (end count v p : ℕ) (sew : Option Sew) (lmul : Option Lmul) (more : List ℕ) → v < 256 → sew_with_number (v / 8 % 8) ≡ sew → lmul_with_number (v % 8) ≡ lmul → v < count → count ≤ 2 ^ 32 → begins_run more ≡ false
     → Takes (vtype end count) (vtype_named sew lmul v) v p more
 either_vtype end count v p None lmul more small wide grouped lt le follows = plain_vtype end count v p more lt le follows
 either_vtype end count v p (Some sew) None more small wide grouped lt le follows = plain_vtype end count v p more lt le follows
 either_vtype end count v p (Some sew) (Some lmul) more small wide grouped lt le follows = named_vtype end count v p sew lmul more small wide grouped follows
 
-vtype_again : (end count v p : ℕ) (more : List ℕ) → v < count → count ≤ 2 ^ 32 → runs_on more ≡ false → Takes (vtype end count) (vtype_text v) v p more
+vtype_again : (end count v p : ℕ) (more : List ℕ) → v < count → count ≤ 2 ^ 32 → begins_run more ≡ false → Takes (vtype end count) (vtype_text v) v p more
 vtype_again end count v p more lt small follows =
     let names = vtype_named (sew_with_number (v / 8 % 8)) (lmul_with_number (v % 8)) v in
     elim (cases_lt v 256) [
@@ -251,7 +252,7 @@ below_one_is_zero : (v : ℕ) → v < 1 → 0 ≡ v
 below_one_is_zero v lt = omega arith
 
 -- what is printed for an operand is read as that operand
-pub slot_again : (s : Slot) (v p end : ℕ) (more : List ℕ) → v < room s → Follows s more → Takes (read end s) (printed s v) v p more
+pub slot_again : (s : Slot) (v p end : ℕ) (more : List ℕ) → v < value_count s → Follows s more → Takes (read end s) (printed s v) v p more
 unfolding tokens
 slot_again Comma v p end more fits follows = comma_again p end more ∙ ap (λ (x : ℕ). Ok (x, tokens (p + 2) more)) (below_one_is_zero v fits)
 slot_again Open v p end more fits follows = ap (λ (x : ℕ). Ok (x, tokens (p + 1) more)) (below_one_is_zero v fits)

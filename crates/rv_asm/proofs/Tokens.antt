@@ -2,7 +2,7 @@
 use Rattle.std.proofs.Common.{◌≡◌, ◌≢◌, ℕ, zero, suc, ◌+◌, ◌-◌, ◌<◌, ◌≤◌, Bool, true, false, cond, eqb, ◌&&◌, List, [], ◌∷◌, ◌++◌, length, get_or, take, drop, refl, sym, ap, subst, ◌∙◌, arith, inl, inr}
 use Rattle.std.proofs.lemmas.Bool.{and_from, and_parts, ne_eqb, false≢true, and_right, and_left, cases_lt}
 use Rattle.std.proofs.lemmas.List.{drop_more, at_drop_more, at_drop_all, take-append-drop, drop-drop, length-take, length-drop}
-use Rattle.rv_model.specs.assembler.Tokens.{in_run, runs_on, joined, tokens}
+use Rattle.rv_model.specs.assembler.Tokens.{in_run, tokens, begins_run, with_first_byte}
 use Rattle.rv_asm.specs.Places.{rest}
 
 pub space_skipped : (text : List ℕ) (at : ℕ) → at < length text → get_or text at 0 ≡ 32 → rest text at ≡ rest text (at + 1)
@@ -30,20 +30,20 @@ pick_last true r m x y z hs hr = absurd cc
 pick_last false r m x y z hs hr = rw hr refl
 
 -- a byte that stands single_byte_is_token
-pub single_byte_is_token : (p c : ℕ) (more : List ℕ) → eqb c 32 ≡ false → (in_run c && runs_on more) ≡ false → tokens p (c ∷ more) ≡ record { column = p; text = c ∷ [] } ∷ tokens (p + 1) more
+pub single_byte_is_token : (p c : ℕ) (more : List ℕ) → eqb c 32 ≡ false → (in_run c && begins_run more) ≡ false → tokens p (c ∷ more) ≡ record { column = p; text = c ∷ [] } ∷ tokens (p + 1) more
 unfolding tokens
-single_byte_is_token p c more hs hr = pick_last (eqb c 32) (in_run c) (runs_on more) (tokens (p + 1) more) (joined p c (tokens (p + 1) more)) (record { column = p; text = c ∷ [] } ∷ tokens (p + 1) more) hs hr
+single_byte_is_token p c more hs hr = pick_last (eqb c 32) (in_run c) (begins_run more) (tokens (p + 1) more) (with_first_byte p c (tokens (p + 1) more)) (record { column = p; text = c ∷ [] } ∷ tokens (p + 1) more) hs hr
 
-pub run_first : (p c : ℕ) (run more : List ℕ) → in_run c ≡ true → all_run run ≡ true → runs_on more ≡ false → tokens p ((c ∷ run) ++ more) ≡ record { column = p; text = c ∷ run } ∷ tokens (p + length (c ∷ run)) more
+pub run_first : (p c : ℕ) (run more : List ℕ) → in_run c ≡ true → all_run run ≡ true → begins_run more ≡ false → tokens p ((c ∷ run) ++ more) ≡ record { column = p; text = c ∷ run } ∷ tokens (p + length (c ∷ run)) more
 unfolding tokens
-run_first p c [] more hc hr hm = single_byte_is_token p c more (space_not_run c hc) (and_right (in_run c) (runs_on more) hm)
+run_first p c [] more hc hr hm = single_byte_is_token p c more (space_not_run c hc) (and_right (in_run c) (begins_run more) hm)
 run_first p c (d ∷ run) more hc hr hm =
     let parts = and_parts (in_run d) (all_run run) hr in
     let ts = tokens (p + 1) ((d ∷ run) ++ more) in
     let ind : ts ≡ record { column = p + 1; text = d ∷ run } ∷ tokens (p + 1 + length (d ∷ run)) more = run_first (p + 1) d run more parts.0 parts.1 hm in
-    let here : tokens p ((c ∷ d ∷ run) ++ more) ≡ joined p c ts = pick_middle (eqb c 32) (in_run c) (in_run d) ts (joined p c ts) (record { column = p; text = c ∷ [] } ∷ ts) (space_not_run c hc) hc parts.0 in
+    let here : tokens p ((c ∷ d ∷ run) ++ more) ≡ with_first_byte p c ts = pick_middle (eqb c 32) (in_run c) (in_run d) ts (with_first_byte p c ts) (record { column = p; text = c ∷ [] } ∷ ts) (space_not_run c hc) hc parts.0 in
     let count : p + 1 + length (d ∷ run) ≡ p + length (c ∷ d ∷ run) = omega arith in
-    here ∙ ap (joined p c) ind ∙ ap (λ (n : ℕ). record { column = p; text = c ∷ d ∷ run } ∷ tokens n more) count
+    here ∙ ap (with_first_byte p c) ind ∙ ap (λ (n : ℕ). record { column = p; text = c ∷ d ∷ run } ∷ tokens n more) count
 
 -- ---- at an index of a text
 
@@ -55,11 +55,11 @@ all_run_from text (suc n) i h f =
     let others : all_run (take n (drop (i + 1) text)) ≡ true = all_run_from text n (i + 1) (omega arith) (λ k a b. f k (omega arith) (omega arith)) in
     at_drop_more (λ (cs : List ℕ). all_run (take (suc n) cs)) text i 0 lt ∙ and_from (in_run (get_or text i 0)) (all_run (take n (drop (i + 1) text))) first others
 
-runs_on_at : (text : List ℕ) (i : ℕ) → (i < length text → in_run (get_or text i 0) ≡ false) → runs_on (drop i text) ≡ false
+runs_on_at : (text : List ℕ) (i : ℕ) → (i < length text → in_run (get_or text i 0) ≡ false) → begins_run (drop i text) ≡ false
 runs_on_at text i h =
     elim (cases_lt i (length text)) [
-      | inl lt ↦ at_drop_more runs_on text i 0 lt ∙ h lt
-      | inr le ↦ at_drop_all runs_on text i le
+      | inl lt ↦ at_drop_more begins_run text i 0 lt ∙ h lt
+      | inr le ↦ at_drop_all begins_run text i le
     ]
 
 pub takes_run : (text : List ℕ) (at e : ℕ) → at < e → e ≤ length text → in_run (get_or text at 0) ≡ true → ((k : ℕ) → at < k → k < e → in_run (get_or text k 0) ≡ true) → (e < length text → in_run (get_or text e 0) ≡ false) → rest text at ≡ record { column = at + 1; text = take (e - at) (drop at text) } ∷ rest text e
@@ -81,7 +81,7 @@ takes_single text at lt ns nr =
     let whole : drop at text ≡ c ∷ drop (at + 1) text = drop_more text at 0 lt in
     let k : (at + 1) - at ≡ 1 = omega arith in
     let piece : c ∷ [] ≡ take ((at + 1) - at) (drop at text) = sym (ap (λ (m : ℕ). take m (drop at text)) k ∙ ap (λ (cs : List ℕ). take 1 cs) whole) in
-    ap (tokens (at + 1)) whole ∙ single_byte_is_token (at + 1) c (drop (at + 1) text) (ne_eqb c 32 ns) (and_left (in_run c) (runs_on (drop (at + 1) text)) nr) ∙ ap (λ (t : List ℕ). record { column = at + 1; text = t } ∷ rest text (at + 1)) piece
+    ap (tokens (at + 1)) whole ∙ single_byte_is_token (at + 1) c (drop (at + 1) text) (ne_eqb c 32 ns) (and_left (in_run c) (begins_run (drop (at + 1) text)) nr) ∙ ap (λ (t : List ℕ). record { column = at + 1; text = t } ∷ rest text (at + 1)) piece
 
 pub takes_none : (text : List ℕ) (at : ℕ) → length text ≤ at → rest text at ≡ []
 unfolding tokens

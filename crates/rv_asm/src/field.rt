@@ -1,6 +1,6 @@
 //! Where a slot's operand stands in the word.
 ghost use Rattle.std.specs.Prelude.{◌≡◌, ◌≤◌, ◌<◌, ◌^◌, ◌+◌, ◌*◌, ◌%◌};
-ghost use Rattle.rv_model.specs.assembler.Slots.{room};
+ghost use Rattle.rv_model.specs.lending.Slots.{value_count};
 ghost use Rattle.rv_model.specs.assembler.Fields.{lowest, placed, value_of};
 ghost use Rattle.rv_model.specs.instructions.Immediates.{store_immediate, branch_offset, jump_offset};
 ghost use Rattle.rv_asm.specs.Spans.{span};
@@ -119,7 +119,7 @@ pub(crate) fn placed(slot: &Slot, value: u32) -> u32
 /// The unsigned number that a word holds.
 fn unsigned_value(unsigned: UnsignedField, word: u32) -> u32
     ensures value { result ≡ value_of (Slot.Unsigned unsigned) word }
-    ensures small { result < room (Slot.Unsigned unsigned) }
+    ensures small { result < value_count (Slot.Unsigned unsigned) }
 {
     match unsigned {
         UnsignedField::Immediate => bits(word, 15, 5),
@@ -159,7 +159,7 @@ fn jump_offset(word: u32) -> u32
 /// The two's complement bits of the signed number that a word holds.
 fn signed_value(signed: SignedField, word: u32) -> u32
     ensures value { result ≡ value_of (Slot.Signed signed) word }
-    ensures small { result < room (Slot.Signed signed) }
+    ensures small { result < value_count (Slot.Signed signed) }
 {
     match signed {
         SignedField::Vector => bits(word, 15, 5),
@@ -173,7 +173,7 @@ fn signed_value(signed: SignedField, word: u32) -> u32
 /// The operand that a word has in a slot.
 pub(crate) fn value_of(slot: &Slot, word: u32) -> u32
     ensures value { result ≡ value_of slot.now word }
-    ensures small { result < room slot.now }
+    ensures small { result < value_count slot.now }
 {
     match slot {
         Slot::Comma | Slot::Open | Slot::Close | Slot::V0 => 0,

@@ -1,6 +1,6 @@
 //! What one token means: a number, a register.
 ghost use Rattle.std.specs.Prelude.{◌≡◌, ◌≤◌, ◌^◌};
-ghost use Rattle.rv_model.specs.text.Digits.{capped};
+ghost use Rattle.rv_model.specs.lending.Text.{capped};
 ghost use Rattle.rv_model.specs.assembler.Numbers.{register, digits_in, number, at_most};
 
 use rv_model::text::digits;

@@ -2,7 +2,8 @@
 ghost use Rattle.std.specs.Prelude.{◌≡◌, ◌≤◌, ◌<◌, ◌^◌, ◌+◌, ◌-◌, ◌*◌, ◌++◌, ℕ, Some, decimal, slice_index};
 ghost use Rattle.arrayvec.specs.ArrayString.{array_string_len};
 ghost use Rattle.rv_model.specs.assembler.Numbers.{hex_digit, hex_digits, csr_text};
-ghost use Rattle.rv_model.specs.assembler.Slots.{vtype_named, vtype_text, signed_text, printed, room};
+ghost use Rattle.rv_model.specs.assembler.Slots.{vtype_named, vtype_text, signed_text, printed};
+ghost use Rattle.rv_model.specs.lending.Slots.{value_count};
 ghost use Rattle.rv_model.specs.assembler.Table.{unpadded};
 
 use crate::read::{half, step};
@@ -116,7 +117,7 @@ fn put_vtype(vtype: u32, out: &mut Text)
 /// Appends the text of an operand.
 pub(crate) fn put_slot(slot: &Slot, value: u32, out: &mut Text)
     requires room { array_string_len out.old + 16 ≤ 160 }
-    requires fits { value < room slot.now }
+    requires fits { value < value_count slot.now }
     ensures bytes { out.new.bytes ≡ out.old.bytes ++ printed slot.now value }
     ensures grows { array_string_len out.new ≤ array_string_len out.old + 16 }
 {

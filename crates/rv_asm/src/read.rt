@@ -1,7 +1,7 @@
 //! What each slot takes from the tokens.
 ghost use Rattle.std.specs.Prelude.{◌≡◌, ◌≤◌, ◌<◌, ◌^◌, ◌+◌, ◌*◌, length};
 ghost use Rattle.rv_model.specs.assembler.Numbers.{literal, register, number, at_most, in_steps, negated, csr};
-ghost use Rattle.rv_model.specs.assembler.Slots.{one, limit, half, step, steps, signed_number, mask, read};
+ghost use Rattle.rv_model.specs.assembler.Slots.{one, limit, half, signed_number, read, scale, scaled, read_mask};
 ghost use Rattle.rv_asm.specs.Places.{rest, Reads};
 
 use crate::fault::AsmFault;
@@ -80,7 +80,7 @@ fn in_steps(step: u32, limit: u32, text: &[u8]) -> Option<u32>
 fn negative(step: u32, half: u32, text: &[u8]) -> Option<u32>
     requires step { 1 ≤ step × step ≤ 2 }
     requires half { half < 2 ^ 30 }
-    ensures { result ≡ negated half (steps step half text.now) }
+    ensures { result ≡ negated half (scaled step half text.now) }
 {
     let magnitude = in_steps(step, step * half, text)?;
     if magnitude == 0 {
@@ -117,7 +117,7 @@ fn signed_at(step: u32, half: u32, text: &[u8], at: usize) -> Result<(u32, usize
 #[tactic(auto, using(crate::proofs::Tokens::takes_none))]
 fn mask_at(text: &[u8], at: usize) -> Result<(u32, usize), AsmFault>
     requires { at ≤ length text.now }
-    ensures { Reads text.now result (mask (length text.now + 1) (rest text.now at)) }
+    ensures { Reads text.now result (read_mask (length text.now + 1) (rest text.now at)) }
 {
     let Some((token, after)) = next_token(text, at) else {
         return Ok((1, text.len()));
@@ -153,7 +153,7 @@ pub(crate) fn half(field: SignedField) -> u32
 
 /// The number that one stands for in a signed field.
 pub(crate) fn step(field: SignedField) -> u32
-    ensures value { result ≡ step field }
+    ensures value { result ≡ scale field }
     ensures range { 1 ≤ result × result ≤ 2 }
 {
     match field {

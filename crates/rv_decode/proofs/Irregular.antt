@@ -6,7 +6,8 @@ use Rattle.std.specs.Option.{option_or}
 use Rattle.rv_model.specs.declared.instructions.operations.Major.TheVariants.{Opi, Opm}
 use Rattle.rv_model.specs.declared.instructions.operations.Form.TheVariants as form
 use Rattle.rv_model.specs.declared.instructions.instruction.Instr.{Instr}
-use Rattle.rv_model.specs.declared.instructions.instruction.Instr.TheVariants.{VectorArith}
+use Rattle.rv_model.specs.declared.instructions.instruction.Instr.TheVariants as instr
+use Rattle.rv_model.specs.declared.instructions.vector.VectorInstr.TheVariants.{Arith}
 use Rattle.rv_model.specs.instructions.Table.{Row, rows, table, scan, Ariths, Carries, Moves, WholeMoves, MaskLogics, Compresses, MasksToScalar, Extends, MaskUnaries, ElementIndices, MovesToScalar, MovesToVector, SetVlis, SetIvlis, SetVls, Units, Strideds, Indexeds, WholeLoads, WholeStores, MaskMemories}
 use Rattle.rv_model.proofs.instruction_lemmas.Scans.{scan_append, same_narrow, no_scan, DiffersFrom}
 use Rattle.rv_decode.specs.declared.arith_operation.ArithOperation.{ArithOperation}
@@ -24,7 +25,7 @@ rest_found all rest xs ys word whole part e = whole ∙ scan_append xs ys word �
 
 -- the instruction of an operation
 abbrev instr_of : ArithOperation → Instr
-instr_of o = VectorArith o.arith o.vd o.vs2 o.unmasked
+instr_of o = instr.Vector (Arith o.arith o.vd o.vs2 o.unmasked)
 
 operation_found : (found : Option ArithOperation) (all : Option Instr) (xs ys : List Row) (word : ℕ) → all ≡ scan (xs ++ ys) word
     → IfSome found (λ o. scan xs word ≡ Some (instr_of o)) → IfSome found (λ o. all ≡ Some (instr_of o))
@@ -75,8 +76,8 @@ no_irregular word h = no_scan 0x707f places word irregular refl h
 -- ---- regular operations
 
 pub some_0057 : (word : ℕ) (found : Option ArithOperation) → bit_and word 0x707f ≡ 0x0057
-    → IfSome found (λ o. scan (rows (Ariths Opi form.V)) word ≡ Some (VectorArith o.arith o.vd o.vs2 o.unmasked))
-    → IfSome found (λ o. scan table word ≡ Some (VectorArith o.arith o.vd o.vs2 o.unmasked))
+    → IfSome found (λ o. scan (rows (Ariths Opi form.V)) word ≡ Some (instr.Vector (Arith o.arith o.vd o.vs2 o.unmasked)))
+    → IfSome found (λ o. scan table word ≡ Some (instr.Vector (Arith o.arith o.vd o.vs2 o.unmasked)))
 unfolding rows
 some_0057 word found is e = operation_found found (scan table word) (rows (Ariths Opi form.V)) (rows (Carries form.V) ++ rows (Moves form.V)) word (at_0057 word is) e
 
@@ -86,8 +87,8 @@ unfolding rows
 none_0057 word found is e = operation_missed found (scan table word) (scan irregular word) (rows (Ariths Opi form.V)) (rows (Carries form.V) ++ rows (Moves form.V)) word (at_0057 word is) (irregular_0057 word is) e
 
 pub some_4057 : (word : ℕ) (found : Option ArithOperation) → bit_and word 0x707f ≡ 0x4057
-    → IfSome found (λ o. scan (rows (Ariths Opi form.X)) word ≡ Some (VectorArith o.arith o.vd o.vs2 o.unmasked))
-    → IfSome found (λ o. scan table word ≡ Some (VectorArith o.arith o.vd o.vs2 o.unmasked))
+    → IfSome found (λ o. scan (rows (Ariths Opi form.X)) word ≡ Some (instr.Vector (Arith o.arith o.vd o.vs2 o.unmasked)))
+    → IfSome found (λ o. scan table word ≡ Some (instr.Vector (Arith o.arith o.vd o.vs2 o.unmasked)))
 unfolding rows
 some_4057 word found is e = operation_found found (scan table word) (rows (Ariths Opi form.X)) (rows (Carries form.X) ++ rows (Moves form.X)) word (at_4057 word is) e
 
@@ -97,8 +98,8 @@ unfolding rows
 none_4057 word found is e = operation_missed found (scan table word) (scan irregular word) (rows (Ariths Opi form.X)) (rows (Carries form.X) ++ rows (Moves form.X)) word (at_4057 word is) (irregular_4057 word is) e
 
 pub some_3057 : (word : ℕ) (found : Option ArithOperation) → bit_and word 0x707f ≡ 0x3057
-    → IfSome found (λ o. scan (rows (Ariths Opi form.I)) word ≡ Some (VectorArith o.arith o.vd o.vs2 o.unmasked))
-    → IfSome found (λ o. scan table word ≡ Some (VectorArith o.arith o.vd o.vs2 o.unmasked))
+    → IfSome found (λ o. scan (rows (Ariths Opi form.I)) word ≡ Some (instr.Vector (Arith o.arith o.vd o.vs2 o.unmasked)))
+    → IfSome found (λ o. scan table word ≡ Some (instr.Vector (Arith o.arith o.vd o.vs2 o.unmasked)))
 unfolding rows
 some_3057 word found is e = operation_found found (scan table word) (rows (Ariths Opi form.I)) (rows (Carries form.I) ++ rows (Moves form.I) ++ rows WholeMoves) word (at_3057 word is) e
 
@@ -108,8 +109,8 @@ unfolding rows
 none_3057 word found is e = operation_missed found (scan table word) (scan irregular word) (rows (Ariths Opi form.I)) (rows (Carries form.I) ++ rows (Moves form.I) ++ rows WholeMoves) word (at_3057 word is) (irregular_3057 word is) e
 
 pub some_2057 : (word : ℕ) (found : Option ArithOperation) → bit_and word 0x707f ≡ 0x2057
-    → IfSome found (λ o. scan (rows (Ariths Opm form.V)) word ≡ Some (VectorArith o.arith o.vd o.vs2 o.unmasked))
-    → IfSome found (λ o. scan table word ≡ Some (VectorArith o.arith o.vd o.vs2 o.unmasked))
+    → IfSome found (λ o. scan (rows (Ariths Opm form.V)) word ≡ Some (instr.Vector (Arith o.arith o.vd o.vs2 o.unmasked)))
+    → IfSome found (λ o. scan table word ≡ Some (instr.Vector (Arith o.arith o.vd o.vs2 o.unmasked)))
 unfolding rows
 some_2057 word found is e = operation_found found (scan table word) (rows (Ariths Opm form.V)) (rows MaskLogics ++ rows Compresses ++ rows MasksToScalar ++ rows Extends ++ rows MaskUnaries ++ rows ElementIndices ++ rows MovesToScalar) word (at_2057 word is) e
 
@@ -119,8 +120,8 @@ unfolding rows
 none_2057 word found is e = operation_missed found (scan table word) (scan irregular word) (rows (Ariths Opm form.V)) (rows MaskLogics ++ rows Compresses ++ rows MasksToScalar ++ rows Extends ++ rows MaskUnaries ++ rows ElementIndices ++ rows MovesToScalar) word (at_2057 word is) (irregular_2057 word is) e
 
 pub some_6057 : (word : ℕ) (found : Option ArithOperation) → bit_and word 0x707f ≡ 0x6057
-    → IfSome found (λ o. scan (rows (Ariths Opm form.X)) word ≡ Some (VectorArith o.arith o.vd o.vs2 o.unmasked))
-    → IfSome found (λ o. scan table word ≡ Some (VectorArith o.arith o.vd o.vs2 o.unmasked))
+    → IfSome found (λ o. scan (rows (Ariths Opm form.X)) word ≡ Some (instr.Vector (Arith o.arith o.vd o.vs2 o.unmasked)))
+    → IfSome found (λ o. scan table word ≡ Some (instr.Vector (Arith o.arith o.vd o.vs2 o.unmasked)))
 unfolding rows
 some_6057 word found is e = operation_found found (scan table word) (rows (Ariths Opm form.X)) (rows MovesToVector) word (at_6057 word is) e
 

@@ -11,13 +11,19 @@ use Rattle.rv_model.specs.declared.instructions.operations.Line.{Line}
 use Rattle.rv_model.specs.declared.instructions.operations.Form.{Form}
 use Rattle.rv_model.specs.declared.instructions.operations.Form.TheVariants as form
 use Rattle.rv_model.specs.declared.instructions.instruction.Instr.{Instr}
-use Rattle.rv_model.specs.declared.instructions.instruction.Instr.TheVariants.{Upper, Branch, Load, Store, RegisterImmediate, ShiftImmediate, ShiftImmediateWord, RegisterRegister, System, Csr, CsrImmediate, VectorArith, VectorCarry, WholeMove, MaskLogic, MaskToScalar, VectorExtend, MaskUnary, VectorUnit, VectorStrided, VectorIndexed, WholeLoad, WholeStore, MaskMemory}
+use Rattle.rv_model.specs.declared.instructions.instruction.Instr.TheVariants as instr
+use Rattle.rv_model.specs.declared.instructions.scalar.ScalarInstr.TheVariants.{Upper, Branch, Load, Store, RegisterImmediate, ShiftImmediate, ShiftImmediateWord, RegisterRegister, System}
+use Rattle.rv_model.specs.declared.instructions.csr.CsrInstr.TheVariants.{Register, Immediate}
+use Rattle.rv_model.specs.declared.instructions.vector.VectorInstr.TheVariants.{Arith, Carry, WholeMove, MaskLogic, MaskToScalar, Extend, MaskUnary}
+use Rattle.rv_model.specs.declared.instructions.access.AccessInstr.TheVariants.{UnitStride, Strided, Indexed, WholeLoad, WholeStore, MaskAccess}
 use Rattle.rv_model.specs.instructions.BitFields.{part, fixed}
 use Rattle.rv_model.specs.instructions.Sources.{source_of}
-use Rattle.rv_model.specs.instructions.FixedBits.{upper_bits, branch_bits, load_bits, store_bits, immediate_op_bits, shift_immediate_bits, shift_immediate_word_bits, register_op_bits, system_bits, csr_bits, csr_immediate_bits, whole_move_bits, mask_logic_bits, mask_to_scalar_bits, extend_bits, mask_unary_bits, mask_memory_bits, upper_ops, branch_ops, load_ops, store_ops, immediate_ops, shift_immediate_ops, shift_immediate_word_ops, register_ops, system_ops, csr_ops, csr_immediate_ops, mask_logic_ops, mask_to_scalar_ops, extend_ops, mask_unary_ops, directions, counts}
+use Rattle.rv_model.specs.instructions.FixedBits.{whole_move_bits, mask_memory_bits, upper_ops, branch_ops, load_ops, store_ops, immediate_ops, shift_immediate_ops, shift_immediate_word_ops, register_ops, system_ops, csr_ops, csr_immediate_ops, mask_logic_ops, mask_to_scalar_ops, extend_ops, mask_unary_ops, directions, counts}
+use Rattle.rv_model.specs.lending.ListedBits.{upper_bits, branch_bits, load_bits, store_bits, immediate_op_bits, shift_immediate_bits, shift_immediate_word_bits, register_op_bits, system_bits, csr_bits, csr_immediate_bits, mask_logic_bits, mask_to_scalar_bits, extend_bits, mask_unary_bits}
 use Rattle.rv_model.specs.instructions.Operations.{has_form, line, carry_line, line_bits, major_bits, same_major, those, vector_ops, carry_ops}
 use Rattle.rv_model.specs.instructions.Layout.{parts, bits, filled, unit_access_bits, strided_access_bits, indexed_access_bits, whole_load_bits, whole_store_bits}
-use Rattle.rv_model.specs.instructions.Table.{row_of, rows, table, scan, find, find_at, unit_accesses, strided_accesses, indexed_accesses, whole_loads, Uppers, Jumps, JumpRegisters, Branches, Loads, Stores, RegisterImmediates, ShiftImmediates, ShiftImmediateWords, RegisterRegisters, Fences, Systems, Csrs, CsrImmediates, SetVlis, SetIvlis, SetVls, Ariths, Carries, Moves, WholeMoves, MaskLogics, Compresses, MasksToScalar, Extends, MaskUnaries, ElementIndices, MovesToScalar, MovesToVector, Units, Strideds, Indexeds, WholeLoads, WholeStores, MaskMemories}
+use Rattle.rv_model.specs.instructions.Table.{row_of, rows, table, scan, unit_accesses, strided_accesses, indexed_accesses, whole_loads, Uppers, Jumps, JumpRegisters, Branches, Loads, Stores, RegisterImmediates, ShiftImmediates, ShiftImmediateWords, RegisterRegisters, Fences, Systems, Csrs, CsrImmediates, SetVlis, SetIvlis, SetVls, Ariths, Carries, Moves, WholeMoves, MaskLogics, Compresses, MasksToScalar, Extends, MaskUnaries, ElementIndices, MovesToScalar, MovesToVector, Units, Strideds, Indexeds, WholeLoads, WholeStores, MaskMemories}
+use Rattle.rv_model.specs.lending.Search.{find, find_at}
 use Rattle.rv_model.proofs.instruction_lemmas.Words.{form_source_of}
 use Rattle.rv_model.proofs.instruction_lemmas.Parts.{masked}
 use Rattle.rv_model.proofs.instruction_lemmas.Scans.{narrowed, scan_narrow, same_narrow, no_scan, DiffersFrom}
@@ -88,147 +94,147 @@ key_of word c small is =
     sym (masked word 0x707f (part 26 6 0 ∷ []) refl) ∙ ap₂ (λ (a b : ℕ). a + b * 2 ^ 26) is (let h : word / 2 ^ 26 % 2 ^ 6 ≡ word / 2 ^ 26 = omega arith in h)
 
 pub scan_arith : (m : Major) (f : Form) (word : ℕ) → word < 2 ^ 32 → bit_and word 0x707f ≡ major_bits m f
-    → scan (rows (Ariths m f)) word ≡ answer (λ op. VectorArith (op, source_of f 0) 0 0 true) word (find_at line m f (word / 2 ^ 26) vector_ops)
+    → scan (rows (Ariths m f)) word ≡ answer (λ op. instr.Vector (Arith (op, source_of f 0) 0 0 true)) word (find_at line m f (word / 2 ^ 26) vector_ops)
 unfolding rows
 scan_arith m f word small is =
-    scan_map (λ op. line_bits (line op) f) 0xfc00707f (λ op. VectorArith (op, source_of f 0) 0 0 true) (λ op. refl) (λ op. ap (line_bits (line op)) (form_source_of f 0)) (those line m f vector_ops) word
-    ∙ ap (λ b. answer (λ op. VectorArith (op, source_of f 0) 0 0 true) word (find (λ op. line_bits (line op) f) (those line m f vector_ops) b)) (key_of word (major_bits m f) small is)
-    ∙ ap (answer (λ op. VectorArith (op, source_of f 0) 0 0 true) word) (those_find line m f (word / 2 ^ 26) vector_ops)
+    scan_map (λ op. line_bits (line op) f) 0xfc00707f (λ op. instr.Vector (Arith (op, source_of f 0) 0 0 true)) (λ op. refl) (λ op. ap (line_bits (line op)) (form_source_of f 0)) (those line m f vector_ops) word
+    ∙ ap (λ b. answer (λ op. instr.Vector (Arith (op, source_of f 0) 0 0 true)) word (find (λ op. line_bits (line op) f) (those line m f vector_ops) b)) (key_of word (major_bits m f) small is)
+    ∙ ap (answer (λ op. instr.Vector (Arith (op, source_of f 0) 0 0 true)) word) (those_find line m f (word / 2 ^ 26) vector_ops)
 
 pub scan_carry : (f : Form) (word : ℕ)
-    → scan (rows (Carries f)) word ≡ answer (λ op. VectorCarry (op, source_of f 0) 0 0) word (find (λ op. line_bits (carry_line op) f) (those carry_line Opi f carry_ops) (bit_and word 0xfe00707f))
+    → scan (rows (Carries f)) word ≡ answer (λ op. instr.Vector (Carry (op, source_of f 0) 0 0)) word (find (λ op. line_bits (carry_line op) f) (those carry_line Opi f carry_ops) (bit_and word 0xfe00707f))
 unfolding rows
 scan_carry f word =
-    scan_map (λ op. line_bits (carry_line op) f) 0xfe00707f (λ op. VectorCarry (op, source_of f 0) 0 0) (λ op. refl) (λ op. ap (line_bits (carry_line op)) (form_source_of f 0)) (those carry_line Opi f carry_ops) word
+    scan_map (λ op. line_bits (carry_line op) f) 0xfe00707f (λ op. instr.Vector (Carry (op, source_of f 0) 0 0)) (λ op. refl) (λ op. ap (line_bits (carry_line op)) (form_source_of f 0)) (those carry_line Opi f carry_ops) word
 
 whole_word : (word : ℕ) → word < 2 ^ 32 → bit_and word 0xffffffff ≡ word
 whole_word word small = and_mask word 32 ∙ mod-eq_of_lt small
 
 pub scan_system : (word : ℕ) → word < 2 ^ 32
-    → scan (rows Systems) word ≡ answer (λ op. System op) word (find system_bits system_ops word)
+    → scan (rows Systems) word ≡ answer (λ op. instr.Scalar (System op)) word (find system_bits system_ops word)
 unfolding rows
 scan_system word small =
-    scan_map system_bits 0xffffffff (λ op. System op) (λ x. refl) (λ x. refl) system_ops word
-    ∙ ap (λ w. answer (λ op. System op) word (find system_bits system_ops w)) (whole_word word small)
+    scan_map system_bits 0xffffffff (λ op. instr.Scalar (System op)) (λ x. refl) (λ x. refl) system_ops word
+    ∙ ap (λ w. answer (λ op. instr.Scalar (System op)) word (find system_bits system_ops w)) (whole_word word small)
 
 pub scan_upper : (word : ℕ)
-    → scan (rows Uppers) word ≡ answer (λ op. Upper op 0 0) word (find upper_bits upper_ops (bit_and word 0x0000007f))
+    → scan (rows Uppers) word ≡ answer (λ op. instr.Scalar (Upper op 0 0)) word (find upper_bits upper_ops (bit_and word 0x0000007f))
 unfolding rows
-scan_upper word = scan_map upper_bits 0x0000007f (λ op. Upper op 0 0) (λ x. refl) (λ x. refl) upper_ops word
+scan_upper word = scan_map upper_bits 0x0000007f (λ op. instr.Scalar (Upper op 0 0)) (λ x. refl) (λ x. refl) upper_ops word
 
 pub scan_branch : (word : ℕ)
-    → scan (rows Branches) word ≡ answer (λ op. Branch op 0 0 0) word (find branch_bits branch_ops (bit_and word 0x0000707f))
+    → scan (rows Branches) word ≡ answer (λ op. instr.Scalar (Branch op 0 0 0)) word (find branch_bits branch_ops (bit_and word 0x0000707f))
 unfolding rows
-scan_branch word = scan_map branch_bits 0x0000707f (λ op. Branch op 0 0 0) (λ x. refl) (λ x. refl) branch_ops word
+scan_branch word = scan_map branch_bits 0x0000707f (λ op. instr.Scalar (Branch op 0 0 0)) (λ x. refl) (λ x. refl) branch_ops word
 
 pub scan_load : (word : ℕ)
-    → scan (rows Loads) word ≡ answer (λ op. Load op 0 0 0) word (find load_bits load_ops (bit_and word 0x0000707f))
+    → scan (rows Loads) word ≡ answer (λ op. instr.Scalar (Load op 0 0 0)) word (find load_bits load_ops (bit_and word 0x0000707f))
 unfolding rows
-scan_load word = scan_map load_bits 0x0000707f (λ op. Load op 0 0 0) (λ x. refl) (λ x. refl) load_ops word
+scan_load word = scan_map load_bits 0x0000707f (λ op. instr.Scalar (Load op 0 0 0)) (λ x. refl) (λ x. refl) load_ops word
 
 pub scan_store : (word : ℕ)
-    → scan (rows Stores) word ≡ answer (λ op. Store op 0 0 0) word (find store_bits store_ops (bit_and word 0x0000707f))
+    → scan (rows Stores) word ≡ answer (λ op. instr.Scalar (Store op 0 0 0)) word (find store_bits store_ops (bit_and word 0x0000707f))
 unfolding rows
-scan_store word = scan_map store_bits 0x0000707f (λ op. Store op 0 0 0) (λ x. refl) (λ x. refl) store_ops word
+scan_store word = scan_map store_bits 0x0000707f (λ op. instr.Scalar (Store op 0 0 0)) (λ x. refl) (λ x. refl) store_ops word
 
 pub scan_register_immediate : (word : ℕ)
-    → scan (rows RegisterImmediates) word ≡ answer (λ op. RegisterImmediate op 0 0 0) word (find immediate_op_bits immediate_ops (bit_and word 0x0000707f))
+    → scan (rows RegisterImmediates) word ≡ answer (λ op. instr.Scalar (RegisterImmediate op 0 0 0)) word (find immediate_op_bits immediate_ops (bit_and word 0x0000707f))
 unfolding rows
-scan_register_immediate word = scan_map immediate_op_bits 0x0000707f (λ op. RegisterImmediate op 0 0 0) (λ x. refl) (λ x. refl) immediate_ops word
+scan_register_immediate word = scan_map immediate_op_bits 0x0000707f (λ op. instr.Scalar (RegisterImmediate op 0 0 0)) (λ x. refl) (λ x. refl) immediate_ops word
 
 pub scan_shift_immediate : (word : ℕ)
-    → scan (rows ShiftImmediates) word ≡ answer (λ op. ShiftImmediate op 0 0 0) word (find shift_immediate_bits shift_immediate_ops (bit_and word 0xfc00707f))
+    → scan (rows ShiftImmediates) word ≡ answer (λ op. instr.Scalar (ShiftImmediate op 0 0 0)) word (find shift_immediate_bits shift_immediate_ops (bit_and word 0xfc00707f))
 unfolding rows
 scan_shift_immediate word =
-    scan_map shift_immediate_bits 0xfc00707f (λ op. ShiftImmediate op 0 0 0) (λ x. refl) (λ x. refl) shift_immediate_ops word
+    scan_map shift_immediate_bits 0xfc00707f (λ op. instr.Scalar (ShiftImmediate op 0 0 0)) (λ x. refl) (λ x. refl) shift_immediate_ops word
 
 pub scan_shift_immediate_word : (word : ℕ)
-    → scan (rows ShiftImmediateWords) word ≡ answer (λ op. ShiftImmediateWord op 0 0 0) word (find shift_immediate_word_bits shift_immediate_word_ops (bit_and word 0xfe00707f))
+    → scan (rows ShiftImmediateWords) word ≡ answer (λ op. instr.Scalar (ShiftImmediateWord op 0 0 0)) word (find shift_immediate_word_bits shift_immediate_word_ops (bit_and word 0xfe00707f))
 unfolding rows
 scan_shift_immediate_word word =
-    scan_map shift_immediate_word_bits 0xfe00707f (λ op. ShiftImmediateWord op 0 0 0) (λ x. refl) (λ x. refl) shift_immediate_word_ops word
+    scan_map shift_immediate_word_bits 0xfe00707f (λ op. instr.Scalar (ShiftImmediateWord op 0 0 0)) (λ x. refl) (λ x. refl) shift_immediate_word_ops word
 
 pub scan_register_register : (word : ℕ)
-    → scan (rows RegisterRegisters) word ≡ answer (λ op. RegisterRegister op 0 0 0) word (find register_op_bits register_ops (bit_and word 0xfe00707f))
+    → scan (rows RegisterRegisters) word ≡ answer (λ op. instr.Scalar (RegisterRegister op 0 0 0)) word (find register_op_bits register_ops (bit_and word 0xfe00707f))
 unfolding rows
-scan_register_register word = scan_map register_op_bits 0xfe00707f (λ op. RegisterRegister op 0 0 0) (λ x. refl) (λ x. refl) register_ops word
+scan_register_register word = scan_map register_op_bits 0xfe00707f (λ op. instr.Scalar (RegisterRegister op 0 0 0)) (λ x. refl) (λ x. refl) register_ops word
 
 pub scan_csr : (word : ℕ)
-    → scan (rows Csrs) word ≡ answer (λ op. Csr op 0 0 0) word (find csr_bits csr_ops (bit_and word 0x0000707f))
+    → scan (rows Csrs) word ≡ answer (λ op. instr.Csr (Register op 0 0 0)) word (find csr_bits csr_ops (bit_and word 0x0000707f))
 unfolding rows
-scan_csr word = scan_map csr_bits 0x0000707f (λ op. Csr op 0 0 0) (λ x. refl) (λ x. refl) csr_ops word
+scan_csr word = scan_map csr_bits 0x0000707f (λ op. instr.Csr (Register op 0 0 0)) (λ x. refl) (λ x. refl) csr_ops word
 
 pub scan_csr_immediate : (word : ℕ)
-    → scan (rows CsrImmediates) word ≡ answer (λ op. CsrImmediate op 0 0 0) word (find csr_immediate_bits csr_immediate_ops (bit_and word 0x0000707f))
+    → scan (rows CsrImmediates) word ≡ answer (λ op. instr.Csr (Immediate op 0 0 0)) word (find csr_immediate_bits csr_immediate_ops (bit_and word 0x0000707f))
 unfolding rows
 scan_csr_immediate word =
-    scan_map csr_immediate_bits 0x0000707f (λ op. CsrImmediate op 0 0 0) (λ x. refl) (λ x. refl) csr_immediate_ops word
+    scan_map csr_immediate_bits 0x0000707f (λ op. instr.Csr (Immediate op 0 0 0)) (λ x. refl) (λ x. refl) csr_immediate_ops word
 
 pub scan_whole_move : (word : ℕ)
-    → scan (rows WholeMoves) word ≡ answer (λ op. WholeMove op 0 0) word (find whole_move_bits counts (bit_and word 0xfe0ff07f))
+    → scan (rows WholeMoves) word ≡ answer (λ op. instr.Vector (WholeMove op 0 0)) word (find whole_move_bits counts (bit_and word 0xfe0ff07f))
 unfolding rows
 scan_whole_move word =
-    scan_map whole_move_bits 0xfe0ff07f (λ op. WholeMove op 0 0) (λ x. refl) (λ x. refl) counts word
+    scan_map whole_move_bits 0xfe0ff07f (λ op. instr.Vector (WholeMove op 0 0)) (λ x. refl) (λ x. refl) counts word
 
 pub scan_mask_logic : (word : ℕ)
-    → scan (rows MaskLogics) word ≡ answer (λ op. MaskLogic op 0 0 0) word (find mask_logic_bits mask_logic_ops (bit_and word 0xfe00707f))
+    → scan (rows MaskLogics) word ≡ answer (λ op. instr.Vector (MaskLogic op 0 0 0)) word (find mask_logic_bits mask_logic_ops (bit_and word 0xfe00707f))
 unfolding rows
 scan_mask_logic word =
-    scan_map mask_logic_bits 0xfe00707f (λ op. MaskLogic op 0 0 0) (λ x. refl) (λ x. refl) mask_logic_ops word
+    scan_map mask_logic_bits 0xfe00707f (λ op. instr.Vector (MaskLogic op 0 0 0)) (λ x. refl) (λ x. refl) mask_logic_ops word
 
 pub scan_mask_to_scalar : (word : ℕ)
-    → scan (rows MasksToScalar) word ≡ answer (λ op. MaskToScalar op 0 0 true) word (find mask_to_scalar_bits mask_to_scalar_ops (bit_and word 0xfc0ff07f))
+    → scan (rows MasksToScalar) word ≡ answer (λ op. instr.Vector (MaskToScalar op 0 0 true)) word (find mask_to_scalar_bits mask_to_scalar_ops (bit_and word 0xfc0ff07f))
 unfolding rows
 scan_mask_to_scalar word =
-    scan_map mask_to_scalar_bits 0xfc0ff07f (λ op. MaskToScalar op 0 0 true) (λ x. refl) (λ x. refl) mask_to_scalar_ops word
+    scan_map mask_to_scalar_bits 0xfc0ff07f (λ op. instr.Vector (MaskToScalar op 0 0 true)) (λ x. refl) (λ x. refl) mask_to_scalar_ops word
 
 pub scan_extend : (word : ℕ)
-    → scan (rows Extends) word ≡ answer (λ op. VectorExtend op 0 0 true) word (find extend_bits extend_ops (bit_and word 0xfc0ff07f))
+    → scan (rows Extends) word ≡ answer (λ op. instr.Vector (Extend op 0 0 true)) word (find extend_bits extend_ops (bit_and word 0xfc0ff07f))
 unfolding rows
 scan_extend word =
-    scan_map extend_bits 0xfc0ff07f (λ op. VectorExtend op 0 0 true) (λ x. refl) (λ x. refl) extend_ops word
+    scan_map extend_bits 0xfc0ff07f (λ op. instr.Vector (Extend op 0 0 true)) (λ x. refl) (λ x. refl) extend_ops word
 
 pub scan_mask_unary : (word : ℕ)
-    → scan (rows MaskUnaries) word ≡ answer (λ op. MaskUnary op 0 0 true) word (find mask_unary_bits mask_unary_ops (bit_and word 0xfc0ff07f))
+    → scan (rows MaskUnaries) word ≡ answer (λ op. instr.Vector (MaskUnary op 0 0 true)) word (find mask_unary_bits mask_unary_ops (bit_and word 0xfc0ff07f))
 unfolding rows
 scan_mask_unary word =
-    scan_map mask_unary_bits 0xfc0ff07f (λ op. MaskUnary op 0 0 true) (λ x. refl) (λ x. refl) mask_unary_ops word
+    scan_map mask_unary_bits 0xfc0ff07f (λ op. instr.Vector (MaskUnary op 0 0 true)) (λ x. refl) (λ x. refl) mask_unary_ops word
 
 pub scan_unit : (word : ℕ)
-    → scan (rows Units) word ≡ answer (λ op. VectorUnit op.0 op.1 0 0 0 true) word (find unit_access_bits unit_accesses (bit_and word 0x1df0707f))
+    → scan (rows Units) word ≡ answer (λ op. instr.Access (UnitStride op.0 op.1 0 0 0 true)) word (find unit_access_bits unit_accesses (bit_and word 0x1df0707f))
 unfolding rows
 scan_unit word =
-    scan_map unit_access_bits 0x1df0707f (λ op. VectorUnit op.0 op.1 0 0 0 true) (λ x. refl) (λ x. refl) unit_accesses word
+    scan_map unit_access_bits 0x1df0707f (λ op. instr.Access (UnitStride op.0 op.1 0 0 0 true)) (λ x. refl) (λ x. refl) unit_accesses word
 
 pub scan_strided : (word : ℕ)
-    → scan (rows Strideds) word ≡ answer (λ op. VectorStrided op.0 op.1 0 0 0 0 true) word (find strided_access_bits strided_accesses (bit_and word 0x1c00707f))
+    → scan (rows Strideds) word ≡ answer (λ op. instr.Access (Strided op.0 op.1 0 0 0 0 true)) word (find strided_access_bits strided_accesses (bit_and word 0x1c00707f))
 unfolding rows
 scan_strided word =
-    scan_map strided_access_bits 0x1c00707f (λ op. VectorStrided op.0 op.1 0 0 0 0 true) (λ x. refl) (λ x. refl) strided_accesses word
+    scan_map strided_access_bits 0x1c00707f (λ op. instr.Access (Strided op.0 op.1 0 0 0 0 true)) (λ x. refl) (λ x. refl) strided_accesses word
 
 pub scan_indexed : (word : ℕ)
-    → scan (rows Indexeds) word ≡ answer (λ op. VectorIndexed op.0.0 op.0.1 op.1 0 0 0 0 true) word (find indexed_access_bits indexed_accesses (bit_and word 0x1c00707f))
+    → scan (rows Indexeds) word ≡ answer (λ op. instr.Access (Indexed op.0.0 op.0.1 op.1 0 0 0 0 true)) word (find indexed_access_bits indexed_accesses (bit_and word 0x1c00707f))
 unfolding rows
 scan_indexed word =
-    scan_map indexed_access_bits 0x1c00707f (λ op. VectorIndexed op.0.0 op.0.1 op.1 0 0 0 0 true) (λ x. refl) (λ x. refl) indexed_accesses word
+    scan_map indexed_access_bits 0x1c00707f (λ op. instr.Access (Indexed op.0.0 op.0.1 op.1 0 0 0 0 true)) (λ x. refl) (λ x. refl) indexed_accesses word
 
 pub scan_whole_load : (word : ℕ)
-    → scan (rows WholeLoads) word ≡ answer (λ op. WholeLoad op.0 op.1 0 0) word (find whole_load_bits whole_loads (bit_and word 0xfff0707f))
+    → scan (rows WholeLoads) word ≡ answer (λ op. instr.Access (WholeLoad op.0 op.1 0 0)) word (find whole_load_bits whole_loads (bit_and word 0xfff0707f))
 unfolding rows
 scan_whole_load word =
-    scan_map whole_load_bits 0xfff0707f (λ op. WholeLoad op.0 op.1 0 0) (λ x. refl) (λ x. refl) whole_loads word
+    scan_map whole_load_bits 0xfff0707f (λ op. instr.Access (WholeLoad op.0 op.1 0 0)) (λ x. refl) (λ x. refl) whole_loads word
 
 pub scan_whole_store : (word : ℕ)
-    → scan (rows WholeStores) word ≡ answer (λ op. WholeStore op 0 0) word (find whole_store_bits counts (bit_and word 0xfff0707f))
+    → scan (rows WholeStores) word ≡ answer (λ op. instr.Access (WholeStore op 0 0)) word (find whole_store_bits counts (bit_and word 0xfff0707f))
 unfolding rows
 scan_whole_store word =
-    scan_map whole_store_bits 0xfff0707f (λ op. WholeStore op 0 0) (λ x. refl) (λ x. refl) counts word
+    scan_map whole_store_bits 0xfff0707f (λ op. instr.Access (WholeStore op 0 0)) (λ x. refl) (λ x. refl) counts word
 
 pub scan_mask_memory : (word : ℕ)
-    → scan (rows MaskMemories) word ≡ answer (λ op. MaskMemory op 0 0) word (find mask_memory_bits directions (bit_and word 0xfff0707f))
+    → scan (rows MaskMemories) word ≡ answer (λ op. instr.Access (MaskAccess op 0 0)) word (find mask_memory_bits directions (bit_and word 0xfff0707f))
 unfolding rows
 scan_mask_memory word =
-    scan_map mask_memory_bits 0xfff0707f (λ op. MaskMemory op 0 0) (λ x. refl) (λ x. refl) directions word
+    scan_map mask_memory_bits 0xfff0707f (λ op. instr.Access (MaskAccess op 0 0)) (λ x. refl) (λ x. refl) directions word
 
 -- ---- the families that a word can be of, by its opcode, and for vector operations by funct3 too
 

@@ -2,8 +2,11 @@
 -- Formats").
 use Rattle.std.specs.Prelude.{ℕ, Bool, true, false, not, nat_eq, ◌&&◌, ◌||◌}
 use Rattle.rv_model.specs.declared.instructions.instruction.Instr.{Instr}
-use Rattle.rv_model.specs.declared.instructions.instruction.Instr.TheVariants.{System, Csr, CsrImmediate, VectorArith}
-use Rattle.rv_model.specs.instructions.Accesses.{is_access}
+use Rattle.rv_model.specs.declared.instructions.instruction.Instr.TheVariants as instr
+use Rattle.rv_model.specs.declared.instructions.scalar.ScalarInstr.TheVariants.{System}
+use Rattle.rv_model.specs.declared.instructions.csr.CsrInstr.TheVariants.{Register, Immediate}
+use Rattle.rv_model.specs.declared.instructions.vector.VectorInstr.TheVariants.{Arith}
+use Rattle.rv_model.specs.lending.Accesses.{is_access}
 use Rattle.rv_model.specs.step.VectorStep.{is_vector}
 
 -- OP-V: vector operations and the setting of vector types
@@ -12,7 +15,7 @@ is_operation i = is_vector i && not (is_access i)
 
 -- vector operations with a line of their own in the manual's table
 abbrev pub is_regular : Instr → Bool
-is_regular (VectorArith arith vd vs2 vm) = true
+is_regular (instr.Vector (Arith arith vd vs2 vm)) = true
 is_regular _ = false
 
 -- any other vector instruction
@@ -25,9 +28,9 @@ is_vector_access i = is_vector i && is_access i
 
 -- SYSTEM: calls, breakpoints and accesses of control registers
 abbrev pub is_system : Instr → Bool
-is_system (System op) = true
-is_system (Csr op rd rs1 csr) = true
-is_system (CsrImmediate op rd imm csr) = true
+is_system (instr.Scalar (System op)) = true
+is_system (instr.Csr (Register op rd rs1 csr)) = true
+is_system (instr.Csr (Immediate op rd imm csr)) = true
 is_system _ = false
 
 -- any other opcode: instructions on scalar registers and memory alone

@@ -17,8 +17,8 @@ use crate::vector::{
     move_to_scalar, move_to_vector, set_ivli, set_vl, set_vli, vector_move, whole_move,
 };
 use crate::vector_memory::{indexed, mask_memory, strided, unit, whole_load, whole_store};
-use rv_model::Instr;
 use rv_model::instructions::operations::{Form, Major};
+use rv_model::{Instr, VectorInstr};
 
 /// OP-IMM.
 #[tactic(auto, using(rv_model::proofs::instruction_lemmas::Scans::scan_append))]
@@ -53,7 +53,7 @@ fn word_immediates(word: u32) -> Option<Instr>
 pub fn decode_regular(word: u32) -> Option<ArithOperation>
     requires { bit_and word 0x7f ≡ 0x57 }
     ensures some { IfSome result (λ o. scan table word
-        ≡ Some (Instr.VectorArith o.arith o.vd o.vs2 o.unmasked)) }
+        ≡ Some (Instr.Vector (VectorInstr.Arith o.arith o.vd o.vs2 o.unmasked))) }
     ensures none { IfNone result (scan table word ≡ scan irregular word) }
 {
     match word & 0x707f {
@@ -211,12 +211,12 @@ fn operation(word: u32) -> Option<Instr>
     ensures { result ≡ scan table word }
 {
     if let Some(operation) = decode_regular(word) {
-        return Some(Instr::VectorArith {
+        return Some(Instr::Vector(VectorInstr::Arith {
             arith: operation.arith,
             vd: operation.vd,
             vs2: operation.vs2,
             vm: operation.unmasked,
-        });
+        }));
     }
     irregular_operation(word)
 }

@@ -16,7 +16,7 @@ use crate::fixed_bits::{
 use crate::lines::{carry_line, line};
 use crate::operands::operands;
 use rv_model::instructions::operations::{Form, Line, Major};
-use rv_model::{Arith, Carry, Instr, Source};
+use rv_model::{AccessInstr, Arith, Carry, CsrInstr, Instr, ScalarInstr, Source, VectorInstr};
 
 /// Opcode and funct3 of a half of the opcode map, by form.
 fn major_bits(major: Major, form: Form) -> u64
@@ -80,21 +80,21 @@ fn operation_code(instr: &Instr) -> u64
     ensures allowed { Allowed instr.now }
 {
     match *instr {
-        Instr::SetVli { .. } => 0x7057,
-        Instr::SetIvli { .. } => 0xc000_7057,
-        Instr::SetVl { .. } => 0x8000_7057,
-        Instr::VectorArith { arith, .. } => arith_bits(arith),
-        Instr::VectorCarry { carry, .. } => carry_bits(carry),
-        Instr::VectorMove { source, .. } => move_bits(form_of(&source)),
-        Instr::WholeMove { count, .. } => whole_move_bits(count),
-        Instr::MaskLogic { op, .. } => mask_logic_bits(op),
-        Instr::Compress { .. } => 0x5e00_2057,
-        Instr::MaskToScalar { op, .. } => mask_to_scalar_bits(op),
-        Instr::VectorExtend { op, .. } => extend_bits(op),
-        Instr::MaskUnary { op, .. } => mask_unary_bits(op),
-        Instr::ElementIndex { .. } => 0x5008_a057,
-        Instr::MoveToScalar { .. } => 0x4200_2057,
-        Instr::MoveToVector { .. } => 0x4200_6057,
+        Instr::Vector(VectorInstr::SetVli { .. }) => 0x7057,
+        Instr::Vector(VectorInstr::SetIvli { .. }) => 0xc000_7057,
+        Instr::Vector(VectorInstr::SetVl { .. }) => 0x8000_7057,
+        Instr::Vector(VectorInstr::Arith { arith, .. }) => arith_bits(arith),
+        Instr::Vector(VectorInstr::Carry { carry, .. }) => carry_bits(carry),
+        Instr::Vector(VectorInstr::Move { source, .. }) => move_bits(form_of(&source)),
+        Instr::Vector(VectorInstr::WholeMove { count, .. }) => whole_move_bits(count),
+        Instr::Vector(VectorInstr::MaskLogic { op, .. }) => mask_logic_bits(op),
+        Instr::Vector(VectorInstr::Compress { .. }) => 0x5e00_2057,
+        Instr::Vector(VectorInstr::MaskToScalar { op, .. }) => mask_to_scalar_bits(op),
+        Instr::Vector(VectorInstr::Extend { op, .. }) => extend_bits(op),
+        Instr::Vector(VectorInstr::MaskUnary { op, .. }) => mask_unary_bits(op),
+        Instr::Vector(VectorInstr::ElementIndex { .. }) => 0x5008_a057,
+        Instr::Vector(VectorInstr::MoveToScalar { .. }) => 0x4200_2057,
+        Instr::Vector(VectorInstr::MoveToVector { .. }) => 0x4200_6057,
         _ => unreachable!(),
     }
 }
@@ -106,35 +106,42 @@ fn code(instr: &Instr) -> u64
     ensures allowed { Allowed instr.now }
 {
     match *instr {
-        Instr::Upper { op, .. } => upper_bits(op),
-        Instr::Jump { .. } => 0x6f,
-        Instr::JumpRegister { .. } => 0x67,
-        Instr::Branch { op, .. } => branch_bits(op),
-        Instr::Load { op, .. } => load_bits(op),
-        Instr::Store { op, .. } => store_bits(op),
-        Instr::RegisterImmediate { op, .. } => immediate_op_bits(op),
-        Instr::ShiftImmediate { op, .. } => shift_immediate_bits(op),
-        Instr::ShiftImmediateWord { op, .. } => shift_immediate_word_bits(op),
-        Instr::RegisterRegister { op, .. } => register_op_bits(op),
-        Instr::Fence { .. } => 0x0f,
-        Instr::System { op } => system_bits(op),
-        Instr::Csr { op, .. } => csr_bits(op),
-        Instr::CsrImmediate { op, .. } => csr_immediate_bits(op),
-        Instr::VectorUnit { op, width, .. } => unit_bits(op) + width_bits(width),
-        Instr::VectorStrided {
-            direction,
-            width,
-            ..
-        } => direction_bits(direction) + 0x0800_0000 + width_bits(width),
-        Instr::VectorIndexed {
-            direction,
-            order,
-            width,
-            ..
-        } => direction_bits(direction) + order_bits(order) + width_bits(width),
-        Instr::WholeLoad { count, width, .. } => 0x07 + count_bits(count) + width_bits(width),
-        Instr::WholeStore { count, .. } => 0x27 + count_bits(count),
-        Instr::MaskMemory { direction, .. } => mask_memory_bits(direction),
+        Instr::Scalar(ScalarInstr::Upper { op, .. }) => upper_bits(op),
+        Instr::Scalar(ScalarInstr::Jump { .. }) => 0x6f,
+        Instr::Scalar(ScalarInstr::JumpRegister { .. }) => 0x67,
+        Instr::Scalar(ScalarInstr::Branch { op, .. }) => branch_bits(op),
+        Instr::Scalar(ScalarInstr::Load { op, .. }) => load_bits(op),
+        Instr::Scalar(ScalarInstr::Store { op, .. }) => store_bits(op),
+        Instr::Scalar(ScalarInstr::RegisterImmediate { op, .. }) => immediate_op_bits(op),
+        Instr::Scalar(ScalarInstr::ShiftImmediate { op, .. }) => shift_immediate_bits(op),
+        Instr::Scalar(ScalarInstr::ShiftImmediateWord { op, .. }) => shift_immediate_word_bits(op),
+        Instr::Scalar(ScalarInstr::RegisterRegister { op, .. }) => register_op_bits(op),
+        Instr::Scalar(ScalarInstr::Fence { .. }) => 0x0f,
+        Instr::Scalar(ScalarInstr::System { op }) => system_bits(op),
+        Instr::Csr(CsrInstr::Register { op, .. }) => csr_bits(op),
+        Instr::Csr(CsrInstr::Immediate { op, .. }) => csr_immediate_bits(op),
+        Instr::Access(AccessInstr::UnitStride { op, width, .. }) => unit_bits(op)
+            + width_bits(width),
+        Instr::Access(
+            AccessInstr::Strided {
+                direction,
+                width,
+                ..
+            },
+        ) => direction_bits(direction) + 0x0800_0000 + width_bits(width),
+        Instr::Access(
+            AccessInstr::Indexed {
+                direction,
+                order,
+                width,
+                ..
+            },
+        ) => direction_bits(direction) + order_bits(order) + width_bits(width),
+        Instr::Access(AccessInstr::WholeLoad { count, width, .. }) => 0x07
+            + count_bits(count)
+            + width_bits(width),
+        Instr::Access(AccessInstr::WholeStore { count, .. }) => 0x27 + count_bits(count),
+        Instr::Access(AccessInstr::MaskAccess { direction, .. }) => mask_memory_bits(direction),
         _ => operation_code(instr),
     }
 }

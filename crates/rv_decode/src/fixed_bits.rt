@@ -1,11 +1,12 @@
 //! The bits that each operation fixes in its word.
 ghost use Rattle.std.specs.Prelude.{◌≡◌, ◌<◌, ◌^◌};
-ghost use Rattle.rv_model.specs.instructions.FixedBits.{branch_bits, count_bits, csr_bits, csr_immediate_bits, direction_bits, extend_bits, load_bits, mask_logic_bits, mask_memory_bits, mask_to_scalar_bits, mask_unary_bits, move_bits, register_op_bits, immediate_op_bits, order_bits, shift_immediate_bits, shift_immediate_word_bits, store_bits, system_bits, unit_bits, upper_bits, whole_move_bits, width_bits};
+ghost use Rattle.rv_model.specs.instructions.FixedBits.{count_bits, direction_bits, mask_memory_bits, move_bits, order_bits, unit_bits, whole_move_bits, width_bits};
+ghost use Rattle.rv_model.specs.lending.ListedBits.{branch_bits, csr_bits, csr_immediate_bits, extend_bits, load_bits, mask_logic_bits, mask_to_scalar_bits, mask_unary_bits, register_op_bits, immediate_op_bits, shift_immediate_bits, shift_immediate_word_bits, store_bits, system_bits, upper_bits};
 
 use rv_model::instructions::operations::{
-    BranchOp, CsrImmediateOp, CsrOp, Direction, ExtendOp, Form, ImmediateOp, LoadOp, MaskLogicOp,
-    MaskScanOp, MaskToScalarOp, MaskUnaryOp, Order, RegisterCount, RegisterOp, ShiftImmediateOp,
-    ShiftImmediateWordOp, StoreOp, SystemOp, UnitOp, UpperOp, Width,
+    BranchOp, CsrImmediateOp, CsrOp, Direction, Eew, ExtendOp, Form, ImmediateOp, LoadOp,
+    MaskLogicOp, MaskScanOp, MaskToScalarOp, MaskUnaryOp, Order, RegisterCount, RegisterOp,
+    ShiftImmediateOp, ShiftImmediateWordOp, StoreOp, SystemOp, UnitOp, UpperOp,
 };
 
 /// LUI, AUIPC.
@@ -257,15 +258,15 @@ pub(crate) fn mask_unary_bits(op: MaskUnaryOp) -> u64
 }
 
 /// The width of a memory element or an index.
-pub(crate) fn width_bits(width: Width) -> u64
+pub(crate) fn width_bits(width: Eew) -> u64
     ensures value { result ≡ width_bits width }
     ensures small { result < 2 ^ 32 }
 {
     match width {
-        Width::E8 => 0x0000_0000,
-        Width::E16 => 0x0000_5000,
-        Width::E32 => 0x0000_6000,
-        Width::E64 => 0x0000_7000,
+        Eew::E8 => 0x0000_0000,
+        Eew::E16 => 0x0000_5000,
+        Eew::E32 => 0x0000_6000,
+        Eew::E64 => 0x0000_7000,
     }
 }
 

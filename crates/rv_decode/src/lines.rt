@@ -1,6 +1,7 @@
 //! The lines of the manual's table of vector operations.
 ghost use Rattle.std.specs.Prelude.{◌≡◌, ◌<◌};
-ghost use Rattle.rv_model.specs.instructions.Operations.{binary_line, carry_out_line, compare_line, fixed_point_line, narrow_shift_line, clip_line, widen_line, wide_source_line, multiply_add_line, widen_multiply_add_line, reduce_line, widen_reduce_line, permute_line, carry_line, line, has_form, opi, opm};
+ghost use Rattle.rv_model.specs.instructions.Operations.{carry_line, line, has_form, opi, opm};
+ghost use Rattle.rv_model.specs.lending.ListedBits.{binary_line, carry_out_line, compare_line, fixed_point_line, narrow_shift_line, clip_line, widen_line, wide_source_line, multiply_add_line, widen_multiply_add_line, reduce_line, widen_reduce_line, permute_line};
 
 use rv_model::instructions::operations::{
     BinaryOp, CarryOp, CarryOutOp, ClipOp, CompareOp, FixedPointOp, Form, Forms, Line, Major,

@@ -1,98 +1,99 @@
 //! The vector accesses of memory by the bits that they fix.
-#![tactic(auto, unfolding(rv_model::specs::instructions::Table::find))]
+#![tactic(auto, unfolding(rv_model::specs::lending::Search::find))]
 
 ghost use Rattle.std.specs.Prelude.{◌≡◌};
 ghost use Rattle.rv_model.specs.instructions.FixedBits.{counts, directions, mask_memory_bits};
 ghost use Rattle.rv_model.specs.instructions.Layout.{unit_access_bits, strided_access_bits, indexed_access_bits, whole_load_bits, whole_store_bits};
-ghost use Rattle.rv_model.specs.instructions.Table.{find, unit_accesses, strided_accesses, indexed_accesses, whole_loads};
+ghost use Rattle.rv_model.specs.instructions.Table.{unit_accesses, strided_accesses, indexed_accesses, whole_loads};
+ghost use Rattle.rv_model.specs.lending.Search.{find};
 
-use rv_model::instructions::operations::{Direction, Order, RegisterCount, UnitOp, Width};
+use rv_model::instructions::operations::{Direction, Eew, Order, RegisterCount, UnitOp};
 
 /// The unit-stride access of these bits.
 #[inline(always)]
-pub(crate) fn unit_access(bits: u32) -> Option<(UnitOp, Width)>
+pub(crate) fn unit_access(bits: u32) -> Option<(UnitOp, Eew)>
     ensures { result ≡ find unit_access_bits unit_accesses bits }
 {
     match bits {
-        0x0000_0007 => Some((UnitOp::Load, Width::E8)),
-        0x0000_5007 => Some((UnitOp::Load, Width::E16)),
-        0x0000_6007 => Some((UnitOp::Load, Width::E32)),
-        0x0000_7007 => Some((UnitOp::Load, Width::E64)),
-        0x0100_0007 => Some((UnitOp::FaultOnlyFirst, Width::E8)),
-        0x0100_5007 => Some((UnitOp::FaultOnlyFirst, Width::E16)),
-        0x0100_6007 => Some((UnitOp::FaultOnlyFirst, Width::E32)),
-        0x0100_7007 => Some((UnitOp::FaultOnlyFirst, Width::E64)),
-        0x0000_0027 => Some((UnitOp::Store, Width::E8)),
-        0x0000_5027 => Some((UnitOp::Store, Width::E16)),
-        0x0000_6027 => Some((UnitOp::Store, Width::E32)),
-        0x0000_7027 => Some((UnitOp::Store, Width::E64)),
+        0x0000_0007 => Some((UnitOp::Load, Eew::E8)),
+        0x0000_5007 => Some((UnitOp::Load, Eew::E16)),
+        0x0000_6007 => Some((UnitOp::Load, Eew::E32)),
+        0x0000_7007 => Some((UnitOp::Load, Eew::E64)),
+        0x0100_0007 => Some((UnitOp::FaultOnlyFirst, Eew::E8)),
+        0x0100_5007 => Some((UnitOp::FaultOnlyFirst, Eew::E16)),
+        0x0100_6007 => Some((UnitOp::FaultOnlyFirst, Eew::E32)),
+        0x0100_7007 => Some((UnitOp::FaultOnlyFirst, Eew::E64)),
+        0x0000_0027 => Some((UnitOp::Store, Eew::E8)),
+        0x0000_5027 => Some((UnitOp::Store, Eew::E16)),
+        0x0000_6027 => Some((UnitOp::Store, Eew::E32)),
+        0x0000_7027 => Some((UnitOp::Store, Eew::E64)),
         _ => None,
     }
 }
 
 /// The strided access of these bits.
-pub(crate) fn strided_access(bits: u32) -> Option<(Direction, Width)>
+pub(crate) fn strided_access(bits: u32) -> Option<(Direction, Eew)>
     ensures { result ≡ find strided_access_bits strided_accesses bits }
 {
     match bits {
-        0x0800_0007 => Some((Direction::Load, Width::E8)),
-        0x0800_5007 => Some((Direction::Load, Width::E16)),
-        0x0800_6007 => Some((Direction::Load, Width::E32)),
-        0x0800_7007 => Some((Direction::Load, Width::E64)),
-        0x0800_0027 => Some((Direction::Store, Width::E8)),
-        0x0800_5027 => Some((Direction::Store, Width::E16)),
-        0x0800_6027 => Some((Direction::Store, Width::E32)),
-        0x0800_7027 => Some((Direction::Store, Width::E64)),
+        0x0800_0007 => Some((Direction::Load, Eew::E8)),
+        0x0800_5007 => Some((Direction::Load, Eew::E16)),
+        0x0800_6007 => Some((Direction::Load, Eew::E32)),
+        0x0800_7007 => Some((Direction::Load, Eew::E64)),
+        0x0800_0027 => Some((Direction::Store, Eew::E8)),
+        0x0800_5027 => Some((Direction::Store, Eew::E16)),
+        0x0800_6027 => Some((Direction::Store, Eew::E32)),
+        0x0800_7027 => Some((Direction::Store, Eew::E64)),
         _ => None,
     }
 }
 
 /// The indexed access of these bits, with the index's width.
-pub(crate) fn indexed_access(bits: u32) -> Option<((Direction, Order), Width)>
+pub(crate) fn indexed_access(bits: u32) -> Option<((Direction, Order), Eew)>
     ensures { result ≡ find indexed_access_bits indexed_accesses bits }
 {
     match bits {
-        0x0400_0007 => Some(((Direction::Load, Order::Unordered), Width::E8)),
-        0x0400_5007 => Some(((Direction::Load, Order::Unordered), Width::E16)),
-        0x0400_6007 => Some(((Direction::Load, Order::Unordered), Width::E32)),
-        0x0400_7007 => Some(((Direction::Load, Order::Unordered), Width::E64)),
-        0x0c00_0007 => Some(((Direction::Load, Order::Ordered), Width::E8)),
-        0x0c00_5007 => Some(((Direction::Load, Order::Ordered), Width::E16)),
-        0x0c00_6007 => Some(((Direction::Load, Order::Ordered), Width::E32)),
-        0x0c00_7007 => Some(((Direction::Load, Order::Ordered), Width::E64)),
-        0x0400_0027 => Some(((Direction::Store, Order::Unordered), Width::E8)),
-        0x0400_5027 => Some(((Direction::Store, Order::Unordered), Width::E16)),
-        0x0400_6027 => Some(((Direction::Store, Order::Unordered), Width::E32)),
-        0x0400_7027 => Some(((Direction::Store, Order::Unordered), Width::E64)),
-        0x0c00_0027 => Some(((Direction::Store, Order::Ordered), Width::E8)),
-        0x0c00_5027 => Some(((Direction::Store, Order::Ordered), Width::E16)),
-        0x0c00_6027 => Some(((Direction::Store, Order::Ordered), Width::E32)),
-        0x0c00_7027 => Some(((Direction::Store, Order::Ordered), Width::E64)),
+        0x0400_0007 => Some(((Direction::Load, Order::Unordered), Eew::E8)),
+        0x0400_5007 => Some(((Direction::Load, Order::Unordered), Eew::E16)),
+        0x0400_6007 => Some(((Direction::Load, Order::Unordered), Eew::E32)),
+        0x0400_7007 => Some(((Direction::Load, Order::Unordered), Eew::E64)),
+        0x0c00_0007 => Some(((Direction::Load, Order::Ordered), Eew::E8)),
+        0x0c00_5007 => Some(((Direction::Load, Order::Ordered), Eew::E16)),
+        0x0c00_6007 => Some(((Direction::Load, Order::Ordered), Eew::E32)),
+        0x0c00_7007 => Some(((Direction::Load, Order::Ordered), Eew::E64)),
+        0x0400_0027 => Some(((Direction::Store, Order::Unordered), Eew::E8)),
+        0x0400_5027 => Some(((Direction::Store, Order::Unordered), Eew::E16)),
+        0x0400_6027 => Some(((Direction::Store, Order::Unordered), Eew::E32)),
+        0x0400_7027 => Some(((Direction::Store, Order::Unordered), Eew::E64)),
+        0x0c00_0027 => Some(((Direction::Store, Order::Ordered), Eew::E8)),
+        0x0c00_5027 => Some(((Direction::Store, Order::Ordered), Eew::E16)),
+        0x0c00_6027 => Some(((Direction::Store, Order::Ordered), Eew::E32)),
+        0x0c00_7027 => Some(((Direction::Store, Order::Ordered), Eew::E64)),
         _ => None,
     }
 }
 
 /// The load of whole registers of these bits.
-pub(crate) fn whole_load_access(bits: u32) -> Option<(RegisterCount, Width)>
+pub(crate) fn whole_load_access(bits: u32) -> Option<(RegisterCount, Eew)>
     ensures { result ≡ find whole_load_bits whole_loads bits }
 {
     match bits {
-        0x0280_0007 => Some((RegisterCount::One, Width::E8)),
-        0x0280_5007 => Some((RegisterCount::One, Width::E16)),
-        0x0280_6007 => Some((RegisterCount::One, Width::E32)),
-        0x0280_7007 => Some((RegisterCount::One, Width::E64)),
-        0x2280_0007 => Some((RegisterCount::Two, Width::E8)),
-        0x2280_5007 => Some((RegisterCount::Two, Width::E16)),
-        0x2280_6007 => Some((RegisterCount::Two, Width::E32)),
-        0x2280_7007 => Some((RegisterCount::Two, Width::E64)),
-        0x6280_0007 => Some((RegisterCount::Four, Width::E8)),
-        0x6280_5007 => Some((RegisterCount::Four, Width::E16)),
-        0x6280_6007 => Some((RegisterCount::Four, Width::E32)),
-        0x6280_7007 => Some((RegisterCount::Four, Width::E64)),
-        0xe280_0007 => Some((RegisterCount::Eight, Width::E8)),
-        0xe280_5007 => Some((RegisterCount::Eight, Width::E16)),
-        0xe280_6007 => Some((RegisterCount::Eight, Width::E32)),
-        0xe280_7007 => Some((RegisterCount::Eight, Width::E64)),
+        0x0280_0007 => Some((RegisterCount::One, Eew::E8)),
+        0x0280_5007 => Some((RegisterCount::One, Eew::E16)),
+        0x0280_6007 => Some((RegisterCount::One, Eew::E32)),
+        0x0280_7007 => Some((RegisterCount::One, Eew::E64)),
+        0x2280_0007 => Some((RegisterCount::Two, Eew::E8)),
+        0x2280_5007 => Some((RegisterCount::Two, Eew::E16)),
+        0x2280_6007 => Some((RegisterCount::Two, Eew::E32)),
+        0x2280_7007 => Some((RegisterCount::Two, Eew::E64)),
+        0x6280_0007 => Some((RegisterCount::Four, Eew::E8)),
+        0x6280_5007 => Some((RegisterCount::Four, Eew::E16)),
+        0x6280_6007 => Some((RegisterCount::Four, Eew::E32)),
+        0x6280_7007 => Some((RegisterCount::Four, Eew::E64)),
+        0xe280_0007 => Some((RegisterCount::Eight, Eew::E8)),
+        0xe280_5007 => Some((RegisterCount::Eight, Eew::E16)),
+        0xe280_6007 => Some((RegisterCount::Eight, Eew::E32)),
+        0xe280_7007 => Some((RegisterCount::Eight, Eew::E64)),
         _ => None,
     }
 }

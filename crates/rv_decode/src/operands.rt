@@ -1,12 +1,12 @@
 //! The operands of instructions, each at its place in a word.
 ghost use Rattle.std.specs.Prelude.{◌≡◌, ◌<◌, ◌*◌, ◌+◌, ◌/◌, ◌%◌, ◌^◌, true};
 ghost use Rattle.rv_model.specs.instructions.BitFields.{AllFit, flag_bit, sum_of};
-ghost use Rattle.rv_model.specs.instructions.Accesses.{is_access};
-ghost use Rattle.rv_model.specs.instructions.Sources.{number};
+ghost use Rattle.rv_model.specs.lending.Accesses.{is_access};
+ghost use Rattle.rv_model.specs.instructions.Sources.{source_number};
 ghost use Rattle.rv_model.specs.instructions.Layout.{parts};
 ghost use Rattle.rv_decode.specs.Opcodes.{is_operation};
 
-use rv_model::{Field, Instr, Reg, Source, VReg};
+use rv_model::{AccessInstr, CsrInstr, Field, Instr, Reg, ScalarInstr, Source, VReg, VectorInstr};
 
 /// A register's number at bit `low`.
 fn reg(register: Reg, low: u32) -> u64
@@ -85,8 +85,8 @@ fn jump_part(imm: Field<20>) -> u64
 
 /// The second operand of a vector operation, at bit 15.
 fn source_part(source: &Source) -> u64
-    ensures value { result ≡ number source.now * 2 ^ 15 }
-    ensures fit { number source.now < 2 ^ 5 }
+    ensures value { result ≡ source_number source.now * 2 ^ 15 }
+    ensures fit { source_number source.now < 2 ^ 5 }
 {
     match *source {
         Source::V(register) => vreg(register, 15),
@@ -103,26 +103,42 @@ fn operation_operands(instr: &Instr) -> u64
     ensures small { result < 2 ^ 61 }
 {
     match *instr {
-        Instr::SetVli { rd, rs1, vtype } => reg(rd, 7) + reg(rs1, 15) + put(vtype, 20),
-        Instr::SetIvli { rd, avl, vtype } => reg(rd, 7) + put(avl, 15) + put(vtype, 20),
-        Instr::SetVl { rd, rs1, rs2 } => reg(rd, 7) + reg(rs1, 15) + reg(rs2, 20),
-        Instr::VectorArith { arith, vd, vs2, vm } => source_part(&arith.parts().1)
+        Instr::Vector(VectorInstr::SetVli { rd, rs1, vtype }) => reg(rd, 7)
+            + reg(rs1, 15)
+            + put(vtype, 20),
+        Instr::Vector(VectorInstr::SetIvli { rd, avl, vtype }) => reg(rd, 7)
+            + put(avl, 15)
+            + put(vtype, 20),
+        Instr::Vector(VectorInstr::SetVl { rd, rs1, rs2 }) => reg(rd, 7)
+            + reg(rs1, 15)
+            + reg(rs2, 20),
+        Instr::Vector(VectorInstr::Arith { arith, vd, vs2, vm }) => source_part(&arith.parts().1)
             + vreg(vd, 7)
             + vreg(vs2, 20)
             + unmasked(vm),
-        Instr::VectorCarry { carry, vd, vs2 } => source_part(&carry.parts().1)
+        Instr::Vector(VectorInstr::Carry { carry, vd, vs2 }) => source_part(&carry.parts().1)
             + vreg(vd, 7)
             + vreg(vs2, 20),
-        Instr::VectorMove { source, vd } => source_part(&source) + vreg(vd, 7),
-        Instr::WholeMove { vd, vs2, .. } => vreg(vd, 7) + vreg(vs2, 20),
-        Instr::MaskLogic { vd, vs1, vs2, .. } => vreg(vd, 7) + vreg(vs1, 15) + vreg(vs2, 20),
-        Instr::Compress { vd, vs1, vs2 } => vreg(vd, 7) + vreg(vs1, 15) + vreg(vs2, 20),
-        Instr::MaskToScalar { rd, vs2, vm, .. } => reg(rd, 7) + vreg(vs2, 20) + unmasked(vm),
-        Instr::VectorExtend { vd, vs2, vm, .. } => vreg(vd, 7) + vreg(vs2, 20) + unmasked(vm),
-        Instr::MaskUnary { vd, vs2, vm, .. } => vreg(vd, 7) + vreg(vs2, 20) + unmasked(vm),
-        Instr::ElementIndex { vd, vm } => vreg(vd, 7) + unmasked(vm),
-        Instr::MoveToScalar { rd, vs2 } => reg(rd, 7) + vreg(vs2, 20),
-        Instr::MoveToVector { vd, rs1 } => vreg(vd, 7) + reg(rs1, 15),
+        Instr::Vector(VectorInstr::Move { source, vd }) => source_part(&source) + vreg(vd, 7),
+        Instr::Vector(VectorInstr::WholeMove { vd, vs2, .. }) => vreg(vd, 7) + vreg(vs2, 20),
+        Instr::Vector(VectorInstr::MaskLogic { vd, vs1, vs2, .. }) => vreg(vd, 7)
+            + vreg(vs1, 15)
+            + vreg(vs2, 20),
+        Instr::Vector(VectorInstr::Compress { vd, vs1, vs2 }) => vreg(vd, 7)
+            + vreg(vs1, 15)
+            + vreg(vs2, 20),
+        Instr::Vector(VectorInstr::MaskToScalar { rd, vs2, vm, .. }) => reg(rd, 7)
+            + vreg(vs2, 20)
+            + unmasked(vm),
+        Instr::Vector(VectorInstr::Extend { vd, vs2, vm, .. }) => vreg(vd, 7)
+            + vreg(vs2, 20)
+            + unmasked(vm),
+        Instr::Vector(VectorInstr::MaskUnary { vd, vs2, vm, .. }) => vreg(vd, 7)
+            + vreg(vs2, 20)
+            + unmasked(vm),
+        Instr::Vector(VectorInstr::ElementIndex { vd, vm }) => vreg(vd, 7) + unmasked(vm),
+        Instr::Vector(VectorInstr::MoveToScalar { rd, vs2 }) => reg(rd, 7) + vreg(vs2, 20),
+        Instr::Vector(VectorInstr::MoveToVector { vd, rs1 }) => vreg(vd, 7) + reg(rs1, 15),
         _ => unreachable!(),
     }
 }
@@ -135,32 +151,38 @@ fn access_operands(instr: &Instr) -> u64
     ensures small { result < 2 ^ 61 }
 {
     match *instr {
-        Instr::VectorUnit {
-            nf,
-            vd,
-            rs1,
-            vm,
-            ..
-        } => put(nf, 29) + vreg(vd, 7) + reg(rs1, 15) + unmasked(vm),
-        Instr::VectorStrided {
-            nf,
-            vd,
-            rs1,
-            rs2,
-            vm,
-            ..
-        } => put(nf, 29) + vreg(vd, 7) + reg(rs1, 15) + reg(rs2, 20) + unmasked(vm),
-        Instr::VectorIndexed {
-            nf,
-            vd,
-            rs1,
-            vs2,
-            vm,
-            ..
-        } => put(nf, 29) + vreg(vd, 7) + reg(rs1, 15) + vreg(vs2, 20) + unmasked(vm),
-        Instr::WholeLoad { vd, rs1, .. } => vreg(vd, 7) + reg(rs1, 15),
-        Instr::WholeStore { vd, rs1, .. } => vreg(vd, 7) + reg(rs1, 15),
-        Instr::MaskMemory { vd, rs1, .. } => vreg(vd, 7) + reg(rs1, 15),
+        Instr::Access(
+            AccessInstr::UnitStride {
+                nf,
+                vd,
+                rs1,
+                vm,
+                ..
+            },
+        ) => put(nf, 29) + vreg(vd, 7) + reg(rs1, 15) + unmasked(vm),
+        Instr::Access(
+            AccessInstr::Strided {
+                nf,
+                vd,
+                rs1,
+                rs2,
+                vm,
+                ..
+            },
+        ) => put(nf, 29) + vreg(vd, 7) + reg(rs1, 15) + reg(rs2, 20) + unmasked(vm),
+        Instr::Access(
+            AccessInstr::Indexed {
+                nf,
+                vd,
+                rs1,
+                vs2,
+                vm,
+                ..
+            },
+        ) => put(nf, 29) + vreg(vd, 7) + reg(rs1, 15) + vreg(vs2, 20) + unmasked(vm),
+        Instr::Access(AccessInstr::WholeLoad { vd, rs1, .. }) => vreg(vd, 7) + reg(rs1, 15),
+        Instr::Access(AccessInstr::WholeStore { vd, rs1, .. }) => vreg(vd, 7) + reg(rs1, 15),
+        Instr::Access(AccessInstr::MaskAccess { vd, rs1, .. }) => vreg(vd, 7) + reg(rs1, 15),
         _ => unreachable!(),
     }
 }
@@ -172,28 +194,43 @@ pub(crate) fn operands(instr: &Instr) -> u64
     ensures small { result < 2 ^ 61 }
 {
     match *instr {
-        Instr::Upper { rd, imm, .. } => reg(rd, 7) + put(imm, 12),
-        Instr::Jump { rd, imm } => reg(rd, 7) + jump_part(imm),
-        Instr::JumpRegister { rd, rs1, imm } => reg(rd, 7) + reg(rs1, 15) + put(imm, 20),
-        Instr::Branch { rs1, rs2, imm, .. } => reg(rs1, 15) + reg(rs2, 20) + branch_part(imm),
-        Instr::Load { rd, rs1, imm, .. } => reg(rd, 7) + reg(rs1, 15) + put(imm, 20),
-        Instr::Store { rs1, rs2, imm, .. } => reg(rs1, 15) + reg(rs2, 20) + store_part(imm),
-        Instr::RegisterImmediate { rd, rs1, imm, .. } => reg(rd, 7) + reg(rs1, 15) + put(imm, 20),
-        Instr::ShiftImmediate { rd, rs1, shamt, .. } => reg(rd, 7) + reg(rs1, 15) + put(shamt, 20),
-        Instr::ShiftImmediateWord { rd, rs1, shamt, .. } => reg(rd, 7)
+        Instr::Scalar(ScalarInstr::Upper { rd, imm, .. }) => reg(rd, 7) + put(imm, 12),
+        Instr::Scalar(ScalarInstr::Jump { rd, imm }) => reg(rd, 7) + jump_part(imm),
+        Instr::Scalar(ScalarInstr::JumpRegister { rd, rs1, imm }) => reg(rd, 7)
+            + reg(rs1, 15)
+            + put(imm, 20),
+        Instr::Scalar(ScalarInstr::Branch { rs1, rs2, imm, .. }) => reg(rs1, 15)
+            + reg(rs2, 20)
+            + branch_part(imm),
+        Instr::Scalar(ScalarInstr::Load { rd, rs1, imm, .. }) => reg(rd, 7)
+            + reg(rs1, 15)
+            + put(imm, 20),
+        Instr::Scalar(ScalarInstr::Store { rs1, rs2, imm, .. }) => reg(rs1, 15)
+            + reg(rs2, 20)
+            + store_part(imm),
+        Instr::Scalar(ScalarInstr::RegisterImmediate { rd, rs1, imm, .. }) => reg(rd, 7)
+            + reg(rs1, 15)
+            + put(imm, 20),
+        Instr::Scalar(ScalarInstr::ShiftImmediate { rd, rs1, shamt, .. }) => reg(rd, 7)
             + reg(rs1, 15)
             + put(shamt, 20),
-        Instr::RegisterRegister { rd, rs1, rs2, .. } => reg(rd, 7) + reg(rs1, 15) + reg(rs2, 20),
-        Instr::Fence { rd, rs1, ordering } => reg(rd, 7) + reg(rs1, 15) + put(ordering, 20),
-        Instr::System { .. } => 0,
-        Instr::Csr { rd, rs1, csr, .. } => reg(rd, 7) + reg(rs1, 15) + put(csr, 20),
-        Instr::CsrImmediate { rd, imm, csr, .. } => reg(rd, 7) + put(imm, 15) + put(csr, 20),
-        Instr::VectorUnit { .. }
-        | Instr::VectorStrided { .. }
-        | Instr::VectorIndexed { .. }
-        | Instr::WholeLoad { .. }
-        | Instr::WholeStore { .. }
-        | Instr::MaskMemory { .. } => access_operands(instr),
-        _ => operation_operands(instr),
+        Instr::Scalar(ScalarInstr::ShiftImmediateWord { rd, rs1, shamt, .. }) => reg(rd, 7)
+            + reg(rs1, 15)
+            + put(shamt, 20),
+        Instr::Scalar(ScalarInstr::RegisterRegister { rd, rs1, rs2, .. }) => reg(rd, 7)
+            + reg(rs1, 15)
+            + reg(rs2, 20),
+        Instr::Scalar(ScalarInstr::Fence { rd, rs1, ordering }) => reg(rd, 7)
+            + reg(rs1, 15)
+            + put(ordering, 20),
+        Instr::Scalar(ScalarInstr::System { .. }) => 0,
+        Instr::Csr(CsrInstr::Register { rd, rs1, csr, .. }) => reg(rd, 7)
+            + reg(rs1, 15)
+            + put(csr, 20),
+        Instr::Csr(CsrInstr::Immediate { rd, imm, csr, .. }) => reg(rd, 7)
+            + put(imm, 15)
+            + put(csr, 20),
+        Instr::Access(_) => access_operands(instr),
+        Instr::Vector(_) => operation_operands(instr),
     }
 }

@@ -11,7 +11,7 @@ use crate::scalar_operations::{
 };
 use crate::word_fields::{branch_offset, jump_offset, reg, store_immediate};
 use rv_model::instructions::bits;
-use rv_model::{Field, Instr};
+use rv_model::{CsrInstr, Field, Instr, ScalarInstr};
 
 /// LUI and AUIPC.
 #[tactic(auto, using(crate::proofs::Scan::scan_upper))]
@@ -21,11 +21,11 @@ pub(crate) fn upper(word: u32) -> Option<Instr>
     ensures group { IfSome result (λ i. is_scalar i ≡ true) }
 {
     let op = upper_op(word & 0x0000_007f)?;
-    Some(Instr::Upper {
+    Some(Instr::Scalar(ScalarInstr::Upper {
         op,
         rd: reg(word, 7),
         imm: Field::new(bits(word, 12, 20)),
-    })
+    }))
 }
 
 /// JAL.
@@ -35,10 +35,10 @@ pub(crate) fn jump(word: u32) -> Option<Instr>
     ensures group { IfSome result (λ i. is_scalar i ≡ true) }
 {
     if word & 0x0000_007f == 0x0000_006f {
-        Some(Instr::Jump {
+        Some(Instr::Scalar(ScalarInstr::Jump {
             rd: reg(word, 7),
             imm: jump_offset(word),
-        })
+        }))
     } else {
         None
     }
@@ -51,11 +51,11 @@ pub(crate) fn jump_register(word: u32) -> Option<Instr>
     ensures group { IfSome result (λ i. is_scalar i ≡ true) }
 {
     if word & 0x0000_707f == 0x0000_0067 {
-        Some(Instr::JumpRegister {
+        Some(Instr::Scalar(ScalarInstr::JumpRegister {
             rd: reg(word, 7),
             rs1: reg(word, 15),
             imm: Field::new(bits(word, 20, 12)),
-        })
+        }))
     } else {
         None
     }
@@ -69,12 +69,12 @@ pub(crate) fn branch(word: u32) -> Option<Instr>
     ensures group { IfSome result (λ i. is_scalar i ≡ true) }
 {
     let op = branch_op(word & 0x0000_707f)?;
-    Some(Instr::Branch {
+    Some(Instr::Scalar(ScalarInstr::Branch {
         op,
         rs1: reg(word, 15),
         rs2: reg(word, 20),
         imm: branch_offset(word),
-    })
+    }))
 }
 
 /// LOAD.
@@ -85,12 +85,12 @@ pub(crate) fn load(word: u32) -> Option<Instr>
     ensures group { IfSome result (λ i. is_scalar i ≡ true) }
 {
     let op = load_op(word & 0x0000_707f)?;
-    Some(Instr::Load {
+    Some(Instr::Scalar(ScalarInstr::Load {
         op,
         rd: reg(word, 7),
         rs1: reg(word, 15),
         imm: Field::new(bits(word, 20, 12)),
-    })
+    }))
 }
 
 /// STORE.
@@ -101,12 +101,12 @@ pub(crate) fn store(word: u32) -> Option<Instr>
     ensures group { IfSome result (λ i. is_scalar i ≡ true) }
 {
     let op = store_op(word & 0x0000_707f)?;
-    Some(Instr::Store {
+    Some(Instr::Scalar(ScalarInstr::Store {
         op,
         rs1: reg(word, 15),
         rs2: reg(word, 20),
         imm: store_immediate(word),
-    })
+    }))
 }
 
 /// OP-IMM and OP-IMM-32 with an immediate of 12 bits.
@@ -117,12 +117,12 @@ pub(crate) fn register_immediate(word: u32) -> Option<Instr>
     ensures group { IfSome result (λ i. is_scalar i ≡ true) }
 {
     let op = immediate_op(word & 0x0000_707f)?;
-    Some(Instr::RegisterImmediate {
+    Some(Instr::Scalar(ScalarInstr::RegisterImmediate {
         op,
         rd: reg(word, 7),
         rs1: reg(word, 15),
         imm: Field::new(bits(word, 20, 12)),
-    })
+    }))
 }
 
 /// OP-IMM with a shift amount.
@@ -133,12 +133,12 @@ pub(crate) fn shift_immediate(word: u32) -> Option<Instr>
     ensures group { IfSome result (λ i. is_scalar i ≡ true) }
 {
     let op = shift_immediate_op(word & 0xfc00_707f)?;
-    Some(Instr::ShiftImmediate {
+    Some(Instr::Scalar(ScalarInstr::ShiftImmediate {
         op,
         rd: reg(word, 7),
         rs1: reg(word, 15),
         shamt: Field::new(bits(word, 20, 6)),
-    })
+    }))
 }
 
 /// OP-IMM-32 with a shift amount.
@@ -149,12 +149,12 @@ pub(crate) fn shift_immediate_word(word: u32) -> Option<Instr>
     ensures group { IfSome result (λ i. is_scalar i ≡ true) }
 {
     let op = shift_immediate_word_op(word & 0xfe00_707f)?;
-    Some(Instr::ShiftImmediateWord {
+    Some(Instr::Scalar(ScalarInstr::ShiftImmediateWord {
         op,
         rd: reg(word, 7),
         rs1: reg(word, 15),
         shamt: Field::new(bits(word, 20, 5)),
-    })
+    }))
 }
 
 /// OP and OP-32.
@@ -165,12 +165,12 @@ pub(crate) fn register_register(word: u32) -> Option<Instr>
     ensures group { IfSome result (λ i. is_scalar i ≡ true) }
 {
     let op = register_op(word & 0xfe00_707f)?;
-    Some(Instr::RegisterRegister {
+    Some(Instr::Scalar(ScalarInstr::RegisterRegister {
         op,
         rd: reg(word, 7),
         rs1: reg(word, 15),
         rs2: reg(word, 20),
-    })
+    }))
 }
 
 /// FENCE of MISC-MEM.
@@ -180,11 +180,11 @@ pub(crate) fn fence(word: u32) -> Option<Instr>
     ensures group { IfSome result (λ i. is_scalar i ≡ true) }
 {
     if word & 0x0000_707f == 0x0000_000f {
-        Some(Instr::Fence {
+        Some(Instr::Scalar(ScalarInstr::Fence {
             rd: reg(word, 7),
             rs1: reg(word, 15),
             ordering: Field::new(bits(word, 20, 12)),
-        })
+        }))
     } else {
         None
     }
@@ -197,7 +197,7 @@ pub(crate) fn system(word: u32) -> Option<Instr>
     ensures group { IfSome result (λ i. is_system i ≡ true) }
 {
     let op = system_op(word)?;
-    Some(Instr::System { op })
+    Some(Instr::Scalar(ScalarInstr::System { op }))
 }
 
 /// Zicsr with a scalar register.
@@ -207,12 +207,12 @@ pub(crate) fn csr(word: u32) -> Option<Instr>
     ensures group { IfSome result (λ i. is_system i ≡ true) }
 {
     let op = csr_op(word & 0x0000_707f)?;
-    Some(Instr::Csr {
+    Some(Instr::Csr(CsrInstr::Register {
         op,
         rd: reg(word, 7),
         rs1: reg(word, 15),
         csr: Field::new(bits(word, 20, 12)),
-    })
+    }))
 }
 
 /// Zicsr with an immediate.
@@ -222,10 +222,10 @@ pub(crate) fn csr_immediate(word: u32) -> Option<Instr>
     ensures group { IfSome result (λ i. is_system i ≡ true) }
 {
     let op = csr_immediate_op(word & 0x0000_707f)?;
-    Some(Instr::CsrImmediate {
+    Some(Instr::Csr(CsrInstr::Immediate {
         op,
         rd: reg(word, 7),
         imm: Field::new(bits(word, 15, 5)),
         csr: Field::new(bits(word, 20, 12)),
-    })
+    }))
 }

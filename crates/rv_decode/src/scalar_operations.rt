@@ -1,16 +1,17 @@
 //! The scalar operations by the bits that they fix.
-#![tactic(auto, unfolding(rv_model::specs::instructions::Table::find))]
+#![tactic(auto, unfolding(rv_model::specs::lending::Search::find))]
 
 ghost use Rattle.std.specs.Prelude.{◌≡◌};
-ghost use Rattle.rv_model.specs.instructions.FixedBits.{upper_bits, upper_ops, branch_bits, branch_ops, load_bits, load_ops, store_bits, store_ops, immediate_op_bits, immediate_ops, shift_immediate_bits, shift_immediate_ops, shift_immediate_word_bits, shift_immediate_word_ops, register_op_bits, register_ops, system_bits, system_ops, csr_bits, csr_ops, csr_immediate_bits, csr_immediate_ops};
-ghost use Rattle.rv_model.specs.instructions.Table.{find};
+ghost use Rattle.rv_model.specs.instructions.FixedBits.{upper_ops, branch_ops, load_ops, store_ops, immediate_ops, shift_immediate_ops, shift_immediate_word_ops, register_ops, system_ops, csr_ops, csr_immediate_ops};
+ghost use Rattle.rv_model.specs.lending.ListedBits.{upper_bits, branch_bits, load_bits, store_bits, immediate_op_bits, shift_immediate_bits, shift_immediate_word_bits, register_op_bits, system_bits, csr_bits, csr_immediate_bits};
+ghost use Rattle.rv_model.specs.lending.Search.{find};
 
 use rv_model::instructions::operations::{
     BranchOp, CsrImmediateOp, CsrOp, ImmediateOp, LoadOp, RegisterOp, ShiftImmediateOp,
     ShiftImmediateWordOp, StoreOp, SystemOp, UpperOp,
 };
 
-/// The operation of these bits, for `Instr::Upper`.
+/// The operation of these bits, for `Instr::Scalar(ScalarInstr::Upper)`.
 pub(crate) fn upper_op(bits: u32) -> Option<UpperOp>
     ensures { result ≡ find upper_bits upper_ops bits }
 {
@@ -21,7 +22,7 @@ pub(crate) fn upper_op(bits: u32) -> Option<UpperOp>
     }
 }
 
-/// The operation of these bits, for `Instr::Branch`.
+/// The operation of these bits, for `Instr::Scalar(ScalarInstr::Branch)`.
 pub(crate) fn branch_op(bits: u32) -> Option<BranchOp>
     ensures { result ≡ find branch_bits branch_ops bits }
 {
@@ -36,7 +37,7 @@ pub(crate) fn branch_op(bits: u32) -> Option<BranchOp>
     }
 }
 
-/// The operation of these bits, for `Instr::Load`.
+/// The operation of these bits, for `Instr::Scalar(ScalarInstr::Load)`.
 pub(crate) fn load_op(bits: u32) -> Option<LoadOp>
     ensures { result ≡ find load_bits load_ops bits }
 {
@@ -52,7 +53,7 @@ pub(crate) fn load_op(bits: u32) -> Option<LoadOp>
     }
 }
 
-/// The operation of these bits, for `Instr::Store`.
+/// The operation of these bits, for `Instr::Scalar(ScalarInstr::Store)`.
 pub(crate) fn store_op(bits: u32) -> Option<StoreOp>
     ensures { result ≡ find store_bits store_ops bits }
 {
@@ -65,7 +66,7 @@ pub(crate) fn store_op(bits: u32) -> Option<StoreOp>
     }
 }
 
-/// The operation of these bits, for `Instr::RegisterImmediate`.
+/// The operation of these bits, for `Instr::Scalar(ScalarInstr::RegisterImmediate)`.
 pub(crate) fn immediate_op(bits: u32) -> Option<ImmediateOp>
     ensures { result ≡ find immediate_op_bits immediate_ops bits }
 {
@@ -81,7 +82,7 @@ pub(crate) fn immediate_op(bits: u32) -> Option<ImmediateOp>
     }
 }
 
-/// The operation of these bits, for `Instr::ShiftImmediate`.
+/// The operation of these bits, for `Instr::Scalar(ScalarInstr::ShiftImmediate)`.
 pub(crate) fn shift_immediate_op(bits: u32) -> Option<ShiftImmediateOp>
     ensures { result ≡ find shift_immediate_bits shift_immediate_ops bits }
 {
@@ -93,7 +94,7 @@ pub(crate) fn shift_immediate_op(bits: u32) -> Option<ShiftImmediateOp>
     }
 }
 
-/// The operation of these bits, for `Instr::ShiftImmediateWord`.
+/// The operation of these bits, for `Instr::Scalar(ScalarInstr::ShiftImmediateWord)`.
 pub(crate) fn shift_immediate_word_op(bits: u32) -> Option<ShiftImmediateWordOp>
     ensures { result ≡ find shift_immediate_word_bits shift_immediate_word_ops bits }
 {
@@ -105,7 +106,7 @@ pub(crate) fn shift_immediate_word_op(bits: u32) -> Option<ShiftImmediateWordOp>
     }
 }
 
-/// The operation of these bits, for `Instr::RegisterRegister`.
+/// The operation of these bits, for `Instr::Scalar(ScalarInstr::RegisterRegister)`.
 #[inline(always)]
 pub(crate) fn register_op(bits: u32) -> Option<RegisterOp>
     ensures { result ≡ find register_op_bits register_ops bits }
@@ -143,7 +144,7 @@ pub(crate) fn register_op(bits: u32) -> Option<RegisterOp>
     }
 }
 
-/// The operation of these bits, for `Instr::System`.
+/// The operation of these bits, for `Instr::Scalar(ScalarInstr::System)`.
 pub(crate) fn system_op(bits: u32) -> Option<SystemOp>
     ensures { result ≡ find system_bits system_ops bits }
 {
@@ -154,7 +155,7 @@ pub(crate) fn system_op(bits: u32) -> Option<SystemOp>
     }
 }
 
-/// The operation of these bits, for `Instr::Csr`.
+/// The operation of these bits, for `Instr::Csr(CsrInstr::Register)`.
 pub(crate) fn csr_op(bits: u32) -> Option<CsrOp>
     ensures { result ≡ find csr_bits csr_ops bits }
 {
@@ -166,7 +167,7 @@ pub(crate) fn csr_op(bits: u32) -> Option<CsrOp>
     }
 }
 
-/// The operation of these bits, for `Instr::CsrImmediate`.
+/// The operation of these bits, for `Instr::Csr(CsrInstr::Immediate)`.
 pub(crate) fn csr_immediate_op(bits: u32) -> Option<CsrImmediateOp>
     ensures { result ≡ find csr_immediate_bits csr_immediate_ops bits }
 {

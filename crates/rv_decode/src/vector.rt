@@ -13,7 +13,7 @@ use crate::vector_operations::{
 use crate::word_fields::{is_unmasked, reg, source, vreg};
 use rv_model::instructions::bits;
 use rv_model::instructions::operations::{Form, Major};
-use rv_model::{Arith, Carry, Field, Instr};
+use rv_model::{Arith, Carry, Field, Instr, VectorInstr};
 
 /// An operation with a line of its own in the table, masked or not.
 #[tactic(auto, using(crate::proofs::Scan::scan_arith, rv_model::proofs::instruction_lemmas::Words::form_source_of))]
@@ -21,7 +21,7 @@ use rv_model::{Arith, Carry, Field, Instr};
 pub(crate) fn arith(word: u32, major: Major, form: Form) -> Option<ArithOperation>
     requires { bit_and word 0x707f ≡ major_bits major form }
     ensures some { IfSome result (λ o. scan (rows (Ariths major form)) word
-        ≡ Some (Instr.VectorArith o.arith o.vd o.vs2 o.unmasked)) }
+        ≡ Some (Instr.Vector (VectorInstr.Arith o.arith o.vd o.vs2 o.unmasked))) }
     ensures none { IfNone result (scan (rows (Ariths major form)) word ≡ None) }
 {
     let op = match major {
@@ -43,11 +43,11 @@ pub(crate) fn carry(word: u32, form: Form) -> Option<Instr>
     ensures group { IfSome result (λ i. is_rest i ≡ true) }
 {
     let op = carry_op(word & 0xfe00_707f, form)?;
-    Some(Instr::VectorCarry {
+    Some(Instr::Vector(VectorInstr::Carry {
         carry: Carry::new(op, source(word, form)),
         vd: vreg(word, 7),
         vs2: vreg(word, 20),
-    })
+    }))
 }
 
 /// `vmv.v.v`, `vmv.v.x` or `vmv.v.i`, whose vs2 is 0.
@@ -61,10 +61,10 @@ pub(crate) fn vector_move(word: u32, form: Form) -> Option<Instr>
         Form::I => 0x5e00_3057,
     };
     if word & 0xfff0_707f == code {
-        Some(Instr::VectorMove {
+        Some(Instr::Vector(VectorInstr::Move {
             source: source(word, form),
             vd: vreg(word, 7),
-        })
+        }))
     } else {
         None
     }
@@ -76,11 +76,11 @@ pub(crate) fn set_vli(word: u32) -> Option<Instr>
     ensures group { IfSome result (λ i. is_rest i ≡ true) }
 {
     if word & 0x8000_707f == 0x0000_7057 {
-        Some(Instr::SetVli {
+        Some(Instr::Vector(VectorInstr::SetVli {
             rd: reg(word, 7),
             rs1: reg(word, 15),
             vtype: Field::new(bits(word, 20, 11)),
-        })
+        }))
     } else {
         None
     }
@@ -92,11 +92,11 @@ pub(crate) fn set_ivli(word: u32) -> Option<Instr>
     ensures group { IfSome result (λ i. is_rest i ≡ true) }
 {
     if word & 0xc000_707f == 0xc000_7057 {
-        Some(Instr::SetIvli {
+        Some(Instr::Vector(VectorInstr::SetIvli {
             rd: reg(word, 7),
             avl: Field::new(bits(word, 15, 5)),
             vtype: Field::new(bits(word, 20, 10)),
-        })
+        }))
     } else {
         None
     }
@@ -108,11 +108,11 @@ pub(crate) fn set_vl(word: u32) -> Option<Instr>
     ensures group { IfSome result (λ i. is_rest i ≡ true) }
 {
     if word & 0xfe00_707f == 0x8000_7057 {
-        Some(Instr::SetVl {
+        Some(Instr::Vector(VectorInstr::SetVl {
             rd: reg(word, 7),
             rs1: reg(word, 15),
             rs2: reg(word, 20),
-        })
+        }))
     } else {
         None
     }
@@ -125,11 +125,11 @@ pub(crate) fn whole_move(word: u32) -> Option<Instr>
     ensures group { IfSome result (λ i. is_rest i ≡ true) }
 {
     let count = whole_move_op(word & 0xfe0f_f07f)?;
-    Some(Instr::WholeMove {
+    Some(Instr::Vector(VectorInstr::WholeMove {
         count,
         vd: vreg(word, 7),
         vs2: vreg(word, 20),
-    })
+    }))
 }
 
 /// Mask logic, which is never masked.
@@ -139,12 +139,12 @@ pub(crate) fn mask_logic(word: u32) -> Option<Instr>
     ensures group { IfSome result (λ i. is_rest i ≡ true) }
 {
     let op = mask_logic_op(word & 0xfe00_707f)?;
-    Some(Instr::MaskLogic {
+    Some(Instr::Vector(VectorInstr::MaskLogic {
         op,
         vd: vreg(word, 7),
         vs1: vreg(word, 15),
         vs2: vreg(word, 20),
-    })
+    }))
 }
 
 /// `vcompress.vm`, which is never masked.
@@ -153,11 +153,11 @@ pub(crate) fn compress(word: u32) -> Option<Instr>
     ensures group { IfSome result (λ i. is_rest i ≡ true) }
 {
     if word & 0xfe00_707f == 0x5e00_2057 {
-        Some(Instr::Compress {
+        Some(Instr::Vector(VectorInstr::Compress {
             vd: vreg(word, 7),
             vs1: vreg(word, 15),
             vs2: vreg(word, 20),
-        })
+        }))
     } else {
         None
     }
@@ -170,12 +170,12 @@ pub(crate) fn mask_to_scalar(word: u32) -> Option<Instr>
     ensures group { IfSome result (λ i. is_rest i ≡ true) }
 {
     let op = mask_to_scalar_op(word & 0xfc0f_f07f)?;
-    Some(Instr::MaskToScalar {
+    Some(Instr::Vector(VectorInstr::MaskToScalar {
         op,
         rd: reg(word, 7),
         vs2: vreg(word, 20),
         vm: is_unmasked(word),
-    })
+    }))
 }
 
 /// VXUNARY0.
@@ -185,12 +185,12 @@ pub(crate) fn extend(word: u32) -> Option<Instr>
     ensures group { IfSome result (λ i. is_rest i ≡ true) }
 {
     let op = extend_op(word & 0xfc0f_f07f)?;
-    Some(Instr::VectorExtend {
+    Some(Instr::Vector(VectorInstr::Extend {
         op,
         vd: vreg(word, 7),
         vs2: vreg(word, 20),
         vm: is_unmasked(word),
-    })
+    }))
 }
 
 /// VMUNARY0 on a mask.
@@ -200,12 +200,12 @@ pub(crate) fn mask_unary(word: u32) -> Option<Instr>
     ensures group { IfSome result (λ i. is_rest i ≡ true) }
 {
     let op = mask_unary_op(word & 0xfc0f_f07f)?;
-    Some(Instr::MaskUnary {
+    Some(Instr::Vector(VectorInstr::MaskUnary {
         op,
         vd: vreg(word, 7),
         vs2: vreg(word, 20),
         vm: is_unmasked(word),
-    })
+    }))
 }
 
 /// `vid.v`.
@@ -214,10 +214,10 @@ pub(crate) fn element_index(word: u32) -> Option<Instr>
     ensures group { IfSome result (λ i. is_rest i ≡ true) }
 {
     if word & 0xfdff_f07f == 0x5008_a057 {
-        Some(Instr::ElementIndex {
+        Some(Instr::Vector(VectorInstr::ElementIndex {
             vd: vreg(word, 7),
             vm: is_unmasked(word),
-        })
+        }))
     } else {
         None
     }
@@ -229,10 +229,10 @@ pub(crate) fn move_to_scalar(word: u32) -> Option<Instr>
     ensures group { IfSome result (λ i. is_rest i ≡ true) }
 {
     if word & 0xfe0f_f07f == 0x4200_2057 {
-        Some(Instr::MoveToScalar {
+        Some(Instr::Vector(VectorInstr::MoveToScalar {
             rd: reg(word, 7),
             vs2: vreg(word, 20),
-        })
+        }))
     } else {
         None
     }
@@ -244,10 +244,10 @@ pub(crate) fn move_to_vector(word: u32) -> Option<Instr>
     ensures group { IfSome result (λ i. is_rest i ≡ true) }
 {
     if word & 0xfff0_707f == 0x4200_6057 {
-        Some(Instr::MoveToVector {
+        Some(Instr::Vector(VectorInstr::MoveToVector {
             vd: vreg(word, 7),
             rs1: reg(word, 15),
-        })
+        }))
     } else {
         None
     }

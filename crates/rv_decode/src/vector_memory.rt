@@ -9,7 +9,7 @@ use crate::memory_operations::{
 };
 use crate::word_fields::{is_unmasked, reg, vreg};
 use rv_model::instructions::bits;
-use rv_model::{Field, Instr};
+use rv_model::{AccessInstr, Field, Instr};
 
 /// Unit stride.
 #[tactic(auto, using(crate::proofs::Scan::scan_unit))]
@@ -19,14 +19,14 @@ pub(crate) fn unit(word: u32) -> Option<Instr>
     ensures group { IfSome result (λ i. is_vector_access i ≡ true) }
 {
     let (op, width) = unit_access(word & 0x1df0_707f)?;
-    Some(Instr::VectorUnit {
+    Some(Instr::Access(AccessInstr::UnitStride {
         op,
         width,
         nf: Field::new(bits(word, 29, 3)),
         vd: vreg(word, 7),
         rs1: reg(word, 15),
         vm: is_unmasked(word),
-    })
+    }))
 }
 
 /// Strided.
@@ -36,7 +36,7 @@ pub(crate) fn strided(word: u32) -> Option<Instr>
     ensures group { IfSome result (λ i. is_rest i ≡ true) }
 {
     let (direction, width) = strided_access(word & 0x1c00_707f)?;
-    Some(Instr::VectorStrided {
+    Some(Instr::Access(AccessInstr::Strided {
         direction,
         width,
         nf: Field::new(bits(word, 29, 3)),
@@ -44,7 +44,7 @@ pub(crate) fn strided(word: u32) -> Option<Instr>
         rs1: reg(word, 15),
         rs2: reg(word, 20),
         vm: is_unmasked(word),
-    })
+    }))
 }
 
 /// Indexed.
@@ -54,7 +54,7 @@ pub(crate) fn indexed(word: u32) -> Option<Instr>
     ensures group { IfSome result (λ i. is_rest i ≡ true) }
 {
     let ((direction, order), width) = indexed_access(word & 0x1c00_707f)?;
-    Some(Instr::VectorIndexed {
+    Some(Instr::Access(AccessInstr::Indexed {
         direction,
         order,
         width,
@@ -63,7 +63,7 @@ pub(crate) fn indexed(word: u32) -> Option<Instr>
         rs1: reg(word, 15),
         vs2: vreg(word, 20),
         vm: is_unmasked(word),
-    })
+    }))
 }
 
 /// Loads of whole registers.
@@ -73,12 +73,12 @@ pub(crate) fn whole_load(word: u32) -> Option<Instr>
     ensures group { IfSome result (λ i. is_rest i ≡ true) }
 {
     let (count, width) = whole_load_access(word & 0xfff0_707f)?;
-    Some(Instr::WholeLoad {
+    Some(Instr::Access(AccessInstr::WholeLoad {
         count,
         width,
         vd: vreg(word, 7),
         rs1: reg(word, 15),
-    })
+    }))
 }
 
 /// Stores of whole registers.
@@ -88,11 +88,11 @@ pub(crate) fn whole_store(word: u32) -> Option<Instr>
     ensures group { IfSome result (λ i. is_rest i ≡ true) }
 {
     let count = whole_store_count(word & 0xfff0_707f)?;
-    Some(Instr::WholeStore {
+    Some(Instr::Access(AccessInstr::WholeStore {
         count,
         vd: vreg(word, 7),
         rs1: reg(word, 15),
-    })
+    }))
 }
 
 /// `vlm.v` and `vsm.v`.
@@ -102,9 +102,9 @@ pub(crate) fn mask_memory(word: u32) -> Option<Instr>
     ensures group { IfSome result (λ i. is_rest i ≡ true) }
 {
     let direction = mask_memory_direction(word & 0xfff0_707f)?;
-    Some(Instr::MaskMemory {
+    Some(Instr::Access(AccessInstr::MaskAccess {
         direction,
         vd: vreg(word, 7),
         rs1: reg(word, 15),
-    })
+    }))
 }

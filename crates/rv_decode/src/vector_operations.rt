@@ -1,8 +1,9 @@
 //! The vector operations by funct6 and form, or by the bits that they fix.
 ghost use Rattle.std.specs.Prelude.{◌≡◌, ◌<◌, ◌≤◌, IfSome, Some, None, true, if◌then◌else◌};
-ghost use Rattle.rv_model.specs.instructions.FixedBits.{whole_move_bits, mask_logic_bits, mask_to_scalar_bits, extend_bits, mask_unary_bits, counts, mask_logic_ops, mask_to_scalar_ops, extend_ops, mask_unary_ops};
+ghost use Rattle.rv_model.specs.instructions.FixedBits.{whole_move_bits, counts, mask_logic_ops, mask_to_scalar_ops, extend_ops, mask_unary_ops};
+ghost use Rattle.rv_model.specs.lending.ListedBits.{mask_logic_bits, mask_to_scalar_bits, extend_bits, mask_unary_bits};
 ghost use Rattle.rv_model.specs.instructions.Operations.{has_form, line, carry_line, line_bits, those, vector_ops, carry_ops};
-ghost use Rattle.rv_model.specs.instructions.Table.{find, find_at};
+ghost use Rattle.rv_model.specs.lending.Search.{find, find_at};
 
 use crate::lines::has_form;
 use rv_model::instructions::operations::{
@@ -26,7 +27,7 @@ fn if_allowed(op: VectorOp, forms: Forms, form: Form) -> Option<VectorOp>
 }
 
 /// The operation of OPIVV, OPIVX or OPIVI with this funct6, below 0x18, and form.
-#[tactic(auto, unfolding(rv_model::specs::instructions::Table::find_at))]
+#[tactic(auto, unfolding(rv_model::specs::lending::Search::find_at))]
 #[inline(always)]
 fn lower_opi(funct6: u32, form: Form) -> Option<VectorOp>
     requires { funct6 < 0x18 }
@@ -58,7 +59,7 @@ fn lower_opi(funct6: u32, form: Form) -> Option<VectorOp>
 }
 
 /// The operation of OPIVV, OPIVX or OPIVI with this funct6, from 0x18 on, and form.
-#[tactic(auto, unfolding(rv_model::specs::instructions::Table::find_at))]
+#[tactic(auto, unfolding(rv_model::specs::lending::Search::find_at))]
 #[inline(always)]
 fn upper_opi(funct6: u32, form: Form) -> Option<VectorOp>
     requires { 0x18 ≤ funct6 }
@@ -109,7 +110,7 @@ pub(crate) fn opi(funct6: u32, form: Form) -> Option<VectorOp>
 }
 
 /// The operation of OPMVV or OPMVX with this funct6, below 0x20, and form.
-#[tactic(auto, unfolding(rv_model::specs::instructions::Table::find_at))]
+#[tactic(auto, unfolding(rv_model::specs::lending::Search::find_at))]
 #[inline(always)]
 fn lower_opm(funct6: u32, form: Form) -> Option<VectorOp>
     requires { funct6 < 0x20 }
@@ -137,7 +138,7 @@ fn lower_opm(funct6: u32, form: Form) -> Option<VectorOp>
 }
 
 /// The operation of OPMVV or OPMVX with this funct6, from 0x20 on and below 0x30, and form.
-#[tactic(auto, unfolding(rv_model::specs::instructions::Table::find_at))]
+#[tactic(auto, unfolding(rv_model::specs::lending::Search::find_at))]
 #[inline(always)]
 fn middle_opm(funct6: u32, form: Form) -> Option<VectorOp>
     requires from { 0x20 ≤ funct6 }
@@ -164,7 +165,7 @@ fn middle_opm(funct6: u32, form: Form) -> Option<VectorOp>
 }
 
 /// The operation of OPMVV or OPMVX with this funct6, from 0x30 on, and form.
-#[tactic(auto, unfolding(rv_model::specs::instructions::Table::find_at))]
+#[tactic(auto, unfolding(rv_model::specs::lending::Search::find_at))]
 #[inline(always)]
 fn upper_opm(funct6: u32, form: Form) -> Option<VectorOp>
     requires { 0x30 ≤ funct6 }
@@ -220,7 +221,7 @@ pub(crate) fn opm(funct6: u32, form: Form) -> Option<VectorOp>
 }
 
 /// The operation of these bits that takes v0 and has this form.
-#[tactic(auto, unfolding(rv_model::specs::instructions::Table::find))]
+#[tactic(auto, unfolding(rv_model::specs::lending::Search::find))]
 pub(crate) fn carry_op(bits: u32, form: Form) -> Option<CarryOp>
     ensures row { result
         ≡ find
@@ -250,8 +251,8 @@ pub(crate) fn carry_op(bits: u32, form: Form) -> Option<CarryOp>
     }
 }
 
-/// The operation of these bits, for `Instr::WholeMove`.
-#[tactic(auto, unfolding(rv_model::specs::instructions::Table::find))]
+/// The operation of these bits, for `Instr::Vector(VectorInstr::WholeMove)`.
+#[tactic(auto, unfolding(rv_model::specs::lending::Search::find))]
 pub(crate) fn whole_move_op(bits: u32) -> Option<RegisterCount>
     ensures { result ≡ find whole_move_bits counts bits }
 {
@@ -264,8 +265,8 @@ pub(crate) fn whole_move_op(bits: u32) -> Option<RegisterCount>
     }
 }
 
-/// The operation of these bits, for `Instr::MaskLogic`.
-#[tactic(auto, unfolding(rv_model::specs::instructions::Table::find))]
+/// The operation of these bits, for `Instr::Vector(VectorInstr::MaskLogic)`.
+#[tactic(auto, unfolding(rv_model::specs::lending::Search::find))]
 pub(crate) fn mask_logic_op(bits: u32) -> Option<MaskLogicOp>
     ensures { result ≡ find mask_logic_bits mask_logic_ops bits }
 {
@@ -282,8 +283,8 @@ pub(crate) fn mask_logic_op(bits: u32) -> Option<MaskLogicOp>
     }
 }
 
-/// The operation of these bits, for `Instr::MaskToScalar`.
-#[tactic(auto, unfolding(rv_model::specs::instructions::Table::find))]
+/// The operation of these bits, for `Instr::Vector(VectorInstr::MaskToScalar)`.
+#[tactic(auto, unfolding(rv_model::specs::lending::Search::find))]
 pub(crate) fn mask_to_scalar_op(bits: u32) -> Option<MaskToScalarOp>
     ensures { result ≡ find mask_to_scalar_bits mask_to_scalar_ops bits }
 {
@@ -294,8 +295,8 @@ pub(crate) fn mask_to_scalar_op(bits: u32) -> Option<MaskToScalarOp>
     }
 }
 
-/// The operation of these bits, for `Instr::VectorExtend`.
-#[tactic(auto, unfolding(rv_model::specs::instructions::Table::find))]
+/// The operation of these bits, for `Instr::Vector(VectorInstr::Extend)`.
+#[tactic(auto, unfolding(rv_model::specs::lending::Search::find))]
 pub(crate) fn extend_op(bits: u32) -> Option<ExtendOp>
     ensures { result ≡ find extend_bits extend_ops bits }
 {
@@ -310,8 +311,8 @@ pub(crate) fn extend_op(bits: u32) -> Option<ExtendOp>
     }
 }
 
-/// The operation of these bits, for `Instr::MaskUnary`.
-#[tactic(auto, unfolding(rv_model::specs::instructions::Table::find))]
+/// The operation of these bits, for `Instr::Vector(VectorInstr::MaskUnary)`.
+#[tactic(auto, unfolding(rv_model::specs::lending::Search::find))]
 pub(crate) fn mask_unary_op(bits: u32) -> Option<MaskUnaryOp>
     ensures { result ≡ find mask_unary_bits mask_unary_ops bits }
 {

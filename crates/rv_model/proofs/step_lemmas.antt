@@ -4,10 +4,9 @@ pub mod Cuts
 pub mod Effects
 pub mod FetchesResume
 pub mod GoesOn
-pub mod Lengths
 pub mod Repeats
 pub mod StepTicks
 pub mod StepsResume
 pub mod StoredWords
-pub mod TickBounds
 pub mod Ticks
+pub mod TicksTaken

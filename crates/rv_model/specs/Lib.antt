@@ -5,6 +5,7 @@ pub mod elements
 pub mod images
 pub mod instructions
 pub mod legality
+pub mod lending
 pub mod machine
 pub mod memory
 pub mod scalar

@@ -1,8 +1,7 @@
 -- Vector loads and stores. `Transfers` first: lists of transfers between registers and memory, and what they leave; then
 -- `VectorAccess`: the transfers that each instruction asks for; then `AccessRuns`: what an instruction leaves, and how it ends;
--- then `Restarts`: those that stop before their end and are run again; `Contiguous`: those whose elements follow one another.
+-- then `Restarts`: those that stop before their end and are run again.
 pub mod AccessRuns
-pub mod Contiguous
 pub mod Restarts
 pub mod Transfers
 pub mod VectorAccess

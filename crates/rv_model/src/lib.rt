@@ -18,7 +18,9 @@ pub use commands::{
     OperatorCommand, PageRange, ProgramCommand, Refusal, RegisterCommand, RunningCommand,
 };
 pub use images::{ElfFault, ProgramHeader};
-pub use instructions::{Arith, Carry, Field, Instr, Reg, Source, VReg};
+pub use instructions::{
+    AccessInstr, Arith, Carry, CsrInstr, Field, Instr, Reg, ScalarInstr, Source, VReg, VectorInstr,
+};
 pub use legality::{Content, Operand, Role, Shape};
 pub use machine::{
     Standing, Stats, USER_COUNT, User, absent_users_have_nothing, configurations_that_stay,

@@ -1,6 +1,7 @@
 //! Numbers in digits.
 ghost use Rattle.std.specs.Prelude.{◌≡◌, ◌≤◌, ◌^◌};
-ghost use Rattle.rv_model.specs.text.Digits.{digit, digits_after, capped};
+ghost use Rattle.rv_model.specs.text.Digits.{digit, digits_after};
+ghost use Rattle.rv_model.specs.lending.Text.{capped};
 
 /// The value of a hexadecimal digit in either case, or 16 for any other byte.
 fn digit(byte: u8) -> u128

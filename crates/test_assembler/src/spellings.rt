@@ -7,7 +7,7 @@ ghost use Rattle.std.specs.Prelude.{◌≡◌, IsTrue};
 
 use rv_asm::{Text, assemble, text_of};
 use rv_decode::decode;
-use rv_model::Instr;
+use rv_model::{Instr, ScalarInstr};
 use std::{fs, io};
 
 /// The opcodes of the instructions.
@@ -36,7 +36,7 @@ fn is_same(word: u32, text: &mut Text) -> bool
 fn is_told(word: u32, text: &Text) -> bool {
     let directive = text.as_str().starts_with(".word");
     match decode(word) {
-        Some(Instr::Fence { .. }) => true,
+        Some(Instr::Scalar(ScalarInstr::Fence { .. })) => true,
         Some(_) => !directive,
         None => directive,
     }

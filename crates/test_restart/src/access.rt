@@ -1,8 +1,8 @@
 //! Vector loads and stores of every form.
 ghost use Rattle.std.specs.Prelude.{◌≤◌};
 
-use rv_model::instructions::operations::{Direction, Order, RegisterCount, UnitOp, Width};
-use rv_model::{Field, Instr, Reg, Sew, VReg};
+use rv_model::instructions::operations::{Direction, Eew, Order, RegisterCount, UnitOp};
+use rv_model::{AccessInstr, Field, Reg, Sew, VReg};
 
 /// The kinds of vector loads and stores.
 #[derive(Clone, Copy)]
@@ -19,13 +19,13 @@ pub(crate) enum Kind {
 #[derive(Clone, Copy)]
 pub(crate) struct Form {
     pub kind: Kind,
-    pub width: Width,
+    pub width: Eew,
     pub fields: Field<3>,
     pub masked: bool,
 }
 
 /// The bytes of an element of a width.
-pub(crate) fn bytes_of(width: Width) -> usize
+pub(crate) fn bytes_of(width: Eew) -> usize
     ensures { result ≤ 8 }
 {
     usize::from(Sew::from_width(width).bits() / 8)
@@ -48,10 +48,10 @@ impl Form {
     pub(crate) fn length(&self, vl: u16) -> usize {
         let registers = if self.fields.value() == 0 { 1 } else { 2 };
         match (self.kind, self.width) {
-            (Kind::Whole(_), Width::E8) => registers * 32,
-            (Kind::Whole(_), Width::E16) => registers * 16,
-            (Kind::Whole(_), Width::E32) => registers * 8,
-            (Kind::Whole(_), Width::E64) => registers * 4,
+            (Kind::Whole(_), Eew::E8) => registers * 32,
+            (Kind::Whole(_), Eew::E16) => registers * 16,
+            (Kind::Whole(_), Eew::E32) => registers * 8,
+            (Kind::Whole(_), Eew::E64) => registers * 4,
             (Kind::Mask(_), _) => usize::from(vl.div_ceil(8)),
             _ => usize::from(vl),
         }
@@ -66,8 +66,8 @@ impl Form {
     }
 
     /// A strided access, with the address in x10 and the stride in x11.
-    fn strided(&self, direction: Direction) -> Instr {
-        Instr::VectorStrided {
+    fn strided(&self, direction: Direction) -> AccessInstr {
+        AccessInstr::Strided {
             direction,
             width: self.width,
             nf: self.fields,
@@ -79,8 +79,8 @@ impl Form {
     }
 
     /// An indexed access, with the address in x10 and the offsets in v16.
-    fn indexed(&self, direction: Direction) -> Instr {
-        Instr::VectorIndexed {
+    fn indexed(&self, direction: Direction) -> AccessInstr {
+        AccessInstr::Indexed {
             direction,
             order: Order::Ordered,
             width: self.width,
@@ -93,27 +93,27 @@ impl Form {
     }
 
     /// A load or store of whole registers, with the address in x10.
-    fn whole(&self, direction: Direction) -> Instr {
+    fn whole(&self, direction: Direction) -> AccessInstr {
         let (vd, rs1) = (VReg::new(8), Reg::new(10));
         let count = match self.fields.value() {
             0 => RegisterCount::One,
             _ => RegisterCount::Two,
         };
         match direction {
-            Direction::Load => Instr::WholeLoad {
+            Direction::Load => AccessInstr::WholeLoad {
                 count,
                 width: self.width,
                 vd,
                 rs1,
             },
-            Direction::Store => Instr::WholeStore { count, vd, rs1 },
+            Direction::Store => AccessInstr::WholeStore { count, vd, rs1 },
         }
     }
 
-    /// The instruction, which moves v8 and the registers after it.
-    pub(crate) fn instr(&self) -> Instr {
+    /// The access, which moves v8 and the registers after it.
+    pub(crate) fn access(&self) -> AccessInstr {
         match self.kind {
-            Kind::Unit(op) => Instr::VectorUnit {
+            Kind::Unit(op) => AccessInstr::UnitStride {
                 op,
                 width: self.width,
                 nf: self.fields,
@@ -124,7 +124,7 @@ impl Form {
             Kind::Strided(direction) => self.strided(direction),
             Kind::Indexed(direction) => self.indexed(direction),
             Kind::Whole(direction) => self.whole(direction),
-            Kind::Mask(direction) => Instr::MaskMemory {
+            Kind::Mask(direction) => AccessInstr::MaskAccess {
                 direction,
                 vd: VReg::new(8),
                 rs1: Reg::new(10),

@@ -6,7 +6,7 @@ use crate::pages::{Pages, are_same};
 use crate::registers::Registers;
 use crate::ways::{Case, Way};
 use rv_decode::encode;
-use rv_model::{FILE_BYTES, GROUP_BYTES, Instr, MemEnd, Scalar, User, VState};
+use rv_model::{AccessInstr, FILE_BYTES, GROUP_BYTES, Instr, MemEnd, Scalar, User, VState};
 use user_mem::Pool;
 
 /// How many accesses were run in parts, how often these were cut and faulted, and how many left something else than
@@ -80,7 +80,7 @@ fn is_same_state(one: &VState, other: &VState) -> bool {
 /// Compares an access in parts of at most `limit` indices with the whole one, which finds the gap filled where the
 /// parts filled it. None where a page can't be mapped.
 pub(crate) fn compare(
-    instr: &Instr,
+    access: &AccessInstr,
     registers: &Registers,
     limit: usize,
     bench: &mut Bench,
@@ -88,10 +88,10 @@ pub(crate) fn compare(
 ) -> Option<()>
     requires { 1 ≤ limit }
 {
-    let word = encode(instr);
+    let word = encode(&Instr::Access(*access));
     let case = Case {
         way: bench.way,
-        instr,
+        access,
         registers,
     };
     bench.pages.reset(&mut bench.pool, bench.parts, word)?;

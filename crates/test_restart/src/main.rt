@@ -22,7 +22,7 @@ use comparison::{Bench, Counts, compare};
 use generator::Generator;
 use pages::Pages;
 use registers::{Registers, configuration};
-use rv_model::instructions::operations::{Direction, UnitOp, Width};
+use rv_model::instructions::operations::{Direction, Eew, UnitOp};
 use rv_model::{Field, User};
 use std::io;
 use user_mem::Pool;
@@ -42,7 +42,7 @@ const KINDS: [(Kind, &str); 11] = [
     (Kind::Mask(Direction::Store), "mask stores"),
 ];
 
-const WIDTHS: [Width; 4] = [Width::E8, Width::E16, Width::E32, Width::E64];
+const WIDTHS: [Eew; 4] = [Eew::E8, Eew::E16, Eew::E32, Eew::E64];
 
 /// How often each form is generated, by what carries it out.
 fn rounds(way: Way) -> usize {
@@ -60,10 +60,10 @@ fn compare_limits(
     bench: &mut Bench,
     counts: &mut Counts,
 ) -> Option<()> {
-    let instr = form.instr();
+    let access = form.access();
     let registers = Registers::new(form, at, generator);
     for limit in 1..=form.length(registers.conf.vl()) {
-        compare(&instr, &registers, limit, bench, counts)?;
+        compare(&access, &registers, limit, bench, counts)?;
     }
     Some(())
 }

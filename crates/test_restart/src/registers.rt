@@ -5,7 +5,7 @@ use crate::access::{Form, Kind, bytes_of};
 use crate::generator::Generator;
 use crate::lending::OneSeat;
 use crate::pages::{CODE, GAP};
-use rv_model::instructions::operations::Width;
+use rv_model::instructions::operations::Eew;
 use rv_model::{FILE_BYTES, Lmul, Policy, Scalar, Seat, Sew, VConf, VState, VType};
 
 /// The registers that an access finds, and what becomes of agnostic elements.
@@ -37,18 +37,18 @@ pub(crate) fn configuration(kind: &Kind) -> VConf {
 }
 
 /// How far offsets of a width go below and above the start of the gap.
-fn reach(width: Width) -> u64
+fn reach(width: Eew) -> u64
     ensures small { result ≤ 4096 }
     ensures large { 128 ≤ result }
 {
     match width {
-        Width::E8 => 128,
+        Eew::E8 => 128,
         _ => 4096,
     }
 }
 
 /// The offset of an index: that of `at` is the first in the gap.
-fn offset(width: Width, index: usize, at: usize, generator: &mut Generator) -> u64 {
+fn offset(width: Eew, index: usize, at: usize, generator: &mut Generator) -> u64 {
     let reach = reach(width);
     // A segment has at most 24 bytes.
     let number = generator.next();
@@ -62,7 +62,7 @@ fn offset(width: Width, index: usize, at: usize, generator: &mut Generator) -> u
 }
 
 /// Writes eight offsets to v16 and the register after it.
-fn set_offsets(width: Width, at: usize, generator: &mut Generator, bytes: &mut [u8; FILE_BYTES]) {
+fn set_offsets(width: Eew, at: usize, generator: &mut Generator, bytes: &mut [u8; FILE_BYTES]) {
     let size = bytes_of(width);
     for index in 0..8 {
         let offset = offset(width, index, at, generator).to_le_bytes();

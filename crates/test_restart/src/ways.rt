@@ -6,7 +6,7 @@ use crate::registers::Registers;
 use arrayvec::ArrayVec;
 use hart::{Vectors, View, step};
 use reg_groups::legal;
-use rv_model::{Cause, Instr, MemEnd, OUTPUT_SIZE, Policy, Scalar, StepEnd, VState};
+use rv_model::{AccessInstr, Cause, Instr, MemEnd, OUTPUT_SIZE, Policy, Scalar, StepEnd, VState};
 use vector_memory::{UserBytes, run};
 
 /// What carries out an access: a step of the hart, or the access alone.
@@ -20,7 +20,7 @@ pub(crate) enum Way {
 #[derive(Clone, Copy, Drop)]
 pub(crate) struct Case<'a> {
     pub way: Way,
-    pub instr: &'a Instr,
+    pub access: &'a AccessInstr,
     pub registers: &'a Registers,
 }
 
@@ -49,7 +49,7 @@ fn run_step<M: UserBytes, V: Vectors>(
 
 /// Carries out an access alone, without its tail. None where it isn't legal.
 fn run_access<M: UserBytes>(
-    instr: &Instr,
+    access: &AccessInstr,
     state: &mut VState,
     scalar: &Scalar,
     memory: &mut M,
@@ -58,11 +58,11 @@ fn run_access<M: UserBytes>(
 ) -> Option<MemEnd>
     requires { 1 ≤ limit }
 {
-    if !legal(instr, &state.conf, state.vstart) {
+    if !legal(&Instr::Access(*access), &state.conf, state.vstart) {
         return None;
     }
     let fill_masked_off = policy == Policy::Ones;
-    Some(run(instr, state, scalar, memory, limit, fill_masked_off))
+    Some(run(access, state, scalar, memory, limit, fill_masked_off))
 }
 
 /// How an access ended that left this vstart. None where its step ended otherwise than an access does.
@@ -100,7 +100,7 @@ impl Case<'_> {
             }
             Way::Run => {
                 let state = &mut vectors.seat.state;
-                run_access(self.instr, state, scalar, memory, policy, limit)
+                run_access(self.access, state, scalar, memory, policy, limit)
             }
         }
     }

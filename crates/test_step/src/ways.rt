@@ -35,23 +35,7 @@ pub(crate) struct Case<'a> {
 fn is_vector(instr: &Instr) -> bool
     ensures { result ≡ is_vector instr.now }
 {
-    match *instr {
-        Instr::Upper { .. }
-        | Instr::Jump { .. }
-        | Instr::JumpRegister { .. }
-        | Instr::Branch { .. }
-        | Instr::Load { .. }
-        | Instr::Store { .. }
-        | Instr::RegisterImmediate { .. }
-        | Instr::ShiftImmediate { .. }
-        | Instr::ShiftImmediateWord { .. }
-        | Instr::RegisterRegister { .. }
-        | Instr::Fence { .. }
-        | Instr::System { .. }
-        | Instr::Csr { .. }
-        | Instr::CsrImmediate { .. } => false,
-        _ => true,
-    }
+    matches!(instr, Instr::Vector(_) | Instr::Access(_))
 }
 
 /// Carries out the instruction of a word by the vector unit. None where it is none of the vector extension.

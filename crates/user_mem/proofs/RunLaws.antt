@@ -7,7 +7,7 @@ use Rattle.std.proofs.lemmas.Bool.{cases_eq, cases_lt}
 use Rattle.std.proofs.lemmas.List.{length-take-le, length-drop, get_or-take, get_or-drop}
 use Rattle.rv_model.specs.declared.memory.Access.{Access}
 use Rattle.rv_model.specs.declared.memory.Access.TheVariants.{Monitor}
-use Rattle.rv_model.specs.memory.Memory.{Memory, permits, byte_at, bytes_at, can_access, is_allowed, put_bytes}
+use Rattle.rv_model.specs.memory.Memory.{Memory, permits, bytes_at, can_access, put_bytes, memory_byte, can_access_byte}
 use Rattle.rv_model.proofs.memory_lemmas.Memory.{same_memory, with_byte, get-put_bytes_within, get-put_bytes_outside, put_bytes-append, can_access_from, can_access_not, bytes_read}
 use Rattle.rv_model.specs.memory.Sizes.{page_size}
 use Rattle.user_mem.specs.declared.entry.Entry.{Entry}
@@ -30,25 +30,25 @@ same_page : (x k : ℕ) → x % page_size + k < page_size → (x + k) / page_siz
 same_page x k l = omega arith
 
 -- all bytes of a page are allowed alike
-is_allowed_in_page : (access : Access) (frames : List ℕ) (es : List Entry) (x k : ℕ) → x % page_size + k < page_size → is_allowed access (memory_of frames es) (x + k) ≡ is_allowed access (memory_of frames es) x
+is_allowed_in_page : (access : Access) (frames : List ℕ) (es : List Entry) (x k : ℕ) → x % page_size + k < page_size → can_access_byte access (memory_of frames es) (x + k) ≡ can_access_byte access (memory_of frames es) x
 is_allowed_in_page access frames es x k l =
     is_allowed-memory_of access frames es (x + k)
     ∙ ap (λ (p : ℕ). option_map_or (λ e. permits access e.permissions) (entry_at es p) false) (same_page x k l)
     ∙ sym (is_allowed-memory_of access frames es x)
 
 -- where the next byte is allowed, so are those that follow it in its page
-pub allowed_more : (access : Access) (frames : List ℕ) (es : List Entry) (a done next n : ℕ) → next ≡ a + done → next % page_size + n ≤ page_size → is_allowed access (memory_of frames es) next ≡ true
-    → ((j : ℕ) → j < done → is_allowed access (memory_of frames es) (a + j) ≡ true) → (j : ℕ) → j < done + n → is_allowed access (memory_of frames es) (a + j) ≡ true
+pub allowed_more : (access : Access) (frames : List ℕ) (es : List Entry) (a done next n : ℕ) → next ≡ a + done → next % page_size + n ≤ page_size → can_access_byte access (memory_of frames es) next ≡ true
+    → ((j : ℕ) → j < done → can_access_byte access (memory_of frames es) (a + j) ≡ true) → (j : ℕ) → j < done + n → can_access_byte access (memory_of frames es) (a + j) ≡ true
 allowed_more access frames es a done next n here fits ok before j l = elim (cases_lt j done) [
   | inl less ↦ before j less
   | inr after ↦
       let place : a + j ≡ next + (j - done) = omega arith in
-      ap (is_allowed access (memory_of frames es)) place ∙ is_allowed_in_page access frames es next (j - done) (omega arith) ∙ ok
+      ap (can_access_byte access (memory_of frames es)) place ∙ is_allowed_in_page access frames es next (j - done) (omega arith) ∙ ok
 ]
 
 -- a byte read in the page
-run_read : (access : Access) (frames : List ℕ) (es : List Entry) (x k i : ℕ) → x % page_size + k < page_size → is_allowed access (memory_of frames es) x ≡ true
-    → ((e : Entry) → entry_at es (x / page_size) ≡ Some e → i ≡ page_size * e.frame + x % page_size) → get_or frames (i + k) 0 ≡ byte_at (memory_of frames es) (x + k)
+run_read : (access : Access) (frames : List ℕ) (es : List Entry) (x k i : ℕ) → x % page_size + k < page_size → can_access_byte access (memory_of frames es) x ≡ true
+    → ((e : Entry) → entry_at es (x / page_size) ≡ Some e → i ≡ page_size * e.frame + x % page_size) → get_or frames (i + k) 0 ≡ memory_byte (memory_of frames es) (x + k)
 run_read access frames es x k i l ok place =
     let some = entry_from_allowed access frames es x ok in
     let here = place some.0 some.1 in
@@ -56,13 +56,13 @@ run_read access frames es x k i l ok place =
     ap (λ (j : ℕ). get_or frames j 0) index ∙ sym (byte_at-memory_of frames es (x + k) some.0 (ap (entry_at es) (same_page x k l) ∙ some.1))
 
 -- a run read into a buffer after what was read before it
-pub read_more : (frames : List ℕ) (es : List Entry) (a done next start n : ℕ) (part buffer after : List ℕ) → next ≡ a + done → next % page_size + n ≤ page_size → is_allowed Monitor (memory_of frames es) next ≡ true
+pub read_more : (frames : List ℕ) (es : List Entry) (a done next start n : ℕ) (part buffer after : List ℕ) → next ≡ a + done → next % page_size + n ≤ page_size → can_access_byte Monitor (memory_of frames es) next ≡ true
     → ((e : Entry) → entry_at es (next / page_size) ≡ Some e → start ≡ page_size * e.frame + next % page_size)
     → length part ≡ n → ((k : ℕ) → k < n → get_or part k 0 ≡ get_or frames (start + k) 0)
     → ((k : ℕ) → k < length part → get_or after (done + k) 0 ≡ get_or part k 0)
     → ((i : ℕ) → ((i < done) ⊎ (done + length part ≤ i)) → get_or after i 0 ≡ get_or buffer i 0)
-    → ((j : ℕ) → j < done → get_or buffer j 0 ≡ byte_at (memory_of frames es) (a + j))
-    → (j : ℕ) → j < done + n → get_or after j 0 ≡ byte_at (memory_of frames es) (a + j)
+    → ((j : ℕ) → j < done → get_or buffer j 0 ≡ memory_byte (memory_of frames es) (a + j))
+    → (j : ℕ) → j < done + n → get_or after j 0 ≡ memory_byte (memory_of frames es) (a + j)
 read_more frames es a done next start n part buffer after here fits ok place long same pasted kept before j l = elim (cases_lt j done) [
   | inl less ↦ kept j (inl less) ∙ before j less
   | inr above ↦
@@ -70,14 +70,14 @@ read_more frames es a done next start n part buffer after here fits ok place lon
       let within : j - done < n = omega arith in
       let address : next + (j - done) ≡ a + j = omega arith in
       ap (λ (i : ℕ). get_or after i 0) at ∙ pasted (j - done) (omega arith) ∙ same (j - done) within
-      ∙ run_read Monitor frames es next (j - done) start (omega arith) ok place ∙ ap (byte_at (memory_of frames es)) address
+      ∙ run_read Monitor frames es next (j - done) start (omega arith) ok place ∙ ap (memory_byte (memory_of frames es)) address
 ]
 
 -- an access of bytes in one page is allowed where its first byte is
-pub allowed_in_page : (access : Access) (frames : List ℕ) (es : List Entry) (a n : ℕ) → 0 < n → a % page_size + n ≤ page_size → can_access access (memory_of frames es) a n ≡ is_allowed access (memory_of frames es) a
-allowed_in_page access frames es a n some fits = split (is_allowed access (memory_of frames es) a) refl
+pub allowed_in_page : (access : Access) (frames : List ℕ) (es : List Entry) (a n : ℕ) → 0 < n → a % page_size + n ≤ page_size → can_access access (memory_of frames es) a n ≡ can_access_byte access (memory_of frames es) a
+allowed_in_page access frames es a n some fits = split (can_access_byte access (memory_of frames es) a) refl
   where
-    split : (b : Bool) → is_allowed access (memory_of frames es) a ≡ b → can_access access (memory_of frames es) a n ≡ is_allowed access (memory_of frames es) a
+    split : (b : Bool) → can_access_byte access (memory_of frames es) a ≡ b → can_access access (memory_of frames es) a n ≡ can_access_byte access (memory_of frames es) a
     split true e = can_access_from access (memory_of frames es) a n (λ k l. is_allowed_in_page access frames es a k (omega arith) ∙ e) ∙ sym e
     split false e = can_access_not access (memory_of frames es) a n 0 a some (omega arith) e ∙ sym e
 
@@ -90,7 +90,7 @@ place_in_frame es a start frame found place e here =
     place ∙ ap (λ (f : ℕ). page_size * f + a % page_size) (sym found.1.1 ∙ ap (λ (x : Entry). x.frame) entry)
 
 -- a part of a frame is the bytes of the memory
-pub page_read : (access : Access) (frames : List ℕ) (es : List Entry) (a start n : ℕ) (part : List ℕ) → a % page_size + n ≤ page_size → is_allowed access (memory_of frames es) a ≡ true
+pub page_read : (access : Access) (frames : List ℕ) (es : List Entry) (a start n : ℕ) (part : List ℕ) → a % page_size + n ≤ page_size → can_access_byte access (memory_of frames es) a ≡ true
     → ((e : Entry) → entry_at es (a / page_size) ≡ Some e → start ≡ page_size * e.frame + a % page_size)
     → length part ≡ n → ((k : ℕ) → k < n → get_or part k 0 ≡ get_or frames (start + k) 0) → part ≡ bytes_at (memory_of frames es) a n
 page_read access frames es a start n part fits ok place long same =
@@ -145,7 +145,7 @@ module _ (frames after : List ℕ) (es : List Entry) (a start : ℕ) (bs : List 
     ]
   ])
 
-pub run_written : (access : Access) (frames after : List ℕ) (es : List Entry) (a start : ℕ) (bs : List ℕ) → AreSeparate es → is_allowed access (memory_of frames es) a ≡ true
+pub run_written : (access : Access) (frames after : List ℕ) (es : List Entry) (a start : ℕ) (bs : List ℕ) → AreSeparate es → can_access_byte access (memory_of frames es) a ≡ true
     → ((e : Entry) → entry_at es (a / page_size) ≡ Some e → start ≡ page_size * e.frame + a % page_size) → a % page_size + length bs ≤ page_size
     → ((k : ℕ) → k < length bs → get_or after (start + k) 0 ≡ get_or bs k 0)
     → ((i : ℕ) → ((i < start) ⊎ (start + length bs ≤ i)) → get_or after i 0 ≡ get_or frames i 0)
@@ -155,7 +155,7 @@ run_written access frames after es a start bs separate ok place fits pasted kept
     run_written_at frames after es a start bs some.0 separate some.1 (place some.0 some.1) fits pasted kept
 
 -- and no table that shares no frame means anything else
-pub others_unwritten : (access : Access) (frames after : List ℕ) (es other : List Entry) (a start n : ℕ) → AreApart es other → is_allowed access (memory_of frames es) a ≡ true
+pub others_unwritten : (access : Access) (frames after : List ℕ) (es other : List Entry) (a start n : ℕ) → AreApart es other → can_access_byte access (memory_of frames es) a ≡ true
     → ((e : Entry) → entry_at es (a / page_size) ≡ Some e → start ≡ page_size * e.frame + a % page_size) → a % page_size + n ≤ page_size
     → ((i : ℕ) → ((i < start) ⊎ (start + n ≤ i)) → get_or after i 0 ≡ get_or frames i 0)
     → memory_of after other ≡ memory_of frames other

@@ -5,7 +5,7 @@ use Rattle.std.specs.Option.{option_map, option_map_or}
 use Rattle.std.specs.FinMap.{get, get-empty}
 use Rattle.std.proofs.lemmas.Bool.{cases_eq, cases_lt}
 use Rattle.rv_model.specs.declared.memory.Access.{Access}
-use Rattle.rv_model.specs.memory.Memory.{Cell, permits, can_access, is_allowed, byte_at}
+use Rattle.rv_model.specs.memory.Memory.{Cell, permits, can_access, can_access_byte, memory_byte}
 use Rattle.rv_model.proofs.memory_lemmas.Memory.{same_memory, get-add_cells_within, get-add_cells_outside, can_access-at}
 use Rattle.rv_model.specs.memory.Sizes.{page_size, address_end}
 use Rattle.user_mem.specs.declared.entry.Entry.{Entry}
@@ -35,8 +35,8 @@ get-memory_of frames (e ∷ es) x = elim (cases_eq e.page (x / page_size)) [
       | inr g ↦ elim (cases_lt x (page_size * e.page + page_size)) [ inl l ↦ absurd (n (omega arith)) | inr h ↦ inr h ]
     ]
 
-pub is_allowed-memory_of : (access : Access) (frames : List ℕ) (entries : List Entry) (x : ℕ) → is_allowed access (memory_of frames entries) x ≡ option_map_or (λ e. permits access e.permissions) (entry_at entries (x / page_size)) false
-unfolding is_allowed
+pub is_allowed-memory_of : (access : Access) (frames : List ℕ) (entries : List Entry) (x : ℕ) → can_access_byte access (memory_of frames entries) x ≡ option_map_or (λ e. permits access e.permissions) (entry_at entries (x / page_size)) false
+unfolding can_access_byte
 is_allowed-memory_of access frames entries x =
     ap (λ (o : Option Cell). option_map_or (λ c. permits access c.permissions) o false) (get-memory_of frames entries x)
     ∙ through (entry_at entries (x / page_size))
@@ -46,8 +46,8 @@ is_allowed-memory_of access frames entries x =
     through (Some e) = refl
 
 -- the byte that an entry's frame has
-pub byte_at-memory_of : (frames : List ℕ) (entries : List Entry) (x : ℕ) (e : Entry) → entry_at entries (x / page_size) ≡ Some e → byte_at (memory_of frames entries) x ≡ get_or frames (page_size * e.frame + x % page_size) 0
-unfolding byte_at
+pub byte_at-memory_of : (frames : List ℕ) (entries : List Entry) (x : ℕ) (e : Entry) → entry_at entries (x / page_size) ≡ Some e → memory_byte (memory_of frames entries) x ≡ get_or frames (page_size * e.frame + x % page_size) 0
+unfolding memory_byte
 byte_at-memory_of frames entries x e h =
     ap (λ (o : Option Cell). option_map_or (λ c. c.byte) o 0) (get-memory_of frames entries x ∙ ap (cell_of_page frames x) h)
 
@@ -63,11 +63,11 @@ memory_of_same frames other entries h = same_memory _ _ (λ x.
         ∙ ap (λ (b : ℕ). Some (record { byte = b; permissions = e.permissions })) (h (x / page_size) e (x % page_size) q (omega arith))
         ∙ sym (ap (cell_of_page frames x) q)
 
-pub allowed_by_entry : (access : Access) (frames : List ℕ) (entries : List Entry) (x : ℕ) (e : Entry) → entry_at entries (x / page_size) ≡ Some e → permits access e.permissions ≡ is_allowed access (memory_of frames entries) x
+pub allowed_by_entry : (access : Access) (frames : List ℕ) (entries : List Entry) (x : ℕ) (e : Entry) → entry_at entries (x / page_size) ≡ Some e → permits access e.permissions ≡ can_access_byte access (memory_of frames entries) x
 allowed_by_entry access frames entries x e h =
     sym (is_allowed-memory_of access frames entries x ∙ ap (λ (o : Option Entry). option_map_or (λ e. permits access e.permissions) o false) h)
 
-pub allowed_by_none : (access : Access) (frames : List ℕ) (entries : List Entry) (x : ℕ) → entry_at entries (x / page_size) ≡ None → false ≡ is_allowed access (memory_of frames entries) x
+pub allowed_by_none : (access : Access) (frames : List ℕ) (entries : List Entry) (x : ℕ) → entry_at entries (x / page_size) ≡ None → false ≡ can_access_byte access (memory_of frames entries) x
 allowed_by_none access frames entries x h =
     sym (is_allowed-memory_of access frames entries x ∙ ap (λ (o : Option Entry). option_map_or (λ e. permits access e.permissions) o false) h)
 
@@ -76,21 +76,21 @@ some_or_none None = inr refl
 some_or_none (Some e) = inl (e, refl)
 
 -- an allowed address has an entry
-pub entry_from_allowed : (access : Access) (frames : List ℕ) (entries : List Entry) (x : ℕ) → is_allowed access (memory_of frames entries) x ≡ true → (e : Entry) × (entry_at entries (x / page_size) ≡ Some e)
+pub entry_from_allowed : (access : Access) (frames : List ℕ) (entries : List Entry) (x : ℕ) → can_access_byte access (memory_of frames entries) x ≡ true → (e : Entry) × (entry_at entries (x / page_size) ≡ Some e)
 entry_from_allowed access frames entries x h = elim (some_or_none (entry_at entries (x / page_size))) [
   | inl some ↦ some
   | inr none ↦ let bad = allowed_by_none access frames entries x none in absurd (cc)
 ]
 
-pub allowed_below : (access : Access) (frames : List ℕ) (entries : List Entry) (x : ℕ) → AreBelow entries → is_allowed access (memory_of frames entries) x ≡ true → x < address_end
+pub allowed_below : (access : Access) (frames : List ℕ) (entries : List Entry) (x : ℕ) → AreBelow entries → can_access_byte access (memory_of frames entries) x ≡ true → x < address_end
 allowed_below access frames entries x below h =
     let some = entry_from_allowed access frames entries x h in
     let page = below (x / page_size) some.0 some.1 in omega arith
 
-pub not_allowed_beyond : (access : Access) (frames : List ℕ) (entries : List Entry) (x : ℕ) → AreBelow entries → address_end ≤ x → is_allowed access (memory_of frames entries) x ≡ false
-not_allowed_beyond access frames entries x below far = split (is_allowed access (memory_of frames entries) x) refl
+pub not_allowed_beyond : (access : Access) (frames : List ℕ) (entries : List Entry) (x : ℕ) → AreBelow entries → address_end ≤ x → can_access_byte access (memory_of frames entries) x ≡ false
+not_allowed_beyond access frames entries x below far = split (can_access_byte access (memory_of frames entries) x) refl
   where
-    split : (b : Bool) → is_allowed access (memory_of frames entries) x ≡ b → is_allowed access (memory_of frames entries) x ≡ false
+    split : (b : Bool) → can_access_byte access (memory_of frames entries) x ≡ b → can_access_byte access (memory_of frames entries) x ≡ false
     split true t = let near = allowed_below access frames entries x below t in absurd (omega arith)
     split false t = t
 

@@ -1,7 +1,7 @@
 //! Accesses of a user's bytes. One that lies in one page takes one look-up and one copy; all others go from page
 //! to page.
 ghost use Rattle.std.specs.Prelude.{◌≡◌, ℕ, List, ◌≤◌, ◌<◌, ◌+◌, ◌*◌, ◌/◌, ◌%◌, ◌↔◌, ◌&&◌, nat_lt, nat_le, Some, true, IsOk, IfOk, IfErr, IfSome, OnOk, OnErr, is_some, length};
-ghost use Rattle.rv_model.specs.memory.Memory.{is_allowed, can_access, bytes_at, put_bytes};
+ghost use Rattle.rv_model.specs.memory.Memory.{can_access, bytes_at, put_bytes, can_access_byte};
 ghost use Rattle.rv_model.specs.memory.Sizes.{page_size};
 ghost use Rattle.user_mem.specs.declared.entry.Entry.{Entry};
 ghost use Rattle.user_mem.specs.Table.{entry_at, memory_of, IsSorted, AreBelow, FitIn, AreSeparate, AreApart};
@@ -25,7 +25,7 @@ fn is_in_one_page(addr: u64, len: usize) -> bool
 fn frame_of(entries: &[Entry], places: &LikelyPlaces, access: Access, addr: u64) -> Option<usize>
     requires { IsSorted entries.now }
     ensures allowed { (frames : List ℕ)
-        → is_some result ≡ is_allowed access (memory_of frames entries.now) addr }
+        → is_some result ≡ can_access_byte access (memory_of frames entries.now) addr }
     ensures frame { IfSome result (λ frame. (e : Entry)
         × ((entry_at entries.now (addr / page_size) ≡ Some e) × (e.frame ≡ frame))) }
 {

@@ -1,7 +1,7 @@
 //! The bytes of all frames, each of which holds a page: reads and writes through a user's table.
 ghost use Rattle.std.specs.Prelude.{◌≡◌, ℕ, List, ◌≤◌, ◌<◌, ◌+◌, ◌*◌, ◌/◌, ◌%◌, ◌^◌, ◌⊎◌, cond, nat_eq, true, Some, None, length, slice_index};
 ghost use Rattle.arrayvec.specs.ArrayVec.{array_vec_len};
-ghost use Rattle.rv_model.specs.memory.Memory.{is_allowed, can_access, bytes_at, put_bytes, with_pages};
+ghost use Rattle.rv_model.specs.memory.Memory.{can_access, bytes_at, put_bytes, with_pages, can_access_byte};
 ghost use Rattle.rv_model.specs.memory.Sizes.{page_size, page_quota};
 ghost use Rattle.user_mem.specs.declared.entry.Entry.{Entry};
 ghost use Rattle.user_mem.specs.Table.{entry_at, memory_of, IsSorted, AreBelow, FitIn, AreSeparate, AreApart};
@@ -27,7 +27,7 @@ pub(crate) fn index_in(frame: usize, addr: u64) -> usize
 fn index_of(entries: &[Entry], frames: &[u8], addr: u64) -> usize
     requires sorted { IsSorted entries.now }
     requires fit { FitIn entries.now (length frames.now) }
-    requires mapped { is_allowed Access.Monitor (memory_of frames.now entries.now) addr ≡ true }
+    requires mapped { can_access_byte Access.Monitor (memory_of frames.now entries.now) addr ≡ true }
     ensures within { result + page_size ≤ length frames.now + addr % page_size }
     ensures place { (e : Entry) → entry_at entries.now (addr / page_size) ≡ Some e
         → result ≡ page_size * e.frame + addr % page_size }

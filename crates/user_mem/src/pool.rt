@@ -40,7 +40,8 @@ pub struct Pool<A: Allocator = Global> {
 impl<A: Allocator> Model for Pool<A> {
     ghost use Rattle.std.specs.Prelude.{List};
     ghost use Rattle.std.specs.Coded.{coded_list};
-    ghost use Rattle.rv_model.specs.memory.Memory.{Memory, coded_memory};
+    ghost use Rattle.rv_model.specs.memory.Memory.{Memory};
+    ghost use Rattle.rv_model.specs.lending.StoredMemory.{coded_memory};
     ghost use Rattle.user_mem.specs.Pool.{entries_of, memories_of, IsPool};
 
     ghost Value = { List Memory };

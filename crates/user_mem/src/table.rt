@@ -1,7 +1,7 @@
 //! A user's page table: entries in the order of their pages, found by binary search.
 ghost use Rattle.std.specs.Prelude.{◌≡◌, ℕ, List, ◌≤◌, ◌<◌, ◌+◌, ◌-◌, ◌/◌, ◌%◌, min, cond, nat_eq, false, Some, None, IfOk, IfErr, IfNone, length};
 ghost use Rattle.arrayvec.specs.ArrayVec.{array_vec_len};
-ghost use Rattle.rv_model.specs.memory.Memory.{is_allowed, can_access, any_page_mapped, map_refusal};
+ghost use Rattle.rv_model.specs.memory.Memory.{can_access, any_page_mapped, map_refusal, can_access_byte};
 ghost use Rattle.rv_model.specs.memory.Sizes.{page_size, page_quota, page_limit};
 ghost use Rattle.user_mem.specs.declared.entry.Entry.{Entry};
 ghost use Rattle.user_mem.specs.Table.{entry_at, memory_of, AreBelow, IsSorted, IsAt, IsGapFor};
@@ -37,7 +37,7 @@ pub(crate) fn locate(entries: &[Entry], page: u64) -> Option<Entry>
 /// Whether the byte at an address may be accessed.
 fn is_byte_allowed(entries: &[Entry], access: Access, addr: u64) -> bool
     requires { IsSorted entries.now }
-    ensures { (frames : List ℕ) → result ≡ is_allowed access (memory_of frames entries.now) addr }
+    ensures { (frames : List ℕ) → result ≡ can_access_byte access (memory_of frames entries.now) addr }
 {
     match locate(entries, addr / PAGE_SIZE) {
         Some(entry) => access.is_permitted(entry.permissions),

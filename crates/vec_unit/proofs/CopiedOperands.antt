@@ -1,8 +1,8 @@
 -- Copies of operands stand for the operands.
 use Rattle.std.proofs.Common.{ℕ, ◌<◌, ◌≡◌, ◌∙◌, ap, List}
-use Rattle.rv_model.specs.elements.Arithmetic.{GroupType, group_element}
+use Rattle.rv_model.specs.elements.Arithmetic.{group_element}
+use Rattle.rv_model.specs.vector.Configuration.{GroupType, width_bytes}
 use Rattle.rv_model.specs.elements.Elements.{element}
-use Rattle.rv_model.specs.vector.Configuration.{width_bytes}
 use Rattle.rv_model.specs.vector.Registers.{group_of}
 
 -- what is made of an element of each of two copies, the first of a group and the second of elements that are told

@@ -1,4 +1,4 @@
+mod AccessSteps
 mod CopiedOperands
-mod SegmentSteps
 mod Turns
 mod WrittenGroups

@@ -1,5 +1,6 @@
 -- Registers that are replaced in turn.
-use Rattle.std.proofs.Common.{ℕ, suc, ◌+◌, ◌-◌, ◌*◌, ◌/◌, ◌%◌, ◌^◌, ◌<◌, ◌≤◌, ◌≡◌, List, length, get_or, Bool, true, false, cond, ◌&&◌, nat_lt, nat_le, refl, sym, ap, ◌∙◌, arith, inl, inr, le-leb, le-ltb, not, eqb}
+use Rattle.std.proofs.Common.{ℕ, suc, ◌+◌, ◌-◌, ◌*◌, ◌/◌, ◌%◌, ◌^◌, ◌<◌, ◌≤◌, ◌≡◌, List, length, get_or, Bool, true, false, cond, ◌&&◌, ◌||◌, nat_lt, nat_le, refl, sym, ap, ◌∙◌, arith, inl, inr, le-leb, le-ltb, not, eqb}
+use Rattle.std.proofs.lemmas.Bool.{and_parts, and_right, leb-true, lt-leb}
 use Rattle.std.proofs.lemmas.Bool.Decides.{nat_tests}
 use Rattle.std.proofs.lemmas.Grind.{same_number_lists}
 use Rattle.std.proofs.lemmas.Simd.{length-chunk, get_or-chunk}
@@ -9,7 +10,7 @@ use lib.Lanes.{number_l, chunk, put_chunk}
 use Rattle.rv_model.specs.declared.instructions.source.Source.{Source}
 use Rattle.rv_model.specs.declared.instructions.source.Source.TheVariants as source
 use Rattle.rv_model.specs.elements.Elements.{Body, element, in_body, is_active, is_changed, is_let, result_or_ones}
-use Rattle.rv_model.specs.elements.Writes.{Writes}
+use Rattle.rv_model.specs.lending.Writes.{Writes}
 use Rattle.rv_model.proofs.element_lemmas.Sets.{changed_inside, to_end}
 use Rattle.rv_model.proofs.element_lemmas.Writes.{begins, ends}
 use Rattle.lane_arith.proofs.ChunkWrites.{chunk_more, place, step_any}
@@ -28,23 +29,9 @@ from_first n vd r i = omega (arith, mul-add n vd r)
 
 -- ---- tests
 
-left : (a b : Bool) → (a && b) ≡ true → a ≡ true
-left true b h = refl
-left false b h = h
-
-right : (a b : Bool) → (a && b) ≡ true → b ≡ true
-right true b h = h
-right false b h = absurd (cc)
-
-neither : (a b : Bool) → b ≡ false → (a && b) ≡ false
-neither true b h = h
-neither false b h = refl
-
-at_most : (x y : ℕ) → nat_le x y ≡ true → x ≤ y
-at_most x y h = grind (arith, nat_tests)
-
-pub beyond : (x y : ℕ) → y < x → nat_le x y ≡ false
-beyond x y h = grind (arith, nat_tests)
+-- of those in the body, the ones that the mask lets through change anyway
+either_way : (m b l : Bool) → ((b && l) || ((m && (b && not l)) || false)) ≡ ((b && l) || ((m && b) || false))
+either_way m b l = grind (arith, nat_tests)
 
 -- an element that isn't replaced
 kept_element : (k : ℕ) (V : ℕ → Bool) (F : ℕ → ℕ) (old new : List ℕ) (e : ℕ) → Writes k V F old new → V e ≡ false → k * e + k ≤ length old
@@ -73,14 +60,14 @@ module _ (k n vd registers : ℕ) (body : Body) (fill : Bool) (result : ℕ → 
   Done r bytes = Writes k (λ e. changes e && nat_lt e (n * (vd + r))) numbers old bytes
 
   from_group : (e : ℕ) → changes e ≡ true → n * vd ≤ e
-  from_group e h = at_most (n * vd) e (left (nat_le (n * vd) e) (is_changed body fill false (e - n * vd)) h)
+  from_group e h = leb-true (n * vd) e (and_parts (nat_le (n * vd) e) (is_changed body fill false (e - n * vd)) h).0
 
   before_end : (e : ℕ) → changes e ≡ true → e - n * vd < body.end
   before_end e h =
       let d : ℕ = e - n * vd in
       to_end body.start body.end d
       (changed_inside (in_body body d) (is_let body d) fill (nat_le body.end d)
-      (right (nat_le (n * vd) e) (is_changed body fill false (e - n * vd)) h))
+      (and_parts (nat_le (n * vd) e) (is_changed body fill false (e - n * vd)) h).1)
 
   pub none_done : Done 0 old
   none_done = begins k changes numbers old (n * (vd + 0)) (λ e h. omega (arith, mul-add n vd 0, from_group e h))
@@ -105,19 +92,20 @@ module _ (k n vd registers : ℕ) (body : Body) (fill : Bool) (result : ℕ → 
       (chunk_more k n (vd + r) changes numbers old mid new was
       (step_any k n (vd + r) (λ i. is_active body (n * r + i)) (λ i. fill && in_body body (n * r + i)) changes numbers chunk_result ones mid
       new made active filled e room is long bytes actives filleds
-      (λ i h. rw (in_group n vd r i, from_first n vd r i) refl) (λ i h. rw (from_first n vd r i, same i h) refl)))
+      (λ i h. rw (in_group n vd r i, from_first n vd r i) (either_way fill (in_body body (n * r + i)) (is_let body (n * r + i))))
+      (λ i h. rw (from_first n vd r i, same i h) refl)))
 
   not_yet : (r read i : ℕ) → r < registers → i < n → IsReadFirst read vd registers
       → (changes (n * read + (n * r + i)) && nat_lt (n * read + (n * r + i)) (n * (vd + r))) ≡ false
   not_yet r read i h l (inl above) =
       let far : n * vd ≤ n * read = mul-le-mul_left n above in
-      neither (changes (n * read + (n * r + i))) (nat_lt (n * read + (n * r + i)) (n * (vd + r)))
+      and_right (changes (n * read + (n * r + i))) (nat_lt (n * read + (n * r + i)) (n * (vd + r)))
       (le-ltb (n * read + (n * r + i)) (n * (vd + r)) (omega (arith, mul-add n vd r)))
   not_yet r read i h l (inr below) =
       let far : n * (read + registers) ≤ n * vd = mul-le-mul_left n below in
       let near : n * suc r ≤ n * registers = mul-le-mul_left n h in
       let before : n * read + (n * r + i) < n * vd = omega (arith, mul-add n read registers, mul-suc n r) in
-      rw (beyond (n * vd) (n * read + (n * r + i)) before) refl
+      rw (lt-leb (n * vd) (n * read + (n * r + i)) before) refl
 
   -- the operands are those that there were
   pub operand : (r read i : ℕ) (mid : List ℕ) → k * n ≡ 32 → r < registers → i < n → IsReadFirst read vd registers

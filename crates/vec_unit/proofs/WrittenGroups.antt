@@ -1,7 +1,6 @@
 -- Groups that are written as elements of the list of all registers' bytes.
-use Rattle.std.proofs.Common.{ℕ, suc, ◌+◌, ◌-◌, ◌*◌, ◌/◌, ◌%◌, ◌^◌, ◌<◌, ◌≤◌, ◌≡◌, List, length, get_or, Bool, true, false, ◌&&◌, ◌||◌, nat_lt, nat_le, refl, sym, ap, ◌∙◌, arith, inl, inr, le-leb, append-nil, min, zero}
-use Rattle.std.proofs.lemmas.Bool.{cases_lt}
-use Rattle.std.proofs.lemmas.Bool.Decides.{nat_tests}
+use Rattle.std.proofs.Common.{ℕ, suc, ◌+◌, ◌-◌, ◌*◌, ◌/◌, ◌%◌, ◌^◌, ◌<◌, ◌≤◌, ◌≡◌, List, length, get_or, Bool, true, false, ◌&&◌, ◌||◌, nat_le, refl, sym, ap, ◌∙◌, arith, inl, inr, le-leb, append-nil, min, zero}
+use Rattle.std.proofs.lemmas.Bool.{cases_lt, false_from_ne_true, lt-leb}
 use Rattle.std.proofs.lemmas.Grind.{div_ceil_times, same_number_lists}
 use Rattle.std.proofs.lemmas.List.{drop_all, take_all}
 use Rattle.std.proofs.lemmas.Simd.{length-put_chunk, put_chunk_is, get_or-put_chunk_below, get_or-put_chunk_at, get_or-put_chunk_above, length-chunk, get_or-chunk}
@@ -12,17 +11,17 @@ use Rattle.rv_model.specs.declared.instructions.operations.BinaryOp.{BinaryOp}
 use Rattle.rv_model.specs.declared.instructions.source.Source.{Source}
 use Rattle.rv_model.specs.declared.instructions.source.Source.TheVariants as source
 use Rattle.rv_model.specs.declared.scalar.Scalar.{Scalar}
-use Rattle.rv_model.specs.elements.Arithmetic.{GroupType, binary_result, second_element, with_results}
-use Rattle.rv_model.specs.elements.Elements.{Body, element, in_body, is_active, is_changed, is_let, result_or_ones}
+use Rattle.rv_model.specs.elements.Arithmetic.{binary_result, second_element, with_results}
+use Rattle.rv_model.specs.vector.Configuration.{GroupType, width_bytes}
+use Rattle.rv_model.specs.elements.Elements.{Body, element, in_body, is_active, is_changed, is_let, is_masked_off, result_or_ones}
 use Rattle.rv_model.specs.elements.Formulas.{formula, has_unsigned_immediate, ones, wrap}
-use Rattle.rv_model.specs.elements.Writes.{Writes}
-use Rattle.rv_model.specs.vector.Configuration.{width_bytes}
+use Rattle.rv_model.specs.lending.Writes.{Writes}
 use Rattle.rv_model.specs.vector.Registers.{group_of, registers}
 use Rattle.rv_model.proofs.element_lemmas.Arithmetic.{results_are}
+use Rattle.rv_model.proofs.element_lemmas.Sets.{changed_inside, to_end}
 use Rattle.rv_model.proofs.element_lemmas.Writes.{writes_same}
 use Rattle.lane_arith.proofs.ChunkWrites.{chunk_of_chunk, few_in_chunk, place}
 use Rattle.vec_unit.specs.InTurn.{number_from, second_in, second_number, test_from, turn_result}
-use Rattle.vec_unit.proofs.Turns.{beyond}
 
 -- ---- all registers as one group
 
@@ -156,7 +155,7 @@ module _ (k n vd count : ℕ) (changes : ℕ → Bool) (number : ℕ → ℕ) (f
       same_number_lists new (put_chunk (32 * vd) file part) (was.same_length ∙ sym (length-put_chunk (32 * vd) file part))
       (λ j h. elim (cases_lt j (32 * vd)) [
         | inl low ↦
-            kept j some (omega (arith, was.same_length, h)) (rw (beyond (n * vd) (j / k) (element_below j low some)) refl)
+            kept j some (omega (arith, was.same_length, h)) (rw (lt-leb (n * vd) (j / k) (element_below j low some)) refl)
             ∙ sym (get_or-put_chunk_below (32 * vd) file part j 0 low)
         | inr from ↦ elim (cases_lt j (32 * (vd + count))) [
           | inl within ↦
@@ -177,24 +176,15 @@ same_tail : (a fill o : Bool) (end n i : ℕ) → (fill ≡ true → end ≡ n) 
 same_tail a false o end n i h l = refl
 same_tail a true o end n i h l =
     let e : end ≡ n = h refl in
-    rw (beyond end i (omega (arith, e))) refl
+    rw (lt-leb end i (omega (arith, e))) refl
 
 -- nothing past the body changes where the tail doesn't
-none_past : (s l o : Bool) → (((s && false) && l) || ((o && (s && false)) || false)) ≡ false
-none_past true l true = refl
-none_past true l false = refl
-none_past false l true = refl
-none_past false l false = refl
-
-outside : (s t l o p : Bool) → t ≡ false → (((s && t) && l) || ((o && (s && t)) || (false && p))) ≡ false
-outside s t l o p h = rw h (none_past s l o)
-
-not_below : (i end : ℕ) → end ≤ i → nat_lt i end ≡ false
-not_below i end h = grind (arith, nat_tests)
-
 unchanged : (body : Body) (fill_masked_off : Bool) (i : ℕ) → body.end ≤ i → is_changed body fill_masked_off false i ≡ false
 unchanged body fill_masked_off i h =
-    outside (nat_le body.start i) (nat_lt i body.end) (is_let body i) fill_masked_off (nat_le body.end i) (not_below i body.end h)
+    false_from_ne_true (is_changed body fill_masked_off false i)
+    (λ changes.
+    let inside = changed_inside (in_body body i) (is_let body i) fill_masked_off (nat_le body.end i) changes in
+    absurd (omega (arith, h, to_end body.start body.end i inside)))
 
 -- ---- the whole
 
@@ -223,7 +213,7 @@ turned_results g n vd number op vs2 from x body fill_masked_off fill_tail count 
     (writes_same k changes (is_changed body fill_masked_off fill_tail) numbers numbers (group_of file vd g.emul) (group_of new vd g.emul) written
     (λ i h.
     let l : k * i < k * count = omega (arith, long_before k n vd regs changes numbers file new e fits was, whole, h) in
-    same_tail (is_active body i) fill_tail (fill_masked_off && in_body body i) body.end count i tail (below i l)) (λ i h. refl))
+    same_tail (is_active body i) fill_tail (fill_masked_off && is_masked_off body i) body.end count i tail (below i l)) (λ i h. refl))
   where
     below : (i : ℕ) → width_bytes g.width * i < width_bytes g.width * count → i < count
     below i h = elim (cases_lt i count) [

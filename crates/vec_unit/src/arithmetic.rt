@@ -4,8 +4,7 @@ ghost use Rattle.rv_model.specs.vector.Configuration.{vlmax};
 ghost use Rattle.rv_model.specs.step.Hart.{hart_state};
 ghost use Rattle.rv_model.specs.memory.Memory.{Memory};
 ghost use Rattle.rv_model.specs.legality.Legality.{is_legal};
-ghost use Rattle.rv_model.specs.declared.vector.state.VState.{VState as VectorState};
-ghost use Rattle.rv_model.specs.step.VectorStep.{access_ticks, arith_step, carry_step, extend_step, move_step, typed, vector_ends};
+ghost use Rattle.rv_model.specs.step.VectorStep.{arith_step, carry_step, extend_step, move_step, typed, vector_ends};
 ghost use Rattle.vec_unit.specs.Arithmetic.{is_binary};
 
 use crate::binary::BinaryOperation;
@@ -25,7 +24,7 @@ use crate::reduce::{carry_out_reduction, carry_out_widening_reduction};
 use crate::two_widths::{carry_out_narrowing, carry_out_widening};
 use crate::widen::{WideSourceOperation, WidenMultiplyAddOperation, WidenOperation};
 use rv_model::instructions::operations::{ExtendOp, VectorOp};
-use rv_model::{Arith, Carry, Instr, Policy, Scalar, Source, VEnd, VReg, VState};
+use rv_model::{Arith, Carry, Instr, Policy, Scalar, Source, VEnd, VReg, VState, VectorInstr};
 
 /// Carries out a legal operation with a line of its own in the manual's table that isn't one of one width on two
 /// operands.
@@ -39,7 +38,7 @@ fn perform_rest(
     state: &mut VState,
     scalar: &Scalar,
 )
-    requires legal { IsTrue (is_legal (Instr.VectorArith (op, source) target.vd vs2 target.unmasked)
+    requires legal { IsTrue (is_legal (Instr.Vector (VectorInstr.Arith (op, source) target.vd vs2 target.unmasked))
         (Some target.vtype) state.old.vstart) }
     requires rest { IsTrue (not (is_binary op)) }
     requires length { state.old.conf.vl ≤ vlmax target.vtype }
@@ -97,7 +96,7 @@ fn perform_operation(
     state: &mut VState,
     scalar: &Scalar,
 )
-    requires legal { IsTrue (is_legal (Instr.VectorArith (op, source) target.vd vs2 target.unmasked)
+    requires legal { IsTrue (is_legal (Instr.Vector (VectorInstr.Arith (op, source) target.vd vs2 target.unmasked))
         (Some target.vtype) state.old.vstart) }
     requires length { state.old.conf.vl ≤ vlmax target.vtype }
     ensures model { (memory : Memory) (output : List ℕ)
@@ -128,15 +127,13 @@ pub(crate) fn perform_arith(
     scalar: &Scalar,
     policy: Policy,
 ) -> VEnd
-    requires legal { IsTrue (is_legal (Instr.VectorArith arith vd vs2 unmasked)
+    requires legal { IsTrue (is_legal (Instr.Vector (VectorInstr.Arith arith vd vs2 unmasked))
         state.old.conf.vtype state.old.vstart) }
     ensures model { (memory : Memory) (output : List ℕ)
         → typed state.old.conf.vtype (λ t. arith_step t arith.0 arith.1 vd vs2 unmasked)
         (hart_state scalar.now state.old memory policy output)
         ≡ vector_ends result (hart_state scalar.now state.new memory policy output) }
     ensures illegal { result ≡ VEnd.Illegal → state.new ≡ state.old }
-    ensures one_tick { (limit : ℕ) (before : VectorState) (after : VectorState)
-        → access_ticks limit (Instr.VectorArith arith vd vs2 unmasked) before after result ≡ 1 }
     ensures uncut { (index : ℕ) → result ≢ VEnd.Cut index }
 {
     let Some(vtype) = state.conf.vtype() else {
@@ -163,7 +160,8 @@ pub(crate) fn perform_carry(
     scalar: &Scalar,
     policy: Policy,
 ) -> VEnd
-    requires legal { IsTrue (is_legal (Instr.VectorCarry carry vd vs2) state.old.conf.vtype state.old.vstart) }
+    requires legal { IsTrue (is_legal (Instr.Vector (VectorInstr.Carry carry vd vs2))
+        state.old.conf.vtype state.old.vstart) }
     ensures model { (memory : Memory) (output : List ℕ)
         → typed state.old.conf.vtype (λ t. carry_step t carry.0 carry.1 vd vs2)
         (hart_state scalar.now state.old memory policy output)
@@ -193,7 +191,8 @@ pub(crate) fn perform_move(
     scalar: &Scalar,
     policy: Policy,
 ) -> VEnd
-    requires legal { IsTrue (is_legal (Instr.VectorMove source vd) state.old.conf.vtype state.old.vstart) }
+    requires legal { IsTrue (is_legal (Instr.Vector (VectorInstr.Move source vd))
+        state.old.conf.vtype state.old.vstart) }
     ensures model { (memory : Memory) (output : List ℕ)
         → typed state.old.conf.vtype (λ t. move_step t source vd)
         (hart_state scalar.now state.old memory policy output)
@@ -224,7 +223,8 @@ pub(crate) fn perform_extension(
     scalar: &Scalar,
     policy: Policy,
 ) -> VEnd
-    requires legal { IsTrue (is_legal (Instr.VectorExtend op vd vs2 unmasked) state.old.conf.vtype state.old.vstart) }
+    requires legal { IsTrue (is_legal (Instr.Vector (VectorInstr.Extend op vd vs2 unmasked))
+        state.old.conf.vtype state.old.vstart) }
     ensures model { (memory : Memory) (output : List ℕ)
         → typed state.old.conf.vtype (λ t. extend_step t op vd vs2 unmasked)
         (hart_state scalar.now state.old memory policy output)

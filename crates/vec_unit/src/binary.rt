@@ -2,10 +2,10 @@
 ghost use Rattle.rv_model.specs.elements.Arithmetic.{binary_result, second_element, with_results};
 ghost use Rattle.rv_model.specs.elements.Elements.{element};
 ghost use Rattle.rv_model.specs.elements.Formulas.{has_unsigned_immediate};
-ghost use Rattle.rv_model.specs.legality.GroupBounds.{HoldsBody, IsInside, SourceIsInside};
+ghost use Rattle.rv_model.specs.lending.GroupBounds.{HoldsBody, IsInside, SourceIsInside};
 ghost use Rattle.rv_model.specs.vector.Configuration.{width_bytes};
 ghost use Rattle.rv_model.specs.vector.Registers.{group_of, registers};
-ghost use Rattle.lane_arith.specs.SideBySide.{is_side_by_side};
+ghost use Rattle.lane_arith.specs.SimdOperations.{is_simd};
 ghost use Rattle.std.specs.Prelude.{◌≡◌, ◌*◌, ◌<◌, ◌≤◌, IsTrue, ℕ, false, length, true};
 ghost use Rattle.vec_unit.specs.InTurn.{IsReadFirst, SourceIsReadFirst};
 
@@ -13,7 +13,7 @@ use crate::destination::{Destination, write_group};
 use crate::element_wise::ElementWise;
 use crate::in_turn::{InTurn, is_read_first, is_source_read_first, second_number};
 use crate::operands::second_copy;
-use lane_arith::chunk::is_side_by_side;
+use lane_arith::chunk::is_simd;
 use lane_arith::{Binary, Body, Lane};
 use reg_groups::{group_copy, group_mut, registers};
 use rv_model::instructions::operations::BinaryOp;
@@ -56,23 +56,23 @@ impl BinaryOperation {
         requires holds { HoldsBody L.width destination.emul destination.count body.now.end }
         ensures { file.new ≡ with_results (record { width = L.width; emul = destination.emul }) destination.vd body.now
             destination.agnostic.fill_masked_off destination.agnostic.fill_tail
-            (binary_result (record { width = L.width; emul = destination.emul }) self.now.op self.now.vs2 self.now.source
-            file.old scalar.now) file.old }
+            (binary_result (record { width = L.width; emul = destination.emul }) self.now.op self.now.vs2
+            self.now.source file.old scalar.now) file.old }
     {
         let results = Binary { op: self.op, a, b };
         write_group::<L, Binary<'_>>(&results, destination, body, file);
     }
 
-    /// Whether the results can be written in turn to so many registers from `vd` on: they are made side by side, and no
+    /// Whether the results can be written in turn to so many registers from `vd` on: they are made by SIMD, and no
     /// register of the operands is written before it is read.
     #[inline(always)]
     fn is_in_turn(&self, vd: VReg, size: u32) -> bool
         requires { size ≤ VECTOR_REGISTERS }
-        ensures made { result ≡ true → IsTrue (is_side_by_side self.now.op) }
+        ensures made { result ≡ true → IsTrue (is_simd self.now.op) }
         ensures first { result ≡ true → IsReadFirst self.now.vs2 vd size }
         ensures second { result ≡ true → SourceIsReadFirst self.now.source vd size }
     {
-        is_side_by_side(self.op)
+        is_simd(self.op)
             && is_read_first(self.vs2, vd, size)
             && is_source_read_first(self.source, vd, size)
     }
@@ -92,14 +92,14 @@ impl BinaryOperation {
         requires operands { IsInside self.now.vs2 destination.emul × SourceIsInside self.now.source destination.emul }
         requires destination { IsInside destination.vd destination.emul }
         requires holds { HoldsBody L.width destination.emul destination.count body.now.end }
-        requires in_turn { IsTrue (is_side_by_side self.now.op)
+        requires in_turn { IsTrue (is_simd self.now.op)
             × IsReadFirst self.now.vs2 destination.vd (registers destination.emul)
             × SourceIsReadFirst self.now.source destination.vd (registers destination.emul) }
         requires no_tail { destination.agnostic.fill_tail ≡ true → body.now.end ≡ destination.count }
         ensures { file.new ≡ with_results (record { width = L.width; emul = destination.emul }) destination.vd body.now
             fill_masked_off destination.agnostic.fill_tail
-            (binary_result (record { width = L.width; emul = destination.emul }) self.now.op self.now.vs2 self.now.source
-            file.old scalar.now) file.old }
+            (binary_result (record { width = L.width; emul = destination.emul }) self.now.op self.now.vs2
+            self.now.source file.old scalar.now) file.old }
     {
         let unsigned = has_unsigned_immediate(self.op);
         let operation = InTurn {
@@ -130,7 +130,7 @@ impl BinaryOperation {
         requires operands { IsInside self.vs2 destination.emul × SourceIsInside self.source destination.emul }
         requires destination { IsInside destination.vd destination.emul }
         requires holds { HoldsBody L.width destination.emul destination.count body.now.end }
-        requires in_turn { IsTrue (is_side_by_side self.op)
+        requires in_turn { IsTrue (is_simd self.op)
             × IsReadFirst self.vs2 destination.vd (registers destination.emul)
             × SourceIsReadFirst self.source destination.vd (registers destination.emul) }
         requires no_tail { destination.agnostic.fill_tail ≡ true → body.now.end ≡ destination.count }
@@ -143,8 +143,8 @@ impl BinaryOperation {
         self.write_in_turn::<L>(false, fill, destination, body, file, scalar);
     }
 
-    /// Writes the results in turn, of a body that is masked and is all elements of the destination; those that are masked off
-    /// keep.
+    /// Writes the results in turn, of a body that is masked and is all elements of the destination; those that are
+    /// masked off keep.
     #[inline(never)]
     fn write_masked_in_turn<L: Lane>(
         self,
@@ -159,7 +159,7 @@ impl BinaryOperation {
         requires operands { IsInside self.vs2 destination.emul × SourceIsInside self.source destination.emul }
         requires destination { IsInside destination.vd destination.emul }
         requires holds { HoldsBody L.width destination.emul destination.count body.now.end }
-        requires in_turn { IsTrue (is_side_by_side self.op)
+        requires in_turn { IsTrue (is_simd self.op)
             × IsReadFirst self.vs2 destination.vd (registers destination.emul)
             × SourceIsReadFirst self.source destination.vd (registers destination.emul) }
         requires no_tail { destination.agnostic.fill_tail ≡ true → body.now.end ≡ destination.count }
@@ -172,8 +172,8 @@ impl BinaryOperation {
         self.write_in_turn::<L>(true, false, destination, &all, file, scalar);
     }
 
-    /// Writes the results in turn; where all elements of the destination are active, in line. What is out of line is handed
-    /// copies, so that the destination and the body themselves need no place in memory.
+    /// Writes the results in turn; where all elements of the destination are active, in line. What is out of line is
+    /// handed copies, so that the destination and the body themselves need no place in memory.
     #[inline(always)]
     fn write_all<L: Lane>(
         &self,
@@ -185,14 +185,14 @@ impl BinaryOperation {
         requires operands { IsInside self.now.vs2 destination.emul × SourceIsInside self.now.source destination.emul }
         requires destination { IsInside destination.vd destination.emul }
         requires holds { HoldsBody L.width destination.emul destination.count body.now.end }
-        requires in_turn { IsTrue (is_side_by_side self.now.op)
+        requires in_turn { IsTrue (is_simd self.now.op)
             × IsReadFirst self.now.vs2 destination.vd (registers destination.emul)
             × SourceIsReadFirst self.now.source destination.vd (registers destination.emul) }
         requires no_tail { destination.agnostic.fill_tail ≡ true → body.now.end ≡ destination.count }
         ensures { file.new ≡ with_results (record { width = L.width; emul = destination.emul }) destination.vd body.now
             destination.agnostic.fill_masked_off destination.agnostic.fill_tail
-            (binary_result (record { width = L.width; emul = destination.emul }) self.now.op self.now.vs2 self.now.source
-            file.old scalar.now) file.old }
+            (binary_result (record { width = L.width; emul = destination.emul }) self.now.op self.now.vs2
+            self.now.source file.old scalar.now) file.old }
     {
         let keeps = !destination.agnostic.fill_masked_off;
         if !(body.start() == 0 && body.end() == destination.count && keeps) {

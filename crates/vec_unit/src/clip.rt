@@ -1,9 +1,10 @@
 //! Clips of a source of twice the width, carried out ("V" Vector Extension 1.0, section 12.5).
 ghost use Rattle.std.specs.Prelude.{◌≡◌, ◌*◌, ◌≤◌, ◌||◌};
-ghost use Rattle.rv_model.specs.elements.Arithmetic.{body_of, clip_result, clip_saturates_at, fills_masked_off, fills_tail, group_type, wide_type, with_results};
+ghost use Rattle.rv_model.specs.elements.Arithmetic.{body_of, clip_result, clip_saturates_at, fills_masked_off, fills_tail, with_results};
+ghost use Rattle.rv_model.specs.vector.Configuration.{group_type, lmul_eighths, sew_bits, vlmax};
+ghost use Rattle.rv_model.specs.vector.Groups.{wide_type};
 ghost use Rattle.rv_model.specs.elements.Elements.{some_active};
-ghost use Rattle.rv_model.specs.legality.GroupBounds.{HasRoom, HoldsBody, IsInside, SourceIsInside};
-ghost use Rattle.rv_model.specs.vector.Configuration.{lmul_eighths, sew_bits, vlmax};
+ghost use Rattle.rv_model.specs.lending.GroupBounds.{HasRoom, HoldsBody, IsInside, SourceIsInside};
 
 use crate::body::body_under;
 use crate::destination::{Destination, Target, agnostic_under};
@@ -95,11 +96,11 @@ pub(crate) fn carry_out_clip(
           with_results (group_type target.vtype) target.vd (body_of target.unmasked state.old)
           (fills_masked_off target.policy target.vtype (body_of target.unmasked state.old))
           (fills_tail target.policy target.vtype (body_of target.unmasked state.old))
-          (clip_result (group_type target.vtype) (wide_type target.vtype) state.old.vxrm op vs2 source state.old.file scalar.now)
-          state.old.file;
+          (clip_result (group_type target.vtype) (wide_type target.vtype) state.old.vxrm op vs2 source state.old.file
+          scalar.now) state.old.file;
       vxsat = state.old.vxsat || some_active (body_of target.unmasked state.old)
-          (clip_saturates_at (group_type target.vtype) (wide_type target.vtype) state.old.vxrm op vs2 source state.old.file
-          scalar.now);
+          (clip_saturates_at (group_type target.vtype) (wide_type target.vtype) state.old.vxrm op vs2 source
+          state.old.file scalar.now);
       vstart = 0;
     } }
 {

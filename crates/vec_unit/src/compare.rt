@@ -1,7 +1,7 @@
 //! Comparisons, and carries and borrows as masks ("V" Vector Extension 1.0, sections 11.4 and 11.8).
 ghost use Rattle.std.specs.Prelude.{◌≡◌};
 ghost use Rattle.rv_model.specs.elements.Arithmetic.{carry_out_result, compare_result};
-ghost use Rattle.rv_model.specs.legality.GroupBounds.{IsInside, SourceIsInside};
+ghost use Rattle.rv_model.specs.lending.GroupBounds.{IsInside, SourceIsInside};
 
 use crate::destination::write_mask;
 use crate::mask_wise::MaskWise;

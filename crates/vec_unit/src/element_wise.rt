@@ -2,9 +2,9 @@
 //! 5.2 to 5.4 and chapter 11).
 ghost use Rattle.std.specs.Prelude.{◌≡◌, ◌≤◌, List, ℕ};
 ghost use Rattle.rv_model.specs.declared.scalar.Scalar.{Scalar as ScalarRegisters};
-ghost use Rattle.rv_model.specs.elements.Arithmetic.{GroupType, body_of, fills_masked_off, fills_tail, group_type, with_results};
-ghost use Rattle.rv_model.specs.legality.GroupBounds.{HoldsBody, IsInside};
-ghost use Rattle.rv_model.specs.vector.Configuration.{lmul_eighths, vlmax};
+ghost use Rattle.rv_model.specs.elements.Arithmetic.{body_of, fills_masked_off, fills_tail, with_results};
+ghost use Rattle.rv_model.specs.vector.Configuration.{GroupType, group_type, lmul_eighths, vlmax};
+ghost use Rattle.rv_model.specs.lending.GroupBounds.{HoldsBody, IsInside};
 ghost use Rattle.rv_model.specs.vector.Registers.{register_of};
 
 use crate::body::body_under;

@@ -1,11 +1,10 @@
 //! Extensions of elements of a part of the width ("V" Vector Extension 1.0, section 11.3).
 ghost use Rattle.std.specs.Prelude.{◌≡◌, ◌/◌, ◌≤◌};
-ghost use Rattle.rv_model.specs.elements.Arithmetic.{body_of, extend_result, fills_masked_off, fills_tail, group_type, part_type, with_results};
-ghost use Rattle.rv_model.specs.legality.GroupBounds.{HasRoom, HoldsBody, IsInside};
-ghost use Rattle.rv_model.specs.elements.Formulas.{part_width};
+ghost use Rattle.rv_model.specs.elements.Arithmetic.{body_of, extend_result, fills_masked_off, fills_tail, with_results};
+ghost use Rattle.rv_model.specs.vector.Configuration.{group_type, lmul_eighths, sew_bits, sew_width, vlmax, width_bytes};
+ghost use Rattle.rv_model.specs.vector.Groups.{extension_divisor, part_type, part_width};
+ghost use Rattle.rv_model.specs.lending.GroupBounds.{HasRoom, HoldsBody, IsInside};
 ghost use Rattle.rv_model.specs.vector.Registers.{register_of};
-ghost use Rattle.rv_model.specs.legality.OperandShapes.{extension_divisor};
-ghost use Rattle.rv_model.specs.vector.Configuration.{lmul_eighths, sew_bits, sew_width, vlmax, width_bytes};
 
 use crate::body::body_under;
 use crate::destination::{Destination, Target, agnostic_under, write_group};
@@ -76,8 +75,8 @@ fn write_extension(
     requires holds { HoldsBody (sew_width sew) destination.emul destination.count body.now.end }
     requires room { HasRoom (part_width operation.op (sew_width sew)) part body.now.end }
     requires mask { body.now.mask ≡ register_of file.old 0 }
-    ensures { file.new ≡ with_results (record { width = sew_width sew; emul = destination.emul }) destination.vd body.now
-        destination.agnostic.fill_masked_off destination.agnostic.fill_tail
+    ensures { file.new ≡ with_results (record { width = sew_width sew; emul = destination.emul }) destination.vd
+        body.now destination.agnostic.fill_masked_off destination.agnostic.fill_tail
         (extend_result (record { width = part_width operation.op (sew_width sew); emul = part })
         (record { width = sew_width sew; emul = destination.emul }) operation.op operation.vs2 file.old) file.old }
 {

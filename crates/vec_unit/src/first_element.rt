@@ -1,20 +1,10 @@
 //! One number, written to element 0 of a register ("V" Vector Extension 1.0, chapter 14 and section 16.1).
-ghost use Rattle.std.specs.Prelude.{◌≡◌, ◌*◌, ⊤, false};
-ghost use Rattle.rv_model.specs.elements.Arithmetic.{single_type, with_results};
-ghost use Rattle.rv_model.specs.elements.Elements.{first_alone};
-ghost use Rattle.rv_model.specs.vector.Configuration.{width_bytes};
+ghost use Rattle.std.specs.Prelude.{◌≡◌, ⊤};
+ghost use Rattle.rv_model.specs.elements.Arithmetic.{fills_tail, with_first_result};
 
-use crate::destination::{Agnostic, Destination, write_group};
+use crate::destination::{Agnostic, Destination, Target, agnostic_under, write_group};
 use lane_arith::{Body, Lane, Results};
-use rv_model::{VFile, VLENB, VReg};
-
-/// A register that takes one number: how many elements it holds, and whether its tail becomes all ones.
-#[derive(Clone, Copy)]
-pub(crate) struct Register {
-    pub vd: VReg,
-    pub count: usize,
-    pub fill_tail: bool,
-}
+use rv_model::VFile;
 
 /// One number for each element.
 #[derive(Clone, Copy, Drop)]
@@ -32,20 +22,19 @@ impl<L: Lane> Results<L> for Same<L> {
     }
 }
 
-/// Writes a number to element 0 of a register, where the body has an element, and fills its tail.
-pub(crate) fn write_first<L: Lane>(number: L, register: Register, body: &Body<'_>, file: &mut VFile)
-    requires whole { VLENB ≡ width_bytes L.width * register.count }
-    ensures { file.new ≡ with_results (single_type L.width) register.vd (first_alone body.now) false register.fill_tail
-        (λ i. L.value number) file.old }
+/// Writes a number to element 0 of the target's register, where the body has an element, and fills its tail.
+pub(crate) fn write_first<L: Lane>(number: L, target: Target, body: &Body<'_>, file: &mut VFile)
+    ensures { file.new ≡ with_first_result L.width target.vd body.now (fills_tail target.policy target.vtype body.now)
+        (L.value number) file.old }
 {
     let first = Body::new(true, body.mask(), 0, usize::from(body.start() < body.end()));
     let destination = Destination {
-        vd: register.vd,
+        vd: target.vd,
         emul: 8,
-        count: register.count,
+        count: L::count(),
         agnostic: Agnostic {
             fill_masked_off: false,
-            fill_tail: register.fill_tail,
+            fill_tail: agnostic_under(target.policy, target.vtype, body).fill_tail,
         },
     };
     write_group::<L, Same<L>>(&Same { number }, destination, &first, file);

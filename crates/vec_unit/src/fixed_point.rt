@@ -1,10 +1,10 @@
 //! Fixed-point operations of one width, carried out ("V" Vector Extension 1.0, chapter 12).
 ghost use Rattle.std.specs.Prelude.{◌≡◌, ◌≤◌, ◌||◌};
-ghost use Rattle.rv_model.specs.elements.Arithmetic.{body_of, fills_masked_off, fills_tail, fixed_point_result, group_type, saturates_at, with_results};
+ghost use Rattle.rv_model.specs.elements.Arithmetic.{body_of, fills_masked_off, fills_tail, fixed_point_result, saturates_at, with_results};
+ghost use Rattle.rv_model.specs.vector.Configuration.{group_type, lmul_eighths, vlmax};
 ghost use Rattle.rv_model.specs.elements.Elements.{some_active};
 ghost use Rattle.rv_model.specs.elements.FixedPoint.{has_unsigned_shift};
-ghost use Rattle.rv_model.specs.legality.GroupBounds.{HoldsBody, IsInside, SourceIsInside};
-ghost use Rattle.rv_model.specs.vector.Configuration.{lmul_eighths, vlmax};
+ghost use Rattle.rv_model.specs.lending.GroupBounds.{HoldsBody, IsInside, SourceIsInside};
 
 use crate::body::body_under;
 use crate::destination::{Destination, Target, agnostic_under};
@@ -96,7 +96,8 @@ pub(crate) fn carry_out_fixed_point(
           with_results (group_type target.vtype) target.vd (body_of target.unmasked state.old)
           (fills_masked_off target.policy target.vtype (body_of target.unmasked state.old))
           (fills_tail target.policy target.vtype (body_of target.unmasked state.old))
-          (fixed_point_result (group_type target.vtype) state.old.vxrm op vs2 source state.old.file scalar.now) state.old.file;
+          (fixed_point_result (group_type target.vtype) state.old.vxrm op vs2 source state.old.file scalar.now)
+          state.old.file;
       vxsat = state.old.vxsat || some_active (body_of target.unmasked state.old)
           (saturates_at (group_type target.vtype) state.old.vxrm op vs2 source state.old.file scalar.now);
       vstart = 0;

@@ -1,16 +1,16 @@
 //! Operations of one width on groups, register by register in turn ("V" Vector Extension 1.0, sections 3.4.2, 5.2
 //! and chapter 11).
 ghost use Rattle.std.specs.Prelude.{◌≡◌, ◌+◌, ◌*◌, ◌%◌, ◌^◌, ◌<◌, ◌/◌, ◌≤◌, ◌==◌, IsTrue, ℕ, false, length, not, true};
-ghost use Rattle.lane_arith.specs.SideBySide.{is_side_by_side};
+ghost use Rattle.lane_arith.specs.SimdOperations.{is_simd};
 ghost use Rattle.rv_model.specs.elements.Elements.{is_active, is_changed, result_or_ones};
 ghost use Rattle.rv_model.specs.elements.Formulas.{ones};
-ghost use Rattle.rv_model.specs.elements.Writes.{Writes};
+ghost use Rattle.rv_model.specs.lending.Writes.{Writes};
 ghost use Rattle.rv_model.specs.vector.Configuration.{width_bytes};
 ghost use Rattle.vec_unit.specs.InTurn.{IsReadFirst, SourceHasRegisters, SourceIsReadFirst, number_from, second_in, second_number, test_from, turn_result};
 ghost use mir.Val.{bits};
 
 use crate::operands::immediate_value;
-use lane_arith::chunk::side_by_side;
+use lane_arith::chunk::simd_results;
 use lane_arith::{Body, Lane, active_bits, chunk_elements, filled_bits, let_bits, put_results};
 use rv_model::instructions::operations::BinaryOp;
 use rv_model::{FILE_BYTES, GROUP_BYTES, Scalar, Source, VECTOR_REGISTERS, VLENB, VReg};
@@ -77,13 +77,14 @@ pub(crate) struct InTurn {
 }
 
 impl InTurn {
-    /// The elements of a register of the second operand, side by side.
+    /// The elements of a register of the second operand, as a SIMD vector.
     #[inline(always)]
     fn second<L: Lane>(&self, register: usize, bytes: &[u8]) -> L::Vector
         requires inside { SourceHasRegisters self.now.source (register + 1) }
         requires whole { length bytes.now ≡ FILE_BYTES }
         ensures value { (i : ℕ) → i < L.count → L.lane result i
-            ≡ second_in (width_bytes L.width) L.count self.now.source (self.now.number % 2 ^ bits L.width) bytes.now (L.count * register + i) }
+            ≡ second_in (width_bytes L.width) L.count self.now.source (self.now.number % 2 ^ bits L.width) bytes.now
+            (L.count * register + i) }
         ensures bound { (i : ℕ) → i < L.count → L.lane result i < 2 ^ bits L.width }
     {
         match self.source {
@@ -93,8 +94,8 @@ impl InTurn {
         }
     }
 
-    /// Writes the results to the first `registers` registers from `vd` on, of the bytes of all registers: in turn, so that
-    /// those of the operands are read before they are written. Where `all`, the body is all their elements.
+    /// Writes the results to the first `registers` registers from `vd` on, of the bytes of all registers: in turn, so
+    /// that those of the operands are read before they are written. Where `all`, the body is all their elements.
     #[inline(always)]
     pub(crate) fn write<L: Lane>(
         &self,
@@ -106,7 +107,7 @@ impl InTurn {
         bytes: &mut [u8],
     )
         requires all { all ≡ true → (body.now.start ≡ 0) × (body.now.end ≡ L.count * registers) }
-        requires made { IsTrue (is_side_by_side self.now.op) }
+        requires made { IsTrue (is_simd self.now.op) }
         requires first { self.now.vs2 + registers ≤ VECTOR_REGISTERS }
         requires second { SourceHasRegisters self.now.source registers }
         requires destination { vd + registers ≤ VECTOR_REGISTERS }
@@ -117,15 +118,15 @@ impl InTurn {
         requires whole { length bytes.old ≡ FILE_BYTES }
         ensures { Writes (width_bytes L.width) (test_from (L.count * vd) (is_changed body.now fill_masked_off false))
             (number_from (L.count * vd) (result_or_ones body.now
-            (turn_result L.width L.count self.now.op self.now.vs2 self.now.source self.now.number bytes.old) (ones L.width)))
-            bytes.old bytes.new }
+            (turn_result L.width L.count self.now.op self.now.vs2 self.now.source self.now.number bytes.old)
+            (ones L.width))) bytes.old bytes.new }
     {
         let count = L::count();
         let (first, vd) = (self.vs2.number() as usize, vd.number() as usize);
         for r in 0..registers {
             let a = chunk_elements::<L>(bytes, first + r);
             let b = self.second::<L>(r, bytes);
-            let made = side_by_side::<L>(self.op, a, b);
+            let made = simd_results::<L>(self.op, a, b);
             let active = active_in_turn(all, body, count * r, count);
             let filled = filled_bits(body, fill_masked_off, count * r, count);
             put_results::<L>(made, active, filled, VLENB * (vd + r), bytes);

@@ -2,12 +2,12 @@
 ghost use Rattle.std.specs.Prelude.{◌≡◌, ◌≤◌, IsTrue, List, Some, ℕ, true};
 ghost use Rattle.rv_model.specs.declared.scalar.Scalar.{Scalar as ScalarRegisters};
 ghost use Rattle.rv_model.specs.declared.vector.policy.Policy.{Policy as AgnosticPolicy};
-ghost use Rattle.rv_model.specs.elements.Arithmetic.{group_type, index_result, mask_logic_result};
+ghost use Rattle.rv_model.specs.elements.Arithmetic.{index_result, mask_logic_result};
+ghost use Rattle.rv_model.specs.vector.Configuration.{group_type, vlmax};
 ghost use Rattle.rv_model.specs.legality.Legality.{is_legal};
 ghost use Rattle.rv_model.specs.memory.Memory.{Memory};
 ghost use Rattle.rv_model.specs.step.Hart.{hart_state};
 ghost use Rattle.rv_model.specs.step.VectorStep.{element_wise, mask_to_scalar_step, mask_unary_step, mask_wise, typed, vector_ends};
-ghost use Rattle.rv_model.specs.vector.Configuration.{vlmax};
 
 use crate::destination::Target;
 use crate::element_wise::carry_out;
@@ -15,7 +15,7 @@ use crate::masks::{
     IndexOperation, IotaOperation, carry_out_logic, carry_out_scan, counts_of_mask, scalar_of_mask,
 };
 use rv_model::instructions::operations::{MaskLogicOp, MaskToScalarOp, MaskUnaryOp};
-use rv_model::{Instr, Policy, Reg, Scalar, VEnd, VReg, VState};
+use rv_model::{Instr, Policy, Reg, Scalar, VEnd, VReg, VState, VectorInstr};
 
 /// Carries out logic on two masks.
 #[tactic(auto, using(rv_model::proofs::legality_lemmas::Bounds::length_below))]
@@ -74,7 +74,7 @@ fn carry_out_mask_unary(
     state: &mut VState,
     scalar: &Scalar,
 )
-    requires legal { IsTrue (is_legal (Instr.MaskUnary op target.vd vs2 target.unmasked)
+    requires legal { IsTrue (is_legal (Instr.Vector (VectorInstr.MaskUnary op target.vd vs2 target.unmasked))
         (Some target.vtype) state.old.vstart) }
     requires length { state.old.conf.vl ≤ vlmax target.vtype }
     ensures model { (memory : Memory) (output : List ℕ)
@@ -101,7 +101,8 @@ pub(crate) fn perform_mask_unary(
     scalar: &Scalar,
     policy: Policy,
 ) -> VEnd
-    requires legal { IsTrue (is_legal (Instr.MaskUnary op vd vs2 unmasked) state.old.conf.vtype state.old.vstart) }
+    requires legal { IsTrue (is_legal (Instr.Vector (VectorInstr.MaskUnary op vd vs2 unmasked))
+        state.old.conf.vtype state.old.vstart) }
     ensures model { (memory : Memory) (output : List ℕ)
         → typed state.old.conf.vtype (λ t. mask_unary_step t op vd vs2 unmasked)
         (hart_state scalar.now state.old memory policy output)
@@ -130,7 +131,8 @@ pub(crate) fn perform_element_index(
     scalar: &Scalar,
     policy: Policy,
 ) -> VEnd
-    requires legal { IsTrue (is_legal (Instr.ElementIndex vd unmasked) state.old.conf.vtype state.old.vstart) }
+    requires legal { IsTrue (is_legal (Instr.Vector (VectorInstr.ElementIndex vd unmasked))
+        state.old.conf.vtype state.old.vstart) }
     ensures model { (memory : Memory) (output : List ℕ)
         → typed state.old.conf.vtype (λ t. element_wise t (group_type t) vd unmasked (index_result (group_type t)))
         (hart_state scalar.now state.old memory policy output)

@@ -1,6 +1,6 @@
 //! Operations with v0 as an operand ("V" Vector Extension 1.0, sections 11.4 and 11.15).
 ghost use Rattle.rv_model.specs.elements.Arithmetic.{carry_result};
-ghost use Rattle.rv_model.specs.legality.GroupBounds.{IsInside, SourceIsInside};
+ghost use Rattle.rv_model.specs.lending.GroupBounds.{IsInside, SourceIsInside};
 
 use crate::destination::{Destination, write_group};
 use crate::element_wise::ElementWise;

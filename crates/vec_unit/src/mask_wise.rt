@@ -2,9 +2,8 @@
 //! 11.8).
 ghost use Rattle.std.specs.Prelude.{◌≡◌, ◌*◌, ◌≤◌, Bool, List, ℕ};
 ghost use Rattle.rv_model.specs.declared.scalar.Scalar.{Scalar as ScalarRegisters};
-ghost use Rattle.rv_model.specs.elements.Arithmetic.{GroupType, body_of, group_type, with_mask_results};
-ghost use Rattle.rv_model.specs.legality.GroupBounds.{HoldsBody};
-ghost use Rattle.rv_model.specs.vector.Configuration.{lmul_eighths, vlmax, width_bytes};
+ghost use Rattle.rv_model.specs.elements.Arithmetic.{body_of, with_mask_results};
+ghost use Rattle.rv_model.specs.vector.Configuration.{GroupType, group_type, lmul_eighths, vlmax, width_bytes};
 ghost use Rattle.rv_model.specs.vector.Registers.{register_of, registers};
 
 use crate::body::body_under;

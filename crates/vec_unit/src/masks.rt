@@ -46,7 +46,8 @@ pub(crate) fn carry_out_scan(
     ensures { state.new ≡ record state.old {
       file =
           with_mask_results vd (body_of unmasked state.old)
-          (mask_scan_formula op (first_set (body_of unmasked state.old) (register_of state.old.file vs2))) state.old.file;
+          (mask_scan_formula op (first_set (body_of unmasked state.old) (register_of state.old.file vs2)))
+          state.old.file;
       vstart = 0;
     } }
 {

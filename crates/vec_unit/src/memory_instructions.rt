@@ -1,417 +1,233 @@
-//! Vector loads and stores: their mask policy, their tails and their ends. What they move is
+//! Vector loads and stores: whether they are legal, what they fill, and their ends. What they move is
 //! `vector_memory`'s ("V" Vector Extension 1.0, sections 3.4.3, 3.7, 5.4 and chapter 7).
-ghost use Rattle.std.specs.Prelude.{◌≡◌, ◌≢◌, ◌+◌, ◌≤◌, IsTrue, List, Some, ℕ, false, if◌then◌else◌, true};
-ghost use Rattle.rv_model.specs.declared.vector.policy.Policy.{Policy as AgnosticPolicy};
-ghost use Rattle.rv_model.specs.declared.vector.types.VType.{VType as VectorType};
-ghost use Rattle.rv_model.specs.instructions.Accesses.{is_access};
-ghost use Rattle.rv_model.specs.legality.GroupBounds.{SegmentsInside};
+ghost use Rattle.std.specs.Prelude.{◌≡◌, ◌≢◌, ◌≤◌, IfSome, IsTrue, List, ℕ, false, true};
+ghost use Rattle.rv_model.specs.lending.GroupBounds.{SegmentsInside};
 ghost use Rattle.rv_model.specs.legality.Legality.{is_legal};
 ghost use Rattle.rv_model.specs.step.Hart.{hart_state};
-ghost use Rattle.rv_model.specs.step.MemoryStep.{access_end, is_load, is_unit_load, tails_filled};
-ghost use Rattle.rv_model.specs.step.VectorStep.{access_step, performed, plain_step, segment_step, typed, vector_ends};
-ghost use Rattle.rv_model.specs.vector.Configuration.{sew_width, vlmax};
-ghost use Rattle.vec_unit.specs.MemoryInstructions.{data_type};
+ghost use Rattle.rv_model.specs.step.MemoryStep.{access_end};
+ghost use Rattle.rv_model.specs.step.VectorStep.{performed, vector_ends, vector_executed};
+ghost use Rattle.vec_unit.specs.MemoryInstructions.{direction_of, filled_by, groups_of, is_unmasked, tail_fields, with_filled};
 
 use crate::body::body_under;
-use crate::destination::{Agnostic, agnostic_under};
+use crate::destination::agnostic_under;
 use crate::tails::{Fields, fill_tails};
-use reg_groups::{emul, mask_register};
-use rv_model::instructions::operations::{Direction, Width};
-use rv_model::{Field, Instr, MemEnd, Policy, Scalar, Sew, VEnd, VReg, VState, VType};
-use vector_memory::{UnitAccess, UserBytes, is_unit_load, run_whole_block};
+use reg_groups::{emul, legal, legal_unit, mask_register};
+use rv_model::instructions::operations::{Direction, UnitOp};
+use rv_model::{
+    AccessInstr, Instr, MemEnd, Policy, Scalar, Sew, VConf, VEnd, VFile, VState, VType,
+};
+use vector_memory::UserBytes;
 
-/// Whether memory is read.
+/// The direction of an access.
 #[inline(always)]
-fn is_load(direction: Direction) -> bool
-    ensures { result ≡ is_load direction }
+fn direction_of(access: &AccessInstr) -> Direction
+    ensures { result ≡ direction_of access.now }
 {
-    match direction {
-        Direction::Load => true,
-        Direction::Store => false,
+    match *access {
+        AccessInstr::UnitStride { op, .. } => match op {
+            UnitOp::Load | UnitOp::FaultOnlyFirst => Direction::Load,
+            UnitOp::Store => Direction::Store,
+        },
+        AccessInstr::Strided { direction, .. } => direction,
+        AccessInstr::Indexed { direction, .. } => direction,
+        AccessInstr::WholeLoad { .. } => Direction::Load,
+        AccessInstr::WholeStore { .. } => Direction::Store,
+        AccessInstr::MaskAccess { direction, .. } => direction,
     }
 }
 
 /// How the instruction ends whose access ends so.
 #[inline(always)]
-fn access_end(loads: bool, end: MemEnd) -> VEnd
-    ensures value { result ≡ access_end loads end }
-    ensures carried_out { result ≢ VEnd.Illegal }
+fn access_end(direction: Direction, end: MemEnd) -> VEnd
+    ensures { result ≡ access_end direction end }
 {
     match end {
         MemEnd::Done => VEnd::Done,
         MemEnd::Fault { addr, .. } => VEnd::Fault {
-            store: !loads,
+            store: matches!(direction, Direction::Store),
             addr,
         },
         MemEnd::Cut { index } => VEnd::Cut { index },
     }
 }
 
-/// Carries out a legal load or store whose tail keeps.
+/// Carries out a legal load or store under the policy that keeps agnostic elements.
 #[inline(always)]
-fn perform_plain<M: UserBytes>(
-    instr: &Instr,
-    loads: bool,
+fn perform_kept<M: UserBytes>(
+    access: &AccessInstr,
     state: &mut VState,
     scalar: &Scalar,
     memory: &mut M,
     limit: usize,
 ) -> VEnd
-    requires legal { IsTrue (is_legal instr.now state.old.conf.vtype state.old.vstart) }
+    requires legal { IsTrue (is_legal (Instr.Access access.now) state.old.conf.vtype state.old.vstart) }
     requires limit { 1 ≤ limit }
-    ensures model { (policy : AgnosticPolicy) (output : List ℕ)
-        → plain_step limit loads instr.now (hart_state scalar.now state.old (M.memory memory.old) policy output)
-        ≡ vector_ends result (hart_state scalar.now state.new (M.memory memory.new) policy output) }
-    ensures memory { memory.new ≡ M.with_memory memory.old (M.memory memory.new) }
-    ensures carried_out { result ≢ VEnd.Illegal }
-{
-    let end = vector_memory::run(instr, state, scalar, memory, limit, false);
-    access_end(loads, end)
-}
-
-/// Carries out a legal load of segments. Where agnostic tails are filled, those of its fields are filled once
-/// it is done, from the length on that it found.
-#[inline(never)]
-fn perform_load<M: UserBytes>(
-    instr: &Instr,
-    fields: Fields,
-    agnostic: Agnostic,
-    state: &mut VState,
-    scalar: &Scalar,
-    memory: &mut M,
-    limit: usize,
-) -> VEnd
-    requires legal { IsTrue (is_legal instr.now state.old.conf.vtype state.old.vstart) }
-    requires limit { 1 ≤ limit }
-    requires fields { SegmentsInside (record { width = sew_width fields.sew; emul = fields.emul }) fields.vd fields.nf state.old.conf.vl }
-    ensures model { (policy : AgnosticPolicy) (output : List ℕ)
-        → access_step limit agnostic.fill_masked_off true
-        (λ file. if agnostic.fill_tail
-        then tails_filled (record { width = sew_width fields.sew; emul = fields.emul }) fields.vd (fields.nf + 1) state.old.conf.vl file
-        else file)
-        instr.now (hart_state scalar.now state.old (M.memory memory.old) policy output)
-        ≡ vector_ends result (hart_state scalar.now state.new (M.memory memory.new) policy output) }
-    ensures memory { memory.new ≡ M.with_memory memory.old (M.memory memory.new) }
-    ensures carried_out { result ≢ VEnd.Illegal }
-{
-    let length = usize::from(state.conf.vl());
-    let end = vector_memory::run(
-        instr,
-        state,
-        scalar,
-        memory,
-        limit,
-        agnostic.fill_masked_off,
-    );
-    if agnostic.fill_tail && matches!(end, MemEnd::Done) {
-        fill_tails(fields, length, &mut state.file);
-    }
-    access_end(true, end)
-}
-
-/// An access of segments: whether it reads memory, the width of its data unless that is SEW, its `nf` + 1
-/// fields from `vd` on, and whether it is unmasked.
-#[derive(Clone, Copy)]
-struct SegmentAccess {
-    loads: bool,
-    width: Option<Width>,
-    nf: Field<3>,
-    vd: VReg,
-    unmasked: bool,
-}
-
-impl SegmentAccess {
-    /// An access of these segments.
-    #[inline(always)]
-    fn new(
-        loads: bool,
-        width: Option<Width>,
-        nf: Field<3>,
-        vd: VReg,
-        unmasked: bool,
-    ) -> SegmentAccess
-        ensures { result ≡ record { loads = loads; width = width; nf = nf; vd = vd; unmasked = unmasked } }
-    {
-        SegmentAccess {
-            loads,
-            width,
-            nf,
-            vd,
-            unmasked,
-        }
-    }
-
-    /// The groups of the fields under a vector type: as many elements as it has.
-    #[inline(always)]
-    fn fields(&self, vtype: VType) -> Fields
-        ensures data { record { width = sew_width result.sew; emul = result.emul } ≡ data_type self.now.width vtype }
-        ensures first { result.vd ≡ self.now.vd }
-        ensures count { result.nf ≡ self.now.nf }
-    {
-        let sew = match self.width {
-            Some(width) => Sew::from_width(width),
-            None => vtype.sew,
-        };
-        Fields {
-            vd: self.vd,
-            nf: self.nf,
-            sew,
-            emul: emul(sew.bits(), vtype),
-        }
-    }
-}
-
-/// Carries out a legal access of segments.
-#[inline(always)]
-fn perform_segments<M: UserBytes>(
-    instr: &Instr,
-    segments: SegmentAccess,
-    state: &mut VState,
-    scalar: &Scalar,
-    memory: &mut M,
-    limit: usize,
-    policy: Policy,
-) -> VEnd
-    requires legal { IsTrue (is_legal instr.now state.old.conf.vtype state.old.vstart) }
-    requires limit { 1 ≤ limit }
-    requires fields { (t : VectorType) → state.old.conf.vtype ≡ Some t → state.old.conf.vl ≤ vlmax t
-        → SegmentsInside (data_type segments.width t) segments.vd segments.nf state.old.conf.vl }
     ensures model { (output : List ℕ)
-        → typed state.old.conf.vtype
-        (λ t. segment_step limit t (data_type segments.width t) segments.loads segments.nf segments.vd segments.unmasked instr.now)
-        (hart_state scalar.now state.old (M.memory memory.old) policy output)
-        ≡ vector_ends result (hart_state scalar.now state.new (M.memory memory.new) policy output) }
+        → performed limit (Instr.Access access.now)
+        (hart_state scalar.now state.old (M.memory memory.old) Policy.Keep output)
+        ≡ vector_ends result (hart_state scalar.now state.new (M.memory memory.new) Policy.Keep output) }
     ensures memory { memory.new ≡ M.with_memory memory.old (M.memory memory.new) }
-    ensures illegal_state { result ≡ VEnd.Illegal → state.new ≡ state.old }
-    ensures illegal_memory { result ≡ VEnd.Illegal → memory.new ≡ memory.old }
+    ensures carried_out { result ≢ VEnd.Illegal }
+{
+    let end = vector_memory::run(access, state, scalar, memory, limit, false);
+    access_end(direction_of(access), end)
+}
+
+/// Whether no element of an access is masked off.
+fn is_unmasked(access: &AccessInstr) -> bool
+    ensures { result ≡ is_unmasked access.now }
+{
+    match *access {
+        AccessInstr::UnitStride { vm, .. } => vm,
+        AccessInstr::Strided { vm, .. } => vm,
+        AccessInstr::Indexed { vm, .. } => vm,
+        AccessInstr::WholeLoad { .. }
+        | AccessInstr::WholeStore { .. }
+        | AccessInstr::MaskAccess { .. } => true,
+    }
+}
+
+/// The fields of an access, unless it is one of whole registers or of a mask, which has no tail that is filled.
+fn tail_fields(access: &AccessInstr, vtype: VType) -> Option<Fields>
+    ensures { result ≡ tail_fields access.now vtype }
+{
+    let (nf, vd, sew) = match *access {
+        AccessInstr::UnitStride { width, nf, vd, .. } => (nf, vd, Sew::from_width(width)),
+        AccessInstr::Strided { width, nf, vd, .. } => (nf, vd, Sew::from_width(width)),
+        AccessInstr::Indexed { nf, vd, .. } => (nf, vd, vtype.sew),
+        AccessInstr::WholeLoad { .. }
+        | AccessInstr::WholeStore { .. }
+        | AccessInstr::MaskAccess { .. } => return None,
+    };
+    Some(Fields {
+        vd,
+        nf,
+        sew,
+        emul: emul(sew.bits(), vtype),
+    })
+}
+
+/// What an access fills with ones: whether its elements that are masked off, and the fields whose tails.
+#[derive(Clone, Copy)]
+struct Filled {
+    masked_off: bool,
+    tails: Option<Fields>,
+}
+
+/// What an access fills under a policy.
+fn filled_by(access: &AccessInstr, state: &VState, policy: Policy) -> Filled
+    ensures { result ≡ filled_by access.now policy state.now }
 {
     let Some(vtype) = state.conf.vtype() else {
-        return VEnd::Illegal;
+        return Filled {
+            masked_off: false,
+            tails: None,
+        };
     };
-    if !segments.loads {
-        return perform_plain(instr, false, state, scalar, memory, limit);
-    }
-    if let Policy::Keep = policy {
-        return perform_plain(instr, true, state, scalar, memory, limit);
-    }
     let mask = mask_register(&state.file);
-    let body = body_under(segments.unmasked, &mask, state);
+    let body = body_under(is_unmasked(access), &mask, state);
     let agnostic = agnostic_under(policy, vtype, &body);
-    let fields = segments.fields(vtype);
-    perform_load(instr, fields, agnostic, state, scalar, memory, limit)
-}
-
-/// Carries out a legal load or store of a mask.
-fn perform_mask_access<M: UserBytes>(
-    instr: &Instr,
-    direction: Direction,
-    state: &mut VState,
-    scalar: &Scalar,
-    memory: &mut M,
-    limit: usize,
-) -> VEnd
-    requires legal { IsTrue (is_legal instr.now state.old.conf.vtype state.old.vstart) }
-    requires limit { 1 ≤ limit }
-    ensures model { (policy : AgnosticPolicy) (output : List ℕ)
-        → typed state.old.conf.vtype (λ t. plain_step limit (is_load direction) instr.now)
-        (hart_state scalar.now state.old (M.memory memory.old) policy output)
-        ≡ vector_ends result (hart_state scalar.now state.new (M.memory memory.new) policy output) }
-    ensures memory { memory.new ≡ M.with_memory memory.old (M.memory memory.new) }
-    ensures illegal_state { result ≡ VEnd.Illegal → state.new ≡ state.old }
-    ensures illegal_memory { result ≡ VEnd.Illegal → memory.new ≡ memory.old }
-{
-    if state.conf.vtype().is_none() {
-        return VEnd::Illegal;
-    }
-    perform_plain(instr, is_load(direction), state, scalar, memory, limit)
-}
-
-/// Carries out a legal unit-stride load or store whose tail keeps at once, if all of its elements come at once. Answers
-/// whether it is done.
-#[inline(always)]
-fn perform_whole_block<M: UserBytes>(
-    access: UnitAccess,
-    state: &mut VState,
-    scalar: &Scalar,
-    memory: &mut M,
-    limit: usize,
-) -> bool
-    requires legal { IsTrue (is_legal (Instr.VectorUnit access.op access.width access.nf access.vd access.rs1 access.unmasked)
-        state.old.conf.vtype state.old.vstart) }
-    ensures model { result ≡ true → (policy : AgnosticPolicy) (output : List ℕ)
-        → plain_step limit (is_unit_load access.op)
-        (Instr.VectorUnit access.op access.width access.nf access.vd access.rs1 access.unmasked)
-        (hart_state scalar.now state.old (M.memory memory.old) policy output)
-        ≡ vector_ends VEnd.Done (hart_state scalar.now state.new (M.memory memory.new) policy output) }
-    ensures memory { memory.new ≡ M.with_memory memory.old (M.memory memory.new) }
-    ensures unchanged_state { result ≡ false → state.new ≡ state.old }
-    ensures unchanged_memory { result ≡ false → memory.new ≡ memory.old }
-{
-    run_whole_block(access, state, scalar, memory, limit)
-}
-
-/// Carries out a legal unit-stride load or store, of at most `limit` indices, as one of segments.
-#[tactic(auto, unfolding(rv_model::specs::step::VectorStep::performed))]
-#[inline(never)]
-fn perform_unit_segments<M: UserBytes>(
-    access: UnitAccess,
-    state: &mut VState,
-    scalar: &Scalar,
-    memory: &mut M,
-    limit: usize,
-    policy: Policy,
-) -> VEnd
-    requires legal { IsTrue (is_legal (Instr.VectorUnit access.op access.width access.nf access.vd access.rs1 access.unmasked)
-        state.old.conf.vtype state.old.vstart) }
-    requires limit { 1 ≤ limit }
-    ensures model { (output : List ℕ)
-        → performed limit (Instr.VectorUnit access.op access.width access.nf access.vd access.rs1 access.unmasked)
-        (hart_state scalar.now state.old (M.memory memory.old) policy output)
-        ≡ vector_ends result (hart_state scalar.now state.new (M.memory memory.new) policy output) }
-    ensures memory { memory.new ≡ M.with_memory memory.old (M.memory memory.new) }
-    ensures illegal_state { result ≡ VEnd.Illegal → state.new ≡ state.old }
-    ensures illegal_memory { result ≡ VEnd.Illegal → memory.new ≡ memory.old }
-{
-    let instr = Instr::VectorUnit {
-        op: access.op,
-        width: access.width,
-        nf: access.nf,
-        vd: access.vd,
-        rs1: access.rs1,
-        vm: access.unmasked,
-    };
-    let segments = SegmentAccess::new(
-        is_unit_load(access.op),
-        Some(access.width),
-        access.nf,
-        access.vd,
-        access.unmasked,
-    );
-    perform_segments(&instr, segments, state, scalar, memory, limit, policy)
-}
-
-/// Carries out a legal unit-stride load or store at once, if its tail and its elements that are masked off keep and
-/// all of its elements come at once. Answers whether it is done.
-#[inline(always)]
-fn perform_whole_unit<M: UserBytes>(
-    access: UnitAccess,
-    state: &mut VState,
-    scalar: &Scalar,
-    memory: &mut M,
-    limit: usize,
-    policy: Policy,
-) -> bool
-    requires legal { IsTrue (is_legal (Instr.VectorUnit access.op access.width access.nf access.vd access.rs1 access.unmasked)
-        state.old.conf.vtype state.old.vstart) }
-    ensures model { result ≡ true → (output : List ℕ)
-        → performed limit (Instr.VectorUnit access.op access.width access.nf access.vd access.rs1 access.unmasked)
-        (hart_state scalar.now state.old (M.memory memory.old) policy output)
-        ≡ vector_ends VEnd.Done (hart_state scalar.now state.new (M.memory memory.new) policy output) }
-    ensures memory { memory.new ≡ M.with_memory memory.old (M.memory memory.new) }
-    ensures unchanged_state { result ≡ false → state.new ≡ state.old }
-    ensures unchanged_memory { result ≡ false → memory.new ≡ memory.old }
-{
-    match policy {
-        Policy::Keep => perform_whole_block(access, state, scalar, memory, limit),
-        Policy::Ones => false,
+    let fills_tails = agnostic.fill_tail && matches!(direction_of(access), Direction::Load);
+    Filled {
+        masked_off: agnostic.fill_masked_off,
+        tails: if fills_tails {
+            tail_fields(access, vtype)
+        } else {
+            None
+        },
     }
 }
 
-/// Carries out a legal unit-stride load or store, of at most `limit` indices: at once, if it can be.
-#[inline(always)]
-pub(crate) fn perform_unit<M: UserBytes>(
-    access: UnitAccess,
-    state: &mut VState,
-    scalar: &Scalar,
-    memory: &mut M,
-    limit: usize,
-    policy: Policy,
-) -> VEnd
-    requires legal { IsTrue (is_legal (Instr.VectorUnit access.op access.width access.nf access.vd access.rs1 access.unmasked)
-        state.old.conf.vtype state.old.vstart) }
-    requires limit { 1 ≤ limit }
-    ensures model { (output : List ℕ)
-        → performed limit (Instr.VectorUnit access.op access.width access.nf access.vd access.rs1 access.unmasked)
-        (hart_state scalar.now state.old (M.memory memory.old) policy output)
-        ≡ vector_ends result (hart_state scalar.now state.new (M.memory memory.new) policy output) }
-    ensures memory { memory.new ≡ M.with_memory memory.old (M.memory memory.new) }
-    ensures illegal_state { result ≡ VEnd.Illegal → state.new ≡ state.old }
-    ensures illegal_memory { result ≡ VEnd.Illegal → memory.new ≡ memory.old }
+/// Fills the tails of these fields, from the length on that the access found, once it is done.
+fn fill_when_done(tails: Option<Fields>, length: usize, end: MemEnd, file: &mut VFile)
+    requires { IfSome tails (λ f. SegmentsInside (groups_of f) f.vd f.nf length) }
+    ensures { file.new ≡ with_filled tails length end file.old }
 {
-    // A copy of its own for the other function, so that the operands need no place in memory before.
-    let copy = UnitAccess {
-        op: access.op,
-        width: access.width,
-        nf: access.nf,
-        vd: access.vd,
-        rs1: access.rs1,
-        unmasked: access.unmasked,
-    };
-    if perform_whole_unit(access, state, scalar, memory, limit, policy) {
-        return VEnd::Done;
+    if let Some(fields) = tails
+        && let MemEnd::Done = end
+    {
+        fill_tails(fields, length, file);
     }
-    perform_unit_segments(copy, state, scalar, memory, limit, policy)
 }
 
-/// Carries out a legal vector load or store, of at most `limit` indices.
-#[tactic(auto, unfolding(rv_model::specs::step::VectorStep::performed))]
+/// Carries out a legal load or store, of at most `limit` indices.
 #[inline(never)]
 pub(crate) fn perform_access<M: UserBytes>(
-    instr: &Instr,
+    access: &AccessInstr,
     state: &mut VState,
     scalar: &Scalar,
     memory: &mut M,
     limit: usize,
     policy: Policy,
 ) -> VEnd
-    requires access { IsTrue (is_access instr.now) }
-    requires legal { IsTrue (is_legal instr.now state.old.conf.vtype state.old.vstart) }
+    requires legal { IsTrue (is_legal (Instr.Access access.now) state.old.conf.vtype state.old.vstart) }
     requires limit { 1 ≤ limit }
     ensures model { (output : List ℕ)
-        → performed limit instr.now (hart_state scalar.now state.old (M.memory memory.old) policy output)
+        → performed limit (Instr.Access access.now)
+        (hart_state scalar.now state.old (M.memory memory.old) policy output)
         ≡ vector_ends result (hart_state scalar.now state.new (M.memory memory.new) policy output) }
     ensures memory { memory.new ≡ M.with_memory memory.old (M.memory memory.new) }
-    ensures illegal_state { result ≡ VEnd.Illegal → state.new ≡ state.old }
-    ensures illegal_memory { result ≡ VEnd.Illegal → memory.new ≡ memory.old }
+    ensures carried_out { result ≢ VEnd.Illegal }
 {
-    match *instr {
-        Instr::VectorUnit {
+    state.conf.length_law();
+    let length = usize::from(state.conf.vl());
+    let filled = filled_by(access, state, policy);
+    let end = vector_memory::run(access, state, scalar, memory, limit, filled.masked_off);
+    fill_when_done(filled.tails, length, end, &mut state.file);
+    access_end(direction_of(access), end)
+}
+
+/// Whether a load or store is legal.
+#[inline(always)]
+fn is_legal(access: &AccessInstr, conf: &VConf, vstart: u8) -> bool
+    ensures { result ≡ is_legal (Instr.Access access.now) conf.now.vtype vstart }
+{
+    match *access {
+        AccessInstr::UnitStride {
             op,
             width,
             nf,
             vd,
             vm,
             ..
-        } => {
-            let segments = SegmentAccess::new(is_unit_load(op), Some(width), nf, vd, vm);
-            perform_segments(instr, segments, state, scalar, memory, limit, policy)
+        } => legal_unit(op, width, nf, vd, vm, conf),
+        _ => legal(&Instr::Access(*access), conf, vstart),
+    }
+}
+
+/// Carries out a vector load or store of a user, of at most `limit` indices: the same as `exec` of the instruction.
+#[tactic(auto, unfolding(rv_model::specs::step::VectorStep::vector_executed))]
+#[inline(always)]
+pub fn exec_access<M: UserBytes>(
+    access: &AccessInstr,
+    state: &mut VState,
+    scalar: &Scalar,
+    memory: &mut M,
+    limit: usize,
+    policy: Policy,
+) -> VEnd
+    requires limit { 1 ≤ limit }
+    ensures model { (output : List ℕ)
+        → vector_executed limit (Instr.Access access.now)
+        (hart_state scalar.now state.old (M.memory memory.old) policy output)
+        ≡ vector_ends result (hart_state scalar.now state.new (M.memory memory.new) policy output) }
+
+    // All else that the user's bytes hold stays.
+    ensures memory { memory.new ≡ M.with_memory memory.old (M.memory memory.new) }
+
+    // What the illegal instruction finds is what it leaves.
+    ensures illegal_state { result ≡ VEnd.Illegal → state.new ≡ state.old }
+    ensures illegal_memory { result ≡ VEnd.Illegal → memory.new ≡ memory.old }
+{
+    if !is_legal(access, &state.conf, state.vstart) {
+        return VEnd::Illegal;
+    }
+    match policy {
+        Policy::Keep => perform_kept(access, state, scalar, memory, limit),
+        Policy::Ones => {
+            // A copy of its own for the other function, so that the operands need no place in memory before.
+            let copy = *access;
+            perform_access(&copy, state, scalar, memory, limit, policy)
         }
-        Instr::VectorStrided {
-            direction,
-            width,
-            nf,
-            vd,
-            vm,
-            ..
-        } => {
-            let segments = SegmentAccess::new(is_load(direction), Some(width), nf, vd, vm);
-            perform_segments(instr, segments, state, scalar, memory, limit, policy)
-        }
-        Instr::VectorIndexed {
-            direction,
-            nf,
-            vd,
-            vm,
-            ..
-        } => {
-            let segments = SegmentAccess::new(is_load(direction), None, nf, vd, vm);
-            perform_segments(instr, segments, state, scalar, memory, limit, policy)
-        }
-        Instr::WholeLoad { .. } => perform_plain(instr, true, state, scalar, memory, limit),
-        Instr::WholeStore { .. } => perform_plain(instr, false, state, scalar, memory, limit),
-        Instr::MaskMemory { direction, .. } => {
-            perform_mask_access(instr, direction, state, scalar, memory, limit)
-        }
-        _ => unreachable!(),
     }
 }

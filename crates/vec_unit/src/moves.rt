@@ -1,6 +1,6 @@
 //! Moves of one operand to a group ("V" Vector Extension 1.0, section 11.16).
 ghost use Rattle.rv_model.specs.elements.Arithmetic.{second_element};
-ghost use Rattle.rv_model.specs.legality.GroupBounds.{SourceIsInside};
+ghost use Rattle.rv_model.specs.lending.GroupBounds.{SourceIsInside};
 ghost use Rattle.std.specs.Prelude.{false};
 
 use crate::destination::{Destination, write_group};

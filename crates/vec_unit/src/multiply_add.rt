@@ -1,7 +1,7 @@
 //! Products that a third operand is added to ("V" Vector Extension 1.0, section 11.13).
 ghost use Rattle.std.specs.Prelude.{◌≡◌};
 ghost use Rattle.rv_model.specs.elements.Arithmetic.{multiply_add_result};
-ghost use Rattle.rv_model.specs.legality.GroupBounds.{IsInside, SourceIsInside};
+ghost use Rattle.rv_model.specs.lending.GroupBounds.{IsInside, SourceIsInside};
 
 use crate::destination::{Destination, write_group};
 use crate::element_wise::ElementWise;

@@ -1,6 +1,6 @@
 //! Shifts of a source of twice the width ("V" Vector Extension 1.0, section 11.7).
 ghost use Rattle.rv_model.specs.elements.Arithmetic.{narrow_shift_result};
-ghost use Rattle.rv_model.specs.legality.GroupBounds.{IsInside, SourceIsInside};
+ghost use Rattle.rv_model.specs.lending.GroupBounds.{IsInside, SourceIsInside};
 
 use crate::destination::{Destination, write_group};
 use crate::operands::second_copy;

@@ -2,7 +2,7 @@
 ghost use Rattle.std.specs.Prelude.{◌≡◌, ◌*◌, ◌%◌, ◌^◌, ◌<◌, ◌≤◌, ℕ, length};
 ghost use Rattle.rv_model.specs.elements.Elements.{element};
 ghost use Rattle.rv_model.specs.vector.Registers.{registers};
-ghost use Rattle.rv_model.specs.legality.GroupBounds.{SourceIsInside};
+ghost use Rattle.rv_model.specs.lending.GroupBounds.{SourceIsInside};
 ghost use Rattle.rv_model.specs.elements.Arithmetic.{second_element};
 ghost use Rattle.rv_model.specs.elements.Formulas.{immediate_value};
 ghost use Rattle.rv_model.specs.vector.Configuration.{width_bytes};

@@ -8,14 +8,14 @@ ghost use Rattle.rv_model.specs.legality.Legality.{is_legal};
 ghost use Rattle.rv_model.specs.memory.Memory.{Memory};
 ghost use Rattle.rv_model.specs.step.Hart.{hart_state};
 ghost use Rattle.rv_model.specs.step.PermutationStep.{compressed, moved_to_vector, whole_moved};
-ghost use Rattle.rv_model.specs.step.VectorStep.{answers, leaves, typed, vector_ends};
+ghost use Rattle.rv_model.specs.step.VectorStep.{typed, vector_ends, writes_registers, writes_scalar};
 
 use crate::compress::carry_out_compress;
 use crate::destination::Target;
 use crate::scalar_moves::{carry_out_move_to_vector, scalar_of_first};
 use crate::whole_moves::carry_out_whole_move;
 use rv_model::instructions::operations::RegisterCount;
-use rv_model::{Instr, Policy, Reg, Scalar, VEnd, VReg, VState};
+use rv_model::{Instr, Policy, Reg, Scalar, VEnd, VReg, VState, VectorInstr};
 
 /// Carries out a legal compression.
 #[tactic(auto, using(rv_model::proofs::legality_lemmas::Moves::compress_inside))]
@@ -26,10 +26,12 @@ pub(crate) fn perform_compress(
     state: &mut VState,
     policy: Policy,
 ) -> VEnd
-    requires legal { IsTrue (is_legal (Instr.Compress vd vs1 vs2) state.old.conf.vtype state.old.vstart) }
+    requires legal { IsTrue (is_legal (Instr.Vector (VectorInstr.Compress vd vs1 vs2))
+        state.old.conf.vtype state.old.vstart) }
     ensures model { (scalar : ScalarRegisters) (memory : Memory) (output : List ℕ)
         → typed state.old.conf.vtype
-        (λ t. leaves (compressed t vd vs1 vs2 (hart_state scalar state.old memory policy output)) state.old.vxsat)
+        (λ t. writes_registers (compressed t vd vs1 vs2 (hart_state scalar state.old memory policy output))
+        state.old.vxsat)
         (hart_state scalar state.old memory policy output)
         ≡ vector_ends result (hart_state scalar state.new memory policy output) }
     ensures illegal { result ≡ VEnd.Illegal → state.new ≡ state.old }
@@ -55,7 +57,7 @@ pub(crate) fn perform_move_to_scalar(
     scalar: &mut Scalar,
 ) -> VEnd
     ensures model { (memory : Memory) (policy : AgnosticPolicy) (output : List ℕ)
-        → typed state.old.conf.vtype (λ t. answers rd (moved_to_scalar t vs2 state.old.file))
+        → typed state.old.conf.vtype (λ t. writes_scalar rd (moved_to_scalar t vs2 state.old.file))
         (hart_state scalar.old state.old memory policy output)
         ≡ vector_ends result (hart_state scalar.new state.new memory policy output) }
     ensures illegal { result ≡ VEnd.Illegal → state.new ≡ state.old }
@@ -79,7 +81,8 @@ pub(crate) fn perform_move_to_vector(
 ) -> VEnd
     ensures model { (memory : Memory) (output : List ℕ)
         → typed state.old.conf.vtype
-        (λ t. leaves (moved_to_vector t vd rs1 (hart_state scalar.now state.old memory policy output)) state.old.vxsat)
+        (λ t. writes_registers (moved_to_vector t vd rs1 (hart_state scalar.now state.old memory policy output))
+        state.old.vxsat)
         (hart_state scalar.now state.old memory policy output)
         ≡ vector_ends result (hart_state scalar.now state.new memory policy output) }
     ensures illegal { result ≡ VEnd.Illegal → state.new ≡ state.old }
@@ -105,10 +108,12 @@ pub(crate) fn perform_whole_move(
     vs2: VReg,
     state: &mut VState,
 ) -> VEnd
-    requires legal { IsTrue (is_legal (Instr.WholeMove count vd vs2) state.old.conf.vtype state.old.vstart) }
+    requires legal { IsTrue (is_legal (Instr.Vector (VectorInstr.WholeMove count vd vs2))
+        state.old.conf.vtype state.old.vstart) }
     ensures model { (scalar : ScalarRegisters) (memory : Memory) (policy : AgnosticPolicy) (output : List ℕ)
         → typed state.old.conf.vtype
-        (λ t. leaves (whole_moved t count vd vs2 (hart_state scalar state.old memory policy output)) state.old.vxsat)
+        (λ t. writes_registers (whole_moved t count vd vs2 (hart_state scalar state.old memory policy output))
+        state.old.vxsat)
         (hart_state scalar state.old memory policy output)
         ≡ vector_ends result (hart_state scalar state.new memory policy output) }
     ensures illegal { result ≡ VEnd.Illegal → state.new ≡ state.old }

@@ -1,11 +1,11 @@
 //! Slides and gathers, carried out ("V" Vector Extension 1.0, sections 16.3 and 16.4).
 ghost use Rattle.std.specs.Prelude.{◌≡◌, ◌*◌, ◌<◌, ◌≤◌, length};
-ghost use Rattle.rv_model.specs.elements.Arithmetic.{GroupType, body_of, fills_masked_off, fills_tail, group_type, with_results};
+ghost use Rattle.rv_model.specs.elements.Arithmetic.{body_of, fills_masked_off, fills_tail, with_results};
+ghost use Rattle.rv_model.specs.vector.Configuration.{element_count, group_type, lmul_eighths, vlmax, width_bytes};
 ghost use Rattle.rv_model.specs.elements.Elements.{element};
-ghost use Rattle.rv_model.specs.elements.PermutationResults.{element_count, index_of, permute_body, permute_result, scalar_operand, source_type};
+ghost use Rattle.rv_model.specs.elements.PermutationResults.{index_of, permute_body, permute_result, scalar_operand, source_type};
 ghost use Rattle.rv_model.specs.elements.Permutations.{gathered};
-ghost use Rattle.rv_model.specs.legality.GroupBounds.{HasIndices, HoldsBody, IsInside};
-ghost use Rattle.rv_model.specs.vector.Configuration.{lmul_eighths, vlmax, width_bytes};
+ghost use Rattle.rv_model.specs.lending.GroupBounds.{HasIndices, HoldsBody, IsInside};
 
 use crate::body::body_under;
 use crate::destination::{Destination, Target, agnostic_under, write_group};

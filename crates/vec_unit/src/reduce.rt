@@ -1,19 +1,19 @@
 //! Reductions, carried out ("V" Vector Extension 1.0, chapter 14).
-ghost use Rattle.std.specs.Prelude.{◌≡◌, ◌*◌, ◌≤◌, false};
-ghost use Rattle.rv_model.specs.elements.Arithmetic.{body_of, fills_tail, group_type, reduce_result, single_type, wide_type, widen_reduce_result, with_results};
-ghost use Rattle.rv_model.specs.elements.Elements.{first_alone};
-ghost use Rattle.rv_model.specs.legality.GroupBounds.{HasRoom, IsInside, SourceIsInside};
-ghost use Rattle.rv_model.specs.vector.Configuration.{lmul_eighths, sew_bits, vlmax, width_bytes};
+ghost use Rattle.std.specs.Prelude.{◌≡◌, ◌*◌, ◌≤◌};
+ghost use Rattle.rv_model.specs.elements.Arithmetic.{body_of, fills_tail, reduce_result, widen_reduce_result, with_first_result};
+ghost use Rattle.rv_model.specs.vector.Configuration.{group_type, lmul_eighths, sew_bits, vlmax};
+ghost use Rattle.rv_model.specs.vector.Groups.{wide_type};
+ghost use Rattle.rv_model.specs.lending.GroupBounds.{HasRoom, IsInside, SourceIsInside};
 
 use crate::body::body_under;
-use crate::destination::{Target, agnostic_under};
-use crate::first_element::{Register, write_first};
+use crate::destination::Target;
+use crate::first_element::write_first;
 use crate::operands::second_copy;
 use lane_arith::{Body, Lane};
 use lane_reduce::{Reduction, WideningReduction, reduce};
 use reg_groups::{group_copy, mask_register};
 use rv_model::instructions::operations::{ReduceOp, WidenReduceOp};
-use rv_model::{GROUP_BYTES, Scalar, Sew, Source, VFile, VLENB, VReg, VState};
+use rv_model::{GROUP_BYTES, Scalar, Sew, Source, VFile, VReg, VState};
 
 /// A reduction and its sources.
 #[derive(Clone, Copy)]
@@ -27,7 +27,7 @@ impl ReduceOperation {
     /// Writes the result to element 0 of a register; `emul` is the multiplier of `vs2`.
     fn write<L: Lane>(
         &self,
-        register: Register,
+        target: Target,
         emul: u32,
         body: &Body<'_>,
         file: &mut VFile,
@@ -37,16 +37,16 @@ impl ReduceOperation {
         requires second { SourceIsInside self.now.source 8 }
         requires room { HasRoom L.width emul body.now.end }
         requires least { body.now.end ≤ GROUP_BYTES }
-        requires whole { VLENB ≡ width_bytes L.width * register.count }
-        ensures { file.new ≡ with_results (single_type L.width) register.vd (first_alone body.now) false register.fill_tail
-            (λ i. reduce_result (record { width = L.width; emul = emul }) self.now.op body.now self.now.vs2 self.now.source
+        ensures { file.new ≡ with_first_result L.width target.vd body.now
+            (fills_tail target.policy target.vtype body.now)
+            (reduce_result (record { width = L.width; emul = emul }) self.now.op body.now self.now.vs2 self.now.source
             file.old scalar.now) file.old }
     {
         let (mut first, mut second) = ([0; GROUP_BYTES], [0; GROUP_BYTES]);
         let a = group_copy(file, self.vs2, emul, &mut first);
         let b = second_copy::<L>(false, self.source, 8, 1, file, scalar, &mut second);
         let number = reduce::<L, L, Reduction>(&Reduction { op: self.op }, L::load(b, 0), a, body);
-        write_first(number, register, body, file);
+        write_first(number, target, body, file);
     }
 }
 
@@ -65,10 +65,9 @@ pub(crate) fn carry_out_reduction(
     requires length { state.old.conf.vl ≤ vlmax target.vtype }
     ensures { state.new ≡ record state.old {
       file =
-          with_results (single_type (group_type target.vtype).width) target.vd
-          (first_alone (body_of target.unmasked state.old)) false
+          with_first_result (group_type target.vtype).width target.vd (body_of target.unmasked state.old)
           (fills_tail target.policy target.vtype (body_of target.unmasked state.old))
-          (λ i. reduce_result (group_type target.vtype) op (body_of target.unmasked state.old) vs2 source state.old.file
+          (reduce_result (group_type target.vtype) op (body_of target.unmasked state.old) vs2 source state.old.file
           scalar.now) state.old.file;
       vstart = 0;
     } }
@@ -76,19 +75,13 @@ pub(crate) fn carry_out_reduction(
     let mask = mask_register(&state.file);
     let body = body_under(target.unmasked, &mask, state);
     let emul = u32::from(target.vtype.lmul.eighths());
-    let fill_tail = agnostic_under(target.policy, target.vtype, &body).fill_tail;
     let operation = ReduceOperation { op, vs2, source };
     let file = &mut state.file;
-    let register = |count| Register {
-        vd: target.vd,
-        count,
-        fill_tail,
-    };
     match target.vtype.sew {
-        Sew::E8 => operation.write::<u8>(register(VLENB), emul, &body, file, scalar),
-        Sew::E16 => operation.write::<u16>(register(VLENB / 2), emul, &body, file, scalar),
-        Sew::E32 => operation.write::<u32>(register(VLENB / 4), emul, &body, file, scalar),
-        Sew::E64 => operation.write::<u64>(register(VLENB / 8), emul, &body, file, scalar),
+        Sew::E8 => operation.write::<u8>(target, emul, &body, file, scalar),
+        Sew::E16 => operation.write::<u16>(target, emul, &body, file, scalar),
+        Sew::E32 => operation.write::<u32>(target, emul, &body, file, scalar),
+        Sew::E64 => operation.write::<u64>(target, emul, &body, file, scalar),
     }
     state.vstart = 0;
 }
@@ -106,7 +99,7 @@ impl WidenReduceOperation {
     /// of `vs2`, whose elements have the width of `N`.
     fn write<N: Lane, W: Lane>(
         &self,
-        register: Register,
+        target: Target,
         emul: u32,
         body: &Body<'_>,
         file: &mut VFile,
@@ -116,18 +109,18 @@ impl WidenReduceOperation {
         requires second { SourceIsInside self.now.source 8 }
         requires room { HasRoom N.width emul body.now.end }
         requires least { body.now.end ≤ GROUP_BYTES }
-        requires whole { VLENB ≡ width_bytes W.width * register.count }
-        ensures { file.new ≡ with_results (single_type W.width) register.vd (first_alone body.now) false register.fill_tail
-            (λ i. widen_reduce_result (record { width = N.width; emul = emul })
-            (record { width = W.width; emul = 2 * emul }) self.now.op body.now self.now.vs2 self.now.source file.old scalar.now)
-            file.old }
+        ensures { file.new ≡ with_first_result W.width target.vd body.now
+            (fills_tail target.policy target.vtype body.now)
+            (widen_reduce_result (record { width = N.width; emul = emul })
+            (record { width = W.width; emul = 2 * emul }) self.now.op body.now self.now.vs2 self.now.source file.old
+            scalar.now) file.old }
     {
         let (mut first, mut second) = ([0; GROUP_BYTES], [0; GROUP_BYTES]);
         let a = group_copy(file, self.vs2, emul, &mut first);
         let b = second_copy::<W>(false, self.source, 8, 1, file, scalar, &mut second);
         let combine = WideningReduction { op: self.op };
         let number = reduce::<N, W, WideningReduction>(&combine, W::load(b, 0), a, body);
-        write_first(number, register, body, file);
+        write_first(number, target, body, file);
     }
 }
 
@@ -148,10 +141,9 @@ pub(crate) fn carry_out_widening_reduction(
     requires length { state.old.conf.vl ≤ vlmax target.vtype }
     ensures { state.new ≡ record state.old {
       file =
-          with_results (single_type (wide_type target.vtype).width) target.vd
-          (first_alone (body_of target.unmasked state.old)) false
+          with_first_result (wide_type target.vtype).width target.vd (body_of target.unmasked state.old)
           (fills_tail target.policy target.vtype (body_of target.unmasked state.old))
-          (λ i. widen_reduce_result (group_type target.vtype) (wide_type target.vtype) op
+          (widen_reduce_result (group_type target.vtype) (wide_type target.vtype) op
           (body_of target.unmasked state.old) vs2 source state.old.file scalar.now) state.old.file;
       vstart = 0;
     } }
@@ -159,18 +151,12 @@ pub(crate) fn carry_out_widening_reduction(
     let mask = mask_register(&state.file);
     let body = body_under(target.unmasked, &mask, state);
     let emul = u32::from(target.vtype.lmul.eighths());
-    let fill_tail = agnostic_under(target.policy, target.vtype, &body).fill_tail;
     let operation = WidenReduceOperation { op, vs2, source };
     let file = &mut state.file;
-    let register = |count| Register {
-        vd: target.vd,
-        count,
-        fill_tail,
-    };
     match target.vtype.sew {
-        Sew::E8 => operation.write::<u8, u16>(register(VLENB / 2), emul, &body, file, scalar),
-        Sew::E16 => operation.write::<u16, u32>(register(VLENB / 4), emul, &body, file, scalar),
-        Sew::E32 => operation.write::<u32, u64>(register(VLENB / 8), emul, &body, file, scalar),
+        Sew::E8 => operation.write::<u8, u16>(target, emul, &body, file, scalar),
+        Sew::E16 => operation.write::<u16, u32>(target, emul, &body, file, scalar),
+        Sew::E32 => operation.write::<u32, u64>(target, emul, &body, file, scalar),
         Sew::E64 => unreachable!(),
     }
     state.vstart = 0;

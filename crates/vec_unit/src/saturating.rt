@@ -4,8 +4,8 @@ ghost use Rattle.std.specs.Prelude.{◌≡◌, ◌*◌, ◌<◌, ◌≤◌, ℕ,
 ghost use Rattle.rv_model.specs.elements.Arithmetic.{with_results};
 ghost use Rattle.rv_model.specs.elements.Elements.{is_changed, result_or_ones, some_active};
 ghost use Rattle.rv_model.specs.elements.Formulas.{ones};
-ghost use Rattle.rv_model.specs.elements.Writes.{Writes};
-ghost use Rattle.rv_model.specs.legality.GroupBounds.{HoldsBody, IsInside};
+ghost use Rattle.rv_model.specs.lending.Writes.{Writes};
+ghost use Rattle.rv_model.specs.lending.GroupBounds.{HoldsBody, IsInside};
 ghost use Rattle.rv_model.specs.vector.Configuration.{width_bytes};
 
 use crate::destination::{Agnostic, Destination};

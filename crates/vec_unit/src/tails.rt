@@ -1,6 +1,6 @@
 //! The tails of the fields of a load ("V" Vector Extension 1.0, sections 3.4.3, 5.4 and 7.8).
 ghost use Rattle.std.specs.Prelude.{◌≡◌, ◌+◌, ◌*◌, ◌≤◌};
-ghost use Rattle.rv_model.specs.legality.GroupBounds.{HoldsBody, IsInside, SegmentsInside};
+ghost use Rattle.rv_model.specs.lending.GroupBounds.{HoldsBody, IsInside, SegmentsInside};
 ghost use Rattle.rv_model.specs.step.MemoryStep.{tail_filled, tails_filled};
 ghost use Rattle.rv_model.specs.vector.Configuration.{sew_width};
 ghost use Rattle.rv_model.specs.vector.Registers.{registers};
@@ -33,7 +33,8 @@ fn fill_tail<L: Lane>(vd: VReg, emul: u32, start: usize, count: usize, file: &mu
 fn fill_each_tail<L: Lane>(fields: Fields, start: usize, count: usize, file: &mut VFile)
     requires inside { fields.vd + (fields.nf + 1) * registers fields.emul ≤ VECTOR_REGISTERS }
     requires holds { HoldsBody L.width fields.emul count start }
-    ensures { file.new ≡ tails_filled (record { width = L.width; emul = fields.emul }) fields.vd (fields.nf + 1) start file.old }
+    ensures { file.new ≡ tails_filled (record { width = L.width; emul = fields.emul }) fields.vd (fields.nf + 1)
+        start file.old }
 {
     let size = registers(fields.emul);
     for field in 0..fields.nf.value() + 1 {

@@ -2,9 +2,10 @@
 //! 11.12 and 11.14).
 ghost use Rattle.std.specs.Prelude.{◌≡◌, ◌*◌, ◌≤◌, List, ℕ};
 ghost use Rattle.rv_model.specs.declared.scalar.Scalar.{Scalar as ScalarRegisters};
-ghost use Rattle.rv_model.specs.elements.Arithmetic.{GroupType, body_of, fills_masked_off, fills_tail, group_type, wide_type, with_results};
-ghost use Rattle.rv_model.specs.legality.GroupBounds.{HasRoom, HoldsBody, IsInside};
-ghost use Rattle.rv_model.specs.vector.Configuration.{lmul_eighths, sew_bits, vlmax};
+ghost use Rattle.rv_model.specs.elements.Arithmetic.{body_of, fills_masked_off, fills_tail, with_results};
+ghost use Rattle.rv_model.specs.vector.Configuration.{GroupType, group_type, lmul_eighths, sew_bits, vlmax};
+ghost use Rattle.rv_model.specs.vector.Groups.{wide_type};
+ghost use Rattle.rv_model.specs.lending.GroupBounds.{HasRoom, HoldsBody, IsInside};
 ghost use Rattle.rv_model.specs.vector.Registers.{register_of};
 
 use crate::body::body_under;
@@ -40,8 +41,8 @@ pub(crate) trait TwoWidths {
         requires mask { body.now.mask ≡ register_of file.old 0 }
         ensures { file.new ≡ with_results (record { width = D.width; emul = destination.emul }) destination.vd body.now
             destination.agnostic.fill_masked_off destination.agnostic.fill_tail
-            (number self.now (record { width = D.width; emul = destination.emul }) (record { width = O.width; emul = other })
-            file.old scalar.now) file.old };
+            (number self.now (record { width = D.width; emul = destination.emul })
+            (record { width = O.width; emul = other }) file.old scalar.now) file.old };
 }
 
 /// The multiplier of the destination's groups, how many elements they have, and the multiplier of the groups
@@ -71,8 +72,8 @@ fn carry_out<D: Lane, O: Lane, T: TwoWidths>(
           with_results (record { width = D.width; emul = groups.emul }) target.vd (body_of target.unmasked state.old)
           (fills_masked_off target.policy target.vtype (body_of target.unmasked state.old))
           (fills_tail target.policy target.vtype (body_of target.unmasked state.old))
-          (T.number operation.now (record { width = D.width; emul = groups.emul }) (record { width = O.width; emul = groups.other })
-          state.old.file scalar.now) state.old.file;
+          (T.number operation.now (record { width = D.width; emul = groups.emul })
+          (record { width = O.width; emul = groups.other }) state.old.file scalar.now) state.old.file;
       vstart = 0;
     } }
 {
@@ -107,7 +108,8 @@ pub(crate) fn carry_out_widening<T: TwoWidths>(
           with_results (wide_type target.vtype) target.vd (body_of target.unmasked state.old)
           (fills_masked_off target.policy target.vtype (body_of target.unmasked state.old))
           (fills_tail target.policy target.vtype (body_of target.unmasked state.old))
-          (T.number operation.now (wide_type target.vtype) (group_type target.vtype) state.old.file scalar.now) state.old.file;
+          (T.number operation.now (wide_type target.vtype) (group_type target.vtype) state.old.file scalar.now)
+          state.old.file;
       vstart = 0;
     } }
 {
@@ -142,7 +144,8 @@ pub(crate) fn carry_out_narrowing<T: TwoWidths>(
           with_results (group_type target.vtype) target.vd (body_of target.unmasked state.old)
           (fills_masked_off target.policy target.vtype (body_of target.unmasked state.old))
           (fills_tail target.policy target.vtype (body_of target.unmasked state.old))
-          (T.number operation.now (group_type target.vtype) (wide_type target.vtype) state.old.file scalar.now) state.old.file;
+          (T.number operation.now (group_type target.vtype) (wide_type target.vtype) state.old.file scalar.now)
+          state.old.file;
       vstart = 0;
     } }
 {

@@ -1,9 +1,8 @@
 //! Moves of whole registers ("V" Vector Extension 1.0, section 16.6).
 ghost use Rattle.std.specs.Prelude.{◌≡◌, ◌*◌, false, true};
 ghost use Rattle.rv_model.specs.elements.Arithmetic.{group_element, with_results};
-ghost use Rattle.rv_model.specs.elements.PermutationResults.{whole_type};
-ghost use Rattle.rv_model.specs.legality.GroupBounds.{HoldsBody, IsInside};
-ghost use Rattle.rv_model.specs.legality.Legality.{register_count};
+ghost use Rattle.rv_model.specs.vector.Groups.{register_count, whole_type};
+ghost use Rattle.rv_model.specs.lending.GroupBounds.{HoldsBody, IsInside};
 ghost use Rattle.rv_model.specs.step.PermutationStep.{whole_body};
 ghost use Rattle.rv_model.specs.vector.Registers.{register_of};
 

@@ -9,11 +9,12 @@ use Rattle.std.proofs.lemmas.Simd.{below_from_Fits, chunk-fits, get_or-chunk, le
 use lib.Lanes.{Each1, chunk, number_l, put_chunk}
 use Rattle.lane_arith.proofs.MaskBits.{byte_of_number}
 use Rattle.rv_model.specs.declared.vector.sizes.TheConstants.{VLENB}
-use Rattle.rv_model.specs.accesses.Transfers.{loaded, stored, transfers}
+use Rattle.rv_model.specs.accesses.Transfers.{registers_loaded, memory_stored, transfers}
 use Rattle.rv_model.specs.accesses.VectorAccess.{plan}
 use Rattle.rv_model.specs.elements.Elements.{Body, element, is_changed, is_let, result_or_ones}
 use Rattle.rv_model.specs.elements.Formulas.{ones}
-use Rattle.rv_model.specs.elements.Writes.{Writes, written}
+use Rattle.rv_model.specs.elements.Writes.{written}
+use Rattle.rv_model.specs.lending.Writes.{Writes}
 use Rattle.rv_model.specs.memory.Memory.{Memory, bytes_at, put_bytes}
 use Rattle.rv_model.specs.vector.Configuration.{width_bytes}
 use Rattle.rv_model.proofs.element_lemmas.Sets.{body_begins, body_ends, step_off, step_ones, step_result}
@@ -21,7 +22,7 @@ use Rattle.rv_model.proofs.element_lemmas.Widths.{bytes_positive}
 use Rattle.rv_model.proofs.memory_lemmas.Memory.{length-bytes_at}
 use Rattle.rv_model.proofs.element_lemmas.Writes.{byte_at-is, get_or-bytes, length-bytes, written_are, writes_are}
 use Rattle.vector_memory.specs.FieldOrder.{each_field, field_address, field_place, for_each, load_field, store_field}
-use Rattle.vector_memory.specs.SegmentRoom.{HasRoom, access_of, place_in}
+use Rattle.vector_memory.specs.SegmentRoom.{HasRoom, segments_access, place_in}
 use Rattle.vector_memory.specs.Spans.{Follows, IsSpan}
 use Rattle.vector_memory.specs.declared.segments.Segments.{Segments}
 use Rattle.vector_memory.specs.declared.spans.Span.{Span}
@@ -122,7 +123,7 @@ module _ (m : Memory) (s : Segments) (body : Body) (address : ℕ → ℕ) (stop
   fits : (n : ℕ) → n < stop → k * n + k ≤ k * stop
   fits n h = omega (arith, mul-le-mul_left k h, mul-suc k n)
 
-  place_is : (n : ℕ) → field_place (access_of s body address) 0 n ≡ p + k * n
+  place_is : (n : ℕ) → field_place (segments_access s body address) 0 n ≡ p + k * n
   place_is n = omega (arith, ap (λ x. n * x) size, mul_comm n k)
 
   offset : (n : ℕ) → (n - body.start) * b.distance + 0 * s.size ≡ k * n
@@ -149,22 +150,22 @@ module _ (m : Memory) (s : Segments) (body : Body) (address : ℕ → ℕ) (stop
     then_made n new h = writes_are k (so_far n) read_number group_bytes new (bytes_positive w) h
 
     in_file : (n : ℕ) (xs : List ℕ) → n < stop → length xs ≡ k
-        → put_chunk (field_place (access_of s body address) 0 n) (put_chunk p file (made n)) xs ≡ put_chunk p file (put_chunk (k * n) (made n) xs)
+        → put_chunk (field_place (segments_access s body address) 0 n) (put_chunk p file (made n)) xs ≡ put_chunk p file (put_chunk (k * n) (made n) xs)
     in_file n xs h e =
-        put_within p (k * n) (field_place (access_of s body address) 0 n) file (made n) xs (place_is n)
+        put_within p (k * n) (field_place (segments_access s body address) 0 n) file (made n) xs (place_is n)
         (omega (arith, e, (was n).same_length, long, fits n h)) (omega (arith, (was n).same_length, long, whole))
 
-    bytes_there : (n : ℕ) → n < stop → bytes_low_first 0 k (element k bytes n) ≡ bytes_at m (field_address (access_of s body address) 0 n) s.size
+    bytes_there : (n : ℕ) → n < stop → bytes_low_first 0 k (element k bytes n) ≡ bytes_at m (field_address (segments_access s body address) 0 n) s.size
     bytes_there n h =
         let one : 0 < s.fields = omega (arith, alone) in
-        let read_one : chunk (k * n) k bytes ≡ bytes_at m (field_address (access_of s body address) 0 n) s.size =
+        let read_one : chunk (k * n) k bytes ≡ bytes_at m (field_address (segments_access s body address) 0 n) s.size =
         ap (λ x. chunk x k bytes) (sym (offset n)) ∙ ap (λ x. chunk ((n - body.start) * b.distance + 0 * s.size) x bytes) (sym size)
         ∙ field_read s body address stop b is follows m bytes n 0 (omega (arith, first)) h one read in
-        number_back k (chunk (k * n) k bytes) (ap length read_one ∙ length-bytes_at m (field_address (access_of s body address) 0 n) s.size ∙ size) (below_from_Fits w8 (chunk (k * n) k bytes) (chunk-fits w8 (k * n) k bytes below)) ∙ read_one
+        number_back k (chunk (k * n) k bytes) (ap length read_one ∙ length-bytes_at m (field_address (segments_access s body address) 0 n) s.size ∙ size) (below_from_Fits w8 (chunk (k * n) k bytes) (chunk-fits w8 (k * n) k bytes below)) ∙ read_one
 
-    loads_next : (n : ℕ) → n < stop → load_field m (access_of s body address) fill 0 (put_chunk p file (made n)) n ≡ put_chunk p file (made (n + 1))
+    loads_next : (n : ℕ) → n < stop → load_field m (segments_access s body address) fill 0 (put_chunk p file (made n)) n ≡ put_chunk p file (made (n + 1))
     loads_next n h =
-        let a = access_of s body address in
+        let a = segments_access s body address in
         let at = field_place a 0 n in
         elim (cases_Bool (is_let body n)) [
           | inl on ↦
@@ -187,19 +188,19 @@ module _ (m : Memory) (s : Segments) (body : Body) (address : ℕ → ℕ) (stop
           ]
         ]
 
-    loads_to : (n : ℕ) → n ≤ stop → for_each (load_field m (access_of s body address) fill 0) file 0 n ≡ put_chunk p file (made n)
+    loads_to : (n : ℕ) → n ≤ stop → for_each (load_field m (segments_access s body address) fill 0) file 0 n ≡ put_chunk p file (made n)
     loads_to zero h =
-        each_none (load_field m (access_of s body address) fill 0) file 0 ∙ sym (put_same p (k * stop) file)
+        each_none (load_field m (segments_access s body address) fill 0) file 0 ∙ sym (put_same p (k * stop) file)
         ∙ ap (put_chunk p file) (then_made 0 group_bytes (body_begins k (part_of body stop) fill read_number group_bytes))
     loads_to (suc n) h =
-        let step = load_field m (access_of s body address) fill 0 in
+        let step = load_field m (segments_access s body address) fill 0 in
         let count : suc n ≡ n + 1 = omega arith in
         ap (for_each step file 0) count ∙ each_more step file 0 n ∙ ap (step (for_each step file 0 n)) (zero-add n)
         ∙ ap (λ x. step x n) (loads_to n (omega (arith, h))) ∙ loads_next n (omega (arith, h)) ∙ ap (λ x. put_chunk p file (made x)) (sym count)
 
     -- what a blend of the elements leaves is what a loop does
     blend_loads : (new : List ℕ) → Writes k (is_changed (part_of body stop) fill false) read_number group_bytes new
-        → put_chunk p file new ≡ for_each (load_field m (access_of s body address) fill 0) file 0 stop
+        → put_chunk p file new ≡ for_each (load_field m (segments_access s body address) fill 0) file 0 stop
     blend_loads new h =
         let all = is_changed (part_of body stop) fill false in
         ap (put_chunk p file)
@@ -209,9 +210,9 @@ module _ (m : Memory) (s : Segments) (body : Body) (address : ℕ → ℕ) (stop
         ∙ sym (loads_to stop (omega arith))
 
     pub blend_loaded : (new : List ℕ) → Writes k (is_changed (part_of body stop) fill false) read_number group_bytes new
-        → put_chunk p file new ≡ loaded m (place_in s) file (transfers (plan (access_of s body address) fill) body.start (stop - body.start))
+        → put_chunk p file new ≡ registers_loaded m (place_in s) file (transfers (plan (segments_access s body address) fill) body.start (stop - body.start))
     blend_loaded new h =
-        let a = access_of s body address in
+        let a = segments_access s body address in
         blend_loads new h ∙ one_field (load_field m a fill) (loads_apart m a fill stop room.room s.fields) file
         ∙ fields_loaded m a fill (stop - body.start) body.start file
 
@@ -237,17 +238,17 @@ module _ (m : Memory) (s : Segments) (body : Body) (address : ℕ → ℕ) (stop
     span_fits n h =
         omega (arith, count, offset n, size, field_inside s body address stop b is follows n 0 (omega (arith, first)) h (omega (arith, alone)))
 
-    elements_there : (n : ℕ) → n < stop → bytes_low_first 0 k (element k group_bytes n) ≡ chunk (field_place (access_of s body address) 0 n) s.size file
+    elements_there : (n : ℕ) → n < stop → bytes_low_first 0 k (element k group_bytes n) ≡ chunk (field_place (segments_access s body address) 0 n) s.size file
     elements_there n h =
         let one : length (chunk (k * n) k group_bytes) ≡ k = length-chunk (k * n) k group_bytes (omega (arith, long, fits n h)) in
         number_back k (chunk (k * n) k group_bytes) one (below_from_Fits w8 (chunk (k * n) k group_bytes) (chunk-fits w8 (k * n) k group_bytes below))
         ∙ part_chunk p (k * n) k (k * stop) file (fits n h) whole
-        ∙ ap (λ x. chunk x k file) (sym (place_is n)) ∙ ap (λ x. chunk (field_place (access_of s body address) 0 n) x file) (sym size)
+        ∙ ap (λ x. chunk x k file) (sym (place_is n)) ∙ ap (λ x. chunk (field_place (segments_access s body address) 0 n) x file) (sym size)
 
     stores_next : (n : ℕ) → n < stop
-        → store_field file (access_of s body address) 0 (put_bytes m b.address (stored_in n)) n ≡ put_bytes m b.address (stored_in (n + 1))
+        → store_field file (segments_access s body address) 0 (put_bytes m b.address (stored_in n)) n ≡ put_bytes m b.address (stored_in (n + 1))
     stores_next n h =
-        let a = access_of s body address in
+        let a = segments_access s body address in
         elim (cases_Bool (is_let body n)) [
           | inl on ↦
               let xs : List ℕ = bytes_low_first 0 k (element k group_bytes n) in
@@ -267,19 +268,19 @@ module _ (m : Memory) (s : Segments) (body : Body) (address : ℕ → ℕ) (stop
         ]
 
     stores_to : (n : ℕ) → n ≤ stop
-        → for_each (store_field file (access_of s body address) 0) (put_bytes m b.address bytes) 0 n ≡ put_bytes m b.address (stored_in n)
+        → for_each (store_field file (segments_access s body address) 0) (put_bytes m b.address bytes) 0 n ≡ put_bytes m b.address (stored_in n)
     stores_to zero h =
-        each_none (store_field file (access_of s body address) 0) (put_bytes m b.address bytes) 0
+        each_none (store_field file (segments_access s body address) 0) (put_bytes m b.address bytes) 0
         ∙ ap (put_bytes m b.address) (then_stored 0 bytes (body_begins k (part_of body stop) false write_number bytes))
     stores_to (suc n) h =
-        let step = store_field file (access_of s body address) 0 in
+        let step = store_field file (segments_access s body address) 0 in
         let old = put_bytes m b.address bytes in
         let more : suc n ≡ n + 1 = omega arith in
         ap (for_each step old 0) more ∙ each_more step old 0 n ∙ ap (step (for_each step old 0 n)) (zero-add n)
         ∙ ap (λ x. step x n) (stores_to n (omega (arith, h))) ∙ stores_next n (omega (arith, h)) ∙ ap (λ x. put_bytes m b.address (stored_in x)) (sym more)
 
     blend_stores : (new : List ℕ) → Writes k (is_changed (part_of body stop) false false) write_number bytes new
-        → put_bytes m b.address new ≡ for_each (store_field file (access_of s body address) 0) (put_bytes m b.address bytes) 0 stop
+        → put_bytes m b.address new ≡ for_each (store_field file (segments_access s body address) 0) (put_bytes m b.address bytes) 0 stop
     blend_stores new h =
         let all = is_changed (part_of body stop) false false in
         ap (put_bytes m b.address)
@@ -290,9 +291,9 @@ module _ (m : Memory) (s : Segments) (body : Body) (address : ℕ → ℕ) (stop
 
     pub blend_stored : (new : List ℕ) → Writes k (is_changed (part_of body stop) false false) write_number bytes new
         → put_bytes m b.address new
-        ≡ stored (put_bytes m b.address bytes) (place_in s) file (transfers (plan (access_of s body address) false) body.start (stop - body.start))
+        ≡ memory_stored (put_bytes m b.address bytes) (place_in s) file (transfers (plan (segments_access s body address) false) body.start (stop - body.start))
     blend_stored new h =
-        let a = access_of s body address in
+        let a = segments_access s body address in
         blend_stores new h
         ∙ one_field (store_field file a)
         (stores_apart file a 0 stop (λ f h i j less some low order end. fields_apart s body address stop b is follows f h i j less some (omega (arith, first)) order end))

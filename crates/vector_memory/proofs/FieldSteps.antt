@@ -6,8 +6,8 @@ use Rattle.std.proofs.lemmas.Bool.{cases_Bool, cases_lt}
 use Rattle.std.proofs.lemmas.List.{length-replicate}
 use Rattle.std.proofs.lemmas.Nat.{mul-le}
 use Rattle.std.proofs.Math.Nat.{mul_comm}
-use Rattle.rv_model.specs.accesses.Transfers.{loaded, stored, transfers}
-use Rattle.rv_model.specs.accesses.VectorAccess.{VectorAccess, filled_segment, place, plan, segment}
+use Rattle.rv_model.specs.accesses.Transfers.{registers_loaded, memory_stored, transfers}
+use Rattle.rv_model.specs.accesses.VectorAccess.{VectorAccess, filled_segment, element_start, plan, moved_segment}
 use Rattle.rv_model.specs.declared.vector.sizes.TheConstants.{VLENB}
 use Rattle.rv_model.specs.elements.Elements.{is_let}
 use Rattle.rv_model.specs.memory.Memory.{Memory, bytes_at, put_bytes}
@@ -100,50 +100,50 @@ module _ (m : Memory) (a : VectorAccess) (fill : Bool) where
   off_kept f file i h e = rw (h, e) refl
 
   fields_let : (i : ℕ) → is_let a.body i ≡ true → (f : ℕ) (file : List ℕ)
-      → each_field (load_field m a fill) f file i ≡ loaded m (place a) file (segment i (a.address i) a.size f)
+      → each_field (load_field m a fill) f file i ≡ registers_loaded m (element_start a) file (moved_segment i (a.address i) a.size f)
   unfolding each_field
-  fields_let i h zero file = loaded_start m (place a) file i (a.address i) a.size
+  fields_let i h zero file = loaded_start m (element_start a) file i (a.address i) a.size
   fields_let i h (suc f) file =
       let count : f + 1 ≡ suc f = omega arith in
       let_field f (each_field (load_field m a fill) f file i) i h
       ∙ ap (λ x. put_chunk (field_place a f i) x (bytes_at m (field_address a f i) a.size)) (fields_let i h f file)
-      ∙ loaded_field m (place a) file i (a.address i) a.size f
-      ∙ ap (λ k. loaded m (place a) file (segment i (a.address i) a.size k)) count
+      ∙ loaded_field m (element_start a) file i (a.address i) a.size f
+      ∙ ap (λ k. registers_loaded m (element_start a) file (moved_segment i (a.address i) a.size k)) count
 
   fields_filled : (i : ℕ) → is_let a.body i ≡ false → fill ≡ true → (f : ℕ) (file : List ℕ)
-      → each_field (load_field m a fill) f file i ≡ loaded m (place a) file (filled_segment i a.size f)
+      → each_field (load_field m a fill) f file i ≡ registers_loaded m (element_start a) file (filled_segment i a.size f)
   unfolding each_field
-  fields_filled i h e zero file = filled_start m (place a) file i a.size
+  fields_filled i h e zero file = filled_start m (element_start a) file i a.size
   fields_filled i h e (suc f) file =
       let count : f + 1 ≡ suc f = omega arith in
       off_filled f (each_field (load_field m a fill) f file i) i h e
       ∙ ap (λ x. put_chunk (field_place a f i) x (replicate a.size 255)) (fields_filled i h e f file)
-      ∙ filled_field m (place a) file i a.size f
-      ∙ ap (λ k. loaded m (place a) file (filled_segment i a.size k)) count
+      ∙ filled_field m (element_start a) file i a.size f
+      ∙ ap (λ k. registers_loaded m (element_start a) file (filled_segment i a.size k)) count
 
   fields_kept : (i : ℕ) → is_let a.body i ≡ false → fill ≡ false → (f : ℕ) (file : List ℕ) → each_field (load_field m a fill) f file i ≡ file
   unfolding each_field
   fields_kept i h e zero file = refl
   fields_kept i h e (suc f) file = off_kept f (each_field (load_field m a fill) f file i) i h e ∙ fields_kept i h e f file
 
-  fields_planned : (file : List ℕ) (i : ℕ) → each_field (load_field m a fill) a.fields file i ≡ loaded m (place a) file (plan a fill i)
+  fields_planned : (file : List ℕ) (i : ℕ) → each_field (load_field m a fill) a.fields file i ≡ registers_loaded m (element_start a) file (plan a fill i)
   fields_planned file i = elim (cases_Bool (is_let a.body i)) [
-    | inl h ↦ fields_let i h a.fields file ∙ sym (ap (loaded m (place a) file) (plan_active a fill i h))
+    | inl h ↦ fields_let i h a.fields file ∙ sym (ap (registers_loaded m (element_start a) file) (plan_active a fill i h))
     | inr h ↦ elim (cases_Bool fill) [
-      | inl e ↦ fields_filled i h e a.fields file ∙ sym (ap (loaded m (place a) file) (plan_filled a fill i h e))
-      | inr e ↦ fields_kept i h e a.fields file ∙ sym (ap (loaded m (place a) file) (plan_kept a fill i h e) ∙ loaded_none m (place a) file)
+      | inl e ↦ fields_filled i h e a.fields file ∙ sym (ap (registers_loaded m (element_start a) file) (plan_filled a fill i h e))
+      | inr e ↦ fields_kept i h e a.fields file ∙ sym (ap (registers_loaded m (element_start a) file) (plan_kept a fill i h e) ∙ loaded_none m (element_start a) file)
     ]
   ]
 
   -- all fields of all indices
   pub fields_loaded : (n i : ℕ) (file : List ℕ)
-      → for_each (each_field (load_field m a fill) a.fields) file i n ≡ loaded m (place a) file (transfers (plan a fill) i n)
+      → for_each (each_field (load_field m a fill) a.fields) file i n ≡ registers_loaded m (element_start a) file (transfers (plan a fill) i n)
   unfolding for_each transfers
-  fields_loaded zero i file = sym (loaded_none m (place a) file)
+  fields_loaded zero i file = sym (loaded_none m (element_start a) file)
   fields_loaded (suc n) i file =
       fields_loaded n (i + 1) (each_field (load_field m a fill) a.fields file i)
-      ∙ ap (λ x. loaded m (place a) x (transfers (plan a fill) (i + 1) n)) (fields_planned file i)
-      ∙ sym (loaded-append m (place a) file (plan a fill i) (transfers (plan a fill) (i + 1) n))
+      ∙ ap (λ x. registers_loaded m (element_start a) x (transfers (plan a fill) (i + 1) n)) (fields_planned file i)
+      ∙ sym (loaded-append m (element_start a) file (plan a fill i) (transfers (plan a fill) (i + 1) n))
 
   -- one field of an index, as a loop comes to it
   pub load_active : (f i at : ℕ) (file bytes : List ℕ) → is_let a.body i ≡ true → at ≡ field_place a f i → bytes ≡ bytes_at m (field_address a f i) a.size
@@ -234,36 +234,36 @@ module _ (file : List ℕ) (a : VectorAccess) where
   stores_none f m i h = rw h refl
 
   fields_stores : (i : ℕ) → is_let a.body i ≡ true → (f : ℕ) (m : Memory)
-      → each_field (store_field file a) f m i ≡ stored m (place a) file (segment i (a.address i) a.size f)
+      → each_field (store_field file a) f m i ≡ memory_stored m (element_start a) file (moved_segment i (a.address i) a.size f)
   unfolding each_field
-  fields_stores i h zero m = stored_start m (place a) file i (a.address i) a.size
+  fields_stores i h zero m = stored_start m (element_start a) file i (a.address i) a.size
   fields_stores i h (suc f) m =
       let count : f + 1 ≡ suc f = omega arith in
       stores f (each_field (store_field file a) f m i) i h
       ∙ ap (λ x. put_bytes x (field_address a f i) (chunk (field_place a f i) a.size file)) (fields_stores i h f m)
-      ∙ stored_field m (place a) file i (a.address i) a.size f
-      ∙ ap (λ k. stored m (place a) file (segment i (a.address i) a.size k)) count
+      ∙ stored_field m (element_start a) file i (a.address i) a.size f
+      ∙ ap (λ k. memory_stored m (element_start a) file (moved_segment i (a.address i) a.size k)) count
 
   fields_none : (i : ℕ) → is_let a.body i ≡ false → (f : ℕ) (m : Memory) → each_field (store_field file a) f m i ≡ m
   unfolding each_field
   fields_none i h zero m = refl
   fields_none i h (suc f) m = stores_none f (each_field (store_field file a) f m i) i h ∙ fields_none i h f m
 
-  fields_of : (m : Memory) (i : ℕ) → each_field (store_field file a) a.fields m i ≡ stored m (place a) file (plan a false i)
+  fields_of : (m : Memory) (i : ℕ) → each_field (store_field file a) a.fields m i ≡ memory_stored m (element_start a) file (plan a false i)
   fields_of m i = elim (cases_Bool (is_let a.body i)) [
-    | inl h ↦ fields_stores i h a.fields m ∙ sym (ap (stored m (place a) file) (plan_active a false i h))
-    | inr h ↦ fields_none i h a.fields m ∙ sym (ap (stored m (place a) file) (plan_kept a false i h refl) ∙ stored_none m (place a) file)
+    | inl h ↦ fields_stores i h a.fields m ∙ sym (ap (memory_stored m (element_start a) file) (plan_active a false i h))
+    | inr h ↦ fields_none i h a.fields m ∙ sym (ap (memory_stored m (element_start a) file) (plan_kept a false i h refl) ∙ stored_none m (element_start a) file)
   ]
 
   -- all fields of all indices
   pub fields_stored : (n i : ℕ) (m : Memory)
-      → for_each (each_field (store_field file a) a.fields) m i n ≡ stored m (place a) file (transfers (plan a false) i n)
+      → for_each (each_field (store_field file a) a.fields) m i n ≡ memory_stored m (element_start a) file (transfers (plan a false) i n)
   unfolding for_each transfers
-  fields_stored zero i m = sym (stored_none m (place a) file)
+  fields_stored zero i m = sym (stored_none m (element_start a) file)
   fields_stored (suc n) i m =
       fields_stored n (i + 1) (each_field (store_field file a) a.fields m i)
-      ∙ ap (λ x. stored x (place a) file (transfers (plan a false) (i + 1) n)) (fields_of m i)
-      ∙ sym (stored-append m (place a) file (plan a false i) (transfers (plan a false) (i + 1) n))
+      ∙ ap (λ x. memory_stored x (element_start a) file (transfers (plan a false) (i + 1) n)) (fields_of m i)
+      ∙ sym (stored-append m (element_start a) file (plan a false i) (transfers (plan a false) (i + 1) n))
 
   -- one field of an index, as a loop comes to it
   pub store_active : (f i at : ℕ) (m : Memory) (bytes : List ℕ) → is_let a.body i ≡ true → at ≡ field_address a f i

@@ -8,4 +8,3 @@ pub mod Room
 pub mod SpanMoves
 pub mod Strides
 pub mod Transferred
-pub mod WholeBlocks

@@ -5,41 +5,65 @@ use Rattle.std.proofs.lemmas.Bool.{le-ltb}
 use Rattle.std.proofs.lemmas.Nat.{mul-le}
 use Rattle.std.specs.Prelude.{nat_lt}
 use Rattle.std.specs.Simd.Lanes.{chunk, put_chunk}
+use Rattle.rv_model.specs.declared.instructions.operations.UnitOp.{UnitOp}
 use Rattle.rv_model.specs.declared.memory.Access.TheVariants.{Load, Store}
 use Rattle.rv_model.specs.declared.step.memory_end.MemEnd.{MemEnd}
 use Rattle.rv_model.specs.declared.step.memory_end.MemEnd.TheVariants.{Done, Cut}
 use Rattle.rv_model.specs.declared.vector.sizes.TheConstants.{FILE_BYTES, VLENB}
 use Rattle.rv_model.specs.declared.vector.state.VState.{VState}
-use Rattle.rv_model.specs.accesses.AccessRuns.{load_ends, load_run, runs_to, store_ends, store_run}
-use Rattle.rv_model.specs.accesses.Transfers.{end_at, loaded, stop_index, stored}
-use Rattle.rv_model.specs.accesses.VectorAccess.{VectorAccess, plan}
+use Rattle.rv_model.specs.accesses.AccessRuns.{AccessRun, access_ends, load_run, runs_to, store_run}
+use Rattle.rv_model.specs.accesses.Transfers.{Plan, end_at, memory_stored, registers_loaded, stop_index, transfers}
+use Rattle.rv_model.specs.accesses.VectorAccess.{is_first_only, plan}
 use Rattle.rv_model.specs.elements.Elements.{Body}
 use Rattle.rv_model.specs.memory.Memory.{Memory, bytes_at, can_access, put_bytes}
 use Rattle.vector_memory.specs.Blocks.{IsBlock}
 use Rattle.vector_memory.specs.Moves.{IsLoaded, IsStored}
-use Rattle.vector_memory.specs.SegmentRoom.{HasRoom, access_of, place_in}
+use Rattle.vector_memory.specs.Runs.{RunLeaves}
+use Rattle.vector_memory.specs.SegmentRoom.{HasRoom, operation_access, place_in, segments_access}
 use Rattle.vector_memory.specs.declared.blocks.Block.{Block}
 use Rattle.vector_memory.specs.declared.segments.Segments.{Segments}
 use Rattle.vector_memory.proofs.BlockMoves.{block_ends, loads_block, stores_block}
 
-pub load_runs : (limit : ℕ) (first_only fill : Bool) (a : VectorAccess) (v : VState) (m : Memory) (how : MemEnd) (file : List ℕ)
-    → IsLoaded limit fill a m v.file how file → load_run limit first_only fill a v m ≡ load_ends first_only (record v { file = file }) m how
-unfolding load_run
-load_runs limit first_only fill a v m how file h =
-    let each = plan a fill in
-    let end : MemEnd =
-    end_at Load m each (a.body.start + limit) a.body.end (stop_index Load m each a.body.start (a.body.start + limit) a.body.end) in
-    ap (λ f. load_ends first_only (record v { file = f }) m end) (sym h.value)
-    ∙ ap (load_ends first_only (record v { file = file }) m) (sym h.end)
+-- how far it came is said by the run
+pub leaves : {run : AccessRun} {end : MemEnd} {v : VState} {m : Memory} (n : ℕ) → run ≡ runs_to end n v m → RunLeaves run end v m
+leaves {run} {end} {v} {m} n is = is ∙ ap (λ k. runs_to end k v m) (sym (ap (λ r. r.reached) is))
 
-pub store_runs : (limit : ℕ) (a : VectorAccess) (v : VState) (m : Memory) (how : MemEnd) (more : Memory)
-    → IsStored limit a v.file m how more → store_run limit a v m ≡ store_ends v more how
-unfolding store_run
-store_runs limit a v m how more h =
-    let each = plan a false in
-    let end : MemEnd =
-    end_at Store m each (a.body.start + limit) a.body.end (stop_index Store m each a.body.start (a.body.start + limit) a.body.end) in
-    ap (λ n. store_ends v n end) (sym h.value) ∙ ap (store_ends v more) (sym h.end)
+-- which operation it is has no part in what it moves
+plan_same : (op : UnitOp) (s : Segments) (body : Body) (address : ℕ → ℕ) (fill : Bool)
+    → plan (operation_access op s body address) fill ≡ plan (segments_access s body address) fill
+unfolding plan
+plan_same op s body address fill = refl
+
+module _ (op : UnitOp) (limit : ℕ) (s : Segments) (body : Body) (address : ℕ → ℕ) (v : VState) (m : Memory) (how : MemEnd) where
+  pub load_runs : (fill : Bool) (file : List ℕ) → IsLoaded limit fill (segments_access s body address) m v.file how file
+      → load_run limit fill (operation_access op s body address) v m
+      ≡ access_ends (is_first_only op) body.end (record v { file = file }) m how
+  unfolding load_run
+  load_runs fill file h =
+      let run : Plan → AccessRun = λ each.
+      let stop = stop_index Load m each body.start (body.start + limit) body.end in
+      access_ends (is_first_only op) body.end
+      (record v { file = registers_loaded m (place_in s) v.file (transfers each body.start (stop - body.start)) }) m
+      (end_at Load m each (body.start + limit) body.end stop) in
+      let each = plan (segments_access s body address) fill in
+      let end : MemEnd = end_at Load m each (body.start + limit) body.end (stop_index Load m each body.start (body.start + limit) body.end) in
+      ap run (plan_same op s body address fill)
+      ∙ ap (λ f. access_ends (is_first_only op) body.end (record v { file = f }) m end) (sym h.value)
+      ∙ ap (access_ends (is_first_only op) body.end (record v { file = file }) m) (sym h.end)
+
+  pub store_runs : (more : Memory) → IsStored limit (segments_access s body address) v.file m how more
+      → store_run limit (operation_access op s body address) v m ≡ access_ends false body.end v more how
+  unfolding store_run
+  store_runs more h =
+      let run : Plan → AccessRun = λ each.
+      let stop = stop_index Store m each body.start (body.start + limit) body.end in
+      access_ends false body.end v (memory_stored m (place_in s) v.file (transfers each body.start (stop - body.start)))
+      (end_at Store m each (body.start + limit) body.end stop) in
+      let each = plan (segments_access s body address) false in
+      let end : MemEnd = end_at Store m each (body.start + limit) body.end (stop_index Store m each body.start (body.start + limit) body.end) in
+      ap run (plan_same op s body address false)
+      ∙ ap (λ n. access_ends false body.end v n end) (sym h.value)
+      ∙ ap (access_ends false body.end v more) (sym h.end)
 
 -- ---- a block of all elements
 
@@ -76,6 +100,12 @@ whole_is_block s body base stride b unmasked alone apart first room address plac
       inside = omega (arith, place, bytes, whole_inside s body.end alone room);
     }
 
+-- one that is done with vstart at 0 already
+done_leaves : {run : AccessRun} {n : ℕ} (v : VState) (m : Memory) → v.vstart ≡ 0 → run ≡ runs_to Done n (record v { vstart = 0 }) m → RunLeaves run Done v m
+done_leaves {run} {n} v m none is =
+    let same : run ≡ runs_to Done n v m = is ∙ ap (λ k. runs_to Done n (record v { vstart = k }) m) (sym none) in
+    leaves n same
+
 module _ (s : Segments) (body : Body) (address : ℕ → ℕ) (b : Block) (is : IsBlock s body address body.end b)
     (v : VState) (m : Memory) (limit : ℕ) (first : body.start ≡ 0) (reach : body.end ≤ limit) (none : v.vstart ≡ 0) where
   all_come : body.end ≡ min body.end (body.start + limit)
@@ -85,26 +115,26 @@ module _ (s : Segments) (body : Body) (address : ℕ → ℕ) (b : Block) (is : 
   not_cut = ap (λ x. cond x (Cut body.end) Done) (le-ltb body.end body.end (omega arith))
 
   -- a load that moves it is done
-  pub load_done : (first_only fill : Bool) (file : List ℕ)
+  pub load_done : (op : UnitOp) (fill : Bool) (file : List ℕ)
       → can_access Load m b.address b.length ≡ true → file ≡ put_chunk b.place v.file (bytes_at m b.address b.length)
-      → load_run limit first_only fill (access_of s body address) v m ≡ runs_to Done (record v { file = file }) m
-  load_done first_only fill file all moved =
+      → RunLeaves (load_run limit fill (operation_access op s body address) v m) Done (record v { file = file }) m
+  load_done op fill file all moved =
       let stopped = block_ends s body address body.end b is fill Load m limit all_come all in
-      load_runs limit first_only fill (access_of s body address) v m Done file (record {
+      done_leaves (record v { file = file }) m none
+      (load_runs op limit s body address v m Done fill file (record {
         end = sym (stopped.end ∙ not_cut);
-        value = moved ∙ loads_block s body address body.end b is fill m v.file ∙ ap (loaded m (place_in s) v.file) (sym stopped.done);
-      })
-      ∙ ap (λ n. runs_to Done (record v { file = file; vstart = n }) m) (sym none)
+        value = moved ∙ loads_block s body address body.end b is fill m v.file ∙ ap (registers_loaded m (place_in s) v.file) (sym stopped.done);
+      }))
 
   -- a store that moves it is done
-  pub store_done : (more : Memory)
+  pub store_done : (op : UnitOp) (more : Memory)
       → can_access Store m b.address b.length ≡ true → more ≡ put_bytes m b.address (chunk b.place b.length v.file)
       → length (chunk b.place b.length v.file) ≡ b.length
-      → store_run limit (access_of s body address) v m ≡ runs_to Done v more
-  store_done more all moved whole =
+      → RunLeaves (store_run limit (operation_access op s body address) v m) Done v more
+  store_done op more all moved whole =
       let stopped = block_ends s body address body.end b is false Store m limit all_come all in
-      store_runs limit (access_of s body address) v m Done more (record {
+      done_leaves v more none
+      (store_runs op limit s body address v m Done more (record {
         end = sym (stopped.end ∙ not_cut);
-        value = moved ∙ stores_block s body address body.end b is false m v.file whole ∙ ap (stored m (place_in s) v.file) (sym stopped.done);
-      })
-      ∙ ap (λ n. runs_to Done (record v { vstart = n }) more) (sym none)
+        value = moved ∙ stores_block s body address body.end b is false m v.file whole ∙ ap (memory_stored m (place_in s) v.file) (sym stopped.done);
+      }))

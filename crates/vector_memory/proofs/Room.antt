@@ -2,16 +2,15 @@
 use Rattle.std.proofs.Common.{◌≡◌, ℕ, ◌+◌, ◌*◌, ◌≤◌, arith}
 use Rattle.rv_model.specs.declared.instructions.operations.RegisterCount.{RegisterCount}
 use Rattle.rv_model.specs.declared.instructions.operations.RegisterCount.TheVariants.{One, Two, Four, Eight}
-use Rattle.rv_model.specs.declared.instructions.operations.Width.{Width as MemoryWidth}
-use Rattle.rv_model.specs.declared.instructions.operations.Width.TheVariants as width
+use Rattle.rv_model.specs.declared.instructions.operations.Eew.{Eew}
+use Rattle.rv_model.specs.declared.instructions.operations.Eew.TheVariants as width
 use Rattle.rv_model.specs.declared.vector.sizes.TheConstants.{VECTOR_REGISTERS, VLENB}
 use Rattle.rv_model.specs.declared.vector.types.Sew.{Sew}
 use Rattle.rv_model.specs.declared.vector.types.Sew.TheVariants.{E8, E16, E32, E64}
 use Rattle.rv_model.specs.accesses.VectorAccess.{whole_length}
-use Rattle.rv_model.specs.elements.Arithmetic.{GroupType}
-use Rattle.rv_model.specs.legality.GroupBounds.{SegmentsInside}
-use Rattle.rv_model.specs.legality.Legality.{register_count}
-use Rattle.rv_model.specs.vector.Configuration.{element_width, sew_width, width_bytes}
+use Rattle.rv_model.specs.vector.Configuration.{GroupType, element_width, sew_width, width_bytes}
+use Rattle.rv_model.specs.lending.GroupBounds.{SegmentsInside}
+use Rattle.rv_model.specs.vector.Groups.{register_count}
 use Rattle.rv_model.specs.vector.Registers.{registers}
 use Rattle.vector_memory.specs.SegmentRoom.{HasRoom}
 use Rattle.vector_memory.specs.declared.segments.Segments.{Segments}
@@ -29,7 +28,7 @@ pub segments_room : (s : Segments) (g : GroupType) (vd nf vl : ℕ) → Segments
 segments_room s g vd nf vl inside fields size is =
     rw is (record { fields = fields; size = size; inside = inside.inside; room = inside.holds.room })
 
-whole_fits : (count : RegisterCount) (w : MemoryWidth) → width_bytes (sew_width (element_width w)) * whole_length count w ≤ VLENB * register_count count
+whole_fits : (count : RegisterCount) (w : Eew) → width_bytes (sew_width (element_width w)) * whole_length count w ≤ VLENB * register_count count
 whole_fits One width.E8 = omega arith
 whole_fits One width.E16 = omega arith
 whole_fits One width.E32 = omega arith
@@ -48,7 +47,7 @@ whole_fits Eight width.E32 = omega arith
 whole_fits Eight width.E64 = omega arith
 
 -- in whole registers
-pub whole_room : (s : Segments) (count : RegisterCount) (w : MemoryWidth) (vd : ℕ) → vd + register_count count ≤ VECTOR_REGISTERS
+pub whole_room : (s : Segments) (count : RegisterCount) (w : Eew) (vd : ℕ) → vd + register_count count ≤ VECTOR_REGISTERS
     → s ≡ record { fields = 1; size = width_bytes (sew_width (element_width w)); register = vd; field_registers = register_count count }
     → HasRoom s (whole_length count w)
 whole_room s count w vd inside is =

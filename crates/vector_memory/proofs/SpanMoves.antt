@@ -11,16 +11,16 @@ use Rattle.std.proofs.Math.Nat.{mod-eq_of_lt}
 use Rattle.rv_model.specs.declared.memory.Access.{Access}
 use Rattle.rv_model.specs.declared.step.memory_end.MemEnd.TheVariants.{Cut, Done}
 use Rattle.rv_model.specs.accesses.Transfers.{are_allowed}
-use Rattle.rv_model.specs.accesses.VectorAccess.{plan, segment}
+use Rattle.rv_model.specs.accesses.VectorAccess.{plan, moved_segment}
 use Rattle.rv_model.specs.elements.Elements.{Body, is_let}
-use Rattle.rv_model.specs.memory.Memory.{Cell, Memory, byte_at, bytes_at, can_access, put_bytes}
+use Rattle.rv_model.specs.memory.Memory.{Cell, Memory, bytes_at, can_access, put_bytes, memory_byte}
 use Rattle.rv_model.proofs.access_lemmas.Contiguous.{stops_all}
 use Rattle.rv_model.proofs.access_lemmas.Moves.{allowed_none}
 use Rattle.rv_model.proofs.access_lemmas.Segments.{allowed_more, filled_allowed, plan_active, plan_filled, plan_kept}
 use Rattle.rv_model.proofs.access_lemmas.Stops.{AllAllowed, Stopped}
 use Rattle.rv_model.proofs.memory_lemmas.Memory.{bytes_read, can_access-at, can_access_from, get-put_bytes_outside, get-put_bytes_within, get_or-bytes_at, length-bytes_at, same_memory, with_byte}
 use Rattle.vector_memory.specs.FieldOrder.{field_address}
-use Rattle.vector_memory.specs.SegmentRoom.{access_of}
+use Rattle.vector_memory.specs.SegmentRoom.{segments_access}
 use Rattle.vector_memory.specs.Spans.{Follows, IsSpan}
 use Rattle.vector_memory.specs.declared.segments.Segments.{Segments}
 use Rattle.vector_memory.specs.declared.spans.Span.{Span}
@@ -50,8 +50,8 @@ same_byte : (o : Option Cell) (b : ℕ) → ((c : Cell) → o ≡ Some c → b �
 same_byte None b h = refl
 same_byte (Some c) b h = ap (λ x. Some (record { byte = x; permissions = c.permissions })) (h c refl)
 
-byte_there : (m : Memory) (x : ℕ) (c : Cell) → get m x ≡ Some c → byte_at m x ≡ c.byte
-unfolding byte_at
+byte_there : (m : Memory) (x : ℕ) (c : Cell) → get m x ≡ Some c → memory_byte m x ≡ c.byte
+unfolding memory_byte
 byte_there m x c h = rw h refl
 
 -- bytes that were read, written again, change nothing
@@ -128,18 +128,18 @@ part_allowed : (access : Access) (m : Memory) (a n k count x : ℕ) → can_acce
 part_allowed access m a n k count x all h at =
     can_access_from access m x count (λ j l. can_access-at access m a n (k + j) (x + j) all (omega (arith, h, l)) (omega (arith, at)))
 
-no_field : (access : Access) (m : Memory) (i x size : ℕ) → are_allowed access m (segment i x size 0) ≡ true
+no_field : (access : Access) (m : Memory) (i x size : ℕ) → are_allowed access m (moved_segment i x size 0) ≡ true
 unfolding are_allowed
 no_field access m i x size = refl
 
 fields_allowed : (access : Access) (m : Memory) (a n i x size : ℕ) → can_access access m a n ≡ true → a ≤ x → a + n < 2 ^ 64
-    → (fields : ℕ) → x + fields * size ≤ a + n → are_allowed access m (segment i x size fields) ≡ true
+    → (fields : ℕ) → x + fields * size ≤ a + n → are_allowed access m (moved_segment i x size fields) ≡ true
 fields_allowed access m a n i x size all low end zero room = no_field access m i x size
 fields_allowed access m a n i x size all low end (suc f) room =
     let more : suc f * size ≡ f * size + size = omega arith in
     let count : suc f ≡ f + 1 = omega arith in
     let same : (x + f * size) % 2 ^ 64 ≡ x + f * size = mod-eq_of_lt (omega (arith, end, more, room, low)) in
-    ap (λ k. are_allowed access m (segment i x size k)) count
+    ap (λ k. are_allowed access m (moved_segment i x size k)) count
     ∙ allowed_more access m i x size f (fields_allowed access m a n i x size all low end f (omega (arith, more, room)))
     (ap (λ y. can_access access m y size) same
     ∙ part_allowed access m a n ((x + f * size) - a) size (x + f * size) all (omega (arith, more, room, low)) (omega (arith, low)))
@@ -157,13 +157,13 @@ module _ (s : Segments) (body : Body) (address : ℕ → ℕ) (stop : ℕ) (b : 
       omega (arith, is.inside (i - body.start) (omega (arith, low, high)), mul-le (f + 1) s.size s.fields s.size (omega (arith, some)) (omega arith))
 
   pub field_begins : (i f : ℕ) → body.start ≤ i → i < stop → f < s.fields
-      → field_address (access_of s body address) f i ≡ b.address + ((i - body.start) * b.distance + f * s.size)
+      → field_address (segments_access s body address) f i ≡ b.address + ((i - body.start) * b.distance + f * s.size)
   field_begins i f low high some =
       mod-eq_of_lt (omega (arith, begins i low high, field_inside i f low high some, is.end)) ∙ omega (arith, begins i low high)
 
   -- its bytes, if these are the span's
   pub field_read : (m : Memory) (bytes : List ℕ) (i f : ℕ) → body.start ≤ i → i < stop → f < s.fields → bytes ≡ bytes_at m b.address b.length
-      → chunk ((i - body.start) * b.distance + f * s.size) s.size bytes ≡ bytes_at m (field_address (access_of s body address) f i) s.size
+      → chunk ((i - body.start) * b.distance + f * s.size) s.size bytes ≡ bytes_at m (field_address (segments_access s body address) f i) s.size
   field_read m bytes i f low high some read =
       let at : ℕ = (i - body.start) * b.distance + f * s.size in
       ap (chunk at s.size) read ∙ part_read m b.address b.length at s.size (field_inside i f low high some)
@@ -171,7 +171,7 @@ module _ (s : Segments) (body : Body) (address : ℕ → ℕ) (stop : ℕ) (b : 
 
   -- a field of an index lies before each field of a later one
   pub fields_apart : (f h i j : ℕ) → h < f → f < s.fields → body.start ≤ i → i < j → j < stop
-      → field_address (access_of s body address) f i + s.size ≤ field_address (access_of s body address) h j
+      → field_address (segments_access s body address) f i + s.size ≤ field_address (segments_access s body address) h j
   fields_apart f h i j less some from order end =
       let before : (i - body.start) * b.distance + b.distance ≤ (j - body.start) * b.distance =
       omega (arith, mul-le ((i - body.start) + 1) b.distance (j - body.start) b.distance (omega (arith, from, order)) (omega arith)) in
@@ -185,22 +185,22 @@ module _ (s : Segments) (body : Body) (address : ℕ → ℕ) (stop : ℕ) (b : 
       )
 
   pub span_allowed : (fill : Bool) (access : Access) (m : Memory) → can_access access m b.address b.length ≡ true
-      → AllAllowed access m (plan (access_of s body address) fill) body.start stop
+      → AllAllowed access m (plan (segments_access s body address) fill) body.start stop
   span_allowed fill access m all i low high = elim (cases_Bool (is_let body i)) [
     | inl active ↦
         let room = is.inside (i - body.start) (omega (arith, low, high)) in
         let at = begins i low high in
-        ap (are_allowed access m) (plan_active (access_of s body address) fill i active)
+        ap (are_allowed access m) (plan_active (segments_access s body address) fill i active)
         ∙ fields_allowed access m b.address b.length i (address i) s.size all (omega (arith, at)) is.end s.fields (omega (arith, at, room))
     | inr off ↦ elim (cases_Bool fill) [
-      | inl filled ↦ ap (are_allowed access m) (plan_filled (access_of s body address) fill i off filled) ∙ filled_allowed access m i s.size s.fields
-      | inr kept ↦ ap (are_allowed access m) (plan_kept (access_of s body address) fill i off kept) ∙ allowed_none access m
+      | inl filled ↦ ap (are_allowed access m) (plan_filled (segments_access s body address) fill i off filled) ∙ filled_allowed access m i s.size s.fields
+      | inr kept ↦ ap (are_allowed access m) (plan_kept (segments_access s body address) fill i off kept) ∙ allowed_none access m
     ]
   ]
 
   -- an instruction that moves it stops after it
   pub span_ends : (fill : Bool) (access : Access) (m : Memory) (limit : ℕ) → stop ≡ min body.end (body.start + limit) → can_access access m b.address b.length ≡ true
-      → Stopped access m (plan (access_of s body address) fill) body.start (body.start + limit) body.end stop (cond (nat_lt stop body.end) (Cut stop) Done)
+      → Stopped access m (plan (segments_access s body address) fill) body.start (body.start + limit) body.end stop (cond (nat_lt stop body.end) (Cut stop) Done)
   span_ends fill access m limit e all =
-      stops_all access m (plan (access_of s body address) fill) body.start (body.start + limit) body.end stop e (omega arith)
+      stops_all access m (plan (segments_access s body address) fill) body.start (body.start + limit) body.end stop e (omega arith)
       (span_allowed fill access m all)

@@ -3,6 +3,6 @@ pub mod Blocks
 pub mod Distances
 pub mod FieldOrder
 pub mod Moves
+pub mod Runs
 pub mod SegmentRoom
 pub mod Spans
-pub mod WholeBlocks

@@ -1,17 +1,21 @@
 -- Where the elements of segments stand in the vector registers ("V" Vector Extension 1.0, section 7.8).
-use Rattle.std.specs.Prelude.{ℕ, ◌+◌, ◌*◌, ◌≤◌, ◌<◌, ⊤}
-use Rattle.rv_model.specs.accesses.Transfers.{Transfer}
-use Rattle.rv_model.specs.accesses.VectorAccess.{VectorAccess}
+use Rattle.std.specs.Prelude.{ℕ, ◌+◌, ◌*◌, ◌-◌, ◌≤◌, ◌<◌, Bool, false, List, ⊤}
+use Rattle.rv_model.specs.accesses.Transfers.{Transfer, transfers}
+use Rattle.rv_model.specs.accesses.VectorAccess.{VectorAccess, is_first_only, moved_segment, plan, unit_direction}
+use Rattle.rv_model.specs.declared.instructions.operations.Direction.TheVariants as direction
+use Rattle.rv_model.specs.declared.instructions.operations.UnitOp.{UnitOp}
 use Rattle.rv_model.specs.declared.step.memory_end.MemEnd.{MemEnd}
 use Rattle.rv_model.specs.declared.step.memory_end.MemEnd.TheVariants.{Done, Fault, Cut}
 use Rattle.rv_model.specs.declared.vector.sizes.TheConstants.{VECTOR_REGISTERS, VLENB}
 use Rattle.rv_model.specs.elements.Elements.{Body}
 use Rattle.vector_memory.specs.declared.segments.Segments.{Segments}
 
--- the access of these segments, by its body and the address of each
-abbrev pub access_of : Segments → Body → (ℕ → ℕ) → VectorAccess
-access_of s body address =
+-- the access of these segments, by its body and the address of each: as a load that isn't fault-only-first
+abbrev pub segments_access : Segments → Body → (ℕ → ℕ) → VectorAccess
+segments_access s body address =
     record {
+      direction = direction.Load;
+      first_only = false;
       body = body;
       fields = s.fields;
       size = s.size;
@@ -20,9 +24,22 @@ access_of s body address =
       address = address;
     }
 
+-- the same as another operation, which moves the same
+abbrev pub operation_access : UnitOp → Segments → Body → (ℕ → ℕ) → VectorAccess
+operation_access op s body address =
+    record (segments_access s body address) { direction = unit_direction op; first_only = is_first_only op }
+
 -- the byte of the register file where an element begins
 abbrev pub place_in : Segments → Transfer → ℕ
 place_in s t = VLENB * (s.register + t.field * s.field_registers) + t.index * s.size
+
+-- the transfers of the segment of an index, from an address on
+abbrev pub segment_transfers : Segments → ℕ → ℕ → List Transfer
+segment_transfers s index address = moved_segment index address s.size s.fields
+
+-- those of the indices of a body up to another
+abbrev pub transfers_to : Segments → Body → (ℕ → ℕ) → Bool → ℕ → List Transfer
+transfers_to s body address fill stop = transfers (plan (segments_access s body address) fill) body.start (stop - body.start)
 
 -- at most eight fields of at most eight bytes each, which end inside the registers and have room for so many elements
 pub record HasRoom (s : Segments) (count : ℕ) : Type 0 where

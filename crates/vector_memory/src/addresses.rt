@@ -1,10 +1,11 @@
 //! Where the segments of a load or store begin ("V" Vector Extension 1.0, sections 7.4 to 7.6).
 ghost use Rattle.std.specs.Prelude.{◌≡◌, ◌+◌, ◌*◌, ◌%◌, ◌^◌, ⊤, ℕ, IfSome};
-ghost use Rattle.rv_model.specs.elements.Elements.{element, HasElement};
+ghost use Rattle.rv_model.specs.elements.Elements.{element};
+ghost use Rattle.rv_model.specs.lending.Writes.{HasElement};
 ghost use Rattle.rv_model.specs.vector.Configuration.{element_width, sew_width, width_bytes};
 
 use lane_arith::Lane;
-use rv_model::instructions::operations::Width;
+use rv_model::instructions::operations::Eew;
 
 /// The addresses of the segments of a load or store, by index.
 pub(crate) trait Addresses {
@@ -54,7 +55,7 @@ impl Addresses for Strided {
 pub(crate) struct Indexed<'a> {
     pub base: u64,
     pub offsets: &'a [u8],
-    pub width: Width,
+    pub width: Eew,
 }
 
 impl Addresses for Indexed<'_> {
@@ -66,10 +67,10 @@ impl Addresses for Indexed<'_> {
     #[inline(always)]
     fn address(&self, index: usize) -> u64 {
         let offset = match self.width {
-            Width::E8 => u8::load(self.offsets, index).number(),
-            Width::E16 => u16::load(self.offsets, index).number(),
-            Width::E32 => u32::load(self.offsets, index).number(),
-            Width::E64 => u64::load(self.offsets, index).number(),
+            Eew::E8 => u8::load(self.offsets, index).number(),
+            Eew::E16 => u16::load(self.offsets, index).number(),
+            Eew::E32 => u32::load(self.offsets, index).number(),
+            Eew::E64 => u64::load(self.offsets, index).number(),
         };
         self.base.wrapping_add(offset)
     }

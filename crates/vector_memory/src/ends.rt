@@ -1,9 +1,10 @@
 //! What a load or store leaves of `vstart` and of the vector length ("V" Vector Extension 1.0, sections 3.7,
 //! 7.7 and 17.1).
-ghost use Rattle.std.specs.Prelude.{◌≡◌, ◌≤◌, true, false, cond, nat_lt};
-ghost use Rattle.rv_model.specs.accesses.AccessRuns.{load_ends, runs_to, store_ends};
+ghost use Rattle.std.specs.Prelude.{◌≡◌, ℕ, true, false, cond, nat_lt};
+ghost use Rattle.rv_model.specs.accesses.AccessRuns.{access_ends};
 ghost use Rattle.rv_model.specs.declared.step.memory_end.MemEnd.TheVariants.{Done, Cut};
 ghost use Rattle.rv_model.specs.memory.Memory.{Memory};
+ghost use Rattle.vector_memory.specs.Runs.{RunLeaves};
 ghost use Rattle.vector_memory.specs.SegmentRoom.{StopsBefore};
 
 use rv_model::{GROUP_BYTES, MemEnd, VState};
@@ -25,8 +26,8 @@ pub(crate) fn end_without_fault(stop: usize, end: usize) -> MemEnd
 #[inline(always)]
 pub(crate) fn leave(end: MemEnd, state: &mut VState)
     requires { StopsBefore GROUP_BYTES end }
-    ensures store { (memory : Memory) → store_ends state.old memory end ≡ runs_to end state.new memory }
-    ensures load { (memory : Memory) → load_ends false state.old memory end ≡ runs_to end state.new memory }
+    ensures { (count : ℕ) (memory : Memory)
+        → RunLeaves (access_ends false count state.old memory end) end state.new memory }
 {
     state.vstart = match end {
         MemEnd::Done => 0,
@@ -40,7 +41,8 @@ pub(crate) fn leave(end: MemEnd, state: &mut VState)
 pub(crate) fn leave_first_only(end: MemEnd, state: &mut VState) -> MemEnd
     requires length { StopsBefore state.old.conf.vl end }
     requires most { StopsBefore GROUP_BYTES end }
-    ensures { (memory : Memory) → load_ends true state.old memory end ≡ runs_to result state.new memory }
+    ensures { (count : ℕ) (memory : Memory)
+        → RunLeaves (access_ends true count state.old memory end) result state.new memory }
 {
     match end {
         MemEnd::Done => leave(end, state),

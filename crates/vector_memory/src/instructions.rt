@@ -1,16 +1,16 @@
 //! Each vector load and store ("V" Vector Extension 1.0, chapter 7).
-ghost use Rattle.std.specs.Prelude.{◌≡◌, ◌+◌, ◌%◌, ◌^◌, ◌≤◌, Bool, IfSome, IsTrue, Some, false, true};
-ghost use Rattle.rv_model.specs.accesses.AccessRuns.{access_run, direction_run, runs_to};
-ghost use Rattle.rv_model.specs.accesses.Restarts.{GoesOn};
+ghost use Rattle.std.specs.Prelude.{◌≡◌, ◌+◌, ◌%◌, ◌^◌, ◌≤◌, IfSome, IsTrue, Some, false, true};
+ghost use Rattle.rv_model.specs.accesses.AccessRuns.{access_run};
+ghost use Rattle.rv_model.specs.accesses.Restarts.{AccessGoesOn};
 ghost use Rattle.rv_model.specs.elements.Arithmetic.{body_of, group_element};
-ghost use Rattle.rv_model.specs.legality.GroupBounds.{HasRoom as GroupHasRoom, IsInside};
+ghost use Rattle.rv_model.specs.lending.GroupBounds.{HasRoom as GroupHasRoom, IsInside, emul};
 ghost use Rattle.rv_model.specs.legality.Legality.{is_legal};
-ghost use Rattle.rv_model.specs.legality.OperandShapes.{emul};
 ghost use Rattle.rv_model.specs.vector.Configuration.{IsConfiguration, element_width, sew_bits, sew_width, vlmax};
 ghost use Rattle.rv_model.specs.vector.Registers.{registers};
 ghost use Rattle.vector_memory.specs.AccessKinds.{is_offset_access, is_segment_access};
 ghost use Rattle.vector_memory.specs.Distances.{grouped, operation, transfer_of, whole};
-ghost use Rattle.vector_memory.specs.SegmentRoom.{HasRoom, access_of};
+ghost use Rattle.vector_memory.specs.Runs.{RunLeaves, segments_run};
+ghost use Rattle.vector_memory.specs.SegmentRoom.{HasRoom};
 
 use crate::addresses::{Indexed, Strided};
 use crate::length::{element_bytes, mask_length, whole_length};
@@ -20,8 +20,8 @@ use crate::transfers::Transfer;
 use crate::user_bytes::UserBytes;
 use lane_arith::Body;
 use reg_groups::{emul, group_copy, mask_register, register_count, registers};
-use rv_model::instructions::operations::{Direction, RegisterCount, UnitOp, Width};
-use rv_model::{Field, GROUP_BYTES, Instr, MemEnd, Scalar, Sew, VReg, VState, VType};
+use rv_model::instructions::operations::{Direction, Eew, RegisterCount, UnitOp};
+use rv_model::{AccessInstr, Field, GROUP_BYTES, Instr, MemEnd, Scalar, Sew, VReg, VState, VType};
 
 /// The same direction, of an operation that may be a fault-only-first load.
 #[inline(always)]
@@ -36,7 +36,7 @@ fn operation(direction: Direction) -> UnitOp
 
 /// The multiplier, in eighths of a register, of groups of as many elements of a width as the vector type has.
 #[inline(always)]
-fn emul_of(width: Width, vtype: VType) -> u32
+fn emul_of(width: Eew, vtype: VType) -> u32
     ensures { result ≡ emul (sew_bits (element_width width)) vtype }
 {
     emul(Sew::from_width(width).bits(), vtype)
@@ -60,22 +60,20 @@ fn grouped_segments(nf: Field<3>, size: usize, emul: u32, register: VReg) -> Seg
 #[inline(always)]
 fn grouped_transfer(
     op: UnitOp,
-    width: Width,
+    width: Eew,
     nf: Field<3>,
     vd: VReg,
     addresses: Strided,
     unmasked: bool,
-    fill_masked_off: bool,
     state: &VState,
 ) -> Option<Transfer>
-    ensures value { result ≡ grouped op width nf vd addresses unmasked fill_masked_off state.now state.now.conf.vtype }
+    ensures value { result ≡ grouped op width nf vd addresses unmasked state.now state.now.conf.vtype }
     ensures fields { IfSome result (λ t. t.segments.fields ≤ 8) }
 {
     let vtype = state.conf.vtype()?;
     Some(Transfer {
         op,
         unmasked,
-        fill_masked_off,
         segments: grouped_segments(nf, element_bytes(width), emul_of(width, vtype), vd),
         addresses,
         count: usize::from(state.conf.vl()),
@@ -97,7 +95,6 @@ fn whole_transfer(
     Transfer {
         op,
         unmasked: true,
-        fill_masked_off: false,
         segments: Segments {
             fields: 1,
             size,
@@ -114,13 +111,13 @@ fn whole_transfer(
 
 /// The transfer that a load or store of whole registers or of a mask is.
 #[inline(always)]
-fn register_transfer(instr: &Instr, state: &VState, scalar: &Scalar) -> Option<Transfer>
-    requires segments { is_segment_access instr.now ≡ false }
-    ensures value { (fill : Bool) → result ≡ transfer_of fill instr.now state.now scalar.now }
+fn register_transfer(access: &AccessInstr, state: &VState, scalar: &Scalar) -> Option<Transfer>
+    requires segments { is_segment_access access.now ≡ false }
+    ensures value { result ≡ transfer_of access.now state.now scalar.now }
     ensures fields { IfSome result (λ t. t.segments.fields ≤ 8) }
 {
-    match *instr {
-        Instr::WholeLoad {
+    match *access {
+        AccessInstr::WholeLoad {
             count,
             width,
             vd,
@@ -131,12 +128,12 @@ fn register_transfer(instr: &Instr, state: &VState, scalar: &Scalar) -> Option<T
             let registers = register_count(count);
             Some(whole_transfer(UnitOp::Load, size, registers, vd, scalar.read(rs1), length))
         }
-        Instr::WholeStore { count, vd, rs1 } => {
-            let length = whole_length(count, Width::E8);
+        AccessInstr::WholeStore { count, vd, rs1 } => {
+            let length = whole_length(count, Eew::E8);
             let registers = register_count(count);
             Some(whole_transfer(UnitOp::Store, 1, registers, vd, scalar.read(rs1), length))
         }
-        Instr::MaskMemory { direction, vd, rs1 } => {
+        AccessInstr::MaskAccess { direction, vd, rs1 } => {
             let length = mask_length(usize::from(state.conf.vl()));
             let op = operation(direction);
             Some(whole_transfer(op, 1, 1, vd, scalar.read(rs1), length))
@@ -147,17 +144,12 @@ fn register_transfer(instr: &Instr, state: &VState, scalar: &Scalar) -> Option<T
 
 /// The transfer that a load or store at a distance is: none without the vector type that it needs.
 #[inline(always)]
-fn transfer_of(
-    instr: &Instr,
-    fill_masked_off: bool,
-    state: &VState,
-    scalar: &Scalar,
-) -> Option<Transfer>
-    ensures value { result ≡ transfer_of fill_masked_off instr.now state.now scalar.now }
+fn transfer_of(access: &AccessInstr, state: &VState, scalar: &Scalar) -> Option<Transfer>
+    ensures value { result ≡ transfer_of access.now state.now scalar.now }
     ensures fields { IfSome result (λ t. t.segments.fields ≤ 8) }
 {
-    match *instr {
-        Instr::VectorUnit {
+    match *access {
+        AccessInstr::UnitStride {
             op,
             width,
             nf,
@@ -169,9 +161,9 @@ fn transfer_of(
                 base: scalar.read(rs1),
                 stride: (nf.value() as u64 + 1) * element_bytes(width) as u64,
             };
-            grouped_transfer(op, width, nf, vd, addresses, vm, fill_masked_off, state)
+            grouped_transfer(op, width, nf, vd, addresses, vm, state)
         }
-        Instr::VectorStrided {
+        AccessInstr::Strided {
             direction,
             width,
             nf,
@@ -185,20 +177,20 @@ fn transfer_of(
                 stride: scalar.read(rs2),
             };
             let op = operation(direction);
-            grouped_transfer(op, width, nf, vd, addresses, vm, fill_masked_off, state)
+            grouped_transfer(op, width, nf, vd, addresses, vm, state)
         }
-        Instr::VectorIndexed { .. } => None,
-        _ => register_transfer(instr, state, scalar),
+        AccessInstr::Indexed { .. } => None,
+        _ => register_transfer(access, state, scalar),
     }
 }
 
 /// Whether it is a load or store at offsets.
 #[inline(always)]
-fn is_indexed(instr: &Instr) -> bool
-    ensures { result ≡ is_offset_access instr.now }
+fn is_indexed(access: &AccessInstr) -> bool
+    ensures { result ≡ is_offset_access access.now }
 {
-    match *instr {
-        Instr::VectorIndexed { .. } => true,
+    match *access {
+        AccessInstr::Indexed { .. } => true,
         _ => false,
     }
 }
@@ -208,7 +200,7 @@ fn is_indexed(instr: &Instr) -> bool
 #[derive(Clone, Copy)]
 struct Offsets {
     first: VReg,
-    width: Width,
+    width: Eew,
     emul: u32,
 }
 
@@ -227,11 +219,11 @@ fn run_indexed<M: UserBytes>(
     requires room { HasRoom segments.now state.old.conf.vl }
     requires inside { IsInside offsets.first offsets.emul }
     requires offsets { GroupHasRoom (sew_width (element_width offsets.width)) offsets.emul state.old.conf.vl }
-    ensures run { direction_run direction extent.limit extent.fill_masked_off
-        (access_of segments.now (body_of unmasked state.old)
+    ensures run { RunLeaves (segments_run (operation direction) extent.limit extent.fill_masked_off segments.now
+        (body_of unmasked state.old)
         (λ i. (base + group_element (record { width = sew_width (element_width offsets.width); emul = offsets.emul })
-        state.old.file offsets.first i) % 2 ^ 64))
-        state.old (M.memory memory.old) ≡ runs_to result state.new (M.memory memory.new) }
+        state.old.file offsets.first i) % 2 ^ 64)
+        state.old (M.memory memory.old)) result state.new (M.memory memory.new) }
     ensures others { memory.new ≡ M.with_memory memory.old (M.memory memory.new) }
 {
     let mask = mask_register(&state.file);
@@ -251,23 +243,24 @@ fn run_indexed<M: UserBytes>(
 #[tactic(auto, unfolding(rv_model::specs::accesses::AccessRuns::access_run))]
 #[inline(always)]
 fn run_offsets_under<M: UserBytes>(
-    instr: &Instr,
+    access: &AccessInstr,
     vtype: VType,
     extent: Extent,
     scalar: &Scalar,
     memory: &mut M,
     state: &mut VState,
 ) -> MemEnd
-    requires access { IsTrue (is_offset_access instr.now) }
+    requires access { IsTrue (is_offset_access access.now) }
     requires vtype { state.old.conf.vtype ≡ Some vtype }
     requires length { state.old.conf.vl ≤ vlmax vtype }
-    requires legal { IsTrue (is_legal instr.now (Some vtype) state.old.vstart) }
-    ensures run { access_run extent.limit extent.fill_masked_off instr.now state.old scalar.now (M.memory memory.old)
-        ≡ runs_to result state.new (M.memory memory.new) }
+    requires legal { IsTrue (is_legal (Instr.Access access.now) (Some vtype) state.old.vstart) }
+    ensures run { RunLeaves
+        (access_run extent.limit extent.fill_masked_off access.now state.old scalar.now (M.memory memory.old))
+        result state.new (M.memory memory.new) }
     ensures others { memory.new ≡ M.with_memory memory.old (M.memory memory.new) }
 {
-    match *instr {
-        Instr::VectorIndexed {
+    match *access {
+        AccessInstr::Indexed {
             direction,
             width,
             nf,
@@ -297,45 +290,47 @@ fn run_offsets_under<M: UserBytes>(
 #[tactic(auto, unfolding(rv_model::specs::accesses::AccessRuns::access_run))]
 #[inline(always)]
 fn run_offsets<M: UserBytes>(
-    instr: &Instr,
+    access: &AccessInstr,
     extent: Extent,
     scalar: &Scalar,
     memory: &mut M,
     state: &mut VState,
 ) -> MemEnd
-    requires access { IsTrue (is_offset_access instr.now) }
-    requires legal { IsTrue (is_legal instr.now state.old.conf.vtype state.old.vstart) }
-    ensures run { access_run extent.limit extent.fill_masked_off instr.now state.old scalar.now (M.memory memory.old)
-        ≡ runs_to result state.new (M.memory memory.new) }
+    requires access { IsTrue (is_offset_access access.now) }
+    requires legal { IsTrue (is_legal (Instr.Access access.now) state.old.conf.vtype state.old.vstart) }
+    ensures run { RunLeaves
+        (access_run extent.limit extent.fill_masked_off access.now state.old scalar.now (M.memory memory.old))
+        result state.new (M.memory memory.new) }
     ensures others { memory.new ≡ M.with_memory memory.old (M.memory memory.new) }
 {
     let Some(vtype) = state.conf.vtype() else {
         return MemEnd::Done;
     };
-    run_offsets_under(instr, vtype, extent, scalar, memory, state)
+    run_offsets_under(access, vtype, extent, scalar, memory, state)
 }
 
 /// Carries out a load or store at a distance at once, if it can be. Answers whether it is done.
 #[inline(always)]
 fn run_at_once<M: UserBytes>(
-    instr: &Instr,
+    access: &AccessInstr,
     extent: Extent,
     scalar: &Scalar,
     memory: &mut M,
     state: &mut VState,
 ) -> bool
     requires configured { IsConfiguration state.old.conf }
-    requires legal { IsTrue (is_legal instr.now state.old.conf.vtype state.old.vstart) }
-    ensures done { result ≡ true → access_run extent.limit extent.fill_masked_off instr.now state.old scalar.now (M.memory memory.old)
-        ≡ runs_to MemEnd.Done state.new (M.memory memory.new) }
+    requires legal { IsTrue (is_legal (Instr.Access access.now) state.old.conf.vtype state.old.vstart) }
+    ensures done { result ≡ true → RunLeaves
+        (access_run extent.limit extent.fill_masked_off access.now state.old scalar.now (M.memory memory.old))
+        MemEnd.Done state.new (M.memory memory.new) }
     ensures others { memory.new ≡ M.with_memory memory.old (M.memory memory.new) }
     ensures unchanged_state { result ≡ false → state.new ≡ state.old }
     ensures unchanged_memory { result ≡ false → memory.new ≡ memory.old }
 {
-    if is_indexed(instr) {
+    if is_indexed(access) {
         return false;
     }
-    let Some(transfer) = transfer_of(instr, extent.fill_masked_off, state, scalar) else {
+    let Some(transfer) = transfer_of(access, state, scalar) else {
         return false;
     };
     transfer.run_block(extent.limit, memory, state)
@@ -344,47 +339,49 @@ fn run_at_once<M: UserBytes>(
 /// Carries out a load or store segment by segment.
 #[inline(never)]
 fn run_in_turn<M: UserBytes>(
-    instr: &Instr,
+    access: &AccessInstr,
     extent: Extent,
     scalar: &Scalar,
     memory: &mut M,
     state: &mut VState,
 ) -> MemEnd
     requires configured { IsConfiguration state.old.conf }
-    requires legal { IsTrue (is_legal instr.now state.old.conf.vtype state.old.vstart) }
-    ensures run { access_run extent.limit extent.fill_masked_off instr.now state.old scalar.now (M.memory memory.old)
-        ≡ runs_to result state.new (M.memory memory.new) }
+    requires legal { IsTrue (is_legal (Instr.Access access.now) state.old.conf.vtype state.old.vstart) }
+    ensures run { RunLeaves
+        (access_run extent.limit extent.fill_masked_off access.now state.old scalar.now (M.memory memory.old))
+        result state.new (M.memory memory.new) }
     ensures others { memory.new ≡ M.with_memory memory.old (M.memory memory.new) }
 {
-    if is_indexed(instr) {
-        return run_offsets(instr, extent, scalar, memory, state);
+    if is_indexed(access) {
+        return run_offsets(access, extent, scalar, memory, state);
     }
-    let Some(transfer) = transfer_of(instr, extent.fill_masked_off, state, scalar) else {
+    let Some(transfer) = transfer_of(access, state, scalar) else {
         return MemEnd::Done;
     };
-    transfer.run_segments(extent.limit, memory, state)
+    transfer.run_segments(extent, memory, state)
 }
 
 /// A load or store, whichever it is.
 #[inline(always)]
 fn run_any<M: UserBytes>(
-    instr: &Instr,
+    access: &AccessInstr,
     extent: Extent,
     scalar: &Scalar,
     memory: &mut M,
     state: &mut VState,
 ) -> MemEnd
     requires configured { IsConfiguration state.old.conf }
-    requires legal { IsTrue (is_legal instr.now state.old.conf.vtype state.old.vstart) }
-    ensures run { access_run extent.limit extent.fill_masked_off instr.now state.old scalar.now (M.memory memory.old)
-        ≡ runs_to result state.new (M.memory memory.new) }
+    requires legal { IsTrue (is_legal (Instr.Access access.now) state.old.conf.vtype state.old.vstart) }
+    ensures run { RunLeaves
+        (access_run extent.limit extent.fill_masked_off access.now state.old scalar.now (M.memory memory.old))
+        result state.new (M.memory memory.new) }
     ensures others { memory.new ≡ M.with_memory memory.old (M.memory memory.new) }
 {
-    if run_at_once(instr, extent, scalar, memory, state) {
+    if run_at_once(access, extent, scalar, memory, state) {
         return MemEnd::Done;
     }
     // A copy of its own for the other function, so that the operands need no place in memory before.
-    let copy = *instr;
+    let copy = *access;
     run_in_turn(&copy, extent, scalar, memory, state)
 }
 
@@ -392,21 +389,21 @@ fn run_any<M: UserBytes>(
 /// its tail as it is; its elements that are masked off become all ones where `fill_masked_off`.
 #[inline(always)]
 pub fn run<M: UserBytes>(
-    instr: &Instr,
+    access: &AccessInstr,
     state: &mut VState,
     scalar: &Scalar,
     memory: &mut M,
     limit: usize,
     fill_masked_off: bool,
 ) -> MemEnd
-    requires legal { IsTrue (is_legal instr.now state.old.conf.vtype state.old.vstart) }
+    requires legal { IsTrue (is_legal (Instr.Access access.now) state.old.conf.vtype state.old.vstart) }
     requires limit { 1 ≤ limit }
-    ensures model { access_run limit fill_masked_off instr.now state.old scalar.now (M.memory memory.old)
-        ≡ runs_to result state.new (M.memory memory.new) }
+    ensures model { RunLeaves (access_run limit fill_masked_off access.now state.old scalar.now (M.memory memory.old))
+        result state.new (M.memory memory.new) }
 
     // If it is cut or faults, it goes on from there, in a memory that may have grown.
-    ensures restarts { GoesOn fill_masked_off instr.now scalar.now state.old (M.memory memory.old)
-        (runs_to result state.new (M.memory memory.new)) }
+    ensures restarts { AccessGoesOn fill_masked_off access.now scalar.now state.old (M.memory memory.old)
+        (access_run limit fill_masked_off access.now state.old scalar.now (M.memory memory.old)) }
 
     // All else that the user's bytes hold stays.
     ensures memory { memory.new ≡ M.with_memory memory.old (M.memory memory.new) }
@@ -416,5 +413,5 @@ pub fn run<M: UserBytes>(
         limit,
         fill_masked_off,
     };
-    run_any(instr, extent, scalar, memory, state)
+    run_any(access, extent, scalar, memory, state)
 }

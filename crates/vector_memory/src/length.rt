@@ -1,29 +1,31 @@
 //! How many indices a vector load or store has ("V" Vector Extension 1.0, sections 7.4 to 7.9).
-ghost use Rattle.std.specs.Prelude.{◌≡◌, ◌≤◌};
-ghost use Rattle.rv_model.specs.accesses.VectorAccess.{index_count, mask_length, whole_length};
+ghost use Rattle.std.specs.Prelude.{◌≡◌, ◌≤◌, Some};
+ghost use Rattle.rv_model.specs.accesses.VectorAccess.{VectorAccess, access_of, mask_length, whole_length};
+ghost use Rattle.rv_model.specs.declared.scalar.Scalar.{Scalar};
+ghost use Rattle.rv_model.specs.declared.vector.state.VState.{VState};
 ghost use Rattle.rv_model.specs.vector.Configuration.{element_width, sew_width, width_bytes};
 
 use reg_groups::register_count;
-use rv_model::instructions::operations::{RegisterCount, Width};
-use rv_model::{Instr, VLENB};
+use rv_model::instructions::operations::{Eew, RegisterCount};
+use rv_model::{AccessInstr, VLENB};
 
 /// The bytes of a memory element.
 #[inline(always)]
-pub(crate) fn element_bytes(width: Width) -> usize
+pub(crate) fn element_bytes(width: Eew) -> usize
     ensures value { result ≡ width_bytes (sew_width (element_width width)) }
     ensures some { 1 ≤ result }
     ensures most { result ≤ 8 }
 {
     match width {
-        Width::E8 => 1,
-        Width::E16 => 2,
-        Width::E32 => 4,
-        Width::E64 => 8,
+        Eew::E8 => 1,
+        Eew::E16 => 2,
+        Eew::E32 => 4,
+        Eew::E64 => 8,
     }
 }
 
 /// How many elements so many whole registers have.
-pub(crate) fn whole_length(count: RegisterCount, width: Width) -> usize
+pub(crate) fn whole_length(count: RegisterCount, width: Eew) -> usize
     ensures { result ≡ whole_length count width }
 {
     usize::from(register_count(count)) * VLENB / element_bytes(width)
@@ -36,16 +38,18 @@ pub(crate) fn mask_length(vl: usize) -> usize
     vl.div_ceil(8)
 }
 
-/// How many indices an instruction has, by the vector length: none, but for loads and stores.
+/// How many indices a load or store has, by the vector length.
 #[inline(always)]
-pub fn index_count(instr: &Instr, vl: usize) -> usize
-    ensures { result ≡ index_count instr.now vl }
+pub fn index_count(access: &AccessInstr, vl: usize) -> usize
+    ensures { (v : VState) (x : Scalar) (a : VectorAccess) → access_of access.now v x ≡ Some a → v.conf.vl ≡ vl
+        → result ≡ a.body.end }
 {
-    match *instr {
-        Instr::VectorUnit { .. } | Instr::VectorStrided { .. } | Instr::VectorIndexed { .. } => vl,
-        Instr::WholeLoad { count, width, .. } => whole_length(count, width),
-        Instr::WholeStore { count, .. } => usize::from(register_count(count)) * VLENB,
-        Instr::MaskMemory { .. } => mask_length(vl),
-        _ => 0,
+    match *access {
+        AccessInstr::UnitStride { .. }
+        | AccessInstr::Strided { .. }
+        | AccessInstr::Indexed { .. } => vl,
+        AccessInstr::WholeLoad { count, width, .. } => whole_length(count, width),
+        AccessInstr::WholeStore { count, .. } => usize::from(register_count(count)) * VLENB,
+        AccessInstr::MaskAccess { .. } => mask_length(vl),
     }
 }

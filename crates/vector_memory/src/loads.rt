@@ -1,10 +1,10 @@
 //! Loads, index by index ("V" Vector Extension 1.0, sections 7.4 to 7.9 and 17.1).
 ghost use Rattle.std.specs.Prelude.{◌≡◌, ◌↔◌, ◌+◌, ◌≤◌, ◌<◌, ℕ, true, IsOk, IfErr, OnOk, OnErr, IfSome, IfNone};
 ghost use Rattle.rv_model.specs.declared.memory.Access.TheVariants.{Load};
-ghost use Rattle.rv_model.specs.accesses.Transfers.{are_allowed, bad_address, loaded};
+ghost use Rattle.rv_model.specs.accesses.Transfers.{are_allowed, bad_address, registers_loaded};
 ghost use Rattle.rv_model.specs.accesses.VectorAccess.{plan};
 ghost use Rattle.vector_memory.specs.Moves.{IsLoaded};
-ghost use Rattle.vector_memory.specs.SegmentRoom.{HasRoom, StopsBefore, access_of, place_in};
+ghost use Rattle.vector_memory.specs.SegmentRoom.{HasRoom, StopsBefore, segments_access, place_in};
 
 use crate::addresses::Addresses;
 use crate::ends::end_without_fault;
@@ -30,11 +30,11 @@ fn load_index<M: UserBytes, A: Addresses>(
     requires count { index < GROUP_BYTES }
     requires address { A.has addresses.now index }
     ensures ok { IsOk result ↔ (are_allowed Load (M.memory memory.now)
-        (plan (access_of segments.now body.now (A.address addresses.now)) fill_masked_off index) ≡ true) }
+        (plan (segments_access segments.now body.now (A.address addresses.now)) fill_masked_off index) ≡ true) }
     ensures fault { IfErr result (λ fault. fault.addr ≡ bad_address Load (M.memory memory.now)
-        (plan (access_of segments.now body.now (A.address addresses.now)) fill_masked_off index)) }
-    ensures value { OnOk result (file.new ≡ loaded (M.memory memory.now) (place_in segments.now) file.old
-        (plan (access_of segments.now body.now (A.address addresses.now)) fill_masked_off index)) }
+        (plan (segments_access segments.now body.now (A.address addresses.now)) fill_masked_off index)) }
+    ensures value { OnOk result (file.new ≡ registers_loaded (M.memory memory.now) (place_in segments.now) file.old
+        (plan (segments_access segments.now body.now (A.address addresses.now)) fill_masked_off index)) }
     ensures unchanged { OnErr result (file.new ≡ file.old) }
 {
     if body.lets(index) {
@@ -60,7 +60,7 @@ fn load_each<M: UserBytes, A: Addresses>(
     requires room { HasRoom segments.now body.now.end }
     requires count { body.now.end ≤ GROUP_BYTES }
     requires addresses { (i : ℕ) → i < body.now.end → A.has addresses.now i }
-    ensures loaded { IsLoaded limit fill_masked_off (access_of segments.now body.now (A.address addresses.now))
+    ensures loaded { IsLoaded limit fill_masked_off (segments_access segments.now body.now (A.address addresses.now))
         (M.memory memory.now) file.old result file.new }
     ensures least { StopsBefore body.now.end result }
 {
@@ -98,7 +98,7 @@ fn load_span<M: UserBytes, A: Addresses>(
     requires room { HasRoom segments.now body.now.end }
     requires count { body.now.end ≤ GROUP_BYTES }
     requires addresses { (i : ℕ) → i < body.now.end → A.has addresses.now i }
-    ensures loaded { IfSome result (λ end. IsLoaded limit fill_masked_off (access_of segments.now body.now (A.address addresses.now))
+    ensures loaded { IfSome result (λ end. IsLoaded limit fill_masked_off (segments_access segments.now body.now (A.address addresses.now))
         (M.memory memory.now) file.old end file.new) }
     ensures least { IfSome result (StopsBefore body.now.end) }
     ensures unchanged { IfNone result (file.new ≡ file.old) }
@@ -125,7 +125,7 @@ pub(crate) fn load<M: UserBytes, A: Addresses>(
     requires room { HasRoom segments.now body.now.end }
     requires count { body.now.end ≤ GROUP_BYTES }
     requires addresses { (i : ℕ) → i < body.now.end → A.has addresses.now i }
-    ensures loaded { IsLoaded limit fill_masked_off (access_of segments.now body.now (A.address addresses.now))
+    ensures loaded { IsLoaded limit fill_masked_off (segments_access segments.now body.now (A.address addresses.now))
         (M.memory memory.now) file.old result file.new }
     ensures least { StopsBefore body.now.end result }
 {

@@ -1,8 +1,8 @@
 //! Loads and stores of segments, with what they leave of the vector state ("V" Vector Extension 1.0, sections
 //! 7.4 to 7.9).
 ghost use Rattle.std.specs.Prelude.{◌≡◌, ◌≤◌, ◌<◌, ℕ, true, false};
-ghost use Rattle.rv_model.specs.accesses.AccessRuns.{load_run, runs_to, store_run, unit_run};
-ghost use Rattle.vector_memory.specs.SegmentRoom.{HasRoom, access_of};
+ghost use Rattle.vector_memory.specs.Runs.{RunLeaves, segments_run};
+ghost use Rattle.vector_memory.specs.SegmentRoom.{HasRoom};
 
 use crate::addresses::Addresses;
 use crate::ends::{leave, leave_first_only};
@@ -37,9 +37,8 @@ pub(crate) fn run_unit<M: UserBytes, A: Addresses>(
     requires count { body.now.end ≤ GROUP_BYTES }
     requires length { op ≡ UnitOp.FaultOnlyFirst → body.now.end ≡ state.old.conf.vl }
     requires addresses { (i : ℕ) → i < body.now.end → A.has addresses.now i }
-    ensures run { unit_run op extent.limit extent.fill_masked_off
-        (access_of segments.now body.now (A.address addresses.now)) state.old (M.memory memory.old)
-        ≡ runs_to result state.new (M.memory memory.new) }
+    ensures run { RunLeaves (segments_run op extent.limit extent.fill_masked_off segments.now body.now
+        (A.address addresses.now) state.old (M.memory memory.old)) result state.new (M.memory memory.new) }
     ensures others { memory.new ≡ M.with_memory memory.old (M.memory memory.new) }
 {
     match op {

@@ -1,10 +1,10 @@
 //! One segment: the fields of one index ("V" Vector Extension 1.0, section 7.8).
 ghost use Rattle.std.specs.Prelude.{◌≡◌, ◌↔◌, ◌+◌, ◌*◌, ◌%◌, ◌^◌, ◌≤◌, ◌<◌, ℕ, true, IsOk, IfErr, OnOk, OnErr};
 ghost use Rattle.rv_model.specs.declared.memory.Access.TheVariants.{Load, Store};
-ghost use Rattle.rv_model.specs.accesses.Transfers.{are_allowed, bad_address, loaded, stored};
-ghost use Rattle.rv_model.specs.accesses.VectorAccess.{filled_segment, segment};
+ghost use Rattle.rv_model.specs.accesses.Transfers.{are_allowed, bad_address, memory_stored, registers_loaded};
+ghost use Rattle.rv_model.specs.accesses.VectorAccess.{filled_segment};
 ghost use Rattle.rv_model.specs.memory.Memory.{Memory};
-ghost use Rattle.vector_memory.specs.SegmentRoom.{HasRoom, place_in};
+ghost use Rattle.vector_memory.specs.SegmentRoom.{HasRoom, place_in, segment_transfers};
 
 use crate::field_bytes::{load_bytes, store_bytes};
 use crate::user_bytes::UserBytes;
@@ -66,9 +66,9 @@ impl Segments {
         requires size { self.now.size ≤ 8 }
         requires fields { self.now.fields ≤ 8 }
         ensures ok { (index : ℕ) → IsOk result
-            ↔ (are_allowed access (M.memory memory.now) (segment index address self.now.size self.now.fields) ≡ true) }
+            ↔ (are_allowed access (M.memory memory.now) (segment_transfers self.now index address) ≡ true) }
         ensures fault { (index : ℕ) → IfErr result (λ fault. fault.addr
-            ≡ bad_address access (M.memory memory.now) (segment index address self.now.size self.now.fields)) }
+            ≡ bad_address access (M.memory memory.now) (segment_transfers self.now index address)) }
     {
         for field in 0..self.fields {
             memory.check(self.field_address(address, field), self.size, access)?;
@@ -85,9 +85,9 @@ impl Segments {
         file: &mut VFile,
     )
         requires room { HasRoom self.now (index + 1) }
-        requires allowed { are_allowed Load (M.memory memory.now) (segment index address self.now.size self.now.fields) ≡ true }
-        ensures { file.new ≡ loaded (M.memory memory.now) (place_in self.now) file.old
-            (segment index address self.now.size self.now.fields) }
+        requires allowed { are_allowed Load (M.memory memory.now) (segment_transfers self.now index address) ≡ true }
+        ensures { file.new ≡ registers_loaded (M.memory memory.now) (place_in self.now) file.old
+            (segment_transfers self.now index address) }
     {
         for field in 0..self.fields {
             let at = self.place(index, field);
@@ -107,11 +107,11 @@ impl Segments {
     ) -> Result<(), Fault>
         requires room { HasRoom self.now (index + 1) }
         requires one { self.now.fields ≡ 1 }
-        ensures ok { IsOk result ↔ (are_allowed Load (M.memory memory.now) (segment index address self.now.size self.now.fields) ≡ true) }
+        ensures ok { IsOk result ↔ (are_allowed Load (M.memory memory.now) (segment_transfers self.now index address) ≡ true) }
         ensures fault { IfErr result (λ fault. fault.addr
-            ≡ bad_address Load (M.memory memory.now) (segment index address self.now.size self.now.fields)) }
-        ensures value { OnOk result (file.new ≡ loaded (M.memory memory.now) (place_in self.now) file.old
-            (segment index address self.now.size self.now.fields)) }
+            ≡ bad_address Load (M.memory memory.now) (segment_transfers self.now index address)) }
+        ensures value { OnOk result (file.new ≡ registers_loaded (M.memory memory.now) (place_in self.now) file.old
+            (segment_transfers self.now index address)) }
         ensures unchanged { OnErr result (file.new ≡ file.old) }
     {
         load_bytes(memory, address, self.place(index, 0), self.size, file)
@@ -127,11 +127,11 @@ impl Segments {
         file: &mut VFile,
     ) -> Result<(), Fault>
         requires room { HasRoom self.now (index + 1) }
-        ensures ok { IsOk result ↔ (are_allowed Load (M.memory memory.now) (segment index address self.now.size self.now.fields) ≡ true) }
+        ensures ok { IsOk result ↔ (are_allowed Load (M.memory memory.now) (segment_transfers self.now index address) ≡ true) }
         ensures fault { IfErr result (λ fault. fault.addr
-            ≡ bad_address Load (M.memory memory.now) (segment index address self.now.size self.now.fields)) }
-        ensures value { OnOk result (file.new ≡ loaded (M.memory memory.now) (place_in self.now) file.old
-            (segment index address self.now.size self.now.fields)) }
+            ≡ bad_address Load (M.memory memory.now) (segment_transfers self.now index address)) }
+        ensures value { OnOk result (file.new ≡ registers_loaded (M.memory memory.now) (place_in self.now) file.old
+            (segment_transfers self.now index address)) }
         ensures unchanged { OnErr result (file.new ≡ file.old) }
     {
         if self.fields == 1 {
@@ -145,7 +145,7 @@ impl Segments {
     /// Makes the fields of an index all ones.
     pub(crate) fn fill(&self, index: usize, file: &mut VFile)
         requires room { HasRoom self.now (index + 1) }
-        ensures { (memory : Memory) → file.new ≡ loaded memory (place_in self.now) file.old
+        ensures { (memory : Memory) → file.new ≡ registers_loaded memory (place_in self.now) file.old
             (filled_segment index self.now.size self.now.fields) }
     {
         for field in 0..self.fields {
@@ -164,9 +164,9 @@ impl Segments {
         memory: &mut M,
     )
         requires room { HasRoom self.now (index + 1) }
-        requires allowed { are_allowed Store (M.memory memory.old) (segment index address self.now.size self.now.fields) ≡ true }
-        ensures value { M.memory memory.new ≡ stored (M.memory memory.old) (place_in self.now) file.now
-            (segment index address self.now.size self.now.fields) }
+        requires allowed { are_allowed Store (M.memory memory.old) (segment_transfers self.now index address) ≡ true }
+        ensures value { M.memory memory.new ≡ memory_stored (M.memory memory.old) (place_in self.now) file.now
+            (segment_transfers self.now index address) }
         ensures others { memory.new ≡ M.with_memory memory.old (M.memory memory.new) }
     {
         for field in 0..self.fields {
@@ -187,11 +187,11 @@ impl Segments {
     ) -> Result<(), Fault>
         requires room { HasRoom self.now (index + 1) }
         requires one { self.now.fields ≡ 1 }
-        ensures ok { IsOk result ↔ (are_allowed Store (M.memory memory.old) (segment index address self.now.size self.now.fields) ≡ true) }
+        ensures ok { IsOk result ↔ (are_allowed Store (M.memory memory.old) (segment_transfers self.now index address) ≡ true) }
         ensures fault { IfErr result (λ fault. fault.addr
-            ≡ bad_address Store (M.memory memory.old) (segment index address self.now.size self.now.fields)) }
-        ensures value { OnOk result (M.memory memory.new ≡ stored (M.memory memory.old) (place_in self.now) file.now
-            (segment index address self.now.size self.now.fields)) }
+            ≡ bad_address Store (M.memory memory.old) (segment_transfers self.now index address)) }
+        ensures value { OnOk result (M.memory memory.new ≡ memory_stored (M.memory memory.old) (place_in self.now) file.now
+            (segment_transfers self.now index address)) }
         ensures others { OnOk result (memory.new ≡ M.with_memory memory.old (M.memory memory.new)) }
         ensures unchanged { OnErr result (memory.new ≡ memory.old) }
     {
@@ -208,11 +208,11 @@ impl Segments {
         memory: &mut M,
     ) -> Result<(), Fault>
         requires room { HasRoom self.now (index + 1) }
-        ensures ok { IsOk result ↔ (are_allowed Store (M.memory memory.old) (segment index address self.now.size self.now.fields) ≡ true) }
+        ensures ok { IsOk result ↔ (are_allowed Store (M.memory memory.old) (segment_transfers self.now index address) ≡ true) }
         ensures fault { IfErr result (λ fault. fault.addr
-            ≡ bad_address Store (M.memory memory.old) (segment index address self.now.size self.now.fields)) }
-        ensures value { OnOk result (M.memory memory.new ≡ stored (M.memory memory.old) (place_in self.now) file.now
-            (segment index address self.now.size self.now.fields)) }
+            ≡ bad_address Store (M.memory memory.old) (segment_transfers self.now index address)) }
+        ensures value { OnOk result (M.memory memory.new ≡ memory_stored (M.memory memory.old) (place_in self.now) file.now
+            (segment_transfers self.now index address)) }
         ensures others { OnOk result (memory.new ≡ M.with_memory memory.old (M.memory memory.new)) }
         ensures unchanged { OnErr result (memory.new ≡ memory.old) }
     {

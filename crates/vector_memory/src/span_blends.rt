@@ -1,14 +1,13 @@
 //! Contiguous elements of one field, some of them masked off: 32 bytes at a time, in which those that are active are
 //! blended with the others ("V" Vector Extension 1.0, sections 5.3 and 7.4).
-ghost use Rattle.std.specs.Prelude.{◌≡◌, ◌*◌, ◌-◌, ◌<◌, ◌≤◌, ℕ, false, length, slice_index, true};
-ghost use Rattle.rv_model.specs.accesses.Transfers.{loaded, stored, transfers};
-ghost use Rattle.rv_model.specs.accesses.VectorAccess.{plan};
-ghost use Rattle.rv_model.specs.elements.Elements.{HasElement, element, is_changed, result_or_ones};
+ghost use Rattle.std.specs.Prelude.{◌≡◌, ◌*◌, ◌<◌, ◌≤◌, ℕ, false, length, slice_index, true};
+ghost use Rattle.rv_model.specs.accesses.Transfers.{memory_stored, registers_loaded};
+ghost use Rattle.rv_model.specs.elements.Elements.{element, is_changed, result_or_ones};
+ghost use Rattle.rv_model.specs.lending.Writes.{HasElement, Writes};
 ghost use Rattle.rv_model.specs.elements.Formulas.{ones};
-ghost use Rattle.rv_model.specs.elements.Writes.{Writes};
 ghost use Rattle.rv_model.specs.memory.Memory.{Memory, bytes_at, put_bytes};
 ghost use Rattle.rv_model.specs.vector.Configuration.{width_bytes};
-ghost use Rattle.vector_memory.specs.SegmentRoom.{HasRoom, access_of, place_in};
+ghost use Rattle.vector_memory.specs.SegmentRoom.{HasRoom, place_in, transfers_to};
 ghost use Rattle.vector_memory.specs.Spans.{Follows, IsBlend, IsSpan};
 
 use crate::segments::Segments;
@@ -68,8 +67,8 @@ fn read_blend<L: Lane>(
     requires blend { IsBlend segments.now body.now span }
     requires size { segments.now.size ≡ width_bytes L.width }
     ensures { (m : Memory) (address : ℕ → ℕ) → bytes.now ≡ bytes_at m span.address span.length → Follows body.now stop address span
-        → file.new ≡ loaded m (place_in segments.now) file.old
-        (transfers (plan (access_of segments.now body.now address) fill_masked_off) body.now.start (stop - body.now.start)) }
+        → file.new ≡ registers_loaded m (place_in segments.now) file.old
+        (transfers_to segments.now body.now address fill_masked_off stop) }
 {
     let part = Body::new(body.is_unmasked(), body.mask(), 0, stop);
     let place = segments.place(0, 0);
@@ -103,8 +102,8 @@ pub(crate) fn read_contiguous(
     requires length { length bytes.now ≡ span.length }
     ensures value { result ≡ true → (m : Memory) (address : ℕ → ℕ) → bytes.now ≡ bytes_at m span.address span.length
         → Follows body.now stop address span
-        → file.new ≡ loaded m (place_in segments.now) file.old
-        (transfers (plan (access_of segments.now body.now address) fill_masked_off) body.now.start (stop - body.now.start)) }
+        → file.new ≡ registers_loaded m (place_in segments.now) file.old
+        (transfers_to segments.now body.now address fill_masked_off stop) }
     ensures unchanged { result ≡ false → file.new ≡ file.old }
 {
     if !is_blend(span, segments, body) {
@@ -138,8 +137,8 @@ fn write_blend<L: Lane>(
     requires size { segments.now.size ≡ width_bytes L.width }
     ensures size { length bytes.new ≡ length bytes.old }
     ensures value { (m : Memory) (address : ℕ → ℕ) → Follows body.now stop address span
-        → put_bytes m span.address bytes.new ≡ stored (put_bytes m span.address bytes.old) (place_in segments.now) file.now
-        (transfers (plan (access_of segments.now body.now address) false) body.now.start (stop - body.now.start)) }
+        → put_bytes m span.address bytes.new ≡ memory_stored (put_bytes m span.address bytes.old) (place_in segments.now) file.now
+        (transfers_to segments.now body.now address false stop) }
 {
     let part = Body::new(body.is_unmasked(), body.mask(), 0, stop);
     let place = segments.place(0, 0);
@@ -164,8 +163,8 @@ pub(crate) fn write_contiguous(
     requires length { length bytes.old ≡ span.length }
     ensures size { length bytes.new ≡ length bytes.old }
     ensures value { result ≡ true → (m : Memory) (address : ℕ → ℕ) → Follows body.now stop address span
-        → put_bytes m span.address bytes.new ≡ stored (put_bytes m span.address bytes.old) (place_in segments.now) file.now
-        (transfers (plan (access_of segments.now body.now address) false) body.now.start (stop - body.now.start)) }
+        → put_bytes m span.address bytes.new ≡ memory_stored (put_bytes m span.address bytes.old) (place_in segments.now) file.now
+        (transfers_to segments.now body.now address false stop) }
     ensures unchanged { result ≡ false → bytes.new ≡ bytes.old }
 {
     if !is_blend(span, segments, body) {

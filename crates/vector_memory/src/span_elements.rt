@@ -1,11 +1,10 @@
 //! Elements copied between the registers and a span of memory, field after field ("V" Vector Extension 1.0, sections 7.4,
 //! 7.5, 7.8 and 7.9).
 ghost use Rattle.std.specs.Prelude.{◌≡◌, ◌-◌, ◌<◌, ◌≤◌, ℕ, false, length};
-ghost use Rattle.rv_model.specs.accesses.Transfers.{loaded, stored, transfers};
-ghost use Rattle.rv_model.specs.accesses.VectorAccess.{plan};
+ghost use Rattle.rv_model.specs.accesses.Transfers.{memory_stored, registers_loaded};
 ghost use Rattle.rv_model.specs.memory.Memory.{Memory, bytes_at, put_bytes};
 ghost use Rattle.vector_memory.specs.FieldOrder.{for_each, load_field, store_field};
-ghost use Rattle.vector_memory.specs.SegmentRoom.{HasRoom, access_of, place_in};
+ghost use Rattle.vector_memory.specs.SegmentRoom.{HasRoom, place_in, segments_access, transfers_to};
 ghost use Rattle.vector_memory.specs.Spans.{Follows, IsSpan};
 
 use crate::segments::Segments;
@@ -31,7 +30,7 @@ fn read_field(
     requires length { length bytes.now ≡ span.length }
     requires field { field < segments.now.fields }
     ensures { (m : Memory) (address : ℕ → ℕ) → bytes.now ≡ bytes_at m span.address span.length → Follows body.now stop address span
-        → file.new ≡ for_each (load_field m (access_of segments.now body.now address) fill_masked_off field) file.old
+        → file.new ≡ for_each (load_field m (segments_access segments.now body.now address) fill_masked_off field) file.old
         body.now.start (stop - body.now.start) }
 {
     let start = body.start();
@@ -67,7 +66,7 @@ fn write_field(
     ensures size { length bytes.new ≡ length bytes.old }
     ensures value { (m : Memory) (address : ℕ → ℕ) → Follows body.now stop address span
         → put_bytes m span.address bytes.new
-        ≡ for_each (store_field file.now (access_of segments.now body.now address) field) (put_bytes m span.address bytes.old)
+        ≡ for_each (store_field file.now (segments_access segments.now body.now address) field) (put_bytes m span.address bytes.old)
         body.now.start (stop - body.now.start) }
 {
     let start = body.start();
@@ -96,8 +95,8 @@ fn read_fields(
     requires span { IsSpan segments.now body.now stop span }
     requires length { length bytes.now ≡ span.length }
     ensures { (m : Memory) (address : ℕ → ℕ) → bytes.now ≡ bytes_at m span.address span.length → Follows body.now stop address span
-        → file.new ≡ loaded m (place_in segments.now) file.old
-        (transfers (plan (access_of segments.now body.now address) fill_masked_off) body.now.start (stop - body.now.start)) }
+        → file.new ≡ registers_loaded m (place_in segments.now) file.old
+        (transfers_to segments.now body.now address fill_masked_off stop) }
 {
     for field in 0..segments.fields {
         read_field(
@@ -129,8 +128,8 @@ fn write_fields(
     requires length { length bytes.old ≡ span.length }
     ensures size { length bytes.new ≡ length bytes.old }
     ensures value { (m : Memory) (address : ℕ → ℕ) → Follows body.now stop address span
-        → put_bytes m span.address bytes.new ≡ stored (put_bytes m span.address bytes.old) (place_in segments.now) file.now
-        (transfers (plan (access_of segments.now body.now address) false) body.now.start (stop - body.now.start)) }
+        → put_bytes m span.address bytes.new ≡ memory_stored (put_bytes m span.address bytes.old) (place_in segments.now) file.now
+        (transfers_to segments.now body.now address false stop) }
 {
     for field in 0..segments.fields {
         write_field(file, segments, field, body, stop, span, bytes);
@@ -154,8 +153,8 @@ pub(crate) fn read_elements(
     requires span { IsSpan segments.now body.now stop span }
     requires length { length bytes.now ≡ span.length }
     ensures { (m : Memory) (address : ℕ → ℕ) → bytes.now ≡ bytes_at m span.address span.length → Follows body.now stop address span
-        → file.new ≡ loaded m (place_in segments.now) file.old
-        (transfers (plan (access_of segments.now body.now address) fill) body.now.start (stop - body.now.start)) }
+        → file.new ≡ registers_loaded m (place_in segments.now) file.old
+        (transfers_to segments.now body.now address fill stop) }
 {
     // A copy of its own, which no write to the registers can change: so it is read once.
     let body = &body.copied();
@@ -184,8 +183,8 @@ pub(crate) fn write_elements(
     requires length { length bytes.old ≡ span.length }
     ensures size { length bytes.new ≡ length bytes.old }
     ensures value { (m : Memory) (address : ℕ → ℕ) → Follows body.now stop address span
-        → put_bytes m span.address bytes.new ≡ stored (put_bytes m span.address bytes.old) (place_in segments.now) file.now
-        (transfers (plan (access_of segments.now body.now address) false) body.now.start (stop - body.now.start)) }
+        → put_bytes m span.address bytes.new ≡ memory_stored (put_bytes m span.address bytes.old) (place_in segments.now) file.now
+        (transfers_to segments.now body.now address false stop) }
 {
     // A copy of its own, which no write to the span can change: so it is read once.
     let body = &body.copied();

@@ -1,11 +1,10 @@
 //! Loads and stores whose bytes lie close together: they are read and written at once, and their elements are copied
 //! from and to a buffer ("V" Vector Extension 1.0, sections 7.4, 7.5, 7.8 and 7.9).
-ghost use Rattle.std.specs.Prelude.{◌≡◌, ◌+◌, ◌-◌, ◌<◌, ◌≤◌, ℕ, IfSome, length, true, false};
-ghost use Rattle.rv_model.specs.accesses.Transfers.{loaded, stored, transfers};
-ghost use Rattle.rv_model.specs.accesses.VectorAccess.{plan};
+ghost use Rattle.std.specs.Prelude.{◌≡◌, ◌+◌, ◌<◌, ◌≤◌, ℕ, IfSome, length, true, false};
+ghost use Rattle.rv_model.specs.accesses.Transfers.{memory_stored, registers_loaded};
 ghost use Rattle.rv_model.specs.declared.memory.Access.TheVariants.{Load, Store};
 ghost use Rattle.rv_model.specs.memory.Memory.{Memory, can_access, put_bytes};
-ghost use Rattle.vector_memory.specs.SegmentRoom.{HasRoom, access_of, place_in};
+ghost use Rattle.vector_memory.specs.SegmentRoom.{HasRoom, place_in, transfers_to};
 ghost use Rattle.vector_memory.specs.Spans.{Follows, IsSpan};
 
 use crate::addresses::Addresses;
@@ -80,8 +79,8 @@ impl Span {
         requires span { IsSpan segments.now body.now stop self.now }
         ensures allowed { result ≡ true → can_access Load (M.memory memory.now) self.now.address self.now.length ≡ true }
         ensures value { result ≡ true → (address : ℕ → ℕ) → Follows body.now stop address self.now
-            → file.new ≡ loaded (M.memory memory.now) (place_in segments.now) file.old
-            (transfers (plan (access_of segments.now body.now address) fill_masked_off) body.now.start (stop - body.now.start)) }
+            → file.new ≡ registers_loaded (M.memory memory.now) (place_in segments.now) file.old
+            (transfers_to segments.now body.now address fill_masked_off stop) }
         ensures unchanged { result ≡ false → file.new ≡ file.old }
     {
         let mut buffer = [0; GROUP_BYTES];
@@ -112,8 +111,8 @@ impl Span {
         requires length { length bytes.old ≡ self.now.length }
         ensures size { length bytes.new ≡ length bytes.old }
         ensures value { (m : Memory) (address : ℕ → ℕ) → Follows body.now stop address self.now
-            → put_bytes m self.now.address bytes.new ≡ stored (put_bytes m self.now.address bytes.old) (place_in segments.now) file.now
-            (transfers (plan (access_of segments.now body.now address) false) body.now.start (stop - body.now.start)) }
+            → put_bytes m self.now.address bytes.new ≡ memory_stored (put_bytes m self.now.address bytes.old) (place_in segments.now) file.now
+            (transfers_to segments.now body.now address false stop) }
     {
         if !write_contiguous(file, segments, body, stop, *self, bytes) {
             write_elements(file, segments, body, stop, *self, bytes);
@@ -135,8 +134,8 @@ impl Span {
         requires span { IsSpan segments.now body.now stop self.now }
         ensures allowed { result ≡ true → can_access Store (M.memory memory.old) self.now.address self.now.length ≡ true }
         ensures value { result ≡ true → (address : ℕ → ℕ) → Follows body.now stop address self.now
-            → M.memory memory.new ≡ stored (M.memory memory.old) (place_in segments.now) file.now
-            (transfers (plan (access_of segments.now body.now address) false) body.now.start (stop - body.now.start)) }
+            → M.memory memory.new ≡ memory_stored (M.memory memory.old) (place_in segments.now) file.now
+            (transfers_to segments.now body.now address false stop) }
         ensures others { result ≡ true → memory.new ≡ M.with_memory memory.old (M.memory memory.new) }
         ensures unchanged { result ≡ false → memory.new ≡ memory.old }
     {

@@ -1,10 +1,10 @@
 //! Stores, index by index ("V" Vector Extension 1.0, sections 7.4 to 7.9 and 17.1).
 ghost use Rattle.std.specs.Prelude.{◌≡◌, ◌↔◌, ◌+◌, ◌≤◌, ◌<◌, ℕ, true, false, IsOk, IfErr, OnOk, OnErr, IfSome, IfNone};
 ghost use Rattle.rv_model.specs.declared.memory.Access.TheVariants.{Store};
-ghost use Rattle.rv_model.specs.accesses.Transfers.{are_allowed, bad_address, stored};
+ghost use Rattle.rv_model.specs.accesses.Transfers.{are_allowed, bad_address, memory_stored};
 ghost use Rattle.rv_model.specs.accesses.VectorAccess.{plan};
 ghost use Rattle.vector_memory.specs.Moves.{IsStored};
-ghost use Rattle.vector_memory.specs.SegmentRoom.{HasRoom, StopsBefore, access_of, place_in};
+ghost use Rattle.vector_memory.specs.SegmentRoom.{HasRoom, StopsBefore, segments_access, place_in};
 
 use crate::addresses::Addresses;
 use crate::ends::end_without_fault;
@@ -28,11 +28,11 @@ fn store_index<M: UserBytes, A: Addresses>(
     requires count { index < GROUP_BYTES }
     requires address { A.has addresses.now index }
     ensures ok { IsOk result ↔ (are_allowed Store (M.memory memory.old)
-        (plan (access_of segments.now body.now (A.address addresses.now)) false index) ≡ true) }
+        (plan (segments_access segments.now body.now (A.address addresses.now)) false index) ≡ true) }
     ensures fault { IfErr result (λ fault. fault.addr ≡ bad_address Store (M.memory memory.old)
-        (plan (access_of segments.now body.now (A.address addresses.now)) false index)) }
-    ensures value { OnOk result (M.memory memory.new ≡ stored (M.memory memory.old) (place_in segments.now) file.now
-        (plan (access_of segments.now body.now (A.address addresses.now)) false index)) }
+        (plan (segments_access segments.now body.now (A.address addresses.now)) false index)) }
+    ensures value { OnOk result (M.memory memory.new ≡ memory_stored (M.memory memory.old) (place_in segments.now) file.now
+        (plan (segments_access segments.now body.now (A.address addresses.now)) false index)) }
     ensures others { OnOk result (memory.new ≡ M.with_memory memory.old (M.memory memory.new)) }
     ensures unchanged { OnErr result (memory.new ≡ memory.old) }
 {
@@ -56,7 +56,7 @@ fn store_each<M: UserBytes, A: Addresses>(
     requires room { HasRoom segments.now body.now.end }
     requires count { body.now.end ≤ GROUP_BYTES }
     requires addresses { (i : ℕ) → i < body.now.end → A.has addresses.now i }
-    ensures stored { IsStored limit (access_of segments.now body.now (A.address addresses.now)) file.now
+    ensures stored { IsStored limit (segments_access segments.now body.now (A.address addresses.now)) file.now
         (M.memory memory.old) result (M.memory memory.new) }
     ensures least { StopsBefore body.now.end result }
     ensures others { memory.new ≡ M.with_memory memory.old (M.memory memory.new) }
@@ -86,7 +86,7 @@ fn store_span<M: UserBytes, A: Addresses>(
     requires room { HasRoom segments.now body.now.end }
     requires count { body.now.end ≤ GROUP_BYTES }
     requires addresses { (i : ℕ) → i < body.now.end → A.has addresses.now i }
-    ensures stored { IfSome result (λ end. IsStored limit (access_of segments.now body.now (A.address addresses.now)) file.now
+    ensures stored { IfSome result (λ end. IsStored limit (segments_access segments.now body.now (A.address addresses.now)) file.now
         (M.memory memory.old) end (M.memory memory.new)) }
     ensures others { IfSome result (λ end. memory.new ≡ M.with_memory memory.old (M.memory memory.new)) }
     ensures least { IfSome result (StopsBefore body.now.end) }
@@ -113,7 +113,7 @@ pub(crate) fn store<M: UserBytes, A: Addresses>(
     requires room { HasRoom segments.now body.now.end }
     requires count { body.now.end ≤ GROUP_BYTES }
     requires addresses { (i : ℕ) → i < body.now.end → A.has addresses.now i }
-    ensures stored { IsStored limit (access_of segments.now body.now (A.address addresses.now)) file.now
+    ensures stored { IsStored limit (segments_access segments.now body.now (A.address addresses.now)) file.now
         (M.memory memory.old) result (M.memory memory.new) }
     ensures least { StopsBefore body.now.end result }
     ensures others { memory.new ≡ M.with_memory memory.old (M.memory memory.new) }

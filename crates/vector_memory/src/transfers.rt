@@ -1,12 +1,14 @@
 //! Loads and stores of segments at one distance from one another: all but the indexed ones ("V" Vector Extension 1.0,
 //! sections 7.4, 7.5 and 7.7 to 7.9).
 ghost use Rattle.std.specs.Prelude.{◌≡◌, ◌+◌, ◌*◌, ◌%◌, ◌^◌, ◌≤◌, Bool, IfSome, List, false, true, ℕ};
-ghost use Rattle.rv_model.specs.accesses.AccessRuns.{load_run, runs_to, store_run};
+ghost use Rattle.rv_model.specs.accesses.AccessRuns.{load_run, store_run};
+ghost use Rattle.rv_model.specs.declared.instructions.operations.UnitOp.{UnitOp as Operation};
 ghost use Rattle.rv_model.specs.declared.step.memory_end.MemEnd.TheVariants.{Done};
 ghost use Rattle.rv_model.specs.elements.Elements.{Body as BodyOf};
 ghost use Rattle.vector_memory.specs.Blocks.{IsBlock};
 ghost use Rattle.vector_memory.specs.Distances.{transfer_run};
-ghost use Rattle.vector_memory.specs.SegmentRoom.{HasRoom, access_of};
+ghost use Rattle.vector_memory.specs.Runs.{RunLeaves};
+ghost use Rattle.vector_memory.specs.SegmentRoom.{HasRoom, operation_access};
 ghost use Rattle.vector_memory.specs.declared.segments.Segments.{Segments as SegmentsOf};
 
 use crate::addresses::Strided;
@@ -19,13 +21,12 @@ use reg_groups::mask_register;
 use rv_model::instructions::operations::UnitOp;
 use rv_model::{FILE_BYTES, GROUP_BYTES, MemEnd, VLENB, VState};
 
-/// What such a load or store does: whether none of its segments is masked off, whether those that are become all ones, the
-/// segments and their count, and where they lie in memory.
+/// What such a load or store does: whether none of its segments is masked off, the segments and their count, and where they
+/// lie in memory.
 #[derive(Clone, Copy)]
 pub(crate) struct Transfer {
     pub op: UnitOp,
     pub unmasked: bool,
-    pub fill_masked_off: bool,
     pub segments: Segments,
     pub addresses: Strided,
     pub count: usize,
@@ -36,10 +37,11 @@ pub(crate) struct Transfer {
 fn load_whole<M: UserBytes>(block: &Block, memory: &M, state: &mut VState) -> bool
     requires inside { block.now.place + block.now.length ≤ FILE_BYTES }
     requires first { state.old.vstart ≡ 0 }
-    ensures done { result ≡ true → (s : SegmentsOf) (body : BodyOf) (address : ℕ → ℕ) (limit : ℕ) (first_only fill : Bool)
+    ensures done { result ≡ true
+        → (op : Operation) (s : SegmentsOf) (body : BodyOf) (address : ℕ → ℕ) (limit : ℕ) (fill : Bool)
         → IsBlock s body address body.end block.now → body.start ≡ 0 → body.end ≤ limit
-        → load_run limit first_only fill (access_of s body address) state.old (M.memory memory.now)
-        ≡ runs_to Done state.new (M.memory memory.now) }
+        → RunLeaves (load_run limit fill (operation_access op s body address) state.old (M.memory memory.now))
+        Done state.new (M.memory memory.now) }
     ensures unchanged { result ≡ false → state.new ≡ state.old }
 {
     let Ok(()) = block.load(memory, &mut state.file) else {
@@ -53,10 +55,10 @@ fn load_whole<M: UserBytes>(block: &Block, memory: &M, state: &mut VState) -> bo
 fn store_whole<M: UserBytes>(block: &Block, memory: &mut M, state: &VState) -> bool
     requires inside { block.now.place + block.now.length ≤ FILE_BYTES }
     requires first { state.now.vstart ≡ 0 }
-    ensures done { result ≡ true → (s : SegmentsOf) (body : BodyOf) (address : ℕ → ℕ) (limit : ℕ)
+    ensures done { result ≡ true → (op : Operation) (s : SegmentsOf) (body : BodyOf) (address : ℕ → ℕ) (limit : ℕ)
         → IsBlock s body address body.end block.now → body.start ≡ 0 → body.end ≤ limit
-        → store_run limit (access_of s body address) state.now (M.memory memory.old)
-        ≡ runs_to Done state.now (M.memory memory.new) }
+        → RunLeaves (store_run limit (operation_access op s body address) state.now (M.memory memory.old))
+        Done state.now (M.memory memory.new) }
     ensures others { memory.new ≡ M.with_memory memory.old (M.memory memory.new) }
     ensures unchanged { result ≡ false → memory.new ≡ memory.old }
 {
@@ -106,8 +108,9 @@ impl Transfer {
     ) -> bool
         requires room { HasRoom self.now.segments self.now.count }
         requires count { self.now.count ≤ GROUP_BYTES }
-        ensures done { result ≡ true → transfer_run limit self.now state.old (M.memory memory.old)
-            ≡ runs_to Done state.new (M.memory memory.new) }
+        ensures done { result ≡ true → (fill : Bool)
+            → RunLeaves (transfer_run limit fill self.now state.old (M.memory memory.old))
+            Done state.new (M.memory memory.new) }
         ensures others { memory.new ≡ M.with_memory memory.old (M.memory memory.new) }
         ensures unchanged_state { result ≡ false → state.new ≡ state.old }
         ensures unchanged_memory { result ≡ false → memory.new ≡ memory.old }
@@ -122,26 +125,24 @@ impl Transfer {
         }
     }
 
-    /// Carries it out segment by segment, as far as so many indices.
+    /// Carries it out segment by segment.
     pub(crate) fn run_segments<M: UserBytes>(
         &self,
-        limit: usize,
+        extent: Extent,
         memory: &mut M,
         state: &mut VState,
     ) -> MemEnd
         requires room { HasRoom self.now.segments self.now.count }
         requires count { self.now.count ≤ GROUP_BYTES }
         requires length { self.now.op ≡ UnitOp.FaultOnlyFirst → self.now.count ≡ state.old.conf.vl }
-        ensures run { transfer_run limit self.now state.old (M.memory memory.old) ≡ runs_to result state.new (M.memory memory.new) }
+        ensures run { RunLeaves
+            (transfer_run extent.limit extent.fill_masked_off self.now state.old (M.memory memory.old))
+            result state.new (M.memory memory.new) }
         ensures others { memory.new ≡ M.with_memory memory.old (M.memory memory.new) }
     {
         let mask = mask_register(&state.file);
         let start = usize::from(state.vstart);
         let body = Body::new(self.unmasked, &mask, start, self.count);
-        let extent = Extent {
-            limit,
-            fill_masked_off: self.fill_masked_off,
-        };
         run_unit(
             self.op,
             &self.segments,

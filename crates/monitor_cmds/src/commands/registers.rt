@@ -3,8 +3,7 @@
 ghost use Rattle.std.specs.Prelude.{◌≡◌, [], ◌∷◌, ◌++◌, ◌+◌, ◌*◌, ◌/◌, ◌<◌, ◌≤◌, length, codes, decimal, flat_map};
 ghost use Rattle.std.specs.List.{range_with_len};
 ghost use Rattle.rv_model.specs.commands.Printing.{hex16};
-ghost use Rattle.rv_model.specs.commands.Registers.{set_args, setpc_args, vreg_args, vset_args, policy_args, registers_named};
-ghost use Rattle.rv_model.specs.commands.Registers.{register_text, register_line, regs_lines, element_text, vreg_line, vcsr_line};
+ghost use Rattle.rv_model.specs.commands.Registers.{set_args, setpc_args, vreg_args, vset_args, policy_args, registers_named, register_text, register_line, regs_lines, element_text, vreg_line, vcsr_line};
 ghost use Rattle.rv_model.specs.instructions.BitFields.{flag_bit};
 ghost use Rattle.rv_model.specs.text.Lines.{tagged, text};
 ghost use Rattle.rv_model.specs.text.Words.{words};

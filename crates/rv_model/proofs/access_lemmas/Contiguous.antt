@@ -3,18 +3,18 @@ use Rattle.std.proofs.Common.{◌≡◌, ℕ, zero, suc, ◌+◌, ◌*◌, ◌-�
 use Rattle.std.specs.List.{range_with_len}
 use Rattle.std.specs.Prelude.{nat_lt}
 use Rattle.std.specs.Simd.Lanes.{chunk, put_chunk}
-use Rattle.std.proofs.lemmas.List.{append-nil, drop-drop, length-take, map-append}
+use Rattle.std.proofs.lemmas.List.{drop-drop, length-take, map-append}
 use Rattle.std.proofs.lemmas.Bool.{cases_lt, le-ltb, lt-ltb}
 use Rattle.std.proofs.lemmas.Nat.{mul-add-lt, mul-le}
 use Rattle.std.proofs.Math.Nat.{add-mul, mod-eq_of_lt}
 use Rattle.std.proofs.Math.Seq.{take-add}
 use Rattle.rv_model.specs.declared.memory.Access.{Access}
 use Rattle.rv_model.specs.declared.step.memory_end.MemEnd.TheVariants.{Done, Cut}
-use Rattle.rv_model.specs.accesses.Contiguous.{IsContiguous}
-use Rattle.rv_model.specs.accesses.Transfers.{Plan, Transfer, are_allowed, loaded, stored, transfers}
-use Rattle.rv_model.specs.accesses.VectorAccess.{VectorAccess, place, plan}
+use Rattle.rv_model.specs.lending.Contiguous.{IsContiguous}
+use Rattle.rv_model.specs.accesses.Transfers.{Moved, Plan, Transfer, are_allowed, registers_loaded, memory_stored, transfers}
+use Rattle.rv_model.specs.accesses.VectorAccess.{VectorAccess, element_start, plan}
 use Rattle.rv_model.specs.elements.Elements.{is_let, mask_bit}
-use Rattle.rv_model.specs.memory.Memory.{Memory, bytes_at, byte_at, can_access, put_bytes}
+use Rattle.rv_model.specs.memory.Memory.{Memory, bytes_at, can_access, put_bytes, memory_byte}
 use Rattle.rv_model.proofs.access_lemmas.Moves.{loaded-append, loaded_none, loaded_one, stored-append, stored_none, stored_one}
 use Rattle.rv_model.proofs.access_lemmas.Segments.{plan_active}
 use Rattle.rv_model.proofs.access_lemmas.Stops.{AllAllowed, Stopped, stops_cut, stops_done, transfers_more}
@@ -46,7 +46,7 @@ range_after a next (suc n) k e =
 
 bytes_after : (m : Memory) (a n k : ℕ) → bytes_at m a (n + k) ≡ bytes_at m a n ++ bytes_at m (a + n) k
 unfolding bytes_at
-bytes_after m a n k = ap (map (byte_at m)) (range_after a (a + n) n k refl) ∙ map-append (byte_at m) (range_with_len a n) (range_with_len (a + n) k)
+bytes_after m a n k = ap (map (memory_byte m)) (range_after a (a + n) n k refl) ∙ map-append (memory_byte m) (range_with_len a n) (range_with_len (a + n) k)
 
 no_bytes : (m : Memory) (a : ℕ) → bytes_at m a 0 ≡ []
 unfolding bytes_at
@@ -59,7 +59,7 @@ chunk_after at n k file = take-add n k (drop at file) ∙ ap (λ xs. take n (dro
 
 -- the transfer of an element alone
 abbrev element : ℕ → ℕ → ℕ → Transfer
-element i address size = record { index = i; field = 0; address = address; size = size; ones = 0 }
+element i address size = record { index = i; field = 0; size = size; kind = Moved address }
 
 module _ (a : VectorAccess) (fill : Bool) (start n address : ℕ) (c : IsContiguous a start n address) where
   no_wrap : (k : ℕ) → k < n → address + k * a.size < 2 ^ 64
@@ -74,7 +74,7 @@ module _ (a : VectorAccess) (fill : Bool) (start n address : ℕ) (c : IsContigu
       let i : ℕ = start + k in
       let first : a.address i + 0 * a.size ≡ address + k * a.size = omega (arith, c.follow k h) in
       plan_active a fill i (is_let_all i)
-      ∙ ap (λ fields. map (λ f. record { index = i; field = f; address = (a.address i + f * a.size) % 2 ^ 64; size = a.size; ones = 0 }) (range_with_len 0 fields)) c.alone
+      ∙ ap (λ fields. map (λ f. record { index = i; field = f; size = a.size; kind = Moved ((a.address i + f * a.size) % 2 ^ 64) }) (range_with_len 0 fields)) c.alone
       ∙ ap (λ x. element i x a.size ∷ []) (ap (λ x. x % 2 ^ 64) first ∙ mod-eq_of_lt (no_wrap k h))
 
   -- an index more
@@ -108,64 +108,63 @@ module _ (a : VectorAccess) (fill : Bool) (start n address : ℕ) (c : IsContigu
 
   -- ---- what is left
 
-  element_place : (k x : ℕ) → place a (element (start + k) x a.size) ≡ place a (element start address a.size) + k * a.size
+  element_place : (k x : ℕ) → element_start a (element (start + k) x a.size) ≡ element_start a (element start address a.size) + k * a.size
   element_place k x = omega (arith, add-mul start k a.size)
 
   -- of a load
   module _ (m : Memory) (file : List ℕ) where
     loaded_so_far : (k : ℕ) → k ≤ n
-        → loaded m (place a) file (so_far k) ≡ put_chunk (place a (element start address a.size)) file (bytes_at m address (k * a.size))
+        → registers_loaded m (element_start a) file (so_far k) ≡ put_chunk (element_start a (element start address a.size)) file (bytes_at m address (k * a.size))
     loaded_so_far zero h =
         let none : 0 * a.size ≡ 0 = omega arith in
-        ap (loaded m (place a) file) no_index ∙ loaded_none m (place a) file
-        ∙ sym (ap (λ x. put_chunk (place a (element start address a.size)) file (bytes_at m address x)) none
-        ∙ ap (put_chunk (place a (element start address a.size)) file) (no_bytes m address)
-        ∙ put_none (place a (element start address a.size)) file)
+        ap (registers_loaded m (element_start a) file) no_index ∙ loaded_none m (element_start a) file
+        ∙ sym (ap (λ x. put_chunk (element_start a (element start address a.size)) file (bytes_at m address x)) none
+        ∙ ap (put_chunk (element_start a (element start address a.size)) file) (no_bytes m address)
+        ∙ put_none (element_start a (element start address a.size)) file)
     loaded_so_far (suc k) h =
-        let at : ℕ = place a (element start address a.size) in
+        let at : ℕ = element_start a (element start address a.size) in
         let t = element (start + k) (address + k * a.size) a.size in
         let before = bytes_at m address (k * a.size) in
         let count : suc k * a.size ≡ k * a.size + a.size = omega arith in
-        ap (loaded m (place a) file) (index_more k (omega arith))
-        ∙ loaded-append m (place a) file (so_far k) (t ∷ [])
-        ∙ loaded_one m (place a) (loaded m (place a) file (so_far k)) t
-        ∙ ap (λ xs. put_chunk (place a t) (loaded m (place a) file (so_far k)) xs) (append-nil (bytes_at m (address + k * a.size) a.size))
-        ∙ ap (λ xs. put_chunk (place a t) xs (bytes_at m (address + k * a.size) a.size)) (loaded_so_far k (omega arith))
-        ∙ put_after at (place a t) file before (bytes_at m (address + k * a.size) a.size)
+        ap (registers_loaded m (element_start a) file) (index_more k (omega arith))
+        ∙ loaded-append m (element_start a) file (so_far k) (t ∷ [])
+        ∙ loaded_one m (element_start a) (registers_loaded m (element_start a) file (so_far k)) t
+        ∙ ap (λ xs. put_chunk (element_start a t) xs (bytes_at m (address + k * a.size) a.size)) (loaded_so_far k (omega arith))
+        ∙ put_after at (element_start a t) file before (bytes_at m (address + k * a.size) a.size)
         (element_place k (address + k * a.size) ∙ ap (λ x. at + x) (sym (length-bytes_at m address (k * a.size))))
         ∙ ap (put_chunk at file) (sym (ap (bytes_at m address) count ∙ bytes_after m address (k * a.size) a.size))
 
-    pub block_loaded : loaded m (place a) file (transfers (plan a fill) start n)
-        ≡ put_chunk (place a (element start address a.size)) file (bytes_at m address (n * a.size))
+    pub block_loaded : registers_loaded m (element_start a) file (transfers (plan a fill) start n)
+        ≡ put_chunk (element_start a (element start address a.size)) file (bytes_at m address (n * a.size))
     block_loaded = loaded_so_far n (omega arith)
 
     -- of a store
-    stored_so_far : length (chunk (place a (element start address a.size)) (n * a.size) file) ≡ n * a.size → (k : ℕ) → k ≤ n
-        → stored m (place a) file (so_far k) ≡ put_bytes m address (chunk (place a (element start address a.size)) (k * a.size) file)
+    stored_so_far : length (chunk (element_start a (element start address a.size)) (n * a.size) file) ≡ n * a.size → (k : ℕ) → k ≤ n
+        → memory_stored m (element_start a) file (so_far k) ≡ put_bytes m address (chunk (element_start a (element start address a.size)) (k * a.size) file)
     stored_so_far whole zero h =
         let none : 0 * a.size ≡ 0 = omega arith in
-        ap (stored m (place a) file) no_index ∙ stored_none m (place a) file
-        ∙ sym (ap (λ x. put_bytes m address (chunk (place a (element start address a.size)) x file)) none ∙ put_no_bytes m address)
+        ap (memory_stored m (element_start a) file) no_index ∙ stored_none m (element_start a) file
+        ∙ sym (ap (λ x. put_bytes m address (chunk (element_start a (element start address a.size)) x file)) none ∙ put_no_bytes m address)
     stored_so_far whole (suc k) h =
-        let at : ℕ = place a (element start address a.size) in
+        let at : ℕ = element_start a (element start address a.size) in
         let t = element (start + k) (address + k * a.size) a.size in
         let count : suc k * a.size ≡ k * a.size + a.size = omega arith in
         let before = chunk at (k * a.size) file in
         let most : k * a.size ≤ n * a.size = mul-le k a.size n a.size (omega (arith, h)) (omega arith) in
         let size : length before ≡ k * a.size = omega (arith, length-take (k * a.size) (drop at file), length-take (n * a.size) (drop at file), whole, most) in
-        ap (stored m (place a) file) (index_more k (omega arith))
-        ∙ stored-append m (place a) file (so_far k) (t ∷ [])
-        ∙ stored_one (stored m (place a) file (so_far k)) (place a) file t
-        ∙ ap (λ x. put_bytes x (address + k * a.size) (chunk (place a t) a.size file)) (stored_so_far whole k (omega arith))
+        ap (memory_stored m (element_start a) file) (index_more k (omega arith))
+        ∙ stored-append m (element_start a) file (so_far k) (t ∷ [])
+        ∙ stored_one (memory_stored m (element_start a) file (so_far k)) (element_start a) file t
+        ∙ ap (λ x. put_bytes x (address + k * a.size) (chunk (element_start a t) a.size file)) (stored_so_far whole k (omega arith))
         ∙ ap (λ x. put_bytes (put_bytes m address before) (address + k * a.size) (chunk x a.size file)) (element_place k (address + k * a.size))
         ∙ ap (λ x. put_bytes (put_bytes m address before) (address + x) (chunk (at + k * a.size) a.size file)) (sym size)
         ∙ sym (ap (λ x. put_bytes m address (chunk at x file)) count
         ∙ ap (put_bytes m address) (chunk_after at (k * a.size) a.size file)
         ∙ put_bytes-append m address before (chunk (at + k * a.size) a.size file))
 
-    pub block_stored : length (chunk (place a (element start address a.size)) (n * a.size) file) ≡ n * a.size
-        → stored m (place a) file (transfers (plan a fill) start n)
-        ≡ put_bytes m address (chunk (place a (element start address a.size)) (n * a.size) file)
+    pub block_stored : length (chunk (element_start a (element start address a.size)) (n * a.size) file) ≡ n * a.size
+        → memory_stored m (element_start a) file (transfers (plan a fill) start n)
+        ≡ put_bytes m address (chunk (element_start a (element start address a.size)) (n * a.size) file)
     block_stored whole = stored_so_far whole n (omega arith)
 
 -- ---- how an instruction ends where no index faults

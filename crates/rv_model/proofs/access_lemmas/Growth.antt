@@ -1,6 +1,5 @@
 -- Memories that grow between two runs of a vector load or store.
 use Rattle.std.proofs.Common.{◌≡◌, ℕ, zero, suc, ◌+◌, ◌-◌, ◌<◌, ◌≤◌, ◌⊎◌, inl, inr, true, false, cond, List, [], ◌∷◌, ◌++◌, length, drop, Option, Some, None, refl, sym, ◌∙◌, ap, subst, arith, length-take}
-use Rattle.std.specs.Prelude.{replicate}
 use Rattle.std.specs.Cmp.{nat_cmp_total}
 use Rattle.std.specs.FinMap.{entries, find, get, get-entries, get-from_entries}
 use Rattle.std.specs.List.{list_all, range_with_len}
@@ -9,10 +8,10 @@ use Rattle.std.specs.Ordering.{eq_by_cmp, nat_cmp}
 use Rattle.std.specs.Simd.Lanes.{chunk, put_chunk}
 use Rattle.std.proofs.lemmas.Bool.{and_from, and_parts, cases_eq, cases_lt}
 use Rattle.rv_model.specs.accesses.Restarts.{Extends, OverlayIsEither, OverlayOfGrown, overlay}
-use Rattle.rv_model.specs.accesses.Transfers.{Transfer, are_allowed, bytes_loaded, is_allowed, loaded, stored}
+use Rattle.rv_model.specs.accesses.Transfers.{Moved, Ones, Transfer, TransferKind, are_allowed, bytes_loaded, can_move, can_transfer, registers_loaded, memory_stored, with_element}
 use Rattle.rv_model.specs.declared.memory.Access.{Access}
 use Rattle.rv_model.specs.declared.memory.Access.TheVariants.{Load, Monitor, Store}
-use Rattle.rv_model.specs.memory.Memory.{Cell, Memory, byte_at, bytes_at, can_access, permits, put_byte, put_bytes}
+use Rattle.rv_model.specs.memory.Memory.{Cell, Memory, bytes_at, can_access, permits, put_byte, put_bytes, memory_byte}
 use Rattle.rv_model.specs.memory.Memory as memory
 use Rattle.rv_model.proofs.access_lemmas.Moves.{stored_allows}
 use Rattle.rv_model.proofs.memory_lemmas.Memory.{can_access-at, get-put_byte_other, get-put_byte_same, get-put_bytes_outside, same_memory, with_byte}
@@ -23,37 +22,37 @@ mapped : (access : Access) (o : Option Cell) → option_map_or (λ c. permits ac
 mapped access None h = absurd (cc)
 mapped access (Some c) h = (c, refl)
 
-allowed_mapped : (access : Access) (m : Memory) (x : ℕ) → memory.is_allowed access m x ≡ true → (c : Cell) × (get m x ≡ Some c)
-unfolding memory.is_allowed
+allowed_mapped : (access : Access) (m : Memory) (x : ℕ) → memory.can_access_byte access m x ≡ true → (c : Cell) × (get m x ≡ Some c)
+unfolding memory.can_access_byte
 allowed_mapped access m x h = mapped access (get m x) h
 
 monitored : (o : Option Cell) (c : Cell) → o ≡ Some c → option_map_or (λ c. permits Monitor c.permissions) o false ≡ true
 monitored None c e = absurd (cc)
 monitored (Some d) c e = refl
 
-mapped_allowed : (m : Memory) (x : ℕ) (c : Cell) → get m x ≡ Some c → memory.is_allowed Monitor m x ≡ true
-unfolding memory.is_allowed
+mapped_allowed : (m : Memory) (x : ℕ) (c : Cell) → get m x ≡ Some c → memory.can_access_byte Monitor m x ≡ true
+unfolding memory.can_access_byte
 mapped_allowed m x c e = monitored (get m x) c e
 
 -- ---- what was allowed stays so, and has the same bytes
 
-extends_at : (access : Access) (m more : Memory) (x : ℕ) → Extends m more → memory.is_allowed access m x ≡ true → get more x ≡ get m x
+extends_at : (access : Access) (m more : Memory) (x : ℕ) → Extends m more → memory.can_access_byte access m x ≡ true → get more x ≡ get m x
 extends_at access m more x grown h =
     let cell = allowed_mapped access m x h in grown x cell.0 cell.1 ∙ sym cell.1
 
-pub allowed_by_get : (access : Access) (m more : Memory) (x : ℕ) → get more x ≡ get m x → memory.is_allowed access more x ≡ memory.is_allowed access m x
-unfolding memory.is_allowed
+pub allowed_by_get : (access : Access) (m more : Memory) (x : ℕ) → get more x ≡ get m x → memory.can_access_byte access more x ≡ memory.can_access_byte access m x
+unfolding memory.can_access_byte
 allowed_by_get access m more x e = ap (λ (o : Option Cell). option_map_or (λ c. permits access c.permissions) o false) e
 
-pub byte_by_get : (m more : Memory) (x : ℕ) → get more x ≡ get m x → byte_at more x ≡ byte_at m x
-unfolding byte_at
+pub byte_by_get : (m more : Memory) (x : ℕ) → get more x ≡ get m x → memory_byte more x ≡ memory_byte m x
+unfolding memory_byte
 byte_by_get m more x e = ap (λ (o : Option Cell). option_map_or (λ c. c.byte) o 0) e
 
 pub can_access_extends : (access : Access) (m more : Memory) (a n : ℕ) → Extends m more → can_access access m a n ≡ true → can_access access more a n ≡ true
 unfolding can_access
 can_access_extends access m more a zero grown h = refl
 can_access_extends access m more a (suc n) grown h =
-    let parts = and_parts (memory.is_allowed access m a) (list_all (memory.is_allowed access m) (range_with_len (a + 1) n)) h in
+    let parts = and_parts (memory.can_access_byte access m a) (list_all (memory.can_access_byte access m) (range_with_len (a + 1) n)) h in
     and_from _ _ (allowed_by_get access m more a (extends_at access m more a grown parts.0) ∙ parts.0)
     (can_access_extends access m more (a + 1) n grown parts.1)
 
@@ -61,27 +60,34 @@ pub bytes_at_extends : (access : Access) (m more : Memory) (a n : ℕ) → Exten
 unfolding can_access bytes_at
 bytes_at_extends access m more a zero grown h = refl
 bytes_at_extends access m more a (suc n) grown h =
-    let parts = and_parts (memory.is_allowed access m a) (list_all (memory.is_allowed access m) (range_with_len (a + 1) n)) h in
+    let parts = and_parts (memory.can_access_byte access m a) (list_all (memory.can_access_byte access m) (range_with_len (a + 1) n)) h in
     let here = byte_by_get m more a (extends_at access m more a grown parts.0) in
     let rest = bytes_at_extends access m more (a + 1) n grown parts.1 in
     cc
+
+can_move_extends : (access : Access) (m more : Memory) (size : ℕ) (kind : TransferKind) → Extends m more → can_move access m size kind ≡ true → can_move access more size kind ≡ true
+can_move_extends access m more size (Moved address) grown h = can_access_extends access m more address size grown h
+can_move_extends access m more size Ones grown h = refl
+
+bytes_loaded_extends : (m more : Memory) (size : ℕ) (kind : TransferKind) → Extends m more → can_move Load m size kind ≡ true → bytes_loaded more size kind ≡ bytes_loaded m size kind
+bytes_loaded_extends m more size (Moved address) grown h = bytes_at_extends Load m more address size grown h
+bytes_loaded_extends m more size Ones grown h = refl
 
 pub are_allowed_extends : (access : Access) (m more : Memory) (ts : List Transfer) → Extends m more → are_allowed access m ts ≡ true → are_allowed access more ts ≡ true
 unfolding are_allowed
 are_allowed_extends access m more [] grown h = refl
 are_allowed_extends access m more (t ∷ ts) grown h =
-    let parts = and_parts (is_allowed access m t) (list_all (is_allowed access m) ts) h in
-    and_from _ _ (can_access_extends access m more t.address t.size grown parts.0) (are_allowed_extends access m more ts grown parts.1)
+    let parts = and_parts (can_transfer access m t) (list_all (can_transfer access m) ts) h in
+    and_from _ _ (can_move_extends access m more t.size t.kind grown parts.0) (are_allowed_extends access m more ts grown parts.1)
 
 -- a load of what was allowed leaves the same registers
-pub loaded_extends : (m more : Memory) (place : Transfer → ℕ) (file : List ℕ) (ts : List Transfer) → Extends m more → are_allowed Load m ts ≡ true → loaded more place file ts ≡ loaded m place file ts
-unfolding loaded are_allowed
+pub loaded_extends : (m more : Memory) (place : Transfer → ℕ) (file : List ℕ) (ts : List Transfer) → Extends m more → are_allowed Load m ts ≡ true → registers_loaded more place file ts ≡ registers_loaded m place file ts
+unfolding registers_loaded are_allowed
 loaded_extends m more place file [] grown h = refl
 loaded_extends m more place file (t ∷ ts) grown h =
-    let parts = and_parts (is_allowed Load m t) (list_all (is_allowed Load m) ts) h in
-    let same = bytes_at_extends Load m more t.address t.size grown parts.0 in
-    ap (λ (bytes : List ℕ). loaded more place (put_chunk (place t) file (bytes ++ replicate t.ones 255)) ts) same
-    ∙ loaded_extends m more place (put_chunk (place t) file (bytes_loaded m t)) ts grown parts.1
+    let parts = and_parts (can_transfer Load m t) (list_all (can_transfer Load m) ts) h in
+    ap (λ (bytes : List ℕ). registers_loaded more place (put_chunk (place t) file bytes) ts) (bytes_loaded_extends m more t.size t.kind grown parts.0)
+    ∙ loaded_extends m more place (put_chunk (place t) file (bytes_loaded m t.size t.kind)) ts grown parts.1
 
 -- ---- one memory laid over another
 
@@ -112,7 +118,7 @@ overlay_grown m more grown = same_memory _ _ (λ x. at x (get m x) refl)
     at x (Some c) e = overlay_extends m more x c e ∙ sym (grown x c e)
 
 -- over one that maps none but its addresses, nothing is new
-pub overlay_same : (m more : Memory) → ((x : ℕ) → memory.is_allowed Monitor more x ≡ memory.is_allowed Monitor m x)
+pub overlay_same : (m more : Memory) → ((x : ℕ) → memory.can_access_byte Monitor more x ≡ memory.can_access_byte Monitor m x)
     → overlay m more ≡ m
 overlay_same m more same = same_memory _ _ (λ x. at x (get m x) (get more x) refl refl)
   where
@@ -139,12 +145,16 @@ unfolding put_bytes
 put_bytes_local m other a [] x e = e
 put_bytes_local m other a (b ∷ bs) x e = put_bytes_local (put_byte m a b) (put_byte other a b) (a + 1) bs x (put_byte_local m other a b x e)
 
-stored_local : (m other : Memory) (place : Transfer → ℕ) (file : List ℕ) (ts : List Transfer) (x : ℕ) → get m x ≡ get other x → get (stored m place file ts) x ≡ get (stored other place file ts) x
-unfolding stored
+element_local : (m other : Memory) (bytes : List ℕ) (kind : TransferKind) (x : ℕ) → get m x ≡ get other x → get (with_element m bytes kind) x ≡ get (with_element other bytes kind) x
+element_local m other bytes (Moved address) x e = put_bytes_local m other address bytes x e
+element_local m other bytes Ones x e = e
+
+stored_local : (m other : Memory) (place : Transfer → ℕ) (file : List ℕ) (ts : List Transfer) (x : ℕ) → get m x ≡ get other x → get (memory_stored m place file ts) x ≡ get (memory_stored other place file ts) x
+unfolding memory_stored
 stored_local m other place file [] x e = e
 stored_local m other place file (t ∷ ts) x e =
     let bs = chunk (place t) t.size file in
-    stored_local (put_bytes m t.address bs) (put_bytes other t.address bs) place file ts x (put_bytes_local m other t.address bs x e)
+    stored_local (with_element m bs t.kind) (with_element other bs t.kind) place file ts x (element_local m other bs t.kind x e)
 
 -- what is allowed covers no address that isn't mapped
 outside : (m : Memory) (a n x : ℕ) → get m x ≡ None → can_access Store m a n ≡ true → ((x < a) ⊎ (a + n ≤ x))
@@ -158,28 +168,34 @@ outside m a n x none ok = elim (cases_lt x a) [
   ]
 ]
 
-stored_outside : (m other : Memory) (place : Transfer → ℕ) (file : List ℕ) (ts : List Transfer) (x : ℕ) → get m x ≡ None → are_allowed Store m ts ≡ true → get (stored other place file ts) x ≡ get other x
-unfolding stored are_allowed
+element_outside : (m other : Memory) (size : ℕ) (bs : List ℕ) (kind : TransferKind) (x : ℕ) → length bs ≤ size → get m x ≡ None → can_move Store m size kind ≡ true
+    → get (with_element other bs kind) x ≡ get other x
+element_outside m other size bs (Moved address) x short none h =
+    let apart : (x < address) ⊎ (address + length bs ≤ x) =
+    elim (outside m address size x none h) [ inl l ↦ inl l | inr g ↦ inr (omega arith) ] in
+    get-put_bytes_outside other address bs x apart
+element_outside m other size bs Ones x short none h = refl
+
+stored_outside : (m other : Memory) (place : Transfer → ℕ) (file : List ℕ) (ts : List Transfer) (x : ℕ) → get m x ≡ None → are_allowed Store m ts ≡ true → get (memory_stored other place file ts) x ≡ get other x
+unfolding memory_stored are_allowed
 stored_outside m other place file [] x none h = refl
 stored_outside m other place file (t ∷ ts) x none h =
-    let parts = and_parts (is_allowed Store m t) (list_all (is_allowed Store m) ts) h in
+    let parts = and_parts (can_transfer Store m t) (list_all (can_transfer Store m) ts) h in
     let bs = chunk (place t) t.size file in
     let short : length bs ≤ t.size = omega (arith, length-take t.size (drop (place t) file)) in
-    let apart : (x < t.address) ⊎ (t.address + length bs ≤ x) =
-    elim (outside m t.address t.size x none parts.0) [ inl l ↦ inl l | inr g ↦ inr (omega arith) ] in
-    stored_outside m (put_bytes other t.address bs) place file ts x none parts.1
-    ∙ get-put_bytes_outside other t.address bs x apart
+    stored_outside m (with_element other bs t.kind) place file ts x none parts.1
+    ∙ element_outside m other t.size bs t.kind x short none parts.0
 
 -- a store keeps each address mapped
-stored_maps : (m : Memory) (place : Transfer → ℕ) (file : List ℕ) (ts : List Transfer) (x : ℕ) (c : Cell) → get m x ≡ Some c → (d : Cell) × (get (stored m place file ts) x ≡ Some d)
+stored_maps : (m : Memory) (place : Transfer → ℕ) (file : List ℕ) (ts : List Transfer) (x : ℕ) (c : Cell) → get m x ≡ Some c → (d : Cell) × (get (memory_stored m place file ts) x ≡ Some d)
 stored_maps m place file ts x c e =
-    allowed_mapped Monitor (stored m place file ts) x (stored_allows Monitor m place file ts x ∙ mapped_allowed m x c e)
+    allowed_mapped Monitor (memory_stored m place file ts) x (stored_allows Monitor m place file ts x ∙ mapped_allowed m x c e)
 
 -- with what is new there from the start, what was stored leaves just the memory that has grown
-pub overlay_stored : (m more : Memory) (place : Transfer → ℕ) (file : List ℕ) (ts : List Transfer) → are_allowed Store m ts ≡ true → Extends (stored m place file ts) more → stored (overlay m more) place file ts ≡ more
+pub overlay_stored : (m more : Memory) (place : Transfer → ℕ) (file : List ℕ) (ts : List Transfer) → are_allowed Store m ts ≡ true → Extends (memory_stored m place file ts) more → memory_stored (overlay m more) place file ts ≡ more
 overlay_stored m more place file ts ok grown = same_memory _ _ (λ x. at x (get m x) refl)
   where
-    at : (x : ℕ) (o : Option Cell) → get m x ≡ o → get (stored (overlay m more) place file ts) x ≡ get more x
+    at : (x : ℕ) (o : Option Cell) → get m x ≡ o → get (memory_stored (overlay m more) place file ts) x ≡ get more x
     at x None e =
         stored_outside m (overlay m more) place file ts x e ok ∙ get-overlay m more x ∙ ap (λ (o : Option Cell). option_or o (get more x)) e
     at x (Some c) e =

@@ -1,31 +1,36 @@
 -- Each legal vector load and store, stopped and run again.
 use Rattle.std.proofs.Common.{◌≡◌, ◌≢◌, ℕ, ◌+◌, ◌-◌, ◌*◌, ◌%◌, ◌^◌, ◌<◌, ◌≤◌, inl, inr, Bool, true, false, List, Option, Some, None, refl, sym, ◌∙◌, ap, subst, arith}
+use Rattle.std.specs.Option.{option_map}
+use Rattle.std.specs.Prelude.{IsSomeAnd}
 use Rattle.std.proofs.lemmas.Bool.{cases_lt}
 use Rattle.rv_model.specs.declared.instructions.instruction.Instr.{Instr}
-use Rattle.rv_model.specs.declared.instructions.instruction.Instr.TheVariants.{MaskMemory, VectorIndexed, VectorStrided, VectorUnit, WholeLoad, WholeStore}
+use Rattle.rv_model.specs.declared.instructions.instruction.Instr.TheVariants as instr
+use Rattle.rv_model.specs.declared.instructions.access.AccessInstr.{AccessInstr}
+use Rattle.rv_model.specs.declared.instructions.access.AccessInstr.TheVariants.{MaskAccess, Indexed, Strided, UnitStride, WholeLoad, WholeStore}
 use Rattle.rv_model.specs.declared.instructions.operations.Direction.{Direction}
 use Rattle.rv_model.specs.declared.instructions.operations.Direction.TheVariants as direction
 use Rattle.rv_model.specs.declared.instructions.operations.Order.{Order}
 use Rattle.rv_model.specs.declared.instructions.operations.UnitOp.{UnitOp}
 use Rattle.rv_model.specs.declared.instructions.operations.UnitOp.TheVariants as unit
-use Rattle.rv_model.specs.declared.instructions.operations.Width.{Width}
+use Rattle.rv_model.specs.declared.instructions.operations.Eew.{Eew}
 use Rattle.rv_model.specs.declared.scalar.Scalar.{Scalar}
 use Rattle.rv_model.specs.declared.step.memory_end.MemEnd.TheVariants.{Done}
 use Rattle.rv_model.specs.declared.vector.state.VState.{VState}
 use Rattle.rv_model.specs.declared.vector.types.VType.{VType}
-use Rattle.rv_model.specs.accesses.AccessRuns.{AccessRun, access_run, direction_run, load_run, typed_run, unit_run}
-use Rattle.rv_model.specs.accesses.Restarts.{AccessResumes, Extends, IsByteOf, StopsWithin, overlay}
-use Rattle.rv_model.specs.accesses.VectorAccess.{VectorAccess, access_type, index_count, indexed_access, mask_length, strided_access, unit_access, unmasked_access, whole_length}
-use Rattle.rv_model.specs.elements.Arithmetic.{GroupType, group_element, group_type}
-use Rattle.rv_model.specs.legality.Legality.{IsLegal, register_count}
+use Rattle.rv_model.specs.accesses.AccessRuns.{AccessRun, access_run, directed_run, load_run, run_or_nothing}
+use Rattle.rv_model.specs.accesses.Restarts.{AccessResumes, Extends, IsByteOf, IsStopped, StopsWithin, overlay}
+use Rattle.rv_model.specs.accesses.VectorAccess.{VectorAccess, access_of, indexed_access, mask_length, strided_access, unit_access, unmasked_access, whole_length}
+use Rattle.rv_model.specs.vector.Groups.{access_type, register_count}
+use Rattle.rv_model.specs.elements.Arithmetic.{group_element}
+use Rattle.rv_model.specs.vector.Configuration.{GroupType, group_type, IsConfiguration, IsLength, element_width, sew_width, vlmax, width_bytes}
+use Rattle.rv_model.specs.legality.Legality.{IsLegal}
 use Rattle.rv_model.specs.memory.Memory.{Memory}
 use Rattle.rv_model.specs.scalar.Registers.{read_register}
-use Rattle.rv_model.specs.vector.Configuration.{IsConfiguration, IsLength, element_width, sew_width, vlmax, width_bytes}
 use Rattle.rv_model.specs.vector.Registers.{register_of}
 use Rattle.rv_model.specs.declared.vector.sizes.TheConstants.{VLENB}
 use Rattle.rv_model.proofs.access_lemmas.Kept.{Beside, byte_kept, element_kept, element_place, length_kept, let_kept, mask_kept, plan_same}
-use Rattle.rv_model.proofs.access_lemmas.LeavesOff.{access_off}
-use Rattle.rv_model.proofs.access_lemmas.RunsResume.{IsResumed, Resumes, Run, access_again, load_resumes, load_transfers, store_resumes}
+use Rattle.rv_model.proofs.access_lemmas.Runs.{access_again, is_stopped, run_facts}
+use Rattle.rv_model.proofs.access_lemmas.RunsResume.{IsResumed, Resumes, Run, load_resumes, load_transfers, store_resumes}
 use Rattle.rv_model.proofs.legality_lemmas.Accesses.{elements_fit}
 use Rattle.rv_model.proofs.legality_lemmas.Overlaps.{indexed_above, later_indices_stay, strided_above, unit_above}
 
@@ -36,57 +41,25 @@ v0_of file = register_of file 0
 -- ---- loads with addresses that no register of the file says
 
 module _ (limit later : ℕ) (fill : Bool) (x : Scalar) (v : VState) (m more : Memory) where
-  unit_load : (first_only : Bool) (g : GroupType) (nf vd rs1 : ℕ) (vm : Bool) → (vm ≡ false → 1 ≤ vd)
-      → Resumes (λ limit v m. load_run limit first_only fill (unit_access g nf vd rs1 vm v x) v m) limit later v m more v.conf.vl
-  unit_load first_only g nf vd rs1 vm above =
-      let a : VectorAccess = unit_access g nf vd rs1 vm v x in
+  -- those that the mask may leave out, and whose destination isn't that
+  masked_load : (make : VState → VectorAccess) → ((file : List ℕ) (start : ℕ) → make (record v { file = file; vstart = start }) ≡ access_again (make v) (v0_of file) start (make v).address)
+      → (make v).body.start ≡ v.vstart → (make v).body.mask ≡ v0_of v.file → ((make v).body.unmasked ≡ false → 1 ≤ (make v).register)
+      → Resumes (λ limit v m. load_run limit fill (make v) v m) limit later v m more
+  masked_load make again begins masked above =
+      let a : VectorAccess = make v in
       let stop : ℕ = (load_transfers limit fill a v.file m).stop in
       let left : List ℕ = (load_transfers limit fill a v.file m).left in
-      load_resumes (λ v. unit_access g nf vd rs1 vm v x) v0_of (λ file. a.address) limit later first_only fill v m more
-      (record { begins = refl; again = λ file start. refl })
+      load_resumes make v0_of (λ file. a.address) limit later fill v m more (record { begins = begins; again = again })
       (λ k low high. plan_same a (access_again a (v0_of left) stop a.address) fill k
-      (let_kept vm (v0_of left) (v0_of v.file) k (λ e. mask_kept m a fill v.file stop (above e))) refl refl refl)
-
-  strided_load : (g : GroupType) (nf vd rs1 rs2 : ℕ) (vm : Bool) → (vm ≡ false → 1 ≤ vd)
-      → Resumes (λ limit v m. load_run limit false fill (strided_access g nf vd rs1 rs2 vm v x) v m) limit later v m more v.conf.vl
-  strided_load g nf vd rs1 rs2 vm above =
-      let a : VectorAccess = strided_access g nf vd rs1 rs2 vm v x in
-      let stop : ℕ = (load_transfers limit fill a v.file m).stop in
-      let left : List ℕ = (load_transfers limit fill a v.file m).left in
-      load_resumes (λ v. strided_access g nf vd rs1 rs2 vm v x) v0_of (λ file. a.address) limit later false fill v m more
-      (record { begins = refl; again = λ file start. refl })
-      (λ k low high. plan_same a (access_again a (v0_of left) stop a.address) fill k
-      (let_kept vm (v0_of left) (v0_of v.file) k (λ e. mask_kept m a fill v.file stop (above e))) refl refl refl)
-
-  -- one that isn't masked
-  unmasked_load : (length size count vd rs1 : ℕ)
-      → Resumes (λ limit v m. load_run limit false false (unmasked_access length size count vd rs1 v x) v m) limit later v m more length
-  unmasked_load length size count vd rs1 =
-      let a : VectorAccess = unmasked_access length size count vd rs1 v x in
-      let stop : ℕ = (load_transfers limit false a v.file m).stop in
-      let left : List ℕ = (load_transfers limit false a v.file m).left in
-      load_resumes (λ v. unmasked_access length size count vd rs1 v x) v0_of (λ file. a.address) limit later false false v m more
-      (record { begins = refl; again = λ file start. refl })
-      (λ k low high. plan_same a (access_again a (v0_of left) stop a.address) false k refl refl refl refl)
-
-  -- the same of a mask, whose length is that of the state
-  mask_load : (vd rs1 : ℕ)
-      → Resumes (λ limit v m. load_run limit false false (unmasked_access (mask_length v.conf.vl) 1 1 vd rs1 v x) v m) limit later v m more (mask_length v.conf.vl)
-  mask_load vd rs1 =
-      let a : VectorAccess = unmasked_access (mask_length v.conf.vl) 1 1 vd rs1 v x in
-      let stop : ℕ = (load_transfers limit false a v.file m).stop in
-      let left : List ℕ = (load_transfers limit false a v.file m).left in
-      load_resumes (λ v. unmasked_access (mask_length v.conf.vl) 1 1 vd rs1 v x) v0_of (λ file. a.address) limit later false false v m more
-      (record { begins = refl; again = λ file start. refl })
-      (λ k low high. plan_same a (access_again a (v0_of left) stop a.address) false k refl refl refl refl)
+      (let_kept a.body.unmasked (v0_of left) a.body.mask k (λ e. mask_kept m a fill v.file stop (above e) ∙ sym masked)) refl refl refl)
 
   -- ---- loads with addresses that a group of registers says
 
-  indexed_load : (order : Order) (w : Width) (nf vd rs1 vs2 : ℕ) (vm : Bool) (t : VType) (vstart : ℕ)
-      → IsLegal (VectorIndexed direction.Load order w nf vd rs1 vs2 vm) (Some t) vstart → v.conf.vl ≤ vlmax t
-      → Resumes (λ limit v m. load_run limit false fill (indexed_access (group_type t) (access_type t w) nf vd rs1 vs2 vm v x) v m) limit later v m more v.conf.vl
+  indexed_load : (order : Order) (w : Eew) (nf vd rs1 vs2 : ℕ) (vm : Bool) (t : VType) (vstart : ℕ)
+      → IsLegal (instr.Access (Indexed direction.Load order w nf vd rs1 vs2 vm)) (Some t) vstart → v.conf.vl ≤ vlmax t
+      → Resumes (λ limit v m. load_run limit fill (indexed_access direction.Load (group_type t) (access_type t w) nf vd rs1 vs2 vm v x) v m) limit later v m more
   indexed_load order w nf vd rs1 vs2 vm t vstart legal few =
-      load_resumes (λ v. indexed_access (group_type t) indices nf vd rs1 vs2 vm v x) v0_of addresses limit later false fill v m more
+      load_resumes (λ v. indexed_access direction.Load (group_type t) indices nf vd rs1 vs2 vm v x) v0_of addresses limit later fill v m more
       (record { begins = refl; again = λ file start. refl })
       (λ k low high. plan_same a (access_again a (v0_of left) stop (addresses left)) fill k
       (let_kept vm (v0_of left) (v0_of v.file) k (λ e. mask_kept m a fill v.file stop (indexed_above vm order w nf vd rs1 vs2 t vstart legal e)))
@@ -96,7 +69,7 @@ module _ (limit later : ℕ) (fill : Bool) (x : Scalar) (v : VState) (m more : M
       indices = access_type t w
 
       a : VectorAccess
-      a = indexed_access (group_type t) indices nf vd rs1 vs2 vm v x
+      a = indexed_access direction.Load (group_type t) indices nf vd rs1 vs2 vm v x
 
       stop : ℕ
       stop = (load_transfers limit fill a v.file m).stop
@@ -125,25 +98,32 @@ module _ (limit later : ℕ) (fill : Bool) (x : Scalar) (v : VState) (m more : M
 
 -- ---- those that need a vector type
 
-typed_resumes : (run : VType → Run) (limit later : ℕ) (v : VState) (m more : Memory) (count : ℕ)
-    → ((t : VType) → v.conf.vtype ≡ Some t → Resumes (run t) limit later v m more count)
-    → Resumes (λ limit v m. typed_run v.conf.vtype (λ t. run t limit v m) v m) limit later v m more count
-typed_resumes run limit later v m more count each ended grown = named v.conf.vtype refl
-  where
-    typed : Run
-    typed limit v m = typed_run v.conf.vtype (λ t. run t limit v m) v m
+abbrev typed_run : ℕ → Bool → (VType → VState → VectorAccess) → VState → Memory → AccessRun
+typed_run limit fill make v m = run_or_nothing limit fill (option_map (λ t. make t v) v.conf.vtype) v m
 
-    named : (o : Option VType) → v.conf.vtype ≡ o → IsResumed typed limit later v m more count
-    named None e = absurd (ended (ap (λ (o : Option VType). (typed_run o (λ t. run t limit v m) v m).end) e))
+abbrev made_run : ℕ → Bool → VectorAccess → VState → Memory → AccessRun
+made_run limit fill a v m = directed_run a.direction limit fill a v m
+
+typed_resumes : (make : VType → VState → VectorAccess) (limit later : ℕ) (fill : Bool) (v : VState) (m more : Memory)
+    → ((t : VType) → v.conf.vtype ≡ Some t → Resumes (λ limit v m. made_run limit fill (make t v) v m) limit later v m more)
+    → Resumes (λ limit v m. typed_run limit fill make v m) limit later v m more
+typed_resumes make limit later fill v m more each ended grown = named v.conf.vtype refl
+  where
+    run : VType → Run
+    run t limit v m = made_run limit fill (make t v) v m
+
+    typed : Run
+    typed limit v m = typed_run limit fill make v m
+
+    named : (o : Option VType) → v.conf.vtype ≡ o → IsResumed typed limit later v m more
+    named None e = absurd (ended (ap (λ (o : Option VType). (run_or_nothing limit fill (option_map (λ t. make t v) o) v m).end) e))
     named (Some t) e =
         let is : (n : ℕ) (w : VState) (k : Memory) → w.conf ≡ v.conf → typed n w k ≡ run t n w k =
-        λ n w k c. ap (λ (o : Option VType). typed_run o (λ t. run t n w k) w k) (ap (λ c. c.vtype) c ∙ e) in
+        λ n w k c. ap (λ (o : Option VType). run_or_nothing n fill (option_map (λ t. make t w) o) w k) (ap (λ c. c.vtype) c ∙ e) in
         let here : typed limit v m ≡ run t limit v m = is limit v m refl in
-        let r : IsResumed (run t) limit later v m more count =
+        let r : IsResumed (run t) limit later v m more =
         each t e (subst (λ (a : AccessRun). a.end ≢ Done) here ended) (subst (λ (a : AccessRun). Extends a.memory more) here grown) in
         record {
-          from = subst (λ (a : AccessRun). v.vstart ≤ a.vector.vstart) (sym here) r.from;
-          below = subst (λ (a : AccessRun). a.vector.vstart < count) (sym here) r.below;
           conf = ap (λ (a : AccessRun). a.vector.conf) here ∙ r.conf;
           same =
               ap (λ (a : AccessRun). typed later a.vector more) here
@@ -162,59 +142,70 @@ length_under : (v : VState) (t : VType) → v.conf.vtype ≡ Some t → IsConfig
 length_under v t e is = (subst (λ (o : Option VType). IsLength o v.conf.vl) e is).1
 
 module _ (limit later : ℕ) (fill : Bool) (v : VState) (x : Scalar) (m more : Memory) where
-  unit_resumes : (op : UnitOp) (w : Width) (nf vd rs1 : ℕ) (vm : Bool) (t : VType) (vstart : ℕ) → IsLegal (VectorUnit op w nf vd rs1 vm) (Some t) vstart
-      → Resumes (λ limit v m. unit_run op limit fill (unit_access (access_type t w) nf vd rs1 vm v x) v m) limit later v m more v.conf.vl
+  unit_resumes : (op : UnitOp) (w : Eew) (nf vd rs1 : ℕ) (vm : Bool) (t : VType) (vstart : ℕ) → IsLegal (instr.Access (UnitStride op w nf vd rs1 vm)) (Some t) vstart
+      → Resumes (λ limit v m. made_run limit fill (unit_access op (access_type t w) nf vd rs1 vm v x) v m) limit later v m more
   unit_resumes unit.Load w nf vd rs1 vm t vstart legal =
-      unit_load limit later fill x v m more false (access_type t w) nf vd rs1 vm (unit_above false vm w nf vd rs1 t vstart legal)
+      masked_load limit later fill x v m more (λ v. unit_access unit.Load (access_type t w) nf vd rs1 vm v x) (λ file start. refl) refl refl
+      (unit_above false vm w nf vd rs1 t vstart legal)
   unit_resumes unit.FaultOnlyFirst w nf vd rs1 vm t vstart legal =
-      unit_load limit later fill x v m more true (access_type t w) nf vd rs1 vm (unit_above true vm w nf vd rs1 t vstart legal)
+      masked_load limit later fill x v m more (λ v. unit_access unit.FaultOnlyFirst (access_type t w) nf vd rs1 vm v x) (λ file start. refl) refl refl
+      (unit_above true vm w nf vd rs1 t vstart legal)
   unit_resumes unit.Store w nf vd rs1 vm t vstart legal =
-      store_resumes (λ v. unit_access (access_type t w) nf vd rs1 vm v x) limit later v m more refl (λ start. refl)
+      store_resumes (λ v. unit_access unit.Store (access_type t w) nf vd rs1 vm v x) limit later v m more refl (λ start. refl)
 
-  strided_resumes : (d : Direction) (w : Width) (nf vd rs1 rs2 : ℕ) (vm : Bool) (t : VType) (vstart : ℕ) → IsLegal (VectorStrided d w nf vd rs1 rs2 vm) (Some t) vstart
-      → Resumes (λ limit v m. direction_run d limit fill (strided_access (access_type t w) nf vd rs1 rs2 vm v x) v m) limit later v m more v.conf.vl
+  strided_resumes : (d : Direction) (w : Eew) (nf vd rs1 rs2 : ℕ) (vm : Bool) (t : VType) (vstart : ℕ) → IsLegal (instr.Access (Strided d w nf vd rs1 rs2 vm)) (Some t) vstart
+      → Resumes (λ limit v m. made_run limit fill (strided_access d (access_type t w) nf vd rs1 rs2 vm v x) v m) limit later v m more
   strided_resumes direction.Load w nf vd rs1 rs2 vm t vstart legal =
-      strided_load limit later fill x v m more (access_type t w) nf vd rs1 rs2 vm (strided_above vm w nf vd rs1 rs2 t vstart legal)
+      masked_load limit later fill x v m more (λ v. strided_access direction.Load (access_type t w) nf vd rs1 rs2 vm v x) (λ file start. refl) refl refl
+      (strided_above vm w nf vd rs1 rs2 t vstart legal)
   strided_resumes direction.Store w nf vd rs1 rs2 vm t vstart legal =
-      store_resumes (λ v. strided_access (access_type t w) nf vd rs1 rs2 vm v x) limit later v m more refl (λ start. refl)
+      store_resumes (λ v. strided_access direction.Store (access_type t w) nf vd rs1 rs2 vm v x) limit later v m more refl (λ start. refl)
 
-  indexed_resumes : (d : Direction) (order : Order) (w : Width) (nf vd rs1 vs2 : ℕ) (vm : Bool) (t : VType) (vstart : ℕ)
-      → IsLegal (VectorIndexed d order w nf vd rs1 vs2 vm) (Some t) vstart → v.conf.vl ≤ vlmax t
-      → Resumes (λ limit v m. direction_run d limit fill (indexed_access (group_type t) (access_type t w) nf vd rs1 vs2 vm v x) v m) limit later v m more v.conf.vl
+  indexed_resumes : (d : Direction) (order : Order) (w : Eew) (nf vd rs1 vs2 : ℕ) (vm : Bool) (t : VType) (vstart : ℕ)
+      → IsLegal (instr.Access (Indexed d order w nf vd rs1 vs2 vm)) (Some t) vstart → v.conf.vl ≤ vlmax t
+      → Resumes (λ limit v m. made_run limit fill (indexed_access d (group_type t) (access_type t w) nf vd rs1 vs2 vm v x) v m) limit later v m more
   indexed_resumes direction.Load order w nf vd rs1 vs2 vm t vstart legal few =
       indexed_load limit later fill x v m more order w nf vd rs1 vs2 vm t vstart legal few
   indexed_resumes direction.Store order w nf vd rs1 vs2 vm t vstart legal few =
-      store_resumes (λ v. indexed_access (group_type t) (access_type t w) nf vd rs1 vs2 vm v x) limit later v m more refl (λ start. refl)
+      store_resumes (λ v. indexed_access direction.Store (group_type t) (access_type t w) nf vd rs1 vs2 vm v x) limit later v m more refl (λ start. refl)
 
   mask_resumes : (d : Direction) (vd rs1 : ℕ)
-      → Resumes (λ limit v m. direction_run d limit false (unmasked_access (mask_length v.conf.vl) 1 1 vd rs1 v x) v m) limit later v m more (mask_length v.conf.vl)
-  mask_resumes direction.Load vd rs1 = mask_load limit later fill x v m more vd rs1
+      → Resumes (λ limit v m. made_run limit fill (unmasked_access d (mask_length v.conf.vl) 1 1 vd rs1 v x) v m) limit later v m more
+  mask_resumes direction.Load vd rs1 =
+      masked_load limit later fill x v m more (λ v. unmasked_access direction.Load (mask_length v.conf.vl) 1 1 vd rs1 v x) (λ file start. refl) refl refl
+      (λ no. absurd (cc))
   mask_resumes direction.Store vd rs1 =
-      store_resumes (λ v. unmasked_access (mask_length v.conf.vl) 1 1 vd rs1 v x) limit later v m more refl (λ start. refl)
+      store_resumes (λ v. unmasked_access direction.Store (mask_length v.conf.vl) 1 1 vd rs1 v x) limit later v m more refl (λ start. refl)
 
-  resumes : (i : Instr) → IsLegal i v.conf.vtype v.vstart → IsConfiguration v.conf → Resumes (λ limit v m. access_run limit fill i v x m) limit later v m more (index_count i v.conf.vl)
+  resumes : (i : AccessInstr) → IsLegal (instr.Access i) v.conf.vtype v.vstart → IsConfiguration v.conf
+      → Resumes (λ limit v m. access_run limit fill i v x m) limit later v m more
   unfolding access_run
-  resumes (VectorUnit op w nf vd rs1 vm) legal is =
-      typed_resumes (λ t limit v m. unit_run op limit fill (unit_access (access_type t w) nf vd rs1 vm v x) v m) limit later v m more v.conf.vl
-      (λ t e. unit_resumes op w nf vd rs1 vm t v.vstart (legal_under (VectorUnit op w nf vd rs1 vm) v t e legal))
-  resumes (VectorStrided d w nf vd rs1 rs2 vm) legal is =
-      typed_resumes (λ t limit v m. direction_run d limit fill (strided_access (access_type t w) nf vd rs1 rs2 vm v x) v m) limit later v m more v.conf.vl
-      (λ t e. strided_resumes d w nf vd rs1 rs2 vm t v.vstart (legal_under (VectorStrided d w nf vd rs1 rs2 vm) v t e legal))
-  resumes (VectorIndexed d order w nf vd rs1 vs2 vm) legal is =
-      typed_resumes (λ t limit v m. direction_run d limit fill (indexed_access (group_type t) (access_type t w) nf vd rs1 vs2 vm v x) v m) limit later v m more v.conf.vl
-      (λ t e. indexed_resumes d order w nf vd rs1 vs2 vm t v.vstart (legal_under (VectorIndexed d order w nf vd rs1 vs2 vm) v t e legal) (length_under v t e is))
+  resumes (UnitStride op w nf vd rs1 vm) legal is =
+      typed_resumes (λ t v. unit_access op (access_type t w) nf vd rs1 vm v x) limit later fill v m more
+      (λ t e. unit_resumes op w nf vd rs1 vm t v.vstart (legal_under (instr.Access (UnitStride op w nf vd rs1 vm)) v t e legal))
+  resumes (Strided d w nf vd rs1 rs2 vm) legal is =
+      typed_resumes (λ t v. strided_access d (access_type t w) nf vd rs1 rs2 vm v x) limit later fill v m more
+      (λ t e. strided_resumes d w nf vd rs1 rs2 vm t v.vstart (legal_under (instr.Access (Strided d w nf vd rs1 rs2 vm)) v t e legal))
+  resumes (Indexed d order w nf vd rs1 vs2 vm) legal is =
+      typed_resumes (λ t v. indexed_access d (group_type t) (access_type t w) nf vd rs1 vs2 vm v x) limit later fill v m more
+      (λ t e. indexed_resumes d order w nf vd rs1 vs2 vm t v.vstart (legal_under (instr.Access (Indexed d order w nf vd rs1 vs2 vm)) v t e legal) (length_under v t e is))
   resumes (WholeLoad count w vd rs1) legal is =
-      unmasked_load limit later fill x v m more (whole_length count w) (width_bytes (sew_width (element_width w))) (register_count count) vd rs1
+      masked_load limit later fill x v m more
+      (λ v. unmasked_access direction.Load (whole_length count w) (width_bytes (sew_width (element_width w))) (register_count count) vd rs1 v x)
+      (λ file start. refl) refl refl (λ no. absurd (cc))
   resumes (WholeStore count vd rs1) legal is =
-      store_resumes (λ v. unmasked_access (register_count count * VLENB) 1 (register_count count) vd rs1 v x) limit later v m more refl (λ start. refl)
-  resumes (MaskMemory d vd rs1) legal is = mask_resumes d vd rs1
-  resumes _ legal is = λ ended grown. absurd (ended refl)
+      store_resumes (λ v. unmasked_access direction.Store (register_count count * VLENB) 1 (register_count count) vd rs1 v x) limit later v m more refl (λ start. refl)
+  resumes (MaskAccess d vd rs1) legal is =
+      typed_resumes (λ t v. unmasked_access d (mask_length v.conf.vl) 1 1 vd rs1 v x) limit later fill v m more (λ t e. mask_resumes d vd rs1)
 
 pub access_resumes : AccessResumes
 access_resumes i limit later fill v x m more legal is ended grown = (resumes limit later fill v x m more i legal is ended grown).same
 
 pub stops_within : StopsWithin
-stops_within i limit fill v x m legal is ended =
-    let r = resumes limit 0 fill v x m (access_run limit fill i v x m).memory i legal is ended (λ a c e. e) in
-    let off = access_off limit fill i v x m in
-    record { from = r.from; below = r.below; conf = r.conf; rounding = off.rounding; saturation = off.saturation; registers = off.registers }
+unfolding access_run
+stops_within i limit fill v x m legal is ended = named (access_of i v x) refl ended
+  where
+    named : (o : Option VectorAccess) → access_of i v x ≡ o → (run_or_nothing limit fill o v m).end ≢ Done
+        → IsSomeAnd o (λ a. IsStopped a v (run_or_nothing limit fill o v m).vector)
+    named None e ended = absurd (ended refl)
+    named (Some a) e ended = is_stopped limit a v m _ (run_facts limit fill i v x m a e) ended

@@ -1,7 +1,6 @@
 -- What a vector load that stops leaves alone: the mask, and the bytes that none of its transfers covers.
-use Rattle.std.proofs.Common.{◌≡◌, ℕ, zero, suc, ◌+◌, ◌-◌, ◌*◌, ◌<◌, ◌≤◌, ◌⊎◌, inl, inr, Bool, true, false, ◌||◌, cond, List, [], ◌∷◌, ◌++◌, length, map, min, drop, get_or, refl, sym, ◌∙◌, ap, arith, length-take, length-drop, length-append}
+use Rattle.std.proofs.Common.{◌≡◌, ℕ, zero, suc, ◌+◌, ◌-◌, ◌*◌, ◌<◌, ◌≤◌, ◌⊎◌, inl, inr, Bool, true, false, ◌||◌, cond, List, [], ◌∷◌, ◌++◌, length, map, min, drop, get_or, refl, sym, ◌∙◌, ap, arith, length-take, length-drop}
 use Rattle.std.specs.List.{AllByRecursion, range_with_len}
-use Rattle.std.specs.Prelude.{replicate}
 use Rattle.std.specs.Simd.Lanes.{chunk, put_chunk}
 use Rattle.std.proofs.Math.Nat.{mul_comm}
 use Rattle.std.proofs.lemmas.List.{ext_get_or, length-replicate}
@@ -9,12 +8,12 @@ use Rattle.std.proofs.lemmas.Nat.{row_fits}
 use Rattle.std.proofs.lemmas.Simd.{get_or-chunk, get_or-put_chunk_above, get_or-put_chunk_below, length-put_chunk}
 use lib.Lanes.{number_l}
 use Rattle.rv_model.specs.declared.vector.sizes.TheConstants.{VLENB}
-use Rattle.rv_model.specs.accesses.Transfers.{Plan, Transfer, bytes_loaded, loaded, transfers}
-use Rattle.rv_model.specs.accesses.VectorAccess.{VectorAccess, filled_segment, place, plan, segment}
-use Rattle.rv_model.specs.elements.Arithmetic.{GroupType, group_element}
+use Rattle.rv_model.specs.accesses.Transfers.{Moved, Ones, Plan, Transfer, TransferKind, bytes_loaded, registers_loaded, transfers}
+use Rattle.rv_model.specs.accesses.VectorAccess.{VectorAccess, filled_segment, element_start, plan, moved_segment}
+use Rattle.rv_model.specs.elements.Arithmetic.{group_element}
+use Rattle.rv_model.specs.vector.Configuration.{GroupType, width_bytes}
 use Rattle.rv_model.specs.elements.Elements.{is_let, mask_bit}
-use Rattle.rv_model.specs.memory.Memory.{Memory, bytes_at}
-use Rattle.rv_model.specs.vector.Configuration.{width_bytes}
+use Rattle.rv_model.specs.memory.Memory.{Memory}
 use Rattle.rv_model.specs.vector.Registers.{register_of, registers}
 use Rattle.rv_model.proofs.access_lemmas.Segments.{field_transfer, filled_transfer}
 use Rattle.rv_model.proofs.memory_lemmas.Memory.{length-bytes_at}
@@ -26,28 +25,31 @@ abbrev pub Beside : ℕ → ℕ → ℕ → Type 0
 Beside b at size = (b < at) ⊎ (at + size ≤ b)
 
 abbrev Misses : (Transfer → ℕ) → ℕ → Transfer → Type 0
-Misses place b t = Beside b (place t) (t.size + t.ones)
+Misses place b t = Beside b (place t) t.size
 
 put_beside : (file : List ℕ) (at : ℕ) (bytes : List ℕ) (b : ℕ) → Beside b at (length bytes) → get_or (put_chunk at file bytes) b 0 ≡ get_or file b 0
 put_beside file at bytes b (inl l) = get_or-put_chunk_below at file bytes b 0 l
 put_beside file at bytes b (inr g) = get_or-put_chunk_above at file bytes b 0 g
 
+length-bytes_loaded : (m : Memory) (size : ℕ) (kind : TransferKind) → length (bytes_loaded m size kind) ≡ size
+length-bytes_loaded m size (Moved address) = length-bytes_at m address size
+length-bytes_loaded m size Ones = length-replicate {A = ℕ} size 255
+
 module _ (m : Memory) (place : Transfer → ℕ) where
-  missed : (b : ℕ) (ts : List Transfer) (file : List ℕ) → AllByRecursion (Misses place b) ts → get_or (loaded m place file ts) b 0 ≡ get_or file b 0
-  unfolding loaded
+  missed : (b : ℕ) (ts : List Transfer) (file : List ℕ) → AllByRecursion (Misses place b) ts → get_or (registers_loaded m place file ts) b 0 ≡ get_or file b 0
+  unfolding registers_loaded
   missed b [] file h = refl
   missed b (t ∷ ts) file h =
-      let bytes : List ℕ = bytes_loaded m t in
-      let long : length bytes ≡ t.size + t.ones =
-      omega (arith, length-append (bytes_at m t.address t.size) (replicate t.ones 255), length-bytes_at m t.address t.size, length-replicate {A = ℕ} t.ones 255) in
+      let bytes : List ℕ = bytes_loaded m t.size t.kind in
+      let long : length bytes ≡ t.size = length-bytes_loaded m t.size t.kind in
       let beside : Beside b (place t) (length bytes) = elim h.0 [ inl l ↦ inl l | inr g ↦ inr (omega arith) ] in
       missed b ts (put_chunk (place t) file bytes) h.1 ∙ put_beside file (place t) bytes b beside
 
-  pub length-loaded : (ts : List Transfer) (file : List ℕ) → length (loaded m place file ts) ≡ length file
-  unfolding loaded
+  pub length-loaded : (ts : List Transfer) (file : List ℕ) → length (registers_loaded m place file ts) ≡ length file
+  unfolding registers_loaded
   length-loaded [] file = refl
   length-loaded (t ∷ ts) file =
-      length-loaded ts (put_chunk (place t) file (bytes_loaded m t)) ∙ length-put_chunk (place t) file (bytes_loaded m t)
+      length-loaded ts (put_chunk (place t) file (bytes_loaded m t.size t.kind)) ∙ length-put_chunk (place t) file (bytes_loaded m t.size t.kind)
 
 -- ---- the transfers of an access
 
@@ -63,9 +65,9 @@ all_transfers P each i (suc n) h =
 
 -- those of an index have its number, a field and a size
 abbrev IsOf : ℕ → ℕ → ℕ → Transfer → Type 0
-IsOf i size n t = (t.index ≡ i) × (t.field < n) × (t.size + t.ones ≡ size)
+IsOf i size n t = (t.index ≡ i) × (t.field < n) × (t.size ≡ size)
 
-all_fields : (P : Transfer → Type 0) (make : ℕ → Transfer) (i size a n : ℕ) → ((f : ℕ) → (make f).index ≡ i × (make f).field ≡ f × (make f).size + (make f).ones ≡ size)
+all_fields : (P : Transfer → Type 0) (make : ℕ → Transfer) (i size a n : ℕ) → ((f : ℕ) → (make f).index ≡ i × (make f).field ≡ f × (make f).size ≡ size)
     → ((t : Transfer) → IsOf i size (a + n) t → P t) → AllByRecursion P (map make (range_with_len a n))
 all_fields P make i size a zero is h = tt
 all_fields P make i size a (suc n) is h = (
@@ -76,10 +78,10 @@ all_fields P make i size a (suc n) is h = (
 all_planned : (P : Transfer → Type 0) (a : VectorAccess) (fill : Bool) (i : ℕ) → ((t : Transfer) → IsOf i a.size a.fields t → P t) → AllByRecursion P (plan a fill i)
 unfolding plan
 all_planned P a fill i h =
-    elim (is_let a.body i) as (λ b. AllByRecursion P (cond b (segment i (a.address i) a.size a.fields) (cond fill (filled_segment i a.size a.fields) []))) [
-      | true ↦ all_fields P (field_transfer i (a.address i) a.size) i a.size 0 a.fields (λ f. (refl, refl, omega arith)) (λ t x. h t (x.0, omega (arith, x.1), x.2))
+    elim (is_let a.body i) as (λ b. AllByRecursion P (cond b (moved_segment i (a.address i) a.size a.fields) (cond fill (filled_segment i a.size a.fields) []))) [
+      | true ↦ all_fields P (field_transfer i (a.address i) a.size) i a.size 0 a.fields (λ f. (refl, refl, refl)) (λ t x. h t (x.0, omega (arith, x.1), x.2))
       | false ↦ elim fill as (λ c. AllByRecursion P (cond c (filled_segment i a.size a.fields) [])) [
-        | true ↦ all_fields P (filled_transfer i a.size) i a.size 0 a.fields (λ f. (refl, refl, omega arith)) (λ t x. h t (x.0, omega (arith, x.1), x.2))
+        | true ↦ all_fields P (filled_transfer i a.size) i a.size 0 a.fields (λ f. (refl, refl, refl)) (λ t x. h t (x.0, omega (arith, x.1), x.2))
         | false ↦ tt
       ]
     ]
@@ -92,24 +94,24 @@ element_place a field i = VLENB * (a.register + field * a.field_registers) + i *
 
 -- the registers after the transfers up to an index
 abbrev pub loaded_to : Memory → VectorAccess → Bool → List ℕ → ℕ → List ℕ
-loaded_to m a fill file stop = loaded m (place a) file (transfers (plan a fill) a.body.start (stop - a.body.start))
+loaded_to m a fill file stop = registers_loaded m (element_start a) file (transfers (plan a fill) a.body.start (stop - a.body.start))
 
 module _ (m : Memory) (a : VectorAccess) (fill : Bool) (file : List ℕ) (stop : ℕ) where
   pub byte_kept : (b : ℕ) → ((field i : ℕ) → field < a.fields → i < stop → Beside b (element_place a field i) a.size)
       → get_or (loaded_to m a fill file stop) b 0 ≡ get_or file b 0
   byte_kept b beside =
-      missed m (place a) b (transfers (plan a fill) a.body.start (stop - a.body.start)) file
-      (all_transfers (Misses (place a) b) (plan a fill) a.body.start (stop - a.body.start)
-      (λ i low high. all_planned (Misses (place a) b) a fill i (λ t is. of t i is (omega (arith, low, high)))))
+      missed m (element_start a) b (transfers (plan a fill) a.body.start (stop - a.body.start)) file
+      (all_transfers (Misses (element_start a) b) (plan a fill) a.body.start (stop - a.body.start)
+      (λ i low high. all_planned (Misses (element_start a) b) a fill i (λ t is. of t i is (omega (arith, low, high)))))
     where
-      of : (t : Transfer) (i : ℕ) → IsOf i a.size a.fields t → i < stop → Misses (place a) b t
+      of : (t : Transfer) (i : ℕ) → IsOf i a.size a.fields t → i < stop → Misses (element_start a) b t
       of t i is l =
-          let at : place a t ≡ element_place a t.field i = ap (λ (n : ℕ). VLENB * (a.register + t.field * a.field_registers) + n * a.size) is.0 in
-          let size : t.size + t.ones ≡ a.size = is.2 in
+          let at : element_start a t ≡ element_place a t.field i = ap (λ (n : ℕ). VLENB * (a.register + t.field * a.field_registers) + n * a.size) is.0 in
+          let size : t.size ≡ a.size = is.2 in
           elim (beside t.field i is.1 l) [ inl below ↦ inl (omega (arith, at, below)) | inr above ↦ inr (omega (arith, at, above, size)) ]
 
   pub length_kept : length (loaded_to m a fill file stop) ≡ length file
-  length_kept = length-loaded m (place a) (transfers (plan a fill) a.body.start (stop - a.body.start)) file
+  length_kept = length-loaded m (element_start a) (transfers (plan a fill) a.body.start (stop - a.body.start)) file
 
 -- ---- parts of lists with the same bytes
 
@@ -170,7 +172,7 @@ pub plan_same : (a b : VectorAccess) (fill : Bool) (i : ℕ) → is_let b.body i
     → plan b fill i ≡ plan a fill i
 unfolding plan
 plan_same a b fill i lets address size fields =
-    ap (λ (l : Bool). cond l (segment i (b.address i) b.size b.fields) (cond fill (filled_segment i b.size b.fields) [])) lets
-    ∙ ap (λ (x : ℕ). cond (is_let a.body i) (segment i x b.size b.fields) (cond fill (filled_segment i b.size b.fields) [])) address
-    ∙ ap (λ (x : ℕ). cond (is_let a.body i) (segment i (a.address i) x b.fields) (cond fill (filled_segment i x b.fields) [])) size
-    ∙ ap (λ (x : ℕ). cond (is_let a.body i) (segment i (a.address i) a.size x) (cond fill (filled_segment i a.size x) [])) fields
+    ap (λ (l : Bool). cond l (moved_segment i (b.address i) b.size b.fields) (cond fill (filled_segment i b.size b.fields) [])) lets
+    ∙ ap (λ (x : ℕ). cond (is_let a.body i) (moved_segment i x b.size b.fields) (cond fill (filled_segment i b.size b.fields) [])) address
+    ∙ ap (λ (x : ℕ). cond (is_let a.body i) (moved_segment i (a.address i) x b.fields) (cond fill (filled_segment i x b.fields) [])) size
+    ∙ ap (λ (x : ℕ). cond (is_let a.body i) (moved_segment i (a.address i) a.size x) (cond fill (filled_segment i a.size x) [])) fields

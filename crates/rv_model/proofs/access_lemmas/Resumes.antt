@@ -1,15 +1,16 @@
 -- The transfers of a vector load or store that stop before their end and go on from there.
 use Rattle.std.proofs.Common.{◌≡◌, ℕ, zero, suc, ◌+◌, ◌-◌, ◌<◌, ◌≤◌, true, false, cond, List, ◌++◌, min, refl, sym, ◌∙◌, ap, subst, inl, inr, arith}
 use Rattle.std.proofs.lemmas.Bool.{and_from, cases_eq, cases_lt, le-leb}
-use Rattle.rv_model.specs.accesses.Restarts.{LoadMovesResume, Moved, StoreMovesResume, overlay}
-use Rattle.rv_model.specs.accesses.Transfers.{Plan, Transfer, are_allowed, end_at, first_bad, loaded, stop_index, stored, transfers}
+use Rattle.rv_model.specs.accesses.Restarts.{Extends, overlay}
+use Rattle.rv_model.specs.accesses.Transfers.{Plan, Transfer, are_allowed, end_at, registers_loaded, stop_index, memory_stored, transfers}
 use Rattle.rv_model.specs.declared.memory.Access.{Access}
 use Rattle.rv_model.specs.declared.memory.Access.TheVariants.{Load, Store}
+use Rattle.rv_model.specs.declared.step.memory_end.MemEnd.{MemEnd}
 use Rattle.rv_model.specs.memory.Memory.{Memory}
 use Rattle.rv_model.specs.memory.Memory as memory
 use Rattle.rv_model.proofs.access_lemmas.Growth.{are_allowed_extends, loaded_extends, overlay_extends, overlay_stored}
 use Rattle.rv_model.proofs.access_lemmas.Moves.{AllowTheSame, allowed_none, are_allowed-append, are_allowed_same, bad_address_same, loaded-append, stored-append, stored_allows}
-use Rattle.rv_model.proofs.access_lemmas.Stops.{AllAllowed, first_bad_skip, transfers-add}
+use Rattle.rv_model.proofs.access_lemmas.Stops.{AllAllowed, first_bad, first_bad_skip, stop_is, stop_past, transfers-add}
 
 -- ---- plans that are the same from one index up to another
 
@@ -21,21 +22,24 @@ transfers_same each other i (suc n) h =
     let rest = transfers_same each other (i + 1) n (λ k l g. h k (omega arith) (omega arith)) in
     cc
 
-first_bad_same : (access : Access) (m : Memory) (each other : Plan) (i n : ℕ) → ((k : ℕ) → i ≤ k → k < i + n → each k ≡ other k) → first_bad access m each i n ≡ first_bad access m other i n
+first_bad_same : (access : Access) (m : Memory) (each other : Plan) (i n none : ℕ) → ((k : ℕ) → i ≤ k → k < i + n → each k ≡ other k)
+    → first_bad access m each i n none ≡ first_bad access m other i n none
 unfolding first_bad
-first_bad_same access m each other i zero h = refl
-first_bad_same access m each other i (suc n) h =
+first_bad_same access m each other i zero none h = refl
+first_bad_same access m each other i (suc n) none h =
     let here = h i (omega arith) (omega arith) in
-    let rest = first_bad_same access m each other (i + 1) n (λ k l g. h k (omega arith) (omega arith)) in
+    let rest = first_bad_same access m each other (i + 1) n none (λ k l g. h k (omega arith) (omega arith)) in
     cc
 
-stop_same : (access : Access) (m : Memory) (each other : Plan) (i limit n : ℕ) → i ≤ n → ((k : ℕ) → i ≤ k → k < n → each k ≡ other k) → stop_index access m each i limit n ≡ stop_index access m other i limit n
-unfolding stop_index
-stop_same access m each other i limit n b h = first_bad_same access m each other i (min n limit - i) (λ k l g. h k l (omega arith))
+stop_same : (access : Access) (m : Memory) (each other : Plan) (i cut n : ℕ) → ((k : ℕ) → i ≤ k → k < n → each k ≡ other k) → stop_index access m each i cut n ≡ stop_index access m other i cut n
+stop_same access m each other i cut n h =
+    stop_is access m each i cut n
+    ∙ first_bad_same access m each other i (min n cut - i) (min n cut) (λ k l g. h k l (omega arith))
+    ∙ sym (stop_is access m other i cut n)
 
-end_same : (access : Access) (m : Memory) (each other : Plan) (limit n stop : ℕ) → (stop < n → each stop ≡ other stop) → end_at access m each limit n stop ≡ end_at access m other limit n stop
+end_same : (access : Access) (m : Memory) (each other : Plan) (cut n stop : ℕ) → (stop < n → each stop ≡ other stop) → end_at access m each cut n stop ≡ end_at access m other cut n stop
 unfolding end_at
-end_same access m each other limit n stop h = elim (cases_lt stop n) [
+end_same access m each other cut n stop h = elim (cases_lt stop n) [
   | inl l ↦ let e = h l in cc
   | inr g ↦ let done = le-leb n stop g in cc
 ]
@@ -43,39 +47,54 @@ end_same access m each other limit n stop h = elim (cases_lt stop n) [
 -- ---- where transfers stop
 
 module _ (access : Access) (m : Memory) (each : Plan) where
-  pub first_bad_bounds : (i n : ℕ) → (i ≤ first_bad access m each i n) × (first_bad access m each i n ≤ i + n)
+  pub first_bad_bounds : (i n none : ℕ) → i + n ≤ none → (i ≤ first_bad access m each i n none) × (first_bad access m each i n none ≤ none)
   unfolding first_bad
-  first_bad_bounds i zero = (omega arith, omega arith)
-  first_bad_bounds i (suc n) =
-      let rest = first_bad_bounds (i + 1) n in
-      elim (are_allowed access m (each i)) as (λ b. (i ≤ cond b (first_bad access m each (i + 1) n) i) × (cond b (first_bad access m each (i + 1) n) i ≤ i + suc n)) [
-        | true ↦ (omega (arith, rest.0), omega (arith, rest.1))
-        | false ↦ (omega arith, omega arith)
+  first_bad_bounds i zero none h = (omega (arith, h), omega arith)
+  first_bad_bounds i (suc n) none h =
+      let rest = first_bad_bounds (i + 1) n none (omega (arith, h)) in
+      elim (are_allowed access m (each i)) as (λ b. (i ≤ cond b (first_bad access m each (i + 1) n none) i) × (cond b (first_bad access m each (i + 1) n none) i ≤ none)) [
+        | true ↦ (omega (arith, rest.0), rest.1)
+        | false ↦ (omega arith, omega (arith, h))
       ]
 
-  allowed_before : (i n k : ℕ) → i ≤ k → k < first_bad access m each i n → are_allowed access m (each k) ≡ true
+  allowed_before : (i n none k : ℕ) → i ≤ k → k < i + n → k < first_bad access m each i n none → are_allowed access m (each k) ≡ true
   unfolding first_bad
-  allowed_before i zero k l h = absurd (omega arith)
-  allowed_before i (suc n) k l h =
-      elim (are_allowed access m (each i)) as (λ b. are_allowed access m (each i) ≡ b → k < cond b (first_bad access m each (i + 1) n) i → are_allowed access m (each k) ≡ true) [
+  allowed_before i zero none k l r h = absurd (omega (arith, l, r))
+  allowed_before i (suc n) none k l r h =
+      elim (are_allowed access m (each i)) as (λ b. are_allowed access m (each i) ≡ b → k < cond b (first_bad access m each (i + 1) n none) i → are_allowed access m (each k) ≡ true) [
         | true ↦ λ e g. elim (cases_eq k i) [
           | inl q ↦ ap (λ (j : ℕ). are_allowed access m (each j)) q ∙ e
-          | inr q ↦ let less : i + 1 ≤ k = omega arith in allowed_before (i + 1) n k less g
+          | inr q ↦ let less : i + 1 ≤ k = omega arith in allowed_before (i + 1) n none k less (omega (arith, r)) g
         ]
         | false ↦ λ e g. absurd (omega arith)
       ] refl h
 
-  pub stop_from : (i limit n : ℕ) → i ≤ stop_index access m each i limit n
-  unfolding stop_index
-  stop_from i limit n = (first_bad_bounds i (min n limit - i)).0
+  -- it is no less than where it begins, and no more than the end and the cut
+  stop_bounds : (i cut n : ℕ) → i ≤ min n cut → (i ≤ stop_index access m each i cut n) × (stop_index access m each i cut n ≤ min n cut)
+  stop_bounds i cut n h =
+      let b = first_bad_bounds i (min n cut - i) (min n cut) (omega (arith, h)) in
+      let is = stop_is access m each i cut n in
+      (omega (arith, b.0, is), omega (arith, b.1, is))
 
-  pub stop_within : (i limit n : ℕ) → i ≤ n → stop_index access m each i limit n ≤ n
-  unfolding stop_index
-  stop_within i limit n h = let most = (first_bad_bounds i (min n limit - i)).1 in omega arith
+  pub stop_least : (i cut n : ℕ) → i ≤ n → i ≤ cut → i ≤ stop_index access m each i cut n
+  stop_least i cut n h g = (stop_bounds i cut n (omega (arith, h, g))).0
 
-  pub allowed_done : (i limit n : ℕ) → AllAllowed access m each i (stop_index access m each i limit n)
-  unfolding stop_index
-  allowed_done i limit n k l h = allowed_before i (min n limit - i) k l h
+  pub stop_most : (i cut n : ℕ) → stop_index access m each i cut n ≤ min n cut
+  stop_most i cut n = elim (cases_lt (min n cut) i) [
+    | inl past ↦ omega (arith, stop_past access m each i cut n past)
+    | inr low ↦ (stop_bounds i cut n low).1
+  ]
+
+  -- also where it begins past the end, if it isn't done
+  pub stop_from : (i cut n : ℕ) → i ≤ cut → stop_index access m each i cut n < n → i ≤ stop_index access m each i cut n
+  stop_from i cut n low less = elim (cases_lt (min n cut) i) [
+    | inl past ↦ absurd (omega (arith, low, less, stop_past access m each i cut n past, past))
+    | inr within ↦ (stop_bounds i cut n within).0
+  ]
+
+  pub allowed_done : (i cut n : ℕ) → AllAllowed access m each i (stop_index access m each i cut n)
+  allowed_done i cut n k l h =
+      allowed_before i (min n cut - i) (min n cut) k l (omega (arith, l, h, stop_most i cut n)) (omega (arith, h, stop_is access m each i cut n))
 
   all_allowed : (i n : ℕ) → AllAllowed access m each i (i + n) → are_allowed access m (transfers each i n) ≡ true
   unfolding transfers
@@ -85,10 +104,8 @@ module _ (access : Access) (m : Memory) (each : Plan) where
       ∙ and_from _ _ (h i (omega arith) (omega arith)) (all_allowed (i + 1) n (λ k l g. h k (omega arith) (omega arith)))
 
   -- what is done was allowed
-  done_allowed : (i limit n : ℕ) → are_allowed access m (transfers each i (stop_index access m each i limit n - i)) ≡ true
-  done_allowed i limit n =
-      let low = stop_from i limit n in
-      all_allowed i _ (λ k a b. allowed_done i limit n k a (omega arith))
+  done_allowed : (i cut n : ℕ) → are_allowed access m (transfers each i (stop_index access m each i cut n - i)) ≡ true
+  done_allowed i cut n = all_allowed i _ (λ k a b. allowed_done i cut n k a (omega (arith, a, b)))
 
   rest_of : (i stop later n : ℕ) → i ≤ stop → stop < n → stop ≤ later → min n later - i ≡ (stop - i) + (min n later - stop)
   rest_of i stop later n a b c = omega arith
@@ -96,12 +113,13 @@ module _ (access : Access) (m : Memory) (each : Plan) where
   -- transfers that go past what is done stop where those from there do
   stop_again : (i stop later n : ℕ) → i ≤ stop → stop < n → stop ≤ later → AllAllowed access m each i stop
       → stop_index access m each i later n ≡ stop_index access m each stop later n
-  unfolding stop_index
   stop_again i stop later n l below within ok =
       let at : i + (stop - i) ≡ stop = omega arith in
-      ap (λ (c : ℕ). first_bad access m each i c) (rest_of i stop later n l below within)
-      ∙ first_bad_skip access m each i (stop - i) (min n later - stop) (λ k a b. ok k a (omega arith))
-      ∙ ap (λ (j : ℕ). first_bad access m each j (min n later - stop)) at
+      stop_is access m each i later n
+      ∙ ap (λ (c : ℕ). first_bad access m each i c (min n later)) (rest_of i stop later n l below within)
+      ∙ first_bad_skip access m each i (stop - i) (min n later - stop) (min n later) (λ k a b. ok k a (omega arith))
+      ∙ ap (λ (j : ℕ). first_bad access m each j (min n later - stop) (min n later)) at
+      ∙ sym (stop_is access m each stop later n)
 
 -- the transfers up to a later index are those that are done and those from there
 transfers_split : (each : Plan) (i stop again : ℕ) → i ≤ stop → stop ≤ again → transfers each i (again - i) ≡ transfers each i (stop - i) ++ transfers each stop (again - stop)
@@ -111,69 +129,104 @@ transfers_split each i stop again a b =
     ap (λ (c : ℕ). transfers each i c) count ∙ transfers-add each i (stop - i) (again - stop)
     ∙ ap (λ (j : ℕ). transfers each i (stop - i) ++ transfers each j (again - stop)) at
 
-moved_equal : {X : Type 0} (r s : Moved X) → r.left ≡ s.left → r.stop ≡ s.stop → r.end ≡ s.end → r ≡ s
-moved_equal r s a b c = λ i. record { left = a i; stop = b i; end = c i }
+-- ---- the transfers of a plan, from an index on
+
+-- what they leave, the index that they get to, and how they end there
+pub record Progress (X : Type 0) : Type 0 where
+  pub left : X
+  pub stop : ℕ
+  pub end : MemEnd
+
+-- those of a load leave registers; `place` says where an element begins
+abbrev pub load_moves : Memory → (Transfer → ℕ) → Plan → List ℕ → ℕ → ℕ → ℕ → Progress (List ℕ)
+load_moves m place each file start cut n =
+    let stop = stop_index Load m each start cut n in
+    record { left = registers_loaded m place file (transfers each start (stop - start)); stop = stop; end = end_at Load m each cut n stop }
+
+-- those of a store leave a memory
+abbrev pub store_moves : Memory → (Transfer → ℕ) → Plan → List ℕ → ℕ → ℕ → ℕ → Progress Memory
+store_moves m place each file start cut n =
+    let stop = stop_index Store m each start cut n in
+    record { left = memory_stored m place file (transfers each start (stop - start)); stop = stop; end = end_at Store m each cut n stop }
+
+progress_equal : {X : Type 0} (r s : Progress X) → r.left ≡ s.left → r.stop ≡ s.stop → r.end ≡ s.end → r ≡ s
+progress_equal r s a b c = λ i. record { left = a i; stop = b i; end = c i }
 
 -- ---- loads
 
-pub load_moves_resume : LoadMovesResume
-load_moves_resume m more place each rest file i limit later n grown below within stable =
-    let stop = stop_index Load m each i limit n in
-    let half = loaded m place file (transfers each i (stop - i)) in
-    let low = stop_from Load m each i limit n in
-    let whole = stop_again Load more each i stop later n low below within (λ k a b. are_allowed_extends Load m more (each k) grown (allowed_done Load m each i limit n k a b)) in
-    let before : stop ≤ n = omega arith in
-    let stops = stop_same Load more rest each stop later n before stable ∙ sym whole in
+-- a load that stops and goes on from there, in a memory that has grown, ends as if that memory had been there from the start, where
+-- the transfers that are left are the same
+pub load_moves_resume : (m more : Memory) (place : Transfer → ℕ) (each rest : Plan) (file : List ℕ) (i cut later n : ℕ)
+    → Extends m more
+    → i ≤ cut
+    → (load_moves m place each file i cut n).stop < n
+    → (load_moves m place each file i cut n).stop ≤ later
+    → ((k : ℕ) → (load_moves m place each file i cut n).stop ≤ k → k < n → rest k ≡ each k)
+    → load_moves more place rest (load_moves m place each file i cut n).left (load_moves m place each file i cut n).stop later n
+    ≡ load_moves more place each file i later n
+load_moves_resume m more place each rest file i cut later n grown begins below within stable =
+    let stop = stop_index Load m each i cut n in
+    let half = registers_loaded m place file (transfers each i (stop - i)) in
+    let low = stop_from Load m each i cut n begins below in
+    let whole = stop_again Load more each i stop later n low below within (λ k a b. are_allowed_extends Load m more (each k) grown (allowed_done Load m each i cut n k a b)) in
+    let stops = stop_same Load more rest each stop later n stable ∙ sym whole in
     let again = stop_index Load more each i later n in
-    let further : stop ≤ again = subst (λ (s : ℕ). stop ≤ s) (sym whole) (stop_from Load more each stop later n) in
-    let top : again ≤ n = subst (λ (s : ℕ). s ≤ n) (sym whole) (stop_within Load more each stop later n before) in
-    let done = loaded_extends m more place file (transfers each i (stop - i)) grown (done_allowed Load m each i limit n) in
-    moved_equal _ _
-    (ap (λ (s : ℕ). loaded more place half (transfers rest stop (s - stop))) stops
-    ∙ ap (λ (ts : List Transfer). loaded more place half ts) (transfers_same rest each stop (again - stop) (λ k l g. stable k l (omega arith)))
-    ∙ ap (λ (f : List ℕ). loaded more place f (transfers each stop (again - stop))) (sym done)
+    let further : stop ≤ again = subst (λ (s : ℕ). stop ≤ s) (sym whole) (stop_least Load more each stop later n (omega (arith, below)) within) in
+    let top : again ≤ n = omega (arith, whole, stop_most Load more each stop later n) in
+    let done = loaded_extends m more place file (transfers each i (stop - i)) grown (done_allowed Load m each i cut n) in
+    progress_equal _ _
+    (ap (λ (s : ℕ). registers_loaded more place half (transfers rest stop (s - stop))) stops
+    ∙ ap (λ (ts : List Transfer). registers_loaded more place half ts) (transfers_same rest each stop (again - stop) (λ k l g. stable k l (omega arith)))
+    ∙ ap (λ (f : List ℕ). registers_loaded more place f (transfers each stop (again - stop))) (sym done)
     ∙ sym (loaded-append more place file (transfers each i (stop - i)) (transfers each stop (again - stop)))
-    ∙ ap (λ (ts : List Transfer). loaded more place file ts) (sym (transfers_split each i stop again low further)))
+    ∙ ap (λ (ts : List Transfer). registers_loaded more place file ts) (sym (transfers_split each i stop again low further)))
     stops
     (ap (λ (s : ℕ). end_at Load more rest later n s) stops
     ∙ end_same Load more rest each later n again (λ l. stable again further l))
 
 -- ---- stores
 
-first_bad_agrees : (access : Access) (m other : Memory) (each : Plan) (i n : ℕ) → AllowTheSame access m other → first_bad access m each i n ≡ first_bad access other each i n
+first_bad_agrees : (access : Access) (m other : Memory) (each : Plan) (i n none : ℕ) → AllowTheSame access m other → first_bad access m each i n none ≡ first_bad access other each i n none
 unfolding first_bad
-first_bad_agrees access m other each i zero same = refl
-first_bad_agrees access m other each i (suc n) same =
+first_bad_agrees access m other each i zero none same = refl
+first_bad_agrees access m other each i (suc n) none same =
     let here = are_allowed_same access m other (each i) same in
-    let rest = first_bad_agrees access m other each (i + 1) n same in
+    let rest = first_bad_agrees access m other each (i + 1) n none same in
     cc
 
-stop_agrees : (access : Access) (m other : Memory) (each : Plan) (i limit n : ℕ) → AllowTheSame access m other → stop_index access m each i limit n ≡ stop_index access other each i limit n
-unfolding stop_index
-stop_agrees access m other each i limit n same = first_bad_agrees access m other each i (min n limit - i) same
+stop_agrees : (access : Access) (m other : Memory) (each : Plan) (i cut n : ℕ) → AllowTheSame access m other → stop_index access m each i cut n ≡ stop_index access other each i cut n
+stop_agrees access m other each i cut n same =
+    stop_is access m each i cut n ∙ first_bad_agrees access m other each i (min n cut - i) (min n cut) same ∙ sym (stop_is access other each i cut n)
 
-end_agrees : (access : Access) (m other : Memory) (each : Plan) (limit n stop : ℕ) → AllowTheSame access m other → end_at access m each limit n stop ≡ end_at access other each limit n stop
+end_agrees : (access : Access) (m other : Memory) (each : Plan) (cut n stop : ℕ) → AllowTheSame access m other → end_at access m each cut n stop ≡ end_at access other each cut n stop
 unfolding end_at
-end_agrees access m other each limit n stop same = let address = bad_address_same access m other (each stop) same in cc
+end_agrees access m other each cut n stop same = let address = bad_address_same access m other (each stop) same in cc
 
-pub store_moves_resume : StoreMovesResume
-store_moves_resume m more place each file i limit later n grown below within =
-    let stop = stop_index Store m each i limit n in
-    let low = stop_from Store m each i limit n in
+-- a store that does ends as if what is new had been there from the start
+pub store_moves_resume : (m more : Memory) (place : Transfer → ℕ) (each : Plan) (file : List ℕ) (i cut later n : ℕ)
+    → Extends (store_moves m place each file i cut n).left more
+    → i ≤ cut
+    → (store_moves m place each file i cut n).stop < n
+    → (store_moves m place each file i cut n).stop ≤ later
+    → store_moves more place each file (store_moves m place each file i cut n).stop later n
+    ≡ store_moves (overlay m more) place each file i later n
+store_moves_resume m more place each file i cut later n grown begins below within =
+    let stop = stop_index Store m each i cut n in
+    let low = stop_from Store m each i cut n begins below in
     let first = transfers each i (stop - i) in
     let start = overlay m more in
-    let joined = overlay_stored m more place file first (done_allowed Store m each i limit n) grown in
+    let joined = overlay_stored m more place file first (done_allowed Store m each i cut n) grown in
     let agree : AllowTheSame Store more start =
-    λ x. ap (λ (o : Memory). memory.is_allowed Store o x) (sym joined) ∙ stored_allows Store start place file first x in
-    let whole = stop_again Store start each i stop later n low below within (λ k a b. are_allowed_extends Store m start (each k) (overlay_extends m more) (allowed_done Store m each i limit n k a b)) in
+    λ x. ap (λ (o : Memory). memory.can_access_byte Store o x) (sym joined) ∙ stored_allows Store start place file first x in
+    let whole = stop_again Store start each i stop later n low below within (λ k a b. are_allowed_extends Store m start (each k) (overlay_extends m more) (allowed_done Store m each i cut n k a b)) in
     let stops = stop_agrees Store more start each stop later n agree ∙ sym whole in
     let again = stop_index Store start each i later n in
-    let further : stop ≤ again = subst (λ (s : ℕ). stop ≤ s) (sym whole) (stop_from Store start each stop later n) in
-    moved_equal _ _
-    (ap (λ (s : ℕ). stored more place file (transfers each stop (s - stop))) stops
-    ∙ ap (λ (o : Memory). stored o place file (transfers each stop (again - stop))) (sym joined)
+    let further : stop ≤ again = subst (λ (s : ℕ). stop ≤ s) (sym whole) (stop_least Store start each stop later n (omega (arith, below)) within) in
+    progress_equal _ _
+    (ap (λ (s : ℕ). memory_stored more place file (transfers each stop (s - stop))) stops
+    ∙ ap (λ (o : Memory). memory_stored o place file (transfers each stop (again - stop))) (sym joined)
     ∙ sym (stored-append start place file first (transfers each stop (again - stop)))
-    ∙ ap (λ (ts : List Transfer). stored start place file ts) (sym (transfers_split each i stop again low further)))
+    ∙ ap (λ (ts : List Transfer). memory_stored start place file ts) (sym (transfers_split each i stop again low further)))
     stops
     (ap (λ (s : ℕ). end_at Store more each later n s) stops
     ∙ end_agrees Store more start each later n again agree)

@@ -1,11 +1,14 @@
 -- Where a vector load or store stops, as one index more comes, and how it ends there.
-use Rattle.std.proofs.Common.{◌≡◌, ℕ, zero, suc, ◌+◌, ◌-◌, ◌<◌, ◌≤◌, Bool, true, false, cond, List, [], ◌++◌, min, sym, ◌∙◌, ap, inl, inr, arith, append_assoc}
+use Rattle.std.proofs.Common.{◌≡◌, ℕ, zero, suc, ◌+◌, ◌-◌, ◌<◌, ◌≤◌, Bool, true, false, cond, List, [], ◌++◌, min, Option, Some, refl, sym, ◌∙◌, ap, inl, inr, arith, append_assoc}
+use Rattle.std.specs.List.{find, range_with_len}
+use Rattle.std.specs.Option.{unwrap_or}
+use Rattle.std.specs.Prelude.{not}
 use Rattle.std.proofs.lemmas.Bool.{cases_eq, le-leb, lt-leb}
 use Rattle.std.proofs.lemmas.List.{append-nil}
 use Rattle.rv_model.specs.declared.memory.Access.{Access}
 use Rattle.rv_model.specs.declared.step.memory_end.MemEnd.{MemEnd}
 use Rattle.rv_model.specs.declared.step.memory_end.MemEnd.TheVariants.{Done, Fault, Cut}
-use Rattle.rv_model.specs.accesses.Transfers.{Plan, Transfer, are_allowed, bad_address, end_at, first_bad, stop_index, transfers}
+use Rattle.rv_model.specs.accesses.Transfers.{Plan, Transfer, are_allowed, bad_address, end_at, stop_index, transfers}
 use Rattle.rv_model.specs.memory.Memory.{Memory}
 
 -- ---- lists of transfers
@@ -42,7 +45,37 @@ transfers_more plan i j h =
 
 -- ---- the first index that isn't done
 
+-- it is found index by index
+unfoldable pub first_bad : Access → Memory → Plan → ℕ → ℕ → ℕ → ℕ
+first_bad access m plan i zero none = none
+first_bad access m plan i (suc n) none = cond (are_allowed access m (plan i)) (first_bad access m plan (i + 1) n none) i
+
+found_is : (access : Access) (m : Memory) (plan : Plan) (i n none : ℕ)
+    → unwrap_or (find (λ k. not (are_allowed access m (plan k))) (range_with_len i n)) none ≡ first_bad access m plan i n none
+unfolding first_bad
+found_is access m plan i zero none = refl
+found_is access m plan i (suc n) none = named (are_allowed access m (plan i)) (found_is access m plan (i + 1) n none)
+  where
+    rest : Option ℕ
+    rest = find (λ k. not (are_allowed access m (plan k))) (range_with_len (i + 1) n)
+
+    named : (b : Bool) → unwrap_or rest none ≡ first_bad access m plan (i + 1) n none
+        → unwrap_or (cond (not b) (Some i) rest) none ≡ cond b (first_bad access m plan (i + 1) n none) i
+    named true h = h
+    named false h = refl
+
 module _ (access : Access) (m : Memory) (plan : Plan) where
+  pub stop_is : (i cut n : ℕ) → stop_index access m plan i cut n ≡ first_bad access m plan i (min n cut - i) (min n cut)
+  unfolding stop_index
+  stop_is i cut n = found_is access m plan i (min n cut - i) (min n cut)
+
+  -- from an index past the end on
+  pub stop_past : (i cut n : ℕ) → min n cut < i → stop_index access m plan i cut n ≡ min n cut
+  unfolding first_bad
+  stop_past i cut n h =
+      let none : min n cut - i ≡ 0 = omega (arith, h) in
+      stop_is i cut n ∙ ap (λ (k : ℕ). first_bad access m plan i k (min n cut)) none
+
   -- each index from one up to another may be done
   abbrev pub AllAllowed : ℕ → ℕ → Type 0
   AllAllowed i j = (k : ℕ) → i ≤ k → k < j → are_allowed access m (plan k) ≡ true
@@ -54,85 +87,86 @@ module _ (access : Access) (m : Memory) (plan : Plan) where
     | inr other ↦ let less : k < j = omega arith in before k low less
   ]
 
-  pub first_bad_skip : (i a b : ℕ) → AllAllowed i (i + a) → first_bad access m plan i (a + b) ≡ first_bad access m plan (i + a) b
+  pub first_bad_skip : (i a b none : ℕ) → AllAllowed i (i + a) → first_bad access m plan i (a + b) none ≡ first_bad access m plan (i + a) b none
   unfolding first_bad
-  first_bad_skip i zero b h =
-      ap (λ (n : ℕ). first_bad access m plan i n) (omega arith) ∙ ap (λ (j : ℕ). first_bad access m plan j b) (omega arith)
-  first_bad_skip i (suc a) b h =
+  first_bad_skip i zero b none h =
+      ap (λ (n : ℕ). first_bad access m plan i n none) (omega arith) ∙ ap (λ (j : ℕ). first_bad access m plan j b none) (omega arith)
+  first_bad_skip i (suc a) b none h =
       let next : suc a + b ≡ suc (a + b) = omega arith in
       let at : (i + 1) + a ≡ i + suc a = omega arith in
-      ap (λ (n : ℕ). first_bad access m plan i n) next
-      ∙ ap (λ (t : Bool). cond t (first_bad access m plan (i + 1) (a + b)) i) (h i (omega arith) (omega arith))
-      ∙ first_bad_skip (i + 1) a b (λ k l g. h k (omega arith) (omega arith))
-      ∙ ap (λ (j : ℕ). first_bad access m plan j b) at
+      ap (λ (n : ℕ). first_bad access m plan i n none) next
+      ∙ ap (λ (t : Bool). cond t (first_bad access m plan (i + 1) (a + b) none) i) (h i (omega arith) (omega arith))
+      ∙ first_bad_skip (i + 1) a b none (λ k l g. h k (omega arith) (omega arith))
+      ∙ ap (λ (j : ℕ). first_bad access m plan j b none) at
 
   -- an index that may not be done
-  stop_found : (i limit n j : ℕ) → i ≤ j → j < n → j < limit → AllAllowed i j → are_allowed access m (plan j) ≡ false
-      → stop_index access m plan i limit n ≡ j
-  unfolding stop_index first_bad
-  stop_found i limit n j a b c before bad =
-      let rest : min n limit - i ≡ (j - i) + suc (min n limit - (j + 1)) = omega arith in
+  stop_found : (i cut n j : ℕ) → i ≤ j → j < n → j < cut → AllAllowed i j → are_allowed access m (plan j) ≡ false
+      → stop_index access m plan i cut n ≡ j
+  unfolding first_bad
+  stop_found i cut n j a b c before bad =
+      let none : ℕ = min n cut in
+      let rest : none - i ≡ (j - i) + suc (none - (j + 1)) = omega arith in
       let at : i + (j - i) ≡ j = omega arith in
-      ap (λ (e : ℕ). first_bad access m plan i e) rest
-      ∙ first_bad_skip i (j - i) (suc (min n limit - (j + 1))) (λ k l g. before k l (omega arith))
-      ∙ ap (λ (k : ℕ). first_bad access m plan k (suc (min n limit - (j + 1)))) at
-      ∙ ap (λ (t : Bool). cond t (first_bad access m plan (j + 1) (min n limit - (j + 1))) j) bad
+      stop_is i cut n
+      ∙ ap (λ (e : ℕ). first_bad access m plan i e none) rest
+      ∙ first_bad_skip i (j - i) (suc (none - (j + 1))) none (λ k l g. before k l (omega arith))
+      ∙ ap (λ (k : ℕ). first_bad access m plan k (suc (none - (j + 1))) none) at
+      ∙ ap (λ (t : Bool). cond t (first_bad access m plan (j + 1) (none - (j + 1)) none) j) bad
 
   -- there is none
-  stop_none : (i limit n : ℕ) → AllAllowed i (min n limit) → stop_index access m plan i limit n ≡ i + (min n limit - i)
-  unfolding stop_index first_bad
-  stop_none i limit n before =
-      let rest : min n limit - i ≡ (min n limit - i) + 0 = omega arith in
-      ap (λ (e : ℕ). first_bad access m plan i e) rest
-      ∙ first_bad_skip i (min n limit - i) 0 (λ k l g. before k l (omega arith))
+  stop_none : (i cut n : ℕ) → AllAllowed i (min n cut) → stop_index access m plan i cut n ≡ min n cut
+  unfolding first_bad
+  stop_none i cut n before =
+      let rest : min n cut - i ≡ (min n cut - i) + 0 = omega arith in
+      stop_is i cut n
+      ∙ ap (λ (e : ℕ). first_bad access m plan i e (min n cut)) rest
+      ∙ first_bad_skip i (min n cut - i) 0 (min n cut) (λ k l g. before k l (omega arith))
 
   -- ---- how an instruction ends
 
-  end_done : (limit n j : ℕ) → n ≤ j → end_at access m plan limit n j ≡ Done
+  end_done : (cut n j : ℕ) → n ≤ j → end_at access m plan cut n j ≡ Done
   unfolding end_at
-  end_done limit n j h = let done = le-leb n j h in cc
+  end_done cut n j h = let done = le-leb n j h in cc
 
-  end_cut : (limit n j : ℕ) → j < n → limit ≤ j → end_at access m plan limit n j ≡ Cut j
+  end_cut : (cut n j : ℕ) → j < n → cut ≤ j → end_at access m plan cut n j ≡ Cut j
   unfolding end_at
-  end_cut limit n j h g = let more = lt-leb n j h in let cut = le-leb limit j g in cc
+  end_cut cut n j h g = let more = lt-leb n j h in let reached = le-leb cut j g in cc
 
-  end_fault : (limit n j : ℕ) → j < n → j < limit → end_at access m plan limit n j ≡ Fault j (bad_address access m (plan j))
+  end_fault : (cut n j : ℕ) → j < n → j < cut → end_at access m plan cut n j ≡ Fault j (bad_address access m (plan j))
   unfolding end_at
-  end_fault limit n j h g = let more = lt-leb n j h in let left = lt-leb limit j g in cc
+  end_fault cut n j h g = let more = lt-leb n j h in let left = lt-leb cut j g in cc
 
   -- what is done, and how it ends
-  pub record Stopped (i limit n stop : ℕ) (how : MemEnd) : Type 0 where
-    pub done : transfers plan i (stop_index access m plan i limit n - i) ≡ transfers plan i (stop - i)
-    pub end : end_at access m plan limit n (stop_index access m plan i limit n) ≡ how
+  pub record Stopped (i cut n stop : ℕ) (how : MemEnd) : Type 0 where
+    pub done : transfers plan i (stop_index access m plan i cut n - i) ≡ transfers plan i (stop - i)
+    pub end : end_at access m plan cut n (stop_index access m plan i cut n) ≡ how
 
   -- at an index that may not be done
-  pub stops_bad : (i limit n j : ℕ) → i ≤ j → j < n → j < limit → AllAllowed i j → are_allowed access m (plan j) ≡ false
-      → Stopped i limit n j (Fault j (bad_address access m (plan j)))
-  stops_bad i limit n j low less within before bad =
-      let stop = stop_found i limit n j low less within before bad in
+  pub stops_bad : (i cut n j : ℕ) → i ≤ j → j < n → j < cut → AllAllowed i j → are_allowed access m (plan j) ≡ false
+      → Stopped i cut n j (Fault j (bad_address access m (plan j)))
+  stops_bad i cut n j low less within before bad =
+      let stop = stop_found i cut n j low less within before bad in
       record {
         done = ap (λ s. transfers plan i (s - i)) stop;
-        end = ap (end_at access m plan limit n) stop ∙ end_fault limit n j less within;
+        end = ap (end_at access m plan cut n) stop ∙ end_fault cut n j less within;
       }
 
   -- at its end
-  pub stops_done : (i limit n : ℕ) → n ≤ limit → AllAllowed i n → Stopped i limit n n Done
-  stops_done i limit n most before =
-      let least : min n limit ≡ n = omega arith in
-      let stop : stop_index access m plan i limit n ≡ i + (n - i) =
-      stop_none i limit n (λ k low high. before k low (omega (arith, high))) ∙ ap (λ x. i + (x - i)) least in
-      let count : stop_index access m plan i limit n - i ≡ n - i = omega (arith, stop) in
+  pub stops_done : (i cut n : ℕ) → n ≤ cut → AllAllowed i n → Stopped i cut n n Done
+  stops_done i cut n most before =
+      let stop : stop_index access m plan i cut n ≡ n =
+      stop_none i cut n (λ k low high. before k low (omega (arith, high))) ∙ omega (arith, most) in
       record {
-        done = ap (transfers plan i) count;
-        end = end_done limit n (stop_index access m plan i limit n) (omega (arith, stop));
+        done = ap (λ s. transfers plan i (s - i)) stop;
+        end = ap (end_at access m plan cut n) stop ∙ end_done cut n n (omega arith);
       }
 
   -- where it is cut
-  pub stops_cut : (i limit n : ℕ) → i ≤ limit → limit < n → AllAllowed i limit → Stopped i limit n limit (Cut limit)
-  stops_cut i limit n low less before =
-      let stop : stop_index access m plan i limit n ≡ limit =
-      stop_none i limit n (λ k l high. before k l (omega (arith, high))) ∙ omega (arith, low, less) in
+  pub stops_cut : (i cut n : ℕ) → i ≤ cut → cut < n → AllAllowed i cut → Stopped i cut n cut (Cut cut)
+  stops_cut i cut n low less before =
+      let stop : stop_index access m plan i cut n ≡ cut =
+      stop_none i cut n (λ k l high. before k l (omega (arith, high))) ∙ omega (arith, less) in
       record {
         done = ap (λ s. transfers plan i (s - i)) stop;
-        end = ap (end_at access m plan limit n) stop ∙ end_cut limit n limit less (omega arith);
+        end = ap (end_at access m plan cut n) stop ∙ end_cut cut n cut less (omega arith);
       }

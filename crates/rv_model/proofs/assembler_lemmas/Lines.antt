@@ -11,9 +11,9 @@ use Rattle.rv_model.specs.declared.assembler.mnemonics.Mnemonic.{Mnemonic}
 use Rattle.rv_model.specs.declared.assembler.mnemonics.TheConstants.{MNEMONICS}
 use Rattle.rv_model.specs.assembler.Fields.{value_of}
 use Rattle.rv_model.specs.assembler.Numbers.{hex_digit, hex_digits, csr_text, csr_text_of}
-use Rattle.rv_model.specs.assembler.Slots.{step, half, signed_text, vtype_named, vtype_text, printed}
+use Rattle.rv_model.specs.assembler.Slots.{half, signed_text, vtype_named, vtype_text, printed, scale}
 use Rattle.rv_model.specs.assembler.Table.{row_count, unpadded, row_at, name_at, slots_at, row_of_word, operands_text, printed_operands, text_at, canonical}
-use Rattle.rv_model.specs.text.Lines.{is_line, IsLine}
+use Rattle.rv_model.proofs.text_lemmas.Newlines.{is_line, IsLine}
 use Rattle.rv_model.specs.declared.vector.control_register.ControlRegister.{ControlRegister}
 use Rattle.rv_model.specs.declared.vector.types.Sew.{Sew}
 use Rattle.rv_model.specs.declared.vector.types.Sew.TheVariants.{E8, E16, E32, E64}
@@ -103,7 +103,7 @@ no_newline_in_operand V0 v = refl
 no_newline_in_operand (Scalar place) v = let letter : Piece = (codes "x", refl) in (letter ▸ number v).1
 no_newline_in_operand (Vector place) v = let letter : Piece = (codes "v", refl) in (letter ▸ number v).1
 no_newline_in_operand (Unsigned field) v = decimal_line v
-no_newline_in_operand (Signed field) v = no_newline_in_signed_text (step field) (half field) v
+no_newline_in_operand (Signed field) v = no_newline_in_signed_text (scale field) (half field) v
 no_newline_in_operand Csr v = no_newline_in_csr_text v
 no_newline_in_operand VectorType v = no_newline_in_vtype_text v
 no_newline_in_operand ShortVectorType v = no_newline_in_vtype_text v

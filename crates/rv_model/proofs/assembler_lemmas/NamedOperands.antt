@@ -10,7 +10,11 @@ use Rattle.rv_model.specs.declared.instructions.operations.VectorOp.TheVariants 
 use Rattle.rv_model.specs.declared.instructions.operations.Form.{Form}
 use Rattle.rv_model.specs.declared.instructions.operations.Form.TheVariants as form
 use Rattle.rv_model.specs.declared.instructions.instruction.Instr.{Instr}
-use Rattle.rv_model.specs.declared.instructions.instruction.Instr.TheVariants.{Upper, Jump, JumpRegister, Branch, Load, Store, RegisterImmediate, ShiftImmediate, ShiftImmediateWord, RegisterRegister, Fence, System, Csr, CsrImmediate, SetVli, SetIvli, SetVl, VectorArith, VectorCarry, VectorMove, WholeMove, MaskLogic, Compress, MaskToScalar, VectorExtend, MaskUnary, ElementIndex, MoveToScalar, MoveToVector, VectorUnit, VectorStrided, VectorIndexed, WholeLoad, WholeStore, MaskMemory}
+use Rattle.rv_model.specs.declared.instructions.instruction.Instr.TheVariants as instr
+use Rattle.rv_model.specs.declared.instructions.scalar.ScalarInstr.TheVariants.{Upper, Jump, JumpRegister, Branch, Load, Store, RegisterImmediate, ShiftImmediate, ShiftImmediateWord, RegisterRegister, Fence, System}
+use Rattle.rv_model.specs.declared.instructions.csr.CsrInstr.TheVariants.{Register, Immediate}
+use Rattle.rv_model.specs.declared.instructions.vector.VectorInstr.TheVariants.{SetVli, SetIvli, SetVl, Arith, Carry, Move, WholeMove, MaskLogic, Compress, MaskToScalar, Extend, MaskUnary, ElementIndex, MoveToScalar, MoveToVector}
+use Rattle.rv_model.specs.declared.instructions.access.AccessInstr.TheVariants.{UnitStride, Strided, Indexed, WholeLoad, WholeStore, MaskAccess}
 use Rattle.rv_model.specs.declared.assembler.forms.Place.TheVariants.{Rd, Rs1, Rs2}
 use Rattle.rv_model.specs.declared.assembler.forms.UnsignedField.TheVariants as unsigned
 use Rattle.rv_model.specs.declared.assembler.forms.SignedField.TheVariants as signed
@@ -28,7 +32,7 @@ use Rattle.rv_model.specs.instructions.Sources.{form_of, source_of}
 use Rattle.rv_model.specs.instructions.Table.{Row, In, rows, table, scan}
 use Rattle.rv_model.specs.assembler.Fields.{fixed_mask}
 use Rattle.rv_model.specs.assembler.Naming.{HasBitsOf}
-use Rattle.rv_model.specs.assembler.Operands.{TextOperand, X, V, HoldsOperands, arith_operands, carry_operands, carry_out_operands, multiply_add_operands, operand_in, operands_in, second, text_operands, usual_operands}
+use Rattle.rv_model.specs.assembler.Operands.{TextOperand, V, HoldsOperands, arith_operands, carry_operands, carry_out_operands, multiply_add_operands, operand_in, operands_in, second, text_operands, usual_operands}
 use Rattle.rv_model.specs.assembler.Operands as operand
 use Rattle.rv_model.specs.assembler.Table.{bits_at, name_count, row_at, slots_at, slots_of}
 use Rattle.rv_model.proofs.instruction_lemmas.RoundTrips.{template_of}
@@ -69,41 +73,41 @@ arith_slots (vector_op.Permute op) f vm = usual_slots true f
 arith_slots op f vm = usual_slots false f
 
 abbrev instr_slots : Instr → List Slot
-instr_slots (Upper op rd imm) = UPPER
-instr_slots (Jump rd imm) = JUMP
-instr_slots (JumpRegister rd rs1 imm) = LOAD
-instr_slots (Branch op rs1 rs2 imm) = BRANCH
-instr_slots (Load op rd rs1 imm) = LOAD
-instr_slots (Store op rs1 rs2 imm) = STORE
-instr_slots (RegisterImmediate op rd rs1 imm) = IMMEDIATE
-instr_slots (ShiftImmediate op rd rs1 shamt) = SHIFT
-instr_slots (ShiftImmediateWord op rd rs1 shamt) = SHIFT_WORD
-instr_slots (RegisterRegister op rd rs1 rs2) = REGISTER
-instr_slots (Fence rd rs1 ordering) = PLAIN
-instr_slots (System op) = PLAIN
-instr_slots (Csr op rd rs1 csr) = CSR
-instr_slots (CsrImmediate op rd imm csr) = CSR_IMMEDIATE
-instr_slots (SetVli rd rs1 vtype) = SET_VLI
-instr_slots (SetIvli rd avl vtype) = SET_IVLI
-instr_slots (SetVl rd rs1 rs2) = REGISTER
-instr_slots (VectorArith arith vd vs2 vm) = arith_slots arith.0 (form_of arith.1) vm
-instr_slots (VectorCarry carry vd vs2) = carry_slots (form_of carry.1)
-instr_slots (VectorMove source vd) = Vector Rd ∷ Comma ∷ second_slot false (form_of source) ∷ []
-instr_slots (WholeMove count vd vs2) = WHOLE_MOVE
-instr_slots (MaskLogic op vd vs1 vs2) = UNMASKED_VECTOR
-instr_slots (Compress vd vs1 vs2) = UNMASKED_VECTOR
-instr_slots (MaskToScalar op rd vs2 vm) = MASK_TO_SCALAR
-instr_slots (VectorExtend op vd vs2 vm) = VECTOR_UNARY
-instr_slots (MaskUnary op vd vs2 vm) = VECTOR_UNARY
-instr_slots (ElementIndex vd vm) = ELEMENT_INDEX
-instr_slots (MoveToScalar rd vs2) = MOVE_TO_SCALAR
-instr_slots (MoveToVector vd rs1) = MOVE_SCALAR
-instr_slots (VectorUnit op width nf vd rs1 vm) = UNIT
-instr_slots (VectorStrided direction width nf vd rs1 rs2 vm) = STRIDED
-instr_slots (VectorIndexed direction order width nf vd rs1 vs2 vm) = INDEXED
-instr_slots (WholeLoad count width vd rs1) = UNMASKED_UNIT
-instr_slots (WholeStore count vd rs1) = UNMASKED_UNIT
-instr_slots (MaskMemory direction vd rs1) = UNMASKED_UNIT
+instr_slots (instr.Scalar (Upper op rd imm)) = UPPER
+instr_slots (instr.Scalar (Jump rd imm)) = JUMP
+instr_slots (instr.Scalar (JumpRegister rd rs1 imm)) = LOAD
+instr_slots (instr.Scalar (Branch op rs1 rs2 imm)) = BRANCH
+instr_slots (instr.Scalar (Load op rd rs1 imm)) = LOAD
+instr_slots (instr.Scalar (Store op rs1 rs2 imm)) = STORE
+instr_slots (instr.Scalar (RegisterImmediate op rd rs1 imm)) = IMMEDIATE
+instr_slots (instr.Scalar (ShiftImmediate op rd rs1 shamt)) = SHIFT
+instr_slots (instr.Scalar (ShiftImmediateWord op rd rs1 shamt)) = SHIFT_WORD
+instr_slots (instr.Scalar (RegisterRegister op rd rs1 rs2)) = REGISTER
+instr_slots (instr.Scalar (Fence rd rs1 ordering)) = PLAIN
+instr_slots (instr.Scalar (System op)) = PLAIN
+instr_slots (instr.Csr (Register op rd rs1 csr)) = CSR
+instr_slots (instr.Csr (Immediate op rd imm csr)) = CSR_IMMEDIATE
+instr_slots (instr.Vector (SetVli rd rs1 vtype)) = SET_VLI
+instr_slots (instr.Vector (SetIvli rd avl vtype)) = SET_IVLI
+instr_slots (instr.Vector (SetVl rd rs1 rs2)) = REGISTER
+instr_slots (instr.Vector (Arith arith vd vs2 vm)) = arith_slots arith.0 (form_of arith.1) vm
+instr_slots (instr.Vector (Carry carry vd vs2)) = carry_slots (form_of carry.1)
+instr_slots (instr.Vector (Move source vd)) = Vector Rd ∷ Comma ∷ second_slot false (form_of source) ∷ []
+instr_slots (instr.Vector (WholeMove count vd vs2)) = WHOLE_MOVE
+instr_slots (instr.Vector (MaskLogic op vd vs1 vs2)) = UNMASKED_VECTOR
+instr_slots (instr.Vector (Compress vd vs1 vs2)) = UNMASKED_VECTOR
+instr_slots (instr.Vector (MaskToScalar op rd vs2 vm)) = MASK_TO_SCALAR
+instr_slots (instr.Vector (Extend op vd vs2 vm)) = VECTOR_UNARY
+instr_slots (instr.Vector (MaskUnary op vd vs2 vm)) = VECTOR_UNARY
+instr_slots (instr.Vector (ElementIndex vd vm)) = ELEMENT_INDEX
+instr_slots (instr.Vector (MoveToScalar rd vs2)) = MOVE_TO_SCALAR
+instr_slots (instr.Vector (MoveToVector vd rs1)) = MOVE_SCALAR
+instr_slots (instr.Access (UnitStride op width nf vd rs1 vm)) = UNIT
+instr_slots (instr.Access (Strided direction width nf vd rs1 rs2 vm)) = STRIDED
+instr_slots (instr.Access (Indexed direction order width nf vd rs1 vs2 vm)) = INDEXED
+instr_slots (instr.Access (WholeLoad count width vd rs1)) = UNMASKED_UNIT
+instr_slots (instr.Access (WholeStore count vd rs1)) = UNMASKED_UNIT
+instr_slots (instr.Access (MaskAccess direction vd rs1)) = UNMASKED_UNIT
 
 -- ---- they hold them
 
@@ -151,10 +155,13 @@ arith_held op f w v told_same = usual_held false f w v
 
 -- of two words of one row that agree in what the name tells
 held : (t : Instr) (w v : ℕ) → bit_and w (told (filled t v)) ≡ bit_and v (told (filled t v)) → operands_in w (instr_slots (filled t v)) ≡ text_operands (filled t w)
-held (VectorArith arith vd vs2 vm) w v told_same = arith_held arith.0 (form_of arith.1) w v told_same
-held (VectorCarry carry vd vs2) w v told_same = carry_held (form_of carry.1) w v
-held (VectorMove source vd) w v told_same =
+held (instr.Vector (Arith arith vd vs2 vm)) w v told_same = arith_held arith.0 (form_of arith.1) w v told_same
+held (instr.Vector (Carry carry vd vs2)) w v told_same = carry_held (form_of carry.1) w v
+held (instr.Vector (Move source vd)) w v told_same =
     ap (λ (o : TextOperand). V (field 7 5 w) ∷ operand.Comma ∷ o ∷ []) (second_held false (form_of source) w v)
+held (instr.Scalar (Fence rd rs1 ordering)) w v told_same = refl
+held (instr.Csr (Immediate op rd imm csr)) w v told_same = refl
+held (instr.Access (UnitStride op width nf vd rs1 vm)) w v told_same = refl
 held _ w v told_same = refl
 
 held_in_row : (r : Row) → In r table → (w v : ℕ) → bit_and w (told (r.instr v)) ≡ bit_and v (told (r.instr v)) → operands_in w (instr_slots (r.instr v)) ≡ text_operands (r.instr w)

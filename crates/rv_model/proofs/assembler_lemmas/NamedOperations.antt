@@ -12,7 +12,11 @@ use Rattle.rv_model.specs.declared.instructions.operations.VectorOp.{VectorOp}
 use Rattle.rv_model.specs.declared.instructions.operations.VectorOp.TheVariants as vector_op
 use Rattle.rv_model.specs.declared.instructions.operations.Form.{Form}
 use Rattle.rv_model.specs.declared.instructions.instruction.Instr.{Instr}
-use Rattle.rv_model.specs.declared.instructions.instruction.Instr.TheVariants.{VectorArith, VectorCarry, VectorMove, VectorUnit, VectorStrided, VectorIndexed}
+use Rattle.rv_model.specs.declared.instructions.instruction.Instr.TheVariants as instr
+use Rattle.rv_model.specs.declared.instructions.scalar.ScalarInstr.TheVariants.{Fence}
+use Rattle.rv_model.specs.declared.instructions.csr.CsrInstr.TheVariants.{Immediate}
+use Rattle.rv_model.specs.declared.instructions.vector.VectorInstr.TheVariants.{Arith, Carry, Move}
+use Rattle.rv_model.specs.declared.instructions.access.AccessInstr.TheVariants.{UnitStride, Strided, Indexed}
 use Rattle.rv_model.specs.declared.assembler.forms.Form.TheVariants as text_form
 use Rattle.rv_model.specs.declared.assembler.mnemonics.Mnemonic.{Mnemonic}
 use Rattle.rv_model.specs.declared.assembler.mnemonics.TheConstants.{MNEMONICS}
@@ -22,7 +26,8 @@ use Rattle.rv_model.specs.instructions.Sources.{form_of}
 use Rattle.rv_model.specs.instructions.Table.{Row, In, rows, table, scan}
 use Rattle.rv_model.specs.assembler.Fields.{fixed_mask}
 use Rattle.rv_model.specs.assembler.Naming.{HasBitsOf, NamesOperation}
-use Rattle.rv_model.specs.assembler.OperationNames.{carry_name, carry_out_name, carry_out_suffix, carry_suffix, indexed_name, mnemonic, move_suffix, strided_name, unit_name, vector_name}
+use Rattle.rv_model.specs.assembler.OperationNames.{carry_out_suffix, carry_suffix, indexed_name, mnemonic, move_suffix, strided_name, unit_name, vector_name}
+use Rattle.rv_model.specs.instructions.Operations.{carry_entry, carry_out_entry}
 use Rattle.rv_model.specs.assembler.Table.{bits_at, name_at, name_count, row_at, slots_at, slots_of, unpadded}
 use Rattle.rv_model.proofs.instruction_lemmas.RoundTrips.{template_of}
 use Rattle.rv_model.proofs.instruction_lemmas.Scans.{found, table_apart}
@@ -38,10 +43,10 @@ told_by_operation op = 0
 
 -- and the number of fields
 abbrev pub told : Instr → ℕ
-told (VectorArith arith vd vs2 vm) = told_by_operation arith.0
-told (VectorUnit op width nf vd rs1 vm) = 7 * 2 ^ 29
-told (VectorStrided direction width nf vd rs1 rs2 vm) = 7 * 2 ^ 29
-told (VectorIndexed direction order width nf vd rs1 vs2 vm) = 7 * 2 ^ 29
+told (instr.Vector (Arith arith vd vs2 vm)) = told_by_operation arith.0
+told (instr.Access (UnitStride op width nf vd rs1 vm)) = 7 * 2 ^ 29
+told (instr.Access (Strided direction width nf vd rs1 rs2 vm)) = 7 * 2 ^ 29
+told (instr.Access (Indexed direction order width nf vd rs1 vs2 vm)) = 7 * 2 ^ 29
 told i = 0
 
 pub same_flag : (w v : ℕ) → bit_and w (2 ^ 25) ≡ bit_and v (2 ^ 25) → flag w ≡ flag v
@@ -53,25 +58,27 @@ same_fields : (w v : ℕ) → bit_and w (7 * 2 ^ 29) ≡ bit_and v (7 * 2 ^ 29) 
 same_fields w v h = omega (arith, h, and_high w 3 29, and_high v 3 29)
 
 vector_same : (op : VectorOp) (f : Form) (w v : ℕ) → bit_and w (told_by_operation op) ≡ bit_and v (told_by_operation op) → vector_name op f (flag w) ≡ vector_name op f (flag v)
-vector_same (vector_op.CarryOut op) f w v h = ap (λ (vm : Bool). carry_out_name op ++ carry_out_suffix f vm) (same_flag w v h)
+vector_same (vector_op.CarryOut op) f w v h = ap (λ (vm : Bool). (carry_out_entry op).name ++ carry_out_suffix f vm) (same_flag w v h)
 vector_same op f w v h = refl
 
 -- words that agree in those bits have one name
 same_name : (t : Instr) (w v : ℕ) → bit_and w (told (filled t v)) ≡ bit_and v (told (filled t v)) → mnemonic (filled t w) ≡ mnemonic (filled t v)
-same_name (VectorArith arith vd vs2 vm) w v h =
+same_name (instr.Vector (Arith arith vd vs2 vm)) w v h =
     let f = form_of arith.1 in
     ap (λ (g : Form). vector_name arith.0 g (flag w)) (form_source_of f (field 15 5 w))
     ∙ vector_same arith.0 f w v h
     ∙ ap (λ (g : Form). vector_name arith.0 g (flag v)) (sym (form_source_of f (field 15 5 v)))
-same_name (VectorCarry carry vd vs2) w v h =
+same_name (instr.Vector (Carry carry vd vs2)) w v h =
     let f = form_of carry.1 in
-    ap (λ (g : Form). carry_name carry.0 ++ carry_suffix g) (form_source_of f (field 15 5 w) ∙ sym (form_source_of f (field 15 5 v)))
-same_name (VectorMove source vd) w v h =
+    ap (λ (g : Form). (carry_entry carry.0).name ++ carry_suffix g) (form_source_of f (field 15 5 w) ∙ sym (form_source_of f (field 15 5 v)))
+same_name (instr.Vector (Move source vd)) w v h =
     let f = form_of source in
     ap (λ (g : Form). 118 ∷ 109 ∷ 118 ∷ 46 ∷ 118 ∷ move_suffix g) (form_source_of f (field 15 5 w) ∙ sym (form_source_of f (field 15 5 v)))
-same_name (VectorUnit op width nf vd rs1 vm) w v h = ap (λ (n : ℕ). unit_name op n width) (same_fields w v h)
-same_name (VectorStrided direction width nf vd rs1 rs2 vm) w v h = ap (λ (n : ℕ). strided_name direction n width) (same_fields w v h)
-same_name (VectorIndexed direction order width nf vd rs1 vs2 vm) w v h = ap (λ (n : ℕ). indexed_name direction order n width) (same_fields w v h)
+same_name (instr.Access (UnitStride op width nf vd rs1 vm)) w v h = ap (λ (n : ℕ). unit_name op n width) (same_fields w v h)
+same_name (instr.Access (Strided direction width nf vd rs1 rs2 vm)) w v h = ap (λ (n : ℕ). strided_name direction n width) (same_fields w v h)
+same_name (instr.Access (Indexed direction order width nf vd rs1 vs2 vm)) w v h = ap (λ (n : ℕ). indexed_name direction order n width) (same_fields w v h)
+same_name (instr.Scalar (Fence rd rs1 ordering)) w v h = refl
+same_name (instr.Csr (Immediate op rd imm csr)) w v h = refl
 same_name _ w v h = refl
 
 -- ---- each row of the table of names

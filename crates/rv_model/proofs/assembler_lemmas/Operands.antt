@@ -7,14 +7,15 @@ use Rattle.rv_model.specs.declared.assembler.forms.UnsignedField.TheVariants as 
 use Rattle.rv_model.specs.declared.assembler.forms.SignedField.TheVariants as signed
 use Rattle.rv_model.specs.declared.assembler.forms.Slot.{Slot}
 use Rattle.rv_model.specs.declared.assembler.forms.Slot.TheVariants.{Comma, Open, Close, V0, Scalar, Vector, Unsigned, Signed, Csr, VectorType, ShortVectorType, Mask, Word}
-use Rattle.rv_model.specs.assembler.Slots.{limit, room}
+use Rattle.rv_model.specs.assembler.Slots.{limit}
+use Rattle.rv_model.specs.lending.Slots.{value_count}
 use Rattle.rv_model.specs.assembler.Fields.{lowest, value_of}
 
 pub field_below : (low len w : ℕ) → field low len w < 2 ^ len
 field_below low len w = mod_below (w / 2 ^ low) (2 ^ len) (pow_pos len)
 
 -- a word's operand is one that its slot has
-pub value_below : (s : Slot) (w : ℕ) → value_of s w < room s
+pub value_below : (s : Slot) (w : ℕ) → value_of s w < value_count s
 value_below Comma w = omega arith
 value_below Open w = omega arith
 value_below Close w = omega arith

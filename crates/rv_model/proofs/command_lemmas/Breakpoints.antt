@@ -6,8 +6,8 @@ use Rattle.rv_model.specs.declared.commands.breakpoints.BreakpointCommand.TheVar
 use Rattle.rv_model.specs.declared.commands.refusal.Refusal.TheVariants as refusal
 use Rattle.rv_model.specs.commands.Breakpoints.{breakpoint_limit, breaks_line, breakpoint_command, sets_breakpoint, removes_breakpoint, with_address, without_address}
 use Rattle.rv_model.specs.commands.Printing.{listed}
-use Rattle.rv_model.specs.machine.UserMachine.{Present, answers, refuses, has_breakpoint}
-use Rattle.rv_model.specs.text.Lines.{IsLine}
+use Rattle.rv_model.specs.machine.UserMachine.{Present, refuses, has_breakpoint, replies}
+use Rattle.rv_model.proofs.text_lemmas.Newlines.{IsLine}
 use Rattle.rv_model.proofs.command_lemmas.Printing.{PrintsLines, one_line, refusal_prints, no_newline_in_listed}
 use Rattle.rv_model.proofs.text_lemmas.Pieces.{Piece, ◌▸◌, flat_map_line, of_either}
 
@@ -21,11 +21,11 @@ no_newline_in_breaks_line addresses =
 setting_prints : (addr : ℕ) (p : Present) → PrintsLines (sets_breakpoint addr p)
 setting_prints addr p =
     of_either PrintsLines (nat_le breakpoint_limit (length p.breakpoints)) _ _ (refusal_prints (Some p) refusal.BreakpointLimit)
-    (of_either PrintsLines (has_breakpoint p addr) (refuses (Some p) refusal.Breakpoint) (answers (record p { breakpoints = with_address addr p.breakpoints }) (codes "ok")) (refusal_prints (Some p) refusal.Breakpoint) refl)
+    (of_either PrintsLines (has_breakpoint p addr) (refuses (Some p) refusal.Breakpoint) (replies (record p { breakpoints = with_address addr p.breakpoints }) (codes "ok")) (refusal_prints (Some p) refusal.Breakpoint) refl)
 
 removing_prints : (addr : ℕ) (p : Present) → PrintsLines (removes_breakpoint addr p)
 removing_prints addr p =
-    of_either PrintsLines (has_breakpoint p addr) (answers (record p { breakpoints = without_address addr p.breakpoints }) (codes "ok")) (refuses (Some p) refusal.Breakpoint) refl (refusal_prints (Some p) refusal.Breakpoint)
+    of_either PrintsLines (has_breakpoint p addr) (replies (record p { breakpoints = without_address addr p.breakpoints }) (codes "ok")) (refuses (Some p) refusal.Breakpoint) refl (refusal_prints (Some p) refusal.Breakpoint)
 
 pub breakpoints_print : (c : BreakpointCommand) (p : Present) → PrintsLines (breakpoint_command c p)
 unfolding breakpoint_command

@@ -9,9 +9,9 @@ use Rattle.rv_model.specs.declared.memory.MapRefusal.{MapRefusal}
 use Rattle.rv_model.specs.declared.memory.Permissions.{Permissions}
 use Rattle.rv_model.specs.commands.Arguments.{Pages}
 use Rattle.rv_model.specs.commands.Memory.{why_not_mapped, mapping, peek_line, memory_command, with_memory}
-use Rattle.rv_model.specs.machine.UserMachine.{Present, answers, refuses}
+use Rattle.rv_model.specs.machine.UserMachine.{Present, refuses, replies}
 use Rattle.rv_model.specs.memory.Memory.{bytes_at, can_access, map_refusal, put_bytes}
-use Rattle.rv_model.specs.text.Lines.{IsLine}
+use Rattle.rv_model.proofs.text_lemmas.Newlines.{IsLine}
 use Rattle.rv_model.proofs.command_lemmas.Printing.{PrintsLines, one_line, refusal_prints}
 use Rattle.rv_model.proofs.text_lemmas.Pieces.{of_either, Piece, ◌▸◌, hexadecimal, bytes, space}
 
@@ -28,10 +28,10 @@ unfolding memory_command
 memory_prints (Map pages allowed) p = mapping_prints (map_refusal p.hart.memory pages.first pages.count) pages allowed p
 memory_prints (Poke addr bytes) p =
     of_either PrintsLines (can_access Monitor p.hart.memory addr (length bytes))
-    (answers (with_memory (put_bytes p.hart.memory addr bytes) p) (codes "ok")) (refuses (Some p) refusal.NotMapped)
+    (replies (with_memory (put_bytes p.hart.memory addr bytes) p) (codes "ok")) (refuses (Some p) refusal.NotMapped)
     refl (refusal_prints (Some p) refusal.NotMapped)
 memory_prints (Peek addr count) p =
     let shown = bytes_at p.hart.memory addr count in
     of_either PrintsLines (can_access Monitor p.hart.memory addr count)
-    (answers p (peek_line addr shown)) (refuses (Some p) refusal.NotMapped)
+    (replies p (peek_line addr shown)) (refuses (Some p) refusal.NotMapped)
     (one_line (peek_line addr shown) (no_newline_in_peek_line addr shown)) (refusal_prints (Some p) refusal.NotMapped)

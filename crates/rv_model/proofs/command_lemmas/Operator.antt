@@ -5,9 +5,9 @@ use Rattle.std.specs.Str.{bytes_eq}
 use Rattle.std.proofs.lemmas.Bool.{leb-true, and_parts}
 use Rattle.rv_model.specs.declared.commands.operator.OperatorCommand.{OperatorCommand}
 use Rattle.rv_model.specs.declared.commands.operator.OperatorCommand.TheVariants.{Slices, Run, List as ListUsers, Stats as ShowStats}
-use Rattle.rv_model.specs.commands.Arguments.{number, within, decimal_number}
+use Rattle.rv_model.specs.commands.Arguments.{within, decimal_number, number_between}
 use Rattle.rv_model.specs.commands.Operator.{OperatorParsed, slices_args, run_args, operator_named, accepted, operator_of_words, operator_parse}
-use Rattle.rv_model.specs.commands.Reading.{◌>>=◌, before, done}
+use Rattle.rv_model.specs.commands.Reading.{◌>>=◌, done, with_rest}
 use Rattle.rv_model.specs.text.Words.{words}
 use Rattle.rv_model.proofs.text_lemmas.Pieces.{of_either}
 
@@ -32,9 +32,9 @@ done_names c (w ∷ ws) h = tt
 slices_name : (ws : List (List ℕ)) → NamesUserIfAny (slices_args ws)
 unfolding slices_args
 slices_name [] = tt
-slices_name (w ∷ ws) = counted (number 1 1000 w)
+slices_name (w ∷ ws) = counted (number_between 1 1000 w)
   where
-    counted : (o : Option ℕ) → NamesUserIfAny (before ws o >>= (λ count. done (Slices count.0) count.1))
+    counted : (o : Option ℕ) → NamesUserIfAny (with_rest ws o >>= (λ count. done (Slices count.0) count.1))
     counted None = tt
     counted (Some n) = done_names (Slices n) ws tt
 
@@ -43,13 +43,13 @@ unfolding run_args
 run_names [] = tt
 run_names (w ∷ ws) = numbered (decimal_number w)
   where
-    tested : (n : ℕ) (b : Bool) → b ≡ (nat_le 1 n && nat_le n 8) → NamesUserIfAny (before ws (if b then Some n else None) >>= (λ user. done (Run user.0) user.1))
+    tested : (n : ℕ) (b : Bool) → b ≡ (nat_le 1 n && nat_le n 8) → NamesUserIfAny (with_rest ws (if b then Some n else None) >>= (λ user. done (Run user.0) user.1))
     tested n false h = tt
     tested n true h =
         let two = and_parts (nat_le 1 n) (nat_le n 8) (sym h) in
         done_names (Run n) ws (leb-true 1 n two.0, leb-true n 8 two.1)
 
-    numbered : (o : Option ℕ) → NamesUserIfAny (before ws (within 1 8 o) >>= (λ user. done (Run user.0) user.1))
+    numbered : (o : Option ℕ) → NamesUserIfAny (with_rest ws (within 1 8 o) >>= (λ user. done (Run user.0) user.1))
     numbered None = tt
     numbered (Some n) = tested n (nat_le 1 n && nat_le n 8) refl
 

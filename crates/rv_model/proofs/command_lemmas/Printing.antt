@@ -12,7 +12,7 @@ use Rattle.rv_model.specs.commands.Printing.{listed, refused, stop_line}
 use Rattle.rv_model.specs.images.Faults.{fault_name}
 use Rattle.rv_model.specs.machine.UserMachine.{Private, Outcome, refuses}
 use Rattle.rv_model.specs.step.Causes.{cause_number}
-use Rattle.rv_model.specs.text.Lines.{is_line, IsLine, are_lines, AreLines}
+use Rattle.rv_model.proofs.text_lemmas.Newlines.{is_line, IsLine, are_lines, AreLines}
 use Rattle.rv_model.proofs.text_lemmas.Pieces.{Piece, ◌▸◌, hexadecimal, number, space}
 
 no_newline_in_fault_name : (fault : ElfFault) → IsLine (fault_name fault)

@@ -8,14 +8,14 @@ use Rattle.rv_model.specs.declared.commands.refusal.Refusal.TheVariants as refus
 use Rattle.rv_model.specs.declared.images.ElfFault.{ElfFault}
 use Rattle.rv_model.specs.declared.memory.Access.TheVariants.{Monitor}
 use Rattle.rv_model.specs.assembler.Table.{canonical, spelled}
-use Rattle.rv_model.specs.commands.Programs.{image_named, loaded, loaded_line, loading, loading_named, asm_line, assembling, dis_line, word_in, dis_lines, program_command}
+use Rattle.rv_model.specs.commands.Programs.{image_named, loaded_line, loading, loading_named, asm_line, assembling, dis_line, word_in, dis_lines, program_command, with_image}
 use Rattle.rv_model.specs.images.Faults.{first_fault}
 use Rattle.rv_model.specs.images.Fields.{entry_of}
 use Rattle.rv_model.specs.images.Image.{memory_of_image}
 use Rattle.rv_model.specs.machine.Setup.{Image}
-use Rattle.rv_model.specs.machine.UserMachine.{Present, Outcome, answers, refuses}
+use Rattle.rv_model.specs.machine.UserMachine.{Present, Outcome, refuses, replies}
 use Rattle.rv_model.specs.memory.Memory.{bytes_at, can_access, page_count}
-use Rattle.rv_model.specs.text.Lines.{IsLine, AreLines}
+use Rattle.rv_model.proofs.text_lemmas.Newlines.{IsLine, AreLines}
 use Rattle.rv_model.proofs.assembler_lemmas.Lines.{canonical_line}
 use Rattle.rv_model.proofs.command_lemmas.Printing.{PrintsLines, one_line, mapped_lines, refusal_prints}
 use Rattle.rv_model.proofs.text_lemmas.Pieces.{of_either, Piece, ◌▸◌, hexadecimal, short_hexadecimal, number, space}
@@ -47,7 +47,7 @@ loading_prints : (image : List ℕ) (fault : Option ElfFault) (p : Present) → 
 loading_prints image (Some fault) p = refusal_prints (Some p) (refusal.ElfFault fault)
 loading_prints image None p =
     let pages = page_count (memory_of_image image) in
-    of_either PrintsLines (nat_lt 256 pages) (refuses (Some p) refusal.Quota) (answers (loaded image) (loaded_line (entry_of image) pages))
+    of_either PrintsLines (nat_lt 256 pages) (refuses (Some p) refusal.Quota) (replies (with_image image) (loaded_line (entry_of image) pages))
     (refusal_prints (Some p) refusal.Quota) (one_line (loaded_line (entry_of image) pages) (no_newline_in_loaded_line (entry_of image) pages))
 
 loading_named_prints : (image : Option (List ℕ)) (p : Present) → PrintsLines (loading_named image p)

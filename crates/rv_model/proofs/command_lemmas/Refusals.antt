@@ -34,7 +34,7 @@ use Rattle.rv_model.specs.commands.Commands.{Parsed, needs_stopped, of_absent, o
 use Rattle.rv_model.specs.commands.Entering.{entering_absent, entering}
 use Rattle.rv_model.specs.commands.Memory.{mapping, peek_line, memory_command}
 use Rattle.rv_model.specs.commands.Printing.{hex8, hex16, refused, stop_line}
-use Rattle.rv_model.specs.commands.Programs.{image_named, loaded, loaded_line, loading, loading_named, asm_line, assembling, dis_line, word_in, dis_lines, program_command}
+use Rattle.rv_model.specs.commands.Programs.{image_named, loaded_line, loading, loading_named, asm_line, assembling, dis_line, word_in, dis_lines, program_command, with_image}
 use Rattle.rv_model.specs.commands.Registers.{register_text, register_line, register_lines, regs_lines, vreg_line, vcsr_line, register_command}
 use Rattle.rv_model.specs.commands.Running.{step_line, running_line, stopped_line, state_line, trace_line, out_line, running_command}
 use Rattle.rv_model.specs.images.Faults.{first_fault}
@@ -44,7 +44,7 @@ use Rattle.rv_model.specs.machine.Refusals.{ReasonsAreRefusals}
 use Rattle.rv_model.specs.machine.Runs.{Halted, steps}
 use Rattle.rv_model.specs.machine.Setup.{Image}
 use Rattle.rv_model.specs.machine.UnitEvents.{can_be_loaded, unit_after_command, unit_after_entering, unit_after_line, unit_after_load, unit_of_absent, unit_of_present}
-use Rattle.rv_model.specs.machine.UserMachine.{Present, Private, Outcome, answers, has_breakpoint, refuses}
+use Rattle.rv_model.specs.machine.UserMachine.{Present, Private, Outcome, has_breakpoint, refuses, replies}
 use Rattle.rv_model.specs.machine.VectorUnit.{VectorUnit, unit_discarded}
 use Rattle.rv_model.specs.memory.Memory.{bytes_at, can_access, map_refusal, page_count}
 use Rattle.rv_model.specs.declared.scalar.Scalar.{Scalar}
@@ -58,7 +58,7 @@ is_plain answer = not (eqb (get_or answer 0 0) 69)
 
 abbrev pub are_plain : List (List ℕ) → Bool
 are_plain [] = true
-are_plain (answer ∷ answers) = is_plain answer && are_plain answers
+are_plain (answer ∷ replies) = is_plain answer && are_plain replies
 
 pub plain_line : (line : List ℕ) → is_plain line ≡ true → are_plain (line ∷ []) ≡ true
 plain_line line h = and_from (is_plain line) true h refl
@@ -198,7 +198,7 @@ module _ (images : List Image) (user : ℕ) (p : Present) (unit : VectorUnit) wh
 
   -- an image that is too large is refused, and a smaller one drops the vector state
   sized : (b : Bool) (image : List ℕ)
-      → Answers p (if b then refuses (Some p) refusal.Quota else answers (loaded image) (loaded_line (entry_of image) (page_count (memory_of_image image))))
+      → Answers p (if b then refuses (Some p) refusal.Quota else replies (with_image image) (loaded_line (entry_of image) (page_count (memory_of_image image))))
       unit (if not b then unit_discarded user unit else unit)
   unfolding loaded_line
   sized true image = refuses_now refusal.Quota

@@ -11,7 +11,7 @@ use Rattle.rv_model.specs.declared.vector.types.Sew.{Sew}
 use Rattle.rv_model.specs.commands.Registers.{register_text, register_line, register_lines, regs_lines, element_text, vreg_line, vcsr_line, register_command}
 use Rattle.rv_model.specs.instructions.BitFields.{flag_bit}
 use Rattle.rv_model.specs.machine.UserMachine.{Present}
-use Rattle.rv_model.specs.text.Lines.{IsLine, AreLines}
+use Rattle.rv_model.proofs.text_lemmas.Newlines.{IsLine, AreLines}
 use Rattle.rv_model.specs.vector.Configuration.{sew_bits}
 use Rattle.rv_model.specs.vector.Registers.{register_of}
 use Rattle.rv_model.specs.vector.RoundingModes.{rounding_number}

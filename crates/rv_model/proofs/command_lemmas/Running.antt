@@ -8,8 +8,8 @@ use Rattle.rv_model.specs.declared.step.step_end.Stop.{Stop}
 use Rattle.rv_model.specs.commands.Running.{step_line, running_line, stopped_line, state_line, trace_line, spaced_bytes, out_line, running_command}
 use Rattle.rv_model.specs.commands.Printing.{listed}
 use Rattle.rv_model.specs.machine.Runs.{Halted, steps}
-use Rattle.rv_model.specs.machine.UserMachine.{Present, answers, refuses}
-use Rattle.rv_model.specs.text.Lines.{IsLine}
+use Rattle.rv_model.specs.machine.UserMachine.{Present, refuses, replies}
+use Rattle.rv_model.proofs.text_lemmas.Newlines.{IsLine}
 use Rattle.rv_model.proofs.command_lemmas.Printing.{PrintsLines, one_line, refusal_prints, no_newline_in_listed, no_newline_in_stop_line}
 use Rattle.rv_model.proofs.text_lemmas.Pieces.{Piece, ◌▸◌, hexadecimal, bytes, number, space, flat_map_line, of_either}
 
@@ -61,7 +61,7 @@ running_prints (Step n) p =
 running_prints Go p = one_line (running_line p.hart.scalar.pc) (no_newline_in_running_line p.hart.scalar.pc)
 running_prints StopRunning p =
     let pc = p.hart.scalar.pc in
-    of_either PrintsLines p.running (answers (record p { running = false }) (stopped_line pc)) (refuses (Some p) refusal.NotRunning)
+    of_either PrintsLines p.running (replies (record p { running = false }) (stopped_line pc)) (refuses (Some p) refusal.NotRunning)
     (one_line (stopped_line pc) (no_newline_in_stopped_line pc)) (refusal_prints (Some p) refusal.NotRunning)
 running_prints State p = one_line (state_line p.running p.hart.scalar.pc) (no_newline_in_state_line p.running p.hart.scalar.pc)
 running_prints Trace p = one_line (trace_line p.trace) (no_newline_in_trace_line p.trace)

@@ -5,8 +5,9 @@ use Rattle.std.proofs.lemmas.Bool.{cases_order}
 use Rattle.std.proofs.lemmas.Grind.{same_number_lists}
 use Rattle.std.proofs.lemmas.List.{get_or-set_same}
 use Rattle.std.proofs.lemmas.List.FromFn.{get_or-map-range_with_len, length-map-range_with_len}
-use Rattle.rv_model.specs.elements.Elements.{byte_of, mask_bit}
-use Rattle.rv_model.specs.elements.Writes.{WritesBits, bit_or, byte_with_bits, written_bits}
+use Rattle.rv_model.specs.elements.Elements.{mask_bit, byte_of_bits}
+use Rattle.rv_model.specs.elements.Writes.{bit_or, byte_with_bits, written_bits}
+use Rattle.rv_model.specs.lending.Writes.{WritesBits}
 
 -- ---- the bits of a byte
 
@@ -19,7 +20,7 @@ one_bit n = by (n % 2) (omega arith)
     by (suc (suc r)) h = absurd (omega (arith, h))
 
 -- a byte has its own bits
-byte_of_own : (x : ℕ) → x < 256 → byte_of (λ j. x / 2 ^ j % 2 == 1) ≡ x
+byte_of_own : (x : ℕ) → x < 256 → byte_of_bits (λ j. x / 2 ^ j % 2 == 1) ≡ x
 byte_of_own x h =
     rw (one_bit (x / 1), one_bit (x / 2), one_bit (x / 4), one_bit (x / 8), one_bit (x / 16), one_bit (x / 32), one_bit (x / 64), one_bit (x / 128))
     (omega (arith, h))
@@ -30,7 +31,7 @@ mask_bit_in bytes q j h =
     let shift : (8 * q + j) % 8 ≡ j = omega (arith, h) in
     rw (at, shift) refl
 
-pub same_byte : (f g : ℕ → Bool) → ((j : ℕ) → j < 8 → f j ≡ g j) → byte_of f ≡ byte_of g
+pub same_byte : (f g : ℕ → Bool) → ((j : ℕ) → j < 8 → f j ≡ g j) → byte_of_bits f ≡ byte_of_bits g
 same_byte f g same =
     rw (same 0 (lit< tt), same 1 (lit< tt), same 2 (lit< tt), same 3 (lit< tt), same 4 (lit< tt), same 5 (lit< tt), same 6 (lit< tt), same 7 (lit< tt)) refl
 

@@ -1,5 +1,5 @@
 -- Whole numbers modulo 2 to a width, by way of a wider number.
-use Rattle.std.proofs.Common.{ℕ, zero, suc, ◌+◌, ◌-◌, ◌*◌, ◌/◌, ◌%◌, ◌^◌, ◌<◌, ◌≤◌, ◌≡◌, ℤ, pos, negsuc, neg_ℤ, ◌+ℤ◌, inl, inr, refl, sym, ap, ◌∙◌, arith, mod-eq_of_lt}
+use Rattle.std.proofs.Common.{ℕ, zero, suc, ◌+◌, ◌-◌, ◌*◌, ◌/◌, ◌%◌, ◌^◌, ◌<◌, ◌≤◌, ◌≡◌, ℤ, pos, negsuc, neg_ℤ, ◌+ℤ◌, inl, inr, refl, sym, ap, ◌∙◌, arith, mod-eq_of_lt, Bool, true, false, cond, nat_lt, lit≤}
 use Rattle.std.specs.Int.{Width, cast_signed, cast_unsigned, int_wrapping_div, w8, w16, w32, w64, w128}
 use Rattle.std.specs.Int.Signed.{mag, mag_rem}
 use Rattle.std.proofs.Math.Facts.{sfits_to_z}
@@ -9,7 +9,11 @@ use Rattle.std.proofs.lemmas.Nat.{pow-add}
 use Rattle.std.proofs.lemmas.Int.{ints, of_z-to_z}
 use Rattle.std.proofs.lemmas.Bool.{cases_lt}
 use mir.Val.{bits, hbits}
+use Rattle.rv_model.specs.declared.vector.types.Sew.{Sew}
+use Rattle.rv_model.specs.declared.vector.types.Sew.TheVariants.{E8, E16, E32, E64}
 use Rattle.rv_model.specs.elements.Formulas.{wrap}
+use Rattle.rv_model.specs.instructions.Immediates.{sign_extended}
+use Rattle.rv_model.specs.vector.Configuration.{sew_bits, sew_width}
 use Rattle.rv_model.proofs.element_lemmas.Widths.{power_positive}
 
 -- what is left of a number below a multiple
@@ -31,6 +35,22 @@ low_bits_of v w narrow (negsuc n) h =
     let e : bits v ≡ bits w + (bits v - bits w) = omega (arith, narrow) in
     let whole : 2 ^ bits v ≡ 2 ^ bits w * 2 ^ (bits v - bits w) = ap (λ x. 2 ^ x) e ∙ pow-add 2 (bits w) (bits v - bits w) in
     ap (λ x. (x - suc n) % 2 ^ bits w) whole ∙ below_multiple (2 ^ bits w) (2 ^ (bits v - bits w)) n (power_positive w) (rw (sym whole) h)
+
+-- ---- a signed number in 64 bits
+
+-- a number below `whole`, read as it is or in two's complement
+extended : (n whole : ℕ) → n < whole → whole ≤ 2 ^ 64 → (b : Bool) → wrap w64 (cond b (pos n) (negsuc (whole - suc n))) ≡ cond b n (n + (2 ^ 64 - whole))
+extended n whole h most true = mod-eq_of_lt (omega (arith, h, most))
+extended n whole h most false =
+    let less : whole - suc n < 2 ^ 64 = omega (arith, h, most) in
+    ap (λ k. 2 ^ 64 - suc k) (mod-eq_of_lt less) ∙ omega (arith, h, most)
+
+-- the number of an element in the 64 bits of a scalar register
+pub extends_sign : (s : Sew) (n : ℕ) → n < 2 ^ sew_bits s → wrap w64 (cast_signed (sew_width s) n) ≡ sign_extended (sew_bits s) n
+extends_sign E8 n h = extended n (2 ^ 8) h (lit≤ tt) (nat_lt n (2 ^ 7))
+extends_sign E16 n h = extended n (2 ^ 16) h (lit≤ tt) (nat_lt n (2 ^ 15))
+extends_sign E32 n h = extended n (2 ^ 32) h (lit≤ tt) (nat_lt n (2 ^ 31))
+extends_sign E64 n h = extended n (2 ^ 64) h (lit≤ tt) (nat_lt n (2 ^ 63))
 
 -- ---- quotients and remainders of signed numbers
 

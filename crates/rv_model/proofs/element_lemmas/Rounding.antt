@@ -7,7 +7,7 @@ use Rattle.std.proofs.lemmas.Bool.Decides.{nat_tests}
 use Rattle.std.proofs.lemmas.Int.{ints}
 use Rattle.std.proofs.lemmas.Nat.{pow-add}
 use Rattle.std.proofs.Math.Nat.{div-div-eq-div-mul, div-le_self, pow-suc}
-use Rattle.rv_model.specs.elements.FixedPoint.{low_bits}
+use Rattle.rv_model.specs.elements.Formulas.{low_bits}
 use Rattle.rv_model.proofs.element_lemmas.Numbers.{below_multiple}
 use borrow.Author.Differences.{fits_in}
 use lib.Pow.{pow_pos}

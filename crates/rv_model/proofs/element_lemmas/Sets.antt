@@ -1,12 +1,13 @@
 -- How loops over the body write the elements that an instruction changes.
 use Rattle.std.proofs.Common.{ℕ, suc, ◌+◌, ◌*◌, ◌<◌, ◌≤◌, ◌≡◌, List, length, Bool, true, false, cond, ◌&&◌, ◌||◌, nat_lt, nat_le, refl, sym, arith, inl, inr, le-leb, lt-ltb}
+use Rattle.std.specs.Prelude.{not}
 use Rattle.std.proofs.lemmas.Bool.{cases_lt}
 use Rattle.std.proofs.lemmas.Bool.Decides.{nat_tests}
 use Rattle.std.proofs.Math.Nat.{mul-le-mul_left, mul-suc}
 use Rattle.std.specs.Int.{bytes_low_first}
 use lib.Lanes.{put_chunk}
-use Rattle.rv_model.specs.elements.Elements.{Body, in_range, in_body, is_let, is_active, is_changed, result_or_ones}
-use Rattle.rv_model.specs.elements.Writes.{Writes}
+use Rattle.rv_model.specs.elements.Elements.{Body, in_range, in_body, is_let, is_active, is_masked_off, is_changed, result_or_ones}
+use Rattle.rv_model.specs.lending.Writes.{Writes}
 use Rattle.rv_model.proofs.element_lemmas.Writes.{begins, ends, step_written, step_kept, writes_same, writes_then}
 
 -- an index of a range is between its ends
@@ -20,7 +21,7 @@ pub inside_range : (s v e : ℕ) → s ≤ e → e < v → in_range s v e ≡ tr
 inside_range s v e from to = rw (le-leb s e from, lt-ltb e v to) refl
 
 -- Without the tail, only elements of the body change.
-pub changed_inside : (b l o t : Bool) → ((b && l) || ((o && b) || (false && t))) ≡ true → b ≡ true
+pub changed_inside : (b l o t : Bool) → ((b && l) || ((o && (b && not l)) || (false && t))) ≡ true → b ≡ true
 changed_inside true l o t h = refl
 changed_inside false l true t h = h
 changed_inside false l false t h = h
@@ -40,7 +41,7 @@ module _ (k : ℕ) (body : Body) (fill_masked_off : Bool) (i : ℕ) (result : �
   abbrev So : ℕ → List ℕ → Type 0
   So j bytes = Writes k (λ e. changed e && nat_lt e j) number old bytes
 
-  let_changes : (l : Bool) → l ≡ true → ((true && l) || ((fill_masked_off && true) || (false && nat_le body.end i))) ≡ true
+  let_changes : (l : Bool) → l ≡ true → ((true && l) || ((fill_masked_off && (true && not l)) || (false && nat_le body.end i))) ≡ true
   let_changes l h = rw h refl
 
   pub step_result : So i mid → k * i + k ≤ length old → is_let body i ≡ true
@@ -111,7 +112,7 @@ module _ (k : ℕ) (body : Body) (fill_masked_off : Bool) (n : ℕ) (result : �
       writes_same k (λ e. is_changed body fill_masked_off false e || in_range body.end n e)
       (is_changed body fill_masked_off true) (λ e. cond (in_range body.end n e) ones (result_or_ones body result ones e)) (result_or_ones body result ones) old new
       (writes_then k (is_changed body fill_masked_off false) (in_range body.end n) (result_or_ones body result ones) (λ e. ones) old mid new first second)
-      (λ e h. joined (is_active body e) (fill_masked_off && in_body body e) (nat_le body.end e) (nat_lt e n)
+      (λ e h. joined (is_active body e) (fill_masked_off && is_masked_off body e) (nat_le body.end e) (nat_lt e n)
       (lt-ltb e n (below e (omega (arith, h, long)))))
       (λ e h. numbers e (in_range body.end n e) refl)
     where

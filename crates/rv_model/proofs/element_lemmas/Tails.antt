@@ -1,15 +1,21 @@
--- How the tails of the fields of a load become all ones.
-use Rattle.std.proofs.Common.{ℕ, ◌+◌, ◌*◌, suc, ◌≡◌, List, length, true, false, refl, arith}
-use Rattle.rv_model.specs.elements.Arithmetic.{GroupType}
+-- How the tails of the fields of a load become all ones, and what an instruction with one result leaves.
+use Rattle.std.specs.Int.{Width, from_bool}
+use Rattle.std.proofs.Common.{ℕ, ◌+◌, ◌*◌, ◌<◌, ◌≤◌, suc, ◌≡◌, List, length, Bool, true, false, cond, ◌&&◌, ◌||◌, eqb, nat_le, nat_lt, refl, sym, ap, arith, inl, inr, lt-ltb}
+use Rattle.std.proofs.Math.Nat.{mul-le-mul_left}
+use Rattle.std.proofs.lemmas.Bool.{cases_lt}
+use Rattle.std.proofs.lemmas.Bool.Decides.{nat_tests}
+use Rattle.rv_model.specs.declared.vector.policy.Policy.{Policy}
+use Rattle.rv_model.specs.declared.vector.types.VType.{VType}
+use Rattle.rv_model.specs.elements.Arithmetic.{fills_tail, is_ones, with_first_result, with_results}
+use Rattle.rv_model.specs.vector.Configuration.{GroupType, width_bytes}
+use Rattle.rv_model.specs.vector.Groups.{single_type}
 use Rattle.rv_model.specs.elements.Elements.{Body, in_range, is_changed, result_or_ones}
 use Rattle.rv_model.specs.elements.Formulas.{ones}
-use Rattle.rv_model.specs.elements.Writes.{Writes}
+use Rattle.rv_model.specs.lending.Writes.{Writes, first_alone}
 use Rattle.rv_model.specs.step.MemoryStep.{tail_filled, tails_filled}
-use Rattle.rv_model.specs.vector.Configuration.{width_bytes}
-use Rattle.rv_model.specs.vector.Registers.{group_of, register_of, registers, with_group}
-use Rattle.rv_model.proofs.element_lemmas.Arithmetic.{results_are}
-use Rattle.rv_model.proofs.element_lemmas.Sets.{body_begins, body_ends, with_tail}
+use Rattle.rv_model.specs.vector.Registers.{group_of, registers, with_group}
 use Rattle.rv_model.proofs.element_lemmas.Widths.{bytes_positive}
+use Rattle.rv_model.proofs.element_lemmas.Writes.{writes_are, writes_same, written_are}
 
 -- the elements of a group of n are filled from one on
 pub tail_is_filled : (g : GroupType) (vd vl n : ℕ) (file new : List ℕ) → length (group_of file vd g.emul) ≡ width_bytes g.width * n
@@ -18,12 +24,64 @@ pub tail_is_filled : (g : GroupType) (vd vl n : ℕ) (file new : List ℕ) → l
 tail_is_filled g vd vl n file new long filled =
     let k : ℕ = width_bytes g.width in
     let group : List ℕ = group_of file vd g.emul in
-    let body : Body = record { unmasked = true; mask = register_of file 0; start = vl; end = vl } in
-    let number : ℕ → ℕ = result_or_ones body (λ i. 0) (ones g.width) in
-    let unchanged : Writes k (is_changed body false false) number group group =
-    body_ends k body false number group group vl (omega arith) (body_begins k body false number group) in
-    results_are g vd body false true (λ i. 0) (λ i. 0) file new (λ i h. refl)
-    (with_tail k body false n (λ i. 0) (ones g.width) group group new (bytes_positive g.width) long unchanged filled)
+    ap (λ bytes. with_group file vd bytes)
+    (writes_are k (nat_le vl) (λ e. ones g.width) group new (bytes_positive g.width)
+    (writes_same k (in_range vl n) (nat_le vl) (λ e. ones g.width) (λ e. ones g.width) group new filled
+    (λ e h. inside (nat_le vl e) (nat_lt e n) (lt-ltb e n (below e (omega (arith, h, long))))) (λ e h. refl)))
+  where
+    inside : (a b : Bool) → b ≡ true → a ≡ (a && b)
+    inside true b h = sym h
+    inside false b h = refl
+
+    below : (e : ℕ) → width_bytes g.width * e < width_bytes g.width * n → e < n
+    below e h = elim (cases_lt e n) [
+      | inl low ↦ low
+      | inr high ↦ (let up : width_bytes g.width * n ≤ width_bytes g.width * e = mul-le-mul_left (width_bytes g.width) high in absurd (omega arith))
+    ]
+
+-- whether element e of a body changes that has the first element alone, or none
+abbrev one_changes : (p a some : Bool) → ℕ → Bool
+one_changes p a some e =
+    (in_range 0 (from_bool some) e && true) || ((false && (in_range 0 (from_bool some) e && false)) || ((p && (a && some)) && nat_le (from_bool some) e))
+
+-- An instruction with one result writes it as one of a body of one element or of none.
+pub first_result_is : (width : Width) (vd : ℕ) (policy : Policy) (t : VType) (body : Body) (result : ℕ) (file : List ℕ)
+    → with_results (single_type width) vd (first_alone body) false (fills_tail policy t body) (λ i. result) file
+    ≡ with_first_result width vd body (fills_tail policy t body) result file
+unfolding with_results with_first_result
+first_result_is width vd policy t body result file =
+    let k : ℕ = width_bytes width in
+    let one : Body = first_alone body in
+    let group : List ℕ = group_of file vd 8 in
+    let fill : Bool = fills_tail policy t body in
+    ap (λ bytes. with_group file vd bytes)
+    (writes_are k (λ i. nat_lt body.start body.end && (eqb i 0 || fill)) (λ i. cond (eqb i 0) result (ones width)) group _ (bytes_positive width)
+    (writes_same k (is_changed one false fill) (λ i. nat_lt body.start body.end && (eqb i 0 || fill))
+    (result_or_ones one (λ i. result) (ones width)) (λ i. cond (eqb i 0) result (ones width)) group _
+    (written_are k (is_changed one false fill) (result_or_ones one (λ i. result) (ones width)) group (bytes_positive width))
+    (λ e h. same_set (is_ones policy) t.tail_agnostic (nat_lt body.start body.end) e)
+    (λ e h. same_number (is_ones policy) t.tail_agnostic (nat_lt body.start body.end) e h)))
+  where
+    same_set : (p a some : Bool) (e : ℕ) → (some && (eqb e 0 || (p && (a && some)))) ≡ one_changes p a some e
+    same_set true true true e = grind (arith, nat_tests)
+    same_set true false true e = grind (arith, nat_tests)
+    same_set false a true e = grind (arith, nat_tests)
+    same_set true true false e = grind (arith, nat_tests)
+    same_set true false false e = grind (arith, nat_tests)
+    same_set false a false e = grind (arith, nat_tests)
+
+    none : (e : ℕ) → in_range 0 0 e ≡ false
+    none e = grind (arith, nat_tests)
+
+    same_first : (e : ℕ) → eqb e 0 ≡ (in_range 0 1 e && true)
+    same_first e = grind (arith, nat_tests)
+
+    same_number : (p a some : Bool) (e : ℕ) → one_changes p a some e ≡ true
+        → cond (eqb e 0) result (ones width) ≡ cond (in_range 0 (from_bool some) e && true) result (ones width)
+    same_number p a true e h = ap (λ b. cond b result (ones width)) (same_first e)
+    same_number true true false e h = let no : false ≡ true = rw (none e) at h in absurd (cc)
+    same_number true false false e h = let no : false ≡ true = rw (none e) at h in absurd (cc)
+    same_number false a false e h = let no : false ≡ true = rw (none e) at h in absurd (cc)
 
 -- a loop over the fields
 pub no_tail_filled : (g : GroupType) (vd vl : ℕ) (file : List ℕ) → tails_filled g vd 0 vl file ≡ file

@@ -1,8 +1,12 @@
 -- The widths of elements in bits and in bytes.
-use Rattle.std.proofs.Common.{◌≡◌, ◌*◌, ◌^◌, ◌<◌, refl, lit<}
+use Rattle.std.proofs.Common.{◌≡◌, ℕ, ◌*◌, ◌/◌, ◌^◌, ◌<◌, arith, refl, lit<}
 use Rattle.std.specs.Int.{Width, w8, w16, w32, w64, w128}
 use mir.Val.{bits}
-use Rattle.rv_model.specs.vector.Configuration.{width_bytes}
+use Rattle.rv_model.specs.declared.vector.sizes.TheConstants.{VLEN, VLENB}
+use Rattle.rv_model.specs.declared.vector.types.Sew.{Sew}
+use Rattle.rv_model.specs.declared.vector.types.Sew.TheVariants.{E8, E16, E32, E64}
+use Rattle.rv_model.specs.declared.vector.types.VType.{VType}
+use Rattle.rv_model.specs.vector.Configuration.{lmul_eighths, sew_bits, vlmax, width_bytes}
 
 -- an element has at least one byte
 pub bytes_positive : (w : Width) → 0 < width_bytes w
@@ -27,3 +31,13 @@ power_positive w16 = lit< tt
 power_positive w32 = lit< tt
 power_positive w64 = lit< tt
 power_positive w128 = lit< tt
+
+-- as many elements, by the bytes of a register
+elements_by_bytes : (s : Sew) (n : ℕ) → n * VLENB / sew_bits s ≡ n * VLEN / (8 * sew_bits s)
+elements_by_bytes E8 n = omega arith
+elements_by_bytes E16 n = omega arith
+elements_by_bytes E32 n = omega arith
+elements_by_bytes E64 n = omega arith
+
+pub vlmax_by_bytes : (t : VType) → lmul_eighths t.lmul * VLENB / sew_bits t.sew ≡ vlmax t
+vlmax_by_bytes t = elements_by_bytes t.sew (lmul_eighths t.lmul)

@@ -12,7 +12,8 @@ use Rattle.std.specs.Int.{byte_at, bytes_low_first}
 use borrow.Rule.Slice.PartMut.{put_mid}
 use lib.Lanes.{chunk, put_chunk, number_l}
 use Rattle.rv_model.specs.elements.Elements.{element}
-use Rattle.rv_model.specs.elements.Writes.{Writes, byte_or, written}
+use Rattle.rv_model.specs.elements.Writes.{byte_or, written}
+use Rattle.rv_model.specs.lending.Writes.{Writes}
 
 -- ---- the bytes of a number
 

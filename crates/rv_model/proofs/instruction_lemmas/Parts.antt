@@ -6,7 +6,7 @@ use Rattle.std.proofs.lemmas.Nat.Bits.{same_from_bits, bit_at_and, bit_at_or}
 use Rattle.std.proofs.lemmas.Nat.{and_assoc, and_mask, pow_pos}
 use Rattle.std.proofs.lemmas.Bool.{and_parts, eqb-true}
 use Rattle.std.proofs.Math.Nat.{mul-div_cancel, mod-eq_of_lt}
-use Rattle.rv_model.specs.instructions.BitFields.{Part, part, place, sum_of, mask_of, AllFit}
+use Rattle.rv_model.specs.instructions.BitFields.{Part, part, sum_of, mask_of, AllFit, part_mask}
 
 abbrev pub put : Part → ℕ
 put p = p.value * 2 ^ p.low
@@ -14,13 +14,13 @@ put p = p.value * 2 ^ p.low
 -- no part has a bit of f
 abbrev pub clear : ℕ → List Part → Bool
 clear f [] = true
-clear f (p ∷ ps) = nat_eq (bit_and f (place p)) 0 && clear f ps
+clear f (p ∷ ps) = nat_eq (bit_and f (part_mask p)) 0 && clear f ps
 
 -- no two parts share a bit, and none has one of m
 abbrev pub share_none : ℕ → List Part → Bool
 share_none m [] = true
 share_none m (p ∷ ps) =
-    nat_eq (bit_and (mask_of m ps) (place p)) 0 && (nat_eq (bit_and (place p) m) 0 && (clear (place p) ps && share_none m ps))
+    nat_eq (bit_and (mask_of m ps) (part_mask p)) 0 && (nat_eq (bit_and (part_mask p) m) 0 && (clear (part_mask p) ps && share_none m ps))
 
 -- each part of the word is the part's value
 abbrev pub Reads : ℕ → List Part → Type 0
@@ -61,7 +61,7 @@ apart_from_places : (x y m f : ℕ) → bit_and x m ≡ x → bit_and y f ≡ y 
 apart_from_places x y m f hx hy h =
     and_comm x y ∙ off y f x hy (and_comm f x ∙ off x m f hx h)
 
-put_inside : (p : Part) → p.value < 2 ^ p.len → bit_and (put p) (place p) ≡ put p
+put_inside : (p : Part) → p.value < 2 ^ p.len → bit_and (put p) (part_mask p) ≡ put p
 put_inside p room =
     and_high (put p) p.len p.low
     ∙ ap (λ x. x % 2 ^ p.len * 2 ^ p.low) (mul-div_cancel p.value (pow_pos p.low))
@@ -69,17 +69,17 @@ put_inside p room =
 
 -- the facts that the test tells
 record Step (m : ℕ) (p : Part) (ps : List Part) : Type 0 where
-  new : bit_and (mask_of m ps) (place p) ≡ 0
-  fixed : bit_and (place p) m ≡ 0
-  others : clear (place p) ps ≡ true
+  new : bit_and (mask_of m ps) (part_mask p) ≡ 0
+  fixed : bit_and (part_mask p) m ≡ 0
+  others : clear (part_mask p) ps ≡ true
   rest : share_none m ps ≡ true
 
 step_of : (m : ℕ) (p : Part) (ps : List Part) → share_none m (p ∷ ps) ≡ true → Step m p ps
 step_of m p ps h =
-    let a : (nat_eq (bit_and (mask_of m ps) (place p)) 0 ≡ true) × ((nat_eq (bit_and (place p) m) 0 && (clear (place p) ps && share_none m ps)) ≡ true) = and_parts (nat_eq (bit_and (mask_of m ps) (place p)) 0) (nat_eq (bit_and (place p) m) 0 && (clear (place p) ps && share_none m ps)) h in
-    let b : (nat_eq (bit_and (place p) m) 0 ≡ true) × ((clear (place p) ps && share_none m ps) ≡ true) = and_parts (nat_eq (bit_and (place p) m) 0) (clear (place p) ps && share_none m ps) a.1 in
-    let c : (clear (place p) ps ≡ true) × (share_none m ps ≡ true) = and_parts (clear (place p) ps) (share_none m ps) b.1 in
-    record { new = eqb-true (bit_and (mask_of m ps) (place p)) 0 a.0; fixed = eqb-true (bit_and (place p) m) 0 b.0; others = c.0; rest = c.1 }
+    let a : (nat_eq (bit_and (mask_of m ps) (part_mask p)) 0 ≡ true) × ((nat_eq (bit_and (part_mask p) m) 0 && (clear (part_mask p) ps && share_none m ps)) ≡ true) = and_parts (nat_eq (bit_and (mask_of m ps) (part_mask p)) 0) (nat_eq (bit_and (part_mask p) m) 0 && (clear (part_mask p) ps && share_none m ps)) h in
+    let b : (nat_eq (bit_and (part_mask p) m) 0 ≡ true) × ((clear (part_mask p) ps && share_none m ps) ≡ true) = and_parts (nat_eq (bit_and (part_mask p) m) 0) (clear (part_mask p) ps && share_none m ps) a.1 in
+    let c : (clear (part_mask p) ps ≡ true) × (share_none m ps ≡ true) = and_parts (clear (part_mask p) ps) (share_none m ps) b.1 in
+    record { new = eqb-true (bit_and (mask_of m ps) (part_mask p)) 0 a.0; fixed = eqb-true (bit_and (part_mask p) m) 0 b.0; others = c.0; rest = c.1 }
 
 pub inside_mask : (code m : ℕ) → bit_and code m ≡ code → (ps : List Part) → share_none m ps ≡ true → AllFit ps
     → bit_and (sum_of code ps) (mask_of m ps) ≡ sum_of code ps
@@ -89,21 +89,21 @@ inside_mask code m within (p ∷ ps) h fit =
     let x : ℕ = sum_of code ps in
     let y : ℕ = put p in
     let ih : bit_and x (mask_of m ps) ≡ x = inside_mask code m within ps s.rest fit.1 in
-    let iy : bit_and y (place p) ≡ y = put_inside p fit.0 in
-    let xy : bit_and x y ≡ 0 = apart_from_places x y (mask_of m ps) (place p) ih iy s.new in
-    and_sum (x + y) (mask_of m ps) (place p) s.new
+    let iy : bit_and y (part_mask p) ≡ y = put_inside p fit.0 in
+    let xy : bit_and x y ≡ 0 = apart_from_places x y (mask_of m ps) (part_mask p) ih iy s.new in
+    and_sum (x + y) (mask_of m ps) (part_mask p) s.new
     ∙ ap₂ (λ (a b : ℕ). a + b)
-    (sum_and x y (mask_of m ps) xy ∙ ap₂ (λ (a b : ℕ). a + b) ih (off y (place p) (mask_of m ps) iy (and_comm (place p) (mask_of m ps) ∙ s.new)) ∙ add-zero x)
-    (sum_and x y (place p) xy ∙ ap₂ (λ (a b : ℕ). a + b) (off x (mask_of m ps) (place p) ih s.new) iy ∙ zero-add y)
+    (sum_and x y (mask_of m ps) xy ∙ ap₂ (λ (a b : ℕ). a + b) ih (off y (part_mask p) (mask_of m ps) iy (and_comm (part_mask p) (mask_of m ps) ∙ s.new)) ∙ add-zero x)
+    (sum_and x y (part_mask p) xy ∙ ap₂ (λ (a b : ℕ). a + b) (off x (mask_of m ps) (part_mask p) ih s.new) iy ∙ zero-add y)
 
 -- what a further part leaves alone
 leaves : (code m : ℕ) → bit_and code m ≡ code → (p : Part) (ps : List Part) → Step m p ps → p.value < 2 ^ p.len
-    → AllFit ps → (k : ℕ) → bit_and (place p) k ≡ 0 → bit_and (sum_of code ps + put p) k ≡ bit_and (sum_of code ps) k
+    → AllFit ps → (k : ℕ) → bit_and (part_mask p) k ≡ 0 → bit_and (sum_of code ps + put p) k ≡ bit_and (sum_of code ps) k
 leaves code m within p ps s room fit k h =
     let ih : bit_and (sum_of code ps) (mask_of m ps) ≡ sum_of code ps = inside_mask code m within ps s.rest fit in
-    let iy : bit_and (put p) (place p) ≡ put p = put_inside p room in
-    sum_and (sum_of code ps) (put p) k (apart_from_places (sum_of code ps) (put p) (mask_of m ps) (place p) ih iy s.new)
-    ∙ ap (λ z. bit_and (sum_of code ps) k + z) (off (put p) (place p) k iy h)
+    let iy : bit_and (put p) (part_mask p) ≡ put p = put_inside p room in
+    sum_and (sum_of code ps) (put p) k (apart_from_places (sum_of code ps) (put p) (mask_of m ps) (part_mask p) ih iy s.new)
+    ∙ ap (λ z. bit_and (sum_of code ps) k + z) (off (put p) (part_mask p) k iy h)
     ∙ add-zero (bit_and (sum_of code ps) k)
 
 -- the fixed bits of a sum are the code
@@ -128,8 +128,8 @@ keep_reads : (w u : ℕ) (qs : List Part) → ((k : ℕ) → bit_and u k ≡ bit
     → ((k : ℕ) → bit_and f k ≡ 0 → bit_and w k ≡ bit_and u k) → clear f qs ≡ true → Reads u qs → Reads w qs
 keep_reads w u [] r f same h all = tt
 keep_reads w u (q ∷ qs) r f same h all =
-    let a : (nat_eq (bit_and f (place q)) 0 ≡ true) × (clear f qs ≡ true) = and_parts (nat_eq (bit_and f (place q)) 0) (clear f qs) h in
-    (same_field w u q.low q.len (same (place q) (eqb-true (bit_and f (place q)) 0 a.0)) ∙ all.0, keep_reads w u qs r f same a.1 all.1)
+    let a : (nat_eq (bit_and f (part_mask q)) 0 ≡ true) × (clear f qs ≡ true) = and_parts (nat_eq (bit_and f (part_mask q)) 0) (clear f qs) h in
+    (same_field w u q.low q.len (same (part_mask q) (eqb-true (bit_and f (part_mask q)) 0 a.0)) ∙ all.0, keep_reads w u qs r f same a.1 all.1)
 
 -- each part of a sum is its value
 pub reads : (code m : ℕ) → bit_and code m ≡ code → (ps : List Part) → share_none m ps ≡ true → clear m ps ≡ true
@@ -140,12 +140,12 @@ reads code m within (p ∷ ps) h c fit =
     let x : ℕ = sum_of code ps in
     let y : ℕ = put p in
     let ih : bit_and x (mask_of m ps) ≡ x = inside_mask code m within ps s.rest fit.1 in
-    let iy : bit_and y (place p) ≡ y = put_inside p fit.0 in
-    let xy : bit_and x y ≡ 0 = apart_from_places x y (mask_of m ps) (place p) ih iy s.new in
-    let head : bit_and (x + y) (place p) ≡ bit_and y (place p) = sum_and x y (place p) xy ∙ ap (λ z. z + bit_and y (place p)) (off x (mask_of m ps) (place p) ih s.new) ∙ zero-add (bit_and y (place p)) in
-    let cs : (nat_eq (bit_and m (place p)) 0 ≡ true) × (clear m ps ≡ true) = and_parts (nat_eq (bit_and m (place p)) 0) (clear m ps) c in (
+    let iy : bit_and y (part_mask p) ≡ y = put_inside p fit.0 in
+    let xy : bit_and x y ≡ 0 = apart_from_places x y (mask_of m ps) (part_mask p) ih iy s.new in
+    let head : bit_and (x + y) (part_mask p) ≡ bit_and y (part_mask p) = sum_and x y (part_mask p) xy ∙ ap (λ z. z + bit_and y (part_mask p)) (off x (mask_of m ps) (part_mask p) ih s.new) ∙ zero-add (bit_and y (part_mask p)) in
+    let cs : (nat_eq (bit_and m (part_mask p)) 0 ≡ true) × (clear m ps ≡ true) = and_parts (nat_eq (bit_and m (part_mask p)) 0) (clear m ps) c in (
       same_field (x + y) y p.low p.len head ∙ ap (λ z. z % 2 ^ p.len) (times_back p.value p.low) ∙ mod-eq_of_lt fit.0,
-      keep_reads (x + y) x ps (λ k. refl) (place p) (leaves code m within p ps s fit.0 fit.1) s.others (reads code m within ps s.rest cs.1 fit.1),
+      keep_reads (x + y) x ps (λ k. refl) (part_mask p) (leaves code m within p ps s fit.0 fit.1) s.others (reads code m within ps s.rest cs.1 fit.1),
     )
 
 -- the same parts, of a word
@@ -159,7 +159,7 @@ masked word m [] h = refl
 masked word m (p ∷ ps) h =
     let s : Step m p ps = step_of m p ps h in
     ap₂ (λ (a b : ℕ). a + b) (masked word m ps s.rest) (sym (and_high word p.len p.low))
-    ∙ sym (and_sum word (mask_of m ps) (place p) s.new)
+    ∙ sym (and_sum word (mask_of m ps) (part_mask p) s.new)
 
 -- a word is the sum of its parts
 pub rebuilt : (word m : ℕ) (ps : List Part) → word < 2 ^ 32 → share_none m ps ≡ true → mask_of m ps ≡ 2 ^ 32 - 1

@@ -1,11 +1,11 @@
 -- Word and instruction tell each other
 use Rattle.std.proofs.Common.{◌≡◌, ap, ap₂, ◌∙◌, sym, subst, ℕ, ◌+◌, ◌-◌, ◌*◌, ◌^◌, ◌<◌, ◌≤◌, List, [], ◌∷◌, ◌++◌, map, Option, Some, None, true, inl, inr, ◌⊎◌, arith, add-zero, add_assoc}
-use Rattle.std.specs.Prelude.{IfSome}
+use Rattle.std.specs.Prelude.{IfSome, flat_map}
 use Rattle.std.specs.Int.Bits.{bit_and, and_le_r}
 use Rattle.rv_model.specs.declared.instructions.instruction.Instr.{Instr}
 use Rattle.rv_model.specs.instructions.BitFields.{Part, sum_of, mask_of, fixed, AllFit}
 use Rattle.rv_model.specs.instructions.Layout.{parts, bits, filled, word_of, Allowed}
-use Rattle.rv_model.specs.instructions.Table.{Row, row_of, Family, templates, families, rows, joined, table, Matches, In, scan}
+use Rattle.rv_model.specs.instructions.Table.{Row, row_of, Family, templates, families, rows, table, Matches, In, scan}
 use Rattle.rv_model.proofs.instruction_lemmas.Parts.{share_none, inside_mask, fixed_bits, reads, rebuilt}
 use Rattle.rv_model.proofs.instruction_lemmas.Scans.{found, table_apart, some_row}
 use Rattle.rv_model.proofs.instruction_lemmas.Words.{Laid, laid, filled_parts, filled_bits, refilled}
@@ -54,10 +54,10 @@ split_in [] ys r h = inr h
 split_in (x ∷ xs) ys r (inl e) = inl (inl e)
 split_in (x ∷ xs) ys r (inr h) = elim (split_in xs ys r h) [ inl a ↦ inl (inr a) | inr b ↦ inr b ]
 
-template_joined : (fs : List Family) (r : Row) → In r (joined (map rows fs)) → (t : Instr) × (row_of t ≡ r)
+template_joined : (fs : List Family) (r : Row) → In r (flat_map rows fs) → (t : Instr) × (row_of t ≡ r)
 unfolding rows
 template_joined [] r h = absurd h
-template_joined (f ∷ fs) r h = elim (split_in (rows f) (joined (map rows fs)) r h) [ inl a ↦ template_in (templates f) r a | inr b ↦ template_joined fs r b ]
+template_joined (f ∷ fs) r h = elim (split_in (rows f) (flat_map rows fs) r h) [ inl a ↦ template_in (templates f) r a | inr b ↦ template_joined fs r b ]
 
 -- a row is that of some instruction
 pub template_of : (r : Row) → In r table → (t : Instr) × (row_of t ≡ r)

@@ -70,8 +70,8 @@ use Rattle.rv_model.specs.declared.instructions.operations.ExtendOp.TheVariants 
 use Rattle.rv_model.specs.declared.instructions.operations.MaskScanOp.TheVariants as mask_scan
 use Rattle.rv_model.specs.declared.instructions.operations.MaskUnaryOp.{MaskUnaryOp}
 use Rattle.rv_model.specs.declared.instructions.operations.MaskUnaryOp.TheVariants as mask_unary
-use Rattle.rv_model.specs.declared.instructions.operations.Width.{Width}
-use Rattle.rv_model.specs.declared.instructions.operations.Width.TheVariants as width
+use Rattle.rv_model.specs.declared.instructions.operations.Eew.{Eew}
+use Rattle.rv_model.specs.declared.instructions.operations.Eew.TheVariants as width
 use Rattle.rv_model.specs.declared.instructions.operations.UnitOp.{UnitOp}
 use Rattle.rv_model.specs.declared.instructions.operations.UnitOp.TheVariants as unit
 use Rattle.rv_model.specs.declared.instructions.operations.Direction.{Direction}
@@ -81,13 +81,20 @@ use Rattle.rv_model.specs.declared.instructions.operations.Order.TheVariants as 
 use Rattle.rv_model.specs.declared.instructions.operations.RegisterCount.{RegisterCount}
 use Rattle.rv_model.specs.declared.instructions.operations.RegisterCount.TheVariants as count
 use Rattle.rv_model.specs.declared.instructions.instruction.Instr.{Instr}
-use Rattle.rv_model.specs.declared.instructions.instruction.Instr.TheVariants.{Upper, Jump, JumpRegister, Branch, Load, Store, RegisterImmediate, ShiftImmediate, ShiftImmediateWord, RegisterRegister, Fence, System, Csr, CsrImmediate, SetVli, SetIvli, SetVl, VectorArith, VectorCarry, VectorMove, WholeMove, MaskLogic, Compress, MaskToScalar, VectorExtend, MaskUnary, ElementIndex, MoveToScalar, MoveToVector, VectorUnit, VectorStrided, VectorIndexed, WholeLoad, WholeStore, MaskMemory}
+use Rattle.rv_model.specs.declared.instructions.instruction.Instr.TheVariants as instr
+use Rattle.rv_model.specs.declared.instructions.scalar.ScalarInstr.TheVariants.{Upper, Jump, JumpRegister, Branch, Load, Store, RegisterImmediate, ShiftImmediate, ShiftImmediateWord, RegisterRegister, Fence, System}
+use Rattle.rv_model.specs.declared.instructions.csr.CsrInstr.TheVariants.{Register, Immediate}
+use Rattle.rv_model.specs.declared.instructions.vector.VectorInstr.TheVariants.{SetVli, SetIvli, SetVl, Arith, Carry, Move, WholeMove, MaskLogic, Compress, MaskToScalar, Extend, MaskUnary, ElementIndex, MoveToScalar, MoveToVector}
+use Rattle.rv_model.specs.declared.instructions.access.AccessInstr.TheVariants.{UnitStride, Strided, Indexed, WholeLoad, WholeStore, MaskAccess}
 use Rattle.rv_model.specs.instructions.BitFields.{fixed}
 use Rattle.rv_model.specs.instructions.Sources.{form_of}
-use Rattle.rv_model.specs.instructions.FixedBits.{upper_bits, branch_bits, load_bits, store_bits, immediate_op_bits, shift_immediate_bits, shift_immediate_word_bits, register_op_bits, system_bits, csr_bits, csr_immediate_bits, whole_move_bits, mask_logic_bits, mask_to_scalar_bits, extend_bits, mask_unary_bits, mask_memory_bits, upper_ops, branch_ops, load_ops, store_ops, immediate_ops, shift_immediate_ops, shift_immediate_word_ops, register_ops, system_ops, csr_ops, csr_immediate_ops, mask_logic_ops, mask_to_scalar_ops, extend_ops, mask_unary_ops, directions, counts}
-use Rattle.rv_model.specs.instructions.Operations.{has_form, line, carry_line, line_bits, those, vector_ops, carry_ops, binary_line, carry_out_line, compare_line, fixed_point_line, narrow_shift_line, clip_line, widen_line, wide_source_line, multiply_add_line, widen_multiply_add_line, reduce_line, widen_reduce_line, permute_line}
+use Rattle.rv_model.specs.instructions.FixedBits.{whole_move_bits, mask_memory_bits, upper_ops, branch_ops, load_ops, store_ops, immediate_ops, shift_immediate_ops, shift_immediate_word_ops, register_ops, system_ops, csr_ops, csr_immediate_ops, mask_logic_ops, mask_to_scalar_ops, extend_ops, mask_unary_ops, directions, counts}
+use Rattle.rv_model.specs.lending.ListedBits.{upper_bits, branch_bits, load_bits, store_bits, immediate_op_bits, shift_immediate_bits, shift_immediate_word_bits, register_op_bits, system_bits, csr_bits, csr_immediate_bits, mask_logic_bits, mask_to_scalar_bits, extend_bits, mask_unary_bits, binary_line, carry_out_line, compare_line, fixed_point_line, narrow_shift_line, clip_line, widen_line, wide_source_line, multiply_add_line, widen_multiply_add_line, reduce_line, widen_reduce_line, permute_line}
+use Rattle.rv_model.specs.instructions.Operations.{carry_line, has_form, line, line_bits, those, vector_ops, carry_ops}
 use Rattle.rv_model.specs.instructions.Layout.{parts, bits, Allowed, unit_access_bits, strided_access_bits, indexed_access_bits, whole_load_bits, whole_store_bits}
-use Rattle.rv_model.specs.instructions.Table.{Row, row_of, families, rows, joined, table, In, find, unit_accesses, strided_accesses, indexed_accesses, whole_loads, Ariths}
+use Rattle.std.specs.Prelude.{flat_map}
+use Rattle.rv_model.specs.instructions.Table.{Row, row_of, Family, families, rows, table, In, unit_accesses, strided_accesses, indexed_accesses, whole_loads, Ariths}
+use Rattle.rv_model.specs.lending.Search.{find}
 use Rattle.rv_model.proofs.instruction_lemmas.Scans.{is_inside, table_inside, all_in}
 
 in_left : (r : Row) (xs ys : List Row) → In r xs → In r (xs ++ ys)
@@ -104,10 +111,10 @@ at_place [] k = []
 at_place (l ∷ ls) zero = l
 at_place (l ∷ ls) (suc k) = at_place ls k
 
-in_joined : (ls : List (List Row)) (k : ℕ) (r : Row) → In r (at_place ls k) → In r (joined ls)
-in_joined [] k r h = absurd h
-in_joined (l ∷ ls) zero r h = in_left r l (joined ls) h
-in_joined (l ∷ ls) (suc k) r h = in_right r l (joined ls) (in_joined ls k r h)
+in_flat : (fs : List Family) (k : ℕ) (r : Row) → In r (at_place (map rows fs) k) → In r (flat_map rows fs)
+in_flat [] k r h = absurd h
+in_flat (f ∷ fs) zero r h = in_left r (rows f) (flat_map rows fs) h
+in_flat (f ∷ fs) (suc k) r h = in_right r (rows f) (flat_map rows fs) (in_flat fs k r h)
 
 find-step : {A : Type 0} (b : Bool) (o op : A) (rest : Option A) → cond b (Some o) rest ≡ Some op
     → (o ≡ op) ⊎ (rest ≡ Some op)
@@ -210,7 +217,7 @@ unfolding find
 known_mask_memory direction.Load = refl
 known_mask_memory _ = refl
 
-known_unit : (op : UnitOp) (width : Width)
+known_unit : (op : UnitOp) (width : Eew)
     → find unit_access_bits unit_accesses (unit_access_bits (op, width)) ≡ Some (op, width)
 unfolding find
 known_unit unit.Load width.E8 = refl
@@ -222,7 +229,7 @@ known_unit _ width.E32 = refl
 known_unit unit.Load width.E64 = refl
 known_unit _ width.E64 = refl
 
-known_strided : (op : Direction) (width : Width)
+known_strided : (op : Direction) (width : Eew)
     → find strided_access_bits strided_accesses (strided_access_bits (op, width)) ≡ Some (op, width)
 unfolding find
 known_strided direction.Load width.E8 = refl
@@ -234,7 +241,7 @@ known_strided _ width.E32 = refl
 known_strided direction.Load width.E64 = refl
 known_strided _ width.E64 = refl
 
-known_whole_load : (op : RegisterCount) (width : Width)
+known_whole_load : (op : RegisterCount) (width : Eew)
     → find whole_load_bits whole_loads (whole_load_bits (op, width)) ≡ Some (op, width)
 unfolding find
 known_whole_load count.One width.E8 = refl
@@ -246,7 +253,7 @@ known_whole_load _ width.E32 = refl
 known_whole_load count.One width.E64 = refl
 known_whole_load _ width.E64 = refl
 
-known_indexed : (direction : Direction) (order : Order) (width : Width)
+known_indexed : (direction : Direction) (order : Order) (width : Eew)
     → find indexed_access_bits indexed_accesses (indexed_access_bits ((direction, order), width)) ≡ Some ((direction, order), width)
 unfolding find
 known_indexed direction.Load order.Unordered width.E8 = refl
@@ -432,7 +439,7 @@ in_rows code t (o ∷ os) op b h =
 
 in_table : (k : ℕ) (r : Row) → In r (at_place (map rows families) k) → In r table
 unfolding table
-in_table k r h = in_joined (map rows families) k r h
+in_table k r h = in_flat families k r h
 
 listed_at : {A : Type 0} (k : ℕ) (code : A → ℕ) (t : A → Instr) (ops : List A) (op : A)
     → find code ops (code op) ≡ Some op → at_place (map rows families) k ≡ map row_of (map t ops)
@@ -451,96 +458,96 @@ arith_in Opm form.X r h = in_table 21 r h
 arith_in Opm form.I r h = absurd h
 
 listed_arith : (op : VectorOp) (s : Source) (vd vs2 : ℕ) (vm : Bool) → has_form (line op).forms (form_of s) ≡ true
-    → In (row_of (VectorArith (op, s) vd vs2 vm)) table
+    → In (row_of (instr.Vector (Arith (op, s) vd vs2 vm))) table
 unfolding rows
 listed_arith op (source.V n) vd vs2 vm h =
     let ops : List VectorOp = those line (line op).major form.V vector_ops in
     let is : find (λ o. line_bits (line o) form.V) ops (line_bits (line op) form.V) ≡ Some op = cond-same (has_form (line op).forms form.V) (find (λ o. line_bits (line o) form.V) ops (line_bits (line op) form.V)) (Some op) None (known_vector op form.V) h in
-    arith_in (line op).major form.V (row_of (VectorArith (op, source.V 0) 0 0 true)) (in_rows (λ o. line_bits (line o) form.V) (λ o. VectorArith (o, source.V 0) 0 0 true) ops op (line_bits (line op) form.V) is)
+    arith_in (line op).major form.V (row_of (instr.Vector (Arith (op, source.V 0) 0 0 true))) (in_rows (λ o. line_bits (line o) form.V) (λ o. instr.Vector (Arith (o, source.V 0) 0 0 true)) ops op (line_bits (line op) form.V) is)
 listed_arith op (source.X n) vd vs2 vm h =
     let ops : List VectorOp = those line (line op).major form.X vector_ops in
     let is : find (λ o. line_bits (line o) form.X) ops (line_bits (line op) form.X) ≡ Some op = cond-same (has_form (line op).forms form.X) (find (λ o. line_bits (line o) form.X) ops (line_bits (line op) form.X)) (Some op) None (known_vector op form.X) h in
-    arith_in (line op).major form.X (row_of (VectorArith (op, source.X 0) 0 0 true)) (in_rows (λ o. line_bits (line o) form.X) (λ o. VectorArith (o, source.X 0) 0 0 true) ops op (line_bits (line op) form.X) is)
+    arith_in (line op).major form.X (row_of (instr.Vector (Arith (op, source.X 0) 0 0 true))) (in_rows (λ o. line_bits (line o) form.X) (λ o. instr.Vector (Arith (o, source.X 0) 0 0 true)) ops op (line_bits (line op) form.X) is)
 listed_arith op (source.I n) vd vs2 vm h =
     let ops : List VectorOp = those line (line op).major form.I vector_ops in
     let is : find (λ o. line_bits (line o) form.I) ops (line_bits (line op) form.I) ≡ Some op = cond-same (has_form (line op).forms form.I) (find (λ o. line_bits (line o) form.I) ops (line_bits (line op) form.I)) (Some op) None (known_vector op form.I) h in
-    arith_in (line op).major form.I (row_of (VectorArith (op, source.I 0) 0 0 true)) (in_rows (λ o. line_bits (line o) form.I) (λ o. VectorArith (o, source.I 0) 0 0 true) ops op (line_bits (line op) form.I) is)
+    arith_in (line op).major form.I (row_of (instr.Vector (Arith (op, source.I 0) 0 0 true))) (in_rows (λ o. line_bits (line o) form.I) (λ o. instr.Vector (Arith (o, source.I 0) 0 0 true)) ops op (line_bits (line op) form.I) is)
 
 listed_carry : (op : CarryOp) (s : Source) (vd vs2 : ℕ) → has_form (carry_line op).forms (form_of s) ≡ true
-    → In (row_of (VectorCarry (op, s) vd vs2)) table
+    → In (row_of (instr.Vector (Carry (op, s) vd vs2))) table
 unfolding rows
 listed_carry op (source.V n) vd vs2 h =
     let ops : List CarryOp = those carry_line Opi form.V carry_ops in
     let is : find (λ o. line_bits (carry_line o) form.V) ops (line_bits (carry_line op) form.V) ≡ Some op = cond-same (has_form (carry_line op).forms form.V) (find (λ o. line_bits (carry_line o) form.V) ops (line_bits (carry_line op) form.V)) (Some op) None (known_carry op form.V) h in
-    in_table 22 (row_of (VectorCarry (op, source.V 0) 0 0)) (in_rows (λ o. line_bits (carry_line o) form.V) (λ o. VectorCarry (o, source.V 0) 0 0) ops op (line_bits (carry_line op) form.V) is)
+    in_table 22 (row_of (instr.Vector (Carry (op, source.V 0) 0 0))) (in_rows (λ o. line_bits (carry_line o) form.V) (λ o. instr.Vector (Carry (o, source.V 0) 0 0)) ops op (line_bits (carry_line op) form.V) is)
 listed_carry op (source.X n) vd vs2 h =
     let ops : List CarryOp = those carry_line Opi form.X carry_ops in
     let is : find (λ o. line_bits (carry_line o) form.X) ops (line_bits (carry_line op) form.X) ≡ Some op = cond-same (has_form (carry_line op).forms form.X) (find (λ o. line_bits (carry_line o) form.X) ops (line_bits (carry_line op) form.X)) (Some op) None (known_carry op form.X) h in
-    in_table 23 (row_of (VectorCarry (op, source.X 0) 0 0)) (in_rows (λ o. line_bits (carry_line o) form.X) (λ o. VectorCarry (o, source.X 0) 0 0) ops op (line_bits (carry_line op) form.X) is)
+    in_table 23 (row_of (instr.Vector (Carry (op, source.X 0) 0 0))) (in_rows (λ o. line_bits (carry_line o) form.X) (λ o. instr.Vector (Carry (o, source.X 0) 0 0)) ops op (line_bits (carry_line op) form.X) is)
 listed_carry op (source.I n) vd vs2 h =
     let ops : List CarryOp = those carry_line Opi form.I carry_ops in
     let is : find (λ o. line_bits (carry_line o) form.I) ops (line_bits (carry_line op) form.I) ≡ Some op = cond-same (has_form (carry_line op).forms form.I) (find (λ o. line_bits (carry_line o) form.I) ops (line_bits (carry_line op) form.I)) (Some op) None (known_carry op form.I) h in
-    in_table 24 (row_of (VectorCarry (op, source.I 0) 0 0)) (in_rows (λ o. line_bits (carry_line o) form.I) (λ o. VectorCarry (o, source.I 0) 0 0) ops op (line_bits (carry_line op) form.I) is)
+    in_table 24 (row_of (instr.Vector (Carry (op, source.I 0) 0 0))) (in_rows (λ o. line_bits (carry_line o) form.I) (λ o. instr.Vector (Carry (o, source.I 0) 0 0)) ops op (line_bits (carry_line op) form.I) is)
 
-listed_move : (s : Source) (vd : ℕ) → In (row_of (VectorMove s vd)) table
+listed_move : (s : Source) (vd : ℕ) → In (row_of (instr.Vector (Move s vd))) table
 unfolding rows
-listed_move (source.V n) vd = in_table 25 (row_of (VectorMove (source.V 0) 0)) (inl refl)
-listed_move (source.X n) vd = in_table 26 (row_of (VectorMove (source.X 0) 0)) (inl refl)
-listed_move (source.I n) vd = in_table 27 (row_of (VectorMove (source.I 0) 0)) (inl refl)
+listed_move (source.V n) vd = in_table 25 (row_of (instr.Vector (Move (source.V 0) 0))) (inl refl)
+listed_move (source.X n) vd = in_table 26 (row_of (instr.Vector (Move (source.X 0) 0))) (inl refl)
+listed_move (source.I n) vd = in_table 27 (row_of (instr.Vector (Move (source.I 0) 0))) (inl refl)
 
 -- an instruction's row is in the table
 pub listed : (i : Instr) → Allowed i → In (row_of i) table
 unfolding rows
-listed (Upper op rd imm) h = listed_at 0 upper_bits (λ op. Upper op 0 0) upper_ops op (known_upper op) refl
-listed (Jump rd imm) h = in_table 1 (row_of (Jump 0 0)) (inl refl)
-listed (JumpRegister rd rs1 imm) h = in_table 2 (row_of (JumpRegister 0 0 0)) (inl refl)
-listed (Branch op rs1 rs2 imm) h =
-    listed_at 3 branch_bits (λ op. Branch op 0 0 0) branch_ops op (known_branch op) refl
-listed (Load op rd rs1 imm) h = listed_at 4 load_bits (λ op. Load op 0 0 0) load_ops op (known_load op) refl
-listed (Store op rs1 rs2 imm) h = listed_at 5 store_bits (λ op. Store op 0 0 0) store_ops op (known_store op) refl
-listed (RegisterImmediate op rd rs1 imm) h = listed_at 6 immediate_op_bits (λ op. RegisterImmediate op 0 0 0) immediate_ops op (known_immediate_op op) refl
-listed (ShiftImmediate op rd rs1 shamt) h =
-    listed_at 7 shift_immediate_bits (λ op. ShiftImmediate op 0 0 0) shift_immediate_ops op (known_shift_immediate op) refl
-listed (ShiftImmediateWord op rd rs1 shamt) h =
-    listed_at 8 shift_immediate_word_bits (λ op. ShiftImmediateWord op 0 0 0) shift_immediate_word_ops op (known_shift_immediate_word op) refl
-listed (RegisterRegister op rd rs1 rs2) h = listed_at 9 register_op_bits (λ op. RegisterRegister op 0 0 0) register_ops op (known_register_op op) refl
-listed (Fence rd rs1 ordering) h = in_table 10 (row_of (Fence 0 0 0)) (inl refl)
-listed (System op) h = listed_at 11 system_bits (λ op. System op) system_ops op (known_system op) refl
-listed (Csr op rd rs1 csr) h = listed_at 12 csr_bits (λ op. Csr op 0 0 0) csr_ops op (known_csr op) refl
-listed (CsrImmediate op rd imm csr) h =
-    listed_at 13 csr_immediate_bits (λ op. CsrImmediate op 0 0 0) csr_immediate_ops op (known_csr_immediate op) refl
-listed (SetVli rd rs1 vtype) h = in_table 14 (row_of (SetVli 0 0 0)) (inl refl)
-listed (SetIvli rd avl vtype) h = in_table 15 (row_of (SetIvli 0 0 0)) (inl refl)
-listed (SetVl rd rs1 rs2) h = in_table 16 (row_of (SetVl 0 0 0)) (inl refl)
-listed (VectorArith arith vd vs2 vm) h = listed_arith arith.0 arith.1 vd vs2 vm h
-listed (VectorCarry carry vd vs2) h = listed_carry carry.0 carry.1 vd vs2 h
-listed (VectorMove source vd) h = listed_move source vd
-listed (WholeMove count vd vs2) h =
-    listed_at 28 whole_move_bits (λ op. WholeMove op 0 0) counts count (known_whole_move count) refl
-listed (MaskLogic op vd vs1 vs2) h =
-    listed_at 29 mask_logic_bits (λ op. MaskLogic op 0 0 0) mask_logic_ops op (known_mask_logic op) refl
-listed (Compress vd vs1 vs2) h = in_table 30 (row_of (Compress 0 0 0)) (inl refl)
-listed (MaskToScalar op rd vs2 vm) h =
-    listed_at 31 mask_to_scalar_bits (λ op. MaskToScalar op 0 0 true) mask_to_scalar_ops op (known_mask_to_scalar op) refl
-listed (VectorExtend op vd vs2 vm) h =
-    listed_at 32 extend_bits (λ op. VectorExtend op 0 0 true) extend_ops op (known_extend op) refl
-listed (MaskUnary op vd vs2 vm) h =
-    listed_at 33 mask_unary_bits (λ op. MaskUnary op 0 0 true) mask_unary_ops op (known_mask_unary op) refl
-listed (ElementIndex vd vm) h = in_table 34 (row_of (ElementIndex 0 true)) (inl refl)
-listed (MoveToScalar rd vs2) h = in_table 35 (row_of (MoveToScalar 0 0)) (inl refl)
-listed (MoveToVector vd rs1) h = in_table 36 (row_of (MoveToVector 0 0)) (inl refl)
-listed (VectorUnit op width nf vd rs1 vm) h =
-    listed_at 37 unit_access_bits (λ op. VectorUnit op.0 op.1 0 0 0 true) unit_accesses (op, width) (known_unit op width) refl
-listed (VectorStrided direction width nf vd rs1 rs2 vm) h =
-    listed_at 38 strided_access_bits (λ op. VectorStrided op.0 op.1 0 0 0 0 true) strided_accesses (direction, width) (known_strided direction width) refl
-listed (VectorIndexed direction order width nf vd rs1 vs2 vm) h =
-    listed_at 39 indexed_access_bits (λ op. VectorIndexed op.0.0 op.0.1 op.1 0 0 0 0 true) indexed_accesses ((direction, order), width) (known_indexed direction order width) refl
-listed (WholeLoad count width vd rs1) h =
-    listed_at 40 whole_load_bits (λ op. WholeLoad op.0 op.1 0 0) whole_loads (count, width) (known_whole_load count width) refl
-listed (WholeStore count vd rs1) h =
-    listed_at 41 whole_store_bits (λ op. WholeStore op 0 0) counts count (known_whole_store count) refl
-listed (MaskMemory direction vd rs1) h =
-    listed_at 42 mask_memory_bits (λ op. MaskMemory op 0 0) directions direction (known_mask_memory direction) refl
+listed (instr.Scalar (Upper op rd imm)) h = listed_at 0 upper_bits (λ op. instr.Scalar (Upper op 0 0)) upper_ops op (known_upper op) refl
+listed (instr.Scalar (Jump rd imm)) h = in_table 1 (row_of (instr.Scalar (Jump 0 0))) (inl refl)
+listed (instr.Scalar (JumpRegister rd rs1 imm)) h = in_table 2 (row_of (instr.Scalar (JumpRegister 0 0 0))) (inl refl)
+listed (instr.Scalar (Branch op rs1 rs2 imm)) h =
+    listed_at 3 branch_bits (λ op. instr.Scalar (Branch op 0 0 0)) branch_ops op (known_branch op) refl
+listed (instr.Scalar (Load op rd rs1 imm)) h = listed_at 4 load_bits (λ op. instr.Scalar (Load op 0 0 0)) load_ops op (known_load op) refl
+listed (instr.Scalar (Store op rs1 rs2 imm)) h = listed_at 5 store_bits (λ op. instr.Scalar (Store op 0 0 0)) store_ops op (known_store op) refl
+listed (instr.Scalar (RegisterImmediate op rd rs1 imm)) h = listed_at 6 immediate_op_bits (λ op. instr.Scalar (RegisterImmediate op 0 0 0)) immediate_ops op (known_immediate_op op) refl
+listed (instr.Scalar (ShiftImmediate op rd rs1 shamt)) h =
+    listed_at 7 shift_immediate_bits (λ op. instr.Scalar (ShiftImmediate op 0 0 0)) shift_immediate_ops op (known_shift_immediate op) refl
+listed (instr.Scalar (ShiftImmediateWord op rd rs1 shamt)) h =
+    listed_at 8 shift_immediate_word_bits (λ op. instr.Scalar (ShiftImmediateWord op 0 0 0)) shift_immediate_word_ops op (known_shift_immediate_word op) refl
+listed (instr.Scalar (RegisterRegister op rd rs1 rs2)) h = listed_at 9 register_op_bits (λ op. instr.Scalar (RegisterRegister op 0 0 0)) register_ops op (known_register_op op) refl
+listed (instr.Scalar (Fence rd rs1 ordering)) h = in_table 10 (row_of (instr.Scalar (Fence 0 0 0))) (inl refl)
+listed (instr.Scalar (System op)) h = listed_at 11 system_bits (λ op. instr.Scalar (System op)) system_ops op (known_system op) refl
+listed (instr.Csr (Register op rd rs1 csr)) h = listed_at 12 csr_bits (λ op. instr.Csr (Register op 0 0 0)) csr_ops op (known_csr op) refl
+listed (instr.Csr (Immediate op rd imm csr)) h =
+    listed_at 13 csr_immediate_bits (λ op. instr.Csr (Immediate op 0 0 0)) csr_immediate_ops op (known_csr_immediate op) refl
+listed (instr.Vector (SetVli rd rs1 vtype)) h = in_table 14 (row_of (instr.Vector (SetVli 0 0 0))) (inl refl)
+listed (instr.Vector (SetIvli rd avl vtype)) h = in_table 15 (row_of (instr.Vector (SetIvli 0 0 0))) (inl refl)
+listed (instr.Vector (SetVl rd rs1 rs2)) h = in_table 16 (row_of (instr.Vector (SetVl 0 0 0))) (inl refl)
+listed (instr.Vector (Arith arith vd vs2 vm)) h = listed_arith arith.0 arith.1 vd vs2 vm h
+listed (instr.Vector (Carry carry vd vs2)) h = listed_carry carry.0 carry.1 vd vs2 h
+listed (instr.Vector (Move source vd)) h = listed_move source vd
+listed (instr.Vector (WholeMove count vd vs2)) h =
+    listed_at 28 whole_move_bits (λ op. instr.Vector (WholeMove op 0 0)) counts count (known_whole_move count) refl
+listed (instr.Vector (MaskLogic op vd vs1 vs2)) h =
+    listed_at 29 mask_logic_bits (λ op. instr.Vector (MaskLogic op 0 0 0)) mask_logic_ops op (known_mask_logic op) refl
+listed (instr.Vector (Compress vd vs1 vs2)) h = in_table 30 (row_of (instr.Vector (Compress 0 0 0))) (inl refl)
+listed (instr.Vector (MaskToScalar op rd vs2 vm)) h =
+    listed_at 31 mask_to_scalar_bits (λ op. instr.Vector (MaskToScalar op 0 0 true)) mask_to_scalar_ops op (known_mask_to_scalar op) refl
+listed (instr.Vector (Extend op vd vs2 vm)) h =
+    listed_at 32 extend_bits (λ op. instr.Vector (Extend op 0 0 true)) extend_ops op (known_extend op) refl
+listed (instr.Vector (MaskUnary op vd vs2 vm)) h =
+    listed_at 33 mask_unary_bits (λ op. instr.Vector (MaskUnary op 0 0 true)) mask_unary_ops op (known_mask_unary op) refl
+listed (instr.Vector (ElementIndex vd vm)) h = in_table 34 (row_of (instr.Vector (ElementIndex 0 true))) (inl refl)
+listed (instr.Vector (MoveToScalar rd vs2)) h = in_table 35 (row_of (instr.Vector (MoveToScalar 0 0))) (inl refl)
+listed (instr.Vector (MoveToVector vd rs1)) h = in_table 36 (row_of (instr.Vector (MoveToVector 0 0))) (inl refl)
+listed (instr.Access (UnitStride op width nf vd rs1 vm)) h =
+    listed_at 37 unit_access_bits (λ op. instr.Access (UnitStride op.0 op.1 0 0 0 true)) unit_accesses (op, width) (known_unit op width) refl
+listed (instr.Access (Strided direction width nf vd rs1 rs2 vm)) h =
+    listed_at 38 strided_access_bits (λ op. instr.Access (Strided op.0 op.1 0 0 0 0 true)) strided_accesses (direction, width) (known_strided direction width) refl
+listed (instr.Access (Indexed direction order width nf vd rs1 vs2 vm)) h =
+    listed_at 39 indexed_access_bits (λ op. instr.Access (Indexed op.0.0 op.0.1 op.1 0 0 0 0 true)) indexed_accesses ((direction, order), width) (known_indexed direction order width) refl
+listed (instr.Access (WholeLoad count width vd rs1)) h =
+    listed_at 40 whole_load_bits (λ op. instr.Access (WholeLoad op.0 op.1 0 0)) whole_loads (count, width) (known_whole_load count width) refl
+listed (instr.Access (WholeStore count vd rs1)) h =
+    listed_at 41 whole_store_bits (λ op. instr.Access (WholeStore op 0 0)) counts count (known_whole_store count) refl
+listed (instr.Access (MaskAccess direction vd rs1)) h =
+    listed_at 42 mask_memory_bits (λ op. instr.Access (MaskAccess op 0 0)) directions direction (known_mask_memory direction) refl
 
 pub inside : (i : Instr) → Allowed i → bit_and (bits i) (fixed (parts i)) ≡ bits i
 inside i ok =

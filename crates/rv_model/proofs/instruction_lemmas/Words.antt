@@ -6,10 +6,14 @@ use Rattle.rv_model.specs.declared.instructions.source.Source.TheVariants as sou
 use Rattle.rv_model.specs.declared.instructions.operations.Form.{Form}
 use Rattle.rv_model.specs.declared.instructions.operations.Form.TheVariants as form
 use Rattle.rv_model.specs.declared.instructions.instruction.Instr.{Instr}
-use Rattle.rv_model.specs.declared.instructions.instruction.Instr.TheVariants.{Upper, Jump, JumpRegister, Branch, Load, Store, RegisterImmediate, ShiftImmediate, ShiftImmediateWord, RegisterRegister, Fence, System, Csr, CsrImmediate, SetVli, SetIvli, SetVl, VectorArith, VectorCarry, VectorMove, WholeMove, MaskLogic, Compress, MaskToScalar, VectorExtend, MaskUnary, ElementIndex, MoveToScalar, MoveToVector, VectorUnit, VectorStrided, VectorIndexed, WholeLoad, WholeStore, MaskMemory}
+use Rattle.rv_model.specs.declared.instructions.instruction.Instr.TheVariants as instr
+use Rattle.rv_model.specs.declared.instructions.scalar.ScalarInstr.TheVariants.{Upper, Jump, JumpRegister, Branch, Load, Store, RegisterImmediate, ShiftImmediate, ShiftImmediateWord, RegisterRegister, Fence, System}
+use Rattle.rv_model.specs.declared.instructions.csr.CsrInstr.TheVariants.{Register, Immediate}
+use Rattle.rv_model.specs.declared.instructions.vector.VectorInstr.TheVariants.{SetVli, SetIvli, SetVl, Arith, Carry, Move, WholeMove, MaskLogic, Compress, MaskToScalar, Extend, MaskUnary, ElementIndex, MoveToScalar, MoveToVector}
+use Rattle.rv_model.specs.declared.instructions.access.AccessInstr.TheVariants.{UnitStride, Strided, Indexed, WholeLoad, WholeStore, MaskAccess}
 use Rattle.rv_model.specs.instructions.BitFields.{field, flag, flag_bit, Part, mask_of, fixed}
 use Rattle.rv_model.specs.instructions.Immediates.{store_immediate}
-use Rattle.rv_model.specs.instructions.Sources.{form_of, number, source_of}
+use Rattle.rv_model.specs.instructions.Sources.{form_of, source_of, source_number}
 use Rattle.rv_model.specs.instructions.Layout.{parts, bits, filled}
 use Rattle.rv_model.proofs.instruction_lemmas.Parts.{share_none, clear, Reads, of_word}
 
@@ -25,12 +29,12 @@ bit_pair : (b : Bool) → nat_eq (flag_bit b) 1 ≡ b
 bit_pair true = refl
 bit_pair false = refl
 
-source_again : (s : Source) → source_of (form_of s) (number s) ≡ s
+source_again : (s : Source) → source_of (form_of s) (source_number s) ≡ s
 source_again (source.V n) = refl
 source_again (source.X n) = refl
 source_again (source.I n) = refl
 
-number-source_of : (f : Form) (n : ℕ) → number (source_of f n) ≡ n
+number-source_of : (f : Form) (n : ℕ) → source_number (source_of f n) ≡ n
 number-source_of form.V n = refl
 number-source_of form.X n = refl
 number-source_of form.I n = refl
@@ -96,124 +100,124 @@ jump-join n = omega arith
 
 -- what the word's parts are
 pub filled_parts : (t : Instr) (w : ℕ) → parts (filled t w) ≡ of_word w (parts t)
-filled_parts (Upper op rd imm) w = refl
-filled_parts (Jump rd imm) w =
+filled_parts (instr.Scalar (Upper op rd imm)) w = refl
+filled_parts (instr.Scalar (Jump rd imm)) w =
     let j : JumpPieces (field 21 10 w) (field 20 1 w) (field 12 8 w) (field 31 1 w) = jump_of w in rw (j.bit20, j.bits10_1, j.bit11, j.bits19_12) refl
-filled_parts (JumpRegister rd rs1 imm) w = refl
-filled_parts (Branch op rs1 rs2 imm) w =
+filled_parts (instr.Scalar (JumpRegister rd rs1 imm)) w = refl
+filled_parts (instr.Scalar (Branch op rs1 rs2 imm)) w =
     let b : BranchPieces (field 8 4 w) (field 25 6 w) (field 7 1 w) (field 31 1 w) = branch_of w in rw (b.bit12, b.bits10_5, b.bits4_1, b.bit11) refl
-filled_parts (Load op rd rs1 imm) w = refl
-filled_parts (Store op rs1 rs2 imm) w = rw (store-high w, store-low w) refl
-filled_parts (RegisterImmediate op rd rs1 imm) w = refl
-filled_parts (ShiftImmediate op rd rs1 shamt) w = refl
-filled_parts (ShiftImmediateWord op rd rs1 shamt) w = refl
-filled_parts (RegisterRegister op rd rs1 rs2) w = refl
-filled_parts (Fence rd rs1 ordering) w = refl
-filled_parts (System op) w = refl
-filled_parts (Csr op rd rs1 csr) w = refl
-filled_parts (CsrImmediate op rd imm csr) w = refl
-filled_parts (SetVli rd rs1 vtype) w = refl
-filled_parts (SetIvli rd avl vtype) w = refl
-filled_parts (SetVl rd rs1 rs2) w = refl
-filled_parts (VectorArith arith vd vs2 vm) w =
+filled_parts (instr.Scalar (Load op rd rs1 imm)) w = refl
+filled_parts (instr.Scalar (Store op rs1 rs2 imm)) w = rw (store-high w, store-low w) refl
+filled_parts (instr.Scalar (RegisterImmediate op rd rs1 imm)) w = refl
+filled_parts (instr.Scalar (ShiftImmediate op rd rs1 shamt)) w = refl
+filled_parts (instr.Scalar (ShiftImmediateWord op rd rs1 shamt)) w = refl
+filled_parts (instr.Scalar (RegisterRegister op rd rs1 rs2)) w = refl
+filled_parts (instr.Scalar (Fence rd rs1 ordering)) w = refl
+filled_parts (instr.Scalar (System op)) w = refl
+filled_parts (instr.Csr (Register op rd rs1 csr)) w = refl
+filled_parts (instr.Csr (Immediate op rd imm csr)) w = refl
+filled_parts (instr.Vector (SetVli rd rs1 vtype)) w = refl
+filled_parts (instr.Vector (SetIvli rd avl vtype)) w = refl
+filled_parts (instr.Vector (SetVl rd rs1 rs2)) w = refl
+filled_parts (instr.Vector (Arith arith vd vs2 vm)) w =
     rw (flag_back w, number-source_of (form_of arith.1) (field 15 5 w)) refl
-filled_parts (VectorCarry carry vd vs2) w = rw (number-source_of (form_of carry.1) (field 15 5 w)) refl
-filled_parts (VectorMove source vd) w = rw (number-source_of (form_of source) (field 15 5 w)) refl
-filled_parts (WholeMove count vd vs2) w = refl
-filled_parts (MaskLogic op vd vs1 vs2) w = refl
-filled_parts (Compress vd vs1 vs2) w = refl
-filled_parts (MaskToScalar op rd vs2 vm) w = rw (flag_back w) refl
-filled_parts (VectorExtend op vd vs2 vm) w = rw (flag_back w) refl
-filled_parts (MaskUnary op vd vs2 vm) w = rw (flag_back w) refl
-filled_parts (ElementIndex vd vm) w = rw (flag_back w) refl
-filled_parts (MoveToScalar rd vs2) w = refl
-filled_parts (MoveToVector vd rs1) w = refl
-filled_parts (VectorUnit op width nf vd rs1 vm) w = rw (flag_back w) refl
-filled_parts (VectorStrided direction width nf vd rs1 rs2 vm) w = rw (flag_back w) refl
-filled_parts (VectorIndexed direction order width nf vd rs1 vs2 vm) w = rw (flag_back w) refl
-filled_parts (WholeLoad count width vd rs1) w = refl
-filled_parts (WholeStore count vd rs1) w = refl
-filled_parts (MaskMemory direction vd rs1) w = refl
+filled_parts (instr.Vector (Carry carry vd vs2)) w = rw (number-source_of (form_of carry.1) (field 15 5 w)) refl
+filled_parts (instr.Vector (Move source vd)) w = rw (number-source_of (form_of source) (field 15 5 w)) refl
+filled_parts (instr.Vector (WholeMove count vd vs2)) w = refl
+filled_parts (instr.Vector (MaskLogic op vd vs1 vs2)) w = refl
+filled_parts (instr.Vector (Compress vd vs1 vs2)) w = refl
+filled_parts (instr.Vector (MaskToScalar op rd vs2 vm)) w = rw (flag_back w) refl
+filled_parts (instr.Vector (Extend op vd vs2 vm)) w = rw (flag_back w) refl
+filled_parts (instr.Vector (MaskUnary op vd vs2 vm)) w = rw (flag_back w) refl
+filled_parts (instr.Vector (ElementIndex vd vm)) w = rw (flag_back w) refl
+filled_parts (instr.Vector (MoveToScalar rd vs2)) w = refl
+filled_parts (instr.Vector (MoveToVector vd rs1)) w = refl
+filled_parts (instr.Access (UnitStride op width nf vd rs1 vm)) w = rw (flag_back w) refl
+filled_parts (instr.Access (Strided direction width nf vd rs1 rs2 vm)) w = rw (flag_back w) refl
+filled_parts (instr.Access (Indexed direction order width nf vd rs1 vs2 vm)) w = rw (flag_back w) refl
+filled_parts (instr.Access (WholeLoad count width vd rs1)) w = refl
+filled_parts (instr.Access (WholeStore count vd rs1)) w = refl
+filled_parts (instr.Access (MaskAccess direction vd rs1)) w = refl
 
 -- and its other bits
 pub filled_bits : (t : Instr) (w : ℕ) → bits (filled t w) ≡ bits t
-filled_bits (Upper op rd imm) w = refl
-filled_bits (Jump rd imm) w = refl
-filled_bits (JumpRegister rd rs1 imm) w = refl
-filled_bits (Branch op rs1 rs2 imm) w = refl
-filled_bits (Load op rd rs1 imm) w = refl
-filled_bits (Store op rs1 rs2 imm) w = refl
-filled_bits (RegisterImmediate op rd rs1 imm) w = refl
-filled_bits (ShiftImmediate op rd rs1 shamt) w = refl
-filled_bits (ShiftImmediateWord op rd rs1 shamt) w = refl
-filled_bits (RegisterRegister op rd rs1 rs2) w = refl
-filled_bits (Fence rd rs1 ordering) w = refl
-filled_bits (System op) w = refl
-filled_bits (Csr op rd rs1 csr) w = refl
-filled_bits (CsrImmediate op rd imm csr) w = refl
-filled_bits (SetVli rd rs1 vtype) w = refl
-filled_bits (SetIvli rd avl vtype) w = refl
-filled_bits (SetVl rd rs1 rs2) w = refl
-filled_bits (VectorArith arith vd vs2 vm) w = rw (form_source_of (form_of arith.1) (field 15 5 w)) refl
-filled_bits (VectorCarry carry vd vs2) w = rw (form_source_of (form_of carry.1) (field 15 5 w)) refl
-filled_bits (VectorMove source vd) w = rw (form_source_of (form_of source) (field 15 5 w)) refl
-filled_bits (WholeMove count vd vs2) w = refl
-filled_bits (MaskLogic op vd vs1 vs2) w = refl
-filled_bits (Compress vd vs1 vs2) w = refl
-filled_bits (MaskToScalar op rd vs2 vm) w = refl
-filled_bits (VectorExtend op vd vs2 vm) w = refl
-filled_bits (MaskUnary op vd vs2 vm) w = refl
-filled_bits (ElementIndex vd vm) w = refl
-filled_bits (MoveToScalar rd vs2) w = refl
-filled_bits (MoveToVector vd rs1) w = refl
-filled_bits (VectorUnit op width nf vd rs1 vm) w = refl
-filled_bits (VectorStrided direction width nf vd rs1 rs2 vm) w = refl
-filled_bits (VectorIndexed direction order width nf vd rs1 vs2 vm) w = refl
-filled_bits (WholeLoad count width vd rs1) w = refl
-filled_bits (WholeStore count vd rs1) w = refl
-filled_bits (MaskMemory direction vd rs1) w = refl
+filled_bits (instr.Scalar (Upper op rd imm)) w = refl
+filled_bits (instr.Scalar (Jump rd imm)) w = refl
+filled_bits (instr.Scalar (JumpRegister rd rs1 imm)) w = refl
+filled_bits (instr.Scalar (Branch op rs1 rs2 imm)) w = refl
+filled_bits (instr.Scalar (Load op rd rs1 imm)) w = refl
+filled_bits (instr.Scalar (Store op rs1 rs2 imm)) w = refl
+filled_bits (instr.Scalar (RegisterImmediate op rd rs1 imm)) w = refl
+filled_bits (instr.Scalar (ShiftImmediate op rd rs1 shamt)) w = refl
+filled_bits (instr.Scalar (ShiftImmediateWord op rd rs1 shamt)) w = refl
+filled_bits (instr.Scalar (RegisterRegister op rd rs1 rs2)) w = refl
+filled_bits (instr.Scalar (Fence rd rs1 ordering)) w = refl
+filled_bits (instr.Scalar (System op)) w = refl
+filled_bits (instr.Csr (Register op rd rs1 csr)) w = refl
+filled_bits (instr.Csr (Immediate op rd imm csr)) w = refl
+filled_bits (instr.Vector (SetVli rd rs1 vtype)) w = refl
+filled_bits (instr.Vector (SetIvli rd avl vtype)) w = refl
+filled_bits (instr.Vector (SetVl rd rs1 rs2)) w = refl
+filled_bits (instr.Vector (Arith arith vd vs2 vm)) w = rw (form_source_of (form_of arith.1) (field 15 5 w)) refl
+filled_bits (instr.Vector (Carry carry vd vs2)) w = rw (form_source_of (form_of carry.1) (field 15 5 w)) refl
+filled_bits (instr.Vector (Move source vd)) w = rw (form_source_of (form_of source) (field 15 5 w)) refl
+filled_bits (instr.Vector (WholeMove count vd vs2)) w = refl
+filled_bits (instr.Vector (MaskLogic op vd vs1 vs2)) w = refl
+filled_bits (instr.Vector (Compress vd vs1 vs2)) w = refl
+filled_bits (instr.Vector (MaskToScalar op rd vs2 vm)) w = refl
+filled_bits (instr.Vector (Extend op vd vs2 vm)) w = refl
+filled_bits (instr.Vector (MaskUnary op vd vs2 vm)) w = refl
+filled_bits (instr.Vector (ElementIndex vd vm)) w = refl
+filled_bits (instr.Vector (MoveToScalar rd vs2)) w = refl
+filled_bits (instr.Vector (MoveToVector vd rs1)) w = refl
+filled_bits (instr.Access (UnitStride op width nf vd rs1 vm)) w = refl
+filled_bits (instr.Access (Strided direction width nf vd rs1 rs2 vm)) w = refl
+filled_bits (instr.Access (Indexed direction order width nf vd rs1 vs2 vm)) w = refl
+filled_bits (instr.Access (WholeLoad count width vd rs1)) w = refl
+filled_bits (instr.Access (WholeStore count vd rs1)) w = refl
+filled_bits (instr.Access (MaskAccess direction vd rs1)) w = refl
 
 -- an instruction is what a word with its parts gives
 pub refilled : (i : Instr) (w : ℕ) → Reads w (parts i) → filled i w ≡ i
-refilled (Upper op rd imm) w r = rw (r.0, r.1.0) refl
-refilled (Jump rd imm) w r = rw (r.0, r.1.0, r.1.1.0, r.1.1.1.0, r.1.1.1.1.0, jump-join imm) refl
-refilled (JumpRegister rd rs1 imm) w r = rw (r.0, r.1.0, r.1.1.0) refl
-refilled (Branch op rs1 rs2 imm) w r =
+refilled (instr.Scalar (Upper op rd imm)) w r = rw (r.0, r.1.0) refl
+refilled (instr.Scalar (Jump rd imm)) w r = rw (r.0, r.1.0, r.1.1.0, r.1.1.1.0, r.1.1.1.1.0, jump-join imm) refl
+refilled (instr.Scalar (JumpRegister rd rs1 imm)) w r = rw (r.0, r.1.0, r.1.1.0) refl
+refilled (instr.Scalar (Branch op rs1 rs2 imm)) w r =
     rw (r.0, r.1.0, r.1.1.0, r.1.1.1.0, r.1.1.1.1.0, r.1.1.1.1.1.0, branch-join imm) refl
-refilled (Load op rd rs1 imm) w r = rw (r.0, r.1.0, r.1.1.0) refl
-refilled (Store op rs1 rs2 imm) w r = rw (r.0, r.1.0, r.1.1.0, r.1.1.1.0, store-join imm) refl
-refilled (RegisterImmediate op rd rs1 imm) w r = rw (r.0, r.1.0, r.1.1.0) refl
-refilled (ShiftImmediate op rd rs1 shamt) w r = rw (r.0, r.1.0, r.1.1.0) refl
-refilled (ShiftImmediateWord op rd rs1 shamt) w r = rw (r.0, r.1.0, r.1.1.0) refl
-refilled (RegisterRegister op rd rs1 rs2) w r = rw (r.0, r.1.0, r.1.1.0) refl
-refilled (Fence rd rs1 ordering) w r = rw (r.0, r.1.0, r.1.1.0) refl
-refilled (System op) w r = refl
-refilled (Csr op rd rs1 csr) w r = rw (r.0, r.1.0, r.1.1.0) refl
-refilled (CsrImmediate op rd imm csr) w r = rw (r.0, r.1.0, r.1.1.0) refl
-refilled (SetVli rd rs1 vtype) w r = rw (r.0, r.1.0, r.1.1.0) refl
-refilled (SetIvli rd avl vtype) w r = rw (r.0, r.1.0, r.1.1.0) refl
-refilled (SetVl rd rs1 rs2) w r = rw (r.0, r.1.0, r.1.1.0) refl
-refilled (VectorArith arith vd vs2 vm) w r =
+refilled (instr.Scalar (Load op rd rs1 imm)) w r = rw (r.0, r.1.0, r.1.1.0) refl
+refilled (instr.Scalar (Store op rs1 rs2 imm)) w r = rw (r.0, r.1.0, r.1.1.0, r.1.1.1.0, store-join imm) refl
+refilled (instr.Scalar (RegisterImmediate op rd rs1 imm)) w r = rw (r.0, r.1.0, r.1.1.0) refl
+refilled (instr.Scalar (ShiftImmediate op rd rs1 shamt)) w r = rw (r.0, r.1.0, r.1.1.0) refl
+refilled (instr.Scalar (ShiftImmediateWord op rd rs1 shamt)) w r = rw (r.0, r.1.0, r.1.1.0) refl
+refilled (instr.Scalar (RegisterRegister op rd rs1 rs2)) w r = rw (r.0, r.1.0, r.1.1.0) refl
+refilled (instr.Scalar (Fence rd rs1 ordering)) w r = rw (r.0, r.1.0, r.1.1.0) refl
+refilled (instr.Scalar (System op)) w r = refl
+refilled (instr.Csr (Register op rd rs1 csr)) w r = rw (r.0, r.1.0, r.1.1.0) refl
+refilled (instr.Csr (Immediate op rd imm csr)) w r = rw (r.0, r.1.0, r.1.1.0) refl
+refilled (instr.Vector (SetVli rd rs1 vtype)) w r = rw (r.0, r.1.0, r.1.1.0) refl
+refilled (instr.Vector (SetIvli rd avl vtype)) w r = rw (r.0, r.1.0, r.1.1.0) refl
+refilled (instr.Vector (SetVl rd rs1 rs2)) w r = rw (r.0, r.1.0, r.1.1.0) refl
+refilled (instr.Vector (Arith arith vd vs2 vm)) w r =
     rw (r.0, r.1.0, r.1.1.0, r.1.1.1.0, bit_pair vm, source_again arith.1) refl
-refilled (VectorCarry carry vd vs2) w r = rw (r.0, r.1.0, r.1.1.0, source_again carry.1) refl
-refilled (VectorMove source vd) w r = rw (r.0, r.1.0, source_again source) refl
-refilled (WholeMove count vd vs2) w r = rw (r.0, r.1.0) refl
-refilled (MaskLogic op vd vs1 vs2) w r = rw (r.0, r.1.0, r.1.1.0) refl
-refilled (Compress vd vs1 vs2) w r = rw (r.0, r.1.0, r.1.1.0) refl
-refilled (MaskToScalar op rd vs2 vm) w r = rw (r.0, r.1.0, r.1.1.0, bit_pair vm) refl
-refilled (VectorExtend op vd vs2 vm) w r = rw (r.0, r.1.0, r.1.1.0, bit_pair vm) refl
-refilled (MaskUnary op vd vs2 vm) w r = rw (r.0, r.1.0, r.1.1.0, bit_pair vm) refl
-refilled (ElementIndex vd vm) w r = rw (r.0, r.1.0, bit_pair vm) refl
-refilled (MoveToScalar rd vs2) w r = rw (r.0, r.1.0) refl
-refilled (MoveToVector vd rs1) w r = rw (r.0, r.1.0) refl
-refilled (VectorUnit op width nf vd rs1 vm) w r = rw (r.0, r.1.0, r.1.1.0, r.1.1.1.0, bit_pair vm) refl
-refilled (VectorStrided direction width nf vd rs1 rs2 vm) w r =
+refilled (instr.Vector (Carry carry vd vs2)) w r = rw (r.0, r.1.0, r.1.1.0, source_again carry.1) refl
+refilled (instr.Vector (Move source vd)) w r = rw (r.0, r.1.0, source_again source) refl
+refilled (instr.Vector (WholeMove count vd vs2)) w r = rw (r.0, r.1.0) refl
+refilled (instr.Vector (MaskLogic op vd vs1 vs2)) w r = rw (r.0, r.1.0, r.1.1.0) refl
+refilled (instr.Vector (Compress vd vs1 vs2)) w r = rw (r.0, r.1.0, r.1.1.0) refl
+refilled (instr.Vector (MaskToScalar op rd vs2 vm)) w r = rw (r.0, r.1.0, r.1.1.0, bit_pair vm) refl
+refilled (instr.Vector (Extend op vd vs2 vm)) w r = rw (r.0, r.1.0, r.1.1.0, bit_pair vm) refl
+refilled (instr.Vector (MaskUnary op vd vs2 vm)) w r = rw (r.0, r.1.0, r.1.1.0, bit_pair vm) refl
+refilled (instr.Vector (ElementIndex vd vm)) w r = rw (r.0, r.1.0, bit_pair vm) refl
+refilled (instr.Vector (MoveToScalar rd vs2)) w r = rw (r.0, r.1.0) refl
+refilled (instr.Vector (MoveToVector vd rs1)) w r = rw (r.0, r.1.0) refl
+refilled (instr.Access (UnitStride op width nf vd rs1 vm)) w r = rw (r.0, r.1.0, r.1.1.0, r.1.1.1.0, bit_pair vm) refl
+refilled (instr.Access (Strided direction width nf vd rs1 rs2 vm)) w r =
     rw (r.0, r.1.0, r.1.1.0, r.1.1.1.0, r.1.1.1.1.0, bit_pair vm) refl
-refilled (VectorIndexed direction order width nf vd rs1 vs2 vm) w r =
+refilled (instr.Access (Indexed direction order width nf vd rs1 vs2 vm)) w r =
     rw (r.0, r.1.0, r.1.1.0, r.1.1.1.0, r.1.1.1.1.0, bit_pair vm) refl
-refilled (WholeLoad count width vd rs1) w r = rw (r.0, r.1.0) refl
-refilled (WholeStore count vd rs1) w r = rw (r.0, r.1.0) refl
-refilled (MaskMemory direction vd rs1) w r = rw (r.0, r.1.0) refl
+refilled (instr.Access (WholeLoad count width vd rs1)) w r = rw (r.0, r.1.0) refl
+refilled (instr.Access (WholeStore count vd rs1)) w r = rw (r.0, r.1.0) refl
+refilled (instr.Access (MaskAccess direction vd rs1)) w r = rw (r.0, r.1.0) refl
 
 -- the parts and the fixed bits fill a word
 pub record Laid (ps : List Part) : Type 0 where
@@ -223,38 +227,38 @@ pub record Laid (ps : List Part) : Type 0 where
 
 -- each instruction does
 pub laid : (i : Instr) → Laid (parts i)
-laid (Upper op rd imm) = record { apart = refl; clear = refl; whole = refl }
-laid (Jump rd imm) = record { apart = refl; clear = refl; whole = refl }
-laid (JumpRegister rd rs1 imm) = record { apart = refl; clear = refl; whole = refl }
-laid (Branch op rs1 rs2 imm) = record { apart = refl; clear = refl; whole = refl }
-laid (Load op rd rs1 imm) = record { apart = refl; clear = refl; whole = refl }
-laid (Store op rs1 rs2 imm) = record { apart = refl; clear = refl; whole = refl }
-laid (RegisterImmediate op rd rs1 imm) = record { apart = refl; clear = refl; whole = refl }
-laid (ShiftImmediate op rd rs1 shamt) = record { apart = refl; clear = refl; whole = refl }
-laid (ShiftImmediateWord op rd rs1 shamt) = record { apart = refl; clear = refl; whole = refl }
-laid (RegisterRegister op rd rs1 rs2) = record { apart = refl; clear = refl; whole = refl }
-laid (Fence rd rs1 ordering) = record { apart = refl; clear = refl; whole = refl }
-laid (System op) = record { apart = refl; clear = refl; whole = refl }
-laid (Csr op rd rs1 csr) = record { apart = refl; clear = refl; whole = refl }
-laid (CsrImmediate op rd imm csr) = record { apart = refl; clear = refl; whole = refl }
-laid (SetVli rd rs1 vtype) = record { apart = refl; clear = refl; whole = refl }
-laid (SetIvli rd avl vtype) = record { apart = refl; clear = refl; whole = refl }
-laid (SetVl rd rs1 rs2) = record { apart = refl; clear = refl; whole = refl }
-laid (VectorArith arith vd vs2 vm) = record { apart = refl; clear = refl; whole = refl }
-laid (VectorCarry carry vd vs2) = record { apart = refl; clear = refl; whole = refl }
-laid (VectorMove source vd) = record { apart = refl; clear = refl; whole = refl }
-laid (WholeMove count vd vs2) = record { apart = refl; clear = refl; whole = refl }
-laid (MaskLogic op vd vs1 vs2) = record { apart = refl; clear = refl; whole = refl }
-laid (Compress vd vs1 vs2) = record { apart = refl; clear = refl; whole = refl }
-laid (MaskToScalar op rd vs2 vm) = record { apart = refl; clear = refl; whole = refl }
-laid (VectorExtend op vd vs2 vm) = record { apart = refl; clear = refl; whole = refl }
-laid (MaskUnary op vd vs2 vm) = record { apart = refl; clear = refl; whole = refl }
-laid (ElementIndex vd vm) = record { apart = refl; clear = refl; whole = refl }
-laid (MoveToScalar rd vs2) = record { apart = refl; clear = refl; whole = refl }
-laid (MoveToVector vd rs1) = record { apart = refl; clear = refl; whole = refl }
-laid (VectorUnit op width nf vd rs1 vm) = record { apart = refl; clear = refl; whole = refl }
-laid (VectorStrided direction width nf vd rs1 rs2 vm) = record { apart = refl; clear = refl; whole = refl }
-laid (VectorIndexed direction order width nf vd rs1 vs2 vm) = record { apart = refl; clear = refl; whole = refl }
-laid (WholeLoad count width vd rs1) = record { apart = refl; clear = refl; whole = refl }
-laid (WholeStore count vd rs1) = record { apart = refl; clear = refl; whole = refl }
-laid (MaskMemory direction vd rs1) = record { apart = refl; clear = refl; whole = refl }
+laid (instr.Scalar (Upper op rd imm)) = record { apart = refl; clear = refl; whole = refl }
+laid (instr.Scalar (Jump rd imm)) = record { apart = refl; clear = refl; whole = refl }
+laid (instr.Scalar (JumpRegister rd rs1 imm)) = record { apart = refl; clear = refl; whole = refl }
+laid (instr.Scalar (Branch op rs1 rs2 imm)) = record { apart = refl; clear = refl; whole = refl }
+laid (instr.Scalar (Load op rd rs1 imm)) = record { apart = refl; clear = refl; whole = refl }
+laid (instr.Scalar (Store op rs1 rs2 imm)) = record { apart = refl; clear = refl; whole = refl }
+laid (instr.Scalar (RegisterImmediate op rd rs1 imm)) = record { apart = refl; clear = refl; whole = refl }
+laid (instr.Scalar (ShiftImmediate op rd rs1 shamt)) = record { apart = refl; clear = refl; whole = refl }
+laid (instr.Scalar (ShiftImmediateWord op rd rs1 shamt)) = record { apart = refl; clear = refl; whole = refl }
+laid (instr.Scalar (RegisterRegister op rd rs1 rs2)) = record { apart = refl; clear = refl; whole = refl }
+laid (instr.Scalar (Fence rd rs1 ordering)) = record { apart = refl; clear = refl; whole = refl }
+laid (instr.Scalar (System op)) = record { apart = refl; clear = refl; whole = refl }
+laid (instr.Csr (Register op rd rs1 csr)) = record { apart = refl; clear = refl; whole = refl }
+laid (instr.Csr (Immediate op rd imm csr)) = record { apart = refl; clear = refl; whole = refl }
+laid (instr.Vector (SetVli rd rs1 vtype)) = record { apart = refl; clear = refl; whole = refl }
+laid (instr.Vector (SetIvli rd avl vtype)) = record { apart = refl; clear = refl; whole = refl }
+laid (instr.Vector (SetVl rd rs1 rs2)) = record { apart = refl; clear = refl; whole = refl }
+laid (instr.Vector (Arith arith vd vs2 vm)) = record { apart = refl; clear = refl; whole = refl }
+laid (instr.Vector (Carry carry vd vs2)) = record { apart = refl; clear = refl; whole = refl }
+laid (instr.Vector (Move source vd)) = record { apart = refl; clear = refl; whole = refl }
+laid (instr.Vector (WholeMove count vd vs2)) = record { apart = refl; clear = refl; whole = refl }
+laid (instr.Vector (MaskLogic op vd vs1 vs2)) = record { apart = refl; clear = refl; whole = refl }
+laid (instr.Vector (Compress vd vs1 vs2)) = record { apart = refl; clear = refl; whole = refl }
+laid (instr.Vector (MaskToScalar op rd vs2 vm)) = record { apart = refl; clear = refl; whole = refl }
+laid (instr.Vector (Extend op vd vs2 vm)) = record { apart = refl; clear = refl; whole = refl }
+laid (instr.Vector (MaskUnary op vd vs2 vm)) = record { apart = refl; clear = refl; whole = refl }
+laid (instr.Vector (ElementIndex vd vm)) = record { apart = refl; clear = refl; whole = refl }
+laid (instr.Vector (MoveToScalar rd vs2)) = record { apart = refl; clear = refl; whole = refl }
+laid (instr.Vector (MoveToVector vd rs1)) = record { apart = refl; clear = refl; whole = refl }
+laid (instr.Access (UnitStride op width nf vd rs1 vm)) = record { apart = refl; clear = refl; whole = refl }
+laid (instr.Access (Strided direction width nf vd rs1 rs2 vm)) = record { apart = refl; clear = refl; whole = refl }
+laid (instr.Access (Indexed direction order width nf vd rs1 vs2 vm)) = record { apart = refl; clear = refl; whole = refl }
+laid (instr.Access (WholeLoad count width vd rs1)) = record { apart = refl; clear = refl; whole = refl }
+laid (instr.Access (WholeStore count vd rs1)) = record { apart = refl; clear = refl; whole = refl }
+laid (instr.Access (MaskAccess direction vd rs1)) = record { apart = refl; clear = refl; whole = refl }

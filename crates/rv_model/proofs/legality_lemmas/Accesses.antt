@@ -1,35 +1,35 @@
 -- What legality tells of the registers of a vector load or store.
 use Rattle.std.specs.Prelude.{Option, Some, nat_le}
 use Rattle.std.specs.List.{list_all}
-use Rattle.std.proofs.Common.{◌≡◌, ℕ, ◌+◌, ◌*◌, ◌/◌, ◌≤◌, Bool, true, refl, subst, arith, lit<}
+use Rattle.std.proofs.Common.{◌≡◌, ◌∷◌, ℕ, ◌+◌, ◌*◌, ◌/◌, ◌≤◌, Bool, true, refl, subst, arith, lit<}
 use Rattle.std.proofs.Math.Nat.{mul-le-mul_left, mul-le-mul_right}
 use Rattle.std.proofs.lemmas.Bool.Decides.{nat_tests}
-use Rattle.rv_model.specs.declared.instructions.instruction.Instr.TheVariants.{MaskMemory, VectorIndexed, VectorStrided, VectorUnit, WholeLoad, WholeStore}
+use Rattle.rv_model.specs.declared.instructions.instruction.Instr.TheVariants as instr
+use Rattle.rv_model.specs.declared.instructions.access.AccessInstr.TheVariants.{MaskAccess, Indexed, Strided, UnitStride, WholeLoad, WholeStore}
 use Rattle.rv_model.specs.declared.instructions.operations.Direction.{Direction}
 use Rattle.rv_model.specs.declared.instructions.operations.Order.{Order}
 use Rattle.rv_model.specs.declared.instructions.operations.RegisterCount.{RegisterCount}
 use Rattle.rv_model.specs.declared.instructions.operations.RegisterCount.TheVariants.{One, Two, Four, Eight}
 use Rattle.rv_model.specs.declared.instructions.operations.UnitOp.{UnitOp}
-use Rattle.rv_model.specs.declared.instructions.operations.Width.{Width}
+use Rattle.rv_model.specs.declared.instructions.operations.Eew.{Eew}
 use Rattle.rv_model.specs.declared.legality.Role.{Role}
-use Rattle.rv_model.specs.declared.legality.Role.TheVariants.{Unused}
+use Rattle.rv_model.specs.declared.legality.Role.TheVariants.{Read}
 use Rattle.rv_model.specs.declared.vector.types.Lmul.{Lmul}
 use Rattle.rv_model.specs.declared.vector.types.Lmul.TheVariants.{Mf8, Mf4, Mf2, M1, M2, M4, M8}
 use Rattle.rv_model.specs.declared.vector.types.Sew.{Sew}
 use Rattle.rv_model.specs.declared.vector.types.Sew.TheVariants.{E8, E16, E32, E64}
 use Rattle.rv_model.specs.declared.vector.types.VType.{VType}
-use Rattle.rv_model.specs.declared.vector.sizes.TheConstants.{VECTOR_REGISTERS, VLENB}
-use Rattle.rv_model.specs.accesses.VectorAccess.{access_type}
-use Rattle.rv_model.specs.elements.Arithmetic.{GroupType, group_type}
-use Rattle.rv_model.specs.legality.GroupBounds.{HasRoom, IsInside, SegmentsInside}
-use Rattle.rv_model.specs.legality.Legality.{data_role, indexed_role, is_legal, operands, register_count, unit_role}
-use Rattle.rv_model.specs.legality.OperandShapes.{emul, mask, segment}
+use Rattle.rv_model.specs.declared.vector.sizes.TheConstants.{VECTOR_REGISTERS, VLEN, VLENB}
+use Rattle.rv_model.specs.vector.Groups.{access_type, register_count}
+use Rattle.rv_model.specs.vector.Configuration.{GroupType, group_type, element_width, lmul_eighths, sew_bits, sew_width, vlmax, width_bytes}
+use Rattle.rv_model.specs.lending.GroupBounds.{HasRoom, IsInside, SegmentsInside, emul}
+use Rattle.rv_model.specs.legality.Legality.{data_role, indexed_role, is_legal, operands, unit_role}
+use Rattle.rv_model.specs.legality.OperandShapes.{field_groups, group, mask, v0}
 use Rattle.rv_model.specs.legality.RegisterOperands.{IsGroup}
-use Rattle.rv_model.specs.vector.Configuration.{element_width, lmul_eighths, sew_bits, sew_width, vlmax, width_bytes}
 use Rattle.rv_model.specs.vector.Registers.{registers}
 use Rattle.rv_model.specs.vector.TypeNames.{lmuls, sews}
 use Rattle.rv_model.proofs.assembler_lemmas.Naming.{all_at}
-use Rattle.rv_model.proofs.legality_lemmas.Bounds.{emul-sew, fewer, inside, length_below, whole_elements}
+use Rattle.rv_model.proofs.legality_lemmas.Bounds.{emul-sew, fewer, first_of, inside, length_below, second_of, whole_elements}
 use Rattle.rv_model.proofs.legality_lemmas.Meaning.{is_legal_means}
 
 -- ---- groups of elements of another width than SEW
@@ -53,7 +53,7 @@ of_lmuls p h M8 = all_at p lmuls 6 M1 h (lit< tt)
 -- groups with as many elements of one width as a type with another SEW has: they have room for all of them
 abbrev has_room : Sew → Sew → Lmul → Bool
 has_room s sew l =
-    nat_le (width_bytes (sew_width s) * (lmul_eighths l * VLENB / sew_bits sew)) (VLENB * registers (sew_bits s * lmul_eighths l / sew_bits sew))
+    nat_le (width_bytes (sew_width s) * (lmul_eighths l * VLEN / (8 * sew_bits sew))) (VLENB * registers (sew_bits s * lmul_eighths l / sew_bits sew))
 
 each_has_room : (s sew : Sew) (l : Lmul) → has_room s sew l ≡ true
 each_has_room s sew l =
@@ -81,35 +81,35 @@ field_inside g vd nf vl s f h =
     let up : (f + 1) * registers g.emul ≤ (nf + 1) * registers g.emul = mul-le-mul_right (registers g.emul) (omega (arith, h)) in
     omega (arith, up, s.inside)
 
-segments_inside : (role : Role) (s : Sew) (vd nf vl : ℕ) (t : VType) → vl ≤ vlmax t → IsGroup (segment role (nf + 1) vd (sew_bits s) t)
-    → SegmentsInside (sew_groups s t) vd nf vl
-segments_inside role s vd nf vl t h group = record {
+segments_inside : (role : Role) (s : Sew) (e vd nf vl : ℕ) (t : VType) → emul (sew_bits s) t ≡ e → vl ≤ vlmax t
+    → IsGroup (field_groups role (nf + 1) vd (record { width = sew_width s; emul = e })) → SegmentsInside (record { width = sew_width s; emul = e }) vd nf vl
+segments_inside role s e vd nf vl t is h group = record {
   least = group.least;
   inside = group.inside;
   holds = record {
     most = group.most;
-    room = elements_fit s t vl h;
+    room = subst (λ n. width_bytes (sew_width s) * vl ≤ VLENB * registers n) is (elements_fit s t vl h);
     least = length_below t vl h;
-    whole = whole_elements s (registers (emul (sew_bits s) t));
-    size = omega (arith, fewer s (VLENB * registers (emul (sew_bits s) t)), group.most);
+    whole = whole_elements s (registers e);
+    size = omega (arith, fewer s (VLENB * registers e), group.most);
   };
 }
 
 -- ---- each instruction
 
-pub unit_inside : (op : UnitOp) (w : Width) (nf vd rs1 : ℕ) (vm : Bool) (t : VType) (vstart vl : ℕ)
-    → is_legal (VectorUnit op w nf vd rs1 vm) (Some t) vstart ≡ true → vl ≤ vlmax t → SegmentsInside (access_type t w) vd nf vl
+pub unit_inside : (op : UnitOp) (w : Eew) (nf vd rs1 : ℕ) (vm : Bool) (t : VType) (vstart vl : ℕ)
+    → is_legal (instr.Access (UnitStride op w nf vd rs1 vm)) (Some t) vstart ≡ true → vl ≤ vlmax t → SegmentsInside (access_type t w) vd nf vl
 unfolding operands
 unit_inside op w nf vd rs1 vm t vstart vl legal h =
-    let groups = ((is_legal_means (VectorUnit op w nf vd rs1 vm) (Some t) vstart).0 legal).operands.groups in
-    segments_inside (unit_role op) (element_width w) vd nf vl t h (groups 0 (mask Unused 0) (lit< tt))
+    let groups = ((is_legal_means (instr.Access (UnitStride op w nf vd rs1 vm)) (Some t) vstart).0 legal).operands.groups in
+    segments_inside (unit_role op) (element_width w) (access_type t w).emul vd nf vl t refl h (first_of (field_groups (unit_role op) (nf + 1) vd (access_type t w)) (v0 vm) groups)
 
-pub strided_inside : (direction : Direction) (w : Width) (nf vd rs1 rs2 : ℕ) (vm : Bool) (t : VType) (vstart vl : ℕ)
-    → is_legal (VectorStrided direction w nf vd rs1 rs2 vm) (Some t) vstart ≡ true → vl ≤ vlmax t → SegmentsInside (access_type t w) vd nf vl
+pub strided_inside : (direction : Direction) (w : Eew) (nf vd rs1 rs2 : ℕ) (vm : Bool) (t : VType) (vstart vl : ℕ)
+    → is_legal (instr.Access (Strided direction w nf vd rs1 rs2 vm)) (Some t) vstart ≡ true → vl ≤ vlmax t → SegmentsInside (access_type t w) vd nf vl
 unfolding operands
 strided_inside direction w nf vd rs1 rs2 vm t vstart vl legal h =
-    let groups = ((is_legal_means (VectorStrided direction w nf vd rs1 rs2 vm) (Some t) vstart).0 legal).operands.groups in
-    segments_inside (data_role direction) (element_width w) vd nf vl t h (groups 0 (mask Unused 0) (lit< tt))
+    let groups = ((is_legal_means (instr.Access (Strided direction w nf vd rs1 rs2 vm)) (Some t) vstart).0 legal).operands.groups in
+    segments_inside (data_role direction) (element_width w) (access_type t w).emul vd nf vl t refl h (first_of (field_groups (data_role direction) (nf + 1) vd (access_type t w)) (v0 vm) groups)
 
 -- the indices of an indexed access: a group inside the file, with room for the elements before vl
 pub record IndicesInside (g : GroupType) (vs2 vl : ℕ) : Type 0 where
@@ -118,21 +118,21 @@ pub record IndicesInside (g : GroupType) (vs2 vl : ℕ) : Type 0 where
   pub room : HasRoom g.width g.emul vl
 
 -- the data and the indices of an indexed access
-pub record IndexedInside (w : Width) (nf vd vs2 : ℕ) (t : VType) (vl : ℕ) : Type 0 where
+pub record IndexedInside (w : Eew) (nf vd vs2 : ℕ) (t : VType) (vl : ℕ) : Type 0 where
   pub fields : SegmentsInside (group_type t) vd nf vl
   pub indices : IndicesInside (access_type t w) vs2 vl
 
-pub indexed_inside : (direction : Direction) (order : Order) (w : Width) (nf vd rs1 vs2 : ℕ) (vm : Bool) (t : VType) (vstart vl : ℕ)
-    → is_legal (VectorIndexed direction order w nf vd rs1 vs2 vm) (Some t) vstart ≡ true → vl ≤ vlmax t → IndexedInside w nf vd vs2 t vl
+pub indexed_inside : (direction : Direction) (order : Order) (w : Eew) (nf vd rs1 vs2 : ℕ) (vm : Bool) (t : VType) (vstart vl : ℕ)
+    → is_legal (instr.Access (Indexed direction order w nf vd rs1 vs2 vm)) (Some t) vstart ≡ true → vl ≤ vlmax t → IndexedInside w nf vd vs2 t vl
 unfolding operands
 indexed_inside direction order w nf vd rs1 vs2 vm t vstart vl legal h =
-    let groups = ((is_legal_means (VectorIndexed direction order w nf vd rs1 vs2 vm) (Some t) vstart).0 legal).operands.groups in
-    let indices = groups 1 (mask Unused 0) (lit< tt) in
-    let of_sew : SegmentsInside (sew_groups t.sew t) vd nf vl =
-    segments_inside (indexed_role direction nf) t.sew vd nf vl t h (groups 0 (mask Unused 0) (lit< tt)) in
+    let groups = ((is_legal_means (instr.Access (Indexed direction order w nf vd rs1 vs2 vm)) (Some t) vstart).0 legal).operands.groups in
+    let fields = field_groups (indexed_role direction nf) (nf + 1) vd (group_type t) in
+    let indices = second_of fields (group Read vs2 (access_type t w)) (v0 vm) groups in
     record {
       fields =
-          subst (λ e. SegmentsInside (record { width = sew_width t.sew; emul = e }) vd nf vl) (emul-sew t.sew (lmul_eighths t.lmul)) of_sew;
+          segments_inside (indexed_role direction nf) t.sew (lmul_eighths t.lmul) vd nf vl t (emul-sew t.sew (lmul_eighths t.lmul)) h
+          (first_of fields (group Read vs2 (access_type t w) ∷ v0 vm) groups);
       indices = record {
         least = indices.least;
         inside = inside vs2 (access_type t w).emul (access_type t w).emul refl indices.inside;
@@ -149,24 +149,24 @@ whole_registers Two = refl
 whole_registers Four = refl
 whole_registers Eight = refl
 
-pub whole_load_inside : (count : RegisterCount) (w : Width) (vd rs1 : ℕ) (t : Option VType) (vstart : ℕ)
-    → is_legal (WholeLoad count w vd rs1) t vstart ≡ true → vd + register_count count ≤ VECTOR_REGISTERS
+pub whole_load_inside : (count : RegisterCount) (w : Eew) (vd rs1 : ℕ) (t : Option VType) (vstart : ℕ)
+    → is_legal (instr.Access (WholeLoad count w vd rs1)) t vstart ≡ true → vd + register_count count ≤ VECTOR_REGISTERS
 unfolding operands
 whole_load_inside count w vd rs1 t vstart legal =
-    let groups = ((is_legal_means (WholeLoad count w vd rs1) t vstart).0 legal).operands.groups in
-    subst (λ n. vd + n ≤ VECTOR_REGISTERS) (whole_registers count) (groups 0 (mask Unused 0) (lit< tt)).inside
+    let groups = ((is_legal_means (instr.Access (WholeLoad count w vd rs1)) t vstart).0 legal).operands.groups in
+    subst (λ n. vd + n ≤ VECTOR_REGISTERS) (whole_registers count) (groups 0 (mask Read 0) (lit< tt)).inside
 
 pub whole_store_inside : (count : RegisterCount) (vd rs1 : ℕ) (t : Option VType) (vstart : ℕ)
-    → is_legal (WholeStore count vd rs1) t vstart ≡ true → vd + register_count count ≤ VECTOR_REGISTERS
+    → is_legal (instr.Access (WholeStore count vd rs1)) t vstart ≡ true → vd + register_count count ≤ VECTOR_REGISTERS
 unfolding operands
 whole_store_inside count vd rs1 t vstart legal =
-    let groups = ((is_legal_means (WholeStore count vd rs1) t vstart).0 legal).operands.groups in
-    subst (λ n. vd + n ≤ VECTOR_REGISTERS) (whole_registers count) (groups 0 (mask Unused 0) (lit< tt)).inside
+    let groups = ((is_legal_means (instr.Access (WholeStore count vd rs1)) t vstart).0 legal).operands.groups in
+    subst (λ n. vd + n ≤ VECTOR_REGISTERS) (whole_registers count) (groups 0 (mask Read 0) (lit< tt)).inside
 
 -- a mask is one register
 pub mask_memory_inside : (direction : Direction) (vd rs1 : ℕ) (t : VType) (vstart : ℕ)
-    → is_legal (MaskMemory direction vd rs1) (Some t) vstart ≡ true → vd + 1 ≤ VECTOR_REGISTERS
+    → is_legal (instr.Access (MaskAccess direction vd rs1)) (Some t) vstart ≡ true → vd + 1 ≤ VECTOR_REGISTERS
 unfolding operands
 mask_memory_inside direction vd rs1 t vstart legal =
-    let groups = ((is_legal_means (MaskMemory direction vd rs1) (Some t) vstart).0 legal).operands.groups in
-    (groups 0 (mask Unused 0) (lit< tt)).inside
+    let groups = ((is_legal_means (instr.Access (MaskAccess direction vd rs1)) (Some t) vstart).0 legal).operands.groups in
+    (groups 0 (mask Read 0) (lit< tt)).inside

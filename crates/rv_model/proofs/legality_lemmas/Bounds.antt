@@ -1,8 +1,9 @@
 -- What legality tells of the registers of an instruction: its groups end inside the file, and have room for each element.
-use Rattle.std.specs.Prelude.{None, Option, Some}
-use Rattle.std.proofs.Common.{◌≡◌, ◌⊎◌, inl, inr, ℕ, ◌+◌, ◌*◌, ◌/◌, ◌%◌, ◌≤◌, Bool, true, false, refl, subst, arith, lit≤, lit<, All}
+use Rattle.std.specs.Prelude.{None, Option, Some, ⊤}
+use Rattle.std.proofs.Common.{◌≡◌, ◌⊎◌, inl, inr, ℕ, ◌+◌, ◌*◌, ◌/◌, ◌%◌, ◌<◌, ◌≤◌, suc, List, ◌∷◌, length, Bool, true, false, refl, ap, subst, arith, lit≤, lit<, All}
 use Rattle.std.proofs.Math.Nat.{mul-le-mul_left}
-use Rattle.rv_model.specs.declared.instructions.instruction.Instr.TheVariants.{ElementIndex, MaskUnary, VectorArith, VectorCarry, VectorExtend, VectorMove}
+use Rattle.rv_model.specs.declared.instructions.instruction.Instr.TheVariants as instr
+use Rattle.rv_model.specs.declared.instructions.vector.VectorInstr.TheVariants.{ElementIndex, MaskUnary, Arith, Carry, Extend, Move}
 use Rattle.rv_model.specs.declared.instructions.operations.BinaryOp.{BinaryOp}
 use Rattle.rv_model.specs.declared.instructions.operations.CarryOp.{CarryOp}
 use Rattle.rv_model.specs.declared.instructions.operations.CarryOutOp.{CarryOutOp}
@@ -22,8 +23,9 @@ use Rattle.rv_model.specs.declared.instructions.operations.WidenOp.{WidenOp}
 use Rattle.rv_model.specs.declared.instructions.operations.WideSourceOp.{WideSourceOp}
 use Rattle.rv_model.specs.declared.instructions.operations.WidenMultiplyAddOp.{WidenMultiplyAddOp}
 use Rattle.rv_model.specs.declared.instructions.operations.VectorOp.TheVariants as vector_op
+use Rattle.rv_model.specs.declared.legality.Operand.{Operand}
 use Rattle.rv_model.specs.declared.legality.Role.{Role}
-use Rattle.rv_model.specs.declared.legality.Role.TheVariants.{Apart, Read, Unused, Write}
+use Rattle.rv_model.specs.declared.legality.Role.TheVariants.{Apart, Read, Write}
 use Rattle.rv_model.specs.declared.legality.Shape.{Shape}
 use Rattle.rv_model.specs.declared.legality.Shape.TheVariants.{Compare, Gather, GatherIndices16, Narrowing, Reduction, Single, WideReduction, WideSource, Widening}
 use Rattle.rv_model.specs.declared.instructions.source.Source.{Source}
@@ -33,18 +35,17 @@ use Rattle.rv_model.specs.declared.vector.types.Lmul.TheVariants.{Mf8, Mf4, Mf2,
 use Rattle.rv_model.specs.declared.vector.types.Sew.{Sew}
 use Rattle.rv_model.specs.declared.vector.types.Sew.TheVariants.{E8, E16, E32, E64}
 use Rattle.rv_model.specs.declared.vector.types.VType.{VType}
-use Rattle.rv_model.specs.declared.vector.sizes.TheConstants.{GROUP_BYTES, VECTOR_REGISTERS, VLENB}
-use Rattle.rv_model.specs.legality.Legality.{operands, is_legal}
-use Rattle.rv_model.specs.legality.OperandShapes.{emul, extension_divisor, group, mask, permute_shape, second_source, shape_operands, vector_source, whole}
+use Rattle.rv_model.specs.declared.vector.sizes.TheConstants.{GROUP_BYTES, VECTOR_REGISTERS, VLEN, VLENB}
+use Rattle.rv_model.specs.legality.Legality.{extension_source, operands, is_legal, move_operands}
+use Rattle.rv_model.specs.legality.OperandShapes.{destination, first_source, group, mask, permute_shape, shape_operands, v0, vector_source}
 use Rattle.rv_model.specs.vector.Registers.{registers}
 use Rattle.rv_model.specs.legality.RegisterOperands.{IsGroup}
-use Rattle.rv_model.specs.legality.GroupBounds.{HasIndices, HasRoom, HoldsBody, IsInside, SourceIsInside}
+use Rattle.rv_model.specs.lending.GroupBounds.{HasIndices, HasRoom, HoldsBody, IsInside, SourceIsInside}
 use mir.Val.{bits}
-use Rattle.std.specs.Int.{w16}
-use Rattle.rv_model.specs.elements.Arithmetic.{group_type}
+use Rattle.std.specs.Int.{Width, w16}
 use Rattle.rv_model.specs.elements.PermutationResults.{source_type}
-use Rattle.rv_model.specs.elements.Formulas.{doubled, halved, part_width}
-use Rattle.rv_model.specs.vector.Configuration.{Configuration, IsConfiguration, IsLength, sew_bits, sew_width, width_bytes, lmul_eighths, vlmax}
+use Rattle.rv_model.specs.vector.Groups.{doubled, extension_divisor, halved, index_type, part_type, part_width, single_type, wide_type}
+use Rattle.rv_model.specs.vector.Configuration.{Configuration, GroupType, group_type, IsConfiguration, IsLength, sew_bits, sew_width, width_bytes, lmul_eighths, vlmax}
 use Rattle.rv_model.proofs.legality_lemmas.Meaning.{is_legal_means}
 
 -- elements of SEW have the vector type's multiplier
@@ -58,6 +59,41 @@ emul-sew E64 e = omega arith
 pub inside : (r e f : ℕ) → e ≡ f → r + 1 * registers e ≤ VECTOR_REGISTERS → IsInside r f
 inside r e f same h = let one : 1 * registers e ≡ registers e = omega arith in rw (← same, ← one) h
 
+-- ---- the first operands of a list
+
+pub before_end0 : (a : Operand) (rest : List Operand) → 0 < length (a ∷ rest)
+before_end0 a rest = let long : length (a ∷ rest) ≡ suc (length rest) = refl in omega (arith, long)
+
+pub before_end1 : (a b : Operand) (rest : List Operand) → 1 < length (a ∷ b ∷ rest)
+before_end1 a b rest = let long : length (a ∷ b ∷ rest) ≡ suc (suc (length rest)) = refl in omega (arith, long)
+
+pub first_of : (a : Operand) (rest : List Operand) → All IsGroup (a ∷ rest) → IsGroup a
+first_of a rest all = all 0 a (before_end0 a rest)
+
+pub second_of : (a b : Operand) (rest : List Operand) → All IsGroup (a ∷ b ∷ rest) → IsGroup b
+second_of a b rest all = all 1 a (before_end1 a b rest)
+
+-- the operands of a shape
+abbrev SecondIsGroup : Shape → Source → VType → Type 0
+SecondIsGroup shape (source.V vs1) t = IsGroup (vector_source shape vs1 t)
+SecondIsGroup shape (source.X rs1) t = ⊤
+SecondIsGroup shape (source.I imm) t = ⊤
+
+record ShapeGroups (shape : Shape) (vd vs2 : ℕ) (from : Source) (t : VType) : Type 0 where
+  target : IsGroup (destination shape vd t)
+  first : IsGroup (first_source shape vs2 t)
+  second : SecondIsGroup shape from t
+
+shape_groups : (shape : Shape) (vd vs2 : ℕ) (from : Source) (vm : Bool) (t : VType) → All IsGroup (shape_operands shape vd vs2 from vm t)
+    → ShapeGroups shape vd vs2 from t
+unfolding shape_operands
+shape_groups shape vd vs2 (source.V vs1) true t g = record { target = g 0 (mask Read 0) (lit< tt); first = g 1 (mask Read 0) (lit< tt); second = g 2 (mask Read 0) (lit< tt) }
+shape_groups shape vd vs2 (source.V vs1) false t g = record { target = g 0 (mask Read 0) (lit< tt); first = g 1 (mask Read 0) (lit< tt); second = g 2 (mask Read 0) (lit< tt) }
+shape_groups shape vd vs2 (source.X rs1) true t g = record { target = g 0 (mask Read 0) (lit< tt); first = g 1 (mask Read 0) (lit< tt); second = tt }
+shape_groups shape vd vs2 (source.X rs1) false t g = record { target = g 0 (mask Read 0) (lit< tt); first = g 1 (mask Read 0) (lit< tt); second = tt }
+shape_groups shape vd vs2 (source.I imm) true t g = record { target = g 0 (mask Read 0) (lit< tt); first = g 1 (mask Read 0) (lit< tt); second = tt }
+shape_groups shape vd vs2 (source.I imm) false t g = record { target = g 0 (mask Read 0) (lit< tt); first = g 1 (mask Read 0) (lit< tt); second = tt }
+
 -- the sources of an operation whose operands have the vector type's multiplier
 pub record SourcesInside (vs2 : ℕ) (from : Source) (t : VType) : Type 0 where
   pub first : IsInside vs2 (lmul_eighths t.lmul)
@@ -69,84 +105,83 @@ pub record SingleInside (vd vs2 : ℕ) (from : Source) (t : VType) : Type 0 wher
   pub sources : SourcesInside vs2 from t
 
 -- a group with the vector type's multiplier
-pub sew_group : (r : ℕ) (t : VType) → r + 1 * registers (emul (sew_bits t.sew) t) ≤ VECTOR_REGISTERS → IsInside r (lmul_eighths t.lmul)
-sew_group r t h = inside r (emul (sew_bits t.sew) t) (lmul_eighths t.lmul) (emul-sew t.sew (lmul_eighths t.lmul)) h
+pub sew_group : (r : ℕ) (t : VType) → r + 1 * registers (lmul_eighths t.lmul) ≤ VECTOR_REGISTERS → IsInside r (lmul_eighths t.lmul)
+sew_group r t h = inside r (lmul_eighths t.lmul) (lmul_eighths t.lmul) refl h
 
-second_inside : (shape : Shape) (from : Source) (t : VType) → shape ≡ Single ⊎ shape ≡ Compare → IsGroup (second_source shape from t) → SourceIsInside from (lmul_eighths t.lmul)
+second_inside : (shape : Shape) (from : Source) (t : VType) → shape ≡ Single ⊎ shape ≡ Compare → SecondIsGroup shape from t → SourceIsInside from (lmul_eighths t.lmul)
 second_inside shape (source.V vs1) t (inl is) g = sew_group vs1 t (subst (λ s. IsGroup (vector_source s vs1 t)) is g).inside
 second_inside shape (source.V vs1) t (inr is) g = sew_group vs1 t (subst (λ s. IsGroup (vector_source s vs1 t)) is g).inside
 second_inside shape (source.X rs1) t is g = tt
 second_inside shape (source.I imm) t is g = tt
 
 single_inside : (vd vs2 : ℕ) (from : Source) (vm : Bool) (t : VType) → All IsGroup (shape_operands Single vd vs2 from vm t) → SingleInside vd vs2 from t
-unfolding shape_operands
-single_inside vd vs2 from vm t groups = record {
-  destination = sew_group vd t (groups 0 (mask Unused 0) (lit< tt)).inside;
-  sources = record {
-    first = sew_group vs2 t (groups 1 (mask Unused 0) (lit< tt)).inside;
-    second = second_inside Single from t (inl refl) (groups 2 (mask Unused 0) (lit< tt));
-  };
-}
+single_inside vd vs2 from vm t groups =
+    let g = shape_groups Single vd vs2 from vm t groups in
+    record {
+      destination = sew_group vd t g.target.inside;
+      sources = record { first = sew_group vs2 t g.first.inside; second = second_inside Single from t (inl refl) g.second };
+    }
 
 compared_inside : (vd vs2 : ℕ) (from : Source) (vm : Bool) (t : VType) → All IsGroup (shape_operands Compare vd vs2 from vm t) → SourcesInside vs2 from t
-unfolding shape_operands
-compared_inside vd vs2 from vm t groups = record {
-  first = sew_group vs2 t (groups 1 (mask Unused 0) (lit< tt)).inside;
-  second = second_inside Compare from t (inr refl) (groups 2 (mask Unused 0) (lit< tt));
-}
+compared_inside vd vs2 from vm t groups =
+    let g = shape_groups Compare vd vs2 from vm t groups in
+    record { first = sew_group vs2 t g.first.inside; second = second_inside Compare from t (inr refl) g.second }
 
 pub binary_inside : (op : BinaryOp) (from : Source) (vd vs2 : ℕ) (vm : Bool) (t : VType) (vstart : ℕ)
-    → is_legal (VectorArith (vector_op.Binary op, from) vd vs2 vm) (Some t) vstart ≡ true → SingleInside vd vs2 from t
+    → is_legal (instr.Vector (Arith (vector_op.Binary op, from) vd vs2 vm)) (Some t) vstart ≡ true → SingleInside vd vs2 from t
 unfolding operands
 binary_inside op from vd vs2 vm t vstart h =
-    single_inside vd vs2 from vm t ((is_legal_means (VectorArith (vector_op.Binary op, from) vd vs2 vm) (Some t) vstart).0 h).operands.groups
+    single_inside vd vs2 from vm t ((is_legal_means (instr.Vector (Arith (vector_op.Binary op, from) vd vs2 vm)) (Some t) vstart).0 h).operands.groups
 
 pub fixed_point_inside : (op : FixedPointOp) (from : Source) (vd vs2 : ℕ) (vm : Bool) (t : VType) (vstart : ℕ)
-    → is_legal (VectorArith (vector_op.FixedPoint op, from) vd vs2 vm) (Some t) vstart ≡ true → SingleInside vd vs2 from t
+    → is_legal (instr.Vector (Arith (vector_op.FixedPoint op, from) vd vs2 vm)) (Some t) vstart ≡ true → SingleInside vd vs2 from t
 unfolding operands
 fixed_point_inside op from vd vs2 vm t vstart h =
-    single_inside vd vs2 from vm t ((is_legal_means (VectorArith (vector_op.FixedPoint op, from) vd vs2 vm) (Some t) vstart).0 h).operands.groups
+    single_inside vd vs2 from vm t ((is_legal_means (instr.Vector (Arith (vector_op.FixedPoint op, from) vd vs2 vm)) (Some t) vstart).0 h).operands.groups
 
 pub multiply_add_inside : (op : MultiplyAddOp) (from : Source) (vd vs2 : ℕ) (vm : Bool) (t : VType) (vstart : ℕ)
-    → is_legal (VectorArith (vector_op.MultiplyAdd op, from) vd vs2 vm) (Some t) vstart ≡ true → SingleInside vd vs2 from t
+    → is_legal (instr.Vector (Arith (vector_op.MultiplyAdd op, from) vd vs2 vm)) (Some t) vstart ≡ true → SingleInside vd vs2 from t
 unfolding operands
 multiply_add_inside op from vd vs2 vm t vstart h =
-    single_inside vd vs2 from vm t ((is_legal_means (VectorArith (vector_op.MultiplyAdd op, from) vd vs2 vm) (Some t) vstart).0 h).operands.groups
+    single_inside vd vs2 from vm t ((is_legal_means (instr.Vector (Arith (vector_op.MultiplyAdd op, from) vd vs2 vm)) (Some t) vstart).0 h).operands.groups
 
 pub carry_inside : (op : CarryOp) (from : Source) (vd vs2 : ℕ) (t : VType) (vstart : ℕ)
-    → is_legal (VectorCarry (op, from) vd vs2) (Some t) vstart ≡ true → SingleInside vd vs2 from t
+    → is_legal (instr.Vector (Carry (op, from) vd vs2)) (Some t) vstart ≡ true → SingleInside vd vs2 from t
 unfolding operands
 carry_inside op from vd vs2 t vstart h =
-    single_inside vd vs2 from false t ((is_legal_means (VectorCarry (op, from) vd vs2) (Some t) vstart).0 h).operands.groups
+    single_inside vd vs2 from false t ((is_legal_means (instr.Vector (Carry (op, from) vd vs2)) (Some t) vstart).0 h).operands.groups
 
 pub compare_inside : (op : CompareOp) (from : Source) (vd vs2 : ℕ) (vm : Bool) (t : VType) (vstart : ℕ)
-    → is_legal (VectorArith (vector_op.Compare op, from) vd vs2 vm) (Some t) vstart ≡ true → SourcesInside vs2 from t
+    → is_legal (instr.Vector (Arith (vector_op.Compare op, from) vd vs2 vm)) (Some t) vstart ≡ true → SourcesInside vs2 from t
 unfolding operands
 compare_inside op from vd vs2 vm t vstart h =
-    compared_inside vd vs2 from vm t ((is_legal_means (VectorArith (vector_op.Compare op, from) vd vs2 vm) (Some t) vstart).0 h).operands.groups
+    compared_inside vd vs2 from vm t ((is_legal_means (instr.Vector (Arith (vector_op.Compare op, from) vd vs2 vm)) (Some t) vstart).0 h).operands.groups
 
 pub carry_out_inside : (op : CarryOutOp) (from : Source) (vd vs2 : ℕ) (vm : Bool) (t : VType) (vstart : ℕ)
-    → is_legal (VectorArith (vector_op.CarryOut op, from) vd vs2 vm) (Some t) vstart ≡ true → SourcesInside vs2 from t
+    → is_legal (instr.Vector (Arith (vector_op.CarryOut op, from) vd vs2 vm)) (Some t) vstart ≡ true → SourcesInside vs2 from t
 unfolding operands
 carry_out_inside op from vd vs2 vm t vstart h =
-    compared_inside vd vs2 from vm t ((is_legal_means (VectorArith (vector_op.CarryOut op, from) vd vs2 vm) (Some t) vstart).0 h).operands.groups
+    compared_inside vd vs2 from vm t ((is_legal_means (instr.Vector (Arith (vector_op.CarryOut op, from) vd vs2 vm)) (Some t) vstart).0 h).operands.groups
 
 -- the destination and the source of a move
 pub record MoveInside (vd : ℕ) (from : Source) (t : VType) : Type 0 where
   pub destination : IsInside vd (lmul_eighths t.lmul)
   pub second : SourceIsInside from (lmul_eighths t.lmul)
 
-pub move_inside : (from : Source) (vd : ℕ) (t : VType) (vstart : ℕ) → is_legal (VectorMove from vd) (Some t) vstart ≡ true → MoveInside vd from t
+pub move_inside : (from : Source) (vd : ℕ) (t : VType) (vstart : ℕ) → is_legal (instr.Vector (Move from vd)) (Some t) vstart ≡ true → MoveInside vd from t
 unfolding operands
-move_inside from vd t vstart h =
-    let groups = ((is_legal_means (VectorMove from vd) (Some t) vstart).0 h).operands.groups in
-    record {
-      destination = sew_group vd t (groups 0 (mask Unused 0) (lit< tt)).inside;
-      second = second_inside Single from t (inl refl) (groups 1 (mask Unused 0) (lit< tt));
+move_inside from vd t vstart h = named from ((is_legal_means (instr.Vector (Move from vd)) (Some t) vstart).0 h).operands.groups
+  where
+    named : (from : Source) → All IsGroup (move_operands from vd t) → MoveInside vd from t
+    named (source.V vs1) g = record {
+      destination = sew_group vd t (g 0 (mask Read 0) (lit< tt)).inside;
+      second = second_inside Single (source.V vs1) t (inl refl) (g 1 (mask Read 0) (lit< tt));
     }
+    named (source.X rs1) g = record { destination = sew_group vd t (g 0 (mask Read 0) (lit< tt)).inside; second = tt }
+    named (source.I imm) g = record { destination = sew_group vd t (g 0 (mask Read 0) (lit< tt)).inside; second = tt }
 
 -- the elements of a group of any type have room in its registers
-most_fit : (s : Sew) (l : Lmul) → width_bytes (sew_width s) * (lmul_eighths l * VLENB / sew_bits s) ≤ VLENB * registers (lmul_eighths l)
+most_fit : (s : Sew) (l : Lmul) → width_bytes (sew_width s) * (lmul_eighths l * VLEN / (8 * sew_bits s)) ≤ VLENB * registers (lmul_eighths l)
 most_fit E8 Mf8 = lit≤ tt
 most_fit E8 Mf4 = lit≤ tt
 most_fit E8 Mf2 = lit≤ tt
@@ -266,7 +301,7 @@ room_of : (m : Lmul) (e : ℕ) → lmul_eighths m ≡ e → 4 * e ≤ VLENB * re
 room_of m e is = subst (λ n. 4 * n ≤ VLENB * registers n) is (multiplier_room m)
 
 -- the elements of the vector type, at twice the width
-wide_bytes : (s : Sew) (l vl : ℕ) → sew_bits s ≤ 32 → vl ≤ l * VLENB / sew_bits s → width_bytes (doubled (sew_width s)) * vl ≤ 4 * (2 * l)
+wide_bytes : (s : Sew) (l vl : ℕ) → sew_bits s ≤ 32 → vl ≤ l * VLEN / (8 * sew_bits s) → width_bytes (doubled (sew_width s)) * vl ≤ 4 * (2 * l)
 wide_bytes E8 l vl n h = omega (arith, h)
 wide_bytes E16 l vl n h = omega (arith, h)
 wide_bytes E32 l vl n h = omega (arith, h)
@@ -309,27 +344,34 @@ wide_groups_have_room t vl h narrow most =
     record { most = most; room = holds.room }
 
 -- elements of twice SEW have twice the vector type's multiplier
-emul-wide : (s : Sew) (e : ℕ) → 2 * sew_bits s * e / sew_bits s ≡ 2 * e
+emul-wide : (s : Sew) (e : ℕ) → bits (doubled (sew_width s)) * e / sew_bits s ≡ 2 * e
 emul-wide E8 e = omega arith
 emul-wide E16 e = omega arith
 emul-wide E32 e = omega arith
 emul-wide E64 e = omega arith
 
-wide_group : (r : ℕ) (t : VType) → r + 1 * registers (emul (2 * sew_bits t.sew) t) ≤ VECTOR_REGISTERS → IsInside r (2 * lmul_eighths t.lmul)
-wide_group r t h = inside r (emul (2 * sew_bits t.sew) t) (2 * lmul_eighths t.lmul) (emul-wide t.sew (lmul_eighths t.lmul)) h
+wide_group : (r : ℕ) (t : VType) → r + 1 * registers (wide_type t).emul ≤ VECTOR_REGISTERS → IsInside r (2 * lmul_eighths t.lmul)
+wide_group r t h = inside r (wide_type t).emul (2 * lmul_eighths t.lmul) (emul-wide t.sew (lmul_eighths t.lmul)) h
+
+pub wide_type_is : (t : VType) → wide_type t ≡ record { width = doubled (sew_width t.sew); emul = 2 * lmul_eighths t.lmul }
+wide_type_is t = ap (λ (e : ℕ). let g : GroupType = record { width = doubled (sew_width t.sew); emul = e } in g) (emul-wide t.sew (lmul_eighths t.lmul))
+
+wide_fits : (s : Sew) → bits (doubled (sew_width s)) ≤ 64 → sew_bits s ≤ 32
+wide_fits E8 h = lit≤ tt
+wide_fits E16 h = lit≤ tt
+wide_fits E32 h = lit≤ tt
+wide_fits E64 h = absurd (omega (arith, h))
 
 -- there are elements of twice SEW, in groups of twice the multiplier
 pub record HasDouble (t : VType) : Type 0 where
   pub narrow : sew_bits t.sew ≤ 32
   pub most : 2 * lmul_eighths t.lmul ≤ 64
 
-has_double : (role : Role) (r : ℕ) (t : VType) → IsGroup (group role r (2 * sew_bits t.sew) t) → HasDouble t
-has_double role r t g =
-    let same : emul (2 * sew_bits t.sew) t ≡ 2 * lmul_eighths t.lmul = emul-wide t.sew (lmul_eighths t.lmul) in
-    record { narrow = omega (arith, g.width.1); most = subst (λ n. n ≤ 64) same g.most }
+has_double : (role : Role) (r : ℕ) (t : VType) → IsGroup (group role r (wide_type t)) → HasDouble t
+has_double role r t g = record { narrow = wide_fits t.sew g.width.1; most = subst (λ n. n ≤ 64) (emul-wide t.sew (lmul_eighths t.lmul)) g.most }
 
-source_inside : (shape : Shape) (from : Source) (t : VType) → ((vs1 : ℕ) → vector_source shape vs1 t ≡ group Read vs1 (sew_bits t.sew) t)
-    → IsGroup (second_source shape from t) → SourceIsInside from (lmul_eighths t.lmul)
+source_inside : (shape : Shape) (from : Source) (t : VType) → ((vs1 : ℕ) → vector_source shape vs1 t ≡ group Read vs1 (group_type t))
+    → SecondIsGroup shape from t → SourceIsInside from (lmul_eighths t.lmul)
 source_inside shape (source.V vs1) t is g = sew_group vs1 t (subst IsGroup (is vs1) g).inside
 source_inside shape (source.X rs1) t is g = tt
 source_inside shape (source.I imm) t is g = tt
@@ -342,25 +384,26 @@ pub record WideningInside (vd vs2 : ℕ) (from : Source) (t : VType) : Type 0 wh
   pub second : SourceIsInside from (lmul_eighths t.lmul)
 
 widening_inside : (vd vs2 : ℕ) (from : Source) (vm : Bool) (t : VType) → All IsGroup (shape_operands Widening vd vs2 from vm t) → WideningInside vd vs2 from t
-unfolding shape_operands
-widening_inside vd vs2 from vm t groups = record {
-  double = has_double Write vd t (groups 0 (mask Unused 0) (lit< tt));
-  destination = wide_group vd t (groups 0 (mask Unused 0) (lit< tt)).inside;
-  first = sew_group vs2 t (groups 1 (mask Unused 0) (lit< tt)).inside;
-  second = source_inside Widening from t (λ vs1. refl) (groups 2 (mask Unused 0) (lit< tt));
-}
+widening_inside vd vs2 from vm t groups =
+    let g = shape_groups Widening vd vs2 from vm t groups in
+    record {
+      double = has_double Write vd t g.target;
+      destination = wide_group vd t g.target.inside;
+      first = sew_group vs2 t g.first.inside;
+      second = source_inside Widening from t (λ vs1. refl) g.second;
+    }
 
 pub widen_inside : (op : WidenOp) (from : Source) (vd vs2 : ℕ) (vm : Bool) (t : VType) (vstart : ℕ)
-    → is_legal (VectorArith (vector_op.Widen op, from) vd vs2 vm) (Some t) vstart ≡ true → WideningInside vd vs2 from t
+    → is_legal (instr.Vector (Arith (vector_op.Widen op, from) vd vs2 vm)) (Some t) vstart ≡ true → WideningInside vd vs2 from t
 unfolding operands
 widen_inside op from vd vs2 vm t vstart h =
-    widening_inside vd vs2 from vm t ((is_legal_means (VectorArith (vector_op.Widen op, from) vd vs2 vm) (Some t) vstart).0 h).operands.groups
+    widening_inside vd vs2 from vm t ((is_legal_means (instr.Vector (Arith (vector_op.Widen op, from) vd vs2 vm)) (Some t) vstart).0 h).operands.groups
 
 pub widen_multiply_add_inside : (op : WidenMultiplyAddOp) (from : Source) (vd vs2 : ℕ) (vm : Bool) (t : VType) (vstart : ℕ)
-    → is_legal (VectorArith (vector_op.WidenMultiplyAdd op, from) vd vs2 vm) (Some t) vstart ≡ true → WideningInside vd vs2 from t
+    → is_legal (instr.Vector (Arith (vector_op.WidenMultiplyAdd op, from) vd vs2 vm)) (Some t) vstart ≡ true → WideningInside vd vs2 from t
 unfolding operands
 widen_multiply_add_inside op from vd vs2 vm t vstart h =
-    widening_inside vd vs2 from vm t ((is_legal_means (VectorArith (vector_op.WidenMultiplyAdd op, from) vd vs2 vm) (Some t) vstart).0 h).operands.groups
+    widening_inside vd vs2 from vm t ((is_legal_means (instr.Vector (Arith (vector_op.WidenMultiplyAdd op, from) vd vs2 vm)) (Some t) vstart).0 h).operands.groups
 
 -- the operands of operations whose result and first source have twice the width
 pub record WideSourceInside (vd vs2 : ℕ) (from : Source) (t : VType) : Type 0 where
@@ -370,15 +413,16 @@ pub record WideSourceInside (vd vs2 : ℕ) (from : Source) (t : VType) : Type 0 
   pub second : SourceIsInside from (lmul_eighths t.lmul)
 
 pub wide_source_inside : (op : WideSourceOp) (from : Source) (vd vs2 : ℕ) (vm : Bool) (t : VType) (vstart : ℕ)
-    → is_legal (VectorArith (vector_op.WideSource op, from) vd vs2 vm) (Some t) vstart ≡ true → WideSourceInside vd vs2 from t
-unfolding operands shape_operands
+    → is_legal (instr.Vector (Arith (vector_op.WideSource op, from) vd vs2 vm)) (Some t) vstart ≡ true → WideSourceInside vd vs2 from t
+unfolding operands
 wide_source_inside op from vd vs2 vm t vstart h =
-    let groups = ((is_legal_means (VectorArith (vector_op.WideSource op, from) vd vs2 vm) (Some t) vstart).0 h).operands.groups in
+    let legal = (is_legal_means (instr.Vector (Arith (vector_op.WideSource op, from) vd vs2 vm)) (Some t) vstart).0 h in
+    let g = shape_groups WideSource vd vs2 from vm t legal.operands.groups in
     record {
-      double = has_double Write vd t (groups 0 (mask Unused 0) (lit< tt));
-      destination = wide_group vd t (groups 0 (mask Unused 0) (lit< tt)).inside;
-      first = wide_group vs2 t (groups 1 (mask Unused 0) (lit< tt)).inside;
-      second = source_inside WideSource from t (λ vs1. refl) (groups 2 (mask Unused 0) (lit< tt));
+      double = has_double Write vd t g.target;
+      destination = wide_group vd t g.target.inside;
+      first = wide_group vs2 t g.first.inside;
+      second = source_inside WideSource from t (λ vs1. refl) g.second;
     }
 
 -- the operands of operations whose first source has twice the width
@@ -389,34 +433,35 @@ pub record NarrowingInside (vd vs2 : ℕ) (from : Source) (t : VType) : Type 0 w
   pub second : SourceIsInside from (lmul_eighths t.lmul)
 
 narrowing_inside : (vd vs2 : ℕ) (from : Source) (vm : Bool) (t : VType) → All IsGroup (shape_operands Narrowing vd vs2 from vm t) → NarrowingInside vd vs2 from t
-unfolding shape_operands
-narrowing_inside vd vs2 from vm t groups = record {
-  double = has_double Read vs2 t (groups 1 (mask Unused 0) (lit< tt));
-  destination = sew_group vd t (groups 0 (mask Unused 0) (lit< tt)).inside;
-  first = wide_group vs2 t (groups 1 (mask Unused 0) (lit< tt)).inside;
-  second = source_inside Narrowing from t (λ vs1. refl) (groups 2 (mask Unused 0) (lit< tt));
-}
+narrowing_inside vd vs2 from vm t groups =
+    let g = shape_groups Narrowing vd vs2 from vm t groups in
+    record {
+      double = has_double Read vs2 t g.first;
+      destination = sew_group vd t g.target.inside;
+      first = wide_group vs2 t g.first.inside;
+      second = source_inside Narrowing from t (λ vs1. refl) g.second;
+    }
 
 pub narrow_shift_inside : (op : NarrowShiftOp) (from : Source) (vd vs2 : ℕ) (vm : Bool) (t : VType) (vstart : ℕ)
-    → is_legal (VectorArith (vector_op.NarrowShift op, from) vd vs2 vm) (Some t) vstart ≡ true → NarrowingInside vd vs2 from t
+    → is_legal (instr.Vector (Arith (vector_op.NarrowShift op, from) vd vs2 vm)) (Some t) vstart ≡ true → NarrowingInside vd vs2 from t
 unfolding operands
 narrow_shift_inside op from vd vs2 vm t vstart h =
-    narrowing_inside vd vs2 from vm t ((is_legal_means (VectorArith (vector_op.NarrowShift op, from) vd vs2 vm) (Some t) vstart).0 h).operands.groups
+    narrowing_inside vd vs2 from vm t ((is_legal_means (instr.Vector (Arith (vector_op.NarrowShift op, from) vd vs2 vm)) (Some t) vstart).0 h).operands.groups
 
 pub clip_inside : (op : ClipOp) (from : Source) (vd vs2 : ℕ) (vm : Bool) (t : VType) (vstart : ℕ)
-    → is_legal (VectorArith (vector_op.Clip op, from) vd vs2 vm) (Some t) vstart ≡ true → NarrowingInside vd vs2 from t
+    → is_legal (instr.Vector (Arith (vector_op.Clip op, from) vd vs2 vm)) (Some t) vstart ≡ true → NarrowingInside vd vs2 from t
 unfolding operands
 clip_inside op from vd vs2 vm t vstart h =
-    narrowing_inside vd vs2 from vm t ((is_legal_means (VectorArith (vector_op.Clip op, from) vd vs2 vm) (Some t) vstart).0 h).operands.groups
+    narrowing_inside vd vs2 from vm t ((is_legal_means (instr.Vector (Arith (vector_op.Clip op, from) vd vs2 vm)) (Some t) vstart).0 h).operands.groups
 
 -- ---- reductions, whose destination is one register, and operations on one mask
 
 -- the first number of a reduction stands in one register
-first_inside : (shape : Shape) (bits : ℕ) (from : Source) (t : VType) → ((vs1 : ℕ) → vector_source shape vs1 t ≡ whole Read 1 vs1 bits)
-    → IsGroup (second_source shape from t) → SourceIsInside from 8
-first_inside shape bits (source.V vs1) t is g = inside vs1 8 8 refl (subst IsGroup (is vs1) g).inside
-first_inside shape bits (source.X rs1) t is g = tt
-first_inside shape bits (source.I imm) t is g = tt
+first_inside : (shape : Shape) (width : Width) (from : Source) (t : VType) → ((vs1 : ℕ) → vector_source shape vs1 t ≡ group Read vs1 (single_type width))
+    → SecondIsGroup shape from t → SourceIsInside from 8
+first_inside shape width (source.V vs1) t is g = inside vs1 8 8 refl (subst IsGroup (is vs1) g).inside
+first_inside shape width (source.X rs1) t is g = tt
+first_inside shape width (source.I imm) t is g = tt
 
 -- the sources of a reduction
 pub record ReduceInside (vs2 : ℕ) (from : Source) (t : VType) : Type 0 where
@@ -424,14 +469,12 @@ pub record ReduceInside (vs2 : ℕ) (from : Source) (t : VType) : Type 0 where
   pub second : SourceIsInside from 8
 
 pub reduce_inside : (op : ReduceOp) (from : Source) (vd vs2 : ℕ) (vm : Bool) (t : VType) (vstart : ℕ)
-    → is_legal (VectorArith (vector_op.Reduce op, from) vd vs2 vm) (Some t) vstart ≡ true → ReduceInside vs2 from t
-unfolding operands shape_operands
+    → is_legal (instr.Vector (Arith (vector_op.Reduce op, from) vd vs2 vm)) (Some t) vstart ≡ true → ReduceInside vs2 from t
+unfolding operands
 reduce_inside op from vd vs2 vm t vstart h =
-    let groups = ((is_legal_means (VectorArith (vector_op.Reduce op, from) vd vs2 vm) (Some t) vstart).0 h).operands.groups in
-    record {
-      first = sew_group vs2 t (groups 1 (mask Unused 0) (lit< tt)).inside;
-      second = first_inside Reduction (sew_bits t.sew) from t (λ vs1. refl) (groups 2 (mask Unused 0) (lit< tt));
-    }
+    let legal = (is_legal_means (instr.Vector (Arith (vector_op.Reduce op, from) vd vs2 vm)) (Some t) vstart).0 h in
+    let g = shape_groups Reduction vd vs2 from vm t legal.operands.groups in
+    record { first = sew_group vs2 t g.first.inside; second = first_inside Reduction (sew_width t.sew) from t (λ vs1. refl) g.second }
 
 -- the sources of a reduction to twice the width
 pub record WidenReduceInside (vs2 : ℕ) (from : Source) (t : VType) : Type 0 where
@@ -440,43 +483,34 @@ pub record WidenReduceInside (vs2 : ℕ) (from : Source) (t : VType) : Type 0 wh
   pub second : SourceIsInside from 8
 
 pub widen_reduce_inside : (op : WidenReduceOp) (from : Source) (vd vs2 : ℕ) (vm : Bool) (t : VType) (vstart : ℕ)
-    → is_legal (VectorArith (vector_op.WidenReduce op, from) vd vs2 vm) (Some t) vstart ≡ true → WidenReduceInside vs2 from t
-unfolding operands shape_operands
+    → is_legal (instr.Vector (Arith (vector_op.WidenReduce op, from) vd vs2 vm)) (Some t) vstart ≡ true → WidenReduceInside vs2 from t
+unfolding operands
 widen_reduce_inside op from vd vs2 vm t vstart h =
-    let groups = ((is_legal_means (VectorArith (vector_op.WidenReduce op, from) vd vs2 vm) (Some t) vstart).0 h).operands.groups in
+    let legal = (is_legal_means (instr.Vector (Arith (vector_op.WidenReduce op, from) vd vs2 vm)) (Some t) vstart).0 h in
+    let g = shape_groups WideReduction vd vs2 from vm t legal.operands.groups in
     record {
-      narrow = omega (arith, (groups 0 (mask Unused 0) (lit< tt)).width.1);
-      first = sew_group vs2 t (groups 1 (mask Unused 0) (lit< tt)).inside;
-      second = first_inside WideReduction (2 * sew_bits t.sew) from t (λ vs1. refl) (groups 2 (mask Unused 0) (lit< tt));
+      narrow = wide_fits t.sew g.target.width.1;
+      first = sew_group vs2 t g.first.inside;
+      second = first_inside WideReduction (doubled (sew_width t.sew)) from t (λ vs1. refl) g.second;
     }
 
 pub iota_inside : (vd vs2 : ℕ) (vm : Bool) (t : VType) (vstart : ℕ)
-    → is_legal (MaskUnary mask_unary.Viota vd vs2 vm) (Some t) vstart ≡ true → IsInside vd (lmul_eighths t.lmul)
+    → is_legal (instr.Vector (MaskUnary mask_unary.Viota vd vs2 vm)) (Some t) vstart ≡ true → IsInside vd (lmul_eighths t.lmul)
 unfolding operands
 iota_inside vd vs2 vm t vstart h =
-    let groups = ((is_legal_means (MaskUnary mask_unary.Viota vd vs2 vm) (Some t) vstart).0 h).operands.groups in
-    sew_group vd t (groups 0 (mask Unused 0) (lit< tt)).inside
+    let groups = ((is_legal_means (instr.Vector (MaskUnary mask_unary.Viota vd vs2 vm)) (Some t) vstart).0 h).operands.groups in
+    sew_group vd t (first_of (group Apart vd (group_type t)) (mask Read vs2 ∷ v0 vm) groups).inside
 
 pub index_inside : (vd : ℕ) (vm : Bool) (t : VType) (vstart : ℕ)
-    → is_legal (ElementIndex vd vm) (Some t) vstart ≡ true → IsInside vd (lmul_eighths t.lmul)
+    → is_legal (instr.Vector (ElementIndex vd vm)) (Some t) vstart ≡ true → IsInside vd (lmul_eighths t.lmul)
 unfolding operands
 index_inside vd vm t vstart h =
-    let groups = ((is_legal_means (ElementIndex vd vm) (Some t) vstart).0 h).operands.groups in
-    sew_group vd t (groups 0 (mask Unused 0) (lit< tt)).inside
+    let groups = ((is_legal_means (instr.Vector (ElementIndex vd vm)) (Some t) vstart).0 h).operands.groups in
+    sew_group vd t (first_of (group Write vd (group_type t)) (v0 vm) groups).inside
 
 -- ---- slides and gathers
 
--- elements of 16 bits have 16 / SEW times the vector type's multiplier
-emul-16 : (t : VType) → emul 16 t ≡ 16 * lmul_eighths t.lmul / bits (sew_width t.sew)
-emul-16 t = named t.sew
-  where
-    named : (s : Sew) → 16 * lmul_eighths t.lmul / sew_bits s ≡ 16 * lmul_eighths t.lmul / bits (sew_width s)
-    named E8 = refl
-    named E16 = refl
-    named E32 = refl
-    named E64 = refl
-
-indices_fit : (s : Sew) (l : Lmul) → 2 * (lmul_eighths l * VLENB / sew_bits s) ≤ VLENB * registers (16 * lmul_eighths l / bits (sew_width s))
+indices_fit : (s : Sew) (l : Lmul) → 2 * (lmul_eighths l * VLEN / (8 * sew_bits s)) ≤ VLENB * registers (16 * lmul_eighths l / bits (sew_width s))
 indices_fit E8 Mf8 = lit≤ tt
 indices_fit E8 Mf4 = lit≤ tt
 indices_fit E8 Mf2 = lit≤ tt
@@ -513,67 +547,75 @@ pub record PermuteInside (op : PermuteOp) (vd vs2 : ℕ) (from : Source) (t : VT
   pub indices : (vl : ℕ) → vl ≤ vlmax t → HasIndices from (source_type op (group_type t)).width (source_type op (group_type t)).emul vl
 
 -- indices of SEW, and of 16 bits
-sew_indices : (shape : Shape) (from : Source) (t : VType) (vl : ℕ) → ((vs1 : ℕ) → vector_source shape vs1 t ≡ group Read vs1 (sew_bits t.sew) t)
-    → IsGroup (second_source shape from t) → vl ≤ vlmax t → HasIndices from (sew_width t.sew) (lmul_eighths t.lmul) vl
+sew_indices : (shape : Shape) (from : Source) (t : VType) (vl : ℕ) → ((vs1 : ℕ) → vector_source shape vs1 t ≡ group Read vs1 (group_type t))
+    → SecondIsGroup shape from t → vl ≤ vlmax t → HasIndices from (sew_width t.sew) (lmul_eighths t.lmul) vl
 sew_indices shape (source.V vs1) t vl is g h = (sew_group vs1 t (subst IsGroup (is vs1) g).inside, groups_have_room t vl h)
 sew_indices shape (source.X rs1) t vl is g h = tt
 sew_indices shape (source.I imm) t vl is g h = tt
 
-narrow_indices : (from : Source) (t : VType) (vl : ℕ) → IsGroup (second_source GatherIndices16 from t) → vl ≤ vlmax t
+narrow_indices : (from : Source) (t : VType) (vl : ℕ) → SecondIsGroup GatherIndices16 from t → vl ≤ vlmax t
     → HasIndices from w16 (16 * lmul_eighths t.lmul / bits (sew_width t.sew)) vl
 narrow_indices (source.V vs1) t vl g h = (
-  inside vs1 (emul 16 t) (16 * lmul_eighths t.lmul / bits (sew_width t.sew)) (emul-16 t) g.inside,
-  record { most = subst (λ n. n ≤ 64) (emul-16 t) g.most; room = omega (arith, h, indices_fit t.sew t.lmul) },
+  inside vs1 (index_type (group_type t)).emul (16 * lmul_eighths t.lmul / bits (sew_width t.sew)) refl g.inside,
+  record { most = g.most; room = omega (arith, h, indices_fit t.sew t.lmul) },
 )
 narrow_indices (source.X rs1) t vl g h = tt
 narrow_indices (source.I imm) t vl g h = tt
 
 pub permute_inside : (op : PermuteOp) (from : Source) (vd vs2 : ℕ) (vm : Bool) (t : VType) (vstart : ℕ)
-    → is_legal (VectorArith (vector_op.Permute op, from) vd vs2 vm) (Some t) vstart ≡ true → PermuteInside op vd vs2 from t
-unfolding operands shape_operands
-permute_inside op from vd vs2 vm t vstart h = by_op op ((is_legal_means (VectorArith (vector_op.Permute op, from) vd vs2 vm) (Some t) vstart).0 h).operands.groups
+    → is_legal (instr.Vector (Arith (vector_op.Permute op, from) vd vs2 vm)) (Some t) vstart ≡ true → PermuteInside op vd vs2 from t
+unfolding operands
+permute_inside op from vd vs2 vm t vstart h =
+    let legal = (is_legal_means (instr.Vector (Arith (vector_op.Permute op, from) vd vs2 vm)) (Some t) vstart).0 h in
+    by_op op (shape_groups (permute_shape op) vd vs2 from vm t legal.operands.groups)
   where
-    made : (op : PermuteOp) (role : Role) → IsGroup (group role vd (sew_bits t.sew) t) → IsGroup (group Read vs2 (sew_bits t.sew) t)
+    made : (op : PermuteOp) (role : Role) → IsGroup (group role vd (group_type t)) → IsGroup (group Read vs2 (group_type t))
         → ((vl : ℕ) → vl ≤ vlmax t → HasIndices from (source_type op (group_type t)).width (source_type op (group_type t)).emul vl)
         → PermuteInside op vd vs2 from t
     made op role d f i = record { destination = sew_group vd t d.inside; first = sew_group vs2 t f.inside; indices = i }
 
-    by_op : (op : PermuteOp) → All IsGroup (shape_operands (permute_shape op) vd vs2 from vm t) → PermuteInside op vd vs2 from t
-    by_op Vrgather g = made Vrgather Apart (g 0 (mask Unused 0) (lit< tt)) (g 1 (mask Unused 0) (lit< tt)) (λ vl h. sew_indices Gather from t vl (λ vs1. refl) (g 2 (mask Unused 0) (lit< tt)) h)
-    by_op Vrgatherei16 g = made Vrgatherei16 Apart (g 0 (mask Unused 0) (lit< tt)) (g 1 (mask Unused 0) (lit< tt)) (λ vl h. narrow_indices from t vl (g 2 (mask Unused 0) (lit< tt)) h)
-    by_op Vslideup g = made Vslideup Apart (g 0 (mask Unused 0) (lit< tt)) (g 1 (mask Unused 0) (lit< tt)) (λ vl h. sew_indices Gather from t vl (λ vs1. refl) (g 2 (mask Unused 0) (lit< tt)) h)
-    by_op Vslide1up g = made Vslide1up Apart (g 0 (mask Unused 0) (lit< tt)) (g 1 (mask Unused 0) (lit< tt)) (λ vl h. sew_indices Gather from t vl (λ vs1. refl) (g 2 (mask Unused 0) (lit< tt)) h)
-    by_op Vslidedown g = made Vslidedown Write (g 0 (mask Unused 0) (lit< tt)) (g 1 (mask Unused 0) (lit< tt)) (λ vl h. sew_indices Single from t vl (λ vs1. refl) (g 2 (mask Unused 0) (lit< tt)) h)
-    by_op Vslide1down g = made Vslide1down Write (g 0 (mask Unused 0) (lit< tt)) (g 1 (mask Unused 0) (lit< tt)) (λ vl h. sew_indices Single from t vl (λ vs1. refl) (g 2 (mask Unused 0) (lit< tt)) h)
+    by_op : (op : PermuteOp) → ShapeGroups (permute_shape op) vd vs2 from t → PermuteInside op vd vs2 from t
+    by_op Vrgather g = made Vrgather Apart g.target g.first (λ vl h. sew_indices Gather from t vl (λ vs1. refl) g.second h)
+    by_op Vrgatherei16 g = made Vrgatherei16 Apart g.target g.first (λ vl h. narrow_indices from t vl g.second h)
+    by_op Vslideup g = made Vslideup Apart g.target g.first (λ vl h. sew_indices Gather from t vl (λ vs1. refl) g.second h)
+    by_op Vslide1up g = made Vslide1up Apart g.target g.first (λ vl h. sew_indices Gather from t vl (λ vs1. refl) g.second h)
+    by_op Vslidedown g = made Vslidedown Write g.target g.first (λ vl h. sew_indices Single from t vl (λ vs1. refl) g.second h)
+    by_op Vslide1down g = made Vslide1down Write g.target g.first (λ vl h. sew_indices Single from t vl (λ vs1. refl) g.second h)
 
 -- ---- sources of a part of SEW
 
 -- elements of a part of SEW have that part of the vector type's multiplier
-emul-half : (s : Sew) (e : ℕ) → sew_bits s / 2 * e / sew_bits s ≡ e / 2
-emul-half E8 e = omega arith
-emul-half E16 e = omega arith
-emul-half E32 e = omega arith
-emul-half E64 e = omega arith
+emul-half : (s : Sew) (e : ℕ) → 8 ≤ sew_bits s / 2 → bits (halved (sew_width s)) * e / sew_bits s ≡ e / 2
+emul-half E8 e wide = absurd (omega (arith, wide))
+emul-half E16 e wide = omega arith
+emul-half E32 e wide = omega arith
+emul-half E64 e wide = omega arith
 
-emul-quarter : (s : Sew) (e : ℕ) → sew_bits s / 4 * e / sew_bits s ≡ e / 4
-emul-quarter E8 e = omega arith
-emul-quarter E16 e = omega arith
-emul-quarter E32 e = omega arith
-emul-quarter E64 e = omega arith
+emul-quarter : (s : Sew) (e : ℕ) → 8 ≤ sew_bits s / 4 → bits (halved (halved (sew_width s))) * e / sew_bits s ≡ e / 4
+emul-quarter E8 e wide = absurd (omega (arith, wide))
+emul-quarter E16 e wide = absurd (omega (arith, wide))
+emul-quarter E32 e wide = omega arith
+emul-quarter E64 e wide = omega arith
 
-emul-eighth : (s : Sew) (e : ℕ) → sew_bits s / 8 * e / sew_bits s ≡ e / 8
-emul-eighth E8 e = omega arith
-emul-eighth E16 e = omega arith
-emul-eighth E32 e = omega arith
-emul-eighth E64 e = omega arith
+emul-eighth : (s : Sew) (e : ℕ) → 8 ≤ sew_bits s / 8 → bits (halved (halved (halved (sew_width s)))) * e / sew_bits s ≡ e / 8
+emul-eighth E8 e wide = absurd (omega (arith, wide))
+emul-eighth E16 e wide = absurd (omega (arith, wide))
+emul-eighth E32 e wide = absurd (omega (arith, wide))
+emul-eighth E64 e wide = omega arith
 
-emul-part : (o : ExtendOp) (s : Sew) (e : ℕ) → sew_bits s / extension_divisor o * e / sew_bits s ≡ e / extension_divisor o
-emul-part VzextVf8 s e = emul-eighth s e
-emul-part VsextVf8 s e = emul-eighth s e
-emul-part VzextVf4 s e = emul-quarter s e
-emul-part VsextVf4 s e = emul-quarter s e
-emul-part VzextVf2 s e = emul-half s e
-emul-part VsextVf2 s e = emul-half s e
+emul-part : (o : ExtendOp) (s : Sew) (e : ℕ) → 8 ≤ sew_bits s / extension_divisor o
+    → bits (part_width o (sew_width s)) * e / sew_bits s ≡ e / extension_divisor o
+emul-part VzextVf8 s e wide = emul-eighth s e wide
+emul-part VsextVf8 s e wide = emul-eighth s e wide
+emul-part VzextVf4 s e wide = emul-quarter s e wide
+emul-part VsextVf4 s e wide = emul-quarter s e wide
+emul-part VzextVf2 s e wide = emul-half s e wide
+emul-part VsextVf2 s e wide = emul-half s e wide
+
+pub part_type_is : (o : ExtendOp) (t : VType) → 8 ≤ sew_bits t.sew / extension_divisor o
+    → part_type o t ≡ record { width = part_width o (sew_width t.sew); emul = lmul_eighths t.lmul / extension_divisor o }
+part_type_is o t wide =
+    ap (λ (e : ℕ). let g : GroupType = record { width = part_width o (sew_width t.sew); emul = e } in g) (emul-part o t.sew (lmul_eighths t.lmul) wide)
 
 -- a part of a multiplier that is at least 1/8 is a multiplier
 record PartOf (l : Lmul) (divisor : ℕ) : Type 0 where
@@ -609,19 +651,19 @@ eighth M4 h = record { part = Mf2; is = refl; whole = refl }
 eighth M8 h = record { part = M1; is = refl; whole = refl }
 
 -- the elements of the vector type, at a part of the width
-bytes-half : (s : Sew) (l vl : ℕ) → 8 ≤ sew_bits s / 2 → l % 2 ≡ 0 → vl ≤ l * VLENB / sew_bits s → width_bytes (halved (sew_width s)) * vl ≤ 4 * (l / 2)
+bytes-half : (s : Sew) (l vl : ℕ) → 8 ≤ sew_bits s / 2 → l % 2 ≡ 0 → vl ≤ l * VLEN / (8 * sew_bits s) → width_bytes (halved (sew_width s)) * vl ≤ 4 * (l / 2)
 bytes-half E8 l vl n e h = absurd (omega (arith, n))
 bytes-half E16 l vl n e h = omega (arith, e, h)
 bytes-half E32 l vl n e h = omega (arith, e, h)
 bytes-half E64 l vl n e h = omega (arith, e, h)
 
-bytes-quarter : (s : Sew) (l vl : ℕ) → 8 ≤ sew_bits s / 4 → l % 4 ≡ 0 → vl ≤ l * VLENB / sew_bits s → width_bytes (halved (halved (sew_width s))) * vl ≤ 4 * (l / 4)
+bytes-quarter : (s : Sew) (l vl : ℕ) → 8 ≤ sew_bits s / 4 → l % 4 ≡ 0 → vl ≤ l * VLEN / (8 * sew_bits s) → width_bytes (halved (halved (sew_width s))) * vl ≤ 4 * (l / 4)
 bytes-quarter E8 l vl n e h = absurd (omega (arith, n))
 bytes-quarter E16 l vl n e h = absurd (omega (arith, n))
 bytes-quarter E32 l vl n e h = omega (arith, e, h)
 bytes-quarter E64 l vl n e h = omega (arith, e, h)
 
-bytes-eighth : (s : Sew) (l vl : ℕ) → 8 ≤ sew_bits s / 8 → l % 8 ≡ 0 → vl ≤ l * VLENB / sew_bits s → width_bytes (halved (halved (halved (sew_width s)))) * vl ≤ 4 * (l / 8)
+bytes-eighth : (s : Sew) (l vl : ℕ) → 8 ≤ sew_bits s / 8 → l % 8 ≡ 0 → vl ≤ l * VLEN / (8 * sew_bits s) → width_bytes (halved (halved (halved (sew_width s)))) * vl ≤ 4 * (l / 8)
 bytes-eighth E8 l vl n e h = absurd (omega (arith, n))
 bytes-eighth E16 l vl n e h = absurd (omega (arith, n))
 bytes-eighth E32 l vl n e h = absurd (omega (arith, n))
@@ -673,15 +715,15 @@ pub record ExtensionInside (o : ExtendOp) (vd vs2 : ℕ) (t : VType) : Type 0 wh
   pub first : IsInside vs2 (lmul_eighths t.lmul / extension_divisor o)
 
 pub extension_inside : (o : ExtendOp) (vd vs2 : ℕ) (vm : Bool) (t : VType) (vstart : ℕ)
-    → is_legal (VectorExtend o vd vs2 vm) (Some t) vstart ≡ true → ExtensionInside o vd vs2 t
+    → is_legal (instr.Vector (Extend o vd vs2 vm)) (Some t) vstart ≡ true → ExtensionInside o vd vs2 t
 unfolding operands
 extension_inside o vd vs2 vm t vstart h =
-    let groups = ((is_legal_means (VectorExtend o vd vs2 vm) (Some t) vstart).0 h).operands.groups in
-    let source = groups 1 (mask Unused 0) (lit< tt) in
-    let same : emul (sew_bits t.sew / extension_divisor o) t ≡ lmul_eighths t.lmul / extension_divisor o = emul-part o t.sew (lmul_eighths t.lmul) in
+    let groups = ((is_legal_means (instr.Vector (Extend o vd vs2 vm)) (Some t) vstart).0 h).operands.groups in
+    let source = second_of (group Write vd (group_type t)) (extension_source o vs2 t) (v0 vm) groups in
+    let same : (part_type o t).emul ≡ lmul_eighths t.lmul / extension_divisor o = emul-part o t.sew (lmul_eighths t.lmul) source.width.0 in
     record {
       wide = source.width.0;
       least = subst (λ n. 1 ≤ n) same source.least;
-      destination = sew_group vd t (groups 0 (mask Unused 0) (lit< tt)).inside;
-      first = inside vs2 (emul (sew_bits t.sew / extension_divisor o) t) (lmul_eighths t.lmul / extension_divisor o) same source.inside;
+      destination = sew_group vd t (first_of (group Write vd (group_type t)) (extension_source o vs2 t ∷ v0 vm) groups).inside;
+      first = inside vs2 (part_type o t).emul (lmul_eighths t.lmul / extension_divisor o) same source.inside;
     }

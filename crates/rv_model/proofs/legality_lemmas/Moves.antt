@@ -1,19 +1,20 @@
 -- What legality tells of the registers of a compression and of moves of whole registers.
 use Rattle.std.specs.Prelude.{Some}
 use Rattle.std.proofs.Common.{◌≡◌, ℕ, ◌*◌, ◌/◌, true, refl, lit≤, lit<}
-use Rattle.rv_model.specs.declared.instructions.instruction.Instr.TheVariants.{Compress, WholeMove}
+use Rattle.rv_model.specs.declared.instructions.instruction.Instr.TheVariants as instr
+use Rattle.rv_model.specs.declared.instructions.vector.VectorInstr.TheVariants.{Compress, WholeMove}
 use Rattle.rv_model.specs.declared.instructions.operations.RegisterCount.{RegisterCount}
 use Rattle.rv_model.specs.declared.instructions.operations.RegisterCount.TheVariants.{One, Two, Four, Eight}
-use Rattle.rv_model.specs.declared.legality.Role.TheVariants.{Unused}
+use Rattle.rv_model.specs.declared.legality.Role.TheVariants.{Read}
 use Rattle.rv_model.specs.declared.vector.types.Sew.{Sew}
 use Rattle.rv_model.specs.declared.vector.types.Sew.TheVariants.{E8, E16, E32, E64}
 use Rattle.rv_model.specs.declared.vector.types.VType.{VType}
-use Rattle.rv_model.specs.declared.vector.sizes.TheConstants.{VLENB}
-use Rattle.rv_model.specs.elements.PermutationResults.{element_count, whole_type}
-use Rattle.rv_model.specs.legality.GroupBounds.{HoldsBody, IsInside}
-use Rattle.rv_model.specs.legality.Legality.{is_legal, operands, register_count}
+use Rattle.rv_model.specs.declared.vector.sizes.TheConstants.{VLEN}
+use Rattle.rv_model.specs.vector.Configuration.{element_count, lmul_eighths, sew_bits, sew_width}
+use Rattle.rv_model.specs.vector.Groups.{whole_type, register_count}
+use Rattle.rv_model.specs.lending.GroupBounds.{HoldsBody, IsInside}
+use Rattle.rv_model.specs.legality.Legality.{is_legal, operands}
 use Rattle.rv_model.specs.legality.OperandShapes.{mask}
-use Rattle.rv_model.specs.vector.Configuration.{lmul_eighths, sew_bits, sew_width}
 use Rattle.rv_model.proofs.legality_lemmas.Bounds.{inside, sew_group}
 use Rattle.rv_model.proofs.legality_lemmas.Meaning.{is_legal_means}
 
@@ -23,13 +24,13 @@ pub record CompressInside (vd vs2 : ℕ) (t : VType) : Type 0 where
   pub source : IsInside vs2 (lmul_eighths t.lmul)
 
 pub compress_inside : (vd vs1 vs2 : ℕ) (t : VType) (vstart : ℕ)
-    → is_legal (Compress vd vs1 vs2) (Some t) vstart ≡ true → CompressInside vd vs2 t
+    → is_legal (instr.Vector (Compress vd vs1 vs2)) (Some t) vstart ≡ true → CompressInside vd vs2 t
 unfolding operands
 compress_inside vd vs1 vs2 t vstart h =
-    let groups = ((is_legal_means (Compress vd vs1 vs2) (Some t) vstart).0 h).operands.groups in
+    let groups = ((is_legal_means (instr.Vector (Compress vd vs1 vs2)) (Some t) vstart).0 h).operands.groups in
     record {
-      destination = sew_group vd t (groups 0 (mask Unused 0) (lit< tt)).inside;
-      source = sew_group vs2 t (groups 1 (mask Unused 0) (lit< tt)).inside;
+      destination = sew_group vd t (groups 0 (mask Read 0) (lit< tt)).inside;
+      source = sew_group vs2 t (groups 1 (mask Read 0) (lit< tt)).inside;
     }
 
 -- ---- moves of whole registers
@@ -40,19 +41,19 @@ pub record WholeMoveInside (count : RegisterCount) (vd vs2 : ℕ) : Type 0 where
   pub source : IsInside vs2 (8 * register_count count)
 
 pub whole_move_inside : (count : RegisterCount) (vd vs2 : ℕ) (t : VType) (vstart : ℕ)
-    → is_legal (WholeMove count vd vs2) (Some t) vstart ≡ true → WholeMoveInside count vd vs2
+    → is_legal (instr.Vector (WholeMove count vd vs2)) (Some t) vstart ≡ true → WholeMoveInside count vd vs2
 unfolding operands
 whole_move_inside count vd vs2 t vstart h =
-    let groups = ((is_legal_means (WholeMove count vd vs2) (Some t) vstart).0 h).operands.groups in
+    let groups = ((is_legal_means (instr.Vector (WholeMove count vd vs2)) (Some t) vstart).0 h).operands.groups in
     let emul : ℕ = 8 * register_count count in
     record {
-      destination = inside vd emul emul refl (groups 0 (mask Unused 0) (lit< tt)).inside;
-      source = inside vs2 emul emul refl (groups 1 (mask Unused 0) (lit< tt)).inside;
+      destination = inside vd emul emul refl (groups 0 (mask Read 0) (lit< tt)).inside;
+      source = inside vs2 emul emul refl (groups 1 (mask Read 0) (lit< tt)).inside;
     }
 
 -- the registers hold all of their elements
 whole_hold : (s : Sew) (count : RegisterCount)
-    → HoldsBody (sew_width s) (8 * register_count count) (8 * register_count count * VLENB / sew_bits s) (8 * register_count count * VLENB / sew_bits s)
+    → HoldsBody (sew_width s) (8 * register_count count) (8 * register_count count * VLEN / (8 * sew_bits s)) (8 * register_count count * VLEN / (8 * sew_bits s))
 whole_hold E8 One = record { most = lit≤ tt; room = lit≤ tt; least = lit≤ tt; whole = refl; size = lit≤ tt }
 whole_hold E8 Two = record { most = lit≤ tt; room = lit≤ tt; least = lit≤ tt; whole = refl; size = lit≤ tt }
 whole_hold E8 Four = record { most = lit≤ tt; room = lit≤ tt; least = lit≤ tt; whole = refl; size = lit≤ tt }

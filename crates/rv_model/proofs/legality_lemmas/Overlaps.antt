@@ -1,31 +1,34 @@
 -- What legality tells of the overlaps of a vector load: its mask stays, and of its indices those that are still to be used.
 use Rattle.std.specs.Prelude.{Some, nat_le, nat_lt, ◌==◌}
 use Rattle.std.specs.List.{list_all}
-use Rattle.std.proofs.Common.{◌≡◌, ◌⊎◌, inl, inr, ℕ, ◌+◌, ◌-◌, ◌*◌, ◌/◌, ◌%◌, ◌<◌, ◌≤◌, Bool, true, false, ◌&&◌, ◌||◌, cond, refl, sym, ap, ◌∙◌, subst, arith, lit<}
+use Rattle.std.proofs.Common.{◌≡◌, ◌∷◌, ◌⊎◌, inl, inr, ℕ, ◌+◌, ◌-◌, ◌*◌, ◌/◌, ◌%◌, ◌<◌, ◌≤◌, Bool, true, false, ◌&&◌, ◌||◌, cond, refl, sym, ap, ◌∙◌, subst, arith, lit<}
 use Rattle.std.proofs.Math.Nat.{add-mul, mod-add-div', mul_comm}
 use Rattle.std.proofs.lemmas.Bool.{and_parts, cases_order, eqb-true, leb-true, ltb-true, or_cases}
 use Rattle.std.proofs.lemmas.Nat.{mul-le, row_fits}
-use Rattle.rv_model.specs.declared.instructions.instruction.Instr.TheVariants.{VectorIndexed, VectorStrided, VectorUnit}
+use Rattle.rv_model.specs.declared.instructions.instruction.Instr.TheVariants as instr
+use Rattle.rv_model.specs.declared.instructions.access.AccessInstr.TheVariants.{Indexed, Strided, UnitStride}
 use Rattle.rv_model.specs.declared.instructions.operations.Direction.TheVariants as direction
 use Rattle.rv_model.specs.declared.instructions.operations.Order.{Order}
 use Rattle.rv_model.specs.declared.instructions.operations.UnitOp.TheVariants as unit
-use Rattle.rv_model.specs.declared.instructions.operations.Width.{Width}
+use Rattle.rv_model.specs.declared.instructions.operations.Eew.{Eew}
 use Rattle.rv_model.specs.declared.legality.Content.TheVariants.{Elements, Mask}
 use Rattle.rv_model.specs.declared.legality.Operand.{Operand}
-use Rattle.rv_model.specs.declared.legality.Role.TheVariants.{Apart, Control, Read, Unused, Write}
-use Rattle.rv_model.specs.declared.vector.sizes.TheConstants.{VLENB}
+use Rattle.rv_model.specs.declared.legality.Role.TheVariants.{Apart, Control, Read, Write}
+use Rattle.rv_model.specs.declared.vector.sizes.TheConstants.{VLEN, VLENB}
 use Rattle.rv_model.specs.declared.vector.types.Lmul.{Lmul}
 use Rattle.rv_model.specs.declared.vector.types.Sew.{Sew}
 use Rattle.rv_model.specs.declared.vector.types.VType.{VType}
 use Rattle.rv_model.specs.accesses.Restarts.{IsByteOf, LaterIndicesStay}
 use Rattle.rv_model.specs.legality.Legality.{IsLegal, indexed_role, operands}
-use Rattle.rv_model.specs.legality.OperandShapes.{emul, group, mask, segment}
+use Rattle.rv_model.specs.legality.OperandShapes.{field_groups, group, mask, v0}
 use Rattle.rv_model.specs.legality.RegisterOperands.{AllowsAs, IsGroup, MayOverlap, Overlap}
-use Rattle.rv_model.specs.vector.Configuration.{element_width, lmul_eighths, sew_bits, sew_width, vlmax, width_bytes}
+use Rattle.rv_model.specs.vector.Groups.{access_type}
+use Rattle.rv_model.specs.vector.Configuration.{element_width, group_type, lmul_eighths, sew_bits, sew_width, vlmax, width_bytes}
 use Rattle.rv_model.specs.vector.Registers.{registers}
 use Rattle.rv_model.specs.vector.TypeNames.{lmuls, sews}
 use Rattle.rv_model.proofs.legality_lemmas.Accesses.{elements_fit, of_lmuls, of_sews}
-use Rattle.rv_model.proofs.legality_lemmas.Bounds.{emul-sew}
+use Rattle.rv_model.proofs.legality_lemmas.Bounds.{before_end0, before_end1, emul-sew, first_of, second_of}
+use Rattle.rv_model.specs.lending.GroupBounds.{emul}
 
 -- ---- groups with as many elements of a width as the vector type has
 
@@ -33,7 +36,7 @@ use Rattle.rv_model.proofs.legality_lemmas.Bounds.{emul-sew}
 abbrev fills : Sew → Sew → Lmul → Bool
 fills s sew l =
     (nat_lt (sew_bits s * lmul_eighths l / sew_bits sew) 8
-    || (lmul_eighths l * VLENB / sew_bits sew * width_bytes (sew_width s) == VLENB * registers (sew_bits s * lmul_eighths l / sew_bits sew)))
+    || (lmul_eighths l * VLEN / (8 * sew_bits sew) * width_bytes (sew_width s) == VLENB * registers (sew_bits s * lmul_eighths l / sew_bits sew)))
     && (nat_lt (sew_bits s * lmul_eighths l / sew_bits sew) 8
     || (nat_lt (sew_bits sew) (sew_bits s) || nat_le 8 (sew_bits sew * lmul_eighths l / sew_bits sew)))
 
@@ -100,43 +103,43 @@ above_v0 d h some = elim (cases_order d.first 0) [
 ]
 
 -- a masked load writes no part of v0
-unit_masked : (first_only : Bool) (w : Width) (nf vd rs1 : ℕ) (t : VType) (vstart : ℕ)
-    → IsLegal (VectorUnit (cond first_only unit.FaultOnlyFirst unit.Load) w nf vd rs1 false) (Some t) vstart → 1 ≤ vd
+unit_masked : (first_only : Bool) (w : Eew) (nf vd rs1 : ℕ) (t : VType) (vstart : ℕ)
+    → IsLegal (instr.Access (UnitStride (cond first_only unit.FaultOnlyFirst unit.Load) w nf vd rs1 false)) (Some t) vstart → 1 ≤ vd
 unfolding operands
 unit_masked true w nf vd rs1 t vstart legal =
-    let d = segment Write (nf + 1) vd (sew_bits (element_width w)) t in
+    let d = field_groups Write (nf + 1) vd (access_type t w) in
     above_v0 d (clear true d (mask Control 0) (sew_bits (element_width w)) refl (legal.operands.pairs 0 d (lit< tt) 1 d (lit< tt))) (omega arith)
 unit_masked false w nf vd rs1 t vstart legal =
-    let d = segment Write (nf + 1) vd (sew_bits (element_width w)) t in
+    let d = field_groups Write (nf + 1) vd (access_type t w) in
     above_v0 d (clear true d (mask Control 0) (sew_bits (element_width w)) refl (legal.operands.pairs 0 d (lit< tt) 1 d (lit< tt))) (omega arith)
 
-strided_masked : (w : Width) (nf vd rs1 rs2 : ℕ) (t : VType) (vstart : ℕ)
-    → IsLegal (VectorStrided direction.Load w nf vd rs1 rs2 false) (Some t) vstart → 1 ≤ vd
+strided_masked : (w : Eew) (nf vd rs1 rs2 : ℕ) (t : VType) (vstart : ℕ)
+    → IsLegal (instr.Access (Strided direction.Load w nf vd rs1 rs2 false)) (Some t) vstart → 1 ≤ vd
 unfolding operands
 strided_masked w nf vd rs1 rs2 t vstart legal =
-    let d = segment Write (nf + 1) vd (sew_bits (element_width w)) t in
+    let d = field_groups Write (nf + 1) vd (access_type t w) in
     above_v0 d (clear true d (mask Control 0) (sew_bits (element_width w)) refl (legal.operands.pairs 0 d (lit< tt) 1 d (lit< tt))) (omega arith)
 
-indexed_masked : (order : Order) (w : Width) (nf vd rs1 vs2 : ℕ) (t : VType) (vstart : ℕ)
-    → IsLegal (VectorIndexed direction.Load order w nf vd rs1 vs2 false) (Some t) vstart → 1 ≤ vd
+indexed_masked : (order : Order) (w : Eew) (nf vd rs1 vs2 : ℕ) (t : VType) (vstart : ℕ)
+    → IsLegal (instr.Access (Indexed direction.Load order w nf vd rs1 vs2 false)) (Some t) vstart → 1 ≤ vd
 unfolding operands
 indexed_masked order w nf vd rs1 vs2 t vstart legal =
-    let d = segment (indexed_role direction.Load nf) (nf + 1) vd (sew_bits t.sew) t in
+    let d = field_groups (indexed_role direction.Load nf) (nf + 1) vd (group_type t) in
     above_v0 d (clear (nf == 0) d (mask Control 0) (sew_bits t.sew) refl (legal.operands.pairs 0 d (lit< tt) 2 d (lit< tt))) (omega arith)
 
 -- the same, where an instruction may be masked or not
-pub unit_above : (first_only vm : Bool) (w : Width) (nf vd rs1 : ℕ) (t : VType) (vstart : ℕ)
-    → IsLegal (VectorUnit (cond first_only unit.FaultOnlyFirst unit.Load) w nf vd rs1 vm) (Some t) vstart → vm ≡ false → 1 ≤ vd
+pub unit_above : (first_only vm : Bool) (w : Eew) (nf vd rs1 : ℕ) (t : VType) (vstart : ℕ)
+    → IsLegal (instr.Access (UnitStride (cond first_only unit.FaultOnlyFirst unit.Load) w nf vd rs1 vm)) (Some t) vstart → vm ≡ false → 1 ≤ vd
 unit_above first_only true w nf vd rs1 t vstart legal e = absurd (cc)
 unit_above first_only false w nf vd rs1 t vstart legal e = unit_masked first_only w nf vd rs1 t vstart legal
 
-pub strided_above : (vm : Bool) (w : Width) (nf vd rs1 rs2 : ℕ) (t : VType) (vstart : ℕ)
-    → IsLegal (VectorStrided direction.Load w nf vd rs1 rs2 vm) (Some t) vstart → vm ≡ false → 1 ≤ vd
+pub strided_above : (vm : Bool) (w : Eew) (nf vd rs1 rs2 : ℕ) (t : VType) (vstart : ℕ)
+    → IsLegal (instr.Access (Strided direction.Load w nf vd rs1 rs2 vm)) (Some t) vstart → vm ≡ false → 1 ≤ vd
 strided_above true w nf vd rs1 rs2 t vstart legal e = absurd (cc)
 strided_above false w nf vd rs1 rs2 t vstart legal e = strided_masked w nf vd rs1 rs2 t vstart legal
 
-pub indexed_above : (vm : Bool) (order : Order) (w : Width) (nf vd rs1 vs2 : ℕ) (t : VType) (vstart : ℕ)
-    → IsLegal (VectorIndexed direction.Load order w nf vd rs1 vs2 vm) (Some t) vstart → vm ≡ false → 1 ≤ vd
+pub indexed_above : (vm : Bool) (order : Order) (w : Eew) (nf vd rs1 vs2 : ℕ) (t : VType) (vstart : ℕ)
+    → IsLegal (instr.Access (Indexed direction.Load order w nf vd rs1 vs2 vm)) (Some t) vstart → vm ≡ false → 1 ≤ vd
 indexed_above true order w nf vd rs1 vs2 t vstart legal e = absurd (cc)
 indexed_above false order w nf vd rs1 vs2 t vstart legal e = indexed_masked order w nf vd rs1 vs2 t vstart legal
 
@@ -144,43 +147,47 @@ indexed_above false order w nf vd rs1 vs2 t vstart legal e = indexed_masked orde
 
 -- the data and the indices of an indexed load
 abbrev loaded_fields : ℕ → ℕ → VType → Operand
-loaded_fields nf vd t = segment (indexed_role direction.Load nf) (nf + 1) vd (sew_bits t.sew) t
+loaded_fields nf vd t = field_groups (indexed_role direction.Load nf) (nf + 1) vd (group_type t)
 
-abbrev index_group : Width → ℕ → VType → Operand
-index_group w vs2 t = group Read vs2 (sew_bits (element_width w)) t
+abbrev index_group : Eew → ℕ → VType → Operand
+index_group w vs2 t = group Read vs2 (access_type t w)
 
 may : (b : Bool) (d s : Operand) → AllowsAs (cond b Write Apart) Read d s → Overlap d s → (b ≡ true) × MayOverlap d s
 may true d s h o = (refl, h o)
 may false d s h o = absurd (h o)
 
 -- they are groups, and overlap as destinations and sources may, where there is one field
-record IndexedOperands (w : Width) (nf vd vs2 : ℕ) (t : VType) : Type 0 where
+record IndexedOperands (w : Eew) (nf vd vs2 : ℕ) (t : VType) : Type 0 where
   fields : IsGroup (loaded_fields nf vd t)
   indices : IsGroup (index_group w vs2 t)
   overlap : Overlap (loaded_fields nf vd t) (index_group w vs2 t) → ((nf == 0) ≡ true) × MayOverlap (loaded_fields nf vd t) (index_group w vs2 t)
 
-indexed_operands : (order : Order) (w : Width) (nf vd rs1 vs2 : ℕ) (vm : Bool) (t : VType) (vstart : ℕ)
-    → IsLegal (VectorIndexed direction.Load order w nf vd rs1 vs2 vm) (Some t) vstart → IndexedOperands w nf vd vs2 t
+indexed_operands : (order : Order) (w : Eew) (nf vd rs1 vs2 : ℕ) (vm : Bool) (t : VType) (vstart : ℕ)
+    → IsLegal (instr.Access (Indexed direction.Load order w nf vd rs1 vs2 vm)) (Some t) vstart → IndexedOperands w nf vd vs2 t
 unfolding operands
-indexed_operands order w nf vd rs1 vs2 vm t vstart legal = record {
-  fields = legal.operands.groups 0 (mask Unused 0) (lit< tt);
-  indices = legal.operands.groups 1 (mask Unused 0) (lit< tt);
-  overlap = may (nf == 0) (loaded_fields nf vd t) (index_group w vs2 t) (legal.operands.pairs 0 (mask Unused 0) (lit< tt) 1 (mask Unused 0) (lit< tt));
-}
+indexed_operands order w nf vd rs1 vs2 vm t vstart legal =
+    let d = loaded_fields nf vd t in
+    let s = index_group w vs2 t in
+    record {
+      fields = first_of d (s ∷ v0 vm) legal.operands.groups;
+      indices = second_of d s (v0 vm) legal.operands.groups;
+      overlap = may (nf == 0) d s (legal.operands.pairs 0 d (before_end0 d (s ∷ v0 vm)) 1 d (before_end1 d s (v0 vm)));
+    }
 
-later_stay : (w : Width) (nf vd vs2 : ℕ) (t : VType) → IndexedOperands w nf vd vs2 t
+later_stay : (w : Eew) (nf vd vs2 : ℕ) (t : VType) → IndexedOperands w nf vd vs2 t
     → (f i k b : ℕ) → f ≤ nf → i < k → k < vlmax t
-    → IsByteOf (vd + f * registers (emul (sew_bits t.sew) t)) (width_bytes (sew_width t.sew)) i b
+    → IsByteOf (vd + f * registers (lmul_eighths t.lmul)) (width_bytes (sew_width t.sew)) i b
     → ¬ IsByteOf vs2 (width_bytes (sew_width (element_width w))) k b
 later_stay w nf vd vs2 t legal f i k b hf hi hk x y =
-    let z : ℕ = registers (emul (sew_bits t.sew) t) in
+    let of_sew : emul (sew_bits t.sew) t ≡ lmul_eighths t.lmul = emul-sew t.sew (lmul_eighths t.lmul) in
+    let z : ℕ = registers (lmul_eighths t.lmul) in
     let zs : ℕ = registers (emul (sew_bits (element_width w)) t) in
     let v : ℕ = vlmax t in
     let dk : ℕ = width_bytes (sew_width t.sew) in
     let sk : ℕ = width_bytes (sew_width (element_width w)) in
     let dg = legal.fields in
     let sg = legal.indices in
-    let droom : v * dk ≤ VLENB * z = group_fits t.sew t in
+    let droom : v * dk ≤ VLENB * z = subst (λ e. v * dk ≤ VLENB * registers e) of_sew (group_fits t.sew t) in
     let sroom : v * sk ≤ VLENB * zs = group_fits (element_width w) t in
     let dhas = byte_register vd (nf + 1) f z dk v i b (omega arith) (omega arith) droom x in
     let shas = byte_register vs2 1 0 zs sk v k b (omega arith) hk sroom (omega arith, omega arith) in
@@ -191,7 +198,7 @@ later_stay w nf vd vs2 t legal f i k b hf hi hk x y =
     let before : i * dk + dk ≤ k * dk = row_fits i dk k dk hi (omega arith) in
     elim both.1 [
       | inl same ↦
-          let sizes : z ≡ zs = ap (λ (n : ℕ). registers (emul n t)) same in
+          let sizes : z ≡ zs = ap registers (sym of_sew) ∙ ap (λ (n : ℕ). registers (emul n t)) same in
           let widths : k * dk ≡ k * sk = ap (λ (n : ℕ). k * (n / 8)) same in
           let aligned : vs2 % z ≡ 0 = ap (λ (q : ℕ). vs2 % q) sizes ∙ sg.aligned in
           let together : vd ≡ vs2 = aligned_same z vd vs2 dg.aligned aligned (omega arith) (omega arith) in
@@ -204,7 +211,8 @@ later_stay w nf vd vs2 t legal f i k b hf hi hk x y =
         | inr wide ↦
             let less : sk ≤ dk = omega arith in
             let whole : (nf + 1) * z ≡ z = ap (λ (j : ℕ). (j + 1) * z) one ∙ omega arith in
-            let full : v * dk ≡ VLENB * z = group_filled t.sew t (wider (element_width w) t wide.1 (omega arith)) in
+            let full : v * dk ≡ VLENB * z =
+            subst (λ e. v * dk ≡ VLENB * registers e) of_sew (group_filled t.sew t (wider (element_width w) t wide.1 (omega arith))) in
             let filled : v * sk ≡ VLENB * zs = group_filled (element_width w) t wide.1 in
             let left : v * sk ≡ k * sk + (v - k) * sk = ap (λ (j : ℕ). j * sk) (omega arith) ∙ add-mul k (v - k) sk in
             let over : v * dk ≡ k * dk + (v - k) * dk = ap (λ (j : ℕ). j * dk) (omega arith) ∙ add-mul k (v - k) dk in
@@ -215,5 +223,4 @@ later_stay w nf vd vs2 t legal f i k b hf hi hk x y =
 
 pub later_indices_stay : LaterIndicesStay
 later_indices_stay order w nf vd rs1 vs2 vm t vstart legal f i k b hf hi hk x =
-    later_stay w nf vd vs2 t (indexed_operands order w nf vd rs1 vs2 vm t vstart legal) f i k b hf hi hk
-    (subst (λ (e : ℕ). IsByteOf (vd + f * registers e) (width_bytes (sew_width t.sew)) i b) (sym (emul-sew t.sew (lmul_eighths t.lmul))) x)
+    later_stay w nf vd vs2 t (indexed_operands order w nf vd rs1 vs2 vm t vstart legal) f i k b hf hi hk x

@@ -22,12 +22,12 @@ use Rattle.rv_model.specs.machine.AbsentUsers.{AbsentUsersHaveNothing, AbsentUse
 use Rattle.rv_model.specs.machine.Cuts.{Try, tried_in}
 use Rattle.rv_model.specs.machine.PrivateMachine.{Private, Event, Command, Slice, event, sliced, slice_ends}
 use Rattle.rv_model.specs.machine.Runs.{Halted, ticked}
-use Rattle.rv_model.specs.machine.Script.{after, after_all, after_script, events_of, kind_of, new_world}
+use Rattle.rv_model.specs.machine.Script.{after_all, after_script, events_of, kind_of, new_world, world_after}
 use Rattle.rv_model.specs.machine.Setup.{Image, Setup}
 use Rattle.rv_model.specs.machine.UnitEvents.{can_be_loaded, tried_steps, unit_after_command, unit_after_event, unit_after_line, unit_after_load, unit_after_registers, unit_after_running, unit_after_tries, unit_after_try, unit_of_absent, unit_of_present}
 use Rattle.rv_model.specs.machine.UserMachine.{Outcome, Present, refuses}
 use Rattle.rv_model.specs.machine.VectorUnit.{VectorUnit, is_marked, is_owned_by, owner_changed, owner_saved, unit_after_instruction, unit_changed, unit_discarded, unit_register_written, unit_touched, with_mark}
-use Rattle.rv_model.specs.machine.World.{AreUsers, World, Happening, after_events, after_one, outcome_of, part, unit_after, with_part, with_unit}
+use Rattle.rv_model.specs.machine.World.{AreUsers, World, Happening, after_events, after_one, outcome_of, unit_after, with_unit, user_machine, with_user_machine}
 use Rattle.rv_model.specs.step.Step.{dirties, fetched, touches}
 use Rattle.rv_model.specs.text.Lines.{pieces}
 use Rattle.rv_model.proofs.command_lemmas.Refusals.{IsThere, present_there}
@@ -272,25 +272,25 @@ unit_after_turn true u w = refl
 unit_after_turn false u w = refl
 
 unit_after_one : (s : Setup) (w : World) (h : Happening) → (after_one s w h).unit ≡ unit_after s w h
-unit_after_one s w h = unit_after_turn h.turn h.user (with_unit (unit_after s w h) (with_part h.user (outcome_of s w h).next w))
+unit_after_one s w h = unit_after_turn h.turn h.user (with_unit (unit_after s w h) (with_user_machine h.user (outcome_of s w h).next w))
 
 pub happenings_keep_nothing : HappeningsKeepNothing
 happenings_keep_nothing s w h low high eight nothing =
-    let moves : Moves h.user w.unit (unit_after s w h) = event_moves h.user low high s (part h.user w) h.event w.unit in
+    let moves : Moves h.user w.unit (unit_after s w h) = event_moves h.user low high s (user_machine h.user w) h.event w.unit in
     let is_unit = sym (unit_after_one s w h) in
     let next : Private = (outcome_of s w h).next in (
       subst (λ (unit : VectorUnit). OwnerIsUser unit.owner) is_unit (moves.owner nothing.0),
       λ u here there absent.
-          let found : part u (with_part h.user next w) ≡ None = sym (part_after_one s u w h) ∙ absent in
+          let found : user_machine u (with_user_machine h.user next w) ≡ None = sym (part_after_one s u w h) ∙ absent in
           subst (HasNothing u) is_unit (elim (cases_eq u h.user) [
             | inl same ↦
                 let gone : next ≡ None =
                 sym (part_same h.user next w low (omega (arith, high, eight)))
-                ∙ ap (λ (v : ℕ). part v (with_part h.user next w)) (sym same) ∙ found in
+                ∙ ap (λ (v : ℕ). user_machine v (with_user_machine h.user next w)) (sym same) ∙ found in
                 subst (λ (v : ℕ). HasNothing v (unit_after s w h)) (sym same)
-                (absent_after h.user low high s (part h.user w) h.event w.unit (nothing.1 h.user low high) gone)
+                (absent_after h.user low high s (user_machine h.user w) h.event w.unit (nothing.1 h.user low high) gone)
             | inr other ↦
-                let before : part u w ≡ None = sym (part_other u h.user next w here low (λ e. other (sym e))) ∙ found in
+                let before : user_machine u w ≡ None = sym (part_other u h.user next w here low (λ e. other (sym e))) ∙ found in
                 moves.others u here other nothing.0 (nothing.1 u here there before)
           ]),
     )
@@ -304,10 +304,10 @@ all_keep_nothing s w (h ∷ hs) eight users nothing =
 
 lines_keep_nothing : (s : Setup) (w : World) (lines : List (List ℕ)) → length w.parts ≡ 8 → AbsentUsersHaveNothing w
     → AbsentUsersHaveNothing (after_all s w lines)
-unfolding after
+unfolding world_after
 lines_keep_nothing s w [] eight nothing = nothing
 lines_keep_nothing s w (line ∷ lines) eight nothing =
-    lines_keep_nothing s (after s w line) lines (eight_after s w line eight)
+    lines_keep_nothing s (world_after s w line) lines (eight_after s w line eight)
     (all_keep_nothing s w (events_of s w (kind_of line)) eight (users_of s w line) nothing)
 
 pub scripts_keep_nothing : ScriptsKeepNothing

@@ -7,7 +7,7 @@ use Rattle.rv_model.specs.machine.PrivateMachine.{Event, Command, Slice, sliced,
 use Rattle.rv_model.specs.machine.Runs.{Halted, ticked}
 use Rattle.rv_model.specs.machine.Setup.{Setup}
 use Rattle.rv_model.specs.machine.UserMachine.{Private}
-use Rattle.rv_model.specs.text.Lines.{AreLines}
+use Rattle.rv_model.proofs.text_lemmas.Newlines.{AreLines}
 use Rattle.rv_model.proofs.command_lemmas.Commands.{commanded_prints}
 use Rattle.rv_model.proofs.command_lemmas.Printing.{PrintsLines, one_line, no_newline_in_stop_line}
 use Rattle.rv_model.proofs.text_lemmas.Pieces.{of_either}

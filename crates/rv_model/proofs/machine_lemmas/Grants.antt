@@ -10,8 +10,8 @@ use Rattle.rv_model.specs.machine.Grants.{turns_after, next_user, runs, next_run
 use Rattle.rv_model.specs.machine.Users.{users}
 use Rattle.rv_model.specs.machine.VectorUnit.{stats_of}
 use Rattle.rv_model.specs.machine.Setup.{Setup}
-use Rattle.rv_model.specs.machine.World.{World, Happening, part, after_one, AreUsers}
-use Rattle.rv_model.specs.text.Lines.{IsLine}
+use Rattle.rv_model.specs.machine.World.{World, Happening, after_one, AreUsers, user_machine}
+use Rattle.rv_model.proofs.text_lemmas.Newlines.{IsLine}
 use Rattle.rv_model.proofs.command_lemmas.Operator.{ParsedNamesUser}
 use Rattle.rv_model.proofs.command_lemmas.Printing.{no_newline_in_refusal}
 use Rattle.rv_model.proofs.text_lemmas.Pieces.{Piece, ◌▸◌, number, flat_map_line, of_either}
@@ -72,7 +72,7 @@ granted_to_users s (suc n) w =
 pub grants_to_users : (s : Setup) (w : World) (r : OperatorParsed) → ParsedNamesUser r → AreUsers (grants_of s w r)
 grants_to_users s w (Err reason) named = tt
 grants_to_users s w (Ok (Slices n)) named = granted_to_users s n w
-grants_to_users s w (Ok (Run u)) named = run (runs (part u w))
+grants_to_users s w (Ok (Run u)) named = run (runs (user_machine u w))
   where
     run : (b : Bool) → AreUsers (if b then slice_of u false ∷ [] else [])
     run true = (named.0, named.1, tt)

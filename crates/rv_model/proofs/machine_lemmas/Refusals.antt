@@ -14,12 +14,13 @@ use Rattle.rv_model.specs.machine.Grants.{granted, granted_first, grants, grants
 use Rattle.rv_model.specs.machine.PrivateMachine.{Private, Outcome, Event, Command, Slice, event, sliced, slice_ends}
 use Rattle.rv_model.specs.machine.Refusals.{answers_in, IsRefusal, RefusedHappeningsChangeNothing, RefusedLinesChangeNothing}
 use Rattle.rv_model.specs.machine.Runs.{Halted, ticked}
-use Rattle.rv_model.specs.machine.Script.{Kind, Empty, Long, Bad, Operator, Of, after, commands, common, events_of, kind_of, told}
+use Rattle.rv_model.specs.machine.Script.{Kind, Empty, Long, Bad, Operator, Of, commands, common, events_of, kind_of, told, world_after}
 use Rattle.rv_model.specs.machine.Setup.{Setup}
 use Rattle.rv_model.specs.machine.UnitEvents.{unit_after_event}
 use Rattle.rv_model.specs.machine.VectorUnit.{VectorUnit}
-use Rattle.rv_model.specs.machine.World.{World, Happening, after_events, after_one, outcome_of, part, told_by, unit_after, with_part, with_unit}
-use Rattle.rv_model.specs.text.Lines.{is_line, is_newline, are_lines, tagged, text, AreLines, IsLine}
+use Rattle.rv_model.specs.machine.World.{World, Happening, after_events, after_one, outcome_of, told_by, unit_after, with_unit, user_machine, with_user_machine}
+use Rattle.rv_model.specs.text.Lines.{is_newline, tagged, text}
+use Rattle.rv_model.proofs.text_lemmas.Newlines.{is_line, are_lines, AreLines, IsLine}
 use Rattle.rv_model.proofs.command_lemmas.Printing.{one_line}
 use Rattle.rv_model.proofs.command_lemmas.Refusals.{are_plain, commanded_settles, is_plain, plain_line, stop_line_plain, Settles}
 use Rattle.rv_model.proofs.machine_lemmas.EventLines.{event_lines}
@@ -93,13 +94,13 @@ event_settles s user p (Command line) unit = commanded_settles s.images user p (
 event_settles s user p Slice unit = inr (sliced_plain s.quantum p)
 
 -- where neither a user's machine nor the unit moves and it's nobody's turn, the world stays
-same_world : (s : Setup) (w : World) (h : Happening) → h.turn ≡ false → (outcome_of s w h).next ≡ part h.user w
+same_world : (s : Setup) (w : World) (h : Happening) → h.turn ≡ false → (outcome_of s w h).next ≡ user_machine h.user w
     → unit_after s w h ≡ w.unit → after_one s w h ≡ w
 same_world s w h turn same still =
-    let moved : World = with_unit (unit_after s w h) (with_part h.user (outcome_of s w h).next w) in
+    let moved : World = with_unit (unit_after s w h) (with_user_machine h.user (outcome_of s w h).next w) in
     ap (λ (t : Bool). if t then record moved { cursor = h.user } else moved) turn
-    ∙ ap (λ (p : Private). with_unit (unit_after s w h) (with_part h.user p w)) same
-    ∙ ap (λ (unit : VectorUnit). with_unit unit (with_part h.user (part h.user w) w)) still
+    ∙ ap (λ (p : Private). with_unit (unit_after s w h) (with_user_machine h.user p w)) same
+    ∙ ap (λ (unit : VectorUnit). with_unit unit (with_user_machine h.user (user_machine h.user w) w)) still
     ∙ ap (λ (parts : List Private). record w { parts = parts }) (set-get_or w.parts (h.user - 1) None)
 
 pub refused_happenings_change_nothing : RefusedHappeningsChangeNothing
@@ -107,9 +108,9 @@ refused_happenings_change_nothing s w h slices refused = named h.turn refl
   where
     named : (b : Bool) → h.turn ≡ b → after_one s w h ≡ w
     named true turn =
-        absurd (none_refused (outcome_of s w h).lines (slice_plain s (part h.user w) h.event (slices turn)) refused)
+        absurd (none_refused (outcome_of s w h).lines (slice_plain s (user_machine h.user w) h.event (slices turn)) refused)
     named false turn =
-        elim (event_settles s h.user (part h.user w) h.event w.unit) [
+        elim (event_settles s h.user (user_machine h.user w) h.event w.unit) [
           | inl same ↦ same_world s w h turn same.0 same.1
           | inr plain ↦ absurd (none_refused (outcome_of s w h).lines plain refused)
         ]
@@ -133,7 +134,7 @@ granted_are_slices s (suc n) w =
 
 grants_are_slices : (s : Setup) (w : World) (c : OperatorCommand) → AreSlices (grants s w c)
 grants_are_slices s w (Slices n) = granted_are_slices s n w
-grants_are_slices s w (Run u) = run (runs (part u w))
+grants_are_slices s w (Run u) = run (runs (user_machine u w))
   where
     run : (b : Bool) → AreSlices (if b then slice_of u false ∷ [] else [])
     run true = (refl, tt)
@@ -148,7 +149,7 @@ plain_told_by s w (h ∷ hs) rest slices k =
     let ls : List (List ℕ) = (outcome_of s w h).lines in
     ap (λ (t : List ℕ). are_plain (answers_in t)) (append_assoc (text (48 + h.user) ls) (told_by s (after_one s w h) hs) rest)
     ∙ plain_text (48 + h.user) ls (told_by s (after_one s w h) hs ++ rest) (no_newline h.user)
-    (event_lines s (part h.user w) h.event) (slice_plain s (part h.user w) h.event slices.0)
+    (event_lines s (user_machine h.user w) h.event) (slice_plain s (user_machine h.user w) h.event slices.0)
     (plain_told_by s (after_one s w h) hs rest slices.1 k)
 
 operator_line_plain : (s : Setup) (w : World) (c : OperatorCommand) → is_plain (operator_line s w (Ok c)) ≡ true
@@ -165,11 +166,11 @@ user_line : (s : Setup) (w : World) (u : ℕ) (line : List ℕ)
     → Any IsRefusal (answers_in (told_by s w (commands u line ∷ []) ++ [])) → after_one s w (commands u line) ≡ w
 user_line s w u line refused =
     let h : Happening = commands u line in
-    elim (event_settles s u (part u w) (Command line) w.unit) [
+    elim (event_settles s u (user_machine u w) (Command line) w.unit) [
       | inl same ↦ same_world s w h refl same.0 same.1
       | inr plain ↦
           let ls : List (List ℕ) = (outcome_of s w h).lines in
-          let all = plain_text (48 + u) ls [] (no_newline u) (event_lines s (part u w) (Command line)) plain refl in
+          let all = plain_text (48 + u) ls [] (no_newline u) (event_lines s (user_machine u w) (Command line)) plain refl in
           absurd (none_refused _ (ap (λ (t : List ℕ). are_plain (answers_in t)) (append_assoc (text (48 + u) ls) [] []) ∙ all) refused)
     ]
 
@@ -184,7 +185,7 @@ operator_line_refused s w (Ok c) refused =
     absurd (none_refused _ (plain_told_by s w (grants s w c) (text 42 (line ∷ [])) (grants_are_slices s w c) last) refused)
 
 pub refused_lines_change_nothing : RefusedLinesChangeNothing
-unfolding after told common
+unfolding world_after told common
 refused_lines_change_nothing s w line refused = named (kind_of line) refused
   where
     named : (k : Kind) → Any IsRefusal (answers_in (told_by s w (events_of s w k) ++ text 42 (common s w k)))

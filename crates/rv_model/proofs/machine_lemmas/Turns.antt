@@ -7,10 +7,10 @@ use Rattle.rv_model.specs.declared.commands.operator.OperatorCommand.TheVariants
 use Rattle.rv_model.specs.commands.Operator.{operator_parse}
 use Rattle.rv_model.specs.machine.Grants.{turns_after, next_user, runs, next_running, slice_of, granted_first, granted}
 use Rattle.rv_model.specs.machine.PrivateMachine.{Private}
-use Rattle.rv_model.specs.machine.Script.{Kind, Empty, Long, Bad, Operator, Of, kind_of, events_of, after, schedule}
+use Rattle.rv_model.specs.machine.Script.{Kind, Empty, Long, Bad, Operator, Of, kind_of, events_of, schedule, world_after}
 use Rattle.rv_model.specs.machine.Setup.{Setup}
 use Rattle.rv_model.specs.machine.Turns.{AtEachTurn, IsTurn, AreInTurn, RunsAtEachTurn, turns, turns_of, NobodyHasTwoTurns, EachRunningUserHasATurn, GrantsAreInTurn, ScriptsAreInTurn, OneTurnBetweenTurns}
-use Rattle.rv_model.specs.machine.World.{World, Happening, part, with_part, with_unit, outcome_of, unit_after, after_one, after_events}
+use Rattle.rv_model.specs.machine.World.{World, Happening, with_unit, outcome_of, unit_after, after_one, after_events, user_machine, with_user_machine}
 use Rattle.rv_model.specs.text.Lines.{pieces}
 use Rattle.rv_model.proofs.machine_lemmas.Grants.{IsUser, IsUserIfAny, next_is_user}
 use Rattle.rv_model.proofs.machine_lemmas.Headline.{same_number, other_number}
@@ -190,7 +190,7 @@ cursor_after_turn false u w = refl
 cursor_after : (s : Setup) (w : World) (h : Happening) (b : Bool) → h.turn ≡ b
     → (after_one s w h).cursor ≡ (if b then h.user else w.cursor)
 cursor_after s w h b turn =
-    cursor_after_turn h.turn h.user (with_unit (unit_after s w h) (with_part h.user (outcome_of s w h).next w))
+    cursor_after_turn h.turn h.user (with_unit (unit_after s w h) (with_user_machine h.user (outcome_of s w h).next w))
     ∙ ap (λ (b : Bool). if b then h.user else w.cursor) turn
 
 -- where user u runs at each turn, no turn goes past u
@@ -200,7 +200,7 @@ none_is_later s w [] u is_u in_turn running = tt
 none_is_later s w (h ∷ hs) u is_u in_turn running =
     turn h.turn refl (none_is_later s (after_one s w h) hs u is_u in_turn.1 running.1)
   where
-    first : next_running w ≡ Some h.user → runs (part u w) ≡ true → (w.cursor ≤ 8 → ahead w.cursor h.user ≤ ahead w.cursor u)
+    first : next_running w ≡ Some h.user → runs (user_machine u w) ≡ true → (w.cursor ≤ 8 → ahead w.cursor h.user ≤ ahead w.cursor u)
     first next set = λ low. next_comes_first w.cursor u h.user (map runs w.parts) low is_u (flag_of w.parts (u - 1) ∙ set) next
 
     turn : (b : Bool) → h.turn ≡ b → NoneIsLater u (after_one s w h).cursor (takers hs)
@@ -242,7 +242,7 @@ granted_in_turn s (suc n) w = first (next_running w) refl (λ h. granted_in_turn
 pub grants_are_in_turn : GrantsAreInTurn
 grants_are_in_turn s w (Err reason) = tt
 grants_are_in_turn s w (Ok (Slices n)) = granted_in_turn s n w
-grants_are_in_turn s w (Ok (Run u)) = run (runs (part u w))
+grants_are_in_turn s w (Ok (Run u)) = run (runs (user_machine u w))
   where
     run : (b : Bool) → AreInTurn s w (if b then slice_of u false ∷ [] else [])
     run true = (λ turn. absurd (false≢true turn), tt)
@@ -258,11 +258,11 @@ events_in_turn s w (Operator line) = grants_are_in_turn s w (operator_parse line
 events_in_turn s w (Of u line) = (λ turn. absurd (false≢true turn), tt)
 
 lines_in_turn : (s : Setup) (w : World) (all : List (List ℕ)) → AreInTurn s w (schedule s w all)
-unfolding after
+unfolding world_after
 lines_in_turn s w [] = tt
 lines_in_turn s w (line ∷ lines) =
-    at_each-append IsTurn s w (events_of s w (kind_of line)) (schedule s (after s w line) lines)
-    (events_in_turn s w (kind_of line)) (lines_in_turn s (after s w line) lines)
+    at_each-append IsTurn s w (events_of s w (kind_of line)) (schedule s (world_after s w line) lines)
+    (events_in_turn s w (kind_of line)) (lines_in_turn s (world_after s w line) lines)
 
 pub scripts_are_in_turn : ScriptsAreInTurn
 scripts_are_in_turn s w script = lines_in_turn s w (pieces script)

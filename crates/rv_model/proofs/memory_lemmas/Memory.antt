@@ -12,7 +12,7 @@ use Rattle.std.proofs.lemmas.Bool.{and_parts, and_from, cases_eq, cases_lt, cond
 use Rattle.rv_model.specs.declared.memory.Access.{Access}
 use Rattle.rv_model.specs.declared.memory.Access.TheVariants.{Monitor}
 use Rattle.rv_model.specs.declared.memory.Permissions.{Permissions}
-use Rattle.rv_model.specs.memory.Memory.{Cell, Memory, permits, byte_at, is_allowed, can_access, bytes_at, put_byte, put_bytes, add_cells, with_pages, page_count, any_page_mapped, map_refusal, is_within, WritesBytes, MapsZeros, MapsPermissions, ReadsBytes, AllowsEachByte}
+use Rattle.rv_model.specs.memory.Memory.{Cell, Memory, permits, can_access, bytes_at, put_byte, put_bytes, add_cells, with_pages, page_count, any_page_mapped, map_refusal, is_within, WritesBytes, MapsZeros, MapsPermissions, ReadsBytes, AllowsEachByte, memory_byte, can_access_byte}
 use Rattle.rv_model.specs.declared.memory.MapRefusal.TheVariants.{Quota, AlreadyMapped}
 use Rattle.rv_model.specs.memory.Sizes.{page_size, page_quota}
 
@@ -86,15 +86,15 @@ unfolding allowed_by
 allowed_by-with_byte access b None = refl
 allowed_by-with_byte access b (Some c) = refl
 
-is_allowed-put_byte : (access : Access) (m : Memory) (a b x : ℕ) → is_allowed access (put_byte m a b) x ≡ is_allowed access m x
-unfolding is_allowed allowed_by
+is_allowed-put_byte : (access : Access) (m : Memory) (a b x : ℕ) → can_access_byte access (put_byte m a b) x ≡ can_access_byte access m x
+unfolding can_access_byte allowed_by
 is_allowed-put_byte access m a b x = elim (cases_eq x a) [
   | inl e ↦ subst (λ (y : ℕ). allowed_by access (get (put_byte m a b) y) ≡ allowed_by access (get m y)) (sym e) (ap (allowed_by access) (get-put_byte_same m a b) ∙ allowed_by-with_byte access b (get m a))
   | inr n ↦ ap (allowed_by access) (get-put_byte_other m a b x n)
 ]
 
 -- permissions stay where bytes are written
-pub is_allowed-put_bytes : (access : Access) (m : Memory) (a : ℕ) (bs : List ℕ) (x : ℕ) → is_allowed access (put_bytes m a bs) x ≡ is_allowed access m x
+pub is_allowed-put_bytes : (access : Access) (m : Memory) (a : ℕ) (bs : List ℕ) (x : ℕ) → can_access_byte access (put_bytes m a bs) x ≡ can_access_byte access m x
 unfolding put_bytes
 is_allowed-put_bytes access m a [] x = refl
 is_allowed-put_bytes access m a (b ∷ bs) x = is_allowed-put_bytes access (put_byte m a b) (a + 1) bs x ∙ is_allowed-put_byte access m a b x
@@ -140,41 +140,41 @@ len-add_cells m a (suc n) f h =
 
 pub length-bytes_at : (m : Memory) (a n : ℕ) → length (bytes_at m a n) ≡ n
 unfolding bytes_at
-length-bytes_at m a n = length-map-range_with_len (byte_at m) a n
+length-bytes_at m a n = length-map-range_with_len (memory_byte m) a n
 
-pub get_or-bytes_at : (m : Memory) (a n k x : ℕ) → k < n → x ≡ a + k → get_or (bytes_at m a n) k 0 ≡ byte_at m x
+pub get_or-bytes_at : (m : Memory) (a n k x : ℕ) → k < n → x ≡ a + k → get_or (bytes_at m a n) k 0 ≡ memory_byte m x
 unfolding bytes_at
-get_or-bytes_at m a n k x h e = get_or-map-range_with_len (byte_at m) a n k x 0 h (sym e)
+get_or-bytes_at m a n k x h e = get_or-map-range_with_len (memory_byte m) a n k x 0 h (sym e)
 
-pub bytes_at_more : (m : Memory) (a n : ℕ) → bytes_at m a (n + 1) ≡ bytes_at m a n ++ byte_at m (a + n) ∷ []
+pub bytes_at_more : (m : Memory) (a n : ℕ) → bytes_at m a (n + 1) ≡ bytes_at m a n ++ memory_byte m (a + n) ∷ []
 unfolding bytes_at
-bytes_at_more m a n = map-range_with_len_more (byte_at m) a n (a + n) refl
+bytes_at_more m a n = map-range_with_len_more (memory_byte m) a n (a + n) refl
 
-pub can_access-at : (access : Access) (m : Memory) (a n k x : ℕ) → can_access access m a n ≡ true → k < n → x ≡ a + k → is_allowed access m x ≡ true
+pub can_access-at : (access : Access) (m : Memory) (a n k x : ℕ) → can_access access m a n ≡ true → k < n → x ≡ a + k → can_access_byte access m x ≡ true
 unfolding can_access
 can_access-at access m a zero k x t h e = absurd (omega arith)
 can_access-at access m a (suc n) zero x t h e =
-    let same : x ≡ a = omega arith in ap (is_allowed access m) same ∙ (and_parts _ _ t).0
+    let same : x ≡ a = omega arith in ap (can_access_byte access m) same ∙ (and_parts _ _ t).0
 can_access-at access m a (suc n) (suc k) x t h e =
-    can_access-at access m (a + 1) n k x (and_parts (is_allowed access m a) _ t).1 (omega arith) (omega arith)
+    can_access-at access m (a + 1) n k x (and_parts (can_access_byte access m a) _ t).1 (omega arith) (omega arith)
 
-pub can_access_from : (access : Access) (m : Memory) (a n : ℕ) → ((k : ℕ) → k < n → is_allowed access m (a + k) ≡ true) → can_access access m a n ≡ true
+pub can_access_from : (access : Access) (m : Memory) (a n : ℕ) → ((k : ℕ) → k < n → can_access_byte access m (a + k) ≡ true) → can_access access m a n ≡ true
 unfolding can_access
 can_access_from access m a zero h = refl
 can_access_from access m a (suc n) h =
     let here : a + 0 ≡ a = omega arith in
-    and_from _ _ (ap (is_allowed access m) (sym here) ∙ h 0 (omega arith))
-    (can_access_from access m (a + 1) n (λ k l. let e : (a + 1) + k ≡ a + suc k = omega arith in ap (is_allowed access m) e ∙ h (suc k) (omega arith)))
+    and_from _ _ (ap (can_access_byte access m) (sym here) ∙ h 0 (omega arith))
+    (can_access_from access m (a + 1) n (λ k l. let e : (a + 1) + k ≡ a + suc k = omega arith in ap (can_access_byte access m) e ∙ h (suc k) (omega arith)))
 
-pub can_access_not : (access : Access) (m : Memory) (a n k x : ℕ) → k < n → x ≡ a + k → is_allowed access m x ≡ false → can_access access m a n ≡ false
+pub can_access_not : (access : Access) (m : Memory) (a n k x : ℕ) → k < n → x ≡ a + k → can_access_byte access m x ≡ false → can_access access m a n ≡ false
 can_access_not access m a n k x h e refused = split (can_access access m a n) refl
   where
     split : (b : Bool) → can_access access m a n ≡ b → can_access access m a n ≡ false
     split true t = absurd (let yes = can_access-at access m a n k x t h e in let bad : true ≡ false = sym yes ∙ refused in cc)
     split false t = t
 
-is_allowed_monitor : (access : Access) (m : Memory) (x : ℕ) → is_allowed access m x ≡ true → is_allowed Monitor m x ≡ true
-unfolding is_allowed
+is_allowed_monitor : (access : Access) (m : Memory) (x : ℕ) → can_access_byte access m x ≡ true → can_access_byte Monitor m x ≡ true
+unfolding can_access_byte
 is_allowed_monitor access m x t = through (get m x) t
   where
     through : (o : Option Cell) → option_map_or (λ c. permits access c.permissions) o false ≡ true → option_map_or (λ c. permits Monitor c.permissions) o false ≡ true
@@ -208,7 +208,7 @@ put_bytes_more m a bs k l =
     ap (put_bytes m a) (take_more bs k 0 l) ∙ put_bytes-append m a (take k bs) (get_or bs k 0 ∷ [])
     ∙ ap (λ (j : ℕ). put_byte (put_bytes m a (take k bs)) (a + j) (get_or bs k 0)) (length-take-le k bs (omega arith))
 
-pub bytes_read : (m : Memory) (a n : ℕ) (bs : List ℕ) → length bs ≡ n → ((j : ℕ) → j < n → get_or bs j 0 ≡ byte_at m (a + j)) → bs ≡ bytes_at m a n
+pub bytes_read : (m : Memory) (a n : ℕ) (bs : List ℕ) → length bs ≡ n → ((j : ℕ) → j < n → get_or bs j 0 ≡ memory_byte m (a + j)) → bs ≡ bytes_at m a n
 bytes_read m a n bs e h =
     ext_get_or 0 bs (bytes_at m a n) (e ∙ sym (length-bytes_at m a n)) (λ j l. let g : j < n = omega arith in h j g ∙ sym (get_or-bytes_at m a n j (a + j) g refl))
 
@@ -320,42 +320,42 @@ places a n x = elim (cases_lt x a) [
 ]
 
 pub writes_bytes : WritesBytes
-unfolding byte_at is_allowed byte_by allowed_by
+unfolding memory_byte can_access_byte byte_by allowed_by
 writes_bytes m a bs x = elim (places a (length bs) x) [
   | inl within ↦
       let k : x - a < length bs = omega (arith, within.0, within.1) in
       let place : x ≡ a + (x - a) = omega (arith, within.0) in
       ap byte_by (get-put_bytes_within m a bs (x - a) x k place) ∙ byte_by-with_byte (get_or bs (x - a) 0) (get m x)
-      ∙ ap (λ (b : Bool). cond (b && is_allowed Monitor m x) (get_or bs (x - a) 0) (byte_at m x)) (sym (is_within_true a (length bs) x within.0 within.1))
+      ∙ ap (λ (b : Bool). cond (b && can_access_byte Monitor m x) (get_or bs (x - a) 0) (memory_byte m x)) (sym (is_within_true a (length bs) x within.0 within.1))
   | inr far ↦
       ap byte_by (get-put_bytes_outside m a bs x far)
-      ∙ ap (λ (b : Bool). cond (b && is_allowed Monitor m x) (get_or bs (x - a) 0) (byte_at m x)) (sym (is_within_false a (length bs) x far))
+      ∙ ap (λ (b : Bool). cond (b && can_access_byte Monitor m x) (get_or bs (x - a) 0) (memory_byte m x)) (sym (is_within_false a (length bs) x far))
 ]
 
 pub maps_zeros : MapsZeros
-unfolding byte_at byte_by with_pages
+unfolding memory_byte byte_by with_pages
 maps_zeros m page count permissions x = elim (places (page_size * page) (page_size * count) x) [
   | inl within ↦
       let k : x - page_size * page < page_size * count = omega (arith, within.0, within.1) in
       let place : x ≡ page_size * page + (x - page_size * page) = omega (arith, within.0) in
       ap byte_by (get-add_cells_within m (page_size * page) (page_size * count) (λ _. record { byte = 0; permissions = permissions }) (x - page_size * page) x k place)
-      ∙ ap (λ (b : Bool). cond b 0 (byte_at m x)) (sym (is_within_true (page_size * page) (page_size * count) x within.0 within.1))
+      ∙ ap (λ (b : Bool). cond b 0 (memory_byte m x)) (sym (is_within_true (page_size * page) (page_size * count) x within.0 within.1))
   | inr far ↦
       ap byte_by (get-add_cells_outside m (page_size * page) (page_size * count) (λ _. record { byte = 0; permissions = permissions }) x far)
-      ∙ ap (λ (b : Bool). cond b 0 (byte_at m x)) (sym (is_within_false (page_size * page) (page_size * count) x far))
+      ∙ ap (λ (b : Bool). cond b 0 (memory_byte m x)) (sym (is_within_false (page_size * page) (page_size * count) x far))
 ]
 
 pub maps_permissions : MapsPermissions
-unfolding is_allowed allowed_by with_pages
+unfolding can_access_byte allowed_by with_pages
 maps_permissions access m page count permissions x = elim (places (page_size * page) (page_size * count) x) [
   | inl within ↦
       let k : x - page_size * page < page_size * count = omega (arith, within.0, within.1) in
       let place : x ≡ page_size * page + (x - page_size * page) = omega (arith, within.0) in
       ap (allowed_by access) (get-add_cells_within m (page_size * page) (page_size * count) (λ _. record { byte = 0; permissions = permissions }) (x - page_size * page) x k place)
-      ∙ ap (λ (b : Bool). cond b (permits access permissions) (is_allowed access m x)) (sym (is_within_true (page_size * page) (page_size * count) x within.0 within.1))
+      ∙ ap (λ (b : Bool). cond b (permits access permissions) (can_access_byte access m x)) (sym (is_within_true (page_size * page) (page_size * count) x within.0 within.1))
   | inr far ↦
       ap (allowed_by access) (get-add_cells_outside m (page_size * page) (page_size * count) (λ _. record { byte = 0; permissions = permissions }) x far)
-      ∙ ap (λ (b : Bool). cond b (permits access permissions) (is_allowed access m x)) (sym (is_within_false (page_size * page) (page_size * count) x far))
+      ∙ ap (λ (b : Bool). cond b (permits access permissions) (can_access_byte access m x)) (sym (is_within_false (page_size * page) (page_size * count) x far))
 ]
 
 pub reads_bytes : ReadsBytes

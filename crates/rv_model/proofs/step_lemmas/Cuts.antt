@@ -1,147 +1,100 @@
--- Where a vector load or store is cut: after as many indices as there are ticks, and never where those are as many as a vector
+-- Where a vector instruction is cut: after as many indices as there are ticks, and never where those are as many as a vector
 -- has elements at most.
-use Rattle.std.proofs.Common.{◌≡◌, ◌≢◌, ℕ, zero, suc, ◌+◌, ◌-◌, ◌<◌, ◌≤◌, Bool, true, false, List, refl, subst, lit≤, arith, Option, Some, None}
-use Rattle.std.specs.Prelude.{cond, min, nat_le, nat_lt, ◌&&◌, ⊤}
-use Rattle.std.proofs.lemmas.Bool.Decides.{nat_tests}
+use Rattle.std.proofs.Common.{◌≡◌, ◌≢◌, ℕ, ◌+◌, ◌-◌, ◌*◌, ◌<◌, ◌≤◌, Bool, Option, Some, None, refl, sym, ◌∙◌, subst, ap, lit≤, arith}
+use Rattle.std.specs.Option.{option_map, option_map_or}
+use Rattle.std.specs.Prelude.{⊤}
 use Rattle.rv_model.specs.declared.instructions.instruction.Instr.{Instr}
-use Rattle.rv_model.specs.declared.instructions.instruction.Instr.TheVariants.{SetVli, VectorArith, VectorCarry, VectorExtend, VectorMove, MaskLogic, MaskToScalar, MaskUnary, ElementIndex, Compress, MoveToScalar, MoveToVector, WholeMove, VectorUnit, VectorStrided, VectorIndexed, WholeLoad, WholeStore, MaskMemory}
+use Rattle.rv_model.specs.declared.instructions.instruction.Instr.TheVariants as instr
+use Rattle.rv_model.specs.declared.instructions.vector.VectorInstr.{VectorInstr}
+use Rattle.rv_model.specs.declared.instructions.vector.VectorInstr.TheVariants.{SetVli, SetIvli, SetVl, Arith, MaskUnary}
+use Rattle.rv_model.specs.declared.instructions.access.AccessInstr.{AccessInstr}
+use Rattle.rv_model.specs.declared.instructions.access.AccessInstr.TheVariants.{UnitStride, Strided, Indexed, WholeLoad, WholeStore, MaskAccess}
 use Rattle.rv_model.specs.declared.instructions.operations.Direction.{Direction}
-use Rattle.rv_model.specs.declared.instructions.operations.Direction.TheVariants as direction
 use Rattle.rv_model.specs.declared.instructions.operations.MaskUnaryOp.{MaskUnaryOp}
 use Rattle.rv_model.specs.declared.instructions.operations.MaskUnaryOp.TheVariants.{Scan, Viota}
 use Rattle.rv_model.specs.declared.instructions.operations.RegisterCount.{RegisterCount}
 use Rattle.rv_model.specs.declared.instructions.operations.RegisterCount.TheVariants.{One, Two, Four, Eight}
-use Rattle.rv_model.specs.declared.instructions.operations.UnitOp.{UnitOp}
-use Rattle.rv_model.specs.declared.instructions.operations.UnitOp.TheVariants as unit
 use Rattle.rv_model.specs.declared.instructions.operations.VectorOp.{VectorOp}
 use Rattle.rv_model.specs.declared.instructions.operations.VectorOp.TheVariants.{Binary}
-use Rattle.rv_model.specs.declared.instructions.operations.Width.{Width}
-use Rattle.rv_model.specs.declared.instructions.operations.Width.TheVariants as width
+use Rattle.rv_model.specs.declared.instructions.operations.Eew.{Eew}
+use Rattle.rv_model.specs.declared.instructions.operations.Eew.TheVariants as width
 use Rattle.rv_model.specs.declared.instructions.source.Source.{Source}
-use Rattle.rv_model.specs.declared.memory.Access.{Access}
-use Rattle.rv_model.specs.declared.memory.Access.TheVariants as access
-use Rattle.rv_model.specs.declared.scalar.Scalar.{Scalar}
 use Rattle.rv_model.specs.declared.step.memory_end.MemEnd.{MemEnd}
 use Rattle.rv_model.specs.declared.step.memory_end.MemEnd.TheVariants as memory_end
+use Rattle.rv_model.specs.declared.step.step_end.StepEnd.TheVariants as step_end
 use Rattle.rv_model.specs.declared.step.vector_end.VEnd.{VEnd}
 use Rattle.rv_model.specs.declared.step.vector_end.VEnd.TheVariants as vector_end
-use Rattle.rv_model.specs.declared.vector.sizes.TheConstants.{GROUP_BYTES}
+use Rattle.rv_model.specs.declared.vector.sizes.TheConstants.{GROUP_BYTES, VLENB}
 use Rattle.rv_model.specs.declared.vector.state.VState.{VState}
 use Rattle.rv_model.specs.declared.vector.types.VType.{VType}
-use Rattle.rv_model.specs.accesses.AccessRuns.{AccessRun, access_run, direction_run, load_ends, load_run, store_ends, store_run, typed_run, unit_run}
-use Rattle.rv_model.specs.accesses.Transfers.{Plan, are_allowed, bad_address, end_at, first_bad, loaded, stop_index, stored, transfers}
-use Rattle.rv_model.specs.accesses.VectorAccess.{VectorAccess, access_type, index_count, place, plan}
+use Rattle.rv_model.specs.declared.scalar.Scalar.{Scalar}
+use Rattle.rv_model.specs.accesses.AccessRuns.{AccessRun}
+use Rattle.rv_model.specs.accesses.VectorAccess.{VectorAccess, access_of, index_count, vector_access, whole_length}
 use Rattle.rv_model.specs.legality.Legality.{is_legal}
-use Rattle.rv_model.specs.memory.Memory.{Memory}
-use Rattle.rv_model.specs.elements.Arithmetic.{GroupType, body_of, fills_masked_off, group_type}
+use Rattle.rv_model.specs.vector.Groups.{register_count}
 use Rattle.rv_model.specs.step.Hart.{HartState}
-use Rattle.rv_model.specs.step.MemoryStep.{access_end, is_load, is_unit_load}
-use Rattle.rv_model.specs.step.VectorStep.{VectorStepped, access_step, arith_step, fields_filled, mask_unary_step, performed, segment_step, typed, vector_executed}
+use Rattle.rv_model.specs.step.MemoryStep.{access_end, load_fills_masked_off}
+use Rattle.rv_model.specs.step.Resumes.{StopsShort}
+use Rattle.rv_model.specs.step.VectorStep.{VectorStepped, access_step, accessed, after_vector, arith_step, mask_unary_step, operation_step, performed, typed, vector_executed, vector_ticks}
+use Rattle.rv_model.proofs.access_lemmas.Runs.{AtStop, CutAt, FaultAt, Facts, run_facts, stop_means}
 use Rattle.rv_model.proofs.text_lemmas.Pieces.{of_either}
 
--- the index at which an access of so many indices is cut, from vstart on: there are more, and no tick is left
-pub record IsCutAt (limit vstart count index : ℕ) : Type 0 where
-  pub at : index ≡ vstart + limit
-  pub more : index < count
+-- ---- no operation on registers is cut, and none faults
 
--- ---- the transfers
+abbrev pub AtOnce : VEnd → Type 0
+AtOnce vector_end.Done = ⊤
+AtOnce vector_end.Illegal = ⊤
+AtOnce (vector_end.Fault store addr) = ⊥
+AtOnce (vector_end.Cut index) = ⊥
 
-first_bad_below : (a : Access) (m : Memory) (each : Plan) (i n : ℕ) → first_bad a m each i n ≤ i + n
-unfolding first_bad
-first_bad_below a m each i zero = omega arith
-first_bad_below a m each i (suc n) =
-    of_either (λ (index : ℕ). index ≤ i + suc n) (are_allowed a m (each i)) (first_bad a m each (i + 1) n) i
-    (omega (arith, first_bad_below a m each (i + 1) n)) (omega arith)
+typed_once : (t : Option VType) (done : VType → HartState → VectorStepped) (s : HartState) → ((u : VType) → AtOnce (done u s).end) → AtOnce (typed t done s).end
+typed_once None done s each = tt
+typed_once (Some u) done s each = each u
 
-pub stop_below : (a : Access) (m : Memory) (each : Plan) (i last n : ℕ) → stop_index a m each i last n ≤ i + (min n last - i)
-unfolding stop_index
-stop_below a m each i last n = first_bad_below a m each i (min n last - i)
+arith_once : (t : VType) (op : VectorOp) (source : Source) (vd vs2 : ℕ) (vm : Bool) (s : HartState) → AtOnce (arith_step t op source vd vs2 vm s).end
+arith_once t (Binary op) source vd vs2 vm s = tt
+arith_once t _ source vd vs2 vm s = tt
 
--- a fact of the index where an access is cut
-abbrev pub MemoryCut : MemEnd → (ℕ → Type 0) → Type 0
-MemoryCut memory_end.Done P = ⊤
-MemoryCut (memory_end.Fault index addr) P = ⊤
-MemoryCut (memory_end.Cut index) P = P index
+mask_unary_once : (t : VType) (op : MaskUnaryOp) (vd vs2 : ℕ) (vm : Bool) (s : HartState) → AtOnce (mask_unary_step t op vd vs2 vm s).end
+mask_unary_once t (Scan op) vd vs2 vm s = tt
+mask_unary_once t Viota vd vs2 vm s = tt
 
-end_cut : (a : Access) (m : Memory) (each : Plan) (start limit count stop : ℕ) → stop ≤ start + (min count (start + limit) - start)
-    → MemoryCut (end_at a m each (start + limit) count stop) (IsCutAt limit start count)
-unfolding end_at
-end_cut a m each start limit count stop h = named (nat_le count stop) (nat_le (start + limit) stop) refl refl
-  where
-    named : (done reached : Bool) → nat_le count stop ≡ done → nat_le (start + limit) stop ≡ reached
-        → MemoryCut (cond done memory_end.Done (cond reached (memory_end.Cut stop) (memory_end.Fault stop (bad_address a m (each stop)))))
-        (IsCutAt limit start count)
-    named true reached e f = tt
-    named false true e f = record { at = grind (arith, nat_tests); more = grind (arith, nat_tests) }
-    named false false e f = tt
+operation_once : (i : VectorInstr) (s : HartState) → AtOnce (operation_step i s).end
+unfolding operation_step
+operation_once (SetVli rd rs1 vtype) s = tt
+operation_once (SetIvli rd avl vtype) s = tt
+operation_once (SetVl rd rs1 rs2) s = tt
+operation_once (Arith arith vd vs2 vm) s = typed_once s.vector.conf.vtype _ s (λ t. arith_once t arith.0 arith.1 vd vs2 vm s)
+operation_once (MaskUnary op vd vs2 vm) s = typed_once s.vector.conf.vtype _ s (λ t. mask_unary_once t op vd vs2 vm s)
+operation_once _ s = typed_once s.vector.conf.vtype _ s (λ t. tt)
 
-load_ends_cut : (first_only : Bool) (v : VState) (m : Memory) (end : MemEnd) (P : ℕ → Type 0) → MemoryCut end P
-    → MemoryCut (load_ends first_only v m end).end P
-load_ends_cut first_only v m memory_end.Done P h = tt
-load_ends_cut first_only v m (memory_end.Fault index addr) P h =
-    of_either (λ (r : AccessRun). MemoryCut r.end P) (first_only && nat_lt 0 index) _ _ tt tt
-load_ends_cut first_only v m (memory_end.Cut index) P h = h
+once_whole : (end : VEnd) → AtOnce end → StopsShort end → ⊥
+once_whole vector_end.Done h stops = stops.undone refl
+once_whole vector_end.Illegal h stops = stops.legal refl
+once_whole (vector_end.Fault store addr) h stops = h
+once_whole (vector_end.Cut index) h stops = h
 
-store_ends_cut : (v : VState) (m : Memory) (end : MemEnd) (P : ℕ → Type 0) → MemoryCut end P
-    → MemoryCut (store_ends v m end).end P
-store_ends_cut v m memory_end.Done P h = tt
-store_ends_cut v m (memory_end.Fault index addr) P h = tt
-store_ends_cut v m (memory_end.Cut index) P h = h
+pub operation_whole : (i : VectorInstr) (s : HartState) → StopsShort (operation_step i s).end → ⊥
+operation_whole i s = once_whole (operation_step i s).end (operation_once i s)
 
-load_cut : (limit : ℕ) (first_only masked_off : Bool) (a : VectorAccess) (v : VState) (m : Memory)
-    → MemoryCut (load_run limit first_only masked_off a v m).end (IsCutAt limit a.body.start a.body.end)
-unfolding load_run
-load_cut limit first_only masked_off a v m =
-    let each : Plan = plan a masked_off in
-    let start : ℕ = a.body.start in
-    let stop : ℕ = stop_index access.Load m each start (start + limit) a.body.end in
-    load_ends_cut first_only (record v { file = loaded m (place a) v.file (transfers each start (stop - start)) }) m _
-    (IsCutAt limit start a.body.end)
-    (end_cut access.Load m each start limit a.body.end stop (stop_below access.Load m each start (start + limit) a.body.end))
+pub cut_short : (end : VEnd) (index : ℕ) → end ≡ vector_end.Cut index → StopsShort end
+cut_short end index e = record { undone = λ q. cc; legal = λ q. cc }
 
-store_cut : (limit : ℕ) (a : VectorAccess) (v : VState) (m : Memory)
-    → MemoryCut (store_run limit a v m).end (IsCutAt limit a.body.start a.body.end)
-unfolding store_run
-store_cut limit a v m =
-    let each : Plan = plan a false in
-    let start : ℕ = a.body.start in
-    let stop : ℕ = stop_index access.Store m each start (start + limit) a.body.end in
-    store_ends_cut v (stored m (place a) v.file (transfers each start (stop - start))) _ (IsCutAt limit start a.body.end)
-    (end_cut access.Store m each start limit a.body.end stop (stop_below access.Store m each start (start + limit) a.body.end))
+-- a step that is cut is one whose instruction is
+pub cut_index : (ticks : ℕ) (end : VEnd) (word : ℕ) (s : HartState) → (after_vector ticks end word s).end ≡ step_end.Cut → (index : ℕ) × (end ≡ vector_end.Cut index)
+cut_index ticks vector_end.Done word s e = absurd (cc)
+cut_index ticks vector_end.Illegal word s e = absurd (cc)
+cut_index ticks (vector_end.Fault store addr) word s e = absurd (cc)
+cut_index ticks (vector_end.Cut index) word s e = (index, refl)
 
--- ---- each load and store
+-- ---- loads and stores
 
-direction_cut : (d : Direction) (limit : ℕ) (masked_off : Bool) (a : VectorAccess) (v : VState) (m : Memory)
-    → MemoryCut (direction_run d limit masked_off a v m).end (IsCutAt limit a.body.start a.body.end)
-direction_cut direction.Load limit masked_off a v m = load_cut limit false masked_off a v m
-direction_cut direction.Store limit masked_off a v m = store_cut limit a v m
-
-unit_cut : (op : UnitOp) (limit : ℕ) (masked_off : Bool) (a : VectorAccess) (v : VState) (m : Memory)
-    → MemoryCut (unit_run op limit masked_off a v m).end (IsCutAt limit a.body.start a.body.end)
-unit_cut unit.Load limit masked_off a v m = load_cut limit false masked_off a v m
-unit_cut unit.FaultOnlyFirst limit masked_off a v m = load_cut limit true masked_off a v m
-unit_cut unit.Store limit masked_off a v m = store_cut limit a v m
-
-typed_run_cut : (t : Option VType) (run : VType → AccessRun) (v : VState) (m : Memory) (P : ℕ → Type 0)
-    → ((u : VType) → MemoryCut (run u).end P) → MemoryCut (typed_run t run v m).end P
-typed_run_cut None run v m P each = tt
-typed_run_cut (Some u) run v m P each = each u
-
-pub access_cut : (limit : ℕ) (masked_off : Bool) (i : Instr) (v : VState) (x : Scalar) (m : Memory)
-    → MemoryCut (access_run limit masked_off i v x m).end (IsCutAt limit v.vstart (index_count i v.conf.vl))
-unfolding access_run
-access_cut limit masked_off (VectorUnit op width nf vd rs1 vm) v x m =
-    typed_run_cut v.conf.vtype _ v m (IsCutAt limit v.vstart v.conf.vl) (λ t. unit_cut op limit masked_off _ v m)
-access_cut limit masked_off (VectorStrided direction width nf vd rs1 rs2 vm) v x m =
-    typed_run_cut v.conf.vtype _ v m (IsCutAt limit v.vstart v.conf.vl) (λ t. direction_cut direction limit masked_off _ v m)
-access_cut limit masked_off (VectorIndexed direction order width nf vd rs1 vs2 vm) v x m =
-    typed_run_cut v.conf.vtype _ v m (IsCutAt limit v.vstart v.conf.vl) (λ t. direction_cut direction limit masked_off _ v m)
-access_cut limit masked_off (WholeLoad count width vd rs1) v x m = load_cut limit false false _ v m
-access_cut limit masked_off (WholeStore count vd rs1) v x m = store_cut limit _ v m
-access_cut limit masked_off (MaskMemory direction vd rs1) v x m = direction_cut direction limit false _ v m
-access_cut limit masked_off _ v x m = tt
-
--- ---- each instruction
+-- one that is cut has come to as many indices as there are ticks, and to no more than it has; there vstart is left
+pub record IsCutAt (limit : ℕ) (i : Instr) (s after : HartState) (index : ℕ) : Type 0 where
+  pub at : index ≡ s.vector.vstart + limit
+  pub more : index < index_count (vector_access i s.vector s.scalar)
+  pub left : after.vector.vstart ≡ index
+  pub ticks : vector_ticks limit i s ≡ limit
 
 -- a fact of the index where a vector instruction is cut
 abbrev VectorCut : VEnd → (ℕ → Type 0) → Type 0
@@ -150,77 +103,53 @@ VectorCut vector_end.Illegal P = ⊤
 VectorCut (vector_end.Fault store addr) P = ⊤
 VectorCut (vector_end.Cut index) P = P index
 
--- where an instruction is cut, from a state on
 abbrev Cuts : ℕ → Instr → HartState → VectorStepped → Type 0
-Cuts limit i s done = VectorCut done.end (IsCutAt limit s.vector.vstart (index_count i s.vector.conf.vl))
+Cuts limit i s d = VectorCut d.end (IsCutAt limit i s d.state)
 
-access_end_cut : (loads : Bool) (end : MemEnd) (P : ℕ → Type 0) → MemoryCut end P → VectorCut (access_end loads end) P
-access_end_cut loads memory_end.Done P h = tt
-access_end_cut true (memory_end.Fault index addr) P h = tt
-access_end_cut false (memory_end.Fault index addr) P h = tt
-access_end_cut loads (memory_end.Cut index) P h = h
+once_uncut : (end : VEnd) (P : ℕ → Type 0) → AtOnce end → VectorCut end P
+once_uncut vector_end.Done P h = tt
+once_uncut vector_end.Illegal P h = tt
+once_uncut (vector_end.Fault store addr) P h = tt
+once_uncut (vector_end.Cut index) P h = absurd h
 
-access_step_cut : (limit : ℕ) (masked_off loads : Bool) (fill : List ℕ → List ℕ) (i : Instr) (s : HartState)
-    → Cuts limit i s (access_step limit masked_off loads fill i s)
-access_step_cut limit masked_off loads fill i s =
-    access_end_cut loads _ (IsCutAt limit s.vector.vstart (index_count i s.vector.conf.vl))
-    (access_cut limit masked_off i s.vector s.scalar s.memory)
+access_end_cut : (d : Direction) (end : MemEnd) (P : ℕ → Type 0) → AtStop end P (λ index. ⊤) → VectorCut (access_end d end) P
+access_end_cut d memory_end.Done P h = tt
+access_end_cut d (memory_end.Fault index addr) P h = tt
+access_end_cut d (memory_end.Cut index) P h = h
 
-segment_cut : (limit : ℕ) (t : VType) (g : GroupType) (loads : Bool) (nf vd : ℕ) (unmasked : Bool) (i : Instr) (s : HartState)
-    → Cuts limit i s (segment_step limit t g loads nf vd unmasked i s)
-segment_cut limit t g true nf vd unmasked i s =
-    access_step_cut limit (fills_masked_off s.policy t (body_of unmasked s.vector)) true (fields_filled t g nf vd unmasked s) i s
-segment_cut limit t g false nf vd unmasked i s = access_step_cut limit false false (λ file. file) i s
+-- the facts of the run that is made in a state
+abbrev pub RunFacts : ℕ → VectorAccess → HartState → Type 0
+RunFacts limit a s = Facts limit s.vector.vstart a.body.end a.direction a.first_only s.vector s.memory (accessed limit a s)
 
-typed_cut : (t : Option VType) (done : VType → HartState → VectorStepped) (s : HartState) (P : ℕ → Type 0)
-    → ((u : VType) → VectorCut (done u s).end P) → VectorCut (typed t done s).end P
-typed_cut None done s P each = tt
-typed_cut (Some u) done s P each = each u
+pub accessed_facts : (limit : ℕ) (i : AccessInstr) (a : VectorAccess) (s : HartState) → access_of i s.vector s.scalar ≡ Some a → RunFacts limit a s
+accessed_facts limit i a s e =
+    run_facts limit (load_fills_masked_off a s) i s.vector s.scalar s.memory a e
 
--- no operation on registers is cut
-arith_cut : (t : VType) (op : VectorOp) (source : Source) (vd vs2 : ℕ) (vm : Bool) (s : HartState) (P : ℕ → Type 0)
-    → VectorCut (arith_step t op source vd vs2 vm s).end P
-arith_cut t (Binary op) source vd vs2 vm s P = tt
-arith_cut t _ source vd vs2 vm s P = tt
-
-mask_unary_cut : (t : VType) (op : MaskUnaryOp) (vd vs2 : ℕ) (vm : Bool) (s : HartState) (P : ℕ → Type 0)
-    → VectorCut (mask_unary_step t op vd vs2 vm s).end P
-mask_unary_cut t (Scan op) vd vs2 vm s P = tt
-mask_unary_cut t Viota vd vs2 vm s P = tt
+access_cut : (limit : ℕ) (i : AccessInstr) (s : HartState) (o : Option VectorAccess) → access_of i s.vector s.scalar ≡ o
+    → Cuts limit (instr.Access i) s (access_step limit i o s)
+access_cut limit i s None e = tt
+access_cut limit i s (Some a) e =
+    let f : RunFacts limit a s = accessed_facts limit i a s e in
+    let run : AccessRun = accessed limit a s in
+    let vstart : ℕ = s.vector.vstart in
+    let after : HartState = (access_step limit i (Some a) s).state in
+    access_end_cut a.direction run.end (IsCutAt limit (instr.Access i) s after)
+    (stop_means run.end (CutAt limit vstart a.body.end s.vector run) (FaultAt limit vstart a.body.end s.vector run)
+    (IsCutAt limit (instr.Access i) s after) (λ index. ⊤) f.stop
+    (λ index at. record {
+      at = at.at;
+      more = subst (λ (o : Option VectorAccess). index < index_count o) (sym e) at.stopped.below;
+      left = at.stopped.vstart;
+      ticks =
+          ap (λ (o : Option VectorAccess). option_map_or (λ a. (accessed limit a s).reached - vstart) o 1) e
+          ∙ omega (arith, at.reached, at.at);
+    })
+    (λ index at. tt))
 
 performed_cut : (limit : ℕ) (i : Instr) (s : HartState) → Cuts limit i s (performed limit i s)
 unfolding performed
-performed_cut limit (SetVli rd rs1 vtype) s = tt
-performed_cut limit (VectorArith arith vd vs2 vm) s =
-    typed_cut s.vector.conf.vtype _ s (IsCutAt limit s.vector.vstart 0)
-    (λ t. arith_cut t arith.0 arith.1 vd vs2 vm s (IsCutAt limit s.vector.vstart 0))
-performed_cut limit (VectorCarry carry vd vs2) s = typed_cut s.vector.conf.vtype _ s (IsCutAt limit s.vector.vstart 0) (λ t. tt)
-performed_cut limit (VectorMove source vd) s = typed_cut s.vector.conf.vtype _ s (IsCutAt limit s.vector.vstart 0) (λ t. tt)
-performed_cut limit (VectorExtend op vd vs2 vm) s = typed_cut s.vector.conf.vtype _ s (IsCutAt limit s.vector.vstart 0) (λ t. tt)
-performed_cut limit (MaskLogic op vd vs1 vs2) s = typed_cut s.vector.conf.vtype _ s (IsCutAt limit s.vector.vstart 0) (λ t. tt)
-performed_cut limit (MaskToScalar op rd vs2 vm) s = typed_cut s.vector.conf.vtype _ s (IsCutAt limit s.vector.vstart 0) (λ t. tt)
-performed_cut limit (MaskUnary op vd vs2 vm) s =
-    typed_cut s.vector.conf.vtype _ s (IsCutAt limit s.vector.vstart 0)
-    (λ t. mask_unary_cut t op vd vs2 vm s (IsCutAt limit s.vector.vstart 0))
-performed_cut limit (ElementIndex vd vm) s = typed_cut s.vector.conf.vtype _ s (IsCutAt limit s.vector.vstart 0) (λ t. tt)
-performed_cut limit (Compress vd vs1 vs2) s = typed_cut s.vector.conf.vtype _ s (IsCutAt limit s.vector.vstart 0) (λ t. tt)
-performed_cut limit (MoveToScalar rd vs2) s = typed_cut s.vector.conf.vtype _ s (IsCutAt limit s.vector.vstart 0) (λ t. tt)
-performed_cut limit (MoveToVector vd rs1) s = typed_cut s.vector.conf.vtype _ s (IsCutAt limit s.vector.vstart 0) (λ t. tt)
-performed_cut limit (WholeMove count vd vs2) s = typed_cut s.vector.conf.vtype _ s (IsCutAt limit s.vector.vstart 0) (λ t. tt)
-performed_cut limit (VectorUnit op width nf vd rs1 vm) s =
-    typed_cut s.vector.conf.vtype _ s (IsCutAt limit s.vector.vstart s.vector.conf.vl)
-    (λ t. segment_cut limit t (access_type t width) (is_unit_load op) nf vd vm (VectorUnit op width nf vd rs1 vm) s)
-performed_cut limit (VectorStrided direction width nf vd rs1 rs2 vm) s =
-    typed_cut s.vector.conf.vtype _ s (IsCutAt limit s.vector.vstart s.vector.conf.vl)
-    (λ t. segment_cut limit t (access_type t width) (is_load direction) nf vd vm (VectorStrided direction width nf vd rs1 rs2 vm) s)
-performed_cut limit (VectorIndexed direction order width nf vd rs1 vs2 vm) s =
-    typed_cut s.vector.conf.vtype _ s (IsCutAt limit s.vector.vstart s.vector.conf.vl)
-    (λ t. segment_cut limit t (group_type t) (is_load direction) nf vd vm (VectorIndexed direction order width nf vd rs1 vs2 vm) s)
-performed_cut limit (WholeLoad count width vd rs1) s = access_step_cut limit false true (λ file. file) (WholeLoad count width vd rs1) s
-performed_cut limit (WholeStore count vd rs1) s = access_step_cut limit false false (λ file. file) (WholeStore count vd rs1) s
-performed_cut limit (MaskMemory direction vd rs1) s =
-    typed_cut s.vector.conf.vtype _ s (IsCutAt limit s.vector.vstart (index_count (MaskMemory direction vd rs1) s.vector.conf.vl))
-    (λ t. access_step_cut limit false (is_load direction) (λ file. file) (MaskMemory direction vd rs1) s)
+performed_cut limit (instr.Vector i) s = once_uncut (operation_step i s).end (IsCutAt limit (instr.Vector i) s (operation_step i s).state) (operation_once i s)
+performed_cut limit (instr.Access i) s = access_cut limit i s (access_of i s.vector s.scalar) refl
 performed_cut limit _ s = tt
 
 executed_cut : (limit : ℕ) (i : Instr) (s : HartState) → Cuts limit i s (vector_executed limit i s)
@@ -229,13 +158,13 @@ executed_cut limit i s = of_either (Cuts limit i s) (is_legal i s.vector.conf.vt
 
 -- a vector instruction is cut after as many indices as there are ticks, and before its last
 pub cut_at : (limit : ℕ) (i : Instr) (s : HartState) (index : ℕ) → (vector_executed limit i s).end ≡ vector_end.Cut index
-    → IsCutAt limit s.vector.vstart (index_count i s.vector.conf.vl) index
+    → IsCutAt limit i s (vector_executed limit i s).state index
 cut_at limit i s index e =
-    subst (λ (end : VEnd). VectorCut end (IsCutAt limit s.vector.vstart (index_count i s.vector.conf.vl))) e (executed_cut limit i s)
+    subst (λ (end : VEnd). VectorCut end (IsCutAt limit i s (vector_executed limit i s).state)) e (executed_cut limit i s)
 
 -- ---- nothing is cut where there are as many ticks as a vector has elements at most
 
-whole_length_below : (count : RegisterCount) (w : Width) → index_count (WholeLoad count w 0 0) 0 ≤ GROUP_BYTES
+whole_length_below : (count : RegisterCount) (w : Eew) → whole_length count w ≤ GROUP_BYTES
 whole_length_below One width.E8 = lit≤ tt
 whole_length_below One width.E16 = lit≤ tt
 whole_length_below One width.E32 = lit≤ tt
@@ -253,25 +182,29 @@ whole_length_below Eight width.E16 = lit≤ tt
 whole_length_below Eight width.E32 = lit≤ tt
 whole_length_below Eight width.E64 = lit≤ tt
 
-whole_bytes_below : (count : RegisterCount) → index_count (WholeStore count 0 0) 0 ≤ GROUP_BYTES
+whole_bytes_below : (count : RegisterCount) → register_count count * VLENB ≤ GROUP_BYTES
 whole_bytes_below One = lit≤ tt
 whole_bytes_below Two = lit≤ tt
 whole_bytes_below Four = lit≤ tt
 whole_bytes_below Eight = lit≤ tt
 
+typed_below : (o : Option VType) (make : VType → VectorAccess) → ((t : VType) → (make t).body.end ≤ GROUP_BYTES) → index_count (option_map make o) ≤ GROUP_BYTES
+typed_below None make each = omega arith
+typed_below (Some t) make each = each t
+
 -- no load or store has more indices than the largest group has bytes
-pub index_count_below : (i : Instr) (vl : ℕ) → vl ≤ GROUP_BYTES → index_count i vl ≤ GROUP_BYTES
-index_count_below (VectorUnit op width nf vd rs1 vm) vl h = h
-index_count_below (VectorStrided direction width nf vd rs1 rs2 vm) vl h = h
-index_count_below (VectorIndexed direction order width nf vd rs1 vs2 vm) vl h = h
-index_count_below (WholeLoad count width vd rs1) vl h = whole_length_below count width
-index_count_below (WholeStore count vd rs1) vl h = whole_bytes_below count
-index_count_below (MaskMemory direction vd rs1) vl h = omega arith
-index_count_below _ vl h = omega arith
+index_count_below : (i : Instr) (v : VState) (x : Scalar) → v.conf.vl ≤ GROUP_BYTES → index_count (vector_access i v x) ≤ GROUP_BYTES
+index_count_below (instr.Access (UnitStride op width nf vd rs1 vm)) v x h = typed_below v.conf.vtype _ (λ t. h)
+index_count_below (instr.Access (Strided direction width nf vd rs1 rs2 vm)) v x h = typed_below v.conf.vtype _ (λ t. h)
+index_count_below (instr.Access (Indexed direction order width nf vd rs1 vs2 vm)) v x h = typed_below v.conf.vtype _ (λ t. h)
+index_count_below (instr.Access (WholeLoad count width vd rs1)) v x h = whole_length_below count width
+index_count_below (instr.Access (WholeStore count vd rs1)) v x h = whole_bytes_below count
+index_count_below (instr.Access (MaskAccess direction vd rs1)) v x h = typed_below v.conf.vtype _ (λ t. omega (arith, h))
+index_count_below _ v x h = omega arith
 
 -- so many ticks are enough for any vector instruction
 pub uncut : (limit : ℕ) (i : Instr) (s : HartState) (index : ℕ) → s.vector.conf.vl ≤ GROUP_BYTES → GROUP_BYTES ≤ limit
     → (vector_executed limit i s).end ≢ vector_end.Cut index
 uncut limit i s index few enough e =
-    let cut : IsCutAt limit s.vector.vstart (index_count i s.vector.conf.vl) index = cut_at limit i s index e in
-    omega (arith, cut.at, cut.more, index_count_below i s.vector.conf.vl few)
+    let cut : IsCutAt limit i s (vector_executed limit i s).state index = cut_at limit i s index e in
+    omega (arith, cut.at, cut.more, index_count_below i s.vector s.scalar few)

@@ -5,7 +5,13 @@ use Rattle.std.specs.Int.{byte_len}
 use Rattle.std.proofs.lemmas.Bool.Decides.{nat_tests}
 use Rattle.rv_model.specs.declared.vector.control_register.ControlRegister.{ControlRegister}
 use Rattle.rv_model.specs.declared.instructions.instruction.Instr.{Instr}
-use Rattle.rv_model.specs.declared.instructions.instruction.Instr.TheVariants.{Upper, Jump, JumpRegister, Branch, Load, Store, RegisterImmediate, ShiftImmediate, ShiftImmediateWord, RegisterRegister, Fence, System, Csr, CsrImmediate, SetVli, SetIvli, SetVl, VectorArith, VectorCarry, VectorExtend, VectorMove, MaskLogic, MaskToScalar, MaskUnary, ElementIndex, Compress, MoveToScalar, MoveToVector, WholeMove, VectorUnit, VectorStrided, VectorIndexed, WholeLoad, WholeStore, MaskMemory}
+use Rattle.rv_model.specs.declared.instructions.instruction.Instr.TheVariants as instr
+use Rattle.rv_model.specs.declared.instructions.scalar.ScalarInstr.TheVariants.{Upper, Jump, JumpRegister, Branch, Load, Store, RegisterImmediate, ShiftImmediate, ShiftImmediateWord, RegisterRegister, Fence, System}
+use Rattle.rv_model.specs.declared.instructions.csr.CsrInstr.TheVariants.{Register, Immediate}
+use Rattle.rv_model.specs.declared.instructions.vector.VectorInstr.{VectorInstr}
+use Rattle.rv_model.specs.declared.instructions.vector.VectorInstr.TheVariants.{SetVli, SetIvli, SetVl, Arith, MaskToScalar, MaskUnary, MoveToScalar}
+use Rattle.rv_model.specs.declared.instructions.access.AccessInstr.{AccessInstr}
+use Rattle.rv_model.specs.declared.instructions.operations.Direction.{Direction}
 use Rattle.rv_model.specs.declared.memory.Access.TheVariants as access
 use Rattle.rv_model.specs.declared.instructions.operations.CsrOp.{CsrOp}
 use Rattle.rv_model.specs.declared.instructions.operations.LoadOp.{LoadOp}
@@ -28,7 +34,7 @@ use Rattle.rv_model.specs.declared.step.vector_end.VEnd.TheVariants as vector_en
 use Rattle.rv_model.specs.declared.vector.types.VType.{VType}
 use Rattle.rv_model.specs.vector.ControlRegisters.{control_register, is_read_only}
 use Rattle.rv_model.specs.scalar.ControlTransfer.{is_aligned, is_taken, jump_target, register_target, branch_target}
-use Rattle.rv_model.specs.step.Hart.{HartState, Stepped, faults, runs_on, gives}
+use Rattle.rv_model.specs.step.Hart.{HartState, Stepped, faults, retires, gives}
 use Rattle.rv_model.specs.step.Effects.{OnFault, FaultsWriteNoRegister, FirstRegisterStays, OutputGrowsWithin, PutsOut}
 use Rattle.rv_model.specs.instructions.Immediates.{i_immediate, s_immediate}
 use Rattle.rv_model.specs.instructions.Table.{scan, table}
@@ -39,14 +45,10 @@ use Rattle.rv_model.specs.scalar.Registers.{read_register, with_register}
 use Rattle.rv_model.specs.step.ScalarStep.{jumps, jump_step, branch_step, load_step, store_step, csr_step, environment_call, system_step}
 use Rattle.rv_model.specs.step.Step.{step, executed, word_at}
 use Rattle.rv_model.specs.vector.Control.{is_write, csr_form, control_value}
-use Rattle.rv_model.specs.step.VectorStep.{VectorStepped, access_step, answers, arith_step, carry_step, element_wise, extend_step, fields_filled, leaves, mask_to_scalar_step, mask_unary_step, mask_wise, move_step, performed, plain_step, segment_step, typed, requested_length, vset_step, vector_ticks, after_vector, vector_executed, vector_step}
-use Rattle.rv_model.specs.accesses.AccessRuns.{access_run}
-use Rattle.rv_model.specs.accesses.VectorAccess.{access_type}
-use Rattle.rv_model.specs.elements.Arithmetic.{GroupType, body_of, fills_masked_off, group_type, index_result, mask_logic_result}
-use Rattle.rv_model.specs.step.MemoryStep.{access_end, is_load, is_unit_load}
-use Rattle.rv_model.specs.elements.PermutationResults.{moved_to_scalar}
-use Rattle.rv_model.specs.step.WriteCall.{call_fails, room, write_call, write_count}
-use Rattle.rv_model.specs.step.PermutationStep.{compressed, moved_to_vector, whole_moved}
+use Rattle.rv_model.specs.step.VectorStep.{VectorStepped, access_step, accessed, after_vector, arith_step, mask_unary_step, operation_step, performed, requested_length, typed, vector_executed, vector_step, vector_ticks, vset_step}
+use Rattle.rv_model.specs.accesses.VectorAccess.{VectorAccess, access_of}
+use Rattle.rv_model.specs.step.MemoryStep.{access_end}
+use Rattle.rv_model.specs.step.WriteCall.{call_fails, output_room, write_call, write_count}
 use Rattle.rv_model.specs.declared.memory.Access.TheVariants.{Fetch}
 use Rattle.rv_model.proofs.memory_lemmas.Memory.{length-bytes_at}
 use Rattle.rv_model.proofs.text_lemmas.Pieces.{of_either}
@@ -78,7 +80,7 @@ either s b x y h k = of_either (λ r. Keeps s r) b x y h k
 faults_keep : (cause : Cause) (value : ℕ) (s : HartState) → Keeps s (faults cause value s)
 faults_keep cause value s = record { fault = refl; first = refl; output = nothing s.output }
 
-runs_keep : (scalar : Scalar) (s s' : HartState) → SameFirst s.scalar scalar → PutsOut s.output s'.output → Keeps s (runs_on scalar s')
+runs_keep : (scalar : Scalar) (s s' : HartState) → SameFirst s.scalar scalar → PutsOut s.output s'.output → Keeps s (retires scalar s')
 runs_keep scalar s s' h puts = record { fault = tt; first = h; output = puts }
 
 jumps_keep : (target : ℕ) (scalar : Scalar) (s : HartState) → SameFirst s.scalar scalar → Keeps s (jumps target scalar s)
@@ -127,7 +129,7 @@ write_keeps s =
     } in
     either s (not (read_register s.scalar 10 == 1)) _ _ (call_fails_keeps 9 s)
     (either s (asked == 0) _ _ (gives_keep 10 0 s s refl (nothing s.output))
-    (either s (room s.output == 0) _ _ (record { fault = tt; first = refl; output = nothing s.output })
+    (either s (output_room s.output == 0) _ _ (record { fault = tt; first = refl; output = nothing s.output })
     (either s (can_access access.Load s.memory addr count) _ _ (gives_keep 10 count s after refl written) (call_fails_keeps 14 s))))
 
 environment_keeps : (s : HartState) → Keeps s (environment_call s)
@@ -182,76 +184,38 @@ same_unless (vector_end.Fault store addr) x = refl
 same_unless (vector_end.Cut index) x = refl
 
 -- none is illegal where it is carried out
-access_is_legal : (loads : Bool) (end : MemEnd) (P : Type 0) → IfIllegal (access_end loads end) P
-access_is_legal loads memory_end.Done P = tt
-access_is_legal true (memory_end.Fault index addr) P = tt
-access_is_legal false (memory_end.Fault index addr) P = tt
-access_is_legal loads (memory_end.Cut index) P = tt
+access_is_legal : (d : Direction) (end : MemEnd) (P : Type 0) → IfIllegal (access_end d end) P
+access_is_legal d memory_end.Done P = tt
+access_is_legal d (memory_end.Fault index addr) P = tt
+access_is_legal d (memory_end.Cut index) P = tt
 
-access_keeps : (limit : ℕ) (masked_off loads : Bool) (fill : List ℕ → List ℕ) (i : Instr) (s : HartState) → VectorKeeps s (access_step limit masked_off loads fill i s)
-access_keeps limit masked_off loads fill i s =
+access_keeps : (limit : ℕ) (i : AccessInstr) (o : Option VectorAccess) (s : HartState) → VectorKeeps s (access_step limit i o s)
+access_keeps limit i None s = record { refused = refl; first = refl; output = refl; illegal = refl }
+access_keeps limit i (Some a) s =
     record {
-      refused = same_unless (access_step limit masked_off loads fill i s).end s.scalar;
+      refused = same_unless (access_step limit i (Some a) s).end s.scalar;
       first = refl;
       output = refl;
-      illegal = access_is_legal loads (access_run limit masked_off i s.vector s.scalar s.memory).end _;
+      illegal = access_is_legal a.direction (accessed limit a s).end _;
     }
 
-segment_keeps : (limit : ℕ) (t : VType) (g : GroupType) (loads : Bool) (nf vd : ℕ) (vm : Bool) (i : Instr) (s : HartState) → VectorKeeps s (segment_step limit t g loads nf vd vm i s)
-segment_keeps limit t g true nf vd vm i s =
-    access_keeps limit (fills_masked_off s.policy t (body_of vm s.vector)) true (fields_filled t g nf vd vm s) i s
-segment_keeps limit t g false nf vd vm i s = access_keeps limit false false (λ file. file) i s
+operation_keeps : (i : VectorInstr) (s : HartState) → VectorKeeps s (operation_step i s)
+unfolding operation_step
+operation_keeps (SetVli rd rs1 vtype) s = vset_keeps rd vtype (requested_length rd rs1 s.scalar) s
+operation_keeps (SetIvli rd avl vtype) s = vset_keeps rd vtype (Elements avl) s
+operation_keeps (SetVl rd rs1 rs2) s = vset_keeps rd (read_register s.scalar rs2) (requested_length rd rs1 s.scalar) s
+operation_keeps (Arith arith vd vs2 vm) s = typed_keeps s.vector.conf.vtype _ s (λ t. arith_keeps t arith.0 arith.1 vd vs2 vm s)
+operation_keeps (MaskUnary op vd vs2 vm) s = typed_keeps s.vector.conf.vtype _ s (λ t. mask_unary_keeps t op vd vs2 vm s)
+operation_keeps (MaskToScalar op rd vs2 vm) s =
+    typed_keeps s.vector.conf.vtype _ s (λ t. record { refused = tt; first = first-with_register rd _ s.scalar; output = refl; illegal = tt })
+operation_keeps (MoveToScalar rd vs2) s =
+    typed_keeps s.vector.conf.vtype _ s (λ t. record { refused = tt; first = first-with_register rd _ s.scalar; output = refl; illegal = tt })
+operation_keeps _ s = typed_keeps s.vector.conf.vtype _ s (λ t. record { refused = tt; first = refl; output = refl; illegal = tt })
 
 performed_keeps : (limit : ℕ) (i : Instr) (s : HartState) → VectorKeeps s (performed limit i s)
 unfolding performed
-performed_keeps limit (SetVli rd rs1 vtype) s = vset_keeps rd vtype (requested_length rd rs1 s.scalar) s
-performed_keeps limit (SetIvli rd avl vtype) s = vset_keeps rd vtype (Elements avl) s
-performed_keeps limit (SetVl rd rs1 rs2) s = vset_keeps rd (read_register s.scalar rs2) (requested_length rd rs1 s.scalar) s
-performed_keeps limit (VectorArith arith vd vs2 vm) s =
-    typed_keeps s.vector.conf.vtype (λ t. arith_step t arith.0 arith.1 vd vs2 vm) s (λ t. arith_keeps t arith.0 arith.1 vd vs2 vm s)
-performed_keeps limit (VectorCarry carry vd vs2) s =
-    typed_keeps s.vector.conf.vtype (λ t. carry_step t carry.0 carry.1 vd vs2) s (λ t. record { refused = tt; first = refl; output = refl; illegal = tt })
-performed_keeps limit (VectorMove source vd) s =
-    typed_keeps s.vector.conf.vtype (λ t. move_step t source vd) s (λ t. record { refused = tt; first = refl; output = refl; illegal = tt })
-performed_keeps limit (VectorExtend op vd vs2 vm) s =
-    typed_keeps s.vector.conf.vtype (λ t. extend_step t op vd vs2 vm) s (λ t. record { refused = tt; first = refl; output = refl; illegal = tt })
-performed_keeps limit (MaskLogic op vd vs1 vs2) s =
-    typed_keeps s.vector.conf.vtype (λ t. mask_wise vd true (mask_logic_result op vs1 vs2 s.vector.file)) s
-    (λ t. record { refused = tt; first = refl; output = refl; illegal = tt })
-performed_keeps limit (MaskToScalar op rd vs2 vm) s =
-    typed_keeps s.vector.conf.vtype (λ t. mask_to_scalar_step op rd vs2 vm) s
-    (λ t. record { refused = tt; first = first-with_register rd _ s.scalar; output = refl; illegal = tt })
-performed_keeps limit (MaskUnary op vd vs2 vm) s =
-    typed_keeps s.vector.conf.vtype (λ t. mask_unary_step t op vd vs2 vm) s (λ t. mask_unary_keeps t op vd vs2 vm s)
-performed_keeps limit (ElementIndex vd vm) s =
-    typed_keeps s.vector.conf.vtype (λ t. element_wise t (group_type t) vd vm (index_result (group_type t))) s
-    (λ t. record { refused = tt; first = refl; output = refl; illegal = tt })
-performed_keeps limit (Compress vd vs1 vs2) s =
-    typed_keeps s.vector.conf.vtype (λ t. leaves (compressed t vd vs1 vs2 s) s.vector.vxsat) s (λ t. record { refused = tt; first = refl; output = refl; illegal = tt })
-performed_keeps limit (MoveToScalar rd vs2) s =
-    typed_keeps s.vector.conf.vtype (λ t. answers rd (moved_to_scalar t vs2 s.vector.file)) s
-    (λ t. record { refused = tt; first = first-with_register rd _ s.scalar; output = refl; illegal = tt })
-performed_keeps limit (MoveToVector vd rs1) s =
-    typed_keeps s.vector.conf.vtype (λ t. leaves (moved_to_vector t vd rs1 s) s.vector.vxsat) s (λ t. record { refused = tt; first = refl; output = refl; illegal = tt })
-performed_keeps limit (WholeMove count vd vs2) s =
-    typed_keeps s.vector.conf.vtype (λ t. leaves (whole_moved t count vd vs2 s) s.vector.vxsat) s (λ t. record { refused = tt; first = refl; output = refl; illegal = tt })
-performed_keeps limit (VectorUnit op width nf vd rs1 vm) s =
-    typed_keeps s.vector.conf.vtype
-    (λ t. segment_step limit t (access_type t width) (is_unit_load op) nf vd vm (VectorUnit op width nf vd rs1 vm)) s
-    (λ t. segment_keeps limit t (access_type t width) (is_unit_load op) nf vd vm (VectorUnit op width nf vd rs1 vm) s)
-performed_keeps limit (VectorStrided direction width nf vd rs1 rs2 vm) s =
-    typed_keeps s.vector.conf.vtype
-    (λ t. segment_step limit t (access_type t width) (is_load direction) nf vd vm (VectorStrided direction width nf vd rs1 rs2 vm)) s
-    (λ t. segment_keeps limit t (access_type t width) (is_load direction) nf vd vm (VectorStrided direction width nf vd rs1 rs2 vm) s)
-performed_keeps limit (VectorIndexed direction order width nf vd rs1 vs2 vm) s =
-    typed_keeps s.vector.conf.vtype
-    (λ t. segment_step limit t (group_type t) (is_load direction) nf vd vm (VectorIndexed direction order width nf vd rs1 vs2 vm)) s
-    (λ t. segment_keeps limit t (group_type t) (is_load direction) nf vd vm (VectorIndexed direction order width nf vd rs1 vs2 vm) s)
-performed_keeps limit (WholeLoad count width vd rs1) s = access_keeps limit false true (λ file. file) (WholeLoad count width vd rs1) s
-performed_keeps limit (WholeStore count vd rs1) s = access_keeps limit false false (λ file. file) (WholeStore count vd rs1) s
-performed_keeps limit (MaskMemory direction vd rs1) s =
-    typed_keeps s.vector.conf.vtype (λ t. plain_step limit (is_load direction) (MaskMemory direction vd rs1)) s
-    (λ t. access_keeps limit false (is_load direction) (λ file. file) (MaskMemory direction vd rs1) s)
+performed_keeps limit (instr.Vector i) s = operation_keeps i s
+performed_keeps limit (instr.Access i) s = access_keeps limit i (access_of i s.vector s.scalar) s
 performed_keeps limit _ s = record { refused = refl; first = refl; output = refl; illegal = refl }
 
 pub vector_keeps : (limit : ℕ) (i : Instr) (s : HartState) → VectorKeeps s (vector_executed limit i s)
@@ -274,27 +238,27 @@ vector_step_keeps : (limit : ℕ) (i : Instr) (word : ℕ) (s : HartState) → K
 vector_step_keeps limit i word s =
     let done : VectorStepped = vector_executed limit i s in
     let kept : VectorKeeps s done = vector_keeps limit i s in
-    after_vector_keeps (vector_ticks limit i s done) done.end word s done.state kept.refused kept.first kept.output
+    after_vector_keeps (vector_ticks limit i s) done.end word s done.state kept.refused kept.first kept.output
 
 executed_keeps : (limit : ℕ) (i : Option Instr) (word : ℕ) (s : HartState) → Keeps s (executed limit i word s)
 unfolding executed
 executed_keeps limit None word s = record { fault = refl; first = refl; output = nothing s.output }
-executed_keeps limit (Some (Upper op rd imm)) word s = gives_keep rd _ s s refl (nothing s.output)
-executed_keeps limit (Some (Jump rd imm)) word s = jump_keeps rd (jump_target s.scalar.pc imm) s
-executed_keeps limit (Some (JumpRegister rd rs1 imm)) word s = jump_keeps rd (register_target (read_register s.scalar rs1) imm) s
-executed_keeps limit (Some (Branch op rs1 rs2 imm)) word s =
+executed_keeps limit (Some (instr.Scalar (Upper op rd imm))) word s = gives_keep rd _ s s refl (nothing s.output)
+executed_keeps limit (Some (instr.Scalar (Jump rd imm))) word s = jump_keeps rd (jump_target s.scalar.pc imm) s
+executed_keeps limit (Some (instr.Scalar (JumpRegister rd rs1 imm))) word s = jump_keeps rd (register_target (read_register s.scalar rs1) imm) s
+executed_keeps limit (Some (instr.Scalar (Branch op rs1 rs2 imm))) word s =
     branch_keeps (is_taken op (read_register s.scalar rs1) (read_register s.scalar rs2)) (branch_target s.scalar.pc imm) s
-executed_keeps limit (Some (Load op rd rs1 imm)) word s = load_keeps op rd (access_address (read_register s.scalar rs1) (i_immediate imm)) s
-executed_keeps limit (Some (Store op rs1 rs2 imm)) word s =
+executed_keeps limit (Some (instr.Scalar (Load op rd rs1 imm))) word s = load_keeps op rd (access_address (read_register s.scalar rs1) (i_immediate imm)) s
+executed_keeps limit (Some (instr.Scalar (Store op rs1 rs2 imm))) word s =
     store_keeps op (access_address (read_register s.scalar rs1) (s_immediate imm)) (read_register s.scalar rs2) s
-executed_keeps limit (Some (RegisterImmediate op rd rs1 imm)) word s = gives_keep rd _ s s refl (nothing s.output)
-executed_keeps limit (Some (ShiftImmediate op rd rs1 shamt)) word s = gives_keep rd _ s s refl (nothing s.output)
-executed_keeps limit (Some (ShiftImmediateWord op rd rs1 shamt)) word s = gives_keep rd _ s s refl (nothing s.output)
-executed_keeps limit (Some (RegisterRegister op rd rs1 rs2)) word s = gives_keep rd _ s s refl (nothing s.output)
-executed_keeps limit (Some (Fence rd rs1 ordering)) word s = runs_keep s.scalar s s refl (nothing s.output)
-executed_keeps limit (Some (System op)) word s = system_keeps op s
-executed_keeps limit (Some (Csr op rd rs1 csr)) word s = csr_keeps (control_register csr) op rd rs1 (read_register s.scalar rs1) word s
-executed_keeps limit (Some (CsrImmediate op rd imm csr)) word s = csr_keeps (control_register csr) (csr_form op) rd imm imm word s
+executed_keeps limit (Some (instr.Scalar (RegisterImmediate op rd rs1 imm))) word s = gives_keep rd _ s s refl (nothing s.output)
+executed_keeps limit (Some (instr.Scalar (ShiftImmediate op rd rs1 shamt))) word s = gives_keep rd _ s s refl (nothing s.output)
+executed_keeps limit (Some (instr.Scalar (ShiftImmediateWord op rd rs1 shamt))) word s = gives_keep rd _ s s refl (nothing s.output)
+executed_keeps limit (Some (instr.Scalar (RegisterRegister op rd rs1 rs2))) word s = gives_keep rd _ s s refl (nothing s.output)
+executed_keeps limit (Some (instr.Scalar (Fence rd rs1 ordering))) word s = runs_keep s.scalar s s refl (nothing s.output)
+executed_keeps limit (Some (instr.Scalar (System op))) word s = system_keeps op s
+executed_keeps limit (Some (instr.Csr (Register op rd rs1 csr))) word s = csr_keeps (control_register csr) op rd rs1 (read_register s.scalar rs1) word s
+executed_keeps limit (Some (instr.Csr (Immediate op rd imm csr))) word s = csr_keeps (control_register csr) (csr_form op) rd imm imm word s
 executed_keeps limit (Some i) word s = vector_step_keeps limit i word s
 
 step_keeps : (limit : ℕ) (s : HartState) → Keeps s (step limit s)

@@ -4,7 +4,9 @@ use Rattle.std.specs.Prelude.{not}
 use Rattle.std.specs.FinMap.{get}
 use Rattle.std.specs.Int.{byte_len, from_le_bytes, w32}
 use Rattle.rv_model.specs.declared.instructions.instruction.Instr.{Instr}
-use Rattle.rv_model.specs.declared.instructions.instruction.Instr.TheVariants.{Upper, Jump, JumpRegister, Branch, Load, Store, RegisterImmediate, ShiftImmediate, ShiftImmediateWord, RegisterRegister, Fence, System, Csr, CsrImmediate}
+use Rattle.rv_model.specs.declared.instructions.instruction.Instr.TheVariants as instr
+use Rattle.rv_model.specs.declared.instructions.scalar.ScalarInstr.TheVariants.{Upper, Jump, JumpRegister, Branch, Load, Store, RegisterImmediate, ShiftImmediate, ShiftImmediateWord, RegisterRegister, Fence, System}
+use Rattle.rv_model.specs.declared.instructions.csr.CsrInstr.TheVariants.{Register, Immediate}
 use Rattle.rv_model.specs.declared.instructions.operations.CsrOp.{CsrOp}
 use Rattle.rv_model.specs.declared.instructions.operations.SystemOp.{SystemOp}
 use Rattle.rv_model.specs.declared.instructions.operations.SystemOp.TheVariants as system
@@ -30,15 +32,15 @@ use Rattle.rv_model.specs.step.Resumes.{CutStepLeavesOff, FetchedStepResumes, Is
 use Rattle.rv_model.specs.step.ScalarStep.{branch_step, csr_step, environment_call, jumps, system_step}
 use Rattle.rv_model.specs.step.Step.{executed, fetched, step, touches, word_at}
 use Rattle.rv_model.specs.step.VectorStep.{VectorStepped, after_vector, vector_executed, vector_step, vector_ticks}
-use Rattle.rv_model.specs.step.WriteCall.{room, write_call, write_count}
+use Rattle.rv_model.specs.step.WriteCall.{output_room, write_call, write_count}
 use Rattle.rv_model.specs.vector.Configuration.{IsConfiguration}
 use Rattle.rv_model.specs.vector.Control.{csr_form, is_write}
 use Rattle.rv_model.specs.vector.ControlRegisters.{control_register, is_read_only}
 use Rattle.rv_model.proofs.access_lemmas.Growth.{allowed_by_get, byte_by_get, bytes_at_extends, can_access_extends, overlay_extends, overlay_grown}
 use Rattle.rv_model.proofs.legality_lemmas.Bounds.{configuration_below}
-use Rattle.rv_model.proofs.step_lemmas.Cuts.{uncut}
+use Rattle.rv_model.proofs.step_lemmas.Cuts.{cut_index, cut_short, uncut}
 use Rattle.rv_model.proofs.step_lemmas.Effects.{IfIllegal, vector_keeps}
-use Rattle.rv_model.proofs.step_lemmas.StepsResume.{after_short, cut_index, cut_short, instruction_leaves_off, instruction_stops, part_keeps_word, step_resumes}
+use Rattle.rv_model.proofs.step_lemmas.StepsResume.{after_short, instruction_leaves_off, instruction_stops, part_keeps_word, step_resumes}
 use Rattle.rv_model.proofs.step_lemmas.StoredWords.{SameWord}
 use Rattle.rv_model.proofs.text_lemmas.Pieces.{of_either}
 
@@ -69,7 +71,7 @@ write_whole s =
     let readable : Bool = can_access access.Load s.memory (read_register s.scalar 11) (write_count asked s.output) in
     either s (not (read_register s.scalar 10 == 1)) _ _ (λ u. absurd u)
     (either s (asked == 0) _ _ (λ u. absurd u)
-    (either s (room s.output == 0) _ _ (λ u. absurd u) (either s readable _ _ (λ u. absurd u) (λ u. absurd u))))
+    (either s (output_room s.output == 0) _ _ (λ u. absurd u) (either s readable _ _ (λ u. absurd u) (λ u. absurd u))))
 
 system_whole : (op : SystemOp) (s : HartState) → AllOrNothing s (system_step op s)
 unfolding environment_call
@@ -88,27 +90,27 @@ record IsVectorStep (o : Option Instr) (word : ℕ) : Type 0 where
 vector_or_whole : (limit : ℕ) (o : Option Instr) (word : ℕ) (s : HartState) → (AllOrNothing s (executed limit o word s)) ⊎ IsVectorStep o word
 unfolding executed
 vector_or_whole limit None word s = inl (λ u. (refl, λ e. cc))
-vector_or_whole limit (Some (Upper op rd imm)) word s = inl (λ u. absurd u)
-vector_or_whole limit (Some (Jump rd imm)) word s =
+vector_or_whole limit (Some (instr.Scalar (Upper op rd imm))) word s = inl (λ u. absurd u)
+vector_or_whole limit (Some (instr.Scalar (Jump rd imm))) word s =
     inl (jumps_whole (jump_target s.scalar.pc imm) (with_register rd ((s.scalar.pc + 4) % 2 ^ 64) s.scalar) s)
-vector_or_whole limit (Some (JumpRegister rd rs1 imm)) word s =
+vector_or_whole limit (Some (instr.Scalar (JumpRegister rd rs1 imm))) word s =
     inl (jumps_whole (register_target (read_register s.scalar rs1) imm) (with_register rd ((s.scalar.pc + 4) % 2 ^ 64) s.scalar) s)
-vector_or_whole limit (Some (Branch op rs1 rs2 imm)) word s =
+vector_or_whole limit (Some (instr.Scalar (Branch op rs1 rs2 imm))) word s =
     inl (branch_whole (is_taken op (read_register s.scalar rs1) (read_register s.scalar rs2)) (branch_target s.scalar.pc imm) s)
-vector_or_whole limit (Some (Load op rd rs1 imm)) word s =
+vector_or_whole limit (Some (instr.Scalar (Load op rd rs1 imm))) word s =
     inl (either s (can_access access.Load s.memory (access_address (read_register s.scalar rs1) (i_immediate imm)) (byte_len (load_width op))) _ _
     (λ u. absurd u) (λ u. (refl, λ e. cc)))
-vector_or_whole limit (Some (Store op rs1 rs2 imm)) word s =
+vector_or_whole limit (Some (instr.Scalar (Store op rs1 rs2 imm))) word s =
     inl (either s (can_access access.Store s.memory (access_address (read_register s.scalar rs1) (s_immediate imm)) (byte_len (store_width op))) _ _
     (λ u. absurd u) (λ u. (refl, λ e. cc)))
-vector_or_whole limit (Some (RegisterImmediate op rd rs1 imm)) word s = inl (λ u. absurd u)
-vector_or_whole limit (Some (ShiftImmediate op rd rs1 shamt)) word s = inl (λ u. absurd u)
-vector_or_whole limit (Some (ShiftImmediateWord op rd rs1 shamt)) word s = inl (λ u. absurd u)
-vector_or_whole limit (Some (RegisterRegister op rd rs1 rs2)) word s = inl (λ u. absurd u)
-vector_or_whole limit (Some (Fence rd rs1 ordering)) word s = inl (λ u. absurd u)
-vector_or_whole limit (Some (System op)) word s = inl (system_whole op s)
-vector_or_whole limit (Some (Csr op rd rs1 csr)) word s = inl (csr_whole (control_register csr) op rd rs1 (read_register s.scalar rs1) word s)
-vector_or_whole limit (Some (CsrImmediate op rd imm csr)) word s = inl (csr_whole (control_register csr) (csr_form op) rd imm imm word s)
+vector_or_whole limit (Some (instr.Scalar (RegisterImmediate op rd rs1 imm))) word s = inl (λ u. absurd u)
+vector_or_whole limit (Some (instr.Scalar (ShiftImmediate op rd rs1 shamt))) word s = inl (λ u. absurd u)
+vector_or_whole limit (Some (instr.Scalar (ShiftImmediateWord op rd rs1 shamt))) word s = inl (λ u. absurd u)
+vector_or_whole limit (Some (instr.Scalar (RegisterRegister op rd rs1 rs2))) word s = inl (λ u. absurd u)
+vector_or_whole limit (Some (instr.Scalar (Fence rd rs1 ordering))) word s = inl (λ u. absurd u)
+vector_or_whole limit (Some (instr.Scalar (System op))) word s = inl (system_whole op s)
+vector_or_whole limit (Some (instr.Csr (Register op rd rs1 csr))) word s = inl (csr_whole (control_register csr) op rd rs1 (read_register s.scalar rs1) word s)
+vector_or_whole limit (Some (instr.Csr (Immediate op rd imm csr))) word s = inl (csr_whole (control_register csr) (csr_form op) rd imm imm word s)
 vector_or_whole limit (Some i) word s = inr (record { instr = i; is = refl; touching = refl; same = λ n w. refl })
 
 -- ---- the word that is fetched
@@ -199,7 +201,7 @@ module _ (limit later : ℕ) (s : HartState) (more : Memory) (is : IsConfigurati
       let i : Instr = v.instr in
       let d : VectorStepped = vector_executed limit i s in
       let left : HartState = (vector_step limit i word s).state in
-      let leaves_part : left ≡ d.state = after_short (vector_ticks limit i s d) d.end word d.state stops in
+      let leaves_part : left ≡ d.state = after_short (vector_ticks limit i s) d.end word d.state stops in
       let scalar : left.scalar ≡ s.scalar =
       ap (λ (w : HartState). w.scalar) leaves_part ∙ ap (λ (w : HartState). w.scalar) (instruction_stops limit i s is stops).rest in
       let same : SameWord s.scalar.pc s.memory left.memory =
@@ -220,7 +222,7 @@ module _ (limit later : ℕ) (s : HartState) (more : Memory) (is : IsConfigurati
       → ResumesFrom later s more (vector_step limit v.instr word s).state
   vector_resumes word f v undone keeps grown =
       let d : VectorStepped = vector_executed limit v.instr s in
-      elim (short_or_same (vector_ticks limit v.instr s d) word d s (vector_keeps limit v.instr s).illegal undone) [
+      elim (short_or_same (vector_ticks limit v.instr s) word d s (vector_keeps limit v.instr s).illegal undone) [
         | inl stops ↦ short_resumes word f v stops keeps grown
         | inr same ↦ unchanged_resumes later s more (vector_step limit v.instr word s).state same grown
       ]
@@ -306,7 +308,7 @@ cut_step limit s cut = elim (told limit s) [
   | inr t ↦
       let word : ℕ = word_at s.memory s.scalar.pc in
       let d : VectorStepped = vector_executed limit t.vector.instr s in
-      let at = cut_index (vector_ticks limit t.vector.instr s d) d.end word d.state (ap (λ (r : Stepped). r.end) (sym (t.same limit)) ∙ cut) in
+      let at = cut_index (vector_ticks limit t.vector.instr s) d.end word d.state (ap (λ (r : Stepped). r.end) (sym (t.same limit)) ∙ cut) in
       record { vector = t; index = at.0; end = at.1 }
 ]
 
@@ -319,7 +321,7 @@ cut_leaves_off limit s is cut =
     let d : VectorStepped = vector_executed limit i s in
     let off = instruction_leaves_off limit i s c.index (is c.vector.touching) c.end in
     ap (λ (r : Stepped). r.state.vector.vstart) (c.vector.same limit)
-    ∙ ap (λ (w : HartState). w.vector.vstart) (after_short (vector_ticks limit i s d) d.end word d.state (cut_short d.end c.index c.end))
+    ∙ ap (λ (w : HartState). w.vector.vstart) (after_short (vector_ticks limit i s) d.end word d.state (cut_short d.end c.index c.end))
     ∙ off.1 ∙ off.0
 
 pub cut_step_leaves_off : CutStepLeavesOff

@@ -4,9 +4,10 @@ use Rattle.std.specs.FinMap.{get}
 use Rattle.std.specs.Option.{option_or}
 use Rattle.std.proofs.lemmas.Bool.{cases_lt}
 use Rattle.rv_model.specs.declared.instructions.instruction.Instr.{Instr}
+use Rattle.rv_model.specs.declared.scalar.Scalar.{Scalar}
 use Rattle.rv_model.specs.declared.step.step_end.StepEnd.TheVariants.{Cut}
 use Rattle.rv_model.specs.accesses.Restarts.{Extends, NextRun, overlay, with_new}
-use Rattle.rv_model.specs.accesses.VectorAccess.{index_count}
+use Rattle.rv_model.specs.accesses.VectorAccess.{index_count, vector_access}
 use Rattle.rv_model.specs.memory.Memory.{Cell, Memory}
 use Rattle.rv_model.specs.step.Hart.{HartState, Stepped}
 use Rattle.rv_model.specs.step.Repeats.{IsUncutEnd, LastInstructionIsWhole, LastStepIsWhole}
@@ -15,12 +16,13 @@ use Rattle.rv_model.specs.step.Step.{step}
 use Rattle.rv_model.specs.step.VectorStep.{VectorStepped, vector_executed}
 use Rattle.rv_model.specs.vector.Configuration.{IsConfiguration}
 use Rattle.rv_model.proofs.access_lemmas.Growth.{get-overlay, overlay_extends}
+use Rattle.rv_model.proofs.access_lemmas.Runs.{count_stays}
 use Rattle.rv_model.proofs.memory_lemmas.Memory.{same_memory}
 use Rattle.rv_model.proofs.step_lemmas.Configurations.{step_keeps_configuration}
 use Rattle.rv_model.proofs.step_lemmas.Cuts.{IsCutAt, cut_at}
 use Rattle.rv_model.proofs.step_lemmas.FetchesResume.{fetched_step_resumes, step_uncut}
 use Rattle.rv_model.proofs.step_lemmas.StepTicks.{uncut_step_is_same}
-use Rattle.rv_model.proofs.step_lemmas.StepsResume.{instruction_resumes, instruction_stops}
+use Rattle.rv_model.proofs.step_lemmas.StepsResume.{configuration_stays, instruction_resumes, instruction_stops}
 use Rattle.rv_model.proofs.step_lemmas.Ticks.{executed_same}
 
 -- ---- what is new in several memories
@@ -48,9 +50,9 @@ new_extends m (next ∷ rest) = λ x c e. new_extends (overlay m next.memory) re
 
 -- ---- one vector instruction
 
-enough_uncut : (whole : ℕ) (i : Instr) (s : HartState) → index_count i s.vector.conf.vl ≤ whole → IsUncutEnd (vector_executed whole i s).end
+enough_uncut : (whole : ℕ) (i : Instr) (s : HartState) → index_count (vector_access i s.vector s.scalar) ≤ whole → IsUncutEnd (vector_executed whole i s).end
 enough_uncut whole i s enough index e =
-    let cut : IsCutAt whole s.vector.vstart (index_count i s.vector.conf.vl) index = cut_at whole i s index e in
+    let cut : IsCutAt whole i s (vector_executed whole i s).state index = cut_at whole i s index e in
     omega (arith, cut.at, cut.more, enough)
 
 -- all limits that cut nothing give the same
@@ -68,8 +70,11 @@ last_instruction_is_whole limit whole i s (next ∷ rest) is again uncut enough 
     let r : VectorStepped = vector_executed limit i s in
     let found : HartState = finds next.memory r.state in
     let left : LeavesPart i s r.state = instruction_stops limit i s is again.0 in
-    let length : index_count i r.state.vector.conf.vl ≤ whole = omega (arith, enough, ap (λ c. index_count i c.vl) left.vector.conf) in
-    let later = last_instruction_is_whole next.limit whole i found rest (subst (λ c. IsConfiguration c) (sym left.vector.conf) is) again.1.1 uncut length in
+    let conf : r.state.vector.conf ≡ s.vector.conf = configuration_stays limit i s is again.0 in
+    let scalar : r.state.scalar ≡ s.scalar = ap (λ (w : HartState). w.scalar) left.rest in
+    let count : index_count (vector_access i r.state.vector r.state.scalar) ≡ index_count (vector_access i s.vector s.scalar) =
+    ap (λ (x : Scalar). index_count (vector_access i r.state.vector x)) scalar ∙ count_stays i s.vector r.state.vector s.scalar conf in
+    let later = last_instruction_is_whole next.limit whole i found rest (subst (λ c. IsConfiguration c) (sym conf) is) again.1.1 uncut (omega (arith, enough, count)) in
     let all : Memory = with_new next.memory rest in
     let grown : Extends r.state.memory all = λ x c e. new_extends next.memory rest x c (again.1.0 x c e) in
     let done : ℕ = r.state.vector.vstart - s.vector.vstart in

@@ -4,7 +4,9 @@ use Rattle.std.specs.Int.{byte_len}
 use Rattle.std.specs.Prelude.{not}
 use Rattle.std.proofs.lemmas.Bool.{false≢true}
 use Rattle.rv_model.specs.declared.instructions.instruction.Instr.{Instr}
-use Rattle.rv_model.specs.declared.instructions.instruction.Instr.TheVariants.{Upper, Jump, JumpRegister, Branch, Load, Store, RegisterImmediate, ShiftImmediate, ShiftImmediateWord, RegisterRegister, Fence, System, Csr, CsrImmediate}
+use Rattle.rv_model.specs.declared.instructions.instruction.Instr.TheVariants as instr
+use Rattle.rv_model.specs.declared.instructions.scalar.ScalarInstr.TheVariants.{Upper, Jump, JumpRegister, Branch, Load, Store, RegisterImmediate, ShiftImmediate, ShiftImmediateWord, RegisterRegister, Fence, System}
+use Rattle.rv_model.specs.declared.instructions.csr.CsrInstr.TheVariants.{Register, Immediate}
 use Rattle.rv_model.specs.declared.instructions.operations.CsrOp.{CsrOp}
 use Rattle.rv_model.specs.declared.instructions.operations.SystemOp.{SystemOp}
 use Rattle.rv_model.specs.declared.instructions.operations.SystemOp.TheVariants as system
@@ -21,15 +23,13 @@ use Rattle.rv_model.specs.scalar.LoadsAndStores.{access_address, load_width, sto
 use Rattle.rv_model.specs.scalar.Registers.{read_register, with_register}
 use Rattle.rv_model.specs.step.Hart.{HartState, Stepped, faults}
 use Rattle.rv_model.specs.step.ScalarStep.{csr_step, environment_call, jumps, system_step}
-use Rattle.rv_model.specs.step.OneTick.{ScalarStepsTakeOneTick, is_scalar}
 use Rattle.rv_model.specs.step.Step.{executed, fetched, step, word_at}
-use Rattle.rv_model.specs.step.StepTicks.{CutStepTakesAllTicks, StepTakesTicks, UncutStepIsSame}
+use Rattle.rv_model.specs.step.StepTicks.{CutStepTakesAllTicks, ScalarStepsTakeOneTick, StepTakesTicks, UncutStepIsSame, is_scalar}
 use Rattle.rv_model.specs.step.VectorStep.{vector_step}
-use Rattle.rv_model.specs.step.WriteCall.{room, write_call, write_count}
+use Rattle.rv_model.specs.step.WriteCall.{output_room, write_call, write_count}
 use Rattle.rv_model.specs.vector.Control.{csr_form, is_write}
 use Rattle.rv_model.specs.vector.ControlRegisters.{control_register, is_read_only}
-use Rattle.rv_model.proofs.step_lemmas.TickBounds.{ticks_are_within}
-use Rattle.rv_model.proofs.step_lemmas.Ticks.{cut_takes_all_ticks, more_ticks_are_same}
+use Rattle.rv_model.proofs.step_lemmas.Ticks.{cut_takes_all_ticks, more_ticks_are_same, ticks_are_within}
 use Rattle.rv_model.proofs.text_lemmas.Pieces.{of_either}
 
 -- ---- what isn't a vector instruction takes one tick, and isn't cut
@@ -57,7 +57,7 @@ write_at_once s =
     let readable : Bool = can_access access.Load s.memory (read_register s.scalar 11) (write_count asked s.output) in
     either (not (read_register s.scalar 10 == 1)) _ _ (record { ticks = refl; uncut = λ e. cc })
     (either (asked == 0) _ _ (record { ticks = refl; uncut = λ e. cc })
-    (either (room s.output == 0) _ _ (record { ticks = refl; uncut = λ e. cc })
+    (either (output_room s.output == 0) _ _ (record { ticks = refl; uncut = λ e. cc })
     (either readable _ _ (record { ticks = refl; uncut = λ e. cc }) (record { ticks = refl; uncut = λ e. cc }))))
 
 system_at_once : (op : SystemOp) (s : HartState) → AtOnce (system_step op s)
@@ -95,32 +95,32 @@ vector_timed i word s = record {
 executed_timed : (o : Option Instr) (word : ℕ) (s : HartState) → IsTimed (is_scalar o) (λ limit. executed limit o word s) s.scalar
 unfolding executed
 executed_timed None word s = at_once_timed _ s.scalar (record { ticks = refl; uncut = λ e. cc })
-executed_timed (Some (Upper op rd imm)) word s = at_once_timed _ s.scalar (record { ticks = refl; uncut = λ e. cc })
-executed_timed (Some (Jump rd imm)) word s =
+executed_timed (Some (instr.Scalar (Upper op rd imm))) word s = at_once_timed _ s.scalar (record { ticks = refl; uncut = λ e. cc })
+executed_timed (Some (instr.Scalar (Jump rd imm))) word s =
     at_once_timed _ s.scalar (jumps_at_once (jump_target s.scalar.pc imm) (with_register rd ((s.scalar.pc + 4) % 2 ^ 64) s.scalar) s)
-executed_timed (Some (JumpRegister rd rs1 imm)) word s =
+executed_timed (Some (instr.Scalar (JumpRegister rd rs1 imm))) word s =
     at_once_timed _ s.scalar (jumps_at_once (register_target (read_register s.scalar rs1) imm) (with_register rd ((s.scalar.pc + 4) % 2 ^ 64) s.scalar) s)
-executed_timed (Some (Branch op rs1 rs2 imm)) word s =
+executed_timed (Some (instr.Scalar (Branch op rs1 rs2 imm))) word s =
     at_once_timed _ s.scalar
     (either (is_taken op (read_register s.scalar rs1) (read_register s.scalar rs2)) _ _ (jumps_at_once (branch_target s.scalar.pc imm) s.scalar s)
     (record { ticks = refl; uncut = λ e. cc }))
-executed_timed (Some (Load op rd rs1 imm)) word s =
+executed_timed (Some (instr.Scalar (Load op rd rs1 imm))) word s =
     at_once_timed _ s.scalar
     (either (can_access access.Load s.memory (access_address (read_register s.scalar rs1) (i_immediate imm)) (byte_len (load_width op))) _ _
     (record { ticks = refl; uncut = λ e. cc }) (record { ticks = refl; uncut = λ e. cc }))
-executed_timed (Some (Store op rs1 rs2 imm)) word s =
+executed_timed (Some (instr.Scalar (Store op rs1 rs2 imm))) word s =
     at_once_timed _ s.scalar
     (either (can_access access.Store s.memory (access_address (read_register s.scalar rs1) (s_immediate imm)) (byte_len (store_width op))) _ _
     (record { ticks = refl; uncut = λ e. cc }) (record { ticks = refl; uncut = λ e. cc }))
-executed_timed (Some (RegisterImmediate op rd rs1 imm)) word s = at_once_timed _ s.scalar (record { ticks = refl; uncut = λ e. cc })
-executed_timed (Some (ShiftImmediate op rd rs1 shamt)) word s = at_once_timed _ s.scalar (record { ticks = refl; uncut = λ e. cc })
-executed_timed (Some (ShiftImmediateWord op rd rs1 shamt)) word s = at_once_timed _ s.scalar (record { ticks = refl; uncut = λ e. cc })
-executed_timed (Some (RegisterRegister op rd rs1 rs2)) word s = at_once_timed _ s.scalar (record { ticks = refl; uncut = λ e. cc })
-executed_timed (Some (Fence rd rs1 ordering)) word s = at_once_timed _ s.scalar (record { ticks = refl; uncut = λ e. cc })
-executed_timed (Some (System op)) word s = at_once_timed _ s.scalar (system_at_once op s)
-executed_timed (Some (Csr op rd rs1 csr)) word s =
+executed_timed (Some (instr.Scalar (RegisterImmediate op rd rs1 imm))) word s = at_once_timed _ s.scalar (record { ticks = refl; uncut = λ e. cc })
+executed_timed (Some (instr.Scalar (ShiftImmediate op rd rs1 shamt))) word s = at_once_timed _ s.scalar (record { ticks = refl; uncut = λ e. cc })
+executed_timed (Some (instr.Scalar (ShiftImmediateWord op rd rs1 shamt))) word s = at_once_timed _ s.scalar (record { ticks = refl; uncut = λ e. cc })
+executed_timed (Some (instr.Scalar (RegisterRegister op rd rs1 rs2))) word s = at_once_timed _ s.scalar (record { ticks = refl; uncut = λ e. cc })
+executed_timed (Some (instr.Scalar (Fence rd rs1 ordering))) word s = at_once_timed _ s.scalar (record { ticks = refl; uncut = λ e. cc })
+executed_timed (Some (instr.Scalar (System op))) word s = at_once_timed _ s.scalar (system_at_once op s)
+executed_timed (Some (instr.Csr (Register op rd rs1 csr))) word s =
     at_once_timed _ s.scalar (csr_at_once (control_register csr) op rd rs1 (read_register s.scalar rs1) word s)
-executed_timed (Some (CsrImmediate op rd imm csr)) word s = at_once_timed _ s.scalar (csr_at_once (control_register csr) (csr_form op) rd imm imm word s)
+executed_timed (Some (instr.Csr (Immediate op rd imm csr))) word s = at_once_timed _ s.scalar (csr_at_once (control_register csr) (csr_form op) rd imm imm word s)
 executed_timed (Some i) word s = vector_timed i word s
 
 step_timed : (s : HartState) → IsTimed (is_scalar (fetched s.memory s.scalar.pc)) (λ limit. step limit s) s.scalar

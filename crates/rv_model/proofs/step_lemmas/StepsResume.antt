@@ -1,78 +1,58 @@
 -- Each vector instruction that is cut or faults, run again.
-use Rattle.std.proofs.Common.{◌≡◌, ◌≢◌, ℕ, ◌+◌, ◌-◌, ◌≤◌, Bool, true, false, ◌&&◌, cond, List, max, Option, Some, None, refl, sym, ◌∙◌, ap, subst, arith}
-use Rattle.std.specs.Prelude.{nat_lt}
+use Rattle.std.proofs.Common.{◌≡◌, ◌≢◌, ℕ, ◌+◌, ◌-◌, ◌≤◌, Bool, true, false, ◌&&◌, cond, List, Option, Some, None, refl, sym, ◌∙◌, ap, subst, arith}
+use Rattle.std.specs.Option.{option_and_then, option_map_or}
+use Rattle.std.specs.Prelude.{IfSome, IsSomeAnd, nat_lt}
 use Rattle.std.proofs.lemmas.Bool.{lt-ltb}
 use Rattle.rv_model.specs.declared.instructions.instruction.Instr.{Instr}
-use Rattle.rv_model.specs.declared.instructions.instruction.Instr.TheVariants.{SetVli, SetIvli, SetVl, VectorArith, VectorCarry, VectorExtend, VectorMove, MaskLogic, MaskToScalar, MaskUnary, ElementIndex, Compress, MoveToScalar, MoveToVector, WholeMove, VectorUnit, VectorStrided, VectorIndexed, WholeLoad, WholeStore, MaskMemory}
-use Rattle.rv_model.specs.declared.instructions.operations.MaskUnaryOp.{MaskUnaryOp}
-use Rattle.rv_model.specs.declared.instructions.operations.MaskUnaryOp.TheVariants.{Scan, Viota}
-use Rattle.rv_model.specs.declared.instructions.operations.VectorOp.{VectorOp}
-use Rattle.rv_model.specs.declared.instructions.operations.VectorOp.TheVariants.{Binary}
-use Rattle.rv_model.specs.declared.instructions.source.Source.{Source}
+use Rattle.rv_model.specs.declared.instructions.instruction.Instr.TheVariants as instr
+use Rattle.rv_model.specs.declared.instructions.access.AccessInstr.{AccessInstr}
+use Rattle.rv_model.specs.declared.instructions.operations.Direction.{Direction}
 use Rattle.rv_model.specs.declared.step.memory_end.MemEnd.{MemEnd}
 use Rattle.rv_model.specs.declared.step.memory_end.MemEnd.TheVariants as memory_end
-use Rattle.rv_model.specs.declared.step.step_end.StepEnd.TheVariants as step_end
 use Rattle.rv_model.specs.declared.step.vector_end.VEnd.{VEnd}
 use Rattle.rv_model.specs.declared.step.vector_end.VEnd.TheVariants as vector_end
-use Rattle.rv_model.specs.declared.vector.policy.Policy.{Policy}
 use Rattle.rv_model.specs.declared.vector.state.VState.{VState}
 use Rattle.rv_model.specs.declared.vector.types.VType.{VType}
 use Rattle.rv_model.specs.accesses.AccessRuns.{AccessRun, access_run}
 use Rattle.rv_model.specs.accesses.Restarts.{Extends, IsStopped, overlay}
-use Rattle.rv_model.specs.accesses.VectorAccess.{access_type, index_count}
-use Rattle.rv_model.specs.elements.Arithmetic.{GroupType, body_of, fills_masked_off, group_type, index_result, is_ones, mask_logic_result}
-use Rattle.rv_model.specs.elements.PermutationResults.{moved_to_scalar}
-use Rattle.rv_model.specs.step.PermutationStep.{compressed, moved_to_vector, whole_moved}
+use Rattle.rv_model.specs.accesses.VectorAccess.{VectorAccess, access_of}
+use Rattle.rv_model.specs.elements.Arithmetic.{is_ones}
+use Rattle.rv_model.specs.vector.Configuration.{GroupType, IsConfiguration}
 use Rattle.rv_model.specs.legality.Legality.{IsLegal, is_legal}
 use Rattle.rv_model.specs.memory.Memory.{Memory}
 use Rattle.rv_model.specs.step.Hart.{HartState}
-use Rattle.rv_model.specs.step.MemoryStep.{access_end, after_access, is_load, is_unit_load, tails_filled, with_tail}
-use Rattle.rv_model.specs.step.Resumes.{CutStepResumes, KeepsWord, InstructionLeavesOff, InstructionResumes, InstructionStops, LeavesPart, StepResumes, StopsShort, after_ticks, finds, store_access}
-use Rattle.rv_model.specs.step.VectorStep.{VectorStepped, access_step, access_ticks, after_vector, answers, arith_step, carry_step, element_wise, extend_step, fields_filled, is_fault_only_first, leaves, mask_to_scalar_step, mask_unary_step, mask_wise, move_step, performed, plain_step, segment_step, typed, vector_ends, vector_executed, vector_step, vector_ticks}
-use Rattle.rv_model.specs.vector.Configuration.{IsConfiguration}
-use Rattle.rv_model.proofs.access_lemmas.InstructionsResume.{access_resumes, stops_within}
+use Rattle.rv_model.specs.step.MemoryStep.{access_end, after_access, filled_type, load_fills_masked_off, reads_memory, tail_type, with_tails}
+use Rattle.rv_model.specs.step.Resumes.{CutStepResumes, InstructionLeavesOff, InstructionResumes, InstructionStops, KeepsOwnWord, KeepsWord, LeavesPart, StepResumes, StopsShort, after_ticks, finds}
+use Rattle.rv_model.specs.step.VectorStep.{VectorStepped, access_step, accessed, after_vector, performed, vector_ends, vector_executed, vector_step, vector_ticks}
+use Rattle.rv_model.specs.vector.Registers.{register_of}
+use Rattle.rv_model.proofs.access_lemmas.InstructionsResume.{access_resumes}
+use Rattle.rv_model.proofs.access_lemmas.Runs.{IsAgain, access_again, again_of, is_stopped, made_of, run_facts, run_is, stopped_state}
 use Rattle.rv_model.proofs.legality_lemmas.Meaning.{is_legal_means}
-use Rattle.rv_model.proofs.step_lemmas.Cuts.{IsCutAt, MemoryCut, cut_at}
-use Rattle.rv_model.proofs.step_lemmas.Lengths.{access_leaves}
-use Rattle.rv_model.proofs.step_lemmas.StoredWords.{SameWord, access_keeps_word}
+use Rattle.rv_model.proofs.step_lemmas.Cuts.{accessed_facts, cut_at, cut_index, cut_short, operation_whole}
+use Rattle.rv_model.proofs.step_lemmas.StoredWords.{SameWord, run_keeps_word}
 
 -- ---- an access that stops leaves its tail
 
-kept_file : (end : MemEnd) (fill : List ℕ → List ℕ) (file : List ℕ) → end ≢ memory_end.Done → with_tail end fill file ≡ file
-kept_file memory_end.Done fill file h = absurd (h refl)
-kept_file (memory_end.Fault index addr) fill file h = refl
-kept_file (memory_end.Cut index) fill file h = refl
+kept_file : (g : Option GroupType) (a : VectorAccess) (end : MemEnd) (file : List ℕ) → end ≢ memory_end.Done → with_tails g a end file ≡ file
+kept_file None a end file h = refl
+kept_file (Some g) a memory_end.Done file h = absurd (h refl)
+kept_file (Some g) a (memory_end.Fault index addr) file h = refl
+kept_file (Some g) a (memory_end.Cut index) file h = refl
 
-unless_done : (loads : Bool) (end : MemEnd) → StopsShort (access_end loads end) → end ≢ memory_end.Done
-unless_done loads end h e = h.undone (ap (access_end loads) e)
+tails_alike : (g : Option GroupType) (a : VectorAccess) (mask : List ℕ) (start : ℕ) (address : ℕ → ℕ) (end : MemEnd) (file : List ℕ)
+    → with_tails g (access_again a mask start address) end file ≡ with_tails g a end file
+tails_alike None a mask start address end file = refl
+tails_alike (Some g) a mask start address memory_end.Done file = refl
+tails_alike (Some g) a mask start address (memory_end.Fault index addr) file = refl
+tails_alike (Some g) a mask start address (memory_end.Cut index) file = refl
 
--- what is true of an access from a state on, whatever that is: it isn't illegal, and shortens no length to before vstart
-record GoesOn (before : VState) (d : VectorStepped) : Type 0 where
-  legal : d.end ≢ vector_end.Illegal
-  length : before.vstart ≤ before.conf.vl → before.vstart ≤ d.state.vector.conf.vl
+unless_done : (d : Direction) (end : MemEnd) → StopsShort (access_end d end) → end ≢ memory_end.Done
+unless_done d end h e = h.undone (ap (access_end d) e)
 
-not_illegal : (loads : Bool) (end : MemEnd) → access_end loads end ≢ vector_end.Illegal
-not_illegal loads memory_end.Done e = absurd (cc)
-not_illegal true (memory_end.Fault index addr) e = absurd (cc)
-not_illegal false (memory_end.Fault index addr) e = absurd (cc)
-not_illegal loads (memory_end.Cut index) e = absurd (cc)
-
-access_goes_on : (n : ℕ) (masked_off loads : Bool) (fill : List ℕ → List ℕ) (i : Instr) (w : HartState) → GoesOn w.vector (access_step n masked_off loads fill i w)
-access_goes_on n masked_off loads fill i w = record {
-  legal = not_illegal loads (access_run n masked_off i w.vector w.scalar w.memory).end;
-  length = (access_leaves n masked_off i w.vector w.scalar w.memory).length;
-}
-
--- where an access is cut, there vstart is left
-abbrev VectorCutAt : VectorStepped → Type 0
-VectorCutAt d = (index : ℕ) → d.end ≡ vector_end.Cut index → d.state.vector.vstart ≡ index
-
-end_cut : (loads : Bool) (end : MemEnd) (vstart : ℕ) → MemoryCut end (λ index. vstart ≡ index) → (index : ℕ) → access_end loads end ≡ vector_end.Cut index → vstart ≡ index
-end_cut loads memory_end.Done vstart at index e = absurd (cc)
-end_cut true (memory_end.Fault stop addr) vstart at index e = absurd (cc)
-end_cut false (memory_end.Fault stop addr) vstart at index e = absurd (cc)
-end_cut true (memory_end.Cut stop) vstart at index e = at ∙ (let same : vector_end.Cut stop ≡ vector_end.Cut index = e in cc)
-end_cut false (memory_end.Cut stop) vstart at index e = at ∙ (let same : vector_end.Cut stop ≡ vector_end.Cut index = e in cc)
+not_illegal : (d : Direction) (end : MemEnd) → access_end d end ≢ vector_end.Illegal
+not_illegal d memory_end.Done e = absurd (cc)
+not_illegal d (memory_end.Fault index addr) e = absurd (cc)
+not_illegal d (memory_end.Cut index) e = absurd (cc)
 
 -- ---- an instruction that does something, by the ticks that are left and the state
 
@@ -84,171 +64,188 @@ abbrev IsLegalAnywhere : Instr → Type 0
 IsLegalAnywhere i = (t : Option VType) (from to : ℕ) → is_legal i t from ≡ is_legal i t to
 
 module _ (limit later : ℕ) (s : HartState) (more : Memory) where
+  -- as many indices as a state says are done, and so many more
+  abbrev in_all : HartState → ℕ
+  in_all part = part.vector.vstart - s.vector.vstart + later
+
   -- it stops, and is run again
   record IsPart (i : Instr) (does : Does) : Type 0 where
     left : LeavesPart i s (does limit s).state
+    conf : (does limit s).state.vector.conf ≡ s.vector.conf
     anywhere : IsLegalAnywhere i
-    cut : VectorCutAt (does limit s)
-    word : KeepsWord s.scalar.pc (does limit s).state.vector.vstart (store_access i s.vector s.scalar) → SameWord s.scalar.pc s.memory (does limit s).state.memory
-    again : GoesOn (does limit s).state.vector (does later (finds more (does limit s).state))
-    same : does later (finds more (does limit s).state) ≡ does ((does limit s).state.vector.vstart - s.vector.vstart + later) (finds (overlay s.memory more) s)
+    word : KeepsOwnWord (does limit s).state.vector.vstart (Some i) s → SameWord s.scalar.pc s.memory (does limit s).state.memory
+    legal : (does later (finds more (does limit s).state)).end ≢ vector_end.Illegal
+    same : does later (finds more (does limit s).state) ≡ does (in_all (does limit s).state) (finds (overlay s.memory more) s)
+    ticks : vector_ticks (in_all (does limit s).state) i (finds (overlay s.memory more) s)
+        ≡ vector_ticks later i (finds more (does limit s).state) + ((does limit s).state.vector.vstart - s.vector.vstart)
 
   abbrev Part : Instr → Does → Type 0
   Part i does = StopsShort (does limit s).end → Extends (does limit s).state.memory more → IsPart i does
 
-  -- what is done with the tail is the same from any of the indices on
-  abbrev FillsTheSame : Instr → (HartState → List ℕ → List ℕ) → Type 0
-  FillsTheSame i fill = (v : VState) → IsStopped i s.vector v → fill (record s { vector = v; memory = more }) ≡ fill (finds (overlay s.memory more) s)
+  -- ---- a load or store, by its access
 
-  access_part : (masked_off : Policy → Bool) (loads : Bool) (fill : HartState → List ℕ → List ℕ) (i : Instr)
-      → IsLegal i s.vector.conf.vtype s.vector.vstart → IsConfiguration s.vector.conf → IsLegalAnywhere i → FillsTheSame i fill
-      → Part i (λ n w. access_step n (masked_off w.policy) loads (fill w) i w)
-  access_part masked_off loads fill i legal is anywhere fills stops grown =
-      let fill_masked_off : Bool = masked_off s.policy in
-      let run : AccessRun = access_run limit fill_masked_off i s.vector s.scalar s.memory in
-      let ended : run.end ≢ memory_end.Done = unless_done loads run.end stops in
-      let vector : record run.vector { file = with_tail run.end (fill s) run.vector.file } ≡ run.vector =
-      ap (λ (f : List ℕ). record run.vector { file = f }) (kept_file run.end (fill s) run.vector.file ended) in
-      let stopped : IsStopped i s.vector run.vector = stops_within i limit fill_masked_off s.vector s.scalar s.memory legal is ended in
-      let found : HartState = finds (overlay s.memory more) s in
-      record {
-        left = record { vector = subst (λ (v : VState). IsStopped i s.vector v) (sym vector) stopped; rest = refl };
-        anywhere = anywhere;
-        word = access_keeps_word limit fill_masked_off i s.vector s.scalar s.memory s.scalar.pc ended;
-        cut = end_cut loads run.end run.vector.vstart (access_leaves limit fill_masked_off i s.vector s.scalar s.memory).cut;
-        again = access_goes_on later fill_masked_off loads (fill (finds more (access_step limit fill_masked_off loads (fill s) i s).state)) i
-            (finds more (access_step limit fill_masked_off loads (fill s) i s).state);
-        same =
-            ap (λ (v : VState). access_step later fill_masked_off loads (fill (record s { vector = v; memory = more })) i (record s { vector = v; memory = more })) vector
-            ∙ ap (λ (f : List ℕ → List ℕ). access_step later fill_masked_off loads f i (record s { vector = run.vector; memory = more })) (fills run.vector stopped)
-            ∙ ap (λ (r : AccessRun). vector_ends (access_end loads r.end) (after_access (fill found) r s))
-            (access_resumes i limit later fill_masked_off s.vector s.scalar s.memory more legal is ended grown);
+  module _ (i : AccessInstr) (a : VectorAccess) (e : access_of i s.vector s.scalar ≡ Some a)
+      (legal : IsLegal (instr.Access i) s.vector.conf.vtype s.vector.vstart) (is : IsConfiguration s.vector.conf) where
+    -- the run, and the state that it leaves
+    abbrev run : AccessRun
+    run = accessed limit a s
+
+    abbrev part : HartState
+    part = (access_step limit i (Some a) s).state
+
+    -- the vector state at which it stopped, and the whole of it
+    abbrev stopped_at : VState
+    stopped_at = record s.vector { file = run.vector.file; vstart = run.vector.vstart }
+
+    abbrev found : HartState
+    found = finds (overlay s.memory more) s
+
+    abbrev fill : Bool
+    fill = load_fills_masked_off a s
+
+    module _ (stops : StopsShort (access_end a.direction run.end)) (grown : Extends run.memory more) where
+      ended : run.end ≢ memory_end.Done
+      ended = unless_done a.direction run.end stops
+
+      stopped : IsStopped a s.vector run.vector
+      stopped = is_stopped limit a s.vector s.memory run (accessed_facts limit i a s e) ended
+
+      file : part.vector.file ≡ run.vector.file
+      file = kept_file (filled_type i a s) a run.end run.vector.file ended
+
+      vector : part.vector ≡ stopped_at
+      vector = ap (λ (f : List ℕ). record run.vector { file = f }) file ∙ stopped_state a s.vector run.vector stopped
+
+      again : IsAgain i s.vector s.scalar a run.vector.file run.vector.vstart
+      again = again_of i s.vector s.scalar a run.vector.file run.vector.vstart e
+
+      abbrev next : VectorAccess
+      next = access_again a (register_of run.vector.file 0) run.vector.vstart again.address
+
+      -- the run that goes on is the whole one
+      resumed : accessed later next (record s { vector = stopped_at; memory = more }) ≡ accessed (in_all part) a found
+      resumed =
+          let x = s.scalar in
+          let whole : access_run limit fill i s.vector x s.memory ≡ run = run_is limit fill i s.vector x s.memory a e in
+          let law =
+          access_resumes i limit later fill s.vector x s.memory more legal is
+          (subst (λ (r : AccessRun). r.end ≢ memory_end.Done) (sym whole) ended)
+          (subst (λ (r : AccessRun). Extends r.memory more) (sym whole) grown) in
+          sym (run_is later fill i stopped_at x more next again.is)
+          ∙ ap (λ (v : VState). access_run later fill i v x more)
+          (sym (stopped_state a s.vector run.vector stopped) ∙ ap (λ (r : AccessRun). r.vector) (sym whole))
+          ∙ law
+          ∙ ap (λ (r : AccessRun). access_run (r.vector.vstart - s.vector.vstart + later) fill i s.vector x (overlay s.memory more)) whole
+          ∙ run_is (in_all part) fill i s.vector x (overlay s.memory more) a e
+
+      -- the tails are the same ones
+      tails : filled_type i next s ≡ filled_type i a s
+      tails =
+          let some_left : nat_lt run.vector.vstart a.body.end ≡ true = lt-ltb run.vector.vstart a.body.end stopped.below in
+          let some : nat_lt a.body.start a.body.end ≡ true =
+          lt-ltb a.body.start a.body.end (omega (arith, begins, stopped.from, stopped.below)) in
+          ap (λ (b : Bool). option_and_then (λ (t : VType). cond (reads_memory a.direction && (is_ones s.policy && (t.tail_agnostic && b))) (tail_type i t) None) s.vector.conf.vtype)
+          (some_left ∙ sym some)
+        where
+          begins : a.body.start ≡ s.vector.vstart
+          begins = (made_of i s.vector s.scalar a e).begins
+
+      -- the state from which it goes on has the access
+      accessed_again : access_of i part.vector s.scalar ≡ Some next
+      accessed_again = ap (λ (v : VState). access_of i v s.scalar) vector ∙ again.is
+
+      -- what a load or store leaves, by its run
+      abbrev ending : Option GroupType → AccessRun → VectorStepped
+      ending g r = vector_ends (access_end a.direction r.end) (after_access g a r s)
+
+      step_next : access_step later i (Some next) (record s { vector = stopped_at; memory = more })
+          ≡ ending (filled_type i next s) (accessed later next (record s { vector = stopped_at; memory = more }))
+      step_next =
+          let r : AccessRun = accessed later next (record s { vector = stopped_at; memory = more }) in
+          ap (λ (f : List ℕ). vector_ends (access_end a.direction r.end) (record s { vector = record r.vector { file = f }; memory = r.memory }))
+          (tails_alike (filled_type i next s) a (register_of run.vector.file 0) run.vector.vstart again.address r.end r.vector.file)
+
+      step_again : access_step later i (access_of i part.vector s.scalar) (finds more part) ≡ access_step (in_all part) i (Some a) found
+      step_again =
+          ap (λ (v : VState). access_step later i (access_of i v s.scalar) (record s { vector = v; memory = more })) vector
+          ∙ ap (λ (o : Option VectorAccess). access_step later i o (record s { vector = stopped_at; memory = more })) again.is
+          ∙ step_next
+          ∙ ap (λ (g : Option GroupType). ending g (accessed later next (record s { vector = stopped_at; memory = more }))) tails
+          ∙ ap (ending (filled_type i a s)) resumed
+
+      ticks_again : vector_ticks (in_all part) (instr.Access i) found
+          ≡ vector_ticks later (instr.Access i) (finds more part) + (part.vector.vstart - s.vector.vstart)
+      ticks_again =
+          let r : AccessRun = accessed later next (record s { vector = stopped_at; memory = more }) in
+          let reached : (accessed (in_all part) a found).reached ≡ r.reached = ap (λ (r : AccessRun). r.reached) (sym resumed) in
+          let past : run.vector.vstart ≤ r.reached = (run_facts later fill i stopped_at s.scalar more next again.is).from in
+          let here : vector_ticks (in_all part) (instr.Access i) found ≡ (accessed (in_all part) a found).reached - s.vector.vstart =
+          ap (λ (o : Option VectorAccess). option_map_or (λ a. (accessed (in_all part) a found).reached - s.vector.vstart) o 1) e in
+          let there : vector_ticks later (instr.Access i) (finds more part) ≡ r.reached - run.vector.vstart =
+          ap (λ (v : VState). vector_ticks later (instr.Access i) (record s { vector = v; memory = more })) vector
+          ∙ ap (λ (o : Option VectorAccess). option_map_or (λ b. (accessed later b (record s { vector = stopped_at; memory = more })).reached - run.vector.vstart) o 1) again.is in
+          here ∙ omega (arith, reached, past, there, stopped.from)
+
+      word_kept : IfSome (access_of i s.vector s.scalar) (KeepsWord s.scalar.pc run.vector.vstart) → SameWord s.scalar.pc s.memory run.memory
+      word_kept h =
+          run_keeps_word a.direction limit fill a s.vector s.memory s.scalar.pc ended
+          (subst (λ (o : Option VectorAccess). IfSome o (KeepsWord s.scalar.pc run.vector.vstart)) e h)
+
+      leaves_part : LeavesPart (instr.Access i) s part
+      leaves_part = record {
+        vector = subst (λ (o : Option VectorAccess). IsSomeAnd o (λ a. IsStopped a s.vector part.vector)) (sym e)
+            (record {
+              from = stopped.from;
+              below = stopped.below;
+              conf = stopped.conf;
+              rounding = stopped.rounding;
+              saturation = stopped.saturation;
+              registers = λ store. file ∙ stopped.registers store;
+            });
+        rest = refl;
       }
 
-  tail_same : (t : VType) (g : GroupType) (nf vd : ℕ) (vm : Bool) (i : Instr) → index_count i s.vector.conf.vl ≡ s.vector.conf.vl
-      → FillsTheSame i (fields_filled t g nf vd vm)
-  tail_same t g nf vd vm i counts v stopped =
-      let filled : Bool → ℕ → List ℕ → List ℕ =
-      λ some vl file. cond (is_ones s.policy && (t.tail_agnostic && some)) (tails_filled g vd (nf + 1) vl file) file in
-      let length : v.conf.vl ≡ s.vector.conf.vl = ap (λ c. c.vl) stopped.conf in
-      let some_left : nat_lt v.vstart v.conf.vl ≡ true = lt-ltb v.vstart v.conf.vl (omega (arith, stopped.below, counts, length)) in
-      let some : nat_lt s.vector.vstart s.vector.conf.vl ≡ true =
-      lt-ltb s.vector.vstart s.vector.conf.vl (omega (arith, stopped.from, stopped.below, counts)) in
-      ap (λ (b : Bool). filled b v.conf.vl) (some_left ∙ sym some)
-      ∙ ap (λ (n : ℕ). filled (nat_lt s.vector.vstart s.vector.conf.vl) n) length
-
-  segment_part : (t : VType) (g : GroupType) (loads : Bool) (nf vd : ℕ) (vm : Bool) (i : Instr)
-      → IsLegal i s.vector.conf.vtype s.vector.vstart → IsConfiguration s.vector.conf → IsLegalAnywhere i
-      → index_count i s.vector.conf.vl ≡ s.vector.conf.vl
-      → Part i (λ n w. segment_step n t g loads nf vd vm i w)
-  segment_part t g true nf vd vm i legal is anywhere counts =
-      access_part (λ p. fills_masked_off p t (body_of vm s.vector)) true (fields_filled t g nf vd vm) i legal is anywhere (tail_same t g nf vd vm i counts)
-  segment_part t g false nf vd vm i legal is anywhere counts =
-      access_part (λ p. false) false (λ w file. file) i legal is anywhere (λ v stopped. refl)
-
-  plain_part : (loads : Bool) (i : Instr) → IsLegal i s.vector.conf.vtype s.vector.vstart → IsConfiguration s.vector.conf → IsLegalAnywhere i
-      → Part i (λ n w. plain_step n loads i w)
-  plain_part loads i legal is anywhere = access_part (λ p. false) loads (λ w file. file) i legal is anywhere (λ v stopped. refl)
-
-  -- ---- those that need a vector type
-
-  typed_part : (i : Instr) (does : VType → Does) → ((t : VType) → Part i (does t)) → Part i (λ n w. typed w.vector.conf.vtype (λ t. does t n) w)
-  typed_part i does each stops grown = named s.vector.conf.vtype refl
+  access_part : (i : AccessInstr) → IsLegal (instr.Access i) s.vector.conf.vtype s.vector.vstart → IsConfiguration s.vector.conf → IsLegalAnywhere (instr.Access i)
+      → Part (instr.Access i) (λ n w. access_step n i (access_of i w.vector w.scalar) w)
+  access_part i legal is anywhere stops grown = named (access_of i s.vector s.scalar) refl
     where
-      under : Does
-      under n w = typed w.vector.conf.vtype (λ t. does t n) w
+      does : Does
+      does n w = access_step n i (access_of i w.vector w.scalar) w
 
-      named : (o : Option VType) → s.vector.conf.vtype ≡ o → IsPart i under
-      named None e = absurd (stops.legal (ap (λ (o : Option VType). (typed o (λ t. does t limit) s).end) e))
-      named (Some t) e =
-          let at : (n : ℕ) (w : HartState) → w.vector.conf ≡ s.vector.conf → under n w ≡ does t n w =
-          λ n w c. ap (λ (o : Option VType). typed o (λ t. does t n) w) (ap (λ c. c.vtype) c ∙ e) in
-          let here : under limit s ≡ does t limit s = at limit s refl in
-          let r : IsPart i (does t) =
-          each t (subst (λ (d : VectorStepped). StopsShort d.end) here stops) (subst (λ (d : VectorStepped). Extends d.state.memory more) here grown) in
+      named : (o : Option VectorAccess) → access_of i s.vector s.scalar ≡ o → IsPart (instr.Access i) does
+      named None e = absurd (stops.legal (ap (λ (o : Option VectorAccess). (access_step limit i o s).end) e))
+      named (Some a) e =
+          let here : does limit s ≡ access_step limit i (Some a) s = ap (λ (o : Option VectorAccess). access_step limit i o s) e in
+          let stops_here : StopsShort (access_step limit i (Some a) s).end = subst (λ (d : VectorStepped). StopsShort d.end) here stops in
+          let grown_here : Extends (access_step limit i (Some a) s).state.memory more = subst (λ (d : VectorStepped). Extends d.state.memory more) here grown in
+          let w : HartState = (access_step limit i (Some a) s).state in
+          let again = step_again i a e legal is stops_here grown_here in
+          let whole : does later (finds more w) ≡ does (in_all w) (finds (overlay s.memory more) s) =
+          again ∙ ap (λ (o : Option VectorAccess). access_step (in_all w) i o (finds (overlay s.memory more) s)) (sym e) in
           record {
-            left = subst (λ (d : VectorStepped). LeavesPart i s d.state) (sym here) r.left;
-            anywhere = r.anywhere;
-            cut = subst (λ (d : VectorStepped). VectorCutAt d) (sym here) r.cut;
+            left = subst (λ (d : VectorStepped). LeavesPart (instr.Access i) s d.state) (sym here) (leaves_part i a e legal is stops_here grown_here);
+            conf = ap (λ (d : VectorStepped). d.state.vector.conf) here ∙ (stopped i a e legal is stops_here grown_here).conf;
+            anywhere = anywhere;
             word =
-                subst (λ (d : VectorStepped). KeepsWord s.scalar.pc d.state.vector.vstart (store_access i s.vector s.scalar)
-                → SameWord s.scalar.pc s.memory d.state.memory) (sym here) r.word;
-            again =
-                subst (λ (d : VectorStepped). GoesOn d.state.vector (under later (finds more d.state))) (sym here)
-                (subst (λ (d : VectorStepped). GoesOn (does t limit s).state.vector d) (sym (at later (finds more (does t limit s).state) r.left.vector.conf)) r.again);
-            same =
-                ap (λ (d : VectorStepped). under later (finds more d.state)) here
-                ∙ at later (finds more (does t limit s).state) r.left.vector.conf
-                ∙ r.same
-                ∙ ap (λ (d : VectorStepped). does t (d.state.vector.vstart - s.vector.vstart + later) (finds (overlay s.memory more) s)) (sym here)
-                ∙ sym (at ((under limit s).state.vector.vstart - s.vector.vstart + later) (finds (overlay s.memory more) s) refl);
+                subst (λ (d : VectorStepped). KeepsOwnWord d.state.vector.vstart (Some (instr.Access i)) s → SameWord s.scalar.pc s.memory d.state.memory)
+                (sym here) (word_kept i a e legal is stops_here grown_here);
+            legal =
+                subst (λ (d : VectorStepped). (does later (finds more d.state)).end ≢ vector_end.Illegal) (sym here)
+                (subst (λ (d : VectorStepped). d.end ≢ vector_end.Illegal) (sym again)
+                (not_illegal a.direction (accessed (in_all w) a (finds (overlay s.memory more) s)).end));
+            same = subst (λ (d : VectorStepped). does later (finds more d.state) ≡ does (in_all d.state) (finds (overlay s.memory more) s)) (sym here) whole;
+            ticks =
+                subst (λ (d : VectorStepped). vector_ticks (in_all d.state) (instr.Access i) (finds (overlay s.memory more) s)
+                ≡ vector_ticks later (instr.Access i) (finds more d.state) + (d.state.vector.vstart - s.vector.vstart)) (sym here)
+                (ticks_again i a e legal is stops_here grown_here);
           }
-
-  -- ---- those that never stop
-
-  no_stop : StopsShort vector_end.Done → ⊥
-  no_stop stops = stops.undone refl
-
-  typed_never : (i : Instr) (does : HartState → VType → HartState → VectorStepped) → ((t : VType) → StopsShort (does s t s).end → ⊥)
-      → Part i (λ n w. typed w.vector.conf.vtype (does w) w)
-  typed_never i does each stops grown = absurd (named s.vector.conf.vtype stops)
-    where
-      named : (o : Option VType) → StopsShort (typed o (does s) s).end → ⊥
-      named None stops = stops.legal refl
-      named (Some t) stops = each t stops
-
-  arith_never : (t : VType) (op : VectorOp) (source : Source) (vd vs2 : ℕ) (vm : Bool) → StopsShort (arith_step t op source vd vs2 vm s).end → ⊥
-  arith_never t (Binary op) source vd vs2 vm stops = no_stop stops
-  arith_never t _ source vd vs2 vm stops = no_stop stops
-
-  mask_unary_never : (t : VType) (op : MaskUnaryOp) (vd vs2 : ℕ) (vm : Bool) → StopsShort (mask_unary_step t op vd vs2 vm s).end → ⊥
-  mask_unary_never t (Scan op) vd vs2 vm stops = no_stop stops
-  mask_unary_never t Viota vd vs2 vm stops = no_stop stops
 
   -- ---- each instruction
 
   performed_part : (i : Instr) → IsLegal i s.vector.conf.vtype s.vector.vstart → IsConfiguration s.vector.conf → Part i (λ n w. performed n i w)
   unfolding performed is_legal
-  performed_part (SetVli rd rs1 vtype) legal is = λ stops. absurd (no_stop stops)
-  performed_part (SetIvli rd avl vtype) legal is = λ stops. absurd (no_stop stops)
-  performed_part (SetVl rd rs1 rs2) legal is = λ stops. absurd (no_stop stops)
-  performed_part (VectorArith arith vd vs2 vm) legal is =
-      typed_never (VectorArith arith vd vs2 vm) (λ w t. arith_step t arith.0 arith.1 vd vs2 vm) (λ t. arith_never t arith.0 arith.1 vd vs2 vm)
-  performed_part (VectorCarry carry vd vs2) legal is =
-      typed_never (VectorCarry carry vd vs2) (λ w t. carry_step t carry.0 carry.1 vd vs2) (λ t. no_stop)
-  performed_part (VectorMove source vd) legal is = typed_never (VectorMove source vd) (λ w t. move_step t source vd) (λ t. no_stop)
-  performed_part (VectorExtend op vd vs2 vm) legal is =
-      typed_never (VectorExtend op vd vs2 vm) (λ w t. extend_step t op vd vs2 vm) (λ t. no_stop)
-  performed_part (MaskLogic op vd vs1 vs2) legal is =
-      typed_never (MaskLogic op vd vs1 vs2) (λ w t. mask_wise vd true (mask_logic_result op vs1 vs2 w.vector.file)) (λ t. no_stop)
-  performed_part (MaskToScalar op rd vs2 vm) legal is =
-      typed_never (MaskToScalar op rd vs2 vm) (λ w t. mask_to_scalar_step op rd vs2 vm) (λ t. no_stop)
-  performed_part (MaskUnary op vd vs2 vm) legal is =
-      typed_never (MaskUnary op vd vs2 vm) (λ w t. mask_unary_step t op vd vs2 vm) (λ t. mask_unary_never t op vd vs2 vm)
-  performed_part (ElementIndex vd vm) legal is =
-      typed_never (ElementIndex vd vm) (λ w t. element_wise t (group_type t) vd vm (index_result (group_type t))) (λ t. no_stop)
-  performed_part (Compress vd vs1 vs2) legal is =
-      typed_never (Compress vd vs1 vs2) (λ w t. leaves (compressed t vd vs1 vs2 w) w.vector.vxsat) (λ t. no_stop)
-  performed_part (MoveToScalar rd vs2) legal is =
-      typed_never (MoveToScalar rd vs2) (λ w t. answers rd (moved_to_scalar t vs2 w.vector.file)) (λ t. no_stop)
-  performed_part (MoveToVector vd rs1) legal is =
-      typed_never (MoveToVector vd rs1) (λ w t. leaves (moved_to_vector t vd rs1 w) w.vector.vxsat) (λ t. no_stop)
-  performed_part (WholeMove count vd vs2) legal is =
-      typed_never (WholeMove count vd vs2) (λ w t. leaves (whole_moved t count vd vs2 w) w.vector.vxsat) (λ t. no_stop)
-  performed_part (VectorUnit op w nf vd rs1 vm) legal is =
-      typed_part (VectorUnit op w nf vd rs1 vm) (λ t n. segment_step n t (access_type t w) (is_unit_load op) nf vd vm (VectorUnit op w nf vd rs1 vm))
-      (λ t. segment_part t (access_type t w) (is_unit_load op) nf vd vm (VectorUnit op w nf vd rs1 vm) legal is (λ t from to. refl) refl)
-  performed_part (VectorStrided d w nf vd rs1 rs2 vm) legal is =
-      typed_part (VectorStrided d w nf vd rs1 rs2 vm) (λ t n. segment_step n t (access_type t w) (is_load d) nf vd vm (VectorStrided d w nf vd rs1 rs2 vm))
-      (λ t. segment_part t (access_type t w) (is_load d) nf vd vm (VectorStrided d w nf vd rs1 rs2 vm) legal is (λ t from to. refl) refl)
-  performed_part (VectorIndexed d order w nf vd rs1 vs2 vm) legal is =
-      typed_part (VectorIndexed d order w nf vd rs1 vs2 vm) (λ t n. segment_step n t (group_type t) (is_load d) nf vd vm (VectorIndexed d order w nf vd rs1 vs2 vm))
-      (λ t. segment_part t (group_type t) (is_load d) nf vd vm (VectorIndexed d order w nf vd rs1 vs2 vm) legal is (λ t from to. refl) refl)
-  performed_part (WholeLoad count w vd rs1) legal is = plain_part true (WholeLoad count w vd rs1) legal is (λ t from to. refl)
-  performed_part (WholeStore count vd rs1) legal is = plain_part false (WholeStore count vd rs1) legal is (λ t from to. refl)
-  performed_part (MaskMemory d vd rs1) legal is =
-      typed_part (MaskMemory d vd rs1) (λ t n. plain_step n (is_load d) (MaskMemory d vd rs1))
-      (λ t. plain_part (is_load d) (MaskMemory d vd rs1) legal is (λ t from to. refl))
+  performed_part (instr.Vector i) legal is = λ stops. absurd (operation_whole i s stops)
+  performed_part (instr.Access i) legal is = access_part i legal is (λ t from to. refl)
   performed_part _ legal is = λ stops. absurd (stops.legal refl)
 
   executed_part : (i : Instr) → IsConfiguration s.vector.conf → Part i (λ n w. vector_executed n i w)
@@ -266,25 +263,26 @@ module _ (limit later : ℕ) (s : HartState) (more : Memory) where
           let r : IsPart i (λ n w. performed n i w) =
           performed_part i ((is_legal_means i s.vector.conf.vtype s.vector.vstart).0 e) is
           (subst (λ (d : VectorStepped). StopsShort d.end) here stops) (subst (λ (d : VectorStepped). Extends d.state.memory more) here grown) in
-          let part : HartState = (performed limit i s).state in
-          let legal : is_legal i part.vector.conf.vtype part.vector.vstart ≡ true =
-          ap (λ c. is_legal i c.vtype part.vector.vstart) r.left.vector.conf ∙ r.anywhere s.vector.conf.vtype part.vector.vstart s.vector.vstart ∙ e in
+          let w : HartState = (performed limit i s).state in
+          let legal : is_legal i w.vector.conf.vtype w.vector.vstart ≡ true =
+          ap (λ c. is_legal i c.vtype w.vector.vstart) r.conf ∙ r.anywhere s.vector.conf.vtype w.vector.vstart s.vector.vstart ∙ e in
+          let next : vector_executed later i (finds more w) ≡ performed later i (finds more w) = at later (finds more w) true legal in
           record {
             left = subst (λ (d : VectorStepped). LeavesPart i s d.state) (sym here) r.left;
+            conf = ap (λ (d : VectorStepped). d.state.vector.conf) here ∙ r.conf;
             anywhere = r.anywhere;
-            cut = subst (λ (d : VectorStepped). VectorCutAt d) (sym here) r.cut;
             word =
-                subst (λ (d : VectorStepped). KeepsWord s.scalar.pc d.state.vector.vstart (store_access i s.vector s.scalar)
-                → SameWord s.scalar.pc s.memory d.state.memory) (sym here) r.word;
-            again =
-                subst (λ (d : VectorStepped). GoesOn d.state.vector (vector_executed later i (finds more d.state))) (sym here)
-                (subst (λ (d : VectorStepped). GoesOn part.vector d) (sym (at later (finds more part) true legal)) r.again);
+                subst (λ (d : VectorStepped). KeepsOwnWord d.state.vector.vstart (Some i) s → SameWord s.scalar.pc s.memory d.state.memory)
+                (sym here) r.word;
+            legal =
+                subst (λ (d : VectorStepped). (vector_executed later i (finds more d.state)).end ≢ vector_end.Illegal) (sym here)
+                (subst (λ (d : VectorStepped). d.end ≢ vector_end.Illegal) (sym next) r.legal);
             same =
-                ap (λ (d : VectorStepped). vector_executed later i (finds more d.state)) here
-                ∙ at later (finds more part) true legal
-                ∙ r.same
-                ∙ ap (λ (d : VectorStepped). performed (d.state.vector.vstart - s.vector.vstart + later) i (finds (overlay s.memory more) s)) (sym here)
-                ∙ sym (at ((vector_executed limit i s).state.vector.vstart - s.vector.vstart + later) (finds (overlay s.memory more) s) true e);
+                subst (λ (d : VectorStepped). vector_executed later i (finds more d.state) ≡ vector_executed (in_all d.state) i (finds (overlay s.memory more) s)) (sym here)
+                (next ∙ r.same ∙ sym (at (in_all w) (finds (overlay s.memory more) s) true e));
+            ticks =
+                subst (λ (d : VectorStepped). vector_ticks (in_all d.state) i (finds (overlay s.memory more) s)
+                ≡ vector_ticks later i (finds more d.state) + (d.state.vector.vstart - s.vector.vstart)) (sym here) r.ticks;
           }
 
 pub instruction_resumes : InstructionResumes
@@ -293,31 +291,11 @@ instruction_resumes limit later i s more is stops grown = (executed_part limit l
 pub instruction_stops : InstructionStops
 instruction_stops limit i s is stops = (executed_part limit 0 s (vector_executed limit i s).state.memory i is stops (λ a c e. e)).left
 
+pub configuration_stays : (limit : ℕ) (i : Instr) (s : HartState) → IsConfiguration s.vector.conf → StopsShort (vector_executed limit i s).end
+    → (vector_executed limit i s).state.vector.conf ≡ s.vector.conf
+configuration_stays limit i s is stops = (executed_part limit 0 s (vector_executed limit i s).state.memory i is stops (λ a c e. e)).conf
+
 -- ---- ticks
-
-length_counts : (i : Instr) (vl : ℕ) → is_fault_only_first i ≡ true → index_count i vl ≡ vl
-length_counts (VectorUnit op w nf vd rs1 vm) vl e = refl
-length_counts _ vl e = absurd (cc)
-
--- the ticks of the whole one are those of the indices that were done, and of the one that is run again
-ticks_add : (later : ℕ) (i : Instr) (before part after : VState) (end : VEnd) → IsStopped i before part → end ≢ vector_end.Illegal
-    → (is_fault_only_first i ≡ true → part.vstart ≤ after.conf.vl) → (StopsShort end → part.vstart ≤ after.vstart)
-    → access_ticks (part.vstart - before.vstart + later) i before after end ≡ access_ticks later i part after end + (part.vstart - before.vstart)
-ticks_add later i before part after vector_end.Done stopped legal length from =
-    named (is_fault_only_first i) (nat_lt after.conf.vl before.conf.vl) refl
-    ∙ ap (λ (n : ℕ). cond (is_fault_only_first i && nat_lt after.conf.vl n) (after.conf.vl - part.vstart + 1) (max 1 (index_count i n - part.vstart)) + (part.vstart - before.vstart))
-    (sym (ap (λ c. c.vl) stopped.conf))
-  where
-    named : (first shorter : Bool) → is_fault_only_first i ≡ first
-        → cond (first && shorter) (after.conf.vl - before.vstart + 1) (max 1 (index_count i before.conf.vl - before.vstart))
-        ≡ cond (first && shorter) (after.conf.vl - part.vstart + 1) (max 1 (index_count i before.conf.vl - part.vstart)) + (part.vstart - before.vstart)
-    named true true e = omega (arith, length e, stopped.from)
-    named true false e = omega (arith, stopped.below, stopped.from)
-    named false shorter e = omega (arith, stopped.below, stopped.from)
-ticks_add later i before part after vector_end.Illegal stopped legal length from = absurd (legal refl)
-ticks_add later i before part after (vector_end.Fault store addr) stopped legal length from =
-    let past : part.vstart ≤ after.vstart = from (record { undone = λ e. cc; legal = λ e. cc }) in omega (arith, past, stopped.from)
-ticks_add later i before part after (vector_end.Cut index) stopped legal length from = omega arith
 
 after_more : (ticks more : ℕ) (end : VEnd) (word : ℕ) (s : HartState) → end ≢ vector_end.Illegal
     → after_vector (ticks + more) end word s ≡ after_ticks more (after_vector ticks end word s)
@@ -341,47 +319,28 @@ part_resumes limit later i word s more is stops grown =
     let part : HartState = (vector_executed limit i s).state in
     let done : ℕ = part.vector.vstart - s.vector.vstart in
     let r : IsPart limit later s more i (λ n w. vector_executed n i w) = executed_part limit later s more i is stops grown in
-    let stopped : IsStopped i s.vector part.vector = r.left.vector in
     let d : VectorStepped = vector_executed later i (finds more part) in
-    let again : IsConfiguration part.vector.conf = subst (λ c. IsConfiguration c) (sym stopped.conf) is in
-    let length : is_fault_only_first i ≡ true → part.vector.vstart ≤ d.state.vector.conf.vl =
-    λ e. r.again.length (omega (arith, stopped.below, length_counts i s.vector.conf.vl e, ap (λ c. c.vl) stopped.conf)) in
-    let from : StopsShort d.end → part.vector.vstart ≤ d.state.vector.vstart =
-    λ h. (instruction_stops later i (finds more part) again h).vector.from in
-    ap (λ (e : VectorStepped). after_vector (access_ticks (done + later) i s.vector e.state.vector e.end) e.end word e.state) (sym r.same)
-    ∙ ap (λ (n : ℕ). after_vector n d.end word d.state) (ticks_add later i s.vector part.vector d.state.vector d.end stopped r.again.legal length from)
-    ∙ after_more (access_ticks later i part.vector d.state.vector d.end) done d.end word d.state r.again.legal
+    ap (λ (e : VectorStepped). after_vector (vector_ticks (done + later) i (finds (overlay s.memory more) s)) e.end word e.state) (sym r.same)
+    ∙ ap (λ (n : ℕ). after_vector n d.end word d.state) r.ticks
+    ∙ after_more (vector_ticks later i (finds more part)) done d.end word d.state r.legal
 
 pub step_resumes : StepResumes
 step_resumes limit later i word s more is stops grown =
     let d : VectorStepped = vector_executed limit i s in
-    let leaves_part : (vector_step limit i word s).state ≡ d.state = after_short (vector_ticks limit i s d) d.end word d.state stops in
+    let leaves_part : (vector_step limit i word s).state ≡ d.state = after_short (vector_ticks limit i s) d.end word d.state stops in
     subst (λ (part : HartState). vector_step (part.vector.vstart - s.vector.vstart + later) i word (finds (overlay s.memory more) s)
     ≡ after_ticks (part.vector.vstart - s.vector.vstart) (vector_step later i word (finds more part))) (sym leaves_part)
     (part_resumes limit later i word s more is stops (subst (λ (part : HartState). Extends part.memory more) leaves_part grown))
 
--- a step that is cut is one whose instruction is
-pub cut_index : (ticks : ℕ) (end : VEnd) (word : ℕ) (s : HartState) → (after_vector ticks end word s).end ≡ step_end.Cut → (index : ℕ) × (end ≡ vector_end.Cut index)
-cut_index ticks vector_end.Done word s e = absurd (cc)
-cut_index ticks vector_end.Illegal word s e = absurd (cc)
-cut_index ticks (vector_end.Fault store addr) word s e = absurd (cc)
-cut_index ticks (vector_end.Cut index) word s e = (index, refl)
-
-pub cut_short : (end : VEnd) (index : ℕ) → end ≡ vector_end.Cut index → StopsShort end
-cut_short end index e = record { undone = λ q. cc; legal = λ q. cc }
-
 pub instruction_leaves_off : InstructionLeavesOff
-instruction_leaves_off limit i s index is e =
-    let d : VectorStepped = vector_executed limit i s in
-    let place : IsCutAt limit s.vector.vstart (index_count i s.vector.conf.vl) index = cut_at limit i s index e in
-    (place.at, (executed_part limit 0 s d.state.memory i is (cut_short d.end index e) (λ a c q. q)).cut index e)
+instruction_leaves_off limit i s index is e = let cut = cut_at limit i s index e in (cut.at, cut.left)
 
 pub cut_step_resumes : CutStepResumes
 cut_step_resumes limit later i word s more is cut grown =
     let d : VectorStepped = vector_executed limit i s in
-    let at = cut_index (vector_ticks limit i s d) d.end word d.state cut in
+    let at = cut_index (vector_ticks limit i s) d.end word d.state cut in
     let stops : StopsShort d.end = cut_short d.end at.0 at.1 in
-    let leaves_part : (vector_step limit i word s).state ≡ d.state = after_short (vector_ticks limit i s d) d.end word d.state stops in
+    let leaves_part : (vector_step limit i word s).state ≡ d.state = after_short (vector_ticks limit i s) d.end word d.state stops in
     let place = instruction_leaves_off limit i s at.0 is at.1 in
     let done : (vector_step limit i word s).state.vector.vstart - s.vector.vstart ≡ limit =
     ap (λ (part : HartState). part.vector.vstart - s.vector.vstart) leaves_part ∙ omega (arith, place.0, place.1) in
@@ -390,7 +349,7 @@ cut_step_resumes limit later i word s more is cut grown =
 
 -- an instruction that is cut or faults leaves the word at the program counter, if what it did before stored no byte of that
 pub part_keeps_word : (limit : ℕ) (i : Instr) (s : HartState) → IsConfiguration s.vector.conf → StopsShort (vector_executed limit i s).end
-    → KeepsWord s.scalar.pc (vector_executed limit i s).state.vector.vstart (store_access i s.vector s.scalar)
+    → KeepsOwnWord (vector_executed limit i s).state.vector.vstart (Some i) s
     → SameWord s.scalar.pc s.memory (vector_executed limit i s).state.memory
 part_keeps_word limit i s is stops =
     (executed_part limit 0 s (vector_executed limit i s).state.memory i is stops (λ a c e. e)).word

@@ -1,5 +1,6 @@
 -- Digits that are read from the left, in a number that stops at a cap.
-use Rattle.rv_model.specs.text.Digits.{digit, digits_after, capped}
+use Rattle.rv_model.specs.text.Digits.{digit, digits_after}
+use Rattle.rv_model.specs.lending.Text.{capped}
 use Rattle.std.proofs.Common.{◌≡◌, ℕ, ◌+◌, ◌*◌, ◌<◌, ◌≤◌, Bool, true, false, cond, ltb, List, [], ◌∷◌, length, get_or, drop, Option, Some, None, refl, sym, ap, ◌∙◌, arith, inl, inr, min}
 use Rattle.std.proofs.Math.Nat.{mul-le-mul_left}
 use Rattle.std.proofs.lemmas.Bool.{cases_lt, lt-ltb, le-ltb, cond-true, cond-false}

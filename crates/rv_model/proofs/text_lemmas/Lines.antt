@@ -2,7 +2,8 @@
 use Rattle.std.proofs.Common.{◌≡◌, ℕ, ◌+◌, List, [], ◌∷◌, ◌++◌, Bool, true, false, refl, ap, ◌∙◌, append_assoc, eqb, cond, get_or, drop}
 use Rattle.std.specs.Prelude.{not, if◌then◌else◌, filter, map}
 use Rattle.std.proofs.lemmas.Bool.{and_parts, and_from, not-true}
-use Rattle.rv_model.specs.text.Lines.{is_newline, pieces, tagged, text, is_line, IsLine, are_lines, AreLines}
+use Rattle.rv_model.specs.text.Lines.{is_newline, pieces, tagged, text}
+use Rattle.rv_model.proofs.text_lemmas.Newlines.{is_line, IsLine, are_lines, AreLines}
 use Rattle.rv_model.specs.machine.Script.{lines, of_user}
 
 -- a line that ends is the first piece

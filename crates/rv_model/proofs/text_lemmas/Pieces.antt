@@ -7,7 +7,8 @@ use Rattle.std.specs.Fmt.{digits, digits_onto, digit_glyph}
 use Rattle.std.proofs.lemmas.Bool.{and_parts, and_from}
 use Rattle.hex.specs.Hex.{encode_lower, encode_with, lower_digits}
 use Rattle.rv_model.specs.commands.Printing.{hex8, hex16}
-use Rattle.rv_model.specs.text.Lines.{is_newline, is_line, IsLine}
+use Rattle.rv_model.specs.text.Lines.{is_newline}
+use Rattle.rv_model.proofs.text_lemmas.Newlines.{is_line, IsLine}
 
 -- what holds of both holds of the one that a test picks
 pub of_either : {A : Type 0} (P : A → Type 0) (b : Bool) (x y : A) → P x → P y → P (cond b x y)

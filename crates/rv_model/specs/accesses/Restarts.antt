@@ -1,27 +1,20 @@
 -- Vector loads and stores that stop before their end and are run again from vstart on ("V" Vector Extension 1.0, sections 3.7, 7.7
 -- and 17.1; the overlaps of registers are those of sections 5.2, 5.3 and 7.8).
-use Rattle.std.specs.Prelude.{◌≡◌, ◌≢◌, ℕ, ◌+◌, ◌-◌, ◌*◌, ◌<◌, ◌≤◌, Bool, true, false, List, [], ◌∷◌, ◌++◌, Some, ⊤}
+use Rattle.std.specs.Prelude.{◌≡◌, ◌≢◌, ℕ, ◌+◌, ◌-◌, ◌*◌, ◌<◌, ◌≤◌, Bool, List, [], ◌∷◌, ◌++◌, IsSomeAnd, Some, ⊤}
 use Rattle.std.specs.FinMap.{get, from_entries, entries}
 use Rattle.std.specs.Option.{option_or}
-use Rattle.rv_model.specs.declared.instructions.instruction.Instr.{Instr}
-use Rattle.rv_model.specs.declared.instructions.instruction.Instr.TheVariants.{MaskMemory, VectorIndexed, VectorStrided, VectorUnit, WholeStore}
+use Rattle.rv_model.specs.declared.instructions.instruction.Instr.TheVariants as instr
+use Rattle.rv_model.specs.declared.instructions.access.AccessInstr.TheVariants.{Indexed}
 use Rattle.rv_model.specs.declared.instructions.operations.Direction.TheVariants as direction
 use Rattle.rv_model.specs.declared.instructions.operations.Order.{Order}
-use Rattle.rv_model.specs.declared.instructions.operations.UnitOp.TheVariants as unit
-use Rattle.rv_model.specs.declared.instructions.operations.Width.{Width}
-use Rattle.rv_model.specs.declared.memory.Access.TheVariants as access
-use Rattle.rv_model.specs.declared.scalar.Scalar.{Scalar}
-use Rattle.rv_model.specs.declared.step.memory_end.MemEnd.{MemEnd}
+use Rattle.rv_model.specs.declared.instructions.operations.Eew.{Eew}
 use Rattle.rv_model.specs.declared.step.memory_end.MemEnd.TheVariants.{Cut, Done, Fault}
 use Rattle.rv_model.specs.declared.vector.sizes.TheConstants.{VLENB}
-use Rattle.rv_model.specs.declared.vector.state.VState.{VState}
-use Rattle.rv_model.specs.declared.vector.types.VType.{VType}
-use Rattle.rv_model.specs.accesses.AccessRuns.{AccessRun, access_run}
-use Rattle.rv_model.specs.accesses.Transfers.{Plan, Transfer, end_at, loaded, stop_index, stored, transfers}
-use Rattle.rv_model.specs.accesses.VectorAccess.{access_type, index_count}
-use Rattle.rv_model.specs.elements.Arithmetic.{group_type}
+use Rattle.rv_model.specs.accesses.AccessRuns.{AccessInstr, AccessRun, MemEnd, Memory, Scalar, VState, VectorAccess, access_of, access_run}
+use Rattle.rv_model.specs.accesses.VectorAccess.{VType, group_type, index_count}
+use Rattle.rv_model.specs.vector.Groups.{access_type}
 use Rattle.rv_model.specs.legality.Legality.{IsLegal}
-use Rattle.rv_model.specs.memory.Memory.{Cell, Memory}
+use Rattle.rv_model.specs.memory.Memory.{Cell}
 use Rattle.rv_model.specs.vector.Configuration.{IsConfiguration, vlmax, width_bytes}
 use Rattle.rv_model.specs.vector.Registers.{registers}
 
@@ -35,47 +28,6 @@ Extends m more = (x : ℕ) (c : Cell) → get m x ≡ Some c → get more x ≡ 
 unfoldable pub overlay : Memory → Memory → Memory
 overlay m more = from_entries (entries m ++ entries more)
 
--- ---- the transfers of a plan, from an index on
-
--- what they leave, the index that they get to, and how they end there
-pub record Moved (X : Type 0) : Type 0 where
-  pub left : X
-  pub stop : ℕ
-  pub end : MemEnd
-
--- those of a load leave registers; place says where an element begins, limit is the index at which they are cut, and n is the
--- number of indices
-abbrev pub load_moves : Memory → (Transfer → ℕ) → Plan → List ℕ → ℕ → ℕ → ℕ → Moved (List ℕ)
-load_moves m place each file start limit n =
-    let stop = stop_index access.Load m each start limit n in
-    record { left = loaded m place file (transfers each start (stop - start)); stop = stop; end = end_at access.Load m each limit n stop }
-
--- those of a store leave a memory
-abbrev pub store_moves : Memory → (Transfer → ℕ) → Plan → List ℕ → ℕ → ℕ → ℕ → Moved Memory
-store_moves m place each file start limit n =
-    let stop = stop_index access.Store m each start limit n in
-    record { left = stored m place file (transfers each start (stop - start)); stop = stop; end = end_at access.Store m each limit n stop }
-
--- a load that stops and goes on from there, in a memory that has grown, ends as if that memory had been there from the start, where
--- the transfers that are left are the same
-abbrev pub LoadMovesResume : Type 0
-LoadMovesResume = (m more : Memory) (place : Transfer → ℕ) (each rest : Plan) (file : List ℕ) (start limit later n : ℕ)
-    → Extends m more
-    → (load_moves m place each file start limit n).stop < n
-    → (load_moves m place each file start limit n).stop ≤ later
-    → ((k : ℕ) → (load_moves m place each file start limit n).stop ≤ k → k < n → rest k ≡ each k)
-    → load_moves more place rest (load_moves m place each file start limit n).left (load_moves m place each file start limit n).stop later n
-    ≡ load_moves more place each file start later n
-
--- a store that does ends as if what is new had been there from the start
-abbrev pub StoreMovesResume : Type 0
-StoreMovesResume = (m more : Memory) (place : Transfer → ℕ) (each : Plan) (file : List ℕ) (start limit later n : ℕ)
-    → Extends (store_moves m place each file start limit n).left more
-    → (store_moves m place each file start limit n).stop < n
-    → (store_moves m place each file start limit n).stop ≤ later
-    → store_moves more place each file (store_moves m place each file start limit n).stop later n
-    ≡ store_moves (overlay m more) place each file start later n
-
 -- ---- what a load may not overwrite
 
 -- b is a byte of element i of k bytes, in the group that begins at a register
@@ -84,39 +36,30 @@ IsByteOf register k i b = (VLENB * register + i * k ≤ b) × (b < VLENB * regis
 
 -- a legal indexed load that changes element i of a field changes no index element past i
 abbrev pub LaterIndicesStay : Type 0
-LaterIndicesStay = (order : Order) (width : Width) (nf vd rs1 vs2 : ℕ) (vm : Bool) (t : VType) (vstart : ℕ)
-    → IsLegal (VectorIndexed direction.Load order width nf vd rs1 vs2 vm) (Some t) vstart
+LaterIndicesStay = (order : Order) (width : Eew) (nf vd rs1 vs2 : ℕ) (vm : Bool) (t : VType) (vstart : ℕ)
+    → IsLegal (instr.Access (Indexed direction.Load order width nf vd rs1 vs2 vm)) (Some t) vstart
     → (field i k b : ℕ) → field ≤ nf → i < k → k < vlmax t
     → IsByteOf (vd + field * registers (group_type t).emul) (width_bytes (group_type t).width) i b
     → ¬ IsByteOf vs2 (width_bytes (access_type t width).width) k b
 
 -- ---- an instruction that stops and is run again
 
--- whether an instruction is a vector store
-abbrev pub is_store : Instr → Bool
-is_store (VectorUnit unit.Store width nf vd rs1 vm) = true
-is_store (VectorStrided direction.Store width nf vd rs1 rs2 vm) = true
-is_store (VectorIndexed direction.Store order width nf vd rs1 vs2 vm) = true
-is_store (WholeStore count vd rs1) = true
-is_store (MaskMemory direction.Store vd rs1) = true
-is_store _ = false
-
--- what an instruction that stops leaves in the vector state: vstart is one of its indices, at or past the one where it began; the
+-- what a load or store that stops leaves in the vector state: vstart is one of its indices, at or past the one where it began; the
 -- vector type and length, the rounding mode and the saturation flag are as they were, and so are the registers after a store
-pub record IsStopped (i : Instr) (before after : VState) : Type 0 where
+pub record IsStopped (a : VectorAccess) (before after : VState) : Type 0 where
   pub from : before.vstart ≤ after.vstart
-  pub below : after.vstart < index_count i before.conf.vl
+  pub below : after.vstart < a.body.end
   pub conf : after.conf ≡ before.conf
   pub rounding : after.vxrm ≡ before.vxrm
   pub saturation : after.vxsat ≡ before.vxsat
-  pub registers : is_store i ≡ true → after.file ≡ before.file
+  pub registers : a.direction ≡ direction.Store → after.file ≡ before.file
 
 abbrev pub StopsWithin : Type 0
-StopsWithin = (i : Instr) (limit : ℕ) (fill_masked_off : Bool) (v : VState) (x : Scalar) (m : Memory)
-    → IsLegal i v.conf.vtype v.vstart
+StopsWithin = (i : AccessInstr) (limit : ℕ) (fill_masked_off : Bool) (v : VState) (x : Scalar) (m : Memory)
+    → IsLegal (instr.Access i) v.conf.vtype v.vstart
     → IsConfiguration v.conf
     → (access_run limit fill_masked_off i v x m).end ≢ Done
-    → IsStopped i v (access_run limit fill_masked_off i v x m).vector
+    → IsSomeAnd (access_of i v x) (λ a. IsStopped a v (access_run limit fill_masked_off i v x m).vector)
 
 -- One that is cut has done just so many indices as it might, and one that faults fewer. Its vstart is the first index that isn't
 -- done.
@@ -125,14 +68,14 @@ pub record LeavesOff (limit : ℕ) (v : VState) (run : AccessRun) : Type 0 where
   pub fault : (index addr : ℕ) → run.end ≡ Fault index addr → (index < v.vstart + limit) × (run.vector.vstart ≡ index)
 
 abbrev pub AccessLeavesOff : Type 0
-AccessLeavesOff = (i : Instr) (limit : ℕ) (fill_masked_off : Bool) (v : VState) (x : Scalar) (m : Memory)
+AccessLeavesOff = (i : AccessInstr) (limit : ℕ) (fill_masked_off : Bool) (v : VState) (x : Scalar) (m : Memory)
     → LeavesOff limit v (access_run limit fill_masked_off i v x m)
 
 -- a legal load or store that is cut or faults, and is run again in a memory that has grown, ends and leaves what it would have if
 -- what is new had been there from the start, and the limit had counted what was done as well
 abbrev pub AccessResumes : Type 0
-AccessResumes = (i : Instr) (limit later : ℕ) (fill_masked_off : Bool) (v : VState) (x : Scalar) (m more : Memory)
-    → IsLegal i v.conf.vtype v.vstart
+AccessResumes = (i : AccessInstr) (limit later : ℕ) (fill_masked_off : Bool) (v : VState) (x : Scalar) (m more : Memory)
+    → IsLegal (instr.Access i) v.conf.vtype v.vstart
     → IsConfiguration v.conf
     → (access_run limit fill_masked_off i v x m).end ≢ Done
     → Extends (access_run limit fill_masked_off i v x m).memory more
@@ -147,13 +90,13 @@ pub record NextRun : Type 0 where
   pub memory : Memory
 
 -- the last of these runs; each begins with the vector state that the one before left
-abbrev pub last_run : Bool → Instr → Scalar → AccessRun → List NextRun → AccessRun
+abbrev pub last_run : Bool → AccessInstr → Scalar → AccessRun → List NextRun → AccessRun
 last_run fill_masked_off i x run [] = run
 last_run fill_masked_off i x run (next ∷ rest) =
     last_run fill_masked_off i x (access_run next.limit fill_masked_off i run.vector x next.memory) rest
 
 -- each run but the last is cut or faults, and the next one finds its memory, or one that has grown
-abbrev pub AreResumed : Bool → Instr → Scalar → AccessRun → List NextRun → Type 0
+abbrev pub AreResumed : Bool → AccessInstr → Scalar → AccessRun → List NextRun → Type 0
 AreResumed fill_masked_off i x run [] = ⊤
 AreResumed fill_masked_off i x run (next ∷ rest) =
     (run.end ≢ Done)
@@ -171,28 +114,28 @@ IsUncut end = (index : ℕ) → end ≢ Cut index
 -- whatever the limits are, after any number of cuts and faults, a run that isn't cut ends and leaves what the whole instruction
 -- does that finds all that is new, with a limit that cuts none of its indices
 abbrev pub LastRunIsWhole : Type 0
-LastRunIsWhole = (i : Instr) (limit whole : ℕ) (fill_masked_off : Bool) (v : VState) (x : Scalar) (m : Memory) (nexts : List NextRun)
-    → IsLegal i v.conf.vtype v.vstart
+LastRunIsWhole = (i : AccessInstr) (limit whole : ℕ) (fill_masked_off : Bool) (v : VState) (x : Scalar) (m : Memory) (nexts : List NextRun)
+    → IsLegal (instr.Access i) v.conf.vtype v.vstart
     → IsConfiguration v.conf
     → AreResumed fill_masked_off i x (access_run limit fill_masked_off i v x m) nexts
     → IsUncut (last_run fill_masked_off i x (access_run limit fill_masked_off i v x m) nexts).end
-    → index_count i v.conf.vl ≤ whole
+    → index_count (access_of i v x) ≤ whole
     → last_run fill_masked_off i x (access_run limit fill_masked_off i v x m) nexts
     ≡ access_run whole fill_masked_off i v x (with_new m nexts)
 
 -- the same of one run of a legal load or store, which found this memory and left that: run again once, and run again any number of
 -- times
-pub record GoesOn (fill_masked_off : Bool) (i : Instr) (x : Scalar) (v : VState) (m : Memory) (run : AccessRun) : Type 0 where
+pub record AccessGoesOn (fill_masked_off : Bool) (i : AccessInstr) (x : Scalar) (v : VState) (m : Memory) (run : AccessRun) : Type 0 where
   pub again : (later : ℕ) (more : Memory) → run.end ≢ Done → Extends run.memory more
       → access_run later fill_masked_off i run.vector x more
       ≡ access_run (run.vector.vstart - v.vstart + later) fill_masked_off i v x (overlay m more)
   pub whole : (nexts : List NextRun) (limit : ℕ) → AreResumed fill_masked_off i x run nexts
-      → IsUncut (last_run fill_masked_off i x run nexts).end → index_count i v.conf.vl ≤ limit
+      → IsUncut (last_run fill_masked_off i x run nexts).end → index_count (access_of i v x) ≤ limit
       → last_run fill_masked_off i x run nexts ≡ access_run limit fill_masked_off i v x (with_new m nexts)
 
 -- a larger limit changes nothing where the smaller cuts nothing
 abbrev pub LargerLimitIsSame : Type 0
-LargerLimitIsSame = (i : Instr) (limit larger : ℕ) (fill_masked_off : Bool) (v : VState) (x : Scalar) (m : Memory)
+LargerLimitIsSame = (i : AccessInstr) (limit larger : ℕ) (fill_masked_off : Bool) (v : VState) (x : Scalar) (m : Memory)
     → limit ≤ larger
     → IsUncut (access_run limit fill_masked_off i v x m).end
     → access_run larger fill_masked_off i v x m ≡ access_run limit fill_masked_off i v x m

@@ -7,7 +7,7 @@ use Rattle.rv_model.specs.declared.assembler.forms.Place.TheVariants.{Rd, Rs1, R
 use Rattle.rv_model.specs.declared.assembler.forms.UnsignedField.TheVariants as unsigned
 use Rattle.rv_model.specs.declared.assembler.forms.SignedField.TheVariants as signed
 use Rattle.rv_model.specs.declared.assembler.forms.Slot.{Slot}
-use Rattle.rv_model.specs.declared.assembler.forms.Slot.TheVariants.{Comma, Open, Close, V0, Scalar, Vector, Unsigned, Signed, Csr, VectorType, ShortVectorType, Mask, Word}
+use Rattle.rv_model.specs.declared.assembler.forms.Slot.TheVariants.{Scalar, Vector, Unsigned, Signed, Csr, VectorType, ShortVectorType, Mask, Word}
 
 -- the lowest bit of a register's number
 abbrev pub lowest : Place → ℕ
@@ -15,12 +15,8 @@ lowest Rd = 7
 lowest Rs1 = 15
 lowest Rs2 = 20
 
--- a slot's operand at its place, in pieces
+-- a slot's operand at its place, in pieces; a mark between operands has none
 abbrev pub parts_of : Slot → ℕ → List Part
-parts_of Comma v = []
-parts_of Open v = []
-parts_of Close v = []
-parts_of V0 v = []
 parts_of (Scalar p) v = part (lowest p) 5 (v % 2 ^ 5) ∷ []
 parts_of (Vector p) v = part (lowest p) 5 (v % 2 ^ 5) ∷ []
 parts_of (Unsigned unsigned.Immediate) v = part 15 5 (v % 2 ^ 5) ∷ []
@@ -37,6 +33,7 @@ parts_of VectorType v = part 20 11 (v % 2 ^ 11) ∷ []
 parts_of ShortVectorType v = part 20 10 (v % 2 ^ 10) ∷ []
 parts_of Mask v = part 25 1 (v % 2 ^ 1) ∷ []
 parts_of Word v = part 0 32 (v % 2 ^ 32) ∷ []
+parts_of _ v = []
 
 -- the bits that an operand adds to a word
 abbrev pub placed : Slot → ℕ → ℕ
@@ -44,10 +41,6 @@ placed slot v = sum_of 0 (parts_of slot v)
 
 -- the operand that a word has in a slot
 abbrev pub value_of : Slot → ℕ → ℕ
-value_of Comma w = 0
-value_of Open w = 0
-value_of Close w = 0
-value_of V0 w = 0
 value_of (Scalar p) w = field (lowest p) 5 w
 value_of (Vector p) w = field (lowest p) 5 w
 value_of (Unsigned unsigned.Immediate) w = field 15 5 w
@@ -64,6 +57,7 @@ value_of VectorType w = field 20 11 w
 value_of ShortVectorType w = field 20 10 w
 value_of Mask w = field 25 1 w
 value_of Word w = field 0 32 w
+value_of _ w = 0
 
 -- all operands of a word at their places
 abbrev pub operand_parts : List Slot → ℕ → List Part

@@ -5,12 +5,12 @@ use Rattle.rv_model.specs.assembler.Fields.{fixed_mask}
 use Rattle.rv_model.specs.assembler.Table.{name_count, name_at, slots_at, bits_at, text_at}
 use Rattle.rv_model.specs.instructions.Table.{Matches, row_of, scan, table}
 use Rattle.rv_model.specs.assembler.OperationNames.{mnemonic}
-use Rattle.rv_model.specs.declared.instructions.instruction.Instr.{Instr}
-use Rattle.rv_model.specs.declared.instructions.instruction.Instr.TheVariants.{Fence}
+use Rattle.rv_model.specs.instructions.Variants.{Instr, Fence}
+use Rattle.rv_model.specs.declared.instructions.instruction.Instr.TheVariants as instr
 
 -- a word of the row of fences (Unprivileged ISA, "Memory Ordering Instructions")
 abbrev pub IsFence : ℕ → Type 0
-IsFence word = Matches (row_of (Fence 0 0 0)) word
+IsFence word = Matches (row_of (instr.Scalar (Fence 0 0 0))) word
 
 -- the word is an instruction and, if a fence, that of all memory and devices, `fence` without operands
 abbrev pub HasName : ℕ → Type 0

@@ -1,7 +1,8 @@
--- What one token of assembler text means: a number; a register (Unprivileged ISA, "RISC-V Assembly Programmer's Handbook"); a name of a control register or of a part of vtype (V extension, "Vector Extension Programmer's Model")
+-- What one token of assembler text means: a number; a register (Unprivileged ISA, "RISC-V Assembly Programmer's Handbook"); a
+-- name of a control register or of a part of vtype (V extension, "Vector Extension Programmer's Model")
 use Rattle.std.specs.Prelude.{ℕ, zero, suc, ◌+◌, ◌-◌, ◌*◌, ◌/◌, ◌%◌, ◌&&◌, List, [], ◌∷◌, ◌++◌, Option, Some, None, nat_le, nat_lt, option_map, ◌==◌, if◌then◌else◌, decimal}
 use Rattle.std.specs.Str.{bytes_eq}
-use Rattle.rv_model.specs.declared.vector.control_register.ControlRegister.{ControlRegister}
+use Rattle.rv_model.specs.vector.Types.{ControlRegister}
 use Rattle.rv_model.specs.instructions.BitFields.{flag_bit}
 use Rattle.rv_model.specs.text.Digits.{digits_after}
 use Rattle.rv_model.specs.vector.ControlRegisters.{control_register, register_name, register_named, register_number}
@@ -14,11 +15,11 @@ literal word text = if bytes_eq text word then Some 0 else None
 
 -- a register's letter and its number below 32: a digit, or two with no 0 in front
 abbrev pub register : ℕ → List ℕ → Option ℕ
-register letter [] = None
-register letter (l ∷ []) = None
 register letter (l ∷ a ∷ []) = if (l == letter) && (nat_le 48 a && nat_le a 57) then Some (a - 48) else None
-register letter (l ∷ a ∷ b ∷ []) = if (l == letter) && ((nat_le 49 a && nat_le a 51) && ((nat_le 48 b && nat_le b 57) && nat_lt ((a - 48) * 10 + (b - 48)) 32)) then Some ((a - 48) * 10 + (b - 48)) else None
-register letter (l ∷ a ∷ b ∷ c ∷ cs) = None
+register letter (l ∷ a ∷ b ∷ []) =
+    if (l == letter) && ((nat_le 49 a && nat_le a 51) && ((nat_le 48 b && nat_le b 57) && nat_lt ((a - 48) * 10 + (b - 48)) 32))
+    then Some ((a - 48) * 10 + (b - 48)) else None
+register letter _ = None
 
 -- one digit or more
 abbrev pub digits_in : ℕ → List ℕ → Option ℕ

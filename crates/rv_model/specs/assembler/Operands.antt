@@ -1,18 +1,17 @@
 -- The operands of each instruction's text, in their order, each with its kind: what stands behind the name (Unprivileged
 -- ISA, "RISC-V Assembly Programmer's Handbook", and the sections that stand beside each layout; V extension, likewise)
 use Rattle.std.specs.Prelude.{ℕ, ◌-◌, ◌^◌, ◌≡◌, ◌==◌, List, [], ◌∷◌, map, Bool, true, false, Option, Some, None, ◌<◌}
-use Rattle.rv_model.specs.declared.instructions.operations.VectorOp.{VectorOp}
+use Rattle.rv_model.specs.instructions.Types.{VectorOp, Source}
+use Rattle.rv_model.specs.instructions.Variants.{Instr, Upper, Jump, JumpRegister, Branch, Load, Store, RegisterImmediate, ShiftImmediate, ShiftImmediateWord, RegisterRegister, Fence, System, Register, Immediate, SetVli, SetIvli, SetVl, Arith, Carry, Move, WholeMove, MaskLogic, Compress, MaskToScalar, Extend, MaskUnary, ElementIndex, MoveToScalar, MoveToVector, UnitStride, Strided, Indexed, WholeLoad, WholeStore, MaskAccess}
 use Rattle.rv_model.specs.declared.instructions.operations.VectorOp.TheVariants as vector_op
-use Rattle.rv_model.specs.declared.instructions.source.Source.{Source}
 use Rattle.rv_model.specs.declared.instructions.source.Source.TheVariants as source
-use Rattle.rv_model.specs.declared.instructions.instruction.Instr.{Instr}
-use Rattle.rv_model.specs.declared.instructions.instruction.Instr.TheVariants.{Upper, Jump, JumpRegister, Branch, Load, Store, RegisterImmediate, ShiftImmediate, ShiftImmediateWord, RegisterRegister, Fence, System, Csr, CsrImmediate, SetVli, SetIvli, SetVl, VectorArith, VectorCarry, VectorMove, WholeMove, MaskLogic, Compress, MaskToScalar, VectorExtend, MaskUnary, ElementIndex, MoveToScalar, MoveToVector, VectorUnit, VectorStrided, VectorIndexed, WholeLoad, WholeStore, MaskMemory}
+use Rattle.rv_model.specs.declared.instructions.instruction.Instr.TheVariants as instr
 use Rattle.rv_model.specs.declared.assembler.forms.Slot.{Slot}
 use Rattle.rv_model.specs.declared.assembler.forms.Slot.TheVariants as slot
 use Rattle.rv_model.specs.elements.Formulas.{has_unsigned_immediate}
 use Rattle.rv_model.specs.elements.FixedPoint.{has_unsigned_shift}
 use Rattle.rv_model.specs.instructions.Table.{scan, table}
-use Rattle.rv_model.specs.assembler.Slots.{limit, half, step}
+use Rattle.rv_model.specs.assembler.Slots.{limit, half, scale}
 use Rattle.rv_model.specs.assembler.Fields.{value_of}
 use Rattle.rv_model.specs.assembler.Table.{name_count, slots_at}
 use Rattle.rv_model.specs.assembler.Naming.{HasBitsOf}
@@ -94,107 +93,97 @@ abbrev pub arith_operands : VectorOp → Source → ℕ → ℕ → Bool → Lis
 arith_operands (vector_op.Binary op) source vd vs2 vm = usual_operands (has_unsigned_immediate op) source vd vs2 vm
 -- "Vector Integer Add-with-Carry / Subtract-with-Borrow Instructions"
 arith_operands (vector_op.CarryOut op) source vd vs2 vm = carry_out_operands vm source vd vs2
--- "Vector Integer Compare Instructions"
-arith_operands (vector_op.Compare op) source vd vs2 vm = usual_operands false source vd vs2 vm
 -- "Vector Fixed-Point Arithmetic Instructions"
 arith_operands (vector_op.FixedPoint op) source vd vs2 vm = usual_operands (has_unsigned_shift op) source vd vs2 vm
--- "Vector Narrowing Integer Right Shift Instructions"
+-- "Vector Narrowing Integer Right Shift Instructions", "Vector Narrowing Fixed-Point Clip Instructions"
 arith_operands (vector_op.NarrowShift op) source vd vs2 vm = usual_operands true source vd vs2 vm
--- "Vector Narrowing Fixed-Point Clip Instructions"
 arith_operands (vector_op.Clip op) source vd vs2 vm = usual_operands true source vd vs2 vm
--- "Vector Widening Integer Add/Subtract", "Vector Widening Integer Multiply Instructions"
-arith_operands (vector_op.Widen op) source vd vs2 vm = usual_operands false source vd vs2 vm
--- "Vector Widening Integer Add/Subtract"
-arith_operands (vector_op.WideSource op) source vd vs2 vm = usual_operands false source vd vs2 vm
--- "Vector Single-Width Integer Multiply-Add Instructions"
+-- "Vector Single-Width Integer Multiply-Add Instructions", "Vector Widening Integer Multiply-Add Instructions"
 arith_operands (vector_op.MultiplyAdd op) source vd vs2 vm = multiply_add_operands source vd vs2 vm
--- "Vector Widening Integer Multiply-Add Instructions"
 arith_operands (vector_op.WidenMultiplyAdd op) source vd vs2 vm = multiply_add_operands source vd vs2 vm
--- "Vector Single-Width Integer Reduction Instructions"
-arith_operands (vector_op.Reduce op) source vd vs2 vm = usual_operands false source vd vs2 vm
--- "Vector Widening Integer Reduction Instructions"
-arith_operands (vector_op.WidenReduce op) source vd vs2 vm = usual_operands false source vd vs2 vm
 -- "Vector Slide Instructions", "Vector Register Gather Instructions": offsets and indices are unsigned
 arith_operands (vector_op.Permute op) source vd vs2 vm = usual_operands true source vd vs2 vm
+-- comparisons, reductions and other widening operations
+arith_operands _ source vd vs2 vm = usual_operands false source vd vs2 vm
 
 -- ---- every instruction, a line a layout
 
 -- the operands of an instruction's text
 abbrev pub text_operands : Instr → List TextOperand
 -- `lui rd, imm`: RV32I, "Integer Register-Immediate Instructions"
-text_operands (Upper op rd imm) = X rd ∷ Comma ∷ unsigned 20 imm ∷ []
+text_operands (instr.Scalar (Upper op rd imm)) = X rd ∷ Comma ∷ unsigned 20 imm ∷ []
 -- `jal rd, offset`: RV32I, "Unconditional Jumps"; the distance from the instruction, with 21 bits
-text_operands (Jump rd imm) = X rd ∷ Comma ∷ distance 21 imm ∷ []
+text_operands (instr.Scalar (Jump rd imm)) = X rd ∷ Comma ∷ distance 21 imm ∷ []
 -- `jalr rd, offset(rs1)`: RV32I, "Unconditional Jumps"
-text_operands (JumpRegister rd rs1 imm) = X rd ∷ Comma ∷ signed 12 imm ∷ Open ∷ X rs1 ∷ Close ∷ []
+text_operands (instr.Scalar (JumpRegister rd rs1 imm)) = X rd ∷ Comma ∷ signed 12 imm ∷ Open ∷ X rs1 ∷ Close ∷ []
 -- `beq rs1, rs2, offset`: RV32I, "Conditional Branches"; the distance from the instruction, with 13 bits
-text_operands (Branch op rs1 rs2 imm) = X rs1 ∷ Comma ∷ X rs2 ∷ Comma ∷ distance 13 imm ∷ []
+text_operands (instr.Scalar (Branch op rs1 rs2 imm)) = X rs1 ∷ Comma ∷ X rs2 ∷ Comma ∷ distance 13 imm ∷ []
 -- `ld rd, offset(rs1)`: RV32I and RV64I, "Load and Store Instructions"
-text_operands (Load op rd rs1 imm) = X rd ∷ Comma ∷ signed 12 imm ∷ Open ∷ X rs1 ∷ Close ∷ []
+text_operands (instr.Scalar (Load op rd rs1 imm)) = X rd ∷ Comma ∷ signed 12 imm ∷ Open ∷ X rs1 ∷ Close ∷ []
 -- `sd rs2, offset(rs1)`: RV32I and RV64I, "Load and Store Instructions"
-text_operands (Store op rs1 rs2 imm) = X rs2 ∷ Comma ∷ signed 12 imm ∷ Open ∷ X rs1 ∷ Close ∷ []
+text_operands (instr.Scalar (Store op rs1 rs2 imm)) = X rs2 ∷ Comma ∷ signed 12 imm ∷ Open ∷ X rs1 ∷ Close ∷ []
 -- `addi rd, rs1, imm`: RV32I and RV64I, "Integer Register-Immediate Instructions"
-text_operands (RegisterImmediate op rd rs1 imm) = X rd ∷ Comma ∷ X rs1 ∷ Comma ∷ signed 12 imm ∷ []
+text_operands (instr.Scalar (RegisterImmediate op rd rs1 imm)) = X rd ∷ Comma ∷ X rs1 ∷ Comma ∷ signed 12 imm ∷ []
 -- `slli rd, rs1, shamt`: RV64I, "Integer Register-Immediate Instructions"
-text_operands (ShiftImmediate op rd rs1 shamt) = X rd ∷ Comma ∷ X rs1 ∷ Comma ∷ unsigned 6 shamt ∷ []
+text_operands (instr.Scalar (ShiftImmediate op rd rs1 shamt)) = X rd ∷ Comma ∷ X rs1 ∷ Comma ∷ unsigned 6 shamt ∷ []
 -- `slliw rd, rs1, shamt`: RV64I, "Integer Register-Immediate Instructions"
-text_operands (ShiftImmediateWord op rd rs1 shamt) = X rd ∷ Comma ∷ X rs1 ∷ Comma ∷ unsigned 5 shamt ∷ []
+text_operands (instr.Scalar (ShiftImmediateWord op rd rs1 shamt)) = X rd ∷ Comma ∷ X rs1 ∷ Comma ∷ unsigned 5 shamt ∷ []
 -- `add rd, rs1, rs2`: RV32I and RV64I, "Integer Register-Register Operations"; M
-text_operands (RegisterRegister op rd rs1 rs2) = X rd ∷ Comma ∷ X rs1 ∷ Comma ∷ X rs2 ∷ []
+text_operands (instr.Scalar (RegisterRegister op rd rs1 rs2)) = X rd ∷ Comma ∷ X rs1 ∷ Comma ∷ X rs2 ∷ []
 -- `fence` alone: RV32I, "Memory Ordering Instructions"
-text_operands (Fence rd rs1 ordering) = []
+text_operands (instr.Scalar (Fence rd rs1 ordering)) = []
 -- `ecall`: RV32I, "Environment Call and Breakpoints"
-text_operands (System op) = []
+text_operands (instr.Scalar (System op)) = []
 -- `csrrw rd, csr, rs1`: Zicsr, "CSR Instructions"
-text_operands (Csr op rd rs1 csr) = X rd ∷ Comma ∷ ControlRegister csr ∷ Comma ∷ X rs1 ∷ []
+text_operands (instr.Csr (Register op rd rs1 csr)) = X rd ∷ Comma ∷ ControlRegister csr ∷ Comma ∷ X rs1 ∷ []
 -- `csrrwi rd, csr, uimm`: Zicsr, "CSR Instructions"
-text_operands (CsrImmediate op rd imm csr) = X rd ∷ Comma ∷ ControlRegister csr ∷ Comma ∷ unsigned 5 imm ∷ []
+text_operands (instr.Csr (Immediate op rd imm csr)) = X rd ∷ Comma ∷ ControlRegister csr ∷ Comma ∷ unsigned 5 imm ∷ []
 -- `vsetvli rd, rs1, vtypei`: V, "Configuration-Setting Instructions"
-text_operands (SetVli rd rs1 vtype) = X rd ∷ Comma ∷ X rs1 ∷ Comma ∷ VType 11 vtype ∷ []
+text_operands (instr.Vector (SetVli rd rs1 vtype)) = X rd ∷ Comma ∷ X rs1 ∷ Comma ∷ VType 11 vtype ∷ []
 -- `vsetivli rd, uimm, vtypei`: V, "Configuration-Setting Instructions"
-text_operands (SetIvli rd avl vtype) = X rd ∷ Comma ∷ unsigned 5 avl ∷ Comma ∷ VType 10 vtype ∷ []
+text_operands (instr.Vector (SetIvli rd avl vtype)) = X rd ∷ Comma ∷ unsigned 5 avl ∷ Comma ∷ VType 10 vtype ∷ []
 -- `vsetvl rd, rs1, rs2`: V, "Configuration-Setting Instructions"
-text_operands (SetVl rd rs1 rs2) = X rd ∷ Comma ∷ X rs1 ∷ Comma ∷ X rs2 ∷ []
+text_operands (instr.Vector (SetVl rd rs1 rs2)) = X rd ∷ Comma ∷ X rs1 ∷ Comma ∷ X rs2 ∷ []
 -- `vadd.vv vd, vs2, vs1, vm` and the like: by the operation, above
-text_operands (VectorArith arith vd vs2 vm) = arith_operands arith.0 arith.1 vd vs2 vm
+text_operands (instr.Vector (Arith arith vd vs2 vm)) = arith_operands arith.0 arith.1 vd vs2 vm
 -- `vadc.vvm vd, vs2, vs1, v0`: V, "Vector Integer Add-with-Carry / Subtract-with-Borrow Instructions", "Vector Integer
 -- Merge Instructions"
-text_operands (VectorCarry carry vd vs2) = carry_operands carry.1 vd vs2
+text_operands (instr.Vector (Carry carry vd vs2)) = carry_operands carry.1 vd vs2
 -- `vmv.v.v vd, vs1`: V, "Vector Integer Move Instructions"
-text_operands (VectorMove source vd) = V vd ∷ Comma ∷ second false source ∷ []
+text_operands (instr.Vector (Move source vd)) = V vd ∷ Comma ∷ second false source ∷ []
 -- `vmv1r.v vd, vs2`: V, "Whole Vector Register Move"
-text_operands (WholeMove count vd vs2) = V vd ∷ Comma ∷ V vs2 ∷ []
+text_operands (instr.Vector (WholeMove count vd vs2)) = V vd ∷ Comma ∷ V vs2 ∷ []
 -- `vmand.mm vd, vs2, vs1`: V, "Vector Mask-Register Logical Instructions"
-text_operands (MaskLogic op vd vs1 vs2) = V vd ∷ Comma ∷ V vs2 ∷ Comma ∷ V vs1 ∷ []
+text_operands (instr.Vector (MaskLogic op vd vs1 vs2)) = V vd ∷ Comma ∷ V vs2 ∷ Comma ∷ V vs1 ∷ []
 -- `vcompress.vm vd, vs2, vs1`: V, "Vector Compress Instruction"
-text_operands (Compress vd vs1 vs2) = V vd ∷ Comma ∷ V vs2 ∷ Comma ∷ V vs1 ∷ []
+text_operands (instr.Vector (Compress vd vs1 vs2)) = V vd ∷ Comma ∷ V vs2 ∷ Comma ∷ V vs1 ∷ []
 -- `vcpop.m rd, vs2, vm`: V, "Vector count population in mask vcpop.m", "vfirst find-first-set mask bit"
-text_operands (MaskToScalar op rd vs2 vm) = X rd ∷ Comma ∷ V vs2 ∷ Mask vm ∷ []
+text_operands (instr.Vector (MaskToScalar op rd vs2 vm)) = X rd ∷ Comma ∷ V vs2 ∷ Mask vm ∷ []
 -- `vzext.vf2 vd, vs2, vm`: V, "Vector Integer Extension"
-text_operands (VectorExtend op vd vs2 vm) = V vd ∷ Comma ∷ V vs2 ∷ Mask vm ∷ []
+text_operands (instr.Vector (Extend op vd vs2 vm)) = V vd ∷ Comma ∷ V vs2 ∷ Mask vm ∷ []
 -- `vmsbf.m vd, vs2, vm`: V, "vmsbf.m set-before-first mask bit" and the like, "Vector Iota Instruction"
-text_operands (MaskUnary op vd vs2 vm) = V vd ∷ Comma ∷ V vs2 ∷ Mask vm ∷ []
+text_operands (instr.Vector (MaskUnary op vd vs2 vm)) = V vd ∷ Comma ∷ V vs2 ∷ Mask vm ∷ []
 -- `vid.v vd, vm`: V, "Vector Element Index Instruction"
-text_operands (ElementIndex vd vm) = V vd ∷ Mask vm ∷ []
+text_operands (instr.Vector (ElementIndex vd vm)) = V vd ∷ Mask vm ∷ []
 -- `vmv.x.s rd, vs2`: V, "Integer Scalar Move Instructions"
-text_operands (MoveToScalar rd vs2) = X rd ∷ Comma ∷ V vs2 ∷ []
+text_operands (instr.Vector (MoveToScalar rd vs2)) = X rd ∷ Comma ∷ V vs2 ∷ []
 -- `vmv.s.x vd, rs1`: V, "Integer Scalar Move Instructions"
-text_operands (MoveToVector vd rs1) = V vd ∷ Comma ∷ X rs1 ∷ []
+text_operands (instr.Vector (MoveToVector vd rs1)) = V vd ∷ Comma ∷ X rs1 ∷ []
 -- `vle8.v vd, (rs1), vm`: V, "Vector Unit-Stride Instructions", "Unit-stride Fault-Only-First Loads", "Unit-Stride
 -- Segment Loads and Stores"
-text_operands (VectorUnit op width nf vd rs1 vm) = V vd ∷ Comma ∷ Open ∷ X rs1 ∷ Close ∷ Mask vm ∷ []
+text_operands (instr.Access (UnitStride op width nf vd rs1 vm)) = V vd ∷ Comma ∷ Open ∷ X rs1 ∷ Close ∷ Mask vm ∷ []
 -- `vlse8.v vd, (rs1), rs2, vm`: V, "Vector Strided Instructions", "Vector Strided Segment Loads and Stores"
-text_operands (VectorStrided direction width nf vd rs1 rs2 vm) =
+text_operands (instr.Access (Strided direction width nf vd rs1 rs2 vm)) =
     V vd ∷ Comma ∷ Open ∷ X rs1 ∷ Close ∷ Comma ∷ X rs2 ∷ Mask vm ∷ []
 -- `vluxei8.v vd, (rs1), vs2, vm`: V, "Vector Indexed Instructions", "Vector Indexed Segment Loads and Stores"
-text_operands (VectorIndexed direction order width nf vd rs1 vs2 vm) =
+text_operands (instr.Access (Indexed direction order width nf vd rs1 vs2 vm)) =
     V vd ∷ Comma ∷ Open ∷ X rs1 ∷ Close ∷ Comma ∷ V vs2 ∷ Mask vm ∷ []
 -- `vl1re8.v vd, (rs1)`: V, "Vector Load/Store Whole Register Instructions"
-text_operands (WholeLoad count width vd rs1) = V vd ∷ Comma ∷ Open ∷ X rs1 ∷ Close ∷ []
+text_operands (instr.Access (WholeLoad count width vd rs1)) = V vd ∷ Comma ∷ Open ∷ X rs1 ∷ Close ∷ []
 -- `vs1r.v vs3, (rs1)`: V, "Vector Load/Store Whole Register Instructions"
-text_operands (WholeStore count vd rs1) = V vd ∷ Comma ∷ Open ∷ X rs1 ∷ Close ∷ []
+text_operands (instr.Access (WholeStore count vd rs1)) = V vd ∷ Comma ∷ Open ∷ X rs1 ∷ Close ∷ []
 -- `vlm.v vd, (rs1)`: V, "Vector Unit-Stride Instructions"
-text_operands (MaskMemory direction vd rs1) = V vd ∷ Comma ∷ Open ∷ X rs1 ∷ Close ∷ []
+text_operands (instr.Access (MaskAccess direction vd rs1)) = V vd ∷ Comma ∷ Open ∷ X rs1 ∷ Close ∷ []
 
 -- ---- the table of names
 
@@ -207,7 +196,7 @@ operand_in word slot.V0 = V0
 operand_in word (slot.Scalar place) = X (value_of (slot.Scalar place) word)
 operand_in word (slot.Vector place) = V (value_of (slot.Vector place) word)
 operand_in word (slot.Unsigned field) = Unsigned (limit field) (value_of (slot.Unsigned field) word)
-operand_in word (slot.Signed field) = Signed (step field) (half field) (value_of (slot.Signed field) word)
+operand_in word (slot.Signed field) = Signed (scale field) (half field) (value_of (slot.Signed field) word)
 operand_in word slot.Csr = ControlRegister (value_of slot.Csr word)
 operand_in word slot.VectorType = VType 11 (value_of slot.VectorType word)
 operand_in word slot.ShortVectorType = VType 10 (value_of slot.ShortVectorType word)

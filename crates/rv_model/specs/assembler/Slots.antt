@@ -1,10 +1,11 @@
--- What the slots of a form take from the tokens, and the one text that each prints for an operand (V extension, "Vector Masking", "Configuration-Setting Instructions"; the ranges are those of the fields). That vtype has names exactly where no bit is reserved is this project's choice
+-- What the slots of a form take from the tokens, and the one text that each prints for an operand (V extension, "Vector Masking",
+-- "Configuration-Setting Instructions"; the ranges are those of the fields). That vtype has names exactly where no bit is
+-- reserved is this project's choice
 use Rattle.std.specs.Prelude.{ℕ, ◌+◌, ◌-◌, ◌*◌, ◌/◌, ◌%◌, ◌^◌, List, [], ◌∷◌, ◌++◌, Option, Some, None, Result, Ok, Err, nat_lt, ◌==◌, if◌then◌else◌, codes, decimal}
 use Rattle.std.specs.Str.{bytes_eq}
 use Rattle.rv_model.specs.assembler.Tokens.{Token}
 use Rattle.rv_model.specs.assembler.Numbers.{literal, register, number, at_most, in_steps, negated, csr, vsew, vlmul, vta, vma, csr_text, hex_digits}
-use Rattle.rv_model.specs.declared.vector.types.Sew.{Sew}
-use Rattle.rv_model.specs.declared.vector.types.Lmul.{Lmul}
+use Rattle.rv_model.specs.vector.Types.{Sew, Lmul}
 use Rattle.rv_model.specs.vector.TypeNames.{lmul_name, mask_name, sew_name, tail_name}
 use Rattle.rv_model.specs.vector.TypeRules.{lmul_with_number, sew_with_number}
 use Rattle.rv_model.specs.declared.assembler.forms.UnsignedField.{UnsignedField}
@@ -46,24 +47,26 @@ half signed.Branch = 2048
 half signed.Jump = 524288
 
 -- the number that one stands for in a signed field: distances are counted in steps of two bytes
-abbrev pub step : SignedField → ℕ
-step signed.Branch = 2
-step signed.Jump = 2
-step s = 1
+abbrev pub scale : SignedField → ℕ
+scale signed.Branch = 2
+scale signed.Jump = 2
+scale s = 1
 
 -- a number of steps up to a limit
-abbrev pub steps : ℕ → ℕ → List ℕ → Option ℕ
-steps size count text = in_steps size (at_most (size * count) (number text))
+abbrev pub scaled : ℕ → ℕ → List ℕ → Option ℕ
+scaled size count text = in_steps size (at_most (size * count) (number text))
 
 -- a number, or `-` and a number
 abbrev pub signed_number : ℕ → ℕ → ℕ → List Token → Result (ℕ × List Token) ℕ
 signed_number end size count [] = Err end
-signed_number end size count (t ∷ ts) = if bytes_eq t.text (codes "-") then one end (λ text. negated count (steps size count text)) ts else accept t.column ts (in_steps size (at_most (size * count - 1) (number t.text)))
+signed_number end size count (t ∷ ts) =
+    if bytes_eq t.text (codes "-") then one end (λ text. negated count (scaled size count text)) ts
+    else accept t.column ts (in_steps size (at_most (size * count - 1) (number t.text)))
 
 -- `, v0.t` gives 0, the end of the text 1
-abbrev pub mask : ℕ → List Token → Result (ℕ × List Token) ℕ
-mask end [] = Ok (1, [])
-mask end (t ∷ ts) = if bytes_eq t.text (codes ",") then one end (literal (codes "v0.t")) ts else Err t.column
+abbrev pub read_mask : ℕ → List Token → Result (ℕ × List Token) ℕ
+read_mask end [] = Ok (1, [])
+read_mask end (t ∷ ts) = if bytes_eq t.text (codes ",") then one end (literal (codes "v0.t")) ts else Err t.column
 
 -- the names of vtype's parts behind the first: vlmul, tail and mask
 unfoldable pub vtype_names : ℕ → ℕ → List Token → Result (ℕ × List Token) ℕ
@@ -95,25 +98,12 @@ read end V0 ts = one end (literal (codes "v0")) ts
 read end (Scalar p) ts = one end (register 120) ts
 read end (Vector p) ts = one end (register 118) ts
 read end (Unsigned u) ts = one end (λ text. at_most (limit u) (number text)) ts
-read end (Signed s) ts = signed_number end (step s) (half s) ts
+read end (Signed s) ts = signed_number end (scale s) (half s) ts
 read end Csr ts = one end csr ts
 read end VectorType ts = vtype end 2048 ts
 read end ShortVectorType ts = vtype end 1024 ts
-read end Mask ts = mask end ts
+read end Mask ts = read_mask end ts
 read end Word ts = one end (λ text. at_most (2 ^ 32 - 1) (number text)) ts
-
--- how many values a slot has
-abbrev pub room : Slot → ℕ
-room (Scalar p) = 32
-room (Vector p) = 32
-room (Unsigned u) = limit u + 1
-room (Signed s) = 2 * half s
-room Csr = 4096
-room VectorType = 2048
-room ShortVectorType = 1024
-room Mask = 2
-room Word = 2 ^ 32
-room s = 1
 
 -- a signed number of steps
 abbrev pub signed_text : ℕ → ℕ → ℕ → List ℕ
@@ -139,7 +129,7 @@ printed V0 v = codes "v0"
 printed (Scalar p) v = codes "x" ++ decimal v
 printed (Vector p) v = codes "v" ++ decimal v
 printed (Unsigned u) v = decimal v
-printed (Signed s) v = signed_text (step s) (half s) v
+printed (Signed s) v = signed_text (scale s) (half s) v
 printed Csr v = csr_text v
 printed VectorType v = vtype_text v
 printed ShortVectorType v = vtype_text v

@@ -1,4 +1,5 @@
--- The texts of words: each name has one form, a list of slots. A text spells a word if its tokens fit the slots of its name with that word's operands; the canonical text of a word is that of the name whose fixed bits it has (this project's choice)
+-- The texts of words: each name has one form, a list of slots. A text spells a word if its tokens fit the slots of its name with
+-- that word's operands; the canonical text of a word is that of the name whose fixed bits it has (this project's choice)
 use Rattle.std.specs.Prelude.{ℕ, ◌+◌, ◌-◌, List, [], ◌∷◌, ◌++◌, length, replicate, Option, Some, None, Result, Ok, Err, nat_lt, nat_eq, bit_and, ◌==◌, if◌then◌else◌, position, unwrap_or, slice_index_or}
 use Rattle.std.specs.Str.{bytes_eq}
 use Rattle.rv_model.specs.assembler.Tokens.{Token, tokens}
@@ -104,7 +105,8 @@ slots_at row = slots_of (row_at row).1
 unfoldable pub bits_at : ℕ → ℕ
 bits_at row = (row_at row).2
 
--- the word that the tokens spell, from these bits and the operand of each slot; or the column of the first token that doesn't fit. No token may be left
+-- the word that the tokens spell, from these bits and the operand of each slot; or the column of the first token that doesn't
+-- fit. No token may be left
 unfoldable pub read_operands : ℕ → ℕ → List Slot → List Token → Result ℕ ℕ
 read_operands end bits [] [] = Ok bits
 read_operands end bits [] (t ∷ ts) = Err t.column

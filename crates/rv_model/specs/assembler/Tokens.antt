@@ -1,4 +1,5 @@
--- The tokens of a line of assembler text: runs of lower-case letters, digits, `.` and `_`, and any other byte by itself; spaces separate. This project's choice, close to that of public RISC-V assemblers
+-- The tokens of a line of assembler text: runs of lower-case letters, digits, `.` and `_`, and any other byte by itself; spaces
+-- separate. This project's choice, close to that of public RISC-V assemblers
 use Rattle.std.specs.Prelude.{ℕ, ◌+◌, Bool, false, ◌&&◌, ◌||◌, List, [], ◌∷◌, nat_le, ◌==◌, if◌then◌else◌}
 
 -- a token, and the place of its first byte, from 1
@@ -11,20 +12,20 @@ abbrev pub in_run : ℕ → Bool
 in_run c = (nat_le 97 c && nat_le c 122) || ((nat_le 48 c && nat_le c 57) || ((c == 46) || (c == 95)))
 
 -- the text begins with a byte of a run
-abbrev pub runs_on : List ℕ → Bool
-runs_on [] = false
-runs_on (c ∷ cs) = in_run c
+abbrev pub begins_run : List ℕ → Bool
+begins_run [] = false
+begins_run (c ∷ cs) = in_run c
 
 -- the byte is put in front of the first token, as its first byte
-abbrev pub joined : ℕ → ℕ → List Token → List Token
-joined p c [] = []
-joined p c (t ∷ ts) = record { column = p; text = c ∷ t.text } ∷ ts
+abbrev pub with_first_byte : ℕ → ℕ → List Token → List Token
+with_first_byte p c [] = []
+with_first_byte p c (t ∷ ts) = record { column = p; text = c ∷ t.text } ∷ ts
 
 -- a byte at place p before a text with these tokens
-abbrev pub before : ℕ → ℕ → Bool → List Token → List Token
-before p c more ts = if c == 32 then ts else (if in_run c && more then joined p c ts else (record { column = p; text = c ∷ [] } ∷ ts))
+abbrev pub with_byte : ℕ → ℕ → Bool → List Token → List Token
+with_byte p c more ts = if c == 32 then ts else (if in_run c && more then with_first_byte p c ts else (record { column = p; text = c ∷ [] } ∷ ts))
 
 -- the tokens of a text whose first byte has place p
 unfoldable pub tokens : ℕ → List ℕ → List Token
 tokens p [] = []
-tokens p (c ∷ cs) = before p c (runs_on cs) (tokens (p + 1) cs)
+tokens p (c ∷ cs) = with_byte p c (begins_run cs) (tokens (p + 1) cs)

@@ -6,10 +6,8 @@ use Rattle.hex.specs.declared.error.FromHexError.{FromHexError}
 use Rattle.rv_model.specs.memory.Sizes.{page_size, address_end, page_limit}
 use Rattle.rv_model.specs.text.Digits.{digits_after}
 use Rattle.rv_model.specs.declared.memory.Permissions.{Permissions}
-use Rattle.rv_model.specs.declared.vector.policy.Policy.{Policy}
+use Rattle.rv_model.specs.vector.Types.{Policy, Sew, E8, E16, E32, E64}
 use Rattle.rv_model.specs.declared.vector.policy.Policy.TheVariants.{Keep, Ones}
-use Rattle.rv_model.specs.declared.vector.types.Sew.{Sew}
-use Rattle.rv_model.specs.declared.vector.types.Sew.TheVariants.{E8, E16, E32, E64}
 
 -- a number from low to high
 abbrev pub within : ℕ → ℕ → Option ℕ → Option ℕ
@@ -23,8 +21,8 @@ decimal_number (c ∷ []) = digits_after 10 0 (c ∷ [])
 decimal_number (c ∷ d ∷ cs) = if c == 48 then None else digits_after 10 0 (c ∷ d ∷ cs)
 
 -- a decimal number from low to high
-abbrev pub number : ℕ → ℕ → List ℕ → Option ℕ
-number low high word = within low high (decimal_number word)
+abbrev pub number_between : ℕ → ℕ → List ℕ → Option ℕ
+number_between low high word = within low high (decimal_number word)
 
 -- an address: 1 to 16 hexadecimal digits, so a number below 2 ^ 64
 abbrev pub address : List ℕ → Option ℕ
@@ -42,16 +40,16 @@ instruction_address word = divisible_by_4 (address word)
 -- x1 to x31
 abbrev pub scalar_register : List ℕ → Option ℕ
 scalar_register [] = None
-scalar_register (c ∷ digits) = if c == 120 then number 1 31 digits else None
+scalar_register (c ∷ digits) = if c == 120 then number_between 1 31 digits else None
 
 -- v0 to v31
 abbrev pub vector_register : List ℕ → Option ℕ
 vector_register [] = None
-vector_register (c ∷ digits) = if c == 118 then number 0 31 digits else None
+vector_register (c ∷ digits) = if c == 118 then number_between 0 31 digits else None
 
 -- the width of an element in bits
-abbrev pub element_width : List ℕ → Option Sew
-element_width word =
+abbrev pub sew_argument : List ℕ → Option Sew
+sew_argument word =
     if bytes_eq word (codes "8") then Some E8
     else if bytes_eq word (codes "16") then Some E16
     else if bytes_eq word (codes "32") then Some E32
@@ -91,10 +89,6 @@ permissions word =
     else if bytes_eq word (codes "wx") then allowing false true true
     else if bytes_eq word (codes "rwx") then allowing true true true
     else None
-
--- any word
-abbrev pub any_word : List ℕ → Option (List ℕ)
-any_word word = Some word
 
 -- pages of memory, by the number of the first: its address divided by the size of a page
 pub record Pages : Type 0 where

@@ -1,5 +1,5 @@
 -- The commands on breakpoints: `break`, `unbreak` and `breaks`. A user's breakpoints are addresses in rising order.
-use Rattle.std.specs.Prelude.{ℕ, ◌==◌, not, nat_lt, nat_le, Bool, true, List, ◌∷◌, ◌++◌, filter, flat_map, length, Option, Some, None, if◌then◌else◌, codes}
+use Rattle.std.specs.Prelude.{ℕ, ◌==◌, not, nat_lt, nat_le, List, ◌∷◌, ◌++◌, filter, flat_map, length, Option, Some, None, if◌then◌else◌, codes}
 use Rattle.std.specs.Str.{bytes_eq}
 use Rattle.rv_model.specs.declared.commands.breakpoints.BreakpointCommand.{BreakpointCommand}
 use Rattle.rv_model.specs.declared.commands.breakpoints.BreakpointCommand.TheVariants.{Break, Unbreak, Breaks}
@@ -7,7 +7,7 @@ use Rattle.rv_model.specs.declared.commands.refusal.Refusal.TheVariants as refus
 use Rattle.rv_model.specs.commands.Arguments.{instruction_address}
 use Rattle.rv_model.specs.commands.Printing.{listed}
 use Rattle.rv_model.specs.commands.Reading.{◌>>=◌, next, done}
-use Rattle.rv_model.specs.machine.UserMachine.{Present, Outcome, answers, refuses, has_breakpoint}
+use Rattle.rv_model.specs.machine.UserMachine.{Present, Outcome, refuses, has_breakpoint, replies}
 
 -- the most breakpoints that a user may have
 abbrev pub breakpoint_limit : ℕ
@@ -29,7 +29,7 @@ abbrev pub sets_breakpoint : ℕ → Present → Outcome
 sets_breakpoint addr p =
     if nat_le breakpoint_limit (length p.breakpoints) then refuses (Some p) refusal.BreakpointLimit
     else if has_breakpoint p addr then refuses (Some p) refusal.Breakpoint
-    else answers (record p { breakpoints = with_address addr p.breakpoints }) (codes "ok")
+    else replies (record p { breakpoints = with_address addr p.breakpoints }) (codes "ok")
 
 -- ---- unbreak ADDR
 
@@ -46,7 +46,7 @@ without_address addr addresses = filter (λ a. not (a == addr)) addresses
 abbrev pub removes_breakpoint : ℕ → Present → Outcome
 removes_breakpoint addr p =
     if has_breakpoint p addr
-    then answers (record p { breakpoints = without_address addr p.breakpoints }) (codes "ok")
+    then replies (record p { breakpoints = without_address addr p.breakpoints }) (codes "ok")
     else refuses (Some p) refusal.Breakpoint
 
 -- ---- breaks
@@ -54,9 +54,6 @@ removes_breakpoint addr p =
 -- the addresses, in rising order
 unfoldable pub breaks_line : List ℕ → List ℕ
 breaks_line addresses = codes "breaks" ++ flat_map listed addresses
-
-abbrev pub shows_breakpoints : Present → Outcome
-shows_breakpoints p = answers p (breaks_line p.breakpoints)
 
 -- ---- all of them
 
@@ -68,14 +65,8 @@ breakpoints_named name args =
     else if bytes_eq name (codes "breaks") then Some (done Breaks args)
     else None
 
--- whether a command needs a stopped program
-abbrev pub breakpoints_need_stopped : BreakpointCommand → Bool
-breakpoints_need_stopped (Break addr) = true
-breakpoints_need_stopped (Unbreak addr) = true
-breakpoints_need_stopped Breaks = true
-
 -- what a command does of a user who has entered
 unfoldable pub breakpoint_command : BreakpointCommand → Present → Outcome
 breakpoint_command (Break addr) p = sets_breakpoint addr p
 breakpoint_command (Unbreak addr) p = removes_breakpoint addr p
-breakpoint_command Breaks p = shows_breakpoints p
+breakpoint_command Breaks p = replies p (breaks_line p.breakpoints)

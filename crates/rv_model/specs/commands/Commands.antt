@@ -1,17 +1,19 @@
 -- All commands of a user: the command that a line spells, and what it does. Refusals are in the order of their numbers, so an
 -- unknown name (E03) comes before a wrong argument (E04), then comes who may not use the command (E05 to E07), and then what
 -- the command itself refuses.
-use Rattle.std.specs.Prelude.{ℕ, ◌&&◌, Bool, List, [], ◌∷◌, Option, Some, None, Result, Ok, Err, if◌then◌else◌}
+use Rattle.std.specs.Prelude.{ℕ, ◌&&◌, Bool, true, false, List, [], ◌∷◌, Option, Some, None, Result, Ok, Err, if◌then◌else◌}
 use Rattle.rv_model.specs.declared.commands.command.Cmd.{Cmd}
 use Rattle.rv_model.specs.declared.commands.command.Cmd.TheVariants.{Entering, Memory, Registers, Programs, Breakpoints, Running}
+use Rattle.rv_model.specs.declared.commands.entering.EnteringCommand.TheVariants.{Enter}
 use Rattle.rv_model.specs.declared.commands.refusal.Refusal.{Refusal}
 use Rattle.rv_model.specs.declared.commands.refusal.Refusal.TheVariants as refusal
-use Rattle.rv_model.specs.commands.Breakpoints.{breakpoints_named, breakpoints_need_stopped, breakpoint_command}
-use Rattle.rv_model.specs.commands.Entering.{entering_named, entering_needs_stopped, entering_absent, entering}
-use Rattle.rv_model.specs.commands.Memory.{memory_named, memory_needs_stopped, memory_command}
-use Rattle.rv_model.specs.commands.Programs.{programs_named, programs_need_stopped, program_command}
-use Rattle.rv_model.specs.commands.Registers.{registers_named, registers_need_stopped, register_command}
-use Rattle.rv_model.specs.commands.Running.{running_named, running_needs_stopped, running_command}
+use Rattle.rv_model.specs.declared.commands.running.RunningCommand.TheVariants.{Stop, State}
+use Rattle.rv_model.specs.commands.Breakpoints.{breakpoints_named, breakpoint_command}
+use Rattle.rv_model.specs.commands.Entering.{entering_named, entering_absent, entering}
+use Rattle.rv_model.specs.commands.Memory.{memory_named, memory_command}
+use Rattle.rv_model.specs.commands.Programs.{programs_named, program_command}
+use Rattle.rv_model.specs.commands.Registers.{registers_named, register_command}
+use Rattle.rv_model.specs.commands.Running.{running_named, running_command}
 use Rattle.rv_model.specs.machine.Setup.{Image}
 use Rattle.rv_model.specs.machine.UserMachine.{Present, Private, Outcome, refuses}
 use Rattle.rv_model.specs.text.Words.{words, after_two_words}
@@ -47,23 +49,17 @@ parse line = command (words line) (after_two_words line)
 
 -- ---- what a command does
 
--- whether a command needs a stopped program
+-- whether a command needs a stopped program: all but `enter`, `stop` and `state`
 abbrev pub needs_stopped : Cmd → Bool
-needs_stopped (Entering c) = entering_needs_stopped c
-needs_stopped (Memory c) = memory_needs_stopped c
-needs_stopped (Registers c) = registers_need_stopped c
-needs_stopped (Programs c) = programs_need_stopped c
-needs_stopped (Breakpoints c) = breakpoints_need_stopped c
-needs_stopped (Running c) = running_needs_stopped c
+needs_stopped (Entering Enter) = false
+needs_stopped (Running Stop) = false
+needs_stopped (Running State) = false
+needs_stopped _ = true
 
 -- of a user who is absent: only `enter` is accepted
 unfoldable pub of_absent : Cmd → Outcome
 of_absent (Entering c) = entering_absent c
-of_absent (Memory c) = refuses None refusal.NotEntered
-of_absent (Registers c) = refuses None refusal.NotEntered
-of_absent (Programs c) = refuses None refusal.NotEntered
-of_absent (Breakpoints c) = refuses None refusal.NotEntered
-of_absent (Running c) = refuses None refusal.NotEntered
+of_absent _ = refuses None refusal.NotEntered
 
 -- of a user who has entered, whose program is stopped where it has to be
 unfoldable pub of_present : List Image → Cmd → Present → Outcome

@@ -1,6 +1,6 @@
 -- The commands on a user's memory: `map`, `poke` and `peek`. `poke` and `peek` ask for mapped pages, whatever these allow a
 -- program.
-use Rattle.std.specs.Prelude.{ℕ, Bool, true, List, ◌++◌, length, Option, Some, None, if◌then◌else◌, codes}
+use Rattle.std.specs.Prelude.{ℕ, List, ◌++◌, length, Option, Some, None, if◌then◌else◌, codes}
 use Rattle.std.specs.Str.{bytes_eq}
 use Rattle.hex.specs.Hex.{encode_lower}
 use Rattle.rv_model.specs.declared.commands.memory.MemoryCommand.{MemoryCommand}
@@ -11,10 +11,10 @@ use Rattle.rv_model.specs.declared.memory.Access.TheVariants.{Monitor}
 use Rattle.rv_model.specs.declared.memory.MapRefusal.{MapRefusal}
 use Rattle.rv_model.specs.declared.memory.MapRefusal.TheVariants.{Quota, AlreadyMapped}
 use Rattle.rv_model.specs.declared.memory.Permissions.{Permissions}
-use Rattle.rv_model.specs.commands.Arguments.{Pages, number, address, permissions, byte_string, page_range}
+use Rattle.rv_model.specs.commands.Arguments.{Pages, address, permissions, byte_string, page_range, number_between}
 use Rattle.rv_model.specs.commands.Printing.{hex16}
 use Rattle.rv_model.specs.commands.Reading.{◌>>=◌, next, done}
-use Rattle.rv_model.specs.machine.UserMachine.{Present, Outcome, answers, refuses}
+use Rattle.rv_model.specs.machine.UserMachine.{Present, Outcome, refuses, replies}
 use Rattle.rv_model.specs.memory.Memory.{Memory, bytes_at, can_access, put_bytes, map_refusal, with_pages}
 use Rattle.rv_model.specs.memory.Sizes.{page_quota}
 
@@ -27,7 +27,7 @@ with_memory memory p = record p { hart = record p.hart { memory = memory } }
 unfoldable pub map_args : List (List ℕ) → Option MemoryCommand
 map_args ws = do
   addr ← next address ws
-  count ← next (number 1 page_quota) addr.1
+  count ← next (number_between 1 page_quota) addr.1
   allowed ← next permissions count.1
   pages ← page_range addr.0 count.0
   done (Map pages allowed.0) allowed.1
@@ -38,7 +38,7 @@ why_not_mapped AlreadyMapped = refusal.AlreadyMapped
 
 abbrev pub mapping : Option MapRefusal → Pages → Permissions → Present → Outcome
 mapping (Some reason) pages allowed p = refuses (Some p) (why_not_mapped reason)
-mapping None pages allowed p = answers (with_memory (with_pages p.hart.memory pages.first pages.count allowed) p) (codes "ok")
+mapping None pages allowed p = replies (with_memory (with_pages p.hart.memory pages.first pages.count allowed) p) (codes "ok")
 
 -- pages of zeros
 abbrev pub maps : Pages → Permissions → Present → Outcome
@@ -56,7 +56,7 @@ poke_args ws = do
 abbrev pub pokes : ℕ → List ℕ → Present → Outcome
 pokes addr bytes p =
     if can_access Monitor p.hart.memory addr (length bytes)
-    then answers (with_memory (put_bytes p.hart.memory addr bytes) p) (codes "ok")
+    then replies (with_memory (put_bytes p.hart.memory addr bytes) p) (codes "ok")
     else refuses (Some p) refusal.NotMapped
 
 -- ---- peek ADDR N
@@ -64,7 +64,7 @@ pokes addr bytes p =
 unfoldable pub peek_args : List (List ℕ) → Option MemoryCommand
 peek_args ws = do
   addr ← next address ws
-  count ← next (number 1 256) addr.1
+  count ← next (number_between 1 256) addr.1
   done (Peek addr.0 count.0) count.1
 
 -- an address, and the bytes from it on
@@ -75,7 +75,7 @@ peek_line addr bytes = codes "peek " ++ hex16 addr ++ codes " " ++ encode_lower 
 abbrev pub peeks : ℕ → ℕ → Present → Outcome
 peeks addr count p =
     if can_access Monitor p.hart.memory addr count
-    then answers p (peek_line addr (bytes_at p.hart.memory addr count))
+    then replies p (peek_line addr (bytes_at p.hart.memory addr count))
     else refuses (Some p) refusal.NotMapped
 
 -- ---- all of them
@@ -87,12 +87,6 @@ memory_named name args =
     else if bytes_eq name (codes "poke") then Some (poke_args args)
     else if bytes_eq name (codes "peek") then Some (peek_args args)
     else None
-
--- whether a command needs a stopped program
-abbrev pub memory_needs_stopped : MemoryCommand → Bool
-memory_needs_stopped (Map pages allowed) = true
-memory_needs_stopped (Poke addr bytes) = true
-memory_needs_stopped (Peek addr count) = true
 
 -- what a command does of a user who has entered
 unfoldable pub memory_command : MemoryCommand → Present → Outcome

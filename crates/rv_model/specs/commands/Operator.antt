@@ -9,7 +9,7 @@ use Rattle.rv_model.specs.declared.commands.refusal.Refusal.TheVariants as refus
 use Rattle.rv_model.specs.declared.machine.standing.Standing.{Standing}
 use Rattle.rv_model.specs.declared.machine.standing.Standing.TheVariants.{Absent, Stopped, Running}
 use Rattle.rv_model.specs.declared.machine.stats.Stats.{Stats}
-use Rattle.rv_model.specs.commands.Arguments.{number}
+use Rattle.rv_model.specs.commands.Arguments.{number_between}
 use Rattle.rv_model.specs.commands.Reading.{◌>>=◌, next, done}
 use Rattle.rv_model.specs.machine.Users.{user_count, users}
 use Rattle.rv_model.specs.text.Words.{words}
@@ -18,14 +18,14 @@ use Rattle.rv_model.specs.text.Words.{words}
 
 unfoldable pub slices_args : List (List ℕ) → Option OperatorCommand
 slices_args ws = do
-  count ← next (number 1 1000) ws
+  count ← next (number_between 1 1000) ws
   done (Slices count.0) count.1
 
 -- ---- run U, with a user's number
 
 unfoldable pub run_args : List (List ℕ) → Option OperatorCommand
 run_args ws = do
-  user ← next (number 1 user_count) ws
+  user ← next (number_between 1 user_count) ws
   done (Run user.0) user.1
 
 -- how many slices were granted by `slices` or `run`

@@ -1,6 +1,6 @@
 -- The commands on programs in a user's memory: `load`, `asm` and `dis`. `asm` and `dis` ask for mapped pages, whatever these
 -- allow a program.
-use Rattle.std.specs.Prelude.{ℕ, ◌+◌, ◌*◌, nat_lt, map, find, Bool, true, List, [], ◌∷◌, ◌++◌, decimal, slice_range, Option, Some, None, Result, Ok, Err, if◌then◌else◌, codes}
+use Rattle.std.specs.Prelude.{ℕ, ◌+◌, ◌*◌, nat_lt, map, find, List, [], ◌∷◌, ◌++◌, decimal, slice_range, Option, Some, None, Result, Ok, Err, if◌then◌else◌, codes}
 use Rattle.std.specs.Int.{from_le_bytes, to_le_bytes, w32}
 use Rattle.std.specs.List.{range_with_len}
 use Rattle.std.specs.Option.{option_map}
@@ -11,7 +11,7 @@ use Rattle.rv_model.specs.declared.commands.refusal.Refusal.TheVariants as refus
 use Rattle.rv_model.specs.declared.images.ElfFault.{ElfFault}
 use Rattle.rv_model.specs.declared.memory.Access.TheVariants.{Monitor}
 use Rattle.rv_model.specs.assembler.Table.{canonical, spelled}
-use Rattle.rv_model.specs.commands.Arguments.{any_word, number, instruction_address}
+use Rattle.rv_model.specs.commands.Arguments.{instruction_address, number_between}
 use Rattle.rv_model.specs.commands.Memory.{with_memory}
 use Rattle.rv_model.specs.commands.Printing.{hex8, hex16}
 use Rattle.rv_model.specs.commands.Reading.{◌>>=◌, next, done}
@@ -19,7 +19,7 @@ use Rattle.rv_model.specs.images.Faults.{first_fault}
 use Rattle.rv_model.specs.images.Fields.{entry_of}
 use Rattle.rv_model.specs.images.Image.{memory_of_image}
 use Rattle.rv_model.specs.machine.Setup.{Image}
-use Rattle.rv_model.specs.machine.UserMachine.{Present, Outcome, answers, refuses, initial}
+use Rattle.rv_model.specs.machine.UserMachine.{Present, Outcome, refuses, initial, replies}
 use Rattle.rv_model.specs.memory.Memory.{bytes_at, can_access, put_bytes, page_count}
 use Rattle.rv_model.specs.memory.Sizes.{page_quota}
 use Rattle.rv_model.specs.scalar.Registers.{initial_scalar, with_register}
@@ -28,7 +28,7 @@ use Rattle.rv_model.specs.scalar.Registers.{initial_scalar, with_register}
 
 unfoldable pub load_args : List (List ℕ) → Option ProgramCommand
 load_args ws = do
-  name ← next any_word ws
+  name ← next Some ws
   done (Load name.0) name.1
 
 -- the bytes of the image of a name, if there is one
@@ -36,8 +36,8 @@ unfoldable pub image_named : List Image → List ℕ → Option (List ℕ)
 image_named images name = option_map (λ (image : Image). image.bytes) (find (λ image. bytes_eq image.name name) images)
 
 -- a new machine with the memory of an image, at the image's entry; x2 is the stack pointer
-abbrev pub loaded : List ℕ → Present
-loaded image = record initial {
+abbrev pub with_image : List ℕ → Present
+with_image image = record initial {
   hart = record initial.hart {
     scalar = with_register 2 0x7fffefc0 (record initial_scalar { pc = entry_of image });
     memory = memory_of_image image;
@@ -53,7 +53,7 @@ abbrev pub loading : List ℕ → Option ElfFault → Present → Outcome
 loading image (Some fault) p = refuses (Some p) (refusal.ElfFault fault)
 loading image None p =
     if nat_lt page_quota (page_count (memory_of_image image)) then refuses (Some p) refusal.Quota
-    else answers (loaded image) (loaded_line (entry_of image) (page_count (memory_of_image image)))
+    else replies (with_image image) (loaded_line (entry_of image) (page_count (memory_of_image image)))
 
 -- the same for the image of a name, which there may not be
 abbrev pub loading_named : Option (List ℕ) → Present → Outcome
@@ -83,7 +83,7 @@ asm_line addr word = hex16 addr ++ codes " " ++ hex8 word
 -- what `asm` does with the word of its text, which may have none
 abbrev pub assembling : ℕ → Result ℕ ℕ → Present → Outcome
 assembling addr (Err column) p = refuses (Some p) (refusal.Assembler column)
-assembling addr (Ok word) p = answers (with_memory (put_bytes p.hart.memory addr (to_le_bytes w32 word)) p) (asm_line addr word)
+assembling addr (Ok word) p = replies (with_memory (put_bytes p.hart.memory addr (to_le_bytes w32 word)) p) (asm_line addr word)
 
 -- an instruction's word is written
 abbrev pub assembles : ℕ → List ℕ → Present → Outcome
@@ -95,7 +95,7 @@ assembles addr text p =
 unfoldable pub dis_args : List (List ℕ) → Option ProgramCommand
 dis_args ws = do
   addr ← next instruction_address ws
-  count ← next (number 1 16) addr.1
+  count ← next (number_between 1 16) addr.1
   done (Dis addr.0 count.0) count.1
 
 -- an address and the word there, with its text
@@ -127,12 +127,6 @@ programs_named name args text =
     else if bytes_eq name (codes "asm") then Some (asm_args args text)
     else if bytes_eq name (codes "dis") then Some (dis_args args)
     else None
-
--- whether a command needs a stopped program
-abbrev pub programs_need_stopped : ProgramCommand → Bool
-programs_need_stopped (Load name) = true
-programs_need_stopped (Asm addr text) = true
-programs_need_stopped (Dis addr count) = true
 
 -- what a command does of a user who has entered
 unfoldable pub program_command : List Image → ProgramCommand → Present → Outcome

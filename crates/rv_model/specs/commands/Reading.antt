@@ -6,14 +6,14 @@ abbrev pub ◌>>=◌ : {A B : Type 0} → Option A → (A → Option B) → Opti
 (Some x) >>= f = f x
 None >>= f = None
 
-abbrev pub before : {A : Type 0} → List (List ℕ) → Option A → Option (A × List (List ℕ))
-before ws None = None
-before ws (Some a) = Some (a, ws)
+abbrev pub with_rest : {A : Type 0} → List (List ℕ) → Option A → Option (A × List (List ℕ))
+with_rest ws None = None
+with_rest ws (Some a) = Some (a, ws)
 
 -- what the first word means as an argument, and the words after it
 abbrev pub next : {A : Type 0} → (List ℕ → Option A) → List (List ℕ) → Option (A × List (List ℕ))
 next meaning [] = None
-next meaning (w ∷ ws) = before ws (meaning w)
+next meaning (w ∷ ws) = with_rest ws (meaning w)
 
 -- the command, if no word is left
 abbrev pub done : {A : Type 0} → A → List (List ℕ) → Option A

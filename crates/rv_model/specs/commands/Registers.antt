@@ -1,20 +1,19 @@
 -- The commands on a user's registers, `set`, `regs`, `setpc`, `vreg`, `vset` and `vcsr`, and the one on what becomes of agnostic
 -- elements, `policy`.
-use Rattle.std.specs.Prelude.{ℕ, zero, suc, ◌+◌, ◌*◌, ◌/◌, Bool, true, List, [], ◌∷◌, ◌++◌, decimal, slice_index, slice_range, reverse, flat_map, Option, Some, None, if◌then◌else◌, codes}
+use Rattle.std.specs.Prelude.{ℕ, zero, suc, ◌+◌, ◌*◌, ◌/◌, List, [], ◌∷◌, ◌++◌, decimal, slice_index, slice_range, reverse, flat_map, Option, Some, None, if◌then◌else◌, codes}
 use Rattle.std.specs.List.{range_with_len}
 use Rattle.std.specs.Str.{bytes_eq}
 use Rattle.hex.specs.Hex.{encode_lower}
 use Rattle.rv_model.specs.declared.commands.registers.RegisterCommand.{RegisterCommand}
 use Rattle.rv_model.specs.declared.commands.registers.RegisterCommand.TheVariants.{Set, Regs, SetPc, Vreg, Vset, Vcsr, SetPolicy}
 use Rattle.rv_model.specs.declared.scalar.Scalar.{Scalar}
-use Rattle.rv_model.specs.declared.vector.policy.Policy.{Policy}
+use Rattle.rv_model.specs.vector.Types.{Sew, VLEN}
 use Rattle.rv_model.specs.declared.vector.state.VState.{VState}
-use Rattle.rv_model.specs.declared.vector.types.Sew.{Sew}
-use Rattle.rv_model.specs.commands.Arguments.{address, instruction_address, scalar_register, vector_register, element_width, register_bytes, policy_word}
+use Rattle.rv_model.specs.commands.Arguments.{address, instruction_address, scalar_register, vector_register, register_bytes, policy_word, sew_argument}
 use Rattle.rv_model.specs.commands.Printing.{hex16}
 use Rattle.rv_model.specs.commands.Reading.{◌>>=◌, next, done}
 use Rattle.rv_model.specs.instructions.BitFields.{flag_bit}
-use Rattle.rv_model.specs.machine.UserMachine.{Present, Outcome, answers}
+use Rattle.rv_model.specs.machine.UserMachine.{Present, Outcome, replies}
 use Rattle.rv_model.specs.scalar.Registers.{with_register}
 use Rattle.rv_model.specs.vector.Configuration.{sew_bits}
 use Rattle.rv_model.specs.vector.Registers.{register_of, with_register_bytes}
@@ -36,10 +35,6 @@ set_args ws = do
   value ← next address register.1
   done (Set register.0 value.0) value.1
 
--- a register is written
-abbrev pub sets : ℕ → ℕ → Present → Outcome
-sets register value p = answers (with_scalar (with_register register value p.hart.scalar) p) (codes "ok")
-
 -- ---- regs
 
 -- a register with its name
@@ -59,9 +54,6 @@ register_lines (suc n) i s = register_line s i ∷ register_lines n (i + 4) s
 unfoldable pub regs_lines : Scalar → List (List ℕ)
 regs_lines s = (codes "pc " ++ hex16 s.pc) ∷ register_lines 8 0 s
 
-abbrev pub shows_registers : Present → Outcome
-shows_registers p = record { next = Some p; lines = regs_lines p.hart.scalar }
-
 -- ---- setpc ADDR
 
 unfoldable pub setpc_args : List (List ℕ) → Option RegisterCommand
@@ -69,16 +61,12 @@ setpc_args ws = do
   addr ← next instruction_address ws
   done (SetPc addr.0) addr.1
 
--- the program counter is written
-abbrev pub sets_pc : ℕ → Present → Outcome
-sets_pc addr p = answers (with_scalar (record p.hart.scalar { pc = addr }) p) (codes "ok")
-
 -- ---- vreg vN SEW
 
 unfoldable pub vreg_args : List (List ℕ) → Option RegisterCommand
 vreg_args ws = do
   register ← next vector_register ws
-  width ← next element_width register.1
+  width ← next sew_argument register.1
   done (Vreg register.0 width.0) width.1
 
 -- element i of a register, its k bytes with the highest first
@@ -88,11 +76,7 @@ element_text k bytes i = codes " " ++ encode_lower (reverse (slice_range bytes (
 -- a register's name, and its elements, element 0 first
 unfoldable pub vreg_line : ℕ → Sew → List ℕ → List ℕ
 vreg_line r sew bytes =
-    codes "v" ++ decimal r ++ flat_map (element_text (sew_bits sew / 8) bytes) (range_with_len 0 (256 / sew_bits sew))
-
--- a vector register's elements are shown
-abbrev pub shows_elements : ℕ → Sew → Present → Outcome
-shows_elements register width p = answers p (vreg_line register width (register_of p.hart.vector.file register))
+    codes "v" ++ decimal r ++ flat_map (element_text (sew_bits sew / 8) bytes) (range_with_len 0 (VLEN / sew_bits sew))
 
 -- ---- vset vN HEX
 
@@ -102,10 +86,6 @@ vset_args ws = do
   bytes ← next register_bytes register.1
   done (Vset register.0 bytes.0) bytes.1
 
--- a vector register is written
-abbrev pub sets_vector : ℕ → List ℕ → Present → Outcome
-sets_vector register bytes p = answers (with_file (with_register_bytes register bytes p.hart.vector.file) p) (codes "ok")
-
 -- ---- vcsr
 
 unfoldable pub vcsr_line : VState → List ℕ
@@ -114,19 +94,12 @@ vcsr_line v =
     ++ codes " vstart=" ++ decimal v.vstart ++ codes " vxrm=" ++ decimal (rounding_number v.vxrm)
     ++ codes " vxsat=" ++ decimal (flag_bit v.vxsat)
 
-abbrev pub shows_control : Present → Outcome
-shows_control p = answers p (vcsr_line p.hart.vector)
-
 -- ---- policy keep, policy ones
 
 unfoldable pub policy_args : List (List ℕ) → Option RegisterCommand
 policy_args ws = do
   policy ← next policy_word ws
   done (SetPolicy policy.0) policy.1
-
--- what becomes of agnostic elements from now on
-abbrev pub sets_policy : Policy → Present → Outcome
-sets_policy policy p = answers (record p { hart = record p.hart { policy = policy } }) (codes "ok")
 
 -- ---- all of them
 
@@ -142,22 +115,17 @@ registers_named name args =
     else if bytes_eq name (codes "policy") then Some (policy_args args)
     else None
 
--- whether a command needs a stopped program
-abbrev pub registers_need_stopped : RegisterCommand → Bool
-registers_need_stopped (Set register value) = true
-registers_need_stopped Regs = true
-registers_need_stopped (SetPc addr) = true
-registers_need_stopped (Vreg register width) = true
-registers_need_stopped (Vset register bytes) = true
-registers_need_stopped Vcsr = true
-registers_need_stopped (SetPolicy policy) = true
-
 -- what a command does of a user who has entered
 unfoldable pub register_command : RegisterCommand → Present → Outcome
-register_command (Set register value) p = sets register value p
-register_command Regs p = shows_registers p
-register_command (SetPc addr) p = sets_pc addr p
-register_command (Vreg register width) p = shows_elements register width p
-register_command (Vset register bytes) p = sets_vector register bytes p
-register_command Vcsr p = shows_control p
-register_command (SetPolicy policy) p = sets_policy policy p
+-- a register is written
+register_command (Set register value) p = replies (with_scalar (with_register register value p.hart.scalar) p) (codes "ok")
+register_command Regs p = record { next = Some p; lines = regs_lines p.hart.scalar }
+-- the program counter is written
+register_command (SetPc addr) p = replies (with_scalar (record p.hart.scalar { pc = addr }) p) (codes "ok")
+-- a vector register's elements are shown
+register_command (Vreg register width) p = replies p (vreg_line register width (register_of p.hart.vector.file register))
+-- a vector register is written
+register_command (Vset register bytes) p = replies (with_file (with_register_bytes register bytes p.hart.vector.file) p) (codes "ok")
+register_command Vcsr p = replies p (vcsr_line p.hart.vector)
+-- what becomes of agnostic elements from now on
+register_command (SetPolicy policy) p = replies (record p { hart = record p.hart { policy = policy } }) (codes "ok")

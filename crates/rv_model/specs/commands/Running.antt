@@ -7,17 +7,17 @@ use Rattle.rv_model.specs.declared.commands.running.RunningCommand.{RunningComma
 use Rattle.rv_model.specs.declared.commands.running.RunningCommand.TheVariants.{Step, Go, Stop as StopRunning, State, Trace, Out}
 use Rattle.rv_model.specs.declared.commands.refusal.Refusal.TheVariants as refusal
 use Rattle.rv_model.specs.declared.step.step_end.Stop.{Stop}
-use Rattle.rv_model.specs.commands.Arguments.{number}
+use Rattle.rv_model.specs.commands.Arguments.{number_between}
 use Rattle.rv_model.specs.commands.Printing.{hex16, listed, stop_line}
 use Rattle.rv_model.specs.commands.Reading.{◌>>=◌, next, done}
 use Rattle.rv_model.specs.machine.Runs.{steps}
-use Rattle.rv_model.specs.machine.UserMachine.{Present, Outcome, answers, refuses}
+use Rattle.rv_model.specs.machine.UserMachine.{Present, Outcome, refuses, replies}
 
 -- ---- step N
 
 unfoldable pub step_args : List (List ℕ) → Option RunningCommand
 step_args ws = do
-  count ← next (number 1 256) ws
+  count ← next (number_between 1 256) ws
   done (Step count.0) count.1
 
 -- how many instructions were carried out, or why the program stopped, and where it stands
@@ -29,16 +29,12 @@ step_line n pc (Some stop) = stop_line pc stop
 abbrev pub runs_steps : ℕ → Present → Outcome
 runs_steps n p =
     let run = steps n true p in
-    answers run.state (step_line n run.state.hart.scalar.pc run.stop)
+    replies run.state (step_line n run.state.hart.scalar.pc run.stop)
 
 -- ---- go
 
 unfoldable pub running_line : ℕ → List ℕ
 running_line pc = codes "running pc=" ++ hex16 pc
-
--- the program runs; a breakpoint at its first instruction doesn't stop it
-abbrev pub starts : Present → Outcome
-starts p = answers (record p { running = true; fresh = true }) (running_line p.hart.scalar.pc)
 
 -- ---- stop
 
@@ -48,7 +44,7 @@ stopped_line pc = codes "stopped pc=" ++ hex16 pc
 -- the program stops where it stands, if it runs
 abbrev pub halts : Present → Outcome
 halts p =
-    if p.running then answers (record p { running = false }) (stopped_line p.hart.scalar.pc)
+    if p.running then replies (record p { running = false }) (stopped_line p.hart.scalar.pc)
     else refuses (Some p) refusal.NotRunning
 
 -- ---- state
@@ -57,17 +53,11 @@ halts p =
 unfoldable pub state_line : Bool → ℕ → List ℕ
 state_line running pc = (if running then codes "state running pc=" else codes "state stopped pc=") ++ hex16 pc
 
-abbrev pub shows_state : Present → Outcome
-shows_state p = answers p (state_line p.running p.hart.scalar.pc)
-
 -- ---- trace
 
 -- the addresses, the oldest first
 unfoldable pub trace_line : List ℕ → List ℕ
 trace_line addresses = codes "trace" ++ flat_map listed addresses
-
-abbrev pub shows_trace : Present → Outcome
-shows_trace p = answers p (trace_line p.trace)
 
 -- ---- out
 
@@ -84,10 +74,6 @@ out_line bytes = codes "out " ++ decimal (length bytes) ++ spaced_bytes bytes
 abbrev pub with_output : List ℕ → Present → Present
 with_output output p = record p { hart = record p.hart { output = output } }
 
--- what the program has put out is shown, and the output buffer is emptied
-abbrev pub shows_output : Present → Outcome
-shows_output p = answers (with_output [] p) (out_line p.hart.output)
-
 -- ---- all of them
 
 -- the command of a name, by its arguments; none of this group where there is no such name
@@ -101,20 +87,13 @@ running_named name args =
     else if bytes_eq name (codes "out") then Some (done Out args)
     else None
 
--- whether a command needs a stopped program
-abbrev pub running_needs_stopped : RunningCommand → Bool
-running_needs_stopped (Step n) = true
-running_needs_stopped Go = true
-running_needs_stopped StopRunning = false
-running_needs_stopped State = false
-running_needs_stopped Trace = true
-running_needs_stopped Out = true
-
 -- what a command does of a user who has entered
 unfoldable pub running_command : RunningCommand → Present → Outcome
 running_command (Step n) p = runs_steps n p
-running_command Go p = starts p
+-- the program runs; a breakpoint at its first instruction doesn't stop it
+running_command Go p = replies (record p { running = true; fresh = true }) (running_line p.hart.scalar.pc)
 running_command StopRunning p = halts p
-running_command State p = shows_state p
-running_command Trace p = shows_trace p
-running_command Out p = shows_output p
+running_command State p = replies p (state_line p.running p.hart.scalar.pc)
+running_command Trace p = replies p (trace_line p.trace)
+-- what the program has put out is shown, and the output buffer is emptied
+running_command Out p = replies (with_output [] p) (out_line p.hart.output)

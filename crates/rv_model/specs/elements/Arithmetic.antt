@@ -1,41 +1,24 @@
 -- What an instruction of vector arithmetic leaves in the vector registers ("V" Vector Extension 1.0, sections 3.4.3, 5.4 and
 -- chapters 11, 12, 14 and 15). The operands are those of the state that it finds.
-use Rattle.std.specs.Prelude.{ℕ, ◌*◌, ◌/◌, ◌%◌, ◌^◌, ◌&&◌, not, nat_lt, Bool, true, false, List}
+use Rattle.std.specs.Prelude.{ℕ, ◌%◌, ◌^◌, ◌==◌, ◌&&◌, ◌||◌, not, nat_lt, Bool, true, false, List, if◌then◌else◌}
 use Rattle.std.specs.Int.{Width}
 use mir.Val.{bits}
-use Rattle.rv_model.specs.declared.instructions.operations.BinaryOp.{BinaryOp}
-use Rattle.rv_model.specs.declared.instructions.operations.CarryOp.{CarryOp}
-use Rattle.rv_model.specs.declared.instructions.operations.CarryOutOp.{CarryOutOp}
-use Rattle.rv_model.specs.declared.instructions.operations.ClipOp.{ClipOp}
-use Rattle.rv_model.specs.declared.instructions.operations.CompareOp.{CompareOp}
-use Rattle.rv_model.specs.declared.instructions.operations.ExtendOp.{ExtendOp}
-use Rattle.rv_model.specs.declared.instructions.operations.FixedPointOp.{FixedPointOp}
-use Rattle.rv_model.specs.declared.instructions.operations.MaskLogicOp.{MaskLogicOp}
-use Rattle.rv_model.specs.declared.instructions.operations.MultiplyAddOp.{MultiplyAddOp}
-use Rattle.rv_model.specs.declared.instructions.operations.NarrowShiftOp.{NarrowShiftOp}
-use Rattle.rv_model.specs.declared.instructions.operations.ReduceOp.{ReduceOp}
-use Rattle.rv_model.specs.declared.instructions.operations.WidenOp.{WidenOp}
-use Rattle.rv_model.specs.declared.instructions.operations.WideSourceOp.{WideSourceOp}
-use Rattle.rv_model.specs.declared.instructions.operations.WidenMultiplyAddOp.{WidenMultiplyAddOp}
-use Rattle.rv_model.specs.declared.instructions.operations.WidenReduceOp.{WidenReduceOp}
-use Rattle.rv_model.specs.declared.vector.policy.Policy.{Policy}
+use Rattle.rv_model.specs.instructions.Types.{BinaryOp, CarryOp, CarryOutOp, ClipOp, CompareOp, ExtendOp, FixedPointOp, MaskLogicOp, MultiplyAddOp, NarrowShiftOp, ReduceOp, WidenOp, WideSourceOp, WidenMultiplyAddOp, WidenReduceOp, Source}
+use Rattle.rv_model.specs.vector.Types.{Policy, RoundingMode, VType}
+use Rattle.rv_model.specs.declared.vector.state.VState.{VState}
 use Rattle.rv_model.specs.declared.vector.policy.Policy.TheVariants.{Keep, Ones}
 use Rattle.rv_model.specs.declared.scalar.Scalar.{Scalar}
-use Rattle.rv_model.specs.declared.instructions.source.Source.{Source}
 use Rattle.rv_model.specs.declared.instructions.source.Source.TheVariants as source
-use Rattle.rv_model.specs.declared.vector.state.RoundingMode.{RoundingMode}
-use Rattle.rv_model.specs.declared.vector.state.VState.{VState}
-use Rattle.rv_model.specs.declared.vector.types.VType.{VType}
 use Rattle.rv_model.specs.elements.Elements.{Body, element, is_active, is_changed, mask_bit, result_or_ones}
 use Rattle.rv_model.specs.elements.Writes.{written, written_bits}
 use Rattle.rv_model.specs.vector.Registers.{group_of, with_group, register_of}
 use Rattle.rv_model.specs.scalar.Registers.{read_register}
-use Rattle.rv_model.specs.vector.Configuration.{lmul_eighths, sew_width, width_bytes}
-use Rattle.rv_model.specs.elements.Formulas.{carry_formula, carry_out_formula, compare_formula, doubled, extend_formula, formula, has_unsigned_immediate, immediate_value, multiply_add_formula, narrow_shift_formula, ones, part_width, wide_source_formula, widen_formula, widen_multiply_add_formula, wrap}
+use Rattle.rv_model.specs.vector.Configuration.{GroupType, width_bytes}
+use Rattle.rv_model.specs.vector.Groups.{single_type}
+use Rattle.rv_model.specs.elements.Formulas.{carry_formula, carry_out_formula, compare_formula, extend_formula, formula, has_unsigned_immediate, immediate_value, multiply_add_formula, narrow_shift_formula, ones, wide_source_formula, widen_formula, widen_multiply_add_formula, wrap}
 use Rattle.rv_model.specs.elements.FixedPoint.{clip_formula, clip_saturates, fixed_point_formula, has_unsigned_shift, saturates}
 use Rattle.rv_model.specs.elements.Masks.{mask_logic_formula, set_count}
 use Rattle.rv_model.specs.elements.Reductions.{active_numbers, reduced, wide_reduced}
-use Rattle.rv_model.specs.legality.OperandShapes.{extension_divisor}
 
 abbrev pub is_ones : Policy → Bool
 is_ones Keep = false
@@ -52,15 +35,6 @@ fills_masked_off policy t body = is_ones policy && (t.mask_agnostic && not body.
 -- whether the elements past vl become all ones: not where there is no element of the body
 abbrev pub fills_tail : Policy → VType → Body → Bool
 fills_tail policy t body = is_ones policy && (t.tail_agnostic && nat_lt body.start body.end)
-
--- what a group holds: elements of a width; and its multiplier in eighths of a register
-pub record GroupType : Type 0 where
-  pub width : Width
-  pub emul : ℕ
-
--- groups of the vector type's width and multiplier
-abbrev pub group_type : VType → GroupType
-group_type t = record { width = sew_width t.sew; emul = lmul_eighths t.lmul }
 
 -- element i of a group
 abbrev pub group_element : GroupType → List ℕ → ℕ → ℕ → ℕ
@@ -97,10 +71,6 @@ carry_out_result g op alone vs2 source file x i =
 
 -- ---- the result at element i, where the operands have two widths; n is the type of the narrow groups, w that of the wide
 
--- groups of twice the vector type's width, and of twice its multiplier
-abbrev pub wide_type : VType → GroupType
-wide_type t = record { width = doubled (sew_width t.sew); emul = 2 * lmul_eighths t.lmul }
-
 abbrev pub widen_result : GroupType → GroupType → WidenOp → ℕ → Source → List ℕ → Scalar → ℕ → ℕ
 widen_result n w op vs2 source file x i =
     wrap w.width (widen_formula op n.width (group_element n file vs2 i) (second_element n false source file x i))
@@ -117,10 +87,6 @@ widen_multiply_add_result n w op vd vs2 source file x i =
 abbrev pub narrow_shift_result : GroupType → GroupType → NarrowShiftOp → ℕ → Source → List ℕ → Scalar → ℕ → ℕ
 narrow_shift_result n w op vs2 source file x i =
     wrap n.width (narrow_shift_formula op w.width (group_element w file vs2 i) (second_element n true source file x i))
-
--- groups of a part of the vector type's width, and of that part of its multiplier
-abbrev pub part_type : ExtendOp → VType → GroupType
-part_type op t = record { width = part_width op (sew_width t.sew); emul = lmul_eighths t.lmul / extension_divisor op }
 
 abbrev pub extend_result : GroupType → GroupType → ExtendOp → ℕ → List ℕ → ℕ → ℕ
 extend_result n w op vs2 file i = wrap w.width (extend_formula op n.width (group_element n file vs2 i))
@@ -146,10 +112,6 @@ clip_saturates_at n w mode op vs2 source file x i =
     clip_saturates op mode w.width n.width (group_element w file vs2 i) (second_element n true source file x i)
 
 -- ---- reductions: the result, which begins with element 0 of vs1
-
--- one register of elements of a width
-abbrev pub single_type : Width → GroupType
-single_type width = record { width = width; emul = 8 }
 
 abbrev pub reduce_result : GroupType → ReduceOp → Body → ℕ → Source → List ℕ → Scalar → ℕ
 reduce_result g op body vs2 source file x =
@@ -179,6 +141,14 @@ unfoldable pub with_results : GroupType → ℕ → Body → Bool → Bool → (
 with_results g vd body fill_masked_off fill_tail result file =
     with_group file vd
     (written (width_bytes g.width) (is_changed body fill_masked_off fill_tail) (result_or_ones body result (ones g.width)) (group_of file vd g.emul))
+
+-- in element 0 of the register vd alone; the flag says whether the tail, which begins with element 1, becomes all ones. Where the
+-- body is empty nothing changes.
+unfoldable pub with_first_result : Width → ℕ → Body → Bool → ℕ → List ℕ → List ℕ
+with_first_result width vd body fill_tail result file =
+    with_group file vd
+    (written (width_bytes width) (λ i. nat_lt body.start body.end && (i == 0 || fill_tail)) (λ i. if i == 0 then result else ones width)
+    (group_of file vd 8))
 
 -- in the active bits of the mask in vd, which is one register; no other bit changes
 unfoldable pub with_mask_results : ℕ → Body → (ℕ → Bool) → List ℕ → List ℕ

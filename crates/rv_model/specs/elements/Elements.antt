@@ -1,6 +1,6 @@
 -- Elements and mask bits of vector registers, and the sets of elements that an instruction changes ("V" Vector Extension
 -- 1.0, sections 3.4.3, 4.1, 4.5, 5.3 and 5.4). A list of bytes holds element 0 first, each with its least byte first.
-use Rattle.std.specs.Prelude.{ℕ, ◌+◌, ◌*◌, ◌/◌, ◌%◌, ◌^◌, ◌==◌, ◌&&◌, ◌||◌, ◌≤◌, nat_le, nat_lt, Bool, true, List, length, slice_index, if◌then◌else◌}
+use Rattle.std.specs.Prelude.{ℕ, ◌+◌, ◌*◌, ◌/◌, ◌%◌, ◌^◌, ◌==◌, ◌&&◌, ◌||◌, nat_le, nat_lt, not, Bool, List, slice_index, if◌then◌else◌}
 use Rattle.std.specs.Int.{from_bool}
 use Rattle.std.specs.List.{list_any, range_with_len}
 use Rattle.std.specs.Simd.Lanes.{chunk}
@@ -10,17 +10,13 @@ use lib.Lanes.{number_l}
 abbrev pub element : ℕ → List ℕ → ℕ → ℕ
 element k bytes i = number_l 256 (chunk (k * i) k bytes)
 
--- a list of bytes goes on to the end of element i
-abbrev pub HasElement : ℕ → List ℕ → ℕ → Type 0
-HasElement k bytes i = k * i + k ≤ length bytes
-
 -- bit i of a list of bytes, the low bits first
 abbrev pub mask_bit : List ℕ → ℕ → Bool
 mask_bit bytes i = slice_index bytes (i / 8) / 2 ^ (i % 8) % 2 == 1
 
 -- the byte with these bits, the low bits first
-abbrev pub byte_of : (ℕ → Bool) → ℕ
-byte_of bit =
+abbrev pub byte_of_bits : (ℕ → Bool) → ℕ
+byte_of_bits bit =
     from_bool (bit 0) + 2 * from_bool (bit 1) + 4 * from_bool (bit 2) + 8 * from_bool (bit 3)
     + 16 * from_bool (bit 4) + 32 * from_bool (bit 5) + 64 * from_bool (bit 6) + 128 * from_bool (bit 7)
 
@@ -52,19 +48,18 @@ is_active body i = in_body body i && is_let body i
 abbrev pub some_active : Body → (ℕ → Bool) → Bool
 some_active body test = list_any (λ i. is_active body i && test i) (range_with_len 0 body.end)
 
--- the first element alone, where there is any in the body
-abbrev pub first_alone : Body → Body
-first_alone body = record { unmasked = true; mask = body.mask; start = 0; end = from_bool (nat_lt body.start body.end) }
+-- the elements that are masked off: those of the body that the mask doesn't let through
+abbrev pub is_masked_off : Body → ℕ → Bool
+is_masked_off body i = in_body body i && not (is_let body i)
 
--- the elements that become all ones: those of the body where the ones that are masked off do, and those of the tail where
--- it does
+-- the elements that become all ones, by flags: those that are masked off, and those of the tail, which are past the body
 abbrev pub is_filled : Body → Bool → Bool → ℕ → Bool
-is_filled body fill_masked_off fill_tail i = (fill_masked_off && in_body body i) || (fill_tail && nat_le body.end i)
+is_filled body fill_masked_off fill_tail i = (fill_masked_off && is_masked_off body i) || (fill_tail && nat_le body.end i)
 
--- the elements of a destination that change
+-- the elements of a destination that change; all others are undisturbed
 abbrev pub is_changed : Body → Bool → Bool → ℕ → Bool
 is_changed body fill_masked_off fill_tail i = is_active body i || is_filled body fill_masked_off fill_tail i
 
--- what they become: the results where they are active, else all ones
+-- what they become: active ones the result, the others all ones
 abbrev pub result_or_ones : Body → (ℕ → ℕ) → ℕ → ℕ → ℕ
 result_or_ones body result ones i = if is_active body i then result i else ones

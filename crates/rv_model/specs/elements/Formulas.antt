@@ -2,35 +2,30 @@
 -- an unsigned number of the width in hand; a is that of vs2, b that of vs1, of x[rs1] or of the immediate. A number is taken
 -- modulo 2 to the width.
 use Rattle.std.specs.Prelude.{ℕ, ◌+◌, ◌-◌, ◌*◌, ◌%◌, ◌^◌, ◌==◌, nat_le, nat_lt, min, max, not, Bool, true, false, suc, ℤ, pos, negsuc, ◌+ℤ◌, ◌-ℤ◌, ◌*ℤ◌, int_lt, int_le, bit_and, bit_or, bit_xor, if◌then◌else◌}
-use Rattle.std.specs.Int.{Width, w8, w16, w32, w64, w128, cast_signed, from_bool, int_min, int_max, int_shr}
+use Rattle.std.specs.Int.{Width, cast_signed, from_bool, int_min, int_max, int_shr}
 use mir.Val.{bits}
-use Rattle.rv_model.specs.declared.instructions.operations.BinaryOp.{BinaryOp}
+use Rattle.rv_model.specs.instructions.Types.{BinaryOp, CarryOp, CarryOutOp, CompareOp, ExtendOp, NarrowShiftOp, WidenOp, WideSourceOp, WidenMultiplyAddOp, MultiplyAddOp}
 use Rattle.rv_model.specs.declared.instructions.operations.BinaryOp.TheVariants.{Vadd, Vsub, Vrsub, Vminu, Vmin, Vmaxu, Vmax, Vand, Vor, Vxor, Vsll, Vsrl, Vsra, Vdivu, Vdiv, Vremu, Vrem, Vmulhu, Vmul, Vmulhsu, Vmulh}
-use Rattle.rv_model.specs.declared.instructions.operations.CarryOp.{CarryOp}
 use Rattle.rv_model.specs.declared.instructions.operations.CarryOp.TheVariants.{Vadc, Vsbc, Vmerge}
-use Rattle.rv_model.specs.declared.instructions.operations.CarryOutOp.{CarryOutOp}
 use Rattle.rv_model.specs.declared.instructions.operations.CarryOutOp.TheVariants.{Vmadc, Vmsbc}
-use Rattle.rv_model.specs.declared.instructions.operations.CompareOp.{CompareOp}
 use Rattle.rv_model.specs.declared.instructions.operations.CompareOp.TheVariants.{Vmseq, Vmsne, Vmsltu, Vmslt, Vmsleu, Vmsle, Vmsgtu, Vmsgt}
-use Rattle.rv_model.specs.declared.instructions.operations.ExtendOp.{ExtendOp}
-use Rattle.rv_model.specs.declared.instructions.operations.ExtendOp.TheVariants.{VzextVf8, VsextVf8, VzextVf4, VsextVf4, VzextVf2, VsextVf2}
-use Rattle.rv_model.specs.declared.instructions.operations.NarrowShiftOp.{NarrowShiftOp}
+use Rattle.rv_model.specs.declared.instructions.operations.ExtendOp.TheVariants.{VzextVf8, VzextVf4, VzextVf2}
 use Rattle.rv_model.specs.declared.instructions.operations.NarrowShiftOp.TheVariants.{Vnsrl, Vnsra}
-use Rattle.rv_model.specs.declared.instructions.operations.WidenOp.{WidenOp}
 use Rattle.rv_model.specs.declared.instructions.operations.WidenOp.TheVariants as widen
-use Rattle.rv_model.specs.declared.instructions.operations.WideSourceOp.{WideSourceOp}
 use Rattle.rv_model.specs.declared.instructions.operations.WideSourceOp.TheVariants as wide_source
-use Rattle.rv_model.specs.declared.instructions.operations.WidenMultiplyAddOp.{WidenMultiplyAddOp}
 use Rattle.rv_model.specs.declared.instructions.operations.WidenMultiplyAddOp.TheVariants.{Vwmaccu, Vwmacc, Vwmaccus, Vwmaccsu}
-use Rattle.rv_model.specs.declared.instructions.operations.MultiplyAddOp.{MultiplyAddOp}
 use Rattle.rv_model.specs.declared.instructions.operations.MultiplyAddOp.TheVariants.{Vmadd, Vnmsub, Vmacc, Vnmsac}
 use Rattle.rv_model.specs.instructions.Immediates.{sign_extended}
 use Rattle.rv_model.specs.scalar.Arithmetic.{shifted_left, shifted_right, high_product, signed_high_product, mixed_high_product, quotient, remainder, signed_quotient, signed_remainder}
 
--- a whole number modulo 2 to the width
+-- so many low bits of a whole number, in two's complement
+abbrev pub low_bits : ℕ → ℤ → ℕ
+low_bits count (pos v) = v % 2 ^ count
+low_bits count (negsuc v) = 2 ^ count - suc (v % 2 ^ count)
+
+-- a whole number modulo 2 to the width: as many low bits
 abbrev pub wrap : Width → ℤ → ℕ
-wrap w (pos n) = n % 2 ^ bits w
-wrap w (negsuc n) = 2 ^ bits w - suc (n % 2 ^ bits w)
+wrap w v = low_bits (bits w) v
 
 -- all ones
 abbrev pub ones : Width → ℕ
@@ -67,70 +62,43 @@ multiply_add_formula Vnmsub a b d = pos a -ℤ pos (b * d)
 multiply_add_formula Vmacc a b d = pos (a * b + d)
 multiply_add_formula Vnmsac a b d = pos d -ℤ pos (a * b)
 
--- ---- operations of two widths; w is the lesser
+-- ---- operations of two widths: n is the narrow one, and w the wide one, which has twice as many bits
 
--- twice the width
-abbrev pub doubled : Width → Width
-doubled w8 = w16
-doubled w16 = w32
-doubled w32 = w64
-doubled w64 = w128
-doubled w128 = w128
-
--- whose result has twice the width
+-- whose result is wide
 abbrev pub widen_formula : WidenOp → Width → ℕ → ℕ → ℤ
-widen_formula widen.Vwaddu w a b = pos a +ℤ pos b
-widen_formula widen.Vwadd w a b = cast_signed w a +ℤ cast_signed w b
-widen_formula widen.Vwsubu w a b = pos a -ℤ pos b
-widen_formula widen.Vwsub w a b = cast_signed w a -ℤ cast_signed w b
-widen_formula widen.Vwmulu w a b = pos a *ℤ pos b
-widen_formula widen.Vwmulsu w a b = cast_signed w a *ℤ pos b
-widen_formula widen.Vwmul w a b = cast_signed w a *ℤ cast_signed w b
+widen_formula widen.Vwaddu n a b = pos a +ℤ pos b
+widen_formula widen.Vwadd n a b = cast_signed n a +ℤ cast_signed n b
+widen_formula widen.Vwsubu n a b = pos a -ℤ pos b
+widen_formula widen.Vwsub n a b = cast_signed n a -ℤ cast_signed n b
+widen_formula widen.Vwmulu n a b = pos a *ℤ pos b
+widen_formula widen.Vwmulsu n a b = cast_signed n a *ℤ pos b
+widen_formula widen.Vwmul n a b = cast_signed n a *ℤ cast_signed n b
 
--- whose result and first operand have twice the width, v
+-- whose result and first operand are wide
 abbrev pub wide_source_formula : WideSourceOp → Width → Width → ℕ → ℕ → ℤ
-wide_source_formula wide_source.Vwaddu v w a b = pos a +ℤ pos b
-wide_source_formula wide_source.Vwadd v w a b = cast_signed v a +ℤ cast_signed w b
-wide_source_formula wide_source.Vwsubu v w a b = pos a -ℤ pos b
-wide_source_formula wide_source.Vwsub v w a b = cast_signed v a -ℤ cast_signed w b
+wide_source_formula wide_source.Vwaddu w n a b = pos a +ℤ pos b
+wide_source_formula wide_source.Vwadd w n a b = cast_signed w a +ℤ cast_signed n b
+wide_source_formula wide_source.Vwsubu w n a b = pos a -ℤ pos b
+wide_source_formula wide_source.Vwsub w n a b = cast_signed w a -ℤ cast_signed n b
 
--- products of twice the width, added to d, the element of vd
+-- wide products, added to d, the wide element of vd
 abbrev pub widen_multiply_add_formula : WidenMultiplyAddOp → Width → ℕ → ℕ → ℕ → ℤ
-widen_multiply_add_formula Vwmaccu w a b d = pos a *ℤ pos b +ℤ pos d
-widen_multiply_add_formula Vwmacc w a b d = cast_signed w a *ℤ cast_signed w b +ℤ pos d
-widen_multiply_add_formula Vwmaccus w a b d = cast_signed w a *ℤ pos b +ℤ pos d
-widen_multiply_add_formula Vwmaccsu w a b d = pos a *ℤ cast_signed w b +ℤ pos d
+widen_multiply_add_formula Vwmaccu n a b d = pos a *ℤ pos b +ℤ pos d
+widen_multiply_add_formula Vwmacc n a b d = cast_signed n a *ℤ cast_signed n b +ℤ pos d
+widen_multiply_add_formula Vwmaccus n a b d = cast_signed n a *ℤ pos b +ℤ pos d
+widen_multiply_add_formula Vwmaccsu n a b d = pos a *ℤ cast_signed n b +ℤ pos d
 
--- shifts of a first operand of twice the width, v, by the low bits of b: as many as a shift at that width takes
+-- shifts of a wide first operand, by as many low bits of b as a shift at the wide width takes; the result is narrow
 abbrev pub narrow_shift_formula : NarrowShiftOp → Width → ℕ → ℕ → ℤ
-narrow_shift_formula Vnsrl v a b = pos (shifted_right v a b)
-narrow_shift_formula Vnsra v a b = int_shr (cast_signed v a) (b % bits v)
+narrow_shift_formula Vnsrl w a b = pos (shifted_right w a b)
+narrow_shift_formula Vnsra w a b = int_shr (cast_signed w a) (b % bits w)
 
--- half of the width
-abbrev pub halved : Width → Width
-halved w8 = w8
-halved w16 = w8
-halved w32 = w16
-halved w64 = w32
-halved w128 = w64
-
--- the width of the source of an extension to a width
-abbrev pub part_width : ExtendOp → Width → Width
-part_width VzextVf8 w = halved (halved (halved w))
-part_width VsextVf8 w = halved (halved (halved w))
-part_width VzextVf4 w = halved (halved w)
-part_width VsextVf4 w = halved (halved w)
-part_width VzextVf2 w = halved w
-part_width VsextVf2 w = halved w
-
--- extensions of an element of the width w, by zeros or by its sign
+-- extensions of a narrow element, by zeros or by its sign
 abbrev pub extend_formula : ExtendOp → Width → ℕ → ℤ
-extend_formula VzextVf8 w a = pos a
-extend_formula VsextVf8 w a = cast_signed w a
-extend_formula VzextVf4 w a = pos a
-extend_formula VsextVf4 w a = cast_signed w a
-extend_formula VzextVf2 w a = pos a
-extend_formula VsextVf2 w a = cast_signed w a
+extend_formula VzextVf8 n a = pos a
+extend_formula VzextVf4 n a = pos a
+extend_formula VzextVf2 n a = pos a
+extend_formula _ n a = cast_signed n a
 
 -- ---- operations with v0, and truths
 
@@ -158,27 +126,10 @@ compare_formula Vmsgt w a b = int_lt (cast_signed w b) (cast_signed w a)
 
 -- whether the immediate of an operation of one width is unsigned, as a shift's is
 abbrev pub has_unsigned_immediate : BinaryOp → Bool
-has_unsigned_immediate Vadd = false
-has_unsigned_immediate Vsub = false
-has_unsigned_immediate Vrsub = false
-has_unsigned_immediate Vminu = false
-has_unsigned_immediate Vmin = false
-has_unsigned_immediate Vmaxu = false
-has_unsigned_immediate Vmax = false
-has_unsigned_immediate Vand = false
-has_unsigned_immediate Vor = false
-has_unsigned_immediate Vxor = false
 has_unsigned_immediate Vsll = true
 has_unsigned_immediate Vsrl = true
 has_unsigned_immediate Vsra = true
-has_unsigned_immediate Vdivu = false
-has_unsigned_immediate Vdiv = false
-has_unsigned_immediate Vremu = false
-has_unsigned_immediate Vrem = false
-has_unsigned_immediate Vmulhu = false
-has_unsigned_immediate Vmul = false
-has_unsigned_immediate Vmulhsu = false
-has_unsigned_immediate Vmulh = false
+has_unsigned_immediate _ = false
 
 -- the number that the five bits of an immediate mean: as they are, or sign-extended to 64 bits
 abbrev pub immediate_value : Bool → ℕ → ℕ

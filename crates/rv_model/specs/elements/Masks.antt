@@ -1,28 +1,26 @@
 -- Mask instructions ("V" Vector Extension 1.0, chapter 15).
 use Rattle.std.specs.Prelude.{ℕ, ◌-◌, ◌^◌, ◌==◌, ◌&&◌, ◌||◌, not, nat_le, nat_lt, Bool, true, false, List, length, Option, Some, None, if◌then◌else◌}
 use Rattle.std.specs.List.{filter, find, range_with_len}
-use Rattle.rv_model.specs.declared.instructions.operations.MaskLogicOp.{MaskLogicOp}
+use Rattle.rv_model.specs.instructions.Types.{MaskLogicOp, MaskScanOp, MaskToScalarOp}
 use Rattle.rv_model.specs.declared.instructions.operations.MaskLogicOp.TheVariants.{Vmandn, Vmand, Vmor, Vmxor, Vmorn, Vmnand, Vmnor, Vmxnor}
-use Rattle.rv_model.specs.declared.instructions.operations.MaskScanOp.{MaskScanOp}
 use Rattle.rv_model.specs.declared.instructions.operations.MaskScanOp.TheVariants.{Vmsbf, Vmsof, Vmsif}
-use Rattle.rv_model.specs.declared.instructions.operations.MaskToScalarOp.{MaskToScalarOp}
 use Rattle.rv_model.specs.declared.instructions.operations.MaskToScalarOp.TheVariants.{Vcpop, Vfirst}
 use Rattle.rv_model.specs.elements.Elements.{Body, is_active, mask_bit}
 
 -- one of two bits, but not both
-abbrev pub exclusive_or : Bool → Bool → Bool
-exclusive_or a b = if a then not b else b
+abbrev pub xor : Bool → Bool → Bool
+xor a b = if a then not b else b
 
 -- logic on two masks; a is the bit of vs2, b that of vs1
 abbrev pub mask_logic_formula : MaskLogicOp → Bool → Bool → Bool
 mask_logic_formula Vmandn a b = a && not b
 mask_logic_formula Vmand a b = a && b
 mask_logic_formula Vmor a b = a || b
-mask_logic_formula Vmxor a b = exclusive_or a b
+mask_logic_formula Vmxor a b = xor a b
 mask_logic_formula Vmorn a b = a || not b
 mask_logic_formula Vmnand a b = not (a && b)
 mask_logic_formula Vmnor a b = not (a || b)
-mask_logic_formula Vmxnor a b = not (exclusive_or a b)
+mask_logic_formula Vmxnor a b = not (xor a b)
 
 -- the active elements whose bit is set
 abbrev pub is_set : Body → List ℕ → ℕ → Bool

@@ -1,63 +1,43 @@
 -- What a permutation leaves in the vector registers ("V" Vector Extension 1.0, chapter 16). The operands are those of the state
 -- that it finds.
-use Rattle.std.specs.Prelude.{ℕ, ◌*◌, ◌/◌, ◌%◌, ◌^◌, Bool, List}
-use Rattle.std.specs.Int.{cast_signed, w16, w64}
+use Rattle.std.specs.Prelude.{ℕ, ◌%◌, ◌^◌, Bool, List}
 use mir.Val.{bits}
-use Rattle.rv_model.specs.declared.instructions.operations.PermuteOp.{PermuteOp}
-use Rattle.rv_model.specs.declared.instructions.operations.PermuteOp.TheVariants.{Vrgather, Vrgatherei16, Vslideup, Vslidedown, Vslide1up, Vslide1down}
-use Rattle.rv_model.specs.declared.instructions.operations.RegisterCount.{RegisterCount}
-use Rattle.rv_model.specs.declared.instructions.source.Source.{Source}
+use Rattle.rv_model.specs.instructions.Types.{PermuteOp, Source}
+use Rattle.rv_model.specs.declared.instructions.operations.PermuteOp.TheVariants.{Vrgatherei16, Vslideup, Vslidedown, Vslide1up, Vslide1down}
 use Rattle.rv_model.specs.declared.instructions.source.Source.TheVariants as source
 use Rattle.rv_model.specs.declared.scalar.Scalar.{Scalar}
-use Rattle.rv_model.specs.declared.vector.sizes.TheConstants.{VLENB}
-use Rattle.rv_model.specs.declared.vector.types.VType.{VType}
-use Rattle.rv_model.specs.elements.Arithmetic.{GroupType, group_element, single_type}
+use Rattle.rv_model.specs.vector.Types.{VType}
+use Rattle.rv_model.specs.elements.Arithmetic.{group_element}
 use Rattle.rv_model.specs.elements.Elements.{Body}
-use Rattle.rv_model.specs.elements.Formulas.{ones, wrap}
+use Rattle.rv_model.specs.elements.Formulas.{ones}
 use Rattle.rv_model.specs.elements.Permutations.{from_offset, gathered, is_packed_or_filled, packed_or_ones, slid_down, slid_one_down, slid_one_up, slid_up}
 use Rattle.rv_model.specs.elements.Writes.{written}
-use Rattle.rv_model.specs.legality.Legality.{register_count}
+use Rattle.rv_model.specs.vector.Groups.{index_type, single_type}
+use Rattle.rv_model.specs.instructions.Immediates.{sign_extended}
 use Rattle.rv_model.specs.scalar.Registers.{read_register}
-use Rattle.rv_model.specs.vector.Configuration.{sew_width, width_bytes}
+use Rattle.rv_model.specs.vector.Configuration.{GroupType, element_count, sew_bits, sew_width, width_bytes}
 use Rattle.rv_model.specs.vector.Registers.{group_of, with_group}
-
--- how many elements the groups of a type have; those of the vector type have VLMAX
-abbrev pub element_count : GroupType → ℕ
-element_count g = g.emul * VLENB / bits g.width
 
 -- ---- slides and gathers
 
--- groups of as many indices of 16 bits
-abbrev pub index_type : GroupType → GroupType
-index_type g = record { width = w16; emul = bits w16 * g.emul / bits g.width }
-
 -- the groups of vs1, by those of vs2
 abbrev pub source_type : PermuteOp → GroupType → GroupType
-source_type Vrgather g = g
 source_type Vrgatherei16 g = index_type g
-source_type Vslideup g = g
-source_type Vslidedown g = g
-source_type Vslide1up g = g
-source_type Vslide1down g = g
+source_type _ g = g
 
--- the scalar operand: all 64 bits of x[rs1], or the immediate, which is unsigned; no slide takes one from vs1
+-- the scalar operand: all 64 bits of x[rs1], or the immediate, which is unsigned
 abbrev pub scalar_operand : Source → Scalar → ℕ
-scalar_operand (source.V vs1) x = 0
+scalar_operand (source.V vs1) x = 0  -- excluded
 scalar_operand (source.X rs1) x = read_register x rs1
 scalar_operand (source.I imm) x = imm
 
 -- the index that a gather takes for element i: of vs1, or the scalar operand
 abbrev pub index_of : GroupType → Source → List ℕ → Scalar → ℕ → ℕ
-index_of n (source.V vs1) file x i = group_element n file vs1 i
-index_of n (source.X rs1) file x i = scalar_operand (source.X rs1) x
-index_of n (source.I imm) file x i = scalar_operand (source.I imm) x
+index_of indices (source.V vs1) file x i = group_element indices file vs1 i
+index_of indices from file x i = scalar_operand from x
 
 -- the result at element i, by vl
 abbrev pub permute_result : GroupType → PermuteOp → ℕ → ℕ → Source → List ℕ → Scalar → ℕ → ℕ
-permute_result g Vrgather vl vs2 source file x i =
-    gathered (element_count g) (group_element g file vs2) (index_of (source_type Vrgather g) source file x i)
-permute_result g Vrgatherei16 vl vs2 source file x i =
-    gathered (element_count g) (group_element g file vs2) (index_of (source_type Vrgatherei16 g) source file x i)
 permute_result g Vslideup vl vs2 source file x i = slid_up (group_element g file vs2) (scalar_operand source x) i
 permute_result g Vslidedown vl vs2 source file x i =
     slid_down (element_count g) (group_element g file vs2) (scalar_operand source x) i
@@ -65,15 +45,14 @@ permute_result g Vslide1up vl vs2 source file x i =
     slid_one_up (scalar_operand source x % 2 ^ bits g.width) (group_element g file vs2) i
 permute_result g Vslide1down vl vs2 source file x i =
     slid_one_down vl (scalar_operand source x % 2 ^ bits g.width) (group_element g file vs2) i
+-- gathers
+permute_result g op vl vs2 source file x i =
+    gathered (element_count g) (group_element g file vs2) (index_of (source_type op g) source file x i)
 
 -- the elements that it works on, of those of the instruction's body
 abbrev pub permute_body : PermuteOp → Source → Scalar → Body → Body
-permute_body Vrgather source x body = body
-permute_body Vrgatherei16 source x body = body
 permute_body Vslideup source x body = from_offset body (scalar_operand source x)
-permute_body Vslidedown source x body = body
-permute_body Vslide1up source x body = body
-permute_body Vslide1down source x body = body
+permute_body _ source x body = body
 
 -- ---- vcompress
 
@@ -87,10 +66,4 @@ with_packed g vd vl fill_tail numbers file =
 
 -- what vmv.x.s gives a scalar register, whatever vl and LMUL are: element 0, sign-extended (section 16.1)
 abbrev pub moved_to_scalar : VType → ℕ → List ℕ → ℕ
-moved_to_scalar t vs2 file =
-    let width = sew_width t.sew in
-    wrap w64 (cast_signed width (group_element (single_type width) file vs2 0))
-
--- so many whole registers, of elements of SEW
-abbrev pub whole_type : VType → RegisterCount → GroupType
-whole_type t count = record { width = sew_width t.sew; emul = 8 * register_count count }
+moved_to_scalar t vs2 file = sign_extended (sew_bits t.sew) (group_element (single_type (sew_width t.sew)) file vs2 0)

@@ -2,13 +2,10 @@
 use Rattle.std.specs.Prelude.{ℕ, List, map}
 use Rattle.std.specs.Int.{Width}
 use Rattle.std.specs.List.{filter, fold, range_with_len}
-use Rattle.rv_model.specs.declared.instructions.operations.BinaryOp.{BinaryOp}
+use Rattle.rv_model.specs.instructions.Types.{BinaryOp, ReduceOp, WideSourceOp, WidenReduceOp}
 use Rattle.rv_model.specs.declared.instructions.operations.BinaryOp.TheVariants.{Vadd, Vand, Vor, Vxor, Vminu, Vmin, Vmaxu, Vmax}
-use Rattle.rv_model.specs.declared.instructions.operations.ReduceOp.{ReduceOp}
 use Rattle.rv_model.specs.declared.instructions.operations.ReduceOp.TheVariants.{Vredsum, Vredand, Vredor, Vredxor, Vredminu, Vredmin, Vredmaxu, Vredmax}
-use Rattle.rv_model.specs.declared.instructions.operations.WideSourceOp.{WideSourceOp}
 use Rattle.rv_model.specs.declared.instructions.operations.WideSourceOp.TheVariants.{Vwaddu, Vwadd}
-use Rattle.rv_model.specs.declared.instructions.operations.WidenReduceOp.{WidenReduceOp}
 use Rattle.rv_model.specs.declared.instructions.operations.WidenReduceOp.TheVariants.{Vwredsumu, Vwredsum}
 use Rattle.rv_model.specs.elements.Elements.{Body, is_active}
 use Rattle.rv_model.specs.elements.Formulas.{formula, wide_source_formula, wrap}
@@ -37,6 +34,6 @@ active_numbers body number = map number (filter (is_active body) (range_with_len
 abbrev pub reduced : ReduceOp → Width → ℕ → List ℕ → ℕ
 reduced op w first numbers = fold (λ x a. wrap w (formula (combining op) w x a)) first numbers
 
--- a number of the width v, combined with numbers of the width w
+-- a number of the wide width, combined with numbers of the narrow one
 abbrev pub wide_reduced : WidenReduceOp → Width → Width → ℕ → List ℕ → ℕ
-wide_reduced op v w first numbers = fold (λ x a. wrap v (wide_source_formula (widening_combining op) v w x a)) first numbers
+wide_reduced op w n first numbers = fold (λ x a. wrap w (wide_source_formula (widening_combining op) w n x a)) first numbers

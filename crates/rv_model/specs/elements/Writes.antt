@@ -1,19 +1,14 @@
 -- Lists of bytes of which some elements or some bits are replaced, said byte by byte.
-use Rattle.std.specs.Prelude.{ℕ, ◌+◌, ◌*◌, ◌/◌, ◌%◌, ◌<◌, ◌≡◌, Bool, List, length, map, slice_index, if◌then◌else◌}
+use Rattle.std.specs.Prelude.{ℕ, ◌+◌, ◌*◌, ◌/◌, ◌%◌, Bool, List, length, map, slice_index, if◌then◌else◌}
 use Rattle.std.specs.Int.{byte_at}
 use Rattle.std.specs.List.{range_with_len}
-use Rattle.rv_model.specs.elements.Elements.{byte_of, mask_bit}
+use Rattle.rv_model.specs.elements.Elements.{mask_bit, byte_of_bits}
 
 -- byte m of element e, where the elements have k bytes: of the number, if the element is one of these, else as it was
 abbrev pub byte_or : (ℕ → Bool) → (ℕ → ℕ) → List ℕ → ℕ → ℕ → ℕ → ℕ
 byte_or changed number old k e m = if changed e then byte_at m (number e) else slice_index old (k * e + m)
 
--- the bytes `new` are the bytes `old` with these elements of k bytes replaced by these numbers, modulo 2 to the width
-pub record Writes (k : ℕ) (changed : ℕ → Bool) (number : ℕ → ℕ) (old new : List ℕ) : Type 0 where
-  pub same_length : length new ≡ length old
-  pub bytes : (e m : ℕ) → m < k → k * e + m < length old → slice_index new (k * e + m) ≡ byte_or changed number old k e m
-
--- those bytes
+-- the bytes with these elements of k bytes replaced by these numbers, modulo 2 to the width
 unfoldable pub written : ℕ → (ℕ → Bool) → (ℕ → ℕ) → List ℕ → List ℕ
 written k changed number old = map (λ at. byte_or changed number old k (at / k) (at % k)) (range_with_len 0 (length old))
 
@@ -23,13 +18,8 @@ bit_or changed bit old i = if changed i then bit i else mask_bit old i
 
 -- the byte q with these bits replaced
 abbrev pub byte_with_bits : (ℕ → Bool) → (ℕ → Bool) → List ℕ → ℕ → ℕ
-byte_with_bits changed bit old q = byte_of (λ j. bit_or changed bit old (8 * q + j))
+byte_with_bits changed bit old q = byte_of_bits (λ j. bit_or changed bit old (8 * q + j))
 
--- the bytes `new` are the bytes `old` with these bits replaced
-pub record WritesBits (changed bit : ℕ → Bool) (old new : List ℕ) : Type 0 where
-  pub same_length : length new ≡ length old
-  pub bytes : (q : ℕ) → q < length old → slice_index new q ≡ byte_with_bits changed bit old q
-
--- those bytes
+-- the bytes with these bits replaced
 unfoldable pub written_bits : (ℕ → Bool) → (ℕ → Bool) → List ℕ → List ℕ
 written_bits changed bit old = map (byte_with_bits changed bit old) (range_with_len 0 (length old))

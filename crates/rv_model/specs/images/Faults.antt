@@ -9,15 +9,15 @@ use Rattle.rv_model.specs.images.Fields.{class_of, data_of, type_of, machine_of,
 use Rattle.rv_model.specs.memory.Sizes.{address_end}
 
 -- PT_LOAD, a segment that is placed in memory
-abbrev pub is_load : ProgramHeader → Bool
-is_load header = header.kind == 1
+abbrev pub is_loadable : ProgramHeader → Bool
+is_loadable header = header.kind == 1
 
 -- whether a program header by itself has a fault, in a file of so many bytes
 unfoldable pub header_has : ℕ → ElfFault → ProgramHeader → Bool
 header_has size BadInterp header = header.kind == 3
-header_has size BadFileSize header = is_load header && nat_lt header.memory_size header.file_size
-header_has size BadOutside header = is_load header && (not (header.file_size == 0) && nat_lt size (header.offset + header.file_size))
-header_has size BadAddress header = is_load header && nat_lt address_end (header.address + header.memory_size)
+header_has size BadFileSize header = is_loadable header && nat_lt header.memory_size header.file_size
+header_has size BadOutside header = is_loadable header && (not (header.file_size == 0) && nat_lt size (header.offset + header.file_size))
+header_has size BadAddress header = is_loadable header && nat_lt address_end (header.address + header.memory_size)
 header_has size _ header = false
 
 -- whether some program header has it

@@ -7,7 +7,7 @@ use Rattle.std.specs.Option.{option_map_or}
 use Rattle.std.specs.FinMap.{empty, insert}
 use Rattle.rv_model.specs.declared.images.ProgramHeader.{ProgramHeader}
 use Rattle.rv_model.specs.declared.memory.Permissions.{Permissions}
-use Rattle.rv_model.specs.images.Faults.{is_load}
+use Rattle.rv_model.specs.images.Faults.{is_loadable}
 use Rattle.rv_model.specs.images.Fields.{program_headers}
 use Rattle.rv_model.specs.memory.Memory.{Cell, Memory}
 use Rattle.rv_model.specs.memory.Sizes.{page_size, page_limit}
@@ -22,12 +22,12 @@ placed_headers image = stack ∷ program_headers image
 
 -- whether an address is one of a segment's
 unfoldable pub covers : ℕ → ProgramHeader → Bool
-covers x header = is_load header && (nat_le header.address x && nat_lt x (header.address + header.memory_size))
+covers x header = is_loadable header && (nat_le header.address x && nat_lt x (header.address + header.memory_size))
 
 -- whether one of a page's addresses is one of a segment's
 unfoldable pub touches_page : ℕ → ProgramHeader → Bool
 touches_page page header =
-    is_load header && nat_lt (max header.address (page_size * page)) (min (header.address + header.memory_size) (page_size * page + page_size))
+    is_loadable header && nat_lt (max header.address (page_size * page)) (min (header.address + header.memory_size) (page_size * page + page_size))
 
 -- a segment's byte at one of its addresses
 unfoldable pub byte_in : List ℕ → ℕ → ProgramHeader → ℕ
@@ -35,8 +35,8 @@ byte_in image x header =
     if nat_lt (x - header.address) header.file_size then slice_index image (header.offset + (x - header.address)) else 0
 
 -- the byte at an address, of the last of these segments that covers it
-unfoldable pub byte_of : List ℕ → List ProgramHeader → ℕ → ℕ
-byte_of image headers x = option_map_or (byte_in image x) (find (covers x) (reverse headers)) 0
+unfoldable pub image_byte : List ℕ → List ProgramHeader → ℕ → ℕ
+image_byte image headers x = option_map_or (byte_in image x) (find (covers x) (reverse headers)) 0
 
 -- whether one of these segments that touch a page has a flag
 unfoldable pub is_allowed_by : ℕ → List ProgramHeader → ℕ → Bool
@@ -54,7 +54,7 @@ is_touched headers page = list_any (touches_page page) headers
 unfoldable pub cell_of : List ℕ → ℕ → Option Cell
 cell_of image x =
     if is_touched (placed_headers image) (x / page_size)
-    then Some (record { byte = byte_of image (placed_headers image) x; permissions = permissions_of (placed_headers image) (x / page_size) })
+    then Some (record { byte = image_byte image (placed_headers image) x; permissions = permissions_of (placed_headers image) (x / page_size) })
     else None
 
 -- a cell added where there is one

@@ -25,8 +25,8 @@ abbrev pub part : ℕ → ℕ → ℕ → Part
 part low len value = record { low = low; len = len; value = value }
 
 -- ones at a part's place
-abbrev pub place : Part → ℕ
-place p = 2 ^ (p.len + p.low) - 2 ^ p.low
+abbrev pub part_mask : Part → ℕ
+part_mask p = 2 ^ (p.len + p.low) - 2 ^ p.low
 
 -- the word of a code and its parts
 abbrev pub sum_of : ℕ → List Part → ℕ
@@ -36,7 +36,7 @@ sum_of code (p ∷ ps) = sum_of code ps + p.value * 2 ^ p.low
 -- a mask, with ones at the parts' places too
 abbrev pub mask_of : ℕ → List Part → ℕ
 mask_of m [] = m
-mask_of m (p ∷ ps) = mask_of m ps + place p
+mask_of m (p ∷ ps) = mask_of m ps + part_mask p
 
 -- ones where no part stands
 abbrev pub fixed : List Part → ℕ

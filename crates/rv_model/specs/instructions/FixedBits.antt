@@ -1,49 +1,37 @@
--- The bits that each operation fixes in its word, as the manual's tables have them: opcode at bits 6 to 0, funct3 at
--- 14 to 12, funct7 at 31 to 25
-use Rattle.std.specs.Prelude.{ℕ, ◌+◌, ◌*◌, ◌^◌, List, [], ◌∷◌}
-use Rattle.rv_model.specs.declared.instructions.operations.UpperOp.{UpperOp}
+-- The name of each operation and the bits that it fixes in its word, as the manual's tables have them: opcode at bits 6 to 0,
+-- funct3 at 14 to 12, funct7 at 31 to 25
+use Rattle.std.specs.Prelude.{ℕ, ◌+◌, ◌*◌, ◌^◌, List, [], ◌∷◌, codes}
+use Rattle.rv_model.specs.instructions.Types.{UpperOp, BranchOp, LoadOp, StoreOp, ImmediateOp, ShiftImmediateOp, ShiftImmediateWordOp, RegisterOp, SystemOp, CsrOp, CsrImmediateOp, MaskLogicOp, MaskToScalarOp, ExtendOp, MaskUnaryOp, Form, Eew, UnitOp, Direction, Order, RegisterCount}
 use Rattle.rv_model.specs.declared.instructions.operations.UpperOp.TheVariants as upper
-use Rattle.rv_model.specs.declared.instructions.operations.BranchOp.{BranchOp}
 use Rattle.rv_model.specs.declared.instructions.operations.BranchOp.TheVariants as branch
-use Rattle.rv_model.specs.declared.instructions.operations.LoadOp.{LoadOp}
 use Rattle.rv_model.specs.declared.instructions.operations.LoadOp.TheVariants as load
-use Rattle.rv_model.specs.declared.instructions.operations.StoreOp.{StoreOp}
 use Rattle.rv_model.specs.declared.instructions.operations.StoreOp.TheVariants as store
-use Rattle.rv_model.specs.declared.instructions.operations.ImmediateOp.{ImmediateOp}
 use Rattle.rv_model.specs.declared.instructions.operations.ImmediateOp.TheVariants as immediate
-use Rattle.rv_model.specs.declared.instructions.operations.ShiftImmediateOp.{ShiftImmediateOp}
 use Rattle.rv_model.specs.declared.instructions.operations.ShiftImmediateOp.TheVariants as shift_immediate
-use Rattle.rv_model.specs.declared.instructions.operations.ShiftImmediateWordOp.{ShiftImmediateWordOp}
 use Rattle.rv_model.specs.declared.instructions.operations.ShiftImmediateWordOp.TheVariants as shift_immediate_word
-use Rattle.rv_model.specs.declared.instructions.operations.RegisterOp.{RegisterOp}
 use Rattle.rv_model.specs.declared.instructions.operations.RegisterOp.TheVariants as register
-use Rattle.rv_model.specs.declared.instructions.operations.SystemOp.{SystemOp}
 use Rattle.rv_model.specs.declared.instructions.operations.SystemOp.TheVariants as system
-use Rattle.rv_model.specs.declared.instructions.operations.CsrOp.{CsrOp}
 use Rattle.rv_model.specs.declared.instructions.operations.CsrOp.TheVariants as csr
-use Rattle.rv_model.specs.declared.instructions.operations.CsrImmediateOp.{CsrImmediateOp}
 use Rattle.rv_model.specs.declared.instructions.operations.CsrImmediateOp.TheVariants as csr_immediate
-use Rattle.rv_model.specs.declared.instructions.operations.MaskLogicOp.{MaskLogicOp}
 use Rattle.rv_model.specs.declared.instructions.operations.MaskLogicOp.TheVariants as mask_logic
-use Rattle.rv_model.specs.declared.instructions.operations.MaskToScalarOp.{MaskToScalarOp}
 use Rattle.rv_model.specs.declared.instructions.operations.MaskToScalarOp.TheVariants as mask_to_scalar
-use Rattle.rv_model.specs.declared.instructions.operations.ExtendOp.{ExtendOp}
 use Rattle.rv_model.specs.declared.instructions.operations.ExtendOp.TheVariants as extend
 use Rattle.rv_model.specs.declared.instructions.operations.MaskScanOp.TheVariants as mask_scan
-use Rattle.rv_model.specs.declared.instructions.operations.MaskUnaryOp.{MaskUnaryOp}
 use Rattle.rv_model.specs.declared.instructions.operations.MaskUnaryOp.TheVariants as mask_unary
-use Rattle.rv_model.specs.declared.instructions.operations.Form.{Form}
 use Rattle.rv_model.specs.declared.instructions.operations.Form.TheVariants as form
-use Rattle.rv_model.specs.declared.instructions.operations.Width.{Width}
-use Rattle.rv_model.specs.declared.instructions.operations.Width.TheVariants as width
-use Rattle.rv_model.specs.declared.instructions.operations.UnitOp.{UnitOp}
+use Rattle.rv_model.specs.declared.instructions.operations.Eew.TheVariants as width
 use Rattle.rv_model.specs.declared.instructions.operations.UnitOp.TheVariants as unit
-use Rattle.rv_model.specs.declared.instructions.operations.Direction.{Direction}
 use Rattle.rv_model.specs.declared.instructions.operations.Direction.TheVariants as direction
-use Rattle.rv_model.specs.declared.instructions.operations.Order.{Order}
 use Rattle.rv_model.specs.declared.instructions.operations.Order.TheVariants as order
-use Rattle.rv_model.specs.declared.instructions.operations.RegisterCount.{RegisterCount}
 use Rattle.rv_model.specs.declared.instructions.operations.RegisterCount.TheVariants as count
+
+-- what the listings say of an operation: its name, and the bits that it fixes
+pub record Entry : Type 0 where
+  pub name : List ℕ
+  pub bits : ℕ
+
+abbrev pub entry : List ℕ → ℕ → Entry
+entry name bits = record { name = name; bits = bits }
 
 -- opcode and funct3
 abbrev pub coded : ℕ → ℕ → ℕ
@@ -60,61 +48,61 @@ vector_coded funct3 funct6 unmasked vs1 = coded 0x57 funct3 + funct6 * 2 ^ 26 + 
 -- ---- RV64I (Unprivileged ISA, "RV32I" and "RV64I", with the opcode map of "RV32/64G Instruction Set Listings")
 
 -- LUI, AUIPC
-abbrev pub upper_bits : UpperOp → ℕ
-upper_bits upper.Lui = 0x37
-upper_bits upper.Auipc = 0x17
+abbrev pub upper_entry : UpperOp → Entry
+upper_entry upper.Lui = entry (codes "lui") 0x37
+upper_entry upper.Auipc = entry (codes "auipc") 0x17
 
 -- their operations
 abbrev pub upper_ops : List UpperOp
 upper_ops = upper.Lui ∷ upper.Auipc ∷ []
 
 -- BRANCH
-abbrev pub branch_bits : BranchOp → ℕ
-branch_bits branch.Beq = coded 0x63 0
-branch_bits branch.Bne = coded 0x63 1
-branch_bits branch.Blt = coded 0x63 4
-branch_bits branch.Bge = coded 0x63 5
-branch_bits branch.Bltu = coded 0x63 6
-branch_bits branch.Bgeu = coded 0x63 7
+abbrev pub branch_entry : BranchOp → Entry
+branch_entry branch.Beq = entry (codes "beq") (coded 0x63 0)
+branch_entry branch.Bne = entry (codes "bne") (coded 0x63 1)
+branch_entry branch.Blt = entry (codes "blt") (coded 0x63 4)
+branch_entry branch.Bge = entry (codes "bge") (coded 0x63 5)
+branch_entry branch.Bltu = entry (codes "bltu") (coded 0x63 6)
+branch_entry branch.Bgeu = entry (codes "bgeu") (coded 0x63 7)
 
 -- its operations
 abbrev pub branch_ops : List BranchOp
 branch_ops = branch.Beq ∷ branch.Bne ∷ branch.Blt ∷ branch.Bge ∷ branch.Bltu ∷ branch.Bgeu ∷ []
 
 -- LOAD
-abbrev pub load_bits : LoadOp → ℕ
-load_bits load.Lb = coded 0x03 0
-load_bits load.Lh = coded 0x03 1
-load_bits load.Lw = coded 0x03 2
-load_bits load.Ld = coded 0x03 3
-load_bits load.Lbu = coded 0x03 4
-load_bits load.Lhu = coded 0x03 5
-load_bits load.Lwu = coded 0x03 6
+abbrev pub load_entry : LoadOp → Entry
+load_entry load.Lb = entry (codes "lb") (coded 0x03 0)
+load_entry load.Lh = entry (codes "lh") (coded 0x03 1)
+load_entry load.Lw = entry (codes "lw") (coded 0x03 2)
+load_entry load.Ld = entry (codes "ld") (coded 0x03 3)
+load_entry load.Lbu = entry (codes "lbu") (coded 0x03 4)
+load_entry load.Lhu = entry (codes "lhu") (coded 0x03 5)
+load_entry load.Lwu = entry (codes "lwu") (coded 0x03 6)
 
 -- its operations
 abbrev pub load_ops : List LoadOp
 load_ops = load.Lb ∷ load.Lh ∷ load.Lw ∷ load.Ld ∷ load.Lbu ∷ load.Lhu ∷ load.Lwu ∷ []
 
 -- STORE
-abbrev pub store_bits : StoreOp → ℕ
-store_bits store.Sb = coded 0x23 0
-store_bits store.Sh = coded 0x23 1
-store_bits store.Sw = coded 0x23 2
-store_bits store.Sd = coded 0x23 3
+abbrev pub store_entry : StoreOp → Entry
+store_entry store.Sb = entry (codes "sb") (coded 0x23 0)
+store_entry store.Sh = entry (codes "sh") (coded 0x23 1)
+store_entry store.Sw = entry (codes "sw") (coded 0x23 2)
+store_entry store.Sd = entry (codes "sd") (coded 0x23 3)
 
 -- its operations
 abbrev pub store_ops : List StoreOp
 store_ops = store.Sb ∷ store.Sh ∷ store.Sw ∷ store.Sd ∷ []
 
 -- OP-IMM and OP-IMM-32 with an immediate of 12 bits
-abbrev pub immediate_op_bits : ImmediateOp → ℕ
-immediate_op_bits immediate.Addi = coded 0x13 0
-immediate_op_bits immediate.Slti = coded 0x13 2
-immediate_op_bits immediate.Sltiu = coded 0x13 3
-immediate_op_bits immediate.Xori = coded 0x13 4
-immediate_op_bits immediate.Ori = coded 0x13 6
-immediate_op_bits immediate.Andi = coded 0x13 7
-immediate_op_bits immediate.Addiw = coded 0x1b 0
+abbrev pub immediate_entry : ImmediateOp → Entry
+immediate_entry immediate.Addi = entry (codes "addi") (coded 0x13 0)
+immediate_entry immediate.Slti = entry (codes "slti") (coded 0x13 2)
+immediate_entry immediate.Sltiu = entry (codes "sltiu") (coded 0x13 3)
+immediate_entry immediate.Xori = entry (codes "xori") (coded 0x13 4)
+immediate_entry immediate.Ori = entry (codes "ori") (coded 0x13 6)
+immediate_entry immediate.Andi = entry (codes "andi") (coded 0x13 7)
+immediate_entry immediate.Addiw = entry (codes "addiw") (coded 0x1b 0)
 
 -- their operations
 abbrev pub immediate_ops : List ImmediateOp
@@ -122,55 +110,55 @@ immediate_ops =
     immediate.Addi ∷ immediate.Slti ∷ immediate.Sltiu ∷ immediate.Xori ∷ immediate.Ori ∷ immediate.Andi ∷ immediate.Addiw ∷ []
 
 -- OP-IMM with a shift amount of six bits
-abbrev pub shift_immediate_bits : ShiftImmediateOp → ℕ
-shift_immediate_bits shift_immediate.Slli = register_coded 0x13 1 0x00
-shift_immediate_bits shift_immediate.Srli = register_coded 0x13 5 0x00
-shift_immediate_bits shift_immediate.Srai = register_coded 0x13 5 0x20
+abbrev pub shift_immediate_entry : ShiftImmediateOp → Entry
+shift_immediate_entry shift_immediate.Slli = entry (codes "slli") (register_coded 0x13 1 0x00)
+shift_immediate_entry shift_immediate.Srli = entry (codes "srli") (register_coded 0x13 5 0x00)
+shift_immediate_entry shift_immediate.Srai = entry (codes "srai") (register_coded 0x13 5 0x20)
 
 -- its operations
 abbrev pub shift_immediate_ops : List ShiftImmediateOp
 shift_immediate_ops = shift_immediate.Slli ∷ shift_immediate.Srli ∷ shift_immediate.Srai ∷ []
 
 -- OP-IMM-32 with a shift amount of five bits
-abbrev pub shift_immediate_word_bits : ShiftImmediateWordOp → ℕ
-shift_immediate_word_bits shift_immediate_word.Slliw = register_coded 0x1b 1 0x00
-shift_immediate_word_bits shift_immediate_word.Srliw = register_coded 0x1b 5 0x00
-shift_immediate_word_bits shift_immediate_word.Sraiw = register_coded 0x1b 5 0x20
+abbrev pub shift_immediate_word_entry : ShiftImmediateWordOp → Entry
+shift_immediate_word_entry shift_immediate_word.Slliw = entry (codes "slliw") (register_coded 0x1b 1 0x00)
+shift_immediate_word_entry shift_immediate_word.Srliw = entry (codes "srliw") (register_coded 0x1b 5 0x00)
+shift_immediate_word_entry shift_immediate_word.Sraiw = entry (codes "sraiw") (register_coded 0x1b 5 0x20)
 
 -- its operations
 abbrev pub shift_immediate_word_ops : List ShiftImmediateWordOp
 shift_immediate_word_ops = shift_immediate_word.Slliw ∷ shift_immediate_word.Srliw ∷ shift_immediate_word.Sraiw ∷ []
 
 -- OP and OP-32, with the "M" extension
-abbrev pub register_op_bits : RegisterOp → ℕ
-register_op_bits register.Add = register_coded 0x33 0 0x00
-register_op_bits register.Sub = register_coded 0x33 0 0x20
-register_op_bits register.Sll = register_coded 0x33 1 0x00
-register_op_bits register.Slt = register_coded 0x33 2 0x00
-register_op_bits register.Sltu = register_coded 0x33 3 0x00
-register_op_bits register.Xor = register_coded 0x33 4 0x00
-register_op_bits register.Srl = register_coded 0x33 5 0x00
-register_op_bits register.Sra = register_coded 0x33 5 0x20
-register_op_bits register.Or = register_coded 0x33 6 0x00
-register_op_bits register.And = register_coded 0x33 7 0x00
-register_op_bits register.Mul = register_coded 0x33 0 0x01
-register_op_bits register.Mulh = register_coded 0x33 1 0x01
-register_op_bits register.Mulhsu = register_coded 0x33 2 0x01
-register_op_bits register.Mulhu = register_coded 0x33 3 0x01
-register_op_bits register.Div = register_coded 0x33 4 0x01
-register_op_bits register.Divu = register_coded 0x33 5 0x01
-register_op_bits register.Rem = register_coded 0x33 6 0x01
-register_op_bits register.Remu = register_coded 0x33 7 0x01
-register_op_bits register.Addw = register_coded 0x3b 0 0x00
-register_op_bits register.Subw = register_coded 0x3b 0 0x20
-register_op_bits register.Sllw = register_coded 0x3b 1 0x00
-register_op_bits register.Srlw = register_coded 0x3b 5 0x00
-register_op_bits register.Sraw = register_coded 0x3b 5 0x20
-register_op_bits register.Mulw = register_coded 0x3b 0 0x01
-register_op_bits register.Divw = register_coded 0x3b 4 0x01
-register_op_bits register.Divuw = register_coded 0x3b 5 0x01
-register_op_bits register.Remw = register_coded 0x3b 6 0x01
-register_op_bits register.Remuw = register_coded 0x3b 7 0x01
+abbrev pub register_entry : RegisterOp → Entry
+register_entry register.Add = entry (codes "add") (register_coded 0x33 0 0x00)
+register_entry register.Sub = entry (codes "sub") (register_coded 0x33 0 0x20)
+register_entry register.Sll = entry (codes "sll") (register_coded 0x33 1 0x00)
+register_entry register.Slt = entry (codes "slt") (register_coded 0x33 2 0x00)
+register_entry register.Sltu = entry (codes "sltu") (register_coded 0x33 3 0x00)
+register_entry register.Xor = entry (codes "xor") (register_coded 0x33 4 0x00)
+register_entry register.Srl = entry (codes "srl") (register_coded 0x33 5 0x00)
+register_entry register.Sra = entry (codes "sra") (register_coded 0x33 5 0x20)
+register_entry register.Or = entry (codes "or") (register_coded 0x33 6 0x00)
+register_entry register.And = entry (codes "and") (register_coded 0x33 7 0x00)
+register_entry register.Mul = entry (codes "mul") (register_coded 0x33 0 0x01)
+register_entry register.Mulh = entry (codes "mulh") (register_coded 0x33 1 0x01)
+register_entry register.Mulhsu = entry (codes "mulhsu") (register_coded 0x33 2 0x01)
+register_entry register.Mulhu = entry (codes "mulhu") (register_coded 0x33 3 0x01)
+register_entry register.Div = entry (codes "div") (register_coded 0x33 4 0x01)
+register_entry register.Divu = entry (codes "divu") (register_coded 0x33 5 0x01)
+register_entry register.Rem = entry (codes "rem") (register_coded 0x33 6 0x01)
+register_entry register.Remu = entry (codes "remu") (register_coded 0x33 7 0x01)
+register_entry register.Addw = entry (codes "addw") (register_coded 0x3b 0 0x00)
+register_entry register.Subw = entry (codes "subw") (register_coded 0x3b 0 0x20)
+register_entry register.Sllw = entry (codes "sllw") (register_coded 0x3b 1 0x00)
+register_entry register.Srlw = entry (codes "srlw") (register_coded 0x3b 5 0x00)
+register_entry register.Sraw = entry (codes "sraw") (register_coded 0x3b 5 0x20)
+register_entry register.Mulw = entry (codes "mulw") (register_coded 0x3b 0 0x01)
+register_entry register.Divw = entry (codes "divw") (register_coded 0x3b 4 0x01)
+register_entry register.Divuw = entry (codes "divuw") (register_coded 0x3b 5 0x01)
+register_entry register.Remw = entry (codes "remw") (register_coded 0x3b 6 0x01)
+register_entry register.Remuw = entry (codes "remuw") (register_coded 0x3b 7 0x01)
 
 -- their operations
 abbrev pub register_ops : List RegisterOp
@@ -180,9 +168,9 @@ register_ops =
     register.Srlw ∷ register.Sraw ∷ register.Mulw ∷ register.Divw ∷ register.Divuw ∷ register.Remw ∷ register.Remuw ∷ []
 
 -- SYSTEM with no operands: the whole word
-abbrev pub system_bits : SystemOp → ℕ
-system_bits system.Ecall = 0x00000073
-system_bits system.Ebreak = 0x00100073
+abbrev pub system_entry : SystemOp → Entry
+system_entry system.Ecall = entry (codes "ecall") 0x00000073
+system_entry system.Ebreak = entry (codes "ebreak") 0x00100073
 
 -- its operations
 abbrev pub system_ops : List SystemOp
@@ -191,20 +179,20 @@ system_ops = system.Ecall ∷ system.Ebreak ∷ []
 -- ---- Zicsr (Unprivileged ISA, "Zicsr", CSR Instructions)
 
 -- SYSTEM with a scalar register
-abbrev pub csr_bits : CsrOp → ℕ
-csr_bits csr.Csrrw = coded 0x73 1
-csr_bits csr.Csrrs = coded 0x73 2
-csr_bits csr.Csrrc = coded 0x73 3
+abbrev pub csr_entry : CsrOp → Entry
+csr_entry csr.Csrrw = entry (codes "csrrw") (coded 0x73 1)
+csr_entry csr.Csrrs = entry (codes "csrrs") (coded 0x73 2)
+csr_entry csr.Csrrc = entry (codes "csrrc") (coded 0x73 3)
 
 -- its operations
 abbrev pub csr_ops : List CsrOp
 csr_ops = csr.Csrrw ∷ csr.Csrrs ∷ csr.Csrrc ∷ []
 
 -- SYSTEM with an immediate
-abbrev pub csr_immediate_bits : CsrImmediateOp → ℕ
-csr_immediate_bits csr_immediate.Csrrwi = coded 0x73 5
-csr_immediate_bits csr_immediate.Csrrsi = coded 0x73 6
-csr_immediate_bits csr_immediate.Csrrci = coded 0x73 7
+abbrev pub csr_immediate_entry : CsrImmediateOp → Entry
+csr_immediate_entry csr_immediate.Csrrwi = entry (codes "csrrwi") (coded 0x73 5)
+csr_immediate_entry csr_immediate.Csrrsi = entry (codes "csrrsi") (coded 0x73 6)
+csr_immediate_entry csr_immediate.Csrrci = entry (codes "csrrci") (coded 0x73 7)
 
 -- its operations
 abbrev pub csr_immediate_ops : List CsrImmediateOp
@@ -227,15 +215,15 @@ whole_move_bits count.Four = vector_coded 3 0x27 1 3  -- vmv4r.v
 whole_move_bits count.Eight = vector_coded 3 0x27 1 7  -- vmv8r.v
 
 -- "Vector Mask-Register Logical Instructions"
-abbrev pub mask_logic_bits : MaskLogicOp → ℕ
-mask_logic_bits mask_logic.Vmandn = vector_coded 2 0x18 1 0  -- vmandn.mm
-mask_logic_bits mask_logic.Vmand = vector_coded 2 0x19 1 0  -- vmand.mm
-mask_logic_bits mask_logic.Vmor = vector_coded 2 0x1a 1 0  -- vmor.mm
-mask_logic_bits mask_logic.Vmxor = vector_coded 2 0x1b 1 0  -- vmxor.mm
-mask_logic_bits mask_logic.Vmorn = vector_coded 2 0x1c 1 0  -- vmorn.mm
-mask_logic_bits mask_logic.Vmnand = vector_coded 2 0x1d 1 0  -- vmnand.mm
-mask_logic_bits mask_logic.Vmnor = vector_coded 2 0x1e 1 0  -- vmnor.mm
-mask_logic_bits mask_logic.Vmxnor = vector_coded 2 0x1f 1 0  -- vmxnor.mm
+abbrev pub mask_logic_entry : MaskLogicOp → Entry
+mask_logic_entry mask_logic.Vmandn = entry (codes "vmandn.mm") (vector_coded 2 0x18 1 0)
+mask_logic_entry mask_logic.Vmand = entry (codes "vmand.mm") (vector_coded 2 0x19 1 0)
+mask_logic_entry mask_logic.Vmor = entry (codes "vmor.mm") (vector_coded 2 0x1a 1 0)
+mask_logic_entry mask_logic.Vmxor = entry (codes "vmxor.mm") (vector_coded 2 0x1b 1 0)
+mask_logic_entry mask_logic.Vmorn = entry (codes "vmorn.mm") (vector_coded 2 0x1c 1 0)
+mask_logic_entry mask_logic.Vmnand = entry (codes "vmnand.mm") (vector_coded 2 0x1d 1 0)
+mask_logic_entry mask_logic.Vmnor = entry (codes "vmnor.mm") (vector_coded 2 0x1e 1 0)
+mask_logic_entry mask_logic.Vmxnor = entry (codes "vmxnor.mm") (vector_coded 2 0x1f 1 0)
 
 -- their operations
 abbrev pub mask_logic_ops : List MaskLogicOp
@@ -244,22 +232,22 @@ mask_logic_ops =
     mask_logic.Vmnand ∷ mask_logic.Vmnor ∷ mask_logic.Vmxnor ∷ []
 
 -- VWXUNARY0 on a mask: "Vector count population in mask vcpop.m", "vfirst find-first-set mask bit"
-abbrev pub mask_to_scalar_bits : MaskToScalarOp → ℕ
-mask_to_scalar_bits mask_to_scalar.Vcpop = vector_coded 2 0x10 0 16  -- vcpop.m
-mask_to_scalar_bits mask_to_scalar.Vfirst = vector_coded 2 0x10 0 17  -- vfirst.m
+abbrev pub mask_to_scalar_entry : MaskToScalarOp → Entry
+mask_to_scalar_entry mask_to_scalar.Vcpop = entry (codes "vcpop.m") (vector_coded 2 0x10 0 16)
+mask_to_scalar_entry mask_to_scalar.Vfirst = entry (codes "vfirst.m") (vector_coded 2 0x10 0 17)
 
 -- its operations
 abbrev pub mask_to_scalar_ops : List MaskToScalarOp
 mask_to_scalar_ops = mask_to_scalar.Vcpop ∷ mask_to_scalar.Vfirst ∷ []
 
 -- VXUNARY0: "Vector Integer Extension"
-abbrev pub extend_bits : ExtendOp → ℕ
-extend_bits extend.VzextVf8 = vector_coded 2 0x12 0 2  -- vzext.vf8
-extend_bits extend.VsextVf8 = vector_coded 2 0x12 0 3  -- vsext.vf8
-extend_bits extend.VzextVf4 = vector_coded 2 0x12 0 4  -- vzext.vf4
-extend_bits extend.VsextVf4 = vector_coded 2 0x12 0 5  -- vsext.vf4
-extend_bits extend.VzextVf2 = vector_coded 2 0x12 0 6  -- vzext.vf2
-extend_bits extend.VsextVf2 = vector_coded 2 0x12 0 7  -- vsext.vf2
+abbrev pub extend_entry : ExtendOp → Entry
+extend_entry extend.VzextVf8 = entry (codes "vzext.vf8") (vector_coded 2 0x12 0 2)
+extend_entry extend.VsextVf8 = entry (codes "vsext.vf8") (vector_coded 2 0x12 0 3)
+extend_entry extend.VzextVf4 = entry (codes "vzext.vf4") (vector_coded 2 0x12 0 4)
+extend_entry extend.VsextVf4 = entry (codes "vsext.vf4") (vector_coded 2 0x12 0 5)
+extend_entry extend.VzextVf2 = entry (codes "vzext.vf2") (vector_coded 2 0x12 0 6)
+extend_entry extend.VsextVf2 = entry (codes "vsext.vf2") (vector_coded 2 0x12 0 7)
 
 -- its operations
 abbrev pub extend_ops : List ExtendOp
@@ -268,11 +256,11 @@ extend_ops =
     extend.VsextVf2 ∷ []
 
 -- VMUNARY0 on a mask: "vmsbf.m set-before-first mask bit" and the like, "Vector Iota Instruction"
-abbrev pub mask_unary_bits : MaskUnaryOp → ℕ
-mask_unary_bits (mask_unary.Scan mask_scan.Vmsbf) = vector_coded 2 0x14 0 1  -- vmsbf.m
-mask_unary_bits (mask_unary.Scan mask_scan.Vmsof) = vector_coded 2 0x14 0 2  -- vmsof.m
-mask_unary_bits (mask_unary.Scan mask_scan.Vmsif) = vector_coded 2 0x14 0 3  -- vmsif.m
-mask_unary_bits mask_unary.Viota = vector_coded 2 0x14 0 16  -- viota.m
+abbrev pub mask_unary_entry : MaskUnaryOp → Entry
+mask_unary_entry (mask_unary.Scan mask_scan.Vmsbf) = entry (codes "vmsbf.m") (vector_coded 2 0x14 0 1)
+mask_unary_entry (mask_unary.Scan mask_scan.Vmsof) = entry (codes "vmsof.m") (vector_coded 2 0x14 0 2)
+mask_unary_entry (mask_unary.Scan mask_scan.Vmsif) = entry (codes "vmsif.m") (vector_coded 2 0x14 0 3)
+mask_unary_entry mask_unary.Viota = entry (codes "viota.m") (vector_coded 2 0x14 0 16)
 
 -- its operations
 abbrev pub mask_unary_ops : List MaskUnaryOp
@@ -284,14 +272,14 @@ mask_unary_ops =
 -- 14 to 12)
 
 -- the width of a memory element or an index
-abbrev pub width_bits : Width → ℕ
+abbrev pub width_bits : Eew → ℕ
 width_bits width.E8 = 0 * 2 ^ 12
 width_bits width.E16 = 5 * 2 ^ 12
 width_bits width.E32 = 6 * 2 ^ 12
 width_bits width.E64 = 7 * 2 ^ 12
 
 -- each width
-abbrev pub widths : List Width
+abbrev pub widths : List Eew
 widths = width.E8 ∷ width.E16 ∷ width.E32 ∷ width.E64 ∷ []
 
 -- LOAD-FP, STORE-FP

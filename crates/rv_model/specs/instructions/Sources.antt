@@ -1,9 +1,8 @@
 -- The second operand of a vector operation: its form, and the five bits 19 to 15 that hold it (V extension, "Vector
 -- Arithmetic Instruction encoding")
 use Rattle.std.specs.Prelude.{ℕ}
-use Rattle.rv_model.specs.declared.instructions.operations.Form.{Form}
+use Rattle.rv_model.specs.instructions.Types.{Form, Source}
 use Rattle.rv_model.specs.declared.instructions.operations.Form.TheVariants as form
-use Rattle.rv_model.specs.declared.instructions.source.Source.{Source}
 use Rattle.rv_model.specs.declared.instructions.source.Source.TheVariants as source
 
 -- where the operand comes from
@@ -13,10 +12,10 @@ form_of (source.X r) = form.X
 form_of (source.I n) = form.I
 
 -- the five bits: a register's number, or an immediate without its sign
-abbrev pub number : Source → ℕ
-number (source.V r) = r
-number (source.X r) = r
-number (source.I n) = n
+abbrev pub source_number : Source → ℕ
+source_number (source.V r) = r
+source_number (source.X r) = r
+source_number (source.I n) = n
 
 -- the operand of a form with these five bits
 abbrev pub source_of : Form → ℕ → Source

@@ -1,37 +1,30 @@
 -- The instruction table: a row for each operation of the manual's tables, with the bits that it fixes and the
 -- instruction that a word of the row is. Its families stand in the order of the tables
-use Rattle.std.specs.Prelude.{◌⊎◌, ℕ, ◌≡◌, List, [], ◌∷◌, ◌++◌, map, Option, Some, None, true, ◌&&◌, nat_eq, bit_and, if◌then◌else◌}
+use Rattle.std.specs.Prelude.{◌⊎◌, ℕ, ◌≡◌, List, [], ◌∷◌, ◌++◌, flat_map, map, Option, Some, None, true, nat_eq, bit_and, if◌then◌else◌}
 use Rattle.rv_model.specs.instructions.BitFields.{fixed}
 use Rattle.rv_model.specs.instructions.Sources.{source_of}
 use Rattle.rv_model.specs.instructions.FixedBits.{branch_ops, counts, csr_immediate_ops, csr_ops, directions, extend_ops, load_ops, mask_logic_ops, mask_to_scalar_ops, mask_unary_ops, immediate_ops, register_ops, shift_immediate_ops, shift_immediate_word_ops, store_ops, system_ops, unit_ops, upper_ops, widths}
-use Rattle.rv_model.specs.instructions.Operations.{has_form, line, carry_line, vector_ops, carry_ops, same_major, those}
+use Rattle.rv_model.specs.instructions.Operations.{line, vector_ops, carry_ops, those, carry_line}
 use Rattle.rv_model.specs.instructions.Layout.{parts, bits, filled}
-use Rattle.rv_model.specs.declared.instructions.operations.Width.{Width}
-use Rattle.rv_model.specs.declared.instructions.operations.UnitOp.{UnitOp}
-use Rattle.rv_model.specs.declared.instructions.operations.Direction.{Direction}
+use Rattle.rv_model.specs.instructions.Types.{Eew, UnitOp, Direction, Order, RegisterCount, Form, Major}
+use Rattle.rv_model.specs.instructions.Variants.{Instr, Upper, Jump, JumpRegister, Branch, Load, Store, RegisterImmediate, ShiftImmediate, ShiftImmediateWord, RegisterRegister, Fence, System, Register, Immediate, SetVli, SetIvli, SetVl, Arith, Carry, Move, WholeMove, MaskLogic, Compress, MaskToScalar, Extend, MaskUnary, ElementIndex, MoveToScalar, MoveToVector, UnitStride, Strided, Indexed, WholeLoad, WholeStore, MaskAccess}
 use Rattle.rv_model.specs.declared.instructions.operations.Direction.TheVariants as direction
-use Rattle.rv_model.specs.declared.instructions.operations.Order.{Order}
 use Rattle.rv_model.specs.declared.instructions.operations.Order.TheVariants as order
-use Rattle.rv_model.specs.declared.instructions.operations.RegisterCount.{RegisterCount}
-use Rattle.rv_model.specs.declared.instructions.operations.Line.{Line}
-use Rattle.rv_model.specs.declared.instructions.operations.Form.{Form}
 use Rattle.rv_model.specs.declared.instructions.operations.Form.TheVariants as form
-use Rattle.rv_model.specs.declared.instructions.operations.Major.{Major}
 use Rattle.rv_model.specs.declared.instructions.operations.Major.TheVariants.{Opi, Opm}
-use Rattle.rv_model.specs.declared.instructions.instruction.Instr.{Instr}
-use Rattle.rv_model.specs.declared.instructions.instruction.Instr.TheVariants.{Upper, Jump, JumpRegister, Branch, Load, Store, RegisterImmediate, ShiftImmediate, ShiftImmediateWord, RegisterRegister, Fence, System, Csr, CsrImmediate, SetVli, SetIvli, SetVl, VectorArith, VectorCarry, VectorMove, WholeMove, MaskLogic, Compress, MaskToScalar, VectorExtend, MaskUnary, ElementIndex, MoveToScalar, MoveToVector, VectorUnit, VectorStrided, VectorIndexed, WholeLoad, WholeStore, MaskMemory}
+use Rattle.rv_model.specs.declared.instructions.instruction.Instr.TheVariants as instr
 
 -- each of these with each width
-abbrev pub with_widths : {A : Type 0} → List A → List (A × Width)
+abbrev pub with_widths : {A : Type 0} → List A → List (A × Eew)
 with_widths [] = []
 with_widths (x ∷ xs) = map (λ w. (x, w)) widths ++ with_widths xs
 
 -- each unit-stride access
-abbrev pub unit_accesses : List (UnitOp × Width)
+abbrev pub unit_accesses : List (UnitOp × Eew)
 unit_accesses = with_widths unit_ops
 
 -- each strided access
-abbrev pub strided_accesses : List (Direction × Width)
+abbrev pub strided_accesses : List (Direction × Eew)
 strided_accesses = with_widths directions
 
 -- both directions in both orders
@@ -41,11 +34,11 @@ ordered_directions =
     (direction.Store, order.Ordered) ∷ []
 
 -- each indexed access
-abbrev pub indexed_accesses : List ((Direction × Order) × Width)
+abbrev pub indexed_accesses : List ((Direction × Order) × Eew)
 indexed_accesses = with_widths ordered_directions
 
 -- each load of whole registers
-abbrev pub whole_loads : List (RegisterCount × Width)
+abbrev pub whole_loads : List (RegisterCount × Eew)
 whole_loads = with_widths counts
 
 -- the rows with one layout of operands, and for vector operations of one place of the opcode map
@@ -119,41 +112,41 @@ pub data Family : Type 0 where
 
 -- an instruction for each row of a family, with zeros for operands
 abbrev pub templates : Family → List Instr
-templates Uppers = map (λ op. Upper op 0 0) upper_ops
-templates Jumps = Jump 0 0 ∷ []
-templates JumpRegisters = JumpRegister 0 0 0 ∷ []
-templates Branches = map (λ op. Branch op 0 0 0) branch_ops
-templates Loads = map (λ op. Load op 0 0 0) load_ops
-templates Stores = map (λ op. Store op 0 0 0) store_ops
-templates RegisterImmediates = map (λ op. RegisterImmediate op 0 0 0) immediate_ops
-templates ShiftImmediates = map (λ op. ShiftImmediate op 0 0 0) shift_immediate_ops
-templates ShiftImmediateWords = map (λ op. ShiftImmediateWord op 0 0 0) shift_immediate_word_ops
-templates RegisterRegisters = map (λ op. RegisterRegister op 0 0 0) register_ops
-templates Fences = Fence 0 0 0 ∷ []
-templates Systems = map (λ op. System op) system_ops
-templates Csrs = map (λ op. Csr op 0 0 0) csr_ops
-templates CsrImmediates = map (λ op. CsrImmediate op 0 0 0) csr_immediate_ops
-templates SetVlis = SetVli 0 0 0 ∷ []
-templates SetIvlis = SetIvli 0 0 0 ∷ []
-templates SetVls = SetVl 0 0 0 ∷ []
-templates (Ariths m f) = map (λ op. VectorArith (op, source_of f 0) 0 0 true) (those line m f vector_ops)
-templates (Carries f) = map (λ op. VectorCarry (op, source_of f 0) 0 0) (those carry_line Opi f carry_ops)
-templates (Moves f) = VectorMove (source_of f 0) 0 ∷ []
-templates WholeMoves = map (λ op. WholeMove op 0 0) counts
-templates MaskLogics = map (λ op. MaskLogic op 0 0 0) mask_logic_ops
-templates Compresses = Compress 0 0 0 ∷ []
-templates MasksToScalar = map (λ op. MaskToScalar op 0 0 true) mask_to_scalar_ops
-templates Extends = map (λ op. VectorExtend op 0 0 true) extend_ops
-templates MaskUnaries = map (λ op. MaskUnary op 0 0 true) mask_unary_ops
-templates ElementIndices = ElementIndex 0 true ∷ []
-templates MovesToScalar = MoveToScalar 0 0 ∷ []
-templates MovesToVector = MoveToVector 0 0 ∷ []
-templates Units = map (λ op. VectorUnit op.0 op.1 0 0 0 true) unit_accesses
-templates Strideds = map (λ op. VectorStrided op.0 op.1 0 0 0 0 true) strided_accesses
-templates Indexeds = map (λ op. VectorIndexed op.0.0 op.0.1 op.1 0 0 0 0 true) indexed_accesses
-templates WholeLoads = map (λ op. WholeLoad op.0 op.1 0 0) whole_loads
-templates WholeStores = map (λ op. WholeStore op 0 0) counts
-templates MaskMemories = map (λ op. MaskMemory op 0 0) directions
+templates Uppers = map (λ op. instr.Scalar (Upper op 0 0)) upper_ops
+templates Jumps = instr.Scalar (Jump 0 0) ∷ []
+templates JumpRegisters = instr.Scalar (JumpRegister 0 0 0) ∷ []
+templates Branches = map (λ op. instr.Scalar (Branch op 0 0 0)) branch_ops
+templates Loads = map (λ op. instr.Scalar (Load op 0 0 0)) load_ops
+templates Stores = map (λ op. instr.Scalar (Store op 0 0 0)) store_ops
+templates RegisterImmediates = map (λ op. instr.Scalar (RegisterImmediate op 0 0 0)) immediate_ops
+templates ShiftImmediates = map (λ op. instr.Scalar (ShiftImmediate op 0 0 0)) shift_immediate_ops
+templates ShiftImmediateWords = map (λ op. instr.Scalar (ShiftImmediateWord op 0 0 0)) shift_immediate_word_ops
+templates RegisterRegisters = map (λ op. instr.Scalar (RegisterRegister op 0 0 0)) register_ops
+templates Fences = instr.Scalar (Fence 0 0 0) ∷ []
+templates Systems = map (λ op. instr.Scalar (System op)) system_ops
+templates Csrs = map (λ op. instr.Csr (Register op 0 0 0)) csr_ops
+templates CsrImmediates = map (λ op. instr.Csr (Immediate op 0 0 0)) csr_immediate_ops
+templates SetVlis = instr.Vector (SetVli 0 0 0) ∷ []
+templates SetIvlis = instr.Vector (SetIvli 0 0 0) ∷ []
+templates SetVls = instr.Vector (SetVl 0 0 0) ∷ []
+templates (Ariths m f) = map (λ op. instr.Vector (Arith (op, source_of f 0) 0 0 true)) (those line m f vector_ops)
+templates (Carries f) = map (λ op. instr.Vector (Carry (op, source_of f 0) 0 0)) (those carry_line Opi f carry_ops)
+templates (Moves f) = instr.Vector (Move (source_of f 0) 0) ∷ []
+templates WholeMoves = map (λ op. instr.Vector (WholeMove op 0 0)) counts
+templates MaskLogics = map (λ op. instr.Vector (MaskLogic op 0 0 0)) mask_logic_ops
+templates Compresses = instr.Vector (Compress 0 0 0) ∷ []
+templates MasksToScalar = map (λ op. instr.Vector (MaskToScalar op 0 0 true)) mask_to_scalar_ops
+templates Extends = map (λ op. instr.Vector (Extend op 0 0 true)) extend_ops
+templates MaskUnaries = map (λ op. instr.Vector (MaskUnary op 0 0 true)) mask_unary_ops
+templates ElementIndices = instr.Vector (ElementIndex 0 true) ∷ []
+templates MovesToScalar = instr.Vector (MoveToScalar 0 0) ∷ []
+templates MovesToVector = instr.Vector (MoveToVector 0 0) ∷ []
+templates Units = map (λ op. instr.Access (UnitStride op.0 op.1 0 0 0 true)) unit_accesses
+templates Strideds = map (λ op. instr.Access (Strided op.0 op.1 0 0 0 0 true)) strided_accesses
+templates Indexeds = map (λ op. instr.Access (Indexed op.0.0 op.0.1 op.1 0 0 0 0 true)) indexed_accesses
+templates WholeLoads = map (λ op. instr.Access (WholeLoad op.0 op.1 0 0)) whole_loads
+templates WholeStores = map (λ op. instr.Access (WholeStore op 0 0)) counts
+templates MaskMemories = map (λ op. instr.Access (MaskAccess op 0 0)) directions
 
 -- every family
 abbrev pub families : List Family
@@ -179,14 +172,9 @@ row_of t = record { mask = fixed (parts t); bits = bits t; instr = filled t }
 unfoldable pub rows : Family → List Row
 rows f = map row_of (templates f)
 
--- lists one after another
-abbrev pub joined : List (List Row) → List Row
-joined [] = []
-joined (l ∷ ls) = l ++ joined ls
-
 -- every row
 unfoldable pub table : List Row
-table = joined (map rows families)
+table = flat_map rows families
 
 -- the word has the bits that the row fixes
 abbrev pub Matches : Row → ℕ → Type 0
@@ -205,14 +193,3 @@ IsRow word r = In r table × Matches r word
 unfoldable pub scan : List Row → ℕ → Option Instr
 scan [] word = None
 scan (r ∷ rs) word = if nat_eq (bit_and word r.mask) r.bits then Some (r.instr word) else scan rs word
-
--- the operation with these fixed bits
-unfoldable pub find : {A : Type 0} → (A → ℕ) → List A → ℕ → Option A
-find code [] bits = None
-find code (op ∷ ops) bits = if nat_eq bits (code op) then Some op else find code ops bits
-
--- the operation with this funct6 in a half of the opcode map
-unfoldable pub find_at : {A : Type 0} → (A → Line) → Major → Form → ℕ → List A → Option A
-find_at line m f n [] = None
-find_at line m f n (op ∷ ops) =
-    if same_major m (line op).major && (nat_eq n (line op).funct6 && has_form (line op).forms f) then Some op else find_at line m f n ops

@@ -3,12 +3,8 @@
 -- begin together, and in the highest-numbered part of the destination where both end together.
 use Rattle.std.specs.Prelude.{◌≡◌, ℕ, ◌+◌, ◌*◌, ◌%◌, ◌<◌, ◌≤◌, ◌⊎◌, ⊤, Bool, true, false, ◌&&◌, ◌||◌, not, nat_lt, nat_le, ◌==◌, max, min, List, All}
 use Rattle.std.specs.List.{list_all}
-use Rattle.rv_model.specs.declared.legality.Operand.{Operand}
-use Rattle.rv_model.specs.declared.legality.Content.{Content}
-use Rattle.rv_model.specs.declared.legality.Content.TheVariants.{Mask, Elements}
-use Rattle.rv_model.specs.declared.legality.Role.{Role}
-use Rattle.rv_model.specs.declared.legality.Role.TheVariants.{Read, Control, Write, Apart}
-use Rattle.rv_model.specs.declared.vector.sizes.TheConstants.{VECTOR_REGISTERS}
+use Rattle.rv_model.specs.legality.Types.{Operand, Content, Mask, Elements, Role, Read, Control, Write, Apart}
+use Rattle.rv_model.specs.vector.Types.{VECTOR_REGISTERS}
 use Rattle.rv_model.specs.vector.Registers.{registers}
 
 -- the effective element width in bits; a mask's is 1
@@ -64,12 +60,12 @@ AllowsAs _ _ d s = ⊤
 abbrev pub Allows : Operand → Operand → Type 0
 Allows d s = AllowsAs d.role s.role d s
 
--- these may be the operands of one instruction
+-- these may be the operands of one instruction; `are_legal` is the same as a test
 pub record AreLegal (operands : List Operand) : Type 0 where
   pub groups : All IsGroup operands
   pub pairs : All (λ d. All (Allows d) operands) operands
 
--- ---- the same as tests
+-- ---- the same as tests, which laws prove to be `AreLegal` and its parts
 
 abbrev pub is_width : Content → Bool
 is_width Mask = true

@@ -5,7 +5,7 @@ use Rattle.rv_model.specs.machine.Script.{after_script, new_world}
 use Rattle.rv_model.specs.machine.Setup.{Setup}
 use Rattle.rv_model.specs.machine.Users.{user_count}
 use Rattle.rv_model.specs.machine.VectorUnit.{VectorUnit, is_marked, is_owned_by}
-use Rattle.rv_model.specs.machine.World.{World, Happening, after_one, part, unit_after}
+use Rattle.rv_model.specs.machine.World.{World, Happening, after_one, unit_after, user_machine}
 
 -- the owner, if there is one, is a user
 abbrev pub OwnerIsUser : Option ℕ → Type 0
@@ -18,7 +18,7 @@ HasNothing u unit = (is_owned_by unit.owner u ≡ false) × (is_marked unit.save
 
 abbrev pub AbsentUsersHaveNothing : World → Type 0
 AbsentUsersHaveNothing w =
-    OwnerIsUser w.unit.owner × ((u : ℕ) → 1 ≤ u → u ≤ user_count → part u w ≡ None → HasNothing u w.unit)
+    OwnerIsUser w.unit.owner × ((u : ℕ) → 1 ≤ u → u ≤ user_count → user_machine u w ≡ None → HasNothing u w.unit)
 
 -- ---- the laws
 
@@ -42,4 +42,4 @@ ScriptsKeepNothing =
 abbrev pub AbsentUsersLeaveTheUnit : Type 0
 AbsentUsersLeaveTheUnit =
     (setup : Setup) (w : World) (h : Happening) → 1 ≤ h.user → h.user ≤ user_count → AbsentUsersHaveNothing w
-    → part h.user w ≡ None → unit_after setup w h ≡ w.unit
+    → user_machine h.user w ≡ None → unit_after setup w h ≡ w.unit

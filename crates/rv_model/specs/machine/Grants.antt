@@ -10,7 +10,7 @@ use Rattle.rv_model.specs.machine.PrivateMachine.{Private, Slice}
 use Rattle.rv_model.specs.machine.Setup.{Setup}
 use Rattle.rv_model.specs.machine.Users.{users}
 use Rattle.rv_model.specs.machine.VectorUnit.{stats_of}
-use Rattle.rv_model.specs.machine.World.{World, Happening, part, after_one}
+use Rattle.rv_model.specs.machine.World.{World, Happening, after_one, user_machine}
 
 -- ---- whose turn it is
 
@@ -50,9 +50,8 @@ granted setup (suc n) w = granted_first (next_running w) (λ h. granted setup n 
 -- what an operator's command makes happen
 abbrev pub grants : Setup → World → OperatorCommand → List Happening
 grants setup w (Slices n) = granted setup n w
-grants setup w (Run u) = if runs (part u w) then slice_of u false ∷ [] else []
-grants setup w ListUsers = []
-grants setup w ShowStats = []
+grants setup w (Run u) = if runs (user_machine u w) then slice_of u false ∷ [] else []
+grants setup w _ = []
 
 abbrev pub grants_of : Setup → World → OperatorParsed → List Happening
 grants_of setup w (Err reason) = []

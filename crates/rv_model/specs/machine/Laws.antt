@@ -1,7 +1,7 @@
 -- The laws that tie one user's lines of an output to that user's machine alone.
 use Rattle.std.specs.Prelude.{ℕ, ◌≡◌, ◌≤◌, List, [], ◌∷◌, length}
 use Rattle.rv_model.specs.machine.PrivateMachine.{solo_from, solo, end_of}
-use Rattle.rv_model.specs.machine.Script.{World, Happening, part, after_one, told_by, whole_from, whole, after_script, own_from, own, lines}
+use Rattle.rv_model.specs.machine.Script.{World, Happening, after_one, told_by, whole_from, whole, after_script, own_from, own, lines, user_machine}
 use Rattle.rv_model.specs.machine.Setup.{Setup}
 use Rattle.rv_model.specs.machine.Users.{user_count}
 
@@ -10,7 +10,7 @@ use Rattle.rv_model.specs.machine.Users.{user_count}
 abbrev pub EachUserAlone : Type 0
 EachUserAlone =
     (setup : Setup) (w : World) (script : List ℕ) (u : ℕ) → length w.parts ≡ user_count → 1 ≤ u → u ≤ user_count
-    → lines u (whole_from setup w script) ≡ solo_from setup (part u w) (own_from setup u w script)
+    → lines u (whole_from setup w script) ≡ solo_from setup (user_machine u w) (own_from setup u w script)
 
 -- The same for new machines: everyone is absent at first.
 abbrev pub EachNewUserAlone : Type 0
@@ -22,7 +22,7 @@ EachNewUserAlone =
 abbrev pub EachUserEndsAlone : Type 0
 EachUserEndsAlone =
     (setup : Setup) (w : World) (script : List ℕ) (u : ℕ) → length w.parts ≡ user_count → 1 ≤ u → u ≤ user_count
-    → part u (after_script setup w script) ≡ end_of setup (part u w) (own_from setup u w script)
+    → user_machine u (after_script setup w script) ≡ end_of setup (user_machine u w) (own_from setup u w script)
 
 -- So two scripts that give a user the same commands and slices show that user the same lines, whatever the others do.
 abbrev pub OthersChangeNothing : Type 0
@@ -35,9 +35,9 @@ OthersChangeNothing =
 abbrev pub EqualPartsAnswerAlike : Type 0
 EqualPartsAnswerAlike =
     (setup : Setup) (one two : World) (h : Happening) → 1 ≤ h.user → h.user ≤ user_count → length one.parts ≡ user_count
-    → length two.parts ≡ user_count → part h.user one ≡ part h.user two
+    → length two.parts ≡ user_count → user_machine h.user one ≡ user_machine h.user two
     → (told_by setup one (h ∷ []) ≡ told_by setup two (h ∷ []))
-    × (part h.user (after_one setup one h) ≡ part h.user (after_one setup two h))
+    × (user_machine h.user (after_one setup one h) ≡ user_machine h.user (after_one setup two h))
 
 -- No script changes how many machines there are.
 abbrev pub MachinesStayEight : Type 0

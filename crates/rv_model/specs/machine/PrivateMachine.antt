@@ -5,12 +5,12 @@ use Rattle.rv_model.specs.commands.Commands.{commanded, parse}
 use Rattle.rv_model.specs.commands.Printing.{stop_line}
 use Rattle.rv_model.specs.machine.Runs.{Halted, ticked}
 use Rattle.rv_model.specs.machine.Setup.{Setup}
-pub use Rattle.rv_model.specs.machine.UserMachine.{Private, Present, Outcome, answers}
+pub use Rattle.rv_model.specs.machine.UserMachine.{Private, Present, Outcome, replies}
 
 -- a run ended: it goes on in the next slice, or its program stopped
 abbrev pub slice_ends : Halted → Option Stop → Outcome
 slice_ends run None = record { next = Some run.state; lines = [] }
-slice_ends run (Some stop) = answers (record run.state { running = false }) (stop_line run.state.hart.scalar.pc stop)
+slice_ends run (Some stop) = replies (record run.state { running = false }) (stop_line run.state.hart.scalar.pc stop)
 
 -- the ticks of a slice, for a program that runs
 unfoldable pub sliced : ℕ → Private → Outcome

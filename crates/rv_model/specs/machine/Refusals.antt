@@ -5,7 +5,7 @@ use Rattle.std.specs.List.{Any}
 use Rattle.rv_model.specs.declared.commands.refusal.Refusal.{Refusal}
 use Rattle.rv_model.specs.commands.Printing.{refused}
 use Rattle.rv_model.specs.machine.PrivateMachine.{Slice}
-use Rattle.rv_model.specs.machine.Script.{after, told}
+use Rattle.rv_model.specs.machine.Script.{told, world_after}
 use Rattle.rv_model.specs.machine.Setup.{Setup}
 use Rattle.rv_model.specs.machine.World.{World, Happening, after_one, outcome_of}
 use Rattle.rv_model.specs.text.Lines.{pieces}
@@ -34,4 +34,4 @@ RefusedHappeningsChangeNothing =
 -- So does a line of a script, whoever's it is, that prints a refusal.
 abbrev pub RefusedLinesChangeNothing : Type 0
 RefusedLinesChangeNothing =
-    (setup : Setup) (w : World) (line : List ℕ) → Any IsRefusal (answers_in (told setup w line)) → after setup w line ≡ w
+    (setup : Setup) (w : World) (line : List ℕ) → Any IsRefusal (answers_in (told setup w line)) → world_after setup w line ≡ w

@@ -7,7 +7,7 @@ use Rattle.rv_model.specs.machine.PrivateMachine.{Event, Command}
 use Rattle.rv_model.specs.machine.Setup.{Setup}
 use Rattle.rv_model.specs.machine.Users.{user_count}
 unfoldable pub use Rattle.rv_model.specs.machine.World.{new_world}
-pub use Rattle.rv_model.specs.machine.World.{World, part, with_part, with_unit, Happening, outcome_of, unit_after, after_one, after_events, told_by, AreUsers}
+pub use Rattle.rv_model.specs.machine.World.{World, with_unit, Happening, outcome_of, unit_after, after_one, after_events, told_by, AreUsers, user_machine, with_user_machine}
 use Rattle.rv_model.specs.text.Lines.{text, pieces}
 
 -- what a line is: nothing, too long, without a proper prefix, the operator's, or a user's
@@ -35,39 +35,36 @@ commands u line = record { user = u; event = Command line; turn = false }
 
 -- what happens by a line
 abbrev pub events_of : Setup → World → Kind → List Happening
-events_of setup w Empty = []
-events_of setup w Long = []
-events_of setup w Bad = []
 events_of setup w (Operator line) = grants_of setup w (operator_parse line)
 events_of setup w (Of u line) = commands u line ∷ []
+events_of setup w _ = []
 
 -- what a line prints under the star
 unfoldable pub common : Setup → World → Kind → List (List ℕ)
-common setup w Empty = []
 common setup w Long = codes "E02" ∷ []
 common setup w Bad = codes "E01" ∷ []
 common setup w (Operator line) = operator_line setup w (operator_parse line) ∷ []
-common setup w (Of u line) = []
+common setup w _ = []
 
 -- the world after a line, and what the line prints
-unfoldable pub after : Setup → World → List ℕ → World
-after setup w line = after_events setup w (events_of setup w (kind_of line))
+unfoldable pub world_after : Setup → World → List ℕ → World
+world_after setup w line = after_events setup w (events_of setup w (kind_of line))
 
 unfoldable pub told : Setup → World → List ℕ → List ℕ
 told setup w line = told_by setup w (events_of setup w (kind_of line)) ++ text 42 (common setup w (kind_of line))
 
 abbrev pub after_all : Setup → World → List (List ℕ) → World
 after_all setup w [] = w
-after_all setup w (line ∷ lines) = after_all setup (after setup w line) lines
+after_all setup w (line ∷ lines) = after_all setup (world_after setup w line) lines
 
 abbrev pub told_all : Setup → World → List (List ℕ) → List ℕ
 told_all setup w [] = []
-told_all setup w (line ∷ lines) = told setup w line ++ told_all setup (after setup w line) lines
+told_all setup w (line ∷ lines) = told setup w line ++ told_all setup (world_after setup w line) lines
 
 -- what happens by all lines, in order
 abbrev pub schedule : Setup → World → List (List ℕ) → List Happening
 schedule setup w [] = []
-schedule setup w (line ∷ lines) = events_of setup w (kind_of line) ++ schedule setup (after setup w line) lines
+schedule setup w (line ∷ lines) = events_of setup w (kind_of line) ++ schedule setup (world_after setup w line) lines
 
 -- the output of a script, and the world after it
 unfoldable pub whole_from : Setup → World → List ℕ → List ℕ

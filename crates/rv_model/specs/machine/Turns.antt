@@ -6,7 +6,7 @@ use Rattle.rv_model.specs.machine.PrivateMachine.{Slice}
 use Rattle.rv_model.specs.machine.Script.{schedule}
 use Rattle.rv_model.specs.machine.Setup.{Setup}
 use Rattle.rv_model.specs.machine.Users.{user_count}
-use Rattle.rv_model.specs.machine.World.{World, Happening, part, after_one, after_events}
+use Rattle.rv_model.specs.machine.World.{World, Happening, after_one, after_events, user_machine}
 use Rattle.rv_model.specs.text.Lines.{pieces}
 
 -- ---- turns
@@ -26,7 +26,7 @@ AreInTurn = AtEachTurn IsTurn
 
 -- a user's program runs at each turn, whosever it is
 abbrev pub RunsAtEachTurn : ℕ → Setup → World → List Happening → Type 0
-RunsAtEachTurn u = AtEachTurn (λ w h. runs (part u w) ≡ true)
+RunsAtEachTurn u = AtEachTurn (λ w h. runs (user_machine u w) ≡ true)
 
 -- how many turns there are, and how many are a user's
 abbrev pub turns : List Happening → ℕ

@@ -3,15 +3,15 @@
 -- the field VS).
 use Rattle.std.specs.Prelude.{ℕ, zero, suc, ◌&&◌, not, nat_lt, Bool, false, true, List, [], ◌∷◌, Option, Some, None, Ok, Err, is_none, if◌then◌else◌}
 use Rattle.rv_model.specs.declared.commands.command.Cmd.{Cmd}
-use Rattle.rv_model.specs.declared.commands.command.Cmd.TheVariants.{Entering, Memory, Registers, Programs, Breakpoints, Running}
+use Rattle.rv_model.specs.declared.commands.command.Cmd.TheVariants.{Entering, Registers, Programs, Running}
 use Rattle.rv_model.specs.declared.commands.entering.EnteringCommand.{EnteringCommand}
 use Rattle.rv_model.specs.declared.commands.entering.EnteringCommand.TheVariants.{Enter, Leave}
 use Rattle.rv_model.specs.declared.commands.programs.ProgramCommand.{ProgramCommand}
-use Rattle.rv_model.specs.declared.commands.programs.ProgramCommand.TheVariants.{Load, Asm, Dis}
+use Rattle.rv_model.specs.declared.commands.programs.ProgramCommand.TheVariants.{Load}
 use Rattle.rv_model.specs.declared.commands.registers.RegisterCommand.{RegisterCommand}
-use Rattle.rv_model.specs.declared.commands.registers.RegisterCommand.TheVariants.{Set, Regs, SetPc, Vreg, Vset, Vcsr, SetPolicy}
+use Rattle.rv_model.specs.declared.commands.registers.RegisterCommand.TheVariants.{Vset}
 use Rattle.rv_model.specs.declared.commands.running.RunningCommand.{RunningCommand}
-use Rattle.rv_model.specs.declared.commands.running.RunningCommand.TheVariants.{Step, Go, Stop, State, Trace, Out}
+use Rattle.rv_model.specs.declared.commands.running.RunningCommand.TheVariants.{Step}
 use Rattle.rv_model.specs.declared.images.ElfFault.{ElfFault}
 use Rattle.rv_model.specs.commands.Commands.{Parsed, needs_stopped, parse}
 use Rattle.rv_model.specs.commands.Programs.{image_named}
@@ -59,13 +59,8 @@ unit_after_entering user Leave unit = unit_discarded user unit
 
 -- `vset` writes a vector register
 abbrev pub unit_after_registers : ℕ → RegisterCommand → VectorUnit → VectorUnit
-unit_after_registers user (Set register value) unit = unit
-unit_after_registers user Regs unit = unit
-unit_after_registers user (SetPc addr) unit = unit
-unit_after_registers user (Vreg register width) unit = unit
 unit_after_registers user (Vset register bytes) unit = unit_register_written user unit
-unit_after_registers user Vcsr unit = unit
-unit_after_registers user (SetPolicy policy) unit = unit
+unit_after_registers user _ unit = unit
 
 -- whether an image can be loaded, by its first fault
 abbrev pub can_be_loaded : List ℕ → Option ElfFault → Bool
@@ -79,25 +74,19 @@ unit_after_load user (Some image) unit = if can_be_loaded image (first_fault ima
 
 abbrev pub unit_after_programs : List Image → ℕ → ProgramCommand → VectorUnit → VectorUnit
 unit_after_programs images user (Load name) unit = unit_after_load user (image_named images name) unit
-unit_after_programs images user (Asm addr text) unit = unit
-unit_after_programs images user (Dis addr count) unit = unit
+unit_after_programs images user _ unit = unit
 
 -- `step` tries instructions
 abbrev pub unit_after_running : ℕ → RunningCommand → Present → VectorUnit → VectorUnit
 unit_after_running user (Step count) p unit = unit_after_tries user (tried_steps count true p) unit
-unit_after_running user Go p unit = unit
-unit_after_running user Stop p unit = unit
-unit_after_running user State p unit = unit
-unit_after_running user Trace p unit = unit
-unit_after_running user Out p unit = unit
+unit_after_running user _ p unit = unit
 
 abbrev pub unit_of_present : List Image → ℕ → Cmd → Present → VectorUnit → VectorUnit
 unit_of_present images user (Entering c) p unit = unit_after_entering user c unit
-unit_of_present images user (Memory c) p unit = unit
 unit_of_present images user (Registers c) p unit = unit_after_registers user c unit
 unit_of_present images user (Programs c) p unit = unit_after_programs images user c unit
-unit_of_present images user (Breakpoints c) p unit = unit
 unit_of_present images user (Running c) p unit = unit_after_running user c p unit
+unit_of_present images user _ p unit = unit
 
 -- ---- commands of a user who is absent
 
@@ -108,11 +97,7 @@ unit_entered user Leave unit = unit
 
 abbrev pub unit_of_absent : ℕ → Cmd → VectorUnit → VectorUnit
 unit_of_absent user (Entering c) unit = unit_entered user c unit
-unit_of_absent user (Memory c) unit = unit
-unit_of_absent user (Registers c) unit = unit
-unit_of_absent user (Programs c) unit = unit
-unit_of_absent user (Breakpoints c) unit = unit
-unit_of_absent user (Running c) unit = unit
+unit_of_absent user _ unit = unit
 
 -- ---- all that happens
 

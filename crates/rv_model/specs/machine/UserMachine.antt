@@ -42,8 +42,8 @@ pub record Outcome : Type 0 where
   pub lines : List (List ℕ)
 
 -- the machine becomes this one, and a line is printed
-abbrev pub answers : Present → List ℕ → Outcome
-answers p line = record { next = Some p; lines = line ∷ [] }
+abbrev pub replies : Present → List ℕ → Outcome
+replies p line = record { next = Some p; lines = line ∷ [] }
 
 -- nothing changes, and the reason is printed
 abbrev pub refuses : Private → Refusal → Outcome

@@ -18,11 +18,11 @@ unfoldable pub new_world : World
 new_world = record { parts = replicate user_count None; cursor = user_count; unit = unused_unit }
 
 -- a user's machine
-abbrev pub part : ℕ → World → Private
-part u w = slice_index_or w.parts (u - 1) None
+abbrev pub user_machine : ℕ → World → Private
+user_machine u w = slice_index_or w.parts (u - 1) None
 
-abbrev pub with_part : ℕ → Private → World → World
-with_part u p w = record w { parts = slice_set w.parts (u - 1) p }
+abbrev pub with_user_machine : ℕ → Private → World → World
+with_user_machine u p w = record w { parts = slice_set w.parts (u - 1) p }
 
 -- the world with another record of the vector unit
 abbrev pub with_unit : VectorUnit → World → World
@@ -36,11 +36,11 @@ pub record Happening : Type 0 where
 
 -- what happens to the user's machine
 abbrev pub outcome_of : Setup → World → Happening → Outcome
-outcome_of setup w h = event setup (part h.user w) h.event
+outcome_of setup w h = event setup (user_machine h.user w) h.event
 
 -- what becomes of the vector unit
 abbrev pub unit_after : Setup → World → Happening → VectorUnit
-unit_after setup w h = unit_after_event setup h.user (part h.user w) h.event w.unit
+unit_after setup w h = unit_after_event setup h.user (user_machine h.user w) h.event w.unit
 
 -- the world with the cursor at a user whose turn it was
 abbrev pub with_turn : Happening → World → World
@@ -48,7 +48,7 @@ with_turn h w = if h.turn then record w { cursor = h.user } else w
 
 -- the world after something has happened
 abbrev pub after_one : Setup → World → Happening → World
-after_one setup w h = with_turn h (with_unit (unit_after setup w h) (with_part h.user (outcome_of setup w h).next w))
+after_one setup w h = with_turn h (with_unit (unit_after setup w h) (with_user_machine h.user (outcome_of setup w h).next w))
 
 -- the world after all that happened
 abbrev pub after_events : Setup → World → List Happening → World

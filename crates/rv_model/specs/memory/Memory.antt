@@ -1,12 +1,11 @@
 -- A user's memory: a finite map from addresses to a byte and what may be done with it. Memory is one space of bytes, by address
 -- (Unprivileged ISA, section 1.4). It is mapped in pages, each with permissions to read, write and execute, as the
 -- leaf entries of page tables have them (Privileged Architecture, section 4.3.1). An access is allowed where each of its bytes is.
-use Rattle.std.specs.Prelude.{◌≡◌, ◌↔◌, ◌<◌, length, slice_index, ℕ, ◌+◌, ◌*◌, ◌/◌, ◌-◌, Bool, true, false, ◌&&◌, cond, nat_lt, nat_le, List, [], ◌∷◌, zero, suc, map, Option, Some, None, refl}
+use Rattle.std.specs.Prelude.{◌≡◌, ◌↔◌, ◌<◌, length, slice_index, ℕ, ◌+◌, ◌*◌, ◌/◌, ◌-◌, Bool, true, false, ◌&&◌, cond, nat_lt, nat_le, List, [], ◌∷◌, zero, suc, map, Option, Some, None}
 use Rattle.std.specs.List.{list_all, list_any, range_with_len}
 use Rattle.std.specs.Option.{option_map_or}
 use Rattle.std.specs.Ordering.{nat_cmp}
-use Rattle.std.specs.FinMap.{FinMap, get, insert, len, contains_key, code}
-use Rattle.std.specs.Coded.{Coded, code_by, coded×, coded_ℕ, coded_bool}
+use Rattle.std.specs.FinMap.{FinMap, get, insert, len, contains_key}
 use Rattle.rv_model.specs.declared.memory.Permissions.{Permissions}
 use Rattle.rv_model.specs.declared.memory.Access.{Access}
 use Rattle.rv_model.specs.declared.memory.Access.TheVariants.{Fetch, Load, Store, Monitor}
@@ -23,17 +22,6 @@ pub record Cell : Type 0 where
 abbrev pub Memory : Type 0
 Memory = FinMap nat_cmp Cell
 
--- a cell is stored as the byte and three flags
-abbrev pub coded_cell : Coded Cell
-coded_cell =
-    code_by (ℕ × (Bool × (Bool × Bool))) (coded× coded_ℕ (coded× coded_bool (coded× coded_bool coded_bool)))
-    (λ c. (c.byte, (c.permissions.read, (c.permissions.write, c.permissions.execute))))
-    (λ p. record { byte = p.0; permissions = record { read = p.1.0; write = p.1.1.0; execute = p.1.1.1 } }) (λ _. refl)
-
--- how a memory is stored as a value
-abbrev pub coded_memory : Coded Memory
-coded_memory = code coded_ℕ coded_cell
-
 -- whether an access may touch a byte with these permissions
 abbrev pub permits : Access → Permissions → Bool
 permits Fetch p = p.execute
@@ -42,20 +30,20 @@ permits Store p = p.write
 permits Monitor p = true
 
 -- the byte at an address, 0 where none is mapped
-unfoldable pub byte_at : Memory → ℕ → ℕ
-byte_at m a = option_map_or (λ c. c.byte) (get m a) 0
+unfoldable pub memory_byte : Memory → ℕ → ℕ
+memory_byte m a = option_map_or (λ c. c.byte) (get m a) 0
 
 -- whether the byte at an address may be accessed
-unfoldable pub is_allowed : Access → Memory → ℕ → Bool
-is_allowed access m a = option_map_or (λ c. permits access c.permissions) (get m a) false
+unfoldable pub can_access_byte : Access → Memory → ℕ → Bool
+can_access_byte access m a = option_map_or (λ c. permits access c.permissions) (get m a) false
 
 -- whether each of the n bytes from a on may be
 unfoldable pub can_access : Access → Memory → ℕ → ℕ → Bool
-can_access access m a n = list_all (is_allowed access m) (range_with_len a n)
+can_access access m a n = list_all (can_access_byte access m) (range_with_len a n)
 
 -- the n bytes from a on
 unfoldable pub bytes_at : Memory → ℕ → ℕ → List ℕ
-bytes_at m a n = map (byte_at m) (range_with_len a n)
+bytes_at m a n = map (memory_byte m) (range_with_len a n)
 
 -- b written at a mapped address; nothing happens at another
 unfoldable pub put_byte : Memory → ℕ → ℕ → Memory
@@ -98,26 +86,26 @@ is_within a n x = nat_le a x && nat_lt x (a + n)
 -- each byte after a write: the new one where its address is written and mapped, else the one that was there
 abbrev pub WritesBytes : Type 0
 WritesBytes = (m : Memory) (a : ℕ) (bs : List ℕ) (x : ℕ)
-    → byte_at (put_bytes m a bs) x ≡ cond (is_within a (length bs) x && is_allowed Monitor m x) (slice_index bs (x - a)) (byte_at m x)
+    → memory_byte (put_bytes m a bs) x ≡ cond (is_within a (length bs) x && can_access_byte Monitor m x) (slice_index bs (x - a)) (memory_byte m x)
 
 -- no write maps an address or changes what is allowed
 abbrev pub KeepsPermissions : Type 0
-KeepsPermissions = (access : Access) (m : Memory) (a : ℕ) (bs : List ℕ) (x : ℕ) → is_allowed access (put_bytes m a bs) x ≡ is_allowed access m x
+KeepsPermissions = (access : Access) (m : Memory) (a : ℕ) (bs : List ℕ) (x : ℕ) → can_access_byte access (put_bytes m a bs) x ≡ can_access_byte access m x
 
 -- new pages hold zeros, and all other bytes are as they were
 abbrev pub MapsZeros : Type 0
 MapsZeros = (m : Memory) (page count : ℕ) (permissions : Permissions) (x : ℕ)
-    → byte_at (with_pages m page count permissions) x ≡ cond (is_within (page_size * page) (page_size * count) x) 0 (byte_at m x)
+    → memory_byte (with_pages m page count permissions) x ≡ cond (is_within (page_size * page) (page_size * count) x) 0 (memory_byte m x)
 
 -- new pages allow what their permissions do, and all other addresses what they did
 abbrev pub MapsPermissions : Type 0
 MapsPermissions = (access : Access) (m : Memory) (page count : ℕ) (permissions : Permissions) (x : ℕ)
-    → is_allowed access (with_pages m page count permissions) x ≡ cond (is_within (page_size * page) (page_size * count) x) (permits access permissions) (is_allowed access m x)
+    → can_access_byte access (with_pages m page count permissions) x ≡ cond (is_within (page_size * page) (page_size * count) x) (permits access permissions) (can_access_byte access m x)
 
 -- bytes are read one by one from the first address on
 abbrev pub ReadsBytes : Type 0
-ReadsBytes = (m : Memory) (a n k : ℕ) → k < n → slice_index (bytes_at m a n) k ≡ byte_at m (a + k)
+ReadsBytes = (m : Memory) (a n k : ℕ) → k < n → slice_index (bytes_at m a n) k ≡ memory_byte m (a + k)
 
 -- an access is allowed exactly where each of its bytes is
 abbrev pub AllowsEachByte : Type 0
-AllowsEachByte = (access : Access) (m : Memory) (a n : ℕ) → (can_access access m a n ≡ true) ↔ ((k : ℕ) → k < n → is_allowed access m (a + k) ≡ true)
+AllowsEachByte = (access : Access) (m : Memory) (a n : ℕ) → (can_access access m a n ≡ true) ↔ ((k : ℕ) → k < n → can_access_byte access m (a + k) ≡ true)

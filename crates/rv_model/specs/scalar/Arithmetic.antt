@@ -3,15 +3,11 @@
 use Rattle.std.specs.Prelude.{ℕ, ◌+◌, ◌-◌, ◌*◌, ◌/◌, ◌%◌, ◌^◌, ◌==◌, ◌&&◌, nat_lt, Bool, if◌then◌else◌, ℤ, pos, ◌*ℤ◌, int_lt, int_div, int_rem, bit_and, bit_or, bit_xor}
 use Rattle.std.specs.Int.{Width, w32, w64, cast_signed, cast_unsigned, int_shr, from_bool}
 use mir.Val.{bits, hbits}
-use Rattle.rv_model.specs.declared.instructions.operations.UpperOp.{UpperOp}
+use Rattle.rv_model.specs.instructions.Types.{UpperOp, RegisterOp, ImmediateOp, ShiftImmediateOp, ShiftImmediateWordOp}
 use Rattle.rv_model.specs.declared.instructions.operations.UpperOp.TheVariants.{Lui, Auipc}
-use Rattle.rv_model.specs.declared.instructions.operations.RegisterOp.{RegisterOp}
 use Rattle.rv_model.specs.declared.instructions.operations.RegisterOp.TheVariants.{Add, Sub, Sll, Slt, Sltu, Xor, Srl, Sra, Or, And, Mul, Mulh, Mulhsu, Mulhu, Div, Divu, Rem, Remu, Addw, Subw, Sllw, Srlw, Sraw, Mulw, Divw, Divuw, Remw, Remuw}
-use Rattle.rv_model.specs.declared.instructions.operations.ImmediateOp.{ImmediateOp}
 use Rattle.rv_model.specs.declared.instructions.operations.ImmediateOp.TheVariants.{Addi, Slti, Sltiu, Xori, Ori, Andi, Addiw}
-use Rattle.rv_model.specs.declared.instructions.operations.ShiftImmediateOp.{ShiftImmediateOp}
 use Rattle.rv_model.specs.declared.instructions.operations.ShiftImmediateOp.TheVariants.{Slli, Srli, Srai}
-use Rattle.rv_model.specs.declared.instructions.operations.ShiftImmediateWordOp.{ShiftImmediateWordOp}
 use Rattle.rv_model.specs.declared.instructions.operations.ShiftImmediateWordOp.TheVariants.{Slliw, Srliw, Sraiw}
 use Rattle.rv_model.specs.instructions.Immediates.{i_immediate, u_immediate, sign_extended}
 

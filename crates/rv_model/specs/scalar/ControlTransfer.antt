@@ -1,7 +1,7 @@
 -- Where jumps and branches go (Unprivileged ISA 20191213, section 2.5, "Control Transfer Instructions").
 use Rattle.std.specs.Prelude.{ℕ, ◌+◌, ◌-◌, ◌%◌, ◌^◌, ◌==◌, not, nat_lt, Bool, int_lt}
 use Rattle.std.specs.Int.{w64, cast_signed}
-use Rattle.rv_model.specs.declared.instructions.operations.BranchOp.{BranchOp}
+use Rattle.rv_model.specs.instructions.Types.{BranchOp}
 use Rattle.rv_model.specs.declared.instructions.operations.BranchOp.TheVariants.{Beq, Bne, Blt, Bge, Bltu, Bgeu}
 use Rattle.rv_model.specs.instructions.Immediates.{i_immediate, b_immediate, j_immediate}
 

@@ -2,9 +2,8 @@
 -- byte of a number stands at its lowest address, whether or not the address is a multiple of the size.
 use Rattle.std.specs.Prelude.{ℕ, ◌+◌, ◌%◌, ◌^◌, List}
 use Rattle.std.specs.Int.{Width, w8, w16, w32, w64, byte_len, from_le_bytes, to_le_bytes}
-use Rattle.rv_model.specs.declared.instructions.operations.LoadOp.{LoadOp}
+use Rattle.rv_model.specs.instructions.Types.{LoadOp, StoreOp}
 use Rattle.rv_model.specs.declared.instructions.operations.LoadOp.TheVariants.{Lb, Lh, Lw, Ld, Lbu, Lhu, Lwu}
-use Rattle.rv_model.specs.declared.instructions.operations.StoreOp.{StoreOp}
 use Rattle.rv_model.specs.declared.instructions.operations.StoreOp.TheVariants.{Sb, Sh, Sw, Sd}
 use Rattle.rv_model.specs.instructions.Immediates.{sign_extended}
 use Rattle.rv_model.specs.memory.Memory.{Memory, bytes_at}
@@ -32,10 +31,7 @@ abbrev pub extended : LoadOp → ℕ → ℕ
 extended Lb n = sign_extended 8 n
 extended Lh n = sign_extended 16 n
 extended Lw n = sign_extended 32 n
-extended Ld n = n
-extended Lbu n = n
-extended Lhu n = n
-extended Lwu n = n
+extended _ n = n
 
 -- how wide a store is
 abbrev pub store_width : StoreOp → Width

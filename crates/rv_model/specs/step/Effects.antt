@@ -1,14 +1,13 @@
 -- Laws of one instruction, whichever it is.
 use Rattle.std.specs.Prelude.{ℕ, ◌≡◌, ◌≤◌, List, ◌++◌, length}
-use Rattle.rv_model.specs.declared.step.step_end.StepEnd.{StepEnd}
 use Rattle.rv_model.specs.declared.step.step_end.StepEnd.TheVariants.{Ran, Exit, Ebreak, Fault, OutputFull, Cut}
 use Rattle.rv_model.specs.declared.memory.Access.{Access}
-use Rattle.rv_model.specs.memory.Memory.{is_allowed}
-use Rattle.rv_model.specs.step.Hart.{HartState}
+use Rattle.rv_model.specs.memory.Memory.{can_access_byte}
+use Rattle.rv_model.specs.step.Hart.{HartState, StepEnd}
 use Rattle.rv_model.specs.vector.Configuration.{IsConfiguration}
 use Rattle.rv_model.specs.scalar.Registers.{read_register}
 use Rattle.rv_model.specs.step.Step.{step}
-use Rattle.rv_model.specs.step.WriteCall.{room}
+use Rattle.rv_model.specs.step.WriteCall.{output_room}
 
 -- a fact where an instruction faults
 abbrev pub OnFault : StepEnd → Type 0 → Type 0
@@ -33,7 +32,7 @@ FirstRegisterStays =
 pub record PutsOut (old new : List ℕ) : Type 0 where
   pub more : List ℕ
   pub added : new ≡ old ++ more
-  pub fits : length more ≤ room old
+  pub fits : length more ≤ output_room old
 
 -- No instruction takes back what was put out, and none puts out more than there is room for.
 abbrev pub OutputGrowsWithin : Type 0
@@ -49,4 +48,4 @@ StepKeepsConfiguration =
 abbrev pub StepKeepsPermissions : Type 0
 StepKeepsPermissions =
     (access : Access) (limit : ℕ) (s : HartState) (x : ℕ)
-    → is_allowed access (step limit s).state.memory x ≡ is_allowed access s.memory x
+    → can_access_byte access (step limit s).state.memory x ≡ can_access_byte access s.memory x

@@ -1,19 +1,11 @@
 -- What the laws of vector instructions and of steps that stop and are made again say of one of them, by what it found and what it
 -- left.
 use Rattle.std.specs.Prelude.{ℕ, ◌≡◌, ◌≢◌, ◌+◌, ◌-◌, ◌≤◌, List}
-use Rattle.rv_model.specs.declared.instructions.instruction.Instr.{Instr}
 use Rattle.rv_model.specs.declared.step.step_end.StepEnd.TheVariants.{Cut}
 use Rattle.rv_model.specs.declared.step.vector_end.VEnd.TheVariants as vector_end
 use Rattle.rv_model.specs.declared.vector.sizes.TheConstants.{GROUP_BYTES}
-use Rattle.rv_model.specs.accesses.Restarts.{Extends, NextRun, overlay, with_new}
-use Rattle.rv_model.specs.accesses.VectorAccess.{index_count}
-use Rattle.rv_model.specs.memory.Memory.{Memory}
-use Rattle.rv_model.specs.step.Hart.{HartState, Stepped}
 use Rattle.rv_model.specs.step.Repeats.{AreExecutedAgain, AreMadeAgain, IsUncutEnd, last_executed, last_step}
-use Rattle.rv_model.specs.step.Resumes.{IsUndone, KeepsOwnWord, LeavesPart, StopsShort, after_ticks, finds, indices_done}
-use Rattle.rv_model.specs.step.Step.{fetched, step}
-use Rattle.rv_model.specs.step.VectorStep.{VectorStepped, vector_executed}
-use Rattle.rv_model.specs.vector.Configuration.{IsConfiguration}
+use Rattle.rv_model.specs.step.Resumes.{Extends, HartState, Instr, IsConfiguration, IsUndone, KeepsOwnWord, LeavesPart, Memory, NextRun, Stepped, StopsShort, VectorStepped, after_ticks, fetched, finds, index_count, indices_done, overlay, step, vector_access, vector_executed, with_new}
 
 -- A vector instruction of at most `limit` indices that is cut or faults leaves a part done, all indices that it might if it is cut.
 -- It is run again in a memory that has grown, and ends and leaves what it would have if what is new had been there from the start,
@@ -25,7 +17,7 @@ pub record InstructionGoesOn (limit : ℕ) (i : Instr) (s : HartState) (r : Vect
       → vector_executed later i (finds more r.state)
       ≡ vector_executed (r.state.vector.vstart - s.vector.vstart + later) i (finds (overlay s.memory more) s)
   pub whole : (nexts : List NextRun) (enough : ℕ) → AreExecutedAgain i r nexts
-      → IsUncutEnd (last_executed i r nexts).end → index_count i s.vector.conf.vl ≤ enough
+      → IsUncutEnd (last_executed i r nexts).end → index_count (vector_access i s.vector s.scalar) ≤ enough
       → last_executed i r nexts ≡ vector_executed enough i (finds (with_new s.memory nexts) s)
 
 -- A step of at most `limit` ticks that is cut or faults is made again, and both end and leave, and take as many ticks, as the whole

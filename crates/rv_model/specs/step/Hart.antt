@@ -1,12 +1,12 @@
 -- What instructions work on, and how one ends.
 use Rattle.std.specs.Prelude.{ℕ, List}
-use Rattle.rv_model.specs.declared.vector.policy.Policy.{Policy}
-use Rattle.rv_model.specs.declared.scalar.Scalar.{Scalar}
-use Rattle.rv_model.specs.declared.step.step_end.Cause.{Cause}
-use Rattle.rv_model.specs.declared.step.step_end.StepEnd.{StepEnd}
+pub use Rattle.rv_model.specs.declared.vector.policy.Policy.{Policy}
+pub use Rattle.rv_model.specs.declared.scalar.Scalar.{Scalar}
+pub use Rattle.rv_model.specs.declared.step.step_end.Cause.{Cause}
+pub use Rattle.rv_model.specs.declared.step.step_end.StepEnd.{StepEnd}
 use Rattle.rv_model.specs.declared.step.step_end.StepEnd.TheVariants.{Ran, Fault}
-use Rattle.rv_model.specs.declared.vector.state.VState.{VState}
-use Rattle.rv_model.specs.memory.Memory.{Memory}
+pub use Rattle.rv_model.specs.declared.vector.state.VState.{VState}
+pub use Rattle.rv_model.specs.memory.Memory.{Memory}
 use Rattle.rv_model.specs.scalar.Registers.{advanced, with_register}
 
 -- what instructions read and change: registers, vector state, memory, the output buffer, and the policy that they go by
@@ -40,9 +40,9 @@ abbrev pub faults : Cause → ℕ → HartState → Stepped
 faults cause value s = ends (Fault cause s.scalar.pc value) s
 
 -- the instruction ran, left these registers, and the next one follows it
-abbrev pub runs_on : Scalar → HartState → Stepped
-runs_on scalar s = ends Ran (record s { scalar = advanced scalar })
+abbrev pub retires : Scalar → HartState → Stepped
+retires scalar s = ends Ran (record s { scalar = advanced scalar })
 
 -- the instruction ran, gave a register this value, and the next one follows it
 abbrev pub gives : ℕ → ℕ → HartState → Stepped
-gives rd value s = runs_on (with_register rd value s.scalar) s
+gives rd value s = retires (with_register rd value s.scalar) s

@@ -1,51 +1,69 @@
 -- The state after a vector load or store ("V" Vector Extension 1.0, sections 3.4.3, 7.4 to 7.9 and 17.1).
-use Rattle.std.specs.Prelude.{ℕ, zero, suc, ◌+◌, ◌*◌, Bool, true, false, List}
-use Rattle.rv_model.specs.declared.instructions.operations.Direction.{Direction}
+use Rattle.std.specs.Prelude.{ℕ, zero, suc, ◌+◌, ◌*◌, ◌&&◌, nat_le, not, Bool, true, false, List, Option, Some, None, if◌then◌else◌}
+use Rattle.std.specs.Option.{option_and_then, option_map_or}
+use Rattle.rv_model.specs.declared.instructions.access.AccessInstr.TheVariants.{UnitStride, Strided, Indexed}
 use Rattle.rv_model.specs.declared.instructions.operations.Direction.TheVariants as direction
-use Rattle.rv_model.specs.declared.instructions.operations.UnitOp.{UnitOp}
-use Rattle.rv_model.specs.declared.instructions.operations.UnitOp.TheVariants as unit
-use Rattle.rv_model.specs.declared.step.memory_end.MemEnd.{MemEnd}
 use Rattle.rv_model.specs.declared.step.memory_end.MemEnd.TheVariants as memory_end
 use Rattle.rv_model.specs.declared.step.vector_end.VEnd.{VEnd}
 use Rattle.rv_model.specs.declared.step.vector_end.VEnd.TheVariants.{Done, Fault, Cut}
-use Rattle.rv_model.specs.accesses.AccessRuns.{AccessRun}
-use Rattle.rv_model.specs.elements.Arithmetic.{GroupType, with_results}
+use Rattle.rv_model.specs.accesses.AccessRuns.{AccessInstr, AccessRun, Direction, MemEnd, VectorAccess}
+use Rattle.rv_model.specs.accesses.VectorAccess.{GroupType, VType, group_type}
+use Rattle.rv_model.specs.vector.Groups.{access_type}
+use Rattle.rv_model.specs.elements.Arithmetic.{fills_masked_off, fills_tail}
+use Rattle.rv_model.specs.elements.Formulas.{ones}
+use Rattle.rv_model.specs.elements.Writes.{written}
 use Rattle.rv_model.specs.step.Hart.{HartState}
-use Rattle.rv_model.specs.vector.Registers.{register_of, registers}
+use Rattle.rv_model.specs.vector.Configuration.{width_bytes}
+use Rattle.rv_model.specs.vector.Registers.{group_of, registers, with_group}
 
 -- whether memory is read
-abbrev pub is_load : Direction → Bool
-is_load direction.Load = true
-is_load direction.Store = false
+abbrev pub reads_memory : Direction → Bool
+reads_memory direction.Load = true
+reads_memory direction.Store = false
 
-abbrev pub is_unit_load : UnitOp → Bool
-is_unit_load unit.Load = true
-is_unit_load unit.FaultOnlyFirst = true
-is_unit_load unit.Store = false
+-- ---- what becomes all ones
+
+-- whether the elements of a load that are masked off do, under the policy and the vector type
+abbrev pub load_fills_masked_off : VectorAccess → HartState → Bool
+load_fills_masked_off a s = option_map_or (λ t. fills_masked_off s.policy t a.body) s.vector.conf.vtype false
 
 -- the registers after the elements of the group from vd become all ones, from element vl on
 abbrev pub tail_filled : GroupType → ℕ → ℕ → List ℕ → List ℕ
 tail_filled g vd vl file =
-    with_results g vd (record { unmasked = true; mask = register_of file 0; start = vl; end = vl }) false true (λ i. 0) file
+    with_group file vd (written (width_bytes g.width) (nat_le vl) (λ i. ones g.width) (group_of file vd g.emul))
 
 -- the same for so many fields, which have groups that follow one another
 unfoldable pub tails_filled : GroupType → ℕ → ℕ → ℕ → List ℕ → List ℕ
 tails_filled g vd zero vl file = file
 tails_filled g vd (suc fields) vl file = tail_filled g (vd + fields * registers g.emul) vl (tails_filled g vd fields vl file)
 
--- a tail is filled once a load is done, also where the length was shortened
-abbrev pub with_tail : MemEnd → (List ℕ → List ℕ) → List ℕ → List ℕ
-with_tail memory_end.Done fill file = fill file
-with_tail (memory_end.Fault index addr) fill file = file
-with_tail (memory_end.Cut index) fill file = file
+-- the groups of the fields of an access; those of whole registers and of a mask have no tail that is filled
+abbrev pub tail_type : AccessInstr → VType → Option GroupType
+tail_type (UnitStride op width nf vd rs1 vm) t = Some (access_type t width)
+tail_type (Strided direction width nf vd rs1 rs2 vm) t = Some (access_type t width)
+tail_type (Indexed direction order width nf vd rs1 vs2 vm) t = Some (group_type t)
+tail_type _ t = None
 
-abbrev pub after_access : (List ℕ → List ℕ) → AccessRun → HartState → HartState
-after_access fill run s =
-    record s { vector = record run.vector { file = with_tail run.end fill run.vector.file }; memory = run.memory }
+-- the groups whose tails a load fills, under the policy and the vector type; none, if it keeps them
+abbrev pub filled_type : AccessInstr → VectorAccess → HartState → Option GroupType
+filled_type i a s =
+    option_and_then (λ t. if reads_memory a.direction && fills_tail s.policy t a.body then tail_type i t else None)
+    s.vector.conf.vtype
 
--- how the instruction ends, by whether it reads memory
-abbrev pub access_end : Bool → MemEnd → VEnd
-access_end loads memory_end.Done = Done
-access_end true (memory_end.Fault index addr) = Fault false addr
-access_end false (memory_end.Fault index addr) = Fault true addr
-access_end loads (memory_end.Cut index) = Cut index
+-- tails are filled once a load is done, from the length on that it found, also where it shortened that
+abbrev pub with_tails : Option GroupType → VectorAccess → MemEnd → List ℕ → List ℕ
+with_tails (Some g) a memory_end.Done file = tails_filled g a.register a.fields a.body.end file
+with_tails _ a end file = file
+
+-- ---- as a step
+
+-- the state after a run, with the tails of these groups filled, if there are any
+abbrev pub after_access : Option GroupType → VectorAccess → AccessRun → HartState → HartState
+after_access g a run s =
+    record s { vector = record run.vector { file = with_tails g a run.end run.vector.file }; memory = run.memory }
+
+-- how the instruction ends
+abbrev pub access_end : Direction → MemEnd → VEnd
+access_end direction memory_end.Done = Done
+access_end direction (memory_end.Fault index addr) = Fault (not (reads_memory direction)) addr
+access_end direction (memory_end.Cut index) = Cut index

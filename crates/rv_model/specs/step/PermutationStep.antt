@@ -3,15 +3,15 @@ use Rattle.std.specs.Prelude.{ℕ, ◌%◌, ◌^◌, Bool, true, false, List}
 use Rattle.rv_model.specs.declared.instructions.operations.PermuteOp.{PermuteOp}
 use Rattle.rv_model.specs.declared.instructions.operations.RegisterCount.{RegisterCount}
 use Rattle.rv_model.specs.declared.instructions.source.Source.{Source}
-use Rattle.rv_model.specs.declared.vector.state.VState.{VState}
 use Rattle.rv_model.specs.declared.vector.types.VType.{VType}
-use Rattle.rv_model.specs.elements.Arithmetic.{GroupType, body_of, fills_masked_off, fills_tail, group_element, group_type, single_type, with_results}
-use Rattle.rv_model.specs.elements.Elements.{Body, first_alone}
-use Rattle.rv_model.specs.elements.PermutationResults.{element_count, permute_body, permute_result, whole_type, with_packed}
+use Rattle.rv_model.specs.elements.Arithmetic.{body_of, fills_masked_off, fills_tail, group_element, with_first_result, with_results}
+use Rattle.rv_model.specs.vector.Configuration.{GroupType, group_type, element_count, sew_bits, sew_width}
+use Rattle.rv_model.specs.vector.Groups.{whole_type}
+use Rattle.rv_model.specs.elements.Elements.{Body}
+use Rattle.rv_model.specs.elements.PermutationResults.{permute_body, permute_result, with_packed}
 use Rattle.rv_model.specs.elements.Permutations.{packed}
 use Rattle.rv_model.specs.scalar.Registers.{read_register}
-use Rattle.rv_model.specs.step.Hart.{HartState}
-use Rattle.rv_model.specs.vector.Configuration.{sew_bits, sew_width}
+use Rattle.rv_model.specs.step.Hart.{HartState, VState}
 use Rattle.rv_model.specs.vector.Registers.{register_of}
 
 -- slides and gathers. The tail is filled as of any instruction, also where a slide's offset is past the body.
@@ -33,8 +33,7 @@ compressed t vd vs1 vs2 s =
 abbrev pub moved_to_vector : VType → ℕ → ℕ → HartState → List ℕ
 moved_to_vector t vd rs1 s =
     let body = body_of true s.vector in
-    with_results (single_type (sew_width t.sew)) vd (first_alone body) false (fills_tail s.policy t body)
-    (λ i. read_register s.scalar rs1 % 2 ^ sew_bits t.sew) s.vector.file
+    with_first_result (sew_width t.sew) vd body (fills_tail s.policy t body) (read_register s.scalar rs1 % 2 ^ sew_bits t.sew) s.vector.file
 
 -- the elements of whole registers from vstart on, whatever vl is
 abbrev pub whole_body : GroupType → VState → Body

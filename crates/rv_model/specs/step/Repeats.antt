@@ -1,18 +1,10 @@
 -- Vector instructions and steps that are cut or fault and are made again any number of times, in memories that grow ("V" Vector
 -- Extension 1.0, sections 3.7, 7.7 and 17.1).
 use Rattle.std.specs.Prelude.{ℕ, ◌≡◌, ◌≢◌, ◌≤◌, List, [], ◌∷◌, ⊤}
-use Rattle.rv_model.specs.declared.instructions.instruction.Instr.{Instr}
 use Rattle.rv_model.specs.declared.step.step_end.StepEnd.TheVariants.{Cut}
-use Rattle.rv_model.specs.declared.step.vector_end.VEnd.{VEnd}
 use Rattle.rv_model.specs.declared.step.vector_end.VEnd.TheVariants as vector_end
 use Rattle.rv_model.specs.declared.vector.sizes.TheConstants.{GROUP_BYTES}
-use Rattle.rv_model.specs.accesses.Restarts.{Extends, NextRun, with_new}
-use Rattle.rv_model.specs.accesses.VectorAccess.{index_count}
-use Rattle.rv_model.specs.step.Hart.{HartState, Stepped}
-use Rattle.rv_model.specs.step.Resumes.{IsUndone, KeepsOwnWord, StopsShort, after_ticks, finds, indices_done}
-use Rattle.rv_model.specs.step.Step.{fetched, step}
-use Rattle.rv_model.specs.step.VectorStep.{VectorStepped, vector_executed}
-use Rattle.rv_model.specs.vector.Configuration.{IsConfiguration}
+use Rattle.rv_model.specs.step.Resumes.{Extends, HartState, Instr, IsConfiguration, IsUndone, KeepsOwnWord, NextRun, Stepped, StopsShort, VEnd, VectorStepped, after_ticks, fetched, finds, index_count, indices_done, step, vector_access, vector_executed, with_new}
 
 -- ---- one vector instruction
 
@@ -39,7 +31,7 @@ LastInstructionIsWhole = (limit whole : ℕ) (i : Instr) (s : HartState) (nexts 
     → IsConfiguration s.vector.conf
     → AreExecutedAgain i (vector_executed limit i s) nexts
     → IsUncutEnd (last_executed i (vector_executed limit i s) nexts).end
-    → index_count i s.vector.conf.vl ≤ whole
+    → index_count (vector_access i s.vector s.scalar) ≤ whole
     → last_executed i (vector_executed limit i s) nexts ≡ vector_executed whole i (finds (with_new s.memory nexts) s)
 
 -- ---- one step

@@ -1,28 +1,18 @@
 -- Laws of vector loads and stores that are cut or fault and are run again from vstart on, as whole instructions ("V" Vector
 -- Extension 1.0, sections 3.7, 7.7 and 17.1).
-use Rattle.std.specs.Prelude.{ℕ, ◌≡◌, ◌≢◌, ◌+◌, ◌-◌, ◌*◌, ◌<◌, ◌≤◌, ◌⊎◌, ⊤, false, All, Option, Some, None}
-use Rattle.rv_model.specs.declared.instructions.instruction.Instr.{Instr}
-use Rattle.rv_model.specs.declared.instructions.instruction.Instr.TheVariants.{MaskMemory, VectorIndexed, VectorStrided, VectorUnit, WholeStore}
+use Rattle.std.specs.Prelude.{ℕ, ◌≡◌, ◌≢◌, ◌+◌, ◌-◌, ◌<◌, ◌≤◌, ◌⊎◌, ⊤, false, All, IfSome, IsSomeAnd, Option, Some, None}
+pub use Rattle.rv_model.specs.declared.instructions.instruction.Instr.{Instr}
 use Rattle.rv_model.specs.declared.instructions.operations.Direction.TheVariants as direction
-use Rattle.rv_model.specs.declared.instructions.operations.UnitOp.TheVariants as unit
-use Rattle.rv_model.specs.declared.scalar.Scalar.{Scalar}
-use Rattle.rv_model.specs.declared.vector.sizes.TheConstants.{VLENB}
-use Rattle.rv_model.specs.declared.vector.state.VState.{VState}
-use Rattle.rv_model.specs.declared.vector.types.VType.{VType}
-use Rattle.rv_model.specs.declared.step.step_end.StepEnd.{StepEnd}
 use Rattle.rv_model.specs.declared.step.step_end.StepEnd.TheVariants.{Cut, Ebreak, Exit, Fault, OutputFull, Ran}
-use Rattle.rv_model.specs.declared.step.vector_end.VEnd.{VEnd}
+pub use Rattle.rv_model.specs.declared.step.vector_end.VEnd.{VEnd}
 use Rattle.rv_model.specs.declared.step.vector_end.VEnd.TheVariants as vector_end
-use Rattle.rv_model.specs.accesses.Restarts.{Extends, IsStopped, overlay}
-use Rattle.rv_model.specs.accesses.Transfers.{Transfer}
-use Rattle.rv_model.specs.accesses.VectorAccess.{VectorAccess, access_type, indexed_access, mask_length, plan, strided_access, unit_access, unmasked_access}
-use Rattle.rv_model.specs.elements.Arithmetic.{group_type}
-use Rattle.rv_model.specs.legality.Legality.{register_count}
-use Rattle.rv_model.specs.memory.Memory.{Memory}
-use Rattle.rv_model.specs.step.Hart.{HartState, Stepped}
-use Rattle.rv_model.specs.step.Step.{fetched, step}
-use Rattle.rv_model.specs.step.VectorStep.{vector_executed, vector_step}
-use Rattle.rv_model.specs.vector.Configuration.{IsConfiguration}
+pub use Rattle.rv_model.specs.accesses.Restarts.{Extends, IsStopped, NextRun, overlay, with_new}
+use Rattle.rv_model.specs.accesses.Transfers.{Moved, Ones, TransferKind}
+pub use Rattle.rv_model.specs.accesses.VectorAccess.{VectorAccess, index_count, plan, vector_access}
+pub use Rattle.rv_model.specs.step.Hart.{HartState, Memory, StepEnd, Stepped}
+pub use Rattle.rv_model.specs.step.Step.{fetched, step}
+pub use Rattle.rv_model.specs.step.VectorStep.{VectorStepped, vector_executed, vector_step}
+pub use Rattle.rv_model.specs.vector.Configuration.{IsConfiguration}
 
 -- a vector instruction is cut or faults
 pub record StopsShort (end : VEnd) : Type 0 where
@@ -36,7 +26,7 @@ finds m s = record s { memory = m }
 -- what an instruction that is cut or faults leaves: vstart is one of its indices, at or past the one where it began; the vector
 -- type and length, the scalar registers, the output buffer and the policy are as they were
 pub record LeavesPart (i : Instr) (before after : HartState) : Type 0 where
-  pub vector : IsStopped i before.vector after.vector
+  pub vector : IsSomeAnd (vector_access i before.vector before.scalar) (λ a. IsStopped a before.vector after.vector)
   pub rest : after ≡ record before { vector = after.vector; memory = after.memory }
 
 abbrev pub InstructionStops : Type 0
@@ -89,35 +79,21 @@ CutStepResumes = (limit later : ℕ) (i : Instr) (word : ℕ) (s : HartState) (m
 
 -- ---- with the fetch
 
--- an access that needs a vector type
-abbrev pub typed_access : Option VType → (VType → VectorAccess) → Option VectorAccess
-typed_access None make = None
-typed_access (Some t) make = Some (make t)
+-- a transfer of so many bytes moves none of the four bytes at an address
+abbrev pub IsApart : ℕ → ℕ → TransferKind → Type 0
+IsApart pc size (Moved address) = (x : ℕ) → pc ≤ x → x < pc + 4 → (x < address) ⊎ (address + size ≤ x)
+IsApart pc size Ones = ⊤
 
--- what a vector store moves; nothing, if it is none
-abbrev pub store_access : Instr → VState → Scalar → Option VectorAccess
-store_access (VectorUnit unit.Store width nf vd rs1 vm) v x = typed_access v.conf.vtype (λ t. unit_access (access_type t width) nf vd rs1 vm v x)
-store_access (VectorStrided direction.Store width nf vd rs1 rs2 vm) v x =
-    typed_access v.conf.vtype (λ t. strided_access (access_type t width) nf vd rs1 rs2 vm v x)
-store_access (VectorIndexed direction.Store order width nf vd rs1 vs2 vm) v x =
-    typed_access v.conf.vtype (λ t. indexed_access (group_type t) (access_type t width) nf vd rs1 vs2 vm v x)
-store_access (WholeStore count vd rs1) v x = Some (unmasked_access (register_count count * VLENB) 1 (register_count count) vd rs1 v x)
-store_access (MaskMemory direction.Store vd rs1) v x = Some (unmasked_access (mask_length v.conf.vl) 1 1 vd rs1 v x)
-store_access _ v x = None
-
--- a transfer has none of the four bytes at an address
-abbrev pub IsApart : ℕ → Transfer → Type 0
-IsApart pc t = (x : ℕ) → pc ≤ x → x < pc + 4 → (x < t.address) ⊎ (t.address + t.size ≤ x)
-
--- nor has any transfer of an access from vstart on, up to the index `stop`
-abbrev pub KeepsWord : ℕ → ℕ → Option VectorAccess → Type 0
-KeepsWord pc stop None = ⊤
-KeepsWord pc stop (Some a) = (i : ℕ) → a.body.start ≤ i → i < stop → All (IsApart pc) (plan a false i)
+-- nor does any transfer of a store from vstart on, up to the index `stop`
+abbrev pub KeepsWord : ℕ → ℕ → VectorAccess → Type 0
+KeepsWord pc stop a =
+    a.direction ≡ direction.Store
+    → (i : ℕ) → a.body.start ≤ i → i < stop → All (λ t. IsApart pc t.size t.kind) (plan a false i)
 
 -- an instruction that isn't a vector store that stores over its own word before the index `stop`
 abbrev pub KeepsOwnWord : ℕ → Option Instr → HartState → Type 0
 KeepsOwnWord stop None s = ⊤
-KeepsOwnWord stop (Some i) s = KeepsWord s.scalar.pc stop (store_access i s.vector s.scalar)
+KeepsOwnWord stop (Some i) s = IfSome (vector_access i s.vector s.scalar) (KeepsWord s.scalar.pc stop)
 
 -- a step is cut or faults, so it is made again
 abbrev pub IsUndone : StepEnd → Type 0

@@ -2,23 +2,28 @@
 use Rattle.std.specs.Prelude.{ℕ, ◌+◌, ◌%◌, ◌^◌, ◌==◌, ◌&&◌, ◌||◌, Bool, Option, Some, None, if◌then◌else◌}
 use Rattle.std.specs.Int.{byte_len}
 use Rattle.rv_model.specs.declared.vector.control_register.ControlRegister.{ControlRegister}
-use Rattle.rv_model.specs.declared.memory.Access.TheVariants.{Load, Store}
+use Rattle.rv_model.specs.declared.memory.Access.TheVariants as access
+use Rattle.rv_model.specs.declared.instructions.scalar.ScalarInstr.{ScalarInstr}
+use Rattle.rv_model.specs.declared.instructions.scalar.ScalarInstr.TheVariants.{Upper, Jump, JumpRegister, Branch, Load, Store, RegisterImmediate, ShiftImmediate, ShiftImmediateWord, RegisterRegister, Fence, System}
+use Rattle.rv_model.specs.declared.instructions.csr.CsrInstr.{CsrInstr}
+use Rattle.rv_model.specs.declared.instructions.csr.CsrInstr.TheVariants.{Register, Immediate}
 use Rattle.rv_model.specs.declared.instructions.operations.CsrOp.{CsrOp}
 use Rattle.rv_model.specs.declared.instructions.operations.LoadOp.{LoadOp}
 use Rattle.rv_model.specs.declared.instructions.operations.StoreOp.{StoreOp}
 use Rattle.rv_model.specs.declared.instructions.operations.SystemOp.{SystemOp}
 use Rattle.rv_model.specs.declared.instructions.operations.SystemOp.TheVariants as system
-use Rattle.rv_model.specs.declared.scalar.Scalar.{Scalar}
 use Rattle.rv_model.specs.declared.step.step_end.Cause.TheVariants.{MisalignedTarget, IllegalInstruction, LoadAccess, StoreAccess}
 use Rattle.rv_model.specs.declared.step.step_end.StepEnd.TheVariants.{Ran, Exit, Ebreak}
-use Rattle.rv_model.specs.vector.ControlRegisters.{is_read_only}
-use Rattle.rv_model.specs.scalar.ControlTransfer.{is_aligned}
-use Rattle.rv_model.specs.step.Hart.{HartState, Stepped, ends, faults, runs_on, gives}
-use Rattle.rv_model.specs.scalar.LoadsAndStores.{load_width, extended, number_at, store_width, stored_bytes}
+use Rattle.rv_model.specs.vector.ControlRegisters.{control_register, is_read_only}
+use Rattle.rv_model.specs.scalar.ControlTransfer.{branch_target, is_aligned, is_taken, jump_target, register_target}
+use Rattle.rv_model.specs.instructions.Immediates.{i_immediate, s_immediate}
+use Rattle.rv_model.specs.scalar.Arithmetic.{register_op_value, immediate_op_value, shift_immediate_value, shift_immediate_word_value, upper_value}
+use Rattle.rv_model.specs.step.Hart.{HartState, Scalar, Stepped, ends, faults, gives, retires}
+use Rattle.rv_model.specs.scalar.LoadsAndStores.{access_address, load_width, extended, number_at, store_width, stored_bytes}
 use Rattle.rv_model.specs.memory.Memory.{can_access, put_bytes}
 use Rattle.rv_model.specs.scalar.Registers.{read_register, with_register}
 use Rattle.rv_model.specs.step.WriteCall.{call_fails, write_call}
-use Rattle.rv_model.specs.vector.Control.{control_value, with_control, written_value, is_write}
+use Rattle.rv_model.specs.vector.Control.{control_value, csr_form, with_control, written_value, is_write}
 
 -- the program goes on at a target, with these registers, unless no instruction may stand there
 abbrev pub jumps : ℕ → Scalar → HartState → Stepped
@@ -32,20 +37,20 @@ jump_step rd target s = jumps target (with_register rd ((s.scalar.pc + 4) % 2 ^ 
 
 -- a branch
 abbrev pub branch_step : Bool → ℕ → HartState → Stepped
-branch_step taken target s = if taken then jumps target s.scalar s else runs_on s.scalar s
+branch_step taken target s = if taken then jumps target s.scalar s else retires s.scalar s
 
 -- a load, which is refused where one of its bytes may not be read
 abbrev pub load_step : LoadOp → ℕ → ℕ → HartState → Stepped
 load_step op rd addr s =
-    if can_access Load s.memory addr (byte_len (load_width op))
+    if can_access access.Load s.memory addr (byte_len (load_width op))
     then gives rd (extended op (number_at (load_width op) s.memory addr)) s
     else faults LoadAccess addr s
 
 -- a store, which is refused where one of its bytes may not be written
 abbrev pub store_step : StoreOp → ℕ → ℕ → HartState → Stepped
 store_step op addr value s =
-    if can_access Store s.memory addr (byte_len (store_width op))
-    then runs_on s.scalar (record s { memory = put_bytes s.memory addr (stored_bytes op value) })
+    if can_access access.Store s.memory addr (byte_len (store_width op))
+    then retires s.scalar (record s { memory = put_bytes s.memory addr (stored_bytes op value) })
     else faults StoreAccess addr s
 
 -- an access of a control register, by the number of the register or of the immediate that is the operand: illegal where there
@@ -71,3 +76,27 @@ environment_call s =
 abbrev pub system_step : SystemOp → HartState → Stepped
 system_step system.Ecall s = environment_call s
 system_step system.Ebreak s = ends Ebreak s
+
+-- ---- each instruction
+
+-- those of RV64I and of its extension M
+abbrev pub scalar_step : ScalarInstr → HartState → Stepped
+scalar_step (Upper op rd imm) s = gives rd (upper_value op s.scalar.pc imm) s
+scalar_step (Jump rd imm) s = jump_step rd (jump_target s.scalar.pc imm) s
+scalar_step (JumpRegister rd rs1 imm) s = jump_step rd (register_target (read_register s.scalar rs1) imm) s
+scalar_step (Branch op rs1 rs2 imm) s =
+    branch_step (is_taken op (read_register s.scalar rs1) (read_register s.scalar rs2)) (branch_target s.scalar.pc imm) s
+scalar_step (Load op rd rs1 imm) s = load_step op rd (access_address (read_register s.scalar rs1) (i_immediate imm)) s
+scalar_step (Store op rs1 rs2 imm) s =
+    store_step op (access_address (read_register s.scalar rs1) (s_immediate imm)) (read_register s.scalar rs2) s
+scalar_step (RegisterImmediate op rd rs1 imm) s = gives rd (immediate_op_value op (read_register s.scalar rs1) imm) s
+scalar_step (ShiftImmediate op rd rs1 shamt) s = gives rd (shift_immediate_value op (read_register s.scalar rs1) shamt) s
+scalar_step (ShiftImmediateWord op rd rs1 shamt) s = gives rd (shift_immediate_word_value op (read_register s.scalar rs1) shamt) s
+scalar_step (RegisterRegister op rd rs1 rs2) s = gives rd (register_op_value op (read_register s.scalar rs1) (read_register s.scalar rs2)) s
+scalar_step (Fence rd rs1 ordering) s = retires s.scalar s
+scalar_step (System op) s = system_step op s
+
+-- those that read and write a control register, by the word that each is
+abbrev pub csr_executed : CsrInstr → ℕ → HartState → Stepped
+csr_executed (Register op rd rs1 csr) word s = csr_step (control_register csr) op rd rs1 (read_register s.scalar rs1) word s
+csr_executed (Immediate op rd imm csr) word s = csr_step (control_register csr) (csr_form op) rd imm imm word s

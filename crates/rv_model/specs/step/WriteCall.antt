@@ -16,12 +16,12 @@ abbrev pub write_size : ℕ
 write_size = 256
 
 -- how many bytes more an output buffer can hold
-abbrev pub room : List ℕ → ℕ
-room output = output_size - length output
+abbrev pub output_room : List ℕ → ℕ
+output_room output = output_size - length output
 
 -- how many bytes a call writes, of those that it asks for
 abbrev pub write_count : ℕ → List ℕ → ℕ
-write_count asked output = min asked (min (room output) write_size)
+write_count asked output = min asked (min (output_room output) write_size)
 
 -- the call answers an error, by its number in Linux, and the program goes on
 abbrev pub call_fails : ℕ → HartState → Stepped
@@ -40,5 +40,5 @@ write_call s =
     let asked = read_register s.scalar 12 in
     if not (read_register s.scalar 10 == 1) then call_fails 9 s
     else if asked == 0 then gives 10 0 s
-    else if room s.output == 0 then ends OutputFull s
+    else if output_room s.output == 0 then ends OutputFull s
     else puts_out (read_register s.scalar 11) (write_count asked s.output) s

@@ -1,5 +1,5 @@
 -- Numbers in digits, most significant first.
-use Rattle.std.specs.Prelude.{ℕ, ◌+◌, ◌-◌, ◌*◌, ◌&&◌, nat_lt, nat_le, min, List, [], ◌∷◌, Option, Some, None, if◌then◌else◌}
+use Rattle.std.specs.Prelude.{ℕ, ◌+◌, ◌-◌, ◌*◌, ◌&&◌, nat_lt, nat_le, List, [], ◌∷◌, Option, Some, None, if◌then◌else◌}
 
 -- the value of a hexadecimal digit in either case; 16 for any other byte
 abbrev pub digit : ℕ → ℕ
@@ -13,8 +13,3 @@ digit c =
 unfoldable pub digits_after : ℕ → ℕ → List ℕ → Option ℕ
 digits_after radix n [] = Some n
 digits_after radix n (c ∷ cs) = if nat_lt (digit c) radix then digits_after radix (n * radix + digit c) cs else None
-
--- a number, or the cap in place of a larger one
-abbrev pub capped : ℕ → Option ℕ → Option ℕ
-capped cap None = None
-capped cap (Some n) = Some (min n cap)

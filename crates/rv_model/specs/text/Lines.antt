@@ -1,5 +1,5 @@
 -- Lines of text, ended by a newline (byte 0A).
-use Rattle.std.specs.Prelude.{ℕ, ◌==◌, ◌≡◌, List, [], ◌∷◌, ◌++◌, Bool, true, not, ◌&&◌}
+use Rattle.std.specs.Prelude.{ℕ, ◌==◌, List, [], ◌∷◌, ◌++◌, Bool}
 use Rattle.std.specs.List.{slice_split}
 
 abbrev pub is_newline : ℕ → Bool
@@ -17,18 +17,3 @@ tagged tag line = tag ∷ 32 ∷ (line ++ 10 ∷ [])
 abbrev pub text : ℕ → List (List ℕ) → List ℕ
 text tag [] = []
 text tag (line ∷ lines) = tagged tag line ++ text tag lines
-
-abbrev pub is_line : List ℕ → Bool
-is_line [] = true
-is_line (b ∷ bs) = not (is_newline b) && is_line bs
-
--- no byte is a newline
-abbrev pub IsLine : List ℕ → Type 0
-IsLine line = is_line line ≡ true
-
-abbrev pub are_lines : List (List ℕ) → Bool
-are_lines [] = true
-are_lines (line ∷ lines) = is_line line && are_lines lines
-
-abbrev pub AreLines : List (List ℕ) → Type 0
-AreLines lines = are_lines lines ≡ true

@@ -13,11 +13,6 @@ has_bytes (b ∷ bs) = true
 unfoldable pub words : List ℕ → List (List ℕ)
 words line = filter has_bytes (slice_split is_space line)
 
--- a piece, if it has a byte, before further words
-abbrev pub with_piece : List ℕ → List (List ℕ) → List (List ℕ)
-with_piece [] ws = ws
-with_piece (b ∷ bs) ws = (b ∷ bs) ∷ ws
-
 -- the bytes from the first on that fails a test
 abbrev pub skip_while : (ℕ → Bool) → List ℕ → List ℕ
 skip_while test [] = []

@@ -1,16 +1,11 @@
--- Element widths, the vector length and the vector type for VLEN 256 and ELEN 64 ("V" Vector Extension 1.0, sections 3.4, 3.5
+-- Element widths, groups, the vector length and the vector type for VLEN 256 and ELEN 64 ("V" Vector Extension 1.0, sections 3.4, 3.5
 -- and 7.3).
 use Rattle.std.specs.Prelude.{ℕ, ◌*◌, ◌/◌, ◌≡◌, ◌≤◌, Option, Some, None}
 use Rattle.std.specs.Int.{Width, w8, w16, w32, w64}
 use mir.Val.{bits}
-use Rattle.rv_model.specs.declared.instructions.operations.Width.{Width as MemoryWidth}
-use Rattle.rv_model.specs.declared.instructions.operations.Width.TheVariants as width
-use Rattle.rv_model.specs.declared.vector.sizes.TheConstants.{VLENB}
-use Rattle.rv_model.specs.declared.vector.types.Sew.{Sew}
-use Rattle.rv_model.specs.declared.vector.types.Sew.TheVariants.{E8, E16, E32, E64}
-use Rattle.rv_model.specs.declared.vector.types.Lmul.{Lmul}
-use Rattle.rv_model.specs.declared.vector.types.Lmul.TheVariants.{Mf8, Mf4, Mf2, M1, M2, M4, M8}
-use Rattle.rv_model.specs.declared.vector.types.VType.{VType}
+use Rattle.rv_model.specs.instructions.Types.{Eew}
+use Rattle.rv_model.specs.declared.instructions.operations.Eew.TheVariants as width
+use Rattle.rv_model.specs.vector.Types.{VLEN, Sew, E8, E16, E32, E64, Lmul, Mf8, Mf4, Mf2, M1, M2, M4, M8, VType}
 
 -- ---- element widths
 
@@ -30,13 +25,13 @@ abbrev pub width_bytes : Width → ℕ
 width_bytes w = bits w / 8
 
 -- the element width that a load or store names
-abbrev pub element_width : MemoryWidth → Sew
+abbrev pub element_width : Eew → Sew
 element_width width.E8 = E8
 element_width width.E16 = E16
 element_width width.E32 = E32
 element_width width.E64 = E64
 
--- ---- length and type
+-- ---- groups, length and type
 
 -- the group multiplier in eighths of a register
 abbrev pub lmul_eighths : Lmul → ℕ
@@ -48,11 +43,24 @@ lmul_eighths M2 = 16
 lmul_eighths M4 = 32
 lmul_eighths M8 = 64
 
--- how many elements a group has: LMUL x VLEN / SEW
-abbrev pub vlmax : VType → ℕ
-vlmax t = lmul_eighths t.lmul * VLENB / sew_bits t.sew
+-- what a group of registers holds: elements of a width, EEW; and its multiplier, EMUL, in eighths of a register
+pub record GroupType : Type 0 where
+  pub width : Width
+  pub emul : ℕ
 
--- SEW is at most LMUL x ELEN
+-- groups of the vector type: SEW and LMUL
+abbrev pub group_type : VType → GroupType
+group_type t = record { width = sew_width t.sew; emul = lmul_eighths t.lmul }
+
+-- how many elements a group has: EMUL x VLEN / EEW, bits divided by bits
+abbrev pub element_count : GroupType → ℕ
+element_count g = g.emul * VLEN / (8 * bits g.width)
+
+-- VLMAX
+abbrev pub vlmax : VType → ℕ
+vlmax t = element_count (group_type t)
+
+-- SEW is at most LMUL x ELEN; `is_supported` of `TypeRules` is the same as a test
 abbrev pub IsSupported : VType → Type 0
 IsSupported t = sew_bits t.sew ≤ lmul_eighths t.lmul * 8
 

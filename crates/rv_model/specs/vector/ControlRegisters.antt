@@ -2,7 +2,7 @@
 -- Extension 1.0, sections 3.4 to 3.10). There are no others.
 use Rattle.std.specs.Prelude.{ℕ, ◌==◌, Bool, true, false, List, [], ◌∷◌, Option, find, codes}
 use Rattle.std.specs.Str.{bytes_eq}
-use Rattle.rv_model.specs.declared.vector.control_register.ControlRegister.{ControlRegister}
+use Rattle.rv_model.specs.vector.Types.{ControlRegister}
 use Rattle.rv_model.specs.declared.vector.control_register.ControlRegister.TheVariants.{Vstart, Vxsat, Vxrm, Vcsr, Vl, Vtype, Vlenb}
 
 -- a row of the table: the register's number, its name, and whether a write of it is illegal

@@ -2,7 +2,7 @@
 -- and 3.4.2).
 use Rattle.std.specs.Prelude.{ℕ, ◌*◌, ◌/◌, List, max}
 use Rattle.std.specs.Simd.Lanes.{chunk, put_chunk}
-use Rattle.rv_model.specs.declared.vector.sizes.TheConstants.{VLENB}
+use Rattle.rv_model.specs.vector.Types.{VLENB}
 
 -- how many registers a group of this multiplier takes, in eighths of a register; one below 1 takes a register
 abbrev pub registers : ℕ → ℕ

@@ -1,7 +1,6 @@
 -- The numbers of the fixed-point rounding modes ("V" Vector Extension 1.0, section 3.8, `vxrm`).
 use Rattle.std.specs.Prelude.{ℕ, ◌%◌, ◌==◌, if◌then◌else◌}
-use Rattle.rv_model.specs.declared.vector.state.RoundingMode.{RoundingMode}
-use Rattle.rv_model.specs.declared.vector.state.RoundingMode.TheVariants.{NearestUp, NearestEven, Down, Odd}
+use Rattle.rv_model.specs.vector.Types.{RoundingMode, NearestUp, NearestEven, Down, Odd}
 
 -- vxrm of a rounding mode
 abbrev pub rounding_number : RoundingMode → ℕ

@@ -1,8 +1,7 @@
 -- The vector state of a machine ("V" Vector Extension 1.0, section 3) for VLEN 256.
 use Rattle.std.specs.Prelude.{ℕ, List, replicate, false}
+use Rattle.rv_model.specs.vector.Types.{NearestUp, FILE_BYTES}
 use Rattle.rv_model.specs.declared.vector.state.VState.{VState}
-use Rattle.rv_model.specs.declared.vector.state.RoundingMode.TheVariants.{NearestUp}
-use Rattle.rv_model.specs.declared.vector.sizes.TheConstants.{FILE_BYTES}
 use Rattle.rv_model.specs.vector.Configuration.{initial_configuration}
 
 -- all registers, in order, all zero

@@ -2,11 +2,7 @@
 -- 1.0, sections 3.4, 6.1 to 6.3), with the choices that the standard leaves: element widths above LMUL x 64 are not supported,
 -- the length is the lesser of what is asked for and VLMAX, and a kept length asks for the same VLMAX.
 use Rattle.std.specs.Prelude.{ℕ, ◌+◌, ◌*◌, ◌^◌, ◌==◌, nat_lt, nat_le, min, Bool, false, Option, Some, None, if◌then◌else◌}
-use Rattle.rv_model.specs.declared.vector.types.Sew.{Sew}
-use Rattle.rv_model.specs.declared.vector.types.Sew.TheVariants.{E8, E16, E32, E64}
-use Rattle.rv_model.specs.declared.vector.types.Lmul.{Lmul}
-use Rattle.rv_model.specs.declared.vector.types.Lmul.TheVariants.{Mf8, Mf4, Mf2, M1, M2, M4, M8}
-use Rattle.rv_model.specs.declared.vector.types.VType.{VType}
+use Rattle.rv_model.specs.vector.Types.{Sew, E8, E16, E32, E64, Lmul, Mf8, Mf4, Mf2, M1, M2, M4, M8, VType}
 use Rattle.rv_model.specs.declared.vector.request.RequestedLength.{RequestedLength}
 use Rattle.rv_model.specs.declared.vector.request.RequestedLength.TheVariants.{Elements, Maximum, Keep}
 use Rattle.rv_model.specs.declared.vector.request.VectorRequest.{VectorRequest}
@@ -57,7 +53,7 @@ lmul_with_number n =
     else if n == 7 then Some Mf2
     else None
 
--- SEW is at most LMUL x ELEN
+-- SEW is at most LMUL x ELEN: `IsSupported` of `Configuration` as a test
 abbrev pub is_supported : Sew → Lmul → Bool
 is_supported sew lmul = nat_le (sew_bits sew) (lmul_eighths lmul * 8)
 

@@ -393,10 +393,10 @@ pub struct Line {
     pub forms: Forms,
 }
 
-/// The width of a memory element in bits, or of an index (V extension, "Vector Load/Store Width
+/// EEW: the width of a memory element in bits, or of an index (V extension, "Vector Load/Store Width
 /// Encoding").
 #[derive(Clone, Copy)]
-pub enum Width {
+pub enum Eew {
     E8,
     E16,
     E32,

@@ -1,9 +1,8 @@
 //! Laws of vector loads and stores that stop before their end, and of the ticks that they take.
 ghost use Rattle.rv_model.specs.accesses.Restarts.{AccessLeavesOff, AccessResumes, LargerLimitIsSame, LastRunIsWhole, LaterIndicesStay, OverlayIsEither, OverlayOfGrown, StopsWithin};
-ghost use Rattle.rv_model.specs.step.OneTick.{ScalarStepsTakeOneTick};
 ghost use Rattle.rv_model.specs.step.Repeats.{LastInstructionIsWhole, LastStepIsWhole};
 ghost use Rattle.rv_model.specs.step.Resumes.{CutStepLeavesOff, CutStepResumes, FetchedStepResumes, InstructionLeavesOff, InstructionResumes, InstructionStops, StepResumes};
-ghost use Rattle.rv_model.specs.step.StepTicks.{CutStepTakesAllTicks, StepTakesTicks, UncutStepIsSame};
+ghost use Rattle.rv_model.specs.step.StepTicks.{CutStepTakesAllTicks, ScalarStepsTakeOneTick, StepTakesTicks, UncutStepIsSame};
 ghost use Rattle.rv_model.specs.step.Ticks.{CutTakesAllTicks, MoreTicksAreSame, TicksAreWithin};
 
 /// A legal vector load or store that is cut or faults, and is run again, any number of times, while

@@ -9,7 +9,7 @@ pub(crate) struct Cells<const N: usize> {
 }
 
 impl<const N: usize> Cells<N> {
-    ghost use Rattle.rv_model.specs.vector.CellLending.{LendsPart};
+    ghost use Rattle.rv_model.specs.lending.Cells.{LendsPart};
 
     /// The bytes from one place up to another, for writing.
     pub fn part_mut(&mut self, from: usize, to: usize) -> &mut [u8]

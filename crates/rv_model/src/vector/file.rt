@@ -26,7 +26,7 @@ impl Model for VFile {
 }
 
 impl VFile {
-    ghost use Rattle.rv_model.specs.vector.FileLending.{LendsFilePart};
+    ghost use Rattle.rv_model.specs.lending.Files.{LendsFilePart};
     ghost use Rattle.rv_model.specs.vector.Registers.{register_of, with_register_bytes};
     ghost use Rattle.rv_model.specs.vector.State.{zero_file};
 

@@ -1,5 +1,5 @@
 //! The vector type ("V" Vector Extension 1.0, section 3.4).
-use crate::instructions::operations::Width;
+use crate::instructions::operations::Eew;
 use crate::vector::sizes::VLENB;
 
 /// An element width in bits, as that which is selected (section 3.4.1, `vsew`).
@@ -21,14 +21,14 @@ impl Sew {
     ghost use Rattle.rv_model.specs.vector.TypeRules.{sew_number, sew_with_number};
 
     /// The element width that a load or store names (section 7.3).
-    pub fn from_width(width: Width) -> Sew
+    pub fn from_width(width: Eew) -> Sew
         ensures { result ≡ element_width width }
     {
         match width {
-            Width::E8 => Sew::E8,
-            Width::E16 => Sew::E16,
-            Width::E32 => Sew::E32,
-            Width::E64 => Sew::E64,
+            Eew::E8 => Sew::E8,
+            Eew::E16 => Sew::E16,
+            Eew::E32 => Sew::E32,
+            Eew::E64 => Sew::E64,
         }
     }
 
@@ -214,6 +214,7 @@ impl VType {
     ghost use Rattle.rv_model.specs.vector.TypeNames.{mask_name, mask_named, tail_name, tail_named};
 
     /// VLMAX: how many elements a group has, at most 256 (section 3.4.2).
+    #[tactic(auto, using(crate::proofs::element_lemmas::Widths::vlmax_by_bytes))]
     pub fn vlmax(self) -> u16
         ensures { result ≡ vlmax self }
     {

@@ -3,7 +3,7 @@ use crate::by_chance::digest::Digest;
 use draws::Draws;
 use rv_asm::{Text, assemble, text_of};
 use rv_decode::{decode, encode};
-use rv_model::Instr;
+use rv_model::{Instr, ScalarInstr};
 use std::io;
 
 /// The low seven bits of all instructions.
@@ -34,7 +34,7 @@ fn is_told(word: u32, text: &Text) -> bool {
     let directive = text.as_str().starts_with(".word ");
     spelled
         && match decode(word) {
-            Some(instr @ Instr::Fence { .. }) => encode(&instr) == word,
+            Some(instr @ Instr::Scalar(ScalarInstr::Fence { .. })) => encode(&instr) == word,
             Some(instr) => encode(&instr) == word && !directive,
             None => directive,
         }

@@ -1,11 +1,10 @@
--- Nothing is cut where there are as many ticks as a vector has elements at most.
-use Rattle.std.proofs.Common.{[], ap, ◌∙◌, arith}
-use Rattle.rv_model.specs.step.VectorStep.{VectorStepped}
-use Rattle.rv_model.proofs.step_lemmas.Cuts.{uncut}
+-- The ticks that are counted are those of the step.
+use Rattle.std.proofs.Common.{arith, refl}
+use Rattle.std.proofs.lemmas.Grind.{common_steps}
+use Rattle.hart.proofs.VectorWords.{vector_steps}
 use Rattle.hart.proofs.vector_instructions.execute_vector.Goals as goal
 
-pub returns-clause-uncut : goal.returns-clause-uncut
-returns-clause-uncut g c = λ enough same.
-    let cut = c.retire_vector.ensures.cut same in
-    uncut c.args.limit c.in-Some.instr _ cut.0 (omega (arith, c.new-found.ensures.bound)) enough
-    (ap (λ (done : VectorStepped). done.end) (c.exec_rest-ending.ensures.model []) ∙ cut.1)
+pub returns-clause-model : goal.returns-clause-model
+returns-clause-model g c = λ output.
+    let taken = c.vector_ticks-ticks.ensures c.args.word _ _ (grind (arith, common_steps)) (grind (arith, common_steps)) refl (c.exec_rest-ending.ensures.model output) in
+    grind (arith, common_steps, vector_steps, taken)

@@ -1,5 +1,6 @@
 use Rattle.std.proofs.Common.{arith, ap, ◌∙◌, ℕ, min, ◌+◌, ◌*◌}
-use Rattle.rv_model.specs.text.Digits.{digits_after, capped}
+use Rattle.rv_model.specs.text.Digits.{digits_after}
+use Rattle.rv_model.specs.lending.Text.{capped}
 use Rattle.rv_model.proofs.text_lemmas.Digits.{digit_more, digit_stops, digits_end}
 use Rattle.rv_model.proofs.text.digits.Goals as goal
 

@@ -1,5 +1,6 @@
 use Rattle.std.proofs.Common.{◌≡◌, ◌≤◌, drop}
-use Rattle.rv_model.specs.text.Digits.{digits_after, capped}
+use Rattle.rv_model.specs.text.Digits.{digits_after}
+use Rattle.rv_model.specs.lending.Text.{capped}
 use Rattle.rv_model.proofs.text.digits.Given as goal
 
 abbrev pub invariant-loop-byte : goal.invariant-loop-byte

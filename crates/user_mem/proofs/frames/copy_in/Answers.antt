@@ -1,6 +1,6 @@
 use Rattle.std.proofs.Common.{ℕ, ◌≡◌, ◌≤◌, ◌+◌, ◌-◌, ◌%◌, ◌∙◌, sym, refl, ap, take, drop, arith, true, length}
 use Rattle.rv_model.specs.declared.memory.Access.TheVariants.{Monitor}
-use Rattle.rv_model.specs.memory.Memory.{Memory, is_allowed, put_bytes}
+use Rattle.rv_model.specs.memory.Memory.{Memory, put_bytes, can_access_byte}
 use Rattle.rv_model.proofs.memory_lemmas.Memory.{can_access-at, is_allowed-put_bytes}
 use Rattle.rv_model.specs.memory.Sizes.{page_size}
 use Rattle.user_mem.specs.Table.{memory_of}
@@ -20,7 +20,7 @@ overflow_add-next c =
 mapped : goal.index_of-start-requires-clause-mapped
 mapped c =
     let next = c.args.addr + c.loop-done.done in
-    ap (λ (m : Memory). is_allowed Monitor m next) c.loop-done.invariant.written
+    ap (λ (m : Memory). can_access_byte Monitor m next) c.loop-done.invariant.written
     ∙ is_allowed-put_bytes Monitor (memory_of c.args.frames.now c.args.entries.now) c.args.addr (take c.loop-done.done c.args.bytes.now) next
     ∙ can_access-at Monitor (memory_of c.args.frames.now c.args.entries.now) c.args.addr (length c.args.bytes.now) c.loop-done.done next c.requires.mapped (omega arith) refl
 
@@ -38,8 +38,8 @@ loop-done-preserved c =
     let long = part_length c.args.bytes.now done len room in
     let page : (c.args.addr + c.loop-done.done) % page_size + c.bytes_in_page-len.result ≤ page_size = omega (arith, c.bytes_in_page-len.ensures) in
     let fits = ap (λ (n : ℕ). next % page_size + n) long in
-    let ok : is_allowed Monitor (memory_of c.loop-done.frames c.args.entries.now) (c.args.addr + c.loop-done.done) ≡ true =
-    ap (λ (m : Memory). is_allowed Monitor m next) c.loop-done.invariant.written
+    let ok : can_access_byte Monitor (memory_of c.loop-done.frames c.args.entries.now) (c.args.addr + c.loop-done.done) ≡ true =
+    ap (λ (m : Memory). can_access_byte Monitor m next) c.loop-done.invariant.written
     ∙ is_allowed-put_bytes Monitor (memory_of c.args.frames.now c.args.entries.now) c.args.addr (take done c.args.bytes.now) next
     ∙ can_access-at Monitor (memory_of c.args.frames.now c.args.entries.now) c.args.addr (length c.args.bytes.now) done next c.requires.mapped (omega arith) refl in
     record {

@@ -1,5 +1,5 @@
 use Rattle.std.proofs.Common.{◌≡◌, ◌≤◌, ◌+◌, ◌^◌, false, sym, ◌∙◌, refl, arith}
-use Rattle.rv_model.specs.memory.Memory.{is_allowed}
+use Rattle.rv_model.specs.memory.Memory.{can_access_byte}
 use Rattle.rv_model.proofs.memory_lemmas.Memory.{can_access_not, can_access_from}
 use Rattle.user_mem.specs.Table.{memory_of}
 use Rattle.user_mem.proofs.TableLaws.{not_allowed_beyond}
@@ -13,7 +13,7 @@ returns-in_default c = λ frames.
 
 pub returns-then-not-is_byte_allowed : goal.returns-then-not-is_byte_allowed
 returns-then-not-is_byte_allowed c = λ frames.
-    let refused : is_allowed c.args.access (memory_of frames c.args.entries.now) c.in-Some.next ≡ false = sym (c.is_byte_allowed.ensures frames) ∙ c.if-not-is_byte_allowed.true in
+    let refused : can_access_byte c.args.access (memory_of frames c.args.entries.now) c.in-Some.next ≡ false = sym (c.is_byte_allowed.ensures frames) ∙ c.if-not-is_byte_allowed.true in
     sym (can_access_not c.args.access (memory_of frames c.args.entries.now) c.args.addr c.args.len c.loop-done.done c.in-Some.next c.loop-done-test.true c.in-Some.ensures.1 refused)
 
 pub loop-done-preserved : goal.loop-done-preserved

@@ -3,14 +3,15 @@ use Rattle.rv_model.specs.step.VectorStep.{vector_ends}
 use Rattle.rv_model.proofs.step_lemmas.GoesOn.{instruction_goes_on}
 use Rattle.vec_unit.proofs.execution.exec.Goals as goal
 
-pub returns-in-VectorArith-clause-restarts : goal.returns-in-VectorArith-clause-restarts
-returns-in-VectorArith-clause-restarts g c = λ output.
+pub returns-in-Vector-Arith-clause-restarts : goal.returns-in-Vector-Arith-clause-restarts
+returns-in-Vector-Arith-clause-restarts g c = λ output.
     let memory = g.M.UserBytes.memory c.args.memory.now in
+    let operation = rw c.in-Vector-Arith.is at c.in-Vector-Arith.field-0-is in
     instruction_goes_on c.args.limit c.args.instr.now
     (hart_state c.args.scalar.now c.args.state.now memory c.args.policy output)
     (vector_ends c.exec_arith.result
     (hart_state c.args.scalar.now c.exec_arith.new.state memory c.args.policy output))
-    c.length_law.ensures (rw c.in-VectorArith.is (c.exec_arith.ensures.model c.args.limit memory output))
+    c.length_law.ensures (rw (c.in-Vector-Arith.is, operation) (c.exec_arith.ensures.model c.args.limit memory output))
 
 pub returns-in_default-clause-restarts : goal.returns-in_default-clause-restarts
 returns-in_default-clause-restarts g c = λ output.

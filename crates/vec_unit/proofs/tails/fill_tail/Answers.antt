@@ -1,6 +1,6 @@
 use Rattle.std.proofs.Common.{ℕ, ◌≡◌, ◌*◌, length, subst, ap, sym, ◌∙◌}
 use Rattle.rv_model.specs.elements.Elements.{in_range}
-use Rattle.rv_model.specs.elements.Writes.{Writes}
+use Rattle.rv_model.specs.lending.Writes.{Writes}
 use Rattle.rv_model.specs.vector.Configuration.{width_bytes}
 use Rattle.rv_model.specs.vector.Registers.{group_of}
 use Rattle.rv_model.proofs.element_lemmas.Tails.{tail_is_filled}

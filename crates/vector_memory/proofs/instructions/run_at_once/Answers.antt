@@ -1,17 +1,19 @@
 use Rattle.std.proofs.Common.{sym, ◌∙◌, arith}
+use Rattle.vector_memory.proofs.MovedRuns.{leaves}
 use Rattle.vector_memory.proofs.Transferred.{fits, runs}
 use Rattle.vector_memory.proofs.instructions.run_at_once.Goals as goal
 
 pub run_block-requires : goal.run_block-requires
 run_block-requires g c =
     let a = c.args in
-    let room = fits a.extent.fill_masked_off a.state.now a.scalar.now c.in-Some.transfer a.instr.now (sym c.transfer_of.ensures.value ∙ c.in-Some.is)
+    let room = fits a.state.now a.scalar.now c.in-Some.transfer a.access.now (sym c.transfer_of.ensures.value ∙ c.in-Some.is)
     c.requires.legal c.requires.configured c.in-Some.ensures.fields in
     record { room = room.room; count = room.count }
 
 pub returns-clause-done : goal.returns-clause-done
 returns-clause-done g c = λ done.
     let a = c.args in
-    runs a.extent.fill_masked_off a.state.now a.scalar.now c.in-Some.transfer a.instr.now a.extent.limit (g.M.UserBytes.memory a.memory.now)
-    (sym c.transfer_of.ensures.value ∙ c.in-Some.is) (omega arith)
-    ∙ c.run_block.ensures.done done
+    leaves _
+    (runs a.state.now a.scalar.now c.in-Some.transfer a.access.now a.extent.limit a.extent.fill_masked_off (g.M.UserBytes.memory a.memory.now)
+    (sym c.transfer_of.ensures.value ∙ c.in-Some.is) c.requires.legal (omega arith)
+    ∙ c.run_block.ensures.done done a.extent.fill_masked_off)

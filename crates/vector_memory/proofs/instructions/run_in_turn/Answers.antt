@@ -1,23 +1,26 @@
 use Rattle.std.proofs.Common.{sym, ◌∙◌, arith}
+use Rattle.vector_memory.proofs.MovedRuns.{leaves}
 use Rattle.vector_memory.proofs.Transferred.{fits, runs, transfers_nothing}
 use Rattle.vector_memory.proofs.instructions.run_in_turn.Goals as goal
 
 pub run_segments-requires : goal.run_segments-requires
 run_segments-requires g c =
     let a = c.args in
-    let room = fits a.extent.fill_masked_off a.state.now a.scalar.now c.in-Some.transfer a.instr.now (sym c.transfer_of.ensures.value ∙ c.in-Some.is)
+    let room = fits a.state.now a.scalar.now c.in-Some.transfer a.access.now (sym c.transfer_of.ensures.value ∙ c.in-Some.is)
     c.requires.legal c.requires.configured c.in-Some.ensures.fields in
     record { room = room.room; count = room.count; length = room.length }
 
 pub returns-in_default-clause-run : goal.returns-in_default-clause-run
 returns-in_default-clause-run g c =
     let a = c.args in
-    transfers_nothing a.extent.fill_masked_off a.state.now a.scalar.now a.instr.now a.extent.limit (g.M.UserBytes.memory a.memory.now)
-    (sym c.transfer_of.ensures.value ∙ c.in_default.is) (sym c.is_indexed.ensures ∙ c.if-is_indexed.false)
+    leaves _
+    (transfers_nothing a.state.now a.scalar.now a.access.now a.extent.limit a.extent.fill_masked_off (g.M.UserBytes.memory a.memory.now)
+    (sym c.transfer_of.ensures.value ∙ c.in_default.is) (sym c.is_indexed.ensures ∙ c.if-is_indexed.false))
 
 pub returns-clause-run : goal.returns-clause-run
 returns-clause-run g c =
     let a = c.args in
-    runs a.extent.fill_masked_off a.state.now a.scalar.now c.in-Some.transfer a.instr.now a.extent.limit (g.M.UserBytes.memory a.memory.now)
-    (sym c.transfer_of.ensures.value ∙ c.in-Some.is) (omega arith)
-    ∙ c.run_segments.ensures.run
+    leaves _
+    (runs a.state.now a.scalar.now c.in-Some.transfer a.access.now a.extent.limit a.extent.fill_masked_off (g.M.UserBytes.memory a.memory.now)
+    (sym c.transfer_of.ensures.value ∙ c.in-Some.is) c.requires.legal (omega arith)
+    ∙ c.run_segments.ensures.run)

@@ -1,12 +1,12 @@
 use Rattle.std.proofs.Common.{sym}
-use Rattle.rv_model.specs.elements.Arithmetic.{group_type}
+use Rattle.rv_model.specs.vector.Configuration.{group_type}
 use Rattle.rv_model.proofs.legality_lemmas.Accesses.{indexed_inside}
 use Rattle.vector_memory.proofs.Room.{element_most, segments_room}
 use Rattle.vector_memory.proofs.instructions.run_offsets_under.Goals as goal
 
 pub run_indexed-requires-clause-room : goal.run_indexed-requires-clause-room
 run_indexed-requires-clause-room g c =
-    let i = c.in-VectorIndexed in
+    let i = c.in-Indexed in
     let t = c.args.vtype in
     let v = c.args.state.now in
     let inside = indexed_inside i.direction i.order i.width i.nf i.vd i.rs1 i.vs2 i.vm t v.vstart v.conf.vl (rw (sym i.is) c.requires.legal) c.requires.length in
@@ -16,14 +16,14 @@ run_indexed-requires-clause-room g c =
 
 pub run_indexed-requires-clause-inside : goal.run_indexed-requires-clause-inside
 run_indexed-requires-clause-inside g c =
-    let i = c.in-VectorIndexed in
+    let i = c.in-Indexed in
     let v = c.args.state.now in
     rw c.emul_of.ensures
     (indexed_inside i.direction i.order i.width i.nf i.vd i.rs1 i.vs2 i.vm c.args.vtype v.vstart v.conf.vl (rw (sym i.is) c.requires.legal) c.requires.length).indices.inside
 
 pub run_indexed-requires-clause-offsets : goal.run_indexed-requires-clause-offsets
 run_indexed-requires-clause-offsets g c =
-    let i = c.in-VectorIndexed in
+    let i = c.in-Indexed in
     let v = c.args.state.now in
     rw c.emul_of.ensures
     (indexed_inside i.direction i.order i.width i.nf i.vd i.rs1 i.vs2 i.vm c.args.vtype v.vstart v.conf.vl (rw (sym i.is) c.requires.legal) c.requires.length).indices.room

@@ -3,23 +3,23 @@ use Rattle.std.proofs.lemmas.Bool.{cases_lt, false_from_ne_true}
 use Rattle.std.specs.Prelude.{nat_lt}
 use Rattle.rv_model.specs.declared.memory.Access.TheVariants.{Load}
 use Rattle.rv_model.specs.declared.step.memory_end.MemEnd.TheVariants.{Cut, Done, Fault}
-use Rattle.rv_model.specs.accesses.Transfers.{are_allowed, loaded, transfers}
+use Rattle.rv_model.specs.accesses.Transfers.{are_allowed, registers_loaded, transfers}
 use Rattle.rv_model.specs.accesses.VectorAccess.{plan}
 use Rattle.rv_model.proofs.access_lemmas.Contiguous.{stops_all}
 use Rattle.rv_model.proofs.access_lemmas.Moves.{loaded-append, loaded_none}
 use Rattle.rv_model.proofs.access_lemmas.Stops.{allowed_more, stops_bad, transfers_more, transfers_none}
-use Rattle.vector_memory.specs.SegmentRoom.{access_of, place_in}
+use Rattle.vector_memory.specs.SegmentRoom.{segments_access, place_in}
 use Rattle.vector_memory.proofs.loads.load_each.Goals as goal
 
 pub loop-index-init : goal.loop-index-init
 loop-index-init g c =
     let m = g.M.UserBytes.memory c.args.memory.now in
-    let each = plan (access_of c.args.segments.now c.args.body.now (g.A.Addresses.address c.args.addresses.now)) c.args.fill_masked_off in
+    let each = plan (segments_access c.args.segments.now c.args.body.now (g.A.Addresses.address c.args.addresses.now)) c.args.fill_masked_off in
     let place = place_in c.args.segments.now in
     let start = c.args.body.now.start in
     let first : c.start-index.result ≡ start = omega (arith, c.start-index.ensures) in
     record {
-      value = sym (ap (loaded m place c.args.file.now) (transfers_none each start c.start-index.result (omega (arith, first))) ∙ loaded_none m place c.args.file.now);
+      value = sym (ap (registers_loaded m place c.args.file.now) (transfers_none each start c.start-index.result (omega (arith, first))) ∙ loaded_none m place c.args.file.now);
       allowed = λ k low high. absurd (omega (arith, first, low, high));
       most = omega (arith, first);
     }
@@ -27,16 +27,16 @@ loop-index-init g c =
 pub loop-index-preserved : goal.loop-index-preserved
 loop-index-preserved g c =
     let m = g.M.UserBytes.memory c.args.memory.now in
-    let each = plan (access_of c.args.segments.now c.args.body.now (g.A.Addresses.address c.args.addresses.now)) c.args.fill_masked_off in
+    let each = plan (segments_access c.args.segments.now c.args.body.now (g.A.Addresses.address c.args.addresses.now)) c.args.fill_masked_off in
     let place = place_in c.args.segments.now in
     let start = c.args.body.now.start in
     let i = c.loop-index.index in
     let file = c.args.file.now in
     record {
       value =
-          c.in_default.ensures.value ∙ ap (λ f. loaded m place f (each i)) c.loop-index.invariant.value
+          c.in_default.ensures.value ∙ ap (λ f. registers_loaded m place f (each i)) c.loop-index.invariant.value
           ∙ sym (loaded-append m place file (transfers each start (i - start)) (each i))
-          ∙ ap (loaded m place file) (sym (transfers_more each start i (omega (arith, c.loop-index.auto.index, c.start-index.ensures))));
+          ∙ ap (registers_loaded m place file) (sym (transfers_more each start i (omega (arith, c.loop-index.auto.index, c.start-index.ensures))));
       allowed = allowed_more Load m each start i c.loop-index.invariant.allowed (c.in_default.ensures.ok.0 refl);
       most = omega (arith, c.loop-index-test.true, c.min-stop.ensures, c.end.ensures);
     }
@@ -44,7 +44,7 @@ loop-index-preserved g c =
 pub returns-in-Err-clause-loaded : goal.returns-in-Err-clause-loaded
 returns-in-Err-clause-loaded g c =
     let m = g.M.UserBytes.memory c.args.memory.now in
-    let each = plan (access_of c.args.segments.now c.args.body.now (g.A.Addresses.address c.args.addresses.now)) c.args.fill_masked_off in
+    let each = plan (segments_access c.args.segments.now c.args.body.now (g.A.Addresses.address c.args.addresses.now)) c.args.fill_masked_off in
     let start = c.args.body.now.start in
     let i = c.loop-index.index in
     let bad : are_allowed Load m (each i) ≡ false = false_from_ne_true _ (λ t. let is_not = c.in-Err.ensures.ok.1 t in cc) in
@@ -52,13 +52,13 @@ returns-in-Err-clause-loaded g c =
     let stopped = stops_bad Load m each start (start + c.args.limit) c.args.body.now.end i low (omega arith) (omega arith) c.loop-index.invariant.allowed bad in
     record {
       end = ap (λ addr. Fault i addr) c.in-Err.ensures.fault ∙ sym stopped.end;
-      value = c.in-Err.ensures.unchanged ∙ c.loop-index.invariant.value ∙ ap (loaded m (place_in c.args.segments.now) c.args.file.now) (sym stopped.done);
+      value = c.in-Err.ensures.unchanged ∙ c.loop-index.invariant.value ∙ ap (registers_loaded m (place_in c.args.segments.now) c.args.file.now) (sym stopped.done);
     }
 
 pub returns-clause-loaded : goal.returns-clause-loaded
 returns-clause-loaded g c =
     let m = g.M.UserBytes.memory c.args.memory.now in
-    let each = plan (access_of c.args.segments.now c.args.body.now (g.A.Addresses.address c.args.addresses.now)) c.args.fill_masked_off in
+    let each = plan (segments_access c.args.segments.now c.args.body.now (g.A.Addresses.address c.args.addresses.now)) c.args.fill_masked_off in
     let body = c.args.body.now in
     let stop : c.min-stop.result ≡ min body.end (body.start + c.args.limit) =
     omega (arith, c.requires.count, c.min-stop.ensures, c.end.ensures, c.saturating_add.ensures, c.start.ensures) in
@@ -71,5 +71,5 @@ returns-clause-loaded g c =
     ] in
     record {
       end = c.end_without_fault.ensures.value ∙ ap (λ end. cond (nat_lt c.min-stop.result end) (Cut c.min-stop.result) Done) c.end-2.ensures ∙ sym stopped.end;
-      value = c.loop-index.invariant.value ∙ ap (loaded m (place_in c.args.segments.now) c.args.file.now) (ap (transfers each body.start) count ∙ sym stopped.done);
+      value = c.loop-index.invariant.value ∙ ap (registers_loaded m (place_in c.args.segments.now) c.args.file.now) (ap (transfers each body.start) count ∙ sym stopped.done);
     }

@@ -1,17 +1,17 @@
 use Rattle.std.proofs.Common.{◌≡◌, ◌-◌, ◌≤◌, max}
 use Rattle.rv_model.specs.declared.memory.Access.TheVariants.{Load}
-use Rattle.rv_model.specs.accesses.Transfers.{loaded, transfers}
+use Rattle.rv_model.specs.accesses.Transfers.{registers_loaded, transfers}
 use Rattle.rv_model.specs.accesses.VectorAccess.{plan}
 use Rattle.rv_model.proofs.access_lemmas.Stops.{AllAllowed}
-use Rattle.vector_memory.specs.SegmentRoom.{access_of, place_in}
+use Rattle.vector_memory.specs.SegmentRoom.{segments_access, place_in}
 use Rattle.vector_memory.proofs.loads.load_each.Given as goal
 
 abbrev pub invariant-loop-index : goal.invariant-loop-index
 invariant-loop-index g l =
     let m = g.M.UserBytes.memory l.memory in
-    let each = plan (access_of l.segments l.body (g.A.Addresses.address l.addresses)) l.fill_masked_off in
+    let each = plan (segments_access l.segments l.body (g.A.Addresses.address l.addresses)) l.fill_masked_off in
     record {
-      value : l.file ≡ loaded m (place_in l.segments) l.fn.file (transfers each l.body.start (l.index - l.body.start));
+      value : l.file ≡ registers_loaded m (place_in l.segments) l.fn.file (transfers each l.body.start (l.index - l.body.start));
       allowed : AllAllowed Load m each l.body.start l.index;
       most : l.index ≤ max l.body.start l.body.end;
     }

@@ -1,29 +1,34 @@
-use Rattle.std.proofs.Common.{ap, ◌∙◌}
-use Rattle.rv_model.specs.accesses.AccessRuns.{unit_run}
-use Rattle.vector_memory.specs.SegmentRoom.{access_of}
-use Rattle.vector_memory.proofs.MovedRuns.{load_runs, store_runs}
+use Rattle.std.proofs.Common.{subst, sym, ◌∙◌}
+use Rattle.rv_model.specs.declared.instructions.operations.UnitOp.{UnitOp}
+use Rattle.rv_model.specs.declared.instructions.operations.UnitOp.TheVariants as unit
+use Rattle.vector_memory.specs.Runs.{RunLeaves, segments_run}
+use Rattle.vector_memory.proofs.MovedRuns.{leaves, load_runs, store_runs}
 use Rattle.vector_memory.proofs.runs.run_unit.Goals as goal
 
 pub returns-in-Load-clause-run : goal.returns-in-Load-clause-run
 returns-in-Load-clause-run g c =
     let a = c.args in
     let m = g.M.UserBytes.memory a.memory.now in
-    let access = access_of a.segments.now a.body.now (g.A.Addresses.address a.addresses.now) in
-    ap (λ op. unit_run op a.extent.limit a.extent.fill_masked_off access a.state.now m) c.in-Load.is
-    ∙ load_runs _ _ _ access a.state.now m _ _ c.load-end.ensures.loaded ∙ c.leave.ensures.load m
+    let address = g.A.Addresses.address a.addresses.now in
+    subst (λ (op : UnitOp). RunLeaves (segments_run op a.extent.limit a.extent.fill_masked_off a.segments.now a.body.now address a.state.now m)
+    c.load-end.result c.leave.new.state m) (sym c.in-Load.is)
+    (leaves _ (load_runs unit.Load _ _ _ address a.state.now m _ _ _ c.load-end.ensures.loaded ∙ c.leave.ensures a.body.now.end m))
 
 pub returns-in-FaultOnlyFirst-clause-run : goal.returns-in-FaultOnlyFirst-clause-run
 returns-in-FaultOnlyFirst-clause-run g c =
     let a = c.args in
     let m = g.M.UserBytes.memory a.memory.now in
-    let access = access_of a.segments.now a.body.now (g.A.Addresses.address a.addresses.now) in
-    ap (λ op. unit_run op a.extent.limit a.extent.fill_masked_off access a.state.now m) c.in-FaultOnlyFirst.is
-    ∙ load_runs _ _ _ access a.state.now m _ _ c.load-end-in-FaultOnlyFirst.ensures.loaded ∙ c.leave_first_only.ensures m
+    let address = g.A.Addresses.address a.addresses.now in
+    subst (λ (op : UnitOp). RunLeaves (segments_run op a.extent.limit a.extent.fill_masked_off a.segments.now a.body.now address a.state.now m)
+    c.leave_first_only.result c.leave_first_only.new.state m) (sym c.in-FaultOnlyFirst.is)
+    (leaves _ (load_runs unit.FaultOnlyFirst _ _ _ address a.state.now m _ _ _ c.load-end-in-FaultOnlyFirst.ensures.loaded ∙ c.leave_first_only.ensures a.body.now.end m))
 
 pub returns-in-Store-clause-run : goal.returns-in-Store-clause-run
 returns-in-Store-clause-run g c =
     let a = c.args in
     let m = g.M.UserBytes.memory a.memory.now in
-    let access = access_of a.segments.now a.body.now (g.A.Addresses.address a.addresses.now) in
-    ap (λ op. unit_run op a.extent.limit a.extent.fill_masked_off access a.state.now m) c.in-Store.is
-    ∙ store_runs _ access a.state.now m _ _ c.store-end.ensures.stored ∙ c.leave-in-Store.ensures.store (g.M.UserBytes.memory c.store-end.new.memory)
+    let more = g.M.UserBytes.memory c.store-end.new.memory in
+    let address = g.A.Addresses.address a.addresses.now in
+    subst (λ (op : UnitOp). RunLeaves (segments_run op a.extent.limit a.extent.fill_masked_off a.segments.now a.body.now address a.state.now m)
+    c.store-end.result c.leave-in-Store.new.state more) (sym c.in-Store.is)
+    (leaves _ (store_runs unit.Store _ _ _ address a.state.now m _ _ c.store-end.ensures.stored ∙ c.leave-in-Store.ensures a.body.now.end more))

@@ -1,6 +1,6 @@
 use Rattle.std.proofs.Common.{◌≡◌, ◌+◌, ◌*◌, ◌-◌, ◌≤◌, sym, ap, ◌∙◌, arith}
 use Rattle.vector_memory.specs.FieldOrder.{load_field}
-use Rattle.vector_memory.specs.SegmentRoom.{access_of}
+use Rattle.vector_memory.specs.SegmentRoom.{segments_access}
 use Rattle.vector_memory.proofs.FieldSteps.{each_from, each_next, load_active, load_filled, load_kept}
 use Rattle.vector_memory.proofs.Outcomes.{take-replicate}
 use Rattle.vector_memory.proofs.SpanMoves.{field_read, part_at}
@@ -9,14 +9,14 @@ use Rattle.vector_memory.proofs.span_elements.read_field.Goals.{then-lets, else-
 
 pub loop-index-init : goal.loop-index-init
 loop-index-init c = λ m address read follows.
-    sym (each_from (load_field m (access_of c.args.segments.now c.args.body.now address) c.args.fill_masked_off c.args.field) c.args.file.now
+    sym (each_from (load_field m (segments_access c.args.segments.now c.args.body.now address) c.args.fill_masked_off c.args.field) c.args.file.now
     c.args.body.now.start c.start-start.result (omega (arith, c.start-start.ensures)))
 
 pub loop-index-preserved : goal.loop-index-preserved
 loop-index-preserved c = λ m address read follows.
     let s = c.args.segments.now in
     let body = c.args.body.now in
-    let a = access_of s body address in
+    let a = segments_access s body address in
     let f = c.args.field in
     let i = c.loop-index.index in
     let at : (i - c.start-start.result) * c.args.span.distance + f * s.size ≡ (i - body.start) * c.args.span.distance + f * s.size =

@@ -1,19 +1,19 @@
 use Rattle.std.proofs.Common.{◌≡◌, ◌-◌, sym, ap, ◌∙◌, arith}
 use Rattle.vector_memory.specs.FieldOrder.{each_field, for_each, load_field}
-use Rattle.vector_memory.specs.SegmentRoom.{access_of}
+use Rattle.vector_memory.specs.SegmentRoom.{segments_access}
 use Rattle.vector_memory.proofs.FieldSteps.{field_more, fields_loaded, loads_apart, no_field}
 use Rattle.vector_memory.proofs.span_elements.read_fields.Goals as goal
 
 pub loop-field-init : goal.loop-field-init
 loop-field-init c = λ m address read follows.
     let start = c.args.body.now.start in
-    sym (no_field (load_field m (access_of c.args.segments.now c.args.body.now address) c.args.fill_masked_off) c.args.file.now start (c.args.stop - start))
+    sym (no_field (load_field m (segments_access c.args.segments.now c.args.body.now address) c.args.fill_masked_off) c.args.file.now start (c.args.stop - start))
 
 pub loop-field-preserved : goal.loop-field-preserved
 loop-field-preserved c = λ m address read follows.
     let s = c.args.segments.now in
     let start = c.args.body.now.start in
-    let a = access_of s c.args.body.now address in
+    let a = segments_access s c.args.body.now address in
     let one = load_field m a c.args.fill_masked_off in
     let f = c.loop-field.field in
     let n = c.args.stop - start in
@@ -25,7 +25,7 @@ pub returns : goal.returns
 returns c = λ m address read follows.
     let s = c.args.segments.now in
     let start = c.args.body.now.start in
-    let a = access_of s c.args.body.now address in
+    let a = segments_access s c.args.body.now address in
     let last : c.loop-field.field ≡ s.fields = omega arith in
     c.loop-field.invariant m address read follows
     ∙ ap (λ f. for_each (each_field (load_field m a c.args.fill_masked_off) f) c.args.file.now start (c.args.stop - start)) last

@@ -2,7 +2,7 @@ use Rattle.std.proofs.Common.{◌≡◌, ◌+◌, ◌*◌, ◌-◌, ◌≤◌, l
 use Rattle.std.proofs.lemmas.Simd.{length-put_chunk}
 use Rattle.rv_model.specs.memory.Memory.{put_bytes}
 use Rattle.vector_memory.specs.FieldOrder.{store_field}
-use Rattle.vector_memory.specs.SegmentRoom.{access_of}
+use Rattle.vector_memory.specs.SegmentRoom.{segments_access}
 use Rattle.vector_memory.proofs.FieldSteps.{each_from, each_next, store_active, store_kept}
 use Rattle.vector_memory.proofs.SpanMoves.{field_begins, field_inside, part_at, part_put, put_part}
 use Rattle.vector_memory.proofs.span_elements.write_field.Goals as goal
@@ -12,7 +12,7 @@ pub loop-index-init : goal.loop-index-init
 loop-index-init c = record {
   size = refl;
   value = λ m address follows.
-      sym (each_from (store_field c.args.file.now (access_of c.args.segments.now c.args.body.now address) c.args.field) (put_bytes m c.args.span.address c.args.bytes.now)
+      sym (each_from (store_field c.args.file.now (segments_access c.args.segments.now c.args.body.now address) c.args.field) (put_bytes m c.args.span.address c.args.bytes.now)
       c.args.body.now.start c.start-start.result (omega (arith, c.start-start.ensures)));
 }
 
@@ -36,7 +36,7 @@ loop-index-preserved c =
           record {
             size = ap length moved ∙ length-put_chunk to c.loop-index.bytes bytes ∙ c.loop-index.invariant.size;
             value = λ m address follows.
-                let a = access_of s body address in
+                let a = segments_access s body address in
                 let step = store_field c.args.file.now a f in
                 let old = put_bytes m b.address c.args.bytes.now in
                 ap (put_bytes m b.address) moved
@@ -49,7 +49,7 @@ loop-index-preserved c =
       | else-lets w ↦ record {
         size = ap length w.bytes-is ∙ c.loop-index.invariant.size;
         value = λ m address follows.
-            let a = access_of s body address in
+            let a = segments_access s body address in
             let step = store_field c.args.file.now a f in
             let old = put_bytes m b.address c.args.bytes.now in
             ap (put_bytes m b.address) w.bytes-is

@@ -3,23 +3,23 @@ use Rattle.std.proofs.lemmas.Bool.{cases_lt, false_from_ne_true}
 use Rattle.std.specs.Prelude.{nat_lt}
 use Rattle.rv_model.specs.declared.memory.Access.TheVariants.{Store}
 use Rattle.rv_model.specs.declared.step.memory_end.MemEnd.TheVariants.{Cut, Done, Fault}
-use Rattle.rv_model.specs.accesses.Transfers.{are_allowed, bad_address, stored, transfers}
+use Rattle.rv_model.specs.accesses.Transfers.{are_allowed, bad_address, memory_stored, transfers}
 use Rattle.rv_model.specs.accesses.VectorAccess.{plan}
 use Rattle.rv_model.proofs.access_lemmas.Contiguous.{stops_all}
 use Rattle.rv_model.proofs.access_lemmas.Moves.{are_allowed-stored, bad_address-stored, stored-append, stored_none}
 use Rattle.rv_model.proofs.access_lemmas.Stops.{allowed_more, stops_bad, transfers_more, transfers_none}
-use Rattle.vector_memory.specs.SegmentRoom.{access_of, place_in}
+use Rattle.vector_memory.specs.SegmentRoom.{segments_access, place_in}
 use Rattle.vector_memory.proofs.stores.store_each.Goals as goal
 
 pub loop-index-init : goal.loop-index-init
 loop-index-init g c =
     let m = g.M.UserBytes.memory c.args.memory.now in
-    let each = plan (access_of c.args.segments.now c.args.body.now (g.A.Addresses.address c.args.addresses.now)) false in
+    let each = plan (segments_access c.args.segments.now c.args.body.now (g.A.Addresses.address c.args.addresses.now)) false in
     let place = place_in c.args.segments.now in
     let start = c.args.body.now.start in
     let first : c.start-index.result ≡ start = omega (arith, c.start-index.ensures) in
     record {
-      value = sym (ap (stored m place c.args.file.now) (transfers_none each start c.start-index.result (omega (arith, first))) ∙ stored_none m place c.args.file.now);
+      value = sym (ap (memory_stored m place c.args.file.now) (transfers_none each start c.start-index.result (omega (arith, first))) ∙ stored_none m place c.args.file.now);
       others = sym (g.met.M.UserBytes.with_memory_same c.args.memory.now);
       allowed = λ k low high. absurd (omega (arith, first, low, high));
       most = omega (arith, first);
@@ -28,7 +28,7 @@ loop-index-init g c =
 pub loop-index-preserved : goal.loop-index-preserved
 loop-index-preserved g c =
     let m = g.M.UserBytes.memory c.args.memory.now in
-    let each = plan (access_of c.args.segments.now c.args.body.now (g.A.Addresses.address c.args.addresses.now)) false in
+    let each = plan (segments_access c.args.segments.now c.args.body.now (g.A.Addresses.address c.args.addresses.now)) false in
     let place = place_in c.args.segments.now in
     let start = c.args.body.now.start in
     let i = c.loop-index.index in
@@ -39,9 +39,9 @@ loop-index-preserved g c =
     sym (ap (λ x. are_allowed Store x (each i)) c.loop-index.invariant.value ∙ are_allowed-stored Store m place file before (each i)) ∙ c.in_default.ensures.ok.0 refl in
     record {
       value =
-          c.in_default.ensures.value ∙ ap (λ x. stored x place file (each i)) c.loop-index.invariant.value
+          c.in_default.ensures.value ∙ ap (λ x. memory_stored x place file (each i)) c.loop-index.invariant.value
           ∙ sym (stored-append m place file before (each i))
-          ∙ ap (stored m place file) (sym (transfers_more each start i (omega (arith, c.loop-index.auto.index, c.start-index.ensures))));
+          ∙ ap (memory_stored m place file) (sym (transfers_more each start i (omega (arith, c.loop-index.auto.index, c.start-index.ensures))));
       others =
           c.in_default.ensures.others
           ∙ ap (λ u. g.M.UserBytes.with_memory u (g.M.UserBytes.memory c.store_index.new.memory)) c.loop-index.invariant.others
@@ -53,7 +53,7 @@ loop-index-preserved g c =
 pub returns-in-Err-clause-stored : goal.returns-in-Err-clause-stored
 returns-in-Err-clause-stored g c =
     let m = g.M.UserBytes.memory c.args.memory.now in
-    let each = plan (access_of c.args.segments.now c.args.body.now (g.A.Addresses.address c.args.addresses.now)) false in
+    let each = plan (segments_access c.args.segments.now c.args.body.now (g.A.Addresses.address c.args.addresses.now)) false in
     let place = place_in c.args.segments.now in
     let start = c.args.body.now.start in
     let i = c.loop-index.index in
@@ -69,13 +69,13 @@ returns-in-Err-clause-stored g c =
           ap (λ addr. Fault i addr)
           (c.in-Err.ensures.fault ∙ ap (λ x. bad_address Store x (each i)) c.loop-index.invariant.value ∙ bad_address-stored Store m place file before (each i))
           ∙ sym stopped.end;
-      value = ap g.M.UserBytes.memory c.in-Err.ensures.unchanged ∙ c.loop-index.invariant.value ∙ ap (stored m place file) (sym stopped.done);
+      value = ap g.M.UserBytes.memory c.in-Err.ensures.unchanged ∙ c.loop-index.invariant.value ∙ ap (memory_stored m place file) (sym stopped.done);
     }
 
 pub returns-clause-stored : goal.returns-clause-stored
 returns-clause-stored g c =
     let m = g.M.UserBytes.memory c.args.memory.now in
-    let each = plan (access_of c.args.segments.now c.args.body.now (g.A.Addresses.address c.args.addresses.now)) false in
+    let each = plan (segments_access c.args.segments.now c.args.body.now (g.A.Addresses.address c.args.addresses.now)) false in
     let body = c.args.body.now in
     let stop : c.min-stop.result ≡ min body.end (body.start + c.args.limit) =
     omega (arith, c.requires.count, c.min-stop.ensures, c.end.ensures, c.saturating_add.ensures, c.start.ensures) in
@@ -88,5 +88,5 @@ returns-clause-stored g c =
     ] in
     record {
       end = c.end_without_fault.ensures.value ∙ ap (λ end. cond (nat_lt c.min-stop.result end) (Cut c.min-stop.result) Done) c.end-2.ensures ∙ sym stopped.end;
-      value = c.loop-index.invariant.value ∙ ap (stored m (place_in c.args.segments.now) c.args.file.now) (ap (transfers each body.start) count ∙ sym stopped.done);
+      value = c.loop-index.invariant.value ∙ ap (memory_stored m (place_in c.args.segments.now) c.args.file.now) (ap (transfers each body.start) count ∙ sym stopped.done);
     }

@@ -2,7 +2,7 @@ use Rattle.std.proofs.Common.{◌≡◌, ◌+◌, false, min, cond, sym, ap, ◌
 use Rattle.std.specs.Prelude.{nat_lt}
 use Rattle.rv_model.specs.declared.memory.Access.TheVariants.{Store}
 use Rattle.rv_model.specs.declared.step.memory_end.MemEnd.TheVariants.{Done, Cut}
-use Rattle.rv_model.specs.accesses.Transfers.{stored}
+use Rattle.rv_model.specs.accesses.Transfers.{memory_stored}
 use Rattle.vector_memory.specs.SegmentRoom.{place_in}
 use Rattle.vector_memory.proofs.SpanMoves.{span_ends}
 use Rattle.vector_memory.proofs.stores.store_span.Goals as goal
@@ -20,5 +20,5 @@ returns-clause-stored g c =
     c.in_ok-span.ensures.begins false Store m c.args.limit stop (c.store.ensures.allowed c.if-not-store.false) in
     record {
       end = c.end_without_fault.ensures.value ∙ ap (λ end. cond (nat_lt c.min-stop.result end) (Cut c.min-stop.result) Done) c.end-2.ensures ∙ sym stopped.end;
-      value = c.store.ensures.value c.if-not-store.false address c.in_ok-span.ensures.begins ∙ ap (stored m (place_in s) c.args.file.now) (sym stopped.done);
+      value = c.store.ensures.value c.if-not-store.false address c.in_ok-span.ensures.begins ∙ ap (memory_stored m (place_in s) c.args.file.now) (sym stopped.done);
     }

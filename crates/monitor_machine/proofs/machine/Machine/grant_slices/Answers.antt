@@ -1,7 +1,7 @@
 use Rattle.std.proofs.Common.{◌≡◌, ℕ, suc, ◌+◌, ◌-◌, List, ◌++◌, length, length-set, ap, ◌∙◌, sym, arith, append-nil}
 use Rattle.rv_model.specs.machine.Grants.{granted}
 use Rattle.rv_model.specs.machine.PrivateMachine.{sliced}
-use Rattle.rv_model.specs.machine.Script.{World, Happening, part, after_events, told_by}
+use Rattle.rv_model.specs.machine.Script.{World, Happening, after_events, told_by, user_machine}
 use Rattle.rv_model.specs.machine.Setup.{Setup}
 use Rattle.rv_model.specs.text.Lines.{text}
 use Rattle.monitor_machine.specs.MachineState.{after_slice}
@@ -57,7 +57,7 @@ loop-granted-preserved g c =
           ∙ ap (λ (n : ℕ). after_events setup now (granted setup n now)) (sym one_less)
           ∙ c.loop-granted.invariant.world;
       told =
-          sym (told_granted_on setup left user now turned next c.loop-granted.reply c.slice.new.reply turns turn moved (c.slice.ensures.reply ∙ ap (λ (q : ℕ). c.loop-granted.reply ++ text (48 + user) (sliced q (part user turned)).lines) quantum))
+          sym (told_granted_on setup left user now turned next c.loop-granted.reply c.slice.new.reply turns turn moved (c.slice.ensures.reply ∙ ap (λ (q : ℕ). c.loop-granted.reply ++ text (48 + user) (sliced q (user_machine user turned)).lines) quantum))
           ∙ ap (λ (n : ℕ). c.loop-granted.reply ++ told_by setup now (granted setup n now)) (sym one_less)
           ∙ c.loop-granted.invariant.told;
       number = omega (arith, count_granted_on setup left user now turned next turns turn moved, ap (λ (n : ℕ). length (granted setup n now)) one_less, c.loop-granted.invariant.number);

@@ -1,6 +1,6 @@
 use Rattle.std.proofs.Common.{◌+◌, ◌++◌, List, [], ℕ, ap, subst, ◌∙◌, sym}
 use Rattle.rv_model.specs.machine.PrivateMachine.{Outcome, sliced}
-use Rattle.rv_model.specs.machine.Script.{World, part}
+use Rattle.rv_model.specs.machine.Script.{World, user_machine}
 use Rattle.rv_model.specs.text.Lines.{text}
 use Rattle.monitor_machine.specs.MachineState.{MachineState, SliceGoesOn}
 use Rattle.monitor_machine.specs.Images.{setup_of}
@@ -11,7 +11,7 @@ use Rattle.monitor_machine.proofs.machine.Machine.slice.Goals as goal
 pub returns-clause-silent : goal.returns-clause-silent
 returns-clause-silent g c = λ stopped.
     let user : ℕ = c.args.user in
-    let none = not_sliced c.self.inside.quantum (part user c.self.inside.users) (sym c.slice.ensures.ran ∙ stopped) in
+    let none = not_sliced c.self.inside.quantum (user_machine user c.self.inside.users) (sym c.slice.ensures.ran ∙ stopped) in
     c.slice.ensures.reply
     ∙ ap (λ (o : Outcome). c.clear.new.self ++ text (48 + user) o.lines) none
     ∙ ap (λ (bytes : List ℕ). bytes ++ []) c.clear.ensures
@@ -28,7 +28,7 @@ returns-clause-adds_up g c =
     let before : MachineState =
     record { setup = setup_of c.self.inside.quantum c.self.inside.images.now; world = c.self.inside.users } in
     let now : MachineState = record { setup = before.setup; world = c.slice.new.self } in
-    let lines : List (List ℕ) = (sliced c.self.inside.quantum (part user c.self.inside.users)).lines in
+    let lines : List (List ℕ) = (sliced c.self.inside.quantum (user_machine user c.self.inside.users)).lines in
     let printed = c.slice.ensures.reply ∙ ap (λ (bytes : List ℕ). bytes ++ text (48 + user) lines) c.clear.ensures in
     subst (λ (m : MachineState). SliceGoesOn m user now c.slice.new.reply) c.self.view_is
     (slice_goes_on before now user c.slice.new.reply c.slice.ensures.configured c.slice.ensures.next printed)

@@ -3,7 +3,7 @@ use Rattle.std.proofs.lemmas.List.{with_items_is}
 use Rattle.rv_model.specs.commands.Commands.{Parsed, commanded}
 use Rattle.rv_model.specs.machine.UnitEvents.{unit_after_command, unit_after_line}
 use Rattle.rv_model.specs.machine.UserMachine.{Private}
-use Rattle.rv_model.specs.machine.Script.{World, part}
+use Rattle.rv_model.specs.machine.Script.{World, user_machine}
 use Rattle.rv_model.specs.text.Lines.{text}
 use Rattle.lazy_context.specs.LazyUnit.{record_of, state_of}
 use Rattle.user_mem.specs.Users.{memory_of_user}
@@ -41,8 +41,8 @@ returns-in-Ok-clause-reply g c =
     c.carry_out.ensures.reply
     ∙ ap (λ (ts : List Addresses). text (48 + user) (commanded images (private_of context (trace_of ts user) (state_of inside.unit user) (memory_of_user inside.pool user)) (Ok c.in-Ok.cmd)).lines) c.as_mut_slice.ensures.value
     ∙ ap (λ (p : Private). text (48 + user) (commanded images p (Ok c.in-Ok.cmd)).lines) (sym (part_is inside.contexts inside.traces.items inside.unit inside.pool inside.cursor user c.index.result c.index-self-index.result c.index.ensures.value c.index.ensures.small (omega (arith, c.number.ensures.low, c.number.ensures.value)) c.self.invariant))
-    ∙ ap (λ (w : World). text (48 + user) (commanded images (part user w) (Ok c.in-Ok.cmd)).lines) c.self.view_is
-    ∙ ap (λ (p : Parsed). text (48 + user) (commanded images (part user c.args.self.now) p).lines) c.in-Ok.ensures
+    ∙ ap (λ (w : World). text (48 + user) (commanded images (user_machine user w) (Ok c.in-Ok.cmd)).lines) c.self.view_is
+    ∙ ap (λ (p : Parsed). text (48 + user) (commanded images (user_machine user c.args.self.now) p).lines) c.in-Ok.ensures
 
 pub invariant_of-self : goal.invariant_of-self
 invariant_of-self g c =

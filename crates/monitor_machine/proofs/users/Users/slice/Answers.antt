@@ -5,7 +5,7 @@ use Rattle.rv_model.specs.machine.Grants.{runs}
 use Rattle.rv_model.specs.machine.PrivateMachine.{sliced}
 use Rattle.rv_model.specs.machine.UnitEvents.{unit_after_tries}
 use Rattle.rv_model.specs.machine.UserMachine.{Private}
-use Rattle.rv_model.specs.machine.Script.{World, part}
+use Rattle.rv_model.specs.machine.Script.{World, user_machine}
 use Rattle.rv_model.specs.text.Lines.{text}
 use Rattle.lazy_context.specs.LazyUnit.{record_of, state_of}
 use Rattle.user_mem.specs.Users.{memory_of_user}
@@ -22,7 +22,7 @@ grant-requires-clause-room g c =
     let before =
     ap (λ (ts : List Addresses). private_of (get_or c.self.inside.contexts c.index.result c.index-self-index.result) (trace_of ts user) (state_of c.self.inside.unit user) (memory_of_user c.self.inside.pool user)) c.as_mut_slice.ensures.value
     ∙ sym (part_is c.self.inside.contexts c.self.inside.traces.items c.self.inside.unit c.self.inside.pool c.self.inside.cursor user c.index.result c.index-self-index.result c.index.ensures.value c.index.ensures.small (omega (arith, c.number.ensures.low, c.number.ensures.value)) c.self.invariant)
-    ∙ ap (λ (w : World). part user w) c.self.view_is in
+    ∙ ap (λ (w : World). user_machine user w) c.self.view_is in
     let count =
     sym (ap (λ (w : World). length w.parts) c.self.view_is)
     ∙ eight_parts c.self.inside.contexts c.self.inside.traces.items c.self.inside.unit c.self.inside.pool c.self.invariant in
@@ -49,7 +49,7 @@ returns-clause-reply g c =
     c.grant.ensures.reply
     ∙ ap (λ (ts : List Addresses). c.args.reply.now ++ text (48 + user) (sliced c.args.quantum (private_of (get_or c.self.inside.contexts c.index.result c.index-self-index.result) (trace_of ts user) (state_of c.self.inside.unit user) (memory_of_user c.self.inside.pool user))).lines) c.as_mut_slice.ensures.value
     ∙ ap (λ (p : Private). c.args.reply.now ++ text (48 + user) (sliced c.args.quantum p).lines) (sym (part_is c.self.inside.contexts c.self.inside.traces.items c.self.inside.unit c.self.inside.pool c.self.inside.cursor user c.index.result c.index-self-index.result c.index.ensures.value c.index.ensures.small (omega (arith, c.number.ensures.low, c.number.ensures.value)) c.self.invariant))
-    ∙ ap (λ (w : World). c.args.reply.now ++ text (48 + user) (sliced c.args.quantum (part user w)).lines) c.self.view_is
+    ∙ ap (λ (w : World). c.args.reply.now ++ text (48 + user) (sliced c.args.quantum (user_machine user w)).lines) c.self.view_is
 
 pub returns-clause-ran : goal.returns-clause-ran
 returns-clause-ran g c =
@@ -57,7 +57,7 @@ returns-clause-ran g c =
     c.grant.ensures.ran
     ∙ ap (λ (ts : List Addresses). runs (private_of (get_or c.self.inside.contexts c.index.result c.index-self-index.result) (trace_of ts user) (state_of c.self.inside.unit user) (memory_of_user c.self.inside.pool user))) c.as_mut_slice.ensures.value
     ∙ ap runs (sym (part_is c.self.inside.contexts c.self.inside.traces.items c.self.inside.unit c.self.inside.pool c.self.inside.cursor user c.index.result c.index-self-index.result c.index.ensures.value c.index.ensures.small (omega (arith, c.number.ensures.low, c.number.ensures.value)) c.self.invariant))
-    ∙ ap (λ (w : World). runs (part user w)) c.self.view_is
+    ∙ ap (λ (w : World). runs (user_machine user w)) c.self.view_is
 
 pub returns-clause-bound : goal.returns-clause-bound
 returns-clause-bound g c =
@@ -65,12 +65,12 @@ returns-clause-bound g c =
     let before =
     ap (λ (ts : List Addresses). private_of (get_or c.self.inside.contexts c.index.result c.index-self-index.result) (trace_of ts user) (state_of c.self.inside.unit user) (memory_of_user c.self.inside.pool user)) c.as_mut_slice.ensures.value
     ∙ sym (part_is c.self.inside.contexts c.self.inside.traces.items c.self.inside.unit c.self.inside.pool c.self.inside.cursor user c.index.result c.index-self-index.result c.index.ensures.value c.index.ensures.small (omega (arith, c.number.ensures.low, c.number.ensures.value)) c.self.invariant)
-    ∙ ap (λ (w : World). part user w) c.self.view_is in
+    ∙ ap (λ (w : World). user_machine user w) c.self.view_is in
     let after = c.grant.ensures.next ∙ ap (λ (p : Private). (sliced c.args.quantum p).next) before in
     let count =
     sym (ap (λ (w : World). length w.parts) c.self.view_is)
     ∙ eight_parts c.self.inside.contexts c.self.inside.traces.items c.self.inside.unit c.self.inside.pool c.self.invariant in
-    let changed = stops_room_set c.args.self.now.parts (user - 1) (sliced c.args.quantum (part user c.args.self.now)).next (omega (arith, count, c.index.ensures.value, c.index.ensures.small)) in
+    let changed = stops_room_set c.args.self.now.parts (user - 1) (sliced c.args.quantum (user_machine user c.args.self.now)).next (omega (arith, count, c.index.ensures.value, c.index.ensures.small)) in
     room_left _ _ _ _ _ _ _ _ _ c.grant.ensures.bound (ap stop_room after) (ap stop_room before) (ap (λ (w : World). stops_room w.parts) (returns-clause-world g c)) changed
 
 pub returns-clause-next : goal.returns-clause-next
@@ -79,8 +79,8 @@ returns-clause-next g c =
     let count =
     sym (ap (λ (w : World). length w.parts) c.self.view_is)
     ∙ eight_parts c.self.inside.contexts c.self.inside.traces.items c.self.inside.unit c.self.inside.pool c.self.invariant in
-    ap (λ (w : World). part user w) (returns-clause-world g c)
-    ∙ get_or-set_same c.args.self.now.parts (user - 1) (sliced c.args.quantum (part user c.args.self.now)).next None (omega (arith, count, c.index.ensures.value, c.index.ensures.small))
+    ap (λ (w : World). user_machine user w) (returns-clause-world g c)
+    ∙ get_or-set_same c.args.self.now.parts (user - 1) (sliced c.args.quantum (user_machine user c.args.self.now)).next None (omega (arith, count, c.index.ensures.value, c.index.ensures.small))
 
 pub returns-clause-configured : goal.returns-clause-configured
 returns-clause-configured g c =
@@ -88,7 +88,7 @@ returns-clause-configured g c =
     let before =
     ap (λ (ts : List Addresses). private_of (get_or c.self.inside.contexts c.index.result c.index-self-index.result) (trace_of ts user) (state_of c.self.inside.unit user) (memory_of_user c.self.inside.pool user)) c.as_mut_slice.ensures.value
     ∙ sym (part_is c.self.inside.contexts c.self.inside.traces.items c.self.inside.unit c.self.inside.pool c.self.inside.cursor user c.index.result c.index-self-index.result c.index.ensures.value c.index.ensures.small (omega (arith, c.number.ensures.low, c.number.ensures.value)) c.self.invariant)
-    ∙ ap (λ (w : World). part user w) c.self.view_is in
+    ∙ ap (λ (w : World). user_machine user w) c.self.view_is in
     subst (λ (p : Private). IsConfigured p) before c.grant.ensures.configured
 
 pub invariant_of-self : goal.invariant_of-self

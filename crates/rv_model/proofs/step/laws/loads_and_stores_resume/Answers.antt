@@ -1,7 +1,7 @@
 -- The laws of loads and stores that stop.
 use Rattle.rv_model.proofs.access_lemmas.Growth as growth
 use Rattle.rv_model.proofs.access_lemmas.InstructionsResume as resume
-use Rattle.rv_model.proofs.access_lemmas.LeavesOff as off
+use Rattle.rv_model.proofs.access_lemmas.Runs as off
 use Rattle.rv_model.proofs.access_lemmas.RunsAgain as runs
 use Rattle.rv_model.proofs.legality_lemmas.Overlaps as overlaps
 use Rattle.rv_model.proofs.step.laws.loads_and_stores_resume.Goals as goal

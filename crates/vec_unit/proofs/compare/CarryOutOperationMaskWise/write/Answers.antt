@@ -1,6 +1,7 @@
 use Rattle.std.proofs.Common.{◌∙◌, ap, arith, false}
 use Rattle.std.specs.Prelude.{◌&&◌, not}
-use Rattle.rv_model.specs.elements.Arithmetic.{GroupType, carry_out_result, second_element}
+use Rattle.rv_model.specs.elements.Arithmetic.{carry_out_result, second_element}
+use Rattle.rv_model.specs.vector.Configuration.{GroupType}
 use Rattle.rv_model.specs.elements.Elements.{mask_bit}
 use Rattle.rv_model.specs.elements.Formulas.{carry_out_formula}
 use Rattle.rv_model.specs.vector.Registers.{register_of}

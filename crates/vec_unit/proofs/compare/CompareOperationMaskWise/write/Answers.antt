@@ -1,5 +1,6 @@
 use Rattle.std.proofs.Common.{◌∙◌, arith, false}
-use Rattle.rv_model.specs.elements.Arithmetic.{GroupType, compare_result, second_element}
+use Rattle.rv_model.specs.elements.Arithmetic.{compare_result, second_element}
+use Rattle.rv_model.specs.vector.Configuration.{GroupType}
 use Rattle.rv_model.specs.elements.Formulas.{compare_formula}
 use Rattle.rv_model.proofs.element_lemmas.Arithmetic.{mask_results_same}
 use Rattle.vec_unit.proofs.CopiedOperands.{two_operands}

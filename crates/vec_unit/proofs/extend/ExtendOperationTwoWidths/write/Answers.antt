@@ -1,8 +1,8 @@
 use Rattle.std.proofs.Common.{ℕ, ◌≡◌, ◌∙◌, ap}
-use Rattle.rv_model.specs.elements.Arithmetic.{GroupType, extend_result, group_element}
+use Rattle.rv_model.specs.elements.Arithmetic.{extend_result, group_element}
+use Rattle.rv_model.specs.vector.Configuration.{GroupType, width_bytes}
 use Rattle.rv_model.specs.elements.Elements.{element}
 use Rattle.rv_model.specs.elements.Formulas.{extend_formula, wrap}
-use Rattle.rv_model.specs.vector.Configuration.{width_bytes}
 use Rattle.rv_model.proofs.element_lemmas.Arithmetic.{results_same}
 use Rattle.vec_unit.proofs.extend.ExtendOperationTwoWidths.write.Goals as goal
 

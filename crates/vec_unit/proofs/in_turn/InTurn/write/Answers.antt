@@ -39,7 +39,7 @@ loop-r-preserved g c =
     let reads : IsReadFirst o.vs2 vd c.args.registers = rw vd_is c.requires.first_read in
     let second_reads : SourceIsReadFirst o.source vd c.args.registers = rw vd_is c.requires.second_read in
     one_more k n vd c.args.registers body c.args.fill_masked_off result (ones g.L.Lane.width) old r mid c.put_results.new.destination
-    c.put_results.ensures.0 c.active_in_turn-active.result c.filled_bits-filled.result (g.L.Lane.lane c.side_by_side-made.result) fills room
+    c.put_results.ensures.0 c.active_in_turn-active.result c.filled_bits-filled.result (g.L.Lane.lane c.simd_results-made.result) fills room
     c.put_results.ensures.1 c.put_results.ensures.2 (λ i m h l. c.put_results.ensures.3 i m h l)
     (λ i h. rw is at (c.active_in_turn-active.ensures i (rw is h))) (λ i h. rw is at (c.filled_bits-filled.ensures i (rw is h)))
     (λ i h.
@@ -51,7 +51,7 @@ loop-r-preserved g c =
     c.second-b.ensures.value i h
     ∙ second_operand k n vd c.args.registers body c.args.fill_masked_off result (ones g.L.Lane.width) old o.source
     (o.number % 2 ^ bits g.L.Lane.width) r i mid fills more h second_reads c.requires.second long c.loop-r.invariant in
-    rw (a, b) at (c.side_by_side-made.ensures i h))
+    rw (a, b) at (c.simd_results-made.ensures i h))
     c.loop-r.invariant
 
 pub returns : goal.returns

@@ -1,5 +1,6 @@
 use Rattle.std.proofs.Common.{◌∙◌, ap, arith, false}
-use Rattle.rv_model.specs.elements.Arithmetic.{GroupType, carry_result, second_element}
+use Rattle.rv_model.specs.elements.Arithmetic.{carry_result, second_element}
+use Rattle.rv_model.specs.vector.Configuration.{GroupType}
 use Rattle.rv_model.specs.elements.Elements.{mask_bit}
 use Rattle.rv_model.specs.elements.Formulas.{carry_formula, wrap}
 use Rattle.rv_model.specs.vector.Registers.{register_of}

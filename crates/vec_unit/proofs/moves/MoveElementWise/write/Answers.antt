@@ -1,7 +1,7 @@
 use Rattle.std.proofs.Common.{ℕ, ◌<◌, ◌≡◌, ◌∙◌, arith, false}
-use Rattle.rv_model.specs.elements.Arithmetic.{GroupType, second_element}
+use Rattle.rv_model.specs.elements.Arithmetic.{second_element}
+use Rattle.rv_model.specs.vector.Configuration.{GroupType, width_bytes}
 use Rattle.rv_model.specs.elements.Elements.{element}
-use Rattle.rv_model.specs.vector.Configuration.{width_bytes}
 use Rattle.rv_model.proofs.element_lemmas.Arithmetic.{results_same}
 use Rattle.vec_unit.proofs.moves.MoveElementWise.write.Goals as goal
 

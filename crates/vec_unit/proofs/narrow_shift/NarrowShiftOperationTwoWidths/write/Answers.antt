@@ -1,5 +1,6 @@
 use Rattle.std.proofs.Common.{◌∙◌, arith, true}
-use Rattle.rv_model.specs.elements.Arithmetic.{GroupType, narrow_shift_result, second_element}
+use Rattle.rv_model.specs.elements.Arithmetic.{narrow_shift_result, second_element}
+use Rattle.rv_model.specs.vector.Configuration.{GroupType}
 use Rattle.rv_model.specs.elements.Formulas.{narrow_shift_formula, wrap}
 use Rattle.rv_model.proofs.element_lemmas.Arithmetic.{results_same}
 use Rattle.vec_unit.proofs.CopiedOperands.{two_operands}

@@ -1,5 +1,6 @@
 use Rattle.std.proofs.Common.{◌∙◌, arith, false}
-use Rattle.rv_model.specs.elements.Arithmetic.{GroupType, second_element, wide_source_result}
+use Rattle.rv_model.specs.elements.Arithmetic.{second_element, wide_source_result}
+use Rattle.rv_model.specs.vector.Configuration.{GroupType}
 use Rattle.rv_model.specs.elements.Formulas.{wide_source_formula, wrap}
 use Rattle.rv_model.proofs.element_lemmas.Arithmetic.{results_same}
 use Rattle.vec_unit.proofs.CopiedOperands.{two_operands}

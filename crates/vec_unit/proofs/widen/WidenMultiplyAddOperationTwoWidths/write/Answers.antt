@@ -1,8 +1,8 @@
 use Rattle.std.proofs.Common.{◌∙◌, ap, arith, false}
-use Rattle.rv_model.specs.elements.Arithmetic.{GroupType, group_element, second_element, widen_multiply_add_result}
+use Rattle.rv_model.specs.elements.Arithmetic.{group_element, second_element, widen_multiply_add_result}
+use Rattle.rv_model.specs.vector.Configuration.{GroupType, width_bytes}
 use Rattle.rv_model.specs.elements.Elements.{element}
 use Rattle.rv_model.specs.elements.Formulas.{widen_multiply_add_formula, wrap}
-use Rattle.rv_model.specs.vector.Configuration.{width_bytes}
 use Rattle.rv_model.proofs.element_lemmas.Arithmetic.{results_same}
 use Rattle.vec_unit.proofs.CopiedOperands.{three_operands}
 use Rattle.vec_unit.proofs.widen.WidenMultiplyAddOperationTwoWidths.write.Goals as goal

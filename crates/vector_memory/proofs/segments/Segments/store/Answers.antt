@@ -1,7 +1,7 @@
-use Rattle.std.proofs.Common.{◌≡◌, ◌+◌, ◌-◌, length, take, drop, true, sym, ap, ◌∙◌, arith}
+use Rattle.std.proofs.Common.{◌≡◌, ◌+◌, ◌-◌, ◌*◌, ◌%◌, ◌^◌, length, take, drop, true, sym, ap, ◌∙◌, arith}
 use Rattle.std.specs.Simd.Lanes.{chunk}
 use Rattle.rv_model.specs.declared.memory.Access.TheVariants.{Store}
-use Rattle.rv_model.specs.accesses.VectorAccess.{segment}
+use Rattle.rv_model.specs.accesses.VectorAccess.{moved_segment}
 use Rattle.rv_model.specs.memory.Memory.{can_access}
 use Rattle.rv_model.proofs.access_lemmas.Moves.{can_access-stored}
 use Rattle.rv_model.proofs.access_lemmas.Segments.{allowed_field, field_transfer, stored_field, stored_start}
@@ -24,14 +24,15 @@ loop-field-preserved g c =
     let file = c.args.file.now in
     let now = g.M.UserBytes.memory c.loop-field.memory in
     let t = field_transfer i c.args.address s.size f in
+    let address = (c.args.address + f * s.size) % 2 ^ 64 in
     let size : length c.part-bytes.result.now ≡ s.size = omega (arith, c.part-bytes.ensures.len) in
     let at = c.place-at.result in
     let count : at + s.size - at ≡ s.size = omega arith in
     let part : c.part-bytes.result.now ≡ chunk (place_in s t) s.size file =
     c.part-bytes.ensures.value ∙ ap (λ n. take n (drop at file)) count ∙ ap (λ a. take s.size (drop a file)) c.place-at.ensures.value in
-    let allowed : can_access Store now t.address s.size ≡ true =
-    ap (λ x. can_access Store x t.address s.size) c.loop-field.invariant.value
-    ∙ can_access-stored Store m (place_in s) file (segment i c.args.address s.size f) t.address s.size
+    let allowed : can_access Store now address s.size ≡ true =
+    ap (λ x. can_access Store x address s.size) c.loop-field.invariant.value
+    ∙ can_access-stored Store m (place_in s) file (moved_segment i c.args.address s.size f) address s.size
     ∙ allowed_field Store m i c.args.address s.size f s.fields c.loop-field-test.true c.requires.allowed in
     let well = c.write.ensures.ok.1 (rw (c.field_address.ensures, size) allowed) in
     record {

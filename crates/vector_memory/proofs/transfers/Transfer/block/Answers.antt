@@ -1,5 +1,5 @@
-use Rattle.std.proofs.Common.{◌+◌, ◌*◌, ◌<◌, ◌^◌, ◌≡◌, true, sym, ap, ◌∙◌, refl, arith}
-use Rattle.vector_memory.proofs.MovedRuns.{whole_inside, whole_is_block}
+use Rattle.std.proofs.Common.{refl, arith}
+use Rattle.vector_memory.proofs.MovedRuns.{whole_is_block}
 use Rattle.vector_memory.proofs.transfers.Transfer.block.Goals as goal
 
 pub returns-clause-value : goal.returns-clause-value

@@ -1,0 +1,5 @@
+use Rattle.lane_arith.proofs.MaskBytes.{mask_and, own_bits}
+use Rattle.lane_arith.proofs.chunk.and_bytes.Goals as goal
+
+pub returns : goal.returns
+returns c = (mask_and (own_bits c.args.a c.fits-a.0 c.fits-a.1) (own_bits c.args.b c.fits-b.0 c.fits-b.1)).bits

@@ -1,0 +1,14 @@
+-- Operations of one width whose results for the elements of 32 bytes are made by SIMD.
+use Rattle.std.specs.Prelude.{Bool, true, false}
+use Rattle.rv_model.specs.declared.instructions.operations.BinaryOp.{BinaryOp}
+use Rattle.rv_model.specs.declared.instructions.operations.BinaryOp.TheVariants.{Vdiv, Vdivu, Vmulh, Vmulhsu, Vmulhu, Vrem, Vremu}
+
+abbrev pub is_simd : BinaryOp → Bool
+is_simd Vdivu = false
+is_simd Vdiv = false
+is_simd Vremu = false
+is_simd Vrem = false
+is_simd Vmulhu = false
+is_simd Vmulhsu = false
+is_simd Vmulh = false
+is_simd op = true

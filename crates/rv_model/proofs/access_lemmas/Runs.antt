@@ -1,0 +1,373 @@
+-- What each vector load or store is made of, where its run stops, and what it leaves.
+use Rattle.std.proofs.Common.{◌≡◌, ◌≢◌, ℕ, ◌+◌, ◌-◌, ◌<◌, ◌≤◌, Bool, true, false, ◌&&◌, cond, List, max, min, ◌⊎◌, inl, inr, Option, Some, None, refl, sym, ◌∙◌, ap, subst, arith}
+use Rattle.std.specs.Option.{option_map, option_map_or}
+use Rattle.std.specs.Prelude.{IfSome, nat_le, nat_lt, ⊤}
+use Rattle.std.proofs.lemmas.Bool.{and_parts}
+use Rattle.std.proofs.lemmas.Bool.Decides.{nat_tests}
+use Rattle.rv_model.specs.declared.instructions.instruction.Instr.{Instr}
+use Rattle.rv_model.specs.declared.instructions.instruction.Instr.TheVariants as instr
+use Rattle.rv_model.specs.declared.instructions.access.AccessInstr.{AccessInstr}
+use Rattle.rv_model.specs.declared.instructions.access.AccessInstr.TheVariants.{MaskAccess, Indexed, Strided, UnitStride, WholeLoad, WholeStore}
+use Rattle.rv_model.specs.declared.instructions.operations.Direction.{Direction}
+use Rattle.rv_model.specs.declared.instructions.operations.Direction.TheVariants as direction
+use Rattle.rv_model.specs.declared.memory.Access.{Access}
+use Rattle.rv_model.specs.declared.memory.Access.TheVariants as access
+use Rattle.rv_model.specs.declared.scalar.Scalar.{Scalar}
+use Rattle.rv_model.specs.declared.step.memory_end.MemEnd.{MemEnd}
+use Rattle.rv_model.specs.declared.step.memory_end.MemEnd.TheVariants.{Cut, Done, Fault}
+use Rattle.rv_model.specs.declared.vector.state.VState.{VState}
+use Rattle.rv_model.specs.declared.vector.types.VType.{VType}
+use Rattle.rv_model.specs.accesses.AccessRuns.{AccessRun, access_ends, access_run, directed_run, load_run, run_or_nothing, runs_to, store_run}
+use Rattle.rv_model.specs.accesses.Restarts.{AccessLeavesOff, IsStopped, LeavesOff}
+use Rattle.rv_model.specs.accesses.Transfers.{Plan, bad_address, end_at, registers_loaded, stop_index, memory_stored, transfers}
+use Rattle.rv_model.specs.accesses.VectorAccess.{VectorAccess, access_of, index_count, indexed_access, mask_length, element_start, plan, strided_access, unit_access, unmasked_access, vector_access}
+use Rattle.rv_model.specs.vector.Groups.{access_type}
+use Rattle.rv_model.specs.vector.Configuration.{group_type, Configuration}
+use Rattle.rv_model.specs.memory.Memory.{Memory, can_access_byte}
+use Rattle.rv_model.specs.vector.Registers.{register_of}
+use Rattle.rv_model.proofs.access_lemmas.Moves.{stored_allows}
+use Rattle.rv_model.proofs.access_lemmas.Resumes.{stop_from, stop_most}
+
+-- ---- each access
+
+-- it begins with vstart, and one that may shorten the length has as many indices
+pub record Made (v : VState) (a : VectorAccess) : Type 0 where
+  pub begins : a.body.start ≡ v.vstart
+  pub shortens : a.first_only ≡ true → a.body.end ≡ v.conf.vl
+
+typed_made : (o : Option VType) (make : VType → VectorAccess) (P : VectorAccess → Type 0) → ((t : VType) → P (make t)) → IfSome (option_map make o) P
+typed_made None make P each = tt
+typed_made (Some t) make P each = each t
+
+each_made : (i : AccessInstr) (v : VState) (x : Scalar) → IfSome (access_of i v x) (Made v)
+each_made (UnitStride op w nf vd rs1 vm) v x = typed_made v.conf.vtype _ (Made v) (λ t. record { begins = refl; shortens = λ is. refl })
+each_made (Strided d w nf vd rs1 rs2 vm) v x = typed_made v.conf.vtype _ (Made v) (λ t. record { begins = refl; shortens = λ is. refl })
+each_made (Indexed d order w nf vd rs1 vs2 vm) v x = typed_made v.conf.vtype _ (Made v) (λ t. record { begins = refl; shortens = λ is. refl })
+each_made (WholeLoad count w vd rs1) v x = record { begins = refl; shortens = λ is. absurd (cc) }
+each_made (WholeStore count vd rs1) v x = record { begins = refl; shortens = λ is. absurd (cc) }
+each_made (MaskAccess d vd rs1) v x = typed_made v.conf.vtype _ (Made v) (λ t. record { begins = refl; shortens = λ is. absurd (cc) })
+
+pub made_of : (i : AccessInstr) (v : VState) (x : Scalar) (a : VectorAccess) → access_of i v x ≡ Some a → Made v a
+made_of i v x a e = subst (λ (o : Option VectorAccess). IfSome o (Made v)) e (each_made i v x)
+
+-- ---- the same access from another index on, with the mask and the addresses as they are then
+
+abbrev pub access_again : VectorAccess → List ℕ → ℕ → (ℕ → ℕ) → VectorAccess
+access_again a mask start address = record a { body = record a.body { mask = mask; start = start }; address = address }
+
+-- an instruction that is made again has it
+pub record IsAgain (i : AccessInstr) (v : VState) (x : Scalar) (a : VectorAccess) (file : List ℕ) (start : ℕ) : Type 0 where
+  pub address : ℕ → ℕ
+  pub is : access_of i (record v { file = file; vstart = start }) x ≡ Some (access_again a (register_of file 0) start address)
+
+typed_again : (o : Option VType) (make : VType → VectorAccess) (mask : List ℕ) (start : ℕ) (address : VType → ℕ → ℕ) (a : VectorAccess)
+    → option_map make o ≡ Some a
+    → (later : ℕ → ℕ) × (option_map (λ t. access_again (make t) mask start (address t)) o ≡ Some (access_again a mask start later))
+typed_again None make mask start address a e = absurd (cc)
+typed_again (Some t) make mask start address a e =
+    (address t, ap (λ (o : Option VectorAccess). option_map (λ a. access_again a mask start (address t)) o) e)
+
+pub again_of : (i : AccessInstr) (v : VState) (x : Scalar) (a : VectorAccess) (file : List ℕ) (start : ℕ) → access_of i v x ≡ Some a
+    → IsAgain i v x a file start
+again_of (UnitStride op w nf vd rs1 vm) v x a file start e =
+    let later : VState = record v { file = file; vstart = start } in
+    let again = typed_again v.conf.vtype _ (register_of file 0) start (λ t. (unit_access op (access_type t w) nf vd rs1 vm later x).address) a e in
+    record { address = again.0; is = again.1 }
+again_of (Strided d w nf vd rs1 rs2 vm) v x a file start e =
+    let later : VState = record v { file = file; vstart = start } in
+    let again = typed_again v.conf.vtype _ (register_of file 0) start (λ t. (strided_access d (access_type t w) nf vd rs1 rs2 vm later x).address) a e in
+    record { address = again.0; is = again.1 }
+again_of (Indexed d order w nf vd rs1 vs2 vm) v x a file start e =
+    let later : VState = record v { file = file; vstart = start } in
+    let again = typed_again v.conf.vtype _ (register_of file 0) start (λ t. (indexed_access d (group_type t) (access_type t w) nf vd rs1 vs2 vm later x).address) a e in
+    record { address = again.0; is = again.1 }
+again_of (WholeLoad count w vd rs1) v x a file start e =
+    record { address = a.address; is = ap (option_map (λ b. access_again b (register_of file 0) start b.address)) e }
+again_of (WholeStore count vd rs1) v x a file start e =
+    record { address = a.address; is = ap (option_map (λ b. access_again b (register_of file 0) start b.address)) e }
+again_of (MaskAccess d vd rs1) v x a file start e =
+    let later : VState = record v { file = file; vstart = start } in
+    let again = typed_again v.conf.vtype _ (register_of file 0) start (λ t. (unmasked_access d (mask_length v.conf.vl) 1 1 vd rs1 later x).address) a e in
+    record { address = again.0; is = again.1 }
+
+-- ---- how many indices an instruction has is said by the vector type and length
+
+count_same : (size : ℕ → ℕ) (c d : Configuration) (make other : VType → VectorAccess) → d ≡ c
+    → ((t : VType) → (make t).body.end ≡ size c.vl) → ((t : VType) → (other t).body.end ≡ size d.vl)
+    → index_count (option_map other d.vtype) ≡ index_count (option_map make c.vtype)
+count_same size c d make other same h k =
+    counted other d.vtype (size d.vl) k ∙ ap (λ (e : Configuration). option_map_or (λ (t : VType). size e.vl) e.vtype 0) same
+    ∙ sym (counted make c.vtype (size c.vl) h)
+  where
+    counted : (of : VType → VectorAccess) (o : Option VType) (n : ℕ) → ((t : VType) → (of t).body.end ≡ n)
+        → index_count (option_map of o) ≡ option_map_or (λ (t : VType). n) o 0
+    counted of None n h = refl
+    counted of (Some t) n h = h t
+
+pub count_stays : (i : Instr) (v w : VState) (x : Scalar) → w.conf ≡ v.conf → index_count (vector_access i w x) ≡ index_count (vector_access i v x)
+count_stays (instr.Access (UnitStride op width nf vd rs1 vm)) v w x same = count_same (λ n. n) v.conf w.conf _ _ same (λ t. refl) (λ t. refl)
+count_stays (instr.Access (Strided d width nf vd rs1 rs2 vm)) v w x same = count_same (λ n. n) v.conf w.conf _ _ same (λ t. refl) (λ t. refl)
+count_stays (instr.Access (Indexed d order width nf vd rs1 vs2 vm)) v w x same = count_same (λ n. n) v.conf w.conf _ _ same (λ t. refl) (λ t. refl)
+count_stays (instr.Access (WholeLoad count width vd rs1)) v w x same = refl
+count_stays (instr.Access (WholeStore count vd rs1)) v w x same = refl
+count_stays (instr.Access (MaskAccess d vd rs1)) v w x same = count_same mask_length v.conf w.conf _ _ same (λ t. refl) (λ t. refl)
+count_stays _ v w x same = refl
+
+-- ---- where transfers stop
+
+-- a fact of the index where transfers are cut, and one of that where they fault
+abbrev pub AtStop : MemEnd → (ℕ → Type 0) → (ℕ → Type 0) → Type 0
+AtStop Done C F = ⊤
+AtStop (Cut index) C F = C index
+AtStop (Fault index addr) C F = F index
+
+pub stop_means : (end : MemEnd) (C F D G : ℕ → Type 0) → AtStop end C F → ((index : ℕ) → C index → D index) → ((index : ℕ) → F index → G index)
+    → AtStop end D G
+stop_means Done C F D G h cut fault = tt
+stop_means (Cut index) C F D G h cut fault = cut index h
+stop_means (Fault index addr) C F D G h cut fault = fault index h
+
+-- of at most `limit` of `count` indices from one on
+abbrev EndIs : ℕ → ℕ → ℕ → MemEnd → Type 0
+EndIs limit start count Done = count ≤ start + limit
+EndIs limit start count (Cut index) = (index ≡ start + limit) × (index < count)
+EndIs limit start count (Fault index addr) = (start ≤ index) × (index < start + limit) × (index < count)
+
+end_is : (kind : Access) (m : Memory) (each : Plan) (limit start count : ℕ)
+    → EndIs limit start count (end_at kind m each (start + limit) count (stop_index kind m each start (start + limit) count))
+unfolding end_at
+end_is kind m each limit start count = named (nat_le count stop) (nat_le (start + limit) stop) refl refl
+  where
+    stop : ℕ
+    stop = stop_index kind m each start (start + limit) count
+
+    most : stop ≤ min count (start + limit)
+    most = stop_most kind m each start (start + limit) count
+
+    low : stop < count → start ≤ stop
+    low less = stop_from kind m each start (start + limit) count (omega arith) less
+
+    named : (done reached : Bool) → nat_le count stop ≡ done → nat_le (start + limit) stop ≡ reached
+        → EndIs limit start count (cond done Done (cond reached (Cut stop) (Fault stop (bad_address kind m (each stop)))))
+    named true reached e f = let all : count ≤ stop = grind (arith, nat_tests, e) in omega (arith, all, most)
+    named false true e f =
+        let more : stop < count = grind (arith, nat_tests, e) in
+        let last : start + limit ≤ stop = grind (arith, nat_tests, f) in
+        (omega (arith, more, last, most), more)
+    named false false e f =
+        let more : stop < count = grind (arith, nat_tests, e) in (low more, grind (arith, nat_tests, f), more)
+
+-- ---- what a run leaves
+
+-- of one that stops short: vstart is the index where it stops, and the vector type and length are as they were
+pub record StoppedAt (start count : ℕ) (v : VState) (run : AccessRun) (index : ℕ) : Type 0 where
+  pub from : start ≤ index
+  pub below : index < count
+  pub vstart : run.vector.vstart ≡ index
+  pub conf : run.vector.conf ≡ v.conf
+
+pub record CutAt (limit start count : ℕ) (v : VState) (run : AccessRun) (index : ℕ) : Type 0 where
+  pub stopped : StoppedAt start count v run index
+  pub at : index ≡ start + limit
+  pub reached : run.reached ≡ index
+
+pub record FaultAt (limit start count : ℕ) (v : VState) (run : AccessRun) (index : ℕ) : Type 0 where
+  pub stopped : StoppedAt start count v run index
+  pub before : index < start + limit
+  pub reached : run.reached ≡ index + 1
+
+-- one that is done came to all of its indices; or it shortened the length to the last one that it came to
+abbrev pub AllOrShorter : ℕ → ℕ → Bool → VState → AccessRun → Type 0
+AllOrShorter start count first_only v run =
+    ((run.vector.conf.vl ≡ v.conf.vl) × (run.reached ≡ max (start + 1) count))
+    ⊎ ((first_only ≡ true) × ((start ≤ run.vector.conf.vl) × ((run.vector.conf.vl < v.conf.vl) × (run.reached ≡ run.vector.conf.vl + 1))))
+
+-- a fact where transfers are done
+abbrev pub AtEnd : MemEnd → Type 0 → Type 0
+AtEnd Done P = P
+AtEnd (Cut index) P = ⊤
+AtEnd (Fault index addr) P = ⊤
+
+pub record Facts (limit start count : ℕ) (d : Direction) (first_only : Bool) (v : VState) (m : Memory) (run : AccessRun) : Type 0 where
+  pub stop : AtStop run.end (CutAt limit start count v run) (FaultAt limit start count v run)
+  pub done : AtEnd run.end (AllOrShorter start count first_only v run)
+  pub from : start ≤ run.reached
+  pub ticks : 1 ≤ limit → (start < run.reached) × (run.reached ≤ start + limit)
+  pub vtype : run.vector.conf.vtype ≡ v.conf.vtype
+  pub length : run.vector.conf.vl ≤ v.conf.vl
+  pub rounding : run.vector.vxrm ≡ v.vxrm
+  pub saturation : run.vector.vxsat ≡ v.vxsat
+  pub registers : d ≡ direction.Store → run.vector.file ≡ v.file
+  pub memory : d ≡ direction.Load → run.memory ≡ m
+  pub allowed : (kind : Access) (x : ℕ) → can_access_byte kind run.memory x ≡ can_access_byte kind m x
+
+module _ (limit start count : ℕ) (d : Direction) (known : Bool) (v : VState) (m : Memory) where
+  ends_facts : (first_only : Bool) (file : List ℕ) (after : Memory) (end : MemEnd) → (first_only ≡ true → known ≡ true) → start ≡ v.vstart
+      → (first_only ≡ true → count ≡ v.conf.vl) → (d ≡ direction.Store → file ≡ v.file) → (d ≡ direction.Load → after ≡ m)
+      → ((kind : Access) (x : ℕ) → can_access_byte kind after x ≡ can_access_byte kind m x) → EndIs limit start count end
+      → Facts limit start count d known v m (access_ends first_only count (record v { file = file }) after end)
+  ends_facts first_only file after Done first begins shortens registers memory allowed is = record {
+    stop = tt;
+    done = inl (refl, ap (λ (n : ℕ). max (n + 1) count) (sym begins));
+    from = omega (arith, begins);
+    ticks = λ some. (omega (arith, begins), omega (arith, begins, is, some));
+    vtype = refl;
+    length = omega arith;
+    rounding = refl;
+    saturation = refl;
+    registers = registers;
+    memory = memory;
+    allowed = allowed;
+  }
+  ends_facts first_only file after (Cut index) first begins shortens registers memory allowed is = record {
+    stop = record {
+      stopped = record { from = omega (arith, is.0); below = is.1; vstart = refl; conf = refl };
+      at = is.0;
+      reached = refl;
+    };
+    done = tt;
+    from = omega (arith, is.0);
+    ticks = λ some. (omega (arith, is.0, some), omega (arith, is.0));
+    vtype = refl;
+    length = omega arith;
+    rounding = refl;
+    saturation = refl;
+    registers = registers;
+    memory = memory;
+    allowed = allowed;
+  }
+  ends_facts first_only file after (Fault index addr) first begins shortens registers memory allowed is = named (first_only && nat_lt 0 index) refl
+    where
+      shortened : AccessRun
+      shortened = runs_to Done (index + 1) (record v { file = file; conf = record v.conf { vl = index }; vstart = 0 }) after
+
+      faulted : AccessRun
+      faulted = runs_to (Fault index addr) (index + 1) (record v { file = file; vstart = index }) after
+
+      named : (b : Bool) → (first_only && nat_lt 0 index) ≡ b → Facts limit start count d known v m (cond b shortened faulted)
+      named true e = record {
+        stop = tt;
+        done =
+            let parts = and_parts first_only (nat_lt 0 index) e in
+            inr (first parts.0, (is.0, (omega (arith, is.2, shortens parts.0), refl)));
+        from = omega (arith, is.0);
+        ticks = λ some. (omega (arith, is.0), omega (arith, is.1));
+        vtype = refl;
+        length = omega (arith, is.2, shortens (and_parts first_only (nat_lt 0 index) e).0);
+        rounding = refl;
+        saturation = refl;
+        registers = registers;
+        memory = memory;
+        allowed = allowed;
+      }
+      named false e = record {
+        stop = record { stopped = record { from = is.0; below = is.2; vstart = refl; conf = refl }; before = is.1; reached = refl };
+        done = tt;
+        from = omega (arith, is.0);
+        ticks = λ some. (omega (arith, is.0), omega (arith, is.1));
+        vtype = refl;
+        length = omega arith;
+        rounding = refl;
+        saturation = refl;
+        registers = registers;
+        memory = memory;
+        allowed = allowed;
+      }
+
+module _ (limit : ℕ) (fill : Bool) (a : VectorAccess) (v : VState) (m : Memory) (made : Made v a) where
+  load_facts : Facts limit a.body.start a.body.end direction.Load a.first_only v m (load_run limit fill a v m)
+  unfolding load_run
+  load_facts =
+      let stop : ℕ = stop_index access.Load m (plan a fill) a.body.start (a.body.start + limit) a.body.end in
+      ends_facts limit a.body.start a.body.end direction.Load a.first_only v m a.first_only
+      (registers_loaded m (element_start a) v.file (transfers (plan a fill) a.body.start (stop - a.body.start))) m
+      (end_at access.Load m (plan a fill) (a.body.start + limit) a.body.end stop) (λ is. is) made.begins made.shortens
+      (λ is. absurd (cc)) (λ is. refl) (λ kind x. refl) (end_is access.Load m (plan a fill) limit a.body.start a.body.end)
+
+  store_facts : Facts limit a.body.start a.body.end direction.Store a.first_only v m (store_run limit a v m)
+  unfolding store_run
+  store_facts =
+      let stop : ℕ = stop_index access.Store m (plan a false) a.body.start (a.body.start + limit) a.body.end in
+      let done = transfers (plan a false) a.body.start (stop - a.body.start) in
+      ends_facts limit a.body.start a.body.end direction.Store a.first_only v m false v.file (memory_stored m (element_start a) v.file done)
+      (end_at access.Store m (plan a false) (a.body.start + limit) a.body.end stop) (λ is. absurd (cc)) made.begins (λ is. absurd (cc))
+      (λ is. refl) (λ is. absurd (cc)) (λ kind x. stored_allows kind m (element_start a) v.file done x)
+      (end_is access.Store m (plan a false) limit a.body.start a.body.end)
+
+  directed_facts : (d : Direction) → Facts limit a.body.start a.body.end d a.first_only v m (directed_run d limit fill a v m)
+  directed_facts direction.Load = load_facts
+  directed_facts direction.Store = store_facts
+
+pub run_facts : (limit : ℕ) (fill : Bool) (i : AccessInstr) (v : VState) (x : Scalar) (m : Memory) (a : VectorAccess) → access_of i v x ≡ Some a
+    → Facts limit v.vstart a.body.end a.direction a.first_only v m (directed_run a.direction limit fill a v m)
+run_facts limit fill i v x m a e =
+    let made : Made v a = made_of i v x a e in
+    subst (λ (n : ℕ). Facts limit n a.body.end a.direction a.first_only v m (directed_run a.direction limit fill a v m)) made.begins
+    (directed_facts limit fill a v m made a.direction)
+
+-- ---- the run of an instruction is that of its access
+
+pub run_is : (limit : ℕ) (fill : Bool) (i : AccessInstr) (v : VState) (x : Scalar) (m : Memory) (a : VectorAccess) → access_of i v x ≡ Some a
+    → access_run limit fill i v x m ≡ directed_run a.direction limit fill a v m
+unfolding access_run
+run_is limit fill i v x m a e = ap (λ (o : Option VectorAccess). run_or_nothing limit fill o v m) e
+
+-- what holds of that of each access, and where nothing is done, holds of it
+pub of_access : (limit : ℕ) (fill : Bool) (i : AccessInstr) (v : VState) (x : Scalar) (m : Memory) (P : Option VectorAccess → AccessRun → Type 0)
+    → P None (runs_to Done (v.vstart + 1) v m)
+    → ((a : VectorAccess) → access_of i v x ≡ Some a → P (Some a) (directed_run a.direction limit fill a v m))
+    → P (access_of i v x) (access_run limit fill i v x m)
+unfolding access_run
+of_access limit fill i v x m P nothing each = named (access_of i v x) refl
+  where
+    named : (o : Option VectorAccess) → access_of i v x ≡ o → P o (run_or_nothing limit fill o v m)
+    named None e = nothing
+    named (Some a) e = each a e
+
+-- ---- where it leaves off
+
+leaves_off : (limit count : ℕ) (d : Direction) (first_only : Bool) (v : VState) (m : Memory) (run : AccessRun) → Facts limit v.vstart count d first_only v m run → LeavesOff limit v run
+leaves_off limit count d first_only v m run f = record {
+  cut = λ index e.
+      let at : CutAt limit v.vstart count v run index =
+      subst (λ (end : MemEnd). AtStop end (CutAt limit v.vstart count v run) (FaultAt limit v.vstart count v run)) e f.stop in
+      (at.at, at.stopped.vstart);
+  fault = λ index addr e.
+      let at : FaultAt limit v.vstart count v run index =
+      subst (λ (end : MemEnd). AtStop end (CutAt limit v.vstart count v run) (FaultAt limit v.vstart count v run)) e f.stop in
+      (at.before, at.stopped.vstart);
+}
+
+pub access_leaves_off : AccessLeavesOff
+access_leaves_off i limit fill v x m =
+    of_access limit fill i v x m (λ o run. LeavesOff limit v run)
+    (record { cut = λ index e. absurd (cc); fault = λ index addr e. absurd (cc) })
+    (λ a e. leaves_off limit a.body.end a.direction a.first_only v m _ (run_facts limit fill i v x m a e))
+
+-- ---- what it leaves where it stops
+
+stops_at : (end : MemEnd) (P : ℕ → Type 0) → AtStop end P P → end ≢ Done → (index : ℕ) × P index
+stops_at Done P h ended = absurd (ended refl)
+stops_at (Cut index) P h ended = (index, h)
+stops_at (Fault index addr) P h ended = (index, h)
+
+pub is_stopped : (limit : ℕ) (a : VectorAccess) (v : VState) (m : Memory) (run : AccessRun) → Facts limit v.vstart a.body.end a.direction a.first_only v m run
+    → run.end ≢ Done → IsStopped a v run.vector
+is_stopped limit a v m run f ended =
+    let n : ℕ = a.body.end in
+    let at =
+    stops_at run.end (StoppedAt v.vstart n v run)
+    (stop_means run.end (CutAt limit v.vstart n v run) (FaultAt limit v.vstart n v run) (StoppedAt v.vstart n v run) (StoppedAt v.vstart n v run)
+    f.stop (λ index h. h.stopped) (λ index h. h.stopped)) ended in
+    record {
+      from = omega (arith, at.1.from, at.1.vstart);
+      below = omega (arith, at.1.below, at.1.vstart);
+      conf = at.1.conf;
+      rounding = f.rounding;
+      saturation = f.saturation;
+      registers = f.registers;
+    }
+
+-- a state that it leaves differs by its registers and by vstart
+pub stopped_state : (a : VectorAccess) (v w : VState) → IsStopped a v w → w ≡ record v { file = w.file; vstart = w.vstart }
+stopped_state a v w h = λ j. record w { conf = h.conf j; vxrm = h.rounding j; vxsat = h.saturation j }

@@ -1,0 +1,77 @@
+-- The ticks of a load or store, as they show in the vector states that it finds and leaves: for what carries one out and counts them
+-- from there.
+use Rattle.std.proofs.Common.{◌≡◌, ℕ, ◌+◌, ◌-◌, Bool, true, false, ◌&&◌, cond, max, Option, Some, inl, inr, refl, sym, ◌∙◌, ap, arith}
+use Rattle.std.specs.Option.{option_map_or}
+use Rattle.std.specs.Prelude.{nat_lt}
+use Rattle.std.proofs.lemmas.Bool.{and_from, le-ltb, lt-ltb}
+use Rattle.rv_model.specs.declared.instructions.access.AccessInstr.{AccessInstr}
+use Rattle.rv_model.specs.declared.instructions.instruction.Instr.TheVariants as instr
+use Rattle.rv_model.specs.declared.step.memory_end.MemEnd.{MemEnd}
+use Rattle.rv_model.specs.declared.step.memory_end.MemEnd.TheVariants as memory_end
+use Rattle.rv_model.specs.declared.step.vector_end.VEnd.{VEnd}
+use Rattle.rv_model.specs.declared.step.vector_end.VEnd.TheVariants as vector_end
+use Rattle.rv_model.specs.declared.vector.state.VState.{VState}
+use Rattle.rv_model.specs.accesses.AccessRuns.{AccessRun}
+use Rattle.rv_model.specs.accesses.VectorAccess.{VectorAccess, access_of}
+use Rattle.rv_model.specs.legality.Legality.{is_legal}
+use Rattle.rv_model.specs.step.Hart.{HartState}
+use Rattle.rv_model.specs.step.MemoryStep.{access_end}
+use Rattle.rv_model.specs.step.VectorStep.{VectorStepped, access_step, accessed, performed, vector_ends, vector_executed, vector_ticks}
+use Rattle.rv_model.proofs.access_lemmas.Runs.{AllOrShorter, AtEnd, AtStop, CutAt, FaultAt}
+use Rattle.rv_model.proofs.step_lemmas.Cuts.{RunFacts, accessed_facts}
+
+-- one for each index from vstart on, or up to the length to which it was shortened, or to vstart where it faults; one that is cut
+-- takes all that are left
+abbrev pub access_ticks : ℕ → VectorAccess → VState → VState → VEnd → ℕ
+access_ticks limit a before after vector_end.Illegal = 1
+access_ticks limit a before after vector_end.Done =
+    cond (a.first_only && nat_lt after.conf.vl before.conf.vl) (after.conf.vl - before.vstart + 1) (max 1 (a.body.end - before.vstart))
+access_ticks limit a before after (vector_end.Fault store addr) = after.vstart - before.vstart + 1
+access_ticks limit a before after (vector_end.Cut index) = limit
+
+not_shorter : (b : Bool) (m n : ℕ) → m ≡ n → (b && nat_lt m n) ≡ false
+not_shorter true m n e = le-ltb m n (omega (arith, e))
+not_shorter false m n e = refl
+
+module _ (limit : ℕ) (a : VectorAccess) (s : HartState) (f : RunFacts limit a s) where
+  abbrev run : AccessRun
+  run = accessed limit a s
+
+  abbrev after : VState
+  after = run.vector
+
+  taken : (end : MemEnd) → AtEnd end (AllOrShorter s.vector.vstart a.body.end a.first_only s.vector run)
+      → AtStop end (CutAt limit s.vector.vstart a.body.end s.vector run) (FaultAt limit s.vector.vstart a.body.end s.vector run)
+      → run.reached - s.vector.vstart ≡ access_ticks limit a s.vector after (access_end a.direction end)
+  taken memory_end.Done (inl h) stop =
+      omega (arith, h.1) ∙ sym (ap (λ (b : Bool). cond b (after.conf.vl - s.vector.vstart + 1) (max 1 (a.body.end - s.vector.vstart)))
+      (not_shorter a.first_only after.conf.vl s.vector.conf.vl h.0))
+  taken memory_end.Done (inr h) stop =
+      let shorter : (a.first_only && nat_lt after.conf.vl s.vector.conf.vl) ≡ true = and_from _ _ h.0 (lt-ltb after.conf.vl s.vector.conf.vl h.1.1.0) in
+      omega (arith, h.1.0, h.1.1.1) ∙ sym (ap (λ (b : Bool). cond b (after.conf.vl - s.vector.vstart + 1) (max 1 (a.body.end - s.vector.vstart))) shorter)
+  taken (memory_end.Cut index) done stop = omega (arith, stop.reached, stop.at)
+  taken (memory_end.Fault index addr) done stop = omega (arith, stop.reached, stop.stopped.vstart, stop.stopped.from)
+
+-- those of a legal one
+pub ticks_show : (limit : ℕ) (i : AccessInstr) (a : VectorAccess) (s : HartState) → access_of i s.vector s.scalar ≡ Some a
+    → is_legal (instr.Access i) s.vector.conf.vtype s.vector.vstart ≡ true
+    → vector_ticks limit (instr.Access i) s
+    ≡ access_ticks limit a s.vector (vector_executed limit (instr.Access i) s).state.vector (vector_executed limit (instr.Access i) s).end
+unfolding vector_executed performed
+ticks_show limit i a s e legal =
+    let f : RunFacts limit a s = accessed_facts limit i a s e in
+    let run : AccessRun = accessed limit a s in
+    let executed : vector_executed limit (instr.Access i) s ≡ access_step limit i (Some a) s =
+    ap (λ (b : Bool). cond b (access_step limit i (access_of i s.vector s.scalar) s) (vector_ends vector_end.Illegal s)) legal
+    ∙ ap (λ (o : Option VectorAccess). access_step limit i o s) e in
+    ap (λ (o : Option VectorAccess). option_map_or (λ a. (accessed limit a s).reached - s.vector.vstart) o 1) e
+    ∙ taken limit a s f run.end f.done f.stop
+    ∙ same run.end
+    ∙ ap (λ (d : VectorStepped). access_ticks limit a s.vector d.state.vector d.end) (sym executed)
+  where
+    -- the tails have no part in it
+    same : (end : MemEnd) → access_ticks limit a s.vector (accessed limit a s).vector (access_end a.direction end)
+        ≡ access_ticks limit a s.vector (access_step limit i (Some a) s).state.vector (access_end a.direction end)
+    same memory_end.Done = refl
+    same (memory_end.Fault index addr) = refl
+    same (memory_end.Cut index) = refl

@@ -1,0 +1,15 @@
+-- Operations that are found by bits: what the functions of a decoder find.
+use Rattle.std.specs.Prelude.{ℕ, List, [], ◌∷◌, Option, Some, None, ◌&&◌, nat_eq, if◌then◌else◌}
+use Rattle.rv_model.specs.instructions.Types.{Form, Line, Major}
+use Rattle.rv_model.specs.instructions.Operations.{has_form, same_major}
+
+-- the operation with these fixed bits
+unfoldable pub find : {A : Type 0} → (A → ℕ) → List A → ℕ → Option A
+find code [] bits = None
+find code (op ∷ ops) bits = if nat_eq bits (code op) then Some op else find code ops bits
+
+-- the operation with this funct6 in a half of the opcode map
+unfoldable pub find_at : {A : Type 0} → (A → Line) → Major → Form → ℕ → List A → Option A
+find_at line m f n [] = None
+find_at line m f n (op ∷ ops) =
+    if same_major m (line op).major && (nat_eq n (line op).funct6 && has_form (line op).forms f) then Some op else find_at line m f n ops

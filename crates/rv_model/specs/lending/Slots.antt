@@ -1,0 +1,18 @@
+-- What the functions of an assembler ask of the value in a slot.
+use Rattle.std.specs.Prelude.{ℕ, ◌+◌, ◌*◌, ◌^◌}
+use Rattle.rv_model.specs.assembler.Slots.{half, limit}
+use Rattle.rv_model.specs.declared.assembler.forms.Slot.{Slot}
+use Rattle.rv_model.specs.declared.assembler.forms.Slot.TheVariants.{Scalar, Vector, Unsigned, Signed, Csr, VectorType, ShortVectorType, Mask, Word}
+
+-- how many values a slot has
+abbrev pub value_count : Slot → ℕ
+value_count (Scalar p) = 32
+value_count (Vector p) = 32
+value_count (Unsigned u) = limit u + 1
+value_count (Signed s) = 2 * half s
+value_count Csr = 4096
+value_count VectorType = 2048
+value_count ShortVectorType = 1024
+value_count Mask = 2
+value_count Word = 2 ^ 32
+value_count s = 1
