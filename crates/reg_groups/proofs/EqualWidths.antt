@@ -1,6 +1,6 @@
 -- Legality of operands that have the vector type's multiplier: their groups are aligned, and equal widths may overlap.
-use Rattle.std.proofs.Common.{◌≡◌, ℕ, zero, suc, ◌+◌, ◌*◌, ◌≤◌, Bool, true, false, ◌&&◌, ◌||◌, not, nat_lt, ◌==◌, max, min, refl, arith, ◌∙◌, ap}
-use Rattle.std.proofs.Math.Bool.{and-true, or-false, or-true}
+use Rattle.std.proofs.Common.{◌≡◌, ℕ, zero, suc, ◌+◌, ◌*◌, ◌≤◌, Bool, ◌&&◌, ◌||◌, not, nat_lt, ◌==◌, max, min, refl, arith, ◌∙◌, ap}
+use Rattle.std.proofs.Math.Bool.{and-true, or-false}
 use Rattle.std.proofs.lemmas.Bool.Decides.{nat_tests}
 use Rattle.std.specs.Prelude.{[], ◌∷◌}
 use Rattle.rv_model.specs.declared.instructions.source.Source.{Source}
@@ -8,30 +8,19 @@ use Rattle.rv_model.specs.declared.instructions.source.Source.TheVariants as sou
 use Rattle.rv_model.specs.declared.legality.Role.{Role}
 use Rattle.rv_model.specs.declared.legality.Role.TheVariants.{Read, Control, Write, Apart}
 use Rattle.rv_model.specs.declared.legality.Shape.TheVariants.{Single}
-use Rattle.rv_model.specs.declared.vector.types.Sew.{Sew}
-use Rattle.rv_model.specs.declared.vector.types.Sew.TheVariants.{E8, E16, E32, E64}
 use Rattle.rv_model.specs.declared.vector.types.VType.{VType}
 use Rattle.rv_model.specs.declared.instructions.operations.Eew.{Eew}
 use Rattle.rv_model.specs.legality.Legality.{access_operands, move_operands}
-use Rattle.rv_model.specs.legality.OperandShapes.{group, mask, shape_operands, v0}
+use Rattle.rv_model.specs.legality.OperandShapes.{destination, group, mask, v0, vector_source}
 use Rattle.rv_model.specs.legality.RegisterOperands.{allows, are_legal, is_group}
-use Rattle.rv_model.specs.vector.Configuration.{element_width, group_type, lmul_eighths, sew_bits}
+use Rattle.rv_model.specs.vector.Configuration.{GroupType, element_width, group_type, lmul_eighths, sew_bits}
 use Rattle.rv_model.specs.vector.Registers.{registers}
 use Rattle.rv_model.proofs.legality_lemmas.Bounds.{emul-sew}
 use Rattle.reg_groups.specs.Roles.{is_apart_from_mask, of_vector, stands_beside}
-use Rattle.reg_groups.proofs.Sources.{masked_legal, shape_legal, sources_legal}
-
-itself : (s : Sew) → (sew_bits s == sew_bits s) ≡ true
-itself E8 = refl
-itself E16 = refl
-itself E32 = refl
-itself E64 = refl
-
-equal_widths : (a b : ℕ) (t : VType) → allows (group Write a (group_type t)) (group Read b (group_type t)) ≡ true
-equal_widths a b t = rw (itself t.sew) (or-true _)
+use Rattle.reg_groups.proofs.Sources.{masked_legal, sources_legal}
 
 -- a destination holds v0 exactly where it begins with it
-holds_v0 : (a n : ℕ) → 1 ≤ n → nat_lt (max a 0) (min (a + 1 * n) (0 + 1 * 1)) ≡ (a == 0)
+pub holds_v0 : (a n : ℕ) → 1 ≤ n → nat_lt (max a 0) (min (a + 1 * n) (0 + 1 * 1)) ≡ (a == 0)
 holds_v0 zero n h = grind (arith, nat_tests)
 holds_v0 (suc a) n h = grind (arith, nat_tests)
 
@@ -39,39 +28,21 @@ holds_v0 (suc a) n h = grind (arith, nat_tests)
 pub some_registers : (e : ℕ) → 1 ≤ registers e
 some_registers e = omega arith
 
-apart_from_v0 : (a : ℕ) (t : VType) → not (nat_lt (max a 0) (min (a + 1 * registers (lmul_eighths t.lmul)) (0 + 1 * 1))) ≡ not (a == 0)
-apart_from_v0 a t = ap not (holds_v0 a (registers (lmul_eighths t.lmul)) (some_registers (lmul_eighths t.lmul)))
+apart_from_v0 : (a : ℕ) (g : GroupType) → not (nat_lt (max a 0) (min (a + 1 * registers g.emul) (0 + 1 * 1))) ≡ not (a == 0)
+apart_from_v0 a g = ap not (holds_v0 a (registers g.emul) (some_registers g.emul))
 
-role_allows : (r : Role) (a : ℕ) (t : VType)
-    → allows (group r a (group_type t)) (mask Control 0) ≡ (not (is_apart_from_mask r) || not (a == 0))
-role_allows Write a t = or-false _ ∙ apart_from_v0 a t
-role_allows Apart a t = apart_from_v0 a t
-role_allows _ a t = refl
-
-second_allowed : (a : ℕ) (from : Source) (t : VType)
-    → of_vector from (λ vs1. stands_beside (group Write a (group_type t)) (group Read vs1 (group_type t)))
-    ≡ of_vector from (λ vs1. is_group (group Read vs1 (group_type t)))
-second_allowed a (source.V vs1) t = rw (equal_widths a vs1 t) (and-true (is_group (group Read vs1 (group_type t))))
-second_allowed a (source.X rs1) t = refl
-second_allowed a (source.I imm) t = refl
-
--- what an operation whose operands have SEW asks of them
-pub single_legal : (vd vs2 : ℕ) (from : Source) (unmasked : Bool) (t : VType)
-    → are_legal (shape_operands Single vd vs2 from unmasked t)
-    ≡ (is_group (group Read vd (group_type t)) && (is_group (group Read vs2 (group_type t))
-    && (of_vector from (λ vs1. is_group (group Read vs1 (group_type t))) && (unmasked || not (vd == 0)))))
-single_legal vd vs2 from unmasked t =
-    shape_legal Single vd vs2 from unmasked t
-    ∙ rw (second_allowed vd from t, role_allows Write vd t, equal_widths vd vs2 t, and-true (is_group (group Read vs2 (group_type t)))) refl
+pub role_allows : (r : Role) (a : ℕ) (g : GroupType) → allows (group r a g) (mask Control 0) ≡ (not (is_apart_from_mask r) || not (a == 0))
+role_allows Write a g = or-false _ ∙ apart_from_v0 a g
+role_allows Apart a g = apart_from_v0 a g
+role_allows _ a g = refl
 
 -- what a move asks of its operands
 pub move_legal : (from : Source) (vd : ℕ) (t : VType)
     → are_legal (move_operands from vd t)
-    ≡ (is_group (group Read vd (group_type t)) && of_vector from (λ vs1. is_group (group Read vs1 (group_type t))))
+    ≡ (is_group (destination Single vd t) && of_vector from (λ vs1. stands_beside (destination Single vd t) (vector_source Single vs1 t)))
 move_legal (source.V vs1) vd t =
-    let d = group Write vd (group_type t) in
-    sources_legal d (group Read vs1 (group_type t) ∷ []) (tt, tt)
-    ∙ ap (λ b. is_group d && b) (and-true _ ∙ second_allowed vd (source.V vs1) t)
+    sources_legal (group Write vd (group_type t)) (group Read vs1 (group_type t) ∷ []) (tt, tt)
+    ∙ ap (λ b. is_group (group Write vd (group_type t)) && b) (and-true _)
 move_legal (source.X rs1) vd t = sources_legal (group Write vd (group_type t)) [] tt
 move_legal (source.I imm) vd t = sources_legal (group Write vd (group_type t)) [] tt
 
@@ -79,7 +50,7 @@ move_legal (source.I imm) vd t = sources_legal (group Write vd (group_type t)) [
 pub group_with_mask : (r : Role) (a : ℕ) (unmasked : Bool) (t : VType)
     → are_legal (group r a (group_type t) ∷ v0 unmasked)
     ≡ (is_group (group Read a (group_type t)) && (unmasked || (not (is_apart_from_mask r) || not (a == 0))))
-group_with_mask r a unmasked t = masked_legal (group r a (group_type t)) unmasked ∙ rw (role_allows r a t) refl
+group_with_mask r a unmasked t = masked_legal (group r a (group_type t)) unmasked ∙ rw (role_allows r a (group_type t)) refl
 
 -- an access to one field of elements of SEW has one group of the vector type
 pub access_of_sew : (r : Role) (width : Eew) (nf vd : ℕ) (unmasked : Bool) (t : VType)

@@ -1,4 +1,4 @@
 mod EqualWidths
-mod SingleRegisters
+mod Pairs
 mod Sources
 mod Widths

@@ -1,5 +1,5 @@
 -- Legality of a destination beside sources: only the destination has to agree with others.
-use Rattle.std.proofs.Common.{◌≡◌, ℕ, Bool, true, false, ◌&&◌, ◌||◌, List, refl, ap, ◌∙◌}
+use Rattle.std.proofs.Common.{◌≡◌, ℕ, Bool, true, false, ◌&&◌, ◌||◌, List, refl, sym, ap, subst, ◌∙◌}
 use Rattle.std.proofs.Math.Bool.{and-true}
 use Rattle.std.specs.Prelude.{⊤, [], ◌∷◌, ◌++◌}
 use Rattle.std.specs.List.{list_all}
@@ -9,7 +9,7 @@ use Rattle.rv_model.specs.declared.legality.Operand.{Operand}
 use Rattle.rv_model.specs.declared.legality.Role.{Role}
 use Rattle.rv_model.specs.declared.legality.Role.TheVariants.{Read, Control}
 use Rattle.rv_model.specs.declared.legality.Shape.{Shape}
-use Rattle.rv_model.specs.declared.legality.Shape.TheVariants.{Single, GatherIndices16, Reduction, WideReduction, WideSource, Narrowing}
+use Rattle.rv_model.specs.declared.legality.Shape.TheVariants.{GatherIndices16, Reduction, WideReduction, WideSource, Narrowing}
 use Rattle.rv_model.specs.declared.vector.types.VType.{VType}
 use Rattle.rv_model.specs.legality.OperandShapes.{destination, first_source, mask, second_source, shape_operands, v0, vector_source}
 use Rattle.rv_model.specs.legality.RegisterOperands.{allows, allows_as, are_legal, is_group}
@@ -76,6 +76,17 @@ mask_is_source false = (tt, tt)
 pub masked_legal : (o : Operand) (unmasked : Bool) → are_legal (o ∷ v0 unmasked) ≡ (is_group o && (unmasked || allows o (mask Control 0)))
 masked_legal o unmasked = sources_legal o (v0 unmasked) (mask_is_source unmasked) ∙ ap (λ b. is_group o && b) (mask_beside o unmasked)
 
+-- a destination and a source beside the mask
+pub pair_legal : (d s : Operand) (unmasked : Bool) → s.role ≡ Read
+    → are_legal (d ∷ s ∷ v0 unmasked) ≡ (is_group d && (stands_beside d s && (unmasked || allows d (mask Control 0))))
+pair_legal d s unmasked read =
+    sources_legal d (s ∷ v0 unmasked) (subst IsSource (sym read) tt, mask_is_source unmasked)
+    ∙ ap (λ b. is_group d && (stands_beside d s && b)) (mask_beside d unmasked)
+
+-- one operand by itself
+pub lone_legal : (o : Operand) → are_legal (o ∷ []) ≡ is_group o
+lone_legal o = sources_legal o [] tt ∙ and-true (is_group o)
+
 first_is_source : (shape : Shape) (vs2 : ℕ) (t : VType) → IsSource (first_source shape vs2 t).role
 first_is_source WideSource vs2 t = tt
 first_is_source Narrowing vs2 t = tt
@@ -115,3 +126,8 @@ shape_legal shape vd vs2 from unmasked t =
     ∙ ap (λ b. is_group d && (stands_beside d a && b))
     (second_beside d shape from t (v0 unmasked)
     ∙ ap (λ b. of_vector from (λ vs1. stands_beside d (vector_source shape vs1 t)) && b) (mask_beside d unmasked))
+
+-- the second of two tests may take the first for granted
+pub guarded : (g a b : Bool) → (g ≡ true → a ≡ b) → (g && a) ≡ (g && b)
+guarded true a b h = h refl
+guarded false a b h = refl

@@ -1,33 +1,24 @@
 -- Widths that an operand has beside SEW, in bits.
-use Rattle.std.proofs.Common.{◌≡◌, ℕ, ◌*◌, ◌/◌, max, refl, ap}
+use Rattle.std.proofs.Common.{◌≡◌, ℕ, ◌*◌, ◌/◌, max, refl}
 use mir.Val.{bits}
 use Rattle.rv_model.specs.declared.instructions.operations.ExtendOp.{ExtendOp}
 use Rattle.rv_model.specs.declared.instructions.operations.ExtendOp.TheVariants.{VzextVf8, VsextVf8, VzextVf4, VsextVf4, VzextVf2, VsextVf2}
-use Rattle.rv_model.specs.declared.legality.Role.{Role}
 use Rattle.rv_model.specs.declared.legality.Role.TheVariants.{Read}
 use Rattle.rv_model.specs.declared.vector.types.Sew.{Sew}
 use Rattle.rv_model.specs.declared.vector.types.Sew.TheVariants.{E8, E16, E32, E64}
 use Rattle.rv_model.specs.declared.vector.types.VType.{VType}
 use Rattle.rv_model.specs.legality.Legality.{extension_source}
-use Rattle.rv_model.specs.legality.OperandShapes.{group}
 use Rattle.rv_model.specs.lending.GroupBounds.{emul}
 use Rattle.rv_model.specs.vector.Configuration.{sew_bits, sew_width}
-use Rattle.rv_model.specs.vector.Groups.{doubled, extension_divisor, part_width, single_type, wide_type}
+use Rattle.rv_model.specs.vector.Groups.{doubled, extension_divisor, part_width}
 use Rattle.reg_groups.specs.Roles.{groups_of}
 
-doubled_bits : (s : Sew) → bits (doubled (sew_width s)) ≡ 2 * sew_bits s
+-- twice SEW, in bits
+pub doubled_bits : (s : Sew) → bits (doubled (sew_width s)) ≡ 2 * sew_bits s
 doubled_bits E8 = refl
 doubled_bits E16 = refl
 doubled_bits E32 = refl
 doubled_bits E64 = refl
-
-pub doubled_group : (r : Role) (first : ℕ) (t : VType)
-    → groups_of r 1 first (2 * sew_bits t.sew) (emul (2 * sew_bits t.sew) t) ≡ group r first (wide_type t)
-doubled_group r first t = rw (doubled_bits t.sew) refl
-
-pub doubled_register : (r : Role) (first : ℕ) (t : VType)
-    → groups_of r 1 first (2 * sew_bits t.sew) 8 ≡ group r first (single_type (wide_type t).width)
-doubled_register r first t = rw (doubled_bits t.sew) refl
 
 part_bits : (o : ExtendOp) (s : Sew) → bits (part_width o (sew_width s)) ≡ max (sew_bits s / extension_divisor o) 8
 part_bits VzextVf8 E8 = refl

@@ -1,12 +1,17 @@
 -- What an instruction does with the registers of an operand, and operands beside a destination.
-use Rattle.std.specs.Prelude.{ℕ, Bool, true, false, ◌&&◌}
+use Rattle.std.specs.Prelude.{ℕ, ◌+◌, ◌*◌, Bool, true, false, ◌&&◌, ◌||◌, not, nat_le, nat_lt, ◌==◌}
 use Rattle.rv_model.specs.declared.instructions.source.Source.{Source}
 use Rattle.rv_model.specs.declared.instructions.source.Source.TheVariants as source
 use Rattle.rv_model.specs.declared.legality.Content.TheVariants.{Elements}
 use Rattle.rv_model.specs.declared.legality.Operand.{Operand}
 use Rattle.rv_model.specs.declared.legality.Role.{Role}
-use Rattle.rv_model.specs.declared.legality.Role.TheVariants.{Write, Apart}
+use Rattle.rv_model.specs.declared.legality.Role.TheVariants.{Read, Write, Apart}
+use Rattle.rv_model.specs.declared.vector.types.VType.{VType}
+use Rattle.rv_model.specs.legality.OperandShapes.{group, mask}
 use Rattle.rv_model.specs.legality.RegisterOperands.{allows, is_group}
+use Rattle.rv_model.specs.vector.Configuration.{group_type, lmul_eighths}
+use Rattle.rv_model.specs.vector.Groups.{wide_type}
+use Rattle.rv_model.specs.vector.Registers.{registers}
 
 -- registers that may not hold the mask of the same instruction
 abbrev pub is_apart_from_mask : Role → Bool
@@ -27,3 +32,22 @@ abbrev pub of_vector : Source → (ℕ → Bool) → Bool
 of_vector (source.V vs1) test = test vs1
 of_vector (source.X rs1) test = true
 of_vector (source.I imm) test = true
+
+-- a group of the vector type that doesn't begin with `vd`
+abbrev pub is_other_group : ℕ → ℕ → VType → Bool
+is_other_group vd first t = is_group (group Read first (group_type t)) && not (vd == first)
+
+-- a group of elements of twice SEW of which `vd` is no register, or the first
+abbrev pub is_wide_beside : ℕ → ℕ → VType → Bool
+is_wide_beside vd first t =
+    is_group (group Read first (wide_type t)) && (nat_le vd first || nat_le (first + registers (2 * lmul_eighths t.lmul)) vd)
+
+-- a group of the vector type of which `vd` is no register, or the first
+abbrev pub is_beside_mask : ℕ → ℕ → VType → Bool
+is_beside_mask vd first t =
+    is_group (group Read first (group_type t)) && (nat_le vd first || nat_le (first + registers (lmul_eighths t.lmul)) vd)
+
+-- a mask that is outside of the group of the vector type from `vd` on
+abbrev pub is_mask_outside : ℕ → ℕ → VType → Bool
+is_mask_outside vd register t =
+    is_group (mask Read register) && (nat_lt register vd || nat_le (vd + registers (lmul_eighths t.lmul)) register)

@@ -1,13 +1,13 @@
 //! Which register operands may stand together in one instruction ("V" Vector Extension 1.0, sections
 //! 3.4.2, 5.2 and 5.3).
 ghost use Rattle.std.specs.Prelude.{◌≡◌, true};
-ghost use Rattle.std.specs.List.{list_all};
-ghost use Rattle.rv_model.specs.legality.RegisterOperands.{allows, are_legal, eew, end, is_group, is_mask, is_width, may_overlap, overlaps};
+ghost use Rattle.rv_model.specs.legality.RegisterOperands.{allows, eew, end, is_group, is_mask, is_width, may_overlap, overlaps};
 
 use crate::groups::registers;
 use rv_model::{Content, Operand, Role, VECTOR_REGISTERS};
 
 /// The effective element width in bits.
+#[inline(always)]
 fn eew(content: Content) -> u16
     ensures { result ≡ eew content }
 {
@@ -18,6 +18,7 @@ fn eew(content: Content) -> u16
 }
 
 /// Whether elements have 8 to 64 bits.
+#[inline(always)]
 fn is_width(content: Content) -> bool
     ensures { result ≡ is_width content }
 {
@@ -28,6 +29,7 @@ fn is_width(content: Content) -> bool
 }
 
 /// Whether it is a mask.
+#[inline(always)]
 fn is_mask(content: Content) -> bool
     ensures { result ≡ is_mask content }
 {
@@ -38,6 +40,7 @@ fn is_mask(content: Content) -> bool
 }
 
 /// The number of the register after the last.
+#[inline(always)]
 fn end(operand: &Operand) -> u64
     ensures { result ≡ end operand.now }
 {
@@ -47,6 +50,7 @@ fn end(operand: &Operand) -> u64
 
 /// Whether the multiplier is one of 1/8 to 8, for the fields together at most 8, and the registers are
 /// aligned and there.
+#[inline(always)]
 pub(crate) fn is_group(operand: &Operand) -> bool
     ensures { result ≡ is_group operand.now }
 {
@@ -59,6 +63,7 @@ pub(crate) fn is_group(operand: &Operand) -> bool
 }
 
 /// Whether the two have a register in common.
+#[inline(always)]
 fn overlaps(one: &Operand, other: &Operand) -> bool
     ensures { result ≡ overlaps one.now other.now }
 {
@@ -66,6 +71,7 @@ fn overlaps(one: &Operand, other: &Operand) -> bool
 }
 
 /// Whether a destination may overlap a source.
+#[inline(always)]
 fn may_overlap(destination: &Operand, source: &Operand) -> bool
     ensures { result ≡ may_overlap destination.now source.now }
 {
@@ -82,6 +88,7 @@ fn may_overlap(destination: &Operand, source: &Operand) -> bool
 
 /// Whether what an instruction does with the registers of the first operand agrees with what it does with
 /// those of the second.
+#[inline(always)]
 pub(crate) fn allows(destination: &Operand, other: &Operand) -> bool
     ensures { result ≡ allows destination.now other.now }
 {
@@ -95,33 +102,4 @@ pub(crate) fn allows(destination: &Operand, other: &Operand) -> bool
         (Role::Apart, Role::Read) | (Role::Apart, Role::Control) => !overlaps(destination, other),
         _ => true,
     }
-}
-
-/// Whether the operand agrees with each of these.
-fn allows_all(destination: &Operand, operands: &[Operand]) -> bool
-    ensures { result ≡ list_all (allows destination.now) operands.now }
-{
-    operands.iter().all(|other| allows(destination, other))
-}
-
-/// Whether each is a group.
-fn are_groups(operands: &[Operand]) -> bool
-    ensures { result ≡ list_all is_group operands.now }
-{
-    operands.iter().all(|operand| is_group(operand))
-}
-
-/// Whether each agrees with each.
-fn are_allowed(operands: &[Operand]) -> bool
-    ensures { result ≡ list_all (λ d. list_all (allows d) operands.now) operands.now }
-{
-    operands.iter().all(|operand| allows_all(operand, operands))
-}
-
-/// Whether these may be the operands of one instruction.
-#[tactic(auto, unfolding(rv_model::specs::legality::RegisterOperands::are_legal))]
-pub(crate) fn are_legal(operands: &[Operand]) -> bool
-    ensures { result ≡ are_legal operands.now }
-{
-    are_groups(operands) && are_allowed(operands)
 }

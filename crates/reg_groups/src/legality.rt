@@ -2,18 +2,17 @@
 ghost use Rattle.std.specs.Prelude.{[], ◌∷◌, ◌≡◌, ◌↔◌, ◌+◌, Some, None, true, ℕ};
 ghost use Rattle.rv_model.specs.legality.Legality.{IsLegal, access_operands, compress_operands, data_role, extension_operands, has_legal, has_wide_product, indexed_operands, indexed_role, is_below_64, is_fractional_product, is_legal, is_narrow, is_narrow_only, is_reduction, mask_logic_operands, mask_result, operands, starts_at_zero, unit_role, whole_move_operands};
 ghost use Rattle.rv_model.specs.legality.OperandShapes.{group, mask, v0};
-ghost use Rattle.rv_model.specs.legality.RegisterOperands.{are_legal};
+ghost use Rattle.rv_model.specs.legality.RegisterOperands.{are_legal, is_group};
 ghost use Rattle.rv_model.specs.vector.Configuration.{group_type, sew_width};
-ghost use Rattle.rv_model.specs.vector.Groups.{single_type};
-ghost use Rattle.reg_groups.specs.Roles.{is_apart_from_mask};
+ghost use Rattle.rv_model.specs.vector.Groups.{registers_type};
+ghost use Rattle.reg_groups.specs.Roles.{is_apart_from_mask, is_mask_outside};
 
-use crate::agreement::{are_legal, is_group};
-use crate::operands::{
-    access_groups, element_bits, extension_source, field_groups, group, mask, register,
-    whole_registers,
-};
+use crate::agreement::is_group;
+use crate::groups::registers;
+use crate::operands::{access_groups, element_bits, extension_source, field_groups, group};
 use crate::shapes::{
-    allows_v0, is_aligned, is_legal_move, is_legal_shape, is_legal_single, shape_of,
+    allows_v0, is_aligned, is_free_of_mask, is_legal_move, is_legal_shape, is_mask_register,
+    is_other_group, is_register, shape_of, stands_beside,
 };
 use rv_model::instructions::operations::{
     BinaryOp, Direction, Eew, ExtendOp, FixedPointOp, MaskUnaryOp, RegisterCount, UnitOp, VectorOp,
@@ -66,109 +65,121 @@ fn indexed_role(direction: Direction, nf: Field<3>) -> Role
     }
 }
 
-/// The destination of an operation on one mask.
-fn mask_result(op: MaskUnaryOp, vd: VReg, vtype: VType) -> Operand
-    ensures { result ≡ mask_result op vd vtype }
+/// Whether a mask may be read outside of a group.
+#[inline(always)]
+fn is_mask_outside(vd: VReg, register: VReg, vtype: VType) -> bool
+    ensures { result ≡ is_mask_outside vd register vtype }
 {
-    match op {
-        MaskUnaryOp::Viota => group(Role::Apart, vd, vtype),
-        MaskUnaryOp::Scan(_) => mask(Role::Apart, vd),
-    }
+    let size = registers(u32::from(vtype.lmul.eighths()));
+    is_mask_register(register)
+        && (register.number() < vd.number() || vd.number() + size <= register.number())
 }
 
-/// Whether one operand beside the mask is legal.
-#[tactic(auto, using(crate::proofs::Sources::masked_legal))]
-fn is_legal_with_mask(operand: &Operand, unmasked: bool) -> bool
-    ensures { result ≡ are_legal (operand.now ∷ v0 unmasked) }
+/// Whether the operands of an operation that counts in a mask are legal.
+#[inline(always)]
+#[tactic(auto, using(crate::proofs::Pairs::iota_legal))]
+fn is_legal_iota(vd: VReg, vs2: VReg, unmasked: bool, vtype: VType) -> bool
+    ensures { result ≡ are_legal (group Role.Apart vd (group_type vtype) ∷ mask Role.Read vs2 ∷ v0 unmasked) }
 {
-    is_group(operand) && allows_v0(operand, unmasked)
+    is_aligned(vd, vtype) && is_mask_outside(vd, vs2, vtype) && is_free_of_mask(vd, unmasked)
 }
 
-/// Whether a destination and a source beside the mask are legal.
-fn are_legal_with_mask(destination: Operand, source: Operand, unmasked: bool) -> bool
-    ensures { result ≡ are_legal (destination ∷ source ∷ v0 unmasked) }
+/// Whether the operands of an operation from a mask to a mask are legal.
+#[inline(always)]
+#[tactic(auto, using(crate::proofs::Pairs::scan_legal))]
+fn is_legal_scan(vd: VReg, vs2: VReg, unmasked: bool) -> bool
+    ensures { result ≡ are_legal (mask Role.Apart vd ∷ mask Role.Read vs2 ∷ v0 unmasked) }
 {
-    if unmasked {
-        are_legal(&[destination, source])
-    } else {
-        are_legal(&[destination, source, mask(Role::Control, VReg::new(0))])
-    }
-}
-
-/// Whether the operands of an extension are legal.
-fn is_legal_extension(op: ExtendOp, vd: VReg, vs2: VReg, unmasked: bool, vtype: VType) -> bool
-    ensures { result ≡ are_legal (extension_operands op vd vs2 unmasked vtype) }
-{
-    let destination = group(Role::Write, vd, vtype);
-    are_legal_with_mask(destination, extension_source(op, vs2, vtype), unmasked)
+    is_mask_register(vd)
+        && (is_mask_register(vs2) && vd.number() != vs2.number())
+        && is_free_of_mask(vd, unmasked)
 }
 
 /// Whether the operands of an operation on one mask are legal.
-#[inline(never)]
+#[inline(always)]
 fn is_legal_mask_unary(op: MaskUnaryOp, vd: VReg, vs2: VReg, unmasked: bool, vtype: VType) -> bool
     ensures { result ≡ are_legal (mask_result op vd vtype ∷ mask Role.Read vs2 ∷ v0 unmasked) }
 {
-    are_legal_with_mask(mask_result(op, vd, vtype), mask(Role::Read, vs2), unmasked)
+    match op {
+        MaskUnaryOp::Viota => is_legal_iota(vd, vs2, unmasked, vtype),
+        MaskUnaryOp::Scan(_) => is_legal_scan(vd, vs2, unmasked),
+    }
 }
 
-/// Whether the operands of an operation from a mask to a scalar register are legal.
-#[inline(never)]
+/// Whether the operands of an operation from a mask to a scalar register are legal: each mask is.
+#[inline(always)]
+#[tactic(auto, using(crate::proofs::Pairs::mask_source_legal))]
 fn is_legal_mask_source(vs2: VReg, unmasked: bool) -> bool
     ensures { result ≡ are_legal (mask Role.Read vs2 ∷ v0 unmasked) }
 {
-    is_legal_with_mask(&mask(Role::Read, vs2), unmasked)
+    is_mask_register(vs2)
 }
 
-/// Whether the operands of a write of indices are legal.
-#[inline(never)]
-fn is_legal_index(vd: VReg, unmasked: bool, vtype: VType) -> bool
-    ensures { result ≡ are_legal (group Role.Write vd (group_type vtype) ∷ v0 unmasked) }
-{
-    is_legal_with_mask(&group(Role::Write, vd, vtype), unmasked)
-}
-
-/// Whether a register of elements of SEW is a legal operand.
-#[inline(never)]
-fn is_legal_register(role: Role, first: VReg, vtype: VType) -> bool
-    ensures { result ≡ are_legal (group role first (single_type (sew_width vtype.sew)) ∷ []) }
-{
-    are_legal(&[register(role, first, vtype)])
-}
-
-/// Whether the operands of logic on masks are legal.
+/// Whether the operands of logic on masks are legal: all are.
+#[inline(always)]
+#[tactic(auto, using(crate::proofs::Pairs::mask_logic_legal))]
 fn is_legal_mask_logic(vd: VReg, vs1: VReg, vs2: VReg) -> bool
     ensures { result ≡ are_legal (mask_logic_operands vd vs1 vs2) }
 {
-    are_legal(&[
-        mask(Role::Write, vd),
-        mask(Role::Read, vs2),
-        mask(Role::Read, vs1),
-    ])
+    is_mask_register(vd) && is_mask_register(vs2) && is_mask_register(vs1)
 }
 
 /// Whether the operands of a compression are legal.
+#[inline(always)]
+#[tactic(auto, using(crate::proofs::Pairs::compress_legal))]
 fn is_legal_compression(vd: VReg, vs1: VReg, vs2: VReg, vtype: VType) -> bool
     ensures { result ≡ are_legal (compress_operands vd vs1 vs2 vtype) }
 {
-    are_legal(&[
-        group(Role::Apart, vd, vtype),
-        group(Role::Read, vs2, vtype),
-        mask(Role::Read, vs1),
-    ])
+    is_aligned(vd, vtype) && is_other_group(vd, vs2, vtype) && is_mask_outside(vd, vs1, vtype)
+}
+
+/// Whether so many whole registers may begin with a register.
+#[inline(always)]
+fn is_whole_aligned(count: RegisterCount, first: VReg, sew: Sew) -> bool
+    ensures { result ≡ is_group (group Role.Read first (registers_type (sew_width sew) count)) }
+{
+    // The width is looked at for its bounds alone.
+    let _bits = sew.bits();
+    let low_bits = match count {
+        RegisterCount::One => 0,
+        RegisterCount::Two => 1,
+        RegisterCount::Four => 3,
+        RegisterCount::Eight => 7,
+    };
+    first.number() & low_bits == 0
 }
 
 /// Whether the operands of a move of whole registers are legal.
+#[inline(always)]
+#[tactic(auto, using(crate::proofs::Pairs::whole_move_legal))]
 fn is_legal_whole_move(count: RegisterCount, vd: VReg, vs2: VReg, vtype: VType) -> bool
     ensures { result ≡ are_legal (whole_move_operands count vd vs2 vtype) }
 {
-    are_legal(&[
-        whole_registers(Role::Write, vd, vtype.sew, count),
-        whole_registers(Role::Read, vs2, vtype.sew, count),
-    ])
+    is_whole_aligned(count, vd, vtype.sew) && is_whole_aligned(count, vs2, vtype.sew)
+}
+
+/// Whether a destination and a source beside the mask are legal.
+#[inline(always)]
+#[tactic(auto, using(crate::proofs::Sources::pair_legal))]
+fn are_legal_with_mask(destination: &Operand, source: &Operand, unmasked: bool) -> bool
+    requires { source.now.role ≡ Role.Read }
+    ensures { result ≡ are_legal (destination.now ∷ source.now ∷ v0 unmasked) }
+{
+    is_group(destination) && stands_beside(destination, source) && allows_v0(destination, unmasked)
+}
+
+/// Whether the operands of an extension are legal.
+#[inline(always)]
+fn is_legal_extension(op: ExtendOp, vd: VReg, vs2: VReg, unmasked: bool, vtype: VType) -> bool
+    ensures { result ≡ are_legal (extension_operands op vd vs2 unmasked vtype) }
+{
+    let source = extension_source(op, vs2, vtype);
+    are_legal_with_mask(&group(Role::Write, vd, vtype), &source, unmasked)
 }
 
 /// Whether the operands of an access to fields of any width are legal.
-#[inline(never)]
+#[inline(always)]
+#[tactic(auto, using(crate::proofs::Sources::masked_legal))]
 fn are_legal_fields(
     role: Role,
     width: Eew,
@@ -180,7 +191,7 @@ fn are_legal_fields(
     ensures { result ≡ are_legal (access_operands role width nf vd unmasked vtype) }
 {
     let data = access_groups(role, fields(nf), vd, width, vtype);
-    is_legal_with_mask(&data, unmasked)
+    is_group(&data) && allows_v0(&data, unmasked)
 }
 
 /// Whether an operand of this role may not stand where the mask is.
@@ -224,6 +235,7 @@ fn is_legal_access(
 }
 
 /// Whether the operands of an indexed access are legal.
+#[inline(always)]
 fn is_legal_indexed(
     direction: Direction,
     width: Eew,
@@ -237,11 +249,11 @@ fn is_legal_indexed(
 {
     let data = field_groups(indexed_role(direction, nf), fields(nf), vd, vtype);
     let indices = access_groups(Role::Read, 1, vs2, width, vtype);
-    are_legal_with_mask(data, indices, unmasked)
+    are_legal_with_mask(&data, &indices, unmasked)
 }
 
 /// Whether a load or store may have its operands without a vector type: not if it needs one.
-#[tactic(auto, unfolding(rv_model::specs::legality::Legality::operands))]
+#[tactic(auto, using(crate::proofs::Sources::lone_legal), unfolding(rv_model::specs::legality::Legality::operands))]
 fn has_legal_untyped_access(instr: AccessInstr) -> bool
     ensures { result ≡ has_legal (operands (Instr.Access instr) None) }
 {
@@ -251,10 +263,8 @@ fn has_legal_untyped_access(instr: AccessInstr) -> bool
             width,
             vd,
             ..
-        } => { are_legal(&[whole_registers(Role::Write, vd, Sew::from_width(width), count)]) }
-        AccessInstr::WholeStore { count, vd, .. } => {
-            are_legal(&[whole_registers(Role::Read, vd, Sew::E8, count)])
-        }
+        } => is_whole_aligned(count, vd, Sew::from_width(width)),
+        AccessInstr::WholeStore { count, vd, .. } => { is_whole_aligned(count, vd, Sew::E8) }
         _ => false,
     }
 }
@@ -276,7 +286,7 @@ fn has_legal_untyped_operands(instr: &Instr) -> bool
 }
 
 /// Whether a load or store may have its operands under a vector type.
-#[tactic(auto, unfolding(rv_model::specs::legality::Legality::operands))]
+#[tactic(auto, using(crate::proofs::Sources::lone_legal), unfolding(rv_model::specs::legality::Legality::operands))]
 #[inline(always)]
 fn has_legal_access(instr: AccessInstr, vtype: VType) -> bool
     ensures { result ≡ has_legal (operands (Instr.Access instr) (Some vtype)) }
@@ -307,10 +317,7 @@ fn has_legal_access(instr: AccessInstr, vtype: VType) -> bool
             vm,
             ..
         } => { is_legal_indexed(direction, width, nf, vd, vs2, vm, vtype) }
-        AccessInstr::MaskAccess { direction, vd, .. } => are_legal(&[mask(
-            data_role(direction),
-            vd,
-        )]),
+        AccessInstr::MaskAccess { vd, .. } => { is_mask_register(vd) }
         AccessInstr::WholeLoad { .. } | AccessInstr::WholeStore { .. } => {
             has_legal_untyped_access(instr)
         }
@@ -318,7 +325,7 @@ fn has_legal_access(instr: AccessInstr, vtype: VType) -> bool
 }
 
 /// Whether an instruction of vectors, but for loads and stores, may have its operands under a vector type.
-#[tactic(auto, unfolding(rv_model::specs::legality::Legality::operands, rv_model::specs::legality::RegisterOperands::are_legal))]
+#[tactic(auto, using(crate::proofs::Sources::lone_legal), unfolding(rv_model::specs::legality::Legality::operands, rv_model::specs::legality::RegisterOperands::are_legal))]
 #[inline(always)]
 fn has_legal_vector(instr: VectorInstr, vtype: VType) -> bool
     ensures { result ≡ has_legal (operands (Instr.Vector instr) (Some vtype)) }
@@ -339,9 +346,9 @@ fn has_legal_vector(instr: VectorInstr, vtype: VType) -> bool
         VectorInstr::MaskToScalar { vs2, vm, .. } => is_legal_mask_source(vs2, vm),
         VectorInstr::Extend { op, vd, vs2, vm } => is_legal_extension(op, vd, vs2, vm, vtype),
         VectorInstr::MaskUnary { op, vd, vs2, vm } => is_legal_mask_unary(op, vd, vs2, vm, vtype),
-        VectorInstr::ElementIndex { vd, vm } => is_legal_index(vd, vm, vtype),
-        VectorInstr::MoveToScalar { vs2, .. } => is_legal_register(Role::Read, vs2, vtype),
-        VectorInstr::MoveToVector { vd, .. } => is_legal_register(Role::Write, vd, vtype),
+        VectorInstr::ElementIndex { vd, vm } => is_legal_group(Role::Write, vd, vm, vtype),
+        VectorInstr::MoveToScalar { vs2, .. } => is_register(vs2, vtype),
+        VectorInstr::MoveToVector { vd, .. } => is_register(vd, vtype),
         VectorInstr::SetVli { .. } | VectorInstr::SetIvli { .. } | VectorInstr::SetVl { .. } =>
             true,
     }
@@ -509,7 +516,7 @@ pub fn legal_arith(
     let (op, source) = arith.parts();
     match op {
         VectorOp::Binary(op) => {
-            is_legal_single(vd, vs2, source, unmasked, vtype)
+            is_legal_shape(Shape::Single, vd, vs2, source, unmasked, vtype)
                 && (!has_wide_product(op) || vtype.sew.bits() != 64)
         }
         _ => {

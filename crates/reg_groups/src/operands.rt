@@ -3,8 +3,8 @@ ghost use Rattle.std.specs.Prelude.{◌≡◌, ◌≤◌};
 ghost use Rattle.rv_model.specs.legality.Legality.{extension_source};
 ghost use Rattle.rv_model.specs.legality.OperandShapes.{field_groups, group, mask};
 ghost use Rattle.rv_model.specs.lending.GroupBounds.{emul};
-ghost use Rattle.rv_model.specs.vector.Configuration.{element_width, group_type, sew_bits, sew_width};
-ghost use Rattle.rv_model.specs.vector.Groups.{access_type, extension_divisor, index_type, register_count, registers_type, single_type, wide_type};
+ghost use Rattle.rv_model.specs.vector.Configuration.{element_width, group_type, sew_bits};
+ghost use Rattle.rv_model.specs.vector.Groups.{access_type, extension_divisor, index_type, register_count};
 ghost use Rattle.reg_groups.specs.Roles.{groups_of};
 
 use rv_model::instructions::operations::{Eew, ExtendOp, RegisterCount};
@@ -50,6 +50,7 @@ pub fn extension_divisor(op: ExtendOp) -> u16
 }
 
 /// For each field a group of elements of so many bits; `emul` is the multiplier of one, in eighths of a register.
+#[inline(always)]
 fn groups_of(role: Role, fields: u8, first: VReg, bits: u16, emul: u32) -> Operand
     ensures { result ≡ groups_of role fields first bits emul }
 {
@@ -63,6 +64,7 @@ fn groups_of(role: Role, fields: u8, first: VReg, bits: u16, emul: u32) -> Opera
 }
 
 /// The fields of a segment, each a group of the vector type.
+#[inline(always)]
 pub(crate) fn field_groups(role: Role, fields: u8, first: VReg, vtype: VType) -> Operand
     ensures { result ≡ field_groups role fields first (group_type vtype) }
 {
@@ -71,22 +73,15 @@ pub(crate) fn field_groups(role: Role, fields: u8, first: VReg, vtype: VType) ->
 }
 
 /// A group of the vector type.
+#[inline(always)]
 pub(crate) fn group(role: Role, first: VReg, vtype: VType) -> Operand
     ensures { result ≡ group role first (group_type vtype) }
 {
     field_groups(role, 1, first, vtype)
 }
 
-/// A group of elements of twice SEW, as many as the vector type has.
-#[tactic(auto, using(crate::proofs::Widths::doubled_group))]
-pub(crate) fn wide_group(role: Role, first: VReg, vtype: VType) -> Operand
-    ensures { result ≡ group role first (wide_type vtype) }
-{
-    let bits = 2 * vtype.sew.bits();
-    groups_of(role, 1, first, bits, emul(bits, vtype))
-}
-
 /// A group of indices of 16 bits, as many as the vector type has elements.
+#[inline(always)]
 pub(crate) fn index_group(role: Role, first: VReg, vtype: VType) -> Operand
     ensures { result ≡ group role first (index_type (group_type vtype)) }
 {
@@ -94,6 +89,7 @@ pub(crate) fn index_group(role: Role, first: VReg, vtype: VType) -> Operand
 }
 
 /// The fields of a load or store, each a group of elements of its width, as many as the vector type has.
+#[inline(always)]
 pub(crate) fn access_groups(
     role: Role,
     fields: u8,
@@ -109,6 +105,7 @@ pub(crate) fn access_groups(
 
 /// vs2 of an extension: a group of elements of a part of SEW, which may be below 8 bits.
 #[tactic(auto, using(crate::proofs::Widths::part_group))]
+#[inline(always)]
 pub(crate) fn extension_source(op: ExtendOp, first: VReg, vtype: VType) -> Operand
     ensures { result ≡ extension_source op first vtype }
 {
@@ -116,35 +113,8 @@ pub(crate) fn extension_source(op: ExtendOp, first: VReg, vtype: VType) -> Opera
     groups_of(Role::Read, 1, first, bits, emul(bits.max(8), vtype))
 }
 
-/// A register of elements of SEW.
-pub(crate) fn register(role: Role, first: VReg, vtype: VType) -> Operand
-    ensures { result ≡ group role first (single_type (sew_width vtype.sew)) }
-{
-    groups_of(role, 1, first, vtype.sew.bits(), 8)
-}
-
-/// A register of elements of twice SEW.
-#[tactic(auto, using(crate::proofs::Widths::doubled_register))]
-pub(crate) fn wide_register(role: Role, first: VReg, vtype: VType) -> Operand
-    ensures { result ≡ group role first (single_type (wide_type vtype).width) }
-{
-    groups_of(role, 1, first, 2 * vtype.sew.bits(), 8)
-}
-
-/// Whole registers of elements of a width.
-pub(crate) fn whole_registers(role: Role, first: VReg, sew: Sew, count: RegisterCount) -> Operand
-    ensures { result ≡ group role first (registers_type (sew_width sew) count) }
-{
-    groups_of(
-        role,
-        1,
-        first,
-        sew.bits(),
-        8 * u32::from(register_count(count)),
-    )
-}
-
 /// A register with a mask.
+#[inline(always)]
 pub(crate) fn mask(role: Role, first: VReg) -> Operand
     ensures { result ≡ mask role first }
 {

@@ -1,16 +1,16 @@
 //! The register operands of a vector operation, by its shape ("V" Vector Extension 1.0, sections 5.2,
 //! 10.2, 11, 12, 14 and 16).
-ghost use Rattle.std.specs.Prelude.{◌&&◌, ◌||◌, ◌≡◌};
+ghost use Rattle.std.specs.Prelude.{◌||◌, ◌≡◌, ◌==◌, ◌*◌, not, true};
 ghost use Rattle.rv_model.specs.legality.Legality.{move_operands};
 ghost use Rattle.rv_model.specs.legality.OperandShapes.{destination, first_source, group, mask, permute_shape, shape_of, shape_operands, vector_source};
 ghost use Rattle.rv_model.specs.legality.RegisterOperands.{allows, are_legal, is_group};
-ghost use Rattle.rv_model.specs.vector.Configuration.{group_type, sew_width};
-ghost use Rattle.rv_model.specs.vector.Groups.{single_type};
-ghost use Rattle.reg_groups.specs.Roles.{of_vector, stands_beside};
+ghost use Rattle.rv_model.specs.vector.Configuration.{group_type, lmul_eighths, sew_width};
+ghost use Rattle.rv_model.specs.vector.Groups.{single_type, wide_type};
+ghost use Rattle.reg_groups.specs.Roles.{groups_of, is_beside_mask, is_other_group, is_wide_beside, of_vector, stands_beside};
 
 use crate::agreement::{allows, is_group};
 use crate::groups::registers;
-use crate::operands::{group, index_group, mask, register, wide_group, wide_register};
+use crate::operands::{group, index_group, mask};
 use rv_model::instructions::operations::{PermuteOp, VectorOp};
 use rv_model::{Lmul, Operand, Role, Shape, Source, VReg, VType};
 
@@ -42,53 +42,6 @@ pub(crate) fn shape_of(op: VectorOp) -> Shape
     }
 }
 
-/// What `vd` is to an operation of this shape.
-fn destination(shape: Shape, vd: VReg, vtype: VType) -> Operand
-    ensures { result ≡ destination shape vd vtype }
-{
-    match shape {
-        Shape::Single | Shape::Narrowing => group(Role::Write, vd, vtype),
-        Shape::Widening | Shape::WideSource => wide_group(Role::Write, vd, vtype),
-        Shape::Compare => mask(Role::Write, vd),
-        Shape::Gather | Shape::GatherIndices16 => group(Role::Apart, vd, vtype),
-        Shape::Reduction => register(Role::Free, vd, vtype),
-        Shape::WideReduction => wide_register(Role::Free, vd, vtype),
-    }
-}
-
-/// What `vs2` is to an operation of this shape.
-fn first_source(shape: Shape, vs2: VReg, vtype: VType) -> Operand
-    ensures { result ≡ first_source shape vs2 vtype }
-{
-    match shape {
-        Shape::WideSource | Shape::Narrowing => wide_group(Role::Read, vs2, vtype),
-        Shape::Single
-        | Shape::Widening
-        | Shape::Compare
-        | Shape::Gather
-        | Shape::GatherIndices16
-        | Shape::Reduction
-        | Shape::WideReduction => group(Role::Read, vs2, vtype),
-    }
-}
-
-/// What `vs1` is to an operation of this shape.
-fn vector_source(shape: Shape, vs1: VReg, vtype: VType) -> Operand
-    ensures { result ≡ vector_source shape vs1 vtype }
-{
-    match shape {
-        Shape::GatherIndices16 => index_group(Role::Read, vs1, vtype),
-        Shape::Reduction => register(Role::Read, vs1, vtype),
-        Shape::WideReduction => wide_register(Role::Read, vs1, vtype),
-        Shape::Single
-        | Shape::Widening
-        | Shape::WideSource
-        | Shape::Narrowing
-        | Shape::Compare
-        | Shape::Gather => group(Role::Read, vs1, vtype),
-    }
-}
-
 /// Whether a group of the vector type's multiplier may begin with a register. One that is aligned ends inside
 /// the file.
 #[inline(always)]
@@ -104,70 +57,213 @@ pub(crate) fn is_aligned(first: VReg, vtype: VType) -> bool
     first.number() & low_bits == 0
 }
 
-/// The same of a second source, if it is a group.
+/// Whether a destination begins after the mask of the same instruction, if that has one.
 #[inline(always)]
-fn is_source_aligned(source: Source, vtype: VType) -> bool
-    ensures { result ≡ of_vector source (λ vs1. is_group (group Role.Read vs1 (group_type vtype))) }
+pub(crate) fn is_free_of_mask(vd: VReg, unmasked: bool) -> bool
+    ensures { result ≡ (unmasked || not (vd == 0)) }
 {
-    match source {
-        Source::V(vs1) => is_aligned(vs1, vtype),
-        Source::X(_) | Source::I(_) => true,
-    }
-}
-
-/// Whether an operation whose operands all have SEW may have these. Equal widths may overlap, and an
-/// aligned group that holds v0 begins with it.
-#[inline(always)]
-#[tactic(auto, using(crate::proofs::EqualWidths::single_legal))]
-pub(crate) fn is_legal_single(
-    vd: VReg,
-    vs2: VReg,
-    source: Source,
-    unmasked: bool,
-    vtype: VType,
-) -> bool
-    ensures { result ≡ are_legal (shape_operands Shape.Single vd vs2 source unmasked vtype) }
-{
-    is_aligned(vd, vtype)
-        && is_aligned(vs2, vtype)
-        && is_source_aligned(source, vtype)
-        && (unmasked || vd.number() != 0)
-}
-
-/// Whether a move of one group may have these operands.
-#[tactic(auto, using(crate::proofs::EqualWidths::move_legal))]
-pub(crate) fn is_legal_move(source: Source, vd: VReg, vtype: VType) -> bool
-    ensures { result ≡ are_legal (move_operands source vd vtype) }
-{
-    is_aligned(vd, vtype) && is_source_aligned(source, vtype)
+    unmasked || vd.number() != 0
 }
 
 /// Whether a source is a group, and the destination agrees with it.
-fn stands_beside(destination: &Operand, source: &Operand) -> bool
+#[inline(always)]
+pub(crate) fn stands_beside(destination: &Operand, source: &Operand) -> bool
     ensures { result ≡ stands_beside destination.now source.now }
 {
     is_group(source) && allows(destination, source)
 }
 
-/// The same of a second source, if it is one of vectors.
-fn stands_beside_second(destination: &Operand, shape: Shape, source: Source, vtype: VType) -> bool
-    ensures { result ≡ of_vector source (λ vs1. stands_beside destination.now (vector_source shape vs1 vtype)) }
-{
-    match source {
-        Source::V(vs1) => stands_beside(destination, &vector_source(shape, vs1, vtype)),
-        Source::X(_) | Source::I(_) => true,
-    }
-}
-
 /// Whether what an instruction does with the registers of an operand agrees with its mask, if it has one.
+#[inline(always)]
 pub(crate) fn allows_v0(operand: &Operand, unmasked: bool) -> bool
     ensures { result ≡ (unmasked || allows operand.now (mask Role.Control 0)) }
 {
     unmasked || allows(operand, &mask(Role::Control, VReg::new(0)))
 }
 
+/// Whether a group may be read where a mask is written: the mask is outside of it, or its first register.
+#[inline(always)]
+fn is_beside_mask(vd: VReg, first: VReg, vtype: VType) -> bool
+    ensures { result ≡ is_beside_mask vd first vtype }
+{
+    let size = registers(u32::from(vtype.lmul.eighths()));
+    is_aligned(first, vtype)
+        && (vd.number() <= first.number() || first.number() + size <= vd.number())
+}
+
+/// Whether a register may hold a mask: each may.
+#[inline(always)]
+pub(crate) fn is_mask_register(register: VReg) -> bool
+    ensures { result ≡ is_group (mask Role.Read register) }
+{
+    // The number is looked at for its bound alone, of which the proof is made.
+    let _number = register.number();
+    true
+}
+
+/// Whether a register may hold elements of SEW: each may.
+#[inline(always)]
+pub(crate) fn is_register(register: VReg, vtype: VType) -> bool
+    ensures { result ≡ is_group (group Role.Read register (single_type (sew_width vtype.sew))) }
+{
+    // The number and the width are looked at for their bounds alone.
+    let _number = register.number();
+    let _bits = vtype.sew.bits();
+    true
+}
+
+/// Whether a register may hold elements of twice SEW.
+#[inline(always)]
+#[tactic(auto, using(crate::proofs::Widths::doubled_bits))]
+fn is_wide_register(register: VReg, vtype: VType) -> bool
+    ensures { result ≡ is_group (group Role.Read register (single_type (wide_type vtype).width)) }
+{
+    let _number = register.number();
+    vtype.sew.bits() != 64
+}
+
+/// Whether a group of twice the vector type's multiplier may begin with a register. There is none if LMUL is 8.
+#[inline(always)]
+fn is_aligned_twice(first: VReg, vtype: VType) -> bool
+    ensures { result ≡ is_group (groups_of Role.Read 1 first 8 (2 * lmul_eighths vtype.lmul)) }
+{
+    let low_bits = match vtype.lmul {
+        Lmul::Mf8 | Lmul::Mf4 | Lmul::Mf2 => 0,
+        Lmul::M1 => 1,
+        Lmul::M2 => 3,
+        Lmul::M4 => 7,
+        Lmul::M8 => return false,
+    };
+    first.number() & low_bits == 0
+}
+
+/// Whether a group of elements of twice SEW may begin with a register. There is none if SEW is 64.
+#[inline(always)]
+#[tactic(auto, using(crate::proofs::Pairs::wide_aligned))]
+fn is_wide_aligned(first: VReg, vtype: VType) -> bool
+    ensures { result ≡ is_group (group Role.Read first (wide_type vtype)) }
+{
+    vtype.sew.bits() != 64 && is_aligned_twice(first, vtype)
+}
+
+/// Whether a group of the vector type may begin with a register, which is another one than `vd`.
+#[inline(always)]
+pub(crate) fn is_other_group(vd: VReg, first: VReg, vtype: VType) -> bool
+    ensures { result ≡ is_other_group vd first vtype }
+{
+    is_aligned(first, vtype) && vd.number() != first.number()
+}
+
+/// Whether a group of elements of twice SEW may be read where one of the vector type is written: it doesn't
+/// hold it beyond its own first registers.
+#[inline(always)]
+fn is_wide_beside(vd: VReg, first: VReg, vtype: VType) -> bool
+    ensures { result ≡ is_wide_beside vd first vtype }
+{
+    let size = registers(2 * u32::from(vtype.lmul.eighths()));
+    is_wide_aligned(first, vtype)
+        && (vd.number() <= first.number() || first.number() + size <= vd.number())
+}
+
+/// Whether a group of indices of 16 bits may be read beside a destination that may not overlap it.
+#[inline(always)]
+fn are_indices_apart(vd: VReg, first: VReg, vtype: VType) -> bool
+    ensures { result ≡ stands_beside (destination Shape.GatherIndices16 vd vtype) (vector_source Shape.GatherIndices16 first vtype) }
+{
+    let indices = index_group(Role::Read, first, vtype);
+    stands_beside(&group(Role::Apart, vd, vtype), &indices)
+}
+
+/// Whether `vd` may be the destination of an operation of this shape.
+#[inline(always)]
+fn is_destination(shape: Shape, vd: VReg, vtype: VType) -> bool
+    ensures { result ≡ is_group (destination shape vd vtype) }
+{
+    match shape {
+        Shape::Single | Shape::Narrowing | Shape::Gather | Shape::GatherIndices16 => {
+            is_aligned(vd, vtype)
+        }
+        Shape::Widening | Shape::WideSource => is_wide_aligned(vd, vtype),
+        Shape::Compare => is_mask_register(vd),
+        Shape::Reduction => is_register(vd, vtype),
+        Shape::WideReduction => is_wide_register(vd, vtype),
+    }
+}
+
+/// Whether `vs2` may be read beside a destination that is one. A narrow group may overlap the upper half of a
+/// wide destination, so that it doesn't begin with it; an aligned one that overlaps another of its size does.
+#[inline(always)]
+#[tactic(auto, using(crate::proofs::Pairs::equal_beside, crate::proofs::Pairs::widening_beside, crate::proofs::Pairs::narrowing_beside, crate::proofs::Pairs::apart_beside, crate::proofs::Pairs::compare_beside, crate::proofs::Pairs::free_beside))]
+fn is_first_source(shape: Shape, vd: VReg, vs2: VReg, vtype: VType) -> bool
+    ensures { is_group (destination shape vd vtype) ≡ true
+        → result ≡ stands_beside (destination shape vd vtype) (first_source shape vs2 vtype) }
+{
+    match shape {
+        Shape::Single | Shape::Reduction | Shape::WideReduction => is_aligned(vs2, vtype),
+        Shape::Widening | Shape::Gather | Shape::GatherIndices16 => is_other_group(vd, vs2, vtype),
+        Shape::WideSource => is_wide_aligned(vs2, vtype),
+        Shape::Narrowing => is_wide_beside(vd, vs2, vtype),
+        Shape::Compare => is_beside_mask(vd, vs2, vtype),
+    }
+}
+
+/// Whether `vs1` may be.
+#[inline(always)]
+#[tactic(auto, using(crate::proofs::Pairs::equal_beside, crate::proofs::Pairs::widening_beside, crate::proofs::Pairs::apart_beside, crate::proofs::Pairs::compare_beside, crate::proofs::Pairs::free_beside))]
+fn is_vector_source(shape: Shape, vd: VReg, vs1: VReg, vtype: VType) -> bool
+    ensures { is_group (destination shape vd vtype) ≡ true
+        → result ≡ stands_beside (destination shape vd vtype) (vector_source shape vs1 vtype) }
+{
+    match shape {
+        Shape::Single | Shape::Narrowing => is_aligned(vs1, vtype),
+        Shape::Widening | Shape::WideSource | Shape::Gather => is_other_group(vd, vs1, vtype),
+        Shape::GatherIndices16 => are_indices_apart(vd, vs1, vtype),
+        Shape::Compare => is_beside_mask(vd, vs1, vtype),
+        Shape::Reduction => is_register(vs1, vtype),
+        Shape::WideReduction => is_wide_register(vs1, vtype),
+    }
+}
+
+/// Whether a second source may be, if it is one of vectors.
+#[inline(always)]
+fn is_second_source(shape: Shape, vd: VReg, source: Source, vtype: VType) -> bool
+    ensures { is_group (destination shape vd vtype) ≡ true
+        → result ≡ of_vector source (λ vs1. stands_beside (destination shape vd vtype) (vector_source shape vs1 vtype)) }
+{
+    match source {
+        Source::V(vs1) => is_vector_source(shape, vd, vs1, vtype),
+        Source::X(_) | Source::I(_) => true,
+    }
+}
+
+/// Whether the destination agrees with the mask of the same instruction, if that has one. A mask may be v0.
+#[inline(always)]
+#[tactic(auto, using(crate::proofs::EqualWidths::role_allows, crate::proofs::Pairs::mask_over_v0))]
+fn is_beside_v0(shape: Shape, vd: VReg, unmasked: bool, vtype: VType) -> bool
+    ensures { result ≡ (unmasked || allows (destination shape vd vtype) (mask Role.Control 0)) }
+{
+    match shape {
+        Shape::Compare | Shape::Reduction | Shape::WideReduction => true,
+        Shape::Single
+        | Shape::Widening
+        | Shape::WideSource
+        | Shape::Narrowing
+        | Shape::Gather
+        | Shape::GatherIndices16 => is_free_of_mask(vd, unmasked),
+    }
+}
+
+/// Whether a move of one group may have these operands.
+#[inline(always)]
+#[tactic(auto, using(crate::proofs::EqualWidths::move_legal))]
+pub(crate) fn is_legal_move(source: Source, vd: VReg, vtype: VType) -> bool
+    ensures { result ≡ are_legal (move_operands source vd vtype) }
+{
+    is_destination(Shape::Single, vd, vtype) && is_second_source(Shape::Single, vd, source, vtype)
+}
+
 /// Whether an operation of any shape may have these operands.
-#[inline(never)]
+#[inline(always)]
 #[tactic(auto, using(crate::proofs::Sources::shape_legal))]
 fn are_legal_operands(
     shape: Shape,
@@ -179,86 +275,13 @@ fn are_legal_operands(
 ) -> bool
     ensures { result ≡ are_legal (shape_operands shape vd vs2 source unmasked vtype) }
 {
-    let destination = destination(shape, vd, vtype);
-    is_group(&destination)
-        && stands_beside(&destination, &first_source(shape, vs2, vtype))
-        && stands_beside_second(&destination, shape, source, vtype)
-        && allows_v0(&destination, unmasked)
+    is_destination(shape, vd, vtype)
+        && is_first_source(shape, vd, vs2, vtype)
+        && is_second_source(shape, vd, source, vtype)
+        && is_beside_v0(shape, vd, unmasked, vtype)
 }
 
-/// Whether a mask may be written to a register beside a group that is read: outside of it, or its first.
-#[inline(always)]
-#[tactic(auto, using(crate::proofs::SingleRegisters::mask_allows))]
-fn allows_mask(register: VReg, first: VReg, vtype: VType) -> bool
-    ensures { result ≡ allows (mask Role.Write register) (group Role.Read first (group_type vtype)) }
-{
-    let size = registers(u32::from(vtype.lmul.eighths()));
-    register.number() <= first.number() || first.number() + size <= register.number()
-}
-
-/// Whether a group may be read where a mask is written.
-#[inline(always)]
-fn is_beside_mask(register: VReg, first: VReg, vtype: VType) -> bool
-    ensures { result ≡ stands_beside (mask Role.Write register) (group Role.Read first (group_type vtype)) }
-{
-    is_aligned(first, vtype) && allows_mask(register, first, vtype)
-}
-
-/// The same of a second source, if it is a group.
-#[inline(always)]
-fn is_source_beside_mask(register: VReg, source: Source, vtype: VType) -> bool
-    ensures { result ≡ of_vector source (λ vs1. stands_beside (mask Role.Write register) (group Role.Read vs1 (group_type vtype))) }
-{
-    match source {
-        Source::V(vs1) => is_beside_mask(register, vs1, vtype),
-        Source::X(_) | Source::I(_) => true,
-    }
-}
-
-/// Whether a comparison to a mask may have these operands. The mask may be v0.
-#[inline(always)]
-#[tactic(auto, using(crate::proofs::SingleRegisters::compare_legal))]
-fn is_legal_compare(vd: VReg, vs2: VReg, source: Source, unmasked: bool, vtype: VType) -> bool
-    ensures { result ≡ are_legal (shape_operands Shape.Compare vd vs2 source unmasked vtype) }
-{
-    is_register(vd, vtype)
-        && is_beside_mask(vd, vs2, vtype)
-        && is_source_beside_mask(vd, source, vtype)
-}
-
-/// Whether a register may stand by itself: each may.
-#[inline(always)]
-fn is_register(register: VReg, vtype: VType) -> bool
-    ensures free { result ≡ is_group (group Role.Free register (single_type (sew_width vtype.sew))) }
-    ensures mask { result ≡ is_group (mask Role.Write register) }
-{
-    // The number and the width are looked at for their bounds alone, of which the proof is made.
-    let _number = register.number();
-    let _bits = vtype.sew.bits();
-    true
-}
-
-/// The same of a second source, if it is a register.
-#[inline(always)]
-fn is_source_register(source: Source, vtype: VType) -> bool
-    ensures { result ≡ of_vector source (λ vs1. is_group (group Role.Read vs1 (single_type (sew_width vtype.sew)))) }
-{
-    match source {
-        Source::V(vs1) => is_register(vs1, vtype),
-        Source::X(_) | Source::I(_) => true,
-    }
-}
-
-/// Whether a reduction may have these operands: of one register each, which may overlap anything, but for vs2.
-#[inline(always)]
-#[tactic(auto, using(crate::proofs::SingleRegisters::reduction_legal))]
-fn is_legal_reduction(vd: VReg, vs2: VReg, source: Source, unmasked: bool, vtype: VType) -> bool
-    ensures { result ≡ are_legal (shape_operands Shape.Reduction vd vs2 source unmasked vtype) }
-{
-    is_register(vd, vtype) && is_aligned(vs2, vtype) && is_source_register(source, vtype)
-}
-
-/// The same, by a shorter test for the shapes that are most used.
+/// The same, where the shape is known in each arm, so that the tests of each are short.
 #[inline(always)]
 pub(crate) fn is_legal_shape(
     shape: Shape,
@@ -271,14 +294,35 @@ pub(crate) fn is_legal_shape(
     ensures { result ≡ are_legal (shape_operands shape vd vs2 source unmasked vtype) }
 {
     match shape {
-        Shape::Single => is_legal_single(vd, vs2, source, unmasked, vtype),
-        Shape::Compare => is_legal_compare(vd, vs2, source, unmasked, vtype),
-        Shape::Reduction => is_legal_reduction(vd, vs2, source, unmasked, vtype),
-        Shape::Widening
-        | Shape::WideSource
-        | Shape::Narrowing
-        | Shape::Gather
-        | Shape::GatherIndices16
-        | Shape::WideReduction => are_legal_operands(shape, vd, vs2, source, unmasked, vtype),
+        Shape::Single => are_legal_operands(Shape::Single, vd, vs2, source, unmasked, vtype),
+        Shape::Widening => are_legal_operands(Shape::Widening, vd, vs2, source, unmasked, vtype),
+        Shape::WideSource => are_legal_operands(
+            Shape::WideSource,
+            vd,
+            vs2,
+            source,
+            unmasked,
+            vtype,
+        ),
+        Shape::Narrowing => are_legal_operands(Shape::Narrowing, vd, vs2, source, unmasked, vtype),
+        Shape::Compare => are_legal_operands(Shape::Compare, vd, vs2, source, unmasked, vtype),
+        Shape::Gather => are_legal_operands(Shape::Gather, vd, vs2, source, unmasked, vtype),
+        Shape::GatherIndices16 => are_legal_operands(
+            Shape::GatherIndices16,
+            vd,
+            vs2,
+            source,
+            unmasked,
+            vtype,
+        ),
+        Shape::Reduction => are_legal_operands(Shape::Reduction, vd, vs2, source, unmasked, vtype),
+        Shape::WideReduction => are_legal_operands(
+            Shape::WideReduction,
+            vd,
+            vs2,
+            source,
+            unmasked,
+            vtype,
+        ),
     }
 }
