@@ -3,6 +3,7 @@
 #![tactic(auto)]
 
 mod gathers;
+mod moved;
 mod packing;
 mod slides;
 

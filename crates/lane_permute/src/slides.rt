@@ -7,7 +7,9 @@ ghost use Rattle.rv_model.specs.elements.Permutations.{from_offset, slid_down, s
 ghost use Rattle.rv_model.specs.vector.Configuration.{width_bytes};
 
 use crate::gathers::gathered;
+use crate::moved::{elements_around, first_then, moved_up};
 use lane_arith::{Body, Lane, Results};
+use rv_model::GROUP_BYTES;
 
 /// vslideup (section 16.3.1): the elements of `a`, those of vs2, `offset` places up. Below the offset no
 /// element changes: the results are for the elements of `SlideUp::body`. The offset is unsigned, of 64 bits
@@ -36,6 +38,14 @@ impl<'a, L: Lane> Results<L> for SlideUp<'a> {
     fn result(&self, index: usize) -> L {
         L::load(self.a, index.saturating_sub(self.offset as usize))
     }
+
+    fn chunk_results(&self, chunk: usize) -> Option<L::Vector> {
+        if self.a.len() < 32 {
+            return None;
+        }
+        let made = moved_up::<L>(self.a, self.offset, L::load(self.a, 0), chunk)?;
+        Some(made)
+    }
 }
 
 /// vslidedown (section 16.3.2): the elements of `a`, those of vs2, `offset` places down. The source has
@@ -55,6 +65,17 @@ impl<'a, L: Lane> Results<L> for SlideDown<'a> {
 
     fn result(&self, index: usize) -> L {
         gathered(self.a, self.limit, self.offset.saturating_add(index as u64))
+    }
+
+    fn chunk_results(&self, chunk: usize) -> Option<L::Vector> {
+        let (count, width) = (L::count(), L::bits() as usize / 8);
+        if self.a.len() / width < self.limit {
+            return None;
+        }
+        let place = self.offset.saturating_add((count * chunk) as u64);
+        let from = place.min(self.limit as u64) as usize;
+        let made = elements_around::<L>(&self.a[..width * self.limit], from + count)?;
+        Some(made)
     }
 }
 
@@ -78,6 +99,11 @@ impl<'a, L: Lane> Results<L> for SlideOneUp<'a, L> {
             L::load(self.a, index - 1)
         }
     }
+
+    fn chunk_results(&self, chunk: usize) -> Option<L::Vector> {
+        let made = moved_up::<L>(self.a, 1, self.first, chunk)?;
+        Some(made)
+    }
 }
 
 /// vslide1down (section 16.3.5): the elements of `a`, those of vs2, one place down, and `last`, the low bits of
@@ -100,5 +126,14 @@ impl<'a, L: Lane> Results<L> for SlideOneDown<'a, L> {
         } else {
             L::load(self.a, index + 1)
         }
+    }
+
+    fn chunk_results(&self, chunk: usize) -> Option<L::Vector> {
+        let (first, count) = (L::count() * chunk, L::count());
+        let before = self.end.saturating_sub(first + 1).min(count);
+        let to = self.end.saturating_sub(first).min(count);
+        let moved = elements_around::<L>(self.a, first + count + 1)?;
+        let rest = first_then::<L>(L::repeated(self.last), moved, to);
+        Some(first_then::<L>(moved, rest, before))
     }
 }
