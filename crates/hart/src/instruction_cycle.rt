@@ -17,7 +17,7 @@ use crate::vectors::Vectors;
 use crate::view::View;
 use arrayvec::ArrayVec;
 use rv_decode::decode_scalar;
-use rv_model::{Access, Cause, Fault, GROUP_BYTES, Instr, OUTPUT_SIZE, Policy, Scalar, StepEnd};
+use rv_model::{Access, Cause, Fault, GROUP_BYTES, OUTPUT_SIZE, Policy, Scalar, StepEnd};
 use vector_memory::UserBytes;
 
 /// The word at an address.
@@ -98,7 +98,7 @@ fn execute<M: UserBytes, V: Vectors>(
         (hart_state scalar.old (V.lent vectors.old).state (M.memory memory.old) policy) vectors.old vectors.new }
 {
     let decoded = decode_scalar(word);
-    if let Some(Instr::Scalar(instr)) = &decoded {
+    if let Some(instr) = &decoded {
         return (execute_scalar(instr, scalar, memory), 1);
     }
     hand_on(word, scalar, memory, vectors, output, limit, policy)

@@ -7,7 +7,7 @@ ghost use Rattle.hart.specs.States.{LeadsScalar};
 use crate::control_transfer::{branch_target, jump, jump_if, jump_target, register_target};
 use crate::loads_and_stores::{access_address, load, store};
 use crate::retirement::{retire, write_rd};
-use rv_model::{Instr, Scalar, ScalarInstr, StepEnd};
+use rv_model::{Scalar, ScalarInstr, StepEnd};
 use scalar_core::{
     alu, branch, i_immediate, register_immediate, s_immediate, shift_immediate,
     shift_immediate_word, upper_immediate,
@@ -21,7 +21,7 @@ pub(crate) fn execute_scalar<M: UserBytes>(
     scalar: &mut Scalar,
     memory: &mut M,
 ) -> StepEnd
-    requires { is_scalar (Instr.Scalar instr.now) ≡ true }
+    requires { is_scalar instr.now ≡ true }
     ensures model { LeadsScalar (scalar_step instr.now)
         scalar.old (M.memory memory.old) scalar.new (M.memory memory.new) result }
     ensures memory { memory.new ≡ M.with_memory memory.old (M.memory memory.new) }

@@ -18,11 +18,9 @@ use crate::faults::illegal;
 use crate::retirement::write_rd;
 use crate::vectors::Vectors;
 use arrayvec::ArrayVec;
-use rv_decode::decode_system;
+use rv_decode::{decode_call, decode_csr};
 use rv_model::instructions::operations::CsrOp;
-use rv_model::{
-    ControlRegister, CsrInstr, Field, Instr, OUTPUT_SIZE, Reg, Scalar, ScalarInstr, StepEnd,
-};
+use rv_model::{ControlRegister, CsrInstr, Field, OUTPUT_SIZE, Reg, Scalar, StepEnd};
 use vector_memory::UserBytes;
 
 /// An access of the control register of this number.
@@ -118,14 +116,17 @@ pub(crate) fn execute_system<M: UserBytes, V: Vectors>(
         ≡ (if touches (scan table word) then V.back vectors.old (V.lent vectors.new) else vectors.old) }
     ensures ready { V.ready vectors.new }
 {
-    let decoded = decode_system(word);
+    if let Some(op) = decode_call(word) {
+        *end = system(op, scalar, memory, output);
+        return;
+    }
+    let decoded = decode_csr(word);
     let Some(instr) = &decoded else {
         *end = illegal(word, scalar);
         return;
     };
     *end = match *instr {
-        Instr::Scalar(ScalarInstr::System { op }) => system(op, scalar, memory, output),
-        Instr::Csr(CsrInstr::Register { op, rd, rs1, csr }) => {
+        CsrInstr::Register { op, rd, rs1, csr } => {
             let access = ControlAccess {
                 csr,
                 op,
@@ -135,7 +136,7 @@ pub(crate) fn execute_system<M: UserBytes, V: Vectors>(
             };
             access_control(access, word, scalar, vectors)
         }
-        Instr::Csr(CsrInstr::Immediate { op, rd, imm, csr }) => {
+        CsrInstr::Immediate { op, rd, imm, csr } => {
             let access = ControlAccess {
                 csr,
                 op: csr_form(op),
@@ -145,6 +146,5 @@ pub(crate) fn execute_system<M: UserBytes, V: Vectors>(
             };
             access_control(access, word, scalar, vectors)
         }
-        _ => unreachable!(),
     };
 }

@@ -1,9 +1,10 @@
 //! How many ticks vector instructions take.
 ghost use Rattle.std.specs.Prelude.{◌≡◌, ℕ};
+ghost use Rattle.rv_model.specs.declared.instructions.instruction.Instr.TheVariants as instr;
 ghost use Rattle.rv_model.specs.step.Hart.{HartState};
 ghost use Rattle.rv_model.specs.step.VectorStep.{after_vector, vector_ends, vector_executed, vector_step};
 
-use rv_model::{AccessInstr, Instr, VEnd, VState};
+use rv_model::{AccessInstr, VEnd, VState};
 use vector_memory::index_count;
 
 /// The vector length and `vstart` that an instruction finds.
@@ -39,8 +40,8 @@ pub(crate) fn access_ticks(
 ) -> usize
     ensures { (word : ℕ) (before after : HartState)
         → before.vector.conf.vl ≡ found.vl → before.vector.vstart ≡ found.vstart → after.vector ≡ state.now
-        → vector_executed limit (Instr.Access access.now) before ≡ vector_ends end after
-        → vector_step limit (Instr.Access access.now) word before ≡ after_vector result end word after }
+        → vector_executed limit (instr.Access access.now) before ≡ vector_ends end after
+        → vector_step limit (instr.Access access.now) word before ≡ after_vector result end word after }
 {
     match end {
         VEnd::Done => {
@@ -55,25 +56,5 @@ pub(crate) fn access_ticks(
         VEnd::Illegal => 1,
         VEnd::Fault { .. } => usize::from(state.vstart).saturating_sub(found.vstart) + 1,
         VEnd::Cut { .. } => limit,
-    }
-}
-
-/// The ticks of a vector instruction: the same of a load or store, and one of any other.
-#[inline(always)]
-pub(crate) fn vector_ticks(
-    instr: &Instr,
-    limit: usize,
-    found: Found,
-    state: &VState,
-    end: VEnd,
-) -> usize
-    ensures { (word : ℕ) (before after : HartState)
-        → before.vector.conf.vl ≡ found.vl → before.vector.vstart ≡ found.vstart → after.vector ≡ state.now
-        → vector_executed limit instr.now before ≡ vector_ends end after
-        → vector_step limit instr.now word before ≡ after_vector result end word after }
-{
-    match instr {
-        Instr::Access(access) => access_ticks(access, limit, found, state, end),
-        Instr::Scalar(_) | Instr::Csr(_) | Instr::Vector(_) => 1,
     }
 }

@@ -11,11 +11,13 @@ ghost use Rattle.hart.specs.States.{Leads, Returns};
 
 use crate::faults::{fault, illegal};
 use crate::retirement::retire;
-use crate::ticks::{Found, access_ticks, vector_ticks};
+use crate::ticks::{Found, access_ticks};
 use crate::vectors::Vectors;
-use rv_decode::{ArithOperation, decode_regular, decode_rest, decode_unit_stride};
-use rv_model::{Cause, Instr, Policy, Scalar, Seat, StepEnd, VEnd};
-use vec_unit::{exec_access, exec_arith, exec_rest};
+use rv_decode::{
+    ArithOperation, decode_irregular, decode_other_access, decode_regular, decode_unit_stride,
+};
+use rv_model::{Cause, Policy, Scalar, Seat, StepEnd, VEnd};
+use vec_unit::{exec_access, exec_arith, exec_operation, exec_other_access};
 use vector_memory::UserBytes;
 
 /// Why an access is refused.
@@ -72,7 +74,7 @@ fn retire_vector(
 
 /// Carries out the vector instruction that a word is which is neither a regular operation nor an access of unit stride, within
 /// `limit` ticks. Writes how it ended over `Ran`, and answers how many ticks it took.
-#[tactic(auto, unfolding(rv_model::specs::step::Step::executed, rv_model::specs::step::Step::dirties), using(crate::proofs::VectorWords::vector_steps))]
+#[tactic(auto, unfolding(rv_model::specs::step::Step::executed, rv_model::specs::step::Step::dirties), using(crate::proofs::VectorWords::carried_out))]
 #[inline(never)]
 fn execute_vector<M: UserBytes, V: Vectors>(
     word: u32,
@@ -96,16 +98,27 @@ fn execute_vector<M: UserBytes, V: Vectors>(
     ensures vectors { Returns V.ready V.lent V.back (touches (scan table word)) (dirties limit (scan table word))
         (hart_state scalar.old (V.lent vectors.old).state (M.memory memory.old) policy) vectors.old vectors.new }
 {
-    let decoded = decode_rest(word);
-    let Some(instr) = &decoded else {
+    if word & 0x7f == 0x57 {
+        let decoded = decode_irregular(word);
+        let Some(operation) = &decoded else {
+            *end = illegal(word, scalar);
+            return 1;
+        };
+        let seat = vectors.seat();
+        seat.state.conf.length_law();
+        let ending = exec_operation(operation, &mut seat.state, scalar, policy);
+        return retire_vector(ending, 1, word, scalar, seat, end);
+    }
+    let decoded = decode_other_access(word);
+    let Some(access) = &decoded else {
         *end = illegal(word, scalar);
         return 1;
     };
     let seat = vectors.seat();
     seat.state.conf.length_law();
     let found = Found::new(&seat.state);
-    let ending = exec_rest(instr, &mut seat.state, scalar, memory, limit, policy);
-    let ticks = vector_ticks(instr, limit, found, &seat.state, ending);
+    let ending = exec_other_access(access, &mut seat.state, scalar, memory, limit, policy);
+    let ticks = access_ticks(access, limit, found, &seat.state, ending);
     retire_vector(ending, ticks, word, scalar, seat, end)
 }
 
@@ -173,7 +186,7 @@ pub(crate) fn execute_access<M: UserBytes, V: Vectors>(
         (hart_state scalar.old (V.lent vectors.old).state (M.memory memory.old) policy) vectors.old vectors.new }
 {
     let decoded = decode_unit_stride(word);
-    let Some(Instr::Access(access)) = &decoded else {
+    let Some(access) = &decoded else {
         return execute_vector(word, scalar, memory, vectors, limit, policy, end);
     };
     let seat = vectors.seat();

@@ -1,9 +1,9 @@
 //! Words to instructions.
-ghost use Rattle.std.specs.Prelude.{◌≡◌, ◌++◌, ◌⊎◌, bit_and, true, IfSome, IfNone, None, Some, if◌then◌else◌};
+ghost use Rattle.std.specs.Prelude.{◌≡◌, ◌++◌, ◌⊎◌, bit_and, option_map, true, IfSome, IfNone, None, Some, if◌then◌else◌};
 ghost use Rattle.rv_model.specs.declared.instructions.operations.Form.TheVariants as form;
 ghost use Rattle.rv_model.specs.instructions.Operations.{major_bits};
 ghost use Rattle.rv_model.specs.instructions.Layout.{word_of};
-ghost use Rattle.rv_decode.specs.Opcodes.{is_rest, is_scalar, is_scalar_opcode, is_system, is_vector_access};
+ghost use Rattle.rv_decode.specs.Opcodes.{is_irregular, is_scalar, is_scalar_opcode};
 ghost use Rattle.rv_decode.specs.Irregular.{irregular, other_accesses};
 ghost use Rattle.rv_model.specs.instructions.Table.{Row, IsRow, scan, rows, table, Uppers, Jumps, JumpRegisters, Branches, Loads, Stores, RegisterImmediates, ShiftImmediates, ShiftImmediateWords, RegisterRegisters, Fences, Systems, Csrs, CsrImmediates, SetVlis, SetIvlis, SetVls, Ariths, Carries, Moves, WholeMoves, MaskLogics, Compresses, MasksToScalar, Extends, MaskUnaries, ElementIndices, MovesToScalar, MovesToVector, Units, Strideds, Indexeds, WholeLoads, WholeStores, MaskMemories};
 
@@ -17,14 +17,14 @@ use crate::vector::{
     move_to_scalar, move_to_vector, set_ivli, set_vl, set_vli, vector_move, whole_move,
 };
 use crate::vector_memory::{indexed, mask_memory, strided, unit, whole_load, whole_store};
-use rv_model::instructions::operations::{Form, Major};
-use rv_model::{Instr, VectorInstr};
+use rv_model::instructions::operations::{Form, Major, SystemOp};
+use rv_model::{AccessInstr, CsrInstr, Instr, ScalarInstr, VectorInstr};
 
 /// OP-IMM.
 #[tactic(auto, using(rv_model::proofs::instruction_lemmas::Scans::scan_append))]
 #[inline(always)]
-fn immediates(word: u32) -> Option<Instr>
-    ensures row { result ≡ scan (rows RegisterImmediates ++ rows ShiftImmediates) word }
+fn immediates(word: u32) -> Option<ScalarInstr>
+    ensures row { option_map Instr.Scalar result ≡ scan (rows RegisterImmediates ++ rows ShiftImmediates) word }
     ensures group { IfSome result (λ i. is_scalar i ≡ true) }
 {
     if let Some(instr) = register_immediate(word) {
@@ -36,8 +36,8 @@ fn immediates(word: u32) -> Option<Instr>
 /// OP-IMM-32.
 #[tactic(auto, using(rv_model::proofs::instruction_lemmas::Scans::scan_append))]
 #[inline(always)]
-fn word_immediates(word: u32) -> Option<Instr>
-    ensures row { result ≡ scan (rows RegisterImmediates ++ rows ShiftImmediateWords) word }
+fn word_immediates(word: u32) -> Option<ScalarInstr>
+    ensures row { option_map Instr.Scalar result ≡ scan (rows RegisterImmediates ++ rows ShiftImmediateWords) word }
     ensures group { IfSome result (λ i. is_scalar i ≡ true) }
 {
     if let Some(instr) = register_immediate(word) {
@@ -69,9 +69,9 @@ pub fn decode_regular(word: u32) -> Option<ArithOperation>
 
 /// OPIVV and OPIVX, and OPIVI but for moves of whole registers.
 #[tactic(auto, using(rv_model::proofs::instruction_lemmas::Scans::scan_append))]
-fn carry_or_move(word: u32, form: Form) -> Option<Instr>
-    ensures row { result ≡ scan (rows (Carries form) ++ rows (Moves form)) word }
-    ensures group { IfSome result (λ i. is_rest i ≡ true) }
+fn carry_or_move(word: u32, form: Form) -> Option<VectorInstr>
+    ensures row { option_map Instr.Vector result ≡ scan (rows (Carries form) ++ rows (Moves form)) word }
+    ensures group { IfSome result (λ i. is_irregular i ≡ true) }
 {
     if let Some(instr) = carry(word, form) {
         return Some(instr);
@@ -81,9 +81,9 @@ fn carry_or_move(word: u32, form: Form) -> Option<Instr>
 
 /// OPIVI.
 #[tactic(auto, using(rv_model::proofs::instruction_lemmas::Scans::scan_append))]
-fn immediate(word: u32) -> Option<Instr>
-    ensures row { result ≡ scan (rows (Carries form.I) ++ rows (Moves form.I) ++ rows WholeMoves) word }
-    ensures group { IfSome result (λ i. is_rest i ≡ true) }
+fn immediate(word: u32) -> Option<VectorInstr>
+    ensures row { option_map Instr.Vector result ≡ scan (rows (Carries form.I) ++ rows (Moves form.I) ++ rows WholeMoves) word }
+    ensures group { IfSome result (λ i. is_irregular i ≡ true) }
 {
     if let Some(instr) = carry_or_move(word, Form::I) {
         return Some(instr);
@@ -93,13 +93,13 @@ fn immediate(word: u32) -> Option<Instr>
 
 /// OPMVV.
 #[tactic(auto, using(rv_model::proofs::instruction_lemmas::Scans::scan_append))]
-fn mask_or_unary(word: u32) -> Option<Instr>
-    ensures row { result
+fn mask_or_unary(word: u32) -> Option<VectorInstr>
+    ensures row { option_map Instr.Vector result
         ≡ scan
         (rows MaskLogics ++ rows Compresses ++ rows MasksToScalar ++ rows Extends
         ++ rows MaskUnaries ++ rows ElementIndices ++ rows MovesToScalar)
         word }
-    ensures group { IfSome result (λ i. is_rest i ≡ true) }
+    ensures group { IfSome result (λ i. is_irregular i ≡ true) }
 {
     if let Some(instr) = mask_logic(word) {
         return Some(instr);
@@ -124,9 +124,9 @@ fn mask_or_unary(word: u32) -> Option<Instr>
 
 /// OPCFG.
 #[tactic(auto, using(rv_model::proofs::instruction_lemmas::Scans::scan_append))]
-fn set_vector_length(word: u32) -> Option<Instr>
-    ensures row { result ≡ scan (rows SetVlis ++ rows SetIvlis ++ rows SetVls) word }
-    ensures group { IfSome result (λ i. is_rest i ≡ true) }
+fn set_vector_length(word: u32) -> Option<VectorInstr>
+    ensures row { option_map Instr.Vector result ≡ scan (rows SetVlis ++ rows SetIvlis ++ rows SetVls) word }
+    ensures group { IfSome result (λ i. is_irregular i ≡ true) }
 {
     if let Some(instr) = set_vli(word) {
         return Some(instr);
@@ -137,13 +137,13 @@ fn set_vector_length(word: u32) -> Option<Instr>
     set_vl(word)
 }
 
-/// A word of OP-V that has no line of its own in the table.
+/// The vector operation that a word of OP-V is which `decode_regular` doesn't know.
 #[tactic(auto, using(crate::proofs::Irregular::irregular_steps))]
 #[inline(always)]
-fn irregular_operation(word: u32) -> Option<Instr>
+pub fn decode_irregular(word: u32) -> Option<VectorInstr>
     requires { bit_and word 0x7f ≡ 0x57 }
-    ensures row { result ≡ scan irregular word }
-    ensures group { IfSome result (λ i. is_rest i ≡ true) }
+    ensures row { option_map Instr.Vector result ≡ scan irregular word }
+    ensures group { IfSome result (λ i. is_irregular i ≡ true) }
 {
     match word & 0x707f {
         0x0057 => carry_or_move(word, Form::V),
@@ -159,21 +159,19 @@ fn irregular_operation(word: u32) -> Option<Instr>
 /// The unit-stride load or store that a word of LOAD-FP or STORE-FP is, if it is one.
 #[tactic(auto, using(crate::proofs::Irregular::unit_steps))]
 #[inline(always)]
-pub fn decode_unit_stride(word: u32) -> Option<Instr>
+pub fn decode_unit_stride(word: u32) -> Option<AccessInstr>
     requires { (bit_and word 0x7f ≡ 0x07) ⊎ (bit_and word 0x7f ≡ 0x27) }
-    ensures some { IfSome result (λ i. scan table word ≡ Some i) }
+    ensures some { IfSome result (λ i. scan table word ≡ Some (Instr.Access i)) }
     ensures none { IfNone result (scan table word ≡ scan other_accesses word) }
-    ensures group { IfSome result (λ i. is_vector_access i ≡ true) }
 {
     unit(word)
 }
 
-/// A vector load or store that isn't of unit stride.
+/// The vector load or store that a word of LOAD-FP or STORE-FP is which `decode_unit_stride` doesn't know.
 #[tactic(auto, unfolding(crate::specs::Irregular::other_accesses), using(rv_model::proofs::instruction_lemmas::Scans::scan_append))]
 #[inline(always)]
-fn other_access(word: u32) -> Option<Instr>
-    ensures row { result ≡ scan other_accesses word }
-    ensures group { IfSome result (λ i. is_rest i ≡ true) }
+pub fn decode_other_access(word: u32) -> Option<AccessInstr>
+    ensures { option_map Instr.Access result ≡ scan other_accesses word }
 {
     if let Some(instr) = strided(word) {
         return Some(instr);
@@ -190,21 +188,6 @@ fn other_access(word: u32) -> Option<Instr>
     mask_memory(word)
 }
 
-/// The vector instruction of a word that neither `decode_regular` nor `decode_unit_stride` knows.
-#[inline(always)]
-pub fn decode_rest(word: u32) -> Option<Instr>
-    requires opcode { (bit_and word 0x7f ≡ 0x57) ⊎ ((bit_and word 0x7f ≡ 0x07) ⊎ (bit_and word 0x7f ≡ 0x27)) }
-    requires operation { bit_and word 0x7f ≡ 0x57 → scan table word ≡ scan irregular word }
-    requires access { (bit_and word 0x7f ≡ 0x07) ⊎ (bit_and word 0x7f ≡ 0x27) → scan table word ≡ scan other_accesses word }
-    ensures row { result ≡ scan table word }
-    ensures group { IfSome result (λ i. is_rest i ≡ true) }
-{
-    match word & 0x7f {
-        0x57 => irregular_operation(word),
-        _ => other_access(word),
-    }
-}
-
 /// The vector operation that a word of OP-V is.
 fn operation(word: u32) -> Option<Instr>
     requires { bit_and word 0x7f ≡ 0x57 }
@@ -218,7 +201,7 @@ fn operation(word: u32) -> Option<Instr>
             vm: operation.unmasked,
         }));
     }
-    irregular_operation(word)
+    Some(Instr::Vector(decode_irregular(word)?))
 }
 
 /// The vector load or store that a word of LOAD-FP or STORE-FP is.
@@ -227,34 +210,52 @@ fn access(word: u32) -> Option<Instr>
     ensures { result ≡ scan table word }
 {
     if let Some(instr) = decode_unit_stride(word) {
-        return Some(instr);
+        return Some(Instr::Access(instr));
     }
-    other_access(word)
+    Some(Instr::Access(decode_other_access(word)?))
 }
 
-/// The call, breakpoint or access of a control register that a word of SYSTEM is.
-#[tactic(auto, using(crate::proofs::Scan::at_73, rv_model::proofs::instruction_lemmas::Scans::scan_append))]
+/// The call or breakpoint that a word of SYSTEM is, if it is one.
+#[tactic(auto, using(crate::proofs::Irregular::call_steps))]
 #[inline(always)]
-pub fn decode_system(word: u32) -> Option<Instr>
+pub fn decode_call(word: u32) -> Option<SystemOp>
     requires { bit_and word 0x7f ≡ 0x73 }
-    ensures row { result ≡ scan table word }
-    ensures group { IfSome result (λ i. is_system i ≡ true) }
+    ensures some { IfSome result (λ op. scan table word ≡ Some (Instr.Scalar (ScalarInstr.System op))) }
+    ensures none { IfNone result (scan table word ≡ scan (rows Csrs ++ rows CsrImmediates) word) }
 {
-    if let Some(instr) = system(word) {
-        return Some(instr);
-    }
+    system(word)
+}
+
+/// The access of a control register that a word of SYSTEM is which `decode_call` doesn't know.
+#[tactic(auto, using(rv_model::proofs::instruction_lemmas::Scans::scan_append))]
+#[inline(always)]
+pub fn decode_csr(word: u32) -> Option<CsrInstr>
+    requires { scan table word ≡ scan (rows Csrs ++ rows CsrImmediates) word }
+    ensures { option_map Instr.Csr result ≡ scan table word }
+{
     if let Some(instr) = csr(word) {
         return Some(instr);
     }
     csr_immediate(word)
 }
 
+/// The call, breakpoint or access of a control register that a word of SYSTEM is.
+fn call_or_csr(word: u32) -> Option<Instr>
+    requires { bit_and word 0x7f ≡ 0x73 }
+    ensures { result ≡ scan table word }
+{
+    if let Some(op) = decode_call(word) {
+        return Some(Instr::Scalar(ScalarInstr::System { op }));
+    }
+    Some(Instr::Csr(decode_csr(word)?))
+}
+
 /// The instruction of a word that works on scalar registers and memory alone: of any opcode but SYSTEM and those of vector
 /// instructions, which have decoders of their own.
 #[tactic(auto, using(crate::proofs::Scan::opcode_steps))]
 #[inline(always)]
-pub fn decode_scalar(word: u32) -> Option<Instr>
-    ensures row { result ≡ (if is_scalar_opcode (bit_and word 0x7f) then scan table word else None) }
+pub fn decode_scalar(word: u32) -> Option<ScalarInstr>
+    ensures row { option_map Instr.Scalar result ≡ (if is_scalar_opcode (bit_and word 0x7f) then scan table word else None) }
     ensures group { IfSome result (λ i. is_scalar i ≡ true) }
 {
     match word & 0x7f {
@@ -286,8 +287,8 @@ fn by_opcode(word: u32) -> Option<Instr>
     match word & 0x7f {
         0x07 | 0x27 => access(word),
         0x57 => operation(word),
-        0x73 => decode_system(word),
-        _ => decode_scalar(word),
+        0x73 => call_or_csr(word),
+        _ => Some(Instr::Scalar(decode_scalar(word)?)),
     }
 }
 

@@ -4,7 +4,6 @@ ghost use Rattle.rv_model.specs.instructions.Sources.{form_of};
 ghost use Rattle.rv_model.specs.instructions.Operations.{has_form, line, carry_line, line_bits, major_bits};
 ghost use Rattle.rv_model.specs.instructions.Layout.{Allowed, bits, word_of};
 ghost use Rattle.rv_model.specs.instructions.Table.{scan, table};
-ghost use Rattle.rv_decode.specs.Opcodes.{is_operation};
 
 use crate::fixed_bits::{
     branch_bits, count_bits, csr_bits, csr_immediate_bits, direction_bits, extend_bits,
@@ -72,30 +71,73 @@ fn carry_bits(carry: Carry) -> u64
     line_bits(carry_line(op), form_of(&source))
 }
 
-/// The bits that a vector operation fixes.
-fn operation_code(instr: &Instr) -> u64
-    requires { is_operation instr.now ≡ true }
-    ensures value { result ≡ bits instr.now }
+/// The bits that a scalar instruction fixes.
+fn scalar_code(instr: &ScalarInstr) -> u64
+    ensures value { result ≡ bits (Instr.Scalar instr.now) }
     ensures small { result < 2 ^ 61 }
-    ensures allowed { Allowed instr.now }
 {
     match *instr {
-        Instr::Vector(VectorInstr::SetVli { .. }) => 0x7057,
-        Instr::Vector(VectorInstr::SetIvli { .. }) => 0xc000_7057,
-        Instr::Vector(VectorInstr::SetVl { .. }) => 0x8000_7057,
-        Instr::Vector(VectorInstr::Arith { arith, .. }) => arith_bits(arith),
-        Instr::Vector(VectorInstr::Carry { carry, .. }) => carry_bits(carry),
-        Instr::Vector(VectorInstr::Move { source, .. }) => move_bits(form_of(&source)),
-        Instr::Vector(VectorInstr::WholeMove { count, .. }) => whole_move_bits(count),
-        Instr::Vector(VectorInstr::MaskLogic { op, .. }) => mask_logic_bits(op),
-        Instr::Vector(VectorInstr::Compress { .. }) => 0x5e00_2057,
-        Instr::Vector(VectorInstr::MaskToScalar { op, .. }) => mask_to_scalar_bits(op),
-        Instr::Vector(VectorInstr::Extend { op, .. }) => extend_bits(op),
-        Instr::Vector(VectorInstr::MaskUnary { op, .. }) => mask_unary_bits(op),
-        Instr::Vector(VectorInstr::ElementIndex { .. }) => 0x5008_a057,
-        Instr::Vector(VectorInstr::MoveToScalar { .. }) => 0x4200_2057,
-        Instr::Vector(VectorInstr::MoveToVector { .. }) => 0x4200_6057,
-        _ => unreachable!(),
+        ScalarInstr::Upper { op, .. } => upper_bits(op),
+        ScalarInstr::Jump { .. } => 0x6f,
+        ScalarInstr::JumpRegister { .. } => 0x67,
+        ScalarInstr::Branch { op, .. } => branch_bits(op),
+        ScalarInstr::Load { op, .. } => load_bits(op),
+        ScalarInstr::Store { op, .. } => store_bits(op),
+        ScalarInstr::RegisterImmediate { op, .. } => immediate_op_bits(op),
+        ScalarInstr::ShiftImmediate { op, .. } => shift_immediate_bits(op),
+        ScalarInstr::ShiftImmediateWord { op, .. } => shift_immediate_word_bits(op),
+        ScalarInstr::RegisterRegister { op, .. } => register_op_bits(op),
+        ScalarInstr::Fence { .. } => 0x0f,
+        ScalarInstr::System { op } => system_bits(op),
+    }
+}
+
+/// The bits that a vector instruction fixes that is no load or store.
+fn vector_code(instr: &VectorInstr) -> u64
+    ensures value { result ≡ bits (Instr.Vector instr.now) }
+    ensures small { result < 2 ^ 61 }
+    ensures allowed { Allowed (Instr.Vector instr.now) }
+{
+    match *instr {
+        VectorInstr::SetVli { .. } => 0x7057,
+        VectorInstr::SetIvli { .. } => 0xc000_7057,
+        VectorInstr::SetVl { .. } => 0x8000_7057,
+        VectorInstr::Arith { arith, .. } => arith_bits(arith),
+        VectorInstr::Carry { carry, .. } => carry_bits(carry),
+        VectorInstr::Move { source, .. } => move_bits(form_of(&source)),
+        VectorInstr::WholeMove { count, .. } => whole_move_bits(count),
+        VectorInstr::MaskLogic { op, .. } => mask_logic_bits(op),
+        VectorInstr::Compress { .. } => 0x5e00_2057,
+        VectorInstr::MaskToScalar { op, .. } => mask_to_scalar_bits(op),
+        VectorInstr::Extend { op, .. } => extend_bits(op),
+        VectorInstr::MaskUnary { op, .. } => mask_unary_bits(op),
+        VectorInstr::ElementIndex { .. } => 0x5008_a057,
+        VectorInstr::MoveToScalar { .. } => 0x4200_2057,
+        VectorInstr::MoveToVector { .. } => 0x4200_6057,
+    }
+}
+
+/// The bits that a vector load or store fixes.
+fn access_code(instr: &AccessInstr) -> u64
+    ensures value { result ≡ bits (Instr.Access instr.now) }
+    ensures small { result < 2 ^ 61 }
+{
+    match *instr {
+        AccessInstr::UnitStride { op, width, .. } => unit_bits(op) + width_bits(width),
+        AccessInstr::Strided {
+            direction,
+            width,
+            ..
+        } => direction_bits(direction) + 0x0800_0000 + width_bits(width),
+        AccessInstr::Indexed {
+            direction,
+            order,
+            width,
+            ..
+        } => direction_bits(direction) + order_bits(order) + width_bits(width),
+        AccessInstr::WholeLoad { count, width, .. } => 0x07 + count_bits(count) + width_bits(width),
+        AccessInstr::WholeStore { count, .. } => 0x27 + count_bits(count),
+        AccessInstr::MaskAccess { direction, .. } => mask_memory_bits(direction),
     }
 }
 
@@ -105,44 +147,12 @@ fn code(instr: &Instr) -> u64
     ensures small { result < 2 ^ 61 }
     ensures allowed { Allowed instr.now }
 {
-    match *instr {
-        Instr::Scalar(ScalarInstr::Upper { op, .. }) => upper_bits(op),
-        Instr::Scalar(ScalarInstr::Jump { .. }) => 0x6f,
-        Instr::Scalar(ScalarInstr::JumpRegister { .. }) => 0x67,
-        Instr::Scalar(ScalarInstr::Branch { op, .. }) => branch_bits(op),
-        Instr::Scalar(ScalarInstr::Load { op, .. }) => load_bits(op),
-        Instr::Scalar(ScalarInstr::Store { op, .. }) => store_bits(op),
-        Instr::Scalar(ScalarInstr::RegisterImmediate { op, .. }) => immediate_op_bits(op),
-        Instr::Scalar(ScalarInstr::ShiftImmediate { op, .. }) => shift_immediate_bits(op),
-        Instr::Scalar(ScalarInstr::ShiftImmediateWord { op, .. }) => shift_immediate_word_bits(op),
-        Instr::Scalar(ScalarInstr::RegisterRegister { op, .. }) => register_op_bits(op),
-        Instr::Scalar(ScalarInstr::Fence { .. }) => 0x0f,
-        Instr::Scalar(ScalarInstr::System { op }) => system_bits(op),
-        Instr::Csr(CsrInstr::Register { op, .. }) => csr_bits(op),
-        Instr::Csr(CsrInstr::Immediate { op, .. }) => csr_immediate_bits(op),
-        Instr::Access(AccessInstr::UnitStride { op, width, .. }) => unit_bits(op)
-            + width_bits(width),
-        Instr::Access(
-            AccessInstr::Strided {
-                direction,
-                width,
-                ..
-            },
-        ) => direction_bits(direction) + 0x0800_0000 + width_bits(width),
-        Instr::Access(
-            AccessInstr::Indexed {
-                direction,
-                order,
-                width,
-                ..
-            },
-        ) => direction_bits(direction) + order_bits(order) + width_bits(width),
-        Instr::Access(AccessInstr::WholeLoad { count, width, .. }) => 0x07
-            + count_bits(count)
-            + width_bits(width),
-        Instr::Access(AccessInstr::WholeStore { count, .. }) => 0x27 + count_bits(count),
-        Instr::Access(AccessInstr::MaskAccess { direction, .. }) => mask_memory_bits(direction),
-        _ => operation_code(instr),
+    match instr {
+        Instr::Scalar(instr) => scalar_code(instr),
+        Instr::Csr(CsrInstr::Register { op, .. }) => csr_bits(*op),
+        Instr::Csr(CsrInstr::Immediate { op, .. }) => csr_immediate_bits(*op),
+        Instr::Vector(instr) => vector_code(instr),
+        Instr::Access(instr) => access_code(instr),
     }
 }
 

@@ -18,7 +18,8 @@ mod word_fields;
 
 pub use arith_operation::ArithOperation;
 pub use decoder::{
-    decode, decode_regular, decode_rest, decode_scalar, decode_system, decode_unit_stride,
+    decode, decode_call, decode_csr, decode_irregular, decode_other_access, decode_regular,
+    decode_scalar, decode_unit_stride,
 };
 pub use encoder::encode;
 pub use laws::{decoded_again, encoded_again, one_row};

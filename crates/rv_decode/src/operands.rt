@@ -1,10 +1,8 @@
 //! The operands of instructions, each at its place in a word.
-ghost use Rattle.std.specs.Prelude.{◌≡◌, ◌<◌, ◌*◌, ◌+◌, ◌/◌, ◌%◌, ◌^◌, true};
+ghost use Rattle.std.specs.Prelude.{◌≡◌, ◌<◌, ◌*◌, ◌+◌, ◌/◌, ◌%◌, ◌^◌};
 ghost use Rattle.rv_model.specs.instructions.BitFields.{AllFit, flag_bit, sum_of};
-ghost use Rattle.rv_model.specs.lending.Accesses.{is_access};
 ghost use Rattle.rv_model.specs.instructions.Sources.{source_number};
 ghost use Rattle.rv_model.specs.instructions.Layout.{parts};
-ghost use Rattle.rv_decode.specs.Opcodes.{is_operation};
 
 use rv_model::{AccessInstr, CsrInstr, Field, Instr, Reg, ScalarInstr, Source, VReg, VectorInstr};
 
@@ -95,95 +93,111 @@ fn source_part(source: &Source) -> u64
     }
 }
 
-/// The operands of a vector operation, each at its place.
-fn operation_operands(instr: &Instr) -> u64
-    requires { is_operation instr.now ≡ true }
-    ensures value { result ≡ sum_of 0 (parts instr.now) }
-    ensures fit { AllFit (parts instr.now) }
+/// The operands of a scalar instruction, each at its place.
+fn scalar_operands(instr: &ScalarInstr) -> u64
+    ensures value { result ≡ sum_of 0 (parts (Instr.Scalar instr.now)) }
+    ensures fit { AllFit (parts (Instr.Scalar instr.now)) }
     ensures small { result < 2 ^ 61 }
 {
     match *instr {
-        Instr::Vector(VectorInstr::SetVli { rd, rs1, vtype }) => reg(rd, 7)
+        ScalarInstr::Upper { rd, imm, .. } => reg(rd, 7) + put(imm, 12),
+        ScalarInstr::Jump { rd, imm } => reg(rd, 7) + jump_part(imm),
+        ScalarInstr::JumpRegister { rd, rs1, imm } => reg(rd, 7) + reg(rs1, 15) + put(imm, 20),
+        ScalarInstr::Branch { rs1, rs2, imm, .. } => reg(rs1, 15) + reg(rs2, 20) + branch_part(imm),
+        ScalarInstr::Load { rd, rs1, imm, .. } => reg(rd, 7) + reg(rs1, 15) + put(imm, 20),
+        ScalarInstr::Store { rs1, rs2, imm, .. } => reg(rs1, 15) + reg(rs2, 20) + store_part(imm),
+        ScalarInstr::RegisterImmediate { rd, rs1, imm, .. } => reg(rd, 7)
             + reg(rs1, 15)
-            + put(vtype, 20),
-        Instr::Vector(VectorInstr::SetIvli { rd, avl, vtype }) => reg(rd, 7)
-            + put(avl, 15)
-            + put(vtype, 20),
-        Instr::Vector(VectorInstr::SetVl { rd, rs1, rs2 }) => reg(rd, 7)
+            + put(imm, 20),
+        ScalarInstr::ShiftImmediate { rd, rs1, shamt, .. } => reg(rd, 7)
+            + reg(rs1, 15)
+            + put(shamt, 20),
+        ScalarInstr::ShiftImmediateWord { rd, rs1, shamt, .. } => reg(rd, 7)
+            + reg(rs1, 15)
+            + put(shamt, 20),
+        ScalarInstr::RegisterRegister { rd, rs1, rs2, .. } => reg(rd, 7)
             + reg(rs1, 15)
             + reg(rs2, 20),
-        Instr::Vector(VectorInstr::Arith { arith, vd, vs2, vm }) => source_part(&arith.parts().1)
+        ScalarInstr::Fence { rd, rs1, ordering } => reg(rd, 7) + reg(rs1, 15) + put(ordering, 20),
+        ScalarInstr::System { .. } => 0,
+    }
+}
+
+/// The operands of an access of a control register, each at its place.
+fn csr_operands(instr: &CsrInstr) -> u64
+    ensures value { result ≡ sum_of 0 (parts (Instr.Csr instr.now)) }
+    ensures fit { AllFit (parts (Instr.Csr instr.now)) }
+    ensures small { result < 2 ^ 61 }
+{
+    match *instr {
+        CsrInstr::Register { rd, rs1, csr, .. } => reg(rd, 7) + reg(rs1, 15) + put(csr, 20),
+        CsrInstr::Immediate { rd, imm, csr, .. } => reg(rd, 7) + put(imm, 15) + put(csr, 20),
+    }
+}
+
+/// The operands of a vector instruction that is no load or store, each at its place.
+fn vector_operands(instr: &VectorInstr) -> u64
+    ensures value { result ≡ sum_of 0 (parts (Instr.Vector instr.now)) }
+    ensures fit { AllFit (parts (Instr.Vector instr.now)) }
+    ensures small { result < 2 ^ 61 }
+{
+    match *instr {
+        VectorInstr::SetVli { rd, rs1, vtype } => reg(rd, 7) + reg(rs1, 15) + put(vtype, 20),
+        VectorInstr::SetIvli { rd, avl, vtype } => reg(rd, 7) + put(avl, 15) + put(vtype, 20),
+        VectorInstr::SetVl { rd, rs1, rs2 } => reg(rd, 7) + reg(rs1, 15) + reg(rs2, 20),
+        VectorInstr::Arith { arith, vd, vs2, vm } => source_part(&arith.parts().1)
             + vreg(vd, 7)
             + vreg(vs2, 20)
             + unmasked(vm),
-        Instr::Vector(VectorInstr::Carry { carry, vd, vs2 }) => source_part(&carry.parts().1)
+        VectorInstr::Carry { carry, vd, vs2 } => source_part(&carry.parts().1)
             + vreg(vd, 7)
             + vreg(vs2, 20),
-        Instr::Vector(VectorInstr::Move { source, vd }) => source_part(&source) + vreg(vd, 7),
-        Instr::Vector(VectorInstr::WholeMove { vd, vs2, .. }) => vreg(vd, 7) + vreg(vs2, 20),
-        Instr::Vector(VectorInstr::MaskLogic { vd, vs1, vs2, .. }) => vreg(vd, 7)
-            + vreg(vs1, 15)
-            + vreg(vs2, 20),
-        Instr::Vector(VectorInstr::Compress { vd, vs1, vs2 }) => vreg(vd, 7)
-            + vreg(vs1, 15)
-            + vreg(vs2, 20),
-        Instr::Vector(VectorInstr::MaskToScalar { rd, vs2, vm, .. }) => reg(rd, 7)
-            + vreg(vs2, 20)
-            + unmasked(vm),
-        Instr::Vector(VectorInstr::Extend { vd, vs2, vm, .. }) => vreg(vd, 7)
-            + vreg(vs2, 20)
-            + unmasked(vm),
-        Instr::Vector(VectorInstr::MaskUnary { vd, vs2, vm, .. }) => vreg(vd, 7)
-            + vreg(vs2, 20)
-            + unmasked(vm),
-        Instr::Vector(VectorInstr::ElementIndex { vd, vm }) => vreg(vd, 7) + unmasked(vm),
-        Instr::Vector(VectorInstr::MoveToScalar { rd, vs2 }) => reg(rd, 7) + vreg(vs2, 20),
-        Instr::Vector(VectorInstr::MoveToVector { vd, rs1 }) => vreg(vd, 7) + reg(rs1, 15),
-        _ => unreachable!(),
+        VectorInstr::Move { source, vd } => source_part(&source) + vreg(vd, 7),
+        VectorInstr::WholeMove { vd, vs2, .. } => vreg(vd, 7) + vreg(vs2, 20),
+        VectorInstr::MaskLogic { vd, vs1, vs2, .. } => vreg(vd, 7) + vreg(vs1, 15) + vreg(vs2, 20),
+        VectorInstr::Compress { vd, vs1, vs2 } => vreg(vd, 7) + vreg(vs1, 15) + vreg(vs2, 20),
+        VectorInstr::MaskToScalar { rd, vs2, vm, .. } => reg(rd, 7) + vreg(vs2, 20) + unmasked(vm),
+        VectorInstr::Extend { vd, vs2, vm, .. } => vreg(vd, 7) + vreg(vs2, 20) + unmasked(vm),
+        VectorInstr::MaskUnary { vd, vs2, vm, .. } => vreg(vd, 7) + vreg(vs2, 20) + unmasked(vm),
+        VectorInstr::ElementIndex { vd, vm } => vreg(vd, 7) + unmasked(vm),
+        VectorInstr::MoveToScalar { rd, vs2 } => reg(rd, 7) + vreg(vs2, 20),
+        VectorInstr::MoveToVector { vd, rs1 } => vreg(vd, 7) + reg(rs1, 15),
     }
 }
 
 /// The operands of a vector load or store, each at its place.
-fn access_operands(instr: &Instr) -> u64
-    requires { is_access instr.now ≡ true }
-    ensures value { result ≡ sum_of 0 (parts instr.now) }
-    ensures fit { AllFit (parts instr.now) }
+fn access_operands(instr: &AccessInstr) -> u64
+    ensures value { result ≡ sum_of 0 (parts (Instr.Access instr.now)) }
+    ensures fit { AllFit (parts (Instr.Access instr.now)) }
     ensures small { result < 2 ^ 61 }
 {
     match *instr {
-        Instr::Access(
-            AccessInstr::UnitStride {
-                nf,
-                vd,
-                rs1,
-                vm,
-                ..
-            },
-        ) => put(nf, 29) + vreg(vd, 7) + reg(rs1, 15) + unmasked(vm),
-        Instr::Access(
-            AccessInstr::Strided {
-                nf,
-                vd,
-                rs1,
-                rs2,
-                vm,
-                ..
-            },
-        ) => put(nf, 29) + vreg(vd, 7) + reg(rs1, 15) + reg(rs2, 20) + unmasked(vm),
-        Instr::Access(
-            AccessInstr::Indexed {
-                nf,
-                vd,
-                rs1,
-                vs2,
-                vm,
-                ..
-            },
-        ) => put(nf, 29) + vreg(vd, 7) + reg(rs1, 15) + vreg(vs2, 20) + unmasked(vm),
-        Instr::Access(AccessInstr::WholeLoad { vd, rs1, .. }) => vreg(vd, 7) + reg(rs1, 15),
-        Instr::Access(AccessInstr::WholeStore { vd, rs1, .. }) => vreg(vd, 7) + reg(rs1, 15),
-        Instr::Access(AccessInstr::MaskAccess { vd, rs1, .. }) => vreg(vd, 7) + reg(rs1, 15),
-        _ => unreachable!(),
+        AccessInstr::UnitStride {
+            nf,
+            vd,
+            rs1,
+            vm,
+            ..
+        } => put(nf, 29) + vreg(vd, 7) + reg(rs1, 15) + unmasked(vm),
+        AccessInstr::Strided {
+            nf,
+            vd,
+            rs1,
+            rs2,
+            vm,
+            ..
+        } => put(nf, 29) + vreg(vd, 7) + reg(rs1, 15) + reg(rs2, 20) + unmasked(vm),
+        AccessInstr::Indexed {
+            nf,
+            vd,
+            rs1,
+            vs2,
+            vm,
+            ..
+        } => put(nf, 29) + vreg(vd, 7) + reg(rs1, 15) + vreg(vs2, 20) + unmasked(vm),
+        AccessInstr::WholeLoad { vd, rs1, .. } => vreg(vd, 7) + reg(rs1, 15),
+        AccessInstr::WholeStore { vd, rs1, .. } => vreg(vd, 7) + reg(rs1, 15),
+        AccessInstr::MaskAccess { vd, rs1, .. } => vreg(vd, 7) + reg(rs1, 15),
     }
 }
 
@@ -193,44 +207,10 @@ pub(crate) fn operands(instr: &Instr) -> u64
     ensures fit { AllFit (parts instr.now) }
     ensures small { result < 2 ^ 61 }
 {
-    match *instr {
-        Instr::Scalar(ScalarInstr::Upper { rd, imm, .. }) => reg(rd, 7) + put(imm, 12),
-        Instr::Scalar(ScalarInstr::Jump { rd, imm }) => reg(rd, 7) + jump_part(imm),
-        Instr::Scalar(ScalarInstr::JumpRegister { rd, rs1, imm }) => reg(rd, 7)
-            + reg(rs1, 15)
-            + put(imm, 20),
-        Instr::Scalar(ScalarInstr::Branch { rs1, rs2, imm, .. }) => reg(rs1, 15)
-            + reg(rs2, 20)
-            + branch_part(imm),
-        Instr::Scalar(ScalarInstr::Load { rd, rs1, imm, .. }) => reg(rd, 7)
-            + reg(rs1, 15)
-            + put(imm, 20),
-        Instr::Scalar(ScalarInstr::Store { rs1, rs2, imm, .. }) => reg(rs1, 15)
-            + reg(rs2, 20)
-            + store_part(imm),
-        Instr::Scalar(ScalarInstr::RegisterImmediate { rd, rs1, imm, .. }) => reg(rd, 7)
-            + reg(rs1, 15)
-            + put(imm, 20),
-        Instr::Scalar(ScalarInstr::ShiftImmediate { rd, rs1, shamt, .. }) => reg(rd, 7)
-            + reg(rs1, 15)
-            + put(shamt, 20),
-        Instr::Scalar(ScalarInstr::ShiftImmediateWord { rd, rs1, shamt, .. }) => reg(rd, 7)
-            + reg(rs1, 15)
-            + put(shamt, 20),
-        Instr::Scalar(ScalarInstr::RegisterRegister { rd, rs1, rs2, .. }) => reg(rd, 7)
-            + reg(rs1, 15)
-            + reg(rs2, 20),
-        Instr::Scalar(ScalarInstr::Fence { rd, rs1, ordering }) => reg(rd, 7)
-            + reg(rs1, 15)
-            + put(ordering, 20),
-        Instr::Scalar(ScalarInstr::System { .. }) => 0,
-        Instr::Csr(CsrInstr::Register { rd, rs1, csr, .. }) => reg(rd, 7)
-            + reg(rs1, 15)
-            + put(csr, 20),
-        Instr::Csr(CsrInstr::Immediate { rd, imm, csr, .. }) => reg(rd, 7)
-            + put(imm, 15)
-            + put(csr, 20),
-        Instr::Access(_) => access_operands(instr),
-        Instr::Vector(_) => operation_operands(instr),
+    match instr {
+        Instr::Scalar(instr) => scalar_operands(instr),
+        Instr::Csr(instr) => csr_operands(instr),
+        Instr::Vector(instr) => vector_operands(instr),
+        Instr::Access(instr) => access_operands(instr),
     }
 }

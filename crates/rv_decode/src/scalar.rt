@@ -1,8 +1,8 @@
-//! Words to scalar instructions, a function for each layout of operands.
+//! Words to scalar instructions and accesses of control registers, a function for each layout of operands.
 #![tactic(auto, unfolding(rv_model::specs::instructions::Table::scan, rv_model::specs::instructions::Table::rows))]
 
-ghost use Rattle.std.specs.Prelude.{◌≡◌, IfSome, true};
-ghost use Rattle.rv_decode.specs.Opcodes.{is_scalar, is_system};
+ghost use Rattle.std.specs.Prelude.{◌≡◌, IfSome, option_map, true};
+ghost use Rattle.rv_decode.specs.Opcodes.{is_scalar};
 ghost use Rattle.rv_model.specs.instructions.Table.{scan, rows, Uppers, Jumps, JumpRegisters, Branches, Loads, Stores, RegisterImmediates, ShiftImmediates, ShiftImmediateWords, RegisterRegisters, Fences, Systems, Csrs, CsrImmediates};
 
 use crate::scalar_operations::{
@@ -11,34 +11,35 @@ use crate::scalar_operations::{
 };
 use crate::word_fields::{branch_offset, jump_offset, reg, store_immediate};
 use rv_model::instructions::bits;
+use rv_model::instructions::operations::SystemOp;
 use rv_model::{CsrInstr, Field, Instr, ScalarInstr};
 
 /// LUI and AUIPC.
 #[tactic(auto, using(crate::proofs::Scan::scan_upper))]
 #[inline(always)]
-pub(crate) fn upper(word: u32) -> Option<Instr>
-    ensures row { result ≡ scan (rows Uppers) word }
+pub(crate) fn upper(word: u32) -> Option<ScalarInstr>
+    ensures row { option_map Instr.Scalar result ≡ scan (rows Uppers) word }
     ensures group { IfSome result (λ i. is_scalar i ≡ true) }
 {
     let op = upper_op(word & 0x0000_007f)?;
-    Some(Instr::Scalar(ScalarInstr::Upper {
+    Some(ScalarInstr::Upper {
         op,
         rd: reg(word, 7),
         imm: Field::new(bits(word, 12, 20)),
-    }))
+    })
 }
 
 /// JAL.
 #[inline(always)]
-pub(crate) fn jump(word: u32) -> Option<Instr>
-    ensures row { result ≡ scan (rows Jumps) word }
+pub(crate) fn jump(word: u32) -> Option<ScalarInstr>
+    ensures row { option_map Instr.Scalar result ≡ scan (rows Jumps) word }
     ensures group { IfSome result (λ i. is_scalar i ≡ true) }
 {
     if word & 0x0000_007f == 0x0000_006f {
-        Some(Instr::Scalar(ScalarInstr::Jump {
+        Some(ScalarInstr::Jump {
             rd: reg(word, 7),
             imm: jump_offset(word),
-        }))
+        })
     } else {
         None
     }
@@ -46,16 +47,16 @@ pub(crate) fn jump(word: u32) -> Option<Instr>
 
 /// JALR.
 #[inline(always)]
-pub(crate) fn jump_register(word: u32) -> Option<Instr>
-    ensures row { result ≡ scan (rows JumpRegisters) word }
+pub(crate) fn jump_register(word: u32) -> Option<ScalarInstr>
+    ensures row { option_map Instr.Scalar result ≡ scan (rows JumpRegisters) word }
     ensures group { IfSome result (λ i. is_scalar i ≡ true) }
 {
     if word & 0x0000_707f == 0x0000_0067 {
-        Some(Instr::Scalar(ScalarInstr::JumpRegister {
+        Some(ScalarInstr::JumpRegister {
             rd: reg(word, 7),
             rs1: reg(word, 15),
             imm: Field::new(bits(word, 20, 12)),
-        }))
+        })
     } else {
         None
     }
@@ -64,127 +65,127 @@ pub(crate) fn jump_register(word: u32) -> Option<Instr>
 /// BRANCH.
 #[tactic(auto, using(crate::proofs::Scan::scan_branch))]
 #[inline(always)]
-pub(crate) fn branch(word: u32) -> Option<Instr>
-    ensures row { result ≡ scan (rows Branches) word }
+pub(crate) fn branch(word: u32) -> Option<ScalarInstr>
+    ensures row { option_map Instr.Scalar result ≡ scan (rows Branches) word }
     ensures group { IfSome result (λ i. is_scalar i ≡ true) }
 {
     let op = branch_op(word & 0x0000_707f)?;
-    Some(Instr::Scalar(ScalarInstr::Branch {
+    Some(ScalarInstr::Branch {
         op,
         rs1: reg(word, 15),
         rs2: reg(word, 20),
         imm: branch_offset(word),
-    }))
+    })
 }
 
 /// LOAD.
 #[tactic(auto, using(crate::proofs::Scan::scan_load))]
 #[inline(always)]
-pub(crate) fn load(word: u32) -> Option<Instr>
-    ensures row { result ≡ scan (rows Loads) word }
+pub(crate) fn load(word: u32) -> Option<ScalarInstr>
+    ensures row { option_map Instr.Scalar result ≡ scan (rows Loads) word }
     ensures group { IfSome result (λ i. is_scalar i ≡ true) }
 {
     let op = load_op(word & 0x0000_707f)?;
-    Some(Instr::Scalar(ScalarInstr::Load {
+    Some(ScalarInstr::Load {
         op,
         rd: reg(word, 7),
         rs1: reg(word, 15),
         imm: Field::new(bits(word, 20, 12)),
-    }))
+    })
 }
 
 /// STORE.
 #[tactic(auto, using(crate::proofs::Scan::scan_store))]
 #[inline(always)]
-pub(crate) fn store(word: u32) -> Option<Instr>
-    ensures row { result ≡ scan (rows Stores) word }
+pub(crate) fn store(word: u32) -> Option<ScalarInstr>
+    ensures row { option_map Instr.Scalar result ≡ scan (rows Stores) word }
     ensures group { IfSome result (λ i. is_scalar i ≡ true) }
 {
     let op = store_op(word & 0x0000_707f)?;
-    Some(Instr::Scalar(ScalarInstr::Store {
+    Some(ScalarInstr::Store {
         op,
         rs1: reg(word, 15),
         rs2: reg(word, 20),
         imm: store_immediate(word),
-    }))
+    })
 }
 
 /// OP-IMM and OP-IMM-32 with an immediate of 12 bits.
 #[tactic(auto, using(crate::proofs::Scan::scan_register_immediate))]
 #[inline(always)]
-pub(crate) fn register_immediate(word: u32) -> Option<Instr>
-    ensures row { result ≡ scan (rows RegisterImmediates) word }
+pub(crate) fn register_immediate(word: u32) -> Option<ScalarInstr>
+    ensures row { option_map Instr.Scalar result ≡ scan (rows RegisterImmediates) word }
     ensures group { IfSome result (λ i. is_scalar i ≡ true) }
 {
     let op = immediate_op(word & 0x0000_707f)?;
-    Some(Instr::Scalar(ScalarInstr::RegisterImmediate {
+    Some(ScalarInstr::RegisterImmediate {
         op,
         rd: reg(word, 7),
         rs1: reg(word, 15),
         imm: Field::new(bits(word, 20, 12)),
-    }))
+    })
 }
 
 /// OP-IMM with a shift amount.
 #[tactic(auto, using(crate::proofs::Scan::scan_shift_immediate))]
 #[inline(always)]
-pub(crate) fn shift_immediate(word: u32) -> Option<Instr>
-    ensures row { result ≡ scan (rows ShiftImmediates) word }
+pub(crate) fn shift_immediate(word: u32) -> Option<ScalarInstr>
+    ensures row { option_map Instr.Scalar result ≡ scan (rows ShiftImmediates) word }
     ensures group { IfSome result (λ i. is_scalar i ≡ true) }
 {
     let op = shift_immediate_op(word & 0xfc00_707f)?;
-    Some(Instr::Scalar(ScalarInstr::ShiftImmediate {
+    Some(ScalarInstr::ShiftImmediate {
         op,
         rd: reg(word, 7),
         rs1: reg(word, 15),
         shamt: Field::new(bits(word, 20, 6)),
-    }))
+    })
 }
 
 /// OP-IMM-32 with a shift amount.
 #[tactic(auto, using(crate::proofs::Scan::scan_shift_immediate_word))]
 #[inline(always)]
-pub(crate) fn shift_immediate_word(word: u32) -> Option<Instr>
-    ensures row { result ≡ scan (rows ShiftImmediateWords) word }
+pub(crate) fn shift_immediate_word(word: u32) -> Option<ScalarInstr>
+    ensures row { option_map Instr.Scalar result ≡ scan (rows ShiftImmediateWords) word }
     ensures group { IfSome result (λ i. is_scalar i ≡ true) }
 {
     let op = shift_immediate_word_op(word & 0xfe00_707f)?;
-    Some(Instr::Scalar(ScalarInstr::ShiftImmediateWord {
+    Some(ScalarInstr::ShiftImmediateWord {
         op,
         rd: reg(word, 7),
         rs1: reg(word, 15),
         shamt: Field::new(bits(word, 20, 5)),
-    }))
+    })
 }
 
 /// OP and OP-32.
 #[tactic(auto, using(crate::proofs::Scan::scan_register_register))]
 #[inline(always)]
-pub(crate) fn register_register(word: u32) -> Option<Instr>
-    ensures row { result ≡ scan (rows RegisterRegisters) word }
+pub(crate) fn register_register(word: u32) -> Option<ScalarInstr>
+    ensures row { option_map Instr.Scalar result ≡ scan (rows RegisterRegisters) word }
     ensures group { IfSome result (λ i. is_scalar i ≡ true) }
 {
     let op = register_op(word & 0xfe00_707f)?;
-    Some(Instr::Scalar(ScalarInstr::RegisterRegister {
+    Some(ScalarInstr::RegisterRegister {
         op,
         rd: reg(word, 7),
         rs1: reg(word, 15),
         rs2: reg(word, 20),
-    }))
+    })
 }
 
 /// FENCE of MISC-MEM.
 #[inline(always)]
-pub(crate) fn fence(word: u32) -> Option<Instr>
-    ensures row { result ≡ scan (rows Fences) word }
+pub(crate) fn fence(word: u32) -> Option<ScalarInstr>
+    ensures row { option_map Instr.Scalar result ≡ scan (rows Fences) word }
     ensures group { IfSome result (λ i. is_scalar i ≡ true) }
 {
     if word & 0x0000_707f == 0x0000_000f {
-        Some(Instr::Scalar(ScalarInstr::Fence {
+        Some(ScalarInstr::Fence {
             rd: reg(word, 7),
             rs1: reg(word, 15),
             ordering: Field::new(bits(word, 20, 12)),
-        }))
+        })
     } else {
         None
     }
@@ -192,40 +193,36 @@ pub(crate) fn fence(word: u32) -> Option<Instr>
 
 /// ECALL and EBREAK of SYSTEM.
 #[tactic(auto, using(crate::proofs::Scan::scan_system))]
-pub(crate) fn system(word: u32) -> Option<Instr>
-    ensures row { result ≡ scan (rows Systems) word }
-    ensures group { IfSome result (λ i. is_system i ≡ true) }
+pub(crate) fn system(word: u32) -> Option<SystemOp>
+    ensures { option_map (λ op. Instr.Scalar (ScalarInstr.System op)) result ≡ scan (rows Systems) word }
 {
-    let op = system_op(word)?;
-    Some(Instr::Scalar(ScalarInstr::System { op }))
+    system_op(word)
 }
 
 /// Zicsr with a scalar register.
 #[tactic(auto, using(crate::proofs::Scan::scan_csr))]
-pub(crate) fn csr(word: u32) -> Option<Instr>
-    ensures row { result ≡ scan (rows Csrs) word }
-    ensures group { IfSome result (λ i. is_system i ≡ true) }
+pub(crate) fn csr(word: u32) -> Option<CsrInstr>
+    ensures { option_map Instr.Csr result ≡ scan (rows Csrs) word }
 {
     let op = csr_op(word & 0x0000_707f)?;
-    Some(Instr::Csr(CsrInstr::Register {
+    Some(CsrInstr::Register {
         op,
         rd: reg(word, 7),
         rs1: reg(word, 15),
         csr: Field::new(bits(word, 20, 12)),
-    }))
+    })
 }
 
 /// Zicsr with an immediate.
 #[tactic(auto, using(crate::proofs::Scan::scan_csr_immediate))]
-pub(crate) fn csr_immediate(word: u32) -> Option<Instr>
-    ensures row { result ≡ scan (rows CsrImmediates) word }
-    ensures group { IfSome result (λ i. is_system i ≡ true) }
+pub(crate) fn csr_immediate(word: u32) -> Option<CsrInstr>
+    ensures { option_map Instr.Csr result ≡ scan (rows CsrImmediates) word }
 {
     let op = csr_immediate_op(word & 0x0000_707f)?;
-    Some(Instr::Csr(CsrInstr::Immediate {
+    Some(CsrInstr::Immediate {
         op,
         rd: reg(word, 7),
         imm: Field::new(bits(word, 15, 5)),
         csr: Field::new(bits(word, 20, 12)),
-    }))
+    })
 }

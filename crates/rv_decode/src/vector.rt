@@ -1,8 +1,8 @@
 //! Words to vector instructions on registers, a function for each layout of operands.
 #![tactic(auto, unfolding(rv_model::specs::instructions::Table::scan, rv_model::specs::instructions::Table::rows))]
 
-ghost use Rattle.std.specs.Prelude.{◌≡◌, IfNone, IfSome, None, Some, bit_and, true};
-ghost use Rattle.rv_decode.specs.Opcodes.{is_rest};
+ghost use Rattle.std.specs.Prelude.{◌≡◌, IfSome, bit_and, option_map, true};
+ghost use Rattle.rv_decode.specs.Opcodes.{is_irregular};
 ghost use Rattle.rv_model.specs.instructions.Operations.{major_bits};
 ghost use Rattle.rv_model.specs.instructions.Table.{scan, rows, SetVlis, SetIvlis, SetVls, WholeMoves, MaskLogics, Compresses, MasksToScalar, Extends, MaskUnaries, ElementIndices, MovesToScalar, MovesToVector, Ariths, Carries, Moves};
 
@@ -20,9 +20,8 @@ use rv_model::{Arith, Carry, Field, Instr, VectorInstr};
 #[inline(always)]
 pub(crate) fn arith(word: u32, major: Major, form: Form) -> Option<ArithOperation>
     requires { bit_and word 0x707f ≡ major_bits major form }
-    ensures some { IfSome result (λ o. scan (rows (Ariths major form)) word
-        ≡ Some (Instr.Vector (VectorInstr.Arith o.arith o.vd o.vs2 o.unmasked))) }
-    ensures none { IfNone result (scan (rows (Ariths major form)) word ≡ None) }
+    ensures { option_map (λ o. Instr.Vector (VectorInstr.Arith o.arith o.vd o.vs2 o.unmasked)) result
+        ≡ scan (rows (Ariths major form)) word }
 {
     let op = match major {
         Major::Opi => opi(word >> 26, form)?,
@@ -38,22 +37,22 @@ pub(crate) fn arith(word: u32, major: Major, form: Form) -> Option<ArithOperatio
 
 /// An operation that takes v0.
 #[tactic(auto, using(crate::proofs::Scan::scan_carry, rv_model::proofs::instruction_lemmas::Words::form_source_of))]
-pub(crate) fn carry(word: u32, form: Form) -> Option<Instr>
-    ensures row { result ≡ scan (rows (Carries form)) word }
-    ensures group { IfSome result (λ i. is_rest i ≡ true) }
+pub(crate) fn carry(word: u32, form: Form) -> Option<VectorInstr>
+    ensures row { option_map Instr.Vector result ≡ scan (rows (Carries form)) word }
+    ensures group { IfSome result (λ i. is_irregular i ≡ true) }
 {
     let op = carry_op(word & 0xfe00_707f, form)?;
-    Some(Instr::Vector(VectorInstr::Carry {
+    Some(VectorInstr::Carry {
         carry: Carry::new(op, source(word, form)),
         vd: vreg(word, 7),
         vs2: vreg(word, 20),
-    }))
+    })
 }
 
 /// `vmv.v.v`, `vmv.v.x` or `vmv.v.i`, whose vs2 is 0.
-pub(crate) fn vector_move(word: u32, form: Form) -> Option<Instr>
-    ensures row { result ≡ scan (rows (Moves form)) word }
-    ensures group { IfSome result (λ i. is_rest i ≡ true) }
+pub(crate) fn vector_move(word: u32, form: Form) -> Option<VectorInstr>
+    ensures row { option_map Instr.Vector result ≡ scan (rows (Moves form)) word }
+    ensures group { IfSome result (λ i. is_irregular i ≡ true) }
 {
     let code = match form {
         Form::V => 0x5e00_0057,
@@ -61,58 +60,58 @@ pub(crate) fn vector_move(word: u32, form: Form) -> Option<Instr>
         Form::I => 0x5e00_3057,
     };
     if word & 0xfff0_707f == code {
-        Some(Instr::Vector(VectorInstr::Move {
+        Some(VectorInstr::Move {
             source: source(word, form),
             vd: vreg(word, 7),
-        }))
+        })
     } else {
         None
     }
 }
 
 /// `vsetvli`.
-pub(crate) fn set_vli(word: u32) -> Option<Instr>
-    ensures row { result ≡ scan (rows SetVlis) word }
-    ensures group { IfSome result (λ i. is_rest i ≡ true) }
+pub(crate) fn set_vli(word: u32) -> Option<VectorInstr>
+    ensures row { option_map Instr.Vector result ≡ scan (rows SetVlis) word }
+    ensures group { IfSome result (λ i. is_irregular i ≡ true) }
 {
     if word & 0x8000_707f == 0x0000_7057 {
-        Some(Instr::Vector(VectorInstr::SetVli {
+        Some(VectorInstr::SetVli {
             rd: reg(word, 7),
             rs1: reg(word, 15),
             vtype: Field::new(bits(word, 20, 11)),
-        }))
+        })
     } else {
         None
     }
 }
 
 /// `vsetivli`.
-pub(crate) fn set_ivli(word: u32) -> Option<Instr>
-    ensures row { result ≡ scan (rows SetIvlis) word }
-    ensures group { IfSome result (λ i. is_rest i ≡ true) }
+pub(crate) fn set_ivli(word: u32) -> Option<VectorInstr>
+    ensures row { option_map Instr.Vector result ≡ scan (rows SetIvlis) word }
+    ensures group { IfSome result (λ i. is_irregular i ≡ true) }
 {
     if word & 0xc000_707f == 0xc000_7057 {
-        Some(Instr::Vector(VectorInstr::SetIvli {
+        Some(VectorInstr::SetIvli {
             rd: reg(word, 7),
             avl: Field::new(bits(word, 15, 5)),
             vtype: Field::new(bits(word, 20, 10)),
-        }))
+        })
     } else {
         None
     }
 }
 
 /// `vsetvl`.
-pub(crate) fn set_vl(word: u32) -> Option<Instr>
-    ensures row { result ≡ scan (rows SetVls) word }
-    ensures group { IfSome result (λ i. is_rest i ≡ true) }
+pub(crate) fn set_vl(word: u32) -> Option<VectorInstr>
+    ensures row { option_map Instr.Vector result ≡ scan (rows SetVls) word }
+    ensures group { IfSome result (λ i. is_irregular i ≡ true) }
 {
     if word & 0xfe00_707f == 0x8000_7057 {
-        Some(Instr::Vector(VectorInstr::SetVl {
+        Some(VectorInstr::SetVl {
             rd: reg(word, 7),
             rs1: reg(word, 15),
             rs2: reg(word, 20),
-        }))
+        })
     } else {
         None
     }
@@ -120,44 +119,44 @@ pub(crate) fn set_vl(word: u32) -> Option<Instr>
 
 /// `vmv1r.v` to `vmv8r.v`.
 #[tactic(auto, using(crate::proofs::Scan::scan_whole_move))]
-pub(crate) fn whole_move(word: u32) -> Option<Instr>
-    ensures row { result ≡ scan (rows WholeMoves) word }
-    ensures group { IfSome result (λ i. is_rest i ≡ true) }
+pub(crate) fn whole_move(word: u32) -> Option<VectorInstr>
+    ensures row { option_map Instr.Vector result ≡ scan (rows WholeMoves) word }
+    ensures group { IfSome result (λ i. is_irregular i ≡ true) }
 {
     let count = whole_move_op(word & 0xfe0f_f07f)?;
-    Some(Instr::Vector(VectorInstr::WholeMove {
+    Some(VectorInstr::WholeMove {
         count,
         vd: vreg(word, 7),
         vs2: vreg(word, 20),
-    }))
+    })
 }
 
 /// Mask logic, which is never masked.
 #[tactic(auto, using(crate::proofs::Scan::scan_mask_logic))]
-pub(crate) fn mask_logic(word: u32) -> Option<Instr>
-    ensures row { result ≡ scan (rows MaskLogics) word }
-    ensures group { IfSome result (λ i. is_rest i ≡ true) }
+pub(crate) fn mask_logic(word: u32) -> Option<VectorInstr>
+    ensures row { option_map Instr.Vector result ≡ scan (rows MaskLogics) word }
+    ensures group { IfSome result (λ i. is_irregular i ≡ true) }
 {
     let op = mask_logic_op(word & 0xfe00_707f)?;
-    Some(Instr::Vector(VectorInstr::MaskLogic {
+    Some(VectorInstr::MaskLogic {
         op,
         vd: vreg(word, 7),
         vs1: vreg(word, 15),
         vs2: vreg(word, 20),
-    }))
+    })
 }
 
 /// `vcompress.vm`, which is never masked.
-pub(crate) fn compress(word: u32) -> Option<Instr>
-    ensures row { result ≡ scan (rows Compresses) word }
-    ensures group { IfSome result (λ i. is_rest i ≡ true) }
+pub(crate) fn compress(word: u32) -> Option<VectorInstr>
+    ensures row { option_map Instr.Vector result ≡ scan (rows Compresses) word }
+    ensures group { IfSome result (λ i. is_irregular i ≡ true) }
 {
     if word & 0xfe00_707f == 0x5e00_2057 {
-        Some(Instr::Vector(VectorInstr::Compress {
+        Some(VectorInstr::Compress {
             vd: vreg(word, 7),
             vs1: vreg(word, 15),
             vs2: vreg(word, 20),
-        }))
+        })
     } else {
         None
     }
@@ -165,89 +164,89 @@ pub(crate) fn compress(word: u32) -> Option<Instr>
 
 /// `vcpop.m` and `vfirst.m`.
 #[tactic(auto, using(crate::proofs::Scan::scan_mask_to_scalar))]
-pub(crate) fn mask_to_scalar(word: u32) -> Option<Instr>
-    ensures row { result ≡ scan (rows MasksToScalar) word }
-    ensures group { IfSome result (λ i. is_rest i ≡ true) }
+pub(crate) fn mask_to_scalar(word: u32) -> Option<VectorInstr>
+    ensures row { option_map Instr.Vector result ≡ scan (rows MasksToScalar) word }
+    ensures group { IfSome result (λ i. is_irregular i ≡ true) }
 {
     let op = mask_to_scalar_op(word & 0xfc0f_f07f)?;
-    Some(Instr::Vector(VectorInstr::MaskToScalar {
+    Some(VectorInstr::MaskToScalar {
         op,
         rd: reg(word, 7),
         vs2: vreg(word, 20),
         vm: is_unmasked(word),
-    }))
+    })
 }
 
 /// VXUNARY0.
 #[tactic(auto, using(crate::proofs::Scan::scan_extend))]
-pub(crate) fn extend(word: u32) -> Option<Instr>
-    ensures row { result ≡ scan (rows Extends) word }
-    ensures group { IfSome result (λ i. is_rest i ≡ true) }
+pub(crate) fn extend(word: u32) -> Option<VectorInstr>
+    ensures row { option_map Instr.Vector result ≡ scan (rows Extends) word }
+    ensures group { IfSome result (λ i. is_irregular i ≡ true) }
 {
     let op = extend_op(word & 0xfc0f_f07f)?;
-    Some(Instr::Vector(VectorInstr::Extend {
+    Some(VectorInstr::Extend {
         op,
         vd: vreg(word, 7),
         vs2: vreg(word, 20),
         vm: is_unmasked(word),
-    }))
+    })
 }
 
 /// VMUNARY0 on a mask.
 #[tactic(auto, using(crate::proofs::Scan::scan_mask_unary))]
-pub(crate) fn mask_unary(word: u32) -> Option<Instr>
-    ensures row { result ≡ scan (rows MaskUnaries) word }
-    ensures group { IfSome result (λ i. is_rest i ≡ true) }
+pub(crate) fn mask_unary(word: u32) -> Option<VectorInstr>
+    ensures row { option_map Instr.Vector result ≡ scan (rows MaskUnaries) word }
+    ensures group { IfSome result (λ i. is_irregular i ≡ true) }
 {
     let op = mask_unary_op(word & 0xfc0f_f07f)?;
-    Some(Instr::Vector(VectorInstr::MaskUnary {
+    Some(VectorInstr::MaskUnary {
         op,
         vd: vreg(word, 7),
         vs2: vreg(word, 20),
         vm: is_unmasked(word),
-    }))
+    })
 }
 
 /// `vid.v`.
-pub(crate) fn element_index(word: u32) -> Option<Instr>
-    ensures row { result ≡ scan (rows ElementIndices) word }
-    ensures group { IfSome result (λ i. is_rest i ≡ true) }
+pub(crate) fn element_index(word: u32) -> Option<VectorInstr>
+    ensures row { option_map Instr.Vector result ≡ scan (rows ElementIndices) word }
+    ensures group { IfSome result (λ i. is_irregular i ≡ true) }
 {
     if word & 0xfdff_f07f == 0x5008_a057 {
-        Some(Instr::Vector(VectorInstr::ElementIndex {
+        Some(VectorInstr::ElementIndex {
             vd: vreg(word, 7),
             vm: is_unmasked(word),
-        }))
+        })
     } else {
         None
     }
 }
 
 /// `vmv.x.s`.
-pub(crate) fn move_to_scalar(word: u32) -> Option<Instr>
-    ensures row { result ≡ scan (rows MovesToScalar) word }
-    ensures group { IfSome result (λ i. is_rest i ≡ true) }
+pub(crate) fn move_to_scalar(word: u32) -> Option<VectorInstr>
+    ensures row { option_map Instr.Vector result ≡ scan (rows MovesToScalar) word }
+    ensures group { IfSome result (λ i. is_irregular i ≡ true) }
 {
     if word & 0xfe0f_f07f == 0x4200_2057 {
-        Some(Instr::Vector(VectorInstr::MoveToScalar {
+        Some(VectorInstr::MoveToScalar {
             rd: reg(word, 7),
             vs2: vreg(word, 20),
-        }))
+        })
     } else {
         None
     }
 }
 
 /// `vmv.s.x`.
-pub(crate) fn move_to_vector(word: u32) -> Option<Instr>
-    ensures row { result ≡ scan (rows MovesToVector) word }
-    ensures group { IfSome result (λ i. is_rest i ≡ true) }
+pub(crate) fn move_to_vector(word: u32) -> Option<VectorInstr>
+    ensures row { option_map Instr.Vector result ≡ scan (rows MovesToVector) word }
+    ensures group { IfSome result (λ i. is_irregular i ≡ true) }
 {
     if word & 0xfff0_707f == 0x4200_6057 {
-        Some(Instr::Vector(VectorInstr::MoveToVector {
+        Some(VectorInstr::MoveToVector {
             vd: vreg(word, 7),
             rs1: reg(word, 15),
-        }))
+        })
     } else {
         None
     }

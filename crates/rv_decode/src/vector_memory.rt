@@ -1,6 +1,5 @@
 //! Words to vector accesses of memory, a function for each layout of operands.
-ghost use Rattle.std.specs.Prelude.{◌≡◌, IfSome, true};
-ghost use Rattle.rv_decode.specs.Opcodes.{is_rest, is_vector_access};
+ghost use Rattle.std.specs.Prelude.{◌≡◌, option_map};
 ghost use Rattle.rv_model.specs.instructions.Table.{scan, rows, Units, Strideds, Indexeds, WholeLoads, WholeStores, MaskMemories};
 
 use crate::memory_operations::{
@@ -14,29 +13,27 @@ use rv_model::{AccessInstr, Field, Instr};
 /// Unit stride.
 #[tactic(auto, using(crate::proofs::Scan::scan_unit))]
 #[inline(always)]
-pub(crate) fn unit(word: u32) -> Option<Instr>
-    ensures row { result ≡ scan (rows Units) word }
-    ensures group { IfSome result (λ i. is_vector_access i ≡ true) }
+pub(crate) fn unit(word: u32) -> Option<AccessInstr>
+    ensures { option_map Instr.Access result ≡ scan (rows Units) word }
 {
     let (op, width) = unit_access(word & 0x1df0_707f)?;
-    Some(Instr::Access(AccessInstr::UnitStride {
+    Some(AccessInstr::UnitStride {
         op,
         width,
         nf: Field::new(bits(word, 29, 3)),
         vd: vreg(word, 7),
         rs1: reg(word, 15),
         vm: is_unmasked(word),
-    }))
+    })
 }
 
 /// Strided.
 #[tactic(auto, using(crate::proofs::Scan::scan_strided))]
-pub(crate) fn strided(word: u32) -> Option<Instr>
-    ensures row { result ≡ scan (rows Strideds) word }
-    ensures group { IfSome result (λ i. is_rest i ≡ true) }
+pub(crate) fn strided(word: u32) -> Option<AccessInstr>
+    ensures { option_map Instr.Access result ≡ scan (rows Strideds) word }
 {
     let (direction, width) = strided_access(word & 0x1c00_707f)?;
-    Some(Instr::Access(AccessInstr::Strided {
+    Some(AccessInstr::Strided {
         direction,
         width,
         nf: Field::new(bits(word, 29, 3)),
@@ -44,17 +41,16 @@ pub(crate) fn strided(word: u32) -> Option<Instr>
         rs1: reg(word, 15),
         rs2: reg(word, 20),
         vm: is_unmasked(word),
-    }))
+    })
 }
 
 /// Indexed.
 #[tactic(auto, using(crate::proofs::Scan::scan_indexed))]
-pub(crate) fn indexed(word: u32) -> Option<Instr>
-    ensures row { result ≡ scan (rows Indexeds) word }
-    ensures group { IfSome result (λ i. is_rest i ≡ true) }
+pub(crate) fn indexed(word: u32) -> Option<AccessInstr>
+    ensures { option_map Instr.Access result ≡ scan (rows Indexeds) word }
 {
     let ((direction, order), width) = indexed_access(word & 0x1c00_707f)?;
-    Some(Instr::Access(AccessInstr::Indexed {
+    Some(AccessInstr::Indexed {
         direction,
         order,
         width,
@@ -63,48 +59,45 @@ pub(crate) fn indexed(word: u32) -> Option<Instr>
         rs1: reg(word, 15),
         vs2: vreg(word, 20),
         vm: is_unmasked(word),
-    }))
+    })
 }
 
 /// Loads of whole registers.
 #[tactic(auto, using(crate::proofs::Scan::scan_whole_load))]
-pub(crate) fn whole_load(word: u32) -> Option<Instr>
-    ensures row { result ≡ scan (rows WholeLoads) word }
-    ensures group { IfSome result (λ i. is_rest i ≡ true) }
+pub(crate) fn whole_load(word: u32) -> Option<AccessInstr>
+    ensures { option_map Instr.Access result ≡ scan (rows WholeLoads) word }
 {
     let (count, width) = whole_load_access(word & 0xfff0_707f)?;
-    Some(Instr::Access(AccessInstr::WholeLoad {
+    Some(AccessInstr::WholeLoad {
         count,
         width,
         vd: vreg(word, 7),
         rs1: reg(word, 15),
-    }))
+    })
 }
 
 /// Stores of whole registers.
 #[tactic(auto, using(crate::proofs::Scan::scan_whole_store))]
-pub(crate) fn whole_store(word: u32) -> Option<Instr>
-    ensures row { result ≡ scan (rows WholeStores) word }
-    ensures group { IfSome result (λ i. is_rest i ≡ true) }
+pub(crate) fn whole_store(word: u32) -> Option<AccessInstr>
+    ensures { option_map Instr.Access result ≡ scan (rows WholeStores) word }
 {
     let count = whole_store_count(word & 0xfff0_707f)?;
-    Some(Instr::Access(AccessInstr::WholeStore {
+    Some(AccessInstr::WholeStore {
         count,
         vd: vreg(word, 7),
         rs1: reg(word, 15),
-    }))
+    })
 }
 
 /// `vlm.v` and `vsm.v`.
 #[tactic(auto, using(crate::proofs::Scan::scan_mask_memory))]
-pub(crate) fn mask_memory(word: u32) -> Option<Instr>
-    ensures row { result ≡ scan (rows MaskMemories) word }
-    ensures group { IfSome result (λ i. is_rest i ≡ true) }
+pub(crate) fn mask_memory(word: u32) -> Option<AccessInstr>
+    ensures { option_map Instr.Access result ≡ scan (rows MaskMemories) word }
 {
     let direction = mask_memory_direction(word & 0xfff0_707f)?;
-    Some(Instr::Access(AccessInstr::MaskAccess {
+    Some(AccessInstr::MaskAccess {
         direction,
         vd: vreg(word, 7),
         rs1: reg(word, 15),
-    }))
+    })
 }

@@ -1,7 +1,6 @@
 //! One vector instruction, carried out.
-ghost use Rattle.std.specs.Prelude.{◌≡◌, ◌≢◌, ◌≤◌, ◌||◌, IsTrue, List, ℕ};
+ghost use Rattle.std.specs.Prelude.{◌≡◌, ◌≢◌, ◌≤◌, IsTrue, List, ℕ};
 ghost use Rattle.rv_model.specs.memory.Memory.{Memory};
-ghost use Rattle.rv_model.specs.lending.Accesses.{is_access};
 ghost use Rattle.rv_model.specs.step.Hart.{hart_state};
 ghost use Rattle.rv_model.specs.step.GoesOn.{InstructionGoesOn};
 ghost use Rattle.rv_model.specs.step.VectorStep.{is_vector, operation_step, vector_ends, vector_executed};
@@ -12,7 +11,7 @@ use crate::arithmetic::{perform_arith, perform_carry, perform_extension, perform
 use crate::mask_instructions::{
     perform_element_index, perform_mask_logic, perform_mask_to_scalar, perform_mask_unary,
 };
-use crate::memory_instructions::perform_access;
+use crate::memory_instructions::exec_other_access;
 use crate::permutation_instructions::{
     perform_compress, perform_move_to_scalar, perform_move_to_vector, perform_whole_move,
 };
@@ -30,7 +29,7 @@ fn perform_irregular(
     scalar: &mut Scalar,
     policy: Policy,
 ) -> VEnd
-    requires irregular { IsTrue (is_irregular (Instr.Vector operation.now)) }
+    requires irregular { IsTrue (is_irregular operation.now) }
     requires legal { IsTrue (is_legal (Instr.Vector operation.now) state.old.conf.vtype state.old.vstart) }
     ensures model { (memory : Memory) (output : List ℕ)
         → operation_step operation.now (hart_state scalar.old state.old memory policy output)
@@ -108,41 +107,29 @@ pub fn exec_arith(
     perform_arith(arith, vd, vs2, unmasked, state, scalar, policy)
 }
 
-/// Carries out a vector instruction of a user without a line of its own in the manual's table, of at most
-/// `limit` indices where it is a load or store: the same as `exec`.
+/// Carries out a vector operation of a user that has no line of its own in the manual's table: the same as `exec` of the
+/// instruction.
 #[tactic(auto, unfolding(rv_model::specs::step::VectorStep::vector_executed, rv_model::specs::step::VectorStep::performed))]
 #[inline(always)]
-pub fn exec_rest<M: UserBytes>(
-    instr: &Instr,
+pub fn exec_operation(
+    operation: &VectorInstr,
     state: &mut VState,
     scalar: &mut Scalar,
-    memory: &mut M,
-    limit: usize,
     policy: Policy,
 ) -> VEnd
-    requires vector { IsTrue (is_vector instr.now) }
-    requires rest { IsTrue (is_irregular instr.now || is_access instr.now) }
-    requires limit { 1 ≤ limit }
-    ensures model { (output : List ℕ)
-        → vector_executed limit instr.now (hart_state scalar.old state.old (M.memory memory.old) policy output)
-        ≡ vector_ends result (hart_state scalar.new state.new (M.memory memory.new) policy output) }
-
-    // All else that the user's bytes hold stays.
-    ensures memory { memory.new ≡ M.with_memory memory.old (M.memory memory.new) }
+    requires irregular { IsTrue (is_irregular operation.now) }
+    ensures model { (limit : ℕ) (memory : Memory) (output : List ℕ)
+        → vector_executed limit (Instr.Vector operation.now) (hart_state scalar.old state.old memory policy output)
+        ≡ vector_ends result (hart_state scalar.new state.new memory policy output) }
 
     // What the illegal instruction finds is what it leaves.
     ensures illegal_state { result ≡ VEnd.Illegal → state.new ≡ state.old }
     ensures illegal_scalar { result ≡ VEnd.Illegal → scalar.new ≡ scalar.old }
-    ensures illegal_memory { result ≡ VEnd.Illegal → memory.new ≡ memory.old }
 {
-    if !legal(instr, &state.conf, state.vstart) {
+    if !legal(&Instr::Vector(*operation), &state.conf, state.vstart) {
         return VEnd::Illegal;
     }
-    match instr {
-        Instr::Vector(operation) => perform_irregular(operation, state, scalar, policy),
-        Instr::Access(access) => perform_access(access, state, scalar, memory, limit, policy),
-        _ => unreachable!(),
-    }
+    perform_irregular(operation, state, scalar, policy)
 }
 
 /// Carries out a vector instruction of a user, of at most `limit` indices where it is a load or store. The
@@ -176,10 +163,12 @@ pub fn exec<M: UserBytes>(
     ensures illegal_memory { result ≡ VEnd.Illegal → memory.new ≡ memory.old }
 {
     state.conf.length_law();
-    match *instr {
+    match instr {
         Instr::Vector(VectorInstr::Arith { arith, vd, vs2, vm }) => {
-            exec_arith(arith, vd, vs2, vm, state, scalar, policy)
+            exec_arith(*arith, *vd, *vs2, *vm, state, scalar, policy)
         }
-        _ => exec_rest(instr, state, scalar, memory, limit, policy),
+        Instr::Vector(operation) => exec_operation(operation, state, scalar, policy),
+        Instr::Access(access) => exec_other_access(access, state, scalar, memory, limit, policy),
+        Instr::Scalar(_) | Instr::Csr(_) => unreachable!(),
     }
 }

@@ -34,6 +34,6 @@ mod vset;
 mod whole_moves;
 mod widen;
 
-pub use execution::{exec, exec_arith, exec_rest};
-pub use memory_instructions::exec_access;
+pub use execution::{exec, exec_arith, exec_operation};
+pub use memory_instructions::{exec_access, exec_other_access};
 pub use rv_model::VEnd;

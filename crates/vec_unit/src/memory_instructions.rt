@@ -231,3 +231,29 @@ pub fn exec_access<M: UserBytes>(
         }
     }
 }
+
+/// Carries out a vector load or store of a user, of at most `limit` indices, as `exec_access` does, but out of line.
+#[tactic(auto, unfolding(rv_model::specs::step::VectorStep::vector_executed))]
+#[inline(never)]
+pub fn exec_other_access<M: UserBytes>(
+    access: &AccessInstr,
+    state: &mut VState,
+    scalar: &Scalar,
+    memory: &mut M,
+    limit: usize,
+    policy: Policy,
+) -> VEnd
+    requires limit { 1 ≤ limit }
+    ensures model { (output : List ℕ)
+        → vector_executed limit (Instr.Access access.now)
+        (hart_state scalar.now state.old (M.memory memory.old) policy output)
+        ≡ vector_ends result (hart_state scalar.now state.new (M.memory memory.new) policy output) }
+    ensures memory { memory.new ≡ M.with_memory memory.old (M.memory memory.new) }
+    ensures illegal_state { result ≡ VEnd.Illegal → state.new ≡ state.old }
+    ensures illegal_memory { result ≡ VEnd.Illegal → memory.new ≡ memory.old }
+{
+    if !is_legal(access, &state.conf, state.vstart) {
+        return VEnd::Illegal;
+    }
+    perform_access(access, state, scalar, memory, limit, policy)
+}

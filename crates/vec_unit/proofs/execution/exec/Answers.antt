@@ -13,10 +13,19 @@ returns-in-Vector-Arith-clause-restarts g c = λ output.
     (hart_state c.args.scalar.now c.exec_arith.new.state memory c.args.policy output))
     c.length_law.ensures (rw (c.in-Vector-Arith.is, operation) (c.exec_arith.ensures.model c.args.limit memory output))
 
-pub returns-in_default-clause-restarts : goal.returns-in_default-clause-restarts
-returns-in_default-clause-restarts g c = λ output.
+pub returns-in-Vector-clause-restarts : goal.returns-in-Vector-clause-restarts
+returns-in-Vector-clause-restarts g c = λ output.
+    let memory = g.M.UserBytes.memory c.args.memory.now in
+    instruction_goes_on c.args.limit c.args.instr.now
+    (hart_state c.args.scalar.now c.args.state.now memory c.args.policy output)
+    (vector_ends c.exec_operation.result
+    (hart_state c.exec_operation.new.scalar c.exec_operation.new.state memory c.args.policy output))
+    c.length_law.ensures (rw c.in-Vector.is (c.exec_operation.ensures.model c.args.limit memory output))
+
+pub returns-in-Access-clause-restarts : goal.returns-in-Access-clause-restarts
+returns-in-Access-clause-restarts g c = λ output.
     instruction_goes_on c.args.limit c.args.instr.now
     (hart_state c.args.scalar.now c.args.state.now (g.M.UserBytes.memory c.args.memory.now) c.args.policy output)
-    (vector_ends c.exec_rest.result
-    (hart_state c.exec_rest.new.scalar c.exec_rest.new.state (g.M.UserBytes.memory c.exec_rest.new.memory) c.args.policy output))
-    c.length_law.ensures (c.exec_rest.ensures.model output)
+    (vector_ends c.exec_other_access.result
+    (hart_state c.args.scalar.now c.exec_other_access.new.state (g.M.UserBytes.memory c.exec_other_access.new.memory) c.args.policy output))
+    c.length_law.ensures (rw c.in-Access.is (c.exec_other_access.ensures.model output))

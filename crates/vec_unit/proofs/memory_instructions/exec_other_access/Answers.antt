@@ -1,0 +1,12 @@
+use Rattle.std.proofs.Common.{◌≡◌, true, sym, ◌∙◌}
+use Rattle.rv_model.specs.declared.instructions.instruction.Instr.TheVariants as instr
+use Rattle.rv_model.specs.legality.Legality.{is_legal}
+use Rattle.rv_model.specs.step.VectorStep.{vector_executed}
+use Rattle.vec_unit.proofs.memory_instructions.exec_other_access.Goals as goal
+
+pub returns-clause-model : goal.returns-clause-model
+unfolding vector_executed
+returns-clause-model g c = λ output.
+    let allowed : is_legal (instr.Access c.args.access.now) c.args.state.now.conf.vtype c.args.state.now.vstart ≡ true =
+    sym c.is_legal.ensures ∙ c.if-not-is_legal.false in
+    rw allowed (c.perform_access.ensures.model output)
