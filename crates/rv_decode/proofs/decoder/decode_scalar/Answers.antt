@@ -6,4 +6,4 @@ use Rattle.rv_decode.proofs.Scan.{no_opcode, none_either_way}
 use Rattle.rv_decode.proofs.decoder.decode_scalar.Goals as goal
 
 pub returns-in_default-clause-row : goal.returns-in_default-clause-row
-returns-in_default-clause-row c = none_either_way (is_scalar_opcode (bit_and c.args.word 0x7f)) (scan table c.args.word) (no_opcode c.args.word (omega arith, (omega arith, (omega arith, (omega arith, (omega arith, (omega arith, (omega arith, (omega arith, (omega arith, (omega arith, (omega arith, (omega arith, (omega arith, (omega arith, (omega arith, (omega arith, tt)))))))))))))))))
+returns-in_default-clause-row c = none_either_way (is_scalar_opcode (bit_and c.args.word 0x7f)) (scan table c.args.word) (no_opcode c.args.word (grind arith, (grind arith, (grind arith, (grind arith, (grind arith, (grind arith, (grind arith, (grind arith, (grind arith, (grind arith, (grind arith, (grind arith, (grind arith, (grind arith, (grind arith, (grind arith, tt)))))))))))))))))
