@@ -9,6 +9,7 @@ use Rattle.std.specs.Int.{byte_at, bytes_low_first}
 use lib.Lanes.{put_chunk}
 use Rattle.rv_model.specs.elements.Elements.{element, mask_bit, byte_of_bits}
 use Rattle.rv_model.specs.elements.Writes.{bit_or, byte_with_bits}
+use Rattle.rv_model.specs.lending.Writes.{WritesBits}
 use Rattle.rv_model.proofs.element_lemmas.Bits.{RebuiltTo, byte_kept, same_byte}
 use Rattle.rv_model.proofs.element_lemmas.Reads.{bytes_power}
 use Rattle.rv_model.proofs.element_lemmas.Writes.{byte_at-is, get_or-bytes, length-bytes}
@@ -94,3 +95,16 @@ pub picked : (c b o : Bool) (a n : Bool) {x y : Bool} → x ≡ cond a y (not n)
 picked true true o a n e f g h = rw (e, f, g) refl
 picked true false o a n e f g h = rw (e, f, g) refl
 picked false b o a n e f g h = rw (e, f, h) refl
+
+-- bytes that are rebuilt up to one, where those from that one on are as they would be rebuilt
+pub rebuild_rest : (changed bit : ℕ → Bool) (q : ℕ) (old new : List ℕ)
+    → ((x : ℕ) → x < length old → q ≤ x → get_or old x 0 ≡ byte_with_bits changed bit old x) → RebuiltTo changed bit q old new
+    → WritesBits changed bit old new
+rebuild_rest changed bit q old new rest was = record {
+  same_length = was.same_length;
+  bytes = λ x h. elim (cases_lt x q) [
+    | inl low ↦ was.bytes x h ∙ ap (λ t. cond t (byte_with_bits changed bit old x) (get_or old x 0)) (lt-ltb x q low)
+    | inr high ↦
+        was.bytes x h ∙ ap (λ t. cond t (byte_with_bits changed bit old x) (get_or old x 0)) (le-ltb x q high) ∙ rest x h high
+  ];
+}

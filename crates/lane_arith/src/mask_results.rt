@@ -97,25 +97,11 @@ fn byte_with_bits<L: Lane, R: MaskResults<L>>(
         + 128 * one_if(bit_or(results, body, bytes, first + 7))
 }
 
-/// A byte with its active bits replaced by results, which is as it was where no active bit is in it.
-fn rebuilt<L: Lane, R: MaskResults<L>>(
-    results: &R,
-    body: &Body<'_>,
-    bytes: &[u8],
-    index: usize,
-) -> u8
-    requires operands { (i : ℕ) → i < body.now.end → R.has results.now i }
-    requires room { index < length bytes.now }
-    requires most { length bytes.now ≤ GROUP_BYTES }
-    requires count { body.now.end ≤ GROUP_BYTES }
-    ensures { result ≡ byte_with_bits (is_active body.now) (R.bit results.now) bytes.now index }
-{
-    if body.end() <= 8 * index {
-        bytes[index]
-    } else {
-        byte_with_bits(results, body, bytes, index)
-    }
-}
+/// A byte past the body is already the one with its active bits replaced, since it has none.
+fn bytes_past_the_body<L: Lane, R: MaskResults<L>>(_results: &R, _body: &Body<'_>, _bytes: &[u8])
+    ensures { (q : ℕ) → _body.now.end ≤ 8 * q → slice_index _bytes.now q
+        ≡ byte_with_bits (is_active _body.now) (R.bit _results.now) _bytes.now q }
+{}
 
 /// The results for the 32 bits of a word of the destination, where their chunks are made by SIMD.
 fn word_results<L: Lane, R: MaskResults<L>>(results: &R, word: usize) -> Option<u64>
@@ -191,16 +177,19 @@ pub fn put_bits(results: u8x32, body: &Body<'_>, destination: &mut [u8]) -> bool
     true
 }
 
-/// `write_mask_results`, word by word as far as their results are made by SIMD, and then byte by byte.
+/// `write_mask_results`, word by word as far as their results are made by SIMD, and then byte by byte, up to the last with a
+/// bit of the body.
 fn write_in_turn<L: Lane, R: MaskResults<L>>(results: &R, body: &Body<'_>, destination: &mut [u8])
     requires operands { (i : ℕ) → i < body.now.end → R.has results.now i }
     requires most { length destination.old ≤ GROUP_BYTES }
     requires count { body.now.end ≤ GROUP_BYTES }
     ensures { WritesBits (is_active body.now) (R.bit results.now) destination.old destination.new }
 {
+    bytes_past_the_body(results, body, destination);
     let done = write_words(results, body, destination);
-    for i in done..destination.len() {
-        destination[i] = rebuilt(results, body, destination, i);
+    let end = body.end().div_ceil(8).min(destination.len());
+    for i in done..end {
+        destination[i] = byte_with_bits(results, body, destination, i);
     }
 }
 
