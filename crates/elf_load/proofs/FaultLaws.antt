@@ -4,8 +4,9 @@ use Rattle.std.specs.Prelude.{find}
 use Rattle.rv_model.specs.declared.images.ElfFault.{ElfFault}
 use Rattle.rv_model.specs.declared.images.ElfFault.TheVariants.{BadShort, BadHeaderTable, BadFileSize, BadOutside, BadAddress, BadEntry}
 use Rattle.rv_model.specs.images.Fields.{entry_of, table_offset, header_count}
-use Rattle.rv_model.specs.images.Faults.{has_fault, any_header_has, file_faults, table_faults, segment_faults, all_faults, first_fault}
+use Rattle.rv_model.specs.images.Faults.{has_fault, all_faults, first_fault}
 use Rattle.elf_load.specs.Headers.{HasHeaders}
+use Rattle.elf_load.specs.Parts.{header_has, any_header_has, file_faults, table_faults, segment_faults}
 
 -- ---- the first that passes
 
@@ -99,13 +100,13 @@ sound_headers image sound = record {
 }
 
 pub no_bad_address : (image : List ℕ) → first_fault image ≡ None → any_header_has image BadAddress ≡ false
-unfolding first_fault has_fault
+unfolding first_fault has_fault header_has
 no_bad_address image sound = none_found (has_fault image) all_faults 11 BadShort sound (omega arith)
 
 pub no_bad_file_size : (image : List ℕ) → first_fault image ≡ None → any_header_has image BadFileSize ≡ false
-unfolding first_fault has_fault
+unfolding first_fault has_fault header_has
 no_bad_file_size image sound = none_found (has_fault image) all_faults 9 BadShort sound (omega arith)
 
 pub none_outside : (image : List ℕ) → first_fault image ≡ None → any_header_has image BadOutside ≡ false
-unfolding first_fault has_fault
+unfolding first_fault has_fault header_has
 none_outside image sound = none_found (has_fault image) all_faults 10 BadShort sound (omega arith)

@@ -5,9 +5,10 @@ use Rattle.std.proofs.lemmas.Bool.{cases_eq, cases_lt, or_left, or_right}
 use Rattle.rv_model.specs.declared.images.ProgramHeader.{ProgramHeader}
 use Rattle.rv_model.specs.images.Fields.{header_count, program_header}
 use Rattle.rv_model.specs.declared.images.ElfFault.TheVariants.{BadAddress}
-use Rattle.rv_model.specs.images.Faults.{header_has, first_fault}
+use Rattle.rv_model.specs.images.Faults.{first_fault}
 use Rattle.rv_model.specs.images.Image.{stack, placed_headers, touches_page, is_touched, is_allowed_by}
 use Rattle.rv_model.specs.memory.Sizes.{page_size}
+use Rattle.elf_load.specs.Parts.{header_has}
 use Rattle.elf_load.specs.Headers.{first_headers}
 use Rattle.elf_load.specs.Pages.{IsFirst, IsFirstIfAny, earlier, pages_below, first_placed, EndsInMemory, grants}
 use Rattle.elf_load.proofs.HeaderLaws.{any_none, any_more, any_at, none_at, first_headers_all}

@@ -8,11 +8,12 @@ use Rattle.rv_model.specs.declared.memory.Access.{Access}
 use Rattle.rv_model.specs.declared.memory.Access.TheVariants.{Monitor}
 use Rattle.rv_model.specs.declared.images.ElfFault.TheVariants.{BadFileSize, BadOutside}
 use Rattle.rv_model.specs.images.Fields.{header_count, program_header}
-use Rattle.rv_model.specs.images.Faults.{header_has, first_fault}
+use Rattle.rv_model.specs.images.Faults.{first_fault}
 use Rattle.rv_model.specs.memory.Memory.{Memory, can_access, put_bytes}
 use Rattle.rv_model.specs.images.Image.{stack, placed_headers, covers, touches_page, is_touched, byte_in, all_pages, image_byte}
 use Rattle.rv_model.proofs.memory_lemmas.Memory.{can_access_from, can_access-at, is_allowed-put_bytes, put_bytes-append}
 use Rattle.rv_model.specs.memory.Sizes.{page_size}
+use Rattle.elf_load.specs.Parts.{header_has}
 use Rattle.elf_load.specs.Pages.{first_placed}
 use Rattle.elf_load.specs.Placing.{memory_with, memory_after}
 use Rattle.elf_load.proofs.HeaderLaws.{any_at, none_at}

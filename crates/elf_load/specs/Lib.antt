@@ -1,4 +1,5 @@
 pub mod Headers
 pub mod Laws
 pub mod Pages
+pub mod Parts
 pub mod Placing

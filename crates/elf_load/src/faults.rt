@@ -1,7 +1,8 @@
 //! The first fault of an image.
 ghost use Rattle.std.specs.Prelude.{◌≡◌, ◌≤◌, ◌+◌, ◌*◌, length, find, None};
 ghost use Rattle.rv_model.specs.images.Fields.{header_count};
-ghost use Rattle.rv_model.specs.images.Faults.{has_fault, header_has, any_header_has, file_faults, table_faults, segment_faults, first_fault};
+ghost use Rattle.rv_model.specs.images.Faults.{has_fault, first_fault};
+ghost use Rattle.elf_load.specs.Parts.{header_has, any_header_has, file_faults, table_faults, segment_faults};
 ghost use Rattle.elf_load.specs.Headers.{HasHeaders};
 
 use crate::fields::{
@@ -81,7 +82,7 @@ fn table_fault(image: &[u8]) -> Option<ElfFault>
 }
 
 /// Whether a program header by itself has a fault, in a file of `size` bytes.
-#[tactic(auto, unfolding(rv_model::specs::images::Faults::header_has))]
+#[tactic(auto, unfolding(crate::specs::Parts::header_has))]
 fn header_has(header: ProgramHeader, fault: ElfFault, size: usize) -> bool
     ensures { result ≡ header_has size fault header }
 {
@@ -115,7 +116,7 @@ fn any_header_has(image: &[u8], fault: ElfFault) -> bool
 }
 
 /// The first fault of the program headers.
-#[tactic(auto, unfolding(rv_model::specs::images::Faults::has_fault))]
+#[tactic(auto, unfolding(rv_model::specs::images::Faults::has_fault, crate::specs::Parts::header_has))]
 fn segment_fault(image: &[u8]) -> Option<ElfFault>
     requires { HasHeaders image.now }
     ensures { result ≡ find (has_fault image.now) segment_faults }

@@ -1,6 +1,6 @@
 //! The fields of an image's headers.
 ghost use Rattle.std.specs.Prelude.{◌≡◌, ◌+◌, ◌*◌, ◌≤◌, length};
-ghost use Rattle.rv_model.specs.images.Fields.{number_in_file, entry_of, type_of, machine_of, table_offset, header_size, header_count, header_at, program_header};
+ghost use Rattle.rv_model.specs.images.Fields.{number_in_file, entry_of, table_offset, header_count, header_at, program_header};
 
 use byteorder::{ByteOrder, LittleEndian};
 use rv_model::ProgramHeader;
@@ -35,7 +35,7 @@ fn number64(image: &[u8], offset: usize) -> u64
 /// The kind of file: `e_type`.
 pub(crate) fn file_type(image: &[u8]) -> u16
     requires { 64 ≤ length image.now }
-    ensures { result ≡ type_of image.now }
+    ensures { result ≡ number_in_file 16 2 image.now }
 {
     number16(image, 16)
 }
@@ -43,7 +43,7 @@ pub(crate) fn file_type(image: &[u8]) -> u16
 /// The machine that the file is for: `e_machine`.
 pub(crate) fn machine(image: &[u8]) -> u16
     requires { 64 ≤ length image.now }
-    ensures { result ≡ machine_of image.now }
+    ensures { result ≡ number_in_file 18 2 image.now }
 {
     number16(image, 18)
 }
@@ -67,7 +67,7 @@ pub(crate) fn table_offset(image: &[u8]) -> u64
 /// The bytes of a program header: `e_phentsize`.
 pub(crate) fn header_size(image: &[u8]) -> u16
     requires { 64 ≤ length image.now }
-    ensures { result ≡ header_size image.now }
+    ensures { result ≡ number_in_file 54 2 image.now }
 {
     number16(image, 54)
 }

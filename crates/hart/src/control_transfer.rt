@@ -1,6 +1,9 @@
 //! Jumps and branches (Unprivileged ISA 20191213, section 2.5).
 ghost use Rattle.std.specs.Prelude.{◌≡◌};
-ghost use Rattle.rv_model.specs.scalar.ControlTransfer.{branch_target, jump_target, register_target};
+ghost use Rattle.std.specs.Int.{w64};
+ghost use Rattle.rv_model.specs.scalar.ControlTransfer.{register_target};
+ghost use Rattle.rv_model.specs.scalar.Arithmetic.{sum};
+ghost use Rattle.rv_model.specs.instructions.Immediates.{b_immediate, j_immediate};
 ghost use Rattle.rv_model.specs.step.ScalarStep.{branch_step, jump_step, jumps};
 ghost use Rattle.hart.specs.States.{LeadsRegisters};
 
@@ -12,7 +15,7 @@ use scalar_core::{b_immediate, i_immediate, j_immediate};
 /// Where JAL goes.
 #[inline(always)]
 pub(crate) fn jump_target(pc: u64, imm: Field<20>) -> u64
-    ensures { result ≡ jump_target pc imm }
+    ensures { result ≡ sum w64 pc (j_immediate imm) }
 {
     pc.wrapping_add(j_immediate(imm))
 }
@@ -29,7 +32,7 @@ pub(crate) fn register_target(base: u64, imm: Field<12>) -> u64
 /// Where a branch goes.
 #[inline(always)]
 pub(crate) fn branch_target(pc: u64, imm: Field<12>) -> u64
-    ensures { result ≡ branch_target pc imm }
+    ensures { result ≡ sum w64 pc (b_immediate imm) }
 {
     pc.wrapping_add(b_immediate(imm))
 }

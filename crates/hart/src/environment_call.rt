@@ -1,12 +1,12 @@
 //! Calls of the environment, and breakpoints (Unprivileged ISA 20191213, section 2.8).
-ghost use Rattle.rv_model.specs.step.ScalarStep.{environment_call, system_step};
+ghost use Rattle.rv_model.specs.step.ScalarStep.{environment_call, scalar_step};
 ghost use Rattle.hart.specs.States.{LeadsOutput};
 
 use crate::retirement::write_rd;
 use crate::write_call::write;
 use arrayvec::ArrayVec;
 use rv_model::instructions::operations::SystemOp;
-use rv_model::{OUTPUT_SIZE, Reg, Scalar, StepEnd};
+use rv_model::{OUTPUT_SIZE, Reg, Scalar, ScalarInstr, StepEnd};
 use vector_memory::UserBytes;
 
 /// What a call that isn't known answers, negated: ENOSYS of Linux.
@@ -41,7 +41,7 @@ pub(crate) fn system<M: UserBytes>(
     memory: &M,
     output: &mut ArrayVec<u8, OUTPUT_SIZE>,
 ) -> StepEnd
-    ensures model { LeadsOutput (system_step op) scalar.old (M.memory memory.now) output.old.items
+    ensures model { LeadsOutput (scalar_step (ScalarInstr.System op)) scalar.old (M.memory memory.now) output.old.items
         scalar.new (M.memory memory.now) output.new.items result }
 {
     match op {

@@ -2,7 +2,7 @@
 ghost use Rattle.std.specs.Prelude.{◌≡◌, ◌≢◌, ◌≤◌, Ok, Err, None, bit_and, if◌then◌else◌, true, false};
 ghost use Rattle.rv_decode.specs.Opcodes.{is_scalar_opcode};
 ghost use Rattle.rv_model.specs.declared.memory.Access.TheVariants.{Fetch};
-ghost use Rattle.rv_model.specs.step.GoesOn.{StepGoesOn};
+ghost use Rattle.rv_model.specs.step.Resumes.{StepGoesOn};
 ghost use Rattle.rv_model.specs.step.Hart.{ends_after, hart_state};
 ghost use Rattle.rv_model.specs.instructions.Table.{scan, table};
 ghost use Rattle.rv_model.specs.memory.Memory.{can_access};
@@ -127,7 +127,7 @@ pub fn step<M: UserBytes, V: Vectors>(
     ensures uncut { GROUP_BYTES ≤ limit → result.0 ≢ StepEnd.Cut }
 
     // If it is cut or faults, it goes on from there, any number of times, in memories that may grow.
-    ensures goes_on { StepGoesOn limit
+    ensures goes_on { StepGoesOn step_spec fetched limit
         (hart_state view.old.scalar.now (V.lent view.old.vectors.now).state
         (M.memory view.old.memory.now) view.old.policy view.old.output.now.items)
         (ends_after result.1 result.0

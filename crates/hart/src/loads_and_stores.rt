@@ -3,7 +3,8 @@
 ghost use Rattle.std.specs.Prelude.{◌≡◌, ◌↔◌, IsOk, OnErr, OnOk, Ok, Err, if◌then◌else◌, length, true};
 ghost use Rattle.std.specs.Int.{byte_len, w8, w16, w32, w64};
 ghost use Rattle.rv_model.specs.declared.memory.Access.TheVariants.{Load, Store};
-ghost use Rattle.rv_model.specs.scalar.LoadsAndStores.{access_address, extended, load_width, number_at};
+ghost use Rattle.rv_model.specs.scalar.LoadsAndStores.{extended, load_width, number_at};
+ghost use Rattle.rv_model.specs.scalar.Arithmetic.{sum};
 ghost use Rattle.rv_model.specs.memory.Memory.{can_access, put_bytes};
 ghost use Rattle.rv_model.specs.step.ScalarStep.{load_step, store_step};
 ghost use Rattle.hart.specs.States.{LeadsScalar};
@@ -18,7 +19,7 @@ use vector_memory::UserBytes;
 /// The address that a load or store names, by a register and an immediate that is sign-extended to 64 bits.
 #[inline(always)]
 pub(crate) fn access_address(base: u64, immediate: u64) -> u64
-    ensures { result ≡ access_address base immediate }
+    ensures { result ≡ sum w64 base immediate }
 {
     base.wrapping_add(immediate)
 }

@@ -1,6 +1,6 @@
 //! How a number is rounded where its low bits are dropped ("V" Vector Extension 1.0, section 3.8).
-ghost use Rattle.std.specs.Prelude.{◌≡◌, ◌%◌, ◌<◌};
-ghost use Rattle.rv_model.specs.elements.FixedPoint.{has_bit, has_low_bits, rounded, rounds_up};
+ghost use Rattle.std.specs.Prelude.{◌≡◌, ◌%◌, ◌<◌, ◌==◌, not};
+ghost use Rattle.rv_model.specs.elements.FixedPoint.{has_bit, rounded, rounds_up};
 ghost use Rattle.rv_model.specs.elements.Formulas.{low_bits};
 ghost use mir.Val.{bits};
 
@@ -26,7 +26,7 @@ fn has_bit(index: u32, number: i128) -> bool
 /// Whether some of the low bits of a number are set.
 fn has_low_bits(count: u32, number: i128) -> bool
     requires { count < 64 }
-    ensures { result ≡ has_low_bits count number }
+    ensures { result ≡ not (low_bits count number == 0) }
 {
     low_bits(count, number) != 0
 }

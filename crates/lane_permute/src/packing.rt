@@ -1,7 +1,7 @@
 //! Elements that are packed, as a mask selects them ("V" Vector Extension 1.0, section 16.5).
-ghost use Rattle.std.specs.Prelude.{◌≡◌, ◌*◌, ◌<◌, ◌≤◌, ℕ, length, slice_index};
+ghost use Rattle.std.specs.Prelude.{◌≡◌, ◌*◌, ◌<◌, ◌≤◌, ℕ, length, nat_lt, slice_index};
 ghost use Rattle.rv_model.specs.elements.Elements.{element};
-ghost use Rattle.rv_model.specs.elements.Permutations.{is_packed, packed};
+ghost use Rattle.rv_model.specs.elements.Permutations.{packed};
 ghost use Rattle.rv_model.specs.lending.Writes.{Writes};
 ghost use Rattle.rv_model.specs.vector.Configuration.{width_bytes};
 
@@ -15,7 +15,7 @@ pub fn compress<L: Lane>(a: &[u8], select: &[u8; VLENB], end: usize, destination
     requires operand { width_bytes L.width * end ≤ length a.now }
     requires room { width_bytes L.width * end ≤ length destination.old }
     requires count { end ≤ GROUP_BYTES }
-    ensures { Writes (width_bytes L.width) (is_packed (packed select.now (element (width_bytes L.width) a.now) end))
+    ensures { Writes (width_bytes L.width) (λ j. nat_lt j (length (packed select.now (element (width_bytes L.width) a.now) end)))
         (slice_index (packed select.now (element (width_bytes L.width) a.now) end)) destination.old destination.new }
 {
     let mut count = 0;

@@ -1,9 +1,9 @@
 //! Slides: elements of a source that move up or down by an offset, or by one place ("V" Vector Extension
 //! 1.0, section 16.3).
-ghost use Rattle.std.specs.Prelude.{◌≡◌, ◌+◌, ◌-◌, ◌*◌, ◌<◌, ◌≤◌, ℕ, length};
+ghost use Rattle.std.specs.Prelude.{◌≡◌, ◌+◌, ◌-◌, ◌*◌, ◌<◌, ◌≤◌, ◌==◌, ℕ, length, max, if◌then◌else◌};
 ghost use Rattle.rv_model.specs.elements.Elements.{element};
 ghost use Rattle.rv_model.specs.lending.Writes.{HasElement};
-ghost use Rattle.rv_model.specs.elements.Permutations.{from_offset, slid_down, slid_one_down, slid_one_up, slid_up};
+ghost use Rattle.rv_model.specs.elements.Permutations.{gathered};
 ghost use Rattle.rv_model.specs.vector.Configuration.{width_bytes};
 
 use crate::gathers::gathered;
@@ -23,7 +23,7 @@ pub struct SlideUp<'a> {
 impl<'a> SlideUp<'a> {
     /// The elements that it works on: those of the instruction's body from the offset on.
     pub fn body<'b>(&self, body: &'b Body<'_>) -> Body<'b>
-        ensures { result ≡ from_offset body.now self.now.offset }
+        ensures { result ≡ record body.now { start = max body.now.start self.now.offset } }
     {
         let start = body.start().max(self.offset as usize);
         Body::new(body.is_unmasked(), body.mask(), start, body.end())
@@ -31,7 +31,7 @@ impl<'a> SlideUp<'a> {
 }
 
 impl<'a, L: Lane> Results<L> for SlideUp<'a> {
-    ghost number = { λ r i. slid_up (element (width_bytes L.width) r.a.now) r.offset i };
+    ghost number = { λ r i. element (width_bytes L.width) r.a.now (i - r.offset) };
 
     ghost has = { λ r i. HasElement (width_bytes L.width) r.a.now (i - r.offset) };
 
@@ -59,7 +59,7 @@ pub struct SlideDown<'a> {
 }
 
 impl<'a, L: Lane> Results<L> for SlideDown<'a> {
-    ghost number = { λ r i. slid_down r.limit (element (width_bytes L.width) r.a.now) r.offset i };
+    ghost number = { λ r i. gathered r.limit (element (width_bytes L.width) r.a.now) (i + r.offset) };
 
     ghost has = { λ r i. width_bytes L.width * r.limit ≤ length r.a.now };
 
@@ -88,7 +88,7 @@ pub struct SlideOneUp<'a, L> {
 }
 
 impl<'a, L: Lane> Results<L> for SlideOneUp<'a, L> {
-    ghost number = { λ r i. slid_one_up (L.value r.first) (element (width_bytes L.width) r.a.now) i };
+    ghost number = { λ r i. if i == 0 then L.value r.first else element (width_bytes L.width) r.a.now (i - 1) };
 
     ghost has = { λ r i. 0 < i → HasElement (width_bytes L.width) r.a.now (i - 1) };
 
@@ -116,7 +116,7 @@ pub struct SlideOneDown<'a, L> {
 }
 
 impl<'a, L: Lane> Results<L> for SlideOneDown<'a, L> {
-    ghost number = { λ r i. slid_one_down r.end (L.value r.last) (element (width_bytes L.width) r.a.now) i };
+    ghost number = { λ r i. if i + 1 == r.end then L.value r.last else element (width_bytes L.width) r.a.now (i + 1) };
 
     ghost has = { λ r i. (i < r.end) × (i + 1 < r.end → HasElement (width_bytes L.width) r.a.now (i + 1)) };
 

@@ -1,6 +1,7 @@
 -- Laws of the lazily switched vector unit.
 use Rattle.std.specs.Prelude.{ℕ, zero, suc, ◌-◌, ◌≡◌, ◌≢◌, ◌<◌, ◌≤◌, Bool, true, false, List, Option, Some, None, ◌&&◌, if◌then◌else◌, length, replicate, refl}
 use Rattle.std.proofs.Common.{ap, sym, ◌∙◌, arith, get_or, get_or-set_other, get_or-set_same, inl, inr}
+use Rattle.std.specs.Option.{ForSome}
 use Rattle.rv_model.specs.declared.vector.state.Seat.{Seat}
 use Rattle.rv_model.specs.declared.vector.state.VState.{VState}
 use Rattle.rv_model.specs.machine.Users.{user_count}
@@ -9,8 +10,16 @@ use Rattle.rv_model.specs.lending.Seats.{IsGivenBack}
 use Rattle.rv_model.specs.vector.State.{initial_vector}
 use Rattle.lazy_context.specs.declared.areas.Areas.{Areas}
 use Rattle.lazy_context.specs.declared.unit.Unit.{Unit}
-use Rattle.lazy_context.specs.LazyUnit.{IsOwnerAUser, IsSettled, IsSettledWith, KeepsArea, KeepsAreas, OthersKeep, areas_saved, discarded, new_unit, poked, record_of, state_among, state_of, taken, touched, with_seat}
+use Rattle.lazy_context.specs.LazyUnit.{IsOwnerAUser, IsSettled, KeepsArea, KeepsAreas, OthersKeep, areas_saved, discarded, new_unit, poked, record_of, state_of, taken, touched, with_seat}
 use Rattle.lazy_context.specs.SaveAreas.{area, new_areas, saved_state, with_register, with_saved}
+
+-- an owner's state that isn't dirty is the one that the save areas show
+abbrev pub IsSettledWith : Option ℕ → Seat → Areas → Type 0
+IsSettledWith owner seat areas = ForSome owner (λ user. seat.dirty ≡ false → seat.state ≡ saved_state areas user)
+
+-- the state of a user, by the owner, the seat and the save areas
+abbrev pub state_among : Option ℕ → Seat → Areas → ℕ → VState
+state_among owner seat areas user = if is_owned_by owner user then seat.state else saved_state areas user
 
 none_marked : (n m : ℕ) → get_or (replicate n false) m false ≡ false
 none_marked zero m = refl

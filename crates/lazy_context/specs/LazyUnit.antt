@@ -1,27 +1,23 @@
 -- One vector unit that all users share: it holds the vector state of one of them, its owner, and the states of the others are
 -- saved or initial (Privileged Architecture 20211203, section 3.1.6.6, the field VS).
-use Rattle.std.specs.Prelude.{ℕ, ◌≡◌, ◌≤◌, ◌≢◌, Bool, true, false, List, Option, Some, None, if◌then◌else◌, ◌&&◌}
+use Rattle.std.specs.Prelude.{ℕ, ◌≡◌, ◌≤◌, ◌≢◌, true, false, List, Option, Some, None, if◌then◌else◌, ◌&&◌}
 use Rattle.std.specs.Borrow.{Fml, Lends, MutBor}
 use Rattle.std.specs.Option.{ForSome}
 use Rattle.rv_model.specs.contracts.vector.state.Seat as seat_type
 use Rattle.rv_model.specs.declared.vector.state.Seat.{Seat}
 use Rattle.rv_model.specs.declared.vector.state.VState.{VState}
 use Rattle.rv_model.specs.machine.Users.{user_count}
-use Rattle.rv_model.specs.machine.VectorUnit.{VectorUnit, counted, is_owned_by, with_mark}
+use Rattle.rv_model.specs.machine.VectorUnit.{VectorUnit, counted, is_marked, is_owned_by, with_mark}
 use Rattle.rv_model.specs.lending.Seats.{IsGivenBack}
 use Rattle.rv_model.specs.vector.State.{initial_vector}
 use Rattle.lazy_context.specs.contracts.unit.Unit.{the_row}
 use Rattle.lazy_context.specs.declared.areas.Areas.{Areas}
 use Rattle.lazy_context.specs.declared.unit.Unit.{Unit}
-use Rattle.lazy_context.specs.SaveAreas.{area, areas_poked, count_restore, count_save, is_saved, new_areas, saved_state, with_register, with_saved}
-
--- the state of a user, by the owner, the seat and the save areas
-abbrev pub state_among : Option ℕ → Seat → Areas → ℕ → VState
-state_among owner seat areas user = if is_owned_by owner user then seat.state else saved_state areas user
+use Rattle.lazy_context.specs.SaveAreas.{area, count_restore, new_areas, saved_state, with_register, with_saved}
 
 -- the vector state that a user has: the owner's is in the unit, the others' are saved or initial
 abbrev pub state_of : Unit → ℕ → VState
-state_of unit user = state_among unit.owner unit.seat unit.areas user
+state_of unit user = if is_owned_by unit.owner user then unit.seat.state else saved_state unit.areas user
 
 -- what is counted of the unit, which holds no vector state
 abbrev pub record_of : Unit → VectorUnit
@@ -35,19 +31,15 @@ record_of unit =
       first_uses = unit.first_uses;
     }
 
--- an owner's state that isn't dirty is the one that the save areas show
-abbrev pub IsSettledWith : Option ℕ → Seat → Areas → Type 0
-IsSettledWith owner seat areas = ForSome owner (λ user. seat.dirty ≡ false → seat.state ≡ saved_state areas user)
-
 -- where there is an owner whose state isn't dirty, the state is the saved one, or the initial one where none is saved
 abbrev pub IsSettled : Unit → Type 0
-IsSettled unit = IsSettledWith unit.owner unit.seat unit.areas
+IsSettled unit = ForSome unit.owner (λ user. unit.seat.dirty ≡ false → unit.seat.state ≡ saved_state unit.areas user)
 
 -- the save areas once the owner's state is saved, which it is if it is dirty
 abbrev pub areas_saved : Option ℕ → Seat → Areas → Areas
 areas_saved None seat areas = areas
 areas_saved (Some owner) seat areas =
-    if seat.dirty then count_save (with_saved owner seat.state areas) else areas
+    if seat.dirty then record (with_saved owner seat.state areas) { saves = counted areas.saves } else areas
 
 -- the unit once the owner's state is saved, which it is if it is dirty
 abbrev pub owner_written_back : Unit → Unit
@@ -60,7 +52,7 @@ clean_seat state = record { state = state; dirty = false }
 -- a user becomes the owner, with what the save areas show
 abbrev pub taken : ℕ → Areas → Unit → Unit
 taken user areas unit =
-    if is_saved areas user
+    if is_marked areas.marks user
     then record unit { seat = clean_seat (saved_state areas user); owner = Some user; areas = count_restore areas }
     else record unit { seat = clean_seat initial_vector; owner = Some user; areas = areas; first_uses = counted unit.first_uses }
 
@@ -86,7 +78,7 @@ abbrev pub poked : ℕ → ℕ → List ℕ → Unit → Unit
 poked user register bytes unit =
     if is_owned_by unit.owner user
     then record unit { seat = record { state = with_register register bytes unit.seat.state; dirty = true } }
-    else record unit { areas = areas_poked user register bytes unit.areas }
+    else record unit { areas = with_saved user (with_register register bytes (saved_state unit.areas user)) unit.areas }
 
 -- the unit without what a user had: nothing of it is saved, and the user isn't the owner
 abbrev pub discarded : ℕ → Unit → Unit
@@ -106,13 +98,9 @@ OthersKeep user old new = (other : ℕ) → 1 ≤ other → other ≢ user → s
 abbrev pub AllKeep : Unit → Unit → Type 0
 AllKeep old new = (user : ℕ) → 1 ≤ user → state_of new user ≡ state_of old user
 
--- whether a user is the owner, whose state is dirty
-abbrev pub is_dirty_owner : Unit → ℕ → Bool
-is_dirty_owner unit user = is_owned_by unit.owner user && unit.seat.dirty
-
 -- a user's save area holds what it held, and the mark is the same
 abbrev pub KeepsArea : ℕ → Areas → Areas → Type 0
-KeepsArea user old new = (area new user ≡ area old user) × (is_saved new user ≡ is_saved old user)
+KeepsArea user old new = (area new user ≡ area old user) × (is_marked new.marks user ≡ is_marked old.marks user)
 
 -- the save areas hold what they held, and for the same users
 abbrev pub KeepsAreas : Unit → Unit → Type 0
@@ -120,7 +108,8 @@ KeepsAreas old new = (new.areas.states ≡ old.areas.states) × (new.areas.marks
 
 -- the save areas of all users keep what they hold, but for that of an owner whose state is dirty
 abbrev pub KeepsOtherAreas : Unit → Unit → Type 0
-KeepsOtherAreas old new = (other : ℕ) → 1 ≤ other → is_dirty_owner old other ≡ false → KeepsArea other old.areas new.areas
+KeepsOtherAreas old new = (other : ℕ) → 1 ≤ other
+    → (is_owned_by old.owner other && old.seat.dirty) ≡ false → KeepsArea other old.areas new.areas
 
 -- the save areas show what everyone has
 abbrev pub ShowAll : Areas → Unit → Type 0

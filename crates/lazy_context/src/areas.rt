@@ -1,8 +1,8 @@
 //! The save areas of all users.
-ghost use Rattle.std.specs.Prelude.{◌≡◌, false, length};
-ghost use Rattle.lazy_context.specs.SaveAreas.{IsSaved, areas_poked, count_restore, count_save, is_saved, new_areas, saved_state, with_saved};
+ghost use Rattle.std.specs.Prelude.{◌≡◌, false, length, true};
+ghost use Rattle.lazy_context.specs.SaveAreas.{count_restore, new_areas, saved_state, with_register, with_saved};
 ghost use Rattle.rv_model.specs.machine.Users.{user_count};
-ghost use Rattle.rv_model.specs.machine.VectorUnit.{with_mark};
+ghost use Rattle.rv_model.specs.machine.VectorUnit.{counted, is_marked, with_mark};
 ghost use Rattle.rv_model.specs.vector.Configuration.{IsConfiguration};
 
 use rv_model::{RegisterBytes, USER_COUNT, User, VConf, VReg, VState};
@@ -41,14 +41,14 @@ impl Areas {
 
     /// Whether a user's state is saved.
     pub fn marked(&self, user: User) -> bool
-        ensures { result ≡ is_saved self.now user }
+        ensures { result ≡ is_marked self.now.marks user }
     {
         self.marks[user.index()]
     }
 
     /// Saves a user's state, and counts it.
     pub fn save(&mut self, user: User, state: &VState)
-        ensures areas { self.new ≡ count_save (with_saved user state.now self.old) }
+        ensures areas { self.new ≡ record (with_saved user state.now self.old) { saves = counted self.old.saves } }
         ensures whole { (length self.old.states ≡ user_count) × (length self.old.marks ≡ user_count) }
     {
         let place = user.index();
@@ -59,7 +59,7 @@ impl Areas {
 
     /// Copies a saved state out, and counts it.
     pub fn restore(&mut self, user: User, state: &mut VState)
-        requires { IsSaved self.old user }
+        requires { is_marked self.old.marks user ≡ true }
         ensures areas { self.new ≡ count_restore self.old }
         ensures state { state.new ≡ saved_state self.old user }
     {
@@ -82,7 +82,7 @@ impl Areas {
     /// Writes a vector register of a user's saved state, which is the initial one before where none
     /// is saved; that isn't counted.
     pub fn poke(&mut self, user: User, vreg: VReg, bytes: &[u8; 32])
-        ensures areas { self.new ≡ areas_poked user vreg bytes.now self.old }
+        ensures areas { self.new ≡ with_saved user (with_register vreg bytes.now (saved_state self.old user)) self.old }
         ensures whole { (length self.old.states ≡ user_count) × (length self.old.marks ≡ user_count) }
     {
         let mut state = self.peek(user);

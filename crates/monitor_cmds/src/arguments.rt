@@ -1,5 +1,5 @@
 //! What a word means as an argument of a command.
-ghost use Rattle.std.specs.Prelude.{◌≡◌, ◌≤◌, ◌^◌, IfSome};
+ghost use Rattle.std.specs.Prelude.{◌≡◌, ◌≤◌, ◌^◌, IfSome, Some};
 ghost use Rattle.rv_model.specs.commands.Arguments.{decimal_number, address, instruction_address, scalar_register, vector_register, policy_word, allowing, permissions, number_between, sew_argument};
 ghost use Rattle.rv_model.specs.machine.Users.{user_count};
 ghost use Rattle.rv_model.specs.lending.Text.{capped};
@@ -128,7 +128,7 @@ pub(crate) fn policy(word: &[u8]) -> Option<Policy>
 
 /// What pages of these permissions allow a program.
 fn allowing(read: bool, write: bool, execute: bool) -> Option<Permissions>
-    ensures { result ≡ allowing read write execute }
+    ensures { result ≡ Some (allowing read write execute) }
 {
     Some(Permissions {
         read,

@@ -1,6 +1,9 @@
 //! The commands of the operator: `slices`, `run`, `list` and `stats`.
-ghost use Rattle.std.specs.Prelude.{◌≡◌, [], ◌∷◌, ◌++◌, ◌+◌, ◌≤◌, length, flat_map};
-ghost use Rattle.rv_model.specs.commands.Operator.{slices_args, run_args, operator_named, operator_parse, granted_line, standing_word, listed_user, list_line, owner_number, stats_line};
+ghost use Rattle.std.specs.Prelude.{◌≡◌, [], ◌∷◌, ◌++◌, ◌+◌, ◌≤◌, length, flat_map, unwrap_or};
+ghost use Rattle.rv_model.specs.declared.commands.operator.OperatorCommand.TheVariants.{Slices, Run};
+ghost use Rattle.rv_model.specs.commands.Arguments.{number_between};
+ghost use Rattle.rv_model.specs.commands.Reading.{one_argument};
+ghost use Rattle.rv_model.specs.commands.Operator.{operator_named, operator_parse, granted_line, standing_word, listed_user, list_line, stats_line};
 ghost use Rattle.rv_model.specs.machine.Users.{user_count, users};
 ghost use Rattle.rv_model.specs.text.Lines.{text};
 ghost use Rattle.rv_model.specs.text.Words.{words};
@@ -32,9 +35,9 @@ fn operator_named(name: &[u8], args: &[u8]) -> Option<Option<OperatorCommand>>
 }
 
 /// `slices N`, with 1 to 1,000 slices.
-#[tactic(auto, unfolding(rv_model::specs::commands::Operator::slices_args))]
+#[tactic(auto, unfolding(rv_model::specs::commands::Reading::one_argument))]
 fn slices_args(args: &[u8]) -> Option<OperatorCommand>
-    ensures { result ≡ slices_args (words args.now) }
+    ensures { result ≡ one_argument Slices (number_between 1 1000) (words args.now) }
 {
     let mut words = Words::new(args);
     let count = count(words.next_word()?)?;
@@ -42,9 +45,9 @@ fn slices_args(args: &[u8]) -> Option<OperatorCommand>
 }
 
 /// `run U`, with a user's number.
-#[tactic(auto, unfolding(rv_model::specs::commands::Operator::run_args))]
+#[tactic(auto, unfolding(rv_model::specs::commands::Reading::one_argument))]
 fn run_args(args: &[u8]) -> Option<OperatorCommand>
-    ensures { result ≡ run_args (words args.now) }
+    ensures { result ≡ one_argument Run (number_between 1 user_count) (words args.now) }
 {
     let mut words = Words::new(args);
     let user = user(words.next_word()?)?;
@@ -134,7 +137,7 @@ pub fn list_line(reply: &mut Reply, standings: &[Standing; USER_COUNT])
 
 /// The number of a user; 0 where there is none.
 fn owner_number(owner: Option<User>) -> u64
-    ensures { result ≡ owner_number owner }
+    ensures { result ≡ unwrap_or owner 0 }
 {
     match owner {
         Some(user) => u64::from(user.number()),

@@ -3,9 +3,10 @@ use Rattle.std.proofs.Common.{◌≡◌, inl, inr, ℕ, zero, suc, ◌+◌, ◌*
 use Rattle.std.specs.Prelude.{◌&&◌, map, if◌then◌else◌}
 use Rattle.std.proofs.lemmas.Bool.{cases_eq}
 use Rattle.std.proofs.lemmas.List.{ext_get_or, get_or-map, length-map}
+use Rattle.std.specs.Option.{option_map_or}
 use Rattle.rv_model.specs.declared.machine.standing.Standing.TheVariants.{Absent, Stopped, Running}
 use Rattle.rv_model.specs.machine.Cuts.{Try, tried_in, tries}
-use Rattle.rv_model.specs.machine.Grants.{granted, granted_first, next_running, runs, slice_of, standing}
+use Rattle.rv_model.specs.machine.Grants.{granted, next_running, runs, slice_of, standing}
 use Rattle.rv_model.specs.machine.PrivateMachine.{Private, Outcome, event, slice_ends, sliced}
 use Rattle.rv_model.specs.machine.Runs.{Halted, ticked}
 use Rattle.rv_model.specs.machine.Script.{World, Happening, with_unit, after_one, after_events, told_by, user_machine, with_user_machine}
@@ -133,13 +134,13 @@ nothing_sliced quantum u w stopped =
 -- one slice in turn, and then those that are left
 pub granted_on : (s : Setup) (n u : ℕ) (w : World) → next_running w ≡ Some u → granted s (suc n) w ≡ slice_of u true ∷ granted s n (after_one s w (slice_of u true))
 unfolding granted
-granted_on s n u w turn = ap (λ (o : Option ℕ). granted_first o (λ h. granted s n (after_one s w h))) turn
+granted_on s n u w turn = ap (λ (o : Option ℕ). option_map_or (λ u. slice_of u true ∷ granted s n (after_one s w (slice_of u true))) o []) turn
 
 -- nobody's program runs
 pub granted_to_nobody : (s : Setup) (n : ℕ) (w : World) → next_running w ≡ None → granted s n w ≡ []
 unfolding granted
 granted_to_nobody s zero w turn = refl
-granted_to_nobody s (suc n) w turn = ap (λ (o : Option ℕ). granted_first o (λ h. granted s n (after_one s w h))) turn
+granted_to_nobody s (suc n) w turn = ap (λ (o : Option ℕ). option_map_or (λ u. slice_of u true ∷ granted s n (after_one s w (slice_of u true))) o []) turn
 
 -- a world after one slice in turn
 pub after_one_grant : (s : Setup) (u : ℕ) (w turned next : World) → turned ≡ record w { cursor = u } → next ≡ after_slice s.quantum u turned → after_one s w (slice_of u true) ≡ next

@@ -2,7 +2,7 @@
 use Rattle.std.proofs.Common.{◌≡◌, ℕ, Bool, true, false, refl, ap, ◌∙◌, sym, arith}
 use Rattle.std.specs.Prelude.{if◌then◌else◌, ◌||◌, ◌≢◌}
 use Rattle.rv_model.specs.declared.vector.state.Seat.{Seat}
-use Rattle.rv_model.specs.machine.VectorUnit.{VectorUnit, unit_after_instruction, unit_changed, unit_touched}
+use Rattle.rv_model.specs.machine.VectorUnit.{VectorUnit, unit_after_instruction, unit_touched}
 use Rattle.lazy_context.specs.declared.unit.Unit.{Unit}
 use Rattle.lazy_context.specs.LazyUnit.{AllKeep, OthersKeep, record_of, state_of, touched, with_seat}
 use Rattle.monitor_machine.specs.declared.lenders.UserVectors.{UserVectors}
@@ -45,10 +45,10 @@ strangers_keep true user old new back keep = λ other low apart.
     ap (λ (u : Unit). state_of u other) back ∙ others_seated user other old (touched user new).seat apart ∙ keep other low
 strangers_keep false user old new back keep = λ other low apart. ap (λ (u : Unit). state_of u other) back
 
-counted_dirty : (b : Bool) (unit : VectorUnit) → record unit { dirty = unit.dirty || b } ≡ (if b then unit_changed unit else unit)
+counted_dirty : (b : Bool) (unit : VectorUnit) → record unit { dirty = unit.dirty || b } ≡ (if b then record unit { dirty = true } else unit)
 counted_dirty b unit = by_mark unit.dirty b refl
   where
-    by_mark : (d b : Bool) → unit.dirty ≡ d → record unit { dirty = d || b } ≡ (if b then unit_changed unit else unit)
+    by_mark : (d b : Bool) → unit.dirty ≡ d → record unit { dirty = d || b } ≡ (if b then record unit { dirty = true } else unit)
     by_mark true true e = refl
     by_mark false true e = refl
     by_mark true false e = ap (λ (x : Bool). record unit { dirty = x }) (sym e)
@@ -62,5 +62,5 @@ counts_instruction true changes user old new back touch marked =
     ap record_of back
     ∙ ap (λ (d : Bool). record (record_of (touched user old)) { dirty = d }) marked
     ∙ counted_dirty changes (record_of (touched user old))
-    ∙ ap (λ (r : VectorUnit). if changes then unit_changed r else r) touch
+    ∙ ap (λ (r : VectorUnit). if changes then record r { dirty = true } else r) touch
 counts_instruction false changes user old new back touch marked = ap record_of back

@@ -21,15 +21,11 @@ unfoldable pub are_distinct : List Image → Bool
 are_distinct [] = true
 are_distinct (image ∷ images) = not (list_any (λ other. bytes_eq other.name image.name) images) && are_distinct images
 
--- at most 4,194,304 bytes
-abbrev pub is_small : Image → Bool
-is_small image = nat_le (length image.bytes) 4194304
-
--- the first fault that applies
+-- the first fault that applies; an image has at most 4,194,304 bytes
 unfoldable pub new_fault : Setup → Option NewFault
 new_fault setup =
     if nat_lt setup.quantum 1 || nat_lt 1000 setup.quantum then Some fault.Quantum
     else if nat_lt 16 (length setup.images) then Some fault.ImageCount
     else if not (list_all (λ image. is_name image.name) setup.images && are_distinct setup.images) then Some fault.ImageName
-    else if not (list_all is_small setup.images) then Some fault.ImageSize
+    else if not (list_all (λ image. nat_le (length image.bytes) 4194304) setup.images) then Some fault.ImageSize
     else None

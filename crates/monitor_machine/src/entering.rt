@@ -1,8 +1,9 @@
 //! Commands that begin and end a user's machine, carried out.
 ghost use Rattle.std.specs.Prelude.{◌≡◌, ◌+◌, ◌-◌, ◌<◌, [], true, false, length};
 ghost use Rattle.lazy_context.specs.LazyUnit.{IsSettled, record_of, state_of};
+ghost use Rattle.rv_model.specs.declared.commands.command.Cmd.TheVariants.{Entering};
 ghost use Rattle.rv_model.specs.commands.Entering.{entering_absent, entering};
-ghost use Rattle.rv_model.specs.machine.UnitEvents.{unit_after_entering, unit_entered};
+ghost use Rattle.rv_model.specs.machine.UnitEvents.{unit_after_entering, unit_of_absent};
 ghost use Rattle.rv_model.specs.text.Lines.{text};
 ghost use Rattle.user_mem.specs.Users.{memory_of_user, with_memory};
 ghost use Rattle.monitor_machine.specs.Parts.{UnitMoves, present, private_of};
@@ -31,7 +32,7 @@ pub(crate) fn carry_out_absent<A: Allocator>(
     requires settled { IsSettled unit.old }
     requires within { user - 1 < length pool.old }
     ensures next { private_of context.new trace.new (state_of unit.new user) (memory_of_user pool.new user) ≡ (entering_absent command).next }
-    ensures unit { UnitMoves user unit.old unit.new (unit_entered user command (record_of unit.old)) }
+    ensures unit { UnitMoves user unit.old unit.new (unit_of_absent user (Entering command) (record_of unit.old)) }
     ensures others { pool.new ≡ with_memory pool.old user (memory_of_user pool.new user) }
     ensures reply { reply.new ≡ text (48 + user) (entering_absent command).lines }
 {

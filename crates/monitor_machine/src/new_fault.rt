@@ -1,9 +1,9 @@
 //! What a new machine is refused for.
-ghost use Rattle.std.specs.Prelude.{◌≡◌, map};
+ghost use Rattle.std.specs.Prelude.{◌≡◌, length, map, nat_le};
 ghost use Rattle.std.specs.List.{list_all, list_any};
 ghost use Rattle.std.specs.Str.{bytes_eq};
 ghost use Rattle.monitor_machine.specs.Images.{named_images, setup_of};
-ghost use Rattle.monitor_machine.specs.NewFaults.{is_name as is_name_spec, is_name_byte as is_name_byte_spec, is_small, are_distinct as are_distinct_spec, new_fault};
+ghost use Rattle.monitor_machine.specs.NewFaults.{is_name as is_name_spec, is_name_byte as is_name_byte_spec, are_distinct as are_distinct_spec, new_fault};
 
 use crate::image::Image;
 use thiserror::Error;
@@ -81,7 +81,7 @@ fn are_named(images: &[Image<'_>]) -> bool
 }
 
 fn are_small(images: &[Image<'_>]) -> bool
-    ensures { result ≡ list_all is_small (named_images images.now) }
+    ensures { result ≡ list_all (λ image. nat_le (length image.bytes) 4194304) (named_images images.now) }
 {
     for image in images {
         if image.bytes.len() > MAX_IMAGE {

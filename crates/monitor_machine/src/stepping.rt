@@ -2,7 +2,7 @@
 ghost use Rattle.std.specs.Prelude.{◌≡◌, ◌≤◌, ◌||◌, true, length, if◌then◌else◌};
 ghost use Rattle.lazy_context.specs.LazyUnit.{IsSettled, record_of, state_of};
 ghost use Rattle.rv_model.specs.machine.Cuts.{tries};
-ghost use Rattle.rv_model.specs.machine.Runs.{after, at_breakpoint, following, steps as steps_spec, stop_of as stop_spec, ticked};
+ghost use Rattle.rv_model.specs.machine.Runs.{after, at_breakpoint, steps as steps_spec, stop_of as stop_spec, ticked};
 ghost use Rattle.rv_model.specs.machine.UnitEvents.{tried_steps, unit_after_tries, unit_after_try};
 ghost use Rattle.rv_model.specs.step.Hart.{hart_state};
 ghost use Rattle.rv_model.specs.step.Step.{dirties, fetched, step as step_spec, touches};
@@ -25,7 +25,7 @@ const MAX_TICKS: usize = 256;
 
 /// Why an instruction's end stops the program, if it does.
 fn stop_of(end: StepEnd) -> Option<Stop>
-    ensures { result ≡ stop_spec (following end) }
+    ensures { result ≡ stop_spec end }
 {
     match end {
         StepEnd::Ran => None,
@@ -124,9 +124,9 @@ fn try_instruction<A: Allocator, M: UserBytes>(
     requires limit { 1 ≤ limit }
     requires settled { IsSettled vectors.old.unit.now }
     requires owner { vectors.old.user ≡ user }
-    ensures state { after (following (step_spec limit (context_state context.old (state_of vectors.old.unit.now user) (M.memory memory.old))).end) (step_spec limit (context_state context.old (state_of vectors.old.unit.now user) (M.memory memory.old))).state (present context.old trace.old (state_of vectors.old.unit.now user) (M.memory memory.old))
+    ensures state { after (step_spec limit (context_state context.old (state_of vectors.old.unit.now user) (M.memory memory.old))).end (step_spec limit (context_state context.old (state_of vectors.old.unit.now user) (M.memory memory.old))).state (present context.old trace.old (state_of vectors.old.unit.now user) (M.memory memory.old))
         ≡ present context.new trace.new (state_of vectors.new.unit.now user) (M.memory memory.new) }
-    ensures stop { stop_spec (following (step_spec limit (context_state context.old (state_of vectors.old.unit.now user) (M.memory memory.old))).end) ≡ result.0 }
+    ensures stop { stop_spec (step_spec limit (context_state context.old (state_of vectors.old.unit.now user) (M.memory memory.old))).end ≡ result.0 }
     ensures ticks { (step_spec limit (context_state context.old (state_of vectors.old.unit.now user) (M.memory memory.old))).ticks ≡ result.1 }
     ensures entered { context.new.entered ≡ context.old.entered }
     ensures unit { UnitMoves user vectors.old.unit.now vectors.new.unit.now

@@ -1,6 +1,6 @@
 -- Legality of operands that have the vector type's multiplier: their groups are aligned, and equal widths may overlap.
 use Rattle.std.proofs.Common.{◌≡◌, ℕ, zero, suc, ◌+◌, ◌*◌, ◌≤◌, Bool, ◌&&◌, ◌||◌, not, nat_lt, ◌==◌, max, min, refl, arith, ◌∙◌, ap}
-use Rattle.std.proofs.Math.Bool.{and-true, or-false}
+use Rattle.std.proofs.Math.Bool.{and-true, or-false, or-true}
 use Rattle.std.proofs.lemmas.Bool.Decides.{nat_tests}
 use Rattle.std.specs.Prelude.{[], ◌∷◌}
 use Rattle.rv_model.specs.declared.instructions.source.Source.{Source}
@@ -10,8 +10,8 @@ use Rattle.rv_model.specs.declared.legality.Role.TheVariants.{Read, Control, Wri
 use Rattle.rv_model.specs.declared.legality.Shape.TheVariants.{Single}
 use Rattle.rv_model.specs.declared.vector.types.VType.{VType}
 use Rattle.rv_model.specs.declared.instructions.operations.Eew.{Eew}
-use Rattle.rv_model.specs.legality.Legality.{access_operands, move_operands}
-use Rattle.rv_model.specs.legality.OperandShapes.{destination, group, mask, v0, vector_source}
+use Rattle.rv_model.specs.legality.Legality.{access_operands}
+use Rattle.rv_model.specs.legality.OperandShapes.{destination, group, mask, second_source, v0, vector_source}
 use Rattle.rv_model.specs.legality.RegisterOperands.{allows, are_legal, is_group}
 use Rattle.rv_model.specs.vector.Configuration.{GroupType, element_width, group_type, lmul_eighths, sew_bits}
 use Rattle.rv_model.specs.vector.Registers.{registers}
@@ -33,12 +33,12 @@ apart_from_v0 a g = ap not (holds_v0 a (registers g.emul) (some_registers g.emul
 
 pub role_allows : (r : Role) (a : ℕ) (g : GroupType) → allows (group r a g) (mask Control 0) ≡ (not (is_apart_from_mask r) || not (a == 0))
 role_allows Write a g = or-false _ ∙ apart_from_v0 a g
-role_allows Apart a g = apart_from_v0 a g
-role_allows _ a g = refl
+role_allows Apart a g = or-false _ ∙ apart_from_v0 a g
+role_allows _ a g = or-true _
 
 -- what a move asks of its operands
 pub move_legal : (from : Source) (vd : ℕ) (t : VType)
-    → are_legal (move_operands from vd t)
+    → are_legal (destination Single vd t ∷ second_source Single from t)
     ≡ (is_group (destination Single vd t) && of_vector from (λ vs1. stands_beside (destination Single vd t) (vector_source Single vs1 t)))
 move_legal (source.V vs1) vd t =
     sources_legal (group Write vd (group_type t)) (group Read vs1 (group_type t) ∷ []) (tt, tt)

@@ -1,7 +1,7 @@
 -- Legality of operands of two widths, and of those that may not overlap: what two groups ask of each other is tried for each pair of
 -- registers under each vector type.
 use Rattle.std.proofs.Common.{◌≡◌, ℕ, zero, suc, ◌+◌, ◌*◌, ◌/◌, ◌<◌, ◌≤◌, Bool, true, false, ◌&&◌, ◌||◌, not, nat_le, nat_lt, ◌==◌, eq-eqb, lit≤, refl, arith, ◌∙◌, ap, inl, inr}
-use Rattle.std.proofs.Math.Bool.{and-true, or-true}
+use Rattle.std.proofs.Math.Bool.{and-true, or-false, or-true}
 use Rattle.std.proofs.lemmas.Bool.{and_parts, cases_order}
 use Rattle.std.specs.Prelude.{[], ◌∷◌}
 use Rattle.std.specs.List.{list_all}
@@ -17,7 +17,7 @@ use Rattle.rv_model.specs.declared.vector.types.Lmul.TheVariants.{M1}
 use Rattle.rv_model.specs.declared.vector.types.Sew.{Sew}
 use Rattle.rv_model.specs.declared.vector.types.Sew.TheVariants.{E8, E16, E32, E64}
 use Rattle.rv_model.specs.declared.vector.types.VType.{VType}
-use Rattle.rv_model.specs.legality.Legality.{compress_operands, mask_logic_operands, whole_move_operands}
+use Rattle.rv_model.specs.legality.Legality.{compress_operands, whole_move_operands}
 use Rattle.rv_model.specs.legality.OperandShapes.{group, mask, v0}
 use Rattle.rv_model.specs.legality.RegisterOperands.{allows, are_legal, is_group, overlaps}
 use Rattle.rv_model.specs.vector.Configuration.{GroupType, group_type, lmul_eighths, sew_bits, sew_width}
@@ -26,7 +26,7 @@ use Rattle.rv_model.specs.vector.Registers.{registers}
 use Rattle.rv_model.specs.vector.TypeNames.{lmuls, sews}
 use Rattle.rv_model.proofs.legality_lemmas.Accesses.{of_lmuls, of_sews}
 use Rattle.rv_model.proofs.legality_lemmas.Bounds.{first_of}
-use Rattle.rv_model.proofs.legality_lemmas.Meaning.{are_legal_means}
+use Rattle.rv_model.proofs.legality_lemmas.Meaning.{are_legal_means, groups_are}
 use Rattle.reg_groups.specs.Roles.{groups_of, is_beside_mask, is_mask_outside, is_other_group, is_wide_beside, stands_beside}
 use Rattle.reg_groups.proofs.EqualWidths.{holds_v0, role_allows, some_registers}
 use Rattle.reg_groups.proofs.Sources.{guarded, lone_legal, masked_legal, pair_legal, sources_legal}
@@ -107,7 +107,7 @@ under_both false h b p q k = absurd (cc)
 in_file : (r : Role) (a : ℕ) (k : Kind) → is_group (operand r a k) ≡ true → a < 32
 in_file r a k h =
     let legal = (are_legal_means (operand r a k ∷ [])).0 (lone_legal (operand r a k) ∙ h) in
-    let inside : a + 1 * registers k.1 ≤ 32 = (first_of (operand r a k) [] legal.groups).inside in
+    let inside : a + 1 * registers k.1 ≤ 32 = (first_of (operand r a k) [] (groups_are legal)).inside in
     omega (arith, inside, some_registers k.1)
 
 told : (r : Role) (d s : Sew → Lmul → Kind) (test : Lmul → ℕ → ℕ → Bool) → each (comes_to r d s test) ≡ true
@@ -169,7 +169,7 @@ equal_beside a b g = rw (eq-eqb (bits g.width), or-true (not (overlaps (group Wr
 
 -- a source of a destination that may overlap anything
 pub free_beside : (d : Operand) (s : Operand) → d.role ≡ Free → stands_beside d s ≡ is_group s
-free_beside d s h = rw h (and-true _)
+free_beside d s h = rw (h, or-true (not (overlaps d s))) (and-true _)
 
 -- a mask may be written over the one that is read
 pub mask_over_v0 : (a : ℕ) → allows (mask Write a) (mask Control 0) ≡ true
@@ -194,19 +194,22 @@ scan_legal vd vs2 unmasked =
     ∙ guarded (is_group (mask Read vd))
     (stands_beside (mask Apart vd) (mask Read vs2) && (unmasked || allows (mask Apart vd) (mask Control 0)))
     ((is_group (mask Read vs2) && not (vd == vs2)) && (unmasked || not (vd == 0)))
-    (λ h. rw (masks_apart vd vs2 h, ap not (holds_v0 vd 1 (lit≤ tt))) refl)
+    (λ h. rw (masks_apart vd vs2 h, ap not (holds_v0 vd 1 (lit≤ tt)))
+    (ap (λ b. (is_group (mask Read vs2) && not (vd == vs2)) && (unmasked || b)) (or-false _)))
 
 -- one from a mask to a scalar register
 pub mask_source_legal : (vs2 : ℕ) (unmasked : Bool) → are_legal (mask Read vs2 ∷ v0 unmasked) ≡ is_group (mask Read vs2)
 mask_source_legal vs2 unmasked =
-    masked_legal (mask Read vs2) unmasked ∙ ap (λ b. is_group (mask Read vs2) && b) (or-true unmasked) ∙ and-true _
+    masked_legal (mask Read vs2) unmasked ∙ ap (λ b. is_group (mask Read vs2) && (unmasked || b)) (or-true _)
+    ∙ ap (λ b. is_group (mask Read vs2) && b) (or-true unmasked) ∙ and-true _
 
 mask_beside_mask : (a b : ℕ) → stands_beside (mask Write a) (mask Read b) ≡ is_group (mask Read b)
 mask_beside_mask a b = ap (λ x. is_group (mask Read b) && x) (or-true _) ∙ and-true _
 
 -- logic on masks
 pub mask_logic_legal : (vd vs1 vs2 : ℕ)
-    → are_legal (mask_logic_operands vd vs1 vs2) ≡ (is_group (mask Read vd) && (is_group (mask Read vs2) && is_group (mask Read vs1)))
+    → are_legal (mask Write vd ∷ mask Read vs2 ∷ mask Read vs1 ∷ [])
+    ≡ (is_group (mask Read vd) && (is_group (mask Read vs2) && is_group (mask Read vs1)))
 mask_logic_legal vd vs1 vs2 =
     sources_legal (mask Write vd) (mask Read vs2 ∷ mask Read vs1 ∷ []) (tt, (tt, tt))
     ∙ ap (λ b. is_group (mask Read vd) && b)

@@ -1,6 +1,6 @@
 -- Legality of a destination beside sources: only the destination has to agree with others.
-use Rattle.std.proofs.Common.{◌≡◌, ℕ, Bool, true, false, ◌&&◌, ◌||◌, List, refl, sym, ap, subst, ◌∙◌}
-use Rattle.std.proofs.Math.Bool.{and-true}
+use Rattle.std.proofs.Common.{◌≡◌, ℕ, Bool, true, false, ◌&&◌, ◌||◌, not, List, refl, sym, ap, subst, ◌∙◌}
+use Rattle.std.proofs.Math.Bool.{and-true, or-true}
 use Rattle.std.specs.Prelude.{⊤, [], ◌∷◌, ◌++◌}
 use Rattle.std.specs.List.{list_all}
 use Rattle.rv_model.specs.declared.instructions.source.Source.{Source}
@@ -12,7 +12,7 @@ use Rattle.rv_model.specs.declared.legality.Shape.{Shape}
 use Rattle.rv_model.specs.declared.legality.Shape.TheVariants.{GatherIndices16, Reduction, WideReduction, WideSource, Narrowing}
 use Rattle.rv_model.specs.declared.vector.types.VType.{VType}
 use Rattle.rv_model.specs.legality.OperandShapes.{destination, first_source, mask, second_source, shape_operands, v0, vector_source}
-use Rattle.rv_model.specs.legality.RegisterOperands.{allows, allows_as, are_legal, is_group}
+use Rattle.rv_model.specs.legality.RegisterOperands.{allows, are_legal, is_group, may_share, overlaps}
 use Rattle.reg_groups.specs.Roles.{of_vector, stands_beside}
 
 -- the registers of an operand aren't written
@@ -25,9 +25,9 @@ abbrev AreSources : List Operand → Type 0
 AreSources [] = ⊤
 AreSources (x ∷ xs) = IsSource x.role × AreSources xs
 
-source_agrees : (r q : Role) (d s : Operand) → IsSource r → allows_as r q d s ≡ true
-source_agrees Read q d s h = refl
-source_agrees Control q d s h = refl
+source_agrees : (r q : Role) (d s : Operand) → IsSource r → (not (overlaps d s) || may_share r q d s) ≡ true
+source_agrees Read q d s h = or-true _
+source_agrees Control q d s h = or-true _
 source_agrees _ q d s h = absurd h
 
 source_allows : (a : Operand) (xs : List Operand) → IsSource a.role → list_all (allows a) xs ≡ true
@@ -38,9 +38,9 @@ sources_allow : (xs all : List Operand) → AreSources xs → list_all (λ s. li
 sources_allow [] all h = refl
 sources_allow (x ∷ xs) all h = rw (source_allows x all h.0) (sources_allow xs all h.1)
 
-itself_agrees : (r : Role) (d : Operand) → allows_as r r d d ≡ true
-itself_agrees Read d = refl
-itself_agrees _ d = refl
+itself_agrees : (r : Role) (d : Operand) → (not (overlaps d d) || may_share r r d d) ≡ true
+itself_agrees Read d = or-true _
+itself_agrees _ d = or-true _
 
 zipped : (d : Operand) (xs : List Operand) → (list_all is_group xs && list_all (allows d) xs) ≡ list_all (stands_beside d) xs
 zipped d [] = refl

@@ -1,9 +1,10 @@
 //! Which vector instructions are legal.
-ghost use Rattle.std.specs.Prelude.{[], ◌∷◌, ◌≡◌, ◌↔◌, ◌+◌, Some, None, true, ℕ};
-ghost use Rattle.rv_model.specs.legality.Legality.{IsLegal, access_operands, compress_operands, data_role, extension_operands, has_legal, has_wide_product, indexed_operands, indexed_role, is_below_64, is_fractional_product, is_legal, is_narrow, is_narrow_only, is_reduction, mask_logic_operands, mask_result, operands, starts_at_zero, unit_role, whole_move_operands};
+ghost use Rattle.std.specs.Prelude.{[], ◌∷◌, ◌≡◌, ◌↔◌, ◌+◌, ◌==◌, not, Some, None, true, false, ℕ};
+ghost use Rattle.std.specs.Option.{option_map_or};
+ghost use Rattle.rv_model.specs.legality.Legality.{IsLegal, access_operands, compress_operands, data_role, extension_operands, indexed_operands, indexed_role, is_below_64, is_legal, is_narrow_only, is_reduction, mask_result, operands, starts_at_zero, unit_role, whole_move_operands};
 ghost use Rattle.rv_model.specs.legality.OperandShapes.{group, mask, v0};
 ghost use Rattle.rv_model.specs.legality.RegisterOperands.{are_legal, is_group};
-ghost use Rattle.rv_model.specs.vector.Configuration.{group_type, sew_width};
+ghost use Rattle.rv_model.specs.vector.Configuration.{group_type, sew_bits, sew_width};
 ghost use Rattle.rv_model.specs.vector.Groups.{registers_type};
 ghost use Rattle.reg_groups.specs.Roles.{is_apart_from_mask, is_mask_outside};
 
@@ -119,7 +120,7 @@ fn is_legal_mask_source(vs2: VReg, unmasked: bool) -> bool
 #[inline(always)]
 #[tactic(auto, using(crate::proofs::Pairs::mask_logic_legal))]
 fn is_legal_mask_logic(vd: VReg, vs1: VReg, vs2: VReg) -> bool
-    ensures { result ≡ are_legal (mask_logic_operands vd vs1 vs2) }
+    ensures { result ≡ are_legal (mask Role.Write vd ∷ mask Role.Read vs2 ∷ mask Role.Read vs1 ∷ []) }
 {
     is_mask_register(vd) && is_mask_register(vs2) && is_mask_register(vs1)
 }
@@ -255,7 +256,7 @@ fn is_legal_indexed(
 /// Whether a load or store may have its operands without a vector type: not if it needs one.
 #[tactic(auto, using(crate::proofs::Sources::lone_legal), unfolding(rv_model::specs::legality::Legality::operands))]
 fn has_legal_untyped_access(instr: AccessInstr) -> bool
-    ensures { result ≡ has_legal (operands (Instr.Access instr) None) }
+    ensures { result ≡ option_map_or are_legal (operands (Instr.Access instr) None) false }
 {
     match instr {
         AccessInstr::WholeLoad {
@@ -272,7 +273,7 @@ fn has_legal_untyped_access(instr: AccessInstr) -> bool
 /// Whether an instruction may have its operands without a vector type: not if it needs one.
 #[tactic(auto, unfolding(rv_model::specs::legality::Legality::operands, rv_model::specs::legality::RegisterOperands::are_legal))]
 fn has_legal_untyped_operands(instr: &Instr) -> bool
-    ensures { result ≡ has_legal (operands instr.now None) }
+    ensures { result ≡ option_map_or are_legal (operands instr.now None) false }
 {
     match *instr {
         Instr::Scalar(_)
@@ -289,7 +290,7 @@ fn has_legal_untyped_operands(instr: &Instr) -> bool
 #[tactic(auto, using(crate::proofs::Sources::lone_legal), unfolding(rv_model::specs::legality::Legality::operands))]
 #[inline(always)]
 fn has_legal_access(instr: AccessInstr, vtype: VType) -> bool
-    ensures { result ≡ has_legal (operands (Instr.Access instr) (Some vtype)) }
+    ensures { result ≡ option_map_or are_legal (operands (Instr.Access instr) (Some vtype)) false }
 {
     match instr {
         AccessInstr::UnitStride {
@@ -328,7 +329,7 @@ fn has_legal_access(instr: AccessInstr, vtype: VType) -> bool
 #[tactic(auto, using(crate::proofs::Sources::lone_legal), unfolding(rv_model::specs::legality::Legality::operands, rv_model::specs::legality::RegisterOperands::are_legal))]
 #[inline(always)]
 fn has_legal_vector(instr: VectorInstr, vtype: VType) -> bool
-    ensures { result ≡ has_legal (operands (Instr.Vector instr) (Some vtype)) }
+    ensures { result ≡ option_map_or are_legal (operands (Instr.Vector instr) (Some vtype)) false }
 {
     match instr {
         VectorInstr::Arith { arith, vd, vs2, vm } => {
@@ -358,7 +359,7 @@ fn has_legal_vector(instr: VectorInstr, vtype: VType) -> bool
 #[tactic(auto, unfolding(rv_model::specs::legality::Legality::operands, rv_model::specs::legality::RegisterOperands::are_legal))]
 #[inline(always)]
 fn has_legal_operands(instr: &Instr, vtype: VType) -> bool
-    ensures { result ≡ has_legal (operands instr.now (Some vtype)) }
+    ensures { result ≡ option_map_or are_legal (operands instr.now (Some vtype)) false }
 {
     match *instr {
         Instr::Vector(vector) => has_legal_vector(vector, vtype),
@@ -408,7 +409,7 @@ fn starts_at_zero(instr: &Instr) -> bool
 /// Whether it is an upper half of a product.
 #[inline(always)]
 fn has_wide_product(op: BinaryOp) -> bool
-    ensures { result ≡ has_wide_product op }
+    ensures { result ≡ is_narrow_only (VectorOp.Binary op) }
 {
     match op {
         BinaryOp::Vmulhu | BinaryOp::Vmulhsu | BinaryOp::Vmulh => true,
@@ -419,7 +420,7 @@ fn has_wide_product(op: BinaryOp) -> bool
 /// Whether it is a fractional product.
 #[inline(always)]
 fn is_fractional_product(op: FixedPointOp) -> bool
-    ensures { result ≡ is_fractional_product op }
+    ensures { result ≡ is_narrow_only (VectorOp.FixedPoint op) }
 {
     match op {
         FixedPointOp::Vsmul => true,
@@ -466,7 +467,7 @@ fn is_below_64(instr: &Instr) -> bool
 /// Whether an instruction has its vector type, if it needs one, and may have its operands.
 #[inline(always)]
 fn may_have_operands(instr: &Instr, vtype: Option<VType>) -> bool
-    ensures { result ≡ has_legal (operands instr.now vtype) }
+    ensures { result ≡ option_map_or are_legal (operands instr.now vtype) false }
 {
     match vtype {
         Some(vtype) => has_legal_operands(instr, vtype),
@@ -477,7 +478,7 @@ fn may_have_operands(instr: &Instr, vtype: Option<VType>) -> bool
 /// Whether there is a vector type with a SEW below 64.
 #[inline(always)]
 fn is_narrow(vtype: Option<VType>) -> bool
-    ensures { result ≡ is_narrow vtype }
+    ensures { result ≡ option_map_or (λ t. not (sew_bits t.sew == 64)) vtype false }
 {
     match vtype {
         Some(vtype) => vtype.sew.bits() != 64,

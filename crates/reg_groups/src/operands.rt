@@ -1,10 +1,11 @@
 //! The register operands of an instruction ("V" Vector Extension 1.0, section 5.2).
 ghost use Rattle.std.specs.Prelude.{◌≡◌, ◌≤◌};
+ghost use Rattle.std.specs.Int.{w16};
 ghost use Rattle.rv_model.specs.legality.Legality.{extension_source};
 ghost use Rattle.rv_model.specs.legality.OperandShapes.{field_groups, group, mask};
 ghost use Rattle.rv_model.specs.lending.GroupBounds.{emul};
 ghost use Rattle.rv_model.specs.vector.Configuration.{element_width, group_type, sew_bits};
-ghost use Rattle.rv_model.specs.vector.Groups.{access_type, extension_divisor, index_type, register_count};
+ghost use Rattle.rv_model.specs.vector.Groups.{access_type, extension_divisor, register_count, with_width};
 ghost use Rattle.reg_groups.specs.Roles.{groups_of};
 
 use rv_model::instructions::operations::{Eew, ExtendOp, RegisterCount};
@@ -83,7 +84,7 @@ pub(crate) fn group(role: Role, first: VReg, vtype: VType) -> Operand
 /// A group of indices of 16 bits, as many as the vector type has elements.
 #[inline(always)]
 pub(crate) fn index_group(role: Role, first: VReg, vtype: VType) -> Operand
-    ensures { result ≡ group role first (index_type (group_type vtype)) }
+    ensures { result ≡ group role first (with_width w16 (group_type vtype)) }
 {
     groups_of(role, 1, first, 16, emul(16, vtype))
 }

@@ -1,8 +1,7 @@
 //! The register operands of a vector operation, by its shape ("V" Vector Extension 1.0, sections 5.2,
 //! 10.2, 11, 12, 14 and 16).
-ghost use Rattle.std.specs.Prelude.{◌||◌, ◌≡◌, ◌==◌, ◌*◌, not, true};
-ghost use Rattle.rv_model.specs.legality.Legality.{move_operands};
-ghost use Rattle.rv_model.specs.legality.OperandShapes.{destination, first_source, group, mask, permute_shape, shape_of, shape_operands, vector_source};
+ghost use Rattle.std.specs.Prelude.{◌||◌, ◌≡◌, ◌==◌, ◌*◌, ◌∷◌, not, true};
+ghost use Rattle.rv_model.specs.legality.OperandShapes.{destination, first_source, group, mask, second_source, shape_of, shape_operands, vector_source};
 ghost use Rattle.rv_model.specs.legality.RegisterOperands.{allows, are_legal, is_group};
 ghost use Rattle.rv_model.specs.vector.Configuration.{group_type, lmul_eighths, sew_width};
 ghost use Rattle.rv_model.specs.vector.Groups.{single_type, wide_type};
@@ -16,7 +15,7 @@ use rv_model::{Lmul, Operand, Role, Shape, Source, VReg, VType};
 
 /// The shape of an operation that moves elements.
 fn permute_shape(op: PermuteOp) -> Shape
-    ensures { result ≡ permute_shape op }
+    ensures { result ≡ shape_of (VectorOp.Permute op) }
 {
     match op {
         PermuteOp::Vrgather | PermuteOp::Vslideup | PermuteOp::Vslide1up => Shape::Gather,
@@ -257,7 +256,7 @@ fn is_beside_v0(shape: Shape, vd: VReg, unmasked: bool, vtype: VType) -> bool
 #[inline(always)]
 #[tactic(auto, using(crate::proofs::EqualWidths::move_legal))]
 pub(crate) fn is_legal_move(source: Source, vd: VReg, vtype: VType) -> bool
-    ensures { result ≡ are_legal (move_operands source vd vtype) }
+    ensures { result ≡ are_legal (destination Shape.Single vd vtype ∷ second_source Shape.Single source vtype) }
 {
     is_destination(Shape::Single, vd, vtype) && is_second_source(Shape::Single, vd, source, vtype)
 }

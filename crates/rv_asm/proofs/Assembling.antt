@@ -1,12 +1,17 @@
 -- What a text spells, from its name and its operands; and the parts of a canonical text
-use Rattle.std.proofs.Common.{◌≡◌, ℕ, ◌+◌, List, [], ◌∷◌, ◌++◌, length, Some, None, Result, Ok, Err, sym, ap, ap₂, ◌∙◌}
+use Rattle.std.proofs.Common.{◌≡◌, ℕ, ◌+◌, List, [], ◌∷◌, ◌++◌, length, Option, Some, None, Result, Ok, Err, sym, ap, ap₂, ◌∙◌}
+use Rattle.std.specs.Option.{option_map_or}
 use Rattle.std.specs.Prelude.{IfOk, IfErr}
 use Rattle.rv_model.specs.assembler.Tokens.{Token}
 use Rattle.rv_model.specs.declared.assembler.forms.Slot.{Slot}
 use Rattle.rv_model.specs.declared.assembler.mnemonics.Mnemonic.{Mnemonic}
-use Rattle.rv_model.specs.assembler.Table.{slots_of, unpadded, row_named, row_at, name_at, slots_at, bits_at, read_operands, spelled_with, spelled_by, spelled, row_of_word, operands_text, text_at, canonical}
+use Rattle.rv_model.specs.assembler.Table.{slots_of, unpadded, row_named, row_at, name_at, slots_at, bits_at, read_operands, spelled_by, spelled, row_of_word, operands_text, text_at, canonical}
 use Rattle.rv_asm.specs.Places.{rest, Answers}
 use Rattle.rv_asm.specs.declared.fault.AsmFault.{AsmFault}
+
+-- the operands' tokens, under the row of the name
+abbrev pub spelled_with : ℕ → Token → List Token → Option ℕ → Result ℕ ℕ
+spelled_with end name ts row = option_map_or (λ r. read_operands end (bits_at r) (slots_at r) ts) row (Err name.column)
 
 pub spelled_nothing : (text : List ℕ) (column : ℕ) → rest text 0 ≡ [] → column ≡ length text + 1 → spelled text ≡ Err column
 unfolding spelled

@@ -7,10 +7,15 @@ use Rattle.rv_model.specs.declared.assembler.forms.Slot.{Slot}
 use Rattle.rv_model.specs.declared.assembler.forms.Slot.TheVariants.{Comma, Open, Close, V0, Scalar, Vector, Unsigned, Signed, Csr, VectorType, ShortVectorType, Mask, Word}
 use Rattle.rv_model.specs.declared.assembler.forms.UnsignedField.TheVariants as unsigned
 use Rattle.rv_model.specs.declared.assembler.forms.SignedField.TheVariants as signed
-use Rattle.rv_model.specs.assembler.Fields.{lowest, parts_of, value_of, operand_parts}
+use Rattle.rv_model.specs.assembler.Fields.{lowest, parts_of, value_of}
 use Rattle.rv_model.proofs.instruction_lemmas.Parts.{of_word}
 use Rattle.rv_model.proofs.instruction_lemmas.Words.{low_again}
 use Rattle.rv_model.proofs.assembler_lemmas.Operands.{field_below}
+
+-- all operands of a word at their places
+abbrev pub operand_parts : List Slot → ℕ → List Part
+operand_parts [] w = []
+operand_parts (s ∷ ss) w = parts_of s (value_of s w) ++ operand_parts ss w
 
 -- a piece that is a field already
 same_part : (low len w : ℕ) → part low len (field low len w % 2 ^ len) ≡ part low len (field low len w)

@@ -6,10 +6,10 @@ use Rattle.rv_model.specs.instructions.BitFields.{sum_of}
 use Rattle.rv_model.specs.declared.assembler.forms.Slot.{Slot}
 use Rattle.rv_model.specs.declared.assembler.forms.Slot.TheVariants.{Comma, Open, Close, V0, Scalar, Vector, Unsigned, Signed, Csr, VectorType, ShortVectorType, Mask, Word}
 use Rattle.rv_model.specs.assembler.Slots.{◌>>=◌, printed}
-use Rattle.rv_model.specs.assembler.Fields.{parts_of, placed, value_of, operand_parts}
+use Rattle.rv_model.specs.assembler.Fields.{parts_of, placed, value_of}
 use Rattle.rv_model.specs.assembler.Table.{read_operands, printed_operands}
 use Rattle.rv_model.proofs.assembler_lemmas.Operands.{value_below}
-use Rattle.rv_asm.proofs.FieldLaws.{sum_of-append}
+use Rattle.rv_asm.proofs.FieldLaws.{operand_parts, sum_of-append}
 use Rattle.rv_asm.proofs.SlotLaws.{Follows, slot_again}
 
 -- a run of bytes ends before the first of these slots

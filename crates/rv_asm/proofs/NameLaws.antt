@@ -1,6 +1,7 @@
 -- The name that is printed is the one that is read
 use Rattle.std.proofs.Common.{◌≡◌, ℕ, ◌<◌, Bool, true, false, eqb, leb, ◌&&◌, List, [], ◌∷◌, length, Option, Some, None, refl, ap, subst, ◌∙◌, arith, lit<}
-use Rattle.std.specs.Prelude.{find, codes}
+use Rattle.std.specs.Option.{option_map_or, option_or}
+use Rattle.std.specs.Prelude.{find, codes, option_map}
 use Rattle.std.specs.Fmt.{decimal}
 use Rattle.std.specs.List.{list_all}
 use Rattle.std.specs.Str.{bytes_eq}
@@ -14,8 +15,9 @@ use Rattle.rv_model.specs.instructions.BitFields.{flag_bit}
 use Rattle.rv_model.specs.vector.ControlRegisters.{control_register, control_registers, register_name, register_number}
 use Rattle.rv_model.specs.vector.TypeNames.{lmul_name, mask_name, sew_name, tail_name}
 use Rattle.rv_model.specs.vector.TypeRules.{lmul_number, lmul_with_number, sew_number, sew_with_number}
-use Rattle.rv_model.specs.assembler.Numbers.{at_most, csr, csr_from, vsew, vlmul, vta, vma, csr_text, csr_text_of}
+use Rattle.rv_model.specs.assembler.Numbers.{at_most, csr, number}
 use Rattle.rv_model.proofs.assembler_lemmas.Found.{found_is, found_passes}
+use Rattle.rv_asm.specs.TypeParts.{vsew, vlmul, vta, vma}
 use Rattle.rv_asm.proofs.Tokens.{all_run}
 use Rattle.rv_asm.proofs.NumberLaws.{Decimal, is_decimal, number_again, all_run_dec, not_letter}
 
@@ -65,6 +67,14 @@ csr_name_again register h =
     let b = and_parts (begins_with_letter (register_name register)) _ a.1 in
     record { run = a.0; some = letter_first (register_name register) b.0; value = number_is (register_number register) (csr (register_name register)) b.1 }
 
+-- the number of the register that a text names, or its digits
+abbrev csr_from : List ℕ → Option ControlRegister → Option ℕ
+csr_from text register = option_or (option_map register_number register) (at_most 4095 (number text))
+
+-- the name of a register, or its number in digits
+abbrev csr_text_of : ℕ → Option ControlRegister → List ℕ
+csr_text_of n register = option_map_or register_name register (decimal n)
+
 -- digits are the name of none of these registers
 digits_name_no_register : (registers : List ControlRegister) → list_all names_itself registers ≡ true → (v : ℕ) (ds : List ℕ) → Decimal v ds → find (λ r. bytes_eq (register_name r) ds) registers ≡ None
 unfolding names_itself
@@ -89,21 +99,18 @@ csr_text_again v (Some register) lt h =
     subst (λ (n : ℕ). Means csr (register_name register) n) is
     (csr_name_again register (found_passes (λ r. eqb (register_number r) v) names_itself control_registers register each_names_itself h))
 
-pub csr_again : (v : ℕ) → v < 4096 → Means csr (csr_text v) v
-unfolding csr_text
+pub csr_again : (v : ℕ) → v < 4096 → Means csr (csr_text_of v (control_register v)) v
 csr_again v lt = csr_text_again v (control_register v) lt refl
 
 -- ---- the parts of vtype
 
 pub vsew_again : (sew : Sew) → Means vsew (sew_name sew) (sew_number sew)
-unfolding vsew
 vsew_again E8 = record { run = refl; some = lit< tt; value = refl }
 vsew_again E16 = record { run = refl; some = lit< tt; value = refl }
 vsew_again E32 = record { run = refl; some = lit< tt; value = refl }
 vsew_again E64 = record { run = refl; some = lit< tt; value = refl }
 
 pub vlmul_again : (lmul : Lmul) → Means vlmul (lmul_name lmul) (lmul_number lmul)
-unfolding vlmul
 vlmul_again Mf8 = record { run = refl; some = lit< tt; value = refl }
 vlmul_again Mf4 = record { run = refl; some = lit< tt; value = refl }
 vlmul_again Mf2 = record { run = refl; some = lit< tt; value = refl }
@@ -113,12 +120,10 @@ vlmul_again M4 = record { run = refl; some = lit< tt; value = refl }
 vlmul_again M8 = record { run = refl; some = lit< tt; value = refl }
 
 pub vta_again : (agnostic : Bool) → Means vta (tail_name agnostic) (flag_bit agnostic)
-unfolding vta
 vta_again true = record { run = refl; some = lit< tt; value = refl }
 vta_again false = record { run = refl; some = lit< tt; value = refl }
 
 pub vma_again : (agnostic : Bool) → Means vma (mask_name agnostic) (flag_bit agnostic)
-unfolding vma
 vma_again true = record { run = refl; some = lit< tt; value = refl }
 vma_again false = record { run = refl; some = lit< tt; value = refl }
 
@@ -127,11 +132,10 @@ pub sew_number_again : (n : ℕ) (sew : Sew) → sew_with_number n ≡ Some sew 
 sew_number_again n sew h = eqb-true n (sew_number sew) (found_is (λ s. eqb n (sew_number s)) (E8 ∷ E16 ∷ E32 ∷ E64 ∷ []) sew h)
 
 pub lmul_number_again : (n : ℕ) (lmul : Lmul) → lmul_with_number n ≡ Some lmul → n ≡ lmul_number lmul
-lmul_number_again n lmul h = eqb-true n (lmul_number lmul) (found_is (λ l. eqb n (lmul_number l)) (M1 ∷ M2 ∷ M4 ∷ M8 ∷ Mf8 ∷ Mf4 ∷ Mf2 ∷ []) lmul h)
+lmul_number_again n lmul h = eqb-true n (lmul_number lmul) (found_is (λ l. eqb n (lmul_number l)) (Mf8 ∷ Mf4 ∷ Mf2 ∷ M1 ∷ M2 ∷ M4 ∷ M8 ∷ []) lmul h)
 
 -- a number is not the name of an element width
 pub vsew_digits : (n : ℕ) (ds : List ℕ) → Decimal n ds → vsew ds ≡ None
-unfolding vsew
 vsew_digits n ds d =
     let not = λ (name : List ℕ) (l : begins_with_letter name ≡ true). letters_apart name n ds l d in
     rw (not (codes "e8") refl, not (codes "e16") refl, not (codes "e32") refl, not (codes "e64") refl) refl

@@ -1,5 +1,5 @@
 -- The canonical text of an instruction has its name, that of any other word is `.word` and digits
-use Rattle.std.proofs.Common.{◌≡◌, ◌⊎◌, ℕ, ◌/◌, ◌%◌, ◌^◌, ◌<◌, true, false, nat_lt, List, ◌++◌, length, get_or, position, unwrap_or, Option, Some, None, refl, sym, ap, subst, ◌∙◌, arith, inl, inr, lit<}
+use Rattle.std.proofs.Common.{◌≡◌, ◌≢◌, ◌⊎◌, ℕ, ◌/◌, ◌%◌, ◌^◌, ◌<◌, true, false, nat_lt, List, ◌++◌, length, get_or, position, unwrap_or, Option, Some, None, refl, sym, ap, subst, ◌∙◌, arith, inl, inr, lit<}
 use Rattle.std.specs.Prelude.{IsSome, IsNone, codes}
 use Rattle.std.specs.List.{position_or_len}
 use Rattle.std.specs.Int.Bits.{bit_and}
@@ -8,11 +8,11 @@ use Rattle.std.proofs.lemmas.Bool.Decides.{eqb_tells}
 use Rattle.std.proofs.lemmas.List.Sums.{fails_before_first}
 use Rattle.std.proofs.lemmas.List.{append-nil}
 use Rattle.rv_model.specs.declared.instructions.instruction.Instr.{Instr}
-use Rattle.rv_model.specs.declared.assembler.mnemonics.TheConstants.{MNEMONICS}
+use Rattle.rv_model.specs.declared.assembler.mnemonics.TheConstants.{MNEMONICS, NAME_COUNT, ROW_COUNT}
 use Rattle.rv_model.specs.assembler.Numbers.{hex_digits}
 use Rattle.rv_model.specs.assembler.Fields.{fixed_mask}
-use Rattle.rv_model.specs.assembler.Table.{name_count, row_count, slots_of, row_at, name_at, slots_at, row_of_word, printed_operands, text_at, canonical}
-use Rattle.rv_model.specs.assembler.Naming.{IsFence, HasBitsOf, HasName, HasNoName, IsNamed, directive_text}
+use Rattle.rv_model.specs.assembler.Table.{slots_of, row_at, name_at, slots_at, row_of_word, printed_operands, text_at, canonical}
+use Rattle.rv_model.specs.assembler.Naming.{IsFence, HasBitsOf, HasName, IsNamed}
 use Rattle.rv_model.specs.instructions.Table.{table, scan}
 use Rattle.rv_model.proofs.instruction_lemmas.Scans.{some_row, found, table_apart}
 use Rattle.rv_model.proofs.assembler_lemmas.NamedOperations.{names_operation}
@@ -33,32 +33,32 @@ cases_fence w =
     ]
 
 -- the first row that a word matches is not above any that it matches
-matching_word_is_named : (w n : ℕ) → n < name_count → has_bits w (get_or MNEMONICS n none) ≡ true → row_of_word w < name_count
+matching_word_is_named : (w n : ℕ) → n < NAME_COUNT → has_bits w (get_or MNEMONICS n none) ≡ true → row_of_word w < NAME_COUNT
 unfolding row_of_word
 matching_word_is_named w n lt h =
     let first = position_or_len (has_bits w) MNEMONICS in
     elim (cases_lt n first) [
       | inl before ↦ absurd (true_is_not_false (sym h ∙ fails_before_first (has_bits w) MNEMONICS n none before))
       | inr le ↦
-          let below : first < row_count = omega arith in
-          let is : unwrap_or (position (has_bits w) MNEMONICS) name_count ≡ first = ap (λ (o : Option ℕ). unwrap_or o name_count) (cond-true (nat_lt first (length MNEMONICS)) (Some first) None (lt-ltb first row_count below)) in
-          let P : ℕ → Type 0 = λ k. k < name_count in
+          let below : first < ROW_COUNT = omega arith in
+          let is : unwrap_or (position (has_bits w) MNEMONICS) NAME_COUNT ≡ first = ap (λ (o : Option ℕ). unwrap_or o NAME_COUNT) (cond-true (nat_lt first (length MNEMONICS)) (Some first) None (lt-ltb first ROW_COUNT below)) in
+          let P : ℕ → Type 0 = λ k. k < NAME_COUNT in
           subst P (sym is) (omega arith)
     ]
 
 -- a word with the bits of a name is named by it or by an earlier one
-word_with_bits_is_named : (w : ℕ) → HasNameOf names w → row_of_word w < name_count
+word_with_bits_is_named : (w : ℕ) → HasNameOf names w → row_of_word w < NAME_COUNT
 word_with_bits_is_named w h =
-    let lt : h.0 < name_count = let P : ℕ → Type 0 = λ k. h.0 < k in subst P named_count h.1 in
+    let lt : h.0 < NAME_COUNT = let P : ℕ → Type 0 = λ k. h.0 < k in subst P named_count h.1 in
     let P : Pattern → Type 0 = λ p. bit_and w p.0 ≡ p.1 in
     let is : bit_and w (fixed_mask (slots_of (get_or MNEMONICS h.0 none).1)) ≡ (get_or MNEMONICS h.0 none).2 = subst P (name_at_row h.0 lt) h.2 in
     matching_word_is_named w h.0 lt (eq-eqb (bit_and w (fixed_mask (slots_of (get_or MNEMONICS h.0 none).1))) (get_or MNEMONICS h.0 none).2 is)
 
 -- the row of a word's name is a name of the list
-has_name_of : (w : ℕ) → row_of_word w < name_count → HasNameOf names w
+has_name_of : (w : ℕ) → row_of_word w < NAME_COUNT → HasNameOf names w
 has_name_of w lt = (row_of_word w, in_names (row_of_word w) lt, bits_of_name (row_of_word w) w lt (row_matches w).bits)
 
-full_fence_is_named : row_of_word 0x0ff0000f < name_count
+full_fence_is_named : row_of_word 0x0ff0000f < NAME_COUNT
 unfolding row_of_word fixed_mask
 full_fence_is_named = lit< tt
 
@@ -70,10 +70,10 @@ none_from_is_none : (o : Option Instr) → IsNone o → o ≡ None
 none_from_is_none None h = refl
 none_from_is_none (Some i) h = cc
 
-word_with_name_is_named : (w : ℕ) → HasName w → row_of_word w < name_count
+word_with_name_is_named : (w : ℕ) → HasName w → row_of_word w < NAME_COUNT
 word_with_name_is_named w h =
     elim (cases_fence w) [
-      | inl fence ↦ let P : ℕ → Type 0 = λ k. row_of_word k < name_count in subst P (sym (h.1 fence)) full_fence_is_named
+      | inl fence ↦ let P : ℕ → Type 0 = λ k. row_of_word k < NAME_COUNT in subst P (sym (h.1 fence)) full_fence_is_named
       | inr other ↦
           let i = some_from_is_some (scan table w) h.0 in
           let r = some_row table w i.0 i.1 in
@@ -87,7 +87,20 @@ is_named w h =
     let is = (row_matches w).bits in
     (row_of_word w, lt, is, names_operation (row_of_word w) w lt is, refl)
 
-word_without_name_is_not_named : (w : ℕ) → w < 2 ^ 32 → HasNoName w → row_of_word w < name_count → ⊥
+-- the word is no instruction, or another fence
+abbrev HasNoName : ℕ → Type 0
+HasNoName word = IsNone (scan table word) ⊎ (IsFence word × (word ≢ 0x0ff0000f))
+
+no_name_by : (w : ℕ) (o : Option Instr) → scan table w ≡ o → (HasName w → ⊥) → HasNoName w
+no_name_by w None e h = inl (subst (λ (o : Option Instr). IsNone o) (sym e) refl)
+no_name_by w (Some i) e h =
+    let some : IsSome (scan table w) = subst (λ (o : Option Instr). IsSome o) (sym e) refl in
+    elim (cases_fence w) [
+      | inl fence ↦ inr (fence, λ is. h (some, λ f. is))
+      | inr other ↦ absurd (h (some, λ f. absurd (other f)))
+    ]
+
+word_without_name_is_not_named : (w : ℕ) → w < 2 ^ 32 → HasNoName w → row_of_word w < NAME_COUNT → ⊥
 word_without_name_is_not_named w small (inl no_row) lt =
     let n = has_name_of w lt in
     let r = name_of_row n.0 w n.1 n.2 in
@@ -96,24 +109,28 @@ word_without_name_is_not_named w small (inr fence) lt =
     let n = has_name_of w lt in
     fence.1 (fence_named n.0 w small n.1 n.2 fence.0)
 
-only_directive_is_left : (row : ℕ) → row < row_count → (row < name_count → ⊥) → row ≡ name_count
+only_directive_is_left : (row : ℕ) → row < ROW_COUNT → (row < NAME_COUNT → ⊥) → row ≡ NAME_COUNT
 only_directive_is_left row lt h =
-    elim (cases_lt row name_count) [
+    elim (cases_lt row NAME_COUNT) [
       | inl below ↦ absurd (h below)
       | inr le ↦ omega arith
     ]
 
-text_of_directive : (w : ℕ) → w < 2 ^ 32 → text_at name_count w ≡ directive_text w
+-- `.word` and 8 hexadecimal digits
+abbrev directive_text : ℕ → List ℕ
+directive_text word = codes ".word 0x" ++ hex_digits 8 word
+
+text_of_directive : (w : ℕ) → w < 2 ^ 32 → text_at NAME_COUNT w ≡ directive_text w
 unfolding text_at name_at slots_at row_at printed_operands
 text_of_directive w small =
     let is : w / 2 ^ 0 % 2 ^ 32 ≡ w = omega arith in
     ap (λ (t : List ℕ). codes ".word " ++ t) (append-nil (codes "0x" ++ hex_digits 8 (w / 2 ^ 0 % 2 ^ 32))) ∙ ap (λ (v : ℕ). codes ".word 0x" ++ hex_digits 8 v) is
 
-pub is_directive : (w : ℕ) → w < 2 ^ 32 → HasNoName w → canonical w ≡ directive_text w
+pub is_directive : (w : ℕ) → w < 2 ^ 32 → (HasName w → ⊥) → canonical w ≡ directive_text w
 unfolding canonical
-is_directive w small h = ap (λ (row : ℕ). text_at row w) (only_directive_is_left (row_of_word w) (row_matches w).within (word_without_name_is_not_named w small h)) ∙ text_of_directive w small
+is_directive w small h = ap (λ (row : ℕ). text_at row w) (only_directive_is_left (row_of_word w) (row_matches w).within (word_without_name_is_not_named w small (no_name_by w (scan table w) refl h))) ∙ text_of_directive w small
 
-pub one_name : (w row other : ℕ) → row < name_count → other < name_count → HasBitsOf row w → HasBitsOf other w → row ≡ other
+pub one_name : (w row other : ℕ) → row < NAME_COUNT → other < NAME_COUNT → HasBitsOf row w → HasBitsOf other w → row ≡ other
 one_name w row other lt less is also =
     elim (cases_lt row other) [
       | inl before ↦ absurd (no_word_of_two_names row other w before (in_names other less) (bits_of_name row w lt is) (bits_of_name other w less also))

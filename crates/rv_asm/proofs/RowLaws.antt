@@ -5,12 +5,14 @@ use Rattle.std.proofs.lemmas.Bool.{agree_below_at, and_parts, ltb-true, eqb-true
 use Rattle.rv_model.specs.assembler.Tokens.{Token, tokens}
 use Rattle.rv_model.specs.instructions.BitFields.{Part, sum_of, mask_of}
 use Rattle.rv_model.specs.declared.assembler.forms.Slot.{Slot}
-use Rattle.rv_model.specs.assembler.Fields.{operand_parts, fixed_mask}
-use Rattle.rv_model.specs.assembler.Table.{row_count, row_named, row_at, name_at, slots_at, bits_at, read_operands, spelled_with, spelled_by, spelled, operands_text, printed_operands, text_at}
+use Rattle.rv_model.specs.assembler.Fields.{fixed_mask}
+use Rattle.rv_model.specs.declared.assembler.mnemonics.TheConstants.{ROW_COUNT}
+use Rattle.rv_model.specs.assembler.Table.{row_named, row_at, name_at, slots_at, bits_at, read_operands, spelled_by, spelled, operands_text, printed_operands, text_at}
 use Rattle.rv_model.proofs.instruction_lemmas.Parts.{share_none, rebuilt}
 use Rattle.rv_asm.specs.Spans.{spans}
+use Rattle.rv_asm.proofs.Assembling.{spelled_with}
 use Rattle.rv_asm.proofs.Tokens.{all_run}
-use Rattle.rv_asm.proofs.FieldLaws.{operand_parts_of_word}
+use Rattle.rv_asm.proofs.FieldLaws.{operand_parts, operand_parts_of_word}
 use Rattle.rv_asm.proofs.SlotLaws.{run_is_one_token}
 use Rattle.rv_asm.proofs.FormLaws.{is_form, form_again}
 
@@ -33,13 +35,13 @@ form_fits row =
     && (share_none (fixed_mask (slots_at row)) (operand_parts (slots_at row) 0)
     && nat_eq (mask_of (fixed_mask (slots_at row)) (operand_parts (slots_at row) 0)) (2 ^ 32 - 1)))
 
-each_name_fits : (row : ℕ) → row < row_count → name_fits row ≡ true
+each_name_fits : (row : ℕ) → row < ROW_COUNT → name_fits row ≡ true
 unfolding name_fits name_at row_at row_named
-each_name_fits row lt = agree_below_at name_fits (λ _. true) row_count row refl lt
+each_name_fits row lt = agree_below_at name_fits (λ _. true) ROW_COUNT row refl lt
 
-each_form_fits : (row : ℕ) → row < row_count → form_fits row ≡ true
+each_form_fits : (row : ℕ) → row < ROW_COUNT → form_fits row ≡ true
 unfolding form_fits slots_at bits_at row_at fixed_mask
-each_form_fits row lt = agree_below_at form_fits (λ _. true) row_count row refl lt
+each_form_fits row lt = agree_below_at form_fits (λ _. true) ROW_COUNT row refl lt
 
 -- what these tests tell of a row
 pub record Row (row : ℕ) : Type 0 where
@@ -56,7 +58,7 @@ finds_row : (row : ℕ) (found : Option ℕ) → is_row row found ≡ true → f
 finds_row row None h = absurd cc
 finds_row row (Some k) h = ap (λ (x : ℕ). Some x) (eqb-true k row h)
 
-pub row_facts : (row : ℕ) → row < row_count → Row row
+pub row_facts : (row : ℕ) → row < ROW_COUNT → Row row
 unfolding name_fits form_fits
 row_facts row lt =
     let a = and_parts (all_run (name_at row)) _ (each_name_fits row lt) in
@@ -84,7 +86,7 @@ name_then_operands end bits w name [] run some f = (tokens (1 + length name) [],
 name_then_operands end bits w name (s ∷ ss) run some f =
     (tokens (1 + length name + 1) (printed_operands (s ∷ ss) w), run_is_one_token 1 name (32 ∷ printed_operands (s ∷ ss) w) run some refl, form_again (s ∷ ss) w (1 + length name + 1) end bits f)
 
-pub text_again : (row w : ℕ) → row < row_count → w < 2 ^ 32 → bit_and w (fixed_mask (slots_at row)) ≡ bits_at row → spelled (text_at row w) ≡ Ok w
+pub text_again : (row w : ℕ) → row < ROW_COUNT → w < 2 ^ 32 → bit_and w (fixed_mask (slots_at row)) ≡ bits_at row → spelled (text_at row w) ≡ Ok w
 unfolding spelled text_at
 text_again row w lt small is =
     let r = row_facts row lt in

@@ -1,24 +1,26 @@
 -- Each slot reads the text that is printed for its operand
 use Rattle.std.proofs.Common.{◌≡◌, ℕ, zero, suc, ◌+◌, ◌-◌, ◌*◌, ◌/◌, ◌%◌, ◌^◌, ◌<◌, ◌≤◌, Bool, true, false, eqb, ltb, leb, List, [], ◌∷◌, ◌++◌, length, Option, Some, None, Result, Ok, refl, sym, ap, subst, ◌∙◌, append_assoc, arith, inl, inr, lit<, lit≤}
+use Rattle.std.specs.Option.{option_map_or}
 use Rattle.std.specs.Prelude.{codes}
 use Rattle.std.specs.Fmt.{decimal}
 use Rattle.std.specs.Str.{bytes_eq}
 use Rattle.std.proofs.lemmas.Bool.{and_from, and_parts, le-leb, lt-ltb, le-ltb, eq-eqb, ne_eqb, cond-true, cond-false, cases_lt}
 use Rattle.std.proofs.lemmas.List.{length-append}
 use Rattle.rv_model.specs.assembler.Tokens.{Token, in_run, tokens, begins_run}
-use Rattle.rv_model.specs.assembler.Numbers.{literal, register, number, at_most, in_steps, negated, hex_digits, vlmul, vta, vma, csr, csr_text}
+use Rattle.rv_model.specs.assembler.Numbers.{literal, register, number, at_most, in_steps, negated, hex_digits, csr}
 use Rattle.rv_model.specs.declared.assembler.forms.SignedField.{SignedField}
 use Rattle.rv_model.specs.declared.assembler.forms.SignedField.TheVariants as signed
 use Rattle.rv_model.specs.declared.assembler.forms.Slot.{Slot}
 use Rattle.rv_model.specs.declared.assembler.forms.Slot.TheVariants.{Comma, Open, Close, V0, Scalar, Vector, Unsigned, Signed, Csr, VectorType, ShortVectorType, Mask, Word}
-use Rattle.rv_model.specs.assembler.Slots.{◌>>=◌, accept, one, limit, half, signed_number, vtype_names, vtype_from, vtype, read, signed_text, vtype_named, vtype_text, printed, scale, scaled}
-use Rattle.rv_model.specs.lending.Slots.{value_count}
+use Rattle.rv_model.specs.assembler.Slots.{◌>>=◌, accept, one, half, signed_number, vtype_names, vtype, read, signed_text, vtype_named, vtype_text, printed, scale}
+use Rattle.rv_model.specs.lending.Slots.{limit, value_count}
 use Rattle.rv_model.specs.declared.vector.types.Sew.{Sew}
 use Rattle.rv_model.specs.declared.vector.types.Lmul.{Lmul}
 use Rattle.rv_model.specs.instructions.BitFields.{flag_bit}
 use Rattle.rv_model.specs.vector.TypeNames.{lmul_name, mask_name, sew_name, tail_name}
 use Rattle.rv_model.specs.vector.TypeRules.{lmul_number, lmul_with_number, sew_number, sew_with_number}
 use Rattle.rv_model.proofs.assembler_lemmas.Operands.{limit_small}
+use Rattle.rv_asm.specs.TypeParts.{vlmul, vta, vma}
 use Rattle.rv_asm.proofs.Tokens.{all_run, run_first}
 use Rattle.rv_asm.proofs.NumberLaws.{is_decimal, number_again, all_run_dec, register_again, not_minus, hex_run, hex_again}
 use Rattle.rv_asm.proofs.NameLaws.{Means, csr_again, vsew_again, vlmul_again, vta_again, vma_again, sew_number_again, lmul_number_again, vsew_digits}
@@ -48,6 +50,9 @@ at_most_again : (limit n : ℕ) → n ≤ limit → at_most limit (Some n) ≡ S
 at_most_again limit n le = cond-true (leb n limit) (Some n) None (le-leb n limit le)
 
 -- ---- signed numbers
+
+abbrev scaled : ℕ → ℕ → List ℕ → Option ℕ
+scaled size count text = in_steps size (at_most (size * count) (number text))
 
 steps_back : (s : SignedField) (v : ℕ) → in_steps (scale s) (Some (scale s * v)) ≡ Some v
 steps_back signed.Vector v = let a : 1 * v % 1 ≡ 0 = omega arith in let b : 1 * v / 1 ≡ v = omega arith in cond-true (eqb (1 * v % 1) 0) (Some (1 * v / 1)) None (eq-eqb (1 * v % 1) 0 a) ∙ ap (λ (x : ℕ). Some x) b
@@ -114,6 +119,10 @@ signed_again s v p end more lt follows =
     ]
 
 -- ---- vtype
+
+-- behind the first token, by whether it was an element width
+abbrev vtype_from : ℕ → ℕ → Token → List Token → Option ℕ → Result (ℕ × List Token) ℕ
+vtype_from end count t ts width = option_map_or (λ w. vtype_names end w ts) width (accept t.column ts (at_most (count - 1) (number t.text)))
 
 abbrev comma : ℕ → List Token → Result (ℕ × List Token) ℕ
 comma end ts = one end (literal (44 ∷ [])) ts
@@ -263,7 +272,7 @@ slot_again (Scalar r) v p end more fits follows = one_again p end v (register 12
 slot_again (Vector r) v p end more fits follows = one_again p end v (register 118) (118 ∷ decimal v) more (register_means 118 v refl fits) follows
 slot_again (Unsigned u) v p end more fits follows = one_again p end v (λ t. at_most (limit u) (number t)) (decimal v) more (number_means (limit u) v (omega arith) (limit_small u)) follows
 slot_again (Signed s) v p end more fits follows = signed_again s v p end more fits follows
-slot_again Csr v p end more fits follows = one_again p end v csr (csr_text v) more (csr_again v fits) follows
+slot_again Csr v p end more fits follows = one_again p end v csr (printed Csr v) more (csr_again v fits) follows
 slot_again VectorType v p end more fits follows = vtype_again end 2048 v p more fits (lit≤ tt) follows
 slot_again ShortVectorType v p end more fits follows = vtype_again end 1024 v p more fits (lit≤ tt) follows
 slot_again Mask v p end more fits follows =

@@ -1,6 +1,7 @@
 //! Names of control registers and of the parts of vtype, as numbers.
 ghost use Rattle.std.specs.Prelude.{◌≡◌, ◌<◌, IfSome};
-ghost use Rattle.rv_model.specs.assembler.Numbers.{csr, vsew, vlmul, vta, vma};
+ghost use Rattle.rv_model.specs.assembler.Numbers.{csr};
+ghost use Rattle.rv_asm.specs.TypeParts.{vsew, vlmul, vta, vma};
 
 use crate::number::number_up_to;
 use rv_model::{ControlRegister, Lmul, Sew, VType};
@@ -17,7 +18,6 @@ pub(crate) fn csr(text: &[u8]) -> Option<u32>
 }
 
 /// vsew, from the name of an element width.
-#[tactic(auto, unfolding(rv_model::specs::assembler::Numbers::vsew))]
 pub(crate) fn vsew(text: &[u8]) -> Option<u32>
     ensures value { result ≡ vsew text.now }
     ensures small { IfSome result (λ v. v < 4) }
@@ -27,7 +27,6 @@ pub(crate) fn vsew(text: &[u8]) -> Option<u32>
 }
 
 /// vlmul, from the name of a group multiplier.
-#[tactic(auto, unfolding(rv_model::specs::assembler::Numbers::vlmul))]
 pub(crate) fn vlmul(text: &[u8]) -> Option<u32>
     ensures value { result ≡ vlmul text.now }
     ensures small { IfSome result (λ v. v < 8) }
@@ -37,7 +36,6 @@ pub(crate) fn vlmul(text: &[u8]) -> Option<u32>
 }
 
 /// vta, from the name of a policy for the tail.
-#[tactic(auto, unfolding(rv_model::specs::assembler::Numbers::vta))]
 pub(crate) fn vta(text: &[u8]) -> Option<u32>
     ensures value { result ≡ vta text.now }
     ensures small { IfSome result (λ v. v < 2) }
@@ -47,7 +45,6 @@ pub(crate) fn vta(text: &[u8]) -> Option<u32>
 }
 
 /// vma, from the name of a policy for masked-off elements.
-#[tactic(auto, unfolding(rv_model::specs::assembler::Numbers::vma))]
 pub(crate) fn vma(text: &[u8]) -> Option<u32>
     ensures value { result ≡ vma text.now }
     ensures small { IfSome result (λ v. v < 2) }

@@ -1,7 +1,7 @@
 //! The one text of each operand.
 ghost use Rattle.std.specs.Prelude.{◌≡◌, ◌≤◌, ◌<◌, ◌^◌, ◌+◌, ◌-◌, ◌*◌, ◌++◌, ℕ, Some, decimal, slice_index};
 ghost use Rattle.arrayvec.specs.ArrayString.{array_string_len};
-ghost use Rattle.rv_model.specs.assembler.Numbers.{hex_digit, hex_digits, csr_text};
+ghost use Rattle.rv_model.specs.assembler.Numbers.{hex_digit, hex_digits};
 ghost use Rattle.rv_model.specs.assembler.Slots.{vtype_named, vtype_text, signed_text, printed};
 ghost use Rattle.rv_model.specs.lending.Slots.{value_count};
 ghost use Rattle.rv_model.specs.assembler.Table.{unpadded};
@@ -70,10 +70,9 @@ fn put_hex_digits(count: usize, value: u32, out: &mut Text)
 }
 
 /// Appends the name of a control register, or its number where it has none.
-#[tactic(auto, unfolding(rv_model::specs::assembler::Numbers::csr_text))]
 fn put_csr(csr: u32, out: &mut Text)
     requires { array_string_len out.old + 16 ≤ 160 }
-    ensures bytes { out.new.bytes ≡ out.old.bytes ++ csr_text csr }
+    ensures bytes { out.new.bytes ≡ out.old.bytes ++ printed Slot.Csr csr }
     ensures grows { array_string_len out.new ≤ array_string_len out.old + 16 }
 {
     match ControlRegister::with_number(csr) {

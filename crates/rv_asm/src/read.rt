@@ -1,7 +1,8 @@
 //! What each slot takes from the tokens.
 ghost use Rattle.std.specs.Prelude.{◌≡◌, ◌≤◌, ◌<◌, ◌^◌, ◌+◌, ◌*◌, length};
 ghost use Rattle.rv_model.specs.assembler.Numbers.{literal, register, number, at_most, in_steps, negated, csr};
-ghost use Rattle.rv_model.specs.assembler.Slots.{one, limit, half, signed_number, read, scale, scaled, read_mask};
+ghost use Rattle.rv_model.specs.assembler.Slots.{one, half, signed_number, read, scale, read_mask};
+ghost use Rattle.rv_model.specs.lending.Slots.{limit};
 ghost use Rattle.rv_asm.specs.Places.{rest, Reads};
 
 use crate::fault::AsmFault;
@@ -80,7 +81,7 @@ fn in_steps(step: u32, limit: u32, text: &[u8]) -> Option<u32>
 fn negative(step: u32, half: u32, text: &[u8]) -> Option<u32>
     requires step { 1 ≤ step × step ≤ 2 }
     requires half { half < 2 ^ 30 }
-    ensures { result ≡ negated half (scaled step half text.now) }
+    ensures { result ≡ negated half (in_steps step (at_most (step * half) (number text.now))) }
 {
     let magnitude = in_steps(step, step * half, text)?;
     if magnitude == 0 {

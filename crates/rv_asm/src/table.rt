@@ -1,9 +1,10 @@
 //! The rows of the table of names: by name, and by word.
-ghost use Rattle.std.specs.Prelude.{ℕ, ◌≡◌, ◌≤◌, ◌<◌, ◌^◌, ◌+◌, length, IfSome, position, unwrap_or, nat_eq, bit_and, slice_index};
+ghost use Rattle.std.specs.Prelude.{ℕ, ◌≡◌, ◌≤◌, ◌<◌, ◌^◌, ◌+◌, ◌-◌, ◌++◌, length, replicate, IfSome, position, unwrap_or, nat_eq, bit_and, slice_index};
 ghost use Rattle.std.specs.Str.{bytes_eq};
 ghost use Rattle.rv_model.specs.assembler.Fields.{fixed_mask};
+ghost use Rattle.rv_model.specs.declared.assembler.mnemonics.TheConstants.{ROW_COUNT};
 ghost use Rattle.rv_asm.specs.Spans.{spans};
-ghost use Rattle.rv_model.specs.assembler.Table.{carry_slots, move_slots, name_count, row_count, slots_of, unmasked_slots, padded, row_named, row_of_word, row_at, slots_at, bits_at};
+ghost use Rattle.rv_model.specs.assembler.Table.{slots_of, row_named, row_of_word, row_at, slots_at, bits_at};
 
 use rv_model::assembler::forms::{
     BRANCH, CARRY_IMMEDIATE, CARRY_SCALAR, CARRY_VECTOR, CSR, CSR_IMMEDIATE, ELEMENT_INDEX, Form,
@@ -17,7 +18,7 @@ use rv_model::assembler::mnemonics::{MNEMONICS, Mnemonic, NAME_COUNT};
 
 /// The slots of a form with v0 as an operand.
 fn carry_slots(source: SourceKind) -> &'static [Slot]
-    ensures slots { result.now ≡ carry_slots source }
+    ensures slots { result.now ≡ slots_of (Form.Carry source) }
     ensures few { length result.now ≤ 8 }
 {
     match source {
@@ -29,7 +30,7 @@ fn carry_slots(source: SourceKind) -> &'static [Slot]
 
 /// The slots of a form that is never masked.
 fn unmasked_slots(source: SourceKind) -> &'static [Slot]
-    ensures slots { result.now ≡ unmasked_slots source }
+    ensures slots { result.now ≡ slots_of (Form.Unmasked source) }
     ensures few { length result.now ≤ 8 }
 {
     match source {
@@ -41,7 +42,7 @@ fn unmasked_slots(source: SourceKind) -> &'static [Slot]
 
 /// The slots of a form of a move.
 fn move_slots(source: SourceKind) -> &'static [Slot]
-    ensures slots { result.now ≡ move_slots source }
+    ensures slots { result.now ≡ slots_of (Form.Move source) }
     ensures few { length result.now ≤ 8 }
 {
     match source {
@@ -131,7 +132,7 @@ pub fn fixed_mask(form: Form) -> u32
 /// A name with spaces behind it, 16 bytes long.
 fn padded(name: &[u8]) -> [u8; 16]
     requires { length name.now ≤ 16 }
-    ensures { result ≡ padded name.now }
+    ensures { result ≡ name.now ++ replicate (16 - length name.now) 32 }
 {
     let mut bytes = [b' '; 16];
     bytes[..name.len()].copy_from_slice(name);
@@ -140,7 +141,7 @@ fn padded(name: &[u8]) -> [u8; 16]
 
 /// The row with this name, which has its spaces.
 fn row_padded(name: &[u8; 16]) -> Option<usize>
-    ensures within { IfSome result (λ row. row < row_count) }
+    ensures within { IfSome result (λ row. row < ROW_COUNT) }
     ensures first { result ≡ position (λ row. bytes_eq row.0 name.now) MNEMONICS }
 {
     MNEMONICS.iter().position(|row| row.0 == *name)
@@ -149,7 +150,7 @@ fn row_padded(name: &[u8; 16]) -> Option<usize>
 /// The row with this name.
 #[tactic(auto, unfolding(rv_model::specs::assembler::Table::row_named))]
 pub(crate) fn row_named(name: &[u8]) -> Option<usize>
-    ensures within { IfSome result (λ row. row < row_count) }
+    ensures within { IfSome result (λ row. row < ROW_COUNT) }
     ensures first { result ≡ row_named name.now }
 {
     if name.len() > 16 {
@@ -160,7 +161,7 @@ pub(crate) fn row_named(name: &[u8]) -> Option<usize>
 
 /// The first row whose fixed bits a word has.
 fn row_matching(word: u32) -> Option<usize>
-    ensures within { IfSome result (λ row. row < row_count) }
+    ensures within { IfSome result (λ row. row < ROW_COUNT) }
     ensures first { result
         ≡ position (λ row. nat_eq (bit_and word (fixed_mask (slots_of row.1))) row.2) MNEMONICS }
 {
@@ -171,7 +172,7 @@ fn row_matching(word: u32) -> Option<usize>
 
 /// The first row whose fixed bits a word has: that of `.word`, the last, for a word without a name.
 pub(crate) fn row_of_word(word: u32) -> usize
-    ensures within { result < row_count }
+    ensures within { result < ROW_COUNT }
     ensures first { result ≡ row_of_word word }
 {
     row_matching(word).unwrap_or(NAME_COUNT)
@@ -179,7 +180,7 @@ pub(crate) fn row_of_word(word: u32) -> usize
 
 /// A row of the table.
 pub(crate) fn row_at(row: usize) -> Mnemonic
-    requires { row < row_count }
+    requires { row < ROW_COUNT }
     ensures value { result ≡ row_at row }
     ensures ascii { (k : ℕ) → k < 16 → slice_index result.0 k < 128 }
     ensures room { result.2 + spans (slots_of result.1) < 2 ^ 32 }

@@ -1,8 +1,9 @@
 //! vtype as a text has it: the names of its parts, or a number.
 ghost use Rattle.std.specs.Prelude.{◌≡◌, ◌≤◌, ◌<◌, ◌-◌, ◌+◌, length, IfOk};
-ghost use Rattle.rv_model.specs.assembler.Numbers.{literal, vlmul, vta, vma};
+ghost use Rattle.rv_model.specs.assembler.Numbers.{literal};
 ghost use Rattle.rv_model.specs.assembler.Slots.{one, vtype_names, vtype};
 ghost use Rattle.rv_asm.specs.Places.{rest, Reads};
+ghost use Rattle.rv_asm.specs.TypeParts.{vlmul, vta, vma};
 
 use crate::fault::AsmFault;
 use crate::name::{vlmul, vma, vsew, vta};

@@ -12,7 +12,8 @@ use Rattle.rv_model.specs.declared.instructions.operations.SystemOp.{SystemOp}
 use Rattle.rv_model.specs.declared.instructions.access.AccessInstr.{AccessInstr}
 use Rattle.rv_model.specs.declared.instructions.scalar.ScalarInstr.TheVariants.{System}
 use Rattle.rv_model.specs.declared.instructions.vector.VectorInstr.TheVariants.{Arith}
-use Rattle.rv_model.specs.instructions.Table.{Row, rows, table, scan, Systems, Csrs, CsrImmediates, Ariths, Carries, Moves, WholeMoves, MaskLogics, Compresses, MasksToScalar, Extends, MaskUnaries, ElementIndices, MovesToScalar, MovesToVector, SetVlis, SetIvlis, SetVls, Units, Strideds, Indexeds, WholeLoads, WholeStores, MaskMemories}
+use Rattle.rv_model.specs.instructions.Table.{Row, table, scan}
+use Rattle.rv_model.specs.lending.Families.{rows, Systems, Csrs, CsrImmediates, Ariths, Carries, Moves, WholeMoves, MaskLogics, Compresses, MasksToScalar, Extends, MaskUnaries, ElementIndices, MovesToScalar, MovesToVector, SetVlis, SetIvlis, SetVls, Units, Strideds, Indexeds, WholeLoads, WholeStores, MaskMemories}
 use Rattle.rv_model.proofs.instruction_lemmas.Scans.{scan_append, same_narrow, no_scan, DiffersFrom}
 use Rattle.rv_decode.specs.declared.arith_operation.ArithOperation.{ArithOperation}
 use Rattle.rv_decode.specs.Irregular.{irregular, other_accesses}
@@ -40,36 +41,36 @@ instr_of o = instr.Vector (Arith o.arith o.vd o.vs2 o.unmasked)
 
 pub irregular_0057 : (word : ℕ) → bit_and word 0x707f ≡ 0x0057
     → scan irregular word ≡ scan (rows (Carries form.V) ++ rows (Moves form.V)) word
-unfolding irregular rows
+unfolding irregular table rows
 irregular_0057 word is = same_narrow 0x707f 0x0057 word is irregular _ refl
 
 pub irregular_4057 : (word : ℕ) → bit_and word 0x707f ≡ 0x4057
     → scan irregular word ≡ scan (rows (Carries form.X) ++ rows (Moves form.X)) word
-unfolding irregular rows
+unfolding irregular table rows
 irregular_4057 word is = same_narrow 0x707f 0x4057 word is irregular _ refl
 
 pub irregular_3057 : (word : ℕ) → bit_and word 0x707f ≡ 0x3057
     → scan irregular word ≡ scan (rows (Carries form.I) ++ rows (Moves form.I) ++ rows WholeMoves) word
-unfolding irregular rows
+unfolding irregular table rows
 irregular_3057 word is = same_narrow 0x707f 0x3057 word is irregular _ refl
 
 pub irregular_2057 : (word : ℕ) → bit_and word 0x707f ≡ 0x2057
     → scan irregular word ≡ scan (rows MaskLogics ++ rows Compresses ++ rows MasksToScalar ++ rows Extends ++ rows MaskUnaries ++ rows ElementIndices ++ rows MovesToScalar) word
-unfolding irregular rows
+unfolding irregular table rows
 irregular_2057 word is = same_narrow 0x707f 0x2057 word is irregular _ refl
 
 pub irregular_6057 : (word : ℕ) → bit_and word 0x707f ≡ 0x6057
     → scan irregular word ≡ scan (rows MovesToVector) word
-unfolding irregular rows
+unfolding irregular table rows
 irregular_6057 word is = same_narrow 0x707f 0x6057 word is irregular _ refl
 
 pub irregular_7057 : (word : ℕ) → bit_and word 0x707f ≡ 0x7057
     → scan irregular word ≡ scan (rows SetVlis ++ rows SetIvlis ++ rows SetVls) word
-unfolding irregular rows
+unfolding irregular table rows
 irregular_7057 word is = same_narrow 0x707f 0x7057 word is irregular _ refl
 
 pub no_irregular : (word : ℕ) → DiffersFrom places (bit_and word 0x707f) → scan irregular word ≡ None
-unfolding irregular rows
+unfolding irregular table
 no_irregular word h = no_scan 0x707f places word irregular refl h
 
 -- ---- regular operations
@@ -139,16 +140,24 @@ none_7057 word is = at_7057 word is ∙ sym (irregular_7057 word is)
 
 -- ---- unit-stride accesses
 
+other_rows : other_accesses ≡ rows Strideds ++ rows Indexeds ++ rows WholeLoads ++ rows WholeStores ++ rows MaskMemories
+unfolding other_accesses table rows
+other_rows = refl
+
+pub other_scan : (word : ℕ)
+    → scan other_accesses word ≡ scan (rows Strideds ++ rows Indexeds ++ rows WholeLoads ++ rows WholeStores ++ rows MaskMemories) word
+other_scan word = ap (λ t. scan t word) other_rows
+
 pub unit_found : (word : ℕ) (found : Option AccessInstr) → (bit_and word 0x7f ≡ 0x07) ⊎ (bit_and word 0x7f ≡ 0x27)
     → option_map instr.Access found ≡ scan (rows Units) word → IfSome found (λ i. scan table word ≡ Some (instr.Access i))
-unfolding rows other_accesses
-unit_found word found is e = first_found instr.Access found (scan table word) (rows Units) other_accesses word (at_access word is) e
+unfolding rows
+unit_found word found is e = first_found instr.Access found (scan table word) (rows Units) (rows Strideds ++ rows Indexeds ++ rows WholeLoads ++ rows WholeStores ++ rows MaskMemories) word (at_access word is) e
 
 pub unit_missed : (word : ℕ) (found : Option AccessInstr) → (bit_and word 0x7f ≡ 0x07) ⊎ (bit_and word 0x7f ≡ 0x27)
     → option_map instr.Access found ≡ scan (rows Units) word → IfNone found (scan table word ≡ scan other_accesses word)
-unfolding rows other_accesses
+unfolding rows
 unit_missed word found is e =
-    first_missed instr.Access found (scan table word) (scan other_accesses word) (rows Units) other_accesses word (at_access word is) refl e
+    first_missed instr.Access found (scan table word) (scan other_accesses word) (rows Units) (rows Strideds ++ rows Indexeds ++ rows WholeLoads ++ rows WholeStores ++ rows MaskMemories) word (at_access word is) (other_scan word) e
 
 -- ---- calls and breakpoints
 

@@ -1,17 +1,27 @@
 -- The vector instructions that are decoded out of line: those of OP-V that have no line of their own in the manual's table of vector
 -- operations ("V" Vector Extension 1.0, chapter 19), and the accesses that aren't of unit stride.
-use Rattle.std.specs.Prelude.{List, ◌++◌}
-use Rattle.rv_model.specs.declared.instructions.operations.Form.TheVariants as form
-use Rattle.rv_model.specs.instructions.Table.{Row, rows, Carries, Moves, WholeMoves, MaskLogics, Compresses, MasksToScalar, Extends, MaskUnaries, ElementIndices, MovesToScalar, MovesToVector, SetVlis, SetIvlis, SetVls, Strideds, Indexeds, WholeLoads, WholeStores, MaskMemories}
+use Rattle.std.specs.Prelude.{Bool, true, false, List, filter}
+use Rattle.rv_model.specs.declared.instructions.instruction.Instr.{Instr}
+use Rattle.rv_model.specs.declared.instructions.instruction.Instr.TheVariants as instr
+use Rattle.rv_model.specs.declared.instructions.access.AccessInstr.TheVariants.{UnitStride}
+use Rattle.rv_model.specs.instructions.Table.{Row, table}
+use Rattle.rv_decode.specs.Opcodes.{is_irregular}
 
--- the rows of these instructions of OP-V
+-- an instruction of OP-V that has no line of its own
+abbrev pub is_out_of_line : Instr → Bool
+is_out_of_line (instr.Vector i) = is_irregular i
+is_out_of_line _ = false
+
+-- the rows of these
 unfoldable pub irregular : List Row
-irregular =
-    rows (Carries form.V) ++ rows (Moves form.V) ++ rows (Carries form.X) ++ rows (Moves form.X)
-    ++ rows (Carries form.I) ++ rows (Moves form.I) ++ rows WholeMoves
-    ++ rows MaskLogics ++ rows Compresses ++ rows MasksToScalar ++ rows Extends ++ rows MaskUnaries ++ rows ElementIndices ++ rows MovesToScalar
-    ++ rows MovesToVector ++ rows SetVlis ++ rows SetIvlis ++ rows SetVls
+irregular = filter (λ r. is_out_of_line (r.instr 0)) table
 
--- the rows of these accesses
+-- an access that isn't of unit stride
+abbrev pub is_other_access : Instr → Bool
+is_other_access (instr.Access (UnitStride op width nf vd rs1 vm)) = false
+is_other_access (instr.Access i) = true
+is_other_access _ = false
+
+-- the rows of these
 unfoldable pub other_accesses : List Row
-other_accesses = rows Strideds ++ rows Indexeds ++ rows WholeLoads ++ rows WholeStores ++ rows MaskMemories
+other_accesses = filter (λ r. is_other_access (r.instr 0)) table

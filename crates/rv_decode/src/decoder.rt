@@ -5,7 +5,8 @@ ghost use Rattle.rv_model.specs.instructions.Operations.{major_bits};
 ghost use Rattle.rv_model.specs.instructions.Layout.{word_of};
 ghost use Rattle.rv_decode.specs.Opcodes.{is_irregular, is_scalar, is_scalar_opcode};
 ghost use Rattle.rv_decode.specs.Irregular.{irregular, other_accesses};
-ghost use Rattle.rv_model.specs.instructions.Table.{Row, IsRow, scan, rows, table, Uppers, Jumps, JumpRegisters, Branches, Loads, Stores, RegisterImmediates, ShiftImmediates, ShiftImmediateWords, RegisterRegisters, Fences, Systems, Csrs, CsrImmediates, SetVlis, SetIvlis, SetVls, Ariths, Carries, Moves, WholeMoves, MaskLogics, Compresses, MasksToScalar, Extends, MaskUnaries, ElementIndices, MovesToScalar, MovesToVector, Units, Strideds, Indexeds, WholeLoads, WholeStores, MaskMemories};
+ghost use Rattle.rv_model.specs.instructions.Table.{Row, IsRow, scan, table};
+ghost use Rattle.rv_model.specs.lending.Families.{rows, Uppers, Jumps, JumpRegisters, Branches, Loads, Stores, RegisterImmediates, ShiftImmediates, ShiftImmediateWords, RegisterRegisters, Fences, Systems, Csrs, CsrImmediates, SetVlis, SetIvlis, SetVls, Ariths, Carries, Moves, WholeMoves, MaskLogics, Compresses, MasksToScalar, Extends, MaskUnaries, ElementIndices, MovesToScalar, MovesToVector, Units, Strideds, Indexeds, WholeLoads, WholeStores, MaskMemories};
 
 use crate::arith_operation::ArithOperation;
 use crate::scalar::{
@@ -168,7 +169,7 @@ pub fn decode_unit_stride(word: u32) -> Option<AccessInstr>
 }
 
 /// The vector load or store that a word of LOAD-FP or STORE-FP is which `decode_unit_stride` doesn't know.
-#[tactic(auto, unfolding(crate::specs::Irregular::other_accesses), using(rv_model::proofs::instruction_lemmas::Scans::scan_append))]
+#[tactic(auto, using(crate::proofs::Irregular::other_scan, rv_model::proofs::instruction_lemmas::Scans::scan_append))]
 #[inline(always)]
 pub fn decode_other_access(word: u32) -> Option<AccessInstr>
     ensures { option_map Instr.Access result ≡ scan other_accesses word }

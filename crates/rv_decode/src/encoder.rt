@@ -2,7 +2,8 @@
 ghost use Rattle.std.specs.Prelude.{◌≡◌, ◌<◌, ◌^◌, Some, true};
 ghost use Rattle.rv_model.specs.instructions.Sources.{form_of};
 ghost use Rattle.rv_model.specs.instructions.Operations.{has_form, line, carry_line, line_bits, major_bits};
-ghost use Rattle.rv_model.specs.instructions.Layout.{Allowed, bits, word_of};
+ghost use Rattle.rv_model.specs.instructions.Layout.{bits, word_of};
+ghost use Rattle.rv_model.specs.lending.ListedBits.{Allowed};
 ghost use Rattle.rv_model.specs.instructions.Table.{scan, table};
 
 use crate::fixed_bits::{

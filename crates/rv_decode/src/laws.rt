@@ -1,6 +1,6 @@
 //! Laws of the instruction table, of decoding and of encoding.
-ghost use Rattle.std.specs.Prelude.{◌≡◌, ℕ, IfSome, IfNone, Some};
-ghost use Rattle.rv_model.specs.instructions.Table.{Row, In, IsRow, Matches, table};
+ghost use Rattle.std.specs.Prelude.{◌≡◌, ℕ, Contains, IfSome, IfNone, Some};
+ghost use Rattle.rv_model.specs.instructions.Table.{Row, IsRow, Matches, table};
 
 use crate::decoder::decode;
 use crate::encoder::encode;
@@ -8,7 +8,7 @@ use rv_model::Instr;
 
 /// No word matches two rows of the table.
 pub fn one_row()
-    ensures { (r s : Row) → In r table → In s table → (word : ℕ) → Matches r word → Matches s word → r ≡ s }
+    ensures { (r s : Row) → Contains table r → Contains table s → (word : ℕ) → Matches r word → Matches s word → r ≡ s }
 {}
 
 /// The word of a word's instruction, which is that word.

@@ -1,7 +1,7 @@
 //! The lines of the manual's table of vector operations.
 ghost use Rattle.std.specs.Prelude.{◌≡◌, ◌<◌};
-ghost use Rattle.rv_model.specs.instructions.Operations.{carry_line, line, has_form, opi, opm};
-ghost use Rattle.rv_model.specs.lending.ListedBits.{binary_line, carry_out_line, compare_line, fixed_point_line, narrow_shift_line, clip_line, widen_line, wide_source_line, multiply_add_line, widen_multiply_add_line, reduce_line, widen_reduce_line, permute_line};
+ghost use Rattle.rv_model.specs.instructions.Operations.{carry_line, line, has_form};
+ghost use Rattle.rv_model.specs.lending.ListedBits.{line_at, binary_line, carry_out_line, compare_line, fixed_point_line, narrow_shift_line, clip_line, widen_line, wide_source_line, multiply_add_line, widen_multiply_add_line, reduce_line, widen_reduce_line, permute_line};
 
 use rv_model::instructions::operations::{
     BinaryOp, CarryOp, CarryOutOp, ClipOp, CompareOp, FixedPointOp, Form, Forms, Line, Major,
@@ -11,7 +11,7 @@ use rv_model::instructions::operations::{
 
 /// A line of OPIVV, OPIVX and OPIVI.
 fn opi(funct6: u32, forms: Forms) -> Line
-    ensures { result ≡ opi funct6 forms }
+    ensures { result ≡ line_at Major.Opi funct6 forms }
 {
     Line {
         major: Major::Opi,
@@ -22,7 +22,7 @@ fn opi(funct6: u32, forms: Forms) -> Line
 
 /// A line of OPMVV and OPMVX.
 fn opm(funct6: u32, forms: Forms) -> Line
-    ensures { result ≡ opm funct6 forms }
+    ensures { result ≡ line_at Major.Opm funct6 forms }
 {
     Line {
         major: Major::Opm,

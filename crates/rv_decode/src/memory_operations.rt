@@ -2,9 +2,9 @@
 #![tactic(auto, unfolding(rv_model::specs::lending::Search::find))]
 
 ghost use Rattle.std.specs.Prelude.{◌≡◌};
-ghost use Rattle.rv_model.specs.instructions.FixedBits.{counts, directions, mask_memory_bits};
-ghost use Rattle.rv_model.specs.instructions.Layout.{unit_access_bits, strided_access_bits, indexed_access_bits, whole_load_bits, whole_store_bits};
-ghost use Rattle.rv_model.specs.instructions.Table.{unit_accesses, strided_accesses, indexed_accesses, whole_loads};
+ghost use Rattle.rv_model.specs.instructions.Table.{counts, directions};
+ghost use Rattle.rv_model.specs.lending.ListedBits.{mask_memory_bits, unit_access_bits, strided_access_bits, indexed_access_bits, whole_load_bits, whole_store_bits};
+ghost use Rattle.rv_model.specs.lending.Families.{unit_accesses, strided_accesses, indexed_accesses, whole_loads};
 ghost use Rattle.rv_model.specs.lending.Search.{find};
 
 use rv_model::instructions::operations::{Direction, Eew, Order, RegisterCount, UnitOp};

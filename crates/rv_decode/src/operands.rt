@@ -1,6 +1,7 @@
 //! The operands of instructions, each at its place in a word.
 ghost use Rattle.std.specs.Prelude.{◌≡◌, ◌<◌, ◌*◌, ◌+◌, ◌/◌, ◌%◌, ◌^◌};
-ghost use Rattle.rv_model.specs.instructions.BitFields.{AllFit, flag_bit, sum_of};
+ghost use Rattle.rv_model.specs.instructions.BitFields.{flag_bit, sum_of};
+ghost use Rattle.rv_model.specs.lending.ListedBits.{AllFit};
 ghost use Rattle.rv_model.specs.instructions.Sources.{source_number};
 ghost use Rattle.rv_model.specs.instructions.Layout.{parts};
 

@@ -1,9 +1,10 @@
 //! Words to scalar instructions and accesses of control registers, a function for each layout of operands.
-#![tactic(auto, unfolding(rv_model::specs::instructions::Table::scan, rv_model::specs::instructions::Table::rows))]
+#![tactic(auto, unfolding(rv_model::specs::instructions::Table::scan, rv_model::specs::lending::Families::rows))]
 
 ghost use Rattle.std.specs.Prelude.{◌≡◌, IfSome, option_map, true};
 ghost use Rattle.rv_decode.specs.Opcodes.{is_scalar};
-ghost use Rattle.rv_model.specs.instructions.Table.{scan, rows, Uppers, Jumps, JumpRegisters, Branches, Loads, Stores, RegisterImmediates, ShiftImmediates, ShiftImmediateWords, RegisterRegisters, Fences, Systems, Csrs, CsrImmediates};
+ghost use Rattle.rv_model.specs.instructions.Table.{scan};
+ghost use Rattle.rv_model.specs.lending.Families.{rows, Uppers, Jumps, JumpRegisters, Branches, Loads, Stores, RegisterImmediates, ShiftImmediates, ShiftImmediateWords, RegisterRegisters, Fences, Systems, Csrs, CsrImmediates};
 
 use crate::scalar_operations::{
     branch_op, csr_immediate_op, csr_op, immediate_op, load_op, register_op, shift_immediate_op,

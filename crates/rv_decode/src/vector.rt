@@ -1,10 +1,11 @@
 //! Words to vector instructions on registers, a function for each layout of operands.
-#![tactic(auto, unfolding(rv_model::specs::instructions::Table::scan, rv_model::specs::instructions::Table::rows))]
+#![tactic(auto, unfolding(rv_model::specs::instructions::Table::scan, rv_model::specs::lending::Families::rows))]
 
 ghost use Rattle.std.specs.Prelude.{◌≡◌, IfSome, bit_and, option_map, true};
 ghost use Rattle.rv_decode.specs.Opcodes.{is_irregular};
 ghost use Rattle.rv_model.specs.instructions.Operations.{major_bits};
-ghost use Rattle.rv_model.specs.instructions.Table.{scan, rows, SetVlis, SetIvlis, SetVls, WholeMoves, MaskLogics, Compresses, MasksToScalar, Extends, MaskUnaries, ElementIndices, MovesToScalar, MovesToVector, Ariths, Carries, Moves};
+ghost use Rattle.rv_model.specs.instructions.Table.{scan};
+ghost use Rattle.rv_model.specs.lending.Families.{rows, SetVlis, SetIvlis, SetVls, WholeMoves, MaskLogics, Compresses, MasksToScalar, Extends, MaskUnaries, ElementIndices, MovesToScalar, MovesToVector, Ariths, Carries, Moves};
 
 use crate::arith_operation::ArithOperation;
 use crate::vector_operations::{

@@ -4,7 +4,6 @@ pub mod Cuts
 pub mod Effects
 pub mod FetchesResume
 pub mod GoesOn
-pub mod Repeats
 pub mod StepTicks
 pub mod StepsResume
 pub mod StoredWords

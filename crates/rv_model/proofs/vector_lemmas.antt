@@ -1,2 +1,3 @@
 -- Laws of the vector state.
 pub mod CellsMemory
+pub mod Lengths

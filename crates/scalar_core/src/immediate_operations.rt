@@ -1,6 +1,7 @@
 //! Operations of a register and an immediate (Unprivileged ISA 20191213, sections 2.4 and 5.2).
 ghost use Rattle.std.specs.Prelude.{◌≡◌};
-ghost use Rattle.rv_model.specs.scalar.Arithmetic.{immediate_op_form, immediate_op_value, shift_immediate_form, shift_immediate_value, shift_immediate_word_form, shift_immediate_word_value, upper_value};
+ghost use Rattle.rv_model.specs.instructions.Immediates.{i_immediate};
+ghost use Rattle.rv_model.specs.scalar.Arithmetic.{immediate_op_form, register_op_value, shift_immediate_form, shift_immediate_word_form, upper_value};
 
 use crate::arithmetic::alu;
 use crate::immediates::{i_immediate, u_immediate};
@@ -49,7 +50,7 @@ fn shift_immediate_word_form(op: ShiftImmediateWordOp) -> RegisterOp
 /// What an operation of a register's 64-bit word and an immediate of 12 bits, sign-extended, gives
 /// (Unprivileged ISA 20191213, sections 2.4 and 5.2, "Integer Register-Immediate Instructions").
 pub fn register_immediate(op: ImmediateOp, a: u64, imm: Field<12>) -> u64
-    ensures { result ≡ immediate_op_value op a imm }
+    ensures { result ≡ register_op_value (immediate_op_form op) a (i_immediate imm) }
 {
     alu(immediate_op_form(op), a, i_immediate(imm))
 }
@@ -57,7 +58,7 @@ pub fn register_immediate(op: ImmediateOp, a: u64, imm: Field<12>) -> u64
 /// What a shift of a register's 64-bit word by 0 to 63 bits gives (Unprivileged ISA 20191213, section
 /// 5.2).
 pub fn shift_immediate(op: ShiftImmediateOp, a: u64, shamt: Field<6>) -> u64
-    ensures { result ≡ shift_immediate_value op a shamt }
+    ensures { result ≡ register_op_value (shift_immediate_form op) a shamt }
 {
     alu(shift_immediate_form(op), a, u64::from(shamt.value()))
 }
@@ -65,7 +66,7 @@ pub fn shift_immediate(op: ShiftImmediateOp, a: u64, shamt: Field<6>) -> u64
 /// What a shift of a register's low 32 bits by 0 to 31 bits gives, sign-extended to 64 bits (Unprivileged
 /// ISA 20191213, section 5.2).
 pub fn shift_immediate_word(op: ShiftImmediateWordOp, a: u64, shamt: Field<5>) -> u64
-    ensures { result ≡ shift_immediate_word_value op a shamt }
+    ensures { result ≡ register_op_value (shift_immediate_word_form op) a shamt }
 {
     alu(shift_immediate_word_form(op), a, u64::from(shamt.value()))
 }

@@ -3,7 +3,7 @@ use Rattle.std.specs.Prelude.{None, nat_lt, ◌≤◌, map}
 use Rattle.std.proofs.lemmas.Bool.Decides.{nat_tests}
 use Rattle.std.proofs.Common.{ap₂, zero, suc, refl, ap, false, ◌≡◌, ◌≢◌, ◌<◌, ◌==◌, ◌+◌, ◌++◌, ◌∷◌, [], ℕ, List, length, subst, take, true≢false, sym, ◌∙◌, arith}
 use Rattle.std.specs.Prelude.{slice_index}
-use Rattle.std.specs.List.{AllZip, after_first, before_first, position_or_len, slice_index_or}
+use Rattle.std.specs.List.{AllZip, Any, after_first, before_first, position_or_len, slice_index_or}
 use Rattle.std.proofs.lemmas.List.{get_or-map, length-map, map_more, map_push, take_more}
 use Rattle.std.proofs.lemmas.Bool.{eq-eqb, eqb-true}
 use Rattle.std.proofs.lemmas.List.Sums.{fails_before_first, passes_at_first}
@@ -15,7 +15,7 @@ use Rattle.monitor_machine.specs.declared.image.Image.{Image}
 use Rattle.vec_monitor.specs.declared.image_words.ImagePath.{ImagePath}
 use Rattle.vec_monitor.specs.ImageFiles.{named_file}
 use Rattle.vec_monitor.specs.declared.image_files.ImageFile.{ImageFile}
-use Rattle.vec_monitor.specs.ImageWords.{IsNameAndPath, IsPathOf, LacksEqualsSign, SomeLacksEqualsSign}
+use Rattle.vec_monitor.specs.ImageWords.{IsNameAndPath, IsPathOf, LacksEqualsSign}
 
 before : (word : List ℕ) (k : ℕ) → k < position_or_len (λ b. b == 61) word → slice_index word k ≢ 61
 before word k lt is = true≢false (sym (eq-eqb _ _ is) ∙ fails_before_first (λ b. b == 61) word k 0 lt)
@@ -40,7 +40,7 @@ pub zip_next : {A B : Type 0} (R : A → B → Type 0) (xs : List A) (ys : List 
     → AllZip R (take (i + 1) xs) (ys ++ y ∷ [])
 zip_next R xs ys i d y lt all one = subst (λ zs. AllZip R zs (ys ++ y ∷ [])) (sym (take_more xs i d lt)) (zip_push R (take i xs) ys (slice_index_or xs i d) y all one)
 
-pub some_lacks : (words : List (Bor Text)) (k : ℕ) (d : Bor Text) → k < length words → LacksEqualsSign (slice_index_or words k d).now → SomeLacksEqualsSign (texts words)
+pub some_lacks : (words : List (Bor Text)) (k : ℕ) (d : Bor Text) → k < length words → LacksEqualsSign (slice_index_or words k d).now → Any LacksEqualsSign (texts words)
 some_lacks words k d lt without =
     let text = (slice_index_or words k d).now in
     let at : slice_index_or (texts words) k text ≡ text = get_or-map (λ (word : Bor Text). word.now) words k d text lt in
@@ -57,7 +57,7 @@ zip_lacks (w ∷ ws) (p ∷ ps) all zero x lt at lacks =
     here all.0.0 all.0.1 all.0.2
 zip_lacks (w ∷ ws) (p ∷ ps) all (suc k) x lt at lacks = zip_lacks ws ps all.1 k x (omega arith) at lacks
 
-pub none_lacks : (words : List (Bor Text)) (images : List ImagePath) → AllZip IsPathOf words images → SomeLacksEqualsSign (texts words) → ⊥
+pub none_lacks : (words : List (Bor Text)) (images : List ImagePath) → AllZip IsPathOf words images → Any LacksEqualsSign (texts words) → ⊥
 none_lacks words images all some = zip_lacks words images all some.0 some.1 some.2 some.3 some.4
 
 pub zip_nothing : {A B : Type 0} (R : A → B → Type 0) (xs : List A) (ys : List B) → AllZip R xs ys → xs ≡ [] → ys ≡ []

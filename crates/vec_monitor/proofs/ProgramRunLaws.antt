@@ -1,24 +1,25 @@
 -- What the program's run came to, from the files that it read to the machine that it made.
-use Rattle.std.proofs.Common.{◌≡◌, ◌≢◌, ◌∙◌, ℕ, List, [], ◌∷◌, Bool, true, false, Option, Some, None, ap, arith, subst, sym, refl, length, map, not, ◌&&◌, ◌||◌, nat_lt, if◌then◌else◌, is_some, true≢false, leb-true}
+use Rattle.std.proofs.Common.{◌≡◌, ◌≢◌, ◌∙◌, ℕ, List, [], ◌∷◌, Bool, true, false, Option, Some, None, ap, arith, subst, sym, refl, length, map, not, ◌&&◌, ◌||◌, nat_le, nat_lt, if◌then◌else◌, is_some, true≢false, leb-true}
 use Rattle.std.specs.Borrow.{Bor}
 use Rattle.std.specs.Io.KnownBytes.{Consumes, IsAtEnd, Keeps}
 use Rattle.std.specs.List.{AllZip, list_all}
+use Rattle.std.specs.Option.{option_map_or}
 use Rattle.std.proofs.KnownBytes.{Consumes-whole}
 use Rattle.std.proofs.lemmas.Bool.{and_parts}
 use Rattle.clap.specs.Walk.{Text, texts}
 use Rattle.monitor_machine.specs.Images.{named_images, setup_of}
 use Rattle.monitor_machine.specs.MachineState.{MachineState}
-use Rattle.monitor_machine.specs.NewFaults.{are_distinct, is_name, is_small, new_fault}
+use Rattle.monitor_machine.specs.NewFaults.{are_distinct, is_name, new_fault}
 use Rattle.monitor_machine.specs.declared.image.Image.{Image}
 use Rattle.monitor_machine.specs.declared.new_fault.NewFault.TheVariants as new_faults
 use Rattle.monitor_script.specs.declared.script.RunFault.TheVariants.{Read, TooLong, Write}
 use Rattle.rv_model.specs.machine.Script.{new_world}
-use Rattle.rv_model.specs.machine.Setup.{Setup}
+use Rattle.rv_model.specs.machine.Setup.{Image as NamedImage, Setup}
 use Rattle.vec_monitor.specs.CommandLine.{image_words, quantum_word, script_word, words_fault, IsQuantum}
 use Rattle.vec_monitor.specs.ImageFiles.{named_file, IsFileOf}
 use Rattle.vec_monitor.specs.ImageWords.{IsNameAndPath, IsPathOf}
 use Rattle.vec_monitor.specs.KnownBytes.{AreKnownAs}
-use Rattle.vec_monitor.specs.ProgramRuns.{script_bytes, IsImageOf, RanOptions, RanScript, RanWords}
+use Rattle.vec_monitor.specs.ProgramRuns.{IsImageOf, RanOptions, RanScript, RanWords}
 use Rattle.vec_monitor.specs.Statuses.{program_status}
 use Rattle.vec_monitor.specs.declared.image_files.ImageFile.{ImageFile}
 use Rattle.vec_monitor.specs.declared.image_words.ImagePath.{ImagePath}
@@ -57,6 +58,9 @@ last_test false false true d w x y z e = absurd (true≢false (ap is_some e))
 last_test false false false true w x y z e = refl
 last_test false false false false w x y z e = absurd (true≢false (ap is_some e))
 
+abbrev is_small : NamedImage → Bool
+is_small image = nat_le (length image.bytes) 4194304
+
 pub images_are_small : (setup : Setup) → new_fault setup ≡ None → list_all is_small setup.images ≡ true
 unfolding new_fault
 images_are_small setup faultless =
@@ -82,7 +86,7 @@ images_are file_bytes (w ∷ ws) (p ∷ ps) (f ∷ fs) split read small =
 
 pub ran_options : {A : Type 0} (file_bytes : Text → Option (List ℕ)) (input_bytes : Option (List ℕ)) (quantum : ℕ) (script : Option Text) (words : List (Bor Text)) (paths : List ImagePath) (files : List (ImageFile A)) (images : List Image)
     (machine : MachineState) (took : List ℕ → Type 0) → AllZip IsPathOf words paths → AllZip (IsFileOf file_bytes) paths files → named_images images ≡ map named_file files → new_fault (setup_of quantum images) ≡ None
-    → machine ≡ record { setup = setup_of quantum images; world = new_world } → (machine.world ≡ new_world → RanScript machine.setup (script_bytes file_bytes input_bytes script) took)
+    → machine ≡ record { setup = setup_of quantum images; world = new_world } → (machine.world ≡ new_world → RanScript machine.setup (option_map_or file_bytes script input_bytes) took)
     → RanOptions file_bytes input_bytes quantum script (texts words) took
 ran_options file_bytes input_bytes quantum script words paths files images machine took split read named faultless made ran =
     let setup : Setup = setup_of quantum images in
@@ -92,7 +96,7 @@ ran_options file_bytes input_bytes quantum script words paths files images machi
       ticks = refl;
       files = subst (AllZip (IsImageOf file_bytes) (texts words)) (sym named) (images_are file_bytes words paths files split read small);
       faultless = faultless;
-      run = subst (λ (m : MachineState). RanScript m.setup (script_bytes file_bytes input_bytes script) took) made (ran (ap (λ (m : MachineState). m.world) made));
+      run = subst (λ (m : MachineState). RanScript m.setup (option_map_or file_bytes script input_bytes) took) made (ran (ap (λ (m : MachineState). m.world) made));
     }
 
 pub ran_words : (file_bytes : Text → Option (List ℕ)) (input_bytes : Option (List ℕ)) (words : List Text) (quantum : ℕ) (script : Option Text) (images : List Text) (took : List ℕ → Type 0)

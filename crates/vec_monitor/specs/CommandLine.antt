@@ -11,11 +11,9 @@ use Rattle.vec_monitor.specs.declared.command_line.UsageFault.TheVariants.{Help,
 
 -- `--quantum N`, N from 1 to 1,000
 abbrev pub quantum_rule : Rule
-quantum_rule = record (new_rule (codes "quantum")) {
-  long = Some (codes "quantum");
-  value_names = 1;
-  parser = Some (Signed (pos 1) (pos 1000));
-}
+quantum_rule =
+    let name = codes "quantum" in
+    record (new_rule name) { long = Some name; value_names = 1; parser = Some (Signed (pos 1) (pos 1000)) }
 
 -- `[SCRIPT]`
 abbrev pub script_rule : Rule
@@ -27,8 +25,7 @@ image_rule = record (new_rule (codes "image")) { value_names = 1; action = Some 
 
 -- `vecmon [--quantum N] [SCRIPT] [NAME=PATH]...`
 abbrev pub command_line : App
-command_line =
-    with_rule (with_rule (with_rule (new_app (codes "vecmon")) quantum_rule) script_rule) image_rule
+command_line = with_rule (with_rule (with_rule (new_app (codes "vecmon")) quantum_rule) script_rule) image_rule
 
 -- the words that clap gives to `--quantum`, to SCRIPT and to NAME=PATH, the program's name first
 abbrev pub quantum_word : List Text → Option Text

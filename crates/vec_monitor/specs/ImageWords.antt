@@ -1,6 +1,5 @@
 -- Image words: a name, an equals sign (byte 61) and a path.
-use Rattle.std.specs.Prelude.{◌≡◌, ◌≢◌, ◌<◌, ◌+◌, ℕ, List, length, take, drop, slice_index}
-use Rattle.std.specs.List.{Any}
+use Rattle.std.specs.Prelude.{◌≡◌, ◌≢◌, ◌<◌, ◌+◌, ℕ, length, take, drop, slice_index}
 use Rattle.std.specs.Borrow.{Bor}
 use Rattle.clap.specs.Walk.{Text}
 use Rattle.vec_monitor.specs.declared.image_words.ImagePath.{ImagePath}
@@ -16,6 +15,3 @@ IsNameAndPath word name path = (i : ℕ) × (i < length word) × (slice_index wo
 -- the image that a word names
 abbrev pub IsPathOf : Bor Text → ImagePath → Type 0
 IsPathOf word image = IsNameAndPath word.now image.name.now image.path.now
-
-abbrev pub SomeLacksEqualsSign : List Text → Type 0
-SomeLacksEqualsSign words = Any LacksEqualsSign words

@@ -1,7 +1,8 @@
 -- What the program did with its words where it ended with 0: the machine that it made, the script that it read, and what it put out.
 -- Of files and of standard input it says as much as is known of their bytes.
-use Rattle.std.specs.Prelude.{◌≡◌, ◌≤◌, ℕ, List, [], Option, Some, None, length}
+use Rattle.std.specs.Prelude.{◌≡◌, ◌≤◌, ℕ, List, [], Option, None, length}
 use Rattle.std.specs.List.{AllZip}
+use Rattle.std.specs.Option.{option_map_or}
 use Rattle.clap.specs.Words.{Text}
 use Rattle.monitor_machine.specs.NewFaults.{new_fault}
 use Rattle.rv_model.specs.machine.PrivateMachine.{solo}
@@ -28,18 +29,14 @@ abbrev pub IsImageOf : (Text → Option (List ℕ)) → Text → Image → Type 
 IsImageOf file_bytes word image =
     (path : Text) × IsNameAndPath word image.name path × AreKnownAs (file_bytes path) image.bytes
 
--- the script's bytes are those of the file at its path, and those of standard input without a path
-abbrev pub script_bytes : (Text → Option (List ℕ)) → Option (List ℕ) → Option Text → Option (List ℕ)
-script_bytes file_bytes input_bytes None = input_bytes
-script_bytes file_bytes input_bytes (Some path) = file_bytes path
-
--- a machine of this quantum and of the images that these words name, none of which is refused, ran the script
+-- a machine of this quantum and of the images that these words name, none of which is refused, ran the script, whose bytes are
+-- those of the file at its path, and those of standard input without a path
 pub record RanOptions (file_bytes : Text → Option (List ℕ)) (input_bytes : Option (List ℕ)) (quantum : ℕ) (script : Option Text) (images : List Text) (took : List ℕ → Type 0) : Type 0 where
   pub setup : Setup
   pub ticks : setup.quantum ≡ quantum
   pub files : AllZip (IsImageOf file_bytes) images setup.images
   pub faultless : new_fault setup ≡ None
-  pub run : RanScript setup (script_bytes file_bytes input_bytes script) took
+  pub run : RanScript setup (option_map_or file_bytes script input_bytes) took
 
 -- clap took the words, and what they ask for was done
 pub record RanWords (file_bytes : Text → Option (List ℕ)) (input_bytes : Option (List ℕ)) (words : List Text) (took : List ℕ → Type 0) : Type 0 where

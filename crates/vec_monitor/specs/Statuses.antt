@@ -1,5 +1,6 @@
 -- The statuses that the program ends with (docs/PROGRAM.md).
 use Rattle.std.specs.Prelude.{◌≡◌, ◌≢◌, ◌⊎◌, ℕ, List, []}
+use Rattle.std.specs.List.{Any}
 use Rattle.clap.specs.Words.{IsAmong, Text}
 use Rattle.clap.specs.declared.error.kind.ErrorKind.{ErrorKind}
 use Rattle.clap.specs.declared.error.kind.ErrorKind.TheVariants.{DisplayHelp}
@@ -8,9 +9,9 @@ use Rattle.monitor_machine.specs.declared.new_fault.NewFault.TheVariants as new_
 use Rattle.monitor_script.specs.declared.script.RunFault.{RunFault}
 use Rattle.monitor_script.specs.declared.script.RunFault.TheVariants.{Read, TooLong, Write}
 use Rattle.vec_monitor.specs.CommandLine.{image_words, words_fault}
-use Rattle.vec_monitor.specs.ImageWords.{SomeLacksEqualsSign}
+use Rattle.vec_monitor.specs.ImageWords.{LacksEqualsSign}
 use Rattle.vec_monitor.specs.declared.program_fault.ProgramFault.{ProgramFault}
-use Rattle.vec_monitor.specs.declared.program_fault.ProgramFault.TheVariants.{NoText, Usage, ImageWord, ImageRead, ImageList, Run, NoMemory}
+use Rattle.vec_monitor.specs.declared.program_fault.ProgramFault.TheVariants.{ImageRead, ImageList, Run, NoMemory}
 
 -- the script's faults have one status, the output's another
 abbrev pub run_status : RunFault → ℕ
@@ -18,14 +19,13 @@ run_status Read = 3
 run_status TooLong = 3
 run_status Write = 5
 
+-- of the words 2, of an image 4, of memory 6
 abbrev pub program_status : ProgramFault → ℕ
-program_status NoText = 2
-program_status (Usage text) = 2
-program_status ImageWord = 2
 program_status (ImageRead name) = 4
 program_status ImageList = 4
 program_status (Run fault) = run_status fault
 program_status NoMemory = 6
+program_status _ = 2
 
 -- what a refused machine comes to: the quantum is in its range, so only images are refused
 abbrev pub machine_fault : NewFault → ProgramFault
@@ -35,9 +35,9 @@ machine_fault _ = ImageList
 -- clap has a fault in the words that is no call for help, or takes them and an image word has no equals sign
 abbrev pub MayBeRefused : List Text → Type 0
 MayBeRefused words = ((kind : ErrorKind) × IsAmong kind (words_fault words) × (kind ≢ DisplayHelp))
-    ⊎ ((words_fault words ≡ []) × SomeLacksEqualsSign (image_words words))
+    ⊎ ((words_fault words ≡ []) × Any LacksEqualsSign (image_words words))
 
 -- clap has nothing but such faults in the words, or takes them and an image word has no equals sign
 abbrev pub AreRefused : List Text → Type 0
 AreRefused words = ((words_fault words ≢ []) × (IsAmong DisplayHelp (words_fault words) → ⊥))
-    ⊎ ((words_fault words ≡ []) × SomeLacksEqualsSign (image_words words))
+    ⊎ ((words_fault words ≡ []) × Any LacksEqualsSign (image_words words))

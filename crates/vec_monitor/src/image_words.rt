@@ -1,8 +1,8 @@
 //! Image words, `NAME=PATH`.
 ghost use Rattle.std.specs.Prelude.{◌≡◌, ◌⊎◌, IfErr, IfOk, MatchOption};
-ghost use Rattle.std.specs.List.{AllZip};
+ghost use Rattle.std.specs.List.{AllZip, Any};
 ghost use Rattle.clap.specs.Walk.{texts};
-ghost use Rattle.vec_monitor.specs.ImageWords.{IsNameAndPath, IsPathOf, LacksEqualsSign, SomeLacksEqualsSign};
+ghost use Rattle.vec_monitor.specs.ImageWords.{IsNameAndPath, IsPathOf, LacksEqualsSign};
 ghost use Rattle.vec_monitor.specs.declared.program_fault.ProgramFault.TheVariants.{ImageWord, NoMemory};
 
 use crate::program_fault::ProgramFault;
@@ -31,7 +31,7 @@ pub fn image_paths<'a, A: Allocator>(
 ) -> Result<Vec<ImagePath<'a>, A>, ProgramFault<'a>>
     ensures images { IfOk result (λ images. AllZip IsPathOf words.now images.items) }
     ensures refused { IfErr result (λ fault. (fault ≡ NoMemory)
-        ⊎ ((fault ≡ ImageWord) × SomeLacksEqualsSign (texts words.now))) }
+        ⊎ ((fault ≡ ImageWord) × Any LacksEqualsSign (texts words.now))) }
 {
     let mut paths = Vec::new(alloc);
     for word in words {

@@ -1,12 +1,14 @@
 //! The program: a script from a file or standard input, its answers to an output.
 ghost use Rattle.std.specs.Prelude.{◌≡◌, ◌≢◌, ◌≤◌, ◌⊎◌, [], IfErr, IsErrAnd, OnOk, option_map, ⊤};
+ghost use Rattle.std.specs.List.{Any};
+ghost use Rattle.std.specs.Option.{option_map_or};
 ghost use Rattle.clap.specs.Walk.{texts};
 ghost use Rattle.clap.specs.Words.{IsAmong};
 ghost use Rattle.clap.specs.declared.error.kind.ErrorKind.TheVariants.{DisplayHelp};
 ghost use Rattle.rv_model.specs.machine.Script.{new_world};
 ghost use Rattle.vec_monitor.specs.CommandLine.{image_words, words_fault};
-ghost use Rattle.vec_monitor.specs.ImageWords.{SomeLacksEqualsSign};
-ghost use Rattle.vec_monitor.specs.ProgramRuns.{script_bytes, RanOptions, RanScript, RanWords};
+ghost use Rattle.vec_monitor.specs.ImageWords.{LacksEqualsSign};
+ghost use Rattle.vec_monitor.specs.ProgramRuns.{RanOptions, RanScript, RanWords};
 ghost use Rattle.vec_monitor.specs.Statuses.{program_status, AreRefused, MayBeRefused};
 ghost use Rattle.vec_monitor.specs.declared.program_fault.ProgramFault.TheVariants.{ImageWord, NoMemory};
 
@@ -41,8 +43,8 @@ fn run_script<I: Inputs, K: Sink, A: Allocator>(
     output: &mut K,
 ) -> Result<(), RunFault>
     ensures { machine.old.world ≡ new_world → OnOk result (RanScript machine.old.setup
-        (script_bytes (I.file_bytes inputs.now) (I.input_bytes inputs.now)
-        (option_map (λ path. path.now) script.entry))
+        (option_map_or (I.file_bytes inputs.now) (option_map (λ path. path.now) script.entry)
+        (I.input_bytes inputs.now))
         (λ told. K.took output.old told output.new)) }
 {
     match script {
@@ -67,8 +69,8 @@ fn run_options<'a, I: Inputs, K: Sink, A: Allocator + Clone>(
         options.now.quantum (option_map (λ path. path.now) options.now.script)
         (texts options.now.images.items) (λ told. K.took output.old told output.new)) }
     ensures usage { IfErr result (λ fault.
-        program_status fault ≡ 2 → SomeLacksEqualsSign (texts options.now.images.items)) }
-    ensures refused { SomeLacksEqualsSign (texts options.now.images.items) →
+        program_status fault ≡ 2 → Any LacksEqualsSign (texts options.now.images.items)) }
+    ensures refused { Any LacksEqualsSign (texts options.now.images.items) →
         IsErrAnd result (λ fault. (fault ≡ NoMemory) ⊎ (fault ≡ ImageWord)) }
     ensures images { 1 ≤ options.now.quantum → options.now.quantum ≤ 1000 →
         options.now.images.items ≡ [] → IfErr result (λ fault. program_status fault ≢ 4) }

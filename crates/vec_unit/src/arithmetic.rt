@@ -1,10 +1,11 @@
 //! Arithmetic instructions, once they are known to be legal ("V" Vector Extension 1.0, chapter 11).
 ghost use Rattle.std.specs.Prelude.{◌≡◌, ◌≢◌, ◌≤◌, IsTrue, List, Some, not, ℕ};
-ghost use Rattle.rv_model.specs.vector.Configuration.{vlmax};
+ghost use Rattle.rv_model.specs.vector.Configuration.{group_type, vlmax};
+ghost use Rattle.rv_model.specs.vector.Groups.{wide_type};
 ghost use Rattle.rv_model.specs.step.Hart.{hart_state};
 ghost use Rattle.rv_model.specs.memory.Memory.{Memory};
 ghost use Rattle.rv_model.specs.legality.Legality.{is_legal};
-ghost use Rattle.rv_model.specs.step.VectorStep.{arith_step, carry_step, extend_step, move_step, typed, vector_ends};
+ghost use Rattle.rv_model.specs.step.VectorStep.{arith_step, typed, typed_step, vector_ends};
 ghost use Rattle.vec_unit.specs.Arithmetic.{is_binary};
 
 use crate::binary::BinaryOperation;
@@ -43,7 +44,7 @@ fn perform_rest(
     requires rest { IsTrue (not (is_binary op)) }
     requires length { state.old.conf.vl ≤ vlmax target.vtype }
     ensures model { (memory : Memory) (output : List ℕ)
-        → arith_step target.vtype op source target.vd vs2 target.unmasked
+        → arith_step target.vtype (group_type target.vtype) (wide_type target.vtype) op source target.vd vs2 target.unmasked
         (hart_state scalar.now state.old memory target.policy output)
         ≡ vector_ends VEnd.Done (hart_state scalar.now state.new memory target.policy output) }
 {
@@ -100,7 +101,7 @@ fn perform_operation(
         (Some target.vtype) state.old.vstart) }
     requires length { state.old.conf.vl ≤ vlmax target.vtype }
     ensures model { (memory : Memory) (output : List ℕ)
-        → arith_step target.vtype op source target.vd vs2 target.unmasked
+        → arith_step target.vtype (group_type target.vtype) (wide_type target.vtype) op source target.vd vs2 target.unmasked
         (hart_state scalar.now state.old memory target.policy output)
         ≡ vector_ends VEnd.Done (hart_state scalar.now state.new memory target.policy output) }
 {
@@ -130,7 +131,7 @@ pub(crate) fn perform_arith(
     requires legal { IsTrue (is_legal (Instr.Vector (VectorInstr.Arith arith vd vs2 unmasked))
         state.old.conf.vtype state.old.vstart) }
     ensures model { (memory : Memory) (output : List ℕ)
-        → typed state.old.conf.vtype (λ t. arith_step t arith.0 arith.1 vd vs2 unmasked)
+        → typed state.old.conf.vtype (typed_step (VectorInstr.Arith arith vd vs2 unmasked))
         (hart_state scalar.now state.old memory policy output)
         ≡ vector_ends result (hart_state scalar.now state.new memory policy output) }
     ensures illegal { result ≡ VEnd.Illegal → state.new ≡ state.old }
@@ -163,7 +164,7 @@ pub(crate) fn perform_carry(
     requires legal { IsTrue (is_legal (Instr.Vector (VectorInstr.Carry carry vd vs2))
         state.old.conf.vtype state.old.vstart) }
     ensures model { (memory : Memory) (output : List ℕ)
-        → typed state.old.conf.vtype (λ t. carry_step t carry.0 carry.1 vd vs2)
+        → typed state.old.conf.vtype (typed_step (VectorInstr.Carry carry vd vs2))
         (hart_state scalar.now state.old memory policy output)
         ≡ vector_ends result (hart_state scalar.now state.new memory policy output) }
     ensures illegal { result ≡ VEnd.Illegal → state.new ≡ state.old }
@@ -194,7 +195,7 @@ pub(crate) fn perform_move(
     requires legal { IsTrue (is_legal (Instr.Vector (VectorInstr.Move source vd))
         state.old.conf.vtype state.old.vstart) }
     ensures model { (memory : Memory) (output : List ℕ)
-        → typed state.old.conf.vtype (λ t. move_step t source vd)
+        → typed state.old.conf.vtype (typed_step (VectorInstr.Move source vd))
         (hart_state scalar.now state.old memory policy output)
         ≡ vector_ends result (hart_state scalar.now state.new memory policy output) }
     ensures illegal { result ≡ VEnd.Illegal → state.new ≡ state.old }
@@ -226,7 +227,7 @@ pub(crate) fn perform_extension(
     requires legal { IsTrue (is_legal (Instr.Vector (VectorInstr.Extend op vd vs2 unmasked))
         state.old.conf.vtype state.old.vstart) }
     ensures model { (memory : Memory) (output : List ℕ)
-        → typed state.old.conf.vtype (λ t. extend_step t op vd vs2 unmasked)
+        → typed state.old.conf.vtype (typed_step (VectorInstr.Extend op vd vs2 unmasked))
         (hart_state scalar.now state.old memory policy output)
         ≡ vector_ends result (hart_state scalar.now state.new memory policy output) }
     ensures illegal { result ≡ VEnd.Illegal → state.new ≡ state.old }

@@ -1,13 +1,12 @@
 //! Mask instructions, once they are known to be legal ("V" Vector Extension 1.0, chapter 15).
-ghost use Rattle.std.specs.Prelude.{◌≡◌, ◌≤◌, IsTrue, List, Some, ℕ, true};
+ghost use Rattle.std.specs.Prelude.{◌≡◌, ◌≤◌, IsTrue, List, Some, ℕ};
 ghost use Rattle.rv_model.specs.declared.scalar.Scalar.{Scalar as ScalarRegisters};
 ghost use Rattle.rv_model.specs.declared.vector.policy.Policy.{Policy as AgnosticPolicy};
-ghost use Rattle.rv_model.specs.elements.Arithmetic.{index_result, mask_logic_result};
-ghost use Rattle.rv_model.specs.vector.Configuration.{group_type, vlmax};
+ghost use Rattle.rv_model.specs.vector.Configuration.{vlmax};
 ghost use Rattle.rv_model.specs.legality.Legality.{is_legal};
 ghost use Rattle.rv_model.specs.memory.Memory.{Memory};
 ghost use Rattle.rv_model.specs.step.Hart.{hart_state};
-ghost use Rattle.rv_model.specs.step.VectorStep.{element_wise, mask_to_scalar_step, mask_unary_step, mask_wise, typed, vector_ends};
+ghost use Rattle.rv_model.specs.step.VectorStep.{typed, typed_step, vector_ends};
 
 use crate::destination::Target;
 use crate::element_wise::carry_out;
@@ -27,7 +26,7 @@ pub(crate) fn perform_mask_logic(
     state: &mut VState,
 ) -> VEnd
     ensures model { (scalar : ScalarRegisters) (memory : Memory) (policy : AgnosticPolicy) (output : List ℕ)
-        → typed state.old.conf.vtype (λ t. mask_wise vd true (mask_logic_result op vs1 vs2 state.old.file))
+        → typed state.old.conf.vtype (typed_step (VectorInstr.MaskLogic op vd vs1 vs2))
         (hart_state scalar state.old memory policy output)
         ≡ vector_ends result (hart_state scalar state.new memory policy output) }
     ensures illegal { result ≡ VEnd.Illegal → state.new ≡ state.old }
@@ -50,7 +49,7 @@ pub(crate) fn perform_mask_to_scalar(
     scalar: &mut Scalar,
 ) -> VEnd
     ensures model { (memory : Memory) (policy : AgnosticPolicy) (output : List ℕ)
-        → typed state.old.conf.vtype (λ t. mask_to_scalar_step op rd vs2 unmasked)
+        → typed state.old.conf.vtype (typed_step (VectorInstr.MaskToScalar op rd vs2 unmasked))
         (hart_state scalar.old state.old memory policy output)
         ≡ vector_ends result (hart_state scalar.new state.new memory policy output) }
     ensures illegal { result ≡ VEnd.Illegal → state.new ≡ state.old }
@@ -78,7 +77,7 @@ fn carry_out_mask_unary(
         (Some target.vtype) state.old.vstart) }
     requires length { state.old.conf.vl ≤ vlmax target.vtype }
     ensures model { (memory : Memory) (output : List ℕ)
-        → mask_unary_step target.vtype op target.vd vs2 target.unmasked
+        → typed_step (VectorInstr.MaskUnary op target.vd vs2 target.unmasked) target.vtype
         (hart_state scalar.now state.old memory target.policy output)
         ≡ vector_ends VEnd.Done (hart_state scalar.now state.new memory target.policy output) }
 {
@@ -104,7 +103,7 @@ pub(crate) fn perform_mask_unary(
     requires legal { IsTrue (is_legal (Instr.Vector (VectorInstr.MaskUnary op vd vs2 unmasked))
         state.old.conf.vtype state.old.vstart) }
     ensures model { (memory : Memory) (output : List ℕ)
-        → typed state.old.conf.vtype (λ t. mask_unary_step t op vd vs2 unmasked)
+        → typed state.old.conf.vtype (typed_step (VectorInstr.MaskUnary op vd vs2 unmasked))
         (hart_state scalar.now state.old memory policy output)
         ≡ vector_ends result (hart_state scalar.now state.new memory policy output) }
     ensures illegal { result ≡ VEnd.Illegal → state.new ≡ state.old }
@@ -134,7 +133,7 @@ pub(crate) fn perform_element_index(
     requires legal { IsTrue (is_legal (Instr.Vector (VectorInstr.ElementIndex vd unmasked))
         state.old.conf.vtype state.old.vstart) }
     ensures model { (memory : Memory) (output : List ℕ)
-        → typed state.old.conf.vtype (λ t. element_wise t (group_type t) vd unmasked (index_result (group_type t)))
+        → typed state.old.conf.vtype (typed_step (VectorInstr.ElementIndex vd unmasked))
         (hart_state scalar.now state.old memory policy output)
         ≡ vector_ends result (hart_state scalar.now state.new memory policy output) }
     ensures illegal { result ≡ VEnd.Illegal → state.new ≡ state.old }

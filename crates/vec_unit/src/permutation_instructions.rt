@@ -3,12 +3,10 @@
 ghost use Rattle.std.specs.Prelude.{◌≡◌, IsTrue, List, ℕ};
 ghost use Rattle.rv_model.specs.declared.scalar.Scalar.{Scalar as ScalarRegisters};
 ghost use Rattle.rv_model.specs.declared.vector.policy.Policy.{Policy as AgnosticPolicy};
-ghost use Rattle.rv_model.specs.elements.PermutationResults.{moved_to_scalar};
 ghost use Rattle.rv_model.specs.legality.Legality.{is_legal};
 ghost use Rattle.rv_model.specs.memory.Memory.{Memory};
 ghost use Rattle.rv_model.specs.step.Hart.{hart_state};
-ghost use Rattle.rv_model.specs.step.PermutationStep.{compressed, moved_to_vector, whole_moved};
-ghost use Rattle.rv_model.specs.step.VectorStep.{typed, vector_ends, writes_registers, writes_scalar};
+ghost use Rattle.rv_model.specs.step.VectorStep.{typed, typed_step, vector_ends};
 
 use crate::compress::carry_out_compress;
 use crate::destination::Target;
@@ -29,9 +27,7 @@ pub(crate) fn perform_compress(
     requires legal { IsTrue (is_legal (Instr.Vector (VectorInstr.Compress vd vs1 vs2))
         state.old.conf.vtype state.old.vstart) }
     ensures model { (scalar : ScalarRegisters) (memory : Memory) (output : List ℕ)
-        → typed state.old.conf.vtype
-        (λ t. writes_registers (compressed t vd vs1 vs2 (hart_state scalar state.old memory policy output))
-        state.old.vxsat)
+        → typed state.old.conf.vtype (typed_step (VectorInstr.Compress vd vs1 vs2))
         (hart_state scalar state.old memory policy output)
         ≡ vector_ends result (hart_state scalar state.new memory policy output) }
     ensures illegal { result ≡ VEnd.Illegal → state.new ≡ state.old }
@@ -57,7 +53,7 @@ pub(crate) fn perform_move_to_scalar(
     scalar: &mut Scalar,
 ) -> VEnd
     ensures model { (memory : Memory) (policy : AgnosticPolicy) (output : List ℕ)
-        → typed state.old.conf.vtype (λ t. writes_scalar rd (moved_to_scalar t vs2 state.old.file))
+        → typed state.old.conf.vtype (typed_step (VectorInstr.MoveToScalar rd vs2))
         (hart_state scalar.old state.old memory policy output)
         ≡ vector_ends result (hart_state scalar.new state.new memory policy output) }
     ensures illegal { result ≡ VEnd.Illegal → state.new ≡ state.old }
@@ -80,9 +76,7 @@ pub(crate) fn perform_move_to_vector(
     policy: Policy,
 ) -> VEnd
     ensures model { (memory : Memory) (output : List ℕ)
-        → typed state.old.conf.vtype
-        (λ t. writes_registers (moved_to_vector t vd rs1 (hart_state scalar.now state.old memory policy output))
-        state.old.vxsat)
+        → typed state.old.conf.vtype (typed_step (VectorInstr.MoveToVector vd rs1))
         (hart_state scalar.now state.old memory policy output)
         ≡ vector_ends result (hart_state scalar.now state.new memory policy output) }
     ensures illegal { result ≡ VEnd.Illegal → state.new ≡ state.old }
@@ -111,9 +105,7 @@ pub(crate) fn perform_whole_move(
     requires legal { IsTrue (is_legal (Instr.Vector (VectorInstr.WholeMove count vd vs2))
         state.old.conf.vtype state.old.vstart) }
     ensures model { (scalar : ScalarRegisters) (memory : Memory) (policy : AgnosticPolicy) (output : List ℕ)
-        → typed state.old.conf.vtype
-        (λ t. writes_registers (whole_moved t count vd vs2 (hart_state scalar state.old memory policy output))
-        state.old.vxsat)
+        → typed state.old.conf.vtype (typed_step (VectorInstr.WholeMove count vd vs2))
         (hart_state scalar state.old memory policy output)
         ≡ vector_ends result (hart_state scalar state.new memory policy output) }
     ensures illegal { result ≡ VEnd.Illegal → state.new ≡ state.old }

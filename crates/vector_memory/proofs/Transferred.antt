@@ -25,7 +25,8 @@ use Rattle.rv_model.specs.lending.GroupBounds.{SegmentsInside}
 use Rattle.rv_model.specs.legality.Legality.{is_legal, operands}
 use Rattle.rv_model.specs.memory.Memory.{Memory}
 use Rattle.rv_model.specs.scalar.Registers.{read_register}
-use Rattle.rv_model.specs.vector.Configuration.{IsConfiguration, IsLength, element_width}
+use Rattle.rv_model.specs.vector.Configuration.{IsConfiguration, element_width}
+use Rattle.rv_model.proofs.vector_lemmas.Lengths.{IsLength}
 use Rattle.rv_model.proofs.legality_lemmas.Accesses.{mask_memory_inside, strided_inside, unit_inside, whole_load_inside, whole_store_inside}
 use Rattle.rv_model.proofs.legality_lemmas.Bounds.{configuration_below, fewer}
 use Rattle.vector_memory.specs.AccessKinds.{is_offset_access}

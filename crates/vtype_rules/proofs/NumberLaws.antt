@@ -8,8 +8,8 @@ use Rattle.rv_model.specs.declared.vector.types.Lmul.{Lmul}
 use Rattle.rv_model.specs.declared.vector.types.Lmul.TheVariants.{Mf8, Mf4, Mf2, M1, M2, M4, M8}
 use Rattle.rv_model.specs.declared.vector.types.VType.{VType}
 use Rattle.rv_model.specs.instructions.BitFields.{field, flag_bit}
-use Rattle.rv_model.specs.vector.Configuration.{IsSupported}
-use Rattle.rv_model.specs.vector.TypeRules.{vtype_number, vector_type, sew_number, sew_with_number, lmul_number, lmul_with_number, is_supported, supported_type}
+use Rattle.rv_model.specs.vector.Configuration.{IsSupported, lmul_eighths, sew_bits}
+use Rattle.rv_model.specs.vector.TypeRules.{vtype_number, vector_type, sew_number, sew_with_number, lmul_number, lmul_with_number, supported_type}
 
 sew_again : (sew : Sew) → sew_with_number (sew_number sew) ≡ Some sew
 sew_again E8 = refl
@@ -57,7 +57,7 @@ parts_again l s a b hl hs ha hb = (omega arith, omega arith, omega arith, omega 
 
 -- a type of these parts
 built : (small : Bool) (s : Option Sew) (l : Option Lmul) (a b : Bool) (t : VType) → small ≡ true → s ≡ Some t.sew → l ≡ Some t.lmul
-    → a ≡ t.tail_agnostic → b ≡ t.mask_agnostic → is_supported t.sew t.lmul ≡ true
+    → a ≡ t.tail_agnostic → b ≡ t.mask_agnostic → nat_le (sew_bits t.sew) (lmul_eighths t.lmul * 8) ≡ true
     → cond small (supported_type s l a b) None ≡ Some t
 built small s l a b t e es el ea eb supported = rw (e, es, el, ea, eb, supported)
 

@@ -1,6 +1,9 @@
 //! The commands on breakpoints: `break`, `unbreak` and `breaks`.
 ghost use Rattle.std.specs.Prelude.{◌≡◌, [], ◌∷◌, ◌++◌, ◌+◌, ◌≤◌, length};
-ghost use Rattle.rv_model.specs.commands.Breakpoints.{break_args, unbreak_args, breakpoints_named, breaks_line};
+ghost use Rattle.rv_model.specs.declared.commands.breakpoints.BreakpointCommand.TheVariants.{Break, Unbreak};
+ghost use Rattle.rv_model.specs.commands.Arguments.{instruction_address};
+ghost use Rattle.rv_model.specs.commands.Reading.{one_argument};
+ghost use Rattle.rv_model.specs.commands.Breakpoints.{breakpoints_named, breaks_line};
 ghost use Rattle.rv_model.specs.text.Lines.{text};
 ghost use Rattle.rv_model.specs.text.Words.{words};
 ghost use Rattle.monitor_cmds.specs.Tag.{tag_byte};
@@ -30,9 +33,9 @@ pub(crate) fn breakpoints_named(name: &[u8], args: &[u8]) -> Option<Option<Break
 }
 
 /// `break ADDR`
-#[tactic(auto, unfolding(rv_model::specs::commands::Breakpoints::break_args))]
+#[tactic(auto, unfolding(rv_model::specs::commands::Reading::one_argument))]
 fn break_args(args: &[u8]) -> Option<BreakpointCommand>
-    ensures { result ≡ break_args (words args.now) }
+    ensures { result ≡ one_argument Break instruction_address (words args.now) }
 {
     let mut words = Words::new(args);
     let addr = instruction_address(words.next_word()?)?;
@@ -40,9 +43,9 @@ fn break_args(args: &[u8]) -> Option<BreakpointCommand>
 }
 
 /// `unbreak ADDR`
-#[tactic(auto, unfolding(rv_model::specs::commands::Breakpoints::unbreak_args))]
+#[tactic(auto, unfolding(rv_model::specs::commands::Reading::one_argument))]
 fn unbreak_args(args: &[u8]) -> Option<BreakpointCommand>
-    ensures { result ≡ unbreak_args (words args.now) }
+    ensures { result ≡ one_argument Unbreak instruction_address (words args.now) }
 {
     let mut words = Words::new(args);
     let addr = instruction_address(words.next_word()?)?;

@@ -1,6 +1,9 @@
 //! The commands on a user's memory: `map`, `poke` and `peek`.
 ghost use Rattle.std.specs.Prelude.{◌≡◌, [], ◌∷◌, ◌++◌, ◌+◌, ◌≤◌, length};
-ghost use Rattle.rv_model.specs.commands.Memory.{map_args, poke_args, peek_args, memory_named, peek_line};
+ghost use Rattle.rv_model.specs.declared.commands.memory.MemoryCommand.TheVariants.{Poke, Peek};
+ghost use Rattle.rv_model.specs.commands.Arguments.{address, byte_string, number_between};
+ghost use Rattle.rv_model.specs.commands.Reading.{two_arguments};
+ghost use Rattle.rv_model.specs.commands.Memory.{map_args, memory_named, peek_line};
 ghost use Rattle.rv_model.specs.text.Lines.{text};
 ghost use Rattle.rv_model.specs.text.Words.{words};
 ghost use Rattle.monitor_cmds.specs.Tag.{tag_byte};
@@ -43,9 +46,9 @@ fn map_args(args: &[u8]) -> Option<MemoryCommand>
 }
 
 /// `poke ADDR HEX`
-#[tactic(auto, unfolding(rv_model::specs::commands::Memory::poke_args))]
+#[tactic(auto, unfolding(rv_model::specs::commands::Reading::two_arguments))]
 fn poke_args(args: &[u8]) -> Option<MemoryCommand>
-    ensures { result ≡ poke_args (words args.now) }
+    ensures { result ≡ two_arguments Poke address byte_string (words args.now) }
 {
     let mut words = Words::new(args);
     let addr = address(words.next_word()?)?;
@@ -54,9 +57,9 @@ fn poke_args(args: &[u8]) -> Option<MemoryCommand>
 }
 
 /// `peek ADDR N`, with 1 to 256 bytes.
-#[tactic(auto, unfolding(rv_model::specs::commands::Memory::peek_args))]
+#[tactic(auto, unfolding(rv_model::specs::commands::Reading::two_arguments))]
 fn peek_args(args: &[u8]) -> Option<MemoryCommand>
-    ensures { result ≡ peek_args (words args.now) }
+    ensures { result ≡ two_arguments Peek address (number_between 1 256) (words args.now) }
 {
     let mut words = Words::new(args);
     let addr = address(words.next_word()?)?;

@@ -1,7 +1,10 @@
 //! The commands on programs in a user's memory: `load`, `asm` and `dis`.
-ghost use Rattle.std.specs.Prelude.{◌≡◌, [], ◌∷◌, ◌++◌, ◌+◌, ◌*◌, ◌≤◌, length};
+ghost use Rattle.std.specs.Prelude.{Some, ◌≡◌, [], ◌∷◌, ◌++◌, ◌+◌, ◌*◌, ◌≤◌, length};
+ghost use Rattle.rv_model.specs.declared.commands.programs.ProgramCommand.TheVariants.{Load, Dis};
+ghost use Rattle.rv_model.specs.commands.Arguments.{instruction_address, number_between};
+ghost use Rattle.rv_model.specs.commands.Reading.{one_argument, two_arguments};
 ghost use Rattle.rv_model.specs.assembler.Table.{canonical};
-ghost use Rattle.rv_model.specs.commands.Programs.{load_args, asm_args, dis_args, programs_named, loaded_line, asm_line, dis_line, dis_lines, word_in};
+ghost use Rattle.rv_model.specs.commands.Programs.{asm_args, programs_named, loaded_line, asm_line, dis_line, dis_lines, word_in};
 ghost use Rattle.rv_model.specs.text.Lines.{tagged, text};
 ghost use Rattle.rv_model.specs.text.Words.{words};
 ghost use Rattle.monitor_cmds.specs.Tag.{tag_byte};
@@ -37,9 +40,9 @@ pub(crate) fn programs_named<'a>(
 }
 
 /// `load NAME`
-#[tactic(auto, unfolding(rv_model::specs::commands::Programs::load_args))]
+#[tactic(auto, unfolding(rv_model::specs::commands::Reading::one_argument))]
 fn load_args<'a>(args: &'a [u8]) -> Option<ProgramCommand<'a>>
-    ensures { result ≡ load_args (words args.now) }
+    ensures { result ≡ one_argument Load Some (words args.now) }
 {
     let mut words = Words::new(args);
     let name = LinePart::new(words.next_word()?);
@@ -61,9 +64,9 @@ fn asm_args<'a>(args: &'a [u8], text: &'a [u8]) -> Option<ProgramCommand<'a>>
 }
 
 /// `dis ADDR N`, with 1 to 16 words.
-#[tactic(auto, unfolding(rv_model::specs::commands::Programs::dis_args))]
+#[tactic(auto, unfolding(rv_model::specs::commands::Reading::two_arguments))]
 fn dis_args<'a>(args: &'a [u8]) -> Option<ProgramCommand<'a>>
-    ensures { result ≡ dis_args (words args.now) }
+    ensures { result ≡ two_arguments Dis instruction_address (number_between 1 16) (words args.now) }
 {
     let mut words = Words::new(args);
     let addr = instruction_address(words.next_word()?)?;

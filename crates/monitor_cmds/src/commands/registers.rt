@@ -2,8 +2,11 @@
 //! on what becomes of agnostic elements, `policy`.
 ghost use Rattle.std.specs.Prelude.{◌≡◌, [], ◌∷◌, ◌++◌, ◌+◌, ◌*◌, ◌/◌, ◌<◌, ◌≤◌, length, codes, decimal, flat_map};
 ghost use Rattle.std.specs.List.{range_with_len};
+ghost use Rattle.rv_model.specs.declared.commands.registers.RegisterCommand.TheVariants.{Set, SetPc, Vreg, Vset, SetPolicy};
+ghost use Rattle.rv_model.specs.commands.Arguments.{address, instruction_address, policy_word, register_bytes, scalar_register, sew_argument, vector_register};
+ghost use Rattle.rv_model.specs.commands.Reading.{one_argument, two_arguments};
 ghost use Rattle.rv_model.specs.commands.Printing.{hex16};
-ghost use Rattle.rv_model.specs.commands.Registers.{set_args, setpc_args, vreg_args, vset_args, policy_args, registers_named, register_text, register_line, regs_lines, element_text, vreg_line, vcsr_line};
+ghost use Rattle.rv_model.specs.commands.Registers.{registers_named, register_text, register_line, regs_lines, element_text, vreg_line, vcsr_line};
 ghost use Rattle.rv_model.specs.instructions.BitFields.{flag_bit};
 ghost use Rattle.rv_model.specs.text.Lines.{tagged, text};
 ghost use Rattle.rv_model.specs.text.Words.{words};
@@ -54,9 +57,9 @@ pub(crate) fn registers_named(name: &[u8], args: &[u8]) -> Option<Option<Registe
 }
 
 /// `set xN HEX`
-#[tactic(auto, unfolding(rv_model::specs::commands::Registers::set_args))]
+#[tactic(auto, unfolding(rv_model::specs::commands::Reading::two_arguments))]
 fn set_args(args: &[u8]) -> Option<RegisterCommand>
-    ensures { result ≡ set_args (words args.now) }
+    ensures { result ≡ two_arguments Set scalar_register address (words args.now) }
 {
     let mut words = Words::new(args);
     let register = scalar_register(words.next_word()?)?;
@@ -65,9 +68,9 @@ fn set_args(args: &[u8]) -> Option<RegisterCommand>
 }
 
 /// `setpc ADDR`
-#[tactic(auto, unfolding(rv_model::specs::commands::Registers::setpc_args))]
+#[tactic(auto, unfolding(rv_model::specs::commands::Reading::one_argument))]
 fn setpc_args(args: &[u8]) -> Option<RegisterCommand>
-    ensures { result ≡ setpc_args (words args.now) }
+    ensures { result ≡ one_argument SetPc instruction_address (words args.now) }
 {
     let mut words = Words::new(args);
     let addr = instruction_address(words.next_word()?)?;
@@ -75,9 +78,9 @@ fn setpc_args(args: &[u8]) -> Option<RegisterCommand>
 }
 
 /// `vreg vN SEW`
-#[tactic(auto, unfolding(rv_model::specs::commands::Registers::vreg_args))]
+#[tactic(auto, unfolding(rv_model::specs::commands::Reading::two_arguments))]
 fn vreg_args(args: &[u8]) -> Option<RegisterCommand>
-    ensures { result ≡ vreg_args (words args.now) }
+    ensures { result ≡ two_arguments Vreg vector_register sew_argument (words args.now) }
 {
     let mut words = Words::new(args);
     let register = vector_register(words.next_word()?)?;
@@ -86,9 +89,9 @@ fn vreg_args(args: &[u8]) -> Option<RegisterCommand>
 }
 
 /// `vset vN HEX`, with 32 bytes.
-#[tactic(auto, unfolding(rv_model::specs::commands::Registers::vset_args))]
+#[tactic(auto, unfolding(rv_model::specs::commands::Reading::two_arguments))]
 fn vset_args(args: &[u8]) -> Option<RegisterCommand>
-    ensures { result ≡ vset_args (words args.now) }
+    ensures { result ≡ two_arguments Vset vector_register register_bytes (words args.now) }
 {
     let mut words = Words::new(args);
     let register = vector_register(words.next_word()?)?;
@@ -97,9 +100,9 @@ fn vset_args(args: &[u8]) -> Option<RegisterCommand>
 }
 
 /// `policy keep` or `policy ones`
-#[tactic(auto, unfolding(rv_model::specs::commands::Registers::policy_args))]
+#[tactic(auto, unfolding(rv_model::specs::commands::Reading::one_argument))]
 fn policy_args(args: &[u8]) -> Option<RegisterCommand>
-    ensures { result ≡ policy_args (words args.now) }
+    ensures { result ≡ one_argument SetPolicy policy_word (words args.now) }
 {
     let mut words = Words::new(args);
     let policy = policy(words.next_word()?)?;

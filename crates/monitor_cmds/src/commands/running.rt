@@ -1,8 +1,12 @@
 //! The commands that run instructions, and that tell how far the program is and what it has put out:
 //! `step`, `go`, `stop`, `state`, `trace` and `out`.
-ghost use Rattle.std.specs.Prelude.{◌≡◌, [], ◌∷◌, ◌++◌, ◌+◌, ◌*◌, ◌≤◌, length, codes, decimal, if◌then◌else◌};
+ghost use Rattle.std.specs.Prelude.{◌≡◌, [], ◌∷◌, ◌++◌, ◌+◌, ◌*◌, ◌≤◌, length, codes, decimal, nat_lt, if◌then◌else◌};
+ghost use Rattle.hex.specs.Hex.{encode_lower};
+ghost use Rattle.rv_model.specs.declared.commands.running.RunningCommand.TheVariants.{Step};
+ghost use Rattle.rv_model.specs.commands.Arguments.{number_between};
+ghost use Rattle.rv_model.specs.commands.Reading.{one_argument};
 ghost use Rattle.rv_model.specs.commands.Printing.{hex16};
-ghost use Rattle.rv_model.specs.commands.Running.{step_args, running_named, step_line, running_line, stopped_line, state_line, trace_line, spaced_bytes, out_line};
+ghost use Rattle.rv_model.specs.commands.Running.{running_named, step_line, running_line, stopped_line, state_line, trace_line, out_line};
 ghost use Rattle.rv_model.specs.text.Lines.{tagged, text};
 ghost use Rattle.rv_model.specs.text.Words.{words};
 ghost use Rattle.monitor_cmds.specs.Tag.{tag_byte};
@@ -42,9 +46,9 @@ pub(crate) fn running_named(name: &[u8], args: &[u8]) -> Option<Option<RunningCo
 }
 
 /// `step N`, with 1 to 256 instructions.
-#[tactic(auto, unfolding(rv_model::specs::commands::Running::step_args))]
+#[tactic(auto, unfolding(rv_model::specs::commands::Reading::one_argument))]
 fn step_args(args: &[u8]) -> Option<RunningCommand>
-    ensures { result ≡ step_args (words args.now) }
+    ensures { result ≡ one_argument Step (number_between 1 256) (words args.now) }
 {
     let mut words = Words::new(args);
     let count = count(words.next_word()?)?;
@@ -154,11 +158,11 @@ pub fn trace_line(reply: &mut Reply, tag: Tag, older: &[u64], newer: &[u64])
 }
 
 /// Adds bytes after a space; nothing where there are none.
-#[tactic(auto, unfolding(rv_model::specs::commands::Running::spaced_bytes))]
 fn push_spaced(reply: &mut Reply, bytes: &[u8])
     requires few { length bytes.now ≤ 1024 }
     requires room { length reply.old + 1 + 2 * length bytes.now ≤ 4096 }
-    ensures text { reply.new ≡ reply.old ++ spaced_bytes bytes.now }
+    ensures text { reply.new ≡ reply.old
+        ++ (if nat_lt 0 (length bytes.now) then codes " " ++ encode_lower bytes.now else []) }
     ensures bound { length reply.new ≤ length reply.old + 1 + 2 * length bytes.now }
 {
     if bytes.is_empty() {

@@ -18,11 +18,12 @@ use Rattle.rv_model.specs.declared.step.memory_end.MemEnd.TheVariants.{Done}
 use Rattle.rv_model.specs.declared.vector.state.VState.{VState}
 use Rattle.rv_model.specs.declared.vector.types.VType.{VType}
 use Rattle.rv_model.specs.accesses.AccessRuns.{AccessRun, access_run, directed_run, load_run, run_or_nothing}
-use Rattle.rv_model.specs.accesses.Restarts.{AccessResumes, Extends, IsByteOf, IsStopped, StopsWithin, overlay}
+use Rattle.rv_model.specs.accesses.Restarts.{Extends, IsByteOf, IsStopped, overlay}
 use Rattle.rv_model.specs.accesses.VectorAccess.{VectorAccess, access_of, indexed_access, mask_length, strided_access, unit_access, unmasked_access, whole_length}
 use Rattle.rv_model.specs.vector.Groups.{access_type, register_count}
 use Rattle.rv_model.specs.elements.Arithmetic.{group_element}
-use Rattle.rv_model.specs.vector.Configuration.{GroupType, group_type, IsConfiguration, IsLength, element_width, sew_width, vlmax, width_bytes}
+use Rattle.rv_model.specs.vector.Configuration.{GroupType, group_type, IsConfiguration, element_width, sew_width, vlmax, width_bytes}
+use Rattle.rv_model.proofs.vector_lemmas.Lengths.{IsLength}
 use Rattle.rv_model.specs.legality.Legality.{IsLegal}
 use Rattle.rv_model.specs.memory.Memory.{Memory}
 use Rattle.rv_model.specs.scalar.Registers.{read_register}
@@ -198,12 +199,17 @@ module _ (limit later : ℕ) (fill : Bool) (v : VState) (x : Scalar) (m more : M
   resumes (MaskAccess d vd rs1) legal is =
       typed_resumes (λ t v. unmasked_access d (mask_length v.conf.vl) 1 1 vd rs1 v x) limit later fill v m more (λ t e. mask_resumes d vd rs1)
 
-pub access_resumes : AccessResumes
+pub access_resumes : (i : AccessInstr) (limit later : ℕ) (fill : Bool) (v : VState) (x : Scalar) (m more : Memory)
+    → IsLegal (instr.Access i) v.conf.vtype v.vstart → IsConfiguration v.conf
+    → (access_run limit fill i v x m).end ≢ Done → Extends (access_run limit fill i v x m).memory more
+    → access_run later fill i (access_run limit fill i v x m).vector x more
+    ≡ access_run ((access_run limit fill i v x m).vector.vstart - v.vstart + later) fill i v x (overlay m more)
 access_resumes i limit later fill v x m more legal is ended grown = (resumes limit later fill v x m more i legal is ended grown).same
 
-pub stops_within : StopsWithin
+pub stops_within : (i : AccessInstr) (limit : ℕ) (fill : Bool) (v : VState) (x : Scalar) (m : Memory) → (access_run limit fill i v x m).end ≢ Done
+    → IsSomeAnd (access_of i v x) (λ a. IsStopped a v (access_run limit fill i v x m).vector)
 unfolding access_run
-stops_within i limit fill v x m legal is ended = named (access_of i v x) refl ended
+stops_within i limit fill v x m ended = named (access_of i v x) refl ended
   where
     named : (o : Option VectorAccess) → access_of i v x ≡ o → (run_or_nothing limit fill o v m).end ≢ Done
         → IsSomeAnd o (λ a. IsStopped a v (run_or_nothing limit fill o v m).vector)

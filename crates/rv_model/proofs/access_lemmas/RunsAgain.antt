@@ -1,8 +1,7 @@
 -- Any number of runs of one vector load or store, and runs with a larger limit.
-use Rattle.std.proofs.Common.{◌≡◌, ℕ, zero, suc, ◌+◌, ◌-◌, ◌<◌, ◌≤◌, inl, inr, Bool, true, false, cond, List, [], ◌∷◌, min, Option, Some, None, refl, sym, ◌∙◌, ap, subst, arith}
+use Rattle.std.proofs.Common.{◌≡◌, ◌≢◌, ℕ, zero, suc, ◌+◌, ◌-◌, ◌<◌, ◌≤◌, inl, inr, Bool, true, false, cond, List, [], ◌∷◌, min, Option, Some, None, refl, sym, ◌∙◌, ap, subst, arith}
 use Rattle.std.specs.Prelude.{nat_le}
 use Rattle.std.proofs.lemmas.Bool.{cases_lt, le-leb, lt-leb}
-use Rattle.rv_model.specs.declared.instructions.instruction.Instr.TheVariants as instr
 use Rattle.rv_model.specs.declared.instructions.access.AccessInstr.{AccessInstr}
 use Rattle.rv_model.specs.declared.instructions.operations.Direction.{Direction}
 use Rattle.rv_model.specs.declared.instructions.operations.Direction.TheVariants as direction
@@ -13,18 +12,18 @@ use Rattle.rv_model.specs.declared.step.memory_end.MemEnd.{MemEnd}
 use Rattle.rv_model.specs.declared.step.memory_end.MemEnd.TheVariants.{Cut, Done, Fault}
 use Rattle.rv_model.specs.declared.vector.state.VState.{VState}
 use Rattle.rv_model.specs.accesses.AccessRuns.{AccessRun, access_ends, access_run, directed_run, load_run, run_or_nothing, store_run}
-use Rattle.rv_model.specs.accesses.Restarts.{AreResumed, IsUncut, LargerLimitIsSame, LastRunIsWhole, NextRun, last_run, overlay, with_new}
+use Rattle.rv_model.specs.accesses.Restarts.{AreResumed, EndsWhole, GoesOn, LargerLimitIsSame, NextRun, Restartable, access_from, last_run, overlay, with_new}
 use Rattle.rv_model.specs.accesses.Transfers.{Plan, Transfer, are_allowed, end_at, registers_loaded, stop_index, memory_stored, transfers}
 use Rattle.rv_model.specs.accesses.VectorAccess.{VectorAccess, access_of, index_count, element_start, plan}
-use Rattle.rv_model.specs.legality.Legality.{IsLegal}
 use Rattle.rv_model.specs.memory.Memory.{Memory}
-use Rattle.rv_model.specs.vector.Configuration.{IsConfiguration}
-use Rattle.rv_model.proofs.access_lemmas.InstructionsResume.{access_resumes}
 use Rattle.rv_model.proofs.access_lemmas.Resumes.{Progress, load_moves, stop_most, store_moves}
 use Rattle.rv_model.proofs.access_lemmas.Runs.{AtStop, CutAt, FaultAt, of_access, run_facts}
 use Rattle.rv_model.proofs.access_lemmas.Stops.{first_bad, stop_is, stop_past}
 
 -- ---- a larger limit, where the smaller cuts nothing
+
+abbrev pub IsUncut : MemEnd → Type 0
+IsUncut end = (index : ℕ) → end ≢ Cut index
 
 module _ (access : Access) (m : Memory) (each : Plan) where
   -- indices past one that may not be done change nothing
@@ -155,11 +154,11 @@ module _ (limit larger : ℕ) (fill : Bool) (v : VState) (m : Memory) (more : li
       named None = λ uncut. refl
       named (Some a) = directed_same a.direction a
 
-pub larger_limit_is_same : LargerLimitIsSame
-larger_limit_is_same i limit larger fill v x m more uncut = limit_same limit larger fill v m more i x uncut
+pub larger_limit_is_same : (fill : Bool) (i : AccessInstr) (x : Scalar) (v : VState) → LargerLimitIsSame (access_from fill i x v)
+larger_limit_is_same fill i x v limit larger m more uncut = limit_same limit larger fill v m more i x uncut
 
 -- a limit of all indices cuts none
-whole_uncut : (i : AccessInstr) (whole : ℕ) (fill : Bool) (v : VState) (x : Scalar) (m : Memory) → index_count (access_of i v x) ≤ whole
+pub whole_uncut : (i : AccessInstr) (whole : ℕ) (fill : Bool) (v : VState) (x : Scalar) (m : Memory) → index_count (access_of i v x) ≤ whole
     → IsUncut (access_run whole fill i v x m).end
 whole_uncut i whole fill v x m =
     of_access whole fill i v x m (λ o run. index_count o ≤ whole → IsUncut run.end) (λ enough index e. absurd (cc))
@@ -170,33 +169,31 @@ whole_uncut i whole fill v x m =
     subst (λ (end : MemEnd). AtStop end (CutAt whole v.vstart a.body.end v run) (FaultAt whole v.vstart a.body.end v run)) e f.stop in
     omega (arith, at.at, at.stopped.below, enough))
 
--- all limits that cut nothing give the same
-uncut_agree : (i : AccessInstr) (limit other : ℕ) (fill : Bool) (v : VState) (x : Scalar) (m : Memory)
-    → IsUncut (access_run limit fill i v x m).end → IsUncut (access_run other fill i v x m).end
-    → access_run limit fill i v x m ≡ access_run other fill i v x m
-uncut_agree i limit other fill v x m uncut too = elim (cases_lt limit other) [
-  | inl less ↦ sym (larger_limit_is_same i limit other fill v x m (omega (arith, less)) uncut)
-  | inr most ↦ larger_limit_is_same i other limit fill v x m most too
-]
-
 -- ---- any number of runs
 
--- the last run is one with all that is new there from the start
-last_is_one : (i : AccessInstr) (limit : ℕ) (fill : Bool) (v : VState) (x : Scalar) (m : Memory) (nexts : List NextRun)
-    → IsLegal (instr.Access i) v.conf.vtype v.vstart → IsConfiguration v.conf
-    → AreResumed fill i x (access_run limit fill i v x m) nexts
-    → (total : ℕ) × (last_run fill i x (access_run limit fill i v x m) nexts ≡ access_run total fill i v x (with_new m nexts))
-last_is_one i limit fill v x m [] legal is resumed = (limit, refl)
-last_is_one i limit fill v x m (next ∷ rest) legal is resumed =
-    let run : AccessRun = access_run limit fill i v x m in
-    let done : ℕ = run.vector.vstart - v.vstart + next.limit in
-    let same = access_resumes i limit next.limit fill v x m next.memory legal is resumed.0 resumed.1.0 in
-    let others = last_is_one i done fill v x (overlay m next.memory) rest legal is (subst (λ (r : AccessRun). AreResumed fill i x r rest) same resumed.1.1) in
-    (others.0, ap (λ (r : AccessRun). last_run fill i x r rest) same ∙ others.1)
+module _ (R : Type 0) (k : Restartable R) (on : (limit : ℕ) (m : Memory) → GoesOn k m (k.whole limit m)) where
+  -- the last run is one with all that is new there from the start
+  last_is_one : (limit : ℕ) (m : Memory) (nexts : List NextRun) → AreResumed k m (k.whole limit m) nexts
+      → (total : ℕ) × (last_run k (k.whole limit m) nexts ≡ k.whole total (with_new m nexts))
+  last_is_one limit m [] resumed = (limit, refl)
+  last_is_one limit m (next ∷ rest) resumed =
+      let done : ℕ = k.done (k.whole limit m) + next.limit in
+      let all : Memory = overlay m next.memory in
+      let same : k.again next.limit next.memory (k.whole limit m) ≡ k.whole done all = on limit m next.limit next.memory resumed.0 in
+      let others = last_is_one done all rest (subst (λ (r : R). AreResumed k all r rest) same resumed.1) in
+      (others.0, ap (λ (r : R). last_run k r rest) same ∙ others.1)
 
-pub last_run_is_whole : LastRunIsWhole
-last_run_is_whole i limit whole fill v x m nexts legal is resumed uncut enough =
-    let one = last_is_one i limit fill v x m nexts legal is resumed in
-    one.1
-    ∙ uncut_agree i one.0 whole fill v x (with_new m nexts) (subst (λ (r : AccessRun). IsUncut r.end) one.1 uncut)
-    (whole_uncut i whole fill v x (with_new m nexts) enough)
+  -- all limits that cut nothing give the same
+  agree : LargerLimitIsSame k → (limit other : ℕ) (m : Memory) → k.IsUncut (k.whole limit m) → k.IsUncut (k.whole other m)
+      → k.whole limit m ≡ k.whole other m
+  agree larger limit other m uncut too = elim (cases_lt limit other) [
+    | inl less ↦ sym (larger limit other m (omega (arith, less)) uncut)
+    | inr most ↦ larger other limit m most too
+  ]
+
+  pub ends_whole : (enough : ℕ) → LargerLimitIsSame k → ((limit : ℕ) (m : Memory) → enough ≤ limit → k.IsUncut (k.whole limit m))
+      → (limit : ℕ) (m : Memory) → EndsWhole k enough m (k.whole limit m)
+  ends_whole enough larger whole limit m nexts other resumed uncut most =
+      let one = last_is_one limit m nexts resumed in
+      one.1
+      ∙ agree larger one.0 other (with_new m nexts) (subst (λ (r : R). k.IsUncut r) one.1 uncut) (whole other (with_new m nexts) most)

@@ -1,6 +1,7 @@
 -- The canonical text of a word has no newline.
 use Rattle.std.proofs.Common.{◌≡◌, ℕ, zero, suc, Option, Some, None, ◌+◌, ◌-◌, ◌*◌, ◌/◌, ◌%◌, ◌<◌, ◌≤◌, List, [], ◌∷◌, Bool, true, false, refl, ap, arith, eqb, inl, inr}
-use Rattle.std.specs.Prelude.{not, codes, ◌==◌, nat_lt}
+use Rattle.std.specs.Option.{option_map_or}
+use Rattle.std.specs.Prelude.{not, codes, decimal, ◌==◌, nat_lt}
 use Rattle.std.proofs.Math.ListN.{get_or-eq_default}
 use Rattle.std.proofs.lemmas.Bool.{agree_below_at, cases_lt, and_from}
 use Rattle.std.proofs.lemmas.Bool.Decides.{nat_tests}
@@ -8,11 +9,11 @@ use Rattle.rv_model.specs.declared.assembler.forms.Slot.{Slot}
 use Rattle.rv_model.specs.declared.assembler.forms.Slot.TheVariants.{Comma, Open, Close, V0, Scalar, Vector, Unsigned, Signed, Csr, VectorType, ShortVectorType, Mask, Word}
 use Rattle.rv_model.specs.declared.assembler.forms.Form.TheVariants as form
 use Rattle.rv_model.specs.declared.assembler.mnemonics.Mnemonic.{Mnemonic}
-use Rattle.rv_model.specs.declared.assembler.mnemonics.TheConstants.{MNEMONICS}
+use Rattle.rv_model.specs.declared.assembler.mnemonics.TheConstants.{MNEMONICS, ROW_COUNT}
 use Rattle.rv_model.specs.assembler.Fields.{value_of}
-use Rattle.rv_model.specs.assembler.Numbers.{hex_digit, hex_digits, csr_text, csr_text_of}
+use Rattle.rv_model.specs.assembler.Numbers.{hex_digit, hex_digits}
 use Rattle.rv_model.specs.assembler.Slots.{half, signed_text, vtype_named, vtype_text, printed, scale}
-use Rattle.rv_model.specs.assembler.Table.{row_count, unpadded, row_at, name_at, slots_at, row_of_word, operands_text, printed_operands, text_at, canonical}
+use Rattle.rv_model.specs.assembler.Table.{unpadded, row_at, name_at, slots_at, row_of_word, operands_text, printed_operands, text_at, canonical}
 use Rattle.rv_model.proofs.text_lemmas.Newlines.{is_line, IsLine}
 use Rattle.rv_model.specs.declared.vector.control_register.ControlRegister.{ControlRegister}
 use Rattle.rv_model.specs.declared.vector.types.Sew.{Sew}
@@ -43,13 +44,16 @@ no_newline_in_hex_digits (suc k) n = is_line-append (hex_digits k (n / 16)) _ (n
 register_name_is_line : ControlRegister → Bool
 register_name_is_line register = is_line (register_name register)
 
+-- its name, or its number in digits
+abbrev csr_text_of : ℕ → Option ControlRegister → List ℕ
+csr_text_of n register = option_map_or register_name register (decimal n)
+
 no_newline_in_csr_text_of : (n : ℕ) (register : Option ControlRegister) → control_register n ≡ register → IsLine (csr_text_of n register)
 unfolding register_name_is_line
 no_newline_in_csr_text_of n None h = decimal_line n
 no_newline_in_csr_text_of n (Some register) h = found_passes (λ r. register_number r == n) register_name_is_line control_registers register refl h
 
-no_newline_in_csr_text : (n : ℕ) → IsLine (csr_text n)
-unfolding csr_text
+no_newline_in_csr_text : (n : ℕ) → IsLine (csr_text_of n (control_register n))
 no_newline_in_csr_text n = no_newline_in_csr_text_of n (control_register n) refl
 
 no_newline_in_sew_name : (sew : Sew) → IsLine (sew_name sew)
@@ -123,12 +127,12 @@ no_newline_in_operands_text (s ∷ ss) word = no_newline_in_printed_operands (s 
 unfoldable name_is_line : ℕ → Bool
 name_is_line row = is_line (name_at row)
 
-each_name_is_line : (row : ℕ) → row < row_count → name_is_line row ≡ true
+each_name_is_line : (row : ℕ) → row < ROW_COUNT → name_is_line row ≡ true
 unfolding name_is_line name_at row_at
-each_name_is_line row lt = agree_below_at name_is_line (λ _. true) row_count row refl lt
+each_name_is_line row lt = agree_below_at name_is_line (λ _. true) ROW_COUNT row refl lt
 
 -- past the table there is no name
-no_newline_past_table : (row : ℕ) → row_count ≤ row → IsLine (name_at row)
+no_newline_past_table : (row : ℕ) → ROW_COUNT ≤ row → IsLine (name_at row)
 unfolding name_at row_at
 no_newline_past_table row le =
     let none : Mnemonic = record { 0 = []; 1 = form.Plain; 2 = 0 } in
@@ -136,7 +140,7 @@ no_newline_past_table row le =
 
 no_newline_in_name : (row : ℕ) → IsLine (name_at row)
 unfolding name_is_line
-no_newline_in_name row = elim (cases_lt row row_count) [
+no_newline_in_name row = elim (cases_lt row ROW_COUNT) [
   | inl lt ↦ each_name_is_line row lt
   | inr le ↦ no_newline_past_table row le
 ]

@@ -1,10 +1,12 @@
 -- The slots of a name hold the operands of the instruction that a word with its bits is.
 use Rattle.std.proofs.Common.{◌≡◌, ℕ, ◌<◌, Bool, true, false, List, [], ◌∷◌, map, take, get_or, Option, Some, None, refl, sym, ap, subst, ◌∙◌}
 use Rattle.std.specs.List.{list_all}
+use Rattle.std.specs.Option.{IsSomeAnd}
 use Rattle.std.specs.Str.{bytes_eq}
 use Rattle.std.specs.Int.Bits.{bit_and}
 use Rattle.std.proofs.lemmas.List.{get_or-take}
 use Rattle.std.proofs.lemmas.Slice.Eq.{bytes_eq-Decides}
+use Rattle.rv_model.specs.declared.instructions.operations.CarryOutOp.{CarryOutOp}
 use Rattle.rv_model.specs.declared.instructions.operations.VectorOp.{VectorOp}
 use Rattle.rv_model.specs.declared.instructions.operations.VectorOp.TheVariants as vector_op
 use Rattle.rv_model.specs.declared.instructions.operations.Form.{Form}
@@ -23,18 +25,19 @@ use Rattle.rv_model.specs.declared.assembler.forms.Slot.TheVariants as slot
 use Rattle.rv_model.specs.declared.assembler.forms.Slot.TheVariants.{Comma, Open, Close, V0, Scalar, Vector, Unsigned, Signed, Mask}
 use Rattle.rv_model.specs.declared.assembler.forms.TheConstants.{PLAIN, REGISTER, IMMEDIATE, SHIFT, SHIFT_WORD, LOAD, STORE, BRANCH, JUMP, UPPER, CSR, CSR_IMMEDIATE, SET_VLI, SET_IVLI, UNMASKED_VECTOR, MOVE_SCALAR, MOVE_TO_SCALAR, WHOLE_MOVE, MASK_TO_SCALAR, VECTOR_UNARY, ELEMENT_INDEX, UNIT, UNMASKED_UNIT, STRIDED, INDEXED}
 use Rattle.rv_model.specs.declared.assembler.mnemonics.Mnemonic.{Mnemonic}
-use Rattle.rv_model.specs.declared.assembler.mnemonics.TheConstants.{MNEMONICS}
+use Rattle.rv_model.specs.declared.assembler.mnemonics.TheConstants.{MNEMONICS, NAME_COUNT}
 use Rattle.rv_model.specs.elements.Formulas.{has_unsigned_immediate}
 use Rattle.rv_model.specs.elements.FixedPoint.{has_unsigned_shift}
 use Rattle.rv_model.specs.instructions.BitFields.{field, flag}
-use Rattle.rv_model.specs.instructions.Layout.{filled}
+use Rattle.rv_model.specs.lending.Families.{filled}
 use Rattle.rv_model.specs.instructions.Sources.{form_of, source_of}
-use Rattle.rv_model.specs.instructions.Table.{Row, In, rows, table, scan}
+use Rattle.rv_model.specs.instructions.Table.{Row, table, scan}
+use Rattle.rv_model.proofs.instruction_lemmas.Scans.{In}
 use Rattle.rv_model.specs.assembler.Fields.{fixed_mask}
 use Rattle.rv_model.specs.assembler.Naming.{HasBitsOf}
-use Rattle.rv_model.specs.assembler.Operands.{TextOperand, V, HoldsOperands, arith_operands, carry_operands, carry_out_operands, multiply_add_operands, operand_in, operands_in, second, text_operands, usual_operands}
+use Rattle.rv_model.specs.assembler.Operands.{TextOperand, V, arith_operands, carry_operands, multiply_add_operands, operand_in, second, text_operands, usual_operands}
 use Rattle.rv_model.specs.assembler.Operands as operand
-use Rattle.rv_model.specs.assembler.Table.{bits_at, name_count, row_at, slots_at, slots_of}
+use Rattle.rv_model.specs.assembler.Table.{bits_at, row_at, slots_at, slots_of}
 use Rattle.rv_model.proofs.instruction_lemmas.RoundTrips.{template_of}
 use Rattle.rv_model.proofs.assembler_lemmas.Naming.{all_at, none}
 use Rattle.rv_model.proofs.assembler_lemmas.NamedOperations.{of_name, same_flag, told, told_by_operation}
@@ -111,6 +114,9 @@ instr_slots (instr.Access (MaskAccess direction vd rs1)) = UNMASKED_UNIT
 
 -- ---- they hold them
 
+abbrev operands_in : ℕ → List Slot → List TextOperand
+operands_in word slots = map (operand_in word) slots
+
 -- the second source of a word w, in the slot of that of a word v of the same form
 second_held : (is_unsigned : Bool) (f : Form) (w v : ℕ)
     → operand_in w (second_slot is_unsigned (form_of (source_of f (field 15 5 v)))) ≡ second is_unsigned (source_of f (field 15 5 w))
@@ -134,17 +140,17 @@ carry_held : (f : Form) (w v : ℕ)
 carry_held f w v =
     ap (λ (o : TextOperand). V (field 7 5 w) ∷ operand.Comma ∷ V (field 20 5 w) ∷ operand.Comma ∷ o ∷ operand.Comma ∷ operand.V0 ∷ []) (second_held false f w v)
 
-carry_out_held : (vm : Bool) (f : Form) (w v : ℕ)
-    → operands_in w (carry_out_slots vm (form_of (source_of f (field 15 5 v)))) ≡ carry_out_operands vm (source_of f (field 15 5 w)) (field 7 5 w) (field 20 5 w)
-carry_out_held true f w v =
+carry_out_held : (op : CarryOutOp) (vm : Bool) (f : Form) (w v : ℕ)
+    → operands_in w (carry_out_slots vm (form_of (source_of f (field 15 5 v)))) ≡ arith_operands (vector_op.CarryOut op) (source_of f (field 15 5 w)) (field 7 5 w) (field 20 5 w) vm
+carry_out_held op true f w v =
     ap (λ (o : TextOperand). V (field 7 5 w) ∷ operand.Comma ∷ V (field 20 5 w) ∷ operand.Comma ∷ o ∷ []) (second_held false f w v)
-carry_out_held false f w v = carry_held f w v
+carry_out_held op false f w v = carry_held f w v
 
 arith_held : (op : VectorOp) (f : Form) (w v : ℕ) → bit_and w (told_by_operation op) ≡ bit_and v (told_by_operation op)
     → operands_in w (arith_slots op (form_of (source_of f (field 15 5 v))) (flag v)) ≡ arith_operands op (source_of f (field 15 5 w)) (field 7 5 w) (field 20 5 w) (flag w)
 arith_held (vector_op.Binary op) f w v told_same = usual_held (has_unsigned_immediate op) f w v
 arith_held (vector_op.CarryOut op) f w v told_same =
-    ap (λ (vm : Bool). operands_in w (carry_out_slots vm (form_of (source_of f (field 15 5 v))))) (sym (same_flag w v told_same)) ∙ carry_out_held (flag w) f w v
+    ap (λ (vm : Bool). operands_in w (carry_out_slots vm (form_of (source_of f (field 15 5 v))))) (sym (same_flag w v told_same)) ∙ carry_out_held op (flag w) f w v
 arith_held (vector_op.FixedPoint op) f w v told_same = usual_held (has_unsigned_shift op) f w v
 arith_held (vector_op.NarrowShift op) f w v told_same = usual_held true f w v
 arith_held (vector_op.Clip op) f w v told_same = usual_held true f w v
@@ -255,19 +261,19 @@ abbrev has_its_slots : Mnemonic → Bool
 has_its_slots m = has_slots_of m (scan table m.2)
 
 unfoldable each_has_its_slots : Bool
-each_has_its_slots = list_all has_its_slots (take name_count MNEMONICS)
+each_has_its_slots = list_all has_its_slots (take NAME_COUNT MNEMONICS)
 
 each_has_its_slots_true : each_has_its_slots ≡ true
-unfolding each_has_its_slots table rows scan fixed_mask
+unfolding each_has_its_slots table scan fixed_mask
 each_has_its_slots_true = refl
 
-its_slots : (row : ℕ) → row < name_count → has_its_slots (row_at row) ≡ true
+its_slots : (row : ℕ) → row < NAME_COUNT → has_its_slots (row_at row) ≡ true
 unfolding each_has_its_slots row_at
 its_slots row lt =
     let P : Mnemonic → Type 0 = λ m. has_its_slots m ≡ true in
-    subst P (get_or-take name_count MNEMONICS row none lt) (all_at has_its_slots (take name_count MNEMONICS) row none each_has_its_slots_true lt)
+    subst P (get_or-take NAME_COUNT MNEMONICS row none lt) (all_at has_its_slots (take NAME_COUNT MNEMONICS) row none each_has_its_slots_true lt)
 
-pub names_take_operands : (row word : ℕ) → row < name_count → HasBitsOf row word → HoldsOperands (slots_at row) word (scan table word)
+pub names_take_operands : (row word : ℕ) → row < NAME_COUNT → HasBitsOf row word → IsSomeAnd (scan table word) (λ i. operands_in word (slots_at row) ≡ text_operands i)
 unfolding slots_at bits_at
 names_take_operands row word lt is =
     let m = row_at row in
@@ -275,5 +281,5 @@ names_take_operands row word lt is =
     let i = named.r.instr m.2 in
     let P : Option Instr → Type 0 = λ o. has_slots_of m o ≡ true in
     let same : slots_of m.1 ≡ instr_slots i = same_slots (slots_of m.1) (instr_slots i) (subst P named.at_zeros (its_slots row lt)) in
-    let Q : Option Instr → Type 0 = λ o. HoldsOperands (slots_of m.1) word o in
+    let Q : Option Instr → Type 0 = λ o. IsSomeAnd o (λ i. operands_in word (slots_of m.1) ≡ text_operands i) in
     subst Q (sym named.is) (ap (operands_in word) same ∙ held_in_row named.r named.of_table word m.2 named.agrees)

@@ -1,6 +1,8 @@
 -- A name is that of the operation of every word with its bits.
-use Rattle.std.proofs.Common.{◌≡◌, ℕ, ◌*◌, ◌^◌, ◌<◌, Bool, true, false, nat_eq, ◌&&◌, [], ◌∷◌, ◌++◌, take, get_or, Option, Some, None, refl, sym, ap, subst, ◌∙◌, arith}
+use Rattle.std.proofs.Common.{◌≡◌, ℕ, ◌*◌, ◌^◌, ◌<◌, Bool, true, false, nat_eq, ◌&&◌, List, [], ◌++◌, take, get_or, Option, Some, None, refl, sym, ap, subst, ◌∙◌, arith}
 use Rattle.std.specs.List.{list_all}
+use Rattle.std.specs.Option.{IsSomeAnd}
+use Rattle.std.specs.Prelude.{codes}
 use Rattle.std.specs.Str.{bytes_eq}
 use Rattle.std.specs.Int.Bits.{bit_and, and_comm, and_self}
 use Rattle.std.proofs.lemmas.Nat.{and_assoc}
@@ -19,18 +21,18 @@ use Rattle.rv_model.specs.declared.instructions.vector.VectorInstr.TheVariants.{
 use Rattle.rv_model.specs.declared.instructions.access.AccessInstr.TheVariants.{UnitStride, Strided, Indexed}
 use Rattle.rv_model.specs.declared.assembler.forms.Form.TheVariants as text_form
 use Rattle.rv_model.specs.declared.assembler.mnemonics.Mnemonic.{Mnemonic}
-use Rattle.rv_model.specs.declared.assembler.mnemonics.TheConstants.{MNEMONICS}
+use Rattle.rv_model.specs.declared.assembler.mnemonics.TheConstants.{MNEMONICS, NAME_COUNT}
 use Rattle.rv_model.specs.instructions.BitFields.{field, flag}
-use Rattle.rv_model.specs.instructions.Layout.{filled}
+use Rattle.rv_model.specs.lending.Families.{filled}
 use Rattle.rv_model.specs.instructions.Sources.{form_of}
-use Rattle.rv_model.specs.instructions.Table.{Row, In, rows, table, scan}
+use Rattle.rv_model.specs.instructions.Table.{Row, table, scan}
 use Rattle.rv_model.specs.assembler.Fields.{fixed_mask}
 use Rattle.rv_model.specs.assembler.Naming.{HasBitsOf, NamesOperation}
-use Rattle.rv_model.specs.assembler.OperationNames.{carry_out_suffix, carry_suffix, indexed_name, mnemonic, move_suffix, strided_name, unit_name, vector_name}
-use Rattle.rv_model.specs.instructions.Operations.{carry_entry, carry_out_entry}
-use Rattle.rv_model.specs.assembler.Table.{bits_at, name_at, name_count, row_at, slots_at, slots_of, unpadded}
+use Rattle.rv_model.specs.assembler.OperationNames.{mnemonic, unit_name, direction_letters, order_letters, segment_text, source_letter, vector_suffix, width_digits}
+use Rattle.rv_model.specs.instructions.Operations.{carry_entry, vector_entry}
+use Rattle.rv_model.specs.assembler.Table.{bits_at, name_at, row_at, slots_at, slots_of, unpadded}
 use Rattle.rv_model.proofs.instruction_lemmas.RoundTrips.{template_of}
-use Rattle.rv_model.proofs.instruction_lemmas.Scans.{found, table_apart}
+use Rattle.rv_model.proofs.instruction_lemmas.Scans.{In, found, table_apart}
 use Rattle.rv_model.proofs.instruction_lemmas.Words.{form_source_of}
 use Rattle.rv_model.proofs.assembler_lemmas.Naming.{all_at, bits_of_name, covers_all, in_names, names, pattern_of_row, row_of_name}
 
@@ -57,8 +59,11 @@ same_flag w v h =
 same_fields : (w v : ℕ) → bit_and w (7 * 2 ^ 29) ≡ bit_and v (7 * 2 ^ 29) → field 29 3 w ≡ field 29 3 v
 same_fields w v h = omega (arith, h, and_high w 3 29, and_high v 3 29)
 
+abbrev vector_name : VectorOp → Form → Bool → List ℕ
+vector_name op f vm = (vector_entry op).name ++ vector_suffix op f vm
+
 vector_same : (op : VectorOp) (f : Form) (w v : ℕ) → bit_and w (told_by_operation op) ≡ bit_and v (told_by_operation op) → vector_name op f (flag w) ≡ vector_name op f (flag v)
-vector_same (vector_op.CarryOut op) f w v h = ap (λ (vm : Bool). (carry_out_entry op).name ++ carry_out_suffix f vm) (same_flag w v h)
+vector_same (vector_op.CarryOut op) f w v h = ap (λ (vm : Bool). vector_name (vector_op.CarryOut op) f vm) (same_flag w v h)
 vector_same op f w v h = refl
 
 -- words that agree in those bits have one name
@@ -70,13 +75,15 @@ same_name (instr.Vector (Arith arith vd vs2 vm)) w v h =
     ∙ ap (λ (g : Form). vector_name arith.0 g (flag v)) (sym (form_source_of f (field 15 5 v)))
 same_name (instr.Vector (Carry carry vd vs2)) w v h =
     let f = form_of carry.1 in
-    ap (λ (g : Form). (carry_entry carry.0).name ++ carry_suffix g) (form_source_of f (field 15 5 w) ∙ sym (form_source_of f (field 15 5 v)))
+    ap (λ (g : Form). (carry_entry carry.0).name ++ codes ".v" ++ source_letter g ++ codes "m") (form_source_of f (field 15 5 w) ∙ sym (form_source_of f (field 15 5 v)))
 same_name (instr.Vector (Move source vd)) w v h =
     let f = form_of source in
-    ap (λ (g : Form). 118 ∷ 109 ∷ 118 ∷ 46 ∷ 118 ∷ move_suffix g) (form_source_of f (field 15 5 w) ∙ sym (form_source_of f (field 15 5 v)))
+    ap (λ (g : Form). codes "vmv.v." ++ source_letter g) (form_source_of f (field 15 5 w) ∙ sym (form_source_of f (field 15 5 v)))
 same_name (instr.Access (UnitStride op width nf vd rs1 vm)) w v h = ap (λ (n : ℕ). unit_name op n width) (same_fields w v h)
-same_name (instr.Access (Strided direction width nf vd rs1 rs2 vm)) w v h = ap (λ (n : ℕ). strided_name direction n width) (same_fields w v h)
-same_name (instr.Access (Indexed direction order width nf vd rs1 vs2 vm)) w v h = ap (λ (n : ℕ). indexed_name direction order n width) (same_fields w v h)
+same_name (instr.Access (Strided direction width nf vd rs1 rs2 vm)) w v h =
+    ap (λ (n : ℕ). direction_letters direction ++ codes "s" ++ segment_text n ++ codes "e" ++ width_digits width ++ codes ".v") (same_fields w v h)
+same_name (instr.Access (Indexed direction order width nf vd rs1 vs2 vm)) w v h =
+    ap (λ (n : ℕ). direction_letters direction ++ order_letters order ++ segment_text n ++ codes "ei" ++ width_digits width ++ codes ".v") (same_fields w v h)
 same_name (instr.Scalar (Fence rd rs1 ordering)) w v h = refl
 same_name (instr.Csr (Immediate op rd imm csr)) w v h = refl
 same_name _ w v h = refl
@@ -92,20 +99,20 @@ abbrev names_its_own : Mnemonic → Bool
 names_its_own m = named_by m (scan table m.2)
 
 unfoldable each_names_its_own : Bool
-each_names_its_own = list_all names_its_own (take name_count MNEMONICS)
+each_names_its_own = list_all names_its_own (take NAME_COUNT MNEMONICS)
 
 each_names_its_own_true : each_names_its_own ≡ true
-unfolding each_names_its_own table rows scan fixed_mask
+unfolding each_names_its_own table scan fixed_mask
 each_names_its_own_true = refl
 
 abbrev none : Mnemonic
 none = record { 0 = []; 1 = text_form.Plain; 2 = 0 }
 
-own_name : (row : ℕ) → row < name_count → names_its_own (row_at row) ≡ true
+own_name : (row : ℕ) → row < NAME_COUNT → names_its_own (row_at row) ≡ true
 unfolding each_names_its_own row_at
 own_name row lt =
     let P : Mnemonic → Type 0 = λ m. names_its_own m ≡ true in
-    subst P (get_or-take name_count MNEMONICS row none lt) (all_at names_its_own (take name_count MNEMONICS) row none each_names_its_own_true lt)
+    subst P (get_or-take NAME_COUNT MNEMONICS row none lt) (all_at names_its_own (take NAME_COUNT MNEMONICS) row none each_names_its_own_true lt)
 
 -- a word that agrees with the bits of a row of the instruction table in those that the name tells has the name
 same_in_row : (r : Row) → In r table → (w v : ℕ) → bit_and w (told (r.instr v)) ≡ bit_and v (told (r.instr v)) → mnemonic (r.instr w) ≡ mnemonic (r.instr v)
@@ -132,7 +139,7 @@ pub record OfName (row word : ℕ) : Type 0 where
   pub named : mnemonic (r.instr (bits_at row)) ≡ name_at row
   pub agrees : bit_and word (told (r.instr (bits_at row))) ≡ bit_and (bits_at row) (told (r.instr (bits_at row)))
 
-pub of_name : (row word : ℕ) → row < name_count → HasBitsOf row word → OfName row word
+pub of_name : (row word : ℕ) → row < NAME_COUNT → HasBitsOf row word → OfName row word
 unfolding name_at slots_at bits_at
 of_name row word lt is =
     let m = row_at row in
@@ -155,8 +162,8 @@ of_name row word lt is =
       agrees = within_mask word m.2 mask (told i) (eqb-true (bit_and (told i) mask) (told i) tests.1) is;
     }
 
-pub names_operation : (row word : ℕ) → row < name_count → HasBitsOf row word → NamesOperation (name_at row) (scan table word)
+pub names_operation : (row word : ℕ) → row < NAME_COUNT → HasBitsOf row word → NamesOperation row word
 names_operation row word lt is =
     let named = of_name row word lt is in
-    let P : Option Instr → Type 0 = λ o. NamesOperation (name_at row) o in
+    let P : Option Instr → Type 0 = λ o. IsSomeAnd o (λ i. mnemonic i ≡ name_at row) in
     subst P (sym named.is) (same_in_row named.r named.of_table word (bits_at row) named.agrees ∙ named.named)

@@ -9,13 +9,13 @@ use Rattle.std.proofs.lemmas.Bool.{cases_Bool, and_parts, eqb-true, eq-eqb}
 use Rattle.std.proofs.lemmas.List.{get_or-map, get_or-take}
 use Rattle.rv_model.specs.declared.assembler.forms.Form.TheVariants as form
 use Rattle.rv_model.specs.declared.assembler.mnemonics.Mnemonic.{Mnemonic}
-use Rattle.rv_model.specs.declared.assembler.mnemonics.TheConstants.{MNEMONICS}
+use Rattle.rv_model.specs.declared.assembler.mnemonics.TheConstants.{MNEMONICS, NAME_COUNT}
 use Rattle.rv_model.specs.assembler.Fields.{fixed_mask}
-use Rattle.rv_model.specs.assembler.Table.{name_count, slots_of, row_at, slots_at, bits_at}
-use Rattle.rv_model.specs.instructions.Table.{Row, In, Matches, rows, table}
+use Rattle.rv_model.specs.assembler.Table.{slots_of, row_at, slots_at, bits_at}
+use Rattle.rv_model.specs.instructions.Table.{Row, Matches, table}
 use Rattle.rv_model.specs.assembler.Naming.{IsFence, HasBitsOf}
 use Rattle.rv_model.proofs.instruction_lemmas.Parts.{and_sum}
-use Rattle.rv_model.proofs.instruction_lemmas.Scans.{all_in}
+use Rattle.rv_model.proofs.instruction_lemmas.Scans.{In, all_in}
 
 -- a mask, and what the bits in it are
 abbrev pub Pattern : Type 0
@@ -32,13 +32,13 @@ abbrev pub covers : Pattern → Pattern → Bool
 covers p q = nat_eq (bit_and p.0 q.0) p.0 && nat_eq (bit_and q.1 p.0) p.1
 
 unfoldable pub names : List Pattern
-names = map pattern_of (take name_count MNEMONICS)
+names = map pattern_of (take NAME_COUNT MNEMONICS)
 
-pub named_count : length names ≡ name_count
+pub named_count : length names ≡ NAME_COUNT
 unfolding names
 named_count = refl
 
-pub in_names : (row : ℕ) → row < name_count → row < length names
+pub in_names : (row : ℕ) → row < NAME_COUNT → row < length names
 in_names row lt = let P : ℕ → Type 0 = λ k. row < k in subst P (sym named_count) lt
 
 -- past the table of names there is no row
@@ -46,12 +46,12 @@ abbrev pub none : Mnemonic
 none = record { 0 = []; 1 = form.Plain; 2 = 0 }
 
 -- a name of the list is a row of the table of names
-pub name_at_row : (n : ℕ) → n < name_count → get_or names n (0, 0) ≡ pattern_of (get_or MNEMONICS n none)
+pub name_at_row : (n : ℕ) → n < NAME_COUNT → get_or names n (0, 0) ≡ pattern_of (get_or MNEMONICS n none)
 unfolding names
-name_at_row n lt = get_or-map pattern_of (take name_count MNEMONICS) n none (0, 0) lt ∙ ap pattern_of (get_or-take name_count MNEMONICS n none lt)
+name_at_row n lt = get_or-map pattern_of (take NAME_COUNT MNEMONICS) n none (0, 0) lt ∙ ap pattern_of (get_or-take NAME_COUNT MNEMONICS n none lt)
 
 -- what has the bits of a row of the table of names has those of its pattern
-pub bits_of_name : (row w : ℕ) → row < name_count → HasBitsOf row w → bit_and w (get_or names row (0, 0)).0 ≡ (get_or names row (0, 0)).1
+pub bits_of_name : (row w : ℕ) → row < NAME_COUNT → HasBitsOf row w → bit_and w (get_or names row (0, 0)).0 ≡ (get_or names row (0, 0)).1
 unfolding slots_at bits_at row_at
 bits_of_name row w lt is = let P : Pattern → Type 0 = λ p. bit_and w p.0 ≡ p.1 in subst P (sym (name_at_row row lt)) is
 
@@ -63,7 +63,7 @@ unfoldable each_has_row : Bool
 each_has_row = list_all (λ name. list_any (of_row name) table) names
 
 each_has_row_true : each_has_row ≡ true
-unfolding each_has_row names table rows fixed_mask
+unfolding each_has_row names table fixed_mask
 each_has_row_true = refl
 
 -- no fence but the one with a name has the bits of a name
@@ -106,7 +106,7 @@ unfoldable each_is_covered : Bool
 each_is_covered = list_all row_covered table
 
 each_is_covered_true : each_is_covered ≡ true
-unfolding each_is_covered names table rows fixed_mask
+unfolding each_is_covered names table fixed_mask
 each_is_covered_true = refl
 
 -- no word has the bits of both

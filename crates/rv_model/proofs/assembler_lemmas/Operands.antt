@@ -7,8 +7,7 @@ use Rattle.rv_model.specs.declared.assembler.forms.UnsignedField.TheVariants as 
 use Rattle.rv_model.specs.declared.assembler.forms.SignedField.TheVariants as signed
 use Rattle.rv_model.specs.declared.assembler.forms.Slot.{Slot}
 use Rattle.rv_model.specs.declared.assembler.forms.Slot.TheVariants.{Comma, Open, Close, V0, Scalar, Vector, Unsigned, Signed, Csr, VectorType, ShortVectorType, Mask, Word}
-use Rattle.rv_model.specs.assembler.Slots.{limit}
-use Rattle.rv_model.specs.lending.Slots.{value_count}
+use Rattle.rv_model.specs.lending.Slots.{limit, value_count}
 use Rattle.rv_model.specs.assembler.Fields.{lowest, value_of}
 
 pub field_below : (low len w : ℕ) → field low len w < 2 ^ len

@@ -1,13 +1,14 @@
 -- A line of the operator names a user, if any, by one of the users' numbers.
 use Rattle.std.proofs.Common.{◌≡◌, ℕ, ◌≤◌, List, [], ◌∷◌, Bool, true, false, Option, Some, None, Ok, Err, refl, sym}
-use Rattle.std.specs.Prelude.{nat_le, ◌&&◌, if◌then◌else◌, codes}
+use Rattle.std.specs.Prelude.{nat_le, ◌&&◌, if◌then◌else◌, codes, option_map}
 use Rattle.std.specs.Str.{bytes_eq}
 use Rattle.std.proofs.lemmas.Bool.{leb-true, and_parts}
 use Rattle.rv_model.specs.declared.commands.operator.OperatorCommand.{OperatorCommand}
+use Rattle.rv_model.specs.declared.commands.refusal.Refusal.TheVariants.{UnknownCommand}
 use Rattle.rv_model.specs.declared.commands.operator.OperatorCommand.TheVariants.{Slices, Run, List as ListUsers, Stats as ShowStats}
 use Rattle.rv_model.specs.commands.Arguments.{within, decimal_number, number_between}
-use Rattle.rv_model.specs.commands.Operator.{OperatorParsed, slices_args, run_args, operator_named, accepted, operator_of_words, operator_parse}
-use Rattle.rv_model.specs.commands.Reading.{◌>>=◌, done, with_rest}
+use Rattle.rv_model.specs.commands.Operator.{OperatorParsed, operator_named, operator_of_words, operator_parse}
+use Rattle.rv_model.specs.commands.Reading.{◌>>=◌, done, in_group, one_argument}
 use Rattle.rv_model.specs.text.Words.{words}
 use Rattle.rv_model.proofs.text_lemmas.Pieces.{of_either}
 
@@ -29,32 +30,42 @@ done_names : (c : OperatorCommand) (ws : List (List ℕ)) → NamesUser c → Na
 done_names c [] h = h
 done_names c (w ∷ ws) h = tt
 
+-- a number that was read, with the words after it
+abbrev read : List (List ℕ) → Option ℕ → Option (ℕ × List (List ℕ))
+read ws o = option_map (λ n. (n, ws)) o
+
+abbrev slices_args : List (List ℕ) → Option OperatorCommand
+slices_args ws = one_argument Slices (number_between 1 1000) ws
+
+abbrev run_args : List (List ℕ) → Option OperatorCommand
+run_args ws = one_argument Run (number_between 1 8) ws
+
 slices_name : (ws : List (List ℕ)) → NamesUserIfAny (slices_args ws)
-unfolding slices_args
+unfolding one_argument
 slices_name [] = tt
 slices_name (w ∷ ws) = counted (number_between 1 1000 w)
   where
-    counted : (o : Option ℕ) → NamesUserIfAny (with_rest ws o >>= (λ count. done (Slices count.0) count.1))
+    counted : (o : Option ℕ) → NamesUserIfAny (read ws o >>= (λ count. done (Slices count.0) count.1))
     counted None = tt
     counted (Some n) = done_names (Slices n) ws tt
 
 run_names : (ws : List (List ℕ)) → NamesUserIfAny (run_args ws)
-unfolding run_args
+unfolding one_argument
 run_names [] = tt
 run_names (w ∷ ws) = numbered (decimal_number w)
   where
-    tested : (n : ℕ) (b : Bool) → b ≡ (nat_le 1 n && nat_le n 8) → NamesUserIfAny (with_rest ws (if b then Some n else None) >>= (λ user. done (Run user.0) user.1))
+    tested : (n : ℕ) (b : Bool) → b ≡ (nat_le 1 n && nat_le n 8) → NamesUserIfAny (read ws (if b then Some n else None) >>= (λ user. done (Run user.0) user.1))
     tested n false h = tt
     tested n true h =
         let two = and_parts (nat_le 1 n) (nat_le n 8) (sym h) in
         done_names (Run n) ws (leb-true 1 n two.0, leb-true n 8 two.1)
 
-    numbered : (o : Option ℕ) → NamesUserIfAny (with_rest ws (within 1 8 o) >>= (λ user. done (Run user.0) user.1))
+    numbered : (o : Option ℕ) → NamesUserIfAny (read ws (within 1 8 o) >>= (λ user. done (Run user.0) user.1))
     numbered None = tt
     numbered (Some n) = tested n (nat_le 1 n && nat_le n 8) refl
 
 abbrev NamedNamesUser : Option (Option OperatorCommand) → Type 0
-NamedNamesUser o = ParsedNamesUser (accepted o)
+NamedNamesUser o = ParsedNamesUser (in_group (λ command. command) o (Err UnknownCommand))
 
 with_args : (o : Option OperatorCommand) → NamesUserIfAny o → NamedNamesUser (Some o)
 with_args None h = tt

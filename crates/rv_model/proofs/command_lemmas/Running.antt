@@ -1,11 +1,12 @@
 -- What commands that run instructions print are lines.
-use Rattle.std.proofs.Common.{ℕ, List, [], ◌∷◌, Bool, true, false, Option, Some, None, refl}
-use Rattle.std.specs.Prelude.{codes, flat_map, length}
+use Rattle.std.proofs.Common.{ℕ, List, [], Bool, true, false, Option, Some, None, refl}
+use Rattle.std.specs.Prelude.{◌++◌, codes, flat_map, if◌then◌else◌, length, nat_lt}
+use Rattle.hex.specs.Hex.{encode_lower}
 use Rattle.rv_model.specs.declared.commands.running.RunningCommand.{RunningCommand}
 use Rattle.rv_model.specs.declared.commands.running.RunningCommand.TheVariants.{Step, Go, Stop as StopRunning, State, Trace, Out}
 use Rattle.rv_model.specs.declared.commands.refusal.Refusal.TheVariants as refusal
 use Rattle.rv_model.specs.declared.step.step_end.Stop.{Stop}
-use Rattle.rv_model.specs.commands.Running.{step_line, running_line, stopped_line, state_line, trace_line, spaced_bytes, out_line, running_command}
+use Rattle.rv_model.specs.commands.Running.{step_line, running_line, stopped_line, state_line, trace_line, out_line, running_command}
 use Rattle.rv_model.specs.commands.Printing.{listed}
 use Rattle.rv_model.specs.machine.Runs.{Halted, steps}
 use Rattle.rv_model.specs.machine.UserMachine.{Present, refuses, replies}
@@ -41,10 +42,12 @@ no_newline_in_trace_line addresses =
     let addresses : Piece = (flat_map listed addresses, flat_map_line listed addresses no_newline_in_listed) in
     (word ▸ addresses).1
 
+-- bytes after a space; nothing where there are none
+abbrev spaced_bytes : List ℕ → List ℕ
+spaced_bytes all = if nat_lt 0 (length all) then codes " " ++ encode_lower all else []
+
 no_newline_in_spaced_bytes : (all : List ℕ) → IsLine (spaced_bytes all)
-unfolding spaced_bytes
-no_newline_in_spaced_bytes [] = refl
-no_newline_in_spaced_bytes (b ∷ bs) = (space ▸ bytes (b ∷ bs)).1
+no_newline_in_spaced_bytes all = of_either IsLine (nat_lt 0 (length all)) _ [] (space ▸ bytes all).1 refl
 
 no_newline_in_out_line : (all : List ℕ) → IsLine (out_line all)
 unfolding out_line

@@ -15,7 +15,7 @@ use Rattle.rv_model.specs.vector.Configuration.{GroupType, width_bytes}
 use Rattle.rv_model.specs.elements.Elements.{in_range, mask_bit}
 use Rattle.rv_model.specs.elements.Formulas.{ones}
 use Rattle.rv_model.specs.elements.PermutationResults.{with_packed}
-use Rattle.rv_model.specs.elements.Permutations.{is_packed, is_packed_or_filled, packed, packed_or_ones}
+use Rattle.rv_model.specs.elements.Permutations.{is_packed_or_filled, packed, packed_or_ones}
 use Rattle.rv_model.specs.lending.Writes.{Writes}
 use Rattle.rv_model.specs.vector.Registers.{group_of, with_group}
 use Rattle.rv_model.proofs.element_lemmas.Ranges.{range_more}
@@ -23,6 +23,10 @@ use Rattle.rv_model.proofs.element_lemmas.Widths.{bytes_positive}
 use Rattle.rv_model.proofs.element_lemmas.Writes.{ends, step_written, writes_are, writes_same, writes_then}
 
 -- ---- one element after another
+
+-- whether an element of the destination takes one of so many that are packed
+abbrev is_packed : List ℕ → ℕ → Bool
+is_packed numbers j = nat_lt j (length numbers)
 
 below : (n e : ℕ) → nat_lt e n ≡ true → e < n
 below n e h = grind (arith, nat_tests)

@@ -6,7 +6,7 @@ use Rattle.std.proofs.lemmas.Bool.Decides.{nat_tests}
 use Rattle.std.proofs.Math.Nat.{mul-le-mul_left, mul-suc}
 use Rattle.std.specs.Int.{bytes_low_first}
 use lib.Lanes.{put_chunk}
-use Rattle.rv_model.specs.elements.Elements.{Body, in_range, in_body, is_let, is_active, is_masked_off, is_changed, result_or_ones}
+use Rattle.rv_model.specs.elements.Elements.{Body, in_range, in_body, is_let, is_active, is_changed, result_or_ones}
 use Rattle.rv_model.specs.lending.Writes.{Writes}
 use Rattle.rv_model.proofs.element_lemmas.Writes.{begins, ends, step_written, step_kept, writes_same, writes_then}
 
@@ -112,7 +112,7 @@ module _ (k : ℕ) (body : Body) (fill_masked_off : Bool) (n : ℕ) (result : �
       writes_same k (λ e. is_changed body fill_masked_off false e || in_range body.end n e)
       (is_changed body fill_masked_off true) (λ e. cond (in_range body.end n e) ones (result_or_ones body result ones e)) (result_or_ones body result ones) old new
       (writes_then k (is_changed body fill_masked_off false) (in_range body.end n) (result_or_ones body result ones) (λ e. ones) old mid new first second)
-      (λ e h. joined (is_active body e) (fill_masked_off && is_masked_off body e) (nat_le body.end e) (nat_lt e n)
+      (λ e h. joined (is_active body e) (fill_masked_off && (in_body body e && not (is_let body e))) (nat_le body.end e) (nat_lt e n)
       (lt-ltb e n (below e (omega (arith, h, long)))))
       (λ e h. numbers e (in_range body.end n e) refl)
     where

@@ -3,13 +3,15 @@ use Rattle.std.proofs.Common.{◌≡◌, ap, ap₂, ◌∙◌, sym, subst, ℕ, 
 use Rattle.std.specs.Prelude.{IfSome, flat_map}
 use Rattle.std.specs.Int.Bits.{bit_and, and_le_r}
 use Rattle.rv_model.specs.declared.instructions.instruction.Instr.{Instr}
-use Rattle.rv_model.specs.instructions.BitFields.{Part, sum_of, mask_of, fixed, AllFit}
-use Rattle.rv_model.specs.instructions.Layout.{parts, bits, filled, word_of, Allowed}
-use Rattle.rv_model.specs.instructions.Table.{Row, row_of, Family, templates, families, rows, table, Matches, In, scan}
+use Rattle.rv_model.specs.instructions.BitFields.{Part, sum_of, mask_of, fixed}
+use Rattle.rv_model.specs.lending.ListedBits.{AllFit, Allowed}
+use Rattle.rv_model.specs.instructions.Layout.{parts, bits, word_of}
+use Rattle.rv_model.specs.instructions.Table.{Row, table, Matches, scan}
+use Rattle.rv_model.specs.lending.Families.{filled, row_of}
 use Rattle.rv_model.proofs.instruction_lemmas.Parts.{share_none, inside_mask, fixed_bits, reads, rebuilt}
-use Rattle.rv_model.proofs.instruction_lemmas.Scans.{found, table_apart, some_row}
+use Rattle.rv_model.proofs.instruction_lemmas.Scans.{In, found, table_apart, some_row}
 use Rattle.rv_model.proofs.instruction_lemmas.Words.{Laid, laid, filled_parts, filled_bits, refilled}
-use Rattle.rv_model.proofs.instruction_lemmas.Rows.{listed, inside}
+use Rattle.rv_model.proofs.instruction_lemmas.Rows.{groups, table_groups, listed, inside}
 
 sum_small : (code m : ℕ) → bit_and code m ≡ code → (ps : List Part) → share_none m ps ≡ true
     → mask_of m ps ≡ 2 ^ 32 - 1 → AllFit ps → sum_of code ps < 2 ^ 32
@@ -54,15 +56,13 @@ split_in [] ys r h = inr h
 split_in (x ∷ xs) ys r (inl e) = inl (inl e)
 split_in (x ∷ xs) ys r (inr h) = elim (split_in xs ys r h) [ inl a ↦ inl (inr a) | inr b ↦ inr b ]
 
-template_joined : (fs : List Family) (r : Row) → In r (flat_map rows fs) → (t : Instr) × (row_of t ≡ r)
-unfolding rows
+template_joined : (gs : List (List Instr)) (r : Row) → In r (flat_map (map row_of) gs) → (t : Instr) × (row_of t ≡ r)
 template_joined [] r h = absurd h
-template_joined (f ∷ fs) r h = elim (split_in (rows f) (flat_map rows fs) r h) [ inl a ↦ template_in (templates f) r a | inr b ↦ template_joined fs r b ]
+template_joined (g ∷ gs) r h = elim (split_in (map row_of g) (flat_map (map row_of) gs) r h) [ inl a ↦ template_in g r a | inr b ↦ template_joined gs r b ]
 
 -- a row is that of some instruction
 pub template_of : (r : Row) → In r table → (t : Instr) × (row_of t ≡ r)
-unfolding table
-template_of r h = template_joined families r h
+template_of r h = template_joined groups r (subst (In r) table_groups h)
 
 row_word : (r : Row) (w : ℕ) → w < 2 ^ 32 → In r table → Matches r w → word_of (r.instr w) ≡ w
 row_word r w small h is =

@@ -5,8 +5,6 @@ use Rattle.std.proofs.lemmas.Bool.{eqb-true}
 use Rattle.rv_model.specs.declared.instructions.source.Source.{Source}
 use Rattle.rv_model.specs.declared.instructions.source.Source.TheVariants as source
 use Rattle.rv_model.specs.declared.instructions.operations.Line.{Line}
-use Rattle.rv_model.specs.declared.instructions.operations.Major.{Major}
-use Rattle.rv_model.specs.declared.instructions.operations.Major.TheVariants.{Opi, Opm}
 use Rattle.rv_model.specs.declared.instructions.operations.Form.{Form}
 use Rattle.rv_model.specs.declared.instructions.operations.Form.TheVariants as form
 use Rattle.rv_model.specs.declared.instructions.operations.VectorOp.{VectorOp}
@@ -87,15 +85,15 @@ use Rattle.rv_model.specs.declared.instructions.csr.CsrInstr.TheVariants.{Regist
 use Rattle.rv_model.specs.declared.instructions.vector.VectorInstr.TheVariants.{SetVli, SetIvli, SetVl, Arith, Carry, Move, WholeMove, MaskLogic, Compress, MaskToScalar, Extend, MaskUnary, ElementIndex, MoveToScalar, MoveToVector}
 use Rattle.rv_model.specs.declared.instructions.access.AccessInstr.TheVariants.{UnitStride, Strided, Indexed, WholeLoad, WholeStore, MaskAccess}
 use Rattle.rv_model.specs.instructions.BitFields.{fixed}
-use Rattle.rv_model.specs.instructions.Sources.{form_of}
-use Rattle.rv_model.specs.instructions.FixedBits.{whole_move_bits, mask_memory_bits, upper_ops, branch_ops, load_ops, store_ops, immediate_ops, shift_immediate_ops, shift_immediate_word_ops, register_ops, system_ops, csr_ops, csr_immediate_ops, mask_logic_ops, mask_to_scalar_ops, extend_ops, mask_unary_ops, directions, counts}
-use Rattle.rv_model.specs.lending.ListedBits.{upper_bits, branch_bits, load_bits, store_bits, immediate_op_bits, shift_immediate_bits, shift_immediate_word_bits, register_op_bits, system_bits, csr_bits, csr_immediate_bits, mask_logic_bits, mask_to_scalar_bits, extend_bits, mask_unary_bits, binary_line, carry_out_line, compare_line, fixed_point_line, narrow_shift_line, clip_line, widen_line, wide_source_line, multiply_add_line, widen_multiply_add_line, reduce_line, widen_reduce_line, permute_line}
-use Rattle.rv_model.specs.instructions.Operations.{carry_line, has_form, line, line_bits, those, vector_ops, carry_ops}
-use Rattle.rv_model.specs.instructions.Layout.{parts, bits, Allowed, unit_access_bits, strided_access_bits, indexed_access_bits, whole_load_bits, whole_store_bits}
-use Rattle.std.specs.Prelude.{flat_map}
-use Rattle.rv_model.specs.instructions.Table.{Row, row_of, Family, families, rows, table, In, unit_accesses, strided_accesses, indexed_accesses, whole_loads, Ariths}
+use Rattle.rv_model.specs.instructions.Sources.{form_of, source_of}
+use Rattle.rv_model.specs.lending.ListedBits.{Allowed, whole_move_bits, mask_memory_bits, unit_access_bits, strided_access_bits, indexed_access_bits, whole_load_bits, whole_store_bits, upper_bits, branch_bits, load_bits, store_bits, immediate_op_bits, shift_immediate_bits, shift_immediate_word_bits, register_op_bits, system_bits, csr_bits, csr_immediate_bits, mask_logic_bits, mask_to_scalar_bits, extend_bits, mask_unary_bits, binary_line, carry_out_line, compare_line, fixed_point_line, narrow_shift_line, clip_line, widen_line, wide_source_line, multiply_add_line, widen_multiply_add_line, reduce_line, widen_reduce_line, permute_line}
+use Rattle.rv_model.specs.instructions.Operations.{carry_line, has_form, line, line_bits, vector_ops}
+use Rattle.rv_model.specs.instructions.Layout.{parts, bits}
+use Rattle.std.specs.Prelude.{filter, flat_map}
+use Rattle.rv_model.specs.instructions.Table.{Row, counts, directions, table}
+use Rattle.rv_model.specs.lending.Families.{row_of, templates, upper_ops, branch_ops, load_ops, store_ops, immediate_ops, shift_immediate_ops, shift_immediate_word_ops, register_ops, system_ops, csr_ops, csr_immediate_ops, carry_ops, mask_logic_ops, mask_to_scalar_ops, extend_ops, mask_unary_ops, unit_accesses, strided_accesses, indexed_accesses, whole_loads, Uppers, Jumps, JumpRegisters, Branches, Loads, Stores, RegisterImmediates, ShiftImmediates, ShiftImmediateWords, RegisterRegisters, Fences, Systems, Csrs, CsrImmediates, SetVlis, SetIvlis, SetVls, Moves, WholeMoves, MaskLogics, Compresses, MasksToScalar, Extends, MaskUnaries, ElementIndices, MovesToScalar, MovesToVector, Units, Strideds, Indexeds, WholeLoads, WholeStores, MaskMemories}
 use Rattle.rv_model.specs.lending.Search.{find}
-use Rattle.rv_model.proofs.instruction_lemmas.Scans.{is_inside, table_inside, all_in}
+use Rattle.rv_model.proofs.instruction_lemmas.Scans.{In, is_inside, table_inside, all_in}
 
 in_left : (r : Row) (xs ys : List Row) → In r xs → In r (xs ++ ys)
 in_left r [] ys h = absurd h
@@ -106,15 +104,35 @@ in_right : (r : Row) (xs ys : List Row) → In r ys → In r (xs ++ ys)
 in_right r [] ys h = h
 in_right r (x ∷ xs) ys h = inr (in_right r xs ys h)
 
-abbrev at_place : List (List Row) → ℕ → List Row
+abbrev ariths : Form → List Instr
+ariths f = map (λ op. instr.Vector (Arith (op, source_of f 0) 0 0 true)) (filter (λ op. has_form (line op).forms f) vector_ops)
+
+abbrev carries : Form → List Instr
+carries f = map (λ op. instr.Vector (Carry (op, source_of f 0) 0 0)) (filter (λ op. has_form (carry_line op).forms f) carry_ops)
+
+-- an instruction for each row, in the order of the table
+abbrev pub groups : List (List Instr)
+groups =
+    map templates (Uppers ∷ Jumps ∷ JumpRegisters ∷ Branches ∷ Loads ∷ Stores ∷ RegisterImmediates ∷ ShiftImmediates ∷ ShiftImmediateWords ∷ [])
+    ++ map templates (RegisterRegisters ∷ Fences ∷ Systems ∷ Csrs ∷ CsrImmediates ∷ SetVlis ∷ SetIvlis ∷ SetVls ∷ [])
+    ++ (ariths form.V ∷ ariths form.X ∷ ariths form.I ∷ carries form.V ∷ carries form.X ∷ carries form.I ∷ [])
+    ++ map templates (Moves form.V ∷ Moves form.X ∷ Moves form.I ∷ WholeMoves ∷ MaskLogics ∷ Compresses ∷ MasksToScalar ∷ Extends ∷ [])
+    ++ map templates (MaskUnaries ∷ ElementIndices ∷ MovesToScalar ∷ MovesToVector ∷ Units ∷ Strideds ∷ Indexeds ∷ [])
+    ++ map templates (WholeLoads ∷ WholeStores ∷ MaskMemories ∷ [])
+
+pub table_groups : table ≡ flat_map (map row_of) groups
+unfolding table
+table_groups = refl
+
+abbrev at_place : List (List Instr) → ℕ → List Instr
 at_place [] k = []
 at_place (l ∷ ls) zero = l
 at_place (l ∷ ls) (suc k) = at_place ls k
 
-in_flat : (fs : List Family) (k : ℕ) (r : Row) → In r (at_place (map rows fs) k) → In r (flat_map rows fs)
+in_flat : (gs : List (List Instr)) (k : ℕ) (r : Row) → In r (map row_of (at_place gs k)) → In r (flat_map (map row_of) gs)
 in_flat [] k r h = absurd h
-in_flat (f ∷ fs) zero r h = in_left r (rows f) (flat_map rows fs) h
-in_flat (f ∷ fs) (suc k) r h = in_right r (rows f) (flat_map rows fs) (in_flat fs k r h)
+in_flat (g ∷ gs) zero r h = in_left r (map row_of g) (flat_map (map row_of) gs) h
+in_flat (g ∷ gs) (suc k) r h = in_right r (map row_of g) (flat_map (map row_of) gs) (in_flat gs k r h)
 
 find-step : {A : Type 0} (b : Bool) (o op : A) (rest : Option A) → cond b (Some o) rest ≡ Some op
     → (o ≡ op) ⊎ (rest ≡ Some op)
@@ -276,7 +294,7 @@ known_indexed _ order.Ordered width.E64 = refl
 -- an operation with this line is found by the line's bits, in each form that it has
 abbrev IsKnown : VectorOp → Line → Form → Type 0
 IsKnown op l f =
-    cond (has_form l.forms f) (find (λ o. line_bits (line o) f) (those line l.major f vector_ops) (line_bits l f)) None
+    cond (has_form l.forms f) (find (λ o. line_bits (line o) f) (filter (λ o. has_form (line o).forms f) vector_ops) (line_bits l f)) None
     ≡ cond (has_form l.forms f) (Some op) None
 
 known_binary : (op : BinaryOp) (f : Form) → IsKnown (vector_op.Binary op) (binary_line op) f
@@ -397,7 +415,7 @@ known_permute permute.Vrgather form.I = refl
 known_permute _ form.I = refl
 
 known_carry : (op : CarryOp) (f : Form)
-    → cond (has_form (carry_line op).forms f) (find (λ o. line_bits (carry_line o) f) (those carry_line Opi f carry_ops) (line_bits (carry_line op) f)) None ≡ cond (has_form (carry_line op).forms f) (Some op) None
+    → cond (has_form (carry_line op).forms f) (find (λ o. line_bits (carry_line o) f) (filter (λ o. has_form (carry_line o).forms f) carry_ops) (line_bits (carry_line op) f)) None ≡ cond (has_form (carry_line op).forms f) (Some op) None
 unfolding find
 known_carry carry.Vadc form.V = refl
 known_carry _ form.V = refl
@@ -437,67 +455,52 @@ in_rows code t (o ∷ os) op b h =
       | inr later ↦ inr (in_rows code t os op b later)
     ]
 
-in_table : (k : ℕ) (r : Row) → In r (at_place (map rows families) k) → In r table
-unfolding table
-in_table k r h = in_flat families k r h
+in_table : (k : ℕ) (r : Row) → In r (map row_of (at_place groups k)) → In r table
+in_table k r h = subst (In r) (sym table_groups) (in_flat groups k r h)
 
 listed_at : {A : Type 0} (k : ℕ) (code : A → ℕ) (t : A → Instr) (ops : List A) (op : A)
-    → find code ops (code op) ≡ Some op → at_place (map rows families) k ≡ map row_of (map t ops)
+    → find code ops (code op) ≡ Some op → at_place groups k ≡ map t ops
     → In (row_of (t op)) table
 listed_at k code t ops op known same =
-    in_table k (row_of (t op)) (subst (In (row_of (t op))) (sym same) (in_rows code t ops op (code op) known))
-
--- no operation of the second half of the opcode map has an immediate
-arith_in : (m : Major) (f : Form) (r : Row) → In r (rows (Ariths m f)) → In r table
-unfolding rows
-arith_in Opi form.V r h = in_table 17 r h
-arith_in Opi form.X r h = in_table 18 r h
-arith_in Opi form.I r h = in_table 19 r h
-arith_in Opm form.V r h = in_table 20 r h
-arith_in Opm form.X r h = in_table 21 r h
-arith_in Opm form.I r h = absurd h
+    in_table k (row_of (t op)) (subst (λ g. In (row_of (t op)) (map row_of g)) (sym same) (in_rows code t ops op (code op) known))
 
 listed_arith : (op : VectorOp) (s : Source) (vd vs2 : ℕ) (vm : Bool) → has_form (line op).forms (form_of s) ≡ true
     → In (row_of (instr.Vector (Arith (op, s) vd vs2 vm))) table
-unfolding rows
 listed_arith op (source.V n) vd vs2 vm h =
-    let ops : List VectorOp = those line (line op).major form.V vector_ops in
+    let ops : List VectorOp = filter (λ o. has_form (line o).forms form.V) vector_ops in
     let is : find (λ o. line_bits (line o) form.V) ops (line_bits (line op) form.V) ≡ Some op = cond-same (has_form (line op).forms form.V) (find (λ o. line_bits (line o) form.V) ops (line_bits (line op) form.V)) (Some op) None (known_vector op form.V) h in
-    arith_in (line op).major form.V (row_of (instr.Vector (Arith (op, source.V 0) 0 0 true))) (in_rows (λ o. line_bits (line o) form.V) (λ o. instr.Vector (Arith (o, source.V 0) 0 0 true)) ops op (line_bits (line op) form.V) is)
+    in_table 17 (row_of (instr.Vector (Arith (op, source.V 0) 0 0 true))) (in_rows (λ o. line_bits (line o) form.V) (λ o. instr.Vector (Arith (o, source.V 0) 0 0 true)) ops op (line_bits (line op) form.V) is)
 listed_arith op (source.X n) vd vs2 vm h =
-    let ops : List VectorOp = those line (line op).major form.X vector_ops in
+    let ops : List VectorOp = filter (λ o. has_form (line o).forms form.X) vector_ops in
     let is : find (λ o. line_bits (line o) form.X) ops (line_bits (line op) form.X) ≡ Some op = cond-same (has_form (line op).forms form.X) (find (λ o. line_bits (line o) form.X) ops (line_bits (line op) form.X)) (Some op) None (known_vector op form.X) h in
-    arith_in (line op).major form.X (row_of (instr.Vector (Arith (op, source.X 0) 0 0 true))) (in_rows (λ o. line_bits (line o) form.X) (λ o. instr.Vector (Arith (o, source.X 0) 0 0 true)) ops op (line_bits (line op) form.X) is)
+    in_table 18 (row_of (instr.Vector (Arith (op, source.X 0) 0 0 true))) (in_rows (λ o. line_bits (line o) form.X) (λ o. instr.Vector (Arith (o, source.X 0) 0 0 true)) ops op (line_bits (line op) form.X) is)
 listed_arith op (source.I n) vd vs2 vm h =
-    let ops : List VectorOp = those line (line op).major form.I vector_ops in
+    let ops : List VectorOp = filter (λ o. has_form (line o).forms form.I) vector_ops in
     let is : find (λ o. line_bits (line o) form.I) ops (line_bits (line op) form.I) ≡ Some op = cond-same (has_form (line op).forms form.I) (find (λ o. line_bits (line o) form.I) ops (line_bits (line op) form.I)) (Some op) None (known_vector op form.I) h in
-    arith_in (line op).major form.I (row_of (instr.Vector (Arith (op, source.I 0) 0 0 true))) (in_rows (λ o. line_bits (line o) form.I) (λ o. instr.Vector (Arith (o, source.I 0) 0 0 true)) ops op (line_bits (line op) form.I) is)
+    in_table 19 (row_of (instr.Vector (Arith (op, source.I 0) 0 0 true))) (in_rows (λ o. line_bits (line o) form.I) (λ o. instr.Vector (Arith (o, source.I 0) 0 0 true)) ops op (line_bits (line op) form.I) is)
 
 listed_carry : (op : CarryOp) (s : Source) (vd vs2 : ℕ) → has_form (carry_line op).forms (form_of s) ≡ true
     → In (row_of (instr.Vector (Carry (op, s) vd vs2))) table
-unfolding rows
 listed_carry op (source.V n) vd vs2 h =
-    let ops : List CarryOp = those carry_line Opi form.V carry_ops in
+    let ops : List CarryOp = filter (λ o. has_form (carry_line o).forms form.V) carry_ops in
     let is : find (λ o. line_bits (carry_line o) form.V) ops (line_bits (carry_line op) form.V) ≡ Some op = cond-same (has_form (carry_line op).forms form.V) (find (λ o. line_bits (carry_line o) form.V) ops (line_bits (carry_line op) form.V)) (Some op) None (known_carry op form.V) h in
-    in_table 22 (row_of (instr.Vector (Carry (op, source.V 0) 0 0))) (in_rows (λ o. line_bits (carry_line o) form.V) (λ o. instr.Vector (Carry (o, source.V 0) 0 0)) ops op (line_bits (carry_line op) form.V) is)
+    in_table 20 (row_of (instr.Vector (Carry (op, source.V 0) 0 0))) (in_rows (λ o. line_bits (carry_line o) form.V) (λ o. instr.Vector (Carry (o, source.V 0) 0 0)) ops op (line_bits (carry_line op) form.V) is)
 listed_carry op (source.X n) vd vs2 h =
-    let ops : List CarryOp = those carry_line Opi form.X carry_ops in
+    let ops : List CarryOp = filter (λ o. has_form (carry_line o).forms form.X) carry_ops in
     let is : find (λ o. line_bits (carry_line o) form.X) ops (line_bits (carry_line op) form.X) ≡ Some op = cond-same (has_form (carry_line op).forms form.X) (find (λ o. line_bits (carry_line o) form.X) ops (line_bits (carry_line op) form.X)) (Some op) None (known_carry op form.X) h in
-    in_table 23 (row_of (instr.Vector (Carry (op, source.X 0) 0 0))) (in_rows (λ o. line_bits (carry_line o) form.X) (λ o. instr.Vector (Carry (o, source.X 0) 0 0)) ops op (line_bits (carry_line op) form.X) is)
+    in_table 21 (row_of (instr.Vector (Carry (op, source.X 0) 0 0))) (in_rows (λ o. line_bits (carry_line o) form.X) (λ o. instr.Vector (Carry (o, source.X 0) 0 0)) ops op (line_bits (carry_line op) form.X) is)
 listed_carry op (source.I n) vd vs2 h =
-    let ops : List CarryOp = those carry_line Opi form.I carry_ops in
+    let ops : List CarryOp = filter (λ o. has_form (carry_line o).forms form.I) carry_ops in
     let is : find (λ o. line_bits (carry_line o) form.I) ops (line_bits (carry_line op) form.I) ≡ Some op = cond-same (has_form (carry_line op).forms form.I) (find (λ o. line_bits (carry_line o) form.I) ops (line_bits (carry_line op) form.I)) (Some op) None (known_carry op form.I) h in
-    in_table 24 (row_of (instr.Vector (Carry (op, source.I 0) 0 0))) (in_rows (λ o. line_bits (carry_line o) form.I) (λ o. instr.Vector (Carry (o, source.I 0) 0 0)) ops op (line_bits (carry_line op) form.I) is)
+    in_table 22 (row_of (instr.Vector (Carry (op, source.I 0) 0 0))) (in_rows (λ o. line_bits (carry_line o) form.I) (λ o. instr.Vector (Carry (o, source.I 0) 0 0)) ops op (line_bits (carry_line op) form.I) is)
 
 listed_move : (s : Source) (vd : ℕ) → In (row_of (instr.Vector (Move s vd))) table
-unfolding rows
-listed_move (source.V n) vd = in_table 25 (row_of (instr.Vector (Move (source.V 0) 0))) (inl refl)
-listed_move (source.X n) vd = in_table 26 (row_of (instr.Vector (Move (source.X 0) 0))) (inl refl)
-listed_move (source.I n) vd = in_table 27 (row_of (instr.Vector (Move (source.I 0) 0))) (inl refl)
+listed_move (source.V n) vd = in_table 23 (row_of (instr.Vector (Move (source.V 0) 0))) (inl refl)
+listed_move (source.X n) vd = in_table 24 (row_of (instr.Vector (Move (source.X 0) 0))) (inl refl)
+listed_move (source.I n) vd = in_table 25 (row_of (instr.Vector (Move (source.I 0) 0))) (inl refl)
 
 -- an instruction's row is in the table
 pub listed : (i : Instr) → Allowed i → In (row_of i) table
-unfolding rows
 listed (instr.Scalar (Upper op rd imm)) h = listed_at 0 upper_bits (λ op. instr.Scalar (Upper op 0 0)) upper_ops op (known_upper op) refl
 listed (instr.Scalar (Jump rd imm)) h = in_table 1 (row_of (instr.Scalar (Jump 0 0))) (inl refl)
 listed (instr.Scalar (JumpRegister rd rs1 imm)) h = in_table 2 (row_of (instr.Scalar (JumpRegister 0 0 0))) (inl refl)
@@ -523,31 +526,31 @@ listed (instr.Vector (Arith arith vd vs2 vm)) h = listed_arith arith.0 arith.1 v
 listed (instr.Vector (Carry carry vd vs2)) h = listed_carry carry.0 carry.1 vd vs2 h
 listed (instr.Vector (Move source vd)) h = listed_move source vd
 listed (instr.Vector (WholeMove count vd vs2)) h =
-    listed_at 28 whole_move_bits (λ op. instr.Vector (WholeMove op 0 0)) counts count (known_whole_move count) refl
+    listed_at 26 whole_move_bits (λ op. instr.Vector (WholeMove op 0 0)) counts count (known_whole_move count) refl
 listed (instr.Vector (MaskLogic op vd vs1 vs2)) h =
-    listed_at 29 mask_logic_bits (λ op. instr.Vector (MaskLogic op 0 0 0)) mask_logic_ops op (known_mask_logic op) refl
-listed (instr.Vector (Compress vd vs1 vs2)) h = in_table 30 (row_of (instr.Vector (Compress 0 0 0))) (inl refl)
+    listed_at 27 mask_logic_bits (λ op. instr.Vector (MaskLogic op 0 0 0)) mask_logic_ops op (known_mask_logic op) refl
+listed (instr.Vector (Compress vd vs1 vs2)) h = in_table 28 (row_of (instr.Vector (Compress 0 0 0))) (inl refl)
 listed (instr.Vector (MaskToScalar op rd vs2 vm)) h =
-    listed_at 31 mask_to_scalar_bits (λ op. instr.Vector (MaskToScalar op 0 0 true)) mask_to_scalar_ops op (known_mask_to_scalar op) refl
+    listed_at 29 mask_to_scalar_bits (λ op. instr.Vector (MaskToScalar op 0 0 true)) mask_to_scalar_ops op (known_mask_to_scalar op) refl
 listed (instr.Vector (Extend op vd vs2 vm)) h =
-    listed_at 32 extend_bits (λ op. instr.Vector (Extend op 0 0 true)) extend_ops op (known_extend op) refl
+    listed_at 30 extend_bits (λ op. instr.Vector (Extend op 0 0 true)) extend_ops op (known_extend op) refl
 listed (instr.Vector (MaskUnary op vd vs2 vm)) h =
-    listed_at 33 mask_unary_bits (λ op. instr.Vector (MaskUnary op 0 0 true)) mask_unary_ops op (known_mask_unary op) refl
-listed (instr.Vector (ElementIndex vd vm)) h = in_table 34 (row_of (instr.Vector (ElementIndex 0 true))) (inl refl)
-listed (instr.Vector (MoveToScalar rd vs2)) h = in_table 35 (row_of (instr.Vector (MoveToScalar 0 0))) (inl refl)
-listed (instr.Vector (MoveToVector vd rs1)) h = in_table 36 (row_of (instr.Vector (MoveToVector 0 0))) (inl refl)
+    listed_at 31 mask_unary_bits (λ op. instr.Vector (MaskUnary op 0 0 true)) mask_unary_ops op (known_mask_unary op) refl
+listed (instr.Vector (ElementIndex vd vm)) h = in_table 32 (row_of (instr.Vector (ElementIndex 0 true))) (inl refl)
+listed (instr.Vector (MoveToScalar rd vs2)) h = in_table 33 (row_of (instr.Vector (MoveToScalar 0 0))) (inl refl)
+listed (instr.Vector (MoveToVector vd rs1)) h = in_table 34 (row_of (instr.Vector (MoveToVector 0 0))) (inl refl)
 listed (instr.Access (UnitStride op width nf vd rs1 vm)) h =
-    listed_at 37 unit_access_bits (λ op. instr.Access (UnitStride op.0 op.1 0 0 0 true)) unit_accesses (op, width) (known_unit op width) refl
+    listed_at 35 unit_access_bits (λ op. instr.Access (UnitStride op.0 op.1 0 0 0 true)) unit_accesses (op, width) (known_unit op width) refl
 listed (instr.Access (Strided direction width nf vd rs1 rs2 vm)) h =
-    listed_at 38 strided_access_bits (λ op. instr.Access (Strided op.0 op.1 0 0 0 0 true)) strided_accesses (direction, width) (known_strided direction width) refl
+    listed_at 36 strided_access_bits (λ op. instr.Access (Strided op.0 op.1 0 0 0 0 true)) strided_accesses (direction, width) (known_strided direction width) refl
 listed (instr.Access (Indexed direction order width nf vd rs1 vs2 vm)) h =
-    listed_at 39 indexed_access_bits (λ op. instr.Access (Indexed op.0.0 op.0.1 op.1 0 0 0 0 true)) indexed_accesses ((direction, order), width) (known_indexed direction order width) refl
+    listed_at 37 indexed_access_bits (λ op. instr.Access (Indexed op.0.0 op.0.1 op.1 0 0 0 0 true)) indexed_accesses ((direction, order), width) (known_indexed direction order width) refl
 listed (instr.Access (WholeLoad count width vd rs1)) h =
-    listed_at 40 whole_load_bits (λ op. instr.Access (WholeLoad op.0 op.1 0 0)) whole_loads (count, width) (known_whole_load count width) refl
+    listed_at 38 whole_load_bits (λ op. instr.Access (WholeLoad op.0 op.1 0 0)) whole_loads (count, width) (known_whole_load count width) refl
 listed (instr.Access (WholeStore count vd rs1)) h =
-    listed_at 41 whole_store_bits (λ op. instr.Access (WholeStore op 0 0)) counts count (known_whole_store count) refl
+    listed_at 39 whole_store_bits (λ op. instr.Access (WholeStore op 0 0)) counts count (known_whole_store count) refl
 listed (instr.Access (MaskAccess direction vd rs1)) h =
-    listed_at 42 mask_memory_bits (λ op. instr.Access (MaskAccess op 0 0)) directions direction (known_mask_memory direction) refl
+    listed_at 40 mask_memory_bits (λ op. instr.Access (MaskAccess op 0 0)) directions direction (known_mask_memory direction) refl
 
 pub inside : (i : Instr) → Allowed i → bit_and (bits i) (fixed (parts i)) ≡ bits i
 inside i ok =

@@ -1,14 +1,29 @@
 -- What a scan of the instruction table finds
-use Rattle.std.proofs.Common.{◌≡◌, ◌≢◌, refl, ap, ◌∙◌, sym, subst, ℕ, List, [], ◌∷◌, ◌++◌, Option, Some, None, Bool, true, false, nat_eq, cond, not, ◌&&◌, ◌||◌, inl, inr, ◌⊎◌}
+use Rattle.std.proofs.Common.{◌≡◌, ◌≢◌, refl, ap, ◌∙◌, sym, subst, ℕ, zero, suc, List, [], ◌∷◌, ◌++◌, Option, Some, None, Bool, true, false, nat_eq, cond, not, ◌&&◌, ◌||◌, inl, inr, ◌⊎◌, arith}
 use Rattle.std.specs.Prelude.{IfSome, IfNone}
-use Rattle.std.specs.List.{list_any, list_all}
+use Rattle.std.specs.List.{Contains, list_any, list_all}
 use Rattle.std.specs.Option.{option_or}
 use Rattle.std.specs.Int.Bits.{bit_and, and_comm}
 use Rattle.std.proofs.lemmas.Nat.{and_assoc}
 use Rattle.std.proofs.lemmas.Bool.Decides.{eqb_tells}
 use Rattle.std.proofs.lemmas.Bool.{and_parts, eq-eqb, eqb-true, not-true}
 use Rattle.rv_model.specs.declared.instructions.instruction.Instr.{Instr}
-use Rattle.rv_model.specs.instructions.Table.{Row, rows, table, Matches, In, IsRow, scan}
+use Rattle.rv_model.specs.instructions.Table.{Row, table, Matches, IsRow, scan}
+
+-- a row is in a list
+abbrev pub In : Row → List Row → Type 0
+In r [] = ⊥
+In r (s ∷ ss) = (s ≡ r) ⊎ In r ss
+
+in_of : (t : List Row) (r : Row) → Contains t r → In r t
+in_of [] r h = absurd (omega (arith, h.1))
+in_of (s ∷ ss) r (zero, lt, e) = inl e
+in_of (s ∷ ss) r (suc k, lt, e) = inr (in_of ss r (k, omega (arith, lt), e))
+
+contains_of : (t : List Row) (r : Row) → In r t → Contains t r
+contains_of [] r h = absurd h
+contains_of (s ∷ ss) r (inl e) = (0, omega arith, e)
+contains_of (s ∷ ss) r (inr h) = let q : Contains ss r = contains_of ss r h in (suc q.0, omega (arith, q.1), q.2)
 
 -- no word can match both rows
 abbrev pub apart : Row → Row → Bool
@@ -154,7 +169,7 @@ found (s ∷ ss) h r (inr later) word is =
     ap (λ b. cond b (Some (s.instr word)) (scan ss word)) (misses s r word (apart_in s r ss parts.0 later) is) ∙ found ss parts.1 r later word is
 
 pub table_apart : all_apart table ≡ true
-unfolding table rows
+unfolding table
 table_apart = refl
 
 true_false : (b : Bool) → b ≡ true → b ≡ false → ⊥
@@ -174,8 +189,8 @@ one (x ∷ xs) h r s (inr a) (inr b) word hr hs =
     one xs (and_parts (apart_from x xs) (all_apart xs) h).1 r s a b word hr hs
 
 -- no word matches two rows
-pub no_two_rows : (r s : Row) → In r table → In s table → (word : ℕ) → Matches r word → Matches s word → r ≡ s
-no_two_rows = one table table_apart
+pub no_two_rows : (r s : Row) → Contains table r → Contains table s → (word : ℕ) → Matches r word → Matches s word → r ≡ s
+no_two_rows r s a b = one table table_apart r s (in_of table r a) (in_of table s b)
 
 row-cond : (b : Bool) (x i : Instr) (rest : Option Instr) → cond b (Some x) rest ≡ Some i
     → ((b ≡ true) × (x ≡ i)) ⊎ (rest ≡ Some i)
@@ -196,18 +211,18 @@ pub found_row : (word : ℕ) (o : Option Instr) → o ≡ scan table word
     → IfSome o (λ i. (r : Row) × IsRow word r × (r.instr word ≡ i))
 found_row word None is = tt
 found_row word (Some i) is =
-    let q : (r : Row) × In r table × Matches r word × (r.instr word ≡ i) = some_row table word i (sym is) in (q.0, (q.1, q.2), q.3)
+    let q : (r : Row) × In r table × Matches r word × (r.instr word ≡ i) = some_row table word i (sym is) in (q.0, (contains_of table q.0 q.1, q.2), q.3)
 
 none_some : (x : Instr) (o : Option Instr) → o ≡ None → o ≡ Some x → ⊥
 none_some x o h k = cc
 
 pub no_row : (word : ℕ) (o : Option Instr) → o ≡ scan table word → IfNone o ((r : Row) → IsRow word r → ⊥)
 no_row word None is =
-    λ r h. none_some (r.instr word) (scan table word) (sym is) (found table table_apart r h.0 word h.1)
+    λ r h. none_some (r.instr word) (scan table word) (sym is) (found table table_apart r (in_of table r h.0) word h.1)
 no_row word (Some i) is = tt
 
 pub table_inside : list_all is_inside table ≡ true
-unfolding table rows
+unfolding table
 table_inside = refl
 
 pub all_in : (p : Row → Bool) (t : List Row) → list_all p t ≡ true → (r : Row) → In r t → p r ≡ true

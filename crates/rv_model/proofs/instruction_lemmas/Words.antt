@@ -14,7 +14,8 @@ use Rattle.rv_model.specs.declared.instructions.access.AccessInstr.TheVariants.{
 use Rattle.rv_model.specs.instructions.BitFields.{field, flag, flag_bit, Part, mask_of, fixed}
 use Rattle.rv_model.specs.instructions.Immediates.{store_immediate}
 use Rattle.rv_model.specs.instructions.Sources.{form_of, source_of, source_number}
-use Rattle.rv_model.specs.instructions.Layout.{parts, bits, filled}
+use Rattle.rv_model.specs.instructions.Layout.{parts, bits}
+use Rattle.rv_model.specs.lending.Families.{filled}
 use Rattle.rv_model.proofs.instruction_lemmas.Parts.{share_none, clear, Reads, of_word}
 
 bit_back : (n : ℕ) → n < 2 → flag_bit (nat_eq n 1) ≡ n

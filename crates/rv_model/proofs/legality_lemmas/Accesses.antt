@@ -25,12 +25,11 @@ use Rattle.rv_model.specs.vector.Configuration.{GroupType, group_type, element_w
 use Rattle.rv_model.specs.lending.GroupBounds.{HasRoom, IsInside, SegmentsInside, emul}
 use Rattle.rv_model.specs.legality.Legality.{data_role, indexed_role, is_legal, operands, unit_role}
 use Rattle.rv_model.specs.legality.OperandShapes.{field_groups, group, mask, v0}
-use Rattle.rv_model.specs.legality.RegisterOperands.{IsGroup}
 use Rattle.rv_model.specs.vector.Registers.{registers}
 use Rattle.rv_model.specs.vector.TypeNames.{lmuls, sews}
 use Rattle.rv_model.proofs.assembler_lemmas.Naming.{all_at}
 use Rattle.rv_model.proofs.legality_lemmas.Bounds.{emul-sew, fewer, first_of, inside, length_below, second_of, whole_elements}
-use Rattle.rv_model.proofs.legality_lemmas.Meaning.{is_legal_means}
+use Rattle.rv_model.proofs.legality_lemmas.Meaning.{IsGroup, groups_are, is_legal_means}
 
 -- ---- groups of elements of another width than SEW
 
@@ -101,14 +100,14 @@ pub unit_inside : (op : UnitOp) (w : Eew) (nf vd rs1 : ℕ) (vm : Bool) (t : VTy
     → is_legal (instr.Access (UnitStride op w nf vd rs1 vm)) (Some t) vstart ≡ true → vl ≤ vlmax t → SegmentsInside (access_type t w) vd nf vl
 unfolding operands
 unit_inside op w nf vd rs1 vm t vstart vl legal h =
-    let groups = ((is_legal_means (instr.Access (UnitStride op w nf vd rs1 vm)) (Some t) vstart).0 legal).operands.groups in
+    let groups = groups_are ((is_legal_means (instr.Access (UnitStride op w nf vd rs1 vm)) (Some t) vstart).0 legal).operands in
     segments_inside (unit_role op) (element_width w) (access_type t w).emul vd nf vl t refl h (first_of (field_groups (unit_role op) (nf + 1) vd (access_type t w)) (v0 vm) groups)
 
 pub strided_inside : (direction : Direction) (w : Eew) (nf vd rs1 rs2 : ℕ) (vm : Bool) (t : VType) (vstart vl : ℕ)
     → is_legal (instr.Access (Strided direction w nf vd rs1 rs2 vm)) (Some t) vstart ≡ true → vl ≤ vlmax t → SegmentsInside (access_type t w) vd nf vl
 unfolding operands
 strided_inside direction w nf vd rs1 rs2 vm t vstart vl legal h =
-    let groups = ((is_legal_means (instr.Access (Strided direction w nf vd rs1 rs2 vm)) (Some t) vstart).0 legal).operands.groups in
+    let groups = groups_are ((is_legal_means (instr.Access (Strided direction w nf vd rs1 rs2 vm)) (Some t) vstart).0 legal).operands in
     segments_inside (data_role direction) (element_width w) (access_type t w).emul vd nf vl t refl h (first_of (field_groups (data_role direction) (nf + 1) vd (access_type t w)) (v0 vm) groups)
 
 -- the indices of an indexed access: a group inside the file, with room for the elements before vl
@@ -126,7 +125,7 @@ pub indexed_inside : (direction : Direction) (order : Order) (w : Eew) (nf vd rs
     → is_legal (instr.Access (Indexed direction order w nf vd rs1 vs2 vm)) (Some t) vstart ≡ true → vl ≤ vlmax t → IndexedInside w nf vd vs2 t vl
 unfolding operands
 indexed_inside direction order w nf vd rs1 vs2 vm t vstart vl legal h =
-    let groups = ((is_legal_means (instr.Access (Indexed direction order w nf vd rs1 vs2 vm)) (Some t) vstart).0 legal).operands.groups in
+    let groups = groups_are ((is_legal_means (instr.Access (Indexed direction order w nf vd rs1 vs2 vm)) (Some t) vstart).0 legal).operands in
     let fields = field_groups (indexed_role direction nf) (nf + 1) vd (group_type t) in
     let indices = second_of fields (group Read vs2 (access_type t w)) (v0 vm) groups in
     record {
@@ -153,14 +152,14 @@ pub whole_load_inside : (count : RegisterCount) (w : Eew) (vd rs1 : ℕ) (t : Op
     → is_legal (instr.Access (WholeLoad count w vd rs1)) t vstart ≡ true → vd + register_count count ≤ VECTOR_REGISTERS
 unfolding operands
 whole_load_inside count w vd rs1 t vstart legal =
-    let groups = ((is_legal_means (instr.Access (WholeLoad count w vd rs1)) t vstart).0 legal).operands.groups in
+    let groups = groups_are ((is_legal_means (instr.Access (WholeLoad count w vd rs1)) t vstart).0 legal).operands in
     subst (λ n. vd + n ≤ VECTOR_REGISTERS) (whole_registers count) (groups 0 (mask Read 0) (lit< tt)).inside
 
 pub whole_store_inside : (count : RegisterCount) (vd rs1 : ℕ) (t : Option VType) (vstart : ℕ)
     → is_legal (instr.Access (WholeStore count vd rs1)) t vstart ≡ true → vd + register_count count ≤ VECTOR_REGISTERS
 unfolding operands
 whole_store_inside count vd rs1 t vstart legal =
-    let groups = ((is_legal_means (instr.Access (WholeStore count vd rs1)) t vstart).0 legal).operands.groups in
+    let groups = groups_are ((is_legal_means (instr.Access (WholeStore count vd rs1)) t vstart).0 legal).operands in
     subst (λ n. vd + n ≤ VECTOR_REGISTERS) (whole_registers count) (groups 0 (mask Read 0) (lit< tt)).inside
 
 -- a mask is one register
@@ -168,5 +167,5 @@ pub mask_memory_inside : (direction : Direction) (vd rs1 : ℕ) (t : VType) (vst
     → is_legal (instr.Access (MaskAccess direction vd rs1)) (Some t) vstart ≡ true → vd + 1 ≤ VECTOR_REGISTERS
 unfolding operands
 mask_memory_inside direction vd rs1 t vstart legal =
-    let groups = ((is_legal_means (instr.Access (MaskAccess direction vd rs1)) (Some t) vstart).0 legal).operands.groups in
+    let groups = groups_are ((is_legal_means (instr.Access (MaskAccess direction vd rs1)) (Some t) vstart).0 legal).operands in
     (groups 0 (mask Read 0) (lit< tt)).inside

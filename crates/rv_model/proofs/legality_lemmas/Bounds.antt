@@ -36,17 +36,17 @@ use Rattle.rv_model.specs.declared.vector.types.Sew.{Sew}
 use Rattle.rv_model.specs.declared.vector.types.Sew.TheVariants.{E8, E16, E32, E64}
 use Rattle.rv_model.specs.declared.vector.types.VType.{VType}
 use Rattle.rv_model.specs.declared.vector.sizes.TheConstants.{GROUP_BYTES, VECTOR_REGISTERS, VLEN, VLENB}
-use Rattle.rv_model.specs.legality.Legality.{extension_source, operands, is_legal, move_operands}
-use Rattle.rv_model.specs.legality.OperandShapes.{destination, first_source, group, mask, permute_shape, shape_operands, v0, vector_source}
+use Rattle.rv_model.specs.legality.Legality.{extension_source, operands, is_legal}
+use Rattle.rv_model.specs.legality.OperandShapes.{destination, first_source, group, mask, second_source, shape_of, shape_operands, v0, vector_source}
 use Rattle.rv_model.specs.vector.Registers.{registers}
-use Rattle.rv_model.specs.legality.RegisterOperands.{IsGroup}
 use Rattle.rv_model.specs.lending.GroupBounds.{HasIndices, HasRoom, HoldsBody, IsInside, SourceIsInside}
 use mir.Val.{bits}
 use Rattle.std.specs.Int.{Width, w16}
 use Rattle.rv_model.specs.elements.PermutationResults.{source_type}
-use Rattle.rv_model.specs.vector.Groups.{doubled, extension_divisor, halved, index_type, part_type, part_width, single_type, wide_type}
-use Rattle.rv_model.specs.vector.Configuration.{Configuration, GroupType, group_type, IsConfiguration, IsLength, sew_bits, sew_width, width_bytes, lmul_eighths, vlmax}
-use Rattle.rv_model.proofs.legality_lemmas.Meaning.{is_legal_means}
+use Rattle.rv_model.specs.vector.Groups.{doubled, extension_divisor, halved, part_type, part_width, single_type, wide_type, with_width}
+use Rattle.rv_model.specs.vector.Configuration.{Configuration, GroupType, group_type, IsConfiguration, sew_bits, sew_width, width_bytes, lmul_eighths, vlmax}
+use Rattle.rv_model.proofs.vector_lemmas.Lengths.{IsLength}
+use Rattle.rv_model.proofs.legality_lemmas.Meaning.{IsGroup, groups_are, is_legal_means}
 
 -- elements of SEW have the vector type's multiplier
 pub emul-sew : (s : Sew) (e : ℕ) → sew_bits s * e / sew_bits s ≡ e
@@ -131,37 +131,37 @@ pub binary_inside : (op : BinaryOp) (from : Source) (vd vs2 : ℕ) (vm : Bool) (
     → is_legal (instr.Vector (Arith (vector_op.Binary op, from) vd vs2 vm)) (Some t) vstart ≡ true → SingleInside vd vs2 from t
 unfolding operands
 binary_inside op from vd vs2 vm t vstart h =
-    single_inside vd vs2 from vm t ((is_legal_means (instr.Vector (Arith (vector_op.Binary op, from) vd vs2 vm)) (Some t) vstart).0 h).operands.groups
+    single_inside vd vs2 from vm t (groups_are ((is_legal_means (instr.Vector (Arith (vector_op.Binary op, from) vd vs2 vm)) (Some t) vstart).0 h).operands)
 
 pub fixed_point_inside : (op : FixedPointOp) (from : Source) (vd vs2 : ℕ) (vm : Bool) (t : VType) (vstart : ℕ)
     → is_legal (instr.Vector (Arith (vector_op.FixedPoint op, from) vd vs2 vm)) (Some t) vstart ≡ true → SingleInside vd vs2 from t
 unfolding operands
 fixed_point_inside op from vd vs2 vm t vstart h =
-    single_inside vd vs2 from vm t ((is_legal_means (instr.Vector (Arith (vector_op.FixedPoint op, from) vd vs2 vm)) (Some t) vstart).0 h).operands.groups
+    single_inside vd vs2 from vm t (groups_are ((is_legal_means (instr.Vector (Arith (vector_op.FixedPoint op, from) vd vs2 vm)) (Some t) vstart).0 h).operands)
 
 pub multiply_add_inside : (op : MultiplyAddOp) (from : Source) (vd vs2 : ℕ) (vm : Bool) (t : VType) (vstart : ℕ)
     → is_legal (instr.Vector (Arith (vector_op.MultiplyAdd op, from) vd vs2 vm)) (Some t) vstart ≡ true → SingleInside vd vs2 from t
 unfolding operands
 multiply_add_inside op from vd vs2 vm t vstart h =
-    single_inside vd vs2 from vm t ((is_legal_means (instr.Vector (Arith (vector_op.MultiplyAdd op, from) vd vs2 vm)) (Some t) vstart).0 h).operands.groups
+    single_inside vd vs2 from vm t (groups_are ((is_legal_means (instr.Vector (Arith (vector_op.MultiplyAdd op, from) vd vs2 vm)) (Some t) vstart).0 h).operands)
 
 pub carry_inside : (op : CarryOp) (from : Source) (vd vs2 : ℕ) (t : VType) (vstart : ℕ)
     → is_legal (instr.Vector (Carry (op, from) vd vs2)) (Some t) vstart ≡ true → SingleInside vd vs2 from t
 unfolding operands
 carry_inside op from vd vs2 t vstart h =
-    single_inside vd vs2 from false t ((is_legal_means (instr.Vector (Carry (op, from) vd vs2)) (Some t) vstart).0 h).operands.groups
+    single_inside vd vs2 from false t (groups_are ((is_legal_means (instr.Vector (Carry (op, from) vd vs2)) (Some t) vstart).0 h).operands)
 
 pub compare_inside : (op : CompareOp) (from : Source) (vd vs2 : ℕ) (vm : Bool) (t : VType) (vstart : ℕ)
     → is_legal (instr.Vector (Arith (vector_op.Compare op, from) vd vs2 vm)) (Some t) vstart ≡ true → SourcesInside vs2 from t
 unfolding operands
 compare_inside op from vd vs2 vm t vstart h =
-    compared_inside vd vs2 from vm t ((is_legal_means (instr.Vector (Arith (vector_op.Compare op, from) vd vs2 vm)) (Some t) vstart).0 h).operands.groups
+    compared_inside vd vs2 from vm t (groups_are ((is_legal_means (instr.Vector (Arith (vector_op.Compare op, from) vd vs2 vm)) (Some t) vstart).0 h).operands)
 
 pub carry_out_inside : (op : CarryOutOp) (from : Source) (vd vs2 : ℕ) (vm : Bool) (t : VType) (vstart : ℕ)
     → is_legal (instr.Vector (Arith (vector_op.CarryOut op, from) vd vs2 vm)) (Some t) vstart ≡ true → SourcesInside vs2 from t
 unfolding operands
 carry_out_inside op from vd vs2 vm t vstart h =
-    compared_inside vd vs2 from vm t ((is_legal_means (instr.Vector (Arith (vector_op.CarryOut op, from) vd vs2 vm)) (Some t) vstart).0 h).operands.groups
+    compared_inside vd vs2 from vm t (groups_are ((is_legal_means (instr.Vector (Arith (vector_op.CarryOut op, from) vd vs2 vm)) (Some t) vstart).0 h).operands)
 
 -- the destination and the source of a move
 pub record MoveInside (vd : ℕ) (from : Source) (t : VType) : Type 0 where
@@ -170,9 +170,9 @@ pub record MoveInside (vd : ℕ) (from : Source) (t : VType) : Type 0 where
 
 pub move_inside : (from : Source) (vd : ℕ) (t : VType) (vstart : ℕ) → is_legal (instr.Vector (Move from vd)) (Some t) vstart ≡ true → MoveInside vd from t
 unfolding operands
-move_inside from vd t vstart h = named from ((is_legal_means (instr.Vector (Move from vd)) (Some t) vstart).0 h).operands.groups
+move_inside from vd t vstart h = named from (groups_are ((is_legal_means (instr.Vector (Move from vd)) (Some t) vstart).0 h).operands)
   where
-    named : (from : Source) → All IsGroup (move_operands from vd t) → MoveInside vd from t
+    named : (from : Source) → All IsGroup (destination Single vd t ∷ second_source Single from t) → MoveInside vd from t
     named (source.V vs1) g = record {
       destination = sew_group vd t (g 0 (mask Read 0) (lit< tt)).inside;
       second = second_inside Single (source.V vs1) t (inl refl) (g 1 (mask Read 0) (lit< tt));
@@ -397,13 +397,13 @@ pub widen_inside : (op : WidenOp) (from : Source) (vd vs2 : ℕ) (vm : Bool) (t 
     → is_legal (instr.Vector (Arith (vector_op.Widen op, from) vd vs2 vm)) (Some t) vstart ≡ true → WideningInside vd vs2 from t
 unfolding operands
 widen_inside op from vd vs2 vm t vstart h =
-    widening_inside vd vs2 from vm t ((is_legal_means (instr.Vector (Arith (vector_op.Widen op, from) vd vs2 vm)) (Some t) vstart).0 h).operands.groups
+    widening_inside vd vs2 from vm t (groups_are ((is_legal_means (instr.Vector (Arith (vector_op.Widen op, from) vd vs2 vm)) (Some t) vstart).0 h).operands)
 
 pub widen_multiply_add_inside : (op : WidenMultiplyAddOp) (from : Source) (vd vs2 : ℕ) (vm : Bool) (t : VType) (vstart : ℕ)
     → is_legal (instr.Vector (Arith (vector_op.WidenMultiplyAdd op, from) vd vs2 vm)) (Some t) vstart ≡ true → WideningInside vd vs2 from t
 unfolding operands
 widen_multiply_add_inside op from vd vs2 vm t vstart h =
-    widening_inside vd vs2 from vm t ((is_legal_means (instr.Vector (Arith (vector_op.WidenMultiplyAdd op, from) vd vs2 vm)) (Some t) vstart).0 h).operands.groups
+    widening_inside vd vs2 from vm t (groups_are ((is_legal_means (instr.Vector (Arith (vector_op.WidenMultiplyAdd op, from) vd vs2 vm)) (Some t) vstart).0 h).operands)
 
 -- the operands of operations whose result and first source have twice the width
 pub record WideSourceInside (vd vs2 : ℕ) (from : Source) (t : VType) : Type 0 where
@@ -417,7 +417,7 @@ pub wide_source_inside : (op : WideSourceOp) (from : Source) (vd vs2 : ℕ) (vm 
 unfolding operands
 wide_source_inside op from vd vs2 vm t vstart h =
     let legal = (is_legal_means (instr.Vector (Arith (vector_op.WideSource op, from) vd vs2 vm)) (Some t) vstart).0 h in
-    let g = shape_groups WideSource vd vs2 from vm t legal.operands.groups in
+    let g = shape_groups WideSource vd vs2 from vm t (groups_are legal.operands) in
     record {
       double = has_double Write vd t g.target;
       destination = wide_group vd t g.target.inside;
@@ -446,13 +446,13 @@ pub narrow_shift_inside : (op : NarrowShiftOp) (from : Source) (vd vs2 : ℕ) (v
     → is_legal (instr.Vector (Arith (vector_op.NarrowShift op, from) vd vs2 vm)) (Some t) vstart ≡ true → NarrowingInside vd vs2 from t
 unfolding operands
 narrow_shift_inside op from vd vs2 vm t vstart h =
-    narrowing_inside vd vs2 from vm t ((is_legal_means (instr.Vector (Arith (vector_op.NarrowShift op, from) vd vs2 vm)) (Some t) vstart).0 h).operands.groups
+    narrowing_inside vd vs2 from vm t (groups_are ((is_legal_means (instr.Vector (Arith (vector_op.NarrowShift op, from) vd vs2 vm)) (Some t) vstart).0 h).operands)
 
 pub clip_inside : (op : ClipOp) (from : Source) (vd vs2 : ℕ) (vm : Bool) (t : VType) (vstart : ℕ)
     → is_legal (instr.Vector (Arith (vector_op.Clip op, from) vd vs2 vm)) (Some t) vstart ≡ true → NarrowingInside vd vs2 from t
 unfolding operands
 clip_inside op from vd vs2 vm t vstart h =
-    narrowing_inside vd vs2 from vm t ((is_legal_means (instr.Vector (Arith (vector_op.Clip op, from) vd vs2 vm)) (Some t) vstart).0 h).operands.groups
+    narrowing_inside vd vs2 from vm t (groups_are ((is_legal_means (instr.Vector (Arith (vector_op.Clip op, from) vd vs2 vm)) (Some t) vstart).0 h).operands)
 
 -- ---- reductions, whose destination is one register, and operations on one mask
 
@@ -473,7 +473,7 @@ pub reduce_inside : (op : ReduceOp) (from : Source) (vd vs2 : ℕ) (vm : Bool) (
 unfolding operands
 reduce_inside op from vd vs2 vm t vstart h =
     let legal = (is_legal_means (instr.Vector (Arith (vector_op.Reduce op, from) vd vs2 vm)) (Some t) vstart).0 h in
-    let g = shape_groups Reduction vd vs2 from vm t legal.operands.groups in
+    let g = shape_groups Reduction vd vs2 from vm t (groups_are legal.operands) in
     record { first = sew_group vs2 t g.first.inside; second = first_inside Reduction (sew_width t.sew) from t (λ vs1. refl) g.second }
 
 -- the sources of a reduction to twice the width
@@ -487,7 +487,7 @@ pub widen_reduce_inside : (op : WidenReduceOp) (from : Source) (vd vs2 : ℕ) (v
 unfolding operands
 widen_reduce_inside op from vd vs2 vm t vstart h =
     let legal = (is_legal_means (instr.Vector (Arith (vector_op.WidenReduce op, from) vd vs2 vm)) (Some t) vstart).0 h in
-    let g = shape_groups WideReduction vd vs2 from vm t legal.operands.groups in
+    let g = shape_groups WideReduction vd vs2 from vm t (groups_are legal.operands) in
     record {
       narrow = wide_fits t.sew g.target.width.1;
       first = sew_group vs2 t g.first.inside;
@@ -498,14 +498,14 @@ pub iota_inside : (vd vs2 : ℕ) (vm : Bool) (t : VType) (vstart : ℕ)
     → is_legal (instr.Vector (MaskUnary mask_unary.Viota vd vs2 vm)) (Some t) vstart ≡ true → IsInside vd (lmul_eighths t.lmul)
 unfolding operands
 iota_inside vd vs2 vm t vstart h =
-    let groups = ((is_legal_means (instr.Vector (MaskUnary mask_unary.Viota vd vs2 vm)) (Some t) vstart).0 h).operands.groups in
+    let groups = groups_are ((is_legal_means (instr.Vector (MaskUnary mask_unary.Viota vd vs2 vm)) (Some t) vstart).0 h).operands in
     sew_group vd t (first_of (group Apart vd (group_type t)) (mask Read vs2 ∷ v0 vm) groups).inside
 
 pub index_inside : (vd : ℕ) (vm : Bool) (t : VType) (vstart : ℕ)
     → is_legal (instr.Vector (ElementIndex vd vm)) (Some t) vstart ≡ true → IsInside vd (lmul_eighths t.lmul)
 unfolding operands
 index_inside vd vm t vstart h =
-    let groups = ((is_legal_means (instr.Vector (ElementIndex vd vm)) (Some t) vstart).0 h).operands.groups in
+    let groups = groups_are ((is_legal_means (instr.Vector (ElementIndex vd vm)) (Some t) vstart).0 h).operands in
     sew_group vd t (first_of (group Write vd (group_type t)) (v0 vm) groups).inside
 
 -- ---- slides and gathers
@@ -556,7 +556,7 @@ sew_indices shape (source.I imm) t vl is g h = tt
 narrow_indices : (from : Source) (t : VType) (vl : ℕ) → SecondIsGroup GatherIndices16 from t → vl ≤ vlmax t
     → HasIndices from w16 (16 * lmul_eighths t.lmul / bits (sew_width t.sew)) vl
 narrow_indices (source.V vs1) t vl g h = (
-  inside vs1 (index_type (group_type t)).emul (16 * lmul_eighths t.lmul / bits (sew_width t.sew)) refl g.inside,
+  inside vs1 (with_width w16 (group_type t)).emul (16 * lmul_eighths t.lmul / bits (sew_width t.sew)) refl g.inside,
   record { most = g.most; room = omega (arith, h, indices_fit t.sew t.lmul) },
 )
 narrow_indices (source.X rs1) t vl g h = tt
@@ -567,14 +567,14 @@ pub permute_inside : (op : PermuteOp) (from : Source) (vd vs2 : ℕ) (vm : Bool)
 unfolding operands
 permute_inside op from vd vs2 vm t vstart h =
     let legal = (is_legal_means (instr.Vector (Arith (vector_op.Permute op, from) vd vs2 vm)) (Some t) vstart).0 h in
-    by_op op (shape_groups (permute_shape op) vd vs2 from vm t legal.operands.groups)
+    by_op op (shape_groups (shape_of (vector_op.Permute op)) vd vs2 from vm t (groups_are legal.operands))
   where
     made : (op : PermuteOp) (role : Role) → IsGroup (group role vd (group_type t)) → IsGroup (group Read vs2 (group_type t))
         → ((vl : ℕ) → vl ≤ vlmax t → HasIndices from (source_type op (group_type t)).width (source_type op (group_type t)).emul vl)
         → PermuteInside op vd vs2 from t
     made op role d f i = record { destination = sew_group vd t d.inside; first = sew_group vs2 t f.inside; indices = i }
 
-    by_op : (op : PermuteOp) → ShapeGroups (permute_shape op) vd vs2 from t → PermuteInside op vd vs2 from t
+    by_op : (op : PermuteOp) → ShapeGroups (shape_of (vector_op.Permute op)) vd vs2 from t → PermuteInside op vd vs2 from t
     by_op Vrgather g = made Vrgather Apart g.target g.first (λ vl h. sew_indices Gather from t vl (λ vs1. refl) g.second h)
     by_op Vrgatherei16 g = made Vrgatherei16 Apart g.target g.first (λ vl h. narrow_indices from t vl g.second h)
     by_op Vslideup g = made Vslideup Apart g.target g.first (λ vl h. sew_indices Gather from t vl (λ vs1. refl) g.second h)
@@ -718,7 +718,7 @@ pub extension_inside : (o : ExtendOp) (vd vs2 : ℕ) (vm : Bool) (t : VType) (vs
     → is_legal (instr.Vector (Extend o vd vs2 vm)) (Some t) vstart ≡ true → ExtensionInside o vd vs2 t
 unfolding operands
 extension_inside o vd vs2 vm t vstart h =
-    let groups = ((is_legal_means (instr.Vector (Extend o vd vs2 vm)) (Some t) vstart).0 h).operands.groups in
+    let groups = groups_are ((is_legal_means (instr.Vector (Extend o vd vs2 vm)) (Some t) vstart).0 h).operands in
     let source = second_of (group Write vd (group_type t)) (extension_source o vs2 t) (v0 vm) groups in
     let same : (part_type o t).emul ≡ lmul_eighths t.lmul / extension_divisor o = emul-part o t.sew (lmul_eighths t.lmul) source.width.0 in
     record {

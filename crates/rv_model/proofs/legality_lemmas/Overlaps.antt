@@ -1,9 +1,9 @@
 -- What legality tells of the overlaps of a vector load: its mask stays, and of its indices those that are still to be used.
-use Rattle.std.specs.Prelude.{Some, nat_le, nat_lt, ◌==◌}
+use Rattle.std.specs.Prelude.{IsTrue, Some, nat_le, nat_lt, ◌==◌}
 use Rattle.std.specs.List.{list_all}
 use Rattle.std.proofs.Common.{◌≡◌, ◌∷◌, ◌⊎◌, inl, inr, ℕ, ◌+◌, ◌-◌, ◌*◌, ◌/◌, ◌%◌, ◌<◌, ◌≤◌, Bool, true, false, ◌&&◌, ◌||◌, cond, refl, sym, ap, ◌∙◌, subst, arith, lit<}
 use Rattle.std.proofs.Math.Nat.{add-mul, mod-add-div', mul_comm}
-use Rattle.std.proofs.lemmas.Bool.{and_parts, cases_order, eqb-true, leb-true, ltb-true, or_cases}
+use Rattle.std.proofs.lemmas.Bool.{and_parts, both_ways, cases_order, eqb-true, leb-true, ltb-true, or_cases}
 use Rattle.std.proofs.lemmas.Nat.{mul-le, row_fits}
 use Rattle.rv_model.specs.declared.instructions.instruction.Instr.TheVariants as instr
 use Rattle.rv_model.specs.declared.instructions.access.AccessInstr.TheVariants.{Indexed, Strided, UnitStride}
@@ -11,7 +11,7 @@ use Rattle.rv_model.specs.declared.instructions.operations.Direction.TheVariants
 use Rattle.rv_model.specs.declared.instructions.operations.Order.{Order}
 use Rattle.rv_model.specs.declared.instructions.operations.UnitOp.TheVariants as unit
 use Rattle.rv_model.specs.declared.instructions.operations.Eew.{Eew}
-use Rattle.rv_model.specs.declared.legality.Content.TheVariants.{Elements, Mask}
+use Rattle.rv_model.specs.declared.legality.Content.TheVariants.{Elements}
 use Rattle.rv_model.specs.declared.legality.Operand.{Operand}
 use Rattle.rv_model.specs.declared.legality.Role.TheVariants.{Apart, Control, Read, Write}
 use Rattle.rv_model.specs.declared.vector.sizes.TheConstants.{VLEN, VLENB}
@@ -21,12 +21,13 @@ use Rattle.rv_model.specs.declared.vector.types.VType.{VType}
 use Rattle.rv_model.specs.accesses.Restarts.{IsByteOf, LaterIndicesStay}
 use Rattle.rv_model.specs.legality.Legality.{IsLegal, indexed_role, operands}
 use Rattle.rv_model.specs.legality.OperandShapes.{field_groups, group, mask, v0}
-use Rattle.rv_model.specs.legality.RegisterOperands.{AllowsAs, IsGroup, MayOverlap, Overlap}
+use Rattle.rv_model.specs.legality.RegisterOperands.{Overlap, is_mask, may_share}
 use Rattle.rv_model.specs.vector.Groups.{access_type}
 use Rattle.rv_model.specs.vector.Configuration.{element_width, group_type, lmul_eighths, sew_bits, sew_width, vlmax, width_bytes}
 use Rattle.rv_model.specs.vector.Registers.{registers}
 use Rattle.rv_model.specs.vector.TypeNames.{lmuls, sews}
 use Rattle.rv_model.proofs.legality_lemmas.Accesses.{elements_fit, of_lmuls, of_sews}
+use Rattle.rv_model.proofs.legality_lemmas.Meaning.{IsGroup, MayOverlap, groups_are, may_overlap_means}
 use Rattle.rv_model.proofs.legality_lemmas.Bounds.{before_end0, before_end1, emul-sew, first_of, second_of}
 use Rattle.rv_model.specs.lending.GroupBounds.{emul}
 
@@ -92,9 +93,9 @@ byte_register first n f z k v i b hf hi room h =
 
 -- ---- the mask
 
-clear : (b : Bool) (d s : Operand) (w : ℕ) → d.content ≡ Elements w → AllowsAs (cond b Write Apart) Control d s → ¬ Overlap d s
-clear true d s w e h o = let c : d.content ≡ Mask = h o in absurd (cc)
-clear false d s w e h o = h o
+clear : (b : Bool) (d s : Operand) (w : ℕ) → d.content ≡ Elements w → (Overlap d s → IsTrue (may_share (cond b Write Apart) Control d s)) → ¬ Overlap d s
+clear true d s w e h o = absurd (both_ways false refl (subst (λ c. IsTrue (is_mask c)) e (h o)))
+clear false d s w e h o = absurd (both_ways false refl (h o))
 
 above_v0 : (d : Operand) → ¬ Overlap d (mask Control 0) → 1 ≤ d.fields → 1 ≤ d.first
 above_v0 d h some = elim (cases_order d.first 0) [
@@ -152,9 +153,9 @@ loaded_fields nf vd t = field_groups (indexed_role direction.Load nf) (nf + 1) v
 abbrev index_group : Eew → ℕ → VType → Operand
 index_group w vs2 t = group Read vs2 (access_type t w)
 
-may : (b : Bool) (d s : Operand) → AllowsAs (cond b Write Apart) Read d s → Overlap d s → (b ≡ true) × MayOverlap d s
-may true d s h o = (refl, h o)
-may false d s h o = absurd (h o)
+may : (b : Bool) (d s : Operand) → (Overlap d s → IsTrue (may_share (cond b Write Apart) Read d s)) → Overlap d s → (b ≡ true) × MayOverlap d s
+may true d s h o = (refl, (may_overlap_means d s).0 (h o))
+may false d s h o = absurd (both_ways false refl (h o))
 
 -- they are groups, and overlap as destinations and sources may, where there is one field
 record IndexedOperands (w : Eew) (nf vd vs2 : ℕ) (t : VType) : Type 0 where
@@ -169,8 +170,8 @@ indexed_operands order w nf vd rs1 vs2 vm t vstart legal =
     let d = loaded_fields nf vd t in
     let s = index_group w vs2 t in
     record {
-      fields = first_of d (s ∷ v0 vm) legal.operands.groups;
-      indices = second_of d s (v0 vm) legal.operands.groups;
+      fields = first_of d (s ∷ v0 vm) (groups_are legal.operands);
+      indices = second_of d s (v0 vm) (groups_are legal.operands);
       overlap = may (nf == 0) d s (legal.operands.pairs 0 d (before_end0 d (s ∷ v0 vm)) 1 d (before_end1 d s (v0 vm)));
     }
 

@@ -1,7 +1,7 @@
 -- An absent user owns no vector unit and has nothing saved: what happens to one user moves the unit for that user, and saves the
 -- state of its owner alone.
 use Rattle.std.proofs.Common.{◌≡◌, ◌≢◌, inl, inr, ℕ, zero, suc, ◌-◌, ◌≤◌, List, [], ◌∷◌, get_or, length, set, Bool, true, false, ◌&&◌, cond, eqb, Option, Some, None, Ok, Err, refl, ap, sym, ◌∙◌, subst, arith}
-use Rattle.std.specs.Prelude.{if◌then◌else◌}
+use Rattle.std.specs.Prelude.{IfSome, if◌then◌else◌}
 use Rattle.std.proofs.lemmas.Bool.{cases_eq, false≢true}
 use Rattle.std.proofs.lemmas.Bool.Decides.{nat_tests}
 use Rattle.std.proofs.lemmas.List.{get_or-replicate, get_or-set_other, set-get_or}
@@ -18,7 +18,7 @@ use Rattle.rv_model.specs.declared.step.step_end.Stop.{Stop}
 use Rattle.rv_model.specs.commands.Commands.{Parsed, carried_out, commanded, needs_stopped, of_present, parse}
 use Rattle.rv_model.specs.commands.Programs.{image_named}
 use Rattle.rv_model.specs.images.Faults.{first_fault}
-use Rattle.rv_model.specs.machine.AbsentUsers.{AbsentUsersHaveNothing, AbsentUsersLeaveTheUnit, HappeningsKeepNothing, HasNothing, NewWorldHasNothing, OwnerIsUser, ScriptsKeepNothing}
+use Rattle.rv_model.specs.machine.AbsentUsers.{AbsentUsersHaveNothing, AbsentUsersLeaveTheUnit, HappeningsKeepNothing, HasNothing, ScriptsKeepNothing}
 use Rattle.rv_model.specs.machine.Cuts.{Try, tried_in}
 use Rattle.rv_model.specs.machine.PrivateMachine.{Private, Event, Command, Slice, event, sliced, slice_ends}
 use Rattle.rv_model.specs.machine.Runs.{Halted, ticked}
@@ -26,11 +26,12 @@ use Rattle.rv_model.specs.machine.Script.{after_all, after_script, events_of, ki
 use Rattle.rv_model.specs.machine.Setup.{Image, Setup}
 use Rattle.rv_model.specs.machine.UnitEvents.{can_be_loaded, tried_steps, unit_after_command, unit_after_event, unit_after_line, unit_after_load, unit_after_registers, unit_after_running, unit_after_tries, unit_after_try, unit_of_absent, unit_of_present}
 use Rattle.rv_model.specs.machine.UserMachine.{Outcome, Present, refuses}
-use Rattle.rv_model.specs.machine.VectorUnit.{VectorUnit, is_marked, is_owned_by, owner_changed, owner_saved, unit_after_instruction, unit_changed, unit_discarded, unit_register_written, unit_touched, with_mark}
-use Rattle.rv_model.specs.machine.World.{AreUsers, World, Happening, after_events, after_one, outcome_of, unit_after, with_unit, user_machine, with_user_machine}
+use Rattle.rv_model.specs.machine.VectorUnit.{VectorUnit, is_marked, is_owned_by, owner_changed, owner_saved, unit_after_instruction, unit_discarded, unit_register_written, unit_touched, with_mark}
+use Rattle.rv_model.specs.machine.World.{World, Happening, after_events, after_one, outcome_of, unit_after, with_unit, user_machine, with_user_machine}
 use Rattle.rv_model.specs.step.Step.{dirties, fetched, touches}
 use Rattle.rv_model.specs.text.Lines.{pieces}
 use Rattle.rv_model.proofs.command_lemmas.Refusals.{IsThere, present_there}
+use Rattle.rv_model.proofs.machine_lemmas.Grants.{AreUsers}
 use Rattle.rv_model.proofs.machine_lemmas.Headline.{eight_after, eight_after_one, part_after_one, part_other, part_same, users_of}
 use Rattle.rv_model.proofs.text_lemmas.Pieces.{of_either}
 
@@ -54,6 +55,10 @@ not_owner owner u h e = false≢true (sym h ∙ ap (λ n. eqb owner n) e ∙ (le
 
 another_owns : (owner u : ℕ) → u ≢ owner → is_owned_by (Some owner) u ≡ false
 another_owns owner u h = grind (arith, nat_tests)
+
+-- the owner, if there is one, is a user
+abbrev OwnerIsUser : Option ℕ → Type 0
+OwnerIsUser o = IfSome o (λ owner. (1 ≤ owner) × (owner ≤ 8))
 
 -- ---- what moves the unit
 
@@ -99,7 +104,7 @@ module _ (user : ℕ) (low : 1 ≤ user) (high : user ≤ 8) where
       picks (is_owned_by unit.owner user) user unit unit _ (still user unit)
       (and_then user unit (owner_saved unit.owner unit) _ (saves unit.owner unit refl) (changes_owner (owner_saved unit.owner unit)))
 
-  changed : (unit : VectorUnit) → Moves user unit (unit_changed unit)
+  changed : (unit : VectorUnit) → Moves user unit (record unit { dirty = true })
   changed unit = record { owner = λ is. is; others = λ u here other is nothing. nothing }
 
   instruction : (touches changes : Bool) (unit : VectorUnit) → Moves user unit (unit_after_instruction touches changes user unit)
@@ -263,7 +268,7 @@ module _ (user : ℕ) (low : 1 ≤ user) (high : user ≤ 8) where
 
 -- ---- the laws
 
-pub new_world_has_nothing : NewWorldHasNothing
+pub new_world_has_nothing : AbsentUsersHaveNothing new_world
 unfolding new_world
 new_world_has_nothing = (tt, λ u low high absent. (refl, get_or-replicate 8 (u - 1) false false (omega (arith, low, high))))
 

@@ -11,7 +11,7 @@ use Rattle.rv_model.specs.declared.step.step_end.Stop.TheVariants as stop
 use Rattle.rv_model.specs.accesses.Restarts.{overlay}
 use Rattle.rv_model.specs.machine.Cuts.{CutsAreInvisible, IsConfigured, KeepsWordIfCut, SliceKeepsConfiguration, SlicesAddUp, Try, joined, slices, tried_in, tried_in_slices, tries}
 use Rattle.rv_model.specs.machine.PrivateMachine.{slice_ends, sliced}
-use Rattle.rv_model.specs.machine.Runs.{Following, Next, Stops, Rest, following, stop_of, at_breakpoint, recorded, after, Halted, halted, slice_steps, ticked}
+use Rattle.rv_model.specs.machine.Runs.{stop_of, at_breakpoint, recorded, after, Halted, halted, slice_steps, ticked}
 use Rattle.rv_model.specs.machine.UserMachine.{Outcome, Present, Private}
 use Rattle.rv_model.specs.memory.Memory.{Memory}
 use Rattle.rv_model.specs.declared.memory.Access.TheVariants.{Monitor}
@@ -24,7 +24,7 @@ use Rattle.rv_model.proofs.machine_lemmas.Slices.{fuel_is_enough}
 use Rattle.rv_model.proofs.step_lemmas.Configurations.{step_keeps_configuration, step_keeps_permissions}
 use Rattle.rv_model.proofs.step_lemmas.FetchesResume.{cut_step_leaves_off, fetched_step_resumes}
 use Rattle.rv_model.proofs.text_lemmas.Pieces.{of_either}
-use Rattle.rv_model.proofs.step_lemmas.StepTicks.{cut_step_takes_all_ticks, step_takes_ticks, uncut_step_is_same}
+use Rattle.rv_model.proofs.step_lemmas.StepTicks.{step_takes_ticks, steps_take_ticks}
 
 All-left : {X : Type 0} (P : X → Type 0) (xs ys : List X) → All P (xs ++ ys) → All P xs
 All-left P [] ys h = All-nil P
@@ -44,7 +44,7 @@ resumed limit later s is cut keeps =
     let left : HartState = (step limit s).state in
     let same : overlay s.memory left.memory ≡ s.memory =
     overlay_same s.memory left.memory (step_keeps_permissions Monitor limit s) in
-    let off : left.vector.vstart ≡ s.vector.vstart + limit = cut_step_leaves_off limit s is cut in
+    let off : left.vector.vstart ≡ s.vector.vstart + limit = cut_step_leaves_off limit s cut in
     let done : left.vector.vstart - s.vector.vstart ≡ limit = omega (arith, off) in
     ap (λ (m : Memory). step (limit + later) (finds m s)) (sym same)
     ∙ subst (λ (n : ℕ). step (n + later) (finds (overlay s.memory left.memory) s) ≡ after_ticks n (step later left)) done
@@ -53,7 +53,7 @@ resumed limit later s is cut keeps =
 
 -- an instruction ran, was cut, or stops the program
 ended : (e : StepEnd)
-    → ((following e ≡ Next) × (e ≢ Cut)) ⊎ ((e ≡ Cut) ⊎ ((reason : Stop) × ((following e ≡ Stops reason) × (e ≢ Cut))))
+    → ((e ≡ Ran) × (e ≢ Cut)) ⊎ ((e ≡ Cut) ⊎ ((reason : Stop) × ((stop_of e ≡ Some reason) × (e ≢ Cut))))
 ended Ran = inl (refl, λ q. cc)
 ended (Exit status) = inr (inr (stop.Exit status, (refl, λ q. cc)))
 ended Ebreak = inr (inr (stop.Ebreak, (refl, λ q. cc)))
@@ -62,21 +62,30 @@ ended OutputFull = inr (inr (stop.OutputFull, (refl, λ q. cc)))
 ended Cut = inr (inl refl)
 
 -- what an instruction that goes on leaves is what it would leave uncut
-after_resumed : (e : Following) (state half : HartState) (p : Present) → half.scalar ≡ p.hart.scalar
-    → after e state (after Rest half p) ≡ after e state p
-after_resumed Next state half p h = ap (λ x. record p { hart = state; trace = recorded p.trace x.pc; fresh = false }) h
-after_resumed (Stops reason) state half p h = refl
-after_resumed Rest state half p h = refl
+after_resumed : (e : StepEnd) (state half : HartState) (p : Present) → half.scalar ≡ p.hart.scalar
+    → after e state (after Cut half p) ≡ after e state p
+after_resumed Ran state half p h = ap (λ x. record p { hart = state; trace = recorded p.trace x.pc; fresh = false }) h
+after_resumed (Exit status) state half p h = refl
+after_resumed Ebreak state half p h = refl
+after_resumed (Fault cause pc value) state half p h = refl
+after_resumed OutputFull state half p h = refl
+after_resumed Cut state half p h = refl
 
-hart_after : (e : Following) (state : HartState) (p : Present) → (after e state p).hart ≡ state
-hart_after Next state p = refl
-hart_after (Stops reason) state p = refl
-hart_after Rest state p = refl
+hart_after : (e : StepEnd) (state : HartState) (p : Present) → (after e state p).hart ≡ state
+hart_after Ran state p = refl
+hart_after (Exit status) state p = refl
+hart_after Ebreak state p = refl
+hart_after (Fault cause pc value) state p = refl
+hart_after OutputFull state p = refl
+hart_after Cut state p = refl
 
-running_after : (e : Following) (state : HartState) (p : Present) → (after e state p).running ≡ p.running
-running_after Next state p = refl
-running_after (Stops reason) state p = refl
-running_after Rest state p = refl
+running_after : (e : StepEnd) (state : HartState) (p : Present) → (after e state p).running ≡ p.running
+running_after Ran state p = refl
+running_after (Exit status) state p = refl
+running_after Ebreak state p = refl
+running_after (Fault cause pc value) state p = refl
+running_after OutputFull state p = refl
+running_after Cut state p = refl
 
 -- ---- a run of instructions
 
@@ -87,8 +96,8 @@ is_held p = not p.fresh && at_breakpoint p
 -- what follows an instruction
 follows : ℕ → ℕ → Present → Stepped → Halted
 follows n left p one =
-    if is_none (stop_of (following one.end)) then slice_steps n (left - one.ticks) (after (following one.end) one.state p)
-    else halted (after (following one.end) one.state p) (stop_of (following one.end))
+    if is_none (stop_of one.end) then slice_steps n (left - one.ticks) (after one.end one.state p)
+    else halted (after one.end one.state p) (stop_of one.end)
 
 steps_none : (n : ℕ) (p : Present) → slice_steps n 0 p ≡ halted p None
 steps_none zero p = refl
@@ -108,7 +117,7 @@ steps_tried n (suc left) p h l = rw h refl
 -- the tries after an instruction
 tries_after : ℕ → ℕ → Present → Stepped → List Try
 tries_after n left p one =
-    if is_none (stop_of (following one.end)) then tries n (left - one.ticks) (after (following one.end) one.state p) else []
+    if is_none (stop_of one.end) then tries n (left - one.ticks) (after one.end one.state p) else []
 
 tries_tried : (n left : ℕ) (p : Present) → is_held p ≡ false → 1 ≤ left
     → tries (suc n) left p ≡ record { left = left; hart = p.hart } ∷ tries_after n left p (step left p.hart)
@@ -116,35 +125,35 @@ unfolding tries tries_after
 tries_tried n zero p h l = absurd (omega (arith, l))
 tries_tried n (suc left) p h l = rw h refl
 
-follows_on : (n left : ℕ) (p : Present) (one : Stepped) (e : Following) → following one.end ≡ e → stop_of e ≡ None
+follows_on : (n left : ℕ) (p : Present) (one : Stepped) (e : StepEnd) → one.end ≡ e → stop_of e ≡ None
     → follows n left p one ≡ slice_steps n (left - one.ticks) (after e one.state p)
 unfolding follows
 follows_on n left p one e h s = rw (h, s) refl
 
-follows_stop : (n left : ℕ) (p : Present) (one : Stepped) (reason : Stop) → following one.end ≡ Stops reason
-    → follows n left p one ≡ halted (after (Stops reason) one.state p) (Some reason)
+follows_stop : (n left : ℕ) (p : Present) (one : Stepped) (reason : Stop) → stop_of one.end ≡ Some reason
+    → follows n left p one ≡ halted (after one.end one.state p) (Some reason)
 unfolding follows
 follows_stop n left p one reason h = rw h refl
 
-tries_on : (n left : ℕ) (p : Present) (one : Stepped) → following one.end ≡ Next
-    → tries_after n left p one ≡ tries n (left - one.ticks) (after Next one.state p)
+tries_on : (n left : ℕ) (p : Present) (one : Stepped) → one.end ≡ Ran
+    → tries_after n left p one ≡ tries n (left - one.ticks) (after Ran one.state p)
 unfolding tries_after
 tries_on n left p one h = rw h refl
 
 -- what follows an instruction that was cut and goes on is what follows it uncut
 follows_resumed : (b c left more : ℕ) (p : Present) (half : HartState) (two : Stepped) → half.scalar ≡ p.hart.scalar
     → left + more ≤ suc b → more ≤ suc c → 1 ≤ left → 1 ≤ two.ticks
-    → follows b (left + more) p (after_ticks left two) ≡ follows c more (after Rest half p) two
+    → follows b (left + more) p (after_ticks left two) ≡ follows c more (after Cut half p) two
 unfolding follows
 follows_resumed b c left more p half two h lb lc some least =
     let over : (left + more) - (two.ticks + left) ≡ more - two.ticks = omega arith in
-    let whole : Present = after (following two.end) two.state p in
-    let reason : Option Stop = stop_of (following two.end) in
+    let whole : Present = after two.end two.state p in
+    let reason : Option Stop = stop_of two.end in
     ap (λ (n : ℕ). if is_none reason then slice_steps b n whole else halted whole reason) over
     ∙ ap (λ (r : Halted). if is_none reason then r else halted whole reason)
     (fuel_is_enough b c (more - two.ticks) whole (omega (arith, lb, some, least)) (omega (arith, lc, least)))
     ∙ ap (λ (q : Present). if is_none reason then slice_steps c (more - two.ticks) q else halted q reason)
-    (sym (after_resumed (following two.end) two.state half p h))
+    (sym (after_resumed two.end two.state half p h))
 
 -- a run, and then another from where it ends, unless it stopped
 abbrev goes_on : Halted → (Present → Halted) → Halted
@@ -180,35 +189,34 @@ adds (suc a) (suc b) (suc c) (suc left) more p la lb lc some is keeps =
           let each = All-same KeepsWordIfCut _ _ (sym (tries_tried a (suc left) p h here)) keeps in
           elim (ended one.end) [
             | inl (ran, uncut) ↦
-                let same = uncut_step_is_same (suc left) (suc left + more) p.hart larger uncut in
-                let q : Present = after Next one.state p in
+                let same = steps_take_ticks.more (suc left) (suc left + more) p.hart larger uncut in
+                let q : Present = after Ran one.state p in
                 let apart : (suc left + more) - one.ticks ≡ (suc left - one.ticks) + more = omega (arith, ticks.1) in
                 let rest =
                 All-same KeepsWordIfCut _ _ (sym (tries_on a (suc left) p one ran)) (All-tail KeepsWordIfCut _ _ each) in
                 whole
                 ∙ ap (follows b (suc left + more) p) same
-                ∙ follows_on b (suc left + more) p one Next ran refl
+                ∙ follows_on b (suc left + more) p one Ran ran refl
                 ∙ ap (λ (n : ℕ). slice_steps b n q) apart
                 ∙ adds a b (suc c) (suc left - one.ticks) more q (omega (arith, la, ticks.0)) (omega (arith, lb, ticks.0)) lc some
                 (step_keeps_configuration (suc left) p.hart is) rest
-                ∙ ap onwards (sym (follows_on a (suc left) p one Next ran refl))
+                ∙ ap onwards (sym (follows_on a (suc left) p one Ran ran refl))
                 ∙ first
             | inr (inl cut) ↦
                 let two : Stepped = step more one.state in
-                let spent = cut_step_takes_all_ticks (suc left) p.hart cut in
+                let spent = steps_take_ticks.cut (suc left) p.hart cut in
                 let shown = resumed (suc left) more p.hart is cut (All-head KeepsWordIfCut _ _ each cut) in
-                let rests : following one.end ≡ Rest = ap following cut in
-                let q : Present = after Rest one.state p in
+                let q : Present = after Cut one.state p in
                 let over : suc left - one.ticks ≡ 0 = omega (arith, spent.0) in
                 whole
                 ∙ ap (follows b (suc left + more) p) shown
                 ∙ follows_resumed b c (suc left) more p one.state two spent.1 lb lc here (step_takes_ticks more one.state some).0
                 ∙ sym (steps_tried c more q refl some)
                 ∙ ap onwards
-                (sym (follows_on a (suc left) p one Rest rests refl ∙ ap (λ (n : ℕ). slice_steps a n q) over ∙ steps_none a q))
+                (sym (follows_on a (suc left) p one Cut cut refl ∙ ap (λ (n : ℕ). slice_steps a n q) over ∙ steps_none a q))
                 ∙ first
             | inr (inr (reason, (stops, uncut))) ↦
-                let same = uncut_step_is_same (suc left) (suc left + more) p.hart larger uncut in
+                let same = steps_take_ticks.more (suc left) (suc left + more) p.hart larger uncut in
                 whole
                 ∙ ap (follows b (suc left + more) p) same
                 ∙ follows_stop b (suc left + more) p one reason stops
@@ -227,7 +235,7 @@ steps_run zero left p = record { running = refl; configured = λ is. is }
 steps_run (suc a) zero p = record { running = refl; configured = λ is. is }
 steps_run (suc a) (suc left) p =
     let one : Stepped = step (suc left) p.hart in
-    let end : Following = following one.end in
+    let end : StepEnd = one.end in
     let q : Present = after end one.state p in
     let rest : Runs q (slice_steps a (suc left - one.ticks) q) = steps_run a (suc left - one.ticks) q in
     let is_after : IsConfiguration p.hart.vector.conf → IsConfiguration q.hart.vector.conf =

@@ -1,16 +1,17 @@
 -- What the operator grants goes to users, and what the operator is told are lines.
 use Rattle.std.proofs.Common.{ℕ, zero, suc, ◌-◌, ◌≤◌, List, [], ◌∷◌, ◌++◌, length, Bool, true, false, Option, Some, None, Ok, Err, refl, arith}
-use Rattle.std.specs.Prelude.{drop, take, find, map, codes, flat_map, if◌then◌else◌, slice_index_or}
+use Rattle.std.specs.Prelude.{drop, take, find, map, codes, flat_map, if◌then◌else◌, slice_index_or, unwrap_or}
+use Rattle.std.specs.Option.{option_map_or}
 use Rattle.rv_model.specs.declared.commands.operator.OperatorCommand.TheVariants.{Slices, Run, List as ListUsers, Stats as ShowStats}
 use Rattle.rv_model.specs.declared.machine.standing.Standing.{Standing}
 use Rattle.rv_model.specs.declared.machine.standing.Standing.TheVariants.{Absent, Stopped, Running}
 use Rattle.rv_model.specs.declared.machine.stats.Stats.{Stats}
-use Rattle.rv_model.specs.commands.Operator.{OperatorParsed, granted_line, standing_word, listed_user, list_line, owner_number, stats_line}
-use Rattle.rv_model.specs.machine.Grants.{turns_after, next_user, runs, next_running, slice_of, granted_first, granted, grants, grants_of, standing, operator_line}
+use Rattle.rv_model.specs.commands.Operator.{OperatorParsed, granted_line, standing_word, listed_user, list_line, stats_line}
+use Rattle.rv_model.specs.machine.Grants.{turns_after, next_user, runs, next_running, slice_of, granted, grants, grants_of, standing, operator_line}
 use Rattle.rv_model.specs.machine.Users.{users}
 use Rattle.rv_model.specs.machine.VectorUnit.{stats_of}
 use Rattle.rv_model.specs.machine.Setup.{Setup}
-use Rattle.rv_model.specs.machine.World.{World, Happening, after_one, AreUsers, user_machine}
+use Rattle.rv_model.specs.machine.World.{World, Happening, after_one, user_machine}
 use Rattle.rv_model.proofs.text_lemmas.Newlines.{IsLine}
 use Rattle.rv_model.proofs.command_lemmas.Operator.{ParsedNamesUser}
 use Rattle.rv_model.proofs.command_lemmas.Printing.{no_newline_in_refusal}
@@ -58,16 +59,21 @@ next_is_user cursor flags =
     found (λ u. slice_index_or flags (u - 1) false) (turns_after cursor)
     (all-append (drop cursor users) (take cursor users) (all-drop cursor users all_users) (all-take cursor users all_users))
 
+-- all happens to users
+abbrev pub AreUsers : List Happening → Type 0
+AreUsers [] = Unit {0}
+AreUsers (h ∷ hs) = (1 ≤ h.user) × (h.user ≤ 8) × AreUsers hs
+
 pub granted_to_users : (s : Setup) (n : ℕ) (w : World) → AreUsers (granted s n w)
 unfolding granted
 granted_to_users s zero w = tt
 granted_to_users s (suc n) w =
-    first (next_running w) (λ h. granted s n (after_one s w h)) (next_is_user w.cursor (map runs w.parts))
-    (λ h. granted_to_users s n (after_one s w h))
+    first (next_running w) (next_is_user w.cursor (map runs w.parts)) (λ h. granted_to_users s n (after_one s w h))
   where
-    first : (o : Option ℕ) (others : Happening → List Happening) → IsUserIfAny o → ((h : Happening) → AreUsers (others h)) → AreUsers (granted_first o others)
-    first None others h k = tt
-    first (Some u) others h k = (h.0, h.1, k (slice_of u true))
+    first : (o : Option ℕ) → IsUserIfAny o → ((h : Happening) → AreUsers (granted s n (after_one s w h)))
+        → AreUsers (option_map_or (λ u. slice_of u true ∷ granted s n (after_one s w (slice_of u true))) o [])
+    first None h k = tt
+    first (Some u) h k = (h.0, h.1, k (slice_of u true))
 
 pub grants_to_users : (s : Setup) (w : World) (r : OperatorParsed) → ParsedNamesUser r → AreUsers (grants_of s w r)
 grants_to_users s w (Err reason) named = tt
@@ -115,7 +121,7 @@ no_newline_in_stats_line stats =
     let inits : Piece = (codes " inits ", refl) in
     let owner : Piece = (codes " owner ", refl) in
     (saves ▸ number stats.saves ▸ restores ▸ number stats.restores ▸ inits ▸ number stats.inits
-    ▸ owner ▸ number (owner_number stats.owner)).1
+    ▸ owner ▸ number (unwrap_or stats.owner 0)).1
 
 pub no_newline_in_operator_line : (s : Setup) (w : World) (r : OperatorParsed) → IsLine (operator_line s w r)
 no_newline_in_operator_line s w (Err reason) = no_newline_in_refusal reason

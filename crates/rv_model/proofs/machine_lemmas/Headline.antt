@@ -8,7 +8,7 @@ use Rattle.rv_model.specs.text.Lines.{pieces, text}
 use Rattle.rv_model.proofs.text_lemmas.Newlines.{AreLines}
 use Rattle.rv_model.specs.machine.Setup.{Setup}
 use Rattle.rv_model.specs.machine.PrivateMachine.{Private, Event, event, solo_from, solo, end_of}
-use Rattle.rv_model.specs.machine.Script.{World, new_world, with_unit, Kind, Empty, Long, Bad, Operator, Of, prefixed, kind_of, events_of, common, Happening, outcome_of, unit_after, after_one, after_events, told_by, told, after_all, told_all, schedule, whole_from, after_script, mine, own_from, own, lines, AreUsers, user_machine, with_user_machine, world_after}
+use Rattle.rv_model.specs.machine.Script.{World, new_world, with_unit, Kind, Empty, Long, Bad, Operator, Of, prefixed, kind_of, events_of, common, Happening, outcome_of, unit_after, after_one, after_events, told_by, told, after_all, told_all, schedule, whole_from, after_script, mine, own_from, own, lines, user_machine, with_user_machine, world_after}
 use Rattle.rv_model.specs.machine.Laws.{EachUserAlone, EachNewUserAlone, EachUserEndsAlone, OthersChangeNothing, EqualPartsAnswerAlike, MachinesStayEight}
 use Rattle.rv_model.proofs.text_lemmas.Lines.{lines_text}
 use Rattle.rv_model.specs.commands.Operator.{operator_parse}
@@ -16,7 +16,7 @@ use Rattle.rv_model.specs.machine.Grants.{operator_line}
 use Rattle.rv_model.proofs.command_lemmas.Operator.{parsed_names_user}
 use Rattle.rv_model.proofs.command_lemmas.Printing.{one_line}
 use Rattle.rv_model.proofs.machine_lemmas.EventLines.{event_lines}
-use Rattle.rv_model.proofs.machine_lemmas.Grants.{grants_to_users, no_newline_in_operator_line}
+use Rattle.rv_model.proofs.machine_lemmas.Grants.{AreUsers, grants_to_users, no_newline_in_operator_line}
 
 pub no_newline : (v : ℕ) → eqb (48 + v) 10 ≡ false
 no_newline v = grind (arith, nat_tests)

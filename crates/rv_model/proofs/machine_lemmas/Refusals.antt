@@ -2,6 +2,7 @@
 use Rattle.std.proofs.Common.{◌≡◌, inl, inr, ℕ, zero, suc, ◌+◌, ◌-◌, ◌<◌, List, [], ◌∷◌, ◌++◌, get_or, length, drop, map, Bool, true, false, eqb, Option, Some, None, Ok, Err, refl, ap, sym, ◌∙◌, subst, append_assoc, arith}
 use Rattle.std.specs.Prelude.{not, if◌then◌else◌}
 use Rattle.std.specs.List.{Any}
+use Rattle.std.specs.Option.{option_map_or}
 use Rattle.std.proofs.lemmas.Bool.{and_from, and_parts, false≢true}
 use Rattle.std.proofs.lemmas.List.{append-nil, set-get_or}
 use Rattle.rv_model.specs.declared.commands.operator.OperatorCommand.{OperatorCommand}
@@ -10,16 +11,16 @@ use Rattle.rv_model.specs.declared.step.step_end.Stop.{Stop}
 use Rattle.rv_model.specs.commands.Commands.{parse}
 use Rattle.rv_model.specs.commands.Operator.{OperatorParsed, granted_line, list_line, operator_parse, stats_line}
 use Rattle.rv_model.specs.commands.Printing.{stop_line}
-use Rattle.rv_model.specs.machine.Grants.{granted, granted_first, grants, grants_of, next_running, operator_line, runs, slice_of}
+use Rattle.rv_model.specs.machine.Grants.{granted, grants, grants_of, next_running, operator_line, runs, slice_of}
 use Rattle.rv_model.specs.machine.PrivateMachine.{Private, Outcome, Event, Command, Slice, event, sliced, slice_ends}
-use Rattle.rv_model.specs.machine.Refusals.{answers_in, IsRefusal, RefusedHappeningsChangeNothing, RefusedLinesChangeNothing}
+use Rattle.rv_model.specs.machine.Refusals.{IsRefusal, RefusedHappeningsChangeNothing, RefusedLinesChangeNothing}
 use Rattle.rv_model.specs.machine.Runs.{Halted, ticked}
 use Rattle.rv_model.specs.machine.Script.{Kind, Empty, Long, Bad, Operator, Of, commands, common, events_of, kind_of, told, world_after}
 use Rattle.rv_model.specs.machine.Setup.{Setup}
 use Rattle.rv_model.specs.machine.UnitEvents.{unit_after_event}
 use Rattle.rv_model.specs.machine.VectorUnit.{VectorUnit}
 use Rattle.rv_model.specs.machine.World.{World, Happening, after_events, after_one, outcome_of, told_by, unit_after, with_unit, user_machine, with_user_machine}
-use Rattle.rv_model.specs.text.Lines.{is_newline, tagged, text}
+use Rattle.rv_model.specs.text.Lines.{is_newline, pieces, tagged, text}
 use Rattle.rv_model.proofs.text_lemmas.Newlines.{is_line, are_lines, AreLines, IsLine}
 use Rattle.rv_model.proofs.command_lemmas.Printing.{one_line}
 use Rattle.rv_model.proofs.command_lemmas.Refusals.{are_plain, commanded_settles, is_plain, plain_line, stop_line_plain, Settles}
@@ -30,6 +31,10 @@ use Rattle.rv_model.proofs.text_lemmas.Lines.{pieces_at}
 use Rattle.rv_model.proofs.text_lemmas.Pieces.{of_either}
 
 -- ---- the answers of an output
+
+-- each without the digit or the star, and without the space
+abbrev answers_in : List ℕ → List (List ℕ)
+answers_in output = map (λ line. drop 2 line) (pieces output)
 
 plain_at : (answers : List (List ℕ)) (k : ℕ) (d : List ℕ) → are_plain answers ≡ true → k < length answers
     → is_plain (get_or answers k d) ≡ true
@@ -125,12 +130,12 @@ granted_are_slices : (s : Setup) (n : ℕ) (w : World) → AreSlices (granted s 
 unfolding granted
 granted_are_slices s zero w = tt
 granted_are_slices s (suc n) w =
-    first (next_running w) (λ h. granted s n (after_one s w h)) (λ h. granted_are_slices s n (after_one s w h))
+    first (next_running w) (λ h. granted_are_slices s n (after_one s w h))
   where
-    first : (o : Option ℕ) (others : Happening → List Happening) → ((h : Happening) → AreSlices (others h))
-        → AreSlices (granted_first o others)
-    first None others k = tt
-    first (Some u) others k = (refl, k (slice_of u true))
+    first : (o : Option ℕ) → ((h : Happening) → AreSlices (granted s n (after_one s w h)))
+        → AreSlices (option_map_or (λ u. slice_of u true ∷ granted s n (after_one s w (slice_of u true))) o [])
+    first None k = tt
+    first (Some u) k = (refl, k (slice_of u true))
 
 grants_are_slices : (s : Setup) (w : World) (c : OperatorCommand) → AreSlices (grants s w c)
 grants_are_slices s w (Slices n) = granted_are_slices s n w

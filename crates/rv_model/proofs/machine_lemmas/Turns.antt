@@ -3,13 +3,14 @@ use Rattle.std.proofs.Common.{◌≡◌, ◌≢◌, inl, inr, ℕ, zero, suc, �
 use Rattle.std.specs.Prelude.{find, filter, map, if◌then◌else◌, ◌==◌, ◌&&◌, slice_index_or}
 use Rattle.std.proofs.lemmas.Bool.{agree_below_at, cases_Bool, cases_eq, eqb-true, false≢true}
 use Rattle.std.proofs.lemmas.Option.{same_Some}
+use Rattle.std.specs.Option.{option_map_or}
 use Rattle.rv_model.specs.declared.commands.operator.OperatorCommand.TheVariants.{Slices, Run, List as ListUsers, Stats as ShowStats}
 use Rattle.rv_model.specs.commands.Operator.{operator_parse}
-use Rattle.rv_model.specs.machine.Grants.{turns_after, next_user, runs, next_running, slice_of, granted_first, granted}
-use Rattle.rv_model.specs.machine.PrivateMachine.{Private}
+use Rattle.rv_model.specs.machine.Grants.{turns_after, next_user, runs, next_running, slice_of, granted}
+use Rattle.rv_model.specs.machine.PrivateMachine.{Private, Slice}
 use Rattle.rv_model.specs.machine.Script.{Kind, Empty, Long, Bad, Operator, Of, kind_of, events_of, schedule, world_after}
 use Rattle.rv_model.specs.machine.Setup.{Setup}
-use Rattle.rv_model.specs.machine.Turns.{AtEachTurn, IsTurn, AreInTurn, RunsAtEachTurn, turns, turns_of, NobodyHasTwoTurns, EachRunningUserHasATurn, GrantsAreInTurn, ScriptsAreInTurn, OneTurnBetweenTurns}
+use Rattle.rv_model.specs.machine.Turns.{AtEachTurn, AreInTurn, RunsAtEachTurn, turns_of, NobodyHasTwoTurns, EachRunningUserHasATurn, GrantsAreInTurn, ScriptsAreInTurn, OneTurnBetweenTurns}
 use Rattle.rv_model.specs.machine.World.{World, Happening, with_unit, outcome_of, unit_after, after_one, after_events, user_machine, with_user_machine}
 use Rattle.rv_model.specs.text.Lines.{pieces}
 use Rattle.rv_model.proofs.machine_lemmas.Grants.{IsUser, IsUserIfAny, next_is_user}
@@ -89,6 +90,10 @@ count u (x ∷ xs) = (if x == u then 1 else 0) + count u xs
 abbrev NoneIsLater : ℕ → ℕ → List ℕ → Type 0
 NoneIsLater u cursor [] = Unit {0}
 NoneIsLater u cursor (x ∷ xs) = IsUser x × (cursor ≤ 8 → ahead cursor x ≤ ahead cursor u) × NoneIsLater u x xs
+
+-- how many turns there are
+abbrev turns : List Happening → ℕ
+turns hs = length (filter (λ h. h.turn) hs)
 
 turns_are : (hs : List Happening) → turns hs ≡ length (takers hs)
 turns_are [] = refl
@@ -181,6 +186,10 @@ below_eight u cursor (x ∷ xs) is_u turns none =
 
 -- ---- the turns of happenings
 
+-- a slice of the user whose turn it is
+abbrev IsTurn : World → Happening → Type 0
+IsTurn w h = (h.event ≡ Slice) × (next_running w ≡ Some h.user)
+
 cursor_after_turn : (turn : Bool) (u : ℕ) (w : World)
     → (if turn then record w { cursor = u } else w).cursor ≡ (if turn then u else w.cursor)
 cursor_after_turn true u w = refl
@@ -235,7 +244,7 @@ granted_in_turn s (suc n) w = first (next_running w) refl (λ h. granted_in_turn
   where
     first : (o : Option ℕ) → next_running w ≡ o
         → ((h : Happening) → AreInTurn s (after_one s w h) (granted s n (after_one s w h)))
-        → AreInTurn s w (granted_first o (λ h. granted s n (after_one s w h)))
+        → AreInTurn s w (option_map_or (λ u. slice_of u true ∷ granted s n (after_one s w (slice_of u true))) o [])
     first None next rest = tt
     first (Some u) next rest = (λ _. (refl, next), rest (slice_of u true))
 

@@ -1,7 +1,8 @@
 -- Whichever the instruction is, the vector length stays one of the vector type, and what is allowed at an address stays.
-use Rattle.std.proofs.Common.{◌≡◌, ℕ, ◌+◌, ◌*◌, ◌%◌, ◌^◌, ◌≤◌, Bool, true, false, ◌&&◌, ◌||◌, ◌==◌, cond, Option, Some, None, refl, sym, ap, subst, arith}
-use Rattle.std.specs.Int.{byte_len}
-use Rattle.std.specs.Prelude.{nat_lt, not, ⊤}
+use Rattle.std.proofs.Common.{◌≡◌, ℕ, ◌*◌, ◌%◌, ◌^◌, ◌≤◌, Bool, true, false, ◌&&◌, ◌||◌, ◌==◌, cond, Option, Some, None, refl, sym, ap, subst, arith}
+use Rattle.std.specs.Int.{byte_len, w64, to_le_bytes}
+use Rattle.std.specs.Prelude.{nat_le, nat_lt, not, ⊤}
+use Rattle.std.specs.Option.{option_map_or}
 use Rattle.std.proofs.lemmas.Bool.{eqb-true, leb-true}
 use Rattle.rv_model.specs.accesses.VectorAccess.{VectorAccess, access_of}
 use Rattle.rv_model.specs.declared.instructions.instruction.Instr.{Instr}
@@ -35,23 +36,27 @@ use Rattle.rv_model.specs.declared.vector.types.Lmul.{Lmul}
 use Rattle.rv_model.specs.declared.vector.types.Sew.{Sew}
 use Rattle.rv_model.specs.declared.vector.types.VType.{VType}
 use Rattle.rv_model.specs.instructions.BitFields.{field}
-use Rattle.rv_model.specs.instructions.Immediates.{i_immediate, s_immediate}
+use Rattle.rv_model.specs.instructions.Immediates.{b_immediate, i_immediate, j_immediate, s_immediate}
 use Rattle.rv_model.specs.instructions.Table.{scan, table}
 use Rattle.rv_model.specs.legality.Legality.{is_legal}
 use Rattle.rv_model.specs.memory.Memory.{Memory, can_access, can_access_byte}
-use Rattle.rv_model.specs.scalar.ControlTransfer.{branch_target, is_aligned, is_taken, jump_target, register_target}
-use Rattle.rv_model.specs.scalar.LoadsAndStores.{access_address, load_width, store_width, stored_bytes}
+use Rattle.rv_model.specs.scalar.ControlTransfer.{is_taken, register_target}
+use Rattle.rv_model.specs.scalar.Arithmetic.{sum}
+use Rattle.rv_model.specs.scalar.LoadsAndStores.{load_width, store_width}
 use Rattle.rv_model.specs.scalar.Registers.{read_register, with_register}
 use Rattle.rv_model.specs.step.Effects.{StepKeepsConfiguration, StepKeepsPermissions}
 use Rattle.rv_model.specs.step.Hart.{HartState, Stepped}
-use Rattle.rv_model.specs.step.ScalarStep.{branch_step, csr_step, environment_call, jumps, load_step, store_step, system_step}
+use Rattle.rv_model.specs.step.ScalarStep.{branch_step, csr_step, environment_call, jumps, load_step, store_step, scalar_step}
 use Rattle.rv_model.specs.step.Step.{executed, step, word_at}
-use Rattle.rv_model.specs.step.VectorStep.{VectorStepped, access_step, accessed, after_vector, arith_step, mask_unary_step, operation_step, performed, requested_length, typed, vector_executed, vector_step, vector_ticks, vset_step}
+use Rattle.rv_model.specs.vector.Configuration.{GroupType, group_type}
+use Rattle.rv_model.specs.vector.Groups.{wide_type}
+use Rattle.rv_model.specs.step.VectorStep.{VectorStepped, access_step, accessed, after_vector, arith_step, operation_step, performed, requested_length, typed, typed_step, vector_executed, vector_step, vector_ticks, vset_step}
 use Rattle.rv_model.specs.step.WriteCall.{output_room, write_call, write_count}
-use Rattle.rv_model.specs.vector.Configuration.{Configuration, IsConfiguration, IsLength, IsSupported, lmul_eighths, sew_bits, vlmax}
+use Rattle.rv_model.specs.vector.Configuration.{Configuration, IsConfiguration, IsSupported, lmul_eighths, sew_bits, vlmax}
+use Rattle.rv_model.proofs.vector_lemmas.Lengths.{IsLength}
 use Rattle.rv_model.specs.vector.Control.{control_value, csr_form, is_write, with_control, written_value}
 use Rattle.rv_model.specs.vector.ControlRegisters.{control_register, is_read_only}
-use Rattle.rv_model.specs.vector.TypeRules.{is_supported, lmul_with_number, requested, same_vlmax, sew_with_number, supported_type, vector_type, with_length, with_type}
+use Rattle.rv_model.specs.vector.TypeRules.{lmul_with_number, requested, sew_with_number, supported_type, vector_type, with_length}
 use Rattle.rv_model.proofs.memory_lemmas.Memory.{is_allowed-put_bytes}
 use Rattle.rv_model.proofs.step_lemmas.Cuts.{RunFacts, accessed_facts}
 use Rattle.rv_model.proofs.text_lemmas.Pieces.{of_either}
@@ -65,9 +70,9 @@ Supports (Some t) = IsSupported t
 supported_parts : (sew : Option Sew) (lmul : Option Lmul) (tail mask : Bool) → Supports (supported_type sew lmul tail mask)
 supported_parts None lmul tail mask = tt
 supported_parts (Some sew) None tail mask = tt
-supported_parts (Some sew) (Some lmul) tail mask = named (is_supported sew lmul) refl
+supported_parts (Some sew) (Some lmul) tail mask = named (nat_le (sew_bits sew) (lmul_eighths lmul * 8)) refl
   where
-    named : (b : Bool) → is_supported sew lmul ≡ b
+    named : (b : Bool) → nat_le (sew_bits sew) (lmul_eighths lmul * 8) ≡ b
         → Supports (cond b (Some (record { sew = sew; lmul = lmul; tail_agnostic = tail; mask_agnostic = mask })) None)
     named true e = leb-true (sew_bits sew) (lmul_eighths lmul * 8) e
     named false e = tt
@@ -77,6 +82,10 @@ number_supports : (n : ℕ) → Supports (vector_type n)
 number_supports n =
     of_either Supports (nat_lt n (2 ^ 8)) _ None
     (supported_parts (sew_with_number (field 3 3 n)) (lmul_with_number (field 0 3 n)) (field 6 1 n == 1) (field 7 1 n == 1)) tt
+
+-- whether there can be just as many elements of the old type, if there is one, as of the new one
+abbrev same_vlmax : Option VType → VType → Bool
+same_vlmax o t = option_map_or (λ u. vlmax u == vlmax t) o false
 
 kept_length : (o : Option VType) (vl : ℕ) (t : VType) → IsLength o vl → same_vlmax o t ≡ true → vl ≤ vlmax t
 kept_length None vl t is e = absurd (cc)
@@ -94,7 +103,7 @@ length_configures old t Keep is supported = named (same_vlmax old.vtype t) refl
     named false e = refl
 
 type_configures : (old : Configuration) (o : Option VType) (length : RequestedLength) → IsConfiguration old → Supports o
-    → IsConfiguration (with_type old o length)
+    → IsConfiguration (option_map_or (λ t. with_length old t length) o (record { vl = 0; vtype = None }))
 type_configures old None length is supported = refl
 type_configures old (Some t) length is supported = length_configures old t length is supported
 
@@ -138,13 +147,13 @@ vset_stays rd vtype length s = record {
   allowed = λ access x. refl;
 }
 
-arith_stays : (t : VType) (op : VectorOp) (source : Source) (vd vs2 : ℕ) (vm : Bool) (s : HartState)
-    → Stays s (arith_step t op source vd vs2 vm s).state
-arith_stays t (Binary op) source vd vs2 vm s = still s _ refl refl
-arith_stays t _ source vd vs2 vm s = still s _ refl refl
+arith_stays : (t : VType) (g w : GroupType) (op : VectorOp) (source : Source) (vd vs2 : ℕ) (vm : Bool) (s : HartState)
+    → Stays s (arith_step t g w op source vd vs2 vm s).state
+arith_stays t g w (Binary op) source vd vs2 vm s = still s _ refl refl
+arith_stays t g w _ source vd vs2 vm s = still s _ refl refl
 
 mask_unary_stays : (t : VType) (op : MaskUnaryOp) (vd vs2 : ℕ) (vm : Bool) (s : HartState)
-    → Stays s (mask_unary_step t op vd vs2 vm s).state
+    → Stays s (typed_step (MaskUnary op vd vs2 vm) t s).state
 mask_unary_stays t (Scan op) vd vs2 vm s = still s _ refl refl
 mask_unary_stays t Viota vd vs2 vm s = still s _ refl refl
 
@@ -169,7 +178,7 @@ unfolding operation_step
 operation_stays (SetVli rd rs1 vtype) s = vset_stays rd vtype (requested_length rd rs1 s.scalar) s
 operation_stays (SetIvli rd avl vtype) s = vset_stays rd vtype (Elements avl) s
 operation_stays (SetVl rd rs1 rs2) s = vset_stays rd (read_register s.scalar rs2) (requested_length rd rs1 s.scalar) s
-operation_stays (Arith arith vd vs2 vm) s = typed_stays s.vector.conf.vtype _ s (λ t. arith_stays t arith.0 arith.1 vd vs2 vm s)
+operation_stays (Arith arith vd vs2 vm) s = typed_stays s.vector.conf.vtype _ s (λ t. arith_stays t (group_type t) (wide_type t) arith.0 arith.1 vd vs2 vm s)
 operation_stays (MaskUnary op vd vs2 vm) s = typed_stays s.vector.conf.vtype _ s (λ t. mask_unary_stays t op vd vs2 vm s)
 operation_stays _ s = typed_stays s.vector.conf.vtype _ s (λ t. still s _ refl refl)
 
@@ -203,7 +212,7 @@ either : (s : HartState) (b : Bool) (x y : Stepped) → Stays s x.state → Stay
 either s b x y h k = of_either (λ (r : Stepped). Stays s r.state) b x y h k
 
 jumps_stay : (target : ℕ) (scalar : Scalar) (s : HartState) → Stays s (jumps target scalar s).state
-jumps_stay target scalar s = either s (is_aligned target) _ _ (still s _ refl refl) (still s s refl refl)
+jumps_stay target scalar s = either s (target % 4 == 0) _ _ (still s _ refl refl) (still s s refl refl)
 
 branch_stays : (taken : Bool) (target : ℕ) (s : HartState) → Stays s (branch_step taken target s).state
 branch_stays taken target s = either s taken _ _ (jumps_stay target s.scalar s) (still s _ refl refl)
@@ -215,7 +224,7 @@ load_stays op rd addr s =
 store_stays : (op : StoreOp) (addr value : ℕ) (s : HartState) → Stays s (store_step op addr value s).state
 store_stays op addr value s =
     either s (can_access access.Store s.memory addr (byte_len (store_width op))) _ _
-    (record { configured = λ is. is; allowed = λ access x. is_allowed-put_bytes access s.memory addr (stored_bytes op value) x })
+    (record { configured = λ is. is; allowed = λ access x. is_allowed-put_bytes access s.memory addr (to_le_bytes (store_width op) value) x })
     (still s s refl refl)
 
 control_stays : (register : ControlRegister) (n : ℕ) (v : VState) → (with_control register n v).conf ≡ v.conf
@@ -247,7 +256,7 @@ write_stays s =
     (either s (can_access access.Load s.memory addr (write_count asked s.output)) _ _
     (still s _ refl refl) (still s _ refl refl))))
 
-system_stays : (op : SystemOp) (s : HartState) → Stays s (system_step op s).state
+system_stays : (op : SystemOp) (s : HartState) → Stays s (scalar_step (System op) s).state
 unfolding environment_call
 system_stays system.Ecall s =
     either s (read_register s.scalar 17 == 93 || read_register s.scalar 17 == 94) _ _ (still s s refl refl)
@@ -259,15 +268,15 @@ unfolding executed
 executed_stays limit None word s = still s s refl refl
 executed_stays limit (Some (instr.Scalar (Upper op rd imm))) word s = still s _ refl refl
 executed_stays limit (Some (instr.Scalar (Jump rd imm))) word s =
-    jumps_stay (jump_target s.scalar.pc imm) (with_register rd ((s.scalar.pc + 4) % 2 ^ 64) s.scalar) s
+    jumps_stay (sum w64 s.scalar.pc (j_immediate imm)) (with_register rd (sum w64 s.scalar.pc 4) s.scalar) s
 executed_stays limit (Some (instr.Scalar (JumpRegister rd rs1 imm))) word s =
-    jumps_stay (register_target (read_register s.scalar rs1) imm) (with_register rd ((s.scalar.pc + 4) % 2 ^ 64) s.scalar) s
+    jumps_stay (register_target (read_register s.scalar rs1) imm) (with_register rd (sum w64 s.scalar.pc 4) s.scalar) s
 executed_stays limit (Some (instr.Scalar (Branch op rs1 rs2 imm))) word s =
-    branch_stays (is_taken op (read_register s.scalar rs1) (read_register s.scalar rs2)) (branch_target s.scalar.pc imm) s
+    branch_stays (is_taken op (read_register s.scalar rs1) (read_register s.scalar rs2)) (sum w64 s.scalar.pc (b_immediate imm)) s
 executed_stays limit (Some (instr.Scalar (Load op rd rs1 imm))) word s =
-    load_stays op rd (access_address (read_register s.scalar rs1) (i_immediate imm)) s
+    load_stays op rd (sum w64 (read_register s.scalar rs1) (i_immediate imm)) s
 executed_stays limit (Some (instr.Scalar (Store op rs1 rs2 imm))) word s =
-    store_stays op (access_address (read_register s.scalar rs1) (s_immediate imm)) (read_register s.scalar rs2) s
+    store_stays op (sum w64 (read_register s.scalar rs1) (s_immediate imm)) (read_register s.scalar rs2) s
 executed_stays limit (Some (instr.Scalar (RegisterImmediate op rd rs1 imm))) word s = still s _ refl refl
 executed_stays limit (Some (instr.Scalar (ShiftImmediate op rd rs1 shamt))) word s = still s _ refl refl
 executed_stays limit (Some (instr.Scalar (ShiftImmediateWord op rd rs1 shamt))) word s = still s _ refl refl

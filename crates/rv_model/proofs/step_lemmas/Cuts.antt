@@ -35,7 +35,9 @@ use Rattle.rv_model.specs.vector.Groups.{register_count}
 use Rattle.rv_model.specs.step.Hart.{HartState}
 use Rattle.rv_model.specs.step.MemoryStep.{access_end, load_fills_masked_off}
 use Rattle.rv_model.specs.step.Resumes.{StopsShort}
-use Rattle.rv_model.specs.step.VectorStep.{VectorStepped, access_step, accessed, after_vector, arith_step, mask_unary_step, operation_step, performed, typed, vector_executed, vector_ticks}
+use Rattle.rv_model.specs.vector.Configuration.{GroupType, group_type}
+use Rattle.rv_model.specs.vector.Groups.{wide_type}
+use Rattle.rv_model.specs.step.VectorStep.{VectorStepped, access_step, accessed, after_vector, arith_step, operation_step, performed, typed, typed_step, vector_executed, vector_ticks}
 use Rattle.rv_model.proofs.access_lemmas.Runs.{AtStop, CutAt, FaultAt, Facts, run_facts, stop_means}
 use Rattle.rv_model.proofs.text_lemmas.Pieces.{of_either}
 
@@ -51,11 +53,11 @@ typed_once : (t : Option VType) (done : VType → HartState → VectorStepped) (
 typed_once None done s each = tt
 typed_once (Some u) done s each = each u
 
-arith_once : (t : VType) (op : VectorOp) (source : Source) (vd vs2 : ℕ) (vm : Bool) (s : HartState) → AtOnce (arith_step t op source vd vs2 vm s).end
-arith_once t (Binary op) source vd vs2 vm s = tt
-arith_once t _ source vd vs2 vm s = tt
+arith_once : (t : VType) (g w : GroupType) (op : VectorOp) (source : Source) (vd vs2 : ℕ) (vm : Bool) (s : HartState) → AtOnce (arith_step t g w op source vd vs2 vm s).end
+arith_once t g w (Binary op) source vd vs2 vm s = tt
+arith_once t g w _ source vd vs2 vm s = tt
 
-mask_unary_once : (t : VType) (op : MaskUnaryOp) (vd vs2 : ℕ) (vm : Bool) (s : HartState) → AtOnce (mask_unary_step t op vd vs2 vm s).end
+mask_unary_once : (t : VType) (op : MaskUnaryOp) (vd vs2 : ℕ) (vm : Bool) (s : HartState) → AtOnce (typed_step (MaskUnary op vd vs2 vm) t s).end
 mask_unary_once t (Scan op) vd vs2 vm s = tt
 mask_unary_once t Viota vd vs2 vm s = tt
 
@@ -64,7 +66,7 @@ unfolding operation_step
 operation_once (SetVli rd rs1 vtype) s = tt
 operation_once (SetIvli rd avl vtype) s = tt
 operation_once (SetVl rd rs1 rs2) s = tt
-operation_once (Arith arith vd vs2 vm) s = typed_once s.vector.conf.vtype _ s (λ t. arith_once t arith.0 arith.1 vd vs2 vm s)
+operation_once (Arith arith vd vs2 vm) s = typed_once s.vector.conf.vtype _ s (λ t. arith_once t (group_type t) (wide_type t) arith.0 arith.1 vd vs2 vm s)
 operation_once (MaskUnary op vd vs2 vm) s = typed_once s.vector.conf.vtype _ s (λ t. mask_unary_once t op vd vs2 vm s)
 operation_once _ s = typed_once s.vector.conf.vtype _ s (λ t. tt)
 

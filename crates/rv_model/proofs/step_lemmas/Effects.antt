@@ -1,7 +1,7 @@
 -- A fault writes no scalar register, x0 stays, and the output buffer only grows, whatever the instruction is.
-use Rattle.std.proofs.Common.{◌≡◌, ◌≢◌, ℕ, ◌+◌, ◌%◌, ◌^◌, Bool, true, false, List, [], cond, refl, sym, subst, append-nil, ◌∙◌, arith, Option, Some, None, get_or-set_other}
+use Rattle.std.proofs.Common.{◌≡◌, ◌≢◌, ℕ, ◌%◌, ◌^◌, Bool, true, false, List, [], cond, refl, sym, subst, append-nil, ◌∙◌, arith, Option, Some, None, get_or-set_other}
 use Rattle.std.specs.Prelude.{◌-◌, ◌++◌, not, ◌&&◌, ◌||◌, ◌==◌, slice_set}
-use Rattle.std.specs.Int.{byte_len}
+use Rattle.std.specs.Int.{byte_len, w64}
 use Rattle.std.proofs.lemmas.Bool.Decides.{nat_tests}
 use Rattle.rv_model.specs.declared.vector.control_register.ControlRegister.{ControlRegister}
 use Rattle.rv_model.specs.declared.instructions.instruction.Instr.{Instr}
@@ -25,6 +25,7 @@ use Rattle.rv_model.specs.declared.instructions.operations.VectorOp.TheVariants.
 use Rattle.rv_model.specs.declared.scalar.Scalar.{Scalar}
 use Rattle.rv_model.specs.declared.instructions.source.Source.{Source}
 use Rattle.rv_model.specs.declared.step.step_end.Cause.{Cause}
+use Rattle.rv_model.specs.declared.step.step_end.StepEnd.TheVariants.{Fault}
 use Rattle.rv_model.specs.declared.vector.request.RequestedLength.{RequestedLength}
 use Rattle.rv_model.specs.declared.vector.request.RequestedLength.TheVariants.{Elements}
 use Rattle.rv_model.specs.declared.step.memory_end.MemEnd.{MemEnd}
@@ -33,19 +34,22 @@ use Rattle.rv_model.specs.declared.step.vector_end.VEnd.{VEnd}
 use Rattle.rv_model.specs.declared.step.vector_end.VEnd.TheVariants as vector_end
 use Rattle.rv_model.specs.declared.vector.types.VType.{VType}
 use Rattle.rv_model.specs.vector.ControlRegisters.{control_register, is_read_only}
-use Rattle.rv_model.specs.scalar.ControlTransfer.{is_aligned, is_taken, jump_target, register_target, branch_target}
-use Rattle.rv_model.specs.step.Hart.{HartState, Stepped, faults, retires, gives}
-use Rattle.rv_model.specs.step.Effects.{OnFault, FaultsWriteNoRegister, FirstRegisterStays, OutputGrowsWithin, PutsOut}
-use Rattle.rv_model.specs.instructions.Immediates.{i_immediate, s_immediate}
+use Rattle.rv_model.specs.scalar.ControlTransfer.{is_taken, register_target}
+use Rattle.rv_model.specs.scalar.Arithmetic.{sum}
+use Rattle.rv_model.specs.step.Hart.{HartState, Stepped, faults, retires, gives, StepEnd}
+use Rattle.rv_model.specs.step.Effects.{FaultsWriteNoRegister, FirstRegisterStays, OutputGrowsWithin, PutsOut}
+use Rattle.rv_model.specs.instructions.Immediates.{b_immediate, i_immediate, j_immediate, s_immediate}
 use Rattle.rv_model.specs.instructions.Table.{scan, table}
 use Rattle.rv_model.specs.legality.Legality.{is_legal}
-use Rattle.rv_model.specs.scalar.LoadsAndStores.{access_address, load_width, store_width}
+use Rattle.rv_model.specs.scalar.LoadsAndStores.{load_width, store_width}
 use Rattle.rv_model.specs.memory.Memory.{bytes_at, can_access}
 use Rattle.rv_model.specs.scalar.Registers.{read_register, with_register}
-use Rattle.rv_model.specs.step.ScalarStep.{jumps, jump_step, branch_step, load_step, store_step, csr_step, environment_call, system_step}
+use Rattle.rv_model.specs.step.ScalarStep.{jumps, jump_step, branch_step, load_step, store_step, csr_step, environment_call, scalar_step}
 use Rattle.rv_model.specs.step.Step.{step, executed, word_at}
 use Rattle.rv_model.specs.vector.Control.{is_write, csr_form, control_value}
-use Rattle.rv_model.specs.step.VectorStep.{VectorStepped, access_step, accessed, after_vector, arith_step, mask_unary_step, operation_step, performed, requested_length, typed, vector_executed, vector_step, vector_ticks, vset_step}
+use Rattle.rv_model.specs.vector.Configuration.{GroupType, group_type}
+use Rattle.rv_model.specs.vector.Groups.{wide_type}
+use Rattle.rv_model.specs.step.VectorStep.{VectorStepped, access_step, accessed, after_vector, arith_step, operation_step, performed, requested_length, typed, typed_step, vector_executed, vector_step, vector_ticks, vset_step}
 use Rattle.rv_model.specs.accesses.VectorAccess.{VectorAccess, access_of}
 use Rattle.rv_model.specs.step.MemoryStep.{access_end}
 use Rattle.rv_model.specs.step.WriteCall.{call_fails, output_room, write_call, write_count}
@@ -56,6 +60,11 @@ use Rattle.rv_model.proofs.text_lemmas.Pieces.{of_either}
 -- x0 reads the same
 abbrev SameFirst : Scalar → Scalar → Type 0
 SameFirst old new = read_register new 0 ≡ read_register old 0
+
+-- a fact where an instruction faults
+abbrev OnFault : StepEnd → Type 0 → Type 0
+OnFault (Fault cause pc value) P = P
+OnFault _ P = Unit {0}
 
 -- the three laws, of one step from a state
 record Keeps (s : HartState) (r : Stepped) : Type 0 where
@@ -84,7 +93,7 @@ runs_keep : (scalar : Scalar) (s s' : HartState) → SameFirst s.scalar scalar �
 runs_keep scalar s s' h puts = record { fault = tt; first = h; output = puts }
 
 jumps_keep : (target : ℕ) (scalar : Scalar) (s : HartState) → SameFirst s.scalar scalar → Keeps s (jumps target scalar s)
-jumps_keep target scalar s h = either s (is_aligned target) _ _ (record { fault = tt; first = h; output = nothing s.output }) (record { fault = refl; first = refl; output = nothing s.output })
+jumps_keep target scalar s h = either s (target % 4 == 0) _ _ (record { fault = tt; first = h; output = nothing s.output }) (record { fault = refl; first = refl; output = nothing s.output })
 
 branch_keeps : (taken : Bool) (target : ℕ) (s : HartState) → Keeps s (branch_step taken target s)
 branch_keeps taken target s = either s taken _ _ (jumps_keep target s.scalar s refl) (runs_keep s.scalar s s refl (nothing s.output))
@@ -94,7 +103,7 @@ gives_keep rd value s s' h puts = runs_keep (with_register rd value s'.scalar) s
 
 jump_keeps : (rd target : ℕ) (s : HartState) → Keeps s (jump_step rd target s)
 jump_keeps rd target s =
-    jumps_keep target (with_register rd ((s.scalar.pc + 4) % 2 ^ 64) s.scalar) s (first-with_register rd ((s.scalar.pc + 4) % 2 ^ 64) s.scalar)
+    jumps_keep target (with_register rd (sum w64 s.scalar.pc 4) s.scalar) s (first-with_register rd (sum w64 s.scalar.pc 4) s.scalar)
 
 load_keeps : (op : LoadOp) (rd addr : ℕ) (s : HartState) → Keeps s (load_step op rd addr s)
 load_keeps op rd addr s =
@@ -138,7 +147,7 @@ environment_keeps s =
     either s (read_register s.scalar 17 == 93 || read_register s.scalar 17 == 94) _ _ (record { fault = tt; first = refl; output = nothing s.output })
     (either s (read_register s.scalar 17 == 64) _ _ (write_keeps s) (call_fails_keeps 38 s))
 
-system_keeps : (op : SystemOp) (s : HartState) → Keeps s (system_step op s)
+system_keeps : (op : SystemOp) (s : HartState) → Keeps s (scalar_step (System op) s)
 system_keeps system.Ecall s = environment_keeps s
 system_keeps system.Ebreak s = record { fault = tt; first = refl; output = nothing s.output }
 
@@ -164,11 +173,11 @@ vset_keeps rd vtype length s = record { refused = tt; first = first-with_registe
 either_keeps : (s : HartState) (b : Bool) (x y : VectorStepped) → VectorKeeps s x → VectorKeeps s y → VectorKeeps s (cond b x y)
 either_keeps s b x y h k = of_either (λ r. VectorKeeps s r) b x y h k
 
-arith_keeps : (t : VType) (op : VectorOp) (source : Source) (vd vs2 : ℕ) (vm : Bool) (s : HartState) → VectorKeeps s (arith_step t op source vd vs2 vm s)
-arith_keeps t (Binary op) source vd vs2 vm s = record { refused = tt; first = refl; output = refl; illegal = tt }
-arith_keeps t _ source vd vs2 vm s = record { refused = tt; first = refl; output = refl; illegal = tt }
+arith_keeps : (t : VType) (g w : GroupType) (op : VectorOp) (source : Source) (vd vs2 : ℕ) (vm : Bool) (s : HartState) → VectorKeeps s (arith_step t g w op source vd vs2 vm s)
+arith_keeps t g w (Binary op) source vd vs2 vm s = record { refused = tt; first = refl; output = refl; illegal = tt }
+arith_keeps t g w _ source vd vs2 vm s = record { refused = tt; first = refl; output = refl; illegal = tt }
 
-mask_unary_keeps : (t : VType) (op : MaskUnaryOp) (vd vs2 : ℕ) (vm : Bool) (s : HartState) → VectorKeeps s (mask_unary_step t op vd vs2 vm s)
+mask_unary_keeps : (t : VType) (op : MaskUnaryOp) (vd vs2 : ℕ) (vm : Bool) (s : HartState) → VectorKeeps s (typed_step (MaskUnary op vd vs2 vm) t s)
 mask_unary_keeps t (Scan op) vd vs2 vm s = record { refused = tt; first = refl; output = refl; illegal = tt }
 mask_unary_keeps t Viota vd vs2 vm s = record { refused = tt; first = refl; output = refl; illegal = tt }
 
@@ -204,7 +213,7 @@ unfolding operation_step
 operation_keeps (SetVli rd rs1 vtype) s = vset_keeps rd vtype (requested_length rd rs1 s.scalar) s
 operation_keeps (SetIvli rd avl vtype) s = vset_keeps rd vtype (Elements avl) s
 operation_keeps (SetVl rd rs1 rs2) s = vset_keeps rd (read_register s.scalar rs2) (requested_length rd rs1 s.scalar) s
-operation_keeps (Arith arith vd vs2 vm) s = typed_keeps s.vector.conf.vtype _ s (λ t. arith_keeps t arith.0 arith.1 vd vs2 vm s)
+operation_keeps (Arith arith vd vs2 vm) s = typed_keeps s.vector.conf.vtype _ s (λ t. arith_keeps t (group_type t) (wide_type t) arith.0 arith.1 vd vs2 vm s)
 operation_keeps (MaskUnary op vd vs2 vm) s = typed_keeps s.vector.conf.vtype _ s (λ t. mask_unary_keeps t op vd vs2 vm s)
 operation_keeps (MaskToScalar op rd vs2 vm) s =
     typed_keeps s.vector.conf.vtype _ s (λ t. record { refused = tt; first = first-with_register rd _ s.scalar; output = refl; illegal = tt })
@@ -244,13 +253,13 @@ executed_keeps : (limit : ℕ) (i : Option Instr) (word : ℕ) (s : HartState) �
 unfolding executed
 executed_keeps limit None word s = record { fault = refl; first = refl; output = nothing s.output }
 executed_keeps limit (Some (instr.Scalar (Upper op rd imm))) word s = gives_keep rd _ s s refl (nothing s.output)
-executed_keeps limit (Some (instr.Scalar (Jump rd imm))) word s = jump_keeps rd (jump_target s.scalar.pc imm) s
+executed_keeps limit (Some (instr.Scalar (Jump rd imm))) word s = jump_keeps rd (sum w64 s.scalar.pc (j_immediate imm)) s
 executed_keeps limit (Some (instr.Scalar (JumpRegister rd rs1 imm))) word s = jump_keeps rd (register_target (read_register s.scalar rs1) imm) s
 executed_keeps limit (Some (instr.Scalar (Branch op rs1 rs2 imm))) word s =
-    branch_keeps (is_taken op (read_register s.scalar rs1) (read_register s.scalar rs2)) (branch_target s.scalar.pc imm) s
-executed_keeps limit (Some (instr.Scalar (Load op rd rs1 imm))) word s = load_keeps op rd (access_address (read_register s.scalar rs1) (i_immediate imm)) s
+    branch_keeps (is_taken op (read_register s.scalar rs1) (read_register s.scalar rs2)) (sum w64 s.scalar.pc (b_immediate imm)) s
+executed_keeps limit (Some (instr.Scalar (Load op rd rs1 imm))) word s = load_keeps op rd (sum w64 (read_register s.scalar rs1) (i_immediate imm)) s
 executed_keeps limit (Some (instr.Scalar (Store op rs1 rs2 imm))) word s =
-    store_keeps op (access_address (read_register s.scalar rs1) (s_immediate imm)) (read_register s.scalar rs2) s
+    store_keeps op (sum w64 (read_register s.scalar rs1) (s_immediate imm)) (read_register s.scalar rs2) s
 executed_keeps limit (Some (instr.Scalar (RegisterImmediate op rd rs1 imm))) word s = gives_keep rd _ s s refl (nothing s.output)
 executed_keeps limit (Some (instr.Scalar (ShiftImmediate op rd rs1 shamt))) word s = gives_keep rd _ s s refl (nothing s.output)
 executed_keeps limit (Some (instr.Scalar (ShiftImmediateWord op rd rs1 shamt))) word s = gives_keep rd _ s s refl (nothing s.output)
@@ -269,7 +278,7 @@ step_keeps limit s =
     (record { fault = refl; first = refl; output = nothing s.output })
 
 pub faults_write_no_register : FaultsWriteNoRegister
-faults_write_no_register limit s = (step_keeps limit s).fault
+faults_write_no_register limit s cause pc value is = subst (λ (end : StepEnd). OnFault end ((step limit s).state.scalar ≡ s.scalar)) is (step_keeps limit s).fault
 
 pub first_register_stays : FirstRegisterStays
 first_register_stays limit s = (step_keeps limit s).first

@@ -1,8 +1,8 @@
 -- A step that is cut or faults and is made again, with the fetch of its word.
-use Rattle.std.proofs.Common.{◌≡◌, ◌≢◌, ◌⊎◌, inl, inr, ℕ, zero, suc, ◌+◌, ◌-◌, ◌%◌, ◌^◌, ◌<◌, ◌≤◌, Bool, true, false, ◌&&◌, ◌||◌, ◌==◌, cond, Option, Some, None, refl, sym, ◌∙◌, ap, subst, arith}
+use Rattle.std.proofs.Common.{◌≡◌, ◌≢◌, ◌⊎◌, inl, inr, ℕ, zero, suc, ◌+◌, ◌-◌, ◌%◌, ◌<◌, ◌≤◌, Bool, true, false, ◌&&◌, ◌||◌, ◌==◌, cond, Option, Some, None, refl, sym, ◌∙◌, ap, subst, arith}
 use Rattle.std.specs.Prelude.{not}
 use Rattle.std.specs.FinMap.{get}
-use Rattle.std.specs.Int.{byte_len, from_le_bytes, w32}
+use Rattle.std.specs.Int.{byte_len, w64, from_le_bytes, w32}
 use Rattle.rv_model.specs.declared.instructions.instruction.Instr.{Instr}
 use Rattle.rv_model.specs.declared.instructions.instruction.Instr.TheVariants as instr
 use Rattle.rv_model.specs.declared.instructions.scalar.ScalarInstr.TheVariants.{Upper, Jump, JumpRegister, Branch, Load, Store, RegisterImmediate, ShiftImmediate, ShiftImmediateWord, RegisterRegister, Fence, System}
@@ -21,15 +21,16 @@ use Rattle.rv_model.specs.declared.step.vector_end.VEnd.TheVariants as vector_en
 use Rattle.rv_model.specs.declared.vector.control_register.ControlRegister.{ControlRegister}
 use Rattle.rv_model.specs.declared.vector.sizes.TheConstants.{GROUP_BYTES}
 use Rattle.rv_model.specs.accesses.Restarts.{Extends, overlay}
-use Rattle.rv_model.specs.instructions.Immediates.{i_immediate, s_immediate}
+use Rattle.rv_model.specs.instructions.Immediates.{b_immediate, i_immediate, j_immediate, s_immediate}
 use Rattle.rv_model.specs.instructions.Table.{scan, table}
 use Rattle.rv_model.specs.memory.Memory.{Memory, bytes_at, can_access}
-use Rattle.rv_model.specs.scalar.ControlTransfer.{branch_target, is_aligned, is_taken, jump_target, register_target}
-use Rattle.rv_model.specs.scalar.LoadsAndStores.{access_address, load_width, store_width}
+use Rattle.rv_model.specs.scalar.ControlTransfer.{is_taken, register_target}
+use Rattle.rv_model.specs.scalar.Arithmetic.{sum}
+use Rattle.rv_model.specs.scalar.LoadsAndStores.{load_width, store_width}
 use Rattle.rv_model.specs.scalar.Registers.{read_register, with_register}
 use Rattle.rv_model.specs.step.Hart.{HartState, Stepped, faults}
-use Rattle.rv_model.specs.step.Resumes.{CutStepLeavesOff, FetchedStepResumes, IsUndone, KeepsOwnWord, StopsShort, after_ticks, finds}
-use Rattle.rv_model.specs.step.ScalarStep.{branch_step, csr_step, environment_call, jumps, system_step}
+use Rattle.rv_model.specs.step.Resumes.{IsUndone, KeepsOwnWord, StopsShort, after_ticks, finds}
+use Rattle.rv_model.specs.step.ScalarStep.{branch_step, csr_step, environment_call, jumps, scalar_step}
 use Rattle.rv_model.specs.step.Step.{executed, fetched, step, touches, word_at}
 use Rattle.rv_model.specs.step.VectorStep.{VectorStepped, after_vector, vector_executed, vector_step, vector_ticks}
 use Rattle.rv_model.specs.step.WriteCall.{output_room, write_call, write_count}
@@ -53,7 +54,7 @@ either : (s : HartState) (b : Bool) (x y : Stepped) → AllOrNothing s x → All
 either s b x y h k = of_either (λ r. AllOrNothing s r) b x y h k
 
 jumps_whole : (target : ℕ) (scalar : Scalar) (s : HartState) → AllOrNothing s (jumps target scalar s)
-jumps_whole target scalar s = either s (is_aligned target) _ _ (λ u. absurd u) (λ u. (refl, λ e. cc))
+jumps_whole target scalar s = either s (target % 4 == 0) _ _ (λ u. absurd u) (λ u. (refl, λ e. cc))
 
 branch_whole : (taken : Bool) (target : ℕ) (s : HartState) → AllOrNothing s (branch_step taken target s)
 branch_whole taken target s = either s taken _ _ (jumps_whole target s.scalar s) (λ u. absurd u)
@@ -73,7 +74,7 @@ write_whole s =
     (either s (asked == 0) _ _ (λ u. absurd u)
     (either s (output_room s.output == 0) _ _ (λ u. absurd u) (either s readable _ _ (λ u. absurd u) (λ u. absurd u))))
 
-system_whole : (op : SystemOp) (s : HartState) → AllOrNothing s (system_step op s)
+system_whole : (op : SystemOp) (s : HartState) → AllOrNothing s (scalar_step (System op) s)
 unfolding environment_call
 system_whole system.Ecall s =
     either s (read_register s.scalar 17 == 93 || read_register s.scalar 17 == 94) _ _ (λ u. absurd u)
@@ -92,16 +93,16 @@ unfolding executed
 vector_or_whole limit None word s = inl (λ u. (refl, λ e. cc))
 vector_or_whole limit (Some (instr.Scalar (Upper op rd imm))) word s = inl (λ u. absurd u)
 vector_or_whole limit (Some (instr.Scalar (Jump rd imm))) word s =
-    inl (jumps_whole (jump_target s.scalar.pc imm) (with_register rd ((s.scalar.pc + 4) % 2 ^ 64) s.scalar) s)
+    inl (jumps_whole (sum w64 s.scalar.pc (j_immediate imm)) (with_register rd (sum w64 s.scalar.pc 4) s.scalar) s)
 vector_or_whole limit (Some (instr.Scalar (JumpRegister rd rs1 imm))) word s =
-    inl (jumps_whole (register_target (read_register s.scalar rs1) imm) (with_register rd ((s.scalar.pc + 4) % 2 ^ 64) s.scalar) s)
+    inl (jumps_whole (register_target (read_register s.scalar rs1) imm) (with_register rd (sum w64 s.scalar.pc 4) s.scalar) s)
 vector_or_whole limit (Some (instr.Scalar (Branch op rs1 rs2 imm))) word s =
-    inl (branch_whole (is_taken op (read_register s.scalar rs1) (read_register s.scalar rs2)) (branch_target s.scalar.pc imm) s)
+    inl (branch_whole (is_taken op (read_register s.scalar rs1) (read_register s.scalar rs2)) (sum w64 s.scalar.pc (b_immediate imm)) s)
 vector_or_whole limit (Some (instr.Scalar (Load op rd rs1 imm))) word s =
-    inl (either s (can_access access.Load s.memory (access_address (read_register s.scalar rs1) (i_immediate imm)) (byte_len (load_width op))) _ _
+    inl (either s (can_access access.Load s.memory (sum w64 (read_register s.scalar rs1) (i_immediate imm)) (byte_len (load_width op))) _ _
     (λ u. absurd u) (λ u. (refl, λ e. cc)))
 vector_or_whole limit (Some (instr.Scalar (Store op rs1 rs2 imm))) word s =
-    inl (either s (can_access access.Store s.memory (access_address (read_register s.scalar rs1) (s_immediate imm)) (byte_len (store_width op))) _ _
+    inl (either s (can_access access.Store s.memory (sum w64 (read_register s.scalar rs1) (s_immediate imm)) (byte_len (store_width op))) _ _
     (λ u. absurd u) (λ u. (refl, λ e. cc)))
 vector_or_whole limit (Some (instr.Scalar (RegisterImmediate op rd rs1 imm))) word s = inl (λ u. absurd u)
 vector_or_whole limit (Some (instr.Scalar (ShiftImmediate op rd rs1 shamt))) word s = inl (λ u. absurd u)
@@ -159,23 +160,23 @@ fetch_kept word s left scalar same f = record {
 -- ---- a step that changes nothing
 
 -- a state that a step left goes on as the whole step
-abbrev ResumesFrom : ℕ → HartState → Memory → HartState → Type 0
-ResumesFrom later s more left =
-    step (left.vector.vstart - s.vector.vstart + later) (finds (overlay s.memory more) s)
-    ≡ after_ticks (left.vector.vstart - s.vector.vstart) (step later (finds more left))
+abbrev pub ResumesFrom : (ℕ → HartState → Stepped) → ℕ → HartState → Memory → HartState → Type 0
+ResumesFrom make later s more left =
+    make (left.vector.vstart - s.vector.vstart + later) (finds (overlay s.memory more) s)
+    ≡ after_ticks (left.vector.vstart - s.vector.vstart) (make later (finds more left))
 
 no_ticks : (n : ℕ) (r : Stepped) → n ≡ 0 → after_ticks n r ≡ r
 no_ticks n r none = let same : r.ticks + n ≡ r.ticks = omega (arith, none) in ap (λ (t : ℕ). record r { ticks = t }) same
 
-unchanged_resumes : (later : ℕ) (s : HartState) (more : Memory) (left : HartState) → left ≡ s → Extends left.memory more → ResumesFrom later s more left
-unchanged_resumes later s more left same grown =
+unchanged_resumes : (make : ℕ → HartState → Stepped) (later : ℕ) (s : HartState) (more : Memory) (left : HartState) → left ≡ s → Extends left.memory more → ResumesFrom make later s more left
+unchanged_resumes make later s more left same grown =
     let wider : Extends s.memory more = subst (λ (w : HartState). Extends w.memory more) same grown in
     let none : s.vector.vstart - s.vector.vstart ≡ 0 = omega arith in
     let all : s.vector.vstart - s.vector.vstart + later ≡ later = omega arith in
-    subst (λ (w : HartState). ResumesFrom later s more w) (sym same)
-    (ap (λ (n : ℕ). step n (finds (overlay s.memory more) s)) all
-    ∙ ap (λ (m : Memory). step later (finds m s)) (overlay_grown s.memory more wider)
-    ∙ sym (no_ticks (s.vector.vstart - s.vector.vstart) (step later (finds more s)) none))
+    subst (λ (w : HartState). ResumesFrom make later s more w) (sym same)
+    (ap (λ (n : ℕ). make n (finds (overlay s.memory more) s)) all
+    ∙ ap (λ (m : Memory). make later (finds m s)) (overlay_grown s.memory more wider)
+    ∙ sym (no_ticks (s.vector.vstart - s.vector.vstart) (make later (finds more s)) none))
 
 -- ---- a vector instruction
 
@@ -196,7 +197,7 @@ module _ (limit later : ℕ) (s : HartState) (more : Memory) (is : IsConfigurati
   short_resumes : (word : ℕ) (f : Fetches word s) (v : IsVectorStep (scan table word) word) → StopsShort (vector_executed limit v.instr s).end
       → KeepsOwnWord (vector_step limit v.instr word s).state.vector.vstart (Some v.instr) s
       → Extends (vector_step limit v.instr word s).state.memory more
-      → ResumesFrom later s more (vector_step limit v.instr word s).state
+      → ResumesFrom step later s more (vector_step limit v.instr word s).state
   short_resumes word f v stops keeps grown =
       let i : Instr = v.instr in
       let d : VectorStepped = vector_executed limit i s in
@@ -219,13 +220,24 @@ module _ (limit later : ℕ) (s : HartState) (more : Memory) (is : IsConfigurati
       → IsUndone (vector_step limit v.instr word s).end
       → KeepsOwnWord (vector_step limit v.instr word s).state.vector.vstart (Some v.instr) s
       → Extends (vector_step limit v.instr word s).state.memory more
-      → ResumesFrom later s more (vector_step limit v.instr word s).state
+      → ResumesFrom step later s more (vector_step limit v.instr word s).state
   vector_resumes word f v undone keeps grown =
       let d : VectorStepped = vector_executed limit v.instr s in
       elim (short_or_same (vector_ticks limit v.instr s) word d s (vector_keeps limit v.instr s).illegal undone) [
         | inl stops ↦ short_resumes word f v stops keeps grown
-        | inr same ↦ unchanged_resumes later s more (vector_step limit v.instr word s).state same grown
+        | inr same ↦ unchanged_resumes step later s more (vector_step limit v.instr word s).state same grown
       ]
+
+-- with no fetch
+pub vector_step_resumes : (limit later : ℕ) (i : Instr) (word : ℕ) (s : HartState) (more : Memory) → IsConfiguration s.vector.conf
+    → IsUndone (vector_step limit i word s).end → Extends (vector_step limit i word s).state.memory more
+    → ResumesFrom (λ n. vector_step n i word) later s more (vector_step limit i word s).state
+vector_step_resumes limit later i word s more is undone grown =
+    let d : VectorStepped = vector_executed limit i s in
+    elim (short_or_same (vector_ticks limit i s) word d s (vector_keeps limit i s).illegal undone) [
+      | inl stops ↦ step_resumes limit later i word s more is stops grown
+      | inr same ↦ unchanged_resumes (λ n. vector_step n i word) later s more (vector_step limit i word s).state same grown
+    ]
 
 -- ---- a step
 
@@ -278,14 +290,14 @@ pub fetched_resumes : (limit later : ℕ) (s : HartState) (more : Memory)
     → IsUndone (step limit s).end
     → KeepsOwnWord (step limit s).state.vector.vstart (fetched s.memory s.scalar.pc) s
     → Extends (step limit s).state.memory more
-    → ResumesFrom later s more (step limit s).state
+    → ResumesFrom step later s more (step limit s).state
 fetched_resumes limit later s more is undone keeps grown = elim (told limit s) [
-  | inl t ↦ unchanged_resumes later s more (step limit s).state (t.whole undone).0 grown
+  | inl t ↦ unchanged_resumes step later s more (step limit s).state (t.whole undone).0 grown
   | inr t ↦
       let i : Instr = t.vector.instr in
       let word : ℕ = word_at s.memory s.scalar.pc in
       let at : step limit s ≡ vector_step limit i word s = t.same limit in
-      subst (λ (r : Stepped). ResumesFrom later s more r.state) (sym at)
+      subst (λ (r : Stepped). ResumesFrom step later s more r.state) (sym at)
       (vector_resumes limit later s more (is t.touching) word t.fetches t.vector
       (subst (λ (r : Stepped). IsUndone r.end) at undone)
       (subst (λ (r : Stepped). KeepsOwnWord r.state.vector.vstart (Some i) s) at
@@ -293,7 +305,9 @@ fetched_resumes limit later s more is undone keeps grown = elim (told limit s) [
       (subst (λ (r : Stepped). Extends r.state.memory more) at grown))
 ]
 
-pub fetched_step_resumes : FetchedStepResumes
+pub fetched_step_resumes : (limit later : ℕ) (s : HartState) (more : Memory) → IsConfiguration s.vector.conf → IsUndone (step limit s).end
+    → KeepsOwnWord (step limit s).state.vector.vstart (fetched s.memory s.scalar.pc) s
+    → Extends (step limit s).state.memory more → ResumesFrom step later s more (step limit s).state
 fetched_step_resumes limit later s more is undone keeps grown = fetched_resumes limit later s more (λ t. is) undone keeps grown
 
 -- a step that is cut is that of a vector instruction which is
@@ -312,23 +326,36 @@ cut_step limit s cut = elim (told limit s) [
       record { vector = t; index = at.0; end = at.1 }
 ]
 
-pub cut_leaves_off : (limit : ℕ) (s : HartState) → (touches (fetched s.memory s.scalar.pc) ≡ true → IsConfiguration s.vector.conf)
-    → (step limit s).end ≡ Cut → (step limit s).state.vector.vstart ≡ s.vector.vstart + limit
-cut_leaves_off limit s is cut =
-    let c : CutIndex limit s = cut_step limit s cut in
-    let i : Instr = c.vector.vector.instr in
-    let word : ℕ = word_at s.memory s.scalar.pc in
+-- the part of a vector instruction that is cut
+vector_leaves_off : (limit : ℕ) (i : Instr) (word index : ℕ) (s : HartState) → (vector_executed limit i s).end ≡ vector_end.Cut index
+    → (vector_step limit i word s).state.vector.vstart ≡ s.vector.vstart + limit
+vector_leaves_off limit i word index s end =
     let d : VectorStepped = vector_executed limit i s in
-    let off = instruction_leaves_off limit i s c.index (is c.vector.touching) c.end in
-    ap (λ (r : Stepped). r.state.vector.vstart) (c.vector.same limit)
-    ∙ ap (λ (w : HartState). w.vector.vstart) (after_short (vector_ticks limit i s) d.end word d.state (cut_short d.end c.index c.end))
-    ∙ off.1 ∙ off.0
+    let off = instruction_leaves_off limit i s index end in
+    ap (λ (w : HartState). w.vector.vstart) (after_short (vector_ticks limit i s) d.end word d.state (cut_short d.end index end)) ∙ off.1 ∙ off.0
 
-pub cut_step_leaves_off : CutStepLeavesOff
-cut_step_leaves_off limit s is cut = cut_leaves_off limit s (λ t. is) cut
+pub cut_vector_step_leaves_off : (limit : ℕ) (i : Instr) (word : ℕ) (s : HartState)
+    → (vector_step limit i word s).end ≡ Cut → (vector_step limit i word s).state.vector.vstart ≡ s.vector.vstart + limit
+cut_vector_step_leaves_off limit i word s cut =
+    let d : VectorStepped = vector_executed limit i s in
+    let at = cut_index (vector_ticks limit i s) d.end word d.state cut in
+    vector_leaves_off limit i word at.0 s at.1
+
+pub cut_step_leaves_off : (limit : ℕ) (s : HartState) → (step limit s).end ≡ Cut → (step limit s).state.vector.vstart ≡ s.vector.vstart + limit
+cut_step_leaves_off limit s cut =
+    let c : CutIndex limit s = cut_step limit s cut in
+    ap (λ (r : Stepped). r.state.vector.vstart) (c.vector.same limit)
+    ∙ vector_leaves_off limit c.vector.vector.instr (word_at s.memory s.scalar.pc) c.index s c.end
 
 -- so many ticks are enough for any step
 pub step_uncut : (limit : ℕ) (s : HartState) → IsConfiguration s.vector.conf → GROUP_BYTES ≤ limit → (step limit s).end ≢ Cut
 step_uncut limit s is enough cut =
     let c : CutIndex limit s = cut_step limit s cut in
     uncut limit c.vector.vector.instr s c.index (configuration_below s.vector.conf is) enough c.end
+
+pub vector_step_uncut : (limit : ℕ) (i : Instr) (word : ℕ) (s : HartState) → IsConfiguration s.vector.conf → GROUP_BYTES ≤ limit
+    → (vector_step limit i word s).end ≢ Cut
+vector_step_uncut limit i word s is enough cut =
+    let d : VectorStepped = vector_executed limit i s in
+    let at = cut_index (vector_ticks limit i s) d.end word d.state cut in
+    uncut limit i s at.0 (configuration_below s.vector.conf is) enough at.1

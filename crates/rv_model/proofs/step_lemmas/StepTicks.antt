@@ -1,6 +1,6 @@
 -- The ticks of steps, with the fetch and the scalar instructions.
-use Rattle.std.proofs.Common.{◌≡◌, ◌≢◌, ℕ, ◌+◌, ◌%◌, ◌^◌, ◌≤◌, Bool, true, false, ◌&&◌, ◌||◌, ◌==◌, cond, Option, Some, None, refl, arith}
-use Rattle.std.specs.Int.{byte_len}
+use Rattle.std.proofs.Common.{◌≡◌, ◌≢◌, ℕ, ◌%◌, ◌≤◌, Bool, true, false, ◌&&◌, ◌||◌, ◌==◌, cond, Option, Some, None, refl, arith}
+use Rattle.std.specs.Int.{byte_len, w64}
 use Rattle.std.specs.Prelude.{not}
 use Rattle.std.proofs.lemmas.Bool.{false≢true}
 use Rattle.rv_model.specs.declared.instructions.instruction.Instr.{Instr}
@@ -15,21 +15,22 @@ use Rattle.rv_model.specs.declared.scalar.Scalar.{Scalar}
 use Rattle.rv_model.specs.declared.step.step_end.Cause.TheVariants.{FetchAccess}
 use Rattle.rv_model.specs.declared.step.step_end.StepEnd.TheVariants.{Cut}
 use Rattle.rv_model.specs.declared.vector.control_register.ControlRegister.{ControlRegister}
-use Rattle.rv_model.specs.instructions.Immediates.{i_immediate, s_immediate}
+use Rattle.rv_model.specs.instructions.Immediates.{b_immediate, i_immediate, j_immediate, s_immediate}
 use Rattle.rv_model.specs.instructions.Table.{scan, table}
 use Rattle.rv_model.specs.memory.Memory.{can_access}
-use Rattle.rv_model.specs.scalar.ControlTransfer.{branch_target, is_aligned, is_taken, jump_target, register_target}
-use Rattle.rv_model.specs.scalar.LoadsAndStores.{access_address, load_width, store_width}
+use Rattle.rv_model.specs.scalar.ControlTransfer.{is_taken, register_target}
+use Rattle.rv_model.specs.scalar.Arithmetic.{sum}
+use Rattle.rv_model.specs.scalar.LoadsAndStores.{load_width, store_width}
 use Rattle.rv_model.specs.scalar.Registers.{read_register, with_register}
 use Rattle.rv_model.specs.step.Hart.{HartState, Stepped, faults}
-use Rattle.rv_model.specs.step.ScalarStep.{csr_step, environment_call, jumps, system_step}
+use Rattle.rv_model.specs.step.ScalarStep.{csr_step, environment_call, jumps, scalar_step}
 use Rattle.rv_model.specs.step.Step.{executed, fetched, step, word_at}
-use Rattle.rv_model.specs.step.StepTicks.{CutStepTakesAllTicks, ScalarStepsTakeOneTick, StepTakesTicks, UncutStepIsSame, is_scalar}
+use Rattle.rv_model.specs.step.Ticks.{ScalarStepsTakeOneTick, TakesTicks, is_scalar}
 use Rattle.rv_model.specs.step.VectorStep.{vector_step}
 use Rattle.rv_model.specs.step.WriteCall.{output_room, write_call, write_count}
 use Rattle.rv_model.specs.vector.Control.{csr_form, is_write}
 use Rattle.rv_model.specs.vector.ControlRegisters.{control_register, is_read_only}
-use Rattle.rv_model.proofs.step_lemmas.Ticks.{cut_takes_all_ticks, more_ticks_are_same, ticks_are_within}
+use Rattle.rv_model.proofs.step_lemmas.Ticks.{vector_steps_take_ticks}
 use Rattle.rv_model.proofs.text_lemmas.Pieces.{of_either}
 
 -- ---- what isn't a vector instruction takes one tick, and isn't cut
@@ -42,7 +43,7 @@ either : (b : Bool) (x y : Stepped) → AtOnce x → AtOnce y → AtOnce (cond b
 either b x y h k = of_either (λ r. AtOnce r) b x y h k
 
 jumps_at_once : (target : ℕ) (scalar : Scalar) (s : HartState) → AtOnce (jumps target scalar s)
-jumps_at_once target scalar s = either (is_aligned target) _ _ (record { ticks = refl; uncut = λ e. cc }) (record { ticks = refl; uncut = λ e. cc })
+jumps_at_once target scalar s = either (target % 4 == 0) _ _ (record { ticks = refl; uncut = λ e. cc }) (record { ticks = refl; uncut = λ e. cc })
 
 csr_at_once : (register : Option ControlRegister) (op : CsrOp) (rd source operand word : ℕ) (s : HartState) → AtOnce (csr_step register op rd source operand word s)
 csr_at_once None op rd source operand word s = record { ticks = refl; uncut = λ e. cc }
@@ -60,7 +61,7 @@ write_at_once s =
     (either (output_room s.output == 0) _ _ (record { ticks = refl; uncut = λ e. cc })
     (either readable _ _ (record { ticks = refl; uncut = λ e. cc }) (record { ticks = refl; uncut = λ e. cc }))))
 
-system_at_once : (op : SystemOp) (s : HartState) → AtOnce (system_step op s)
+system_at_once : (op : SystemOp) (s : HartState) → AtOnce (scalar_step (System op) s)
 unfolding environment_call
 system_at_once system.Ecall s =
     either (read_register s.scalar 17 == 93 || read_register s.scalar 17 == 94) _ _ (record { ticks = refl; uncut = λ e. cc })
@@ -87,9 +88,9 @@ at_once_timed r scalar once = record {
 vector_timed : (i : Instr) (word : ℕ) (s : HartState) → IsTimed false (λ limit. vector_step limit i word s) s.scalar
 vector_timed i word s = record {
   at_once = λ is. absurd (false≢true is);
-  within = λ limit some. ticks_are_within limit i word s some;
-  cut = λ limit e. cut_takes_all_ticks limit i word s e;
-  same = λ limit larger more uncut. more_ticks_are_same limit larger i word s more uncut;
+  within = λ limit some. (vector_steps_take_ticks i word).within limit s some;
+  cut = λ limit e. (vector_steps_take_ticks i word).cut limit s e;
+  same = λ limit larger more uncut. (vector_steps_take_ticks i word).more limit larger s more uncut;
 }
 
 executed_timed : (o : Option Instr) (word : ℕ) (s : HartState) → IsTimed (is_scalar o) (λ limit. executed limit o word s) s.scalar
@@ -97,20 +98,20 @@ unfolding executed
 executed_timed None word s = at_once_timed _ s.scalar (record { ticks = refl; uncut = λ e. cc })
 executed_timed (Some (instr.Scalar (Upper op rd imm))) word s = at_once_timed _ s.scalar (record { ticks = refl; uncut = λ e. cc })
 executed_timed (Some (instr.Scalar (Jump rd imm))) word s =
-    at_once_timed _ s.scalar (jumps_at_once (jump_target s.scalar.pc imm) (with_register rd ((s.scalar.pc + 4) % 2 ^ 64) s.scalar) s)
+    at_once_timed _ s.scalar (jumps_at_once (sum w64 s.scalar.pc (j_immediate imm)) (with_register rd (sum w64 s.scalar.pc 4) s.scalar) s)
 executed_timed (Some (instr.Scalar (JumpRegister rd rs1 imm))) word s =
-    at_once_timed _ s.scalar (jumps_at_once (register_target (read_register s.scalar rs1) imm) (with_register rd ((s.scalar.pc + 4) % 2 ^ 64) s.scalar) s)
+    at_once_timed _ s.scalar (jumps_at_once (register_target (read_register s.scalar rs1) imm) (with_register rd (sum w64 s.scalar.pc 4) s.scalar) s)
 executed_timed (Some (instr.Scalar (Branch op rs1 rs2 imm))) word s =
     at_once_timed _ s.scalar
-    (either (is_taken op (read_register s.scalar rs1) (read_register s.scalar rs2)) _ _ (jumps_at_once (branch_target s.scalar.pc imm) s.scalar s)
+    (either (is_taken op (read_register s.scalar rs1) (read_register s.scalar rs2)) _ _ (jumps_at_once (sum w64 s.scalar.pc (b_immediate imm)) s.scalar s)
     (record { ticks = refl; uncut = λ e. cc }))
 executed_timed (Some (instr.Scalar (Load op rd rs1 imm))) word s =
     at_once_timed _ s.scalar
-    (either (can_access access.Load s.memory (access_address (read_register s.scalar rs1) (i_immediate imm)) (byte_len (load_width op))) _ _
+    (either (can_access access.Load s.memory (sum w64 (read_register s.scalar rs1) (i_immediate imm)) (byte_len (load_width op))) _ _
     (record { ticks = refl; uncut = λ e. cc }) (record { ticks = refl; uncut = λ e. cc }))
 executed_timed (Some (instr.Scalar (Store op rs1 rs2 imm))) word s =
     at_once_timed _ s.scalar
-    (either (can_access access.Store s.memory (access_address (read_register s.scalar rs1) (s_immediate imm)) (byte_len (store_width op))) _ _
+    (either (can_access access.Store s.memory (sum w64 (read_register s.scalar rs1) (s_immediate imm)) (byte_len (store_width op))) _ _
     (record { ticks = refl; uncut = λ e. cc }) (record { ticks = refl; uncut = λ e. cc }))
 executed_timed (Some (instr.Scalar (RegisterImmediate op rd rs1 imm))) word s = at_once_timed _ s.scalar (record { ticks = refl; uncut = λ e. cc })
 executed_timed (Some (instr.Scalar (ShiftImmediate op rd rs1 shamt))) word s = at_once_timed _ s.scalar (record { ticks = refl; uncut = λ e. cc })
@@ -135,14 +136,15 @@ step_timed s = named (can_access access.Fetch s.memory s.scalar.pc 4)
     named true = executed_timed (scan table word) word s
     named false = at_once_timed _ s.scalar (record { ticks = refl; uncut = λ e. cc })
 
-pub step_takes_ticks : StepTakesTicks
-step_takes_ticks limit s some = (step_timed s).within limit some
+pub steps_take_ticks : TakesTicks step
+steps_take_ticks = record {
+  within = λ limit s some. (step_timed s).within limit some;
+  cut = λ limit s cut. (step_timed s).cut limit cut;
+  more = λ limit larger s more uncut. (step_timed s).same limit larger more uncut;
+}
 
-pub cut_step_takes_all_ticks : CutStepTakesAllTicks
-cut_step_takes_all_ticks limit s cut = (step_timed s).cut limit cut
-
-pub uncut_step_is_same : UncutStepIsSame
-uncut_step_is_same limit larger s more uncut = (step_timed s).same limit larger more uncut
+pub step_takes_ticks : (limit : ℕ) (s : HartState) → 1 ≤ limit → (1 ≤ (step limit s).ticks) × ((step limit s).ticks ≤ limit)
+step_takes_ticks limit s some = steps_take_ticks.within limit s some
 
 pub scalar_steps_take_one_tick : ScalarStepsTakeOneTick
 scalar_steps_take_one_tick limit s scalar = let once = (step_timed s).at_once scalar limit in (once.ticks, once.uncut)

@@ -22,13 +22,13 @@ use Rattle.rv_model.specs.legality.Legality.{IsLegal, is_legal}
 use Rattle.rv_model.specs.memory.Memory.{Memory}
 use Rattle.rv_model.specs.step.Hart.{HartState}
 use Rattle.rv_model.specs.step.MemoryStep.{access_end, after_access, filled_type, load_fills_masked_off, reads_memory, tail_type, with_tails}
-use Rattle.rv_model.specs.step.Resumes.{CutStepResumes, InstructionLeavesOff, InstructionResumes, InstructionStops, KeepsOwnWord, KeepsWord, LeavesPart, StepResumes, StopsShort, after_ticks, finds}
+use Rattle.rv_model.specs.step.Resumes.{KeepsOwnWord, KeepsWord, LeavesPart, StopsShort, after_ticks, finds}
 use Rattle.rv_model.specs.step.VectorStep.{VectorStepped, access_step, accessed, after_vector, performed, vector_ends, vector_executed, vector_step, vector_ticks}
 use Rattle.rv_model.specs.vector.Registers.{register_of}
 use Rattle.rv_model.proofs.access_lemmas.InstructionsResume.{access_resumes}
 use Rattle.rv_model.proofs.access_lemmas.Runs.{IsAgain, access_again, again_of, is_stopped, made_of, run_facts, run_is, stopped_state}
 use Rattle.rv_model.proofs.legality_lemmas.Meaning.{is_legal_means}
-use Rattle.rv_model.proofs.step_lemmas.Cuts.{accessed_facts, cut_at, cut_index, cut_short, operation_whole}
+use Rattle.rv_model.proofs.step_lemmas.Cuts.{accessed_facts, cut_at, operation_whole}
 use Rattle.rv_model.proofs.step_lemmas.StoredWords.{SameWord, run_keeps_word}
 
 -- ---- an access that stops leaves its tail
@@ -285,10 +285,14 @@ module _ (limit later : ℕ) (s : HartState) (more : Memory) where
                 ≡ vector_ticks later i (finds more d.state) + (d.state.vector.vstart - s.vector.vstart)) (sym here) r.ticks;
           }
 
-pub instruction_resumes : InstructionResumes
+pub instruction_resumes : (limit later : ℕ) (i : Instr) (s : HartState) (more : Memory) → IsConfiguration s.vector.conf
+    → StopsShort (vector_executed limit i s).end → Extends (vector_executed limit i s).state.memory more
+    → vector_executed later i (finds more (vector_executed limit i s).state)
+    ≡ vector_executed ((vector_executed limit i s).state.vector.vstart - s.vector.vstart + later) i (finds (overlay s.memory more) s)
 instruction_resumes limit later i s more is stops grown = (executed_part limit later s more i is stops grown).same
 
-pub instruction_stops : InstructionStops
+pub instruction_stops : (limit : ℕ) (i : Instr) (s : HartState) → IsConfiguration s.vector.conf → StopsShort (vector_executed limit i s).end
+    → LeavesPart i s (vector_executed limit i s).state
 instruction_stops limit i s is stops = (executed_part limit 0 s (vector_executed limit i s).state.memory i is stops (λ a c e. e)).left
 
 pub configuration_stays : (limit : ℕ) (i : Instr) (s : HartState) → IsConfiguration s.vector.conf → StopsShort (vector_executed limit i s).end
@@ -324,7 +328,11 @@ part_resumes limit later i word s more is stops grown =
     ∙ ap (λ (n : ℕ). after_vector n d.end word d.state) r.ticks
     ∙ after_more (vector_ticks later i (finds more part)) done d.end word d.state r.legal
 
-pub step_resumes : StepResumes
+pub step_resumes : (limit later : ℕ) (i : Instr) (word : ℕ) (s : HartState) (more : Memory) → IsConfiguration s.vector.conf
+    → StopsShort (vector_executed limit i s).end → Extends (vector_step limit i word s).state.memory more
+    → vector_step ((vector_step limit i word s).state.vector.vstart - s.vector.vstart + later) i word (finds (overlay s.memory more) s)
+    ≡ after_ticks ((vector_step limit i word s).state.vector.vstart - s.vector.vstart)
+    (vector_step later i word (finds more (vector_step limit i word s).state))
 step_resumes limit later i word s more is stops grown =
     let d : VectorStepped = vector_executed limit i s in
     let leaves_part : (vector_step limit i word s).state ≡ d.state = after_short (vector_ticks limit i s) d.end word d.state stops in
@@ -332,20 +340,9 @@ step_resumes limit later i word s more is stops grown =
     ≡ after_ticks (part.vector.vstart - s.vector.vstart) (vector_step later i word (finds more part))) (sym leaves_part)
     (part_resumes limit later i word s more is stops (subst (λ (part : HartState). Extends part.memory more) leaves_part grown))
 
-pub instruction_leaves_off : InstructionLeavesOff
-instruction_leaves_off limit i s index is e = let cut = cut_at limit i s index e in (cut.at, cut.left)
-
-pub cut_step_resumes : CutStepResumes
-cut_step_resumes limit later i word s more is cut grown =
-    let d : VectorStepped = vector_executed limit i s in
-    let at = cut_index (vector_ticks limit i s) d.end word d.state cut in
-    let stops : StopsShort d.end = cut_short d.end at.0 at.1 in
-    let leaves_part : (vector_step limit i word s).state ≡ d.state = after_short (vector_ticks limit i s) d.end word d.state stops in
-    let place = instruction_leaves_off limit i s at.0 is at.1 in
-    let done : (vector_step limit i word s).state.vector.vstart - s.vector.vstart ≡ limit =
-    ap (λ (part : HartState). part.vector.vstart - s.vector.vstart) leaves_part ∙ omega (arith, place.0, place.1) in
-    subst (λ (n : ℕ). vector_step (n + later) i word (finds (overlay s.memory more) s) ≡ after_ticks n (vector_step later i word (finds more (vector_step limit i word s).state)))
-    done (step_resumes limit later i word s more is stops grown)
+pub instruction_leaves_off : (limit : ℕ) (i : Instr) (s : HartState) (index : ℕ) → (vector_executed limit i s).end ≡ vector_end.Cut index
+    → (index ≡ s.vector.vstart + limit) × ((vector_executed limit i s).state.vector.vstart ≡ index)
+instruction_leaves_off limit i s index e = let cut = cut_at limit i s index e in (cut.at, cut.left)
 
 -- an instruction that is cut or faults leaves the word at the program counter, if what it did before stored no byte of that
 pub part_keeps_word : (limit : ℕ) (i : Instr) (s : HartState) → IsConfiguration s.vector.conf → StopsShort (vector_executed limit i s).end

@@ -11,14 +11,13 @@ use Rattle.rv_model.specs.declared.step.step_end.StepEnd.TheVariants as step_end
 use Rattle.rv_model.specs.declared.step.vector_end.VEnd.{VEnd}
 use Rattle.rv_model.specs.declared.step.vector_end.VEnd.TheVariants as vector_end
 use Rattle.rv_model.specs.accesses.AccessRuns.{AccessRun}
-use Rattle.rv_model.specs.accesses.Restarts.{IsUncut}
 use Rattle.rv_model.specs.accesses.VectorAccess.{VectorAccess, access_of}
 use Rattle.rv_model.specs.legality.Legality.{is_legal}
 use Rattle.rv_model.specs.step.Hart.{HartState}
 use Rattle.rv_model.specs.step.MemoryStep.{access_end, after_access, filled_type, load_fills_masked_off}
-use Rattle.rv_model.specs.step.Ticks.{CutTakesAllTicks, MoreTicksAreSame, TicksAreWithin}
-use Rattle.rv_model.specs.step.VectorStep.{VectorStepped, access_step, accessed, after_vector, performed, vector_ends, vector_executed, vector_ticks}
-use Rattle.rv_model.proofs.access_lemmas.RunsAgain.{directed_same}
+use Rattle.rv_model.specs.step.Ticks.{TakesTicks}
+use Rattle.rv_model.specs.step.VectorStep.{VectorStepped, access_step, accessed, after_vector, performed, vector_ends, vector_executed, vector_step, vector_ticks}
+use Rattle.rv_model.proofs.access_lemmas.RunsAgain.{IsUncut, directed_same}
 use Rattle.rv_model.proofs.step_lemmas.Cuts.{accessed_facts, cut_at, cut_index}
 use Rattle.rv_model.proofs.step_lemmas.Effects.{UnlessDone, vector_keeps}
 
@@ -43,14 +42,16 @@ after_within limit ticks vector_end.Illegal word s some h = (omega arith, omega 
 after_within limit ticks (vector_end.Fault store addr) word s some h = h
 after_within limit ticks (vector_end.Cut index) word s some h = h
 
-pub ticks_are_within : TicksAreWithin
+ticks_are_within : (limit : ℕ) (i : Instr) (word : ℕ) (s : HartState) → 1 ≤ limit
+    → (1 ≤ (vector_step limit i word s).ticks) × ((vector_step limit i word s).ticks ≤ limit)
 ticks_are_within limit i word s some =
     let done : VectorStepped = vector_executed limit i s in
     after_within limit (vector_ticks limit i s) done.end word done.state some (ticks_within limit i s some)
 
 -- ---- a cut
 
-pub cut_takes_all_ticks : CutTakesAllTicks
+cut_takes_all_ticks : (limit : ℕ) (i : Instr) (word : ℕ) (s : HartState) → (vector_step limit i word s).end ≡ step_end.Cut
+    → ((vector_step limit i word s).ticks ≡ limit) × ((vector_step limit i word s).state.scalar ≡ s.scalar)
 cut_takes_all_ticks limit i word s cut =
     let done : VectorStepped = vector_executed limit i s in
     let ticks : ℕ = vector_ticks limit i s in
@@ -127,5 +128,9 @@ module _ (limit larger : ℕ) (more : limit ≤ larger) (s : HartState) where
       named true _ = λ uncut. refl
       named false _ = λ uncut. refl
 
-pub more_ticks_are_same : MoreTicksAreSame
-more_ticks_are_same limit larger i word s more uncut = step_same limit larger more s i word uncut
+pub vector_steps_take_ticks : (i : Instr) (word : ℕ) → TakesTicks (λ limit. vector_step limit i word)
+vector_steps_take_ticks i word = record {
+  within = λ limit s some. ticks_are_within limit i word s some;
+  cut = λ limit s cut. cut_takes_all_ticks limit i word s cut;
+  more = λ limit larger s more uncut. step_same limit larger more s i word uncut;
+}

@@ -4,7 +4,7 @@ use Rattle.std.specs.Prelude.{not, if◌then◌else◌, filter, map}
 use Rattle.std.proofs.lemmas.Bool.{and_parts, and_from, not-true}
 use Rattle.rv_model.specs.text.Lines.{is_newline, pieces, tagged, text}
 use Rattle.rv_model.proofs.text_lemmas.Newlines.{is_line, IsLine, are_lines, AreLines}
-use Rattle.rv_model.specs.machine.Script.{lines, of_user}
+use Rattle.rv_model.specs.machine.Script.{lines}
 
 -- a line that ends is the first piece
 pub pieces_at : (line rest : List ℕ) → IsLine line → pieces (line ++ 10 ∷ rest) ≡ line ∷ pieces rest
@@ -29,6 +29,9 @@ shown false line ps tag = refl
 joined : (b : Bool) (l : List ℕ) (ls all rest : List (List ℕ)) → all ≡ cond b ls [] ++ rest → cond b (l ∷ all) all ≡ cond b (l ∷ ls) [] ++ rest
 joined true l ls all rest h = ap (λ (x : List (List ℕ)). l ∷ x) h
 joined false l ls all rest h = h
+
+abbrev of_user : ℕ → List (List ℕ) → List (List ℕ)
+of_user u all = map (λ line. drop 2 line) (filter (λ line. eqb (get_or line 0 0) (48 + u)) all)
 
 -- the first line is shown to its user alone
 pub lines_tagged : (u tag : ℕ) (line rest : List ℕ) → is_newline tag ≡ false → IsLine line → lines u (tagged tag line ++ rest) ≡ (if eqb tag (48 + u) then line ∷ lines u rest else lines u rest)

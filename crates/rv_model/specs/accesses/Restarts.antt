@@ -2,6 +2,7 @@
 -- and 17.1; the overlaps of registers are those of sections 5.2, 5.3 and 7.8).
 use Rattle.std.specs.Prelude.{◌≡◌, ◌≢◌, ℕ, ◌+◌, ◌-◌, ◌*◌, ◌<◌, ◌≤◌, Bool, List, [], ◌∷◌, ◌++◌, IsSomeAnd, Some, ⊤}
 use Rattle.std.specs.FinMap.{get, from_entries, entries}
+use Rattle.std.specs.List.{fold}
 use Rattle.std.specs.Option.{option_or}
 use Rattle.rv_model.specs.declared.instructions.instruction.Instr.TheVariants as instr
 use Rattle.rv_model.specs.declared.instructions.access.AccessInstr.TheVariants.{Indexed}
@@ -10,7 +11,7 @@ use Rattle.rv_model.specs.declared.instructions.operations.Order.{Order}
 use Rattle.rv_model.specs.declared.instructions.operations.Eew.{Eew}
 use Rattle.rv_model.specs.declared.step.memory_end.MemEnd.TheVariants.{Cut, Done, Fault}
 use Rattle.rv_model.specs.declared.vector.sizes.TheConstants.{VLENB}
-use Rattle.rv_model.specs.accesses.AccessRuns.{AccessInstr, AccessRun, MemEnd, Memory, Scalar, VState, VectorAccess, access_of, access_run}
+use Rattle.rv_model.specs.accesses.AccessRuns.{AccessInstr, AccessRun, Memory, Scalar, VState, VectorAccess, access_of, access_run}
 use Rattle.rv_model.specs.accesses.VectorAccess.{VType, group_type, index_count}
 use Rattle.rv_model.specs.vector.Groups.{access_type}
 use Rattle.rv_model.specs.legality.Legality.{IsLegal}
@@ -54,13 +55,6 @@ pub record IsStopped (a : VectorAccess) (before after : VState) : Type 0 where
   pub saturation : after.vxsat ≡ before.vxsat
   pub registers : a.direction ≡ direction.Store → after.file ≡ before.file
 
-abbrev pub StopsWithin : Type 0
-StopsWithin = (i : AccessInstr) (limit : ℕ) (fill_masked_off : Bool) (v : VState) (x : Scalar) (m : Memory)
-    → IsLegal (instr.Access i) v.conf.vtype v.vstart
-    → IsConfiguration v.conf
-    → (access_run limit fill_masked_off i v x m).end ≢ Done
-    → IsSomeAnd (access_of i v x) (λ a. IsStopped a v (access_run limit fill_masked_off i v x m).vector)
-
 -- One that is cut has done just so many indices as it might, and one that faults fewer. Its vstart is the first index that isn't
 -- done.
 pub record LeavesOff (limit : ℕ) (v : VState) (run : AccessRun) : Type 0 where
@@ -71,74 +65,78 @@ abbrev pub AccessLeavesOff : Type 0
 AccessLeavesOff = (i : AccessInstr) (limit : ℕ) (fill_masked_off : Bool) (v : VState) (x : Scalar) (m : Memory)
     → LeavesOff limit v (access_run limit fill_masked_off i v x m)
 
--- a legal load or store that is cut or faults, and is run again in a memory that has grown, ends and leaves what it would have if
--- what is new had been there from the start, and the limit had counted what was done as well
-abbrev pub AccessResumes : Type 0
-AccessResumes = (i : AccessInstr) (limit later : ℕ) (fill_masked_off : Bool) (v : VState) (x : Scalar) (m more : Memory)
-    → IsLegal (instr.Access i) v.conf.vtype v.vstart
-    → IsConfiguration v.conf
-    → (access_run limit fill_masked_off i v x m).end ≢ Done
-    → Extends (access_run limit fill_masked_off i v x m).memory more
-    → access_run later fill_masked_off i (access_run limit fill_masked_off i v x m).vector x more
-    ≡ access_run ((access_run limit fill_masked_off i v x m).vector.vstart - v.vstart + later) fill_masked_off i v x (overlay m more)
+-- ---- what stops and is run again, any number of times
 
--- ---- any number of runs
+-- What may stop before its end and be run again, as a load or store from a vector state on: what the whole of it does with a limit
+-- in a memory, what a run does that is made after another one, with a limit of its own in a memory of its own, and how many indices
+-- are done when a run ends. A run that found a memory may be followed if it is cut or faults, and only by one whose memory has what
+-- it left.
+pub record Restartable (R : Type 0) : Type 1 where
+  pub whole : ℕ → Memory → R
+  pub again : ℕ → Memory → R → R
+  pub done : R → ℕ
+  pub MayFollow : Memory → R → Memory → Type 0
+  pub IsUncut : R → Type 0
+
+-- a run goes on: made again, it ends and leaves what the whole would have if what is new had been there from the start, and the limit
+-- had counted what was done as well
+abbrev pub GoesOn : {R : Type 0} → Restartable R → Memory → R → Type 0
+GoesOn k m run = (limit : ℕ) (more : Memory) → k.MayFollow m run more
+    → k.again limit more run ≡ k.whole (k.done run + limit) (overlay m more)
 
 -- a run after the first: at most how many indices it has, and the memory that it finds
 pub record NextRun : Type 0 where
   pub limit : ℕ
   pub memory : Memory
 
--- the last of these runs; each begins with the vector state that the one before left
-abbrev pub last_run : Bool → AccessInstr → Scalar → AccessRun → List NextRun → AccessRun
-last_run fill_masked_off i x run [] = run
-last_run fill_masked_off i x run (next ∷ rest) =
-    last_run fill_masked_off i x (access_run next.limit fill_masked_off i run.vector x next.memory) rest
-
--- each run but the last is cut or faults, and the next one finds its memory, or one that has grown
-abbrev pub AreResumed : Bool → AccessInstr → Scalar → AccessRun → List NextRun → Type 0
-AreResumed fill_masked_off i x run [] = ⊤
-AreResumed fill_masked_off i x run (next ∷ rest) =
-    (run.end ≢ Done)
-    × (Extends run.memory next.memory
-    × AreResumed fill_masked_off i x (access_run next.limit fill_masked_off i run.vector x next.memory) rest)
+-- the last of these runs
+abbrev pub last_run : {R : Type 0} → Restartable R → R → List NextRun → R
+last_run k run nexts = fold (λ run next. k.again next.limit next.memory run) run nexts
 
 -- a memory with all that is new in those that the runs find
 abbrev pub with_new : Memory → List NextRun → Memory
-with_new m [] = m
-with_new m (next ∷ rest) = with_new (overlay m next.memory) rest
+with_new m nexts = fold (λ m next. overlay m next.memory) m nexts
 
-abbrev pub IsUncut : MemEnd → Type 0
-IsUncut end = (index : ℕ) → end ≢ Cut index
+-- each of these runs may follow the one before, which found m with all that was new
+abbrev pub AreResumed : {R : Type 0} → Restartable R → Memory → R → List NextRun → Type 0
+AreResumed k m run [] = ⊤
+AreResumed k m run (next ∷ rest) =
+    k.MayFollow m run next.memory × AreResumed k (overlay m next.memory) (k.again next.limit next.memory run) rest
 
--- whatever the limits are, after any number of cuts and faults, a run that isn't cut ends and leaves what the whole instruction
--- does that finds all that is new, with a limit that cuts none of its indices
-abbrev pub LastRunIsWhole : Type 0
-LastRunIsWhole = (i : AccessInstr) (limit whole : ℕ) (fill_masked_off : Bool) (v : VState) (x : Scalar) (m : Memory) (nexts : List NextRun)
-    → IsLegal (instr.Access i) v.conf.vtype v.vstart
-    → IsConfiguration v.conf
-    → AreResumed fill_masked_off i x (access_run limit fill_masked_off i v x m) nexts
-    → IsUncut (last_run fill_masked_off i x (access_run limit fill_masked_off i v x m) nexts).end
-    → index_count (access_of i v x) ≤ whole
-    → last_run fill_masked_off i x (access_run limit fill_masked_off i v x m) nexts
-    ≡ access_run whole fill_masked_off i v x (with_new m nexts)
-
--- the same of one run of a legal load or store, which found this memory and left that: run again once, and run again any number of
--- times
-pub record AccessGoesOn (fill_masked_off : Bool) (i : AccessInstr) (x : Scalar) (v : VState) (m : Memory) (run : AccessRun) : Type 0 where
-  pub again : (later : ℕ) (more : Memory) → run.end ≢ Done → Extends run.memory more
-      → access_run later fill_masked_off i run.vector x more
-      ≡ access_run (run.vector.vstart - v.vstart + later) fill_masked_off i v x (overlay m more)
-  pub whole : (nexts : List NextRun) (limit : ℕ) → AreResumed fill_masked_off i x run nexts
-      → IsUncut (last_run fill_masked_off i x run nexts).end → index_count (access_of i v x) ≤ limit
-      → last_run fill_masked_off i x run nexts ≡ access_run limit fill_masked_off i v x (with_new m nexts)
+-- whatever the limits are, after any number of cuts and faults, a run that isn't cut ends and leaves what the whole does that finds
+-- all that is new, with a limit that is enough
+abbrev pub EndsWhole : {R : Type 0} → Restartable R → ℕ → Memory → R → Type 0
+EndsWhole k enough m run = (nexts : List NextRun) (limit : ℕ) → AreResumed k m run nexts → k.IsUncut (last_run k run nexts)
+    → enough ≤ limit → last_run k run nexts ≡ k.whole limit (with_new m nexts)
 
 -- a larger limit changes nothing where the smaller cuts nothing
-abbrev pub LargerLimitIsSame : Type 0
-LargerLimitIsSame = (i : AccessInstr) (limit larger : ℕ) (fill_masked_off : Bool) (v : VState) (x : Scalar) (m : Memory)
-    → limit ≤ larger
-    → IsUncut (access_run limit fill_masked_off i v x m).end
-    → access_run larger fill_masked_off i v x m ≡ access_run limit fill_masked_off i v x m
+abbrev pub LargerLimitIsSame : {R : Type 0} → Restartable R → Type 0
+LargerLimitIsSame k = (limit larger : ℕ) (m : Memory) → limit ≤ larger → k.IsUncut (k.whole limit m)
+    → k.whole larger m ≡ k.whole limit m
+
+-- ---- a load or store
+
+-- from a vector state on, whose masked-off elements a load may fill; it is run again in the vector state that it left
+abbrev pub access_from : Bool → AccessInstr → Scalar → VState → Restartable AccessRun
+access_from fill i x v = record {
+  whole = λ limit m. access_run limit fill i v x m;
+  again = λ limit m run. access_run limit fill i run.vector x m;
+  done = λ run. run.vector.vstart - v.vstart;
+  MayFollow = λ m run more. (run.end ≢ Done) × Extends run.memory more;
+  IsUncut = λ run. (index : ℕ) → run.end ≢ Cut index;
+}
+
+-- one that found this memory and ended so: what it leaves if it stopped, and that it goes on
+pub record AccessGoesOn (fill : Bool) (i : AccessInstr) (x : Scalar) (v : VState) (m : Memory) (run : AccessRun) : Type 0 where
+  pub part : run.end ≢ Done → IsSomeAnd (access_of i v x) (λ a. IsStopped a v run.vector)
+  pub again : GoesOn (access_from fill i x v) m run
+  pub whole : EndsWhole (access_from fill i x v) (index_count (access_of i v x)) m run
+
+-- as each legal one does, with at most so many indices
+abbrev pub AccessesGoOn : Type 0
+AccessesGoOn = (i : AccessInstr) (limit : ℕ) (fill : Bool) (v : VState) (x : Scalar) (m : Memory)
+    → IsLegal (instr.Access i) v.conf.vtype v.vstart → IsConfiguration v.conf
+    → AccessGoesOn fill i x v m (access_run limit fill i v x m)
 
 -- ---- what an overlay is
 

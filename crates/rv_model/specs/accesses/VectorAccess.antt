@@ -2,7 +2,7 @@
 use Rattle.std.specs.Prelude.{ℕ, ◌+◌, ◌*◌, ◌/◌, ◌%◌, ◌^◌, Bool, true, false, List, [], map, Option, Some, None, pos, ◌+ℤ◌, ◌*ℤ◌, if◌then◌else◌}
 use Rattle.std.specs.Int.{cast_signed, w64}
 use Rattle.std.specs.List.{range_with_len}
-use Rattle.std.specs.Option.{option_map}
+use Rattle.std.specs.Option.{option_map, option_map_or}
 use Rattle.rv_model.specs.declared.instructions.instruction.Instr.{Instr}
 use Rattle.rv_model.specs.declared.instructions.instruction.Instr.TheVariants as instr
 pub use Rattle.rv_model.specs.declared.instructions.access.AccessInstr.{AccessInstr}
@@ -25,7 +25,7 @@ use Rattle.rv_model.specs.elements.Formulas.{wrap}
 use Rattle.rv_model.specs.vector.Groups.{access_type, register_count}
 use Rattle.rv_model.specs.scalar.Registers.{read_register}
 use Rattle.rv_model.specs.vector.Configuration.{element_width, sew_width, width_bytes}
-use Rattle.rv_model.specs.vector.Registers.{register_of, registers}
+use Rattle.rv_model.specs.vector.Registers.{registers}
 
 -- what a load or store moves: the active indices of its body, each a segment of so many fields of so many bytes
 pub record VectorAccess : Type 0 where
@@ -66,28 +66,32 @@ element_start a t = VLENB * (a.register + t.field * a.field_registers) + t.index
 
 -- a unit-stride operation: what it does, and whether it is fault-only-first
 abbrev pub unit_direction : UnitOp → Direction
-unit_direction unit.Load = Load
-unit_direction unit.FaultOnlyFirst = Load
 unit_direction unit.Store = Store
+unit_direction _ = Load
 
 abbrev pub is_first_only : UnitOp → Bool
-is_first_only unit.Load = false
 is_first_only unit.FaultOnlyFirst = true
-is_first_only unit.Store = false
+is_first_only _ = false
 
--- an access of the elements that vl says, to groups of a type, by the address of each segment
-abbrev pub segments : Direction → GroupType → ℕ → ℕ → Bool → (ℕ → ℕ) → VState → VectorAccess
-segments direction g nf vd unmasked address v =
+-- an access of the elements of a body, in segments of so many fields of so many bytes, each field from vd on in so many registers,
+-- by the address of each segment
+abbrev pub access_by : Direction → Body → ℕ → ℕ → ℕ → ℕ → (ℕ → ℕ) → VectorAccess
+access_by direction body fields size vd field_registers address =
     record {
       direction = direction;
       first_only = false;
-      body = body_of unmasked v;
-      fields = nf + 1;
-      size = width_bytes g.width;
+      body = body;
+      fields = fields;
+      size = size;
       register = vd;
-      field_registers = registers g.emul;
+      field_registers = field_registers;
       address = address;
     }
+
+-- of the elements that vl says, to groups of a type
+abbrev pub segments : Direction → GroupType → ℕ → ℕ → Bool → (ℕ → ℕ) → VState → VectorAccess
+segments direction g nf vd unmasked address v =
+    access_by direction (body_of unmasked v) (nf + 1) (width_bytes g.width) vd (registers g.emul) address
 
 -- unit stride: the segments follow one another (section 7.4)
 abbrev pub unit_access : UnitOp → GroupType → ℕ → ℕ → ℕ → Bool → VState → Scalar → VectorAccess
@@ -110,16 +114,7 @@ indexed_access direction g indices nf vd rs1 vs2 unmasked v x =
 -- so many elements of so many bytes in so many registers, whatever the vector type is
 abbrev pub unmasked_access : Direction → ℕ → ℕ → ℕ → ℕ → ℕ → VState → Scalar → VectorAccess
 unmasked_access direction length size count vd rs1 v x =
-    record {
-      direction = direction;
-      first_only = false;
-      body = record { unmasked = true; mask = register_of v.file 0; start = v.vstart; end = length };
-      fields = 1;
-      size = size;
-      register = vd;
-      field_registers = count;
-      address = λ i. (read_register x rs1 + i * size) % 2 ^ 64;
-    }
+    access_by direction (record (body_of true v) { end = length }) 1 size vd count (λ i. (read_register x rs1 + i * size) % 2 ^ 64)
 
 -- how many bytes an element of a width has
 abbrev pub element_bytes : Eew → ℕ
@@ -156,5 +151,4 @@ vector_access _ v x = None
 
 -- how many indices it has
 abbrev pub index_count : Option VectorAccess → ℕ
-index_count None = 0
-index_count (Some a) = a.body.end
+index_count a = option_map_or (λ a. a.body.end) a 0

@@ -1,13 +1,11 @@
 -- What one token of assembler text means: a number; a register (Unprivileged ISA, "RISC-V Assembly Programmer's Handbook"); a
--- name of a control register or of a part of vtype (V extension, "Vector Extension Programmer's Model")
-use Rattle.std.specs.Prelude.{ℕ, zero, suc, ◌+◌, ◌-◌, ◌*◌, ◌/◌, ◌%◌, ◌&&◌, List, [], ◌∷◌, ◌++◌, Option, Some, None, nat_le, nat_lt, option_map, ◌==◌, if◌then◌else◌, decimal}
+-- control register (V extension, "Vector Extension Programmer's Model")
+use Rattle.std.specs.Prelude.{ℕ, zero, suc, ◌+◌, ◌-◌, ◌*◌, ◌/◌, ◌%◌, ◌&&◌, List, [], ◌∷◌, ◌++◌, Option, Some, None, nat_le, nat_lt, option_map, ◌==◌, if◌then◌else◌}
+use Rattle.std.specs.Option.{option_and_then, option_or}
 use Rattle.std.specs.Str.{bytes_eq}
-use Rattle.rv_model.specs.vector.Types.{ControlRegister}
-use Rattle.rv_model.specs.instructions.BitFields.{flag_bit}
 use Rattle.rv_model.specs.text.Digits.{digits_after}
-use Rattle.rv_model.specs.vector.ControlRegisters.{control_register, register_name, register_named, register_number}
-use Rattle.rv_model.specs.vector.TypeNames.{lmul_named, mask_named, sew_named, tail_named}
-use Rattle.rv_model.specs.vector.TypeRules.{lmul_number, sew_number}
+use Rattle.rv_model.specs.vector.ControlRegisters.{control_registers, register_name, register_number}
+use Rattle.rv_model.specs.vector.TypeNames.{named}
 
 -- 0, if the token is this word
 abbrev pub literal : List ℕ → List ℕ → Option ℕ
@@ -28,24 +26,20 @@ digits_in radix (c ∷ cs) = digits_after radix 0 (c ∷ cs)
 
 -- decimal digits, or `0x` and hexadecimal digits; an upper-case letter is in no run of a text, so in no number of it
 abbrev pub number : List ℕ → Option ℕ
-number [] = None
-number (a ∷ []) = digits_in 10 (a ∷ [])
 number (a ∷ b ∷ cs) = if (a == 48) && (b == 120) then digits_in 16 cs else digits_in 10 (a ∷ b ∷ cs)
+number text = digits_in 10 text
 
 -- a number up to a limit
 abbrev pub at_most : ℕ → Option ℕ → Option ℕ
-at_most limit None = None
-at_most limit (Some n) = if nat_le n limit then Some n else None
+at_most limit number = option_and_then (λ n. if nat_le n limit then Some n else None) number
 
 -- how many steps a number is, if it is a whole count
 abbrev pub in_steps : ℕ → Option ℕ → Option ℕ
-in_steps step None = None
-in_steps step (Some n) = if n % step == 0 then Some (n / step) else None
+in_steps step number = option_and_then (λ n. if n % step == 0 then Some (n / step) else None) number
 
 -- n below 0, as a two's complement number of which half are below 0
 abbrev pub negated : ℕ → Option ℕ → Option ℕ
-negated half None = None
-negated half (Some n) = Some (if n == 0 then 0 else 2 * half - n)
+negated half number = option_map (λ n. if n == 0 then 0 else 2 * half - n) number
 
 -- a hexadecimal digit
 abbrev pub hex_digit : ℕ → ℕ
@@ -56,38 +50,6 @@ unfoldable pub hex_digits : ℕ → ℕ → List ℕ
 hex_digits zero n = []
 hex_digits (suc k) n = hex_digits k (n / 16) ++ hex_digit (n % 16) ∷ []
 
--- ---- names of control registers and of the parts of vtype (V extension, "Vector Extension Programmer's Model", "vsetvli/vsetivli/vsetvl")
-
--- the number of the register that a text names, or its digits
-abbrev pub csr_from : List ℕ → Option ControlRegister → Option ℕ
-csr_from text None = at_most 4095 (number text)
-csr_from text (Some register) = Some (register_number register)
-
 -- a control register's number, by its name or in digits
 unfoldable pub csr : List ℕ → Option ℕ
-csr text = csr_from text (register_named text)
-
--- the element width, as vsew
-unfoldable pub vsew : List ℕ → Option ℕ
-vsew text = option_map sew_number (sew_named text)
-
--- the group multiplier, as vlmul
-unfoldable pub vlmul : List ℕ → Option ℕ
-vlmul text = option_map lmul_number (lmul_named text)
-
--- tail agnostic or undisturbed, as vta
-unfoldable pub vta : List ℕ → Option ℕ
-vta text = option_map flag_bit (tail_named text)
-
--- mask agnostic or undisturbed, as vma
-unfoldable pub vma : List ℕ → Option ℕ
-vma text = option_map flag_bit (mask_named text)
-
--- the name of a register, or its number in digits
-abbrev pub csr_text_of : ℕ → Option ControlRegister → List ℕ
-csr_text_of n None = decimal n
-csr_text_of n (Some register) = register_name register
-
--- the one text of a control register
-unfoldable pub csr_text : ℕ → List ℕ
-csr_text n = csr_text_of n (control_register n)
+csr text = option_or (option_map register_number (named register_name control_registers text)) (at_most 4095 (number text))

@@ -1,6 +1,7 @@
 -- The operands of each instruction's text, in their order, each with its kind: what stands behind the name (Unprivileged
 -- ISA, "RISC-V Assembly Programmer's Handbook", and the sections that stand beside each layout; V extension, likewise)
-use Rattle.std.specs.Prelude.{ℕ, ◌-◌, ◌^◌, ◌≡◌, ◌==◌, List, [], ◌∷◌, map, Bool, true, false, Option, Some, None, ◌<◌}
+use Rattle.std.specs.Prelude.{ℕ, ◌≡◌, ◌==◌, List, [], ◌∷◌, map, Bool, true, false, if◌then◌else◌, ◌<◌}
+use Rattle.std.specs.Option.{IsSomeAnd}
 use Rattle.rv_model.specs.instructions.Types.{VectorOp, Source}
 use Rattle.rv_model.specs.instructions.Variants.{Instr, Upper, Jump, JumpRegister, Branch, Load, Store, RegisterImmediate, ShiftImmediate, ShiftImmediateWord, RegisterRegister, Fence, System, Register, Immediate, SetVli, SetIvli, SetVl, Arith, Carry, Move, WholeMove, MaskLogic, Compress, MaskToScalar, Extend, MaskUnary, ElementIndex, MoveToScalar, MoveToVector, UnitStride, Strided, Indexed, WholeLoad, WholeStore, MaskAccess}
 use Rattle.rv_model.specs.declared.instructions.operations.VectorOp.TheVariants as vector_op
@@ -11,9 +12,10 @@ use Rattle.rv_model.specs.declared.assembler.forms.Slot.TheVariants as slot
 use Rattle.rv_model.specs.elements.Formulas.{has_unsigned_immediate}
 use Rattle.rv_model.specs.elements.FixedPoint.{has_unsigned_shift}
 use Rattle.rv_model.specs.instructions.Table.{scan, table}
-use Rattle.rv_model.specs.assembler.Slots.{limit, half, scale}
-use Rattle.rv_model.specs.assembler.Fields.{value_of}
-use Rattle.rv_model.specs.assembler.Table.{name_count, slots_at}
+use Rattle.rv_model.specs.assembler.Slots.{scale}
+use Rattle.rv_model.specs.assembler.Fields.{value_of, bit_count}
+use Rattle.rv_model.specs.assembler.Table.{slots_at}
+use Rattle.rv_model.specs.declared.assembler.mnemonics.TheConstants.{NAME_COUNT}
 use Rattle.rv_model.specs.assembler.Naming.{HasBitsOf}
 
 -- an operand of a text with what it is in the instruction, or a mark between operands
@@ -27,9 +29,9 @@ pub data TextOperand : Type 0 where
   X : ℕ → TextOperand
   -- `v` and the number of a vector register
   V : ℕ → TextOperand
-  -- a number up to a limit
+  -- an unsigned number of so many bits
   Unsigned : ℕ → ℕ → TextOperand
-  -- a whole number of steps of a size, so many of whose counts are below 0 and as many are not, in two's complement
+  -- a whole number of steps of a size, counted in two's complement of so many bits
   Signed : ℕ → ℕ → ℕ → TextOperand
   -- a control register, by its name or its number
   ControlRegister : ℕ → TextOperand
@@ -39,35 +41,14 @@ pub data TextOperand : Type 0 where
   V0 : TextOperand
   -- `, v0.t`, or nothing where the instruction is not masked
   Mask : Bool → TextOperand
-  -- the number of `.word`
-  Word : ℕ → TextOperand
 
--- ---- kinds of numbers
+-- ---- vector operations with a line in "Vector Instruction Listing"
 
--- an unsigned number of so many bits
-abbrev pub unsigned : ℕ → ℕ → TextOperand
-unsigned bits value = Unsigned (2 ^ bits - 1) value
-
--- a signed number of so many bits
-abbrev pub signed : ℕ → ℕ → TextOperand
-signed bits value = Signed 1 (2 ^ (bits - 1)) value
-
--- a distance in bytes, a signed even number of so many bits; its lowest bit is not in the word
-abbrev pub distance : ℕ → ℕ → TextOperand
-distance bits value = Signed 2 (2 ^ (bits - 2)) value
-
--- an immediate of a vector instruction, uimm or simm5 (V extension, "Vector Arithmetic Instruction encoding")
-abbrev pub immediate : Bool → ℕ → TextOperand
-immediate true value = unsigned 5 value
-immediate false value = signed 5 value
-
--- vs1, rs1 or an immediate, which may be unsigned
+-- vs1, rs1 or an immediate, uimm or simm5 ("Vector Arithmetic Instruction encoding")
 abbrev pub second : Bool → Source → TextOperand
 second is_unsigned (source.V vs1) = V vs1
 second is_unsigned (source.X rs1) = X rs1
-second is_unsigned (source.I imm) = immediate is_unsigned imm
-
--- ---- vector operations with a line in "Vector Instruction Listing"
+second is_unsigned (source.I imm) = if is_unsigned then Unsigned 5 imm else Signed 1 5 imm
 
 -- `vd, vs2, vs1, vm`, `vd, vs2, rs1, vm` or `vd, vs2, imm, vm` ("Vector Arithmetic Instruction encoding")
 abbrev pub usual_operands : Bool → Source → ℕ → ℕ → Bool → List TextOperand
@@ -82,17 +63,13 @@ multiply_add_operands source vd vs2 vm = V vd ∷ Comma ∷ second false source 
 abbrev pub carry_operands : Source → ℕ → ℕ → List TextOperand
 carry_operands source vd vs2 = V vd ∷ Comma ∷ V vs2 ∷ Comma ∷ second false source ∷ Comma ∷ V0 ∷ []
 
--- those of vmadc and vmsbc: without v0 where vm says that no carry or borrow comes in
-abbrev pub carry_out_operands : Bool → Source → ℕ → ℕ → List TextOperand
-carry_out_operands true source vd vs2 = V vd ∷ Comma ∷ V vs2 ∷ Comma ∷ second false source ∷ []
-carry_out_operands false source vd vs2 = carry_operands source vd vs2
-
 -- by the operation: which immediates are unsigned, and which operations are multiply-adds
 abbrev pub arith_operands : VectorOp → Source → ℕ → ℕ → Bool → List TextOperand
 -- "Vector Integer Arithmetic Instructions"; the amount of a shift is unsigned, "Vector Single-Width Shift Instructions"
 arith_operands (vector_op.Binary op) source vd vs2 vm = usual_operands (has_unsigned_immediate op) source vd vs2 vm
--- "Vector Integer Add-with-Carry / Subtract-with-Borrow Instructions"
-arith_operands (vector_op.CarryOut op) source vd vs2 vm = carry_out_operands vm source vd vs2
+-- "Vector Integer Add-with-Carry / Subtract-with-Borrow Instructions": no v0 where vm says that no carry or borrow comes in
+arith_operands (vector_op.CarryOut op) source vd vs2 true = V vd ∷ Comma ∷ V vs2 ∷ Comma ∷ second false source ∷ []
+arith_operands (vector_op.CarryOut op) source vd vs2 false = carry_operands source vd vs2
 -- "Vector Fixed-Point Arithmetic Instructions"
 arith_operands (vector_op.FixedPoint op) source vd vs2 vm = usual_operands (has_unsigned_shift op) source vd vs2 vm
 -- "Vector Narrowing Integer Right Shift Instructions", "Vector Narrowing Fixed-Point Clip Instructions"
@@ -111,23 +88,23 @@ arith_operands _ source vd vs2 vm = usual_operands false source vd vs2 vm
 -- the operands of an instruction's text
 abbrev pub text_operands : Instr → List TextOperand
 -- `lui rd, imm`: RV32I, "Integer Register-Immediate Instructions"
-text_operands (instr.Scalar (Upper op rd imm)) = X rd ∷ Comma ∷ unsigned 20 imm ∷ []
--- `jal rd, offset`: RV32I, "Unconditional Jumps"; the distance from the instruction, with 21 bits
-text_operands (instr.Scalar (Jump rd imm)) = X rd ∷ Comma ∷ distance 21 imm ∷ []
+text_operands (instr.Scalar (Upper op rd imm)) = X rd ∷ Comma ∷ Unsigned 20 imm ∷ []
+-- `jal rd, offset`: RV32I, "Unconditional Jumps"; the distance from the instruction, with 21 bits, the lowest of them 0
+text_operands (instr.Scalar (Jump rd imm)) = X rd ∷ Comma ∷ Signed 2 20 imm ∷ []
 -- `jalr rd, offset(rs1)`: RV32I, "Unconditional Jumps"
-text_operands (instr.Scalar (JumpRegister rd rs1 imm)) = X rd ∷ Comma ∷ signed 12 imm ∷ Open ∷ X rs1 ∷ Close ∷ []
--- `beq rs1, rs2, offset`: RV32I, "Conditional Branches"; the distance from the instruction, with 13 bits
-text_operands (instr.Scalar (Branch op rs1 rs2 imm)) = X rs1 ∷ Comma ∷ X rs2 ∷ Comma ∷ distance 13 imm ∷ []
+text_operands (instr.Scalar (JumpRegister rd rs1 imm)) = X rd ∷ Comma ∷ Signed 1 12 imm ∷ Open ∷ X rs1 ∷ Close ∷ []
+-- `beq rs1, rs2, offset`: RV32I, "Conditional Branches"; the distance from the instruction, with 13 bits, the lowest of them 0
+text_operands (instr.Scalar (Branch op rs1 rs2 imm)) = X rs1 ∷ Comma ∷ X rs2 ∷ Comma ∷ Signed 2 12 imm ∷ []
 -- `ld rd, offset(rs1)`: RV32I and RV64I, "Load and Store Instructions"
-text_operands (instr.Scalar (Load op rd rs1 imm)) = X rd ∷ Comma ∷ signed 12 imm ∷ Open ∷ X rs1 ∷ Close ∷ []
+text_operands (instr.Scalar (Load op rd rs1 imm)) = X rd ∷ Comma ∷ Signed 1 12 imm ∷ Open ∷ X rs1 ∷ Close ∷ []
 -- `sd rs2, offset(rs1)`: RV32I and RV64I, "Load and Store Instructions"
-text_operands (instr.Scalar (Store op rs1 rs2 imm)) = X rs2 ∷ Comma ∷ signed 12 imm ∷ Open ∷ X rs1 ∷ Close ∷ []
+text_operands (instr.Scalar (Store op rs1 rs2 imm)) = X rs2 ∷ Comma ∷ Signed 1 12 imm ∷ Open ∷ X rs1 ∷ Close ∷ []
 -- `addi rd, rs1, imm`: RV32I and RV64I, "Integer Register-Immediate Instructions"
-text_operands (instr.Scalar (RegisterImmediate op rd rs1 imm)) = X rd ∷ Comma ∷ X rs1 ∷ Comma ∷ signed 12 imm ∷ []
+text_operands (instr.Scalar (RegisterImmediate op rd rs1 imm)) = X rd ∷ Comma ∷ X rs1 ∷ Comma ∷ Signed 1 12 imm ∷ []
 -- `slli rd, rs1, shamt`: RV64I, "Integer Register-Immediate Instructions"
-text_operands (instr.Scalar (ShiftImmediate op rd rs1 shamt)) = X rd ∷ Comma ∷ X rs1 ∷ Comma ∷ unsigned 6 shamt ∷ []
+text_operands (instr.Scalar (ShiftImmediate op rd rs1 shamt)) = X rd ∷ Comma ∷ X rs1 ∷ Comma ∷ Unsigned 6 shamt ∷ []
 -- `slliw rd, rs1, shamt`: RV64I, "Integer Register-Immediate Instructions"
-text_operands (instr.Scalar (ShiftImmediateWord op rd rs1 shamt)) = X rd ∷ Comma ∷ X rs1 ∷ Comma ∷ unsigned 5 shamt ∷ []
+text_operands (instr.Scalar (ShiftImmediateWord op rd rs1 shamt)) = X rd ∷ Comma ∷ X rs1 ∷ Comma ∷ Unsigned 5 shamt ∷ []
 -- `add rd, rs1, rs2`: RV32I and RV64I, "Integer Register-Register Operations"; M
 text_operands (instr.Scalar (RegisterRegister op rd rs1 rs2)) = X rd ∷ Comma ∷ X rs1 ∷ Comma ∷ X rs2 ∷ []
 -- `fence` alone: RV32I, "Memory Ordering Instructions"
@@ -137,11 +114,11 @@ text_operands (instr.Scalar (System op)) = []
 -- `csrrw rd, csr, rs1`: Zicsr, "CSR Instructions"
 text_operands (instr.Csr (Register op rd rs1 csr)) = X rd ∷ Comma ∷ ControlRegister csr ∷ Comma ∷ X rs1 ∷ []
 -- `csrrwi rd, csr, uimm`: Zicsr, "CSR Instructions"
-text_operands (instr.Csr (Immediate op rd imm csr)) = X rd ∷ Comma ∷ ControlRegister csr ∷ Comma ∷ unsigned 5 imm ∷ []
+text_operands (instr.Csr (Immediate op rd imm csr)) = X rd ∷ Comma ∷ ControlRegister csr ∷ Comma ∷ Unsigned 5 imm ∷ []
 -- `vsetvli rd, rs1, vtypei`: V, "Configuration-Setting Instructions"
 text_operands (instr.Vector (SetVli rd rs1 vtype)) = X rd ∷ Comma ∷ X rs1 ∷ Comma ∷ VType 11 vtype ∷ []
 -- `vsetivli rd, uimm, vtypei`: V, "Configuration-Setting Instructions"
-text_operands (instr.Vector (SetIvli rd avl vtype)) = X rd ∷ Comma ∷ unsigned 5 avl ∷ Comma ∷ VType 10 vtype ∷ []
+text_operands (instr.Vector (SetIvli rd avl vtype)) = X rd ∷ Comma ∷ Unsigned 5 avl ∷ Comma ∷ VType 10 vtype ∷ []
 -- `vsetvl rd, rs1, rs2`: V, "Configuration-Setting Instructions"
 text_operands (instr.Vector (SetVl rd rs1 rs2)) = X rd ∷ Comma ∷ X rs1 ∷ Comma ∷ X rs2 ∷ []
 -- `vadd.vv vd, vs2, vs1, vm` and the like: by the operation, above
@@ -173,11 +150,9 @@ text_operands (instr.Vector (MoveToVector vd rs1)) = V vd ∷ Comma ∷ X rs1 �
 -- Segment Loads and Stores"
 text_operands (instr.Access (UnitStride op width nf vd rs1 vm)) = V vd ∷ Comma ∷ Open ∷ X rs1 ∷ Close ∷ Mask vm ∷ []
 -- `vlse8.v vd, (rs1), rs2, vm`: V, "Vector Strided Instructions", "Vector Strided Segment Loads and Stores"
-text_operands (instr.Access (Strided direction width nf vd rs1 rs2 vm)) =
-    V vd ∷ Comma ∷ Open ∷ X rs1 ∷ Close ∷ Comma ∷ X rs2 ∷ Mask vm ∷ []
+text_operands (instr.Access (Strided _ _ _ vd rs1 rs2 vm)) = V vd ∷ Comma ∷ Open ∷ X rs1 ∷ Close ∷ Comma ∷ X rs2 ∷ Mask vm ∷ []
 -- `vluxei8.v vd, (rs1), vs2, vm`: V, "Vector Indexed Instructions", "Vector Indexed Segment Loads and Stores"
-text_operands (instr.Access (Indexed direction order width nf vd rs1 vs2 vm)) =
-    V vd ∷ Comma ∷ Open ∷ X rs1 ∷ Close ∷ Comma ∷ V vs2 ∷ Mask vm ∷ []
+text_operands (instr.Access (Indexed _ _ _ _ vd rs1 vs2 vm)) = V vd ∷ Comma ∷ Open ∷ X rs1 ∷ Close ∷ Comma ∷ V vs2 ∷ Mask vm ∷ []
 -- `vl1re8.v vd, (rs1)`: V, "Vector Load/Store Whole Register Instructions"
 text_operands (instr.Access (WholeLoad count width vd rs1)) = V vd ∷ Comma ∷ Open ∷ X rs1 ∷ Close ∷ []
 -- `vs1r.v vs3, (rs1)`: V, "Vector Load/Store Whole Register Instructions"
@@ -195,24 +170,16 @@ operand_in word slot.Close = Close
 operand_in word slot.V0 = V0
 operand_in word (slot.Scalar place) = X (value_of (slot.Scalar place) word)
 operand_in word (slot.Vector place) = V (value_of (slot.Vector place) word)
-operand_in word (slot.Unsigned field) = Unsigned (limit field) (value_of (slot.Unsigned field) word)
-operand_in word (slot.Signed field) = Signed (scale field) (half field) (value_of (slot.Signed field) word)
+operand_in word (slot.Unsigned field) = Unsigned (bit_count (slot.Unsigned field)) (value_of (slot.Unsigned field) word)
+operand_in word (slot.Signed field) = Signed (scale field) (bit_count (slot.Signed field)) (value_of (slot.Signed field) word)
 operand_in word slot.Csr = ControlRegister (value_of slot.Csr word)
 operand_in word slot.VectorType = VType 11 (value_of slot.VectorType word)
 operand_in word slot.ShortVectorType = VType 10 (value_of slot.ShortVectorType word)
 operand_in word slot.Mask = Mask (value_of slot.Mask word == 1)
-operand_in word slot.Word = Word (value_of slot.Word word)
+operand_in word slot.Word = Unsigned 32 (value_of slot.Word word)
 
--- those of a list of slots
-abbrev pub operands_in : ℕ → List Slot → List TextOperand
-operands_in word slots = map (operand_in word) slots
-
--- the slots hold the operands of the instruction, in the order of its text
-abbrev pub HoldsOperands : List Slot → ℕ → Option Instr → Type 0
-HoldsOperands slots word None = ⊥
-HoldsOperands slots word (Some i) = operands_in word slots ≡ text_operands i
-
--- the slots of each name hold the operands of the instruction that any word with the name's bits is
+-- the slots of each name hold the operands of the instruction that any word with the name's bits is, in the order of its text
 abbrev pub NamesTakeOperands : Type 0
 NamesTakeOperands =
-    (row word : ℕ) → row < name_count → HasBitsOf row word → HoldsOperands (slots_at row) word (scan table word)
+    (row word : ℕ) → row < NAME_COUNT → HasBitsOf row word
+    → IsSomeAnd (scan table word) (λ i. map (operand_in word) (slots_at row) ≡ text_operands i)

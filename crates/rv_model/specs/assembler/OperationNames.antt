@@ -1,7 +1,7 @@
 -- The names of instructions: that of the operation, which stands beside its bits in `FixedBits` and `Operations`, and what stands behind
 -- it by the form of the operands (Unprivileged ISA, "RV32/64G Instruction Set Listings"; V extension, "Vector Instruction Listing")
-use Rattle.std.specs.Prelude.{ℕ, ◌+◌, ◌==◌, Bool, true, false, List, [], ◌∷◌, ◌++◌, codes, if◌then◌else◌}
-use Rattle.rv_model.specs.instructions.Types.{VectorOp, Form, Eew, UnitOp, Direction, Order, RegisterCount}
+use Rattle.std.specs.Prelude.{ℕ, ◌+◌, ◌==◌, Bool, List, [], ◌∷◌, ◌++◌, codes, if◌then◌else◌}
+use Rattle.rv_model.specs.instructions.Types.{VectorOp, Form, Eew, UnitOp, Direction, Order}
 use Rattle.rv_model.specs.instructions.Variants.{Instr, Upper, Jump, JumpRegister, Branch, Load, Store, RegisterImmediate, ShiftImmediate, ShiftImmediateWord, RegisterRegister, Fence, System, Register, Immediate, SetVli, SetIvli, SetVl, Arith, Carry, Move, WholeMove, MaskLogic, Compress, MaskToScalar, Extend, MaskUnary, ElementIndex, MoveToScalar, MoveToVector, UnitStride, Strided, Indexed, WholeLoad, WholeStore, MaskAccess}
 use Rattle.rv_model.specs.declared.instructions.operations.VectorOp.TheVariants as vector_op
 use Rattle.rv_model.specs.declared.instructions.operations.Form.TheVariants as form
@@ -18,47 +18,22 @@ use Rattle.rv_model.specs.vector.Groups.{register_count}
 
 -- ---- suffixes (V extension, "Vector Arithmetic Instruction encoding")
 
--- where the second operand comes from: a vector register, a scalar register or an immediate
-abbrev pub suffix : Form → List ℕ
-suffix form.V = codes ".vv"
-suffix form.X = codes ".vx"
-suffix form.I = codes ".vi"
+-- where the last source comes from: a vector register, a scalar register or an immediate
+abbrev pub source_letter : Form → List ℕ
+source_letter form.V = codes "v"
+source_letter form.X = codes "x"
+source_letter form.I = codes "i"
 
--- the first source has twice the width
-abbrev pub wide_suffix : Form → List ℕ
-wide_suffix form.V = codes ".wv"
-wide_suffix form.X = codes ".wx"
-wide_suffix form.I = codes ".wi"
-
--- v0 is an operand
-abbrev pub carry_suffix : Form → List ℕ
-carry_suffix form.V = codes ".vvm"
-carry_suffix form.X = codes ".vxm"
-carry_suffix form.I = codes ".vim"
-
--- a move has one source
-abbrev pub move_suffix : Form → List ℕ
-move_suffix form.V = codes ".v"
-move_suffix form.X = codes ".x"
-move_suffix form.I = codes ".i"
-
--- of a carry or a borrow, by the form, and whether none comes in
-abbrev pub carry_out_suffix : Form → Bool → List ℕ
-carry_out_suffix f true = suffix f
-carry_out_suffix f false = carry_suffix f
-
--- what stands behind the name of an operation with a line of its own: in place of `.vv` and the like, `.vs` behind reductions
+-- what stands behind the name of an operation with a line of its own: `.vv` and the like, with `m` where a carry or a borrow
+-- comes in; `.wv` and the like where the first source has twice the width; `.vs` behind reductions
 abbrev pub vector_suffix : VectorOp → Form → Bool → List ℕ
-vector_suffix (vector_op.CarryOut op) f vm = carry_out_suffix f vm
-vector_suffix (vector_op.NarrowShift op) f vm = wide_suffix f
-vector_suffix (vector_op.Clip op) f vm = wide_suffix f
-vector_suffix (vector_op.WideSource op) f vm = wide_suffix f
+vector_suffix (vector_op.CarryOut op) f vm = codes ".v" ++ source_letter f ++ (if vm then [] else codes "m")
+vector_suffix (vector_op.NarrowShift op) f vm = codes ".w" ++ source_letter f
+vector_suffix (vector_op.Clip op) f vm = codes ".w" ++ source_letter f
+vector_suffix (vector_op.WideSource op) f vm = codes ".w" ++ source_letter f
 vector_suffix (vector_op.Reduce op) f vm = codes ".vs"
 vector_suffix (vector_op.WidenReduce op) f vm = codes ".vs"
-vector_suffix _ f vm = suffix f
-
-abbrev pub vector_name : VectorOp → Form → Bool → List ℕ
-vector_name op f vm = (vector_entry op).name ++ vector_suffix op f vm
+vector_suffix _ f vm = codes ".v" ++ source_letter f
 
 -- ---- vector loads and stores (V extension, "Vector Loads and Stores")
 
@@ -69,19 +44,15 @@ width_digits width.E16 = codes "16"
 width_digits width.E32 = codes "32"
 width_digits width.E64 = codes "64"
 
--- how many registers
-abbrev pub count_digit : RegisterCount → List ℕ
-count_digit count = hex_digit (register_count count) ∷ []
+-- a load or a store
+abbrev pub direction_letters : Direction → List ℕ
+direction_letters direction.Load = codes "vl"
+direction_letters direction.Store = codes "vs"
 
--- `l` or `s`
-abbrev pub direction_letter : Direction → List ℕ
-direction_letter direction.Load = codes "l"
-direction_letter direction.Store = codes "s"
-
--- unordered or ordered
-abbrev pub order_letter : Order → List ℕ
-order_letter order.Unordered = codes "u"
-order_letter order.Ordered = codes "o"
+-- indexed, unordered or ordered
+abbrev pub order_letters : Order → List ℕ
+order_letters order.Unordered = codes "ux"
+order_letters order.Ordered = codes "ox"
 
 -- nothing for one field, `seg` and their number for several, at most eight; nf is one less than that
 abbrev pub segment_text : ℕ → List ℕ
@@ -92,14 +63,6 @@ abbrev pub unit_name : UnitOp → ℕ → Eew → List ℕ
 unit_name unit.Load nf w = codes "vl" ++ segment_text nf ++ codes "e" ++ width_digits w ++ codes ".v"
 unit_name unit.FaultOnlyFirst nf w = codes "vl" ++ segment_text nf ++ codes "e" ++ width_digits w ++ codes "ff.v"
 unit_name unit.Store nf w = codes "vs" ++ segment_text nf ++ codes "e" ++ width_digits w ++ codes ".v"
-
--- strided
-abbrev pub strided_name : Direction → ℕ → Eew → List ℕ
-strided_name d nf w = codes "v" ++ direction_letter d ++ codes "s" ++ segment_text nf ++ codes "e" ++ width_digits w ++ codes ".v"
-
--- indexed; the width is the index's
-abbrev pub indexed_name : Direction → Order → ℕ → Eew → List ℕ
-indexed_name d o nf w = codes "v" ++ direction_letter d ++ order_letter o ++ codes "x" ++ segment_text nf ++ codes "ei" ++ width_digits w ++ codes ".v"
 
 -- ---- the name of an instruction: that of its operation, whatever its registers and numbers are
 abbrev pub mnemonic : Instr → List ℕ
@@ -120,10 +83,11 @@ mnemonic (instr.Csr (Immediate op rd imm csr)) = (csr_immediate_entry op).name
 mnemonic (instr.Vector (SetVli rd rs1 vtype)) = codes "vsetvli"
 mnemonic (instr.Vector (SetIvli rd avl vtype)) = codes "vsetivli"
 mnemonic (instr.Vector (SetVl rd rs1 rs2)) = codes "vsetvl"
-mnemonic (instr.Vector (Arith arith vd vs2 vm)) = vector_name arith.0 (form_of arith.1) vm
-mnemonic (instr.Vector (Carry carry vd vs2)) = (carry_entry carry.0).name ++ carry_suffix (form_of carry.1)
-mnemonic (instr.Vector (Move source vd)) = codes "vmv.v" ++ move_suffix (form_of source)
-mnemonic (instr.Vector (WholeMove count vd vs2)) = codes "vmv" ++ count_digit count ++ codes "r.v"
+mnemonic (instr.Vector (Arith arith vd vs2 vm)) = (vector_entry arith.0).name ++ vector_suffix arith.0 (form_of arith.1) vm
+mnemonic (instr.Vector (Carry carry vd vs2)) =
+    (carry_entry carry.0).name ++ codes ".v" ++ source_letter (form_of carry.1) ++ codes "m"
+mnemonic (instr.Vector (Move source vd)) = codes "vmv.v." ++ source_letter (form_of source)
+mnemonic (instr.Vector (WholeMove count vd vs2)) = codes "vmv" ++ hex_digit (register_count count) ∷ codes "r.v"
 mnemonic (instr.Vector (MaskLogic op vd vs1 vs2)) = (mask_logic_entry op).name
 mnemonic (instr.Vector (Compress vd vs1 vs2)) = codes "vcompress.vm"
 mnemonic (instr.Vector (MaskToScalar op rd vs2 vm)) = (mask_to_scalar_entry op).name
@@ -133,8 +97,11 @@ mnemonic (instr.Vector (ElementIndex vd vm)) = codes "vid.v"
 mnemonic (instr.Vector (MoveToScalar rd vs2)) = codes "vmv.x.s"
 mnemonic (instr.Vector (MoveToVector vd rs1)) = codes "vmv.s.x"
 mnemonic (instr.Access (UnitStride op width nf vd rs1 vm)) = unit_name op nf width
-mnemonic (instr.Access (Strided direction width nf vd rs1 rs2 vm)) = strided_name direction nf width
-mnemonic (instr.Access (Indexed direction order width nf vd rs1 vs2 vm)) = indexed_name direction order nf width
-mnemonic (instr.Access (WholeLoad count width vd rs1)) = codes "vl" ++ count_digit count ++ codes "re" ++ width_digits width ++ codes ".v"
-mnemonic (instr.Access (WholeStore count vd rs1)) = codes "vs" ++ count_digit count ++ codes "r.v"
-mnemonic (instr.Access (MaskAccess direction vd rs1)) = codes "v" ++ direction_letter direction ++ codes "m.v"
+mnemonic (instr.Access (Strided direction width nf vd rs1 rs2 vm)) =
+    direction_letters direction ++ codes "s" ++ segment_text nf ++ codes "e" ++ width_digits width ++ codes ".v"
+mnemonic (instr.Access (Indexed direction order width nf vd rs1 vs2 vm)) =
+    direction_letters direction ++ order_letters order ++ segment_text nf ++ codes "ei" ++ width_digits width ++ codes ".v"
+mnemonic (instr.Access (WholeLoad count width vd rs1)) =
+    codes "vl" ++ hex_digit (register_count count) ∷ codes "re" ++ width_digits width ++ codes ".v"
+mnemonic (instr.Access (WholeStore count vd rs1)) = codes "vs" ++ hex_digit (register_count count) ∷ codes "r.v"
+mnemonic (instr.Access (MaskAccess direction vd rs1)) = direction_letters direction ++ codes "m.v"

@@ -1,15 +1,17 @@
 -- What the slots of a form take from the tokens, and the one text that each prints for an operand (V extension, "Vector Masking",
 -- "Configuration-Setting Instructions"; the ranges are those of the fields). That vtype has names exactly where no bit is
 -- reserved is this project's choice
-use Rattle.std.specs.Prelude.{ℕ, ◌+◌, ◌-◌, ◌*◌, ◌/◌, ◌%◌, ◌^◌, List, [], ◌∷◌, ◌++◌, Option, Some, None, Result, Ok, Err, nat_lt, ◌==◌, if◌then◌else◌, codes, decimal}
+use Rattle.std.specs.Prelude.{ℕ, ◌+◌, ◌-◌, ◌*◌, ◌/◌, ◌%◌, ◌^◌, List, [], ◌∷◌, ◌++◌, Option, Some, option_map, Result, Ok, Err, nat_lt, ◌==◌, if◌then◌else◌, codes, decimal}
+use Rattle.std.specs.Option.{ok_or, option_map_or}
 use Rattle.std.specs.Str.{bytes_eq}
 use Rattle.rv_model.specs.assembler.Tokens.{Token}
-use Rattle.rv_model.specs.assembler.Numbers.{literal, register, number, at_most, in_steps, negated, csr, vsew, vlmul, vta, vma, csr_text, hex_digits}
+use Rattle.rv_model.specs.assembler.Fields.{bit_count}
+use Rattle.rv_model.specs.assembler.Numbers.{literal, register, number, at_most, in_steps, negated, csr, hex_digits}
 use Rattle.rv_model.specs.vector.Types.{Sew, Lmul}
-use Rattle.rv_model.specs.vector.TypeNames.{lmul_name, mask_name, sew_name, tail_name}
-use Rattle.rv_model.specs.vector.TypeRules.{lmul_with_number, sew_with_number}
-use Rattle.rv_model.specs.declared.assembler.forms.UnsignedField.{UnsignedField}
-use Rattle.rv_model.specs.declared.assembler.forms.UnsignedField.TheVariants as unsigned
+use Rattle.rv_model.specs.vector.TypeNames.{lmul_name, lmuls, mask_name, named, policies, sew_name, sews, tail_name}
+use Rattle.rv_model.specs.vector.TypeRules.{lmul_number, lmul_with_number, sew_number, sew_with_number}
+use Rattle.rv_model.specs.vector.ControlRegisters.{control_register, register_name}
+use Rattle.rv_model.specs.instructions.BitFields.{flag_bit}
 use Rattle.rv_model.specs.declared.assembler.forms.SignedField.{SignedField}
 use Rattle.rv_model.specs.declared.assembler.forms.SignedField.TheVariants as signed
 use Rattle.rv_model.specs.declared.assembler.forms.Slot.{Slot}
@@ -23,28 +25,16 @@ abbrev pub ◌>>=◌ : {A B : Type 0} → Result A ℕ → (A → Result B ℕ) 
 
 -- the value and the tokens left if the token fits, else its column
 abbrev pub accept : ℕ → List Token → Option ℕ → Result (ℕ × List Token) ℕ
-accept column ts (Some v) = Ok (v, ts)
-accept column ts None = Err column
+accept column ts value = ok_or (option_map (λ v. (v, ts)) value) column
 
 -- one token with this meaning; end is the column past the text
 abbrev pub one : ℕ → (List ℕ → Option ℕ) → List Token → Result (ℕ × List Token) ℕ
 one end f [] = Err end
 one end f (t ∷ ts) = accept t.column ts (f t.text)
 
--- the largest number of an unsigned field
-abbrev pub limit : UnsignedField → ℕ
-limit unsigned.Immediate = 31
-limit unsigned.Shift = 63
-limit unsigned.ShiftWord = 31
-limit unsigned.Upper = 1048575
-
 -- how many values of a signed field are below 0
 abbrev pub half : SignedField → ℕ
-half signed.Vector = 16
-half signed.Immediate = 2048
-half signed.Store = 2048
-half signed.Branch = 2048
-half signed.Jump = 524288
+half field = 2 ^ (bit_count (Signed field) - 1)
 
 -- the number that one stands for in a signed field: distances are counted in steps of two bytes
 abbrev pub scale : SignedField → ℕ
@@ -52,15 +42,11 @@ scale signed.Branch = 2
 scale signed.Jump = 2
 scale s = 1
 
--- a number of steps up to a limit
-abbrev pub scaled : ℕ → ℕ → List ℕ → Option ℕ
-scaled size count text = in_steps size (at_most (size * count) (number text))
-
 -- a number, or `-` and a number
 abbrev pub signed_number : ℕ → ℕ → ℕ → List Token → Result (ℕ × List Token) ℕ
 signed_number end size count [] = Err end
 signed_number end size count (t ∷ ts) =
-    if bytes_eq t.text (codes "-") then one end (λ text. negated count (scaled size count text)) ts
+    if bytes_eq t.text (codes "-") then one end (λ text. negated count (in_steps size (at_most (size * count) (number text)))) ts
     else accept t.column ts (in_steps size (at_most (size * count - 1) (number t.text)))
 
 -- `, v0.t` gives 0, the end of the text 1
@@ -72,22 +58,19 @@ read_mask end (t ∷ ts) = if bytes_eq t.text (codes ",") then one end (literal 
 unfoldable pub vtype_names : ℕ → ℕ → List Token → Result (ℕ × List Token) ℕ
 vtype_names end width ts = do
   a ← one end (literal (codes ",")) ts
-  multiplier ← one end vlmul a.1
+  multiplier ← one end (λ text. option_map lmul_number (named lmul_name lmuls text)) a.1
   b ← one end (literal (codes ",")) multiplier.1
-  tail ← one end vta b.1
+  tail ← one end (λ text. option_map flag_bit (named tail_name policies text)) b.1
   c ← one end (literal (codes ",")) tail.1
-  inactive ← one end vma c.1
+  inactive ← one end (λ text. option_map flag_bit (named mask_name policies text)) c.1
   Ok (multiplier.0 + width * 8 + tail.0 * 64 + inactive.0 * 128, inactive.1)
 
--- vtype by names if the first token was an element width, else that token as a number
-abbrev pub vtype_from : ℕ → ℕ → Token → List Token → Option ℕ → Result (ℕ × List Token) ℕ
-vtype_from end count t ts (Some width) = vtype_names end width ts
-vtype_from end count t ts None = accept t.column ts (at_most (count - 1) (number t.text))
-
--- vtype, as a number below count or by its names
+-- vtype, by its names if the first token is an element width, else that token as a number below count
 abbrev pub vtype : ℕ → ℕ → List Token → Result (ℕ × List Token) ℕ
 vtype end count [] = Err end
-vtype end count (t ∷ ts) = vtype_from end count t ts (vsew t.text)
+vtype end count (t ∷ ts) =
+    option_map_or (λ width. vtype_names end width ts) (option_map sew_number (named sew_name sews t.text))
+    (accept t.column ts (at_most (count - 1) (number t.text)))
 
 -- the value that a slot takes from the tokens, and the tokens left; or the column of the first that doesn't fit
 abbrev pub read : ℕ → Slot → List Token → Result (ℕ × List Token) ℕ
@@ -97,7 +80,7 @@ read end Close ts = one end (literal (codes ")")) ts
 read end V0 ts = one end (literal (codes "v0")) ts
 read end (Scalar p) ts = one end (register 120) ts
 read end (Vector p) ts = one end (register 118) ts
-read end (Unsigned u) ts = one end (λ text. at_most (limit u) (number text)) ts
+read end (Unsigned u) ts = one end (λ text. at_most (2 ^ bit_count (Unsigned u) - 1) (number text)) ts
 read end (Signed s) ts = signed_number end (scale s) (half s) ts
 read end Csr ts = one end csr ts
 read end VectorType ts = vtype end 2048 ts
@@ -111,10 +94,9 @@ signed_text size count v = if nat_lt v count then decimal (size * v) else codes 
 
 -- vtype by the names of its parts, where neither vsew nor vlmul is reserved; else as a number
 abbrev pub vtype_named : Option Sew → Option Lmul → ℕ → List ℕ
-vtype_named None lmul v = decimal v
-vtype_named (Some sew) None v = decimal v
 vtype_named (Some sew) (Some lmul) v =
     sew_name sew ++ codes ", " ++ lmul_name lmul ++ codes ", " ++ tail_name (v / 64 % 2 == 1) ++ codes ", " ++ mask_name (v / 128 % 2 == 1)
+vtype_named _ _ v = decimal v
 
 -- vtype by names where it has them and no bit from 8 up is set, else as a number
 abbrev pub vtype_text : ℕ → List ℕ
@@ -130,7 +112,7 @@ printed (Scalar p) v = codes "x" ++ decimal v
 printed (Vector p) v = codes "v" ++ decimal v
 printed (Unsigned u) v = decimal v
 printed (Signed s) v = signed_text (scale s) (half s) v
-printed Csr v = csr_text v
+printed Csr v = option_map_or register_name (control_register v) (decimal v)
 printed VectorType v = vtype_text v
 printed ShortVectorType v = vtype_text v
 printed Mask v = if v == 0 then codes ", v0.t" else []

@@ -1,6 +1,7 @@
 -- The texts of words: each name has one form, a list of slots. A text spells a word if its tokens fit the slots of its name with
 -- that word's operands; the canonical text of a word is that of the name whose fixed bits it has (this project's choice)
-use Rattle.std.specs.Prelude.{ℕ, ◌+◌, ◌-◌, List, [], ◌∷◌, ◌++◌, length, replicate, Option, Some, None, Result, Ok, Err, nat_lt, nat_eq, bit_and, ◌==◌, if◌then◌else◌, position, unwrap_or, slice_index_or}
+use Rattle.std.specs.Prelude.{ℕ, ◌+◌, ◌-◌, List, [], ◌∷◌, ◌++◌, length, replicate, Option, None, Result, Ok, Err, nat_lt, nat_eq, bit_and, ◌==◌, if◌then◌else◌, position, unwrap_or, slice_index_or, flat_map}
+use Rattle.std.specs.Option.{option_map_or}
 use Rattle.std.specs.Str.{bytes_eq}
 use Rattle.rv_model.specs.assembler.Tokens.{Token, tokens}
 use Rattle.rv_model.specs.assembler.Slots.{◌>>=◌, read, printed}
@@ -11,26 +12,14 @@ use Rattle.rv_model.specs.declared.assembler.forms.SourceKind.TheVariants as sou
 use Rattle.rv_model.specs.declared.assembler.forms.Form.{Form}
 use Rattle.rv_model.specs.declared.assembler.forms.Form.TheVariants as form
 use Rattle.rv_model.specs.declared.assembler.mnemonics.Mnemonic.{Mnemonic}
-use Rattle.rv_model.specs.declared.assembler.mnemonics.TheConstants.{MNEMONICS, NAME_COUNT, ROW_COUNT}
+use Rattle.rv_model.specs.declared.assembler.mnemonics.TheConstants.{MNEMONICS, NAME_COUNT}
 use Rattle.rv_model.specs.declared.assembler.forms.TheConstants.{PLAIN, REGISTER, IMMEDIATE, SHIFT, SHIFT_WORD, LOAD, STORE, BRANCH, JUMP, UPPER, CSR, CSR_IMMEDIATE, SET_VLI, SET_IVLI, VECTOR_VECTOR, VECTOR_SCALAR, VECTOR_IMMEDIATE, VECTOR_UNSIGNED, MULTIPLY_ADD_VECTOR, MULTIPLY_ADD_SCALAR, CARRY_VECTOR, CARRY_SCALAR, CARRY_IMMEDIATE, UNMASKED_VECTOR, UNMASKED_SCALAR, UNMASKED_IMMEDIATE, MOVE_VECTOR, MOVE_SCALAR, MOVE_IMMEDIATE, MOVE_TO_SCALAR, WHOLE_MOVE, MASK_TO_SCALAR, VECTOR_UNARY, ELEMENT_INDEX, UNIT, UNMASKED_UNIT, STRIDED, INDEXED, WORD}
 
--- the slots of a form with v0 as an operand
-abbrev pub carry_slots : SourceKind → List Slot
-carry_slots source_kind.Vector = CARRY_VECTOR
-carry_slots source_kind.Scalar = CARRY_SCALAR
-carry_slots source_kind.Immediate = CARRY_IMMEDIATE
-
--- those of a form that is never masked
-abbrev pub unmasked_slots : SourceKind → List Slot
-unmasked_slots source_kind.Vector = UNMASKED_VECTOR
-unmasked_slots source_kind.Scalar = UNMASKED_SCALAR
-unmasked_slots source_kind.Immediate = UNMASKED_IMMEDIATE
-
--- those of a move
-abbrev pub move_slots : SourceKind → List Slot
-move_slots source_kind.Vector = MOVE_VECTOR
-move_slots source_kind.Scalar = MOVE_SCALAR
-move_slots source_kind.Immediate = MOVE_IMMEDIATE
+-- the slots for a vector register, for a scalar register or for an immediate as the last source
+abbrev pub by_source : List Slot → List Slot → List Slot → SourceKind → List Slot
+by_source vector scalar immediate source_kind.Vector = vector
+by_source vector scalar immediate source_kind.Scalar = scalar
+by_source vector scalar immediate source_kind.Immediate = immediate
 
 -- the slots of a form
 abbrev pub slots_of : Form → List Slot
@@ -54,9 +43,9 @@ slots_of form.VectorImmediate = VECTOR_IMMEDIATE
 slots_of form.VectorUnsigned = VECTOR_UNSIGNED
 slots_of form.MultiplyAddVector = MULTIPLY_ADD_VECTOR
 slots_of form.MultiplyAddScalar = MULTIPLY_ADD_SCALAR
-slots_of (form.Carry source) = carry_slots source
-slots_of (form.Unmasked source) = unmasked_slots source
-slots_of (form.Move source) = move_slots source
+slots_of (form.Carry source) = by_source CARRY_VECTOR CARRY_SCALAR CARRY_IMMEDIATE source
+slots_of (form.Unmasked source) = by_source UNMASKED_VECTOR UNMASKED_SCALAR UNMASKED_IMMEDIATE source
+slots_of (form.Move source) = by_source MOVE_VECTOR MOVE_SCALAR MOVE_IMMEDIATE source
 slots_of form.MoveToScalar = MOVE_TO_SCALAR
 slots_of form.WholeMove = WHOLE_MOVE
 slots_of form.MaskToScalar = MASK_TO_SCALAR
@@ -68,21 +57,10 @@ slots_of form.Strided = STRIDED
 slots_of form.Indexed = INDEXED
 slots_of form.Word = WORD
 
--- how many instructions have names, each in a row of its own
-abbrev pub name_count : ℕ
-name_count = NAME_COUNT
-
--- how many rows the table has; `.word` stands in the last, behind the names of instructions
-abbrev pub row_count : ℕ
-row_count = ROW_COUNT
-
--- a name with spaces behind it, 16 bytes long
-abbrev pub padded : List ℕ → List ℕ
-padded name = name ++ replicate (16 - length name) 32
-
--- the row with this name
+-- the row with this name, which stands there with spaces behind it, 16 bytes long
 unfoldable pub row_named : List ℕ → Option ℕ
-row_named name = if nat_lt 16 (length name) then None else position (λ row. bytes_eq row.0 (padded name)) MNEMONICS
+row_named name =
+    if nat_lt 16 (length name) then None else position (λ row. bytes_eq row.0 (name ++ replicate (16 - length name) 32)) MNEMONICS
 
 -- a name without the spaces behind it
 abbrev pub unpadded : List ℕ → List ℕ
@@ -112,28 +90,23 @@ read_operands end bits [] [] = Ok bits
 read_operands end bits [] (t ∷ ts) = Err t.column
 read_operands end bits (s ∷ ss) ts = read end s ts >>= λ x. (read_operands end bits ss x.1 >>= λ w. Ok (placed s x.0 + w))
 
--- the operands' tokens, under the row of the name
-abbrev pub spelled_with : ℕ → Token → List Token → Option ℕ → Result ℕ ℕ
-spelled_with end name ts None = Err name.column
-spelled_with end name ts (Some row) = read_operands end (bits_at row) (slots_at row) ts
-
--- the first token is the name
+-- the first token is the name, and those behind it are the operands, as its row has them
 abbrev pub spelled_by : ℕ → List Token → Result ℕ ℕ
 spelled_by end [] = Err end
-spelled_by end (name ∷ ts) = spelled_with end name ts (row_named name.text)
+spelled_by end (name ∷ ts) =
+    option_map_or (λ row. read_operands end (bits_at row) (slots_at row) ts) (row_named name.text) (Err name.column)
 
 -- the word that a text spells, or the column of the first token that doesn't fit, which is that past the text where tokens are missing
 unfoldable pub spelled : List ℕ → Result ℕ ℕ
 spelled text = spelled_by (length text + 1) (tokens 1 text)
 
--- the first row whose fixed bits a word has; `.word` fixes none
+-- the first row whose fixed bits a word has; `.word`, in the last row, behind the NAME_COUNT names of instructions, fixes none
 unfoldable pub row_of_word : ℕ → ℕ
-row_of_word word = unwrap_or (position (λ row. nat_eq (bit_and word (fixed_mask (slots_of row.1))) row.2) MNEMONICS) name_count
+row_of_word word = unwrap_or (position (λ row. nat_eq (bit_and word (fixed_mask (slots_of row.1))) row.2) MNEMONICS) NAME_COUNT
 
 -- the operands of a word, one after another
 unfoldable pub printed_operands : List Slot → ℕ → List ℕ
-printed_operands [] w = []
-printed_operands (s ∷ ss) w = printed s (value_of s w) ++ printed_operands ss w
+printed_operands slots w = flat_map (λ slot. printed slot (value_of slot w)) slots
 
 -- a space, if anything follows the name
 abbrev pub operands_text : List Slot → ℕ → List ℕ

@@ -1,9 +1,10 @@
 -- What a word means as an argument of a command.
-use Rattle.std.specs.Prelude.{ℕ, ◌+◌, ◌-◌, ◌*◌, ◌/◌, ◌%◌, ◌^◌, ◌==◌, ◌&&◌, ◌||◌, nat_lt, nat_le, ◌≤◌, Bool, true, false, List, [], ◌∷◌, length, Option, Some, None, Result, Ok, Err, if◌then◌else◌, codes}
-use Rattle.std.specs.Str.{bytes_eq}
+use Rattle.std.specs.Prelude.{ℕ, ◌+◌, ◌-◌, ◌*◌, ◌/◌, ◌%◌, ◌^◌, ◌==◌, ◌&&◌, ◌||◌, nat_lt, nat_le, Bool, true, false, List, [], ◌∷◌, length, Option, Some, None, if◌then◌else◌, codes}
+use Rattle.std.specs.Option.{option_and_then}
+use Rattle.std.specs.Result.{result_ok}
 use Rattle.hex.specs.Hex.{decode_of}
-use Rattle.hex.specs.declared.error.FromHexError.{FromHexError}
-use Rattle.rv_model.specs.memory.Sizes.{page_size, address_end, page_limit}
+use Rattle.rv_model.specs.commands.Reading.{meaning_in}
+use Rattle.rv_model.specs.memory.Sizes.{page_size, address_end}
 use Rattle.rv_model.specs.text.Digits.{digits_after}
 use Rattle.rv_model.specs.declared.memory.Permissions.{Permissions}
 use Rattle.rv_model.specs.vector.Types.{Policy, Sew, E8, E16, E32, E64}
@@ -28,14 +29,9 @@ number_between low high word = within low high (decimal_number word)
 abbrev pub address : List ℕ → Option ℕ
 address word = if nat_le 1 (length word) && nat_le (length word) 16 then within 0 (2 ^ 64 - 1) (digits_after 16 0 word) else None
 
--- a number that is divisible by 4
-abbrev pub divisible_by_4 : Option ℕ → Option ℕ
-divisible_by_4 None = None
-divisible_by_4 (Some n) = if n % 4 == 0 then Some n else None
-
 -- the address of an instruction: one that is divisible by 4
 abbrev pub instruction_address : List ℕ → Option ℕ
-instruction_address word = divisible_by_4 (address word)
+instruction_address word = option_and_then (λ addr. if addr % 4 == 0 then Some addr else None) (address word)
 
 -- x1 to x31
 abbrev pub scalar_register : List ℕ → Option ℕ
@@ -49,55 +45,34 @@ vector_register (c ∷ digits) = if c == 118 then number_between 0 31 digits els
 
 -- the width of an element in bits
 abbrev pub sew_argument : List ℕ → Option Sew
-sew_argument word =
-    if bytes_eq word (codes "8") then Some E8
-    else if bytes_eq word (codes "16") then Some E16
-    else if bytes_eq word (codes "32") then Some E32
-    else if bytes_eq word (codes "64") then Some E64
-    else None
+sew_argument word = meaning_in ((codes "8", E8) ∷ (codes "16", E16) ∷ (codes "32", E32) ∷ (codes "64", E64) ∷ []) word
 
 -- what becomes of agnostic elements
 abbrev pub policy_word : List ℕ → Option Policy
-policy_word word =
-    if bytes_eq word (codes "keep") then Some Keep
-    else if bytes_eq word (codes "ones") then Some Ones
-    else None
-
-abbrev pub decoded : Result (List ℕ) FromHexError → Option (List ℕ)
-decoded (Err e) = None
-decoded (Ok bytes) = Some bytes
+policy_word word = meaning_in ((codes "keep", Keep) ∷ (codes "ones", Ones) ∷ []) word
 
 -- 1 to 256 bytes, two hexadecimal digits each
 abbrev pub byte_string : List ℕ → Option (List ℕ)
-byte_string text = if nat_lt (length text / 2) 1 || nat_lt 256 (length text / 2) then None else decoded (decode_of text)
+byte_string text = if nat_lt (length text / 2) 1 || nat_lt 256 (length text / 2) then None else result_ok (decode_of text)
 
 -- the 32 bytes of a vector register, two hexadecimal digits each, byte 0 first
 abbrev pub register_bytes : List ℕ → Option (List ℕ)
-register_bytes text = if length text == 64 then decoded (decode_of text) else None
+register_bytes text = if length text == 64 then result_ok (decode_of text) else None
 
-abbrev pub allowing : Bool → Bool → Bool → Option Permissions
-allowing read write execute = Some (record { read = read; write = write; execute = execute })
+abbrev pub allowing : Bool → Bool → Bool → Permissions
+allowing read write execute = record { read = read; write = write; execute = execute }
 
 -- one of r, w, x, rw, rx, wx, rwx
 abbrev pub permissions : List ℕ → Option Permissions
-permissions word =
-    if bytes_eq word (codes "r") then allowing true false false
-    else if bytes_eq word (codes "w") then allowing false true false
-    else if bytes_eq word (codes "x") then allowing false false true
-    else if bytes_eq word (codes "rw") then allowing true true false
-    else if bytes_eq word (codes "rx") then allowing true false true
-    else if bytes_eq word (codes "wx") then allowing false true true
-    else if bytes_eq word (codes "rwx") then allowing true true true
-    else None
+permissions word = meaning_in (
+    (codes "r", allowing true false false) ∷ (codes "w", allowing false true false) ∷ (codes "x", allowing false false true)
+    ∷ (codes "rw", allowing true true false) ∷ (codes "rx", allowing true false true) ∷ (codes "wx", allowing false true true)
+    ∷ (codes "rwx", allowing true true true) ∷ []) word
 
 -- pages of memory, by the number of the first: its address divided by the size of a page
 pub record Pages : Type 0 where
   pub first : ℕ
   pub count : ℕ
-
--- none of them ends beyond the end of addresses
-abbrev pub IsPageRange : Pages → Type 0
-IsPageRange pages = pages.first + pages.count ≤ page_limit
 
 -- whole pages that end at the end of addresses or below
 abbrev pub are_pages : ℕ → ℕ → Bool

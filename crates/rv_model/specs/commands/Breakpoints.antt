@@ -1,12 +1,11 @@
 -- The commands on breakpoints: `break`, `unbreak` and `breaks`. A user's breakpoints are addresses in rising order.
-use Rattle.std.specs.Prelude.{ℕ, ◌==◌, not, nat_lt, nat_le, List, ◌∷◌, ◌++◌, filter, flat_map, length, Option, Some, None, if◌then◌else◌, codes}
-use Rattle.std.specs.Str.{bytes_eq}
+use Rattle.std.specs.Prelude.{ℕ, ◌==◌, not, nat_lt, nat_le, List, [], ◌∷◌, ◌++◌, filter, flat_map, length, Option, Some, if◌then◌else◌, codes}
 use Rattle.rv_model.specs.declared.commands.breakpoints.BreakpointCommand.{BreakpointCommand}
 use Rattle.rv_model.specs.declared.commands.breakpoints.BreakpointCommand.TheVariants.{Break, Unbreak, Breaks}
 use Rattle.rv_model.specs.declared.commands.refusal.Refusal.TheVariants as refusal
 use Rattle.rv_model.specs.commands.Arguments.{instruction_address}
 use Rattle.rv_model.specs.commands.Printing.{listed}
-use Rattle.rv_model.specs.commands.Reading.{◌>>=◌, next, done}
+use Rattle.rv_model.specs.commands.Reading.{done, meaning_in, one_argument}
 use Rattle.rv_model.specs.machine.UserMachine.{Present, Outcome, refuses, has_breakpoint, replies}
 
 -- the most breakpoints that a user may have
@@ -14,11 +13,6 @@ abbrev pub breakpoint_limit : ℕ
 breakpoint_limit = 16
 
 -- ---- break ADDR
-
-unfoldable pub break_args : List (List ℕ) → Option BreakpointCommand
-break_args ws = do
-  addr ← next instruction_address ws
-  done (Break addr.0) addr.1
 
 -- addresses with one more, in its place
 unfoldable pub with_address : ℕ → List ℕ → List ℕ
@@ -32,11 +26,6 @@ sets_breakpoint addr p =
     else replies (record p { breakpoints = with_address addr p.breakpoints }) (codes "ok")
 
 -- ---- unbreak ADDR
-
-unfoldable pub unbreak_args : List (List ℕ) → Option BreakpointCommand
-unbreak_args ws = do
-  addr ← next instruction_address ws
-  done (Unbreak addr.0) addr.1
 
 -- addresses without one of them
 unfoldable pub without_address : ℕ → List ℕ → List ℕ
@@ -59,11 +48,10 @@ breaks_line addresses = codes "breaks" ++ flat_map listed addresses
 
 -- the command of a name, by its arguments; none of this group where there is no such name
 abbrev pub breakpoints_named : List ℕ → List (List ℕ) → Option (Option BreakpointCommand)
-breakpoints_named name args =
-    if bytes_eq name (codes "break") then Some (break_args args)
-    else if bytes_eq name (codes "unbreak") then Some (unbreak_args args)
-    else if bytes_eq name (codes "breaks") then Some (done Breaks args)
-    else None
+breakpoints_named name args = meaning_in (
+    (codes "break", one_argument Break instruction_address args)
+    ∷ (codes "unbreak", one_argument Unbreak instruction_address args)
+    ∷ (codes "breaks", done Breaks args) ∷ []) name
 
 -- what a command does of a user who has entered
 unfoldable pub breakpoint_command : BreakpointCommand → Present → Outcome

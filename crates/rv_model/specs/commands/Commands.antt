@@ -1,7 +1,7 @@
 -- All commands of a user: the command that a line spells, and what it does. Refusals are in the order of their numbers, so an
 -- unknown name (E03) comes before a wrong argument (E04), then comes who may not use the command (E05 to E07), and then what
 -- the command itself refuses.
-use Rattle.std.specs.Prelude.{ℕ, ◌&&◌, Bool, true, false, List, [], ◌∷◌, Option, Some, None, Result, Ok, Err, if◌then◌else◌}
+use Rattle.std.specs.Prelude.{ℕ, ◌&&◌, Bool, true, false, List, [], ◌∷◌, Some, None, Result, Ok, Err, if◌then◌else◌}
 use Rattle.rv_model.specs.declared.commands.command.Cmd.{Cmd}
 use Rattle.rv_model.specs.declared.commands.command.Cmd.TheVariants.{Entering, Memory, Registers, Programs, Breakpoints, Running}
 use Rattle.rv_model.specs.declared.commands.entering.EnteringCommand.TheVariants.{Enter}
@@ -12,6 +12,7 @@ use Rattle.rv_model.specs.commands.Breakpoints.{breakpoints_named, breakpoint_co
 use Rattle.rv_model.specs.commands.Entering.{entering_named, entering_absent, entering}
 use Rattle.rv_model.specs.commands.Memory.{memory_named, memory_command}
 use Rattle.rv_model.specs.commands.Programs.{programs_named, program_command}
+use Rattle.rv_model.specs.commands.Reading.{in_group}
 use Rattle.rv_model.specs.commands.Registers.{registers_named, register_command}
 use Rattle.rv_model.specs.commands.Running.{running_named, running_command}
 use Rattle.rv_model.specs.machine.Setup.{Image}
@@ -22,12 +23,6 @@ use Rattle.rv_model.specs.text.Words.{words, after_two_words}
 
 abbrev pub Parsed : Type 0
 Parsed = Result Cmd Refusal
-
--- a command of a group, by its arguments; else what the other groups have
-abbrev pub in_group : {A : Type 0} → (A → Cmd) → Option (Option A) → Parsed → Parsed
-in_group group None others = others
-in_group group (Some None) others = Err refusal.Argument
-in_group group (Some (Some command)) others = Ok (group command)
 
 -- a command by its name, its arguments as words, and what follows its first argument as it stands in the line
 unfoldable pub named : List ℕ → List (List ℕ) → List ℕ → Parsed

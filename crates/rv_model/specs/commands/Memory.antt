@@ -1,7 +1,6 @@
 -- The commands on a user's memory: `map`, `poke` and `peek`. `poke` and `peek` ask for mapped pages, whatever these allow a
 -- program.
-use Rattle.std.specs.Prelude.{ℕ, List, ◌++◌, length, Option, Some, None, if◌then◌else◌, codes}
-use Rattle.std.specs.Str.{bytes_eq}
+use Rattle.std.specs.Prelude.{ℕ, List, [], ◌∷◌, ◌++◌, length, Option, Some, None, if◌then◌else◌, codes}
 use Rattle.hex.specs.Hex.{encode_lower}
 use Rattle.rv_model.specs.declared.commands.memory.MemoryCommand.{MemoryCommand}
 use Rattle.rv_model.specs.declared.commands.memory.MemoryCommand.TheVariants.{Map, Poke, Peek}
@@ -13,7 +12,7 @@ use Rattle.rv_model.specs.declared.memory.MapRefusal.TheVariants.{Quota, Already
 use Rattle.rv_model.specs.declared.memory.Permissions.{Permissions}
 use Rattle.rv_model.specs.commands.Arguments.{Pages, address, permissions, byte_string, page_range, number_between}
 use Rattle.rv_model.specs.commands.Printing.{hex16}
-use Rattle.rv_model.specs.commands.Reading.{◌>>=◌, next, done}
+use Rattle.rv_model.specs.commands.Reading.{◌>>=◌, next, done, meaning_in, two_arguments}
 use Rattle.rv_model.specs.machine.UserMachine.{Present, Outcome, refuses, replies}
 use Rattle.rv_model.specs.memory.Memory.{Memory, bytes_at, can_access, put_bytes, map_refusal, with_pages}
 use Rattle.rv_model.specs.memory.Sizes.{page_quota}
@@ -21,6 +20,10 @@ use Rattle.rv_model.specs.memory.Sizes.{page_quota}
 -- the machine with another memory
 abbrev pub with_memory : Memory → Present → Present
 with_memory memory p = record p { hart = record p.hart { memory = memory } }
+
+-- what a command does with bytes of mapped pages
+abbrev pub if_mapped : ℕ → ℕ → Present → Outcome → Outcome
+if_mapped addr n p outcome = if can_access Monitor p.hart.memory addr n then outcome else refuses (Some p) refusal.NotMapped
 
 -- ---- map ADDR PAGES PERM
 
@@ -46,26 +49,11 @@ maps pages allowed p = mapping (map_refusal p.hart.memory pages.first pages.coun
 
 -- ---- poke ADDR HEX
 
-unfoldable pub poke_args : List (List ℕ) → Option MemoryCommand
-poke_args ws = do
-  addr ← next address ws
-  bytes ← next byte_string addr.1
-  done (Poke addr.0 bytes.0) bytes.1
-
 -- bytes are written
 abbrev pub pokes : ℕ → List ℕ → Present → Outcome
-pokes addr bytes p =
-    if can_access Monitor p.hart.memory addr (length bytes)
-    then replies (with_memory (put_bytes p.hart.memory addr bytes) p) (codes "ok")
-    else refuses (Some p) refusal.NotMapped
+pokes addr bytes p = if_mapped addr (length bytes) p (replies (with_memory (put_bytes p.hart.memory addr bytes) p) (codes "ok"))
 
--- ---- peek ADDR N
-
-unfoldable pub peek_args : List (List ℕ) → Option MemoryCommand
-peek_args ws = do
-  addr ← next address ws
-  count ← next (number_between 1 256) addr.1
-  done (Peek addr.0 count.0) count.1
+-- ---- peek ADDR N, with 1 to 256 bytes
 
 -- an address, and the bytes from it on
 unfoldable pub peek_line : ℕ → List ℕ → List ℕ
@@ -73,20 +61,16 @@ peek_line addr bytes = codes "peek " ++ hex16 addr ++ codes " " ++ encode_lower 
 
 -- bytes are shown
 abbrev pub peeks : ℕ → ℕ → Present → Outcome
-peeks addr count p =
-    if can_access Monitor p.hart.memory addr count
-    then replies p (peek_line addr (bytes_at p.hart.memory addr count))
-    else refuses (Some p) refusal.NotMapped
+peeks addr count p = if_mapped addr count p (replies p (peek_line addr (bytes_at p.hart.memory addr count)))
 
 -- ---- all of them
 
 -- the command of a name, by its arguments; none of this group where there is no such name
 abbrev pub memory_named : List ℕ → List (List ℕ) → Option (Option MemoryCommand)
-memory_named name args =
-    if bytes_eq name (codes "map") then Some (map_args args)
-    else if bytes_eq name (codes "poke") then Some (poke_args args)
-    else if bytes_eq name (codes "peek") then Some (peek_args args)
-    else None
+memory_named name args = meaning_in (
+    (codes "map", map_args args)
+    ∷ (codes "poke", two_arguments Poke address byte_string args)
+    ∷ (codes "peek", two_arguments Peek address (number_between 1 256) args) ∷ []) name
 
 -- what a command does of a user who has entered
 unfoldable pub memory_command : MemoryCommand → Present → Outcome

@@ -1,6 +1,6 @@
 -- The commands on programs in a user's memory: `load`, `asm` and `dis`. `asm` and `dis` ask for mapped pages, whatever these
 -- allow a program.
-use Rattle.std.specs.Prelude.{ℕ, ◌+◌, ◌*◌, nat_lt, map, find, List, [], ◌∷◌, ◌++◌, decimal, slice_range, Option, Some, None, Result, Ok, Err, if◌then◌else◌, codes}
+use Rattle.std.specs.Prelude.{ℕ, ◌+◌, ◌*◌, nat_lt, map, find, List, [], ◌∷◌, ◌++◌, decimal, length, slice_range, Option, Some, None, Result, Ok, Err, if◌then◌else◌, codes}
 use Rattle.std.specs.Int.{from_le_bytes, to_le_bytes, w32}
 use Rattle.std.specs.List.{range_with_len}
 use Rattle.std.specs.Option.{option_map}
@@ -9,27 +9,22 @@ use Rattle.rv_model.specs.declared.commands.programs.ProgramCommand.{ProgramComm
 use Rattle.rv_model.specs.declared.commands.programs.ProgramCommand.TheVariants.{Load, Asm, Dis}
 use Rattle.rv_model.specs.declared.commands.refusal.Refusal.TheVariants as refusal
 use Rattle.rv_model.specs.declared.images.ElfFault.{ElfFault}
-use Rattle.rv_model.specs.declared.memory.Access.TheVariants.{Monitor}
+use Rattle.rv_model.specs.declared.scalar.Scalar.{Scalar}
 use Rattle.rv_model.specs.assembler.Table.{canonical, spelled}
 use Rattle.rv_model.specs.commands.Arguments.{instruction_address, number_between}
-use Rattle.rv_model.specs.commands.Memory.{with_memory}
+use Rattle.rv_model.specs.commands.Memory.{if_mapped, with_memory}
 use Rattle.rv_model.specs.commands.Printing.{hex8, hex16}
-use Rattle.rv_model.specs.commands.Reading.{◌>>=◌, next, done}
+use Rattle.rv_model.specs.commands.Reading.{◌>>=◌, next, meaning_in, one_argument, two_arguments}
 use Rattle.rv_model.specs.images.Faults.{first_fault}
 use Rattle.rv_model.specs.images.Fields.{entry_of}
 use Rattle.rv_model.specs.images.Image.{memory_of_image}
 use Rattle.rv_model.specs.machine.Setup.{Image}
 use Rattle.rv_model.specs.machine.UserMachine.{Present, Outcome, refuses, initial, replies}
-use Rattle.rv_model.specs.memory.Memory.{bytes_at, can_access, put_bytes, page_count}
+use Rattle.rv_model.specs.memory.Memory.{bytes_at, put_bytes, page_count}
 use Rattle.rv_model.specs.memory.Sizes.{page_quota}
 use Rattle.rv_model.specs.scalar.Registers.{initial_scalar, with_register}
 
 -- ---- load NAME
-
-unfoldable pub load_args : List (List ℕ) → Option ProgramCommand
-load_args ws = do
-  name ← next Some ws
-  done (Load name.0) name.1
 
 -- the bytes of the image of a name, if there is one
 unfoldable pub image_named : List Image → List ℕ → Option (List ℕ)
@@ -37,12 +32,9 @@ image_named images name = option_map (λ (image : Image). image.bytes) (find (λ
 
 -- a new machine with the memory of an image, at the image's entry; x2 is the stack pointer
 abbrev pub with_image : List ℕ → Present
-with_image image = record initial {
-  hart = record initial.hart {
-    scalar = with_register 2 0x7fffefc0 (record initial_scalar { pc = entry_of image });
-    memory = memory_of_image image;
-  };
-}
+with_image image =
+    let scalar : Scalar = with_register 2 0x7fffefc0 (record initial_scalar { pc = entry_of image }) in
+    record initial { hart = record initial.hart { scalar = scalar; memory = memory_of_image image } }
 
 -- the program counter, and how many pages the user has
 unfoldable pub loaded_line : ℕ → ℕ → List ℕ
@@ -64,17 +56,12 @@ loading_named (Some image) p = loading image (first_fault image) p
 abbrev pub loads : List Image → List ℕ → Present → Outcome
 loads images name p = loading_named (image_named images name) p
 
--- ---- asm ADDR TEXT, the text being all that follows
-
--- an instruction's text, which has a byte at least, for an address
-abbrev pub with_text : ℕ → List ℕ → Option ProgramCommand
-with_text addr [] = None
-with_text addr (b ∷ bs) = Some (Asm addr (b ∷ bs))
+-- ---- asm ADDR TEXT, the text being all that follows, a byte at least
 
 unfoldable pub asm_args : List (List ℕ) → List ℕ → Option ProgramCommand
 asm_args ws text = do
   addr ← next instruction_address ws
-  with_text addr.0 text
+  if nat_lt 0 (length text) then Some (Asm addr.0 text) else None
 
 -- an address and the word there
 unfoldable pub asm_line : ℕ → ℕ → List ℕ
@@ -87,16 +74,9 @@ assembling addr (Ok word) p = replies (with_memory (put_bytes p.hart.memory addr
 
 -- an instruction's word is written
 abbrev pub assembles : ℕ → List ℕ → Present → Outcome
-assembles addr text p =
-    if can_access Monitor p.hart.memory addr 4 then assembling addr (spelled text) p else refuses (Some p) refusal.NotMapped
+assembles addr text p = if_mapped addr 4 p (assembling addr (spelled text) p)
 
--- ---- dis ADDR N
-
-unfoldable pub dis_args : List (List ℕ) → Option ProgramCommand
-dis_args ws = do
-  addr ← next instruction_address ws
-  count ← next (number_between 1 16) addr.1
-  done (Dis addr.0 count.0) count.1
+-- ---- dis ADDR N, with 1 to 16 words
 
 -- an address and the word there, with its text
 unfoldable pub dis_line : ℕ → ℕ → List ℕ
@@ -112,21 +92,18 @@ dis_lines addr count bytes = map (λ i. dis_line (addr + 4 * i) (word_in bytes i
 
 -- instructions are shown
 abbrev pub shows_instructions : ℕ → ℕ → Present → Outcome
-shows_instructions addr count p =
-    if can_access Monitor p.hart.memory addr (4 * count)
-    then record { next = Some p; lines = dis_lines addr count (bytes_at p.hart.memory addr (4 * count)) }
-    else refuses (Some p) refusal.NotMapped
+shows_instructions addr n p =
+    if_mapped addr (4 * n) p (record { next = Some p; lines = dis_lines addr n (bytes_at p.hart.memory addr (4 * n)) })
 
 -- ---- all of them
 
 -- the command of a name, by its arguments, and by what follows the first of them as it stands in the line; none of this group
 -- where there is no such name
 abbrev pub programs_named : List ℕ → List (List ℕ) → List ℕ → Option (Option ProgramCommand)
-programs_named name args text =
-    if bytes_eq name (codes "load") then Some (load_args args)
-    else if bytes_eq name (codes "asm") then Some (asm_args args text)
-    else if bytes_eq name (codes "dis") then Some (dis_args args)
-    else None
+programs_named name args text = meaning_in (
+    (codes "load", one_argument Load Some args)
+    ∷ (codes "asm", asm_args args text)
+    ∷ (codes "dis", two_arguments Dis instruction_address (number_between 1 16) args) ∷ []) name
 
 -- what a command does of a user who has entered
 unfoldable pub program_command : List Image → ProgramCommand → Present → Outcome

@@ -1,8 +1,7 @@
 -- The commands on a user's registers, `set`, `regs`, `setpc`, `vreg`, `vset` and `vcsr`, and the one on what becomes of agnostic
 -- elements, `policy`.
-use Rattle.std.specs.Prelude.{ℕ, zero, suc, ◌+◌, ◌*◌, ◌/◌, List, [], ◌∷◌, ◌++◌, decimal, slice_index, slice_range, reverse, flat_map, Option, Some, None, if◌then◌else◌, codes}
+use Rattle.std.specs.Prelude.{ℕ, zero, suc, ◌+◌, ◌*◌, ◌/◌, List, [], ◌∷◌, ◌++◌, decimal, slice_index, slice_range, reverse, flat_map, Option, Some, codes}
 use Rattle.std.specs.List.{range_with_len}
-use Rattle.std.specs.Str.{bytes_eq}
 use Rattle.hex.specs.Hex.{encode_lower}
 use Rattle.rv_model.specs.declared.commands.registers.RegisterCommand.{RegisterCommand}
 use Rattle.rv_model.specs.declared.commands.registers.RegisterCommand.TheVariants.{Set, Regs, SetPc, Vreg, Vset, Vcsr, SetPolicy}
@@ -11,7 +10,7 @@ use Rattle.rv_model.specs.vector.Types.{Sew, VLEN}
 use Rattle.rv_model.specs.declared.vector.state.VState.{VState}
 use Rattle.rv_model.specs.commands.Arguments.{address, instruction_address, scalar_register, vector_register, register_bytes, policy_word, sew_argument}
 use Rattle.rv_model.specs.commands.Printing.{hex16}
-use Rattle.rv_model.specs.commands.Reading.{◌>>=◌, next, done}
+use Rattle.rv_model.specs.commands.Reading.{done, meaning_in, one_argument, two_arguments}
 use Rattle.rv_model.specs.instructions.BitFields.{flag_bit}
 use Rattle.rv_model.specs.machine.UserMachine.{Present, Outcome, replies}
 use Rattle.rv_model.specs.scalar.Registers.{with_register}
@@ -26,14 +25,6 @@ with_scalar scalar p = record p { hart = record p.hart { scalar = scalar } }
 
 abbrev pub with_file : List ℕ → Present → Present
 with_file file p = record p { hart = record p.hart { vector = record p.hart.vector { file = file } } }
-
--- ---- set xN HEX
-
-unfoldable pub set_args : List (List ℕ) → Option RegisterCommand
-set_args ws = do
-  register ← next scalar_register ws
-  value ← next address register.1
-  done (Set register.0 value.0) value.1
 
 -- ---- regs
 
@@ -54,20 +45,7 @@ register_lines (suc n) i s = register_line s i ∷ register_lines n (i + 4) s
 unfoldable pub regs_lines : Scalar → List (List ℕ)
 regs_lines s = (codes "pc " ++ hex16 s.pc) ∷ register_lines 8 0 s
 
--- ---- setpc ADDR
-
-unfoldable pub setpc_args : List (List ℕ) → Option RegisterCommand
-setpc_args ws = do
-  addr ← next instruction_address ws
-  done (SetPc addr.0) addr.1
-
 -- ---- vreg vN SEW
-
-unfoldable pub vreg_args : List (List ℕ) → Option RegisterCommand
-vreg_args ws = do
-  register ← next vector_register ws
-  width ← next sew_argument register.1
-  done (Vreg register.0 width.0) width.1
 
 -- element i of a register, its k bytes with the highest first
 unfoldable pub element_text : ℕ → List ℕ → ℕ → List ℕ
@@ -78,14 +56,6 @@ unfoldable pub vreg_line : ℕ → Sew → List ℕ → List ℕ
 vreg_line r sew bytes =
     codes "v" ++ decimal r ++ flat_map (element_text (sew_bits sew / 8) bytes) (range_with_len 0 (VLEN / sew_bits sew))
 
--- ---- vset vN HEX
-
-unfoldable pub vset_args : List (List ℕ) → Option RegisterCommand
-vset_args ws = do
-  register ← next vector_register ws
-  bytes ← next register_bytes register.1
-  done (Vset register.0 bytes.0) bytes.1
-
 -- ---- vcsr
 
 unfoldable pub vcsr_line : VState → List ℕ
@@ -94,26 +64,18 @@ vcsr_line v =
     ++ codes " vstart=" ++ decimal v.vstart ++ codes " vxrm=" ++ decimal (rounding_number v.vxrm)
     ++ codes " vxsat=" ++ decimal (flag_bit v.vxsat)
 
--- ---- policy keep, policy ones
-
-unfoldable pub policy_args : List (List ℕ) → Option RegisterCommand
-policy_args ws = do
-  policy ← next policy_word ws
-  done (SetPolicy policy.0) policy.1
-
 -- ---- all of them
 
 -- the command of a name, by its arguments; none of this group where there is no such name
 abbrev pub registers_named : List ℕ → List (List ℕ) → Option (Option RegisterCommand)
-registers_named name args =
-    if bytes_eq name (codes "set") then Some (set_args args)
-    else if bytes_eq name (codes "regs") then Some (done Regs args)
-    else if bytes_eq name (codes "setpc") then Some (setpc_args args)
-    else if bytes_eq name (codes "vreg") then Some (vreg_args args)
-    else if bytes_eq name (codes "vset") then Some (vset_args args)
-    else if bytes_eq name (codes "vcsr") then Some (done Vcsr args)
-    else if bytes_eq name (codes "policy") then Some (policy_args args)
-    else None
+registers_named name args = meaning_in (
+    (codes "set", two_arguments Set scalar_register address args)
+    ∷ (codes "regs", done Regs args)
+    ∷ (codes "setpc", one_argument SetPc instruction_address args)
+    ∷ (codes "vreg", two_arguments Vreg vector_register sew_argument args)
+    ∷ (codes "vset", two_arguments Vset vector_register register_bytes args)
+    ∷ (codes "vcsr", done Vcsr args)
+    ∷ (codes "policy", one_argument SetPolicy policy_word args) ∷ []) name
 
 -- what a command does of a user who has entered
 unfoldable pub register_command : RegisterCommand → Present → Outcome

@@ -1,7 +1,6 @@
 -- The commands that run instructions, and that tell how far the program is and what it has put out: `step`, `go`, `stop`, `state`,
 -- `trace` and `out`.
-use Rattle.std.specs.Prelude.{ℕ, Bool, true, false, List, [], ◌∷◌, ◌++◌, length, decimal, flat_map, Option, Some, None, if◌then◌else◌, codes}
-use Rattle.std.specs.Str.{bytes_eq}
+use Rattle.std.specs.Prelude.{ℕ, Bool, true, false, List, [], ◌∷◌, ◌++◌, length, nat_lt, decimal, flat_map, Option, Some, None, if◌then◌else◌, codes}
 use Rattle.hex.specs.Hex.{encode_lower}
 use Rattle.rv_model.specs.declared.commands.running.RunningCommand.{RunningCommand}
 use Rattle.rv_model.specs.declared.commands.running.RunningCommand.TheVariants.{Step, Go, Stop as StopRunning, State, Trace, Out}
@@ -9,27 +8,16 @@ use Rattle.rv_model.specs.declared.commands.refusal.Refusal.TheVariants as refus
 use Rattle.rv_model.specs.declared.step.step_end.Stop.{Stop}
 use Rattle.rv_model.specs.commands.Arguments.{number_between}
 use Rattle.rv_model.specs.commands.Printing.{hex16, listed, stop_line}
-use Rattle.rv_model.specs.commands.Reading.{◌>>=◌, next, done}
+use Rattle.rv_model.specs.commands.Reading.{done, meaning_in, one_argument}
 use Rattle.rv_model.specs.machine.Runs.{steps}
 use Rattle.rv_model.specs.machine.UserMachine.{Present, Outcome, refuses, replies}
 
--- ---- step N
-
-unfoldable pub step_args : List (List ℕ) → Option RunningCommand
-step_args ws = do
-  count ← next (number_between 1 256) ws
-  done (Step count.0) count.1
+-- ---- step N, with 1 to 256 instructions
 
 -- how many instructions were carried out, or why the program stopped, and where it stands
 unfoldable pub step_line : ℕ → ℕ → Option Stop → List ℕ
 step_line n pc None = codes "stepped " ++ decimal n ++ codes " pc=" ++ hex16 pc
 step_line n pc (Some stop) = stop_line pc stop
-
--- instructions are carried out, the first of them also at a breakpoint
-abbrev pub runs_steps : ℕ → Present → Outcome
-runs_steps n p =
-    let run = steps n true p in
-    replies run.state (step_line n run.state.hart.scalar.pc run.stop)
 
 -- ---- go
 
@@ -61,39 +49,33 @@ trace_line addresses = codes "trace" ++ flat_map listed addresses
 
 -- ---- out
 
--- bytes after a space; nothing where there are none
-unfoldable pub spaced_bytes : List ℕ → List ℕ
-spaced_bytes [] = []
-spaced_bytes (b ∷ bs) = codes " " ++ encode_lower (b ∷ bs)
-
--- how many bytes a program has put out, and the bytes
+-- how many bytes a program has put out, and the bytes, if there are any
 unfoldable pub out_line : List ℕ → List ℕ
-out_line bytes = codes "out " ++ decimal (length bytes) ++ spaced_bytes bytes
-
--- the machine with another output buffer
-abbrev pub with_output : List ℕ → Present → Present
-with_output output p = record p { hart = record p.hart { output = output } }
+out_line bytes =
+    codes "out " ++ decimal (length bytes) ++ (if nat_lt 0 (length bytes) then codes " " ++ encode_lower bytes else [])
 
 -- ---- all of them
 
 -- the command of a name, by its arguments; none of this group where there is no such name
 abbrev pub running_named : List ℕ → List (List ℕ) → Option (Option RunningCommand)
-running_named name args =
-    if bytes_eq name (codes "step") then Some (step_args args)
-    else if bytes_eq name (codes "go") then Some (done Go args)
-    else if bytes_eq name (codes "stop") then Some (done StopRunning args)
-    else if bytes_eq name (codes "state") then Some (done State args)
-    else if bytes_eq name (codes "trace") then Some (done Trace args)
-    else if bytes_eq name (codes "out") then Some (done Out args)
-    else None
+running_named name args = meaning_in (
+    (codes "step", one_argument Step (number_between 1 256) args)
+    ∷ (codes "go", done Go args)
+    ∷ (codes "stop", done StopRunning args)
+    ∷ (codes "state", done State args)
+    ∷ (codes "trace", done Trace args)
+    ∷ (codes "out", done Out args) ∷ []) name
 
 -- what a command does of a user who has entered
 unfoldable pub running_command : RunningCommand → Present → Outcome
-running_command (Step n) p = runs_steps n p
+-- instructions are carried out, the first of them also at a breakpoint
+running_command (Step n) p =
+    let run = steps n true p in
+    replies run.state (step_line n run.state.hart.scalar.pc run.stop)
 -- the program runs; a breakpoint at its first instruction doesn't stop it
 running_command Go p = replies (record p { running = true; fresh = true }) (running_line p.hart.scalar.pc)
 running_command StopRunning p = halts p
 running_command State p = replies p (state_line p.running p.hart.scalar.pc)
 running_command Trace p = replies p (trace_line p.trace)
 -- what the program has put out is shown, and the output buffer is emptied
-running_command Out p = replies (with_output [] p) (out_line p.hart.output)
+running_command Out p = replies (record p { hart = record p.hart { output = [] } }) (out_line p.hart.output)

@@ -18,7 +18,7 @@ use Rattle.rv_model.specs.vector.Groups.{single_type}
 use Rattle.rv_model.specs.elements.Formulas.{carry_formula, carry_out_formula, compare_formula, extend_formula, formula, has_unsigned_immediate, immediate_value, multiply_add_formula, narrow_shift_formula, ones, wide_source_formula, widen_formula, widen_multiply_add_formula, wrap}
 use Rattle.rv_model.specs.elements.FixedPoint.{clip_formula, clip_saturates, fixed_point_formula, has_unsigned_shift, saturates}
 use Rattle.rv_model.specs.elements.Masks.{mask_logic_formula, set_count}
-use Rattle.rv_model.specs.elements.Reductions.{active_numbers, reduced, wide_reduced}
+use Rattle.rv_model.specs.elements.Reductions.{active_numbers, combining, reduced, widening_combining}
 
 abbrev pub is_ones : Policy → Bool
 is_ones Keep = false
@@ -115,12 +115,13 @@ clip_saturates_at n w mode op vs2 source file x i =
 
 abbrev pub reduce_result : GroupType → ReduceOp → Body → ℕ → Source → List ℕ → Scalar → ℕ
 reduce_result g op body vs2 source file x =
-    reduced op g.width (second_element (single_type g.width) false source file x 0) (active_numbers body (group_element g file vs2))
+    reduced (formula (combining op) g.width) g.width (second_element (single_type g.width) false source file x 0)
+    (active_numbers body (group_element g file vs2))
 
 abbrev pub widen_reduce_result : GroupType → GroupType → WidenReduceOp → Body → ℕ → Source → List ℕ → Scalar → ℕ
 widen_reduce_result n w op body vs2 source file x =
-    wide_reduced op w.width n.width (second_element (single_type w.width) false source file x 0)
-    (active_numbers body (group_element n file vs2))
+    reduced (wide_source_formula (widening_combining op) w.width n.width) w.width
+    (second_element (single_type w.width) false source file x 0) (active_numbers body (group_element n file vs2))
 
 -- ---- mask instructions: the result at element i
 

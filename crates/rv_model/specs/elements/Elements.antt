@@ -48,13 +48,11 @@ is_active body i = in_body body i && is_let body i
 abbrev pub some_active : Body → (ℕ → Bool) → Bool
 some_active body test = list_any (λ i. is_active body i && test i) (range_with_len 0 body.end)
 
--- the elements that are masked off: those of the body that the mask doesn't let through
-abbrev pub is_masked_off : Body → ℕ → Bool
-is_masked_off body i = in_body body i && not (is_let body i)
-
--- the elements that become all ones, by flags: those that are masked off, and those of the tail, which are past the body
+-- the elements that become all ones, by flags: those that are masked off, of the body but not let through, and those of the tail,
+-- which are past the body
 abbrev pub is_filled : Body → Bool → Bool → ℕ → Bool
-is_filled body fill_masked_off fill_tail i = (fill_masked_off && is_masked_off body i) || (fill_tail && nat_le body.end i)
+is_filled body fill_masked_off fill_tail i =
+    (fill_masked_off && (in_body body i && not (is_let body i))) || (fill_tail && nat_le body.end i)
 
 -- the elements of a destination that change; all others are undisturbed
 abbrev pub is_changed : Body → Bool → Bool → ℕ → Bool

@@ -16,16 +16,12 @@ use Rattle.rv_model.specs.elements.Formulas.{low_bits}
 abbrev pub has_bit : ℕ → ℤ → Bool
 has_bit i v = low_bits 1 (int_shr v i) == 1
 
--- whether some of so many low bits are set
-abbrev pub has_low_bits : ℕ → ℤ → Bool
-has_low_bits count v = not (low_bits count v == 0)
-
 -- whether one is added where the low d bits are dropped
 abbrev pub rounds_up : RoundingMode → ℕ → ℤ → Bool
 rounds_up NearestUp d v = has_bit (d - 1) v
-rounds_up NearestEven d v = has_bit (d - 1) v && (has_low_bits (d - 1) v || has_bit d v)
+rounds_up NearestEven d v = has_bit (d - 1) v && (not (low_bits (d - 1) v == 0) || has_bit d v)
 rounds_up Down d v = false
-rounds_up Odd d v = not (has_bit d v) && has_low_bits d v
+rounds_up Odd d v = not (has_bit d v) && not (low_bits d v == 0)
 
 -- a whole number without its low d bits, rounded
 abbrev pub rounded : RoundingMode → ℕ → ℤ → ℤ

@@ -1,6 +1,7 @@
 -- Mask instructions ("V" Vector Extension 1.0, chapter 15).
-use Rattle.std.specs.Prelude.{ℕ, ◌-◌, ◌^◌, ◌==◌, ◌&&◌, ◌||◌, not, nat_le, nat_lt, Bool, true, false, List, length, Option, Some, None, if◌then◌else◌}
+use Rattle.std.specs.Prelude.{ℕ, ◌-◌, ◌^◌, ◌==◌, ◌&&◌, ◌||◌, not, nat_le, nat_lt, Bool, true, false, List, length, Option, if◌then◌else◌}
 use Rattle.std.specs.List.{filter, find, range_with_len}
+use Rattle.std.specs.Option.{option_map_or}
 use Rattle.rv_model.specs.instructions.Types.{MaskLogicOp, MaskScanOp, MaskToScalarOp}
 use Rattle.rv_model.specs.declared.instructions.operations.MaskLogicOp.TheVariants.{Vmandn, Vmand, Vmor, Vmxor, Vmorn, Vmnand, Vmnor, Vmxnor}
 use Rattle.rv_model.specs.declared.instructions.operations.MaskScanOp.TheVariants.{Vmsbf, Vmsof, Vmsif}
@@ -34,22 +35,14 @@ set_count body bits n = length (filter (is_set body bits) (range_with_len 0 n))
 abbrev pub first_set : Body → List ℕ → Option ℕ
 first_set body bits = find (is_set body bits) (range_with_len 0 body.end)
 
--- an index, or -1 in 64 bits
-abbrev pub index_or_minus_one : Option ℕ → ℕ
-index_or_minus_one None = 2 ^ 64 - 1
-index_or_minus_one (Some i) = i
-
--- what a scalar register takes
+-- what a scalar register takes: how many there are, or the first one, and -1 in 64 bits where there is none
 abbrev pub mask_to_scalar_formula : MaskToScalarOp → Body → List ℕ → ℕ
 mask_to_scalar_formula Vcpop body bits = set_count body bits body.end
-mask_to_scalar_formula Vfirst body bits = index_or_minus_one (first_set body bits)
+mask_to_scalar_formula Vfirst body bits = option_map_or (λ i. i) (first_set body bits) (2 ^ 64 - 1)
 
 -- whether the bit at an index is set: those before the first one, those up to it, or it alone. Where there is none, each
 -- bit is before it.
 abbrev pub mask_scan_formula : MaskScanOp → Option ℕ → ℕ → Bool
-mask_scan_formula Vmsbf None i = true
-mask_scan_formula Vmsbf (Some first) i = nat_lt i first
-mask_scan_formula Vmsif None i = true
-mask_scan_formula Vmsif (Some first) i = nat_le i first
-mask_scan_formula Vmsof None i = false
-mask_scan_formula Vmsof (Some first) i = i == first
+mask_scan_formula Vmsbf first i = option_map_or (nat_lt i) first true
+mask_scan_formula Vmsif first i = option_map_or (nat_le i) first true
+mask_scan_formula Vmsof first i = option_map_or (λ n. i == n) first false

@@ -1,6 +1,7 @@
 -- What a permutation leaves in the vector registers ("V" Vector Extension 1.0, chapter 16). The operands are those of the state
 -- that it finds.
-use Rattle.std.specs.Prelude.{ℕ, ◌%◌, ◌^◌, Bool, List}
+use Rattle.std.specs.Prelude.{ℕ, ◌+◌, ◌-◌, ◌%◌, ◌^◌, ◌==◌, Bool, List, max, if◌then◌else◌}
+use Rattle.std.specs.Int.{w16}
 use mir.Val.{bits}
 use Rattle.rv_model.specs.instructions.Types.{PermuteOp, Source}
 use Rattle.rv_model.specs.declared.instructions.operations.PermuteOp.TheVariants.{Vrgatherei16, Vslideup, Vslidedown, Vslide1up, Vslide1down}
@@ -10,9 +11,9 @@ use Rattle.rv_model.specs.vector.Types.{VType}
 use Rattle.rv_model.specs.elements.Arithmetic.{group_element}
 use Rattle.rv_model.specs.elements.Elements.{Body}
 use Rattle.rv_model.specs.elements.Formulas.{ones}
-use Rattle.rv_model.specs.elements.Permutations.{from_offset, gathered, is_packed_or_filled, packed_or_ones, slid_down, slid_one_down, slid_one_up, slid_up}
+use Rattle.rv_model.specs.elements.Permutations.{gathered, is_packed_or_filled, packed_or_ones}
 use Rattle.rv_model.specs.elements.Writes.{written}
-use Rattle.rv_model.specs.vector.Groups.{index_type, single_type}
+use Rattle.rv_model.specs.vector.Groups.{single_type, with_width}
 use Rattle.rv_model.specs.instructions.Immediates.{sign_extended}
 use Rattle.rv_model.specs.scalar.Registers.{read_register}
 use Rattle.rv_model.specs.vector.Configuration.{GroupType, element_count, sew_bits, sew_width, width_bytes}
@@ -22,7 +23,7 @@ use Rattle.rv_model.specs.vector.Registers.{group_of, with_group}
 
 -- the groups of vs1, by those of vs2
 abbrev pub source_type : PermuteOp → GroupType → GroupType
-source_type Vrgatherei16 g = index_type g
+source_type Vrgatherei16 g = with_width w16 g
 source_type _ g = g
 
 -- the scalar operand: all 64 bits of x[rs1], or the immediate, which is unsigned
@@ -36,22 +37,23 @@ abbrev pub index_of : GroupType → Source → List ℕ → Scalar → ℕ → �
 index_of indices (source.V vs1) file x i = group_element indices file vs1 i
 index_of indices from file x i = scalar_operand from x
 
--- the result at element i, by vl
+-- the result at element i, by vl. A slide moves elements by the scalar operand (sections 16.3.1 and 16.3.2); the sum is a whole number,
+-- which never wraps. A slide by one lets a number in, at element 0 or at the last one before vl (sections 16.3.3 and 16.3.5).
 abbrev pub permute_result : GroupType → PermuteOp → ℕ → ℕ → Source → List ℕ → Scalar → ℕ → ℕ
-permute_result g Vslideup vl vs2 source file x i = slid_up (group_element g file vs2) (scalar_operand source x) i
+permute_result g Vslideup vl vs2 source file x i = group_element g file vs2 (i - scalar_operand source x)
 permute_result g Vslidedown vl vs2 source file x i =
-    slid_down (element_count g) (group_element g file vs2) (scalar_operand source x) i
+    gathered (element_count g) (group_element g file vs2) (i + scalar_operand source x)
 permute_result g Vslide1up vl vs2 source file x i =
-    slid_one_up (scalar_operand source x % 2 ^ bits g.width) (group_element g file vs2) i
+    if i == 0 then scalar_operand source x % 2 ^ bits g.width else group_element g file vs2 (i - 1)
 permute_result g Vslide1down vl vs2 source file x i =
-    slid_one_down vl (scalar_operand source x % 2 ^ bits g.width) (group_element g file vs2) i
+    if i + 1 == vl then scalar_operand source x % 2 ^ bits g.width else group_element g file vs2 (i + 1)
 -- gathers
 permute_result g op vl vs2 source file x i =
     gathered (element_count g) (group_element g file vs2) (index_of (source_type op g) source file x i)
 
--- the elements that it works on, of those of the instruction's body
+-- the elements that it works on, of those of the instruction's body; vslideup leaves those below the offset alone
 abbrev pub permute_body : PermuteOp → Source → Scalar → Body → Body
-permute_body Vslideup source x body = from_offset body (scalar_operand source x)
+permute_body Vslideup source x body = record body { start = max body.start (scalar_operand source x) }
 permute_body _ source x body = body
 
 -- ---- vcompress

@@ -1,5 +1,5 @@
 -- Reductions ("V" Vector Extension 1.0, chapter 14): a first number, combined with each active element in turn.
-use Rattle.std.specs.Prelude.{ℕ, List, map}
+use Rattle.std.specs.Prelude.{ℕ, ℤ, List, map}
 use Rattle.std.specs.Int.{Width}
 use Rattle.std.specs.List.{filter, fold, range_with_len}
 use Rattle.rv_model.specs.instructions.Types.{BinaryOp, ReduceOp, WideSourceOp, WidenReduceOp}
@@ -8,7 +8,7 @@ use Rattle.rv_model.specs.declared.instructions.operations.ReduceOp.TheVariants.
 use Rattle.rv_model.specs.declared.instructions.operations.WideSourceOp.TheVariants.{Vwaddu, Vwadd}
 use Rattle.rv_model.specs.declared.instructions.operations.WidenReduceOp.TheVariants.{Vwredsumu, Vwredsum}
 use Rattle.rv_model.specs.elements.Elements.{Body, is_active}
-use Rattle.rv_model.specs.elements.Formulas.{formula, wide_source_formula, wrap}
+use Rattle.rv_model.specs.elements.Formulas.{wrap}
 
 -- the operation by which a reduction combines
 abbrev pub combining : ReduceOp → BinaryOp
@@ -30,10 +30,6 @@ widening_combining Vwredsum = Vwadd
 abbrev pub active_numbers : Body → (ℕ → ℕ) → List ℕ
 active_numbers body number = map number (filter (is_active body) (range_with_len 0 body.end))
 
--- a number of the width w, combined with numbers of that width
-abbrev pub reduced : ReduceOp → Width → ℕ → List ℕ → ℕ
-reduced op w first numbers = fold (λ x a. wrap w (formula (combining op) w x a)) first numbers
-
--- a number of the wide width, combined with numbers of the narrow one
-abbrev pub wide_reduced : WidenReduceOp → Width → Width → ℕ → List ℕ → ℕ
-wide_reduced op w n first numbers = fold (λ x a. wrap w (wide_source_formula (widening_combining op) w n x a)) first numbers
+-- a number of the width w, combined with numbers by a formula
+abbrev pub reduced : (ℕ → ℕ → ℤ) → Width → ℕ → List ℕ → ℕ
+reduced combined w first numbers = fold (λ x a. wrap w (combined x a)) first numbers

@@ -1,6 +1,6 @@
 -- The fields of an ELF-64 image that a loader reads, each by its offset and size in bytes (ELF-64 Object File Format, "File
 -- header" and "Program header table"). Numbers are little-endian.
-use Rattle.std.specs.Prelude.{ℕ, ◌+◌, ◌*◌, List, drop, map, slice_index}
+use Rattle.std.specs.Prelude.{ℕ, ◌+◌, ◌*◌, List, drop, map}
 use Rattle.std.specs.List.{range_with_len}
 use Rattle.byteorder.specs.Endian.{little_number}
 use Rattle.rv_model.specs.declared.images.ProgramHeader.{ProgramHeader}
@@ -9,22 +9,6 @@ use Rattle.rv_model.specs.declared.images.ProgramHeader.{ProgramHeader}
 unfoldable pub number_in_file : ℕ → ℕ → List ℕ → ℕ
 number_in_file offset size image = little_number size (drop offset image)
 
--- e_ident[EI_CLASS]
-abbrev pub class_of : List ℕ → ℕ
-class_of image = slice_index image 4
-
--- e_ident[EI_DATA]
-abbrev pub data_of : List ℕ → ℕ
-data_of image = slice_index image 5
-
--- e_type
-abbrev pub type_of : List ℕ → ℕ
-type_of image = number_in_file 16 2 image
-
--- e_machine
-abbrev pub machine_of : List ℕ → ℕ
-machine_of image = number_in_file 18 2 image
-
 -- e_entry
 abbrev pub entry_of : List ℕ → ℕ
 entry_of image = number_in_file 24 8 image
@@ -32,10 +16,6 @@ entry_of image = number_in_file 24 8 image
 -- e_phoff
 abbrev pub table_offset : List ℕ → ℕ
 table_offset image = number_in_file 32 8 image
-
--- e_phentsize
-abbrev pub header_size : List ℕ → ℕ
-header_size image = number_in_file 54 2 image
 
 -- e_phnum
 abbrev pub header_count : List ℕ → ℕ

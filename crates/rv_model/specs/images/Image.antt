@@ -59,8 +59,7 @@ cell_of image x =
 
 -- a cell added where there is one
 abbrev pub with_cell : Memory → ℕ → Option Cell → Memory
-with_cell m x None = m
-with_cell m x (Some cell) = insert m x cell
+with_cell m x cell = option_map_or (insert m x) cell m
 
 -- the memory with these cells below an address, and no others
 unfoldable pub memory_below : (ℕ → Option Cell) → ℕ → Memory

@@ -1,5 +1,5 @@
 -- Bit fields of a word of 32 bits, and the word as its fixed bits and its operands' fields
-use Rattle.std.specs.Prelude.{ℕ, ◌+◌, ◌-◌, ◌*◌, ◌/◌, ◌%◌, ◌^◌, ◌<◌, List, [], ◌∷◌, Bool, true, false, nat_eq}
+use Rattle.std.specs.Prelude.{ℕ, ◌+◌, ◌-◌, ◌*◌, ◌/◌, ◌%◌, ◌^◌, List, [], ◌∷◌, Bool, true, false, nat_eq}
 
 -- the len bits of a word from bit low up
 abbrev pub field : ℕ → ℕ → ℕ → ℕ
@@ -24,10 +24,6 @@ pub record Part : Type 0 where
 abbrev pub part : ℕ → ℕ → ℕ → Part
 part low len value = record { low = low; len = len; value = value }
 
--- ones at a part's place
-abbrev pub part_mask : Part → ℕ
-part_mask p = 2 ^ (p.len + p.low) - 2 ^ p.low
-
 -- the word of a code and its parts
 abbrev pub sum_of : ℕ → List Part → ℕ
 sum_of code [] = code
@@ -36,13 +32,8 @@ sum_of code (p ∷ ps) = sum_of code ps + p.value * 2 ^ p.low
 -- a mask, with ones at the parts' places too
 abbrev pub mask_of : ℕ → List Part → ℕ
 mask_of m [] = m
-mask_of m (p ∷ ps) = mask_of m ps + part_mask p
+mask_of m (p ∷ ps) = mask_of m ps + (2 ^ (p.len + p.low) - 2 ^ p.low)
 
 -- ones where no part stands
 abbrev pub fixed : List Part → ℕ
 fixed ps = 2 ^ 32 - 1 - mask_of 0 ps
-
--- each value has room
-abbrev pub AllFit : List Part → Type 0
-AllFit [] = Unit {0}
-AllFit (p ∷ ps) = (p.value < 2 ^ p.len) × AllFit ps

@@ -1,7 +1,7 @@
 -- The name of each operation and the bits that it fixes in its word, as the manual's tables have them: opcode at bits 6 to 0,
 -- funct3 at 14 to 12, funct7 at 31 to 25
-use Rattle.std.specs.Prelude.{ℕ, ◌+◌, ◌*◌, ◌^◌, List, [], ◌∷◌, codes}
-use Rattle.rv_model.specs.instructions.Types.{UpperOp, BranchOp, LoadOp, StoreOp, ImmediateOp, ShiftImmediateOp, ShiftImmediateWordOp, RegisterOp, SystemOp, CsrOp, CsrImmediateOp, MaskLogicOp, MaskToScalarOp, ExtendOp, MaskUnaryOp, Form, Eew, UnitOp, Direction, Order, RegisterCount}
+use Rattle.std.specs.Prelude.{ℕ, ◌+◌, ◌*◌, ◌^◌, List, codes}
+use Rattle.rv_model.specs.instructions.Types.{UpperOp, BranchOp, LoadOp, StoreOp, ImmediateOp, ShiftImmediateOp, ShiftImmediateWordOp, RegisterOp, SystemOp, CsrOp, CsrImmediateOp, MaskLogicOp, MaskToScalarOp, ExtendOp, MaskUnaryOp, Eew, UnitOp, Direction, Order, RegisterCount}
 use Rattle.rv_model.specs.declared.instructions.operations.UpperOp.TheVariants as upper
 use Rattle.rv_model.specs.declared.instructions.operations.BranchOp.TheVariants as branch
 use Rattle.rv_model.specs.declared.instructions.operations.LoadOp.TheVariants as load
@@ -18,20 +18,20 @@ use Rattle.rv_model.specs.declared.instructions.operations.MaskToScalarOp.TheVar
 use Rattle.rv_model.specs.declared.instructions.operations.ExtendOp.TheVariants as extend
 use Rattle.rv_model.specs.declared.instructions.operations.MaskScanOp.TheVariants as mask_scan
 use Rattle.rv_model.specs.declared.instructions.operations.MaskUnaryOp.TheVariants as mask_unary
-use Rattle.rv_model.specs.declared.instructions.operations.Form.TheVariants as form
 use Rattle.rv_model.specs.declared.instructions.operations.Eew.TheVariants as width
 use Rattle.rv_model.specs.declared.instructions.operations.UnitOp.TheVariants as unit
 use Rattle.rv_model.specs.declared.instructions.operations.Direction.TheVariants as direction
 use Rattle.rv_model.specs.declared.instructions.operations.Order.TheVariants as order
 use Rattle.rv_model.specs.declared.instructions.operations.RegisterCount.TheVariants as count
 
--- what the listings say of an operation: its name, and the bits that it fixes
-pub record Entry : Type 0 where
+-- what the listings say of an operation: its name, and its code: the bits that it fixes, or its line
+pub record Entry (A : Type 0) : Type 0 where
   pub name : List ℕ
-  pub bits : ℕ
+  pub code : A
 
-abbrev pub entry : List ℕ → ℕ → Entry
-entry name bits = record { name = name; bits = bits }
+-- that of an operation with fixed bits
+abbrev pub entry : List ℕ → ℕ → Entry ℕ
+entry name bits = record { name = name; code = bits }
 
 -- opcode and funct3
 abbrev pub coded : ℕ → ℕ → ℕ
@@ -48,16 +48,12 @@ vector_coded funct3 funct6 unmasked vs1 = coded 0x57 funct3 + funct6 * 2 ^ 26 + 
 -- ---- RV64I (Unprivileged ISA, "RV32I" and "RV64I", with the opcode map of "RV32/64G Instruction Set Listings")
 
 -- LUI, AUIPC
-abbrev pub upper_entry : UpperOp → Entry
+abbrev pub upper_entry : UpperOp → Entry ℕ
 upper_entry upper.Lui = entry (codes "lui") 0x37
 upper_entry upper.Auipc = entry (codes "auipc") 0x17
 
--- their operations
-abbrev pub upper_ops : List UpperOp
-upper_ops = upper.Lui ∷ upper.Auipc ∷ []
-
 -- BRANCH
-abbrev pub branch_entry : BranchOp → Entry
+abbrev pub branch_entry : BranchOp → Entry ℕ
 branch_entry branch.Beq = entry (codes "beq") (coded 0x63 0)
 branch_entry branch.Bne = entry (codes "bne") (coded 0x63 1)
 branch_entry branch.Blt = entry (codes "blt") (coded 0x63 4)
@@ -65,12 +61,8 @@ branch_entry branch.Bge = entry (codes "bge") (coded 0x63 5)
 branch_entry branch.Bltu = entry (codes "bltu") (coded 0x63 6)
 branch_entry branch.Bgeu = entry (codes "bgeu") (coded 0x63 7)
 
--- its operations
-abbrev pub branch_ops : List BranchOp
-branch_ops = branch.Beq ∷ branch.Bne ∷ branch.Blt ∷ branch.Bge ∷ branch.Bltu ∷ branch.Bgeu ∷ []
-
 -- LOAD
-abbrev pub load_entry : LoadOp → Entry
+abbrev pub load_entry : LoadOp → Entry ℕ
 load_entry load.Lb = entry (codes "lb") (coded 0x03 0)
 load_entry load.Lh = entry (codes "lh") (coded 0x03 1)
 load_entry load.Lw = entry (codes "lw") (coded 0x03 2)
@@ -79,23 +71,15 @@ load_entry load.Lbu = entry (codes "lbu") (coded 0x03 4)
 load_entry load.Lhu = entry (codes "lhu") (coded 0x03 5)
 load_entry load.Lwu = entry (codes "lwu") (coded 0x03 6)
 
--- its operations
-abbrev pub load_ops : List LoadOp
-load_ops = load.Lb ∷ load.Lh ∷ load.Lw ∷ load.Ld ∷ load.Lbu ∷ load.Lhu ∷ load.Lwu ∷ []
-
 -- STORE
-abbrev pub store_entry : StoreOp → Entry
+abbrev pub store_entry : StoreOp → Entry ℕ
 store_entry store.Sb = entry (codes "sb") (coded 0x23 0)
 store_entry store.Sh = entry (codes "sh") (coded 0x23 1)
 store_entry store.Sw = entry (codes "sw") (coded 0x23 2)
 store_entry store.Sd = entry (codes "sd") (coded 0x23 3)
 
--- its operations
-abbrev pub store_ops : List StoreOp
-store_ops = store.Sb ∷ store.Sh ∷ store.Sw ∷ store.Sd ∷ []
-
 -- OP-IMM and OP-IMM-32 with an immediate of 12 bits
-abbrev pub immediate_entry : ImmediateOp → Entry
+abbrev pub immediate_entry : ImmediateOp → Entry ℕ
 immediate_entry immediate.Addi = entry (codes "addi") (coded 0x13 0)
 immediate_entry immediate.Slti = entry (codes "slti") (coded 0x13 2)
 immediate_entry immediate.Sltiu = entry (codes "sltiu") (coded 0x13 3)
@@ -104,33 +88,20 @@ immediate_entry immediate.Ori = entry (codes "ori") (coded 0x13 6)
 immediate_entry immediate.Andi = entry (codes "andi") (coded 0x13 7)
 immediate_entry immediate.Addiw = entry (codes "addiw") (coded 0x1b 0)
 
--- their operations
-abbrev pub immediate_ops : List ImmediateOp
-immediate_ops =
-    immediate.Addi ∷ immediate.Slti ∷ immediate.Sltiu ∷ immediate.Xori ∷ immediate.Ori ∷ immediate.Andi ∷ immediate.Addiw ∷ []
-
 -- OP-IMM with a shift amount of six bits
-abbrev pub shift_immediate_entry : ShiftImmediateOp → Entry
+abbrev pub shift_immediate_entry : ShiftImmediateOp → Entry ℕ
 shift_immediate_entry shift_immediate.Slli = entry (codes "slli") (register_coded 0x13 1 0x00)
 shift_immediate_entry shift_immediate.Srli = entry (codes "srli") (register_coded 0x13 5 0x00)
 shift_immediate_entry shift_immediate.Srai = entry (codes "srai") (register_coded 0x13 5 0x20)
 
--- its operations
-abbrev pub shift_immediate_ops : List ShiftImmediateOp
-shift_immediate_ops = shift_immediate.Slli ∷ shift_immediate.Srli ∷ shift_immediate.Srai ∷ []
-
 -- OP-IMM-32 with a shift amount of five bits
-abbrev pub shift_immediate_word_entry : ShiftImmediateWordOp → Entry
+abbrev pub shift_immediate_word_entry : ShiftImmediateWordOp → Entry ℕ
 shift_immediate_word_entry shift_immediate_word.Slliw = entry (codes "slliw") (register_coded 0x1b 1 0x00)
 shift_immediate_word_entry shift_immediate_word.Srliw = entry (codes "srliw") (register_coded 0x1b 5 0x00)
 shift_immediate_word_entry shift_immediate_word.Sraiw = entry (codes "sraiw") (register_coded 0x1b 5 0x20)
 
--- its operations
-abbrev pub shift_immediate_word_ops : List ShiftImmediateWordOp
-shift_immediate_word_ops = shift_immediate_word.Slliw ∷ shift_immediate_word.Srliw ∷ shift_immediate_word.Sraiw ∷ []
-
 -- OP and OP-32, with the "M" extension
-abbrev pub register_entry : RegisterOp → Entry
+abbrev pub register_entry : RegisterOp → Entry ℕ
 register_entry register.Add = entry (codes "add") (register_coded 0x33 0 0x00)
 register_entry register.Sub = entry (codes "sub") (register_coded 0x33 0 0x20)
 register_entry register.Sll = entry (codes "sll") (register_coded 0x33 1 0x00)
@@ -160,62 +131,30 @@ register_entry register.Divuw = entry (codes "divuw") (register_coded 0x3b 5 0x0
 register_entry register.Remw = entry (codes "remw") (register_coded 0x3b 6 0x01)
 register_entry register.Remuw = entry (codes "remuw") (register_coded 0x3b 7 0x01)
 
--- their operations
-abbrev pub register_ops : List RegisterOp
-register_ops =
-    register.Add ∷ register.Sub ∷ register.Sll ∷ register.Slt ∷ register.Sltu ∷ register.Xor ∷ register.Srl ∷ register.Sra ∷ register.Or ∷ register.And ∷ register.Mul ∷
-    register.Mulh ∷ register.Mulhsu ∷ register.Mulhu ∷ register.Div ∷ register.Divu ∷ register.Rem ∷ register.Remu ∷ register.Addw ∷ register.Subw ∷ register.Sllw ∷
-    register.Srlw ∷ register.Sraw ∷ register.Mulw ∷ register.Divw ∷ register.Divuw ∷ register.Remw ∷ register.Remuw ∷ []
-
 -- SYSTEM with no operands: the whole word
-abbrev pub system_entry : SystemOp → Entry
+abbrev pub system_entry : SystemOp → Entry ℕ
 system_entry system.Ecall = entry (codes "ecall") 0x00000073
 system_entry system.Ebreak = entry (codes "ebreak") 0x00100073
-
--- its operations
-abbrev pub system_ops : List SystemOp
-system_ops = system.Ecall ∷ system.Ebreak ∷ []
 
 -- ---- Zicsr (Unprivileged ISA, "Zicsr", CSR Instructions)
 
 -- SYSTEM with a scalar register
-abbrev pub csr_entry : CsrOp → Entry
+abbrev pub csr_entry : CsrOp → Entry ℕ
 csr_entry csr.Csrrw = entry (codes "csrrw") (coded 0x73 1)
 csr_entry csr.Csrrs = entry (codes "csrrs") (coded 0x73 2)
 csr_entry csr.Csrrc = entry (codes "csrrc") (coded 0x73 3)
 
--- its operations
-abbrev pub csr_ops : List CsrOp
-csr_ops = csr.Csrrw ∷ csr.Csrrs ∷ csr.Csrrc ∷ []
-
 -- SYSTEM with an immediate
-abbrev pub csr_immediate_entry : CsrImmediateOp → Entry
+abbrev pub csr_immediate_entry : CsrImmediateOp → Entry ℕ
 csr_immediate_entry csr_immediate.Csrrwi = entry (codes "csrrwi") (coded 0x73 5)
 csr_immediate_entry csr_immediate.Csrrsi = entry (codes "csrrsi") (coded 0x73 6)
 csr_immediate_entry csr_immediate.Csrrci = entry (codes "csrrci") (coded 0x73 7)
 
--- its operations
-abbrev pub csr_immediate_ops : List CsrImmediateOp
-csr_immediate_ops = csr_immediate.Csrrwi ∷ csr_immediate.Csrrsi ∷ csr_immediate.Csrrci ∷ []
-
 -- ---- vector operations with fewer operands (V extension, "Vector Instruction Listing"): funct3, funct6, bit 25
 -- where it is fixed, vs1 where it is
 
--- vmv.v.v, vmv.v.x, vmv.v.i ("Vector Integer Move Instructions")
-abbrev pub move_bits : Form → ℕ
-move_bits form.V = vector_coded 0 0x17 1 0  -- vmv.v.v
-move_bits form.X = vector_coded 4 0x17 1 0  -- vmv.v.x
-move_bits form.I = vector_coded 3 0x17 1 0  -- vmv.v.i
-
--- vmv1r.v, vmv2r.v, vmv4r.v, vmv8r.v ("Whole Vector Register Move")
-abbrev pub whole_move_bits : RegisterCount → ℕ
-whole_move_bits count.One = vector_coded 3 0x27 1 0  -- vmv1r.v
-whole_move_bits count.Two = vector_coded 3 0x27 1 1  -- vmv2r.v
-whole_move_bits count.Four = vector_coded 3 0x27 1 3  -- vmv4r.v
-whole_move_bits count.Eight = vector_coded 3 0x27 1 7  -- vmv8r.v
-
 -- "Vector Mask-Register Logical Instructions"
-abbrev pub mask_logic_entry : MaskLogicOp → Entry
+abbrev pub mask_logic_entry : MaskLogicOp → Entry ℕ
 mask_logic_entry mask_logic.Vmandn = entry (codes "vmandn.mm") (vector_coded 2 0x18 1 0)
 mask_logic_entry mask_logic.Vmand = entry (codes "vmand.mm") (vector_coded 2 0x19 1 0)
 mask_logic_entry mask_logic.Vmor = entry (codes "vmor.mm") (vector_coded 2 0x1a 1 0)
@@ -225,23 +164,13 @@ mask_logic_entry mask_logic.Vmnand = entry (codes "vmnand.mm") (vector_coded 2 0
 mask_logic_entry mask_logic.Vmnor = entry (codes "vmnor.mm") (vector_coded 2 0x1e 1 0)
 mask_logic_entry mask_logic.Vmxnor = entry (codes "vmxnor.mm") (vector_coded 2 0x1f 1 0)
 
--- their operations
-abbrev pub mask_logic_ops : List MaskLogicOp
-mask_logic_ops =
-    mask_logic.Vmandn ∷ mask_logic.Vmand ∷ mask_logic.Vmor ∷ mask_logic.Vmxor ∷ mask_logic.Vmorn ∷
-    mask_logic.Vmnand ∷ mask_logic.Vmnor ∷ mask_logic.Vmxnor ∷ []
-
 -- VWXUNARY0 on a mask: "Vector count population in mask vcpop.m", "vfirst find-first-set mask bit"
-abbrev pub mask_to_scalar_entry : MaskToScalarOp → Entry
+abbrev pub mask_to_scalar_entry : MaskToScalarOp → Entry ℕ
 mask_to_scalar_entry mask_to_scalar.Vcpop = entry (codes "vcpop.m") (vector_coded 2 0x10 0 16)
 mask_to_scalar_entry mask_to_scalar.Vfirst = entry (codes "vfirst.m") (vector_coded 2 0x10 0 17)
 
--- its operations
-abbrev pub mask_to_scalar_ops : List MaskToScalarOp
-mask_to_scalar_ops = mask_to_scalar.Vcpop ∷ mask_to_scalar.Vfirst ∷ []
-
 -- VXUNARY0: "Vector Integer Extension"
-abbrev pub extend_entry : ExtendOp → Entry
+abbrev pub extend_entry : ExtendOp → Entry ℕ
 extend_entry extend.VzextVf8 = entry (codes "vzext.vf8") (vector_coded 2 0x12 0 2)
 extend_entry extend.VsextVf8 = entry (codes "vsext.vf8") (vector_coded 2 0x12 0 3)
 extend_entry extend.VzextVf4 = entry (codes "vzext.vf4") (vector_coded 2 0x12 0 4)
@@ -249,24 +178,12 @@ extend_entry extend.VsextVf4 = entry (codes "vsext.vf4") (vector_coded 2 0x12 0 
 extend_entry extend.VzextVf2 = entry (codes "vzext.vf2") (vector_coded 2 0x12 0 6)
 extend_entry extend.VsextVf2 = entry (codes "vsext.vf2") (vector_coded 2 0x12 0 7)
 
--- its operations
-abbrev pub extend_ops : List ExtendOp
-extend_ops =
-    extend.VzextVf8 ∷ extend.VsextVf8 ∷ extend.VzextVf4 ∷ extend.VsextVf4 ∷ extend.VzextVf2 ∷
-    extend.VsextVf2 ∷ []
-
 -- VMUNARY0 on a mask: "vmsbf.m set-before-first mask bit" and the like, "Vector Iota Instruction"
-abbrev pub mask_unary_entry : MaskUnaryOp → Entry
+abbrev pub mask_unary_entry : MaskUnaryOp → Entry ℕ
 mask_unary_entry (mask_unary.Scan mask_scan.Vmsbf) = entry (codes "vmsbf.m") (vector_coded 2 0x14 0 1)
 mask_unary_entry (mask_unary.Scan mask_scan.Vmsof) = entry (codes "vmsof.m") (vector_coded 2 0x14 0 2)
 mask_unary_entry (mask_unary.Scan mask_scan.Vmsif) = entry (codes "vmsif.m") (vector_coded 2 0x14 0 3)
 mask_unary_entry mask_unary.Viota = entry (codes "viota.m") (vector_coded 2 0x14 0 16)
-
--- its operations
-abbrev pub mask_unary_ops : List MaskUnaryOp
-mask_unary_ops =
-    mask_unary.Scan mask_scan.Vmsbf ∷ mask_unary.Scan mask_scan.Vmsof ∷ mask_unary.Scan mask_scan.Vmsif ∷
-    mask_unary.Viota ∷ []
 
 -- ---- vector memory (V extension, "Vector Load/Store Instruction Encoding": nf 31 to 29, mew 28, mop 27 to 26, width
 -- 14 to 12)
@@ -278,18 +195,10 @@ width_bits width.E16 = 5 * 2 ^ 12
 width_bits width.E32 = 6 * 2 ^ 12
 width_bits width.E64 = 7 * 2 ^ 12
 
--- each width
-abbrev pub widths : List Eew
-widths = width.E8 ∷ width.E16 ∷ width.E32 ∷ width.E64 ∷ []
-
 -- LOAD-FP, STORE-FP
 abbrev pub direction_bits : Direction → ℕ
 direction_bits direction.Load = 0x07
 direction_bits direction.Store = 0x27
-
--- both
-abbrev pub directions : List Direction
-directions = direction.Load ∷ direction.Store ∷ []
 
 -- unit stride, by what stands at lumop or sumop (bits 24 to 20)
 abbrev pub unit_bits : UnitOp → ℕ
@@ -297,30 +206,18 @@ unit_bits unit.Load = direction_bits direction.Load  -- vle8.v, vlseg2e8.v and t
 unit_bits unit.FaultOnlyFirst = direction_bits direction.Load + 16 * 2 ^ 20  -- vle8ff.v, vlseg2e8ff.v
 unit_bits unit.Store = direction_bits direction.Store  -- vse8.v, vsseg2e8.v
 
--- its operations
-abbrev pub unit_ops : List UnitOp
-unit_ops = unit.Load ∷ unit.FaultOnlyFirst ∷ unit.Store ∷ []
-
 -- mop of an indexed access
 abbrev pub order_bits : Order → ℕ
 order_bits order.Unordered = 1 * 2 ^ 26  -- vluxei8.v, vsuxei8.v, vluxseg2ei8.v, vsuxseg2ei8.v and the like
 order_bits order.Ordered = 3 * 2 ^ 26  -- vloxei8.v, vsoxei8.v, vloxseg2ei8.v, vsoxseg2ei8.v
 
--- mop of a strided access: vlse8.v, vsse8.v, vlsseg2e8.v, vssseg2e8.v and the like
-abbrev pub strided_bits : ℕ
-strided_bits = 2 * 2 ^ 26
+-- one less than the count, as a move of whole registers has it at vs1, and a load or store at nf
+abbrev pub one_less : RegisterCount → ℕ
+one_less count.One = 0
+one_less count.Two = 1
+one_less count.Four = 3
+one_less count.Eight = 7
 
--- nf of a whole-register access, one less than the count, with 01000 at lumop or sumop and bit 25 set
+-- nf of a whole-register access, with 01000 at lumop or sumop and bit 25 set: vl1re8.v, vs1r.v and the like
 abbrev pub count_bits : RegisterCount → ℕ
-count_bits count.One = 0 * 2 ^ 29 + 8 * 2 ^ 20 + 2 ^ 25  -- vl1re8.v, vs1r.v
-count_bits count.Two = 1 * 2 ^ 29 + 8 * 2 ^ 20 + 2 ^ 25  -- vl2re8.v, vs2r.v
-count_bits count.Four = 3 * 2 ^ 29 + 8 * 2 ^ 20 + 2 ^ 25  -- vl4re8.v, vs4r.v
-count_bits count.Eight = 7 * 2 ^ 29 + 8 * 2 ^ 20 + 2 ^ 25  -- vl8re8.v, vs8r.v
-
--- each count
-abbrev pub counts : List RegisterCount
-counts = count.One ∷ count.Two ∷ count.Four ∷ count.Eight ∷ []
-
--- vlm.v, vsm.v: 01011 at lumop or sumop, bit 25 set
-abbrev pub mask_memory_bits : Direction → ℕ
-mask_memory_bits direction = direction_bits direction + 11 * 2 ^ 20 + 2 ^ 25
+count_bits count = one_less count * 2 ^ 29 + 8 * 2 ^ 20 + 2 ^ 25

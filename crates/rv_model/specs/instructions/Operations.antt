@@ -1,42 +1,34 @@
 -- The lines of the manual's table of vector operations (V extension, "Vector Instruction Listing"): the name, the half of the
 -- opcode map, funct6 and the forms, each operation once
-use Rattle.std.specs.Prelude.{ℕ, ◌+◌, ◌*◌, ◌^◌, Bool, true, false, ◌&&◌, cond, List, [], ◌∷◌, map, ◌++◌, codes}
-use Rattle.rv_model.specs.instructions.Types.{Line, Major, Forms, Form, VectorOp, BinaryOp, CarryOutOp, CompareOp, FixedPointOp, NarrowShiftOp, ClipOp, WidenOp, WideSourceOp, MultiplyAddOp, WidenMultiplyAddOp, ReduceOp, WidenReduceOp, PermuteOp, CarryOp}
+use Rattle.std.specs.Prelude.{ℕ, ◌+◌, ◌*◌, ◌^◌, Bool, true, false, List, [], ◌∷◌, map, ◌++◌, codes}
+use Rattle.rv_model.specs.instructions.Types.{Line, Major, Forms, Form, VectorOp, CarryOp}
 use Rattle.rv_model.specs.declared.instructions.operations.Major.TheVariants.{Opi, Opm}
 use Rattle.rv_model.specs.declared.instructions.operations.Forms.TheVariants.{V, X, Vx, Xi, Vxi}
-use Rattle.rv_model.specs.instructions.FixedBits.{coded}
+use Rattle.rv_model.specs.instructions.FixedBits.{Entry, coded}
 use Rattle.rv_model.specs.declared.instructions.operations.Form.TheVariants as form
-use Rattle.rv_model.specs.declared.instructions.operations.VectorOp.TheVariants as vector_op
-use Rattle.rv_model.specs.declared.instructions.operations.BinaryOp.TheVariants as binary
-use Rattle.rv_model.specs.declared.instructions.operations.CarryOutOp.TheVariants as carry_out
-use Rattle.rv_model.specs.declared.instructions.operations.CompareOp.TheVariants as compare
-use Rattle.rv_model.specs.declared.instructions.operations.FixedPointOp.TheVariants as fixed_point
-use Rattle.rv_model.specs.declared.instructions.operations.NarrowShiftOp.TheVariants as narrow_shift
-use Rattle.rv_model.specs.declared.instructions.operations.ClipOp.TheVariants as clip
-use Rattle.rv_model.specs.declared.instructions.operations.WidenOp.TheVariants as widen
+use Rattle.rv_model.specs.declared.instructions.operations.VectorOp.TheVariants.{Binary, CarryOut, Compare, FixedPoint, NarrowShift, Clip, Widen, WideSource, MultiplyAdd, WidenMultiplyAdd, Reduce, WidenReduce, Permute}
+use Rattle.rv_model.specs.declared.instructions.operations.BinaryOp.TheVariants.{Vadd, Vsub, Vrsub, Vminu, Vmin, Vmaxu, Vmax, Vand, Vor, Vxor, Vsll, Vsrl, Vsra, Vdivu, Vdiv, Vremu, Vrem, Vmulhu, Vmul, Vmulhsu, Vmulh}
+use Rattle.rv_model.specs.declared.instructions.operations.CarryOutOp.TheVariants.{Vmadc, Vmsbc}
+use Rattle.rv_model.specs.declared.instructions.operations.CompareOp.TheVariants.{Vmseq, Vmsne, Vmsltu, Vmslt, Vmsleu, Vmsle, Vmsgtu, Vmsgt}
+use Rattle.rv_model.specs.declared.instructions.operations.FixedPointOp.TheVariants.{Vsaddu, Vsadd, Vssubu, Vssub, Vsmul, Vssrl, Vssra, Vaaddu, Vaadd, Vasubu, Vasub}
+use Rattle.rv_model.specs.declared.instructions.operations.NarrowShiftOp.TheVariants.{Vnsrl, Vnsra}
+use Rattle.rv_model.specs.declared.instructions.operations.ClipOp.TheVariants.{Vnclipu, Vnclip}
+use Rattle.rv_model.specs.declared.instructions.operations.WidenOp.TheVariants.{Vwaddu, Vwadd, Vwsubu, Vwsub, Vwmulu, Vwmulsu, Vwmul}
 use Rattle.rv_model.specs.declared.instructions.operations.WideSourceOp.TheVariants as wide_source
-use Rattle.rv_model.specs.declared.instructions.operations.MultiplyAddOp.TheVariants as multiply_add
-use Rattle.rv_model.specs.declared.instructions.operations.WidenMultiplyAddOp.TheVariants as widen_multiply_add
-use Rattle.rv_model.specs.declared.instructions.operations.ReduceOp.TheVariants as reduce
-use Rattle.rv_model.specs.declared.instructions.operations.WidenReduceOp.TheVariants as widen_reduce
-use Rattle.rv_model.specs.declared.instructions.operations.PermuteOp.TheVariants as permute
-use Rattle.rv_model.specs.declared.instructions.operations.CarryOp.TheVariants as carry
+use Rattle.rv_model.specs.declared.instructions.operations.MultiplyAddOp.TheVariants.{Vmadd, Vnmsub, Vmacc, Vnmsac}
+use Rattle.rv_model.specs.declared.instructions.operations.WidenMultiplyAddOp.TheVariants.{Vwmaccu, Vwmacc, Vwmaccus, Vwmaccsu}
+use Rattle.rv_model.specs.declared.instructions.operations.ReduceOp.TheVariants.{Vredsum, Vredand, Vredor, Vredxor, Vredminu, Vredmin, Vredmaxu, Vredmax}
+use Rattle.rv_model.specs.declared.instructions.operations.WidenReduceOp.TheVariants.{Vwredsumu, Vwredsum}
+use Rattle.rv_model.specs.declared.instructions.operations.PermuteOp.TheVariants.{Vrgather, Vrgatherei16, Vslideup, Vslidedown, Vslide1up, Vslide1down}
+use Rattle.rv_model.specs.declared.instructions.operations.CarryOp.TheVariants.{Vadc, Vsbc, Vmerge}
 
--- the name of an operation, without what stands behind the dot, and its line
-pub record LineEntry : Type 0 where
-  pub name : List ℕ
-  pub line : Line
+-- a line of OPIVV, OPIVX and OPIVI, and the name without what stands behind the dot
+abbrev pub opi : List ℕ → ℕ → Forms → Entry Line
+opi name funct6 forms = record { name = name; code = record { major = Opi; funct6 = funct6; forms = forms } }
 
-abbrev pub line_entry : List ℕ → Line → LineEntry
-line_entry name line = record { name = name; line = line }
-
--- a line of OPIVV, OPIVX and OPIVI
-abbrev pub opi : ℕ → Forms → Line
-opi funct6 forms = record { major = Opi; funct6 = funct6; forms = forms }
-
--- a line of OPMVV and OPMVX
-abbrev pub opm : ℕ → Forms → Line
-opm funct6 forms = record { major = Opm; funct6 = funct6; forms = forms }
+-- a line of OPMVV and OPMVX, and the name
+abbrev pub opm : List ℕ → ℕ → Forms → Entry Line
+opm name funct6 forms = record { name = name; code = record { major = Opm; funct6 = funct6; forms = forms } }
 
 -- whether a form is one of these
 abbrev pub has_form : Forms → Form → Bool
@@ -49,243 +41,133 @@ has_form Xi form.I = true
 has_form Vxi f = true
 has_form _ f = false
 
+-- the entry of each operation that may be masked
+abbrev pub vector_entry : VectorOp → Entry Line
 -- "Vector Integer Arithmetic Instructions", one width
-abbrev pub binary_entry : BinaryOp → LineEntry
-binary_entry binary.Vadd = line_entry (codes "vadd") (opi 0x00 Vxi)
-binary_entry binary.Vsub = line_entry (codes "vsub") (opi 0x02 Vx)
-binary_entry binary.Vrsub = line_entry (codes "vrsub") (opi 0x03 Xi)
-binary_entry binary.Vminu = line_entry (codes "vminu") (opi 0x04 Vx)
-binary_entry binary.Vmin = line_entry (codes "vmin") (opi 0x05 Vx)
-binary_entry binary.Vmaxu = line_entry (codes "vmaxu") (opi 0x06 Vx)
-binary_entry binary.Vmax = line_entry (codes "vmax") (opi 0x07 Vx)
-binary_entry binary.Vand = line_entry (codes "vand") (opi 0x09 Vxi)
-binary_entry binary.Vor = line_entry (codes "vor") (opi 0x0a Vxi)
-binary_entry binary.Vxor = line_entry (codes "vxor") (opi 0x0b Vxi)
-binary_entry binary.Vsll = line_entry (codes "vsll") (opi 0x25 Vxi)
-binary_entry binary.Vsrl = line_entry (codes "vsrl") (opi 0x28 Vxi)
-binary_entry binary.Vsra = line_entry (codes "vsra") (opi 0x29 Vxi)
-binary_entry binary.Vdivu = line_entry (codes "vdivu") (opm 0x20 Vx)
-binary_entry binary.Vdiv = line_entry (codes "vdiv") (opm 0x21 Vx)
-binary_entry binary.Vremu = line_entry (codes "vremu") (opm 0x22 Vx)
-binary_entry binary.Vrem = line_entry (codes "vrem") (opm 0x23 Vx)
-binary_entry binary.Vmulhu = line_entry (codes "vmulhu") (opm 0x24 Vx)
-binary_entry binary.Vmul = line_entry (codes "vmul") (opm 0x25 Vx)
-binary_entry binary.Vmulhsu = line_entry (codes "vmulhsu") (opm 0x26 Vx)
-binary_entry binary.Vmulh = line_entry (codes "vmulh") (opm 0x27 Vx)
-
--- its operations
-abbrev pub binary_ops : List BinaryOp
-binary_ops =
-    binary.Vadd ∷ binary.Vsub ∷ binary.Vrsub ∷ binary.Vminu ∷ binary.Vmin ∷ binary.Vmaxu ∷ binary.Vmax ∷
-    binary.Vand ∷ binary.Vor ∷ binary.Vxor ∷ binary.Vsll ∷ binary.Vsrl ∷ binary.Vsra ∷ binary.Vdivu ∷
-    binary.Vdiv ∷ binary.Vremu ∷ binary.Vrem ∷ binary.Vmulhu ∷ binary.Vmul ∷ binary.Vmulhsu ∷
-    binary.Vmulh ∷ []
-
+vector_entry (Binary Vadd) = opi (codes "vadd") 0x00 Vxi
+vector_entry (Binary Vsub) = opi (codes "vsub") 0x02 Vx
+vector_entry (Binary Vrsub) = opi (codes "vrsub") 0x03 Xi
+vector_entry (Binary Vminu) = opi (codes "vminu") 0x04 Vx
+vector_entry (Binary Vmin) = opi (codes "vmin") 0x05 Vx
+vector_entry (Binary Vmaxu) = opi (codes "vmaxu") 0x06 Vx
+vector_entry (Binary Vmax) = opi (codes "vmax") 0x07 Vx
+vector_entry (Binary Vand) = opi (codes "vand") 0x09 Vxi
+vector_entry (Binary Vor) = opi (codes "vor") 0x0a Vxi
+vector_entry (Binary Vxor) = opi (codes "vxor") 0x0b Vxi
+vector_entry (Binary Vsll) = opi (codes "vsll") 0x25 Vxi
+vector_entry (Binary Vsrl) = opi (codes "vsrl") 0x28 Vxi
+vector_entry (Binary Vsra) = opi (codes "vsra") 0x29 Vxi
+vector_entry (Binary Vdivu) = opm (codes "vdivu") 0x20 Vx
+vector_entry (Binary Vdiv) = opm (codes "vdiv") 0x21 Vx
+vector_entry (Binary Vremu) = opm (codes "vremu") 0x22 Vx
+vector_entry (Binary Vrem) = opm (codes "vrem") 0x23 Vx
+vector_entry (Binary Vmulhu) = opm (codes "vmulhu") 0x24 Vx
+vector_entry (Binary Vmul) = opm (codes "vmul") 0x25 Vx
+vector_entry (Binary Vmulhsu) = opm (codes "vmulhsu") 0x26 Vx
+vector_entry (Binary Vmulh) = opm (codes "vmulh") 0x27 Vx
 -- "Vector Integer Add-with-Carry / Subtract-with-Borrow Instructions", carries and borrows as masks
-abbrev pub carry_out_entry : CarryOutOp → LineEntry
-carry_out_entry carry_out.Vmadc = line_entry (codes "vmadc") (opi 0x11 Vxi)
-carry_out_entry carry_out.Vmsbc = line_entry (codes "vmsbc") (opi 0x13 Vx)
-
--- its operations
-abbrev pub carry_out_ops : List CarryOutOp
-carry_out_ops = carry_out.Vmadc ∷ carry_out.Vmsbc ∷ []
-
+vector_entry (CarryOut Vmadc) = opi (codes "vmadc") 0x11 Vxi
+vector_entry (CarryOut Vmsbc) = opi (codes "vmsbc") 0x13 Vx
 -- "Vector Integer Compare Instructions"
-abbrev pub compare_entry : CompareOp → LineEntry
-compare_entry compare.Vmseq = line_entry (codes "vmseq") (opi 0x18 Vxi)
-compare_entry compare.Vmsne = line_entry (codes "vmsne") (opi 0x19 Vxi)
-compare_entry compare.Vmsltu = line_entry (codes "vmsltu") (opi 0x1a Vx)
-compare_entry compare.Vmslt = line_entry (codes "vmslt") (opi 0x1b Vx)
-compare_entry compare.Vmsleu = line_entry (codes "vmsleu") (opi 0x1c Vxi)
-compare_entry compare.Vmsle = line_entry (codes "vmsle") (opi 0x1d Vxi)
-compare_entry compare.Vmsgtu = line_entry (codes "vmsgtu") (opi 0x1e Xi)
-compare_entry compare.Vmsgt = line_entry (codes "vmsgt") (opi 0x1f Xi)
-
--- its operations
-abbrev pub compare_ops : List CompareOp
-compare_ops =
-    compare.Vmseq ∷ compare.Vmsne ∷ compare.Vmsltu ∷ compare.Vmslt ∷ compare.Vmsleu ∷ compare.Vmsle ∷
-    compare.Vmsgtu ∷ compare.Vmsgt ∷ []
-
+vector_entry (Compare Vmseq) = opi (codes "vmseq") 0x18 Vxi
+vector_entry (Compare Vmsne) = opi (codes "vmsne") 0x19 Vxi
+vector_entry (Compare Vmsltu) = opi (codes "vmsltu") 0x1a Vx
+vector_entry (Compare Vmslt) = opi (codes "vmslt") 0x1b Vx
+vector_entry (Compare Vmsleu) = opi (codes "vmsleu") 0x1c Vxi
+vector_entry (Compare Vmsle) = opi (codes "vmsle") 0x1d Vxi
+vector_entry (Compare Vmsgtu) = opi (codes "vmsgtu") 0x1e Xi
+vector_entry (Compare Vmsgt) = opi (codes "vmsgt") 0x1f Xi
 -- "Vector Fixed-Point Arithmetic Instructions", one width
-abbrev pub fixed_point_entry : FixedPointOp → LineEntry
-fixed_point_entry fixed_point.Vsaddu = line_entry (codes "vsaddu") (opi 0x20 Vxi)
-fixed_point_entry fixed_point.Vsadd = line_entry (codes "vsadd") (opi 0x21 Vxi)
-fixed_point_entry fixed_point.Vssubu = line_entry (codes "vssubu") (opi 0x22 Vx)
-fixed_point_entry fixed_point.Vssub = line_entry (codes "vssub") (opi 0x23 Vx)
-fixed_point_entry fixed_point.Vsmul = line_entry (codes "vsmul") (opi 0x27 Vx)
-fixed_point_entry fixed_point.Vssrl = line_entry (codes "vssrl") (opi 0x2a Vxi)
-fixed_point_entry fixed_point.Vssra = line_entry (codes "vssra") (opi 0x2b Vxi)
-fixed_point_entry fixed_point.Vaaddu = line_entry (codes "vaaddu") (opm 0x08 Vx)
-fixed_point_entry fixed_point.Vaadd = line_entry (codes "vaadd") (opm 0x09 Vx)
-fixed_point_entry fixed_point.Vasubu = line_entry (codes "vasubu") (opm 0x0a Vx)
-fixed_point_entry fixed_point.Vasub = line_entry (codes "vasub") (opm 0x0b Vx)
-
--- its operations
-abbrev pub fixed_point_ops : List FixedPointOp
-fixed_point_ops =
-    fixed_point.Vsaddu ∷ fixed_point.Vsadd ∷ fixed_point.Vssubu ∷ fixed_point.Vssub ∷ fixed_point.Vsmul ∷
-    fixed_point.Vssrl ∷ fixed_point.Vssra ∷ fixed_point.Vaaddu ∷ fixed_point.Vaadd ∷ fixed_point.Vasubu ∷
-    fixed_point.Vasub ∷ []
-
+vector_entry (FixedPoint Vsaddu) = opi (codes "vsaddu") 0x20 Vxi
+vector_entry (FixedPoint Vsadd) = opi (codes "vsadd") 0x21 Vxi
+vector_entry (FixedPoint Vssubu) = opi (codes "vssubu") 0x22 Vx
+vector_entry (FixedPoint Vssub) = opi (codes "vssub") 0x23 Vx
+vector_entry (FixedPoint Vsmul) = opi (codes "vsmul") 0x27 Vx
+vector_entry (FixedPoint Vssrl) = opi (codes "vssrl") 0x2a Vxi
+vector_entry (FixedPoint Vssra) = opi (codes "vssra") 0x2b Vxi
+vector_entry (FixedPoint Vaaddu) = opm (codes "vaaddu") 0x08 Vx
+vector_entry (FixedPoint Vaadd) = opm (codes "vaadd") 0x09 Vx
+vector_entry (FixedPoint Vasubu) = opm (codes "vasubu") 0x0a Vx
+vector_entry (FixedPoint Vasub) = opm (codes "vasub") 0x0b Vx
 -- "Vector Narrowing Integer Right Shift Instructions"
-abbrev pub narrow_shift_entry : NarrowShiftOp → LineEntry
-narrow_shift_entry narrow_shift.Vnsrl = line_entry (codes "vnsrl") (opi 0x2c Vxi)
-narrow_shift_entry narrow_shift.Vnsra = line_entry (codes "vnsra") (opi 0x2d Vxi)
-
--- its operations
-abbrev pub narrow_shift_ops : List NarrowShiftOp
-narrow_shift_ops = narrow_shift.Vnsrl ∷ narrow_shift.Vnsra ∷ []
-
+vector_entry (NarrowShift Vnsrl) = opi (codes "vnsrl") 0x2c Vxi
+vector_entry (NarrowShift Vnsra) = opi (codes "vnsra") 0x2d Vxi
 -- "Vector Narrowing Fixed-Point Clip Instructions"
-abbrev pub clip_entry : ClipOp → LineEntry
-clip_entry clip.Vnclipu = line_entry (codes "vnclipu") (opi 0x2e Vxi)
-clip_entry clip.Vnclip = line_entry (codes "vnclip") (opi 0x2f Vxi)
-
--- its operations
-abbrev pub clip_ops : List ClipOp
-clip_ops = clip.Vnclipu ∷ clip.Vnclip ∷ []
-
+vector_entry (Clip Vnclipu) = opi (codes "vnclipu") 0x2e Vxi
+vector_entry (Clip Vnclip) = opi (codes "vnclip") 0x2f Vxi
 -- "Vector Widening Integer Add/Subtract", "Vector Widening Integer Multiply Instructions"
-abbrev pub widen_entry : WidenOp → LineEntry
-widen_entry widen.Vwaddu = line_entry (codes "vwaddu") (opm 0x30 Vx)
-widen_entry widen.Vwadd = line_entry (codes "vwadd") (opm 0x31 Vx)
-widen_entry widen.Vwsubu = line_entry (codes "vwsubu") (opm 0x32 Vx)
-widen_entry widen.Vwsub = line_entry (codes "vwsub") (opm 0x33 Vx)
-widen_entry widen.Vwmulu = line_entry (codes "vwmulu") (opm 0x38 Vx)
-widen_entry widen.Vwmulsu = line_entry (codes "vwmulsu") (opm 0x3a Vx)
-widen_entry widen.Vwmul = line_entry (codes "vwmul") (opm 0x3b Vx)
-
--- its operations
-abbrev pub widen_ops : List WidenOp
-widen_ops =
-    widen.Vwaddu ∷ widen.Vwadd ∷ widen.Vwsubu ∷ widen.Vwsub ∷ widen.Vwmulu ∷ widen.Vwmulsu ∷ widen.Vwmul ∷ []
-
+vector_entry (Widen Vwaddu) = opm (codes "vwaddu") 0x30 Vx
+vector_entry (Widen Vwadd) = opm (codes "vwadd") 0x31 Vx
+vector_entry (Widen Vwsubu) = opm (codes "vwsubu") 0x32 Vx
+vector_entry (Widen Vwsub) = opm (codes "vwsub") 0x33 Vx
+vector_entry (Widen Vwmulu) = opm (codes "vwmulu") 0x38 Vx
+vector_entry (Widen Vwmulsu) = opm (codes "vwmulsu") 0x3a Vx
+vector_entry (Widen Vwmul) = opm (codes "vwmul") 0x3b Vx
 -- "Vector Widening Integer Add/Subtract", with a first source of twice the width
-abbrev pub wide_source_entry : WideSourceOp → LineEntry
-wide_source_entry wide_source.Vwaddu = line_entry (codes "vwaddu") (opm 0x34 Vx)
-wide_source_entry wide_source.Vwadd = line_entry (codes "vwadd") (opm 0x35 Vx)
-wide_source_entry wide_source.Vwsubu = line_entry (codes "vwsubu") (opm 0x36 Vx)
-wide_source_entry wide_source.Vwsub = line_entry (codes "vwsub") (opm 0x37 Vx)
-
--- its operations
-abbrev pub wide_source_ops : List WideSourceOp
-wide_source_ops = wide_source.Vwaddu ∷ wide_source.Vwadd ∷ wide_source.Vwsubu ∷ wide_source.Vwsub ∷ []
-
+vector_entry (WideSource wide_source.Vwaddu) = opm (codes "vwaddu") 0x34 Vx
+vector_entry (WideSource wide_source.Vwadd) = opm (codes "vwadd") 0x35 Vx
+vector_entry (WideSource wide_source.Vwsubu) = opm (codes "vwsubu") 0x36 Vx
+vector_entry (WideSource wide_source.Vwsub) = opm (codes "vwsub") 0x37 Vx
 -- "Vector Single-Width Integer Multiply-Add Instructions"
-abbrev pub multiply_add_entry : MultiplyAddOp → LineEntry
-multiply_add_entry multiply_add.Vmadd = line_entry (codes "vmadd") (opm 0x29 Vx)
-multiply_add_entry multiply_add.Vnmsub = line_entry (codes "vnmsub") (opm 0x2b Vx)
-multiply_add_entry multiply_add.Vmacc = line_entry (codes "vmacc") (opm 0x2d Vx)
-multiply_add_entry multiply_add.Vnmsac = line_entry (codes "vnmsac") (opm 0x2f Vx)
-
--- its operations
-abbrev pub multiply_add_ops : List MultiplyAddOp
-multiply_add_ops = multiply_add.Vmadd ∷ multiply_add.Vnmsub ∷ multiply_add.Vmacc ∷ multiply_add.Vnmsac ∷ []
-
+vector_entry (MultiplyAdd Vmadd) = opm (codes "vmadd") 0x29 Vx
+vector_entry (MultiplyAdd Vnmsub) = opm (codes "vnmsub") 0x2b Vx
+vector_entry (MultiplyAdd Vmacc) = opm (codes "vmacc") 0x2d Vx
+vector_entry (MultiplyAdd Vnmsac) = opm (codes "vnmsac") 0x2f Vx
 -- "Vector Widening Integer Multiply-Add Instructions"
-abbrev pub widen_multiply_add_entry : WidenMultiplyAddOp → LineEntry
-widen_multiply_add_entry widen_multiply_add.Vwmaccu = line_entry (codes "vwmaccu") (opm 0x3c Vx)
-widen_multiply_add_entry widen_multiply_add.Vwmacc = line_entry (codes "vwmacc") (opm 0x3d Vx)
-widen_multiply_add_entry widen_multiply_add.Vwmaccus = line_entry (codes "vwmaccus") (opm 0x3e X)
-widen_multiply_add_entry widen_multiply_add.Vwmaccsu = line_entry (codes "vwmaccsu") (opm 0x3f Vx)
-
--- its operations
-abbrev pub widen_multiply_add_ops : List WidenMultiplyAddOp
-widen_multiply_add_ops =
-    widen_multiply_add.Vwmaccu ∷ widen_multiply_add.Vwmacc ∷ widen_multiply_add.Vwmaccus ∷
-    widen_multiply_add.Vwmaccsu ∷ []
-
+vector_entry (WidenMultiplyAdd Vwmaccu) = opm (codes "vwmaccu") 0x3c Vx
+vector_entry (WidenMultiplyAdd Vwmacc) = opm (codes "vwmacc") 0x3d Vx
+vector_entry (WidenMultiplyAdd Vwmaccus) = opm (codes "vwmaccus") 0x3e X
+vector_entry (WidenMultiplyAdd Vwmaccsu) = opm (codes "vwmaccsu") 0x3f Vx
 -- "Vector Single-Width Integer Reduction Instructions"
-abbrev pub reduce_entry : ReduceOp → LineEntry
-reduce_entry reduce.Vredsum = line_entry (codes "vredsum") (opm 0x00 V)
-reduce_entry reduce.Vredand = line_entry (codes "vredand") (opm 0x01 V)
-reduce_entry reduce.Vredor = line_entry (codes "vredor") (opm 0x02 V)
-reduce_entry reduce.Vredxor = line_entry (codes "vredxor") (opm 0x03 V)
-reduce_entry reduce.Vredminu = line_entry (codes "vredminu") (opm 0x04 V)
-reduce_entry reduce.Vredmin = line_entry (codes "vredmin") (opm 0x05 V)
-reduce_entry reduce.Vredmaxu = line_entry (codes "vredmaxu") (opm 0x06 V)
-reduce_entry reduce.Vredmax = line_entry (codes "vredmax") (opm 0x07 V)
-
--- its operations
-abbrev pub reduce_ops : List ReduceOp
-reduce_ops =
-    reduce.Vredsum ∷ reduce.Vredand ∷ reduce.Vredor ∷ reduce.Vredxor ∷ reduce.Vredminu ∷ reduce.Vredmin ∷
-    reduce.Vredmaxu ∷ reduce.Vredmax ∷ []
-
+vector_entry (Reduce Vredsum) = opm (codes "vredsum") 0x00 V
+vector_entry (Reduce Vredand) = opm (codes "vredand") 0x01 V
+vector_entry (Reduce Vredor) = opm (codes "vredor") 0x02 V
+vector_entry (Reduce Vredxor) = opm (codes "vredxor") 0x03 V
+vector_entry (Reduce Vredminu) = opm (codes "vredminu") 0x04 V
+vector_entry (Reduce Vredmin) = opm (codes "vredmin") 0x05 V
+vector_entry (Reduce Vredmaxu) = opm (codes "vredmaxu") 0x06 V
+vector_entry (Reduce Vredmax) = opm (codes "vredmax") 0x07 V
 -- "Vector Widening Integer Reduction Instructions"
-abbrev pub widen_reduce_entry : WidenReduceOp → LineEntry
-widen_reduce_entry widen_reduce.Vwredsumu = line_entry (codes "vwredsumu") (opi 0x30 V)
-widen_reduce_entry widen_reduce.Vwredsum = line_entry (codes "vwredsum") (opi 0x31 V)
-
--- its operations
-abbrev pub widen_reduce_ops : List WidenReduceOp
-widen_reduce_ops = widen_reduce.Vwredsumu ∷ widen_reduce.Vwredsum ∷ []
-
+vector_entry (WidenReduce Vwredsumu) = opi (codes "vwredsumu") 0x30 V
+vector_entry (WidenReduce Vwredsum) = opi (codes "vwredsum") 0x31 V
 -- "Vector Permutation Instructions"
-abbrev pub permute_entry : PermuteOp → LineEntry
-permute_entry permute.Vrgather = line_entry (codes "vrgather") (opi 0x0c Vxi)
-permute_entry permute.Vrgatherei16 = line_entry (codes "vrgatherei16") (opi 0x0e V)
-permute_entry permute.Vslideup = line_entry (codes "vslideup") (opi 0x0e Xi)
-permute_entry permute.Vslidedown = line_entry (codes "vslidedown") (opi 0x0f Xi)
-permute_entry permute.Vslide1up = line_entry (codes "vslide1up") (opm 0x0e X)
-permute_entry permute.Vslide1down = line_entry (codes "vslide1down") (opm 0x0f X)
+vector_entry (Permute Vrgather) = opi (codes "vrgather") 0x0c Vxi
+vector_entry (Permute Vrgatherei16) = opi (codes "vrgatherei16") 0x0e V
+vector_entry (Permute Vslideup) = opi (codes "vslideup") 0x0e Xi
+vector_entry (Permute Vslidedown) = opi (codes "vslidedown") 0x0f Xi
+vector_entry (Permute Vslide1up) = opm (codes "vslide1up") 0x0e X
+vector_entry (Permute Vslide1down) = opm (codes "vslide1down") 0x0f X
 
--- its operations
-abbrev pub permute_ops : List PermuteOp
-permute_ops =
-    permute.Vrgather ∷ permute.Vrgatherei16 ∷ permute.Vslideup ∷ permute.Vslidedown ∷ permute.Vslide1up ∷
-    permute.Vslide1down ∷ []
+-- each of them
+abbrev pub vector_ops : List VectorOp
+vector_ops =
+    map Binary (Vadd ∷ Vsub ∷ Vrsub ∷ Vminu ∷ Vmin ∷ Vmaxu ∷ Vmax ∷ Vand ∷ Vor ∷ Vxor ∷ Vsll ∷ Vsrl ∷ Vsra ∷ Vdivu ∷ Vdiv ∷
+    Vremu ∷ Vrem ∷ Vmulhu ∷ Vmul ∷ Vmulhsu ∷ Vmulh ∷ [])
+    ++ map CarryOut (Vmadc ∷ Vmsbc ∷ [])
+    ++ map Compare (Vmseq ∷ Vmsne ∷ Vmsltu ∷ Vmslt ∷ Vmsleu ∷ Vmsle ∷ Vmsgtu ∷ Vmsgt ∷ [])
+    ++ map FixedPoint (Vsaddu ∷ Vsadd ∷ Vssubu ∷ Vssub ∷ Vsmul ∷ Vssrl ∷ Vssra ∷ Vaaddu ∷ Vaadd ∷ Vasubu ∷ Vasub ∷ [])
+    ++ map NarrowShift (Vnsrl ∷ Vnsra ∷ [])
+    ++ map Clip (Vnclipu ∷ Vnclip ∷ [])
+    ++ map Widen (Vwaddu ∷ Vwadd ∷ Vwsubu ∷ Vwsub ∷ Vwmulu ∷ Vwmulsu ∷ Vwmul ∷ [])
+    ++ map WideSource (wide_source.Vwaddu ∷ wide_source.Vwadd ∷ wide_source.Vwsubu ∷ wide_source.Vwsub ∷ [])
+    ++ map MultiplyAdd (Vmadd ∷ Vnmsub ∷ Vmacc ∷ Vnmsac ∷ [])
+    ++ map WidenMultiplyAdd (Vwmaccu ∷ Vwmacc ∷ Vwmaccus ∷ Vwmaccsu ∷ [])
+    ++ map Reduce (Vredsum ∷ Vredand ∷ Vredor ∷ Vredxor ∷ Vredminu ∷ Vredmin ∷ Vredmaxu ∷ Vredmax ∷ [])
+    ++ map WidenReduce (Vwredsumu ∷ Vwredsum ∷ [])
+    ++ map Permute (Vrgather ∷ Vrgatherei16 ∷ Vslideup ∷ Vslidedown ∷ Vslide1up ∷ Vslide1down ∷ [])
 
 -- "Vector Integer Add-with-Carry / Subtract-with-Borrow Instructions", "Vector Integer Merge Instructions"
-abbrev pub carry_entry : CarryOp → LineEntry
-carry_entry carry.Vadc = line_entry (codes "vadc") (opi 0x10 Vxi)
-carry_entry carry.Vsbc = line_entry (codes "vsbc") (opi 0x12 Vx)
-carry_entry carry.Vmerge = line_entry (codes "vmerge") (opi 0x17 Vxi)
-
--- their operations
-abbrev pub carry_ops : List CarryOp
-carry_ops = carry.Vadc ∷ carry.Vsbc ∷ carry.Vmerge ∷ []
-
--- the entry of an operation with a mask
-abbrev pub vector_entry : VectorOp → LineEntry
-vector_entry (vector_op.Binary op) = binary_entry op
-vector_entry (vector_op.CarryOut op) = carry_out_entry op
-vector_entry (vector_op.Compare op) = compare_entry op
-vector_entry (vector_op.FixedPoint op) = fixed_point_entry op
-vector_entry (vector_op.NarrowShift op) = narrow_shift_entry op
-vector_entry (vector_op.Clip op) = clip_entry op
-vector_entry (vector_op.Widen op) = widen_entry op
-vector_entry (vector_op.WideSource op) = wide_source_entry op
-vector_entry (vector_op.MultiplyAdd op) = multiply_add_entry op
-vector_entry (vector_op.WidenMultiplyAdd op) = widen_multiply_add_entry op
-vector_entry (vector_op.Reduce op) = reduce_entry op
-vector_entry (vector_op.WidenReduce op) = widen_reduce_entry op
-vector_entry (vector_op.Permute op) = permute_entry op
+abbrev pub carry_entry : CarryOp → Entry Line
+carry_entry Vadc = opi (codes "vadc") 0x10 Vxi
+carry_entry Vsbc = opi (codes "vsbc") 0x12 Vx
+carry_entry Vmerge = opi (codes "vmerge") 0x17 Vxi
 
 -- the line of an operation
 abbrev pub line : VectorOp → Line
-line op = (vector_entry op).line
+line op = (vector_entry op).code
 
 abbrev pub carry_line : CarryOp → Line
-carry_line op = (carry_entry op).line
-
--- every operation that has a line and a mask
-abbrev pub vector_ops : List VectorOp
-vector_ops =
-    map vector_op.Binary binary_ops
-    ++ map vector_op.CarryOut carry_out_ops
-    ++ map vector_op.Compare compare_ops
-    ++ map vector_op.FixedPoint fixed_point_ops
-    ++ map vector_op.NarrowShift narrow_shift_ops
-    ++ map vector_op.Clip clip_ops
-    ++ map vector_op.Widen widen_ops
-    ++ map vector_op.WideSource wide_source_ops
-    ++ map vector_op.MultiplyAdd multiply_add_ops
-    ++ map vector_op.WidenMultiplyAdd widen_multiply_add_ops
-    ++ map vector_op.Reduce reduce_ops
-    ++ map vector_op.WidenReduce widen_reduce_ops
-    ++ map vector_op.Permute permute_ops
+carry_line op = (carry_entry op).code
 
 -- opcode and funct3 of a half of the opcode map, by form; where the second half would have an immediate, the configuration-setting
 -- instructions stand
@@ -300,15 +182,3 @@ major_bits Opm form.I = coded 0x57 7  -- excluded
 -- the bits that a line fixes for one of its forms
 abbrev pub line_bits : Line → Form → ℕ
 line_bits l f = l.funct6 * 2 ^ 26 + major_bits l.major f
-
--- whether two halves of the opcode map are one
-abbrev pub same_major : Major → Major → Bool
-same_major Opi Opi = true
-same_major Opm Opm = true
-same_major m n = false
-
--- the operations of a half of the opcode map that have a form
-abbrev pub those : {A : Type 0} → (A → Line) → Major → Form → List A → List A
-those line m f [] = []
-those line m f (op ∷ ops) =
-    cond (same_major m (line op).major && has_form (line op).forms f) (op ∷ those line m f ops) (those line m f ops)

@@ -1,162 +1,37 @@
 -- The instruction table: a row for each operation of the manual's tables, with the bits that it fixes and the
--- instruction that a word of the row is. Its families stand in the order of the tables
-use Rattle.std.specs.Prelude.{◌⊎◌, ℕ, ◌≡◌, List, [], ◌∷◌, ◌++◌, flat_map, map, Option, Some, None, true, nat_eq, bit_and, if◌then◌else◌}
-use Rattle.rv_model.specs.instructions.BitFields.{fixed}
+-- instruction that a word of the row is, in the order of the tables
+use Rattle.std.specs.Prelude.{ℕ, ◌≡◌, List, [], ◌∷◌, ◌++◌, Contains, filter, flat_map, map, Option, Some, None, nat_eq, bit_and, if◌then◌else◌}
+use Rattle.rv_model.specs.instructions.BitFields.{field, flag, fixed}
+use Rattle.rv_model.specs.instructions.Immediates.{store_immediate, branch_offset, jump_offset}
 use Rattle.rv_model.specs.instructions.Sources.{source_of}
-use Rattle.rv_model.specs.instructions.FixedBits.{branch_ops, counts, csr_immediate_ops, csr_ops, directions, extend_ops, load_ops, mask_logic_ops, mask_to_scalar_ops, mask_unary_ops, immediate_ops, register_ops, shift_immediate_ops, shift_immediate_word_ops, store_ops, system_ops, unit_ops, upper_ops, widths}
-use Rattle.rv_model.specs.instructions.Operations.{line, vector_ops, carry_ops, those, carry_line}
-use Rattle.rv_model.specs.instructions.Layout.{parts, bits, filled}
-use Rattle.rv_model.specs.instructions.Types.{Eew, UnitOp, Direction, Order, RegisterCount, Form, Major}
+use Rattle.rv_model.specs.instructions.Operations.{has_form, line, vector_ops, carry_line}
+use Rattle.rv_model.specs.instructions.Layout.{parts, bits}
+use Rattle.rv_model.specs.instructions.Types.{Direction, Eew, Form, RegisterCount}
 use Rattle.rv_model.specs.instructions.Variants.{Instr, Upper, Jump, JumpRegister, Branch, Load, Store, RegisterImmediate, ShiftImmediate, ShiftImmediateWord, RegisterRegister, Fence, System, Register, Immediate, SetVli, SetIvli, SetVl, Arith, Carry, Move, WholeMove, MaskLogic, Compress, MaskToScalar, Extend, MaskUnary, ElementIndex, MoveToScalar, MoveToVector, UnitStride, Strided, Indexed, WholeLoad, WholeStore, MaskAccess}
+use Rattle.rv_model.specs.declared.instructions.operations.UpperOp.TheVariants.{Lui, Auipc}
+use Rattle.rv_model.specs.declared.instructions.operations.BranchOp.TheVariants.{Beq, Bne, Blt, Bge, Bltu, Bgeu}
+use Rattle.rv_model.specs.declared.instructions.operations.LoadOp.TheVariants.{Lb, Lh, Lw, Ld, Lbu, Lhu, Lwu}
+use Rattle.rv_model.specs.declared.instructions.operations.StoreOp.TheVariants.{Sb, Sh, Sw, Sd}
+use Rattle.rv_model.specs.declared.instructions.operations.ImmediateOp.TheVariants.{Addi, Slti, Sltiu, Xori, Ori, Andi, Addiw}
+use Rattle.rv_model.specs.declared.instructions.operations.ShiftImmediateOp.TheVariants.{Slli, Srli, Srai}
+use Rattle.rv_model.specs.declared.instructions.operations.ShiftImmediateWordOp.TheVariants.{Slliw, Srliw, Sraiw}
+use Rattle.rv_model.specs.declared.instructions.operations.RegisterOp.TheVariants.{Add, Sub, Sll, Slt, Sltu, Xor, Srl, Sra, Or, And, Mul, Mulh, Mulhsu, Mulhu, Div, Divu, Rem, Remu, Addw, Subw, Sllw, Srlw, Sraw, Mulw, Divw, Divuw, Remw, Remuw}
+use Rattle.rv_model.specs.declared.instructions.operations.SystemOp.TheVariants.{Ecall, Ebreak}
+use Rattle.rv_model.specs.declared.instructions.operations.CsrOp.TheVariants.{Csrrw, Csrrs, Csrrc}
+use Rattle.rv_model.specs.declared.instructions.operations.CsrImmediateOp.TheVariants.{Csrrwi, Csrrsi, Csrrci}
+use Rattle.rv_model.specs.declared.instructions.operations.CarryOp.TheVariants.{Vadc, Vsbc, Vmerge}
+use Rattle.rv_model.specs.declared.instructions.operations.MaskLogicOp.TheVariants.{Vmandn, Vmand, Vmor, Vmxor, Vmorn, Vmnand, Vmnor, Vmxnor}
+use Rattle.rv_model.specs.declared.instructions.operations.MaskToScalarOp.TheVariants.{Vcpop, Vfirst}
+use Rattle.rv_model.specs.declared.instructions.operations.ExtendOp.TheVariants.{VzextVf8, VsextVf8, VzextVf4, VsextVf4, VzextVf2, VsextVf2}
+use Rattle.rv_model.specs.declared.instructions.operations.MaskScanOp.TheVariants.{Vmsbf, Vmsof, Vmsif}
+use Rattle.rv_model.specs.declared.instructions.operations.MaskUnaryOp.TheVariants.{Scan, Viota}
+use Rattle.rv_model.specs.declared.instructions.operations.RegisterCount.TheVariants.{One, Two, Four, Eight}
+use Rattle.rv_model.specs.declared.instructions.operations.Eew.TheVariants.{E8, E16, E32, E64}
+use Rattle.rv_model.specs.declared.instructions.operations.UnitOp.TheVariants as unit
 use Rattle.rv_model.specs.declared.instructions.operations.Direction.TheVariants as direction
 use Rattle.rv_model.specs.declared.instructions.operations.Order.TheVariants as order
 use Rattle.rv_model.specs.declared.instructions.operations.Form.TheVariants as form
-use Rattle.rv_model.specs.declared.instructions.operations.Major.TheVariants.{Opi, Opm}
 use Rattle.rv_model.specs.declared.instructions.instruction.Instr.TheVariants as instr
-
--- each of these with each width
-abbrev pub with_widths : {A : Type 0} → List A → List (A × Eew)
-with_widths [] = []
-with_widths (x ∷ xs) = map (λ w. (x, w)) widths ++ with_widths xs
-
--- each unit-stride access
-abbrev pub unit_accesses : List (UnitOp × Eew)
-unit_accesses = with_widths unit_ops
-
--- each strided access
-abbrev pub strided_accesses : List (Direction × Eew)
-strided_accesses = with_widths directions
-
--- both directions in both orders
-abbrev pub ordered_directions : List (Direction × Order)
-ordered_directions =
-    (direction.Load, order.Unordered) ∷ (direction.Load, order.Ordered) ∷ (direction.Store, order.Unordered) ∷
-    (direction.Store, order.Ordered) ∷ []
-
--- each indexed access
-abbrev pub indexed_accesses : List ((Direction × Order) × Eew)
-indexed_accesses = with_widths ordered_directions
-
--- each load of whole registers
-abbrev pub whole_loads : List (RegisterCount × Eew)
-whole_loads = with_widths counts
-
--- the rows with one layout of operands, and for vector operations of one place of the opcode map
-pub data Family : Type 0 where
-  -- RV32I, "Integer Register-Immediate Instructions"
-  Uppers : Family
-  -- RV32I, "Unconditional Jumps"
-  Jumps : Family
-  -- RV32I, "Unconditional Jumps"
-  JumpRegisters : Family
-  -- RV32I, "Conditional Branches"
-  Branches : Family
-  -- RV32I and RV64I, "Load and Store Instructions"
-  Loads : Family
-  -- RV32I and RV64I, "Load and Store Instructions"
-  Stores : Family
-  -- RV32I and RV64I, "Integer Register-Immediate Instructions"
-  RegisterImmediates : Family
-  -- RV64I, "Integer Register-Immediate Instructions"
-  ShiftImmediates : Family
-  -- RV64I, "Integer Register-Immediate Instructions"
-  ShiftImmediateWords : Family
-  -- RV32I and RV64I, "Integer Register-Register Operations"; M, "Multiplication Operations", "Division Operations"
-  RegisterRegisters : Family
-  -- RV32I, "Memory Ordering Instructions"
-  Fences : Family
-  -- RV32I, "Environment Call and Breakpoints"
-  Systems : Family
-  -- Zicsr, "CSR Instructions"
-  Csrs : Family
-  -- Zicsr, "CSR Instructions"
-  CsrImmediates : Family
-  -- V, "Configuration-Setting Instructions"
-  SetVlis : Family
-  SetIvlis : Family
-  SetVls : Family
-  -- V, the lines of "Vector Instruction Listing" that may be masked
-  Ariths : Major → Form → Family
-  -- V, "Vector Integer Add-with-Carry / Subtract-with-Borrow Instructions", "Vector Integer Merge Instructions"
-  Carries : Form → Family
-  -- V, "Vector Integer Move Instructions"
-  Moves : Form → Family
-  -- V, "Whole Vector Register Move"
-  WholeMoves : Family
-  -- V, "Vector Mask-Register Logical Instructions"
-  MaskLogics : Family
-  -- V, "Vector Compress Instruction"
-  Compresses : Family
-  -- V, "Vector count population in mask vcpop.m", "vfirst find-first-set mask bit"
-  MasksToScalar : Family
-  -- V, "Vector Integer Extension"
-  Extends : Family
-  -- V, "vmsbf.m set-before-first mask bit" and the like, "Vector Iota Instruction"
-  MaskUnaries : Family
-  -- V, "Vector Element Index Instruction"
-  ElementIndices : Family
-  -- V, "Integer Scalar Move Instructions"
-  MovesToScalar : Family
-  MovesToVector : Family
-  -- V, "Vector Unit-Stride Instructions", "Unit-stride Fault-Only-First Loads", "Unit-Stride Segment Loads and Stores"
-  Units : Family
-  -- V, "Vector Strided Instructions", "Vector Strided Segment Loads and Stores"
-  Strideds : Family
-  -- V, "Vector Indexed Instructions", "Vector Indexed Segment Loads and Stores"
-  Indexeds : Family
-  -- V, "Vector Load/Store Whole Register Instructions"
-  WholeLoads : Family
-  WholeStores : Family
-  -- V, "Vector Unit-Stride Instructions": vlm.v, vsm.v
-  MaskMemories : Family
-
--- an instruction for each row of a family, with zeros for operands
-abbrev pub templates : Family → List Instr
-templates Uppers = map (λ op. instr.Scalar (Upper op 0 0)) upper_ops
-templates Jumps = instr.Scalar (Jump 0 0) ∷ []
-templates JumpRegisters = instr.Scalar (JumpRegister 0 0 0) ∷ []
-templates Branches = map (λ op. instr.Scalar (Branch op 0 0 0)) branch_ops
-templates Loads = map (λ op. instr.Scalar (Load op 0 0 0)) load_ops
-templates Stores = map (λ op. instr.Scalar (Store op 0 0 0)) store_ops
-templates RegisterImmediates = map (λ op. instr.Scalar (RegisterImmediate op 0 0 0)) immediate_ops
-templates ShiftImmediates = map (λ op. instr.Scalar (ShiftImmediate op 0 0 0)) shift_immediate_ops
-templates ShiftImmediateWords = map (λ op. instr.Scalar (ShiftImmediateWord op 0 0 0)) shift_immediate_word_ops
-templates RegisterRegisters = map (λ op. instr.Scalar (RegisterRegister op 0 0 0)) register_ops
-templates Fences = instr.Scalar (Fence 0 0 0) ∷ []
-templates Systems = map (λ op. instr.Scalar (System op)) system_ops
-templates Csrs = map (λ op. instr.Csr (Register op 0 0 0)) csr_ops
-templates CsrImmediates = map (λ op. instr.Csr (Immediate op 0 0 0)) csr_immediate_ops
-templates SetVlis = instr.Vector (SetVli 0 0 0) ∷ []
-templates SetIvlis = instr.Vector (SetIvli 0 0 0) ∷ []
-templates SetVls = instr.Vector (SetVl 0 0 0) ∷ []
-templates (Ariths m f) = map (λ op. instr.Vector (Arith (op, source_of f 0) 0 0 true)) (those line m f vector_ops)
-templates (Carries f) = map (λ op. instr.Vector (Carry (op, source_of f 0) 0 0)) (those carry_line Opi f carry_ops)
-templates (Moves f) = instr.Vector (Move (source_of f 0) 0) ∷ []
-templates WholeMoves = map (λ op. instr.Vector (WholeMove op 0 0)) counts
-templates MaskLogics = map (λ op. instr.Vector (MaskLogic op 0 0 0)) mask_logic_ops
-templates Compresses = instr.Vector (Compress 0 0 0) ∷ []
-templates MasksToScalar = map (λ op. instr.Vector (MaskToScalar op 0 0 true)) mask_to_scalar_ops
-templates Extends = map (λ op. instr.Vector (Extend op 0 0 true)) extend_ops
-templates MaskUnaries = map (λ op. instr.Vector (MaskUnary op 0 0 true)) mask_unary_ops
-templates ElementIndices = instr.Vector (ElementIndex 0 true) ∷ []
-templates MovesToScalar = instr.Vector (MoveToScalar 0 0) ∷ []
-templates MovesToVector = instr.Vector (MoveToVector 0 0) ∷ []
-templates Units = map (λ op. instr.Access (UnitStride op.0 op.1 0 0 0 true)) unit_accesses
-templates Strideds = map (λ op. instr.Access (Strided op.0 op.1 0 0 0 0 true)) strided_accesses
-templates Indexeds = map (λ op. instr.Access (Indexed op.0.0 op.0.1 op.1 0 0 0 0 true)) indexed_accesses
-templates WholeLoads = map (λ op. instr.Access (WholeLoad op.0 op.1 0 0)) whole_loads
-templates WholeStores = map (λ op. instr.Access (WholeStore op 0 0)) counts
-templates MaskMemories = map (λ op. instr.Access (MaskAccess op 0 0)) directions
-
--- every family
-abbrev pub families : List Family
-families =
-    Uppers ∷ Jumps ∷ JumpRegisters ∷ Branches ∷ Loads ∷ Stores ∷ RegisterImmediates ∷ ShiftImmediates ∷ ShiftImmediateWords ∷ RegisterRegisters ∷
-    Fences ∷ Systems ∷ Csrs ∷ CsrImmediates ∷ SetVlis ∷ SetIvlis ∷ SetVls ∷ Ariths Opi form.V ∷
-    Ariths Opi form.X ∷ Ariths Opi form.I ∷ Ariths Opm form.V ∷ Ariths Opm form.X ∷
-    Carries form.V ∷ Carries form.X ∷ Carries form.I ∷ Moves form.V ∷ Moves form.X ∷ Moves form.I ∷
-    WholeMoves ∷ MaskLogics ∷ Compresses ∷ MasksToScalar ∷ Extends ∷ MaskUnaries ∷ ElementIndices ∷
-    MovesToScalar ∷ MovesToVector ∷ Units ∷ Strideds ∷ Indexeds ∷ WholeLoads ∷ WholeStores ∷ MaskMemories ∷ []
 
 -- a row: the bits that it fixes, what they are, and the instruction of a word
 pub record Row : Type 0 where
@@ -164,30 +39,120 @@ pub record Row : Type 0 where
   pub bits : ℕ
   pub instr : ℕ → Instr
 
--- the row of a template
-abbrev pub row_of : Instr → Row
-row_of t = record { mask = fixed (parts t); bits = bits t; instr = filled t }
+-- the row of the instructions that this makes of words; they all fix the same bits, so that of the word 0 tells them
+abbrev pub row : (ℕ → Instr) → Row
+row make = record { mask = fixed (parts (make 0)); bits = bits (make 0); instr = make }
 
--- the rows of a family
-unfoldable pub rows : Family → List Row
-rows f = map row_of (templates f)
+-- a row for each of these operations
+abbrev pub rows_of : {A : Type 0} → List A → (A → ℕ → Instr) → List Row
+rows_of ops make = map (λ op. row (make op)) ops
+
+-- the rows for each of these
+abbrev pub each : {A : Type 0} → List A → (A → List Row) → List Row
+each xs rows = flat_map rows xs
+
+-- where the second operand of a vector operation may come from
+abbrev pub forms : List Form
+forms = form.V ∷ form.X ∷ form.I ∷ []
+
+-- how many registers an instruction on whole registers may name
+abbrev pub counts : List RegisterCount
+counts = One ∷ Two ∷ Four ∷ Eight ∷ []
+
+-- loads and stores
+abbrev pub directions : List Direction
+directions = direction.Load ∷ direction.Store ∷ []
+
+-- the widths of memory elements and of indices
+abbrev pub widths : List Eew
+widths = E8 ∷ E16 ∷ E32 ∷ E64 ∷ []
 
 -- every row
 unfoldable pub table : List Row
-table = flat_map rows families
+table =
+    -- RV32I, "Integer Register-Immediate Instructions"
+    rows_of (Lui ∷ Auipc ∷ []) (λ op w. instr.Scalar (Upper op (field 7 5 w) (field 12 20 w)))
+    -- RV32I, "Unconditional Jumps"
+    ++ row (λ w. instr.Scalar (Jump (field 7 5 w) (jump_offset w))) ∷ []
+    ++ row (λ w. instr.Scalar (JumpRegister (field 7 5 w) (field 15 5 w) (field 20 12 w))) ∷ []
+    -- RV32I, "Conditional Branches"
+    ++ rows_of (Beq ∷ Bne ∷ Blt ∷ Bge ∷ Bltu ∷ Bgeu ∷ [])
+    (λ op w. instr.Scalar (Branch op (field 15 5 w) (field 20 5 w) (branch_offset w)))
+    -- RV32I and RV64I, "Load and Store Instructions"
+    ++ rows_of (Lb ∷ Lh ∷ Lw ∷ Ld ∷ Lbu ∷ Lhu ∷ Lwu ∷ [])
+    (λ op w. instr.Scalar (Load op (field 7 5 w) (field 15 5 w) (field 20 12 w)))
+    ++ rows_of (Sb ∷ Sh ∷ Sw ∷ Sd ∷ []) (λ op w. instr.Scalar (Store op (field 15 5 w) (field 20 5 w) (store_immediate w)))
+    -- RV32I and RV64I, "Integer Register-Immediate Instructions"
+    ++ rows_of (Addi ∷ Slti ∷ Sltiu ∷ Xori ∷ Ori ∷ Andi ∷ Addiw ∷ [])
+    (λ op w. instr.Scalar (RegisterImmediate op (field 7 5 w) (field 15 5 w) (field 20 12 w)))
+    ++ rows_of (Slli ∷ Srli ∷ Srai ∷ []) (λ op w. instr.Scalar (ShiftImmediate op (field 7 5 w) (field 15 5 w) (field 20 6 w)))
+    ++ rows_of (Slliw ∷ Srliw ∷ Sraiw ∷ []) (λ op w. instr.Scalar (ShiftImmediateWord op (field 7 5 w) (field 15 5 w) (field 20 5 w)))
+    -- RV32I and RV64I, "Integer Register-Register Operations"; M, "Multiplication Operations", "Division Operations"
+    ++ rows_of
+    (Add ∷ Sub ∷ Sll ∷ Slt ∷ Sltu ∷ Xor ∷ Srl ∷ Sra ∷ Or ∷ And ∷ Mul ∷ Mulh ∷ Mulhsu ∷ Mulhu ∷ Div ∷ Divu ∷ Rem ∷ Remu ∷
+    Addw ∷ Subw ∷ Sllw ∷ Srlw ∷ Sraw ∷ Mulw ∷ Divw ∷ Divuw ∷ Remw ∷ Remuw ∷ [])
+    (λ op w. instr.Scalar (RegisterRegister op (field 7 5 w) (field 15 5 w) (field 20 5 w)))
+    -- RV32I, "Memory Ordering Instructions"
+    ++ row (λ w. instr.Scalar (Fence (field 7 5 w) (field 15 5 w) (field 20 12 w))) ∷ []
+    -- RV32I, "Environment Call and Breakpoints"
+    ++ rows_of (Ecall ∷ Ebreak ∷ []) (λ op w. instr.Scalar (System op))
+    -- Zicsr, "CSR Instructions"
+    ++ rows_of (Csrrw ∷ Csrrs ∷ Csrrc ∷ []) (λ op w. instr.Csr (Register op (field 7 5 w) (field 15 5 w) (field 20 12 w)))
+    ++ rows_of (Csrrwi ∷ Csrrsi ∷ Csrrci ∷ []) (λ op w. instr.Csr (Immediate op (field 7 5 w) (field 15 5 w) (field 20 12 w)))
+    -- V, "Configuration-Setting Instructions"
+    ++ row (λ w. instr.Vector (SetVli (field 7 5 w) (field 15 5 w) (field 20 11 w))) ∷ []
+    ++ row (λ w. instr.Vector (SetIvli (field 7 5 w) (field 15 5 w) (field 20 10 w))) ∷ []
+    ++ row (λ w. instr.Vector (SetVl (field 7 5 w) (field 15 5 w) (field 20 5 w))) ∷ []
+    -- V, the lines of "Vector Instruction Listing" that may be masked
+    ++ each forms (λ f. rows_of (filter (λ op. has_form (line op).forms f) vector_ops)
+    (λ op w. instr.Vector (Arith (op, source_of f (field 15 5 w)) (field 7 5 w) (field 20 5 w) (flag w))))
+    -- V, "Vector Integer Add-with-Carry / Subtract-with-Borrow Instructions", "Vector Integer Merge Instructions"
+    ++ each forms (λ f. rows_of (filter (λ op. has_form (carry_line op).forms f) (Vadc ∷ Vsbc ∷ Vmerge ∷ []))
+    (λ op w. instr.Vector (Carry (op, source_of f (field 15 5 w)) (field 7 5 w) (field 20 5 w))))
+    -- V, "Vector Integer Move Instructions"
+    ++ rows_of forms (λ f w. instr.Vector (Move (source_of f (field 15 5 w)) (field 7 5 w)))
+    -- V, "Whole Vector Register Move"
+    ++ rows_of counts (λ count w. instr.Vector (WholeMove count (field 7 5 w) (field 20 5 w)))
+    -- V, "Vector Mask-Register Logical Instructions"
+    ++ rows_of (Vmandn ∷ Vmand ∷ Vmor ∷ Vmxor ∷ Vmorn ∷ Vmnand ∷ Vmnor ∷ Vmxnor ∷ [])
+    (λ op w. instr.Vector (MaskLogic op (field 7 5 w) (field 15 5 w) (field 20 5 w)))
+    -- V, "Vector Compress Instruction"
+    ++ row (λ w. instr.Vector (Compress (field 7 5 w) (field 15 5 w) (field 20 5 w))) ∷ []
+    -- V, "Vector count population in mask vcpop.m", "vfirst find-first-set mask bit"
+    ++ rows_of (Vcpop ∷ Vfirst ∷ []) (λ op w. instr.Vector (MaskToScalar op (field 7 5 w) (field 20 5 w) (flag w)))
+    -- V, "Vector Integer Extension"
+    ++ rows_of (VzextVf8 ∷ VsextVf8 ∷ VzextVf4 ∷ VsextVf4 ∷ VzextVf2 ∷ VsextVf2 ∷ [])
+    (λ op w. instr.Vector (Extend op (field 7 5 w) (field 20 5 w) (flag w)))
+    -- V, "vmsbf.m set-before-first mask bit" and the like, "Vector Iota Instruction"
+    ++ rows_of (Scan Vmsbf ∷ Scan Vmsof ∷ Scan Vmsif ∷ Viota ∷ [])
+    (λ op w. instr.Vector (MaskUnary op (field 7 5 w) (field 20 5 w) (flag w)))
+    -- V, "Vector Element Index Instruction"
+    ++ row (λ w. instr.Vector (ElementIndex (field 7 5 w) (flag w))) ∷ []
+    -- V, "Integer Scalar Move Instructions"
+    ++ row (λ w. instr.Vector (MoveToScalar (field 7 5 w) (field 20 5 w))) ∷ []
+    ++ row (λ w. instr.Vector (MoveToVector (field 7 5 w) (field 15 5 w))) ∷ []
+    -- V, "Vector Unit-Stride Instructions", "Unit-stride Fault-Only-First Loads", "Unit-Stride Segment Loads and Stores"
+    ++ each (unit.Load ∷ unit.FaultOnlyFirst ∷ unit.Store ∷ []) (λ op. rows_of widths (λ width w.
+    instr.Access (UnitStride op width (field 29 3 w) (field 7 5 w) (field 15 5 w) (flag w))))
+    -- V, "Vector Strided Instructions", "Vector Strided Segment Loads and Stores"
+    ++ each directions (λ direction. rows_of widths (λ width w.
+    instr.Access (Strided direction width (field 29 3 w) (field 7 5 w) (field 15 5 w) (field 20 5 w) (flag w))))
+    -- V, "Vector Indexed Instructions", "Vector Indexed Segment Loads and Stores"
+    ++ each directions (λ direction. each (order.Unordered ∷ order.Ordered ∷ []) (λ order. rows_of widths (λ width w.
+    instr.Access (Indexed direction order width (field 29 3 w) (field 7 5 w) (field 15 5 w) (field 20 5 w) (flag w)))))
+    -- V, "Vector Load/Store Whole Register Instructions"
+    ++ each counts (λ count. rows_of widths (λ width w. instr.Access (WholeLoad count width (field 7 5 w) (field 15 5 w))))
+    ++ rows_of counts (λ count w. instr.Access (WholeStore count (field 7 5 w) (field 15 5 w)))
+    -- V, "Vector Unit-Stride Instructions": vlm.v, vsm.v
+    ++ rows_of directions (λ direction w. instr.Access (MaskAccess direction (field 7 5 w) (field 15 5 w)))
 
 -- the word has the bits that the row fixes
 abbrev pub Matches : Row → ℕ → Type 0
 Matches r word = bit_and word r.mask ≡ r.bits
 
--- a row is in a list
-abbrev pub In : Row → List Row → Type 0
-In r [] = ⊥
-In r (s ∷ ss) = (s ≡ r) ⊎ In r ss
-
 -- the word is of this row of the table
 abbrev pub IsRow : ℕ → Row → Type 0
-IsRow word r = In r table × Matches r word
+IsRow word r = Contains table r × Matches r word
 
 -- the instruction of the first row that matches
 unfoldable pub scan : List Row → ℕ → Option Instr

@@ -1,8 +1,9 @@
 -- Which vector instructions are legal under a vector type and with a vstart ("V" Vector Extension 1.0, sections 3.4.4, 3.7,
 -- 5.2, 5.3, 7.4 to 7.9, 11, 12.3, 14, 15, 16 and 18.2; what the standard leaves open stands in docs/DECISIONS.md). vl has no part in it.
-use Rattle.std.specs.Prelude.{◌≡◌, ◌≢◌, ℕ, ◌+◌, ◌/◌, Bool, true, false, ◌&&◌, ◌||◌, not, ◌==◌, List, [], ◌∷◌, Option, Some, None, if◌then◌else◌}
+use Rattle.std.specs.Prelude.{◌≡◌, ◌≢◌, ℕ, ◌+◌, ◌/◌, Bool, true, false, ◌&&◌, ◌||◌, not, ◌==◌, List, [], ◌∷◌, Option, Some, IsSomeAnd, if◌then◌else◌}
 use Rattle.std.specs.Int.{w8}
-use Rattle.rv_model.specs.instructions.Types.{BinaryOp, Direction, ExtendOp, FixedPointOp, MaskUnaryOp, RegisterCount, UnitOp, VectorOp, Eew, Source}
+use Rattle.std.specs.Option.{option_map, option_map_or}
+use Rattle.rv_model.specs.instructions.Types.{Direction, ExtendOp, MaskUnaryOp, RegisterCount, UnitOp, VectorOp, Eew}
 use Rattle.rv_model.specs.instructions.Variants.{Instr, Arith, Carry, Move, WholeMove, MaskLogic, Compress, MaskToScalar, Extend, MaskUnary, ElementIndex, MoveToScalar, MoveToVector, UnitStride, Strided, Indexed, WholeLoad, WholeStore, MaskAccess}
 use Rattle.rv_model.specs.declared.instructions.instruction.Instr.TheVariants as instr
 use Rattle.rv_model.specs.declared.instructions.operations.BinaryOp.TheVariants.{Vmulhu, Vmulhsu, Vmulh}
@@ -40,14 +41,6 @@ abbrev pub mask_result : MaskUnaryOp → ℕ → VType → Operand
 mask_result Viota vd t = group Apart vd (group_type t)
 mask_result (Scan o) vd t = mask Apart vd
 
--- vmv.v.v and the like
-abbrev pub move_operands : Source → ℕ → VType → List Operand
-move_operands from vd t = destination Single vd t ∷ second_source Single from t
-
--- logic on masks
-abbrev pub mask_logic_operands : ℕ → ℕ → ℕ → List Operand
-mask_logic_operands vd vs1 vs2 = mask Write vd ∷ mask Read vs2 ∷ mask Read vs1 ∷ []
-
 -- vmv1r.v and the like
 abbrev pub whole_move_operands : RegisterCount → ℕ → ℕ → VType → List Operand
 whole_move_operands count vd vs2 t = group Write vd (whole_type t count) ∷ group Read vs2 (whole_type t count) ∷ []
@@ -73,31 +66,26 @@ abbrev pub indexed_operands : Direction → Eew → ℕ → ℕ → ℕ → Bool
 indexed_operands d width nf vd vs2 unmasked t =
     field_groups (indexed_role d nf) (nf + 1) vd (group_type t) ∷ group Read vs2 (access_type t width) ∷ v0 unmasked
 
--- what an instruction that needs a vector type has under it
-abbrev pub under : Option VType → (VType → List Operand) → Option (List Operand)
-under None operands = None
-under (Some t) operands = Some (operands t)
-
 -- the vector register operands under a vector type; none at all if the instruction needs a vector type and there is none
 unfoldable pub operands : Instr → Option VType → Option (List Operand)
-operands (instr.Vector (Arith arith vd vs2 vm)) t = under t (shape_operands (shape_of arith.0) vd vs2 arith.1 vm)
-operands (instr.Vector (Carry carry vd vs2)) t = under t (shape_operands Single vd vs2 carry.1 false)
-operands (instr.Vector (Move from vd)) t = under t (move_operands from vd)
-operands (instr.Vector (WholeMove count vd vs2)) t = under t (whole_move_operands count vd vs2)
-operands (instr.Vector (MaskLogic o vd vs1 vs2)) t = under t (λ t. mask_logic_operands vd vs1 vs2)
-operands (instr.Vector (Compress vd vs1 vs2)) t = under t (compress_operands vd vs1 vs2)
-operands (instr.Vector (MaskToScalar o rd vs2 vm)) t = under t (λ t. mask Read vs2 ∷ v0 vm)
-operands (instr.Vector (Extend o vd vs2 vm)) t = under t (extension_operands o vd vs2 vm)
-operands (instr.Vector (MaskUnary o vd vs2 vm)) t = under t (λ t. mask_result o vd t ∷ mask Read vs2 ∷ v0 vm)
-operands (instr.Vector (ElementIndex vd vm)) t = under t (λ t. group Write vd (group_type t) ∷ v0 vm)
-operands (instr.Vector (MoveToScalar rd vs2)) t = under t (λ t. group Read vs2 (single_type (sew_width t.sew)) ∷ [])
-operands (instr.Vector (MoveToVector vd rs1)) t = under t (λ t. group Write vd (single_type (sew_width t.sew)) ∷ [])
-operands (instr.Access (UnitStride o w nf vd rs1 vm)) t = under t (access_operands (unit_role o) w nf vd vm)
-operands (instr.Access (Strided d w nf vd rs1 rs2 vm)) t = under t (access_operands (data_role d) w nf vd vm)
-operands (instr.Access (Indexed d o w nf vd rs1 vs2 vm)) t = under t (indexed_operands d w nf vd vs2 vm)
+operands (instr.Vector (Arith arith vd vs2 vm)) t = option_map (shape_operands (shape_of arith.0) vd vs2 arith.1 vm) t
+operands (instr.Vector (Carry carry vd vs2)) t = option_map (shape_operands Single vd vs2 carry.1 false) t
+operands (instr.Vector (Move from vd)) t = option_map (λ t. destination Single vd t ∷ second_source Single from t) t
+operands (instr.Vector (WholeMove count vd vs2)) t = option_map (whole_move_operands count vd vs2) t
+operands (instr.Vector (MaskLogic o vd vs1 vs2)) t = option_map (λ t. mask Write vd ∷ mask Read vs2 ∷ mask Read vs1 ∷ []) t
+operands (instr.Vector (Compress vd vs1 vs2)) t = option_map (compress_operands vd vs1 vs2) t
+operands (instr.Vector (MaskToScalar o rd vs2 vm)) t = option_map (λ t. mask Read vs2 ∷ v0 vm) t
+operands (instr.Vector (Extend o vd vs2 vm)) t = option_map (extension_operands o vd vs2 vm) t
+operands (instr.Vector (MaskUnary o vd vs2 vm)) t = option_map (λ t. mask_result o vd t ∷ mask Read vs2 ∷ v0 vm) t
+operands (instr.Vector (ElementIndex vd vm)) t = option_map (λ t. group Write vd (group_type t) ∷ v0 vm) t
+operands (instr.Vector (MoveToScalar rd vs2)) t = option_map (λ t. group Read vs2 (single_type (sew_width t.sew)) ∷ []) t
+operands (instr.Vector (MoveToVector vd rs1)) t = option_map (λ t. group Write vd (single_type (sew_width t.sew)) ∷ []) t
+operands (instr.Access (UnitStride o w nf vd rs1 vm)) t = option_map (access_operands (unit_role o) w nf vd vm) t
+operands (instr.Access (Strided d w nf vd rs1 rs2 vm)) t = option_map (access_operands (data_role d) w nf vd vm) t
+operands (instr.Access (Indexed d o w nf vd rs1 vs2 vm)) t = option_map (indexed_operands d w nf vd vs2 vm) t
 operands (instr.Access (WholeLoad count w vd rs1)) t = Some (group Write vd (registers_type (sew_width (element_width w)) count) ∷ [])
 operands (instr.Access (WholeStore count vd rs1)) t = Some (group Read vd (registers_type w8 count) ∷ [])
-operands (instr.Access (MaskAccess d vd rs1)) t = under t (λ t. mask (data_role d) vd ∷ [])
+operands (instr.Access (MaskAccess d vd rs1)) t = option_map (λ t. mask (data_role d) vd ∷ []) t
 -- scalar instructions, those of control registers, and those that set the vector type
 operands _ t = Some []
 
@@ -117,22 +105,13 @@ starts_at_zero (instr.Vector (MaskToScalar o rd vs2 vm)) = true
 starts_at_zero (instr.Vector (MaskUnary o vd vs2 vm)) = true
 starts_at_zero _ = false
 
--- upper halves of products; Zve64x has none of 64-bit elements (section 18.2)
-abbrev pub has_wide_product : BinaryOp → Bool
-has_wide_product Vmulhu = true
-has_wide_product Vmulhsu = true
-has_wide_product Vmulh = true
-has_wide_product _ = false
-
--- fractional products; Zve64x has none of 64-bit elements (section 18.2)
-abbrev pub is_fractional_product : FixedPointOp → Bool
-is_fractional_product Vsmul = true
-is_fractional_product _ = false
-
--- operations that there are for SEW below 64 alone
+-- operations that there are for SEW below 64 alone: of 64-bit elements Zve64x has no upper halves of products, and no
+-- fractional products (section 18.2)
 abbrev pub is_narrow_only : VectorOp → Bool
-is_narrow_only (Binary o) = has_wide_product o
-is_narrow_only (FixedPoint o) = is_fractional_product o
+is_narrow_only (Binary Vmulhu) = true
+is_narrow_only (Binary Vmulhsu) = true
+is_narrow_only (Binary Vmulh) = true
+is_narrow_only (FixedPoint Vsmul) = true
 is_narrow_only _ = false
 
 -- instructions that there are for SEW below 64 alone
@@ -142,32 +121,16 @@ is_below_64 _ = false
 
 -- ---- legality
 
--- an instruction that needs a vector type has one, and its operands may stand together
-abbrev pub HasLegal : Option (List Operand) → Type 0
-HasLegal None = ⊥
-HasLegal (Some operands) = AreLegal operands
-
--- SEW is not 64
-abbrev pub IsNarrow : Option VType → Type 0
-IsNarrow None = ⊥
-IsNarrow (Some t) = sew_bits t.sew ≢ 64
-
--- an instruction is legal; `is_legal` is the same as a test
+-- an instruction is legal: if it needs a vector type there is one, its operands may stand together, it begins with element 0 where
+-- it has to, and SEW isn't 64 where it may not be; `is_legal` is the same as a test
 pub record IsLegal (i : Instr) (t : Option VType) (vstart : ℕ) : Type 0 where
-  pub operands : HasLegal (operands i t)
+  pub operands : IsSomeAnd (operands i t) AreLegal
   pub start : starts_at_zero i ≡ true → vstart ≡ 0
-  pub width : is_below_64 i ≡ true → IsNarrow t
+  pub width : is_below_64 i ≡ true → IsSomeAnd t (λ t. sew_bits t.sew ≢ 64)
 
--- ---- the same as a test, which a law proves to be `IsLegal`
-
-abbrev pub has_legal : Option (List Operand) → Bool
-has_legal None = false
-has_legal (Some operands) = are_legal operands
-
-abbrev pub is_narrow : Option VType → Bool
-is_narrow None = false
-is_narrow (Some t) = not (sew_bits t.sew == 64)
-
+-- the same as a test, which a law proves to be `IsLegal`
 unfoldable pub is_legal : Instr → Option VType → ℕ → Bool
 is_legal i t vstart =
-    has_legal (operands i t) && ((not (starts_at_zero i) || (vstart == 0)) && (not (is_below_64 i) || is_narrow t))
+    option_map_or are_legal (operands i t) false
+    && ((not (starts_at_zero i) || (vstart == 0))
+    && (not (is_below_64 i) || option_map_or (λ t. not (sew_bits t.sew == 64)) t false))

@@ -1,8 +1,9 @@
 -- The register operands of a vector operation, by the shape of the operation ("V" Vector Extension 1.0, sections 5.2, 10.2,
 -- 10.3, 11.1 to 11.12, 12, 14 and 16).
 use Rattle.std.specs.Prelude.{ℕ, Bool, true, false, List, [], ◌∷◌, ◌++◌}
+use Rattle.std.specs.Int.{w16}
 use mir.Val.{bits}
-use Rattle.rv_model.specs.instructions.Types.{VectorOp, PermuteOp, Source}
+use Rattle.rv_model.specs.instructions.Types.{VectorOp, Source}
 use Rattle.rv_model.specs.declared.instructions.operations.VectorOp.TheVariants as op
 use Rattle.rv_model.specs.declared.instructions.operations.PermuteOp.TheVariants.{Vrgatherei16, Vslidedown, Vslide1down}
 use Rattle.rv_model.specs.legality.Types.{Operand, Mask, Elements, Role, Read, Control, Write, Apart, Free, Shape}
@@ -10,7 +11,7 @@ use Rattle.rv_model.specs.declared.legality.Shape.TheVariants.{Single, Widening,
 use Rattle.rv_model.specs.declared.instructions.source.Source.TheVariants as source
 use Rattle.rv_model.specs.vector.Types.{VType}
 use Rattle.rv_model.specs.vector.Configuration.{GroupType, group_type, sew_width}
-use Rattle.rv_model.specs.vector.Groups.{index_type, single_type, wide_type}
+use Rattle.rv_model.specs.vector.Groups.{single_type, wide_type, with_width}
 
 -- ---- operands
 
@@ -33,12 +34,6 @@ v0 false = mask Control 0 ∷ []
 
 -- ---- shapes
 
-abbrev pub permute_shape : PermuteOp → Shape
-permute_shape Vrgatherei16 = GatherIndices16
-permute_shape Vslidedown = Single
-permute_shape Vslide1down = Single
-permute_shape _ = Gather
-
 -- the shape of an operation
 abbrev pub shape_of : VectorOp → Shape
 shape_of (op.CarryOut o) = Compare
@@ -50,7 +45,10 @@ shape_of (op.WideSource o) = WideSource
 shape_of (op.WidenMultiplyAdd o) = Widening
 shape_of (op.Reduce o) = Reduction
 shape_of (op.WidenReduce o) = WideReduction
-shape_of (op.Permute o) = permute_shape o
+shape_of (op.Permute Vrgatherei16) = GatherIndices16
+shape_of (op.Permute Vslidedown) = Single
+shape_of (op.Permute Vslide1down) = Single
+shape_of (op.Permute _) = Gather
 shape_of _ = Single
 
 -- vd
@@ -72,7 +70,7 @@ first_source _ vs2 t = group Read vs2 (group_type t)
 
 -- vs1
 abbrev pub vector_source : Shape → ℕ → VType → Operand
-vector_source GatherIndices16 vs1 t = group Read vs1 (index_type (group_type t))
+vector_source GatherIndices16 vs1 t = group Read vs1 (with_width w16 (group_type t))
 vector_source Reduction vs1 t = group Read vs1 (single_type (sew_width t.sew))
 vector_source WideReduction vs1 t = group Read vs1 (single_type (wide_type t).width)
 vector_source _ vs1 t = group Read vs1 (group_type t)

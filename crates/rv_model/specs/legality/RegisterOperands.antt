@@ -1,7 +1,7 @@
 -- Register operands as sets of register numbers, and which of them may stand together in one instruction ("V" Vector
 -- Extension 1.0, sections 3.4.2, 5.2, 5.3, 10.2 and 10.3). An overlap is in the lowest-numbered part of the source where both groups
 -- begin together, and in the highest-numbered part of the destination where both end together.
-use Rattle.std.specs.Prelude.{◌≡◌, ℕ, ◌+◌, ◌*◌, ◌%◌, ◌<◌, ◌≤◌, ◌⊎◌, ⊤, Bool, true, false, ◌&&◌, ◌||◌, not, nat_lt, nat_le, ◌==◌, max, min, List, All}
+use Rattle.std.specs.Prelude.{ℕ, ◌+◌, ◌*◌, ◌%◌, ◌<◌, ◌≤◌, Bool, true, false, ◌&&◌, ◌||◌, not, nat_lt, nat_le, ◌==◌, max, min, List, All, IsTrue}
 use Rattle.std.specs.List.{list_all}
 use Rattle.rv_model.specs.legality.Types.{Operand, Content, Mask, Elements, Role, Read, Control, Write, Apart}
 use Rattle.rv_model.specs.vector.Types.{VECTOR_REGISTERS}
@@ -16,61 +16,16 @@ eew (Elements w) = w
 abbrev pub end : Operand → ℕ
 end o = o.first + o.fields * registers o.emul
 
--- this is one of its registers
-abbrev pub Has : Operand → ℕ → Type 0
-Has o r = (o.first ≤ r) × (r < end o)
-
 -- the two have a register in common
 abbrev pub Overlap : Operand → Operand → Type 0
-Overlap a b = (r : ℕ) × (Has a r × Has b r)
+Overlap a b = (r : ℕ) × (((a.first ≤ r) × (r < end a)) × ((b.first ≤ r) × (r < end b)))
 
 -- elements have 8 to 64 bits
-abbrev pub IsWidth : Content → Type 0
-IsWidth Mask = ⊤
-IsWidth (Elements w) = (8 ≤ w) × (w ≤ 64)
-
--- a multiplier of 1/8 to 8, for the fields together at most 8, aligned, and no register past the last
-pub record IsGroup (o : Operand) : Type 0 where
-  pub width : IsWidth o.content
-  pub least : 1 ≤ o.emul
-  pub most : o.emul ≤ 64
-  pub together : o.emul * o.fields ≤ 64
-  pub aligned : o.first % registers o.emul ≡ 0
-  pub inside : end o ≤ VECTOR_REGISTERS
-
--- a destination may overlap a source of its own element width; one that is wider and begins with it; or one that is
--- narrower, has a multiplier of at least 1, and ends with it
-abbrev pub MayOverlap : Operand → Operand → Type 0
-MayOverlap d s =
-    (eew d.content ≡ eew s.content)
-    ⊎ (((eew d.content < eew s.content) × (d.first ≡ s.first))
-    ⊎ ((eew s.content < eew d.content) × (8 ≤ s.emul) × (end d ≡ end s)))
-
-abbrev pub IsMask : Content → Type 0
-IsMask c = c ≡ Mask
-
--- what an instruction does with the registers of the first operand agrees with what it does with those of the second
-abbrev pub AllowsAs : Role → Role → Operand → Operand → Type 0
-AllowsAs Write Read d s = Overlap d s → MayOverlap d s
-AllowsAs Write Control d v0 = Overlap d v0 → IsMask d.content
-AllowsAs Apart Read d s = ¬ Overlap d s
-AllowsAs Apart Control d v0 = ¬ Overlap d v0
-AllowsAs _ _ d s = ⊤
-
-abbrev pub Allows : Operand → Operand → Type 0
-Allows d s = AllowsAs d.role s.role d s
-
--- these may be the operands of one instruction; `are_legal` is the same as a test
-pub record AreLegal (operands : List Operand) : Type 0 where
-  pub groups : All IsGroup operands
-  pub pairs : All (λ d. All (Allows d) operands) operands
-
--- ---- the same as tests, which laws prove to be `AreLegal` and its parts
-
 abbrev pub is_width : Content → Bool
 is_width Mask = true
 is_width (Elements w) = nat_le 8 w && nat_le w 64
 
+-- a multiplier of 1/8 to 8, for the fields together at most 8, aligned, and no register past the last
 abbrev pub is_group : Operand → Bool
 is_group o =
     is_width o.content
@@ -80,9 +35,8 @@ is_group o =
     && ((o.first % registers o.emul == 0)
     && nat_le (end o) VECTOR_REGISTERS))))
 
-abbrev pub overlaps : Operand → Operand → Bool
-overlaps a b = nat_lt (max a.first b.first) (min (end a) (end b))
-
+-- a destination may overlap a source of its own element width; one that is wider and begins with it; or one that is
+-- narrower, has a multiplier of at least 1, and ends with it
 abbrev pub may_overlap : Operand → Operand → Bool
 may_overlap d s =
     (eew d.content == eew s.content)
@@ -93,15 +47,26 @@ abbrev pub is_mask : Content → Bool
 is_mask Mask = true
 is_mask (Elements w) = false
 
-abbrev pub allows_as : Role → Role → Operand → Operand → Bool
-allows_as Write Read d s = not (overlaps d s) || may_overlap d s
-allows_as Write Control d v0 = not (overlaps d v0) || is_mask d.content
-allows_as Apart Read d s = not (overlaps d s)
-allows_as Apart Control d v0 = not (overlaps d v0)
-allows_as _ _ d s = true
+-- whether two operands may overlap, by what an instruction does with the registers of each
+abbrev pub may_share : Role → Role → Operand → Operand → Bool
+may_share Write Read d s = may_overlap d s
+may_share Write Control d v0 = is_mask d.content
+may_share Apart Read d s = false
+may_share Apart Control d v0 = false
+may_share _ _ d s = true
+
+-- these may be the operands of one instruction; `are_legal` is the same as a test
+pub record AreLegal (operands : List Operand) : Type 0 where
+  pub groups : All (λ o. IsTrue (is_group o)) operands
+  pub pairs : All (λ d. All (λ s. Overlap d s → IsTrue (may_share d.role s.role d s)) operands) operands
+
+-- ---- the same as tests, which laws prove to be `AreLegal` and its parts
+
+abbrev pub overlaps : Operand → Operand → Bool
+overlaps a b = nat_lt (max a.first b.first) (min (end a) (end b))
 
 abbrev pub allows : Operand → Operand → Bool
-allows d s = allows_as d.role s.role d s
+allows d s = not (overlaps d s) || may_share d.role s.role d s
 
 unfoldable pub are_legal : List Operand → Bool
 are_legal operands = list_all is_group operands && list_all (λ d. list_all (allows d) operands) operands

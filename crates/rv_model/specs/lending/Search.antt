@@ -1,7 +1,20 @@
 -- Operations that are found by bits: what the functions of a decoder find.
-use Rattle.std.specs.Prelude.{ℕ, List, [], ◌∷◌, Option, Some, None, ◌&&◌, nat_eq, if◌then◌else◌}
+use Rattle.std.specs.Prelude.{ℕ, List, [], ◌∷◌, Option, Some, None, ◌&&◌, nat_eq, Bool, true, false, cond, if◌then◌else◌}
 use Rattle.rv_model.specs.instructions.Types.{Form, Line, Major}
-use Rattle.rv_model.specs.instructions.Operations.{has_form, same_major}
+use Rattle.rv_model.specs.declared.instructions.operations.Major.TheVariants.{Opi, Opm}
+use Rattle.rv_model.specs.instructions.Operations.{has_form}
+
+-- whether two halves of the opcode map are one
+abbrev pub same_major : Major → Major → Bool
+same_major Opi Opi = true
+same_major Opm Opm = true
+same_major m n = false
+
+-- the operations of a half of the opcode map that have a form
+abbrev pub those : {A : Type 0} → (A → Line) → Major → Form → List A → List A
+those line m f [] = []
+those line m f (op ∷ ops) =
+    cond (same_major m (line op).major && has_form (line op).forms f) (op ∷ those line m f ops) (those line m f ops)
 
 -- the operation with these fixed bits
 unfoldable pub find : {A : Type 0} → (A → ℕ) → List A → ℕ → Option A

@@ -1,8 +1,14 @@
 -- What the functions of an assembler ask of the value in a slot.
-use Rattle.std.specs.Prelude.{ℕ, ◌+◌, ◌*◌, ◌^◌}
-use Rattle.rv_model.specs.assembler.Slots.{half, limit}
+use Rattle.std.specs.Prelude.{ℕ, ◌+◌, ◌-◌, ◌*◌, ◌^◌}
+use Rattle.rv_model.specs.assembler.Fields.{bit_count}
+use Rattle.rv_model.specs.assembler.Slots.{half}
+use Rattle.rv_model.specs.declared.assembler.forms.UnsignedField.{UnsignedField}
 use Rattle.rv_model.specs.declared.assembler.forms.Slot.{Slot}
 use Rattle.rv_model.specs.declared.assembler.forms.Slot.TheVariants.{Scalar, Vector, Unsigned, Signed, Csr, VectorType, ShortVectorType, Mask, Word}
+
+-- the largest number of an unsigned field
+abbrev pub limit : UnsignedField → ℕ
+limit field = 2 ^ bit_count (Unsigned field) - 1
 
 -- how many values a slot has
 abbrev pub value_count : Slot → ℕ

@@ -1,9 +1,9 @@
 -- Slices of one user's machine, one after another, and the instructions that they try. An instruction that a slice cuts goes on
 -- in the next one, so what slices come to depends on the sum of their ticks alone.
-use Rattle.std.specs.Prelude.{ℕ, zero, suc, ◌+◌, ◌-◌, ◌*◌, ◌≡◌, ◌&&◌, not, List, [], ◌∷◌, ◌++◌, Some, None, All, is_none, ⊤, if◌then◌else◌}
+use Rattle.std.specs.Prelude.{ℕ, zero, suc, ◌+◌, ◌-◌, ◌*◌, ◌≡◌, ◌&&◌, not, List, [], ◌∷◌, ◌++◌, Some, None, All, IfSome, is_none, if◌then◌else◌}
 use Rattle.rv_model.specs.declared.step.step_end.StepEnd.TheVariants.{Cut}
 use Rattle.rv_model.specs.machine.PrivateMachine.{sliced}
-use Rattle.rv_model.specs.machine.Runs.{after, at_breakpoint, following, stop_of}
+use Rattle.rv_model.specs.machine.Runs.{after, at_breakpoint, stop_of}
 use Rattle.rv_model.specs.machine.UserMachine.{Outcome, Present, Private}
 use Rattle.rv_model.specs.step.Hart.{HartState}
 use Rattle.rv_model.specs.step.Resumes.{KeepsOwnWord}
@@ -34,10 +34,9 @@ tries zero left p = []
 tries (suc n) zero p = []
 tries (suc n) (suc left) p =
     let one = step (suc left) p.hart in
-    let end = following one.end in
     if not p.fresh && at_breakpoint p then []
     else record { left = suc left; hart = p.hart }
-    ∷ (if is_none (stop_of end) then tries n (suc left - one.ticks) (after end one.state p) else [])
+    ∷ (if is_none (stop_of one.end) then tries n (suc left - one.ticks) (after one.end one.state p) else [])
 
 -- those of a slice: none, where the machine is absent or doesn't run
 unfoldable pub tried_in : ℕ → Private → List Try
@@ -51,16 +50,14 @@ tried_in_slices (suc k) quantum p = tried_in quantum p ++ tried_in_slices k quan
 
 -- an instruction that is cut there has stored nothing over its own word before
 abbrev pub KeepsWordIfCut : Try → Type 0
-KeepsWordIfCut t =
-    (step t.left t.hart).end ≡ Cut
+KeepsWordIfCut t = (step t.left t.hart).end ≡ Cut
     → KeepsOwnWord (t.hart.vector.vstart + t.left) (fetched t.hart.memory t.hart.scalar.pc) t.hart
 
 -- ---- the laws
 
 -- the vector length of a machine is one of its vector type
 abbrev pub IsConfigured : Private → Type 0
-IsConfigured None = ⊤
-IsConfigured (Some p) = IsConfiguration p.hart.vector.conf
+IsConfigured p = IfSome p (λ p. IsConfiguration p.hart.vector.conf)
 
 -- it stays one of it
 abbrev pub SliceKeepsConfiguration : Type 0
@@ -69,14 +66,10 @@ SliceKeepsConfiguration = (quantum : ℕ) (p : Private) → IsConfigured p → I
 -- A slice of m ticks and then one of n give the lines and leave the machine of one slice of m + n ticks, unless the first cuts an
 -- instruction that has stored over its own word before.
 abbrev pub CutsAreInvisible : Type 0
-CutsAreInvisible = (m n : ℕ) (p : Private)
-    → IsConfigured p
-    → All KeepsWordIfCut (tried_in m p)
+CutsAreInvisible = (m n : ℕ) (p : Private) → IsConfigured p → All KeepsWordIfCut (tried_in m p)
     → joined (sliced m p) (sliced n (sliced m p).next) ≡ sliced (m + n) p
 
 -- So k slices are one of all their ticks.
 abbrev pub SlicesAddUp : Type 0
-SlicesAddUp = (k quantum : ℕ) (p : Private)
-    → IsConfigured p
-    → All KeepsWordIfCut (tried_in_slices k quantum p)
+SlicesAddUp = (k quantum : ℕ) (p : Private) → IsConfigured p → All KeepsWordIfCut (tried_in_slices k quantum p)
     → slices k quantum p ≡ sliced (k * quantum) p

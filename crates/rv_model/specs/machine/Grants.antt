@@ -1,5 +1,6 @@
 -- What the operator grants: which user's turn it is, the slices of a command, and what the command prints.
 use Rattle.std.specs.Prelude.{ℕ, zero, suc, ◌-◌, Bool, true, false, List, [], ◌∷◌, ◌++◌, drop, take, find, length, map, Option, Some, None, Ok, Err, if◌then◌else◌, slice_index_or}
+use Rattle.std.specs.Option.{option_map_or}
 use Rattle.rv_model.specs.declared.commands.operator.OperatorCommand.{OperatorCommand}
 use Rattle.rv_model.specs.declared.commands.operator.OperatorCommand.TheVariants.{Slices, Run, List as ListUsers, Stats as ShowStats}
 use Rattle.rv_model.specs.declared.machine.standing.Standing.{Standing}
@@ -37,15 +38,12 @@ next_running w = next_user w.cursor (map runs w.parts)
 abbrev pub slice_of : ℕ → Bool → Happening
 slice_of u turn = record { user = u; event = Slice; turn = turn }
 
--- a user's slice, and the slices that follow it
-abbrev pub granted_first : Option ℕ → (Happening → List Happening) → List Happening
-granted_first None others = []
-granted_first (Some u) others = slice_of u true ∷ others (slice_of u true)
-
 -- at most n slices in turn, fewer only where nobody's program runs any more
 unfoldable pub granted : Setup → ℕ → World → List Happening
 granted setup zero w = []
-granted setup (suc n) w = granted_first (next_running w) (λ h. granted setup n (after_one setup w h))
+granted setup (suc n) w =
+    let turn : ℕ → Happening = λ u. slice_of u true in
+    option_map_or (λ u. turn u ∷ granted setup n (after_one setup w (turn u))) (next_running w) []
 
 -- what an operator's command makes happen
 abbrev pub grants : Setup → World → OperatorCommand → List Happening

@@ -14,10 +14,6 @@ use Rattle.rv_model.specs.text.Lines.{pieces}
 abbrev pub IsRefusal : List ℕ → Type 0
 IsRefusal answer = slice_index answer 0 ≡ 69
 
--- the answers of an output, each without the digit or the star, and without the space
-abbrev pub answers_in : List ℕ → List (List ℕ)
-answers_in output = map (λ line. drop 2 line) (pieces output)
-
 -- ---- the laws
 
 -- The code of each reason is such an answer.
@@ -25,13 +21,12 @@ abbrev pub ReasonsAreRefusals : Type 0
 ReasonsAreRefusals = (reason : Refusal) → IsRefusal (refused reason)
 
 -- What happens to a user and is answered by a refusal leaves the world as it was: the machines of all users, whose turn it is, and
--- the record of the vector unit with its counts. A turn is a slice, as `IsTurn` has it.
+-- the record of the vector unit with its counts. A turn is a slice, as `AreInTurn` has it.
 abbrev pub RefusedHappeningsChangeNothing : Type 0
-RefusedHappeningsChangeNothing =
-    (setup : Setup) (w : World) (h : Happening) → (h.turn ≡ true → h.event ≡ Slice)
+RefusedHappeningsChangeNothing = (setup : Setup) (w : World) (h : Happening) → (h.turn ≡ true → h.event ≡ Slice)
     → Any IsRefusal (outcome_of setup w h).lines → after_one setup w h ≡ w
 
--- So does a line of a script, whoever's it is, that prints a refusal.
+-- So does a line of a script, whoever's it is, that prints a refusal after a digit or star and a space.
 abbrev pub RefusedLinesChangeNothing : Type 0
-RefusedLinesChangeNothing =
-    (setup : Setup) (w : World) (line : List ℕ) → Any IsRefusal (answers_in (told setup w line)) → world_after setup w line ≡ w
+RefusedLinesChangeNothing = (setup : Setup) (w : World) (line : List ℕ)
+    → Any IsRefusal (map (λ answer. drop 2 answer) (pieces (told setup w line))) → world_after setup w line ≡ w

@@ -5,30 +5,17 @@ use Rattle.rv_model.specs.declared.step.step_end.StepEnd.TheVariants.{Ran, Exit,
 use Rattle.rv_model.specs.declared.step.step_end.Stop.{Stop}
 use Rattle.rv_model.specs.declared.step.step_end.Stop.TheVariants as stop
 use Rattle.rv_model.specs.machine.UserMachine.{Present, has_breakpoint}
-use Rattle.rv_model.specs.step.Hart.{HartState}
+use Rattle.rv_model.specs.step.Hart.{HartState, Stepped}
 use Rattle.rv_model.specs.step.Step.{step}
 
--- what follows an instruction: the next one, and the trace records it; a stop, for a reason; or, where it was cut, the rest of
--- it, later
-pub data Following : Type 0 where
-  Next : Following
-  Stops : Stop → Following
-  Rest : Following
-
--- what follows an instruction that ends so
-abbrev pub following : StepEnd → Following
-following Ran = Next
-following (Exit status) = Stops (stop.Exit status)
-following Ebreak = Stops stop.Ebreak
-following (Fault cause pc value) = Stops (stop.Fault cause value)
-following OutputFull = Stops stop.OutputFull
-following Cut = Rest
-
--- why the program stops, if it does
-abbrev pub stop_of : Following → Option Stop
-stop_of Next = None
-stop_of (Stops reason) = Some reason
-stop_of Rest = None
+-- why the program stops after an instruction that ends so, if it does: one that ran leads to the next one, and one that was cut
+-- to its rest, later
+abbrev pub stop_of : StepEnd → Option Stop
+stop_of (Exit status) = Some (stop.Exit status)
+stop_of Ebreak = Some stop.Ebreak
+stop_of (Fault cause pc value) = Some (stop.Fault cause value)
+stop_of OutputFull = Some stop.OutputFull
+stop_of _ = None
 
 abbrev pub at_breakpoint : Present → Bool
 at_breakpoint p = has_breakpoint p p.hart.scalar.pc
@@ -37,12 +24,12 @@ at_breakpoint p = has_breakpoint p p.hart.scalar.pc
 unfoldable pub recorded : List ℕ → ℕ → List ℕ
 recorded trace addr = drop (length trace + 1 - 16) (trace ++ addr ∷ [])
 
--- the machine after the instruction at the program counter was tried, which left this state. Only an instruction that ran to
--- its end is traced; after a cut the program is as if it had just been told to run.
-abbrev pub after : Following → HartState → Present → Present
-after Next hart p = record p { hart = hart; trace = recorded p.trace p.hart.scalar.pc; fresh = false }
-after (Stops reason) hart p = record p { hart = hart; fresh = false }
-after Rest hart p = record p { hart = hart; fresh = true }
+-- the machine after the instruction at the program counter was tried, which ended so and left this state. Only an instruction
+-- that ran to its end is traced; after a cut the program is as if it had just been told to run.
+abbrev pub after : StepEnd → HartState → Present → Present
+after Ran hart p = record p { hart = hart; trace = recorded p.trace p.hart.scalar.pc; fresh = false }
+after Cut hart p = record p { hart = hart; fresh = true }
+after _ hart p = record p { hart = hart; fresh = false }
 
 -- where a run of instructions leaves a machine, and why it stopped, if it did
 pub record Halted : Type 0 where
@@ -52,16 +39,18 @@ pub record Halted : Type 0 where
 abbrev pub halted : Present → Option Stop → Halted
 halted p reason = record { state = p; stop = reason }
 
+-- one instruction, with what it comes to, and then the others; a breakpoint stops the program before it, unless it is exempt
+abbrev pub runs_on : Bool → Stepped → Present → (Present → Halted) → Halted
+runs_on exempt one p others =
+    if not exempt && at_breakpoint p then halted p (Some stop.Breakpoint)
+    else if is_none (stop_of one.end) then others (after one.end one.state p)
+    else halted (after one.end one.state p) (stop_of one.end)
+
 -- at most n instructions; a breakpoint stops the program before each but an exempt first one. No memory instruction has
 -- more than 256 elements, so none is cut.
 abbrev pub steps : ℕ → Bool → Present → Halted
 steps zero exempt p = halted p None
-steps (suc n) exempt p =
-    let one = step 256 p.hart in
-    let end = following one.end in
-    if not exempt && at_breakpoint p then halted p (Some stop.Breakpoint)
-    else if is_none (stop_of end) then steps n false (after end one.state p)
-    else halted (after end one.state p) (stop_of end)
+steps (suc n) exempt p = runs_on exempt (step 256 p.hart) p (λ next. steps n false next)
 
 -- at most n instructions in the ticks that are left; a breakpoint stops the program before each but the first one after it
 -- was told to run. An instruction takes a tick at least, and one that is cut takes all that are left.
@@ -70,10 +59,7 @@ slice_steps zero left p = halted p None
 slice_steps (suc n) zero p = halted p None
 slice_steps (suc n) (suc left) p =
     let one = step (suc left) p.hart in
-    let end = following one.end in
-    if not p.fresh && at_breakpoint p then halted p (Some stop.Breakpoint)
-    else if is_none (stop_of end) then slice_steps n (suc left - one.ticks) (after end one.state p)
-    else halted (after end one.state p) (stop_of end)
+    runs_on p.fresh one p (λ next. slice_steps n (suc left - one.ticks) next)
 
 -- a run of so many ticks
 abbrev pub ticked : ℕ → Present → Halted

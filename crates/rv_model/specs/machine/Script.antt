@@ -7,7 +7,7 @@ use Rattle.rv_model.specs.machine.PrivateMachine.{Event, Command}
 use Rattle.rv_model.specs.machine.Setup.{Setup}
 use Rattle.rv_model.specs.machine.Users.{user_count}
 unfoldable pub use Rattle.rv_model.specs.machine.World.{new_world}
-pub use Rattle.rv_model.specs.machine.World.{World, with_unit, Happening, outcome_of, unit_after, after_one, after_events, told_by, AreUsers, user_machine, with_user_machine}
+pub use Rattle.rv_model.specs.machine.World.{World, with_unit, Happening, outcome_of, unit_after, after_one, after_events, told_by, user_machine, with_user_machine}
 use Rattle.rv_model.specs.text.Lines.{text, pieces}
 
 -- what a line is: nothing, too long, without a proper prefix, the operator's, or a user's
@@ -89,10 +89,6 @@ own_from setup u w script = mine u (schedule setup w (pieces script))
 abbrev pub own : Setup → ℕ → List ℕ → List Event
 own setup u script = own_from setup u new_world script
 
--- the lines whose first byte is the user's digit, without digit and space
-abbrev pub of_user : ℕ → List (List ℕ) → List (List ℕ)
-of_user u all = map (λ line. drop 2 line) (filter (λ line. slice_index line 0 == 48 + u) all)
-
--- a user's lines of an output
+-- a user's lines of an output: those whose first byte is the user's digit, without digit and space
 unfoldable pub lines : ℕ → List ℕ → List (List ℕ)
-lines u output = of_user u (pieces output)
+lines u output = map (λ line. drop 2 line) (filter (λ line. slice_index line 0 == 48 + u) (pieces output))

@@ -16,22 +16,15 @@ abbrev pub AtEachTurn : (World → Happening → Type 0) → Setup → World →
 AtEachTurn P setup w [] = Unit {0}
 AtEachTurn P setup w (h ∷ hs) = (h.turn ≡ true → P w h) × AtEachTurn P setup (after_one setup w h) hs
 
--- a slice of the user whose turn it is
-abbrev pub IsTurn : World → Happening → Type 0
-IsTurn w h = (h.event ≡ Slice) × (next_running w ≡ Some h.user)
-
 -- each turn is a slice of the user whose turn it is then
 abbrev pub AreInTurn : Setup → World → List Happening → Type 0
-AreInTurn = AtEachTurn IsTurn
+AreInTurn = AtEachTurn (λ w h. (h.event ≡ Slice) × (next_running w ≡ Some h.user))
 
 -- a user's program runs at each turn, whosever it is
 abbrev pub RunsAtEachTurn : ℕ → Setup → World → List Happening → Type 0
 RunsAtEachTurn u = AtEachTurn (λ w h. runs (user_machine u w) ≡ true)
 
--- how many turns there are, and how many are a user's
-abbrev pub turns : List Happening → ℕ
-turns hs = length (filter (λ h. h.turn) hs)
-
+-- how many turns are a user's
 abbrev pub turns_of : ℕ → List Happening → ℕ
 turns_of u hs = length (filter (λ h. h.turn && h.user == u) hs)
 
@@ -39,15 +32,13 @@ turns_of u hs = length (filter (λ h. h.turn && h.user == u) hs)
 
 -- While a user whose program runs at each turn has none, nobody else has two.
 abbrev pub NobodyHasTwoTurns : Type 0
-NobodyHasTwoTurns =
-    (setup : Setup) (w : World) (hs : List Happening) (u v : ℕ) → 1 ≤ u → u ≤ user_count
+NobodyHasTwoTurns = (setup : Setup) (w : World) (hs : List Happening) (u v : ℕ) → 1 ≤ u → u ≤ user_count
     → AreInTurn setup w hs → RunsAtEachTurn u setup w hs → turns_of u hs ≡ 0 → turns_of v hs ≤ 1
 
 -- So a user whose program runs at each of as many turns as there are users has one of them.
 abbrev pub EachRunningUserHasATurn : Type 0
-EachRunningUserHasATurn =
-    (setup : Setup) (w : World) (hs : List Happening) (u : ℕ) → 1 ≤ u → u ≤ user_count
-    → AreInTurn setup w hs → RunsAtEachTurn u setup w hs → user_count ≤ turns hs → 1 ≤ turns_of u hs
+EachRunningUserHasATurn = (setup : Setup) (w : World) (hs : List Happening) (u : ℕ) → 1 ≤ u → u ≤ user_count
+    → AreInTurn setup w hs → RunsAtEachTurn u setup w hs → user_count ≤ length (filter (λ h. h.turn) hs) → 1 ≤ turns_of u hs
 
 -- What an operator's command grants is in turn, whatever the world is.
 abbrev pub GrantsAreInTurn : Type 0
@@ -60,8 +51,7 @@ ScriptsAreInTurn = (setup : Setup) (w : World) (script : List ℕ) → AreInTurn
 -- In a script nobody else has two turns between a user's turn and the user's next one, if the user's program runs at each turn
 -- in between, whatever else happens there.
 abbrev pub OneTurnBetweenTurns : Type 0
-OneTurnBetweenTurns =
-    (setup : Setup) (w : World) (script : List ℕ) (before between later : List Happening) (u v : ℕ)
+OneTurnBetweenTurns = (setup : Setup) (w : World) (script : List ℕ) (before between later : List Happening) (u v : ℕ)
     → schedule setup w (pieces script) ≡ before ++ slice_of u true ∷ (between ++ slice_of u true ∷ later)
     → turns_of u between ≡ 0
     → RunsAtEachTurn u setup (after_events setup w (before ++ slice_of u true ∷ [])) between

@@ -19,7 +19,7 @@ use Rattle.rv_model.specs.images.Faults.{first_fault}
 use Rattle.rv_model.specs.images.Image.{memory_of_image}
 use Rattle.rv_model.specs.machine.Cuts.{Try, tried_in}
 use Rattle.rv_model.specs.machine.PrivateMachine.{Event, Command, Slice}
-use Rattle.rv_model.specs.machine.Runs.{after, at_breakpoint, following, stop_of}
+use Rattle.rv_model.specs.machine.Runs.{after, at_breakpoint, stop_of}
 use Rattle.rv_model.specs.machine.Setup.{Image, Setup}
 use Rattle.rv_model.specs.machine.UserMachine.{Present, Private}
 use Rattle.rv_model.specs.machine.VectorUnit.{VectorUnit, unit_after_instruction, unit_discarded, unit_register_written}
@@ -45,10 +45,9 @@ unfoldable pub tried_steps : ℕ → Bool → Present → List Try
 tried_steps zero exempt p = []
 tried_steps (suc n) exempt p =
     let one = step 256 p.hart in
-    let end = following one.end in
     if not exempt && at_breakpoint p then []
     else record { left = 256; hart = p.hart }
-    ∷ (if is_none (stop_of end) then tried_steps n false (after end one.state p) else [])
+    ∷ (if is_none (stop_of one.end) then tried_steps n false (after one.end one.state p) else [])
 
 -- ---- commands of a user who has entered
 
@@ -64,8 +63,7 @@ unit_after_registers user _ unit = unit
 
 -- whether an image can be loaded, by its first fault
 abbrev pub can_be_loaded : List ℕ → Option ElfFault → Bool
-can_be_loaded image (Some fault) = false
-can_be_loaded image None = not (nat_lt page_quota (page_count (memory_of_image image)))
+can_be_loaded image fault = is_none fault && not (nat_lt page_quota (page_count (memory_of_image image)))
 
 -- an image that can be loaded is, and what the user had is dropped
 abbrev pub unit_after_load : ℕ → Option (List ℕ) → VectorUnit → VectorUnit
@@ -91,12 +89,8 @@ unit_of_present images user _ p unit = unit
 -- ---- commands of a user who is absent
 
 -- who enters begins with the initial vector state
-abbrev pub unit_entered : ℕ → EnteringCommand → VectorUnit → VectorUnit
-unit_entered user Enter unit = unit_discarded user unit
-unit_entered user Leave unit = unit
-
 abbrev pub unit_of_absent : ℕ → Cmd → VectorUnit → VectorUnit
-unit_of_absent user (Entering c) unit = unit_entered user c unit
+unit_of_absent user (Entering Enter) unit = unit_discarded user unit
 unit_of_absent user _ unit = unit
 
 -- ---- all that happens

@@ -28,13 +28,9 @@ Private = Option Present
 
 -- no memory, all registers 0, no breakpoints, nothing put out or traced, stopped
 abbrev pub initial : Present
-initial = record {
-  hart = record { scalar = initial_scalar; vector = initial_vector; memory = empty; output = []; policy = Keep };
-  breakpoints = [];
-  trace = [];
-  running = false;
-  fresh = false;
-}
+initial =
+    let h : HartState = record { scalar = initial_scalar; vector = initial_vector; memory = empty; output = []; policy = Keep } in
+    record { hart = h; breakpoints = []; trace = []; running = false; fresh = false }
 
 -- what a machine does: where it stands then, and the lines that it prints
 pub record Outcome : Type 0 where

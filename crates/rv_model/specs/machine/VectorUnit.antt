@@ -59,20 +59,16 @@ abbrev pub unit_touched : ℕ → VectorUnit → VectorUnit
 unit_touched user unit =
     if is_owned_by unit.owner user then unit else owner_changed user (owner_saved unit.owner unit)
 
--- the owner's state is changed
-abbrev pub unit_changed : VectorUnit → VectorUnit
-unit_changed unit = record unit { dirty = true }
-
 -- an instruction of a user: it may touch the unit, and one that touches it may change the user's state, which a vector
 -- instruction that isn't illegal does, and a write of a vector control register
 abbrev pub unit_after_instruction : Bool → Bool → ℕ → VectorUnit → VectorUnit
 unit_after_instruction touched changed user unit =
-    if touched then (if changed then unit_changed (unit_touched user unit) else unit_touched user unit) else unit
+    if touched then (if changed then record (unit_touched user unit) { dirty = true } else unit_touched user unit) else unit
 
 -- a command writes a vector register of a user: the owner's state is changed; another user's is saved, and not counted
 abbrev pub unit_register_written : ℕ → VectorUnit → VectorUnit
 unit_register_written user unit =
-    if is_owned_by unit.owner user then unit_changed unit else record unit { saved = with_mark user true unit.saved }
+    if is_owned_by unit.owner user then record unit { dirty = true } else record unit { saved = with_mark user true unit.saved }
 
 -- what a user had is dropped, as the user leaves or loads a program: nothing is saved or counted, and a unit that was the
 -- user's has no owner

@@ -1,5 +1,5 @@
 -- All users' private machines side by side, and what becomes of them by what happens to one after another.
-use Rattle.std.specs.Prelude.{ℕ, ◌+◌, ◌-◌, ◌≤◌, Bool, List, [], ◌∷◌, ◌++◌, replicate, None, if◌then◌else◌, slice_index_or, slice_set}
+use Rattle.std.specs.Prelude.{ℕ, ◌+◌, ◌-◌, Bool, List, [], ◌∷◌, ◌++◌, replicate, None, if◌then◌else◌, slice_index_or, slice_set}
 use Rattle.rv_model.specs.machine.PrivateMachine.{Private, Outcome, Event, event}
 use Rattle.rv_model.specs.machine.Setup.{Setup}
 use Rattle.rv_model.specs.machine.Users.{user_count}
@@ -59,8 +59,3 @@ after_events setup w (h ∷ hs) = after_events setup (after_one setup w h) hs
 abbrev pub told_by : Setup → World → List Happening → List ℕ
 told_by setup w [] = []
 told_by setup w (h ∷ hs) = text (48 + h.user) (outcome_of setup w h).lines ++ told_by setup (after_one setup w h) hs
-
--- all happens to users
-abbrev pub AreUsers : List Happening → Type 0
-AreUsers [] = Unit {0}
-AreUsers (h ∷ hs) = (1 ≤ h.user) × (h.user ≤ user_count) × AreUsers hs

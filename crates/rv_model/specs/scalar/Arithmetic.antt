@@ -9,7 +9,7 @@ use Rattle.rv_model.specs.declared.instructions.operations.RegisterOp.TheVariant
 use Rattle.rv_model.specs.declared.instructions.operations.ImmediateOp.TheVariants.{Addi, Slti, Sltiu, Xori, Ori, Andi, Addiw}
 use Rattle.rv_model.specs.declared.instructions.operations.ShiftImmediateOp.TheVariants.{Slli, Srli, Srai}
 use Rattle.rv_model.specs.declared.instructions.operations.ShiftImmediateWordOp.TheVariants.{Slliw, Srliw, Sraiw}
-use Rattle.rv_model.specs.instructions.Immediates.{i_immediate, u_immediate, sign_extended}
+use Rattle.rv_model.specs.instructions.Immediates.{u_immediate, sign_extended}
 
 -- ---- operations of a width, on unsigned numbers of that width
 
@@ -112,7 +112,7 @@ register_op_value Divuw a b = of_words quotient a b
 register_op_value Remw a b = of_words signed_remainder a b
 register_op_value Remuw a b = of_words remainder a b
 
--- the operation of two registers that an operation with an immediate does
+-- the operation of two registers that an operation of a register and an immediate of 12 bits, sign-extended, does
 abbrev pub immediate_op_form : ImmediateOp → RegisterOp
 immediate_op_form Addi = Add
 immediate_op_form Slti = Slt
@@ -122,31 +122,19 @@ immediate_op_form Ori = Or
 immediate_op_form Andi = And
 immediate_op_form Addiw = Addw
 
--- an operation of a register and an immediate of 12 bits, sign-extended
-abbrev pub immediate_op_value : ImmediateOp → ℕ → ℕ → ℕ
-immediate_op_value op a imm = register_op_value (immediate_op_form op) a (i_immediate imm)
-
--- the shift by a register that a shift by an immediate does
+-- the shift by a register that a shift by an immediate of 6 bits does
 abbrev pub shift_immediate_form : ShiftImmediateOp → RegisterOp
 shift_immediate_form Slli = Sll
 shift_immediate_form Srli = Srl
 shift_immediate_form Srai = Sra
 
--- a shift by an immediate of 6 bits
-abbrev pub shift_immediate_value : ShiftImmediateOp → ℕ → ℕ → ℕ
-shift_immediate_value op a shamt = register_op_value (shift_immediate_form op) a shamt
-
--- the shift of 32 bits by a register that a shift by an immediate does
+-- the shift of 32 bits by a register that a shift by an immediate of 5 bits does
 abbrev pub shift_immediate_word_form : ShiftImmediateWordOp → RegisterOp
 shift_immediate_word_form Slliw = Sllw
 shift_immediate_word_form Srliw = Srlw
 shift_immediate_word_form Sraiw = Sraw
 
--- a shift of 32 bits by an immediate of 5 bits
-abbrev pub shift_immediate_word_value : ShiftImmediateWordOp → ℕ → ℕ → ℕ
-shift_immediate_word_value op a shamt = register_op_value (shift_immediate_word_form op) a shamt
-
 -- the upper 20 bits of a 32-bit number, sign-extended; alone, or added to the program counter
 abbrev pub upper_value : UpperOp → ℕ → ℕ → ℕ
 upper_value Lui pc imm = u_immediate imm
-upper_value Auipc pc imm = (pc + u_immediate imm) % 2 ^ 64
+upper_value Auipc pc imm = sum w64 pc (u_immediate imm)

@@ -1,9 +1,10 @@
 -- Where jumps and branches go (Unprivileged ISA 20191213, section 2.5, "Control Transfer Instructions").
-use Rattle.std.specs.Prelude.{ℕ, ◌+◌, ◌-◌, ◌%◌, ◌^◌, ◌==◌, not, nat_lt, Bool, int_lt}
+use Rattle.std.specs.Prelude.{ℕ, ◌-◌, ◌%◌, ◌==◌, not, nat_lt, Bool, int_lt}
 use Rattle.std.specs.Int.{w64, cast_signed}
 use Rattle.rv_model.specs.instructions.Types.{BranchOp}
 use Rattle.rv_model.specs.declared.instructions.operations.BranchOp.TheVariants.{Beq, Bne, Blt, Bge, Bltu, Bgeu}
-use Rattle.rv_model.specs.instructions.Immediates.{i_immediate, b_immediate, j_immediate}
+use Rattle.rv_model.specs.instructions.Immediates.{i_immediate}
+use Rattle.rv_model.specs.scalar.Arithmetic.{sum}
 
 -- whether a branch that compares these registers is taken
 abbrev pub is_taken : BranchOp → ℕ → ℕ → Bool
@@ -14,20 +15,8 @@ is_taken Bge a b = not (int_lt (cast_signed w64 a) (cast_signed w64 b))
 is_taken Bltu a b = nat_lt a b
 is_taken Bgeu a b = not (nat_lt a b)
 
--- JAL: bits 20 to 1 of a signed distance from the jump
-abbrev pub jump_target : ℕ → ℕ → ℕ
-jump_target pc imm = (pc + j_immediate imm) % 2 ^ 64
-
 -- JALR: a register and a signed immediate of 12 bits, with bit 0 cleared
 abbrev pub register_target : ℕ → ℕ → ℕ
 register_target base imm =
-    let target = (base + i_immediate imm) % 2 ^ 64 in
+    let target = sum w64 base (i_immediate imm) in
     target - target % 2
-
--- a branch: bits 12 to 1 of a signed distance from it
-abbrev pub branch_target : ℕ → ℕ → ℕ
-branch_target pc imm = (pc + b_immediate imm) % 2 ^ 64
-
--- whether an instruction may stand there
-abbrev pub is_aligned : ℕ → Bool
-is_aligned target = target % 4 == 0

@@ -1,16 +1,12 @@
 -- What loads and stores access, and the numbers that they move (Unprivileged ISA 20191213, sections 2.6 and 5.3). The least
 -- byte of a number stands at its lowest address, whether or not the address is a multiple of the size.
-use Rattle.std.specs.Prelude.{ℕ, ◌+◌, ◌%◌, ◌^◌, List}
-use Rattle.std.specs.Int.{Width, w8, w16, w32, w64, byte_len, from_le_bytes, to_le_bytes}
+use Rattle.std.specs.Prelude.{ℕ}
+use Rattle.std.specs.Int.{Width, w8, w16, w32, w64, byte_len, from_le_bytes}
 use Rattle.rv_model.specs.instructions.Types.{LoadOp, StoreOp}
 use Rattle.rv_model.specs.declared.instructions.operations.LoadOp.TheVariants.{Lb, Lh, Lw, Ld, Lbu, Lhu, Lwu}
 use Rattle.rv_model.specs.declared.instructions.operations.StoreOp.TheVariants.{Sb, Sh, Sw, Sd}
 use Rattle.rv_model.specs.instructions.Immediates.{sign_extended}
 use Rattle.rv_model.specs.memory.Memory.{Memory, bytes_at}
-
--- a register and a sign-extended immediate
-abbrev pub access_address : ℕ → ℕ → ℕ
-access_address base immediate = (base + immediate) % 2 ^ 64
 
 -- the number at an address
 abbrev pub number_at : Width → Memory → ℕ → ℕ
@@ -39,7 +35,3 @@ store_width Sb = w8
 store_width Sh = w16
 store_width Sw = w32
 store_width Sd = w64
-
--- the bytes that a store writes: the lowest of the register
-abbrev pub stored_bytes : StoreOp → ℕ → List ℕ
-stored_bytes op value = to_le_bytes (store_width op) value

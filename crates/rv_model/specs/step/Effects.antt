@@ -1,32 +1,23 @@
 -- Laws of one instruction, whichever it is.
 use Rattle.std.specs.Prelude.{ℕ, ◌≡◌, ◌≤◌, List, ◌++◌, length}
-use Rattle.rv_model.specs.declared.step.step_end.StepEnd.TheVariants.{Ran, Exit, Ebreak, Fault, OutputFull, Cut}
+use Rattle.rv_model.specs.declared.step.step_end.Cause.{Cause}
+use Rattle.rv_model.specs.declared.step.step_end.StepEnd.TheVariants.{Fault}
 use Rattle.rv_model.specs.declared.memory.Access.{Access}
 use Rattle.rv_model.specs.memory.Memory.{can_access_byte}
-use Rattle.rv_model.specs.step.Hart.{HartState, StepEnd}
+use Rattle.rv_model.specs.step.Hart.{HartState}
 use Rattle.rv_model.specs.vector.Configuration.{IsConfiguration}
 use Rattle.rv_model.specs.scalar.Registers.{read_register}
 use Rattle.rv_model.specs.step.Step.{step}
 use Rattle.rv_model.specs.step.WriteCall.{output_room}
 
--- a fact where an instruction faults
-abbrev pub OnFault : StepEnd → Type 0 → Type 0
-OnFault Ran P = Unit {0}
-OnFault (Exit status) P = Unit {0}
-OnFault Ebreak P = Unit {0}
-OnFault (Fault cause pc value) P = P
-OnFault OutputFull P = Unit {0}
-OnFault Cut P = Unit {0}
-
 -- An instruction that faults writes no scalar register, and the program counter stays on it.
 abbrev pub FaultsWriteNoRegister : Type 0
-FaultsWriteNoRegister =
-    (limit : ℕ) (s : HartState) → OnFault (step limit s).end ((step limit s).state.scalar ≡ s.scalar)
+FaultsWriteNoRegister = (limit : ℕ) (s : HartState) (cause : Cause) (pc value : ℕ)
+    → (step limit s).end ≡ Fault cause pc value → (step limit s).state.scalar ≡ s.scalar
 
 -- No instruction changes what x0 reads.
 abbrev pub FirstRegisterStays : Type 0
-FirstRegisterStays =
-    (limit : ℕ) (s : HartState) → read_register (step limit s).state.scalar 0 ≡ read_register s.scalar 0
+FirstRegisterStays = (limit : ℕ) (s : HartState) → read_register (step limit s).state.scalar 0 ≡ read_register s.scalar 0
 
 -- what is put out: something is added to the output buffer, or nothing, and the buffer has room for it
 pub record PutsOut (old new : List ℕ) : Type 0 where
@@ -36,8 +27,7 @@ pub record PutsOut (old new : List ℕ) : Type 0 where
 
 -- No instruction takes back what was put out, and none puts out more than there is room for.
 abbrev pub OutputGrowsWithin : Type 0
-OutputGrowsWithin =
-    (limit : ℕ) (s : HartState) → PutsOut s.output (step limit s).state.output
+OutputGrowsWithin = (limit : ℕ) (s : HartState) → PutsOut s.output (step limit s).state.output
 
 -- Every instruction that finds a vector length that is one of the vector type leaves one that is.
 abbrev pub StepKeepsConfiguration : Type 0
@@ -46,6 +36,5 @@ StepKeepsConfiguration =
 
 -- No instruction changes what is allowed at an address, so none maps an address.
 abbrev pub StepKeepsPermissions : Type 0
-StepKeepsPermissions =
-    (access : Access) (limit : ℕ) (s : HartState) (x : ℕ)
+StepKeepsPermissions = (access : Access) (limit : ℕ) (s : HartState) (x : ℕ)
     → can_access_byte access (step limit s).state.memory x ≡ can_access_byte access s.memory x

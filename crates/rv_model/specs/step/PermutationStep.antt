@@ -1,16 +1,15 @@
 -- The vector registers after a permutation ("V" Vector Extension 1.0, chapter 16).
-use Rattle.std.specs.Prelude.{ℕ, ◌%◌, ◌^◌, Bool, true, false, List}
+use Rattle.std.specs.Prelude.{ℕ, Bool, true, false, List}
 use Rattle.rv_model.specs.declared.instructions.operations.PermuteOp.{PermuteOp}
 use Rattle.rv_model.specs.declared.instructions.operations.RegisterCount.{RegisterCount}
 use Rattle.rv_model.specs.declared.instructions.source.Source.{Source}
 use Rattle.rv_model.specs.declared.vector.types.VType.{VType}
-use Rattle.rv_model.specs.elements.Arithmetic.{body_of, fills_masked_off, fills_tail, group_element, with_first_result, with_results}
-use Rattle.rv_model.specs.vector.Configuration.{GroupType, group_type, element_count, sew_bits, sew_width}
+use Rattle.rv_model.specs.elements.Arithmetic.{body_of, fills_masked_off, fills_tail, group_element, with_results}
+use Rattle.rv_model.specs.vector.Configuration.{GroupType, group_type, element_count}
 use Rattle.rv_model.specs.vector.Groups.{whole_type}
 use Rattle.rv_model.specs.elements.Elements.{Body}
 use Rattle.rv_model.specs.elements.PermutationResults.{permute_body, permute_result, with_packed}
 use Rattle.rv_model.specs.elements.Permutations.{packed}
-use Rattle.rv_model.specs.scalar.Registers.{read_register}
 use Rattle.rv_model.specs.step.Hart.{HartState, VState}
 use Rattle.rv_model.specs.vector.Registers.{register_of}
 
@@ -29,15 +28,9 @@ compressed t vd vs1 vs2 s =
     with_packed (group_type t) vd body.end (fills_tail s.policy t body)
     (packed (register_of file vs1) (group_element (group_type t) file vs2) body.end) file
 
--- vmv.s.x: element 0 alone takes the low bits of x[rs1], whatever LMUL is, and the tail begins with element 1 (section 16.1)
-abbrev pub moved_to_vector : VType → ℕ → ℕ → HartState → List ℕ
-moved_to_vector t vd rs1 s =
-    let body = body_of true s.vector in
-    with_first_result (sew_width t.sew) vd body (fills_tail s.policy t body) (read_register s.scalar rs1 % 2 ^ sew_bits t.sew) s.vector.file
-
 -- the elements of whole registers from vstart on, whatever vl is
 abbrev pub whole_body : GroupType → VState → Body
-whole_body g v = record { unmasked = true; mask = register_of v.file 0; start = v.vstart; end = element_count g }
+whole_body g v = record (body_of true v) { end = element_count g }
 
 -- vmv1r.v and the like, which have no tail (section 16.6)
 abbrev pub whole_moved : VType → RegisterCount → ℕ → ℕ → HartState → List ℕ

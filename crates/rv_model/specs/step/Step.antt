@@ -2,6 +2,7 @@
 -- Nothing here knows of other users.
 use Rattle.std.specs.Prelude.{ℕ, ◌&&◌, not, Bool, false, Option, Some, None, if◌then◌else◌}
 use Rattle.std.specs.Int.{from_le_bytes, w32}
+use Rattle.std.specs.Option.{option_map_or}
 use Rattle.rv_model.specs.declared.vector.control_register.ControlRegister.{ControlRegister}
 use Rattle.rv_model.specs.declared.memory.Access.TheVariants.{Fetch}
 use Rattle.rv_model.specs.declared.instructions.instruction.Instr.{Instr}
@@ -26,8 +27,7 @@ unfoldable pub executed : ℕ → Option Instr → ℕ → HartState → Stepped
 executed limit None word s = faults IllegalInstruction word s
 executed limit (Some (instr.Scalar i)) word s = scalar_step i s
 executed limit (Some (instr.Csr i)) word s = csr_executed i word s
-executed limit (Some (instr.Vector i)) word s = vector_step limit (instr.Vector i) word s
-executed limit (Some (instr.Access i)) word s = vector_step limit (instr.Access i) word s
+executed limit (Some i) word s = vector_step limit i word s
 
 -- fetch, and the instruction that is there
 unfoldable pub step : ℕ → HartState → Stepped
@@ -44,8 +44,7 @@ fetched m pc = if can_access Fetch m pc 4 then scan table (word_at m pc) else No
 
 -- an access of a control register touches the vector unit, unless it is illegal
 abbrev pub touches_control : Option ControlRegister → CsrOp → ℕ → Bool
-touches_control None op source = false
-touches_control (Some register) op source = not (is_write op source && is_read_only register)
+touches_control register op source = option_map_or (λ r. not (is_write op source && is_read_only r)) register false
 
 -- whether an instruction touches the vector unit; a word that is no instruction doesn't
 abbrev pub touches : Option Instr → Bool

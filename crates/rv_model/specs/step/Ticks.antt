@@ -1,25 +1,25 @@
--- Laws of the ticks of vector instructions, whichever it is. A cut is the one end that a limit of ticks brings about.
-use Rattle.std.specs.Prelude.{ℕ, ◌≡◌, ◌≢◌, ◌≤◌}
+-- Laws of the ticks of steps. A cut is the one end that a limit of ticks brings about.
+use Rattle.std.specs.Option.{option_map_or}
+use Rattle.std.specs.Prelude.{ℕ, ◌≡◌, ◌≢◌, ◌≤◌, not, Bool, true, Option}
 use Rattle.rv_model.specs.declared.instructions.instruction.Instr.{Instr}
 use Rattle.rv_model.specs.declared.step.step_end.StepEnd.TheVariants.{Cut}
-use Rattle.rv_model.specs.step.Hart.{HartState}
-use Rattle.rv_model.specs.step.VectorStep.{vector_step}
+use Rattle.rv_model.specs.step.Hart.{HartState, Stepped}
+use Rattle.rv_model.specs.step.Step.{fetched, step}
+use Rattle.rv_model.specs.step.VectorStep.{is_vector}
 
--- a step that is cut takes all ticks that are left, and leaves the program counter and all other scalar registers
-abbrev pub CutTakesAllTicks : Type 0
-CutTakesAllTicks = (limit : ℕ) (i : Instr) (word : ℕ) (s : HartState)
-    → (vector_step limit i word s).end ≡ Cut
-    → ((vector_step limit i word s).ticks ≡ limit) × ((vector_step limit i word s).state.scalar ≡ s.scalar)
+-- A step that is made so takes a tick, and no more than are left. One that is cut takes all ticks that are left, and leaves the
+-- program counter and all other scalar registers; one that isn't is the same however many ticks are left beyond.
+pub record TakesTicks (make : ℕ → HartState → Stepped) : Type 0 where
+  pub within : (limit : ℕ) (s : HartState) → 1 ≤ limit → (1 ≤ (make limit s).ticks) × ((make limit s).ticks ≤ limit)
+  pub cut : (limit : ℕ) (s : HartState) → (make limit s).end ≡ Cut
+      → ((make limit s).ticks ≡ limit) × ((make limit s).state.scalar ≡ s.scalar)
+  pub more : (limit larger : ℕ) (s : HartState) → limit ≤ larger → (make limit s).end ≢ Cut → make larger s ≡ make limit s
 
--- a step that isn't cut is the same however many ticks are left beyond
-abbrev pub MoreTicksAreSame : Type 0
-MoreTicksAreSame = (limit larger : ℕ) (i : Instr) (word : ℕ) (s : HartState)
-    → limit ≤ larger
-    → (vector_step limit i word s).end ≢ Cut
-    → vector_step larger i word s ≡ vector_step limit i word s
+-- whether no vector instruction was fetched: a scalar one, one of a control register, a word that is no instruction, or nothing
+abbrev pub is_scalar : Option Instr → Bool
+is_scalar o = option_map_or (λ i. not (is_vector i)) o true
 
--- a step takes a tick, and no more than are left
-abbrev pub TicksAreWithin : Type 0
-TicksAreWithin = (limit : ℕ) (i : Instr) (word : ℕ) (s : HartState)
-    → 1 ≤ limit
-    → (1 ≤ (vector_step limit i word s).ticks) × ((vector_step limit i word s).ticks ≤ limit)
+-- such a step takes one tick, however many are left, and isn't cut
+abbrev pub ScalarStepsTakeOneTick : Type 0
+ScalarStepsTakeOneTick = (limit : ℕ) (s : HartState) → is_scalar (fetched s.memory s.scalar.pc) ≡ true
+    → ((step limit s).ticks ≡ 1) × ((step limit s).end ≢ Cut)

@@ -1,16 +1,11 @@
 -- One vector instruction, carried out ("V" Vector Extension 1.0).
-use Rattle.std.specs.Prelude.{ℕ, ◌-◌, ◌==◌, ◌||◌, Bool, true, false, List, Option, Some, None, if◌then◌else◌}
-use Rattle.std.specs.Int.{Width}
+use Rattle.std.specs.Prelude.{ℕ, ◌-◌, ◌%◌, ◌^◌, ◌==◌, ◌||◌, Bool, true, false, List, Option, Some, None, if◌then◌else◌}
 use Rattle.std.specs.Option.{option_map_or}
 use Rattle.rv_model.specs.declared.instructions.instruction.Instr.{Instr}
 use Rattle.rv_model.specs.declared.instructions.instruction.Instr.TheVariants as instr
 use Rattle.rv_model.specs.declared.instructions.access.AccessInstr.{AccessInstr}
 use Rattle.rv_model.specs.declared.instructions.vector.VectorInstr.{VectorInstr}
 use Rattle.rv_model.specs.declared.instructions.vector.VectorInstr.TheVariants.{SetVli, SetIvli, SetVl, Arith, Carry, Move, WholeMove, MaskLogic, Compress, MaskToScalar, Extend, MaskUnary, ElementIndex, MoveToScalar, MoveToVector}
-use Rattle.rv_model.specs.declared.instructions.operations.CarryOp.{CarryOp}
-use Rattle.rv_model.specs.declared.instructions.operations.ExtendOp.{ExtendOp}
-use Rattle.rv_model.specs.declared.instructions.operations.MaskToScalarOp.{MaskToScalarOp}
-use Rattle.rv_model.specs.declared.instructions.operations.MaskUnaryOp.{MaskUnaryOp}
 use Rattle.rv_model.specs.declared.instructions.operations.MaskUnaryOp.TheVariants.{Scan, Viota}
 use Rattle.rv_model.specs.declared.instructions.operations.VectorOp.{VectorOp}
 use Rattle.rv_model.specs.declared.instructions.operations.VectorOp.TheVariants.{Binary, CarryOut, Compare, FixedPoint, NarrowShift, Clip, Widen, WideSource, MultiplyAdd, WidenMultiplyAdd, Reduce, WidenReduce, Permute}
@@ -25,25 +20,24 @@ use Rattle.rv_model.specs.declared.vector.types.VType.{VType}
 use Rattle.rv_model.specs.accesses.AccessRuns.{AccessRun, directed_run}
 use Rattle.rv_model.specs.accesses.VectorAccess.{VectorAccess, access_of, vector_access}
 use Rattle.rv_model.specs.step.MemoryStep.{access_end, after_access, filled_type, load_fills_masked_off}
-use Rattle.rv_model.specs.step.Hart.{Cause, HartState, Scalar, Stepped, ends_after, faults}
+use Rattle.rv_model.specs.step.Hart.{Cause, HartState, Scalar, Stepped, VState, ends_after, faults}
 use Rattle.rv_model.specs.legality.Legality.{is_legal}
 use Rattle.rv_model.specs.scalar.Registers.{advanced, read_register, with_register}
 use Rattle.rv_model.specs.elements.Arithmetic.{binary_result, body_of, carry_out_result, carry_result, clip_result, clip_saturates_at, compare_result, extend_result, fills_masked_off, fills_tail, fixed_point_result, index_result, iota_result, mask_logic_result, multiply_add_result, narrow_shift_result, reduce_result, saturates_at, second_element, wide_source_result, widen_multiply_add_result, widen_reduce_result, widen_result, with_first_result, with_mask_results, with_results}
-use Rattle.rv_model.specs.vector.Configuration.{GroupType, group_type, Configuration}
+use Rattle.rv_model.specs.vector.Configuration.{GroupType, group_type, sew_bits}
 use Rattle.rv_model.specs.vector.Groups.{part_type, wide_type}
 use Rattle.rv_model.specs.elements.Elements.{some_active}
 use Rattle.rv_model.specs.elements.PermutationResults.{moved_to_scalar}
-use Rattle.rv_model.specs.step.PermutationStep.{compressed, moved_to_vector, permuted, whole_moved}
+use Rattle.rv_model.specs.step.PermutationStep.{compressed, permuted, whole_moved}
 use Rattle.rv_model.specs.elements.Masks.{first_set, mask_scan_formula, mask_to_scalar_formula}
 use Rattle.rv_model.specs.vector.Registers.{register_of}
 use Rattle.rv_model.specs.vector.TypeRules.{requested}
 
 -- whether an instruction is one of the vector extension; those of control registers are not
 abbrev pub is_vector : Instr → Bool
-is_vector (instr.Scalar i) = false
-is_vector (instr.Csr i) = false
 is_vector (instr.Vector i) = true
 is_vector (instr.Access i) = true
+is_vector _ = false
 
 -- how a vector instruction ends, and the state that it leaves, with the program counter still on it
 pub record VectorStepped : Type 0 where
@@ -53,119 +47,101 @@ pub record VectorStepped : Type 0 where
 abbrev pub vector_ends : VEnd → HartState → VectorStepped
 vector_ends end s = record { state = s; end = end }
 
+-- it is done and leaves these registers and this vector state, and the next instruction begins with the first element
+abbrev pub leaves : Scalar → VState → HartState → VectorStepped
+leaves x v s = vector_ends vector_end.Done (record s { scalar = x; vector = record v { vstart = 0 } })
+
+-- ---- the length and the type
+
 -- the length that is asked for by the registers that are named: of rs1, unless that is x0
 abbrev pub requested_length : ℕ → ℕ → Scalar → RequestedLength
-requested_length rd rs1 s =
-    if rs1 == 0 then (if rd == 0 then Keep else Maximum)
-    else Elements (read_register s rs1)
+requested_length rd rs1 s = if rs1 == 0 then (if rd == 0 then Keep else Maximum) else Elements (read_register s rs1)
 
--- the length and type become these, and a register takes the length; the next instruction begins with the first element
-abbrev pub configures : ℕ → Configuration → HartState → VectorStepped
-configures rd new s =
-    vector_ends vector_end.Done
-    (record s { scalar = with_register rd new.vl s.scalar; vector = record s.vector { conf = new; vstart = 0 } })
-
--- a vset instruction
+-- a vset instruction: the length and the type become what it asks for, and a register takes the length
 abbrev pub vset_step : ℕ → ℕ → RequestedLength → HartState → VectorStepped
-vset_step rd vtype length s = configures rd (requested s.vector.conf (record { vtype = vtype; length = length })) s
+vset_step rd vtype length s =
+    let new = requested s.vector.conf (record { vtype = vtype; length = length }) in
+    leaves (with_register rd new.vl s.scalar) (record s.vector { conf = new }) s
 
--- the vector registers and vxsat become these, and the next instruction begins with the first element
-abbrev pub writes_registers : List ℕ → Bool → HartState → VectorStepped
-writes_registers file vxsat s =
-    vector_ends vector_end.Done (record s { vector = record s.vector { file = file; vxsat = vxsat; vstart = 0 } })
+-- ---- results
 
--- an instruction whose results stand in a group of elements
-abbrev pub element_wise : VType → GroupType → ℕ → Bool → (ℕ → ℕ) → HartState → VectorStepped
+-- a scalar register takes a number
+abbrev pub writes_scalar : ℕ → ℕ → HartState → VectorStepped
+writes_scalar rd number s = leaves (with_register rd number s.scalar) s.vector s
+
+-- the vector registers become these
+abbrev pub writes_registers : List ℕ → HartState → VectorStepped
+writes_registers file s = leaves s.scalar (record s.vector { file = file }) s
+
+-- an instruction whose results, by the registers that it finds, stand in a group of elements
+abbrev pub element_wise : VType → GroupType → ℕ → Bool → (List ℕ → Scalar → ℕ → ℕ) → HartState → VectorStepped
 element_wise t g vd unmasked result s =
     let body = body_of unmasked s.vector in
-    writes_registers (with_results g vd body (fills_masked_off s.policy t body) (fills_tail s.policy t body) result s.vector.file) s.vector.vxsat s
+    let numbers = result s.vector.file s.scalar in
+    writes_registers (with_results g vd body (fills_masked_off s.policy t body) (fills_tail s.policy t body) numbers s.vector.file) s
+
+-- the same, of an instruction that sets vxsat where one of the results isn't the exact number; it never clears it
+abbrev pub saturating : VType → GroupType → ℕ → Bool → (List ℕ → Scalar → ℕ → ℕ) → (List ℕ → Scalar → ℕ → Bool) → HartState → VectorStepped
+saturating t g vd unmasked result saturates s =
+    let v = (element_wise t g vd unmasked result s).state.vector in
+    let saturated = some_active (body_of unmasked s.vector) (saturates s.vector.file s.scalar) in
+    leaves s.scalar (record v { vxsat = v.vxsat || saturated }) s
 
 -- an instruction whose results stand in a mask; whatever the policy is, no other bit of it changes
-abbrev pub mask_wise : ℕ → Bool → (ℕ → Bool) → HartState → VectorStepped
-mask_wise vd unmasked bit s = writes_registers (with_mask_results vd (body_of unmasked s.vector) bit s.vector.file) s.vector.vxsat s
+abbrev pub mask_wise : ℕ → Bool → (List ℕ → Scalar → ℕ → Bool) → HartState → VectorStepped
+mask_wise vd unmasked bit s =
+    writes_registers (with_mask_results vd (body_of unmasked s.vector) (bit s.vector.file s.scalar) s.vector.file) s
 
--- an instruction whose results stand in a group of elements, and that sets vxsat where one of them isn't the exact number; it
--- never clears it
-abbrev pub saturating : VType → GroupType → ℕ → Bool → (ℕ → ℕ) → (ℕ → Bool) → HartState → VectorStepped
-saturating t g vd unmasked result saturated s =
+-- an instruction whose one result stands in element 0 of a register, whatever LMUL is; the tail begins with element 1, and no
+-- element is masked off
+abbrev pub writes_first : VType → GroupType → ℕ → Bool → (List ℕ → Scalar → ℕ) → HartState → VectorStepped
+writes_first t g vd unmasked result s =
     let body = body_of unmasked s.vector in
-    writes_registers (with_results g vd body (fills_masked_off s.policy t body) (fills_tail s.policy t body) result s.vector.file)
-    (s.vector.vxsat || some_active body saturated) s
+    writes_registers (with_first_result g.width vd body (fills_tail s.policy t body) (result s.vector.file s.scalar) s.vector.file) s
 
--- an instruction whose one result, of the active elements, stands in element 0 of a register, whose tail begins with
--- element 1; no element is masked off
-abbrev pub reducing : VType → Width → ℕ → Bool → ℕ → HartState → VectorStepped
-reducing t width vd unmasked result s =
-    let body = body_of unmasked s.vector in
-    writes_registers (with_first_result width vd body (fills_tail s.policy t body) result s.vector.file) s.vector.vxsat s
+-- ---- each instruction
 
--- an operation with a line of its own in the manual's table, by the groups' type. Carries and borrows are written for the
--- whole body.
-abbrev pub arith_step : VType → VectorOp → Source → ℕ → ℕ → Bool → HartState → VectorStepped
-arith_step t (Binary op) source vd vs2 vm s =
-    element_wise t (group_type t) vd vm (binary_result (group_type t) op vs2 source s.vector.file s.scalar) s
-arith_step t (MultiplyAdd op) source vd vs2 vm s =
-    element_wise t (group_type t) vd vm (multiply_add_result (group_type t) op vd vs2 source s.vector.file s.scalar) s
-arith_step t (Compare op) source vd vs2 vm s =
-    mask_wise vd vm (compare_result (group_type t) op vs2 source s.vector.file s.scalar) s
-arith_step t (CarryOut op) source vd vs2 vm s =
-    mask_wise vd true (carry_out_result (group_type t) op vm vs2 source s.vector.file s.scalar) s
-arith_step t (Widen op) source vd vs2 vm s =
-    element_wise t (wide_type t) vd vm (widen_result (group_type t) (wide_type t) op vs2 source s.vector.file s.scalar) s
-arith_step t (WideSource op) source vd vs2 vm s =
-    element_wise t (wide_type t) vd vm (wide_source_result (group_type t) (wide_type t) op vs2 source s.vector.file s.scalar) s
-arith_step t (WidenMultiplyAdd op) source vd vs2 vm s =
-    element_wise t (wide_type t) vd vm
-    (widen_multiply_add_result (group_type t) (wide_type t) op vd vs2 source s.vector.file s.scalar) s
-arith_step t (NarrowShift op) source vd vs2 vm s =
-    element_wise t (group_type t) vd vm (narrow_shift_result (group_type t) (wide_type t) op vs2 source s.vector.file s.scalar) s
-arith_step t (FixedPoint op) source vd vs2 vm s =
-    saturating t (group_type t) vd vm
-    (fixed_point_result (group_type t) s.vector.vxrm op vs2 source s.vector.file s.scalar)
-    (saturates_at (group_type t) s.vector.vxrm op vs2 source s.vector.file s.scalar) s
-arith_step t (Clip op) source vd vs2 vm s =
-    saturating t (group_type t) vd vm
-    (clip_result (group_type t) (wide_type t) s.vector.vxrm op vs2 source s.vector.file s.scalar)
-    (clip_saturates_at (group_type t) (wide_type t) s.vector.vxrm op vs2 source s.vector.file s.scalar) s
-arith_step t (Reduce op) source vd vs2 vm s =
-    reducing t (group_type t).width vd vm
-    (reduce_result (group_type t) op (body_of vm s.vector) vs2 source s.vector.file s.scalar) s
-arith_step t (WidenReduce op) source vd vs2 vm s =
-    reducing t (wide_type t).width vd vm
-    (widen_reduce_result (group_type t) (wide_type t) op (body_of vm s.vector) vs2 source s.vector.file s.scalar) s
-arith_step t (Permute op) source vd vs2 vm s = writes_registers (permuted t op source vd vs2 vm s) s.vector.vxsat s
+-- an operation with a line of its own in the manual's table: g is the type of the groups, w that of groups of twice the width.
+-- Carries and borrows are written for the whole body. A reduction's result is of the active elements.
+abbrev pub arith_step : VType → GroupType → GroupType → VectorOp → Source → ℕ → ℕ → Bool → HartState → VectorStepped
+arith_step t g w (Binary op) source vd vs2 vm s = element_wise t g vd vm (binary_result g op vs2 source) s
+arith_step t g w (MultiplyAdd op) source vd vs2 vm s = element_wise t g vd vm (multiply_add_result g op vd vs2 source) s
+arith_step t g w (Compare op) source vd vs2 vm s = mask_wise vd vm (compare_result g op vs2 source) s
+arith_step t g w (CarryOut op) source vd vs2 vm s = mask_wise vd true (carry_out_result g op vm vs2 source) s
+arith_step t g w (Widen op) source vd vs2 vm s = element_wise t w vd vm (widen_result g w op vs2 source) s
+arith_step t g w (WideSource op) source vd vs2 vm s = element_wise t w vd vm (wide_source_result g w op vs2 source) s
+arith_step t g w (WidenMultiplyAdd op) source vd vs2 vm s = element_wise t w vd vm (widen_multiply_add_result g w op vd vs2 source) s
+arith_step t g w (NarrowShift op) source vd vs2 vm s = element_wise t g vd vm (narrow_shift_result g w op vs2 source) s
+arith_step t g w (FixedPoint op) source vd vs2 vm s =
+    saturating t g vd vm (fixed_point_result g s.vector.vxrm op vs2 source) (saturates_at g s.vector.vxrm op vs2 source) s
+arith_step t g w (Clip op) source vd vs2 vm s =
+    saturating t g vd vm (clip_result g w s.vector.vxrm op vs2 source) (clip_saturates_at g w s.vector.vxrm op vs2 source) s
+arith_step t g w (Reduce op) source vd vs2 vm s = writes_first t g vd vm (reduce_result g op (body_of vm s.vector) vs2 source) s
+arith_step t g w (WidenReduce op) source vd vs2 vm s =
+    writes_first t w vd vm (widen_reduce_result g w op (body_of vm s.vector) vs2 source) s
+arith_step t g w (Permute op) source vd vs2 vm s = writes_registers (permuted t op source vd vs2 vm s) s
 
--- an operation with v0 as an operand, of the whole body
-abbrev pub carry_step : VType → CarryOp → Source → ℕ → ℕ → HartState → VectorStepped
-carry_step t op source vd vs2 s =
-    element_wise t (group_type t) vd true (carry_result (group_type t) op vs2 source s.vector.file s.scalar) s
-
--- vzext and vsext
-abbrev pub extend_step : VType → ExtendOp → ℕ → ℕ → Bool → HartState → VectorStepped
-extend_step t op vd vs2 vm s =
-    element_wise t (group_type t) vd vm (extend_result (part_type op t) (group_type t) op vs2 s.vector.file) s
-
--- vmv.v.v and the like
-abbrev pub move_step : VType → Source → ℕ → HartState → VectorStepped
-move_step t source vd s =
-    element_wise t (group_type t) vd true (second_element (group_type t) false source s.vector.file s.scalar) s
-
--- a scalar register takes a number, and the next instruction begins with the first element
-abbrev pub writes_scalar : ℕ → ℕ → HartState → VectorStepped
-writes_scalar rd number s =
-    vector_ends vector_end.Done (record s { scalar = with_register rd number s.scalar; vector = record s.vector { vstart = 0 } })
-
--- counts and searches of a mask, to a scalar register
-abbrev pub mask_to_scalar_step : MaskToScalarOp → ℕ → ℕ → Bool → HartState → VectorStepped
-mask_to_scalar_step op rd vs2 vm s =
+-- a legal instruction that needs a vector type and neither loads nor stores. Operations with v0 as an operand are of the whole
+-- body. Excluded: the others.
+abbrev pub typed_step : VectorInstr → VType → HartState → VectorStepped
+typed_step (Arith arith vd vs2 vm) t s = arith_step t (group_type t) (wide_type t) arith.0 arith.1 vd vs2 vm s
+typed_step (Carry carry vd vs2) t s = element_wise t (group_type t) vd true (carry_result (group_type t) carry.0 vs2 carry.1) s
+typed_step (Move source vd) t s = element_wise t (group_type t) vd true (second_element (group_type t) false source) s
+typed_step (Extend op vd vs2 vm) t s =
+    element_wise t (group_type t) vd vm (λ file x. extend_result (part_type op t) (group_type t) op vs2 file) s
+typed_step (MaskLogic op vd vs1 vs2) t s = mask_wise vd true (λ file x. mask_logic_result op vs1 vs2 file) s
+typed_step (MaskToScalar op rd vs2 vm) t s =
     writes_scalar rd (mask_to_scalar_formula op (body_of vm s.vector) (register_of s.vector.file vs2)) s
-
--- operations on one mask
-abbrev pub mask_unary_step : VType → MaskUnaryOp → ℕ → ℕ → Bool → HartState → VectorStepped
-mask_unary_step t (Scan op) vd vs2 vm s =
-    mask_wise vd vm (mask_scan_formula op (first_set (body_of vm s.vector) (register_of s.vector.file vs2))) s
-mask_unary_step t Viota vd vs2 vm s =
-    element_wise t (group_type t) vd vm (iota_result (group_type t) (body_of vm s.vector) vs2 s.vector.file) s
+typed_step (MaskUnary (Scan op) vd vs2 vm) t s =
+    mask_wise vd vm (λ file x. mask_scan_formula op (first_set (body_of vm s.vector) (register_of file vs2))) s
+typed_step (MaskUnary Viota vd vs2 vm) t s =
+    element_wise t (group_type t) vd vm (λ file x. iota_result (group_type t) (body_of vm s.vector) vs2 file) s
+typed_step (ElementIndex vd vm) t s = element_wise t (group_type t) vd vm (λ file x. index_result (group_type t)) s
+typed_step (Compress vd vs1 vs2) t s = writes_registers (compressed t vd vs1 vs2 s) s
+typed_step (MoveToScalar rd vs2) t s = writes_scalar rd (moved_to_scalar t vs2 s.vector.file) s
+typed_step (MoveToVector vd rs1) t s = writes_first t (group_type t) vd true (λ file x. read_register x rs1 % 2 ^ sew_bits t.sew) s
+typed_step (WholeMove count vd vs2) t s = writes_registers (whole_moved t count vd vs2 s) s
+typed_step _ t s = vector_ends vector_end.Illegal s
 
 -- an instruction that needs a vector type. Excluded by legality: there is none.
 abbrev pub typed : Option VType → (VType → HartState → VectorStepped) → HartState → VectorStepped
@@ -177,23 +153,7 @@ unfoldable pub operation_step : VectorInstr → HartState → VectorStepped
 operation_step (SetVli rd rs1 vtype) s = vset_step rd vtype (requested_length rd rs1 s.scalar) s
 operation_step (SetIvli rd avl vtype) s = vset_step rd vtype (Elements avl) s
 operation_step (SetVl rd rs1 rs2) s = vset_step rd (read_register s.scalar rs2) (requested_length rd rs1 s.scalar) s
-operation_step (Arith arith vd vs2 vm) s = typed s.vector.conf.vtype (λ t. arith_step t arith.0 arith.1 vd vs2 vm) s
-operation_step (Carry carry vd vs2) s = typed s.vector.conf.vtype (λ t. carry_step t carry.0 carry.1 vd vs2) s
-operation_step (Move source vd) s = typed s.vector.conf.vtype (λ t. move_step t source vd) s
-operation_step (Extend op vd vs2 vm) s = typed s.vector.conf.vtype (λ t. extend_step t op vd vs2 vm) s
-operation_step (MaskLogic op vd vs1 vs2) s =
-    typed s.vector.conf.vtype (λ t. mask_wise vd true (mask_logic_result op vs1 vs2 s.vector.file)) s
-operation_step (MaskToScalar op rd vs2 vm) s = typed s.vector.conf.vtype (λ t. mask_to_scalar_step op rd vs2 vm) s
-operation_step (MaskUnary op vd vs2 vm) s = typed s.vector.conf.vtype (λ t. mask_unary_step t op vd vs2 vm) s
-operation_step (ElementIndex vd vm) s =
-    typed s.vector.conf.vtype (λ t. element_wise t (group_type t) vd vm (index_result (group_type t))) s
-operation_step (Compress vd vs1 vs2) s =
-    typed s.vector.conf.vtype (λ t. writes_registers (compressed t vd vs1 vs2 s) s.vector.vxsat) s
-operation_step (MoveToScalar rd vs2) s = typed s.vector.conf.vtype (λ t. writes_scalar rd (moved_to_scalar t vs2 s.vector.file)) s
-operation_step (MoveToVector vd rs1) s =
-    typed s.vector.conf.vtype (λ t. writes_registers (moved_to_vector t vd rs1 s) s.vector.vxsat) s
-operation_step (WholeMove count vd vs2) s =
-    typed s.vector.conf.vtype (λ t. writes_registers (whole_moved t count vd vs2 s) s.vector.vxsat) s
+operation_step i s = typed s.vector.conf.vtype (typed_step i) s
 
 -- the run of a load or store of at most `limit` indices
 abbrev pub accessed : ℕ → VectorAccess → HartState → AccessRun
@@ -219,8 +179,7 @@ vector_executed limit i s =
 
 -- why an access is refused
 abbrev pub access_cause : Bool → Cause
-access_cause true = StoreAccess
-access_cause false = LoadAccess
+access_cause store = if store then StoreAccess else LoadAccess
 
 -- the ticks that a vector instruction takes: one; or, if it is a load or store, one for each index that it comes to
 abbrev pub vector_ticks : ℕ → Instr → HartState → ℕ
@@ -242,6 +201,4 @@ vector_step limit i word s =
 -- whether a vector instruction changes the vector state: unless it is illegal, also where it then faults or is cut
 abbrev pub is_legal_end : VEnd → Bool
 is_legal_end vector_end.Illegal = false
-is_legal_end vector_end.Done = true
-is_legal_end (vector_end.Fault store addr) = true
-is_legal_end (vector_end.Cut index) = true
+is_legal_end _ = true

@@ -1,6 +1,6 @@
 -- Element widths, groups, the vector length and the vector type for VLEN 256 and ELEN 64 ("V" Vector Extension 1.0, sections 3.4, 3.5
 -- and 7.3).
-use Rattle.std.specs.Prelude.{ℕ, ◌*◌, ◌/◌, ◌≡◌, ◌≤◌, Option, Some, None}
+use Rattle.std.specs.Prelude.{ℕ, ◌*◌, ◌/◌, ◌≡◌, ◌≤◌, Option, None, MatchOption}
 use Rattle.std.specs.Int.{Width, w8, w16, w32, w64}
 use mir.Val.{bits}
 use Rattle.rv_model.specs.instructions.Types.{Eew}
@@ -60,7 +60,7 @@ element_count g = g.emul * VLEN / (8 * bits g.width)
 abbrev pub vlmax : VType → ℕ
 vlmax t = element_count (group_type t)
 
--- SEW is at most LMUL x ELEN; `is_supported` of `TypeRules` is the same as a test
+-- SEW is at most LMUL x ELEN
 abbrev pub IsSupported : VType → Type 0
 IsSupported t = sew_bits t.sew ≤ lmul_eighths t.lmul * 8
 
@@ -69,13 +69,9 @@ pub record Configuration : Type 0 where
   pub vl : ℕ
   pub vtype : Option VType
 
--- the length is at most VLMAX, and 0 where vill is set
-abbrev pub IsLength : Option VType → ℕ → Type 0
-IsLength None vl = vl ≡ 0
-IsLength (Some t) vl = IsSupported t × (vl ≤ vlmax t)
-
+-- where vill is set the length is 0; else the type is supported, and the length at most VLMAX
 abbrev pub IsConfiguration : Configuration → Type 0
-IsConfiguration c = IsLength c.vtype c.vl
+IsConfiguration c = MatchOption c.vtype (c.vl ≡ 0) (λ t. IsSupported t × (c.vl ≤ vlmax t))
 
 -- before any vector instruction: vill, and no elements
 abbrev pub initial_configuration : Configuration

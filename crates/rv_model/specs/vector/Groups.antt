@@ -4,7 +4,7 @@ use Rattle.std.specs.Prelude.{ℕ, ◌*◌, ◌/◌}
 use Rattle.std.specs.Int.{Width, w8, w16, w32, w64, w128}
 use mir.Val.{bits}
 use Rattle.rv_model.specs.instructions.Types.{ExtendOp, RegisterCount, Eew}
-use Rattle.rv_model.specs.declared.instructions.operations.ExtendOp.TheVariants.{VzextVf8, VsextVf8, VzextVf4, VsextVf4, VzextVf2, VsextVf2}
+use Rattle.rv_model.specs.declared.instructions.operations.ExtendOp.TheVariants.{VzextVf8, VsextVf8, VzextVf4, VsextVf4}
 use Rattle.rv_model.specs.declared.instructions.operations.RegisterCount.TheVariants.{One, Two, Four, Eight}
 use Rattle.rv_model.specs.vector.Types.{VType}
 use Rattle.rv_model.specs.vector.Configuration.{GroupType, element_width, group_type, sew_width}
@@ -20,8 +20,7 @@ abbrev pub doubled : Width → Width
 doubled w8 = w16
 doubled w16 = w32
 doubled w32 = w64
-doubled w64 = w128
-doubled w128 = w128  -- excluded
+doubled _ = w128  -- of 64; excluded of more
 
 -- groups of elements of twice SEW
 abbrev pub wide_type : VType → GroupType
@@ -29,11 +28,10 @@ wide_type t = with_width (doubled (sew_width t.sew)) (group_type t)
 
 -- half of the width
 abbrev pub halved : Width → Width
-halved w8 = w8  -- excluded
-halved w16 = w8
-halved w32 = w16
-halved w64 = w32
 halved w128 = w64
+halved w64 = w32
+halved w32 = w16
+halved _ = w8  -- of 16; excluded of less
 
 -- which part of SEW the source of an extension has: SEW divided by this
 abbrev pub extension_divisor : ExtendOp → ℕ
@@ -41,8 +39,7 @@ extension_divisor VzextVf8 = 8
 extension_divisor VsextVf8 = 8
 extension_divisor VzextVf4 = 4
 extension_divisor VsextVf4 = 4
-extension_divisor VzextVf2 = 2
-extension_divisor VsextVf2 = 2
+extension_divisor _ = 2
 
 -- the width of the source of an extension to a width
 abbrev pub part_width : ExtendOp → Width → Width
@@ -50,18 +47,13 @@ part_width VzextVf8 w = halved (halved (halved w))
 part_width VsextVf8 w = halved (halved (halved w))
 part_width VzextVf4 w = halved (halved w)
 part_width VsextVf4 w = halved (halved w)
-part_width VzextVf2 w = halved w
-part_width VsextVf2 w = halved w
+part_width _ w = halved w
 
 -- groups of elements of that part of SEW
 abbrev pub part_type : ExtendOp → VType → GroupType
 part_type op t = with_width (part_width op (sew_width t.sew)) (group_type t)
 
 -- ---- widths of their own
-
--- groups of indices of 16 bits, for groups of a type
-abbrev pub index_type : GroupType → GroupType
-index_type g = with_width w16 g
 
 -- groups of elements of the width that a load or store names
 abbrev pub access_type : VType → Eew → GroupType

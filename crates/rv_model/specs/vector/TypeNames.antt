@@ -1,5 +1,5 @@
 -- The names of the parts of vtype in assembler text ("V" Vector Extension 1.0, section 6.1).
-use Rattle.std.specs.Prelude.{ℕ, Bool, true, false, List, [], ◌∷◌, Option, find, codes}
+use Rattle.std.specs.Prelude.{ℕ, Bool, true, false, List, [], ◌∷◌, Option, find, codes, if◌then◌else◌}
 use Rattle.std.specs.Str.{bytes_eq}
 use Rattle.rv_model.specs.vector.Types.{Sew, E8, E16, E32, E64, Lmul, Mf8, Mf4, Mf2, M1, M2, M4, M8}
 
@@ -22,13 +22,11 @@ lmul_name M8 = codes "m8"
 
 -- the tail: agnostic or undisturbed
 abbrev pub tail_name : Bool → List ℕ
-tail_name true = codes "ta"
-tail_name false = codes "tu"
+tail_name agnostic = if agnostic then codes "ta" else codes "tu"
 
 -- masked-off elements: agnostic or undisturbed
 abbrev pub mask_name : Bool → List ℕ
-mask_name true = codes "ma"
-mask_name false = codes "mu"
+mask_name agnostic = if agnostic then codes "ma" else codes "mu"
 
 -- every width, multiplier and policy
 abbrev pub sews : List Sew
@@ -40,15 +38,6 @@ lmuls = Mf8 ∷ Mf4 ∷ Mf2 ∷ M1 ∷ M2 ∷ M4 ∷ M8 ∷ []
 abbrev pub policies : List Bool
 policies = true ∷ false ∷ []
 
--- what a name names
-abbrev pub sew_named : List ℕ → Option Sew
-sew_named name = find (λ sew. bytes_eq (sew_name sew) name) sews
-
-abbrev pub lmul_named : List ℕ → Option Lmul
-lmul_named name = find (λ lmul. bytes_eq (lmul_name lmul) name) lmuls
-
-abbrev pub tail_named : List ℕ → Option Bool
-tail_named name = find (λ agnostic. bytes_eq (tail_name agnostic) name) policies
-
-abbrev pub mask_named : List ℕ → Option Bool
-mask_named name = find (λ agnostic. bytes_eq (mask_name agnostic) name) policies
+-- which of these, each with its name, a text names
+abbrev pub named : {A : Type 0} → (A → List ℕ) → List A → List ℕ → Option A
+named name_of all text = find (λ a. bytes_eq (name_of a) text) all

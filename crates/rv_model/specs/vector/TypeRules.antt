@@ -1,7 +1,9 @@
 -- The numbers of vector types, which of them are supported, and the length and type that a request leaves ("V" Vector Extension
 -- 1.0, sections 3.4, 6.1 to 6.3), with the choices that the standard leaves: element widths above LMUL x 64 are not supported,
 -- the length is the lesser of what is asked for and VLMAX, and a kept length asks for the same VLMAX.
-use Rattle.std.specs.Prelude.{ℕ, ◌+◌, ◌*◌, ◌^◌, ◌==◌, nat_lt, nat_le, min, Bool, false, Option, Some, None, if◌then◌else◌}
+use Rattle.std.specs.Prelude.{ℕ, ◌+◌, ◌*◌, ◌^◌, ◌==◌, nat_lt, nat_le, min, find, Bool, false, Option, Some, None, if◌then◌else◌}
+use Rattle.std.specs.Option.{option_map_or}
+use Rattle.rv_model.specs.vector.TypeNames.{sews, lmuls}
 use Rattle.rv_model.specs.vector.Types.{Sew, E8, E16, E32, E64, Lmul, Mf8, Mf4, Mf2, M1, M2, M4, M8, VType}
 use Rattle.rv_model.specs.declared.vector.request.RequestedLength.{RequestedLength}
 use Rattle.rv_model.specs.declared.vector.request.RequestedLength.TheVariants.{Elements, Maximum, Keep}
@@ -34,36 +36,19 @@ vtype_number (Some t) =
 
 -- the width of a vsew
 abbrev pub sew_with_number : ℕ → Option Sew
-sew_with_number n =
-    if n == 0 then Some E8
-    else if n == 1 then Some E16
-    else if n == 2 then Some E32
-    else if n == 3 then Some E64
-    else None
+sew_with_number n = find (λ sew. n == sew_number sew) sews
 
 -- the multiplier of a vlmul
 abbrev pub lmul_with_number : ℕ → Option Lmul
-lmul_with_number n =
-    if n == 0 then Some M1
-    else if n == 1 then Some M2
-    else if n == 2 then Some M4
-    else if n == 3 then Some M8
-    else if n == 5 then Some Mf8
-    else if n == 6 then Some Mf4
-    else if n == 7 then Some Mf2
-    else None
+lmul_with_number n = find (λ lmul. n == lmul_number lmul) lmuls
 
--- SEW is at most LMUL x ELEN: `IsSupported` of `Configuration` as a test
-abbrev pub is_supported : Sew → Lmul → Bool
-is_supported sew lmul = nat_le (sew_bits sew) (lmul_eighths lmul * 8)
-
--- a vector type of these parts, if it is supported
+-- a vector type of these parts, if it is supported, as `IsSupported` of `Configuration` has it
 abbrev pub supported_type : Option Sew → Option Lmul → Bool → Bool → Option VType
-supported_type None lmul tail mask = None
-supported_type (Some sew) None tail mask = None
 supported_type (Some sew) (Some lmul) tail mask =
-    if is_supported sew lmul then Some (record { sew = sew; lmul = lmul; tail_agnostic = tail; mask_agnostic = mask })
+    if nat_le (sew_bits sew) (lmul_eighths lmul * 8)
+    then Some (record { sew = sew; lmul = lmul; tail_agnostic = tail; mask_agnostic = mask })
     else None
+supported_type _ _ tail mask = None
 
 -- the vector type of a number; none if it is not supported, as where any bit from 8 up is set
 abbrev pub vector_type : ℕ → Option VType
@@ -72,22 +57,15 @@ vector_type n =
     then supported_type (sew_with_number (field 3 3 n)) (lmul_with_number (field 0 3 n)) (field 6 1 n == 1) (field 7 1 n == 1)
     else None
 
--- whether there can be just as many elements of the old type, if there is one, as of the new one
-abbrev pub same_vlmax : Option VType → VType → Bool
-same_vlmax None new = false
-same_vlmax (Some old) new = vlmax old == vlmax new
-
--- the length and type that a supported type leaves
+-- the length and type that a supported type leaves; a length is kept where there can be just as many elements of the old type, if
+-- there is one, as of the new one
 abbrev pub with_length : Configuration → VType → RequestedLength → Configuration
 with_length old t (Elements n) = record { vl = min n (vlmax t); vtype = Some t }
 with_length old t Maximum = record { vl = vlmax t; vtype = Some t }
-with_length old t Keep = if same_vlmax old.vtype t then record { vl = old.vl; vtype = Some t } else initial_configuration
+with_length old t Keep =
+    if option_map_or (λ u. vlmax u == vlmax t) old.vtype false
+    then record { vl = old.vl; vtype = Some t } else initial_configuration
 
--- the length and type that a type leaves, if it is supported; else vill alone, and no elements
-abbrev pub with_type : Configuration → Option VType → RequestedLength → Configuration
-with_type old None length = initial_configuration
-with_type old (Some t) length = with_length old t length
-
--- the length and type that a request leaves
+-- the length and type that a request leaves: of its type, if that is supported; else vill alone, and no elements
 unfoldable pub requested : Configuration → VectorRequest → Configuration
-requested old request = with_type old (vector_type request.vtype) request.length
+requested old request = option_map_or (λ t. with_length old t request.length) (vector_type request.vtype) initial_configuration

@@ -120,13 +120,15 @@ pub struct PageRange {
 }
 
 impl Model for PageRange {
-    ghost use Rattle.rv_model.specs.commands.Arguments.{Pages, IsPageRange};
+    ghost use Rattle.rv_model.specs.commands.Arguments.{Pages};
+    ghost use Rattle.rv_model.specs.memory.Sizes.{page_limit};
+    ghost use Rattle.std.specs.Prelude.{◌≤◌, ◌+◌};
 
     ghost Value = { Pages };
 
     ghost view = { λ p. record { first = p.first; count = p.count } };
 
-    ghost invariant = { λ p. IsPageRange (record { first = p.first; count = p.count }) };
+    ghost invariant = { λ p. p.first + p.count ≤ page_limit };
 
     ghost inverse = { λ v. record { first = v.first; count = v.count } };
 }

@@ -1,10 +1,11 @@
 //! Laws of the definitions, and small examples of them.
-ghost use Rattle.rv_model.specs.machine.AbsentUsers.{AbsentUsersLeaveTheUnit, HappeningsKeepNothing, NewWorldHasNothing, ScriptsKeepNothing};
+ghost use Rattle.rv_model.specs.machine.AbsentUsers.{AbsentUsersHaveNothing, AbsentUsersLeaveTheUnit, HappeningsKeepNothing, ScriptsKeepNothing};
 ghost use Rattle.rv_model.specs.machine.Cuts.{CutsAreInvisible, SliceKeepsConfiguration, SlicesAddUp};
 ghost use Rattle.rv_model.specs.machine.Laws.{EachUserAlone, EachNewUserAlone, EachUserEndsAlone, OthersChangeNothing, EqualPartsAnswerAlike, MachinesStayEight};
 ghost use Rattle.rv_model.specs.machine.Refusals.{ReasonsAreRefusals, RefusedHappeningsChangeNothing, RefusedLinesChangeNothing};
 ghost use Rattle.rv_model.specs.step.Effects.{FaultsWriteNoRegister, FirstRegisterStays, OutputGrowsWithin, StepKeepsConfiguration, StepKeepsPermissions};
 ghost use Rattle.rv_model.specs.machine.Examples.{SmallScriptsPrint};
+ghost use Rattle.rv_model.specs.machine.World.{new_world};
 ghost use Rattle.rv_model.specs.machine.Turns.{NobodyHasTwoTurns, EachRunningUserHasATurn, GrantsAreInTurn, ScriptsAreInTurn, OneTurnBetweenTurns};
 
 /// Each user's lines are those of a private machine that is given the user's own commands and
@@ -18,7 +19,7 @@ pub fn each_user_alone()
     ensures eight { MachinesStayEight }
 {}
 
-/// Small scripts print what a reader expects.
+/// A small script prints what a reader expects, and an empty one nothing.
 pub fn small_scripts_print()
     ensures { SmallScriptsPrint }
 {}
@@ -71,7 +72,7 @@ pub fn refusals_change_nothing()
 /// A user who is absent doesn't own the vector unit and has no state saved, at first and after
 /// whatever happens. So what happens to an absent user, `enter` too, leaves the unit's record.
 pub fn absent_users_have_nothing()
-    ensures new { NewWorldHasNothing }
+    ensures new { AbsentUsersHaveNothing new_world }
     ensures happenings { HappeningsKeepNothing }
     ensures scripts { ScriptsKeepNothing }
     ensures unit { AbsentUsersLeaveTheUnit }

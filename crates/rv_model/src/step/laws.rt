@@ -1,9 +1,14 @@
 //! Laws of vector loads and stores that stop before their end, and of the ticks that they take.
-ghost use Rattle.rv_model.specs.accesses.Restarts.{AccessLeavesOff, AccessResumes, LargerLimitIsSame, LastRunIsWhole, LaterIndicesStay, OverlayIsEither, OverlayOfGrown, StopsWithin};
-ghost use Rattle.rv_model.specs.step.Repeats.{LastInstructionIsWhole, LastStepIsWhole};
-ghost use Rattle.rv_model.specs.step.Resumes.{CutStepLeavesOff, CutStepResumes, FetchedStepResumes, InstructionLeavesOff, InstructionResumes, InstructionStops, StepResumes};
-ghost use Rattle.rv_model.specs.step.StepTicks.{CutStepTakesAllTicks, ScalarStepsTakeOneTick, StepTakesTicks, UncutStepIsSame};
-ghost use Rattle.rv_model.specs.step.Ticks.{CutTakesAllTicks, MoreTicksAreSame, TicksAreWithin};
+ghost use Rattle.std.specs.Prelude.{Bool, None, ℕ};
+ghost use Rattle.rv_model.specs.declared.instructions.access.AccessInstr.{AccessInstr};
+ghost use Rattle.rv_model.specs.declared.instructions.instruction.Instr.{Instr};
+ghost use Rattle.rv_model.specs.declared.scalar.Scalar.{Scalar};
+ghost use Rattle.rv_model.specs.declared.vector.state.VState.{VState};
+ghost use Rattle.rv_model.specs.accesses.Restarts.{AccessLeavesOff, AccessesGoOn, LargerLimitIsSame, LaterIndicesStay, OverlayIsEither, OverlayOfGrown, access_from};
+ghost use Rattle.rv_model.specs.step.Resumes.{InstructionsGoOn, StepsGoOn};
+ghost use Rattle.rv_model.specs.step.Step.{fetched, step};
+ghost use Rattle.rv_model.specs.step.Ticks.{ScalarStepsTakeOneTick, TakesTicks};
+ghost use Rattle.rv_model.specs.step.VectorStep.{vector_step};
 
 /// A legal vector load or store that is cut or faults, and is run again, any number of times, while
 /// pages may be mapped and filled in between, does what the whole one would with these pages there
@@ -12,10 +17,8 @@ ghost use Rattle.rv_model.specs.step.Ticks.{CutTakesAllTicks, MoreTicksAreSame, 
 pub fn loads_and_stores_resume()
     ensures indices { LaterIndicesStay }
     ensures leaves { AccessLeavesOff }
-    ensures stops { StopsWithin }
-    ensures again { AccessResumes }
-    ensures last { LastRunIsWhole }
-    ensures limit { LargerLimitIsSame }
+    ensures again { AccessesGoOn }
+    ensures limit { (fill : Bool) (i : AccessInstr) (x : Scalar) (v : VState) → LargerLimitIsSame (access_from fill i x v) }
     ensures overlay { OverlayIsEither }
     ensures grown { OverlayOfGrown }
 {}
@@ -26,30 +29,20 @@ pub fn loads_and_stores_resume()
 /// with every step that is cut or faults, with its fetch, but for a vector store that has stored
 /// over its own word before.
 pub fn instructions_resume()
-    ensures stops { InstructionStops }
-    ensures leaves { InstructionLeavesOff }
-    ensures again { InstructionResumes }
-    ensures last { LastInstructionIsWhole }
-    ensures step { StepResumes }
-    ensures cut { CutStepResumes }
-    ensures fetched { FetchedStepResumes }
-    ensures fetched_leaves { CutStepLeavesOff }
-    ensures fetched_last { LastStepIsWhole }
+    ensures again { InstructionsGoOn }
+    ensures step { (i : Instr) (word : ℕ) → StepsGoOn (λ ticks. vector_step ticks i word) (λ m pc. None) }
+    ensures fetched { StepsGoOn step fetched }
 {}
 
 /// A vector instruction takes a tick, and no more than are left. One that is cut takes all of them,
 /// and stays where it is; one that isn't does the same with more of them.
 pub fn ticks_and_cuts()
-    ensures within { TicksAreWithin }
-    ensures cut { CutTakesAllTicks }
-    ensures more { MoreTicksAreSame }
+    ensures { (i : Instr) (word : ℕ) → TakesTicks (λ limit. vector_step limit i word) }
 {}
 
 /// The same of every step, with its fetch. One of no vector instruction takes one tick and is never
 /// cut.
 pub fn steps_take_ticks()
-    ensures within { StepTakesTicks }
-    ensures cut { CutStepTakesAllTicks }
-    ensures more { UncutStepIsSame }
+    ensures ticks { TakesTicks step }
     ensures scalar { ScalarStepsTakeOneTick }
 {}

@@ -1,7 +1,7 @@
 use Rattle.std.proofs.Common.{◌∙◌, sym, ap, length, ◌||◌, Bool, arith}
 use Rattle.std.specs.List.{list_any}
 use Rattle.rv_model.specs.images.Fields.{program_header}
-use Rattle.rv_model.specs.images.Faults.{header_has}
+use Rattle.elf_load.specs.Parts.{header_has}
 use Rattle.elf_load.proofs.HeaderLaws.{any_none, any_more, any_at, first_headers_all}
 use Rattle.elf_load.proofs.faults.any_header_has.Goals as goal
 

@@ -1,6 +1,6 @@
 use Rattle.std.proofs.Common.{◌≡◌, false, length}
 use Rattle.std.specs.List.{list_any}
-use Rattle.rv_model.specs.images.Faults.{header_has}
+use Rattle.elf_load.specs.Parts.{header_has}
 use Rattle.elf_load.specs.Headers.{first_headers}
 use Rattle.elf_load.proofs.faults.any_header_has.Given as goal
 

@@ -1,7 +1,8 @@
 use Rattle.std.proofs.Common.{◌∙◌, ap, unwrap_or, Option, ℕ}
-use Rattle.rv_model.specs.assembler.Table.{name_count, row_of_word}
+use Rattle.rv_model.specs.declared.assembler.mnemonics.TheConstants.{NAME_COUNT}
+use Rattle.rv_model.specs.assembler.Table.{row_of_word}
 use Rattle.rv_asm.proofs.table.row_of_word.Goals as goal
 
 pub returns-clause-first : goal.returns-clause-first
 unfolding row_of_word
-returns-clause-first c = c.unwrap_or.ensures ∙ ap (λ (o : Option ℕ). unwrap_or o name_count) c.row_matching.ensures.first
+returns-clause-first c = c.unwrap_or.ensures ∙ ap (λ (o : Option ℕ). unwrap_or o NAME_COUNT) c.row_matching.ensures.first

@@ -4,13 +4,14 @@ use Rattle.std.specs.Fmt.{digits}
 use Rattle.hex.specs.Hex.{encode_with}
 use Rattle.rv_model.specs.commands.Commands.{parse, named, of_absent, of_present, carried_out}
 use Rattle.rv_model.specs.commands.Entering.{entering_absent, entering}
-use Rattle.rv_model.specs.commands.Memory.{map_args, peek_args, memory_command}
-use Rattle.rv_model.specs.commands.Breakpoints.{break_args, unbreak_args, breakpoint_command, with_address, without_address, breaks_line}
-use Rattle.rv_model.specs.commands.Operator.{operator_parse, slices_args, run_args, granted_line, listed_user, list_line, stats_line}
+use Rattle.rv_model.specs.commands.Memory.{map_args, memory_command}
+use Rattle.rv_model.specs.commands.Breakpoints.{breakpoint_command, with_address, without_address, breaks_line}
+use Rattle.rv_model.specs.commands.Operator.{operator_parse, granted_line, listed_user, list_line, stats_line}
 use Rattle.rv_model.specs.commands.Printing.{refused, hex16, listed}
-use Rattle.rv_model.specs.commands.Programs.{load_args, asm_args, dis_args, program_command}
-use Rattle.rv_model.specs.commands.Registers.{set_args, setpc_args, vreg_args, vset_args, policy_args, vcsr_line, register_command}
-use Rattle.rv_model.specs.commands.Running.{step_args, running_line, stopped_line, state_line, trace_line, running_command}
+use Rattle.rv_model.specs.commands.Programs.{asm_args, program_command}
+use Rattle.rv_model.specs.commands.Reading.{one_argument, two_arguments}
+use Rattle.rv_model.specs.commands.Registers.{vcsr_line, register_command}
+use Rattle.rv_model.specs.commands.Running.{running_line, stopped_line, state_line, trace_line, running_command}
 use Rattle.rv_model.specs.machine.Grants.{next_user, granted}
 use Rattle.rv_model.specs.machine.PrivateMachine.{event, sliced}
 use Rattle.rv_model.specs.machine.Script.{common, kind_of, new_world, told, whole_from, world_after}
@@ -21,5 +22,5 @@ use Rattle.rv_model.specs.text.Words.{words, trim_start, trim_end, after_word, a
 use Rattle.rv_model.proofs.machine.laws.small_scripts_print.Goals as goal
 
 pub returns : goal.returns
-unfolding after_two_words after_word trim_start trim_end load_args asm_args dis_args whole_from told world_after kind_of common new_world event parse words named map_args peek_args set_args setpc_args step_args vreg_args vset_args digits_after of_absent of_present entering_absent entering memory_command register_command program_command running_command carried_out initial_scalar initial_vector refused hex16 encode_with digits state_line trace_line vcsr_line break_args unbreak_args breakpoint_command with_address without_address breaks_line listed running_line stopped_line operator_parse slices_args run_args next_user granted granted_line listed_user list_line stats_line policy_args sliced unit_after_event unit_after_tries tried_steps
-returns c = λ setup. refl
+unfolding one_argument two_arguments after_two_words after_word trim_start trim_end asm_args whole_from told world_after kind_of common new_world event parse words named map_args digits_after of_absent of_present entering_absent entering memory_command register_command program_command running_command carried_out initial_scalar initial_vector refused hex16 encode_with digits state_line trace_line vcsr_line breakpoint_command with_address without_address breaks_line listed running_line stopped_line operator_parse next_user granted granted_line listed_user list_line stats_line sliced unit_after_event unit_after_tries tried_steps
+returns c = λ setup. (refl, refl)

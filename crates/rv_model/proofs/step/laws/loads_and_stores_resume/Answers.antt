@@ -1,6 +1,6 @@
 -- The laws of loads and stores that stop.
+use Rattle.rv_model.proofs.access_lemmas.GoesOn as on
 use Rattle.rv_model.proofs.access_lemmas.Growth as growth
-use Rattle.rv_model.proofs.access_lemmas.InstructionsResume as resume
 use Rattle.rv_model.proofs.access_lemmas.Runs as off
 use Rattle.rv_model.proofs.access_lemmas.RunsAgain as runs
 use Rattle.rv_model.proofs.legality_lemmas.Overlaps as overlaps
@@ -12,14 +12,8 @@ returns-clause-indices c = overlaps.later_indices_stay
 pub returns-clause-leaves : goal.returns-clause-leaves
 returns-clause-leaves c = off.access_leaves_off
 
-pub returns-clause-stops : goal.returns-clause-stops
-returns-clause-stops c = resume.stops_within
-
 pub returns-clause-again : goal.returns-clause-again
-returns-clause-again c = resume.access_resumes
-
-pub returns-clause-last : goal.returns-clause-last
-returns-clause-last c = runs.last_run_is_whole
+returns-clause-again c = on.accesses_go_on
 
 pub returns-clause-limit : goal.returns-clause-limit
 returns-clause-limit c = runs.larger_limit_is_same
