@@ -26,15 +26,15 @@ const OF_ANY: usize = 8000;
 /// How many texts there are of each kind.
 const TEXTS: usize = 40_000;
 
-/// Prints the lines, of words and then of texts.
-pub(crate) fn print_tallies(rt: &HostRuntime) -> io::Result<()> {
+/// Prints the lines, of words and then of texts, some of which are made of tokens.
+pub(crate) fn print_tallies(rt: &HostRuntime, tokens: &str) -> io::Result<()> {
     let mut draws = Draws::new(1);
     for opcode in OPCODES {
         print_words(rt, Some(opcode), OF_OPCODE, &mut draws)?;
     }
     print_words(rt, None, OF_ANY, &mut draws)?;
     for kind in KINDS {
-        print_texts(rt, kind, TEXTS, &mut draws)?;
+        print_texts(rt, kind, TEXTS, tokens, &mut draws)?;
     }
     Ok(())
 }

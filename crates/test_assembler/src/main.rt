@@ -8,11 +8,21 @@ mod encodings;
 mod instruction_list;
 mod spellings;
 
-use std::io;
+use std::{fs, io};
+
+/// The files that the parts read.
+const FILES: [&str; 4] = ["titles", "encodings", "spellings", "tokens"];
 
 fn main(rt: HostRuntime) -> io::Result<()> {
-    instruction_list::print_list(&rt)?;
-    encodings::print_encodings(&rt)?;
-    spellings::print_spellings(&rt)?;
-    by_chance::print_tallies(&rt)
+    for part in 0..FILES.len() {
+        let text = fs::read_to_string(&rt, FILES[part])?;
+        let lines = text.as_str();
+        match part {
+            0 => instruction_list::print_list(&rt, lines)?,
+            1 => encodings::print_encodings(&rt, lines)?,
+            2 => spellings::print_spellings(&rt, lines)?,
+            _ => by_chance::print_tallies(&rt, lines)?,
+        }
+    }
+    Ok(())
 }

@@ -1,9 +1,7 @@
 //! Texts through the assembler.
-ghost use Rattle.std.specs.Prelude.{◌≤◌, length};
-
-use crate::by_chance::digest::Digest;
+use crate::by_chance::digest::{EMPTY, digest};
 use crate::by_chance::words::{OPCODES, word};
-use arrayvec::ArrayVec;
+use crate::spellings::spells;
 use draws::Draws;
 use rv_asm::{Text, assemble, text_of};
 use std::io;
@@ -19,109 +17,57 @@ pub(crate) enum Kind {
     Bytes,
 }
 
-/// Each kind.
-pub(crate) const KINDS: [Kind; 3] = [Kind::Changed, Kind::Tokens, Kind::Bytes];
-
-/// Room for a text.
-type Line = ArrayVec<u8, 256>;
-
-/// Names that are mostly those of instructions.
-const NAMES: [&str; 24] = [
-    "addi",
-    "lui",
-    "jal",
-    "jalr",
-    "beq",
-    "sd",
-    "slliw",
-    "fence",
-    "csrrw",
-    "csrrwi",
-    "vsetvli",
-    "vsetivli",
-    "vadd.vv",
-    "vadd.vi",
-    "vnsrl.wi",
-    "vmerge.vim",
-    "vmv.v.i",
-    "vle32.v",
-    "vlseg9e8.v",
-    "vluxei16.v",
-    "vid.v",
-    ".word",
-    "li",
-    "Addi",
+/// Each kind, and what it is called.
+pub(crate) const KINDS: [(Kind, &str); 3] = [
+    (Kind::Changed, "texts of words, changed"),
+    (Kind::Tokens, "tokens in any order"),
+    (Kind::Bytes, "any bytes"),
 ];
 
-/// What stands in operands, and what doesn't.
-const OPERANDS: [&str; 40] = [
-    "x0",
-    "x5",
-    "x31",
-    "x32",
-    "x05",
-    "v0",
-    "v8",
-    "v31",
-    "v32",
-    "v0.t",
-    "v1.t",
-    ",",
-    ",",
-    ",",
-    ",",
-    ", ",
-    "(",
-    ")",
-    "(x10)",
-    "-",
-    "-1",
-    "0",
-    "7",
-    "31",
-    "32",
-    "010",
-    "2047",
-    "2048",
-    "0xFf",
-    "0x7ff",
-    "0xffffffff",
-    "4294967296",
-    "99999999999999999999999",
-    "vl",
-    "vtype",
-    "e8",
-    "e64",
-    "mf8",
-    "ta",
-    "ma",
-];
+/// How many tokens are names, mostly those of instructions: the first of the file `tokens`.
+const NAMES: usize = 24;
+
+/// How many tokens of the file, behind those, stand in operands, or don't.
+const OPERANDS: usize = 40;
 
 /// The bytes that changes mostly put in.
 const BYTES: &[u8; 24] = b"0123456789xv,()-. \tetmAf";
 
+/// How many bytes a text has at most.
+const ROOM: usize = 256;
+
 /// Adds as much of a text as there is room for.
-fn add(line: &mut Line, text: &str) {
-    for byte in text.as_bytes().iter() {
-        let _ = line.try_push(*byte);
+fn add(line: &mut Vec<u8>, text: &[u8]) {
+    for byte in text {
+        if line.len() < ROOM {
+            let _ = line.push(*byte);
+        }
     }
 }
 
-/// A byte to put in.
-fn new_byte(draws: &mut Draws) -> u8 {
-    match draws.below(16) {
-        0 => draws.byte(),
-        _ => BYTES[draws.below(24)],
+/// Adds the token of a number.
+fn add_token(line: &mut Vec<u8>, tokens: &str, number: usize) {
+    let mut place = 0usize;
+    for token in tokens.lines() {
+        if place == number {
+            add(line, token.as_bytes());
+        }
+        place = place.wrapping_add(1);
     }
 }
 
 /// Changes a byte, adds one or takes one out.
-fn change(line: &mut Line, draws: &mut Draws) {
-    let place = draws.below(line.len() + 1);
-    let byte = new_byte(draws);
+fn change(line: &mut Vec<u8>, draws: &mut Draws) {
+    let place = draws.below(line.len().min(ROOM) + 1);
+    let byte = match draws.below(16) {
+        0 => draws.byte(),
+        _ => BYTES[draws.below(24)],
+    };
     match draws.below(3) {
         0 => {
-            let _ = line.try_insert(place, byte);
+            if place <= line.len() && line.len() < ROOM {
+                let _ = line.insert(place, byte);
+            }
         }
         1 => {
             if let Some(old) = line.get_mut(place) {
@@ -129,103 +75,75 @@ fn change(line: &mut Line, draws: &mut Draws) {
             }
         }
         _ => {
-            let _ = line.pop_at(place);
+            if place < line.len() {
+                line.remove(place);
+            }
         }
     }
 }
 
 /// Puts a text of a kind in place of what the line was.
-fn make(kind: Kind, draws: &mut Draws, text: &mut Text, line: &mut Line) {
+fn make(kind: Kind, draws: &mut Draws, tokens: &str, text: &mut Text, line: &mut Vec<u8>) {
     line.clear();
     match kind {
         Kind::Changed => {
             let opcode = OPCODES[draws.below(16)];
             text_of(word(Some(opcode), draws), text);
-            add(line, text.as_str());
+            add(line, text.as_str().as_bytes());
             for _ in 0..draws.below(4) {
                 change(line, draws);
             }
         }
         Kind::Tokens => {
-            add(line, draws.choice(&NAMES));
+            add_token(line, tokens, draws.below(NAMES));
             for _ in 0..draws.below(12) {
-                add(line, draws.choice(&["", " ", " ", ", "]));
-                add(line, draws.choice(&OPERANDS));
+                add(line, draws.choice(&["", " ", " ", ", "]).as_bytes());
+                add_token(line, tokens, NAMES + draws.below(OPERANDS));
             }
         }
         Kind::Bytes => {
             for _ in 0..draws.below(80) {
-                let _ = line.try_push(draws.byte());
+                add(line, &[draws.byte()]);
             }
         }
     }
 }
 
-/// How texts end.
-#[derive(Drop)]
-struct Tally {
-    accepted: u64,
-    refused: u64,
-    answers: Digest,
-    wrong: u64,
-}
-
-impl Tally {
-    /// Counts what a text spells, or where it is refused.
-    fn count(&mut self, line: &[u8], text: &mut Text) {
-        let (is_word, number, right) = match assemble(line) {
-            Ok(word) => {
-                text_of(word, text);
-                let again = assemble(text.as_str().as_bytes()).ok();
-                (true, word, again == Some(word))
-            }
-            Err(fault) => {
-                let inside = 1 <= fault.column && fault.column <= line.len().wrapping_add(1);
-                (false, (fault.column % 0x1_0000_0000) as u32, inside)
-            }
-        };
-        self.accepted = self.accepted.wrapping_add(u64::from(is_word));
-        self.refused = self.refused.wrapping_add(u64::from(!is_word));
-        self.answers.add(&[u8::from(is_word)]);
-        self.answers.add(&number.to_le_bytes());
-        self.wrong = self.wrong.wrapping_add(u64::from(!right));
-    }
-}
-
-/// What a kind of text is called.
-fn name(kind: Kind) -> &'static str {
-    match kind {
-        Kind::Changed => "texts of words, changed",
-        Kind::Tokens => "tokens in any order",
-        Kind::Bytes => "any bytes",
-    }
-}
-
-/// Prints how so many texts of a kind end.
+/// Prints how so many texts of a kind end: how many spell a word and how many are refused, the digest of the words and of the columns
+/// where they are refused, and how many answer a column outside of the text, or a word whose text spells another.
 pub(crate) fn print_texts(
-    rt: &impl Print,
-    kind: Kind,
+    rt: &HostRuntime,
+    kind: (Kind, &str),
     count: usize,
+    tokens: &str,
     draws: &mut Draws,
 ) -> io::Result<()> {
     let mut text = Text::new();
-    let mut line = Line::new();
-    let mut tally = Tally {
-        accepted: 0,
-        refused: 0,
-        answers: Digest::new(),
-        wrong: 0,
-    };
+    let mut line = Vec::new(rt.alloc());
+    let mut accepted = 0u64;
+    let mut refused = 0u64;
+    let mut answers = EMPTY;
+    let mut wrong = 0u64;
     for _ in 0..count {
-        make(kind, draws, &mut text, &mut line);
-        tally.count(line.as_slice(), &mut text);
+        make(kind.0, draws, tokens, &mut text, &mut line);
+        let right = match assemble(line.as_slice()) {
+            Ok(word) => {
+                accepted = accepted.wrapping_add(1);
+                answers = digest(digest(answers, &[1]), &word.to_le_bytes());
+                text_of(word, &mut text);
+                spells(&text, word)
+            }
+            Err(fault) => {
+                refused = refused.wrapping_add(1);
+                let column = (fault.column % 0x1_0000_0000) as u32;
+                answers = digest(digest(answers, &[0]), &column.to_le_bytes());
+                1 <= fault.column && fault.column <= line.len().wrapping_add(1)
+            }
+        };
+        wrong = wrong.wrapping_add(u64::from(!right));
     }
     println!(rt;
-        "{}: {} accepted, {} refused, answers {:08x}, {} wrong",
-        name(kind),
-        tally.accepted,
-        tally.refused,
-        tally.answers.hash,
-        tally.wrong
+        "{}: {accepted} accepted, {refused} refused, answers {answers:08x}, {wrong} wrong",
+        kind.1
     )
 }
