@@ -1,6 +1,6 @@
-//! Images made of fields.
+//! Images made of fields. They stand in a `Vec` that is filled again and again. Where its memory is refused, an image lacks
+//! bytes, and then the numbers that are printed differ.
 use rv_model::ProgramHeader;
-use std::alloc::{AllocError, Global};
 
 /// A field of a header: where it stands, and how many bytes it has, at most eight.
 #[derive(Clone, Copy, Drop)]
@@ -11,10 +11,12 @@ pub(crate) struct Place {
 
 /// Puts a number into a field of an image, as far as the field stands in it.
 pub(crate) fn set(image: &mut [u8], place: Place, value: u64) {
-    let bytes = value.to_le_bytes();
-    let field = image.iter_mut().skip(place.at).take(place.size);
-    for (byte, told) in field.zip(bytes.iter()) {
-        *byte = *told;
+    let mut rest = value;
+    for number in 0..place.size {
+        if let Some(byte) = image.get_mut(place.at.saturating_add(number)) {
+            *byte = (rest % 256) as u8;
+        }
+        rest /= 256;
     }
 }
 
@@ -38,8 +40,14 @@ pub(crate) fn file_header(count: u16) -> [u8; 64] {
     header
 }
 
-/// The bytes of a program header.
-fn program_header(header: &ProgramHeader) -> [u8; 56] {
+/// Begins an image in place of what there was, with a file header for so many program headers.
+pub(crate) fn begin(image: &mut Vec<u8>, count: u16) {
+    image.clear();
+    let _ = image.extend_from_slice(&file_header(count));
+}
+
+/// Adds a program header.
+pub(crate) fn add_header(image: &mut Vec<u8>, header: &ProgramHeader) {
     let mut bytes = [0; 56];
     let fields = [
         (0, 4, u64::from(header.kind)),
@@ -53,21 +61,5 @@ fn program_header(header: &ProgramHeader) -> [u8; 56] {
     for (at, size, value) in fields {
         set(&mut bytes, Place { at, size }, value);
     }
-    bytes
-}
-
-/// An image with these program headers, at most 65,535 of which count, and bytes behind them.
-pub(crate) fn image_of(
-    alloc: Global,
-    headers: &[ProgramHeader],
-    bytes: &[u8],
-) -> Result<Vec<u8>, AllocError> {
-    let mut image = Vec::new(alloc);
-    let count = headers.len().min(0xffff) as u16;
-    image.extend_from_slice(&file_header(count))?;
-    for header in headers.iter() {
-        image.extend_from_slice(&program_header(header))?;
-    }
-    image.extend_from_slice(bytes)?;
-    Ok(image)
+    let _ = image.extend_from_slice(&bytes);
 }

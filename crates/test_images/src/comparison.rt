@@ -1,14 +1,19 @@
 //! One image after another, as they are checked and placed and as they are read slowly.
-use crate::layout::{byte_at, page_count, page_ranges, touching};
-use crate::reading::{Reading, Segment, entry, read_image};
+use crate::layout::{byte_at, find_touching, next_range};
+use crate::reading::{Segment, entry, read_image};
 use elf_load::{Plan, check, place};
 use rv_model::{Access, PAGE_QUOTA, PAGE_SIZE, User};
-use std::alloc::{AllocError, Global};
 use std::io;
 use user_mem::Pool;
 
-/// The names of faults, in the order in which they are tested.
-const FAULTS: [&str; 13] = [
+/// How many ways to end are counted.
+pub(crate) const ENDS: usize = 16;
+
+/// What images may end with, as it is printed: placed, over the quota, with one of the faults in the order in which they are tested,
+/// or otherwise than the slow reading says.
+const NAMES: [&str; ENDS] = [
+    "placed",
+    "over the quota",
     "Short",
     "Magic",
     "Class",
@@ -22,193 +27,128 @@ const FAULTS: [&str; 13] = [
     "Outside",
     "Address",
     "Entry",
+    "differ",
 ];
+
+/// The place of `placed` among them.
+const PLACED: usize = 0;
+
+/// The place of `over the quota` among them.
+const OVER_QUOTA: usize = 1;
+
+/// The place of `differ` among them.
+const DIFFER: usize = 15;
 
 /// The uses of a page, with the flag of each.
 const USES: [(Access, u64); 3] = [(Access::Load, 4), (Access::Store, 2), (Access::Fetch, 1)];
 
-/// How images ended that were compared.
-#[derive(Clone, Copy, Drop)]
-struct Counts {
-    placed: u64,
-    over_quota: u64,
-    faults: [u64; FAULTS.len()],
-    differ: u64,
-}
-
-impl Counts {
-    /// Nothing was compared yet.
-    fn new() -> Counts {
-        Counts {
-            placed: 0,
-            over_quota: 0,
-            faults: [0; FAULTS.len()],
-            differ: 0,
-        }
-    }
-
-    /// Counts an image that ended otherwise than it should have.
-    fn expect(&mut self, same: bool) {
-        self.differ = self.differ.wrapping_add(u64::from(!same));
-    }
-
-    /// Counts a fault by name.
-    fn count_fault(&mut self, name: &str) {
-        for (fault, count) in FAULTS.iter().zip(self.faults.iter_mut()) {
-            if *fault == name {
-                *count = (*count).wrapping_add(1);
-            }
-        }
-    }
-
-    /// Prints the faults that there were.
-    fn print_faults(&self, rt: &impl Print) -> io::Result<()> {
-        for i in 0..FAULTS.len() {
-            if self.faults[i] > 0 {
-                print!(rt; ", {} {}", self.faults[i], FAULTS[i])?;
-            }
-        }
-        Ok(())
-    }
-
-    /// Prints the line of a kind of images.
-    fn print(&self, rt: &impl Print, name: &str) -> io::Result<()> {
-        print!(rt;
-            "{name}: {} placed, {} over the quota",
-            self.placed, self.over_quota
-        )?;
-        self.print_faults(rt)?;
-        println!(rt; ", {} differ", self.differ)
-    }
-}
-
-/// A pool with one user, and how images ended that were compared.
+/// A pool in which images are placed for user 1, and what the slow reading finds in them.
 #[derive(Drop)]
 pub(crate) struct Bench {
-    alloc: Global,
-    pool: Pool,
-    user: User,
-    counts: Counts,
+    pub pool: Pool,
+    pub placed: Vec<Segment>,
+    pub touching: Vec<Segment>,
+    pub counts: [u64; ENDS],
 }
 
-/// Whether one of some segments has a flag.
-fn is_granted(segments: &[Segment], flag: u64) -> bool {
-    for segment in segments.iter() {
-        if segment.flags & flag != 0 {
-            return true;
+/// Prints the line of a kind of images: how many ended so, of those ends that there were, and always of three.
+pub(crate) fn print_counts(rt: &impl Print, name: &str, counts: &[u64; ENDS]) -> io::Result<()> {
+    print!(rt; "{name}")?;
+    let mut gap = ": ";
+    for end in 0..ENDS {
+        let count = counts[end];
+        if count > 0 || end <= OVER_QUOTA || end == DIFFER {
+            print!(rt; "{gap}{count} {}", NAMES[end])?;
+            gap = ", ";
         }
     }
-    false
+    println!(rt; "")
 }
 
 impl Bench {
-    /// A pool in which nothing is placed yet.
-    pub(crate) fn new(alloc: Global, pool: Pool, user: User) -> Bench {
-        Bench {
-            alloc,
-            pool,
-            user,
-            counts: Counts::new(),
+    /// Counts an image that ended so, and whether it should have.
+    fn count(&mut self, end: usize, same: bool) {
+        if let Some(count) = self.counts.get_mut(end) {
+            *count = count.wrapping_add(1);
         }
+        self.counts[DIFFER] = self.counts[DIFFER].wrapping_add(u64::from(!same));
     }
 
-    /// Whether the page at an address has the bytes that these segments, which touch it, give it.
-    fn has_bytes(&self, image: &[u8], touching: &[Segment], start: u64) -> bool {
+    /// Whether the page at an address has the bytes that the segments which touch it give it, and may be used for what they
+    /// allow.
+    fn is_page(&self, image: &[u8], start: u64) -> bool {
+        let user = User::at_index(0);
+        let touching = self.touching.as_slice();
         let mut bytes = [0; PAGE_SIZE as usize];
-        let read = self
+        let mut same = self
             .pool
-            .read(self.user, start, Access::Monitor, &mut bytes);
-        for (byte, place) in bytes.iter().zip(0..PAGE_SIZE) {
-            if *byte != byte_at(image, touching, start.wrapping_add(place)) {
-                return false;
-            }
+            .read(user, start, Access::Monitor, &mut bytes)
+            .is_ok();
+        for place in 0..PAGE_SIZE {
+            let byte = byte_at(image, touching, start.wrapping_add(place));
+            same = same && bytes[place as usize] == byte;
         }
-        read.is_ok()
-    }
-
-    /// Whether the page at an address may be used for what these segments, which touch it, allow.
-    fn has_permissions(&self, touching: &[Segment], start: u64) -> bool {
         for (access, flag) in USES {
-            let allowed = self
-                .pool
-                .check(self.user, start, PAGE_SIZE as usize, access);
-            if allowed.is_ok() != is_granted(touching, flag) {
-                return false;
+            let mut granted = false;
+            for segment in touching {
+                granted = granted || segment.flags & flag != 0;
             }
+            let allowed = self.pool.check(user, start, PAGE_SIZE as usize, access);
+            same = same && allowed.is_ok() == granted;
         }
-        true
+        same
     }
 
-    /// Whether the page at an address is as the image has it.
-    fn is_page(&self, image: &[u8], reading: &Reading, start: u64) -> Result<bool, AllocError> {
-        let touching = touching(self.alloc, reading, start)?;
-        let touching = touching.as_slice();
-        Ok(self.has_bytes(image, touching, start) && self.has_permissions(touching, start))
-    }
-
-    /// Whether the user has the pages of these ranges as the image has them, and no others.
-    fn is_in_place(
-        &self,
-        image: &[u8],
-        reading: &Reading,
-        ranges: &[(u64, u64)],
-    ) -> Result<bool, AllocError> {
-        for (first, end) in ranges.iter() {
-            for page in *first..*end {
-                if !self.is_page(image, reading, page.wrapping_mul(PAGE_SIZE))? {
-                    return Ok(false);
+    /// Compares the pages of a sound image. No range has fewer than one page, so one range more than the quota has pages is
+    /// too much.
+    fn compare_plan(&mut self, image: &[u8], plan: &Plan<'_>) {
+        let user = User::at_index(0);
+        let before = self.pool.pages(user);
+        let placed = place(plan, user, &mut self.pool);
+        let mut same = true;
+        let mut from = 0;
+        let mut count = 0u64;
+        for _ in 0..=PAGE_QUOTA {
+            let Some((first, end)) = next_range(self.placed.as_slice(), from) else {
+                break;
+            };
+            from = end;
+            count = count.saturating_add(end.saturating_sub(first));
+            if count <= PAGE_QUOTA as u64 {
+                for page in first..end {
+                    let start = page.wrapping_mul(PAGE_SIZE);
+                    find_touching(self.placed.as_slice(), start, &mut self.touching);
+                    same = same && self.is_page(image, start);
                 }
             }
         }
-        Ok(self.pool.pages(self.user) as u64 == page_count(ranges))
-    }
-
-    /// Compares the pages of a sound image.
-    fn compare_plan(
-        &mut self,
-        image: &[u8],
-        plan: &Plan<'_>,
-        reading: &Reading,
-    ) -> Result<(), AllocError> {
-        let ranges = page_ranges(self.alloc, reading)?;
-        let count = page_count(ranges.as_slice());
-        let before = self.pool.pages(self.user);
-        let placed = place(plan, self.user, &mut self.pool);
+        let told = plan.pages();
         if count > PAGE_QUOTA as u64 {
-            self.counts.over_quota = self.counts.over_quota.wrapping_add(1);
-            let kept = self.pool.pages(self.user) == before;
-            self.counts
-                .expect(plan.pages().is_none() && placed.is_err() && kept);
+            let kept = self.pool.pages(user) == before;
+            self.count(OVER_QUOTA, told.is_none() && placed.is_err() && kept);
         } else {
-            self.counts.placed = self.counts.placed.wrapping_add(1);
-            let told = plan.pages() == Some(count as usize) && placed == Ok(entry(image));
-            let same = self.is_in_place(image, reading, ranges.as_slice())?;
-            self.counts.expect(told && same);
+            let pages = self.pool.pages(user) as u64;
+            let same = same && told == Some(count as usize) && pages == count;
+            self.count(PLACED, same && placed == Ok(entry(image)));
         }
-        Ok(())
     }
 
     /// Compares an image.
-    pub(crate) fn compare(&mut self, image: &[u8]) -> Result<(), AllocError> {
-        let reading = read_image(self.alloc, image)?;
+    pub(crate) fn compare(&mut self, image: &[u8]) {
+        let fault = read_image(image, &mut self.placed);
         match check(image) {
-            Err(fault) => {
-                self.counts.expect(reading.fault == Some(fault.name()));
-                self.counts.count_fault(fault.name());
-                Ok(())
-            }
-            Ok(plan) if reading.fault.is_none() => self.compare_plan(image, &plan, &reading),
-            Ok(_) => {
-                self.counts.expect(false);
-                Ok(())
+            Ok(plan) if fault.is_none() => self.compare_plan(image, &plan),
+            Ok(_) => self.count(ENDS, false),
+            Err(told) => {
+                let told = told.name();
+                let mut end = ENDS;
+                for number in 0..ENDS {
+                    if NAMES[number] == told {
+                        end = number;
+                    }
+                }
+                self.count(end, fault == Some(told));
             }
         }
-    }
-
-    /// Prints how the images ended, and begins to count again.
-    pub(crate) fn print(&mut self, rt: &impl Print, name: &str) -> io::Result<()> {
-        let counts = self.counts;
-        self.counts = Counts::new();
-        counts.print(rt, name)
     }
 }

@@ -1,7 +1,24 @@
 //! Images whose header fields have extreme values.
 use crate::building::{Place, set};
 use crate::comparison::Bench;
-use std::alloc::{AllocError, Global};
+
+/// Where the table of program headers begins.
+const TABLE: Place = Place { at: 32, size: 8 };
+
+/// How many program headers there are.
+const COUNT: Place = Place { at: 56, size: 2 };
+
+/// Where the bytes of the first segment begin.
+const OFFSET: Place = Place { at: 72, size: 8 };
+
+/// The address of the first segment.
+const ADDRESS: Place = Place { at: 80, size: 8 };
+
+/// How many bytes the first segment has in the file.
+const FILE_SIZE: Place = Place { at: 96, size: 8 };
+
+/// The alignment of the first segment, which nothing is added to.
+const ALIGNMENT: Place = Place { at: 112, size: 8 };
 
 /// The fields of the file header, and of the first program header of an image that has it behind the file header.
 const FIELDS: [Place; 16] = [
@@ -11,16 +28,16 @@ const FIELDS: [Place; 16] = [
     Place { at: 16, size: 2 },
     Place { at: 18, size: 2 },
     Place { at: 24, size: 8 },
-    Place { at: 32, size: 8 },
+    TABLE,
     Place { at: 54, size: 2 },
-    Place { at: 56, size: 2 },
+    COUNT,
     Place { at: 64, size: 4 },
     Place { at: 68, size: 4 },
-    Place { at: 72, size: 8 },
-    Place { at: 80, size: 8 },
-    Place { at: 96, size: 8 },
+    OFFSET,
+    ADDRESS,
+    FILE_SIZE,
     Place { at: 104, size: 8 },
-    Place { at: 112, size: 8 },
+    ALIGNMENT,
 ];
 
 /// The least and the greatest numbers of each width, those around the end of addresses, and those around 128, the size of
@@ -72,61 +89,42 @@ const LIMITS: [u64; 11] = [
     u64::MAX,
 ];
 
-/// Compares the same image with some fields at other values.
-fn compare_with(
-    alloc: Global,
-    good: &[u8],
-    fields: &[(Place, u64)],
-    bench: &mut Bench,
-) -> Result<(), AllocError> {
-    let mut image = Vec::from_slice(alloc, good)?;
-    for (place, value) in fields.iter() {
-        set(image.as_mut_slice(), *place, *value);
-    }
-    bench.compare(image.as_slice())
+/// Pairs of fields, most of them such as are added to one another.
+const PAIRS: [(Place, Place); 6] = [
+    (TABLE, COUNT),
+    (OFFSET, FILE_SIZE),
+    (ADDRESS, ALIGNMENT),
+    (FILE_SIZE, ALIGNMENT),
+    (ADDRESS, FILE_SIZE),
+    (OFFSET, ALIGNMENT),
+];
+
+/// Compares an image of at most 256 bytes with two fields, or one, at other values.
+fn compare_with(good: &[u8], first: (Place, u64), second: (Place, u64), bench: &mut Bench) {
+    let mut image = [0; 256];
+    let size = good.len().min(256);
+    image[..size].copy_from_slice(&good[..size]);
+    set(&mut image, first.0, first.1);
+    set(&mut image, second.0, second.1);
+    bench.compare(&image[..size]);
 }
 
 /// The same image with each field at each value.
-pub(crate) fn compare_fields(
-    alloc: Global,
-    good: &[u8],
-    bench: &mut Bench,
-) -> Result<(), AllocError> {
-    for place in FIELDS {
-        for value in VALUES {
-            compare_with(alloc, good, &[(place, value)], bench)?;
+pub(crate) fn compare_fields(good: &[u8], bench: &mut Bench) {
+    for place in &FIELDS {
+        for value in &VALUES {
+            compare_with(good, (*place, *value), (*place, *value), bench);
         }
     }
-    Ok(())
 }
 
-/// The same image with two fields at each of those values.
-fn compare_two_fields(
-    alloc: Global,
-    good: &[u8],
-    first: Place,
-    second: Place,
-    bench: &mut Bench,
-) -> Result<(), AllocError> {
-    for value in LIMITS {
-        for other in LIMITS {
-            compare_with(alloc, good, &[(first, value), (second, other)], bench)?;
+/// The same image with each pair of fields at each of those values.
+pub(crate) fn compare_pairs(good: &[u8], bench: &mut Bench) {
+    for (first, second) in &PAIRS {
+        for value in &LIMITS {
+            for other in &LIMITS {
+                compare_with(good, (*first, *value), (*second, *other), bench);
+            }
         }
     }
-    Ok(())
-}
-
-/// The numbers of fields that are added to one another.
-const PAIRS: [(usize, usize); 6] = [(6, 8), (11, 13), (12, 15), (13, 15), (12, 13), (11, 15)];
-
-/// The same image with each two of the fields that are added to one another, at each of those values.
-pub(crate) fn compare_pairs(
-    alloc: Global,
-    good: &[u8],
-    bench: &mut Bench,
-) -> Result<(), AllocError> {
-    for (first, second) in PAIRS {
-        compare_two_fields(alloc, good, FIELDS[first % 16], FIELDS[second % 16], bench)?;
-    }
-    Ok(())
 }

@@ -1,6 +1,5 @@
-//! What an image says, read slowly: each rule by itself, and each number where its field stands. Numbers past the end of
+//! What an image says, read slowly: each rule by itself, and each number where its field stands. Bytes past the end of
 //! the file count as zeros.
-use std::alloc::{AllocError, Global};
 
 /// A program header, as it stands in the file.
 #[derive(Clone, Copy, Drop)]
@@ -23,14 +22,24 @@ const STACK: Segment = Segment {
     memory_size: 0x4000,
 };
 
+/// The byte at a place of an image.
+pub(crate) fn byte(image: &[u8], at: usize) -> u8 {
+    match image.get(at) {
+        Some(byte) => *byte,
+        None => 0,
+    }
+}
+
 /// The number in `size` bytes, of at most eight, from an offset on.
 fn number(image: &[u8], at: usize, size: usize) -> u64 {
-    let mut bytes = [0; 8];
-    let field = image.get(at..).unwrap_or(&[]);
-    for (byte, told) in bytes.iter_mut().zip(field.iter().take(size)) {
-        *byte = *told;
+    let mut number = 0u64;
+    let mut weight = 1u64;
+    for place in 0..size {
+        let byte = u64::from(byte(image, at.saturating_add(place)));
+        number = number.wrapping_add(byte.wrapping_mul(weight));
+        weight = weight.wrapping_mul(256);
     }
-    u64::from_le_bytes(bytes)
+    number
 }
 
 /// The entry: the address of the first instruction.
@@ -38,45 +47,24 @@ pub(crate) fn entry(image: &[u8]) -> u64 {
     number(image, 24, 8)
 }
 
-/// How many program headers there are.
-fn header_count(image: &[u8]) -> u64 {
-    number(image, 56, 2)
-}
-
 /// The program header at an offset.
 fn segment_at(image: &[u8], at: usize) -> Segment {
-    let header = image.get(at..).unwrap_or(&[]);
     Segment {
-        kind: number(header, 0, 4),
-        flags: number(header, 4, 4),
-        offset: number(header, 8, 8),
-        address: number(header, 16, 8),
-        file_size: number(header, 32, 8),
-        memory_size: number(header, 40, 8),
+        kind: number(image, at, 4),
+        flags: number(image, at.saturating_add(4), 4),
+        offset: number(image, at.saturating_add(8), 8),
+        address: number(image, at.saturating_add(16), 8),
+        file_size: number(image, at.saturating_add(32), 8),
+        memory_size: number(image, at.saturating_add(40), 8),
     }
-}
-
-/// All program headers, where their table stands in the file.
-fn headers(alloc: Global, image: &[u8]) -> Result<Vec<Segment>, AllocError> {
-    let table = number(image, 32, 8) as usize;
-    let mut found = Vec::new(alloc);
-    for index in 0..header_count(image) as usize {
-        let at = table.saturating_add(index.saturating_mul(56));
-        found.push(segment_at(image, at))?;
-    }
-    Ok(found)
-}
-
-/// The sum of two numbers, which isn't wrapped.
-fn sum(first: u64, second: u64) -> u128 {
-    u128::from(first) + u128::from(second)
 }
 
 /// The first fault of the file header and of the place of the program headers, by name.
 fn file_fault(image: &[u8]) -> Option<&'static str> {
     let size = image.len() as u128;
-    let count = header_count(image);
-    let table_end = sum(number(image, 32, 8), 56u64.wrapping_mul(count));
+    let count = number(image, 56, 2);
+    let table = 56u64.wrapping_mul(count);
+    let table_end = u128::from(number(image, 32, 8)) + u128::from(table);
     let rules = [
         (size < 64, "Short"),
         (number(image, 0, 4) != 0x464c_457f, "Magic"),
@@ -87,72 +75,51 @@ fn file_fault(image: &[u8]) -> Option<&'static str> {
         (count != 0 && number(image, 54, 2) != 56, "HeaderSize"),
         (count != 0 && table_end > size, "HeaderTable"),
     ];
-    first_broken(&rules)
-}
-
-/// The name of the first rule that is broken.
-fn first_broken(rules: &[(bool, &'static str)]) -> Option<&'static str> {
-    for (broken, name) in rules.iter() {
-        if *broken {
-            return Some(*name);
+    for (broken, name) in rules {
+        if broken {
+            return Some(name);
         }
     }
     None
 }
 
-/// Whether a segment breaks a rule, in a file of so many bytes.
-fn breaks(segment: &Segment, rule: &str, size: usize) -> bool {
-    let end_in_file = sum(segment.offset, segment.file_size);
-    let end = sum(segment.address, segment.memory_size);
-    match rule {
-        "Interp" => segment.kind == 3,
-        "FileSize" => segment.kind == 1 && segment.file_size > segment.memory_size,
-        "Outside" => segment.kind == 1 && segment.file_size > 0 && end_in_file > size as u128,
-        _ => segment.kind == 1 && end > 1 << 48,
-    }
+/// The rules of single segments, in their order, and last that of the entry.
+const LATER_RULES: [&str; 5] = ["Interp", "FileSize", "Outside", "Address", "Entry"];
+
+/// Which of the rules of single segments a segment breaks, in a file of so many bytes.
+fn broken(segment: &Segment, size: usize) -> [bool; 4] {
+    let end_in_file = u128::from(segment.offset) + u128::from(segment.file_size);
+    let end = u128::from(segment.address) + u128::from(segment.memory_size);
+    let is_loaded = segment.kind == 1;
+    [
+        segment.kind == 3,
+        is_loaded && segment.file_size > segment.memory_size,
+        is_loaded && segment.file_size > 0 && end_in_file > size as u128,
+        is_loaded && end > 1 << 48,
+    ]
 }
 
-/// The rules of single segments, in their order.
-const SEGMENT_RULES: [&str; 4] = ["Interp", "FileSize", "Outside", "Address"];
-
-/// The first rule that a segment breaks, each tested over all segments.
-fn segment_fault(segments: &[Segment], size: usize) -> Option<&'static str> {
-    for rule in SEGMENT_RULES {
-        for segment in segments.iter() {
-            if breaks(segment, rule, size) {
-                return Some(rule);
+/// Reads an image: its first fault by name, and in `placed` what is placed, in order, with the stack first. Where the memory
+/// for that is refused, segments are missing, and the image differs from what is placed.
+pub(crate) fn read_image(image: &[u8], placed: &mut Vec<Segment>) -> Option<&'static str> {
+    placed.clear();
+    if let Some(name) = file_fault(image) {
+        return Some(name);
+    }
+    let _ = placed.push(STACK);
+    let table = number(image, 32, 8) as usize;
+    let mut least = if entry(image) % 4 == 0 { 5 } else { 4 };
+    for index in 0..number(image, 56, 2) as usize {
+        let segment = segment_at(image, table.saturating_add(index.saturating_mul(56)));
+        let broken = broken(&segment, image.len());
+        for rule in 0..4 {
+            if broken[rule] && rule < least {
+                least = rule;
             }
         }
-    }
-    None
-}
-
-/// An image as it was read: its first fault by name, and what is placed, in order, with the stack first.
-#[derive(Drop)]
-pub(crate) struct Reading {
-    pub fault: Option<&'static str>,
-    pub placed: Vec<Segment>,
-}
-
-/// Reads an image.
-pub(crate) fn read_image(alloc: Global, image: &[u8]) -> Result<Reading, AllocError> {
-    let mut placed = Vec::new(alloc);
-    if let Some(name) = file_fault(image) {
-        let fault = Some(name);
-        return Ok(Reading { fault, placed });
-    }
-    let found = headers(alloc, image)?;
-    placed.push(STACK)?;
-    for segment in found.iter() {
         if segment.kind == 1 {
-            placed.push(*segment)?;
+            let _ = placed.push(segment);
         }
     }
-    let late = if entry(image) % 4 == 0 {
-        None
-    } else {
-        Some("Entry")
-    };
-    let fault = segment_fault(found.as_slice(), image.len()).or(late);
-    Ok(Reading { fault, placed })
+    LATER_RULES.get(least).copied()
 }

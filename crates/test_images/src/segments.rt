@@ -1,9 +1,8 @@
 //! Images of generated segments, which overlap, wrap, and hide one another and the stack.
-use crate::building::image_of;
+use crate::building::{add_header, begin};
 use crate::comparison::Bench;
 use draws::Draws;
 use rv_model::ProgramHeader;
-use std::alloc::{AllocError, Global};
 
 /// Where segments begin, near one another: in the program, at the stack and its end, at address 0, and at the ends of
 /// addresses and of numbers.
@@ -23,23 +22,8 @@ const BASES: [u64; 10] = [
 /// The bytes behind the program headers.
 const BYTES: usize = 6000;
 
-/// The kind of a program header: mostly a segment.
-fn kind(draws: &mut Draws) -> u32 {
-    match draws.below(40) {
-        0 => 0,
-        1 => 3,
-        2 | 3 => 0x6474_e551,
-        _ => 1,
-    }
-}
-
-/// Where a segment begins, seldom at an end of addresses or of numbers.
-fn base(draws: &mut Draws) -> u64 {
-    match draws.below(40) {
-        0 => BASES[draws.below(10)],
-        _ => BASES[draws.below(7)],
-    }
-}
+/// The kinds of program headers that are drawn seldom; mostly it is a segment.
+const RARE_KINDS: [u32; 4] = [0, 3, 0x6474_e551, 0x6474_e551];
 
 /// A size of up to three pages, often a whole one or none.
 fn size(draws: &mut Draws) -> u64 {
@@ -51,7 +35,8 @@ fn size(draws: &mut Draws) -> u64 {
     }
 }
 
-/// A program header whose bytes in the file lie mostly among those behind `headers` headers.
+/// A program header whose bytes in the file lie mostly among those behind `headers` headers. It seldom begins at an end of
+/// addresses or of numbers.
 fn header(draws: &mut Draws, headers: usize) -> ProgramHeader {
     let memory_size = size(draws);
     let file_size = match draws.below(30) {
@@ -59,39 +44,44 @@ fn header(draws: &mut Draws, headers: usize) -> ProgramHeader {
         1 => 0,
         _ => memory_size.min(draws.below(BYTES / 2) as u64),
     };
+    let behind = 64usize.wrapping_add(headers.wrapping_mul(56)) as u64;
     let offset = match draws.below(40) {
         0 => draws.double_word(),
-        _ => (64usize.wrapping_add(56usize.wrapping_mul(headers)) as u64).wrapping_add(
-            draws.below(BYTES / 2) as u64,
-        ),
+        _ => behind.wrapping_add(draws.below(BYTES / 2) as u64),
     };
+    let kind = match RARE_KINDS.get(draws.below(40)) {
+        Some(kind) => *kind,
+        None => 1,
+    };
+    let flags = draws.word();
+    let bases = if draws.below(40) == 0 { 10 } else { 7 };
+    let base = BASES[draws.below(bases)];
     ProgramHeader {
-        kind: kind(draws),
-        flags: draws.word(),
+        kind,
+        flags,
         offset,
-        address: base(draws).wrapping_add(draws.below(0x1800) as u64),
+        address: base.wrapping_add(draws.below(0x1800) as u64),
         file_size,
         memory_size,
     }
 }
 
-/// Images of one to eight segments each.
+/// So many images of one to eight segments each.
 pub(crate) fn compare_generated(
-    alloc: Global,
     count: usize,
     draws: &mut Draws,
+    image: &mut Vec<u8>,
     bench: &mut Bench,
-) -> Result<(), AllocError> {
+) {
     for _ in 0..count {
         let mut bytes = [0; BYTES];
         draws.fill(&mut bytes);
         let size = 1 + draws.below(8);
-        let mut headers = Vec::new(alloc);
+        begin(image, size as u16);
         for _ in 0..size {
-            headers.push(header(draws, size))?;
+            add_header(image, &header(draws, size));
         }
-        let image = image_of(alloc, headers.as_slice(), &bytes)?;
-        bench.compare(image.as_slice())?;
+        let _ = image.extend_from_slice(&bytes);
+        bench.compare(image.as_slice());
     }
-    Ok(())
 }
