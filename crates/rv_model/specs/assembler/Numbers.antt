@@ -5,7 +5,7 @@ use Rattle.std.specs.Option.{option_and_then, option_or}
 use Rattle.std.specs.Str.{bytes_eq}
 use Rattle.rv_model.specs.text.Digits.{digits_after}
 use Rattle.rv_model.specs.vector.ControlRegisters.{control_registers, register_name, register_number}
-use Rattle.rv_model.specs.vector.TypeNames.{named}
+use Rattle.rv_model.specs.vector.TypeNames.{with_name}
 
 -- 0, if the token is this word
 abbrev pub literal : List ℕ → List ℕ → Option ℕ
@@ -52,4 +52,4 @@ hex_digits (suc k) n = hex_digits k (n / 16) ++ hex_digit (n % 16) ∷ []
 
 -- a control register's number, by its name or in digits
 unfoldable pub csr : List ℕ → Option ℕ
-csr text = option_or (option_map register_number (named register_name control_registers text)) (at_most 4095 (number text))
+csr text = option_or (option_map register_number (with_name register_name control_registers text)) (at_most 4095 (number text))

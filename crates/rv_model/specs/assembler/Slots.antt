@@ -8,7 +8,7 @@ use Rattle.rv_model.specs.assembler.Tokens.{Token}
 use Rattle.rv_model.specs.assembler.Fields.{bit_count}
 use Rattle.rv_model.specs.assembler.Numbers.{literal, register, number, at_most, in_steps, negated, csr, hex_digits}
 use Rattle.rv_model.specs.vector.Types.{Sew, Lmul}
-use Rattle.rv_model.specs.vector.TypeNames.{lmul_name, lmuls, mask_name, named, policies, sew_name, sews, tail_name}
+use Rattle.rv_model.specs.vector.TypeNames.{lmul_name, lmuls, mask_name, with_name, policies, sew_name, sews, tail_name}
 use Rattle.rv_model.specs.vector.TypeRules.{lmul_number, lmul_with_number, sew_number, sew_with_number}
 use Rattle.rv_model.specs.vector.ControlRegisters.{control_register, register_name}
 use Rattle.rv_model.specs.instructions.BitFields.{flag_bit}
@@ -58,18 +58,18 @@ read_mask end (t ∷ ts) = if bytes_eq t.text (codes ",") then one end (literal 
 unfoldable pub vtype_names : ℕ → ℕ → List Token → Result (ℕ × List Token) ℕ
 vtype_names end width ts = do
   a ← one end (literal (codes ",")) ts
-  multiplier ← one end (λ text. option_map lmul_number (named lmul_name lmuls text)) a.1
+  multiplier ← one end (λ text. option_map lmul_number (with_name lmul_name lmuls text)) a.1
   b ← one end (literal (codes ",")) multiplier.1
-  tail ← one end (λ text. option_map flag_bit (named tail_name policies text)) b.1
+  tail ← one end (λ text. option_map flag_bit (with_name tail_name policies text)) b.1
   c ← one end (literal (codes ",")) tail.1
-  inactive ← one end (λ text. option_map flag_bit (named mask_name policies text)) c.1
+  inactive ← one end (λ text. option_map flag_bit (with_name mask_name policies text)) c.1
   Ok (multiplier.0 + width * 8 + tail.0 * 64 + inactive.0 * 128, inactive.1)
 
 -- vtype, by its names if the first token is an element width, else that token as a number below count
 abbrev pub vtype : ℕ → ℕ → List Token → Result (ℕ × List Token) ℕ
 vtype end count [] = Err end
 vtype end count (t ∷ ts) =
-    option_map_or (λ width. vtype_names end width ts) (option_map sew_number (named sew_name sews t.text))
+    option_map_or (λ width. vtype_names end width ts) (option_map sew_number (with_name sew_name sews t.text))
     (accept t.column ts (at_most (count - 1) (number t.text)))
 
 -- the value that a slot takes from the tokens, and the tokens left; or the column of the first that doesn't fit

@@ -60,7 +60,7 @@ element_count g = g.emul * VLEN / (8 * bits g.width)
 abbrev pub vlmax : VType → ℕ
 vlmax t = element_count (group_type t)
 
--- SEW is at most LMUL x ELEN
+-- SEW is at most LMUL x ELEN; `supported_type` of `TypeRules` is the same as a test
 abbrev pub IsSupported : VType → Type 0
 IsSupported t = sew_bits t.sew ≤ lmul_eighths t.lmul * 8
 

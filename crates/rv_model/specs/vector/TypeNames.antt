@@ -39,5 +39,5 @@ abbrev pub policies : List Bool
 policies = true ∷ false ∷ []
 
 -- which of these, each with its name, a text names
-abbrev pub named : {A : Type 0} → (A → List ℕ) → List A → List ℕ → Option A
-named name_of all text = find (λ a. bytes_eq (name_of a) text) all
+abbrev pub with_name : {A : Type 0} → (A → List ℕ) → List A → List ℕ → Option A
+with_name name_of all text = find (λ a. bytes_eq (name_of a) text) all

@@ -32,7 +32,7 @@ static CONTROL_REGISTERS: [ControlRegister; 7] = [
 impl ControlRegister {
     ghost use Rattle.std.specs.Prelude.{◌≡◌, ◌≤◌, ◌<◌, ◌^◌, length};
     ghost use Rattle.rv_model.specs.vector.ControlRegisters.{control_register, control_registers, is_read_only, register_name, register_number};
-    ghost use Rattle.rv_model.specs.vector.TypeNames.{named};
+    ghost use Rattle.rv_model.specs.vector.TypeNames.{with_name};
 
     /// The register's number, of 12 bits.
     pub fn number(self) -> u32
@@ -91,7 +91,7 @@ impl ControlRegister {
 
     /// The register with this name.
     pub fn with_name(name: &[u8]) -> Option<ControlRegister>
-        ensures { result ≡ named register_name control_registers name.now }
+        ensures { result ≡ with_name register_name control_registers name.now }
     {
         CONTROL_REGISTERS
             .iter()

@@ -17,7 +17,7 @@ static SEWS: [Sew; 4] = [Sew::E8, Sew::E16, Sew::E32, Sew::E64];
 impl Sew {
     ghost use Rattle.std.specs.Prelude.{◌≡◌, ◌<◌, ◌≤◌, IfSome, length};
     ghost use Rattle.rv_model.specs.vector.Configuration.{element_width, sew_bits};
-    ghost use Rattle.rv_model.specs.vector.TypeNames.{sew_name, named, sews};
+    ghost use Rattle.rv_model.specs.vector.TypeNames.{sew_name, with_name, sews};
     ghost use Rattle.rv_model.specs.vector.TypeRules.{sew_number, sew_with_number};
 
     /// The element width that a load or store names (section 7.3).
@@ -86,7 +86,7 @@ impl Sew {
 
     /// The width with this name.
     pub fn with_name(name: &[u8]) -> Option<Sew>
-        ensures { result ≡ named sew_name sews name.now }
+        ensures { result ≡ with_name sew_name sews name.now }
     {
         SEWS.iter()
             .copied()
@@ -121,7 +121,7 @@ static LMULS: [Lmul; 7] = [
 impl Lmul {
     ghost use Rattle.std.specs.Prelude.{◌≡◌, ◌<◌, ◌≤◌, IfSome, length};
     ghost use Rattle.rv_model.specs.vector.Configuration.{lmul_eighths};
-    ghost use Rattle.rv_model.specs.vector.TypeNames.{lmul_name, named, lmuls};
+    ghost use Rattle.rv_model.specs.vector.TypeNames.{lmul_name, with_name, lmuls};
     ghost use Rattle.rv_model.specs.vector.TypeRules.{lmul_number, lmul_with_number};
 
     /// The multiplier in eighths of a register, 1 to 64.
@@ -190,7 +190,7 @@ impl Lmul {
 
     /// The multiplier with this name.
     pub fn with_name(name: &[u8]) -> Option<Lmul>
-        ensures { result ≡ named lmul_name lmuls name.now }
+        ensures { result ≡ with_name lmul_name lmuls name.now }
     {
         LMULS
             .iter()
@@ -211,7 +211,7 @@ pub struct VType {
 impl VType {
     ghost use Rattle.std.specs.Prelude.{◌≡◌, ◌≤◌, ◌↔◌, IsTrue, length};
     ghost use Rattle.rv_model.specs.vector.Configuration.{vlmax, IsSupported};
-    ghost use Rattle.rv_model.specs.vector.TypeNames.{mask_name, named, policies, tail_name};
+    ghost use Rattle.rv_model.specs.vector.TypeNames.{mask_name, with_name, policies, tail_name};
 
     /// VLMAX: how many elements a group has, at most 256 (section 3.4.2).
     #[tactic(auto, using(crate::proofs::element_lemmas::Widths::vlmax_by_bytes))]
@@ -237,7 +237,7 @@ impl VType {
 
     /// Whether a policy for the tail with this name is agnostic.
     pub fn tail_with_name(name: &[u8]) -> Option<bool>
-        ensures { result ≡ named tail_name policies name.now }
+        ensures { result ≡ with_name tail_name policies name.now }
     {
         match name {
             b"ta" => Some(true),
@@ -257,7 +257,7 @@ impl VType {
 
     /// Whether a policy for masked-off elements with this name is agnostic.
     pub fn mask_with_name(name: &[u8]) -> Option<bool>
-        ensures { result ≡ named mask_name policies name.now }
+        ensures { result ≡ with_name mask_name policies name.now }
     {
         match name {
             b"ma" => Some(true),
