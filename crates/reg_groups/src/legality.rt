@@ -1,7 +1,7 @@
 //! Which vector instructions are legal.
 ghost use Rattle.std.specs.Prelude.{[], ◌∷◌, ◌≡◌, ◌↔◌, ◌+◌, ◌==◌, not, Some, None, true, false, ℕ};
 ghost use Rattle.std.specs.Option.{option_map_or};
-ghost use Rattle.rv_model.specs.legality.Legality.{IsLegal, access_operands, compress_operands, data_role, extension_operands, indexed_operands, indexed_role, is_below_64, is_legal, is_narrow_only, is_reduction, mask_result, operands, starts_at_zero, unit_role, whole_move_operands};
+ghost use Rattle.rv_model.specs.legality.Legality.{IsLegal, access_operands, compress_operands, data_role, extension_operands, indexed_role, is_below_64, is_legal, is_narrow_only, is_reduction, mask_result, operands, starts_at_zero, unit_role, whole_move_operands};
 ghost use Rattle.rv_model.specs.legality.OperandShapes.{group, mask, v0};
 ghost use Rattle.rv_model.specs.legality.RegisterOperands.{are_legal, is_group};
 ghost use Rattle.rv_model.specs.vector.Configuration.{group_type, sew_bits, sew_width};
@@ -235,24 +235,6 @@ fn is_legal_access(
     }
 }
 
-/// Whether the operands of an indexed access are legal.
-#[inline(always)]
-fn is_legal_indexed(
-    direction: Direction,
-    width: Eew,
-    nf: Field<3>,
-    vd: VReg,
-    vs2: VReg,
-    unmasked: bool,
-    vtype: VType,
-) -> bool
-    ensures { result ≡ are_legal (indexed_operands direction width nf vd vs2 unmasked vtype) }
-{
-    let data = field_groups(indexed_role(direction, nf), fields(nf), vd, vtype);
-    let indices = access_groups(Role::Read, 1, vs2, width, vtype);
-    are_legal_with_mask(&data, &indices, unmasked)
-}
-
 /// Whether a load or store may have its operands without a vector type: not if it needs one.
 #[tactic(auto, using(crate::proofs::Sources::lone_legal), unfolding(rv_model::specs::legality::Legality::operands))]
 fn has_legal_untyped_access(instr: AccessInstr) -> bool
@@ -317,7 +299,11 @@ fn has_legal_access(instr: AccessInstr, vtype: VType) -> bool
             vs2,
             vm,
             ..
-        } => { is_legal_indexed(direction, width, nf, vd, vs2, vm, vtype) }
+        } => {
+            let data = field_groups(indexed_role(direction, nf), fields(nf), vd, vtype);
+            let indices = access_groups(Role::Read, 1, vs2, width, vtype);
+            are_legal_with_mask(&data, &indices, vm)
+        }
         AccessInstr::MaskAccess { vd, .. } => { is_mask_register(vd) }
         AccessInstr::WholeLoad { .. } | AccessInstr::WholeStore { .. } => {
             has_legal_untyped_access(instr)

@@ -12,7 +12,9 @@ use crate::frames::FRAME_SIZE;
 use crate::free::{FreeFrames, all_free};
 use crate::places::NO_GUESSES;
 use crate::table::refusal;
-use crate::users::{Places, Tables, drop_pages, map_user, note_user, write_user};
+use crate::users::{
+    PageRange, Places, Tables, Target, drop_pages, map_user, note_user, write_user,
+};
 use arrayvec::ArrayVec;
 use rv_model::{Access, FRAME_COUNT, Fault, MapRefusal, Permissions, USER_COUNT, User};
 use std::alloc::{AllocError, Allocator, Global};
@@ -101,13 +103,13 @@ impl<A: Allocator> Pool<A> {
         if let Some(refusal) = refusal(self.tables[user.index()].as_slice(), page, count) {
             return Err(refusal);
         }
+        let pages = PageRange { first: page, count };
         map_user(
             &mut self.tables,
             user.index(),
             &mut self.free,
             self.frames.as_mut_slice(),
-            page,
-            count,
+            pages,
             permissions,
         );
         note_user(&mut self.places, &self.tables, user.index());
@@ -198,10 +200,8 @@ impl<A: Allocator> Pool<A> {
             &self.tables,
             &self.places,
             user.index(),
-            &self.free,
             self.frames.as_mut_slice(),
-            access,
-            addr,
+            Target { access, addr },
             bytes,
         )
     }

@@ -1,5 +1,5 @@
 //! The tables of all users over the pool's frames.
-ghost use Rattle.std.specs.Prelude.{◌≡◌, ℕ, ◌<◌, ◌≤◌, ◌+◌, ◌↔◌, [], None, true, IsOk, IfErr, OnOk, OnErr, length, slice_index_or, slice_set};
+ghost use Rattle.std.specs.Prelude.{◌≡◌, List, ℕ, ◌<◌, ◌≤◌, ◌+◌, ◌↔◌, [], None, true, IsOk, IfErr, OnOk, OnErr, length, slice_index_or, slice_set};
 ghost use Rattle.rv_model.specs.memory.Memory.{can_access, put_bytes, with_pages};
 ghost use Rattle.rv_model.specs.memory.Sizes.{page_quota, page_limit};
 ghost use Rattle.rv_model.specs.machine.Users.{user_count};
@@ -19,30 +19,43 @@ pub(crate) type Tables = [Table; USER_COUNT];
 /// The likely places of the pages of all users, user 1 first.
 pub(crate) type Places = [LikelyPlaces; USER_COUNT];
 
+/// Pages that follow one another: the number of the first, and how many they are.
+#[derive(Clone, Copy)]
+pub(crate) struct PageRange {
+    pub first: u64,
+    pub count: usize,
+}
+
 /// Maps pages of zeros for the user at a place.
 pub(crate) fn map_user(
     tables: &mut Tables,
     user: usize,
     free: &mut FreeFrames,
     frames: &mut [u8],
-    page: u64,
-    count: usize,
+    pages: PageRange,
     permissions: Permissions,
 )
     requires user { user < user_count }
     requires pool { IsPool (entries_of tables.old) free.old.items frames.old }
-    requires room { length (table_at (entries_of tables.old) user) + count ≤ page_quota }
-    requires ends { page + count ≤ page_limit }
-    requires new_pages { (k : ℕ) → k < count
-        → entry_at (table_at (entries_of tables.old) user) (page + k) ≡ None }
+    requires room { length (table_at (entries_of tables.old) user) + pages.count ≤ page_quota }
+    requires ends { pages.first + pages.count ≤ page_limit }
+    requires new_pages { (k : ℕ) → k < pages.count
+        → entry_at (table_at (entries_of tables.old) user) (pages.first + k) ≡ None }
     ensures pool { IsPool (entries_of tables.new) free.new.items frames.new }
     ensures mapped { memories_of frames.new (entries_of tables.new)
         ≡ slice_set (memories_of frames.old (entries_of tables.old)) user
         (with_pages (memory_of frames.old (table_at (entries_of tables.old) user))
-        page count permissions) }
+        pages.first pages.count permissions) }
     ensures size { length frames.new ≡ length frames.old }
 {
-    take_pages(&mut tables[user], free, frames, page, count, permissions);
+    take_pages(
+        &mut tables[user],
+        free,
+        frames,
+        pages.first,
+        pages.count,
+        permissions,
+    );
 }
 
 /// Makes the places of the pages of the user at a place the likely ones.
@@ -64,37 +77,43 @@ pub(crate) fn drop_pages(tables: &mut Tables, user: usize, free: &mut FreeFrames
     give_back(&mut tables[user], free);
 }
 
+/// The address where an access begins, and what kind of access it is.
+#[derive(Clone, Copy)]
+pub(crate) struct Target {
+    pub access: Access,
+    pub addr: u64,
+}
+
 /// Writes bytes of the user at a place.
 #[inline(always)]
 pub(crate) fn write_user(
     tables: &Tables,
     places: &Places,
     user: usize,
-    free: &FreeFrames,
     frames: &mut [u8],
-    access: Access,
-    addr: u64,
+    target: Target,
     bytes: &[u8],
 ) -> Result<(), Fault>
     requires user { user < user_count }
-    requires pool { IsPool (entries_of tables.now) free.now.items frames.old }
-    ensures allowed { IsOk result ↔ (can_access access
-        (memory_of frames.old (table_at (entries_of tables.now) user)) addr (length bytes.now)
+    requires pool { (free : List ℕ) × IsPool (entries_of tables.now) free frames.old }
+    ensures allowed { IsOk result ↔ (can_access target.access
+        (memory_of frames.old (table_at (entries_of tables.now) user)) target.addr (length bytes.now)
         ≡ true) }
-    ensures pool { IsPool (entries_of tables.now) free.now.items frames.new }
+    ensures pool { (free : List ℕ) → IsPool (entries_of tables.now) free frames.old
+        → IsPool (entries_of tables.now) free frames.new }
     ensures ok { OnOk result (memories_of frames.new (entries_of tables.now)
         ≡ slice_set (memories_of frames.old (entries_of tables.now)) user
-        (put_bytes (memory_of frames.old (table_at (entries_of tables.now) user)) addr bytes.now)) }
+        (put_bytes (memory_of frames.old (table_at (entries_of tables.now) user)) target.addr bytes.now)) }
     ensures err { OnErr result (frames.new ≡ frames.old) }
-    ensures fault { IfErr result (λ fault. fault.addr ≡ addr) }
+    ensures fault { IfErr result (λ fault. fault.addr ≡ target.addr) }
     ensures size { length frames.new ≡ length frames.old }
 {
     access::write(
         tables[user].as_slice(),
         &places[user],
         frames,
-        access,
-        addr,
+        target.access,
+        target.addr,
         bytes,
     )
 }

@@ -9,7 +9,7 @@ use Rattle.user_mem.proofs.PoolLaws.{frames_left, pool_shares_no_frame, IsPool-s
 use Rattle.user_mem.proofs.users.map_user.Goals as goal
 
 pub take_pages-requires-clause-some : goal.take_pages-requires-clause-some
-take_pages-requires-clause-some c = frames_left (map (λ t. t.items) c.args.tables.now) c.args.free.now.items c.args.frames.now c.args.user c.args.count c.requires.pool c.requires.user c.requires.room
+take_pages-requires-clause-some c = frames_left (map (λ t. t.items) c.args.tables.now) c.args.free.now.items c.args.frames.now c.args.user c.args.pages.count c.requires.pool c.requires.user c.requires.room
 
 pub take_pages-requires-clause-sorted : goal.take_pages-requires-clause-sorted
 take_pages-requires-clause-sorted c =
@@ -41,7 +41,7 @@ returns-clause-mapped c =
     let item = get_or-map (λ t. t.items) c.args.tables.now c.args.user c.index-tables-user.result [] (omega arith) in
     let users = c.requires.pool.users in
     let here = c.take_pages.ensures.mapped
-    ∙ ap (λ (t : List Entry). with_pages (memory_of c.args.frames.now t) c.args.page c.args.count c.args.permissions) (sym item) in
+    ∙ ap (λ (t : List Entry). with_pages (memory_of c.args.frames.now t) c.args.pages.first c.args.pages.count c.args.permissions) (sym item) in
     rw map-set
     (memories_of-set c.args.frames.now c.take_pages.new.frames (map (λ t. t.items) c.args.tables.now) c.args.user c.take_pages.new.table.items _ (omega (arith, users))
     (λ v within other. c.take_pages.ensures.others (table_at (map (λ t. t.items) c.args.tables.now) v)

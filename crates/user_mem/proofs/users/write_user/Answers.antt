@@ -13,27 +13,27 @@ write-requires c =
     let tables = map (λ t. t.items) c.args.tables.now in
     rw (c.as_slice.ensures.value, ← get_or-map (λ t. t.items) c.args.tables.now c.args.user c.index-tables-user.result [] (omega arith))
     (record {
-      sorted = c.requires.pool.sorted c.args.user;
-      below = c.requires.pool.below c.args.user;
-      fit = table_fits (map (λ t. t.items) c.args.tables.now) c.args.free.now.items c.args.frames.now c.args.user c.requires.pool c.requires.user;
-      separate = table_is_separate (map (λ t. t.items) c.args.tables.now) c.args.free.now.items c.args.frames.now c.args.user c.requires.pool c.requires.user;
+      sorted = c.requires.pool.1.sorted c.args.user;
+      below = c.requires.pool.1.below c.args.user;
+      fit = table_fits (map (λ t. t.items) c.args.tables.now) c.requires.pool.0 c.args.frames.now c.args.user c.requires.pool.1 c.requires.user;
+      separate = table_is_separate (map (λ t. t.items) c.args.tables.now) c.requires.pool.0 c.args.frames.now c.args.user c.requires.pool.1 c.requires.user;
     })
 
 pub returns-clause-pool : goal.returns-clause-pool
-returns-clause-pool c = IsPool-written (map (λ t. t.items) c.args.tables.now) c.args.free.now.items c.args.frames.now c.write.new.frames c.requires.pool c.write.ensures.size
+returns-clause-pool c free pool = IsPool-written (map (λ t. t.items) c.args.tables.now) free c.args.frames.now c.write.new.frames pool c.write.ensures.size
 
 pub returns-clause-ok : goal.returns-clause-ok
 returns-clause-ok c =
     let item = get_or-map (λ t. t.items) c.args.tables.now c.args.user c.index-tables-user.result [] (omega arith) in
     let table = sym (c.as_slice.ensures.value ∙ sym item) in
-    let users = c.requires.pool.users in
+    let users = c.requires.pool.1.users in
     let unset = set-get_or (map (λ t. t.items) c.args.tables.now) c.args.user [] in
     if_done c.write.result (λ done.
     let written =
     ap (λ (t : List Entry). memory_of c.write.new.frames t) table ∙ done
-    ∙ ap (λ (t : List Entry). put_bytes (memory_of c.args.frames.now t) c.args.addr c.args.bytes.now) (sym table) in
+    ∙ ap (λ (t : List Entry). put_bytes (memory_of c.args.frames.now t) c.args.target.addr c.args.bytes.now) (sym table) in
     ap (λ (ts : List (List Entry)). memories_of c.write.new.frames ts) (sym unset)
     ∙ memories_of-set c.args.frames.now c.write.new.frames (map (λ t. t.items) c.args.tables.now) c.args.user (table_at (map (λ t. t.items) c.args.tables.now) c.args.user) _ (omega (arith, users))
     (λ v within other. c.write.ensures.others (table_at (map (λ t. t.items) c.args.tables.now) v)
-    (rw (← table) (tables_are_apart (map (λ t. t.items) c.args.tables.now) c.args.free.now.items c.args.frames.now c.args.user v c.requires.pool c.requires.user (omega (arith, users)) (λ q. other (sym q)))))
+    (rw (← table) (tables_are_apart (map (λ t. t.items) c.args.tables.now) c.requires.pool.0 c.args.frames.now c.args.user v c.requires.pool.1 c.requires.user (omega (arith, users)) (λ q. other (sym q)))))
     written) c.write.ensures.ok
