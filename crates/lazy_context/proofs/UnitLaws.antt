@@ -69,10 +69,6 @@ pub taken_keeps : (user other : ℕ) (areas : Areas) (unit : Unit)
     → state_of (taken user areas unit) other ≡ saved_state areas other
 taken_keeps user other areas unit = grind arith
 
--- who takes the unit finds there what the save areas show
-pub taken_state : (user : ℕ) (areas : Areas) (unit : Unit) → (taken user areas unit).seat.state ≡ saved_state areas user
-taken_state user areas unit = grind arith
-
 touched_keeps_by : (user other : ℕ) (unit : Unit) (b : Bool) → is_owned_by unit.owner user ≡ b
     → ((n : ℕ) → 1 ≤ n → saved_state (areas_saved unit.owner unit.seat unit.areas) n ≡ state_of unit n) → 1 ≤ other
     → state_of (if b then unit else taken user (areas_saved unit.owner unit.seat unit.areas) unit) other ≡ state_of unit other
@@ -181,3 +177,12 @@ discard_settled_by user unit (Some n) e low r h = grind (arith, get_or-set_other
 pub discard_settled : (user : ℕ) (unit : Unit) → 1 ≤ user → IsOwnerAUser unit.owner → IsSettled unit
     → IsSettled (discarded user unit)
 discard_settled user unit low r h = discard_settled_by user unit unit.owner refl low r h
+
+-- ---- for the tactics
+
+pub ruleset poking_steps = (poke_own, poke_others, poke_counts, poke_settled)
+
+pub ruleset discarding_steps = (discard_own, discard_others, discard_counts, discard_settled)
+
+pub ruleset lending_steps =
+    (touched_state, touched_keeps, touch_counts, settled_again, touched_again, owner_touches, clean_touches)

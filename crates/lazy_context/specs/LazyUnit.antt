@@ -111,10 +111,6 @@ abbrev pub KeepsOtherAreas : Unit → Unit → Type 0
 KeepsOtherAreas old new = (other : ℕ) → 1 ≤ other
     → (is_owned_by old.owner other && old.seat.dirty) ≡ false → KeepsArea other old.areas new.areas
 
--- the save areas show what everyone has
-abbrev pub ShowAll : Areas → Unit → Type 0
-ShowAll areas unit = (user : ℕ) → 1 ≤ user → saved_state areas user ≡ state_of unit user
-
 -- once the seat that a user was lent has come back dirty or as it was, the unit is settled
 abbrev pub ComesBackSettled : ℕ → Unit → Type 0
 ComesBackSettled user unit =

@@ -1,5 +1,5 @@
 //! The vector unit, which holds the state of one user at a time.
-ghost use Rattle.lazy_context.specs.LazyUnit.{AllKeep, ComesBackSettled, IsLentAgain, IsOwnerAUser, IsSettled, KeepsAreas, KeepsOtherAreas, LendsSeat, OthersKeep, ShowAll, discarded, new_unit, owner_written_back, poked, record_of, state_of, taken, touched};
+ghost use Rattle.lazy_context.specs.LazyUnit.{AllKeep, ComesBackSettled, IsLentAgain, IsOwnerAUser, IsSettled, KeepsAreas, KeepsOtherAreas, LendsSeat, OthersKeep, discarded, new_unit, owner_written_back, poked, record_of, state_of, taken, touched};
 ghost use Rattle.lazy_context.specs.SaveAreas.{with_register};
 ghost use Rattle.rv_model.specs.machine.Users.{user_count};
 ghost use Rattle.rv_model.specs.machine.VectorUnit.{is_owned_by, stats_of, unit_discarded, unit_register_written, unit_touched, unused_unit};
@@ -55,10 +55,9 @@ impl Unit {
     }
 
     /// Saves the owner's state if it is dirty.
-    #[tactic(auto, using(crate::proofs::UnitLaws::saved_keep, crate::proofs::UnitLaws::other_areas))]
+    #[tactic(auto, using(crate::proofs::UnitLaws::other_areas))]
     fn write_back(&mut self)
         ensures value { self.new ≡ owner_written_back self.old }
-        ensures shown { IsSettled self.old → ShowAll self.new.areas self.old }
         ensures kept { KeepsOtherAreas self.old self.new }
     {
         if let Some(owner) = self.owner {
@@ -84,28 +83,16 @@ impl Unit {
     }
 
     /// Makes a user the owner, who may be that already.
-    #[tactic(auto, using(crate::proofs::UnitLaws::taken_keeps, crate::proofs::UnitLaws::taken_state, crate::proofs::UnitLaws::taken_areas))]
+    #[tactic(auto, using(crate::proofs::UnitLaws::taken_areas))]
     fn switch(&mut self, user: User)
         ensures value { self.new ≡ touched user self.old }
-        ensures states { IsSettled self.old → AllKeep self.old self.new }
         ensures kept { KeepsOtherAreas self.old self.new }
-        ensures own { IsSettled self.old → self.new.seat.state ≡ state_of self.old user }
     {
         if !self.is_owner(user) {
             self.write_back();
             self.take(user);
         }
     }
-
-    /// What a touch means: a law, which does nothing.
-    #[tactic(auto, using(crate::proofs::UnitLaws::settled_again, crate::proofs::UnitLaws::touch_counts, crate::proofs::UnitLaws::touched_again, crate::proofs::UnitLaws::owner_touches, crate::proofs::UnitLaws::clean_touches))]
-    fn touch_law(&self, user: User)
-        ensures counts { record_of (touched user self.now) ≡ unit_touched user (record_of self.now) }
-        ensures settled { IsSettled self.now → ComesBackSettled user self.now }
-        ensures by_owner { is_owned_by self.now.owner user ≡ true → touched user self.now ≡ self.now }
-        ensures clean { self.now.seat.dirty ≡ false → KeepsAreas self.now (touched user self.now) }
-        ensures again { IsLentAgain user self.now }
-    {}
 
     /// Makes a user the owner and lends the user's state. Whoever changes it marks it as dirty, and
     /// never clears the mark.
@@ -116,13 +103,9 @@ impl Unit {
         ensures states { AllKeep self.old (touched user self.old) }
         ensures own { result.now.state ≡ state_of self.old user }
         ensures counts { record_of (touched user self.old) ≡ unit_touched user (record_of self.old) }
-        ensures settled { ComesBackSettled user self.old }
-        ensures by_owner { is_owned_by self.old.owner user ≡ true → touched user self.old ≡ self.old }
         ensures kept { KeepsOtherAreas self.old (touched user self.old) }
-        ensures clean { self.old.seat.dirty ≡ false → KeepsAreas self.old (touched user self.old) }
-        ensures again { IsLentAgain user self.old }
     {
-        self.touch_law(user);
+        self.lending_law(user);
         self.switch(user);
         &mut self.seat
     }
@@ -141,7 +124,7 @@ impl Unit {
     }
 
     /// Writes a vector register of a user; nothing is switched or counted.
-    #[tactic(auto, using(crate::proofs::UnitLaws::poke_own, crate::proofs::UnitLaws::poke_others, crate::proofs::UnitLaws::poke_counts, crate::proofs::UnitLaws::poke_settled))]
+    #[tactic(auto, using(crate::proofs::UnitLaws::poking_steps))]
     pub fn poke(&mut self, user: User, vreg: VReg, bytes: &[u8; 32])
         ensures value { self.new ≡ poked user vreg bytes.now self.old }
         ensures own { state_of self.new user ≡ with_register vreg bytes.now (state_of self.old user) }
@@ -162,7 +145,7 @@ impl Unit {
     }
 
     /// Drops what a user has: the user's state is the initial one again.
-    #[tactic(auto, using(crate::proofs::UnitLaws::discard_own, crate::proofs::UnitLaws::discard_others, crate::proofs::UnitLaws::discard_counts, crate::proofs::UnitLaws::discard_settled))]
+    #[tactic(auto, using(crate::proofs::UnitLaws::discarding_steps))]
     pub fn discard(&mut self, user: User)
         ensures value { self.new ≡ discarded user self.old }
         ensures own { state_of self.new user ≡ initial_vector }
@@ -177,12 +160,17 @@ impl Unit {
         }
     }
 
-    /// What the unit holds for a user once the user has touched it: a law, which does nothing.
-    #[tactic(auto, using(crate::proofs::UnitLaws::touched_state, crate::proofs::UnitLaws::touched_keeps, crate::proofs::UnitLaws::touch_counts))]
+    /// What the unit is once a user has touched it: a law, which does nothing. The owner's touch changes nothing, a touch with
+    /// a clean seat writes no save area, and once the seat has come back the unit may be touched again.
+    #[tactic(auto, using(crate::proofs::UnitLaws::lending_steps))]
     pub fn lending_law(&self, user: User)
         ensures own { IsSettled self.now → (touched user self.now).seat.state ≡ state_of self.now user }
         ensures states { IsSettled self.now → AllKeep self.now (touched user self.now) }
         ensures counts { record_of (touched user self.now) ≡ unit_touched user (record_of self.now) }
+        ensures by_owner { is_owned_by self.now.owner user ≡ true → touched user self.now ≡ self.now }
+        ensures clean { self.now.seat.dirty ≡ false → KeepsAreas self.now (touched user self.now) }
+        ensures settled { IsSettled self.now → ComesBackSettled user self.now }
+        ensures again { IsLentAgain user self.now }
     {
         self.areas.whole_law();
         let _ = self.is_owner(user);

@@ -51,7 +51,8 @@ impl<R: Read> Source for ReaderSource<R> {
 
     ghost gave_none = { λ s. Consumes-nil (R.remaining s.reader) };
 
-    ghost gave_more = { λ a b c xs ys first _ then. Consumes-trans (R.remaining a.reader) (R.remaining b.reader) (R.remaining c.reader) xs ys first then };
+    ghost gave_more = { λ a b c xs ys first _ then.
+        Consumes-trans (R.remaining a.reader) (R.remaining b.reader) (R.remaining c.reader) xs ys first then };
 }
 
 /// A writer as a sink.
@@ -91,5 +92,6 @@ impl<W: Write> Sink for WriterSink<W> {
 
     ghost took_none = { λ s. Appends-nil (W.contents s.writer) };
 
-    ghost took_more = { λ a b c xs ys. Appends-trans (W.contents a.writer) (W.contents b.writer) (W.contents c.writer) xs ys };
+    ghost took_more = { λ a b c xs ys.
+        Appends-trans (W.contents a.writer) (W.contents b.writer) (W.contents c.writer) xs ys };
 }

@@ -11,3 +11,5 @@ found_later p xs i within fails = at_drop_more (find p) xs i 0 within ∙ ap (λ
 
 pub found_nowhere : (p : ℕ → Bool) (xs : List ℕ) (i : ℕ) → length xs ≤ i → find p (drop i xs) ≡ None
 found_nowhere p xs i past = at_drop_all (find p) xs i past
+
+pub ruleset found_steps = (found_here, found_later, found_nowhere)

@@ -16,7 +16,7 @@ fn turn(last: User, turns: usize) -> User
 
 /// The first user whose program runs, in the order of the users from the one after `last` on, and
 /// from user 1 on again up to `last`. `running` has a flag for each user, user 1 first.
-#[tactic(auto, using(crate::proofs::TurnLaws::found_here, crate::proofs::TurnLaws::found_later, crate::proofs::TurnLaws::found_nowhere), unfolding(rv_model::specs::machine::Grants::next_user))]
+#[tactic(auto, using(crate::proofs::TurnLaws::found_steps), unfolding(rv_model::specs::machine::Grants::next_user))]
 pub fn next(last: User, running: &[bool; USER_COUNT]) -> Option<User>
     ensures { result ≡ next_user last running.now }
 {
