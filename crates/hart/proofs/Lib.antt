@@ -1,3 +1,2 @@
 pub mod AccessTicks
 pub mod Uncut
-pub mod VectorWords

@@ -1,4 +1,6 @@
 //! The instruction cycle: fetch, decode, execute.
+#![tactic(auto, unfolding(rv_model::specs::step::Step::executed, rv_model::specs::step::Step::dirties))]
+
 ghost use Rattle.std.specs.Prelude.{◌≡◌, ◌≢◌, ◌≤◌, Ok, Err, None, bit_and, if◌then◌else◌, true, false};
 ghost use Rattle.rv_decode.specs.Opcodes.{is_scalar_opcode};
 ghost use Rattle.rv_model.specs.declared.memory.Access.TheVariants.{Fetch};
@@ -14,10 +16,10 @@ use crate::scalar_instructions::execute_scalar;
 use crate::system_instructions::execute_system;
 use crate::vector_instructions::{execute_access, execute_operation};
 use crate::vectors::Vectors;
-use crate::view::View;
+use crate::view::{StepTerms, View};
 use arrayvec::ArrayVec;
 use rv_decode::decode_scalar;
-use rv_model::{Access, Cause, Fault, GROUP_BYTES, OUTPUT_SIZE, Policy, Scalar, StepEnd};
+use rv_model::{Access, Cause, Fault, GROUP_BYTES, OUTPUT_SIZE, Scalar, StepEnd};
 use vector_memory::UserBytes;
 
 /// The word at an address.
@@ -32,10 +34,9 @@ fn fetch<M: UserBytes>(memory: &M, pc: u64) -> Result<u32, Fault>
     Ok(u32::from_le_bytes(bytes))
 }
 
-/// Carries out the instruction that a word of SYSTEM or of the vector opcodes is within `limit` ticks; any other word is illegal.
-/// It stands by itself since the place for how it ended is made zero where its function begins, which a scalar instruction
+/// Carries out the instruction that a word of SYSTEM or of the vector opcodes is; any other word is illegal. It stands
+/// by itself since the place for how it ended is made zero where its function begins, which a scalar instruction
 /// needn't wait for.
-#[tactic(auto, unfolding(rv_model::specs::step::Step::executed, rv_model::specs::step::Step::dirties))]
 #[inline(always)]
 fn hand_on<M: UserBytes, V: Vectors>(
     word: u32,
@@ -43,28 +44,26 @@ fn hand_on<M: UserBytes, V: Vectors>(
     memory: &mut M,
     vectors: &mut V,
     output: &mut ArrayVec<u8, OUTPUT_SIZE>,
-    limit: usize,
-    policy: Policy,
+    terms: StepTerms,
 ) -> (StepEnd, usize)
     requires ready { V.ready vectors.old }
     requires scalar { is_scalar_opcode (bit_and word 0x7f) ≡ true → scan table word ≡ None }
-    requires limit { 1 ≤ limit }
-    ensures model { LeadsTo (executed limit (scan table word) word)
-        (hart_state scalar.old (V.lent vectors.old).state (M.memory memory.old) policy output.old.items)
-        (hart_state scalar.new (V.lent vectors.new).state (M.memory memory.new) policy output.new.items)
+    ensures model { LeadsTo (executed terms.limit (scan table word) word)
+        (hart_state scalar.old (V.lent vectors.old).state (M.memory memory.old) terms.policy output.old.items)
+        (hart_state scalar.new (V.lent vectors.new).state (M.memory memory.new) terms.policy output.new.items)
         result.0 result.1 }
     ensures memory { memory.new ≡ M.with_memory memory.old (M.memory memory.new) }
-    ensures vectors { Returns V.ready V.lent V.back (touches (scan table word)) (dirties limit (scan table word))
-        (hart_state scalar.old (V.lent vectors.old).state (M.memory memory.old) policy) vectors.old vectors.new }
+    ensures vectors { Returns V.ready V.lent V.back (touches (scan table word)) (dirties terms.limit (scan table word))
+        (hart_state scalar.old (V.lent vectors.old).state (M.memory memory.old) terms.policy) vectors.old vectors.new }
 {
     let mut end = StepEnd::Ran;
     match word & 0x7f {
         0x07 | 0x27 => {
-            let ticks = execute_access(word, scalar, memory, vectors, limit, policy, &mut end);
+            let ticks = execute_access(word, scalar, memory, vectors, terms, &mut end);
             (end, ticks)
         }
         0x57 => {
-            let ticks = execute_operation(word, scalar, memory, vectors, limit, policy, &mut end);
+            let ticks = execute_operation(word, scalar, memory, vectors, terms, &mut end);
             (end, ticks)
         }
         0x73 => {
@@ -75,8 +74,7 @@ fn hand_on<M: UserBytes, V: Vectors>(
     }
 }
 
-/// Carries out the instruction that a word is within `limit` ticks, and answers how it ended and how many it took.
-#[tactic(auto, unfolding(rv_model::specs::step::Step::executed, rv_model::specs::step::Step::dirties), using(crate::proofs::VectorWords::scalar_found, crate::proofs::VectorWords::scalar_missed))]
+/// Carries out the instruction that a word is, and answers how it ended and how many ticks it took.
 #[inline(always)]
 fn execute<M: UserBytes, V: Vectors>(
     word: u32,
@@ -84,24 +82,22 @@ fn execute<M: UserBytes, V: Vectors>(
     memory: &mut M,
     vectors: &mut V,
     output: &mut ArrayVec<u8, OUTPUT_SIZE>,
-    limit: usize,
-    policy: Policy,
+    terms: StepTerms,
 ) -> (StepEnd, usize)
     requires ready { V.ready vectors.old }
-    requires limit { 1 ≤ limit }
-    ensures model { LeadsTo (executed limit (scan table word) word)
-        (hart_state scalar.old (V.lent vectors.old).state (M.memory memory.old) policy output.old.items)
-        (hart_state scalar.new (V.lent vectors.new).state (M.memory memory.new) policy output.new.items)
+    ensures model { LeadsTo (executed terms.limit (scan table word) word)
+        (hart_state scalar.old (V.lent vectors.old).state (M.memory memory.old) terms.policy output.old.items)
+        (hart_state scalar.new (V.lent vectors.new).state (M.memory memory.new) terms.policy output.new.items)
         result.0 result.1 }
     ensures memory { memory.new ≡ M.with_memory memory.old (M.memory memory.new) }
-    ensures vectors { Returns V.ready V.lent V.back (touches (scan table word)) (dirties limit (scan table word))
-        (hart_state scalar.old (V.lent vectors.old).state (M.memory memory.old) policy) vectors.old vectors.new }
+    ensures vectors { Returns V.ready V.lent V.back (touches (scan table word)) (dirties terms.limit (scan table word))
+        (hart_state scalar.old (V.lent vectors.old).state (M.memory memory.old) terms.policy) vectors.old vectors.new }
 {
     let decoded = decode_scalar(word);
     if let Some(instr) = &decoded {
         return (execute_scalar(instr, scalar, memory), 1);
     }
-    hand_on(word, scalar, memory, vectors, output, limit, policy)
+    hand_on(word, scalar, memory, vectors, output, terms)
 }
 
 /// Carries out one instruction of a user within `limit` ticks, and answers how it ended and how many
@@ -164,8 +160,10 @@ pub fn step<M: UserBytes, V: Vectors>(
             &mut *view.memory,
             &mut *view.vectors,
             &mut *view.output,
-            limit,
-            view.policy,
+            StepTerms {
+                limit,
+                policy: view.policy,
+            },
         ),
         Err(_) => (fault(Cause::FetchAccess, pc, &*view.scalar), 1),
     }

@@ -1,5 +1,5 @@
-//! Loads and stores (Unprivileged ISA 20191213, sections 2.6 and 5.3). Those narrower than a register stand out of line,
-//! so that the others stay in line wherever a step is made.
+//! Loads and stores (Unprivileged ISA 20191213, sections 2.6 and 5.3). Those narrower than a register stand out of
+//! line, so that the others stay in line wherever a step is made.
 ghost use Rattle.std.specs.Prelude.{◌≡◌, ◌↔◌, IsOk, OnErr, OnOk, Ok, Err, if◌then◌else◌, length, true};
 ghost use Rattle.std.specs.Int.{byte_len, w8, w16, w32, w64};
 ghost use Rattle.rv_model.specs.declared.memory.Access.TheVariants.{Load, Store};

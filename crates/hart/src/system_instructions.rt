@@ -1,5 +1,5 @@
-//! Calls of the environment, breakpoints and accesses of control registers (Unprivileged ISA 20191213, section 2.8 and chapter
-//! 9, "Zicsr").
+//! Calls of the environment, breakpoints and accesses of control registers (Unprivileged ISA 20191213, section 2.8 and
+//! chapter 9, "Zicsr").
 ghost use Rattle.std.specs.Prelude.{◌≡◌, ◌&&◌, ◌||◌, IfNone, IfSome, Some, bit_and, false, if◌then◌else◌, true, ℕ};
 ghost use Rattle.rv_model.specs.declared.vector.policy.Policy.{Policy};
 ghost use Rattle.rv_model.specs.instructions.Table.{scan, table};
@@ -38,8 +38,10 @@ impl ControlAccess {
     /// The register, unless the access is illegal: there has to be one, which isn't read-only if it is written.
     fn register(&self) -> Option<ControlRegister>
         ensures some { IfSome result (λ register. control_register self.now.csr ≡ Some register) }
-        ensures legal { IfSome result (λ register. touches_control (control_register self.now.csr) self.now.op self.now.source ≡ true) }
-        ensures illegal { IfNone result (touches_control (control_register self.now.csr) self.now.op self.now.source ≡ false) }
+        ensures legal { IfSome result (λ register.
+            touches_control (control_register self.now.csr) self.now.op self.now.source ≡ true) }
+        ensures illegal { IfNone result
+            (touches_control (control_register self.now.csr) self.now.op self.now.source ≡ false) }
     {
         let register = ControlRegister::with_number(self.csr.value())?;
         if is_write(self.op, self.source) && register.is_read_only() {
@@ -62,7 +64,8 @@ fn access_control<V: Vectors>(
         (hart_state scalar.old (V.lent vectors.old).state memory policy)
         (hart_state scalar.new (V.lent vectors.new).state memory policy) result 1 }
     ensures dirty { (V.lent vectors.new).dirty ≡ ((V.lent vectors.old).dirty
-        || (touches_control (control_register access.csr) access.op access.source && is_write access.op access.source)) }
+        || (touches_control (control_register access.csr) access.op access.source
+        && is_write access.op access.source)) }
     ensures clean { (V.lent vectors.new).dirty ≡ false
         → (V.lent vectors.new).state ≡ (V.lent vectors.old).state }
     ensures configuration { touches_control (control_register access.csr) access.op access.source ≡ true

@@ -27,9 +27,9 @@ impl Found {
     }
 }
 
-/// The ticks of a load or store that had `limit` of them, found this length and `vstart`, and left this state: one for each
-/// index that it came to, and one if it is illegal. Where it leaves a shorter length, it is a fault-only-first load, and came
-/// to that index.
+/// The ticks of a load or store that had `limit` of them, found this length and `vstart`, and left this state: one for
+/// each index that it came to, and one if it is illegal. Where it leaves a shorter length, it is a fault-only-first
+/// load, and came to that index.
 #[inline(always)]
 pub(crate) fn access_ticks(
     access: &AccessInstr,

@@ -1,7 +1,9 @@
 //! Instructions of the vector extension, on a vector state that is lent to them.
-ghost use Rattle.std.specs.Prelude.{◌≡◌, ◌≤◌, ◌⊎◌, ◌||◌, List, bit_and, ℕ};
+#![tactic(auto, unfolding(rv_model::specs::step::Step::executed, rv_model::specs::step::Step::dirties))]
+
+ghost use Rattle.std.specs.Prelude.{◌≡◌, ◌⊎◌, ◌||◌, List, bit_and, ℕ};
 ghost use Rattle.rv_decode.specs.Irregular.{irregular, other_accesses};
-ghost use Rattle.rv_model.specs.declared.vector.policy.Policy.{Policy as AgnosticPolicy};
+ghost use Rattle.rv_model.specs.declared.vector.policy.Policy.{Policy};
 ghost use Rattle.rv_model.specs.instructions.Table.{scan, table};
 ghost use Rattle.rv_model.specs.memory.Memory.{Memory};
 ghost use Rattle.rv_model.specs.step.Hart.{ends_after, hart_state};
@@ -13,10 +15,11 @@ use crate::faults::{fault, illegal};
 use crate::retirement::retire;
 use crate::ticks::{Found, access_ticks};
 use crate::vectors::Vectors;
+use crate::view::StepTerms;
 use rv_decode::{
     ArithOperation, decode_irregular, decode_other_access, decode_regular, decode_unit_stride,
 };
-use rv_model::{Cause, Policy, Scalar, Seat, StepEnd, VEnd};
+use rv_model::{Cause, Scalar, Seat, StepEnd, VEnd};
 use vec_unit::{exec_access, exec_arith, exec_operation, exec_other_access};
 use vector_memory::UserBytes;
 
@@ -31,8 +34,9 @@ fn access_cause(store: bool) -> Cause
     }
 }
 
-/// Ends the step of a vector instruction that ended so, after so many ticks: the program counter moves on where it is done, and
-/// what isn't illegal marks the seat. Writes how the step ended over `Ran`, and answers its ticks: one of an illegal instruction.
+/// Ends the step of a vector instruction that ended so, after so many ticks: the program counter moves on where it is
+/// done, and what isn't illegal marks the seat. Writes how the step ended over `Ran`, and answers its ticks: one of an
+/// illegal instruction.
 #[inline(always)]
 fn retire_vector(
     ending: VEnd,
@@ -43,7 +47,7 @@ fn retire_vector(
     end: &mut StepEnd,
 ) -> usize
     requires end { end.old ≡ StepEnd.Ran }
-    ensures model { (memory : Memory) (policy : AgnosticPolicy) (output : List ℕ)
+    ensures model { (memory : Memory) (policy : Policy) (output : List ℕ)
         → after_vector ticks ending word (hart_state scalar.old seat.old.state memory policy output)
         ≡ ends_after result end.new (hart_state scalar.new seat.new.state memory policy output) }
     ensures state { seat.new.state ≡ seat.old.state }
@@ -72,32 +76,31 @@ fn retire_vector(
     }
 }
 
-/// Carries out the vector instruction that a word is which is neither a regular operation nor an access of unit stride, within
-/// `limit` ticks. Writes how it ended over `Ran`, and answers how many ticks it took.
-#[tactic(auto, unfolding(rv_model::specs::step::Step::executed, rv_model::specs::step::Step::dirties), using(crate::proofs::VectorWords::carried_out))]
+/// Carries out the vector instruction that a word is which is neither a regular operation nor an access of unit stride.
+/// Writes how it ended over `Ran`, and answers how many ticks it took.
 #[inline(never)]
 fn execute_vector<M: UserBytes, V: Vectors>(
     word: u32,
     scalar: &mut Scalar,
     memory: &mut M,
     vectors: &mut V,
-    limit: usize,
-    policy: Policy,
+    terms: StepTerms,
     end: &mut StepEnd,
 ) -> usize
     requires ready { V.ready vectors.old }
     requires opcode { (bit_and word 0x7f ≡ 0x57) ⊎ ((bit_and word 0x7f ≡ 0x07) ⊎ (bit_and word 0x7f ≡ 0x27)) }
     requires operation { bit_and word 0x7f ≡ 0x57 → scan table word ≡ scan irregular word }
-    requires access { (bit_and word 0x7f ≡ 0x07) ⊎ (bit_and word 0x7f ≡ 0x27) → scan table word ≡ scan other_accesses word }
-    requires limit { 1 ≤ limit }
+    requires access { (bit_and word 0x7f ≡ 0x07) ⊎ (bit_and word 0x7f ≡ 0x27)
+        → scan table word ≡ scan other_accesses word }
     requires end { end.old ≡ StepEnd.Ran }
-    ensures model { Leads (executed limit (scan table word) word)
-        (hart_state scalar.old (V.lent vectors.old).state (M.memory memory.old) policy)
-        (hart_state scalar.new (V.lent vectors.new).state (M.memory memory.new) policy) end.new result }
+    ensures model { Leads (executed terms.limit (scan table word) word)
+        (hart_state scalar.old (V.lent vectors.old).state (M.memory memory.old) terms.policy)
+        (hart_state scalar.new (V.lent vectors.new).state (M.memory memory.new) terms.policy) end.new result }
     ensures memory { memory.new ≡ M.with_memory memory.old (M.memory memory.new) }
-    ensures vectors { Returns V.ready V.lent V.back (touches (scan table word)) (dirties limit (scan table word))
-        (hart_state scalar.old (V.lent vectors.old).state (M.memory memory.old) policy) vectors.old vectors.new }
+    ensures vectors { Returns V.ready V.lent V.back (touches (scan table word)) (dirties terms.limit (scan table word))
+        (hart_state scalar.old (V.lent vectors.old).state (M.memory memory.old) terms.policy) vectors.old vectors.new }
 {
+    let StepTerms { limit, policy } = terms;
     if word & 0x7f == 0x57 {
         let decoded = decode_irregular(word);
         let Some(operation) = &decoded else {
@@ -122,32 +125,29 @@ fn execute_vector<M: UserBytes, V: Vectors>(
     retire_vector(ending, ticks, word, scalar, seat, end)
 }
 
-/// Carries out the vector operation that a word of OP-V is: a regular one in line. Writes how it ended over `Ran`, and answers
-/// its one tick.
-#[tactic(auto, unfolding(rv_model::specs::step::Step::executed, rv_model::specs::step::Step::dirties))]
+/// Carries out the vector operation that a word of OP-V is: a regular one in line. Writes how it ended over `Ran`, and
+/// answers its one tick.
 #[inline(never)]
 pub(crate) fn execute_operation<M: UserBytes, V: Vectors>(
     word: u32,
     scalar: &mut Scalar,
     memory: &mut M,
     vectors: &mut V,
-    limit: usize,
-    policy: Policy,
+    terms: StepTerms,
     end: &mut StepEnd,
 ) -> usize
     requires ready { V.ready vectors.old }
     requires opcode { bit_and word 0x7f ≡ 0x57 }
-    requires limit { 1 ≤ limit }
     requires end { end.old ≡ StepEnd.Ran }
-    ensures model { Leads (executed limit (scan table word) word)
-        (hart_state scalar.old (V.lent vectors.old).state (M.memory memory.old) policy)
-        (hart_state scalar.new (V.lent vectors.new).state (M.memory memory.new) policy) end.new result }
+    ensures model { Leads (executed terms.limit (scan table word) word)
+        (hart_state scalar.old (V.lent vectors.old).state (M.memory memory.old) terms.policy)
+        (hart_state scalar.new (V.lent vectors.new).state (M.memory memory.new) terms.policy) end.new result }
     ensures memory { memory.new ≡ M.with_memory memory.old (M.memory memory.new) }
-    ensures vectors { Returns V.ready V.lent V.back (touches (scan table word)) (dirties limit (scan table word))
-        (hart_state scalar.old (V.lent vectors.old).state (M.memory memory.old) policy) vectors.old vectors.new }
+    ensures vectors { Returns V.ready V.lent V.back (touches (scan table word)) (dirties terms.limit (scan table word))
+        (hart_state scalar.old (V.lent vectors.old).state (M.memory memory.old) terms.policy) vectors.old vectors.new }
 {
     let Some(operation) = decode_regular(word) else {
-        return execute_vector(word, scalar, memory, vectors, limit, policy, end);
+        return execute_vector(word, scalar, memory, vectors, terms, end);
     };
     let ArithOperation {
         arith,
@@ -155,40 +155,39 @@ pub(crate) fn execute_operation<M: UserBytes, V: Vectors>(
         vs2,
         unmasked,
     } = operation;
+    let policy = terms.policy;
     let seat = vectors.seat();
     seat.state.conf.length_law();
     let ending = exec_arith(arith, vd, vs2, unmasked, &mut seat.state, scalar, policy);
     retire_vector(ending, 1, word, scalar, seat, end)
 }
 
-/// Carries out the vector load or store that a word of LOAD-FP or STORE-FP is, within `limit` ticks: one of unit stride in line.
-/// Writes how it ended over `Ran`, and answers how many ticks it took.
-#[tactic(auto, unfolding(rv_model::specs::step::Step::executed, rv_model::specs::step::Step::dirties))]
+/// Carries out the vector load or store that a word of LOAD-FP or STORE-FP is: one of unit stride in line. Writes how
+/// it ended over `Ran`, and answers how many ticks it took.
 #[inline(never)]
 pub(crate) fn execute_access<M: UserBytes, V: Vectors>(
     word: u32,
     scalar: &mut Scalar,
     memory: &mut M,
     vectors: &mut V,
-    limit: usize,
-    policy: Policy,
+    terms: StepTerms,
     end: &mut StepEnd,
 ) -> usize
     requires ready { V.ready vectors.old }
     requires opcode { (bit_and word 0x7f ≡ 0x07) ⊎ (bit_and word 0x7f ≡ 0x27) }
-    requires limit { 1 ≤ limit }
     requires end { end.old ≡ StepEnd.Ran }
-    ensures model { Leads (executed limit (scan table word) word)
-        (hart_state scalar.old (V.lent vectors.old).state (M.memory memory.old) policy)
-        (hart_state scalar.new (V.lent vectors.new).state (M.memory memory.new) policy) end.new result }
+    ensures model { Leads (executed terms.limit (scan table word) word)
+        (hart_state scalar.old (V.lent vectors.old).state (M.memory memory.old) terms.policy)
+        (hart_state scalar.new (V.lent vectors.new).state (M.memory memory.new) terms.policy) end.new result }
     ensures memory { memory.new ≡ M.with_memory memory.old (M.memory memory.new) }
-    ensures vectors { Returns V.ready V.lent V.back (touches (scan table word)) (dirties limit (scan table word))
-        (hart_state scalar.old (V.lent vectors.old).state (M.memory memory.old) policy) vectors.old vectors.new }
+    ensures vectors { Returns V.ready V.lent V.back (touches (scan table word)) (dirties terms.limit (scan table word))
+        (hart_state scalar.old (V.lent vectors.old).state (M.memory memory.old) terms.policy) vectors.old vectors.new }
 {
     let decoded = decode_unit_stride(word);
     let Some(access) = &decoded else {
-        return execute_vector(word, scalar, memory, vectors, limit, policy, end);
+        return execute_vector(word, scalar, memory, vectors, terms, end);
     };
+    let StepTerms { limit, policy } = terms;
     let seat = vectors.seat();
     seat.state.conf.length_law();
     let found = Found::new(&seat.state);

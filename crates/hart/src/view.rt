@@ -1,4 +1,6 @@
-//! What an instruction of a user works on.
+//! What an instruction of a user works on, and on what terms.
+ghost use Rattle.std.specs.Prelude.{◌≤◌};
+
 use arrayvec::ArrayVec;
 use rv_model::{OUTPUT_SIZE, Policy, Scalar};
 
@@ -11,4 +13,12 @@ pub struct View<'s, 'm, 'v, 'o, M, V> {
     pub vectors: &'v mut V,
     pub output: &'o mut ArrayVec<u8, OUTPUT_SIZE>,
     pub policy: Policy,
+}
+
+/// On what terms a step is made: within `limit` ticks, one at least, and what becomes of agnostic elements.
+#[derive(Clone, Copy)]
+pub(crate) struct StepTerms {
+    pub limit: usize,
+    pub policy: Policy,
+    ghost some: { 1 ≤ limit },
 }
