@@ -8,6 +8,22 @@ use Rattle.rv_model.specs.declared.vector.state.VState.{VState}
 use Rattle.rv_model.specs.step.Hart.{HartState, Stepped, hart_state, ends_after}
 use Rattle.rv_model.specs.memory.Memory.{Memory}
 use Rattle.rv_model.specs.vector.Configuration.{IsConfiguration}
+use Rattle.hart.specs.declared.view.View.{View}
+
+-- the state that a view shows, for any output buffer, by what its bytes and its lender of the vector state hold
+abbrev pub shown : {M V : Type 0} → (M → Memory) → (V → Seat) → View M V → List ℕ → HartState
+shown memory lent view = hart_state view.scalar.now (lent view.vectors.now).state (memory view.memory.now) view.policy
+
+-- the same with the view's own output buffer
+abbrev pub hart_of : {M V : Type 0} → (M → Memory) → (V → Seat) → View M V → HartState
+hart_of memory lent view = shown memory lent view view.output.now.items
+
+-- two views refer to the same registers, bytes, lender and output buffer, and go by the same policy
+abbrev pub SameParts : {M V : Type 0} → View M V → View M V → Type 0
+SameParts old new =
+    (new.scalar.ghost_name ≡ old.scalar.ghost_name) × (new.memory.ghost_name ≡ old.memory.ghost_name)
+    × (new.vectors.ghost_name ≡ old.vectors.ghost_name) × (new.output.ghost_name ≡ old.output.ghost_name)
+    × (new.policy ≡ old.policy)
 
 -- a step or an instruction leads from the one state to the other, with this end and these ticks
 abbrev pub LeadsTo : (HartState → Stepped) → HartState → HartState → StepEnd → ℕ → Type 0

@@ -9,7 +9,7 @@ ghost use Rattle.rv_model.specs.step.Hart.{ends_after, hart_state};
 ghost use Rattle.rv_model.specs.instructions.Table.{scan, table};
 ghost use Rattle.rv_model.specs.memory.Memory.{can_access};
 ghost use Rattle.rv_model.specs.step.Step.{dirties, executed, fetched, step as step_spec, touches, word_at};
-ghost use Rattle.hart.specs.States.{LeadsTo, Marks, Returns};
+ghost use Rattle.hart.specs.States.{LeadsTo, Returns, SameParts, hart_of, shown};
 
 use crate::faults::{fault, illegal};
 use crate::scalar_instructions::execute_scalar;
@@ -112,45 +112,22 @@ pub fn step<M: UserBytes, V: Vectors>(
     requires ready { V.ready view.old.vectors.now }
     requires limit { 1 ≤ limit }
     ensures model { LeadsTo (step_spec limit)
-        (hart_state view.old.scalar.now (V.lent view.old.vectors.now).state
-        (M.memory view.old.memory.now) view.old.policy view.old.output.now.items)
-        (hart_state view.new.scalar.now (V.lent view.new.vectors.now).state
-        (M.memory view.new.memory.now) view.new.policy view.new.output.now.items)
-        result.0 result.1 }
-    ensures policy { view.new.policy ≡ view.old.policy }
+        (hart_of M.memory V.lent view.old) (hart_of M.memory V.lent view.new) result.0 result.1 }
 
     // No vector has more elements, so nothing is cut.
     ensures uncut { GROUP_BYTES ≤ limit → result.0 ≢ StepEnd.Cut }
 
     // If it is cut or faults, it goes on from there, any number of times, in memories that may grow.
-    ensures goes_on { StepGoesOn step_spec fetched limit
-        (hart_state view.old.scalar.now (V.lent view.old.vectors.now).state
-        (M.memory view.old.memory.now) view.old.policy view.old.output.now.items)
-        (ends_after result.1 result.0
-        (hart_state view.new.scalar.now (V.lent view.new.vectors.now).state
-        (M.memory view.new.memory.now) view.new.policy view.new.output.now.items)) }
+    ensures goes_on { StepGoesOn step_spec fetched limit (hart_of M.memory V.lent view.old)
+        (ends_after result.1 result.0 (hart_of M.memory V.lent view.new)) }
 
-    // All else that the user's bytes and the lender hold stays.
-    ensures memory { view.new.memory.now
-        ≡ M.with_memory view.old.memory.now (M.memory view.new.memory.now) }
-    ensures vectors { view.new.vectors.now
-        ≡ (if touches (fetched (M.memory view.old.memory.now) view.old.scalar.now.pc)
-        then V.back view.old.vectors.now (V.lent view.new.vectors.now)
-        else view.old.vectors.now) }
-    ensures dirty { Marks
+    // All else that the user's bytes and the lender hold stays, and the view refers to the same parts as before.
+    ensures memory { view.new.memory.now ≡ M.with_memory view.old.memory.now (M.memory view.new.memory.now) }
+    ensures vectors { Returns V.ready V.lent V.back
+        (touches (fetched (M.memory view.old.memory.now) view.old.scalar.now.pc))
         (dirties limit (fetched (M.memory view.old.memory.now) view.old.scalar.now.pc))
-        (hart_state view.old.scalar.now (V.lent view.old.vectors.now).state
-        (M.memory view.old.memory.now) view.old.policy)
-        (V.lent view.old.vectors.now) (V.lent view.new.vectors.now) }
-    ensures clean { (V.lent view.new.vectors.now).dirty ≡ false
-        → (V.lent view.new.vectors.now).state ≡ (V.lent view.old.vectors.now).state }
-    ensures ready { V.ready view.new.vectors.now }
-
-    // The view refers to the same parts as before.
-    ensures same_scalar { view.new.scalar.ghost_name ≡ view.old.scalar.ghost_name }
-    ensures same_memory { view.new.memory.ghost_name ≡ view.old.memory.ghost_name }
-    ensures same_vectors { view.new.vectors.ghost_name ≡ view.old.vectors.ghost_name }
-    ensures same_output { view.new.output.ghost_name ≡ view.old.output.ghost_name }
+        (shown M.memory V.lent view.old) view.old.vectors.now view.new.vectors.now }
+    ensures parts { SameParts view.old view.new }
 {
     let pc = view.scalar.pc;
     match fetch(&*view.memory, pc) {
