@@ -9,7 +9,7 @@ use Rattle.std.proofs.lemmas.Simd.{below_from_Fits, chunk-fits, get_or-chunk, le
 use lib.Lanes.{Each1, chunk, number_l, put_chunk}
 use Rattle.lane_arith.proofs.MaskBits.{byte_of_number}
 use Rattle.rv_model.specs.declared.vector.sizes.TheConstants.{VLENB}
-use Rattle.rv_model.specs.accesses.Transfers.{registers_loaded, memory_stored, transfers}
+use Rattle.rv_model.specs.accesses.Transfers.{registers_loaded, memory_stored}
 use Rattle.rv_model.specs.accesses.VectorAccess.{plan}
 use Rattle.rv_model.specs.elements.Elements.{Body, element, is_changed, is_let, result_or_ones}
 use Rattle.rv_model.specs.elements.Formulas.{ones}
@@ -22,9 +22,8 @@ use Rattle.rv_model.proofs.element_lemmas.Widths.{bytes_positive}
 use Rattle.rv_model.proofs.memory_lemmas.Memory.{length-bytes_at}
 use Rattle.rv_model.proofs.element_lemmas.Writes.{byte_at-is, get_or-bytes, length-bytes, written_are, writes_are}
 use Rattle.vector_memory.specs.FieldOrder.{each_field, field_address, field_place, for_each, load_field, store_field}
-use Rattle.vector_memory.specs.SegmentRoom.{HasRoom, segments_access, place_in}
-use Rattle.vector_memory.specs.Spans.{Follows, IsSpan}
-use Rattle.vector_memory.specs.declared.segments.Segments.{Segments}
+use Rattle.vector_memory.specs.SegmentRoom.{place_in}
+use Rattle.vector_memory.specs.SpanAccess.{IsBlend, part_of, span_access, span_transfers}
 use Rattle.vector_memory.specs.declared.spans.Span.{Span}
 use Rattle.vector_memory.proofs.BlockMoves.{put_same}
 use Rattle.vector_memory.proofs.FieldSteps.{Apart, each_more, each_none, field_more, fields_loaded, fields_stored, load_active, load_filled, load_kept, loads_apart, no_field, store_active, store_kept, stores_apart}
@@ -79,66 +78,60 @@ part_chunk p q n count xs h k =
     get_or-chunk q n (chunk p count xs) j 0 less ∙ get_or-chunk p count xs (q + j) 0 (omega (arith, less, h)) ∙ ap (λ i. get_or xs i 0) at
     ∙ sym (get_or-chunk (p + q) n xs j 0 less))
 
--- the elements of a body from the first up to another
-abbrev pub part_of : Body → ℕ → Body
-part_of body stop = record { unmasked = body.unmasked; mask = body.mask; start = 0; end = stop }
-
 -- how long its span is
-pub span_length : (s : Segments) (body : Body) (stop : ℕ) (b : Span) → IsSpan s body stop b → (w : Width) → s.size ≡ width_bytes w
-    → s.fields ≡ 1 → b.distance ≡ s.size → body.start ≡ 0 → b.length ≡ width_bytes w * stop
-span_length s body stop b is w size alone apart first =
-    let before : (stop - body.start - 1) * b.distance ≡ (stop - 1) * width_bytes w =
-    ap (λ n. (stop - n - 1) * b.distance) first ∙ ap (λ n. (stop - 0 - 1) * n) (apart ∙ size) ∙ ap (λ n. n * width_bytes w) (omega arith) in
-    let last : s.fields * s.size ≡ 1 * width_bytes w = ap (λ n. n * s.size) alone ∙ ap (λ n. 1 * n) size in
-    let count : (stop - 1) + 1 ≡ stop = omega (arith, is.some) in
-    is.length ∙ omega (arith, before, last) ∙ sym (add-mul (stop - 1) 1 (width_bytes w)) ∙ ap (λ n. n * width_bytes w) count ∙ mul_comm stop (width_bytes w)
+pub span_length : (b : Span) (w : Width) → b.segments.size ≡ width_bytes w → IsBlend b → b.length ≡ width_bytes w * b.stop
+span_length b w size is =
+    let before : (b.stop - b.body.start - 1) * b.distance ≡ (b.stop - 1) * width_bytes w =
+    ap (λ n. (b.stop - n - 1) * b.distance) is.first ∙ ap (λ n. (b.stop - 0 - 1) * n) (is.apart ∙ size) ∙ ap (λ n. n * width_bytes w) (omega arith) in
+    let last : b.segments.fields * b.segments.size ≡ 1 * width_bytes w = ap (λ n. n * b.segments.size) is.alone ∙ ap (λ n. 1 * n) size in
+    let count : (b.stop - 1) + 1 ≡ b.stop = omega (arith, b.span.some) in
+    b.span.length ∙ omega (arith, before, last) ∙ sym (add-mul (b.stop - 1) 1 (width_bytes w)) ∙ ap (λ n. n * width_bytes w) count ∙ mul_comm b.stop (width_bytes w)
 
-module _ (m : Memory) (s : Segments) (body : Body) (address : ℕ → ℕ) (stop : ℕ) (b : Span) (is : IsSpan s body stop b) (follows : Follows body stop address b)
-    (w : Width) (size : s.size ≡ width_bytes w) (alone : s.fields ≡ 1) (apart : b.distance ≡ s.size) (first : body.start ≡ 0)
-    (room : HasRoom s stop) (file : List ℕ) (whole : VLENB * s.register + width_bytes w * stop ≤ length file) where
+module _ (m : Memory) (b : Span) (w : Width) (size : b.segments.size ≡ width_bytes w) (is : IsBlend b)
+    (file : List ℕ) (whole : VLENB * b.segments.register + width_bytes w * b.stop ≤ length file) where
   abbrev k : ℕ
   k = width_bytes w
 
   abbrev p : ℕ
-  p = VLENB * s.register
+  p = VLENB * b.segments.register
 
   -- the elements in the registers
   abbrev pub group_bytes : List ℕ
-  group_bytes = chunk p (k * stop) file
+  group_bytes = chunk p (k * b.stop) file
 
-  long : length group_bytes ≡ k * stop
-  long = length-chunk p (k * stop) file whole
+  long : length group_bytes ≡ k * b.stop
+  long = length-chunk p (k * b.stop) file whole
 
-  one_field : {X : Type 0} (one : ℕ → X → ℕ → X) → Apart one s.fields 0 stop → (x : X)
-      → for_each (one 0) x 0 stop ≡ for_each (each_field one s.fields) x body.start (stop - body.start)
+  one_field : {X : Type 0} (one : ℕ → X → ℕ → X) → Apart one b.segments.fields 0 b.stop → (x : X)
+      → for_each (one 0) x 0 b.stop ≡ for_each (each_field one b.segments.fields) x b.body.start (b.stop - b.body.start)
   one_field one loose x =
-      let n : ℕ = stop - body.start in
-      let all : stop ≡ n = omega (arith, first) in
-      let only : 0 + 1 ≡ s.fields = omega (arith, alone) in
-      ap (λ i. for_each (one 0) x i stop) (sym first) ∙ ap (for_each (one 0) x body.start) all
-      ∙ ap (λ y. for_each (one 0) y body.start n) (sym (no_field one x body.start n))
-      ∙ field_more one s.fields 0 stop loose 0 (omega (arith, alone)) n body.start x (omega arith) (omega (arith, first))
-      ∙ ap (λ f. for_each (each_field one f) x body.start n) only
+      let n : ℕ = b.stop - b.body.start in
+      let all : b.stop ≡ n = omega (arith, is.first) in
+      let only : 0 + 1 ≡ b.segments.fields = omega (arith, is.alone) in
+      ap (λ i. for_each (one 0) x i b.stop) (sym is.first) ∙ ap (for_each (one 0) x b.body.start) all
+      ∙ ap (λ y. for_each (one 0) y b.body.start n) (sym (no_field one x b.body.start n))
+      ∙ field_more one b.segments.fields 0 b.stop loose 0 (omega (arith, is.alone)) n b.body.start x (omega arith) (omega (arith, is.first))
+      ∙ ap (λ f. for_each (each_field one f) x b.body.start n) only
 
-  fits : (n : ℕ) → n < stop → k * n + k ≤ k * stop
+  fits : (n : ℕ) → n < b.stop → k * n + k ≤ k * b.stop
   fits n h = omega (arith, mul-le-mul_left k h, mul-suc k n)
 
-  place_is : (n : ℕ) → field_place (segments_access s body address) 0 n ≡ p + k * n
+  place_is : (n : ℕ) → field_place (span_access b) 0 n ≡ p + k * n
   place_is n = omega (arith, ap (λ x. n * x) size, mul_comm n k)
 
-  offset : (n : ℕ) → (n - body.start) * b.distance + 0 * s.size ≡ k * n
+  offset : (n : ℕ) → (n - b.body.start) * b.distance + 0 * b.segments.size ≡ k * n
   offset n =
-      let all : n - body.start ≡ n = omega (arith, first) in
-      ap (λ x. x * b.distance + 0 * s.size) all ∙ ap (λ x. n * x + 0 * s.size) (apart ∙ size) ∙ omega (arith, mul_comm n k)
+      let all : n - b.body.start ≡ n = omega (arith, is.first) in
+      ap (λ x. x * b.distance + 0 * b.segments.size) all ∙ ap (λ x. n * x + 0 * b.segments.size) (is.apart ∙ size) ∙ omega (arith, mul_comm n k)
 
   -- ---- a load
 
   module _ (fill : Bool) (bytes : List ℕ) (read : bytes ≡ bytes_at m b.address b.length) (below : (j : ℕ) → Fits w8 (get_or bytes j 0)) where
     abbrev pub read_number : ℕ → ℕ
-    read_number e = result_or_ones (part_of body stop) (λ i. element k bytes i) (ones w) e
+    read_number e = result_or_ones (part_of b.body b.stop) (λ i. element k bytes i) (ones w) e
 
     abbrev so_far : ℕ → ℕ → Bool
-    so_far n e = is_changed (part_of body stop) fill false e && nat_lt e n
+    so_far n e = is_changed (part_of b.body b.stop) fill false e && nat_lt e n
 
     abbrev made : ℕ → List ℕ
     made n = written k (so_far n) read_number group_bytes
@@ -149,81 +142,81 @@ module _ (m : Memory) (s : Segments) (body : Body) (address : ℕ → ℕ) (stop
     then_made : (n : ℕ) (new : List ℕ) → Writes k (so_far n) read_number group_bytes new → new ≡ made n
     then_made n new h = writes_are k (so_far n) read_number group_bytes new (bytes_positive w) h
 
-    in_file : (n : ℕ) (xs : List ℕ) → n < stop → length xs ≡ k
-        → put_chunk (field_place (segments_access s body address) 0 n) (put_chunk p file (made n)) xs ≡ put_chunk p file (put_chunk (k * n) (made n) xs)
+    in_file : (n : ℕ) (xs : List ℕ) → n < b.stop → length xs ≡ k
+        → put_chunk (field_place (span_access b) 0 n) (put_chunk p file (made n)) xs ≡ put_chunk p file (put_chunk (k * n) (made n) xs)
     in_file n xs h e =
-        put_within p (k * n) (field_place (segments_access s body address) 0 n) file (made n) xs (place_is n)
+        put_within p (k * n) (field_place (span_access b) 0 n) file (made n) xs (place_is n)
         (omega (arith, e, (was n).same_length, long, fits n h)) (omega (arith, (was n).same_length, long, whole))
 
-    bytes_there : (n : ℕ) → n < stop → bytes_low_first 0 k (element k bytes n) ≡ bytes_at m (field_address (segments_access s body address) 0 n) s.size
+    bytes_there : (n : ℕ) → n < b.stop → bytes_low_first 0 k (element k bytes n) ≡ bytes_at m (field_address (span_access b) 0 n) b.segments.size
     bytes_there n h =
-        let one : 0 < s.fields = omega (arith, alone) in
-        let read_one : chunk (k * n) k bytes ≡ bytes_at m (field_address (segments_access s body address) 0 n) s.size =
-        ap (λ x. chunk x k bytes) (sym (offset n)) ∙ ap (λ x. chunk ((n - body.start) * b.distance + 0 * s.size) x bytes) (sym size)
-        ∙ field_read s body address stop b is follows m bytes n 0 (omega (arith, first)) h one read in
-        number_back k (chunk (k * n) k bytes) (ap length read_one ∙ length-bytes_at m (field_address (segments_access s body address) 0 n) s.size ∙ size) (below_from_Fits w8 (chunk (k * n) k bytes) (chunk-fits w8 (k * n) k bytes below)) ∙ read_one
+        let one : 0 < b.segments.fields = omega (arith, is.alone) in
+        let read_one : chunk (k * n) k bytes ≡ bytes_at m (field_address (span_access b) 0 n) b.segments.size =
+        ap (λ x. chunk x k bytes) (sym (offset n)) ∙ ap (λ x. chunk ((n - b.body.start) * b.distance + 0 * b.segments.size) x bytes) (sym size)
+        ∙ field_read b m bytes n 0 (omega (arith, is.first)) h one read in
+        number_back k (chunk (k * n) k bytes) (ap length read_one ∙ length-bytes_at m (field_address (span_access b) 0 n) b.segments.size ∙ size) (below_from_Fits w8 (chunk (k * n) k bytes) (chunk-fits w8 (k * n) k bytes below)) ∙ read_one
 
-    loads_next : (n : ℕ) → n < stop → load_field m (segments_access s body address) fill 0 (put_chunk p file (made n)) n ≡ put_chunk p file (made (n + 1))
+    loads_next : (n : ℕ) → n < b.stop → load_field m (span_access b) fill 0 (put_chunk p file (made n)) n ≡ put_chunk p file (made (n + 1))
     loads_next n h =
-        let a = segments_access s body address in
+        let a = span_access b in
         let at = field_place a 0 n in
-        elim (cases_Bool (is_let body n)) [
+        elim (cases_Bool (is_let b.body n)) [
           | inl on ↦
               let xs : List ℕ = bytes_low_first 0 k (element k bytes n) in
-              let next = step_result k (part_of body stop) fill n (λ i. element k bytes i) (ones w) group_bytes (made n) (put_chunk (k * n) (made n) xs) (omega arith) h
+              let next = step_result k (part_of b.body b.stop) fill n (λ i. element k bytes i) (ones w) group_bytes (made n) (put_chunk (k * n) (made n) xs) (omega arith) h
               (was n) (omega (arith, long, fits n h)) on refl in
               sym (load_active m a fill 0 n at (put_chunk p file (made n)) xs on refl (bytes_there n h))
               ∙ in_file n xs h (length-bytes 0 k (element k bytes n)) ∙ ap (put_chunk p file) (then_made (n + 1) _ next)
           | inr off ↦ elim (cases_Bool fill) [
             | inl filled ↦
                 let xs : List ℕ = bytes_low_first 0 k (ones w) in
-                let next = step_ones k (part_of body stop) fill n (λ i. element k bytes i) (ones w) group_bytes (made n) (put_chunk (k * n) (made n) xs) (omega arith) h
+                let next = step_ones k (part_of b.body b.stop) fill n (λ i. element k bytes i) (ones w) group_bytes (made n) (put_chunk (k * n) (made n) xs) (omega arith) h
                 (was n) (omega (arith, long, fits n h)) off filled refl in
                 sym (load_filled m a fill 0 n at (put_chunk p file (made n)) xs off filled refl (ones_bytes w ∙ ap (λ x. replicate x 255) (sym size)))
                 ∙ in_file n xs h (length-bytes 0 k (ones w)) ∙ ap (put_chunk p file) (then_made (n + 1) _ next)
             | inr kept ↦
-                let next = step_off k (part_of body stop) fill n (λ i. element k bytes i) (ones w) group_bytes (made n) (made n) (omega arith) h
+                let next = step_off k (part_of b.body b.stop) fill n (λ i. element k bytes i) (ones w) group_bytes (made n) (made n) (omega arith) h
                 (was n) off kept refl in
                 sym (load_kept m a fill 0 n (put_chunk p file (made n)) off kept) ∙ ap (put_chunk p file) (then_made (n + 1) _ next)
           ]
         ]
 
-    loads_to : (n : ℕ) → n ≤ stop → for_each (load_field m (segments_access s body address) fill 0) file 0 n ≡ put_chunk p file (made n)
+    loads_to : (n : ℕ) → n ≤ b.stop → for_each (load_field m (span_access b) fill 0) file 0 n ≡ put_chunk p file (made n)
     loads_to zero h =
-        each_none (load_field m (segments_access s body address) fill 0) file 0 ∙ sym (put_same p (k * stop) file)
-        ∙ ap (put_chunk p file) (then_made 0 group_bytes (body_begins k (part_of body stop) fill read_number group_bytes))
+        each_none (load_field m (span_access b) fill 0) file 0 ∙ sym (put_same p (k * b.stop) file)
+        ∙ ap (put_chunk p file) (then_made 0 group_bytes (body_begins k (part_of b.body b.stop) fill read_number group_bytes))
     loads_to (suc n) h =
-        let step = load_field m (segments_access s body address) fill 0 in
+        let step = load_field m (span_access b) fill 0 in
         let count : suc n ≡ n + 1 = omega arith in
         ap (for_each step file 0) count ∙ each_more step file 0 n ∙ ap (step (for_each step file 0 n)) (zero-add n)
         ∙ ap (λ x. step x n) (loads_to n (omega (arith, h))) ∙ loads_next n (omega (arith, h)) ∙ ap (λ x. put_chunk p file (made x)) (sym count)
 
     -- what a blend of the elements leaves is what a loop does
-    blend_loads : (new : List ℕ) → Writes k (is_changed (part_of body stop) fill false) read_number group_bytes new
-        → put_chunk p file new ≡ for_each (load_field m (segments_access s body address) fill 0) file 0 stop
+    blend_loads : (new : List ℕ) → Writes k (is_changed (part_of b.body b.stop) fill false) read_number group_bytes new
+        → put_chunk p file new ≡ for_each (load_field m (span_access b) fill 0) file 0 b.stop
     blend_loads new h =
-        let all = is_changed (part_of body stop) fill false in
+        let all = is_changed (part_of b.body b.stop) fill false in
         ap (put_chunk p file)
         (writes_are k all read_number group_bytes new (bytes_positive w) h
-        ∙ sym (writes_are k all read_number group_bytes (made stop) (bytes_positive w)
-        (body_ends k (part_of body stop) fill read_number group_bytes (made stop) stop (omega arith) (was stop))))
-        ∙ sym (loads_to stop (omega arith))
+        ∙ sym (writes_are k all read_number group_bytes (made b.stop) (bytes_positive w)
+        (body_ends k (part_of b.body b.stop) fill read_number group_bytes (made b.stop) b.stop (omega arith) (was b.stop))))
+        ∙ sym (loads_to b.stop (omega arith))
 
-    pub blend_loaded : (new : List ℕ) → Writes k (is_changed (part_of body stop) fill false) read_number group_bytes new
-        → put_chunk p file new ≡ registers_loaded m (place_in s) file (transfers (plan (segments_access s body address) fill) body.start (stop - body.start))
+    pub blend_loaded : (new : List ℕ) → Writes k (is_changed (part_of b.body b.stop) fill false) read_number group_bytes new
+        → put_chunk p file new ≡ registers_loaded m (place_in b.segments) file (span_transfers b fill)
     blend_loaded new h =
-        let a = segments_access s body address in
-        blend_loads new h ∙ one_field (load_field m a fill) (loads_apart m a fill stop room.room s.fields) file
-        ∙ fields_loaded m a fill (stop - body.start) body.start file
+        let a = span_access b in
+        blend_loads new h ∙ one_field (load_field m a fill) (loads_apart m a fill b.stop b.span.room.room b.segments.fields) file
+        ∙ fields_loaded m a fill (b.stop - b.body.start) b.body.start file
 
   -- ---- a store
 
   module _ (bytes : List ℕ) (count : length bytes ≡ b.length) (below : (j : ℕ) → Fits w8 (get_or group_bytes j 0)) where
     abbrev pub write_number : ℕ → ℕ
-    write_number e = result_or_ones (part_of body stop) (λ i. element k group_bytes i) (ones w) e
+    write_number e = result_or_ones (part_of b.body b.stop) (λ i. element k group_bytes i) (ones w) e
 
     abbrev written_to : ℕ → ℕ → Bool
-    written_to n e = is_changed (part_of body stop) false false e && nat_lt e n
+    written_to n e = is_changed (part_of b.body b.stop) false false e && nat_lt e n
 
     abbrev stored_in : ℕ → List ℕ
     stored_in n = written k (written_to n) write_number bytes
@@ -234,68 +227,68 @@ module _ (m : Memory) (s : Segments) (body : Body) (address : ℕ → ℕ) (stop
     then_stored : (n : ℕ) (new : List ℕ) → Writes k (written_to n) write_number bytes new → new ≡ stored_in n
     then_stored n new h = writes_are k (written_to n) write_number bytes new (bytes_positive w) h
 
-    span_fits : (n : ℕ) → n < stop → k * n + k ≤ length bytes
+    span_fits : (n : ℕ) → n < b.stop → k * n + k ≤ length bytes
     span_fits n h =
-        omega (arith, count, offset n, size, field_inside s body address stop b is follows n 0 (omega (arith, first)) h (omega (arith, alone)))
+        omega (arith, count, offset n, size, field_inside b n 0 (omega (arith, is.first)) h (omega (arith, is.alone)))
 
-    elements_there : (n : ℕ) → n < stop → bytes_low_first 0 k (element k group_bytes n) ≡ chunk (field_place (segments_access s body address) 0 n) s.size file
+    elements_there : (n : ℕ) → n < b.stop → bytes_low_first 0 k (element k group_bytes n) ≡ chunk (field_place (span_access b) 0 n) b.segments.size file
     elements_there n h =
         let one : length (chunk (k * n) k group_bytes) ≡ k = length-chunk (k * n) k group_bytes (omega (arith, long, fits n h)) in
         number_back k (chunk (k * n) k group_bytes) one (below_from_Fits w8 (chunk (k * n) k group_bytes) (chunk-fits w8 (k * n) k group_bytes below))
-        ∙ part_chunk p (k * n) k (k * stop) file (fits n h) whole
-        ∙ ap (λ x. chunk x k file) (sym (place_is n)) ∙ ap (λ x. chunk (field_place (segments_access s body address) 0 n) x file) (sym size)
+        ∙ part_chunk p (k * n) k (k * b.stop) file (fits n h) whole
+        ∙ ap (λ x. chunk x k file) (sym (place_is n)) ∙ ap (λ x. chunk (field_place (span_access b) 0 n) x file) (sym size)
 
-    stores_next : (n : ℕ) → n < stop
-        → store_field file (segments_access s body address) 0 (put_bytes m b.address (stored_in n)) n ≡ put_bytes m b.address (stored_in (n + 1))
+    stores_next : (n : ℕ) → n < b.stop
+        → store_field file (span_access b) 0 (put_bytes m b.address (stored_in n)) n ≡ put_bytes m b.address (stored_in (n + 1))
     stores_next n h =
-        let a = segments_access s body address in
-        elim (cases_Bool (is_let body n)) [
+        let a = span_access b in
+        elim (cases_Bool (is_let b.body n)) [
           | inl on ↦
               let xs : List ℕ = bytes_low_first 0 k (element k group_bytes n) in
-              let next = step_result k (part_of body stop) false n (λ i. element k group_bytes i) (ones w) bytes (stored_in n) (put_chunk (k * n) (stored_in n) xs) (omega arith) h
+              let next = step_result k (part_of b.body b.stop) false n (λ i. element k group_bytes i) (ones w) bytes (stored_in n) (put_chunk (k * n) (stored_in n) xs) (omega arith) h
               (stays n) (span_fits n h) on refl in
               let at : field_address a 0 n ≡ b.address + k * n =
-              field_begins s body address stop b is follows n 0 (omega (arith, first)) h (omega (arith, alone)) ∙ ap (λ x. b.address + x) (offset n) in
+              field_begins b n 0 (omega (arith, is.first)) h (omega (arith, is.alone)) ∙ ap (λ x. b.address + x) (offset n) in
               sym (store_active file a 0 n (field_address a 0 n) (put_bytes m b.address (stored_in n)) xs on refl (elements_there n h))
               ∙ ap (λ x. put_bytes (put_bytes m b.address (stored_in n)) x xs) at
               ∙ sym (put_part m b.address (k * n) (stored_in n) xs
               (omega (arith, length-bytes 0 k (element k group_bytes n), (stays n).same_length, span_fits n h)))
               ∙ ap (put_bytes m b.address) (then_stored (n + 1) _ next)
           | inr off ↦
-              let next = step_off k (part_of body stop) false n (λ i. element k group_bytes i) (ones w) bytes (stored_in n) (stored_in n) (omega arith) h
+              let next = step_off k (part_of b.body b.stop) false n (λ i. element k group_bytes i) (ones w) bytes (stored_in n) (stored_in n) (omega arith) h
               (stays n) off refl refl in
               sym (store_kept file a 0 n (put_bytes m b.address (stored_in n)) off) ∙ ap (put_bytes m b.address) (then_stored (n + 1) _ next)
         ]
 
-    stores_to : (n : ℕ) → n ≤ stop
-        → for_each (store_field file (segments_access s body address) 0) (put_bytes m b.address bytes) 0 n ≡ put_bytes m b.address (stored_in n)
+    stores_to : (n : ℕ) → n ≤ b.stop
+        → for_each (store_field file (span_access b) 0) (put_bytes m b.address bytes) 0 n ≡ put_bytes m b.address (stored_in n)
     stores_to zero h =
-        each_none (store_field file (segments_access s body address) 0) (put_bytes m b.address bytes) 0
-        ∙ ap (put_bytes m b.address) (then_stored 0 bytes (body_begins k (part_of body stop) false write_number bytes))
+        each_none (store_field file (span_access b) 0) (put_bytes m b.address bytes) 0
+        ∙ ap (put_bytes m b.address) (then_stored 0 bytes (body_begins k (part_of b.body b.stop) false write_number bytes))
     stores_to (suc n) h =
-        let step = store_field file (segments_access s body address) 0 in
+        let step = store_field file (span_access b) 0 in
         let old = put_bytes m b.address bytes in
         let more : suc n ≡ n + 1 = omega arith in
         ap (for_each step old 0) more ∙ each_more step old 0 n ∙ ap (step (for_each step old 0 n)) (zero-add n)
         ∙ ap (λ x. step x n) (stores_to n (omega (arith, h))) ∙ stores_next n (omega (arith, h)) ∙ ap (λ x. put_bytes m b.address (stored_in x)) (sym more)
 
-    blend_stores : (new : List ℕ) → Writes k (is_changed (part_of body stop) false false) write_number bytes new
-        → put_bytes m b.address new ≡ for_each (store_field file (segments_access s body address) 0) (put_bytes m b.address bytes) 0 stop
+    blend_stores : (new : List ℕ) → Writes k (is_changed (part_of b.body b.stop) false false) write_number bytes new
+        → put_bytes m b.address new ≡ for_each (store_field file (span_access b) 0) (put_bytes m b.address bytes) 0 b.stop
     blend_stores new h =
-        let all = is_changed (part_of body stop) false false in
+        let all = is_changed (part_of b.body b.stop) false false in
         ap (put_bytes m b.address)
         (writes_are k all write_number bytes new (bytes_positive w) h
-        ∙ sym (writes_are k all write_number bytes (stored_in stop) (bytes_positive w)
-        (body_ends k (part_of body stop) false write_number bytes (stored_in stop) stop (omega arith) (stays stop))))
-        ∙ sym (stores_to stop (omega arith))
+        ∙ sym (writes_are k all write_number bytes (stored_in b.stop) (bytes_positive w)
+        (body_ends k (part_of b.body b.stop) false write_number bytes (stored_in b.stop) b.stop (omega arith) (stays b.stop))))
+        ∙ sym (stores_to b.stop (omega arith))
 
-    pub blend_stored : (new : List ℕ) → Writes k (is_changed (part_of body stop) false false) write_number bytes new
+    pub blend_stored : (new : List ℕ) → Writes k (is_changed (part_of b.body b.stop) false false) write_number bytes new
         → put_bytes m b.address new
-        ≡ memory_stored (put_bytes m b.address bytes) (place_in s) file (transfers (plan (segments_access s body address) false) body.start (stop - body.start))
+        ≡ memory_stored (put_bytes m b.address bytes) (place_in b.segments) file (span_transfers b false)
     blend_stored new h =
-        let a = segments_access s body address in
+        let a = span_access b in
         blend_stores new h
         ∙ one_field (store_field file a)
-        (stores_apart file a 0 stop (λ f h i j less some low order end. fields_apart s body address stop b is follows f h i j less some (omega (arith, first)) order end))
+        (stores_apart file a 0 b.stop (λ f h i j less some low order end. fields_apart b f h i j less some (omega (arith, is.first)) order end))
         (put_bytes m b.address bytes)
-        ∙ fields_stored file a (stop - body.start) body.start (put_bytes m b.address bytes)
+        ∙ fields_stored file a (b.stop - b.body.start) b.body.start (put_bytes m b.address bytes)

@@ -5,6 +5,7 @@ pub mod MovedRuns
 pub mod OneField
 pub mod Outcomes
 pub mod Room
+pub mod SameSpans
 pub mod SpanMoves
 pub mod Strides
 pub mod Transferred

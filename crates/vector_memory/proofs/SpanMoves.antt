@@ -1,7 +1,7 @@
 -- What the bytes of a span tell of a memory, and where an instruction that moves one stops.
-use Rattle.std.proofs.Common.{◌≡◌, ℕ, zero, suc, ◌+◌, ◌-◌, ◌*◌, ◌<◌, ◌≤◌, ◌%◌, ◌^◌, Bool, true, cond, List, length, drop, get_or, min, take, Option, Some, None, refl, sym, ap, ◌∙◌, inl, inr, arith}
+use Rattle.std.proofs.Common.{◌≡◌, ℕ, zero, suc, ◌+◌, ◌-◌, ◌*◌, ◌<◌, ◌≤◌, ◌%◌, ◌^◌, Bool, true, false, cond, List, [], ◌++◌, ap₂, length, drop, get_or, min, take, Option, Some, None, refl, sym, ap, ◌∙◌, add-zero, inl, inr, arith}
 use Rattle.std.specs.FinMap.{get}
-use Rattle.std.specs.Prelude.{nat_lt}
+use Rattle.std.specs.Prelude.{nat_lt, if◌then◌else◌}
 use Rattle.std.specs.Simd.Lanes.{chunk, put_chunk}
 use Rattle.std.proofs.lemmas.Bool.{cases_Bool, cases_lt}
 use Rattle.std.proofs.lemmas.Nat.{mul-le}
@@ -10,8 +10,8 @@ use borrow.Rule.Slice.PartMut.{put_mid}
 use Rattle.std.proofs.Math.Nat.{mod-eq_of_lt}
 use Rattle.rv_model.specs.declared.memory.Access.{Access}
 use Rattle.rv_model.specs.declared.step.memory_end.MemEnd.TheVariants.{Cut, Done}
-use Rattle.rv_model.specs.accesses.Transfers.{are_allowed}
-use Rattle.rv_model.specs.accesses.VectorAccess.{plan, moved_segment}
+use Rattle.rv_model.specs.accesses.Transfers.{Plan, are_allowed, memory_stored, registers_loaded, transfers}
+use Rattle.rv_model.specs.accesses.VectorAccess.{filled_segment, moved_segment, plan}
 use Rattle.rv_model.specs.elements.Elements.{Body, is_let}
 use Rattle.rv_model.specs.memory.Memory.{Cell, Memory, bytes_at, can_access, put_bytes, memory_byte}
 use Rattle.rv_model.proofs.access_lemmas.Contiguous.{stops_all}
@@ -20,8 +20,8 @@ use Rattle.rv_model.proofs.access_lemmas.Segments.{allowed_more, filled_allowed,
 use Rattle.rv_model.proofs.access_lemmas.Stops.{AllAllowed, Stopped}
 use Rattle.rv_model.proofs.memory_lemmas.Memory.{bytes_read, can_access-at, can_access_from, get-put_bytes_outside, get-put_bytes_within, get_or-bytes_at, length-bytes_at, same_memory, with_byte}
 use Rattle.vector_memory.specs.FieldOrder.{field_address}
-use Rattle.vector_memory.specs.SegmentRoom.{segments_access}
-use Rattle.vector_memory.specs.Spans.{Follows, IsSpan}
+use Rattle.vector_memory.specs.SegmentRoom.{place_in, segments_access}
+use Rattle.vector_memory.specs.SpanAccess.{IsSpanOf, span_access, span_transfers}
 use Rattle.vector_memory.specs.declared.segments.Segments.{Segments}
 use Rattle.vector_memory.specs.declared.spans.Span.{Span}
 
@@ -144,63 +144,104 @@ fields_allowed access m a n i x size all low end (suc f) room =
     (ap (λ y. can_access access m y size) same
     ∙ part_allowed access m a n ((x + f * size) - a) size (x + f * size) all (omega (arith, more, room, low)) (omega (arith, low)))
 
-module _ (s : Segments) (body : Body) (address : ℕ → ℕ) (stop : ℕ) (b : Span) (is : IsSpan s body stop b) (follows : Follows body stop address b) where
-  -- the segment of an index
-  pub begins : (i : ℕ) → body.start ≤ i → i < stop → address i ≡ b.address + (i - body.start) * b.distance
-  begins i low high =
-      let at : body.start + (i - body.start) ≡ i = omega (arith, low) in
-      ap address (sym at) ∙ follows (i - body.start) (omega (arith, low, high))
-
+module _ (b : Span) where
   -- a field of an index
-  pub field_inside : (i f : ℕ) → body.start ≤ i → i < stop → f < s.fields → (i - body.start) * b.distance + f * s.size + s.size ≤ b.length
+  pub field_inside : (i f : ℕ) → b.body.start ≤ i → i < b.stop → f < b.segments.fields
+      → (i - b.body.start) * b.distance + f * b.segments.size + b.segments.size ≤ b.length
   field_inside i f low high some =
-      omega (arith, is.inside (i - body.start) (omega (arith, low, high)), mul-le (f + 1) s.size s.fields s.size (omega (arith, some)) (omega arith))
+      omega (arith, b.span.inside (i - b.body.start) (omega (arith, low, high)), mul-le (f + 1) b.segments.size b.segments.fields b.segments.size (omega (arith, some)) (omega arith))
 
-  pub field_begins : (i f : ℕ) → body.start ≤ i → i < stop → f < s.fields
-      → field_address (segments_access s body address) f i ≡ b.address + ((i - body.start) * b.distance + f * s.size)
-  field_begins i f low high some =
-      mod-eq_of_lt (omega (arith, begins i low high, field_inside i f low high some, is.end)) ∙ omega (arith, begins i low high)
+  pub field_begins : (i f : ℕ) → b.body.start ≤ i → i < b.stop → f < b.segments.fields
+      → field_address (span_access b) f i ≡ b.address + ((i - b.body.start) * b.distance + f * b.segments.size)
+  field_begins i f low high some = mod-eq_of_lt (omega (arith, field_inside i f low high some, b.span.end)) ∙ omega arith
 
   -- its bytes, if these are the span's
-  pub field_read : (m : Memory) (bytes : List ℕ) (i f : ℕ) → body.start ≤ i → i < stop → f < s.fields → bytes ≡ bytes_at m b.address b.length
-      → chunk ((i - body.start) * b.distance + f * s.size) s.size bytes ≡ bytes_at m (field_address (segments_access s body address) f i) s.size
+  pub field_read : (m : Memory) (bytes : List ℕ) (i f : ℕ) → b.body.start ≤ i → i < b.stop → f < b.segments.fields → bytes ≡ bytes_at m b.address b.length
+      → chunk ((i - b.body.start) * b.distance + f * b.segments.size) b.segments.size bytes ≡ bytes_at m (field_address (span_access b) f i) b.segments.size
   field_read m bytes i f low high some read =
-      let at : ℕ = (i - body.start) * b.distance + f * s.size in
-      ap (chunk at s.size) read ∙ part_read m b.address b.length at s.size (field_inside i f low high some)
-      ∙ ap (λ x. bytes_at m x s.size) (sym (field_begins i f low high some))
+      let at : ℕ = (i - b.body.start) * b.distance + f * b.segments.size in
+      ap (chunk at b.segments.size) read ∙ part_read m b.address b.length at b.segments.size (field_inside i f low high some)
+      ∙ ap (λ x. bytes_at m x b.segments.size) (sym (field_begins i f low high some))
 
   -- a field of an index lies before each field of a later one
-  pub fields_apart : (f h i j : ℕ) → h < f → f < s.fields → body.start ≤ i → i < j → j < stop
-      → field_address (segments_access s body address) f i + s.size ≤ field_address (segments_access s body address) h j
+  pub fields_apart : (f h i j : ℕ) → h < f → f < b.segments.fields → b.body.start ≤ i → i < j → j < b.stop
+      → field_address (span_access b) f i + b.segments.size ≤ field_address (span_access b) h j
   fields_apart f h i j less some from order end =
-      let before : (i - body.start) * b.distance + b.distance ≤ (j - body.start) * b.distance =
-      omega (arith, mul-le ((i - body.start) + 1) b.distance (j - body.start) b.distance (omega (arith, from, order)) (omega arith)) in
+      let before : (i - b.body.start) * b.distance + b.distance ≤ (j - b.body.start) * b.distance =
+      omega (arith, mul-le ((i - b.body.start) + 1) b.distance (j - b.body.start) b.distance (omega (arith, from, order)) (omega arith)) in
       omega (
         arith,
         field_begins i f from (omega (arith, order, end)) some,
         field_begins j h (omega (arith, from, order)) end (omega (arith, less, some)),
         before,
-        is.apart,
-        mul-le (f + 1) s.size s.fields s.size (omega (arith, some)) (omega arith),
+        b.span.apart,
+        mul-le (f + 1) b.segments.size b.segments.fields b.segments.size (omega (arith, some)) (omega arith),
       )
 
-  pub span_allowed : (fill : Bool) (access : Access) (m : Memory) → can_access access m b.address b.length ≡ true
-      → AllAllowed access m (plan (segments_access s body address) fill) body.start stop
-  span_allowed fill access m all i low high = elim (cases_Bool (is_let body i)) [
+  span_allowed : (fill : Bool) (access : Access) (m : Memory) → can_access access m b.address b.length ≡ true
+      → AllAllowed access m (plan (span_access b) fill) b.body.start b.stop
+  span_allowed fill access m all i low high = elim (cases_Bool (is_let b.body i)) [
     | inl active ↦
-        let room = is.inside (i - body.start) (omega (arith, low, high)) in
-        let at = begins i low high in
-        ap (are_allowed access m) (plan_active (segments_access s body address) fill i active)
-        ∙ fields_allowed access m b.address b.length i (address i) s.size all (omega (arith, at)) is.end s.fields (omega (arith, at, room))
+        let room = b.span.inside (i - b.body.start) (omega (arith, low, high)) in
+        ap (are_allowed access m) (plan_active (span_access b) fill i active)
+        ∙ fields_allowed access m b.address b.length i (b.address + (i - b.body.start) * b.distance) b.segments.size all (omega arith) b.span.end b.segments.fields (omega (arith, room))
     | inr off ↦ elim (cases_Bool fill) [
-      | inl filled ↦ ap (are_allowed access m) (plan_filled (segments_access s body address) fill i off filled) ∙ filled_allowed access m i s.size s.fields
-      | inr kept ↦ ap (are_allowed access m) (plan_kept (segments_access s body address) fill i off kept) ∙ allowed_none access m
+      | inl filled ↦ ap (are_allowed access m) (plan_filled (span_access b) fill i off filled) ∙ filled_allowed access m i b.segments.size b.segments.fields
+      | inr kept ↦ ap (are_allowed access m) (plan_kept (span_access b) fill i off kept) ∙ allowed_none access m
     ]
   ]
+
+-- ---- the access whose span it is
+
+same_transfers : (each other : Plan) (i n : ℕ) → ((k : ℕ) → k < n → each (i + k) ≡ other (i + k)) → transfers each i n ≡ transfers other i n
+unfolding transfers
+same_transfers each other i zero h = refl
+same_transfers each other i (suc n) h =
+    let first : each i ≡ other i = ap each (sym (add-zero i)) ∙ h 0 (omega arith) ∙ ap other (add-zero i) in
+    ap₂ (λ xs ys. xs ++ ys) first
+    (same_transfers each other (i + 1) n (λ k less.
+    let at : (i + 1) + k ≡ i + (k + 1) = omega arith in
+    ap each at ∙ h (k + 1) (omega (arith, less)) ∙ ap other (sym at)))
+
+-- the transfers of an index, by its address
+at_address : (s : Segments) (body : Body) (f g : ℕ → ℕ) (fill : Bool) (i : ℕ) → f i ≡ g i
+    → plan (segments_access s body f) fill i ≡ plan (segments_access s body g) fill i
+unfolding plan
+at_address s body f g fill i e =
+    ap (λ x. if is_let body i then moved_segment i x s.size s.fields else if fill then filled_segment i s.size s.fields else []) e
+
+module _ (s : Segments) (body : Body) (address : ℕ → ℕ) (stop : ℕ) (b : Span) (is : IsSpanOf s body address stop b) where
+  same_plan : (fill : Bool) (i : ℕ) → body.start ≤ i → i < stop → plan (segments_access s body address) fill i ≡ plan (span_access b) fill i
+  same_plan fill i low high =
+      let at : body.start + (i - body.start) ≡ i = omega (arith, low) in
+      at_address s body address (λ i. b.address + (i - body.start) * b.distance) fill i
+      (ap address (sym at) ∙ is.begins (i - body.start) (omega (arith, low, high)))
+      ∙ ap (λ (x : Segments). plan (segments_access x body (λ i. b.address + (i - body.start) * b.distance)) fill i) (sym is.same_segments)
+      ∙ ap (λ (y : Body). plan (segments_access b.segments y (λ i. b.address + (i - y.start) * b.distance)) fill i) (sym is.same_body)
+
+  moved : (fill : Bool) → span_transfers b fill ≡ transfers (plan (segments_access s body address) fill) body.start (stop - body.start)
+  moved fill =
+      ap (λ (y : Body). transfers (plan (span_access b) fill) y.start (b.stop - y.start)) is.same_body
+      ∙ ap (λ n. transfers (plan (span_access b) fill) body.start (n - body.start)) is.same_stop
+      ∙ sym (same_transfers (plan (segments_access s body address) fill) (plan (span_access b) fill) body.start (stop - body.start)
+      (λ k less. same_plan fill (body.start + k) (omega arith) (omega (arith, less))))
 
   -- an instruction that moves it stops after it
   pub span_ends : (fill : Bool) (access : Access) (m : Memory) (limit : ℕ) → stop ≡ min body.end (body.start + limit) → can_access access m b.address b.length ≡ true
       → Stopped access m (plan (segments_access s body address) fill) body.start (body.start + limit) body.end stop (cond (nat_lt stop body.end) (Cut stop) Done)
   span_ends fill access m limit e all =
       stops_all access m (plan (segments_access s body address) fill) body.start (body.start + limit) body.end stop e (omega arith)
-      (span_allowed fill access m all)
+      (λ i low high.
+      let from : b.body.start ≤ i = omega (arith, low, ap (λ (y : Body). y.start) is.same_body) in
+      ap (are_allowed access m) (same_plan fill i low high) ∙ span_allowed b fill access m all i from (omega (arith, high, is.same_stop)))
+
+  -- and leaves what it leaves
+  pub span_loads : (fill : Bool) (m : Memory) (file : List ℕ) → registers_loaded m (place_in b.segments) file (span_transfers b fill)
+      ≡ registers_loaded m (place_in s) file (transfers (plan (segments_access s body address) fill) body.start (stop - body.start))
+  span_loads fill m file =
+      ap (λ (x : Segments). registers_loaded m (place_in x) file (span_transfers b fill)) is.same_segments ∙ ap (registers_loaded m (place_in s) file) (moved fill)
+
+  pub span_stores : (m : Memory) (file : List ℕ) → memory_stored m (place_in b.segments) file (span_transfers b false)
+      ≡ memory_stored m (place_in s) file (transfers (plan (segments_access s body address) false) body.start (stop - body.start))
+  span_stores m file =
+      ap (λ (x : Segments). memory_stored m (place_in x) file (span_transfers b false)) is.same_segments ∙ ap (memory_stored m (place_in s) file) (moved false)

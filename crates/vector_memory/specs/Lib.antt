@@ -5,4 +5,5 @@ pub mod FieldOrder
 pub mod Moves
 pub mod Runs
 pub mod SegmentRoom
+pub mod SpanAccess
 pub mod Spans

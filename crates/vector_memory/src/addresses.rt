@@ -1,7 +1,6 @@
 //! Where the segments of a load or store begin ("V" Vector Extension 1.0, sections 7.4 to 7.6).
-ghost use Rattle.std.specs.Prelude.{◌≡◌, ◌+◌, ◌*◌, ◌%◌, ◌^◌, ⊤, ℕ, IfSome};
+ghost use Rattle.std.specs.Prelude.{◌≡◌, ◌+◌, ◌*◌, ◌/◌, ◌%◌, ◌^◌, ◌<◌, ℕ, IfSome, length};
 ghost use Rattle.rv_model.specs.elements.Elements.{element};
-ghost use Rattle.rv_model.specs.lending.Writes.{HasElement};
 ghost use Rattle.rv_model.specs.vector.Configuration.{element_width, sew_width, width_bytes};
 
 use lane_arith::Lane;
@@ -12,12 +11,12 @@ pub(crate) trait Addresses {
     // The address at an index.
     ghost address: { Self → ℕ → ℕ };
 
-    // There is one at this index.
-    ghost has: { Self → ℕ → Type 0 };
+    // For how many indices there is one.
+    ghost count: { Self → ℕ };
 
     /// The address of the segment at an index.
     fn address(&self, index: usize) -> u64
-        requires { has self.now index }
+        requires { index < count self.now }
         ensures { result ≡ address self.now index };
 
     /// How many bytes after one segment the next begins, where it does so for each.
@@ -35,7 +34,7 @@ pub(crate) struct Strided {
 impl Addresses for Strided {
     ghost address = { λ s i. (s.base + i * s.stride) % 2 ^ 64 };
 
-    ghost has = { λ s i. ⊤ };
+    ghost count = { λ s. 2 ^ 64 };
 
     #[inline(always)]
     fn address(&self, index: usize) -> u64 {
@@ -62,7 +61,7 @@ impl Addresses for Indexed<'_> {
     ghost address = { λ s i. (s.base
         + element (width_bytes (sew_width (element_width s.width))) s.offsets.now i) % 2 ^ 64 };
 
-    ghost has = { λ s i. HasElement (width_bytes (sew_width (element_width s.width))) s.offsets.now i };
+    ghost count = { λ s. length s.offsets.now / width_bytes (sew_width (element_width s.width)) };
 
     #[inline(always)]
     fn address(&self, index: usize) -> u64 {

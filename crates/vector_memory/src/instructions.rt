@@ -1,27 +1,25 @@
 //! Each vector load and store ("V" Vector Extension 1.0, chapter 7).
-ghost use Rattle.std.specs.Prelude.{◌≡◌, ◌+◌, ◌%◌, ◌^◌, ◌≤◌, IfSome, IsTrue, Some, false, true};
+ghost use Rattle.std.specs.Prelude.{◌≡◌, ◌+◌, ◌≤◌, IfSome, IsTrue, Some, false, true};
 ghost use Rattle.rv_model.specs.accesses.AccessRuns.{access_run};
 ghost use Rattle.rv_model.specs.accesses.Restarts.{AccessGoesOn};
-ghost use Rattle.rv_model.specs.elements.Arithmetic.{body_of, group_element};
-ghost use Rattle.rv_model.specs.lending.GroupBounds.{HasRoom as GroupHasRoom, IsInside, emul};
+ghost use Rattle.rv_model.specs.lending.GroupBounds.{emul};
 ghost use Rattle.rv_model.specs.legality.Legality.{is_legal};
-ghost use Rattle.rv_model.specs.vector.Configuration.{IsConfiguration, element_width, sew_bits, sew_width, vlmax};
+ghost use Rattle.rv_model.specs.vector.Configuration.{IsConfiguration, element_width, sew_bits, vlmax};
 ghost use Rattle.rv_model.specs.vector.Registers.{registers};
 ghost use Rattle.vector_memory.specs.AccessKinds.{is_offset_access, is_segment_access};
 ghost use Rattle.vector_memory.specs.Distances.{grouped, operation, transfer_of, whole};
-ghost use Rattle.vector_memory.specs.Runs.{RunLeaves, segments_run};
-ghost use Rattle.vector_memory.specs.SegmentRoom.{HasRoom};
+ghost use Rattle.vector_memory.specs.Runs.{RunLeaves};
 
-use crate::addresses::{Indexed, Strided};
+use crate::addresses::Strided;
+use crate::indexed::IndexedTransfer;
 use crate::length::{element_bytes, mask_length, whole_length};
-use crate::runs::{Extent, run_unit};
+use crate::runs::Extent;
 use crate::segments::Segments;
 use crate::transfers::Transfer;
 use crate::user_bytes::UserBytes;
-use lane_arith::Body;
-use reg_groups::{emul, group_copy, mask_register, register_count, registers};
+use reg_groups::{emul, register_count, registers};
 use rv_model::instructions::operations::{Direction, Eew, RegisterCount, UnitOp};
-use rv_model::{AccessInstr, Field, GROUP_BYTES, Instr, MemEnd, Scalar, Sew, VReg, VState, VType};
+use rv_model::{AccessInstr, Field, Instr, MemEnd, Scalar, Sew, VReg, VState, VType};
 
 /// The same direction, of an operation that may be a fault-only-first load.
 #[inline(always)]
@@ -56,25 +54,33 @@ fn grouped_segments(nf: Field<3>, size: usize, emul: u32, register: VReg) -> Seg
     }
 }
 
-/// A transfer of segments of `nf` + 1 fields of a width, as many as the vector length says, if there is a vector type.
-#[inline(always)]
-fn grouped_transfer(
-    op: UnitOp,
+/// The fields of the segments of a load or store: the width of each, one less than how many a segment has, and the register where
+/// the first begins.
+#[derive(Clone, Copy)]
+struct Fields {
     width: Eew,
     nf: Field<3>,
     vd: VReg,
+}
+
+/// A transfer of segments of these fields, as many as the vector length says, if there is a vector type.
+#[inline(always)]
+fn grouped_transfer(
+    op: UnitOp,
+    fields: Fields,
     addresses: Strided,
     unmasked: bool,
     state: &VState,
 ) -> Option<Transfer>
-    ensures value { result ≡ grouped op width nf vd addresses unmasked state.now state.now.conf.vtype }
+    ensures value { result ≡ grouped op fields.width fields.nf fields.vd addresses unmasked state.now state.now.conf.vtype }
     ensures fields { IfSome result (λ t. t.segments.fields ≤ 8) }
 {
     let vtype = state.conf.vtype()?;
+    let emul = emul_of(fields.width, vtype);
     Some(Transfer {
         op,
         unmasked,
-        segments: grouped_segments(nf, element_bytes(width), emul_of(width, vtype), vd),
+        segments: grouped_segments(fields.nf, element_bytes(fields.width), emul, fields.vd),
         addresses,
         count: usize::from(state.conf.vl()),
     })
@@ -161,7 +167,8 @@ fn transfer_of(access: &AccessInstr, state: &VState, scalar: &Scalar) -> Option<
                 base: scalar.read(rs1),
                 stride: (nf.value() as u64 + 1) * element_bytes(width) as u64,
             };
-            grouped_transfer(op, width, nf, vd, addresses, vm, state)
+            let fields = Fields { width, nf, vd };
+            grouped_transfer(op, fields, addresses, vm, state)
         }
         AccessInstr::Strided {
             direction,
@@ -177,7 +184,8 @@ fn transfer_of(access: &AccessInstr, state: &VState, scalar: &Scalar) -> Option<
                 stride: scalar.read(rs2),
             };
             let op = operation(direction);
-            grouped_transfer(op, width, nf, vd, addresses, vm, state)
+            let fields = Fields { width, nf, vd };
+            grouped_transfer(op, fields, addresses, vm, state)
         }
         AccessInstr::Indexed { .. } => None,
         _ => register_transfer(access, state, scalar),
@@ -193,50 +201,6 @@ fn is_indexed(access: &AccessInstr) -> bool
         AccessInstr::Indexed { .. } => true,
         _ => false,
     }
-}
-
-/// A group of offsets in bytes: its first register, the width of an offset, and the multiplier in eighths of
-/// a register.
-#[derive(Clone, Copy)]
-struct Offsets {
-    first: VReg,
-    width: Eew,
-    emul: u32,
-}
-
-/// Loads or stores segments at offsets from `base`.
-#[inline(never)]
-fn run_indexed<M: UserBytes>(
-    direction: Direction,
-    segments: &Segments,
-    base: u64,
-    offsets: Offsets,
-    unmasked: bool,
-    extent: Extent,
-    memory: &mut M,
-    state: &mut VState,
-) -> MemEnd
-    requires room { HasRoom segments.now state.old.conf.vl }
-    requires inside { IsInside offsets.first offsets.emul }
-    requires offsets { GroupHasRoom (sew_width (element_width offsets.width)) offsets.emul state.old.conf.vl }
-    ensures run { RunLeaves (segments_run (operation direction) extent.limit extent.fill_masked_off segments.now
-        (body_of unmasked state.old)
-        (λ i. (base + group_element (record { width = sew_width (element_width offsets.width); emul = offsets.emul })
-        state.old.file offsets.first i) % 2 ^ 64)
-        state.old (M.memory memory.old)) result state.new (M.memory memory.new) }
-    ensures others { memory.new ≡ M.with_memory memory.old (M.memory memory.new) }
-{
-    let mask = mask_register(&state.file);
-    let start = usize::from(state.vstart);
-    let body = Body::new(unmasked, &mask, start, usize::from(state.conf.vl()));
-    let mut copy = [0; GROUP_BYTES];
-    let addresses = Indexed {
-        base,
-        offsets: group_copy(&state.file, offsets.first, offsets.emul, &mut copy),
-        width: offsets.width,
-    };
-    let op = operation(direction);
-    run_unit(op, segments, &addresses, &body, extent, memory, state)
 }
 
 /// A load or store at offsets, under a vector type; its elements have the width that the type has.
@@ -272,15 +236,16 @@ fn run_offsets_under<M: UserBytes>(
         } => {
             let size = usize::from(vtype.sew.bits() / 8);
             let segments = grouped_segments(nf, size, u32::from(vtype.lmul.eighths()), vd);
-            let offsets = Offsets {
+            let transfer = IndexedTransfer {
+                op: operation(direction),
+                unmasked: vm,
+                segments,
+                base: scalar.read(rs1),
                 first: vs2,
                 width,
                 emul: emul_of(width, vtype),
             };
-            let base = scalar.read(rs1);
-            run_indexed(
-                direction, &segments, base, offsets, vm, extent, memory, state,
-            )
+            transfer.run_segments(extent, memory, state)
         }
         _ => MemEnd::Done,
     }

@@ -1,86 +1,79 @@
 //! Loads and stores whose bytes lie close together: they are read and written at once, and their elements are copied
 //! from and to a buffer ("V" Vector Extension 1.0, sections 7.4, 7.5, 7.8 and 7.9).
-ghost use Rattle.std.specs.Prelude.{◌≡◌, ◌+◌, ◌<◌, ◌≤◌, ℕ, IfSome, length, true, false};
-ghost use Rattle.rv_model.specs.accesses.Transfers.{memory_stored, registers_loaded};
-ghost use Rattle.rv_model.specs.declared.memory.Access.TheVariants.{Load, Store};
-ghost use Rattle.rv_model.specs.memory.Memory.{Memory, can_access, put_bytes};
-ghost use Rattle.vector_memory.specs.SegmentRoom.{HasRoom, place_in, transfers_to};
-ghost use Rattle.vector_memory.specs.Spans.{Follows, IsSpan};
+ghost use Rattle.vector_memory.specs.Spans.{IsSpan};
 
-use crate::addresses::Addresses;
 use crate::segments::Segments;
-use crate::span_blends::{read_contiguous, write_contiguous};
-use crate::span_elements::{read_elements, write_elements};
 use crate::user_bytes::UserBytes;
 use lane_arith::Body;
 use rv_model::{Access, GROUP_BYTES, VFile};
 
 /// The bytes from the first of some segments on to the end of the last: their address, and how many they are. Each segment
-/// begins `distance` bytes after the one before.
-#[derive(Clone, Copy)]
-pub(crate) struct Span {
+/// begins `distance` bytes after the one before. They are the segments of the indices of a body up to `stop`.
+#[derive(Drop)]
+pub(crate) struct Span<'a> {
+    pub segments: Segments,
+    pub body: Body<'a>,
+    pub stop: usize,
     pub address: u64,
     pub length: usize,
     pub distance: usize,
+    ghost span: { IsSpan segments body stop address length distance },
 }
 
-/// The span of the indices of a body up to `stop`, if no two segments overlap and it is at most as long as a group of
-/// registers.
-#[inline(always)]
-pub(crate) fn span_of<A: Addresses>(
-    segments: &Segments,
-    addresses: &A,
-    body: &Body<'_>,
-    stop: usize,
-) -> Option<Span>
-    requires stop { stop ≤ body.now.end }
-    requires room { HasRoom segments.now body.now.end }
-    requires count { body.now.end ≤ GROUP_BYTES }
-    requires addresses { (i : ℕ) → i < body.now.end → A.has addresses.now i }
-    ensures span { IfSome result (IsSpan segments.now body.now stop) }
-    ensures begins { IfSome result (Follows body.now stop (A.address addresses.now)) }
-{
-    let start = body.start();
-    if stop <= start {
-        return None;
-    }
-    let segment = segments.fields * segments.size;
-    let distance = addresses.distance()?;
-    if distance < segment || GROUP_BYTES < distance {
-        return None;
-    }
-    let length = (stop - start - 1) * distance + segment;
-    if GROUP_BYTES < length {
-        return None;
-    }
-    let address = addresses.address(start);
-    address.checked_add(length as u64)?;
-    Some(Span {
-        address,
-        length,
-        distance,
-    })
-}
+impl<'a> Span<'a> {
+    ghost use Rattle.std.specs.Prelude.{◌≡◌, false, length, true};
+    ghost use Rattle.rv_model.specs.accesses.Transfers.{memory_stored, registers_loaded};
+    ghost use Rattle.rv_model.specs.declared.memory.Access.TheVariants.{Load, Store};
+    ghost use Rattle.rv_model.specs.memory.Memory.{can_access};
+    ghost use Rattle.vector_memory.specs.SegmentRoom.{place_in};
+    ghost use Rattle.vector_memory.specs.SpanAccess.{IsRead, IsWritten, span_transfers};
 
-impl Span {
-    /// Loads the indices of a body up to `stop`, if each byte of the span may be loaded. Answers whether it did.
+    /// A copy, which no write to the registers or to the bytes can change, so it is read once; with the size of a field as a
+    /// constant that the caller has.
     #[inline(always)]
-    pub(crate) fn load<M: UserBytes>(
-        &self,
-        memory: &M,
-        segments: &Segments,
-        body: &Body<'_>,
-        stop: usize,
-        fill_masked_off: bool,
-        file: &mut VFile,
-    ) -> bool
-        requires room { HasRoom segments.now stop }
-        requires count { stop ≤ GROUP_BYTES }
-        requires span { IsSpan segments.now body.now stop self.now }
+    pub(crate) fn sized(&self, size: usize) -> Span<'a>
+        requires { size ≡ self.now.segments.size }
+        ensures { result ≡ self.now }
+    {
+        Span {
+            segments: self.segments.sized(size),
+            body: self.body.copied(),
+            stop: self.stop,
+            address: self.address,
+            length: self.length,
+            distance: self.distance,
+        }
+    }
+
+    /// Copies its elements from its bytes to the registers; where `fill`, those that are masked off become all ones.
+    #[inline(always)]
+    fn read(&self, bytes: &[u8], fill: bool, file: &mut VFile)
+        requires { length bytes.now ≡ self.now.length }
+        ensures { IsRead self.now fill bytes.now file.old file.new }
+    {
+        if !self.read_contiguous(bytes, fill, file) {
+            self.read_elements(bytes, fill, file);
+        }
+    }
+
+    /// Copies its elements from the registers to its bytes.
+    #[inline(always)]
+    fn write(&self, file: &VFile, bytes: &mut [u8])
+        requires { length bytes.old ≡ self.now.length }
+        ensures size { length bytes.new ≡ length bytes.old }
+        ensures value { IsWritten self.now file.now bytes.old bytes.new }
+    {
+        if !self.write_contiguous(file, bytes) {
+            self.write_elements(file, bytes);
+        }
+    }
+
+    /// Loads its elements, if each byte of the span may be loaded. Answers whether it did.
+    #[inline(always)]
+    pub(crate) fn load<M: UserBytes>(&self, memory: &M, fill: bool, file: &mut VFile) -> bool
         ensures allowed { result ≡ true → can_access Load (M.memory memory.now) self.now.address self.now.length ≡ true }
-        ensures value { result ≡ true → (address : ℕ → ℕ) → Follows body.now stop address self.now
-            → file.new ≡ registers_loaded (M.memory memory.now) (place_in segments.now) file.old
-            (transfers_to segments.now body.now address fill_masked_off stop) }
+        ensures value { result ≡ true → file.new
+            ≡ registers_loaded (M.memory memory.now) (place_in self.now.segments) file.old (span_transfers self.now fill) }
         ensures unchanged { result ≡ false → file.new ≡ file.old }
     {
         let mut buffer = [0; GROUP_BYTES];
@@ -88,54 +81,16 @@ impl Span {
         let Ok(()) = memory.read(self.address, Access::Load, bytes) else {
             return false;
         };
-        if read_contiguous(bytes, *self, segments, body, stop, fill_masked_off, file) {
-            return true;
-        }
-        read_elements(bytes, *self, segments, body, stop, fill_masked_off, file);
+        self.read(bytes, fill, file);
         true
     }
 
-    /// Copies the indices of a body up to `stop` from the registers to the span.
+    /// Stores its elements, if each byte of the span may be stored. Answers whether it did.
     #[inline(always)]
-    fn write(
-        &self,
-        file: &VFile,
-        segments: &Segments,
-        body: &Body<'_>,
-        stop: usize,
-        bytes: &mut [u8],
-    )
-        requires room { HasRoom segments.now stop }
-        requires count { stop ≤ GROUP_BYTES }
-        requires span { IsSpan segments.now body.now stop self.now }
-        requires length { length bytes.old ≡ self.now.length }
-        ensures size { length bytes.new ≡ length bytes.old }
-        ensures value { (m : Memory) (address : ℕ → ℕ) → Follows body.now stop address self.now
-            → put_bytes m self.now.address bytes.new ≡ memory_stored (put_bytes m self.now.address bytes.old) (place_in segments.now) file.now
-            (transfers_to segments.now body.now address false stop) }
-    {
-        if !write_contiguous(file, segments, body, stop, *self, bytes) {
-            write_elements(file, segments, body, stop, *self, bytes);
-        }
-    }
-
-    /// Stores the indices of a body up to `stop`, if each byte of the span may be stored. Answers whether it did.
-    #[inline(always)]
-    pub(crate) fn store<M: UserBytes>(
-        &self,
-        file: &VFile,
-        segments: &Segments,
-        body: &Body<'_>,
-        stop: usize,
-        memory: &mut M,
-    ) -> bool
-        requires room { HasRoom segments.now stop }
-        requires count { stop ≤ GROUP_BYTES }
-        requires span { IsSpan segments.now body.now stop self.now }
+    pub(crate) fn store<M: UserBytes>(&self, file: &VFile, memory: &mut M) -> bool
         ensures allowed { result ≡ true → can_access Store (M.memory memory.old) self.now.address self.now.length ≡ true }
-        ensures value { result ≡ true → (address : ℕ → ℕ) → Follows body.now stop address self.now
-            → M.memory memory.new ≡ memory_stored (M.memory memory.old) (place_in segments.now) file.now
-            (transfers_to segments.now body.now address false stop) }
+        ensures value { result ≡ true → M.memory memory.new
+            ≡ memory_stored (M.memory memory.old) (place_in self.now.segments) file.now (span_transfers self.now false) }
         ensures others { result ≡ true → memory.new ≡ M.with_memory memory.old (M.memory memory.new) }
         ensures unchanged { result ≡ false → memory.new ≡ memory.old }
     {
@@ -144,7 +99,7 @@ impl Span {
         let Ok(()) = memory.read(self.address, Access::Store, bytes) else {
             return false;
         };
-        self.write(file, segments, body, stop, bytes);
+        self.write(file, bytes);
         let Ok(()) = memory.write(self.address, Access::Store, bytes) else {
             return false;
         };

@@ -13,7 +13,8 @@ ghost use Rattle.vector_memory.specs.declared.segments.Segments.{Segments as Seg
 
 use crate::addresses::Strided;
 use crate::blocks::Block;
-use crate::runs::{Extent, run_unit};
+use crate::moves::Moves;
+use crate::runs::Extent;
 use crate::segments::Segments;
 use crate::user_bytes::UserBytes;
 use lane_arith::Body;
@@ -142,15 +143,11 @@ impl Transfer {
     {
         let mask = mask_register(&state.file);
         let start = usize::from(state.vstart);
-        let body = Body::new(self.unmasked, &mask, start, self.count);
-        run_unit(
-            self.op,
-            &self.segments,
-            &self.addresses,
-            &body,
-            extent,
-            memory,
-            state,
-        )
+        let moves = Moves {
+            segments: self.segments,
+            addresses: self.addresses,
+            body: Body::new(self.unmasked, &mask, start, self.count),
+        };
+        moves.run(self.op, extent, memory, state)
     }
 }

@@ -1,0 +1,66 @@
+//! Loads and stores of segments at offsets ("V" Vector Extension 1.0, sections 7.6 and 7.8).
+ghost use Rattle.std.specs.Prelude.{◌≡◌, ◌+◌, ◌%◌, ◌^◌};
+ghost use Rattle.rv_model.specs.elements.Arithmetic.{body_of, group_element};
+ghost use Rattle.rv_model.specs.lending.GroupBounds.{HasRoom as GroupHasRoom, IsInside};
+ghost use Rattle.rv_model.specs.vector.Configuration.{element_width, sew_width};
+ghost use Rattle.vector_memory.specs.Runs.{RunLeaves, segments_run};
+ghost use Rattle.vector_memory.specs.SegmentRoom.{HasRoom};
+
+use crate::addresses::Indexed;
+use crate::moves::Moves;
+use crate::runs::Extent;
+use crate::segments::Segments;
+use crate::user_bytes::UserBytes;
+use lane_arith::Body;
+use reg_groups::{group_copy, mask_register};
+use rv_model::instructions::operations::{Eew, UnitOp};
+use rv_model::{GROUP_BYTES, MemEnd, VReg, VState};
+
+/// What such a load or store does: whether none of its segments is masked off, and the segments. They lie at offsets in bytes from
+/// `base`; the offsets are a group: its first register, the width of an offset, and the multiplier in eighths of a register.
+#[derive(Clone, Copy)]
+pub(crate) struct IndexedTransfer {
+    pub op: UnitOp,
+    pub unmasked: bool,
+    pub segments: Segments,
+    pub base: u64,
+    pub first: VReg,
+    pub width: Eew,
+    pub emul: u32,
+}
+
+impl IndexedTransfer {
+    /// Carries it out segment by segment, for as many as the vector length says.
+    #[inline(never)]
+    pub(crate) fn run_segments<M: UserBytes>(
+        &self,
+        extent: Extent,
+        memory: &mut M,
+        state: &mut VState,
+    ) -> MemEnd
+        requires op { ¬ (self.now.op ≡ UnitOp.FaultOnlyFirst) }
+        requires room { HasRoom self.now.segments state.old.conf.vl }
+        requires inside { IsInside self.now.first self.now.emul }
+        requires offsets { GroupHasRoom (sew_width (element_width self.now.width)) self.now.emul state.old.conf.vl }
+        ensures run { RunLeaves (segments_run self.now.op extent.limit extent.fill_masked_off self.now.segments
+            (body_of self.now.unmasked state.old)
+            (λ i. (self.now.base + group_element (record { width = sew_width (element_width self.now.width); emul = self.now.emul })
+            state.old.file self.now.first i) % 2 ^ 64)
+            state.old (M.memory memory.old)) result state.new (M.memory memory.new) }
+        ensures others { memory.new ≡ M.with_memory memory.old (M.memory memory.new) }
+    {
+        let mask = mask_register(&state.file);
+        let start = usize::from(state.vstart);
+        let mut copy = [0; GROUP_BYTES];
+        let moves = Moves {
+            segments: self.segments,
+            addresses: Indexed {
+                base: self.base,
+                offsets: group_copy(&state.file, self.first, self.emul, &mut copy),
+                width: self.width,
+            },
+            body: Body::new(self.unmasked, &mask, start, usize::from(state.conf.vl())),
+        };
+        moves.run(self.op, extent, memory, state)
+    }
+}

@@ -1,0 +1,67 @@
+//! What a load or store moves ("V" Vector Extension 1.0, sections 7.4 to 7.9).
+ghost use Rattle.std.specs.Prelude.{◌≤◌};
+ghost use Rattle.rv_model.specs.declared.vector.sizes.TheConstants.{GROUP_BYTES};
+ghost use Rattle.vector_memory.specs.SegmentRoom.{HasRoom};
+
+use crate::addresses::Addresses;
+use crate::segments::Segments;
+use crate::spans::Span;
+use lane_arith::Body;
+use rv_model::GROUP_BYTES;
+
+/// What a load or store moves: the segments of the indices of a body, and where each begins in memory. They have room in the
+/// registers.
+#[derive(Drop)]
+pub(crate) struct Moves<'a, A: Addresses> {
+    pub segments: Segments,
+    pub addresses: A,
+    pub body: Body<'a>,
+    ghost room: { HasRoom segments body.end },
+    ghost most: { body.end ≤ GROUP_BYTES },
+    ghost addressed: { body.end ≤ A.count addresses },
+}
+
+impl<'a, A: Addresses> Moves<'a, A> {
+    ghost use Rattle.std.specs.Prelude.{◌≡◌, ◌+◌, IfSome, min};
+    ghost use Rattle.vector_memory.specs.SpanAccess.{IsSpanOf};
+
+    /// The index after the last of at most `limit` indices.
+    #[inline(always)]
+    pub(crate) fn stop(&self, limit: usize) -> usize
+        ensures { result ≡ min self.now.body.end (self.now.body.start + limit) }
+    {
+        self.body.start().saturating_add(limit).min(self.body.end())
+    }
+
+    /// The span of the indices up to `stop`, if no two segments overlap and it is at most as long as a group of registers.
+    #[inline(always)]
+    pub(crate) fn span(&self, stop: usize) -> Option<Span<'a>>
+        requires { stop ≤ self.now.body.end }
+        ensures { IfSome result
+            (IsSpanOf self.now.segments self.now.body (A.address self.now.addresses) stop) }
+    {
+        let start = self.body.start();
+        if stop <= start {
+            return None;
+        }
+        let segment = self.segments.fields * self.segments.size;
+        let distance = self.addresses.distance()?;
+        if distance < segment || GROUP_BYTES < distance {
+            return None;
+        }
+        let length = (stop - start - 1) * distance + segment;
+        if GROUP_BYTES < length {
+            return None;
+        }
+        let address = self.addresses.address(start);
+        address.checked_add(length as u64)?;
+        Some(Span {
+            segments: self.segments,
+            body: self.body.copied(),
+            stop,
+            address,
+            length,
+            distance,
+        })
+    }
+}
