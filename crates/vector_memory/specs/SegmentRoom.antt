@@ -1,7 +1,7 @@
 -- Where the elements of segments stand in the vector registers ("V" Vector Extension 1.0, section 7.8).
-use Rattle.std.specs.Prelude.{ℕ, ◌+◌, ◌*◌, ◌-◌, ◌≤◌, ◌<◌, Bool, false, List, ⊤}
-use Rattle.rv_model.specs.accesses.Transfers.{Transfer, transfers}
-use Rattle.rv_model.specs.accesses.VectorAccess.{VectorAccess, is_first_only, moved_segment, plan, unit_direction}
+use Rattle.std.specs.Prelude.{ℕ, ◌+◌, ◌*◌, ◌≤◌, ◌<◌, false, List, ⊤}
+use Rattle.rv_model.specs.accesses.Transfers.{Transfer}
+use Rattle.rv_model.specs.accesses.VectorAccess.{VectorAccess, is_first_only, moved_segment, unit_direction}
 use Rattle.rv_model.specs.declared.instructions.operations.Direction.TheVariants as direction
 use Rattle.rv_model.specs.declared.instructions.operations.UnitOp.{UnitOp}
 use Rattle.rv_model.specs.declared.step.memory_end.MemEnd.{MemEnd}
@@ -36,10 +36,6 @@ place_in s t = VLENB * (s.register + t.field * s.field_registers) + t.index * s.
 -- the transfers of the segment of an index, from an address on
 abbrev pub segment_transfers : Segments → ℕ → ℕ → List Transfer
 segment_transfers s index address = moved_segment index address s.size s.fields
-
--- those of the indices of a body up to another
-abbrev pub transfers_to : Segments → Body → (ℕ → ℕ) → Bool → ℕ → List Transfer
-transfers_to s body address fill stop = transfers (plan (segments_access s body address) fill) body.start (stop - body.start)
 
 -- at most eight fields of at most eight bytes each, which end inside the registers and have room for so many elements
 pub record HasRoom (s : Segments) (count : ℕ) : Type 0 where

@@ -26,12 +26,14 @@ pub record IsSpanOf (s : Segments) (body : Body) (address : ℕ → ℕ) (stop :
 -- the registers after a load of a span with these bytes
 abbrev pub IsRead : Span → Bool → List ℕ → List ℕ → List ℕ → Type 0
 IsRead b fill bytes old new =
-    (m : Memory) → bytes ≡ bytes_at m b.address b.length → new ≡ registers_loaded m (place_in b.segments) old (span_transfers b fill)
+    (m : Memory) → bytes ≡ bytes_at m b.address b.length
+    → new ≡ registers_loaded m (place_in b.segments) old (span_transfers b fill)
 
 -- the bytes of a span after a store of these registers
 abbrev pub IsWritten : Span → List ℕ → List ℕ → List ℕ → Type 0
 IsWritten b file old new =
-    (m : Memory) → put_bytes m b.address new ≡ memory_stored (put_bytes m b.address old) (place_in b.segments) file (span_transfers b false)
+    (m : Memory) → put_bytes m b.address new
+    ≡ memory_stored (put_bytes m b.address old) (place_in b.segments) file (span_transfers b false)
 
 -- elements of one field, contiguous, from the first on
 pub record IsBlend (b : Span) : Type 0 where

@@ -5,8 +5,8 @@ use Rattle.rv_model.specs.elements.Elements.{Body}
 use Rattle.vector_memory.specs.SegmentRoom.{HasRoom}
 use Rattle.vector_memory.specs.declared.segments.Segments.{Segments}
 
--- so many bytes from an address on have room for each segment of the indices of a body up to another, each of which begins so
--- many bytes after the one before; and the registers have room for these segments
+-- so many bytes from an address on have room for each segment of the indices of a body up to another, each of which
+-- begins so many bytes after the one before; and the registers have room for these segments
 pub record IsSpan (s : Segments) (body : Body) (stop address count distance : ℕ) : Type 0 where
   pub room : HasRoom s stop
   pub most : stop ≤ GROUP_BYTES

@@ -21,7 +21,8 @@ pub(crate) trait Addresses {
 
     /// How many bytes after one segment the next begins, where it does so for each.
     fn distance(&self) -> Option<usize>
-        ensures { IfSome result (λ distance. (i k : ℕ) → address self.now (i + k) ≡ (address self.now i + k * distance) % 2 ^ 64) };
+        ensures { IfSome result (λ distance. (i k : ℕ)
+            → address self.now (i + k) ≡ (address self.now i + k * distance) % 2 ^ 64) };
 }
 
 /// Segments at a distance of `stride` bytes, modulo 2 ^ 64, from one at `base` on.

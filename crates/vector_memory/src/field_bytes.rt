@@ -62,7 +62,8 @@ fn store_part<M: UserBytes>(
     requires { place + size ≤ FILE_BYTES }
     ensures ok { IsOk result ↔ (can_access Store (M.memory memory.old) address size ≡ true) }
     ensures fault { IfErr result (λ fault. fault.addr ≡ address) }
-    ensures value { OnOk result (M.memory memory.new ≡ put_bytes (M.memory memory.old) address (chunk place size file.now)) }
+    ensures value { OnOk result
+        (M.memory memory.new ≡ put_bytes (M.memory memory.old) address (chunk place size file.now)) }
     ensures others { OnOk result (memory.new ≡ M.with_memory memory.old (M.memory memory.new)) }
     ensures unchanged { OnErr result (memory.new ≡ memory.old) }
 {
@@ -82,7 +83,8 @@ pub(crate) fn store_bytes<M: UserBytes>(
     requires { place + size ≤ FILE_BYTES }
     ensures ok { IsOk result ↔ (can_access Store (M.memory memory.old) address size ≡ true) }
     ensures fault { IfErr result (λ fault. fault.addr ≡ address) }
-    ensures value { OnOk result (M.memory memory.new ≡ put_bytes (M.memory memory.old) address (chunk place size file.now)) }
+    ensures value { OnOk result
+        (M.memory memory.new ≡ put_bytes (M.memory memory.old) address (chunk place size file.now)) }
     ensures others { OnOk result (memory.new ≡ M.with_memory memory.old (M.memory memory.new)) }
     ensures unchanged { OnErr result (memory.new ≡ memory.old) }
 {

@@ -16,8 +16,9 @@ use reg_groups::{group_copy, mask_register};
 use rv_model::instructions::operations::{Eew, UnitOp};
 use rv_model::{GROUP_BYTES, MemEnd, VReg, VState};
 
-/// What such a load or store does: whether none of its segments is masked off, and the segments. They lie at offsets in bytes from
-/// `base`; the offsets are a group: its first register, the width of an offset, and the multiplier in eighths of a register.
+/// What such a load or store does: whether none of its segments is masked off, and the segments. They lie at offsets in
+/// bytes from `base`; the offsets are a group: its first register, the width of an offset, and the multiplier in
+/// eighths of a register.
 #[derive(Clone, Copy)]
 pub(crate) struct IndexedTransfer {
     pub op: UnitOp,
@@ -44,7 +45,8 @@ impl IndexedTransfer {
         requires offsets { GroupHasRoom (sew_width (element_width self.now.width)) self.now.emul state.old.conf.vl }
         ensures run { RunLeaves (segments_run self.now.op extent.limit extent.fill_masked_off self.now.segments
             (body_of self.now.unmasked state.old)
-            (λ i. (self.now.base + group_element (record { width = sew_width (element_width self.now.width); emul = self.now.emul })
+            (λ i. (self.now.base
+            + group_element (record { width = sew_width (element_width self.now.width); emul = self.now.emul })
             state.old.file self.now.first i) % 2 ^ 64)
             state.old (M.memory memory.old)) result state.new (M.memory memory.new) }
         ensures others { memory.new ≡ M.with_memory memory.old (M.memory memory.new) }

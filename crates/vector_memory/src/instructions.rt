@@ -43,7 +43,8 @@ fn emul_of(width: Eew, vtype: VType) -> u32
 /// Segments of `nf` + 1 fields of so many bytes, in groups of a multiplier in eighths of a register.
 #[inline(always)]
 fn grouped_segments(nf: Field<3>, size: usize, emul: u32, register: VReg) -> Segments
-    ensures value { result ≡ record { fields = nf + 1; size = size; register = register; field_registers = registers emul } }
+    ensures value { result
+        ≡ record { fields = nf + 1; size = size; register = register; field_registers = registers emul } }
     ensures fields { nf + 1 ≤ 8 }
 {
     Segments {
@@ -54,8 +55,8 @@ fn grouped_segments(nf: Field<3>, size: usize, emul: u32, register: VReg) -> Seg
     }
 }
 
-/// The fields of the segments of a load or store: the width of each, one less than how many a segment has, and the register where
-/// the first begins.
+/// The fields of the segments of a load or store: the width of each, one less than how many a segment has, and the
+/// register where the first begins.
 #[derive(Clone, Copy)]
 struct Fields {
     width: Eew,
@@ -72,7 +73,8 @@ fn grouped_transfer(
     unmasked: bool,
     state: &VState,
 ) -> Option<Transfer>
-    ensures value { result ≡ grouped op fields.width fields.nf fields.vd addresses unmasked state.now state.now.conf.vtype }
+    ensures value { result
+        ≡ grouped op fields.width fields.nf fields.vd addresses unmasked state.now state.now.conf.vtype }
     ensures fields { IfSome result (λ t. t.segments.fields ≤ 8) }
 {
     let vtype = state.conf.vtype()?;

@@ -1,9 +1,7 @@
 //! Loads, index by index ("V" Vector Extension 1.0, sections 7.4 to 7.9 and 17.1).
-ghost use Rattle.std.specs.Prelude.{◌≡◌, ◌↔◌, ◌<◌, true, IsOk, IfErr, OnOk, OnErr, IfSome, IfNone};
-ghost use Rattle.rv_model.specs.declared.memory.Access.TheVariants.{Load};
-ghost use Rattle.rv_model.specs.accesses.Transfers.{are_allowed, bad_address, registers_loaded};
+ghost use Rattle.std.specs.Prelude.{◌≡◌, ◌<◌, IfSome, IfNone};
 ghost use Rattle.rv_model.specs.accesses.VectorAccess.{plan};
-ghost use Rattle.vector_memory.specs.Moves.{IsLoaded};
+ghost use Rattle.vector_memory.specs.Moves.{AllLoaded, IsLoaded};
 ghost use Rattle.vector_memory.specs.SegmentRoom.{StopsBefore, segments_access, place_in};
 
 use crate::addresses::Addresses;
@@ -14,30 +12,25 @@ use crate::user_bytes::UserBytes;
 use rv_model::{Access, Fault, MemEnd, VFile};
 
 impl<A: Addresses> Moves<'_, A> {
-    /// Loads the segment of one index, if it is active and wholly allowed; one that is masked off becomes all
-    /// ones if that is asked for.
+    /// Loads the segment of one index, if it is active and wholly allowed; where `fill`, one that is masked off becomes
+    /// all ones.
     #[inline(always)]
     fn load_index<M: UserBytes>(
         &self,
         memory: &M,
-        fill_masked_off: bool,
+        fill: bool,
         index: usize,
         file: &mut VFile,
     ) -> Result<(), Fault>
         requires { index < self.now.body.end }
-        ensures ok { IsOk result ↔ (are_allowed Load (M.memory memory.now) (plan (segments_access
-            self.now.segments self.now.body (A.address self.now.addresses)) fill_masked_off index) ≡ true) }
-        ensures fault { IfErr result (λ fault. fault.addr ≡ bad_address Load (M.memory memory.now) (plan (segments_access
-            self.now.segments self.now.body (A.address self.now.addresses)) fill_masked_off index)) }
-        ensures value { OnOk result (file.new
-            ≡ registers_loaded (M.memory memory.now) (place_in self.now.segments) file.old (plan (segments_access
-            self.now.segments self.now.body (A.address self.now.addresses)) fill_masked_off index)) }
-        ensures unchanged { OnErr result (file.new ≡ file.old) }
+        ensures { AllLoaded (M.memory memory.now) (place_in self.now.segments)
+            (plan (segments_access self.now.segments self.now.body (A.address self.now.addresses)) fill index)
+            file.old result file.new }
     {
         if self.body.lets(index) {
             let address = self.addresses.address(index);
             return self.segments.load_allowed(memory, address, index, file);
-        } else if fill_masked_off {
+        } else if fill {
             self.segments.fill(index, file);
         }
         Ok(())

@@ -9,8 +9,8 @@ use crate::spans::Span;
 use lane_arith::Body;
 use rv_model::GROUP_BYTES;
 
-/// What a load or store moves: the segments of the indices of a body, and where each begins in memory. They have room in the
-/// registers.
+/// What a load or store moves: the segments of the indices of a body, which have room in the registers, and where each
+/// begins in memory.
 #[derive(Drop)]
 pub(crate) struct Moves<'a, A: Addresses> {
     pub segments: Segments,
@@ -33,7 +33,8 @@ impl<'a, A: Addresses> Moves<'a, A> {
         self.body.start().saturating_add(limit).min(self.body.end())
     }
 
-    /// The span of the indices up to `stop`, if no two segments overlap and it is at most as long as a group of registers.
+    /// The span of the indices up to `stop`, if no two segments overlap and it is at most as long as a group of
+    /// registers.
     #[inline(always)]
     pub(crate) fn span(&self, stop: usize) -> Option<Span<'a>>
         requires { stop ≤ self.now.body.end }

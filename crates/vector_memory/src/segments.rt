@@ -4,6 +4,7 @@ ghost use Rattle.rv_model.specs.declared.memory.Access.TheVariants.{Load, Store}
 ghost use Rattle.rv_model.specs.accesses.Transfers.{are_allowed, bad_address, memory_stored, registers_loaded};
 ghost use Rattle.rv_model.specs.accesses.VectorAccess.{filled_segment};
 ghost use Rattle.rv_model.specs.memory.Memory.{Memory};
+ghost use Rattle.vector_memory.specs.Moves.{AllLoaded, AllStored};
 ghost use Rattle.vector_memory.specs.SegmentRoom.{HasRoom, place_in, segment_transfers};
 
 use crate::field_bytes::{load_bytes, store_bytes};
@@ -40,7 +41,8 @@ impl Segments {
     pub(crate) fn place(&self, index: usize, field: usize) -> usize
         requires room { HasRoom self.now (index + 1) }
         requires field { field < self.now.fields }
-        ensures value { result ≡ VLENB * (self.now.register + field * self.now.field_registers) + index * self.now.size }
+        ensures value { result
+            ≡ VLENB * (self.now.register + field * self.now.field_registers) + index * self.now.size }
         ensures inside { result + self.now.size ≤ FILE_BYTES }
     {
         let register = self.register.number() as usize + field * self.field_registers;
@@ -107,12 +109,8 @@ impl Segments {
     ) -> Result<(), Fault>
         requires room { HasRoom self.now (index + 1) }
         requires one { self.now.fields ≡ 1 }
-        ensures ok { IsOk result ↔ (are_allowed Load (M.memory memory.now) (segment_transfers self.now index address) ≡ true) }
-        ensures fault { IfErr result (λ fault. fault.addr
-            ≡ bad_address Load (M.memory memory.now) (segment_transfers self.now index address)) }
-        ensures value { OnOk result (file.new ≡ registers_loaded (M.memory memory.now) (place_in self.now) file.old
-            (segment_transfers self.now index address)) }
-        ensures unchanged { OnErr result (file.new ≡ file.old) }
+        ensures { AllLoaded (M.memory memory.now) (place_in self.now) (segment_transfers self.now index address)
+            file.old result file.new }
     {
         load_bytes(memory, address, self.place(index, 0), self.size, file)
     }
@@ -127,12 +125,8 @@ impl Segments {
         file: &mut VFile,
     ) -> Result<(), Fault>
         requires room { HasRoom self.now (index + 1) }
-        ensures ok { IsOk result ↔ (are_allowed Load (M.memory memory.now) (segment_transfers self.now index address) ≡ true) }
-        ensures fault { IfErr result (λ fault. fault.addr
-            ≡ bad_address Load (M.memory memory.now) (segment_transfers self.now index address)) }
-        ensures value { OnOk result (file.new ≡ registers_loaded (M.memory memory.now) (place_in self.now) file.old
-            (segment_transfers self.now index address)) }
-        ensures unchanged { OnErr result (file.new ≡ file.old) }
+        ensures { AllLoaded (M.memory memory.now) (place_in self.now) (segment_transfers self.now index address)
+            file.old result file.new }
     {
         if self.fields == 1 {
             return self.load_only_field(memory, address, index, file);
@@ -187,11 +181,8 @@ impl Segments {
     ) -> Result<(), Fault>
         requires room { HasRoom self.now (index + 1) }
         requires one { self.now.fields ≡ 1 }
-        ensures ok { IsOk result ↔ (are_allowed Store (M.memory memory.old) (segment_transfers self.now index address) ≡ true) }
-        ensures fault { IfErr result (λ fault. fault.addr
-            ≡ bad_address Store (M.memory memory.old) (segment_transfers self.now index address)) }
-        ensures value { OnOk result (M.memory memory.new ≡ memory_stored (M.memory memory.old) (place_in self.now) file.now
-            (segment_transfers self.now index address)) }
+        ensures stored { AllStored (place_in self.now) file.now (segment_transfers self.now index address)
+            (M.memory memory.old) result (M.memory memory.new) }
         ensures others { OnOk result (memory.new ≡ M.with_memory memory.old (M.memory memory.new)) }
         ensures unchanged { OnErr result (memory.new ≡ memory.old) }
     {
@@ -208,11 +199,8 @@ impl Segments {
         memory: &mut M,
     ) -> Result<(), Fault>
         requires room { HasRoom self.now (index + 1) }
-        ensures ok { IsOk result ↔ (are_allowed Store (M.memory memory.old) (segment_transfers self.now index address) ≡ true) }
-        ensures fault { IfErr result (λ fault. fault.addr
-            ≡ bad_address Store (M.memory memory.old) (segment_transfers self.now index address)) }
-        ensures value { OnOk result (M.memory memory.new ≡ memory_stored (M.memory memory.old) (place_in self.now) file.now
-            (segment_transfers self.now index address)) }
+        ensures stored { AllStored (place_in self.now) file.now (segment_transfers self.now index address)
+            (M.memory memory.old) result (M.memory memory.new) }
         ensures others { OnOk result (memory.new ≡ M.with_memory memory.old (M.memory memory.new)) }
         ensures unchanged { OnErr result (memory.new ≡ memory.old) }
     {

@@ -38,7 +38,8 @@ fn blend<L: Lane>(elements: &[u8], body: &Body<'_>, fill_masked_off: bool, desti
     requires room { width_bytes L.width * body.now.end ≤ length destination.old }
     requires count { body.now.end ≤ GROUP_BYTES }
     ensures writes { Writes (width_bytes L.width) (is_changed body.now fill_masked_off false)
-        (result_or_ones body.now (λ i. element (width_bytes L.width) elements.now i) (ones L.width)) destination.old destination.new }
+        (result_or_ones body.now (λ i. element (width_bytes L.width) elements.now i) (ones L.width))
+        destination.old destination.new }
     ensures bytes { (j : ℕ) → slice_index elements.now j < 256 }
 {
     let results = Elements { bytes: elements };
@@ -75,8 +76,8 @@ impl Span<'_> {
         blend::<L>(bytes, &self.part(), fill, group);
     }
 
-    /// Copies its active elements from its bytes to the registers, if they are those of one field, contiguous, from the first
-    /// on. Answers whether it did.
+    /// Copies its active elements from its bytes to the registers, if they are those of one field, contiguous, from the
+    /// first on. Answers whether it did.
     #[inline(never)]
     pub(crate) fn read_contiguous(&self, bytes: &[u8], fill: bool, file: &mut VFile) -> bool
         requires length { length bytes.now ≡ self.now.length }
@@ -110,8 +111,8 @@ impl Span<'_> {
         blend::<L>(group, &self.part(), false, bytes);
     }
 
-    /// Copies its active elements from the registers to its bytes, if they are those of one field, contiguous, from the first
-    /// on. Answers whether it did.
+    /// Copies its active elements from the registers to its bytes, if they are those of one field, contiguous, from the
+    /// first on. Answers whether it did.
     #[inline(never)]
     pub(crate) fn write_contiguous(&self, file: &VFile, bytes: &mut [u8]) -> bool
         requires length { length bytes.old ≡ self.now.length }

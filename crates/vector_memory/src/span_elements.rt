@@ -1,5 +1,5 @@
-//! Elements copied between the registers and a span of memory, field after field ("V" Vector Extension 1.0, sections 7.4,
-//! 7.5, 7.8 and 7.9).
+//! Elements copied between the registers and a span of memory, field after field ("V" Vector Extension 1.0, sections
+//! 7.4, 7.5, 7.8 and 7.9).
 ghost use Rattle.std.specs.Prelude.{◌≡◌, ◌-◌, ◌<◌, length};
 ghost use Rattle.rv_model.specs.memory.Memory.{Memory, bytes_at, put_bytes};
 ghost use Rattle.vector_memory.specs.FieldOrder.{for_each, load_field, store_field};
@@ -77,8 +77,8 @@ impl Span<'_> {
         }
     }
 
-    /// Copies the elements of the active indices from its bytes to the registers; where `fill`, those that are masked off become
-    /// all ones. The sizes of an element stand as constants, so that each is copied at once.
+    /// Copies the elements of the active indices from its bytes to the registers; where `fill`, those that are masked
+    /// off become all ones. The sizes of an element stand as constants, so that each is copied at once.
     #[inline(never)]
     pub(crate) fn read_elements(&self, bytes: &[u8], fill: bool, file: &mut VFile)
         requires length { length bytes.now ≡ self.now.length }

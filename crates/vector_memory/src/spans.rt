@@ -7,8 +7,8 @@ use crate::user_bytes::UserBytes;
 use lane_arith::Body;
 use rv_model::{Access, GROUP_BYTES, VFile};
 
-/// The bytes from the first of some segments on to the end of the last: their address, and how many they are. Each segment
-/// begins `distance` bytes after the one before. They are the segments of the indices of a body up to `stop`.
+/// The segments of the indices of a body up to `stop`, and the bytes from the first of them on to the end of the last:
+/// their address, and how many they are. Each segment begins `distance` bytes after the one before.
 #[derive(Drop)]
 pub(crate) struct Span<'a> {
     pub segments: Segments,
@@ -28,8 +28,8 @@ impl<'a> Span<'a> {
     ghost use Rattle.vector_memory.specs.SegmentRoom.{place_in};
     ghost use Rattle.vector_memory.specs.SpanAccess.{IsRead, IsWritten, span_transfers};
 
-    /// A copy, which no write to the registers or to the bytes can change, so it is read once; with the size of a field as a
-    /// constant that the caller has.
+    /// A copy, which no write to the registers or to the bytes can change, so it is read once; with the size of a field
+    /// as a constant that the caller has.
     #[inline(always)]
     pub(crate) fn sized(&self, size: usize) -> Span<'a>
         requires { size ≡ self.now.segments.size }
@@ -71,9 +71,11 @@ impl<'a> Span<'a> {
     /// Loads its elements, if each byte of the span may be loaded. Answers whether it did.
     #[inline(always)]
     pub(crate) fn load<M: UserBytes>(&self, memory: &M, fill: bool, file: &mut VFile) -> bool
-        ensures allowed { result ≡ true → can_access Load (M.memory memory.now) self.now.address self.now.length ≡ true }
+        ensures allowed { result ≡ true
+            → can_access Load (M.memory memory.now) self.now.address self.now.length ≡ true }
         ensures value { result ≡ true → file.new
-            ≡ registers_loaded (M.memory memory.now) (place_in self.now.segments) file.old (span_transfers self.now fill) }
+            ≡ registers_loaded (M.memory memory.now) (place_in self.now.segments) file.old
+            (span_transfers self.now fill) }
         ensures unchanged { result ≡ false → file.new ≡ file.old }
     {
         let mut buffer = [0; GROUP_BYTES];
@@ -88,9 +90,11 @@ impl<'a> Span<'a> {
     /// Stores its elements, if each byte of the span may be stored. Answers whether it did.
     #[inline(always)]
     pub(crate) fn store<M: UserBytes>(&self, file: &VFile, memory: &mut M) -> bool
-        ensures allowed { result ≡ true → can_access Store (M.memory memory.old) self.now.address self.now.length ≡ true }
+        ensures allowed { result ≡ true
+            → can_access Store (M.memory memory.old) self.now.address self.now.length ≡ true }
         ensures value { result ≡ true → M.memory memory.new
-            ≡ memory_stored (M.memory memory.old) (place_in self.now.segments) file.now (span_transfers self.now false) }
+            ≡ memory_stored (M.memory memory.old) (place_in self.now.segments) file.now
+            (span_transfers self.now false) }
         ensures others { result ≡ true → memory.new ≡ M.with_memory memory.old (M.memory memory.new) }
         ensures unchanged { result ≡ false → memory.new ≡ memory.old }
     {

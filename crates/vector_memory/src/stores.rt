@@ -1,9 +1,7 @@
 //! Stores, index by index ("V" Vector Extension 1.0, sections 7.4 to 7.9 and 17.1).
-ghost use Rattle.std.specs.Prelude.{◌≡◌, ◌↔◌, ◌<◌, true, false, IsOk, IfErr, OnOk, OnErr, IfSome, IfNone};
-ghost use Rattle.rv_model.specs.declared.memory.Access.TheVariants.{Store};
-ghost use Rattle.rv_model.specs.accesses.Transfers.{are_allowed, bad_address, memory_stored};
+ghost use Rattle.std.specs.Prelude.{◌≡◌, ◌<◌, false, OnOk, OnErr, IfSome, IfNone};
 ghost use Rattle.rv_model.specs.accesses.VectorAccess.{plan};
-ghost use Rattle.vector_memory.specs.Moves.{IsStored};
+ghost use Rattle.vector_memory.specs.Moves.{AllStored, IsStored};
 ghost use Rattle.vector_memory.specs.SegmentRoom.{StopsBefore, segments_access, place_in};
 
 use crate::addresses::Addresses;
@@ -22,13 +20,9 @@ impl<A: Addresses> Moves<'_, A> {
         memory: &mut M,
     ) -> Result<(), Fault>
         requires { index < self.now.body.end }
-        ensures ok { IsOk result ↔ (are_allowed Store (M.memory memory.old) (plan (segments_access
-            self.now.segments self.now.body (A.address self.now.addresses)) false index) ≡ true) }
-        ensures fault { IfErr result (λ fault. fault.addr ≡ bad_address Store (M.memory memory.old) (plan (segments_access
-            self.now.segments self.now.body (A.address self.now.addresses)) false index)) }
-        ensures value { OnOk result (M.memory memory.new
-            ≡ memory_stored (M.memory memory.old) (place_in self.now.segments) file.now (plan (segments_access
-            self.now.segments self.now.body (A.address self.now.addresses)) false index)) }
+        ensures stored { AllStored (place_in self.now.segments) file.now
+            (plan (segments_access self.now.segments self.now.body (A.address self.now.addresses)) false index)
+            (M.memory memory.old) result (M.memory memory.new) }
         ensures others { OnOk result (memory.new ≡ M.with_memory memory.old (M.memory memory.new)) }
         ensures unchanged { OnErr result (memory.new ≡ memory.old) }
     {

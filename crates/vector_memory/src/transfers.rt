@@ -22,8 +22,8 @@ use reg_groups::mask_register;
 use rv_model::instructions::operations::UnitOp;
 use rv_model::{FILE_BYTES, GROUP_BYTES, MemEnd, VLENB, VState};
 
-/// What such a load or store does: whether none of its segments is masked off, the segments and their count, and where they
-/// lie in memory.
+/// What such a load or store does: whether none of its segments is masked off, the segments and their count, and where
+/// they lie in memory.
 #[derive(Clone, Copy)]
 pub(crate) struct Transfer {
     pub op: UnitOp,
@@ -70,8 +70,8 @@ fn store_whole<M: UserBytes>(block: &Block, memory: &mut M, state: &VState) -> b
 }
 
 impl Transfer {
-    /// All of it as a block that stands in the registers as it does in memory, where it begins at index 0 and comes within a number
-    /// of indices, and its elements are contiguous and none is masked off.
+    /// All of it as a block that stands in the registers as it does in memory, where it begins at index 0 and comes
+    /// within a number of indices, and its elements are contiguous and none is masked off.
     #[inline(always)]
     fn block(&self, start: u8, limit: usize) -> Option<Block>
         requires room { HasRoom self.now.segments self.now.count }
@@ -99,7 +99,8 @@ impl Transfer {
         })
     }
 
-    /// Carries all of it out at once, if it is a block each byte of which may be loaded or stored. Answers whether it is done.
+    /// Carries all of it out at once, if it is a block each byte of which may be loaded or stored. Answers whether it
+    /// is done.
     #[inline(always)]
     pub(crate) fn run_block<M: UserBytes>(
         &self,

@@ -36,10 +36,10 @@ loop-index-preserved g c =
     let now = g.M.UserBytes.memory c.loop-index.memory in
     let before = transfers each start (i - start) in
     let here : are_allowed Store m (each i) ≡ true =
-    sym (ap (λ x. are_allowed Store x (each i)) c.loop-index.invariant.value ∙ are_allowed-stored Store m place file before (each i)) ∙ c.in_default.ensures.ok.0 refl in
+    sym (ap (λ x. are_allowed Store x (each i)) c.loop-index.invariant.value ∙ are_allowed-stored Store m place file before (each i)) ∙ c.in_default.ensures.stored.ok.0 refl in
     record {
       value =
-          c.in_default.ensures.value ∙ ap (λ x. memory_stored x place file (each i)) c.loop-index.invariant.value
+          c.in_default.ensures.stored.value ∙ ap (λ x. memory_stored x place file (each i)) c.loop-index.invariant.value
           ∙ sym (stored-append m place file before (each i))
           ∙ ap (memory_stored m place file) (sym (transfers_more each start i (omega (arith, c.loop-index.auto.index, c.start-index.ensures))));
       others =
@@ -61,13 +61,13 @@ returns-in-Err-clause-stored g c =
     let before = transfers each start (i - start) in
     let bad : are_allowed Store m (each i) ≡ false =
     sym (ap (λ x. are_allowed Store x (each i)) c.loop-index.invariant.value ∙ are_allowed-stored Store m place file before (each i))
-    ∙ false_from_ne_true _ (λ t. let is_not = c.in-Err.ensures.ok.1 t in cc) in
+    ∙ false_from_ne_true _ (λ t. let is_not = c.in-Err.ensures.stored.ok.1 t in cc) in
     let low : start ≤ i = omega (arith, c.loop-index.auto.index, c.start-index.ensures) in
     let stopped = stops_bad Store m each start (start + c.args.limit) c.args.self.now.body.end i low (omega arith) (omega arith) c.loop-index.invariant.allowed bad in
     record {
       end =
           ap (λ addr. Fault i addr)
-          (c.in-Err.ensures.fault ∙ ap (λ x. bad_address Store x (each i)) c.loop-index.invariant.value ∙ bad_address-stored Store m place file before (each i))
+          (c.in-Err.ensures.stored.fault ∙ ap (λ x. bad_address Store x (each i)) c.loop-index.invariant.value ∙ bad_address-stored Store m place file before (each i))
           ∙ sym stopped.end;
       value = ap g.M.UserBytes.memory c.in-Err.ensures.unchanged ∙ c.loop-index.invariant.value ∙ ap (memory_stored m place file) (sym stopped.done);
     }
