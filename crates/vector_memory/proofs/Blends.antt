@@ -10,8 +10,7 @@ use lib.Lanes.{Each1, chunk, number_l, put_chunk}
 use Rattle.lane_arith.proofs.MaskBits.{byte_of_number}
 use Rattle.rv_model.specs.declared.vector.sizes.TheConstants.{VLENB}
 use Rattle.rv_model.specs.accesses.Transfers.{registers_loaded, memory_stored}
-use Rattle.rv_model.specs.accesses.VectorAccess.{plan}
-use Rattle.rv_model.specs.elements.Elements.{Body, element, is_changed, is_let, result_or_ones}
+use Rattle.rv_model.specs.elements.Elements.{element, is_changed, is_let, result_or_ones}
 use Rattle.rv_model.specs.elements.Formulas.{ones}
 use Rattle.rv_model.specs.elements.Writes.{written}
 use Rattle.rv_model.specs.lending.Writes.{Writes}
@@ -124,29 +123,42 @@ module _ (m : Memory) (b : Span) (w : Width) (size : b.segments.size ≡ width_b
       let all : n - b.body.start ≡ n = omega (arith, is.first) in
       ap (λ x. x * b.distance + 0 * b.segments.size) all ∙ ap (λ x. n * x + 0 * b.segments.size) (is.apart ∙ size) ∙ omega (arith, mul_comm n k)
 
+  -- ---- bytes in which the first elements are written
+
+  module _ (fill : Bool) (number : ℕ → ℕ) (base : List ℕ) where
+    abbrev so_far : ℕ → ℕ → Bool
+    so_far n e = is_changed (part_of b.body b.stop) fill false e && nat_lt e n
+
+    abbrev made : ℕ → List ℕ
+    made n = written k (so_far n) number base
+
+    was : (n : ℕ) → Writes k (so_far n) number base (made n)
+    was n = written_are k (so_far n) number base (bytes_positive w)
+
+    then_made : (n : ℕ) (new : List ℕ) → Writes k (so_far n) number base new → new ≡ made n
+    then_made n new h = writes_are k (so_far n) number base new (bytes_positive w) h
+
+    all_made : (new : List ℕ) → Writes k (is_changed (part_of b.body b.stop) fill false) number base new → new ≡ made b.stop
+    all_made new h =
+        let all = is_changed (part_of b.body b.stop) fill false in
+        writes_are k all number base new (bytes_positive w) h
+        ∙ sym (writes_are k all number base (made b.stop) (bytes_positive w)
+        (body_ends k (part_of b.body b.stop) fill number base (made b.stop) b.stop (omega arith) (was b.stop)))
+
   -- ---- a load
 
   module _ (fill : Bool) (bytes : List ℕ) (read : bytes ≡ bytes_at m b.address b.length) (below : (j : ℕ) → Fits w8 (get_or bytes j 0)) where
     abbrev pub read_number : ℕ → ℕ
     read_number e = result_or_ones (part_of b.body b.stop) (λ i. element k bytes i) (ones w) e
 
-    abbrev so_far : ℕ → ℕ → Bool
-    so_far n e = is_changed (part_of b.body b.stop) fill false e && nat_lt e n
-
-    abbrev made : ℕ → List ℕ
-    made n = written k (so_far n) read_number group_bytes
-
-    was : (n : ℕ) → Writes k (so_far n) read_number group_bytes (made n)
-    was n = written_are k (so_far n) read_number group_bytes (bytes_positive w)
-
-    then_made : (n : ℕ) (new : List ℕ) → Writes k (so_far n) read_number group_bytes new → new ≡ made n
-    then_made n new h = writes_are k (so_far n) read_number group_bytes new (bytes_positive w) h
+    abbrev loaded : ℕ → List ℕ
+    loaded n = made fill read_number group_bytes n
 
     in_file : (n : ℕ) (xs : List ℕ) → n < b.stop → length xs ≡ k
-        → put_chunk (field_place (span_access b) 0 n) (put_chunk p file (made n)) xs ≡ put_chunk p file (put_chunk (k * n) (made n) xs)
+        → put_chunk (field_place (span_access b) 0 n) (put_chunk p file (loaded n)) xs ≡ put_chunk p file (put_chunk (k * n) (loaded n) xs)
     in_file n xs h e =
-        put_within p (k * n) (field_place (span_access b) 0 n) file (made n) xs (place_is n)
-        (omega (arith, e, (was n).same_length, long, fits n h)) (omega (arith, (was n).same_length, long, whole))
+        put_within p (k * n) (field_place (span_access b) 0 n) file (loaded n) xs (place_is n)
+        (omega (arith, e, (was fill read_number group_bytes n).same_length, long, fits n h)) (omega (arith, (was fill read_number group_bytes n).same_length, long, whole))
 
     bytes_there : (n : ℕ) → n < b.stop → bytes_low_first 0 k (element k bytes n) ≡ bytes_at m (field_address (span_access b) 0 n) b.segments.size
     bytes_there n h =
@@ -156,57 +168,48 @@ module _ (m : Memory) (b : Span) (w : Width) (size : b.segments.size ≡ width_b
         ∙ field_read b m bytes n 0 (omega (arith, is.first)) h one read in
         number_back k (chunk (k * n) k bytes) (ap length read_one ∙ length-bytes_at m (field_address (span_access b) 0 n) b.segments.size ∙ size) (below_from_Fits w8 (chunk (k * n) k bytes) (chunk-fits w8 (k * n) k bytes below)) ∙ read_one
 
-    loads_next : (n : ℕ) → n < b.stop → load_field m (span_access b) fill 0 (put_chunk p file (made n)) n ≡ put_chunk p file (made (n + 1))
+    loads_next : (n : ℕ) → n < b.stop → load_field m (span_access b) fill 0 (put_chunk p file (loaded n)) n ≡ put_chunk p file (loaded (n + 1))
     loads_next n h =
         let a = span_access b in
         let at = field_place a 0 n in
         elim (cases_Bool (is_let b.body n)) [
           | inl on ↦
               let xs : List ℕ = bytes_low_first 0 k (element k bytes n) in
-              let next = step_result k (part_of b.body b.stop) fill n (λ i. element k bytes i) (ones w) group_bytes (made n) (put_chunk (k * n) (made n) xs) (omega arith) h
-              (was n) (omega (arith, long, fits n h)) on refl in
-              sym (load_active m a fill 0 n at (put_chunk p file (made n)) xs on refl (bytes_there n h))
-              ∙ in_file n xs h (length-bytes 0 k (element k bytes n)) ∙ ap (put_chunk p file) (then_made (n + 1) _ next)
+              let next = step_result k (part_of b.body b.stop) fill n (λ i. element k bytes i) (ones w) group_bytes (loaded n) (put_chunk (k * n) (loaded n) xs) (omega arith) h
+              (was fill read_number group_bytes n) (omega (arith, long, fits n h)) on refl in
+              sym (load_active m a fill 0 n at (put_chunk p file (loaded n)) xs on refl (bytes_there n h))
+              ∙ in_file n xs h (length-bytes 0 k (element k bytes n)) ∙ ap (put_chunk p file) (then_made fill read_number group_bytes (n + 1) _ next)
           | inr off ↦ elim (cases_Bool fill) [
             | inl filled ↦
                 let xs : List ℕ = bytes_low_first 0 k (ones w) in
-                let next = step_ones k (part_of b.body b.stop) fill n (λ i. element k bytes i) (ones w) group_bytes (made n) (put_chunk (k * n) (made n) xs) (omega arith) h
-                (was n) (omega (arith, long, fits n h)) off filled refl in
-                sym (load_filled m a fill 0 n at (put_chunk p file (made n)) xs off filled refl (ones_bytes w ∙ ap (λ x. replicate x 255) (sym size)))
-                ∙ in_file n xs h (length-bytes 0 k (ones w)) ∙ ap (put_chunk p file) (then_made (n + 1) _ next)
+                let next = step_ones k (part_of b.body b.stop) fill n (λ i. element k bytes i) (ones w) group_bytes (loaded n) (put_chunk (k * n) (loaded n) xs) (omega arith) h
+                (was fill read_number group_bytes n) (omega (arith, long, fits n h)) off filled refl in
+                sym (load_filled m a fill 0 n at (put_chunk p file (loaded n)) xs off filled refl (ones_bytes w ∙ ap (λ x. replicate x 255) (sym size)))
+                ∙ in_file n xs h (length-bytes 0 k (ones w)) ∙ ap (put_chunk p file) (then_made fill read_number group_bytes (n + 1) _ next)
             | inr kept ↦
-                let next = step_off k (part_of b.body b.stop) fill n (λ i. element k bytes i) (ones w) group_bytes (made n) (made n) (omega arith) h
-                (was n) off kept refl in
-                sym (load_kept m a fill 0 n (put_chunk p file (made n)) off kept) ∙ ap (put_chunk p file) (then_made (n + 1) _ next)
+                let next = step_off k (part_of b.body b.stop) fill n (λ i. element k bytes i) (ones w) group_bytes (loaded n) (loaded n) (omega arith) h
+                (was fill read_number group_bytes n) off kept refl in
+                sym (load_kept m a fill 0 n (put_chunk p file (loaded n)) off kept) ∙ ap (put_chunk p file) (then_made fill read_number group_bytes (n + 1) _ next)
           ]
         ]
 
-    loads_to : (n : ℕ) → n ≤ b.stop → for_each (load_field m (span_access b) fill 0) file 0 n ≡ put_chunk p file (made n)
+    loads_to : (n : ℕ) → n ≤ b.stop → for_each (load_field m (span_access b) fill 0) file 0 n ≡ put_chunk p file (loaded n)
     loads_to zero h =
         each_none (load_field m (span_access b) fill 0) file 0 ∙ sym (put_same p (k * b.stop) file)
-        ∙ ap (put_chunk p file) (then_made 0 group_bytes (body_begins k (part_of b.body b.stop) fill read_number group_bytes))
+        ∙ ap (put_chunk p file) (then_made fill read_number group_bytes 0 group_bytes (body_begins k (part_of b.body b.stop) fill read_number group_bytes))
     loads_to (suc n) h =
         let step = load_field m (span_access b) fill 0 in
         let count : suc n ≡ n + 1 = omega arith in
         ap (for_each step file 0) count ∙ each_more step file 0 n ∙ ap (step (for_each step file 0 n)) (zero-add n)
-        ∙ ap (λ x. step x n) (loads_to n (omega (arith, h))) ∙ loads_next n (omega (arith, h)) ∙ ap (λ x. put_chunk p file (made x)) (sym count)
+        ∙ ap (λ x. step x n) (loads_to n (omega (arith, h))) ∙ loads_next n (omega (arith, h)) ∙ ap (λ x. put_chunk p file (loaded x)) (sym count)
 
     -- what a blend of the elements leaves is what a loop does
-    blend_loads : (new : List ℕ) → Writes k (is_changed (part_of b.body b.stop) fill false) read_number group_bytes new
-        → put_chunk p file new ≡ for_each (load_field m (span_access b) fill 0) file 0 b.stop
-    blend_loads new h =
-        let all = is_changed (part_of b.body b.stop) fill false in
-        ap (put_chunk p file)
-        (writes_are k all read_number group_bytes new (bytes_positive w) h
-        ∙ sym (writes_are k all read_number group_bytes (made b.stop) (bytes_positive w)
-        (body_ends k (part_of b.body b.stop) fill read_number group_bytes (made b.stop) b.stop (omega arith) (was b.stop))))
-        ∙ sym (loads_to b.stop (omega arith))
-
     pub blend_loaded : (new : List ℕ) → Writes k (is_changed (part_of b.body b.stop) fill false) read_number group_bytes new
         → put_chunk p file new ≡ registers_loaded m (place_in b.segments) file (span_transfers b fill)
     blend_loaded new h =
         let a = span_access b in
-        blend_loads new h ∙ one_field (load_field m a fill) (loads_apart m a fill b.stop b.span.room.room b.segments.fields) file
+        ap (put_chunk p file) (all_made fill read_number group_bytes new h) ∙ sym (loads_to b.stop (omega arith))
+        ∙ one_field (load_field m a fill) (loads_apart m a fill b.stop b.span.room.room b.segments.fields) file
         ∙ fields_loaded m a fill (b.stop - b.body.start) b.body.start file
 
   -- ---- a store
@@ -215,17 +218,8 @@ module _ (m : Memory) (b : Span) (w : Width) (size : b.segments.size ≡ width_b
     abbrev pub write_number : ℕ → ℕ
     write_number e = result_or_ones (part_of b.body b.stop) (λ i. element k group_bytes i) (ones w) e
 
-    abbrev written_to : ℕ → ℕ → Bool
-    written_to n e = is_changed (part_of b.body b.stop) false false e && nat_lt e n
-
     abbrev stored_in : ℕ → List ℕ
-    stored_in n = written k (written_to n) write_number bytes
-
-    stays : (n : ℕ) → Writes k (written_to n) write_number bytes (stored_in n)
-    stays n = written_are k (written_to n) write_number bytes (bytes_positive w)
-
-    then_stored : (n : ℕ) (new : List ℕ) → Writes k (written_to n) write_number bytes new → new ≡ stored_in n
-    then_stored n new h = writes_are k (written_to n) write_number bytes new (bytes_positive w) h
+    stored_in n = made false write_number bytes n
 
     span_fits : (n : ℕ) → n < b.stop → k * n + k ≤ length bytes
     span_fits n h =
@@ -246,25 +240,25 @@ module _ (m : Memory) (b : Span) (w : Width) (size : b.segments.size ≡ width_b
           | inl on ↦
               let xs : List ℕ = bytes_low_first 0 k (element k group_bytes n) in
               let next = step_result k (part_of b.body b.stop) false n (λ i. element k group_bytes i) (ones w) bytes (stored_in n) (put_chunk (k * n) (stored_in n) xs) (omega arith) h
-              (stays n) (span_fits n h) on refl in
+              (was false write_number bytes n) (span_fits n h) on refl in
               let at : field_address a 0 n ≡ b.address + k * n =
               field_begins b n 0 (omega (arith, is.first)) h (omega (arith, is.alone)) ∙ ap (λ x. b.address + x) (offset n) in
               sym (store_active file a 0 n (field_address a 0 n) (put_bytes m b.address (stored_in n)) xs on refl (elements_there n h))
               ∙ ap (λ x. put_bytes (put_bytes m b.address (stored_in n)) x xs) at
               ∙ sym (put_part m b.address (k * n) (stored_in n) xs
-              (omega (arith, length-bytes 0 k (element k group_bytes n), (stays n).same_length, span_fits n h)))
-              ∙ ap (put_bytes m b.address) (then_stored (n + 1) _ next)
+              (omega (arith, length-bytes 0 k (element k group_bytes n), (was false write_number bytes n).same_length, span_fits n h)))
+              ∙ ap (put_bytes m b.address) (then_made false write_number bytes (n + 1) _ next)
           | inr off ↦
               let next = step_off k (part_of b.body b.stop) false n (λ i. element k group_bytes i) (ones w) bytes (stored_in n) (stored_in n) (omega arith) h
-              (stays n) off refl refl in
-              sym (store_kept file a 0 n (put_bytes m b.address (stored_in n)) off) ∙ ap (put_bytes m b.address) (then_stored (n + 1) _ next)
+              (was false write_number bytes n) off refl refl in
+              sym (store_kept file a 0 n (put_bytes m b.address (stored_in n)) off) ∙ ap (put_bytes m b.address) (then_made false write_number bytes (n + 1) _ next)
         ]
 
     stores_to : (n : ℕ) → n ≤ b.stop
         → for_each (store_field file (span_access b) 0) (put_bytes m b.address bytes) 0 n ≡ put_bytes m b.address (stored_in n)
     stores_to zero h =
         each_none (store_field file (span_access b) 0) (put_bytes m b.address bytes) 0
-        ∙ ap (put_bytes m b.address) (then_stored 0 bytes (body_begins k (part_of b.body b.stop) false write_number bytes))
+        ∙ ap (put_bytes m b.address) (then_made false write_number bytes 0 bytes (body_begins k (part_of b.body b.stop) false write_number bytes))
     stores_to (suc n) h =
         let step = store_field file (span_access b) 0 in
         let old = put_bytes m b.address bytes in
@@ -272,22 +266,12 @@ module _ (m : Memory) (b : Span) (w : Width) (size : b.segments.size ≡ width_b
         ap (for_each step old 0) more ∙ each_more step old 0 n ∙ ap (step (for_each step old 0 n)) (zero-add n)
         ∙ ap (λ x. step x n) (stores_to n (omega (arith, h))) ∙ stores_next n (omega (arith, h)) ∙ ap (λ x. put_bytes m b.address (stored_in x)) (sym more)
 
-    blend_stores : (new : List ℕ) → Writes k (is_changed (part_of b.body b.stop) false false) write_number bytes new
-        → put_bytes m b.address new ≡ for_each (store_field file (span_access b) 0) (put_bytes m b.address bytes) 0 b.stop
-    blend_stores new h =
-        let all = is_changed (part_of b.body b.stop) false false in
-        ap (put_bytes m b.address)
-        (writes_are k all write_number bytes new (bytes_positive w) h
-        ∙ sym (writes_are k all write_number bytes (stored_in b.stop) (bytes_positive w)
-        (body_ends k (part_of b.body b.stop) false write_number bytes (stored_in b.stop) b.stop (omega arith) (stays b.stop))))
-        ∙ sym (stores_to b.stop (omega arith))
-
     pub blend_stored : (new : List ℕ) → Writes k (is_changed (part_of b.body b.stop) false false) write_number bytes new
         → put_bytes m b.address new
         ≡ memory_stored (put_bytes m b.address bytes) (place_in b.segments) file (span_transfers b false)
     blend_stored new h =
         let a = span_access b in
-        blend_stores new h
+        ap (put_bytes m b.address) (all_made false write_number bytes new h) ∙ sym (stores_to b.stop (omega arith))
         ∙ one_field (store_field file a)
         (stores_apart file a 0 b.stop (λ f h i j less some low order end. fields_apart b f h i j less some (omega (arith, is.first)) order end))
         (put_bytes m b.address bytes)

@@ -1,4 +1,4 @@
-use Rattle.std.proofs.Common.{◌≡◌, ℕ, ◌-◌}
+use Rattle.std.proofs.Common.{◌≡◌, ◌-◌}
 use Rattle.rv_model.specs.memory.Memory.{Memory, bytes_at}
 use Rattle.vector_memory.specs.FieldOrder.{each_field, for_each, load_field}
 use Rattle.vector_memory.specs.SpanAccess.{span_access}

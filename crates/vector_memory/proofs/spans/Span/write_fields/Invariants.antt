@@ -1,4 +1,4 @@
-use Rattle.std.proofs.Common.{◌≡◌, ℕ, ◌-◌, length}
+use Rattle.std.proofs.Common.{◌≡◌, ◌-◌, length}
 use Rattle.rv_model.specs.memory.Memory.{Memory, put_bytes}
 use Rattle.vector_memory.specs.FieldOrder.{each_field, for_each, store_field}
 use Rattle.vector_memory.specs.SpanAccess.{span_access}
