@@ -131,10 +131,10 @@ pub too_large_next : (c : Context) (t : Addresses) (v : VState) (m m' : Memory) 
 too_large_next c t v m m' image many entered same =
     ap (private_of c t v) same ∙ entered_as c t v m entered ∙ sym (ap (λ (o : Outcome). o.next) (loading_too_large c t v m image many))
 
-pub too_large_reply : (c : Context) (t : Addresses) (v : VState) (m : Memory) (image : List ℕ) (user : ℕ) (before after : List ℕ) → page_quota < page_count (memory_of_image image) → before ≡ []
-    → after ≡ before ++ text (48 + user) (refused refusal.Quota ∷ []) → after ≡ text (48 + user) (loading image None (present c t v m)).lines
-too_large_reply c t v m image user before after many clear printed =
-    printed ∙ ap (λ (b : List ℕ). b ++ text (48 + user) (refused refusal.Quota ∷ [])) clear ∙ sym (ap (λ (o : Outcome). text (48 + user) o.lines) (loading_too_large c t v m image many))
+pub too_large_reply : (c : Context) (t : Addresses) (v : VState) (m : Memory) (image : List ℕ) (user : ℕ) (after : List ℕ) → page_quota < page_count (memory_of_image image)
+    → after ≡ text (48 + user) (refused refusal.Quota ∷ []) → after ≡ text (48 + user) (loading image None (present c t v m)).lines
+too_large_reply c t v m image user after many printed =
+    printed ∙ sym (ap (λ (o : Outcome). text (48 + user) o.lines) (loading_too_large c t v m image many))
 
 -- the vector unit after a sound image was placed, and after one that is too large
 unit_by : ℕ → Bool → VectorUnit → VectorUnit

@@ -4,5 +4,6 @@ pub mod Images
 pub mod Lenders
 pub mod MachineState
 pub mod NewFaults
+pub mod PartMoves
 pub mod Parts
 pub mod StopRoom

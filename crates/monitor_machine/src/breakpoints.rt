@@ -1,11 +1,12 @@
 //! Commands on breakpoints, carried out.
-ghost use Rattle.std.specs.Prelude.{◌≡◌, ◌+◌, ℕ, List, [], Some};
+ghost use Rattle.std.specs.Prelude.{◌≡◌, ◌+◌, ℕ, List, Some};
 ghost use Rattle.rv_model.specs.declared.vector.state.VState.{VState};
 ghost use Rattle.rv_model.specs.commands.Breakpoints.{breakpoint_command, removes_breakpoint, sets_breakpoint};
 ghost use Rattle.rv_model.specs.memory.Memory.{Memory};
 ghost use Rattle.rv_model.specs.text.Lines.{text};
 ghost use Rattle.monitor_machine.specs.Parts.{present};
 
+use crate::answers::{accept, refuse};
 use crate::context::Context;
 use monitor_cmds::{Reply, Tag};
 use rv_model::{BreakpointCommand, Refusal, User};
@@ -18,8 +19,8 @@ pub(crate) fn carry_out(
     command: &BreakpointCommand,
     reply: &mut Reply,
 )
-    requires clear { reply.old ≡ [] }
-    ensures next { (trace : List ℕ) (vector : VState) (memory : Memory) → (breakpoint_command command.now (present context.old trace vector memory)).next
+    ensures next { (trace : List ℕ) (vector : VState) (memory : Memory)
+        → (breakpoint_command command.now (present context.old trace vector memory)).next
         ≡ Some (present context.new trace vector memory) }
     ensures entered { context.new.entered ≡ context.old.entered }
     ensures reply { (trace : List ℕ) (vector : VState) (memory : Memory) → reply.new
@@ -29,6 +30,7 @@ pub(crate) fn carry_out(
         BreakpointCommand::Break(addr) => set(context, user, *addr, reply),
         BreakpointCommand::Unbreak(addr) => remove(context, user, *addr, reply),
         BreakpointCommand::Breaks => {
+            reply.clear();
             monitor_cmds::breaks_line(reply, Tag::User(user), context.breakpoints.as_slice());
         }
     }
@@ -36,38 +38,36 @@ pub(crate) fn carry_out(
 
 /// `break`: a breakpoint is set, where there are fewer than 16 and none stands there.
 fn set(context: &mut Context, user: User, addr: u64, reply: &mut Reply)
-    requires clear { reply.old ≡ [] }
-    ensures next { (trace : List ℕ) (vector : VState) (memory : Memory) → (sets_breakpoint addr (present context.old trace vector memory)).next
+    ensures next { (trace : List ℕ) (vector : VState) (memory : Memory)
+        → (sets_breakpoint addr (present context.old trace vector memory)).next
         ≡ Some (present context.new trace vector memory) }
     ensures entered { context.new.entered ≡ context.old.entered }
     ensures reply { (trace : List ℕ) (vector : VState) (memory : Memory) → reply.new
         ≡ text (48 + user) (sets_breakpoint addr (present context.old trace vector memory)).lines }
 {
-    let tag = Tag::User(user);
     if context.breakpoints.is_full() {
-        monitor_cmds::refused(reply, tag, Refusal::BreakpointLimit);
+        refuse(reply, user, Refusal::BreakpointLimit);
     } else if context.breakpoints.contains(addr) {
-        monitor_cmds::refused(reply, tag, Refusal::Breakpoint);
+        refuse(reply, user, Refusal::Breakpoint);
     } else {
         context.breakpoints.insert(addr);
-        monitor_cmds::ok(reply, tag);
+        accept(reply, user);
     }
 }
 
 /// `unbreak`: a breakpoint is removed, where one stands there.
 fn remove(context: &mut Context, user: User, addr: u64, reply: &mut Reply)
-    requires clear { reply.old ≡ [] }
-    ensures next { (trace : List ℕ) (vector : VState) (memory : Memory) → (removes_breakpoint addr (present context.old trace vector memory)).next
+    ensures next { (trace : List ℕ) (vector : VState) (memory : Memory)
+        → (removes_breakpoint addr (present context.old trace vector memory)).next
         ≡ Some (present context.new trace vector memory) }
     ensures entered { context.new.entered ≡ context.old.entered }
     ensures reply { (trace : List ℕ) (vector : VState) (memory : Memory) → reply.new
         ≡ text (48 + user) (removes_breakpoint addr (present context.old trace vector memory)).lines }
 {
-    let tag = Tag::User(user);
     if context.breakpoints.contains(addr) {
         context.breakpoints.remove(addr);
-        monitor_cmds::ok(reply, tag);
+        accept(reply, user);
     } else {
-        monitor_cmds::refused(reply, tag, Refusal::Breakpoint);
+        refuse(reply, user, Refusal::Breakpoint);
     }
 }

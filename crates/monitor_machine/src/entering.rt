@@ -1,85 +1,74 @@
 //! Commands that begin and end a user's machine, carried out.
-ghost use Rattle.std.specs.Prelude.{◌≡◌, ◌+◌, ◌-◌, ◌<◌, [], true, false, length};
-ghost use Rattle.lazy_context.specs.LazyUnit.{IsSettled, record_of, state_of};
+ghost use Rattle.std.specs.Prelude.{◌≡◌, ◌+◌, true, false};
+ghost use Rattle.lazy_context.specs.LazyUnit.{record_of};
 ghost use Rattle.rv_model.specs.declared.commands.command.Cmd.TheVariants.{Entering};
 ghost use Rattle.rv_model.specs.commands.Entering.{entering_absent, entering};
 ghost use Rattle.rv_model.specs.machine.UnitEvents.{unit_after_entering, unit_of_absent};
 ghost use Rattle.rv_model.specs.text.Lines.{text};
-ghost use Rattle.user_mem.specs.Users.{memory_of_user, with_memory};
-ghost use Rattle.monitor_machine.specs.Parts.{UnitMoves, present, private_of};
+ghost use Rattle.monitor_machine.specs.PartMoves.{PartsMove, machine_of, present_of};
 
+use crate::answers::refuse;
 use crate::context::Context;
+use crate::lenders::memory_law;
+use crate::parts::Parts;
 use crate::trace::Trace;
-use lazy_context::Unit;
 use monitor_cmds::{Reply, Tag};
-use rv_model::{EnteringCommand, Refusal, User};
+use rv_model::{EnteringCommand, Refusal};
 use std::alloc::Allocator;
-use user_mem::Pool;
 
 /// Carries out a command of a user who is absent, and answers it.
-#[tactic(auto, unfolding(rv_model::specs::commands::Entering::entering_absent), using(crate::specs::Lenders::memory_there, crate::specs::Lenders::same_memory, crate::proofs::PartLaws::unit_stays))]
+#[tactic(auto, unfolding(rv_model::specs::commands::Entering::entering_absent), using(crate::specs::Lenders::memory_there, crate::specs::Lenders::same_memory, crate::proofs::PartLaws::absent_as, crate::proofs::PartLaws::unit_stays))]
 pub(crate) fn carry_out_absent<A: Allocator>(
-    context: &mut Context,
+    parts: &mut Parts<'_, '_, '_, A>,
     trace: &mut Trace<A>,
-    unit: &mut Unit,
-    pool: &mut Pool<A>,
-    user: User,
     command: EnteringCommand,
     reply: &mut Reply,
 )
-    requires absent { context.old.entered ≡ false }
-    requires clear { reply.old ≡ [] }
-    requires settled { IsSettled unit.old }
-    requires within { user - 1 < length pool.old }
-    ensures next { private_of context.new trace.new (state_of unit.new user) (memory_of_user pool.new user) ≡ (entering_absent command).next }
-    ensures unit { UnitMoves user unit.old unit.new (unit_of_absent user (Entering command) (record_of unit.old)) }
-    ensures others { pool.new ≡ with_memory pool.old user (memory_of_user pool.new user) }
-    ensures reply { reply.new ≡ text (48 + user) (entering_absent command).lines }
+    requires absent { parts.old.context.now.entered ≡ false }
+    ensures next { machine_of parts.new trace.new ≡ (entering_absent command).next }
+    ensures parts { PartsMove parts.old parts.new
+        (unit_of_absent parts.old.user (Entering command) (record_of parts.old.unit.now)) }
+    ensures reply { reply.new ≡ text (48 + parts.old.user) (entering_absent command).lines }
 {
+    let user = parts.user;
     match command {
         EnteringCommand::Enter => {
-            *context = Context::entered();
+            memory_law(&*parts.pool, user);
+            *parts.context = Context::entered();
             trace.clear();
-            unit.discard(user);
-            pool.drop_user(user);
+            parts.unit.discard(user);
+            parts.pool.drop_user(user);
+            reply.clear();
             monitor_cmds::entered(reply, Tag::User(user));
         }
-        EnteringCommand::Leave => {
-            monitor_cmds::refused(reply, Tag::User(user), Refusal::NotEntered);
-        }
+        EnteringCommand::Leave => refuse(reply, user, Refusal::NotEntered),
     }
 }
 
 /// Carries out a command of a user who has entered, and answers it.
 #[tactic(auto, unfolding(rv_model::specs::commands::Entering::entering), using(crate::proofs::PartLaws::entered_as, crate::specs::Lenders::memory_there, crate::specs::Lenders::same_memory, crate::proofs::PartLaws::unit_stays))]
 pub(crate) fn carry_out<A: Allocator>(
-    context: &mut Context,
+    parts: &mut Parts<'_, '_, '_, A>,
     trace: &Trace<A>,
-    unit: &mut Unit,
-    pool: &mut Pool<A>,
-    user: User,
     command: EnteringCommand,
     reply: &mut Reply,
 )
-    requires present { context.old.entered ≡ true }
-    requires clear { reply.old ≡ [] }
-    requires settled { IsSettled unit.old }
-    requires within { user - 1 < length pool.old }
-    ensures next { private_of context.new trace.now (state_of unit.new user) (memory_of_user pool.new user)
-        ≡ (entering command (present context.old trace.now (state_of unit.old user) (memory_of_user pool.old user))).next }
-    ensures unit { UnitMoves user unit.old unit.new (unit_after_entering user command (record_of unit.old)) }
-    ensures others { pool.new ≡ with_memory pool.old user (memory_of_user pool.new user) }
+    requires present { parts.old.context.now.entered ≡ true }
+    ensures next { machine_of parts.new trace.now ≡ (entering command (present_of parts.old trace.now)).next }
+    ensures parts { PartsMove parts.old parts.new
+        (unit_after_entering parts.old.user command (record_of parts.old.unit.now)) }
     ensures reply { reply.new
-        ≡ text (48 + user) (entering command (present context.old trace.now (state_of unit.old user) (memory_of_user pool.old user))).lines }
+        ≡ text (48 + parts.old.user) (entering command (present_of parts.old trace.now)).lines }
 {
+    let user = parts.user;
     match command {
-        EnteringCommand::Enter => {
-            monitor_cmds::refused(reply, Tag::User(user), Refusal::AlreadyEntered);
-        }
+        EnteringCommand::Enter => refuse(reply, user, Refusal::AlreadyEntered),
         EnteringCommand::Leave => {
-            *context = Context::new();
-            unit.discard(user);
-            pool.drop_user(user);
+            memory_law(&*parts.pool, user);
+            *parts.context = Context::new();
+            parts.unit.discard(user);
+            parts.pool.drop_user(user);
+            reply.clear();
             monitor_cmds::left(reply, Tag::User(user));
         }
     }

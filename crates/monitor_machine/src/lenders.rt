@@ -1,6 +1,6 @@
 //! What one user's instructions are lent of the machine: the user's bytes, and the user's vector
 //! state.
-ghost use Rattle.std.specs.Prelude.{◌≡◌, ◌≤◌, length};
+ghost use Rattle.std.specs.Prelude.{◌≡◌, ◌≤◌, ◌<◌, ◌-◌, length};
 
 use hart::Vectors;
 use lazy_context::Unit;
@@ -78,4 +78,12 @@ impl Vectors for UserVectors<'_> {
         let unit = &mut *self.unit;
         unit.touch(user)
     }
+}
+
+/// A user's memory is one of a pool's: a law, which does nothing.
+pub(crate) fn memory_law<A: Allocator>(pool: &Pool<A>, user: User)
+    ensures { user - 1 < length pool.now }
+{
+    let _ = pool.pages(user);
+    let _ = user.index();
 }

@@ -4,6 +4,7 @@
 
 mod address_set;
 mod addressee;
+mod answers;
 mod breakpoints;
 mod commands;
 mod context;
@@ -14,6 +15,7 @@ mod machine;
 mod memory;
 mod new_fault;
 mod operator;
+mod parts;
 mod programs;
 mod registers;
 mod running;

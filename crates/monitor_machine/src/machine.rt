@@ -78,7 +78,6 @@ impl<'a, A: Allocator> Machine<'a, A> {
         ensures reply { reply.new
             ≡ told_by self.old.setup self.old.world (commands user line.now ∷ []) }
     {
-        reply.clear();
         self.users.command(self.images, user, line, reply);
     }
 
@@ -97,7 +96,7 @@ impl<'a, A: Allocator> Machine<'a, A> {
             Addressee::Nobody => {}
             Addressee::TooLong => monitor_cmds::line_too_long(reply),
             Addressee::BadPrefix => monitor_cmds::bad_prefix(reply),
-            Addressee::Operator => self.carry_out_operator(&line[2..], reply),
+            Addressee::Operator => self.operator(&line[2..], reply),
             Addressee::User(user) => self.users.command(images, user, &line[2..], reply),
         }
     }

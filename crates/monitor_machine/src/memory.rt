@@ -1,5 +1,5 @@
 //! Commands on a user's memory, carried out.
-ghost use Rattle.std.specs.Prelude.{◌≡◌, ◌+◌, ◌-◌, ◌<◌, ◌≤◌, [], Some, length, List, ℕ};
+ghost use Rattle.std.specs.Prelude.{◌≡◌, ◌+◌, ◌≤◌, Some, length, List, ℕ};
 ghost use Rattle.rv_model.specs.declared.vector.state.VState.{VState};
 ghost use Rattle.rv_model.specs.commands.Memory.{why_not_mapped as reason_of, maps, pokes, peeks, memory_command};
 ghost use Rattle.rv_model.specs.text.Lines.{text};
@@ -7,6 +7,8 @@ ghost use Rattle.user_mem.specs.Users.{memory_of_user, with_memory};
 ghost use Rattle.monitor_machine.specs.declared.context.Context.{Context};
 ghost use Rattle.monitor_machine.specs.Parts.{present};
 
+use crate::answers::{accept, refuse};
+use crate::lenders::memory_law;
 use monitor_cmds::{Reply, Tag};
 use rv_model::{
     Access, ByteString, Count, MapRefusal, MemoryCommand, PageRange, Permissions, Refusal, User,
@@ -25,9 +27,8 @@ pub(crate) fn carry_out<A: Allocator>(
     command: &MemoryCommand,
     reply: &mut Reply,
 )
-    requires clear { reply.old ≡ [] }
-    requires within { user - 1 < length pool.old }
-    ensures next { (c : Context) (trace : List ℕ) (vector : VState) → (memory_command command.now (present c trace vector (memory_of_user pool.old user))).next
+    ensures next { (c : Context) (trace : List ℕ) (vector : VState)
+        → (memory_command command.now (present c trace vector (memory_of_user pool.old user))).next
         ≡ Some (present c trace vector (memory_of_user pool.new user)) }
     ensures others { pool.new ≡ with_memory pool.old user (memory_of_user pool.new user) }
     ensures reply { (c : Context) (trace : List ℕ) (vector : VState) → reply.new
@@ -59,17 +60,17 @@ fn map<A: Allocator>(
     permissions: Permissions,
     reply: &mut Reply,
 )
-    requires clear { reply.old ≡ [] }
-    requires within { user - 1 < length pool.old }
-    ensures next { (c : Context) (trace : List ℕ) (vector : VState) → (maps pages permissions (present c trace vector (memory_of_user pool.old user))).next
+    ensures next { (c : Context) (trace : List ℕ) (vector : VState)
+        → (maps pages permissions (present c trace vector (memory_of_user pool.old user))).next
         ≡ Some (present c trace vector (memory_of_user pool.new user)) }
     ensures others { pool.new ≡ with_memory pool.old user (memory_of_user pool.new user) }
     ensures reply { (c : Context) (trace : List ℕ) (vector : VState) → reply.new
         ≡ text (48 + user) (maps pages permissions (present c trace vector (memory_of_user pool.old user))).lines }
 {
+    memory_law(&*pool, user);
     match pool.map(user, pages.first(), pages.count(), permissions) {
-        Ok(()) => monitor_cmds::ok(reply, Tag::User(user)),
-        Err(refusal) => monitor_cmds::refused(reply, Tag::User(user), why_not_mapped(refusal)),
+        Ok(()) => accept(reply, user),
+        Err(refusal) => refuse(reply, user, why_not_mapped(refusal)),
     }
 }
 
@@ -82,17 +83,17 @@ fn poke<A: Allocator>(
     bytes: &ByteString,
     reply: &mut Reply,
 )
-    requires clear { reply.old ≡ [] }
-    requires within { user - 1 < length pool.old }
-    ensures next { (c : Context) (trace : List ℕ) (vector : VState) → (pokes addr bytes.now (present c trace vector (memory_of_user pool.old user))).next
+    ensures next { (c : Context) (trace : List ℕ) (vector : VState)
+        → (pokes addr bytes.now (present c trace vector (memory_of_user pool.old user))).next
         ≡ Some (present c trace vector (memory_of_user pool.new user)) }
     ensures others { pool.new ≡ with_memory pool.old user (memory_of_user pool.new user) }
     ensures reply { (c : Context) (trace : List ℕ) (vector : VState) → reply.new
         ≡ text (48 + user) (pokes addr bytes.now (present c trace vector (memory_of_user pool.old user))).lines }
 {
+    memory_law(&*pool, user);
     match pool.write(user, addr, Access::Monitor, bytes.as_slice()) {
-        Ok(()) => monitor_cmds::ok(reply, Tag::User(user)),
-        Err(_) => monitor_cmds::refused(reply, Tag::User(user), Refusal::NotMapped),
+        Ok(()) => accept(reply, user),
+        Err(_) => refuse(reply, user, Refusal::NotMapped),
     }
 }
 
@@ -105,16 +106,20 @@ fn show_bytes<A: Allocator>(
     buffer: &mut [u8],
     reply: &mut Reply,
 )
-    requires clear { reply.old ≡ [] }
     requires few { length buffer.old ≤ 256 }
-    ensures next { (c : Context) (trace : List ℕ) (vector : VState) → (peeks addr (length buffer.old) (present c trace vector (memory_of_user pool.now user))).next
+    ensures next { (c : Context) (trace : List ℕ) (vector : VState)
+        → (peeks addr (length buffer.old) (present c trace vector (memory_of_user pool.now user))).next
         ≡ Some (present c trace vector (memory_of_user pool.now user)) }
     ensures reply { (c : Context) (trace : List ℕ) (vector : VState) → reply.new
-        ≡ text (48 + user) (peeks addr (length buffer.old) (present c trace vector (memory_of_user pool.now user))).lines }
+        ≡ text (48 + user) (peeks addr (length buffer.old)
+        (present c trace vector (memory_of_user pool.now user))).lines }
 {
     match pool.read(user, addr, Access::Monitor, buffer) {
-        Ok(()) => monitor_cmds::peek_line(reply, Tag::User(user), addr, buffer),
-        Err(_) => monitor_cmds::refused(reply, Tag::User(user), Refusal::NotMapped),
+        Ok(()) => {
+            reply.clear();
+            monitor_cmds::peek_line(reply, Tag::User(user), addr, buffer);
+        }
+        Err(_) => refuse(reply, user, Refusal::NotMapped),
     }
 }
 
@@ -126,8 +131,8 @@ fn peek<A: Allocator>(
     count: Count<MAX_SHOWN>,
     reply: &mut Reply,
 )
-    requires clear { reply.old ≡ [] }
-    ensures next { (c : Context) (trace : List ℕ) (vector : VState) → (peeks addr count (present c trace vector (memory_of_user pool.now user))).next
+    ensures next { (c : Context) (trace : List ℕ) (vector : VState)
+        → (peeks addr count (present c trace vector (memory_of_user pool.now user))).next
         ≡ Some (present c trace vector (memory_of_user pool.now user)) }
     ensures reply { (c : Context) (trace : List ℕ) (vector : VState) → reply.new
         ≡ text (48 + user) (peeks addr count (present c trace vector (memory_of_user pool.now user))).lines }

@@ -1,5 +1,5 @@
 //! Slices, and the commands of the operator, who grants them.
-ghost use Rattle.std.specs.Prelude.{◌≡◌, ◌+◌, ◌≤◌, ◌++◌, [], ◌∷◌, false, Ok, length};
+ghost use Rattle.std.specs.Prelude.{◌≡◌, ◌≤◌, ◌++◌, [], ◌∷◌, false, Ok, length};
 ghost use Rattle.rv_model.specs.commands.Operator.{granted_line, operator_parse};
 ghost use Rattle.rv_model.specs.machine.Grants.{granted, grants, grants_of, operator_line, runs, slice_of};
 ghost use Rattle.rv_model.specs.machine.Script.{after_events, told_by, user_machine};
@@ -37,11 +37,10 @@ impl<A: Allocator> Machine<'_, A> {
     }
 
     /// Grants at most `count` slices in turn to users whose programs run, fewer only where none
-    /// runs any more. The reply, which is empty, is then why programs stopped: each stops at most
-    /// once. Answers how many slices were granted.
+    /// runs any more. The reply is then why programs stopped: each stops at most once. Answers how
+    /// many slices were granted.
     #[tactic(auto, using(crate::proofs::GrantLaws::stops_room_is_small))]
     fn grant_slices(&mut self, count: usize, reply: &mut Reply) -> usize
-        requires { reply.old ≡ [] }
         ensures world { self.new.world
             ≡ after_events self.old.setup self.old.world (granted self.old.setup count self.old.world) }
         ensures setup { self.new.setup ≡ self.old.setup }
@@ -50,6 +49,7 @@ impl<A: Allocator> Machine<'_, A> {
         ensures count { result ≡ length (granted self.old.setup count self.old.world) }
         ensures bound { length reply.new ≤ 640 }
     {
+        reply.clear();
         for granted in 0..count {
             let Some(user) = self.users.take_turn() else {
                 return granted;
@@ -61,7 +61,6 @@ impl<A: Allocator> Machine<'_, A> {
 
     /// `* slices N`: grants slices in turn, and answers how many.
     fn carry_out_slices(&mut self, count: usize, reply: &mut Reply)
-        requires { reply.old ≡ [] }
         ensures world { self.new.world
             ≡ after_events self.old.setup self.old.world (granted self.old.setup count self.old.world) }
         ensures setup { self.new.setup ≡ self.old.setup }
@@ -75,21 +74,22 @@ impl<A: Allocator> Machine<'_, A> {
     /// `* run U`: grants a slice to a user, if the user's program runs, and answers whether it did.
     #[tactic(auto, using(crate::proofs::GrantLaws::stops_room_is_small, crate::proofs::GrantLaws::one_run_world, crate::proofs::GrantLaws::one_run_told, crate::proofs::GrantLaws::one_run_count))]
     fn carry_out_run(&mut self, user: User, reply: &mut Reply)
-        requires { reply.old ≡ [] }
         ensures world { self.new.world
-            ≡ after_events self.old.setup self.old.world (grants self.old.setup self.old.world (OperatorCommand.Run user)) }
+            ≡ after_events self.old.setup self.old.world
+            (grants self.old.setup self.old.world (OperatorCommand.Run user)) }
         ensures setup { self.new.setup ≡ self.old.setup }
-        ensures reply { reply.new ≡ told_by self.old.setup self.old.world (grants self.old.setup self.old.world (OperatorCommand.Run user))
+        ensures reply { reply.new ≡ told_by self.old.setup self.old.world
+            (grants self.old.setup self.old.world (OperatorCommand.Run user))
             ++ text 42 (granted_line (length (grants self.old.setup self.old.world (OperatorCommand.Run user))) ∷ []) }
     {
+        reply.clear();
         let ran = self.users.slice(user, self.quantum, reply);
         monitor_cmds::granted_line(reply, usize::from(ran));
     }
 
-    /// Carries out a command of the operator that is accepted. The reply, which is empty, is then
-    /// its answer.
+    /// Carries out a command of the operator that is accepted, and answers it in place of what the
+    /// reply held.
     fn carry_out_accepted(&mut self, command: OperatorCommand, reply: &mut Reply)
-        requires { reply.old ≡ [] }
         ensures world { self.new.world
             ≡ after_events self.old.setup self.old.world (grants self.old.setup self.old.world command) }
         ensures setup { self.new.setup ≡ self.old.setup }
@@ -99,23 +99,14 @@ impl<A: Allocator> Machine<'_, A> {
         match command {
             OperatorCommand::Slices(count) => self.carry_out_slices(count.get(), reply),
             OperatorCommand::Run(user) => self.carry_out_run(user, reply),
-            OperatorCommand::List => monitor_cmds::list_line(reply, &self.users.standings()),
-            OperatorCommand::Stats => monitor_cmds::stats_line(reply, &self.users.stats()),
-        }
-    }
-
-    /// Carries out a line of the operator. The reply, which is empty, is then its answer.
-    pub(crate) fn carry_out_operator(&mut self, line: &[u8], reply: &mut Reply)
-        requires { reply.old ≡ [] }
-        ensures world { self.new.world
-            ≡ after_events self.old.setup self.old.world (grants_of self.old.setup self.old.world (operator_parse line.now)) }
-        ensures setup { self.new.setup ≡ self.old.setup }
-        ensures reply { reply.new ≡ told_by self.old.setup self.old.world (grants_of self.old.setup self.old.world (operator_parse line.now))
-            ++ text 42 (operator_line self.old.setup self.old.world (operator_parse line.now) ∷ []) }
-    {
-        match parse_operator(line) {
-            Ok(command) => self.carry_out_accepted(command, reply),
-            Err(refusal) => monitor_cmds::refused(reply, Tag::Common, refusal),
+            OperatorCommand::List => {
+                reply.clear();
+                monitor_cmds::list_line(reply, &self.users.standings());
+            }
+            OperatorCommand::Stats => {
+                reply.clear();
+                monitor_cmds::stats_line(reply, &self.users.stats());
+            }
         }
     }
 
@@ -126,13 +117,21 @@ impl<A: Allocator> Machine<'_, A> {
     #[tactic(auto, using(rv_model::proofs::machine_lemmas::Turns::grants_are_in_turn))]
     pub fn operator(&mut self, line: &[u8], reply: &mut Reply)
         ensures world { self.new.world
-            ≡ after_events self.old.setup self.old.world (grants_of self.old.setup self.old.world (operator_parse line.now)) }
+            ≡ after_events self.old.setup self.old.world
+            (grants_of self.old.setup self.old.world (operator_parse line.now)) }
         ensures setup { self.new.setup ≡ self.old.setup }
-        ensures reply { reply.new ≡ told_by self.old.setup self.old.world (grants_of self.old.setup self.old.world (operator_parse line.now))
+        ensures reply { reply.new ≡ told_by self.old.setup self.old.world
+            (grants_of self.old.setup self.old.world (operator_parse line.now))
             ++ text 42 (operator_line self.old.setup self.old.world (operator_parse line.now) ∷ []) }
-        ensures in_turn { AreInTurn self.old.setup self.old.world (grants_of self.old.setup self.old.world (operator_parse line.now)) }
+        ensures in_turn { AreInTurn self.old.setup self.old.world
+            (grants_of self.old.setup self.old.world (operator_parse line.now)) }
     {
-        reply.clear();
-        self.carry_out_operator(line, reply);
+        match parse_operator(line) {
+            Ok(command) => self.carry_out_accepted(command, reply),
+            Err(refusal) => {
+                reply.clear();
+                monitor_cmds::refused(reply, Tag::Common, refusal);
+            }
+        }
     }
 }

@@ -1,7 +1,7 @@
 //! Commands on programs in a user's memory, carried out.
-ghost use Rattle.std.specs.Prelude.{◌≡◌, ◌+◌, ◌-◌, ◌*◌, ◌<◌, ◌≤◌, [], Some, None, true, length, List, ℕ, MatchOption, if◌then◌else◌};
+ghost use Rattle.std.specs.Prelude.{◌≡◌, ◌+◌, ◌*◌, ◌≤◌, Some, None, true, length, List, ℕ, MatchOption, if◌then◌else◌};
 ghost use Rattle.std.specs.Int.{to_le_bytes, w32};
-ghost use Rattle.lazy_context.specs.LazyUnit.{IsSettled, record_of, state_of};
+ghost use Rattle.lazy_context.specs.LazyUnit.{record_of};
 ghost use Rattle.rv_model.specs.declared.vector.state.VState.{VState};
 ghost use Rattle.rv_model.specs.declared.memory.Access.TheVariants.{Monitor};
 ghost use Rattle.rv_model.specs.images.Faults.{first_fault};
@@ -13,13 +13,16 @@ ghost use Rattle.rv_model.specs.text.Lines.{text};
 ghost use Rattle.user_mem.specs.Users.{memory_of_user, with_memory};
 ghost use Rattle.monitor_machine.specs.declared.context.Context.{Context};
 ghost use Rattle.monitor_machine.specs.Images.{named_images};
-ghost use Rattle.monitor_machine.specs.Parts.{UnitMoves, present, private_of};
+ghost use Rattle.monitor_machine.specs.PartMoves.{PartsMove, machine_of, present_of};
+ghost use Rattle.monitor_machine.specs.Parts.{present};
 
+use crate::answers::refuse;
 use crate::context::Context;
 use crate::image::Image;
+use crate::lenders::memory_law;
+use crate::parts::Parts;
 use crate::trace::Trace;
 use elf_load::{Plan, check, place};
-use lazy_context::Unit;
 use monitor_cmds::{Reply, Tag};
 use rv_asm::assemble;
 use rv_model::{Access, Count, LinePart, ProgramCommand, Refusal, User};
@@ -36,30 +39,36 @@ const MAX_SHOWN: usize = 16;
 #[tactic(auto, unfolding(rv_model::specs::commands::Programs::program_command), using(crate::proofs::PartLaws::entered_as, crate::proofs::PartLaws::unit_stays, crate::specs::Lenders::same_memory))]
 pub(crate) fn carry_out<A: Allocator>(
     images: &[Image<'_>],
-    context: &mut Context,
+    parts: &mut Parts<'_, '_, '_, A>,
     trace: &mut Trace<A>,
-    unit: &mut Unit,
-    pool: &mut Pool<A>,
-    user: User,
     command: &ProgramCommand<'_>,
     reply: &mut Reply,
 )
-    requires present { context.old.entered ≡ true }
-    requires clear { reply.old ≡ [] }
-    requires settled { IsSettled unit.old }
-    requires within { user - 1 < length pool.old }
-    ensures next { private_of context.new trace.new (state_of unit.new user) (memory_of_user pool.new user)
-        ≡ (program_command (named_images images.now) command.now (present context.old trace.old (state_of unit.old user) (memory_of_user pool.old user))).next }
-    ensures unit { UnitMoves user unit.old unit.new
-        (unit_after_programs (named_images images.now) user command.now (record_of unit.old)) }
-    ensures others { pool.new ≡ with_memory pool.old user (memory_of_user pool.new user) }
-    ensures reply { reply.new
-        ≡ text (48 + user) (program_command (named_images images.now) command.now (present context.old trace.old (state_of unit.old user) (memory_of_user pool.old user))).lines }
+    requires present { parts.old.context.now.entered ≡ true }
+    ensures next { machine_of parts.new trace.new
+        ≡ (program_command (named_images images.now) command.now (present_of parts.old trace.old)).next }
+    ensures parts { PartsMove parts.old parts.new (unit_after_programs
+        (named_images images.now) parts.old.user command.now (record_of parts.old.unit.now)) }
+    ensures reply { reply.new ≡ text (48 + parts.old.user)
+        (program_command (named_images images.now) command.now (present_of parts.old trace.old)).lines }
 {
+    let user = parts.user;
     match command {
-        ProgramCommand::Load(name) => load(images, context, trace, unit, pool, user, name, reply),
-        ProgramCommand::Asm { addr, text } => assemble_at(pool, user, *addr, text, reply),
-        ProgramCommand::Dis { addr, count } => show_instructions(pool, user, *addr, *count, reply),
+        ProgramCommand::Load(name) => load(images, parts, trace, name, reply),
+        ProgramCommand::Asm { addr, text } => assemble_at(
+            &mut *parts.pool,
+            user,
+            *addr,
+            text,
+            reply,
+        ),
+        ProgramCommand::Dis { addr, count } => show_instructions(
+            &*parts.pool,
+            user,
+            *addr,
+            *count,
+            reply,
+        ),
     }
 }
 
@@ -83,28 +92,26 @@ fn assemble_at<A: Allocator>(
     instruction: &LinePart<'_>,
     reply: &mut Reply,
 )
-    requires clear { reply.old ≡ [] }
-    requires within { user - 1 < length pool.old }
-    ensures next { (c : Context) (trace : List ℕ) (vector : VState) → (assembles addr instruction.now (present c trace vector (memory_of_user pool.old user))).next
+    ensures next { (c : Context) (trace : List ℕ) (vector : VState)
+        → (assembles addr instruction.now (present c trace vector (memory_of_user pool.old user))).next
         ≡ Some (present c trace vector (memory_of_user pool.new user)) }
     ensures others { pool.new ≡ with_memory pool.old user (memory_of_user pool.new user) }
     ensures reply { (c : Context) (trace : List ℕ) (vector : VState) → reply.new
-        ≡ text (48 + user) (assembles addr instruction.now (present c trace vector (memory_of_user pool.old user))).lines }
+        ≡ text (48 + user) (assembles addr instruction.now
+        (present c trace vector (memory_of_user pool.old user))).lines }
 {
+    memory_law(&*pool, user);
     let Ok(()) = pool.check(user, addr, WORD_SIZE, Access::Monitor) else {
-        monitor_cmds::refused(reply, Tag::User(user), Refusal::NotMapped);
+        refuse(reply, user, Refusal::NotMapped);
         return;
     };
     match assemble(instruction.as_slice()) {
         Ok(word) => {
             write_word(pool, user, addr, word);
+            reply.clear();
             monitor_cmds::asm_line(reply, Tag::User(user), addr, word);
         }
-        Err(fault) => monitor_cmds::refused(
-            reply,
-            Tag::User(user),
-            Refusal::Assembler(fault.column),
-        ),
+        Err(fault) => refuse(reply, user, Refusal::Assembler(fault.column)),
     }
 }
 
@@ -118,17 +125,21 @@ fn show_words<A: Allocator>(
     buffer: &mut [u8],
     reply: &mut Reply,
 )
-    requires clear { reply.old ≡ [] }
     requires few { count ≤ 16 }
     requires size { length buffer.old ≡ 4 * count }
-    ensures next { (c : Context) (trace : List ℕ) (vector : VState) → (shows_instructions addr count (present c trace vector (memory_of_user pool.now user))).next
+    ensures next { (c : Context) (trace : List ℕ) (vector : VState)
+        → (shows_instructions addr count (present c trace vector (memory_of_user pool.now user))).next
         ≡ Some (present c trace vector (memory_of_user pool.now user)) }
     ensures reply { (c : Context) (trace : List ℕ) (vector : VState) → reply.new
-        ≡ text (48 + user) (shows_instructions addr count (present c trace vector (memory_of_user pool.now user))).lines }
+        ≡ text (48 + user) (shows_instructions addr count
+        (present c trace vector (memory_of_user pool.now user))).lines }
 {
     match pool.read(user, addr, Access::Monitor, buffer) {
-        Ok(()) => monitor_cmds::dis_lines(reply, Tag::User(user), addr, count, buffer),
-        Err(_) => monitor_cmds::refused(reply, Tag::User(user), Refusal::NotMapped),
+        Ok(()) => {
+            reply.clear();
+            monitor_cmds::dis_lines(reply, Tag::User(user), addr, count, buffer);
+        }
+        Err(_) => refuse(reply, user, Refusal::NotMapped),
     }
 }
 
@@ -140,11 +151,12 @@ fn show_instructions<A: Allocator>(
     count: Count<MAX_SHOWN>,
     reply: &mut Reply,
 )
-    requires clear { reply.old ≡ [] }
-    ensures next { (c : Context) (trace : List ℕ) (vector : VState) → (shows_instructions addr count (present c trace vector (memory_of_user pool.now user))).next
+    ensures next { (c : Context) (trace : List ℕ) (vector : VState)
+        → (shows_instructions addr count (present c trace vector (memory_of_user pool.now user))).next
         ≡ Some (present c trace vector (memory_of_user pool.now user)) }
     ensures reply { (c : Context) (trace : List ℕ) (vector : VState) → reply.new
-        ≡ text (48 + user) (shows_instructions addr count (present c trace vector (memory_of_user pool.now user))).lines }
+        ≡ text (48 + user) (shows_instructions addr count
+        (present c trace vector (memory_of_user pool.now user))).lines }
 {
     let count = count.get();
     let mut buffer = [0; MAX_SHOWN * WORD_SIZE];
@@ -175,34 +187,30 @@ fn image_named<'a>(images: &[Image<'a>], name: &[u8]) -> Option<&'a [u8]>
 /// `load` of an image without a fault.
 fn load_plan<A: Allocator>(
     plan: &Plan<'_>,
-    context: &mut Context,
+    parts: &mut Parts<'_, '_, '_, A>,
     trace: &mut Trace<A>,
-    unit: &mut Unit,
-    pool: &mut Pool<A>,
-    user: User,
     reply: &mut Reply,
 )
     requires sound { first_fault plan.now ≡ None }
-    requires present { context.old.entered ≡ true }
-    requires clear { reply.old ≡ [] }
-    requires settled { IsSettled unit.old }
-    requires within { user - 1 < length pool.old }
-    ensures next { private_of context.new trace.new (state_of unit.new user) (memory_of_user pool.new user)
-        ≡ (loading plan.now None (present context.old trace.old (state_of unit.old user) (memory_of_user pool.old user))).next }
-    ensures unit { UnitMoves user unit.old unit.new
-        (if can_be_loaded plan.now None then unit_discarded user (record_of unit.old) else record_of unit.old) }
-    ensures others { pool.new ≡ with_memory pool.old user (memory_of_user pool.new user) }
+    requires present { parts.old.context.now.entered ≡ true }
+    ensures next { machine_of parts.new trace.new ≡ (loading plan.now None (present_of parts.old trace.old)).next }
+    ensures parts { PartsMove parts.old parts.new (if can_be_loaded plan.now None
+        then unit_discarded parts.old.user (record_of parts.old.unit.now)
+        else record_of parts.old.unit.now) }
     ensures reply { reply.new
-        ≡ text (48 + user) (loading plan.now None (present context.old trace.old (state_of unit.old user) (memory_of_user pool.old user))).lines }
+        ≡ text (48 + parts.old.user) (loading plan.now None (present_of parts.old trace.old)).lines }
 {
-    match place(plan, user, pool) {
+    let user = parts.user;
+    memory_law(&*parts.pool, user);
+    match place(plan, user, &mut *parts.pool) {
         Ok(entry) => {
-            *context = Context::loaded(entry);
+            *parts.context = Context::loaded(entry);
             trace.clear();
-            unit.discard(user);
-            monitor_cmds::loaded_line(reply, Tag::User(user), entry, pool.pages(user));
+            parts.unit.discard(user);
+            reply.clear();
+            monitor_cmds::loaded_line(reply, Tag::User(user), entry, parts.pool.pages(user));
         }
-        Err(_) => monitor_cmds::refused(reply, Tag::User(user), Refusal::Quota),
+        Err(_) => refuse(reply, user, Refusal::Quota),
     }
 }
 
@@ -211,32 +219,25 @@ fn load_plan<A: Allocator>(
 #[tactic(auto, using(crate::proofs::PartLaws::entered_as, crate::proofs::PartLaws::unit_stays, crate::specs::Lenders::same_memory, crate::proofs::ProgramOutcomes::loads_unknown, crate::proofs::ProgramOutcomes::loads_faulty, crate::proofs::ProgramOutcomes::loads_sound))]
 fn load<A: Allocator>(
     images: &[Image<'_>],
-    context: &mut Context,
+    parts: &mut Parts<'_, '_, '_, A>,
     trace: &mut Trace<A>,
-    unit: &mut Unit,
-    pool: &mut Pool<A>,
-    user: User,
     name: &LinePart<'_>,
     reply: &mut Reply,
 )
-    requires present { context.old.entered ≡ true }
-    requires clear { reply.old ≡ [] }
-    requires settled { IsSettled unit.old }
-    requires within { user - 1 < length pool.old }
-    ensures next { private_of context.new trace.new (state_of unit.new user) (memory_of_user pool.new user)
-        ≡ (loads (named_images images.now) name.now (present context.old trace.old (state_of unit.old user) (memory_of_user pool.old user))).next }
-    ensures unit { UnitMoves user unit.old unit.new
-        (unit_after_load user (image_named_of (named_images images.now) name.now) (record_of unit.old)) }
-    ensures others { pool.new ≡ with_memory pool.old user (memory_of_user pool.new user) }
-    ensures reply { reply.new
-        ≡ text (48 + user) (loads (named_images images.now) name.now (present context.old trace.old (state_of unit.old user) (memory_of_user pool.old user))).lines }
+    requires present { parts.old.context.now.entered ≡ true }
+    ensures next { machine_of parts.new trace.new
+        ≡ (loads (named_images images.now) name.now (present_of parts.old trace.old)).next }
+    ensures parts { PartsMove parts.old parts.new (unit_after_load parts.old.user
+        (image_named_of (named_images images.now) name.now) (record_of parts.old.unit.now)) }
+    ensures reply { reply.new ≡ text (48 + parts.old.user)
+        (loads (named_images images.now) name.now (present_of parts.old trace.old)).lines }
 {
     let Some(image) = image_named(images, name.as_slice()) else {
-        monitor_cmds::refused(reply, Tag::User(user), Refusal::ImageName);
+        refuse(reply, parts.user, Refusal::ImageName);
         return;
     };
     match check(image) {
-        Ok(plan) => load_plan(&plan, context, trace, unit, pool, user, reply),
-        Err(fault) => monitor_cmds::refused(reply, Tag::User(user), Refusal::ElfFault(fault)),
+        Ok(plan) => load_plan(&plan, parts, trace, reply),
+        Err(fault) => refuse(reply, parts.user, Refusal::ElfFault(fault)),
     }
 }

@@ -1,5 +1,5 @@
 //! Commands on a user's registers, and on what becomes of agnostic elements, carried out.
-ghost use Rattle.std.specs.Prelude.{◌≡◌, ◌+◌, [], Some, List, ℕ};
+ghost use Rattle.std.specs.Prelude.{◌≡◌, ◌+◌, Some, List, ℕ};
 ghost use Rattle.lazy_context.specs.LazyUnit.{IsSettled, record_of, state_of};
 ghost use Rattle.rv_model.specs.memory.Memory.{Memory};
 ghost use Rattle.rv_model.specs.commands.Registers.{register_command};
@@ -23,16 +23,18 @@ pub(crate) fn carry_out(
     command: &RegisterCommand,
     reply: &mut Reply,
 )
-    requires clear { reply.old ≡ [] }
     requires settled { IsSettled unit.old }
-    ensures next { (trace : List ℕ) (memory : Memory) → (register_command command.now (present context.old trace (state_of unit.old user) memory)).next
+    ensures next { (trace : List ℕ) (memory : Memory)
+        → (register_command command.now (present context.old trace (state_of unit.old user) memory)).next
         ≡ Some (present context.new trace (state_of unit.new user) memory) }
     ensures entered { context.new.entered ≡ context.old.entered }
     ensures unit { UnitMoves user unit.old unit.new (unit_after_registers user command.now (record_of unit.old)) }
     ensures reply { (trace : List ℕ) (memory : Memory) → reply.new
-        ≡ text (48 + user) (register_command command.now (present context.old trace (state_of unit.old user) memory)).lines }
+        ≡ text (48 + user) (register_command command.now
+        (present context.old trace (state_of unit.old user) memory)).lines }
 {
     let tag = Tag::User(user);
+    reply.clear();
     match command {
         RegisterCommand::Set { register, value } => {
             context.scalar.write(*register, *value);

@@ -1,78 +1,74 @@
 //! Commands that run instructions and tell how far the program is and what it has put out, carried
 //! out.
-ghost use Rattle.std.specs.Prelude.{◌≡◌, ◌+◌, ℕ, List, [], Some};
-ghost use Rattle.lazy_context.specs.LazyUnit.{IsSettled, record_of, state_of};
+ghost use Rattle.std.specs.Prelude.{◌≡◌, ◌+◌, ℕ, List, Some, true};
+ghost use Rattle.lazy_context.specs.LazyUnit.{record_of};
 ghost use Rattle.rv_model.specs.declared.vector.state.VState.{VState};
 ghost use Rattle.rv_model.specs.commands.Running.{halts, running_command};
 ghost use Rattle.rv_model.specs.machine.UnitEvents.{unit_after_running};
 ghost use Rattle.rv_model.specs.memory.Memory.{Memory};
 ghost use Rattle.rv_model.specs.text.Lines.{text};
-ghost use Rattle.user_mem.specs.Users.{memory_of_user, with_memory};
-ghost use Rattle.monitor_machine.specs.Parts.{UnitMoves, present};
+ghost use Rattle.monitor_machine.specs.PartMoves.{PartsMove, machine_of, present_of};
+ghost use Rattle.monitor_machine.specs.Parts.{present};
 
+use crate::answers::refuse;
 use crate::context::Context;
+use crate::parts::Parts;
 use crate::stepping::steps;
 use crate::trace::Trace;
-use lazy_context::Unit;
 use monitor_cmds::{Reply, Tag};
 use rv_model::{Refusal, RunningCommand, User};
 use std::alloc::Allocator;
-use user_mem::Pool;
 
 /// Carries out a command that runs instructions of a user who has entered, or tells how far the
 /// program is or what it has put out, and answers it.
-#[tactic(auto, unfolding(rv_model::specs::commands::Running::running_command), using(crate::specs::Lenders::same_memory, crate::proofs::PartLaws::unit_stays))]
+#[tactic(auto, unfolding(rv_model::specs::commands::Running::running_command), using(crate::proofs::PartLaws::entered_as, crate::specs::Lenders::same_memory, crate::proofs::PartLaws::unit_stays))]
 pub(crate) fn carry_out<A: Allocator>(
-    context: &mut Context,
+    parts: &mut Parts<'_, '_, '_, A>,
     trace: &mut Trace<A>,
-    unit: &mut Unit,
-    pool: &mut Pool<A>,
-    user: User,
     command: &RunningCommand,
     reply: &mut Reply,
 )
-    requires clear { reply.old ≡ [] }
-    requires settled { IsSettled unit.old }
-    ensures next { (running_command command.now (present context.old trace.old (state_of unit.old user) (memory_of_user pool.old user))).next
-        ≡ Some (present context.new trace.new (state_of unit.new user) (memory_of_user pool.new user)) }
-    ensures entered { context.new.entered ≡ context.old.entered }
-    ensures unit { UnitMoves user unit.old unit.new
-        (unit_after_running user command.now (present context.old trace.old (state_of unit.old user) (memory_of_user pool.old user)) (record_of unit.old)) }
-    ensures others { pool.new ≡ with_memory pool.old user (memory_of_user pool.new user) }
-    ensures reply { reply.new
-        ≡ text (48 + user) (running_command command.now (present context.old trace.old (state_of unit.old user) (memory_of_user pool.old user))).lines }
+    requires present { parts.old.context.now.entered ≡ true }
+    ensures next { machine_of parts.new trace.new
+        ≡ (running_command command.now (present_of parts.old trace.old)).next }
+    ensures parts { PartsMove parts.old parts.new (unit_after_running
+        parts.old.user command.now (present_of parts.old trace.old) (record_of parts.old.unit.now)) }
+    ensures reply { reply.new ≡ text (48 + parts.old.user)
+        (running_command command.now (present_of parts.old trace.old)).lines }
 {
+    let user = parts.user;
     let tag = Tag::User(user);
+    reply.clear();
     match command {
         RunningCommand::Step(count) => {
             let count = count.get();
-            let stop = steps(context, trace, unit, pool, user, count);
-            monitor_cmds::step_line(reply, tag, count, context.scalar.pc, stop);
+            let stop = steps(parts, trace, count);
+            monitor_cmds::step_line(reply, tag, count, parts.context.scalar.pc, stop);
         }
         RunningCommand::Go => {
-            context.running = true;
-            context.fresh = true;
-            monitor_cmds::running_line(reply, tag, context.scalar.pc);
+            parts.context.running = true;
+            parts.context.fresh = true;
+            monitor_cmds::running_line(reply, tag, parts.context.scalar.pc);
         }
-        RunningCommand::Stop => stop(context, user, reply),
+        RunningCommand::Stop => stop(&mut *parts.context, user, reply),
         RunningCommand::State => {
-            monitor_cmds::state_line(reply, tag, context.running, context.scalar.pc);
+            monitor_cmds::state_line(reply, tag, parts.context.running, parts.context.scalar.pc);
         }
         RunningCommand::Trace => {
             let (older, newer) = trace.as_slices();
             monitor_cmds::trace_line(reply, tag, older, newer);
         }
         RunningCommand::Out => {
-            monitor_cmds::out_line(reply, tag, context.output.as_slice());
-            context.output.clear();
+            monitor_cmds::out_line(reply, tag, parts.context.output.as_slice());
+            parts.context.output.clear();
         }
     }
 }
 
 /// `stop`: the program stops where it stands, if it runs.
 fn stop(context: &mut Context, user: User, reply: &mut Reply)
-    requires clear { reply.old ≡ [] }
-    ensures next { (trace : List ℕ) (vector : VState) (memory : Memory) → (halts (present context.old trace vector memory)).next
+    ensures next { (trace : List ℕ) (vector : VState) (memory : Memory)
+        → (halts (present context.old trace vector memory)).next
         ≡ Some (present context.new trace vector memory) }
     ensures entered { context.new.entered ≡ context.old.entered }
     ensures reply { (trace : List ℕ) (vector : VState) (memory : Memory) → reply.new
@@ -80,8 +76,9 @@ fn stop(context: &mut Context, user: User, reply: &mut Reply)
 {
     if context.running {
         context.running = false;
+        reply.clear();
         monitor_cmds::stopped_line(reply, Tag::User(user), context.scalar.pc);
     } else {
-        monitor_cmds::refused(reply, Tag::User(user), Refusal::NotRunning);
+        refuse(reply, user, Refusal::NotRunning);
     }
 }

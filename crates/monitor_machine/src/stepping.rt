@@ -1,23 +1,22 @@
 //! Instructions of one user.
-ghost use Rattle.std.specs.Prelude.{◌≡◌, ◌≤◌, ◌||◌, true, length, if◌then◌else◌};
+ghost use Rattle.std.specs.Prelude.{◌≡◌, ◌≤◌, ◌||◌, true, length, Some, if◌then◌else◌};
 ghost use Rattle.lazy_context.specs.LazyUnit.{IsSettled, record_of, state_of};
 ghost use Rattle.rv_model.specs.machine.Cuts.{tries};
 ghost use Rattle.rv_model.specs.machine.Runs.{after, at_breakpoint, steps as steps_spec, stop_of as stop_spec, ticked};
 ghost use Rattle.rv_model.specs.machine.UnitEvents.{tried_steps, unit_after_tries, unit_after_try};
 ghost use Rattle.rv_model.specs.step.Hart.{hart_state};
 ghost use Rattle.rv_model.specs.step.Step.{dirties, fetched, step as step_spec, touches};
-ghost use Rattle.user_mem.specs.Users.{memory_of_user, with_memory};
+ghost use Rattle.monitor_machine.specs.PartMoves.{PartsMove, machine_of, present_of};
 ghost use Rattle.monitor_machine.specs.Parts.{UnitMoves, context_state, present, try_of};
 
 use crate::context::Context;
 use crate::lenders::{UserMemory, UserVectors};
+use crate::parts::Parts;
 use crate::trace::Trace;
 use arrayvec::ArrayVec;
 use hart::{Vectors, View, step};
-use lazy_context::Unit;
 use rv_model::{OUTPUT_SIZE, Policy, Scalar, StepEnd, Stop, User};
 use std::alloc::Allocator;
-use user_mem::Pool;
 use vector_memory::UserBytes;
 
 /// More ticks than an instruction takes: no memory instruction has more elements.
@@ -124,13 +123,20 @@ fn try_instruction<A: Allocator, M: UserBytes>(
     requires limit { 1 ≤ limit }
     requires settled { IsSettled vectors.old.unit.now }
     requires owner { vectors.old.user ≡ user }
-    ensures state { after (step_spec limit (context_state context.old (state_of vectors.old.unit.now user) (M.memory memory.old))).end (step_spec limit (context_state context.old (state_of vectors.old.unit.now user) (M.memory memory.old))).state (present context.old trace.old (state_of vectors.old.unit.now user) (M.memory memory.old))
+    ensures state { after (step_spec limit
+        (context_state context.old (state_of vectors.old.unit.now user) (M.memory memory.old))).end
+        (step_spec limit (context_state context.old (state_of vectors.old.unit.now user)
+        (M.memory memory.old))).state (present context.old trace.old (state_of vectors.old.unit.now user)
+        (M.memory memory.old))
         ≡ present context.new trace.new (state_of vectors.new.unit.now user) (M.memory memory.new) }
-    ensures stop { stop_spec (step_spec limit (context_state context.old (state_of vectors.old.unit.now user) (M.memory memory.old))).end ≡ result.0 }
-    ensures ticks { (step_spec limit (context_state context.old (state_of vectors.old.unit.now user) (M.memory memory.old))).ticks ≡ result.1 }
+    ensures stop { stop_spec (step_spec limit
+        (context_state context.old (state_of vectors.old.unit.now user) (M.memory memory.old))).end ≡ result.0 }
+    ensures ticks { (step_spec limit (context_state context.old (state_of vectors.old.unit.now user)
+        (M.memory memory.old))).ticks ≡ result.1 }
     ensures entered { context.new.entered ≡ context.old.entered }
     ensures unit { UnitMoves user vectors.old.unit.now vectors.new.unit.now
-        (unit_after_try user (try_of limit context.old (state_of vectors.old.unit.now user) (M.memory memory.old)) (record_of vectors.old.unit.now)) }
+        (unit_after_try user (try_of limit context.old (state_of vectors.old.unit.now user) (M.memory memory.old))
+        (record_of vectors.old.unit.now)) }
     ensures others { memory.new ≡ M.with_memory memory.old (M.memory memory.new) }
     ensures owner { vectors.new.user ≡ user }
     ensures same_unit { vectors.new.unit.ghost_name ≡ vectors.old.unit.ghost_name }
@@ -168,12 +174,16 @@ fn steps_lent<A: Allocator, M: UserBytes>(
 ) -> Option<Stop>
     requires settled { IsSettled vectors.old.unit.now }
     requires owner { vectors.old.user ≡ user }
-    ensures state { (steps_spec count true (present context.old trace.old (state_of vectors.old.unit.now user) (M.memory memory.old))).state
+    ensures state { (steps_spec count true
+        (present context.old trace.old (state_of vectors.old.unit.now user) (M.memory memory.old))).state
         ≡ present context.new trace.new (state_of vectors.new.unit.now user) (M.memory memory.new) }
-    ensures stop { (steps_spec count true (present context.old trace.old (state_of vectors.old.unit.now user) (M.memory memory.old))).stop ≡ result }
+    ensures stop { (steps_spec count true
+        (present context.old trace.old (state_of vectors.old.unit.now user) (M.memory memory.old))).stop ≡ result }
     ensures entered { context.new.entered ≡ context.old.entered }
     ensures unit { UnitMoves user vectors.old.unit.now vectors.new.unit.now
-        (unit_after_tries user (tried_steps count true (present context.old trace.old (state_of vectors.old.unit.now user) (M.memory memory.old))) (record_of vectors.old.unit.now)) }
+        (unit_after_tries user (tried_steps count true
+        (present context.old trace.old (state_of vectors.old.unit.now user) (M.memory memory.old)))
+        (record_of vectors.old.unit.now)) }
     ensures others { memory.new ≡ M.with_memory memory.old (M.memory memory.new) }
     ensures same_unit { vectors.new.unit.ghost_name ≡ vectors.old.unit.ghost_name }
 {
@@ -193,26 +203,36 @@ fn steps_lent<A: Allocator, M: UserBytes>(
 
 /// At most `count` instructions, fewer where one stops the program, or where a breakpoint stands at
 /// one that isn't the first. Answers why it stopped.
+#[tactic(auto, using(crate::proofs::PartLaws::entered_as))]
 pub(crate) fn steps<A: Allocator>(
-    context: &mut Context,
+    parts: &mut Parts<'_, '_, '_, A>,
     trace: &mut Trace<A>,
-    unit: &mut Unit,
-    pool: &mut Pool<A>,
-    user: User,
     count: usize,
 ) -> Option<Stop>
-    requires { IsSettled unit.old }
-    ensures state { (steps_spec count true (present context.old trace.old (state_of unit.old user) (memory_of_user pool.old user))).state
-        ≡ present context.new trace.new (state_of unit.new user) (memory_of_user pool.new user) }
-    ensures stop { (steps_spec count true (present context.old trace.old (state_of unit.old user) (memory_of_user pool.old user))).stop ≡ result }
-    ensures entered { context.new.entered ≡ context.old.entered }
-    ensures unit { UnitMoves user unit.old unit.new
-        (unit_after_tries user (tried_steps count true (present context.old trace.old (state_of unit.old user) (memory_of_user pool.old user))) (record_of unit.old)) }
-    ensures others { pool.new ≡ with_memory pool.old user (memory_of_user pool.new user) }
+    requires entered { parts.old.context.now.entered ≡ true }
+    ensures next { machine_of parts.new trace.new
+        ≡ Some (steps_spec count true (present_of parts.old trace.old)).state }
+    ensures stop { (steps_spec count true (present_of parts.old trace.old)).stop ≡ result }
+    ensures parts { PartsMove parts.old parts.new (unit_after_tries parts.old.user
+        (tried_steps count true (present_of parts.old trace.old)) (record_of parts.old.unit.now)) }
 {
-    let mut memory = UserMemory { pool, user };
-    let mut vectors = UserVectors { unit, user };
-    steps_lent(context, trace, &mut vectors, &mut memory, user, count)
+    let user = parts.user;
+    let mut memory = UserMemory {
+        pool: &mut *parts.pool,
+        user,
+    };
+    let mut vectors = UserVectors {
+        unit: &mut *parts.unit,
+        user,
+    };
+    steps_lent(
+        &mut *parts.context,
+        trace,
+        &mut vectors,
+        &mut memory,
+        user,
+        count,
+    )
 }
 
 /// `slice` over what the instructions of the user are lent.
@@ -227,12 +247,16 @@ fn slice_lent<A: Allocator, M: UserBytes>(
 ) -> Option<Stop>
     requires settled { IsSettled vectors.old.unit.now }
     requires owner { vectors.old.user ≡ user }
-    ensures state { (ticked quantum (present context.old trace.old (state_of vectors.old.unit.now user) (M.memory memory.old))).state
+    ensures state { (ticked quantum (present context.old trace.old (state_of vectors.old.unit.now user)
+        (M.memory memory.old))).state
         ≡ present context.new trace.new (state_of vectors.new.unit.now user) (M.memory memory.new) }
-    ensures stop { (ticked quantum (present context.old trace.old (state_of vectors.old.unit.now user) (M.memory memory.old))).stop ≡ result }
+    ensures stop { (ticked quantum (present context.old trace.old (state_of vectors.old.unit.now user)
+        (M.memory memory.old))).stop ≡ result }
     ensures entered { context.new.entered ≡ context.old.entered }
     ensures unit { UnitMoves user vectors.old.unit.now vectors.new.unit.now
-        (unit_after_tries user (tries quantum quantum (present context.old trace.old (state_of vectors.old.unit.now user) (M.memory memory.old))) (record_of vectors.old.unit.now)) }
+        (unit_after_tries user (tries quantum quantum
+        (present context.old trace.old (state_of vectors.old.unit.now user) (M.memory memory.old)))
+        (record_of vectors.old.unit.now)) }
     ensures others { memory.new ≡ M.with_memory memory.old (M.memory memory.new) }
     ensures same_unit { vectors.new.unit.ghost_name ≡ vectors.old.unit.ghost_name }
 {
@@ -252,24 +276,33 @@ fn slice_lent<A: Allocator, M: UserBytes>(
 
 /// The instructions of so many ticks, fewer where one stops the program, or where a breakpoint
 /// stands at one that isn't the first after the program was told to run. Answers why it stopped.
+#[tactic(auto, using(crate::proofs::PartLaws::entered_as))]
 pub(crate) fn slice<A: Allocator>(
-    context: &mut Context,
+    parts: &mut Parts<'_, '_, '_, A>,
     trace: &mut Trace<A>,
-    unit: &mut Unit,
-    pool: &mut Pool<A>,
-    user: User,
     quantum: usize,
 ) -> Option<Stop>
-    requires { IsSettled unit.old }
-    ensures state { (ticked quantum (present context.old trace.old (state_of unit.old user) (memory_of_user pool.old user))).state
-        ≡ present context.new trace.new (state_of unit.new user) (memory_of_user pool.new user) }
-    ensures stop { (ticked quantum (present context.old trace.old (state_of unit.old user) (memory_of_user pool.old user))).stop ≡ result }
-    ensures entered { context.new.entered ≡ context.old.entered }
-    ensures unit { UnitMoves user unit.old unit.new
-        (unit_after_tries user (tries quantum quantum (present context.old trace.old (state_of unit.old user) (memory_of_user pool.old user))) (record_of unit.old)) }
-    ensures others { pool.new ≡ with_memory pool.old user (memory_of_user pool.new user) }
+    requires entered { parts.old.context.now.entered ≡ true }
+    ensures next { machine_of parts.new trace.new ≡ Some (ticked quantum (present_of parts.old trace.old)).state }
+    ensures stop { (ticked quantum (present_of parts.old trace.old)).stop ≡ result }
+    ensures parts { PartsMove parts.old parts.new (unit_after_tries parts.old.user
+        (tries quantum quantum (present_of parts.old trace.old)) (record_of parts.old.unit.now)) }
 {
-    let mut memory = UserMemory { pool, user };
-    let mut vectors = UserVectors { unit, user };
-    slice_lent(context, trace, &mut vectors, &mut memory, user, quantum)
+    let user = parts.user;
+    let mut memory = UserMemory {
+        pool: &mut *parts.pool,
+        user,
+    };
+    let mut vectors = UserVectors {
+        unit: &mut *parts.unit,
+        user,
+    };
+    slice_lent(
+        &mut *parts.context,
+        trace,
+        &mut vectors,
+        &mut memory,
+        user,
+        quantum,
+    )
 }

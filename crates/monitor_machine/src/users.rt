@@ -13,13 +13,15 @@ ghost use Rattle.monitor_machine.specs.MachineState.{after_command, after_slice}
 ghost use Rattle.monitor_machine.specs.Parts.{context_standing, is_running, new_context};
 ghost use Rattle.monitor_machine.specs.StopRoom.{stops_room};
 
+use crate::answers::refuse;
 use crate::commands::carry_out;
 use crate::context::Context;
 use crate::image::Image;
+use crate::parts::Parts;
 use crate::slices::grant;
 use crate::trace::Trace;
 use lazy_context::Unit;
-use monitor_cmds::{Reply, Tag, parse};
+use monitor_cmds::{Reply, parse};
 use rv_model::{Standing, Stats, USER_COUNT, User};
 use slice_sched::next;
 use std::alloc::{AllocError, Allocator};
@@ -122,7 +124,7 @@ impl<A: Allocator> Users<A> {
         })
     }
 
-    /// Carries out one command of a user, and answers it.
+    /// Carries out one command of a user, and answers it in place of what the reply held.
     #[tactic(auto, using(crate::proofs::PartLaws::part_put_back))]
     pub(crate) fn command(
         &mut self,
@@ -131,27 +133,23 @@ impl<A: Allocator> Users<A> {
         line: &[u8],
         reply: &mut Reply,
     )
-        requires { reply.old ≡ [] }
         ensures world { self.new ≡ after_command (named_images images.now) user line.now self.old }
-        ensures reply { reply.new ≡ text (48 + user) (commanded (named_images images.now) (user_machine user self.old) (parse_spec line.now)).lines }
+        ensures reply { reply.new ≡ text (48 + user)
+            (commanded (named_images images.now) (user_machine user self.old) (parse_spec line.now)).lines }
     {
         match parse(line) {
             Ok(cmd) => {
                 // The user's number is 1 or more: `number` says so.
                 user.number();
-                let context = &mut self.contexts[user.index()];
-                carry_out(
-                    images,
-                    context,
-                    self.traces.as_mut_slice(),
-                    &mut self.unit,
-                    &mut self.pool,
+                let mut parts = Parts {
+                    context: &mut self.contexts[user.index()],
+                    unit: &mut self.unit,
+                    pool: &mut self.pool,
                     user,
-                    &cmd,
-                    reply,
-                );
+                };
+                carry_out(images, &mut parts, self.traces.as_mut_slice(), &cmd, reply);
             }
-            Err(refusal) => monitor_cmds::refused(reply, Tag::User(user), refusal),
+            Err(refusal) => refuse(reply, user, refusal),
         }
     }
     /// Grants a slice of `quantum` ticks to a user, if the user's program runs, and adds to the
@@ -169,16 +167,13 @@ impl<A: Allocator> Users<A> {
     {
         // The user's number is 1 or more: `number` says so.
         user.number();
-        let context = &mut self.contexts[user.index()];
-        grant(
-            context,
-            self.traces.as_mut_slice(),
-            &mut self.unit,
-            &mut self.pool,
+        let mut parts = Parts {
+            context: &mut self.contexts[user.index()],
+            unit: &mut self.unit,
+            pool: &mut self.pool,
             user,
-            quantum,
-            reply,
-        )
+        };
+        grant(&mut parts, self.traces.as_mut_slice(), quantum, reply)
     }
 
     /// The first user whose program runs, in the order of the users from the one on whose turn

@@ -7,5 +7,5 @@ use Rattle.monitor_machine.proofs.slices.grant.Goals as goal
 
 pub returns-clause-configured : goal.returns-clause-configured
 returns-clause-configured g c =
-    let user : ℕ = c.args.user in
-    configured_as c.args.context.now (trace_of c.args.traces.now user) (state_of c.args.unit.now user) (memory_of_user c.args.pool.now user) c.length_law.ensures
+    let user : ℕ = c.args.parts.now.user in
+    configured_as c.args.parts.now.context.now (trace_of c.args.traces.now user) (state_of c.args.parts.now.unit.now user) (memory_of_user c.args.parts.now.pool.now user) c.length_law.ensures

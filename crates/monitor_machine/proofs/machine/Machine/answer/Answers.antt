@@ -10,4 +10,4 @@ returns-in-Operator-clause-eight g c =
     let setup = c.args.self.now.setup in
     let world = c.args.self.now.world in
     let eight = sym (ap (λ (m : MachineState). length m.world.parts) c.self.view_is) ∙ c.self.invariant in
-    eight_stay setup world c.carry_out_operator.new.self.world (grants_of setup world (operator_parse (take (length c.args.line.now - 2) (drop 2 c.args.line.now)))) c.carry_out_operator.ensures.world eight
+    eight_stay setup world c.operator.new.self.world (grants_of setup world (operator_parse (take (length c.args.line.now - 2) (drop 2 c.args.line.now)))) c.operator.ensures.world eight

@@ -20,15 +20,17 @@ returns-in-Ok-clause-world g c =
     let images = named_images c.args.images.now in
     let inside = c.self.inside in
     let context = get_or inside.contexts c.index.result c.index-self-index.result in
-    let next = c.carry_out.ensures.next
+    let next =
+    ap (λ (n : ℕ). private_of c.carry_out.new.parts.context.now (trace_of c.carry_out.new.traces user) (state_of c.carry_out.new.parts.unit.now n) (memory_of_user c.carry_out.new.parts.pool.now n)) (sym c.carry_out.ensures.parts.user)
+    ∙ c.carry_out.ensures.next
     ∙ ap (λ (ts : List Addresses). (commanded images (private_of context (trace_of ts user) (state_of inside.unit user) (memory_of_user inside.pool user)) (Ok c.in-Ok.cmd)).next) c.as_mut_slice.ensures.value in
     let traces = c.carry_out.ensures.traces
     ∙ ap (λ (ts : List Addresses). with_trace ts user (trace_of c.carry_out.new.traces user)) c.as_mut_slice.ensures.value in
-    let moves = subst (λ (ts : List Addresses). UnitMoves user inside.unit c.carry_out.new.unit (unit_after_command images user c.in-Ok.cmd (private_of context (trace_of ts user) (state_of inside.unit user) (memory_of_user inside.pool user)) (record_of inside.unit))) c.as_mut_slice.ensures.value c.carry_out.ensures.unit in
+    let moves = subst (λ (ts : List Addresses). UnitMoves user inside.unit c.carry_out.new.parts.unit.now (unit_after_command images user c.in-Ok.cmd (private_of context (trace_of ts user) (state_of inside.unit user) (memory_of_user inside.pool user)) (record_of inside.unit))) c.as_mut_slice.ensures.value c.carry_out.ensures.parts.unit in
     let unset = length-set inside.traces.items (user - 1) (trace_of c.carry_out.new.traces user) in
     let kept : length c.carry_out.new.traces ≡ inside.traces.len = omega (arith, ap length traces, unset, inside.traces.ok.0) in
-    ap (λ (ts : List Addresses). world_of (set inside.contexts c.index.result c.carry_out.new.context) ts c.carry_out.new.unit c.carry_out.new.pool inside.cursor) (with_items_is inside.traces c.carry_out.new.traces kept)
-    ∙ world_with inside.contexts inside.traces.items c.carry_out.new.traces inside.unit c.carry_out.new.unit inside.pool c.carry_out.new.pool inside.cursor user c.index.result c.index-self-index.result c.carry_out.new.context (λ p. (commanded images p (Ok c.in-Ok.cmd)).next) (λ p r. unit_after_line images user p (Ok c.in-Ok.cmd) r) c.index.ensures.value c.index.ensures.small low c.self.invariant next traces moves c.carry_out.ensures.others
+    ap (λ (ts : List Addresses). world_of (set inside.contexts c.index.result c.carry_out.new.parts.context.now) ts c.carry_out.new.parts.unit.now c.carry_out.new.parts.pool.now inside.cursor) (with_items_is inside.traces c.carry_out.new.traces kept)
+    ∙ world_with inside.contexts inside.traces.items c.carry_out.new.traces inside.unit c.carry_out.new.parts.unit.now inside.pool c.carry_out.new.parts.pool.now inside.cursor user c.index.result c.index-self-index.result c.carry_out.new.parts.context.now (λ p. (commanded images p (Ok c.in-Ok.cmd)).next) (λ p r. unit_after_line images user p (Ok c.in-Ok.cmd) r) c.index.ensures.value c.index.ensures.small low c.self.invariant next traces moves c.carry_out.ensures.parts.others
     ∙ ap (λ (w : World). after_parsed images user (Ok c.in-Ok.cmd) w) c.self.view_is
     ∙ ap (λ (p : Parsed). after_parsed images user p c.args.self.now) c.in-Ok.ensures
 
@@ -53,8 +55,8 @@ invariant_of-self g c =
     let unset = length-set inside.traces.items (user - 1) (trace_of c.carry_out.new.traces user) in
     let kept : length c.carry_out.new.traces ≡ inside.traces.len = omega (arith, ap length traces, unset, inside.traces.ok.0) in
     record {
-      contexts = length-set inside.contexts c.index.result c.carry_out.new.context ∙ c.self.invariant.contexts;
+      contexts = length-set inside.contexts c.index.result c.carry_out.new.parts.context.now ∙ c.self.invariant.contexts;
       traces = ap length (with_items_is inside.traces c.carry_out.new.traces kept) ∙ ap length traces ∙ unset ∙ c.self.invariant.traces;
-      memories = ap length c.carry_out.ensures.others ∙ length-set inside.pool (user - 1) (memory_of_user c.carry_out.new.pool user) ∙ c.self.invariant.memories;
-      settled = c.carry_out.ensures.unit.settled;
+      memories = ap length c.carry_out.ensures.parts.others ∙ length-set inside.pool (user - 1) (memory_of_user c.carry_out.new.parts.pool.now user) ∙ c.self.invariant.memories;
+      settled = c.carry_out.ensures.parts.unit.settled;
     }

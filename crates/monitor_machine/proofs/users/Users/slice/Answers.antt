@@ -32,15 +32,17 @@ grant-requires-clause-room g c =
 pub returns-clause-world : goal.returns-clause-world
 returns-clause-world g c =
     let user : ℕ = c.args.user in
-    let next = c.grant.ensures.next
+    let next =
+    ap (λ (n : ℕ). private_of c.grant.new.parts.context.now (trace_of c.grant.new.traces user) (state_of c.grant.new.parts.unit.now n) (memory_of_user c.grant.new.parts.pool.now n)) (sym c.grant.ensures.parts.user)
+    ∙ c.grant.ensures.next
     ∙ ap (λ (ts : List Addresses). (sliced c.args.quantum (private_of (get_or c.self.inside.contexts c.index.result c.index-self-index.result) (trace_of ts user) (state_of c.self.inside.unit user) (memory_of_user c.self.inside.pool user))).next) c.as_mut_slice.ensures.value in
     let traces = c.grant.ensures.traces
     ∙ ap (λ (ts : List Addresses). with_trace ts user (trace_of c.grant.new.traces user)) c.as_mut_slice.ensures.value in
     let unset = length-set c.self.inside.traces.items (user - 1) (trace_of c.grant.new.traces user) in
     let kept : length c.grant.new.traces ≡ c.self.inside.traces.len = omega (arith, ap length traces, unset, c.self.inside.traces.ok.0) in
-    let moves = subst (λ (ts : List Addresses). UnitMoves user c.self.inside.unit c.grant.new.unit (unit_after_tries user (tried_in c.args.quantum (private_of (get_or c.self.inside.contexts c.index.result c.index-self-index.result) (trace_of ts user) (state_of c.self.inside.unit user) (memory_of_user c.self.inside.pool user))) (record_of c.self.inside.unit))) c.as_mut_slice.ensures.value c.grant.ensures.unit in
-    ap (λ (ts : List Addresses). world_of (set c.self.inside.contexts c.index.result c.grant.new.context) ts c.grant.new.unit c.grant.new.pool c.self.inside.cursor) (with_items_is c.self.inside.traces c.grant.new.traces kept)
-    ∙ world_with c.self.inside.contexts c.self.inside.traces.items c.grant.new.traces c.self.inside.unit c.grant.new.unit c.self.inside.pool c.grant.new.pool c.self.inside.cursor user c.index.result c.index-self-index.result c.grant.new.context (λ p. (sliced c.args.quantum p).next) (λ p r. unit_after_tries user (tried_in c.args.quantum p) r) c.index.ensures.value c.index.ensures.small (omega (arith, c.number.ensures.low, c.number.ensures.value)) c.self.invariant next traces moves c.grant.ensures.others
+    let moves = subst (λ (ts : List Addresses). UnitMoves user c.self.inside.unit c.grant.new.parts.unit.now (unit_after_tries user (tried_in c.args.quantum (private_of (get_or c.self.inside.contexts c.index.result c.index-self-index.result) (trace_of ts user) (state_of c.self.inside.unit user) (memory_of_user c.self.inside.pool user))) (record_of c.self.inside.unit))) c.as_mut_slice.ensures.value c.grant.ensures.parts.unit in
+    ap (λ (ts : List Addresses). world_of (set c.self.inside.contexts c.index.result c.grant.new.parts.context.now) ts c.grant.new.parts.unit.now c.grant.new.parts.pool.now c.self.inside.cursor) (with_items_is c.self.inside.traces c.grant.new.traces kept)
+    ∙ world_with c.self.inside.contexts c.self.inside.traces.items c.grant.new.traces c.self.inside.unit c.grant.new.parts.unit.now c.self.inside.pool c.grant.new.parts.pool.now c.self.inside.cursor user c.index.result c.index-self-index.result c.grant.new.parts.context.now (λ p. (sliced c.args.quantum p).next) (λ p r. unit_after_tries user (tried_in c.args.quantum p) r) c.index.ensures.value c.index.ensures.small (omega (arith, c.number.ensures.low, c.number.ensures.value)) c.self.invariant next traces moves c.grant.ensures.parts.others
     ∙ ap (λ (w : World). after_slice c.args.quantum user w) c.self.view_is
 
 pub returns-clause-reply : goal.returns-clause-reply
@@ -100,8 +102,8 @@ invariant_of-self g c =
     let unset = length-set inside.traces.items (user - 1) (trace_of c.grant.new.traces user) in
     let kept : length c.grant.new.traces ≡ inside.traces.len = omega (arith, ap length traces, unset, inside.traces.ok.0) in
     record {
-      contexts = length-set inside.contexts c.index.result c.grant.new.context ∙ c.self.invariant.contexts;
+      contexts = length-set inside.contexts c.index.result c.grant.new.parts.context.now ∙ c.self.invariant.contexts;
       traces = ap length (with_items_is inside.traces c.grant.new.traces kept) ∙ ap length traces ∙ unset ∙ c.self.invariant.traces;
-      memories = ap length c.grant.ensures.others ∙ length-set inside.pool (user - 1) (memory_of_user c.grant.new.pool user) ∙ c.self.invariant.memories;
-      settled = c.grant.ensures.unit.settled;
+      memories = ap length c.grant.ensures.parts.others ∙ length-set inside.pool (user - 1) (memory_of_user c.grant.new.parts.pool.now user) ∙ c.self.invariant.memories;
+      settled = c.grant.ensures.parts.unit.settled;
     }
