@@ -8,8 +8,8 @@ Without names it reads the crates that a step of a user goes through, and the mo
 - each function with more than six parameters, `self` among them;
 - each line of more than 120 characters.
 
-A clause is what stands between the braces of `requires` or `ensures`, without its name. What it counts is told by DECISIONS.md,
-"What a type carries".
+A clause is what stands between the braces of `requires` or `ensures`, without its name. docs/DECISIONS.md, "Forms", tells why some
+of what it prints stays.
 """
 
 import re

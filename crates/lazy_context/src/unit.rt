@@ -1,8 +1,33 @@
 //! The vector unit, which holds the state of one user at a time.
-ghost use Rattle.lazy_context.specs.LazyUnit.{AllKeep, ComesBackSettled, IsLentAgain, IsOwnerAUser, IsSettled, KeepsAreas, KeepsOtherAreas, LendsSeat, OthersKeep, discarded, new_unit, owner_written_back, poked, record_of, state_of, taken, touched};
+ghost use Rattle.lazy_context.specs.LazyUnit.{
+  AllKeep,
+  ComesBackSettled,
+  IsLentAgain,
+  IsOwnerAUser,
+  IsSettled,
+  KeepsAreas,
+  KeepsOtherAreas,
+  LendsSeat,
+  OthersKeep,
+  discarded,
+  new_unit,
+  owner_written_back,
+  poked,
+  record_of,
+  state_of,
+  taken,
+  touched,
+};
 ghost use Rattle.lazy_context.specs.SaveAreas.{with_register};
 ghost use Rattle.rv_model.specs.machine.Users.{user_count};
-ghost use Rattle.rv_model.specs.machine.VectorUnit.{is_owned_by, stats_of, unit_discarded, unit_register_written, unit_touched, unused_unit};
+ghost use Rattle.rv_model.specs.machine.VectorUnit.{
+  is_owned_by,
+  stats_of,
+  unit_discarded,
+  unit_register_written,
+  unit_touched,
+  unused_unit,
+};
 ghost use Rattle.rv_model.specs.vector.Configuration.{IsConfiguration};
 ghost use Rattle.rv_model.specs.vector.State.{initial_vector};
 ghost use Rattle.std.specs.Borrow.{sem};
@@ -160,7 +185,7 @@ impl Unit {
         }
     }
 
-    /// What the unit is once a user has touched it: a law, which does nothing. The owner's touch changes nothing, a touch with
+    /// What the unit is once a user has touched it: a law, which does nothing. The owner's touch changes nothing, one with
     /// a clean seat writes no save area, and once the seat has come back the unit may be touched again.
     #[tactic(auto, using(crate::proofs::UnitLaws::lending_steps))]
     pub fn lending_law(&self, user: User)

@@ -1,6 +1,17 @@
 //! What a word means as an argument of a command.
 ghost use Rattle.std.specs.Prelude.{◌≡◌, ◌≤◌, ◌^◌, IfSome, Some};
-ghost use Rattle.rv_model.specs.commands.Arguments.{decimal_number, address, instruction_address, scalar_register, vector_register, policy_word, allowing, permissions, number_between, sew_argument};
+ghost use Rattle.rv_model.specs.commands.Arguments.{
+  decimal_number,
+  address,
+  instruction_address,
+  scalar_register,
+  vector_register,
+  policy_word,
+  allowing,
+  permissions,
+  number_between,
+  sew_argument,
+};
 ghost use Rattle.rv_model.specs.machine.Users.{user_count};
 ghost use Rattle.rv_model.specs.lending.Text.{capped};
 

@@ -3,7 +3,15 @@ ghost use Rattle.std.specs.Prelude.{◌≡◌, [], ◌∷◌, ◌++◌, ◌+◌,
 ghost use Rattle.rv_model.specs.declared.commands.operator.OperatorCommand.TheVariants.{Slices, Run};
 ghost use Rattle.rv_model.specs.commands.Arguments.{number_between};
 ghost use Rattle.rv_model.specs.commands.Reading.{one_argument};
-ghost use Rattle.rv_model.specs.commands.Operator.{operator_named, operator_parse, granted_line, standing_word, listed_user, list_line, stats_line};
+ghost use Rattle.rv_model.specs.commands.Operator.{
+  operator_named,
+  operator_parse,
+  granted_line,
+  standing_word,
+  listed_user,
+  list_line,
+  stats_line,
+};
 ghost use Rattle.rv_model.specs.machine.Users.{user_count, users};
 ghost use Rattle.rv_model.specs.text.Lines.{text};
 ghost use Rattle.rv_model.specs.text.Words.{words};

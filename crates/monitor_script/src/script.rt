@@ -2,7 +2,17 @@
 ghost use Rattle.std.specs.Prelude.{◌≡◌, ◌≢◌, ℕ, ◌+◌, ◌<◌, ◌≤◌, List, Err, length, take, OnOk, IfOk};
 ghost use Rattle.monitor_machine.specs.MachineState.{after_line, line_output};
 ghost use Rattle.rv_model.specs.machine.PrivateMachine.{solo, solo_from};
-ghost use Rattle.rv_model.specs.machine.Script.{after_all, told_all, whole_from, after_script, lines, own, own_from, new_world, user_machine};
+ghost use Rattle.rv_model.specs.machine.Script.{
+  after_all,
+  told_all,
+  whole_from,
+  after_script,
+  lines,
+  own,
+  own_from,
+  new_world,
+  user_machine,
+};
 ghost use Rattle.rv_model.specs.machine.Users.{user_count};
 ghost use Rattle.monitor_script.specs.Device.{Rose};
 ghost use Rattle.monitor_script.specs.EndedLines.{ended_lines};

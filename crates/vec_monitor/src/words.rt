@@ -1,7 +1,14 @@
 //! Reads the words of the command line.
 ghost use Rattle.std.specs.Prelude.{◌≡◌, ◌≤◌, [], IsOk, IfOk, IfErr, option_map};
 ghost use Rattle.clap.specs.Walk.{texts};
-ghost use Rattle.vec_monitor.specs.CommandLine.{image_words, quantum_word, script_word, words_fault, IsQuantum, IsRefusedFor};
+ghost use Rattle.vec_monitor.specs.CommandLine.{
+  image_words,
+  quantum_word,
+  script_word,
+  words_fault,
+  IsQuantum,
+  IsRefusedFor,
+};
 
 use crate::command_line::{DEFAULT_QUANTUM, Options, UsageFault, command};
 use std::alloc::Global;

@@ -4,7 +4,15 @@ ghost use Rattle.rv_model.specs.declared.commands.programs.ProgramCommand.TheVar
 ghost use Rattle.rv_model.specs.commands.Arguments.{instruction_address, number_between};
 ghost use Rattle.rv_model.specs.commands.Reading.{one_argument, two_arguments};
 ghost use Rattle.rv_model.specs.assembler.Table.{canonical};
-ghost use Rattle.rv_model.specs.commands.Programs.{asm_args, programs_named, loaded_line, asm_line, dis_line, dis_lines, word_in};
+ghost use Rattle.rv_model.specs.commands.Programs.{
+  asm_args,
+  programs_named,
+  loaded_line,
+  asm_line,
+  dis_line,
+  dis_lines,
+  word_in,
+};
 ghost use Rattle.rv_model.specs.text.Lines.{tagged, text};
 ghost use Rattle.rv_model.specs.text.Words.{words};
 ghost use Rattle.monitor_cmds.specs.Tag.{tag_byte};

@@ -2,11 +2,33 @@
 //! on what becomes of agnostic elements, `policy`.
 ghost use Rattle.std.specs.Prelude.{◌≡◌, [], ◌∷◌, ◌++◌, ◌+◌, ◌*◌, ◌/◌, ◌<◌, ◌≤◌, length, codes, decimal, flat_map};
 ghost use Rattle.std.specs.List.{range_with_len};
-ghost use Rattle.rv_model.specs.declared.commands.registers.RegisterCommand.TheVariants.{Set, SetPc, Vreg, Vset, SetPolicy};
-ghost use Rattle.rv_model.specs.commands.Arguments.{address, instruction_address, policy_word, register_bytes, scalar_register, sew_argument, vector_register};
+ghost use Rattle.rv_model.specs.declared.commands.registers.RegisterCommand.TheVariants.{
+  Set,
+  SetPc,
+  Vreg,
+  Vset,
+  SetPolicy,
+};
+ghost use Rattle.rv_model.specs.commands.Arguments.{
+  address,
+  instruction_address,
+  policy_word,
+  register_bytes,
+  scalar_register,
+  sew_argument,
+  vector_register,
+};
 ghost use Rattle.rv_model.specs.commands.Reading.{one_argument, two_arguments};
 ghost use Rattle.rv_model.specs.commands.Printing.{hex16};
-ghost use Rattle.rv_model.specs.commands.Registers.{registers_named, register_text, register_line, regs_lines, element_text, vreg_line, vcsr_line};
+ghost use Rattle.rv_model.specs.commands.Registers.{
+  registers_named,
+  register_text,
+  register_line,
+  regs_lines,
+  element_text,
+  vreg_line,
+  vcsr_line,
+};
 ghost use Rattle.rv_model.specs.instructions.BitFields.{flag_bit};
 ghost use Rattle.rv_model.specs.text.Lines.{tagged, text};
 ghost use Rattle.rv_model.specs.text.Words.{words};

@@ -6,7 +6,15 @@ ghost use Rattle.rv_model.specs.declared.commands.running.RunningCommand.TheVari
 ghost use Rattle.rv_model.specs.commands.Arguments.{number_between};
 ghost use Rattle.rv_model.specs.commands.Reading.{one_argument};
 ghost use Rattle.rv_model.specs.commands.Printing.{hex16};
-ghost use Rattle.rv_model.specs.commands.Running.{running_named, step_line, running_line, stopped_line, state_line, trace_line, out_line};
+ghost use Rattle.rv_model.specs.commands.Running.{
+  running_named,
+  step_line,
+  running_line,
+  stopped_line,
+  state_line,
+  trace_line,
+  out_line,
+};
 ghost use Rattle.rv_model.specs.text.Lines.{tagged, text};
 ghost use Rattle.rv_model.specs.text.Words.{words};
 ghost use Rattle.monitor_cmds.specs.Tag.{tag_byte};
