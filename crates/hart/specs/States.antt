@@ -33,11 +33,13 @@ LeadsTo instruction before after end ticks = instruction before ≡ ends_after t
 abbrev pub LeadsOutput : (HartState → Stepped) → Scalar → Memory → List ℕ → Scalar → Memory → List ℕ → StepEnd → Type 0
 LeadsOutput instruction scalar memory output scalar' memory' output' end =
     (vector : VState) (policy : Policy)
-    → LeadsTo instruction (hart_state scalar vector memory policy output) (hart_state scalar' vector memory' policy output') end 1
+    → LeadsTo instruction (hart_state scalar vector memory policy output)
+    (hart_state scalar' vector memory' policy output') end 1
 
 -- the same for an instruction that leaves the output buffer as it is, whatever it holds
 abbrev pub Leads : (HartState → Stepped) → (List ℕ → HartState) → (List ℕ → HartState) → StepEnd → ℕ → Type 0
-Leads instruction before after end ticks = (output : List ℕ) → LeadsTo instruction (before output) (after output) end ticks
+Leads instruction before after end ticks =
+    (output : List ℕ) → LeadsTo instruction (before output) (after output) end ticks
 
 -- the same in one tick for an instruction of scalar registers and memory, whatever all else is
 abbrev pub LeadsScalar : (HartState → Stepped) → Scalar → Memory → Scalar → Memory → StepEnd → Type 0
@@ -50,17 +52,21 @@ abbrev pub LeadsRegisters : (HartState → Stepped) → Scalar → Scalar → St
 LeadsRegisters instruction scalar scalar' end =
     (memory : Memory) → LeadsScalar instruction scalar memory scalar' memory end
 
--- an instruction marks the seat if it changes the vector state, whatever the output buffer holds, and leaves a mark that is there
+-- an instruction marks the seat if it changes the vector state, whatever the output buffer holds, and leaves a mark that
+-- is there
 abbrev pub Marks : (HartState → Bool) → (List ℕ → HartState) → Seat → Seat → Type 0
 Marks dirties before old new = (output : List ℕ) → new.dirty ≡ (old.dirty || dirties (before output))
 
--- an instruction leaves the seat that it may have been lent: marked where it changed the vector state, and else as it was; what was
--- lent has a length that its vector type allows
+-- an instruction leaves the seat that it may have been lent: marked where it changed the vector state, and else as it
+-- was; what was lent has a length that its vector type allows
 abbrev pub LeavesSeat : Bool → (HartState → Bool) → (List ℕ → HartState) → Seat → Seat → Type 0
 LeavesSeat touched dirties before old new =
-    Marks dirties before old new × (new.dirty ≡ false → new.state ≡ old.state) × (touched ≡ true → IsConfiguration old.state.conf)
+    Marks dirties before old new × (new.dirty ≡ false → new.state ≡ old.state)
+    × (touched ≡ true → IsConfiguration old.state.conf)
 
 -- the same, and the lender of the seat: it lent it if the instruction touches the vector unit, and may lend it again
-abbrev pub Returns : {V : Type 0} → (V → Type 0) → (V → Seat) → (V → Seat → V) → Bool → (HartState → Bool) → (List ℕ → HartState) → V → V → Type 0
+abbrev pub Returns : {V : Type 0} → (V → Type 0) → (V → Seat) → (V → Seat → V)
+    → Bool → (HartState → Bool) → (List ℕ → HartState) → V → V → Type 0
 Returns ready lent back touched dirties before old new =
-    LeavesSeat touched dirties before (lent old) (lent new) × (new ≡ (if touched then back old (lent new) else old)) × ready new
+    LeavesSeat touched dirties before (lent old) (lent new) × (new ≡ (if touched then back old (lent new) else old))
+    × ready new

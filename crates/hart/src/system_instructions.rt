@@ -10,7 +10,7 @@ ghost use Rattle.rv_model.specs.step.Step.{dirties, executed, touches, touches_c
 ghost use Rattle.rv_model.specs.vector.Control.{is_write};
 ghost use Rattle.rv_model.specs.vector.ControlRegisters.{control_register};
 ghost use Rattle.rv_model.specs.vector.Configuration.{IsConfiguration};
-ghost use Rattle.hart.specs.States.{Leads, LeadsTo, Marks};
+ghost use Rattle.hart.specs.States.{Leads, LeadsTo, Returns};
 
 use crate::control_registers::{csr_form, is_write, read, write, written_value};
 use crate::environment_call::system;
@@ -108,16 +108,9 @@ pub(crate) fn execute_system<M: UserBytes, V: Vectors>(
     ensures model { (limit : ℕ) (policy : Policy) → LeadsTo (executed limit (scan table word) word)
         (hart_state scalar.old (V.lent vectors.old).state (M.memory memory.now) policy output.old.items)
         (hart_state scalar.new (V.lent vectors.new).state (M.memory memory.now) policy output.new.items) end.new 1 }
-    ensures dirty { (limit : ℕ) (policy : Policy) → Marks (dirties limit (scan table word))
-        (hart_state scalar.old (V.lent vectors.old).state (M.memory memory.now) policy)
-        (V.lent vectors.old) (V.lent vectors.new) }
-    ensures clean { (V.lent vectors.new).dirty ≡ false
-        → (V.lent vectors.new).state ≡ (V.lent vectors.old).state }
-    ensures configuration { touches (scan table word) ≡ true
-        → IsConfiguration (V.lent vectors.old).state.conf }
-    ensures vectors { vectors.new
-        ≡ (if touches (scan table word) then V.back vectors.old (V.lent vectors.new) else vectors.old) }
-    ensures ready { V.ready vectors.new }
+    ensures vectors { (limit : ℕ) (policy : Policy) → Returns V.ready V.lent V.back
+        (touches (scan table word)) (dirties limit (scan table word))
+        (hart_state scalar.old (V.lent vectors.old).state (M.memory memory.now) policy) vectors.old vectors.new }
 {
     if let Some(op) = decode_call(word) {
         *end = system(op, scalar, memory, output);
