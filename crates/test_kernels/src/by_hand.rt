@@ -1,6 +1,5 @@
-//! Kernels compared with values worked by hand. What isn't written keeps bytes AA.
-ghost use Rattle.std.specs.Prelude.{◌*◌, ◌<◌, ◌≤◌, ℕ};
-ghost use Rattle.rv_model.specs.vector.Configuration.{width_bytes};
+//! Kernels compared with values worked by hand.
+ghost use Rattle.std.specs.Prelude.{◌≤◌};
 
 mod fixed_point;
 mod masks;
@@ -9,28 +8,145 @@ mod permutations;
 mod reductions;
 mod two_widths;
 
-use crate::operands::NO_MASK;
-use lane_arith::{Body, Lane, Results, write_results};
-use std::io;
+use crate::comparison::{Case, Kernel, write};
+use crate::operands::{LONGEST, NO_MASK, Operands};
+use crate::report::{Line, Report};
+use crate::variants::Variant;
+use lane_arith::Body;
 
-/// The bytes that results leave in a body that has no mask.
-fn written<L: Lane, R: Results<L>, const N: usize>(results: &R, start: usize, end: usize) -> [u8; N]
-    requires operands { (i : ℕ) → i < end → R.has results.now i }
-    requires room { width_bytes L.width * end ≤ N }
-    requires count { end ≤ 256 }
-{
-    let mut bytes = [0xaa; N];
-    let body = Body::new(true, &NO_MASK, start, end);
-    write_results::<L, R>(results, &body, &mut bytes, false);
+/// What the kernels of a table are given. Of operands and masks it has the first bytes, as a number: the first byte is
+/// the lowest, as in a register.
+#[derive(Clone, Copy)]
+struct Given {
+    /// The width of an element, and how many times as wide a result is.
+    bits: u32,
+    times: u32,
+    a: u128,
+    b: u128,
+    /// What the destination has before; the other bytes are AA.
+    d: u128,
+    /// How many bytes the destination has. Those of 31 are written element by element.
+    room: usize,
+    /// The mask, if there is one, and the elements of the body.
+    mask: Option<u16>,
+    start: usize,
+    end: usize,
+    fill: bool,
+    /// How many elements the source of a permutation has.
+    limit: usize,
+    /// The bits of two mask operands.
+    bits_a: u8,
+    bits_b: u8,
+    /// How many bytes of the destination a row tells; the others stay.
+    size: usize,
+    /// Whether some element saturates.
+    saturates: bool,
+}
+
+/// A kernel, its name, its offset, index, scalar or rounding mode, which is 0 where there is none, and the bytes that
+/// it leaves.
+type Row<K> = (K, &'static str, u64, u128);
+
+/// One byte without a mask.
+const GIVEN: Given = Given {
+    bits: 8,
+    times: 1,
+    a: 0,
+    b: 0,
+    d: 0xaaaa_aaaa_aaaa_aaaa_aaaa_aaaa_aaaa_aaaa,
+    room: 31,
+    mask: None,
+    start: 0,
+    end: 1,
+    fill: false,
+    limit: 0,
+    bits_a: 0,
+    bits_b: 0,
+    size: 1,
+    saturates: false,
+};
+
+/// The bytes of a number, the lowest first, and others that are the same.
+fn padded<const N: usize>(number: u128, other: u8) -> [u8; N] {
+    let mut bytes = [other; N];
+    for i in 0..N.min(16) {
+        bytes[i] = byte_of(number, i);
+    }
     bytes
 }
 
+/// A byte of a number.
+fn byte_of(number: u128, index: usize) -> u8 {
+    let low = (number >> (8 * (index % 16))) % 256;
+    low as u8
+}
+
+/// Whether a kernel leaves the expected first bytes, and others as they were.
+fn leaves<K: Kernel>(kernel: &K, given: &Given, amount: u64, expected: u128) -> bool {
+    let operands = &Operands {
+        a: padded(given.a, 0),
+        b: padded(given.b, 0),
+        d: padded(given.d, 0xaa),
+    };
+    let (unmasked, mask) = match given.mask {
+        Some(mask) => (false, padded(u128::from(mask), 0)),
+        None => (true, NO_MASK),
+    };
+    let variant = &Variant {
+        amount,
+        bits: padded(u128::from(given.bits_a), 0),
+        other: padded(u128::from(given.bits_b), 0),
+    };
+    let body = &Body::new(unmasked, &mask, given.start, given.end.min(65));
+    let case = Case {
+        operands,
+        body,
+        bits: given.bits,
+        times: given.times,
+        variant,
+        limit: given.limit.min(65),
+        fill: given.fill,
+    };
+    let mut bytes = operands.d;
+    let room = given.room.max(16).min(LONGEST);
+    let saturated = write(kernel, &case, room, &mut bytes);
+    saturated == given.saturates && has(&bytes, expected, given.size, &operands.d)
+}
+
+/// Whether so many bytes are the expected ones, and those after them are as before.
+fn has(bytes: &[u8; LONGEST], expected: u128, size: usize, before: &[u8; LONGEST]) -> bool {
+    let mut same = true;
+    for i in 0..LONGEST {
+        let byte = if i < size {
+            byte_of(expected, i)
+        } else {
+            before[i]
+        };
+        same &= bytes[i] == byte;
+    }
+    same
+}
+
+/// Compares the kernels of a table.
+fn compare_rows<K: Kernel>(report: &mut Report, given: &Given, rows: &[Row<K>]) {
+    for (kernel, name, amount, expected) in rows.iter() {
+        let mut line = Line {
+            name: *name,
+            kind: " by hand",
+            compared: 0,
+            differ: 0,
+        };
+        line.count(leaves(kernel, given, *amount, *expected));
+        report.add(line);
+    }
+}
+
 /// Compares all of them.
-pub(crate) fn compare(rt: &impl Print) -> io::Result<()> {
-    one_width::compare(rt)?;
-    two_widths::compare(rt)?;
-    fixed_point::compare(rt)?;
-    reductions::compare(rt)?;
-    masks::compare(rt)?;
-    permutations::compare(rt)
+pub(crate) fn compare(report: &mut Report) {
+    one_width::compare(report);
+    two_widths::compare(report);
+    fixed_point::compare(report);
+    reductions::compare(report);
+    masks::compare(report);
+    permutations::compare(report);
 }

@@ -1,12 +1,14 @@
 //! How a kernel is compared with a plain loop: at each width, under masks, from each start up to each end.
 //!
 //! A family of kernels is one more `impl Kernel`, a table of its names, and a `Sweep` of its cases.
-ghost use Rattle.std.specs.Prelude.{◌≤◌};
+ghost use Rattle.std.specs.Prelude.{◌*◌, ◌≤◌, length};
+ghost use Rattle.rv_model.specs.vector.Configuration.{width_bytes};
 
 use crate::numbers::{bit_at, nearest_signed, nearest_unsigned, put};
-use crate::operands::{ALL, LONGEST, MIXED, NO_MASK, Operands};
-use lane_arith::Body;
-use std::io;
+use crate::operands::{ALL, Inputs, LONGEST, MIXED, NO_MASK, Operands};
+use crate::report::{Line, Report};
+use crate::variants::{Variant, Variants};
+use lane_arith::{Body, Lane};
 
 /// What is active in a body: all elements, or those that a mask lets through; and whether the others are filled.
 struct Way {
@@ -73,13 +75,20 @@ pub(crate) enum Limits {
     Signed,
 }
 
-/// Which cases kernels have: the widths of a result in bits, how many of `WAYS`, how many variants of the operation,
-/// and how many of the starts 0, 1, 7, 33 and the end; and what their results are.
+/// The widths of an element in bits; an element of a mask has one.
+const WIDTHS: [u32; 5] = [1, 8, 16, 32, 64];
+
+/// Which cases kernels have: the least and the greatest width of an element in bits, how many times as wide a result
+/// is, how many of `WAYS`, the variants of the operation, how many of the starts 0, 1, 7, 33 and the end; and what
+/// their results are.
 #[derive(Clone, Copy)]
 pub(crate) struct Sweep {
-    pub(crate) widths: &'static [u32],
+    pub(crate) inputs: Inputs,
+    pub(crate) least: u32,
+    pub(crate) greatest: u32,
+    pub(crate) times: u32,
     pub(crate) ways: usize,
-    pub(crate) variants: usize,
+    pub(crate) variants: Variants,
     pub(crate) starts: usize,
     pub(crate) written: Written,
     pub(crate) limits: Limits,
@@ -87,44 +96,68 @@ pub(crate) struct Sweep {
 
 /// Operations of one width, with a result for each element.
 pub(crate) const MASKED: Sweep = Sweep {
-    widths: &[8, 16, 32, 64],
+    inputs: Inputs::Any,
+    least: 8,
+    greatest: 64,
+    times: 1,
     ways: 6,
-    variants: 1,
+    variants: Variants::Plain,
     starts: 5,
     written: Written::Elements,
     limits: Limits::None,
 };
 
-/// What a kernel is given, beside its operation.
+/// What a kernel is given, beside its operation. An element has `bits` bits, and a result `times` as many; `limit` is
+/// how many elements a source of a permutation has.
 #[derive(Clone, Copy)]
 pub(crate) struct Case<'a> {
     pub(crate) operands: &'a Operands,
     pub(crate) body: &'a Body<'a>,
     pub(crate) bits: u32,
-    pub(crate) variant: usize,
+    pub(crate) times: u32,
+    pub(crate) variant: &'a Variant,
+    pub(crate) limit: usize,
     pub(crate) fill: bool,
 }
 
 /// A kernel that is compared with a plain loop.
 pub(crate) trait Kernel {
-    /// Calls the kernel. Answers whether it says that an element saturated.
-    fn write(&self, case: &Case<'_>, destination: &mut [u8; LONGEST]) -> bool
-        requires { case.now.body.now.end ≤ 65 };
+    /// Calls the kernel at the width of `N`, of which `W` is twice. Answers whether it says that an element saturated.
+    fn write<N: Lane, W: Lane>(&self, case: &Case<'_>, destination: &mut [u8]) -> bool
+        requires narrow { width_bytes N.width * 65 ≤ 520 }
+        requires wide { width_bytes W.width * 65 ≤ 520 }
+        requires count { case.now.body.now.end ≤ 65 }
+        requires source { case.now.limit ≤ 65 }
+        requires results { width_bytes N.width * case.now.body.now.end ≤ length destination.old }
+        requires wide_results { width_bytes W.width * case.now.body.now.end ≤ length destination.old }
+        requires least { 16 ≤ length destination.old }
+        requires most { length destination.old ≤ 520 };
 
     /// The exact number of the result at an index, by the manual.
     fn number(&self, case: &Case<'_>, index: usize) -> i128;
 }
 
-/// The offsets of slides, and the indices of gathers of one element.
-pub(crate) fn amount(variant: usize) -> u64 {
-    match variant {
-        0 => 0,
-        1 => 1,
-        2 => 7,
-        3 => 33,
-        4 => 64,
-        5 => 65,
-        _ => u64::MAX,
+/// Calls a kernel at the width of its case, with so many bytes of the destination, if they have room for results of
+/// twice the width. Where these are 32 or more, kernels write whole chunks.
+pub(crate) fn write<K: Kernel>(
+    kernel: &K,
+    case: &Case<'_>,
+    room: usize,
+    bytes: &mut [u8; LONGEST],
+) -> bool
+    requires count { case.now.body.now.end ≤ 65 }
+    requires source { case.now.limit ≤ 65 }
+    requires least { 16 ≤ room }
+    requires most { room ≤ 520 }
+{
+    let end = case.body.end();
+    let destination = &mut bytes[..room];
+    match case.bits {
+        8 if 2 * end <= room => kernel.write::<u8, u16>(case, destination),
+        16 if 4 * end <= room => kernel.write::<u16, u32>(case, destination),
+        32 if 8 * end <= room => kernel.write::<u32, u64>(case, destination),
+        _ if 8 * end <= room => kernel.write::<u64, u64>(case, destination),
+        _ => false,
     }
 }
 
@@ -164,12 +197,13 @@ fn write_plain<K: Kernel>(
     sweep: &Sweep,
     destination: &mut [u8; LONGEST],
 ) -> bool {
+    let width = case.bits.wrapping_mul(case.times);
     let (first, width) = match sweep.written {
-        Written::Elements => (0, case.bits),
-        Written::ElementsFromAmount => (amount(case.variant) as usize, case.bits),
+        Written::Elements => (0, width),
+        Written::ElementsFromAmount => (case.variant.amount as usize, width),
         Written::Bits => (0, 1),
         Written::First => {
-            return put_result(kernel, case, sweep.limits, case.bits, 0, destination);
+            return put_result(kernel, case, sweep.limits, width, 0, destination);
         }
     };
     let mut saturated = false;
@@ -185,27 +219,13 @@ fn write_plain<K: Kernel>(
 
 /// Whether a kernel leaves and answers what the plain loop does.
 fn agrees<K: Kernel>(kernel: &K, case: &Case<'_>, sweep: &Sweep) -> bool
-    requires { case.now.body.now.end ≤ 65 }
+    requires count { case.now.body.now.end ≤ 65 }
+    requires source { case.now.limit ≤ 65 }
 {
     let mut written = case.operands.d;
     let mut plain = case.operands.d;
-    let saturated = kernel.write(case, &mut written);
+    let saturated = write(kernel, case, LONGEST, &mut written);
     saturated == write_plain(kernel, case, sweep, &mut plain) && written == plain
-}
-
-/// How many results were compared, and how many differ from what they should be.
-#[derive(Clone, Copy)]
-struct Tally {
-    compared: u64,
-    differ: u64,
-}
-
-impl Tally {
-    /// Counts a result that was compared.
-    fn count(&mut self, same: bool) {
-        self.compared = self.compared.wrapping_add(1);
-        self.differ = self.differ.wrapping_add(u64::from(!same));
-    }
 }
 
 /// Counts the bodies of each length, from each start.
@@ -213,9 +233,9 @@ fn count_bodies<K: Kernel>(
     kernel: &K,
     operands: &Operands,
     sweep: &Sweep,
-    (bits, variant): (u32, usize),
+    (bits, variant): (u32, &Variant),
     way: &Way,
-    tally: &mut Tally,
+    line: &mut Line,
 ) {
     for number in 0..330 {
         let end = number / 5;
@@ -226,56 +246,68 @@ fn count_bodies<K: Kernel>(
                 operands,
                 body,
                 bits,
+                times: sweep.times,
                 variant,
+                limit: 65,
                 fill: way.fill,
             };
-            tally.count(agrees(kernel, &case, sweep));
+            line.count(agrees(kernel, &case, sweep));
         }
     }
 }
 
-/// Counts the cases of a width.
-fn count_width<K: Kernel>(
+/// Counts the variants of a kernel at a width, in one way.
+fn count_variants<K: Kernel>(
     kernel: &K,
     operands: &Operands,
     sweep: &Sweep,
     bits: u32,
-    tally: &mut Tally,
+    way: &Way,
+    line: &mut Line,
+) {
+    for number in 0..sweep.variants.count() {
+        let variant = &sweep.variants.variant(number);
+        count_bodies(kernel, operands, sweep, (bits, variant), way, line);
+    }
+}
+
+/// Counts the ways of a kernel at a width.
+fn count_ways<K: Kernel>(
+    kernel: &K,
+    operands: &Operands,
+    sweep: &Sweep,
+    bits: u32,
+    line: &mut Line,
 ) {
     for way in WAYS.iter().take(sweep.ways) {
-        for variant in 0..sweep.variants {
-            count_bodies(kernel, operands, sweep, (bits, variant), way, tally);
-        }
+        count_variants(kernel, operands, sweep, bits, way, line);
     }
 }
 
 /// Counts the cases of a kernel.
-fn tally_of<K: Kernel>(kernel: &K, operands: &Operands, sweep: &Sweep) -> Tally {
-    let mut tally = Tally {
+fn line_of<K: Kernel>(kernel: &K, name: &'static str, operands: &Operands, sweep: &Sweep) -> Line {
+    let mut line = Line {
+        name,
+        kind: "",
         compared: 0,
         differ: 0,
     };
-    for bits in sweep.widths.iter() {
-        count_width(kernel, operands, sweep, *bits, &mut tally);
+    for bits in WIDTHS {
+        if sweep.least <= bits && bits <= sweep.greatest {
+            count_ways(kernel, operands, sweep, bits, &mut line);
+        }
     }
-    tally
+    line
 }
 
-/// Compares kernels, and prints a line for each.
+/// Compares kernels.
 pub(crate) fn compare_kernels<K: Kernel>(
-    rt: &impl Print,
+    report: &mut Report,
     kernels: &[(K, &'static str)],
-    operands: &Operands,
     sweep: &Sweep,
-) -> io::Result<()> {
+) {
+    let operands = &Operands::of(sweep.inputs);
     for (kernel, name) in kernels.iter() {
-        let Tally { compared, differ } = tally_of(kernel, operands, sweep);
-        println!(rt; "{name}: {compared} compared, {differ} differ")?;
+        report.add(line_of(kernel, *name, operands, sweep));
     }
-    Ok(())
-}
-
-/// Prints the line of a kernel, one result of which was compared with what was worked by hand.
-pub(crate) fn print_case(rt: &impl Print, name: &str, same: bool) -> io::Result<()> {
-    println!(rt; "{name} by hand: 1 compared, {} differ", u8::from(!same))
 }

@@ -18,94 +18,84 @@ const MODES: [(RoundingMode, &str); 4] = [
     (RoundingMode::Odd, "rod"),
 ];
 
-const OPERATIONS: [(FixedPointOp, &str); 11] = [
-    (FixedPointOp::Vsaddu, "vsaddu"),
-    (FixedPointOp::Vsadd, "vsadd"),
-    (FixedPointOp::Vssubu, "vssubu"),
-    (FixedPointOp::Vssub, "vssub"),
-    (FixedPointOp::Vsmul, "vsmul"),
-    (FixedPointOp::Vssrl, "vssrl"),
-    (FixedPointOp::Vssra, "vssra"),
-    (FixedPointOp::Vaaddu, "vaaddu"),
-    (FixedPointOp::Vaadd, "vaadd"),
-    (FixedPointOp::Vasubu, "vasubu"),
-    (FixedPointOp::Vasub, "vasub"),
+/// An operation on all pairs of bytes, or a clip of all numbers of 16 bits.
+#[derive(Clone, Copy)]
+enum Operation {
+    Pairs(FixedPointOp),
+    Clips(ClipOp),
+}
+
+const OPERATIONS: [(Operation, &str); 13] = [
+    (Operation::Pairs(FixedPointOp::Vsaddu), "vsaddu"),
+    (Operation::Pairs(FixedPointOp::Vsadd), "vsadd"),
+    (Operation::Pairs(FixedPointOp::Vssubu), "vssubu"),
+    (Operation::Pairs(FixedPointOp::Vssub), "vssub"),
+    (Operation::Pairs(FixedPointOp::Vsmul), "vsmul"),
+    (Operation::Pairs(FixedPointOp::Vssrl), "vssrl"),
+    (Operation::Pairs(FixedPointOp::Vssra), "vssra"),
+    (Operation::Pairs(FixedPointOp::Vaaddu), "vaaddu"),
+    (Operation::Pairs(FixedPointOp::Vaadd), "vaadd"),
+    (Operation::Pairs(FixedPointOp::Vasubu), "vasubu"),
+    (Operation::Pairs(FixedPointOp::Vasub), "vasub"),
+    (Operation::Clips(ClipOp::Vnclipu), "vnclipu"),
+    (Operation::Clips(ClipOp::Vnclip), "vnclip"),
 ];
 
-const CLIPS: [(ClipOp, &str); 2] = [(ClipOp::Vnclipu, "vnclipu"), (ClipOp::Vnclip, "vnclip")];
-
 /// A digest of results, and how many of them saturate.
-#[derive(Clone, Copy, Drop)]
+#[derive(Clone, Copy)]
 struct Digest {
     hash: u32,
     saturated: u32,
 }
 
-impl Digest {
-    fn new() -> Digest {
-        Digest {
-            hash: 0x811c_9dc5,
-            saturated: 0,
-        }
-    }
-
-    /// One byte more.
-    fn add_byte(&mut self, byte: u8) {
-        self.hash = (self.hash ^ u32::from(byte)).wrapping_mul(0x0100_0193);
-    }
-
-    /// One result more.
-    fn add(&mut self, byte: Saturated<u8>) {
-        self.add_byte(byte.value);
-        self.add_byte(u8::from(byte.saturated));
-        self.saturated = self.saturated.wrapping_add(u32::from(byte.saturated));
-    }
+/// Adds a result.
+fn add(digest: &mut Digest, byte: Saturated<u8>) {
+    let saturated = u32::from(byte.saturated);
+    digest.hash = (digest.hash ^ u32::from(byte.value)).wrapping_mul(0x0100_0193);
+    digest.hash = (digest.hash ^ saturated).wrapping_mul(0x0100_0193);
+    digest.saturated = digest.saturated.wrapping_add(saturated);
 }
 
 /// Adds the results of an operation on one byte and each byte.
-fn add_row(op: FixedPointOp, mode: RoundingMode, a: u8, digest: &mut Digest) {
+fn add_pairs(op: FixedPointOp, mode: RoundingMode, a: u8, digest: &mut Digest) {
     for b in 0..=u8::MAX {
-        let (a, b) = ([a], [b]);
-        digest.add(FixedPoint {
-            op,
-            mode,
-            a: &a,
-            b: &b,
-        }
-        .result(0));
+        let (a, b) = (&[a], &[b]);
+        let operation = FixedPoint { op, mode, a, b };
+        add(digest, operation.result(0));
     }
-}
-
-/// The digest of an operation on all pairs of bytes.
-fn digest_of(op: FixedPointOp, mode: RoundingMode) -> Digest {
-    let mut digest = Digest::new();
-    for a in 0..=u8::MAX {
-        add_row(op, mode, a, &mut digest);
-    }
-    digest
 }
 
 /// Adds the results of a clip of one number, shifted by each amount.
 fn add_clips(op: ClipOp, mode: RoundingMode, a: u16, digest: &mut Digest) {
-    let a = a.to_le_bytes();
     for b in 0..16 {
-        let b = [b];
         let clip = Clip::<'_, u16> {
             op,
             mode,
-            a: &a,
-            b: &b,
+            a: &a.to_le_bytes(),
+            b: &[b],
             element: PhantomData,
         };
-        digest.add(clip.result(0));
+        add(digest, clip.result(0));
     }
 }
 
-/// The digest of a clip of all numbers of 16 bits.
-fn digest_of_clips(op: ClipOp, mode: RoundingMode) -> Digest {
-    let mut digest = Digest::new();
-    for a in 0..=u16::MAX {
-        add_clips(op, mode, a, &mut digest);
+/// The digest of an operation in a rounding mode.
+fn digest_of(operation: Operation, mode: RoundingMode) -> Digest {
+    let mut digest = Digest {
+        hash: 0x811c_9dc5,
+        saturated: 0,
+    };
+    match operation {
+        Operation::Pairs(op) => {
+            for a in 0..=u8::MAX {
+                add_pairs(op, mode, a, &mut digest);
+            }
+        }
+        Operation::Clips(op) => {
+            for a in 0..=u16::MAX {
+                add_clips(op, mode, a, &mut digest);
+            }
+        }
     }
     digest
 }
@@ -115,29 +105,18 @@ fn print_line(rt: &impl Print, name: &str, mode: &str, digest: Digest) -> io::Re
     println!(rt; "{name} {mode} {:08x} {}", digest.hash, digest.saturated)
 }
 
-/// The lines of an operation.
-fn print_operation(rt: &impl Print, op: FixedPointOp, name: &str) -> io::Result<()> {
+/// Prints the lines of an operation.
+fn print_operation(rt: &impl Print, operation: Operation, name: &str) -> io::Result<()> {
     for (mode, mode_name) in MODES {
-        print_line(rt, name, mode_name, digest_of(op, mode))?;
-    }
-    Ok(())
-}
-
-/// The lines of a clip.
-fn print_clips(rt: &impl Print, op: ClipOp, name: &str) -> io::Result<()> {
-    for (mode, mode_name) in MODES {
-        print_line(rt, name, mode_name, digest_of_clips(op, mode))?;
+        print_line(rt, name, mode_name, digest_of(operation, mode))?;
     }
     Ok(())
 }
 
 /// Prints all lines.
 pub(crate) fn print_digests(rt: &impl Print) -> io::Result<()> {
-    for (op, name) in OPERATIONS {
-        print_operation(rt, op, name)?;
-    }
-    for (op, name) in CLIPS {
-        print_clips(rt, op, name)?;
+    for (operation, name) in OPERATIONS {
+        print_operation(rt, operation, name)?;
     }
     Ok(())
 }

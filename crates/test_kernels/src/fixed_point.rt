@@ -2,11 +2,13 @@
 //! vs2, and `b` is vs1 or the other second operand.
 use crate::comparison::{Case, Kernel, Limits, MASKED, Sweep, compare_kernels};
 use crate::numbers::{low_bits, power, shift, signed, unsigned};
-use crate::operands::{LONGEST, Operands};
+use crate::operands::{Inputs, Operands};
+use crate::report::Report;
+use crate::variants::Variants;
+use lane_arith::Lane;
 use lane_fixed::{Clip, FixedPoint, write_saturating_results};
 use rv_model::RoundingMode;
 use rv_model::instructions::operations::{ClipOp, FixedPointOp};
-use std::io;
 use std::marker::PhantomData;
 
 const UNSIGNED: [(FixedPointOp, &str); 2] = [
@@ -41,7 +43,7 @@ const SMALL_SIGNED: [(FixedPointOp, &str); 2] = [
 
 /// In each rounding mode, which is the variant.
 const IN_EACH_MODE: Sweep = Sweep {
-    variants: 4,
+    variants: Variants::Modes,
     ..MASKED
 };
 
@@ -57,21 +59,32 @@ const TO_SIGNED: Sweep = Sweep {
     ..IN_EACH_MODE
 };
 
+/// The same, of small numbers.
+const SMALL_TO_UNSIGNED: Sweep = Sweep {
+    inputs: Inputs::Small,
+    ..TO_UNSIGNED
+};
+
+const SMALL_TO_SIGNED: Sweep = Sweep {
+    inputs: Inputs::Small,
+    ..TO_SIGNED
+};
+
 /// Clips to half the width.
 const CLIPPED_UNSIGNED: Sweep = Sweep {
-    widths: &[8, 16, 32],
+    greatest: 32,
     ..TO_UNSIGNED
 };
 
 /// The same, to signed numbers.
 const CLIPPED_SIGNED: Sweep = Sweep {
-    widths: &[8, 16, 32],
+    greatest: 32,
     ..TO_SIGNED
 };
 
 /// The rounding modes are the variants, by their numbers in vxrm.
 fn mode(case: &Case<'_>) -> RoundingMode {
-    match case.variant {
+    match case.variant.amount {
         0 => RoundingMode::NearestUp,
         1 => RoundingMode::NearestEven,
         2 => RoundingMode::Down,
@@ -96,20 +109,14 @@ fn rounded(case: &Case<'_>, number: i128, exponent: u32) -> i128 {
 }
 
 impl Kernel for FixedPointOp {
-    fn write(&self, case: &Case<'_>, destination: &mut [u8; LONGEST]) -> bool {
+    fn write<N: Lane, W: Lane>(&self, case: &Case<'_>, destination: &mut [u8]) -> bool {
         let kernel = FixedPoint {
             op: *self,
             mode: mode(case),
             a: &case.operands.a,
             b: &case.operands.b,
         };
-        let (body, fill) = (case.body, case.fill);
-        match case.bits {
-            8 => write_saturating_results::<u8, FixedPoint<'_>>(&kernel, body, destination, fill),
-            16 => write_saturating_results::<u16, FixedPoint<'_>>(&kernel, body, destination, fill),
-            32 => write_saturating_results::<u32, FixedPoint<'_>>(&kernel, body, destination, fill),
-            _ => write_saturating_results::<u64, FixedPoint<'_>>(&kernel, body, destination, fill),
-        }
+        write_saturating_results::<N, FixedPoint<'_>>(&kernel, case.body, destination, case.fill)
     }
 
     fn number(&self, case: &Case<'_>, index: usize) -> i128 {
@@ -136,42 +143,15 @@ impl Kernel for FixedPointOp {
 }
 
 impl Kernel for ClipOp {
-    fn write(&self, case: &Case<'_>, destination: &mut [u8; LONGEST]) -> bool {
-        let (op, mode) = (*self, mode(case));
-        let (a, b) = (&case.operands.a, &case.operands.b);
-        let (body, fill) = (case.body, case.fill);
-        match case.bits {
-            8 => {
-                let kernel = Clip::<'_, u16> {
-                    op,
-                    mode,
-                    a,
-                    b,
-                    element: PhantomData,
-                };
-                write_saturating_results::<u8, Clip<'_, u16>>(&kernel, body, destination, fill)
-            }
-            16 => {
-                let kernel = Clip::<'_, u32> {
-                    op,
-                    mode,
-                    a,
-                    b,
-                    element: PhantomData,
-                };
-                write_saturating_results::<u16, Clip<'_, u32>>(&kernel, body, destination, fill)
-            }
-            _ => {
-                let kernel = Clip::<'_, u64> {
-                    op,
-                    mode,
-                    a,
-                    b,
-                    element: PhantomData,
-                };
-                write_saturating_results::<u32, Clip<'_, u64>>(&kernel, body, destination, fill)
-            }
-        }
+    fn write<N: Lane, W: Lane>(&self, case: &Case<'_>, destination: &mut [u8]) -> bool {
+        let kernel = Clip::<'_, W> {
+            op: *self,
+            mode: mode(case),
+            a: &case.operands.a,
+            b: &case.operands.b,
+            element: PhantomData,
+        };
+        write_saturating_results::<N, Clip<'_, W>>(&kernel, case.body, destination, case.fill)
     }
 
     fn number(&self, case: &Case<'_>, index: usize) -> i128 {
@@ -185,14 +165,18 @@ impl Kernel for ClipOp {
     }
 }
 
+/// Compares operations that saturate.
+fn compare_saturating(report: &mut Report) {
+    compare_kernels(report, &UNSIGNED, &TO_UNSIGNED);
+    compare_kernels(report, &SMALL_UNSIGNED, &SMALL_TO_UNSIGNED);
+    compare_kernels(report, &SIGNED, &TO_SIGNED);
+    compare_kernels(report, &SMALL_SIGNED, &SMALL_TO_SIGNED);
+}
+
 /// Compares all of them.
-pub(crate) fn compare(rt: &impl Print) -> io::Result<()> {
-    let (any, small) = (Operands::any(), Operands::small());
-    compare_kernels(rt, &UNSIGNED, &any, &TO_UNSIGNED)?;
-    compare_kernels(rt, &SMALL_UNSIGNED, &small, &TO_UNSIGNED)?;
-    compare_kernels(rt, &SIGNED, &any, &TO_SIGNED)?;
-    compare_kernels(rt, &SMALL_SIGNED, &small, &TO_SIGNED)?;
-    compare_kernels(rt, &ROUNDED, &any, &IN_EACH_MODE)?;
-    compare_kernels(rt, &[(ClipOp::Vnclipu, "vnclipu")], &any, &CLIPPED_UNSIGNED)?;
-    compare_kernels(rt, &[(ClipOp::Vnclip, "vnclip")], &any, &CLIPPED_SIGNED)
+pub(crate) fn compare(report: &mut Report) {
+    compare_saturating(report);
+    compare_kernels(report, &ROUNDED, &IN_EACH_MODE);
+    compare_kernels(report, &[(ClipOp::Vnclipu, "vnclipu")], &CLIPPED_UNSIGNED);
+    compare_kernels(report, &[(ClipOp::Vnclip, "vnclip")], &CLIPPED_SIGNED);
 }

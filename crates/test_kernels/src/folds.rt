@@ -1,17 +1,17 @@
 //! Reductions, and counts and searches of set bits ("V" Vector Extension 1.0, chapter 14, sections 15.2 and 15.3):
 //! their result is element 0. `a` is vs2, and the first element of `b` is that of vs1.
-ghost use Rattle.std.specs.Prelude.{◌*◌, ◌≤◌};
+ghost use Rattle.std.specs.Prelude.{◌*◌, ◌≤◌, length};
 ghost use Rattle.rv_model.specs.vector.Configuration.{width_bytes};
 
 use crate::comparison::{Case, Kernel, MASKED, Sweep, Written, compare_kernels, is_active};
-use crate::mask_results::bits_of;
 use crate::numbers::{bit_at, low_bits, signed, two_complement, unsigned};
-use crate::operands::{LONGEST, Operands};
+use crate::operands::Operands;
+use crate::report::Report;
+use crate::variants::Variants;
 use lane_arith::Lane;
 use lane_reduce::{Combine, Reduction, WideningReduction, reduce};
 use mask_unit::{count, first};
-use rv_model::instructions::operations::{MaskToScalarOp, ReduceOp, WidenReduceOp};
-use std::io;
+use rv_model::instructions::operations::{ReduceOp, WidenReduceOp};
 
 const REDUCTIONS: [(ReduceOp, &str); 8] = [
     (ReduceOp::Vredsum, "vredsum"),
@@ -29,10 +29,14 @@ const WIDENING: [(WidenReduceOp, &str); 2] = [
     (WidenReduceOp::Vwredsum, "vwredsum"),
 ];
 
-const COUNTS: [(MaskToScalarOp, &str); 2] = [
-    (MaskToScalarOp::Vcpop, "vcpop"),
-    (MaskToScalarOp::Vfirst, "vfirst"),
-];
+/// A count of set bits, the index of the first, or both as elements that follow one another.
+pub(crate) enum SetBits {
+    Count,
+    First,
+    Both,
+}
+
+const COUNTS: [(SetBits, &str); 2] = [(SetBits::Count, "vcpop"), (SetBits::First, "vfirst")];
 
 /// Reductions, by the width of their result.
 const REDUCED: Sweep = Sweep {
@@ -43,14 +47,15 @@ const REDUCED: Sweep = Sweep {
 
 /// Reductions to twice the width.
 const WIDENED: Sweep = Sweep {
-    widths: &[16, 32, 64],
+    greatest: 32,
+    times: 2,
     ..REDUCED
 };
 
 /// Counts and searches of four masks, as numbers of 64 bits.
 const COUNTED: Sweep = Sweep {
-    widths: &[64],
-    variants: 4,
+    least: 64,
+    variants: Variants::Scanned,
     ..REDUCED
 };
 
@@ -74,25 +79,23 @@ fn combined(op: ReduceOp, bits: u32, x: i128, y: i128) -> i128 {
 fn reduce_to<E: Lane, R: Lane, C: Combine<E, R>>(
     kernel: &C,
     case: &Case<'_>,
-    destination: &mut [u8; LONGEST],
+    destination: &mut [u8],
 )
-    requires elements { width_bytes E.width * 65 ≤ 520 }
-    requires first { width_bytes R.width ≤ 520 }
+    requires first { width_bytes R.width * 65 ≤ 520 }
     requires count { case.now.body.now.end ≤ 65 }
+    requires elements { width_bytes E.width * case.now.body.now.end ≤ length destination.old }
+    requires least { 16 ≤ length destination.old }
+    requires most { length destination.old ≤ 520 }
 {
     let Operands { a, b, .. } = case.operands;
-    reduce::<E, R, C>(kernel, R::load(b, 0), a, case.body).store(destination, 0);
+    let elements = &a[..destination.len()];
+    reduce::<E, R, C>(kernel, R::load(b, 0), elements, case.body).store(destination, 0);
 }
 
 impl Kernel for ReduceOp {
-    fn write(&self, case: &Case<'_>, destination: &mut [u8; LONGEST]) -> bool {
+    fn write<N: Lane, W: Lane>(&self, case: &Case<'_>, destination: &mut [u8]) -> bool {
         let kernel = &Reduction { op: *self };
-        match case.bits {
-            8 => reduce_to::<u8, u8, Reduction>(kernel, case, destination),
-            16 => reduce_to::<u16, u16, Reduction>(kernel, case, destination),
-            32 => reduce_to::<u32, u32, Reduction>(kernel, case, destination),
-            _ => reduce_to::<u64, u64, Reduction>(kernel, case, destination),
-        }
+        reduce_to::<N, N, Reduction>(kernel, case, destination);
         false
     }
 
@@ -109,67 +112,67 @@ impl Kernel for ReduceOp {
 }
 
 impl Kernel for WidenReduceOp {
-    fn write(&self, case: &Case<'_>, destination: &mut [u8; LONGEST]) -> bool {
+    fn write<N: Lane, W: Lane>(&self, case: &Case<'_>, destination: &mut [u8]) -> bool {
         let kernel = &WideningReduction { op: *self };
-        match case.bits {
-            16 => reduce_to::<u8, u16, WideningReduction>(kernel, case, destination),
-            32 => reduce_to::<u16, u32, WideningReduction>(kernel, case, destination),
-            _ => reduce_to::<u32, u64, WideningReduction>(kernel, case, destination),
-        }
+        reduce_to::<N, W, WideningReduction>(kernel, case, destination);
         false
     }
 
     fn number(&self, case: &Case<'_>, _index: usize) -> i128 {
-        let half = case.bits / 2;
-        let mut sum = unsigned(&case.operands.b, case.bits, 0);
+        let (bits, twice) = (case.bits, case.bits.wrapping_mul(2));
+        let mut sum = unsigned(&case.operands.b, twice, 0);
         for index in 0..case.body.end() {
             if is_active(case.body, index) {
                 sum = sum.wrapping_add(match *self {
-                    WidenReduceOp::Vwredsumu => unsigned(&case.operands.a, half, index),
-                    WidenReduceOp::Vwredsum => signed(&case.operands.a, half, index),
+                    WidenReduceOp::Vwredsumu => unsigned(&case.operands.a, bits, index),
+                    WidenReduceOp::Vwredsum => signed(&case.operands.a, bits, index),
                 });
             }
         }
-        low_bits(sum, case.bits)
+        low_bits(sum, twice)
     }
 }
 
-impl Kernel for MaskToScalarOp {
+impl Kernel for SetBits {
     /// The variant is the bits of vs2.
-    fn write(&self, case: &Case<'_>, destination: &mut [u8; LONGEST]) -> bool {
-        let bits = bits_of(case.variant);
-        let answer = match *self {
-            MaskToScalarOp::Vcpop => count(case.body, &bits) as u64,
-            MaskToScalarOp::Vfirst => match first(case.body, &bits) {
-                Some(index) => index as u64,
-                None => u64::MAX,
-            },
+    fn write<N: Lane, W: Lane>(&self, case: &Case<'_>, destination: &mut [u8]) -> bool {
+        let bits = &case.variant.bits;
+        let counted = count(case.body, bits) as u64;
+        let found = match first(case.body, bits) {
+            Some(index) => index as u64,
+            None => u64::MAX,
         };
-        answer.store(destination, 0);
+        match *self {
+            SetBits::Count => counted.store(destination, 0),
+            SetBits::First => found.store(destination, 0),
+            SetBits::Both => {
+                counted.store(destination, 0);
+                found.store(destination, 1);
+            }
+        }
         false
     }
 
     fn number(&self, case: &Case<'_>, _index: usize) -> i128 {
-        let bits = bits_of(case.variant);
+        let bits = &case.variant.bits;
         let mut found: i128 = 0;
         let mut least = -1;
         for index in 0..case.body.end() {
-            if is_active(case.body, index) && bit_at(&bits, index) {
+            if is_active(case.body, index) && bit_at(bits, index) {
                 found = found.wrapping_add(1);
                 least = if found == 1 { index as i128 } else { least };
             }
         }
         match *self {
-            MaskToScalarOp::Vcpop => found,
-            MaskToScalarOp::Vfirst => least,
+            SetBits::Count | SetBits::Both => found,
+            SetBits::First => least,
         }
     }
 }
 
 /// Compares all of them.
-pub(crate) fn compare(rt: &impl Print) -> io::Result<()> {
-    let any = Operands::any();
-    compare_kernels(rt, &REDUCTIONS, &any, &REDUCED)?;
-    compare_kernels(rt, &WIDENING, &any, &WIDENED)?;
-    compare_kernels(rt, &COUNTS, &any, &COUNTED)
+pub(crate) fn compare(report: &mut Report) {
+    compare_kernels(report, &REDUCTIONS, &REDUCED);
+    compare_kernels(report, &WIDENING, &WIDENED);
+    compare_kernels(report, &COUNTS, &COUNTED);
 }

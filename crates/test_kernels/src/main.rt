@@ -16,17 +16,22 @@ mod numbers;
 mod one_width;
 mod operands;
 mod permutations;
+mod report;
 mod two_widths;
+mod variants;
 
+use crate::report::Report;
 use std::io;
 
 fn main(rt: HostRuntime) -> io::Result<()> {
-    by_hand::compare(&rt)?;
-    one_width::compare(&rt)?;
-    two_widths::compare(&rt)?;
-    fixed_point::compare(&rt)?;
-    mask_results::compare(&rt)?;
-    folds::compare(&rt)?;
-    permutations::compare(&rt)?;
+    let mut report = Report::new();
+    by_hand::compare(&mut report);
+    one_width::compare(&mut report);
+    two_widths::compare(&mut report);
+    fixed_point::compare(&mut report);
+    mask_results::compare(&mut report);
+    folds::compare(&mut report);
+    permutations::compare(&mut report);
+    report.print(&rt)?;
     digests::print_digests(&rt)
 }

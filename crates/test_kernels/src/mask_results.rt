@@ -1,13 +1,15 @@
 //! Instructions whose results are bits ("V" Vector Extension 1.0, sections 11.4, 11.8, 15.1 and 15.4 to 15.6). `a` is
 //! vs2, and `b` is vs1 or the other second operand.
+ghost use Rattle.std.specs.Prelude.{◌≤◌, length};
+
 use crate::comparison::{Case, Kernel, MASKED, Sweep, Written, compare_kernels, is_active};
 use crate::numbers::{bit_at, power, signed, unsigned};
-use crate::one_width::mask_operand;
-use crate::operands::{BITS, LONGEST, MIXED, NO_MASK, Operands, mask_of};
-use lane_arith::{CarryOut, Compare, write_mask_results};
+use crate::operands::{Inputs, Operands};
+use crate::report::Report;
+use crate::variants::Variants;
+use lane_arith::{CarryOut, Compare, Lane, write_mask_results};
 use mask_unit::{MaskLogic, MaskScan, first};
 use rv_model::instructions::operations::{CarryOutOp, CompareOp, MaskLogicOp, MaskScanOp};
-use std::io;
 
 const COMPARISONS: [(CompareOp, &str); 8] = [
     (CompareOp::Vmseq, "vmseq"),
@@ -44,6 +46,7 @@ const SCANS: [(MaskScanOp, &str); 3] = [
 
 /// Comparisons, by the width of their operands.
 const COMPARED: Sweep = Sweep {
+    inputs: Inputs::Near,
     ways: 4,
     written: Written::Bits,
     ..MASKED
@@ -52,51 +55,38 @@ const COMPARED: Sweep = Sweep {
 /// Carries and borrows: under each mask operand, and without one.
 const CARRIED: Sweep = Sweep {
     ways: 1,
-    variants: 4,
+    variants: Variants::Carries,
     ..COMPARED
 };
 
 /// Scans of four masks, which have no width.
-const SCANNED: Sweep = Sweep {
-    widths: &[1],
-    variants: 4,
+const SCANS_OF_BITS: Sweep = Sweep {
+    least: 1,
+    greatest: 1,
+    variants: Variants::Scanned,
     ..COMPARED
 };
 
 /// Logic, which has no mask besides.
-const UNMASKED: Sweep = Sweep { ways: 1, ..SCANNED };
+const UNMASKED: Sweep = Sweep {
+    ways: 1,
+    ..SCANS_OF_BITS
+};
 
-/// The bits that are scanned or counted: some, none, one alone, and all but the first ones.
-pub(crate) fn bits_of(variant: usize) -> [u8; 32] {
-    match variant {
-        0 => BITS,
-        1 => NO_MASK,
-        2 => one_bit(),
-        _ => mask_of(0, 0xff),
-    }
-}
-
-/// The bit of index 42 alone.
-fn one_bit() -> [u8; 32] {
-    let mut bits = NO_MASK;
-    bits[5] = 4;
-    bits
+/// How many bytes of a destination have a bit for each of its bytes: at most those of a register.
+fn bit_bytes(destination: &[u8]) -> usize
+    ensures register { result ≤ 32 }
+    ensures inside { result ≤ length destination.now }
+{
+    (destination.len() / 8).min(32)
 }
 
 impl Kernel for CompareOp {
-    fn write(&self, case: &Case<'_>, destination: &mut [u8; LONGEST]) -> bool {
-        let kernel = Compare {
-            op: *self,
-            a: &case.operands.a,
-            b: &case.operands.b,
-        };
-        let (body, bits) = (case.body, &mut destination[..32]);
-        match case.bits {
-            8 => write_mask_results::<u8, Compare<'_>>(&kernel, body, bits),
-            16 => write_mask_results::<u16, Compare<'_>>(&kernel, body, bits),
-            32 => write_mask_results::<u32, Compare<'_>>(&kernel, body, bits),
-            _ => write_mask_results::<u64, Compare<'_>>(&kernel, body, bits),
-        }
+    fn write<N: Lane, W: Lane>(&self, case: &Case<'_>, destination: &mut [u8]) -> bool {
+        let Operands { a, b, .. } = case.operands;
+        let kernel = Compare { op: *self, a, b };
+        let count = bit_bytes(destination);
+        write_mask_results::<N, Compare<'_>>(&kernel, case.body, &mut destination[..count]);
         false
     }
 
@@ -119,30 +109,24 @@ impl Kernel for CompareOp {
 }
 
 impl Kernel for CarryOutOp {
-    /// The variant is the bits of v0, and the last has none.
-    fn write(&self, case: &Case<'_>, destination: &mut [u8; LONGEST]) -> bool {
-        let v0 = mask_operand(case.variant);
+    /// The variant is the bits of v0, unless its amount is 1.
+    fn write<N: Lane, W: Lane>(&self, case: &Case<'_>, destination: &mut [u8]) -> bool {
         let kernel = CarryOut {
             op: *self,
             a: &case.operands.a,
             b: &case.operands.b,
-            v0: &v0,
-            alone: case.variant == 3,
+            v0: &case.variant.bits,
+            alone: case.variant.amount == 1,
         };
-        let (body, bits) = (case.body, &mut destination[..32]);
-        match case.bits {
-            8 => write_mask_results::<u8, CarryOut<'_>>(&kernel, body, bits),
-            16 => write_mask_results::<u16, CarryOut<'_>>(&kernel, body, bits),
-            32 => write_mask_results::<u32, CarryOut<'_>>(&kernel, body, bits),
-            _ => write_mask_results::<u64, CarryOut<'_>>(&kernel, body, bits),
-        }
+        let count = bit_bytes(destination);
+        write_mask_results::<N, CarryOut<'_>>(&kernel, case.body, &mut destination[..count]);
         false
     }
 
     fn number(&self, case: &Case<'_>, index: usize) -> i128 {
         let x = unsigned(&case.operands.a, case.bits, index);
         let y = unsigned(&case.operands.b, case.bits, index);
-        let carry = case.variant != 3 && bit_at(&mask_operand(case.variant), index);
+        let carry = case.variant.amount == 0 && bit_at(&case.variant.bits, index);
         let second = y.wrapping_add(i128::from(carry));
         i128::from(match *self {
             CarryOutOp::Vmadc => x.wrapping_add(second) >= power(case.bits),
@@ -152,14 +136,11 @@ impl Kernel for CarryOutOp {
 }
 
 impl Kernel for MaskLogicOp {
-    fn write(&self, case: &Case<'_>, destination: &mut [u8; LONGEST]) -> bool {
-        let (a, b) = (bits_of(case.variant), MIXED);
-        let kernel = MaskLogic {
-            op: *self,
-            a: &a,
-            b: &b,
-        };
-        write_mask_results::<u8, MaskLogic<'_>>(&kernel, case.body, &mut destination[..32]);
+    fn write<N: Lane, W: Lane>(&self, case: &Case<'_>, destination: &mut [u8]) -> bool {
+        let (a, b) = (&case.variant.bits, &case.variant.other);
+        let kernel = MaskLogic { op: *self, a, b };
+        let count = bit_bytes(destination);
+        write_mask_results::<u8, MaskLogic<'_>>(&kernel, case.body, &mut destination[..count]);
         false
     }
 
@@ -175,29 +156,31 @@ impl Kernel for MaskLogicOp {
             MaskLogicOp::Vmnor => 0b0001,
             MaskLogicOp::Vmxnor => 0b1001,
         };
-        let a = bit_at(&bits_of(case.variant), index);
-        table >> (2 * u32::from(a) + u32::from(bit_at(&MIXED, index))) & 1
+        let a = u32::from(bit_at(&case.variant.bits, index));
+        let b = u32::from(bit_at(&case.variant.other, index));
+        table >> (2 * a + b) & 1
     }
 }
 
 impl Kernel for MaskScanOp {
     /// The variant is the bits that are scanned.
-    fn write(&self, case: &Case<'_>, destination: &mut [u8; LONGEST]) -> bool {
+    fn write<N: Lane, W: Lane>(&self, case: &Case<'_>, destination: &mut [u8]) -> bool {
         let scan = MaskScan {
             op: *self,
-            first: first(case.body, &bits_of(case.variant)),
+            first: first(case.body, &case.variant.bits),
         };
-        write_mask_results::<u8, MaskScan>(&scan, case.body, &mut destination[..32]);
+        let count = bit_bytes(destination);
+        write_mask_results::<u8, MaskScan>(&scan, case.body, &mut destination[..count]);
         false
     }
 
     fn number(&self, case: &Case<'_>, index: usize) -> i128 {
-        let bits = bits_of(case.variant);
+        let bits = &case.variant.bits;
         let mut is_before = true;
         for below in 0..index {
-            is_before &= !(is_active(case.body, below) && bit_at(&bits, below));
+            is_before &= !(is_active(case.body, below) && bit_at(bits, below));
         }
-        let is_set = is_active(case.body, index) && bit_at(&bits, index);
+        let is_set = is_active(case.body, index) && bit_at(bits, index);
         i128::from(match *self {
             MaskScanOp::Vmsbf => is_before && !is_set,
             MaskScanOp::Vmsif => is_before,
@@ -207,10 +190,9 @@ impl Kernel for MaskScanOp {
 }
 
 /// Compares all of them.
-pub(crate) fn compare(rt: &impl Print) -> io::Result<()> {
-    let near = Operands::near();
-    compare_kernels(rt, &COMPARISONS, &near, &COMPARED)?;
-    compare_kernels(rt, &CARRIES, &near, &CARRIED)?;
-    compare_kernels(rt, &LOGIC, &near, &UNMASKED)?;
-    compare_kernels(rt, &SCANS, &near, &SCANNED)
+pub(crate) fn compare(report: &mut Report) {
+    compare_kernels(report, &COMPARISONS, &COMPARED);
+    compare_kernels(report, &CARRIES, &CARRIED);
+    compare_kernels(report, &LOGIC, &UNMASKED);
+    compare_kernels(report, &SCANS, &SCANS_OF_BITS);
 }

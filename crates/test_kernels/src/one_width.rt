@@ -2,10 +2,11 @@
 //! 11.16). `a` is vs2, `b` is vs1 or the other second operand, and `d` is vd.
 use crate::comparison::{Case, Kernel, MASKED, Sweep, compare_kernels};
 use crate::numbers::{bit_at, shift, signed, unsigned};
-use crate::operands::{ALL, LONGEST, MIXED, NO_MASK, Operands};
+use crate::operands::Operands;
+use crate::report::Report;
+use crate::variants::Variants;
 use lane_arith::{Binary, Copies, Lane, MultiplyAdd, WithMaskOperand, fill, write_results};
 use rv_model::instructions::operations::{BinaryOp, CarryOp, MultiplyAddOp};
-use std::io;
 
 const BINARY: [(BinaryOp, &str); 21] = [
     (BinaryOp::Vadd, "vadd"),
@@ -44,14 +45,10 @@ const CARRIES: [(CarryOp, &str); 3] = [
     (CarryOp::Vmerge, "vmerge"),
 ];
 
-/// The bits of v0 that an operation takes.
-pub(crate) fn mask_operand(variant: usize) -> [u8; 32] {
-    match variant {
-        0 => ALL,
-        1 => NO_MASK,
-        _ => MIXED,
-    }
-}
+const COPIES: [(Copied, &str); 2] = [
+    (Copied::Elements, "vmv.v.v"),
+    (Copied::Number, "one number in a range"),
+];
 
 /// The number that division gives, by whole numbers: a divisor of 0 gives ones, or the dividend as what remains.
 fn divided(op: BinaryOp, a: i128, b: i128) -> i128 {
@@ -68,19 +65,10 @@ fn upper_half(a: i128, b: i128, bits: u32) -> i128 {
 }
 
 impl Kernel for BinaryOp {
-    fn write(&self, case: &Case<'_>, destination: &mut [u8; LONGEST]) -> bool {
-        let kernel = Binary {
-            op: *self,
-            a: &case.operands.a,
-            b: &case.operands.b,
-        };
-        let (body, fill) = (case.body, case.fill);
-        match case.bits {
-            8 => write_results::<u8, Binary<'_>>(&kernel, body, destination, fill),
-            16 => write_results::<u16, Binary<'_>>(&kernel, body, destination, fill),
-            32 => write_results::<u32, Binary<'_>>(&kernel, body, destination, fill),
-            _ => write_results::<u64, Binary<'_>>(&kernel, body, destination, fill),
-        }
+    fn write<N: Lane, W: Lane>(&self, case: &Case<'_>, destination: &mut [u8]) -> bool {
+        let Operands { a, b, .. } = case.operands;
+        let kernel = Binary { op: *self, a, b };
+        write_results::<N, Binary<'_>>(&kernel, case.body, destination, case.fill);
         false
     }
 
@@ -114,20 +102,10 @@ impl Kernel for BinaryOp {
 }
 
 impl Kernel for MultiplyAddOp {
-    fn write(&self, case: &Case<'_>, destination: &mut [u8; LONGEST]) -> bool {
-        let kernel = MultiplyAdd {
-            op: *self,
-            a: &case.operands.a,
-            b: &case.operands.b,
-            d: &case.operands.d,
-        };
-        let (body, fill) = (case.body, case.fill);
-        match case.bits {
-            8 => write_results::<u8, MultiplyAdd<'_>>(&kernel, body, destination, fill),
-            16 => write_results::<u16, MultiplyAdd<'_>>(&kernel, body, destination, fill),
-            32 => write_results::<u32, MultiplyAdd<'_>>(&kernel, body, destination, fill),
-            _ => write_results::<u64, MultiplyAdd<'_>>(&kernel, body, destination, fill),
-        }
+    fn write<N: Lane, W: Lane>(&self, case: &Case<'_>, destination: &mut [u8]) -> bool {
+        let Operands { a, b, d } = case.operands;
+        let kernel = MultiplyAdd { op: *self, a, b, d };
+        write_results::<N, MultiplyAdd<'_>>(&kernel, case.body, destination, case.fill);
         false
     }
 
@@ -145,29 +123,23 @@ impl Kernel for MultiplyAddOp {
 }
 
 impl Kernel for CarryOp {
-    /// The variant is the bits of v0.
-    fn write(&self, case: &Case<'_>, destination: &mut [u8; LONGEST]) -> bool {
-        let v0 = mask_operand(case.variant);
+    fn write<N: Lane, W: Lane>(&self, case: &Case<'_>, destination: &mut [u8]) -> bool {
+        let Operands { a, b, .. } = case.operands;
+        let v0 = &case.variant.bits;
         let kernel = WithMaskOperand {
             op: *self,
-            a: &case.operands.a,
-            b: &case.operands.b,
-            v0: &v0,
+            a,
+            b,
+            v0,
         };
-        let body = case.body;
-        match case.bits {
-            8 => write_results::<u8, WithMaskOperand<'_>>(&kernel, body, destination, false),
-            16 => write_results::<u16, WithMaskOperand<'_>>(&kernel, body, destination, false),
-            32 => write_results::<u32, WithMaskOperand<'_>>(&kernel, body, destination, false),
-            _ => write_results::<u64, WithMaskOperand<'_>>(&kernel, body, destination, false),
-        }
+        write_results::<N, WithMaskOperand<'_>>(&kernel, case.body, destination, case.fill);
         false
     }
 
     fn number(&self, case: &Case<'_>, index: usize) -> i128 {
         let x = unsigned(&case.operands.a, case.bits, index);
         let y = unsigned(&case.operands.b, case.bits, index);
-        let carry = bit_at(&mask_operand(case.variant), index);
+        let carry = bit_at(&case.variant.bits, index);
         match *self {
             CarryOp::Vadc => x.wrapping_add(y).wrapping_add(i128::from(carry)),
             CarryOp::Vsbc => x.wrapping_sub(y).wrapping_sub(i128::from(carry)),
@@ -176,67 +148,53 @@ impl Kernel for CarryOp {
     }
 }
 
-/// Copies of elements.
-struct Copied;
+/// Copies of elements, or of the low bits of one number.
+pub(crate) enum Copied {
+    Elements,
+    Number,
+}
 
 impl Kernel for Copied {
-    fn write(&self, case: &Case<'_>, destination: &mut [u8; LONGEST]) -> bool {
-        let kernel = Copies {
-            b: &case.operands.b,
-        };
-        let body = case.body;
-        match case.bits {
-            8 => write_results::<u8, Copies<'_>>(&kernel, body, destination, false),
-            16 => write_results::<u16, Copies<'_>>(&kernel, body, destination, false),
-            32 => write_results::<u32, Copies<'_>>(&kernel, body, destination, false),
-            _ => write_results::<u64, Copies<'_>>(&kernel, body, destination, false),
+    fn write<N: Lane, W: Lane>(&self, case: &Case<'_>, destination: &mut [u8]) -> bool {
+        let (start, end) = (case.body.start(), case.body.end());
+        match *self {
+            Copied::Elements => {
+                let kernel = Copies {
+                    b: &case.operands.b,
+                };
+                write_results::<N, Copies<'_>>(&kernel, case.body, destination, case.fill);
+            }
+            Copied::Number => fill(N::low_bits(case.variant.amount), start, end, destination),
         }
         false
     }
 
     fn number(&self, case: &Case<'_>, index: usize) -> i128 {
-        unsigned(&case.operands.b, case.bits, index)
-    }
-}
-
-/// One number in each element of a range.
-struct Filled;
-
-const FILLING: u64 = 0x8182_8384_8586_8788;
-
-impl Kernel for Filled {
-    fn write(&self, case: &Case<'_>, destination: &mut [u8; LONGEST]) -> bool {
-        let (start, end) = (case.body.start(), case.body.end());
-        match case.bits {
-            8 => fill(u8::low_bits(FILLING), start, end, destination),
-            16 => fill(u16::low_bits(FILLING), start, end, destination),
-            32 => fill(u32::low_bits(FILLING), start, end, destination),
-            _ => fill(u64::low_bits(FILLING), start, end, destination),
+        match *self {
+            Copied::Elements => unsigned(&case.operands.b, case.bits, index),
+            Copied::Number => i128::from(case.variant.amount),
         }
-        false
-    }
-
-    fn number(&self, _case: &Case<'_>, _index: usize) -> i128 {
-        i128::from(FILLING)
     }
 }
 
 /// Under each mask operand.
 const CARRIED: Sweep = Sweep {
     ways: 1,
-    variants: 3,
+    variants: Variants::Operands,
     ..MASKED
 };
 
-/// Under no mask.
-const UNMASKED: Sweep = Sweep { ways: 1, ..MASKED };
+/// Under no mask, with a scalar.
+const COPIED: Sweep = Sweep {
+    ways: 1,
+    variants: Variants::Scalar,
+    ..MASKED
+};
 
 /// Compares all of them.
-pub(crate) fn compare(rt: &impl Print) -> io::Result<()> {
-    let any = Operands::any();
-    compare_kernels(rt, &BINARY, &any, &MASKED)?;
-    compare_kernels(rt, &MULTIPLY_ADDS, &any, &MASKED)?;
-    compare_kernels(rt, &CARRIES, &any, &CARRIED)?;
-    compare_kernels(rt, &[(Copied, "vmv.v.v")], &any, &UNMASKED)?;
-    compare_kernels(rt, &[(Filled, "one number in a range")], &any, &UNMASKED)
+pub(crate) fn compare(report: &mut Report) {
+    compare_kernels(report, &BINARY, &MASKED);
+    compare_kernels(report, &MULTIPLY_ADDS, &MASKED);
+    compare_kernels(report, &CARRIES, &CARRIED);
+    compare_kernels(report, &COPIES, &COPIED);
 }

@@ -22,13 +22,6 @@ pub(crate) const NO_MASK: [u8; 32] = [0; 32];
 /// All bits.
 pub(crate) const ALL: [u8; 32] = [0xff; 32];
 
-/// The mask with this first byte, and others that are the same.
-pub(crate) fn mask_of(first: u8, others: u8) -> [u8; 32] {
-    let mut mask = [others; 32];
-    mask[0] = first;
-    mask
-}
-
 /// The bytes of elements: `a` of vs2, `b` of the second operand, `d` those that the destination has.
 #[derive(Drop)]
 pub(crate) struct Operands {
@@ -37,46 +30,33 @@ pub(crate) struct Operands {
     pub(crate) d: [u8; LONGEST],
 }
 
-impl Operands {
-    /// Numbers of every kind. Some 8 bytes together are a least, a greatest, a 0 or a -1 of each width; the
-    /// least is beside -1, and others beside 0.
-    pub(crate) fn any() -> Operands {
-        Operands {
-            a: with_limits(&bytes(3), 0, 8),
-            b: with_limits(&bytes(5), 4, 7),
-            d: bytes(7),
-        }
-    }
-
-    /// Numbers of which every third is the same in both.
-    pub(crate) fn near() -> Operands {
-        let Operands { a, b, d } = Operands::any();
-        Operands {
-            a,
-            b: mixed(&a, &b),
-            d,
-        }
-    }
-
+/// Which numbers elements are.
+#[derive(Clone, Copy)]
+pub(crate) enum Inputs {
+    /// Numbers of every kind. Some 8 bytes together are a least, a greatest, a 0 or a -1 of each width; the least is
+    /// beside -1, and others beside 0.
+    Any,
+    /// The same, of which every third is equal in both operands.
+    Near,
     /// Small numbers, so that few sums of them saturate: one byte in 24 may be large.
-    pub(crate) fn small() -> Operands {
-        Operands {
-            a: mostly_small(&bytes(3)),
-            b: mostly_small(&bytes(5)),
-            d: bytes(7),
-        }
-    }
+    Small,
+    /// Any numbers, and indices of so many bytes: numbers below 80, 64 and 65 among them, and one in nine that is much
+    /// larger.
+    Indices(usize),
+}
 
-    /// Any numbers, and indices of so many bytes: numbers below 80, 64 and 65 among them, and one in nine that is
-    /// much larger.
-    pub(crate) fn indices(size: usize) -> Operands
-        requires { 0 < size }
-    {
-        Operands {
-            a: bytes(3),
-            b: indices(&bytes(9), size),
-            d: bytes(7),
-        }
+impl Operands {
+    /// The bytes of such elements.
+    pub(crate) fn of(inputs: Inputs) -> Operands {
+        let (a, b) = (bytes(3), bytes(5));
+        let (any_a, any_b) = (with_limits(&a, 0, 8), with_limits(&b, 4, 7));
+        let (a, b) = match inputs {
+            Inputs::Any => (any_a, any_b),
+            Inputs::Near => (any_a, mixed(&any_a, &any_b)),
+            Inputs::Small => (mostly_small(&a), mostly_small(&b)),
+            Inputs::Indices(size) => (a, indices(&bytes(9), size.max(1))),
+        };
+        Operands { a, b, d: bytes(7) }
     }
 }
 

@@ -1,15 +1,16 @@
 //! Operations of two widths ("V" Vector Extension 1.0, sections 11.2, 11.3, 11.7, 11.12 and 11.14). `a` is vs2, `b` is
 //! vs1 or the other second operand, and `d` is vd.
-ghost use Rattle.std.specs.Prelude.{◌≤◌};
+ghost use Rattle.std.specs.Prelude.{◌*◌, ◌≤◌, length};
+ghost use Rattle.rv_model.specs.vector.Configuration.{width_bytes};
 
 use crate::comparison::{Case, Kernel, MASKED, Sweep, compare_kernels};
 use crate::numbers::{shift, signed, unsigned};
-use crate::operands::{LONGEST, Operands};
-use lane_arith::{Extend, NarrowShift, WideSource, Widen, WidenMultiplyAdd, write_results};
+use crate::operands::Operands;
+use crate::report::Report;
+use lane_arith::{Extend, Lane, NarrowShift, WideSource, Widen, WidenMultiplyAdd, write_results};
 use rv_model::instructions::operations::{
     ExtendOp, NarrowShiftOp, WideSourceOp, WidenMultiplyAddOp, WidenOp,
 };
-use std::io;
 use std::marker::PhantomData;
 
 const WIDEN: [(WidenOp, &str); 7] = [
@@ -41,6 +42,7 @@ const NARROW_SHIFTS: [(NarrowShiftOp, &str); 2] = [
     (NarrowShiftOp::Vnsra, "vnsra"),
 ];
 
+/// From halves of the width, quarters and eighths.
 const HALVES: [(ExtendOp, &str); 2] = [
     (ExtendOp::VzextVf2, "vzext.vf2"),
     (ExtendOp::VsextVf2, "vsext.vf2"),
@@ -58,69 +60,48 @@ const EIGHTHS: [(ExtendOp, &str); 2] = [
 
 /// Results of twice the width.
 const WIDENING: Sweep = Sweep {
-    widths: &[16, 32, 64],
+    greatest: 32,
+    times: 2,
     ..MASKED
 };
 
 /// Results of half the width.
 const NARROWING: Sweep = Sweep {
-    widths: &[8, 16, 32],
-    ..MASKED
+    times: 1,
+    ..WIDENING
 };
 
 /// Results of four times the width.
 const TO_FOUR_TIMES: Sweep = Sweep {
-    widths: &[32, 64],
+    greatest: 16,
+    times: 4,
     ..MASKED
 };
 
 /// Results of eight times the width.
 const TO_EIGHT_TIMES: Sweep = Sweep {
-    widths: &[64],
+    greatest: 8,
+    times: 8,
     ..MASKED
 };
 
 impl Kernel for WidenOp {
-    fn write(&self, case: &Case<'_>, destination: &mut [u8; LONGEST]) -> bool {
-        let (body, fill) = (case.body, case.fill);
-        let (a, b) = (&case.operands.a, &case.operands.b);
-        match case.bits {
-            16 => {
-                let kernel = Widen::<'_, u8> {
-                    op: *self,
-                    a,
-                    b,
-                    element: PhantomData,
-                };
-                write_results::<u16, Widen<'_, u8>>(&kernel, body, destination, fill);
-            }
-            32 => {
-                let kernel = Widen::<'_, u16> {
-                    op: *self,
-                    a,
-                    b,
-                    element: PhantomData,
-                };
-                write_results::<u32, Widen<'_, u16>>(&kernel, body, destination, fill);
-            }
-            _ => {
-                let kernel = Widen::<'_, u32> {
-                    op: *self,
-                    a,
-                    b,
-                    element: PhantomData,
-                };
-                write_results::<u64, Widen<'_, u32>>(&kernel, body, destination, fill);
-            }
-        }
+    fn write<N: Lane, W: Lane>(&self, case: &Case<'_>, destination: &mut [u8]) -> bool {
+        let kernel = Widen::<'_, N> {
+            op: *self,
+            a: &case.operands.a,
+            b: &case.operands.b,
+            element: PhantomData,
+        };
+        write_results::<W, Widen<'_, N>>(&kernel, case.body, destination, case.fill);
         false
     }
 
     fn number(&self, case: &Case<'_>, index: usize) -> i128 {
-        let half = case.bits / 2;
+        let bits = case.bits;
         let Operands { a, b, .. } = case.operands;
-        let (x, y) = (unsigned(a, half, index), unsigned(b, half, index));
-        let (signed_x, signed_y) = (signed(a, half, index), signed(b, half, index));
+        let (x, y) = (unsigned(a, bits, index), unsigned(b, bits, index));
+        let (signed_x, signed_y) = (signed(a, bits, index), signed(b, bits, index));
         match *self {
             WidenOp::Vwaddu => x.wrapping_add(y),
             WidenOp::Vwadd => signed_x.wrapping_add(signed_y),
@@ -134,140 +115,71 @@ impl Kernel for WidenOp {
 }
 
 impl Kernel for WideSourceOp {
-    fn write(&self, case: &Case<'_>, destination: &mut [u8; LONGEST]) -> bool {
-        let (body, fill) = (case.body, case.fill);
-        let (a, b) = (&case.operands.a, &case.operands.b);
-        match case.bits {
-            16 => {
-                let kernel = WideSource::<'_, u8> {
-                    op: *self,
-                    a,
-                    b,
-                    element: PhantomData,
-                };
-                write_results::<u16, WideSource<'_, u8>>(&kernel, body, destination, fill);
-            }
-            32 => {
-                let kernel = WideSource::<'_, u16> {
-                    op: *self,
-                    a,
-                    b,
-                    element: PhantomData,
-                };
-                write_results::<u32, WideSource<'_, u16>>(&kernel, body, destination, fill);
-            }
-            _ => {
-                let kernel = WideSource::<'_, u32> {
-                    op: *self,
-                    a,
-                    b,
-                    element: PhantomData,
-                };
-                write_results::<u64, WideSource<'_, u32>>(&kernel, body, destination, fill);
-            }
-        }
+    fn write<N: Lane, W: Lane>(&self, case: &Case<'_>, destination: &mut [u8]) -> bool {
+        let kernel = WideSource::<'_, N> {
+            op: *self,
+            a: &case.operands.a,
+            b: &case.operands.b,
+            element: PhantomData,
+        };
+        write_results::<W, WideSource<'_, N>>(&kernel, case.body, destination, case.fill);
         false
     }
 
     fn number(&self, case: &Case<'_>, index: usize) -> i128 {
         let Operands { a, b, .. } = case.operands;
-        let (bits, half) = (case.bits, case.bits / 2);
+        let (bits, twice) = (case.bits, case.bits.wrapping_mul(2));
         match *self {
-            WideSourceOp::Vwaddu => unsigned(a, bits, index).wrapping_add(unsigned(b, half, index)),
-            WideSourceOp::Vwadd => signed(a, bits, index).wrapping_add(signed(b, half, index)),
-            WideSourceOp::Vwsubu => unsigned(a, bits, index).wrapping_sub(unsigned(b, half, index)),
-            WideSourceOp::Vwsub => signed(a, bits, index).wrapping_sub(signed(b, half, index)),
+            WideSourceOp::Vwaddu => unsigned(a, twice, index).wrapping_add(unsigned(
+                b, bits, index,
+            )),
+            WideSourceOp::Vwadd => signed(a, twice, index).wrapping_add(signed(b, bits, index)),
+            WideSourceOp::Vwsubu => unsigned(a, twice, index).wrapping_sub(unsigned(
+                b, bits, index,
+            )),
+            WideSourceOp::Vwsub => signed(a, twice, index).wrapping_sub(signed(b, bits, index)),
         }
     }
 }
 
 impl Kernel for WidenMultiplyAddOp {
-    fn write(&self, case: &Case<'_>, destination: &mut [u8; LONGEST]) -> bool {
-        let (body, fill) = (case.body, case.fill);
+    fn write<N: Lane, W: Lane>(&self, case: &Case<'_>, destination: &mut [u8]) -> bool {
         let Operands { a, b, d } = case.operands;
-        match case.bits {
-            16 => {
-                let kernel = WidenMultiplyAdd::<'_, u8> {
-                    op: *self,
-                    a,
-                    b,
-                    d,
-                    element: PhantomData,
-                };
-                write_results::<u16, WidenMultiplyAdd<'_, u8>>(&kernel, body, destination, fill);
-            }
-            32 => {
-                let kernel = WidenMultiplyAdd::<'_, u16> {
-                    op: *self,
-                    a,
-                    b,
-                    d,
-                    element: PhantomData,
-                };
-                write_results::<u32, WidenMultiplyAdd<'_, u16>>(&kernel, body, destination, fill);
-            }
-            _ => {
-                let kernel = WidenMultiplyAdd::<'_, u32> {
-                    op: *self,
-                    a,
-                    b,
-                    d,
-                    element: PhantomData,
-                };
-                write_results::<u64, WidenMultiplyAdd<'_, u32>>(&kernel, body, destination, fill);
-            }
-        }
+        let kernel = WidenMultiplyAdd::<'_, N> {
+            op: *self,
+            a,
+            b,
+            d,
+            element: PhantomData,
+        };
+        write_results::<W, WidenMultiplyAdd<'_, N>>(&kernel, case.body, destination, case.fill);
         false
     }
 
     fn number(&self, case: &Case<'_>, index: usize) -> i128 {
-        let half = case.bits / 2;
+        let bits = case.bits;
         let Operands { a, b, d } = case.operands;
-        let (vs2, signed_vs2) = (unsigned(a, half, index), signed(a, half, index));
-        let (vs1, signed_vs1) = (unsigned(b, half, index), signed(b, half, index));
+        let (vs2, signed_vs2) = (unsigned(a, bits, index), signed(a, bits, index));
+        let (vs1, signed_vs1) = (unsigned(b, bits, index), signed(b, bits, index));
         let product = match *self {
             WidenMultiplyAddOp::Vwmaccu => vs1.wrapping_mul(vs2),
             WidenMultiplyAddOp::Vwmacc => signed_vs1.wrapping_mul(signed_vs2),
             WidenMultiplyAddOp::Vwmaccsu => signed_vs1.wrapping_mul(vs2),
             WidenMultiplyAddOp::Vwmaccus => vs1.wrapping_mul(signed_vs2),
         };
-        product.wrapping_add(unsigned(d, case.bits, index))
+        product.wrapping_add(unsigned(d, bits.wrapping_mul(2), index))
     }
 }
 
 impl Kernel for NarrowShiftOp {
-    fn write(&self, case: &Case<'_>, destination: &mut [u8; LONGEST]) -> bool {
-        let (body, fill) = (case.body, case.fill);
-        let (a, b) = (&case.operands.a, &case.operands.b);
-        match case.bits {
-            8 => {
-                let kernel = NarrowShift::<'_, u16> {
-                    op: *self,
-                    a,
-                    b,
-                    element: PhantomData,
-                };
-                write_results::<u8, NarrowShift<'_, u16>>(&kernel, body, destination, fill);
-            }
-            16 => {
-                let kernel = NarrowShift::<'_, u32> {
-                    op: *self,
-                    a,
-                    b,
-                    element: PhantomData,
-                };
-                write_results::<u16, NarrowShift<'_, u32>>(&kernel, body, destination, fill);
-            }
-            _ => {
-                let kernel = NarrowShift::<'_, u64> {
-                    op: *self,
-                    a,
-                    b,
-                    element: PhantomData,
-                };
-                write_results::<u32, NarrowShift<'_, u64>>(&kernel, body, destination, fill);
-            }
-        }
+    fn write<N: Lane, W: Lane>(&self, case: &Case<'_>, destination: &mut [u8]) -> bool {
+        let kernel = NarrowShift::<'_, W> {
+            op: *self,
+            a: &case.operands.a,
+            b: &case.operands.b,
+            element: PhantomData,
+        };
+        write_results::<N, NarrowShift<'_, W>>(&kernel, case.body, destination, case.fill);
         false
     }
 
@@ -282,91 +194,57 @@ impl Kernel for NarrowShiftOp {
     }
 }
 
-/// How many bits an element of an extension's source has.
-fn source_bits(op: ExtendOp, bits: u32) -> u32 {
-    match op {
-        ExtendOp::VzextVf2 | ExtendOp::VsextVf2 => bits / 2,
-        ExtendOp::VzextVf4 | ExtendOp::VsextVf4 => bits / 4,
-        ExtendOp::VzextVf8 | ExtendOp::VsextVf8 => bits / 8,
-    }
-}
-
-/// Extends bytes.
-fn extend_bytes(op: ExtendOp, case: &Case<'_>, destination: &mut [u8; LONGEST])
-    requires { case.now.body.now.end ≤ 65 }
+/// Extends elements to the width of a result.
+fn extend<N: Lane>(op: ExtendOp, case: &Case<'_>, destination: &mut [u8])
+    requires elements { width_bytes N.width * 65 ≤ 520 }
+    requires count { case.now.body.now.end ≤ 65 }
+    requires room { 8 * case.now.body.now.end ≤ length destination.old }
 {
-    let kernel = Extend::<'_, u8> {
+    let kernel = Extend::<'_, N> {
         op,
         a: &case.operands.a,
         element: PhantomData,
     };
     let (body, fill) = (case.body, case.fill);
-    match case.bits {
-        16 => write_results::<u16, Extend<'_, u8>>(&kernel, body, destination, fill),
-        32 => write_results::<u32, Extend<'_, u8>>(&kernel, body, destination, fill),
-        _ => write_results::<u64, Extend<'_, u8>>(&kernel, body, destination, fill),
+    match case.bits.wrapping_mul(case.times) {
+        16 => write_results::<u16, Extend<'_, N>>(&kernel, body, destination, fill),
+        32 => write_results::<u32, Extend<'_, N>>(&kernel, body, destination, fill),
+        _ => write_results::<u64, Extend<'_, N>>(&kernel, body, destination, fill),
     }
-}
-
-/// Extends numbers of 16 bits.
-fn extend_halves(op: ExtendOp, case: &Case<'_>, destination: &mut [u8; LONGEST])
-    requires { case.now.body.now.end ≤ 65 }
-{
-    let kernel = Extend::<'_, u16> {
-        op,
-        a: &case.operands.a,
-        element: PhantomData,
-    };
-    let (body, fill) = (case.body, case.fill);
-    match case.bits {
-        32 => write_results::<u32, Extend<'_, u16>>(&kernel, body, destination, fill),
-        _ => write_results::<u64, Extend<'_, u16>>(&kernel, body, destination, fill),
-    }
-}
-
-/// Extends numbers of 32 bits.
-fn extend_words(op: ExtendOp, case: &Case<'_>, destination: &mut [u8; LONGEST])
-    requires { case.now.body.now.end ≤ 65 }
-{
-    let kernel = Extend::<'_, u32> {
-        op,
-        a: &case.operands.a,
-        element: PhantomData,
-    };
-    write_results::<u64, Extend<'_, u32>>(&kernel, case.body, destination, case.fill);
 }
 
 impl Kernel for ExtendOp {
-    fn write(&self, case: &Case<'_>, destination: &mut [u8; LONGEST]) -> bool {
-        match source_bits(*self, case.bits) {
-            8 => extend_bytes(*self, case, destination),
-            16 => extend_halves(*self, case, destination),
-            _ => extend_words(*self, case, destination),
+    fn write<N: Lane, W: Lane>(&self, case: &Case<'_>, destination: &mut [u8]) -> bool {
+        if 8 * case.body.end() <= destination.len() {
+            extend::<N>(*self, case, destination);
         }
         false
     }
 
     fn number(&self, case: &Case<'_>, index: usize) -> i128 {
-        let bits = source_bits(*self, case.bits);
         match *self {
             ExtendOp::VzextVf2 | ExtendOp::VzextVf4 | ExtendOp::VzextVf8 => {
-                unsigned(&case.operands.a, bits, index)
+                unsigned(&case.operands.a, case.bits, index)
             }
             ExtendOp::VsextVf2 | ExtendOp::VsextVf4 | ExtendOp::VsextVf8 => {
-                signed(&case.operands.a, bits, index)
+                signed(&case.operands.a, case.bits, index)
             }
         }
     }
 }
 
+/// Compares extensions.
+fn compare_extensions(report: &mut Report) {
+    compare_kernels(report, &HALVES, &WIDENING);
+    compare_kernels(report, &QUARTERS, &TO_FOUR_TIMES);
+    compare_kernels(report, &EIGHTHS, &TO_EIGHT_TIMES);
+}
+
 /// Compares all of them.
-pub(crate) fn compare(rt: &impl Print) -> io::Result<()> {
-    let any = Operands::any();
-    compare_kernels(rt, &WIDEN, &any, &WIDENING)?;
-    compare_kernels(rt, &WIDE_SOURCES, &any, &WIDENING)?;
-    compare_kernels(rt, &MULTIPLY_ADDS, &any, &WIDENING)?;
-    compare_kernels(rt, &NARROW_SHIFTS, &any, &NARROWING)?;
-    compare_kernels(rt, &HALVES, &any, &WIDENING)?;
-    compare_kernels(rt, &QUARTERS, &any, &TO_FOUR_TIMES)?;
-    compare_kernels(rt, &EIGHTHS, &any, &TO_EIGHT_TIMES)
+pub(crate) fn compare(report: &mut Report) {
+    compare_kernels(report, &WIDEN, &WIDENING);
+    compare_kernels(report, &WIDE_SOURCES, &WIDENING);
+    compare_kernels(report, &MULTIPLY_ADDS, &WIDENING);
+    compare_kernels(report, &NARROW_SHIFTS, &NARROWING);
+    compare_extensions(report);
 }

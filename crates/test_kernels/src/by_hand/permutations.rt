@@ -1,135 +1,162 @@
 //! Permutations.
-use crate::by_hand::written;
-use crate::comparison::print_case;
-use crate::operands::{NO_MASK, mask_of};
-use lane_arith::{Body, write_results};
-use lane_permute::{Gather, GatherOne, SlideDown, SlideOneDown, SlideOneUp, SlideUp, compress};
-use std::io;
-use std::marker::PhantomData;
+use crate::by_hand::{GIVEN, Given, Row, compare_rows};
+use crate::permutations::{Gathering, Slide, SlideOne};
+use crate::report::Report;
+
+const UP: Given = Given {
+    a: 0x281e_140a,
+    mask: Some(0x0b),
+    end: 4,
+    fill: true,
+    size: 4,
+    ..GIVEN
+};
 
 /// Slides up, which begin at the offset.
-const SLIDES_UP: [(u64, &str, [u8; 4]); 5] = [
-    (0, "vslideup by 0", [10, 20, 0xff, 40]),
-    (1, "vslideup by 1", [0xaa, 10, 0xff, 30]),
-    (3, "vslideup by 3", [0xaa, 0xaa, 0xaa, 10]),
-    (4, "vslideup by the length", [0xaa; 4]),
-    (u64::MAX, "vslideup by the most", [0xaa; 4]),
+const SLIDES_UP: [Row<Slide>; 5] = [
+    (Slide::Up, "vslideup by 0", 0, 0x28ff_140a),
+    (Slide::Up, "vslideup by 1", 1, 0x1eff_0aaa),
+    (Slide::Up, "vslideup by 3", 3, 0x0aaa_aaaa),
+    (Slide::Up, "vslideup by the length", 4, 0xaaaa_aaaa),
+    (Slide::Up, "vslideup by the most", u64::MAX, 0xaaaa_aaaa),
 ];
 
+const DOWN: Given = Given {
+    bits: 16,
+    a: 0x3205_2804_1e03_1402_0a01,
+    limit: 4,
+    end: 3,
+    size: 8,
+    ..GIVEN
+};
+
 /// Slides down, which end at the limit.
-const SLIDES_DOWN: [(u64, &str, [u8; 8]); 5] = [
-    (0, "vslidedown by 0", [1, 10, 2, 20, 3, 30, 0xaa, 0xaa]),
-    (1, "vslidedown by 1", [2, 20, 3, 30, 4, 40, 0xaa, 0xaa]),
-    (3, "vslidedown by 3", [4, 40, 0, 0, 0, 0, 0xaa, 0xaa]),
-    (4, "vslidedown by the limit", [0, 0, 0, 0, 0, 0, 0xaa, 0xaa]),
+const SLIDES_DOWN: [Row<Slide>; 5] = [
+    (Slide::Down, "vslidedown by 0", 0, 0xaaaa_1e03_1402_0a01),
+    (Slide::Down, "vslidedown by 1", 1, 0xaaaa_2804_1e03_1402),
+    (Slide::Down, "vslidedown by 3", 3, 0xaaaa_0000_0000_2804),
     (
-        u64::MAX,
+        Slide::Down,
+        "vslidedown by the limit",
+        4,
+        0xaaaa_0000_0000_0000,
+    ),
+    (
+        Slide::Down,
         "vslidedown by the most",
-        [0, 0, 0, 0, 0, 0, 0xaa, 0xaa],
+        u64::MAX,
+        0xaaaa_0000_0000_0000,
     ),
 ];
 
-/// Gathers of one element.
-const GATHERS: [(u64, &str, [u8; 4]); 4] = [
-    (1, "vrgather.vx of index 1", [2, 20, 2, 20]),
-    (2, "vrgather.vx of the limit", [0; 4]),
-    (1 << 16, "vrgather.vx of 2 to 16", [0; 4]),
-    (u64::MAX, "vrgather.vx of the most", [0; 4]),
+const ONE: Given = Given {
+    bits: 16,
+    a: 0x1e03_1402_0a01,
+    limit: 2,
+    end: 2,
+    size: 4,
+    ..GIVEN
+};
+
+const GATHERS_OF_ONE: [Row<Gathering>; 4] = [
+    (Gathering::One, "vrgather.vx of index 1", 1, 0x1402_1402),
+    (Gathering::One, "vrgather.vx of the limit", 2, 0),
+    (Gathering::One, "vrgather.vx of 2 to 16", 1 << 16, 0),
+    (Gathering::One, "vrgather.vx of the most", u64::MAX, 0),
 ];
 
-fn slid_up(offset: u64) -> [u8; 4] {
-    let mask = mask_of(0x0b, 0);
-    let mut results = [0xaa; 4];
-    let slide = SlideUp {
-        a: &[10, 20, 30, 40],
-        offset,
-    };
-    let whole = Body::new(false, &mask, 0, 4);
-    write_results::<u8, SlideUp<'_>>(&slide, &slide.body(&whole), &mut results, true);
-    results
-}
+const UP_BY_ONE: Given = Given {
+    bits: 16,
+    a: 0x2804_1e03_1402_0a01,
+    end: 3,
+    size: 8,
+    ..GIVEN
+};
 
-fn slid_down(offset: u64) -> [u8; 8] {
-    let slide = SlideDown {
-        a: &[1, 10, 2, 20, 3, 30, 4, 40, 5, 50],
-        limit: 4,
-        offset,
-    };
-    written::<u16, SlideDown<'_>, 8>(&slide, 0, 3)
-}
+const DOWN_BY_ONE: Given = Given {
+    start: 1,
+    ..UP_BY_ONE
+};
 
-fn slid_one_up() -> [u8; 8] {
-    let slide = SlideOneUp {
-        a: &[1, 10, 2, 20, 3, 30, 4, 40],
-        first: 0x6009,
-    };
-    written::<u16, SlideOneUp<'_, u16>, 8>(&slide, 0, 3)
-}
+const SLIDES_UP_BY_ONE: [Row<SlideOne>; 1] = [(
+    SlideOne::Up,
+    "vslide1up",
+    0x6009,
+    0xaaaa_1402_0a01_6009,
+)];
 
-fn slid_one_down() -> [u8; 8] {
-    let slide = SlideOneDown {
-        a: &[1, 10, 2, 20, 3, 30, 4, 40],
-        end: 3,
-        last: 0x6009,
-    };
-    written::<u16, SlideOneDown<'_, u16>, 8>(&slide, 1, 3)
-}
+const SLIDES_DOWN_BY_ONE: [Row<SlideOne>; 1] = [(
+    SlideOne::Down,
+    "vslide1down",
+    0x6009,
+    0xaaaa_6009_1e03_aaaa,
+)];
 
 /// Bytes by indices of 16 bits.
-fn gathered() -> [u8; 6] {
-    let gather = Gather {
-        a: &[10, 20, 30, 40, 50],
-        limit: 4,
-        indices: &[3, 0, 1, 0, 4, 0, 0, 1, 1, 0],
-        index: PhantomData::<u16>,
-    };
-    written::<u8, Gather<'_, u16>, 6>(&gather, 0, 5)
+const INDICES: Given = Given {
+    a: 0x32_281e_140a,
+    b: 0x0001_0100_0004_0001_0003,
+    limit: 4,
+    end: 5,
+    size: 6,
+    ..GIVEN
+};
+
+const GATHERS: [Row<Gathering>; 1] = [(
+    Gathering::ShortIndices,
+    "vrgatherei16",
+    0,
+    0xaa14_0000_1428,
+)];
+
+/// Five elements of 16 bits, of which some are selected.
+const SELECTED: Given = Given {
+    bits: 16,
+    a: 0x3c06_3205_2804_1e03_1402_0a01,
+    bits_a: 0x36,
+    end: 5,
+    size: 12,
+    ..GIVEN
+};
+
+const SELECTED_NONE: Given = Given {
+    d: 0xaaaa_aaaa_aaaa_aaaa_aaaa_3205_1e03_1402,
+    bits_a: 0,
+    ..SELECTED
+};
+
+const PACKS: [Row<Gathering>; 1] = [(
+    Gathering::Packed,
+    "vcompress",
+    0,
+    0xaaaa_aaaa_aaaa_3205_1e03_1402,
+)];
+
+const PACKS_OF_NONE: [Row<Gathering>; 1] = [(
+    Gathering::Packed,
+    "vcompress of no elements",
+    0,
+    0xaaaa_aaaa_aaaa_3205_1e03_1402,
+)];
+
+/// Compares slides and gathers by one number.
+fn compare_by_one(report: &mut Report) {
+    compare_rows(report, &UP, &SLIDES_UP);
+    compare_rows(report, &DOWN, &SLIDES_DOWN);
+    compare_rows(report, &ONE, &GATHERS_OF_ONE);
 }
 
-fn gathered_one(index: u64) -> [u8; 4] {
-    let gather = GatherOne {
-        a: &[1, 10, 2, 20, 3, 30],
-        limit: 2,
-        index,
-    };
-    written::<u16, GatherOne<'_>, 4>(&gather, 0, 2)
-}
-
-/// Packs the selected elements of five of 16 bits.
-fn packed(select: &[u8; 32], results: &mut [u8; 12]) {
-    let a = [1, 10, 2, 20, 3, 30, 4, 40, 5, 50, 6, 60];
-    compress::<u16>(&a, select, 5, results);
-}
-
-fn compare_others(rt: &impl Print) -> io::Result<()> {
-    let up = [9, 0x60, 1, 10, 2, 20, 0xaa, 0xaa];
-    print_case(rt, "vslide1up", slid_one_up() == up)?;
-    let down = [0xaa, 0xaa, 3, 30, 9, 0x60, 0xaa, 0xaa];
-    print_case(rt, "vslide1down", slid_one_down() == down)?;
-    let elements = [40, 20, 0, 0, 20, 0xaa];
-    print_case(rt, "vrgatherei16", gathered() == elements)
-}
-
-fn compare_packed(rt: &impl Print) -> io::Result<()> {
-    let expected = [2, 20, 3, 30, 5, 50, 0xaa, 0xaa, 0xaa, 0xaa, 0xaa, 0xaa];
-    let mut results = [0xaa; 12];
-    packed(&mask_of(0x36, 0), &mut results);
-    print_case(rt, "vcompress", results == expected)?;
-    packed(&NO_MASK, &mut results);
-    print_case(rt, "vcompress of no elements", results == expected)
+/// Compares slides by one place.
+fn compare_slides_by_one(report: &mut Report) {
+    compare_rows(report, &UP_BY_ONE, &SLIDES_UP_BY_ONE);
+    compare_rows(report, &DOWN_BY_ONE, &SLIDES_DOWN_BY_ONE);
 }
 
 /// Compares all of them.
-pub(crate) fn compare(rt: &impl Print) -> io::Result<()> {
-    for (offset, name, expected) in SLIDES_UP {
-        print_case(rt, name, slid_up(offset) == expected)?;
-    }
-    for (offset, name, expected) in SLIDES_DOWN {
-        print_case(rt, name, slid_down(offset) == expected)?;
-    }
-    for (index, name, expected) in GATHERS {
-        print_case(rt, name, gathered_one(index) == expected)?;
-    }
-    compare_others(rt)?;
-    compare_packed(rt)
+pub(crate) fn compare(report: &mut Report) {
+    compare_by_one(report);
+    compare_slides_by_one(report);
+    compare_rows(report, &INDICES, &GATHERS);
+    compare_rows(report, &SELECTED, &PACKS);
+    compare_rows(report, &SELECTED_NONE, &PACKS_OF_NONE);
 }
