@@ -103,8 +103,7 @@ impl Span<'_> {
         requires length { length bytes.old ≡ self.now.length }
         requires blend { IsBlend self.now }
         requires size { self.now.segments.size ≡ width_bytes L.width }
-        ensures size { length bytes.new ≡ length bytes.old }
-        ensures value { IsWritten self.now file.now bytes.old bytes.new }
+        ensures { IsWritten self.now file.now bytes.old bytes.new }
     {
         let place = self.segments.place(0, 0);
         let group = file.part(place, place + bytes.len());
@@ -116,7 +115,6 @@ impl Span<'_> {
     #[inline(never)]
     pub(crate) fn write_contiguous(&self, file: &VFile, bytes: &mut [u8]) -> bool
         requires length { length bytes.old ≡ self.now.length }
-        ensures size { length bytes.new ≡ length bytes.old }
         ensures value { result ≡ true → IsWritten self.now file.now bytes.old bytes.new }
         ensures unchanged { result ≡ false → bytes.new ≡ bytes.old }
     {

@@ -38,8 +38,7 @@ impl Span<'_> {
     fn write_field(&self, file: &VFile, field: usize, bytes: &mut [u8])
         requires length { length bytes.old ≡ self.now.length }
         requires field { field < self.now.segments.fields }
-        ensures size { length bytes.new ≡ length bytes.old }
-        ensures value { (m : Memory) → put_bytes m self.now.address bytes.new
+        ensures { (m : Memory) → put_bytes m self.now.address bytes.new
             ≡ for_each (store_field file.now (span_access self.now) field) (put_bytes m self.now.address bytes.old)
             self.now.body.start (self.now.stop - self.now.body.start) }
     {
@@ -69,8 +68,7 @@ impl Span<'_> {
     #[inline(always)]
     fn write_fields(&self, file: &VFile, bytes: &mut [u8])
         requires length { length bytes.old ≡ self.now.length }
-        ensures size { length bytes.new ≡ length bytes.old }
-        ensures value { IsWritten self.now file.now bytes.old bytes.new }
+        ensures { IsWritten self.now file.now bytes.old bytes.new }
     {
         for field in 0..self.segments.fields {
             self.write_field(file, field, bytes);
@@ -97,8 +95,7 @@ impl Span<'_> {
     #[inline(never)]
     pub(crate) fn write_elements(&self, file: &VFile, bytes: &mut [u8])
         requires length { length bytes.old ≡ self.now.length }
-        ensures size { length bytes.new ≡ length bytes.old }
-        ensures value { IsWritten self.now file.now bytes.old bytes.new }
+        ensures { IsWritten self.now file.now bytes.old bytes.new }
     {
         match self.segments.size {
             1 => self.sized(1).write_fields(file, bytes),

@@ -60,8 +60,7 @@ impl<'a> Span<'a> {
     #[inline(always)]
     fn write(&self, file: &VFile, bytes: &mut [u8])
         requires { length bytes.old ≡ self.now.length }
-        ensures size { length bytes.new ≡ length bytes.old }
-        ensures value { IsWritten self.now file.now bytes.old bytes.new }
+        ensures { IsWritten self.now file.now bytes.old bytes.new }
     {
         if !self.write_contiguous(file, bytes) {
             self.write_elements(file, bytes);

@@ -12,8 +12,8 @@ use Rattle.vector_memory.proofs.Blends.{blend_stored, span_length}
 use Rattle.vector_memory.proofs.SpanMoves.{part_at}
 use Rattle.vector_memory.proofs.spans.Span.write_blend.Goals as goal
 
-pub returns-clause-value : goal.returns-clause-value
-returns-clause-value g c = λ m.
+pub returns : goal.returns
+returns g c = λ m.
     let s = c.args.self.now.segments in
     let stop = c.args.self.now.stop in
     let b = c.args.self.now in

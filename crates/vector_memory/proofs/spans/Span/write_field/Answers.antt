@@ -1,5 +1,4 @@
-use Rattle.std.proofs.Common.{◌≡◌, ◌+◌, ◌*◌, ◌-◌, ◌≤◌, length, refl, sym, ap, ◌∙◌, arith}
-use Rattle.std.proofs.lemmas.Simd.{length-put_chunk}
+use Rattle.std.proofs.Common.{◌≡◌, ◌+◌, ◌*◌, ◌-◌, ◌≤◌, length, sym, ap, ◌∙◌, arith}
 use Rattle.rv_model.specs.memory.Memory.{put_bytes}
 use Rattle.vector_memory.specs.FieldOrder.{store_field}
 use Rattle.vector_memory.specs.SpanAccess.{span_access}
@@ -9,51 +8,36 @@ use Rattle.vector_memory.proofs.spans.Span.write_field.Goals as goal
 use Rattle.vector_memory.proofs.spans.Span.write_field.Goals.{then-lets, else-lets}
 
 pub loop-index-init : goal.loop-index-init
-loop-index-init c = record {
-  size = refl;
-  value = λ m.
-      sym (each_from (store_field c.args.file.now (span_access c.args.self.now) c.args.field) (put_bytes m c.args.self.now.address c.args.bytes.now)
-      c.args.self.now.body.start c.start-start.result (omega (arith, c.start-start.ensures)));
-}
+loop-index-init c = λ m.
+    let b = c.args.self.now in
+    sym (each_from (store_field c.args.file.now (span_access b) c.args.field) (put_bytes m b.address c.args.bytes.now)
+    b.body.start c.start-start.result (omega (arith, c.start-start.ensures)))
 
 pub loop-index-preserved : goal.loop-index-preserved
-loop-index-preserved c =
+loop-index-preserved c = λ m.
     let b = c.args.self.now in
     let s = b.segments in
-    let body = b.body in
     let f = c.args.field in
     let i = c.loop-index.index in
-    let low : body.start ≤ i = omega (arith, c.loop-index.auto.index, c.start-start.ensures) in
+    let low : b.body.start ≤ i = omega (arith, c.loop-index.auto.index, c.start-start.ensures) in
+    let a = span_access b in
+    let step = store_field c.args.file.now a f in
+    let next = ap (λ x. step x i) (c.loop-index.invariant m) ∙ sym (each_next step (put_bytes m b.address c.args.bytes.now) b.body.start i low) in
     elim c.if-lets.branch [
       | then-lets w ↦
           (let bytes = w.copy_from_slice.new.self in
-          let to = (i - body.start) * b.distance + f * s.size in
+          let to = (i - b.body.start) * b.distance + f * s.size in
           let at : (i - c.start-start.result) * b.distance + f * s.size ≡ to = ap (λ n. (i - n) * b.distance + f * s.size) c.start-start.ensures in
           let count : length bytes ≡ s.size = ap length w.copy_from_slice.ensures.after ∙ omega (arith, w.part.ensures.len) in
           let room : to + length bytes ≤ length c.loop-index.bytes =
-          omega (arith, count, c.loop-index.invariant.size, c.requires.length, field_inside b i f low c.loop-index-test.true c.requires.field) in
-          let moved = w.bytes-is ∙ part_put _ _ to c.loop-index.bytes bytes (omega (arith, count)) at room in
-          record {
-            size = ap length moved ∙ length-put_chunk to c.loop-index.bytes bytes ∙ c.loop-index.invariant.size;
-            value = λ m.
-                let a = span_access b in
-                let step = store_field c.args.file.now a f in
-                let old = put_bytes m b.address c.args.bytes.now in
-                ap (put_bytes m b.address) moved
-                ∙ put_part m b.address to c.loop-index.bytes bytes room
-                ∙ store_active c.args.file.now a f i (b.address + to) (put_bytes m b.address c.loop-index.bytes) bytes (sym c.lets.ensures ∙ w.if-lets.true)
-                (sym (field_begins b i f low c.loop-index-test.true c.requires.field))
-                (w.copy_from_slice.ensures.after ∙ w.part.ensures.value ∙ part_at _ _ s.size c.args.file.now w.place-place.ensures.value)
-                ∙ ap (λ x. step x i) (c.loop-index.invariant.value m) ∙ sym (each_next step old body.start i low);
-          })
-      | else-lets w ↦ record {
-        size = ap length w.bytes-is ∙ c.loop-index.invariant.size;
-        value = λ m.
-            let a = span_access b in
-            let step = store_field c.args.file.now a f in
-            let old = put_bytes m b.address c.args.bytes.now in
-            ap (put_bytes m b.address) w.bytes-is
-            ∙ store_kept c.args.file.now a f i (put_bytes m b.address c.loop-index.bytes) (sym c.lets.ensures ∙ w.if-lets.false)
-            ∙ ap (λ x. step x i) (c.loop-index.invariant.value m) ∙ sym (each_next step old body.start i low);
-      }
+          omega (arith, count, c.loop-index.auto.bytes, c.requires.length, field_inside b i f low c.loop-index-test.true c.requires.field) in
+          ap (put_bytes m b.address) (w.bytes-is ∙ part_put _ _ to c.loop-index.bytes bytes (omega (arith, count)) at room)
+          ∙ put_part m b.address to c.loop-index.bytes bytes room
+          ∙ store_active c.args.file.now a f i (b.address + to) (put_bytes m b.address c.loop-index.bytes) bytes (sym c.lets.ensures ∙ w.if-lets.true)
+          (sym (field_begins b i f low c.loop-index-test.true c.requires.field))
+          (w.copy_from_slice.ensures.after ∙ w.part.ensures.value ∙ part_at _ _ s.size c.args.file.now w.place-place.ensures.value)
+          ∙ next)
+      | else-lets w ↦
+          ap (put_bytes m b.address) w.bytes-is
+          ∙ store_kept c.args.file.now a f i (put_bytes m b.address c.loop-index.bytes) (sym c.lets.ensures ∙ w.if-lets.false) ∙ next
     ]
