@@ -6,7 +6,7 @@ ghost use Rattle.rv_model.specs.declared.instructions.operations.UnitOp.{UnitOp 
 ghost use Rattle.rv_model.specs.declared.step.memory_end.MemEnd.TheVariants.{Done};
 ghost use Rattle.rv_model.specs.elements.Elements.{Body as BodyOf};
 ghost use Rattle.vector_memory.specs.Blocks.{IsBlock};
-ghost use Rattle.vector_memory.specs.Distances.{transfer_run};
+ghost use Rattle.vector_memory.specs.Distances.{Fits, transfer_run};
 ghost use Rattle.vector_memory.specs.Runs.{RunLeaves};
 ghost use Rattle.vector_memory.specs.SegmentRoom.{HasRoom, operation_access};
 ghost use Rattle.vector_memory.specs.declared.segments.Segments.{Segments as SegmentsOf};
@@ -108,8 +108,7 @@ impl Transfer {
         memory: &mut M,
         state: &mut VState,
     ) -> bool
-        requires room { HasRoom self.now.segments self.now.count }
-        requires count { self.now.count ≤ GROUP_BYTES }
+        requires { Fits state.old self.now }
         ensures done { result ≡ true → (fill : Bool)
             → RunLeaves (transfer_run limit fill self.now state.old (M.memory memory.old))
             Done state.new (M.memory memory.new) }
@@ -134,9 +133,7 @@ impl Transfer {
         memory: &mut M,
         state: &mut VState,
     ) -> MemEnd
-        requires room { HasRoom self.now.segments self.now.count }
-        requires count { self.now.count ≤ GROUP_BYTES }
-        requires length { self.now.op ≡ UnitOp.FaultOnlyFirst → self.now.count ≡ state.old.conf.vl }
+        requires { Fits state.old self.now }
         ensures run { RunLeaves
             (transfer_run extent.limit extent.fill_masked_off self.now state.old (M.memory memory.old))
             result state.new (M.memory memory.new) }

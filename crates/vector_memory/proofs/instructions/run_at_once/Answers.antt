@@ -6,9 +6,8 @@ use Rattle.vector_memory.proofs.instructions.run_at_once.Goals as goal
 pub run_block-requires : goal.run_block-requires
 run_block-requires g c =
     let a = c.args in
-    let room = fits a.state.now a.scalar.now c.in-Some.transfer a.access.now (sym c.transfer_of.ensures.value ∙ c.in-Some.is)
-    c.requires.legal c.requires.configured c.in-Some.ensures.fields in
-    record { room = room.room; count = room.count }
+    fits a.state.now a.scalar.now c.in-Some.transfer a.access.now (sym c.transfer_of.ensures.value ∙ c.in-Some.is)
+    c.requires.legal c.requires.configured c.in-Some.ensures.fields
 
 pub returns-clause-done : goal.returns-clause-done
 returns-clause-done g c = λ done.

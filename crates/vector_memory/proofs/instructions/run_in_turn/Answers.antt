@@ -6,9 +6,8 @@ use Rattle.vector_memory.proofs.instructions.run_in_turn.Goals as goal
 pub run_segments-requires : goal.run_segments-requires
 run_segments-requires g c =
     let a = c.args in
-    let room = fits a.state.now a.scalar.now c.in-Some.transfer a.access.now (sym c.transfer_of.ensures.value ∙ c.in-Some.is)
-    c.requires.legal c.requires.configured c.in-Some.ensures.fields in
-    record { room = room.room; count = room.count; length = room.length }
+    fits a.state.now a.scalar.now c.in-Some.transfer a.access.now (sym c.transfer_of.ensures.value ∙ c.in-Some.is)
+    c.requires.legal c.requires.configured c.in-Some.ensures.fields
 
 pub returns-in_default-clause-run : goal.returns-in_default-clause-run
 returns-in_default-clause-run g c =
