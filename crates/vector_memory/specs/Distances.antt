@@ -1,4 +1,5 @@
--- Loads and stores of segments at one distance from one another ("V" Vector Extension 1.0, sections 7.4, 7.5 and 7.7 to 7.9).
+-- Loads and stores of segments at one distance from one another ("V" Vector Extension 1.0, sections 7.4, 7.5 and 7.7 to
+-- 7.9).
 use Rattle.std.specs.Prelude.{◌≡◌, ℕ, ◌+◌, ◌*◌, ◌%◌, ◌^◌, ◌≤◌, Bool, true, Option, Some, None}
 use Rattle.rv_model.specs.accesses.AccessRuns.{AccessRun, directed_run}
 use Rattle.rv_model.specs.accesses.VectorAccess.{VectorAccess, mask_length, unit_direction, whole_length}
@@ -27,7 +28,8 @@ use Rattle.vector_memory.specs.declared.transfers.Transfer.{Transfer}
 -- what a transfer moves, by the registers as they stand when it begins
 abbrev pub moved_by : Transfer → VState → VectorAccess
 moved_by t v =
-    operation_access t.op t.segments (record { unmasked = t.unmasked; mask = register_of v.file 0; start = v.vstart; end = t.count })
+    operation_access t.op t.segments
+    (record { unmasked = t.unmasked; mask = register_of v.file 0; start = v.vstart; end = t.count })
     (λ i. (t.addresses.base + i * t.addresses.stride) % 2 ^ 64)
 
 -- what it leaves
@@ -42,7 +44,8 @@ pub record Fits (v : VState) (t : Transfer) : Type 0 where
 
 -- ---- the transfer that each instruction is
 
--- segments of nf + 1 fields of a width from vd on, as many as the vector length says, in groups of the vector type if there is one
+-- segments of nf + 1 fields of a width from vd on, as many as the vector length says, in groups of the vector type if
+-- there is one
 abbrev pub grouped : UnitOp → Eew → ℕ → ℕ → StridedAddresses → Bool → VState → Option VType → Option Transfer
 grouped op width nf vd addresses unmasked v None = None
 grouped op width nf vd addresses unmasked v (Some t) =
@@ -77,11 +80,15 @@ operation direction.Store = unit.Store
 
 abbrev pub transfer_of : AccessInstr → VState → Scalar → Option Transfer
 transfer_of (UnitStride op width nf vd rs1 vm) v x =
-    grouped op width nf vd (record { base = read_register x rs1; stride = (nf + 1) * width_bytes (sew_width (element_width width)) }) vm v v.conf.vtype
+    grouped op width nf vd
+    (record { base = read_register x rs1; stride = (nf + 1) * width_bytes (sew_width (element_width width)) })
+    vm v v.conf.vtype
 transfer_of (Strided direction width nf vd rs1 rs2 vm) v x =
-    grouped (operation direction) width nf vd (record { base = read_register x rs1; stride = read_register x rs2 }) vm v v.conf.vtype
+    grouped (operation direction) width nf vd (record { base = read_register x rs1; stride = read_register x rs2 })
+    vm v v.conf.vtype
 transfer_of (WholeLoad count width vd rs1) v x =
-    Some (whole unit.Load (width_bytes (sew_width (element_width width))) (register_count count) vd (read_register x rs1) (whole_length count width))
+    Some (whole unit.Load (width_bytes (sew_width (element_width width))) (register_count count) vd
+    (read_register x rs1) (whole_length count width))
 transfer_of (WholeStore count vd rs1) v x =
     Some (whole unit.Store 1 (register_count count) vd (read_register x rs1) (whole_length count E8))
 transfer_of (MaskAccess direction vd rs1) v x =

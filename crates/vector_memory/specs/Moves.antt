@@ -4,8 +4,7 @@ use Rattle.std.specs.Prelude.{◌≡◌, ◌↔◌, ℕ, ◌+◌, ◌-◌, Bool,
 use Rattle.rv_model.specs.declared.memory.Fault.{Fault}
 use Rattle.rv_model.specs.declared.memory.Access.TheVariants.{Load, Store}
 use Rattle.rv_model.specs.declared.step.memory_end.MemEnd.{MemEnd}
-use Rattle.rv_model.specs.accesses.Transfers.{Transfer, are_allowed, bad_address, end_at}
-use Rattle.rv_model.specs.accesses.Transfers.{registers_loaded, stop_index, memory_stored, transfers}
+use Rattle.rv_model.specs.accesses.Transfers.{Transfer, are_allowed, bad_address, end_at, registers_loaded, stop_index, memory_stored, transfers}
 use Rattle.rv_model.specs.accesses.VectorAccess.{VectorAccess, element_start, plan}
 use Rattle.rv_model.specs.memory.Memory.{Memory}
 

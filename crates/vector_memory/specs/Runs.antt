@@ -16,4 +16,5 @@ RunLeaves run end v m = run ≡ runs_to end run.reached v m
 
 -- the run of segments, of at most so many indices
 abbrev pub segments_run : UnitOp → ℕ → Bool → Segments → Body → (ℕ → ℕ) → VState → Memory → AccessRun
-segments_run op limit fill s body address v m = directed_run (unit_direction op) limit fill (operation_access op s body address) v m
+segments_run op limit fill s body address v m =
+    directed_run (unit_direction op) limit fill (operation_access op s body address) v m

@@ -55,34 +55,34 @@ fn grouped_segments(nf: Field<3>, size: usize, emul: u32, register: VReg) -> Seg
     }
 }
 
-/// The fields of the segments of a load or store: the width of each, one less than how many a segment has, and the
-/// register where the first begins.
+/// Segments as an instruction names them: the width of a field, one less than how many a segment has, and the register
+/// where the first begins.
 #[derive(Clone, Copy)]
-struct Fields {
+struct NamedSegments {
     width: Eew,
     nf: Field<3>,
     vd: VReg,
 }
 
-/// A transfer of segments of these fields, as many as the vector length says, if there is a vector type.
+/// A transfer of these segments, as many as the vector length says, if there is a vector type.
 #[inline(always)]
 fn grouped_transfer(
     op: UnitOp,
-    fields: Fields,
+    named: NamedSegments,
     addresses: Strided,
     unmasked: bool,
     state: &VState,
 ) -> Option<Transfer>
     ensures value { result
-        ≡ grouped op fields.width fields.nf fields.vd addresses unmasked state.now state.now.conf.vtype }
+        ≡ grouped op named.width named.nf named.vd addresses unmasked state.now state.now.conf.vtype }
     ensures fields { IfSome result (λ t. t.segments.fields ≤ 8) }
 {
     let vtype = state.conf.vtype()?;
-    let emul = emul_of(fields.width, vtype);
+    let emul = emul_of(named.width, vtype);
     Some(Transfer {
         op,
         unmasked,
-        segments: grouped_segments(fields.nf, element_bytes(fields.width), emul, fields.vd),
+        segments: grouped_segments(named.nf, element_bytes(named.width), emul, named.vd),
         addresses,
         count: usize::from(state.conf.vl()),
     })
@@ -169,8 +169,8 @@ fn transfer_of(access: &AccessInstr, state: &VState, scalar: &Scalar) -> Option<
                 base: scalar.read(rs1),
                 stride: (nf.value() as u64 + 1) * element_bytes(width) as u64,
             };
-            let fields = Fields { width, nf, vd };
-            grouped_transfer(op, fields, addresses, vm, state)
+            let named = NamedSegments { width, nf, vd };
+            grouped_transfer(op, named, addresses, vm, state)
         }
         AccessInstr::Strided {
             direction,
@@ -186,8 +186,8 @@ fn transfer_of(access: &AccessInstr, state: &VState, scalar: &Scalar) -> Option<
                 stride: scalar.read(rs2),
             };
             let op = operation(direction);
-            let fields = Fields { width, nf, vd };
-            grouped_transfer(op, fields, addresses, vm, state)
+            let named = NamedSegments { width, nf, vd };
+            grouped_transfer(op, named, addresses, vm, state)
         }
         AccessInstr::Indexed { .. } => None,
         _ => register_transfer(access, state, scalar),

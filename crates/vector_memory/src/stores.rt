@@ -8,7 +8,7 @@ use crate::addresses::Addresses;
 use crate::ends::end_without_fault;
 use crate::moves::Moves;
 use crate::user_bytes::UserBytes;
-use rv_model::{Access, Fault, MemEnd, VFile};
+use rv_model::{Fault, MemEnd, VFile};
 
 impl<A: Addresses> Moves<'_, A> {
     /// Stores the segment of one index, if it is active and wholly allowed.
