@@ -57,8 +57,13 @@ def inlined(crates):
     found = {}
     for file in glob.glob(f"{crates}/*/src/**/*.rt", recursive=True):
         crate, lines = os.path.relpath(file, crates).split("/")[0], open(file, encoding="utf-8").read().split("\n")
-        module = os.path.relpath(file, f"{crates}/{crate}/src")[:-3].replace("/", "::")
+        own = os.path.relpath(file, f"{crates}/{crate}/src")[:-3].replace("/", "::")
+        # A method is named by its type's module, which may be another file's.
+        homes = {it[2]: it[1] for it in (re.match(r"use crate::([\w:]+)::(\w+);", line) for line in lines) if it}
+        module = own
         for at, line in enumerate(lines):
+            block = re.match(r"impl(?:<[^>]*>)? (\w+)(?:<[^>]*>)? \{", line)
+            module = homes.get(block[1], own) if block else own if line == "}" else module
             kind = re.fullmatch(r"\s*#\[inline\((always|never)\)\]", line)
             names = (re.match(r"\s*(?:pub(?:\(\w+\))? )?fn (\w+)", it) for it in lines[at + 1 : at + 6])
             name = next((it for it in names if it), None)
