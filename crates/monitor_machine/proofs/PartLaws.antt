@@ -16,8 +16,10 @@ use Rattle.lazy_context.specs.declared.unit.Unit.{Unit}
 use Rattle.lazy_context.specs.LazyUnit.{IsSettled, record_of, state_of}
 use Rattle.user_mem.specs.Users.{no_memories, memory_of_user, with_memory}
 use Rattle.monitor_machine.specs.declared.context.Context.{Context}
+use Rattle.monitor_machine.specs.declared.parts.Parts.{Parts}
 use Rattle.monitor_machine.specs.Lenders.{later_memory}
-use Rattle.monitor_machine.specs.Parts.{Addresses, trace_of, with_trace, new_context, present, private_of, parts_of, states_of, world_of, IsWhole, UnitMoves}
+use Rattle.monitor_machine.specs.PartMoves.{PartsMove, machine_of}
+use Rattle.monitor_machine.specs.Parts.{Addresses, new_context, present, private_of, parts_of, states_of, world_of, IsWhole, UnitMoves}
 
 pub parts_of-set : (cs : List Context) (ts : List Addresses) (vs : List VState) (ms : List Memory) (i : ℕ) (c : Context) (t : Addresses) (v : VState) (m : Memory)
     → length cs ≡ length ts → length ts ≡ length vs → length vs ≡ length ms
@@ -31,16 +33,16 @@ parts_of-set (d ∷ cs) (u ∷ ts) (w ∷ vs) (n ∷ ms) (suc i) c t v m e f g =
     ap (λ (ps : List Private). private_of d u w n ∷ ps)
     (parts_of-set cs ts vs ms i c t v m (omega (arith, e)) (omega (arith, f)) (omega (arith, g)))
 
-pub parts_at : (cs : List Context) (ts : List Addresses) (vs : List VState) (ms : List Memory) (i : ℕ) (c : Context) → i < length cs
+pub parts_at : (cs : List Context) (ts : List Addresses) (vs : List VState) (ms : List Memory) (i : ℕ) (c : Context) (e : Addresses) → i < length cs
     → length cs ≡ length ts → length ts ≡ length vs → length vs ≡ length ms
-    → get_or (parts_of cs ts vs ms) i None ≡ private_of (get_or cs i c) (get_or ts i []) (get_or vs i initial_vector) (get_or ms i empty)
-parts_at [] ts vs ms i c lt e f g = absurd (omega (arith, lt))
-parts_at (d ∷ cs) [] vs ms i c lt e f g = absurd (omega (arith, e))
-parts_at (d ∷ cs) (u ∷ ts) [] ms i c lt e f g = absurd (omega (arith, f))
-parts_at (d ∷ cs) (u ∷ ts) (w ∷ vs) [] i c lt e f g = absurd (omega (arith, g))
-parts_at (d ∷ cs) (u ∷ ts) (w ∷ vs) (n ∷ ms) zero c lt e f g = refl
-parts_at (d ∷ cs) (u ∷ ts) (w ∷ vs) (n ∷ ms) (suc i) c lt e f g =
-    parts_at cs ts vs ms i c (omega (arith, lt)) (omega (arith, e)) (omega (arith, f)) (omega (arith, g))
+    → get_or (parts_of cs ts vs ms) i None ≡ private_of (get_or cs i c) (get_or ts i e) (get_or vs i initial_vector) (get_or ms i empty)
+parts_at [] ts vs ms i c x lt e f g = absurd (omega (arith, lt))
+parts_at (d ∷ cs) [] vs ms i c x lt e f g = absurd (omega (arith, e))
+parts_at (d ∷ cs) (u ∷ ts) [] ms i c x lt e f g = absurd (omega (arith, f))
+parts_at (d ∷ cs) (u ∷ ts) (w ∷ vs) [] i c x lt e f g = absurd (omega (arith, g))
+parts_at (d ∷ cs) (u ∷ ts) (w ∷ vs) (n ∷ ms) zero c x lt e f g = refl
+parts_at (d ∷ cs) (u ∷ ts) (w ∷ vs) (n ∷ ms) (suc i) c x lt e f g =
+    parts_at cs ts vs ms i c x (omega (arith, lt)) (omega (arith, e)) (omega (arith, f)) (omega (arith, g))
 
 pub part_count : (cs : List Context) (ts : List Addresses) (vs : List VState) (ms : List Memory)
     → length cs ≡ length ts → length ts ≡ length vs → length vs ≡ length ms → length (parts_of cs ts vs ms) ≡ length cs
@@ -108,19 +110,24 @@ unit_counted_so user old new one h = unit_counts user old new one (record_of new
 
 -- ---- the parts of a world
 
--- a user's trace that was put there is there
-pub trace_there : (ts : List Addresses) (u : ℕ) (t : Addresses) → u - 1 < length ts → trace_of (with_trace ts u t) u ≡ t
-trace_there ts u t within = get_or-set_same ts (u - 1) t [] within
-
 -- a user's part, by the user's place i
-pub part_is : (cs : List Context) (ts : List Addresses) (unit : Unit) (ms : List Memory) (cursor u i : ℕ) (d : Context) → i ≡ u - 1 → i < user_count → 1 ≤ u
+part_is : (cs : List Context) (ts : List Addresses) (unit : Unit) (ms : List Memory) (cursor u i : ℕ) (d : Context) (e : Addresses) → i ≡ u - 1 → i < user_count → 1 ≤ u
     → IsWhole cs ts unit ms
-    → user_machine u (world_of cs ts unit ms cursor) ≡ private_of (get_or cs i d) (trace_of ts u) (state_of unit u) (memory_of_user ms u)
-part_is cs ts unit ms cursor u i d at low user whole =
-    parts_at cs ts (states_of unit) ms (u - 1) d (omega (arith, whole.contexts, at, low)) (whole.contexts ∙ sym whole.traces)
+    → user_machine u (world_of cs ts unit ms cursor) ≡ private_of (get_or cs i d) (get_or ts i e) (state_of unit u) (memory_of_user ms u)
+part_is cs ts unit ms cursor u i d e at low user whole =
+    parts_at cs ts (states_of unit) ms (u - 1) d e (omega (arith, whole.contexts, at, low)) (whole.contexts ∙ sym whole.traces)
     (whole.traces ∙ sym (eight_states unit)) (eight_states unit ∙ sym whole.memories)
-    ∙ ap (λ (v : VState). private_of (get_or cs (u - 1) d) (trace_of ts u) v (memory_of_user ms u)) (state_at unit u user (omega (arith, at, low)))
-    ∙ ap (λ (j : ℕ). private_of (get_or cs j d) (trace_of ts u) (state_of unit u) (memory_of_user ms u)) (sym at)
+    ∙ ap (λ (v : VState). private_of (get_or cs (u - 1) d) (get_or ts (u - 1) e) v (memory_of_user ms u)) (state_at unit u user (omega (arith, at, low)))
+    ∙ ap (λ (j : ℕ). private_of (get_or cs j d) (get_or ts j e) (state_of unit u) (memory_of_user ms u)) (sym at)
+
+-- the same in a world that has these parts, by what stands at the user's place
+pub machine_in : (cs : List Context) (ts : List Addresses) (unit : Unit) (ms : List Memory) (cursor u i : ℕ) (d : Context) (t : Addresses) (w : World) → i ≡ u - 1 → i < user_count → 1 ≤ u
+    → IsWhole cs ts unit ms → t ≡ get_or ts i t → world_of cs ts unit ms cursor ≡ w
+    → private_of (get_or cs i d) t (state_of unit u) (memory_of_user ms u) ≡ user_machine u w
+machine_in cs ts unit ms cursor u i d t w at low user whole trace world =
+    ap (λ (l : Addresses). private_of (get_or cs i d) l (state_of unit u) (memory_of_user ms u)) trace
+    ∙ sym (part_is cs ts unit ms cursor u i d t at low user whole)
+    ∙ ap (user_machine u) world
 
 -- how many parts there are
 pub eight_parts : (cs : List Context) (ts : List Addresses) (unit : Unit) (ms : List Memory) → IsWhole cs ts unit ms
@@ -129,32 +136,42 @@ eight_parts cs ts unit ms whole =
     part_count cs ts (states_of unit) ms (whole.contexts ∙ sym whole.traces) (whole.traces ∙ sym (eight_states unit)) (eight_states unit ∙ sym whole.memories)
     ∙ whole.contexts
 
--- the world after a change of one user's context, trace, vector state and memory
-pub world_with : (cs : List Context) (ts ts' : List Addresses) (unit unit' : Unit) (ms ms' : List Memory) (cursor u i : ℕ) (d c' : Context) (f : Private → Private) (g : Private → VectorUnit → VectorUnit)
-    → i ≡ u - 1 → i < user_count → 1 ≤ u → IsWhole cs ts unit ms
-    → private_of c' (trace_of ts' u) (state_of unit' u) (memory_of_user ms' u)
-    ≡ f (private_of (get_or cs i d) (trace_of ts u) (state_of unit u) (memory_of_user ms u))
-    → ts' ≡ with_trace ts u (trace_of ts' u)
-    → UnitMoves u unit unit' (g (private_of (get_or cs i d) (trace_of ts u) (state_of unit u) (memory_of_user ms u)) (record_of unit)) → ms' ≡ with_memory ms u (memory_of_user ms' u)
-    → world_of (set cs i c') ts' unit' ms' cursor
-    ≡ with_unit (g (user_machine u (world_of cs ts unit ms cursor)) (record_of unit)) (with_user_machine u (f (user_machine u (world_of cs ts unit ms cursor))) (world_of cs ts unit ms cursor))
-world_with cs ts ts' unit unit' ms ms' cursor u i d c' f g at low user whole next traces moves others =
-    let t' = trace_of ts' u in
-    let v' = state_of unit' u in
-    let m' = memory_of_user ms' u in
-    let world : World = world_of cs ts unit ms cursor in
-    let before : Private = private_of (get_or cs i d) (trace_of ts u) (state_of unit u) (memory_of_user ms u) in
-    let same : user_machine u world ≡ before = part_is cs ts unit ms cursor u i d at low user whole in
-    let done : private_of c' t' v' m' ≡ f (user_machine u world) = next ∙ ap f (sym same) in
-    let moved : parts_of (set cs (u - 1) c') ts' (states_of unit') ms' ≡ set (parts_of cs ts (states_of unit) ms) (u - 1) (private_of c' t' v' m') =
-    ap (parts_of (set cs (u - 1) c') ts' (states_of unit')) others
-    ∙ ap (λ (l : List Addresses). parts_of (set cs (u - 1) c') l (states_of unit') (with_memory ms u m')) traces
-    ∙ ap (λ (l : List VState). parts_of (set cs (u - 1) c') (with_trace ts u t') l (with_memory ms u m')) (states_moved u unit unit' (g before (record_of unit)) user (omega (arith, at, low)) moves)
-    ∙ parts_of-set cs ts (states_of unit) ms (u - 1) c' t' v' m' (whole.contexts ∙ sym whole.traces) (whole.traces ∙ sym (eight_states unit)) (eight_states unit ∙ sym whole.memories) in
-    ap (λ (j : ℕ). world_of (set cs j c') ts' unit' ms' cursor) at
-    ∙ ap (λ (ps : List Private). let r : World = record { parts = ps; cursor = cursor; unit = record_of unit' } in r) moved
-    ∙ ap (λ (p : Private). with_unit (record_of unit') (with_user_machine u p world)) done
-    ∙ ap (λ (r : VectorUnit). with_unit r (with_user_machine u (f (user_machine u world)) world)) (moves.counts ∙ ap (λ (p : Private). g p (record_of unit)) (sym same))
+-- the world after a change of one user's parts and trace, by the user's place i
+pub world_with : {A : Type 0} (old new : Parts A) (count : VectorUnit) → PartsMove old new count
+    → (cs : List Context) (ts : List Addresses) (t t' : Addresses) (cursor i : ℕ) (d : Context) (f : Private → Private) (g : Private → VectorUnit → VectorUnit)
+    → i ≡ old.user - 1 → i < user_count → 1 ≤ old.user → IsWhole cs ts old.unit.now old.pool.now → old.context.now ≡ get_or cs i d → t ≡ get_or ts i t
+    → machine_of new t' ≡ f (machine_of old t) → count ≡ g (machine_of old t) (record_of old.unit.now)
+    → world_of (set cs i new.context.now) (set ts i t') new.unit.now new.pool.now cursor
+    ≡ with_unit (g (user_machine old.user (world_of cs ts old.unit.now old.pool.now cursor)) (record_of old.unit.now)) (with_user_machine old.user (f (user_machine old.user (world_of cs ts old.unit.now old.pool.now cursor))) (world_of cs ts old.unit.now old.pool.now cursor))
+world_with old new count moves cs ts t t' cursor i d f g at low user whole context trace next counted =
+    let u : ℕ = old.user in
+    let unit = old.unit.now in
+    let c' = new.context.now in
+    let v' = state_of new.unit.now u in
+    let m' = memory_of_user new.pool.now u in
+    let world : World = world_of cs ts unit old.pool.now cursor in
+    let same : user_machine u world ≡ machine_of old t =
+    sym (ap (λ (c : Context). private_of c t (state_of unit u) (memory_of_user old.pool.now u)) context ∙ machine_in cs ts unit old.pool.now cursor u i d t world at low user whole trace refl) in
+    let done : private_of c' t' v' m' ≡ f (user_machine u world) =
+    ap (λ (n : ℕ). private_of c' t' (state_of new.unit.now n) (memory_of_user new.pool.now n)) (sym moves.user) ∙ next ∙ ap f (sym same) in
+    let moved : parts_of (set cs (u - 1) c') (set ts (u - 1) t') (states_of new.unit.now) new.pool.now ≡ set (parts_of cs ts (states_of unit) old.pool.now) (u - 1) (private_of c' t' v' m') =
+    ap (parts_of (set cs (u - 1) c') (set ts (u - 1) t') (states_of new.unit.now)) moves.others
+    ∙ ap (λ (l : List VState). parts_of (set cs (u - 1) c') (set ts (u - 1) t') l (with_memory old.pool.now u m')) (states_moved u unit new.unit.now count user (omega (arith, at, low)) moves.unit)
+    ∙ parts_of-set cs ts (states_of unit) old.pool.now (u - 1) c' t' v' m' (whole.contexts ∙ sym whole.traces) (whole.traces ∙ sym (eight_states unit)) (eight_states unit ∙ sym whole.memories) in
+    ap (λ (j : ℕ). world_of (set cs j c') (set ts j t') new.unit.now new.pool.now cursor) at
+    ∙ ap (λ (ps : List Private). let r : World = record { parts = ps; cursor = cursor; unit = record_of new.unit.now } in r) moved
+    ∙ ap (λ (p : Private). with_unit (record_of new.unit.now) (with_user_machine u p world)) done
+    ∙ ap (λ (r : VectorUnit). with_unit r (with_user_machine u (f (user_machine u world)) world)) (moves.unit.counts ∙ counted ∙ ap (λ (p : Private). g p (record_of unit)) (sym same))
+
+-- there is one of each for each user then
+pub whole_with : {A : Type 0} (old new : Parts A) (count : VectorUnit) → PartsMove old new count → (cs : List Context) (ts : List Addresses) (t' : Addresses) (i : ℕ)
+    → IsWhole cs ts old.unit.now old.pool.now → IsWhole (set cs i new.context.now) (set ts i t') new.unit.now new.pool.now
+whole_with old new count moves cs ts t' i whole = record {
+  contexts = length-set cs i new.context.now ∙ whole.contexts;
+  traces = length-set ts i t' ∙ whole.traces;
+  memories = ap length moves.others ∙ length-set old.pool.now (old.user - 1) (memory_of_user new.pool.now old.user) ∙ whole.memories;
+  settled = moves.unit.settled;
+}
 
 -- one user's memory was changed twice, so it was changed
 pub changed_twice : (u : ℕ) (p q r : List Memory) → q ≡ with_memory p u (memory_of_user q u) → r ≡ with_memory q u (memory_of_user r u) → r ≡ with_memory p u (memory_of_user r u)

@@ -1,5 +1,5 @@
 -- What the fields of a machine stand for.
-use Rattle.std.specs.Prelude.{ℕ, ◌-◌, ◌≡◌, ◌&&◌, Bool, length, map, slice_index_or, slice_set, List, [], ◌∷◌, true, false, if◌then◌else◌, Some, None}
+use Rattle.std.specs.Prelude.{ℕ, ◌≡◌, ◌&&◌, Bool, length, map, List, [], ◌∷◌, true, false, if◌then◌else◌, Some, None}
 use Rattle.rv_model.specs.declared.vector.policy.Policy.TheVariants.{Keep}
 use Rattle.rv_model.specs.declared.vector.state.VState.{VState}
 use Rattle.rv_model.specs.memory.Memory.{Memory}
@@ -44,14 +44,6 @@ try_of left c vector memory = record { left = left; hart = context_state c vecto
 -- the addresses of a trace, the oldest first
 abbrev pub Addresses : Type 0
 Addresses = List ℕ
-
--- a user's trace among those of all users, user 1 first
-abbrev pub trace_of : List Addresses → ℕ → Addresses
-trace_of traces user = slice_index_or traces (user - 1) []
-
--- the traces with another one for a user, and all others as they were
-abbrev pub with_trace : List Addresses → ℕ → Addresses → List Addresses
-with_trace traces user trace = slice_set traces (user - 1) trace
 
 -- a user that has entered
 abbrev pub present : Context → Addresses → VState → Memory → Present

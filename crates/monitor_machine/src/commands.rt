@@ -1,12 +1,11 @@
 //! A user's commands, carried out on what the machine holds of that user.
-ghost use Rattle.std.specs.Prelude.{◌≡◌, ◌+◌, ◌-◌, ◌<◌, length, true, false};
+ghost use Rattle.std.specs.Prelude.{◌≡◌, ◌+◌, true, false};
 ghost use Rattle.lazy_context.specs.LazyUnit.{record_of};
 ghost use Rattle.rv_model.specs.commands.Commands.{carried_out, needs_stopped, of_absent, of_present};
 ghost use Rattle.rv_model.specs.machine.UnitEvents.{unit_after_command, unit_of_absent, unit_of_present};
 ghost use Rattle.rv_model.specs.text.Lines.{text};
 ghost use Rattle.monitor_machine.specs.Images.{named_images};
 ghost use Rattle.monitor_machine.specs.PartMoves.{PartsMove, machine_of, present_of};
-ghost use Rattle.monitor_machine.specs.Parts.{trace_of, with_trace};
 
 use crate::answers::refuse;
 use crate::image::Image;
@@ -17,36 +16,9 @@ use monitor_cmds::Reply;
 use rv_model::{Cmd, EnteringCommand, Refusal, RunningCommand};
 use std::alloc::Allocator;
 
-/// Carries out a command of a user, and answers it in place of what the reply held. `traces` are
-/// those of all users.
-#[tactic(auto, using(crate::proofs::PartLaws::trace_there))]
-pub(crate) fn carry_out<A: Allocator>(
-    images: &[Image<'_>],
-    parts: &mut Parts<'_, '_, '_, A>,
-    traces: &mut [Trace<A>],
-    cmd: &Cmd<'_>,
-    reply: &mut Reply,
-)
-    requires traced { parts.old.user - 1 < length traces.old }
-    ensures next { machine_of parts.new (trace_of traces.new parts.old.user)
-        ≡ (carried_out (named_images images.now) cmd.now
-        (machine_of parts.old (trace_of traces.old parts.old.user))).next }
-    ensures traces { traces.new
-        ≡ with_trace traces.old parts.old.user (trace_of traces.new parts.old.user) }
-    ensures parts { PartsMove parts.old parts.new
-        (unit_after_command (named_images images.now) parts.old.user cmd.now
-        (machine_of parts.old (trace_of traces.old parts.old.user)) (record_of parts.old.unit.now)) }
-    ensures reply { reply.new ≡ text (48 + parts.old.user)
-        (carried_out (named_images images.now) cmd.now
-        (machine_of parts.old (trace_of traces.old parts.old.user))).lines }
-{
-    let trace = &mut traces[parts.user.index()];
-    carry_out_own(images, parts, trace, cmd, reply);
-}
-
-/// The same, with the user's own trace.
+/// Carries out a command of a user, and answers it in place of what the reply held.
 #[tactic(auto, unfolding(rv_model::specs::commands::Commands::carried_out), using(crate::proofs::PartLaws::entered_as, crate::proofs::PartLaws::absent_as, crate::proofs::PartLaws::unit_stays, crate::specs::Lenders::same_memory))]
-fn carry_out_own<A: Allocator>(
+pub(crate) fn carry_out<A: Allocator>(
     images: &[Image<'_>],
     parts: &mut Parts<'_, '_, '_, A>,
     trace: &mut Trace<A>,

@@ -1,5 +1,5 @@
 //! A slice of one user.
-ghost use Rattle.std.specs.Prelude.{◌≡◌, ◌+◌, ◌-◌, ◌<◌, ◌≤◌, ◌++◌, true, length};
+ghost use Rattle.std.specs.Prelude.{◌≡◌, ◌+◌, ◌≤◌, ◌++◌, true, length};
 ghost use Rattle.lazy_context.specs.LazyUnit.{record_of};
 ghost use Rattle.rv_model.specs.machine.Cuts.{IsConfigured, tried_in};
 ghost use Rattle.rv_model.specs.machine.Grants.{runs};
@@ -7,7 +7,6 @@ ghost use Rattle.rv_model.specs.machine.PrivateMachine.{sliced};
 ghost use Rattle.rv_model.specs.machine.UnitEvents.{unit_after_tries};
 ghost use Rattle.rv_model.specs.text.Lines.{text};
 ghost use Rattle.monitor_machine.specs.PartMoves.{PartsMove, machine_of};
-ghost use Rattle.monitor_machine.specs.Parts.{trace_of, with_trace};
 ghost use Rattle.monitor_machine.specs.StopRoom.{stop_room};
 
 use crate::parts::Parts;
@@ -42,41 +41,9 @@ fn run_slice<A: Allocator>(
 }
 
 /// Grants a slice of `quantum` ticks to a user, if the user's program runs, and adds to the reply
-/// why it stopped, if it did. Answers whether the program ran. `traces` are those of all users.
-#[tactic(auto, using(crate::proofs::PartLaws::trace_there))]
+/// why it stopped, if it did. Answers whether the program ran.
+#[tactic(auto, unfolding(rv_model::specs::machine::PrivateMachine::sliced, rv_model::specs::machine::Cuts::tried_in, rv_model::specs::machine::UnitEvents::unit_after_tries), using(crate::specs::Lenders::same_memory, crate::proofs::PartLaws::unit_stays, crate::proofs::CutLaws::configured_as))]
 pub(crate) fn grant<A: Allocator>(
-    parts: &mut Parts<'_, '_, '_, A>,
-    traces: &mut [Trace<A>],
-    quantum: usize,
-    reply: &mut Reply,
-) -> bool
-    requires traced { parts.old.user - 1 < length traces.old }
-    requires room { length reply.old
-        + stop_room (machine_of parts.old (trace_of traces.old parts.old.user)) ≤ 4096 }
-    ensures next { machine_of parts.new (trace_of traces.new parts.old.user)
-        ≡ (sliced quantum (machine_of parts.old (trace_of traces.old parts.old.user))).next }
-    ensures traces { traces.new
-        ≡ with_trace traces.old parts.old.user (trace_of traces.new parts.old.user) }
-    ensures parts { PartsMove parts.old parts.new (unit_after_tries parts.old.user
-        (tried_in quantum (machine_of parts.old (trace_of traces.old parts.old.user)))
-        (record_of parts.old.unit.now)) }
-    ensures reply { reply.new ≡ reply.old ++ text (48 + parts.old.user)
-        (sliced quantum (machine_of parts.old (trace_of traces.old parts.old.user))).lines }
-    ensures ran { result ≡ runs (machine_of parts.old (trace_of traces.old parts.old.user)) }
-    ensures bound { length reply.new
-        + stop_room (machine_of parts.new (trace_of traces.new parts.old.user))
-        ≤ length reply.old
-        + stop_room (machine_of parts.old (trace_of traces.old parts.old.user)) }
-    ensures configured { IsConfigured (machine_of parts.old (trace_of traces.old parts.old.user)) }
-{
-    parts.unit.length_law(parts.user);
-    let trace = &mut traces[parts.user.index()];
-    grant_own(parts, trace, quantum, reply)
-}
-
-/// The same, with the user's own trace.
-#[tactic(auto, unfolding(rv_model::specs::machine::PrivateMachine::sliced, rv_model::specs::machine::Cuts::tried_in, rv_model::specs::machine::UnitEvents::unit_after_tries), using(crate::specs::Lenders::same_memory, crate::proofs::PartLaws::unit_stays))]
-fn grant_own<A: Allocator>(
     parts: &mut Parts<'_, '_, '_, A>,
     trace: &mut Trace<A>,
     quantum: usize,
@@ -91,7 +58,9 @@ fn grant_own<A: Allocator>(
     ensures ran { result ≡ runs (machine_of parts.old trace.old) }
     ensures bound { length reply.new + stop_room (machine_of parts.new trace.new)
         ≤ length reply.old + stop_room (machine_of parts.old trace.old) }
+    ensures configured { IsConfigured (machine_of parts.old trace.old) }
 {
+    parts.unit.length_law(parts.user);
     if !parts.context.is_running() {
         return false;
     }

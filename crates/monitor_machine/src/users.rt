@@ -141,13 +141,14 @@ impl<A: Allocator> Users<A> {
             Ok(cmd) => {
                 // The user's number is 1 or more: `number` says so.
                 user.number();
+                let index = user.index();
                 let mut parts = Parts {
-                    context: &mut self.contexts[user.index()],
+                    context: &mut self.contexts[index],
                     unit: &mut self.unit,
                     pool: &mut self.pool,
                     user,
                 };
-                carry_out(images, &mut parts, self.traces.as_mut_slice(), &cmd, reply);
+                carry_out(images, &mut parts, &mut self.traces[index], &cmd, reply);
             }
             Err(refusal) => refuse(reply, user, refusal),
         }
@@ -167,13 +168,14 @@ impl<A: Allocator> Users<A> {
     {
         // The user's number is 1 or more: `number` says so.
         user.number();
+        let index = user.index();
         let mut parts = Parts {
-            context: &mut self.contexts[user.index()],
+            context: &mut self.contexts[index],
             unit: &mut self.unit,
             pool: &mut self.pool,
             user,
         };
-        grant(&mut parts, self.traces.as_mut_slice(), quantum, reply)
+        grant(&mut parts, &mut self.traces[index], quantum, reply)
     }
 
     /// The first user whose program runs, in the order of the users from the one on whose turn
