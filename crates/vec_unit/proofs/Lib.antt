@@ -1,4 +1,5 @@
 mod AccessSteps
 mod CopiedOperands
 mod Turns
+mod TypedSteps
 mod WrittenGroups

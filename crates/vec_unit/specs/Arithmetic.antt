@@ -1,7 +1,7 @@
 -- Operations by what carries them out ("V" Vector Extension 1.0, chapter 11).
 use Rattle.std.specs.Prelude.{Bool, true, false}
 use Rattle.rv_model.specs.declared.instructions.vector.VectorInstr.{VectorInstr}
-use Rattle.rv_model.specs.declared.instructions.vector.VectorInstr.TheVariants.{Arith}
+use Rattle.rv_model.specs.declared.instructions.vector.VectorInstr.TheVariants.{Arith, Extend, SetIvli, SetVl, SetVli}
 use Rattle.rv_model.specs.declared.instructions.operations.VectorOp.{VectorOp}
 use Rattle.rv_model.specs.declared.instructions.operations.VectorOp.TheVariants.{Binary}
 
@@ -9,6 +9,15 @@ use Rattle.rv_model.specs.declared.instructions.operations.VectorOp.TheVariants.
 abbrev pub is_irregular : VectorInstr → Bool
 is_irregular (Arith arith vd vs2 vm) = false
 is_irregular _ = true
+
+-- one of these that takes the vector type with the others: all but extensions and those that set it
+abbrev pub is_typed : VectorInstr → Bool
+is_typed (SetVli rd rs1 vtype) = false
+is_typed (SetIvli rd avl vtype) = false
+is_typed (SetVl rd rs1 rs2) = false
+is_typed (Extend op vd vs2 vm) = false
+is_typed (Arith arith vd vs2 vm) = false
+is_typed _ = true
 
 -- an operation of one width on two operands
 abbrev pub is_binary : VectorOp → Bool

@@ -15,17 +15,15 @@ use crate::destination::Target;
 use crate::element_wise::carry_out;
 use crate::extend::{ExtendOperation, carry_out_extension};
 use crate::fixed_point::carry_out_fixed_point;
-use crate::mask_operand::CarryOperation;
 use crate::mask_wise::carry_out_mask;
-use crate::moves::Move;
 use crate::multiply_add::MultiplyAddOperation;
 use crate::narrow_shift::NarrowShiftOperation;
 use crate::permute::carry_out_permutation;
 use crate::reduce::{carry_out_reduction, carry_out_widening_reduction};
 use crate::two_widths::{carry_out_narrowing, carry_out_widening};
 use crate::widen::{WideSourceOperation, WidenMultiplyAddOperation, WidenOperation};
-use rv_model::instructions::operations::{ExtendOp, VectorOp};
-use rv_model::{Arith, Carry, Instr, Policy, Scalar, Source, VEnd, VReg, VState, VectorInstr};
+use rv_model::instructions::operations::VectorOp;
+use rv_model::{Arith, Instr, Policy, Scalar, Source, VEnd, VReg, VState, VectorInstr};
 
 /// Carries out a legal operation with a line of its own in the manual's table that isn't one of one width on two
 /// operands.
@@ -44,8 +42,8 @@ fn perform_rest(
     requires rest { IsTrue (not (is_binary op)) }
     requires length { state.old.conf.vl ≤ vlmax target.vtype }
     ensures model { (memory : Memory) (output : List ℕ)
-        → arith_step target.vtype (group_type target.vtype) (wide_type target.vtype) op source target.vd vs2 target.unmasked
-        (hart_state scalar.now state.old memory target.policy output)
+        → arith_step target.vtype (group_type target.vtype) (wide_type target.vtype) op source target.vd vs2
+        target.unmasked (hart_state scalar.now state.old memory target.policy output)
         ≡ vector_ends VEnd.Done (hart_state scalar.now state.new memory target.policy output) }
 {
     match op {
@@ -101,8 +99,8 @@ fn perform_operation(
         (Some target.vtype) state.old.vstart) }
     requires length { state.old.conf.vl ≤ vlmax target.vtype }
     ensures model { (memory : Memory) (output : List ℕ)
-        → arith_step target.vtype (group_type target.vtype) (wide_type target.vtype) op source target.vd vs2 target.unmasked
-        (hart_state scalar.now state.old memory target.policy output)
+        → arith_step target.vtype (group_type target.vtype) (wide_type target.vtype) op source target.vd vs2
+        target.unmasked (hart_state scalar.now state.old memory target.policy output)
         ≡ vector_ends VEnd.Done (hart_state scalar.now state.new memory target.policy output) }
 {
     match op {
@@ -141,93 +139,25 @@ pub(crate) fn perform_arith(
         return VEnd::Illegal;
     };
     let (op, source) = arith.parts();
-    let target = Target {
-        vd,
-        unmasked,
-        vtype,
-        policy,
-    };
+    let target = Target::new(vd, unmasked, vtype, policy);
     perform_operation(op, vs2, source, target, state, scalar);
-    VEnd::Done
-}
-
-/// Carries out a legal operation with v0 as an operand.
-#[tactic(auto, using(rv_model::proofs::legality_lemmas::Bounds::carry_inside))]
-pub(crate) fn perform_carry(
-    carry: Carry,
-    vd: VReg,
-    vs2: VReg,
-    state: &mut VState,
-    scalar: &Scalar,
-    policy: Policy,
-) -> VEnd
-    requires legal { IsTrue (is_legal (Instr.Vector (VectorInstr.Carry carry vd vs2))
-        state.old.conf.vtype state.old.vstart) }
-    ensures model { (memory : Memory) (output : List ℕ)
-        → typed state.old.conf.vtype (typed_step (VectorInstr.Carry carry vd vs2))
-        (hart_state scalar.now state.old memory policy output)
-        ≡ vector_ends result (hart_state scalar.now state.new memory policy output) }
-    ensures illegal { result ≡ VEnd.Illegal → state.new ≡ state.old }
-{
-    let Some(vtype) = state.conf.vtype() else {
-        return VEnd::Illegal;
-    };
-    let (op, source) = carry.parts();
-    let target = Target {
-        vd,
-        unmasked: true,
-        vtype,
-        policy,
-    };
-    carry_out(&CarryOperation { op, vs2, source }, target, state, scalar);
-    VEnd::Done
-}
-
-/// Carries out a legal move to a group.
-#[tactic(auto, using(rv_model::proofs::legality_lemmas::Bounds::move_inside))]
-pub(crate) fn perform_move(
-    source: Source,
-    vd: VReg,
-    state: &mut VState,
-    scalar: &Scalar,
-    policy: Policy,
-) -> VEnd
-    requires legal { IsTrue (is_legal (Instr.Vector (VectorInstr.Move source vd))
-        state.old.conf.vtype state.old.vstart) }
-    ensures model { (memory : Memory) (output : List ℕ)
-        → typed state.old.conf.vtype (typed_step (VectorInstr.Move source vd))
-        (hart_state scalar.now state.old memory policy output)
-        ≡ vector_ends result (hart_state scalar.now state.new memory policy output) }
-    ensures illegal { result ≡ VEnd.Illegal → state.new ≡ state.old }
-{
-    let Some(vtype) = state.conf.vtype() else {
-        return VEnd::Illegal;
-    };
-    let target = Target {
-        vd,
-        unmasked: true,
-        vtype,
-        policy,
-    };
-    carry_out(&Move { source }, target, state, scalar);
     VEnd::Done
 }
 
 /// Carries out a legal extension.
 #[tactic(auto, using(rv_model::proofs::legality_lemmas::Bounds::extension_inside))]
 pub(crate) fn perform_extension(
-    op: ExtendOp,
+    operation: ExtendOperation,
     vd: VReg,
-    vs2: VReg,
     unmasked: bool,
     state: &mut VState,
     scalar: &Scalar,
     policy: Policy,
 ) -> VEnd
-    requires legal { IsTrue (is_legal (Instr.Vector (VectorInstr.Extend op vd vs2 unmasked))
+    requires legal { IsTrue (is_legal (Instr.Vector (VectorInstr.Extend operation.op vd operation.vs2 unmasked))
         state.old.conf.vtype state.old.vstart) }
     ensures model { (memory : Memory) (output : List ℕ)
-        → typed state.old.conf.vtype (typed_step (VectorInstr.Extend op vd vs2 unmasked))
+        → typed state.old.conf.vtype (typed_step (VectorInstr.Extend operation.op vd operation.vs2 unmasked))
         (hart_state scalar.now state.old memory policy output)
         ≡ vector_ends result (hart_state scalar.now state.new memory policy output) }
     ensures illegal { result ≡ VEnd.Illegal → state.new ≡ state.old }
@@ -235,12 +165,7 @@ pub(crate) fn perform_extension(
     let Some(vtype) = state.conf.vtype() else {
         return VEnd::Illegal;
     };
-    let target = Target {
-        vd,
-        unmasked,
-        vtype,
-        policy,
-    };
-    carry_out_extension(ExtendOperation { op, vs2 }, target, state, scalar);
+    let target = Target::new(vd, unmasked, vtype, policy);
+    carry_out_extension(operation, target, state, scalar);
     VEnd::Done
 }

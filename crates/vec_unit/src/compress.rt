@@ -11,11 +11,11 @@ ghost use Rattle.rv_model.specs.lending.GroupBounds.{HoldsBody, IsInside};
 ghost use Rattle.rv_model.specs.vector.Registers.{register_of};
 
 use crate::body::body_under;
-use crate::destination::{Destination, Target, agnostic_under};
+use crate::destination::{Destination, agnostic_under};
 use lane_arith::{Lane, fill};
 use lane_permute::compress;
 use reg_groups::{group_copy, group_mut, mask_register, register_copy, registers};
-use rv_model::{GROUP_BYTES, Sew, VFile, VLENB, VReg, VState};
+use rv_model::{GROUP_BYTES, Policy, Sew, VFile, VLENB, VReg, VState, VType};
 
 /// Packs elements into the bytes of a destination of `count` elements, and fills its tail. The elements
 /// between the two keep.
@@ -73,33 +73,40 @@ impl CompressOperation {
 /// Carries out a compression of a group of the vector type. The next instruction begins with the first
 /// element.
 #[tactic(auto, using(rv_model::proofs::legality_lemmas::Bounds::groups_hold_body))]
-pub(crate) fn carry_out_compress(vs1: VReg, vs2: VReg, target: Target, state: &mut VState)
-    requires destination { IsInside target.vd (lmul_eighths target.vtype.lmul) }
-    requires source { IsInside vs2 (lmul_eighths target.vtype.lmul) }
-    requires length { state.old.conf.vl ≤ vlmax target.vtype }
+pub(crate) fn carry_out_compress(
+    vs1: VReg,
+    vs2: VReg,
+    vd: VReg,
+    vtype: VType,
+    policy: Policy,
+    state: &mut VState,
+)
+    requires destination { IsInside vd (lmul_eighths vtype.lmul) }
+    requires source { IsInside vs2 (lmul_eighths vtype.lmul) }
+    requires length { state.old.conf.vl ≤ vlmax vtype }
     ensures { state.new ≡ record state.old {
       file =
-          with_packed (group_type target.vtype) target.vd state.old.conf.vl
-          (fills_tail target.policy target.vtype (body_of true state.old))
-          (packed (register_of state.old.file vs1) (group_element (group_type target.vtype) state.old.file vs2)
+          with_packed (group_type vtype) vd state.old.conf.vl
+          (fills_tail policy vtype (body_of true state.old))
+          (packed (register_of state.old.file vs1) (group_element (group_type vtype) state.old.file vs2)
           state.old.conf.vl) state.old.file;
       vstart = 0;
     } }
 {
     let mask = mask_register(&state.file);
     let body = body_under(true, &mask, state);
-    let emul = u32::from(target.vtype.lmul.eighths());
+    let emul = u32::from(vtype.lmul.eighths());
     let length = VLENB * registers(emul) as usize;
-    let agnostic = agnostic_under(target.policy, target.vtype, &body);
+    let agnostic = agnostic_under(policy, vtype, &body);
     let operation = CompressOperation { vs1, vs2 };
     let file = &mut state.file;
     let destination = |count| Destination {
-        vd: target.vd,
+        vd,
         emul,
         count,
         agnostic,
     };
-    match target.vtype.sew {
+    match vtype.sew {
         Sew::E8 => operation.write::<u8>(destination(length), body.end(), file),
         Sew::E16 => operation.write::<u16>(destination(length / 2), body.end(), file),
         Sew::E32 => operation.write::<u32>(destination(length / 4), body.end(), file),

@@ -23,6 +23,18 @@ pub(crate) struct Target {
 }
 
 impl Target {
+    /// What an instruction writes, under a vector type and a policy.
+    pub(crate) fn new(vd: VReg, unmasked: bool, vtype: VType, policy: Policy) -> Target
+        ensures { result ≡ record { vd = vd; unmasked = unmasked; vtype = vtype; policy = policy } }
+    {
+        Target {
+            vd,
+            unmasked,
+            vtype,
+            policy,
+        }
+    }
+
     /// The same, unmasked.
     pub(crate) fn whole_body(self) -> Target
         ensures { result ≡ record self { unmasked = true } }

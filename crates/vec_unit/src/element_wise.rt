@@ -1,6 +1,6 @@
 //! Instructions whose results stand in a group of elements, carried out ("V" Vector Extension 1.0, sections
 //! 5.2 to 5.4 and chapter 11).
-ghost use Rattle.std.specs.Prelude.{◌≡◌, ◌≤◌, List, ℕ};
+ghost use Rattle.std.specs.Prelude.{◌≡◌, ◌≤◌, List, true, ℕ};
 ghost use Rattle.rv_model.specs.declared.scalar.Scalar.{Scalar as ScalarRegisters};
 ghost use Rattle.rv_model.specs.elements.Arithmetic.{body_of, fills_masked_off, fills_tail, with_results};
 ghost use Rattle.rv_model.specs.vector.Configuration.{GroupType, group_type, lmul_eighths, vlmax};
@@ -11,7 +11,7 @@ use crate::body::body_under;
 use crate::destination::{Destination, Target, agnostic_under};
 use lane_arith::{Body, Lane};
 use reg_groups::{mask_register, registers};
-use rv_model::{Scalar, Sew, VFile, VLENB, VState};
+use rv_model::{Policy, Scalar, Sew, VFile, VLENB, VReg, VState, VType};
 
 /// An operation and its operands.
 pub(crate) trait ElementWise {
@@ -79,4 +79,30 @@ pub(crate) fn carry_out<O: ElementWise>(
         Sew::E64 => operation.write::<u64>(destination(length / 8), &body, file, scalar),
     }
     state.vstart = 0;
+}
+
+/// Carries out an unmasked operation on groups of the vector type, out of line. The next instruction begins with the
+/// first element.
+#[inline(never)]
+pub(crate) fn carry_out_unmasked<O: ElementWise>(
+    operation: &O,
+    vd: VReg,
+    vtype: VType,
+    policy: Policy,
+    state: &mut VState,
+    scalar: &Scalar,
+)
+    requires operands { O.inside operation.now (lmul_eighths vtype.lmul) }
+    requires destination { IsInside vd (lmul_eighths vtype.lmul) }
+    requires length { state.old.conf.vl ≤ vlmax vtype }
+    ensures { state.new ≡ record state.old {
+      file =
+          with_results (group_type vtype) vd (body_of true state.old)
+          (fills_masked_off policy vtype (body_of true state.old)) (fills_tail policy vtype (body_of true state.old))
+          (O.number operation.now (group_type vtype) state.old.file scalar.now) state.old.file;
+      vstart = 0;
+    } }
+{
+    let target = Target::new(vd, true, vtype, policy);
+    carry_out(operation, target, state, scalar);
 }

@@ -7,21 +7,17 @@ ghost use Rattle.rv_model.specs.step.VectorStep.{is_vector, operation_step, vect
 ghost use Rattle.rv_model.specs.legality.Legality.{is_legal};
 ghost use Rattle.vec_unit.specs.Arithmetic.{is_irregular};
 
-use crate::arithmetic::{perform_arith, perform_carry, perform_extension, perform_move};
-use crate::mask_instructions::{
-    perform_element_index, perform_mask_logic, perform_mask_to_scalar, perform_mask_unary,
-};
+use crate::arithmetic::{perform_arith, perform_extension};
+use crate::extend::ExtendOperation;
+use crate::irregular_operations::perform_typed;
 use crate::memory_instructions::exec_other_access;
-use crate::permutation_instructions::{
-    perform_compress, perform_move_to_scalar, perform_move_to_vector, perform_whole_move,
-};
 use crate::vset::{configure, requested_length};
 use reg_groups::{legal, legal_arith};
 use rv_model::{Arith, Instr, Policy, RequestedLength, Scalar, VEnd, VReg, VState, VectorInstr};
 use vector_memory::UserBytes;
 
 /// Carries out a legal vector operation that has no line of its own in the manual's table.
-#[tactic(auto, unfolding(rv_model::specs::step::VectorStep::operation_step))]
+#[tactic(auto, unfolding(rv_model::specs::step::VectorStep::operation_step), using(crate::proofs::TypedSteps::step_is_typed))]
 #[inline(always)]
 fn perform_irregular(
     operation: &VectorInstr,
@@ -50,30 +46,16 @@ fn perform_irregular(
             let length = requested_length(rd, rs1, scalar);
             configure(rd, scalar.read(rs2), length, state, scalar)
         }
-        VectorInstr::Carry { carry, vd, vs2 } => {
-            perform_carry(carry, vd, vs2, state, scalar, policy)
-        }
         VectorInstr::Extend { op, vd, vs2, vm } => {
-            perform_extension(op, vd, vs2, vm, state, scalar, policy)
+            perform_extension(ExtendOperation { op, vs2 }, vd, vm, state, scalar, policy)
         }
-        VectorInstr::Move { source, vd } => perform_move(source, vd, state, scalar, policy),
-        VectorInstr::MaskLogic { op, vd, vs1, vs2 } => perform_mask_logic(op, vd, vs1, vs2, state),
-        VectorInstr::MaskToScalar { op, rd, vs2, vm } => {
-            perform_mask_to_scalar(op, rd, vs2, vm, state, scalar)
+        _ => {
+            let Some(vtype) = state.conf.vtype() else {
+                return VEnd::Illegal;
+            };
+            perform_typed(operation, vtype, policy, state, scalar);
+            VEnd::Done
         }
-        VectorInstr::MaskUnary { op, vd, vs2, vm } => {
-            perform_mask_unary(op, vd, vs2, vm, state, scalar, policy)
-        }
-        VectorInstr::ElementIndex { vd, vm } => perform_element_index(
-            vd, vm, state, scalar, policy,
-        ),
-        VectorInstr::Compress { vd, vs1, vs2 } => perform_compress(vd, vs1, vs2, state, policy),
-        VectorInstr::MoveToScalar { rd, vs2 } => perform_move_to_scalar(rd, vs2, state, scalar),
-        VectorInstr::MoveToVector { vd, rs1 } => perform_move_to_vector(
-            vd, rs1, state, scalar, policy,
-        ),
-        VectorInstr::WholeMove { count, vd, vs2 } => perform_whole_move(count, vd, vs2, state),
-        VectorInstr::Arith { .. } => unreachable!(),
     }
 }
 
@@ -107,8 +89,8 @@ pub fn exec_arith(
     perform_arith(arith, vd, vs2, unmasked, state, scalar, policy)
 }
 
-/// Carries out a vector operation of a user that has no line of its own in the manual's table: the same as `exec` of the
-/// instruction.
+/// Carries out a vector operation of a user that has no line of its own in the manual's table: the same as `exec` of
+/// the instruction.
 #[tactic(auto, unfolding(rv_model::specs::step::VectorStep::vector_executed, rv_model::specs::step::VectorStep::performed))]
 #[inline(always)]
 pub fn exec_operation(

@@ -79,17 +79,15 @@ pub(crate) fn scalar_of_mask(op: MaskToScalarOp, vs2: VReg, unmasked: bool, stat
     }
 }
 
-/// For each element, how many active bits of `vs2` below it are set.
-pub(crate) fn counts_of_mask(vs2: VReg, unmasked: bool, state: &VState) -> [u8; GROUP_BYTES]
+/// Counts for each element how many active bits of `vs2` below it are set.
+pub(crate) fn count_mask(vs2: VReg, unmasked: bool, state: &VState, counts: &mut [u8; GROUP_BYTES])
     requires length { state.now.conf.vl ≤ GROUP_BYTES }
     ensures { (i : ℕ) → i < state.now.conf.vl
-        → slice_index result i ≡ set_count (body_of unmasked state.now) (register_of state.now.file vs2) i }
+        → slice_index counts.new i ≡ set_count (body_of unmasked state.now) (register_of state.now.file vs2) i }
 {
     let mask = mask_register(&state.file);
     let body = body_under(unmasked, &mask, state);
-    let mut counts = [0; GROUP_BYTES];
-    counts_below(&body, &register_copy(&state.file, vs2), &mut counts);
-    counts
+    counts_below(&body, &register_copy(&state.file, vs2), counts);
 }
 
 /// The counts of bits below each element, as elements.

@@ -15,7 +15,7 @@ use crate::destination::Target;
 use crate::first_element::write_first;
 use lane_arith::Lane;
 use reg_groups::mask_register;
-use rv_model::{Reg, Scalar, Sew, VFile, VReg, VState, VType};
+use rv_model::{Policy, Reg, Scalar, Sew, VFile, VReg, VState, VType};
 
 /// Element 0 of a list of bytes, sign-extended to 64 bits.
 fn first_extended<L: Lane>(bytes: &[u8]) -> u64
@@ -44,23 +44,26 @@ pub(crate) fn scalar_of_first(vs2: VReg, vtype: VType, file: &VFile) -> u64
 /// element.
 pub(crate) fn carry_out_move_to_vector(
     rs1: Reg,
-    target: Target,
+    vd: VReg,
+    vtype: VType,
+    policy: Policy,
     state: &mut VState,
     scalar: &Scalar,
 )
     ensures { state.new ≡ record state.old {
       file =
-          with_first_result (sew_width target.vtype.sew) target.vd (body_of true state.old)
-          (fills_tail target.policy target.vtype (body_of true state.old))
-          (read_register scalar.now rs1 % 2 ^ sew_bits target.vtype.sew) state.old.file;
+          with_first_result (sew_width vtype.sew) vd (body_of true state.old)
+          (fills_tail policy vtype (body_of true state.old)) (read_register scalar.now rs1 % 2 ^ sew_bits vtype.sew)
+          state.old.file;
       vstart = 0;
     } }
 {
     let mask = mask_register(&state.file);
     let body = body_under(true, &mask, state);
     let number = scalar.read(rs1);
+    let target = Target::new(vd, true, vtype, policy);
     let file = &mut state.file;
-    match target.vtype.sew {
+    match vtype.sew {
         Sew::E8 => write_first(u8::low_bits(number), target, &body, file),
         Sew::E16 => write_first(u16::low_bits(number), target, &body, file),
         Sew::E32 => write_first(u32::low_bits(number), target, &body, file),
