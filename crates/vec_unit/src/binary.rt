@@ -1,12 +1,10 @@
 //! Operations of one width on two operands ("V" Vector Extension 1.0, chapter 11).
-ghost use Rattle.rv_model.specs.elements.Arithmetic.{binary_result, second_element, with_results};
-ghost use Rattle.rv_model.specs.elements.Elements.{element};
+ghost use Rattle.rv_model.specs.elements.Arithmetic.{binary_result, with_results};
 ghost use Rattle.rv_model.specs.elements.Formulas.{has_unsigned_immediate};
 ghost use Rattle.rv_model.specs.lending.GroupBounds.{HoldsBody, IsInside, SourceIsInside};
-ghost use Rattle.rv_model.specs.vector.Configuration.{width_bytes};
-ghost use Rattle.rv_model.specs.vector.Registers.{group_of, registers};
+ghost use Rattle.rv_model.specs.vector.Registers.{registers};
 ghost use Rattle.lane_arith.specs.SimdOperations.{is_simd};
-ghost use Rattle.std.specs.Prelude.{◌≡◌, ◌*◌, ◌<◌, ◌≤◌, IsTrue, ℕ, false, length, true};
+ghost use Rattle.std.specs.Prelude.{◌≡◌, ◌≤◌, IsTrue, false, true};
 ghost use Rattle.vec_unit.specs.InTurn.{IsReadFirst, SourceIsReadFirst};
 
 use crate::destination::{Destination, write_group};
@@ -35,34 +33,6 @@ fn has_unsigned_immediate(op: BinaryOp) -> bool
 }
 
 impl BinaryOperation {
-    /// Writes the results to a destination; `a` is a copy of the group of `vs2`, and `b` of the second operand.
-    #[inline(always)]
-    fn write_from<L: Lane>(
-        &self,
-        a: &[u8],
-        b: &[u8],
-        destination: Destination,
-        body: &Body<'_>,
-        file: &mut VFile,
-        scalar: &Scalar,
-    )
-        requires first { a.now ≡ group_of file.old self.now.vs2 destination.emul }
-        requires second { (i : ℕ) → i < body.now.end → element (width_bytes L.width) b.now i
-            ≡ second_element (record { width = L.width; emul = destination.emul }) (has_unsigned_immediate self.now.op)
-            self.now.source file.old scalar.now i }
-        requires first_room { width_bytes L.width * body.now.end ≤ length a.now }
-        requires second_room { width_bytes L.width * body.now.end ≤ length b.now }
-        requires destination { IsInside destination.vd destination.emul }
-        requires holds { HoldsBody L.width destination.emul destination.count body.now.end }
-        ensures { file.new ≡ with_results (record { width = L.width; emul = destination.emul }) destination.vd body.now
-            destination.agnostic.fill_masked_off destination.agnostic.fill_tail
-            (binary_result (record { width = L.width; emul = destination.emul }) self.now.op self.now.vs2
-            self.now.source file.old scalar.now) file.old }
-    {
-        let results = Binary { op: self.op, a, b };
-        write_group::<L, Binary<'_>>(&results, destination, body, file);
-    }
-
     /// Whether the results can be written in turn to so many registers from `vd` on: they are made by SIMD, and no
     /// register of the operands is written before it is read.
     #[inline(always)]
@@ -82,7 +52,6 @@ impl BinaryOperation {
     fn write_in_turn<L: Lane>(
         &self,
         all: bool,
-        fill_masked_off: bool,
         destination: Destination,
         body: &Body<'_>,
         file: &mut VFile,
@@ -97,13 +66,14 @@ impl BinaryOperation {
             × SourceIsReadFirst self.now.source destination.vd (registers destination.emul) }
         requires no_tail { destination.agnostic.fill_tail ≡ true → body.now.end ≡ destination.count }
         ensures { file.new ≡ with_results (record { width = L.width; emul = destination.emul }) destination.vd body.now
-            fill_masked_off destination.agnostic.fill_tail
+            destination.agnostic.fill_masked_off destination.agnostic.fill_tail
             (binary_result (record { width = L.width; emul = destination.emul }) self.now.op self.now.vs2
             self.now.source file.old scalar.now) file.old }
     {
         let unsigned = has_unsigned_immediate(self.op);
         let operation = InTurn {
             op: self.op,
+            vd: destination.vd,
             vs2: self.vs2,
             source: self.source,
             number: second_number(unsigned, self.source, scalar),
@@ -115,7 +85,8 @@ impl BinaryOperation {
             size.min(body.end().div_ceil(L::count()))
         };
         let bytes = group_mut(file, VReg::new(0), 8 * 32);
-        operation.write::<L>(destination.vd, used, body, all, fill_masked_off, bytes);
+        let fill_masked_off = destination.agnostic.fill_masked_off;
+        operation.write::<L>(used, body, all, fill_masked_off, bytes);
     }
 
     /// Writes the results in turn, of any body.
@@ -139,8 +110,7 @@ impl BinaryOperation {
             (binary_result (record { width = L.width; emul = destination.emul }) self.op self.vs2 self.source
             file.old scalar.now) file.old }
     {
-        let fill = destination.agnostic.fill_masked_off;
-        self.write_in_turn::<L>(false, fill, destination, body, file, scalar);
+        self.write_in_turn::<L>(false, destination, body, file, scalar);
     }
 
     /// Writes the results in turn, of a body that is masked and is all elements of the destination; those that are
@@ -169,7 +139,7 @@ impl BinaryOperation {
             file.old scalar.now) file.old }
     {
         let all = Body::new(false, body.mask(), 0, body.end());
-        self.write_in_turn::<L>(true, false, destination, &all, file, scalar);
+        self.write_in_turn::<L>(true, destination.keeping(), &all, file, scalar);
     }
 
     /// Writes the results in turn; where all elements of the destination are active, in line. What is out of line is
@@ -200,7 +170,7 @@ impl BinaryOperation {
             (*self).write_part_in_turn::<L>(destination, &body.copied(), file, scalar);
         } else if body.is_unmasked() {
             let all = Body::new(true, body.mask(), 0, body.end());
-            self.write_in_turn::<L>(true, false, destination, &all, file, scalar);
+            self.write_in_turn::<L>(true, destination.keeping(), &all, file, scalar);
         } else {
             let destination = Destination { ..destination };
             (*self).write_masked_in_turn::<L>(destination, &body.copied(), file, scalar);
@@ -224,12 +194,13 @@ impl BinaryOperation {
             (binary_result (record { width = L.width; emul = destination.emul }) self.op self.vs2 self.source
             file.old scalar.now) file.old }
     {
+        let (mut first, mut second) = ([0; GROUP_BYTES], [0; GROUP_BYTES]);
         let (source, emul, end) = (self.source, destination.emul, body.end());
         let unsigned = has_unsigned_immediate(self.op);
-        let (mut first, mut second) = ([0; GROUP_BYTES], [0; GROUP_BYTES]);
         let a = group_copy(file, self.vs2, emul, &mut first);
         let b = second_copy::<L>(unsigned, source, emul, end, file, scalar, &mut second);
-        self.write_from::<L>(a, b, destination, body, file, scalar);
+        let results = Binary { op: self.op, a, b };
+        write_group::<L, Binary<'_>>(&results, destination, body, file);
     }
 }
 

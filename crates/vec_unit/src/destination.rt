@@ -1,6 +1,6 @@
 //! The destination of an element-wise instruction: lent to a kernel, and then filled ("V" Vector Extension
 //! 1.0, sections 3.4.3, 5.3 and 5.4).
-ghost use Rattle.std.specs.Prelude.{◌≡◌, ◌*◌, ◌<◌, ◌≤◌, ℕ, length, true};
+ghost use Rattle.std.specs.Prelude.{◌≡◌, ◌*◌, ◌<◌, ◌≤◌, ℕ, false, length, true};
 ghost use Rattle.rv_model.specs.elements.Arithmetic.{fills_masked_off, fills_tail, with_mask_results, with_results};
 ghost use Rattle.rv_model.specs.elements.Elements.{is_changed, result_or_ones};
 ghost use Rattle.rv_model.specs.elements.Formulas.{ones};
@@ -79,6 +79,20 @@ pub(crate) struct Destination {
     pub emul: u32,
     pub count: usize,
     pub agnostic: Agnostic,
+}
+
+impl Destination {
+    /// The same, whose elements that are masked off keep.
+    #[inline(always)]
+    pub(crate) fn keeping(self) -> Destination
+        ensures { result ≡ record self { agnostic = record self.agnostic { fill_masked_off = false } } }
+    {
+        let agnostic = Agnostic {
+            fill_masked_off: false,
+            ..self.agnostic
+        };
+        Destination { agnostic, ..self }
+    }
 }
 
 /// Writes results to the bytes of a destination of `count` elements, and fills it.

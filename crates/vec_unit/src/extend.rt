@@ -4,13 +4,11 @@ ghost use Rattle.rv_model.specs.elements.Arithmetic.{body_of, extend_result, fil
 ghost use Rattle.rv_model.specs.vector.Configuration.{group_type, lmul_eighths, sew_bits, sew_width, vlmax, width_bytes};
 ghost use Rattle.rv_model.specs.vector.Groups.{extension_divisor, part_type, part_width};
 ghost use Rattle.rv_model.specs.lending.GroupBounds.{HasRoom, HoldsBody, IsInside};
-ghost use Rattle.rv_model.specs.vector.Registers.{register_of};
 
-use crate::body::body_under;
-use crate::destination::{Destination, Target, agnostic_under, write_group};
-use crate::two_widths::TwoWidths;
+use crate::destination::{Destination, Target, write_group};
+use crate::two_widths::{Groups, TwoWidths, carry_out};
 use lane_arith::{Body, Extend, Lane};
-use reg_groups::{extension_divisor, group_copy, mask_register, registers};
+use reg_groups::{extension_divisor, group_copy, registers};
 use rv_model::instructions::operations::ExtendOp;
 use rv_model::{GROUP_BYTES, Scalar, Sew, VFile, VLENB, VReg, VState};
 use std::marker::PhantomData;
@@ -59,41 +57,49 @@ fn element_bytes(sew: Sew) -> usize
     }
 }
 
-/// Writes an extension to elements of a width; `part` is the multiplier of the source.
-fn write_extension(
+/// Carries out an extension to elements of a width from those of a part of it. The next instruction begins with the
+/// first element.
+fn carry_out_part(
     operation: ExtendOperation,
     sew: Sew,
-    destination: Destination,
-    part: u32,
-    body: &Body<'_>,
-    file: &mut VFile,
+    groups: Groups,
+    target: Target,
+    state: &mut VState,
     scalar: &Scalar,
 )
-    requires source { IsInside operation.vs2 part }
-    requires destination { IsInside destination.vd destination.emul }
+    requires source { IsInside operation.vs2 groups.other }
+    requires destination { IsInside target.vd groups.emul }
     requires wide { 8 ≤ sew_bits sew / extension_divisor operation.op }
-    requires holds { HoldsBody (sew_width sew) destination.emul destination.count body.now.end }
-    requires room { HasRoom (part_width operation.op (sew_width sew)) part body.now.end }
-    requires mask { body.now.mask ≡ register_of file.old 0 }
-    ensures { file.new ≡ with_results (record { width = sew_width sew; emul = destination.emul }) destination.vd
-        body.now destination.agnostic.fill_masked_off destination.agnostic.fill_tail
-        (extend_result (record { width = part_width operation.op (sew_width sew); emul = part })
-        (record { width = sew_width sew; emul = destination.emul }) operation.op operation.vs2 file.old) file.old }
+    requires holds { HoldsBody (sew_width sew) groups.emul groups.count state.old.conf.vl }
+    requires room { HasRoom (part_width operation.op (sew_width sew)) groups.other state.old.conf.vl }
+    ensures { state.new ≡ record state.old {
+      file =
+          with_results (record { width = sew_width sew; emul = groups.emul }) target.vd
+          (body_of target.unmasked state.old)
+          (fills_masked_off target.policy target.vtype (body_of target.unmasked state.old))
+          (fills_tail target.policy target.vtype (body_of target.unmasked state.old))
+          (extend_result (record { width = part_width operation.op (sew_width sew); emul = groups.other })
+          (record { width = sew_width sew; emul = groups.emul }) operation.op operation.vs2 state.old.file)
+          state.old.file;
+      vstart = 0;
+    } }
 {
-    match operation.op {
+    let op = operation.op;
+    let from = &operation;
+    match op {
         ExtendOp::VzextVf2 | ExtendOp::VsextVf2 => match sew {
-            Sew::E16 => operation.write::<u16, u8>(destination, part, body, file, scalar),
-            Sew::E32 => operation.write::<u32, u16>(destination, part, body, file, scalar),
-            Sew::E64 => operation.write::<u64, u32>(destination, part, body, file, scalar),
+            Sew::E16 => carry_out::<u16, u8, ExtendOperation>(from, groups, target, state, scalar),
+            Sew::E32 => carry_out::<u32, u16, ExtendOperation>(from, groups, target, state, scalar),
+            Sew::E64 => carry_out::<u64, u32, ExtendOperation>(from, groups, target, state, scalar),
             Sew::E8 => unreachable!(),
         },
         ExtendOp::VzextVf4 | ExtendOp::VsextVf4 => match sew {
-            Sew::E32 => operation.write::<u32, u8>(destination, part, body, file, scalar),
-            Sew::E64 => operation.write::<u64, u16>(destination, part, body, file, scalar),
+            Sew::E32 => carry_out::<u32, u8, ExtendOperation>(from, groups, target, state, scalar),
+            Sew::E64 => carry_out::<u64, u16, ExtendOperation>(from, groups, target, state, scalar),
             Sew::E8 | Sew::E16 => unreachable!(),
         },
         ExtendOp::VzextVf8 | ExtendOp::VsextVf8 => match sew {
-            Sew::E64 => operation.write::<u64, u8>(destination, part, body, file, scalar),
+            Sew::E64 => carry_out::<u64, u8, ExtendOperation>(from, groups, target, state, scalar),
             Sew::E8 | Sew::E16 | Sew::E32 => unreachable!(),
         },
     }
@@ -122,25 +128,12 @@ pub(crate) fn carry_out_extension(
       vstart = 0;
     } }
 {
-    let mask = mask_register(&state.file);
-    let body = body_under(target.unmasked, &mask, state);
-    let emul = u32::from(target.vtype.lmul.eighths());
-    let part = emul / u32::from(extension_divisor(operation.op));
-    let destination = Destination {
-        vd: target.vd,
-        emul,
-        count: VLENB * registers(emul) as usize / element_bytes(target.vtype.sew),
-        agnostic: agnostic_under(target.policy, target.vtype, &body),
-    };
     let sew = target.vtype.sew;
-    write_extension(
-        operation,
-        sew,
-        destination,
-        part,
-        &body,
-        &mut state.file,
-        scalar,
-    );
-    state.vstart = 0;
+    let emul = u32::from(target.vtype.lmul.eighths());
+    let groups = Groups {
+        emul,
+        count: VLENB * registers(emul) as usize / element_bytes(sew),
+        other: emul / u32::from(extension_divisor(operation.op)),
+    };
+    carry_out_part(operation, sew, groups, target, state, scalar);
 }

@@ -67,10 +67,11 @@ fn active_in_turn(all: bool, body: &Body<'_>, first: usize, count: usize) -> u64
 }
 
 /// An operation on the group from `vs2` on and a second operand, whose number is `number` where it is a scalar or an
-/// immediate.
+/// immediate, to the group from `vd` on.
 #[derive(Clone, Copy)]
 pub(crate) struct InTurn {
     pub op: BinaryOp,
+    pub vd: VReg,
     pub vs2: VReg,
     pub source: Source,
     pub number: u64,
@@ -99,7 +100,6 @@ impl InTurn {
     #[inline(always)]
     pub(crate) fn write<L: Lane>(
         &self,
-        vd: VReg,
         registers: usize,
         body: &Body<'_>,
         all: bool,
@@ -110,19 +110,20 @@ impl InTurn {
         requires made { IsTrue (is_simd self.now.op) }
         requires first { self.now.vs2 + registers ≤ VECTOR_REGISTERS }
         requires second { SourceHasRegisters self.now.source registers }
-        requires destination { vd + registers ≤ VECTOR_REGISTERS }
-        requires first_read { IsReadFirst self.now.vs2 vd registers }
-        requires second_read { SourceIsReadFirst self.now.source vd registers }
+        requires destination { self.now.vd + registers ≤ VECTOR_REGISTERS }
+        requires first_read { IsReadFirst self.now.vs2 self.now.vd registers }
+        requires second_read { SourceIsReadFirst self.now.source self.now.vd registers }
         requires few { L.count * registers ≤ GROUP_BYTES }
         requires covers { body.now.end ≤ L.count * registers }
         requires whole { length bytes.old ≡ FILE_BYTES }
-        ensures { Writes (width_bytes L.width) (test_from (L.count * vd) (is_changed body.now fill_masked_off false))
-            (number_from (L.count * vd) (result_or_ones body.now
+        ensures { Writes (width_bytes L.width)
+            (test_from (L.count * self.now.vd) (is_changed body.now fill_masked_off false))
+            (number_from (L.count * self.now.vd) (result_or_ones body.now
             (turn_result L.width L.count self.now.op self.now.vs2 self.now.source self.now.number bytes.old)
             (ones L.width))) bytes.old bytes.new }
     {
         let count = L::count();
-        let (first, vd) = (self.vs2.number() as usize, vd.number() as usize);
+        let (first, vd) = (self.vs2.number() as usize, self.vd.number() as usize);
         for r in 0..registers {
             let a = chunk_elements::<L>(bytes, first + r);
             let b = self.second::<L>(r, bytes);

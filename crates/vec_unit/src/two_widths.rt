@@ -48,15 +48,15 @@ pub(crate) trait TwoWidths {
 /// The multiplier of the destination's groups, how many elements they have, and the multiplier of the groups
 /// of the other width, both in eighths of a register.
 #[derive(Clone, Copy)]
-struct Groups {
-    emul: u32,
-    count: usize,
-    other: u32,
+pub(crate) struct Groups {
+    pub emul: u32,
+    pub count: usize,
+    pub other: u32,
 }
 
 /// Carries out an operation whose destination has elements of the width of `D`; `O` is the other width. The
 /// next instruction begins with the first element.
-fn carry_out<D: Lane, O: Lane, T: TwoWidths>(
+pub(crate) fn carry_out<D: Lane, O: Lane, T: TwoWidths>(
     operation: &T,
     groups: Groups,
     target: Target,

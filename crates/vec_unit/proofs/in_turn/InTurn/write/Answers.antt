@@ -29,10 +29,10 @@ loop-r-preserved g c =
     let result : ℕ → ℕ = turn_result g.L.Lane.width n o.op o.vs2 o.source o.number old in
     let is : c.count-count.result ≡ n = c.count-count.ensures in
     let first_is : c.number.result ≡ o.vs2 = c.number.ensures.value in
-    let vd_is : vd ≡ c.args.vd = c.number-2.ensures.value in
+    let vd_is : vd ≡ c.args.self.now.vd = c.number-2.ensures.value in
     let fills : k * n ≡ 32 = g.met.L.Lane.fills in
     let more : r < c.args.registers = omega (arith, c.loop-r-test.true) in
-    let inside : c.args.vd + c.args.registers ≤ 32 = c.requires.destination in
+    let inside : c.args.self.now.vd + c.args.registers ≤ 32 = c.requires.destination in
     let has : o.vs2 + c.args.registers ≤ 32 = c.requires.first in
     let long : length old ≡ 1024 = c.requires.whole in
     let room : 32 * (vd + r) + 32 ≤ length mid = omega (arith, vd_is, inside, long, more, c.loop-r.invariant.same_length) in
@@ -56,7 +56,7 @@ loop-r-preserved g c =
 
 pub returns : goal.returns
 returns g c =
-    let vd_is : c.number-2.result ≡ c.args.vd = c.number-2.ensures.value in
+    let vd_is : c.number-2.result ≡ c.args.self.now.vd = c.number-2.ensures.value in
     let all : c.loop-r.r ≡ c.args.registers = omega (arith, c.loop-r-test.false, c.loop-r.auto.r-end) in
     rw (← vd_is)
     (all_done (width_bytes g.L.Lane.width) g.L.Lane.count c.number-2.result c.args.registers c.args.body.now c.args.fill_masked_off
