@@ -6,5 +6,6 @@ pub mod PartLaws
 pub mod PrefixLaws
 pub mod ProgramOutcomes
 pub mod StepLaws
+pub mod Steps
 pub mod UnitRuns
 pub mod UnitSteps

@@ -17,7 +17,7 @@ use rv_model::{Cmd, EnteringCommand, Refusal, RunningCommand};
 use std::alloc::Allocator;
 
 /// Carries out a command of a user, and answers it in place of what the reply held.
-#[tactic(auto, unfolding(rv_model::specs::commands::Commands::carried_out), using(crate::proofs::PartLaws::entered_as, crate::proofs::PartLaws::absent_as, crate::proofs::PartLaws::unit_stays, crate::specs::Lenders::same_memory))]
+#[tactic(auto, unfolding(rv_model::specs::commands::Commands::carried_out), using(crate::proofs::Steps::either))]
 pub(crate) fn carry_out<A: Allocator>(
     images: &[Image<'_>],
     parts: &mut Parts<'_, '_, '_, A>,
@@ -54,7 +54,7 @@ fn needs_stopped(cmd: &Cmd<'_>) -> bool
 }
 
 /// The same for a user who is absent: only `enter` is accepted.
-#[tactic(auto, unfolding(rv_model::specs::commands::Commands::of_absent), using(crate::proofs::PartLaws::absent_as, crate::specs::Lenders::same_memory, crate::proofs::PartLaws::unit_stays))]
+#[tactic(auto, unfolding(rv_model::specs::commands::Commands::of_absent), using(crate::proofs::Steps::absent))]
 fn carry_out_absent<A: Allocator>(
     parts: &mut Parts<'_, '_, '_, A>,
     trace: &mut Trace<A>,
@@ -75,7 +75,7 @@ fn carry_out_absent<A: Allocator>(
 }
 
 /// The same for a user who has entered.
-#[tactic(auto, unfolding(rv_model::specs::commands::Commands::of_present), using(crate::proofs::PartLaws::entered_as, crate::specs::Lenders::same_memory, crate::proofs::PartLaws::unit_stays))]
+#[tactic(auto, unfolding(rv_model::specs::commands::Commands::of_present), using(crate::proofs::Steps::present))]
 fn carry_out_present<A: Allocator>(
     images: &[Image<'_>],
     parts: &mut Parts<'_, '_, '_, A>,

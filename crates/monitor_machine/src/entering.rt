@@ -17,7 +17,7 @@ use rv_model::{EnteringCommand, Refusal};
 use std::alloc::Allocator;
 
 /// Carries out a command of a user who is absent, and answers it.
-#[tactic(auto, unfolding(rv_model::specs::commands::Entering::entering_absent), using(crate::specs::Lenders::memory_there, crate::specs::Lenders::same_memory, crate::proofs::PartLaws::absent_as, crate::proofs::PartLaws::unit_stays))]
+#[tactic(auto, unfolding(rv_model::specs::commands::Entering::entering_absent), using(crate::proofs::Steps::entering))]
 pub(crate) fn carry_out_absent<A: Allocator>(
     parts: &mut Parts<'_, '_, '_, A>,
     trace: &mut Trace<A>,
@@ -46,7 +46,7 @@ pub(crate) fn carry_out_absent<A: Allocator>(
 }
 
 /// Carries out a command of a user who has entered, and answers it.
-#[tactic(auto, unfolding(rv_model::specs::commands::Entering::entering), using(crate::proofs::PartLaws::entered_as, crate::specs::Lenders::memory_there, crate::specs::Lenders::same_memory, crate::proofs::PartLaws::unit_stays))]
+#[tactic(auto, unfolding(rv_model::specs::commands::Entering::entering), using(crate::proofs::Steps::leaving))]
 pub(crate) fn carry_out<A: Allocator>(
     parts: &mut Parts<'_, '_, '_, A>,
     trace: &Trace<A>,

@@ -52,7 +52,7 @@ fn why_not_mapped(refusal: MapRefusal) -> Refusal
 }
 
 /// `map`: pages of zeros.
-#[tactic(auto, using(crate::specs::Lenders::memory_there, crate::proofs::MemoryOutcomes::maps_accepted, crate::proofs::MemoryOutcomes::maps_refused))]
+#[tactic(auto, using(crate::proofs::Steps::mapping))]
 fn map<A: Allocator>(
     pool: &mut Pool<A>,
     user: User,
@@ -75,7 +75,7 @@ fn map<A: Allocator>(
 }
 
 /// `poke`: bytes written to mapped pages, whatever these allow a program.
-#[tactic(auto, using(crate::specs::Lenders::memory_there, crate::proofs::MemoryOutcomes::pokes_accepted, crate::proofs::MemoryOutcomes::pokes_refused))]
+#[tactic(auto, using(crate::proofs::Steps::poking))]
 fn poke<A: Allocator>(
     pool: &mut Pool<A>,
     user: User,

@@ -3,7 +3,12 @@ ghost use Rattle.std.specs.Prelude.{◌≡◌, length, map, nat_le};
 ghost use Rattle.std.specs.List.{list_all, list_any};
 ghost use Rattle.std.specs.Str.{bytes_eq};
 ghost use Rattle.monitor_machine.specs.Images.{named_images, setup_of};
-ghost use Rattle.monitor_machine.specs.NewFaults.{is_name as is_name_spec, is_name_byte as is_name_byte_spec, are_distinct as are_distinct_spec, new_fault};
+ghost use Rattle.monitor_machine.specs.NewFaults.{
+  is_name as is_name_spec,
+  is_name_byte as is_name_byte_spec,
+  are_distinct as are_distinct_spec,
+  new_fault,
+};
 
 use crate::image::Image;
 use thiserror::Error;

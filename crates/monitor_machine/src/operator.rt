@@ -17,7 +17,9 @@ impl<A: Allocator> Machine<'_, A> {
     /// Grants a slice to a user, and answers whether the user's program ran. The reply is then the
     /// line that says why the program stopped, or empty where it still runs; it is empty, too, and
     /// nothing changes where the program didn't run. Nobody else's machine changes.
-    #[tactic(auto, unfolding(rv_model::specs::machine::PrivateMachine::event, rv_model::specs::machine::UnitEvents::unit_after_event), using(crate::proofs::GrantLaws::stops_room_is_small))]
+    #[tactic(auto, unfolding(rv_model::specs::machine::PrivateMachine::event,
+    // And what becomes of the vector unit.
+    rv_model::specs::machine::UnitEvents::unit_after_event), using(crate::proofs::GrantLaws::stops_room_is_small))]
     pub fn slice(&mut self, user: User, reply: &mut Reply) -> bool
         ensures world { self.new.world
             ≡ after_events self.old.setup self.old.world (slice_of user false ∷ []) }
@@ -72,7 +74,7 @@ impl<A: Allocator> Machine<'_, A> {
     }
 
     /// `* run U`: grants a slice to a user, if the user's program runs, and answers whether it did.
-    #[tactic(auto, using(crate::proofs::GrantLaws::stops_room_is_small, crate::proofs::GrantLaws::one_run_world, crate::proofs::GrantLaws::one_run_told, crate::proofs::GrantLaws::one_run_count))]
+    #[tactic(auto, using(crate::proofs::Steps::running))]
     fn carry_out_run(&mut self, user: User, reply: &mut Reply)
         ensures world { self.new.world
             ≡ after_events self.old.setup self.old.world

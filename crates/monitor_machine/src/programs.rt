@@ -6,7 +6,14 @@ ghost use Rattle.rv_model.specs.declared.vector.state.VState.{VState};
 ghost use Rattle.rv_model.specs.declared.memory.Access.TheVariants.{Monitor};
 ghost use Rattle.rv_model.specs.images.Faults.{first_fault};
 ghost use Rattle.rv_model.specs.memory.Memory.{can_access, put_bytes};
-ghost use Rattle.rv_model.specs.commands.Programs.{image_named as image_named_of, loading, loads, assembles, shows_instructions, program_command};
+ghost use Rattle.rv_model.specs.commands.Programs.{
+  image_named as image_named_of,
+  loading,
+  loads,
+  assembles,
+  shows_instructions,
+  program_command,
+};
 ghost use Rattle.rv_model.specs.machine.UnitEvents.{can_be_loaded, unit_after_load, unit_after_programs};
 ghost use Rattle.rv_model.specs.machine.VectorUnit.{unit_discarded};
 ghost use Rattle.rv_model.specs.text.Lines.{text};
@@ -36,7 +43,7 @@ const WORD_SIZE: usize = 4;
 const MAX_SHOWN: usize = 16;
 
 /// Carries out a command on programs in the memory of a user who has entered, and answers it.
-#[tactic(auto, unfolding(rv_model::specs::commands::Programs::program_command), using(crate::proofs::PartLaws::entered_as, crate::proofs::PartLaws::unit_stays, crate::specs::Lenders::same_memory))]
+#[tactic(auto, unfolding(rv_model::specs::commands::Programs::program_command), using(crate::proofs::Steps::present))]
 pub(crate) fn carry_out<A: Allocator>(
     images: &[Image<'_>],
     parts: &mut Parts<'_, '_, '_, A>,
@@ -84,7 +91,7 @@ fn write_word<A: Allocator>(pool: &mut Pool<A>, user: User, addr: u64, word: u32
 }
 
 /// `asm`: an instruction's word, written to mapped pages, whatever these allow a program.
-#[tactic(auto, using(crate::specs::Lenders::memory_there, crate::proofs::ProgramOutcomes::assembles_unmapped, crate::proofs::ProgramOutcomes::assembles_misspelled, crate::proofs::ProgramOutcomes::assembles_accepted))]
+#[tactic(auto, using(crate::proofs::Steps::assembling))]
 fn assemble_at<A: Allocator>(
     pool: &mut Pool<A>,
     user: User,
@@ -216,7 +223,7 @@ fn load_plan<A: Allocator>(
 
 /// `load`: the user's machine begins anew with the memory of an image. A refused `load` changes
 /// nothing.
-#[tactic(auto, using(crate::proofs::PartLaws::entered_as, crate::proofs::PartLaws::unit_stays, crate::specs::Lenders::same_memory, crate::proofs::ProgramOutcomes::loads_unknown, crate::proofs::ProgramOutcomes::loads_faulty, crate::proofs::ProgramOutcomes::loads_sound))]
+#[tactic(auto, using(crate::proofs::Steps::loading))]
 fn load<A: Allocator>(
     images: &[Image<'_>],
     parts: &mut Parts<'_, '_, '_, A>,

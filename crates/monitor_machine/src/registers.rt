@@ -15,7 +15,7 @@ use rv_model::{RegisterCommand, User};
 /// Carries out a command on the registers of a user who has entered, or on what becomes of agnostic
 /// elements, and answers it. A vector register is read and written where the user's vector state
 /// stands; nothing is switched for it.
-#[tactic(auto, unfolding(rv_model::specs::commands::Registers::register_command), using(crate::proofs::PartLaws::unit_stays))]
+#[tactic(auto, unfolding(rv_model::specs::commands::Registers::register_command), using(crate::proofs::Steps::stays))]
 pub(crate) fn carry_out(
     context: &mut Context,
     unit: &mut Unit,

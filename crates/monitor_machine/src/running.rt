@@ -21,7 +21,7 @@ use std::alloc::Allocator;
 
 /// Carries out a command that runs instructions of a user who has entered, or tells how far the
 /// program is or what it has put out, and answers it.
-#[tactic(auto, unfolding(rv_model::specs::commands::Running::running_command), using(crate::proofs::PartLaws::entered_as, crate::specs::Lenders::same_memory, crate::proofs::PartLaws::unit_stays))]
+#[tactic(auto, unfolding(rv_model::specs::commands::Running::running_command), using(crate::proofs::Steps::present))]
 pub(crate) fn carry_out<A: Allocator>(
     parts: &mut Parts<'_, '_, '_, A>,
     trace: &mut Trace<A>,

@@ -17,7 +17,9 @@ use std::alloc::Allocator;
 
 /// Carries out a slice of `quantum` ticks of a user whose program runs, and adds to the reply why
 /// it stopped, if it did.
-#[tactic(auto, unfolding(rv_model::specs::machine::PrivateMachine::sliced, rv_model::specs::machine::Cuts::tried_in, rv_model::specs::machine::UnitEvents::unit_after_tries), using(crate::specs::Lenders::same_memory, crate::proofs::PartLaws::unit_stays, crate::proofs::PartLaws::entered_as))]
+#[tactic(auto, unfolding(rv_model::specs::machine::PrivateMachine::sliced, rv_model::specs::machine::Cuts::tried_in,
+// And what becomes of the vector unit.
+rv_model::specs::machine::UnitEvents::unit_after_tries), using(crate::proofs::Steps::present))]
 fn run_slice<A: Allocator>(
     parts: &mut Parts<'_, '_, '_, A>,
     trace: &mut Trace<A>,
@@ -42,7 +44,9 @@ fn run_slice<A: Allocator>(
 
 /// Grants a slice of `quantum` ticks to a user, if the user's program runs, and adds to the reply
 /// why it stopped, if it did. Answers whether the program ran.
-#[tactic(auto, unfolding(rv_model::specs::machine::PrivateMachine::sliced, rv_model::specs::machine::Cuts::tried_in, rv_model::specs::machine::UnitEvents::unit_after_tries), using(crate::specs::Lenders::same_memory, crate::proofs::PartLaws::unit_stays, crate::proofs::CutLaws::configured_as))]
+#[tactic(auto, unfolding(rv_model::specs::machine::PrivateMachine::sliced, rv_model::specs::machine::Cuts::tried_in,
+// And what becomes of the vector unit.
+rv_model::specs::machine::UnitEvents::unit_after_tries), using(crate::proofs::Steps::granting))]
 pub(crate) fn grant<A: Allocator>(
     parts: &mut Parts<'_, '_, '_, A>,
     trace: &mut Trace<A>,

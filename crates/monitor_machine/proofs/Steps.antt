@@ -1,0 +1,35 @@
+-- The lemmas by which the tactics find what commands and slices leave of a user's machine, and print.
+use Rattle.monitor_machine.specs.Lenders.{memory_there, same_memory}
+use Rattle.monitor_machine.proofs.CutLaws.{configured_as}
+use Rattle.monitor_machine.proofs.GrantLaws.{one_run_count, one_run_told, one_run_world, stops_room_is_small}
+use Rattle.monitor_machine.proofs.MemoryOutcomes.{maps_accepted, maps_refused, pokes_accepted, pokes_refused}
+use Rattle.monitor_machine.proofs.PartLaws.{absent_as, entered_as, unit_stays}
+use Rattle.monitor_machine.proofs.ProgramOutcomes.{assembles_accepted, assembles_misspelled, assembles_unmapped, loads_faulty, loads_sound, loads_unknown}
+
+-- nothing of the vector unit and of the memories changes
+pub ruleset stays = (unit_stays, same_memory)
+
+-- the user has entered, is absent, or either
+pub ruleset present = (entered_as, same_memory, unit_stays)
+
+pub ruleset absent = (absent_as, same_memory, unit_stays)
+
+pub ruleset either = (entered_as, absent_as, unit_stays, same_memory)
+
+-- commands, each by what is tested
+pub ruleset entering = (memory_there, same_memory, absent_as, unit_stays)
+
+pub ruleset leaving = (entered_as, memory_there, same_memory, unit_stays)
+
+pub ruleset mapping = (memory_there, maps_accepted, maps_refused)
+
+pub ruleset poking = (memory_there, pokes_accepted, pokes_refused)
+
+pub ruleset assembling = (memory_there, assembles_unmapped, assembles_misspelled, assembles_accepted)
+
+pub ruleset loading = (entered_as, unit_stays, same_memory, loads_unknown, loads_faulty, loads_sound)
+
+-- a slice that is granted, and one that the operator asks for
+pub ruleset granting = (same_memory, unit_stays, configured_as)
+
+pub ruleset running = (stops_room_is_small, one_run_world, one_run_told, one_run_count)
