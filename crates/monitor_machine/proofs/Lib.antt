@@ -7,5 +7,4 @@ pub mod PrefixLaws
 pub mod ProgramOutcomes
 pub mod StepLaws
 pub mod Steps
-pub mod UnitRuns
 pub mod UnitSteps

@@ -1,11 +1,13 @@
 -- What one instruction of a user does to the one vector unit of all users, by how the unit was lent.
-use Rattle.std.proofs.Common.{◌≡◌, ℕ, Bool, true, false, refl, ap, ◌∙◌, sym, arith}
+use Rattle.std.proofs.Common.{◌≡◌, ℕ, Bool, true, false, refl, ap, ◌∙◌, subst, sym, arith}
 use Rattle.std.specs.Prelude.{if◌then◌else◌, ◌||◌, ◌≢◌}
 use Rattle.rv_model.specs.declared.vector.state.Seat.{Seat}
+use Rattle.rv_model.specs.declared.vector.state.VState.{VState}
 use Rattle.rv_model.specs.machine.VectorUnit.{VectorUnit, unit_after_instruction, unit_touched}
 use Rattle.lazy_context.specs.declared.unit.Unit.{Unit}
 use Rattle.lazy_context.specs.LazyUnit.{AllKeep, OthersKeep, record_of, state_of, touched, with_seat}
 use Rattle.monitor_machine.specs.declared.lenders.UserVectors.{UserVectors}
+use Rattle.monitor_machine.specs.Lent.{VectorsMove}
 
 -- how the unit came back: if an instruction touched it, with what is in the user's seat then, else as it was
 abbrev pub came_back : Bool → ℕ → Unit → Unit → Unit
@@ -22,6 +24,15 @@ lender_back true old new back =
     )
 lender_back false old new back =
     (ap (λ (v : UserVectors). v.unit.now) back, ap (λ (v : UserVectors). v.unit.ghost_name) back, ap (λ (v : UserVectors). v.user) back)
+
+-- it was lent twice, so it was lent
+pub lent_twice : (first second third : UserVectors) → VectorsMove first second → VectorsMove second third → VectorsMove first third
+lent_twice first second third h k = record {
+  settled = k.settled;
+  strangers = λ other low apart. k.strangers other low (λ e. apart (e ∙ h.user)) ∙ h.strangers other low apart;
+  user = k.user ∙ h.user;
+  same_unit = k.same_unit ∙ h.same_unit;
+}
 
 -- the unit with the user's seat changed holds what was put there
 seat_is : (user : ℕ) (old : Unit) (s : Seat) → state_of (with_seat s (touched user old)) user ≡ s.state
@@ -53,6 +64,13 @@ counted_dirty b unit = by_mark unit.dirty b refl
     by_mark false true e = refl
     by_mark true false e = ap (λ (x : Bool). record unit { dirty = x }) (sym e)
     by_mark false false e = ap (λ (x : Bool). record unit { dirty = x }) (sym e)
+
+-- the mark of what is lent, said of the same user and of the user's own state
+pub mark_lent : (changes : VState → Bool) (own own' : VState) (old : Bool) (user user' : ℕ) (new : Unit) → user' ≡ user → own ≡ own'
+    → (touched user' new).seat.dirty ≡ (old || changes own) → (touched user new).seat.dirty ≡ (old || changes own')
+mark_lent changes own own' old user user' new same state marked =
+    subst (λ (u : ℕ). (touched u new).seat.dirty ≡ (old || changes own')) same
+    (subst (λ (v : VState). (touched user' new).seat.dirty ≡ (old || changes v)) state marked)
 
 -- it is counted as an instruction that touches the unit, or doesn't
 pub counts_instruction : (touches changes : Bool) (user : ℕ) (old new : Unit) → new ≡ came_back touches user old new

@@ -2,6 +2,7 @@ pub mod AddressSets
 pub mod Addressees
 pub mod Images
 pub mod Lenders
+pub mod Lent
 pub mod MachineState
 pub mod NewFaults
 pub mod PartMoves

@@ -1,20 +1,15 @@
-use Rattle.std.proofs.Common.{◌≡◌, ◌-◌, true}
-use Rattle.rv_model.specs.machine.Runs.{steps}
-use Rattle.rv_model.specs.machine.UnitEvents.{tried_steps, unit_after_tries}
-use Rattle.lazy_context.specs.LazyUnit.{record_of, state_of}
-use Rattle.monitor_machine.specs.Parts.{UnitMoves, present}
+use Rattle.std.proofs.Common.{◌≡◌, ◌-◌, Option, true}
+use Rattle.rv_model.specs.declared.step.step_end.Stop.{Stop}
+use Rattle.monitor_machine.specs.Lent.{Lent, StepsTo, VectorsMove, lent}
 use Rattle.monitor_machine.proofs.stepping.steps_lent.Given as goal
 
--- the steps that are left come to the same as all
+-- what the steps that are left come to, all come to
 abbrev pub invariant-loop : goal.invariant-loop
 invariant-loop g l = record {
-  steps : steps (l.count - l.counter) l.exempt (present l.context l.trace (state_of l.vectors.unit.now l.user) (g.M.UserBytes.memory l.memory)) ≡ steps l.count true (present l.fn.context l.fn.trace (state_of l.fn.vectors.unit.now l.user) (g.M.UserBytes.memory l.fn.memory));
-  unit : UnitMoves l.user l.fn.vectors.unit.now l.vectors.unit.now (record_of l.vectors.unit.now);
-  counts :
-      unit_after_tries l.user (tried_steps (l.count - l.counter) l.exempt (present l.context l.trace (state_of l.vectors.unit.now l.user) (g.M.UserBytes.memory l.memory))) (record_of l.vectors.unit.now)
-      ≡ unit_after_tries l.user (tried_steps l.count true (present l.fn.context l.fn.trace (state_of l.fn.vectors.unit.now l.user) (g.M.UserBytes.memory l.fn.memory))) (record_of l.fn.vectors.unit.now);
+  left :
+      (end : Lent) (reason : Option Stop) → StepsTo (l.count - l.counter) l.exempt (lent g.M.UserBytes.memory l.context l.trace l.vectors l.memory) end reason
+      → StepsTo l.count true (lent g.M.UserBytes.memory l.fn.context l.fn.trace l.fn.vectors l.fn.memory) end reason;
+  vectors : VectorsMove l.fn.vectors l.vectors;
   entered : l.context.entered ≡ l.fn.context.entered;
-  others : l.memory ≡ g.M.UserBytes.with_memory l.fn.memory (g.M.UserBytes.memory l.memory);
-  owner : l.vectors.user ≡ l.user;
-  same_unit : l.vectors.unit.ghost_name ≡ l.fn.vectors.unit.ghost_name;
+  memory : l.memory ≡ g.M.UserBytes.with_memory l.fn.memory (g.M.UserBytes.memory l.memory);
 }

@@ -1,0 +1,58 @@
+-- What one user's instructions are lent: what it shows, and what becomes of it by one instruction and by a run of them.
+use Rattle.std.specs.Prelude.{ℕ, ◌≡◌, Bool, List, Option}
+use Rattle.rv_model.specs.declared.step.step_end.Stop.{Stop}
+use Rattle.rv_model.specs.declared.vector.state.VState.{VState}
+use Rattle.rv_model.specs.machine.Cuts.{Try, tries}
+use Rattle.rv_model.specs.machine.Runs.{Halted, after, halted, steps, stop_of, ticked}
+use Rattle.rv_model.specs.machine.UnitEvents.{tried_steps, unit_after_tries, unit_after_try}
+use Rattle.rv_model.specs.machine.UserMachine.{Present}
+use Rattle.rv_model.specs.machine.VectorUnit.{VectorUnit}
+use Rattle.rv_model.specs.memory.Memory.{Memory}
+use Rattle.rv_model.specs.step.Step.{step}
+use Rattle.lazy_context.specs.LazyUnit.{IsSettled, OthersKeep, record_of, state_of}
+use Rattle.monitor_machine.specs.declared.context.Context.{Context}
+use Rattle.monitor_machine.specs.declared.lenders.UserVectors.{UserVectors}
+use Rattle.monitor_machine.specs.Parts.{Addresses, present}
+
+-- the vector state of the user that it is lent for
+abbrev pub lent_state : UserVectors → VState
+lent_state v = state_of v.unit.now v.user
+
+-- what is left of the vector unit: it is settled, and lent for the same user, and the others have their vector states
+pub record VectorsMove (old new : UserVectors) : Type 0 where
+  pub settled : IsSettled new.unit.now
+  pub strangers : OthersKeep old.user old.unit.now new.unit.now
+  pub user : new.user ≡ old.user
+  pub same_unit : new.unit.ghost_name ≡ old.unit.ghost_name
+
+-- the user's machine and the record of the vector unit that all that is lent shows
+pub record Lent : Type 0 where
+  pub user : ℕ
+  pub machine : Present
+  pub unit : VectorUnit
+
+abbrev pub lent : {M : Type 0} → (M → Memory) → Context → Addresses → UserVectors → M → Lent
+lent memory c trace vectors m = record {
+  user = vectors.user;
+  machine = present c trace (lent_state vectors) (memory m);
+  unit = record_of vectors.unit.now;
+}
+
+-- an instruction that is tried in so many ticks leaves this, stops the program so, if it does, and takes these ticks
+abbrev pub TriesTo : ℕ → Lent → Lent → Option Stop → ℕ → Type 0
+TriesTo limit old new stop ticks =
+    (after (step limit old.machine.hart).end (step limit old.machine.hart).state old.machine ≡ new.machine)
+    × (stop_of (step limit old.machine.hart).end ≡ stop)
+    × ((step limit old.machine.hart).ticks ≡ ticks)
+    × (new.unit ≡ unit_after_try old.user (record { left = limit; hart = old.machine.hart }) old.unit)
+
+-- a run that tries these instructions leaves this, and stops the program so, if it does
+abbrev pub RunsTo : Halted → List Try → Lent → Lent → Option Stop → Type 0
+RunsTo run tried old new stop = (run ≡ halted new.machine stop) × (new.unit ≡ unit_after_tries old.user tried old.unit)
+
+-- so do at most so many instructions, and those of so many ticks
+abbrev pub StepsTo : ℕ → Bool → Lent → Lent → Option Stop → Type 0
+StepsTo count exempt old = RunsTo (steps count exempt old.machine) (tried_steps count exempt old.machine) old
+
+abbrev pub TicksTo : ℕ → Lent → Lent → Option Stop → Type 0
+TicksTo left old = RunsTo (ticked left old.machine) (tries left left old.machine) old
