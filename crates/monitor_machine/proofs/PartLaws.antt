@@ -92,22 +92,6 @@ states_moved user old new count low high moves =
 pub unit_stays : (user : ℕ) (unit : Unit) → IsSettled unit → UnitMoves user unit unit (record_of unit)
 unit_stays user unit settled = record { settled = settled; strangers = λ other low apart. refl; counts = refl }
 
--- it moved twice, so it moved
-pub unit_moves_twice : (user : ℕ) (first second third : Unit) (one two : VectorUnit) → UnitMoves user first second one → UnitMoves user second third two
-    → UnitMoves user first third two
-unit_moves_twice user first second third one two h k = record {
-  settled = k.settled;
-  strangers = λ other low apart. k.strangers other low apart ∙ h.strangers other low apart;
-  counts = k.counts;
-}
-
--- what it is counted as, said otherwise
-pub unit_counts : (user : ℕ) (old new : Unit) (one two : VectorUnit) → UnitMoves user old new one → one ≡ two → UnitMoves user old new two
-unit_counts user old new one two h same = record { settled = h.settled; strangers = h.strangers; counts = h.counts ∙ same }
-
-pub unit_counted_so : (user : ℕ) (old new : Unit) (one : VectorUnit) → UnitMoves user old new one → UnitMoves user old new (record_of new)
-unit_counted_so user old new one h = unit_counts user old new one (record_of new) h (sym h.counts)
-
 -- ---- the parts of a world
 
 -- a user's part, by the user's place i
