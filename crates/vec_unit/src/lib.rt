@@ -14,6 +14,7 @@ mod extend;
 mod first_element;
 mod fixed_point;
 mod in_turn;
+mod index_limit;
 mod irregular_operations;
 mod mask_operand;
 mod mask_wise;

@@ -10,6 +10,7 @@ ghost use Rattle.vec_unit.specs.MemoryInstructions.{direction_of, filled_by, gro
 
 use crate::body::body_under;
 use crate::destination::agnostic_under;
+use crate::index_limit::IndexLimit;
 use crate::tails::{Fields, fill_tails};
 use reg_groups::{emul, legal, legal_unit, mask_register};
 use rv_model::instructions::operations::{Direction, UnitOp};
@@ -58,18 +59,17 @@ fn perform_kept<M: UserBytes>(
     state: &mut VState,
     scalar: &Scalar,
     memory: &mut M,
-    limit: usize,
+    limit: IndexLimit,
 ) -> VEnd
     requires legal { IsTrue (is_legal (Instr.Access access.now) state.old.conf.vtype state.old.vstart) }
-    requires limit { 1 ≤ limit }
     ensures model { (output : List ℕ)
-        → performed limit (Instr.Access access.now)
+        → performed limit.indices (Instr.Access access.now)
         (hart_state scalar.now state.old (M.memory memory.old) Policy.Keep output)
         ≡ vector_ends result (hart_state scalar.now state.new (M.memory memory.new) Policy.Keep output) }
     ensures memory { memory.new ≡ M.with_memory memory.old (M.memory memory.new) }
     ensures carried_out { result ≢ VEnd.Illegal }
 {
-    let end = vector_memory::run(access, state, scalar, memory, limit, false);
+    let end = vector_memory::run(access, state, scalar, memory, limit.indices, false);
     access_end(direction_of(access), end)
 }
 
@@ -152,18 +152,17 @@ fn fill_when_done(tails: Option<Fields>, length: usize, end: MemEnd, file: &mut 
 
 /// Carries out a legal load or store, of at most `limit` indices.
 #[inline(never)]
-pub(crate) fn perform_access<M: UserBytes>(
+fn perform_access<M: UserBytes>(
     access: &AccessInstr,
     state: &mut VState,
     scalar: &Scalar,
     memory: &mut M,
-    limit: usize,
+    limit: IndexLimit,
     policy: Policy,
 ) -> VEnd
     requires legal { IsTrue (is_legal (Instr.Access access.now) state.old.conf.vtype state.old.vstart) }
-    requires limit { 1 ≤ limit }
     ensures model { (output : List ℕ)
-        → performed limit (Instr.Access access.now)
+        → performed limit.indices (Instr.Access access.now)
         (hart_state scalar.now state.old (M.memory memory.old) policy output)
         ≡ vector_ends result (hart_state scalar.now state.new (M.memory memory.new) policy output) }
     ensures memory { memory.new ≡ M.with_memory memory.old (M.memory memory.new) }
@@ -172,7 +171,8 @@ pub(crate) fn perform_access<M: UserBytes>(
     state.conf.length_law();
     let length = usize::from(state.conf.vl());
     let filled = filled_by(access, state, policy);
-    let end = vector_memory::run(access, state, scalar, memory, limit, filled.masked_off);
+    let (indices, masked_off) = (limit.indices, filled.masked_off);
+    let end = vector_memory::run(access, state, scalar, memory, indices, masked_off);
     fill_when_done(filled.tails, length, end, &mut state.file);
     access_end(direction_of(access), end)
 }
@@ -222,6 +222,7 @@ pub fn exec_access<M: UserBytes>(
     if !is_legal(access, &state.conf, state.vstart) {
         return VEnd::Illegal;
     }
+    let limit = IndexLimit { indices: limit };
     match policy {
         Policy::Keep => perform_kept(access, state, scalar, memory, limit),
         Policy::Ones => {
@@ -255,5 +256,6 @@ pub fn exec_other_access<M: UserBytes>(
     if !is_legal(access, &state.conf, state.vstart) {
         return VEnd::Illegal;
     }
+    let limit = IndexLimit { indices: limit };
     perform_access(access, state, scalar, memory, limit, policy)
 }
