@@ -1,5 +1,6 @@
 mod AccessSteps
 mod CopiedOperands
+mod LegalGroups
 mod Turns
 mod TypedSteps
 mod WrittenGroups

@@ -10,7 +10,7 @@ ghost use Rattle.vec_unit.specs.InTurn.{IsReadFirst, SourceIsReadFirst};
 use crate::destination::{Destination, write_group};
 use crate::element_wise::ElementWise;
 use crate::in_turn::{InTurn, is_read_first, is_source_read_first, second_number};
-use crate::operands::second_copy;
+use crate::operands::{SecondOperand, second_copy};
 use lane_arith::chunk::is_simd;
 use lane_arith::{Binary, Body, Lane};
 use reg_groups::{group_copy, group_mut, registers};
@@ -59,7 +59,6 @@ impl BinaryOperation {
     )
         requires all { all ≡ true → (body.now.start ≡ 0) × (body.now.end ≡ destination.count) }
         requires operands { IsInside self.now.vs2 destination.emul × SourceIsInside self.now.source destination.emul }
-        requires destination { IsInside destination.vd destination.emul }
         requires holds { HoldsBody L.width destination.emul destination.count body.now.end }
         requires in_turn { IsTrue (is_simd self.now.op)
             × IsReadFirst self.now.vs2 destination.vd (registers destination.emul)
@@ -99,7 +98,6 @@ impl BinaryOperation {
         scalar: &Scalar,
     )
         requires operands { IsInside self.vs2 destination.emul × SourceIsInside self.source destination.emul }
-        requires destination { IsInside destination.vd destination.emul }
         requires holds { HoldsBody L.width destination.emul destination.count body.now.end }
         requires in_turn { IsTrue (is_simd self.op)
             × IsReadFirst self.vs2 destination.vd (registers destination.emul)
@@ -127,7 +125,6 @@ impl BinaryOperation {
         requires masked { body.now.unmasked ≡ false }
         requires kept { destination.agnostic.fill_masked_off ≡ false }
         requires operands { IsInside self.vs2 destination.emul × SourceIsInside self.source destination.emul }
-        requires destination { IsInside destination.vd destination.emul }
         requires holds { HoldsBody L.width destination.emul destination.count body.now.end }
         requires in_turn { IsTrue (is_simd self.op)
             × IsReadFirst self.vs2 destination.vd (registers destination.emul)
@@ -153,7 +150,6 @@ impl BinaryOperation {
         scalar: &Scalar,
     )
         requires operands { IsInside self.now.vs2 destination.emul × SourceIsInside self.now.source destination.emul }
-        requires destination { IsInside destination.vd destination.emul }
         requires holds { HoldsBody L.width destination.emul destination.count body.now.end }
         requires in_turn { IsTrue (is_simd self.now.op)
             × IsReadFirst self.now.vs2 destination.vd (registers destination.emul)
@@ -166,13 +162,13 @@ impl BinaryOperation {
     {
         let keeps = !destination.agnostic.fill_masked_off;
         if !(body.start() == 0 && body.end() == destination.count && keeps) {
-            let destination = Destination { ..destination };
+            let destination = destination.copied();
             (*self).write_part_in_turn::<L>(destination, &body.copied(), file, scalar);
         } else if body.is_unmasked() {
             let all = Body::new(true, body.mask(), 0, body.end());
             self.write_in_turn::<L>(true, destination.keeping(), &all, file, scalar);
         } else {
-            let destination = Destination { ..destination };
+            let destination = destination.copied();
             (*self).write_masked_in_turn::<L>(destination, &body.copied(), file, scalar);
         }
     }
@@ -187,7 +183,6 @@ impl BinaryOperation {
         scalar: &Scalar,
     )
         requires operands { IsInside self.vs2 destination.emul × SourceIsInside self.source destination.emul }
-        requires destination { IsInside destination.vd destination.emul }
         requires holds { HoldsBody L.width destination.emul destination.count body.now.end }
         ensures { file.new ≡ with_results (record { width = L.width; emul = destination.emul }) destination.vd body.now
             destination.agnostic.fill_masked_off destination.agnostic.fill_tail
@@ -198,7 +193,12 @@ impl BinaryOperation {
         let (source, emul, end) = (self.source, destination.emul, body.end());
         let unsigned = has_unsigned_immediate(self.op);
         let a = group_copy(file, self.vs2, emul, &mut first);
-        let b = second_copy::<L>(unsigned, source, emul, end, file, scalar, &mut second);
+        let operand = SecondOperand {
+            source,
+            unsigned,
+            emul,
+        };
+        let b = second_copy::<L>(operand, end, file, scalar, &mut second);
         let results = Binary { op: self.op, a, b };
         write_group::<L, Binary<'_>>(&results, destination, body, file);
     }
@@ -222,7 +222,7 @@ impl ElementWise for BinaryOperation {
         if !has_tail && self.is_in_turn(destination.vd, registers(destination.emul)) {
             self.write_all::<L>(destination, body, file, scalar);
         } else {
-            let destination = Destination { ..destination };
+            let destination = destination.copied();
             (*self).write_group::<L>(destination, &body.copied(), file, scalar);
         }
     }

@@ -1,6 +1,13 @@
 //! Clips of a source of twice the width, carried out ("V" Vector Extension 1.0, section 12.5).
 ghost use Rattle.std.specs.Prelude.{◌≡◌, ◌*◌, ◌≤◌, ◌||◌};
-ghost use Rattle.rv_model.specs.elements.Arithmetic.{body_of, clip_result, clip_saturates_at, fills_masked_off, fills_tail, with_results};
+ghost use Rattle.rv_model.specs.elements.Arithmetic.{
+  body_of,
+  clip_result,
+  clip_saturates_at,
+  fills_masked_off,
+  fills_tail,
+  with_results,
+};
 ghost use Rattle.rv_model.specs.vector.Configuration.{group_type, lmul_eighths, sew_bits, vlmax};
 ghost use Rattle.rv_model.specs.vector.Groups.{wide_type};
 ghost use Rattle.rv_model.specs.elements.Elements.{some_active};
@@ -8,7 +15,7 @@ ghost use Rattle.rv_model.specs.lending.GroupBounds.{HasRoom, HoldsBody, IsInsid
 
 use crate::body::body_under;
 use crate::destination::{Destination, Target, agnostic_under};
-use crate::operands::second_copy;
+use crate::operands::{SecondOperand, second_copy};
 use crate::saturating::write_saturating_group;
 use lane_arith::{Body, Lane};
 use lane_fixed::Clip;
@@ -39,7 +46,6 @@ impl ClipOperation {
     ) -> bool
         requires first { IsInside self.now.vs2 wide }
         requires second { SourceIsInside self.now.source destination.emul }
-        requires destination { IsInside destination.vd destination.emul }
         requires holds { HoldsBody N.width destination.emul destination.count body.now.end }
         requires room { HasRoom W.width wide body.now.end }
         ensures file { file.new ≡ with_results (record { width = N.width; emul = destination.emul }) destination.vd
@@ -54,15 +60,12 @@ impl ClipOperation {
         let (mut first, mut second) = ([0; GROUP_BYTES], [0; GROUP_BYTES]);
         let emul = destination.emul;
         let a = group_copy(file, self.vs2, wide, &mut first);
-        let b = second_copy::<N>(
-            true,
-            self.source,
+        let operand = SecondOperand {
+            source: self.source,
+            unsigned: true,
             emul,
-            body.end(),
-            file,
-            scalar,
-            &mut second,
-        );
+        };
+        let b = second_copy::<N>(operand, body.end(), file, scalar, &mut second);
         let results = Clip::<'_, W> {
             op: self.op,
             mode: self.mode,
@@ -76,7 +79,7 @@ impl ClipOperation {
 
 /// Carries out a clip to the width of the vector type, and sets `vxsat` where an active element saturates. The
 /// next instruction begins with the first element.
-#[tactic(auto, using(rv_model::proofs::legality_lemmas::Bounds::groups_hold_body, rv_model::proofs::legality_lemmas::Bounds::wide_groups_have_room))]
+#[tactic(auto, using(crate::proofs::LegalGroups::narrow_groups))]
 pub(crate) fn carry_out_clip(
     op: ClipOp,
     vs2: VReg,
@@ -117,11 +120,15 @@ pub(crate) fn carry_out_clip(
         source,
     };
     let file = &mut state.file;
-    let destination = |count| Destination {
-        vd: target.vd,
-        emul,
-        count,
-        agnostic,
+    let destination = |count|
+        requires { IsInside target.vd emul }
+    {
+        Destination {
+            vd: target.vd,
+            emul,
+            count,
+            agnostic,
+        }
     };
     let saturated = match target.vtype.sew {
         Sew::E8 => operation.write::<u8, u16>(destination(length), wide, &body, file, scalar),

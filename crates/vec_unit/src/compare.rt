@@ -5,7 +5,7 @@ ghost use Rattle.rv_model.specs.lending.GroupBounds.{IsInside, SourceIsInside};
 
 use crate::destination::write_mask;
 use crate::mask_wise::MaskWise;
-use crate::operands::second_copy;
+use crate::operands::{SecondOperand, second_copy};
 use lane_arith::{Body, CarryOut, Compare, Lane};
 use reg_groups::group_copy;
 use rv_model::instructions::operations::{CarryOutOp, CompareOp};
@@ -34,15 +34,12 @@ impl MaskWise for CompareOperation {
     ) {
         let (mut first, mut second) = ([0; GROUP_BYTES], [0; GROUP_BYTES]);
         let a = group_copy(file, self.vs2, emul, &mut first);
-        let b = second_copy::<L>(
-            false,
-            self.source,
+        let operand = SecondOperand {
+            source: self.source,
+            unsigned: false,
             emul,
-            body.end(),
-            file,
-            scalar,
-            &mut second,
-        );
+        };
+        let b = second_copy::<L>(operand, body.end(), file, scalar, &mut second);
         let results = Compare { op: self.op, a, b };
         write_mask::<L, Compare<'_>>(&results, vd, body, file);
     }
@@ -86,15 +83,12 @@ impl MaskWise for CarryOutOperation {
     ) {
         let (mut first, mut second) = ([0; GROUP_BYTES], [0; GROUP_BYTES]);
         let a = group_copy(file, self.vs2, emul, &mut first);
-        let b = second_copy::<L>(
-            false,
-            self.source,
+        let operand = SecondOperand {
+            source: self.source,
+            unsigned: false,
             emul,
-            body.end(),
-            file,
-            scalar,
-            &mut second,
-        );
+        };
+        let b = second_copy::<L>(operand, body.end(), file, scalar, &mut second);
         let results = CarryOut {
             op: self.op,
             a,

@@ -54,7 +54,6 @@ impl CompressOperation {
     /// Packs the elements before `end`, and fills the tail.
     fn write<L: Lane>(&self, destination: Destination, end: usize, file: &mut VFile)
         requires source { IsInside self.now.vs2 destination.emul }
-        requires destination { IsInside destination.vd destination.emul }
         requires holds { HoldsBody L.width destination.emul destination.count end }
         ensures { file.new ≡ with_packed (record { width = L.width; emul = destination.emul }) destination.vd end
             destination.agnostic.fill_tail
@@ -100,11 +99,15 @@ pub(crate) fn carry_out_compress(
     let agnostic = agnostic_under(policy, vtype, &body);
     let operation = CompressOperation { vs1, vs2 };
     let file = &mut state.file;
-    let destination = |count| Destination {
-        vd,
-        emul,
-        count,
-        agnostic,
+    let destination = |count|
+        requires { IsInside vd emul }
+    {
+        Destination {
+            vd,
+            emul,
+            count,
+            agnostic,
+        }
     };
     match vtype.sew {
         Sew::E8 => operation.write::<u8>(destination(length), body.end(), file),

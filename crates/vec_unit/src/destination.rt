@@ -71,14 +71,15 @@ pub(crate) fn agnostic_under(policy: Policy, vtype: VType, body: &Body<'_>) -> A
     }
 }
 
-/// A group that takes results: its first register, its multiplier in eighths of a register, and how many
-/// elements its registers hold.
+/// A group inside the file that takes results: its first register, its multiplier in eighths of a register, how many
+/// elements its registers hold, and what becomes of those that are agnostic.
 #[derive(Clone, Copy)]
 pub(crate) struct Destination {
     pub vd: VReg,
     pub emul: u32,
     pub count: usize,
     pub agnostic: Agnostic,
+    ghost inside: { IsInside vd emul },
 }
 
 impl Destination {
@@ -87,11 +88,28 @@ impl Destination {
     pub(crate) fn keeping(self) -> Destination
         ensures { result ≡ record self { agnostic = record self.agnostic { fill_masked_off = false } } }
     {
-        let agnostic = Agnostic {
-            fill_masked_off: false,
-            ..self.agnostic
-        };
-        Destination { agnostic, ..self }
+        Destination {
+            vd: self.vd,
+            emul: self.emul,
+            count: self.count,
+            agnostic: Agnostic {
+                fill_masked_off: false,
+                ..self.agnostic
+            },
+        }
+    }
+
+    /// A copy, in a place of its own.
+    #[inline(always)]
+    pub(crate) fn copied(self) -> Destination
+        ensures { result ≡ self }
+    {
+        Destination {
+            vd: self.vd,
+            emul: self.emul,
+            count: self.count,
+            agnostic: self.agnostic,
+        }
     }
 }
 
@@ -127,7 +145,6 @@ pub(crate) fn write_group<L: Lane, R: Results<L>>(
     file: &mut VFile,
 )
     requires operands { (i : ℕ) → i < body.now.end → R.has results.now i }
-    requires inside { IsInside destination.vd destination.emul }
     requires holds { HoldsBody L.width destination.emul destination.count body.now.end }
     ensures { file.new ≡ with_results (record { width = L.width; emul = destination.emul }) destination.vd body.now
         destination.agnostic.fill_masked_off destination.agnostic.fill_tail (R.number results.now) file.old }

@@ -30,7 +30,6 @@ pub(crate) trait ElementWise {
         scalar: &Scalar,
     )
         requires operands { inside self.now destination.emul }
-        requires destination { IsInside destination.vd destination.emul }
         requires holds { HoldsBody L.width destination.emul destination.count body.now.end }
         requires mask { body.now.mask ≡ register_of file.old 0 }
         ensures { file.new ≡ with_results (record { width = L.width; emul = destination.emul }) destination.vd body.now
@@ -66,11 +65,15 @@ pub(crate) fn carry_out<O: ElementWise>(
     let length = VLENB * registers(emul) as usize;
     let agnostic = agnostic_under(target.policy, target.vtype, &body);
     let file = &mut state.file;
-    let destination = |count| Destination {
-        vd: target.vd,
-        emul,
-        count,
-        agnostic,
+    let destination = |count|
+        requires { IsInside target.vd emul }
+    {
+        Destination {
+            vd: target.vd,
+            emul,
+            count,
+            agnostic,
+        }
     };
     match target.vtype.sew {
         Sew::E8 => operation.write::<u8>(destination(length), &body, file, scalar),

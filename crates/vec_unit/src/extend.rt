@@ -1,7 +1,20 @@
 //! Extensions of elements of a part of the width ("V" Vector Extension 1.0, section 11.3).
 ghost use Rattle.std.specs.Prelude.{◌≡◌, ◌/◌, ◌≤◌};
-ghost use Rattle.rv_model.specs.elements.Arithmetic.{body_of, extend_result, fills_masked_off, fills_tail, with_results};
-ghost use Rattle.rv_model.specs.vector.Configuration.{group_type, lmul_eighths, sew_bits, sew_width, vlmax, width_bytes};
+ghost use Rattle.rv_model.specs.elements.Arithmetic.{
+  body_of,
+  extend_result,
+  fills_masked_off,
+  fills_tail,
+  with_results,
+};
+ghost use Rattle.rv_model.specs.vector.Configuration.{
+  group_type,
+  lmul_eighths,
+  sew_bits,
+  sew_width,
+  vlmax,
+  width_bytes,
+};
 ghost use Rattle.rv_model.specs.vector.Groups.{extension_divisor, part_type, part_width};
 ghost use Rattle.rv_model.specs.lending.GroupBounds.{HasRoom, HoldsBody, IsInside};
 
@@ -106,7 +119,7 @@ fn carry_out_part(
 }
 
 /// Carries out an extension. The next instruction begins with the first element.
-#[tactic(auto, using(rv_model::proofs::legality_lemmas::Bounds::groups_hold_body, rv_model::proofs::legality_lemmas::Bounds::part_groups_have_room))]
+#[tactic(auto, using(crate::proofs::LegalGroups::extended_groups))]
 pub(crate) fn carry_out_extension(
     operation: ExtendOperation,
     target: Target,

@@ -1,6 +1,13 @@
 //! Fixed-point operations of one width, carried out ("V" Vector Extension 1.0, chapter 12).
 ghost use Rattle.std.specs.Prelude.{◌≡◌, ◌≤◌, ◌||◌};
-ghost use Rattle.rv_model.specs.elements.Arithmetic.{body_of, fills_masked_off, fills_tail, fixed_point_result, saturates_at, with_results};
+ghost use Rattle.rv_model.specs.elements.Arithmetic.{
+  body_of,
+  fills_masked_off,
+  fills_tail,
+  fixed_point_result,
+  saturates_at,
+  with_results,
+};
 ghost use Rattle.rv_model.specs.vector.Configuration.{group_type, lmul_eighths, vlmax};
 ghost use Rattle.rv_model.specs.elements.Elements.{some_active};
 ghost use Rattle.rv_model.specs.elements.FixedPoint.{has_unsigned_shift};
@@ -8,7 +15,7 @@ ghost use Rattle.rv_model.specs.lending.GroupBounds.{HoldsBody, IsInside, Source
 
 use crate::body::body_under;
 use crate::destination::{Destination, Target, agnostic_under};
-use crate::operands::second_copy;
+use crate::operands::{SecondOperand, second_copy};
 use crate::saturating::write_saturating_group;
 use lane_arith::{Body, Lane};
 use lane_fixed::FixedPoint;
@@ -43,7 +50,6 @@ impl FixedPointOperation {
     ) -> bool
         requires first { IsInside self.now.vs2 destination.emul }
         requires second { SourceIsInside self.now.source destination.emul }
-        requires destination { IsInside destination.vd destination.emul }
         requires holds { HoldsBody L.width destination.emul destination.count body.now.end }
         ensures file { file.new ≡ with_results (record { width = L.width; emul = destination.emul }) destination.vd
             body.now destination.agnostic.fill_masked_off destination.agnostic.fill_tail
@@ -57,15 +63,12 @@ impl FixedPointOperation {
         let emul = destination.emul;
         let unsigned = has_unsigned_shift(self.op);
         let a = group_copy(file, self.vs2, emul, &mut first);
-        let b = second_copy::<L>(
+        let operand = SecondOperand {
+            source: self.source,
             unsigned,
-            self.source,
             emul,
-            body.end(),
-            file,
-            scalar,
-            &mut second,
-        );
+        };
+        let b = second_copy::<L>(operand, body.end(), file, scalar, &mut second);
         let results = FixedPoint {
             op: self.op,
             mode: self.mode,
@@ -115,11 +118,15 @@ pub(crate) fn carry_out_fixed_point(
         source,
     };
     let file = &mut state.file;
-    let destination = |count| Destination {
-        vd: target.vd,
-        emul,
-        count,
-        agnostic,
+    let destination = |count|
+        requires { IsInside target.vd emul }
+    {
+        Destination {
+            vd: target.vd,
+            emul,
+            count,
+            agnostic,
+        }
     };
     let saturated = match target.vtype.sew {
         Sew::E8 => operation.write::<u8>(destination(length), &body, file, scalar),

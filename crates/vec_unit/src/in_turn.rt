@@ -6,7 +6,16 @@ ghost use Rattle.rv_model.specs.elements.Elements.{is_active, is_changed, result
 ghost use Rattle.rv_model.specs.elements.Formulas.{ones};
 ghost use Rattle.rv_model.specs.lending.Writes.{Writes};
 ghost use Rattle.rv_model.specs.vector.Configuration.{width_bytes};
-ghost use Rattle.vec_unit.specs.InTurn.{IsReadFirst, SourceHasRegisters, SourceIsReadFirst, number_from, second_in, second_number, test_from, turn_result};
+ghost use Rattle.vec_unit.specs.InTurn.{
+  IsReadFirst,
+  SourceHasRegisters,
+  SourceIsReadFirst,
+  number_from,
+  second_in,
+  second_number,
+  test_from,
+  turn_result,
+};
 ghost use mir.Val.{bits};
 
 use crate::operands::immediate_value;

@@ -41,7 +41,7 @@ pub(crate) trait MaskWise {
 
 /// Carries out an operation on groups of the vector type. The next instruction begins with the first
 /// element.
-#[tactic(auto, using(rv_model::proofs::legality_lemmas::Bounds::length_fits, rv_model::proofs::legality_lemmas::Bounds::length_below, rv_model::proofs::legality_lemmas::Bounds::multiplier_fits))]
+#[tactic(auto, using(crate::proofs::LegalGroups::compared_groups))]
 pub(crate) fn carry_out_mask<O: MaskWise>(
     operation: &O,
     target: Target,

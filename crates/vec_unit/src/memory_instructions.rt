@@ -6,7 +6,14 @@ ghost use Rattle.rv_model.specs.legality.Legality.{is_legal};
 ghost use Rattle.rv_model.specs.step.Hart.{hart_state};
 ghost use Rattle.rv_model.specs.step.MemoryStep.{access_end};
 ghost use Rattle.rv_model.specs.step.VectorStep.{performed, vector_ends, vector_executed};
-ghost use Rattle.vec_unit.specs.MemoryInstructions.{direction_of, filled_by, groups_of, is_unmasked, tail_fields, with_filled};
+ghost use Rattle.vec_unit.specs.MemoryInstructions.{
+  direction_of,
+  filled_by,
+  groups_of,
+  is_unmasked,
+  tail_fields,
+  with_filled,
+};
 
 use crate::body::body_under;
 use crate::destination::agnostic_under;

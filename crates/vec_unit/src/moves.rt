@@ -5,7 +5,7 @@ ghost use Rattle.std.specs.Prelude.{false};
 
 use crate::destination::{Destination, write_group};
 use crate::element_wise::ElementWise;
-use crate::operands::second_copy;
+use crate::operands::{SecondOperand, second_copy};
 use lane_arith::{Body, Copies, Lane};
 use rv_model::{GROUP_BYTES, Scalar, Source, VFile};
 
@@ -29,15 +29,12 @@ impl ElementWise for Move {
     ) {
         let mut copy = [0; GROUP_BYTES];
         let emul = destination.emul;
-        let b = second_copy::<L>(
-            false,
-            self.source,
+        let operand = SecondOperand {
+            source: self.source,
+            unsigned: false,
             emul,
-            body.end(),
-            file,
-            scalar,
-            &mut copy,
-        );
+        };
+        let b = second_copy::<L>(operand, body.end(), file, scalar, &mut copy);
         write_group::<L, Copies<'_>>(&Copies { b }, destination, body, file);
     }
 }

@@ -3,7 +3,7 @@ ghost use Rattle.rv_model.specs.elements.Arithmetic.{narrow_shift_result};
 ghost use Rattle.rv_model.specs.lending.GroupBounds.{IsInside, SourceIsInside};
 
 use crate::destination::{Destination, write_group};
-use crate::operands::second_copy;
+use crate::operands::{SecondOperand, second_copy};
 use crate::two_widths::TwoWidths;
 use lane_arith::{Body, Lane, NarrowShift};
 use reg_groups::group_copy;
@@ -35,15 +35,12 @@ impl TwoWidths for NarrowShiftOperation {
         let (mut first, mut second) = ([0; GROUP_BYTES], [0; GROUP_BYTES]);
         let emul = destination.emul;
         let a = group_copy(file, self.vs2, other, &mut first);
-        let b = second_copy::<D>(
-            true,
-            self.source,
+        let operand = SecondOperand {
+            source: self.source,
+            unsigned: true,
             emul,
-            body.end(),
-            file,
-            scalar,
-            &mut second,
-        );
+        };
+        let b = second_copy::<D>(operand, body.end(), file, scalar, &mut second);
         let results = NarrowShift::<'_, O> {
             op: self.op,
             a,

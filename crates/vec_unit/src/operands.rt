@@ -35,24 +35,37 @@ fn repeated<L: Lane>(number: u64, count: usize, copy: &mut [u8; GROUP_BYTES]) ->
     copy
 }
 
-/// A copy of the elements of the second operand, `count` of them.
+/// A second operand: where it stands, whether an immediate is unsigned, and the multiplier of its group in eighths of a
+/// register.
+#[derive(Clone, Copy)]
+pub(crate) struct SecondOperand {
+    pub source: Source,
+    pub unsigned: bool,
+    pub emul: u32,
+}
+
+/// A copy of the elements of a second operand, `count` of them.
 pub(crate) fn second_copy<'a, L: Lane>(
-    unsigned: bool,
-    source: Source,
-    emul: u32,
+    operand: SecondOperand,
     count: usize,
     file: &VFile,
     scalar: &Scalar,
     copy: &'a mut [u8; GROUP_BYTES],
 ) -> &'a [u8]
-    requires inside { SourceIsInside source emul }
-    requires most { emul ≤ 64 }
-    requires room { width_bytes L.width * count ≤ VLENB * registers emul }
+    requires inside { SourceIsInside operand.source operand.emul }
+    requires most { operand.emul ≤ 64 }
+    requires room { width_bytes L.width * count ≤ VLENB * registers operand.emul }
     requires count { count ≤ GROUP_BYTES }
     ensures elements { (i : ℕ) → i < count → element (width_bytes L.width) result.now i
-        ≡ second_element (record { width = L.width; emul = emul }) unsigned source file.now scalar.now i }
+        ≡ second_element (record { width = L.width; emul = operand.emul }) operand.unsigned operand.source file.now
+        scalar.now i }
     ensures room { width_bytes L.width * count ≤ length result.now }
 {
+    let SecondOperand {
+        source,
+        unsigned,
+        emul,
+    } = operand;
     match source {
         Source::V(vs1) => group_copy(file, vs1, emul, copy),
         Source::X(rs1) => repeated::<L>(scalar.read(rs1), count, copy),

@@ -3,7 +3,13 @@ ghost use Rattle.std.specs.Prelude.{◌≡◌, ◌*◌, ◌<◌, ◌≤◌, leng
 ghost use Rattle.rv_model.specs.elements.Arithmetic.{body_of, fills_masked_off, fills_tail, with_results};
 ghost use Rattle.rv_model.specs.vector.Configuration.{element_count, group_type, lmul_eighths, vlmax, width_bytes};
 ghost use Rattle.rv_model.specs.elements.Elements.{element};
-ghost use Rattle.rv_model.specs.elements.PermutationResults.{index_of, permute_body, permute_result, scalar_operand, source_type};
+ghost use Rattle.rv_model.specs.elements.PermutationResults.{
+  index_of,
+  permute_body,
+  permute_result,
+  scalar_operand,
+  source_type,
+};
 ghost use Rattle.rv_model.specs.elements.Permutations.{gathered};
 ghost use Rattle.rv_model.specs.lending.GroupBounds.{HasIndices, HoldsBody, IsInside};
 
@@ -48,7 +54,6 @@ impl<'a> GatherOperation<'a> {
     )
         requires limit { width_bytes L.width * self.now.limit ≤ length self.now.a.now }
         requires indices { HasIndices self.now.source I.width emul body.now.end }
-        requires destination { IsInside destination.vd destination.emul }
         requires holds { HoldsBody L.width destination.emul destination.count body.now.end }
         ensures { file.new ≡ with_results (record { width = L.width; emul = destination.emul }) destination.vd body.now
             destination.agnostic.fill_masked_off destination.agnostic.fill_tail
@@ -99,7 +104,6 @@ impl PermuteOperation {
         requires indices { HasIndices self.now.source
             (source_type self.now.op (record { width = L.width; emul = destination.emul })).width
             (source_type self.now.op (record { width = L.width; emul = destination.emul })).emul body.now.end }
-        requires destination { IsInside destination.vd destination.emul }
         requires holds { HoldsBody L.width destination.emul destination.count body.now.end }
         requires limit { limit ≡ element_count (record { width = L.width; emul = destination.emul }) }
         requires room { HoldsBody L.width destination.emul destination.count limit }
@@ -181,11 +185,15 @@ pub(crate) fn carry_out_permutation(
     let limit = usize::from(target.vtype.vlmax());
     let operation = PermuteOperation { op, vs2, source };
     let file = &mut state.file;
-    let destination = |count| Destination {
-        vd: target.vd,
-        emul,
-        count,
-        agnostic,
+    let destination = |count|
+        requires { IsInside target.vd emul }
+    {
+        Destination {
+            vd: target.vd,
+            emul,
+            count,
+            agnostic,
+        }
     };
     match target.vtype.sew {
         Sew::E8 => operation.write::<u8>(destination(length), limit, &body, file, scalar),

@@ -1,6 +1,12 @@
 //! Reductions, carried out ("V" Vector Extension 1.0, chapter 14).
 ghost use Rattle.std.specs.Prelude.{◌≡◌, ◌*◌, ◌≤◌};
-ghost use Rattle.rv_model.specs.elements.Arithmetic.{body_of, fills_tail, reduce_result, widen_reduce_result, with_first_result};
+ghost use Rattle.rv_model.specs.elements.Arithmetic.{
+  body_of,
+  fills_tail,
+  reduce_result,
+  widen_reduce_result,
+  with_first_result,
+};
 ghost use Rattle.rv_model.specs.vector.Configuration.{group_type, lmul_eighths, sew_bits, vlmax};
 ghost use Rattle.rv_model.specs.vector.Groups.{wide_type};
 ghost use Rattle.rv_model.specs.lending.GroupBounds.{HasRoom, IsInside, SourceIsInside};
@@ -8,7 +14,7 @@ ghost use Rattle.rv_model.specs.lending.GroupBounds.{HasRoom, IsInside, SourceIs
 use crate::body::body_under;
 use crate::destination::Target;
 use crate::first_element::write_first;
-use crate::operands::second_copy;
+use crate::operands::{SecondOperand, second_copy};
 use lane_arith::{Body, Lane};
 use lane_reduce::{Reduction, WideningReduction, reduce};
 use reg_groups::{group_copy, mask_register};
@@ -44,14 +50,19 @@ impl ReduceOperation {
     {
         let (mut first, mut second) = ([0; GROUP_BYTES], [0; GROUP_BYTES]);
         let a = group_copy(file, self.vs2, emul, &mut first);
-        let b = second_copy::<L>(false, self.source, 8, 1, file, scalar, &mut second);
+        let operand = SecondOperand {
+            source: self.source,
+            unsigned: false,
+            emul: 8,
+        };
+        let b = second_copy::<L>(operand, 1, file, scalar, &mut second);
         let number = reduce::<L, L, Reduction>(&Reduction { op: self.op }, L::load(b, 0), a, body);
         write_first(number, target, body, file);
     }
 }
 
 /// Carries out a reduction of a group of the vector type. The next instruction begins with the first element.
-#[tactic(auto, using(rv_model::proofs::legality_lemmas::Bounds::groups_have_room, rv_model::proofs::legality_lemmas::Bounds::length_below))]
+#[tactic(auto, using(crate::proofs::LegalGroups::reduced_groups))]
 pub(crate) fn carry_out_reduction(
     op: ReduceOp,
     vs2: VReg,
@@ -117,7 +128,12 @@ impl WidenReduceOperation {
     {
         let (mut first, mut second) = ([0; GROUP_BYTES], [0; GROUP_BYTES]);
         let a = group_copy(file, self.vs2, emul, &mut first);
-        let b = second_copy::<W>(false, self.source, 8, 1, file, scalar, &mut second);
+        let operand = SecondOperand {
+            source: self.source,
+            unsigned: false,
+            emul: 8,
+        };
+        let b = second_copy::<W>(operand, 1, file, scalar, &mut second);
         let combine = WideningReduction { op: self.op };
         let number = reduce::<N, W, WideningReduction>(&combine, W::load(b, 0), a, body);
         write_first(number, target, body, file);
@@ -126,7 +142,7 @@ impl WidenReduceOperation {
 
 /// Carries out a reduction of a group of the vector type to twice its width. The next instruction begins with
 /// the first element.
-#[tactic(auto, using(rv_model::proofs::legality_lemmas::Bounds::groups_have_room, rv_model::proofs::legality_lemmas::Bounds::length_below))]
+#[tactic(auto, using(crate::proofs::LegalGroups::reduced_groups))]
 pub(crate) fn carry_out_widening_reduction(
     op: WidenReduceOp,
     vs2: VReg,

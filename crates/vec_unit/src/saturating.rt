@@ -47,7 +47,6 @@ pub(crate) fn write_saturating_group<L: Lane, R: SaturatingResults<L>>(
     file: &mut VFile,
 ) -> bool
     requires operands { (i : ℕ) → i < body.now.end → R.has results.now i }
-    requires inside { IsInside destination.vd destination.emul }
     requires holds { HoldsBody L.width destination.emul destination.count body.now.end }
     ensures file { file.new ≡ with_results (record { width = L.width; emul = destination.emul }) destination.vd body.now
         destination.agnostic.fill_masked_off destination.agnostic.fill_tail (R.number results.now) file.old }

@@ -35,7 +35,6 @@ pub(crate) trait TwoWidths {
         scalar: &Scalar,
     )
         requires operands { inside self.now destination.emul other }
-        requires destination { IsInside destination.vd destination.emul }
         requires holds { HoldsBody D.width destination.emul destination.count body.now.end }
         requires room { HasRoom O.width other body.now.end }
         requires mask { body.now.mask ≡ register_of file.old 0 }
@@ -91,7 +90,7 @@ pub(crate) fn carry_out<D: Lane, O: Lane, T: TwoWidths>(
 
 /// Carries out an operation whose destination has twice the vector type's width. The next instruction begins
 /// with the first element.
-#[tactic(auto, using(rv_model::proofs::legality_lemmas::Bounds::wide_groups_hold_body, rv_model::proofs::legality_lemmas::Bounds::groups_have_room))]
+#[tactic(auto, using(crate::proofs::LegalGroups::wide_groups))]
 pub(crate) fn carry_out_widening<T: TwoWidths>(
     operation: &T,
     target: Target,
@@ -127,7 +126,7 @@ pub(crate) fn carry_out_widening<T: TwoWidths>(
 
 /// Carries out an operation with a source of twice the vector type's width. The next instruction begins with
 /// the first element.
-#[tactic(auto, using(rv_model::proofs::legality_lemmas::Bounds::groups_hold_body, rv_model::proofs::legality_lemmas::Bounds::wide_groups_have_room))]
+#[tactic(auto, using(crate::proofs::LegalGroups::narrow_groups))]
 pub(crate) fn carry_out_narrowing<T: TwoWidths>(
     operation: &T,
     target: Target,

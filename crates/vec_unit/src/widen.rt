@@ -5,7 +5,7 @@ ghost use Rattle.rv_model.specs.elements.Arithmetic.{wide_source_result, widen_m
 ghost use Rattle.rv_model.specs.lending.GroupBounds.{IsInside, SourceIsInside};
 
 use crate::destination::{Destination, write_group};
-use crate::operands::second_copy;
+use crate::operands::{SecondOperand, second_copy};
 use crate::two_widths::TwoWidths;
 use lane_arith::{Body, Lane, WideSource, Widen, WidenMultiplyAdd};
 use reg_groups::group_copy;
@@ -36,15 +36,12 @@ impl TwoWidths for WidenOperation {
     ) {
         let (mut first, mut second) = ([0; GROUP_BYTES], [0; GROUP_BYTES]);
         let a = group_copy(file, self.vs2, other, &mut first);
-        let b = second_copy::<O>(
-            false,
-            self.source,
-            other,
-            body.end(),
-            file,
-            scalar,
-            &mut second,
-        );
+        let operand = SecondOperand {
+            source: self.source,
+            unsigned: false,
+            emul: other,
+        };
+        let b = second_copy::<O>(operand, body.end(), file, scalar, &mut second);
         let results = Widen::<'_, O> {
             op: self.op,
             a,
@@ -78,15 +75,12 @@ impl TwoWidths for WideSourceOperation {
     ) {
         let (mut first, mut second) = ([0; GROUP_BYTES], [0; GROUP_BYTES]);
         let a = group_copy(file, self.vs2, destination.emul, &mut first);
-        let b = second_copy::<O>(
-            false,
-            self.source,
-            other,
-            body.end(),
-            file,
-            scalar,
-            &mut second,
-        );
+        let operand = SecondOperand {
+            source: self.source,
+            unsigned: false,
+            emul: other,
+        };
+        let b = second_copy::<O>(operand, body.end(), file, scalar, &mut second);
         let results = WideSource::<'_, O> {
             op: self.op,
             a,
@@ -136,15 +130,12 @@ impl TwoWidths for WidenMultiplyAddOperation {
         let (mut first, mut second) = ([0; GROUP_BYTES], [0; GROUP_BYTES]);
         let mut third = [0; GROUP_BYTES];
         let a = group_copy(file, self.vs2, other, &mut first);
-        let b = second_copy::<O>(
-            false,
-            self.source,
-            other,
-            body.end(),
-            file,
-            scalar,
-            &mut second,
-        );
+        let operand = SecondOperand {
+            source: self.source,
+            unsigned: false,
+            emul: other,
+        };
+        let b = second_copy::<O>(operand, body.end(), file, scalar, &mut second);
         let d = group_copy(file, self.vd, destination.emul, &mut third);
         let results = WidenMultiplyAdd::<'_, O> {
             op: self.op,
