@@ -16,10 +16,8 @@ use crate::retirement::retire;
 use crate::ticks::{Found, access_ticks};
 use crate::vectors::Vectors;
 use crate::view::StepTerms;
-use rv_decode::{
-    ArithOperation, decode_irregular, decode_other_access, decode_regular, decode_unit_stride,
-};
-use rv_model::{Cause, Scalar, Seat, StepEnd, VEnd};
+use rv_decode::{decode_irregular, decode_other_access, decode_regular, decode_unit_stride};
+use rv_model::{ArithOperation, Cause, Scalar, Seat, StepEnd, VEnd};
 use vec_unit::{exec_access, exec_arith, exec_operation, exec_other_access};
 use vector_memory::UserBytes;
 

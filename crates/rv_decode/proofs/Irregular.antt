@@ -15,7 +15,7 @@ use Rattle.rv_model.specs.declared.instructions.vector.VectorInstr.TheVariants.{
 use Rattle.rv_model.specs.instructions.Table.{Row, table, scan}
 use Rattle.rv_model.specs.lending.Families.{rows, Systems, Csrs, CsrImmediates, Ariths, Carries, Moves, WholeMoves, MaskLogics, Compresses, MasksToScalar, Extends, MaskUnaries, ElementIndices, MovesToScalar, MovesToVector, SetVlis, SetIvlis, SetVls, Units, Strideds, Indexeds, WholeLoads, WholeStores, MaskMemories}
 use Rattle.rv_model.proofs.instruction_lemmas.Scans.{scan_append, same_narrow, no_scan, DiffersFrom}
-use Rattle.rv_decode.specs.declared.arith_operation.ArithOperation.{ArithOperation}
+use Rattle.rv_model.specs.declared.instructions.arith_operation.ArithOperation.{ArithOperation}
 use Rattle.rv_decode.specs.Irregular.{irregular, other_accesses}
 use Rattle.rv_decode.proofs.Scan.{at_access, at_73, at_0057, at_2057, at_3057, at_4057, at_6057, at_7057, places}
 

@@ -8,7 +8,6 @@ ghost use Rattle.rv_decode.specs.Irregular.{irregular, other_accesses};
 ghost use Rattle.rv_model.specs.instructions.Table.{Row, IsRow, scan, table};
 ghost use Rattle.rv_model.specs.lending.Families.{rows, Uppers, Jumps, JumpRegisters, Branches, Loads, Stores, RegisterImmediates, ShiftImmediates, ShiftImmediateWords, RegisterRegisters, Fences, Systems, Csrs, CsrImmediates, SetVlis, SetIvlis, SetVls, Ariths, Carries, Moves, WholeMoves, MaskLogics, Compresses, MasksToScalar, Extends, MaskUnaries, ElementIndices, MovesToScalar, MovesToVector, Units, Strideds, Indexeds, WholeLoads, WholeStores, MaskMemories};
 
-use crate::arith_operation::ArithOperation;
 use crate::scalar::{
     branch, csr, csr_immediate, fence, jump, jump_register, load, register_immediate,
     register_register, shift_immediate, shift_immediate_word, store, system, upper,
@@ -19,7 +18,7 @@ use crate::vector::{
 };
 use crate::vector_memory::{indexed, mask_memory, strided, unit, whole_load, whole_store};
 use rv_model::instructions::operations::{Form, Major, SystemOp};
-use rv_model::{AccessInstr, CsrInstr, Instr, ScalarInstr, VectorInstr};
+use rv_model::{AccessInstr, ArithOperation, CsrInstr, Instr, ScalarInstr, VectorInstr};
 
 /// OP-IMM.
 #[tactic(auto, using(rv_model::proofs::instruction_lemmas::Scans::scan_append))]

@@ -1,7 +1,6 @@
 //! Words to instructions, and instructions to words.
 #![tactic(auto)]
 
-mod arith_operation;
 mod decoder;
 mod encoder;
 mod fixed_bits;
@@ -16,7 +15,6 @@ mod vector_memory;
 mod vector_operations;
 mod word_fields;
 
-pub use arith_operation::ArithOperation;
 pub use decoder::{
     decode, decode_call, decode_csr, decode_irregular, decode_other_access, decode_regular,
     decode_scalar, decode_unit_stride,

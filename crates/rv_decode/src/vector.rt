@@ -7,14 +7,13 @@ ghost use Rattle.rv_model.specs.instructions.Operations.{major_bits};
 ghost use Rattle.rv_model.specs.instructions.Table.{scan};
 ghost use Rattle.rv_model.specs.lending.Families.{rows, SetVlis, SetIvlis, SetVls, WholeMoves, MaskLogics, Compresses, MasksToScalar, Extends, MaskUnaries, ElementIndices, MovesToScalar, MovesToVector, Ariths, Carries, Moves};
 
-use crate::arith_operation::ArithOperation;
 use crate::vector_operations::{
     carry_op, extend_op, mask_logic_op, mask_to_scalar_op, mask_unary_op, opi, opm, whole_move_op,
 };
 use crate::word_fields::{is_unmasked, reg, source, vreg};
 use rv_model::instructions::bits;
 use rv_model::instructions::operations::{Form, Major};
-use rv_model::{Arith, Carry, Field, Instr, VectorInstr};
+use rv_model::{Arith, ArithOperation, Carry, Field, Instr, VectorInstr};
 
 /// An operation with a line of its own in the table, masked or not.
 #[tactic(auto, using(crate::proofs::Scan::scan_arith, rv_model::proofs::instruction_lemmas::Words::form_source_of))]

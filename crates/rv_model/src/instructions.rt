@@ -1,5 +1,6 @@
 //! Instructions: their operations, their operands, and the instructions themselves.
 mod access;
+mod arith_operation;
 mod csr;
 mod instruction;
 mod operands;
@@ -11,6 +12,7 @@ mod vector;
 mod word_bits;
 
 pub use access::AccessInstr;
+pub use arith_operation::ArithOperation;
 pub use csr::CsrInstr;
 pub use instruction::Instr;
 pub use operands::{Field, Reg, VReg};

@@ -19,7 +19,8 @@ pub use commands::{
 };
 pub use images::{ElfFault, ProgramHeader};
 pub use instructions::{
-    AccessInstr, Arith, Carry, CsrInstr, Field, Instr, Reg, ScalarInstr, Source, VReg, VectorInstr,
+    AccessInstr, Arith, ArithOperation, Carry, CsrInstr, Field, Instr, Reg, ScalarInstr, Source,
+    VReg, VectorInstr,
 };
 pub use legality::{Content, Operand, Role, Shape};
 pub use machine::{

@@ -1,6 +1,7 @@
-//! Vector operations with a line of their own in the manual's table, by their operands ("V" Vector Extension 1.0, sections 10.1
-//! and 19).
-use rv_model::{Arith, VReg};
+//! Vector operations with a line of their own in the manual's table, by their operands ("V" Vector Extension 1.0,
+//! sections 10.1 and 19).
+use crate::instructions::operands::VReg;
+use crate::instructions::pairs::Arith;
 
 /// A vector operation: with its second source, on the group from `vs2` on, to the group from `vd` on; masked by v0 unless
 /// it is unmasked.
