@@ -185,8 +185,8 @@ impl Unit {
         }
     }
 
-    /// What the unit is once a user has touched it: a law, which does nothing. The owner's touch changes nothing, one with
-    /// a clean seat writes no save area, and once the seat has come back the unit may be touched again.
+    /// What the unit is once a user has touched it: a law, which does nothing. The owner's touch changes nothing, one
+    /// with a clean seat writes no save area, and once the seat has come back the unit may be touched again.
     #[tactic(auto, using(crate::proofs::UnitLaws::lending_steps))]
     pub fn lending_law(&self, user: User)
         ensures own { IsSettled self.now → (touched user self.now).seat.state ≡ state_of self.now user }
