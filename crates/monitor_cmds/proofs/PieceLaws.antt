@@ -2,6 +2,7 @@
 use Rattle.std.proofs.Common.{◌≡◌, ℕ, suc, ◌+◌, ◌-◌, ◌*◌, ◌/◌, ◌<◌, ◌≤◌, List, ◌++◌, length, get_or, drop, refl, sym, ap, ◌∙◌, append_assoc, append-nil, arith, lit≤}
 use Rattle.std.specs.Prelude.{flat_map}
 use Rattle.std.specs.List.{range_with_len}
+use Rattle.std.proofs.lemmas.Grind.{common_steps}
 use Rattle.std.proofs.lemmas.List.{at_drop_more, at_drop_all}
 use Rattle.rv_model.specs.declared.vector.types.Sew.{Sew}
 use Rattle.rv_model.specs.declared.vector.types.Sew.TheVariants.{E8, E16, E32, E64}
@@ -62,3 +63,6 @@ element_has_at_most_8_bytes E8 = lit≤ tt
 element_has_at_most_8_bytes E16 = lit≤ tt
 element_has_at_most_8_bytes E32 = lit≤ tt
 element_has_at_most_8_bytes E64 = lit≤ tt
+
+-- pieces one after another, for the tactics
+pub ruleset joined = (common_steps)

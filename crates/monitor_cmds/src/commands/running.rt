@@ -151,7 +151,7 @@ pub fn state_line(reply: &mut Reply, tag: Tag, running: bool, pc: u64)
 
 /// Adds the answer to `trace`: the addresses of at most 16 instructions, the oldest first, in two
 /// runs, as `trace 0000000000010000 0000000000010004`.
-#[tactic(auto, unfolding(rv_model::specs::commands::Running::trace_line), using(std::proofs::lemmas::Grind::common_steps))]
+#[tactic(auto, unfolding(rv_model::specs::commands::Running::trace_line), using(crate::proofs::PieceLaws::joined))]
 pub fn trace_line(reply: &mut Reply, tag: Tag, older: &[u64], newer: &[u64])
     requires few { length older.now + length newer.now ≤ 16 }
     requires room { length reply.old + 280 ≤ 4096 }
