@@ -1,13 +1,15 @@
 -- How many bits of a mask are set.
-use Rattle.std.proofs.Common.{◌≡◌, ℕ, zero, suc, ◌+◌, ◌*◌, ◌/◌, ◌%◌, ◌^◌, ◌<◌, ◌≤◌, ◌==◌, Bool, true, false, Fits, List, [], ◌∷◌, length, map, refl, ap, ◌∙◌, sym, arith, mod-eq_of_lt, zero-add}
+use Rattle.std.proofs.Common.{◌≡◌, ℕ, zero, suc, ◌+◌, ◌-◌, ◌*◌, ◌/◌, ◌%◌, ◌^◌, ◌<◌, ◌≤◌, ◌==◌, Bool, true, false, Fits, List, [], ◌∷◌, bit_and, get_or, length, map, refl, ap, ◌∙◌, sym, arith, inl, inr, mod-eq_of_lt, zero-add}
+use Rattle.std.proofs.lemmas.Bool.{cases_lt}
+use Rattle.std.proofs.lemmas.Simd.{get_or-put_chunk_at, get_or-put_chunk_below}
 use Rattle.std.proofs.lemmas.Bool.Decides.{nat_tests}
-use Rattle.std.proofs.lemmas.Nat.{mod-pow-add, ones-le, ones_cat, pow_pos}
+use Rattle.std.proofs.lemmas.Nat.{and_mask, mod-pow-add, ones-le, ones_cat, pow_pos}
 use Rattle.std.proofs.lemmas.Nat.Bits.{bit_at-lt}
 use Rattle.std.proofs.Math.Nat.{mod-lt}
 use Rattle.std.specs.Int.{from_bool, w8, w16}
 use Rattle.std.specs.Int.RustNames.{count_ones}
 use Rattle.std.specs.List.{filter, range_with_len}
-use lib.Lanes.{Each1, fold_l, sum_l}
+use lib.Lanes.{Each1, fold_l, put_chunk, sum_l}
 use Rattle.rv_model.specs.elements.Elements.{mask_bit}
 use Rattle.rv_model.proofs.element_lemmas.Ranges.{count_more, count_most}
 
@@ -31,7 +33,7 @@ abbrev pub passing : (ℕ → Bool) → ℕ → ℕ
 passing test n = length (filter test (range_with_len 0 n))
 
 -- a number whose bits tell which of the next numbers pass
-ones_counted : (test : ℕ → Bool) (x from n m : ℕ) → m ≤ n → ((i : ℕ) → i < n → (x / 2 ^ i % 2 == 1) ≡ test (from + i))
+pub ones_counted : (test : ℕ → Bool) (x from n m : ℕ) → m ≤ n → ((i : ℕ) → i < n → (x / 2 ^ i % 2 == 1) ≡ test (from + i))
     → passing test from + count_ones (x % 2 ^ m) ≡ passing test (from + m)
 unfolding count_ones
 ones_counted test x from n zero h told =
@@ -72,6 +74,26 @@ bytes_counted test (x ∷ xs) from f told =
     rw (byte, bit, place) at one) in
     let end : from + 8 + 8 * length xs ≡ from + 8 * suc (length xs) = omega arith in
     omega (arith, first, rest, ap (passing test) end)
+
+-- how many of the lower bits are set, at each of 8 places of a byte
+lower_count : (x n j : ℕ) → n + 8 ≤ 256 → j < 8 → (n + count_ones (bit_and x (2 ^ j - 1))) % 256 ≡ n + count_ones (x % 2 ^ j)
+lower_count x n j few l =
+    let most : count_ones (x % 2 ^ j) ≤ j = ones-le j (x % 2 ^ j) (mod-lt x (pow_pos j)) in
+    rw (and_mask x j) (mod-eq_of_lt (omega (arith, few, l, most)))
+
+pub lower_counted : (x n i : ℕ) → n + 8 ≤ 256 → i < 8
+    → get_or ((n + count_ones (bit_and x 0)) % 256 ∷ (n + count_ones (bit_and x 1)) % 256 ∷ (n + count_ones (bit_and x 3)) % 256
+    ∷ (n + count_ones (bit_and x 7)) % 256 ∷ (n + count_ones (bit_and x 15)) % 256 ∷ (n + count_ones (bit_and x 31)) % 256
+    ∷ (n + count_ones (bit_and x 63)) % 256 ∷ (n + count_ones (bit_and x 127)) % 256 ∷ []) i 0 ≡ n + count_ones (x % 2 ^ i)
+lower_counted x n zero few l = lower_count x n 0 few l
+lower_counted x n (suc zero) few l = lower_count x n 1 few l
+lower_counted x n (suc (suc zero)) few l = lower_count x n 2 few l
+lower_counted x n (suc (suc (suc zero))) few l = lower_count x n 3 few l
+lower_counted x n (suc (suc (suc (suc zero)))) few l = lower_count x n 4 few l
+lower_counted x n (suc (suc (suc (suc (suc zero))))) few l = lower_count x n 5 few l
+lower_counted x n (suc (suc (suc (suc (suc (suc zero)))))) few l = lower_count x n 6 few l
+lower_counted x n (suc (suc (suc (suc (suc (suc (suc zero))))))) few l = lower_count x n 7 few l
+lower_counted x n (suc (suc (suc (suc (suc (suc (suc (suc j)))))))) few l = absurd (omega (arith, l))
 
 -- how many bits of each byte are set, in bytes and in lanes of 16 bits
 pub ones_fit : (xs : List ℕ) → Each1 (Fits w8) xs → Each1 (Fits w8) (map count_ones xs)
@@ -119,3 +141,28 @@ none_counted test from (suc m) fails =
     let off_here : from_bool (test (from + m)) ≡ 0 = ap from_bool (fails (from + m) (omega arith)) in
     let more : passing test (from + m + 1) ≡ passing test (from + m) + from_bool (test (from + m)) = count_more test (from + m) in
     ap (passing test) place ∙ omega (arith, more, off_here, none_counted test from m fails)
+
+-- the counts below 8 more places, of a mask's next byte
+module _ (set : List ℕ) (q : ℕ) where
+  of_byte : (i : ℕ) → i < 8 → (get_or set q 0 / 2 ^ i % 2 == 1) ≡ mask_bit set (8 * q + i)
+  of_byte i h =
+      let byte : (8 * q + i) / 8 ≡ q = omega (arith, h) in
+      let bit : (8 * q + i) % 8 ≡ i = omega (arith, h) in
+      rw (byte, bit) refl
+
+  pub count_in_byte : (below i : ℕ) → i ≤ 8 → below ≡ passing (mask_bit set) (8 * q)
+      → below + count_ones (get_or set q 0 % 2 ^ i) ≡ passing (mask_bit set) (8 * q + i)
+  count_in_byte below i h is = rw is (ones_counted (mask_bit set) (get_or set q 0) (8 * q) 8 i h (λ j l. of_byte j l))
+
+  pub byte_counted : (below : ℕ) (old made new : List ℕ) → new ≡ put_chunk (8 * q) old made → length made ≡ 8 → 8 * q + 8 ≤ length old
+      → ((i : ℕ) → i < 8 → get_or made i 0 ≡ below + count_ones (get_or set q 0 % 2 ^ i)) → below ≡ passing (mask_bit set) (8 * q)
+      → ((k : ℕ) → k < 8 * q → get_or old k 0 ≡ passing (mask_bit set) k) → (k : ℕ) → k < 8 * (q + 1) → get_or new k 0 ≡ passing (mask_bit set) k
+  byte_counted below old made new e long room told is was k h = elim (cases_lt k (8 * q)) [
+    | inl low ↦ ap (λ xs. get_or xs k 0) e ∙ get_or-put_chunk_below (8 * q) old made k 0 low ∙ was k low
+    | inr high ↦
+        let at : 8 * q + (k - 8 * q) ≡ k = omega (arith, high) in
+        let inside : k - 8 * q < 8 = omega (arith, h, high) in
+        ap (λ xs. get_or xs k 0) e ∙ ap (λ x. get_or (put_chunk (8 * q) old made) x 0) (sym at)
+        ∙ get_or-put_chunk_at (8 * q) old made (k - 8 * q) 0 (omega (arith, inside, long)) (omega (arith, room, long))
+        ∙ told (k - 8 * q) inside ∙ count_in_byte below (k - 8 * q) (omega (arith, inside)) is ∙ ap (passing (mask_bit set)) at
+  ]
