@@ -1,1 +1,2 @@
 pub mod MovedElements
+pub mod PackedBits

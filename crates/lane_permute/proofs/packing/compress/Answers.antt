@@ -1,27 +1,20 @@
-use Rattle.std.proofs.Common.{ℕ, ◌+◌, ◌*◌, ◌<◌, ◌≤◌, ◌≡◌, true, false, arith, length, sym, ◌∙◌}
-use Rattle.rv_model.specs.elements.Elements.{element, mask_bit}
+use Rattle.std.proofs.Common.{ℕ, List, ◌+◌, ◌*◌, ◌<◌, ◌≡◌, arith, min, subst}
+use Rattle.rv_model.specs.elements.Elements.{element}
 use Rattle.rv_model.specs.vector.Configuration.{width_bytes}
-use Rattle.rv_model.proofs.element_lemmas.Packed.{pack_passed, pack_taken}
-use Rattle.rv_model.proofs.element_lemmas.Sets.{room_for}
+use Rattle.rv_model.proofs.element_lemmas.Packed.{PackedTo, packed_few}
 use Rattle.lane_permute.proofs.packing.compress.Goals as goal
-use Rattle.lane_permute.proofs.packing.compress.Goals.{then-bit_of, else-bit_of}
 
-pub loop-i-preserved : goal.loop-i-preserved
-loop-i-preserved g c =
+pub loop-word-preserved : goal.loop-word-preserved
+loop-word-preserved g c =
     let k : ℕ = width_bytes g.L.Lane.width in
-    let select = c.args.select.now in
-    let number = element k c.args.a.now in
-    let at : ℕ = c.loop-i.count in
-    let first : at < c.args.end = omega (arith, c.loop-i.invariant.few, c.loop-i-test.true) in
-    let room : k * at + k ≤ length c.args.destination.now = room_for k at c.args.end _ first c.requires.room in
-    elim c.if-bit_of.branch [
-      | then-bit_of w ↦
-          let h : mask_bit select c.loop-i.i ≡ true = sym c.bit_of.ensures ∙ w.if-bit_of.true in
-          rw w.count-is
-          (pack_taken select number k c.loop-i.i at c.args.destination.now c.loop-i.destination _ h room c.loop-i.invariant
-          (cc (w.destination-is, w.store.ensures, w.load.ensures)))
-      | else-bit_of w ↦
-          let h : mask_bit select c.loop-i.i ≡ false = sym c.bit_of.ensures ∙ w.if-bit_of.false in
-          rw (w.count-is, w.destination-is)
-          (pack_passed select number k c.loop-i.i at c.args.destination.now c.loop-i.destination h c.loop-i.invariant)
-    ]
+    let number : ℕ → ℕ = element k c.args.a.now in
+    let select : List ℕ = c.args.select.now in
+    let old : List ℕ = c.args.destination.now in
+    let some : 32 * c.loop-word.word < c.args.end = omega (arith, c.loop-word-test.true) in
+    let here : min (32 * c.loop-word.word) c.args.end ≡ 32 * c.loop-word.word = omega (arith, some) in
+    let there : c.min.result ≡ min (32 * (c.loop-word.word + 1)) c.args.end = omega (arith, c.min.ensures) in
+    let was : PackedTo select number k (32 * c.loop-word.word) c.loop-word.count old c.loop-word.destination =
+    subst (λ n. PackedTo select number k n c.loop-word.count old c.loop-word.destination) here c.loop-word.invariant in
+    let done = c.pack_word-count.ensures old was.writes in
+    subst (λ n. PackedTo select number k n c.pack_word-count.result old c.pack_word-count.new.destination) there
+    (record { many = done.0; few = omega (arith, done.0, packed_few select number c.min.result); writes = done.1 })

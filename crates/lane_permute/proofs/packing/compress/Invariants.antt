@@ -1,9 +1,10 @@
+use Rattle.std.proofs.Common.{◌*◌, min}
 use Rattle.rv_model.specs.elements.Elements.{element}
 use Rattle.rv_model.specs.vector.Configuration.{width_bytes}
 use Rattle.rv_model.proofs.element_lemmas.Packed.{PackedTo}
 use Rattle.lane_permute.proofs.packing.compress.Given as goal
 
-abbrev pub invariant-loop-i : goal.invariant-loop-i
-invariant-loop-i g l =
+abbrev pub invariant-loop-word : goal.invariant-loop-word
+invariant-loop-word g l =
     let k = width_bytes g.L.Lane.width in
-    PackedTo l.select (element k l.a) k l.i l.count l.initial.destination l.destination
+    PackedTo l.select (element k l.a) k (min (32 * l.word) l.end) l.count l.initial.destination l.destination
