@@ -17,7 +17,7 @@ use crate::ticks::{Found, access_ticks};
 use crate::vectors::Vectors;
 use crate::view::StepTerms;
 use rv_decode::{decode_irregular, decode_other_access, decode_regular, decode_unit_stride};
-use rv_model::{ArithOperation, Cause, Scalar, Seat, StepEnd, VEnd};
+use rv_model::{Cause, Scalar, Seat, StepEnd, VEnd};
 use vec_unit::{exec_access, exec_arith, exec_operation, exec_other_access};
 use vector_memory::UserBytes;
 
@@ -147,16 +147,10 @@ pub(crate) fn execute_operation<M: UserBytes, V: Vectors>(
     let Some(operation) = decode_regular(word) else {
         return execute_vector(word, scalar, memory, vectors, terms, end);
     };
-    let ArithOperation {
-        arith,
-        vd,
-        vs2,
-        unmasked,
-    } = operation;
     let policy = terms.policy;
     let seat = vectors.seat();
     seat.state.conf.length_law();
-    let ending = exec_arith(arith, vd, vs2, unmasked, &mut seat.state, scalar, policy);
+    let ending = exec_arith(&operation, &mut seat.state, scalar, policy);
     retire_vector(ending, 1, word, scalar, seat, end)
 }
 

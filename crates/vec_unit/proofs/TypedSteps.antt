@@ -3,15 +3,19 @@ use Rattle.std.proofs.Common.{◌≡◌, refl, true}
 use Rattle.rv_model.specs.declared.instructions.vector.VectorInstr.{VectorInstr}
 use Rattle.rv_model.specs.declared.instructions.vector.VectorInstr.TheVariants.{Arith, Extend, SetIvli, SetVl, SetVli}
 use Rattle.rv_model.specs.step.Hart.{HartState}
+use Rattle.rv_model.proofs.element_lemmas.Numbers.{extends_sign}
 use Rattle.rv_model.specs.step.VectorStep.{operation_step, typed, typed_step}
 use Rattle.vec_unit.specs.Arithmetic.{is_typed}
 
-pub step_is_typed : (i : VectorInstr) (s : HartState) → is_typed i ≡ true
+pub by_type : (i : VectorInstr) (s : HartState) → is_typed i ≡ true
     → operation_step i s ≡ typed s.vector.conf.vtype (typed_step i) s
 unfolding operation_step
-step_is_typed (SetVli rd rs1 vtype) s h = absurd (cc)
-step_is_typed (SetIvli rd avl vtype) s h = absurd (cc)
-step_is_typed (SetVl rd rs1 rs2) s h = absurd (cc)
-step_is_typed (Extend op vd vs2 vm) s h = absurd (cc)
-step_is_typed (Arith arith vd vs2 vm) s h = absurd (cc)
-step_is_typed _ s h = refl
+by_type (SetVli rd rs1 vtype) s h = absurd (cc)
+by_type (SetIvli rd avl vtype) s h = absurd (cc)
+by_type (SetVl rd rs1 rs2) s h = absurd (cc)
+by_type (Extend op vd vs2 vm) s h = absurd (cc)
+by_type (Arith arith vd vs2 vm) s h = absurd (cc)
+by_type _ s h = refl
+
+-- the number that a move of element 0 to a scalar register writes, for the tactics
+pub ruleset signs = (extends_sign)

@@ -1,17 +1,24 @@
 -- Groups of one width whose registers are replaced one after another, each by what is made of the operands' registers of the
 -- same place ("V" Vector Extension 1.0, sections 3.4.2 and 5.2). The elements of all registers are numbered through: those of
 -- register r begin with element n * r, where a register has n.
-use Rattle.std.specs.Prelude.{ℕ, ◌+◌, ◌*◌, ◌-◌, ◌≤◌, ◌%◌, ◌^◌, ◌&&◌, ◌⊎◌, nat_le, Bool, List, ⊤}
+use Rattle.std.specs.Prelude.{ℕ, ◌+◌, ◌*◌, ◌-◌, ◌≡◌, ◌≤◌, ◌%◌, ◌^◌, ◌&&◌, ◌⊎◌, nat_le, Bool, IsTrue, List, true, ⊤}
 use Rattle.std.specs.Int.{Width}
 use mir.Val.{bits}
 use Rattle.rv_model.specs.declared.instructions.operations.BinaryOp.{BinaryOp}
 use Rattle.rv_model.specs.declared.instructions.source.Source.{Source}
 use Rattle.rv_model.specs.declared.instructions.source.Source.TheVariants as source
 use Rattle.rv_model.specs.declared.scalar.Scalar.{Scalar}
-use Rattle.rv_model.specs.elements.Elements.{element}
+use Rattle.rv_model.specs.elements.Arithmetic.{binary_result}
+use Rattle.rv_model.specs.elements.Elements.{Body, element}
 use Rattle.rv_model.specs.elements.Formulas.{formula, immediate_value, wrap}
 use Rattle.rv_model.specs.scalar.Registers.{read_register}
+use Rattle.rv_model.specs.lending.GroupBounds.{HoldsBody, IsInside, SourceIsInside}
 use Rattle.rv_model.specs.vector.Configuration.{width_bytes}
+use Rattle.rv_model.specs.vector.Registers.{registers}
+use Rattle.lane_arith.specs.SimdOperations.{is_simd}
+use Rattle.vec_unit.specs.declared.binary.BinaryOperation.{BinaryOperation}
+use Rattle.vec_unit.specs.declared.destination.Destination.{Destination}
+use Rattle.vec_unit.specs.Results.{with_written}
 
 -- a test of the elements of the group that begins with element `first`, as a test of all elements
 abbrev pub test_from : ℕ → (ℕ → Bool) → ℕ → Bool
@@ -57,3 +64,19 @@ abbrev pub SourceHasRegisters : Source → ℕ → Type 0
 SourceHasRegisters (source.V vs1) registers = vs1 + registers ≤ 32
 SourceHasRegisters (source.X rs1) registers = ⊤
 SourceHasRegisters (source.I imm) registers = ⊤
+
+-- the bytes of all registers, once an operation on their groups has written its results to the destination
+abbrev pub with_binary_results : Width → BinaryOperation → Destination → Body → List ℕ → Scalar → List ℕ
+with_binary_results w o destination body file x =
+    with_written w destination body (binary_result (record { width = w; emul = destination.emul }) o.op o.vs2 o.source file x) file
+
+-- an operation made by SIMD whose results can be written in turn, to a destination without a tail that is filled: its groups
+-- lie inside the file and hold the body
+pub record IsInTurn (width : Width) (o : BinaryOperation) (destination : Destination) (body : Body) : Type 0 where
+  pub holds : HoldsBody width destination.emul destination.count body.end
+  pub first : IsInside o.vs2 destination.emul
+  pub second : SourceIsInside o.source destination.emul
+  pub made : IsTrue (is_simd o.op)
+  pub first_read : IsReadFirst o.vs2 destination.vd (registers destination.emul)
+  pub second_read : SourceIsReadFirst o.source destination.vd (registers destination.emul)
+  pub no_tail : destination.agnostic.fill_tail ≡ true → body.end ≡ destination.count

@@ -9,25 +9,26 @@ ghost use Rattle.rv_model.specs.step.VectorStep.{arith_step, typed, typed_step, 
 ghost use Rattle.vec_unit.specs.Arithmetic.{is_binary};
 
 use crate::binary::BinaryOperation;
-use crate::clip::carry_out_clip;
+use crate::clip::ClipOperation;
 use crate::compare::{CarryOutOperation, CompareOperation};
 use crate::destination::Target;
 use crate::element_wise::carry_out;
-use crate::extend::{ExtendOperation, carry_out_extension};
-use crate::fixed_point::carry_out_fixed_point;
+use crate::extend::ExtendOperation;
+use crate::fixed_point::FixedPointOperation;
 use crate::mask_wise::carry_out_mask;
 use crate::multiply_add::MultiplyAddOperation;
 use crate::narrow_shift::NarrowShiftOperation;
-use crate::permute::carry_out_permutation;
-use crate::reduce::{carry_out_reduction, carry_out_widening_reduction};
+use crate::permute::PermuteOperation;
+use crate::reduce::{ReduceOperation, WidenReduceOperation};
 use crate::two_widths::{carry_out_narrowing, carry_out_widening};
+use crate::typed_operation::TypedOperation;
 use crate::widen::{WideSourceOperation, WidenMultiplyAddOperation, WidenOperation};
 use rv_model::instructions::operations::VectorOp;
-use rv_model::{Arith, Instr, Policy, Scalar, Source, VEnd, VReg, VState, VectorInstr};
+use rv_model::{ArithOperation, Instr, Policy, Scalar, Source, VEnd, VReg, VState, VectorInstr};
 
 /// Carries out a legal operation with a line of its own in the manual's table that isn't one of one width on two
 /// operands.
-#[tactic(auto, using(rv_model::proofs::legality_lemmas::Bounds::multiply_add_inside, rv_model::proofs::legality_lemmas::Bounds::compare_inside, rv_model::proofs::legality_lemmas::Bounds::carry_out_inside, rv_model::proofs::legality_lemmas::Bounds::widen_inside, rv_model::proofs::legality_lemmas::Bounds::wide_source_inside, rv_model::proofs::legality_lemmas::Bounds::widen_multiply_add_inside, rv_model::proofs::legality_lemmas::Bounds::narrow_shift_inside, rv_model::proofs::legality_lemmas::Bounds::fixed_point_inside, rv_model::proofs::legality_lemmas::Bounds::clip_inside, rv_model::proofs::legality_lemmas::Bounds::reduce_inside, rv_model::proofs::legality_lemmas::Bounds::widen_reduce_inside, rv_model::proofs::legality_lemmas::Bounds::permute_inside))]
+#[tactic(auto, using(crate::proofs::LegalGroups::operation_groups))]
 #[inline(never)]
 fn perform_rest(
     op: VectorOp,
@@ -74,13 +75,23 @@ fn perform_rest(
             let operation = NarrowShiftOperation { op, vs2, source };
             carry_out_narrowing(&operation, target, state, scalar);
         }
-        VectorOp::FixedPoint(op) => carry_out_fixed_point(op, vs2, source, target, state, scalar),
-        VectorOp::Clip(op) => carry_out_clip(op, vs2, source, target, state, scalar),
-        VectorOp::Reduce(op) => carry_out_reduction(op, vs2, source, target, state, scalar),
-        VectorOp::WidenReduce(op) => {
-            carry_out_widening_reduction(op, vs2, source, target, state, scalar);
+        VectorOp::FixedPoint(op) => {
+            let operation = FixedPointOperation::new(op, state.vxrm, vs2, source);
+            operation.carry_out(target, state, scalar);
         }
-        VectorOp::Permute(op) => carry_out_permutation(op, vs2, source, target, state, scalar),
+        VectorOp::Clip(op) => {
+            let operation = ClipOperation::new(op, state.vxrm, vs2, source);
+            operation.carry_out(target, state, scalar);
+        }
+        VectorOp::Reduce(op) => {
+            ReduceOperation { op, vs2, source }.carry_out(target, state, scalar);
+        }
+        VectorOp::WidenReduce(op) => {
+            WidenReduceOperation { op, vs2, source }.carry_out(target, state, scalar);
+        }
+        VectorOp::Permute(op) => {
+            PermuteOperation { op, vs2, source }.carry_out(target, state, scalar);
+        }
     }
 }
 
@@ -118,18 +129,17 @@ fn perform_operation(
 /// The same, if there is a vector type.
 #[inline(always)]
 pub(crate) fn perform_arith(
-    arith: Arith,
-    vd: VReg,
-    vs2: VReg,
-    unmasked: bool,
+    operation: &ArithOperation,
     state: &mut VState,
     scalar: &Scalar,
     policy: Policy,
 ) -> VEnd
-    requires legal { IsTrue (is_legal (Instr.Vector (VectorInstr.Arith arith vd vs2 unmasked))
+    requires legal { IsTrue (is_legal
+        (Instr.Vector (VectorInstr.Arith operation.now.arith operation.now.vd operation.now.vs2 operation.now.unmasked))
         state.old.conf.vtype state.old.vstart) }
     ensures model { (memory : Memory) (output : List ℕ)
-        → typed state.old.conf.vtype (typed_step (VectorInstr.Arith arith vd vs2 unmasked))
+        → typed state.old.conf.vtype
+        (typed_step (VectorInstr.Arith operation.now.arith operation.now.vd operation.now.vs2 operation.now.unmasked))
         (hart_state scalar.now state.old memory policy output)
         ≡ vector_ends result (hart_state scalar.now state.new memory policy output) }
     ensures illegal { result ≡ VEnd.Illegal → state.new ≡ state.old }
@@ -138,9 +148,9 @@ pub(crate) fn perform_arith(
     let Some(vtype) = state.conf.vtype() else {
         return VEnd::Illegal;
     };
-    let (op, source) = arith.parts();
-    let target = Target::new(vd, unmasked, vtype, policy);
-    perform_operation(op, vs2, source, target, state, scalar);
+    let (op, source) = operation.arith.parts();
+    let target = Target::new(operation.vd, operation.unmasked, vtype, policy);
+    perform_operation(op, operation.vs2, source, target, state, scalar);
     VEnd::Done
 }
 
@@ -166,6 +176,6 @@ pub(crate) fn perform_extension(
         return VEnd::Illegal;
     };
     let target = Target::new(vd, unmasked, vtype, policy);
-    carry_out_extension(operation, target, state, scalar);
+    operation.carry_out(target, state, scalar);
     VEnd::Done
 }

@@ -1,11 +1,11 @@
 //! Operations of one width on two operands ("V" Vector Extension 1.0, chapter 11).
-ghost use Rattle.rv_model.specs.elements.Arithmetic.{binary_result, with_results};
+ghost use Rattle.rv_model.specs.elements.Arithmetic.{binary_result};
 ghost use Rattle.rv_model.specs.elements.Formulas.{has_unsigned_immediate};
 ghost use Rattle.rv_model.specs.lending.GroupBounds.{HoldsBody, IsInside, SourceIsInside};
 ghost use Rattle.rv_model.specs.vector.Registers.{registers};
 ghost use Rattle.lane_arith.specs.SimdOperations.{is_simd};
 ghost use Rattle.std.specs.Prelude.{◌≡◌, ◌≤◌, IsTrue, false, true};
-ghost use Rattle.vec_unit.specs.InTurn.{IsReadFirst, SourceIsReadFirst};
+ghost use Rattle.vec_unit.specs.InTurn.{IsInTurn, IsReadFirst, SourceIsReadFirst, with_binary_results};
 
 use crate::destination::{Destination, write_group};
 use crate::element_wise::ElementWise;
@@ -58,16 +58,8 @@ impl BinaryOperation {
         scalar: &Scalar,
     )
         requires all { all ≡ true → (body.now.start ≡ 0) × (body.now.end ≡ destination.count) }
-        requires operands { IsInside self.now.vs2 destination.emul × SourceIsInside self.now.source destination.emul }
-        requires holds { HoldsBody L.width destination.emul destination.count body.now.end }
-        requires in_turn { IsTrue (is_simd self.now.op)
-            × IsReadFirst self.now.vs2 destination.vd (registers destination.emul)
-            × SourceIsReadFirst self.now.source destination.vd (registers destination.emul) }
-        requires no_tail { destination.agnostic.fill_tail ≡ true → body.now.end ≡ destination.count }
-        ensures { file.new ≡ with_results (record { width = L.width; emul = destination.emul }) destination.vd body.now
-            destination.agnostic.fill_masked_off destination.agnostic.fill_tail
-            (binary_result (record { width = L.width; emul = destination.emul }) self.now.op self.now.vs2
-            self.now.source file.old scalar.now) file.old }
+        requires in_turn { IsInTurn L.width self.now destination body.now }
+        ensures { file.new ≡ with_binary_results L.width self.now destination body.now file.old scalar.now }
     {
         let unsigned = has_unsigned_immediate(self.op);
         let operation = InTurn {
@@ -97,16 +89,8 @@ impl BinaryOperation {
         file: &mut VFile,
         scalar: &Scalar,
     )
-        requires operands { IsInside self.vs2 destination.emul × SourceIsInside self.source destination.emul }
-        requires holds { HoldsBody L.width destination.emul destination.count body.now.end }
-        requires in_turn { IsTrue (is_simd self.op)
-            × IsReadFirst self.vs2 destination.vd (registers destination.emul)
-            × SourceIsReadFirst self.source destination.vd (registers destination.emul) }
-        requires no_tail { destination.agnostic.fill_tail ≡ true → body.now.end ≡ destination.count }
-        ensures { file.new ≡ with_results (record { width = L.width; emul = destination.emul }) destination.vd body.now
-            destination.agnostic.fill_masked_off destination.agnostic.fill_tail
-            (binary_result (record { width = L.width; emul = destination.emul }) self.op self.vs2 self.source
-            file.old scalar.now) file.old }
+        requires in_turn { IsInTurn L.width self destination body.now }
+        ensures { file.new ≡ with_binary_results L.width self destination body.now file.old scalar.now }
     {
         self.write_in_turn::<L>(false, destination, body, file, scalar);
     }
@@ -124,16 +108,8 @@ impl BinaryOperation {
         requires full { (body.now.start ≡ 0) × (body.now.end ≡ destination.count) }
         requires masked { body.now.unmasked ≡ false }
         requires kept { destination.agnostic.fill_masked_off ≡ false }
-        requires operands { IsInside self.vs2 destination.emul × SourceIsInside self.source destination.emul }
-        requires holds { HoldsBody L.width destination.emul destination.count body.now.end }
-        requires in_turn { IsTrue (is_simd self.op)
-            × IsReadFirst self.vs2 destination.vd (registers destination.emul)
-            × SourceIsReadFirst self.source destination.vd (registers destination.emul) }
-        requires no_tail { destination.agnostic.fill_tail ≡ true → body.now.end ≡ destination.count }
-        ensures { file.new ≡ with_results (record { width = L.width; emul = destination.emul }) destination.vd body.now
-            destination.agnostic.fill_masked_off destination.agnostic.fill_tail
-            (binary_result (record { width = L.width; emul = destination.emul }) self.op self.vs2 self.source
-            file.old scalar.now) file.old }
+        requires in_turn { IsInTurn L.width self destination body.now }
+        ensures { file.new ≡ with_binary_results L.width self destination body.now file.old scalar.now }
     {
         let all = Body::new(false, body.mask(), 0, body.end());
         self.write_in_turn::<L>(true, destination.keeping(), &all, file, scalar);
@@ -149,16 +125,8 @@ impl BinaryOperation {
         file: &mut VFile,
         scalar: &Scalar,
     )
-        requires operands { IsInside self.now.vs2 destination.emul × SourceIsInside self.now.source destination.emul }
-        requires holds { HoldsBody L.width destination.emul destination.count body.now.end }
-        requires in_turn { IsTrue (is_simd self.now.op)
-            × IsReadFirst self.now.vs2 destination.vd (registers destination.emul)
-            × SourceIsReadFirst self.now.source destination.vd (registers destination.emul) }
-        requires no_tail { destination.agnostic.fill_tail ≡ true → body.now.end ≡ destination.count }
-        ensures { file.new ≡ with_results (record { width = L.width; emul = destination.emul }) destination.vd body.now
-            destination.agnostic.fill_masked_off destination.agnostic.fill_tail
-            (binary_result (record { width = L.width; emul = destination.emul }) self.now.op self.now.vs2
-            self.now.source file.old scalar.now) file.old }
+        requires in_turn { IsInTurn L.width self.now destination body.now }
+        ensures { file.new ≡ with_binary_results L.width self.now destination body.now file.old scalar.now }
     {
         let keeps = !destination.agnostic.fill_masked_off;
         if !(body.start() == 0 && body.end() == destination.count && keeps) {
@@ -184,10 +152,7 @@ impl BinaryOperation {
     )
         requires operands { IsInside self.vs2 destination.emul × SourceIsInside self.source destination.emul }
         requires holds { HoldsBody L.width destination.emul destination.count body.now.end }
-        ensures { file.new ≡ with_results (record { width = L.width; emul = destination.emul }) destination.vd body.now
-            destination.agnostic.fill_masked_off destination.agnostic.fill_tail
-            (binary_result (record { width = L.width; emul = destination.emul }) self.op self.vs2 self.source
-            file.old scalar.now) file.old }
+        ensures { file.new ≡ with_binary_results L.width self destination body.now file.old scalar.now }
     {
         let (mut first, mut second) = ([0; GROUP_BYTES], [0; GROUP_BYTES]);
         let (source, emul, end) = (self.source, destination.emul, body.end());

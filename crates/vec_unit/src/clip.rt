@@ -1,22 +1,17 @@
 //! Clips of a source of twice the width, carried out ("V" Vector Extension 1.0, section 12.5).
 ghost use Rattle.std.specs.Prelude.{◌≡◌, ◌*◌, ◌≤◌, ◌||◌};
-ghost use Rattle.rv_model.specs.elements.Arithmetic.{
-  body_of,
-  clip_result,
-  clip_saturates_at,
-  fills_masked_off,
-  fills_tail,
-  with_results,
-};
-ghost use Rattle.rv_model.specs.vector.Configuration.{group_type, lmul_eighths, sew_bits, vlmax};
+ghost use Rattle.rv_model.specs.elements.Arithmetic.{body_of, clip_result, clip_saturates_at};
+ghost use Rattle.rv_model.specs.vector.Configuration.{group_type, lmul_eighths, sew_bits};
 ghost use Rattle.rv_model.specs.vector.Groups.{wide_type};
 ghost use Rattle.rv_model.specs.elements.Elements.{some_active};
 ghost use Rattle.rv_model.specs.lending.GroupBounds.{HasRoom, HoldsBody, IsInside, SourceIsInside};
+ghost use Rattle.vec_unit.specs.Results.{carried_out, with_written};
 
 use crate::body::body_under;
 use crate::destination::{Destination, Target, agnostic_under};
 use crate::operands::{SecondOperand, second_copy};
 use crate::saturating::write_saturating_group;
+use crate::typed_operation::TypedOperation;
 use lane_arith::{Body, Lane};
 use lane_fixed::Clip;
 use reg_groups::{group_copy, mask_register, registers};
@@ -26,14 +21,26 @@ use std::marker::PhantomData;
 
 /// A clip, how it rounds, and its sources.
 #[derive(Clone, Copy)]
-struct ClipOperation {
-    op: ClipOp,
-    mode: RoundingMode,
-    vs2: VReg,
-    source: Source,
+pub(crate) struct ClipOperation {
+    pub op: ClipOp,
+    pub mode: RoundingMode,
+    pub vs2: VReg,
+    pub source: Source,
 }
 
 impl ClipOperation {
+    /// The operation on `vs2` and a source.
+    pub(crate) fn new(op: ClipOp, mode: RoundingMode, vs2: VReg, source: Source) -> Self
+        ensures { result ≡ record { op = op; mode = mode; vs2 = vs2; source = source } }
+    {
+        ClipOperation {
+            op,
+            mode,
+            vs2,
+            source,
+        }
+    }
+
     /// Writes the results to a destination of elements of the width of `N`, and says whether an active element
     /// saturates; `W` is twice that width, and `wide` the multiplier of the groups of `vs2`.
     fn write<N: Lane, W: Lane>(
@@ -48,8 +55,7 @@ impl ClipOperation {
         requires second { SourceIsInside self.now.source destination.emul }
         requires holds { HoldsBody N.width destination.emul destination.count body.now.end }
         requires room { HasRoom W.width wide body.now.end }
-        ensures file { file.new ≡ with_results (record { width = N.width; emul = destination.emul }) destination.vd
-            body.now destination.agnostic.fill_masked_off destination.agnostic.fill_tail
+        ensures file { file.new ≡ with_written N.width destination body.now
             (clip_result (record { width = N.width; emul = destination.emul }) (record { width = W.width; emul = wide })
             self.now.mode self.now.op self.now.vs2 self.now.source file.old scalar.now) file.old }
         ensures saturated { result ≡ some_active body.now
@@ -77,65 +83,46 @@ impl ClipOperation {
     }
 }
 
-/// Carries out a clip to the width of the vector type, and sets `vxsat` where an active element saturates. The
-/// next instruction begins with the first element.
-#[tactic(auto, using(crate::proofs::LegalGroups::narrow_groups))]
-pub(crate) fn carry_out_clip(
-    op: ClipOp,
-    vs2: VReg,
-    source: Source,
-    target: Target,
-    state: &mut VState,
-    scalar: &Scalar,
-)
-    requires first { IsInside vs2 (2 * lmul_eighths target.vtype.lmul) }
-    requires second { SourceIsInside source (lmul_eighths target.vtype.lmul) }
-    requires destination { IsInside target.vd (lmul_eighths target.vtype.lmul) }
-    requires narrow { sew_bits target.vtype.sew ≤ 32 }
-    requires most { 2 * lmul_eighths target.vtype.lmul ≤ 64 }
-    requires length { state.old.conf.vl ≤ vlmax target.vtype }
-    ensures { state.new ≡ record state.old {
-      file =
-          with_results (group_type target.vtype) target.vd (body_of target.unmasked state.old)
-          (fills_masked_off target.policy target.vtype (body_of target.unmasked state.old))
-          (fills_tail target.policy target.vtype (body_of target.unmasked state.old))
-          (clip_result (group_type target.vtype) (wide_type target.vtype) state.old.vxrm op vs2 source state.old.file
-          scalar.now) state.old.file;
-      vxsat = state.old.vxsat || some_active (body_of target.unmasked state.old)
-          (clip_saturates_at (group_type target.vtype) (wide_type target.vtype) state.old.vxrm op vs2 source
-          state.old.file scalar.now);
-      vstart = 0;
-    } }
-{
-    let mask = mask_register(&state.file);
-    let body = body_under(target.unmasked, &mask, state);
-    let emul = u32::from(target.vtype.lmul.eighths());
-    let wide = 2 * emul;
-    let length = VLENB * registers(emul) as usize;
-    let agnostic = agnostic_under(target.policy, target.vtype, &body);
-    let operation = ClipOperation {
-        op,
-        mode: state.vxrm,
-        vs2,
-        source,
-    };
-    let file = &mut state.file;
-    let destination = |count|
-        requires { IsInside target.vd emul }
-    {
-        Destination {
-            vd: target.vd,
-            emul,
-            count,
-            agnostic,
-        }
-    };
-    let saturated = match target.vtype.sew {
-        Sew::E8 => operation.write::<u8, u16>(destination(length), wide, &body, file, scalar),
-        Sew::E16 => operation.write::<u16, u32>(destination(length / 2), wide, &body, file, scalar),
-        Sew::E32 => operation.write::<u32, u64>(destination(length / 4), wide, &body, file, scalar),
-        Sew::E64 => unreachable!(),
-    };
-    state.vxsat = state.vxsat || saturated;
-    state.vstart = 0;
+impl TypedOperation for ClipOperation {
+    ghost inside = { λ o target state. IsInside o.vs2 (2 * lmul_eighths target.vtype.lmul)
+        × SourceIsInside o.source (lmul_eighths target.vtype.lmul) × IsInside target.vd (lmul_eighths target.vtype.lmul)
+        × (sew_bits target.vtype.sew ≤ 32) × (2 * lmul_eighths target.vtype.lmul ≤ 64) };
+
+    ghost after = { λ o target state x. record (carried_out (group_type target.vtype) target
+        (clip_result (group_type target.vtype) (wide_type target.vtype) o.mode o.op o.vs2 o.source state.file x)
+        state) {
+          vxsat = state.vxsat || some_active (body_of target.unmasked state)
+              (clip_saturates_at (group_type target.vtype) (wide_type target.vtype) o.mode o.op o.vs2 o.source
+              state.file x);
+        } };
+
+    /// To the width of the vector type; sets `vxsat` where an active element saturates.
+    #[tactic(auto, using(crate::proofs::LegalGroups::narrow_groups))]
+    fn carry_out(&self, target: Target, state: &mut VState, scalar: &Scalar) {
+        let mask = mask_register(&state.file);
+        let body = body_under(target.unmasked, &mask, state);
+        let emul = u32::from(target.vtype.lmul.eighths());
+        let wide = 2 * emul;
+        let length = VLENB * registers(emul) as usize;
+        let agnostic = agnostic_under(target.policy, target.vtype, &body);
+        let file = &mut state.file;
+        let destination = |count|
+            requires { IsInside target.vd emul }
+        {
+            Destination {
+                vd: target.vd,
+                emul,
+                count,
+                agnostic,
+            }
+        };
+        let saturated = match target.vtype.sew {
+            Sew::E8 => self.write::<u8, u16>(destination(length), wide, &body, file, scalar),
+            Sew::E16 => self.write::<u16, u32>(destination(length / 2), wide, &body, file, scalar),
+            Sew::E32 => self.write::<u32, u64>(destination(length / 4), wide, &body, file, scalar),
+            Sew::E64 => unreachable!(),
+        };
+        state.vxsat = state.vxsat || saturated;
+        state.vstart = 0;
+    }
 }

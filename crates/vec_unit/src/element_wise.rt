@@ -6,6 +6,7 @@ ghost use Rattle.rv_model.specs.elements.Arithmetic.{body_of, fills_masked_off, 
 ghost use Rattle.rv_model.specs.vector.Configuration.{GroupType, group_type, lmul_eighths, vlmax};
 ghost use Rattle.rv_model.specs.lending.GroupBounds.{HoldsBody, IsInside};
 ghost use Rattle.rv_model.specs.vector.Registers.{register_of};
+ghost use Rattle.vec_unit.specs.Results.{carried_out, with_written};
 
 use crate::body::body_under;
 use crate::destination::{Destination, Target, agnostic_under};
@@ -32,8 +33,7 @@ pub(crate) trait ElementWise {
         requires operands { inside self.now destination.emul }
         requires holds { HoldsBody L.width destination.emul destination.count body.now.end }
         requires mask { body.now.mask ≡ register_of file.old 0 }
-        ensures { file.new ≡ with_results (record { width = L.width; emul = destination.emul }) destination.vd body.now
-            destination.agnostic.fill_masked_off destination.agnostic.fill_tail
+        ensures { file.new ≡ with_written L.width destination body.now
             (number self.now (record { width = L.width; emul = destination.emul }) file.old scalar.now) file.old };
 }
 
@@ -50,14 +50,8 @@ pub(crate) fn carry_out<O: ElementWise>(
     requires operands { O.inside operation.now (lmul_eighths target.vtype.lmul) }
     requires destination { IsInside target.vd (lmul_eighths target.vtype.lmul) }
     requires length { state.old.conf.vl ≤ vlmax target.vtype }
-    ensures { state.new ≡ record state.old {
-      file =
-          with_results (group_type target.vtype) target.vd (body_of target.unmasked state.old)
-          (fills_masked_off target.policy target.vtype (body_of target.unmasked state.old))
-          (fills_tail target.policy target.vtype (body_of target.unmasked state.old))
-          (O.number operation.now (group_type target.vtype) state.old.file scalar.now) state.old.file;
-      vstart = 0;
-    } }
+    ensures { state.new ≡ carried_out (group_type target.vtype) target
+        (O.number operation.now (group_type target.vtype) state.old.file scalar.now) state.old }
 {
     let mask = mask_register(&state.file);
     let body = body_under(target.unmasked, &mask, state);

@@ -13,11 +13,11 @@ use crate::irregular_operations::perform_typed;
 use crate::memory_instructions::exec_other_access;
 use crate::vset::{configure, requested_length};
 use reg_groups::{legal, legal_arith};
-use rv_model::{Arith, Instr, Policy, RequestedLength, Scalar, VEnd, VReg, VState, VectorInstr};
+use rv_model::{ArithOperation, Instr, Policy, RequestedLength, Scalar, VEnd, VState, VectorInstr};
 use vector_memory::UserBytes;
 
 /// Carries out a legal vector operation that has no line of its own in the manual's table.
-#[tactic(auto, unfolding(rv_model::specs::step::VectorStep::operation_step), using(crate::proofs::TypedSteps::step_is_typed))]
+#[tactic(auto, unfolding(rv_model::specs::step::VectorStep::operation_step), using(crate::proofs::TypedSteps::by_type))]
 #[inline(always)]
 fn perform_irregular(
     operation: &VectorInstr,
@@ -59,21 +59,19 @@ fn perform_irregular(
     }
 }
 
-/// Carries out a vector operation of a user that has a line of its own in the manual's table, by its operands:
-/// the same as `exec` of the instruction.
-#[tactic(auto, unfolding(rv_model::specs::step::VectorStep::vector_executed, rv_model::specs::step::VectorStep::performed))]
+/// Carries out a vector operation of a user that has a line of its own in the manual's table, by its operands: the same
+/// as `exec` of the instruction.
+#[tactic(auto, unfolding(rv_model::specs::step::VectorStep::vector_executed))]
 #[inline(always)]
 pub fn exec_arith(
-    arith: Arith,
-    vd: VReg,
-    vs2: VReg,
-    unmasked: bool,
+    operation: &ArithOperation,
     state: &mut VState,
     scalar: &Scalar,
     policy: Policy,
 ) -> VEnd
     ensures model { (limit : ℕ) (memory : Memory) (output : List ℕ)
-        → vector_executed limit (Instr.Vector (VectorInstr.Arith arith vd vs2 unmasked))
+        → vector_executed limit
+        (Instr.Vector (VectorInstr.Arith operation.now.arith operation.now.vd operation.now.vs2 operation.now.unmasked))
         (hart_state scalar.now state.old memory policy output)
         ≡ vector_ends result (hart_state scalar.now state.new memory policy output) }
 
@@ -83,15 +81,21 @@ pub fn exec_arith(
     // It ends at once.
     ensures uncut { (index : ℕ) → result ≢ VEnd.Cut index }
 {
+    let ArithOperation {
+        arith,
+        vd,
+        vs2,
+        unmasked,
+    } = *operation;
     if !legal_arith(arith, vd, vs2, unmasked, &state.conf, state.vstart) {
         return VEnd::Illegal;
     }
-    perform_arith(arith, vd, vs2, unmasked, state, scalar, policy)
+    perform_arith(operation, state, scalar, policy)
 }
 
 /// Carries out a vector operation of a user that has no line of its own in the manual's table: the same as `exec` of
 /// the instruction.
-#[tactic(auto, unfolding(rv_model::specs::step::VectorStep::vector_executed, rv_model::specs::step::VectorStep::performed))]
+#[tactic(auto, unfolding(rv_model::specs::step::VectorStep::vector_executed))]
 #[inline(always)]
 pub fn exec_operation(
     operation: &VectorInstr,
@@ -147,7 +151,13 @@ pub fn exec<M: UserBytes>(
     state.conf.length_law();
     match instr {
         Instr::Vector(VectorInstr::Arith { arith, vd, vs2, vm }) => {
-            exec_arith(*arith, *vd, *vs2, *vm, state, scalar, policy)
+            let operation = ArithOperation {
+                arith: *arith,
+                vd: *vd,
+                vs2: *vs2,
+                unmasked: *vm,
+            };
+            exec_arith(&operation, state, scalar, policy)
         }
         Instr::Vector(operation) => exec_operation(operation, state, scalar, policy),
         Instr::Access(access) => exec_other_access(access, state, scalar, memory, limit, policy),

@@ -1,25 +1,14 @@
 //! Extensions of elements of a part of the width ("V" Vector Extension 1.0, section 11.3).
 ghost use Rattle.std.specs.Prelude.{◌≡◌, ◌/◌, ◌≤◌};
-ghost use Rattle.rv_model.specs.elements.Arithmetic.{
-  body_of,
-  extend_result,
-  fills_masked_off,
-  fills_tail,
-  with_results,
-};
-ghost use Rattle.rv_model.specs.vector.Configuration.{
-  group_type,
-  lmul_eighths,
-  sew_bits,
-  sew_width,
-  vlmax,
-  width_bytes,
-};
+ghost use Rattle.rv_model.specs.elements.Arithmetic.{extend_result};
+ghost use Rattle.rv_model.specs.vector.Configuration.{group_type, lmul_eighths, sew_bits, sew_width, width_bytes};
 ghost use Rattle.rv_model.specs.vector.Groups.{extension_divisor, part_type, part_width};
 ghost use Rattle.rv_model.specs.lending.GroupBounds.{HasRoom, HoldsBody, IsInside};
+ghost use Rattle.vec_unit.specs.Results.{carried_out};
 
 use crate::destination::{Destination, Target, write_group};
 use crate::two_widths::{Groups, TwoWidths, carry_out};
+use crate::typed_operation::TypedOperation;
 use lane_arith::{Body, Extend, Lane};
 use reg_groups::{extension_divisor, group_copy, registers};
 use rv_model::instructions::operations::ExtendOp;
@@ -85,17 +74,9 @@ fn carry_out_part(
     requires wide { 8 ≤ sew_bits sew / extension_divisor operation.op }
     requires holds { HoldsBody (sew_width sew) groups.emul groups.count state.old.conf.vl }
     requires room { HasRoom (part_width operation.op (sew_width sew)) groups.other state.old.conf.vl }
-    ensures { state.new ≡ record state.old {
-      file =
-          with_results (record { width = sew_width sew; emul = groups.emul }) target.vd
-          (body_of target.unmasked state.old)
-          (fills_masked_off target.policy target.vtype (body_of target.unmasked state.old))
-          (fills_tail target.policy target.vtype (body_of target.unmasked state.old))
-          (extend_result (record { width = part_width operation.op (sew_width sew); emul = groups.other })
-          (record { width = sew_width sew; emul = groups.emul }) operation.op operation.vs2 state.old.file)
-          state.old.file;
-      vstart = 0;
-    } }
+    ensures { state.new ≡ carried_out (record { width = sew_width sew; emul = groups.emul }) target
+        (extend_result (record { width = part_width operation.op (sew_width sew); emul = groups.other })
+        (record { width = sew_width sew; emul = groups.emul }) operation.op operation.vs2 state.old.file) state.old }
 {
     let op = operation.op;
     let from = &operation;
@@ -118,35 +99,23 @@ fn carry_out_part(
     }
 }
 
-/// Carries out an extension. The next instruction begins with the first element.
-#[tactic(auto, using(crate::proofs::LegalGroups::extended_groups))]
-pub(crate) fn carry_out_extension(
-    operation: ExtendOperation,
-    target: Target,
-    state: &mut VState,
-    scalar: &Scalar,
-)
-    requires source { IsInside operation.vs2 (lmul_eighths target.vtype.lmul / extension_divisor operation.op) }
-    requires destination { IsInside target.vd (lmul_eighths target.vtype.lmul) }
-    requires wide { 8 ≤ sew_bits target.vtype.sew / extension_divisor operation.op }
-    requires least { 1 ≤ lmul_eighths target.vtype.lmul / extension_divisor operation.op }
-    requires length { state.old.conf.vl ≤ vlmax target.vtype }
-    ensures { state.new ≡ record state.old {
-      file =
-          with_results (group_type target.vtype) target.vd (body_of target.unmasked state.old)
-          (fills_masked_off target.policy target.vtype (body_of target.unmasked state.old))
-          (fills_tail target.policy target.vtype (body_of target.unmasked state.old))
-          (extend_result (part_type operation.op target.vtype) (group_type target.vtype) operation.op operation.vs2
-          state.old.file) state.old.file;
-      vstart = 0;
-    } }
-{
-    let sew = target.vtype.sew;
-    let emul = u32::from(target.vtype.lmul.eighths());
-    let groups = Groups {
-        emul,
-        count: VLENB * registers(emul) as usize / element_bytes(sew),
-        other: emul / u32::from(extension_divisor(operation.op)),
-    };
-    carry_out_part(operation, sew, groups, target, state, scalar);
+impl TypedOperation for ExtendOperation {
+    ghost inside = { λ o target state. IsInside o.vs2 (lmul_eighths target.vtype.lmul / extension_divisor o.op)
+        × IsInside target.vd (lmul_eighths target.vtype.lmul) × (8 ≤ sew_bits target.vtype.sew / extension_divisor o.op)
+        × (1 ≤ lmul_eighths target.vtype.lmul / extension_divisor o.op) };
+
+    ghost after = { λ o target state x. carried_out (group_type target.vtype) target
+        (extend_result (part_type o.op target.vtype) (group_type target.vtype) o.op o.vs2 state.file) state };
+
+    #[tactic(auto, using(crate::proofs::LegalGroups::extended_groups))]
+    fn carry_out(&self, target: Target, state: &mut VState, scalar: &Scalar) {
+        let sew = target.vtype.sew;
+        let emul = u32::from(target.vtype.lmul.eighths());
+        let groups = Groups {
+            emul,
+            count: VLENB * registers(emul) as usize / element_bytes(sew),
+            other: emul / u32::from(extension_divisor(self.op)),
+        };
+        carry_out_part(*self, sew, groups, target, state, scalar);
+    }
 }

@@ -22,7 +22,7 @@ use rv_model::instructions::operations::MaskUnaryOp;
 use rv_model::{GROUP_BYTES, Instr, Policy, Scalar, VEnd, VReg, VState, VType, VectorInstr};
 
 /// Carries out a legal operation on one mask.
-#[tactic(auto, using(rv_model::proofs::legality_lemmas::Bounds::length_below, rv_model::proofs::legality_lemmas::Bounds::iota_inside))]
+#[tactic(auto, using(crate::proofs::LegalGroups::mask_groups))]
 #[inline(never)]
 fn carry_out_mask_unary(
     op: MaskUnaryOp,
@@ -74,7 +74,7 @@ fn carry_out_index(
 
 /// Carries out a legal operation under its vector type. What is out of line is handed operands one by one, so that no
 /// target needs a place in memory.
-#[tactic(auto, using(rv_model::proofs::legality_lemmas::Bounds::carry_inside, rv_model::proofs::legality_lemmas::Bounds::move_inside, rv_model::proofs::legality_lemmas::Bounds::length_below, rv_model::proofs::legality_lemmas::Moves::compress_inside, rv_model::proofs::legality_lemmas::Moves::whole_move_inside))]
+#[tactic(auto, using(crate::proofs::LegalGroups::typed_groups))]
 #[inline(always)]
 pub(crate) fn perform_typed(
     operation: &VectorInstr,

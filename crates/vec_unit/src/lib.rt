@@ -30,6 +30,7 @@ mod saturating;
 mod scalar_moves;
 mod tails;
 mod two_widths;
+mod typed_operation;
 mod vset;
 mod whole_moves;
 mod widen;

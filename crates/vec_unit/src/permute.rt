@@ -1,7 +1,7 @@
 //! Slides and gathers, carried out ("V" Vector Extension 1.0, sections 16.3 and 16.4).
 ghost use Rattle.std.specs.Prelude.{◌≡◌, ◌*◌, ◌<◌, ◌≤◌, length};
 ghost use Rattle.rv_model.specs.elements.Arithmetic.{body_of, fills_masked_off, fills_tail, with_results};
-ghost use Rattle.rv_model.specs.vector.Configuration.{element_count, group_type, lmul_eighths, vlmax, width_bytes};
+ghost use Rattle.rv_model.specs.vector.Configuration.{element_count, group_type, lmul_eighths, width_bytes};
 ghost use Rattle.rv_model.specs.elements.Elements.{element};
 ghost use Rattle.rv_model.specs.elements.PermutationResults.{
   index_of,
@@ -12,9 +12,11 @@ ghost use Rattle.rv_model.specs.elements.PermutationResults.{
 };
 ghost use Rattle.rv_model.specs.elements.Permutations.{gathered};
 ghost use Rattle.rv_model.specs.lending.GroupBounds.{HasIndices, HoldsBody, IsInside};
+ghost use Rattle.vec_unit.specs.Results.{with_written};
 
 use crate::body::body_under;
 use crate::destination::{Destination, Target, agnostic_under, write_group};
+use crate::typed_operation::TypedOperation;
 use lane_arith::{Body, Lane};
 use lane_permute::{Gather, GatherOne, SlideDown, SlideOneDown, SlideOneUp, SlideUp};
 use reg_groups::{group_copy, mask_register, registers};
@@ -55,8 +57,7 @@ impl<'a> GatherOperation<'a> {
         requires limit { width_bytes L.width * self.now.limit ≤ length self.now.a.now }
         requires indices { HasIndices self.now.source I.width emul body.now.end }
         requires holds { HoldsBody L.width destination.emul destination.count body.now.end }
-        ensures { file.new ≡ with_results (record { width = L.width; emul = destination.emul }) destination.vd body.now
-            destination.agnostic.fill_masked_off destination.agnostic.fill_tail
+        ensures { file.new ≡ with_written L.width destination body.now
             (λ i. gathered self.now.limit (element (width_bytes L.width) self.now.a.now)
             (index_of (record { width = I.width; emul = emul }) self.now.source file.old scalar.now i)) file.old }
     {
@@ -84,10 +85,10 @@ impl<'a> GatherOperation<'a> {
 
 /// A slide or gather, and its sources.
 #[derive(Clone, Copy)]
-struct PermuteOperation {
-    op: PermuteOp,
-    vs2: VReg,
-    source: Source,
+pub(crate) struct PermuteOperation {
+    pub op: PermuteOp,
+    pub vs2: VReg,
+    pub source: Source,
 }
 
 impl PermuteOperation {
@@ -107,9 +108,8 @@ impl PermuteOperation {
         requires holds { HoldsBody L.width destination.emul destination.count body.now.end }
         requires limit { limit ≡ element_count (record { width = L.width; emul = destination.emul }) }
         requires room { HoldsBody L.width destination.emul destination.count limit }
-        ensures { file.new ≡ with_results (record { width = L.width; emul = destination.emul }) destination.vd
-            (permute_body self.now.op self.now.source scalar.now body.now) destination.agnostic.fill_masked_off
-            destination.agnostic.fill_tail
+        ensures { file.new ≡ with_written L.width destination
+            (permute_body self.now.op self.now.source scalar.now body.now)
             (permute_result (record { width = L.width; emul = destination.emul }) self.now.op body.now.end self.now.vs2
             self.now.source file.old scalar.now) file.old }
     {
@@ -150,56 +150,48 @@ impl PermuteOperation {
     }
 }
 
-/// Carries out a slide or gather of groups of the vector type. The next instruction begins with the first
-/// element.
-#[tactic(auto, using(rv_model::proofs::legality_lemmas::Bounds::groups_hold_body))]
-pub(crate) fn carry_out_permutation(
-    op: PermuteOp,
-    vs2: VReg,
-    source: Source,
-    target: Target,
-    state: &mut VState,
-    scalar: &Scalar,
-)
-    requires first { IsInside vs2 (lmul_eighths target.vtype.lmul) }
-    requires indices { HasIndices source (source_type op (group_type target.vtype)).width
-        (source_type op (group_type target.vtype)).emul state.old.conf.vl }
-    requires destination { IsInside target.vd (lmul_eighths target.vtype.lmul) }
-    requires length { state.old.conf.vl ≤ vlmax target.vtype }
-    ensures { state.new ≡ record state.old {
+impl TypedOperation for PermuteOperation {
+    ghost inside = { λ o target state. IsInside o.vs2 (lmul_eighths target.vtype.lmul)
+        × HasIndices o.source (source_type o.op (group_type target.vtype)).width
+        (source_type o.op (group_type target.vtype)).emul state.conf.vl
+        × IsInside target.vd (lmul_eighths target.vtype.lmul) };
+
+    ghost after = { λ o target state x. record state {
       file =
           with_results (group_type target.vtype) target.vd
-          (permute_body op source scalar.now (body_of target.unmasked state.old))
-          (fills_masked_off target.policy target.vtype (body_of target.unmasked state.old))
-          (fills_tail target.policy target.vtype (body_of target.unmasked state.old))
-          (permute_result (group_type target.vtype) op state.old.conf.vl vs2 source state.old.file scalar.now)
-          state.old.file;
+          (permute_body o.op o.source x (body_of target.unmasked state))
+          (fills_masked_off target.policy target.vtype (body_of target.unmasked state))
+          (fills_tail target.policy target.vtype (body_of target.unmasked state))
+          (permute_result (group_type target.vtype) o.op state.conf.vl o.vs2 o.source state.file x) state.file;
       vstart = 0;
-    } }
-{
-    let mask = mask_register(&state.file);
-    let body = body_under(target.unmasked, &mask, state);
-    let emul = u32::from(target.vtype.lmul.eighths());
-    let length = VLENB * registers(emul) as usize;
-    let agnostic = agnostic_under(target.policy, target.vtype, &body);
-    let limit = usize::from(target.vtype.vlmax());
-    let operation = PermuteOperation { op, vs2, source };
-    let file = &mut state.file;
-    let destination = |count|
-        requires { IsInside target.vd emul }
-    {
-        Destination {
-            vd: target.vd,
-            emul,
-            count,
-            agnostic,
+    } };
+
+    /// On groups of the vector type.
+    #[tactic(auto, using(rv_model::proofs::legality_lemmas::Bounds::groups_hold_body))]
+    fn carry_out(&self, target: Target, state: &mut VState, scalar: &Scalar) {
+        let mask = mask_register(&state.file);
+        let body = body_under(target.unmasked, &mask, state);
+        let emul = u32::from(target.vtype.lmul.eighths());
+        let length = VLENB * registers(emul) as usize;
+        let agnostic = agnostic_under(target.policy, target.vtype, &body);
+        let limit = usize::from(target.vtype.vlmax());
+        let file = &mut state.file;
+        let destination = |count|
+            requires { IsInside target.vd emul }
+        {
+            Destination {
+                vd: target.vd,
+                emul,
+                count,
+                agnostic,
+            }
+        };
+        match target.vtype.sew {
+            Sew::E8 => self.write::<u8>(destination(length), limit, &body, file, scalar),
+            Sew::E16 => self.write::<u16>(destination(length / 2), limit, &body, file, scalar),
+            Sew::E32 => self.write::<u32>(destination(length / 4), limit, &body, file, scalar),
+            Sew::E64 => self.write::<u64>(destination(length / 8), limit, &body, file, scalar),
         }
-    };
-    match target.vtype.sew {
-        Sew::E8 => operation.write::<u8>(destination(length), limit, &body, file, scalar),
-        Sew::E16 => operation.write::<u16>(destination(length / 2), limit, &body, file, scalar),
-        Sew::E32 => operation.write::<u32>(destination(length / 4), limit, &body, file, scalar),
-        Sew::E64 => operation.write::<u64>(destination(length / 8), limit, &body, file, scalar),
+        state.vstart = 0;
     }
-    state.vstart = 0;
 }

@@ -7,7 +7,7 @@ ghost use Rattle.rv_model.specs.elements.Arithmetic.{
   widen_reduce_result,
   with_first_result,
 };
-ghost use Rattle.rv_model.specs.vector.Configuration.{group_type, lmul_eighths, sew_bits, vlmax};
+ghost use Rattle.rv_model.specs.vector.Configuration.{group_type, lmul_eighths, sew_bits};
 ghost use Rattle.rv_model.specs.vector.Groups.{wide_type};
 ghost use Rattle.rv_model.specs.lending.GroupBounds.{HasRoom, IsInside, SourceIsInside};
 
@@ -15,6 +15,7 @@ use crate::body::body_under;
 use crate::destination::Target;
 use crate::first_element::write_first;
 use crate::operands::{SecondOperand, second_copy};
+use crate::typed_operation::TypedOperation;
 use lane_arith::{Body, Lane};
 use lane_reduce::{Reduction, WideningReduction, reduce};
 use reg_groups::{group_copy, mask_register};
@@ -23,10 +24,10 @@ use rv_model::{GROUP_BYTES, Scalar, Sew, Source, VFile, VReg, VState};
 
 /// A reduction and its sources.
 #[derive(Clone, Copy)]
-struct ReduceOperation {
-    op: ReduceOp,
-    vs2: VReg,
-    source: Source,
+pub(crate) struct ReduceOperation {
+    pub op: ReduceOp,
+    pub vs2: VReg,
+    pub source: Source,
 }
 
 impl ReduceOperation {
@@ -61,48 +62,41 @@ impl ReduceOperation {
     }
 }
 
-/// Carries out a reduction of a group of the vector type. The next instruction begins with the first element.
-#[tactic(auto, using(crate::proofs::LegalGroups::reduced_groups))]
-pub(crate) fn carry_out_reduction(
-    op: ReduceOp,
-    vs2: VReg,
-    source: Source,
-    target: Target,
-    state: &mut VState,
-    scalar: &Scalar,
-)
-    requires first { IsInside vs2 (lmul_eighths target.vtype.lmul) }
-    requires second { SourceIsInside source 8 }
-    requires length { state.old.conf.vl ≤ vlmax target.vtype }
-    ensures { state.new ≡ record state.old {
+impl TypedOperation for ReduceOperation {
+    ghost inside = { λ o target state. IsInside o.vs2 (lmul_eighths target.vtype.lmul) × SourceIsInside o.source 8 };
+
+    ghost after = { λ o target state x. record state {
       file =
-          with_first_result (group_type target.vtype).width target.vd (body_of target.unmasked state.old)
-          (fills_tail target.policy target.vtype (body_of target.unmasked state.old))
-          (reduce_result (group_type target.vtype) op (body_of target.unmasked state.old) vs2 source state.old.file
-          scalar.now) state.old.file;
+          with_first_result (group_type target.vtype).width target.vd (body_of target.unmasked state)
+          (fills_tail target.policy target.vtype (body_of target.unmasked state))
+          (reduce_result (group_type target.vtype) o.op (body_of target.unmasked state) o.vs2 o.source state.file x)
+          state.file;
       vstart = 0;
-    } }
-{
-    let mask = mask_register(&state.file);
-    let body = body_under(target.unmasked, &mask, state);
-    let emul = u32::from(target.vtype.lmul.eighths());
-    let operation = ReduceOperation { op, vs2, source };
-    let file = &mut state.file;
-    match target.vtype.sew {
-        Sew::E8 => operation.write::<u8>(target, emul, &body, file, scalar),
-        Sew::E16 => operation.write::<u16>(target, emul, &body, file, scalar),
-        Sew::E32 => operation.write::<u32>(target, emul, &body, file, scalar),
-        Sew::E64 => operation.write::<u64>(target, emul, &body, file, scalar),
+    } };
+
+    /// Of a group of the vector type.
+    #[tactic(auto, using(crate::proofs::LegalGroups::reduced_groups))]
+    fn carry_out(&self, target: Target, state: &mut VState, scalar: &Scalar) {
+        let mask = mask_register(&state.file);
+        let body = body_under(target.unmasked, &mask, state);
+        let emul = u32::from(target.vtype.lmul.eighths());
+        let file = &mut state.file;
+        match target.vtype.sew {
+            Sew::E8 => self.write::<u8>(target, emul, &body, file, scalar),
+            Sew::E16 => self.write::<u16>(target, emul, &body, file, scalar),
+            Sew::E32 => self.write::<u32>(target, emul, &body, file, scalar),
+            Sew::E64 => self.write::<u64>(target, emul, &body, file, scalar),
+        }
+        state.vstart = 0;
     }
-    state.vstart = 0;
 }
 
 /// A reduction to twice the width, and its sources.
 #[derive(Clone, Copy)]
-struct WidenReduceOperation {
-    op: WidenReduceOp,
-    vs2: VReg,
-    source: Source,
+pub(crate) struct WidenReduceOperation {
+    pub op: WidenReduceOp,
+    pub vs2: VReg,
+    pub source: Source,
 }
 
 impl WidenReduceOperation {
@@ -140,40 +134,32 @@ impl WidenReduceOperation {
     }
 }
 
-/// Carries out a reduction of a group of the vector type to twice its width. The next instruction begins with
-/// the first element.
-#[tactic(auto, using(crate::proofs::LegalGroups::reduced_groups))]
-pub(crate) fn carry_out_widening_reduction(
-    op: WidenReduceOp,
-    vs2: VReg,
-    source: Source,
-    target: Target,
-    state: &mut VState,
-    scalar: &Scalar,
-)
-    requires first { IsInside vs2 (lmul_eighths target.vtype.lmul) }
-    requires second { SourceIsInside source 8 }
-    requires narrow { sew_bits target.vtype.sew ≤ 32 }
-    requires length { state.old.conf.vl ≤ vlmax target.vtype }
-    ensures { state.new ≡ record state.old {
+impl TypedOperation for WidenReduceOperation {
+    ghost inside = { λ o target state. IsInside o.vs2 (lmul_eighths target.vtype.lmul) × SourceIsInside o.source 8
+        × (sew_bits target.vtype.sew ≤ 32) };
+
+    ghost after = { λ o target state x. record state {
       file =
-          with_first_result (wide_type target.vtype).width target.vd (body_of target.unmasked state.old)
-          (fills_tail target.policy target.vtype (body_of target.unmasked state.old))
-          (widen_reduce_result (group_type target.vtype) (wide_type target.vtype) op
-          (body_of target.unmasked state.old) vs2 source state.old.file scalar.now) state.old.file;
+          with_first_result (wide_type target.vtype).width target.vd (body_of target.unmasked state)
+          (fills_tail target.policy target.vtype (body_of target.unmasked state))
+          (widen_reduce_result (group_type target.vtype) (wide_type target.vtype) o.op
+          (body_of target.unmasked state) o.vs2 o.source state.file x) state.file;
       vstart = 0;
-    } }
-{
-    let mask = mask_register(&state.file);
-    let body = body_under(target.unmasked, &mask, state);
-    let emul = u32::from(target.vtype.lmul.eighths());
-    let operation = WidenReduceOperation { op, vs2, source };
-    let file = &mut state.file;
-    match target.vtype.sew {
-        Sew::E8 => operation.write::<u8, u16>(target, emul, &body, file, scalar),
-        Sew::E16 => operation.write::<u16, u32>(target, emul, &body, file, scalar),
-        Sew::E32 => operation.write::<u32, u64>(target, emul, &body, file, scalar),
-        Sew::E64 => unreachable!(),
+    } };
+
+    /// Of a group of the vector type, to twice its width.
+    #[tactic(auto, using(crate::proofs::LegalGroups::reduced_groups))]
+    fn carry_out(&self, target: Target, state: &mut VState, scalar: &Scalar) {
+        let mask = mask_register(&state.file);
+        let body = body_under(target.unmasked, &mask, state);
+        let emul = u32::from(target.vtype.lmul.eighths());
+        let file = &mut state.file;
+        match target.vtype.sew {
+            Sew::E8 => self.write::<u8, u16>(target, emul, &body, file, scalar),
+            Sew::E16 => self.write::<u16, u32>(target, emul, &body, file, scalar),
+            Sew::E32 => self.write::<u32, u64>(target, emul, &body, file, scalar),
+            Sew::E64 => unreachable!(),
+        }
+        state.vstart = 0;
     }
-    state.vstart = 0;
 }

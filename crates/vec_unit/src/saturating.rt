@@ -1,12 +1,12 @@
 //! Results that may saturate, written to a group ("V" Vector Extension 1.0, sections 3.4.3, 3.9, 5.3 and
 //! 5.4).
 ghost use Rattle.std.specs.Prelude.{◌≡◌, ◌*◌, ◌<◌, ◌≤◌, ℕ, length};
-ghost use Rattle.rv_model.specs.elements.Arithmetic.{with_results};
 ghost use Rattle.rv_model.specs.elements.Elements.{is_changed, result_or_ones, some_active};
 ghost use Rattle.rv_model.specs.elements.Formulas.{ones};
 ghost use Rattle.rv_model.specs.lending.Writes.{Writes};
-ghost use Rattle.rv_model.specs.lending.GroupBounds.{HoldsBody, IsInside};
+ghost use Rattle.rv_model.specs.lending.GroupBounds.{HoldsBody};
 ghost use Rattle.rv_model.specs.vector.Configuration.{width_bytes};
+ghost use Rattle.vec_unit.specs.Results.{with_written};
 
 use crate::destination::{Agnostic, Destination};
 use lane_arith::{Body, Lane, fill};
@@ -48,8 +48,7 @@ pub(crate) fn write_saturating_group<L: Lane, R: SaturatingResults<L>>(
 ) -> bool
     requires operands { (i : ℕ) → i < body.now.end → R.has results.now i }
     requires holds { HoldsBody L.width destination.emul destination.count body.now.end }
-    ensures file { file.new ≡ with_results (record { width = L.width; emul = destination.emul }) destination.vd body.now
-        destination.agnostic.fill_masked_off destination.agnostic.fill_tail (R.number results.now) file.old }
+    ensures file { file.new ≡ with_written L.width destination body.now (R.number results.now) file.old }
     ensures saturated { result ≡ some_active body.now (R.saturates results.now) }
 {
     let group = group_mut(file, destination.vd, destination.emul);

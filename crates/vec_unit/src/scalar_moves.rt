@@ -27,7 +27,7 @@ fn first_extended<L: Lane>(bytes: &[u8]) -> u64
 }
 
 /// What a scalar register takes: element 0 of `vs2`, sign-extended, whatever `vl` is.
-#[tactic(auto, using(rv_model::proofs::element_lemmas::Numbers::extends_sign), unfolding(rv_model::specs::vector::Registers::register_of))]
+#[tactic(auto, using(crate::proofs::TypedSteps::signs), unfolding(rv_model::specs::vector::Registers::register_of))]
 pub(crate) fn scalar_of_first(vs2: VReg, vtype: VType, file: &VFile) -> u64
     ensures { result ≡ moved_to_scalar vtype vs2 file.now }
 {

@@ -2,11 +2,11 @@
 //! 11.12 and 11.14).
 ghost use Rattle.std.specs.Prelude.{◌≡◌, ◌*◌, ◌≤◌, List, ℕ};
 ghost use Rattle.rv_model.specs.declared.scalar.Scalar.{Scalar as ScalarRegisters};
-ghost use Rattle.rv_model.specs.elements.Arithmetic.{body_of, fills_masked_off, fills_tail, with_results};
 ghost use Rattle.rv_model.specs.vector.Configuration.{GroupType, group_type, lmul_eighths, sew_bits, vlmax};
 ghost use Rattle.rv_model.specs.vector.Groups.{wide_type};
 ghost use Rattle.rv_model.specs.lending.GroupBounds.{HasRoom, HoldsBody, IsInside};
 ghost use Rattle.rv_model.specs.vector.Registers.{register_of};
+ghost use Rattle.vec_unit.specs.Results.{carried_out, with_written};
 
 use crate::body::body_under;
 use crate::destination::{Destination, Target, agnostic_under};
@@ -38,8 +38,7 @@ pub(crate) trait TwoWidths {
         requires holds { HoldsBody D.width destination.emul destination.count body.now.end }
         requires room { HasRoom O.width other body.now.end }
         requires mask { body.now.mask ≡ register_of file.old 0 }
-        ensures { file.new ≡ with_results (record { width = D.width; emul = destination.emul }) destination.vd body.now
-            destination.agnostic.fill_masked_off destination.agnostic.fill_tail
+        ensures { file.new ≡ with_written D.width destination body.now
             (number self.now (record { width = D.width; emul = destination.emul })
             (record { width = O.width; emul = other }) file.old scalar.now) file.old };
 }
@@ -66,15 +65,9 @@ pub(crate) fn carry_out<D: Lane, O: Lane, T: TwoWidths>(
     requires destination { IsInside target.vd groups.emul }
     requires holds { HoldsBody D.width groups.emul groups.count state.old.conf.vl }
     requires room { HasRoom O.width groups.other state.old.conf.vl }
-    ensures { state.new ≡ record state.old {
-      file =
-          with_results (record { width = D.width; emul = groups.emul }) target.vd (body_of target.unmasked state.old)
-          (fills_masked_off target.policy target.vtype (body_of target.unmasked state.old))
-          (fills_tail target.policy target.vtype (body_of target.unmasked state.old))
-          (T.number operation.now (record { width = D.width; emul = groups.emul })
-          (record { width = O.width; emul = groups.other }) state.old.file scalar.now) state.old.file;
-      vstart = 0;
-    } }
+    ensures { state.new ≡ carried_out (record { width = D.width; emul = groups.emul }) target
+        (T.number operation.now (record { width = D.width; emul = groups.emul })
+        (record { width = O.width; emul = groups.other }) state.old.file scalar.now) state.old }
 {
     let mask = mask_register(&state.file);
     let body = body_under(target.unmasked, &mask, state);
@@ -102,15 +95,9 @@ pub(crate) fn carry_out_widening<T: TwoWidths>(
     requires narrow { sew_bits target.vtype.sew ≤ 32 }
     requires most { 2 * lmul_eighths target.vtype.lmul ≤ 64 }
     requires length { state.old.conf.vl ≤ vlmax target.vtype }
-    ensures { state.new ≡ record state.old {
-      file =
-          with_results (wide_type target.vtype) target.vd (body_of target.unmasked state.old)
-          (fills_masked_off target.policy target.vtype (body_of target.unmasked state.old))
-          (fills_tail target.policy target.vtype (body_of target.unmasked state.old))
-          (T.number operation.now (wide_type target.vtype) (group_type target.vtype) state.old.file scalar.now)
-          state.old.file;
-      vstart = 0;
-    } }
+    ensures { state.new ≡ carried_out (wide_type target.vtype) target
+        (T.number operation.now (wide_type target.vtype) (group_type target.vtype) state.old.file scalar.now)
+        state.old }
 {
     let other = u32::from(target.vtype.lmul.eighths());
     let emul = 2 * other;
@@ -138,15 +125,9 @@ pub(crate) fn carry_out_narrowing<T: TwoWidths>(
     requires narrow { sew_bits target.vtype.sew ≤ 32 }
     requires most { 2 * lmul_eighths target.vtype.lmul ≤ 64 }
     requires length { state.old.conf.vl ≤ vlmax target.vtype }
-    ensures { state.new ≡ record state.old {
-      file =
-          with_results (group_type target.vtype) target.vd (body_of target.unmasked state.old)
-          (fills_masked_off target.policy target.vtype (body_of target.unmasked state.old))
-          (fills_tail target.policy target.vtype (body_of target.unmasked state.old))
-          (T.number operation.now (group_type target.vtype) (wide_type target.vtype) state.old.file scalar.now)
-          state.old.file;
-      vstart = 0;
-    } }
+    ensures { state.new ≡ carried_out (group_type target.vtype) target
+        (T.number operation.now (group_type target.vtype) (wide_type target.vtype) state.old.file scalar.now)
+        state.old }
 {
     let emul = u32::from(target.vtype.lmul.eighths());
     let other = 2 * emul;

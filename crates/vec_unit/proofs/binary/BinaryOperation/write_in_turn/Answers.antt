@@ -17,11 +17,11 @@ write-requires-clause-few g c =
     elim c.if-all.branch [
       | then-all w ↦
           rw w.used-is
-          (few_elements k g.L.Lane.count _ some g.met.L.Lane.fills (omega (arith, c.registers-size.ensures.value, c.requires.holds.most)))
+          (few_elements k g.L.Lane.count _ some g.met.L.Lane.fills (omega (arith, c.registers-size.ensures.value, c.requires.in_turn.holds.most)))
       | else-all w ↦
           rw w.used-is
           (few_elements k g.L.Lane.count w.min-used.result some g.met.L.Lane.fills
-          (omega (arith, w.min-used.ensures, c.registers-size.ensures.value, c.requires.holds.most)))
+          (omega (arith, w.min-used.ensures, c.registers-size.ensures.value, c.requires.in_turn.holds.most)))
     ]
 
 pub write-requires-clause-all : goal.write-requires-clause-all
@@ -30,7 +30,7 @@ write-requires-clause-all g c = λ all.
       | then-all w ↦
           let whole : c.args.body.now.end ≡ g.L.Lane.count * registers c.args.destination.emul =
           all_covered (width_bytes g.L.Lane.width) g.L.Lane.count (registers c.args.destination.emul) c.args.body.now.end
-          c.args.destination.count (bytes_positive g.L.Lane.width) g.met.L.Lane.fills c.requires.holds.whole (c.requires.all all).1 in
+          c.args.destination.count (bytes_positive g.L.Lane.width) g.met.L.Lane.fills c.requires.in_turn.holds.whole (c.requires.all all).1 in
           rw (w.used-is, c.registers-size.ensures.value) ((c.requires.all all).0, whole)
       | else-all w ↦ absurd (cc)
     ]
@@ -42,10 +42,10 @@ write-requires-clause-covers g c =
     elim c.if-all.branch [
       | then-all w ↦
           rw (w.used-is, c.registers-size.ensures.value)
-          (within k g.L.Lane.count (registers c.args.destination.emul) c.args.body.now.end some g.met.L.Lane.fills c.requires.holds.room)
+          (within k g.L.Lane.count (registers c.args.destination.emul) c.args.body.now.end some g.met.L.Lane.fills c.requires.in_turn.holds.room)
       | else-all w ↦
           rw (w.used-is, w.min-used.ensures, w.div_ceil.ensures, w.end.ensures, w.count.ensures, c.registers-size.ensures.value)
-          (covered k g.L.Lane.count _ c.args.body.now.end some g.met.L.Lane.fills c.requires.holds.room)
+          (covered k g.L.Lane.count _ c.args.body.now.end some g.met.L.Lane.fills c.requires.in_turn.holds.room)
     ]
 
 pub returns : goal.returns
@@ -69,4 +69,4 @@ returns g c =
     (turned_results t n c.args.destination.vd c.second_number.result o.op o.vs2 o.source c.args.scalar.now c.args.body.now
     c.args.destination.agnostic.fill_masked_off c.args.destination.agnostic.fill_tail c.args.destination.count file new
     (bytes_positive g.L.Lane.width) g.met.L.Lane.fills long c.args.destination.inside
-    (rw (← c.has_unsigned_immediate-unsigned.ensures) c.second_number.ensures) c.requires.holds.room c.requires.holds.whole c.requires.no_tail was)
+    (rw (← c.has_unsigned_immediate-unsigned.ensures) c.second_number.ensures) c.requires.in_turn.holds.room c.requires.in_turn.holds.whole c.requires.in_turn.no_tail was)

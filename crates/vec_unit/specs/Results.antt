@@ -1,0 +1,24 @@
+-- What vector instructions write to groups of elements ("V" Vector Extension 1.0, sections 3.4.3, 5.3 and 5.4).
+use Rattle.std.specs.Prelude.{ℕ, List}
+use Rattle.std.specs.Int.{Width}
+use Rattle.rv_model.specs.declared.vector.state.VState.{VState}
+use Rattle.rv_model.specs.elements.Arithmetic.{body_of, fills_masked_off, fills_tail, with_results}
+use Rattle.rv_model.specs.elements.Elements.{Body}
+use Rattle.rv_model.specs.vector.Configuration.{GroupType}
+use Rattle.vec_unit.specs.declared.destination.Destination.{Destination}
+use Rattle.vec_unit.specs.declared.destination.Target.{Target}
+
+-- the bytes of all registers, with these numbers as elements of this width in the destination's group
+abbrev pub with_written : Width → Destination → Body → (ℕ → ℕ) → List ℕ → List ℕ
+with_written w destination body number file =
+    with_results (record { width = w; emul = destination.emul }) destination.vd body
+    destination.agnostic.fill_masked_off destination.agnostic.fill_tail number file
+
+-- a state, with these numbers in the target's group of this type; the next instruction begins with the first element
+abbrev pub carried_out : GroupType → Target → (ℕ → ℕ) → VState → VState
+carried_out t target number state = record state {
+  file = with_results t target.vd (body_of target.unmasked state)
+      (fills_masked_off target.policy target.vtype (body_of target.unmasked state))
+      (fills_tail target.policy target.vtype (body_of target.unmasked state)) number state.file;
+  vstart = 0;
+}
