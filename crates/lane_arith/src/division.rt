@@ -62,7 +62,6 @@ pub(crate) fn signed_quotient<L: Lane>(a: L, b: L) -> L
 }
 
 /// The remainder of a signed division by a number that isn't zero.
-#[tactic(auto, using(rv_model::proofs::element_lemmas::Numbers::low_remainder))]
 fn left_over<L: Lane>(a: L, b: L) -> L
     requires { 0 < L.value b }
     ensures { L.value result ≡ cast_unsigned L.width (int_rem (cast_signed L.width (L.value a)) (cast_signed L.width (L.value b)))
