@@ -1,6 +1,6 @@
 -- A word of OP-V is one of a regular operation, or else it is found among the irregular rows; an access of unit stride is found
 -- first, and so is a call or breakpoint.
-use Rattle.std.proofs.Common.{◌≡◌, refl, ap, ◌∙◌, sym, ℕ, List, ◌++◌, Option, Some, None, inl, inr, ◌⊎◌}
+use Rattle.std.proofs.Common.{◌≡◌, refl, ap, ◌∙◌, sym, ℕ, List, [], ◌∷◌, ◌++◌, Option, Some, None, inl, inr, ◌⊎◌}
 use Rattle.std.specs.Prelude.{IfNone, IfSome}
 use Rattle.std.specs.Int.Bits.{bit_and}
 use Rattle.std.specs.Option.{option_map, option_or}
@@ -32,6 +32,15 @@ first_missed : {A : Type 0} (make : A → Instr) (found : Option A) (all rest : 
 first_missed make None all rest xs ys word whole e part =
     whole ∙ scan_append xs ys word ∙ ap (λ o. option_or o (scan ys word)) (sym part) ∙ sym e
 first_missed make (Some x) all rest xs ys word whole e part = tt
+
+-- where the rest finds nothing, it is found among the first rows, if at all
+or_none : (o : Option Instr) → option_or o None ≡ o
+or_none None = refl
+or_none (Some i) = refl
+
+first_alone : (xs ys : List Row) (word : ℕ) → scan ys word ≡ None → scan (xs ++ ys) word ≡ scan xs word
+first_alone xs ys word nothing =
+    scan_append xs ys word ∙ ap (option_or (scan xs word)) nothing ∙ or_none (scan xs word)
 
 -- the instruction of an operation
 abbrev instr_of : ArithOperation → Instr
@@ -138,6 +147,37 @@ none_6057 word found is e = first_missed instr_of found (scan table word) (scan 
 pub none_7057 : (word : ℕ) → bit_and word 0x707f ≡ 0x7057 → scan table word ≡ scan irregular word
 none_7057 word is = at_7057 word is ∙ sym (irregular_7057 word is)
 
+-- ---- OPMVV
+
+-- the rows of OPMVV that have no line of their own
+abbrev mask_rows : List Row
+mask_rows =
+    rows MaskLogics ++ rows Compresses ++ rows MasksToScalar ++ rows Extends ++ rows MaskUnaries ++ rows ElementIndices ++ rows MovesToScalar
+
+pub mask_10 : (word : ℕ) → bit_and word 0xfc000000 ≡ 0x40000000 → scan (rows MasksToScalar ++ rows MovesToScalar) word ≡ scan mask_rows word
+unfolding rows
+mask_10 word is = same_narrow 0xfc000000 0x40000000 word is _ mask_rows refl
+
+pub mask_12 : (word : ℕ) → bit_and word 0xfc000000 ≡ 0x48000000 → scan (rows Extends) word ≡ scan mask_rows word
+unfolding rows
+mask_12 word is = same_narrow 0xfc000000 0x48000000 word is _ mask_rows refl
+
+pub mask_14 : (word : ℕ) → bit_and word 0xfc000000 ≡ 0x50000000 → scan (rows MaskUnaries ++ rows ElementIndices) word ≡ scan mask_rows word
+unfolding rows
+mask_14 word is = same_narrow 0xfc000000 0x50000000 word is _ mask_rows refl
+
+pub mask_17 : (word : ℕ) → bit_and word 0xfc000000 ≡ 0x5c000000 → scan (rows Compresses) word ≡ scan mask_rows word
+unfolding rows
+mask_17 word is = same_narrow 0xfc000000 0x5c000000 word is _ mask_rows refl
+
+-- any other is mask logic
+pub mask_other : (word : ℕ) → DiffersFrom (0x40000000 ∷ 0x48000000 ∷ 0x50000000 ∷ 0x5c000000 ∷ []) (bit_and word 0xfc000000)
+    → scan (rows MaskLogics) word ≡ scan mask_rows word
+unfolding rows
+mask_other word h =
+    sym (first_alone (rows MaskLogics) (rows Compresses ++ rows MasksToScalar ++ rows Extends ++ rows MaskUnaries ++ rows ElementIndices ++ rows MovesToScalar) word
+    (no_scan 0xfc000000 (0x40000000 ∷ 0x48000000 ∷ 0x50000000 ∷ 0x5c000000 ∷ []) word _ refl h))
+
 -- ---- unit-stride accesses
 
 other_rows : other_accesses ≡ rows Strideds ++ rows Indexeds ++ rows WholeLoads ++ rows WholeStores ++ rows MaskMemories
@@ -174,6 +214,8 @@ pub call_missed : (word : ℕ) (found : Option SystemOp) → bit_and word 0x7f �
 unfolding rows
 call_missed word found is e =
     first_missed (λ op. instr.Scalar (System op)) found (scan table word) (scan (rows Csrs ++ rows CsrImmediates) word) (rows Systems) (rows Csrs ++ rows CsrImmediates) word (at_73 word is) refl e
+
+pub ruleset mask_steps = (mask_10, mask_12, mask_14, mask_17)
 
 pub ruleset unit_steps = (unit_found, unit_missed)
 

@@ -91,8 +91,32 @@ fn immediate(word: u32) -> Option<VectorInstr>
     whole_move(word)
 }
 
-/// OPMVV.
+/// VWXUNARY0.
 #[tactic(auto, using(rv_model::proofs::instruction_lemmas::Scans::scan_append))]
+fn scalar_result(word: u32) -> Option<VectorInstr>
+    ensures row { option_map Instr.Vector result ≡ scan (rows MasksToScalar ++ rows MovesToScalar) word }
+    ensures group { IfSome result (λ i. is_irregular i ≡ true) }
+{
+    if let Some(instr) = mask_to_scalar(word) {
+        return Some(instr);
+    }
+    move_to_scalar(word)
+}
+
+/// VMUNARY0.
+#[tactic(auto, using(rv_model::proofs::instruction_lemmas::Scans::scan_append))]
+fn mask_or_index(word: u32) -> Option<VectorInstr>
+    ensures row { option_map Instr.Vector result ≡ scan (rows MaskUnaries ++ rows ElementIndices) word }
+    ensures group { IfSome result (λ i. is_irregular i ≡ true) }
+{
+    if let Some(instr) = mask_unary(word) {
+        return Some(instr);
+    }
+    element_index(word)
+}
+
+/// OPMVV, by funct6.
+#[tactic(auto, using(crate::proofs::Irregular::mask_steps))]
 fn mask_or_unary(word: u32) -> Option<VectorInstr>
     ensures row { option_map Instr.Vector result
         ≡ scan
@@ -101,25 +125,13 @@ fn mask_or_unary(word: u32) -> Option<VectorInstr>
         word }
     ensures group { IfSome result (λ i. is_irregular i ≡ true) }
 {
-    if let Some(instr) = mask_logic(word) {
-        return Some(instr);
+    match word & 0xfc00_0000 {
+        0x4000_0000 => scalar_result(word),
+        0x4800_0000 => extend(word),
+        0x5000_0000 => mask_or_index(word),
+        0x5c00_0000 => compress(word),
+        _ => mask_logic(word),
     }
-    if let Some(instr) = compress(word) {
-        return Some(instr);
-    }
-    if let Some(instr) = mask_to_scalar(word) {
-        return Some(instr);
-    }
-    if let Some(instr) = extend(word) {
-        return Some(instr);
-    }
-    if let Some(instr) = mask_unary(word) {
-        return Some(instr);
-    }
-    if let Some(instr) = element_index(word) {
-        return Some(instr);
-    }
-    move_to_scalar(word)
 }
 
 /// OPCFG.
