@@ -14,11 +14,13 @@ ghost use Rattle.hart.specs.States.{LeadsTo, Returns, SameParts, hart_of, shown}
 use crate::faults::{fault, illegal};
 use crate::scalar_instructions::execute_scalar;
 use crate::system_instructions::execute_system;
-use crate::vector_instructions::{execute_access, execute_operation};
+use crate::vector_instructions::{
+    execute_access, execute_irregular, execute_operation, execute_other_access,
+};
 use crate::vectors::Vectors;
 use crate::view::{StepTerms, View};
 use arrayvec::ArrayVec;
-use rv_decode::decode_scalar;
+use rv_decode::{decode_scalar, has_irregular_funct6, is_unit_stride};
 use rv_model::{Access, Cause, Fault, GROUP_BYTES, OUTPUT_SIZE, Scalar, StepEnd};
 use vector_memory::UserBytes;
 
@@ -57,21 +59,31 @@ fn hand_on<M: UserBytes, V: Vectors>(
         (hart_state scalar.old (V.lent vectors.old).state (M.memory memory.old) terms.policy) vectors.old vectors.new }
 {
     let mut end = StepEnd::Ran;
-    match word & 0x7f {
+    let ticks = match word & 0x7f {
         0x07 | 0x27 => {
-            let ticks = execute_access(word, scalar, memory, vectors, terms, &mut end);
-            (end, ticks)
+            if is_unit_stride(word) {
+                execute_access(word, scalar, memory, vectors, terms, &mut end)
+            } else {
+                execute_other_access(word, scalar, memory, vectors, terms, &mut end)
+            }
         }
         0x57 => {
-            let ticks = execute_operation(word, scalar, memory, vectors, terms, &mut end);
-            (end, ticks)
+            if has_irregular_funct6(word) {
+                execute_irregular(word, scalar, memory, vectors, terms, &mut end)
+            } else {
+                execute_operation(word, scalar, memory, vectors, terms, &mut end)
+            }
         }
         0x73 => {
             execute_system(word, scalar, &*memory, vectors, output, &mut end);
-            (end, 1)
+            1
         }
-        _ => (illegal(word, scalar), 1),
-    }
+        _ => {
+            end = illegal(word, scalar);
+            1
+        }
+    };
+    (end, ticks)
 }
 
 /// Carries out the instruction that a word is, and answers how it ended and how many ticks it took.

@@ -1,10 +1,11 @@
 //! Instructions of the vector extension, on a vector state that is lent to them.
 #![tactic(auto, unfolding(rv_model::specs::step::Step::executed, rv_model::specs::step::Step::dirties))]
 
-ghost use Rattle.std.specs.Prelude.{◌≡◌, ◌⊎◌, ◌||◌, List, bit_and, ℕ};
+ghost use Rattle.std.specs.Prelude.{◌≡◌, ◌||◌, ◌++◌, List, bit_and, ℕ};
 ghost use Rattle.rv_decode.specs.Irregular.{irregular, other_accesses};
 ghost use Rattle.rv_model.specs.declared.vector.policy.Policy.{Policy};
 ghost use Rattle.rv_model.specs.instructions.Table.{scan, table};
+ghost use Rattle.rv_model.specs.lending.Families.{rows, MaskMemories, Units, WholeLoads, WholeStores};
 ghost use Rattle.rv_model.specs.memory.Memory.{Memory};
 ghost use Rattle.rv_model.specs.step.Hart.{ends_after, hart_state};
 ghost use Rattle.rv_model.specs.step.Step.{dirties, executed, touches};
@@ -16,7 +17,10 @@ use crate::retirement::retire;
 use crate::ticks::{Found, access_ticks};
 use crate::vectors::Vectors;
 use crate::view::StepTerms;
-use rv_decode::{decode_irregular, decode_other_access, decode_regular, decode_unit_stride};
+use rv_decode::{
+    decode_irregular, decode_registers, decode_regular, decode_strided_or_indexed,
+    decode_unit_stride, is_register_access,
+};
 use rv_model::{Cause, Scalar, Seat, StepEnd, VEnd};
 use vec_unit::{exec_access, exec_arith, exec_operation, exec_other_access};
 use vector_memory::UserBytes;
@@ -74,10 +78,10 @@ fn retire_vector(
     }
 }
 
-/// Carries out the vector instruction that a word is which is neither a regular operation nor an access of unit stride.
-/// Writes how it ended over `Ran`, and answers how many ticks it took.
+/// Carries out the vector operation that a word is which has no line of its own in the manual's table. Writes how it
+/// ended over `Ran`, and answers its one tick.
 #[inline(never)]
-fn execute_vector<M: UserBytes, V: Vectors>(
+pub(crate) fn execute_irregular<M: UserBytes, V: Vectors>(
     word: u32,
     scalar: &mut Scalar,
     memory: &mut M,
@@ -86,10 +90,8 @@ fn execute_vector<M: UserBytes, V: Vectors>(
     end: &mut StepEnd,
 ) -> usize
     requires ready { V.ready vectors.old }
-    requires opcode { (bit_and word 0x7f ≡ 0x57) ⊎ ((bit_and word 0x7f ≡ 0x07) ⊎ (bit_and word 0x7f ≡ 0x27)) }
-    requires operation { bit_and word 0x7f ≡ 0x57 → scan table word ≡ scan irregular word }
-    requires access { (bit_and word 0x7f ≡ 0x07) ⊎ (bit_and word 0x7f ≡ 0x27)
-        → scan table word ≡ scan other_accesses word }
+    requires opcode { bit_and word 0x7f ≡ 0x57 }
+    requires row { scan table word ≡ scan irregular word }
     requires end { end.old ≡ StepEnd.Ran }
     ensures model { Leads (executed terms.limit (scan table word) word)
         (hart_state scalar.old (V.lent vectors.old).state (M.memory memory.old) terms.policy)
@@ -98,29 +100,16 @@ fn execute_vector<M: UserBytes, V: Vectors>(
     ensures vectors { Returns V.ready V.lent V.back (touches (scan table word)) (dirties terms.limit (scan table word))
         (hart_state scalar.old (V.lent vectors.old).state (M.memory memory.old) terms.policy) vectors.old vectors.new }
 {
-    let StepTerms { limit, policy } = terms;
-    if word & 0x7f == 0x57 {
-        let decoded = decode_irregular(word);
-        let Some(operation) = &decoded else {
-            *end = illegal(word, scalar);
-            return 1;
-        };
-        let seat = vectors.seat();
-        seat.state.conf.length_law();
-        let ending = exec_operation(operation, &mut seat.state, scalar, policy);
-        return retire_vector(ending, 1, word, scalar, seat, end);
-    }
-    let decoded = decode_other_access(word);
-    let Some(access) = &decoded else {
+    let decoded = decode_irregular(word);
+    let Some(operation) = &decoded else {
         *end = illegal(word, scalar);
         return 1;
     };
+    let policy = terms.policy;
     let seat = vectors.seat();
     seat.state.conf.length_law();
-    let found = Found::new(&seat.state);
-    let ending = exec_other_access(access, &mut seat.state, scalar, memory, limit, policy);
-    let ticks = access_ticks(access, limit, found, &seat.state, ending);
-    retire_vector(ending, ticks, word, scalar, seat, end)
+    let ending = exec_operation(operation, &mut seat.state, scalar, policy);
+    retire_vector(ending, 1, word, scalar, seat, end)
 }
 
 /// Carries out the vector operation that a word of OP-V is: a regular one in line. Writes how it ended over `Ran`, and
@@ -145,7 +134,7 @@ pub(crate) fn execute_operation<M: UserBytes, V: Vectors>(
         (hart_state scalar.old (V.lent vectors.old).state (M.memory memory.old) terms.policy) vectors.old vectors.new }
 {
     let Some(operation) = decode_regular(word) else {
-        return execute_vector(word, scalar, memory, vectors, terms, end);
+        return execute_irregular(word, scalar, memory, vectors, terms, end);
     };
     let policy = terms.policy;
     let seat = vectors.seat();
@@ -154,8 +143,8 @@ pub(crate) fn execute_operation<M: UserBytes, V: Vectors>(
     retire_vector(ending, 1, word, scalar, seat, end)
 }
 
-/// Carries out the vector load or store that a word of LOAD-FP or STORE-FP is: one of unit stride in line. Writes how
-/// it ended over `Ran`, and answers how many ticks it took.
+/// Carries out the unit-stride load or store that a word is. Writes how it ended over `Ran`, and answers how many ticks
+/// it took.
 #[inline(never)]
 pub(crate) fn execute_access<M: UserBytes, V: Vectors>(
     word: u32,
@@ -166,7 +155,7 @@ pub(crate) fn execute_access<M: UserBytes, V: Vectors>(
     end: &mut StepEnd,
 ) -> usize
     requires ready { V.ready vectors.old }
-    requires opcode { (bit_and word 0x7f ≡ 0x07) ⊎ (bit_and word 0x7f ≡ 0x27) }
+    requires row { scan table word ≡ scan (rows Units) word }
     requires end { end.old ≡ StepEnd.Ran }
     ensures model { Leads (executed terms.limit (scan table word) word)
         (hart_state scalar.old (V.lent vectors.old).state (M.memory memory.old) terms.policy)
@@ -177,13 +166,87 @@ pub(crate) fn execute_access<M: UserBytes, V: Vectors>(
 {
     let decoded = decode_unit_stride(word);
     let Some(access) = &decoded else {
-        return execute_vector(word, scalar, memory, vectors, terms, end);
+        *end = illegal(word, scalar);
+        return 1;
     };
     let StepTerms { limit, policy } = terms;
     let seat = vectors.seat();
     seat.state.conf.length_law();
     let found = Found::new(&seat.state);
     let ending = exec_access(access, &mut seat.state, scalar, memory, limit, policy);
+    let ticks = access_ticks(access, limit, found, &seat.state, ending);
+    retire_vector(ending, ticks, word, scalar, seat, end)
+}
+
+/// Loads or stores the whole registers or the mask that a word says. Writes how it ended over `Ran`, and answers how many
+/// ticks it took.
+#[inline(always)]
+fn access_registers<M: UserBytes, V: Vectors>(
+    word: u32,
+    scalar: &mut Scalar,
+    memory: &mut M,
+    vectors: &mut V,
+    terms: StepTerms,
+    end: &mut StepEnd,
+) -> usize
+    requires ready { V.ready vectors.old }
+    requires row { scan table word ≡ scan (rows WholeLoads ++ rows WholeStores ++ rows MaskMemories) word }
+    requires end { end.old ≡ StepEnd.Ran }
+    ensures model { Leads (executed terms.limit (scan table word) word)
+        (hart_state scalar.old (V.lent vectors.old).state (M.memory memory.old) terms.policy)
+        (hart_state scalar.new (V.lent vectors.new).state (M.memory memory.new) terms.policy) end.new result }
+    ensures memory { memory.new ≡ M.with_memory memory.old (M.memory memory.new) }
+    ensures vectors { Returns V.ready V.lent V.back (touches (scan table word)) (dirties terms.limit (scan table word))
+        (hart_state scalar.old (V.lent vectors.old).state (M.memory memory.old) terms.policy) vectors.old vectors.new }
+{
+    let decoded = decode_registers(word);
+    let Some(access) = &decoded else {
+        *end = illegal(word, scalar);
+        return 1;
+    };
+    let StepTerms { limit, policy } = terms;
+    let seat = vectors.seat();
+    seat.state.conf.length_law();
+    let found = Found::new(&seat.state);
+    let ending = exec_access(access, &mut seat.state, scalar, memory, limit, policy);
+    let ticks = access_ticks(access, limit, found, &seat.state, ending);
+    retire_vector(ending, ticks, word, scalar, seat, end)
+}
+
+/// Carries out the load or store that a word is which isn't of unit stride: one of whole registers or of a mask in line.
+/// Writes how it ended over `Ran`, and answers how many ticks it took.
+#[inline(never)]
+pub(crate) fn execute_other_access<M: UserBytes, V: Vectors>(
+    word: u32,
+    scalar: &mut Scalar,
+    memory: &mut M,
+    vectors: &mut V,
+    terms: StepTerms,
+    end: &mut StepEnd,
+) -> usize
+    requires ready { V.ready vectors.old }
+    requires row { scan table word ≡ scan other_accesses word }
+    requires end { end.old ≡ StepEnd.Ran }
+    ensures model { Leads (executed terms.limit (scan table word) word)
+        (hart_state scalar.old (V.lent vectors.old).state (M.memory memory.old) terms.policy)
+        (hart_state scalar.new (V.lent vectors.new).state (M.memory memory.new) terms.policy) end.new result }
+    ensures memory { memory.new ≡ M.with_memory memory.old (M.memory memory.new) }
+    ensures vectors { Returns V.ready V.lent V.back (touches (scan table word)) (dirties terms.limit (scan table word))
+        (hart_state scalar.old (V.lent vectors.old).state (M.memory memory.old) terms.policy) vectors.old vectors.new }
+{
+    if is_register_access(word) {
+        return access_registers(word, scalar, memory, vectors, terms, end);
+    }
+    let decoded = decode_strided_or_indexed(word);
+    let Some(access) = &decoded else {
+        *end = illegal(word, scalar);
+        return 1;
+    };
+    let StepTerms { limit, policy } = terms;
+    let seat = vectors.seat();
+    seat.state.conf.length_law();
+    let found = Found::new(&seat.state);
+    let ending = exec_other_access(access, &mut seat.state, scalar, memory, limit, policy);
     let ticks = access_ticks(access, limit, found, &seat.state, ending);
     retire_vector(ending, ticks, word, scalar, seat, end)
 }

@@ -1,6 +1,6 @@
--- A word of OP-V is one of a regular operation, or else it is found among the irregular rows; an access of unit stride is found
--- first, and so is a call or breakpoint.
-use Rattle.std.proofs.Common.{◌≡◌, refl, ap, ◌∙◌, sym, ℕ, List, [], ◌∷◌, ◌++◌, Option, Some, None, inl, inr, ◌⊎◌}
+-- A word of OP-V is one of a regular operation, or else it is found among the irregular rows; the accesses of unit stride, of
+-- registers and at distances are told apart by mop; a call or breakpoint is found first.
+use Rattle.std.proofs.Common.{◌≡◌, ◌≢◌, refl, ap, ◌∙◌, sym, ℕ, List, [], ◌∷◌, ◌++◌, Option, Some, None, inl, inr, ◌⊎◌}
 use Rattle.std.specs.Prelude.{IfNone, IfSome}
 use Rattle.std.specs.Int.Bits.{bit_and}
 use Rattle.std.specs.Option.{option_map, option_or}
@@ -9,12 +9,11 @@ use Rattle.rv_model.specs.declared.instructions.operations.Form.TheVariants as f
 use Rattle.rv_model.specs.declared.instructions.instruction.Instr.{Instr}
 use Rattle.rv_model.specs.declared.instructions.instruction.Instr.TheVariants as instr
 use Rattle.rv_model.specs.declared.instructions.operations.SystemOp.{SystemOp}
-use Rattle.rv_model.specs.declared.instructions.access.AccessInstr.{AccessInstr}
 use Rattle.rv_model.specs.declared.instructions.scalar.ScalarInstr.TheVariants.{System}
 use Rattle.rv_model.specs.declared.instructions.vector.VectorInstr.TheVariants.{Arith}
 use Rattle.rv_model.specs.instructions.Table.{Row, table, scan}
 use Rattle.rv_model.specs.lending.Families.{rows, Systems, Csrs, CsrImmediates, Ariths, Carries, Moves, WholeMoves, MaskLogics, Compresses, MasksToScalar, Extends, MaskUnaries, ElementIndices, MovesToScalar, MovesToVector, SetVlis, SetIvlis, SetVls, Units, Strideds, Indexeds, WholeLoads, WholeStores, MaskMemories}
-use Rattle.rv_model.proofs.instruction_lemmas.Scans.{scan_append, same_narrow, no_scan, DiffersFrom}
+use Rattle.rv_model.proofs.instruction_lemmas.Scans.{scan_append, scan_narrow, same_narrow, narrowed, no_scan, DiffersFrom}
 use Rattle.rv_model.specs.declared.instructions.arith_operation.ArithOperation.{ArithOperation}
 use Rattle.rv_decode.specs.Irregular.{irregular, other_accesses}
 use Rattle.rv_decode.proofs.Scan.{at_access, at_73, at_0057, at_2057, at_3057, at_4057, at_6057, at_7057, places}
@@ -41,6 +40,12 @@ or_none (Some i) = refl
 first_alone : (xs ys : List Row) (word : ℕ) → scan ys word ≡ None → scan (xs ++ ys) word ≡ scan xs word
 first_alone xs ys word nothing =
     scan_append xs ys word ∙ ap (option_or (scan xs word)) nothing ∙ or_none (scan xs word)
+
+-- rows that can match a word with such bits of two masks
+narrow_both : (m v n w word : ℕ) → bit_and word m ≡ v → bit_and word n ≡ w → (t s : List Row)
+    → narrowed n w (narrowed m v t) ≡ narrowed n w (narrowed m v s) → scan t word ≡ scan s word
+narrow_both m v n w word is at t s e =
+    scan_narrow m v word is t ∙ same_narrow n w word at (narrowed m v t) (narrowed m v s) e ∙ sym (scan_narrow m v word is s)
 
 -- the instruction of an operation
 abbrev instr_of : ArithOperation → Instr
@@ -147,6 +152,24 @@ none_6057 word found is e = first_missed instr_of found (scan table word) (scan 
 pub none_7057 : (word : ℕ) → bit_and word 0x707f ≡ 0x7057 → scan table word ≡ scan irregular word
 none_7057 word is = at_7057 word is ∙ sym (irregular_7057 word is)
 
+-- ---- funct6 of irregular operations
+
+pub out_of_line_10 : (word : ℕ) → bit_and word 0x7f ≡ 0x57 → bit_and word 0xfc000000 ≡ 0x40000000 → scan table word ≡ scan irregular word
+unfolding irregular table rows
+out_of_line_10 word opcode is = narrow_both 0x7f 0x57 0xfc000000 0x40000000 word opcode is table irregular refl
+
+pub out_of_line_12 : (word : ℕ) → bit_and word 0x7f ≡ 0x57 → bit_and word 0xfc000000 ≡ 0x48000000 → scan table word ≡ scan irregular word
+unfolding irregular table rows
+out_of_line_12 word opcode is = narrow_both 0x7f 0x57 0xfc000000 0x48000000 word opcode is table irregular refl
+
+pub out_of_line_14 : (word : ℕ) → bit_and word 0x7f ≡ 0x57 → bit_and word 0xfc000000 ≡ 0x50000000 → scan table word ≡ scan irregular word
+unfolding irregular table rows
+out_of_line_14 word opcode is = narrow_both 0x7f 0x57 0xfc000000 0x50000000 word opcode is table irregular refl
+
+pub out_of_line_17 : (word : ℕ) → bit_and word 0x7f ≡ 0x57 → bit_and word 0xfc000000 ≡ 0x5c000000 → scan table word ≡ scan irregular word
+unfolding irregular table rows
+out_of_line_17 word opcode is = narrow_both 0x7f 0x57 0xfc000000 0x5c000000 word opcode is table irregular refl
+
 -- ---- OPMVV
 
 -- the rows of OPMVV that have no line of their own
@@ -178,26 +201,40 @@ mask_other word h =
     sym (first_alone (rows MaskLogics) (rows Compresses ++ rows MasksToScalar ++ rows Extends ++ rows MaskUnaries ++ rows ElementIndices ++ rows MovesToScalar) word
     (no_scan 0xfc000000 (0x40000000 ∷ 0x48000000 ∷ 0x50000000 ∷ 0x5c000000 ∷ []) word _ refl h))
 
--- ---- unit-stride accesses
+-- ---- accesses
 
 other_rows : other_accesses ≡ rows Strideds ++ rows Indexeds ++ rows WholeLoads ++ rows WholeStores ++ rows MaskMemories
 unfolding other_accesses table rows
 other_rows = refl
 
-pub other_scan : (word : ℕ)
-    → scan other_accesses word ≡ scan (rows Strideds ++ rows Indexeds ++ rows WholeLoads ++ rows WholeStores ++ rows MaskMemories) word
-other_scan word = ap (λ t. scan t word) other_rows
-
-pub unit_found : (word : ℕ) (found : Option AccessInstr) → (bit_and word 0x7f ≡ 0x07) ⊎ (bit_and word 0x7f ≡ 0x27)
-    → option_map instr.Access found ≡ scan (rows Units) word → IfSome found (λ i. scan table word ≡ Some (instr.Access i))
+-- mop and bit 23 are 0 in each of unit stride, and in no other
+pub units_alone : (word : ℕ) → (bit_and word 0x7f ≡ 0x07) ⊎ (bit_and word 0x7f ≡ 0x27) → bit_and word 0x0c800000 ≡ 0
+    → scan table word ≡ scan (rows Units) word
 unfolding rows
-unit_found word found is e = first_found instr.Access found (scan table word) (rows Units) (rows Strideds ++ rows Indexeds ++ rows WholeLoads ++ rows WholeStores ++ rows MaskMemories) word (at_access word is) e
+units_alone word opcode is =
+    at_access word opcode
+    ∙ same_narrow 0x0c800000 0 word is (rows Units ++ rows Strideds ++ rows Indexeds ++ rows WholeLoads ++ rows WholeStores ++ rows MaskMemories) (rows Units) refl
 
-pub unit_missed : (word : ℕ) (found : Option AccessInstr) → (bit_and word 0x7f ≡ 0x07) ⊎ (bit_and word 0x7f ≡ 0x27)
-    → option_map instr.Access found ≡ scan (rows Units) word → IfNone found (scan table word ≡ scan other_accesses word)
+pub others_alone : (word : ℕ) → (bit_and word 0x7f ≡ 0x07) ⊎ (bit_and word 0x7f ≡ 0x27) → bit_and word 0x0c800000 ≢ 0
+    → scan table word ≡ scan other_accesses word
 unfolding rows
-unit_missed word found is e =
-    first_missed instr.Access found (scan table word) (scan other_accesses word) (rows Units) (rows Strideds ++ rows Indexeds ++ rows WholeLoads ++ rows WholeStores ++ rows MaskMemories) word (at_access word is) (other_scan word) e
+others_alone word opcode other =
+    at_access word opcode
+    ∙ scan_append (rows Units) (rows Strideds ++ rows Indexeds ++ rows WholeLoads ++ rows WholeStores ++ rows MaskMemories) word
+    ∙ ap (λ o. option_or o (scan (rows Strideds ++ rows Indexeds ++ rows WholeLoads ++ rows WholeStores ++ rows MaskMemories) word)) (no_scan 0x0c800000 (0 ∷ []) word (rows Units) refl (other, tt))
+    ∙ ap (λ t. scan t word) (sym other_rows)
+
+-- of the others, mop is 0 in each of whole registers and masks, and in no other
+pub registers_alone : (word : ℕ) → bit_and word 0x0c000000 ≡ 0 → scan other_accesses word ≡ scan (rows WholeLoads ++ rows WholeStores ++ rows MaskMemories) word
+unfolding other_accesses table rows
+registers_alone word is = same_narrow 0x0c000000 0 word is other_accesses (rows WholeLoads ++ rows WholeStores ++ rows MaskMemories) refl
+
+pub distances_alone : (word : ℕ) → bit_and word 0x0c000000 ≢ 0 → scan other_accesses word ≡ scan (rows Strideds ++ rows Indexeds) word
+unfolding rows
+distances_alone word other =
+    ap (λ t. scan t word) other_rows
+    ∙ first_alone (rows Strideds ++ rows Indexeds) (rows WholeLoads ++ rows WholeStores ++ rows MaskMemories) word
+    (no_scan 0x0c000000 (0 ∷ []) word _ refl (other, tt))
 
 -- ---- calls and breakpoints
 
@@ -215,9 +252,13 @@ unfolding rows
 call_missed word found is e =
     first_missed (λ op. instr.Scalar (System op)) found (scan table word) (scan (rows Csrs ++ rows CsrImmediates) word) (rows Systems) (rows Csrs ++ rows CsrImmediates) word (at_73 word is) refl e
 
+pub ruleset out_of_line_steps = (out_of_line_10, out_of_line_12, out_of_line_14, out_of_line_17)
+
 pub ruleset mask_steps = (mask_10, mask_12, mask_14, mask_17)
 
-pub ruleset unit_steps = (unit_found, unit_missed)
+pub ruleset unit_steps = (units_alone, others_alone)
+
+pub ruleset register_steps = (registers_alone, distances_alone)
 
 pub ruleset call_steps = (call_found, call_missed)
 

@@ -1,5 +1,5 @@
 //! Words to instructions.
-ghost use Rattle.std.specs.Prelude.{◌≡◌, ◌++◌, ◌⊎◌, bit_and, option_map, true, IfSome, IfNone, None, Some, if◌then◌else◌};
+ghost use Rattle.std.specs.Prelude.{◌≡◌, ◌++◌, ◌⊎◌, bit_and, option_map, false, true, IfSome, IfNone, None, Some, if◌then◌else◌};
 ghost use Rattle.rv_model.specs.declared.instructions.operations.Form.TheVariants as form;
 ghost use Rattle.rv_model.specs.instructions.Operations.{major_bits};
 ghost use Rattle.rv_model.specs.instructions.Layout.{word_of};
@@ -168,29 +168,63 @@ pub fn decode_irregular(word: u32) -> Option<VectorInstr>
     }
 }
 
-/// The unit-stride load or store that a word of LOAD-FP or STORE-FP is, if it is one.
+/// Whether a word of OP-V has a funct6 of which all operations have no line of their own in the table: where it isn't
+/// known, `decode_regular` tells.
+#[tactic(auto, using(crate::proofs::Irregular::out_of_line_steps))]
+#[inline(always)]
+pub fn has_irregular_funct6(word: u32) -> bool
+    requires { bit_and word 0x7f ≡ 0x57 }
+    ensures { result ≡ true → scan table word ≡ scan irregular word }
+{
+    if word >> 29 != 2 {
+        return false;
+    }
+    match word & 0xfc00_0000 {
+        0x4000_0000 => true,
+        0x4800_0000 => true,
+        0x5000_0000 => true,
+        0x5c00_0000 => true,
+        _ => false,
+    }
+}
+
+/// Whether a word of LOAD-FP or STORE-FP may be an access of unit stride that the vector length bounds, by mop and by
+/// lumop or sumop.
 #[tactic(auto, using(crate::proofs::Irregular::unit_steps))]
 #[inline(always)]
-pub fn decode_unit_stride(word: u32) -> Option<AccessInstr>
+pub fn is_unit_stride(word: u32) -> bool
     requires { (bit_and word 0x7f ≡ 0x07) ⊎ (bit_and word 0x7f ≡ 0x27) }
-    ensures some { IfSome result (λ i. scan table word ≡ Some (Instr.Access i)) }
-    ensures none { IfNone result (scan table word ≡ scan other_accesses word) }
+    ensures units { result ≡ true → scan table word ≡ scan (rows Units) word }
+    ensures others { result ≡ false → scan table word ≡ scan other_accesses word }
+{
+    word & 0x0c80_0000 == 0
+}
+
+/// The unit-stride load or store that a word is.
+#[inline(always)]
+pub fn decode_unit_stride(word: u32) -> Option<AccessInstr>
+    ensures { option_map Instr.Access result ≡ scan (rows Units) word }
 {
     unit(word)
 }
 
-/// The vector load or store that a word of LOAD-FP or STORE-FP is which `decode_unit_stride` doesn't know.
-#[tactic(auto, using(crate::proofs::Irregular::other_scan, rv_model::proofs::instruction_lemmas::Scans::scan_append))]
+/// Whether a word that isn't of unit stride may be a load or store of whole registers or of a mask, by mop.
+#[tactic(auto, using(crate::proofs::Irregular::register_steps))]
 #[inline(always)]
-pub fn decode_other_access(word: u32) -> Option<AccessInstr>
-    ensures { option_map Instr.Access result ≡ scan other_accesses word }
+pub fn is_register_access(word: u32) -> bool
+    ensures registers { result ≡ true → scan other_accesses word
+        ≡ scan (rows WholeLoads ++ rows WholeStores ++ rows MaskMemories) word }
+    ensures elements { result ≡ false → scan other_accesses word ≡ scan (rows Strideds ++ rows Indexeds) word }
 {
-    if let Some(instr) = strided(word) {
-        return Some(instr);
-    }
-    if let Some(instr) = indexed(word) {
-        return Some(instr);
-    }
+    word & 0x0c00_0000 == 0
+}
+
+/// The load or store of whole registers or of a mask that a word is.
+#[tactic(auto, using(rv_model::proofs::instruction_lemmas::Scans::scan_append))]
+#[inline(always)]
+pub fn decode_registers(word: u32) -> Option<AccessInstr>
+    ensures { option_map Instr.Access result ≡ scan (rows WholeLoads ++ rows WholeStores ++ rows MaskMemories) word }
+{
     if let Some(instr) = whole_load(word) {
         return Some(instr);
     }
@@ -198,6 +232,18 @@ pub fn decode_other_access(word: u32) -> Option<AccessInstr>
         return Some(instr);
     }
     mask_memory(word)
+}
+
+/// The strided or indexed load or store that a word is.
+#[tactic(auto, using(rv_model::proofs::instruction_lemmas::Scans::scan_append))]
+#[inline(always)]
+pub fn decode_strided_or_indexed(word: u32) -> Option<AccessInstr>
+    ensures { option_map Instr.Access result ≡ scan (rows Strideds ++ rows Indexeds) word }
+{
+    if let Some(instr) = strided(word) {
+        return Some(instr);
+    }
+    indexed(word)
 }
 
 /// The vector operation that a word of OP-V is.
@@ -221,10 +267,13 @@ fn access(word: u32) -> Option<Instr>
     requires { (bit_and word 0x7f ≡ 0x07) ⊎ (bit_and word 0x7f ≡ 0x27) }
     ensures { result ≡ scan table word }
 {
-    if let Some(instr) = decode_unit_stride(word) {
-        return Some(Instr::Access(instr));
+    if is_unit_stride(word) {
+        return Some(Instr::Access(decode_unit_stride(word)?));
     }
-    Some(Instr::Access(decode_other_access(word)?))
+    if is_register_access(word) {
+        return Some(Instr::Access(decode_registers(word)?));
+    }
+    Some(Instr::Access(decode_strided_or_indexed(word)?))
 }
 
 /// The call or breakpoint that a word of SYSTEM is, if it is one.

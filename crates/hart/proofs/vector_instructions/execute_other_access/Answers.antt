@@ -2,7 +2,7 @@
 use Rattle.std.proofs.Common.{arith, refl}
 use Rattle.std.proofs.lemmas.Grind.{common_steps}
 use Rattle.rv_model.specs.step.Step.{executed}
-use Rattle.hart.proofs.vector_instructions.execute_vector.Goals as goal
+use Rattle.hart.proofs.vector_instructions.execute_other_access.Goals as goal
 
 pub returns-clause-model : goal.returns-clause-model
 unfolding executed
