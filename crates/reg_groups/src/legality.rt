@@ -237,6 +237,7 @@ fn is_legal_access(
 
 /// Whether a load or store may have its operands without a vector type: not if it needs one.
 #[tactic(auto, using(crate::proofs::Sources::lone_legal), unfolding(rv_model::specs::legality::Legality::operands))]
+#[inline(always)]
 fn has_legal_untyped_access(instr: AccessInstr) -> bool
     ensures { result ≡ option_map_or are_legal (operands (Instr.Access instr) None) false }
 {
