@@ -178,8 +178,8 @@ pub(crate) fn execute_access<M: UserBytes, V: Vectors>(
     retire_vector(ending, ticks, word, scalar, seat, end)
 }
 
-/// Loads or stores the whole registers or the mask that a word says. Writes how it ended over `Ran`, and answers how many
-/// ticks it took.
+/// Loads or stores the whole registers or the mask that a word says. Writes how it ended over `Ran`, and answers how
+/// many ticks it took.
 #[inline(always)]
 fn access_registers<M: UserBytes, V: Vectors>(
     word: u32,
@@ -213,8 +213,8 @@ fn access_registers<M: UserBytes, V: Vectors>(
     retire_vector(ending, ticks, word, scalar, seat, end)
 }
 
-/// Carries out the load or store that a word is which isn't of unit stride: one of whole registers or of a mask in line.
-/// Writes how it ended over `Ran`, and answers how many ticks it took.
+/// Carries out the load or store that a word is which isn't of unit stride: one of whole registers or of a mask in
+/// line. Writes how it ended over `Ran`, and answers how many ticks it took.
 #[inline(never)]
 pub(crate) fn execute_other_access<M: UserBytes, V: Vectors>(
     word: u32,
