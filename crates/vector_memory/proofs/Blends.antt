@@ -29,7 +29,7 @@ use Rattle.vector_memory.proofs.FieldSteps.{Apart, each_more, each_none, field_m
 use Rattle.vector_memory.proofs.SpanMoves.{field_begins, fields_apart, field_inside, field_read, put_part}
 
 -- the bytes of the number that bytes make
-number_back : (k : ℕ) (ys : List ℕ) → length ys ≡ k → Each1 (λ x. x < 256) ys → bytes_low_first 0 k (number_l 256 ys) ≡ ys
+pub number_back : (k : ℕ) (ys : List ℕ) → length ys ≡ k → Each1 (λ x. x < 256) ys → bytes_low_first 0 k (number_l 256 ys) ≡ ys
 number_back k ys long below =
     same_number_lists (bytes_low_first 0 k (number_l 256 ys)) ys (length-bytes 0 k (number_l 256 ys) ∙ sym long)
     (λ j h.

@@ -328,30 +328,6 @@ fn run_in_turn<M: UserBytes>(
     transfer.run_segments(extent, memory, state)
 }
 
-/// A load or store, whichever it is.
-#[inline(always)]
-fn run_any<M: UserBytes>(
-    access: &AccessInstr,
-    extent: Extent,
-    scalar: &Scalar,
-    memory: &mut M,
-    state: &mut VState,
-) -> MemEnd
-    requires configured { IsConfiguration state.old.conf }
-    requires legal { IsTrue (is_legal (Instr.Access access.now) state.old.conf.vtype state.old.vstart) }
-    ensures run { RunLeaves
-        (access_run extent.limit extent.fill_masked_off access.now state.old scalar.now (M.memory memory.old))
-        result state.new (M.memory memory.new) }
-    ensures others { memory.new ≡ M.with_memory memory.old (M.memory memory.new) }
-{
-    if run_at_once(access, extent, scalar, memory, state) {
-        return MemEnd::Done;
-    }
-    // A copy of its own for the other function, so that the operands need no place in memory before.
-    let copy = *access;
-    run_in_turn(&copy, extent, scalar, memory, state)
-}
-
 /// Carries out a vector load or store of a user, of at most `limit` indices from `vstart` on. A load leaves
 /// its tail as it is; its elements that are masked off become all ones where `fill_masked_off`.
 #[inline(always)]
@@ -380,5 +356,10 @@ pub fn run<M: UserBytes>(
         limit,
         fill_masked_off,
     };
-    run_any(access, extent, scalar, memory, state)
+    if run_at_once(access, extent, scalar, memory, state) {
+        return MemEnd::Done;
+    }
+    // A copy of its own for the other function, so that the operands need no place in memory before.
+    let copy = *access;
+    run_in_turn(&copy, extent, scalar, memory, state)
 }

@@ -22,20 +22,6 @@ pub(crate) struct Segments {
 }
 
 impl Segments {
-    /// The same segments, with the size of a field as a constant that the caller has.
-    #[inline(always)]
-    pub(crate) fn sized(&self, size: usize) -> Segments
-        requires { size ≡ self.now.size }
-        ensures { result ≡ self.now }
-    {
-        Segments {
-            fields: self.fields,
-            size,
-            register: self.register,
-            field_registers: self.field_registers,
-        }
-    }
-
     /// The byte of the register file where an element begins.
     #[inline(always)]
     pub(crate) fn place(&self, index: usize, field: usize) -> usize

@@ -49,7 +49,7 @@ fn blend<L: Lane>(elements: &[u8], body: &Body<'_>, fill_masked_off: bool, desti
 impl Span<'_> {
     /// Whether its elements are those of one field, contiguous, from the first on.
     #[inline(always)]
-    fn is_blend(&self) -> bool
+    pub(crate) fn is_blend(&self) -> bool
         ensures { result ≡ true → IsBlend self.now }
     {
         self.segments.fields == 1 && self.distance == self.segments.size && self.body.start() == 0
@@ -65,7 +65,7 @@ impl Span<'_> {
 
     /// Copies its active elements from its bytes to the registers.
     #[inline(always)]
-    fn read_blend<L: Lane>(&self, bytes: &[u8], fill: bool, file: &mut VFile)
+    pub(crate) fn read_blend<L: Lane>(&self, bytes: &[u8], fill: bool, file: &mut VFile)
         requires length { length bytes.now ≡ self.now.length }
         requires blend { IsBlend self.now }
         requires size { self.now.segments.size ≡ width_bytes L.width }
@@ -76,30 +76,9 @@ impl Span<'_> {
         blend::<L>(bytes, &self.part(), fill, group);
     }
 
-    /// Copies its active elements from its bytes to the registers, if they are those of one field, contiguous, from the
-    /// first on. Answers whether it did.
-    #[inline(never)]
-    pub(crate) fn read_contiguous(&self, bytes: &[u8], fill: bool, file: &mut VFile) -> bool
-        requires length { length bytes.now ≡ self.now.length }
-        ensures value { result ≡ true → IsRead self.now fill bytes.now file.old file.new }
-        ensures unchanged { result ≡ false → file.new ≡ file.old }
-    {
-        if !self.is_blend() {
-            return false;
-        }
-        match self.segments.size {
-            1 => self.read_blend::<u8>(bytes, fill, file),
-            2 => self.read_blend::<u16>(bytes, fill, file),
-            4 => self.read_blend::<u32>(bytes, fill, file),
-            8 => self.read_blend::<u64>(bytes, fill, file),
-            _ => return false,
-        }
-        true
-    }
-
     /// Copies its active elements from the registers to its bytes.
     #[inline(always)]
-    fn write_blend<L: Lane>(&self, file: &VFile, bytes: &mut [u8])
+    pub(crate) fn write_blend<L: Lane>(&self, file: &VFile, bytes: &mut [u8])
         requires length { length bytes.old ≡ self.now.length }
         requires blend { IsBlend self.now }
         requires size { self.now.segments.size ≡ width_bytes L.width }
@@ -108,26 +87,5 @@ impl Span<'_> {
         let place = self.segments.place(0, 0);
         let group = file.part(place, place + bytes.len());
         blend::<L>(group, &self.part(), false, bytes);
-    }
-
-    /// Copies its active elements from the registers to its bytes, if they are those of one field, contiguous, from the
-    /// first on. Answers whether it did.
-    #[inline(never)]
-    pub(crate) fn write_contiguous(&self, file: &VFile, bytes: &mut [u8]) -> bool
-        requires length { length bytes.old ≡ self.now.length }
-        ensures value { result ≡ true → IsWritten self.now file.now bytes.old bytes.new }
-        ensures unchanged { result ≡ false → bytes.new ≡ bytes.old }
-    {
-        if !self.is_blend() {
-            return false;
-        }
-        match self.segments.size {
-            1 => self.write_blend::<u8>(file, bytes),
-            2 => self.write_blend::<u16>(file, bytes),
-            4 => self.write_blend::<u32>(file, bytes),
-            8 => self.write_blend::<u64>(file, bytes),
-            _ => return false,
-        }
-        true
     }
 }

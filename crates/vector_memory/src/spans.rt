@@ -4,7 +4,7 @@ ghost use Rattle.vector_memory.specs.Spans.{IsSpan};
 
 use crate::segments::Segments;
 use crate::user_bytes::UserBytes;
-use lane_arith::Body;
+use lane_arith::{Body, Lane};
 use rv_model::{Access, GROUP_BYTES, VFile};
 
 /// The segments of the indices of a body up to `stop`, and the bytes from the first of them on to the end of the last:
@@ -25,18 +25,22 @@ impl<'a> Span<'a> {
     ghost use Rattle.rv_model.specs.accesses.Transfers.{memory_stored, registers_loaded};
     ghost use Rattle.rv_model.specs.declared.memory.Access.TheVariants.{Load, Store};
     ghost use Rattle.rv_model.specs.memory.Memory.{can_access};
+    ghost use Rattle.rv_model.specs.vector.Configuration.{width_bytes};
     ghost use Rattle.vector_memory.specs.SegmentRoom.{place_in};
     ghost use Rattle.vector_memory.specs.SpanAccess.{IsRead, IsWritten, span_transfers};
 
     /// A copy, which no write to the registers or to the bytes can change, so it is read once; with the size of a field
     /// as a constant that the caller has.
     #[inline(always)]
-    pub(crate) fn sized(&self, size: usize) -> Span<'a>
+    fn sized(&self, size: usize) -> Span<'a>
         requires { size ≡ self.now.segments.size }
         ensures { result ≡ self.now }
     {
         Span {
-            segments: self.segments.sized(size),
+            segments: Segments {
+                size,
+                ..self.segments
+            },
             body: self.body.copied(),
             stop: self.stop,
             address: self.address,
@@ -45,26 +49,67 @@ impl<'a> Span<'a> {
         }
     }
 
-    /// Copies its elements from its bytes to the registers; where `fill`, those that are masked off become all ones.
+    /// Copies its elements, which are lanes, from its bytes to the registers; where `fill`, those that are masked off become
+    /// all ones.
     #[inline(always)]
-    fn read(&self, bytes: &[u8], fill: bool, file: &mut VFile)
-        requires { length bytes.now ≡ self.now.length }
+    fn read_lanes<L: Lane>(&self, bytes: &[u8], fill: bool, file: &mut VFile)
+        requires length { length bytes.now ≡ self.now.length }
+        requires size { self.now.segments.size ≡ width_bytes L.width }
         ensures { IsRead self.now fill bytes.now file.old file.new }
     {
-        if !self.read_contiguous(bytes, fill, file) {
-            self.read_elements(bytes, fill, file);
+        if self.is_blend() {
+            self.read_blend::<L>(bytes, fill, file);
+        } else {
+            self.read_fields::<L>(bytes, fill, file);
         }
     }
 
-    /// Copies its elements from the registers to its bytes.
+    /// Copies its elements from its bytes to the registers, if they are lanes. Answers whether it did.
+    #[inline(never)]
+    fn read(&self, bytes: &[u8], fill: bool, file: &mut VFile) -> bool
+        requires length { length bytes.now ≡ self.now.length }
+        ensures value { result ≡ true → IsRead self.now fill bytes.now file.old file.new }
+        ensures unchanged { result ≡ false → file.new ≡ file.old }
+    {
+        match self.segments.size {
+            1 => self.sized(1).read_lanes::<u8>(bytes, fill, file),
+            2 => self.sized(2).read_lanes::<u16>(bytes, fill, file),
+            4 => self.sized(4).read_lanes::<u32>(bytes, fill, file),
+            8 => self.sized(8).read_lanes::<u64>(bytes, fill, file),
+            _ => return false,
+        }
+        true
+    }
+
+    /// Copies its elements, which are lanes, from the registers to its bytes.
     #[inline(always)]
-    fn write(&self, file: &VFile, bytes: &mut [u8])
-        requires { length bytes.old ≡ self.now.length }
+    fn write_lanes<L: Lane>(&self, file: &VFile, bytes: &mut [u8])
+        requires length { length bytes.old ≡ self.now.length }
+        requires size { self.now.segments.size ≡ width_bytes L.width }
         ensures { IsWritten self.now file.now bytes.old bytes.new }
     {
-        if !self.write_contiguous(file, bytes) {
-            self.write_elements(file, bytes);
+        if self.is_blend() {
+            self.write_blend::<L>(file, bytes);
+        } else {
+            self.write_fields::<L>(file, bytes);
         }
+    }
+
+    /// Copies its elements from the registers to its bytes, if they are lanes. Answers whether it did.
+    #[inline(never)]
+    fn write(&self, file: &VFile, bytes: &mut [u8]) -> bool
+        requires length { length bytes.old ≡ self.now.length }
+        ensures value { result ≡ true → IsWritten self.now file.now bytes.old bytes.new }
+        ensures unchanged { result ≡ false → bytes.new ≡ bytes.old }
+    {
+        match self.segments.size {
+            1 => self.sized(1).write_lanes::<u8>(file, bytes),
+            2 => self.sized(2).write_lanes::<u16>(file, bytes),
+            4 => self.sized(4).write_lanes::<u32>(file, bytes),
+            8 => self.sized(8).write_lanes::<u64>(file, bytes),
+            _ => return false,
+        }
+        true
     }
 
     /// Loads its elements, if each byte of the span may be loaded. Answers whether it did.
@@ -82,8 +127,7 @@ impl<'a> Span<'a> {
         let Ok(()) = memory.read(self.address, Access::Load, bytes) else {
             return false;
         };
-        self.read(bytes, fill, file);
-        true
+        self.read(bytes, fill, file)
     }
 
     /// Stores its elements, if each byte of the span may be stored. Answers whether it did.
@@ -102,7 +146,9 @@ impl<'a> Span<'a> {
         let Ok(()) = memory.read(self.address, Access::Store, bytes) else {
             return false;
         };
-        self.write(file, bytes);
+        if !self.write(file, bytes) {
+            return false;
+        }
         let Ok(()) = memory.write(self.address, Access::Store, bytes) else {
             return false;
         };

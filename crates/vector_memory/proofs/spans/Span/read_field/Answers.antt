@@ -8,12 +8,12 @@ use Rattle.vector_memory.proofs.spans.Span.read_field.Goals as goal
 use Rattle.vector_memory.proofs.spans.Span.read_field.Goals.{then-lets, else-lets+then-fill, else-lets+else-fill}
 
 pub loop-index-init : goal.loop-index-init
-loop-index-init c = λ m read.
+loop-index-init g c = λ m read.
     sym (each_from (load_field m (span_access c.args.self.now) c.args.fill c.args.field) c.args.file.now
     c.args.self.now.body.start c.start-start.result (omega (arith, c.start-start.ensures)))
 
 pub loop-index-preserved : goal.loop-index-preserved
-loop-index-preserved c = λ m read.
+loop-index-preserved g c = λ m read.
     let b = c.args.self.now in
     let s = b.segments in
     let body = b.body in
@@ -28,11 +28,11 @@ loop-index-preserved c = λ m read.
     elim c.if-lets.branch [
       | then-lets w ↦
           w.file-is ∙ load_active m a c.args.fill f i _ c.loop-index.file _ (sym c.lets.ensures ∙ w.if-lets.true) c.place-place.ensures.value
-          (w.copy_from_slice.ensures.after ∙ part_at _ _ s.size c.args.bytes.now at ∙ field_read b m c.args.bytes.now i f low c.loop-index-test.true c.requires.field read)
+          (w.copy_lane.ensures ∙ part_at _ _ s.size c.args.bytes.now at ∙ field_read b m c.args.bytes.now i f low c.loop-index-test.true c.requires.field read)
           ∙ next
       | else-lets+then-fill w ↦
           w.file-is ∙ load_filled m a c.args.fill f i _ c.loop-index.file _ (sym c.lets.ensures ∙ w.if-lets.false) w.if-fill.true c.place-place.ensures.value
-          (w.copy_from_slice-then-fill.ensures.after ∙ take-replicate 255 s.size 8 b.span.room.size)
+          (w.copy_lane-then-fill.ensures ∙ take-replicate 255 s.size 8 b.span.room.size)
           ∙ next
       | else-lets+else-fill w ↦
           w.file-is ∙ load_kept m a c.args.fill f i c.loop-index.file (sym c.lets.ensures ∙ w.if-lets.false) w.if-fill.false ∙ next

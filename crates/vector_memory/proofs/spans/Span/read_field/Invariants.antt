@@ -5,5 +5,5 @@ use Rattle.vector_memory.specs.SpanAccess.{span_access}
 use Rattle.vector_memory.proofs.spans.Span.read_field.Given as goal
 
 abbrev pub invariant-loop-index : goal.invariant-loop-index
-invariant-loop-index l =
+invariant-loop-index g l =
     (m : Memory) → l.bytes ≡ bytes_at m l.self.address l.self.length → l.file ≡ for_each (load_field m (span_access l.self) l.fill l.field) l.fn.file l.self.body.start (l.index - l.self.body.start)

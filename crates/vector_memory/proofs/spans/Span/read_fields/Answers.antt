@@ -5,13 +5,13 @@ use Rattle.vector_memory.proofs.FieldSteps.{field_more, fields_loaded, loads_apa
 use Rattle.vector_memory.proofs.spans.Span.read_fields.Goals as goal
 
 pub loop-field-init : goal.loop-field-init
-loop-field-init c = λ m read.
+loop-field-init g c = λ m read.
     let b = c.args.self.now in
     let start = b.body.start in
     sym (no_field (load_field m (span_access b) c.args.fill) c.args.file.now start (b.stop - start))
 
 pub loop-field-preserved : goal.loop-field-preserved
-loop-field-preserved c = λ m read.
+loop-field-preserved g c = λ m read.
     let b = c.args.self.now in
     let start = b.body.start in
     let a = span_access b in
@@ -23,7 +23,7 @@ loop-field-preserved c = λ m read.
     (omega arith) (omega (arith, b.span.some))
 
 pub returns : goal.returns
-returns c = λ m read.
+returns g c = λ m read.
     let b = c.args.self.now in
     let start = b.body.start in
     let a = span_access b in

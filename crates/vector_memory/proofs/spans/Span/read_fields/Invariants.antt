@@ -5,5 +5,5 @@ use Rattle.vector_memory.specs.SpanAccess.{span_access}
 use Rattle.vector_memory.proofs.spans.Span.read_fields.Given as goal
 
 abbrev pub invariant-loop-field : goal.invariant-loop-field
-invariant-loop-field l =
+invariant-loop-field g l =
     (m : Memory) → l.bytes ≡ bytes_at m l.self.address l.self.length → l.file ≡ for_each (each_field (load_field m (span_access l.self) l.fill) l.field) l.fn.file l.self.body.start (l.self.stop - l.self.body.start)

@@ -11,6 +11,6 @@ returns-clause-value g c = λ done.
     let m = g.M.UserBytes.memory c.args.memory.now in
     let b = c.args.self.now in
     let place = place_in b.segments in
-    c.in-Ok-write.ensures.value ∙ c.write.ensures m
+    c.in-Ok-write.ensures.value ∙ c.write.ensures.value c.if-not-write.false m
     ∙ ap (λ bytes. memory_stored (put_bytes m b.address bytes) place c.args.file.now (span_transfers b false)) c.in-Ok.ensures.value
     ∙ ap (λ n. memory_stored n place c.args.file.now (span_transfers b false)) (put_read m b.address _)

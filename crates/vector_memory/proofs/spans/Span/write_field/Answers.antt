@@ -8,13 +8,13 @@ use Rattle.vector_memory.proofs.spans.Span.write_field.Goals as goal
 use Rattle.vector_memory.proofs.spans.Span.write_field.Goals.{then-lets, else-lets}
 
 pub loop-index-init : goal.loop-index-init
-loop-index-init c = λ m.
+loop-index-init g c = λ m.
     let b = c.args.self.now in
     sym (each_from (store_field c.args.file.now (span_access b) c.args.field) (put_bytes m b.address c.args.bytes.now)
     b.body.start c.start-start.result (omega (arith, c.start-start.ensures)))
 
 pub loop-index-preserved : goal.loop-index-preserved
-loop-index-preserved c = λ m.
+loop-index-preserved g c = λ m.
     let b = c.args.self.now in
     let s = b.segments in
     let f = c.args.field in
@@ -25,17 +25,17 @@ loop-index-preserved c = λ m.
     let next = ap (λ x. step x i) (c.loop-index.invariant m) ∙ sym (each_next step (put_bytes m b.address c.args.bytes.now) b.body.start i low) in
     elim c.if-lets.branch [
       | then-lets w ↦
-          (let bytes = w.copy_from_slice.new.self in
+          (let bytes = w.copy_lane.new.destination in
           let to = (i - b.body.start) * b.distance + f * s.size in
           let at : (i - c.start-start.result) * b.distance + f * s.size ≡ to = ap (λ n. (i - n) * b.distance + f * s.size) c.start-start.ensures in
-          let count : length bytes ≡ s.size = ap length w.copy_from_slice.ensures.after ∙ omega (arith, w.part.ensures.len) in
+          let count : length bytes ≡ s.size = ap length w.copy_lane.ensures ∙ omega (arith, w.part.ensures.len) in
           let room : to + length bytes ≤ length c.loop-index.bytes =
           omega (arith, count, c.loop-index.auto.bytes, c.requires.length, field_inside b i f low c.loop-index-test.true c.requires.field) in
           ap (put_bytes m b.address) (w.bytes-is ∙ part_put _ _ to c.loop-index.bytes bytes (omega (arith, count)) at room)
           ∙ put_part m b.address to c.loop-index.bytes bytes room
           ∙ store_active c.args.file.now a f i (b.address + to) (put_bytes m b.address c.loop-index.bytes) bytes (sym c.lets.ensures ∙ w.if-lets.true)
           (sym (field_begins b i f low c.loop-index-test.true c.requires.field))
-          (w.copy_from_slice.ensures.after ∙ w.part.ensures.value ∙ part_at _ _ s.size c.args.file.now w.place-place.ensures.value)
+          (w.copy_lane.ensures ∙ w.part.ensures.value ∙ part_at _ _ s.size c.args.file.now w.place-place.ensures.value)
           ∙ next)
       | else-lets w ↦
           ap (put_bytes m b.address) w.bytes-is

@@ -5,6 +5,6 @@ use Rattle.vector_memory.specs.SpanAccess.{span_access}
 use Rattle.vector_memory.proofs.spans.Span.write_field.Given as goal
 
 abbrev pub invariant-loop-index : goal.invariant-loop-index
-invariant-loop-index l =
+invariant-loop-index g l =
     (m : Memory) → put_bytes m l.self.address l.bytes
     ≡ for_each (store_field l.file (span_access l.self) l.field) (put_bytes m l.self.address l.fn.bytes) l.self.body.start (l.index - l.self.body.start)

@@ -7,13 +7,13 @@ use Rattle.vector_memory.proofs.SpanMoves.{fields_apart}
 use Rattle.vector_memory.proofs.spans.Span.write_fields.Goals as goal
 
 pub loop-field-init : goal.loop-field-init
-loop-field-init c = λ m.
+loop-field-init g c = λ m.
     let b = c.args.self.now in
     let start = b.body.start in
     sym (no_field (store_field c.args.file.now (span_access b)) (put_bytes m b.address c.args.bytes.now) start (b.stop - start))
 
 pub loop-field-preserved : goal.loop-field-preserved
-loop-field-preserved c = λ m.
+loop-field-preserved g c = λ m.
     let b = c.args.self.now in
     let start = b.body.start in
     let a = span_access b in
@@ -25,7 +25,7 @@ loop-field-preserved c = λ m.
     (put_bytes m b.address c.args.bytes.now) (omega arith) (omega (arith, b.span.some))
 
 pub returns : goal.returns
-returns c = λ m.
+returns g c = λ m.
     let b = c.args.self.now in
     let start = b.body.start in
     let a = span_access b in

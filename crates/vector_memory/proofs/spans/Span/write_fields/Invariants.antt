@@ -5,6 +5,6 @@ use Rattle.vector_memory.specs.SpanAccess.{span_access}
 use Rattle.vector_memory.proofs.spans.Span.write_fields.Given as goal
 
 abbrev pub invariant-loop-field : goal.invariant-loop-field
-invariant-loop-field l =
+invariant-loop-field g l =
     (m : Memory) → put_bytes m l.self.address l.bytes
     ≡ for_each (each_field (store_field l.file (span_access l.self)) l.field) (put_bytes m l.self.address l.fn.bytes) l.self.body.start (l.self.stop - l.self.body.start)
