@@ -1,5 +1,5 @@
 //! Loads, index by index ("V" Vector Extension 1.0, sections 7.4 to 7.9 and 17.1).
-ghost use Rattle.std.specs.Prelude.{◌≡◌, ◌<◌, IfSome, IfNone};
+ghost use Rattle.std.specs.Prelude.{◌≡◌, ◌<◌};
 ghost use Rattle.rv_model.specs.accesses.VectorAccess.{plan};
 ghost use Rattle.vector_memory.specs.Moves.{AllLoaded, IsLoaded};
 ghost use Rattle.vector_memory.specs.SegmentRoom.{StopsBefore, segments_access, place_in};
@@ -57,29 +57,8 @@ impl<A: Addresses> Moves<'_, A> {
         end_without_fault(stop, self.body.end())
     }
 
-    /// Loads the indices at once, where they lie close together and all bytes between them may be loaded.
-    #[inline(always)]
-    fn load_span<M: UserBytes>(
-        &self,
-        memory: &M,
-        extent: Extent,
-        file: &mut VFile,
-    ) -> Option<MemEnd>
-        ensures loaded { IfSome result (λ end. IsLoaded extent.limit extent.fill_masked_off
-            (segments_access self.now.segments self.now.body (A.address self.now.addresses))
-            (M.memory memory.now) file.old end file.new) }
-        ensures least { IfSome result (StopsBefore self.now.body.end) }
-        ensures unchanged { IfNone result (file.new ≡ file.old) }
-    {
-        let stop = self.stop(extent.limit);
-        let span = self.span(stop)?;
-        if !span.load(memory, extent.fill_masked_off, file) {
-            return None;
-        }
-        Some(end_without_fault(stop, self.body.end()))
-    }
-
-    /// Loads the indices, up to the first that isn't wholly allowed.
+    /// Loads the indices, up to the first that isn't wholly allowed: at once, where they lie close together and all bytes
+    /// between them may be loaded.
     #[inline(always)]
     pub(crate) fn load<M: UserBytes>(&self, memory: &M, extent: Extent, file: &mut VFile) -> MemEnd
         ensures loaded { IsLoaded extent.limit extent.fill_masked_off
@@ -87,9 +66,13 @@ impl<A: Addresses> Moves<'_, A> {
             (M.memory memory.now) file.old result file.new }
         ensures least { StopsBefore self.now.body.end result }
     {
-        if let Some(end) = self.load_span(memory, extent, file) {
-            return end;
+        let stop = self.stop(extent.limit);
+        let Some(span) = self.span(stop) else {
+            return self.load_each(memory, extent, file);
+        };
+        if !span.load(memory, extent.fill_masked_off, file) {
+            return self.load_each(memory, extent, file);
         }
-        self.load_each(memory, extent, file)
+        end_without_fault(stop, self.body.end())
     }
 }

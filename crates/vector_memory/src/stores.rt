@@ -1,5 +1,5 @@
 //! Stores, index by index ("V" Vector Extension 1.0, sections 7.4 to 7.9 and 17.1).
-ghost use Rattle.std.specs.Prelude.{◌≡◌, ◌<◌, false, OnOk, OnErr, IfSome, IfNone};
+ghost use Rattle.std.specs.Prelude.{◌≡◌, ◌<◌, false, OnOk, OnErr};
 ghost use Rattle.rv_model.specs.accesses.VectorAccess.{plan};
 ghost use Rattle.vector_memory.specs.Moves.{AllStored, IsStored};
 ghost use Rattle.vector_memory.specs.SegmentRoom.{StopsBefore, segments_access, place_in};
@@ -54,25 +54,8 @@ impl<A: Addresses> Moves<'_, A> {
         end_without_fault(stop, self.body.end())
     }
 
-    /// Stores the indices at once, where they lie close together and all bytes between them may be stored.
-    #[inline(always)]
-    fn store_span<M: UserBytes>(&self, file: &VFile, limit: usize, memory: &mut M) -> Option<MemEnd>
-        ensures stored { IfSome result (λ end. IsStored limit
-            (segments_access self.now.segments self.now.body (A.address self.now.addresses)) file.now
-            (M.memory memory.old) end (M.memory memory.new)) }
-        ensures others { IfSome result (λ end. memory.new ≡ M.with_memory memory.old (M.memory memory.new)) }
-        ensures least { IfSome result (StopsBefore self.now.body.end) }
-        ensures unchanged { IfNone result (memory.new ≡ memory.old) }
-    {
-        let stop = self.stop(limit);
-        let span = self.span(stop)?;
-        if !span.store(file, memory) {
-            return None;
-        }
-        Some(end_without_fault(stop, self.body.end()))
-    }
-
-    /// Stores the indices, at most `limit` of them, up to the first that isn't wholly allowed.
+    /// Stores the indices, at most `limit` of them, up to the first that isn't wholly allowed: at once, where they lie close
+    /// together and all bytes between them may be stored.
     #[inline(always)]
     pub(crate) fn store<M: UserBytes>(&self, file: &VFile, limit: usize, memory: &mut M) -> MemEnd
         ensures stored { IsStored limit
@@ -81,9 +64,13 @@ impl<A: Addresses> Moves<'_, A> {
         ensures least { StopsBefore self.now.body.end result }
         ensures others { memory.new ≡ M.with_memory memory.old (M.memory memory.new) }
     {
-        if let Some(end) = self.store_span(file, limit, memory) {
-            return end;
+        let stop = self.stop(limit);
+        let Some(span) = self.span(stop) else {
+            return self.store_each(file, limit, memory);
+        };
+        if !span.store(file, memory) {
+            return self.store_each(file, limit, memory);
         }
-        self.store_each(file, limit, memory)
+        end_without_fault(stop, self.body.end())
     }
 }
