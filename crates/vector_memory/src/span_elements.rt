@@ -1,6 +1,6 @@
 //! Elements copied between the registers and a span of memory, field after field ("V" Vector Extension 1.0, sections
 //! 7.4, 7.5, 7.8 and 7.9).
-ghost use Rattle.std.specs.Prelude.{◌≡◌, ◌-◌, ◌<◌, length};
+ghost use Rattle.std.specs.Prelude.{◌≡◌, ◌-◌, ◌<◌, ◌≤◌, length};
 ghost use Rattle.rv_model.specs.memory.Memory.{Memory, bytes_at, put_bytes};
 ghost use Rattle.rv_model.specs.vector.Configuration.{width_bytes};
 ghost use Rattle.vector_memory.specs.FieldOrder.{for_each, load_field, store_field};
@@ -21,6 +21,15 @@ fn copy_lane<L: Lane>(source: &[u8], destination: &mut [u8])
 }
 
 impl Span<'_> {
+    /// How many bytes after one segment the next begins: at least the size of a field, as the compiler then knows.
+    #[inline(always)]
+    fn step(&self) -> usize
+        requires { 1 ≤ self.now.segments.fields }
+        ensures { result ≡ self.now.distance }
+    {
+        self.distance.max(self.segments.size)
+    }
+
     /// Copies one field of the active indices from its bytes to the registers.
     #[inline(always)]
     fn read_field<L: Lane>(&self, bytes: &[u8], field: usize, fill: bool, file: &mut VFile)
@@ -33,9 +42,10 @@ impl Span<'_> {
     {
         let start = self.body.start();
         let size = self.segments.size;
+        let distance = self.step();
         for index in start..self.stop {
             let place = self.segments.place(index, field);
-            let at = (index - start) * self.distance + field * size;
+            let at = (index - start) * distance + field * size;
             if self.body.lets(index) {
                 copy_lane::<L>(&bytes[at..at + size], file.part_mut(place, place + size));
             } else if fill {
@@ -56,10 +66,11 @@ impl Span<'_> {
     {
         let start = self.body.start();
         let size = self.segments.size;
+        let distance = self.step();
         for index in start..self.stop {
             if self.body.lets(index) {
                 let place = self.segments.place(index, field);
-                let at = (index - start) * self.distance + field * size;
+                let at = (index - start) * distance + field * size;
                 copy_lane::<L>(file.part(place, place + size), &mut bytes[at..at + size]);
             }
         }

@@ -20,8 +20,8 @@ loop-index-preserved g c = λ m read.
     let a = span_access b in
     let f = c.args.field in
     let i = c.loop-index.index in
-    let at : (i - c.start-start.result) * b.distance + f * s.size ≡ (i - body.start) * b.distance + f * s.size =
-    ap (λ n. (i - n) * b.distance + f * s.size) c.start-start.ensures in
+    let at : (i - c.start-start.result) * c.step-distance.result + f * s.size ≡ (i - body.start) * b.distance + f * s.size =
+    ap (λ n. (i - n) * c.step-distance.result + f * s.size) c.start-start.ensures ∙ ap (λ n. (i - body.start) * n + f * s.size) c.step-distance.ensures in
     let low : body.start ≤ i = omega (arith, c.loop-index.auto.index, c.start-start.ensures) in
     let step = load_field m a c.args.fill f in
     let next = ap (λ x. step x i) (c.loop-index.invariant m read) ∙ sym (each_next step c.args.file.now body.start i low) in

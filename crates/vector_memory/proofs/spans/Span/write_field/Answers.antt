@@ -27,7 +27,8 @@ loop-index-preserved g c = λ m.
       | then-lets w ↦
           (let bytes = w.copy_lane.new.destination in
           let to = (i - b.body.start) * b.distance + f * s.size in
-          let at : (i - c.start-start.result) * b.distance + f * s.size ≡ to = ap (λ n. (i - n) * b.distance + f * s.size) c.start-start.ensures in
+          let at : (i - c.start-start.result) * c.step-distance.result + f * s.size ≡ to =
+          ap (λ n. (i - n) * c.step-distance.result + f * s.size) c.start-start.ensures ∙ ap (λ n. (i - b.body.start) * n + f * s.size) c.step-distance.ensures in
           let count : length bytes ≡ s.size = ap length w.copy_lane.ensures ∙ omega (arith, w.part.ensures.len) in
           let room : to + length bytes ≤ length c.loop-index.bytes =
           omega (arith, count, c.loop-index.auto.bytes, c.requires.length, field_inside b i f low c.loop-index-test.true c.requires.field) in
