@@ -57,8 +57,8 @@ impl<A: Addresses> Moves<'_, A> {
         end_without_fault(stop, self.body.end())
     }
 
-    /// Loads the indices, up to the first that isn't wholly allowed: at once, where they lie close together and all bytes
-    /// between them may be loaded.
+    /// Loads the indices, up to the first that isn't wholly allowed: at once, where they lie close together and all
+    /// bytes between them may be loaded.
     #[inline(always)]
     pub(crate) fn load<M: UserBytes>(&self, memory: &M, extent: Extent, file: &mut VFile) -> MemEnd
         ensures loaded { IsLoaded extent.limit extent.fill_masked_off

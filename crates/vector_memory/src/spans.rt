@@ -49,8 +49,8 @@ impl<'a> Span<'a> {
         }
     }
 
-    /// Copies its elements, which are lanes, from its bytes to the registers; where `fill`, those that are masked off become
-    /// all ones.
+    /// Copies its elements, which are lanes, from its bytes to the registers; where `fill`, those that are masked off
+    /// become all ones.
     #[inline(always)]
     fn read_lanes<L: Lane>(&self, bytes: &[u8], fill: bool, file: &mut VFile)
         requires length { length bytes.now ≡ self.now.length }

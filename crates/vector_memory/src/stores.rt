@@ -54,8 +54,8 @@ impl<A: Addresses> Moves<'_, A> {
         end_without_fault(stop, self.body.end())
     }
 
-    /// Stores the indices, at most `limit` of them, up to the first that isn't wholly allowed: at once, where they lie close
-    /// together and all bytes between them may be stored.
+    /// Stores the indices, at most `limit` of them, up to the first that isn't wholly allowed: at once, where they lie
+    /// close together and all bytes between them may be stored.
     #[inline(always)]
     pub(crate) fn store<M: UserBytes>(&self, file: &VFile, limit: usize, memory: &mut M) -> MemEnd
         ensures stored { IsStored limit
