@@ -139,7 +139,7 @@ pub(crate) fn execute_operation<M: UserBytes, V: Vectors>(
     let policy = terms.policy;
     let seat = vectors.seat();
     seat.state.conf.length_law();
-    let ending = exec_arith(&operation, &mut seat.state, scalar, policy);
+    let ending = exec_arith(operation, &mut seat.state, scalar, policy);
     retire_vector(ending, 1, word, scalar, seat, end)
 }
 

@@ -129,17 +129,17 @@ fn perform_operation(
 /// The same, if there is a vector type.
 #[inline(always)]
 pub(crate) fn perform_arith(
-    operation: &ArithOperation,
+    operation: ArithOperation,
     state: &mut VState,
     scalar: &Scalar,
     policy: Policy,
 ) -> VEnd
     requires legal { IsTrue (is_legal
-        (Instr.Vector (VectorInstr.Arith operation.now.arith operation.now.vd operation.now.vs2 operation.now.unmasked))
+        (Instr.Vector (VectorInstr.Arith operation.arith operation.vd operation.vs2 operation.unmasked))
         state.old.conf.vtype state.old.vstart) }
     ensures model { (memory : Memory) (output : List ℕ)
         → typed state.old.conf.vtype
-        (typed_step (VectorInstr.Arith operation.now.arith operation.now.vd operation.now.vs2 operation.now.unmasked))
+        (typed_step (VectorInstr.Arith operation.arith operation.vd operation.vs2 operation.unmasked))
         (hart_state scalar.now state.old memory policy output)
         ≡ vector_ends result (hart_state scalar.now state.new memory policy output) }
     ensures illegal { result ≡ VEnd.Illegal → state.new ≡ state.old }

@@ -64,14 +64,14 @@ fn perform_irregular(
 #[tactic(auto, unfolding(rv_model::specs::step::VectorStep::vector_executed))]
 #[inline(always)]
 pub fn exec_arith(
-    operation: &ArithOperation,
+    operation: ArithOperation,
     state: &mut VState,
     scalar: &Scalar,
     policy: Policy,
 ) -> VEnd
     ensures model { (limit : ℕ) (memory : Memory) (output : List ℕ)
         → vector_executed limit
-        (Instr.Vector (VectorInstr.Arith operation.now.arith operation.now.vd operation.now.vs2 operation.now.unmasked))
+        (Instr.Vector (VectorInstr.Arith operation.arith operation.vd operation.vs2 operation.unmasked))
         (hart_state scalar.now state.old memory policy output)
         ≡ vector_ends result (hart_state scalar.now state.new memory policy output) }
 
@@ -86,7 +86,7 @@ pub fn exec_arith(
         vd,
         vs2,
         unmasked,
-    } = *operation;
+    } = operation;
     if !legal_arith(arith, vd, vs2, unmasked, &state.conf, state.vstart) {
         return VEnd::Illegal;
     }
@@ -157,7 +157,7 @@ pub fn exec<M: UserBytes>(
                 vs2: *vs2,
                 unmasked: *vm,
             };
-            exec_arith(&operation, state, scalar, policy)
+            exec_arith(operation, state, scalar, policy)
         }
         Instr::Vector(operation) => exec_operation(operation, state, scalar, policy),
         Instr::Access(access) => exec_other_access(access, state, scalar, memory, limit, policy),

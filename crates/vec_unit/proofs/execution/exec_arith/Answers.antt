@@ -8,6 +8,6 @@ use Rattle.vec_unit.proofs.execution.exec_arith.Goals as goal
 pub returns-clause-model : goal.returns-clause-model
 unfolding vector_executed performed operation_step
 returns-clause-model c = λ limit memory output.
-    let allowed : is_legal (instr.Vector (Arith c.args.operation.now.arith c.args.operation.now.vd c.args.operation.now.vs2 c.args.operation.now.unmasked)) c.args.state.now.conf.vtype c.args.state.now.vstart ≡ true =
+    let allowed : is_legal (instr.Vector (Arith c.args.operation.arith c.args.operation.vd c.args.operation.vs2 c.args.operation.unmasked)) c.args.state.now.conf.vtype c.args.state.now.vstart ≡ true =
     sym c.legal_arith.ensures ∙ c.if-not-legal_arith.false in
     rw allowed (c.perform_arith.ensures.model memory output)
