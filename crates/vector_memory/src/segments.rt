@@ -84,23 +84,6 @@ impl Segments {
         }
     }
 
-    /// Loads the one field of a segment, if it may be loaded.
-    #[inline(always)]
-    fn load_only_field<M: UserBytes>(
-        &self,
-        memory: &M,
-        address: u64,
-        index: usize,
-        file: &mut VFile,
-    ) -> Result<(), Fault>
-        requires room { HasRoom self.now (index + 1) }
-        requires one { self.now.fields ≡ 1 }
-        ensures { AllLoaded (M.memory memory.now) (place_in self.now) (segment_transfers self.now index address)
-            file.old result file.new }
-    {
-        load_bytes(memory, address, self.place(index, 0), self.size, file)
-    }
-
     /// Loads the fields of a segment, if each may be loaded; if not, the address of the first that may not.
     #[inline(always)]
     pub(crate) fn load_allowed<M: UserBytes>(
@@ -115,7 +98,7 @@ impl Segments {
             file.old result file.new }
     {
         if self.fields == 1 {
-            return self.load_only_field(memory, address, index, file);
+            return load_bytes(memory, address, self.place(index, 0), self.size, file);
         }
         self.check(memory, Access::Load, address)?;
         self.load(memory, address, index, file);
@@ -156,25 +139,6 @@ impl Segments {
         }
     }
 
-    /// Stores the one field of a segment, if it may be stored.
-    #[inline(always)]
-    fn store_only_field<M: UserBytes>(
-        &self,
-        file: &VFile,
-        address: u64,
-        index: usize,
-        memory: &mut M,
-    ) -> Result<(), Fault>
-        requires room { HasRoom self.now (index + 1) }
-        requires one { self.now.fields ≡ 1 }
-        ensures stored { AllStored (place_in self.now) file.now (segment_transfers self.now index address)
-            (M.memory memory.old) result (M.memory memory.new) }
-        ensures others { OnOk result (memory.new ≡ M.with_memory memory.old (M.memory memory.new)) }
-        ensures unchanged { OnErr result (memory.new ≡ memory.old) }
-    {
-        store_bytes(file, self.place(index, 0), self.size, address, memory)
-    }
-
     /// Stores the fields of a segment, if each may be stored; if not, the address of the first that may not.
     #[inline(always)]
     pub(crate) fn store_allowed<M: UserBytes>(
@@ -191,7 +155,7 @@ impl Segments {
         ensures unchanged { OnErr result (memory.new ≡ memory.old) }
     {
         if self.fields == 1 {
-            return self.store_only_field(file, address, index, memory);
+            return store_bytes(file, self.place(index, 0), self.size, address, memory);
         }
         self.check(memory, Access::Store, address)?;
         self.store(file, address, index, memory);

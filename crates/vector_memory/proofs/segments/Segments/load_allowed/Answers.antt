@@ -4,10 +4,10 @@ use Rattle.rv_model.proofs.access_lemmas.Segments.{field_transfer}
 use Rattle.vector_memory.proofs.OneField.{one_allowed, one_fault, one_loaded}
 use Rattle.vector_memory.proofs.Outcomes.{on_ok}
 use Rattle.vector_memory.specs.SegmentRoom.{place_in}
-use Rattle.vector_memory.proofs.segments.Segments.load_only_field.Goals as goal
+use Rattle.vector_memory.proofs.segments.Segments.load_allowed.Goals as goal
 
-pub returns : goal.returns
-returns g c =
+pub returns-then-self-eq1 : goal.returns-then-self-eq1
+returns-then-self-eq1 g c =
     let m = g.M.UserBytes.memory c.args.memory.now in
     let s = c.args.self.now in
     let i = c.args.index in
@@ -15,7 +15,7 @@ returns g c =
     let low : address < 2 ^ 64 = omega arith in
     let at : c.place.result ≡ place_in s (field_transfer i address s.size 0) = omega (arith, c.place.ensures.value) in
     let it = c.load_bytes.ensures in
-    rw c.requires.one
+    rw c.if-self-eq1.true
     (record {
       ok = one_allowed m i address s.size low Load it.ok;
       fault = one_fault m i address s.size low Load (λ fault. fault.addr) c.load_bytes.result it.ok it.fault;
