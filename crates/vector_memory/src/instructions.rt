@@ -208,7 +208,7 @@ fn is_indexed(access: &AccessInstr) -> bool
 /// A load or store at offsets, under a vector type; its elements have the width that the type has.
 #[tactic(auto, unfolding(rv_model::specs::accesses::AccessRuns::access_run))]
 #[inline(always)]
-fn run_offsets_under<M: UserBytes>(
+fn run_offsets<M: UserBytes>(
     access: &AccessInstr,
     vtype: VType,
     extent: Extent,
@@ -253,29 +253,6 @@ fn run_offsets_under<M: UserBytes>(
     }
 }
 
-/// A load or store at offsets, under the vector type that there is.
-#[tactic(auto, unfolding(rv_model::specs::accesses::AccessRuns::access_run))]
-#[inline(always)]
-fn run_offsets<M: UserBytes>(
-    access: &AccessInstr,
-    extent: Extent,
-    scalar: &Scalar,
-    memory: &mut M,
-    state: &mut VState,
-) -> MemEnd
-    requires access { IsTrue (is_offset_access access.now) }
-    requires legal { IsTrue (is_legal (Instr.Access access.now) state.old.conf.vtype state.old.vstart) }
-    ensures run { RunLeaves
-        (access_run extent.limit extent.fill_masked_off access.now state.old scalar.now (M.memory memory.old))
-        result state.new (M.memory memory.new) }
-    ensures others { memory.new ≡ M.with_memory memory.old (M.memory memory.new) }
-{
-    let Some(vtype) = state.conf.vtype() else {
-        return MemEnd::Done;
-    };
-    run_offsets_under(access, vtype, extent, scalar, memory, state)
-}
-
 /// Carries out a load or store at a distance at once, if it can be. Answers whether it is done.
 #[inline(always)]
 fn run_at_once<M: UserBytes>(
@@ -304,6 +281,7 @@ fn run_at_once<M: UserBytes>(
 }
 
 /// Carries out a load or store segment by segment.
+#[tactic(auto, unfolding(rv_model::specs::accesses::AccessRuns::access_run))]
 #[inline(never)]
 fn run_in_turn<M: UserBytes>(
     access: &AccessInstr,
@@ -320,7 +298,10 @@ fn run_in_turn<M: UserBytes>(
     ensures others { memory.new ≡ M.with_memory memory.old (M.memory memory.new) }
 {
     if is_indexed(access) {
-        return run_offsets(access, extent, scalar, memory, state);
+        let Some(vtype) = state.conf.vtype() else {
+            return MemEnd::Done;
+        };
+        return run_offsets(access, vtype, extent, scalar, memory, state);
     }
     let Some(transfer) = transfer_of(access, state, scalar) else {
         return MemEnd::Done;

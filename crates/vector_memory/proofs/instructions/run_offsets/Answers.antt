@@ -2,7 +2,7 @@ use Rattle.std.proofs.Common.{sym}
 use Rattle.rv_model.specs.vector.Configuration.{group_type}
 use Rattle.rv_model.proofs.legality_lemmas.Accesses.{indexed_inside}
 use Rattle.vector_memory.proofs.Room.{element_most, segments_room}
-use Rattle.vector_memory.proofs.instructions.run_offsets_under.Goals as goal
+use Rattle.vector_memory.proofs.instructions.run_offsets.Goals as goal
 
 pub run_segments-requires-clause-room : goal.run_segments-requires-clause-room
 run_segments-requires-clause-room g c =
