@@ -86,32 +86,6 @@ fn hand_on<M: UserBytes, V: Vectors>(
     (end, ticks)
 }
 
-/// Carries out the instruction that a word is, and answers how it ended and how many ticks it took.
-#[inline(always)]
-fn execute<M: UserBytes, V: Vectors>(
-    word: u32,
-    scalar: &mut Scalar,
-    memory: &mut M,
-    vectors: &mut V,
-    output: &mut ArrayVec<u8, OUTPUT_SIZE>,
-    terms: StepTerms,
-) -> (StepEnd, usize)
-    requires ready { V.ready vectors.old }
-    ensures model { LeadsTo (executed terms.limit (scan table word) word)
-        (hart_state scalar.old (V.lent vectors.old).state (M.memory memory.old) terms.policy output.old.items)
-        (hart_state scalar.new (V.lent vectors.new).state (M.memory memory.new) terms.policy output.new.items)
-        result.0 result.1 }
-    ensures memory { memory.new ≡ M.with_memory memory.old (M.memory memory.new) }
-    ensures vectors { Returns V.ready V.lent V.back (touches (scan table word)) (dirties terms.limit (scan table word))
-        (hart_state scalar.old (V.lent vectors.old).state (M.memory memory.old) terms.policy) vectors.old vectors.new }
-{
-    let decoded = decode_scalar(word);
-    if let Some(instr) = &decoded {
-        return (execute_scalar(instr, scalar, memory), 1);
-    }
-    hand_on(word, scalar, memory, vectors, output, terms)
-}
-
 /// Carries out one instruction of a user within `limit` ticks, and answers how it ended and how many
 /// ticks it took. The vector state is lent once where the instruction touches it, and else not at all; it
 /// is marked as dirty where the instruction changed it.
@@ -142,18 +116,20 @@ pub fn step<M: UserBytes, V: Vectors>(
     ensures parts { SameParts view.old view.new }
 {
     let pc = view.scalar.pc;
-    match fetch(&*view.memory, pc) {
-        Ok(word) => execute(
-            word,
-            &mut *view.scalar,
-            &mut *view.memory,
-            &mut *view.vectors,
-            &mut *view.output,
-            StepTerms {
-                limit,
-                policy: view.policy,
-            },
-        ),
-        Err(_) => (fault(Cause::FetchAccess, pc, &*view.scalar), 1),
+    let Ok(word) = fetch(&*view.memory, pc) else {
+        return (fault(Cause::FetchAccess, pc, &*view.scalar), 1);
+    };
+    let decoded = decode_scalar(word);
+    if let Some(instr) = &decoded {
+        return (execute_scalar(instr, &mut *view.scalar, &mut *view.memory), 1);
     }
+    let policy = view.policy;
+    hand_on(
+        word,
+        &mut *view.scalar,
+        &mut *view.memory,
+        &mut *view.vectors,
+        &mut *view.output,
+        StepTerms { limit, policy },
+    )
 }
