@@ -121,7 +121,10 @@ pub fn step<M: UserBytes, V: Vectors>(
     };
     let decoded = decode_scalar(word);
     if let Some(instr) = &decoded {
-        return (execute_scalar(instr, &mut *view.scalar, &mut *view.memory), 1);
+        return (
+            execute_scalar(instr, &mut *view.scalar, &mut *view.memory),
+            1,
+        );
     }
     let policy = view.policy;
     hand_on(
