@@ -154,21 +154,21 @@ none_7057 word is = at_7057 word is ∙ sym (irregular_7057 word is)
 
 -- ---- funct6 of irregular operations
 
-pub out_of_line_10 : (word : ℕ) → bit_and word 0x7f ≡ 0x57 → bit_and word 0xfc000000 ≡ 0x40000000 → scan table word ≡ scan irregular word
+pub funct6_10 : (word : ℕ) → bit_and word 0x7f ≡ 0x57 → bit_and word 0xfc000000 ≡ 0x40000000 → scan table word ≡ scan irregular word
 unfolding irregular table rows
-out_of_line_10 word opcode is = narrow_both 0x7f 0x57 0xfc000000 0x40000000 word opcode is table irregular refl
+funct6_10 word opcode is = narrow_both 0x7f 0x57 0xfc000000 0x40000000 word opcode is table irregular refl
 
-pub out_of_line_12 : (word : ℕ) → bit_and word 0x7f ≡ 0x57 → bit_and word 0xfc000000 ≡ 0x48000000 → scan table word ≡ scan irregular word
+pub funct6_12 : (word : ℕ) → bit_and word 0x7f ≡ 0x57 → bit_and word 0xfc000000 ≡ 0x48000000 → scan table word ≡ scan irregular word
 unfolding irregular table rows
-out_of_line_12 word opcode is = narrow_both 0x7f 0x57 0xfc000000 0x48000000 word opcode is table irregular refl
+funct6_12 word opcode is = narrow_both 0x7f 0x57 0xfc000000 0x48000000 word opcode is table irregular refl
 
-pub out_of_line_14 : (word : ℕ) → bit_and word 0x7f ≡ 0x57 → bit_and word 0xfc000000 ≡ 0x50000000 → scan table word ≡ scan irregular word
+pub funct6_14 : (word : ℕ) → bit_and word 0x7f ≡ 0x57 → bit_and word 0xfc000000 ≡ 0x50000000 → scan table word ≡ scan irregular word
 unfolding irregular table rows
-out_of_line_14 word opcode is = narrow_both 0x7f 0x57 0xfc000000 0x50000000 word opcode is table irregular refl
+funct6_14 word opcode is = narrow_both 0x7f 0x57 0xfc000000 0x50000000 word opcode is table irregular refl
 
-pub out_of_line_17 : (word : ℕ) → bit_and word 0x7f ≡ 0x57 → bit_and word 0xfc000000 ≡ 0x5c000000 → scan table word ≡ scan irregular word
+pub funct6_17 : (word : ℕ) → bit_and word 0x7f ≡ 0x57 → bit_and word 0xfc000000 ≡ 0x5c000000 → scan table word ≡ scan irregular word
 unfolding irregular table rows
-out_of_line_17 word opcode is = narrow_both 0x7f 0x57 0xfc000000 0x5c000000 word opcode is table irregular refl
+funct6_17 word opcode is = narrow_both 0x7f 0x57 0xfc000000 0x5c000000 word opcode is table irregular refl
 
 -- ---- OPMVV
 
@@ -252,7 +252,7 @@ unfolding rows
 call_missed word found is e =
     first_missed (λ op. instr.Scalar (System op)) found (scan table word) (scan (rows Csrs ++ rows CsrImmediates) word) (rows Systems) (rows Csrs ++ rows CsrImmediates) word (at_73 word is) refl e
 
-pub ruleset out_of_line_steps = (out_of_line_10, out_of_line_12, out_of_line_14, out_of_line_17)
+pub ruleset funct6_steps = (funct6_10, funct6_12, funct6_14, funct6_17)
 
 pub ruleset mask_steps = (mask_10, mask_12, mask_14, mask_17)
 

@@ -46,8 +46,8 @@ fn word_immediates(word: u32) -> Option<ScalarInstr>
     shift_immediate_word(word)
 }
 
-/// The vector operation that a word of OP-V is, if it is one with a line of its own in the table: by funct3, which says the
-/// place of that line.
+/// The vector operation that a word of OP-V is, if it is one with a line of its own in the table: by funct3, which says
+/// the place of that line.
 #[tactic(auto, using(crate::proofs::Irregular::regular_steps))]
 #[inline(always)]
 pub fn decode_regular(word: u32) -> Option<ArithOperation>
@@ -170,13 +170,14 @@ pub fn decode_irregular(word: u32) -> Option<VectorInstr>
 
 /// Whether a word of OP-V has a funct6 of which all operations have no line of their own in the table: where it isn't
 /// known, `decode_regular` tells.
-#[tactic(auto, using(crate::proofs::Irregular::out_of_line_steps))]
+#[tactic(auto, using(crate::proofs::Irregular::funct6_steps))]
 #[inline(always)]
 pub fn has_irregular_funct6(word: u32) -> bool
     requires { bit_and word 0x7f ≡ 0x57 }
     ensures { result ≡ true → scan table word ≡ scan irregular word }
 {
-    if word >> 29 != 2 {
+    // The first three bits of these are 010, and those of most operations aren't.
+    if word >> 29 != 0b010 {
         return false;
     }
     match word & 0xfc00_0000 {
@@ -311,8 +312,8 @@ fn call_or_csr(word: u32) -> Option<Instr>
     Some(Instr::Csr(decode_csr(word)?))
 }
 
-/// The instruction of a word that works on scalar registers and memory alone: of any opcode but SYSTEM and those of vector
-/// instructions, which have decoders of their own.
+/// The instruction of a word that works on scalar registers and memory alone: of any opcode but SYSTEM and those of
+/// vector instructions, which have decoders of their own.
 #[tactic(auto, using(crate::proofs::Scan::opcode_steps))]
 #[inline(always)]
 pub fn decode_scalar(word: u32) -> Option<ScalarInstr>
