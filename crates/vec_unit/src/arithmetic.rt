@@ -6,7 +6,7 @@ ghost use Rattle.rv_model.specs.step.Hart.{hart_state};
 ghost use Rattle.rv_model.specs.memory.Memory.{Memory};
 ghost use Rattle.rv_model.specs.legality.Legality.{is_legal};
 ghost use Rattle.rv_model.specs.step.VectorStep.{arith_step, typed, typed_step, vector_ends};
-ghost use Rattle.vec_unit.specs.Arithmetic.{is_binary};
+ghost use Rattle.vec_unit.specs.Arithmetic.{has_two_widths, is_binary};
 
 use crate::binary::BinaryOperation;
 use crate::clip::ClipOperation;
@@ -25,6 +25,53 @@ use crate::typed_operation::TypedOperation;
 use crate::widen::{WideSourceOperation, WidenMultiplyAddOperation, WidenOperation};
 use rv_model::instructions::operations::VectorOp;
 use rv_model::{ArithOperation, Instr, Policy, Scalar, Source, VEnd, VReg, VState, VectorInstr};
+
+/// Carries out a legal operation one of whose groups has twice the width of the others.
+#[tactic(auto, using(crate::proofs::LegalGroups::operation_groups))]
+#[inline(always)]
+fn perform_two_widths(
+    op: VectorOp,
+    vs2: VReg,
+    source: Source,
+    target: Target,
+    state: &mut VState,
+    scalar: &Scalar,
+)
+    requires legal { IsTrue (is_legal (Instr.Vector (VectorInstr.Arith (op, source) target.vd vs2 target.unmasked))
+        (Some target.vtype) state.old.vstart) }
+    requires two { IsTrue (has_two_widths op) }
+    requires length { state.old.conf.vl ≤ vlmax target.vtype }
+    ensures model { (memory : Memory) (output : List ℕ)
+        → arith_step target.vtype (group_type target.vtype) (wide_type target.vtype) op source target.vd vs2
+        target.unmasked (hart_state scalar.now state.old memory target.policy output)
+        ≡ vector_ends VEnd.Done (hart_state scalar.now state.new memory target.policy output) }
+{
+    match op {
+        VectorOp::Widen(op) => {
+            carry_out_widening(&WidenOperation { op, vs2, source }, target, state, scalar);
+        }
+        VectorOp::WideSource(op) => {
+            let operation = WideSourceOperation { op, vs2, source };
+            carry_out_widening(&operation, target, state, scalar);
+        }
+        VectorOp::WidenMultiplyAdd(op) => {
+            let operation = WidenMultiplyAddOperation::new(op, target.vd, vs2, source);
+            carry_out_widening(&operation, target, state, scalar);
+        }
+        VectorOp::NarrowShift(op) => {
+            let operation = NarrowShiftOperation { op, vs2, source };
+            carry_out_narrowing(&operation, target, state, scalar);
+        }
+        VectorOp::Clip(op) => {
+            let operation = ClipOperation::new(op, state.vxrm, vs2, source);
+            operation.carry_out(target, state, scalar);
+        }
+        VectorOp::WidenReduce(op) => {
+            WidenReduceOperation { op, vs2, source }.carry_out(target, state, scalar);
+        }
+        _ => unreachable!(),
+    }
+}
 
 /// Carries out a legal operation with a line of its own in the manual's table that isn't one of one width on two
 /// operands.
@@ -60,38 +107,17 @@ fn perform_rest(
             let operation = CarryOutOperation::new(op, vs2, source, target.unmasked);
             carry_out_mask(&operation, target.whole_body(), state, scalar);
         }
-        VectorOp::Widen(op) => {
-            carry_out_widening(&WidenOperation { op, vs2, source }, target, state, scalar);
-        }
-        VectorOp::WideSource(op) => {
-            let operation = WideSourceOperation { op, vs2, source };
-            carry_out_widening(&operation, target, state, scalar);
-        }
-        VectorOp::WidenMultiplyAdd(op) => {
-            let operation = WidenMultiplyAddOperation::new(op, target.vd, vs2, source);
-            carry_out_widening(&operation, target, state, scalar);
-        }
-        VectorOp::NarrowShift(op) => {
-            let operation = NarrowShiftOperation { op, vs2, source };
-            carry_out_narrowing(&operation, target, state, scalar);
-        }
         VectorOp::FixedPoint(op) => {
             let operation = FixedPointOperation::new(op, state.vxrm, vs2, source);
-            operation.carry_out(target, state, scalar);
-        }
-        VectorOp::Clip(op) => {
-            let operation = ClipOperation::new(op, state.vxrm, vs2, source);
             operation.carry_out(target, state, scalar);
         }
         VectorOp::Reduce(op) => {
             ReduceOperation { op, vs2, source }.carry_out(target, state, scalar);
         }
-        VectorOp::WidenReduce(op) => {
-            WidenReduceOperation { op, vs2, source }.carry_out(target, state, scalar);
-        }
         VectorOp::Permute(op) => {
             PermuteOperation { op, vs2, source }.carry_out(target, state, scalar);
         }
+        _ => perform_two_widths(op, vs2, source, target, state, scalar),
     }
 }
 
