@@ -1,5 +1,5 @@
 //! The bytes of one field. The sizes of an element stand as constants, so that each is moved at once.
-ghost use Rattle.std.specs.Prelude.{◌≡◌, ◌↔◌, ◌+◌, ◌≤◌, true, length, IsOk, IfErr, OnOk, OnErr};
+ghost use Rattle.std.specs.Prelude.{◌≡◌, ◌↔◌, ◌+◌, ◌≤◌, true, IsOk, IfErr, OnOk, OnErr};
 ghost use Rattle.std.specs.Simd.Lanes.{chunk, put_chunk};
 ghost use Rattle.rv_model.specs.declared.memory.Access.TheVariants.{Load, Store};
 ghost use Rattle.rv_model.specs.memory.Memory.{bytes_at, can_access, put_bytes};

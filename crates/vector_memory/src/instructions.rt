@@ -18,7 +18,7 @@ use crate::segments::Segments;
 use crate::transfers::Transfer;
 use crate::user_bytes::UserBytes;
 use reg_groups::{emul, register_count, registers};
-use rv_model::instructions::operations::{Direction, Eew, RegisterCount, UnitOp};
+use rv_model::instructions::operations::{Direction, Eew, UnitOp};
 use rv_model::{AccessInstr, Field, Instr, MemEnd, Scalar, Sew, VReg, VState, VType};
 
 /// The same direction, of an operation that may be a fault-only-first load.

@@ -1,5 +1,5 @@
 //! Loads, index by index ("V" Vector Extension 1.0, sections 7.4 to 7.9 and 17.1).
-ghost use Rattle.std.specs.Prelude.{◌≡◌, ◌<◌};
+ghost use Rattle.std.specs.Prelude.{◌<◌};
 ghost use Rattle.rv_model.specs.accesses.VectorAccess.{plan};
 ghost use Rattle.vector_memory.specs.Moves.{AllLoaded, IsLoaded};
 ghost use Rattle.vector_memory.specs.SegmentRoom.{StopsBefore, segments_access, place_in};
@@ -9,7 +9,7 @@ use crate::ends::end_without_fault;
 use crate::moves::Moves;
 use crate::runs::Extent;
 use crate::user_bytes::UserBytes;
-use rv_model::{Access, Fault, MemEnd, VFile};
+use rv_model::{Fault, MemEnd, VFile};
 
 impl<A: Addresses> Moves<'_, A> {
     /// Loads the segment of one index, if it is active and wholly allowed; where `fill`, one that is masked off becomes
@@ -67,12 +67,11 @@ impl<A: Addresses> Moves<'_, A> {
         ensures least { StopsBefore self.now.body.end result }
     {
         let stop = self.stop(extent.limit);
-        let Some(span) = self.span(stop) else {
-            return self.load_each(memory, extent, file);
-        };
-        if !span.load(memory, extent.fill_masked_off, file) {
-            return self.load_each(memory, extent, file);
+        if let Some(span) = self.span(stop)
+            && span.load(memory, extent.fill_masked_off, file)
+        {
+            return end_without_fault(stop, self.body.end());
         }
-        end_without_fault(stop, self.body.end())
+        self.load_each(memory, extent, file)
     }
 }

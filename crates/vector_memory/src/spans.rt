@@ -2,6 +2,7 @@
 //! from and to a buffer ("V" Vector Extension 1.0, sections 7.4, 7.5, 7.8 and 7.9).
 ghost use Rattle.vector_memory.specs.Spans.{IsSpan};
 
+use crate::blocks::Block;
 use crate::segments::Segments;
 use crate::user_bytes::UserBytes;
 use lane_arith::{Body, Lane};
@@ -21,16 +22,17 @@ pub(crate) struct Span<'a> {
 }
 
 impl<'a> Span<'a> {
-    ghost use Rattle.std.specs.Prelude.{◌≡◌, false, length, true};
+    ghost use Rattle.std.specs.Prelude.{◌≡◌, IfSome, false, length, true};
     ghost use Rattle.rv_model.specs.accesses.Transfers.{memory_stored, registers_loaded};
     ghost use Rattle.rv_model.specs.declared.memory.Access.TheVariants.{Load, Store};
     ghost use Rattle.rv_model.specs.memory.Memory.{can_access};
     ghost use Rattle.rv_model.specs.vector.Configuration.{width_bytes};
+    ghost use Rattle.vector_memory.specs.Blocks.{IsBlock};
     ghost use Rattle.vector_memory.specs.SegmentRoom.{place_in};
-    ghost use Rattle.vector_memory.specs.SpanAccess.{IsRead, IsWritten, span_transfers};
+    ghost use Rattle.vector_memory.specs.SpanAccess.{IsRead, IsWritten, span_access, span_transfers};
 
-    /// A copy, which no write to the registers or to the bytes can change, so it is read once; with the size of a field
-    /// as a constant that the caller has.
+    /// The same span, whose fields have the size that the caller says: a constant there, so that each element is copied
+    /// at once. It is a copy, which no write to the registers or to the bytes changes, so it is read once.
     #[inline(always)]
     fn sized(&self, size: usize) -> Span<'a>
         requires { size ≡ self.now.segments.size }
@@ -112,6 +114,26 @@ impl<'a> Span<'a> {
         true
     }
 
+    /// Its bytes as a block that stands in the registers as it does in memory, where its elements are those of one field,
+    /// contiguous, and none is masked off.
+    #[inline(always)]
+    fn block(&self) -> Option<Block>
+        ensures value { IfSome result
+            (IsBlock self.now.segments self.now.body (span_access self.now).address self.now.stop) }
+        ensures address { IfSome result (λ block. block.address ≡ self.now.address) }
+        ensures length { IfSome result (λ block. block.length ≡ self.now.length) }
+    {
+        let size = self.segments.size;
+        if !self.body.is_unmasked() || self.segments.fields != 1 || self.distance != size {
+            return None;
+        }
+        Some(Block {
+            address: self.address,
+            place: self.segments.place(self.body.start(), 0),
+            length: self.length,
+        })
+    }
+
     /// Loads its elements, if each byte of the span may be loaded. Answers whether it did.
     #[inline(always)]
     pub(crate) fn load<M: UserBytes>(&self, memory: &M, fill: bool, file: &mut VFile) -> bool
@@ -122,6 +144,9 @@ impl<'a> Span<'a> {
             (span_transfers self.now fill) }
         ensures unchanged { result ≡ false → file.new ≡ file.old }
     {
+        if let Some(block) = self.block() {
+            return block.load(memory, file);
+        }
         let mut buffer = [0; GROUP_BYTES];
         let bytes = &mut buffer[..self.length];
         let Ok(()) = memory.read(self.address, Access::Load, bytes) else {
@@ -141,6 +166,9 @@ impl<'a> Span<'a> {
         ensures others { result ≡ true → memory.new ≡ M.with_memory memory.old (M.memory memory.new) }
         ensures unchanged { result ≡ false → memory.new ≡ memory.old }
     {
+        if let Some(block) = self.block() {
+            return block.store(file, memory);
+        }
         let mut buffer = [0; GROUP_BYTES];
         let bytes = &mut buffer[..self.length];
         let Ok(()) = memory.read(self.address, Access::Store, bytes) else {

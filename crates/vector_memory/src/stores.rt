@@ -65,12 +65,11 @@ impl<A: Addresses> Moves<'_, A> {
         ensures others { memory.new ≡ M.with_memory memory.old (M.memory memory.new) }
     {
         let stop = self.stop(limit);
-        let Some(span) = self.span(stop) else {
-            return self.store_each(file, limit, memory);
-        };
-        if !span.store(file, memory) {
-            return self.store_each(file, limit, memory);
+        if let Some(span) = self.span(stop)
+            && span.store(file, memory)
+        {
+            return end_without_fault(stop, self.body.end());
         }
-        end_without_fault(stop, self.body.end())
+        self.store_each(file, limit, memory)
     }
 }

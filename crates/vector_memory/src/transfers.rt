@@ -45,10 +45,7 @@ fn load_whole<M: UserBytes>(block: &Block, memory: &M, state: &mut VState) -> bo
         Done state.new (M.memory memory.now) }
     ensures unchanged { result ≡ false → state.new ≡ state.old }
 {
-    let Ok(()) = block.load(memory, &mut state.file) else {
-        return false;
-    };
-    true
+    block.load(memory, &mut state.file)
 }
 
 /// Stores a block, if each of its bytes may be stored; then a store of all of its elements is done.
@@ -63,10 +60,7 @@ fn store_whole<M: UserBytes>(block: &Block, memory: &mut M, state: &VState) -> b
     ensures others { memory.new ≡ M.with_memory memory.old (M.memory memory.new) }
     ensures unchanged { result ≡ false → memory.new ≡ memory.old }
 {
-    let Ok(()) = block.store(&state.file, memory) else {
-        return false;
-    };
-    true
+    block.store(&state.file, memory)
 }
 
 impl Transfer {

@@ -16,10 +16,10 @@ returns-clause-loaded g c =
     let fill = c.args.extent.fill_masked_off in
     let stop = c.stop-stop.result in
     let is = c.in-Some.ensures in
-    let stopped = span_ends s body address stop c.in-Some.span is fill Load m c.args.extent.limit c.stop-stop.ensures (c.load.ensures.allowed c.if-not-load.false) in
+    let stopped = span_ends s body address stop c.in-Some.span is fill Load m c.args.extent.limit c.stop-stop.ensures (c.load.ensures.allowed c.if-load.true) in
     record {
       end = c.end_without_fault.ensures.value ∙ ap (λ end. cond (nat_lt stop end) (Cut stop) Done) c.end.ensures ∙ sym stopped.end;
       value =
-          c.load.ensures.value c.if-not-load.false ∙ span_loads s body address stop c.in-Some.span is fill m c.args.file.now
+          c.load.ensures.value c.if-load.true ∙ span_loads s body address stop c.in-Some.span is fill m c.args.file.now
           ∙ ap (registers_loaded m (place_in s) c.args.file.now) (sym stopped.done);
     }
