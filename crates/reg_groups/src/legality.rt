@@ -515,25 +515,23 @@ pub fn legal_arith(
     }
 }
 
-/// Whether a unit-stride load or store of `nf` + 1 fields is legal with this vector type, wherever it reads or
-/// writes and whatever vstart is, by its parts (sections 3.4.2, 5.3, 7.3 and 7.8).
+/// Whether a load or store is legal with this vector type, whatever vstart is (sections 3.4.2, 5.2, 5.3 and 7).
 #[tactic(auto, unfolding(rv_model::specs::legality::Legality::is_legal, rv_model::specs::legality::Legality::operands))]
 #[inline(always)]
-pub fn legal_unit(
-    op: UnitOp,
-    width: Eew,
-    nf: Field<3>,
-    vd: VReg,
-    unmasked: bool,
-    conf: &VConf,
-) -> bool
-    ensures { (rs1 : ℕ) (vstart : ℕ)
-        → result ≡ is_legal (Instr.Access (AccessInstr.UnitStride op width nf vd rs1 unmasked)) conf.now.vtype vstart }
+pub fn legal_access(access: &AccessInstr, conf: &VConf) -> bool
+    ensures { (vstart : ℕ) → result ≡ is_legal (Instr.Access access.now) conf.now.vtype vstart }
 {
-    let Some(vtype) = conf.vtype() else {
-        return false;
-    };
-    is_legal_access(unit_role(op), width, nf, vd, unmasked, vtype)
+    match *access {
+        AccessInstr::WholeLoad { .. } | AccessInstr::WholeStore { .. } => {
+            has_legal_untyped_access(*access)
+        }
+        _ => {
+            let Some(vtype) = conf.vtype() else {
+                return false;
+            };
+            has_legal_access(*access, vtype)
+        }
+    }
 }
 
 /// Whether an instruction is legal with this vector type and vstart; the length has no part in it. Scalar

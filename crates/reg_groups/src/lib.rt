@@ -10,5 +10,5 @@ mod shapes;
 
 pub use copies::{group_copy, mask_register, register_copy};
 pub use groups::{group, group_mut, registers};
-pub use legality::{legal, legal_arith, legal_unit};
+pub use legality::{legal, legal_access, legal_arith};
 pub use operands::{emul, extension_divisor, register_count};

@@ -1,7 +1,7 @@
 //! How much of a load or store is carried out at once ("V" Vector Extension 1.0, section 3.7).
 ghost use Rattle.std.specs.Prelude.{◌≤◌};
 
-/// How many indices a load or store is carried out for at most: one at least.
+/// The most indices for which a load or store is carried out before it is cut: at least one.
 #[derive(Clone, Copy)]
 pub(crate) struct IndexLimit {
     pub indices: usize,

@@ -19,11 +19,9 @@ use crate::body::body_under;
 use crate::destination::agnostic_under;
 use crate::index_limit::IndexLimit;
 use crate::tails::{Fields, fill_tails};
-use reg_groups::{emul, legal, legal_unit, mask_register};
+use reg_groups::{emul, legal_access, mask_register};
 use rv_model::instructions::operations::{Direction, UnitOp};
-use rv_model::{
-    AccessInstr, Instr, MemEnd, Policy, Scalar, Sew, VConf, VEnd, VFile, VState, VType,
-};
+use rv_model::{AccessInstr, Instr, MemEnd, Policy, Scalar, Sew, VEnd, VFile, VState, VType};
 use vector_memory::UserBytes;
 
 /// The direction of an access.
@@ -59,7 +57,7 @@ fn access_end(direction: Direction, end: MemEnd) -> VEnd
     }
 }
 
-/// Carries out a legal load or store under the policy that keeps agnostic elements.
+/// Carries out a legal load or store under the policy that keeps agnostic elements, and answers how it ended.
 #[inline(always)]
 fn perform_kept<M: UserBytes>(
     access: &AccessInstr,
@@ -122,14 +120,19 @@ struct Filled {
 }
 
 /// What an access fills under a policy.
+#[tactic(auto, using(crate::proofs::AccessSteps::keeps))]
 fn filled_by(access: &AccessInstr, state: &VState, policy: Policy) -> Filled
     ensures { result ≡ filled_by access.now policy state.now }
 {
+    let nothing = Filled {
+        masked_off: false,
+        tails: None,
+    };
+    let Policy::Ones = policy else {
+        return nothing;
+    };
     let Some(vtype) = state.conf.vtype() else {
-        return Filled {
-            masked_off: false,
-            tails: None,
-        };
+        return nothing;
     };
     let mask = mask_register(&state.file);
     let body = body_under(is_unmasked(access), &mask, state);
@@ -157,7 +160,7 @@ fn fill_when_done(tails: Option<Fields>, length: usize, end: MemEnd, file: &mut 
     }
 }
 
-/// Carries out a legal load or store, of at most `limit` indices.
+/// Carries out a legal load or store, of at most `limit` indices, under a policy, and answers how it ended.
 #[inline(never)]
 fn perform_access<M: UserBytes>(
     access: &AccessInstr,
@@ -184,25 +187,8 @@ fn perform_access<M: UserBytes>(
     access_end(direction_of(access), end)
 }
 
-/// Whether a load or store is legal.
-#[inline(always)]
-fn is_legal(access: &AccessInstr, conf: &VConf, vstart: u8) -> bool
-    ensures { result ≡ is_legal (Instr.Access access.now) conf.now.vtype vstart }
-{
-    match *access {
-        AccessInstr::UnitStride {
-            op,
-            width,
-            nf,
-            vd,
-            vm,
-            ..
-        } => legal_unit(op, width, nf, vd, vm, conf),
-        _ => legal(&Instr::Access(*access), conf, vstart),
-    }
-}
-
-/// Carries out a vector load or store of a user, of at most `limit` indices: the same as `exec` of the instruction.
+/// Carries out a vector load or store of a user, of at most `limit` indices, and answers how it ended: the same as `exec`
+/// of the instruction.
 #[tactic(auto, unfolding(rv_model::specs::step::VectorStep::vector_executed))]
 #[inline(always)]
 pub fn exec_access<M: UserBytes>(
@@ -226,7 +212,7 @@ pub fn exec_access<M: UserBytes>(
     ensures illegal_state { result ≡ VEnd.Illegal → state.new ≡ state.old }
     ensures illegal_memory { result ≡ VEnd.Illegal → memory.new ≡ memory.old }
 {
-    if !is_legal(access, &state.conf, state.vstart) {
+    if !legal_access(access, &state.conf) {
         return VEnd::Illegal;
     }
     let limit = IndexLimit { indices: limit };
@@ -240,9 +226,9 @@ pub fn exec_access<M: UserBytes>(
     }
 }
 
-/// Carries out a vector load or store of a user, of at most `limit` indices, as `exec_access` does, but out of line.
+/// The same, by one function for both policies: less in line, for the loads and stores that are seldom done at once.
 #[tactic(auto, unfolding(rv_model::specs::step::VectorStep::vector_executed))]
-#[inline(never)]
+#[inline(always)]
 pub fn exec_other_access<M: UserBytes>(
     access: &AccessInstr,
     state: &mut VState,
@@ -260,7 +246,7 @@ pub fn exec_other_access<M: UserBytes>(
     ensures illegal_state { result ≡ VEnd.Illegal → state.new ≡ state.old }
     ensures illegal_memory { result ≡ VEnd.Illegal → memory.new ≡ memory.old }
 {
-    if !is_legal(access, &state.conf, state.vstart) {
+    if !legal_access(access, &state.conf) {
         return VEnd::Illegal;
     }
     let limit = IndexLimit { indices: limit };

@@ -8,12 +8,12 @@ pub returns-in-Keep-clause-model : goal.returns-in-Keep-clause-model
 unfolding vector_executed
 returns-in-Keep-clause-model g c = λ output.
     let allowed : is_legal (instr.Access c.args.access.now) c.args.state.now.conf.vtype c.args.state.now.vstart ≡ true =
-    sym c.is_legal.ensures ∙ c.if-not-is_legal.false in
+    sym (c.legal_access.ensures c.args.state.now.vstart) ∙ c.if-not-legal_access.false in
     rw (allowed, c.in-Keep.is) (c.perform_kept.ensures.model output)
 
 pub returns-in-Ones-clause-model : goal.returns-in-Ones-clause-model
 unfolding vector_executed
 returns-in-Ones-clause-model g c = λ output.
     let allowed : is_legal (instr.Access c.args.access.now) c.args.state.now.conf.vtype c.args.state.now.vstart ≡ true =
-    sym c.is_legal.ensures ∙ c.if-not-is_legal.false in
+    sym (c.legal_access.ensures c.args.state.now.vstart) ∙ c.if-not-legal_access.false in
     rw allowed (c.perform_access.ensures.model output)

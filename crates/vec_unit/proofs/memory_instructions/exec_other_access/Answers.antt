@@ -8,5 +8,5 @@ pub returns-clause-model : goal.returns-clause-model
 unfolding vector_executed
 returns-clause-model g c = λ output.
     let allowed : is_legal (instr.Access c.args.access.now) c.args.state.now.conf.vtype c.args.state.now.vstart ≡ true =
-    sym c.is_legal.ensures ∙ c.if-not-is_legal.false in
+    sym (c.legal_access.ensures c.args.state.now.vstart) ∙ c.if-not-legal_access.false in
     rw allowed (c.perform_access.ensures.model output)
