@@ -7,7 +7,7 @@ use lane_arith::Lane;
 use rv_model::instructions::operations::Eew;
 
 /// The addresses of the segments of a load or store, by index.
-pub(crate) trait Addresses {
+pub(crate) trait Addresses: Copy {
     // The address at an index.
     ghost address: { Self → ℕ → ℕ };
 
@@ -51,7 +51,7 @@ impl Addresses for Strided {
 }
 
 /// Segments at offsets from `base`, in bytes: unsigned numbers of a width.
-#[derive(Drop)]
+#[derive(Clone, Copy)]
 pub(crate) struct Indexed<'a> {
     pub base: u64,
     pub offsets: &'a [u8],

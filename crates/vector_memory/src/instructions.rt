@@ -253,7 +253,8 @@ fn run_offsets<M: UserBytes>(
     }
 }
 
-/// Carries out a load or store at a distance at once, if it can be. Answers whether it is done.
+/// Carries out a load or store at a distance at once, if it can be. Answers whether it is done. One that is strided by
+/// its name seldom can, so it isn't tried.
 #[inline(always)]
 fn run_at_once<M: UserBytes>(
     access: &AccessInstr,
@@ -271,7 +272,7 @@ fn run_at_once<M: UserBytes>(
     ensures unchanged_state { result ≡ false → state.new ≡ state.old }
     ensures unchanged_memory { result ≡ false → memory.new ≡ memory.old }
 {
-    if is_indexed(access) {
+    if let AccessInstr::Strided { .. } = *access {
         return false;
     }
     let Some(transfer) = transfer_of(access, state, scalar) else {

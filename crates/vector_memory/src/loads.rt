@@ -72,6 +72,6 @@ impl<A: Addresses> Moves<'_, A> {
         {
             return end_without_fault(stop, self.body.end());
         }
-        self.load_each(memory, extent, file)
+        self.copied().load_each(memory, extent, file)
     }
 }

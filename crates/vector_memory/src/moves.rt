@@ -25,6 +25,18 @@ impl<'a, A: Addresses> Moves<'a, A> {
     ghost use Rattle.std.specs.Prelude.{◌≡◌, ◌+◌, IfSome, min};
     ghost use Rattle.vector_memory.specs.SpanAccess.{IsSpanOf};
 
+    /// A copy of its own for another function, so that these need no place in memory before.
+    #[inline(always)]
+    pub(crate) fn copied(&self) -> Moves<'a, A>
+        ensures { result ≡ self.now }
+    {
+        Moves {
+            segments: self.segments,
+            addresses: self.addresses,
+            body: self.body.copied(),
+        }
+    }
+
     /// The index after the last of at most `limit` indices.
     #[inline(always)]
     pub(crate) fn stop(&self, limit: usize) -> usize

@@ -8,7 +8,7 @@ ghost use Rattle.vector_memory.specs.SpanAccess.{IsRead, IsWritten, span_access}
 
 use crate::spans::Span;
 use lane_arith::Lane;
-use rv_model::VFile;
+use rv_model::{GROUP_BYTES, VFile};
 
 /// Copies the bytes of an element.
 #[inline(always)]
@@ -30,6 +30,16 @@ impl Span<'_> {
         self.distance.max(self.segments.size)
     }
 
+    /// How many segments it has: at most as many as have room in a group of registers, as the compiler then knows.
+    #[inline(always)]
+    fn count(&self) -> usize
+        requires fields { 1 ≤ self.now.segments.fields }
+        requires size { 1 ≤ self.now.segments.size }
+        ensures { result ≡ self.now.stop - self.now.body.start }
+    {
+        (self.stop - self.body.start()).min(GROUP_BYTES / self.segments.size)
+    }
+
     /// Copies one field of the active indices from its bytes to the registers.
     #[inline(always)]
     fn read_field<L: Lane>(&self, bytes: &[u8], field: usize, fill: bool, file: &mut VFile)
@@ -43,9 +53,10 @@ impl Span<'_> {
         let start = self.body.start();
         let size = self.segments.size;
         let distance = self.step();
-        for index in start..self.stop {
+        for segment in 0..self.count() {
+            let index = start + segment;
             let place = self.segments.place(index, field);
-            let at = (index - start) * distance + field * size;
+            let at = segment * distance + field * size;
             if self.body.lets(index) {
                 copy_lane::<L>(&bytes[at..at + size], file.part_mut(place, place + size));
             } else if fill {
@@ -67,10 +78,11 @@ impl Span<'_> {
         let start = self.body.start();
         let size = self.segments.size;
         let distance = self.step();
-        for index in start..self.stop {
+        for segment in 0..self.count() {
+            let index = start + segment;
             if self.body.lets(index) {
                 let place = self.segments.place(index, field);
-                let at = (index - start) * distance + field * size;
+                let at = segment * distance + field * size;
                 copy_lane::<L>(file.part(place, place + size), &mut bytes[at..at + size]);
             }
         }

@@ -70,6 +70,6 @@ impl<A: Addresses> Moves<'_, A> {
         {
             return end_without_fault(stop, self.body.end());
         }
-        self.store_each(file, limit, memory)
+        self.copied().store_each(file, limit, memory)
     }
 }
