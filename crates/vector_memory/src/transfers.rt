@@ -1,15 +1,11 @@
 //! Loads and stores of segments at one distance from one another: all but the indexed ones ("V" Vector Extension 1.0,
 //! sections 7.4, 7.5 and 7.7 to 7.9).
 ghost use Rattle.std.specs.Prelude.{◌≡◌, ◌+◌, ◌*◌, ◌%◌, ◌^◌, ◌≤◌, Bool, IfSome, List, false, true, ℕ};
-ghost use Rattle.rv_model.specs.accesses.AccessRuns.{load_run, store_run};
-ghost use Rattle.rv_model.specs.declared.instructions.operations.UnitOp.{UnitOp as Operation};
 ghost use Rattle.rv_model.specs.declared.step.memory_end.MemEnd.TheVariants.{Done};
-ghost use Rattle.rv_model.specs.elements.Elements.{Body as BodyOf};
 ghost use Rattle.vector_memory.specs.Blocks.{IsBlock};
 ghost use Rattle.vector_memory.specs.Distances.{Fits, transfer_run};
 ghost use Rattle.vector_memory.specs.Runs.{RunLeaves};
-ghost use Rattle.vector_memory.specs.SegmentRoom.{HasRoom, operation_access};
-ghost use Rattle.vector_memory.specs.declared.segments.Segments.{Segments as SegmentsOf};
+ghost use Rattle.vector_memory.specs.SegmentRoom.{HasRoom};
 
 use crate::addresses::Strided;
 use crate::blocks::Block;
@@ -31,36 +27,6 @@ pub(crate) struct Transfer {
     pub segments: Segments,
     pub addresses: Strided,
     pub count: usize,
-}
-
-/// Loads a block, if each of its bytes may be loaded; then a load of all of its elements is done.
-#[inline(always)]
-fn load_whole<M: UserBytes>(block: &Block, memory: &M, state: &mut VState) -> bool
-    requires inside { block.now.place + block.now.length ≤ FILE_BYTES }
-    requires first { state.old.vstart ≡ 0 }
-    ensures done { result ≡ true
-        → (op : Operation) (s : SegmentsOf) (body : BodyOf) (address : ℕ → ℕ) (limit : ℕ) (fill : Bool)
-        → IsBlock s body address body.end block.now → body.start ≡ 0 → body.end ≤ limit
-        → RunLeaves (load_run limit fill (operation_access op s body address) state.old (M.memory memory.now))
-        Done state.new (M.memory memory.now) }
-    ensures unchanged { result ≡ false → state.new ≡ state.old }
-{
-    block.load(memory, &mut state.file)
-}
-
-/// Stores a block, if each of its bytes may be stored; then a store of all of its elements is done.
-#[inline(always)]
-fn store_whole<M: UserBytes>(block: &Block, memory: &mut M, state: &VState) -> bool
-    requires inside { block.now.place + block.now.length ≤ FILE_BYTES }
-    requires first { state.now.vstart ≡ 0 }
-    ensures done { result ≡ true → (op : Operation) (s : SegmentsOf) (body : BodyOf) (address : ℕ → ℕ) (limit : ℕ)
-        → IsBlock s body address body.end block.now → body.start ≡ 0 → body.end ≤ limit
-        → RunLeaves (store_run limit (operation_access op s body address) state.now (M.memory memory.old))
-        Done state.now (M.memory memory.new) }
-    ensures others { memory.new ≡ M.with_memory memory.old (M.memory memory.new) }
-    ensures unchanged { result ≡ false → memory.new ≡ memory.old }
-{
-    block.store(&state.file, memory)
 }
 
 impl Transfer {
@@ -114,9 +80,9 @@ impl Transfer {
             return false;
         };
         match self.op {
-            UnitOp::Load => load_whole(&block, memory, state),
-            UnitOp::FaultOnlyFirst => load_whole(&block, memory, state),
-            UnitOp::Store => store_whole(&block, memory, state),
+            UnitOp::Load => block.load(memory, &mut state.file),
+            UnitOp::FaultOnlyFirst => block.load(memory, &mut state.file),
+            UnitOp::Store => block.store(&state.file, memory),
         }
     }
 

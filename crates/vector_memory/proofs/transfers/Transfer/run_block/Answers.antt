@@ -5,6 +5,7 @@ use Rattle.rv_model.specs.declared.step.memory_end.MemEnd.TheVariants.{Done}
 use Rattle.rv_model.specs.vector.Registers.{register_of}
 use Rattle.vector_memory.specs.Distances.{moved_by, transfer_run}
 use Rattle.vector_memory.specs.Runs.{RunLeaves}
+use Rattle.vector_memory.proofs.MovedRuns.{load_done, store_done}
 use Rattle.vector_memory.proofs.transfers.Transfer.run_block.Goals as goal
 
 pub returns-in-Load-clause-done : goal.returns-in-Load-clause-done
@@ -12,26 +13,29 @@ returns-in-Load-clause-done g c = λ done fill.
     let t = c.args.self.now in
     let v = c.args.state.now in
     let m = g.M.UserBytes.memory c.args.memory.now in
-    subst (λ (op : UnitOp). RunLeaves (transfer_run c.args.limit fill (record t { op = op }) v m) Done c.load_whole.new.state m) (sym c.in-Load.is)
-    (c.load_whole.ensures.done done unit.Load t.segments (moved_by t v).body (moved_by t v).address c.args.limit fill
-    (c.in-Some.ensures.value (register_of v.file 0)) c.in-Some.ensures.first c.in-Some.ensures.reach)
+    let it = c.in-Some.ensures in
+    subst (λ (op : UnitOp). RunLeaves (transfer_run c.args.limit fill (record t { op = op }) v m) Done (record v { file = c.load.new.file }) m) (sym c.in-Load.is)
+    (load_done t.segments (moved_by t v).body (moved_by t v).address c.in-Some.block (it.value (register_of v.file 0)) v m c.args.limit it.first it.reach
+    it.first unit.Load fill c.load.new.file (c.load.ensures.allowed done) (c.load.ensures.value done))
 
 pub returns-in-FaultOnlyFirst-clause-done : goal.returns-in-FaultOnlyFirst-clause-done
 returns-in-FaultOnlyFirst-clause-done g c = λ done fill.
     let t = c.args.self.now in
     let v = c.args.state.now in
     let m = g.M.UserBytes.memory c.args.memory.now in
-    subst (λ (op : UnitOp). RunLeaves (transfer_run c.args.limit fill (record t { op = op }) v m) Done c.load_whole-in-FaultOnlyFirst.new.state m)
-    (sym c.in-FaultOnlyFirst.is)
-    (c.load_whole-in-FaultOnlyFirst.ensures.done done unit.FaultOnlyFirst t.segments (moved_by t v).body (moved_by t v).address c.args.limit
-    fill (c.in-Some.ensures.value (register_of v.file 0)) c.in-Some.ensures.first c.in-Some.ensures.reach)
+    let it = c.in-Some.ensures in
+    let loads = c.load-in-FaultOnlyFirst in
+    subst (λ (op : UnitOp). RunLeaves (transfer_run c.args.limit fill (record t { op = op }) v m) Done (record v { file = loads.new.file }) m) (sym c.in-FaultOnlyFirst.is)
+    (load_done t.segments (moved_by t v).body (moved_by t v).address c.in-Some.block (it.value (register_of v.file 0)) v m c.args.limit it.first it.reach
+    it.first unit.FaultOnlyFirst fill loads.new.file (loads.ensures.allowed done) (loads.ensures.value done))
 
 pub returns-in-Store-clause-done : goal.returns-in-Store-clause-done
 returns-in-Store-clause-done g c = λ done fill.
     let t = c.args.self.now in
     let v = c.args.state.now in
     let m = g.M.UserBytes.memory c.args.memory.now in
-    subst (λ (op : UnitOp). RunLeaves (transfer_run c.args.limit fill (record t { op = op }) v m) Done v (g.M.UserBytes.memory c.store_whole.new.memory))
-    (sym c.in-Store.is)
-    (c.store_whole.ensures.done done unit.Store t.segments (moved_by t v).body (moved_by t v).address c.args.limit
-    (c.in-Some.ensures.value (register_of v.file 0)) c.in-Some.ensures.first c.in-Some.ensures.reach)
+    let more = g.M.UserBytes.memory c.store.new.memory in
+    let it = c.in-Some.ensures in
+    subst (λ (op : UnitOp). RunLeaves (transfer_run c.args.limit fill (record t { op = op }) v m) Done v more) (sym c.in-Store.is)
+    (store_done t.segments (moved_by t v).body (moved_by t v).address c.in-Some.block (it.value (register_of v.file 0)) v m c.args.limit it.first it.reach
+    it.first unit.Store more (c.store.ensures.allowed done) (c.store.ensures.value done) c.store.ensures.whole)
