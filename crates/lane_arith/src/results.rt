@@ -1,6 +1,6 @@
 //! The results of element-wise instructions, written to the elements of their destination ("V" Vector
 //! Extension 1.0, sections 5.3 and 5.4).
-ghost use Rattle.std.specs.Prelude.{◌≡◌, ◌+◌, ◌*◌, ◌/◌, ◌%◌, ◌^◌, ◌<◌, ◌≤◌, ◌==◌, ◌&&◌, ℕ, IfSome, List, length, nat_lt, false, slice_index, if◌then◌else◌};
+ghost use Rattle.std.specs.Prelude.{◌≡◌, ◌+◌, ◌*◌, ◌/◌, ◌%◌, ◌^◌, ◌<◌, ◌≤◌, ◌==◌, ◌&&◌, ℕ, IfSome, List, length, nat_lt, true, false, slice_index, if◌then◌else◌};
 ghost use Rattle.std.specs.Int.{byte_at};
 ghost use Rattle.std.specs.Simd.Lanes.{chunk, put_chunk};
 ghost use Rattle.rv_model.specs.elements.Elements.{in_range, is_changed, result_or_ones};
@@ -34,6 +34,19 @@ pub trait Results<L: Lane> {
         ensures { IfSome result (λ made. (i : ℕ) → i < L.count → L.lane made i ≡ number self.now (L.count * _chunk + i)) }
     {
         None
+    }
+
+    /// Writes the results of all elements from one index up to another, where they needn't be made one by one. Answers
+    /// whether they are written.
+    fn write_range(&self, _start: usize, _end: usize, _destination: &mut [u8]) -> bool
+        requires operands { (i : ℕ) → i < _end → has self.now i }
+        requires room { width_bytes L.width * _end ≤ length _destination.old }
+        requires count { _end ≤ GROUP_BYTES }
+        ensures done { result ≡ true
+            → Writes (width_bytes L.width) (in_range _start _end) (number self.now) _destination.old _destination.new }
+        ensures kept { result ≡ false → _destination.new ≡ _destination.old }
+    {
+        false
     }
 }
 
@@ -108,10 +121,9 @@ fn write_chunks<L: Lane, R: Results<L>>(
     count * whole
 }
 
-/// Writes the result to each active element of the destination. Where `fill_masked_off`, the elements of
-/// the body that are masked off become all ones; all others keep.
+/// `write_results`, chunk by chunk, and then element by element.
 #[inline(always)]
-pub fn write_results<L: Lane, R: Results<L>>(
+fn write_in_turn<L: Lane, R: Results<L>>(
     results: &R,
     body: &Body<'_>,
     destination: &mut [u8],
@@ -130,6 +142,27 @@ pub fn write_results<L: Lane, R: Results<L>>(
         let rest = Body::new(body.is_unmasked(), body.mask(), start, end);
         write_each(results, &rest, destination, fill_masked_off);
     }
+}
+
+/// Writes the result to each active element of the destination. Where `fill_masked_off`, the elements of
+/// the body that are masked off become all ones; all others keep.
+#[inline(always)]
+pub fn write_results<L: Lane, R: Results<L>>(
+    results: &R,
+    body: &Body<'_>,
+    destination: &mut [u8],
+    fill_masked_off: bool,
+)
+    requires operands { (i : ℕ) → i < body.now.end → R.has results.now i }
+    requires room { width_bytes L.width * body.now.end ≤ length destination.old }
+    requires count { body.now.end ≤ GROUP_BYTES }
+    ensures { Writes (width_bytes L.width) (is_changed body.now fill_masked_off false)
+        (result_or_ones body.now (R.number results.now) (ones L.width)) destination.old destination.new }
+{
+    if body.is_unmasked() && results.write_range(body.start(), body.end(), destination) {
+        return;
+    }
+    write_in_turn(results, body, destination, fill_masked_off);
 }
 
 /// Writes one number to each element from `start` up to `end`.

@@ -40,6 +40,14 @@ impl<'a, I: Lane, L: Lane> Results<L> for Gather<'a, I> {
     fn result(&self, index: usize) -> L {
         gathered(self.a, self.limit, I::load(self.indices, index).number())
     }
+
+    fn write_range(&self, start: usize, end: usize, destination: &mut [u8]) -> bool {
+        for i in start..end {
+            let index = I::load(self.indices, i).number();
+            gathered::<L>(self.a, self.limit, index).store(destination, i);
+        }
+        true
+    }
 }
 
 /// vrgather with one index for all elements of the result, unsigned and of 64 bits: the element of `a`, those

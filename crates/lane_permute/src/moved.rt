@@ -1,7 +1,8 @@
 //! Elements of a source that stand side by side in a chunk of 32 bytes, from any index on.
 ghost use Rattle.std.specs.Prelude.{◌≡◌, ◌+◌, ◌-◌, ◌*◌, ◌<◌, ◌≤◌, ℕ, IfSome, length, nat_lt, replicate, slice_index, if◌then◌else◌};
 ghost use Rattle.std.specs.Simd.Lanes.{chunk, put_chunk};
-ghost use Rattle.rv_model.specs.elements.Elements.{element};
+ghost use Rattle.rv_model.specs.elements.Elements.{element, in_range};
+ghost use Rattle.rv_model.specs.lending.Writes.{Writes};
 ghost use Rattle.rv_model.specs.vector.Configuration.{width_bytes};
 
 use lane_arith::Lane;
@@ -68,4 +69,25 @@ pub(crate) fn moved_up<L: Lane>(a: &[u8], offset: u64, before: L, chunk: usize) 
     let moved = elements_around::<L>(a, end - start)?;
     let before = L::repeated(before);
     Some(first_then::<L>(before, moved, start.saturating_sub(first)))
+}
+
+/// Copies the elements of `a` from the index `from` on to those of the destination from `start` up to `end`.
+pub(crate) fn move_elements<L: Lane>(
+    a: &[u8],
+    from: usize,
+    start: usize,
+    end: usize,
+    destination: &mut [u8],
+)
+    requires source { start < end → width_bytes L.width * (from + (end - start)) ≤ length a.now }
+    requires room { width_bytes L.width * end ≤ length destination.old }
+    requires count { end ≤ GROUP_BYTES }
+    ensures { Writes (width_bytes L.width) (in_range start end)
+        (λ i. element (width_bytes L.width) a.now (from + (i - start))) destination.old destination.new }
+{
+    let width = L::bits() as usize / 8;
+    if start < end {
+        let (at, count) = (width * from, width * (end - start));
+        destination[width * start..width * end].copy_from_slice(&a[at..at + count]);
+    }
 }

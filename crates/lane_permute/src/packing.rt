@@ -35,10 +35,12 @@ fn pack_word<L: Lane>(
     requires room { width_bytes L.width * to ≤ length destination.old }
     requires many { before ≡ length (packed select.now (element (width_bytes L.width) a.now) from) }
     ensures { (old : List ℕ)
-        → Writes (width_bytes L.width) (λ j. nat_lt j (length (packed select.now (element (width_bytes L.width) a.now) from)))
+        → Writes (width_bytes L.width)
+        (λ j. nat_lt j (length (packed select.now (element (width_bytes L.width) a.now) from)))
         (slice_index (packed select.now (element (width_bytes L.width) a.now) from)) old destination.old
         → (result ≡ length (packed select.now (element (width_bytes L.width) a.now) to))
-        × Writes (width_bytes L.width) (λ j. nat_lt j (length (packed select.now (element (width_bytes L.width) a.now) to)))
+        × Writes (width_bytes L.width)
+        (λ j. nat_lt j (length (packed select.now (element (width_bytes L.width) a.now) to)))
         (slice_index (packed select.now (element (width_bytes L.width) a.now) to)) old destination.new }
 {
     let mut set = selected(select, from, to);
@@ -62,7 +64,8 @@ pub fn compress<L: Lane>(a: &[u8], select: &[u8; VLENB], end: usize, destination
     requires operand { width_bytes L.width * end ≤ length a.now }
     requires room { width_bytes L.width * end ≤ length destination.old }
     requires count { end ≤ GROUP_BYTES }
-    ensures { Writes (width_bytes L.width) (λ j. nat_lt j (length (packed select.now (element (width_bytes L.width) a.now) end)))
+    ensures { Writes (width_bytes L.width)
+        (λ j. nat_lt j (length (packed select.now (element (width_bytes L.width) a.now) end)))
         (slice_index (packed select.now (element (width_bytes L.width) a.now) end)) destination.old destination.new }
 {
     let mut count = 0;

@@ -7,8 +7,8 @@ ghost use Rattle.rv_model.specs.elements.Permutations.{gathered};
 ghost use Rattle.rv_model.specs.vector.Configuration.{width_bytes};
 
 use crate::gathers::gathered;
-use crate::moved::{elements_around, first_then, moved_up};
-use lane_arith::{Body, Lane, Results};
+use crate::moved::{elements_around, first_then, move_elements, moved_up};
+use lane_arith::{Body, Lane, Results, fill};
 use rv_model::GROUP_BYTES;
 
 /// vslideup (section 16.3.1): the elements of `a`, those of vs2, `offset` places up. Below the offset no
@@ -46,6 +46,15 @@ impl<'a, L: Lane> Results<L> for SlideUp<'a> {
         let made = moved_up::<L>(self.a, self.offset, L::load(self.a, 0), chunk)?;
         Some(made)
     }
+
+    fn write_range(&self, start: usize, end: usize, destination: &mut [u8]) -> bool {
+        let offset = self.offset as usize;
+        if start < offset {
+            return false;
+        }
+        move_elements::<L>(self.a, start - offset, start, end, destination);
+        true
+    }
 }
 
 /// vslidedown (section 16.3.2): the elements of `a`, those of vs2, `offset` places down. The source has
@@ -77,6 +86,14 @@ impl<'a, L: Lane> Results<L> for SlideDown<'a> {
         let made = elements_around::<L>(&self.a[..width * self.limit], from + count)?;
         Some(made)
     }
+
+    fn write_range(&self, start: usize, end: usize, destination: &mut [u8]) -> bool {
+        let offset = self.offset as usize;
+        let to = self.limit.saturating_sub(offset).max(start).min(end);
+        move_elements::<L>(self.a, start.saturating_add(offset), start, to, destination);
+        fill(L::low_bits(0), to, end, destination);
+        true
+    }
 }
 
 /// vslide1up (section 16.3.3): the elements of `a`, those of vs2, one place up, and `first`, the low bits of a
@@ -103,6 +120,13 @@ impl<'a, L: Lane> Results<L> for SlideOneUp<'a, L> {
     fn chunk_results(&self, chunk: usize) -> Option<L::Vector> {
         let made = moved_up::<L>(self.a, 1, self.first, chunk)?;
         Some(made)
+    }
+
+    fn write_range(&self, start: usize, end: usize, destination: &mut [u8]) -> bool {
+        let from = start.max(1);
+        fill(self.first, start, end.min(1), destination);
+        move_elements::<L>(self.a, from - 1, from, end, destination);
+        true
     }
 }
 
@@ -135,5 +159,12 @@ impl<'a, L: Lane> Results<L> for SlideOneDown<'a, L> {
         let moved = elements_around::<L>(self.a, first + count + 1)?;
         let rest = first_then::<L>(L::repeated(self.last), moved, to);
         Some(first_then::<L>(moved, rest, before))
+    }
+
+    fn write_range(&self, start: usize, end: usize, destination: &mut [u8]) -> bool {
+        let to = self.end.saturating_sub(1).max(start).min(end);
+        move_elements::<L>(self.a, start.saturating_add(1), start, to, destination);
+        fill(self.last, to, end, destination);
+        true
     }
 }

@@ -1,6 +1,21 @@
 //! The active elements whose bit of a mask is set: how many there are, and the first of them ("V" Vector
 //! Extension 1.0, sections 15.2, 15.3 and 15.8).
-ghost use Rattle.std.specs.Prelude.{◌≡◌, ◌+◌, ◌*◌, ◌/◌, ◌%◌, ◌^◌, ◌<◌, ◌≤◌, ◌==◌, ℕ, count_ones, length, not, slice_index};
+ghost use Rattle.std.specs.Prelude.{
+  ◌≡◌,
+  ◌+◌,
+  ◌*◌,
+  ◌/◌,
+  ◌%◌,
+  ◌^◌,
+  ◌<◌,
+  ◌≤◌,
+  ◌==◌,
+  ℕ,
+  count_ones,
+  length,
+  not,
+  slice_index,
+};
 ghost use Rattle.std.specs.Simd.Lanes.{put_chunk};
 ghost use Rattle.rv_model.specs.elements.Elements.{mask_bit};
 ghost use Rattle.rv_model.specs.elements.Masks.{first_set, is_set, set_count};
