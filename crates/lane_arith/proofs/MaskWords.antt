@@ -91,9 +91,9 @@ bit_of_word mask w i room fits h =
     flip x false e = grind (arith, nat_tests)
 
 -- which bit a word with some bits replaced has
-pub picked : (c b o : Bool) (a n : Bool) {x y : Bool} → x ≡ cond a y (not n) → a ≡ not c → n ≡ not b → y ≡ o → x ≡ cond c b o
-picked true true o a n e f g h = rw (e, f, g) refl
-picked true false o a n e f g h = rw (e, f, g) refl
+pub picked : (c b o : Bool) (a n : Bool) {x y : Bool} → x ≡ cond a y (not n) → a ≡ not c → (c ≡ true → n ≡ not b) → y ≡ o → x ≡ cond c b o
+picked true true o a n e f g h = rw (e, f, g refl) refl
+picked true false o a n e f g h = rw (e, f, g refl) refl
 picked false b o a n e f g h = rw (e, f, h) refl
 
 -- bytes that are rebuilt up to one, where those from that one on are as they would be rebuilt

@@ -103,15 +103,20 @@ fn bytes_past_the_body<L: Lane, R: MaskResults<L>>(_results: &R, _body: &Body<'_
         ≡ byte_with_bits (is_active _body.now) (R.bit _results.now) _bytes.now q }
 {}
 
-/// The results for the 32 bits of a word of the destination, where their chunks are made by SIMD.
-fn word_results<L: Lane, R: MaskResults<L>>(results: &R, word: usize) -> Option<u64>
+/// The results for the 32 bits of a word of the destination, those before `end`, where their chunks are made by SIMD.
+fn word_results<L: Lane, R: MaskResults<L>>(results: &R, word: usize, end: usize) -> Option<u64>
     requires { 32 * word + 32 ≤ GROUP_BYTES }
-    ensures { IfSome result (λ bits. (i : ℕ) → i < 32 → (bits / 2 ^ i % 2 == 0) ≡ not (R.bit results.now (32 * word + i))) }
+    ensures { IfSome result (λ bits. (i : ℕ) → i < 32 → 32 * word + i < end
+        → (bits / 2 ^ i % 2 == 0) ≡ not (R.bit results.now (32 * word + i))) }
 {
     let count = L::count();
     let chunks = 32 / count;
+    let left = end.saturating_sub(32 * word);
     let mut bits = 0;
     for j in 0..chunks {
+        if left <= count * j {
+            return Some(bits);
+        }
         let Some(more) = results.chunk_bits(chunks * word + j) else {
             return None;
         };
@@ -150,9 +155,10 @@ fn write_words<L: Lane, R: MaskResults<L>>(
     ensures bytes { (q : ℕ) → q < length destination.old → slice_index destination.new q
         ≡ (if nat_lt q result then byte_with_bits (is_active body.now) (R.bit results.now) destination.old q else slice_index destination.old q) }
 {
-    let words = (destination.len() / 4).min(VLENB / 4);
+    let end = body.end();
+    let words = (destination.len() / 4).min(end.div_ceil(32));
     for word in 0..words {
-        let Some(new) = word_results(results, word) else {
+        let Some(new) = word_results(results, word, end) else {
             return 4 * word;
         };
         let active = active_bits(body, 32 * word, 32);
@@ -177,8 +183,8 @@ pub fn put_bits(results: u8x32, body: &Body<'_>, destination: &mut [u8]) -> bool
     true
 }
 
-/// `write_mask_results`, word by word as far as their results are made by SIMD, and then byte by byte, up to the last with a
-/// bit of the body.
+/// `write_mask_results`, word by word as far as their results are made by SIMD, and then byte by byte, up to the last
+/// with a bit of the body.
 fn write_in_turn<L: Lane, R: MaskResults<L>>(results: &R, body: &Body<'_>, destination: &mut [u8])
     requires operands { (i : ℕ) → i < body.now.end → R.has results.now i }
     requires most { length destination.old ≤ GROUP_BYTES }

@@ -40,3 +40,11 @@ loop-j-preserved g c =
     let few : c.in-Some.more < 2 ^ n = rw count c.in-Some.ensures.bound in
     more_told (width_bytes g.L.Lane.width) n (32 / n) c.loop-j.j c.args.word c.in-Some.more c.loop-j.bits bit fills refl c.loop-j-test.true c.loop-j.invariant few
     (λ i h. c.in-Some.ensures.value i (rw (sym count) h) ∙ ap (λ m. not (bit (m * (32 / n * c.args.word + c.loop-j.j) + i))) (sym count))
+
+pub returns : goal.returns
+returns g c = λ i h inside.
+    let n : ℕ = c.count-count.result in
+    let count : n ≡ g.L.Lane.count = c.count-count.ensures in
+    let fills : width_bytes g.L.Lane.width * n ≡ 32 = rw count g.met.L.Lane.fills in
+    let all : c.loop-j.j ≡ 32 / n = omega (arith, c.loop-j-test.false, c.loop-j.auto.j-end) in
+    c.loop-j.invariant.tells i (rw (all, word_chunks (width_bytes g.L.Lane.width) n fills) h)
