@@ -3,11 +3,10 @@ ghost use Rattle.std.specs.Prelude.{◌≡◌};
 ghost use Rattle.rv_model.specs.elements.Arithmetic.{carry_out_result, compare_result};
 ghost use Rattle.rv_model.specs.lending.GroupBounds.{IsInside, SourceIsInside};
 
-use crate::destination::write_mask;
 use crate::mask_wise::MaskWise;
-use crate::operands::{SecondOperand, second_copy};
-use lane_arith::{Body, CarryOut, Compare, Lane};
-use reg_groups::group_copy;
+use crate::operands::second_in_place;
+use lane_arith::{Body, CarryOut, Compare, Lane, write_mask_results};
+use reg_groups::group;
 use rv_model::instructions::operations::{CarryOutOp, CompareOp};
 use rv_model::{GROUP_BYTES, Scalar, Source, VFile, VReg};
 
@@ -26,22 +25,17 @@ impl MaskWise for CompareOperation {
 
     fn write<L: Lane>(
         &self,
-        vd: VReg,
         emul: u32,
         body: &Body<'_>,
-        file: &mut VFile,
+        file: &VFile,
         scalar: &Scalar,
+        mask: &mut [u8],
     ) {
-        let (mut first, mut second) = ([0; GROUP_BYTES], [0; GROUP_BYTES]);
-        let a = group_copy(file, self.vs2, emul, &mut first);
-        let operand = SecondOperand {
-            source: self.source,
-            unsigned: false,
-            emul,
-        };
-        let b = second_copy::<L>(operand, body.end(), file, scalar, &mut second);
+        let mut copies = [0; GROUP_BYTES];
+        let a = group(file, self.vs2, emul);
+        let b = second_in_place::<L>(self.source, emul, body.end(), file, scalar, &mut copies);
         let results = Compare { op: self.op, a, b };
-        write_mask::<L, Compare<'_>>(&results, vd, body, file);
+        write_mask_results::<L, Compare<'_>>(&results, body, mask);
     }
 }
 
@@ -75,20 +69,15 @@ impl MaskWise for CarryOutOperation {
 
     fn write<L: Lane>(
         &self,
-        vd: VReg,
         emul: u32,
         body: &Body<'_>,
-        file: &mut VFile,
+        file: &VFile,
         scalar: &Scalar,
+        mask: &mut [u8],
     ) {
-        let (mut first, mut second) = ([0; GROUP_BYTES], [0; GROUP_BYTES]);
-        let a = group_copy(file, self.vs2, emul, &mut first);
-        let operand = SecondOperand {
-            source: self.source,
-            unsigned: false,
-            emul,
-        };
-        let b = second_copy::<L>(operand, body.end(), file, scalar, &mut second);
+        let mut copies = [0; GROUP_BYTES];
+        let a = group(file, self.vs2, emul);
+        let b = second_in_place::<L>(self.source, emul, body.end(), file, scalar, &mut copies);
         let results = CarryOut {
             op: self.op,
             a,
@@ -96,6 +85,6 @@ impl MaskWise for CarryOutOperation {
             v0: body.mask(),
             alone: self.alone,
         };
-        write_mask::<L, CarryOut<'_>>(&results, vd, body, file);
+        write_mask_results::<L, CarryOut<'_>>(&results, body, mask);
     }
 }

@@ -1,14 +1,14 @@
 //! The destination of an element-wise instruction: lent to a kernel, and then filled ("V" Vector Extension
 //! 1.0, sections 3.4.3, 5.3 and 5.4).
 ghost use Rattle.std.specs.Prelude.{◌≡◌, ◌*◌, ◌<◌, ◌≤◌, ℕ, false, length, true};
-ghost use Rattle.rv_model.specs.elements.Arithmetic.{fills_masked_off, fills_tail, with_mask_results, with_results};
+ghost use Rattle.rv_model.specs.elements.Arithmetic.{fills_masked_off, fills_tail, with_results};
 ghost use Rattle.rv_model.specs.elements.Elements.{is_changed, result_or_ones};
 ghost use Rattle.rv_model.specs.elements.Formulas.{ones};
 ghost use Rattle.rv_model.specs.lending.Writes.{Writes};
 ghost use Rattle.rv_model.specs.lending.GroupBounds.{HoldsBody, IsInside};
 ghost use Rattle.rv_model.specs.vector.Configuration.{width_bytes};
 
-use lane_arith::{Body, Lane, MaskResults, Results, fill, write_mask_results, write_results};
+use lane_arith::{Body, Lane, Results, fill, write_results};
 use reg_groups::group_mut;
 use rv_model::{GROUP_BYTES, Policy, VFile, VReg, VType};
 
@@ -157,19 +157,4 @@ pub(crate) fn write_group<L: Lane, R: Results<L>>(
         destination.count,
         group,
     );
-}
-
-/// Writes results to the bits of a mask.
-pub(crate) fn write_mask<L: Lane, R: MaskResults<L>>(
-    results: &R,
-    vd: VReg,
-    body: &Body<'_>,
-    file: &mut VFile,
-)
-    requires operands { (i : ℕ) → i < body.now.end → R.has results.now i }
-    requires least { body.now.end ≤ GROUP_BYTES }
-    ensures { file.new ≡ with_mask_results vd body.now (R.bit results.now) file.old }
-{
-    let mask = group_mut(file, vd, 8);
-    write_mask_results(results, body, mask);
 }

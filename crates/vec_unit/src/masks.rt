@@ -6,9 +6,10 @@ ghost use Rattle.rv_model.specs.vector.Registers.{register_of};
 ghost use mir.Val.{bits};
 
 use crate::body::body_under;
-use crate::destination::{Destination, write_group, write_mask};
+use crate::destination::{Destination, write_group};
 use crate::element_wise::ElementWise;
-use lane_arith::{Body, Lane};
+use crate::mask_wise::set_mask;
+use lane_arith::{Body, Lane, write_mask_results};
 use mask_unit::{Index, Iota, MaskLogic, MaskScan, count, counts_below, first};
 use reg_groups::{mask_register, register_copy};
 use rv_model::instructions::operations::{MaskLogicOp, MaskScanOp, MaskToScalarOp};
@@ -30,8 +31,9 @@ pub(crate) fn carry_out_logic(op: MaskLogicOp, vd: VReg, vs1: VReg, vs2: VReg, s
         register_copy(&state.file, vs1),
     );
     let results = MaskLogic { op, a: &a, b: &b };
-    write_mask::<u8, MaskLogic<'_>>(&results, vd, &body, &mut state.file);
-    state.vstart = 0;
+    let mut bits = register_copy(&state.file, vd);
+    write_mask_results::<u8, MaskLogic<'_>>(&results, &body, &mut bits);
+    set_mask(&bits, vd, state);
 }
 
 /// Sets bits by the first active bit of `vs2` that is set. The next instruction begins with the first element.
@@ -58,8 +60,9 @@ pub(crate) fn carry_out_scan(
         op,
         first: first(&body, &bits),
     };
-    write_mask::<u8, MaskScan>(&results, vd, &body, &mut state.file);
-    state.vstart = 0;
+    let mut written = register_copy(&state.file, vd);
+    write_mask_results::<u8, MaskScan>(&results, &body, &mut written);
+    set_mask(&written, vd, state);
 }
 
 /// What a scalar register takes: how many active bits of `vs2` are set, or the index of the first, or -1.

@@ -1,5 +1,5 @@
 //! The second operand of an element-wise instruction, copied ("V" Vector Extension 1.0, sections 5.2 and 11.1).
-ghost use Rattle.std.specs.Prelude.{◌≡◌, ◌*◌, ◌%◌, ◌^◌, ◌<◌, ◌≤◌, ℕ, length};
+ghost use Rattle.std.specs.Prelude.{◌≡◌, ◌*◌, ◌%◌, ◌^◌, ◌<◌, ◌≤◌, ℕ, false, length};
 ghost use Rattle.rv_model.specs.elements.Elements.{element};
 ghost use Rattle.rv_model.specs.vector.Registers.{registers};
 ghost use Rattle.rv_model.specs.lending.GroupBounds.{SourceIsInside};
@@ -9,7 +9,7 @@ ghost use Rattle.rv_model.specs.vector.Configuration.{width_bytes};
 ghost use mir.Val.{bits};
 
 use lane_arith::{Lane, fill};
-use reg_groups::group_copy;
+use reg_groups::{group, group_copy};
 use rv_model::{Field, GROUP_BYTES, Scalar, Source, VFile, VLENB};
 
 /// The number of an immediate: as it is where it is unsigned, else sign-extended.
@@ -70,5 +70,30 @@ pub(crate) fn second_copy<'a, L: Lane>(
         Source::V(vs1) => group_copy(file, vs1, emul, copy),
         Source::X(rs1) => repeated::<L>(scalar.read(rs1), count, copy),
         Source::I(imm) => repeated::<L>(immediate_value(unsigned, imm), count, copy),
+    }
+}
+
+/// The elements of a second operand whose immediate is signed, `count` of them: where they stand, or else copies of one
+/// number.
+pub(crate) fn second_in_place<'a, L: Lane>(
+    source: Source,
+    emul: u32,
+    count: usize,
+    file: &'a VFile,
+    scalar: &Scalar,
+    copies: &'a mut [u8; GROUP_BYTES],
+) -> &'a [u8]
+    requires inside { SourceIsInside source emul }
+    requires most { emul ≤ 64 }
+    requires room { width_bytes L.width * count ≤ VLENB * registers emul }
+    requires count { count ≤ GROUP_BYTES }
+    ensures elements { (i : ℕ) → i < count → element (width_bytes L.width) result.now i
+        ≡ second_element (record { width = L.width; emul = emul }) false source file.now scalar.now i }
+    ensures room { width_bytes L.width * count ≤ length result.now }
+{
+    match source {
+        Source::V(vs1) => group(file, vs1, emul),
+        Source::X(rs1) => repeated::<L>(scalar.read(rs1), count, copies),
+        Source::I(imm) => repeated::<L>(immediate_value(false, imm), count, copies),
     }
 }
