@@ -1,2 +1,3 @@
+pub mod LowBits
 pub mod SomeActive
 pub mod WiderNumbers

@@ -100,3 +100,14 @@ rest_tells body rest test cut is =
   where
     later : (e : ℕ) → cut ≤ e → in_range (max body.start cut) body.end e ≡ in_range body.start body.end e
     later e past = grind (arith, nat_tests)
+
+-- where none of the body is left from a cut on
+pub none_left : (body : Body) (test : ℕ → Bool) (cut : ℕ) → body.end ≤ max body.start cut → some_before body test cut ≡ some_active body test
+none_left body test cut h =
+    let rest : Body = record { unmasked = body.unmasked; mask = body.mask; start = max body.start cut; end = body.end } in
+    let none : some_active rest test ≡ false = sym (some_ends rest test rest.start h) ∙ some_begins rest test rest.start (omega arith) in
+    or_none (some_before body test cut) (some_active rest test) none ∙ rest_tells body rest test cut refl
+  where
+    or_none : (a b : Bool) → b ≡ false → a ≡ (a || b)
+    or_none true b e = refl
+    or_none false b e = sym e

@@ -1,8 +1,9 @@
 -- Whole numbers that need one bit more than a width has: sums and differences, their halves and the nearest numbers.
-use Rattle.std.proofs.Common.{◌≡◌, ℕ, ◌+◌, ◌/◌, ◌%◌, ◌^◌, ◌<◌, ℤ, ◌+ℤ◌, ◌-ℤ◌, ap, arith, true, not, eqb, nat_le, w8, w16, w32, w64}
+use Rattle.std.proofs.Common.{◌≡◌, ℕ, ◌+◌, ◌/◌, ◌%◌, ◌^◌, ◌<◌, ◌≤◌, ℤ, ◌+ℤ◌, ◌-ℤ◌, ◌*ℤ◌, lit<, ap, arith, true, not, eqb, nat_le, w8, w16, w32, w64}
 use Rattle.std.proofs.Math.Nat.{zero-div}
 use Rattle.std.proofs.lemmas.Bool.Decides.{nat_tests}
-use Rattle.std.proofs.lemmas.Int.{ints}
+use Rattle.std.proofs.lemmas.Int.{fits_signed_mul, ints}
+use Rattle.std.specs.Int.RustNames.{FitsSigned, unsigned_abs}
 use Rattle.std.specs.Int.{Width, cast_signed, w128}
 use Rattle.std.specs.Int.Signed.{mag}
 use Rattle.std.specs.Ordering.{int_eq}
@@ -53,3 +54,17 @@ is_itself v = grind (arith, ints)
 -- no bit of 0 is set
 pub clear_bit : (i : ℕ) → eqb (0 / 2 ^ i % 2) 0 ≡ true
 clear_bit i = ap (λ x. eqb (x % 2) 0) (zero-div (2 ^ i))
+
+-- ---- products
+
+signed_below : (w : Width) → bits w < 64 → (a : ℕ) → a < 2 ^ bits w → unsigned_abs (cast_signed w a) ≤ 2 ^ 31
+signed_below w8 narrow a h = grind (arith, ints)
+signed_below w16 narrow a h = grind (arith, ints)
+signed_below w32 narrow a h = grind (arith, ints)
+signed_below w64 narrow a h = absurd (omega (arith, narrow))
+signed_below w128 narrow a h = absurd (omega (arith, narrow))
+
+-- a product of numbers of less than 64 bits needs no more than 64
+pub product_fits : (w : Width) → bits w < 64 → (a b : ℕ) → a < 2 ^ bits w → b < 2 ^ bits w → FitsSigned w64 (cast_signed w a *ℤ cast_signed w b)
+product_fits w narrow a b h k =
+    fits_signed_mul w64 (cast_signed w a) (cast_signed w b) (2 ^ 31) (2 ^ 31) (signed_below w narrow a h) (signed_below w narrow b k) (lit< tt)

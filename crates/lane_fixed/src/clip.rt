@@ -3,14 +3,14 @@
 ghost use Rattle.std.specs.Prelude.{◌≡◌, ℕ};
 ghost use Rattle.rv_model.specs.elements.Elements.{element};
 ghost use Rattle.rv_model.specs.lending.Writes.{HasElement};
-ghost use Rattle.rv_model.specs.elements.FixedPoint.{clip_formula, clip_saturates, exact_shift, narrowed};
+ghost use Rattle.rv_model.specs.elements.FixedPoint.{clip_formula, clip_saturates};
 ghost use Rattle.rv_model.specs.elements.Formulas.{wrap};
 ghost use Rattle.rv_model.specs.vector.Configuration.{width_bytes};
 
-use crate::rounding::rounded_shift;
+use crate::rounding::{Rounding, rounded, shift_amount, signed_rounded};
 use crate::saturating_results::{Saturated, SaturatingResults};
-use crate::saturation::{saturate_signed, saturate_unsigned};
-use lane_arith::{Lane, wrapped};
+use crate::saturation::{signed_result, unsigned_result};
+use lane_arith::Lane;
 use rv_model::RoundingMode;
 use rv_model::instructions::operations::ClipOp;
 use std::marker::PhantomData;
@@ -26,36 +26,15 @@ pub struct Clip<'a, W> {
     pub element: PhantomData<W>,
 }
 
-/// The shifted number, rounded.
-fn exact_shift<N: Lane, W: Lane>(op: ClipOp, mode: RoundingMode, a: W, b: N) -> i128
-    ensures { result ≡ exact_shift op mode W.width (W.value a) (N.value b) }
-{
-    match op {
-        ClipOp::Vnclipu => rounded_shift::<N, W>(mode, i128::from(a.number()), b),
-        ClipOp::Vnclip => rounded_shift::<N, W>(mode, i128::from(a.signed_number()), b),
-    }
-}
-
-/// The nearest number of the width.
-fn narrowed<N: Lane>(op: ClipOp, number: i128) -> i128
-    ensures { result ≡ narrowed op N.width number }
-{
-    match op {
-        ClipOp::Vnclipu => saturate_unsigned::<N>(number),
-        ClipOp::Vnclip => saturate_signed::<N>(number),
-    }
-}
-
 /// One element of the result.
-fn apply<N: Lane, W: Lane>(op: ClipOp, mode: RoundingMode, a: W, b: N) -> Saturated<N>
-    ensures value { N.value result.value ≡ wrap N.width (clip_formula op mode W.width N.width (W.value a) (N.value b)) }
-    ensures saturated { result.saturated ≡ clip_saturates op mode W.width N.width (W.value a) (N.value b) }
+fn apply<N: Lane, W: Lane, M: Rounding>(op: ClipOp, a: W, b: N) -> Saturated<N>
+    ensures value { N.value result.value ≡ wrap N.width (clip_formula op M.mode W.width N.width (W.value a) (N.value b)) }
+    ensures saturated { result.saturated ≡ clip_saturates op M.mode W.width N.width (W.value a) (N.value b) }
 {
-    let number = exact_shift(op, mode, a, b);
-    let nearest = narrowed::<N>(op, number);
-    Saturated {
-        value: wrapped(nearest),
-        saturated: nearest != number,
+    let amount = shift_amount::<N, W>(b);
+    match op {
+        ClipOp::Vnclipu => unsigned_result(rounded::<M>(amount, a.number())),
+        ClipOp::Vnclip => signed_result(signed_rounded::<M>(amount, a.signed_number())),
     }
 }
 
@@ -68,12 +47,13 @@ impl<'a, N: Lane, W: Lane> SaturatingResults<N> for Clip<'a, W> {
 
     ghost has = { λ r i. HasElement (width_bytes W.width) r.a.now i × HasElement (width_bytes N.width) r.b.now i };
 
-    fn result(&self, index: usize) -> Saturated<N> {
-        apply(
-            self.op,
-            self.mode,
-            W::load(self.a, index),
-            N::load(self.b, index),
-        )
+    ghost mode = { λ r. r.mode };
+
+    fn mode(&self) -> RoundingMode {
+        self.mode
+    }
+
+    fn result_in<M: Rounding>(&self, index: usize) -> Saturated<N> {
+        apply::<N, W, M>(self.op, W::load(self.a, index), N::load(self.b, index))
     }
 }

@@ -1,12 +1,12 @@
 //! The exact numbers of operations of one width ("V" Vector Extension 1.0, sections 12.1 to 12.4), before
 //! they are brought into the width.
-ghost use Rattle.std.specs.Prelude.{◌≡◌, ◌+ℤ◌, ◌-ℤ◌, ◌*ℤ◌, pos};
+ghost use Rattle.std.specs.Prelude.{◌≡◌, ◌+ℤ◌, ◌-ℤ◌, ◌*ℤ◌, ◌%◌, pos};
 ghost use Rattle.std.specs.Int.{cast_signed};
-ghost use Rattle.rv_model.specs.elements.FixedPoint.{exact};
+ghost use Rattle.rv_model.specs.elements.FixedPoint.{exact, rounded};
+ghost use mir.Val.{bits};
 
-use crate::rounding::{rounded, rounded_shift};
+use crate::rounding::{Rounding, shift_amount, wide_rounded};
 use lane_arith::Lane;
-use rv_model::RoundingMode;
 use rv_model::instructions::operations::FixedPointOp;
 use scalar_core::full_signed;
 
@@ -45,21 +45,28 @@ fn signed_product<L: Lane>(a: L, b: L) -> i128
     full_signed(a.signed_number(), b.signed_number())
 }
 
+/// A number that an element is shifted to, rounded.
+fn shifted<L: Lane, M: Rounding>(number: i128, amount: L) -> i128
+    ensures { result ≡ rounded M.mode (L.value amount % bits L.width) number }
+{
+    wide_rounded::<M>(shift_amount::<L, L>(amount), number)
+}
+
 /// The number that an operation has as its result, before it is brought into the width.
-pub(crate) fn exact<L: Lane>(op: FixedPointOp, mode: RoundingMode, a: L, b: L) -> i128
-    ensures { result ≡ exact op mode L.width (L.value a) (L.value b) }
+pub(crate) fn exact<L: Lane, M: Rounding>(op: FixedPointOp, a: L, b: L) -> i128
+    ensures { result ≡ exact op M.mode L.width (L.value a) (L.value b) }
 {
     match op {
         FixedPointOp::Vsaddu => sum(a, b),
         FixedPointOp::Vsadd => signed_sum(a, b),
         FixedPointOp::Vssubu => difference(a, b),
         FixedPointOp::Vssub => signed_difference(a, b),
-        FixedPointOp::Vsmul => rounded(mode, L::bits() - 1, signed_product(a, b)),
-        FixedPointOp::Vssrl => rounded_shift::<L, L>(mode, i128::from(a.number()), b),
-        FixedPointOp::Vssra => rounded_shift::<L, L>(mode, i128::from(a.signed_number()), b),
-        FixedPointOp::Vaaddu => rounded(mode, 1, sum(a, b)),
-        FixedPointOp::Vaadd => rounded(mode, 1, signed_sum(a, b)),
-        FixedPointOp::Vasubu => rounded(mode, 1, difference(a, b)),
-        FixedPointOp::Vasub => rounded(mode, 1, signed_difference(a, b)),
+        FixedPointOp::Vsmul => wide_rounded::<M>(L::bits() - 1, signed_product(a, b)),
+        FixedPointOp::Vssrl => shifted::<L, M>(i128::from(a.number()), b),
+        FixedPointOp::Vssra => shifted::<L, M>(i128::from(a.signed_number()), b),
+        FixedPointOp::Vaaddu => wide_rounded::<M>(1, sum(a, b)),
+        FixedPointOp::Vaadd => wide_rounded::<M>(1, signed_sum(a, b)),
+        FixedPointOp::Vasubu => wide_rounded::<M>(1, difference(a, b)),
+        FixedPointOp::Vasub => wide_rounded::<M>(1, signed_difference(a, b)),
     }
 }

@@ -1,15 +1,19 @@
 //! Fixed-point operations of one width on two operands ("V" Vector Extension 1.0, sections 12.1 to 12.4).
-ghost use Rattle.std.specs.Prelude.{◌≡◌, ℕ};
+ghost use Rattle.std.specs.Prelude.{◌≡◌, ◌<◌, ◌*ℤ◌, ℕ};
+ghost use Rattle.std.specs.Int.{cast_signed};
 ghost use Rattle.rv_model.specs.elements.Elements.{element};
 ghost use Rattle.rv_model.specs.lending.Writes.{HasElement};
 ghost use Rattle.rv_model.specs.elements.FixedPoint.{clipped, fixed_point_formula, saturates};
 ghost use Rattle.rv_model.specs.elements.Formulas.{wrap};
+ghost use Rattle.rv_model.specs.declared.instructions.operations.FixedPointOp.TheVariants.{Vsmul, Vssra, Vssrl};
 ghost use Rattle.rv_model.specs.vector.Configuration.{width_bytes};
+ghost use mir.Val.{bits};
 
 use crate::chunk::fixed_point;
 use crate::exact::exact;
+use crate::rounding::{Rounding, rounded, shift_amount, signed_rounded};
 use crate::saturating_results::{Saturated, SaturatedChunk, SaturatingResults};
-use crate::saturation::{saturate_signed, saturate_unsigned};
+use crate::saturation::{low_bits, saturate_signed, saturate_unsigned, signed_result};
 use lane_arith::{Lane, operand_chunk, wrapped};
 use rv_model::RoundingMode;
 use rv_model::instructions::operations::FixedPointOp;
@@ -42,16 +46,71 @@ fn clipped<L: Lane>(op: FixedPointOp, number: i128) -> i128
     }
 }
 
-/// One element of the result.
-fn apply<L: Lane>(op: FixedPointOp, mode: RoundingMode, a: L, b: L) -> Saturated<L>
-    ensures value { L.value result.value ≡ wrap L.width (fixed_point_formula op mode L.width (L.value a) (L.value b)) }
-    ensures saturated { result.saturated ≡ saturates op mode L.width (L.value a) (L.value b) }
+/// One element of the result, where its exact number may need more than 64 bits. It stands out of line, so that the
+/// loops of products and of shifts are short.
+#[inline(never)]
+fn apply_wide<L: Lane, M: Rounding>(op: FixedPointOp, a: L, b: L) -> Saturated<L>
+    ensures value { L.value result.value ≡ wrap L.width (fixed_point_formula op M.mode L.width (L.value a) (L.value b)) }
+    ensures saturated { result.saturated ≡ saturates op M.mode L.width (L.value a) (L.value b) }
 {
-    let number = exact(op, mode, a, b);
+    let number = exact::<L, M>(op, a, b);
     let nearest = clipped::<L>(op, number);
     Saturated {
         value: wrapped(nearest),
         saturated: nearest != number,
+    }
+}
+
+/// The whole product of signed numbers of less than 64 bits.
+fn small_product<L: Lane>(a: L, b: L) -> i64
+    requires { bits L.width < 64 }
+    ensures { result ≡ cast_signed L.width (L.value a) *ℤ cast_signed L.width (L.value b) }
+{
+    a.signed_number() * b.signed_number()
+}
+
+/// One element of the product of signed numbers, which has less than 64 bits.
+fn product<L: Lane, M: Rounding>(a: L, b: L) -> Saturated<L>
+    requires { bits L.width < 64 }
+    ensures value { L.value result.value ≡ wrap L.width (fixed_point_formula Vsmul M.mode L.width (L.value a) (L.value b)) }
+    ensures saturated { result.saturated ≡ saturates Vsmul M.mode L.width (L.value a) (L.value b) }
+{
+    signed_result(signed_rounded::<M>(L::bits() - 1, small_product(a, b)))
+}
+
+/// One element shifted right, with zeros for the upper bits.
+fn shifted<L: Lane, M: Rounding>(a: L, b: L) -> Saturated<L>
+    ensures value { L.value result.value ≡ wrap L.width (fixed_point_formula Vssrl M.mode L.width (L.value a) (L.value b)) }
+    ensures saturated { result.saturated ≡ saturates Vssrl M.mode L.width (L.value a) (L.value b) }
+{
+    Saturated {
+        value: L::low_bits(rounded::<M>(shift_amount::<L, L>(b), a.number())),
+        saturated: false,
+    }
+}
+
+/// One element shifted right, with copies of its sign for the upper bits.
+fn signed_shifted<L: Lane, M: Rounding>(a: L, b: L) -> Saturated<L>
+    ensures value { L.value result.value ≡ wrap L.width (fixed_point_formula Vssra M.mode L.width (L.value a) (L.value b)) }
+    ensures saturated { result.saturated ≡ saturates Vssra M.mode L.width (L.value a) (L.value b) }
+{
+    let number = signed_rounded::<M>(shift_amount::<L, L>(b), a.signed_number());
+    Saturated {
+        value: low_bits(number),
+        saturated: false,
+    }
+}
+
+/// One element of the result.
+fn apply<L: Lane, M: Rounding>(op: FixedPointOp, a: L, b: L) -> Saturated<L>
+    ensures value { L.value result.value ≡ wrap L.width (fixed_point_formula op M.mode L.width (L.value a) (L.value b)) }
+    ensures saturated { result.saturated ≡ saturates op M.mode L.width (L.value a) (L.value b) }
+{
+    match op {
+        FixedPointOp::Vsmul if L::bits() < 64 => product::<L, M>(a, b),
+        FixedPointOp::Vssrl => shifted::<L, M>(a, b),
+        FixedPointOp::Vssra => signed_shifted::<L, M>(a, b),
+        _ => apply_wide::<L, M>(op, a, b),
     }
 }
 
@@ -64,13 +123,14 @@ impl<'a, L: Lane> SaturatingResults<L> for FixedPoint<'a> {
 
     ghost has = { λ r i. HasElement (width_bytes L.width) r.a.now i × HasElement (width_bytes L.width) r.b.now i };
 
-    fn result(&self, index: usize) -> Saturated<L> {
-        apply(
-            self.op,
-            self.mode,
-            L::load(self.a, index),
-            L::load(self.b, index),
-        )
+    ghost mode = { λ r. r.mode };
+
+    fn mode(&self) -> RoundingMode {
+        self.mode
+    }
+
+    fn result_in<M: Rounding>(&self, index: usize) -> Saturated<L> {
+        apply::<L, M>(self.op, L::load(self.a, index), L::load(self.b, index))
     }
 
     fn chunk_results(&self, chunk: usize) -> Option<SaturatedChunk<L::Vector>> {

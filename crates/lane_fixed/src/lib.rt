@@ -11,6 +11,7 @@ mod saturation;
 
 pub use clip::Clip;
 pub use fixed_point::FixedPoint;
+pub use rounding::Rounding;
 pub use saturating_results::{
     Saturated, SaturatedChunk, SaturatingResults, write_saturating_results,
 };

@@ -1,72 +1,110 @@
 //! How a number is rounded where its low bits are dropped ("V" Vector Extension 1.0, section 3.8).
-ghost use Rattle.std.specs.Prelude.{◌≡◌, ◌%◌, ◌<◌, ◌==◌, not};
-ghost use Rattle.rv_model.specs.elements.FixedPoint.{has_bit, rounded, rounds_up};
+ghost use Rattle.std.specs.Prelude.{◌≡◌, ◌%◌, ◌<◌, ◌&&◌, nat_lt, pos};
+ghost use Rattle.rv_model.specs.elements.FixedPoint.{rounded, rounds_up};
 ghost use Rattle.rv_model.specs.elements.Formulas.{low_bits};
+ghost use Rattle.rv_model.specs.declared.vector.state.RoundingMode.{RoundingMode};
+ghost use Rattle.rv_model.specs.declared.vector.state.RoundingMode.TheVariants.{Down, NearestEven, NearestUp, Odd};
 ghost use mir.Val.{bits};
 
 use lane_arith::Lane;
-use rv_model::RoundingMode;
 
-/// The low bits of a number, in two's complement.
-fn low_bits(count: u32, number: i128) -> u128
-    requires { count < 64 }
-    ensures { result ≡ low_bits count number }
-{
-    number.cast_unsigned() % (1 << count)
+/// A rounding mode as a type, so that loops are compiled for each mode.
+pub trait Rounding {
+    // The mode.
+    ghost mode: { RoundingMode };
+
+    /// Whether one is added where the low bits of a number are dropped, if any is.
+    fn rounds_up(count: u32, number: u64) -> bool
+        requires { count < 64 }
+        ensures { result ≡ (nat_lt 0 count && rounds_up mode count (pos number)) };
 }
 
-/// Whether a bit of a number is set.
-fn has_bit(index: u32, number: i128) -> bool
-    requires { index < 64 }
-    ensures { result ≡ has_bit index number }
-{
-    low_bits(1, number >> index) == 1
-}
+/// To the nearest number, and up where two are as near.
+#[derive(Clone, Copy)]
+pub struct ToNearestUp;
 
-/// Whether some of the low bits of a number are set.
-fn has_low_bits(count: u32, number: i128) -> bool
-    requires { count < 64 }
-    ensures { result ≡ not (low_bits count number == 0) }
-{
-    low_bits(count, number) != 0
-}
+/// To the nearest number, and to the even one where two are as near.
+#[derive(Clone, Copy)]
+pub struct ToNearestEven;
 
-/// Whether one is added where the low bits of a number are dropped.
-fn rounds_up(mode: RoundingMode, count: u32, number: i128) -> bool
-    requires some { 0 < count }
-    requires bound { count < 64 }
-    ensures { result ≡ rounds_up mode count number }
-{
-    match mode {
-        RoundingMode::NearestUp => has_bit(count - 1, number),
-        RoundingMode::NearestEven => {
-            has_bit(count - 1, number)
-                && (has_low_bits(count - 1, number) || has_bit(count, number))
-        }
-        RoundingMode::Down => false,
-        RoundingMode::Odd => !has_bit(count, number) && has_low_bits(count, number),
+/// Down.
+#[derive(Clone, Copy)]
+pub struct ToDown;
+
+/// To the odd one of the two nearest numbers.
+#[derive(Clone, Copy)]
+pub struct ToOdd;
+
+impl Rounding for ToNearestUp {
+    ghost mode = { NearestUp };
+
+    fn rounds_up(count: u32, number: u64) -> bool {
+        (number << 1 >> count) % 2 == 1
     }
+}
+
+impl Rounding for ToNearestEven {
+    ghost mode = { NearestEven };
+
+    fn rounds_up(count: u32, number: u64) -> bool {
+        let twice = number << 1;
+        let half = (twice >> count) % 2 == 1;
+        let rest = twice % (1 << count) != 0;
+        let odd = (number >> count) % 2 == 1;
+        half & (rest | odd)
+    }
+}
+
+impl Rounding for ToDown {
+    ghost mode = { Down };
+
+    fn rounds_up(_count: u32, _number: u64) -> bool {
+        false
+    }
+}
+
+impl Rounding for ToOdd {
+    ghost mode = { Odd };
+
+    fn rounds_up(count: u32, number: u64) -> bool {
+        (number >> count) % 2 == 0 && number % (1 << count) != 0
+    }
+}
+
+/// The low 64 bits of a number.
+fn low_half(number: i128) -> u64
+    ensures { result ≡ low_bits 64 number }
+{
+    (number.cast_unsigned() % (1 << 64)) as u64
+}
+
+/// A natural number without its low bits, rounded.
+pub(crate) fn rounded<M: Rounding>(count: u32, number: u64) -> u64
+    requires { count < 64 }
+    ensures { pos result ≡ rounded M.mode count (pos number) }
+{
+    (number >> count) + u64::from(M::rounds_up(count, number))
 }
 
 /// A number without its low bits, rounded.
-pub(crate) fn rounded(mode: RoundingMode, count: u32, number: i128) -> i128
+pub(crate) fn signed_rounded<M: Rounding>(count: u32, number: i64) -> i64
     requires { count < 64 }
-    ensures { result ≡ rounded mode count number }
+    ensures { result ≡ rounded M.mode count number }
 {
-    if count == 0 {
-        number
-    } else {
-        (number >> count) + i128::from(rounds_up(mode, count, number))
-    }
+    (number >> count) + i64::from(M::rounds_up(count, number.cast_unsigned()))
 }
 
-/// A number without as many low bits as a shift at the width of `W` drops, rounded.
-pub(crate) fn rounded_shift<N: Lane, W: Lane>(mode: RoundingMode, number: i128, amount: N) -> i128
-    ensures { result ≡ rounded mode (N.value amount % bits W.width) number }
+/// A number of 128 bits without its low bits, rounded.
+pub(crate) fn wide_rounded<M: Rounding>(count: u32, number: i128) -> i128
+    requires { count < 64 }
+    ensures { result ≡ rounded M.mode count number }
 {
-    rounded(
-        mode,
-        (amount.number() % u64::from(W::bits())) as u32,
-        number,
-    )
+    (number >> count) + i128::from(M::rounds_up(count, low_half(number)))
+}
+
+/// How many low bits a shift at the width of `W` drops.
+pub(crate) fn shift_amount<N: Lane, W: Lane>(amount: N) -> u32
+    ensures { result ≡ N.value amount % bits W.width }
+{
+    (amount.number() % u64::from(W::bits())) as u32
 }

@@ -6,9 +6,11 @@ ghost use Rattle.rv_model.specs.elements.Elements.{is_active, is_changed, result
 ghost use Rattle.rv_model.specs.elements.Formulas.{ones};
 ghost use Rattle.rv_model.specs.lending.Writes.{Writes};
 ghost use Rattle.rv_model.specs.vector.Configuration.{width_bytes};
+ghost use Rattle.rv_model.specs.declared.vector.state.RoundingMode.{RoundingMode};
 
+use crate::rounding::{Rounding, ToDown, ToNearestEven, ToNearestUp, ToOdd};
 use lane_arith::{Body, Lane, active_bits, filled_bits, put_results};
-use rv_model::GROUP_BYTES;
+use rv_model::{GROUP_BYTES, RoundingMode};
 
 /// An element of a result, and whether it isn't the exact number but the nearest one of the width.
 #[derive(Clone, Copy, Drop)]
@@ -26,7 +28,7 @@ pub struct SaturatedChunk<V> {
 }
 
 /// What an instruction gives to the elements of its destination, which have the width of `L`.
-pub trait SaturatingResults<L: Lane> {
+pub trait SaturatingResults<L: Lane>: Copy {
     // The number for the element at an index.
     ghost number: { Self → ℕ → ℕ };
 
@@ -36,11 +38,33 @@ pub trait SaturatingResults<L: Lane> {
     // The operands have an element at this index.
     ghost has: { Self → ℕ → Type 0 };
 
+    // How it rounds.
+    ghost mode: { Self → RoundingMode };
+
+    /// How it rounds.
+    fn mode(&self) -> RoundingMode
+        ensures { result ≡ mode self.now };
+
+    /// The result for the element at an index, in the mode as a type.
+    fn result_in<M: Rounding>(&self, index: usize) -> Saturated<L>
+        requires has { has self.now index }
+        requires mode { M.mode ≡ mode self.now }
+        ensures value { L.value result.value ≡ number self.now index }
+        ensures saturated { result.saturated ≡ saturates self.now index };
+
     /// The result for the element at an index.
     fn result(&self, index: usize) -> Saturated<L>
         requires { has self.now index }
         ensures value { L.value result.value ≡ number self.now index }
-        ensures saturated { result.saturated ≡ saturates self.now index };
+        ensures saturated { result.saturated ≡ saturates self.now index }
+    {
+        match self.mode() {
+            RoundingMode::NearestUp => self.result_in::<ToNearestUp>(index),
+            RoundingMode::NearestEven => self.result_in::<ToNearestEven>(index),
+            RoundingMode::Down => self.result_in::<ToDown>(index),
+            RoundingMode::Odd => self.result_in::<ToOdd>(index),
+        }
+    }
 
     /// The results for the elements of a chunk of 32 bytes, where they are made by SIMD.
     fn chunk_results(&self, _chunk: usize) -> Option<SaturatedChunk<L::Vector>>
@@ -54,8 +78,41 @@ pub trait SaturatingResults<L: Lane> {
     }
 }
 
-/// `write_saturating_results`, element by element.
-fn write_each<L: Lane, R: SaturatingResults<L>>(
+/// `write_saturating_results`, element by element, in one mode. It reads copies of its own, which no store to the
+/// destination can change: so the compiler tests what they say outside of the loop.
+#[inline(never)]
+fn write_each<L: Lane, R: SaturatingResults<L>, M: Rounding>(
+    results: &R,
+    body: &Body<'_>,
+    destination: &mut [u8],
+    fill_masked_off: bool,
+) -> bool
+    requires operands { (i : ℕ) → i < body.now.end → R.has results.now i }
+    requires room { width_bytes L.width * body.now.end ≤ length destination.old }
+    requires count { body.now.end ≤ GROUP_BYTES }
+    requires mode { M.mode ≡ R.mode results.now }
+    ensures writes { Writes (width_bytes L.width) (is_changed body.now fill_masked_off false)
+        (result_or_ones body.now (R.number results.now) (ones L.width)) destination.old destination.new }
+    ensures saturated { result ≡ some_active body.now (R.saturates results.now) }
+{
+    let results = *results;
+    let body = body.copied();
+    let mut saturated = false;
+    for i in body.start()..body.end() {
+        if body.lets(i) {
+            let result = results.result_in::<M>(i);
+            result.value.store(destination, i);
+            saturated |= result.saturated;
+        } else if fill_masked_off {
+            L::all_ones().store(destination, i);
+        }
+    }
+    saturated
+}
+
+/// `write_saturating_results`, element by element, in the mode of the results.
+#[inline(never)]
+fn write_rest<L: Lane, R: SaturatingResults<L>>(
     results: &R,
     body: &Body<'_>,
     destination: &mut [u8],
@@ -68,17 +125,20 @@ fn write_each<L: Lane, R: SaturatingResults<L>>(
         (result_or_ones body.now (R.number results.now) (ones L.width)) destination.old destination.new }
     ensures saturated { result ≡ some_active body.now (R.saturates results.now) }
 {
-    let mut saturated = false;
-    for i in body.start()..body.end() {
-        if body.lets(i) {
-            let result = results.result(i);
-            result.value.store(destination, i);
-            saturated |= result.saturated;
-        } else if fill_masked_off {
-            L::all_ones().store(destination, i);
+    let fill = fill_masked_off;
+    match results.mode() {
+        RoundingMode::NearestUp => write_each::<L, R, ToNearestUp>(
+            results,
+            body,
+            destination,
+            fill,
+        ),
+        RoundingMode::NearestEven => {
+            write_each::<L, R, ToNearestEven>(results, body, destination, fill)
         }
+        RoundingMode::Down => write_each::<L, R, ToDown>(results, body, destination, fill),
+        RoundingMode::Odd => write_each::<L, R, ToOdd>(results, body, destination, fill),
     }
-    saturated
 }
 
 /// How far a destination is written: the index of the first element that is left, and whether an active one
@@ -141,7 +201,13 @@ pub fn write_saturating_results<L: Lane, R: SaturatingResults<L>>(
 {
     let done = write_chunks(results, body, destination, fill_masked_off);
     let start = body.start().max(done.left);
-    let rest = Body::new(body.is_unmasked(), body.mask(), start, body.end());
-    let saturated = write_each(results, &rest, destination, fill_masked_off);
-    done.saturated | saturated
+    let end = body.end();
+    if start < end {
+        // Only this copy has to stand in memory.
+        let results = *results;
+        let rest = Body::new(body.is_unmasked(), body.mask(), start, end);
+        done.saturated | write_rest(&results, &rest, destination, fill_masked_off)
+    } else {
+        done.saturated
+    }
 }

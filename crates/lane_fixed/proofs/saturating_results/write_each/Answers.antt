@@ -10,25 +10,25 @@ use Rattle.lane_fixed.proofs.saturating_results.write_each.Goals.{then-lets, els
 
 pub loop-i-init : goal.loop-i-init
 loop-i-init g c = record {
-  writes = rw c.start-i.ensures (body_begins _ c.args.body.now _ _ _);
-  saturated = sym (some_begins c.args.body.now _ _ (omega (arith, c.start-i.ensures)));
+  writes = rw c.start-i.ensures (body_begins _ c.copied-body.result _ _ _);
+  saturated = sym (some_begins c.copied-body.result _ _ (omega (arith, c.start-i.ensures)));
 }
 
 pub loop-i-preserved : goal.loop-i-preserved
 loop-i-preserved g c =
     let k : ℕ = width_bytes g.L.Lane.width in
-    let body : Body = c.args.body.now in
+    let body : Body = c.copied-body.result in
     let i : ℕ = c.loop-i.i in
     let saturates : ℕ → Bool = g.R.SaturatingResults.saturates c.args.results.now in
     let from : body.start ≤ i = omega (arith, c.loop-i.auto.i, c.start-i.ensures) in
     let to : i < body.end = omega (arith, c.loop-i-test.true, c.end-i-end.ensures) in
-    let room : k * i + k ≤ length c.args.destination.now = room_for _ _ _ _ to c.requires.room in
+    let room : k * i + k ≤ length c.args.destination.now = room_for _ _ _ _ to (rw c.copied-body.ensures c.requires.room) in
     elim c.if-lets.branch [
       | then-lets w ↦ record {
         writes = step_result _ body _ _ _ _ _ _ _ from to c.loop-i.invariant.writes room (sym c.lets.ensures ∙ w.if-lets.true)
             (w.destination-is ∙ w.store.ensures
-            ∙ ap (λ n. put_chunk (k * i) c.loop-i.destination (bytes_low_first 0 k n)) w.result-result.ensures.value);
-        saturated = w.saturated-is ∙ ap (λ b. c.loop-i.saturated || b) w.result-result.ensures.saturated
+            ∙ ap (λ n. put_chunk (k * i) c.loop-i.destination (bytes_low_first 0 k n)) w.result_in-result.ensures.value);
+        saturated = w.saturated-is ∙ ap (λ b. c.loop-i.saturated || b) w.result_in-result.ensures.saturated
             ∙ ap (λ b. b || saturates i) c.loop-i.invariant.saturated
             ∙ sym (some_step body saturates i from to (sym c.lets.ensures ∙ w.if-lets.true));
       }
@@ -48,6 +48,8 @@ loop-i-preserved g c =
 
 pub returns : goal.returns
 returns g c = record {
-  writes = body_ends _ c.args.body.now _ _ _ _ _ (omega (arith, c.loop-i-test.false, c.end-i-end.ensures)) c.loop-i.invariant.writes;
-  saturated = c.loop-i.invariant.saturated ∙ some_ends c.args.body.now _ _ (omega (arith, c.loop-i-test.false, c.end-i-end.ensures));
+  writes = rw (sym c.copied-body.ensures) (body_ends _ c.copied-body.result _ _ _ _ _ (omega (arith, c.loop-i-test.false, c.end-i-end.ensures))
+      c.loop-i.invariant.writes);
+  saturated = rw (sym c.copied-body.ensures) (c.loop-i.invariant.saturated
+      ∙ some_ends c.copied-body.result _ _ (omega (arith, c.loop-i-test.false, c.end-i-end.ensures)));
 }
