@@ -63,7 +63,12 @@ fn perform_two_widths(
             carry_out_narrowing(&operation, target, state, scalar);
         }
         VectorOp::Clip(op) => {
-            let operation = ClipOperation::new(op, state.vxrm, vs2, source);
+            let operation = ClipOperation {
+                op,
+                mode: state.vxrm,
+                vs2,
+                source,
+            };
             operation.carry_out(target, state, scalar);
         }
         VectorOp::WidenReduce(op) => {
@@ -108,7 +113,12 @@ fn perform_rest(
             carry_out_mask(&operation, target.whole_body(), state, scalar);
         }
         VectorOp::FixedPoint(op) => {
-            let operation = FixedPointOperation::new(op, state.vxrm, vs2, source);
+            let operation = FixedPointOperation {
+                op,
+                mode: state.vxrm,
+                vs2,
+                source,
+            };
             operation.carry_out(target, state, scalar);
         }
         VectorOp::Reduce(op) => {
@@ -123,36 +133,6 @@ fn perform_rest(
 
 /// Carries out a legal operation with a line of its own in the manual's table.
 #[tactic(auto, using(rv_model::proofs::legality_lemmas::Bounds::binary_inside))]
-#[inline(always)]
-fn perform_operation(
-    op: VectorOp,
-    vs2: VReg,
-    source: Source,
-    target: Target,
-    state: &mut VState,
-    scalar: &Scalar,
-)
-    requires legal { IsTrue (is_legal (Instr.Vector (VectorInstr.Arith (op, source) target.vd vs2 target.unmasked))
-        (Some target.vtype) state.old.vstart) }
-    requires length { state.old.conf.vl ≤ vlmax target.vtype }
-    ensures model { (memory : Memory) (output : List ℕ)
-        → arith_step target.vtype (group_type target.vtype) (wide_type target.vtype) op source target.vd vs2
-        target.unmasked (hart_state scalar.now state.old memory target.policy output)
-        ≡ vector_ends VEnd.Done (hart_state scalar.now state.new memory target.policy output) }
-{
-    match op {
-        VectorOp::Binary(op) => {
-            carry_out(&BinaryOperation { op, vs2, source }, target, state, scalar);
-        }
-        _ => {
-            // A copy, so that the target itself needs no place in memory.
-            let target = Target { ..target };
-            perform_rest(op, vs2, source, target, state, scalar);
-        }
-    }
-}
-
-/// The same, if there is a vector type.
 #[inline(always)]
 pub(crate) fn perform_arith(
     operation: ArithOperation,
@@ -175,8 +155,18 @@ pub(crate) fn perform_arith(
         return VEnd::Illegal;
     };
     let (op, source) = operation.arith.parts();
+    let vs2 = operation.vs2;
     let target = Target::new(operation.vd, operation.unmasked, vtype, policy);
-    perform_operation(op, operation.vs2, source, target, state, scalar);
+    match op {
+        VectorOp::Binary(op) => {
+            carry_out(&BinaryOperation { op, vs2, source }, target, state, scalar);
+        }
+        _ => {
+            // A copy, so that the target itself needs no place in memory.
+            let target = Target { ..target };
+            perform_rest(op, vs2, source, target, state, scalar);
+        }
+    }
     VEnd::Done
 }
 

@@ -29,18 +29,6 @@ pub(crate) struct ClipOperation {
 }
 
 impl ClipOperation {
-    /// The operation on `vs2` and a source.
-    pub(crate) fn new(op: ClipOp, mode: RoundingMode, vs2: VReg, source: Source) -> Self
-        ensures { result ≡ record { op = op; mode = mode; vs2 = vs2; source = source } }
-    {
-        ClipOperation {
-            op,
-            mode,
-            vs2,
-            source,
-        }
-    }
-
     /// Writes the results to a destination of elements of the width of `N`, and says whether an active element
     /// saturates; `W` is twice that width, and `wide` the multiplier of the groups of `vs2`.
     fn write<N: Lane, W: Lane>(

@@ -35,18 +35,6 @@ fn has_unsigned_shift(op: FixedPointOp) -> bool
 }
 
 impl FixedPointOperation {
-    /// The operation on `vs2` and a source.
-    pub(crate) fn new(op: FixedPointOp, mode: RoundingMode, vs2: VReg, source: Source) -> Self
-        ensures { result ≡ record { op = op; mode = mode; vs2 = vs2; source = source } }
-    {
-        FixedPointOperation {
-            op,
-            mode,
-            vs2,
-            source,
-        }
-    }
-
     /// Writes the results to a destination, and says whether an active element saturates.
     fn write<L: Lane>(
         &self,

@@ -1,8 +1,9 @@
 //! Operations whose result has twice the width of an operand ("V" Vector Extension 1.0, sections 11.2, 11.12
 //! and 11.14).
-ghost use Rattle.std.specs.Prelude.{◌≡◌};
+ghost use Rattle.std.specs.Prelude.{◌≡◌, ◌<◌, get_or};
 ghost use Rattle.rv_model.specs.elements.Arithmetic.{wide_source_result, widen_multiply_add_result, widen_result};
-ghost use Rattle.rv_model.specs.lending.GroupBounds.{IsInside, SourceIsInside};
+ghost use Rattle.rv_model.specs.lending.GroupBounds.{HasRoom, HoldsBody, IsInside, SourceIsInside};
+ghost use Rattle.vec_unit.specs.Results.{with_written};
 
 use crate::destination::{Destination, write_group};
 use crate::operands::{SecondOperand, second_copy};
@@ -21,6 +22,53 @@ pub(crate) struct WidenOperation {
     pub source: Source,
 }
 
+/// The operations, by the numbers that their loops are compiled for.
+const OPERATIONS: [WidenOp; 7] = [
+    WidenOp::Vwaddu,
+    WidenOp::Vwadd,
+    WidenOp::Vwsubu,
+    WidenOp::Vwsub,
+    WidenOp::Vwmulu,
+    WidenOp::Vwmulsu,
+    WidenOp::Vwmul,
+];
+
+/// Writes the results of the operation with a number on the sources of another, in a loop that tests neither the
+/// operation nor, as it reads a copy, whether it is unmasked.
+fn write_one<D: Lane, O: Lane, const NUMBER: usize>(
+    sources: &WidenOperation,
+    destination: Destination,
+    other: u32,
+    body: &Body<'_>,
+    file: &mut VFile,
+    scalar: &Scalar,
+)
+    requires known { NUMBER < 7 }
+    requires operands { IsInside sources.now.vs2 other × SourceIsInside sources.now.source other }
+    requires holds { HoldsBody D.width destination.emul destination.count body.now.end }
+    requires room { HasRoom O.width other body.now.end }
+    ensures { file.new ≡ with_written D.width destination body.now
+        (widen_result (record { width = O.width; emul = other }) (record { width = D.width; emul = destination.emul })
+        (get_or OPERATIONS NUMBER WidenOp.Vwaddu) sources.now.vs2 sources.now.source file.old scalar.now) file.old }
+{
+    let (mut first, mut second) = ([0; GROUP_BYTES], [0; GROUP_BYTES]);
+    let a = group_copy(file, sources.vs2, other, &mut first);
+    let operand = SecondOperand {
+        source: sources.source,
+        unsigned: false,
+        emul: other,
+    };
+    let b = second_copy::<O>(operand, body.end(), file, scalar, &mut second);
+    let results = Widen::<'_, O> {
+        op: OPERATIONS[NUMBER],
+        a,
+        b,
+        element: PhantomData,
+    };
+    let body = body.copied();
+    write_group::<D, Widen<'_, O>>(&results, destination, &body, file);
+}
+
 impl TwoWidths for WidenOperation {
     ghost number = { λ o wide narrow file x. widen_result narrow wide o.op o.vs2 o.source file x };
 
@@ -34,21 +82,15 @@ impl TwoWidths for WidenOperation {
         file: &mut VFile,
         scalar: &Scalar,
     ) {
-        let (mut first, mut second) = ([0; GROUP_BYTES], [0; GROUP_BYTES]);
-        let a = group_copy(file, self.vs2, other, &mut first);
-        let operand = SecondOperand {
-            source: self.source,
-            unsigned: false,
-            emul: other,
-        };
-        let b = second_copy::<O>(operand, body.end(), file, scalar, &mut second);
-        let results = Widen::<'_, O> {
-            op: self.op,
-            a,
-            b,
-            element: PhantomData,
-        };
-        write_group::<D, Widen<'_, O>>(&results, destination, body, file);
+        match self.op {
+            WidenOp::Vwaddu => write_one::<D, O, 0>(self, destination, other, body, file, scalar),
+            WidenOp::Vwadd => write_one::<D, O, 1>(self, destination, other, body, file, scalar),
+            WidenOp::Vwsubu => write_one::<D, O, 2>(self, destination, other, body, file, scalar),
+            WidenOp::Vwsub => write_one::<D, O, 3>(self, destination, other, body, file, scalar),
+            WidenOp::Vwmulu => write_one::<D, O, 4>(self, destination, other, body, file, scalar),
+            WidenOp::Vwmulsu => write_one::<D, O, 5>(self, destination, other, body, file, scalar),
+            WidenOp::Vwmul => write_one::<D, O, 6>(self, destination, other, body, file, scalar),
+        }
     }
 }
 
