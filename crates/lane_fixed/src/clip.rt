@@ -28,7 +28,8 @@ pub struct Clip<'a, W> {
 
 /// One element of the result.
 fn apply<N: Lane, W: Lane, M: Rounding>(op: ClipOp, a: W, b: N) -> Saturated<N>
-    ensures value { N.value result.value ≡ wrap N.width (clip_formula op M.mode W.width N.width (W.value a) (N.value b)) }
+    ensures value { N.value result.value
+        ≡ wrap N.width (clip_formula op M.mode W.width N.width (W.value a) (N.value b)) }
     ensures saturated { result.saturated ≡ clip_saturates op M.mode W.width N.width (W.value a) (N.value b) }
 {
     let amount = shift_amount::<N, W>(b);

@@ -50,7 +50,8 @@ fn clipped<L: Lane>(op: FixedPointOp, number: i128) -> i128
 /// loops of products and of shifts are short.
 #[inline(never)]
 fn apply_wide<L: Lane, M: Rounding>(op: FixedPointOp, a: L, b: L) -> Saturated<L>
-    ensures value { L.value result.value ≡ wrap L.width (fixed_point_formula op M.mode L.width (L.value a) (L.value b)) }
+    ensures value { L.value result.value
+        ≡ wrap L.width (fixed_point_formula op M.mode L.width (L.value a) (L.value b)) }
     ensures saturated { result.saturated ≡ saturates op M.mode L.width (L.value a) (L.value b) }
 {
     let number = exact::<L, M>(op, a, b);
@@ -72,7 +73,8 @@ fn small_product<L: Lane>(a: L, b: L) -> i64
 /// One element of the product of signed numbers, which has less than 64 bits.
 fn product<L: Lane, M: Rounding>(a: L, b: L) -> Saturated<L>
     requires { bits L.width < 64 }
-    ensures value { L.value result.value ≡ wrap L.width (fixed_point_formula Vsmul M.mode L.width (L.value a) (L.value b)) }
+    ensures value { L.value result.value
+        ≡ wrap L.width (fixed_point_formula Vsmul M.mode L.width (L.value a) (L.value b)) }
     ensures saturated { result.saturated ≡ saturates Vsmul M.mode L.width (L.value a) (L.value b) }
 {
     signed_result(signed_rounded::<M>(L::bits() - 1, small_product(a, b)))
@@ -80,7 +82,8 @@ fn product<L: Lane, M: Rounding>(a: L, b: L) -> Saturated<L>
 
 /// One element shifted right, with zeros for the upper bits.
 fn shifted<L: Lane, M: Rounding>(a: L, b: L) -> Saturated<L>
-    ensures value { L.value result.value ≡ wrap L.width (fixed_point_formula Vssrl M.mode L.width (L.value a) (L.value b)) }
+    ensures value { L.value result.value
+        ≡ wrap L.width (fixed_point_formula Vssrl M.mode L.width (L.value a) (L.value b)) }
     ensures saturated { result.saturated ≡ saturates Vssrl M.mode L.width (L.value a) (L.value b) }
 {
     Saturated {
@@ -91,7 +94,8 @@ fn shifted<L: Lane, M: Rounding>(a: L, b: L) -> Saturated<L>
 
 /// One element shifted right, with copies of its sign for the upper bits.
 fn signed_shifted<L: Lane, M: Rounding>(a: L, b: L) -> Saturated<L>
-    ensures value { L.value result.value ≡ wrap L.width (fixed_point_formula Vssra M.mode L.width (L.value a) (L.value b)) }
+    ensures value { L.value result.value
+        ≡ wrap L.width (fixed_point_formula Vssra M.mode L.width (L.value a) (L.value b)) }
     ensures saturated { result.saturated ≡ saturates Vssra M.mode L.width (L.value a) (L.value b) }
 {
     let number = signed_rounded::<M>(shift_amount::<L, L>(b), a.signed_number());
@@ -103,7 +107,8 @@ fn signed_shifted<L: Lane, M: Rounding>(a: L, b: L) -> Saturated<L>
 
 /// One element of the result.
 fn apply<L: Lane, M: Rounding>(op: FixedPointOp, a: L, b: L) -> Saturated<L>
-    ensures value { L.value result.value ≡ wrap L.width (fixed_point_formula op M.mode L.width (L.value a) (L.value b)) }
+    ensures value { L.value result.value
+        ≡ wrap L.width (fixed_point_formula op M.mode L.width (L.value a) (L.value b)) }
     ensures saturated { result.saturated ≡ saturates op M.mode L.width (L.value a) (L.value b) }
 {
     match op {
