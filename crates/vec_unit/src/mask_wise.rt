@@ -42,8 +42,7 @@ pub(crate) trait MaskWise {
             (bit self.now (record { width = L.width; emul = emul }) file.now scalar.now) mask.old mask.new };
 }
 
-/// Writes the bytes of a mask register, the result of an instruction. The next instruction begins with the first
-/// element.
+/// Writes the bytes of a mask register, the result. The next instruction begins with the first element.
 #[inline(always)]
 pub(crate) fn set_mask(mask: &[u8; VLENB], vd: VReg, state: &mut VState)
     ensures { (body : BodyOf) (bit : ℕ → Bool)

@@ -187,8 +187,7 @@ fn perform_access<M: UserBytes>(
     access_end(direction_of(access), end)
 }
 
-/// Carries out a vector load or store of a user, of at most `limit` indices, and answers how it ended: the same as
-/// `exec` of the instruction.
+/// Carries out a vector load or store of a user, of at most `limit` indices, and answers how it ended.
 #[tactic(auto, unfolding(rv_model::specs::step::VectorStep::vector_executed))]
 #[inline(always)]
 pub fn exec_access<M: UserBytes>(

@@ -33,8 +33,7 @@ const OPERATIONS: [WidenOp; 7] = [
     WidenOp::Vwmul,
 ];
 
-/// Writes the results of the operation with a number on the sources of another, in a loop that tests neither the
-/// operation nor, as it reads a copy, whether it is unmasked.
+/// Writes the results of the operation with a number on these sources: its loop asks for neither operation nor mask.
 fn write_one<D: Lane, O: Lane, const NUMBER: usize>(
     sources: &WidenOperation,
     destination: Destination,

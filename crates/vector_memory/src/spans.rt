@@ -114,8 +114,7 @@ impl<'a> Span<'a> {
         true
     }
 
-    /// Its bytes as a block that stands in the registers as it does in memory, where its elements are contiguous, of one
-    /// field, and none is masked off.
+    /// Its bytes as a block, where its elements are contiguous and those of one field, and none is masked off.
     #[inline(always)]
     fn block(&self) -> Option<Block>
         ensures value { IfSome result
