@@ -13,7 +13,7 @@ program = crates/vecmon/out/vecmon
 
 lab_files = README.md docs/INSTRUCTIONS.md lab/tests/vectors_on_qemu.py lab/tests/data/vectors_on_qemu.txt $(wildcard \
     lab/*.py lab/examples/* lab/exercises/*/* lab/page/* lab/tables/* tests/command_lines/data/tour.page tests/command_lines/data/tour/*)
-documents = CHANGELOG.md CONTRIBUTING.md crates.txt crates/monitor_script/src/script.rt $(wildcard docs/*.md docs/pictures/*)
+documents = CHANGELOG.md CONTRIBUTING.md crates.txt crates/monitor_script/src/script.rt $(wildcard docs/*.md docs/*.csv docs/pictures/*)
 copy = install -D -m 644
 link = ln -s -f -n --relative
 page = umask 022; packaging/manual_page $(1) $(2) $(3) docs/$(4) > "$(DESTDIR)$(mandir)/man$(2)/$(1).$(2)"
