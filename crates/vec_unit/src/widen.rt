@@ -33,7 +33,7 @@ const OPERATIONS: [WidenOp; 7] = [
     WidenOp::Vwmul,
 ];
 
-/// Writes the results of the operation with a number on these sources: its loop asks for neither operation nor mask.
+/// Writes the results of one operation on these sources: its loop tests neither which it is nor whether it is masked.
 fn write_one<D: Lane, O: Lane, const NUMBER: usize>(
     sources: &WidenOperation,
     destination: Destination,
