@@ -5,10 +5,10 @@
     tools/kinds.py time VECMON FILE                  nanoseconds an instruction, of QEMU and of VECMON in turn
     tools/kinds.py count VECMON FILE                 machine instructions an instruction, of VECMON
     tools/kinds.py draw FILE PICTURE                 the figures of FILE as an SVG
-    tools/kinds.py table FILE                        the times of FILE as a table of Markdown
+    tools/kinds.py table FILE                        the times of FILE as a table of Markdown, and what they come to
 
-FILE is a CSV, `docs/kinds.csv` say, with a line for each kind: an instruction, SEW and LMUL. `time` and `count` write their figures over those
-that stand there; with `--before` they go to the columns of an earlier program. `--only TEXT` measures the kinds alone whose instruction
+FILE is a CSV, `docs/kinds.csv` say, with a line for each kind: an instruction, SEW and LMUL. `time` and `count` write their figures over
+those that stand there; with `--before` they go to the columns of an earlier program. `--only TEXT` measures the kinds alone whose instruction
 has that text.
 
 A kind is a loop of 16 equal instructions, an addi and a branch, in an image that both programs run; the time of one turn is taken
@@ -247,6 +247,22 @@ def table(file: pathlib.Path) -> Iterator[str]:
         yield f"| `{text.format(sew='N', lmul='..')}` | " + " | ".join(cells) + " |"
 
 
+def ratios(file: pathlib.Path, column: str) -> dict[str, float]:
+    """QEMU's time over vecmon's of the kinds that take QEMU more than 5 ns, as those do that it carries out by a call."""
+    lines = [it for it in read(file).values() if it.get(column) and float(it["qemu_ns"]) > 5]
+    name = "{instruction}, e{sew}, {lmul}"
+    return {name.format(**it): float(it["qemu_ns"]) / float(it[column]) for it in lines}
+
+
+def summary(file: pathlib.Path) -> Iterator[str]:
+    """What the times come to, before and now."""
+    for column in ("ns_before", "ns"):
+        found = ratios(file, column)
+        if found:
+            mean, slow = statistics.geometric_mean(found.values()), sorted(it for it in found if found[it] < 0.5)
+            yield f"{column}: {len(found)} kinds, geometric mean {mean:.2f}, {len(slow)} below 0.5: " + "; ".join(slow)
+
+
 def draw(file: pathlib.Path, picture: pathlib.Path) -> None:
     """Draws QEMU's time over ours by kind, sorted, and the machine instructions before and after."""
     import matplotlib
@@ -255,7 +271,7 @@ def draw(file: pathlib.Path, picture: pathlib.Path) -> None:
     import matplotlib.pyplot as plt
 
     grey = "#767676"  # legible on white and on black
-    plt.rcParams.update({"svg.hashsalt": "kinds", "font.size": 8, "text.color": grey, "axes.labelcolor": grey})
+    plt.rcParams.update({"svg.hashsalt": "kinds", "svg.fonttype": "none", "font.size": 8, "text.color": grey, "axes.labelcolor": grey})
     plt.rcParams.update({"axes.edgecolor": grey, "xtick.color": grey, "ytick.color": grey})
     lines = [it for it in read(file).values() if it.get("qemu_ns") and float(it["qemu_ns"]) > 5]
     lines.sort(key=lambda it: float(it["qemu_ns"]) / float(it["ns"]))
@@ -295,7 +311,7 @@ def main() -> None:
     verbs.add_parser("table").add_argument("file", type=pathlib.Path)
     given = words.parse_args()
     if given.what == "table":
-        print("\n".join(table(given.file)))
+        print("\n".join([*table(given.file), "", *summary(given.file)]))
     elif given.what == "draw":
         draw(given.file, given.picture)
     else:
