@@ -208,7 +208,7 @@ fn access_registers<M: UserBytes, V: Vectors>(
     let seat = vectors.seat();
     seat.state.conf.length_law();
     let found = Found::new(&seat.state);
-    let ending = exec_access(access, &mut seat.state, scalar, memory, limit, policy);
+    let ending = exec_other_access(access, &mut seat.state, scalar, memory, limit, policy);
     let ticks = access_ticks(access, limit, found, &seat.state, ending);
     retire_vector(ending, ticks, word, scalar, seat, end)
 }
