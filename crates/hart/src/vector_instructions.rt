@@ -102,10 +102,9 @@ pub(crate) fn execute_irregular<M: UserBytes, V: Vectors>(
         *end = illegal(word, scalar);
         return 1;
     };
-    let policy = terms.policy;
     let seat = vectors.seat();
     seat.state.conf.length_law();
-    let ending = exec_operation(operation, &mut seat.state, scalar, policy);
+    let ending = exec_operation(operation, &mut seat.state, scalar, terms.policy);
     retire_vector(ending, 1, word, scalar, seat, end)
 }
 
@@ -131,10 +130,9 @@ pub(crate) fn execute_operation<M: UserBytes, V: Vectors>(
     let Some(operation) = decode_regular(word) else {
         return execute_irregular(word, scalar, memory, vectors, terms, end);
     };
-    let policy = terms.policy;
     let seat = vectors.seat();
     seat.state.conf.length_law();
-    let ending = exec_arith(operation, &mut seat.state, scalar, policy);
+    let ending = exec_arith(operation, &mut seat.state, scalar, terms.policy);
     retire_vector(ending, 1, word, scalar, seat, end)
 }
 
