@@ -1,7 +1,7 @@
 //! Instructions of the vector extension, on a vector state that is lent to them.
 #![tactic(auto, unfolding(rv_model::specs::step::Step::executed, rv_model::specs::step::Step::dirties))]
 
-ghost use Rattle.std.specs.Prelude.{◌≡◌, ◌||◌, ◌++◌, List, bit_and, ℕ};
+ghost use Rattle.std.specs.Prelude.{◌≡◌, ◌||◌, List, bit_and, ℕ};
 ghost use Rattle.rv_decode.specs.Irregular.{irregular, other_accesses};
 ghost use Rattle.rv_model.specs.declared.vector.policy.Policy.{Policy};
 ghost use Rattle.rv_model.specs.instructions.Table.{scan, table};
