@@ -8,6 +8,9 @@ use Rattle.rv_model.specs.declared.vector.state.VState.{VState}
 use Rattle.rv_model.specs.step.Hart.{HartState, Stepped, hart_state, ends_after}
 use Rattle.rv_model.specs.memory.Memory.{Memory}
 use Rattle.rv_model.specs.vector.Configuration.{IsConfiguration}
+use Rattle.rv_model.specs.instructions.Table.{scan, table}
+use Rattle.rv_model.specs.step.Step.{dirties, executed, touches}
+use Rattle.hart.specs.declared.view.StepTerms.{StepTerms}
 use Rattle.hart.specs.declared.view.View.{View}
 
 -- the state that a view shows, for any output buffer, by what its bytes and its lender of the vector state hold
@@ -70,3 +73,22 @@ abbrev pub Returns : {V : Type 0} → (V → Type 0) → (V → Seat) → (V →
 Returns ready lent back touched dirties before old new =
     LeavesSeat touched dirties before (lent old) (lent new) × (new ≡ (if touched then back old (lent new) else old))
     × ready new
+
+-- the state of these registers and bytes, and of the vector state that a lender has, for any output buffer
+abbrev lent_state : {M V : Type 0} → (M → Memory) → (V → Seat) → StepTerms → Scalar → M → V → List ℕ → HartState
+lent_state memory lent terms scalar bytes vectors =
+    hart_state scalar (lent vectors).state (memory bytes) terms.policy
+
+-- the instruction that a word is leads from these registers, bytes and lender to those, with this end and these ticks
+abbrev pub Executes : {M V : Type 0} → (M → Memory) → (V → Seat) → StepTerms → ℕ
+    → Scalar → M → V → Scalar → M → V → StepEnd → ℕ → Type 0
+Executes memory lent terms word scalar bytes vectors scalar' bytes' vectors' end ticks =
+    Leads (executed terms.limit (scan table word) word) (lent_state memory lent terms scalar bytes vectors)
+    (lent_state memory lent terms scalar' bytes' vectors') end ticks
+
+-- and this lender returns the seat that it may have been lent
+abbrev pub Seats : {M V : Type 0} → (M → Memory) → (V → Type 0) → (V → Seat) → (V → Seat → V) → StepTerms → ℕ
+    → Scalar → M → V → V → Type 0
+Seats memory ready lent back terms word scalar bytes vectors vectors' =
+    Returns ready lent back (touches (scan table word)) (dirties terms.limit (scan table word))
+    (lent_state memory lent terms scalar bytes vectors) vectors vectors'

@@ -1,16 +1,15 @@
 //! Instructions of the vector extension, on a vector state that is lent to them.
 #![tactic(auto, unfolding(rv_model::specs::step::Step::executed, rv_model::specs::step::Step::dirties))]
 
-ghost use Rattle.std.specs.Prelude.{◌≡◌, ◌||◌, ◌++◌, List, bit_and, ℕ};
+ghost use Rattle.std.specs.Prelude.{◌≡◌, ◌||◌, List, bit_and, ℕ};
 ghost use Rattle.rv_decode.specs.Irregular.{irregular, other_accesses};
 ghost use Rattle.rv_model.specs.declared.vector.policy.Policy.{Policy};
 ghost use Rattle.rv_model.specs.instructions.Table.{scan, table};
-ghost use Rattle.rv_model.specs.lending.Families.{rows, MaskMemories, Units, WholeLoads, WholeStores};
+ghost use Rattle.rv_model.specs.lending.Families.{rows, Units};
 ghost use Rattle.rv_model.specs.memory.Memory.{Memory};
 ghost use Rattle.rv_model.specs.step.Hart.{ends_after, hart_state};
-ghost use Rattle.rv_model.specs.step.Step.{dirties, executed, touches};
 ghost use Rattle.rv_model.specs.step.VectorStep.{access_cause, after_vector, is_legal_end};
-ghost use Rattle.hart.specs.States.{Leads, Returns};
+ghost use Rattle.hart.specs.States.{Executes, Seats};
 
 use crate::faults::{fault, illegal};
 use crate::retirement::retire;
@@ -93,22 +92,19 @@ pub(crate) fn execute_irregular<M: UserBytes, V: Vectors>(
     requires opcode { bit_and word 0x7f ≡ 0x57 }
     requires row { scan table word ≡ scan irregular word }
     requires end { end.old ≡ StepEnd.Ran }
-    ensures model { Leads (executed terms.limit (scan table word) word)
-        (hart_state scalar.old (V.lent vectors.old).state (M.memory memory.old) terms.policy)
-        (hart_state scalar.new (V.lent vectors.new).state (M.memory memory.new) terms.policy) end.new result }
+    ensures model { Executes M.memory V.lent terms word scalar.old memory.old vectors.old
+        scalar.new memory.new vectors.new end.new result }
     ensures memory { memory.new ≡ M.with_memory memory.old (M.memory memory.new) }
-    ensures vectors { Returns V.ready V.lent V.back (touches (scan table word)) (dirties terms.limit (scan table word))
-        (hart_state scalar.old (V.lent vectors.old).state (M.memory memory.old) terms.policy) vectors.old vectors.new }
+    ensures vectors { Seats M.memory V.ready V.lent V.back terms word scalar.old memory.old vectors.old vectors.new }
 {
     let decoded = decode_irregular(word);
     let Some(operation) = &decoded else {
         *end = illegal(word, scalar);
         return 1;
     };
-    let policy = terms.policy;
     let seat = vectors.seat();
     seat.state.conf.length_law();
-    let ending = exec_operation(operation, &mut seat.state, scalar, policy);
+    let ending = exec_operation(operation, &mut seat.state, scalar, terms.policy);
     retire_vector(ending, 1, word, scalar, seat, end)
 }
 
@@ -126,20 +122,17 @@ pub(crate) fn execute_operation<M: UserBytes, V: Vectors>(
     requires ready { V.ready vectors.old }
     requires opcode { bit_and word 0x7f ≡ 0x57 }
     requires end { end.old ≡ StepEnd.Ran }
-    ensures model { Leads (executed terms.limit (scan table word) word)
-        (hart_state scalar.old (V.lent vectors.old).state (M.memory memory.old) terms.policy)
-        (hart_state scalar.new (V.lent vectors.new).state (M.memory memory.new) terms.policy) end.new result }
+    ensures model { Executes M.memory V.lent terms word scalar.old memory.old vectors.old
+        scalar.new memory.new vectors.new end.new result }
     ensures memory { memory.new ≡ M.with_memory memory.old (M.memory memory.new) }
-    ensures vectors { Returns V.ready V.lent V.back (touches (scan table word)) (dirties terms.limit (scan table word))
-        (hart_state scalar.old (V.lent vectors.old).state (M.memory memory.old) terms.policy) vectors.old vectors.new }
+    ensures vectors { Seats M.memory V.ready V.lent V.back terms word scalar.old memory.old vectors.old vectors.new }
 {
     let Some(operation) = decode_regular(word) else {
         return execute_irregular(word, scalar, memory, vectors, terms, end);
     };
-    let policy = terms.policy;
     let seat = vectors.seat();
     seat.state.conf.length_law();
-    let ending = exec_arith(operation, &mut seat.state, scalar, policy);
+    let ending = exec_arith(operation, &mut seat.state, scalar, terms.policy);
     retire_vector(ending, 1, word, scalar, seat, end)
 }
 
@@ -157,12 +150,10 @@ pub(crate) fn execute_access<M: UserBytes, V: Vectors>(
     requires ready { V.ready vectors.old }
     requires row { scan table word ≡ scan (rows Units) word }
     requires end { end.old ≡ StepEnd.Ran }
-    ensures model { Leads (executed terms.limit (scan table word) word)
-        (hart_state scalar.old (V.lent vectors.old).state (M.memory memory.old) terms.policy)
-        (hart_state scalar.new (V.lent vectors.new).state (M.memory memory.new) terms.policy) end.new result }
+    ensures model { Executes M.memory V.lent terms word scalar.old memory.old vectors.old
+        scalar.new memory.new vectors.new end.new result }
     ensures memory { memory.new ≡ M.with_memory memory.old (M.memory memory.new) }
-    ensures vectors { Returns V.ready V.lent V.back (touches (scan table word)) (dirties terms.limit (scan table word))
-        (hart_state scalar.old (V.lent vectors.old).state (M.memory memory.old) terms.policy) vectors.old vectors.new }
+    ensures vectors { Seats M.memory V.ready V.lent V.back terms word scalar.old memory.old vectors.old vectors.new }
 {
     let decoded = decode_unit_stride(word);
     let Some(access) = &decoded else {
@@ -178,43 +169,8 @@ pub(crate) fn execute_access<M: UserBytes, V: Vectors>(
     retire_vector(ending, ticks, word, scalar, seat, end)
 }
 
-/// Loads or stores the whole registers or the mask that a word says. Writes how it ended over `Ran`, and answers how
-/// many ticks it took.
-#[inline(always)]
-fn access_registers<M: UserBytes, V: Vectors>(
-    word: u32,
-    scalar: &mut Scalar,
-    memory: &mut M,
-    vectors: &mut V,
-    terms: StepTerms,
-    end: &mut StepEnd,
-) -> usize
-    requires ready { V.ready vectors.old }
-    requires row { scan table word ≡ scan (rows WholeLoads ++ rows WholeStores ++ rows MaskMemories) word }
-    requires end { end.old ≡ StepEnd.Ran }
-    ensures model { Leads (executed terms.limit (scan table word) word)
-        (hart_state scalar.old (V.lent vectors.old).state (M.memory memory.old) terms.policy)
-        (hart_state scalar.new (V.lent vectors.new).state (M.memory memory.new) terms.policy) end.new result }
-    ensures memory { memory.new ≡ M.with_memory memory.old (M.memory memory.new) }
-    ensures vectors { Returns V.ready V.lent V.back (touches (scan table word)) (dirties terms.limit (scan table word))
-        (hart_state scalar.old (V.lent vectors.old).state (M.memory memory.old) terms.policy) vectors.old vectors.new }
-{
-    let decoded = decode_registers(word);
-    let Some(access) = &decoded else {
-        *end = illegal(word, scalar);
-        return 1;
-    };
-    let StepTerms { limit, policy } = terms;
-    let seat = vectors.seat();
-    seat.state.conf.length_law();
-    let found = Found::new(&seat.state);
-    let ending = exec_other_access(access, &mut seat.state, scalar, memory, limit, policy);
-    let ticks = access_ticks(access, limit, found, &seat.state, ending);
-    retire_vector(ending, ticks, word, scalar, seat, end)
-}
-
-/// Carries out the load or store that a word is which isn't of unit stride: one of whole registers or of a mask in
-/// line. Writes how it ended over `Ran`, and answers how many ticks it took.
+/// Carries out the load or store that a word is which isn't of unit stride. Writes how it ended over `Ran`, and answers
+/// how many ticks it took.
 #[inline(never)]
 pub(crate) fn execute_other_access<M: UserBytes, V: Vectors>(
     word: u32,
@@ -227,17 +183,16 @@ pub(crate) fn execute_other_access<M: UserBytes, V: Vectors>(
     requires ready { V.ready vectors.old }
     requires row { scan table word ≡ scan other_accesses word }
     requires end { end.old ≡ StepEnd.Ran }
-    ensures model { Leads (executed terms.limit (scan table word) word)
-        (hart_state scalar.old (V.lent vectors.old).state (M.memory memory.old) terms.policy)
-        (hart_state scalar.new (V.lent vectors.new).state (M.memory memory.new) terms.policy) end.new result }
+    ensures model { Executes M.memory V.lent terms word scalar.old memory.old vectors.old
+        scalar.new memory.new vectors.new end.new result }
     ensures memory { memory.new ≡ M.with_memory memory.old (M.memory memory.new) }
-    ensures vectors { Returns V.ready V.lent V.back (touches (scan table word)) (dirties terms.limit (scan table word))
-        (hart_state scalar.old (V.lent vectors.old).state (M.memory memory.old) terms.policy) vectors.old vectors.new }
+    ensures vectors { Seats M.memory V.ready V.lent V.back terms word scalar.old memory.old vectors.old vectors.new }
 {
-    if is_register_access(word) {
-        return access_registers(word, scalar, memory, vectors, terms, end);
-    }
-    let decoded = decode_strided_or_indexed(word);
+    let decoded = if is_register_access(word) {
+        decode_registers(word)
+    } else {
+        decode_strided_or_indexed(word)
+    };
     let Some(access) = &decoded else {
         *end = illegal(word, scalar);
         return 1;

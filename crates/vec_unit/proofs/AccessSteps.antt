@@ -1,7 +1,8 @@
 -- The step of a legal load or store, by its run and by what it fills.
 use Rattle.std.specs.Option.{option_and_then, option_map, option_map_or}
 use Rattle.std.specs.Prelude.{IfSome, Option, Some, None}
-use Rattle.std.proofs.Common.{ℕ, ◌+◌, ◌*◌, ◌≡◌, ◌≤◌, ◌&&◌, Bool, true, false, if◌then◌else◌, List, refl, sym, ap, subst, ◌∙◌}
+use Rattle.std.proofs.Common.{ℕ, ◌+◌, ◌*◌, ◌≡◌, ◌≤◌, ◌&&◌, Bool, true, false, if◌then◌else◌, List, not, refl, sym, ap, ap₂, subst, ◌∙◌, arith}
+use Rattle.std.proofs.lemmas.Grind.{common_steps}
 use Rattle.rv_model.specs.declared.instructions.instruction.Instr.TheVariants as instr
 use Rattle.rv_model.specs.declared.instructions.access.AccessInstr.{AccessInstr}
 use Rattle.rv_model.specs.declared.instructions.access.AccessInstr.TheVariants.{UnitStride, Strided, Indexed, WholeLoad, WholeStore, MaskAccess}
@@ -87,6 +88,23 @@ keeps i v = under v.conf.vtype
     under : (o : Option VType) → option_map_or (filled_under i Keep v) o nothing ≡ nothing
     under None = refl
     under (Some t) = refl
+
+-- nothing, where no element is masked off and there is no tail that is filled
+pub fills_nothing : (i : AccessInstr) (policy : Policy) (v : VState) → is_unmasked i ≡ true → ((t : VType) → tail_fields i t ≡ None)
+    → filled_by i policy v ≡ nothing
+fills_nothing i policy v unmasked tails = under v.conf.vtype
+  where
+    masked : (b c d : Bool) → d ≡ true → (b && (c && not d)) ≡ false
+    masked b c d h = grind (arith, common_steps, h)
+
+    none : (b : Bool) (o : Option Fields) → o ≡ None → (if b then o else None) ≡ None
+    none true o h = h
+    none false o h = refl
+
+    under : (o : Option VType) → option_map_or (filled_under i policy v) o nothing ≡ nothing
+    under None = refl
+    under (Some t) =
+        ap₂ (λ b o. record { masked_off = b; tails = o }) (masked _ _ (is_unmasked i) unmasked) (none _ _ (tails t))
 
 -- the access that an instruction is fills what is said by the instruction
 record Fills (i : AccessInstr) (s : HartState) (a : VectorAccess) : Type 0 where

@@ -11,6 +11,7 @@ ghost use Rattle.vec_unit.specs.MemoryInstructions.{
   filled_by,
   groups_of,
   is_unmasked,
+  nothing,
   tail_fields,
   with_filled,
 };
@@ -44,22 +45,22 @@ fn direction_of(access: &AccessInstr) -> Direction
 
 /// How the instruction ends whose access ends so.
 #[inline(always)]
-fn access_end(direction: Direction, end: MemEnd) -> VEnd
-    ensures { result ≡ access_end direction end }
+fn access_end(access: &AccessInstr, end: MemEnd) -> VEnd
+    ensures { result ≡ access_end (direction_of access.now) end }
 {
     match end {
         MemEnd::Done => VEnd::Done,
         MemEnd::Fault { addr, .. } => VEnd::Fault {
-            store: matches!(direction, Direction::Store),
+            store: matches!(direction_of(access), Direction::Store),
             addr,
         },
         MemEnd::Cut { index } => VEnd::Cut { index },
     }
 }
 
-/// Carries out a legal load or store under the policy that keeps agnostic elements, and answers how it ended.
+/// Carries out a legal load or store that fills nothing, and answers how it ended.
 #[inline(always)]
-fn perform_kept<M: UserBytes>(
+fn perform_unfilled<M: UserBytes>(
     access: &AccessInstr,
     state: &mut VState,
     scalar: &Scalar,
@@ -67,15 +68,15 @@ fn perform_kept<M: UserBytes>(
     limit: IndexLimit,
 ) -> VEnd
     requires legal { IsTrue (is_legal (Instr.Access access.now) state.old.conf.vtype state.old.vstart) }
-    ensures model { (output : List ℕ)
+    ensures model { (policy : Policy) (output : List ℕ) → filled_by access.now policy state.old ≡ nothing
         → performed limit.indices (Instr.Access access.now)
-        (hart_state scalar.now state.old (M.memory memory.old) Policy.Keep output)
-        ≡ vector_ends result (hart_state scalar.now state.new (M.memory memory.new) Policy.Keep output) }
+        (hart_state scalar.now state.old (M.memory memory.old) policy output)
+        ≡ vector_ends result (hart_state scalar.now state.new (M.memory memory.new) policy output) }
     ensures memory { memory.new ≡ M.with_memory memory.old (M.memory memory.new) }
     ensures carried_out { result ≢ VEnd.Illegal }
 {
     let end = vector_memory::run(access, state, scalar, memory, limit.indices, false);
-    access_end(direction_of(access), end)
+    access_end(access, end)
 }
 
 /// Whether no element of an access is masked off.
@@ -86,9 +87,7 @@ fn is_unmasked(access: &AccessInstr) -> bool
         AccessInstr::UnitStride { vm, .. } => vm,
         AccessInstr::Strided { vm, .. } => vm,
         AccessInstr::Indexed { vm, .. } => vm,
-        AccessInstr::WholeLoad { .. }
-        | AccessInstr::WholeStore { .. }
-        | AccessInstr::MaskAccess { .. } => true,
+        _ => true,
     }
 }
 
@@ -100,9 +99,7 @@ fn tail_fields(access: &AccessInstr, vtype: VType) -> Option<Fields>
         AccessInstr::UnitStride { width, nf, vd, .. } => (nf, vd, Sew::from_width(width)),
         AccessInstr::Strided { width, nf, vd, .. } => (nf, vd, Sew::from_width(width)),
         AccessInstr::Indexed { nf, vd, .. } => (nf, vd, vtype.sew),
-        AccessInstr::WholeLoad { .. }
-        | AccessInstr::WholeStore { .. }
-        | AccessInstr::MaskAccess { .. } => return None,
+        _ => return None,
     };
     Some(Fields {
         vd,
@@ -184,7 +181,7 @@ fn perform_access<M: UserBytes>(
     let (indices, masked_off) = (limit.indices, filled.masked_off);
     let end = vector_memory::run(access, state, scalar, memory, indices, masked_off);
     fill_when_done(filled.tails, length, end, &mut state.file);
-    access_end(direction_of(access), end)
+    access_end(access, end)
 }
 
 /// Carries out a vector load or store of a user, of at most `limit` indices, and answers how it ended.
@@ -216,7 +213,7 @@ pub fn exec_access<M: UserBytes>(
     }
     let limit = IndexLimit { indices: limit };
     match policy {
-        Policy::Keep => perform_kept(access, state, scalar, memory, limit),
+        Policy::Keep => perform_unfilled(access, state, scalar, memory, limit),
         Policy::Ones => {
             // A copy of its own for the other function, so that the operands need no place in memory before.
             let copy = *access;
@@ -225,7 +222,8 @@ pub fn exec_access<M: UserBytes>(
     }
 }
 
-/// The same, by one function for both policies: less in line, for the loads and stores that are seldom done at once.
+/// The same, with whole registers and masks in line, which fill nothing, and the other loads and stores, which are
+/// seldom done at once, by one function for both policies.
 #[tactic(auto, unfolding(rv_model::specs::step::VectorStep::vector_executed))]
 #[inline(always)]
 pub fn exec_other_access<M: UserBytes>(
@@ -249,5 +247,13 @@ pub fn exec_other_access<M: UserBytes>(
         return VEnd::Illegal;
     }
     let limit = IndexLimit { indices: limit };
-    perform_access(access, state, scalar, memory, limit, policy)
+    match *access {
+        AccessInstr::WholeLoad { .. }
+        | AccessInstr::WholeStore { .. }
+        | AccessInstr::MaskAccess { .. } => perform_unfilled(access, state, scalar, memory, limit),
+        _ => {
+            let copy = *access;
+            perform_access(&copy, state, scalar, memory, limit, policy)
+        }
+    }
 }

@@ -1,4 +1,4 @@
-use Rattle.std.proofs.Common.{sym}
+use Rattle.std.proofs.Common.{refl, sym}
 use Rattle.rv_model.specs.step.Hart.{hart_state}
 use Rattle.vec_unit.proofs.AccessSteps.{access_performed, tails_inside}
 use Rattle.vec_unit.proofs.memory_instructions.perform_access.Goals as goal
@@ -14,4 +14,4 @@ returns-clause-model g c = λ output.
     let s = hart_state c.args.scalar.now c.args.state.now (g.M.UserBytes.memory c.args.memory.now) c.args.policy output in
     access_performed c.args.limit.indices c.args.access.now s c.filled_by-filled.result c.run-end.result _ c.run-end.new.state
     (g.M.UserBytes.memory c.run-end.new.memory) c.fill_when_done.new.file _ _ c.requires.legal (sym c.filled_by-filled.ensures)
-    c.run-end.ensures.model (rw (← c.vl.ensures.value, ← c.from-length.ensures) c.fill_when_done.ensures) c.direction_of.ensures c.access_end.ensures
+    c.run-end.ensures.model (rw (← c.vl.ensures.value, ← c.from-length.ensures) c.fill_when_done.ensures) refl c.access_end.ensures
