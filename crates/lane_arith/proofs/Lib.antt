@@ -1,4 +1,5 @@
 pub mod ChunkWrites
+pub mod MagnitudesWithSigns
 pub mod MaskBits
 pub mod MaskBytes
 pub mod MaskWords

@@ -8,6 +8,10 @@ ghost use Rattle.rv_model.specs.vector.Configuration.{width_bytes};
 use crate::chunk::binary;
 use crate::lane::Lane;
 use crate::operand::operand_chunk;
+use crate::operation_loops::{
+    HighProduct, MixedHighProduct, Quotient, Remainder, SignedHighProduct, SignedQuotient,
+    SignedRemainder, write_all,
+};
 use crate::operations::apply;
 use crate::results::Results;
 use rv_model::instructions::operations::BinaryOp;
@@ -33,5 +37,20 @@ impl<'a, L: Lane> Results<L> for Binary<'a> {
         let a = operand_chunk::<L>(self.a, chunk)?;
         let b = operand_chunk::<L>(self.b, chunk)?;
         binary::<L>(self.op, a, b)
+    }
+
+    fn write_range(&self, start: usize, end: usize, destination: &mut [u8]) -> bool {
+        let (a, b) = (self.a, self.b);
+        match self.op {
+            BinaryOp::Vdivu => write_all::<L, Quotient>(a, b, start, end, destination),
+            BinaryOp::Vdiv => write_all::<L, SignedQuotient>(a, b, start, end, destination),
+            BinaryOp::Vremu => write_all::<L, Remainder>(a, b, start, end, destination),
+            BinaryOp::Vrem => write_all::<L, SignedRemainder>(a, b, start, end, destination),
+            BinaryOp::Vmulhu => write_all::<L, HighProduct>(a, b, start, end, destination),
+            BinaryOp::Vmulhsu => write_all::<L, MixedHighProduct>(a, b, start, end, destination),
+            BinaryOp::Vmulh => write_all::<L, SignedHighProduct>(a, b, start, end, destination),
+            _ => return false,
+        }
+        true
     }
 }

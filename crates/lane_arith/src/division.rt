@@ -1,5 +1,6 @@
 //! Quotients and remainders of elements ("V" Vector Extension 1.0, section 11.11): no division traps.
-ghost use Rattle.std.specs.Prelude.{◌≡◌, ◌%◌, ◌^◌, ◌<◌, int_div, int_rem};
+ghost use Rattle.std.specs.Prelude.{◌≡◌, ◌%◌, ◌^◌, ◌<◌, int_div, int_rem, pos, if◌then◌else◌};
+ghost use Rattle.std.proofs.Common.{neg_ℤ};
 ghost use Rattle.std.specs.Int.{cast_signed, cast_unsigned};
 ghost use Rattle.rv_model.specs.declared.instructions.operations.BinaryOp.TheVariants.{Vdiv, Vdivu, Vrem, Vremu};
 ghost use Rattle.rv_model.specs.elements.Formulas.{formula, wrap};
@@ -35,17 +36,27 @@ fn overflows<L: Lane>(a: L, b: L) -> bool
     a.number() == 1 << (L::bits() - 1) && b.number() == L::all_ones().number()
 }
 
-/// The signed quotient by a number that isn't zero, where it fits.
+/// A number by its sign and its magnitude, modulo 2 to the width.
+fn with_sign<L: Lane>(negative: bool, magnitude: u64) -> L
+    ensures { L.value result ≡ wrap L.width (if negative then neg_ℤ (pos magnitude) else pos magnitude) }
+{
+    L::low_bits(if negative {
+        magnitude.wrapping_neg()
+    } else {
+        magnitude
+    })
+}
+
+/// The signed quotient by a number that isn't zero, where it fits. It is made of magnitudes, since an unsigned division
+/// needs no more bits than its operands have.
 fn divided<L: Lane>(a: L, b: L) -> L
     requires { 0 < L.value b }
     ensures { L.value result ≡ cast_unsigned L.width (int_div (cast_signed L.width (L.value a)) (cast_signed L.width (L.value b)))
         % 2 ^ bits L.width }
 {
-    L::low_bits(
-        a.signed_number()
-            .wrapping_div(b.signed_number())
-            .cast_unsigned(),
-    )
+    let (dividend, divisor) = (a.signed_number(), b.signed_number());
+    let magnitude = dividend.unsigned_abs() / divisor.unsigned_abs();
+    with_sign((dividend < 0) != (divisor < 0), magnitude)
 }
 
 /// The signed quotient; all ones for a divisor of zero, and the dividend at an overflow.
@@ -67,11 +78,9 @@ fn left_over<L: Lane>(a: L, b: L) -> L
     ensures { L.value result ≡ cast_unsigned L.width (int_rem (cast_signed L.width (L.value a)) (cast_signed L.width (L.value b)))
         % 2 ^ bits L.width }
 {
-    L::low_bits(
-        a.signed_number()
-            .wrapping_rem(b.signed_number())
-            .cast_unsigned(),
-    )
+    let (dividend, divisor) = (a.signed_number(), b.signed_number());
+    let magnitude = dividend.unsigned_abs() % divisor.unsigned_abs();
+    with_sign(dividend < 0, magnitude)
 }
 
 /// The signed remainder; the dividend for a divisor of zero, and zero at an overflow.

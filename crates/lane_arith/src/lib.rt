@@ -17,6 +17,7 @@ mod mask_results;
 mod multiply_add;
 mod narrow_shift;
 mod operand;
+mod operation_loops;
 mod operations;
 mod results;
 mod whole_number;
