@@ -1,12 +1,10 @@
 -- Whole numbers modulo 2 to a width, by way of a wider number.
-use Rattle.std.proofs.Common.{ℕ, zero, suc, ◌+◌, ◌-◌, ◌*◌, ◌/◌, ◌%◌, ◌^◌, ◌<◌, ◌≤◌, ◌≡◌, ℤ, pos, negsuc, neg_ℤ, ◌+ℤ◌, inl, inr, refl, sym, ap, ◌∙◌, arith, mod-eq_of_lt, Bool, true, false, cond, nat_lt, lit≤}
-use Rattle.std.specs.Int.{Width, cast_signed, cast_unsigned, int_wrapping_div, w8, w16, w32, w64, w128}
-use Rattle.std.specs.Int.Signed.{mag, mag_rem}
-use Rattle.std.proofs.Math.Facts.{sfits_to_z}
-use Rattle.std.specs.Int.RustNames.{int_div, int_rem}
-use Rattle.std.proofs.Math.Nat.{add-mod, add-mul-mod_self_right, div-add-mod, div-le_self, div-lt_iff_lt-mul, mod-lt, mod-mod, mul-add, mul-add-mod_self_left, mul_comm, mul-le-mul_left, mul-suc}
+use Rattle.std.proofs.Common.{ℕ, suc, ◌+◌, ◌-◌, ◌*◌, ◌/◌, ◌%◌, ◌^◌, ◌<◌, ◌≤◌, ◌≡◌, ℤ, pos, negsuc, ◌+ℤ◌, inl, inr, refl, sym, ap, ◌∙◌, arith, mod-eq_of_lt, Bool, true, false, cond, nat_lt, lit≤}
+use Rattle.std.specs.Int.{Width, cast_signed, cast_unsigned, w8, w16, w32, w64, w128}
+use Rattle.std.specs.Int.Signed.{mag}
+use Rattle.std.proofs.Math.Nat.{add-mod, add-mul-mod_self_right, div-add-mod, div-lt_iff_lt-mul, mod-lt, mod-mod, mul-add, mul-add-mod_self_left, mul_comm, mul-le-mul_left, mul-suc}
 use Rattle.std.proofs.lemmas.Nat.{pow-add}
-use Rattle.std.proofs.lemmas.Int.{ints, of_z-to_z}
+use Rattle.std.proofs.lemmas.Int.{ints}
 use Rattle.std.proofs.lemmas.Bool.{cases_lt}
 use mir.Val.{bits, hbits}
 use Rattle.rv_model.specs.declared.vector.types.Sew.{Sew}
@@ -52,21 +50,7 @@ extends_sign E16 n h = extended n (2 ^ 16) h (lit≤ tt) (nat_lt n (2 ^ 15))
 extends_sign E32 n h = extended n (2 ^ 32) h (lit≤ tt) (nat_lt n (2 ^ 31))
 extends_sign E64 n h = extended n (2 ^ 64) h (lit≤ tt) (nat_lt n (2 ^ 63))
 
--- ---- quotients and remainders of signed numbers
-
-mag-neg : (r c : ℕ) → r ≤ suc c → mag (neg_ℤ (pos r)) ≤ c
-mag-neg zero c h = omega arith
-mag-neg (suc r) c h = omega (arith, h)
-
-mag-read : (w : Width) (n : ℕ) → n < 2 ^ bits w → mag (cast_signed w n) < 2 ^ hbits w
-mag-read w n h = (sfits_to_z {w = w} {n = n} (record { fits = h })).sfits
-
--- a quotient is no further from zero than the dividend
-mag-quotient : (a d : ℤ) → mag (int_div a d) ≤ suc (mag a)
-mag-quotient (pos a) (pos b) = omega (arith, div-le_self a b)
-mag-quotient (pos a) (negsuc b) = mag-neg (a / suc b) (suc a) (omega (arith, div-le_self a (suc b)))
-mag-quotient (negsuc a) (pos b) = mag-neg (suc a / b) (suc a) (omega (arith, div-le_self (suc a) b))
-mag-quotient (negsuc a) (negsuc b) = div-le_self (suc a) (suc b)
+-- ---- the two halves of what a width holds
 
 -- twice the positive half is the whole
 pub half : (w : Width) → 2 ^ hbits w + 2 ^ hbits w ≡ 2 ^ bits w
@@ -78,40 +62,6 @@ half w128 = refl
 
 pub half_positive : (w : Width) → 0 < 2 ^ hbits w
 half_positive w = omega (arith, half w, power_positive w)
-
-power_below : (w : Width) → bits w ≤ 64 → 2 ^ bits w ≤ 2 ^ 64
-power_below w8 h = omega arith
-power_below w16 h = omega arith
-power_below w32 h = omega arith
-power_below w64 h = omega arith
-power_below w128 h = absurd (omega (arith, h))
-
--- the low bits of a number of 64 bits are those of a number of the width, where that has the same value
-low_bits_same : (w : Width) → bits w ≤ 64 → (z : ℤ) → mag z < 2 ^ bits w → cast_unsigned w64 z % 2 ^ bits w ≡ cast_unsigned w z % 2 ^ bits w
-low_bits_same w narrow z h =
-    low_bits_of w64 w narrow z (omega (arith, h, power_below w narrow)) ∙ sym (low_bits_of w w (omega arith) z h)
-
-unsigned_below : (z : ℤ) → mag z < 2 ^ 64 → cast_unsigned w64 z < 2 ^ 64
-unsigned_below (pos n) h = h
-unsigned_below (negsuc n) h = omega (arith, h)
-
--- the quotient may be the only one that 64 bits don't hold, and is then wrapped
-pub low_quotient : (w : Width) → bits w ≤ 64 → (a b : ℕ) → a < 2 ^ bits w
-    → cast_unsigned w64 (int_wrapping_div w64 (cast_signed w a) (cast_signed w b)) % 2 ^ bits w
-    ≡ cast_unsigned w (int_div (cast_signed w a) (cast_signed w b)) % 2 ^ bits w
-low_quotient w narrow a b h =
-    let x = cast_signed w a in
-    let z = int_div x (cast_signed w b) in
-    let inside : mag z < 2 ^ bits w = omega (arith, mag-quotient x (cast_signed w b), mag-read w a h, half w, half_positive w) in
-    let below : cast_unsigned w64 z < 2 ^ 64 = unsigned_below z (omega (arith, inside, power_below w narrow)) in
-    ap (λ n. n % 2 ^ bits w) (of_z-to_z w64 (cast_unsigned w64 z) below) ∙ low_bits_same w narrow z inside
-
-pub low_remainder : (w : Width) → bits w ≤ 64 → (a b : ℕ) → a < 2 ^ bits w
-    → cast_unsigned w64 (int_rem (cast_signed w a) (cast_signed w b)) % 2 ^ bits w ≡ cast_unsigned w (int_rem (cast_signed w a) (cast_signed w b)) % 2 ^ bits w
-low_remainder w narrow a b h =
-    let x = cast_signed w a in
-    low_bits_same w narrow (int_rem x (cast_signed w b))
-    (omega (arith, mag_rem x (cast_signed w b), mag-read w a h, half w, half_positive w))
 
 -- ---- numbers of 128 bits
 
