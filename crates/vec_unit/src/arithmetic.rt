@@ -78,7 +78,7 @@ fn perform_two_widths(
     }
 }
 
-/// Carries out a legal operation with a line of its own in the manual's table, but for one of one width on two operands.
+/// Carries out a legal operation with a line of its own in the manual's table, but one of one width on two operands.
 #[tactic(auto, using(crate::proofs::LegalGroups::operation_groups))]
 #[inline(never)]
 fn perform_rest(
