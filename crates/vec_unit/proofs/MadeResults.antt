@@ -1,5 +1,5 @@
 -- Results that are made on a copy of the destination.
-use Rattle.std.proofs.Common.{ℕ, ◌*◌, ◌<◌, ◌≤◌, ◌≡◌, ◌∙◌, List, length, Bool, true, false, cond, ◌&&◌, ◌||◌, nat_le, nat_lt, refl, ap, sym, min, arith, inl, inr}
+use Rattle.std.proofs.Common.{ℕ, ◌*◌, ◌<◌, ◌≡◌, ◌∙◌, List, length, Bool, true, false, cond, ◌&&◌, ◌||◌, nat_le, refl, ap, sym, min, arith, inl, inr}
 use Rattle.std.proofs.lemmas.Bool.{cases_lt}
 use Rattle.std.proofs.lemmas.Bool.Decides.{nat_tests}
 use Rattle.std.proofs.Math.Nat.{lt_of_mul-lt-mul_left, mul_assoc}

@@ -1,4 +1,4 @@
-use Rattle.std.proofs.Common.{◌*◌, arith, refl}
+use Rattle.std.proofs.Common.{arith, refl}
 use Rattle.rv_model.specs.elements.Formulas.{ones}
 use Rattle.rv_model.specs.vector.Configuration.{width_bytes}
 use Rattle.rv_model.specs.vector.Registers.{registers}
