@@ -6,6 +6,7 @@ use Rattle.rv_model.specs.elements.Formulas.{carry_formula, wrap}
 use Rattle.rv_model.specs.vector.Registers.{register_of}
 use Rattle.rv_model.proofs.element_lemmas.Arithmetic.{results_same}
 use Rattle.vec_unit.proofs.CopiedOperands.{three_operands}
+use Rattle.vec_unit.specs.declared.operands.SecondOperand.{SecondOperand}
 use Rattle.vec_unit.proofs.mask_operand.CarryOperationElementWise.write.Goals as goal
 
 pub returns : goal.returns
@@ -22,5 +23,6 @@ returns g c =
     c.group_copy-a.result.now c.second_copy-b.result.now file o.vs2
     c.args.body.now.end (second_element t false o.source file x)
     (mask_bit c.mask.result.now) (mask_bit (register_of file 0)) c.group_copy-a.ensures.value
-    (λ i h. c.second_copy-b.ensures.elements i (omega (arith, h, c.end.ensures)))
+    (λ i h. c.second_copy-b.ensures.elements i (omega (arith, h, c.end.ensures))
+    ∙ ap (λ (s : SecondOperand). second_element (record { width = t.width; emul = s.emul }) s.unsigned s.source file x i) c.signed-operand.ensures)
     (λ i. ap (λ bytes. mask_bit bytes i) (c.mask.ensures ∙ c.requires.mask)))

@@ -5,6 +5,7 @@ use Rattle.rv_model.specs.elements.Elements.{element}
 use Rattle.rv_model.specs.elements.Formulas.{multiply_add_formula, wrap}
 use Rattle.rv_model.proofs.element_lemmas.Arithmetic.{results_same}
 use Rattle.vec_unit.proofs.CopiedOperands.{three_operands}
+use Rattle.vec_unit.specs.declared.operands.SecondOperand.{SecondOperand}
 use Rattle.vec_unit.proofs.multiply_add.MultiplyAddOperationElementWise.write.Goals as goal
 
 pub returns : goal.returns
@@ -21,5 +22,6 @@ returns g c =
     c.group_copy-a.result.now c.second_copy-b.result.now file o.vs2
     c.args.body.now.end (second_element t false o.source file x)
     (λ i. element (width_bytes t.width) c.group_copy-d.result.now i) (group_element t file o.vd) c.group_copy-a.ensures.value
-    (λ i h. c.second_copy-b.ensures.elements i (omega (arith, h, c.end.ensures)))
+    (λ i h. c.second_copy-b.ensures.elements i (omega (arith, h, c.end.ensures))
+    ∙ ap (λ (s : SecondOperand). second_element (record { width = t.width; emul = s.emul }) s.unsigned s.source file x i) c.signed-operand.ensures)
     (λ i. ap (λ bytes. element (width_bytes t.width) bytes i) c.group_copy-d.ensures.value))
