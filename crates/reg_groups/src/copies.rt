@@ -2,7 +2,7 @@
 ghost use Rattle.std.specs.Prelude.{◌≡◌, ◌+◌, ◌*◌, ◌≤◌, length};
 ghost use Rattle.rv_model.specs.vector.Registers.{group_of, register_of, registers, with_group};
 
-use crate::groups::{group, group_mut};
+use crate::groups::{group, group_mut, registers};
 use rv_model::{GROUP_BYTES, VECTOR_REGISTERS, VFile, VLENB, VReg};
 
 /// A copy of the bytes of a register.
@@ -62,9 +62,8 @@ pub fn group_copy_mut<'a>(
     ensures value { result.now ≡ group_of file.now first emul }
     ensures len { length result.now ≡ VLENB * registers emul }
 {
-    let bytes = group(file, first, emul);
-    let copied = &mut copy[..bytes.len()];
-    copy_bytes(bytes, copied);
+    let copied = &mut copy[..VLENB * registers(emul) as usize];
+    copy_bytes(group(file, first, emul), copied);
     copied
 }
 
@@ -80,7 +79,10 @@ pub fn group_copy<'a>(
     ensures value { result.now ≡ group_of file.now first emul }
     ensures len { length result.now ≡ VLENB * registers emul }
 {
-    group_copy_mut(file, first, emul, copy)
+    let bytes = group(file, first, emul);
+    let copied = &mut copy[..bytes.len()];
+    copied.copy_from_slice(bytes);
+    copied
 }
 
 /// Puts a copy of a group in its place.

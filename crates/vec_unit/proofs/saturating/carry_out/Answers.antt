@@ -1,9 +1,10 @@
-use Rattle.std.proofs.Common.{◌∙◌, ◌||◌, ℕ, Bool, List, ap}
+use Rattle.std.proofs.Common.{◌∙◌, ◌≡◌, ◌||◌, ℕ, Bool, List, ap}
 use Rattle.rv_model.specs.elements.Arithmetic.{body_of, fills_masked_off, fills_tail, with_results}
 use Rattle.rv_model.specs.elements.Elements.{Body, some_active}
 use Rattle.rv_model.specs.vector.Configuration.{GroupType}
 use Rattle.vec_unit.proofs.MadeResults.{made_results}
 use Rattle.vec_unit.specs.declared.destination.Agnostic.{Agnostic}
+use Rattle.vec_unit.proofs.saturating.carry_out.Goals.{then-state, else-state}
 use Rattle.vec_unit.proofs.saturating.carry_out.Goals as goal
 
 pub returns : goal.returns
@@ -23,10 +24,14 @@ returns g c =
     c.agnostic_under-agnostic.ensures
     ∙ ap (λ (b : Body). with_results t target.vd b (fills_masked_off target.policy target.vtype b)
     (fills_tail target.policy target.vtype b) number state.file) c.body_under-body.ensures in
-    ap (λ (file : List ℕ). record state { file = file; vxsat = state.vxsat || c.write-saturated.result; vstart = 0 }) file
+    let either : c.if-state.state ≡ (state.vxsat || c.write-saturated.result) = elim c.if-state.branch [
+      | then-state w ↦ rw w.if-state.true (w.state-is ∙ w.if-state.true)
+      | else-state w ↦ rw w.if-state.false w.state-is
+    ] in
+    ap (λ (file : List ℕ). record state { file = file; vxsat = c.if-state.state; vstart = 0 }) file
     ∙ ap (λ (some : Bool). record state {
       file = with_results t target.vd (body_of target.unmasked state) (fills_masked_off target.policy target.vtype (body_of target.unmasked state))
           (fills_tail target.policy target.vtype (body_of target.unmasked state)) number state.file;
-      vxsat = state.vxsat || some;
+      vxsat = some;
       vstart = 0;
-    }) flag
+    }) (either ∙ ap (λ s. state.vxsat || s) flag)

@@ -20,7 +20,7 @@ returns-clause-writes g c =
     c.group.result.now c.second_in_place.result.now file o.vs2
     c.args.body.now.end (second_element t (has_unsigned_shift o.op) o.source file x) c.group.ensures.value
     (λ i h. c.second_in_place.ensures.elements i (omega (arith, h, c.end.ensures))
-    ∙ ap (λ u. second_element t u o.source file x i) c.has_unsigned_shift-unsigned.ensures))
+    ∙ ap (λ u. second_element t u o.source file x i) c.has_unsigned_shift.ensures))
     c.write_saturating_results.ensures.writes
 
 pub returns-clause-saturated : goal.returns-clause-saturated
@@ -35,4 +35,4 @@ returns-clause-saturated g c =
     (two_operands t t (saturates o.op o.mode t.width) c.group.result.now c.second_in_place.result.now file o.vs2
     c.args.body.now.end (second_element t (has_unsigned_shift o.op) o.source file x) c.group.ensures.value
     (λ i h. c.second_in_place.ensures.elements i (omega (arith, h, c.end.ensures))
-    ∙ ap (λ u. second_element t u o.source file x i) c.has_unsigned_shift-unsigned.ensures))
+    ∙ ap (λ u. second_element t u o.source file x i) c.has_unsigned_shift.ensures))
