@@ -2,7 +2,8 @@
 //! 11.12 and 11.14).
 ghost use Rattle.std.specs.Prelude.{◌≡◌, ◌*◌, ◌≤◌, List, length, ℕ};
 ghost use Rattle.rv_model.specs.declared.scalar.Scalar.{Scalar as ScalarRegisters};
-ghost use Rattle.rv_model.specs.vector.Configuration.{GroupType, group_type, lmul_eighths, sew_bits, vlmax, width_bytes};
+ghost use Rattle.rv_model.specs.vector.Configuration.{GroupType, group_type, lmul_eighths, sew_bits, vlmax};
+ghost use Rattle.rv_model.specs.vector.Configuration.{width_bytes};
 ghost use Rattle.rv_model.specs.vector.Groups.{wide_type};
 ghost use Rattle.rv_model.specs.lending.GroupBounds.{HasRoom, IsInside};
 ghost use Rattle.rv_model.specs.vector.Registers.{register_of, registers};
