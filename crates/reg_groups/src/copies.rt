@@ -1,8 +1,8 @@
 //! Registers and groups, copied: a destination may overlap them ("V" Vector Extension 1.0, sections 5.2 and 5.3).
 ghost use Rattle.std.specs.Prelude.{◌≡◌, ◌+◌, ◌*◌, ◌≤◌, length};
-ghost use Rattle.rv_model.specs.vector.Registers.{group_of, register_of, registers};
+ghost use Rattle.rv_model.specs.vector.Registers.{group_of, register_of, registers, with_group};
 
-use crate::groups::group;
+use crate::groups::{group, group_mut, registers};
 use rv_model::{GROUP_BYTES, VECTOR_REGISTERS, VFile, VLENB, VReg};
 
 /// A copy of the bytes of a register.
@@ -21,7 +21,53 @@ pub fn mask_register(file: &VFile) -> [u8; VLENB]
     register_copy(file, VReg::new(0))
 }
 
-/// A copy of the bytes of a group; `emul` is its multiplier in eighths of a register.
+/// The bytes of two registers.
+const TWO_REGISTERS: usize = 2 * VLENB;
+
+/// Copies `N` bytes, in line.
+#[inline(always)]
+fn copy_known<const N: usize>(from: &[u8], to: &mut [u8])
+    requires from { length from.now ≡ N }
+    requires to { length to.old ≡ N }
+    ensures { to.new ≡ from.now }
+{
+    to[..N].copy_from_slice(&from[..N]);
+}
+
+/// Copies the bytes of a group; those of one register or two in line.
+#[inline(always)]
+fn copy_bytes(from: &[u8], to: &mut [u8])
+    requires length { length from.now ≡ length to.old }
+    ensures { to.new ≡ from.now }
+{
+    if from.len() == VLENB {
+        copy_known::<VLENB>(from, to);
+    } else if from.len() == TWO_REGISTERS {
+        copy_known::<TWO_REGISTERS>(from, to);
+    } else {
+        to.copy_from_slice(from);
+    }
+}
+
+/// A copy of the bytes of a group, to be written to; `emul` is its multiplier in eighths of a register.
+#[inline(always)]
+pub fn group_copy_mut<'a>(
+    file: &VFile,
+    first: VReg,
+    emul: u32,
+    copy: &'a mut [u8; GROUP_BYTES],
+) -> &'a mut [u8]
+    requires inside { first + registers emul ≤ VECTOR_REGISTERS }
+    requires most { emul ≤ 64 }
+    ensures value { result.now ≡ group_of file.now first emul }
+    ensures len { length result.now ≡ VLENB * registers emul }
+{
+    let copied = &mut copy[..VLENB * registers(emul) as usize];
+    copy_bytes(group(file, first, emul), copied);
+    copied
+}
+
+/// A copy of the bytes of a group.
 pub fn group_copy<'a>(
     file: &VFile,
     first: VReg,
@@ -37,4 +83,14 @@ pub fn group_copy<'a>(
     let copied = &mut copy[..bytes.len()];
     copied.copy_from_slice(bytes);
     copied
+}
+
+/// Puts a copy of a group in its place.
+#[inline(always)]
+pub fn put_group(file: &mut VFile, first: VReg, emul: u32, bytes: &[u8])
+    requires inside { first + registers emul ≤ VECTOR_REGISTERS }
+    requires length { length bytes.now ≡ VLENB * registers emul }
+    ensures { file.new ≡ with_group file.old first bytes.now }
+{
+    copy_bytes(bytes, group_mut(file, first, emul));
 }

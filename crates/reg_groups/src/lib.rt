@@ -8,7 +8,7 @@ mod legality;
 mod operands;
 mod shapes;
 
-pub use copies::{group_copy, mask_register, register_copy};
+pub use copies::{group_copy, group_copy_mut, mask_register, put_group, register_copy};
 pub use groups::{group, group_mut, registers};
 pub use legality::{legal, legal_access, legal_arith};
 pub use operands::{emul, extension_divisor, register_count};

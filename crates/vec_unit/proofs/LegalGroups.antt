@@ -39,14 +39,14 @@ pub ruleset mask_groups = (length_below, iota_inside)
 -- operands of one width, whose results stand in a mask
 pub ruleset compared_groups = (length_fits, length_below, multiplier_fits)
 
--- a destination of twice the width
-pub ruleset wide_groups = (wide_groups_hold_body, groups_have_room)
+-- a destination or a source of twice the width
+pub ruleset wide_groups = (wide_groups_have_room, groups_have_room, length_below)
 
 -- a source of twice the width
 pub ruleset narrow_groups = (groups_hold_body, wide_groups_have_room)
 
 -- a source of a part of the width
-pub ruleset extended_groups = (groups_hold_body, part_groups_have_room)
+pub ruleset extended_groups = (groups_have_room, part_groups_have_room, length_below)
 
 -- a source whose elements come to one
 pub ruleset reduced_groups = (groups_have_room, length_below)

@@ -1,3 +1,4 @@
+pub mod Agnostic
 pub mod Arithmetic
 pub mod InTurn
 pub mod MemoryInstructions

@@ -4,19 +4,19 @@ ghost use Rattle.rv_model.specs.elements.Arithmetic.{body_of, clip_result, clip_
 ghost use Rattle.rv_model.specs.vector.Configuration.{group_type, lmul_eighths, sew_bits};
 ghost use Rattle.rv_model.specs.vector.Groups.{wide_type};
 ghost use Rattle.rv_model.specs.elements.Elements.{some_active};
-ghost use Rattle.rv_model.specs.lending.GroupBounds.{HasRoom, HoldsBody, IsInside, SourceIsInside};
-ghost use Rattle.vec_unit.specs.Results.{carried_out, with_written};
+ghost use Rattle.rv_model.specs.lending.GroupBounds.{IsInside, SourceIsInside};
+ghost use Rattle.vec_unit.specs.Results.{carried_out};
 
-use crate::body::body_under;
-use crate::destination::{Destination, Target, agnostic_under};
-use crate::operands::{SecondOperand, second_copy};
-use crate::saturating::write_saturating_group;
+use crate::destination::Target;
+use crate::operands::{SecondOperand, second_in_place};
+use crate::saturating::{Saturating, carry_out};
+use crate::two_widths::Groups;
 use crate::typed_operation::TypedOperation;
 use lane_arith::{Body, Lane};
-use lane_fixed::Clip;
-use reg_groups::{group_copy, mask_register, registers};
+use lane_fixed::{Clip, write_saturating_results};
+use reg_groups::group;
 use rv_model::instructions::operations::ClipOp;
-use rv_model::{GROUP_BYTES, RoundingMode, Scalar, Sew, Source, VFile, VLENB, VReg, VState};
+use rv_model::{GROUP_BYTES, RoundingMode, Scalar, Sew, Source, VFile, VReg, VState};
 use std::marker::PhantomData;
 
 /// A clip, how it rounds, and its sources.
@@ -28,46 +28,35 @@ pub(crate) struct ClipOperation {
     pub source: Source,
 }
 
-impl ClipOperation {
-    /// Writes the results to a destination of elements of the width of `N`, and says whether an active element
-    /// saturates; `W` is twice that width, and `wide` the multiplier of the groups of `vs2`.
-    fn write<N: Lane, W: Lane>(
+impl Saturating for ClipOperation {
+    ghost number = { λ o narrow wide file x. clip_result narrow wide o.mode o.op o.vs2 o.source file x };
+
+    ghost saturates = { λ o narrow wide file x. clip_saturates_at narrow wide o.mode o.op o.vs2 o.source file x };
+
+    ghost inside = { λ o narrow wide. IsInside o.vs2 wide × SourceIsInside o.source narrow };
+
+    fn write<D: Lane, O: Lane>(
         &self,
-        destination: Destination,
-        wide: u32,
+        groups: Groups,
         body: &Body<'_>,
-        file: &mut VFile,
+        file: &VFile,
         scalar: &Scalar,
-    ) -> bool
-        requires first { IsInside self.now.vs2 wide }
-        requires second { SourceIsInside self.now.source destination.emul }
-        requires holds { HoldsBody N.width destination.emul destination.count body.now.end }
-        requires room { HasRoom W.width wide body.now.end }
-        ensures file { file.new ≡ with_written N.width destination body.now
-            (clip_result (record { width = N.width; emul = destination.emul }) (record { width = W.width; emul = wide })
-            self.now.mode self.now.op self.now.vs2 self.now.source file.old scalar.now) file.old }
-        ensures saturated { result ≡ some_active body.now
-            (clip_saturates_at (record { width = N.width; emul = destination.emul })
-            (record { width = W.width; emul = wide }) self.now.mode self.now.op self.now.vs2 self.now.source file.old
-            scalar.now) }
-    {
-        let (mut first, mut second) = ([0; GROUP_BYTES], [0; GROUP_BYTES]);
-        let emul = destination.emul;
-        let a = group_copy(file, self.vs2, wide, &mut first);
+        made: &mut [u8],
+    ) -> bool {
+        let mut copies = [0; GROUP_BYTES];
         let operand = SecondOperand {
             source: self.source,
             unsigned: true,
-            emul,
+            emul: groups.emul,
         };
-        let b = second_copy::<N>(operand, body.end(), file, scalar, &mut second);
-        let results = Clip::<'_, W> {
+        let results = Clip::<'_, O> {
             op: self.op,
             mode: self.mode,
-            a,
-            b,
+            a: group(file, self.vs2, groups.other),
+            b: second_in_place::<D>(operand, body.end(), file, scalar, &mut copies),
             element: PhantomData,
         };
-        write_saturating_group::<N, Clip<'_, W>>(&results, destination, body, file)
+        write_saturating_results::<D, Clip<'_, O>>(&results, body, made, false)
     }
 }
 
@@ -84,33 +73,17 @@ impl TypedOperation for ClipOperation {
               state.file x);
         } };
 
-    /// To the width of the vector type; sets `vxsat` where an active element saturates.
-    #[tactic(auto, using(crate::proofs::LegalGroups::narrow_groups))]
+    /// To the width of the vector type.
+    #[tactic(auto, using(crate::proofs::LegalGroups::wide_groups))]
     fn carry_out(&self, target: Target, state: &mut VState, scalar: &Scalar) {
-        let mask = mask_register(&state.file);
-        let body = body_under(target.unmasked, &mask, state);
         let emul = u32::from(target.vtype.lmul.eighths());
-        let wide = 2 * emul;
-        let length = VLENB * registers(emul) as usize;
-        let agnostic = agnostic_under(target.policy, target.vtype, &body);
-        let file = &mut state.file;
-        let destination = |count|
-            requires { IsInside target.vd emul }
-        {
-            Destination {
-                vd: target.vd,
-                emul,
-                count,
-                agnostic,
-            }
-        };
-        let saturated = match target.vtype.sew {
-            Sew::E8 => self.write::<u8, u16>(destination(length), wide, &body, file, scalar),
-            Sew::E16 => self.write::<u16, u32>(destination(length / 2), wide, &body, file, scalar),
-            Sew::E32 => self.write::<u32, u64>(destination(length / 4), wide, &body, file, scalar),
+        let other = 2 * emul;
+        let groups = Groups { emul, other };
+        match target.vtype.sew {
+            Sew::E8 => carry_out::<u8, u16, ClipOperation>(self, groups, target, state, scalar),
+            Sew::E16 => carry_out::<u16, u32, ClipOperation>(self, groups, target, state, scalar),
+            Sew::E32 => carry_out::<u32, u64, ClipOperation>(self, groups, target, state, scalar),
             Sew::E64 => unreachable!(),
-        };
-        state.vxsat = state.vxsat || saturated;
-        state.vstart = 0;
+        }
     }
 }

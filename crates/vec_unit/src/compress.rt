@@ -14,7 +14,7 @@ use crate::body::body_under;
 use crate::destination::{Destination, agnostic_under};
 use lane_arith::{Lane, fill};
 use lane_permute::compress;
-use reg_groups::{group_copy, group_mut, mask_register, register_copy, registers};
+use reg_groups::{group_copy_mut, group_mut, mask_register, register_copy, registers};
 use rv_model::{GROUP_BYTES, Policy, Sew, VFile, VLENB, VReg, VState, VType};
 
 /// Packs elements into the bytes of a destination of `count` elements, and fills its tail. The elements
@@ -61,7 +61,7 @@ impl CompressOperation {
             (group_element (record { width = L.width; emul = destination.emul }) file.old self.now.vs2) end) file.old }
     {
         let mut copy = [0; GROUP_BYTES];
-        let a = group_copy(file, self.vs2, destination.emul, &mut copy);
+        let a: &[u8] = group_copy_mut(file, self.vs2, destination.emul, &mut copy);
         let select = register_copy(file, self.vs1);
         let group = group_mut(file, destination.vd, destination.emul);
         let fill_tail = destination.agnostic.fill_tail;

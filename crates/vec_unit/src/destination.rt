@@ -1,16 +1,18 @@
 //! The destination of an element-wise instruction: lent to a kernel, and then filled ("V" Vector Extension
 //! 1.0, sections 3.4.3, 5.3 and 5.4).
-ghost use Rattle.std.specs.Prelude.{◌≡◌, ◌*◌, ◌<◌, ◌≤◌, ℕ, false, length, true};
+ghost use Rattle.std.specs.Prelude.{◌≡◌, ◌*◌, ◌<◌, ◌≤◌, ℕ, false, if◌then◌else◌, length, true};
 ghost use Rattle.rv_model.specs.elements.Arithmetic.{fills_masked_off, fills_tail, with_results};
 ghost use Rattle.rv_model.specs.elements.Elements.{is_changed, result_or_ones};
 ghost use Rattle.rv_model.specs.elements.Formulas.{ones};
 ghost use Rattle.rv_model.specs.lending.Writes.{Writes};
 ghost use Rattle.rv_model.specs.lending.GroupBounds.{HoldsBody, IsInside};
 ghost use Rattle.rv_model.specs.vector.Configuration.{width_bytes};
+ghost use Rattle.rv_model.specs.vector.Registers.{registers};
+ghost use Rattle.vec_unit.specs.Agnostic.{is_agnostic};
 
 use lane_arith::{Body, Lane, Results, fill, write_results};
-use reg_groups::group_mut;
-use rv_model::{GROUP_BYTES, Policy, VFile, VReg, VType};
+use reg_groups::{group_mut, registers};
+use rv_model::{GROUP_BYTES, Policy, VFile, VLENB, VReg, VType};
 
 /// What an instruction writes, whether it is unmasked, and the type and the policy under which it is carried
 /// out.
@@ -111,6 +113,36 @@ impl Destination {
             agnostic: self.agnostic,
         }
     }
+}
+
+/// Where elements are filled from or up to: the end of the body, unless its flag is set.
+#[inline(always)]
+fn bound(is_filled: bool, filled: usize, end: usize) -> usize
+    ensures { result ≡ (if is_filled then filled else end) }
+{
+    if is_filled { filled } else { end }
+}
+
+/// Fills the agnostic elements of a group: those of the body, if they are, before results are written to the active
+/// ones, and those of the tail.
+#[inline(always)]
+pub(crate) fn fill_agnostic<L: Lane>(
+    agnostic: Agnostic,
+    emul: u32,
+    body: &Body<'_>,
+    group: &mut [u8],
+)
+    requires most { emul ≤ 64 }
+    requires whole { length group.old ≡ VLENB * registers emul }
+    requires room { width_bytes L.width * body.now.end ≤ VLENB * registers emul }
+    requires least { body.now.end ≤ GROUP_BYTES }
+    ensures { Writes (width_bytes L.width) (is_agnostic body.now agnostic.fill_masked_off agnostic.fill_tail)
+        (λ i. ones L.width) group.old group.new }
+{
+    let (end, count) = (body.end(), L::count() * registers(emul) as usize);
+    let from = bound(agnostic.fill_masked_off, body.start().min(end), end);
+    let to = bound(agnostic.fill_tail, count, end);
+    fill(L::all_ones(), from, to, group);
 }
 
 /// Writes results to the bytes of a destination of `count` elements, and fills it.

@@ -1,18 +1,18 @@
 //! Extensions of elements of a part of the width ("V" Vector Extension 1.0, section 11.3).
 ghost use Rattle.std.specs.Prelude.{◌≡◌, ◌/◌, ◌≤◌};
 ghost use Rattle.rv_model.specs.elements.Arithmetic.{extend_result};
-ghost use Rattle.rv_model.specs.vector.Configuration.{group_type, lmul_eighths, sew_bits, sew_width, width_bytes};
+ghost use Rattle.rv_model.specs.vector.Configuration.{group_type, lmul_eighths, sew_bits, sew_width};
 ghost use Rattle.rv_model.specs.vector.Groups.{extension_divisor, part_type, part_width};
-ghost use Rattle.rv_model.specs.lending.GroupBounds.{HasRoom, HoldsBody, IsInside};
+ghost use Rattle.rv_model.specs.lending.GroupBounds.{HasRoom, IsInside};
 ghost use Rattle.vec_unit.specs.Results.{carried_out};
 
-use crate::destination::{Destination, Target, write_group};
+use crate::destination::Target;
 use crate::two_widths::{Groups, TwoWidths, carry_out};
 use crate::typed_operation::TypedOperation;
-use lane_arith::{Body, Extend, Lane};
-use reg_groups::{extension_divisor, group_copy, registers};
+use lane_arith::{Body, Extend, Lane, write_results};
+use reg_groups::{extension_divisor, group};
 use rv_model::instructions::operations::ExtendOp;
-use rv_model::{GROUP_BYTES, Scalar, Sew, VFile, VLENB, VReg, VState};
+use rv_model::{GROUP_BYTES, Scalar, Sew, VFile, VReg, VState};
 use std::marker::PhantomData;
 
 /// An extension and its source.
@@ -29,33 +29,18 @@ impl TwoWidths for ExtendOperation {
 
     fn write<D: Lane, O: Lane>(
         &self,
-        destination: Destination,
-        other: u32,
+        groups: Groups,
         body: &Body<'_>,
-        file: &mut VFile,
+        file: &VFile,
         _scalar: &Scalar,
+        made: &mut [u8],
     ) {
-        let mut copy = [0; GROUP_BYTES];
-        let a = group_copy(file, self.vs2, other, &mut copy);
         let results = Extend::<'_, O> {
             op: self.op,
-            a,
+            a: group(file, self.vs2, groups.other),
             element: PhantomData,
         };
-        write_group::<D, Extend<'_, O>>(&results, destination, body, file);
-    }
-}
-
-/// The bytes of an element.
-fn element_bytes(sew: Sew) -> usize
-    ensures value { result ≡ width_bytes (sew_width sew) }
-    ensures some { 1 ≤ result }
-{
-    match sew {
-        Sew::E8 => 1,
-        Sew::E16 => 2,
-        Sew::E32 => 4,
-        Sew::E64 => 8,
+        write_results::<D, Extend<'_, O>>(&results, body, made, false);
     }
 }
 
@@ -72,8 +57,9 @@ fn carry_out_part(
     requires source { IsInside operation.vs2 groups.other }
     requires destination { IsInside target.vd groups.emul }
     requires wide { 8 ≤ sew_bits sew / extension_divisor operation.op }
-    requires holds { HoldsBody (sew_width sew) groups.emul groups.count state.old.conf.vl }
-    requires room { HasRoom (part_width operation.op (sew_width sew)) groups.other state.old.conf.vl }
+    requires room { HasRoom (sew_width sew) groups.emul state.old.conf.vl }
+    requires other_room { HasRoom (part_width operation.op (sew_width sew)) groups.other state.old.conf.vl }
+    requires least { state.old.conf.vl ≤ GROUP_BYTES }
     ensures { state.new ≡ carried_out (record { width = sew_width sew; emul = groups.emul }) target
         (extend_result (record { width = part_width operation.op (sew_width sew); emul = groups.other })
         (record { width = sew_width sew; emul = groups.emul }) operation.op operation.vs2 state.old.file) state.old }
@@ -113,7 +99,6 @@ impl TypedOperation for ExtendOperation {
         let emul = u32::from(target.vtype.lmul.eighths());
         let groups = Groups {
             emul,
-            count: VLENB * registers(emul) as usize / element_bytes(sew),
             other: emul / u32::from(extension_divisor(self.op)),
         };
         carry_out_part(*self, sew, groups, target, state, scalar);

@@ -4,9 +4,9 @@ ghost use Rattle.rv_model.specs.lending.GroupBounds.{IsInside, SourceIsInside};
 
 use crate::destination::{Destination, write_group};
 use crate::element_wise::ElementWise;
-use crate::operands::{SecondOperand, second_copy};
+use crate::operands::{second_copy, signed};
 use lane_arith::{Body, Lane, WithMaskOperand};
-use reg_groups::group_copy;
+use reg_groups::group_copy_mut;
 use rv_model::instructions::operations::CarryOp;
 use rv_model::{GROUP_BYTES, Scalar, Source, VFile, VReg};
 
@@ -32,12 +32,8 @@ impl ElementWise for CarryOperation {
     ) {
         let (mut first, mut second) = ([0; GROUP_BYTES], [0; GROUP_BYTES]);
         let emul = destination.emul;
-        let a = group_copy(file, self.vs2, emul, &mut first);
-        let operand = SecondOperand {
-            source: self.source,
-            unsigned: false,
-            emul,
-        };
+        let a: &[u8] = group_copy_mut(file, self.vs2, emul, &mut first);
+        let operand = signed(self.source, emul);
         let b = second_copy::<L>(operand, body.end(), file, scalar, &mut second);
         let results = WithMaskOperand {
             op: self.op,

@@ -5,9 +5,9 @@ ghost use Rattle.rv_model.specs.lending.GroupBounds.{IsInside, SourceIsInside};
 
 use crate::destination::{Destination, write_group};
 use crate::element_wise::ElementWise;
-use crate::operands::{SecondOperand, second_copy};
+use crate::operands::{second_copy, signed};
 use lane_arith::{Body, Lane, MultiplyAdd};
-use reg_groups::group_copy;
+use reg_groups::group_copy_mut;
 use rv_model::instructions::operations::MultiplyAddOp;
 use rv_model::{GROUP_BYTES, Scalar, Source, VFile, VReg};
 
@@ -49,14 +49,10 @@ impl ElementWise for MultiplyAddOperation {
         let (mut first, mut second) = ([0; GROUP_BYTES], [0; GROUP_BYTES]);
         let mut third = [0; GROUP_BYTES];
         let emul = destination.emul;
-        let a = group_copy(file, self.vs2, emul, &mut first);
-        let operand = SecondOperand {
-            source: self.source,
-            unsigned: false,
-            emul,
-        };
+        let a: &[u8] = group_copy_mut(file, self.vs2, emul, &mut first);
+        let operand = signed(self.source, emul);
         let b = second_copy::<L>(operand, body.end(), file, scalar, &mut second);
-        let d = group_copy(file, self.vd, emul, &mut third);
+        let d: &[u8] = group_copy_mut(file, self.vd, emul, &mut third);
         let results = MultiplyAdd {
             op: self.op,
             a,

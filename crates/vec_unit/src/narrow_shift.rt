@@ -2,11 +2,10 @@
 ghost use Rattle.rv_model.specs.elements.Arithmetic.{narrow_shift_result};
 ghost use Rattle.rv_model.specs.lending.GroupBounds.{IsInside, SourceIsInside};
 
-use crate::destination::{Destination, write_group};
-use crate::operands::{SecondOperand, second_copy};
-use crate::two_widths::TwoWidths;
-use lane_arith::{Body, Lane, NarrowShift};
-use reg_groups::group_copy;
+use crate::operands::{SecondOperand, second_in_place};
+use crate::two_widths::{Groups, TwoWidths};
+use lane_arith::{Body, Lane, NarrowShift, write_results};
+use reg_groups::group;
 use rv_model::instructions::operations::NarrowShiftOp;
 use rv_model::{GROUP_BYTES, Scalar, Source, VFile, VReg};
 use std::marker::PhantomData;
@@ -26,27 +25,24 @@ impl TwoWidths for NarrowShiftOperation {
 
     fn write<D: Lane, O: Lane>(
         &self,
-        destination: Destination,
-        other: u32,
+        groups: Groups,
         body: &Body<'_>,
-        file: &mut VFile,
+        file: &VFile,
         scalar: &Scalar,
+        made: &mut [u8],
     ) {
-        let (mut first, mut second) = ([0; GROUP_BYTES], [0; GROUP_BYTES]);
-        let emul = destination.emul;
-        let a = group_copy(file, self.vs2, other, &mut first);
+        let mut copies = [0; GROUP_BYTES];
         let operand = SecondOperand {
             source: self.source,
             unsigned: true,
-            emul,
+            emul: groups.emul,
         };
-        let b = second_copy::<D>(operand, body.end(), file, scalar, &mut second);
         let results = NarrowShift::<'_, O> {
             op: self.op,
-            a,
-            b,
+            a: group(file, self.vs2, groups.other),
+            b: second_in_place::<D>(operand, body.end(), file, scalar, &mut copies),
             element: PhantomData,
         };
-        write_group::<D, NarrowShift<'_, O>>(&results, destination, body, file);
+        write_results::<D, NarrowShift<'_, O>>(&results, body, made, false);
     }
 }

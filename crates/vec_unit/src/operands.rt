@@ -44,6 +44,17 @@ pub(crate) struct SecondOperand {
     pub emul: u32,
 }
 
+/// A second operand whose immediate is signed.
+pub(crate) fn signed(source: Source, emul: u32) -> SecondOperand
+    ensures { result ≡ record { source = source; unsigned = false; emul = emul } }
+{
+    SecondOperand {
+        source,
+        unsigned: false,
+        emul,
+    }
+}
+
 /// A copy of the elements of a second operand, `count` of them.
 pub(crate) fn second_copy<'a, L: Lane>(
     operand: SecondOperand,
@@ -73,27 +84,31 @@ pub(crate) fn second_copy<'a, L: Lane>(
     }
 }
 
-/// The elements of a second operand whose immediate is signed, `count` of them: where they stand, or else copies of one
-/// number.
+/// The elements of a second operand, `count` of them: where they stand, or else copies of one number.
 pub(crate) fn second_in_place<'a, L: Lane>(
-    source: Source,
-    emul: u32,
+    operand: SecondOperand,
     count: usize,
     file: &'a VFile,
     scalar: &Scalar,
     copies: &'a mut [u8; GROUP_BYTES],
 ) -> &'a [u8]
-    requires inside { SourceIsInside source emul }
-    requires most { emul ≤ 64 }
-    requires room { width_bytes L.width * count ≤ VLENB * registers emul }
+    requires inside { SourceIsInside operand.source operand.emul }
+    requires most { operand.emul ≤ 64 }
+    requires room { width_bytes L.width * count ≤ VLENB * registers operand.emul }
     requires count { count ≤ GROUP_BYTES }
     ensures elements { (i : ℕ) → i < count → element (width_bytes L.width) result.now i
-        ≡ second_element (record { width = L.width; emul = emul }) false source file.now scalar.now i }
+        ≡ second_element (record { width = L.width; emul = operand.emul }) operand.unsigned operand.source file.now
+        scalar.now i }
     ensures room { width_bytes L.width * count ≤ length result.now }
 {
+    let SecondOperand {
+        source,
+        unsigned,
+        emul,
+    } = operand;
     match source {
         Source::V(vs1) => group(file, vs1, emul),
         Source::X(rs1) => repeated::<L>(scalar.read(rs1), count, copies),
-        Source::I(imm) => repeated::<L>(immediate_value(false, imm), count, copies),
+        Source::I(imm) => repeated::<L>(immediate_value(unsigned, imm), count, copies),
     }
 }

@@ -19,7 +19,7 @@ use crate::destination::{Destination, Target, agnostic_under, write_group};
 use crate::typed_operation::TypedOperation;
 use lane_arith::{Body, Lane};
 use lane_permute::{Gather, GatherOne, SlideDown, SlideOneDown, SlideOneUp, SlideUp};
-use reg_groups::{group_copy, mask_register, registers};
+use reg_groups::{group_copy_mut, mask_register, registers};
 use rv_model::instructions::operations::PermuteOp;
 use rv_model::{GROUP_BYTES, Scalar, Sew, Source, VFile, VLENB, VReg, VState};
 use std::marker::PhantomData;
@@ -76,7 +76,7 @@ impl<'a> GatherOperation<'a> {
         let results = Gather::<'_, I> {
             a,
             limit,
-            indices: group_copy(file, vs1, emul, &mut copy),
+            indices: group_copy_mut(file, vs1, emul, &mut copy),
             index: PhantomData,
         };
         write_group::<L, Gather<'_, I>>(&results, destination, body, file);
@@ -115,7 +115,7 @@ impl PermuteOperation {
     {
         let mut copy = [0; GROUP_BYTES];
         let emul = destination.emul;
-        let a = group_copy(file, self.vs2, emul, &mut copy);
+        let a: &[u8] = group_copy_mut(file, self.vs2, emul, &mut copy);
         let source = self.source;
         let offset = scalar_operand(self.source, scalar);
         match self.op {

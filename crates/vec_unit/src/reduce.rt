@@ -14,11 +14,11 @@ ghost use Rattle.rv_model.specs.lending.GroupBounds.{HasRoom, IsInside, SourceIs
 use crate::body::body_under;
 use crate::destination::Target;
 use crate::first_element::write_first;
-use crate::operands::{SecondOperand, second_copy};
+use crate::operands::{second_in_place, signed};
 use crate::typed_operation::TypedOperation;
 use lane_arith::{Body, Lane};
 use lane_reduce::{Reduction, WideningReduction, reduce};
-use reg_groups::{group_copy, mask_register};
+use reg_groups::{group, mask_register};
 use rv_model::instructions::operations::{ReduceOp, WidenReduceOp};
 use rv_model::{GROUP_BYTES, Scalar, Sew, Source, VFile, VReg, VState};
 
@@ -49,14 +49,10 @@ impl ReduceOperation {
             (reduce_result (record { width = L.width; emul = emul }) self.now.op body.now self.now.vs2 self.now.source
             file.old scalar.now) file.old }
     {
-        let (mut first, mut second) = ([0; GROUP_BYTES], [0; GROUP_BYTES]);
-        let a = group_copy(file, self.vs2, emul, &mut first);
-        let operand = SecondOperand {
-            source: self.source,
-            unsigned: false,
-            emul: 8,
-        };
-        let b = second_copy::<L>(operand, 1, file, scalar, &mut second);
+        let mut copies = [0; GROUP_BYTES];
+        let a = group(file, self.vs2, emul);
+        let operand = signed(self.source, 8);
+        let b = second_in_place::<L>(operand, 1, file, scalar, &mut copies);
         let number = reduce::<L, L, Reduction>(&Reduction { op: self.op }, L::load(b, 0), a, body);
         write_first(number, target, body, file);
     }
@@ -120,14 +116,10 @@ impl WidenReduceOperation {
             (record { width = W.width; emul = 2 * emul }) self.now.op body.now self.now.vs2 self.now.source file.old
             scalar.now) file.old }
     {
-        let (mut first, mut second) = ([0; GROUP_BYTES], [0; GROUP_BYTES]);
-        let a = group_copy(file, self.vs2, emul, &mut first);
-        let operand = SecondOperand {
-            source: self.source,
-            unsigned: false,
-            emul: 8,
-        };
-        let b = second_copy::<W>(operand, 1, file, scalar, &mut second);
+        let mut copies = [0; GROUP_BYTES];
+        let a = group(file, self.vs2, emul);
+        let operand = signed(self.source, 8);
+        let b = second_in_place::<W>(operand, 1, file, scalar, &mut copies);
         let combine = WideningReduction { op: self.op };
         let number = reduce::<N, W, WideningReduction>(&combine, W::load(b, 0), a, body);
         write_first(number, target, body, file);

@@ -1,18 +1,21 @@
 //! Instructions whose operands have two widths, carried out ("V" Vector Extension 1.0, sections 5.2, 11.2, 11.7,
 //! 11.12 and 11.14).
-ghost use Rattle.std.specs.Prelude.{◌≡◌, ◌*◌, ◌≤◌, List, ℕ};
+ghost use Rattle.std.specs.Prelude.{◌≡◌, ◌*◌, ◌≤◌, List, length, ℕ};
 ghost use Rattle.rv_model.specs.declared.scalar.Scalar.{Scalar as ScalarRegisters};
 ghost use Rattle.rv_model.specs.vector.Configuration.{GroupType, group_type, lmul_eighths, sew_bits, vlmax};
+ghost use Rattle.rv_model.specs.vector.Configuration.{width_bytes};
 ghost use Rattle.rv_model.specs.vector.Groups.{wide_type};
-ghost use Rattle.rv_model.specs.lending.GroupBounds.{HasRoom, HoldsBody, IsInside};
-ghost use Rattle.rv_model.specs.vector.Registers.{register_of};
-ghost use Rattle.vec_unit.specs.Results.{carried_out, with_written};
+ghost use Rattle.rv_model.specs.lending.GroupBounds.{HasRoom, IsInside};
+ghost use Rattle.rv_model.specs.vector.Registers.{register_of, registers};
+ghost use Rattle.rv_model.specs.elements.Elements.{is_active};
+ghost use Rattle.rv_model.specs.lending.Writes.{Writes};
+ghost use Rattle.vec_unit.specs.Results.{carried_out};
 
 use crate::body::body_under;
-use crate::destination::{Destination, Target, agnostic_under};
+use crate::destination::{Target, agnostic_under, fill_agnostic};
 use lane_arith::{Body, Lane};
-use reg_groups::{mask_register, registers};
-use rv_model::{Scalar, Sew, VFile, VLENB, VState};
+use reg_groups::{group_copy_mut, mask_register, put_group};
+use rv_model::{GROUP_BYTES, Scalar, Sew, VFile, VLENB, VState};
 
 /// An operation and its operands.
 pub(crate) trait TwoWidths {
@@ -24,31 +27,31 @@ pub(crate) trait TwoWidths {
     // register.
     ghost inside: { Self → ℕ → ℕ → Type 0 };
 
-    /// Writes the results to a destination of elements of the width of `D`; `O` is the other width, and `other`
-    /// the multiplier of its groups. The mask of the body is v0.
+    /// Writes the results to a copy of the destination, with elements of the width of `D`; `O` is the other width. The
+    /// mask of the body is v0.
     fn write<D: Lane, O: Lane>(
         &self,
-        destination: Destination,
-        other: u32,
+        groups: Groups,
         body: &Body<'_>,
-        file: &mut VFile,
+        file: &VFile,
         scalar: &Scalar,
+        made: &mut [u8],
     )
-        requires operands { inside self.now destination.emul other }
-        requires holds { HoldsBody D.width destination.emul destination.count body.now.end }
-        requires room { HasRoom O.width other body.now.end }
-        requires mask { body.now.mask ≡ register_of file.old 0 }
-        ensures { file.new ≡ with_written D.width destination body.now
-            (number self.now (record { width = D.width; emul = destination.emul })
-            (record { width = O.width; emul = other }) file.old scalar.now) file.old };
+        requires operands { inside self.now groups.emul groups.other }
+        requires room { HasRoom D.width groups.emul body.now.end }
+        requires other_room { HasRoom O.width groups.other body.now.end }
+        requires least { body.now.end ≤ GROUP_BYTES }
+        requires mask { body.now.mask ≡ register_of file.now 0 }
+        requires whole { length made.old ≡ VLENB * registers groups.emul }
+        ensures { Writes (width_bytes D.width) (is_active body.now)
+            (number self.now (record { width = D.width; emul = groups.emul })
+            (record { width = O.width; emul = groups.other }) file.now scalar.now) made.old made.new };
 }
 
-/// The multiplier of the destination's groups, how many elements they have, and the multiplier of the groups
-/// of the other width, both in eighths of a register.
+/// The multipliers of the destination's groups and of those of the other width, in eighths of a register.
 #[derive(Clone, Copy)]
 pub(crate) struct Groups {
     pub emul: u32,
-    pub count: usize,
     pub other: u32,
 }
 
@@ -63,21 +66,21 @@ pub(crate) fn carry_out<D: Lane, O: Lane, T: TwoWidths>(
 )
     requires operands { T.inside operation.now groups.emul groups.other }
     requires destination { IsInside target.vd groups.emul }
-    requires holds { HoldsBody D.width groups.emul groups.count state.old.conf.vl }
-    requires room { HasRoom O.width groups.other state.old.conf.vl }
+    requires room { HasRoom D.width groups.emul state.old.conf.vl }
+    requires other_room { HasRoom O.width groups.other state.old.conf.vl }
+    requires least { state.old.conf.vl ≤ GROUP_BYTES }
     ensures { state.new ≡ carried_out (record { width = D.width; emul = groups.emul }) target
         (T.number operation.now (record { width = D.width; emul = groups.emul })
         (record { width = O.width; emul = groups.other }) state.old.file scalar.now) state.old }
 {
     let mask = mask_register(&state.file);
     let body = body_under(target.unmasked, &mask, state);
-    let destination = Destination {
-        vd: target.vd,
-        emul: groups.emul,
-        count: groups.count,
-        agnostic: agnostic_under(target.policy, target.vtype, &body),
-    };
-    operation.write::<D, O>(destination, groups.other, &body, &mut state.file, scalar);
+    let agnostic = agnostic_under(target.policy, target.vtype, &body);
+    let mut copy = [0; GROUP_BYTES];
+    let made = group_copy_mut(&state.file, target.vd, groups.emul, &mut copy);
+    fill_agnostic::<D>(agnostic, groups.emul, &body, made);
+    operation.write::<D, O>(groups, &body, &state.file, scalar, made);
+    put_group(&mut state.file, target.vd, groups.emul, made);
     state.vstart = 0;
 }
 
@@ -101,19 +104,18 @@ pub(crate) fn carry_out_widening<T: TwoWidths>(
 {
     let other = u32::from(target.vtype.lmul.eighths());
     let emul = 2 * other;
-    let length = VLENB * registers(emul) as usize;
-    let groups = |count| Groups { emul, count, other };
+    let groups = Groups { emul, other };
     match target.vtype.sew {
-        Sew::E8 => carry_out::<u16, u8, T>(operation, groups(length / 2), target, state, scalar),
-        Sew::E16 => carry_out::<u32, u16, T>(operation, groups(length / 4), target, state, scalar),
-        Sew::E32 => carry_out::<u64, u32, T>(operation, groups(length / 8), target, state, scalar),
+        Sew::E8 => carry_out::<u16, u8, T>(operation, groups, target, state, scalar),
+        Sew::E16 => carry_out::<u32, u16, T>(operation, groups, target, state, scalar),
+        Sew::E32 => carry_out::<u64, u32, T>(operation, groups, target, state, scalar),
         Sew::E64 => unreachable!(),
     }
 }
 
 /// Carries out an operation with a source of twice the vector type's width. The next instruction begins with
 /// the first element.
-#[tactic(auto, using(crate::proofs::LegalGroups::narrow_groups))]
+#[tactic(auto, using(crate::proofs::LegalGroups::wide_groups))]
 pub(crate) fn carry_out_narrowing<T: TwoWidths>(
     operation: &T,
     target: Target,
@@ -131,12 +133,11 @@ pub(crate) fn carry_out_narrowing<T: TwoWidths>(
 {
     let emul = u32::from(target.vtype.lmul.eighths());
     let other = 2 * emul;
-    let length = VLENB * registers(emul) as usize;
-    let groups = |count| Groups { emul, count, other };
+    let groups = Groups { emul, other };
     match target.vtype.sew {
-        Sew::E8 => carry_out::<u8, u16, T>(operation, groups(length), target, state, scalar),
-        Sew::E16 => carry_out::<u16, u32, T>(operation, groups(length / 2), target, state, scalar),
-        Sew::E32 => carry_out::<u32, u64, T>(operation, groups(length / 4), target, state, scalar),
+        Sew::E8 => carry_out::<u8, u16, T>(operation, groups, target, state, scalar),
+        Sew::E16 => carry_out::<u16, u32, T>(operation, groups, target, state, scalar),
+        Sew::E32 => carry_out::<u32, u64, T>(operation, groups, target, state, scalar),
         Sew::E64 => unreachable!(),
     }
 }

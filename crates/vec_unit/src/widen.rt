@@ -1,17 +1,19 @@
 //! Operations whose result has twice the width of an operand ("V" Vector Extension 1.0, sections 11.2, 11.12
 //! and 11.14).
-ghost use Rattle.std.specs.Prelude.{◌≡◌, ◌<◌, get_or};
+ghost use Rattle.std.specs.Prelude.{◌≡◌, ◌*◌, ◌<◌, ◌≤◌, get_or, length};
 ghost use Rattle.rv_model.specs.elements.Arithmetic.{wide_source_result, widen_multiply_add_result, widen_result};
-ghost use Rattle.rv_model.specs.lending.GroupBounds.{HasRoom, HoldsBody, IsInside, SourceIsInside};
-ghost use Rattle.vec_unit.specs.Results.{with_written};
+ghost use Rattle.rv_model.specs.lending.GroupBounds.{HasRoom, IsInside, SourceIsInside};
+ghost use Rattle.rv_model.specs.lending.Writes.{Writes};
+ghost use Rattle.rv_model.specs.elements.Elements.{is_active};
+ghost use Rattle.rv_model.specs.vector.Configuration.{width_bytes};
+ghost use Rattle.rv_model.specs.vector.Registers.{registers};
 
-use crate::destination::{Destination, write_group};
-use crate::operands::{SecondOperand, second_copy};
-use crate::two_widths::TwoWidths;
-use lane_arith::{Body, Lane, WideSource, Widen, WidenMultiplyAdd};
-use reg_groups::group_copy;
+use crate::operands::{second_in_place, signed};
+use crate::two_widths::{Groups, TwoWidths};
+use lane_arith::{Body, Lane, WideSource, Widen, WidenMultiplyAdd, write_results};
+use reg_groups::group;
 use rv_model::instructions::operations::{WideSourceOp, WidenMultiplyAddOp, WidenOp};
-use rv_model::{GROUP_BYTES, Scalar, Source, VFile, VReg};
+use rv_model::{GROUP_BYTES, Scalar, Source, VFile, VLENB, VReg};
 use std::marker::PhantomData;
 
 /// An operation and its sources.
@@ -36,36 +38,33 @@ const OPERATIONS: [WidenOp; 7] = [
 /// Writes the results of one operation on these sources: its loop tests neither which it is nor whether it is masked.
 fn write_one<D: Lane, O: Lane, const NUMBER: usize>(
     sources: &WidenOperation,
-    destination: Destination,
-    other: u32,
+    groups: Groups,
     body: &Body<'_>,
-    file: &mut VFile,
+    file: &VFile,
     scalar: &Scalar,
+    made: &mut [u8],
 )
     requires known { NUMBER < 7 }
-    requires operands { IsInside sources.now.vs2 other × SourceIsInside sources.now.source other }
-    requires holds { HoldsBody D.width destination.emul destination.count body.now.end }
-    requires room { HasRoom O.width other body.now.end }
-    ensures { file.new ≡ with_written D.width destination body.now
-        (widen_result (record { width = O.width; emul = other }) (record { width = D.width; emul = destination.emul })
-        (get_or OPERATIONS NUMBER WidenOp.Vwaddu) sources.now.vs2 sources.now.source file.old scalar.now) file.old }
+    requires operands { IsInside sources.now.vs2 groups.other × SourceIsInside sources.now.source groups.other }
+    requires room { HasRoom D.width groups.emul body.now.end }
+    requires other_room { HasRoom O.width groups.other body.now.end }
+    requires least { body.now.end ≤ GROUP_BYTES }
+    requires whole { length made.old ≡ VLENB * registers groups.emul }
+    ensures { Writes (width_bytes D.width) (is_active body.now)
+        (widen_result (record { width = O.width; emul = groups.other }) (record { width = D.width; emul = groups.emul })
+        (get_or OPERATIONS NUMBER WidenOp.Vwaddu) sources.now.vs2 sources.now.source file.now scalar.now)
+        made.old made.new }
 {
-    let (mut first, mut second) = ([0; GROUP_BYTES], [0; GROUP_BYTES]);
-    let a = group_copy(file, sources.vs2, other, &mut first);
-    let operand = SecondOperand {
-        source: sources.source,
-        unsigned: false,
-        emul: other,
-    };
-    let b = second_copy::<O>(operand, body.end(), file, scalar, &mut second);
+    let mut copies = [0; GROUP_BYTES];
+    let operand = signed(sources.source, groups.other);
     let results = Widen::<'_, O> {
         op: OPERATIONS[NUMBER],
-        a,
-        b,
+        a: group(file, sources.vs2, groups.other),
+        b: second_in_place::<O>(operand, body.end(), file, scalar, &mut copies),
         element: PhantomData,
     };
     let body = body.copied();
-    write_group::<D, Widen<'_, O>>(&results, destination, &body, file);
+    write_results::<D, Widen<'_, O>>(&results, &body, made, false);
 }
 
 impl TwoWidths for WidenOperation {
@@ -75,20 +74,20 @@ impl TwoWidths for WidenOperation {
 
     fn write<D: Lane, O: Lane>(
         &self,
-        destination: Destination,
-        other: u32,
+        groups: Groups,
         body: &Body<'_>,
-        file: &mut VFile,
+        file: &VFile,
         scalar: &Scalar,
+        made: &mut [u8],
     ) {
         match self.op {
-            WidenOp::Vwaddu => write_one::<D, O, 0>(self, destination, other, body, file, scalar),
-            WidenOp::Vwadd => write_one::<D, O, 1>(self, destination, other, body, file, scalar),
-            WidenOp::Vwsubu => write_one::<D, O, 2>(self, destination, other, body, file, scalar),
-            WidenOp::Vwsub => write_one::<D, O, 3>(self, destination, other, body, file, scalar),
-            WidenOp::Vwmulu => write_one::<D, O, 4>(self, destination, other, body, file, scalar),
-            WidenOp::Vwmulsu => write_one::<D, O, 5>(self, destination, other, body, file, scalar),
-            WidenOp::Vwmul => write_one::<D, O, 6>(self, destination, other, body, file, scalar),
+            WidenOp::Vwaddu => write_one::<D, O, 0>(self, groups, body, file, scalar, made),
+            WidenOp::Vwadd => write_one::<D, O, 1>(self, groups, body, file, scalar, made),
+            WidenOp::Vwsubu => write_one::<D, O, 2>(self, groups, body, file, scalar, made),
+            WidenOp::Vwsub => write_one::<D, O, 3>(self, groups, body, file, scalar, made),
+            WidenOp::Vwmulu => write_one::<D, O, 4>(self, groups, body, file, scalar, made),
+            WidenOp::Vwmulsu => write_one::<D, O, 5>(self, groups, body, file, scalar, made),
+            WidenOp::Vwmul => write_one::<D, O, 6>(self, groups, body, file, scalar, made),
         }
     }
 }
@@ -108,27 +107,21 @@ impl TwoWidths for WideSourceOperation {
 
     fn write<D: Lane, O: Lane>(
         &self,
-        destination: Destination,
-        other: u32,
+        groups: Groups,
         body: &Body<'_>,
-        file: &mut VFile,
+        file: &VFile,
         scalar: &Scalar,
+        made: &mut [u8],
     ) {
-        let (mut first, mut second) = ([0; GROUP_BYTES], [0; GROUP_BYTES]);
-        let a = group_copy(file, self.vs2, destination.emul, &mut first);
-        let operand = SecondOperand {
-            source: self.source,
-            unsigned: false,
-            emul: other,
-        };
-        let b = second_copy::<O>(operand, body.end(), file, scalar, &mut second);
+        let mut copies = [0; GROUP_BYTES];
+        let operand = signed(self.source, groups.other);
         let results = WideSource::<'_, O> {
             op: self.op,
-            a,
-            b,
+            a: group(file, self.vs2, groups.emul),
+            b: second_in_place::<O>(operand, body.end(), file, scalar, &mut copies),
             element: PhantomData,
         };
-        write_group::<D, WideSource<'_, O>>(&results, destination, body, file);
+        write_results::<D, WideSource<'_, O>>(&results, body, made, false);
     }
 }
 
@@ -162,29 +155,21 @@ impl TwoWidths for WidenMultiplyAddOperation {
 
     fn write<D: Lane, O: Lane>(
         &self,
-        destination: Destination,
-        other: u32,
+        groups: Groups,
         body: &Body<'_>,
-        file: &mut VFile,
+        file: &VFile,
         scalar: &Scalar,
+        made: &mut [u8],
     ) {
-        let (mut first, mut second) = ([0; GROUP_BYTES], [0; GROUP_BYTES]);
-        let mut third = [0; GROUP_BYTES];
-        let a = group_copy(file, self.vs2, other, &mut first);
-        let operand = SecondOperand {
-            source: self.source,
-            unsigned: false,
-            emul: other,
-        };
-        let b = second_copy::<O>(operand, body.end(), file, scalar, &mut second);
-        let d = group_copy(file, self.vd, destination.emul, &mut third);
+        let mut copies = [0; GROUP_BYTES];
+        let operand = signed(self.source, groups.other);
         let results = WidenMultiplyAdd::<'_, O> {
             op: self.op,
-            a,
-            b,
-            d,
+            a: group(file, self.vs2, groups.other),
+            b: second_in_place::<O>(operand, body.end(), file, scalar, &mut copies),
+            d: group(file, self.vd, groups.emul),
             element: PhantomData,
         };
-        write_group::<D, WidenMultiplyAdd<'_, O>>(&results, destination, body, file);
+        write_results::<D, WidenMultiplyAdd<'_, O>>(&results, body, made, false);
     }
 }

@@ -1,30 +1,30 @@
-use Rattle.std.proofs.Common.{◌∙◌, ◌≡◌, ap, arith, get_or, false, sym}
+use Rattle.std.proofs.Common.{◌≡◌, ap, arith, get_or, false, sym, ◌∙◌}
 use Rattle.rv_model.specs.declared.instructions.operations.WidenOp.{WidenOp}
 use Rattle.rv_model.specs.declared.instructions.operations.WidenOp.TheVariants.{Vwaddu}
 use Rattle.rv_model.specs.elements.Arithmetic.{second_element, widen_result}
 use Rattle.rv_model.specs.elements.Elements.{Body}
-use Rattle.rv_model.specs.vector.Configuration.{GroupType}
-use Rattle.rv_model.specs.elements.Formulas.{widen_formula, wrap}
-use Rattle.rv_model.proofs.element_lemmas.Arithmetic.{results_same}
+use Rattle.rv_model.specs.vector.Configuration.{GroupType, width_bytes}
+use Rattle.rv_model.specs.elements.Formulas.{ones, widen_formula, wrap}
 use Rattle.vec_unit.proofs.CopiedOperands.{two_operands}
+use Rattle.vec_unit.proofs.MadeResults.{active_written}
 use Rattle.vec_unit.specs.declared.widen.TheConstants.{OPERATIONS}
+use Rattle.vec_unit.specs.declared.operands.SecondOperand.{SecondOperand}
 use Rattle.vec_unit.proofs.widen.write_one.Goals as goal
 
 pub returns : goal.returns
 returns g c =
-    let t : GroupType = record { width = g.D.Lane.width; emul = c.args.destination.emul } in
-    let u : GroupType = record { width = g.O.Lane.width; emul = c.args.other } in
+    let t : GroupType = record { width = g.D.Lane.width; emul = c.args.groups.emul } in
+    let u : GroupType = record { width = g.O.Lane.width; emul = c.args.groups.other } in
     let op : WidenOp = get_or OPERATIONS g.row.NUMBER Vwaddu in
     let o = c.args.sources.now in
     let body : Body = c.copied-body.result in
     let file = c.args.file.now in
     let x = c.args.scalar.now in
     let end : body.end ≡ c.args.body.now.end = ap (λ (b : Body). b.end) c.copied-body.ensures in
-    rw (sym c.copied-body.ensures) (c.write_group.ensures
-    ∙ results_same t c.args.destination.vd body
-    c.args.destination.agnostic.fill_masked_off c.args.destination.agnostic.fill_tail
-    _ (widen_result u t op o.vs2 o.source file x) file
+    rw (sym c.copied-body.ensures) (active_written (width_bytes t.width) body _ (widen_result u t op o.vs2 o.source file x) (ones t.width) c.args.made.now c.write_results.new.destination
     (two_operands u u (λ a b. wrap t.width (widen_formula op u.width a b))
-    c.group_copy-a.result.now c.second_copy-b.result.now file o.vs2
-    body.end (second_element u false o.source file x) c.group_copy-a.ensures.value
-    (λ i h. c.second_copy-b.ensures.elements i (omega (arith, h, end, c.end.ensures)))))
+    c.group.result.now c.second_in_place.result.now file o.vs2
+    body.end (second_element u false o.source file x) c.group.ensures.value
+    (λ i h. c.second_in_place.ensures.elements i (omega (arith, h, end, c.end.ensures))
+    ∙ ap (λ (s : SecondOperand). second_element (record { width = u.width; emul = s.emul }) s.unsigned s.source file x i) c.signed-operand.ensures))
+    c.write_results.ensures)

@@ -8,6 +8,7 @@ use Rattle.rv_model.specs.vector.Registers.{register_of}
 use Rattle.rv_model.proofs.element_lemmas.Bits.{same_bits}
 use Rattle.rv_model.proofs.element_lemmas.Sets.{active_end}
 use Rattle.vec_unit.proofs.CopiedOperands.{three_operands}
+use Rattle.vec_unit.specs.declared.operands.SecondOperand.{SecondOperand}
 use Rattle.vec_unit.proofs.compare.CarryOutOperationMaskWise.write.Goals as goal
 
 pub returns : goal.returns
@@ -22,6 +23,7 @@ returns g c =
     three_operands t t (λ a b bit. carry_out_formula o.op t.width a b (not o.alone && bit))
     c.group-a.result.now c.second_in_place-b.result.now file o.vs2 body.end (second_element t false o.source file x)
     (mask_bit c.mask.result.now) (mask_bit (register_of file 0)) c.group-a.ensures.value
-    (λ j h. c.second_in_place-b.ensures.elements j (omega (arith, h, c.end.ensures)))
+    (λ j h. c.second_in_place-b.ensures.elements j (omega (arith, h, c.end.ensures))
+    ∙ ap (λ (s : SecondOperand). second_element (record { width = t.width; emul = s.emul }) s.unsigned s.source file x j) c.signed.ensures)
     (λ j. ap (λ bytes. mask_bit bytes j) (c.mask.ensures ∙ c.requires.mask)) i (active_end body i active))
     c.write_mask_results.ensures

@@ -1,4 +1,4 @@
-use Rattle.std.proofs.Common.{arith, false}
+use Rattle.std.proofs.Common.{arith, false, ◌∙◌, ap}
 use Rattle.rv_model.specs.elements.Arithmetic.{compare_result, second_element}
 use Rattle.rv_model.specs.elements.Elements.{is_active}
 use Rattle.rv_model.specs.elements.Formulas.{compare_formula}
@@ -6,6 +6,7 @@ use Rattle.rv_model.specs.vector.Configuration.{GroupType}
 use Rattle.rv_model.proofs.element_lemmas.Bits.{same_bits}
 use Rattle.rv_model.proofs.element_lemmas.Sets.{active_end}
 use Rattle.vec_unit.proofs.CopiedOperands.{two_operands}
+use Rattle.vec_unit.specs.declared.operands.SecondOperand.{SecondOperand}
 use Rattle.vec_unit.proofs.compare.CompareOperationMaskWise.write.Goals as goal
 
 pub returns : goal.returns
@@ -19,5 +20,6 @@ returns g c =
     (λ i active.
     two_operands t t (compare_formula o.op t.width) c.group-a.result.now c.second_in_place-b.result.now file o.vs2 body.end
     (second_element t false o.source file x) c.group-a.ensures.value
-    (λ j h. c.second_in_place-b.ensures.elements j (omega (arith, h, c.end.ensures))) i (active_end body i active))
+    (λ j h. c.second_in_place-b.ensures.elements j (omega (arith, h, c.end.ensures))
+    ∙ ap (λ (s : SecondOperand). second_element (record { width = t.width; emul = s.emul }) s.unsigned s.source file x j) c.signed.ensures) i (active_end body i active))
     c.write_mask_results.ensures

@@ -16,10 +16,10 @@ returns g c =
     let file = c.args.file.now in
     let vd : ℕ = c.args.destination.vd in
     let fill_tail : Bool = c.args.destination.agnostic.fill_tail in
-    let numbers : List ℕ = packed c.register_copy-select.result (element k c.group_copy-a.result.now) c.args.end in
+    let numbers : List ℕ = packed c.register_copy-select.result (element k c.group_copy_mut.result.now) c.args.end in
     let same : numbers ≡ packed (register_of file o.vs1) (group_element t file o.vs2) c.args.end =
-    ap (λ (select : List ℕ). packed select (element k c.group_copy-a.result.now) c.args.end) c.register_copy-select.ensures
-    ∙ ap (λ (bytes : List ℕ). packed (register_of file o.vs1) (element k bytes) c.args.end) c.group_copy-a.ensures.value in
+    ap (λ (select : List ℕ). packed select (element k c.group_copy_mut.result.now) c.args.end) c.register_copy-select.ensures
+    ∙ ap (λ (bytes : List ℕ). packed (register_of file o.vs1) (element k bytes) c.args.end) c.group_copy_mut.ensures.value in
     packed_are t vd c.args.end fill_tail numbers file c.compress_filled.new.destination
     (rw (← c.group_mut-group.ensures.value) c.compress_filled.ensures)
     ∙ ap (λ (l : List ℕ). with_packed t vd c.args.end fill_tail l file) same

@@ -6,6 +6,7 @@ use Rattle.rv_model.specs.elements.Formulas.{carry_formula, wrap}
 use Rattle.rv_model.specs.vector.Registers.{register_of}
 use Rattle.rv_model.proofs.element_lemmas.Arithmetic.{results_same}
 use Rattle.vec_unit.proofs.CopiedOperands.{three_operands}
+use Rattle.vec_unit.specs.declared.operands.SecondOperand.{SecondOperand}
 use Rattle.vec_unit.proofs.mask_operand.CarryOperationElementWise.write.Goals as goal
 
 pub returns : goal.returns
@@ -19,8 +20,9 @@ returns g c =
     c.args.destination.agnostic.fill_masked_off c.args.destination.agnostic.fill_tail
     _ (carry_result t o.op o.vs2 o.source file x) file
     (three_operands t t (λ a b bit. wrap t.width (carry_formula o.op a b bit))
-    c.group_copy-a.result.now c.second_copy-b.result.now file o.vs2
+    c.group_copy_mut.result.now c.second_copy-b.result.now file o.vs2
     c.args.body.now.end (second_element t false o.source file x)
-    (mask_bit c.mask.result.now) (mask_bit (register_of file 0)) c.group_copy-a.ensures.value
-    (λ i h. c.second_copy-b.ensures.elements i (omega (arith, h, c.end.ensures)))
+    (mask_bit c.mask.result.now) (mask_bit (register_of file 0)) c.group_copy_mut.ensures.value
+    (λ i h. c.second_copy-b.ensures.elements i (omega (arith, h, c.end.ensures))
+    ∙ ap (λ (s : SecondOperand). second_element (record { width = t.width; emul = s.emul }) s.unsigned s.source file x i) c.signed-operand.ensures)
     (λ i. ap (λ bytes. mask_bit bytes i) (c.mask.ensures ∙ c.requires.mask)))

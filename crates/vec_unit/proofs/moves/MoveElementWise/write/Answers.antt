@@ -1,8 +1,9 @@
-use Rattle.std.proofs.Common.{ℕ, ◌<◌, ◌≡◌, ◌∙◌, arith, false}
+use Rattle.std.proofs.Common.{ℕ, ◌<◌, ◌≡◌, ◌∙◌, arith, false, ap}
 use Rattle.rv_model.specs.elements.Arithmetic.{second_element}
 use Rattle.rv_model.specs.vector.Configuration.{GroupType, width_bytes}
 use Rattle.rv_model.specs.elements.Elements.{element}
 use Rattle.rv_model.proofs.element_lemmas.Arithmetic.{results_same}
+use Rattle.vec_unit.specs.declared.operands.SecondOperand.{SecondOperand}
 use Rattle.vec_unit.proofs.moves.MoveElementWise.write.Goals as goal
 
 pub returns : goal.returns
@@ -13,7 +14,8 @@ returns g c =
     let file = c.args.file.now in
     let x = c.args.scalar.now in
     let second : (i : ℕ) → i < c.args.body.now.end → element k c.second_copy-b.result.now i ≡ second_element t false o.source file x i =
-    λ i h. c.second_copy-b.ensures.elements i (omega (arith, h, c.end.ensures)) in
+    λ i h. c.second_copy-b.ensures.elements i (omega (arith, h, c.end.ensures))
+    ∙ ap (λ (s : SecondOperand). second_element (record { width = t.width; emul = s.emul }) s.unsigned s.source file x i) c.signed-operand.ensures in
     c.write_group.ensures
     ∙ results_same t c.args.destination.vd c.args.body.now
     c.args.destination.agnostic.fill_masked_off c.args.destination.agnostic.fill_tail

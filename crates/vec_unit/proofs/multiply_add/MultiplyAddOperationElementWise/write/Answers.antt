@@ -5,6 +5,7 @@ use Rattle.rv_model.specs.elements.Elements.{element}
 use Rattle.rv_model.specs.elements.Formulas.{multiply_add_formula, wrap}
 use Rattle.rv_model.proofs.element_lemmas.Arithmetic.{results_same}
 use Rattle.vec_unit.proofs.CopiedOperands.{three_operands}
+use Rattle.vec_unit.specs.declared.operands.SecondOperand.{SecondOperand}
 use Rattle.vec_unit.proofs.multiply_add.MultiplyAddOperationElementWise.write.Goals as goal
 
 pub returns : goal.returns
@@ -18,8 +19,9 @@ returns g c =
     c.args.destination.agnostic.fill_masked_off c.args.destination.agnostic.fill_tail
     _ (multiply_add_result t o.op o.vd o.vs2 o.source file x) file
     (three_operands t t (λ a b d. wrap t.width (multiply_add_formula o.op a b d))
-    c.group_copy-a.result.now c.second_copy-b.result.now file o.vs2
+    c.group_copy_mut.result.now c.second_copy-b.result.now file o.vs2
     c.args.body.now.end (second_element t false o.source file x)
-    (λ i. element (width_bytes t.width) c.group_copy-d.result.now i) (group_element t file o.vd) c.group_copy-a.ensures.value
-    (λ i h. c.second_copy-b.ensures.elements i (omega (arith, h, c.end.ensures)))
-    (λ i. ap (λ bytes. element (width_bytes t.width) bytes i) c.group_copy-d.ensures.value))
+    (λ i. element (width_bytes t.width) c.group_copy_mut-2.result.now i) (group_element t file o.vd) c.group_copy_mut.ensures.value
+    (λ i h. c.second_copy-b.ensures.elements i (omega (arith, h, c.end.ensures))
+    ∙ ap (λ (s : SecondOperand). second_element (record { width = t.width; emul = s.emul }) s.unsigned s.source file x i) c.signed-operand.ensures)
+    (λ i. ap (λ bytes. element (width_bytes t.width) bytes i) c.group_copy_mut-2.ensures.value))
