@@ -1,11 +1,12 @@
 -- That elements which are written by their numbers are bytes that are moved.
-use Rattle.std.proofs.Common.{◌≡◌, ℕ, zero, suc, ◌+◌, ◌-◌, ◌*◌, ◌<◌, ◌≤◌, ◌&&◌, Bool, Fits, false, List, [], ◌∷◌, length, get_or, nat_lt, refl, sym, ap, ◌∙◌, inl, inr, arith, zero-add}
+use Rattle.std.proofs.Common.{◌≡◌, ℕ, zero, suc, ◌+◌, ◌-◌, ◌*◌, ◌<◌, ◌≤◌, ◌&&◌, Bool, Fits, false, List, [], ◌∷◌, drop, length, get_or, nat_lt, take, refl, sym, ap, ◌∙◌, inl, inr, arith, zero-add}
 use Rattle.std.specs.Int.{Width, byte_at, bytes_low_first, w8, w16, w32, w64, w128}
 use Rattle.std.specs.Prelude.{replicate}
 use Rattle.std.proofs.Math.Nat.{add-mul, mul_comm, mul-le-mul_left, mul-suc}
 use Rattle.std.proofs.lemmas.Bool.{cases_Bool}
 use Rattle.std.proofs.lemmas.Grind.{same_number_lists}
-use Rattle.std.proofs.lemmas.Simd.{below_from_Fits, chunk-fits, get_or-chunk, length-chunk}
+use Rattle.std.proofs.lemmas.List.{drop-drop, drop-take, take-take}
+use Rattle.std.proofs.lemmas.Simd.{below_from_Fits, chunk-fits, length-chunk}
 use lib.Lanes.{Each1, chunk, number_l, put_chunk}
 use Rattle.lane_arith.proofs.MaskBits.{byte_of_number}
 use Rattle.rv_model.specs.declared.vector.sizes.TheConstants.{VLENB}
@@ -56,7 +57,7 @@ put_front zero (z ∷ file) (g ∷ gs) [] h k = refl
 put_front zero (z ∷ file) (g ∷ gs) (x ∷ xs) h k = ap (λ l. x ∷ l) (put_front zero file gs xs (omega (arith, h)) (omega (arith, k)))
 put_front (suc q) (z ∷ file) (g ∷ gs) xs h k = ap (λ l. g ∷ l) (put_front q file gs xs (omega (arith, h)) (omega (arith, k)))
 
-put_within : (p q to : ℕ) (file group xs : List ℕ) → to ≡ p + q → q + length xs ≤ length group → p + length group ≤ length file
+pub put_within : (p q to : ℕ) (file group xs : List ℕ) → to ≡ p + q → q + length xs ≤ length group → p + length group ≤ length file
     → put_chunk to (put_chunk p file group) xs ≡ put_chunk p file (put_chunk q group xs)
 put_within p q to [] group xs e h k = refl
 put_within zero q to (z ∷ file) group xs e h k =
@@ -66,16 +67,11 @@ put_within (suc p) q zero (z ∷ file) group xs e h k = absurd (omega (arith, e)
 put_within (suc p) q (suc to) (z ∷ file) group xs e h k = ap (λ l. z ∷ l) (put_within p q to file group xs (omega (arith, e)) h (omega (arith, k)))
 
 -- a chunk of a part
-part_chunk : (p q n count : ℕ) (xs : List ℕ) → q + n ≤ count → p + count ≤ length xs → chunk q n (chunk p count xs) ≡ chunk (p + q) n xs
-part_chunk p q n count xs h k =
-    let whole : length (chunk p count xs) ≡ count = length-chunk p count xs k in
-    let long : length (chunk q n (chunk p count xs)) ≡ n = length-chunk q n (chunk p count xs) (omega (arith, whole, h)) in
-    same_number_lists (chunk q n (chunk p count xs)) (chunk (p + q) n xs) (long ∙ sym (length-chunk (p + q) n xs (omega (arith, h, k))))
-    (λ j l.
-    let less : j < n = omega (arith, l, long) in
-    let at : p + (q + j) ≡ (p + q) + j = omega arith in
-    get_or-chunk q n (chunk p count xs) j 0 less ∙ get_or-chunk p count xs (q + j) 0 (omega (arith, less, h)) ∙ ap (λ i. get_or xs i 0) at
-    ∙ sym (get_or-chunk (p + q) n xs j 0 less))
+pub part_chunk : (p q n count : ℕ) (xs : List ℕ) → q + n ≤ count → chunk q n (chunk p count xs) ≡ chunk (p + q) n xs
+part_chunk p q n count xs h =
+    let all : count ≡ q + (count - q) = omega (arith, h) in
+    ap (λ k. chunk q n (chunk p k xs)) all ∙ ap (take n) (drop-take q (count - q) (drop p xs))
+    ∙ take-take n (count - q) (drop q (drop p xs)) (omega (arith, h)) ∙ ap (take n) (drop-drop q p xs)
 
 -- how long its span is
 pub span_length : (b : Span) (w : Width) → b.segments.size ≡ width_bytes w → IsBlend b → b.length ≡ width_bytes w * b.stop
@@ -229,7 +225,7 @@ module _ (m : Memory) (b : Span) (w : Width) (size : b.segments.size ≡ width_b
     elements_there n h =
         let one : length (chunk (k * n) k group_bytes) ≡ k = length-chunk (k * n) k group_bytes (omega (arith, long, fits n h)) in
         number_back k (chunk (k * n) k group_bytes) one (below_from_Fits w8 (chunk (k * n) k group_bytes) (chunk-fits w8 (k * n) k group_bytes below))
-        ∙ part_chunk p (k * n) k (k * b.stop) file (fits n h) whole
+        ∙ part_chunk p (k * n) k (k * b.stop) file (fits n h)
         ∙ ap (λ x. chunk x k file) (sym (place_is n)) ∙ ap (λ x. chunk (field_place (span_access b) 0 n) x file) (sym size)
 
     stores_next : (n : ℕ) → n < b.stop

@@ -7,7 +7,8 @@ use Rattle.std.proofs.lemmas.Bool.{cases_Bool, cases_lt}
 use Rattle.std.proofs.lemmas.Nat.{mul-le}
 use Rattle.std.proofs.lemmas.Simd.{get_or-chunk, get_or-put_chunk_above, get_or-put_chunk_at, get_or-put_chunk_below, length-chunk, length-put_chunk, put_chunk_is}
 use borrow.Rule.Slice.PartMut.{put_mid}
-use Rattle.std.proofs.Math.Nat.{mod-eq_of_lt}
+use Rattle.std.proofs.Math.Nat.{mod-eq_of_lt, mul_comm}
+use Rattle.rv_model.specs.declared.vector.sizes.TheConstants.{FILE_BYTES, VLENB}
 use Rattle.rv_model.specs.declared.memory.Access.{Access}
 use Rattle.rv_model.specs.declared.step.memory_end.MemEnd.TheVariants.{Cut, Done}
 use Rattle.rv_model.specs.accesses.Transfers.{Plan, are_allowed, memory_stored, registers_loaded, transfers}
@@ -150,6 +151,23 @@ module _ (b : Span) where
       → (i - b.body.start) * b.distance + f * b.segments.size + b.segments.size ≤ b.length
   field_inside i f low high some =
       omega (arith, b.span.inside (i - b.body.start) (omega (arith, low, high)), mul-le (f + 1) b.segments.size b.segments.fields b.segments.size (omega (arith, some)) (omega arith))
+
+  -- from its first element on, the registers have room for it
+  pub field_room : (n f start first : ℕ) → b.body.start + n < b.stop → f < b.segments.fields → start ≡ b.body.start
+      → first ≡ VLENB * (b.segments.register + f * b.segments.field_registers) + start * b.segments.size
+      → first + (n * b.segments.size + b.segments.size) ≤ FILE_BYTES
+  field_room n f start first high some same place =
+      let s = b.segments in
+      omega (
+        arith,
+        place,
+        ap (λ x. x * s.size) same,
+        b.span.room.inside,
+        b.span.room.room,
+        mul_comm s.size b.stop,
+        mul-le (b.body.start + n + 1) s.size b.stop s.size (omega (arith, high)) (omega arith),
+        mul-le (f + 1) s.field_registers s.fields s.field_registers (omega (arith, some)) (omega arith),
+      )
 
   pub field_begins : (i f : ℕ) → b.body.start ≤ i → i < b.stop → f < b.segments.fields
       → field_address (span_access b) f i ≡ b.address + ((i - b.body.start) * b.distance + f * b.segments.size)

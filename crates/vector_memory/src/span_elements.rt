@@ -8,7 +8,7 @@ ghost use Rattle.vector_memory.specs.SpanAccess.{IsRead, IsWritten, span_access}
 
 use crate::spans::Span;
 use lane_arith::Lane;
-use rv_model::{GROUP_BYTES, VFile};
+use rv_model::{FILE_BYTES, GROUP_BYTES, VFile};
 
 /// Copies the bytes of an element.
 #[inline(always)]
@@ -53,14 +53,15 @@ impl Span<'_> {
         let start = self.body.start();
         let size = self.segments.size;
         let distance = self.step();
+        let first = self.segments.place(start, field);
+        let source = &bytes[field * size..];
+        let group = file.part_mut(first, FILE_BYTES);
         for segment in 0..self.count() {
-            let index = start + segment;
-            let place = self.segments.place(index, field);
-            let at = segment * distance + field * size;
-            if self.body.lets(index) {
-                copy_lane::<L>(&bytes[at..at + size], file.part_mut(place, place + size));
+            let (at, place) = (segment * distance, segment * size);
+            if self.body.lets(start + segment) {
+                copy_lane::<L>(&source[at..at + size], &mut group[place..place + size]);
             } else if fill {
-                copy_lane::<L>(&[0xff; 8][..size], file.part_mut(place, place + size));
+                copy_lane::<L>(&[0xff; 8][..size], &mut group[place..place + size]);
             }
         }
     }
@@ -78,12 +79,13 @@ impl Span<'_> {
         let start = self.body.start();
         let size = self.segments.size;
         let distance = self.step();
+        let first = self.segments.place(start, field);
+        let group = file.part(first, FILE_BYTES);
+        let destination = &mut bytes[field * size..];
         for segment in 0..self.count() {
-            let index = start + segment;
-            if self.body.lets(index) {
-                let place = self.segments.place(index, field);
-                let at = segment * distance + field * size;
-                copy_lane::<L>(file.part(place, place + size), &mut bytes[at..at + size]);
+            if self.body.lets(start + segment) {
+                let (at, place) = (segment * distance, segment * size);
+                copy_lane::<L>(&group[place..place + size], &mut destination[at..at + size]);
             }
         }
     }
