@@ -115,6 +115,7 @@ IN_A_TURN = 18  # instructions
 TICKS = 256  # at most, of an instruction
 SECONDS = 0.15  # at least, of the turns that are timed
 COLUMNS = ["instruction", "sew", "lmul", "qemu_ns", "ns", "ns_before", "count", "count_before"]
+RATIOS = [0.25, 0.5, 1, 2, 4, 8, 16, 32]  # marked in the picture
 Run = Callable[[int], float]  # what so many turns take
 
 
@@ -281,7 +282,10 @@ def draw(file: pathlib.Path, picture: pathlib.Path) -> None:
     left.scatter([float(it["qemu_ns"]) / float(it["ns"]) for it in lines], places, s=9, color="#1f77b4")
     left.axvline(1, color=grey, linewidth=0.8)
     left.set(xscale="log", xlabel="QEMU's time over vecmon's: right of the line vecmon is faster", yticks=places, yticklabels=names)
-    left.tick_params(axis="y", labelsize=5, length=0)
+    left.set_xticks(RATIOS, [f"{it:g}" for it in RATIOS])
+    left.minorticks_off()
+    left.set_ylim(-1, len(lines))
+    left.tick_params(axis="y", labelsize=6, length=0)
     for name, colour in (("count_before", "#ff7f0e"), ("count", "#1f77b4")):
         found = [(float(it[name]), place) for place, it in zip(places, lines) if it.get(name)]
         label = "before" if name == "count_before" else "now"
