@@ -1,23 +1,20 @@
 -- Legality of operands that have the vector type's multiplier: their groups are aligned, and equal widths may overlap.
 use Rattle.std.proofs.Common.{◌≡◌, ℕ, zero, suc, ◌+◌, ◌*◌, ◌≤◌, Bool, ◌&&◌, ◌||◌, not, nat_lt, ◌==◌, max, min, refl, arith, ◌∙◌, ap}
-use Rattle.std.proofs.Math.Bool.{and-true, or-false, or-true}
+use Rattle.std.proofs.Math.Bool.{or-false, or-true}
 use Rattle.std.proofs.lemmas.Bool.Decides.{nat_tests}
-use Rattle.std.specs.Prelude.{[], ◌∷◌}
-use Rattle.rv_model.specs.declared.instructions.source.Source.{Source}
-use Rattle.rv_model.specs.declared.instructions.source.Source.TheVariants as source
+use Rattle.std.specs.Prelude.{◌∷◌}
 use Rattle.rv_model.specs.declared.legality.Role.{Role}
 use Rattle.rv_model.specs.declared.legality.Role.TheVariants.{Read, Control, Write, Apart}
-use Rattle.rv_model.specs.declared.legality.Shape.TheVariants.{Single}
 use Rattle.rv_model.specs.declared.vector.types.VType.{VType}
 use Rattle.rv_model.specs.declared.instructions.operations.Eew.{Eew}
 use Rattle.rv_model.specs.legality.Legality.{access_operands}
-use Rattle.rv_model.specs.legality.OperandShapes.{destination, group, mask, second_source, v0, vector_source}
+use Rattle.rv_model.specs.legality.OperandShapes.{group, mask, v0}
 use Rattle.rv_model.specs.legality.RegisterOperands.{allows, are_legal, is_group}
 use Rattle.rv_model.specs.vector.Configuration.{GroupType, element_width, group_type, lmul_eighths, sew_bits}
 use Rattle.rv_model.specs.vector.Registers.{registers}
 use Rattle.rv_model.proofs.legality_lemmas.Bounds.{emul-sew}
-use Rattle.reg_groups.specs.Roles.{is_apart_from_mask, of_vector, stands_beside}
-use Rattle.reg_groups.proofs.Sources.{masked_legal, sources_legal}
+use Rattle.reg_groups.specs.Roles.{is_apart_from_mask}
+use Rattle.reg_groups.proofs.Sources.{masked_legal}
 
 -- a destination holds v0 exactly where it begins with it
 pub holds_v0 : (a n : ℕ) → 1 ≤ n → nat_lt (max a 0) (min (a + 1 * n) (0 + 1 * 1)) ≡ (a == 0)
@@ -35,16 +32,6 @@ pub role_allows : (r : Role) (a : ℕ) (g : GroupType) → allows (group r a g) 
 role_allows Write a g = or-false _ ∙ apart_from_v0 a g
 role_allows Apart a g = or-false _ ∙ apart_from_v0 a g
 role_allows _ a g = or-true _
-
--- what a move asks of its operands
-pub move_legal : (from : Source) (vd : ℕ) (t : VType)
-    → are_legal (destination Single vd t ∷ second_source Single from t)
-    ≡ (is_group (destination Single vd t) && of_vector from (λ vs1. stands_beside (destination Single vd t) (vector_source Single vs1 t)))
-move_legal (source.V vs1) vd t =
-    sources_legal (group Write vd (group_type t)) (group Read vs1 (group_type t) ∷ []) (tt, tt)
-    ∙ ap (λ b. is_group (group Write vd (group_type t)) && b) (and-true _)
-move_legal (source.X rs1) vd t = sources_legal (group Write vd (group_type t)) [] tt
-move_legal (source.I imm) vd t = sources_legal (group Write vd (group_type t)) [] tt
 
 -- one group of elements of SEW beside the mask
 pub group_with_mask : (r : Role) (a : ℕ) (unmasked : Bool) (t : VType)

@@ -1,4 +1,5 @@
 mod EqualWidths
 mod Pairs
+mod Shapes
 mod Sources
 mod Widths

@@ -1,2 +1,3 @@
 pub mod GroupLending
+pub mod Irregular
 pub mod Roles

@@ -1,26 +1,26 @@
 //! Which vector instructions are legal.
-ghost use Rattle.std.specs.Prelude.{[], ◌∷◌, ◌≡◌, ◌↔◌, ◌+◌, ◌==◌, not, Some, None, true, false, ℕ};
+ghost use Rattle.std.specs.Prelude.{[], ◌∷◌, ◌≡◌, ◌↔◌, ◌+◌, ◌==◌, IsTrue, Some, None, true, false, ℕ};
 ghost use Rattle.std.specs.Option.{option_map_or};
-ghost use Rattle.rv_model.specs.legality.Legality.{IsLegal, access_operands, compress_operands, data_role, extension_operands, indexed_role, is_below_64, is_legal, is_narrow_only, is_reduction, mask_result, operands, starts_at_zero, unit_role, whole_move_operands};
+ghost use Rattle.rv_model.specs.legality.Legality.{IsLegal, access_operands, compress_operands, data_role, extension_operands, indexed_role, is_legal, mask_result, operands, unit_role, whole_move_operands};
 ghost use Rattle.rv_model.specs.legality.OperandShapes.{group, mask, v0};
 ghost use Rattle.rv_model.specs.legality.RegisterOperands.{are_legal, is_group};
-ghost use Rattle.rv_model.specs.vector.Configuration.{group_type, sew_bits, sew_width};
+ghost use Rattle.rv_model.specs.vector.Configuration.{group_type, sew_width};
 ghost use Rattle.rv_model.specs.vector.Groups.{registers_type};
+ghost use Rattle.reg_groups.specs.Irregular.{is_irregular};
 ghost use Rattle.reg_groups.specs.Roles.{is_apart_from_mask, is_mask_outside};
 
 use crate::agreement::is_group;
+use crate::arithmetic::{is_legal_move, is_legal_single, legal_arith};
 use crate::groups::registers;
 use crate::operands::{access_groups, element_bits, extension_source, field_groups, group};
-use crate::shapes::{
-    allows_v0, is_aligned, is_free_of_mask, is_legal_move, is_legal_shape, is_mask_register,
-    is_other_group, is_register, shape_of, stands_beside,
+use crate::positions::{
+    allows_v0, is_aligned, is_free_of_mask, is_mask_register, is_other_group, is_register,
+    stands_beside,
 };
 use rv_model::instructions::operations::{
-    BinaryOp, Direction, Eew, ExtendOp, FixedPointOp, MaskUnaryOp, RegisterCount, UnitOp, VectorOp,
+    Direction, Eew, ExtendOp, MaskUnaryOp, RegisterCount, UnitOp,
 };
-use rv_model::{
-    AccessInstr, Arith, Field, Instr, Operand, Role, Sew, Shape, VConf, VReg, VType, VectorInstr,
-};
+use rv_model::{AccessInstr, Field, Instr, Operand, Role, Sew, VConf, VReg, VType, VectorInstr};
 
 /// How many fields `nf` says.
 fn fields(nf: Field<3>) -> u8
@@ -253,22 +253,6 @@ fn has_legal_untyped_access(instr: AccessInstr) -> bool
     }
 }
 
-/// Whether an instruction may have its operands without a vector type: not if it needs one.
-#[tactic(auto, unfolding(rv_model::specs::legality::Legality::operands, rv_model::specs::legality::RegisterOperands::are_legal))]
-fn has_legal_untyped_operands(instr: &Instr) -> bool
-    ensures { result ≡ option_map_or are_legal (operands instr.now None) false }
-{
-    match *instr {
-        Instr::Scalar(_)
-        | Instr::Csr(_)
-        | Instr::Vector(VectorInstr::SetVli { .. })
-        | Instr::Vector(VectorInstr::SetIvli { .. })
-        | Instr::Vector(VectorInstr::SetVl { .. }) => true,
-        Instr::Vector(_) => false,
-        Instr::Access(access) => has_legal_untyped_access(access),
-    }
-}
-
 /// Whether a load or store may have its operands under a vector type.
 #[tactic(auto, using(crate::proofs::Sources::lone_legal), unfolding(rv_model::specs::legality::Legality::operands))]
 #[inline(always)]
@@ -312,206 +296,52 @@ fn has_legal_access(instr: AccessInstr, vtype: VType) -> bool
     }
 }
 
-/// Whether an instruction of vectors, but for loads and stores, may have its operands under a vector type.
-#[tactic(auto, using(crate::proofs::Sources::lone_legal), unfolding(rv_model::specs::legality::Legality::operands, rv_model::specs::legality::RegisterOperands::are_legal))]
+/// Whether an operation without a line of its own in the manual's table is legal under a vector type.
+#[tactic(auto, using(crate::proofs::Sources::lone_legal), unfolding(rv_model::specs::legality::Legality::is_legal, rv_model::specs::legality::Legality::operands, rv_model::specs::legality::RegisterOperands::are_legal))]
 #[inline(always)]
-fn has_legal_vector(instr: VectorInstr, vtype: VType) -> bool
-    ensures { result ≡ option_map_or are_legal (operands (Instr.Vector instr) (Some vtype)) false }
+fn is_legal_typed(operation: VectorInstr, vtype: VType, vstart: u8) -> bool
+    requires { IsTrue (is_irregular operation) }
+    ensures { result ≡ is_legal (Instr.Vector operation) (Some vtype) vstart }
 {
-    match instr {
-        VectorInstr::Arith { arith, vd, vs2, vm } => {
-            let (op, source) = arith.parts();
-            is_legal_shape(shape_of(op), vd, vs2, source, vm, vtype)
-        }
+    match operation {
         VectorInstr::Carry { carry, vd, vs2 } => {
             let (_, source) = carry.parts();
-            is_legal_shape(Shape::Single, vd, vs2, source, false, vtype)
+            is_legal_single(vd, vs2, source, false, vtype)
         }
         VectorInstr::Move { source, vd } => is_legal_move(source, vd, vtype),
         VectorInstr::WholeMove { count, vd, vs2 } => is_legal_whole_move(count, vd, vs2, vtype),
         VectorInstr::MaskLogic { vd, vs1, vs2, .. } => is_legal_mask_logic(vd, vs1, vs2),
-        VectorInstr::Compress { vd, vs1, vs2 } => is_legal_compression(vd, vs1, vs2, vtype),
-        VectorInstr::MaskToScalar { vs2, vm, .. } => is_legal_mask_source(vs2, vm),
+        VectorInstr::Compress { vd, vs1, vs2 } => {
+            is_legal_compression(vd, vs1, vs2, vtype) && vstart == 0
+        }
+        VectorInstr::MaskToScalar { vs2, vm, .. } => is_legal_mask_source(vs2, vm) && vstart == 0,
         VectorInstr::Extend { op, vd, vs2, vm } => is_legal_extension(op, vd, vs2, vm, vtype),
-        VectorInstr::MaskUnary { op, vd, vs2, vm } => is_legal_mask_unary(op, vd, vs2, vm, vtype),
+        VectorInstr::MaskUnary { op, vd, vs2, vm } => {
+            is_legal_mask_unary(op, vd, vs2, vm, vtype) && vstart == 0
+        }
         VectorInstr::ElementIndex { vd, vm } => is_legal_group(Role::Write, vd, vm, vtype),
         VectorInstr::MoveToScalar { vs2, .. } => is_register(vs2, vtype),
         VectorInstr::MoveToVector { vd, .. } => is_register(vd, vtype),
         VectorInstr::SetVli { .. } | VectorInstr::SetIvli { .. } | VectorInstr::SetVl { .. } =>
             true,
+        VectorInstr::Arith { .. } => unreachable!(),
     }
 }
 
-/// Whether an instruction may have its operands under a vector type.
-#[tactic(auto, unfolding(rv_model::specs::legality::Legality::operands, rv_model::specs::legality::RegisterOperands::are_legal))]
+/// Whether an operation without a line of its own in the manual's table is legal with this vector type and vstart.
+/// Those that set the vector type need none.
+#[tactic(auto, unfolding(rv_model::specs::legality::Legality::is_legal, rv_model::specs::legality::Legality::operands, rv_model::specs::legality::RegisterOperands::are_legal))]
 #[inline(always)]
-fn has_legal_operands(instr: &Instr, vtype: VType) -> bool
-    ensures { result ≡ option_map_or are_legal (operands instr.now (Some vtype)) false }
+pub fn legal_irregular(operation: &VectorInstr, conf: &VConf, vstart: u8) -> bool
+    requires { IsTrue (is_irregular operation.now) }
+    ensures { result ≡ is_legal (Instr.Vector operation.now) conf.now.vtype vstart }
 {
-    match *instr {
-        Instr::Vector(vector) => has_legal_vector(vector, vtype),
-        Instr::Access(access) => has_legal_access(access, vtype),
-        Instr::Scalar(_) | Instr::Csr(_) => true,
-    }
-}
-
-/// Whether it is a reduction.
-#[inline(always)]
-fn is_reduction(op: VectorOp) -> bool
-    ensures { result ≡ is_reduction op }
-{
-    match op {
-        VectorOp::Reduce(_) | VectorOp::WidenReduce(_) => true,
-        VectorOp::Binary(_)
-        | VectorOp::CarryOut(_)
-        | VectorOp::Compare(_)
-        | VectorOp::FixedPoint(_)
-        | VectorOp::NarrowShift(_)
-        | VectorOp::Clip(_)
-        | VectorOp::Widen(_)
-        | VectorOp::WideSource(_)
-        | VectorOp::MultiplyAdd(_)
-        | VectorOp::WidenMultiplyAdd(_)
-        | VectorOp::Permute(_) => false,
-    }
-}
-
-/// Whether an instruction has to begin with element 0.
-#[inline(always)]
-fn starts_at_zero(instr: &Instr) -> bool
-    ensures { result ≡ starts_at_zero instr.now }
-{
-    match *instr {
-        Instr::Vector(VectorInstr::Arith { arith, .. }) => {
-            let (op, _) = arith.parts();
-            is_reduction(op)
-        }
-        Instr::Vector(VectorInstr::Compress { .. })
-        | Instr::Vector(VectorInstr::MaskToScalar { .. })
-        | Instr::Vector(VectorInstr::MaskUnary { .. }) => true,
-        _ => false,
-    }
-}
-
-/// Whether it is an upper half of a product.
-#[inline(always)]
-fn has_wide_product(op: BinaryOp) -> bool
-    ensures { result ≡ is_narrow_only (VectorOp.Binary op) }
-{
-    match op {
-        BinaryOp::Vmulhu | BinaryOp::Vmulhsu | BinaryOp::Vmulh => true,
-        _ => false,
-    }
-}
-
-/// Whether it is a fractional product.
-#[inline(always)]
-fn is_fractional_product(op: FixedPointOp) -> bool
-    ensures { result ≡ is_narrow_only (VectorOp.FixedPoint op) }
-{
-    match op {
-        FixedPointOp::Vsmul => true,
-        _ => false,
-    }
-}
-
-/// Whether there is the operation for SEW below 64 alone.
-#[inline(always)]
-fn is_narrow_only(op: VectorOp) -> bool
-    ensures { result ≡ is_narrow_only op }
-{
-    match op {
-        VectorOp::Binary(op) => has_wide_product(op),
-        VectorOp::FixedPoint(op) => is_fractional_product(op),
-        VectorOp::CarryOut(_)
-        | VectorOp::Compare(_)
-        | VectorOp::NarrowShift(_)
-        | VectorOp::Clip(_)
-        | VectorOp::Widen(_)
-        | VectorOp::WideSource(_)
-        | VectorOp::MultiplyAdd(_)
-        | VectorOp::WidenMultiplyAdd(_)
-        | VectorOp::Reduce(_)
-        | VectorOp::WidenReduce(_)
-        | VectorOp::Permute(_) => false,
-    }
-}
-
-/// Whether there is the instruction for SEW below 64 alone.
-#[inline(always)]
-fn is_below_64(instr: &Instr) -> bool
-    ensures { result ≡ is_below_64 instr.now }
-{
-    match *instr {
-        Instr::Vector(VectorInstr::Arith { arith, .. }) => {
-            let (op, _) = arith.parts();
-            is_narrow_only(op)
-        }
-        _ => false,
-    }
-}
-
-/// Whether an instruction has its vector type, if it needs one, and may have its operands.
-#[inline(always)]
-fn may_have_operands(instr: &Instr, vtype: Option<VType>) -> bool
-    ensures { result ≡ option_map_or are_legal (operands instr.now vtype) false }
-{
-    match vtype {
-        Some(vtype) => has_legal_operands(instr, vtype),
-        None => has_legal_untyped_operands(instr),
-    }
-}
-
-/// Whether there is a vector type with a SEW below 64.
-#[inline(always)]
-fn is_narrow(vtype: Option<VType>) -> bool
-    ensures { result ≡ option_map_or (λ t. not (sew_bits t.sew == 64)) vtype false }
-{
-    match vtype {
-        Some(vtype) => vtype.sew.bits() != 64,
-        None => false,
-    }
-}
-
-/// Whether an instruction is legal; the test that the definitions have.
-#[tactic(auto, unfolding(rv_model::specs::legality::Legality::is_legal))]
-#[inline(always)]
-fn is_legal(instr: &Instr, conf: &VConf, vstart: u8) -> bool
-    ensures { result ≡ is_legal instr.now conf.now.vtype vstart }
-{
-    may_have_operands(instr, conf.vtype())
-        && (!starts_at_zero(instr) || vstart == 0)
-        && (!is_below_64(instr) || is_narrow(conf.vtype()))
-}
-
-/// Whether an operation with a line of its own in the manual's table is legal with this vector type and vstart,
-/// by its parts (sections 3.4.2, 5.2, 5.3 and 14).
-#[tactic(auto, unfolding(rv_model::specs::legality::Legality::is_legal, rv_model::specs::legality::Legality::operands))]
-#[inline(always)]
-pub fn legal_arith(
-    arith: Arith,
-    vd: VReg,
-    vs2: VReg,
-    unmasked: bool,
-    conf: &VConf,
-    vstart: u8,
-) -> bool
-    ensures { result ≡ is_legal (Instr.Vector (VectorInstr.Arith arith vd vs2 unmasked)) conf.now.vtype vstart }
-{
-    let Some(vtype) = conf.vtype() else {
-        return false;
-    };
-    let (op, source) = arith.parts();
-    match op {
-        VectorOp::Binary(op) => {
-            is_legal_shape(Shape::Single, vd, vs2, source, unmasked, vtype)
-                && (!has_wide_product(op) || vtype.sew.bits() != 64)
-        }
-        _ => {
-            is_legal_shape(shape_of(op), vd, vs2, source, unmasked, vtype)
-                && (!is_reduction(op) || vstart == 0)
-                && (!is_narrow_only(op) || vtype.sew.bits() != 64)
-        }
+    match conf.vtype() {
+        Some(vtype) => is_legal_typed(*operation, vtype, vstart),
+        None => matches!(
+            operation,
+            VectorInstr::SetVli { .. } | VectorInstr::SetIvli { .. } | VectorInstr::SetVl { .. }
+        ),
     }
 }
 
@@ -531,6 +361,22 @@ pub fn legal_access(access: &AccessInstr, conf: &VConf) -> bool
             };
             has_legal_access(*access, vtype)
         }
+    }
+}
+
+/// Whether an instruction is legal; the test that the definitions have.
+#[tactic(auto, unfolding(rv_model::specs::legality::Legality::is_legal, rv_model::specs::legality::Legality::operands, rv_model::specs::legality::RegisterOperands::are_legal))]
+#[inline(always)]
+fn is_legal(instr: &Instr, conf: &VConf, vstart: u8) -> bool
+    ensures { result ≡ is_legal instr.now conf.now.vtype vstart }
+{
+    match *instr {
+        Instr::Vector(VectorInstr::Arith { arith, vd, vs2, vm }) => {
+            legal_arith(arith, vd, vs2, vm, conf, vstart)
+        }
+        Instr::Vector(operation) => legal_irregular(&operation, conf, vstart),
+        Instr::Access(access) => legal_access(&access, conf),
+        Instr::Scalar(_) | Instr::Csr(_) => true,
     }
 }
 

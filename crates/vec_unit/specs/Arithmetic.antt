@@ -13,12 +13,8 @@ use Rattle.rv_model.specs.declared.instructions.operations.VectorOp.TheVariants.
   WidenReduce,
 }
 
--- no operation with a line of its own in the manual's table
-abbrev pub is_irregular : VectorInstr → Bool
-is_irregular (Arith arith vd vs2 vm) = false
-is_irregular _ = true
-
--- one of these that takes the vector type with the others: all but extensions and those that set it
+-- operations without a line of their own in the manual's table that take the vector type with the others: all but extensions
+-- and those that set it
 abbrev pub is_typed : VectorInstr → Bool
 is_typed (SetVli rd rs1 vtype) = false
 is_typed (SetIvli rd avl vtype) = false

@@ -5,14 +5,14 @@ ghost use Rattle.rv_model.specs.step.Hart.{hart_state};
 ghost use Rattle.rv_model.specs.step.Resumes.{InstructionGoesOn};
 ghost use Rattle.rv_model.specs.step.VectorStep.{is_vector, operation_step, vector_ends, vector_executed};
 ghost use Rattle.rv_model.specs.legality.Legality.{is_legal};
-ghost use Rattle.vec_unit.specs.Arithmetic.{is_irregular};
+ghost use Rattle.reg_groups.specs.Irregular.{is_irregular};
 
 use crate::arithmetic::{perform_arith, perform_extension};
 use crate::extend::ExtendOperation;
 use crate::irregular_operations::perform_typed;
 use crate::memory_instructions::exec_other_access;
 use crate::vset::{configure, requested_length};
-use reg_groups::{legal, legal_arith};
+use reg_groups::{legal_arith, legal_irregular};
 use rv_model::{ArithOperation, Instr, Policy, RequestedLength, Scalar, VEnd, VState, VectorInstr};
 use vector_memory::UserBytes;
 
@@ -112,7 +112,7 @@ pub fn exec_operation(
     ensures illegal_state { result ≡ VEnd.Illegal → state.new ≡ state.old }
     ensures illegal_scalar { result ≡ VEnd.Illegal → scalar.new ≡ scalar.old }
 {
-    if !legal(&Instr::Vector(*operation), &state.conf, state.vstart) {
+    if !legal_irregular(operation, &state.conf, state.vstart) {
         return VEnd::Illegal;
     }
     perform_irregular(operation, state, scalar, policy)

@@ -1,0 +1,8 @@
+-- Vector operations without a line of their own in the manual's table ("V" Vector Extension 1.0, chapter 19).
+use Rattle.std.specs.Prelude.{Bool, true, false}
+use Rattle.rv_model.specs.declared.instructions.vector.VectorInstr.{VectorInstr}
+use Rattle.rv_model.specs.declared.instructions.vector.VectorInstr.TheVariants.{Arith}
+
+abbrev pub is_irregular : VectorInstr → Bool
+is_irregular (Arith arith vd vs2 vm) = false
+is_irregular _ = true

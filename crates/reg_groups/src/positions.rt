@@ -1,0 +1,145 @@
+//! Where a group of registers may begin, by itself and beside a destination ("V" Vector Extension 1.0, sections
+//! 3.4.2, 5.2 and 5.3).
+ghost use Rattle.std.specs.Prelude.{◌||◌, ◌≡◌, ◌==◌, ◌*◌, not};
+ghost use Rattle.rv_model.specs.legality.OperandShapes.{destination, group, mask, vector_source};
+ghost use Rattle.rv_model.specs.legality.RegisterOperands.{allows, is_group};
+ghost use Rattle.rv_model.specs.vector.Configuration.{group_type, lmul_eighths, sew_width};
+ghost use Rattle.rv_model.specs.vector.Groups.{single_type, wide_type};
+ghost use Rattle.reg_groups.specs.Roles.{groups_of, is_beside_mask, is_other_group, is_wide_beside, stands_beside};
+
+use crate::agreement::{allows, is_group};
+use crate::groups::registers;
+use crate::operands::{group, index_group, mask};
+use rv_model::{Lmul, Operand, Role, Shape, VReg, VType};
+
+/// Whether a group of the vector type's multiplier may begin with a register. One that is aligned ends inside
+/// the file.
+#[inline(always)]
+pub(crate) fn is_aligned(first: VReg, vtype: VType) -> bool
+    ensures { result ≡ is_group (group Role.Read first (group_type vtype)) }
+{
+    let low_bits = match vtype.lmul {
+        Lmul::Mf8 | Lmul::Mf4 | Lmul::Mf2 | Lmul::M1 => 0,
+        Lmul::M2 => 1,
+        Lmul::M4 => 3,
+        Lmul::M8 => 7,
+    };
+    first.number() & low_bits == 0
+}
+
+/// Whether a destination begins after the mask of the same instruction, if that has one.
+#[inline(always)]
+pub(crate) fn is_free_of_mask(vd: VReg, unmasked: bool) -> bool
+    ensures { result ≡ (unmasked || not (vd == 0)) }
+{
+    unmasked || vd.number() != 0
+}
+
+/// Whether a source is a group, and the destination agrees with it.
+#[inline(always)]
+pub(crate) fn stands_beside(destination: &Operand, source: &Operand) -> bool
+    ensures { result ≡ stands_beside destination.now source.now }
+{
+    is_group(source) && allows(destination, source)
+}
+
+/// Whether what an instruction does with the registers of an operand agrees with its mask, if it has one.
+#[inline(always)]
+pub(crate) fn allows_v0(operand: &Operand, unmasked: bool) -> bool
+    ensures { result ≡ (unmasked || allows operand.now (mask Role.Control 0)) }
+{
+    unmasked || allows(operand, &mask(Role::Control, VReg::new(0)))
+}
+
+/// Whether a group may be read where a mask is written: the mask is outside of it, or its first register.
+#[inline(always)]
+pub(crate) fn is_beside_mask(vd: VReg, first: VReg, vtype: VType) -> bool
+    ensures { result ≡ is_beside_mask vd first vtype }
+{
+    let size = registers(u32::from(vtype.lmul.eighths()));
+    is_aligned(first, vtype)
+        && (vd.number() <= first.number() || first.number() + size <= vd.number())
+}
+
+/// Whether a register may hold a mask: each may.
+#[inline(always)]
+pub(crate) fn is_mask_register(register: VReg) -> bool
+    ensures { result ≡ is_group (mask Role.Read register) }
+{
+    // The number is looked at for its bound alone, of which the proof is made.
+    let _number = register.number();
+    true
+}
+
+/// Whether a register may hold elements of SEW: each may.
+#[inline(always)]
+pub(crate) fn is_register(register: VReg, vtype: VType) -> bool
+    ensures { result ≡ is_group (group Role.Read register (single_type (sew_width vtype.sew))) }
+{
+    // The number and the width are looked at for their bounds alone.
+    let _number = register.number();
+    let _bits = vtype.sew.bits();
+    true
+}
+
+/// Whether a register may hold elements of twice SEW.
+#[inline(always)]
+#[tactic(auto, using(crate::proofs::Widths::doubled_bits))]
+pub(crate) fn is_wide_register(register: VReg, vtype: VType) -> bool
+    ensures { result ≡ is_group (group Role.Read register (single_type (wide_type vtype).width)) }
+{
+    let _number = register.number();
+    vtype.sew.bits() != 64
+}
+
+/// Whether a group of twice the vector type's multiplier may begin with a register. There is none if LMUL is 8.
+#[inline(always)]
+fn is_aligned_twice(first: VReg, vtype: VType) -> bool
+    ensures { result ≡ is_group (groups_of Role.Read 1 first 8 (2 * lmul_eighths vtype.lmul)) }
+{
+    let low_bits = match vtype.lmul {
+        Lmul::Mf8 | Lmul::Mf4 | Lmul::Mf2 => 0,
+        Lmul::M1 => 1,
+        Lmul::M2 => 3,
+        Lmul::M4 => 7,
+        Lmul::M8 => return false,
+    };
+    first.number() & low_bits == 0
+}
+
+/// Whether a group of elements of twice SEW may begin with a register. There is none if SEW is 64.
+#[inline(always)]
+#[tactic(auto, using(crate::proofs::Pairs::wide_aligned))]
+pub(crate) fn is_wide_aligned(first: VReg, vtype: VType) -> bool
+    ensures { result ≡ is_group (group Role.Read first (wide_type vtype)) }
+{
+    vtype.sew.bits() != 64 && is_aligned_twice(first, vtype)
+}
+
+/// Whether a group of the vector type may begin with a register, which is another one than `vd`.
+#[inline(always)]
+pub(crate) fn is_other_group(vd: VReg, first: VReg, vtype: VType) -> bool
+    ensures { result ≡ is_other_group vd first vtype }
+{
+    is_aligned(first, vtype) && vd.number() != first.number()
+}
+
+/// Whether a group of elements of twice SEW may be read where one of the vector type is written: it doesn't
+/// hold it beyond its own first registers.
+#[inline(always)]
+pub(crate) fn is_wide_beside(vd: VReg, first: VReg, vtype: VType) -> bool
+    ensures { result ≡ is_wide_beside vd first vtype }
+{
+    let size = registers(2 * u32::from(vtype.lmul.eighths()));
+    is_wide_aligned(first, vtype)
+        && (vd.number() <= first.number() || first.number() + size <= vd.number())
+}
+
+/// Whether a group of indices of 16 bits may be read beside a destination that may not overlap it.
+#[inline(always)]
+pub(crate) fn are_indices_apart(vd: VReg, first: VReg, vtype: VType) -> bool
+    ensures { result ≡ stands_beside (destination Shape.GatherIndices16 vd vtype) (vector_source Shape.GatherIndices16 first vtype) }
+{
+    let indices = index_group(Role::Read, first, vtype);
+    stands_beside(&group(Role::Apart, vd, vtype), &indices)
+}
