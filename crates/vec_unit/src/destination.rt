@@ -135,7 +135,6 @@ pub(crate) fn fill_agnostic<L: Lane>(
     requires most { emul ≤ 64 }
     requires whole { length group.old ≡ VLENB * registers emul }
     requires room { width_bytes L.width * body.now.end ≤ VLENB * registers emul }
-    requires least { body.now.end ≤ GROUP_BYTES }
     ensures { Writes (width_bytes L.width) (is_agnostic body.now agnostic.fill_masked_off agnostic.fill_tail)
         (λ i. ones L.width) group.old group.new }
 {
