@@ -21,5 +21,5 @@ returns g c =
     two_operands t t (compare_formula o.op t.width) c.group-a.result.now c.second_in_place-b.result.now file o.vs2 body.end
     (second_element t false o.source file x) c.group-a.ensures.value
     (λ j h. c.second_in_place-b.ensures.elements j (omega (arith, h, c.end.ensures))
-    ∙ ap (λ (s : SecondOperand). second_element (record { width = t.width; emul = s.emul }) s.unsigned s.source file x j) c.signed.ensures) i (active_end body i active))
+    ∙ ap (λ (s : SecondOperand). second_element (record { width = t.width; emul = s.emul }) s.unsigned s.source file x j) c.signed_operand-operand.ensures) i (active_end body i active))
     c.write_mask_results.ensures
