@@ -1,1 +1,2 @@
+pub mod SecondElements
 pub mod SimdOperations

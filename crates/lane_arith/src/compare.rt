@@ -1,6 +1,7 @@
 //! Comparisons, and carries and borrows as masks ("V" Vector Extension 1.0, sections 11.4 and 11.8).
 ghost use Rattle.std.specs.Prelude.{◌≡◌, ◌<◌, ◌&&◌, not, ℕ};
 ghost use Rattle.rv_model.specs.declared.vector.sizes.TheConstants.{GROUP_BYTES};
+ghost use Rattle.lane_arith.specs.SecondElements.{HasNumber, number_at};
 ghost use Rattle.rv_model.specs.elements.Elements.{element, mask_bit};
 ghost use Rattle.rv_model.specs.lending.Writes.{HasElement};
 ghost use Rattle.rv_model.specs.elements.Formulas.{carry_out_formula, compare_formula};
@@ -11,6 +12,7 @@ use crate::lane::Lane;
 use crate::mask_operand::bit_of;
 use crate::mask_results::MaskResults;
 use crate::operand::operand_chunk;
+use crate::second_elements::SecondElements;
 use rv_model::VLENB;
 use rv_model::instructions::operations::{CarryOutOp, CompareOp};
 
@@ -19,7 +21,7 @@ use rv_model::instructions::operations::{CarryOutOp, CompareOp};
 pub struct Compare<'a> {
     pub op: CompareOp,
     pub a: &'a [u8],
-    pub b: &'a [u8],
+    pub b: SecondElements<'a>,
 }
 
 /// Whether two elements compare so.
@@ -39,17 +41,17 @@ fn holds<L: Lane>(op: CompareOp, a: L, b: L) -> bool
 }
 
 impl<'a, L: Lane> MaskResults<L> for Compare<'a> {
-    ghost bit = { λ r i. compare_formula r.op L.width (element (width_bytes L.width) r.a.now i) (element (width_bytes L.width) r.b.now i) };
+    ghost bit = { λ r i. compare_formula r.op L.width (element (width_bytes L.width) r.a.now i) (number_at L.width r.b i) };
 
-    ghost has = { λ r i. HasElement (width_bytes L.width) r.a.now i × HasElement (width_bytes L.width) r.b.now i };
+    ghost has = { λ r i. HasElement (width_bytes L.width) r.a.now i × HasNumber L.width r.b i };
 
     fn bit(&self, index: usize) -> bool {
-        holds(self.op, L::load(self.a, index), L::load(self.b, index))
+        holds(self.op, L::load(self.a, index), self.b.element::<L>(index))
     }
 
     fn chunk_bits(&self, chunk: usize) -> Option<u64> {
         let a = operand_chunk::<L>(self.a, chunk)?;
-        let b = operand_chunk::<L>(self.b, chunk)?;
+        let b = self.b.chunk::<L>(chunk)?;
         Some(compare::<L>(self.op, a, b))
     }
 }

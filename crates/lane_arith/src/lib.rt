@@ -20,6 +20,7 @@ mod operand;
 mod operation_loops;
 mod operations;
 mod results;
+mod second_elements;
 mod whole_number;
 mod widen;
 
@@ -38,5 +39,6 @@ pub use narrow_shift::NarrowShift;
 pub use operand::{chunk_elements, operand_chunk};
 pub use operations::apply;
 pub use results::{Results, fill, put_results, write_results};
+pub use second_elements::SecondElements;
 pub use whole_number::wrapped;
 pub use widen::{WideSource, Widen, WidenMultiplyAdd, apply_wide};

@@ -1,5 +1,6 @@
 //! Shifts of elements of twice the width ("V" Vector Extension 1.0, section 11.7).
 ghost use Rattle.std.specs.Prelude.{◌≡◌, ◌%◌, ℕ};
+ghost use Rattle.lane_arith.specs.SecondElements.{HasNumber, number_at};
 ghost use Rattle.rv_model.specs.elements.Elements.{element};
 ghost use Rattle.rv_model.specs.lending.Writes.{HasElement};
 ghost use Rattle.rv_model.specs.elements.Formulas.{narrow_shift_formula, wrap};
@@ -8,6 +9,7 @@ ghost use mir.Val.{bits};
 
 use crate::lane::Lane;
 use crate::results::Results;
+use crate::second_elements::SecondElements;
 use rv_model::instructions::operations::NarrowShiftOp;
 use std::marker::PhantomData;
 
@@ -16,7 +18,7 @@ use std::marker::PhantomData;
 pub struct NarrowShift<'a, W> {
     pub op: NarrowShiftOp,
     pub a: &'a [u8],
-    pub b: &'a [u8],
+    pub b: SecondElements<'a>,
     pub element: PhantomData<W>,
 }
 
@@ -40,11 +42,11 @@ fn narrowed<N: Lane, W: Lane>(op: NarrowShiftOp, a: W, b: N) -> N
 
 impl<'a, N: Lane, W: Lane> Results<N> for NarrowShift<'a, W> {
     ghost number = { λ r i. wrap N.width (narrow_shift_formula r.op W.width (element (width_bytes W.width) r.a.now i)
-        (element (width_bytes N.width) r.b.now i)) };
+        (number_at N.width r.b i)) };
 
-    ghost has = { λ r i. HasElement (width_bytes W.width) r.a.now i × HasElement (width_bytes N.width) r.b.now i };
+    ghost has = { λ r i. HasElement (width_bytes W.width) r.a.now i × HasNumber N.width r.b i };
 
     fn result(&self, index: usize) -> N {
-        narrowed(self.op, W::load(self.a, index), N::load(self.b, index))
+        narrowed(self.op, W::load(self.a, index), self.b.element::<N>(index))
     }
 }

@@ -2,6 +2,7 @@
 //! and 11.14). `N` is the lesser width, and `W` the other.
 ghost use Rattle.std.specs.Prelude.{◌≡◌, ◌+ℤ◌, ◌*ℤ◌, pos, ℕ, ℤ};
 ghost use Rattle.std.specs.Int.{cast_signed};
+ghost use Rattle.lane_arith.specs.SecondElements.{HasNumber, number_at};
 ghost use Rattle.rv_model.specs.elements.Elements.{element};
 ghost use Rattle.rv_model.specs.lending.Writes.{HasElement};
 ghost use Rattle.rv_model.specs.elements.Formulas.{wide_source_formula, widen_formula, widen_multiply_add_formula, wrap};
@@ -10,6 +11,7 @@ ghost use Rattle.rv_model.specs.vector.Configuration.{width_bytes};
 use crate::lane::Lane;
 use crate::operations::sum;
 use crate::results::Results;
+use crate::second_elements::SecondElements;
 use crate::whole_number::{full_difference, full_sum, wrapped};
 use rv_model::instructions::operations::{WideSourceOp, WidenMultiplyAddOp, WidenOp};
 use scalar_core::{full_mixed, full_signed};
@@ -41,7 +43,7 @@ fn mixed_product<N: Lane, W: Lane>(a: N, b: N) -> W
 pub struct Widen<'a, N> {
     pub op: WidenOp,
     pub a: &'a [u8],
-    pub b: &'a [u8],
+    pub b: SecondElements<'a>,
     pub element: PhantomData<N>,
 }
 
@@ -62,12 +64,12 @@ fn widened<N: Lane, W: Lane>(op: WidenOp, a: N, b: N) -> W
 
 impl<'a, N: Lane, W: Lane> Results<W> for Widen<'a, N> {
     ghost number = { λ r i. wrap W.width (widen_formula r.op N.width (element (width_bytes N.width) r.a.now i)
-        (element (width_bytes N.width) r.b.now i)) };
+        (number_at N.width r.b i)) };
 
-    ghost has = { λ r i. HasElement (width_bytes N.width) r.a.now i × HasElement (width_bytes N.width) r.b.now i };
+    ghost has = { λ r i. HasElement (width_bytes N.width) r.a.now i × HasNumber N.width r.b i };
 
     fn result(&self, index: usize) -> W {
-        widened(self.op, N::load(self.a, index), N::load(self.b, index))
+        widened(self.op, N::load(self.a, index), self.b.element::<N>(index))
     }
 }
 

@@ -7,7 +7,7 @@ use crate::numbers::{bit_at, power, signed, unsigned};
 use crate::operands::{Inputs, Operands};
 use crate::report::Report;
 use crate::variants::Variants;
-use lane_arith::{CarryOut, Compare, Lane, write_mask_results};
+use lane_arith::{CarryOut, Compare, Lane, SecondElements, write_mask_results};
 use mask_unit::{MaskLogic, MaskScan, first};
 use rv_model::instructions::operations::{CarryOutOp, CompareOp, MaskLogicOp, MaskScanOp};
 
@@ -84,6 +84,7 @@ fn bit_bytes(destination: &[u8]) -> usize
 impl Kernel for CompareOp {
     fn write<N: Lane, W: Lane>(&self, case: &Case<'_>, destination: &mut [u8]) -> bool {
         let Operands { a, b, .. } = case.operands;
+        let b = SecondElements::of(b);
         let kernel = Compare { op: *self, a, b };
         let count = bit_bytes(destination);
         write_mask_results::<N, Compare<'_>>(&kernel, case.body, &mut destination[..count]);

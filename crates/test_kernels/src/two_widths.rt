@@ -7,7 +7,9 @@ use crate::comparison::{Case, Kernel, MASKED, Sweep, compare_kernels};
 use crate::numbers::{shift, signed, unsigned};
 use crate::operands::Operands;
 use crate::report::Report;
-use lane_arith::{Extend, Lane, NarrowShift, WideSource, Widen, WidenMultiplyAdd, write_results};
+use lane_arith::{
+    Extend, Lane, NarrowShift, SecondElements, WideSource, Widen, WidenMultiplyAdd, write_results,
+};
 use rv_model::instructions::operations::{
     ExtendOp, NarrowShiftOp, WideSourceOp, WidenMultiplyAddOp, WidenOp,
 };
@@ -90,7 +92,7 @@ impl Kernel for WidenOp {
         let kernel = Widen::<'_, N> {
             op: *self,
             a: &case.operands.a,
-            b: &case.operands.b,
+            b: SecondElements::of(&case.operands.b),
             element: PhantomData,
         };
         write_results::<W, Widen<'_, N>>(&kernel, case.body, destination, case.fill);
@@ -176,7 +178,7 @@ impl Kernel for NarrowShiftOp {
         let kernel = NarrowShift::<'_, W> {
             op: *self,
             a: &case.operands.a,
-            b: &case.operands.b,
+            b: SecondElements::of(&case.operands.b),
             element: PhantomData,
         };
         write_results::<N, NarrowShift<'_, W>>(&kernel, case.body, destination, case.fill);

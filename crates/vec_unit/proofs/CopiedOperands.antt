@@ -5,6 +5,13 @@ use Rattle.rv_model.specs.vector.Configuration.{GroupType, width_bytes}
 use Rattle.rv_model.specs.elements.Elements.{element}
 use Rattle.rv_model.specs.vector.Registers.{group_of}
 
+-- what is made of an element of a copy of a group, and of a number that is told
+pub told_second : {A : Type 0} (u : GroupType) (made : ℕ → ℕ → A) (first file : List ℕ) (vs2 i number told : ℕ)
+    → first ≡ group_of file vs2 u.emul → number ≡ told
+    → made (element (width_bytes u.width) first i) number ≡ made (group_element u file vs2 i) told
+told_second u made first file vs2 i number told copied same =
+    ap (λ bytes. made (element (width_bytes u.width) bytes i) number) copied ∙ ap (made (group_element u file vs2 i)) same
+
 -- what is made of an element of each of two copies, the first of a group and the second of elements that are told
 pub two_operands : {A : Type 0} (u v : GroupType) (made : ℕ → ℕ → A) (first second file : List ℕ) (vs2 end : ℕ) (told : ℕ → ℕ)
     → first ≡ group_of file vs2 u.emul
@@ -13,8 +20,7 @@ pub two_operands : {A : Type 0} (u v : GroupType) (made : ℕ → ℕ → A) (fi
     → made (element (width_bytes u.width) first i) (element (width_bytes v.width) second i)
     ≡ made (group_element u file vs2 i) (told i)
 two_operands u v made first second file vs2 end told copied same i h =
-    ap (λ bytes. made (element (width_bytes u.width) bytes i) (element (width_bytes v.width) second i)) copied
-    ∙ ap (made (group_element u file vs2 i)) (same i h)
+    told_second u made first file vs2 i (element (width_bytes v.width) second i) (told i) copied (same i h)
 
 -- the same with a third operand
 pub three_operands : {A B : Type 0} (u v : GroupType) (made : ℕ → ℕ → B → A) (first second file : List ℕ) (vs2 end : ℕ)

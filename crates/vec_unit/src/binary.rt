@@ -9,8 +9,8 @@ ghost use Rattle.vec_unit.specs.InTurn.{IsInTurn, IsReadFirst, SourceIsReadFirst
 
 use crate::destination::{Destination, write_group};
 use crate::element_wise::ElementWise;
-use crate::in_turn::{InTurn, is_read_first, is_source_read_first, second_number};
-use crate::operands::{SecondOperand, second_copy};
+use crate::in_turn::{InTurn, is_read_first, is_source_read_first};
+use crate::operands::{SecondOperand, second_copy, second_number};
 use lane_arith::chunk::is_simd;
 use lane_arith::{Binary, Body, Lane};
 use reg_groups::{group_copy, group_mut, registers};

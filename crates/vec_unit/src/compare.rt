@@ -4,7 +4,7 @@ ghost use Rattle.rv_model.specs.elements.Arithmetic.{carry_out_result, compare_r
 ghost use Rattle.rv_model.specs.lending.GroupBounds.{IsInside, SourceIsInside};
 
 use crate::mask_wise::MaskWise;
-use crate::operands::{second_in_place, signed};
+use crate::operands::{second_elements, second_in_place, signed_operand};
 use lane_arith::{Body, CarryOut, Compare, Lane, write_mask_results};
 use reg_groups::group;
 use rv_model::instructions::operations::{CarryOutOp, CompareOp};
@@ -31,15 +31,8 @@ impl MaskWise for CompareOperation {
         scalar: &Scalar,
         mask: &mut [u8],
     ) {
-        let mut copies = [0; GROUP_BYTES];
         let a = group(file, self.vs2, emul);
-        let b = second_in_place::<L>(
-            signed(self.source, emul),
-            body.end(),
-            file,
-            scalar,
-            &mut copies,
-        );
+        let b = second_elements(signed_operand(self.source, emul), file, scalar);
         let results = Compare { op: self.op, a, b };
         write_mask_results::<L, Compare<'_>>(&results, body, mask);
     }
@@ -83,13 +76,8 @@ impl MaskWise for CarryOutOperation {
     ) {
         let mut copies = [0; GROUP_BYTES];
         let a = group(file, self.vs2, emul);
-        let b = second_in_place::<L>(
-            signed(self.source, emul),
-            body.end(),
-            file,
-            scalar,
-            &mut copies,
-        );
+        let operand = signed_operand(self.source, emul);
+        let b = second_in_place::<L>(operand, body.end(), file, scalar, &mut copies);
         let results = CarryOut {
             op: self.op,
             a,

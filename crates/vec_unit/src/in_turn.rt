@@ -12,13 +12,11 @@ ghost use Rattle.vec_unit.specs.InTurn.{
   SourceIsReadFirst,
   number_from,
   second_in,
-  second_number,
   test_from,
   turn_result,
 };
 ghost use mir.Val.{bits};
 
-use crate::operands::immediate_value;
 use lane_arith::chunk::simd_results;
 use lane_arith::{Body, Lane, active_bits, chunk_elements, filled_bits, let_bits, put_results};
 use rv_model::instructions::operations::BinaryOp;
@@ -44,18 +42,6 @@ pub(crate) fn is_source_read_first(source: Source, written: VReg, registers: u32
     match source {
         Source::V(vs1) => is_read_first(vs1, written, registers),
         _ => true,
-    }
-}
-
-/// The number of a second operand that is a scalar or an immediate.
-#[inline(always)]
-pub(crate) fn second_number(unsigned: bool, source: Source, scalar: &Scalar) -> u64
-    ensures { result ≡ second_number unsigned source scalar.now }
-{
-    match source {
-        Source::V(_) => 0,
-        Source::X(rs1) => scalar.read(rs1),
-        Source::I(imm) => immediate_value(unsigned, imm),
     }
 }
 

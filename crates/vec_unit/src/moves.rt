@@ -5,7 +5,7 @@ ghost use Rattle.std.specs.Prelude.{false};
 
 use crate::destination::{Destination, write_group};
 use crate::element_wise::ElementWise;
-use crate::operands::{second_copy, signed};
+use crate::operands::{second_copy, signed_operand};
 use lane_arith::{Body, Copies, Lane};
 use rv_model::{GROUP_BYTES, Scalar, Source, VFile};
 
@@ -29,7 +29,7 @@ impl ElementWise for Move {
     ) {
         let mut copy = [0; GROUP_BYTES];
         let emul = destination.emul;
-        let operand = signed(self.source, emul);
+        let operand = signed_operand(self.source, emul);
         let b = second_copy::<L>(operand, body.end(), file, scalar, &mut copy);
         write_group::<L, Copies<'_>>(&Copies { b }, destination, body, file);
     }

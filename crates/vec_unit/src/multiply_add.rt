@@ -5,7 +5,7 @@ ghost use Rattle.rv_model.specs.lending.GroupBounds.{IsInside, SourceIsInside};
 
 use crate::destination::{Destination, write_group};
 use crate::element_wise::ElementWise;
-use crate::operands::{second_copy, signed};
+use crate::operands::{second_copy, signed_operand};
 use lane_arith::{Body, Lane, MultiplyAdd};
 use reg_groups::group_copy_mut;
 use rv_model::instructions::operations::MultiplyAddOp;
@@ -50,7 +50,7 @@ impl ElementWise for MultiplyAddOperation {
         let mut third = [0; GROUP_BYTES];
         let emul = destination.emul;
         let a: &[u8] = group_copy_mut(file, self.vs2, emul, &mut first);
-        let operand = signed(self.source, emul);
+        let operand = signed_operand(self.source, emul);
         let b = second_copy::<L>(operand, body.end(), file, scalar, &mut second);
         let d: &[u8] = group_copy_mut(file, self.vd, emul, &mut third);
         let results = MultiplyAdd {

@@ -2,12 +2,12 @@
 ghost use Rattle.rv_model.specs.elements.Arithmetic.{narrow_shift_result};
 ghost use Rattle.rv_model.specs.lending.GroupBounds.{IsInside, SourceIsInside};
 
-use crate::operands::{SecondOperand, second_in_place};
+use crate::operands::{SecondOperand, second_elements};
 use crate::two_widths::{Groups, TwoWidths};
 use lane_arith::{Body, Lane, NarrowShift, write_results};
 use reg_groups::group;
 use rv_model::instructions::operations::NarrowShiftOp;
-use rv_model::{GROUP_BYTES, Scalar, Source, VFile, VReg};
+use rv_model::{Scalar, Source, VFile, VReg};
 use std::marker::PhantomData;
 
 /// A shift and its sources.
@@ -31,7 +31,6 @@ impl TwoWidths for NarrowShiftOperation {
         scalar: &Scalar,
         made: &mut [u8],
     ) {
-        let mut copies = [0; GROUP_BYTES];
         let operand = SecondOperand {
             source: self.source,
             unsigned: true,
@@ -40,7 +39,7 @@ impl TwoWidths for NarrowShiftOperation {
         let results = NarrowShift::<'_, O> {
             op: self.op,
             a: group(file, self.vs2, groups.other),
-            b: second_in_place::<D>(operand, body.end(), file, scalar, &mut copies),
+            b: second_elements(operand, file, scalar),
             element: PhantomData,
         };
         write_results::<D, NarrowShift<'_, O>>(&results, body, made, false);

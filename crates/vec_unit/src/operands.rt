@@ -1,14 +1,17 @@
-//! The second operand of an element-wise instruction, copied ("V" Vector Extension 1.0, sections 5.2 and 11.1).
+//! The second operand of an element-wise instruction ("V" Vector Extension 1.0, sections 5.2 and 11.1).
 ghost use Rattle.std.specs.Prelude.{◌≡◌, ◌*◌, ◌%◌, ◌^◌, ◌<◌, ◌≤◌, ℕ, false, length};
 ghost use Rattle.rv_model.specs.elements.Elements.{element};
 ghost use Rattle.rv_model.specs.vector.Registers.{registers};
 ghost use Rattle.rv_model.specs.lending.GroupBounds.{SourceIsInside};
 ghost use Rattle.rv_model.specs.elements.Arithmetic.{second_element};
 ghost use Rattle.rv_model.specs.elements.Formulas.{immediate_value};
+ghost use Rattle.lane_arith.specs.SecondElements.{HasNumber, number_at};
 ghost use Rattle.rv_model.specs.vector.Configuration.{width_bytes};
+ghost use Rattle.std.specs.Int.{Width};
+ghost use Rattle.vec_unit.specs.InTurn.{second_number};
 ghost use mir.Val.{bits};
 
-use lane_arith::{Lane, fill};
+use lane_arith::{Lane, SecondElements, fill};
 use reg_groups::{group, group_copy};
 use rv_model::{Field, GROUP_BYTES, Scalar, Source, VFile, VLENB};
 
@@ -21,6 +24,18 @@ pub(crate) fn immediate_value(unsigned: bool, imm: Field<5>) -> u64
         value
     } else {
         value.wrapping_sub(1 << 5)
+    }
+}
+
+/// The number of a second operand that is a scalar or an immediate.
+#[inline(always)]
+pub(crate) fn second_number(unsigned: bool, source: Source, scalar: &Scalar) -> u64
+    ensures { result ≡ second_number unsigned source scalar.now }
+{
+    match source {
+        Source::V(_) => 0,
+        Source::X(rs1) => scalar.read(rs1),
+        Source::I(imm) => immediate_value(unsigned, imm),
     }
 }
 
@@ -45,13 +60,32 @@ pub(crate) struct SecondOperand {
 }
 
 /// A second operand whose immediate is signed.
-pub(crate) fn signed(source: Source, emul: u32) -> SecondOperand
+pub(crate) fn signed_operand(source: Source, emul: u32) -> SecondOperand
     ensures { result ≡ record { source = source; unsigned = false; emul = emul } }
 {
     SecondOperand {
         source,
         unsigned: false,
         emul,
+    }
+}
+
+/// The elements of a second operand, where they stand, or its one number.
+pub(crate) fn second_elements<'a>(
+    operand: SecondOperand,
+    file: &'a VFile,
+    scalar: &Scalar,
+) -> SecondElements<'a>
+    requires inside { SourceIsInside operand.source operand.emul }
+    ensures numbers { (w : Width) (i : ℕ) → number_at w result i
+        ≡ second_element (record { width = w; emul = operand.emul }) operand.unsigned operand.source file.now scalar.now i }
+    ensures room { (w : Width) (count i : ℕ) → width_bytes w * count ≤ VLENB * registers operand.emul → i < count
+        → HasNumber w result i }
+{
+    let source = operand.source;
+    match source {
+        Source::V(vs1) => SecondElements::of(group(file, vs1, operand.emul)),
+        _ => SecondElements::repeated(second_number(operand.unsigned, source, scalar)),
     }
 }
 
@@ -72,15 +106,10 @@ pub(crate) fn second_copy<'a, L: Lane>(
         scalar.now i }
     ensures room { width_bytes L.width * count ≤ length result.now }
 {
-    let SecondOperand {
-        source,
-        unsigned,
-        emul,
-    } = operand;
+    let source = operand.source;
     match source {
-        Source::V(vs1) => group_copy(file, vs1, emul, copy),
-        Source::X(rs1) => repeated::<L>(scalar.read(rs1), count, copy),
-        Source::I(imm) => repeated::<L>(immediate_value(unsigned, imm), count, copy),
+        Source::V(vs1) => group_copy(file, vs1, operand.emul, copy),
+        _ => repeated::<L>(second_number(operand.unsigned, source, scalar), count, copy),
     }
 }
 
@@ -90,7 +119,7 @@ pub(crate) fn second_in_place<'a, L: Lane>(
     count: usize,
     file: &'a VFile,
     scalar: &Scalar,
-    copies: &'a mut [u8; GROUP_BYTES],
+    copy: &'a mut [u8; GROUP_BYTES],
 ) -> &'a [u8]
     requires inside { SourceIsInside operand.source operand.emul }
     requires most { operand.emul ≤ 64 }
@@ -101,14 +130,9 @@ pub(crate) fn second_in_place<'a, L: Lane>(
         scalar.now i }
     ensures room { width_bytes L.width * count ≤ length result.now }
 {
-    let SecondOperand {
-        source,
-        unsigned,
-        emul,
-    } = operand;
+    let source = operand.source;
     match source {
-        Source::V(vs1) => group(file, vs1, emul),
-        Source::X(rs1) => repeated::<L>(scalar.read(rs1), count, copies),
-        Source::I(imm) => repeated::<L>(immediate_value(unsigned, imm), count, copies),
+        Source::V(vs1) => group(file, vs1, operand.emul),
+        _ => repeated::<L>(second_number(operand.unsigned, source, scalar), count, copy),
     }
 }

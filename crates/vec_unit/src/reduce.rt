@@ -14,7 +14,7 @@ ghost use Rattle.rv_model.specs.lending.GroupBounds.{HasRoom, IsInside, SourceIs
 use crate::body::body_under;
 use crate::destination::Target;
 use crate::first_element::write_first;
-use crate::operands::{second_in_place, signed};
+use crate::operands::{second_elements, signed_operand};
 use crate::typed_operation::TypedOperation;
 use lane_arith::{Body, Lane};
 use lane_reduce::{Reduction, WideningReduction, reduce};
@@ -49,11 +49,10 @@ impl ReduceOperation {
             (reduce_result (record { width = L.width; emul = emul }) self.now.op body.now self.now.vs2 self.now.source
             file.old scalar.now) file.old }
     {
-        let mut copies = [0; GROUP_BYTES];
         let a = group(file, self.vs2, emul);
-        let operand = signed(self.source, 8);
-        let b = second_in_place::<L>(operand, 1, file, scalar, &mut copies);
-        let number = reduce::<L, L, Reduction>(&Reduction { op: self.op }, L::load(b, 0), a, body);
+        let operand = signed_operand(self.source, 8);
+        let start = second_elements(operand, file, scalar).element::<L>(0);
+        let number = reduce::<L, L, Reduction>(&Reduction { op: self.op }, start, a, body);
         write_first(number, target, body, file);
     }
 }
@@ -116,12 +115,11 @@ impl WidenReduceOperation {
             (record { width = W.width; emul = 2 * emul }) self.now.op body.now self.now.vs2 self.now.source file.old
             scalar.now) file.old }
     {
-        let mut copies = [0; GROUP_BYTES];
         let a = group(file, self.vs2, emul);
-        let operand = signed(self.source, 8);
-        let b = second_in_place::<W>(operand, 1, file, scalar, &mut copies);
+        let operand = signed_operand(self.source, 8);
+        let start = second_elements(operand, file, scalar).element::<W>(0);
         let combine = WideningReduction { op: self.op };
-        let number = reduce::<N, W, WideningReduction>(&combine, W::load(b, 0), a, body);
+        let number = reduce::<N, W, WideningReduction>(&combine, start, a, body);
         write_first(number, target, body, file);
     }
 }

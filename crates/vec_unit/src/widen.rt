@@ -8,7 +8,7 @@ ghost use Rattle.rv_model.specs.elements.Elements.{is_active};
 ghost use Rattle.rv_model.specs.vector.Configuration.{width_bytes};
 ghost use Rattle.rv_model.specs.vector.Registers.{registers};
 
-use crate::operands::{second_in_place, signed};
+use crate::operands::{second_elements, second_in_place, signed_operand};
 use crate::two_widths::{Groups, TwoWidths};
 use lane_arith::{Body, Lane, WideSource, Widen, WidenMultiplyAdd, write_results};
 use reg_groups::group;
@@ -55,12 +55,11 @@ fn write_one<D: Lane, O: Lane, const NUMBER: usize>(
         (get_or OPERATIONS NUMBER WidenOp.Vwaddu) sources.now.vs2 sources.now.source file.now scalar.now)
         made.old made.new }
 {
-    let mut copies = [0; GROUP_BYTES];
-    let operand = signed(sources.source, groups.other);
+    let operand = signed_operand(sources.source, groups.other);
     let results = Widen::<'_, O> {
         op: OPERATIONS[NUMBER],
         a: group(file, sources.vs2, groups.other),
-        b: second_in_place::<O>(operand, body.end(), file, scalar, &mut copies),
+        b: second_elements(operand, file, scalar),
         element: PhantomData,
     };
     let body = body.copied();
@@ -114,7 +113,7 @@ impl TwoWidths for WideSourceOperation {
         made: &mut [u8],
     ) {
         let mut copies = [0; GROUP_BYTES];
-        let operand = signed(self.source, groups.other);
+        let operand = signed_operand(self.source, groups.other);
         let results = WideSource::<'_, O> {
             op: self.op,
             a: group(file, self.vs2, groups.emul),
@@ -162,7 +161,7 @@ impl TwoWidths for WidenMultiplyAddOperation {
         made: &mut [u8],
     ) {
         let mut copies = [0; GROUP_BYTES];
-        let operand = signed(self.source, groups.other);
+        let operand = signed_operand(self.source, groups.other);
         let results = WidenMultiplyAdd::<'_, O> {
             op: self.op,
             a: group(file, self.vs2, groups.other),

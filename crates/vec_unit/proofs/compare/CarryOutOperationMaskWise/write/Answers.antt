@@ -24,6 +24,6 @@ returns g c =
     c.group-a.result.now c.second_in_place-b.result.now file o.vs2 body.end (second_element t false o.source file x)
     (mask_bit c.mask.result.now) (mask_bit (register_of file 0)) c.group-a.ensures.value
     (λ j h. c.second_in_place-b.ensures.elements j (omega (arith, h, c.end.ensures))
-    ∙ ap (λ (s : SecondOperand). second_element (record { width = t.width; emul = s.emul }) s.unsigned s.source file x j) c.signed.ensures)
+    ∙ ap (λ (s : SecondOperand). second_element (record { width = t.width; emul = s.emul }) s.unsigned s.source file x j) c.signed_operand-operand.ensures)
     (λ j. ap (λ bytes. mask_bit bytes j) (c.mask.ensures ∙ c.requires.mask)) i (active_end body i active))
     c.write_mask_results.ensures
