@@ -78,7 +78,8 @@ pub(crate) fn second_elements<'a>(
 ) -> SecondElements<'a>
     requires inside { SourceIsInside operand.source operand.emul }
     ensures numbers { (w : Width) (i : ℕ) → number_at w result i
-        ≡ second_element (record { width = w; emul = operand.emul }) operand.unsigned operand.source file.now scalar.now i }
+        ≡ second_element (record { width = w; emul = operand.emul }) operand.unsigned operand.source file.now
+        scalar.now i }
     ensures room { (w : Width) (count i : ℕ) → width_bytes w * count ≤ VLENB * registers operand.emul → i < count
         → HasNumber w result i }
 {
