@@ -16,16 +16,22 @@ pub struct Body<'a> {
 }
 
 impl<'a> Model for Body<'a> {
+    ghost use Rattle.std.specs.Prelude.{◌≤◌};
+    ghost use Rattle.rv_model.specs.declared.vector.sizes.TheConstants.{GROUP_BYTES};
     ghost use Rattle.rv_model.specs.elements.Elements.{Body};
 
     ghost Value = { Body };
 
     ghost view = { λ b. record { unmasked = b.unmasked; mask = b.mask.now; start = b.start; end = b.end } };
+
+    ghost invariant = { λ b. b.end ≤ GROUP_BYTES };
 }
 
 impl<'a> Body<'a> {
-    /// The elements from one index up to another, under a mask with a bit for each unless `unmasked`.
+    /// The elements from one index up to another, which the largest group has, under a mask with a bit for each unless
+    /// `unmasked`.
     pub fn new(unmasked: bool, mask: &'a [u8; VLENB], start: usize, end: usize) -> Body<'a>
+        requires { end ≤ GROUP_BYTES }
         ensures { result ≡ record { unmasked = unmasked; mask = mask.now; start = start; end = end } }
     {
         Body {
@@ -64,9 +70,10 @@ impl<'a> Body<'a> {
         self.start
     }
 
-    /// The index after the last.
+    /// The index after the last: at most 256.
     pub fn end(&self) -> usize
-        ensures { result ≡ self.now.end }
+        ensures value { result ≡ self.now.end }
+        ensures bound { result ≤ GROUP_BYTES }
     {
         self.end
     }
@@ -81,7 +88,6 @@ impl<'a> Body<'a> {
 
     /// Whether an element is active.
     pub fn is_active(&self, index: usize) -> bool
-        requires { self.now.end ≤ GROUP_BYTES }
         ensures { result ≡ is_active self.now index }
     {
         self.start <= index && index < self.end && self.lets(index)

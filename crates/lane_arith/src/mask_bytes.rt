@@ -43,7 +43,6 @@ fn range_bytes(start: usize, end: usize) -> u8x32
 /// A bit for each element, set where it is active.
 #[inline(always)]
 pub fn active_bytes(body: &Body<'_>) -> u8x32
-    requires { body.now.end ≤ GROUP_BYTES }
     ensures { (i : ℕ) → i < GROUP_BYTES → mask_bit result i ≡ is_active body.now i }
 {
     let range = range_bytes(body.start(), body.end());

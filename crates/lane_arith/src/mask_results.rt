@@ -38,7 +38,6 @@ pub trait MaskResults<L: Lane> {
 
     /// `write_mask_results` to a whole register, where the results are made by SIMD. Answers whether they are.
     fn write_register(&self, _body: &Body<'_>, _destination: &mut [u8]) -> bool
-        requires { _body.now.end ≤ GROUP_BYTES }
         ensures done { result ≡ true → WritesBits (is_active _body.now) (bit self.now) _destination.old _destination.new }
         ensures kept { result ≡ false → _destination.new ≡ _destination.old }
     {
@@ -55,7 +54,6 @@ fn bit_or<L: Lane, R: MaskResults<L>>(
 ) -> bool
     requires operands { (i : ℕ) → i < body.now.end → R.has results.now i }
     requires room { index < 8 * length bytes.now }
-    requires count { body.now.end ≤ GROUP_BYTES }
     ensures { result ≡ bit_or (is_active body.now) (R.bit results.now) bytes.now index }
 {
     if body.is_active(index) {
@@ -83,7 +81,6 @@ fn byte_with_bits<L: Lane, R: MaskResults<L>>(
     requires operands { (i : ℕ) → i < body.now.end → R.has results.now i }
     requires room { index < length bytes.now }
     requires most { length bytes.now ≤ GROUP_BYTES }
-    requires count { body.now.end ≤ GROUP_BYTES }
     ensures { result ≡ byte_with_bits (is_active body.now) (R.bit results.now) bytes.now index }
 {
     let first = 8 * index;
@@ -150,7 +147,6 @@ fn write_words<L: Lane, R: MaskResults<L>>(
     destination: &mut [u8],
 ) -> usize
     requires most { length destination.old ≤ GROUP_BYTES }
-    requires count { body.now.end ≤ GROUP_BYTES }
     ensures length { length destination.new ≡ length destination.old }
     ensures bytes { (q : ℕ) → q < length destination.old → slice_index destination.new q
         ≡ (if nat_lt q result then byte_with_bits (is_active body.now) (R.bit results.now) destination.old q else slice_index destination.old q) }
@@ -170,7 +166,6 @@ fn write_words<L: Lane, R: MaskResults<L>>(
 /// Writes bits, made by SIMD, to the active ones of the destination, where that is a whole register. Answers
 /// whether it is.
 pub fn put_bits(results: u8x32, body: &Body<'_>, destination: &mut [u8]) -> bool
-    requires { body.now.end ≤ GROUP_BYTES }
     ensures answer { result ≡ (length destination.old == VLENB) }
     ensures done { result ≡ true → WritesBits (is_active body.now) (mask_bit results) destination.old destination.new }
     ensures kept { result ≡ false → destination.new ≡ destination.old }
@@ -188,7 +183,6 @@ pub fn put_bits(results: u8x32, body: &Body<'_>, destination: &mut [u8]) -> bool
 fn write_in_turn<L: Lane, R: MaskResults<L>>(results: &R, body: &Body<'_>, destination: &mut [u8])
     requires operands { (i : ℕ) → i < body.now.end → R.has results.now i }
     requires most { length destination.old ≤ GROUP_BYTES }
-    requires count { body.now.end ≤ GROUP_BYTES }
     ensures { WritesBits (is_active body.now) (R.bit results.now) destination.old destination.new }
 {
     bytes_past_the_body(results, body, destination);
@@ -207,7 +201,6 @@ pub fn write_mask_results<L: Lane, R: MaskResults<L>>(
 )
     requires operands { (i : ℕ) → i < body.now.end → R.has results.now i }
     requires most { length destination.old ≤ GROUP_BYTES }
-    requires count { body.now.end ≤ GROUP_BYTES }
     ensures { WritesBits (is_active body.now) (R.bit results.now) destination.old destination.new }
 {
     if results.write_register(body, destination) {

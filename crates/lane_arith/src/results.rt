@@ -60,7 +60,6 @@ fn write_each<L: Lane, R: Results<L>>(
 )
     requires operands { (i : ℕ) → i < body.now.end → R.has results.now i }
     requires room { width_bytes L.width * body.now.end ≤ length destination.old }
-    requires count { body.now.end ≤ GROUP_BYTES }
     ensures { Writes (width_bytes L.width) (is_changed body.now fill_masked_off false)
         (result_or_ones body.now (R.number results.now) (ones L.width)) destination.old destination.new }
 {
@@ -104,7 +103,6 @@ fn write_chunks<L: Lane, R: Results<L>>(
     destination: &mut [u8],
     fill_masked_off: bool,
 ) -> usize
-    requires { body.now.end ≤ GROUP_BYTES }
     ensures { Writes (width_bytes L.width) (λ e. is_changed body.now fill_masked_off false e && nat_lt e result)
         (result_or_ones body.now (R.number results.now) (ones L.width)) destination.old destination.new }
 {
@@ -131,7 +129,6 @@ fn write_in_turn<L: Lane, R: Results<L>>(
 )
     requires operands { (i : ℕ) → i < body.now.end → R.has results.now i }
     requires room { width_bytes L.width * body.now.end ≤ length destination.old }
-    requires count { body.now.end ≤ GROUP_BYTES }
     ensures { Writes (width_bytes L.width) (is_changed body.now fill_masked_off false)
         (result_or_ones body.now (R.number results.now) (ones L.width)) destination.old destination.new }
 {
@@ -155,7 +152,6 @@ pub fn write_results<L: Lane, R: Results<L>>(
 )
     requires operands { (i : ℕ) → i < body.now.end → R.has results.now i }
     requires room { width_bytes L.width * body.now.end ≤ length destination.old }
-    requires count { body.now.end ≤ GROUP_BYTES }
     ensures { Writes (width_bytes L.width) (is_changed body.now fill_masked_off false)
         (result_or_ones body.now (R.number results.now) (ones L.width)) destination.old destination.new }
 {

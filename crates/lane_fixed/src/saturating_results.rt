@@ -89,7 +89,6 @@ fn write_each<L: Lane, R: SaturatingResults<L>, M: Rounding>(
 ) -> bool
     requires operands { (i : ℕ) → i < body.now.end → R.has results.now i }
     requires room { width_bytes L.width * body.now.end ≤ length destination.old }
-    requires count { body.now.end ≤ GROUP_BYTES }
     requires mode { M.mode ≡ R.mode results.now }
     ensures writes { Writes (width_bytes L.width) (is_changed body.now fill_masked_off false)
         (result_or_ones body.now (R.number results.now) (ones L.width)) destination.old destination.new }
@@ -120,7 +119,6 @@ fn write_rest<L: Lane, R: SaturatingResults<L>>(
 ) -> bool
     requires operands { (i : ℕ) → i < body.now.end → R.has results.now i }
     requires room { width_bytes L.width * body.now.end ≤ length destination.old }
-    requires count { body.now.end ≤ GROUP_BYTES }
     ensures writes { Writes (width_bytes L.width) (is_changed body.now fill_masked_off false)
         (result_or_ones body.now (R.number results.now) (ones L.width)) destination.old destination.new }
     ensures saturated { result ≡ some_active body.now (R.saturates results.now) }
@@ -156,7 +154,6 @@ fn write_chunks<L: Lane, R: SaturatingResults<L>>(
     destination: &mut [u8],
     fill_masked_off: bool,
 ) -> Progress
-    requires { body.now.end ≤ GROUP_BYTES }
     ensures writes { Writes (width_bytes L.width) (λ e. is_changed body.now fill_masked_off false e && nat_lt e result.left)
         (result_or_ones body.now (R.number results.now) (ones L.width)) destination.old destination.new }
     ensures saturated { result.saturated
@@ -194,7 +191,6 @@ pub fn write_saturating_results<L: Lane, R: SaturatingResults<L>>(
 ) -> bool
     requires operands { (i : ℕ) → i < body.now.end → R.has results.now i }
     requires room { width_bytes L.width * body.now.end ≤ length destination.old }
-    requires count { body.now.end ≤ GROUP_BYTES }
     ensures writes { Writes (width_bytes L.width) (is_changed body.now fill_masked_off false)
         (result_or_ones body.now (R.number results.now) (ones L.width)) destination.old destination.new }
     ensures saturated { result ≡ some_active body.now (R.saturates results.now) }

@@ -6,7 +6,6 @@ ghost use Rattle.rv_model.specs.elements.Reductions.{active_numbers};
 ghost use Rattle.rv_model.specs.vector.Configuration.{width_bytes};
 
 use lane_arith::{Body, Lane};
-use rv_model::GROUP_BYTES;
 
 /// What comes of a first number and of so many elements.
 #[derive(Clone, Copy)]
@@ -27,7 +26,6 @@ pub trait Combine<E: Lane, R: Lane> {
     /// The active elements of whole chunks of 32 bytes, from the first on, combined with a first number, where
     /// chunks are combined by SIMD.
     fn combined_chunks(&self, _first: R, _elements: &[u8], _body: &Body<'_>) -> Option<Combined<R>>
-        requires { _body.now.end ≤ GROUP_BYTES }
         ensures { IfSome result (λ made. R.value made.number ≡ fold (combined self.now) (R.value _first)
             (map (element (width_bytes E.width) _elements.now) (filter (is_active _body.now) (range_with_len 0 made.count)))) }
     {
@@ -43,7 +41,6 @@ pub fn reduce<E: Lane, R: Lane, C: Combine<E, R>>(
     body: &Body<'_>,
 ) -> R
     requires room { width_bytes E.width * body.now.end ≤ length elements.now }
-    requires count { body.now.end ≤ GROUP_BYTES }
     ensures { R.value result ≡ fold (C.combined combine.now) (R.value first)
         (active_numbers body.now (element (width_bytes E.width) elements.now)) }
 {

@@ -70,7 +70,6 @@ fn lanes_of_chunks<L: Lane>(
     chunks: usize,
 ) -> Option<L::Vector>
     requires inside { L.count * chunks ≤ GROUP_BYTES }
-    requires body { body.now.end ≤ GROUP_BYTES }
     ensures value { IfSome result (λ made. total (combination op L.width) (neutral_number op L.width) (L.lane made) L.count
         ≡ total (combination op L.width) (neutral_number op L.width)
         (λ i. if is_active body.now i then element (width_bytes L.width) elements.now i else neutral_number op L.width) (L.count * chunks)) }
@@ -92,7 +91,6 @@ pub(crate) fn reduce_chunks<L: Lane>(
     elements: &[u8],
     body: &Body<'_>,
 ) -> Option<Combined<L>>
-    requires { body.now.end ≤ GROUP_BYTES }
     ensures { IfSome result (λ made. L.value made.number
         ≡ fold (combination op L.width) (L.value first)
         (map (element (width_bytes L.width) elements.now) (filter (is_active body.now) (range_with_len 0 made.count)))) }

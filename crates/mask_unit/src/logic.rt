@@ -44,6 +44,8 @@ impl<'a, L: Lane> MaskResults<L> for MaskLogic<'a> {
     }
 
     fn write_register(&self, body: &Body<'_>, destination: &mut [u8]) -> bool {
+        // The end is looked at for its bound alone.
+        let _end = body.end();
         let a = u8x32::from_array(*self.a);
         let b = u8x32::from_array(*self.b);
         put_bits(logic(self.op, a, b), body, destination)

@@ -64,6 +64,8 @@ impl<L: Lane> MaskResults<L> for MaskScan {
     }
 
     fn write_register(&self, body: &Body<'_>, destination: &mut [u8]) -> bool {
+        // The end is looked at for its bound alone.
+        let _end = body.end();
         put_bits(results(self.op, self.first), body, destination)
     }
 }

@@ -31,16 +31,16 @@ const LOWER_BITS: [u8; 8] = [0, 1, 3, 7, 15, 31, 63, 127];
 
 /// How many active elements have their bit set (vcpop.m).
 pub fn count(body: &Body<'_>, bits: &[u8; VLENB]) -> usize
-    requires { body.now.end ≤ GROUP_BYTES }
     ensures { result ≡ set_count body.now bits.now body.now.end }
 {
+    // The end is looked at for its bound alone.
+    let _end = body.end();
     let set = u8x32::from_array(*bits);
     usize::from(set_in_both(active_bytes(body), set))
 }
 
 /// A bit for each of 32 elements, set where the element is active and its bit is set.
 fn set_word(body: &Body<'_>, bits: &[u8; VLENB], word: usize) -> u64
-    requires count { body.now.end ≤ GROUP_BYTES }
     requires room { 32 * word + 32 ≤ GROUP_BYTES }
     ensures value { (i : ℕ) → i < 32 → (result / 2 ^ i % 2 == 0) ≡ not (is_set body.now bits.now (32 * word + i)) }
     ensures bound { result < 2 ^ 32 }
@@ -51,7 +51,6 @@ fn set_word(body: &Body<'_>, bits: &[u8; VLENB], word: usize) -> u64
 
 /// The first active element that has its bit set (vfirst.m).
 pub fn first(body: &Body<'_>, bits: &[u8; VLENB]) -> Option<usize>
-    requires { body.now.end ≤ GROUP_BYTES }
     ensures { result ≡ first_set body.now bits.now }
 {
     for word in 0..body.end().div_ceil(32) {
@@ -65,7 +64,6 @@ pub fn first(body: &Body<'_>, bits: &[u8; VLENB]) -> Option<usize>
 
 /// A bit for each element of the body, and for those before it, set where the element is active and its bit is set.
 fn set_bytes(body: &Body<'_>, bits: &[u8; VLENB]) -> [u8; VLENB]
-    requires { body.now.end ≤ GROUP_BYTES }
     ensures { (i : ℕ) → i < body.now.end → mask_bit result i ≡ is_set body.now bits.now i }
 {
     if body.is_unmasked() && body.start() == 0 {
@@ -103,7 +101,6 @@ fn put_counts(made: u8x8, at: usize, counts: &mut [u8])
 /// For each element of the body, and for those before it, how many active elements below it have their
 /// bit set (viota.m). There are at most 255 of them.
 pub fn counts_below(body: &Body<'_>, bits: &[u8; VLENB], counts: &mut [u8; GROUP_BYTES])
-    requires { body.now.end ≤ GROUP_BYTES }
     ensures { (i : ℕ) → i < body.now.end → slice_index counts.new i ≡ set_count body.now bits.now i }
 {
     let set = set_bytes(body, bits);

@@ -154,7 +154,6 @@ fn write_filled<L: Lane, R: Results<L>>(
     destination: &mut [u8],
 )
     requires operands { (i : ℕ) → i < body.now.end → R.has results.now i }
-    requires least { body.now.end ≤ GROUP_BYTES }
     requires room { width_bytes L.width * body.now.end ≤ length destination.old }
     requires whole { length destination.old ≡ width_bytes L.width * count }
     requires most { count ≤ GROUP_BYTES }

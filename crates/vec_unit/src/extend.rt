@@ -12,7 +12,7 @@ use crate::typed_operation::TypedOperation;
 use lane_arith::{Body, Extend, Lane, write_results};
 use reg_groups::{extension_divisor, group};
 use rv_model::instructions::operations::ExtendOp;
-use rv_model::{GROUP_BYTES, Scalar, Sew, VFile, VReg, VState};
+use rv_model::{Scalar, Sew, VFile, VReg, VState};
 use std::marker::PhantomData;
 
 /// An extension and its source.
@@ -59,7 +59,6 @@ fn carry_out_part(
     requires wide { 8 ≤ sew_bits sew / extension_divisor operation.op }
     requires room { HasRoom (sew_width sew) groups.emul state.old.conf.vl }
     requires other_room { HasRoom (part_width operation.op (sew_width sew)) groups.other state.old.conf.vl }
-    requires least { state.old.conf.vl ≤ GROUP_BYTES }
     ensures { state.new ≡ carried_out (record { width = sew_width sew; emul = groups.emul }) target
         (extend_result (record { width = part_width operation.op (sew_width sew); emul = groups.other })
         (record { width = sew_width sew; emul = groups.emul }) operation.op operation.vs2 state.old.file) state.old }

@@ -35,7 +35,6 @@ pub(crate) trait MaskWise {
         requires operands { inside self.now emul }
         requires most { emul ≤ 64 }
         requires room { width_bytes L.width * body.now.end ≤ VLENB * registers emul }
-        requires least { body.now.end ≤ GROUP_BYTES }
         requires mask { body.now.mask ≡ register_of file.now 0 }
         requires register { length mask.old ≤ GROUP_BYTES }
         ensures { WritesBits (is_active body.now)

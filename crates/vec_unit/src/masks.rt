@@ -1,5 +1,5 @@
 //! Mask instructions, carried out ("V" Vector Extension 1.0, chapter 15).
-ghost use Rattle.std.specs.Prelude.{◌≡◌, ◌%◌, ◌^◌, ◌<◌, ◌≤◌, ⊤, ℕ, slice_index, true};
+ghost use Rattle.std.specs.Prelude.{◌≡◌, ◌%◌, ◌^◌, ◌<◌, ⊤, ℕ, slice_index, true};
 ghost use Rattle.rv_model.specs.elements.Arithmetic.{body_of, index_result, mask_logic_result, with_mask_results};
 ghost use Rattle.rv_model.specs.elements.Masks.{first_set, mask_scan_formula, mask_to_scalar_formula, set_count};
 ghost use Rattle.rv_model.specs.vector.Registers.{register_of};
@@ -17,7 +17,6 @@ use rv_model::{GROUP_BYTES, Scalar, VFile, VReg, VState};
 
 /// Carries out logic on two masks. The next instruction begins with the first element.
 pub(crate) fn carry_out_logic(op: MaskLogicOp, vd: VReg, vs1: VReg, vs2: VReg, state: &mut VState)
-    requires length { state.old.conf.vl ≤ GROUP_BYTES }
     ensures { state.new ≡ record state.old {
       file =
           with_mask_results vd (body_of true state.old) (mask_logic_result op vs1 vs2 state.old.file) state.old.file;
@@ -44,7 +43,6 @@ pub(crate) fn carry_out_scan(
     unmasked: bool,
     state: &mut VState,
 )
-    requires length { state.old.conf.vl ≤ GROUP_BYTES }
     ensures { state.new ≡ record state.old {
       file =
           with_mask_results vd (body_of unmasked state.old)
@@ -67,7 +65,6 @@ pub(crate) fn carry_out_scan(
 
 /// What a scalar register takes: how many active bits of `vs2` are set, or the index of the first, or -1.
 pub(crate) fn scalar_of_mask(op: MaskToScalarOp, vs2: VReg, unmasked: bool, state: &VState) -> u64
-    requires length { state.now.conf.vl ≤ GROUP_BYTES }
     ensures { result ≡ mask_to_scalar_formula op (body_of unmasked state.now) (register_of state.now.file vs2) }
 {
     let mask = mask_register(&state.file);
@@ -84,7 +81,6 @@ pub(crate) fn scalar_of_mask(op: MaskToScalarOp, vs2: VReg, unmasked: bool, stat
 
 /// Counts for each element how many active bits of `vs2` below it are set.
 pub(crate) fn count_mask(vs2: VReg, unmasked: bool, state: &VState, counts: &mut [u8; GROUP_BYTES])
-    requires length { state.now.conf.vl ≤ GROUP_BYTES }
     ensures { (i : ℕ) → i < state.now.conf.vl
         → slice_index counts.new i ≡ set_count (body_of unmasked state.now) (register_of state.now.file vs2) i }
 {

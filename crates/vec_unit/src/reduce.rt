@@ -20,7 +20,7 @@ use lane_arith::{Body, Lane};
 use lane_reduce::{Reduction, WideningReduction, reduce};
 use reg_groups::{group, mask_register};
 use rv_model::instructions::operations::{ReduceOp, WidenReduceOp};
-use rv_model::{GROUP_BYTES, Scalar, Sew, Source, VFile, VReg, VState};
+use rv_model::{Scalar, Sew, Source, VFile, VReg, VState};
 
 /// A reduction and its sources.
 #[derive(Clone, Copy)]
@@ -43,7 +43,6 @@ impl ReduceOperation {
         requires first { IsInside self.now.vs2 emul }
         requires second { SourceIsInside self.now.source 8 }
         requires room { HasRoom L.width emul body.now.end }
-        requires least { body.now.end ≤ GROUP_BYTES }
         ensures { file.new ≡ with_first_result L.width target.vd body.now
             (fills_tail target.policy target.vtype body.now)
             (reduce_result (record { width = L.width; emul = emul }) self.now.op body.now self.now.vs2 self.now.source
@@ -108,7 +107,6 @@ impl WidenReduceOperation {
         requires first { IsInside self.now.vs2 emul }
         requires second { SourceIsInside self.now.source 8 }
         requires room { HasRoom N.width emul body.now.end }
-        requires least { body.now.end ≤ GROUP_BYTES }
         ensures { file.new ≡ with_first_result W.width target.vd body.now
             (fills_tail target.policy target.vtype body.now)
             (widen_reduce_result (record { width = N.width; emul = emul })

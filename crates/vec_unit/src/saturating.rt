@@ -1,6 +1,6 @@
 //! Instructions whose results may saturate, carried out ("V" Vector Extension 1.0, sections 3.4.3, 3.9, 5.3 and
 //! 5.4).
-ghost use Rattle.std.specs.Prelude.{◌≡◌, ◌*◌, ◌≤◌, ◌||◌, Bool, List, length, ℕ};
+ghost use Rattle.std.specs.Prelude.{◌≡◌, ◌*◌, ◌||◌, Bool, List, length, ℕ};
 ghost use Rattle.rv_model.specs.declared.scalar.Scalar.{Scalar as ScalarRegisters};
 ghost use Rattle.rv_model.specs.elements.Arithmetic.{body_of};
 ghost use Rattle.rv_model.specs.elements.Elements.{is_active, some_active};
@@ -43,7 +43,6 @@ pub(crate) trait Saturating {
         requires operands { inside self.now groups.emul groups.other }
         requires room { HasRoom D.width groups.emul body.now.end }
         requires other_room { HasRoom O.width groups.other body.now.end }
-        requires least { body.now.end ≤ GROUP_BYTES }
         requires whole { length made.old ≡ VLENB * registers groups.emul }
         ensures writes { Writes (width_bytes D.width) (is_active body.now)
             (number self.now (record { width = D.width; emul = groups.emul })
@@ -66,7 +65,6 @@ pub(crate) fn carry_out<D: Lane, O: Lane, S: Saturating>(
     requires destination { IsInside target.vd groups.emul }
     requires room { HasRoom D.width groups.emul state.old.conf.vl }
     requires other_room { HasRoom O.width groups.other state.old.conf.vl }
-    requires least { state.old.conf.vl ≤ GROUP_BYTES }
     ensures { state.new ≡ record (carried_out (record { width = D.width; emul = groups.emul }) target
         (S.number operation.now (record { width = D.width; emul = groups.emul })
         (record { width = O.width; emul = groups.other }) state.old.file scalar.now) state.old) {

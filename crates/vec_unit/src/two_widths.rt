@@ -40,7 +40,6 @@ pub(crate) trait TwoWidths {
         requires operands { inside self.now groups.emul groups.other }
         requires room { HasRoom D.width groups.emul body.now.end }
         requires other_room { HasRoom O.width groups.other body.now.end }
-        requires least { body.now.end ≤ GROUP_BYTES }
         requires mask { body.now.mask ≡ register_of file.now 0 }
         requires whole { length made.old ≡ VLENB * registers groups.emul }
         ensures { Writes (width_bytes D.width) (is_active body.now)
@@ -68,7 +67,6 @@ pub(crate) fn carry_out<D: Lane, O: Lane, T: TwoWidths>(
     requires destination { IsInside target.vd groups.emul }
     requires room { HasRoom D.width groups.emul state.old.conf.vl }
     requires other_room { HasRoom O.width groups.other state.old.conf.vl }
-    requires least { state.old.conf.vl ≤ GROUP_BYTES }
     ensures { state.new ≡ carried_out (record { width = D.width; emul = groups.emul }) target
         (T.number operation.now (record { width = D.width; emul = groups.emul })
         (record { width = O.width; emul = groups.other }) state.old.file scalar.now) state.old }

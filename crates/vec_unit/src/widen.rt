@@ -1,6 +1,6 @@
 //! Operations whose result has twice the width of an operand ("V" Vector Extension 1.0, sections 11.2, 11.12
 //! and 11.14).
-ghost use Rattle.std.specs.Prelude.{◌≡◌, ◌*◌, ◌<◌, ◌≤◌, get_or, length};
+ghost use Rattle.std.specs.Prelude.{◌≡◌, ◌*◌, ◌<◌, get_or, length};
 ghost use Rattle.rv_model.specs.elements.Arithmetic.{wide_source_result, widen_multiply_add_result, widen_result};
 ghost use Rattle.rv_model.specs.lending.GroupBounds.{HasRoom, IsInside, SourceIsInside};
 ghost use Rattle.rv_model.specs.lending.Writes.{Writes};
@@ -48,7 +48,6 @@ fn write_one<D: Lane, O: Lane, const NUMBER: usize>(
     requires operands { IsInside sources.now.vs2 groups.other × SourceIsInside sources.now.source groups.other }
     requires room { HasRoom D.width groups.emul body.now.end }
     requires other_room { HasRoom O.width groups.other body.now.end }
-    requires least { body.now.end ≤ GROUP_BYTES }
     requires whole { length made.old ≡ VLENB * registers groups.emul }
     ensures { Writes (width_bytes D.width) (is_active body.now)
         (widen_result (record { width = O.width; emul = groups.other }) (record { width = D.width; emul = groups.emul })

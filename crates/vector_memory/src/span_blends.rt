@@ -9,7 +9,7 @@ ghost use Rattle.vector_memory.specs.SpanAccess.{IsBlend, IsRead, IsWritten, par
 
 use crate::spans::Span;
 use lane_arith::{Body, Lane, Results, operand_chunk, write_results};
-use rv_model::{GROUP_BYTES, VFile};
+use rv_model::VFile;
 
 /// Elements as they stand in bytes.
 #[derive(Clone, Copy)]
@@ -36,7 +36,6 @@ impl<'a, L: Lane> Results<L> for Elements<'a> {
 fn blend<L: Lane>(elements: &[u8], body: &Body<'_>, fill_masked_off: bool, destination: &mut [u8])
     requires elements { width_bytes L.width * body.now.end ≤ length elements.now }
     requires room { width_bytes L.width * body.now.end ≤ length destination.old }
-    requires count { body.now.end ≤ GROUP_BYTES }
     ensures writes { Writes (width_bytes L.width) (is_changed body.now fill_masked_off false)
         (result_or_ones body.now (λ i. element (width_bytes L.width) elements.now i) (ones L.width))
         destination.old destination.new }

@@ -13,5 +13,5 @@ pub returns : goal.returns
 returns g c =
     rebuild_rest (is_active c.args.body.now) (g.R.MaskResults.bit c.args.results.now) c.loop-i.i c.args.destination.now c.loop-i.destination
     (λ x few past. c.bytes_past_the_body.ensures x
-    (omega (arith, c.loop-i-test.false, c.min-end.ensures, c.div_ceil.ensures, c.end.ensures, few, past)))
+    (omega (arith, c.loop-i-test.false, c.min-end.ensures, c.div_ceil.ensures, c.end.ensures.value, few, past)))
     c.loop-i.invariant

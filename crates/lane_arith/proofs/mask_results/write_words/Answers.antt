@@ -14,7 +14,7 @@ loop-word-preserved g c =
     let room : 4 * w + 4 ≤ length old = omega (arith, c.loop-word-test.true, c.min-words.ensures) in
     rebuild_word changed bit w c.replaced.result old mid room c.loop-word.invariant c.store.new.bytes c.store.ensures
     (λ i h. picked (changed (32 * w + i)) (bit (32 * w + i)) (mask_bit old (32 * w + i)) _ _ (c.replaced.ensures i h) (c.active_bits-active.ensures i h)
-    (λ active. c.in-Some.ensures i h (omega (arith, active_end c.args.body.now (32 * w + i) active, c.end-end.ensures)))
+    (λ active. c.in-Some.ensures i h (omega (arith, active_end c.args.body.now (32 * w + i) active, c.end-end.ensures.value)))
     (c.word_of.ensures i h ∙ old_bit changed bit w c.replaced.result old mid room c.loop-word.invariant i h))
 
 pub returns-clause-bytes : goal.returns-clause-bytes

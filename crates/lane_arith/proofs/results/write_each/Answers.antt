@@ -12,7 +12,7 @@ loop-i-preserved g c =
     let k : ℕ = width_bytes g.L.Lane.width in
     let body : Body = c.args.body.now in
     let from : body.start ≤ c.loop-i.i = omega (arith, c.loop-i.auto.i, c.start-i.ensures) in
-    let to : c.loop-i.i < body.end = omega (arith, c.loop-i-test.true, c.end-i-end.ensures) in
+    let to : c.loop-i.i < body.end = omega (arith, c.loop-i-test.true, c.end-i-end.ensures.value) in
     let room : k * c.loop-i.i + k ≤ length c.args.destination.now = room_for _ _ _ _ to c.requires.room in
     elim c.if-lets.branch [
       | then-lets w ↦
@@ -27,4 +27,4 @@ loop-i-preserved g c =
     ]
 
 pub returns : goal.returns
-returns g c = body_ends _ c.args.body.now _ _ _ _ _ (omega (arith, c.loop-i-test.false, c.end-i-end.ensures)) c.loop-i.invariant
+returns g c = body_ends _ c.args.body.now _ _ _ _ _ (omega (arith, c.loop-i-test.false, c.end-i-end.ensures.value)) c.loop-i.invariant

@@ -21,7 +21,7 @@ loop-i-preserved g c =
     let i : ℕ = c.loop-i.i in
     let saturates : ℕ → Bool = g.R.SaturatingResults.saturates c.args.results.now in
     let from : body.start ≤ i = omega (arith, c.loop-i.auto.i, c.start-i.ensures) in
-    let to : i < body.end = omega (arith, c.loop-i-test.true, c.end-i-end.ensures) in
+    let to : i < body.end = omega (arith, c.loop-i-test.true, c.end-i-end.ensures.value) in
     let room : k * i + k ≤ length c.args.destination.now = room_for _ _ _ _ to (rw c.copied-body.ensures c.requires.room) in
     elim c.if-lets.branch [
       | then-lets w ↦ record {
@@ -48,8 +48,8 @@ loop-i-preserved g c =
 
 pub returns : goal.returns
 returns g c = record {
-  writes = rw (sym c.copied-body.ensures) (body_ends _ c.copied-body.result _ _ _ _ _ (omega (arith, c.loop-i-test.false, c.end-i-end.ensures))
+  writes = rw (sym c.copied-body.ensures) (body_ends _ c.copied-body.result _ _ _ _ _ (omega (arith, c.loop-i-test.false, c.end-i-end.ensures.value))
       c.loop-i.invariant.writes);
   saturated = rw (sym c.copied-body.ensures) (c.loop-i.invariant.saturated
-      ∙ some_ends c.copied-body.result _ _ (omega (arith, c.loop-i-test.false, c.end-i-end.ensures)));
+      ∙ some_ends c.copied-body.result _ _ (omega (arith, c.loop-i-test.false, c.end-i-end.ensures.value)));
 }

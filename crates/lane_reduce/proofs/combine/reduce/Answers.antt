@@ -25,6 +25,6 @@ pub returns : goal.returns
 returns g c =
     let end : ℕ = c.args.body.now.end in
     let past : ℕ = c.loop-i.i - end in
-    let whole : c.loop-i.i ≡ end + past = omega (arith, c.loop-i-test.false, c.end-i-end.ensures) in
+    let whole : c.loop-i.i ≡ end + past = omega (arith, c.loop-i-test.false, c.end-i-end.ensures.value) in
     c.loop-i.invariant
     ∙ fold_beyond c.args.body.now (g.C.Combine.combined c.args.combine.now) (g.R.Lane.value c.args.first) (element (width_bytes g.E.Lane.width) c.args.elements.now) past c.loop-i.i whole

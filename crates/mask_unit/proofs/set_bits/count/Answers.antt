@@ -9,7 +9,7 @@ pub returns : goal.returns
 returns c =
     let body : Body = c.args.body.now in
     let bits : List ℕ = c.args.bits.now in
-    let whole : 256 ≡ body.end + (256 - body.end) = omega (arith, c.requires) in
+    let whole : 256 ≡ body.end + (256 - body.end) = omega (arith, c.end-end.ensures) in
     c.from.ensures ∙ c.set_in_both.ensures
     ∙ passing_same (λ i. mask_bit c.active_bytes.result i && mask_bit bits i) (is_set body bits) 256 (λ i h. ap (λ t. t && mask_bit bits i) (c.active_bytes.ensures i h))
     ∙ ap (passing (is_set body bits)) whole

@@ -11,25 +11,25 @@ use Rattle.mask_unit.proofs.set_bits.counts_below.Goals as goal
 pub overflow_cast-below : goal.overflow_cast-below
 overflow_cast-below c =
     let most : passing (mask_bit c.set_bytes-set.result) (8 * c.loop-q.q) ≤ 8 * c.loop-q.q = count_most _ (8 * c.loop-q.q) in
-    record { fits = omega (arith, most, c.loop-q.invariant.so_far, c.loop-q-test.true, c.end.ensures, c.requires) }
+    record { fits = omega (arith, most, c.loop-q.invariant.so_far, c.loop-q-test.true, c.end.ensures) }
 
 pub counts_in_byte-requires : goal.counts_in_byte-requires
 counts_in_byte-requires c =
     let most : passing (mask_bit c.set_bytes-set.result) (8 * c.loop-q.q) ≤ 8 * c.loop-q.q = count_most _ (8 * c.loop-q.q) in
-    omega (arith, most, c.loop-q.invariant.so_far, c.loop-q-test.true, c.end.ensures, c.requires)
+    omega (arith, most, c.loop-q.invariant.so_far, c.loop-q-test.true, c.end.ensures)
 
 pub overflow_add-below : goal.overflow_add-below
 overflow_add-below c =
     let x : ℕ = get_or c.set_bytes-set.result c.loop-q.q 0 in
     let most : passing (mask_bit c.set_bytes-set.result) (8 * c.loop-q.q) ≤ 8 * c.loop-q.q = count_most _ (8 * c.loop-q.q) in
     let few : count_ones (x % 2 ^ 8) ≤ 8 = ones-le 8 (x % 2 ^ 8) (mod-lt x (pow_pos 8)) in
-    record { fits = omega (arith, most, few, c.set_in_byte-below.ensures, c.loop-q.invariant.so_far, c.loop-q-test.true, c.end.ensures, c.requires) }
+    record { fits = omega (arith, most, few, c.set_in_byte-below.ensures, c.loop-q.invariant.so_far, c.loop-q-test.true, c.end.ensures) }
 
 pub loop-q-preserved : goal.loop-q-preserved
 loop-q-preserved c =
     let set : List ℕ = c.set_bytes-set.result in
     let q : ℕ = c.loop-q.q in
-    let room : 8 * q + 8 ≤ length c.loop-q.counts = omega (arith, c.loop-q.invariant.sized, c.loop-q-test.true, c.end.ensures, c.requires) in
+    let room : 8 * q + 8 ≤ length c.loop-q.counts = omega (arith, c.loop-q.invariant.sized, c.loop-q-test.true, c.end.ensures) in
     let all : 8 ≤ 8 = omega arith in
     let next : 8 * q + 8 ≡ 8 * (q + 1) = omega arith in
     record {
@@ -41,6 +41,6 @@ loop-q-preserved c =
 
 pub returns : goal.returns
 returns c = λ i h.
-    let done : i < 8 * c.loop-q.q = omega (arith, h, c.loop-q-test.false, c.end.ensures) in
+    let done : i < 8 * c.loop-q.q = omega (arith, h, c.loop-q-test.false, c.end.ensures.value) in
     c.loop-q.invariant.written i done
     ∙ passing_same (mask_bit c.set_bytes-set.result) (is_set c.args.body.now c.args.bits.now) i (λ j l. c.set_bytes-set.ensures j (omega (arith, h, l)))

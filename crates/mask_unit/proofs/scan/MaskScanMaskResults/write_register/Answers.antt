@@ -8,5 +8,5 @@ use Rattle.mask_unit.proofs.scan.MaskScanMaskResults.write_register.Goals as goa
 pub returns-clause-done : goal.returns-clause-done
 returns-clause-done g c = λ e.
     same_bits (is_active c.args.body.now) (mask_bit c.results.result) (mask_scan_formula c.args.self.now.op c.args.self.now.first) _ _
-    (λ i h. let inside : i < c.args.body.now.end = active_end c.args.body.now i h in c.results.ensures i (omega (arith, inside, c.requires)))
+    (λ i h. let inside : i < c.args.body.now.end = active_end c.args.body.now i h in c.results.ensures i (omega (arith, inside, c.end-end.ensures)))
     (c.put_bits.ensures.done e)

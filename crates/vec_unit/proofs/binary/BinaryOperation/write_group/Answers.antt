@@ -19,5 +19,5 @@ returns g c =
     (two_operands t t (λ a b. wrap t.width (formula o.op t.width a b))
     c.group_copy-a.result.now c.second_copy-b.result.now file o.vs2
     c.args.body.now.end (second_element t (has_unsigned_immediate o.op) o.source file x) c.group_copy-a.ensures.value
-    (λ i h. c.second_copy-b.ensures.elements i (omega (arith, h, c.end-end.ensures))
+    (λ i h. c.second_copy-b.ensures.elements i (omega (arith, h, c.end-end.ensures.value))
     ∙ ap (λ u. second_element t u o.source file x i) c.has_unsigned_immediate-unsigned.ensures))

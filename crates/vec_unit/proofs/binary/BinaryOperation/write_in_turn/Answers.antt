@@ -44,7 +44,7 @@ write-requires-clause-covers g c =
           rw (w.used-is, c.registers-size.ensures.value)
           (within k g.L.Lane.count (registers c.args.destination.emul) c.args.body.now.end some g.met.L.Lane.fills c.requires.in_turn.holds.room)
       | else-all w ↦
-          rw (w.used-is, w.min-used.ensures, w.div_ceil.ensures, w.end.ensures, w.count.ensures, c.registers-size.ensures.value)
+          rw (w.used-is, w.min-used.ensures, w.div_ceil.ensures, w.end.ensures.value, w.count.ensures, c.registers-size.ensures.value)
           (covered k g.L.Lane.count _ c.args.body.now.end some g.met.L.Lane.fills c.requires.in_turn.holds.room)
     ]
 

@@ -20,7 +20,7 @@ returns-clause-writes g c =
     (two_operands u t (λ a b. wrap t.width (clip_formula o.op o.mode u.width t.width a b))
     c.group.result.now c.second_in_place.result.now file o.vs2
     c.args.body.now.end (second_element t true o.source file x) c.group.ensures.value
-    (λ i h. c.second_in_place.ensures.elements i (omega (arith, h, c.end.ensures))))
+    (λ i h. c.second_in_place.ensures.elements i (omega (arith, h, c.end.ensures.value))))
     c.write_saturating_results.ensures.writes
 
 pub returns-clause-saturated : goal.returns-clause-saturated
@@ -35,4 +35,4 @@ returns-clause-saturated g c =
     (clip_saturates_at t u o.mode o.op o.vs2 o.source file x)
     (two_operands u t (clip_saturates o.op o.mode u.width t.width) c.group.result.now c.second_in_place.result.now file o.vs2
     c.args.body.now.end (second_element t true o.source file x) c.group.ensures.value
-    (λ i h. c.second_in_place.ensures.elements i (omega (arith, h, c.end.ensures))))
+    (λ i h. c.second_in_place.ensures.elements i (omega (arith, h, c.end.ensures.value))))

@@ -23,7 +23,7 @@ returns g c =
     three_operands t t (λ a b bit. carry_out_formula o.op t.width a b (not o.alone && bit))
     c.group-a.result.now c.second_in_place-b.result.now file o.vs2 body.end (second_element t false o.source file x)
     (mask_bit c.mask.result.now) (mask_bit (register_of file 0)) c.group-a.ensures.value
-    (λ j h. c.second_in_place-b.ensures.elements j (omega (arith, h, c.end.ensures))
+    (λ j h. c.second_in_place-b.ensures.elements j (omega (arith, h, c.end.ensures.value))
     ∙ ap (λ (s : SecondOperand). second_element (record { width = t.width; emul = s.emul }) s.unsigned s.source file x j) c.signed_operand-operand.ensures)
     (λ j. ap (λ bytes. mask_bit bytes j) (c.mask.ensures ∙ c.requires.mask)) i (active_end body i active))
     c.write_mask_results.ensures

@@ -19,7 +19,7 @@ returns-clause-writes g c =
     (two_operands t t (λ a b. wrap t.width (fixed_point_formula o.op o.mode t.width a b))
     c.group.result.now c.second_in_place.result.now file o.vs2
     c.args.body.now.end (second_element t (has_unsigned_shift o.op) o.source file x) c.group.ensures.value
-    (λ i h. c.second_in_place.ensures.elements i (omega (arith, h, c.end.ensures))
+    (λ i h. c.second_in_place.ensures.elements i (omega (arith, h, c.end.ensures.value))
     ∙ ap (λ u. second_element t u o.source file x i) c.has_unsigned_shift.ensures))
     c.write_saturating_results.ensures.writes
 
@@ -34,5 +34,5 @@ returns-clause-saturated g c =
     (saturates_at t o.mode o.op o.vs2 o.source file x)
     (two_operands t t (saturates o.op o.mode t.width) c.group.result.now c.second_in_place.result.now file o.vs2
     c.args.body.now.end (second_element t (has_unsigned_shift o.op) o.source file x) c.group.ensures.value
-    (λ i h. c.second_in_place.ensures.elements i (omega (arith, h, c.end.ensures))
+    (λ i h. c.second_in_place.ensures.elements i (omega (arith, h, c.end.ensures.value))
     ∙ ap (λ u. second_element t u o.source file x i) c.has_unsigned_shift.ensures))

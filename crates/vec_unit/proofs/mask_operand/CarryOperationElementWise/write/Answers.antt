@@ -23,6 +23,6 @@ returns g c =
     c.group_copy_mut.result.now c.second_copy-b.result.now file o.vs2
     c.args.body.now.end (second_element t false o.source file x)
     (mask_bit c.mask.result.now) (mask_bit (register_of file 0)) c.group_copy_mut.ensures.value
-    (λ i h. c.second_copy-b.ensures.elements i (omega (arith, h, c.end.ensures))
+    (λ i h. c.second_copy-b.ensures.elements i (omega (arith, h, c.end.ensures.value))
     ∙ ap (λ (s : SecondOperand). second_element (record { width = t.width; emul = s.emul }) s.unsigned s.source file x i) c.signed_operand-operand.ensures)
     (λ i. ap (λ bytes. mask_bit bytes i) (c.mask.ensures ∙ c.requires.mask)))

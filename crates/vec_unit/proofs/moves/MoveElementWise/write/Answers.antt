@@ -14,7 +14,7 @@ returns g c =
     let file = c.args.file.now in
     let x = c.args.scalar.now in
     let second : (i : ℕ) → i < c.args.body.now.end → element k c.second_copy-b.result.now i ≡ second_element t false o.source file x i =
-    λ i h. c.second_copy-b.ensures.elements i (omega (arith, h, c.end.ensures))
+    λ i h. c.second_copy-b.ensures.elements i (omega (arith, h, c.end.ensures.value))
     ∙ ap (λ (s : SecondOperand). second_element (record { width = t.width; emul = s.emul }) s.unsigned s.source file x i) c.signed_operand-operand.ensures in
     c.write_group.ensures
     ∙ results_same t c.args.destination.vd c.args.body.now

@@ -22,6 +22,6 @@ returns g c =
     c.group_copy_mut.result.now c.second_copy-b.result.now file o.vs2
     c.args.body.now.end (second_element t false o.source file x)
     (λ i. element (width_bytes t.width) c.group_copy_mut-2.result.now i) (group_element t file o.vd) c.group_copy_mut.ensures.value
-    (λ i h. c.second_copy-b.ensures.elements i (omega (arith, h, c.end.ensures))
+    (λ i h. c.second_copy-b.ensures.elements i (omega (arith, h, c.end.ensures.value))
     ∙ ap (λ (s : SecondOperand). second_element (record { width = t.width; emul = s.emul }) s.unsigned s.source file x i) c.signed_operand-operand.ensures)
     (λ i. ap (λ bytes. element (width_bytes t.width) bytes i) c.group_copy_mut-2.ensures.value))

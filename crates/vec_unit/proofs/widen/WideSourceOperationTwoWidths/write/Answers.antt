@@ -18,6 +18,6 @@ returns g c =
     (two_operands t u (λ a b. wrap t.width (wide_source_formula o.op t.width u.width a b))
     c.group.result.now c.second_in_place.result.now file o.vs2
     c.args.body.now.end (second_element u false o.source file x) c.group.ensures.value
-    (λ i h. c.second_in_place.ensures.elements i (omega (arith, h, c.end.ensures))
+    (λ i h. c.second_in_place.ensures.elements i (omega (arith, h, c.end.ensures.value))
     ∙ ap (λ (s : SecondOperand). second_element (record { width = u.width; emul = s.emul }) s.unsigned s.source file x i) c.signed_operand-operand.ensures))
     c.write_results.ensures

@@ -20,7 +20,7 @@ returns g c =
     c.group.result.now c.second_in_place.result.now file o.vs2
     c.args.body.now.end (second_element u false o.source file x)
     (λ i. element (width_bytes t.width) c.group-2.result.now i) (group_element t file o.vd) c.group.ensures.value
-    (λ i h. c.second_in_place.ensures.elements i (omega (arith, h, c.end.ensures))
+    (λ i h. c.second_in_place.ensures.elements i (omega (arith, h, c.end.ensures.value))
     ∙ ap (λ (s : SecondOperand). second_element (record { width = u.width; emul = s.emul }) s.unsigned s.source file x i) c.signed_operand-operand.ensures)
     (λ i. ap (λ bytes. element (width_bytes t.width) bytes i) c.group-2.ensures.value))
     c.write_results.ensures

@@ -18,7 +18,7 @@ returns-clause-loaded g c =
     let is = c.in-Some.ensures in
     let stopped = span_ends s body address stop c.in-Some.span is fill Load m c.args.extent.limit c.stop-stop.ensures (c.load.ensures.allowed c.if-load.true) in
     record {
-      end = c.end_without_fault.ensures.value ∙ ap (λ end. cond (nat_lt stop end) (Cut stop) Done) c.end.ensures ∙ sym stopped.end;
+      end = c.end_without_fault.ensures.value ∙ ap (λ end. cond (nat_lt stop end) (Cut stop) Done) c.end.ensures.value ∙ sym stopped.end;
       value =
           c.load.ensures.value c.if-load.true ∙ span_loads s body address stop c.in-Some.span is fill m c.args.file.now
           ∙ ap (registers_loaded m (place_in s) c.args.file.now) (sym stopped.done);

@@ -17,7 +17,7 @@ returns-clause-stored g c =
     let is = c.in-Some.ensures in
     let stopped = span_ends s body address stop c.in-Some.span is false Store m c.args.limit c.stop-stop.ensures (c.store.ensures.allowed c.if-store.true) in
     record {
-      end = c.end_without_fault.ensures.value ∙ ap (λ end. cond (nat_lt stop end) (Cut stop) Done) c.end.ensures ∙ sym stopped.end;
+      end = c.end_without_fault.ensures.value ∙ ap (λ end. cond (nat_lt stop end) (Cut stop) Done) c.end.ensures.value ∙ sym stopped.end;
       value =
           c.store.ensures.value c.if-store.true ∙ span_stores s body address stop c.in-Some.span is m c.args.file.now
           ∙ ap (memory_stored m (place_in s) c.args.file.now) (sym stopped.done);

@@ -86,6 +86,6 @@ returns-clause-stored g c =
       | inr within ↦ omega (arith, c.loop-index-test.false, c.loop-index.auto.index-end (omega (arith, within, c.start-index.ensures)))
     ] in
     record {
-      end = c.end_without_fault.ensures.value ∙ ap (λ end. cond (nat_lt c.stop-stop.result end) (Cut c.stop-stop.result) Done) c.end.ensures ∙ sym stopped.end;
+      end = c.end_without_fault.ensures.value ∙ ap (λ end. cond (nat_lt c.stop-stop.result end) (Cut c.stop-stop.result) Done) c.end.ensures.value ∙ sym stopped.end;
       value = c.loop-index.invariant.value ∙ ap (memory_stored m (place_in c.args.self.now.segments) c.args.file.now) (ap (transfers each body.start) count ∙ sym stopped.done);
     }
