@@ -7,7 +7,7 @@ use Rattle.std.proofs.lemmas.List.{drop-take, take-take, drop-drop}
 use Rattle.std.proofs.lemmas.Simd.{length-put_chunk, get_or-put_chunk_at, get_or-put_chunk_below, get_or-put_chunk_above, length-chunk, get_or-chunk, Each1-chunk, below_from_Fits}
 use Rattle.std.specs.Int.{byte_at}
 use lib.Lanes.{Each1, number_l, chunk, put_chunk}
-use Rattle.rv_model.specs.elements.Elements.{Body, element, in_body, in_range, is_let, is_active, is_changed, result_or_ones}
+use Rattle.rv_model.specs.elements.Elements.{Body, element, in_body, in_range, is_enabled, is_active, is_changed, result_or_ones}
 use Rattle.rv_model.specs.elements.Writes.{byte_or}
 use Rattle.rv_model.specs.lending.Writes.{Writes}
 use Rattle.rv_model.proofs.element_lemmas.Writes.{byte_at-is, writes_same, writes_then}
@@ -114,9 +114,9 @@ pub step_chunk : (k n c : ℕ) (body : Body) (fill_masked_off : Bool) (result ch
 step_chunk k n c body fill_masked_off result chunk_result ones mid new made active filled e room is long bytes actives filleds same =
     step_any k n c (λ i. is_active body (n * c + i)) (λ i. fill_masked_off && in_body body (n * c + i))
     (is_changed body fill_masked_off false) (result_or_ones body result ones) chunk_result ones mid new made active filled e room is long bytes
-    actives filleds (λ i h. either_way fill_masked_off (in_body body (n * c + i)) (is_let body (n * c + i))) (λ i h. rw (same i h) refl)
+    actives filleds (λ i h. either_way fill_masked_off (in_body body (n * c + i)) (is_enabled body (n * c + i))) (λ i h. rw (same i h) refl)
   where
-    -- of those in the body, the ones that the mask lets through change anyway
+    -- of those in the body, those at which the mask is enabled change anyway
     either_way : (m b l : Bool) → ((b && l) || ((m && (b && not l)) || false)) ≡ ((b && l) || ((m && b) || false))
     either_way false b l = refl
     either_way true false l = refl
@@ -152,7 +152,7 @@ module _ (k : ℕ) (unmasked : Bool) (mask : List ℕ) (start end : ℕ) (fill_m
   number s e = result_or_ones (body_from s) result ones e
 
   -- The test of the second, where b is whether the element is in the body, t whether it is before the cut, l whether the
-  -- mask lets it through, and m whether those masked off are filled.
+  -- mask is enabled at it, and m whether those masked off are filled.
   abbrev test : Bool → Bool → Bool → Bool
   test m b l = (b && l) || ((m && (b && not l)) || false)
 
@@ -189,8 +189,8 @@ module _ (k : ℕ) (unmasked : Bool) (mask : List ℕ) (start end : ℕ) (fill_m
       writes_same k (λ e. (changed start e && nat_lt e cut) || changed (max start cut) e) (changed start)
       (λ e. cond (changed (max start cut) e) (number (max start cut) e) (number start e)) (number start) old new
       (writes_then k (λ e. changed start e && nat_lt e cut) (changed (max start cut)) (number start) (number (max start cut)) old mid new first second)
-      (λ e l. rw (later e) (tests fill_masked_off (in_range start end e) (nat_lt e cut) (is_let (body_from start) e)))
-      (λ e h. rw (later e) (numbers fill_masked_off (in_range start end e) (nat_lt e cut) (is_let (body_from start) e) (result e)))
+      (λ e l. rw (later e) (tests fill_masked_off (in_range start end e) (nat_lt e cut) (is_enabled (body_from start) e)))
+      (λ e h. rw (later e) (numbers fill_masked_off (in_range start end e) (nat_lt e cut) (is_enabled (body_from start) e) (result e)))
 
   -- the same, of the elements from it on as those of another body
   pub then_rest : (rest : Body) (old mid new : List ℕ) → rest ≡ body_from (max start cut)

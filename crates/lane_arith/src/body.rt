@@ -1,6 +1,6 @@
 //! Which elements an instruction works on ("V" Vector Extension 1.0, sections 5.3 and 5.4).
 ghost use Rattle.std.specs.Prelude.{◌≡◌, ◌<◌, ◌≤◌};
-ghost use Rattle.rv_model.specs.elements.Elements.{is_active, is_let};
+ghost use Rattle.rv_model.specs.elements.Elements.{is_active, is_enabled};
 
 use rv_model::{GROUP_BYTES, VLENB};
 use std::marker::Model;
@@ -78,10 +78,10 @@ impl<'a> Body<'a> {
         self.end
     }
 
-    /// Whether the mask lets an element through.
-    pub fn lets(&self, index: usize) -> bool
+    /// Whether the mask is enabled at an element, or the instruction unmasked.
+    pub fn is_enabled(&self, index: usize) -> bool
         requires { index < GROUP_BYTES }
-        ensures { result ≡ is_let self.now index }
+        ensures { result ≡ is_enabled self.now index }
     {
         self.unmasked || self.mask[index / 8] >> (index % 8) & 1 == 1
     }
@@ -90,6 +90,6 @@ impl<'a> Body<'a> {
     pub fn is_active(&self, index: usize) -> bool
         ensures { result ≡ is_active self.now index }
     {
-        self.start <= index && index < self.end && self.lets(index)
+        self.start <= index && index < self.end && self.is_enabled(index)
     }
 }

@@ -1,7 +1,7 @@
 //! The elements of a chunk of 32 bytes that count, as the bits of a word ("V" Vector Extension 1.0, sections
 //! 5.3 and 5.4).
 ghost use Rattle.std.specs.Prelude.{◌≡◌, ◌+◌, ◌-◌, ◌/◌, ◌%◌, ◌^◌, ◌<◌, ◌≤◌, ◌==◌, ◌&&◌, ℕ, nat_le, not};
-ghost use Rattle.rv_model.specs.elements.Elements.{in_body, in_range, is_active, is_let, mask_bit};
+ghost use Rattle.rv_model.specs.elements.Elements.{in_body, in_range, is_active, is_enabled, mask_bit};
 
 use crate::body::Body;
 use crate::lane::Lane;
@@ -50,13 +50,13 @@ pub fn mask_bits(mask: &[u8; VLENB], first: usize, count: usize) -> u64
     u64::from(u32::load(mask, first / 32)) >> (first % 32)
 }
 
-/// A bit for each of `count` elements from `first` on, set where the mask lets it through.
+/// A bit for each of `count` elements from `first` on, set where the mask is enabled at it.
 #[inline(always)]
-pub fn let_bits(body: &Body<'_>, first: usize, count: usize) -> u64
+pub fn enabled_bits(body: &Body<'_>, first: usize, count: usize) -> u64
     requires word { first % 32 + count ≤ 32 }
     requires inside { first + count ≤ GROUP_BYTES }
     requires some { 0 < count }
-    ensures { (i : ℕ) → i < count → (result / 2 ^ i % 2 == 0) ≡ not (is_let body.now (first + i)) }
+    ensures { (i : ℕ) → i < count → (result / 2 ^ i % 2 == 0) ≡ not (is_enabled body.now (first + i)) }
 {
     if body.is_unmasked() {
         u64::MAX
@@ -74,7 +74,7 @@ pub fn active_bits(body: &Body<'_>, first: usize, count: usize) -> u64
     requires some { 0 < count }
     ensures { (i : ℕ) → i < count → (result / 2 ^ i % 2 == 0) ≡ not (is_active body.now (first + i)) }
 {
-    range_bits(body.start(), body.end(), first, count) & let_bits(body, first, count)
+    range_bits(body.start(), body.end(), first, count) & enabled_bits(body, first, count)
 }
 
 /// A bit for each of `count` elements from `first` on, the lowest for the first, set in the body where

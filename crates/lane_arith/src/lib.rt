@@ -26,7 +26,7 @@ mod widen;
 
 pub use binary::Binary;
 pub use body::Body;
-pub use chunk_bits::{active_bits, filled_bits, let_bits, mask_bits};
+pub use chunk_bits::{active_bits, enabled_bits, filled_bits, mask_bits};
 pub use compare::{CarryOut, Compare};
 pub use copies::Copies;
 pub use extend::Extend;

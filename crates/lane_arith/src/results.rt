@@ -64,7 +64,7 @@ fn write_each<L: Lane, R: Results<L>>(
         (result_or_ones body.now (R.number results.now) (ones L.width)) destination.old destination.new }
 {
     for i in body.start()..body.end() {
-        if body.lets(i) {
+        if body.is_enabled(i) {
             results.result(i).store(destination, i);
         } else if fill_masked_off {
             L::all_ones().store(destination, i);

@@ -5,7 +5,7 @@ use Rattle.std.proofs.Math.Nat.{div-div-eq-div-mul, mul-add, mul-one, pow-succ'}
 use Rattle.std.proofs.lemmas.Bool.Decides.{nat_tests}
 use Rattle.std.proofs.lemmas.Nat.{and_le_l}
 use Rattle.std.specs.List.{list_any, range_with_len}
-use Rattle.rv_model.specs.elements.Elements.{Body, is_active, is_let, in_range, some_active}
+use Rattle.rv_model.specs.elements.Elements.{Body, is_active, is_enabled, in_range, some_active}
 use Rattle.rv_model.proofs.element_lemmas.Actives.{some_before, some_begins, some_ends}
 use Rattle.lane_arith.proofs.MaskBits.{both_bits}
 
@@ -95,7 +95,7 @@ rest_tells body rest test cut is =
     sym (some_ends from test (cut + body.end) (omega arith)) ∙ first_and_next theirs cut body.end
     ∙ ap (λ t. t || list_any theirs (range_with_len cut body.end)) before in
     ap (λ r. some_before body test cut || some_active r test) is
-    ∙ ap (λ t. some_before body test cut || t) (after ∙ any_same theirs mine cut body.end (λ e past to. ap (λ t. t && is_let body e && test e) (later e past)))
+    ∙ ap (λ t. some_before body test cut || t) (after ∙ any_same theirs mine cut body.end (λ e past to. ap (λ t. t && is_enabled body e && test e) (later e past)))
     ∙ sym (first_and_next mine cut body.end) ∙ some_ends body test (cut + body.end) (omega arith)
   where
     later : (e : ℕ) → cut ≤ e → in_range (max body.start cut) body.end e ≡ in_range body.start body.end e

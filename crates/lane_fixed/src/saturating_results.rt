@@ -98,7 +98,7 @@ fn write_each<L: Lane, R: SaturatingResults<L>, M: Rounding>(
     let body = body.copied();
     let mut saturated = false;
     for i in body.start()..body.end() {
-        if body.lets(i) {
+        if body.is_enabled(i) {
             let result = results.result_in::<M>(i);
             result.value.store(destination, i);
             saturated |= result.saturated;

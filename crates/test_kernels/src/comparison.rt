@@ -10,7 +10,7 @@ use crate::report::{Line, Report};
 use crate::variants::{Variant, Variants};
 use lane_arith::{Body, Lane};
 
-/// What is active in a body: all elements, or those that a mask lets through; and whether the others are filled.
+/// What is active in a body: all elements, or those at which a mask is enabled; and whether the others are filled.
 struct Way {
     unmasked: bool,
     mask: [u8; 32],
@@ -161,14 +161,14 @@ pub(crate) fn write<K: Kernel>(
     }
 }
 
-/// Whether the mask lets an element through.
-fn is_let(body: &Body<'_>, index: usize) -> bool {
+/// Whether the mask is enabled at an element.
+fn is_enabled(body: &Body<'_>, index: usize) -> bool {
     body.is_unmasked() || bit_at(body.mask(), index)
 }
 
 /// Whether an element is active.
 pub(crate) fn is_active(body: &Body<'_>, index: usize) -> bool {
-    body.start() <= index && index < body.end() && is_let(body, index)
+    body.start() <= index && index < body.end() && is_enabled(body, index)
 }
 
 /// Puts the result at an index. Answers whether it saturated.
@@ -208,7 +208,7 @@ fn write_plain<K: Kernel>(
     };
     let mut saturated = false;
     for index in case.body.start().max(first)..case.body.end() {
-        if is_let(case.body, index) {
+        if is_enabled(case.body, index) {
             saturated |= put_result(kernel, case, sweep.limits, width, index, destination);
         } else if case.fill {
             put(destination, width, index, -1);

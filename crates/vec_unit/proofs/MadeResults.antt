@@ -5,7 +5,7 @@ use Rattle.std.proofs.lemmas.Bool.Decides.{nat_tests}
 use Rattle.std.proofs.Math.Nat.{lt_of_mul-lt-mul_left, mul_assoc}
 use Rattle.std.specs.Prelude.{not, if◌then◌else◌}
 use Rattle.rv_model.specs.elements.Arithmetic.{with_results}
-use Rattle.rv_model.specs.elements.Elements.{Body, in_body, in_range, is_active, is_changed, is_let, result_or_ones}
+use Rattle.rv_model.specs.elements.Elements.{Body, in_body, in_range, is_active, is_changed, is_enabled, result_or_ones}
 use Rattle.rv_model.specs.elements.Formulas.{ones}
 use Rattle.rv_model.specs.lending.Writes.{Writes}
 use Rattle.rv_model.specs.vector.Configuration.{GroupType, width_bytes}
@@ -93,5 +93,5 @@ made_results g vd body fill_masked_off fill_tail result file mid new filled writ
     (writes_same k (λ e. is_agnostic body fill_masked_off fill_tail e || is_active body e) (is_changed body fill_masked_off fill_tail)
     (λ e. cond (is_active body e) (result e) (ones g.width)) (result_or_ones body result (ones g.width)) old new
     (writes_then k (is_agnostic body fill_masked_off fill_tail) (is_active body) (λ i. ones g.width) result old mid new filled written)
-    (λ e l. in_order fill_masked_off (in_body body e) (is_let body e) (fill_tail && nat_le body.end e))
+    (λ e l. in_order fill_masked_off (in_body body e) (is_enabled body e) (fill_tail && nat_le body.end e))
     (λ e h. refl))

@@ -9,7 +9,7 @@ use Rattle.std.specs.Int.{byte_at}
 use lib.Lanes.{number_l, chunk, put_chunk}
 use Rattle.rv_model.specs.declared.instructions.source.Source.{Source}
 use Rattle.rv_model.specs.declared.instructions.source.Source.TheVariants as source
-use Rattle.rv_model.specs.elements.Elements.{Body, element, in_body, is_active, is_changed, is_let, result_or_ones}
+use Rattle.rv_model.specs.elements.Elements.{Body, element, in_body, is_active, is_changed, is_enabled, result_or_ones}
 use Rattle.rv_model.specs.lending.Writes.{Writes}
 use Rattle.rv_model.proofs.element_lemmas.Sets.{changed_inside, to_end}
 use Rattle.rv_model.proofs.element_lemmas.Writes.{begins, ends}
@@ -29,7 +29,7 @@ from_first n vd r i = omega (arith, mul-add n vd r)
 
 -- ---- tests
 
--- of those in the body, the ones that the mask lets through change anyway
+-- of those in the body, those at which the mask is enabled change anyway
 either_way : (m b l : Bool) → ((b && l) || ((m && (b && not l)) || false)) ≡ ((b && l) || ((m && b) || false))
 either_way m b l = grind (arith, nat_tests)
 
@@ -66,7 +66,7 @@ module _ (k n vd registers : ℕ) (body : Body) (fill : Bool) (result : ℕ → 
   before_end e h =
       let d : ℕ = e - n * vd in
       to_end body.start body.end d
-      (changed_inside (in_body body d) (is_let body d) fill (nat_le body.end d)
+      (changed_inside (in_body body d) (is_enabled body d) fill (nat_le body.end d)
       (and_parts (nat_le (n * vd) e) (is_changed body fill false (e - n * vd)) h).1)
 
   pub none_done : Done 0 old
@@ -92,7 +92,7 @@ module _ (k n vd registers : ℕ) (body : Body) (fill : Bool) (result : ℕ → 
       (chunk_more k n (vd + r) changes numbers old mid new was
       (step_any k n (vd + r) (λ i. is_active body (n * r + i)) (λ i. fill && in_body body (n * r + i)) changes numbers chunk_result ones mid
       new made active filled e room is long bytes actives filleds
-      (λ i h. rw (in_group n vd r i, from_first n vd r i) (either_way fill (in_body body (n * r + i)) (is_let body (n * r + i))))
+      (λ i h. rw (in_group n vd r i, from_first n vd r i) (either_way fill (in_body body (n * r + i)) (is_enabled body (n * r + i))))
       (λ i h. rw (from_first n vd r i, same i h) refl)))
 
   not_yet : (r read i : ℕ) → r < registers → i < n → IsReadFirst read vd registers

@@ -13,7 +13,7 @@ use Rattle.rv_model.specs.declared.instructions.source.Source.TheVariants as sou
 use Rattle.rv_model.specs.declared.scalar.Scalar.{Scalar}
 use Rattle.rv_model.specs.elements.Arithmetic.{binary_result, second_element, with_results}
 use Rattle.rv_model.specs.vector.Configuration.{GroupType, width_bytes}
-use Rattle.rv_model.specs.elements.Elements.{Body, element, in_body, is_active, is_changed, is_let, result_or_ones}
+use Rattle.rv_model.specs.elements.Elements.{Body, element, in_body, is_active, is_changed, is_enabled, result_or_ones}
 use Rattle.rv_model.specs.elements.Formulas.{formula, has_unsigned_immediate, ones, wrap}
 use Rattle.rv_model.specs.lending.Writes.{Writes}
 use Rattle.rv_model.specs.vector.Registers.{group_of, registers}
@@ -183,7 +183,7 @@ unchanged : (body : Body) (fill_masked_off : Bool) (i : ℕ) → body.end ≤ i 
 unchanged body fill_masked_off i h =
     false_from_ne_true (is_changed body fill_masked_off false i)
     (λ changes.
-    let inside = changed_inside (in_body body i) (is_let body i) fill_masked_off (nat_le body.end i) changes in
+    let inside = changed_inside (in_body body i) (is_enabled body i) fill_masked_off (nat_le body.end i) changes in
     absurd (omega (arith, h, to_end body.start body.end i inside)))
 
 -- ---- the whole
@@ -213,7 +213,7 @@ turned_results g n vd number op vs2 from x body fill_masked_off fill_tail count 
     (writes_same k changes (is_changed body fill_masked_off fill_tail) numbers numbers (group_of file vd g.emul) (group_of new vd g.emul) written
     (λ i h.
     let l : k * i < k * count = omega (arith, long_before k n vd regs changes numbers file new e fits was, whole, h) in
-    same_tail (is_active body i) fill_tail (fill_masked_off && (in_body body i && not (is_let body i))) body.end count i tail (below i l)) (λ i h. refl))
+    same_tail (is_active body i) fill_tail (fill_masked_off && (in_body body i && not (is_enabled body i))) body.end count i tail (below i l)) (λ i h. refl))
   where
     below : (i : ℕ) → width_bytes g.width * i < width_bytes g.width * count → i < count
     below i h = elim (cases_lt i count) [

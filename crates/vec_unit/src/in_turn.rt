@@ -18,7 +18,7 @@ ghost use Rattle.vec_unit.specs.InTurn.{
 ghost use mir.Val.{bits};
 
 use lane_arith::chunk::simd_results;
-use lane_arith::{Body, Lane, active_bits, chunk_elements, filled_bits, let_bits, put_results};
+use lane_arith::{Body, Lane, active_bits, chunk_elements, enabled_bits, filled_bits, put_results};
 use rv_model::instructions::operations::BinaryOp;
 use rv_model::{FILE_BYTES, GROUP_BYTES, Scalar, Source, VECTOR_REGISTERS, VLENB, VReg};
 
@@ -55,7 +55,7 @@ fn active_in_turn(all: bool, body: &Body<'_>, first: usize, count: usize) -> u64
     ensures { (i : ℕ) → i < count → (result / 2 ^ i % 2 == 0) ≡ not (is_active body.now (first + i)) }
 {
     if all {
-        let_bits(body, first, count)
+        enabled_bits(body, first, count)
     } else {
         active_bits(body, first, count)
     }

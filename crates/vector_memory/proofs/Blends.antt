@@ -11,7 +11,7 @@ use lib.Lanes.{Each1, chunk, number_l, put_chunk}
 use Rattle.lane_arith.proofs.MaskBits.{byte_of_number}
 use Rattle.rv_model.specs.declared.vector.sizes.TheConstants.{VLENB}
 use Rattle.rv_model.specs.accesses.Transfers.{registers_loaded, memory_stored}
-use Rattle.rv_model.specs.elements.Elements.{element, is_changed, is_let, result_or_ones}
+use Rattle.rv_model.specs.elements.Elements.{element, is_changed, is_enabled, result_or_ones}
 use Rattle.rv_model.specs.elements.Formulas.{ones}
 use Rattle.rv_model.specs.elements.Writes.{written}
 use Rattle.rv_model.specs.lending.Writes.{Writes}
@@ -168,7 +168,7 @@ module _ (m : Memory) (b : Span) (w : Width) (size : b.segments.size ≡ width_b
     loads_next n h =
         let a = span_access b in
         let at = field_place a 0 n in
-        elim (cases_Bool (is_let b.body n)) [
+        elim (cases_Bool (is_enabled b.body n)) [
           | inl on ↦
               let xs : List ℕ = bytes_low_first 0 k (element k bytes n) in
               let next = step_result k (part_of b.body b.stop) fill n (λ i. element k bytes i) (ones w) group_bytes (loaded n) (put_chunk (k * n) (loaded n) xs) (omega arith) h
@@ -232,7 +232,7 @@ module _ (m : Memory) (b : Span) (w : Width) (size : b.segments.size ≡ width_b
         → store_field file (span_access b) 0 (put_bytes m b.address (stored_in n)) n ≡ put_bytes m b.address (stored_in (n + 1))
     stores_next n h =
         let a = span_access b in
-        elim (cases_Bool (is_let b.body n)) [
+        elim (cases_Bool (is_enabled b.body n)) [
           | inl on ↦
               let xs : List ℕ = bytes_low_first 0 k (element k group_bytes n) in
               let next = step_result k (part_of b.body b.stop) false n (λ i. element k group_bytes i) (ones w) bytes (stored_in n) (put_chunk (k * n) (stored_in n) xs) (omega arith) h

@@ -9,7 +9,7 @@ use Rattle.std.proofs.Math.Nat.{mul_comm}
 use Rattle.rv_model.specs.accesses.Transfers.{registers_loaded, memory_stored, transfers}
 use Rattle.rv_model.specs.accesses.VectorAccess.{VectorAccess, filled_segment, element_start, plan, moved_segment}
 use Rattle.rv_model.specs.declared.vector.sizes.TheConstants.{VLENB}
-use Rattle.rv_model.specs.elements.Elements.{is_let}
+use Rattle.rv_model.specs.elements.Elements.{is_enabled}
 use Rattle.rv_model.specs.memory.Memory.{Memory, bytes_at, put_bytes}
 use Rattle.rv_model.proofs.access_lemmas.Moves.{loaded-append, loaded_none, stored-append, stored_none}
 use Rattle.rv_model.proofs.access_lemmas.Segments.{filled_field, filled_start, loaded_field, loaded_start, plan_active, plan_filled, plan_kept, stored_field, stored_start}
@@ -85,32 +85,32 @@ module _ {X : Type 0} where
 -- ---- a load
 
 module _ (m : Memory) (a : VectorAccess) (fill : Bool) where
-  let_field : (f : ℕ) (file : List ℕ) (i : ℕ) → is_let a.body i ≡ true
+  enabled_field : (f : ℕ) (file : List ℕ) (i : ℕ) → is_enabled a.body i ≡ true
       → load_field m a fill f file i ≡ put_chunk (field_place a f i) file (bytes_at m (field_address a f i) a.size)
   unfolding load_field
-  let_field f file i h = rw h refl
+  enabled_field f file i h = rw h refl
 
-  off_filled : (f : ℕ) (file : List ℕ) (i : ℕ) → is_let a.body i ≡ false → fill ≡ true
+  off_filled : (f : ℕ) (file : List ℕ) (i : ℕ) → is_enabled a.body i ≡ false → fill ≡ true
       → load_field m a fill f file i ≡ put_chunk (field_place a f i) file (replicate a.size 255)
   unfolding load_field
   off_filled f file i h e = rw (h, e) refl
 
-  off_kept : (f : ℕ) (file : List ℕ) (i : ℕ) → is_let a.body i ≡ false → fill ≡ false → load_field m a fill f file i ≡ file
+  off_kept : (f : ℕ) (file : List ℕ) (i : ℕ) → is_enabled a.body i ≡ false → fill ≡ false → load_field m a fill f file i ≡ file
   unfolding load_field
   off_kept f file i h e = rw (h, e) refl
 
-  fields_let : (i : ℕ) → is_let a.body i ≡ true → (f : ℕ) (file : List ℕ)
+  fields_enabled : (i : ℕ) → is_enabled a.body i ≡ true → (f : ℕ) (file : List ℕ)
       → each_field (load_field m a fill) f file i ≡ registers_loaded m (element_start a) file (moved_segment i (a.address i) a.size f)
   unfolding each_field
-  fields_let i h zero file = loaded_start m (element_start a) file i (a.address i) a.size
-  fields_let i h (suc f) file =
+  fields_enabled i h zero file = loaded_start m (element_start a) file i (a.address i) a.size
+  fields_enabled i h (suc f) file =
       let count : f + 1 ≡ suc f = omega arith in
-      let_field f (each_field (load_field m a fill) f file i) i h
-      ∙ ap (λ x. put_chunk (field_place a f i) x (bytes_at m (field_address a f i) a.size)) (fields_let i h f file)
+      enabled_field f (each_field (load_field m a fill) f file i) i h
+      ∙ ap (λ x. put_chunk (field_place a f i) x (bytes_at m (field_address a f i) a.size)) (fields_enabled i h f file)
       ∙ loaded_field m (element_start a) file i (a.address i) a.size f
       ∙ ap (λ k. registers_loaded m (element_start a) file (moved_segment i (a.address i) a.size k)) count
 
-  fields_filled : (i : ℕ) → is_let a.body i ≡ false → fill ≡ true → (f : ℕ) (file : List ℕ)
+  fields_filled : (i : ℕ) → is_enabled a.body i ≡ false → fill ≡ true → (f : ℕ) (file : List ℕ)
       → each_field (load_field m a fill) f file i ≡ registers_loaded m (element_start a) file (filled_segment i a.size f)
   unfolding each_field
   fields_filled i h e zero file = filled_start m (element_start a) file i a.size
@@ -121,14 +121,14 @@ module _ (m : Memory) (a : VectorAccess) (fill : Bool) where
       ∙ filled_field m (element_start a) file i a.size f
       ∙ ap (λ k. registers_loaded m (element_start a) file (filled_segment i a.size k)) count
 
-  fields_kept : (i : ℕ) → is_let a.body i ≡ false → fill ≡ false → (f : ℕ) (file : List ℕ) → each_field (load_field m a fill) f file i ≡ file
+  fields_kept : (i : ℕ) → is_enabled a.body i ≡ false → fill ≡ false → (f : ℕ) (file : List ℕ) → each_field (load_field m a fill) f file i ≡ file
   unfolding each_field
   fields_kept i h e zero file = refl
   fields_kept i h e (suc f) file = off_kept f (each_field (load_field m a fill) f file i) i h e ∙ fields_kept i h e f file
 
   fields_planned : (file : List ℕ) (i : ℕ) → each_field (load_field m a fill) a.fields file i ≡ registers_loaded m (element_start a) file (plan a fill i)
-  fields_planned file i = elim (cases_Bool (is_let a.body i)) [
-    | inl h ↦ fields_let i h a.fields file ∙ sym (ap (registers_loaded m (element_start a) file) (plan_active a fill i h))
+  fields_planned file i = elim (cases_Bool (is_enabled a.body i)) [
+    | inl h ↦ fields_enabled i h a.fields file ∙ sym (ap (registers_loaded m (element_start a) file) (plan_active a fill i h))
     | inr h ↦ elim (cases_Bool fill) [
       | inl e ↦ fields_filled i h e a.fields file ∙ sym (ap (registers_loaded m (element_start a) file) (plan_filled a fill i h e))
       | inr e ↦ fields_kept i h e a.fields file ∙ sym (ap (registers_loaded m (element_start a) file) (plan_kept a fill i h e) ∙ loaded_none m (element_start a) file)
@@ -146,17 +146,17 @@ module _ (m : Memory) (a : VectorAccess) (fill : Bool) where
       ∙ sym (loaded-append m (element_start a) file (plan a fill i) (transfers (plan a fill) (i + 1) n))
 
   -- one field of an index, as a loop comes to it
-  pub load_active : (f i at : ℕ) (file bytes : List ℕ) → is_let a.body i ≡ true → at ≡ field_place a f i → bytes ≡ bytes_at m (field_address a f i) a.size
+  pub load_active : (f i at : ℕ) (file bytes : List ℕ) → is_enabled a.body i ≡ true → at ≡ field_place a f i → bytes ≡ bytes_at m (field_address a f i) a.size
       → put_chunk at file bytes ≡ load_field m a fill f file i
   load_active f i at file bytes h place read =
-      ap (λ p. put_chunk p file bytes) place ∙ ap (put_chunk (field_place a f i) file) read ∙ sym (let_field f file i h)
+      ap (λ p. put_chunk p file bytes) place ∙ ap (put_chunk (field_place a f i) file) read ∙ sym (enabled_field f file i h)
 
-  pub load_filled : (f i at : ℕ) (file bytes : List ℕ) → is_let a.body i ≡ false → fill ≡ true → at ≡ field_place a f i → bytes ≡ replicate a.size 255
+  pub load_filled : (f i at : ℕ) (file bytes : List ℕ) → is_enabled a.body i ≡ false → fill ≡ true → at ≡ field_place a f i → bytes ≡ replicate a.size 255
       → put_chunk at file bytes ≡ load_field m a fill f file i
   load_filled f i at file bytes h e place ones =
       ap (λ p. put_chunk p file bytes) place ∙ ap (put_chunk (field_place a f i) file) ones ∙ sym (off_filled f file i h e)
 
-  pub load_kept : (f i : ℕ) (file : List ℕ) → is_let a.body i ≡ false → fill ≡ false → file ≡ load_field m a fill f file i
+  pub load_kept : (f i : ℕ) (file : List ℕ) → is_enabled a.body i ≡ false → fill ≡ false → file ≡ load_field m a fill f file i
   load_kept f i file h e = sym (off_kept f file i h e)
 
 -- two writes that lie apart, in either order
@@ -178,10 +178,10 @@ put_low (suc p) (suc q) (z ∷ file) xs ys h = ap (λ l. z ∷ l) (put_low p q f
 -- what is loaded of a field keeps the order of fields
 module _ (m : Memory) (a : VectorAccess) (fill : Bool) (top : ℕ) (room : a.size * top ≤ VLENB * a.field_registers) where
   abbrev moved : ℕ → ℕ → List ℕ
-  moved f i = cond (is_let a.body i) (bytes_at m (field_address a f i) a.size) (replicate a.size 255)
+  moved f i = cond (is_enabled a.body i) (bytes_at m (field_address a f i) a.size) (replicate a.size 255)
 
   moved_size : (f i : ℕ) → length (moved f i) ≡ a.size
-  moved_size f i = elim (is_let a.body i) as (λ b. length (cond b (bytes_at m (field_address a f i) a.size) (replicate a.size 255)) ≡ a.size) [
+  moved_size f i = elim (is_enabled a.body i) as (λ b. length (cond b (bytes_at m (field_address a f i) a.size) (replicate a.size 255)) ≡ a.size) [
     | true ↦ length-bytes_at m (field_address a f i) a.size
     | false ↦ length-replicate {A = ℕ} a.size 255
   ]
@@ -189,15 +189,15 @@ module _ (m : Memory) (a : VectorAccess) (fill : Bool) (top : ℕ) (room : a.siz
   -- it is written, or nothing is
   written : (f i : ℕ)
       → ((file : List ℕ) → load_field m a fill f file i ≡ put_chunk (field_place a f i) file (moved f i)) ⊎ ((file : List ℕ) → load_field m a fill f file i ≡ file)
-  written f i = elim (cases_Bool (is_let a.body i)) [
-    | inl h ↦ inl (λ file. let_field m a fill f file i h ∙ ap (put_chunk (field_place a f i) file) (sym (chosen h)))
+  written f i = elim (cases_Bool (is_enabled a.body i)) [
+    | inl h ↦ inl (λ file. enabled_field m a fill f file i h ∙ ap (put_chunk (field_place a f i) file) (sym (chosen h)))
     | inr h ↦ elim (cases_Bool fill) [
       | inl e ↦ inl (λ file. off_filled m a fill f file i h e ∙ ap (put_chunk (field_place a f i) file) (sym (chosen h)))
       | inr e ↦ inr (λ file. off_kept m a fill f file i h e)
     ]
   ]
     where
-      chosen : {b : Bool} → is_let a.body i ≡ b → moved f i ≡ cond b (bytes_at m (field_address a f i) a.size) (replicate a.size 255)
+      chosen : {b : Bool} → is_enabled a.body i ≡ b → moved f i ≡ cond b (bytes_at m (field_address a f i) a.size) (replicate a.size 255)
       chosen h = ap (λ c. cond c (bytes_at m (field_address a f i) a.size) (replicate a.size 255)) h
 
   pub loads_apart : (fields : ℕ) → Apart (load_field m a fill) fields 0 top
@@ -224,16 +224,16 @@ module _ (m : Memory) (a : VectorAccess) (fill : Bool) (top : ℕ) (room : a.siz
 -- ---- a store
 
 module _ (file : List ℕ) (a : VectorAccess) where
-  stores : (f : ℕ) (m : Memory) (i : ℕ) → is_let a.body i ≡ true
+  stores : (f : ℕ) (m : Memory) (i : ℕ) → is_enabled a.body i ≡ true
       → store_field file a f m i ≡ put_bytes m (field_address a f i) (chunk (field_place a f i) a.size file)
   unfolding store_field
   stores f m i h = rw h refl
 
-  stores_none : (f : ℕ) (m : Memory) (i : ℕ) → is_let a.body i ≡ false → store_field file a f m i ≡ m
+  stores_none : (f : ℕ) (m : Memory) (i : ℕ) → is_enabled a.body i ≡ false → store_field file a f m i ≡ m
   unfolding store_field
   stores_none f m i h = rw h refl
 
-  fields_stores : (i : ℕ) → is_let a.body i ≡ true → (f : ℕ) (m : Memory)
+  fields_stores : (i : ℕ) → is_enabled a.body i ≡ true → (f : ℕ) (m : Memory)
       → each_field (store_field file a) f m i ≡ memory_stored m (element_start a) file (moved_segment i (a.address i) a.size f)
   unfolding each_field
   fields_stores i h zero m = stored_start m (element_start a) file i (a.address i) a.size
@@ -244,13 +244,13 @@ module _ (file : List ℕ) (a : VectorAccess) where
       ∙ stored_field m (element_start a) file i (a.address i) a.size f
       ∙ ap (λ k. memory_stored m (element_start a) file (moved_segment i (a.address i) a.size k)) count
 
-  fields_none : (i : ℕ) → is_let a.body i ≡ false → (f : ℕ) (m : Memory) → each_field (store_field file a) f m i ≡ m
+  fields_none : (i : ℕ) → is_enabled a.body i ≡ false → (f : ℕ) (m : Memory) → each_field (store_field file a) f m i ≡ m
   unfolding each_field
   fields_none i h zero m = refl
   fields_none i h (suc f) m = stores_none f (each_field (store_field file a) f m i) i h ∙ fields_none i h f m
 
   fields_of : (m : Memory) (i : ℕ) → each_field (store_field file a) a.fields m i ≡ memory_stored m (element_start a) file (plan a false i)
-  fields_of m i = elim (cases_Bool (is_let a.body i)) [
+  fields_of m i = elim (cases_Bool (is_enabled a.body i)) [
     | inl h ↦ fields_stores i h a.fields m ∙ sym (ap (memory_stored m (element_start a) file) (plan_active a false i h))
     | inr h ↦ fields_none i h a.fields m ∙ sym (ap (memory_stored m (element_start a) file) (plan_kept a false i h refl) ∙ stored_none m (element_start a) file)
   ]
@@ -266,12 +266,12 @@ module _ (file : List ℕ) (a : VectorAccess) where
       ∙ sym (stored-append m (element_start a) file (plan a false i) (transfers (plan a false) (i + 1) n))
 
   -- one field of an index, as a loop comes to it
-  pub store_active : (f i at : ℕ) (m : Memory) (bytes : List ℕ) → is_let a.body i ≡ true → at ≡ field_address a f i
+  pub store_active : (f i at : ℕ) (m : Memory) (bytes : List ℕ) → is_enabled a.body i ≡ true → at ≡ field_address a f i
       → bytes ≡ chunk (field_place a f i) a.size file → put_bytes m at bytes ≡ store_field file a f m i
   store_active f i at m bytes h address part =
       ap (λ p. put_bytes m p bytes) address ∙ ap (put_bytes m (field_address a f i)) part ∙ sym (stores f m i h)
 
-  pub store_kept : (f i : ℕ) (m : Memory) → is_let a.body i ≡ false → m ≡ store_field file a f m i
+  pub store_kept : (f i : ℕ) (m : Memory) → is_enabled a.body i ≡ false → m ≡ store_field file a f m i
   store_kept f i m h = sym (stores_none f m i h)
 
 -- two writes that lie apart, in either order
@@ -308,9 +308,9 @@ put_below m p q xs ys h = same_memory (put_bytes (put_bytes m q ys) p xs) (put_b
 module _ (file : List ℕ) (a : VectorAccess) (low top : ℕ)
     (apart : (f h i j : ℕ) → h < f → f < a.fields → low ≤ i → i < j → j < top → field_address a f i + a.size ≤ field_address a h j) where
   pub stores_apart : Apart (store_field file a) a.fields low top
-  stores_apart f h i j m less some from order end = elim (cases_Bool (is_let a.body i)) [
+  stores_apart f h i j m less some from order end = elim (cases_Bool (is_enabled a.body i)) [
     | inr off ↦ stores_none file a f (store_field file a h m j) i off ∙ sym (ap (λ y. store_field file a h y j) (stores_none file a f m i off))
-    | inl on ↦ elim (cases_Bool (is_let a.body j)) [
+    | inl on ↦ elim (cases_Bool (is_enabled a.body j)) [
       | inr off ↦ ap (λ y. store_field file a f y i) (stores_none file a h m j off) ∙ sym (stores_none file a h (store_field file a f m i) j off)
       | inl also ↦
           let xs : List ℕ = chunk (field_place a f i) a.size file in

@@ -13,7 +13,7 @@ use Rattle.rv_model.specs.declared.memory.Access.{Access}
 use Rattle.rv_model.specs.declared.step.memory_end.MemEnd.TheVariants.{Cut, Done}
 use Rattle.rv_model.specs.accesses.Transfers.{Plan, are_allowed, memory_stored, registers_loaded, transfers}
 use Rattle.rv_model.specs.accesses.VectorAccess.{filled_segment, moved_segment, plan}
-use Rattle.rv_model.specs.elements.Elements.{Body, is_let}
+use Rattle.rv_model.specs.elements.Elements.{Body, is_enabled}
 use Rattle.rv_model.specs.memory.Memory.{Cell, Memory, bytes_at, can_access, put_bytes, memory_byte}
 use Rattle.rv_model.proofs.access_lemmas.Contiguous.{stops_all}
 use Rattle.rv_model.proofs.access_lemmas.Moves.{allowed_none}
@@ -198,7 +198,7 @@ module _ (b : Span) where
 
   span_allowed : (fill : Bool) (access : Access) (m : Memory) → can_access access m b.address b.length ≡ true
       → AllAllowed access m (plan (span_access b) fill) b.body.start b.stop
-  span_allowed fill access m all i low high = elim (cases_Bool (is_let b.body i)) [
+  span_allowed fill access m all i low high = elim (cases_Bool (is_enabled b.body i)) [
     | inl active ↦
         let room = b.span.inside (i - b.body.start) (omega (arith, low, high)) in
         ap (are_allowed access m) (plan_active (span_access b) fill i active)
@@ -226,7 +226,7 @@ at_address : (s : Segments) (body : Body) (f g : ℕ → ℕ) (fill : Bool) (i :
     → plan (segments_access s body f) fill i ≡ plan (segments_access s body g) fill i
 unfolding plan
 at_address s body f g fill i e =
-    ap (λ x. if is_let body i then moved_segment i x s.size s.fields else if fill then filled_segment i s.size s.fields else []) e
+    ap (λ x. if is_enabled body i then moved_segment i x s.size s.fields else if fill then filled_segment i s.size s.fields else []) e
 
 module _ (s : Segments) (body : Body) (address : ℕ → ℕ) (stop : ℕ) (b : Span) (is : IsSpanOf s body address stop b) where
   same_plan : (fill : Bool) (i : ℕ) → body.start ≤ i → i < stop → plan (segments_access s body address) fill i ≡ plan (span_access b) fill i

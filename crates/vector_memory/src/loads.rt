@@ -27,7 +27,7 @@ impl<A: Addresses> Moves<'_, A> {
             (plan (segments_access self.now.segments self.now.body (A.address self.now.addresses)) fill index)
             file.old result file.new }
     {
-        if self.body.lets(index) {
+        if self.body.is_enabled(index) {
             let address = self.addresses.address(index);
             return self.segments.load_allowed(memory, address, index, file);
         } else if fill {

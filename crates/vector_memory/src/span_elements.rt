@@ -58,7 +58,7 @@ impl Span<'_> {
         let group = file.part_mut(first, FILE_BYTES);
         for segment in 0..self.count() {
             let (at, place) = (segment * distance, segment * size);
-            if self.body.lets(start + segment) {
+            if self.body.is_enabled(start + segment) {
                 copy_lane::<L>(&source[at..at + size], &mut group[place..place + size]);
             } else if fill {
                 copy_lane::<L>(&[0xff; 8][..size], &mut group[place..place + size]);
@@ -83,7 +83,7 @@ impl Span<'_> {
         let group = file.part(first, FILE_BYTES);
         let destination = &mut bytes[field * size..];
         for segment in 0..self.count() {
-            if self.body.lets(start + segment) {
+            if self.body.is_enabled(start + segment) {
                 let (at, place) = (segment * distance, segment * size);
                 copy_lane::<L>(&group[place..place + size], &mut destination[at..at + size]);
             }

@@ -26,7 +26,7 @@ impl<A: Addresses> Moves<'_, A> {
         ensures others { OnOk result (memory.new ≡ M.with_memory memory.old (M.memory memory.new)) }
         ensures unchanged { OnErr result (memory.new ≡ memory.old) }
     {
-        if self.body.lets(index) {
+        if self.body.is_enabled(index) {
             let address = self.addresses.address(index);
             return self.segments.store_allowed(file, address, index, memory);
         }

@@ -13,7 +13,7 @@ use Rattle.rv_model.specs.declared.step.memory_end.MemEnd.TheVariants.{Done, Cut
 use Rattle.rv_model.specs.lending.Contiguous.{IsContiguous}
 use Rattle.rv_model.specs.accesses.Transfers.{Moved, Plan, Transfer, are_allowed, registers_loaded, memory_stored, transfers}
 use Rattle.rv_model.specs.accesses.VectorAccess.{VectorAccess, element_start, plan}
-use Rattle.rv_model.specs.elements.Elements.{is_let, mask_bit}
+use Rattle.rv_model.specs.elements.Elements.{is_enabled, mask_bit}
 use Rattle.rv_model.specs.memory.Memory.{Memory, bytes_at, can_access, put_bytes, memory_byte}
 use Rattle.rv_model.proofs.access_lemmas.Moves.{loaded-append, loaded_none, loaded_one, stored-append, stored_none, stored_one}
 use Rattle.rv_model.proofs.access_lemmas.Segments.{plan_active}
@@ -65,15 +65,15 @@ module _ (a : VectorAccess) (fill : Bool) (start n address : ℕ) (c : IsContigu
   no_wrap : (k : ℕ) → k < n → address + k * a.size < 2 ^ 64
   no_wrap k h = omega (arith, c.end, mul-le k a.size n a.size (omega (arith, h)) (omega arith))
 
-  is_let_all : (i : ℕ) → is_let a.body i ≡ true
-  is_let_all i = ap (λ b. b || mask_bit a.body.mask i) c.unmasked
+  is_enabled_all : (i : ℕ) → is_enabled a.body i ≡ true
+  is_enabled_all i = ap (λ b. b || mask_bit a.body.mask i) c.unmasked
 
   -- each index moves its element
   element_moved : (k : ℕ) → k < n → plan a fill (start + k) ≡ element (start + k) (address + k * a.size) a.size ∷ []
   element_moved k h =
       let i : ℕ = start + k in
       let first : a.address i + 0 * a.size ≡ address + k * a.size = omega (arith, c.follow k h) in
-      plan_active a fill i (is_let_all i)
+      plan_active a fill i (is_enabled_all i)
       ∙ ap (λ fields. map (λ f. record { index = i; field = f; size = a.size; kind = Moved ((a.address i + f * a.size) % 2 ^ 64) }) (range_with_len 0 fields)) c.alone
       ∙ ap (λ x. element i x a.size ∷ []) (ap (λ x. x % 2 ^ 64) first ∙ mod-eq_of_lt (no_wrap k h))
 

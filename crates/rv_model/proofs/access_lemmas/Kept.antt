@@ -12,7 +12,7 @@ use Rattle.rv_model.specs.accesses.Transfers.{Moved, Ones, Plan, Transfer, Trans
 use Rattle.rv_model.specs.accesses.VectorAccess.{VectorAccess, filled_segment, element_start, plan, moved_segment}
 use Rattle.rv_model.specs.elements.Arithmetic.{group_element}
 use Rattle.rv_model.specs.vector.Configuration.{GroupType, width_bytes}
-use Rattle.rv_model.specs.elements.Elements.{is_let, mask_bit}
+use Rattle.rv_model.specs.elements.Elements.{is_enabled, mask_bit}
 use Rattle.rv_model.specs.memory.Memory.{Memory}
 use Rattle.rv_model.specs.vector.Registers.{register_of, registers}
 use Rattle.rv_model.proofs.access_lemmas.Segments.{field_transfer, filled_transfer}
@@ -78,7 +78,7 @@ all_fields P make i size a (suc n) is h = (
 all_planned : (P : Transfer → Type 0) (a : VectorAccess) (fill : Bool) (i : ℕ) → ((t : Transfer) → IsOf i a.size a.fields t → P t) → AllByRecursion P (plan a fill i)
 unfolding plan
 all_planned P a fill i h =
-    elim (is_let a.body i) as (λ b. AllByRecursion P (cond b (moved_segment i (a.address i) a.size a.fields) (cond fill (filled_segment i a.size a.fields) []))) [
+    elim (is_enabled a.body i) as (λ b. AllByRecursion P (cond b (moved_segment i (a.address i) a.size a.fields) (cond fill (filled_segment i a.size a.fields) []))) [
       | true ↦ all_fields P (field_transfer i (a.address i) a.size) i a.size 0 a.fields (λ f. (refl, refl, refl)) (λ t x. h t (x.0, omega (arith, x.1), x.2))
       | false ↦ elim fill as (λ c. AllByRecursion P (cond c (filled_segment i a.size a.fields) [])) [
         | true ↦ all_fields P (filled_transfer i a.size) i a.size 0 a.fields (λ f. (refl, refl, refl)) (λ t x. h t (x.0, omega (arith, x.1), x.2))
@@ -168,11 +168,11 @@ pub let_kept : (unmasked : Bool) (mask other : List ℕ) (i : ℕ) → (unmasked
 let_kept true mask other i h = refl
 let_kept false mask other i h = ap (λ (bits : List ℕ). mask_bit bits i) (h refl)
 
-pub plan_same : (a b : VectorAccess) (fill : Bool) (i : ℕ) → is_let b.body i ≡ is_let a.body i → b.address i ≡ a.address i → b.size ≡ a.size → b.fields ≡ a.fields
+pub plan_same : (a b : VectorAccess) (fill : Bool) (i : ℕ) → is_enabled b.body i ≡ is_enabled a.body i → b.address i ≡ a.address i → b.size ≡ a.size → b.fields ≡ a.fields
     → plan b fill i ≡ plan a fill i
 unfolding plan
 plan_same a b fill i lets address size fields =
     ap (λ (l : Bool). cond l (moved_segment i (b.address i) b.size b.fields) (cond fill (filled_segment i b.size b.fields) [])) lets
-    ∙ ap (λ (x : ℕ). cond (is_let a.body i) (moved_segment i x b.size b.fields) (cond fill (filled_segment i b.size b.fields) [])) address
-    ∙ ap (λ (x : ℕ). cond (is_let a.body i) (moved_segment i (a.address i) x b.fields) (cond fill (filled_segment i x b.fields) [])) size
-    ∙ ap (λ (x : ℕ). cond (is_let a.body i) (moved_segment i (a.address i) a.size x) (cond fill (filled_segment i a.size x) [])) fields
+    ∙ ap (λ (x : ℕ). cond (is_enabled a.body i) (moved_segment i x b.size b.fields) (cond fill (filled_segment i b.size b.fields) [])) address
+    ∙ ap (λ (x : ℕ). cond (is_enabled a.body i) (moved_segment i (a.address i) x b.fields) (cond fill (filled_segment i x b.fields) [])) size
+    ∙ ap (λ (x : ℕ). cond (is_enabled a.body i) (moved_segment i (a.address i) a.size x) (cond fill (filled_segment i a.size x) [])) fields

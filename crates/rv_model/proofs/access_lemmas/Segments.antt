@@ -8,7 +8,7 @@ use Rattle.std.proofs.lemmas.List.{map-append}
 use Rattle.rv_model.specs.accesses.Transfers.{Moved, Ones, Transfer, address_of, are_allowed, bad_address, can_transfer, registers_loaded, memory_stored}
 use Rattle.rv_model.specs.accesses.VectorAccess.{VectorAccess, filled_segment, plan, moved_segment}
 use Rattle.rv_model.specs.declared.memory.Access.{Access}
-use Rattle.rv_model.specs.elements.Elements.{is_let}
+use Rattle.rv_model.specs.elements.Elements.{is_enabled}
 use Rattle.rv_model.specs.memory.Memory.{Memory, bytes_at, put_bytes}
 use Rattle.rv_model.proofs.access_lemmas.Moves.{are_allowed-append, loaded-append, loaded_one, stored-append, stored_one}
 use Rattle.rv_model.proofs.element_lemmas.Ranges.{range_more}
@@ -155,16 +155,16 @@ module _ (m : Memory) (place : Transfer → ℕ) (file : List ℕ) where
 
 -- ---- the plan of an index
 
-pub plan_active : (a : VectorAccess) (fill : Bool) (i : ℕ) → is_let a.body i ≡ true → plan a fill i ≡ moved_segment i (a.address i) a.size a.fields
+pub plan_active : (a : VectorAccess) (fill : Bool) (i : ℕ) → is_enabled a.body i ≡ true → plan a fill i ≡ moved_segment i (a.address i) a.size a.fields
 unfolding plan
 plan_active a fill i h = ap (λ b. cond b (moved_segment i (a.address i) a.size a.fields) (cond fill (filled_segment i a.size a.fields) [])) h
 
-plan_masked_off : (a : VectorAccess) (fill : Bool) (i : ℕ) → is_let a.body i ≡ false → plan a fill i ≡ cond fill (filled_segment i a.size a.fields) []
+plan_masked_off : (a : VectorAccess) (fill : Bool) (i : ℕ) → is_enabled a.body i ≡ false → plan a fill i ≡ cond fill (filled_segment i a.size a.fields) []
 unfolding plan
 plan_masked_off a fill i h = ap (λ b. cond b (moved_segment i (a.address i) a.size a.fields) (cond fill (filled_segment i a.size a.fields) [])) h
 
-pub plan_filled : (a : VectorAccess) (fill : Bool) (i : ℕ) → is_let a.body i ≡ false → fill ≡ true → plan a fill i ≡ filled_segment i a.size a.fields
+pub plan_filled : (a : VectorAccess) (fill : Bool) (i : ℕ) → is_enabled a.body i ≡ false → fill ≡ true → plan a fill i ≡ filled_segment i a.size a.fields
 plan_filled a fill i h e = plan_masked_off a fill i h ∙ ap (λ b. cond b (filled_segment i a.size a.fields) []) e
 
-pub plan_kept : (a : VectorAccess) (fill : Bool) (i : ℕ) → is_let a.body i ≡ false → fill ≡ false → plan a fill i ≡ []
+pub plan_kept : (a : VectorAccess) (fill : Bool) (i : ℕ) → is_enabled a.body i ≡ false → fill ≡ false → plan a fill i ≡ []
 plan_kept a fill i h e = plan_masked_off a fill i h ∙ ap (λ b. cond b (filled_segment i a.size a.fields) []) e

@@ -1,7 +1,7 @@
 -- Whether a test holds for some active element, as a loop over the body learns it.
 use Rattle.std.proofs.Common.{ℕ, zero, suc, ◌+◌, ◌-◌, ◌<◌, ◌≤◌, ◌≡◌, Bool, true, false, ◌&&◌, ◌||◌, refl, sym, ap, ◌∙◌, arith, add-one}
 use Rattle.std.specs.List.{list_any, range_with_len}
-use Rattle.rv_model.specs.elements.Elements.{Body, in_body, is_active, is_let, some_active}
+use Rattle.rv_model.specs.elements.Elements.{Body, in_body, is_active, is_enabled, some_active}
 use Rattle.rv_model.proofs.element_lemmas.Sets.{from_start, inside_range, to_end}
 
 -- ---- tests of the first numbers
@@ -42,7 +42,7 @@ module _ (body : Body) (test : ℕ → Bool) where
   outside : (i : ℕ) → (in_body body i ≡ true → ⊥) → is_active body i ≡ false
   outside i h = off (in_body body i) h
     where
-      off : (b : Bool) → (b ≡ true → ⊥) → (b && is_let body i) ≡ false
+      off : (b : Bool) → (b ≡ true → ⊥) → (b && is_enabled body i) ≡ false
       off true h = absurd (h refl)
       off false h = refl
 
@@ -54,14 +54,14 @@ module _ (body : Body) (test : ℕ → Bool) where
       ap some_before (sym (add-one i)) ∙ some_kept i before ∙ some_begins i (omega arith)
 
   -- at an element of the body
-  pub some_step : (i : ℕ) → body.start ≤ i → i < body.end → is_let body i ≡ true → some_before (i + 1) ≡ (some_before i || test i)
+  pub some_step : (i : ℕ) → body.start ≤ i → i < body.end → is_enabled body i ≡ true → some_before (i + 1) ≡ (some_before i || test i)
   some_step i from to h =
       let inside : in_body body i ≡ true = inside_range body.start body.end i from to in
       let is : is_active body i ≡ true = rw (inside, h) refl in
       some_more i ∙ ap (λ a. some_before i || (a && test i)) is
 
-  pub some_off : (i : ℕ) → is_let body i ≡ false → some_before (i + 1) ≡ some_before i
-  some_off i h = some_kept i (off (in_body body i) (is_let body i) h)
+  pub some_off : (i : ℕ) → is_enabled body i ≡ false → some_before (i + 1) ≡ some_before i
+  some_off i h = some_kept i (off (in_body body i) (is_enabled body i) h)
     where
       off : (b l : Bool) → l ≡ false → (b && l) ≡ false
       off true l h = h

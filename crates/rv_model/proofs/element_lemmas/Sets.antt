@@ -6,7 +6,7 @@ use Rattle.std.proofs.lemmas.Bool.Decides.{nat_tests}
 use Rattle.std.proofs.Math.Nat.{mul-le-mul_left, mul-suc}
 use Rattle.std.specs.Int.{bytes_low_first}
 use lib.Lanes.{put_chunk}
-use Rattle.rv_model.specs.elements.Elements.{Body, in_range, in_body, is_let, is_active, is_changed, result_or_ones}
+use Rattle.rv_model.specs.elements.Elements.{Body, in_range, in_body, is_enabled, is_active, is_changed, result_or_ones}
 use Rattle.rv_model.specs.lending.Writes.{Writes}
 use Rattle.rv_model.proofs.element_lemmas.Writes.{begins, ends, step_written, step_kept, writes_same, writes_then}
 
@@ -26,7 +26,7 @@ changed_inside true l o t h = refl
 changed_inside false l true t h = h
 changed_inside false l false t h = h
 
--- A loop's step at the index i of the body: the mask lets the element through, or it is masked off and filled, or kept.
+-- A loop's step at the index i of the body: the mask is enabled there, or it is masked off and filled, or kept.
 module _ (k : ℕ) (body : Body) (fill_masked_off : Bool) (i : ℕ) (result : ℕ → ℕ) (ones : ℕ) (old mid new : List ℕ)
     (from : body.start ≤ i) (to : i < body.end) where
   abbrev changed : ℕ → Bool
@@ -41,24 +41,24 @@ module _ (k : ℕ) (body : Body) (fill_masked_off : Bool) (i : ℕ) (result : �
   abbrev So : ℕ → List ℕ → Type 0
   So j bytes = Writes k (λ e. changed e && nat_lt e j) number old bytes
 
-  let_changes : (l : Bool) → l ≡ true → ((true && l) || ((fill_masked_off && (true && not l)) || (false && nat_le body.end i))) ≡ true
-  let_changes l h = rw h refl
+  enabled_changes : (l : Bool) → l ≡ true → ((true && l) || ((fill_masked_off && (true && not l)) || (false && nat_le body.end i))) ≡ true
+  enabled_changes l h = rw h refl
 
-  pub step_result : So i mid → k * i + k ≤ length old → is_let body i ≡ true
+  pub step_result : So i mid → k * i + k ≤ length old → is_enabled body i ≡ true
       → new ≡ put_chunk (k * i) mid (bytes_low_first 0 k (result i)) → So (i + 1) new
   step_result was fits h e =
       let is : number i ≡ result i = rw (inside, h) refl in
-      let does : changed i ≡ true = rw inside (let_changes (is_let body i) h) in
+      let does : changed i ≡ true = rw inside (enabled_changes (is_enabled body i) h) in
       step_written k changed number old mid new i was does fits (rw is e)
 
-  pub step_ones : So i mid → k * i + k ≤ length old → is_let body i ≡ false → fill_masked_off ≡ true
+  pub step_ones : So i mid → k * i + k ≤ length old → is_enabled body i ≡ false → fill_masked_off ≡ true
       → new ≡ put_chunk (k * i) mid (bytes_low_first 0 k ones) → So (i + 1) new
   step_ones was fits h off e =
       let is : number i ≡ ones = rw (inside, h) refl in
       let does : changed i ≡ true = rw (inside, h, off) refl in
       step_written k changed number old mid new i was does fits (rw is e)
 
-  pub step_off : So i mid → is_let body i ≡ false → fill_masked_off ≡ false → new ≡ mid → So (i + 1) new
+  pub step_off : So i mid → is_enabled body i ≡ false → fill_masked_off ≡ false → new ≡ mid → So (i + 1) new
   step_off was h off e =
       let does : changed i ≡ false = rw (inside, h, off) refl in
       step_kept k changed number old mid new i was does e
@@ -66,7 +66,7 @@ module _ (k : ℕ) (body : Body) (fill_masked_off : Bool) (i : ℕ) (result : �
 -- Before and after the loop.
 module _ (k : ℕ) (body : Body) (fill_masked_off : Bool) (number : ℕ → ℕ) where
   in_it : (e : ℕ) → is_changed body fill_masked_off false e ≡ true → in_body body e ≡ true
-  in_it e h = changed_inside (in_body body e) (is_let body e) fill_masked_off (nat_le body.end e) h
+  in_it e h = changed_inside (in_body body e) (is_enabled body e) fill_masked_off (nat_le body.end e) h
 
   pub body_begins : (xs : List ℕ) → Writes k (λ e. is_changed body fill_masked_off false e && nat_lt e body.start) number xs xs
   body_begins xs = begins k (is_changed body fill_masked_off false) number xs body.start (λ e h. from_start body.start body.end e (in_it e h))
@@ -112,7 +112,7 @@ module _ (k : ℕ) (body : Body) (fill_masked_off : Bool) (n : ℕ) (result : �
       writes_same k (λ e. is_changed body fill_masked_off false e || in_range body.end n e)
       (is_changed body fill_masked_off true) (λ e. cond (in_range body.end n e) ones (result_or_ones body result ones e)) (result_or_ones body result ones) old new
       (writes_then k (is_changed body fill_masked_off false) (in_range body.end n) (result_or_ones body result ones) (λ e. ones) old mid new first second)
-      (λ e h. joined (is_active body e) (fill_masked_off && (in_body body e && not (is_let body e))) (nat_le body.end e) (nat_lt e n)
+      (λ e h. joined (is_active body e) (fill_masked_off && (in_body body e && not (is_enabled body e))) (nat_le body.end e) (nat_lt e n)
       (lt-ltb e n (below e (omega (arith, h, long)))))
       (λ e h. numbers e (in_range body.end n e) refl)
     where
@@ -134,7 +134,7 @@ pub same_results : (k : ℕ) (body : Body) (fill_masked_off fill_tail : Bool) (r
 same_results k body fill_masked_off fill_tail result other ones old new same was =
     writes_same k (is_changed body fill_masked_off fill_tail) (is_changed body fill_masked_off fill_tail)
     (result_or_ones body result ones) (result_or_ones body other ones) old new was
-    (λ e l. refl) (λ e h. numbers e (in_body body e) (is_let body e) (λ b. to_end body.start body.end e b) refl)
+    (λ e l. refl) (λ e h. numbers e (in_body body e) (is_enabled body e) (λ b. to_end body.start body.end e b) refl)
   where
     numbers : (e : ℕ) (b l : Bool) → (in_body body e ≡ true → e < body.end) → in_body body e ≡ b
         → cond (b && l) (other e) ones ≡ cond (b && l) (result e) ones
@@ -144,7 +144,7 @@ same_results k body fill_masked_off fill_tail result other ones old new same was
 
 -- an active element is before the end
 pub active_end : (body : Body) (i : ℕ) → is_active body i ≡ true → i < body.end
-active_end body i h = inside i (in_body body i) (is_let body i) (λ b. to_end body.start body.end i b) refl h
+active_end body i h = inside i (in_body body i) (is_enabled body i) (λ b. to_end body.start body.end i b) refl h
   where
     inside : (e : ℕ) (b l : Bool) → (in_body body e ≡ true → e < body.end) → in_body body e ≡ b → (b && l) ≡ true → e < body.end
     inside e true l told is both = told is

@@ -20,7 +20,7 @@ pub use Rattle.rv_model.specs.declared.vector.types.VType.{VType}
 use Rattle.rv_model.specs.accesses.Transfers.{Moved, Ones, Plan, Transfer}
 pub use Rattle.rv_model.specs.vector.Configuration.{GroupType, group_type}
 use Rattle.rv_model.specs.elements.Arithmetic.{body_of, group_element}
-use Rattle.rv_model.specs.elements.Elements.{Body, is_let}
+use Rattle.rv_model.specs.elements.Elements.{Body, is_enabled}
 use Rattle.rv_model.specs.elements.Formulas.{wrap}
 use Rattle.rv_model.specs.vector.Groups.{access_type, register_count}
 use Rattle.rv_model.specs.scalar.Registers.{read_register}
@@ -55,7 +55,7 @@ filled_segment i size fields = map (λ f. record { index = i; field = f; size = 
 -- the transfers of each index; the flag says whether those that are masked off become all ones
 unfoldable pub plan : VectorAccess → Bool → Plan
 plan a fill_masked_off i =
-    if is_let a.body i then moved_segment i (a.address i) a.size a.fields
+    if is_enabled a.body i then moved_segment i (a.address i) a.size a.fields
     else if fill_masked_off then filled_segment i a.size a.fields else []
 
 -- the byte of the register file where an element begins

@@ -24,8 +24,8 @@ byte_of_bits bit =
 abbrev pub in_range : ℕ → ℕ → ℕ → Bool
 in_range start end i = nat_le start i && nat_lt i end
 
--- the body of an instruction: the elements from vstart up to vl; and which of them are active: those that the mask lets
--- through, or all where the instruction isn't masked
+-- the body of an instruction: the elements from vstart up to vl; and which of them are active: those at which the mask
+-- is enabled, or all where the instruction isn't masked
 pub record Body : Type 0 where
   pub unmasked : Bool
   pub mask : List ℕ
@@ -36,13 +36,13 @@ pub record Body : Type 0 where
 abbrev pub in_body : Body → ℕ → Bool
 in_body body i = in_range body.start body.end i
 
--- the elements that the mask lets through; where the instruction isn't masked, all
-abbrev pub is_let : Body → ℕ → Bool
-is_let body i = body.unmasked || mask_bit body.mask i
+-- the elements at which the mask is enabled; where the instruction isn't masked, all
+abbrev pub is_enabled : Body → ℕ → Bool
+is_enabled body i = body.unmasked || mask_bit body.mask i
 
 -- the active elements
 abbrev pub is_active : Body → ℕ → Bool
-is_active body i = in_body body i && is_let body i
+is_active body i = in_body body i && is_enabled body i
 
 -- whether a test holds for some active element
 abbrev pub some_active : Body → (ℕ → Bool) → Bool
@@ -52,7 +52,7 @@ some_active body test = list_any (λ i. is_active body i && test i) (range_with_
 -- which are past the body
 abbrev pub is_filled : Body → Bool → Bool → ℕ → Bool
 is_filled body fill_masked_off fill_tail i =
-    (fill_masked_off && (in_body body i && not (is_let body i))) || (fill_tail && nat_le body.end i)
+    (fill_masked_off && (in_body body i && not (is_enabled body i))) || (fill_tail && nat_le body.end i)
 
 -- the elements of a destination that change; all others are undisturbed
 abbrev pub is_changed : Body → Bool → Bool → ℕ → Bool

@@ -6,7 +6,7 @@ use Rattle.rv_model.specs.vector.Configuration.{width_bytes}
 use Rattle.rv_model.proofs.element_lemmas.Actives.{some_begins, some_ends, some_off, some_step}
 use Rattle.rv_model.proofs.element_lemmas.Sets.{step_result, step_ones, step_off, body_begins, body_ends, room_for}
 use Rattle.lane_fixed.proofs.saturating_results.write_each.Goals as goal
-use Rattle.lane_fixed.proofs.saturating_results.write_each.Goals.{then-lets, else-lets+then-fill_masked_off, else-lets+else-fill_masked_off}
+use Rattle.lane_fixed.proofs.saturating_results.write_each.Goals.{then-is_enabled, else-is_enabled+then-fill_masked_off, else-is_enabled+else-fill_masked_off}
 
 pub loop-i-init : goal.loop-i-init
 loop-i-init g c = record {
@@ -23,26 +23,26 @@ loop-i-preserved g c =
     let from : body.start ≤ i = omega (arith, c.loop-i.auto.i, c.start-i.ensures) in
     let to : i < body.end = omega (arith, c.loop-i-test.true, c.end-i-end.ensures.value) in
     let room : k * i + k ≤ length c.args.destination.now = room_for _ _ _ _ to (rw c.copied-body.ensures c.requires.room) in
-    elim c.if-lets.branch [
-      | then-lets w ↦ record {
-        writes = step_result _ body _ _ _ _ _ _ _ from to c.loop-i.invariant.writes room (sym c.lets.ensures ∙ w.if-lets.true)
+    elim c.if-is_enabled.branch [
+      | then-is_enabled w ↦ record {
+        writes = step_result _ body _ _ _ _ _ _ _ from to c.loop-i.invariant.writes room (sym c.is_enabled.ensures ∙ w.if-is_enabled.true)
             (w.destination-is ∙ w.store.ensures
             ∙ ap (λ n. put_chunk (k * i) c.loop-i.destination (bytes_low_first 0 k n)) w.result_in-result.ensures.value);
         saturated = w.saturated-is ∙ ap (λ b. c.loop-i.saturated || b) w.result_in-result.ensures.saturated
             ∙ ap (λ b. b || saturates i) c.loop-i.invariant.saturated
-            ∙ sym (some_step body saturates i from to (sym c.lets.ensures ∙ w.if-lets.true));
+            ∙ sym (some_step body saturates i from to (sym c.is_enabled.ensures ∙ w.if-is_enabled.true));
       }
-      | else-lets+then-fill_masked_off w ↦ record {
-        writes = step_ones _ body _ _ _ _ _ _ _ from to c.loop-i.invariant.writes room (sym c.lets.ensures ∙ w.if-lets.false)
+      | else-is_enabled+then-fill_masked_off w ↦ record {
+        writes = step_ones _ body _ _ _ _ _ _ _ from to c.loop-i.invariant.writes room (sym c.is_enabled.ensures ∙ w.if-is_enabled.false)
             w.if-fill_masked_off.true
             (w.destination-is ∙ w.store-then-fill_masked_off.ensures
             ∙ ap (λ n. put_chunk (k * i) c.loop-i.destination (bytes_low_first 0 k n)) w.all_ones.ensures);
-        saturated = w.saturated-is ∙ c.loop-i.invariant.saturated ∙ sym (some_off body saturates i (sym c.lets.ensures ∙ w.if-lets.false));
+        saturated = w.saturated-is ∙ c.loop-i.invariant.saturated ∙ sym (some_off body saturates i (sym c.is_enabled.ensures ∙ w.if-is_enabled.false));
       }
-      | else-lets+else-fill_masked_off w ↦ record {
-        writes = step_off _ body _ _ _ _ _ _ _ from to c.loop-i.invariant.writes (sym c.lets.ensures ∙ w.if-lets.false) w.if-fill_masked_off.false
+      | else-is_enabled+else-fill_masked_off w ↦ record {
+        writes = step_off _ body _ _ _ _ _ _ _ from to c.loop-i.invariant.writes (sym c.is_enabled.ensures ∙ w.if-is_enabled.false) w.if-fill_masked_off.false
             w.destination-is;
-        saturated = w.saturated-is ∙ c.loop-i.invariant.saturated ∙ sym (some_off body saturates i (sym c.lets.ensures ∙ w.if-lets.false));
+        saturated = w.saturated-is ∙ c.loop-i.invariant.saturated ∙ sym (some_off body saturates i (sym c.is_enabled.ensures ∙ w.if-is_enabled.false));
       }
     ]
 

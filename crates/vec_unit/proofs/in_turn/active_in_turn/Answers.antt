@@ -9,4 +9,4 @@ returns-then-all c = λ i h.
     let end = (c.requires.all c.if-all.true).1 in
     let inside : in_body c.args.body.now (c.args.first + i) ≡ true =
     inside_range c.args.body.now.start c.args.body.now.end (c.args.first + i) (omega (arith, start)) (omega (arith, end, h)) in
-    rw inside (c.let_bits.ensures i h)
+    rw inside (c.enabled_bits.ensures i h)

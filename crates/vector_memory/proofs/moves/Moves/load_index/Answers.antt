@@ -5,11 +5,11 @@ use Rattle.rv_model.proofs.access_lemmas.Segments.{filled_allowed, plan_active, 
 use Rattle.vector_memory.specs.SegmentRoom.{segments_access, place_in}
 use Rattle.vector_memory.proofs.moves.Moves.load_index.Goals as goal
 
-pub returns-then-lets : goal.returns-then-lets
-returns-then-lets g c =
+pub returns-then-is_enabled : goal.returns-then-is_enabled
+returns-then-is_enabled g c =
     let self = c.args.self.now in
     let a = segments_access self.segments self.body (g.A.Addresses.address self.addresses) in
-    let active = plan_active a c.args.fill c.args.index (sym c.lets.ensures ∙ c.if-lets.true) in
+    let active = plan_active a c.args.fill c.args.index (sym c.is_enabled.ensures ∙ c.if-is_enabled.true) in
     rw (active, sym c.address-address.ensures) c.load_allowed.ensures
 
 pub returns-then-fill : goal.returns-then-fill
@@ -17,7 +17,7 @@ returns-then-fill g c =
     let self = c.args.self.now in
     let m = g.M.UserBytes.memory c.args.memory.now in
     let a = segments_access self.segments self.body (g.A.Addresses.address self.addresses) in
-    let filled = plan_filled a c.args.fill c.args.index (sym c.lets.ensures ∙ c.if-lets.false) c.if-fill.true in
+    let filled = plan_filled a c.args.fill c.args.index (sym c.is_enabled.ensures ∙ c.if-is_enabled.false) c.if-fill.true in
     rw filled
     (record {
       ok = (λ t. filled_allowed Load m c.args.index self.segments.size self.segments.fields, λ t. refl);
@@ -31,7 +31,7 @@ returns-else-fill g c =
     let self = c.args.self.now in
     let m = g.M.UserBytes.memory c.args.memory.now in
     let a = segments_access self.segments self.body (g.A.Addresses.address self.addresses) in
-    let kept = plan_kept a c.args.fill c.args.index (sym c.lets.ensures ∙ c.if-lets.false) c.if-fill.false in
+    let kept = plan_kept a c.args.fill c.args.index (sym c.is_enabled.ensures ∙ c.if-is_enabled.false) c.if-fill.false in
     rw kept
     (record {
       ok = (λ t. allowed_none Load m, λ t. refl);

@@ -2,7 +2,7 @@ use Rattle.std.proofs.Common.{◌≡◌, ℕ, ◌+◌, ◌*◌, ◌-◌, ◌<◌
 use Rattle.std.specs.Simd.Lanes.{chunk, put_chunk}
 use Rattle.std.proofs.lemmas.Simd.{length-chunk, length-put_chunk}
 use Rattle.rv_model.specs.memory.Memory.{put_bytes}
-use Rattle.rv_model.specs.elements.Elements.{is_let}
+use Rattle.rv_model.specs.elements.Elements.{is_enabled}
 use Rattle.vector_memory.specs.FieldOrder.{field_place, for_each, store_field}
 use Rattle.vector_memory.specs.SpanAccess.{span_access}
 use Rattle.vector_memory.proofs.BlockMoves.{put_same}
@@ -10,7 +10,7 @@ use Rattle.vector_memory.proofs.Blends.{part_chunk, put_within}
 use Rattle.vector_memory.proofs.FieldSteps.{each_more, each_none, store_active, store_kept}
 use Rattle.vector_memory.proofs.SpanMoves.{field_begins, field_inside, field_room, part_at, part_put, put_part}
 use Rattle.vector_memory.proofs.spans.Span.write_field.Goals as goal
-use Rattle.vector_memory.proofs.spans.Span.write_field.Goals.{then-lets, else-lets}
+use Rattle.vector_memory.proofs.spans.Span.write_field.Goals.{then-is_enabled, else-is_enabled}
 
 pub slice_bounds-copy_lane-end : goal.slice_bounds-copy_lane-end
 slice_bounds-copy_lane-end g c =
@@ -42,8 +42,8 @@ loop-segment-preserved g c = λ m.
     let mid : List ℕ = put_chunk (f * s.size) old c.loop-segment.destination in
     let next =
     ap (λ x. step x i) (c.loop-segment.invariant m) ∙ sym (each_more step (put_bytes m b.address old) b.body.start n) in
-    elim c.if-lets.branch [
-      | then-lets w ↦
+    elim c.if-is_enabled.branch [
+      | then-is_enabled w ↦
           (let bytes : List ℕ = w.copy_lane.new.destination in
           let to : ℕ = (i - b.body.start) * b.distance + f * s.size in
           let first : n ≡ i - b.body.start = omega arith in
@@ -57,7 +57,7 @@ loop-segment-preserved g c = λ m.
           let place : c.place-first.result + n * s.size ≡ field_place (span_access b) f i =
           omega (arith, c.place-first.ensures.value, ap (λ x. x * s.size) c.start-start.ensures) in
           let whole : to + length bytes ≤ length mid = omega (arith, length-put_chunk (f * s.size) old c.loop-segment.destination, there, room, rest) in
-          let written : put_chunk (f * s.size) old c.if-lets.destination ≡ put_chunk to mid bytes =
+          let written : put_chunk (f * s.size) old c.if-is_enabled.destination ≡ put_chunk to mid bytes =
           ap (put_chunk (f * s.size) old) (w.destination-is ∙ part_put _ _ (n * b.distance) c.loop-segment.destination bytes (omega (arith, count)) at room)
           ∙ sym (put_within (f * s.size) (n * b.distance) to old c.loop-segment.destination bytes there room (omega (arith, rest))) in
           let read : bytes ≡ chunk (field_place (span_access b) f i) s.size file =
@@ -66,12 +66,12 @@ loop-segment-preserved g c = λ m.
           (omega (arith, field_room b n f c.start-start.result c.place-first.result high c.requires.field c.start-start.ensures c.place-first.ensures.value))
           ∙ ap (λ x. chunk x s.size file) place in
           ap (put_bytes m b.address) written ∙ put_part m b.address to mid bytes whole
-          ∙ store_active file (span_access b) f i (b.address + to) (put_bytes m b.address mid) bytes (ap (is_let b.body) (sym same) ∙ sym c.lets.ensures ∙ w.if-lets.true)
+          ∙ store_active file (span_access b) f i (b.address + to) (put_bytes m b.address mid) bytes (ap (is_enabled b.body) (sym same) ∙ sym c.is_enabled.ensures ∙ w.if-is_enabled.true)
           (sym (field_begins b i f low high c.requires.field)) read
           ∙ next)
-      | else-lets w ↦
+      | else-is_enabled w ↦
           ap (λ x. put_bytes m b.address (put_chunk (f * s.size) old x)) w.destination-is
-          ∙ store_kept file (span_access b) f i (put_bytes m b.address mid) (ap (is_let b.body) (sym same) ∙ sym c.lets.ensures ∙ w.if-lets.false) ∙ next
+          ∙ store_kept file (span_access b) f i (put_bytes m b.address mid) (ap (is_enabled b.body) (sym same) ∙ sym c.is_enabled.ensures ∙ w.if-is_enabled.false) ∙ next
     ]
 
 pub returns : goal.returns

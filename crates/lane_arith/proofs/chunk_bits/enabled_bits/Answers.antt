@@ -1,6 +1,6 @@
 use Rattle.std.proofs.Common.{◌≡◌, ◌/◌, ◌%◌, ◌^◌, arith, refl, sym, ◌∙◌}
 use Rattle.std.proofs.lemmas.Nat.Bits.{bit_at_ones}
-use Rattle.lane_arith.proofs.chunk_bits.let_bits.Goals as goal
+use Rattle.lane_arith.proofs.chunk_bits.enabled_bits.Goals as goal
 
 pub returns-then-is_unmasked : goal.returns-then-is_unmasked
 returns-then-is_unmasked c = λ i h.
