@@ -4,6 +4,7 @@ use Rattle.std.proofs.Math.Bool.{and-true, or-true}
 use Rattle.std.specs.Prelude.{[], ◌∷◌}
 use Rattle.rv_model.specs.declared.instructions.source.Source.{Source}
 use Rattle.rv_model.specs.declared.instructions.source.Source.TheVariants as source
+use Rattle.rv_model.specs.declared.legality.Role.{Role}
 use Rattle.rv_model.specs.declared.legality.Role.TheVariants.{Apart, Control, Free, Read, Write}
 use Rattle.rv_model.specs.declared.legality.Shape.{Shape}
 use Rattle.rv_model.specs.declared.legality.Shape.TheVariants.{Gather, GatherIndices16, Narrowing, Reduction, Single, WideReduction, WideSource, Widening}
@@ -12,7 +13,7 @@ use Rattle.rv_model.specs.legality.OperandShapes.{destination, first_source, gro
 use Rattle.rv_model.specs.legality.RegisterOperands.{allows, are_legal, is_group}
 use Rattle.rv_model.specs.vector.Configuration.{GroupType, group_type, sew_width}
 use Rattle.rv_model.specs.vector.Groups.{single_type, wide_type}
-use Rattle.reg_groups.specs.Roles.{is_other_group, is_wide_beside, of_vector, stands_beside}
+use Rattle.reg_groups.specs.Roles.{is_apart_from_mask, is_other_group, is_wide_beside, of_vector, stands_beside}
 use Rattle.reg_groups.proofs.EqualWidths.{role_allows}
 use Rattle.reg_groups.proofs.Pairs.{apart_beside, equal_beside, free_beside, narrowing_beside, widening_beside}
 use Rattle.reg_groups.proofs.Sources.{guarded, shape_legal, sources_legal}
@@ -32,14 +33,9 @@ row shape vd vs2 from unmasked t a m b first second last =
     shape_legal shape vd vs2 from unmasked t
     ∙ guarded (is_group (destination shape vd t)) _ _ (λ h. rw (first h, same_of_vector from _ b (second h), last) refl)
 
-beside_v0 : (vd : ℕ) (unmasked : Bool) (g : GroupType) → (unmasked || allows (group Write vd g) (mask Control 0)) ≡ (unmasked || not (vd == 0))
-beside_v0 vd unmasked g = ap (λ b. unmasked || b) (role_allows Write vd g)
-
-apart_from_v0 : (vd : ℕ) (unmasked : Bool) (g : GroupType) → (unmasked || allows (group Apart vd g) (mask Control 0)) ≡ (unmasked || not (vd == 0))
-apart_from_v0 vd unmasked g = ap (λ b. unmasked || b) (role_allows Apart vd g)
-
-over_v0 : (vd : ℕ) (unmasked : Bool) (g : GroupType) → (unmasked || allows (group Free vd g) (mask Control 0)) ≡ true
-over_v0 vd unmasked g = ap (λ b. unmasked || b) (role_allows Free vd g) ∙ or-true unmasked
+beside_v0 : (r : Role) (vd : ℕ) (unmasked : Bool) (g : GroupType)
+    → (unmasked || allows (group r vd g) (mask Control 0)) ≡ (unmasked || (not (is_apart_from_mask r) || not (vd == 0)))
+beside_v0 r vd unmasked g = ap (λ b. unmasked || b) (role_allows r vd g)
 
 pub single_legal : (vd vs2 : ℕ) (from : Source) (unmasked : Bool) (t : VType)
     → are_legal (shape_operands Single vd vs2 from unmasked t)
@@ -47,7 +43,7 @@ pub single_legal : (vd vs2 : ℕ) (from : Source) (unmasked : Bool) (t : VType)
     && (of_vector from (λ vs1. is_group (group Read vs1 (group_type t))) && (unmasked || not (vd == 0)))))
 single_legal vd vs2 from unmasked t =
     row Single vd vs2 from unmasked t _ _ (λ vs1. is_group (group Read vs1 (group_type t)))
-    (λ h. equal_beside vd vs2 (group_type t)) (λ h vs1. equal_beside vd vs1 (group_type t)) (beside_v0 vd unmasked (group_type t))
+    (λ h. equal_beside vd vs2 (group_type t)) (λ h vs1. equal_beside vd vs1 (group_type t)) (beside_v0 Write vd unmasked (group_type t))
 
 pub widening_legal : (vd vs2 : ℕ) (from : Source) (unmasked : Bool) (t : VType)
     → are_legal (shape_operands Widening vd vs2 from unmasked t)
@@ -55,7 +51,7 @@ pub widening_legal : (vd vs2 : ℕ) (from : Source) (unmasked : Bool) (t : VType
     && (of_vector from (λ vs1. is_other_group vd vs1 t) && (unmasked || not (vd == 0)))))
 widening_legal vd vs2 from unmasked t =
     row Widening vd vs2 from unmasked t _ _ (λ vs1. is_other_group vd vs1 t)
-    (λ h. widening_beside vd vs2 t h) (λ h vs1. widening_beside vd vs1 t h) (beside_v0 vd unmasked (wide_type t))
+    (λ h. widening_beside vd vs2 t h) (λ h vs1. widening_beside vd vs1 t h) (beside_v0 Write vd unmasked (wide_type t))
 
 pub wide_source_legal : (vd vs2 : ℕ) (from : Source) (unmasked : Bool) (t : VType)
     → are_legal (shape_operands WideSource vd vs2 from unmasked t)
@@ -63,7 +59,7 @@ pub wide_source_legal : (vd vs2 : ℕ) (from : Source) (unmasked : Bool) (t : VT
     && (of_vector from (λ vs1. is_other_group vd vs1 t) && (unmasked || not (vd == 0)))))
 wide_source_legal vd vs2 from unmasked t =
     row WideSource vd vs2 from unmasked t _ _ (λ vs1. is_other_group vd vs1 t)
-    (λ h. equal_beside vd vs2 (wide_type t)) (λ h vs1. widening_beside vd vs1 t h) (beside_v0 vd unmasked (wide_type t))
+    (λ h. equal_beside vd vs2 (wide_type t)) (λ h vs1. widening_beside vd vs1 t h) (beside_v0 Write vd unmasked (wide_type t))
 
 pub narrowing_legal : (vd vs2 : ℕ) (from : Source) (unmasked : Bool) (t : VType)
     → are_legal (shape_operands Narrowing vd vs2 from unmasked t)
@@ -71,7 +67,7 @@ pub narrowing_legal : (vd vs2 : ℕ) (from : Source) (unmasked : Bool) (t : VTyp
     && (of_vector from (λ vs1. is_group (group Read vs1 (group_type t))) && (unmasked || not (vd == 0)))))
 narrowing_legal vd vs2 from unmasked t =
     row Narrowing vd vs2 from unmasked t _ _ (λ vs1. is_group (group Read vs1 (group_type t)))
-    (λ h. narrowing_beside vd vs2 t h) (λ h vs1. equal_beside vd vs1 (group_type t)) (beside_v0 vd unmasked (group_type t))
+    (λ h. narrowing_beside vd vs2 t h) (λ h vs1. equal_beside vd vs1 (group_type t)) (beside_v0 Write vd unmasked (group_type t))
 
 pub gather_legal : (vd vs2 : ℕ) (from : Source) (unmasked : Bool) (t : VType)
     → are_legal (shape_operands Gather vd vs2 from unmasked t)
@@ -79,7 +75,7 @@ pub gather_legal : (vd vs2 : ℕ) (from : Source) (unmasked : Bool) (t : VType)
     && (of_vector from (λ vs1. is_other_group vd vs1 t) && (unmasked || not (vd == 0)))))
 gather_legal vd vs2 from unmasked t =
     row Gather vd vs2 from unmasked t _ _ (λ vs1. is_other_group vd vs1 t)
-    (λ h. apart_beside vd vs2 t h) (λ h vs1. apart_beside vd vs1 t h) (apart_from_v0 vd unmasked (group_type t))
+    (λ h. apart_beside vd vs2 t h) (λ h vs1. apart_beside vd vs1 t h) (beside_v0 Apart vd unmasked (group_type t))
 
 pub gather_by_16_bits_legal : (vd vs2 : ℕ) (from : Source) (unmasked : Bool) (t : VType)
     → are_legal (shape_operands GatherIndices16 vd vs2 from unmasked t)
@@ -87,7 +83,7 @@ pub gather_by_16_bits_legal : (vd vs2 : ℕ) (from : Source) (unmasked : Bool) (
     && (of_vector from (λ vs1. stands_beside (destination GatherIndices16 vd t) (vector_source GatherIndices16 vs1 t)) && (unmasked || not (vd == 0)))))
 gather_by_16_bits_legal vd vs2 from unmasked t =
     row GatherIndices16 vd vs2 from unmasked t _ _ (λ vs1. stands_beside (destination GatherIndices16 vd t) (vector_source GatherIndices16 vs1 t))
-    (λ h. apart_beside vd vs2 t h) (λ h vs1. refl) (apart_from_v0 vd unmasked (group_type t))
+    (λ h. apart_beside vd vs2 t h) (λ h vs1. refl) (beside_v0 Apart vd unmasked (group_type t))
 
 -- reductions, of both widths
 pub reduction_legal : (vd vs2 : ℕ) (from : Source) (unmasked : Bool) (t : VType)
@@ -97,7 +93,7 @@ pub reduction_legal : (vd vs2 : ℕ) (from : Source) (unmasked : Bool) (t : VTyp
 reduction_legal vd vs2 from unmasked t =
     row Reduction vd vs2 from unmasked t _ _ (λ vs1. is_group (group Read vs1 (single_type (sew_width t.sew))))
     (λ h. free_beside (destination Reduction vd t) (first_source Reduction vs2 t) refl)
-    (λ h vs1. free_beside (destination Reduction vd t) (vector_source Reduction vs1 t) refl) (over_v0 vd unmasked (single_type (sew_width t.sew)))
+    (λ h vs1. free_beside (destination Reduction vd t) (vector_source Reduction vs1 t) refl) (beside_v0 Free vd unmasked (single_type (sew_width t.sew)) ∙ or-true unmasked)
 
 pub wide_reduction_legal : (vd vs2 : ℕ) (from : Source) (unmasked : Bool) (t : VType)
     → are_legal (shape_operands WideReduction vd vs2 from unmasked t)
@@ -106,7 +102,7 @@ pub wide_reduction_legal : (vd vs2 : ℕ) (from : Source) (unmasked : Bool) (t :
 wide_reduction_legal vd vs2 from unmasked t =
     row WideReduction vd vs2 from unmasked t _ _ (λ vs1. is_group (group Read vs1 (single_type (wide_type t).width)))
     (λ h. free_beside (destination WideReduction vd t) (first_source WideReduction vs2 t) refl)
-    (λ h vs1. free_beside (destination WideReduction vd t) (vector_source WideReduction vs1 t) refl) (over_v0 vd unmasked (single_type (wide_type t).width))
+    (λ h vs1. free_beside (destination WideReduction vd t) (vector_source WideReduction vs1 t) refl) (beside_v0 Free vd unmasked (single_type (wide_type t).width) ∙ or-true unmasked)
 
 -- a move of one group
 pub move_legal : (from : Source) (vd : ℕ) (t : VType)
