@@ -4,6 +4,7 @@ pub mod Cuts
 pub mod Effects
 pub mod FetchesResume
 pub mod GoesOn
+pub mod StepCases
 pub mod StepTicks
 pub mod StepsResume
 pub mod StoredWords

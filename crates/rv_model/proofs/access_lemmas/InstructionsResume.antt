@@ -31,8 +31,9 @@ use Rattle.rv_model.specs.vector.Registers.{register_of}
 use Rattle.rv_model.specs.declared.vector.sizes.TheConstants.{VLENB}
 use Rattle.rv_model.proofs.access_lemmas.Kept.{Beside, byte_kept, element_kept, element_place, length_kept, let_kept, mask_kept, plan_same}
 use Rattle.rv_model.proofs.access_lemmas.Runs.{access_again, is_stopped, run_facts}
-use Rattle.rv_model.proofs.access_lemmas.RunsResume.{IsResumed, Resumes, Run, load_resumes, load_transfers, store_resumes}
+use Rattle.rv_model.proofs.access_lemmas.RunsResume.{IsResumed, Resumes, ResumesFrom, Run, load_resumes, load_transfers, store_resumes}
 use Rattle.rv_model.proofs.legality_lemmas.Accesses.{elements_fit}
+use Rattle.rv_model.proofs.text_lemmas.Pieces.{of_option}
 use Rattle.rv_model.proofs.legality_lemmas.Overlaps.{indexed_above, later_indices_stay, strided_above, unit_above}
 
 -- a mask is the register v0
@@ -108,31 +109,20 @@ made_run limit fill a v m = directed_run a.direction limit fill a v m
 typed_resumes : (make : VType → VState → VectorAccess) (limit later : ℕ) (fill : Bool) (v : VState) (m more : Memory)
     → ((t : VType) → v.conf.vtype ≡ Some t → Resumes (λ limit v m. made_run limit fill (make t v) v m) limit later v m more)
     → Resumes (λ limit v m. typed_run limit fill make v m) limit later v m more
-typed_resumes make limit later fill v m more each ended grown = named v.conf.vtype refl
-  where
-    run : VType → Run
-    run t limit v m = made_run limit fill (make t v) v m
-
-    typed : Run
-    typed limit v m = typed_run limit fill make v m
-
-    named : (o : Option VType) → v.conf.vtype ≡ o → IsResumed typed limit later v m more
-    named None e = absurd (ended (ap (λ (o : Option VType). (run_or_nothing limit fill (option_map (λ t. make t v) o) v m).end) e))
-    named (Some t) e =
-        let is : (n : ℕ) (w : VState) (k : Memory) → w.conf ≡ v.conf → typed n w k ≡ run t n w k =
-        λ n w k c. ap (λ (o : Option VType). run_or_nothing n fill (option_map (λ t. make t w) o) w k) (ap (λ c. c.vtype) c ∙ e) in
-        let here : typed limit v m ≡ run t limit v m = is limit v m refl in
-        let r : IsResumed (run t) limit later v m more =
-        each t e (subst (λ (a : AccessRun). a.end ≢ Done) here ended) (subst (λ (a : AccessRun). Extends a.memory more) here grown) in
-        record {
-          conf = ap (λ (a : AccessRun). a.vector.conf) here ∙ r.conf;
-          same =
-              ap (λ (a : AccessRun). typed later a.vector more) here
-              ∙ is later (run t limit v m).vector more r.conf
-              ∙ r.same
-              ∙ ap (λ (a : AccessRun). run t (a.vector.vstart - v.vstart + later) v (overlay m more)) (sym here)
-              ∙ sym (is ((typed limit v m).vector.vstart - v.vstart + later) v (overlay m more) refl);
-        }
+typed_resumes make limit later fill v m more each =
+    let typed : Run = λ limit v m. typed_run limit fill make v m in
+    of_option v.conf.vtype (λ o. ResumesFrom typed later v m more (run_or_nothing limit fill (option_map (λ t. make t v) o) v m))
+    (λ e ended. absurd (ended refl))
+    (λ t e ended grown.
+    let run : Run = λ limit v m. made_run limit fill (make t v) v m in
+    let is : (n : ℕ) (w : VState) (k : Memory) → w.conf ≡ v.conf → typed n w k ≡ run n w k =
+    λ n w k c. ap (λ (o : Option VType). run_or_nothing n fill (option_map (λ t. make t w) o) w k) (ap (λ c. c.vtype) c ∙ e) in
+    let left : AccessRun = run limit v m in
+    let r : IsResumed run later v m more left = each t e ended grown in
+    record {
+      conf = r.conf;
+      same = is later left.vector more r.conf ∙ r.same ∙ sym (is (left.vector.vstart - v.vstart + later) v (overlay m more) refl);
+    })
 
 -- ---- each instruction
 

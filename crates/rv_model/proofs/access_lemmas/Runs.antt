@@ -1,11 +1,9 @@
 -- What each vector load or store is made of, where its run stops, and what it leaves.
-use Rattle.std.proofs.Common.{◌≡◌, ◌≢◌, ℕ, ◌+◌, ◌-◌, ◌<◌, ◌≤◌, Bool, true, false, ◌&&◌, cond, List, max, min, ◌⊎◌, inl, inr, Option, Some, None, refl, sym, ◌∙◌, ap, subst, arith}
-use Rattle.std.specs.Option.{option_map, option_map_or}
+use Rattle.std.proofs.Common.{◌≡◌, ◌≢◌, ℕ, ◌+◌, ◌-◌, ◌<◌, ◌≤◌, Bool, true, false, ◌&&◌, cond, List, max, min, ◌⊎◌, inl, inr, Option, Some, None, refl, sym, ap, subst, arith}
+use Rattle.std.specs.Option.{option_map}
 use Rattle.std.specs.Prelude.{IfSome, nat_le, nat_lt, ⊤}
 use Rattle.std.proofs.lemmas.Bool.{and_parts}
 use Rattle.std.proofs.lemmas.Bool.Decides.{nat_tests}
-use Rattle.rv_model.specs.declared.instructions.instruction.Instr.{Instr}
-use Rattle.rv_model.specs.declared.instructions.instruction.Instr.TheVariants as instr
 use Rattle.rv_model.specs.declared.instructions.access.AccessInstr.{AccessInstr}
 use Rattle.rv_model.specs.declared.instructions.access.AccessInstr.TheVariants.{MaskAccess, Indexed, Strided, UnitStride, WholeLoad, WholeStore}
 use Rattle.rv_model.specs.declared.instructions.operations.Direction.{Direction}
@@ -20,9 +18,9 @@ use Rattle.rv_model.specs.declared.vector.types.VType.{VType}
 use Rattle.rv_model.specs.accesses.AccessRuns.{AccessRun, access_ends, access_run, directed_run, load_run, run_or_nothing, runs_to, store_run}
 use Rattle.rv_model.specs.accesses.Restarts.{AccessLeavesOff, IsStopped, LeavesOff}
 use Rattle.rv_model.specs.accesses.Transfers.{Plan, bad_address, end_at, registers_loaded, stop_index, memory_stored, transfers}
-use Rattle.rv_model.specs.accesses.VectorAccess.{VectorAccess, access_of, index_count, indexed_access, mask_length, element_start, plan, strided_access, unit_access, unmasked_access, vector_access}
+use Rattle.rv_model.specs.accesses.VectorAccess.{VectorAccess, access_of, indexed_access, mask_length, element_start, plan, strided_access, unit_access, unmasked_access}
 use Rattle.rv_model.specs.vector.Groups.{access_type}
-use Rattle.rv_model.specs.vector.Configuration.{group_type, Configuration}
+use Rattle.rv_model.specs.vector.Configuration.{group_type}
 use Rattle.rv_model.specs.memory.Memory.{Memory, can_access_byte}
 use Rattle.rv_model.specs.vector.Registers.{register_of}
 use Rattle.rv_model.proofs.access_lemmas.Moves.{stored_allows}
@@ -91,27 +89,6 @@ again_of (MaskAccess d vd rs1) v x a file start e =
     record { address = again.0; is = again.1 }
 
 -- ---- how many indices an instruction has is said by the vector type and length
-
-count_same : (size : ℕ → ℕ) (c d : Configuration) (make other : VType → VectorAccess) → d ≡ c
-    → ((t : VType) → (make t).body.end ≡ size c.vl) → ((t : VType) → (other t).body.end ≡ size d.vl)
-    → index_count (option_map other d.vtype) ≡ index_count (option_map make c.vtype)
-count_same size c d make other same h k =
-    counted other d.vtype (size d.vl) k ∙ ap (λ (e : Configuration). option_map_or (λ (t : VType). size e.vl) e.vtype 0) same
-    ∙ sym (counted make c.vtype (size c.vl) h)
-  where
-    counted : (of : VType → VectorAccess) (o : Option VType) (n : ℕ) → ((t : VType) → (of t).body.end ≡ n)
-        → index_count (option_map of o) ≡ option_map_or (λ (t : VType). n) o 0
-    counted of None n h = refl
-    counted of (Some t) n h = h t
-
-pub count_stays : (i : Instr) (v w : VState) (x : Scalar) → w.conf ≡ v.conf → index_count (vector_access i w x) ≡ index_count (vector_access i v x)
-count_stays (instr.Access (UnitStride op width nf vd rs1 vm)) v w x same = count_same (λ n. n) v.conf w.conf _ _ same (λ t. refl) (λ t. refl)
-count_stays (instr.Access (Strided d width nf vd rs1 rs2 vm)) v w x same = count_same (λ n. n) v.conf w.conf _ _ same (λ t. refl) (λ t. refl)
-count_stays (instr.Access (Indexed d order width nf vd rs1 vs2 vm)) v w x same = count_same (λ n. n) v.conf w.conf _ _ same (λ t. refl) (λ t. refl)
-count_stays (instr.Access (WholeLoad count width vd rs1)) v w x same = refl
-count_stays (instr.Access (WholeStore count vd rs1)) v w x same = refl
-count_stays (instr.Access (MaskAccess d vd rs1)) v w x same = count_same mask_length v.conf w.conf _ _ same (λ t. refl) (λ t. refl)
-count_stays _ v w x same = refl
 
 -- ---- where transfers stop
 

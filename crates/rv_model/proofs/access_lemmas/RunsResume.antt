@@ -1,5 +1,5 @@
 -- A legal vector load or store that stops and is run again ends and leaves what the whole one does.
-use Rattle.std.proofs.Common.{◌≡◌, ◌≢◌, ℕ, ◌+◌, ◌-◌, ◌<◌, ◌≤◌, Bool, true, false, ◌&&◌, cond, max, List, refl, sym, ◌∙◌, ap, subst, arith}
+use Rattle.std.proofs.Common.{◌≡◌, ◌≢◌, ℕ, ◌+◌, ◌-◌, ◌<◌, ◌≤◌, Bool, false, ◌&&◌, max, List, refl, sym, ◌∙◌, ap, subst, arith}
 use Rattle.std.specs.Prelude.{nat_le, nat_lt}
 use Rattle.std.proofs.lemmas.Bool.Decides.{nat_tests}
 use Rattle.rv_model.specs.declared.memory.Access.TheVariants as access
@@ -8,11 +8,12 @@ use Rattle.rv_model.specs.declared.step.memory_end.MemEnd.TheVariants.{Cut, Done
 use Rattle.rv_model.specs.declared.vector.state.VState.{VState}
 use Rattle.rv_model.specs.accesses.AccessRuns.{AccessRun, access_ends, load_run, runs_to, store_run}
 use Rattle.rv_model.specs.accesses.Restarts.{Extends, overlay}
-use Rattle.rv_model.specs.accesses.Transfers.{Plan, bad_address, end_at}
+use Rattle.rv_model.specs.accesses.Transfers.{Plan, end_at}
 use Rattle.rv_model.specs.accesses.VectorAccess.{VectorAccess, element_start, plan}
 use Rattle.rv_model.specs.memory.Memory.{Memory}
 use Rattle.rv_model.proofs.access_lemmas.Growth.{overlay_grown}
 use Rattle.rv_model.proofs.access_lemmas.Runs.{access_again}
+use Rattle.rv_model.proofs.text_lemmas.Pieces.{of_either, of_test}
 use Rattle.rv_model.proofs.access_lemmas.Resumes.{Progress, load_moves, load_moves_resume, stop_from, store_moves, store_moves_resume}
 
 -- ---- runs that may be stopped, by a limit, the vector state and the memory
@@ -20,14 +21,16 @@ use Rattle.rv_model.proofs.access_lemmas.Resumes.{Progress, load_moves, load_mov
 abbrev pub Run : Type 0
 Run = ℕ → VState → Memory → AccessRun
 
--- one that is stopped leaves the vector type and length as they are, and it is the whole one once it is run again
-pub record IsResumed (run : Run) (limit later : ℕ) (v : VState) (m more : Memory) : Type 0 where
-  pub conf : (run limit v m).vector.conf ≡ v.conf
-  pub same : run later (run limit v m).vector more ≡ run ((run limit v m).vector.vstart - v.vstart + later) v (overlay m more)
+-- one that is stopped and left this leaves the vector type and length as they are, and it is the whole one once it is run again
+pub record IsResumed (run : Run) (later : ℕ) (v : VState) (m more : Memory) (left : AccessRun) : Type 0 where
+  pub conf : left.vector.conf ≡ v.conf
+  pub same : run later left.vector more ≡ run (left.vector.vstart - v.vstart + later) v (overlay m more)
+
+abbrev pub ResumesFrom : Run → ℕ → VState → Memory → Memory → AccessRun → Type 0
+ResumesFrom run later v m more left = left.end ≢ Done → Extends left.memory more → IsResumed run later v m more left
 
 abbrev pub Resumes : Run → ℕ → ℕ → VState → Memory → Memory → Type 0
-Resumes run limit later v m more =
-    (run limit v m).end ≢ Done → Extends (run limit v m).memory more → IsResumed run limit later v m more
+Resumes run limit later v m more = ResumesFrom run later v m more (run limit v m)
 
 -- ---- loads
 
@@ -62,44 +65,15 @@ record LoadStopped (run : AccessRun) (v : VState) (m : Memory) (moved : Progress
 load_stopped : (limit : ℕ) (fill : Bool) (a : VectorAccess) (v : VState) (m : Memory) → (load_run limit fill a v m).end ≢ Done
     → LoadStopped (load_run limit fill a v m) v m (load_transfers limit fill a v.file m) a.body.end
 unfolding load_run end_at
-load_stopped limit fill a v m ended = named (nat_le n stop) (nat_le last stop) refl refl ended
-  where
-    n : ℕ
-    n = a.body.end
-
-    last : ℕ
-    last = a.body.start + limit
-
-    moved : Progress (List ℕ)
-    moved = load_transfers limit fill a v.file m
-
-    stop : ℕ
-    stop = moved.stop
-
-    addr : ℕ
-    addr = bad_address access.Load m (plan a fill stop)
-
-    named : (done reached : Bool) → nat_le n stop ≡ done → nat_le last stop ≡ reached
-        → (access_ends a.first_only n (record v { file = moved.left }) m (cond done Done (cond reached (Cut stop) (Fault stop addr)))).end ≢ Done
-        → LoadStopped (access_ends a.first_only n (record v { file = moved.left }) m (cond done Done (cond reached (Cut stop) (Fault stop addr)))) v m moved n
-    named true reached e f h = absurd (h refl)
-    named false true e f h = record { below = grind (arith, nat_tests); vector = refl; memory = refl }
-    named false false e f h = by_length (a.first_only && nat_lt 0 stop) refl h
-      where
-        less : stop < n
-        less = grind (arith, nat_tests)
-
-        whole : AccessRun
-        whole = runs_to Done (stop + 1) (record v { file = moved.left; conf = record v.conf { vl = stop }; vstart = 0 }) m
-
-        part : AccessRun
-        part = runs_to (Fault stop addr) (stop + 1) (record v { file = moved.left; vstart = stop }) m
-
-        by_length : (b : Bool) → (a.first_only && nat_lt 0 stop) ≡ b → (cond (a.first_only && nat_lt 0 stop) whole part).end ≢ Done
-            → LoadStopped (cond (a.first_only && nat_lt 0 stop) whole part) v m moved n
-        by_length true e h = absurd (h (ap (λ b. (cond b whole part).end) e))
-        by_length false e h =
-            subst (λ b. LoadStopped (cond b whole part) v m moved n) (sym e) (record { below = less; vector = refl; memory = refl })
+load_stopped limit fill a v m =
+    let moved : Progress (List ℕ) = load_transfers limit fill a v.file m in
+    let n : ℕ = a.body.end in
+    let Q : AccessRun → Type 0 = λ run. run.end ≢ Done → LoadStopped run v m moved n in
+    let P : MemEnd → Type 0 = λ end. Q (access_ends a.first_only n (record v { file = moved.left }) m end) in
+    of_test P (nat_le n moved.stop) _ _ (λ e ended. absurd (ended refl))
+    (λ e. of_test P (nat_le (a.body.start + limit) moved.stop) _ _ (λ f ended. record { below = grind (arith, nat_tests, e); vector = refl; memory = refl })
+    (λ f. of_either Q (a.first_only && nat_lt 0 moved.stop) _ _ (λ ended. absurd (ended refl))
+    (λ ended. record { below = grind (arith, nat_tests, e); vector = refl; memory = refl })))
 
 load_again : (limit later : ℕ) (fill : Bool) (a : VectorAccess) (mask : List ℕ) (address : ℕ → ℕ) (v : VState) (m more : Memory) → Extends m more
     → a.body.start ≡ v.vstart
@@ -171,29 +145,13 @@ record StoreStopped (run : AccessRun) (v : VState) (moved : Progress Memory) (n 
 store_stopped : (limit : ℕ) (a : VectorAccess) (v : VState) (m : Memory) → (store_run limit a v m).end ≢ Done
     → StoreStopped (store_run limit a v m) v (store_transfers limit a v.file m) a.body.end
 unfolding store_run end_at
-store_stopped limit a v m ended = named (nat_le n stop) (nat_le last stop) refl refl ended
-  where
-    n : ℕ
-    n = a.body.end
-
-    last : ℕ
-    last = a.body.start + limit
-
-    moved : Progress Memory
-    moved = store_transfers limit a v.file m
-
-    stop : ℕ
-    stop = moved.stop
-
-    addr : ℕ
-    addr = bad_address access.Store m (plan a false stop)
-
-    named : (done reached : Bool) → nat_le n stop ≡ done → nat_le last stop ≡ reached
-        → (access_ends false n v moved.left (cond done Done (cond reached (Cut stop) (Fault stop addr)))).end ≢ Done
-        → StoreStopped (access_ends false n v moved.left (cond done Done (cond reached (Cut stop) (Fault stop addr)))) v moved n
-    named true reached e f h = absurd (h refl)
-    named false true e f h = record { below = grind (arith, nat_tests); vector = refl; memory = refl }
-    named false false e f h = record { below = grind (arith, nat_tests); vector = refl; memory = refl }
+store_stopped limit a v m =
+    let moved : Progress Memory = store_transfers limit a v.file m in
+    let n : ℕ = a.body.end in
+    let P : MemEnd → Type 0 = λ end. let run : AccessRun = access_ends false n v moved.left end in run.end ≢ Done → StoreStopped run v moved n in
+    of_test P (nat_le n moved.stop) _ _ (λ e ended. absurd (ended refl))
+    (λ e. of_either P (nat_le (a.body.start + limit) moved.stop) _ _ (λ ended. record { below = grind (arith, nat_tests, e); vector = refl; memory = refl })
+    (λ ended. record { below = grind (arith, nat_tests, e); vector = refl; memory = refl }))
 
 abbrev pub access_from : VectorAccess → ℕ → VectorAccess
 access_from a start = record a { body = record a.body { start = start } }

@@ -19,7 +19,7 @@ use Rattle.rv_model.specs.declared.vector.control_register.ControlRegister.{Cont
 use Rattle.rv_model.specs.declared.vector.types.Sew.{Sew}
 use Rattle.rv_model.specs.declared.vector.types.Sew.TheVariants.{E8, E16, E32, E64}
 use Rattle.rv_model.specs.declared.vector.types.Lmul.{Lmul}
-use Rattle.rv_model.specs.declared.vector.types.Lmul.TheVariants.{Mf8, Mf4, Mf2, M1, M2, M4, M8}
+use Rattle.rv_model.specs.declared.vector.types.Lmul.TheVariants.{Mf8}
 use Rattle.rv_model.specs.vector.ControlRegisters.{control_register, control_registers, register_name, register_number}
 use Rattle.rv_model.specs.vector.TypeNames.{lmul_name, mask_name, sew_name, tail_name}
 use Rattle.rv_model.specs.vector.TypeRules.{lmul_with_number, sew_with_number}
@@ -64,12 +64,7 @@ no_newline_in_sew_name E64 = refl
 
 no_newline_in_lmul_name : (lmul : Lmul) → IsLine (lmul_name lmul)
 no_newline_in_lmul_name Mf8 = refl
-no_newline_in_lmul_name Mf4 = refl
-no_newline_in_lmul_name Mf2 = refl
-no_newline_in_lmul_name M1 = refl
-no_newline_in_lmul_name M2 = refl
-no_newline_in_lmul_name M4 = refl
-no_newline_in_lmul_name M8 = refl
+no_newline_in_lmul_name _ = refl
 
 no_newline_in_tail_name : (agnostic : Bool) → IsLine (tail_name agnostic)
 no_newline_in_tail_name true = refl

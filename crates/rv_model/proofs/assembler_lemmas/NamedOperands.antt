@@ -217,30 +217,15 @@ slot_with_number n = get_or every_slot n Comma
 
 slot_again : (s : Slot) → slot_with_number (slot_number s) ≡ s
 unfolding slot_with_number every_slot
-slot_again Comma = refl
-slot_again Open = refl
-slot_again Close = refl
-slot_again V0 = refl
 slot_again (Scalar Rd) = refl
-slot_again (Scalar Rs1) = refl
-slot_again (Scalar Rs2) = refl
+slot_again (Scalar _) = refl
 slot_again (Vector Rd) = refl
-slot_again (Vector Rs1) = refl
-slot_again (Vector Rs2) = refl
+slot_again (Vector _) = refl
 slot_again (Unsigned unsigned.Immediate) = refl
-slot_again (Unsigned unsigned.Shift) = refl
-slot_again (Unsigned unsigned.ShiftWord) = refl
-slot_again (Unsigned unsigned.Upper) = refl
+slot_again (Unsigned _) = refl
 slot_again (Signed signed.Vector) = refl
-slot_again (Signed signed.Immediate) = refl
-slot_again (Signed signed.Store) = refl
-slot_again (Signed signed.Branch) = refl
-slot_again (Signed signed.Jump) = refl
-slot_again slot.Csr = refl
-slot_again slot.VectorType = refl
-slot_again slot.ShortVectorType = refl
-slot_again Mask = refl
-slot_again slot.Word = refl
+slot_again (Signed _) = refl
+slot_again _ = refl
 
 slots_again : (ss : List Slot) → map slot_with_number (map slot_number ss) ≡ ss
 slots_again [] = refl

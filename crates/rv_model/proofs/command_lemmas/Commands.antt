@@ -30,11 +30,7 @@ entering_prints Leave p = refl
 absent_prints : (c : Cmd) → PrintsLines (of_absent c)
 unfolding of_absent
 absent_prints (Entering c) = entering_absent_prints c
-absent_prints (Memory c) = refusal_prints None refusal.NotEntered
-absent_prints (Registers c) = refusal_prints None refusal.NotEntered
-absent_prints (Programs c) = refusal_prints None refusal.NotEntered
-absent_prints (Breakpoints c) = refusal_prints None refusal.NotEntered
-absent_prints (Running c) = refusal_prints None refusal.NotEntered
+absent_prints _ = refusal_prints None refusal.NotEntered
 
 present_prints : (images : List Image) (c : Cmd) (p : Present) → PrintsLines (of_present images c p)
 unfolding of_present

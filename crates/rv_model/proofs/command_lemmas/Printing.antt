@@ -3,9 +3,9 @@ use Rattle.std.proofs.Common.{ℕ, List, [], ◌∷◌, true, refl}
 use Rattle.std.specs.Prelude.{codes, map}
 use Rattle.std.proofs.lemmas.Bool.{and_from}
 use Rattle.rv_model.specs.declared.commands.refusal.Refusal.{Refusal}
-use Rattle.rv_model.specs.declared.commands.refusal.Refusal.TheVariants.{UnknownCommand, Argument, NotEntered, AlreadyEntered, Running, ImageName, ElfFault as BadImage, Quota, NotMapped, BreakpointLimit, Breakpoint, NotRunning, Assembler, AlreadyMapped}
+use Rattle.rv_model.specs.declared.commands.refusal.Refusal.TheVariants.{ElfFault as BadImage, Assembler}
 use Rattle.rv_model.specs.declared.images.ElfFault.{ElfFault}
-use Rattle.rv_model.specs.declared.images.ElfFault.TheVariants.{BadShort, BadMagic, BadClass, BadData, BadType, BadMachine, BadHeaderSize, BadHeaderTable, BadInterp, BadFileSize, BadOutside, BadAddress, BadEntry}
+use Rattle.rv_model.specs.declared.images.ElfFault.TheVariants.{BadShort}
 use Rattle.rv_model.specs.declared.step.step_end.Stop.{Stop}
 use Rattle.rv_model.specs.declared.step.step_end.Stop.TheVariants as stop
 use Rattle.rv_model.specs.commands.Printing.{listed, refused, stop_line}
@@ -17,38 +17,16 @@ use Rattle.rv_model.proofs.text_lemmas.Pieces.{Piece, ◌▸◌, hexadecimal, nu
 
 no_newline_in_fault_name : (fault : ElfFault) → IsLine (fault_name fault)
 no_newline_in_fault_name BadShort = refl
-no_newline_in_fault_name BadMagic = refl
-no_newline_in_fault_name BadClass = refl
-no_newline_in_fault_name BadData = refl
-no_newline_in_fault_name BadType = refl
-no_newline_in_fault_name BadMachine = refl
-no_newline_in_fault_name BadHeaderSize = refl
-no_newline_in_fault_name BadHeaderTable = refl
-no_newline_in_fault_name BadInterp = refl
-no_newline_in_fault_name BadFileSize = refl
-no_newline_in_fault_name BadOutside = refl
-no_newline_in_fault_name BadAddress = refl
-no_newline_in_fault_name BadEntry = refl
+no_newline_in_fault_name _ = refl
 
 pub no_newline_in_refusal : (r : Refusal) → IsLine (refused r)
 unfolding refused
-no_newline_in_refusal UnknownCommand = refl
-no_newline_in_refusal Argument = refl
-no_newline_in_refusal NotEntered = refl
-no_newline_in_refusal AlreadyEntered = refl
-no_newline_in_refusal Running = refl
-no_newline_in_refusal ImageName = refl
 no_newline_in_refusal (BadImage fault) =
     let code : Piece = (codes "E09 ", refl) in
     let name : Piece = (fault_name fault, no_newline_in_fault_name fault) in
     (code ▸ name).1
-no_newline_in_refusal Quota = refl
-no_newline_in_refusal NotMapped = refl
-no_newline_in_refusal BreakpointLimit = refl
-no_newline_in_refusal Breakpoint = refl
-no_newline_in_refusal NotRunning = refl
 no_newline_in_refusal (Assembler column) = let code : Piece = (codes "E15 ", refl) in (code ▸ number column).1
-no_newline_in_refusal AlreadyMapped = refl
+no_newline_in_refusal _ = refl
 
 pub no_newline_in_listed : (addr : ℕ) → IsLine (listed addr)
 unfolding listed

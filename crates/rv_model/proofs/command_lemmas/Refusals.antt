@@ -66,19 +66,7 @@ plain_line line h = and_from (is_plain line) true h refl
 pub reasons_are_refusals : ReasonsAreRefusals
 unfolding refused
 reasons_are_refusals refusal.UnknownCommand = refl
-reasons_are_refusals refusal.Argument = refl
-reasons_are_refusals refusal.NotEntered = refl
-reasons_are_refusals refusal.AlreadyEntered = refl
-reasons_are_refusals refusal.Running = refl
-reasons_are_refusals refusal.ImageName = refl
-reasons_are_refusals (refusal.ElfFault fault) = refl
-reasons_are_refusals refusal.Quota = refl
-reasons_are_refusals refusal.NotMapped = refl
-reasons_are_refusals refusal.BreakpointLimit = refl
-reasons_are_refusals refusal.Breakpoint = refl
-reasons_are_refusals refusal.NotRunning = refl
-reasons_are_refusals (refusal.Assembler column) = refl
-reasons_are_refusals refusal.AlreadyMapped = refl
+reasons_are_refusals _ = refl
 
 -- ---- hexadecimal digits are in lower case
 
@@ -117,10 +105,7 @@ dis_plain addr word = spaced_plain (asm_line addr word) (canonical word) (asm_pl
 pub stop_line_plain : (pc : ℕ) (reason : Stop) → is_plain (stop_line pc reason) ≡ true
 unfolding stop_line
 stop_line_plain pc stop.Breakpoint = refl
-stop_line_plain pc stop.Ebreak = refl
-stop_line_plain pc (stop.Exit status) = refl
-stop_line_plain pc (stop.Fault cause value) = refl
-stop_line_plain pc stop.OutputFull = refl
+stop_line_plain pc _ = refl
 
 -- ---- what a command comes to
 
@@ -153,11 +138,7 @@ entering_absent_settles user Leave unit = stays None refusal.NotEntered unit
 absent_settles : (user : ℕ) (c : Cmd) (unit : VectorUnit) → Settles None (of_absent c) unit (unit_of_absent user c unit)
 unfolding of_absent
 absent_settles user (Entering c) unit = entering_absent_settles user c unit
-absent_settles user (Memory c) unit = stays None refusal.NotEntered unit
-absent_settles user (Registers c) unit = stays None refusal.NotEntered unit
-absent_settles user (Programs c) unit = stays None refusal.NotEntered unit
-absent_settles user (Breakpoints c) unit = stays None refusal.NotEntered unit
-absent_settles user (Running c) unit = stays None refusal.NotEntered unit
+absent_settles user _ unit = stays None refusal.NotEntered unit
 
 -- ---- each group of commands, of a user who has entered
 

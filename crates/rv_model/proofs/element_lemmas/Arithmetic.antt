@@ -6,7 +6,7 @@ use Rattle.rv_model.specs.vector.Registers.{group_of, with_group}
 use Rattle.rv_model.specs.elements.Arithmetic.{with_mask_results, with_results}
 use Rattle.rv_model.specs.vector.Configuration.{GroupType, width_bytes}
 use Rattle.rv_model.specs.elements.Formulas.{ones}
-use Rattle.rv_model.proofs.element_lemmas.Bits.{same_bits, writes_bits_are, written_bits_are}
+use Rattle.rv_model.proofs.element_lemmas.Bits.{same_bits, writes_bits_are}
 use Rattle.rv_model.proofs.element_lemmas.Sets.{active_end, same_results}
 use Rattle.rv_model.proofs.element_lemmas.Widths.{bytes_positive}
 use Rattle.rv_model.proofs.element_lemmas.Writes.{writes_are, written_are}
@@ -43,8 +43,3 @@ results_same g vd body fill_masked_off fill_tail told result file same =
     results_are g vd body fill_masked_off fill_tail told result file _ same
     (written_are (width_bytes g.width) (is_changed body fill_masked_off fill_tail) (result_or_ones body told (ones g.width)) (group_of file vd g.emul)
     (bytes_positive g.width))
-
-pub mask_results_same : (vd : ℕ) (body : Body) (told bit : ℕ → Bool) (file : List ℕ) → ((i : ℕ) → i < body.end → told i ≡ bit i)
-    → with_mask_results vd body told file ≡ with_mask_results vd body bit file
-unfolding with_mask_results
-mask_results_same vd body told bit file same = mask_results_are vd body told bit file _ same (written_bits_are (is_active body) told (group_of file vd 8))

@@ -43,9 +43,6 @@ module _ (changed bit : ℕ → Bool) where
     pub same_length : length new ≡ length old
     pub bytes : (x : ℕ) → x < length old → get_or new x 0 ≡ cond (nat_lt x q) (byte_with_bits changed bit old x) (get_or old x 0)
 
-  pub rebuild_begins : (xs : List ℕ) → RebuiltTo 0 xs xs
-  rebuild_begins xs = record { same_length = refl; bytes = λ x h. ap (λ t. cond t (byte_with_bits changed bit xs x) (get_or xs x 0)) (sym (le-ltb x 0 (omega arith))) }
-
   -- a byte that isn't rebuilt yet gives the same bits
   byte_same : (q : ℕ) (old mid : List ℕ) → q < length old → RebuiltTo q old mid → byte_with_bits changed bit mid q ≡ byte_with_bits changed bit old q
   byte_same q old mid h was =
@@ -65,12 +62,6 @@ module _ (changed bit : ℕ → Bool) where
           rw (e, get_or-set_other mid q x _ 0 (λ z. omega (arith, high, z)), le-ltb x (q + 1) (omega (arith, high)))
           (was.bytes x l ∙ ap (λ t. cond t (byte_with_bits changed bit old x) (get_or old x 0)) (le-ltb x q (omega (arith, high))))
     ];
-  }
-
-  pub rebuild_ends : (q : ℕ) (old new : List ℕ) → length old ≤ q → RebuiltTo q old new → WritesBits changed bit old new
-  rebuild_ends q old new all was = record {
-    same_length = was.same_length;
-    bytes = λ x h. was.bytes x h ∙ ap (λ t. cond t (byte_with_bits changed bit old x) (get_or old x 0)) (lt-ltb x q (omega (arith, all, h)));
   }
 
   -- a byte past the last bit that changes is rebuilt as it is
@@ -94,15 +85,6 @@ module _ (changed bit : ℕ → Bool) where
       (λ j h.
       let l : j < length old = omega (arith, w.same_length, h) in
       w.bytes j l ∙ sym (get_or-map-range_with_len f 0 (length old) j j 0 l (zero-add j)))
-
-  pub written_bits_are : (old : List ℕ) → WritesBits changed bit old (written_bits changed bit old)
-  unfolding written_bits
-  written_bits_are old =
-      let f : ℕ → ℕ = byte_with_bits changed bit old in
-      record {
-        same_length = length-map-range_with_len f 0 (length old);
-        bytes = λ q l. get_or-map-range_with_len f 0 (length old) q q 0 l (zero-add q);
-      }
 
 -- the bits may be told another way, where they tell the same of those that change
 pub same_bits : (changed told bit : ℕ → Bool) (old new : List ℕ) → ((i : ℕ) → changed i ≡ true → told i ≡ bit i) → WritesBits changed told old new → WritesBits changed bit old new

@@ -124,16 +124,6 @@ module _ (k end n : ℕ) (numbers : List ℕ) (ones : ℕ) where
         | inr high ↦ (let up : k * n ≤ k * e = mul-le-mul_left k high in absurd (omega arith))
       ]
 
-  pub packed_alone : (old new : List ℕ) → Writes k (is_packed numbers) (slice_index numbers) old new
-      → Writes k (is_packed_or_filled numbers end false) (packed_or_ones numbers ones) old new
-  packed_alone old new was =
-      writes_same k (is_packed numbers) (is_packed_or_filled numbers end false) (slice_index numbers) (packed_or_ones numbers ones) old new was
-      (λ e h. alone (is_packed numbers e)) (λ e h. ap (λ b. cond b (slice_index numbers e) ones) h)
-    where
-      alone : (p : Bool) → (p || false) ≡ p
-      alone true = refl
-      alone false = refl
-
 -- and so are the registers
 pub packed_are : (g : GroupType) (vd end : ℕ) (fill_tail : Bool) (numbers file new : List ℕ)
     → Writes (width_bytes g.width) (is_packed_or_filled numbers end fill_tail) (packed_or_ones numbers (ones g.width)) (group_of file vd g.emul) new

@@ -77,12 +77,6 @@ module _ (k : ℕ) (body : Body) (fill_masked_off : Bool) (number : ℕ → ℕ)
 
 -- A loop that writes one number to each index of a range.
 module _ (k start end : ℕ) (number : ℕ → ℕ) where
-  pub range_begins : (xs : List ℕ) → Writes k (λ e. in_range start end e && nat_lt e start) number xs xs
-  range_begins xs = begins k (in_range start end) number xs start (λ e h. from_start start end e h)
-
-  pub range_ends : (old new : List ℕ) (i : ℕ) → end ≤ i → Writes k (λ e. in_range start end e && nat_lt e i) number old new → Writes k (in_range start end) number old new
-  range_ends old new i past was = ends k (in_range start end) number old new i was (λ e h. omega (arith, to_end start end e h))
-
   pub range_step : (old mid new : List ℕ) (i : ℕ) → start ≤ i → i < end → Writes k (λ e. in_range start end e && nat_lt e i) number old mid → k * i + k ≤ length old
       → new ≡ put_chunk (k * i) mid (bytes_low_first 0 k (number i)) → Writes k (λ e. in_range start end e && nat_lt e (i + 1)) number old new
   range_step old mid new i from to was fits e = step_written k (in_range start end) number old mid new i was (inside_range start end i from to) fits e

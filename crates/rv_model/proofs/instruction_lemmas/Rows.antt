@@ -9,61 +9,34 @@ use Rattle.rv_model.specs.declared.instructions.operations.Form.{Form}
 use Rattle.rv_model.specs.declared.instructions.operations.Form.TheVariants as form
 use Rattle.rv_model.specs.declared.instructions.operations.VectorOp.{VectorOp}
 use Rattle.rv_model.specs.declared.instructions.operations.VectorOp.TheVariants as vector_op
-use Rattle.rv_model.specs.declared.instructions.operations.BinaryOp.{BinaryOp}
 use Rattle.rv_model.specs.declared.instructions.operations.BinaryOp.TheVariants as binary
-use Rattle.rv_model.specs.declared.instructions.operations.CarryOutOp.{CarryOutOp}
 use Rattle.rv_model.specs.declared.instructions.operations.CarryOutOp.TheVariants as carry_out
-use Rattle.rv_model.specs.declared.instructions.operations.CompareOp.{CompareOp}
 use Rattle.rv_model.specs.declared.instructions.operations.CompareOp.TheVariants as compare
-use Rattle.rv_model.specs.declared.instructions.operations.FixedPointOp.{FixedPointOp}
 use Rattle.rv_model.specs.declared.instructions.operations.FixedPointOp.TheVariants as fixed_point
-use Rattle.rv_model.specs.declared.instructions.operations.NarrowShiftOp.{NarrowShiftOp}
 use Rattle.rv_model.specs.declared.instructions.operations.NarrowShiftOp.TheVariants as narrow_shift
-use Rattle.rv_model.specs.declared.instructions.operations.ClipOp.{ClipOp}
 use Rattle.rv_model.specs.declared.instructions.operations.ClipOp.TheVariants as clip
-use Rattle.rv_model.specs.declared.instructions.operations.WidenOp.{WidenOp}
 use Rattle.rv_model.specs.declared.instructions.operations.WidenOp.TheVariants as widen
-use Rattle.rv_model.specs.declared.instructions.operations.WideSourceOp.{WideSourceOp}
 use Rattle.rv_model.specs.declared.instructions.operations.WideSourceOp.TheVariants as wide_source
-use Rattle.rv_model.specs.declared.instructions.operations.MultiplyAddOp.{MultiplyAddOp}
 use Rattle.rv_model.specs.declared.instructions.operations.MultiplyAddOp.TheVariants as multiply_add
-use Rattle.rv_model.specs.declared.instructions.operations.WidenMultiplyAddOp.{WidenMultiplyAddOp}
 use Rattle.rv_model.specs.declared.instructions.operations.WidenMultiplyAddOp.TheVariants as widen_multiply_add
-use Rattle.rv_model.specs.declared.instructions.operations.ReduceOp.{ReduceOp}
 use Rattle.rv_model.specs.declared.instructions.operations.ReduceOp.TheVariants as reduce
-use Rattle.rv_model.specs.declared.instructions.operations.WidenReduceOp.{WidenReduceOp}
 use Rattle.rv_model.specs.declared.instructions.operations.WidenReduceOp.TheVariants as widen_reduce
-use Rattle.rv_model.specs.declared.instructions.operations.PermuteOp.{PermuteOp}
 use Rattle.rv_model.specs.declared.instructions.operations.PermuteOp.TheVariants as permute
 use Rattle.rv_model.specs.declared.instructions.operations.CarryOp.{CarryOp}
 use Rattle.rv_model.specs.declared.instructions.operations.CarryOp.TheVariants as carry
-use Rattle.rv_model.specs.declared.instructions.operations.UpperOp.{UpperOp}
 use Rattle.rv_model.specs.declared.instructions.operations.UpperOp.TheVariants as upper
-use Rattle.rv_model.specs.declared.instructions.operations.BranchOp.{BranchOp}
 use Rattle.rv_model.specs.declared.instructions.operations.BranchOp.TheVariants as branch
-use Rattle.rv_model.specs.declared.instructions.operations.LoadOp.{LoadOp}
 use Rattle.rv_model.specs.declared.instructions.operations.LoadOp.TheVariants as load
-use Rattle.rv_model.specs.declared.instructions.operations.StoreOp.{StoreOp}
 use Rattle.rv_model.specs.declared.instructions.operations.StoreOp.TheVariants as store
-use Rattle.rv_model.specs.declared.instructions.operations.ImmediateOp.{ImmediateOp}
 use Rattle.rv_model.specs.declared.instructions.operations.ImmediateOp.TheVariants as immediate
-use Rattle.rv_model.specs.declared.instructions.operations.ShiftImmediateOp.{ShiftImmediateOp}
 use Rattle.rv_model.specs.declared.instructions.operations.ShiftImmediateOp.TheVariants as shift_immediate
-use Rattle.rv_model.specs.declared.instructions.operations.ShiftImmediateWordOp.{ShiftImmediateWordOp}
 use Rattle.rv_model.specs.declared.instructions.operations.ShiftImmediateWordOp.TheVariants as shift_immediate_word
-use Rattle.rv_model.specs.declared.instructions.operations.RegisterOp.{RegisterOp}
 use Rattle.rv_model.specs.declared.instructions.operations.RegisterOp.TheVariants as register
-use Rattle.rv_model.specs.declared.instructions.operations.SystemOp.{SystemOp}
 use Rattle.rv_model.specs.declared.instructions.operations.SystemOp.TheVariants as system
-use Rattle.rv_model.specs.declared.instructions.operations.CsrOp.{CsrOp}
 use Rattle.rv_model.specs.declared.instructions.operations.CsrOp.TheVariants as csr
-use Rattle.rv_model.specs.declared.instructions.operations.CsrImmediateOp.{CsrImmediateOp}
 use Rattle.rv_model.specs.declared.instructions.operations.CsrImmediateOp.TheVariants as csr_immediate
-use Rattle.rv_model.specs.declared.instructions.operations.MaskLogicOp.{MaskLogicOp}
 use Rattle.rv_model.specs.declared.instructions.operations.MaskLogicOp.TheVariants as mask_logic
-use Rattle.rv_model.specs.declared.instructions.operations.MaskToScalarOp.{MaskToScalarOp}
 use Rattle.rv_model.specs.declared.instructions.operations.MaskToScalarOp.TheVariants as mask_to_scalar
-use Rattle.rv_model.specs.declared.instructions.operations.ExtendOp.{ExtendOp}
 use Rattle.rv_model.specs.declared.instructions.operations.ExtendOp.TheVariants as extend
 use Rattle.rv_model.specs.declared.instructions.operations.MaskScanOp.TheVariants as mask_scan
 use Rattle.rv_model.specs.declared.instructions.operations.MaskUnaryOp.{MaskUnaryOp}
@@ -86,7 +59,7 @@ use Rattle.rv_model.specs.declared.instructions.vector.VectorInstr.TheVariants.{
 use Rattle.rv_model.specs.declared.instructions.access.AccessInstr.TheVariants.{UnitStride, Strided, Indexed, WholeLoad, WholeStore, MaskAccess}
 use Rattle.rv_model.specs.instructions.BitFields.{fixed}
 use Rattle.rv_model.specs.instructions.Sources.{form_of, source_of}
-use Rattle.rv_model.specs.lending.ListedBits.{Allowed, whole_move_bits, mask_memory_bits, unit_access_bits, strided_access_bits, indexed_access_bits, whole_load_bits, whole_store_bits, upper_bits, branch_bits, load_bits, store_bits, immediate_op_bits, shift_immediate_bits, shift_immediate_word_bits, register_op_bits, system_bits, csr_bits, csr_immediate_bits, mask_logic_bits, mask_to_scalar_bits, extend_bits, mask_unary_bits, binary_line, carry_out_line, compare_line, fixed_point_line, narrow_shift_line, clip_line, widen_line, wide_source_line, multiply_add_line, widen_multiply_add_line, reduce_line, widen_reduce_line, permute_line}
+use Rattle.rv_model.specs.lending.ListedBits.{Allowed, whole_move_bits, mask_memory_bits, unit_access_bits, strided_access_bits, indexed_access_bits, whole_load_bits, whole_store_bits, upper_bits, branch_bits, load_bits, store_bits, immediate_op_bits, shift_immediate_bits, shift_immediate_word_bits, register_op_bits, system_bits, csr_bits, csr_immediate_bits, mask_logic_bits, mask_to_scalar_bits, extend_bits, mask_unary_bits}
 use Rattle.rv_model.specs.instructions.Operations.{carry_line, has_form, line, line_bits, vector_ops}
 use Rattle.rv_model.specs.instructions.Layout.{parts, bits}
 use Rattle.std.specs.Prelude.{filter, flat_map}
@@ -141,155 +114,40 @@ find-step false o op rest h = inr h
 
 -- ---- each operation is found by its bits
 
-known_upper : (op : UpperOp) → find upper_bits upper_ops (upper_bits op) ≡ Some op
-unfolding find
-known_upper upper.Lui = refl
-known_upper _ = refl
-
-known_branch : (op : BranchOp) → find branch_bits branch_ops (branch_bits op) ≡ Some op
-unfolding find
-known_branch branch.Beq = refl
-known_branch _ = refl
-
-known_load : (op : LoadOp) → find load_bits load_ops (load_bits op) ≡ Some op
-unfolding find
-known_load load.Lb = refl
-known_load _ = refl
-
-known_store : (op : StoreOp) → find store_bits store_ops (store_bits op) ≡ Some op
-unfolding find
-known_store store.Sb = refl
-known_store _ = refl
-
-known_immediate_op : (op : ImmediateOp) → find immediate_op_bits immediate_ops (immediate_op_bits op) ≡ Some op
-unfolding find
-known_immediate_op immediate.Addi = refl
-known_immediate_op _ = refl
-
-known_shift_immediate : (op : ShiftImmediateOp) → find shift_immediate_bits shift_immediate_ops (shift_immediate_bits op) ≡ Some op
-unfolding find
-known_shift_immediate shift_immediate.Slli = refl
-known_shift_immediate _ = refl
-
-known_shift_immediate_word : (op : ShiftImmediateWordOp)
-    → find shift_immediate_word_bits shift_immediate_word_ops (shift_immediate_word_bits op) ≡ Some op
-unfolding find
-known_shift_immediate_word shift_immediate_word.Slliw = refl
-known_shift_immediate_word _ = refl
-
-known_register_op : (op : RegisterOp) → find register_op_bits register_ops (register_op_bits op) ≡ Some op
-unfolding find
-known_register_op register.Add = refl
-known_register_op _ = refl
-
-known_system : (op : SystemOp) → find system_bits system_ops (system_bits op) ≡ Some op
-unfolding find
-known_system system.Ecall = refl
-known_system _ = refl
-
-known_csr : (op : CsrOp) → find csr_bits csr_ops (csr_bits op) ≡ Some op
-unfolding find
-known_csr csr.Csrrw = refl
-known_csr _ = refl
-
-known_csr_immediate : (op : CsrImmediateOp)
-    → find csr_immediate_bits csr_immediate_ops (csr_immediate_bits op) ≡ Some op
-unfolding find
-known_csr_immediate csr_immediate.Csrrwi = refl
-known_csr_immediate _ = refl
-
-known_whole_move : (op : RegisterCount) → find whole_move_bits counts (whole_move_bits op) ≡ Some op
-unfolding find
-known_whole_move count.One = refl
-known_whole_move _ = refl
-
-known_mask_logic : (op : MaskLogicOp) → find mask_logic_bits mask_logic_ops (mask_logic_bits op) ≡ Some op
-unfolding find
-known_mask_logic mask_logic.Vmandn = refl
-known_mask_logic _ = refl
-
-known_mask_to_scalar : (op : MaskToScalarOp)
-    → find mask_to_scalar_bits mask_to_scalar_ops (mask_to_scalar_bits op) ≡ Some op
-unfolding find
-known_mask_to_scalar mask_to_scalar.Vcpop = refl
-known_mask_to_scalar _ = refl
-
-known_extend : (op : ExtendOp) → find extend_bits extend_ops (extend_bits op) ≡ Some op
-unfolding find
-known_extend extend.VzextVf8 = refl
-known_extend _ = refl
-
 known_mask_unary : (op : MaskUnaryOp) → find mask_unary_bits mask_unary_ops (mask_unary_bits op) ≡ Some op
 unfolding find
 known_mask_unary (mask_unary.Scan mask_scan.Vmsbf) = refl
 known_mask_unary (mask_unary.Scan _) = refl
 known_mask_unary mask_unary.Viota = refl
 
-known_whole_store : (op : RegisterCount) → find whole_store_bits counts (whole_store_bits op) ≡ Some op
-unfolding find
-known_whole_store count.One = refl
-known_whole_store _ = refl
-
-known_mask_memory : (op : Direction) → find mask_memory_bits directions (mask_memory_bits op) ≡ Some op
-unfolding find
-known_mask_memory direction.Load = refl
-known_mask_memory _ = refl
-
 known_unit : (op : UnitOp) (width : Eew)
     → find unit_access_bits unit_accesses (unit_access_bits (op, width)) ≡ Some (op, width)
 unfolding find
 known_unit unit.Load width.E8 = refl
 known_unit _ width.E8 = refl
-known_unit unit.Load width.E16 = refl
-known_unit _ width.E16 = refl
-known_unit unit.Load width.E32 = refl
-known_unit _ width.E32 = refl
-known_unit unit.Load width.E64 = refl
-known_unit _ width.E64 = refl
+known_unit _ _ = refl
 
 known_strided : (op : Direction) (width : Eew)
     → find strided_access_bits strided_accesses (strided_access_bits (op, width)) ≡ Some (op, width)
 unfolding find
 known_strided direction.Load width.E8 = refl
 known_strided _ width.E8 = refl
-known_strided direction.Load width.E16 = refl
-known_strided _ width.E16 = refl
-known_strided direction.Load width.E32 = refl
-known_strided _ width.E32 = refl
-known_strided direction.Load width.E64 = refl
-known_strided _ width.E64 = refl
+known_strided _ _ = refl
 
 known_whole_load : (op : RegisterCount) (width : Eew)
     → find whole_load_bits whole_loads (whole_load_bits (op, width)) ≡ Some (op, width)
 unfolding find
 known_whole_load count.One width.E8 = refl
 known_whole_load _ width.E8 = refl
-known_whole_load count.One width.E16 = refl
-known_whole_load _ width.E16 = refl
-known_whole_load count.One width.E32 = refl
-known_whole_load _ width.E32 = refl
-known_whole_load count.One width.E64 = refl
-known_whole_load _ width.E64 = refl
+known_whole_load _ _ = refl
 
 known_indexed : (direction : Direction) (order : Order) (width : Eew)
     → find indexed_access_bits indexed_accesses (indexed_access_bits ((direction, order), width)) ≡ Some ((direction, order), width)
 unfolding find
 known_indexed direction.Load order.Unordered width.E8 = refl
 known_indexed _ order.Unordered width.E8 = refl
-known_indexed direction.Load order.Unordered width.E16 = refl
-known_indexed _ order.Unordered width.E16 = refl
-known_indexed direction.Load order.Unordered width.E32 = refl
-known_indexed _ order.Unordered width.E32 = refl
-known_indexed direction.Load order.Unordered width.E64 = refl
-known_indexed _ order.Unordered width.E64 = refl
-known_indexed direction.Load order.Ordered width.E8 = refl
-known_indexed _ order.Ordered width.E8 = refl
-known_indexed direction.Load order.Ordered width.E16 = refl
-known_indexed _ order.Ordered width.E16 = refl
-known_indexed direction.Load order.Ordered width.E32 = refl
-known_indexed _ order.Ordered width.E32 = refl
-known_indexed direction.Load order.Ordered width.E64 = refl
-known_indexed _ order.Ordered width.E64 = refl
+known_indexed _ _ width.E8 = refl
+known_indexed _ _ _ = refl
 
 -- an operation with this line is found by the line's bits, in each form that it has
 abbrev IsKnown : VectorOp → Line → Form → Type 0
@@ -297,147 +155,54 @@ IsKnown op l f =
     cond (has_form l.forms f) (find (λ o. line_bits (line o) f) (filter (λ o. has_form (line o).forms f) vector_ops) (line_bits l f)) None
     ≡ cond (has_form l.forms f) (Some op) None
 
-known_binary : (op : BinaryOp) (f : Form) → IsKnown (vector_op.Binary op) (binary_line op) f
-unfolding find
-known_binary binary.Vadd form.V = refl
-known_binary _ form.V = refl
-known_binary binary.Vadd form.X = refl
-known_binary _ form.X = refl
-known_binary binary.Vadd form.I = refl
-known_binary _ form.I = refl
-
-known_carry_out : (op : CarryOutOp) (f : Form) → IsKnown (vector_op.CarryOut op) (carry_out_line op) f
-unfolding find
-known_carry_out carry_out.Vmadc form.V = refl
-known_carry_out _ form.V = refl
-known_carry_out carry_out.Vmadc form.X = refl
-known_carry_out _ form.X = refl
-known_carry_out carry_out.Vmadc form.I = refl
-known_carry_out _ form.I = refl
-
-known_compare : (op : CompareOp) (f : Form) → IsKnown (vector_op.Compare op) (compare_line op) f
-unfolding find
-known_compare compare.Vmseq form.V = refl
-known_compare _ form.V = refl
-known_compare compare.Vmseq form.X = refl
-known_compare _ form.X = refl
-known_compare compare.Vmseq form.I = refl
-known_compare _ form.I = refl
-
-known_fixed_point : (op : FixedPointOp) (f : Form) → IsKnown (vector_op.FixedPoint op) (fixed_point_line op) f
-unfolding find
-known_fixed_point fixed_point.Vsaddu form.V = refl
-known_fixed_point _ form.V = refl
-known_fixed_point fixed_point.Vsaddu form.X = refl
-known_fixed_point _ form.X = refl
-known_fixed_point fixed_point.Vsaddu form.I = refl
-known_fixed_point _ form.I = refl
-
-known_narrow_shift : (op : NarrowShiftOp) (f : Form) → IsKnown (vector_op.NarrowShift op) (narrow_shift_line op) f
-unfolding find
-known_narrow_shift narrow_shift.Vnsrl form.V = refl
-known_narrow_shift _ form.V = refl
-known_narrow_shift narrow_shift.Vnsrl form.X = refl
-known_narrow_shift _ form.X = refl
-known_narrow_shift narrow_shift.Vnsrl form.I = refl
-known_narrow_shift _ form.I = refl
-
-known_clip : (op : ClipOp) (f : Form) → IsKnown (vector_op.Clip op) (clip_line op) f
-unfolding find
-known_clip clip.Vnclipu form.V = refl
-known_clip _ form.V = refl
-known_clip clip.Vnclipu form.X = refl
-known_clip _ form.X = refl
-known_clip clip.Vnclipu form.I = refl
-known_clip _ form.I = refl
-
-known_widen : (op : WidenOp) (f : Form) → IsKnown (vector_op.Widen op) (widen_line op) f
-unfolding find
-known_widen widen.Vwaddu form.V = refl
-known_widen _ form.V = refl
-known_widen widen.Vwaddu form.X = refl
-known_widen _ form.X = refl
-known_widen widen.Vwaddu form.I = refl
-known_widen _ form.I = refl
-
-known_wide_source : (op : WideSourceOp) (f : Form) → IsKnown (vector_op.WideSource op) (wide_source_line op) f
-unfolding find
-known_wide_source wide_source.Vwaddu form.V = refl
-known_wide_source _ form.V = refl
-known_wide_source wide_source.Vwaddu form.X = refl
-known_wide_source _ form.X = refl
-known_wide_source wide_source.Vwaddu form.I = refl
-known_wide_source _ form.I = refl
-
-known_multiply_add : (op : MultiplyAddOp) (f : Form) → IsKnown (vector_op.MultiplyAdd op) (multiply_add_line op) f
-unfolding find
-known_multiply_add multiply_add.Vmadd form.V = refl
-known_multiply_add _ form.V = refl
-known_multiply_add multiply_add.Vmadd form.X = refl
-known_multiply_add _ form.X = refl
-known_multiply_add multiply_add.Vmadd form.I = refl
-known_multiply_add _ form.I = refl
-
-known_widen_multiply_add : (op : WidenMultiplyAddOp) (f : Form) → IsKnown (vector_op.WidenMultiplyAdd op) (widen_multiply_add_line op) f
-unfolding find
-known_widen_multiply_add widen_multiply_add.Vwmaccu form.V = refl
-known_widen_multiply_add _ form.V = refl
-known_widen_multiply_add widen_multiply_add.Vwmaccu form.X = refl
-known_widen_multiply_add _ form.X = refl
-known_widen_multiply_add widen_multiply_add.Vwmaccu form.I = refl
-known_widen_multiply_add _ form.I = refl
-
-known_reduce : (op : ReduceOp) (f : Form) → IsKnown (vector_op.Reduce op) (reduce_line op) f
-unfolding find
-known_reduce reduce.Vredsum form.V = refl
-known_reduce _ form.V = refl
-known_reduce reduce.Vredsum form.X = refl
-known_reduce _ form.X = refl
-known_reduce reduce.Vredsum form.I = refl
-known_reduce _ form.I = refl
-
-known_widen_reduce : (op : WidenReduceOp) (f : Form) → IsKnown (vector_op.WidenReduce op) (widen_reduce_line op) f
-unfolding find
-known_widen_reduce widen_reduce.Vwredsumu form.V = refl
-known_widen_reduce _ form.V = refl
-known_widen_reduce widen_reduce.Vwredsumu form.X = refl
-known_widen_reduce _ form.X = refl
-known_widen_reduce widen_reduce.Vwredsumu form.I = refl
-known_widen_reduce _ form.I = refl
-
-known_permute : (op : PermuteOp) (f : Form) → IsKnown (vector_op.Permute op) (permute_line op) f
-unfolding find
-known_permute permute.Vrgather form.V = refl
-known_permute _ form.V = refl
-known_permute permute.Vrgather form.X = refl
-known_permute _ form.X = refl
-known_permute permute.Vrgather form.I = refl
-known_permute _ form.I = refl
-
 known_carry : (op : CarryOp) (f : Form)
     → cond (has_form (carry_line op).forms f) (find (λ o. line_bits (carry_line o) f) (filter (λ o. has_form (carry_line o).forms f) carry_ops) (line_bits (carry_line op) f)) None ≡ cond (has_form (carry_line op).forms f) (Some op) None
 unfolding find
 known_carry carry.Vadc form.V = refl
 known_carry _ form.V = refl
-known_carry carry.Vadc form.X = refl
-known_carry _ form.X = refl
-known_carry carry.Vadc form.I = refl
-known_carry _ form.I = refl
+known_carry _ _ = refl
 
 known_vector : (op : VectorOp) (f : Form) → IsKnown op (line op) f
-known_vector (vector_op.Binary op) f = known_binary op f
-known_vector (vector_op.CarryOut op) f = known_carry_out op f
-known_vector (vector_op.Compare op) f = known_compare op f
-known_vector (vector_op.FixedPoint op) f = known_fixed_point op f
-known_vector (vector_op.NarrowShift op) f = known_narrow_shift op f
-known_vector (vector_op.Clip op) f = known_clip op f
-known_vector (vector_op.Widen op) f = known_widen op f
-known_vector (vector_op.WideSource op) f = known_wide_source op f
-known_vector (vector_op.MultiplyAdd op) f = known_multiply_add op f
-known_vector (vector_op.WidenMultiplyAdd op) f = known_widen_multiply_add op f
-known_vector (vector_op.Reduce op) f = known_reduce op f
-known_vector (vector_op.WidenReduce op) f = known_widen_reduce op f
-known_vector (vector_op.Permute op) f = known_permute op f
+unfolding find
+known_vector (vector_op.Binary binary.Vadd) form.V = refl
+known_vector (vector_op.Binary _) form.V = refl
+known_vector (vector_op.Binary _) _ = refl
+known_vector (vector_op.CarryOut carry_out.Vmadc) form.V = refl
+known_vector (vector_op.CarryOut _) form.V = refl
+known_vector (vector_op.CarryOut _) _ = refl
+known_vector (vector_op.Compare compare.Vmseq) form.V = refl
+known_vector (vector_op.Compare _) form.V = refl
+known_vector (vector_op.Compare _) _ = refl
+known_vector (vector_op.FixedPoint fixed_point.Vsaddu) form.V = refl
+known_vector (vector_op.FixedPoint _) form.V = refl
+known_vector (vector_op.FixedPoint _) _ = refl
+known_vector (vector_op.NarrowShift narrow_shift.Vnsrl) form.V = refl
+known_vector (vector_op.NarrowShift _) form.V = refl
+known_vector (vector_op.NarrowShift _) _ = refl
+known_vector (vector_op.Clip clip.Vnclipu) form.V = refl
+known_vector (vector_op.Clip _) form.V = refl
+known_vector (vector_op.Clip _) _ = refl
+known_vector (vector_op.Widen widen.Vwaddu) form.V = refl
+known_vector (vector_op.Widen _) form.V = refl
+known_vector (vector_op.Widen _) _ = refl
+known_vector (vector_op.WideSource wide_source.Vwaddu) form.V = refl
+known_vector (vector_op.WideSource _) form.V = refl
+known_vector (vector_op.WideSource _) _ = refl
+known_vector (vector_op.MultiplyAdd multiply_add.Vmadd) form.V = refl
+known_vector (vector_op.MultiplyAdd _) form.V = refl
+known_vector (vector_op.MultiplyAdd _) _ = refl
+known_vector (vector_op.WidenMultiplyAdd widen_multiply_add.Vwmaccu) form.V = refl
+known_vector (vector_op.WidenMultiplyAdd _) form.V = refl
+known_vector (vector_op.WidenMultiplyAdd _) _ = refl
+known_vector (vector_op.Reduce reduce.Vredsum) form.V = refl
+known_vector (vector_op.Reduce _) form.V = refl
+known_vector (vector_op.Reduce _) _ = refl
+known_vector (vector_op.WidenReduce widen_reduce.Vwredsumu) form.V = refl
+known_vector (vector_op.WidenReduce _) form.V = refl
+known_vector (vector_op.WidenReduce _) _ = refl
+known_vector (vector_op.Permute permute.Vrgather) form.V = refl
+known_vector (vector_op.Permute _) form.V = refl
+known_vector (vector_op.Permute _) _ = refl
 
 cond-same : {A : Type 0} (b : Bool) (x y z : A) → cond b x z ≡ cond b y z → b ≡ true → x ≡ y
 cond-same true x y z h t = h
@@ -464,35 +229,32 @@ listed_at : {A : Type 0} (k : ℕ) (code : A → ℕ) (t : A → Instr) (ops : L
 listed_at k code t ops op known same =
     in_table k (row_of (t op)) (subst (λ g. In (row_of (t op)) (map row_of g)) (sym same) (in_rows code t ops op (code op) known))
 
+-- in the list of one form
+in_form : {A : Type 0} (line_of : A → Line) (t : Form → A → Instr) (all : List A) (f : Form) (k : ℕ) (op : A)
+    → cond (has_form (line_of op).forms f) (find (λ o. line_bits (line_of o) f) (filter (λ o. has_form (line_of o).forms f) all) (line_bits (line_of op) f)) None
+    ≡ cond (has_form (line_of op).forms f) (Some op) None
+    → has_form (line_of op).forms f ≡ true → at_place groups k ≡ map (t f) (filter (λ o. has_form (line_of o).forms f) all)
+    → In (row_of (t f op)) table
+in_form line_of t all f k op known h same =
+    listed_at k (λ o. line_bits (line_of o) f) (t f) (filter (λ o. has_form (line_of o).forms f) all) op (cond-same (has_form (line_of op).forms f) _ _ _ known h) same
+
+abbrev arith_of : Form → VectorOp → Instr
+arith_of f op = instr.Vector (Arith (op, source_of f 0) 0 0 true)
+
 listed_arith : (op : VectorOp) (s : Source) (vd vs2 : ℕ) (vm : Bool) → has_form (line op).forms (form_of s) ≡ true
     → In (row_of (instr.Vector (Arith (op, s) vd vs2 vm))) table
-listed_arith op (source.V n) vd vs2 vm h =
-    let ops : List VectorOp = filter (λ o. has_form (line o).forms form.V) vector_ops in
-    let is : find (λ o. line_bits (line o) form.V) ops (line_bits (line op) form.V) ≡ Some op = cond-same (has_form (line op).forms form.V) (find (λ o. line_bits (line o) form.V) ops (line_bits (line op) form.V)) (Some op) None (known_vector op form.V) h in
-    in_table 17 (row_of (instr.Vector (Arith (op, source.V 0) 0 0 true))) (in_rows (λ o. line_bits (line o) form.V) (λ o. instr.Vector (Arith (o, source.V 0) 0 0 true)) ops op (line_bits (line op) form.V) is)
-listed_arith op (source.X n) vd vs2 vm h =
-    let ops : List VectorOp = filter (λ o. has_form (line o).forms form.X) vector_ops in
-    let is : find (λ o. line_bits (line o) form.X) ops (line_bits (line op) form.X) ≡ Some op = cond-same (has_form (line op).forms form.X) (find (λ o. line_bits (line o) form.X) ops (line_bits (line op) form.X)) (Some op) None (known_vector op form.X) h in
-    in_table 18 (row_of (instr.Vector (Arith (op, source.X 0) 0 0 true))) (in_rows (λ o. line_bits (line o) form.X) (λ o. instr.Vector (Arith (o, source.X 0) 0 0 true)) ops op (line_bits (line op) form.X) is)
-listed_arith op (source.I n) vd vs2 vm h =
-    let ops : List VectorOp = filter (λ o. has_form (line o).forms form.I) vector_ops in
-    let is : find (λ o. line_bits (line o) form.I) ops (line_bits (line op) form.I) ≡ Some op = cond-same (has_form (line op).forms form.I) (find (λ o. line_bits (line o) form.I) ops (line_bits (line op) form.I)) (Some op) None (known_vector op form.I) h in
-    in_table 19 (row_of (instr.Vector (Arith (op, source.I 0) 0 0 true))) (in_rows (λ o. line_bits (line o) form.I) (λ o. instr.Vector (Arith (o, source.I 0) 0 0 true)) ops op (line_bits (line op) form.I) is)
+listed_arith op (source.V n) vd vs2 vm h = in_form line arith_of vector_ops form.V 17 op (known_vector op form.V) h refl
+listed_arith op (source.X n) vd vs2 vm h = in_form line arith_of vector_ops form.X 18 op (known_vector op form.X) h refl
+listed_arith op (source.I n) vd vs2 vm h = in_form line arith_of vector_ops form.I 19 op (known_vector op form.I) h refl
+
+abbrev carry_of : Form → CarryOp → Instr
+carry_of f op = instr.Vector (Carry (op, source_of f 0) 0 0)
 
 listed_carry : (op : CarryOp) (s : Source) (vd vs2 : ℕ) → has_form (carry_line op).forms (form_of s) ≡ true
     → In (row_of (instr.Vector (Carry (op, s) vd vs2))) table
-listed_carry op (source.V n) vd vs2 h =
-    let ops : List CarryOp = filter (λ o. has_form (carry_line o).forms form.V) carry_ops in
-    let is : find (λ o. line_bits (carry_line o) form.V) ops (line_bits (carry_line op) form.V) ≡ Some op = cond-same (has_form (carry_line op).forms form.V) (find (λ o. line_bits (carry_line o) form.V) ops (line_bits (carry_line op) form.V)) (Some op) None (known_carry op form.V) h in
-    in_table 20 (row_of (instr.Vector (Carry (op, source.V 0) 0 0))) (in_rows (λ o. line_bits (carry_line o) form.V) (λ o. instr.Vector (Carry (o, source.V 0) 0 0)) ops op (line_bits (carry_line op) form.V) is)
-listed_carry op (source.X n) vd vs2 h =
-    let ops : List CarryOp = filter (λ o. has_form (carry_line o).forms form.X) carry_ops in
-    let is : find (λ o. line_bits (carry_line o) form.X) ops (line_bits (carry_line op) form.X) ≡ Some op = cond-same (has_form (carry_line op).forms form.X) (find (λ o. line_bits (carry_line o) form.X) ops (line_bits (carry_line op) form.X)) (Some op) None (known_carry op form.X) h in
-    in_table 21 (row_of (instr.Vector (Carry (op, source.X 0) 0 0))) (in_rows (λ o. line_bits (carry_line o) form.X) (λ o. instr.Vector (Carry (o, source.X 0) 0 0)) ops op (line_bits (carry_line op) form.X) is)
-listed_carry op (source.I n) vd vs2 h =
-    let ops : List CarryOp = filter (λ o. has_form (carry_line o).forms form.I) carry_ops in
-    let is : find (λ o. line_bits (carry_line o) form.I) ops (line_bits (carry_line op) form.I) ≡ Some op = cond-same (has_form (carry_line op).forms form.I) (find (λ o. line_bits (carry_line o) form.I) ops (line_bits (carry_line op) form.I)) (Some op) None (known_carry op form.I) h in
-    in_table 22 (row_of (instr.Vector (Carry (op, source.I 0) 0 0))) (in_rows (λ o. line_bits (carry_line o) form.I) (λ o. instr.Vector (Carry (o, source.I 0) 0 0)) ops op (line_bits (carry_line op) form.I) is)
+listed_carry op (source.V n) vd vs2 h = in_form carry_line carry_of carry_ops form.V 20 op (known_carry op form.V) h refl
+listed_carry op (source.X n) vd vs2 h = in_form carry_line carry_of carry_ops form.X 21 op (known_carry op form.X) h refl
+listed_carry op (source.I n) vd vs2 h = in_form carry_line carry_of carry_ops form.I 22 op (known_carry op form.I) h refl
 
 listed_move : (s : Source) (vd : ℕ) → In (row_of (instr.Vector (Move s vd))) table
 listed_move (source.V n) vd = in_table 23 (row_of (instr.Vector (Move (source.V 0) 0))) (inl refl)
@@ -501,39 +263,47 @@ listed_move (source.I n) vd = in_table 25 (row_of (instr.Vector (Move (source.I 
 
 -- an instruction's row is in the table
 pub listed : (i : Instr) → Allowed i → In (row_of i) table
-listed (instr.Scalar (Upper op rd imm)) h = listed_at 0 upper_bits (λ op. instr.Scalar (Upper op 0 0)) upper_ops op (known_upper op) refl
+unfolding find
+listed (instr.Scalar (Upper upper.Lui rd imm)) h = listed_at 0 upper_bits (λ op. instr.Scalar (Upper op 0 0)) upper_ops upper.Lui refl refl
+listed (instr.Scalar (Upper op rd imm)) h = listed_at 0 upper_bits (λ op. instr.Scalar (Upper op 0 0)) upper_ops op refl refl
 listed (instr.Scalar (Jump rd imm)) h = in_table 1 (row_of (instr.Scalar (Jump 0 0))) (inl refl)
 listed (instr.Scalar (JumpRegister rd rs1 imm)) h = in_table 2 (row_of (instr.Scalar (JumpRegister 0 0 0))) (inl refl)
-listed (instr.Scalar (Branch op rs1 rs2 imm)) h =
-    listed_at 3 branch_bits (λ op. instr.Scalar (Branch op 0 0 0)) branch_ops op (known_branch op) refl
-listed (instr.Scalar (Load op rd rs1 imm)) h = listed_at 4 load_bits (λ op. instr.Scalar (Load op 0 0 0)) load_ops op (known_load op) refl
-listed (instr.Scalar (Store op rs1 rs2 imm)) h = listed_at 5 store_bits (λ op. instr.Scalar (Store op 0 0 0)) store_ops op (known_store op) refl
-listed (instr.Scalar (RegisterImmediate op rd rs1 imm)) h = listed_at 6 immediate_op_bits (λ op. instr.Scalar (RegisterImmediate op 0 0 0)) immediate_ops op (known_immediate_op op) refl
-listed (instr.Scalar (ShiftImmediate op rd rs1 shamt)) h =
-    listed_at 7 shift_immediate_bits (λ op. instr.Scalar (ShiftImmediate op 0 0 0)) shift_immediate_ops op (known_shift_immediate op) refl
-listed (instr.Scalar (ShiftImmediateWord op rd rs1 shamt)) h =
-    listed_at 8 shift_immediate_word_bits (λ op. instr.Scalar (ShiftImmediateWord op 0 0 0)) shift_immediate_word_ops op (known_shift_immediate_word op) refl
-listed (instr.Scalar (RegisterRegister op rd rs1 rs2)) h = listed_at 9 register_op_bits (λ op. instr.Scalar (RegisterRegister op 0 0 0)) register_ops op (known_register_op op) refl
+listed (instr.Scalar (Branch branch.Beq rs1 rs2 imm)) h = listed_at 3 branch_bits (λ op. instr.Scalar (Branch op 0 0 0)) branch_ops branch.Beq refl refl
+listed (instr.Scalar (Branch op rs1 rs2 imm)) h = listed_at 3 branch_bits (λ op. instr.Scalar (Branch op 0 0 0)) branch_ops op refl refl
+listed (instr.Scalar (Load load.Lb rd rs1 imm)) h = listed_at 4 load_bits (λ op. instr.Scalar (Load op 0 0 0)) load_ops load.Lb refl refl
+listed (instr.Scalar (Load op rd rs1 imm)) h = listed_at 4 load_bits (λ op. instr.Scalar (Load op 0 0 0)) load_ops op refl refl
+listed (instr.Scalar (Store store.Sb rs1 rs2 imm)) h = listed_at 5 store_bits (λ op. instr.Scalar (Store op 0 0 0)) store_ops store.Sb refl refl
+listed (instr.Scalar (Store op rs1 rs2 imm)) h = listed_at 5 store_bits (λ op. instr.Scalar (Store op 0 0 0)) store_ops op refl refl
+listed (instr.Scalar (RegisterImmediate immediate.Addi rd rs1 imm)) h = listed_at 6 immediate_op_bits (λ op. instr.Scalar (RegisterImmediate op 0 0 0)) immediate_ops immediate.Addi refl refl
+listed (instr.Scalar (RegisterImmediate op rd rs1 imm)) h = listed_at 6 immediate_op_bits (λ op. instr.Scalar (RegisterImmediate op 0 0 0)) immediate_ops op refl refl
+listed (instr.Scalar (ShiftImmediate shift_immediate.Slli rd rs1 shamt)) h = listed_at 7 shift_immediate_bits (λ op. instr.Scalar (ShiftImmediate op 0 0 0)) shift_immediate_ops shift_immediate.Slli refl refl
+listed (instr.Scalar (ShiftImmediate op rd rs1 shamt)) h = listed_at 7 shift_immediate_bits (λ op. instr.Scalar (ShiftImmediate op 0 0 0)) shift_immediate_ops op refl refl
+listed (instr.Scalar (ShiftImmediateWord shift_immediate_word.Slliw rd rs1 shamt)) h = listed_at 8 shift_immediate_word_bits (λ op. instr.Scalar (ShiftImmediateWord op 0 0 0)) shift_immediate_word_ops shift_immediate_word.Slliw refl refl
+listed (instr.Scalar (ShiftImmediateWord op rd rs1 shamt)) h = listed_at 8 shift_immediate_word_bits (λ op. instr.Scalar (ShiftImmediateWord op 0 0 0)) shift_immediate_word_ops op refl refl
+listed (instr.Scalar (RegisterRegister register.Add rd rs1 rs2)) h = listed_at 9 register_op_bits (λ op. instr.Scalar (RegisterRegister op 0 0 0)) register_ops register.Add refl refl
+listed (instr.Scalar (RegisterRegister op rd rs1 rs2)) h = listed_at 9 register_op_bits (λ op. instr.Scalar (RegisterRegister op 0 0 0)) register_ops op refl refl
 listed (instr.Scalar (Fence rd rs1 ordering)) h = in_table 10 (row_of (instr.Scalar (Fence 0 0 0))) (inl refl)
-listed (instr.Scalar (System op)) h = listed_at 11 system_bits (λ op. instr.Scalar (System op)) system_ops op (known_system op) refl
-listed (instr.Csr (Register op rd rs1 csr)) h = listed_at 12 csr_bits (λ op. instr.Csr (Register op 0 0 0)) csr_ops op (known_csr op) refl
-listed (instr.Csr (Immediate op rd imm csr)) h =
-    listed_at 13 csr_immediate_bits (λ op. instr.Csr (Immediate op 0 0 0)) csr_immediate_ops op (known_csr_immediate op) refl
+listed (instr.Scalar (System system.Ecall)) h = listed_at 11 system_bits (λ op. instr.Scalar (System op)) system_ops system.Ecall refl refl
+listed (instr.Scalar (System op)) h = listed_at 11 system_bits (λ op. instr.Scalar (System op)) system_ops op refl refl
+listed (instr.Csr (Register csr.Csrrw rd rs1 number)) h = listed_at 12 csr_bits (λ op. instr.Csr (Register op 0 0 0)) csr_ops csr.Csrrw refl refl
+listed (instr.Csr (Register op rd rs1 csr)) h = listed_at 12 csr_bits (λ op. instr.Csr (Register op 0 0 0)) csr_ops op refl refl
+listed (instr.Csr (Immediate csr_immediate.Csrrwi rd imm csr)) h = listed_at 13 csr_immediate_bits (λ op. instr.Csr (Immediate op 0 0 0)) csr_immediate_ops csr_immediate.Csrrwi refl refl
+listed (instr.Csr (Immediate op rd imm csr)) h = listed_at 13 csr_immediate_bits (λ op. instr.Csr (Immediate op 0 0 0)) csr_immediate_ops op refl refl
 listed (instr.Vector (SetVli rd rs1 vtype)) h = in_table 14 (row_of (instr.Vector (SetVli 0 0 0))) (inl refl)
 listed (instr.Vector (SetIvli rd avl vtype)) h = in_table 15 (row_of (instr.Vector (SetIvli 0 0 0))) (inl refl)
 listed (instr.Vector (SetVl rd rs1 rs2)) h = in_table 16 (row_of (instr.Vector (SetVl 0 0 0))) (inl refl)
 listed (instr.Vector (Arith arith vd vs2 vm)) h = listed_arith arith.0 arith.1 vd vs2 vm h
 listed (instr.Vector (Carry carry vd vs2)) h = listed_carry carry.0 carry.1 vd vs2 h
 listed (instr.Vector (Move source vd)) h = listed_move source vd
-listed (instr.Vector (WholeMove count vd vs2)) h =
-    listed_at 26 whole_move_bits (λ op. instr.Vector (WholeMove op 0 0)) counts count (known_whole_move count) refl
-listed (instr.Vector (MaskLogic op vd vs1 vs2)) h =
-    listed_at 27 mask_logic_bits (λ op. instr.Vector (MaskLogic op 0 0 0)) mask_logic_ops op (known_mask_logic op) refl
+listed (instr.Vector (WholeMove count.One vd vs2)) h = listed_at 26 whole_move_bits (λ op. instr.Vector (WholeMove op 0 0)) counts count.One refl refl
+listed (instr.Vector (WholeMove count vd vs2)) h = listed_at 26 whole_move_bits (λ op. instr.Vector (WholeMove op 0 0)) counts count refl refl
+listed (instr.Vector (MaskLogic mask_logic.Vmandn vd vs1 vs2)) h = listed_at 27 mask_logic_bits (λ op. instr.Vector (MaskLogic op 0 0 0)) mask_logic_ops mask_logic.Vmandn refl refl
+listed (instr.Vector (MaskLogic op vd vs1 vs2)) h = listed_at 27 mask_logic_bits (λ op. instr.Vector (MaskLogic op 0 0 0)) mask_logic_ops op refl refl
 listed (instr.Vector (Compress vd vs1 vs2)) h = in_table 28 (row_of (instr.Vector (Compress 0 0 0))) (inl refl)
-listed (instr.Vector (MaskToScalar op rd vs2 vm)) h =
-    listed_at 29 mask_to_scalar_bits (λ op. instr.Vector (MaskToScalar op 0 0 true)) mask_to_scalar_ops op (known_mask_to_scalar op) refl
-listed (instr.Vector (Extend op vd vs2 vm)) h =
-    listed_at 30 extend_bits (λ op. instr.Vector (Extend op 0 0 true)) extend_ops op (known_extend op) refl
+listed (instr.Vector (MaskToScalar mask_to_scalar.Vcpop rd vs2 vm)) h = listed_at 29 mask_to_scalar_bits (λ op. instr.Vector (MaskToScalar op 0 0 true)) mask_to_scalar_ops mask_to_scalar.Vcpop refl refl
+listed (instr.Vector (MaskToScalar op rd vs2 vm)) h = listed_at 29 mask_to_scalar_bits (λ op. instr.Vector (MaskToScalar op 0 0 true)) mask_to_scalar_ops op refl refl
+listed (instr.Vector (Extend extend.VzextVf8 vd vs2 vm)) h = listed_at 30 extend_bits (λ op. instr.Vector (Extend op 0 0 true)) extend_ops extend.VzextVf8 refl refl
+listed (instr.Vector (Extend op vd vs2 vm)) h = listed_at 30 extend_bits (λ op. instr.Vector (Extend op 0 0 true)) extend_ops op refl refl
 listed (instr.Vector (MaskUnary op vd vs2 vm)) h =
     listed_at 31 mask_unary_bits (λ op. instr.Vector (MaskUnary op 0 0 true)) mask_unary_ops op (known_mask_unary op) refl
 listed (instr.Vector (ElementIndex vd vm)) h = in_table 32 (row_of (instr.Vector (ElementIndex 0 true))) (inl refl)
@@ -547,10 +317,10 @@ listed (instr.Access (Indexed direction order width nf vd rs1 vs2 vm)) h =
     listed_at 37 indexed_access_bits (λ op. instr.Access (Indexed op.0.0 op.0.1 op.1 0 0 0 0 true)) indexed_accesses ((direction, order), width) (known_indexed direction order width) refl
 listed (instr.Access (WholeLoad count width vd rs1)) h =
     listed_at 38 whole_load_bits (λ op. instr.Access (WholeLoad op.0 op.1 0 0)) whole_loads (count, width) (known_whole_load count width) refl
-listed (instr.Access (WholeStore count vd rs1)) h =
-    listed_at 39 whole_store_bits (λ op. instr.Access (WholeStore op 0 0)) counts count (known_whole_store count) refl
-listed (instr.Access (MaskAccess direction vd rs1)) h =
-    listed_at 40 mask_memory_bits (λ op. instr.Access (MaskAccess op 0 0)) directions direction (known_mask_memory direction) refl
+listed (instr.Access (WholeStore count.One vd rs1)) h = listed_at 39 whole_store_bits (λ op. instr.Access (WholeStore op 0 0)) counts count.One refl refl
+listed (instr.Access (WholeStore count vd rs1)) h = listed_at 39 whole_store_bits (λ op. instr.Access (WholeStore op 0 0)) counts count refl refl
+listed (instr.Access (MaskAccess direction.Load vd rs1)) h = listed_at 40 mask_memory_bits (λ op. instr.Access (MaskAccess op 0 0)) directions direction.Load refl refl
+listed (instr.Access (MaskAccess direction vd rs1)) h = listed_at 40 mask_memory_bits (λ op. instr.Access (MaskAccess op 0 0)) directions direction refl refl
 
 pub inside : (i : Instr) → Allowed i → bit_and (bits i) (fixed (parts i)) ≡ bits i
 inside i ok =

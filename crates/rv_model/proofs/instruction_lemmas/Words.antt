@@ -102,81 +102,38 @@ jump-join n = omega arith
 -- what the word's parts are
 pub filled_parts : (t : Instr) (w : ℕ) → parts (filled t w) ≡ of_word w (parts t)
 filled_parts (instr.Scalar (Upper op rd imm)) w = refl
-filled_parts (instr.Scalar (Jump rd imm)) w =
-    let j : JumpPieces (field 21 10 w) (field 20 1 w) (field 12 8 w) (field 31 1 w) = jump_of w in rw (j.bit20, j.bits10_1, j.bit11, j.bits19_12) refl
-filled_parts (instr.Scalar (JumpRegister rd rs1 imm)) w = refl
-filled_parts (instr.Scalar (Branch op rs1 rs2 imm)) w =
-    let b : BranchPieces (field 8 4 w) (field 25 6 w) (field 7 1 w) (field 31 1 w) = branch_of w in rw (b.bit12, b.bits10_5, b.bits4_1, b.bit11) refl
-filled_parts (instr.Scalar (Load op rd rs1 imm)) w = refl
+filled_parts (instr.Scalar (Jump rd imm)) w = let j : JumpPieces (field 21 10 w) (field 20 1 w) (field 12 8 w) (field 31 1 w) = jump_of w in rw (j.bit20, j.bits10_1, j.bit11, j.bits19_12) refl
+filled_parts (instr.Scalar (Branch op rs1 rs2 imm)) w = let b : BranchPieces (field 8 4 w) (field 25 6 w) (field 7 1 w) (field 31 1 w) = branch_of w in rw (b.bit12, b.bits10_5, b.bits4_1, b.bit11) refl
 filled_parts (instr.Scalar (Store op rs1 rs2 imm)) w = rw (store-high w, store-low w) refl
-filled_parts (instr.Scalar (RegisterImmediate op rd rs1 imm)) w = refl
-filled_parts (instr.Scalar (ShiftImmediate op rd rs1 shamt)) w = refl
-filled_parts (instr.Scalar (ShiftImmediateWord op rd rs1 shamt)) w = refl
-filled_parts (instr.Scalar (RegisterRegister op rd rs1 rs2)) w = refl
-filled_parts (instr.Scalar (Fence rd rs1 ordering)) w = refl
-filled_parts (instr.Scalar (System op)) w = refl
+filled_parts (instr.Scalar _) w = refl
 filled_parts (instr.Csr (Register op rd rs1 csr)) w = refl
-filled_parts (instr.Csr (Immediate op rd imm csr)) w = refl
-filled_parts (instr.Vector (SetVli rd rs1 vtype)) w = refl
-filled_parts (instr.Vector (SetIvli rd avl vtype)) w = refl
-filled_parts (instr.Vector (SetVl rd rs1 rs2)) w = refl
-filled_parts (instr.Vector (Arith arith vd vs2 vm)) w =
-    rw (flag_back w, number-source_of (form_of arith.1) (field 15 5 w)) refl
+filled_parts (instr.Csr _) w = refl
+filled_parts (instr.Vector (Arith arith vd vs2 vm)) w = rw (flag_back w, number-source_of (form_of arith.1) (field 15 5 w)) refl
 filled_parts (instr.Vector (Carry carry vd vs2)) w = rw (number-source_of (form_of carry.1) (field 15 5 w)) refl
 filled_parts (instr.Vector (Move source vd)) w = rw (number-source_of (form_of source) (field 15 5 w)) refl
-filled_parts (instr.Vector (WholeMove count vd vs2)) w = refl
-filled_parts (instr.Vector (MaskLogic op vd vs1 vs2)) w = refl
-filled_parts (instr.Vector (Compress vd vs1 vs2)) w = refl
 filled_parts (instr.Vector (MaskToScalar op rd vs2 vm)) w = rw (flag_back w) refl
 filled_parts (instr.Vector (Extend op vd vs2 vm)) w = rw (flag_back w) refl
 filled_parts (instr.Vector (MaskUnary op vd vs2 vm)) w = rw (flag_back w) refl
 filled_parts (instr.Vector (ElementIndex vd vm)) w = rw (flag_back w) refl
-filled_parts (instr.Vector (MoveToScalar rd vs2)) w = refl
-filled_parts (instr.Vector (MoveToVector vd rs1)) w = refl
+filled_parts (instr.Vector _) w = refl
 filled_parts (instr.Access (UnitStride op width nf vd rs1 vm)) w = rw (flag_back w) refl
 filled_parts (instr.Access (Strided direction width nf vd rs1 rs2 vm)) w = rw (flag_back w) refl
 filled_parts (instr.Access (Indexed direction order width nf vd rs1 vs2 vm)) w = rw (flag_back w) refl
-filled_parts (instr.Access (WholeLoad count width vd rs1)) w = refl
-filled_parts (instr.Access (WholeStore count vd rs1)) w = refl
-filled_parts (instr.Access (MaskAccess direction vd rs1)) w = refl
+filled_parts (instr.Access _) w = refl
 
 -- and its other bits
 pub filled_bits : (t : Instr) (w : ℕ) → bits (filled t w) ≡ bits t
 filled_bits (instr.Scalar (Upper op rd imm)) w = refl
-filled_bits (instr.Scalar (Jump rd imm)) w = refl
-filled_bits (instr.Scalar (JumpRegister rd rs1 imm)) w = refl
-filled_bits (instr.Scalar (Branch op rs1 rs2 imm)) w = refl
-filled_bits (instr.Scalar (Load op rd rs1 imm)) w = refl
-filled_bits (instr.Scalar (Store op rs1 rs2 imm)) w = refl
-filled_bits (instr.Scalar (RegisterImmediate op rd rs1 imm)) w = refl
-filled_bits (instr.Scalar (ShiftImmediate op rd rs1 shamt)) w = refl
-filled_bits (instr.Scalar (ShiftImmediateWord op rd rs1 shamt)) w = refl
-filled_bits (instr.Scalar (RegisterRegister op rd rs1 rs2)) w = refl
-filled_bits (instr.Scalar (Fence rd rs1 ordering)) w = refl
-filled_bits (instr.Scalar (System op)) w = refl
+filled_bits (instr.Scalar _) w = refl
 filled_bits (instr.Csr (Register op rd rs1 csr)) w = refl
-filled_bits (instr.Csr (Immediate op rd imm csr)) w = refl
+filled_bits (instr.Csr _) w = refl
 filled_bits (instr.Vector (SetVli rd rs1 vtype)) w = refl
-filled_bits (instr.Vector (SetIvli rd avl vtype)) w = refl
-filled_bits (instr.Vector (SetVl rd rs1 rs2)) w = refl
 filled_bits (instr.Vector (Arith arith vd vs2 vm)) w = rw (form_source_of (form_of arith.1) (field 15 5 w)) refl
 filled_bits (instr.Vector (Carry carry vd vs2)) w = rw (form_source_of (form_of carry.1) (field 15 5 w)) refl
 filled_bits (instr.Vector (Move source vd)) w = rw (form_source_of (form_of source) (field 15 5 w)) refl
-filled_bits (instr.Vector (WholeMove count vd vs2)) w = refl
-filled_bits (instr.Vector (MaskLogic op vd vs1 vs2)) w = refl
-filled_bits (instr.Vector (Compress vd vs1 vs2)) w = refl
-filled_bits (instr.Vector (MaskToScalar op rd vs2 vm)) w = refl
-filled_bits (instr.Vector (Extend op vd vs2 vm)) w = refl
-filled_bits (instr.Vector (MaskUnary op vd vs2 vm)) w = refl
-filled_bits (instr.Vector (ElementIndex vd vm)) w = refl
-filled_bits (instr.Vector (MoveToScalar rd vs2)) w = refl
-filled_bits (instr.Vector (MoveToVector vd rs1)) w = refl
+filled_bits (instr.Vector _) w = refl
 filled_bits (instr.Access (UnitStride op width nf vd rs1 vm)) w = refl
-filled_bits (instr.Access (Strided direction width nf vd rs1 rs2 vm)) w = refl
-filled_bits (instr.Access (Indexed direction order width nf vd rs1 vs2 vm)) w = refl
-filled_bits (instr.Access (WholeLoad count width vd rs1)) w = refl
-filled_bits (instr.Access (WholeStore count vd rs1)) w = refl
-filled_bits (instr.Access (MaskAccess direction vd rs1)) w = refl
+filled_bits (instr.Access _) w = refl
 
 -- an instruction is what a word with its parts gives
 pub refilled : (i : Instr) (w : ℕ) → Reads w (parts i) → filled i w ≡ i
@@ -229,37 +186,10 @@ pub record Laid (ps : List Part) : Type 0 where
 -- each instruction does
 pub laid : (i : Instr) → Laid (parts i)
 laid (instr.Scalar (Upper op rd imm)) = record { apart = refl; clear = refl; whole = refl }
-laid (instr.Scalar (Jump rd imm)) = record { apart = refl; clear = refl; whole = refl }
-laid (instr.Scalar (JumpRegister rd rs1 imm)) = record { apart = refl; clear = refl; whole = refl }
-laid (instr.Scalar (Branch op rs1 rs2 imm)) = record { apart = refl; clear = refl; whole = refl }
-laid (instr.Scalar (Load op rd rs1 imm)) = record { apart = refl; clear = refl; whole = refl }
-laid (instr.Scalar (Store op rs1 rs2 imm)) = record { apart = refl; clear = refl; whole = refl }
-laid (instr.Scalar (RegisterImmediate op rd rs1 imm)) = record { apart = refl; clear = refl; whole = refl }
-laid (instr.Scalar (ShiftImmediate op rd rs1 shamt)) = record { apart = refl; clear = refl; whole = refl }
-laid (instr.Scalar (ShiftImmediateWord op rd rs1 shamt)) = record { apart = refl; clear = refl; whole = refl }
-laid (instr.Scalar (RegisterRegister op rd rs1 rs2)) = record { apart = refl; clear = refl; whole = refl }
-laid (instr.Scalar (Fence rd rs1 ordering)) = record { apart = refl; clear = refl; whole = refl }
-laid (instr.Scalar (System op)) = record { apart = refl; clear = refl; whole = refl }
+laid (instr.Scalar _) = record { apart = refl; clear = refl; whole = refl }
 laid (instr.Csr (Register op rd rs1 csr)) = record { apart = refl; clear = refl; whole = refl }
-laid (instr.Csr (Immediate op rd imm csr)) = record { apart = refl; clear = refl; whole = refl }
+laid (instr.Csr _) = record { apart = refl; clear = refl; whole = refl }
 laid (instr.Vector (SetVli rd rs1 vtype)) = record { apart = refl; clear = refl; whole = refl }
-laid (instr.Vector (SetIvli rd avl vtype)) = record { apart = refl; clear = refl; whole = refl }
-laid (instr.Vector (SetVl rd rs1 rs2)) = record { apart = refl; clear = refl; whole = refl }
-laid (instr.Vector (Arith arith vd vs2 vm)) = record { apart = refl; clear = refl; whole = refl }
-laid (instr.Vector (Carry carry vd vs2)) = record { apart = refl; clear = refl; whole = refl }
-laid (instr.Vector (Move source vd)) = record { apart = refl; clear = refl; whole = refl }
-laid (instr.Vector (WholeMove count vd vs2)) = record { apart = refl; clear = refl; whole = refl }
-laid (instr.Vector (MaskLogic op vd vs1 vs2)) = record { apart = refl; clear = refl; whole = refl }
-laid (instr.Vector (Compress vd vs1 vs2)) = record { apart = refl; clear = refl; whole = refl }
-laid (instr.Vector (MaskToScalar op rd vs2 vm)) = record { apart = refl; clear = refl; whole = refl }
-laid (instr.Vector (Extend op vd vs2 vm)) = record { apart = refl; clear = refl; whole = refl }
-laid (instr.Vector (MaskUnary op vd vs2 vm)) = record { apart = refl; clear = refl; whole = refl }
-laid (instr.Vector (ElementIndex vd vm)) = record { apart = refl; clear = refl; whole = refl }
-laid (instr.Vector (MoveToScalar rd vs2)) = record { apart = refl; clear = refl; whole = refl }
-laid (instr.Vector (MoveToVector vd rs1)) = record { apart = refl; clear = refl; whole = refl }
+laid (instr.Vector _) = record { apart = refl; clear = refl; whole = refl }
 laid (instr.Access (UnitStride op width nf vd rs1 vm)) = record { apart = refl; clear = refl; whole = refl }
-laid (instr.Access (Strided direction width nf vd rs1 rs2 vm)) = record { apart = refl; clear = refl; whole = refl }
-laid (instr.Access (Indexed direction order width nf vd rs1 vs2 vm)) = record { apart = refl; clear = refl; whole = refl }
-laid (instr.Access (WholeLoad count width vd rs1)) = record { apart = refl; clear = refl; whole = refl }
-laid (instr.Access (WholeStore count vd rs1)) = record { apart = refl; clear = refl; whole = refl }
-laid (instr.Access (MaskAccess direction vd rs1)) = record { apart = refl; clear = refl; whole = refl }
+laid (instr.Access _) = record { apart = refl; clear = refl; whole = refl }

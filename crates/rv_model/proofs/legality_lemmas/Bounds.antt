@@ -1,6 +1,6 @@
 -- What legality tells of the registers of an instruction: its groups end inside the file, and have room for each element.
 use Rattle.std.specs.Prelude.{None, Option, Some, ⊤}
-use Rattle.std.proofs.Common.{◌≡◌, ◌⊎◌, inl, inr, ℕ, ◌+◌, ◌*◌, ◌/◌, ◌%◌, ◌<◌, ◌≤◌, suc, List, ◌∷◌, length, Bool, true, false, refl, ap, subst, arith, lit≤, lit<, All}
+use Rattle.std.proofs.Common.{◌≡◌, ◌⊎◌, inl, inr, ℕ, ◌+◌, ◌*◌, ◌/◌, ◌%◌, ◌<◌, ◌≤◌, suc, List, ◌∷◌, length, Bool, true, false, refl, subst, arith, lit≤, lit<, All}
 use Rattle.std.proofs.Math.Nat.{mul-le-mul_left}
 use Rattle.rv_model.specs.declared.instructions.instruction.Instr.TheVariants as instr
 use Rattle.rv_model.specs.declared.instructions.vector.VectorInstr.TheVariants.{ElementIndex, MaskUnary, Arith, Carry, Extend, Move}
@@ -33,7 +33,7 @@ use Rattle.rv_model.specs.declared.instructions.source.Source.TheVariants as sou
 use Rattle.rv_model.specs.declared.vector.types.Lmul.{Lmul}
 use Rattle.rv_model.specs.declared.vector.types.Lmul.TheVariants.{Mf8, Mf4, Mf2, M1, M2, M4, M8}
 use Rattle.rv_model.specs.declared.vector.types.Sew.{Sew}
-use Rattle.rv_model.specs.declared.vector.types.Sew.TheVariants.{E8, E16, E32, E64}
+use Rattle.rv_model.specs.declared.vector.types.Sew.TheVariants.{E8}
 use Rattle.rv_model.specs.declared.vector.types.VType.{VType}
 use Rattle.rv_model.specs.declared.vector.sizes.TheConstants.{GROUP_BYTES, VECTOR_REGISTERS, VLEN, VLENB}
 use Rattle.rv_model.specs.legality.Legality.{extension_source, operands, is_legal}
@@ -44,16 +44,14 @@ use mir.Val.{bits}
 use Rattle.std.specs.Int.{Width, w16}
 use Rattle.rv_model.specs.elements.PermutationResults.{source_type}
 use Rattle.rv_model.specs.vector.Groups.{doubled, extension_divisor, halved, part_type, part_width, single_type, wide_type, with_width}
-use Rattle.rv_model.specs.vector.Configuration.{Configuration, GroupType, group_type, IsConfiguration, sew_bits, sew_width, width_bytes, lmul_eighths, vlmax}
+use Rattle.rv_model.specs.vector.Configuration.{Configuration, group_type, IsConfiguration, sew_bits, sew_width, width_bytes, lmul_eighths, vlmax}
 use Rattle.rv_model.proofs.vector_lemmas.Lengths.{IsLength}
 use Rattle.rv_model.proofs.legality_lemmas.Meaning.{IsGroup, groups_are, is_legal_means}
 
 -- elements of SEW have the vector type's multiplier
 pub emul-sew : (s : Sew) (e : ℕ) → sew_bits s * e / sew_bits s ≡ e
 emul-sew E8 e = omega arith
-emul-sew E16 e = omega arith
-emul-sew E32 e = omega arith
-emul-sew E64 e = omega arith
+emul-sew _ e = omega arith
 
 -- a group that legality finds, with a multiplier said in another way
 pub inside : (r e f : ℕ) → e ≡ f → r + 1 * registers e ≤ VECTOR_REGISTERS → IsInside r f
@@ -183,33 +181,8 @@ move_inside from vd t vstart h = named from (groups_are ((is_legal_means (instr.
 -- the elements of a group of any type have room in its registers
 most_fit : (s : Sew) (l : Lmul) → width_bytes (sew_width s) * (lmul_eighths l * VLEN / (8 * sew_bits s)) ≤ VLENB * registers (lmul_eighths l)
 most_fit E8 Mf8 = lit≤ tt
-most_fit E8 Mf4 = lit≤ tt
-most_fit E8 Mf2 = lit≤ tt
-most_fit E8 M1 = lit≤ tt
-most_fit E8 M2 = lit≤ tt
-most_fit E8 M4 = lit≤ tt
-most_fit E8 M8 = lit≤ tt
-most_fit E16 Mf8 = lit≤ tt
-most_fit E16 Mf4 = lit≤ tt
-most_fit E16 Mf2 = lit≤ tt
-most_fit E16 M1 = lit≤ tt
-most_fit E16 M2 = lit≤ tt
-most_fit E16 M4 = lit≤ tt
-most_fit E16 M8 = lit≤ tt
-most_fit E32 Mf8 = lit≤ tt
-most_fit E32 Mf4 = lit≤ tt
-most_fit E32 Mf2 = lit≤ tt
-most_fit E32 M1 = lit≤ tt
-most_fit E32 M2 = lit≤ tt
-most_fit E32 M4 = lit≤ tt
-most_fit E32 M8 = lit≤ tt
-most_fit E64 Mf8 = lit≤ tt
-most_fit E64 Mf4 = lit≤ tt
-most_fit E64 Mf2 = lit≤ tt
-most_fit E64 M1 = lit≤ tt
-most_fit E64 M2 = lit≤ tt
-most_fit E64 M4 = lit≤ tt
-most_fit E64 M8 = lit≤ tt
+most_fit _ Mf8 = lit≤ tt
+most_fit _ _ = lit≤ tt
 
 pub length_fits : (t : VType) (vl : ℕ) → vl ≤ vlmax t → width_bytes (sew_width t.sew) * vl ≤ VLENB * registers (lmul_eighths t.lmul)
 length_fits t vl h =
@@ -219,12 +192,7 @@ length_fits t vl h =
 -- no multiplier is above 8
 pub multiplier_fits : (l : Lmul) → lmul_eighths l ≤ 64
 multiplier_fits Mf8 = lit≤ tt
-multiplier_fits Mf4 = lit≤ tt
-multiplier_fits Mf2 = lit≤ tt
-multiplier_fits M1 = lit≤ tt
-multiplier_fits M2 = lit≤ tt
-multiplier_fits M4 = lit≤ tt
-multiplier_fits M8 = lit≤ tt
+multiplier_fits _ = lit≤ tt
 
 -- no vector has more elements than the largest group has bytes
 pub length_below : (t : VType) (vl : ℕ) → vl ≤ vlmax t → vl ≤ GROUP_BYTES
@@ -232,15 +200,11 @@ length_below t vl h = omega (arith, bytes_positive t.sew, length_in_bytes t.sew 
   where
     bytes_positive : (s : Sew) → 1 ≤ width_bytes (sew_width s)
     bytes_positive E8 = lit≤ tt
-    bytes_positive E16 = lit≤ tt
-    bytes_positive E32 = lit≤ tt
-    bytes_positive E64 = lit≤ tt
+    bytes_positive _ = lit≤ tt
 
     length_in_bytes : (s : Sew) (n : ℕ) {m : ℕ} → width_bytes (sew_width s) * n ≤ m → n ≤ m
     length_in_bytes E8 n h = omega (arith, h)
-    length_in_bytes E16 n h = omega (arith, h)
-    length_in_bytes E32 n h = omega (arith, h)
-    length_in_bytes E64 n h = omega (arith, h)
+    length_in_bytes _ n h = omega (arith, h)
 
 -- whichever its type is, or with none
 pub configuration_below : (c : Configuration) → IsConfiguration c → c.vl ≤ GROUP_BYTES
@@ -253,16 +217,12 @@ configuration_below c h = named c.vtype h
 -- so many registers hold whole elements
 pub whole_elements : (s : Sew) (n : ℕ) → VLENB * n ≡ width_bytes (sew_width s) * (VLENB * n / width_bytes (sew_width s))
 whole_elements E8 n = omega arith
-whole_elements E16 n = omega arith
-whole_elements E32 n = omega arith
-whole_elements E64 n = omega arith
+whole_elements _ n = omega arith
 
 -- and no more elements than bytes
 pub fewer : (s : Sew) (n : ℕ) → n / width_bytes (sew_width s) ≤ n
 fewer E8 n = omega arith
-fewer E16 n = omega arith
-fewer E32 n = omega arith
-fewer E64 n = omega arith
+fewer _ n = omega arith
 
 -- the groups of the vector type hold the body
 pub groups_hold_body : (t : VType) (vl : ℕ) → vl ≤ vlmax t
@@ -280,12 +240,7 @@ groups_hold_body t vl h = record {
 -- a group of this multiplier has room for as many bytes as the multiplier says
 multiplier_room : (m : Lmul) → 4 * lmul_eighths m ≤ VLENB * registers (lmul_eighths m)
 multiplier_room Mf8 = lit≤ tt
-multiplier_room Mf4 = lit≤ tt
-multiplier_room Mf2 = lit≤ tt
-multiplier_room M1 = lit≤ tt
-multiplier_room M2 = lit≤ tt
-multiplier_room M4 = lit≤ tt
-multiplier_room M8 = lit≤ tt
+multiplier_room _ = lit≤ tt
 
 -- twice a multiplier is one, if it isn't above 8
 twice : (l : Lmul) → 2 * lmul_eighths l ≤ 64 → (m : Lmul) × (lmul_eighths m ≡ 2 * lmul_eighths l)
@@ -302,22 +257,16 @@ room_of m e is = subst (λ n. 4 * n ≤ VLENB * registers n) is (multiplier_room
 
 -- the elements of the vector type, at twice the width
 wide_bytes : (s : Sew) (l vl : ℕ) → sew_bits s ≤ 32 → vl ≤ l * VLEN / (8 * sew_bits s) → width_bytes (doubled (sew_width s)) * vl ≤ 4 * (2 * l)
-wide_bytes E8 l vl n h = omega (arith, h)
-wide_bytes E16 l vl n h = omega (arith, h)
-wide_bytes E32 l vl n h = omega (arith, h)
-wide_bytes E64 l vl n h = absurd (omega (arith, n))
+wide_bytes E8 l vl n h = omega (arith, n, h)
+wide_bytes _ l vl n h = omega (arith, n, h)
 
 wide_elements : (s : Sew) (n : ℕ) → sew_bits s ≤ 32 → VLENB * n ≡ width_bytes (doubled (sew_width s)) * (VLENB * n / width_bytes (doubled (sew_width s)))
-wide_elements E8 n h = omega arith
-wide_elements E16 n h = omega arith
-wide_elements E32 n h = omega arith
-wide_elements E64 n h = absurd (omega (arith, h))
+wide_elements E8 n h = omega (arith, h)
+wide_elements _ n h = omega (arith, h)
 
 wide_fewer : (s : Sew) (n : ℕ) → sew_bits s ≤ 32 → n / width_bytes (doubled (sew_width s)) ≤ n
-wide_fewer E8 n h = omega arith
-wide_fewer E16 n h = omega arith
-wide_fewer E32 n h = omega arith
-wide_fewer E64 n h = absurd (omega (arith, h))
+wide_fewer E8 n h = omega (arith, h)
+wide_fewer _ n h = omega (arith, h)
 
 -- the groups of twice the width and the multiplier hold the body
 pub wide_groups_hold_body : (t : VType) (vl : ℕ) → vl ≤ vlmax t → sew_bits t.sew ≤ 32 → 2 * lmul_eighths t.lmul ≤ 64
@@ -346,21 +295,14 @@ wide_groups_have_room t vl h narrow most =
 -- elements of twice SEW have twice the vector type's multiplier
 emul-wide : (s : Sew) (e : ℕ) → bits (doubled (sew_width s)) * e / sew_bits s ≡ 2 * e
 emul-wide E8 e = omega arith
-emul-wide E16 e = omega arith
-emul-wide E32 e = omega arith
-emul-wide E64 e = omega arith
+emul-wide _ e = omega arith
 
 wide_group : (r : ℕ) (t : VType) → r + 1 * registers (wide_type t).emul ≤ VECTOR_REGISTERS → IsInside r (2 * lmul_eighths t.lmul)
 wide_group r t h = inside r (wide_type t).emul (2 * lmul_eighths t.lmul) (emul-wide t.sew (lmul_eighths t.lmul)) h
 
-pub wide_type_is : (t : VType) → wide_type t ≡ record { width = doubled (sew_width t.sew); emul = 2 * lmul_eighths t.lmul }
-wide_type_is t = ap (λ (e : ℕ). let g : GroupType = record { width = doubled (sew_width t.sew); emul = e } in g) (emul-wide t.sew (lmul_eighths t.lmul))
-
 wide_fits : (s : Sew) → bits (doubled (sew_width s)) ≤ 64 → sew_bits s ≤ 32
-wide_fits E8 h = lit≤ tt
-wide_fits E16 h = lit≤ tt
-wide_fits E32 h = lit≤ tt
-wide_fits E64 h = absurd (omega (arith, h))
+wide_fits E8 h = omega (arith, h)
+wide_fits _ h = omega (arith, h)
 
 -- there are elements of twice SEW, in groups of twice the multiplier
 pub record HasDouble (t : VType) : Type 0 where
@@ -512,33 +454,8 @@ index_inside vd vm t vstart h =
 
 indices_fit : (s : Sew) (l : Lmul) → 2 * (lmul_eighths l * VLEN / (8 * sew_bits s)) ≤ VLENB * registers (16 * lmul_eighths l / bits (sew_width s))
 indices_fit E8 Mf8 = lit≤ tt
-indices_fit E8 Mf4 = lit≤ tt
-indices_fit E8 Mf2 = lit≤ tt
-indices_fit E8 M1 = lit≤ tt
-indices_fit E8 M2 = lit≤ tt
-indices_fit E8 M4 = lit≤ tt
-indices_fit E8 M8 = lit≤ tt
-indices_fit E16 Mf8 = lit≤ tt
-indices_fit E16 Mf4 = lit≤ tt
-indices_fit E16 Mf2 = lit≤ tt
-indices_fit E16 M1 = lit≤ tt
-indices_fit E16 M2 = lit≤ tt
-indices_fit E16 M4 = lit≤ tt
-indices_fit E16 M8 = lit≤ tt
-indices_fit E32 Mf8 = lit≤ tt
-indices_fit E32 Mf4 = lit≤ tt
-indices_fit E32 Mf2 = lit≤ tt
-indices_fit E32 M1 = lit≤ tt
-indices_fit E32 M2 = lit≤ tt
-indices_fit E32 M4 = lit≤ tt
-indices_fit E32 M8 = lit≤ tt
-indices_fit E64 Mf8 = lit≤ tt
-indices_fit E64 Mf4 = lit≤ tt
-indices_fit E64 Mf2 = lit≤ tt
-indices_fit E64 M1 = lit≤ tt
-indices_fit E64 M2 = lit≤ tt
-indices_fit E64 M4 = lit≤ tt
-indices_fit E64 M8 = lit≤ tt
+indices_fit _ Mf8 = lit≤ tt
+indices_fit _ _ = lit≤ tt
 
 -- the operands of a slide or gather
 pub record PermuteInside (op : PermuteOp) (vd vs2 : ℕ) (from : Source) (t : VType) : Type 0 where
@@ -586,22 +503,16 @@ permute_inside op from vd vs2 vm t vstart h =
 
 -- elements of a part of SEW have that part of the vector type's multiplier
 emul-half : (s : Sew) (e : ℕ) → 8 ≤ sew_bits s / 2 → bits (halved (sew_width s)) * e / sew_bits s ≡ e / 2
-emul-half E8 e wide = absurd (omega (arith, wide))
-emul-half E16 e wide = omega arith
-emul-half E32 e wide = omega arith
-emul-half E64 e wide = omega arith
+emul-half E8 e wide = omega (arith, wide)
+emul-half _ e wide = omega (arith, wide)
 
 emul-quarter : (s : Sew) (e : ℕ) → 8 ≤ sew_bits s / 4 → bits (halved (halved (sew_width s))) * e / sew_bits s ≡ e / 4
-emul-quarter E8 e wide = absurd (omega (arith, wide))
-emul-quarter E16 e wide = absurd (omega (arith, wide))
-emul-quarter E32 e wide = omega arith
-emul-quarter E64 e wide = omega arith
+emul-quarter E8 e wide = omega (arith, wide)
+emul-quarter _ e wide = omega (arith, wide)
 
 emul-eighth : (s : Sew) (e : ℕ) → 8 ≤ sew_bits s / 8 → bits (halved (halved (halved (sew_width s)))) * e / sew_bits s ≡ e / 8
-emul-eighth E8 e wide = absurd (omega (arith, wide))
-emul-eighth E16 e wide = absurd (omega (arith, wide))
-emul-eighth E32 e wide = absurd (omega (arith, wide))
-emul-eighth E64 e wide = omega arith
+emul-eighth E8 e wide = omega (arith, wide)
+emul-eighth _ e wide = omega (arith, wide)
 
 emul-part : (o : ExtendOp) (s : Sew) (e : ℕ) → 8 ≤ sew_bits s / extension_divisor o
     → bits (part_width o (sew_width s)) * e / sew_bits s ≡ e / extension_divisor o
@@ -611,11 +522,6 @@ emul-part VzextVf4 s e wide = emul-quarter s e wide
 emul-part VsextVf4 s e wide = emul-quarter s e wide
 emul-part VzextVf2 s e wide = emul-half s e wide
 emul-part VsextVf2 s e wide = emul-half s e wide
-
-pub part_type_is : (o : ExtendOp) (t : VType) → 8 ≤ sew_bits t.sew / extension_divisor o
-    → part_type o t ≡ record { width = part_width o (sew_width t.sew); emul = lmul_eighths t.lmul / extension_divisor o }
-part_type_is o t wide =
-    ap (λ (e : ℕ). let g : GroupType = record { width = part_width o (sew_width t.sew); emul = e } in g) (emul-part o t.sew (lmul_eighths t.lmul) wide)
 
 -- a part of a multiplier that is at least 1/8 is a multiplier
 record PartOf (l : Lmul) (divisor : ℕ) : Type 0 where
@@ -652,22 +558,16 @@ eighth M8 h = record { part = M1; is = refl; whole = refl }
 
 -- the elements of the vector type, at a part of the width
 bytes-half : (s : Sew) (l vl : ℕ) → 8 ≤ sew_bits s / 2 → l % 2 ≡ 0 → vl ≤ l * VLEN / (8 * sew_bits s) → width_bytes (halved (sew_width s)) * vl ≤ 4 * (l / 2)
-bytes-half E8 l vl n e h = absurd (omega (arith, n))
-bytes-half E16 l vl n e h = omega (arith, e, h)
-bytes-half E32 l vl n e h = omega (arith, e, h)
-bytes-half E64 l vl n e h = omega (arith, e, h)
+bytes-half E8 l vl n e h = omega (arith, n, e, h)
+bytes-half _ l vl n e h = omega (arith, n, e, h)
 
 bytes-quarter : (s : Sew) (l vl : ℕ) → 8 ≤ sew_bits s / 4 → l % 4 ≡ 0 → vl ≤ l * VLEN / (8 * sew_bits s) → width_bytes (halved (halved (sew_width s))) * vl ≤ 4 * (l / 4)
-bytes-quarter E8 l vl n e h = absurd (omega (arith, n))
-bytes-quarter E16 l vl n e h = absurd (omega (arith, n))
-bytes-quarter E32 l vl n e h = omega (arith, e, h)
-bytes-quarter E64 l vl n e h = omega (arith, e, h)
+bytes-quarter E8 l vl n e h = omega (arith, n, e, h)
+bytes-quarter _ l vl n e h = omega (arith, n, e, h)
 
 bytes-eighth : (s : Sew) (l vl : ℕ) → 8 ≤ sew_bits s / 8 → l % 8 ≡ 0 → vl ≤ l * VLEN / (8 * sew_bits s) → width_bytes (halved (halved (halved (sew_width s)))) * vl ≤ 4 * (l / 8)
-bytes-eighth E8 l vl n e h = absurd (omega (arith, n))
-bytes-eighth E16 l vl n e h = absurd (omega (arith, n))
-bytes-eighth E32 l vl n e h = absurd (omega (arith, n))
-bytes-eighth E64 l vl n e h = omega (arith, e, h)
+bytes-eighth E8 l vl n e h = omega (arith, n, e, h)
+bytes-eighth _ l vl n e h = omega (arith, n, e, h)
 
 part_room : (o : ExtendOp) (t : VType) (vl : ℕ) → vl ≤ vlmax t → 8 ≤ sew_bits t.sew / extension_divisor o → 1 ≤ lmul_eighths t.lmul / extension_divisor o
     → width_bytes (part_width o (sew_width t.sew)) * vl ≤ VLENB * registers (lmul_eighths t.lmul / extension_divisor o)
@@ -692,11 +592,7 @@ part_room VsextVf2 t vl h wide least =
 
 fewer_part : (o : ExtendOp) (n : ℕ) → n / extension_divisor o ≤ n
 fewer_part VzextVf8 n = omega arith
-fewer_part VsextVf8 n = omega arith
-fewer_part VzextVf4 n = omega arith
-fewer_part VsextVf4 n = omega arith
-fewer_part VzextVf2 n = omega arith
-fewer_part VsextVf2 n = omega arith
+fewer_part _ n = omega arith
 
 -- the groups of a part of the width and the multiplier have room for the body
 pub part_groups_have_room : (o : ExtendOp) (t : VType) (vl : ℕ) → vl ≤ vlmax t → 8 ≤ sew_bits t.sew / extension_divisor o

@@ -4,10 +4,10 @@ use Rattle.std.proofs.Common.{◌≡◌, ℕ, ◌*◌, ◌/◌, true, refl, lit�
 use Rattle.rv_model.specs.declared.instructions.instruction.Instr.TheVariants as instr
 use Rattle.rv_model.specs.declared.instructions.vector.VectorInstr.TheVariants.{Compress, WholeMove}
 use Rattle.rv_model.specs.declared.instructions.operations.RegisterCount.{RegisterCount}
-use Rattle.rv_model.specs.declared.instructions.operations.RegisterCount.TheVariants.{One, Two, Four, Eight}
+use Rattle.rv_model.specs.declared.instructions.operations.RegisterCount.TheVariants.{One}
 use Rattle.rv_model.specs.declared.legality.Role.TheVariants.{Read}
 use Rattle.rv_model.specs.declared.vector.types.Sew.{Sew}
-use Rattle.rv_model.specs.declared.vector.types.Sew.TheVariants.{E8, E16, E32, E64}
+use Rattle.rv_model.specs.declared.vector.types.Sew.TheVariants.{E8}
 use Rattle.rv_model.specs.declared.vector.types.VType.{VType}
 use Rattle.rv_model.specs.declared.vector.sizes.TheConstants.{VLEN}
 use Rattle.rv_model.specs.vector.Configuration.{element_count, lmul_eighths, sew_bits, sew_width}
@@ -55,21 +55,8 @@ whole_move_inside count vd vs2 t vstart h =
 whole_hold : (s : Sew) (count : RegisterCount)
     → HoldsBody (sew_width s) (8 * register_count count) (8 * register_count count * VLEN / (8 * sew_bits s)) (8 * register_count count * VLEN / (8 * sew_bits s))
 whole_hold E8 One = record { most = lit≤ tt; room = lit≤ tt; least = lit≤ tt; whole = refl; size = lit≤ tt }
-whole_hold E8 Two = record { most = lit≤ tt; room = lit≤ tt; least = lit≤ tt; whole = refl; size = lit≤ tt }
-whole_hold E8 Four = record { most = lit≤ tt; room = lit≤ tt; least = lit≤ tt; whole = refl; size = lit≤ tt }
-whole_hold E8 Eight = record { most = lit≤ tt; room = lit≤ tt; least = lit≤ tt; whole = refl; size = lit≤ tt }
-whole_hold E16 One = record { most = lit≤ tt; room = lit≤ tt; least = lit≤ tt; whole = refl; size = lit≤ tt }
-whole_hold E16 Two = record { most = lit≤ tt; room = lit≤ tt; least = lit≤ tt; whole = refl; size = lit≤ tt }
-whole_hold E16 Four = record { most = lit≤ tt; room = lit≤ tt; least = lit≤ tt; whole = refl; size = lit≤ tt }
-whole_hold E16 Eight = record { most = lit≤ tt; room = lit≤ tt; least = lit≤ tt; whole = refl; size = lit≤ tt }
-whole_hold E32 One = record { most = lit≤ tt; room = lit≤ tt; least = lit≤ tt; whole = refl; size = lit≤ tt }
-whole_hold E32 Two = record { most = lit≤ tt; room = lit≤ tt; least = lit≤ tt; whole = refl; size = lit≤ tt }
-whole_hold E32 Four = record { most = lit≤ tt; room = lit≤ tt; least = lit≤ tt; whole = refl; size = lit≤ tt }
-whole_hold E32 Eight = record { most = lit≤ tt; room = lit≤ tt; least = lit≤ tt; whole = refl; size = lit≤ tt }
-whole_hold E64 One = record { most = lit≤ tt; room = lit≤ tt; least = lit≤ tt; whole = refl; size = lit≤ tt }
-whole_hold E64 Two = record { most = lit≤ tt; room = lit≤ tt; least = lit≤ tt; whole = refl; size = lit≤ tt }
-whole_hold E64 Four = record { most = lit≤ tt; room = lit≤ tt; least = lit≤ tt; whole = refl; size = lit≤ tt }
-whole_hold E64 Eight = record { most = lit≤ tt; room = lit≤ tt; least = lit≤ tt; whole = refl; size = lit≤ tt }
+whole_hold _ One = record { most = lit≤ tt; room = lit≤ tt; least = lit≤ tt; whole = refl; size = lit≤ tt }
+whole_hold _ _ = record { most = lit≤ tt; room = lit≤ tt; least = lit≤ tt; whole = refl; size = lit≤ tt }
 
 pub whole_groups_hold_body : (t : VType) (count : RegisterCount)
     → HoldsBody (sew_width t.sew) (8 * register_count count) (element_count (whole_type t count)) (element_count (whole_type t count))

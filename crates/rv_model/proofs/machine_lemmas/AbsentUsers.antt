@@ -6,7 +6,7 @@ use Rattle.std.proofs.lemmas.Bool.{cases_eq, false≢true}
 use Rattle.std.proofs.lemmas.Bool.Decides.{nat_tests}
 use Rattle.std.proofs.lemmas.List.{get_or-replicate, get_or-set_other, set-get_or}
 use Rattle.rv_model.specs.declared.commands.command.Cmd.{Cmd}
-use Rattle.rv_model.specs.declared.commands.command.Cmd.TheVariants.{Entering, Memory, Registers, Programs, Breakpoints, Running}
+use Rattle.rv_model.specs.declared.commands.command.Cmd.TheVariants.{Entering, Registers, Programs, Running}
 use Rattle.rv_model.specs.declared.commands.entering.EnteringCommand.TheVariants.{Enter, Leave}
 use Rattle.rv_model.specs.declared.commands.programs.ProgramCommand.TheVariants.{Load}
 use Rattle.rv_model.specs.declared.commands.registers.RegisterCommand.{RegisterCommand}
@@ -170,21 +170,16 @@ module _ (user : ℕ) (low : 1 ≤ user) (high : user ≤ 8) where
   present_moves : (images : List Image) (c : Cmd) (p : Present) (unit : VectorUnit) → Moves user unit (unit_of_present images user c p unit)
   present_moves images (Entering Enter) p unit = still user unit
   present_moves images (Entering Leave) p unit = discards unit
-  present_moves images (Memory c) p unit = still user unit
   present_moves images (Registers c) p unit = registers_move c unit
   present_moves images (Programs (Load name)) p unit = load_moves (image_named images name) unit
   present_moves images (Programs c) p unit = still user unit
-  present_moves images (Breakpoints c) p unit = still user unit
   present_moves images (Running c) p unit = running_moves c p unit
+  present_moves images c p unit = still user unit
 
   absent_moves : (c : Cmd) (unit : VectorUnit) → Moves user unit (unit_of_absent user c unit)
   absent_moves (Entering Enter) unit = discards unit
   absent_moves (Entering Leave) unit = still user unit
-  absent_moves (Memory c) unit = still user unit
-  absent_moves (Registers c) unit = still user unit
-  absent_moves (Programs c) unit = still user unit
-  absent_moves (Breakpoints c) unit = still user unit
-  absent_moves (Running c) unit = still user unit
+  absent_moves c unit = still user unit
 
   command_moves : (images : List Image) (c : Cmd) (p : Private) (unit : VectorUnit) → Moves user unit (unit_after_command images user c p unit)
   command_moves images c None unit = absent_moves c unit
@@ -205,11 +200,7 @@ module _ (user : ℕ) (low : 1 ≤ user) (high : user ≤ 8) where
   absent_command : (c : Cmd) (unit : VectorUnit) → HasNothing user unit → unit_of_absent user c unit ≡ unit
   absent_command (Entering Enter) unit nothing = nothing_dropped unit nothing
   absent_command (Entering Leave) unit nothing = refl
-  absent_command (Memory c) unit nothing = refl
-  absent_command (Registers c) unit nothing = refl
-  absent_command (Programs c) unit nothing = refl
-  absent_command (Breakpoints c) unit nothing = refl
-  absent_command (Running c) unit nothing = refl
+  absent_command _ unit nothing = refl
 
   absent_event : (s : Setup) (e : Event) (unit : VectorUnit) → HasNothing user unit → unit_after_event s user None e unit ≡ unit
   unfolding unit_after_event tried_in unit_after_tries

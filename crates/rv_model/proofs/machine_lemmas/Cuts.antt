@@ -65,27 +65,15 @@ ended Cut = inr (inl refl)
 after_resumed : (e : StepEnd) (state half : HartState) (p : Present) → half.scalar ≡ p.hart.scalar
     → after e state (after Cut half p) ≡ after e state p
 after_resumed Ran state half p h = ap (λ x. record p { hart = state; trace = recorded p.trace x.pc; fresh = false }) h
-after_resumed (Exit status) state half p h = refl
-after_resumed Ebreak state half p h = refl
-after_resumed (Fault cause pc value) state half p h = refl
-after_resumed OutputFull state half p h = refl
-after_resumed Cut state half p h = refl
+after_resumed _ state half p h = refl
 
 hart_after : (e : StepEnd) (state : HartState) (p : Present) → (after e state p).hart ≡ state
 hart_after Ran state p = refl
-hart_after (Exit status) state p = refl
-hart_after Ebreak state p = refl
-hart_after (Fault cause pc value) state p = refl
-hart_after OutputFull state p = refl
-hart_after Cut state p = refl
+hart_after _ state p = refl
 
 running_after : (e : StepEnd) (state : HartState) (p : Present) → (after e state p).running ≡ p.running
 running_after Ran state p = refl
-running_after (Exit status) state p = refl
-running_after Ebreak state p = refl
-running_after (Fault cause pc value) state p = refl
-running_after OutputFull state p = refl
-running_after Cut state p = refl
+running_after _ state p = refl
 
 -- ---- a run of instructions
 

@@ -1,12 +1,12 @@
 -- What the definitions of a memory give at one address
-use Rattle.std.proofs.Common.{◌≡◌, ◌≢◌, ℕ, zero, suc, ◌+◌, ◌-◌, ◌*◌, ◌<◌, ◌≤◌, Bool, true, false, cond, ◌&&◌, List, [], ◌∷◌, ◌++◌, length, get_or, Option, Some, None, refl, sym, ◌∙◌, ap, subst, ◌⊎◌, inl, inr, arith, ne_eqb, eq-eqb, add-zero, take, ◌||◌, rules}
+use Rattle.std.proofs.Common.{◌≡◌, ◌≢◌, ℕ, zero, suc, ◌+◌, ◌-◌, ◌*◌, ◌<◌, ◌≤◌, Bool, true, false, cond, ◌&&◌, List, [], ◌∷◌, ◌++◌, length, get_or, Option, Some, None, refl, sym, ◌∙◌, ap, subst, ◌⊎◌, inl, inr, arith, ne_eqb, eq-eqb, add-zero, ◌||◌, rules}
 use Rattle.std.specs.Prelude.{is_some, nat_lt, ◌↔◌}
 use Rattle.std.specs.Ordering.{nat_cmp}
 use Rattle.std.specs.Cmp.{unsigned_tied, nat_cmp_total}
 use Rattle.std.specs.Option.{option_map, option_map_or}
 use Rattle.std.specs.FinMap.{FinMap, get, insert, len, contains_key, get-insert, len-insert, same_map, nat_cmp-IsAntisymmetric}
-use Rattle.std.proofs.lemmas.List.{take_more, length-take-le, ext_get_or}
-use Rattle.std.proofs.lemmas.List.FromFn.{length-map-range_with_len, get_or-map-range_with_len, map-range_with_len_more}
+use Rattle.std.proofs.lemmas.List.{ext_get_or}
+use Rattle.std.proofs.lemmas.List.FromFn.{length-map-range_with_len, get_or-map-range_with_len}
 use Rattle.std.proofs.lemmas.Bool.Decides.{nat_tests}
 use Rattle.std.proofs.lemmas.Bool.{and_parts, and_from, cases_eq, cases_lt, cond-false, cond-true}
 use Rattle.rv_model.specs.declared.memory.Access.{Access}
@@ -146,10 +146,6 @@ pub get_or-bytes_at : (m : Memory) (a n k x : ℕ) → k < n → x ≡ a + k →
 unfolding bytes_at
 get_or-bytes_at m a n k x h e = get_or-map-range_with_len (memory_byte m) a n k x 0 h (sym e)
 
-pub bytes_at_more : (m : Memory) (a n : ℕ) → bytes_at m a (n + 1) ≡ bytes_at m a n ++ memory_byte m (a + n) ∷ []
-unfolding bytes_at
-bytes_at_more m a n = map-range_with_len_more (memory_byte m) a n (a + n) refl
-
 pub can_access-at : (access : Access) (m : Memory) (a n k x : ℕ) → can_access access m a n ≡ true → k < n → x ≡ a + k → can_access_byte access m x ≡ true
 unfolding can_access
 can_access-at access m a zero k x t h e = absurd (omega arith)
@@ -188,25 +184,7 @@ can_access_monitor access m a n ok =
 
 -- ---- how many addresses are mapped
 
-len_put_at : (m : Memory) (a b : ℕ) (o : Option Cell) → get m a ≡ o → len (put_at m a b o) ≡ len m
-unfolding put_at
-len_put_at m a b None e = refl
-len_put_at m a b (Some c) e =
-    len-insert nat_cmp_total m a (record { byte = b; permissions = c.permissions })
-    ∙ ap (λ (o : Option Cell). cond (is_some o) (len m) (len m + 1)) e
-
-pub len-put_bytes : (m : Memory) (a : ℕ) (bs : List ℕ) → len (put_bytes m a bs) ≡ len m
-unfolding put_bytes put_byte put_at
-len-put_bytes m a [] = refl
-len-put_bytes m a (b ∷ bs) = len-put_bytes (put_byte m a b) (a + 1) bs ∙ len_put_at m a b (get m a) refl
-
 -- ---- one step of a write and of a read
-
-pub put_bytes_more : (m : Memory) (a : ℕ) (bs : List ℕ) (k : ℕ) → k < length bs → put_bytes m a (take (k + 1) bs) ≡ put_byte (put_bytes m a (take k bs)) (a + k) (get_or bs k 0)
-unfolding put_bytes
-put_bytes_more m a bs k l =
-    ap (put_bytes m a) (take_more bs k 0 l) ∙ put_bytes-append m a (take k bs) (get_or bs k 0 ∷ [])
-    ∙ ap (λ (j : ℕ). put_byte (put_bytes m a (take k bs)) (a + j) (get_or bs k 0)) (length-take-le k bs (omega arith))
 
 pub bytes_read : (m : Memory) (a n : ℕ) (bs : List ℕ) → length bs ≡ n → ((j : ℕ) → j < n → get_or bs j 0 ≡ memory_byte m (a + j)) → bs ≡ bytes_at m a n
 bytes_read m a n bs e h =

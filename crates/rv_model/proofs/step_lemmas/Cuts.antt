@@ -1,24 +1,18 @@
 -- Where a vector instruction is cut: after as many indices as there are ticks, and never where those are as many as a vector
 -- has elements at most.
-use Rattle.std.proofs.Common.{◌≡◌, ◌≢◌, ℕ, ◌+◌, ◌-◌, ◌*◌, ◌<◌, ◌≤◌, Bool, Option, Some, None, refl, sym, ◌∙◌, subst, ap, lit≤, arith}
+use Rattle.std.proofs.Common.{◌≡◌, ◌≢◌, ℕ, ◌+◌, ◌-◌, ◌*◌, ◌<◌, ◌≤◌, Option, Some, None, refl, sym, ◌∙◌, subst, ap, lit≤, arith}
 use Rattle.std.specs.Option.{option_map, option_map_or}
 use Rattle.std.specs.Prelude.{⊤}
 use Rattle.rv_model.specs.declared.instructions.instruction.Instr.{Instr}
 use Rattle.rv_model.specs.declared.instructions.instruction.Instr.TheVariants as instr
 use Rattle.rv_model.specs.declared.instructions.vector.VectorInstr.{VectorInstr}
-use Rattle.rv_model.specs.declared.instructions.vector.VectorInstr.TheVariants.{SetVli, SetIvli, SetVl, Arith, MaskUnary}
 use Rattle.rv_model.specs.declared.instructions.access.AccessInstr.{AccessInstr}
 use Rattle.rv_model.specs.declared.instructions.access.AccessInstr.TheVariants.{UnitStride, Strided, Indexed, WholeLoad, WholeStore, MaskAccess}
 use Rattle.rv_model.specs.declared.instructions.operations.Direction.{Direction}
-use Rattle.rv_model.specs.declared.instructions.operations.MaskUnaryOp.{MaskUnaryOp}
-use Rattle.rv_model.specs.declared.instructions.operations.MaskUnaryOp.TheVariants.{Scan, Viota}
 use Rattle.rv_model.specs.declared.instructions.operations.RegisterCount.{RegisterCount}
-use Rattle.rv_model.specs.declared.instructions.operations.RegisterCount.TheVariants.{One, Two, Four, Eight}
-use Rattle.rv_model.specs.declared.instructions.operations.VectorOp.{VectorOp}
-use Rattle.rv_model.specs.declared.instructions.operations.VectorOp.TheVariants.{Binary}
+use Rattle.rv_model.specs.declared.instructions.operations.RegisterCount.TheVariants.{One}
 use Rattle.rv_model.specs.declared.instructions.operations.Eew.{Eew}
 use Rattle.rv_model.specs.declared.instructions.operations.Eew.TheVariants as width
-use Rattle.rv_model.specs.declared.instructions.source.Source.{Source}
 use Rattle.rv_model.specs.declared.step.memory_end.MemEnd.{MemEnd}
 use Rattle.rv_model.specs.declared.step.memory_end.MemEnd.TheVariants as memory_end
 use Rattle.rv_model.specs.declared.step.step_end.StepEnd.TheVariants as step_end
@@ -35,10 +29,9 @@ use Rattle.rv_model.specs.vector.Groups.{register_count}
 use Rattle.rv_model.specs.step.Hart.{HartState}
 use Rattle.rv_model.specs.step.MemoryStep.{access_end, load_fills_masked_off}
 use Rattle.rv_model.specs.step.Resumes.{StopsShort}
-use Rattle.rv_model.specs.vector.Configuration.{GroupType, group_type}
-use Rattle.rv_model.specs.vector.Groups.{wide_type}
-use Rattle.rv_model.specs.step.VectorStep.{VectorStepped, access_step, accessed, after_vector, arith_step, operation_step, performed, typed, typed_step, vector_executed, vector_ticks}
+use Rattle.rv_model.specs.step.VectorStep.{VectorStepped, access_step, accessed, after_vector, operation_step, performed, vector_executed, vector_ticks}
 use Rattle.rv_model.proofs.access_lemmas.Runs.{AtStop, CutAt, FaultAt, Facts, run_facts, stop_means}
+use Rattle.rv_model.proofs.step_lemmas.StepCases.{operation_is}
 use Rattle.rv_model.proofs.text_lemmas.Pieces.{of_either}
 
 -- ---- no operation on registers is cut, and none faults
@@ -49,26 +42,12 @@ AtOnce vector_end.Illegal = ⊤
 AtOnce (vector_end.Fault store addr) = ⊥
 AtOnce (vector_end.Cut index) = ⊥
 
-typed_once : (t : Option VType) (done : VType → HartState → VectorStepped) (s : HartState) → ((u : VType) → AtOnce (done u s).end) → AtOnce (typed t done s).end
-typed_once None done s each = tt
-typed_once (Some u) done s each = each u
-
-arith_once : (t : VType) (g w : GroupType) (op : VectorOp) (source : Source) (vd vs2 : ℕ) (vm : Bool) (s : HartState) → AtOnce (arith_step t g w op source vd vs2 vm s).end
-arith_once t g w (Binary op) source vd vs2 vm s = tt
-arith_once t g w _ source vd vs2 vm s = tt
-
-mask_unary_once : (t : VType) (op : MaskUnaryOp) (vd vs2 : ℕ) (vm : Bool) (s : HartState) → AtOnce (typed_step (MaskUnary op vd vs2 vm) t s).end
-mask_unary_once t (Scan op) vd vs2 vm s = tt
-mask_unary_once t Viota vd vs2 vm s = tt
-
 operation_once : (i : VectorInstr) (s : HartState) → AtOnce (operation_step i s).end
-unfolding operation_step
-operation_once (SetVli rd rs1 vtype) s = tt
-operation_once (SetIvli rd avl vtype) s = tt
-operation_once (SetVl rd rs1 rs2) s = tt
-operation_once (Arith arith vd vs2 vm) s = typed_once s.vector.conf.vtype _ s (λ t. arith_once t (group_type t) (wide_type t) arith.0 arith.1 vd vs2 vm s)
-operation_once (MaskUnary op vd vs2 vm) s = typed_once s.vector.conf.vtype _ s (λ t. mask_unary_once t op vd vs2 vm s)
-operation_once _ s = typed_once s.vector.conf.vtype _ s (λ t. tt)
+operation_once i s = operation_is s (λ (r : VectorStepped). AtOnce r.end) (record {
+  sets = λ rd vtype length. tt;
+  leaves = λ scalar first file saturated. tt;
+  illegal = tt;
+}) i
 
 once_whole : (end : VEnd) → AtOnce end → StopsShort end → ⊥
 once_whole vector_end.Done h stops = stops.undone refl
@@ -168,27 +147,12 @@ cut_at limit i s index e =
 
 whole_length_below : (count : RegisterCount) (w : Eew) → whole_length count w ≤ GROUP_BYTES
 whole_length_below One width.E8 = lit≤ tt
-whole_length_below One width.E16 = lit≤ tt
-whole_length_below One width.E32 = lit≤ tt
-whole_length_below One width.E64 = lit≤ tt
-whole_length_below Two width.E8 = lit≤ tt
-whole_length_below Two width.E16 = lit≤ tt
-whole_length_below Two width.E32 = lit≤ tt
-whole_length_below Two width.E64 = lit≤ tt
-whole_length_below Four width.E8 = lit≤ tt
-whole_length_below Four width.E16 = lit≤ tt
-whole_length_below Four width.E32 = lit≤ tt
-whole_length_below Four width.E64 = lit≤ tt
-whole_length_below Eight width.E8 = lit≤ tt
-whole_length_below Eight width.E16 = lit≤ tt
-whole_length_below Eight width.E32 = lit≤ tt
-whole_length_below Eight width.E64 = lit≤ tt
+whole_length_below _ width.E8 = lit≤ tt
+whole_length_below _ _ = lit≤ tt
 
 whole_bytes_below : (count : RegisterCount) → register_count count * VLENB ≤ GROUP_BYTES
 whole_bytes_below One = lit≤ tt
-whole_bytes_below Two = lit≤ tt
-whole_bytes_below Four = lit≤ tt
-whole_bytes_below Eight = lit≤ tt
+whole_bytes_below _ = lit≤ tt
 
 typed_below : (o : Option VType) (make : VType → VectorAccess) → ((t : VType) → (make t).body.end ≤ GROUP_BYTES) → index_count (option_map make o) ≤ GROUP_BYTES
 typed_below None make each = omega arith

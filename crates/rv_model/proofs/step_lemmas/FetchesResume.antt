@@ -1,118 +1,49 @@
 -- A step that is cut or faults and is made again, with the fetch of its word.
-use Rattle.std.proofs.Common.{◌≡◌, ◌≢◌, ◌⊎◌, inl, inr, ℕ, zero, suc, ◌+◌, ◌-◌, ◌%◌, ◌<◌, ◌≤◌, Bool, true, false, ◌&&◌, ◌||◌, ◌==◌, cond, Option, Some, None, refl, sym, ◌∙◌, ap, subst, arith}
-use Rattle.std.specs.Prelude.{not}
+use Rattle.std.proofs.Common.{◌≡◌, ◌≢◌, ◌⊎◌, inl, inr, ℕ, zero, suc, ◌+◌, ◌-◌, ◌<◌, ◌≤◌, true, Option, Some, refl, sym, ◌∙◌, ap, subst, arith}
 use Rattle.std.specs.FinMap.{get}
-use Rattle.std.specs.Int.{byte_len, w64, from_le_bytes, w32}
+use Rattle.std.specs.Int.{from_le_bytes, w32}
 use Rattle.rv_model.specs.declared.instructions.instruction.Instr.{Instr}
-use Rattle.rv_model.specs.declared.instructions.instruction.Instr.TheVariants as instr
-use Rattle.rv_model.specs.declared.instructions.scalar.ScalarInstr.TheVariants.{Upper, Jump, JumpRegister, Branch, Load, Store, RegisterImmediate, ShiftImmediate, ShiftImmediateWord, RegisterRegister, Fence, System}
-use Rattle.rv_model.specs.declared.instructions.csr.CsrInstr.TheVariants.{Register, Immediate}
-use Rattle.rv_model.specs.declared.instructions.operations.CsrOp.{CsrOp}
-use Rattle.rv_model.specs.declared.instructions.operations.SystemOp.{SystemOp}
-use Rattle.rv_model.specs.declared.instructions.operations.SystemOp.TheVariants as system
 use Rattle.rv_model.specs.declared.memory.Access.{Access}
 use Rattle.rv_model.specs.declared.memory.Access.TheVariants as access
 use Rattle.rv_model.specs.declared.scalar.Scalar.{Scalar}
-use Rattle.rv_model.specs.declared.step.step_end.Cause.TheVariants.{FetchAccess}
 use Rattle.rv_model.specs.declared.step.step_end.StepEnd.{StepEnd}
 use Rattle.rv_model.specs.declared.step.step_end.StepEnd.TheVariants.{Cut}
 use Rattle.rv_model.specs.declared.step.vector_end.VEnd.{VEnd}
 use Rattle.rv_model.specs.declared.step.vector_end.VEnd.TheVariants as vector_end
-use Rattle.rv_model.specs.declared.vector.control_register.ControlRegister.{ControlRegister}
 use Rattle.rv_model.specs.declared.vector.sizes.TheConstants.{GROUP_BYTES}
 use Rattle.rv_model.specs.accesses.Restarts.{Extends, overlay}
-use Rattle.rv_model.specs.instructions.Immediates.{b_immediate, i_immediate, j_immediate, s_immediate}
 use Rattle.rv_model.specs.instructions.Table.{scan, table}
 use Rattle.rv_model.specs.memory.Memory.{Memory, bytes_at, can_access}
-use Rattle.rv_model.specs.scalar.ControlTransfer.{is_taken, register_target}
-use Rattle.rv_model.specs.scalar.Arithmetic.{sum}
-use Rattle.rv_model.specs.scalar.LoadsAndStores.{load_width, store_width}
-use Rattle.rv_model.specs.scalar.Registers.{read_register, with_register}
-use Rattle.rv_model.specs.step.Hart.{HartState, Stepped, faults}
+use Rattle.rv_model.specs.step.Hart.{HartState, Stepped}
 use Rattle.rv_model.specs.step.Resumes.{IsUndone, KeepsOwnWord, StopsShort, after_ticks, finds}
-use Rattle.rv_model.specs.step.ScalarStep.{branch_step, csr_step, environment_call, jumps, scalar_step}
-use Rattle.rv_model.specs.step.Step.{executed, fetched, step, touches, word_at}
+use Rattle.rv_model.specs.step.Step.{fetched, step, touches, word_at}
 use Rattle.rv_model.specs.step.VectorStep.{VectorStepped, after_vector, vector_executed, vector_step, vector_ticks}
-use Rattle.rv_model.specs.step.WriteCall.{output_room, write_call, write_count}
 use Rattle.rv_model.specs.vector.Configuration.{IsConfiguration}
-use Rattle.rv_model.specs.vector.Control.{csr_form, is_write}
-use Rattle.rv_model.specs.vector.ControlRegisters.{control_register, is_read_only}
 use Rattle.rv_model.proofs.access_lemmas.Growth.{allowed_by_get, byte_by_get, bytes_at_extends, can_access_extends, overlay_extends, overlay_grown}
 use Rattle.rv_model.proofs.legality_lemmas.Bounds.{configuration_below}
 use Rattle.rv_model.proofs.step_lemmas.Cuts.{cut_index, cut_short, uncut}
 use Rattle.rv_model.proofs.step_lemmas.Effects.{IfIllegal, vector_keeps}
 use Rattle.rv_model.proofs.step_lemmas.StepsResume.{after_short, instruction_leaves_off, instruction_stops, part_keeps_word, step_resumes}
+use Rattle.rv_model.specs.step.Ticks.{is_scalar}
+use Rattle.rv_model.proofs.step_lemmas.StepCases.{Fetches, IsScalarStep, IsVector, IsVectorStep, step_of, told}
 use Rattle.rv_model.proofs.step_lemmas.StoredWords.{SameWord}
-use Rattle.rv_model.proofs.text_lemmas.Pieces.{of_either}
 
 -- ---- what isn't a vector instruction isn't cut, and changes nothing where it faults
 
 abbrev AllOrNothing : HartState → Stepped → Type 0
 AllOrNothing s r = IsUndone r.end → (r.state ≡ s) × (r.end ≢ Cut)
 
-either : (s : HartState) (b : Bool) (x y : Stepped) → AllOrNothing s x → AllOrNothing s y → AllOrNothing s (cond b x y)
-either s b x y h k = of_either (λ r. AllOrNothing s r) b x y h k
-
-jumps_whole : (target : ℕ) (scalar : Scalar) (s : HartState) → AllOrNothing s (jumps target scalar s)
-jumps_whole target scalar s = either s (target % 4 == 0) _ _ (λ u. absurd u) (λ u. (refl, λ e. cc))
-
-branch_whole : (taken : Bool) (target : ℕ) (s : HartState) → AllOrNothing s (branch_step taken target s)
-branch_whole taken target s = either s taken _ _ (jumps_whole target s.scalar s) (λ u. absurd u)
-
-csr_whole : (register : Option ControlRegister) (op : CsrOp) (rd source operand word : ℕ) (s : HartState) → AllOrNothing s (csr_step register op rd source operand word s)
-csr_whole None op rd source operand word s = λ u. (refl, λ e. cc)
-csr_whole (Some register) op rd source operand word s =
-    either s (is_write op source && is_read_only register) _ _ (λ u. (refl, λ e. cc))
-    (either s (is_write op source) _ _ (λ u. absurd u) (λ u. absurd u))
-
-write_whole : (s : HartState) → AllOrNothing s (write_call s)
-unfolding write_call
-write_whole s =
-    let asked : ℕ = read_register s.scalar 12 in
-    let readable : Bool = can_access access.Load s.memory (read_register s.scalar 11) (write_count asked s.output) in
-    either s (not (read_register s.scalar 10 == 1)) _ _ (λ u. absurd u)
-    (either s (asked == 0) _ _ (λ u. absurd u)
-    (either s (output_room s.output == 0) _ _ (λ u. absurd u) (either s readable _ _ (λ u. absurd u) (λ u. absurd u))))
-
-system_whole : (op : SystemOp) (s : HartState) → AllOrNothing s (scalar_step (System op) s)
-unfolding environment_call
-system_whole system.Ecall s =
-    either s (read_register s.scalar 17 == 93 || read_register s.scalar 17 == 94) _ _ (λ u. absurd u)
-    (either s (read_register s.scalar 17 == 64) _ _ (write_whole s) (λ u. absurd u))
-system_whole system.Ebreak s = λ u. absurd u
-
--- what is a vector instruction, whatever the ticks and the state are
-record IsVectorStep (o : Option Instr) (word : ℕ) : Type 0 where
-  instr : Instr
-  is : o ≡ Some instr
-  touching : touches o ≡ true
-  same : (n : ℕ) (w : HartState) → executed n o word w ≡ vector_step n instr word w
-
-vector_or_whole : (limit : ℕ) (o : Option Instr) (word : ℕ) (s : HartState) → (AllOrNothing s (executed limit o word s)) ⊎ IsVectorStep o word
-unfolding executed
-vector_or_whole limit None word s = inl (λ u. (refl, λ e. cc))
-vector_or_whole limit (Some (instr.Scalar (Upper op rd imm))) word s = inl (λ u. absurd u)
-vector_or_whole limit (Some (instr.Scalar (Jump rd imm))) word s =
-    inl (jumps_whole (sum w64 s.scalar.pc (j_immediate imm)) (with_register rd (sum w64 s.scalar.pc 4) s.scalar) s)
-vector_or_whole limit (Some (instr.Scalar (JumpRegister rd rs1 imm))) word s =
-    inl (jumps_whole (register_target (read_register s.scalar rs1) imm) (with_register rd (sum w64 s.scalar.pc 4) s.scalar) s)
-vector_or_whole limit (Some (instr.Scalar (Branch op rs1 rs2 imm))) word s =
-    inl (branch_whole (is_taken op (read_register s.scalar rs1) (read_register s.scalar rs2)) (sum w64 s.scalar.pc (b_immediate imm)) s)
-vector_or_whole limit (Some (instr.Scalar (Load op rd rs1 imm))) word s =
-    inl (either s (can_access access.Load s.memory (sum w64 (read_register s.scalar rs1) (i_immediate imm)) (byte_len (load_width op))) _ _
-    (λ u. absurd u) (λ u. (refl, λ e. cc)))
-vector_or_whole limit (Some (instr.Scalar (Store op rs1 rs2 imm))) word s =
-    inl (either s (can_access access.Store s.memory (sum w64 (read_register s.scalar rs1) (s_immediate imm)) (byte_len (store_width op))) _ _
-    (λ u. absurd u) (λ u. (refl, λ e. cc)))
-vector_or_whole limit (Some (instr.Scalar (RegisterImmediate op rd rs1 imm))) word s = inl (λ u. absurd u)
-vector_or_whole limit (Some (instr.Scalar (ShiftImmediate op rd rs1 shamt))) word s = inl (λ u. absurd u)
-vector_or_whole limit (Some (instr.Scalar (ShiftImmediateWord op rd rs1 shamt))) word s = inl (λ u. absurd u)
-vector_or_whole limit (Some (instr.Scalar (RegisterRegister op rd rs1 rs2))) word s = inl (λ u. absurd u)
-vector_or_whole limit (Some (instr.Scalar (Fence rd rs1 ordering))) word s = inl (λ u. absurd u)
-vector_or_whole limit (Some (instr.Scalar (System op))) word s = inl (system_whole op s)
-vector_or_whole limit (Some (instr.Csr (Register op rd rs1 csr))) word s = inl (csr_whole (control_register csr) op rd rs1 (read_register s.scalar rs1) word s)
-vector_or_whole limit (Some (instr.Csr (Immediate op rd imm csr))) word s = inl (csr_whole (control_register csr) (csr_form op) rd imm imm word s)
-vector_or_whole limit (Some i) word s = inr (record { instr = i; is = refl; touching = refl; same = λ n w. refl })
+whole : (s : HartState) → IsScalarStep (AllOrNothing s) (is_scalar (fetched s.memory s.scalar.pc)) (λ n. step n s) ⊎ IsVector s
+whole s = told s (AllOrNothing s) (record {
+  fault = λ cause value u. (refl, λ e. cc);
+  runs = λ scalar first u. absurd u;
+  stores = λ addr bytes u. absurd u;
+  controls = λ register n rd value u. absurd u;
+  puts = λ addr asked u. absurd u;
+  exits = λ status u. absurd u;
+  breaks = λ u. absurd u;
+  full = λ u. absurd u;
+})
 
 -- ---- the word that is fetched
 
@@ -131,17 +62,6 @@ access_kept kind m other a (suc n) h =
     let here = allowed_by_get kind m other a (h a (omega arith) (omega arith)) in
     let rest = access_kept kind m other (a + 1) n (λ x l g. h x (omega (arith, l)) (omega (arith, g))) in
     cc
-
--- a state from which this word is fetched makes the step of its instruction
-record Fetches (word : ℕ) (s : HartState) : Type 0 where
-  allowed : can_access access.Fetch s.memory s.scalar.pc 4 ≡ true
-  reads : word_at s.memory s.scalar.pc ≡ word
-
-step_of : (n word : ℕ) (s : HartState) → Fetches word s → step n s ≡ executed n (scan table word) word s
-unfolding step
-step_of n word s f =
-    ap (λ (b : Bool). cond b (executed n (scan table (word_at s.memory s.scalar.pc)) (word_at s.memory s.scalar.pc) s) (faults FetchAccess s.scalar.pc s)) f.allowed
-    ∙ ap (λ (k : ℕ). executed n (scan table k) k s) f.reads
 
 fetch_grown : (word : ℕ) (s : HartState) (more : Memory) → Extends s.memory more → Fetches word s → Fetches word (finds more s)
 fetch_grown word s more grown f = record {
@@ -241,46 +161,6 @@ vector_step_resumes limit later i word s more is undone grown =
 
 -- ---- a step
 
-step_refused : (limit : ℕ) (s : HartState) → can_access access.Fetch s.memory s.scalar.pc 4 ≡ false → step limit s ≡ faults FetchAccess s.scalar.pc s
-unfolding step
-step_refused limit s e =
-    ap (λ (b : Bool). cond b (executed limit (scan table (word_at s.memory s.scalar.pc)) (word_at s.memory s.scalar.pc) s) (faults FetchAccess s.scalar.pc s)) e
-
--- the step of a fetched instruction that isn't one of vectors is whole, or leaves all
-record IsTold (limit : ℕ) (s : HartState) : Type 0 where
-  whole : AllOrNothing s (step limit s)
-
-record IsVector (s : HartState) : Type 0 where
-  fetches : Fetches (word_at s.memory s.scalar.pc) s
-  vector : IsVectorStep (scan table (word_at s.memory s.scalar.pc)) (word_at s.memory s.scalar.pc)
-  is_fetched : fetched s.memory s.scalar.pc ≡ Some vector.instr
-  touching : touches (fetched s.memory s.scalar.pc) ≡ true
-  same : (n : ℕ) → step n s ≡ vector_step n vector.instr (word_at s.memory s.scalar.pc) s
-
-told : (limit : ℕ) (s : HartState) → IsTold limit s ⊎ IsVector s
-told limit s = named (can_access access.Fetch s.memory s.scalar.pc 4) refl
-  where
-    word : ℕ
-    word = word_at s.memory s.scalar.pc
-
-    named : (b : Bool) → can_access access.Fetch s.memory s.scalar.pc 4 ≡ b → IsTold limit s ⊎ IsVector s
-    named false e =
-        inl (record { whole = subst (λ (r : Stepped). AllOrNothing s r) (sym (step_refused limit s e)) (λ u. (refl, λ q. cc)) })
-    named true e =
-        let f : Fetches word s = record { allowed = e; reads = refl } in
-        let at : fetched s.memory s.scalar.pc ≡ scan table word = ap (λ (b : Bool). cond b (scan table word) None) e in
-        elim (vector_or_whole limit (scan table word) word s) [
-          | inl whole ↦ inl (record { whole = subst (λ (r : Stepped). AllOrNothing s r) (sym (step_of limit word s f)) whole })
-          | inr v ↦
-              inr (record {
-                fetches = f;
-                vector = v;
-                is_fetched = at ∙ v.is;
-                touching = ap (λ (o : Option Instr). touches o) at ∙ v.touching;
-                same = λ n. step_of n word s f ∙ v.same n s;
-              })
-        ]
-
 cut_is_undone : (e : StepEnd) → e ≡ Cut → IsUndone e
 cut_is_undone e is = subst IsUndone (sym is) tt
 
@@ -291,14 +171,14 @@ pub fetched_resumes : (limit later : ℕ) (s : HartState) (more : Memory)
     → KeepsOwnWord (step limit s).state.vector.vstart (fetched s.memory s.scalar.pc) s
     → Extends (step limit s).state.memory more
     → ResumesFrom step later s more (step limit s).state
-fetched_resumes limit later s more is undone keeps grown = elim (told limit s) [
-  | inl t ↦ unchanged_resumes step later s more (step limit s).state (t.whole undone).0 grown
+fetched_resumes limit later s more is undone keeps grown = elim (whole s) [
+  | inl t ↦ unchanged_resumes step later s more (step limit s).state (subst (AllOrNothing s) (sym (t.same limit)) t.holds undone).0 grown
   | inr t ↦
       let i : Instr = t.vector.instr in
       let word : ℕ = word_at s.memory s.scalar.pc in
       let at : step limit s ≡ vector_step limit i word s = t.same limit in
       subst (λ (r : Stepped). ResumesFrom step later s more r.state) (sym at)
-      (vector_resumes limit later s more (is t.touching) word t.fetches t.vector
+      (vector_resumes limit later s more (is (ap touches t.is_fetched ∙ sym (ap touches t.vector.is) ∙ t.vector.touching)) word t.fetches t.vector
       (subst (λ (r : Stepped). IsUndone r.end) at undone)
       (subst (λ (r : Stepped). KeepsOwnWord r.state.vector.vstart (Some i) s) at
       (subst (λ (o : Option Instr). KeepsOwnWord (step limit s).state.vector.vstart o s) t.is_fetched keeps))
@@ -317,8 +197,8 @@ record CutIndex (limit : ℕ) (s : HartState) : Type 0 where
   end : (vector_executed limit vector.vector.instr s).end ≡ vector_end.Cut index
 
 cut_step : (limit : ℕ) (s : HartState) → (step limit s).end ≡ Cut → CutIndex limit s
-cut_step limit s cut = elim (told limit s) [
-  | inl t ↦ absurd ((t.whole (cut_is_undone (step limit s).end cut)).1 cut)
+cut_step limit s cut = elim (whole s) [
+  | inl t ↦ absurd ((subst (AllOrNothing s) (sym (t.same limit)) t.holds (cut_is_undone (step limit s).end cut)).1 cut)
   | inr t ↦
       let word : ℕ = word_at s.memory s.scalar.pc in
       let d : VectorStepped = vector_executed limit t.vector.instr s in

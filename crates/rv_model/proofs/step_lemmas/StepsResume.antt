@@ -1,5 +1,5 @@
 -- Each vector instruction that is cut or faults, run again.
-use Rattle.std.proofs.Common.{◌≡◌, ◌≢◌, ℕ, ◌+◌, ◌-◌, ◌≤◌, Bool, true, false, ◌&&◌, cond, List, Option, Some, None, refl, sym, ◌∙◌, ap, subst, arith}
+use Rattle.std.proofs.Common.{◌≡◌, ◌≢◌, ℕ, ◌+◌, ◌-◌, ◌≤◌, Bool, true, ◌&&◌, cond, List, Option, Some, None, refl, sym, ◌∙◌, ap, subst, arith}
 use Rattle.std.specs.Option.{option_and_then, option_map_or}
 use Rattle.std.specs.Prelude.{IfSome, IsSomeAnd, nat_lt}
 use Rattle.std.proofs.lemmas.Bool.{lt-ltb}
@@ -29,6 +29,7 @@ use Rattle.rv_model.proofs.access_lemmas.InstructionsResume.{access_resumes}
 use Rattle.rv_model.proofs.access_lemmas.Runs.{IsAgain, access_again, again_of, is_stopped, made_of, run_facts, run_is, stopped_state}
 use Rattle.rv_model.proofs.legality_lemmas.Meaning.{is_legal_means}
 use Rattle.rv_model.proofs.step_lemmas.Cuts.{accessed_facts, cut_at, operation_whole}
+use Rattle.rv_model.proofs.text_lemmas.Pieces.{of_option, of_test}
 use Rattle.rv_model.proofs.step_lemmas.StoredWords.{SameWord, run_keeps_word}
 
 -- ---- an access that stops leaves its tail
@@ -68,19 +69,22 @@ module _ (limit later : ℕ) (s : HartState) (more : Memory) where
   abbrev in_all : HartState → ℕ
   in_all part = part.vector.vstart - s.vector.vstart + later
 
-  -- it stops, and is run again
-  record IsPart (i : Instr) (does : Does) : Type 0 where
-    left : LeavesPart i s (does limit s).state
-    conf : (does limit s).state.vector.conf ≡ s.vector.conf
+  -- it stops, leaves this, and is run again
+  record IsPart (i : Instr) (does : Does) (d : VectorStepped) : Type 0 where
+    left : LeavesPart i s d.state
+    conf : d.state.vector.conf ≡ s.vector.conf
     anywhere : IsLegalAnywhere i
-    word : KeepsOwnWord (does limit s).state.vector.vstart (Some i) s → SameWord s.scalar.pc s.memory (does limit s).state.memory
-    legal : (does later (finds more (does limit s).state)).end ≢ vector_end.Illegal
-    same : does later (finds more (does limit s).state) ≡ does (in_all (does limit s).state) (finds (overlay s.memory more) s)
-    ticks : vector_ticks (in_all (does limit s).state) i (finds (overlay s.memory more) s)
-        ≡ vector_ticks later i (finds more (does limit s).state) + ((does limit s).state.vector.vstart - s.vector.vstart)
+    word : KeepsOwnWord d.state.vector.vstart (Some i) s → SameWord s.scalar.pc s.memory d.state.memory
+    legal : (does later (finds more d.state)).end ≢ vector_end.Illegal
+    same : does later (finds more d.state) ≡ does (in_all d.state) (finds (overlay s.memory more) s)
+    ticks : vector_ticks (in_all d.state) i (finds (overlay s.memory more) s)
+        ≡ vector_ticks later i (finds more d.state) + (d.state.vector.vstart - s.vector.vstart)
+
+  abbrev PartIf : Instr → Does → VectorStepped → Type 0
+  PartIf i does d = StopsShort d.end → Extends d.state.memory more → IsPart i does d
 
   abbrev Part : Instr → Does → Type 0
-  Part i does = StopsShort (does limit s).end → Extends (does limit s).state.memory more → IsPart i does
+  Part i does = PartIf i does (does limit s)
 
   -- ---- a load or store, by its access
 
@@ -150,10 +154,6 @@ module _ (limit later : ℕ) (s : HartState) (more : Memory) where
           begins : a.body.start ≡ s.vector.vstart
           begins = (made_of i s.vector s.scalar a e).begins
 
-      -- the state from which it goes on has the access
-      accessed_again : access_of i part.vector s.scalar ≡ Some next
-      accessed_again = ap (λ (v : VState). access_of i v s.scalar) vector ∙ again.is
-
       -- what a load or store leaves, by its run
       abbrev ending : Option GroupType → AccessRun → VectorStepped
       ending g r = vector_ends (access_end a.direction r.end) (after_access g a r s)
@@ -207,38 +207,23 @@ module _ (limit later : ℕ) (s : HartState) (more : Memory) where
 
   access_part : (i : AccessInstr) → IsLegal (instr.Access i) s.vector.conf.vtype s.vector.vstart → IsConfiguration s.vector.conf → IsLegalAnywhere (instr.Access i)
       → Part (instr.Access i) (λ n w. access_step n i (access_of i w.vector w.scalar) w)
-  access_part i legal is anywhere stops grown = named (access_of i s.vector s.scalar) refl
-    where
-      does : Does
-      does n w = access_step n i (access_of i w.vector w.scalar) w
-
-      named : (o : Option VectorAccess) → access_of i s.vector s.scalar ≡ o → IsPart (instr.Access i) does
-      named None e = absurd (stops.legal (ap (λ (o : Option VectorAccess). (access_step limit i o s).end) e))
-      named (Some a) e =
-          let here : does limit s ≡ access_step limit i (Some a) s = ap (λ (o : Option VectorAccess). access_step limit i o s) e in
-          let stops_here : StopsShort (access_step limit i (Some a) s).end = subst (λ (d : VectorStepped). StopsShort d.end) here stops in
-          let grown_here : Extends (access_step limit i (Some a) s).state.memory more = subst (λ (d : VectorStepped). Extends d.state.memory more) here grown in
-          let w : HartState = (access_step limit i (Some a) s).state in
-          let again = step_again i a e legal is stops_here grown_here in
-          let whole : does later (finds more w) ≡ does (in_all w) (finds (overlay s.memory more) s) =
-          again ∙ ap (λ (o : Option VectorAccess). access_step (in_all w) i o (finds (overlay s.memory more) s)) (sym e) in
-          record {
-            left = subst (λ (d : VectorStepped). LeavesPart (instr.Access i) s d.state) (sym here) (leaves_part i a e legal is stops_here grown_here);
-            conf = ap (λ (d : VectorStepped). d.state.vector.conf) here ∙ (stopped i a e legal is stops_here grown_here).conf;
-            anywhere = anywhere;
-            word =
-                subst (λ (d : VectorStepped). KeepsOwnWord d.state.vector.vstart (Some (instr.Access i)) s → SameWord s.scalar.pc s.memory d.state.memory)
-                (sym here) (word_kept i a e legal is stops_here grown_here);
-            legal =
-                subst (λ (d : VectorStepped). (does later (finds more d.state)).end ≢ vector_end.Illegal) (sym here)
-                (subst (λ (d : VectorStepped). d.end ≢ vector_end.Illegal) (sym again)
-                (not_illegal a.direction (accessed (in_all w) a (finds (overlay s.memory more) s)).end));
-            same = subst (λ (d : VectorStepped). does later (finds more d.state) ≡ does (in_all d.state) (finds (overlay s.memory more) s)) (sym here) whole;
-            ticks =
-                subst (λ (d : VectorStepped). vector_ticks (in_all d.state) (instr.Access i) (finds (overlay s.memory more) s)
-                ≡ vector_ticks later (instr.Access i) (finds more d.state) + (d.state.vector.vstart - s.vector.vstart)) (sym here)
-                (ticks_again i a e legal is stops_here grown_here);
-          }
+  access_part i legal is anywhere =
+      let does : Does = λ n w. access_step n i (access_of i w.vector w.scalar) w in
+      of_option (access_of i s.vector s.scalar) (λ o. PartIf (instr.Access i) does (access_step limit i o s))
+      (λ e stops. absurd (stops.legal refl))
+      (λ a e stops grown.
+      let n : ℕ = in_all (access_step limit i (Some a) s).state in
+      let w : HartState = finds (overlay s.memory more) s in
+      let again = step_again i a e legal is stops grown in
+      record {
+        left = leaves_part i a e legal is stops grown;
+        conf = (stopped i a e legal is stops grown).conf;
+        anywhere = anywhere;
+        word = word_kept i a e legal is stops grown;
+        legal = subst (λ (d : VectorStepped). d.end ≢ vector_end.Illegal) (sym again) (not_illegal a.direction (accessed n a w).end);
+        same = again ∙ ap (λ (o : Option VectorAccess). access_step n i o w) (sym e);
+        ticks = ticks_again i a e legal is stops grown;
+      })
 
   -- ---- each instruction
 
@@ -250,40 +235,28 @@ module _ (limit later : ℕ) (s : HartState) (more : Memory) where
 
   executed_part : (i : Instr) → IsConfiguration s.vector.conf → Part i (λ n w. vector_executed n i w)
   unfolding vector_executed
-  executed_part i is stops grown = named (is_legal i s.vector.conf.vtype s.vector.vstart) refl
-    where
-      at : (n : ℕ) (w : HartState) (b : Bool) → is_legal i w.vector.conf.vtype w.vector.vstart ≡ b
-          → vector_executed n i w ≡ cond b (performed n i w) (vector_ends vector_end.Illegal w)
-      at n w b e = ap (λ (b : Bool). cond b (performed n i w) (vector_ends vector_end.Illegal w)) e
-
-      named : (b : Bool) → is_legal i s.vector.conf.vtype s.vector.vstart ≡ b → IsPart i (λ n w. vector_executed n i w)
-      named false e = absurd (stops.legal (ap (λ (d : VectorStepped). d.end) (at limit s false e)))
-      named true e =
-          let here : vector_executed limit i s ≡ performed limit i s = at limit s true e in
-          let r : IsPart i (λ n w. performed n i w) =
-          performed_part i ((is_legal_means i s.vector.conf.vtype s.vector.vstart).0 e) is
-          (subst (λ (d : VectorStepped). StopsShort d.end) here stops) (subst (λ (d : VectorStepped). Extends d.state.memory more) here grown) in
-          let w : HartState = (performed limit i s).state in
-          let legal : is_legal i w.vector.conf.vtype w.vector.vstart ≡ true =
-          ap (λ c. is_legal i c.vtype w.vector.vstart) r.conf ∙ r.anywhere s.vector.conf.vtype w.vector.vstart s.vector.vstart ∙ e in
-          let next : vector_executed later i (finds more w) ≡ performed later i (finds more w) = at later (finds more w) true legal in
-          record {
-            left = subst (λ (d : VectorStepped). LeavesPart i s d.state) (sym here) r.left;
-            conf = ap (λ (d : VectorStepped). d.state.vector.conf) here ∙ r.conf;
-            anywhere = r.anywhere;
-            word =
-                subst (λ (d : VectorStepped). KeepsOwnWord d.state.vector.vstart (Some i) s → SameWord s.scalar.pc s.memory d.state.memory)
-                (sym here) r.word;
-            legal =
-                subst (λ (d : VectorStepped). (vector_executed later i (finds more d.state)).end ≢ vector_end.Illegal) (sym here)
-                (subst (λ (d : VectorStepped). d.end ≢ vector_end.Illegal) (sym next) r.legal);
-            same =
-                subst (λ (d : VectorStepped). vector_executed later i (finds more d.state) ≡ vector_executed (in_all d.state) i (finds (overlay s.memory more) s)) (sym here)
-                (next ∙ r.same ∙ sym (at (in_all w) (finds (overlay s.memory more) s) true e));
-            ticks =
-                subst (λ (d : VectorStepped). vector_ticks (in_all d.state) i (finds (overlay s.memory more) s)
-                ≡ vector_ticks later i (finds more d.state) + (d.state.vector.vstart - s.vector.vstart)) (sym here) r.ticks;
-          }
+  executed_part i is =
+      let does : Does = λ n w. vector_executed n i w in
+      of_test (PartIf i does) (is_legal i s.vector.conf.vtype s.vector.vstart) _ _
+      (λ e stops grown.
+      let w : HartState = (performed limit i s).state in
+      let at : (n : ℕ) (w : HartState) → is_legal i w.vector.conf.vtype w.vector.vstart ≡ true → does n w ≡ performed n i w =
+      λ n w e. ap (λ (b : Bool). cond b (performed n i w) (vector_ends vector_end.Illegal w)) e in
+      let r : IsPart i (λ n w. performed n i w) (performed limit i s) =
+      performed_part i ((is_legal_means i s.vector.conf.vtype s.vector.vstart).0 e) is stops grown in
+      let next : does later (finds more w) ≡ performed later i (finds more w) =
+      at later (finds more w)
+      (ap (λ c. is_legal i c.vtype w.vector.vstart) r.conf ∙ r.anywhere s.vector.conf.vtype w.vector.vstart s.vector.vstart ∙ e) in
+      record {
+        left = r.left;
+        conf = r.conf;
+        anywhere = r.anywhere;
+        word = r.word;
+        legal = subst (λ (d : VectorStepped). d.end ≢ vector_end.Illegal) (sym next) r.legal;
+        same = next ∙ r.same ∙ sym (at (in_all w) (finds (overlay s.memory more) s) e);
+        ticks = r.ticks;
+      })
+      (λ e stops. absurd (stops.legal refl))
 
 pub instruction_resumes : (limit later : ℕ) (i : Instr) (s : HartState) (more : Memory) → IsConfiguration s.vector.conf
     → StopsShort (vector_executed limit i s).end → Extends (vector_executed limit i s).state.memory more
@@ -294,10 +267,6 @@ instruction_resumes limit later i s more is stops grown = (executed_part limit l
 pub instruction_stops : (limit : ℕ) (i : Instr) (s : HartState) → IsConfiguration s.vector.conf → StopsShort (vector_executed limit i s).end
     → LeavesPart i s (vector_executed limit i s).state
 instruction_stops limit i s is stops = (executed_part limit 0 s (vector_executed limit i s).state.memory i is stops (λ a c e. e)).left
-
-pub configuration_stays : (limit : ℕ) (i : Instr) (s : HartState) → IsConfiguration s.vector.conf → StopsShort (vector_executed limit i s).end
-    → (vector_executed limit i s).state.vector.conf ≡ s.vector.conf
-configuration_stays limit i s is stops = (executed_part limit 0 s (vector_executed limit i s).state.memory i is stops (λ a c e. e)).conf
 
 -- ---- ticks
 
@@ -322,7 +291,7 @@ part_resumes : (limit later : ℕ) (i : Instr) (word : ℕ) (s : HartState) (mor
 part_resumes limit later i word s more is stops grown =
     let part : HartState = (vector_executed limit i s).state in
     let done : ℕ = part.vector.vstart - s.vector.vstart in
-    let r : IsPart limit later s more i (λ n w. vector_executed n i w) = executed_part limit later s more i is stops grown in
+    let r : IsPart limit later s more i (λ n w. vector_executed n i w) (vector_executed limit i s) = executed_part limit later s more i is stops grown in
     let d : VectorStepped = vector_executed later i (finds more part) in
     ap (λ (e : VectorStepped). after_vector (vector_ticks (done + later) i (finds (overlay s.memory more) s)) e.end word e.state) (sym r.same)
     ∙ ap (λ (n : ℕ). after_vector n d.end word d.state) r.ticks

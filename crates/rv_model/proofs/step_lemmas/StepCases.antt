@@ -1,0 +1,225 @@
+-- The ways in which a step ends that isn't a vector instruction's: what a law says of each of them, it says of all such steps.
+use Rattle.std.proofs.Common.{◌≡◌, ◌≢◌, ◌-◌, ◌⊎◌, inl, inr, ℕ, ◌%◌, ◌^◌, Bool, true, false, ◌&&◌, ◌||◌, ◌==◌, cond, List, ◌++◌, Option, Some, None, refl, sym, ◌∙◌, ap, subst, arith}
+use Rattle.std.specs.Prelude.{not, slice_set}
+use Rattle.std.specs.Int.{byte_len, w64, to_le_bytes}
+use Rattle.std.proofs.lemmas.Bool.Decides.{nat_tests}
+use Rattle.std.proofs.lemmas.List.{get_or-set_other}
+use Rattle.rv_model.specs.declared.instructions.instruction.Instr.{Instr}
+use Rattle.rv_model.specs.declared.instructions.instruction.Instr.TheVariants as instr
+use Rattle.rv_model.specs.declared.instructions.scalar.ScalarInstr.{ScalarInstr}
+use Rattle.rv_model.specs.declared.instructions.scalar.ScalarInstr.TheVariants.{Upper, Jump, JumpRegister, Branch, Load, Store, RegisterImmediate, ShiftImmediate, ShiftImmediateWord, RegisterRegister, Fence, System}
+use Rattle.rv_model.specs.declared.instructions.csr.CsrInstr.{CsrInstr}
+use Rattle.rv_model.specs.declared.instructions.csr.CsrInstr.TheVariants.{Register, Immediate}
+use Rattle.rv_model.specs.declared.instructions.operations.CsrOp.{CsrOp}
+use Rattle.rv_model.specs.declared.instructions.operations.SystemOp.TheVariants as system
+use Rattle.rv_model.specs.declared.memory.Access.TheVariants as access
+use Rattle.rv_model.specs.declared.scalar.Scalar.{Scalar}
+use Rattle.rv_model.specs.declared.step.step_end.Cause.{Cause}
+use Rattle.rv_model.specs.declared.step.step_end.Cause.TheVariants.{FetchAccess, IllegalInstruction, LoadAccess, MisalignedTarget, StoreAccess}
+use Rattle.rv_model.specs.declared.step.step_end.StepEnd.TheVariants.{Ran, Exit, Ebreak, OutputFull}
+use Rattle.rv_model.specs.declared.vector.control_register.ControlRegister.{ControlRegister}
+use Rattle.rv_model.specs.declared.instructions.operations.MaskUnaryOp.{MaskUnaryOp}
+use Rattle.rv_model.specs.declared.instructions.operations.MaskUnaryOp.TheVariants.{Scan, Viota}
+use Rattle.rv_model.specs.declared.instructions.operations.VectorOp.{VectorOp}
+use Rattle.rv_model.specs.declared.instructions.operations.VectorOp.TheVariants.{Binary, FixedPoint, Clip}
+use Rattle.rv_model.specs.declared.instructions.source.Source.{Source}
+use Rattle.rv_model.specs.declared.instructions.vector.VectorInstr.{VectorInstr}
+use Rattle.rv_model.specs.declared.instructions.vector.VectorInstr.TheVariants.{SetVli, SetIvli, SetVl, Arith, MaskToScalar, MaskUnary, MoveToScalar}
+use Rattle.rv_model.specs.declared.step.vector_end.VEnd.TheVariants.{Illegal}
+use Rattle.rv_model.specs.declared.vector.request.RequestedLength.{RequestedLength}
+use Rattle.rv_model.specs.declared.vector.request.RequestedLength.TheVariants.{Elements}
+use Rattle.rv_model.specs.declared.vector.types.VType.{VType}
+use Rattle.rv_model.specs.vector.Configuration.{GroupType, group_type}
+use Rattle.rv_model.specs.vector.Groups.{wide_type}
+use Rattle.rv_model.specs.instructions.Immediates.{i_immediate, s_immediate}
+use Rattle.rv_model.specs.instructions.Table.{scan, table}
+use Rattle.rv_model.specs.memory.Memory.{bytes_at, can_access, put_bytes}
+use Rattle.rv_model.specs.scalar.Arithmetic.{sum}
+use Rattle.rv_model.specs.scalar.ControlTransfer.{is_taken}
+use Rattle.rv_model.specs.scalar.LoadsAndStores.{load_width, store_width}
+use Rattle.rv_model.specs.scalar.Registers.{advanced, read_register, with_register}
+use Rattle.rv_model.specs.step.Hart.{HartState, Stepped, ends, faults, gives, retires}
+use Rattle.rv_model.specs.step.ScalarStep.{csr_executed, csr_step, environment_call, jump_step, jumps, scalar_step}
+use Rattle.rv_model.specs.step.Step.{executed, fetched, step, touches, word_at}
+use Rattle.rv_model.specs.step.Ticks.{is_scalar}
+use Rattle.rv_model.specs.step.VectorStep.{VectorStepped, arith_step, leaves, operation_step, requested_length, typed, typed_step, vector_ends, vector_step, vset_step}
+use Rattle.rv_model.specs.step.WriteCall.{output_room, write_call, write_count}
+use Rattle.rv_model.specs.vector.Control.{control_value, csr_form, is_write, with_control, written_value}
+use Rattle.rv_model.specs.vector.ControlRegisters.{control_register, is_read_only}
+use Rattle.rv_model.proofs.text_lemmas.Pieces.{of_bool, of_either, of_test}
+
+-- x0 reads the same
+abbrev pub SameFirst : Scalar → Scalar → Type 0
+SameFirst old new = read_register new 0 ≡ read_register old 0
+
+pub first-with_register : (rd value : ℕ) (s : Scalar) → SameFirst s (with_register rd value s)
+first-with_register rd value s =
+    of_test (SameFirst s) (rd == 0) s (record s { x = slice_set s.x rd value }) (λ e. refl)
+    (λ e. let other : 0 ≢ rd = grind (arith, nat_tests, e) in get_or-set_other s.x rd 0 value 0 other)
+
+pub record Cases (s : HartState) (P : Stepped → Type 0) : Type 0 where
+  pub fault : (cause : Cause) (value : ℕ) → P (faults cause value s)
+  pub runs : (scalar : Scalar) → SameFirst s.scalar scalar → P (ends Ran (record s { scalar = scalar }))
+  pub stores : (addr : ℕ) (bytes : List ℕ) → P (retires s.scalar (record s { memory = put_bytes s.memory addr bytes }))
+  pub controls : (register : ControlRegister) (n rd value : ℕ) → P (gives rd value (record s { vector = with_control register n s.vector }))
+  pub puts : (addr asked : ℕ)
+      → P (gives 10 (write_count asked s.output) (record s { output = s.output ++ bytes_at s.memory addr (write_count asked s.output) }))
+  pub exits : (status : ℕ) → P (ends (Exit status) s)
+  pub breaks : P (ends Ebreak s)
+  pub full : P (ends OutputFull s)
+
+module _ (s : HartState) (P : Stepped → Type 0) (c : Cases s P) where
+  gives_is : (rd value : ℕ) → P (gives rd value s)
+  gives_is rd value = c.runs (advanced (with_register rd value s.scalar)) (first-with_register rd value s.scalar)
+
+  jumps_is : (target : ℕ) (scalar : Scalar) → SameFirst s.scalar scalar → P (jumps target scalar s)
+  jumps_is target scalar h = of_either P (target % 4 == 0) _ _ (c.runs (record scalar { pc = target }) h) (c.fault MisalignedTarget target)
+
+  jump_is : (rd target : ℕ) → P (jump_step rd target s)
+  jump_is rd target = jumps_is target (with_register rd (sum w64 s.scalar.pc 4) s.scalar) (first-with_register rd (sum w64 s.scalar.pc 4) s.scalar)
+
+  csr_is : (register : Option ControlRegister) (op : CsrOp) (rd source operand word : ℕ) → P (csr_step register op rd source operand word s)
+  csr_is None op rd source operand word = c.fault IllegalInstruction word
+  csr_is (Some register) op rd source operand word =
+      of_either P (is_write op source && is_read_only register) _ _ (c.fault IllegalInstruction word)
+      (of_either P (is_write op source) _ _
+      (c.controls register (written_value op (control_value register s.vector) operand) rd (control_value register s.vector))
+      (gives_is rd (control_value register s.vector)))
+
+  write_is : P (write_call s)
+  unfolding write_call
+  write_is =
+      let asked : ℕ = read_register s.scalar 12 in
+      let addr : ℕ = read_register s.scalar 11 in
+      of_either P (not (read_register s.scalar 10 == 1)) _ _ (gives_is 10 (2 ^ 64 - 9))
+      (of_either P (asked == 0) _ _ (gives_is 10 0)
+      (of_either P (output_room s.output == 0) _ _ c.full
+      (of_either P (can_access access.Load s.memory addr (write_count asked s.output)) _ _ (c.puts addr asked) (gives_is 10 (2 ^ 64 - 14)))))
+
+  scalar_is : (i : ScalarInstr) → P (scalar_step i s)
+  unfolding environment_call
+  scalar_is (Upper op rd imm) = gives_is rd _
+  scalar_is (Jump rd imm) = jump_is rd _
+  scalar_is (JumpRegister rd rs1 imm) = jump_is rd _
+  scalar_is (Branch op rs1 rs2 imm) =
+      of_either P (is_taken op (read_register s.scalar rs1) (read_register s.scalar rs2)) _ _ (jumps_is _ s.scalar refl) (c.runs (advanced s.scalar) refl)
+  scalar_is (Load op rd rs1 imm) =
+      let addr : ℕ = sum w64 (read_register s.scalar rs1) (i_immediate imm) in
+      of_either P (can_access access.Load s.memory addr (byte_len (load_width op))) _ _ (gives_is rd _) (c.fault LoadAccess addr)
+  scalar_is (Store op rs1 rs2 imm) =
+      let addr : ℕ = sum w64 (read_register s.scalar rs1) (s_immediate imm) in
+      of_either P (can_access access.Store s.memory addr (byte_len (store_width op))) _ _
+      (c.stores addr (to_le_bytes (store_width op) (read_register s.scalar rs2))) (c.fault StoreAccess addr)
+  scalar_is (Fence rd rs1 ordering) = c.runs (advanced s.scalar) refl
+  scalar_is (System system.Ecall) =
+      of_either P (read_register s.scalar 17 == 93 || read_register s.scalar 17 == 94) _ _ (c.exits (read_register s.scalar 10 % 256))
+      (of_either P (read_register s.scalar 17 == 64) _ _ write_is (gives_is 10 (2 ^ 64 - 38)))
+  scalar_is (System system.Ebreak) = c.breaks
+  scalar_is (RegisterImmediate op rd rs1 imm) = gives_is rd _
+  scalar_is (ShiftImmediate op rd rs1 shamt) = gives_is rd _
+  scalar_is (ShiftImmediateWord op rd rs1 shamt) = gives_is rd _
+  scalar_is (RegisterRegister op rd rs1 rs2) = gives_is rd _
+
+  controls_is : (i : CsrInstr) (word : ℕ) → P (csr_executed i word s)
+  controls_is (Register op rd rs1 csr) word = csr_is (control_register csr) op rd rs1 (read_register s.scalar rs1) word
+  controls_is (Immediate op rd imm csr) word = csr_is (control_register csr) (csr_form op) rd imm imm word
+
+-- ---- with what is fetched
+
+-- what is a vector instruction, whatever the ticks and the state are
+pub record IsVectorStep (o : Option Instr) (word : ℕ) : Type 0 where
+  pub instr : Instr
+  pub is : o ≡ Some instr
+  pub touching : touches o ≡ true
+  pub vector : is_scalar o ≡ false
+  pub same : (n : ℕ) (w : HartState) → executed n o word w ≡ vector_step n instr word w
+
+-- what isn't makes the same step, however many ticks are left
+pub record IsScalarStep (P : Stepped → Type 0) (told_scalar : Bool) (of : ℕ → Stepped) : Type 0 where
+  pub result : Stepped
+  pub same : (n : ℕ) → of n ≡ result
+  pub holds : P result
+  pub scalar : told_scalar ≡ true
+
+executed_is : (s : HartState) (P : Stepped → Type 0) → Cases s P → (o : Option Instr) (word : ℕ)
+    → IsScalarStep P (is_scalar o) (λ n. executed n o word s) ⊎ IsVectorStep o word
+unfolding executed
+executed_is s P c None word = inl (record { result = _; same = λ n. refl; holds = c.fault IllegalInstruction word; scalar = refl })
+executed_is s P c (Some (instr.Scalar i)) word = inl (record { result = _; same = λ n. refl; holds = scalar_is s P c i; scalar = refl })
+executed_is s P c (Some (instr.Csr i)) word = inl (record { result = _; same = λ n. refl; holds = controls_is s P c i word; scalar = refl })
+executed_is s P c (Some i) word = inr (record { instr = i; is = refl; touching = refl; vector = refl; same = λ n w. refl })
+
+-- a state from which this word is fetched makes the step of its instruction
+pub record Fetches (word : ℕ) (s : HartState) : Type 0 where
+  pub allowed : can_access access.Fetch s.memory s.scalar.pc 4 ≡ true
+  pub reads : word_at s.memory s.scalar.pc ≡ word
+
+pub step_of : (n word : ℕ) (s : HartState) → Fetches word s → step n s ≡ executed n (scan table word) word s
+unfolding step
+step_of n word s f =
+    ap (λ (b : Bool). cond b (executed n (scan table (word_at s.memory s.scalar.pc)) (word_at s.memory s.scalar.pc) s) (faults FetchAccess s.scalar.pc s)) f.allowed
+    ∙ ap (λ (k : ℕ). executed n (scan table k) k s) f.reads
+
+pub record IsVector (s : HartState) : Type 0 where
+  pub fetches : Fetches (word_at s.memory s.scalar.pc) s
+  pub vector : IsVectorStep (scan table (word_at s.memory s.scalar.pc)) (word_at s.memory s.scalar.pc)
+  pub is_fetched : fetched s.memory s.scalar.pc ≡ Some vector.instr
+  pub same : (n : ℕ) → step n s ≡ vector_step n vector.instr (word_at s.memory s.scalar.pc) s
+
+-- a step is as its case says, or that of a vector instruction
+pub told : (s : HartState) (P : Stepped → Type 0) → Cases s P
+    → IsScalarStep P (is_scalar (fetched s.memory s.scalar.pc)) (λ n. step n s) ⊎ IsVector s
+unfolding step
+told s P c =
+    let word : ℕ = word_at s.memory s.scalar.pc in
+    let at : Bool → Option Instr = λ b. cond b (scan table word) None in
+    let makes : Bool → ℕ → Stepped = λ b n. cond b (executed n (scan table word) word s) (faults FetchAccess s.scalar.pc s) in
+    of_bool (can_access access.Fetch s.memory s.scalar.pc 4) (λ b. IsScalarStep P (is_scalar (at b)) (makes b) ⊎ IsVector s)
+    (λ e. elim (executed_is s P c (scan table word) word) [
+      | inl t ↦ inl t
+      | inr v ↦
+          let f : Fetches word s = record { allowed = e; reads = refl } in
+          inr (record { fetches = f; vector = v; is_fetched = ap at e ∙ v.is; same = λ n. step_of n word s f ∙ v.same n s })
+    ])
+    (λ e. inl (record { result = _; same = λ n. refl; holds = c.fault FetchAccess s.scalar.pc; scalar = refl }))
+
+pub of_step : (limit : ℕ) (s : HartState) (P : Stepped → Type 0) → Cases s P → ((i : Instr) (word : ℕ) → P (vector_step limit i word s)) → P (step limit s)
+of_step limit s P c vector = elim (told s P c) [
+  | inl t ↦ subst P (sym (t.same limit)) t.holds
+  | inr v ↦ subst P (sym (v.same limit)) (vector v.vector.instr (word_at s.memory s.scalar.pc))
+]
+
+-- ---- vector instructions that neither load nor store
+
+-- one sets the vector length, leaves registers and whether something saturated, or is illegal
+pub record Operations (s : HartState) (P : VectorStepped → Type 0) : Type 0 where
+  pub sets : (rd vtype : ℕ) (length : RequestedLength) → P (vset_step rd vtype length s)
+  pub leaves : (scalar : Scalar) → SameFirst s.scalar scalar → (file : List ℕ) (saturated : Bool)
+      → P (leaves scalar (record s.vector { file = file; vxsat = saturated }) s)
+  pub illegal : P (vector_ends Illegal s)
+
+module _ (s : HartState) (P : VectorStepped → Type 0) (c : Operations s P) where
+  typed_is : (o : Option VType) (done : VType → HartState → VectorStepped) → ((t : VType) → P (done t s)) → P (typed o done s)
+  typed_is None done each = c.illegal
+  typed_is (Some t) done each = each t
+
+  arith_is : (t : VType) (g w : GroupType) (op : VectorOp) (source : Source) (vd vs2 : ℕ) (vm : Bool) → P (arith_step t g w op source vd vs2 vm s)
+  arith_is t g w (Binary op) source vd vs2 vm = c.leaves s.scalar refl _ s.vector.vxsat
+  arith_is t g w (FixedPoint op) source vd vs2 vm = c.leaves s.scalar refl _ _
+  arith_is t g w (Clip op) source vd vs2 vm = c.leaves s.scalar refl _ _
+  arith_is t g w _ source vd vs2 vm = c.leaves s.scalar refl _ s.vector.vxsat
+
+  mask_unary_is : (t : VType) (op : MaskUnaryOp) (vd vs2 : ℕ) (vm : Bool) → P (typed_step (MaskUnary op vd vs2 vm) t s)
+  mask_unary_is t (Scan op) vd vs2 vm = c.leaves s.scalar refl _ s.vector.vxsat
+  mask_unary_is t Viota vd vs2 vm = c.leaves s.scalar refl _ s.vector.vxsat
+
+  pub operation_is : (i : VectorInstr) → P (operation_step i s)
+  unfolding operation_step
+  operation_is (SetVli rd rs1 vtype) = c.sets rd vtype (requested_length rd rs1 s.scalar)
+  operation_is (SetIvli rd avl vtype) = c.sets rd vtype (Elements avl)
+  operation_is (SetVl rd rs1 rs2) = c.sets rd (read_register s.scalar rs2) (requested_length rd rs1 s.scalar)
+  operation_is (Arith arith vd vs2 vm) = typed_is s.vector.conf.vtype _ (λ t. arith_is t (group_type t) (wide_type t) arith.0 arith.1 vd vs2 vm)
+  operation_is (MaskUnary op vd vs2 vm) = typed_is s.vector.conf.vtype _ (λ t. mask_unary_is t op vd vs2 vm)
+  operation_is (MaskToScalar op rd vs2 vm) = typed_is s.vector.conf.vtype _ (λ t. c.leaves _ (first-with_register rd _ s.scalar) s.vector.file s.vector.vxsat)
+  operation_is (MoveToScalar rd vs2) = typed_is s.vector.conf.vtype _ (λ t. c.leaves _ (first-with_register rd _ s.scalar) s.vector.file s.vector.vxsat)
+  operation_is _ = typed_is s.vector.conf.vtype _ (λ t. c.leaves s.scalar refl _ s.vector.vxsat)
