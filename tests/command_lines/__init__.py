@@ -19,5 +19,10 @@ policy that makes agnostic elements ones, as QEMU carries them out.
 first slice leaves it, how many slices are left, and then the registers or the bytes, with those beside.
 `data/stopped_accesses` has the same of loads and stores that come to the end of memory, and `data/write_calls` what
 calls put out and answer. `data/own_word_behind_a_fault` has a store that faults before the index that is to hit its own
-word: it is the same in slices of 4 and of 12 ticks, worked out by hand.
+word: it is the same in slices of 4 and of 12 ticks, worked out by hand. `data/stored_word_is_fetched_next` has programs that
+store over their next instruction, by each width and across a page, and one that counts in an instruction: what is fetched
+is what was stored, worked out by hand.
+
+Two tests take no stored output: a program's lines are the same however its ticks are divided into slices, and where each
+instruction by name is poked as the word that `asm` answered (`words.py`).
 """

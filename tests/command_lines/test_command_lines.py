@@ -1,12 +1,20 @@
-"""Compares pages and command lines with what is stored."""
+"""Compares pages and command lines with what is stored, and runs of the same program with one another."""
 
 import pytest
 
 from tests.command_lines.pages import MORE, TEMPLATES, page
 from tests.command_lines.stored import LINES, record, stored
-from tests.program import built, difference
+from tests.command_lines.words import by_names_and_words, has_names
+from tests.program import built, difference, lines_of
 
 STORED = stored()
+
+SAME_TICKS = [
+    ('["--quantum", "1", "twelve_slices"]', '["--quantum", "12", "one_slice"]'),
+    ('["--quantum", "4", "three_slices"]', '["--quantum", "12", "one_slice"]'),
+    ('["--quantum", "4", "own_word_behind_a_fault"]', '["--quantum", "12", "own_word_behind_a_fault"]'),
+]
+"""Command lines that grant a program the same ticks, in slices of other lengths."""
 
 
 @pytest.mark.parametrize("name", [*TEMPLATES.values(), MORE])
@@ -19,3 +27,17 @@ def test_page(name: str) -> None:
 def test_command_line(line: str) -> None:
     told = difference(record(built(), line), STORED.records[line])
     assert not told, told
+
+
+@pytest.mark.parametrize("line, other", SAME_TICKS)
+def test_slices_of_the_same_ticks(line: str, other: str) -> None:
+    """However its ticks are divided, a user's lines are the same."""
+    told, wanted = ([it for it in lines_of(record(built(), each)) if it.startswith("1 ")] for each in (line, other))
+    assert told == wanted
+
+
+@pytest.mark.parametrize("line", [it for it in LINES if has_names(it)])
+def test_words_of_names(line: str) -> None:
+    """An instruction that is poked by its word does what it does by name."""
+    poked, named = by_names_and_words(built(), line)
+    assert poked == named
