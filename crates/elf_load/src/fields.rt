@@ -1,6 +1,7 @@
 //! The fields of an image's headers.
 ghost use Rattle.std.specs.Prelude.{◌≡◌, ◌+◌, ◌*◌, ◌≤◌, length};
-ghost use Rattle.rv_model.specs.images.Fields.{number_in_file, entry_of, table_offset, header_count, header_at, program_header};
+ghost use Rattle.rv_model.specs.images.Fields.{number_in_file, entry_of, table_offset, header_count, header_at};
+ghost use Rattle.rv_model.specs.images.Fields.{program_header};
 
 use byteorder::{ByteOrder, LittleEndian};
 use rv_model::ProgramHeader;

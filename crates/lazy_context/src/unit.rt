@@ -67,6 +67,7 @@ impl Unit {
         }
     }
 
+    /// Whether the unit holds this user's state.
     fn is_owner(&self, user: User) -> bool
         ensures value { result ≡ is_owned_by self.now.owner user }
         ensures user { (1 ≤ user) × (user ≤ user_count) }

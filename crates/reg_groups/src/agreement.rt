@@ -1,7 +1,8 @@
 //! Which register operands may stand together in one instruction ("V" Vector Extension 1.0, sections
 //! 3.4.2, 5.2 and 5.3).
 ghost use Rattle.std.specs.Prelude.{◌≡◌, true};
-ghost use Rattle.rv_model.specs.legality.RegisterOperands.{allows, eew, end, is_group, is_mask, is_width, may_overlap, overlaps};
+ghost use Rattle.rv_model.specs.legality.RegisterOperands.{allows, eew, end, is_group, is_mask, is_width, may_overlap};
+ghost use Rattle.rv_model.specs.legality.RegisterOperands.{overlaps};
 
 use crate::groups::registers;
 use rv_model::{Content, Operand, Role, VECTOR_REGISTERS};

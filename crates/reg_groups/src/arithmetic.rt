@@ -80,7 +80,9 @@ fn is_legal_narrowing(vd: VReg, vs2: VReg, source: Source, unmasked: bool, vtype
 
 /// Whether they are legal as operands whose destination is a mask, which may be v0.
 #[inline(always)]
-#[tactic(auto, using(crate::proofs::Sources::shape_legal, crate::proofs::Pairs::compare_beside, crate::proofs::Pairs::mask_over_v0))]
+#[tactic(auto, using(crate::proofs::Sources::shape_legal,
+// And the mask beside its sources.
+crate::proofs::Pairs::compare_beside, crate::proofs::Pairs::mask_over_v0))]
 fn is_legal_comparison(vd: VReg, vs2: VReg, source: Source, unmasked: bool, vtype: VType) -> bool
     ensures { result ≡ are_legal (shape_operands Shape.Compare vd vs2 source unmasked vtype) }
 {

@@ -1,7 +1,9 @@
 //! Which vector instructions are legal.
 ghost use Rattle.std.specs.Prelude.{[], ◌∷◌, ◌≡◌, ◌↔◌, ◌+◌, ◌==◌, IsTrue, Some, None, true, false, ℕ};
 ghost use Rattle.std.specs.Option.{option_map_or};
-ghost use Rattle.rv_model.specs.legality.Legality.{IsLegal, access_operands, compress_operands, data_role, extension_operands, indexed_role, is_legal, mask_result, operands, unit_role, whole_move_operands};
+ghost use Rattle.rv_model.specs.legality.Legality.{IsLegal, access_operands, compress_operands, data_role};
+ghost use Rattle.rv_model.specs.legality.Legality.{extension_operands, indexed_role, is_legal, mask_result, operands};
+ghost use Rattle.rv_model.specs.legality.Legality.{unit_role, whole_move_operands};
 ghost use Rattle.rv_model.specs.legality.OperandShapes.{group, mask, v0};
 ghost use Rattle.rv_model.specs.legality.RegisterOperands.{are_legal, is_group};
 ghost use Rattle.rv_model.specs.vector.Configuration.{group_type, sew_width};
@@ -297,7 +299,11 @@ fn has_legal_access(instr: AccessInstr, vtype: VType) -> bool
 }
 
 /// Whether an operation without a line of its own in the manual's table is legal under a vector type.
-#[tactic(auto, using(crate::proofs::Sources::lone_legal), unfolding(rv_model::specs::legality::Legality::is_legal, rv_model::specs::legality::Legality::operands, rv_model::specs::legality::RegisterOperands::are_legal))]
+#[tactic(auto, using(crate::proofs::Sources::lone_legal), unfolding(
+// As it is written, and its operands.
+rv_model::specs::legality::Legality::is_legal, rv_model::specs::legality::Legality::operands,
+// That they are legal together.
+rv_model::specs::legality::RegisterOperands::are_legal))]
 #[inline(always)]
 fn is_legal_typed(operation: VectorInstr, vtype: VType, vstart: u8) -> bool
     requires { IsTrue (is_irregular operation) }
@@ -330,7 +336,11 @@ fn is_legal_typed(operation: VectorInstr, vtype: VType, vstart: u8) -> bool
 
 /// Whether an operation without a line of its own in the manual's table is legal with this vector type and vstart.
 /// Those that set the vector type need none.
-#[tactic(auto, unfolding(rv_model::specs::legality::Legality::is_legal, rv_model::specs::legality::Legality::operands, rv_model::specs::legality::RegisterOperands::are_legal))]
+#[tactic(auto, unfolding(
+// As it is written, and its operands.
+rv_model::specs::legality::Legality::is_legal, rv_model::specs::legality::Legality::operands,
+// That they are legal together.
+rv_model::specs::legality::RegisterOperands::are_legal))]
 #[inline(always)]
 pub fn legal_irregular(operation: &VectorInstr, conf: &VConf, vstart: u8) -> bool
     requires { IsTrue (is_irregular operation.now) }
@@ -365,7 +375,11 @@ pub fn legal_access(access: &AccessInstr, conf: &VConf) -> bool
 }
 
 /// Whether an instruction is legal; the test that the definitions have.
-#[tactic(auto, unfolding(rv_model::specs::legality::Legality::is_legal, rv_model::specs::legality::Legality::operands, rv_model::specs::legality::RegisterOperands::are_legal))]
+#[tactic(auto, unfolding(
+// As it is written, and its operands.
+rv_model::specs::legality::Legality::is_legal, rv_model::specs::legality::Legality::operands,
+// That they are legal together.
+rv_model::specs::legality::RegisterOperands::are_legal))]
 #[inline(always)]
 fn is_legal(instr: &Instr, conf: &VConf, vstart: u8) -> bool
     ensures { result ≡ is_legal instr.now conf.now.vtype vstart }

@@ -138,7 +138,8 @@ pub(crate) fn is_wide_beside(vd: VReg, first: VReg, vtype: VType) -> bool
 /// Whether a group of indices of 16 bits may be read beside a destination that may not overlap it.
 #[inline(always)]
 pub(crate) fn are_indices_apart(vd: VReg, first: VReg, vtype: VType) -> bool
-    ensures { result ≡ stands_beside (destination Shape.GatherIndices16 vd vtype) (vector_source Shape.GatherIndices16 first vtype) }
+    ensures { result
+        ≡ stands_beside (destination Shape.GatherIndices16 vd vtype) (vector_source Shape.GatherIndices16 first vtype) }
 {
     let indices = index_group(Role::Read, first, vtype);
     stands_beside(&group(Role::Apart, vd, vtype), &indices)

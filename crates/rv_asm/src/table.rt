@@ -1,5 +1,6 @@
 //! The rows of the table of names: by name, and by word.
-ghost use Rattle.std.specs.Prelude.{ℕ, ◌≡◌, ◌≤◌, ◌<◌, ◌^◌, ◌+◌, ◌-◌, ◌++◌, length, replicate, IfSome, position, unwrap_or, nat_eq, bit_and, slice_index};
+ghost use Rattle.std.specs.Prelude.{ℕ, ◌≡◌, ◌≤◌, ◌<◌, ◌^◌, ◌+◌, ◌-◌, ◌++◌, length, replicate, IfSome, position};
+ghost use Rattle.std.specs.Prelude.{unwrap_or, nat_eq, bit_and, slice_index};
 ghost use Rattle.std.specs.Str.{bytes_eq};
 ghost use Rattle.rv_model.specs.assembler.Fields.{fixed_mask};
 ghost use Rattle.rv_model.specs.declared.assembler.mnemonics.TheConstants.{ROW_COUNT};

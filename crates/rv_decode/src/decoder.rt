@@ -1,12 +1,17 @@
 //! Words to instructions.
-ghost use Rattle.std.specs.Prelude.{◌≡◌, ◌++◌, ◌⊎◌, bit_and, option_map, false, true, IfSome, IfNone, None, Some, if◌then◌else◌};
+ghost use Rattle.std.specs.Prelude.{◌≡◌, ◌++◌, ◌⊎◌, bit_and, option_map, false, true, IfSome, IfNone, None, Some};
+ghost use Rattle.std.specs.Prelude.{if◌then◌else◌};
 ghost use Rattle.rv_model.specs.declared.instructions.operations.Form.TheVariants as form;
 ghost use Rattle.rv_model.specs.instructions.Operations.{major_bits};
 ghost use Rattle.rv_model.specs.instructions.Layout.{word_of};
 ghost use Rattle.rv_decode.specs.Opcodes.{is_irregular, is_scalar, is_scalar_opcode};
 ghost use Rattle.rv_decode.specs.Irregular.{irregular, other_accesses};
 ghost use Rattle.rv_model.specs.instructions.Table.{Row, IsRow, scan, table};
-ghost use Rattle.rv_model.specs.lending.Families.{rows, Uppers, Jumps, JumpRegisters, Branches, Loads, Stores, RegisterImmediates, ShiftImmediates, ShiftImmediateWords, RegisterRegisters, Fences, Systems, Csrs, CsrImmediates, SetVlis, SetIvlis, SetVls, Ariths, Carries, Moves, WholeMoves, MaskLogics, Compresses, MasksToScalar, Extends, MaskUnaries, ElementIndices, MovesToScalar, MovesToVector, Units, Strideds, Indexeds, WholeLoads, WholeStores, MaskMemories};
+ghost use Rattle.rv_model.specs.lending.Families.{rows, RegisterImmediates, ShiftImmediates, ShiftImmediateWords, Csrs};
+ghost use Rattle.rv_model.specs.lending.Families.{CsrImmediates, SetVlis, SetIvlis, SetVls, Carries, Moves, WholeMoves};
+ghost use Rattle.rv_model.specs.lending.Families.{MaskLogics, Compresses, MasksToScalar, Extends, MaskUnaries};
+ghost use Rattle.rv_model.specs.lending.Families.{ElementIndices, MovesToScalar, Units, Strideds, Indexeds, WholeLoads};
+ghost use Rattle.rv_model.specs.lending.Families.{WholeStores, MaskMemories};
 
 use crate::scalar::{
     branch, csr, csr_immediate, fence, jump, jump_register, load, register_immediate,
@@ -70,7 +75,8 @@ pub fn decode_regular(word: u32) -> Option<ArithOperation>
 /// OPIVV and OPIVX, and OPIVI but for moves of whole registers.
 #[tactic(auto, using(rv_model::proofs::instruction_lemmas::Scans::scan_append))]
 fn carry_or_move(word: u32, form: Form) -> Option<VectorInstr>
-    ensures row { option_map Instr.Vector result ≡ scan (rows (Carries form) ++ rows (Moves form)) word }
+    ensures row { option_map Instr.Vector result
+        ≡ scan (rows (Carries form) ++ rows (Moves form)) word }
     ensures group { IfSome result (λ i. is_irregular i ≡ true) }
 {
     if let Some(instr) = carry(word, form) {
@@ -82,7 +88,8 @@ fn carry_or_move(word: u32, form: Form) -> Option<VectorInstr>
 /// OPIVI.
 #[tactic(auto, using(rv_model::proofs::instruction_lemmas::Scans::scan_append))]
 fn immediate(word: u32) -> Option<VectorInstr>
-    ensures row { option_map Instr.Vector result ≡ scan (rows (Carries form.I) ++ rows (Moves form.I) ++ rows WholeMoves) word }
+    ensures row { option_map Instr.Vector result
+        ≡ scan (rows (Carries form.I) ++ rows (Moves form.I) ++ rows WholeMoves) word }
     ensures group { IfSome result (λ i. is_irregular i ≡ true) }
 {
     if let Some(instr) = carry_or_move(word, Form::I) {
@@ -317,7 +324,8 @@ fn call_or_csr(word: u32) -> Option<Instr>
 #[tactic(auto, using(crate::proofs::Scan::opcode_steps))]
 #[inline(always)]
 pub fn decode_scalar(word: u32) -> Option<ScalarInstr>
-    ensures row { option_map Instr.Scalar result ≡ (if is_scalar_opcode (bit_and word 0x7f) then scan table word else None) }
+    ensures row { option_map Instr.Scalar result
+        ≡ (if is_scalar_opcode (bit_and word 0x7f) then scan table word else None) }
     ensures group { IfSome result (λ i. is_scalar i ≡ true) }
 {
     match word & 0x7f {

@@ -158,7 +158,9 @@ fn code(instr: &Instr) -> u64
 }
 
 /// The word of an instruction.
-#[tactic(auto, using(rv_model::proofs::instruction_lemmas::RoundTrips::small, rv_model::proofs::instruction_lemmas::RoundTrips::back, rv_model::proofs::instruction_lemmas::RoundTrips::word_sum))]
+#[tactic(auto, using(rv_model::proofs::instruction_lemmas::RoundTrips::small,
+// And the way back.
+rv_model::proofs::instruction_lemmas::RoundTrips::back, rv_model::proofs::instruction_lemmas::RoundTrips::word_sum))]
 pub fn encode(instr: &Instr) -> u32
     ensures word { result ≡ word_of instr.now }
     ensures row { scan table result ≡ Some instr.now }

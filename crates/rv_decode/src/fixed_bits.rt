@@ -1,7 +1,11 @@
 //! The bits that each operation fixes in its word.
 ghost use Rattle.std.specs.Prelude.{◌≡◌, ◌<◌, ◌^◌};
 ghost use Rattle.rv_model.specs.instructions.FixedBits.{count_bits, direction_bits, order_bits, unit_bits, width_bits};
-ghost use Rattle.rv_model.specs.lending.ListedBits.{mask_memory_bits, move_bits, whole_move_bits, branch_bits, csr_bits, csr_immediate_bits, extend_bits, load_bits, mask_logic_bits, mask_to_scalar_bits, mask_unary_bits, register_op_bits, immediate_op_bits, shift_immediate_bits, shift_immediate_word_bits, store_bits, system_bits, upper_bits};
+ghost use Rattle.rv_model.specs.lending.ListedBits.{mask_memory_bits, move_bits, whole_move_bits, branch_bits};
+ghost use Rattle.rv_model.specs.lending.ListedBits.{csr_bits, csr_immediate_bits, extend_bits, load_bits};
+ghost use Rattle.rv_model.specs.lending.ListedBits.{mask_logic_bits, mask_to_scalar_bits, mask_unary_bits};
+ghost use Rattle.rv_model.specs.lending.ListedBits.{register_op_bits, immediate_op_bits, shift_immediate_bits};
+ghost use Rattle.rv_model.specs.lending.ListedBits.{shift_immediate_word_bits, store_bits, system_bits, upper_bits};
 
 use rv_model::instructions::operations::{
     BranchOp, CsrImmediateOp, CsrOp, Direction, Eew, ExtendOp, Form, ImmediateOp, LoadOp,

@@ -1,7 +1,10 @@
 //! The lines of the manual's table of vector operations.
 ghost use Rattle.std.specs.Prelude.{◌≡◌, ◌<◌};
 ghost use Rattle.rv_model.specs.instructions.Operations.{carry_line, line, has_form};
-ghost use Rattle.rv_model.specs.lending.ListedBits.{line_at, binary_line, carry_out_line, compare_line, fixed_point_line, narrow_shift_line, clip_line, widen_line, wide_source_line, multiply_add_line, widen_multiply_add_line, reduce_line, widen_reduce_line, permute_line};
+ghost use Rattle.rv_model.specs.lending.ListedBits.{line_at, binary_line, carry_out_line, compare_line};
+ghost use Rattle.rv_model.specs.lending.ListedBits.{fixed_point_line, narrow_shift_line, clip_line, widen_line};
+ghost use Rattle.rv_model.specs.lending.ListedBits.{wide_source_line, multiply_add_line, widen_multiply_add_line};
+ghost use Rattle.rv_model.specs.lending.ListedBits.{reduce_line, widen_reduce_line, permute_line};
 
 use rv_model::instructions::operations::{
     BinaryOp, CarryOp, CarryOutOp, ClipOp, CompareOp, FixedPointOp, Form, Forms, Line, Major,

@@ -3,7 +3,8 @@
 
 ghost use Rattle.std.specs.Prelude.{◌≡◌};
 ghost use Rattle.rv_model.specs.instructions.Table.{counts, directions};
-ghost use Rattle.rv_model.specs.lending.ListedBits.{mask_memory_bits, unit_access_bits, strided_access_bits, indexed_access_bits, whole_load_bits, whole_store_bits};
+ghost use Rattle.rv_model.specs.lending.ListedBits.{mask_memory_bits, unit_access_bits, strided_access_bits};
+ghost use Rattle.rv_model.specs.lending.ListedBits.{indexed_access_bits, whole_load_bits, whole_store_bits};
 ghost use Rattle.rv_model.specs.lending.Families.{unit_accesses, strided_accesses, indexed_accesses, whole_loads};
 ghost use Rattle.rv_model.specs.lending.Search.{find};
 

@@ -4,7 +4,9 @@
 ghost use Rattle.std.specs.Prelude.{◌≡◌, IfSome, option_map, true};
 ghost use Rattle.rv_decode.specs.Opcodes.{is_scalar};
 ghost use Rattle.rv_model.specs.instructions.Table.{scan};
-ghost use Rattle.rv_model.specs.lending.Families.{rows, Uppers, Jumps, JumpRegisters, Branches, Loads, Stores, RegisterImmediates, ShiftImmediates, ShiftImmediateWords, RegisterRegisters, Fences, Systems, Csrs, CsrImmediates};
+ghost use Rattle.rv_model.specs.lending.Families.{rows, Uppers, Jumps, JumpRegisters, Branches, Loads, Stores};
+ghost use Rattle.rv_model.specs.lending.Families.{RegisterImmediates, ShiftImmediates, ShiftImmediateWords};
+ghost use Rattle.rv_model.specs.lending.Families.{RegisterRegisters, Fences, Systems, Csrs, CsrImmediates};
 
 use crate::scalar_operations::{
     branch_op, csr_immediate_op, csr_op, immediate_op, load_op, register_op, shift_immediate_op,

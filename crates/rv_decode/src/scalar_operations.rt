@@ -2,8 +2,12 @@
 #![tactic(auto, unfolding(rv_model::specs::lending::Search::find))]
 
 ghost use Rattle.std.specs.Prelude.{◌≡◌};
-ghost use Rattle.rv_model.specs.lending.Families.{upper_ops, branch_ops, load_ops, store_ops, immediate_ops, shift_immediate_ops, shift_immediate_word_ops, register_ops, system_ops, csr_ops, csr_immediate_ops};
-ghost use Rattle.rv_model.specs.lending.ListedBits.{upper_bits, branch_bits, load_bits, store_bits, immediate_op_bits, shift_immediate_bits, shift_immediate_word_bits, register_op_bits, system_bits, csr_bits, csr_immediate_bits};
+ghost use Rattle.rv_model.specs.lending.Families.{upper_ops, branch_ops, load_ops, store_ops, immediate_ops};
+ghost use Rattle.rv_model.specs.lending.Families.{shift_immediate_ops, shift_immediate_word_ops, register_ops};
+ghost use Rattle.rv_model.specs.lending.Families.{system_ops, csr_ops, csr_immediate_ops};
+ghost use Rattle.rv_model.specs.lending.ListedBits.{upper_bits, branch_bits, load_bits, store_bits, immediate_op_bits};
+ghost use Rattle.rv_model.specs.lending.ListedBits.{shift_immediate_bits, shift_immediate_word_bits, register_op_bits};
+ghost use Rattle.rv_model.specs.lending.ListedBits.{system_bits, csr_bits, csr_immediate_bits};
 ghost use Rattle.rv_model.specs.lending.Search.{find};
 
 use rv_model::instructions::operations::{

@@ -5,7 +5,9 @@ ghost use Rattle.std.specs.Prelude.{◌≡◌, IfSome, bit_and, option_map, true
 ghost use Rattle.rv_decode.specs.Opcodes.{is_irregular};
 ghost use Rattle.rv_model.specs.instructions.Operations.{major_bits};
 ghost use Rattle.rv_model.specs.instructions.Table.{scan};
-ghost use Rattle.rv_model.specs.lending.Families.{rows, SetVlis, SetIvlis, SetVls, WholeMoves, MaskLogics, Compresses, MasksToScalar, Extends, MaskUnaries, ElementIndices, MovesToScalar, MovesToVector, Ariths, Carries, Moves};
+ghost use Rattle.rv_model.specs.lending.Families.{rows, SetVlis, SetIvlis, SetVls, WholeMoves, MaskLogics, Compresses};
+ghost use Rattle.rv_model.specs.lending.Families.{MasksToScalar, Extends, MaskUnaries, ElementIndices, MovesToScalar};
+ghost use Rattle.rv_model.specs.lending.Families.{MovesToVector, Ariths, Carries, Moves};
 
 use crate::vector_operations::{
     carry_op, extend_op, mask_logic_op, mask_to_scalar_op, mask_unary_op, opi, opm, whole_move_op,

@@ -1,7 +1,8 @@
 //! Words to vector accesses of memory, a function for each layout of operands.
 ghost use Rattle.std.specs.Prelude.{◌≡◌, option_map};
 ghost use Rattle.rv_model.specs.instructions.Table.{scan};
-ghost use Rattle.rv_model.specs.lending.Families.{rows, Units, Strideds, Indexeds, WholeLoads, WholeStores, MaskMemories};
+ghost use Rattle.rv_model.specs.lending.Families.{rows, Units, Strideds, Indexeds, WholeLoads, WholeStores};
+ghost use Rattle.rv_model.specs.lending.Families.{MaskMemories};
 
 use crate::memory_operations::{
     indexed_access, mask_memory_direction, strided_access, unit_access, whole_load_access,

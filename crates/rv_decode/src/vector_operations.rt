@@ -1,8 +1,10 @@
 //! The vector operations by funct6 and form, or by the bits that they fix.
 ghost use Rattle.std.specs.Prelude.{◌≡◌, ◌<◌, ◌≤◌, IfSome, Some, None, true, if◌then◌else◌};
-ghost use Rattle.rv_model.specs.lending.ListedBits.{whole_move_bits, mask_logic_bits, mask_to_scalar_bits, extend_bits, mask_unary_bits};
+ghost use Rattle.rv_model.specs.lending.ListedBits.{whole_move_bits, mask_logic_bits, mask_to_scalar_bits, extend_bits};
+ghost use Rattle.rv_model.specs.lending.ListedBits.{mask_unary_bits};
 ghost use Rattle.rv_model.specs.instructions.Table.{counts};
-ghost use Rattle.rv_model.specs.lending.Families.{mask_logic_ops, mask_to_scalar_ops, extend_ops, mask_unary_ops, carry_ops};
+ghost use Rattle.rv_model.specs.lending.Families.{mask_logic_ops, mask_to_scalar_ops, extend_ops, mask_unary_ops};
+ghost use Rattle.rv_model.specs.lending.Families.{carry_ops};
 ghost use Rattle.rv_model.specs.instructions.Operations.{has_form, line, carry_line, line_bits, vector_ops};
 ghost use Rattle.rv_model.specs.lending.Search.{those, find, find_at};
 

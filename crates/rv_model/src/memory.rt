@@ -1,6 +1,7 @@
 //! How a user's memory is divided, and what it allows.
 ghost use Rattle.std.specs.Prelude.{◌≡◌};
-ghost use Rattle.rv_model.specs.memory.Memory.{permits, WritesBytes, KeepsPermissions, MapsZeros, MapsPermissions, ReadsBytes, AllowsEachByte};
+ghost use Rattle.rv_model.specs.memory.Memory.{permits, WritesBytes, KeepsPermissions, MapsZeros, MapsPermissions};
+ghost use Rattle.rv_model.specs.memory.Memory.{ReadsBytes, AllowsEachByte};
 
 use crate::machine::USER_COUNT;
 

@@ -1,7 +1,8 @@
 //! Operations of a register and an immediate (Unprivileged ISA 20191213, sections 2.4 and 5.2).
 ghost use Rattle.std.specs.Prelude.{◌≡◌};
 ghost use Rattle.rv_model.specs.instructions.Immediates.{i_immediate};
-ghost use Rattle.rv_model.specs.scalar.Arithmetic.{immediate_op_form, register_op_value, shift_immediate_form, shift_immediate_word_form, upper_value};
+ghost use Rattle.rv_model.specs.scalar.Arithmetic.{immediate_op_form, register_op_value, shift_immediate_form};
+ghost use Rattle.rv_model.specs.scalar.Arithmetic.{shift_immediate_word_form, upper_value};
 
 use crate::arithmetic::alu;
 use crate::immediates::{i_immediate, u_immediate};

@@ -1,6 +1,7 @@
 //! The 64-bit words that immediates mean (Unprivileged ISA 20191213, sections 2.3 and 5.2).
 ghost use Rattle.std.specs.Prelude.{◌≡◌};
-ghost use Rattle.rv_model.specs.instructions.Immediates.{b_immediate, i_immediate, j_immediate, s_immediate, u_immediate};
+ghost use Rattle.rv_model.specs.instructions.Immediates.{b_immediate, i_immediate, j_immediate, s_immediate};
+ghost use Rattle.rv_model.specs.instructions.Immediates.{u_immediate};
 
 use crate::extension::sign_extend;
 use rv_model::Field;

@@ -1,6 +1,7 @@
 //! Accesses of a user's bytes. One that lies in one page takes one look-up and one copy; all others go from page
 //! to page.
-ghost use Rattle.std.specs.Prelude.{◌≡◌, ℕ, List, ◌≤◌, ◌<◌, ◌+◌, ◌*◌, ◌/◌, ◌%◌, ◌↔◌, ◌&&◌, nat_lt, nat_le, Some, true, IsOk, IfOk, IfErr, IfSome, OnOk, OnErr, is_some, length};
+ghost use Rattle.std.specs.Prelude.{◌≡◌, ℕ, List, ◌≤◌, ◌<◌, ◌+◌, ◌*◌, ◌/◌, ◌%◌, ◌↔◌, ◌&&◌, nat_lt, nat_le, Some, true};
+ghost use Rattle.std.specs.Prelude.{IsOk, IfOk, IfErr, IfSome, OnOk, OnErr, is_some, length};
 ghost use Rattle.rv_model.specs.memory.Memory.{can_access, bytes_at, put_bytes, can_access_byte};
 ghost use Rattle.rv_model.specs.memory.Sizes.{page_size};
 ghost use Rattle.user_mem.specs.declared.entry.Entry.{Entry};

@@ -1,5 +1,6 @@
 //! A user's page table: entries in the order of their pages, found by binary search.
-ghost use Rattle.std.specs.Prelude.{◌≡◌, ℕ, List, ◌≤◌, ◌<◌, ◌+◌, ◌-◌, ◌/◌, ◌%◌, min, cond, nat_eq, false, Some, None, IfOk, IfErr, IfNone, length};
+ghost use Rattle.std.specs.Prelude.{◌≡◌, ℕ, List, ◌≤◌, ◌<◌, ◌+◌, ◌-◌, ◌/◌, ◌%◌, min, cond, nat_eq, false, Some, None};
+ghost use Rattle.std.specs.Prelude.{IfOk, IfErr, IfNone, length};
 ghost use Rattle.arrayvec.specs.ArrayVec.{array_vec_len};
 ghost use Rattle.rv_model.specs.memory.Memory.{can_access, any_page_mapped, map_refusal, can_access_byte};
 ghost use Rattle.rv_model.specs.memory.Sizes.{page_size, page_quota, page_limit};

@@ -3,8 +3,8 @@
 use crate::instructions::operands::VReg;
 use crate::instructions::pairs::Arith;
 
-/// A vector operation: with its second source, on the group from `vs2` on, to the group from `vd` on; masked by v0 unless
-/// it is unmasked.
+/// A vector operation: with its second source, on the group from `vs2` on, to the group from `vd` on; masked by v0
+/// unless it is unmasked.
 #[derive(Clone, Copy)]
 pub struct ArithOperation {
     pub arith: Arith,

@@ -1,12 +1,17 @@
 //! Laws of the definitions, and small examples of them.
-ghost use Rattle.rv_model.specs.machine.AbsentUsers.{AbsentUsersHaveNothing, AbsentUsersLeaveTheUnit, HappeningsKeepNothing, ScriptsKeepNothing};
+ghost use Rattle.rv_model.specs.machine.AbsentUsers.{AbsentUsersHaveNothing, AbsentUsersLeaveTheUnit};
+ghost use Rattle.rv_model.specs.machine.AbsentUsers.{HappeningsKeepNothing, ScriptsKeepNothing};
 ghost use Rattle.rv_model.specs.machine.Cuts.{CutsAreInvisible, SliceKeepsConfiguration, SlicesAddUp};
-ghost use Rattle.rv_model.specs.machine.Laws.{EachUserAlone, EachNewUserAlone, EachUserEndsAlone, OthersChangeNothing, EqualPartsAnswerAlike, MachinesStayEight};
-ghost use Rattle.rv_model.specs.machine.Refusals.{ReasonsAreRefusals, RefusedHappeningsChangeNothing, RefusedLinesChangeNothing};
-ghost use Rattle.rv_model.specs.step.Effects.{FaultsWriteNoRegister, FirstRegisterStays, OutputGrowsWithin, StepKeepsConfiguration, StepKeepsPermissions};
+ghost use Rattle.rv_model.specs.machine.Laws.{EachUserAlone, EachNewUserAlone, EachUserEndsAlone, OthersChangeNothing};
+ghost use Rattle.rv_model.specs.machine.Laws.{EqualPartsAnswerAlike, MachinesStayEight};
+ghost use Rattle.rv_model.specs.machine.Refusals.{ReasonsAreRefusals, RefusedHappeningsChangeNothing};
+ghost use Rattle.rv_model.specs.machine.Refusals.{RefusedLinesChangeNothing};
+ghost use Rattle.rv_model.specs.step.Effects.{FaultsWriteNoRegister, FirstRegisterStays, OutputGrowsWithin};
+ghost use Rattle.rv_model.specs.step.Effects.{StepKeepsConfiguration, StepKeepsPermissions};
 ghost use Rattle.rv_model.specs.machine.Examples.{SmallScriptsPrint};
 ghost use Rattle.rv_model.specs.machine.World.{new_world};
-ghost use Rattle.rv_model.specs.machine.Turns.{NobodyHasTwoTurns, EachRunningUserHasATurn, GrantsAreInTurn, ScriptsAreInTurn, OneTurnBetweenTurns};
+ghost use Rattle.rv_model.specs.machine.Turns.{NobodyHasTwoTurns, EachRunningUserHasATurn, GrantsAreInTurn};
+ghost use Rattle.rv_model.specs.machine.Turns.{ScriptsAreInTurn, OneTurnBetweenTurns};
 
 /// Each user's lines are those of a private machine that is given the user's own commands and
 /// slices: from any eight machines, and from new ones.

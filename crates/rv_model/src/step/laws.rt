@@ -4,7 +4,8 @@ ghost use Rattle.rv_model.specs.declared.instructions.access.AccessInstr.{Access
 ghost use Rattle.rv_model.specs.declared.instructions.instruction.Instr.{Instr};
 ghost use Rattle.rv_model.specs.declared.scalar.Scalar.{Scalar};
 ghost use Rattle.rv_model.specs.declared.vector.state.VState.{VState};
-ghost use Rattle.rv_model.specs.accesses.Restarts.{AccessLeavesOff, AccessesGoOn, LargerLimitIsSame, LaterIndicesStay, OverlayIsEither, OverlayOfGrown, access_from};
+ghost use Rattle.rv_model.specs.accesses.Restarts.{AccessLeavesOff, AccessesGoOn, LargerLimitIsSame, LaterIndicesStay};
+ghost use Rattle.rv_model.specs.accesses.Restarts.{OverlayIsEither, OverlayOfGrown, access_from};
 ghost use Rattle.rv_model.specs.step.Resumes.{InstructionsGoOn, StepsGoOn};
 ghost use Rattle.rv_model.specs.step.Step.{fetched, step};
 ghost use Rattle.rv_model.specs.step.Ticks.{ScalarStepsTakeOneTick, TakesTicks};
@@ -18,7 +19,8 @@ pub fn loads_and_stores_resume()
     ensures indices { LaterIndicesStay }
     ensures leaves { AccessLeavesOff }
     ensures again { AccessesGoOn }
-    ensures limit { (fill : Bool) (i : AccessInstr) (x : Scalar) (v : VState) → LargerLimitIsSame (access_from fill i x v) }
+    ensures limit { (fill : Bool) (i : AccessInstr) (x : Scalar) (v : VState)
+        → LargerLimitIsSame (access_from fill i x v) }
     ensures overlay { OverlayIsEither }
     ensures grown { OverlayOfGrown }
 {}

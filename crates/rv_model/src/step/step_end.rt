@@ -46,7 +46,8 @@ pub enum StepEnd {
     Fault { cause: Cause, pc: u64, value: u64 },
     /// It is a call that writes, and the output buffer has no room; the program stops there.
     OutputFull,
-    /// It is a vector load or store that was cut: the elements before `vstart` are done, and the rest of it is done the next time.
+    /// It is a vector load or store that was cut: the elements before `vstart` are done, and the rest of it is done
+    /// the next time.
     Cut,
 }
 

@@ -31,7 +31,8 @@ static CONTROL_REGISTERS: [ControlRegister; 7] = [
 
 impl ControlRegister {
     ghost use Rattle.std.specs.Prelude.{◌≡◌, ◌≤◌, ◌<◌, ◌^◌, length};
-    ghost use Rattle.rv_model.specs.vector.ControlRegisters.{control_register, control_registers, is_read_only, register_name, register_number};
+    ghost use Rattle.rv_model.specs.vector.ControlRegisters.{control_register, control_registers, is_read_only};
+    ghost use Rattle.rv_model.specs.vector.ControlRegisters.{register_name, register_number};
     ghost use Rattle.rv_model.specs.vector.TypeNames.{with_name};
 
     /// The register's number, of 12 bits.
