@@ -2,10 +2,10 @@
 """Runs a command and tells what the proofs in it took, crate by crate: `tools/gate_times.py OUT COMMAND...`, say
 `tools/gate_times.py /tmp/times bash .ci/run` at the top of a fresh clone.
 
-The file OUT gets a table in seconds of processor: each crate's own proof, that of its tests, the first check of its must-fail edits, all
-their other checks, and how many those were. The last line has the processor time of the whole command, with its programs, tests and
-compilers, and the time by the clock. Each process of the prover is looked at twice a second, so the last half second of each may be missing
-from the table; it is in the whole.
+The file OUT gets a table in seconds of processor: each crate's own proof, that of its tests, the first check of its must-fail edits (of the
+crate as it stands, from which each edit begins), the checks of the edits, and how many those were. Below it stand the seconds of each edit,
+the dearest first. The last line has the processor time of the whole command, with its programs, tests and compilers, and the time by the
+clock. Each process of the prover is looked at twice a second, so the last half second of each may be missing above; it is in the whole.
 """
 
 import os
@@ -15,6 +15,7 @@ import sys
 import time
 from collections import defaultdict
 from dataclasses import dataclass
+from pathlib import Path
 
 TICKS_A_SECOND = os.sysconf("SC_CLK_TCK")
 KINDS = ("proof", "tests", "first edit", "edits")
@@ -22,10 +23,12 @@ KINDS = ("proof", "tests", "first edit", "edits")
 
 @dataclass
 class Check:
-    """One process of the prover: its crate, what it is for, and its seconds of processor so far, with those of its children."""
+    """One process of the prover: its crate, what it is for, which edit it tries, if it tries one, and its seconds of processor so far, with
+    those of its children."""
 
     crate: str
     kind: str
+    edit: str
     seconds: float
 
 
@@ -36,6 +39,14 @@ def kind_of(words: list[str], folder: str) -> str:
     if os.path.basename(folder).startswith("rt-edit-"):
         return "edits"
     return "tests" if "--test" in words else "proof"
+
+
+def edit_of(words: list[str], crate: str) -> str:
+    """Which edit of a crate a check tries. `rt` numbers those of a crate in the order of their names, from 0 on, and a check keeps what it
+    proves in a folder of that number; the only edit of a crate may have none."""
+    edits = sorted(it.name for it in Path("crates", crate, "must-fail").glob("*.edit"))
+    number = os.path.basename(words[words.index("--incremental") + 1]) if "--incremental" in words else "0"
+    return edits[int(number)].removesuffix(".edit")
 
 
 def fields_of(process: str) -> list[str]:
@@ -71,8 +82,8 @@ def look_at(process: str, root: int, checks: dict[str, Check]) -> None:
     name = f"{process} {fields[19]}"  # its number and when it began, since numbers are used again
     seconds = sum(int(it) for it in fields[11:15]) / TICKS_A_SECOND
     if name not in checks:
-        kind = kind_of(words, os.readlink(f"/proc/{process}/cwd"))
-        checks[name] = Check(words[words.index("--crate-name") + 1], kind, seconds)
+        crate, kind = words[words.index("--crate-name") + 1], kind_of(words, os.readlink(f"/proc/{process}/cwd"))
+        checks[name] = Check(crate, kind, edit_of(words, crate) if kind == "edits" else "", seconds)
     checks[name].seconds = seconds
 
 
@@ -92,6 +103,15 @@ def table(checks: list[Check]) -> str:
     return "\n".join(lines)
 
 
+def edit_lines(checks: list[Check]) -> str:
+    """A line an edit, with the dearest first."""
+    taken: dict[str, float] = defaultdict(float)
+    for check in checks:
+        if check.edit:
+            taken[f"{check.crate} {check.edit}"] += check.seconds
+    return "".join(f"{seconds:6.1f} {edit}\n" for edit, seconds in sorted(taken.items(), key=lambda it: -it[1]))
+
+
 def main(out: str, command: list[str]) -> int:
     checks: dict[str, Check] = {}
     begun = time.monotonic()
@@ -106,7 +126,7 @@ def main(out: str, command: list[str]) -> int:
     used = resource.getrusage(resource.RUSAGE_CHILDREN)
     minutes = [(used.ru_utime + used.ru_stime) / 60, (time.monotonic() - begun) / 60]
     with open(out, "w", encoding="utf-8") as it:
-        it.write(f"{table(list(checks.values()))}\n\n")
+        it.write(f"{table(list(checks.values()))}\n\n{edit_lines(list(checks.values()))}\n")
         it.write(f"{minutes[0]:.1f} minutes of processor in all, {minutes[1]:.1f} by the clock; status {running.returncode}\n")
     return running.returncode
 
