@@ -40,6 +40,16 @@ fn push_cause(reply: &mut Reply, cause: Cause)
     push_decimal(reply, u64::from(cause.number()));
 }
 
+/// Adds the status that a program ends with.
+fn push_exit(reply: &mut Reply, status: u8)
+    requires { length reply.old + 25 ≤ 4096 }
+    ensures text { reply.new ≡ reply.old ++ codes "exit " ++ decimal status }
+    ensures bound { length reply.new ≤ length reply.old + 25 }
+{
+    reply.push(b"exit ");
+    push_decimal(reply, u64::from(status));
+}
+
 /// Adds words, and the address where a program stands.
 fn push_place(reply: &mut Reply, words: &[u8], pc: u64)
     requires { length reply.old + length words.now + 16 ≤ 4096 }
@@ -61,8 +71,7 @@ fn push_stop(reply: &mut Reply, pc: u64, stop: Stop)
         Stop::Breakpoint => push_place(reply, b"break pc=", pc),
         Stop::Ebreak => push_place(reply, b"ebreak pc=", pc),
         Stop::Exit(status) => {
-            reply.push(b"exit ");
-            push_decimal(reply, u64::from(status));
+            push_exit(reply, status);
             push_pc(reply, pc);
         }
         Stop::Fault { cause, value } => {
