@@ -25,7 +25,8 @@ pub struct Binary<'a> {
 }
 
 impl<'a, L: Lane> Results<L> for Binary<'a> {
-    ghost number = { λ r i. wrap L.width (formula r.op L.width (element (width_bytes L.width) r.a.now i) (element (width_bytes L.width) r.b.now i)) };
+    ghost number = { λ r i. wrap L.width (formula r.op L.width (element (width_bytes L.width) r.a.now i)
+        (element (width_bytes L.width) r.b.now i)) };
 
     ghost has = { λ r i. HasElement (width_bytes L.width) r.a.now i × HasElement (width_bytes L.width) r.b.now i };
 

@@ -1,12 +1,15 @@
 //! Whole chunks of 32 bytes: their elements as SIMD vectors, and what they become.
-ghost use Rattle.std.specs.Prelude.{◌≡◌, ◌+◌, ◌*◌, ◌-ℤ◌, pos, ◌/◌, ◌%◌, ◌^◌, ◌<◌, ◌==◌, ◌&&◌, ℕ, IfSome, IsTrue, int_le, int_lt, length, nat_le, not, slice_index, if◌then◌else◌};
+ghost use Rattle.std.specs.Prelude.{◌≡◌, ◌+◌, ◌*◌, ◌-ℤ◌, pos, ◌/◌, ◌%◌, ◌^◌, ◌<◌, ◌==◌, ◌&&◌, ℕ, IfSome, IsTrue};
+ghost use Rattle.std.specs.Prelude.{int_le, int_lt, length, nat_le, not, slice_index, if◌then◌else◌};
 ghost use Rattle.std.specs.Int.{byte_at, cast_signed, from_bool};
-ghost use Rattle.rv_model.specs.declared.instructions.operations.BinaryOp.TheVariants.{Vand, Vmax, Vmaxu, Vmin, Vminu, Vor, Vsra, Vsrl, Vxor};
+ghost use Rattle.rv_model.specs.declared.instructions.operations.BinaryOp.TheVariants.{Vand, Vmax, Vmaxu, Vmin, Vminu};
+ghost use Rattle.rv_model.specs.declared.instructions.operations.BinaryOp.TheVariants.{Vor, Vsra, Vsrl, Vxor};
 ghost use Rattle.rv_model.specs.declared.instructions.operations.CarryOp.TheVariants.{Vadc, Vmerge, Vsbc};
 ghost use Rattle.rv_model.specs.declared.instructions.operations.CompareOp.TheVariants.{Vmsle};
 ghost use Rattle.rv_model.specs.declared.vector.sizes.TheConstants.{GROUP_BYTES};
 ghost use Rattle.rv_model.specs.elements.Elements.{mask_bit};
-ghost use Rattle.rv_model.specs.elements.Formulas.{carry_formula, compare_formula, formula, multiply_add_formula, ones, wrap};
+ghost use Rattle.rv_model.specs.elements.Formulas.{carry_formula, compare_formula, formula, multiply_add_formula, ones};
+ghost use Rattle.rv_model.specs.elements.Formulas.{wrap};
 ghost use Rattle.rv_model.specs.vector.Configuration.{width_bytes};
 ghost use mir.Val.{bits, hbits};
 ghost use Rattle.lane_arith.specs.SimdOperations.{is_simd};
@@ -21,7 +24,8 @@ use std::simd::prelude::*;
 pub(crate) fn merged<L: Lane>(results: L::Vector, old: u8x32, active: u64, filled: u64) -> u8x32
     ensures { (i m : ℕ) → i < L.count → m < width_bytes L.width → slice_index result (width_bytes L.width * i + m)
         ≡ (if active / 2 ^ i % 2 == 0
-        then (if filled / 2 ^ i % 2 == 0 then slice_index old (width_bytes L.width * i + m) else byte_at m (ones L.width))
+        then (if filled / 2 ^ i % 2 == 0 then slice_index old (width_bytes L.width * i + m)
+        else byte_at m (ones L.width))
         else byte_at m (L.lane results i)) }
 {
     if active == u64::MAX {
@@ -146,7 +150,8 @@ fn xor<L: Lane>(a: L::Vector, b: L::Vector) -> L::Vector
 /// Each shifted right, with zeros for the upper bits.
 fn shifted_right<L: Lane>(a: L::Vector, amounts: L::Vector) -> L::Vector
     requires { (i : ℕ) → i < L.count → L.lane a i < 2 ^ bits L.width }
-    ensures { (i : ℕ) → i < L.count → L.lane result i ≡ wrap L.width (formula Vsrl L.width (L.lane a i) (L.lane amounts i)) }
+    ensures { (i : ℕ) → i < L.count → L.lane result i
+        ≡ wrap L.width (formula Vsrl L.width (L.lane a i) (L.lane amounts i)) }
 {
     L::each_shifted_right(a, amounts)
 }
@@ -155,7 +160,8 @@ fn shifted_right<L: Lane>(a: L::Vector, amounts: L::Vector) -> L::Vector
 /// less what that bit adds.
 fn signed_shifted_right<L: Lane>(a: L::Vector, amounts: L::Vector) -> L::Vector
     requires { (i : ℕ) → i < L.count → L.lane a i < 2 ^ bits L.width }
-    ensures { (i : ℕ) → i < L.count → L.lane result i ≡ wrap L.width (formula Vsra L.width (L.lane a i) (L.lane amounts i)) }
+    ensures { (i : ℕ) → i < L.count → L.lane result i
+        ≡ wrap L.width (formula Vsra L.width (L.lane a i) (L.lane amounts i)) }
 {
     let top = top_bits::<L>();
     let turned = L::each_shifted_right(L::sums(a, top), amounts);
@@ -228,7 +234,8 @@ fn product_sums<L: Lane>(d: L::Vector, a: L::Vector, b: L::Vector) -> L::Vector
 
 /// Numbers that products are taken from.
 fn product_differences<L: Lane>(d: L::Vector, a: L::Vector, b: L::Vector) -> L::Vector
-    ensures { (i : ℕ) → i < L.count → L.lane result i ≡ wrap L.width (pos (L.lane d i) -ℤ pos (L.lane a i * L.lane b i)) }
+    ensures { (i : ℕ) → i < L.count → L.lane result i
+        ≡ wrap L.width (pos (L.lane d i) -ℤ pos (L.lane a i * L.lane b i)) }
 {
     L::differences(d, L::products(a, b))
 }
@@ -340,7 +347,8 @@ fn signed_at_most<L: Lane>(a: L::Vector, b: L::Vector) -> L::Vector
 fn signed_at_most_bits<L: Lane>(a: L::Vector, b: L::Vector) -> u64
     requires first { (i : ℕ) → i < L.count → L.lane a i < 2 ^ bits L.width }
     requires second { (i : ℕ) → i < L.count → L.lane b i < 2 ^ bits L.width }
-    ensures value { (i : ℕ) → i < L.count → (result / 2 ^ i % 2 == 0) ≡ not (compare_formula Vmsle L.width (L.lane a i) (L.lane b i)) }
+    ensures value { (i : ℕ) → i < L.count → (result / 2 ^ i % 2 == 0)
+        ≡ not (compare_formula Vmsle L.width (L.lane a i) (L.lane b i)) }
     ensures bound { result < 2 ^ L.count }
 {
     L::to_bits(signed_at_most::<L>(a, b))
@@ -351,7 +359,8 @@ fn signed_at_most_bits<L: Lane>(a: L::Vector, b: L::Vector) -> u64
 pub(crate) fn compare<L: Lane>(op: CompareOp, a: L::Vector, b: L::Vector) -> u64
     requires first { (i : ℕ) → i < L.count → L.lane a i < 2 ^ bits L.width }
     requires second { (i : ℕ) → i < L.count → L.lane b i < 2 ^ bits L.width }
-    ensures value { (i : ℕ) → i < L.count → (result / 2 ^ i % 2 == 0) ≡ not (compare_formula op L.width (L.lane a i) (L.lane b i)) }
+    ensures value { (i : ℕ) → i < L.count → (result / 2 ^ i % 2 == 0)
+        ≡ not (compare_formula op L.width (L.lane a i) (L.lane b i)) }
     ensures bound { result < 2 ^ L.count }
 {
     match op {

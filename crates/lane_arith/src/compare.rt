@@ -41,7 +41,8 @@ fn holds<L: Lane>(op: CompareOp, a: L, b: L) -> bool
 }
 
 impl<'a, L: Lane> MaskResults<L> for Compare<'a> {
-    ghost bit = { λ r i. compare_formula r.op L.width (element (width_bytes L.width) r.a.now i) (number_at L.width r.b i) };
+    ghost bit = { λ r i. compare_formula r.op L.width (element (width_bytes L.width) r.a.now i)
+        (number_at L.width r.b i) };
 
     ghost has = { λ r i. HasElement (width_bytes L.width) r.a.now i × HasNumber L.width r.b i };
 
@@ -79,10 +80,11 @@ fn carries<L: Lane>(op: CarryOutOp, a: L, b: L, c: bool) -> bool
 }
 
 impl<'a, L: Lane> MaskResults<L> for CarryOut<'a> {
-    ghost bit = { λ r i. carry_out_formula r.op L.width (element (width_bytes L.width) r.a.now i) (element (width_bytes L.width) r.b.now i)
-        (not r.alone && mask_bit r.v0.now i) };
+    ghost bit = { λ r i. carry_out_formula r.op L.width (element (width_bytes L.width) r.a.now i)
+        (element (width_bytes L.width) r.b.now i) (not r.alone && mask_bit r.v0.now i) };
 
-    ghost has = { λ r i. (i < GROUP_BYTES) × HasElement (width_bytes L.width) r.a.now i × HasElement (width_bytes L.width) r.b.now i };
+    ghost has = { λ r i. (i < GROUP_BYTES) × HasElement (width_bytes L.width) r.a.now i
+        × HasElement (width_bytes L.width) r.b.now i };
 
     fn bit(&self, index: usize) -> bool {
         carries(

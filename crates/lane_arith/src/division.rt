@@ -51,7 +51,8 @@ fn with_sign<L: Lane>(negative: bool, magnitude: u64) -> L
 /// needs no more bits than its operands have.
 fn divided<L: Lane>(a: L, b: L) -> L
     requires { 0 < L.value b }
-    ensures { L.value result ≡ cast_unsigned L.width (int_div (cast_signed L.width (L.value a)) (cast_signed L.width (L.value b)))
+    ensures { L.value result
+        ≡ cast_unsigned L.width (int_div (cast_signed L.width (L.value a)) (cast_signed L.width (L.value b)))
         % 2 ^ bits L.width }
 {
     let (dividend, divisor) = (a.signed_number(), b.signed_number());
@@ -75,7 +76,8 @@ pub(crate) fn signed_quotient<L: Lane>(a: L, b: L) -> L
 /// The remainder of a signed division by a number that isn't zero.
 fn left_over<L: Lane>(a: L, b: L) -> L
     requires { 0 < L.value b }
-    ensures { L.value result ≡ cast_unsigned L.width (int_rem (cast_signed L.width (L.value a)) (cast_signed L.width (L.value b)))
+    ensures { L.value result
+        ≡ cast_unsigned L.width (int_rem (cast_signed L.width (L.value a)) (cast_signed L.width (L.value b)))
         % 2 ^ bits L.width }
 {
     let (dividend, divisor) = (a.signed_number(), b.signed_number());

@@ -1,5 +1,6 @@
 //! Elements of 8, 16, 32 and 64 bits, one by one, and as SIMD vectors of 32 bytes.
-ghost use Rattle.std.specs.Prelude.{◌≡◌, ◌+◌, ◌*◌, ◌/◌, ◌%◌, ◌^◌, ◌<◌, ◌≤◌, ◌==◌, ℕ, bit_and, bit_or, bit_xor, length, nat_lt, not, slice_index, if◌then◌else◌};
+ghost use Rattle.std.specs.Prelude.{◌≡◌, ◌+◌, ◌*◌, ◌/◌, ◌%◌, ◌^◌, ◌<◌, ◌≤◌, ◌==◌, ℕ, bit_and, bit_or, bit_xor, length};
+ghost use Rattle.std.specs.Prelude.{nat_lt, not, slice_index, if◌then◌else◌};
 ghost use Rattle.std.specs.Int.{Width, byte_at, bytes_low_first, cast_signed, w8, w16, w32, w64};
 ghost use Rattle.std.proofs.Common.{refl, rules};
 ghost use lib.ListN.{get_or};
@@ -74,7 +75,8 @@ pub trait Lane: Copy + Drop {
 
     /// Their bytes.
     fn to_bytes(elements: Self::Vector) -> u8x32
-        ensures { (i m : ℕ) → i < count → m < width_bytes width → slice_index result (width_bytes width * i + m) ≡ byte_at m (lane elements i) };
+        ensures { (i m : ℕ) → i < count → m < width_bytes width →
+            slice_index result (width_bytes width * i + m) ≡ byte_at m (lane elements i) };
 
     /// One number in each element.
     fn repeated(number: Self) -> Self::Vector

@@ -48,7 +48,8 @@ impl<'a, L: Lane> Results<L> for WithMaskOperand<'a> {
     ghost number = { λ r i. wrap L.width (carry_formula r.op (element (width_bytes L.width) r.a.now i)
         (element (width_bytes L.width) r.b.now i) (mask_bit r.v0.now i)) };
 
-    ghost has = { λ r i. (i < GROUP_BYTES) × HasElement (width_bytes L.width) r.a.now i × HasElement (width_bytes L.width) r.b.now i };
+    ghost has = { λ r i. (i < GROUP_BYTES) × HasElement (width_bytes L.width) r.a.now i
+        × HasElement (width_bytes L.width) r.b.now i };
 
     fn result(&self, index: usize) -> L {
         apply(

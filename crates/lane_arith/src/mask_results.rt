@@ -1,6 +1,7 @@
 //! The results of instructions whose destination is a mask, written to its bits ("V" Vector Extension
 //! 1.0, sections 4.5, 5.3 and 5.4).
-ghost use Rattle.std.specs.Prelude.{◌≡◌, ◌+◌, ◌*◌, ◌/◌, ◌%◌, ◌^◌, ◌<◌, ◌≤◌, ◌==◌, ℕ, Bool, IfSome, length, nat_lt, not, slice_index, true, false, if◌then◌else◌};
+ghost use Rattle.std.specs.Prelude.{◌≡◌, ◌+◌, ◌*◌, ◌/◌, ◌%◌, ◌^◌, ◌<◌, ◌≤◌, ◌==◌, ℕ, Bool, IfSome, length, nat_lt, not};
+ghost use Rattle.std.specs.Prelude.{slice_index, true, false, if◌then◌else◌};
 ghost use Rattle.std.specs.Int.{from_bool};
 ghost use Rattle.rv_model.specs.elements.Elements.{is_active, mask_bit};
 ghost use Rattle.rv_model.specs.elements.Writes.{bit_or, byte_with_bits};
@@ -30,7 +31,8 @@ pub trait MaskResults<L: Lane> {
     /// The results for the elements of a chunk of 32 bytes, a bit for each, where they are made by SIMD.
     fn chunk_bits(&self, _chunk: usize) -> Option<u64>
         requires { L.count * _chunk + L.count ≤ GROUP_BYTES }
-        ensures value { IfSome result (λ word. (i : ℕ) → i < L.count → (word / 2 ^ i % 2 == 0) ≡ not (bit self.now (L.count * _chunk + i))) }
+        ensures value { IfSome result (λ word. (i : ℕ) → i < L.count → (word / 2 ^ i % 2 == 0)
+            ≡ not (bit self.now (L.count * _chunk + i))) }
         ensures bound { IfSome result (λ word. word < 2 ^ L.count) }
     {
         None
@@ -38,7 +40,8 @@ pub trait MaskResults<L: Lane> {
 
     /// `write_mask_results` to a whole register, where the results are made by SIMD. Answers whether they are.
     fn write_register(&self, _body: &Body<'_>, _destination: &mut [u8]) -> bool
-        ensures done { result ≡ true → WritesBits (is_active _body.now) (bit self.now) _destination.old _destination.new }
+        ensures done { result ≡ true → WritesBits (is_active _body.now) (bit self.now)
+            _destination.old _destination.new }
         ensures kept { result ≡ false → _destination.new ≡ _destination.old }
     {
         false
@@ -149,7 +152,8 @@ fn write_words<L: Lane, R: MaskResults<L>>(
     requires most { length destination.old ≤ GROUP_BYTES }
     ensures length { length destination.new ≡ length destination.old }
     ensures bytes { (q : ℕ) → q < length destination.old → slice_index destination.new q
-        ≡ (if nat_lt q result then byte_with_bits (is_active body.now) (R.bit results.now) destination.old q else slice_index destination.old q) }
+        ≡ (if nat_lt q result then byte_with_bits (is_active body.now) (R.bit results.now) destination.old q
+        else slice_index destination.old q) }
 {
     let end = body.end();
     let words = (destination.len() / 4).min(end.div_ceil(32));

@@ -2,7 +2,8 @@
 //! which are made one by one: each operation is a type, so that a loop is compiled for each.
 ghost use Rattle.std.specs.Prelude.{◌≡◌, ◌*◌, ◌<◌, ◌≤◌, ℕ, length};
 ghost use Rattle.rv_model.specs.declared.instructions.operations.BinaryOp.{BinaryOp};
-ghost use Rattle.rv_model.specs.declared.instructions.operations.BinaryOp.TheVariants.{Vdiv, Vdivu, Vmulh, Vmulhsu, Vmulhu, Vrem, Vremu};
+ghost use Rattle.rv_model.specs.declared.instructions.operations.BinaryOp.TheVariants.{Vdiv, Vdivu, Vmulh, Vmulhsu};
+ghost use Rattle.rv_model.specs.declared.instructions.operations.BinaryOp.TheVariants.{Vmulhu, Vrem, Vremu};
 ghost use Rattle.rv_model.specs.elements.Elements.{element, in_range};
 ghost use Rattle.rv_model.specs.elements.Formulas.{formula, wrap};
 ghost use Rattle.rv_model.specs.lending.Writes.{HasElement, Writes};

@@ -2,7 +2,9 @@
 //! 11.11).
 ghost use Rattle.std.specs.Prelude.{◌≡◌, ◌%◌};
 ghost use mir.Val.{bits};
-ghost use Rattle.rv_model.specs.declared.instructions.operations.BinaryOp.TheVariants.{Vadd, Vand, Vmax, Vmaxu, Vmin, Vminu, Vmul, Vor, Vsll, Vsra, Vsrl, Vsub, Vxor};
+ghost use Rattle.rv_model.specs.declared.instructions.operations.BinaryOp.TheVariants.{Vadd, Vand, Vmax, Vmaxu, Vmin};
+ghost use Rattle.rv_model.specs.declared.instructions.operations.BinaryOp.TheVariants.{Vminu, Vmul, Vor, Vsll, Vsra};
+ghost use Rattle.rv_model.specs.declared.instructions.operations.BinaryOp.TheVariants.{Vsrl, Vsub, Vxor};
 ghost use Rattle.rv_model.specs.elements.Formulas.{formula, wrap};
 
 use crate::division::{quotient, remainder, signed_quotient, signed_remainder};

@@ -1,6 +1,7 @@
 //! The results of element-wise instructions, written to the elements of their destination ("V" Vector
 //! Extension 1.0, sections 5.3 and 5.4).
-ghost use Rattle.std.specs.Prelude.{◌≡◌, ◌+◌, ◌*◌, ◌/◌, ◌%◌, ◌^◌, ◌<◌, ◌≤◌, ◌==◌, ◌&&◌, ℕ, IfSome, List, length, nat_lt, true, false, slice_index, if◌then◌else◌};
+ghost use Rattle.std.specs.Prelude.{◌≡◌, ◌+◌, ◌*◌, ◌/◌, ◌%◌, ◌^◌, ◌<◌, ◌≤◌, ◌==◌, ◌&&◌, ℕ, IfSome, List, length};
+ghost use Rattle.std.specs.Prelude.{nat_lt, true, false, slice_index, if◌then◌else◌};
 ghost use Rattle.std.specs.Int.{byte_at};
 ghost use Rattle.std.specs.Simd.Lanes.{chunk, put_chunk};
 ghost use Rattle.rv_model.specs.elements.Elements.{in_range, is_changed, result_or_ones};
@@ -31,7 +32,8 @@ pub trait Results<L: Lane> {
     /// The results for the elements of a chunk of 32 bytes, where they are made by SIMD.
     fn chunk_results(&self, _chunk: usize) -> Option<L::Vector>
         requires { L.count * _chunk + L.count ≤ GROUP_BYTES }
-        ensures { IfSome result (λ made. (i : ℕ) → i < L.count → L.lane made i ≡ number self.now (L.count * _chunk + i)) }
+        ensures { IfSome result (λ made. (i : ℕ) → i < L.count → L.lane made i
+            ≡ number self.now (L.count * _chunk + i)) }
     {
         None
     }
@@ -86,7 +88,8 @@ pub fn put_results<L: Lane>(
     ensures { (made : List ℕ) × (destination.new ≡ put_chunk at destination.old made) × (length made ≡ 32)
         × ((i m : ℕ) → i < L.count → m < width_bytes L.width → slice_index made (width_bytes L.width * i + m)
         ≡ (if active / 2 ^ i % 2 == 0
-        then (if filled / 2 ^ i % 2 == 0 then slice_index (chunk at 32 destination.old) (width_bytes L.width * i + m) else byte_at m (ones L.width))
+        then (if filled / 2 ^ i % 2 == 0 then slice_index (chunk at 32 destination.old) (width_bytes L.width * i + m)
+        else byte_at m (ones L.width))
         else byte_at m (L.lane results i))) }
 {
     let old = u8x32::from_slice(&destination[at..]);

@@ -5,7 +5,8 @@ ghost use Rattle.std.specs.Int.{cast_signed};
 ghost use Rattle.lane_arith.specs.SecondElements.{HasNumber, number_at};
 ghost use Rattle.rv_model.specs.elements.Elements.{element};
 ghost use Rattle.rv_model.specs.lending.Writes.{HasElement};
-ghost use Rattle.rv_model.specs.elements.Formulas.{wide_source_formula, widen_formula, widen_multiply_add_formula, wrap};
+ghost use Rattle.rv_model.specs.elements.Formulas.{wide_source_formula, widen_formula, widen_multiply_add_formula};
+ghost use Rattle.rv_model.specs.elements.Formulas.{wrap};
 ghost use Rattle.rv_model.specs.vector.Configuration.{width_bytes};
 
 use crate::lane::Lane;
@@ -96,8 +97,8 @@ pub fn apply_wide<N: Lane, W: Lane>(op: WideSourceOp, a: W, b: N) -> W
 }
 
 impl<'a, N: Lane, W: Lane> Results<W> for WideSource<'a, N> {
-    ghost number = { λ r i. wrap W.width (wide_source_formula r.op W.width N.width (element (width_bytes W.width) r.a.now i)
-        (element (width_bytes N.width) r.b.now i)) };
+    ghost number = { λ r i. wrap W.width (wide_source_formula r.op W.width N.width
+        (element (width_bytes W.width) r.a.now i) (element (width_bytes N.width) r.b.now i)) };
 
     ghost has = { λ r i. HasElement (width_bytes W.width) r.a.now i × HasElement (width_bytes N.width) r.b.now i };
 
@@ -126,7 +127,8 @@ fn added<W: Lane>(product: W, d: W) -> W
 
 /// One element of the result.
 fn product_added<N: Lane, W: Lane>(op: WidenMultiplyAddOp, a: N, b: N, d: W) -> W
-    ensures { W.value result ≡ wrap W.width (widen_multiply_add_formula op N.width (N.value a) (N.value b) (W.value d)) }
+    ensures { W.value result
+        ≡ wrap W.width (widen_multiply_add_formula op N.width (N.value a) (N.value b) (W.value d)) }
 {
     match op {
         WidenMultiplyAddOp::Vwmaccu => added(product(a, b), d),
@@ -137,8 +139,9 @@ fn product_added<N: Lane, W: Lane>(op: WidenMultiplyAddOp, a: N, b: N, d: W) -> 
 }
 
 impl<'a, N: Lane, W: Lane> Results<W> for WidenMultiplyAdd<'a, N> {
-    ghost number = { λ r i. wrap W.width (widen_multiply_add_formula r.op N.width (element (width_bytes N.width) r.a.now i)
-        (element (width_bytes N.width) r.b.now i) (element (width_bytes W.width) r.d.now i)) };
+    ghost number = { λ r i. wrap W.width (widen_multiply_add_formula r.op N.width
+        (element (width_bytes N.width) r.a.now i) (element (width_bytes N.width) r.b.now i)
+        (element (width_bytes W.width) r.d.now i)) };
 
     ghost has = { λ r i. HasElement (width_bytes N.width) r.a.now i × HasElement (width_bytes N.width) r.b.now i
         × HasElement (width_bytes W.width) r.d.now i };
