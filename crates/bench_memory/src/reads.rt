@@ -12,7 +12,8 @@ pub(crate) fn first_user() -> Option<User> {
     User::new(1)
 }
 
-/// Maps as many pages as a user may have, and writes (page + offset) modulo 256 at each offset of each page. None where that is refused.
+/// Maps as many pages as a user may have, and writes (page + offset) modulo 256 at each offset of each page. None where
+/// that is refused.
 pub(crate) fn fill(pool: &mut Pool, user: User) -> Option<()> {
     let permissions = Permissions {
         read: true,

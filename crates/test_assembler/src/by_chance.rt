@@ -1,13 +1,15 @@
 //! Words and texts that were made by chance, decoded, written as text and assembled.
 //!
-//! A line for each opcode, and one for words wholly by chance, has how many words there were, how many are instructions, the
-//! 32-bit FNV-1a digest of their names, each with a byte 0A behind it, and how many don't come again by their instruction or by
-//! their text. A word that is no instruction has the name `.word`, and so has every fence but 0ff0000f. A line for each kind of
-//! text has how many spell a word, how many are refused, the digest of what each answers (1 and the word, or 0 and the column,
-//! as five bytes), and how many answer a column outside of the text, or a word whose text spells another.
+//! A line for each opcode, and one for words wholly by chance, has how many words there were, how many are
+//! instructions, the 32-bit FNV-1a digest of their names, each with a byte 0A behind it, and how many don't come again
+//! by their instruction or by their text. A word that is no instruction has the name `.word`, and so has every fence
+//! but 0ff0000f. A line for each kind of text has how many spell a word, how many are refused, the digest of what each
+//! answers (1 and the word, or 0 and the column, as five bytes), and how many answer a column outside of the text, or a
+//! word whose text spells another.
 //!
-//! The instructions and names that are expected are those of the disassembler of GNU binutils 2.40, for the names that the profile
-//! has; the numbers for texts are those of a second reader of the grammar (docs/ASSEMBLER.md), in another language.
+//! The instructions and names that are expected are those of the disassembler of GNU binutils 2.40, for the names that
+//! the profile has; the numbers for texts are those of a second reader of the grammar (docs/ASSEMBLER.md), in another
+//! language.
 mod digest;
 mod texts;
 mod words;

@@ -1,5 +1,6 @@
-//! Prints the list of instructions: each name with the text of its operands and its encoding, by families. The file `titles`
-//! has the text above the list and the titles of the families, each line behind the family's first name and a `|`.
+//! Prints the list of instructions: each name with the text of its operands and its encoding, by families. The file
+//! `titles` has the text above the list and the titles of the families, each line behind the family's first name and a
+//! `|`.
 use rv_asm::{fixed_mask, slots_of};
 use rv_model::assembler::forms::{Place, SignedField, Slot, UnsignedField};
 use rv_model::assembler::mnemonics::{MNEMONICS, Mnemonic};

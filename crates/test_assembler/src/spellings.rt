@@ -33,8 +33,8 @@ pub(crate) fn is_told(word: u32, text: &Text) -> bool {
     }
 }
 
-/// Prints how many of the generator's first words, with each opcode in turn, have a text that spells another word, and how many
-/// have one that tells them wrongly.
+/// Prints how many of the generator's first words, with each opcode in turn, have a text that spells another word, and
+/// how many have one that tells them wrongly.
 fn print_generated(rt: &impl Print, text: &mut Text) -> io::Result<()> {
     let mut generated = 0;
     let mut found = 0u32;

@@ -1,5 +1,6 @@
-//! A machine in an arena that has nothing left once the machine stands, and a machine with memory in plenty: each command, each
-//! vector instruction and a million steps are answered alike, and the second takes none of its memory either.
+//! A machine in an arena that has nothing left once the machine stands, and a machine with memory in plenty: each
+//! command, each vector instruction and a million steps are answered alike, and the second takes none of its memory
+//! either.
 
 use crate::growths::{LARGE, arena_with, machine_size};
 use anyhow::{Result, ensure};

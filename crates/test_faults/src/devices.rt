@@ -81,7 +81,8 @@ impl Source for PieceSource<'_> {
 
     ghost gave_none = { λ s. Consumes-nil (Some s.left.now) };
 
-    ghost gave_more = { λ a b c xs ys first _ then. Consumes-trans (Some a.left.now) (Some b.left.now) (Some c.left.now) xs ys first then };
+    ghost gave_more = { λ a b c xs ys first _ then.
+        Consumes-trans (Some a.left.now) (Some b.left.now) (Some c.left.now) xs ys first then };
 }
 
 /// A sink that keeps what it takes.
@@ -134,7 +135,8 @@ impl Sink for PieceSink {
 
     ghost took_none = { λ s. Appends-nil (Some s.taken.items) };
 
-    ghost took_more = { λ a b c xs ys. Appends-trans (Some a.taken.items) (Some b.taken.items) (Some c.taken.items) xs ys };
+    ghost took_more = { λ a b c xs ys.
+        Appends-trans (Some a.taken.items) (Some b.taken.items) (Some c.taken.items) xs ys };
 }
 
 /// Runs a script over such devices.

@@ -1,6 +1,7 @@
-//! Pools and machines in arenas that have too little memory for them, and in one that has just enough. A machine takes memory
-//! for the frames of its pool, which are 8 MiB, and for nine lists of a few hundred bytes together, so an arena with each number
-//! of bytes up to `SMALL` refuses each of these lists in turn, and one with a byte too little refuses the frames.
+//! Pools and machines in arenas that have too little memory for them, and in one that has just enough. A machine takes
+//! memory for the frames of its pool, which are 8 MiB, and for nine lists of a few hundred bytes together, so an arena
+//! with each number of bytes up to `SMALL` refuses each of these lists in turn, and one with a byte too little refuses
+//! the frames.
 
 use crate::tally::Tally;
 use crate::transcript::QUANTUM;

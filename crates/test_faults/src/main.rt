@@ -1,11 +1,11 @@
-//! Whatever can fail fails in turn: each read and each write of two scripts, by devices in memory that give and take a few bytes
-//! at a call; scripts that are too long; and memory, before a machine stands and after. What should come then is found in another
-//! way: line by line, by hand, or with memory in plenty. Last come files in memory that are too large for the program, outputs that take
-//! little, calls of files and outputs that fail, and what machines and pools refuse. Beside these, a source and a sink that know of each
-//! other see in which order a script is read and answered.
+//! Whatever can fail fails in turn: each read and each write of two scripts, by devices in memory that give and take a
+//! few bytes at a call; scripts that are too long; and memory, before a machine stands and after. What should come then
+//! is found in another way: line by line, by hand, or with memory in plenty. Last come files in memory that are too
+//! large for the program, outputs that take little, calls of files and outputs that fail, and what machines and pools
+//! refuse. Beside these, a source and a sink that know of each other see in which order a script is read and answered.
 //!
-//! A line for each kind of failure has how many runs there were, and how many went otherwise than they should. Between these
-//! stand the ends of a script of two lines, which were worked out by hand.
+//! A line for each kind of failure has how many runs there were, and how many went otherwise than they should. Between
+//! these stand the ends of a script of two lines, which were worked out by hand.
 #![tactic(auto)]
 
 mod commands;
@@ -100,8 +100,8 @@ fn print_memory(rt: &HostRuntime) -> Result<()> {
     Ok(())
 }
 
-/// Prints what comes of files that are too large, outputs that are full, calls that fail, and words, images and accesses that are
-/// refused.
+/// Prints what comes of files that are too large, outputs that are full, calls that fail, and words, images and
+/// accesses that are refused.
 fn print_limits(rt: &HostRuntime) -> Result<()> {
     let alloc = rt.alloc();
     print_tally(

@@ -1,5 +1,5 @@
-//! The program on files in memory: files as large as may be and a byte larger, outputs without room, calls of which one fails, and
-//! words that are read. What should come is what docs/PROGRAM.md and docs/COMMANDS.md say.
+//! The program on files in memory: files as large as may be and a byte larger, outputs without room, calls of which one
+//! fails, and words that are read. What should come is what docs/PROGRAM.md and docs/COMMANDS.md say.
 
 use crate::shell::{Failure, NO_FAILURE, OUTPUT, Shell};
 use crate::tally::Tally;
@@ -95,8 +95,8 @@ struct FailedCall {
     errors: &'static str,
 }
 
-/// The reads of an image of 5,000 bytes, which are three, those of the script, which are two, and the writes of the three answers; and
-/// of each a call more than there is.
+/// The reads of an image of 5,000 bytes, which are three, those of the script, which are two, and the writes of the
+/// three answers; and of each a call more than there is.
 const FAILED_CALLS: [FailedCall; 11] = [
     FailedCall {
         path: "image",
@@ -251,7 +251,8 @@ fn add_failed_calls(alloc: Global, kind: ErrorKind, tally: &mut Tally) -> Result
     Ok(())
 }
 
-/// Each read of an image and of a script, and each write, fails in turn, once: it isn't tried again, whatever the reason.
+/// Each read of an image and of a script, and each write, fails in turn, once: it isn't tried again, whatever the
+/// reason.
 pub(crate) fn failed_calls(alloc: Global) -> Result<Tally, AllocError> {
     let mut tally = Tally::new();
     for kind in KINDS {

@@ -41,9 +41,9 @@ fn goes_on(
     run_pieces(machine, &mut source, sink).is_ok() && sink.taken() == output
 }
 
-/// Looks at a script that stopped at a read that failed, and runs the rest of it on the same machine: from the line on that was
-/// left unfinished. Whether the lines whose end was read were answered, and no other, and both runs together gave the whole
-/// output.
+/// Looks at a script that stopped at a read that failed, and runs the rest of it on the same machine: from the line on
+/// that was left unfinished. Whether the lines whose end was read were answered, and no other, and both runs together
+/// gave the whole output.
 fn went_on_after_read(
     machine: &mut Machine<'_>,
     transcript: &Transcript<'_>,
@@ -60,7 +60,8 @@ fn went_on_after_read(
     goes_on(machine, rest, piece, sink, transcript.output())
 }
 
-/// Runs a script whose read of that number fails, and the rest of it. Whether it went as it should; none if there is no such read.
+/// Runs a script whose read of that number fails, and the rest of it. Whether it went as it should; none if there is no
+/// such read.
 fn failing_read(
     alloc: Global,
     transcript: &Transcript<'_>,
@@ -99,9 +100,9 @@ pub(crate) fn failing_reads(
     Ok(tally)
 }
 
-/// Looks at a script that stopped at a write that failed, and runs the rest of it on the same machine: from the line on that
-/// follows the one whose answer was cut. Whether what went out is a beginning of the output, and the rest of the script gave the
-/// rest of the output.
+/// Looks at a script that stopped at a write that failed, and runs the rest of it on the same machine: from the line on
+/// that follows the one whose answer was cut. Whether what went out is a beginning of the output, and the rest of the
+/// script gave the rest of the output.
 fn went_on_after_write(
     alloc: Global,
     machine: &mut Machine<'_>,
@@ -123,8 +124,8 @@ fn went_on_after_write(
     goes_on(machine, rest, AS_ASKED, &mut rest_sink, rest_of_output)
 }
 
-/// Runs a script whose write of that number fails, and the rest of it. Whether it went as it should; none if there is no such
-/// write.
+/// Runs a script whose write of that number fails, and the rest of it. Whether it went as it should; none if there is
+/// no such write.
 fn failing_write(
     alloc: Global,
     transcript: &Transcript<'_>,

@@ -1,5 +1,5 @@
-//! A runtime in memory that the program is run in: files by their paths, an empty standard input, and what was written to the
-//! two outputs. A call of a file or of standard output may fail, once.
+//! A runtime in memory that the program is run in: files by their paths, an empty standard input, and what was written
+//! to the two outputs. A call of a file or of standard output may fail, once.
 ghost use Rattle.std.specs.Prelude.{IsErr};
 
 use crate::devices::Countdown;

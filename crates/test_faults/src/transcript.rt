@@ -1,5 +1,5 @@
-//! A script and its answers, made the slow way: each line is given to a machine by itself, as a command of its user or of the
-//! operator, and what the machine replies is put together.
+//! A script and its answers, made the slow way: each line is given to a machine by itself, as a command of its user or
+//! of the operator, and what the machine replies is put together.
 
 use anyhow::{Context, Result};
 use monitor_cmds::Reply;

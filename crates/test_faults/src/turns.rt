@@ -1,5 +1,5 @@
-//! A script over a source and a sink that know of each other: each time more is asked for, the answers to all lines so far have to be
-//! out, and after its end the source may not be asked again.
+//! A script over a source and a sink that know of each other: each time more is asked for, the answers to all lines so
+//! far have to be out, and after its end the source may not be asked again.
 ghost use Rattle.std.specs.Prelude.{◌≡◌, ◌≤◌, length, true};
 
 use crate::tally::Tally;

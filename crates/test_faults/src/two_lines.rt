@@ -1,4 +1,5 @@
-//! A script of two lines over devices that take little, fail, or give a part of it. What is printed was worked out by hand.
+//! A script of two lines over devices that take little, fail, or give a part of it. What is printed was worked out by
+//! hand.
 
 use crate::devices::{PieceSink, PieceSource, run_pieces};
 use crate::known_devices::run_twice;

@@ -59,6 +59,7 @@ impl Variants {
     }
 }
 
+/// The number for the scalar operand of a variant: none, small ones, and those about and beyond a width.
 fn amount(number: usize) -> u64 {
     match number {
         0 => 0,
@@ -71,6 +72,7 @@ fn amount(number: usize) -> u64 {
     }
 }
 
+/// The mask of a variant: all elements, none, or some.
 fn operand(number: usize) -> [u8; 32] {
     match number {
         0 => ALL,
@@ -79,6 +81,7 @@ fn operand(number: usize) -> [u8; 32] {
     }
 }
 
+/// The mask that a variant scans: few bits, none, one alone, or all but the first eight.
 fn scanned(number: usize) -> [u8; 32] {
     let mut bits = if number == 3 { ALL } else { NO_MASK };
     match number {

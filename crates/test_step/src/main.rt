@@ -1,10 +1,10 @@
-//! Vector instructions of each family, carried out from every vstart, under what each request for a vector type from 0 to 255
-//! leaves, with a length of 13 and of VLMAX, with registers of ones, and v0 of ones and of zeros, where no byte may be loaded or
-//! stored. A load or store may carry out seven indices. A step of the hart fetches the word and carries it out; one
-//! instruction of each family is also carried out by the vector unit alone.
+//! Vector instructions of each family, carried out from every vstart, under what each request for a vector type from 0
+//! to 255 leaves, with a length of 13 and of VLMAX, with registers of ones, and v0 of ones and of zeros, where no byte
+//! may be loaded or stored. A load or store may carry out seven indices. A step of the hart fetches the word and
+//! carries it out; one instruction of each family is also carried out by the vector unit alone.
 //!
-//! A line for each instruction has how many ended in each way, and how many ended otherwise than the rules of legality and of
-//! accesses say, which are written once more here, each by itself, or changed something though they are illegal.
+//! A line for each instruction has how many ended in each way, and how many ended otherwise than the rules of legality
+//! and of accesses say, which are written once more here, each by itself, or changed something though they are illegal.
 #![tactic(auto)]
 
 mod accesses;

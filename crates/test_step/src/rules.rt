@@ -1,5 +1,5 @@
-//! Which instructions are legal, by rules that each stand by themselves ("V" Vector Extension 1.0, sections 3.4, 3.7, 5.2,
-//! 5.3, 7.8 and 11 to 16, and docs/DECISIONS.md where these leave a choice).
+//! Which instructions are legal, by rules that each stand by themselves ("V" Vector Extension 1.0, sections 3.4, 3.7,
+//! 5.2, 5.3, 7.8 and 11 to 16, and docs/DECISIONS.md where these leave a choice).
 use crate::shapes::{Elements, Part, Shape, Sharing};
 
 /// A vector type by powers of two: SEW has 2^`sew` bits, 3 to 6, and LMUL is 2^`multiplier` / 8, 0 to 6.
@@ -50,8 +50,8 @@ pub(crate) fn greatest_length(vtype: TypeRead) -> u64 {
     }
 }
 
-/// The registers of an operand, from the first up to the one behind the last, the power of two of its elements' width, and
-/// whether it takes a whole register at least.
+/// The registers of an operand, from the first up to the one behind the last, the power of two of its elements' width,
+/// and whether it takes a whole register at least.
 #[derive(Clone, Copy, Drop)]
 struct Registers {
     first: u32,

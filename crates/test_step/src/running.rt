@@ -1,4 +1,5 @@
-//! Instructions carried out where no byte may be loaded or stored and registers hold ones, beside the ends that the rules say.
+//! Instructions carried out where no byte may be loaded or stored and registers hold ones, beside the ends that the
+//! rules say.
 use crate::ends::{Ending, Found, ending_of};
 use crate::lending::{CODE, OneSeat, UserMemory};
 use crate::rules::{greatest_length, is_legal, type_read};

@@ -109,8 +109,9 @@ fn make(kind: Kind, draws: &mut Draws, tokens: &str, text: &mut Text, line: &mut
     }
 }
 
-/// Prints how so many texts of a kind end: how many spell a word and how many are refused, the digest of the words and of the columns
-/// where they are refused, and how many answer a column outside of the text, or a word whose text spells another.
+/// Prints how so many texts of a kind end: how many spell a word and how many are refused, the digest of the words and
+/// of the columns where they are refused, and how many answer a column outside of the text, or a word whose text spells
+/// another.
 pub(crate) fn print_texts(
     rt: &HostRuntime,
     kind: (Kind, &str),

@@ -20,8 +20,8 @@ pub(crate) fn word(opcode: Option<u32>, draws: &mut Draws) -> u32 {
     }
 }
 
-/// Prints how so many words end that have an opcode, or any: how many are instructions, the digest of their names, and how many
-/// don't come again by their instruction and by their text, or are told wrongly by it.
+/// Prints how so many words end that have an opcode, or any: how many are instructions, the digest of their names, and
+/// how many don't come again by their instruction and by their text, or are told wrongly by it.
 pub(crate) fn print_words(
     rt: &impl Print,
     opcode: Option<u32>,
