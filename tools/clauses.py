@@ -1,7 +1,7 @@
 #!/usr/bin/env python3
 """Finds what many contracts of a crate's functions repeat: `tools/clauses.py [CRATE..]`, at the top of the repository.
 
-Without names it reads the crates that a step of a user goes through, and the monitor's. It prints
+Without names it reads all crates. It prints
 
 - each clause that stands in more than eight contracts, with their number and the crates: a condition that so many functions ask
   for belongs in a type;
@@ -18,7 +18,6 @@ from collections import Counter, defaultdict
 from collections.abc import Iterator
 from pathlib import Path
 
-CRATES = ["vector_memory", "vec_unit", "hart", "lazy_context", "slice_sched", "monitor_cmds", "monitor_machine", "monitor_script", "vec_monitor"]
 MOST_CONTRACTS, MOST_PARAMETERS, MOST_CHARACTERS = 8, 6, 120
 PART = re.compile(r"\bfn (?P<function>\w+)|\b(?P<kind>requires|ensures\*?)\s+(?:\w+\s+)?\{")
 CLOSING = {"(": ")", "{": "}", "[": "]", "<": ">"}
@@ -62,7 +61,7 @@ def clauses(text: str) -> Iterator[tuple[str, str]]:
 
 def main(names: list[str]) -> int:
     contracts: dict[str, set[tuple[str, str, str]]] = defaultdict(set)
-    for crate in names or CRATES:
+    for crate in names or sorted(it.parent.name for it in Path("crates").glob("*/src")):
         for path in sorted(Path("crates", crate, "src").rglob("*.rt")):
             source = path.read_text()
             for number, line in enumerate(source.splitlines(), 1):
