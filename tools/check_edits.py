@@ -1,12 +1,14 @@
 #!/usr/bin/env python3
-"""Sees that each must-fail edit can be applied: `tools/check_edits.py`, at the top of the repository.
+"""Sees that each must-fail edit can be applied, and is told once: `tools/check_edits.py`, at the top of the repository.
 
 Each text after `old: ` in a file `crates/NAME/must-fail/*.edit` has to stand exactly once in the file that the line `file: ` before it
-names, once the pairs before it are applied. This takes no proof; whether an edit is refused, only `rt ci` tells. The status is 1 where one
-can't be applied.
+names, once the pairs before it are applied. The table at the end of docs/GUARANTEES.md has to name each edit exactly once, and no other.
+This takes no proof; whether an edit is refused, only `rt ci` tells. The status is 1 where something isn't so.
 """
 
+import collections
 import pathlib
+import re
 import sys
 
 
@@ -34,13 +36,24 @@ def fault_of(edit: pathlib.Path) -> str | None:
     return None if pairs else "no pair of `old:` and `new:`"
 
 
+def told_edits() -> collections.Counter[str]:
+    """How often the table of docs/GUARANTEES.md names each edit: in its second column stand, for each crate, its name and its edits'."""
+    table = pathlib.Path("docs/GUARANTEES.md").read_text(encoding="utf-8").partition("\n## Edits that must fail\n")[2]
+    lists = (it for row in re.findall(r"^\|.*\|(.*)\|$", table, re.MULTILINE) for it in re.findall("`(.*?)`: ([^;]*)", row))
+    return collections.Counter(f"crates/{crate}/must-fail/{name}.edit" for crate, names in lists for name in names.strip().split(", "))
+
+
 def main() -> int:
     edits = sorted(pathlib.Path("crates").glob("*/must-fail/*.edit"))
     faults = [(edit, fault) for edit in edits if (fault := fault_of(edit))]
     for edit, fault in faults:
         print(f"{edit}: {fault}")
+    told, names = told_edits(), {str(edit) for edit in edits}
+    wrong = sorted(it for it in names | set(told) if told[it] != (it in names))
+    for name in wrong:
+        print(f"{name} {'is there' if name in names else 'is not there'}, and docs/GUARANTEES.md names it {told[name]} times")
     print(f"{len(edits)} must-fail edits, {len(faults)} of them can't be applied")
-    return 1 if faults or not edits else 0
+    return 1 if faults or wrong or not edits else 0
 
 
 if __name__ == "__main__":
