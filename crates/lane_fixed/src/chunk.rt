@@ -100,8 +100,8 @@ fn halves<L: Lane>(numbers: Wider<L::Vector>) -> L::Vector
 /// What rounding adds to half of each number, which is 0 or 1: by the bit that is lost, and by the lowest bit of
 /// the half.
 fn increments<L: Lane>(mode: RoundingMode, low: L::Vector, halves: L::Vector) -> L::Vector
-    ensures { (i : ℕ) (v : ℤ) → i < L.count → L.lane low i ≡ wrap L.width v → L.lane halves i ≡ wrap L.width (int_shr v 1)
-        → L.lane result i ≡ from_bool (rounds_up mode 1 v) }
+    ensures { (i : ℕ) (v : ℤ) → i < L.count → L.lane low i ≡ wrap L.width v
+        → L.lane halves i ≡ wrap L.width (int_shr v 1) → L.lane result i ≡ from_bool (rounds_up mode 1 v) }
 {
     let none = small::<L>(0);
     let one = small::<L>(1);
@@ -153,7 +153,8 @@ fn saturated_sums<L: Lane>(a: L::Vector, b: L::Vector) -> SaturatedChunk<L::Vect
     ensures value { (i : ℕ) → i < L.count → L.lane result.values i
         ≡ wrap L.width (pos (saturate_unsigned L.width (pos (L.lane a i) +ℤ pos (L.lane b i)))) }
     ensures saturated { (i : ℕ) → i < L.count → (result.saturated / 2 ^ i % 2 == 0)
-        ≡ int_eq (pos (saturate_unsigned L.width (pos (L.lane a i) +ℤ pos (L.lane b i)))) (pos (L.lane a i) +ℤ pos (L.lane b i)) }
+        ≡ int_eq (pos (saturate_unsigned L.width (pos (L.lane a i) +ℤ pos (L.lane b i))))
+        (pos (L.lane a i) +ℤ pos (L.lane b i)) }
     ensures bound { result.saturated < 2 ^ L.count }
 {
     let numbers = sums::<L>(a, b);
@@ -167,7 +168,8 @@ fn saturated_differences<L: Lane>(a: L::Vector, b: L::Vector) -> SaturatedChunk<
     ensures value { (i : ℕ) → i < L.count → L.lane result.values i
         ≡ wrap L.width (pos (saturate_unsigned L.width (pos (L.lane a i) -ℤ pos (L.lane b i)))) }
     ensures saturated { (i : ℕ) → i < L.count → (result.saturated / 2 ^ i % 2 == 0)
-        ≡ int_eq (pos (saturate_unsigned L.width (pos (L.lane a i) -ℤ pos (L.lane b i)))) (pos (L.lane a i) -ℤ pos (L.lane b i)) }
+        ≡ int_eq (pos (saturate_unsigned L.width (pos (L.lane a i) -ℤ pos (L.lane b i))))
+        (pos (L.lane a i) -ℤ pos (L.lane b i)) }
     ensures bound { result.saturated < 2 ^ L.count }
 {
     let numbers = differences::<L>(a, b);
@@ -178,8 +180,9 @@ fn saturated_differences<L: Lane>(a: L::Vector, b: L::Vector) -> SaturatedChunk<
 fn signed_saturated<L: Lane>(numbers: Wider<L::Vector>) -> SaturatedChunk<L::Vector>
     ensures value { (i : ℕ) (v : ℤ) → i < L.count → IsShown L.width (L.lane numbers.low i) (L.lane numbers.above i) v
         → mag v < 2 ^ bits L.width → L.lane result.values i ≡ wrap L.width (saturate_signed L.width v) }
-    ensures saturated { (i : ℕ) (v : ℤ) → i < L.count → IsShown L.width (L.lane numbers.low i) (L.lane numbers.above i) v
-        → mag v < 2 ^ bits L.width → (result.saturated / 2 ^ i % 2 == 0) ≡ int_eq (saturate_signed L.width v) v }
+    ensures saturated { (i : ℕ) (v : ℤ) → i < L.count
+        → IsShown L.width (L.lane numbers.low i) (L.lane numbers.above i) v → mag v < 2 ^ bits L.width
+        → (result.saturated / 2 ^ i % 2 == 0) ≡ int_eq (saturate_signed L.width v) v }
     ensures bound { result.saturated < 2 ^ L.count }
 {
     let least = top_bits::<L>();

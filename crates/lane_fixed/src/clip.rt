@@ -40,8 +40,8 @@ fn apply<N: Lane, W: Lane, M: Rounding>(op: ClipOp, a: W, b: N) -> Saturated<N>
 }
 
 impl<'a, N: Lane, W: Lane> SaturatingResults<N> for Clip<'a, W> {
-    ghost number = { λ r i. wrap N.width (clip_formula r.op r.mode W.width N.width (element (width_bytes W.width) r.a.now i)
-        (element (width_bytes N.width) r.b.now i)) };
+    ghost number = { λ r i. wrap N.width (clip_formula r.op r.mode W.width N.width
+        (element (width_bytes W.width) r.a.now i) (element (width_bytes N.width) r.b.now i)) };
 
     ghost saturates = { λ r i. clip_saturates r.op r.mode W.width N.width (element (width_bytes W.width) r.a.now i)
         (element (width_bytes N.width) r.b.now i) };

@@ -120,8 +120,8 @@ fn apply<L: Lane, M: Rounding>(op: FixedPointOp, a: L, b: L) -> Saturated<L>
 }
 
 impl<'a, L: Lane> SaturatingResults<L> for FixedPoint<'a> {
-    ghost number = { λ r i. wrap L.width (fixed_point_formula r.op r.mode L.width (element (width_bytes L.width) r.a.now i)
-        (element (width_bytes L.width) r.b.now i)) };
+    ghost number = { λ r i. wrap L.width (fixed_point_formula r.op r.mode L.width
+        (element (width_bytes L.width) r.a.now i) (element (width_bytes L.width) r.b.now i)) };
 
     ghost saturates = { λ r i. saturates r.op r.mode L.width (element (width_bytes L.width) r.a.now i)
         (element (width_bytes L.width) r.b.now i) };

@@ -1,6 +1,7 @@
 //! The results of element-wise instructions that may saturate, written to the elements of their destination
 //! ("V" Vector Extension 1.0, sections 3.9, 5.3 and 5.4).
-ghost use Rattle.std.specs.Prelude.{◌≡◌, ◌+◌, ◌*◌, ◌/◌, ◌%◌, ◌^◌, ◌<◌, ◌≤◌, ◌==◌, ◌&&◌, ℕ, Bool, IfSome, length, false, nat_lt, not};
+ghost use Rattle.std.specs.Prelude.{◌≡◌, ◌+◌, ◌*◌, ◌/◌, ◌%◌, ◌^◌, ◌<◌, ◌≤◌, ◌==◌, ◌&&◌, ℕ, Bool, IfSome, length, false};
+ghost use Rattle.std.specs.Prelude.{nat_lt, not};
 ghost use Rattle.std.specs.List.{list_any, range_with_len};
 ghost use Rattle.rv_model.specs.elements.Elements.{is_active, is_changed, result_or_ones, some_active};
 ghost use Rattle.rv_model.specs.elements.Formulas.{ones};
@@ -69,7 +70,8 @@ pub trait SaturatingResults<L: Lane>: Copy {
     /// The results for the elements of a chunk of 32 bytes, where they are made by SIMD.
     fn chunk_results(&self, _chunk: usize) -> Option<SaturatedChunk<L::Vector>>
         requires { L.count * _chunk + L.count ≤ GROUP_BYTES }
-        ensures value { IfSome result (λ made. (i : ℕ) → i < L.count → L.lane made.values i ≡ number self.now (L.count * _chunk + i)) }
+        ensures value { IfSome result (λ made. (i : ℕ) → i < L.count → L.lane made.values i
+            ≡ number self.now (L.count * _chunk + i)) }
         ensures saturated { IfSome result (λ made. (i : ℕ) → i < L.count
             → (made.saturated / 2 ^ i % 2 == 0) ≡ not (saturates self.now (L.count * _chunk + i))) }
         ensures bound { IfSome result (λ made. made.saturated < 2 ^ L.count) }
@@ -154,7 +156,8 @@ fn write_chunks<L: Lane, R: SaturatingResults<L>>(
     destination: &mut [u8],
     fill_masked_off: bool,
 ) -> Progress
-    ensures writes { Writes (width_bytes L.width) (λ e. is_changed body.now fill_masked_off false e && nat_lt e result.left)
+    ensures writes { Writes (width_bytes L.width)
+        (λ e. is_changed body.now fill_masked_off false e && nat_lt e result.left)
         (result_or_ones body.now (R.number results.now) (ones L.width)) destination.old destination.new }
     ensures saturated { result.saturated
         ≡ list_any (λ e. is_active body.now e && R.saturates results.now e) (range_with_len 0 result.left) }

@@ -27,7 +27,8 @@ pub trait Combine<E: Lane, R: Lane> {
     /// chunks are combined by SIMD.
     fn combined_chunks(&self, _first: R, _elements: &[u8], _body: &Body<'_>) -> Option<Combined<R>>
         ensures { IfSome result (λ made. R.value made.number ≡ fold (combined self.now) (R.value _first)
-            (map (element (width_bytes E.width) _elements.now) (filter (is_active _body.now) (range_with_len 0 made.count)))) }
+            (map (element (width_bytes E.width) _elements.now)
+            (filter (is_active _body.now) (range_with_len 0 made.count)))) }
     {
         None
     }

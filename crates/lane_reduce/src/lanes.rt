@@ -70,9 +70,11 @@ fn lanes_of_chunks<L: Lane>(
     chunks: usize,
 ) -> Option<L::Vector>
     requires inside { L.count * chunks ≤ GROUP_BYTES }
-    ensures value { IfSome result (λ made. total (combination op L.width) (neutral_number op L.width) (L.lane made) L.count
+    ensures value { IfSome result (λ made.
+        total (combination op L.width) (neutral_number op L.width) (L.lane made) L.count
         ≡ total (combination op L.width) (neutral_number op L.width)
-        (λ i. if is_active body.now i then element (width_bytes L.width) elements.now i else neutral_number op L.width) (L.count * chunks)) }
+        (λ i. if is_active body.now i then element (width_bytes L.width) elements.now i
+        else neutral_number op L.width) (L.count * chunks)) }
     ensures bound { IfSome result (λ made. (i : ℕ) → i < L.count → L.lane made i < 2 ^ bits L.width) }
 {
     let mut lanes = neutral::<L>(op);
@@ -93,7 +95,8 @@ pub(crate) fn reduce_chunks<L: Lane>(
 ) -> Option<Combined<L>>
     ensures { IfSome result (λ made. L.value made.number
         ≡ fold (combination op L.width) (L.value first)
-        (map (element (width_bytes L.width) elements.now) (filter (is_active body.now) (range_with_len 0 made.count)))) }
+        (map (element (width_bytes L.width) elements.now)
+        (filter (is_active body.now) (range_with_len 0 made.count)))) }
 {
     let chunks = (elements.len() / 32).min(body.end().div_ceil(L::count()));
     let lanes = lanes_of_chunks::<L>(op, elements, body, chunks)?;
