@@ -33,9 +33,11 @@ pub struct Gather<'a, I> {
 }
 
 impl<'a, I: Lane, L: Lane> Results<L> for Gather<'a, I> {
-    ghost number = { λ r i. gathered r.limit (element (width_bytes L.width) r.a.now) (element (width_bytes I.width) r.indices.now i) };
+    ghost number = { λ r i. gathered r.limit (element (width_bytes L.width) r.a.now)
+        (element (width_bytes I.width) r.indices.now i) };
 
-    ghost has = { λ r i. HasElement (width_bytes I.width) r.indices.now i × (width_bytes L.width * r.limit ≤ length r.a.now) };
+    ghost has = { λ r i. HasElement (width_bytes I.width) r.indices.now i
+        × (width_bytes L.width * r.limit ≤ length r.a.now) };
 
     fn result(&self, index: usize) -> L {
         gathered(self.a, self.limit, I::load(self.indices, index).number())

@@ -1,5 +1,6 @@
 //! Elements of a source that stand side by side in a chunk of 32 bytes, from any index on.
-ghost use Rattle.std.specs.Prelude.{◌≡◌, ◌+◌, ◌-◌, ◌*◌, ◌<◌, ◌≤◌, ℕ, IfSome, length, nat_lt, replicate, slice_index, if◌then◌else◌};
+ghost use Rattle.std.specs.Prelude.{◌≡◌, ◌+◌, ◌-◌, ◌*◌, ◌<◌, ◌≤◌, ℕ, IfSome, length, nat_lt, replicate, slice_index};
+ghost use Rattle.std.specs.Prelude.{if◌then◌else◌};
 ghost use Rattle.std.specs.Simd.Lanes.{chunk, put_chunk};
 ghost use Rattle.rv_model.specs.elements.Elements.{element, in_range};
 ghost use Rattle.rv_model.specs.lending.Writes.{Writes};

@@ -1,5 +1,6 @@
 //! Elements that are packed, as a mask selects them ("V" Vector Extension 1.0, section 16.5).
-ghost use Rattle.std.specs.Prelude.{◌≡◌, ◌+◌, ◌-◌, ◌*◌, ◌/◌, ◌%◌, ◌^◌, ◌<◌, ◌≤◌, ◌==◌, ◌&&◌, ℕ, List, length, nat_lt, not, slice_index};
+ghost use Rattle.std.specs.Prelude.{◌≡◌, ◌+◌, ◌-◌, ◌*◌, ◌/◌, ◌%◌, ◌^◌, ◌<◌, ◌≤◌, ◌==◌, ◌&&◌, ℕ, List, length, nat_lt};
+ghost use Rattle.std.specs.Prelude.{not, slice_index};
 ghost use Rattle.rv_model.specs.elements.Elements.{element, mask_bit};
 ghost use Rattle.rv_model.specs.elements.Permutations.{packed};
 ghost use Rattle.rv_model.specs.lending.Writes.{Writes};
