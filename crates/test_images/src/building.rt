@@ -1,5 +1,5 @@
-//! Images made of fields. They stand in a `Vec` that is filled again and again. Where its memory is refused, an image lacks
-//! bytes, and then the numbers that are printed differ.
+//! Images made of fields. They stand in a `Vec` that is filled again and again. Where its memory is refused, an image
+//! lacks bytes, and then the numbers that are printed differ.
 use rv_model::ProgramHeader;
 
 /// A field of a header: where it stands, and how many bytes it has, at most eight.

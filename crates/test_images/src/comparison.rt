@@ -9,8 +9,8 @@ use user_mem::Pool;
 /// How many ways to end are counted.
 pub(crate) const ENDS: usize = 16;
 
-/// What images may end with, as it is printed: placed, over the quota, with one of the faults in the order in which they are tested,
-/// or otherwise than the slow reading says.
+/// What images may end with, as it is printed: placed, over the quota, with one of the faults in the order in which
+/// they are tested, or otherwise than the slow reading says.
 const NAMES: [&str; ENDS] = [
     "placed",
     "over the quota",
@@ -74,8 +74,8 @@ impl Bench {
         self.counts[DIFFER] = self.counts[DIFFER].wrapping_add(u64::from(!same));
     }
 
-    /// Whether the page at an address has the bytes that the segments which touch it give it, and may be used for what they
-    /// allow.
+    /// Whether the page at an address has the bytes that the segments which touch it give it, and may be used for what
+    /// they allow.
     fn is_page(&self, image: &[u8], start: u64) -> bool {
         let user = User::at_index(0);
         let touching = self.touching.as_slice();
@@ -99,8 +99,8 @@ impl Bench {
         same
     }
 
-    /// Compares the pages of a sound image. No range has fewer than one page, so one range more than the quota has pages is
-    /// too much.
+    /// Compares the pages of a sound image. No range has fewer than one page, so one range more than the quota has
+    /// pages is too much.
     fn compare_plan(&mut self, image: &[u8], plan: &Plan<'_>) {
         let user = User::at_index(0);
         let before = self.pool.pages(user);

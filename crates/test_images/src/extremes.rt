@@ -17,8 +17,8 @@ const ADDRESS: Place = Place { at: 80, size: 8 };
 /// How many bytes the first segment has in the file.
 const FILE_SIZE: Place = Place { at: 96, size: 8 };
 
-/// The alignment of the first segment, which nothing is added to.
-const ALIGNMENT: Place = Place { at: 112, size: 8 };
+/// How many bytes the first segment has in memory.
+const MEMORY_SIZE: Place = Place { at: 104, size: 8 };
 
 /// The fields of the file header, and of the first program header of an image that has it behind the file header.
 const FIELDS: [Place; 16] = [
@@ -36,12 +36,12 @@ const FIELDS: [Place; 16] = [
     OFFSET,
     ADDRESS,
     FILE_SIZE,
-    Place { at: 104, size: 8 },
-    ALIGNMENT,
+    MEMORY_SIZE,
+    Place { at: 112, size: 8 },
 ];
 
-/// The least and the greatest numbers of each width, those around the end of addresses, and those around 128, the size of
-/// the smaller image.
+/// The least and the greatest numbers of each width, those around the end of addresses, and those around 128, the size
+/// of the smaller image.
 const VALUES: [u64; 29] = [
     0,
     1,
@@ -89,14 +89,14 @@ const LIMITS: [u64; 11] = [
     u64::MAX,
 ];
 
-/// Pairs of fields, most of them such as are added to one another.
+/// Pairs of fields that are added to one another, or compared, and two that aren't.
 const PAIRS: [(Place, Place); 6] = [
     (TABLE, COUNT),
     (OFFSET, FILE_SIZE),
-    (ADDRESS, ALIGNMENT),
-    (FILE_SIZE, ALIGNMENT),
+    (ADDRESS, MEMORY_SIZE),
+    (FILE_SIZE, MEMORY_SIZE),
     (ADDRESS, FILE_SIZE),
-    (OFFSET, ALIGNMENT),
+    (OFFSET, MEMORY_SIZE),
 ];
 
 /// Compares an image of at most 256 bytes with two fields, or one, at other values.

@@ -1,9 +1,10 @@
-//! The memory that a sound image describes, found slowly: its pages as the union of ranges, and each byte by a search among
-//! all segments.
+//! The memory that a sound image describes, found slowly: its pages as the union of ranges, and each byte by a search
+//! among all segments.
 use crate::reading::{Segment, byte};
 use rv_model::PAGE_SIZE;
 
-/// The first range of pages that a segment has from a page on, up to the one after its last, or `None` where no more are touched.
+/// The first range of pages that a segment has from a page on, up to the one after its last, or `None` where no more
+/// are touched.
 pub(crate) fn next_range(placed: &[Segment], from: u64) -> Option<(u64, u64)> {
     let mut found = None;
     let mut least = u64::MAX;

@@ -1,9 +1,10 @@
-//! Images made to do harm, as `elf_load` checks and places them and as they are read slowly here: by rules that each stand
-//! by themselves, with the pages as a union of ranges and each byte found by a search among all segments.
+//! Images made to do harm, as `elf_load` checks and places them and as they are read slowly here: by rules that each
+//! stand by themselves, with the pages as a union of ranges and each byte found by a search among all segments.
 //!
-//! First it prints what a compiler's image takes (`program_headers.rt`). Then a line for each kind has how many images were
-//! placed, how many take too many pages, how many have each fault, and how many ended otherwise than the slow reading says. It
-//! compares the first fault, the entry, how many pages there are, and of each page all bytes and what it may be used for.
+//! First it prints what a compiler's image takes (`program_headers.rt`). Then a line for each kind has how many images
+//! were placed, how many take too many pages, how many have each fault, and how many ended otherwise than the slow
+//! reading says. It compares the first fault, the entry, how many pages there are, and of each page all bytes and what
+//! it may be used for.
 #![tactic(auto)]
 
 mod building;
@@ -51,8 +52,8 @@ fn compare_cuts(image: &[u8], bench: &mut Bench) {
     }
 }
 
-/// Compares the images of each kind, made of a small image, of a compiler's and of what is drawn, and prints its line. Other
-/// images are made in the given `Vec`.
+/// Compares the images of each kind, made of a small image, of a compiler's and of what is drawn, and prints its line.
+/// Other images are made in the given `Vec`.
 fn print_kinds(
     rt: &impl Print,
     good: &[u8],

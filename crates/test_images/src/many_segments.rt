@@ -26,8 +26,8 @@ enum Shape {
     Empty,
 }
 
-/// Each shape, with how many segments there are in its first image: few where each is large, since all of them are written,
-/// and else one less than a file can have.
+/// Each shape, with how many segments there are in its first image: few where each is large, since all of them are
+/// written, and else one less than a file can have.
 const SHAPES: [(Shape, u16); 6] = [
     (Shape::Whole, 2000),
     (Shape::Shorter, 2000),

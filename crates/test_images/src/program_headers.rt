@@ -1,6 +1,6 @@
-//! What an image takes: the fault of a bad one, or the entry in hexadecimal, how many pages a user needs for it with the stack,
-//! and of each loadable segment the offset, the address, the sizes in the file and in memory, and the flags, as `readelf -l`
-//! of GNU binutils writes them.
+//! What an image takes: the fault of a bad one, or the entry in hexadecimal, how many pages a user needs for it with
+//! the stack, and of each loadable segment the offset, the address, the sizes in the file and in memory, and the flags,
+//! as `readelf -l` of GNU binutils writes them.
 use elf_load::check;
 use rv_model::ProgramHeader;
 use std::io;

@@ -99,8 +99,8 @@ fn broken(segment: &Segment, size: usize) -> [bool; 4] {
     ]
 }
 
-/// Reads an image: its first fault by name, and in `placed` what is placed, in order, with the stack first. Where the memory
-/// for that is refused, segments are missing, and the image differs from what is placed.
+/// Reads an image: its first fault by name, and in `placed` what is placed, in order, with the stack first. Where the
+/// memory for that is refused, segments are missing, and the image differs from what is placed.
 pub(crate) fn read_image(image: &[u8], placed: &mut Vec<Segment>) -> Option<&'static str> {
     placed.clear();
     if let Some(name) = file_fault(image) {

@@ -35,8 +35,8 @@ fn size(draws: &mut Draws) -> u64 {
     }
 }
 
-/// A program header whose bytes in the file lie mostly among those behind `headers` headers. It seldom begins at an end of
-/// addresses or of numbers.
+/// A program header whose bytes in the file lie mostly among those behind `headers` headers. It seldom begins at an end
+/// of addresses or of numbers.
 fn header(draws: &mut Draws, headers: usize) -> ProgramHeader {
     let memory_size = size(draws);
     let file_size = match draws.below(30) {
