@@ -44,6 +44,7 @@ pub enum NewFault {
     NoMemory,
 }
 
+/// Whether a name may have this byte: a letter, a digit, `.`, `_` or `-`.
 fn is_name_byte(byte: u8) -> bool
     ensures { result ≡ is_name_byte_spec byte }
 {
@@ -58,6 +59,7 @@ fn is_name_byte(byte: u8) -> bool
     }
 }
 
+/// Whether an image may have this name: 1 to 32 bytes, each as `is_name_byte` says.
 #[tactic(auto, unfolding(crate::specs::NewFaults::is_name))]
 fn is_name(name: &str) -> bool
     ensures { result ≡ is_name_spec name.now }
@@ -74,6 +76,7 @@ fn is_name(name: &str) -> bool
     true
 }
 
+/// Whether each image has a name that it may have.
 fn are_named(images: &[Image<'_>]) -> bool
     ensures { result ≡ list_all (λ image. is_name_spec image.name) (named_images images.now) }
 {
@@ -85,6 +88,7 @@ fn are_named(images: &[Image<'_>]) -> bool
     true
 }
 
+/// Whether no image has more than 4,194,304 bytes.
 fn are_small(images: &[Image<'_>]) -> bool
     ensures { result ≡ list_all (λ image. nat_le (length image.bytes) 4194304) (named_images images.now) }
 {
