@@ -20,8 +20,7 @@ use Rattle.reg_groups.proofs.Sources.{guarded, shape_legal, sources_legal}
 
 same_of_vector : (from : Source) (f g : ℕ → Bool) → ((v : ℕ) → f v ≡ g v) → of_vector from f ≡ of_vector from g
 same_of_vector (source.V vs1) f g h = h vs1
-same_of_vector (source.X rs1) f g h = refl
-same_of_vector (source.I imm) f g h = refl
+same_of_vector _ f g h = refl
 
 -- a test for each operand, where the destination is a group
 row : (shape : Shape) (vd vs2 : ℕ) (from : Source) (unmasked : Bool) (t : VType) (a m : Bool) (b : ℕ → Bool)
@@ -111,5 +110,4 @@ pub move_legal : (from : Source) (vd : ℕ) (t : VType)
 move_legal (source.V vs1) vd t =
     sources_legal (group Write vd (group_type t)) (group Read vs1 (group_type t) ∷ []) (tt, tt)
     ∙ ap (λ b. is_group (group Write vd (group_type t)) && b) (and-true _ ∙ equal_beside vd vs1 (group_type t))
-move_legal (source.X rs1) vd t = sources_legal (group Write vd (group_type t)) [] tt
-move_legal (source.I imm) vd t = sources_legal (group Write vd (group_type t)) [] tt
+move_legal _ vd t = sources_legal (group Write vd (group_type t)) [] tt
