@@ -76,19 +76,9 @@ no_fault image entry e g h v even = past_segments image e g h ∙ ap (λ (b : Bo
 
 -- ---- the headers are there
 
-pub file_header_there : (image : List ℕ) → find (has_fault image) file_faults ≡ None → 64 ≤ length image
-unfolding has_fault
-file_header_there image e = let long : has_fault image BadShort ≡ false = none_found (has_fault image) file_faults 0 BadShort e (omega arith) in grind (arith, long)
-
 table_there : (image : List ℕ) → has_fault image BadHeaderTable ≡ false → (number : ℕ) → number < header_count image → table_offset image + 56 * (number + 1) ≤ length image
 unfolding has_fault
 table_there image e number l = grind (arith, e, l)
-
-pub headers_there : (image : List ℕ) → 64 ≤ length image → find (has_fault image) table_faults ≡ None → HasHeaders image
-headers_there image long e = record {
-  file = long;
-  table = table_there image (none_found (has_fault image) table_faults 1 BadShort e (omega arith));
-}
 
 -- ---- an image with no fault
 

@@ -80,10 +80,6 @@ one_same_part : {a b : Part} → a ≡ b → a ∷ [] ≡ b ∷ []
 one_same_part h = ap (λ (x : Part). x ∷ []) h
 
 parts_again : (s : Slot) (w : ℕ) → parts_of s (value_of s w) ≡ of_word w (parts_of s (value_of s 0))
-parts_again Comma w = refl
-parts_again Open w = refl
-parts_again Close w = refl
-parts_again V0 w = refl
 parts_again (Scalar p) w = one_same_part (same_part (lowest p) 5 w)
 parts_again (Vector p) w = one_same_part (same_part (lowest p) 5 w)
 parts_again (Unsigned unsigned.Immediate) w = one_same_part (same_part 15 5 w)
@@ -100,6 +96,7 @@ parts_again VectorType w = one_same_part (same_part 20 11 w)
 parts_again ShortVectorType w = one_same_part (same_part 20 10 w)
 parts_again Mask w = one_same_part (same_part 25 1 w)
 parts_again Word w = one_same_part (same_part 0 32 w)
+parts_again _ w = refl
 
 of_word-append : (w : ℕ) (ps qs : List Part) → of_word w (ps ++ qs) ≡ of_word w ps ++ of_word w qs
 of_word-append w [] qs = refl

@@ -63,24 +63,15 @@ steps_back signed.Jump v = let a : 2 * v % 2 ≡ 0 = omega arith in let b : 2 * 
 
 steps_below : (s : SignedField) (v : ℕ) → v < half s → scale s * v ≤ scale s * half s - 1
 steps_below signed.Vector v lt = omega arith
-steps_below signed.Immediate v lt = omega arith
-steps_below signed.Store v lt = omega arith
-steps_below signed.Branch v lt = omega arith
-steps_below signed.Jump v lt = omega arith
+steps_below _ v lt = omega arith
 
 steps_up_to : (s : SignedField) (v : ℕ) → v ≤ half s → scale s * v ≤ scale s * half s
 steps_up_to signed.Vector v le = omega arith
-steps_up_to signed.Immediate v le = omega arith
-steps_up_to signed.Store v le = omega arith
-steps_up_to signed.Branch v le = omega arith
-steps_up_to signed.Jump v le = omega arith
+steps_up_to _ v le = omega arith
 
 steps_small : (s : SignedField) → scale s * half s < 2 ^ 64
 steps_small signed.Vector = lit< tt
-steps_small signed.Immediate = lit< tt
-steps_small signed.Store = lit< tt
-steps_small signed.Branch = lit< tt
-steps_small signed.Jump = lit< tt
+steps_small _ = lit< tt
 
 signed_again : (s : SignedField) (v p end : ℕ) (more : List ℕ) → v < 2 * half s → begins_run more ≡ false → Takes (signed_number end (scale s) (half s)) (signed_text (scale s) (half s) v) v p more
 unfolding tokens
