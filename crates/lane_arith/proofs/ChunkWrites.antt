@@ -157,46 +157,18 @@ module _ (k : ℕ) (unmasked : Bool) (mask : List ℕ) (start end : ℕ) (fill_m
   test m b l = (b && l) || ((m && (b && not l)) || false)
 
   tests : (m b t l : Bool) → test m b l ≡ ((test m b l && t) || test m (b && not t) l)
-  tests false false t l = refl
-  tests true false t l = refl
-  tests false true true true = refl
-  tests false true true false = refl
   tests true true true true = refl
-  tests true true true false = refl
-  tests false true false true = refl
-  tests true true false true = refl
-  tests false true false false = refl
-  tests true true false false = refl
+  tests _ true true true = refl
+  tests _ _ true true = refl
+  tests _ _ _ true = refl
+  tests _ _ _ _ = refl
 
   numbers : (m b t l : Bool) (r : ℕ) → cond (b && l) r ones ≡ cond (test m (b && not t) l) (cond ((b && not t) && l) r ones) (cond (b && l) r ones)
-  numbers false false t l r = refl
-  numbers true false t l r = refl
-  numbers false true true l r = refl
-  numbers true true true l r = refl
-  numbers false true false true r = refl
-  numbers true true false true r = refl
-  numbers false true false false r = refl
-  numbers true true false false r = refl
+  numbers true true true true r = refl
+  numbers _ true true true r = refl
+  numbers _ _ true true r = refl
+  numbers _ _ _ true r = refl
+  numbers _ _ _ _ r = refl
 
   later : (e : ℕ) → in_range (max start cut) end e ≡ (in_range start end e && not (nat_lt e cut))
   later e = grind (arith, nat_tests)
-
-  pub with_rest : (old mid new : List ℕ)
-      → Writes k (λ e. changed start e && nat_lt e cut) (number start) old mid
-      → Writes k (changed (max start cut)) (number (max start cut)) mid new
-      → Writes k (changed start) (number start) old new
-  with_rest old mid new first second =
-      writes_same k (λ e. (changed start e && nat_lt e cut) || changed (max start cut) e) (changed start)
-      (λ e. cond (changed (max start cut) e) (number (max start cut) e) (number start e)) (number start) old new
-      (writes_then k (λ e. changed start e && nat_lt e cut) (changed (max start cut)) (number start) (number (max start cut)) old mid new first second)
-      (λ e l. rw (later e) (tests fill_masked_off (in_range start end e) (nat_lt e cut) (is_enabled (body_from start) e)))
-      (λ e h. rw (later e) (numbers fill_masked_off (in_range start end e) (nat_lt e cut) (is_enabled (body_from start) e) (result e)))
-
-  -- the same, of the elements from it on as those of another body
-  pub then_rest : (rest : Body) (old mid new : List ℕ) → rest ≡ body_from (max start cut)
-      → Writes k (λ e. changed start e && nat_lt e cut) (number start) old mid
-      → Writes k (is_changed rest fill_masked_off false) (result_or_ones rest result ones) mid new
-      → Writes k (changed start) (number start) old new
-  then_rest rest old mid new is first second =
-      with_rest old mid new first
-      (subst (λ b. Writes k (is_changed b fill_masked_off false) (result_or_ones b result ones) mid new) is second)

@@ -100,13 +100,9 @@ mask_replaced {o} {r} {a} x y z =
   where
     pick : (o r a : Bool) → xor o (xor o r && a) ≡ cond a r o
     pick true true true = refl
-    pick true true false = refl
-    pick true false true = refl
-    pick true false false = refl
-    pick false true true = refl
-    pick false true false = refl
-    pick false false true = refl
-    pick false false false = refl
+    pick _ true true = refl
+    pick _ _ true = refl
+    pick _ _ _ = refl
 
 -- ---- the bits below an index
 

@@ -43,10 +43,7 @@ selected w ms xs ys n lm lx ly i h =
 
 above_one : (w : Width) → 1 < 2 ^ bits w
 above_one w8 = lit< tt
-above_one w16 = lit< tt
-above_one w32 = lit< tt
-above_one w64 = lit< tt
-above_one w128 = lit< tt
+above_one _ = lit< tt
 
 -- an element of the mask that tells of a comparison
 pub compared : (w : Width) (t : ℕ → ℕ → Bool) (xs ys : List ℕ) (n : ℕ) → length xs ≡ n → length ys ≡ n → (i : ℕ) → i < n
