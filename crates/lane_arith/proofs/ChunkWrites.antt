@@ -118,10 +118,7 @@ step_chunk k n c body fill_masked_off result chunk_result ones mid new made acti
   where
     -- of those in the body, those at which the mask is enabled change anyway
     either_way : (m b l : Bool) → ((b && l) || ((m && (b && not l)) || false)) ≡ ((b && l) || ((m && b) || false))
-    either_way false b l = refl
-    either_way true false l = refl
-    either_way true true true = refl
-    either_way true true false = refl
+    either_way m b l = grind (arith, nat_tests)
 
 -- how many elements a chunk has
 pub few_in_chunk : (k n : ℕ) → 0 < k → k * n ≡ 32 → n ≤ 32
@@ -139,36 +136,3 @@ merged_byte k n i m old long fits e h l true true x y =
     let lz : length zs ≡ k = length-chunk (k * i) k old (omega (arith, mul-suc k i)) in
     let fz : Each1 (λ z. z < 256) zs = below_from_Fits w8 zs (Each1-chunk (Fits w8) (k * i) k old fits) in
     byte_at-is m (element k old i) ∙ byte_of_number zs m fz (omega arith) ∙ get_or-chunk (k * i) k old m 0 l
-
--- the chunks up to a cut, and then the elements from it on
-module _ (k : ℕ) (unmasked : Bool) (mask : List ℕ) (start end : ℕ) (fill_masked_off : Bool) (cut : ℕ) (result : ℕ → ℕ) (ones : ℕ) where
-  abbrev body_from : ℕ → Body
-  body_from s = record { unmasked = unmasked; mask = mask; start = s; end = end }
-
-  abbrev changed : ℕ → ℕ → Bool
-  changed s e = is_changed (body_from s) fill_masked_off false e
-
-  abbrev number : ℕ → ℕ → ℕ
-  number s e = result_or_ones (body_from s) result ones e
-
-  -- The test of the second, where b is whether the element is in the body, t whether it is before the cut, l whether the
-  -- mask is enabled at it, and m whether those masked off are filled.
-  abbrev test : Bool → Bool → Bool → Bool
-  test m b l = (b && l) || ((m && (b && not l)) || false)
-
-  tests : (m b t l : Bool) → test m b l ≡ ((test m b l && t) || test m (b && not t) l)
-  tests true true true true = refl
-  tests _ true true true = refl
-  tests _ _ true true = refl
-  tests _ _ _ true = refl
-  tests _ _ _ _ = refl
-
-  numbers : (m b t l : Bool) (r : ℕ) → cond (b && l) r ones ≡ cond (test m (b && not t) l) (cond ((b && not t) && l) r ones) (cond (b && l) r ones)
-  numbers true true true true r = refl
-  numbers _ true true true r = refl
-  numbers _ _ true true r = refl
-  numbers _ _ _ true r = refl
-  numbers _ _ _ _ r = refl
-
-  later : (e : ℕ) → in_range (max start cut) end e ≡ (in_range start end e && not (nat_lt e cut))
-  later e = grind (arith, nat_tests)
