@@ -40,10 +40,7 @@ number_back k ys long below =
 
 ones_bytes : (w : Width) → bytes_low_first 0 (width_bytes w) (ones w) ≡ replicate (width_bytes w) 255
 ones_bytes w8 = refl
-ones_bytes w16 = refl
-ones_bytes w32 = refl
-ones_bytes w64 = refl
-ones_bytes w128 = refl
+ones_bytes _ = refl
 
 -- a write inside a part that is written
 put_front : (q : ℕ) (file group xs : List ℕ) → q + length xs ≤ length group → length group ≤ length file
