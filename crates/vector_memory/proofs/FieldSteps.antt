@@ -1,5 +1,5 @@
 -- That fields may be moved one after another, each for all indices, where what they change lies apart.
-use Rattle.std.proofs.Common.{◌≡◌, ℕ, zero, suc, ◌+◌, ◌-◌, ◌*◌, ◌<◌, ◌≤◌, Bool, true, false, cond, List, [], ◌∷◌, ◌++◌, length, get_or, drop, length-take, refl, sym, ap, ◌∙◌, inl, inr, ◌⊎◌, arith}
+use Rattle.std.proofs.Common.{◌≡◌, ℕ, zero, suc, ◌+◌, ◌-◌, ◌*◌, ◌<◌, ◌≤◌, Bool, true, false, cond, List, [], ◌∷◌, ◌++◌, length, get_or, drop, length-take, refl, sym, ap, ◌∙◌, inl, inr, ◌⊎◌, arith, zero-add}
 use Rattle.std.specs.Prelude.{replicate}
 use Rattle.std.specs.Simd.Lanes.{chunk, put_chunk}
 use Rattle.std.proofs.lemmas.Bool.{cases_Bool, cases_lt}
@@ -29,6 +29,14 @@ module _ {X : Type 0} where
   each_more step x i (suc n) =
       let count : suc n + 1 ≡ suc (n + 1) = omega arith in
       ap (for_each step x i) count ∙ each_more step (step x i) (i + 1) n ∙ ap (step (for_each step (step x i) (i + 1) n)) (omega arith)
+
+  -- what they come to, where each goes on from what those before it came to
+  pub steps_to : (step : X → ℕ → X) (x : X) (made : ℕ → X) (end : ℕ) → x ≡ made 0 → ((n : ℕ) → n < end → step (made n) n ≡ made (n + 1)) → (n : ℕ) → n ≤ end → for_each step x 0 n ≡ made n
+  steps_to step x made end start next zero h = each_none step x 0 ∙ start
+  steps_to step x made end start next (suc n) h =
+      let count : suc n ≡ n + 1 = omega arith in
+      ap (for_each step x 0) count ∙ each_more step x 0 n ∙ ap (step (for_each step x 0 n)) (zero-add n)
+      ∙ ap (λ y. step y n) (steps_to step x made end start next n (omega (arith, h))) ∙ next n (omega (arith, h)) ∙ ap made (sym count)
 
   -- where a later field of an index, and an earlier one of a later index, may change places
   abbrev pub Apart : (ℕ → X → ℕ → X) → ℕ → ℕ → ℕ → Type 0
@@ -152,10 +160,9 @@ put_low zero q (z ∷ file) [] ys h = none q (z ∷ file)
 
     none : (k : ℕ) (l : List ℕ) → put_chunk zero (put_chunk k l ys) [] ≡ put_chunk k (put_chunk zero l []) ys
     none k l = empty (put_chunk k l ys) ∙ sym (ap (λ x. put_chunk k x ys) (empty l))
-put_low zero zero (z ∷ file) (x ∷ xs) ys h = absurd (omega (arith, h))
 put_low zero (suc q) (z ∷ file) (x ∷ xs) ys h = ap (λ l. x ∷ l) (put_low zero q file xs ys (omega (arith, h)))
-put_low (suc p) zero (z ∷ file) xs ys h = absurd (omega (arith, h))
 put_low (suc p) (suc q) (z ∷ file) xs ys h = ap (λ l. z ∷ l) (put_low p q file xs ys (omega (arith, h)))
+put_low _ _ _ xs ys h = absurd (omega (arith, h))
 
 -- what is loaded of a field keeps the order of fields
 module _ (m : Memory) (a : VectorAccess) (fill : Bool) (top : ℕ) (room : a.size * top ≤ VLENB * a.field_registers) where
