@@ -65,11 +65,7 @@ active_written k body told result ones old new same was =
 
 -- agnostic ones before, active ones after
 in_order : (m b l r : Bool) → ((b && l) || ((m && (b && not l)) || r)) ≡ (((m && b) || r) || (b && l))
-in_order true true true true = refl
-in_order _ true true true = refl
-in_order _ _ true true = refl
-in_order _ _ _ true = refl
-in_order _ _ _ _ = refl
+in_order m b l r = grind (arith, nat_tests)
 
 -- a copy of a group whose agnostic elements were filled before the results were written
 pub made_results : (g : GroupType) (vd : ℕ) (body : Body) (fill_masked_off fill_tail : Bool) (result : ℕ → ℕ) (file mid new : List ℕ)

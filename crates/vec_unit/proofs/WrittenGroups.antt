@@ -4,7 +4,7 @@ use Rattle.std.proofs.lemmas.Bool.{cases_lt, false_from_ne_true, lt-leb}
 use Rattle.std.proofs.lemmas.Grind.{div_ceil_times, same_number_lists}
 use Rattle.std.proofs.lemmas.List.{drop_all, take_all}
 use Rattle.std.proofs.lemmas.Simd.{length-put_chunk, put_chunk_is, get_or-put_chunk_below, get_or-put_chunk_at, get_or-put_chunk_above, length-chunk, get_or-chunk}
-use Rattle.std.proofs.Math.Nat.{mul-le-mul_left, mul-suc, mul-add, mul-zero, mul_assoc, mul_comm, div-add-mod, mod-lt, le_of_mul-le-mul_left, lt_of_mul-lt-mul_left}
+use Rattle.std.proofs.Math.Nat.{mul-le-mul_left, mul-suc, mul-add, mul-zero, mul_assoc, mul_comm, div-add-mod, div-lt_iff_lt-mul, le-div_iff_mul-le, mod-lt, le_of_mul-le-mul_left, lt_of_mul-lt-mul_left}
 use lib.Lanes.{number_l, chunk, put_chunk}
 use mir.Val.{bits}
 use Rattle.rv_model.specs.declared.instructions.operations.BinaryOp.{BinaryOp}
@@ -126,20 +126,10 @@ module _ (k n vd count : ℕ) (changes : ℕ → Bool) (number : ℕ → ℕ) (f
       rw (at_j, stays) at told
 
   element_below : (j : ℕ) → j < 32 * vd → 0 < k → j / k < n * vd
-  element_below j low some = elim (cases_lt (j / k) (n * vd)) [
-    | inl h ↦ h
-    | inr h ↦
-        let far : k * (n * vd) ≤ k * (j / k) = mul-le-mul_left k h in
-        absurd (omega (arith, place k n vd 0 e, mul-zero k, div-add-mod j k, far, low))
-  ]
+  element_below j low some = (div-lt_iff_lt-mul some).1 (omega (arith, place k n vd 0 e, mul-zero k, mul_comm k (n * vd), low))
 
   element_above : (j : ℕ) → 32 * (vd + count) ≤ j → 0 < k → n * (vd + count) ≤ j / k
-  element_above j high some = elim (cases_lt (j / k) (n * (vd + count))) [
-    | inl h ↦
-        let far : k * suc (j / k) ≤ k * (n * (vd + count)) = mul-le-mul_left k h in
-        absurd (omega (arith, place k n (vd + count) 0 e, mul-zero k, mul-suc k (j / k), div-add-mod j k, mod-lt j some, far, high))
-    | inr h ↦ h
-  ]
+  element_above j high some = (le-div_iff_mul-le some).1 (omega (arith, place k n (vd + count) 0 e, mul-zero k, mul_comm k (n * (vd + count)), high))
 
   past : (j : ℕ) → ((i : ℕ) → n * count ≤ i → changes i ≡ false) → n * (vd + count) ≤ j → test_from (n * vd) changes j ≡ false
   past j none h =
