@@ -54,14 +54,9 @@ sound_headers image sound = record {
   table = table_there image (none_found (has_fault image) all_faults 7 BadShort sound (omega arith));
 }
 
-pub no_bad_address : (image : List ℕ) → first_fault image ≡ None → any_header_has image BadAddress ≡ false
+pub no_bad_header : (image : List ℕ) → first_fault image ≡ None
+    → (any_header_has image BadFileSize ≡ false) × (any_header_has image BadOutside ≡ false) × (any_header_has image BadAddress ≡ false)
 unfolding first_fault has_fault header_has
-no_bad_address image sound = none_found (has_fault image) all_faults 11 BadShort sound (omega arith)
-
-pub no_bad_file_size : (image : List ℕ) → first_fault image ≡ None → any_header_has image BadFileSize ≡ false
-unfolding first_fault has_fault header_has
-no_bad_file_size image sound = none_found (has_fault image) all_faults 9 BadShort sound (omega arith)
-
-pub none_outside : (image : List ℕ) → first_fault image ≡ None → any_header_has image BadOutside ≡ false
-unfolding first_fault has_fault header_has
-none_outside image sound = none_found (has_fault image) all_faults 10 BadShort sound (omega arith)
+no_bad_header image sound =
+    let none = none_found (has_fault image) all_faults in
+    (none 9 BadShort sound (omega arith), none 10 BadShort sound (omega arith), none 11 BadShort sound (omega arith))
