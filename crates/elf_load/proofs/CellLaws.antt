@@ -43,30 +43,18 @@ holds_its_cells image sound x = elim (cases_lt x (page_size * all_pages)) [
 
 -- ---- pages by their addresses
 
-touches_load : (header : ProgramHeader) (page : ℕ) → touches_page page header ≡ true → header.kind ≡ 1
+touched_means : (header : ProgramHeader) (page : ℕ) → touches_page page header ≡ true
+    → (header.kind ≡ 1) × (max header.address (page_size * page) < min (header.address + header.memory_size) (page_size * page + page_size))
 unfolding touches_page
-touches_load header page t = grind (arith, t)
+touched_means header page t = (grind (arith, t), grind (arith, t))
 
-touches_below : (header : ProgramHeader) (page : ℕ) → touches_page page header ≡ true → max header.address (page_size * page) < min (header.address + header.memory_size) (page_size * page + page_size)
-unfolding touches_page
-touches_below header page t = grind (arith, t)
-
-covers_load : (header : ProgramHeader) (x : ℕ) → covers x header ≡ true → header.kind ≡ 1
+covered_means : (header : ProgramHeader) (x : ℕ) → covers x header ≡ true → (header.kind ≡ 1) × (header.address ≤ x) × (x < header.address + header.memory_size)
 unfolding covers
-covers_load header x t = grind (arith, t)
-
-covers_low : (header : ProgramHeader) (x : ℕ) → covers x header ≡ true → header.address ≤ x
-unfolding covers
-covers_low header x t = grind (arith, t)
-
-covers_high : (header : ProgramHeader) (x : ℕ) → covers x header ≡ true → x < header.address + header.memory_size
-unfolding covers
-covers_high header x t = grind (arith, t)
+covered_means header x t = (grind (arith, t), grind (arith, t), grind (arith, t))
 
 pub touches_what_it_covers : TouchesWhatItCovers
 touches_what_it_covers header page = (
-  λ t. (let load = touches_load header page t in let below = touches_below header page t in
-      (max header.address (page_size * page), (omega arith, covers_within (max header.address (page_size * page)) header load (omega arith) (omega arith)))),
-  λ p. (let load = covers_load header p.0 p.1.1 in let low = covers_low header p.0 p.1.1 in let high = covers_high header p.0 p.1.1 in let place = p.1.0 in
-      touches_at header page load (omega arith) (omega arith) (omega arith)),
+  λ t. (let it = touched_means header page t in
+      (max header.address (page_size * page), (omega arith, covers_within (max header.address (page_size * page)) header it.0 (omega arith) (omega arith)))),
+  λ p. (let it = covered_means header p.0 p.1.1 in let place = p.1.0 in touches_at header page it.0 (omega arith) (omega arith) (omega arith)),
 )

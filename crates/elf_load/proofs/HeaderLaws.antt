@@ -4,6 +4,7 @@ use Rattle.std.specs.List.{list_any, range_with_len}
 use Rattle.std.proofs.lemmas.List.Folds.{list_any-append, list_any_at}
 use Rattle.std.proofs.lemmas.List.FromFn.{length-map-range_with_len, get_or-map-range_with_len, map-range_with_len_more}
 use Rattle.std.proofs.Math.Bool.{or-false}
+use Rattle.std.proofs.lemmas.Bool.{false_from_ne_true, true≢false}
 use Rattle.rv_model.specs.declared.images.ProgramHeader.{ProgramHeader}
 use Rattle.rv_model.specs.images.Fields.{header_count, program_header, program_headers}
 use Rattle.elf_load.specs.Headers.{first_headers}
@@ -38,11 +39,7 @@ any_at p image number l h =
 
 -- where none passes
 pub none_at : (p : ProgramHeader → Bool) (image : List ℕ) (number : ℕ) → number < header_count image → list_any p (program_headers image) ≡ false → p (program_header image number) ≡ false
-none_at p image number l h = split (p (program_header image number)) refl
-  where
-    split : (b : Bool) → p (program_header image number) ≡ b → p (program_header image number) ≡ false
-    split true e = let found = any_at p image number l e in absurd (let bad : true ≡ false = sym found ∙ h in cc)
-    split false e = e
+none_at p image number l h = false_from_ne_true _ (λ e. true≢false (sym (any_at p image number l e) ∙ h))
 
 none_below : (p : ProgramHeader → Bool) (image : List ℕ) (number : ℕ) → ((k : ℕ) → k < number → p (program_header image k) ≡ false) → list_any p (first_headers image number) ≡ false
 none_below p image zero h = any_none p image

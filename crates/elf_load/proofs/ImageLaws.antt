@@ -89,7 +89,7 @@ len-memory_below_pages cells t same (suc n) =
     whole a true = omega arith
     whole a false = omega arith
 
-is_some-when : (b : Bool) (c : Cell) → is_some (if b then Some c else None) ≡ b
+pub is_some-when : (b : Bool) (c : Cell) → is_some (if b then Some c else None) ≡ b
 is_some-when true c = refl
 is_some-when false c = refl
 

@@ -1,6 +1,7 @@
 -- The pages that segments touch, and how many they are
 use Rattle.std.proofs.Common.{◌≡◌, ℕ, zero, suc, ◌+◌, ◌-◌, ◌*◌, ◌/◌, ◌<◌, ◌≤◌, min, max, Bool, true, false, List, ◌∷◌, ◌||◌, length, cond, Option, Some, None, IfSome, lit≤, refl, sym, ◌∙◌, ap, subst, arith, inl, inr}
 use Rattle.std.specs.List.{list_any}
+use Rattle.std.proofs.Math.Bool.{or-false, or_assoc}
 use Rattle.std.proofs.lemmas.Bool.{cases_eq, cases_lt, or_left, or_right}
 use Rattle.rv_model.specs.declared.images.ProgramHeader.{ProgramHeader}
 use Rattle.rv_model.specs.images.Fields.{header_count, program_header}
@@ -12,7 +13,7 @@ use Rattle.elf_load.specs.Parts.{header_has}
 use Rattle.elf_load.specs.Headers.{first_headers}
 use Rattle.elf_load.specs.Pages.{IsFirst, IsFirstIfAny, earlier, pages_below, first_placed, EndsInMemory, grants}
 use Rattle.elf_load.proofs.HeaderLaws.{any_none, any_more, any_at, none_at, first_headers_all}
-use Rattle.elf_load.proofs.FaultLaws.{no_bad_address}
+use Rattle.elf_load.proofs.FaultLaws.{no_bad_header}
 
 -- ---- one segment
 
@@ -128,19 +129,11 @@ pub is_touched_more : (image : List ℕ) (number page : ℕ)
 unfolding first_placed is_touched
 is_touched_more image number page =
     ap (λ (b : Bool). touches_page page stack || b) (any_more (touches_page page) image number)
-    ∙ or_assoc (touches_page page stack) (list_any (touches_page page) (first_headers image number)) (touches_page page (program_header image number))
-  where
-    or_assoc : (a b c : Bool) → (a || (b || c)) ≡ ((a || b) || c)
-    or_assoc true b c = refl
-    or_assoc false b c = refl
+    ∙ sym (or_assoc (touches_page page stack) (list_any (touches_page page) (first_headers image number)) (touches_page page (program_header image number)))
 
 pub is_touched_stack : (image : List ℕ) (page : ℕ) → is_touched (first_placed image 0) page ≡ touches_page page stack
 unfolding first_placed is_touched
-is_touched_stack image page = ap (λ (b : Bool). touches_page page stack || b) (any_none (touches_page page) image) ∙ or_false (touches_page page stack)
-  where
-    or_false : (b : Bool) → (b || false) ≡ b
-    or_false true = refl
-    or_false false = refl
+is_touched_stack image page = ap (λ (b : Bool). touches_page page stack || b) (any_none (touches_page page) image) ∙ or-false (touches_page page stack)
 
 pub earlier_below : (a b : Option ℕ) (n : ℕ) → IfSome a (λ p. p < n) → IfSome b (λ p. p < n) → IfSome (earlier a b) (λ p. p < n)
 earlier_below None b n f g = g
@@ -167,12 +160,9 @@ pub stack_ends : EndsInMemory stack
 unfolding stack
 stack_ends = λ _. lit≤ tt
 
-ends_in_memory : (size : ℕ) (header : ProgramHeader) → header_has size BadAddress header ≡ false → EndsInMemory header
-unfolding header_has
-ends_in_memory size header e = λ kind. grind (arith, e, kind)
-
 pub header_ends : (image : List ℕ) (number : ℕ) → first_fault image ≡ None → number < header_count image → EndsInMemory (program_header image number)
-header_ends image number sound l = ends_in_memory (length image) (program_header image number) (none_at (header_has (length image) BadAddress) image number l (no_bad_address image sound))
+unfolding header_has
+header_ends image number sound l = λ kind. (let ends = none_at (header_has (length image) BadAddress) image number l (no_bad_header image sound).2 in grind (arith, ends, kind))
 
 -- ---- flags
 

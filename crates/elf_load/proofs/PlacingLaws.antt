@@ -18,8 +18,8 @@ use Rattle.elf_load.specs.Headers.{first_headers}
 use Rattle.elf_load.specs.Pages.{IsFirst, pages_below, first_placed}
 use Rattle.elf_load.specs.Placing.{cells_with, memory_with, blank_memory, memory_after}
 use Rattle.elf_load.proofs.HeaderLaws.{first_headers_more}
-use Rattle.elf_load.proofs.PageLaws.{first_placed_all, pages_below_next, pages_below_le}
-use Rattle.elf_load.proofs.ImageLaws.{get-memory_below, get-memory_below_outside, is_memory_below, len-memory_below_pages, page_count-image}
+use Rattle.elf_load.proofs.PageLaws.{first_placed_all, pages_below_next, pages_below_le, pages_below_skipped}
+use Rattle.elf_load.proofs.ImageLaws.{get-memory_below, get-memory_below_outside, is_memory_below, len-memory_below_pages, is_some-when, page_count-image}
 
 -- ---- cells and memories with them
 
@@ -30,14 +30,21 @@ cells_with-is : (image : List ℕ) (bytes : ℕ → ℕ) (end x : ℕ) (b : Bool
 unfolding cells_with cell_if
 cells_with-is image bytes end x b e = ap (λ (b : Bool). cell_if image bytes x b) e
 
-past_end : (end x : ℕ) (t : Bool) → end ≤ x / page_size → (nat_lt (x / page_size) end && t) ≡ false
-past_end end x t l = grind (arith, l)
+past_end : (end page : ℕ) (t : Bool) → end ≤ page → (nat_lt page end && t) ≡ false
+past_end end page t l = grind (arith, l)
 
-before_end : (end x : ℕ) (t : Bool) → x / page_size < end → (nat_lt (x / page_size) end && t) ≡ t
-before_end end x t l = grind (arith, l)
+before_end : (end page : ℕ) (t : Bool) → page < end → (nat_lt page end && t) ≡ t
+before_end end page t l = grind (arith, l)
 
-untouched_below : (end x : ℕ) (t : Bool) → t ≡ false → (nat_lt (x / page_size) end && t) ≡ false
-untouched_below end x t e = grind (arith, e)
+-- of two ends, where no page between them is touched
+either_end : (from end page : ℕ) (t : Bool) → from ≤ end → (from ≤ page → page < end → t ≡ false) → (nat_lt page from && t) ≡ (nat_lt page end && t)
+either_end from end page t l none = elim (cases_lt page from) [
+  | inl low ↦ before_end from page t low ∙ sym (before_end end page t (omega arith))
+  | inr high ↦ past_end from page t high ∙ sym (elim (cases_lt page end) [
+    | inl between ↦ before_end end page t between ∙ none high between
+    | inr above ↦ past_end end page t above
+  ])
+]
 
 get-memory_with : (image : List ℕ) (bytes : ℕ → ℕ) (end x : ℕ) → end ≤ all_pages → get (memory_with image bytes end) x ≡ cells_with image bytes end x
 unfolding memory_with cell_if
@@ -45,7 +52,7 @@ get-memory_with image bytes end x l = elim (cases_lt x (page_size * all_pages)) 
   | inl within ↦ get-memory_below (cells_with image bytes end) (page_size * all_pages) x within
   | inr outside ↦
       get-memory_below_outside (cells_with image bytes end) (page_size * all_pages) x outside
-      ∙ sym (cells_with-is image bytes end x false (past_end end x (is_touched (placed_headers image) (x / page_size)) (omega arith)))
+      ∙ sym (cells_with-is image bytes end x false (past_end end (x / page_size) _ (omega arith)))
 ]
 
 -- a memory that holds these cells is that one
@@ -57,20 +64,18 @@ is_memory_with m image bytes end l h = same_memory m (memory_with image bytes en
 pub blank_none : (image : List ℕ) → empty ≡ blank_memory image 0
 unfolding cell_if
 blank_none image = is_memory_with empty image (λ _. 0) 0 (omega arith) (λ x.
-    get-empty nat_cmp x ∙ sym (cells_with-is image (λ _. 0) 0 x false (past_end 0 x (is_touched (placed_headers image) (x / page_size)) (omega arith))))
+    get-empty nat_cmp x ∙ sym (cells_with-is image (λ _. 0) 0 x false (past_end 0 (x / page_size) _ (omega arith))))
 
--- no page is left
+-- no page is left up to another
+blank_same : (image : List ℕ) (from end : ℕ) → from ≤ end → end ≤ all_pages → ((q : ℕ) → from ≤ q → q < end → is_touched (placed_headers image) q ≡ false)
+    → blank_memory image from ≡ blank_memory image end
+blank_same image from end l m none = is_memory_with (blank_memory image from) image (λ _. 0) end m (λ x.
+    get-memory_with image (λ _. 0) from x (omega arith)
+    ∙ cells_with-is image (λ _. 0) from x _ (either_end from end (x / page_size) (is_touched (placed_headers image) (x / page_size)) l (none (x / page_size)))
+    ∙ sym (cells_with-is image (λ _. 0) end x _ refl))
+
 pub blank_all : (image : List ℕ) (from : ℕ) → from ≤ all_pages → ((q : ℕ) → from ≤ q → is_touched (placed_headers image) q ≡ false) → blank_memory image from ≡ blank_memory image all_pages
-unfolding cell_if
-blank_all image from l none = is_memory_with (blank_memory image from) image (λ _. 0) all_pages (omega arith) (λ x.
-    get-memory_with image (λ _. 0) from x l ∙ elim (cases_lt (x / page_size) from) [
-      | inl low ↦
-          cells_with-is image (λ _. 0) from x (is_touched (placed_headers image) (x / page_size)) (before_end from x (is_touched (placed_headers image) (x / page_size)) low)
-          ∙ sym (cells_with-is image (λ _. 0) all_pages x (is_touched (placed_headers image) (x / page_size)) (before_end all_pages x (is_touched (placed_headers image) (x / page_size)) (omega arith)))
-      | inr high ↦
-          cells_with-is image (λ _. 0) from x false (past_end from x (is_touched (placed_headers image) (x / page_size)) high)
-          ∙ sym (cells_with-is image (λ _. 0) all_pages x false (untouched_below all_pages x (is_touched (placed_headers image) (x / page_size)) (none (x / page_size) high)))
-    ])
+blank_all image from l none = blank_same image from all_pages l (omega arith) (λ q m k. none q m)
 
 get-with_page_same : (m : Memory) (page : ℕ) (permissions : Permissions) (x : ℕ) → x / page_size ≡ page → get (with_pages m page 1 permissions) x ≡ Some (record { byte = 0; permissions = permissions })
 unfolding with_pages
@@ -84,76 +89,51 @@ get-with_page_other m page permissions x e =
     (elim (cases_lt x (page_size * page)) [ inl low ↦ inl low | inr high ↦ inr (omega arith) ])
 
 -- one more page
+blank_next : (image : List ℕ) (page : ℕ) → page < all_pages → is_touched (placed_headers image) page ≡ true
+    → with_pages (blank_memory image page) page 1 (permissions_of (placed_headers image) page) ≡ blank_memory image (page + 1)
+unfolding cell_if
+blank_next image page l touched =
+    is_memory_with (with_pages (blank_memory image page) page 1 (permissions_of (placed_headers image) page)) image (λ _. 0) (page + 1) (omega arith) (λ x. elim (cases_eq (x / page_size) page) [
+      | inl same ↦
+          get-with_page_same (blank_memory image page) page (permissions_of (placed_headers image) page) x same
+          ∙ ap (λ (p : ℕ). Some (record { byte = 0; permissions = permissions_of (placed_headers image) p })) (sym same)
+          ∙ sym (cells_with-is image (λ _. 0) (page + 1) x true (before_end (page + 1) (x / page_size) _ (omega arith) ∙ ap (is_touched (placed_headers image)) same ∙ touched))
+      | inr other ↦
+          get-with_page_other (blank_memory image page) page (permissions_of (placed_headers image) page) x other
+          ∙ get-memory_with image (λ _. 0) page x (omega arith)
+          ∙ cells_with-is image (λ _. 0) page x _ (either_end page (page + 1) (x / page_size) (is_touched (placed_headers image) (x / page_size)) (omega arith) (λ m k. absurd (omega (arith, m, k, other))))
+          ∙ sym (cells_with-is image (λ _. 0) (page + 1) x _ refl)
+    ])
+
 pub blank_more : (image : List ℕ) (from page : ℕ) → page < all_pages → IsFirst (is_touched (placed_headers image)) from page
     → with_pages (blank_memory image from) page 1 (permissions_of (placed_headers image) page) ≡ blank_memory image (page + 1)
-unfolding cell_if
 blank_more image from page l first =
-    is_memory_with (with_pages (blank_memory image from) page 1 (permissions_of (placed_headers image) page)) image (λ _. 0) (page + 1) (omega arith) (λ x. elim (cases_eq (x / page_size) page) [
-      | inl same ↦
-          get-with_page_same (blank_memory image from) page (permissions_of (placed_headers image) page) x same
-          ∙ ap (λ (p : ℕ). Some (record { byte = 0; permissions = permissions_of (placed_headers image) p })) (sym same)
-          ∙ sym (cells_with-is image (λ _. 0) (page + 1) x true (before_end (page + 1) x (is_touched (placed_headers image) (x / page_size)) (omega arith) ∙ ap (is_touched (placed_headers image)) same ∙ first.passes))
-      | inr other ↦
-          get-with_page_other (blank_memory image from) page (permissions_of (placed_headers image) page) x other
-          ∙ get-memory_with image (λ _. 0) from x (let s = first.start in omega arith)
-          ∙ elim (cases_lt (x / page_size) from) [
-            | inl low ↦
-                cells_with-is image (λ _. 0) from x (is_touched (placed_headers image) (x / page_size)) (before_end from x (is_touched (placed_headers image) (x / page_size)) low)
-                ∙ sym (cells_with-is image (λ _. 0) (page + 1) x (is_touched (placed_headers image) (x / page_size)) (before_end (page + 1) x (is_touched (placed_headers image) (x / page_size)) (let s = first.start in omega arith)))
-            | inr high ↦
-                cells_with-is image (λ _. 0) from x false (past_end from x (is_touched (placed_headers image) (x / page_size)) high)
-                ∙ sym (cells_with-is image (λ _. 0) (page + 1) x false (elim (cases_lt (x / page_size) page) [
-                  | inl between ↦ untouched_below (page + 1) x (is_touched (placed_headers image) (x / page_size)) (first.skipped (x / page_size) high between)
-                  | inr above ↦ past_end (page + 1) x (is_touched (placed_headers image) (x / page_size)) (omega arith)
-                ]))
-          ]
-    ])
+    ap (λ (m : Memory). with_pages m page 1 (permissions_of (placed_headers image) page)) (blank_same image from page first.start (omega arith) first.skipped)
+    ∙ blank_next image page l first.passes
 
 -- ---- no page is refused
 
-below_end : ℕ → (ℕ → Bool) → ℕ → Bool
-below_end end t p = nat_lt p end && t p
-
-cut_at_end : (t : ℕ → Bool) (end n : ℕ) → pages_below (below_end end t) n ≡ pages_below t (min n end)
-unfolding pages_below below_end
-cut_at_end t end zero = let none : 0 ≡ min 0 end = omega arith in ap (pages_below t) none
-cut_at_end t end (suc n) = elim (cases_lt n end) [
-  | inl low ↦
-      let same : min n end ≡ n = omega arith in
-      let here : suc n ≡ min (suc n) end = omega arith in
-      ap (λ (b : Bool). pages_below (below_end end t) n + cond b 1 0) (within low)
-      ∙ ap (λ (a : ℕ). a + cond (t n) 1 0) (cut_at_end t end n ∙ ap (pages_below t) same)
-      ∙ ap (pages_below t) here
-  | inr high ↦
-      ap (λ (b : Bool). pages_below (below_end end t) n + cond b 1 0) (beyond high)
-      ∙ omega (arith, cut_at_end t end n, ap (pages_below t) (let same : min n end ≡ min (suc n) end = omega arith in same))
-]
-  where
-    within : n < end → (nat_lt n end && t n) ≡ t n
-    within l = grind (arith, l)
-
-    beyond : end ≤ n → (nat_lt n end && t n) ≡ false
-    beyond l = grind (arith, l)
-
-is_some-cell_if : (image : List ℕ) (bytes : ℕ → ℕ) (x : ℕ) (b : Bool) → is_some (cell_if image bytes x b) ≡ b
-unfolding cell_if
-is_some-cell_if image bytes x true = refl
-is_some-cell_if image bytes x false = refl
+same_pages : (t u : ℕ → Bool) (n : ℕ) → ((q : ℕ) → q < n → t q ≡ u q) → pages_below t n ≡ pages_below u n
+unfolding pages_below
+same_pages t u zero h = refl
+same_pages t u (suc n) h =
+    ap (λ (b : Bool). pages_below t n + cond b 1 0) (h n (omega arith)) ∙ ap (λ (k : ℕ). k + cond (u n) 1 0) (same_pages t u n (λ q l. h q (omega arith)))
 
 page_count-blank : (image : List ℕ) (end : ℕ) → end ≤ all_pages → page_count (blank_memory image end) ≡ pages_below (is_touched (placed_headers image)) end
-unfolding memory_with page_count below_end
+unfolding memory_with page_count cells_with
 page_count-blank image end l =
-    let size = len-memory_below_pages (cells_with image (λ _. 0) end) (below_end end (is_touched (placed_headers image)))
-    (λ x. ap is_some (cells_with-is image (λ _. 0) end x _ refl) ∙ is_some-cell_if image (λ _. 0) x _) all_pages in
-    let cut = cut_at_end (is_touched (placed_headers image)) end all_pages in
-    let least : min all_pages end ≡ end = omega arith in
-    omega (arith, size, cut, ap (pages_below (is_touched (placed_headers image))) least)
+    let t : ℕ → Bool = is_touched (placed_headers image) in
+    let u : ℕ → Bool = λ p. nat_lt p end && t p in
+    let size = len-memory_below_pages (cells_with image (λ _. 0) end) u (λ x. is_some-when (u (x / page_size)) _) all_pages in
+    let past = pages_below_skipped u end all_pages l (λ q m k. past_end end q (t q) m) in
+    let before = same_pages u t end (λ q m. before_end end q (t q) m) in
+    omega (arith, size, past, before)
 
 page_is_unmapped : (image : List ℕ) (from page : ℕ) → page < all_pages → from ≤ page → contains_key (blank_memory image from) (page_size * page) ≡ false
 unfolding cell_if
 page_is_unmapped image from page l m =
     ap is_some (get-memory_with image (λ _. 0) from (page_size * page) (omega arith)
-    ∙ cells_with-is image (λ _. 0) from (page_size * page) false (past_end from (page_size * page) (is_touched (placed_headers image) ((page_size * page) / page_size)) (omega arith)))
+    ∙ cells_with-is image (λ _. 0) from (page_size * page) false (past_end from ((page_size * page) / page_size) _ (omega arith)))
 
 pub blank_accepted : (image : List ℕ) (from page : ℕ) → page < all_pages → IsFirst (is_touched (placed_headers image)) from page → page_count (memory_of_image image) ≤ page_quota
     → map_refusal (blank_memory image from) page 1 ≡ None
@@ -202,42 +182,40 @@ byte_in_stack image x = split (covers x stack)
     split false = refl
 
 -- bytes that are the same everywhere
+same_cell : (image : List ℕ) (bytes other : ℕ → ℕ) (x : ℕ) → bytes x ≡ other x → cells_with image bytes all_pages x ≡ cells_with image other all_pages x
+unfolding cells_with
+same_cell image bytes other x e =
+    ap (λ (n : ℕ). if (nat_lt (x / page_size) all_pages && is_touched (placed_headers image) (x / page_size)) then Some (record { byte = n; permissions = permissions_of (placed_headers image) (x / page_size) }) else None) e
+
 pub same_bytes : (image : List ℕ) (bytes other : ℕ → ℕ) → ((x : ℕ) → bytes x ≡ other x) → memory_with image bytes all_pages ≡ memory_with image other all_pages
-unfolding cell_if
-same_bytes image bytes other same = is_memory_with (memory_with image bytes all_pages) image other all_pages (omega arith) (λ x.
-    get-memory_with image bytes all_pages x (omega arith)
-    ∙ cells_with-is image bytes all_pages x _ refl
-    ∙ ap (λ (n : ℕ). if (nat_lt (x / page_size) all_pages && is_touched (placed_headers image) (x / page_size)) then Some (record { byte = n; permissions = permissions_of (placed_headers image) (x / page_size) }) else None) (same x)
-    ∙ sym (cells_with-is image other all_pages x _ refl))
+same_bytes image bytes other same =
+    is_memory_with (memory_with image bytes all_pages) image other all_pages (omega arith) (λ x. get-memory_with image bytes all_pages x (omega arith) ∙ same_cell image bytes other x (same x))
 
 pub memory_after_none : (image : List ℕ) → blank_memory image all_pages ≡ memory_after image 0
 unfolding memory_after
 memory_after_none image = same_bytes image (λ _. 0) (image_byte image (first_placed image 0)) (λ x. sym (byte_in_stack image x))
 
 pub memory_after_all : (image : List ℕ) (number : ℕ) → number ≡ header_count image → memory_after image number ≡ memory_of_image image
-unfolding memory_after memory_of_image cell_of cell_if
+unfolding memory_after memory_with memory_of_image cell_of cell_if
 memory_after_all image number e =
     is_memory_below (memory_after image number) (cell_of image) (page_size * all_pages)
-    (λ x l. get-memory_with image (image_byte image (first_placed image number)) all_pages x (omega arith)
-    ∙ cells_with-is image (image_byte image (first_placed image number)) all_pages x (is_touched (placed_headers image) (x / page_size)) (before_end all_pages x (is_touched (placed_headers image) (x / page_size)) (omega arith))
+    (λ x l. get-memory_below (cells_with image (image_byte image (first_placed image number)) all_pages) (page_size * all_pages) x l
+    ∙ cells_with-is image (image_byte image (first_placed image number)) all_pages x _ (before_end all_pages (x / page_size) (is_touched (placed_headers image) (x / page_size)) (omega arith))
     ∙ ap (λ (hs : List ProgramHeader). cell_if image (image_byte image hs) x (is_touched (placed_headers image) (x / page_size))) (first_placed_all image number e))
-    (λ x g. get-memory_with image (image_byte image (first_placed image number)) all_pages x (omega arith)
-    ∙ cells_with-is image (image_byte image (first_placed image number)) all_pages x false (past_end all_pages x (is_touched (placed_headers image) (x / page_size)) (omega arith)))
+    (λ x g. get-memory_below_outside (cells_with image (image_byte image (first_placed image number)) all_pages) (page_size * all_pages) x g)
 
 -- bytes written
 pub put_with : (image : List ℕ) (bytes other : ℕ → ℕ) (a : ℕ) (bs : List ℕ) → ((k : ℕ) → k < length bs → other (a + k) ≡ get_or bs k 0)
     → ((x : ℕ) → ((x < a) ⊎ (a + length bs ≤ x)) → other x ≡ bytes x) → put_bytes (memory_with image bytes all_pages) a bs ≡ memory_with image other all_pages
-unfolding cell_if
+unfolding cells_with cell_if
 put_with image bytes other a bs inside outside = is_memory_with (put_bytes (memory_with image bytes all_pages) a bs) image other all_pages (omega arith) (λ x. elim (cases_lt x a) [
   | inl low ↦ kept x (inl low)
   | inr from ↦ elim (cases_lt x (a + length bs)) [
     | inl within ↦
         let place : x ≡ a + (x - a) = omega arith in
-        let value : other x ≡ get_or bs (x - a) 0 = ap other place ∙ inside (x - a) (omega arith) in
         get-put_bytes_within (memory_with image bytes all_pages) a bs (x - a) x (omega arith) place
-        ∙ ap (with_byte (get_or bs (x - a) 0)) (get-memory_with image bytes all_pages x (omega arith) ∙ cells_with-is image bytes all_pages x _ refl)
-        ∙ replaced x (get_or bs (x - a) 0) (nat_lt (x / page_size) all_pages && is_touched (placed_headers image) (x / page_size)) value
-        ∙ sym (cells_with-is image other all_pages x _ refl)
+        ∙ ap (with_byte (get_or bs (x - a) 0)) (get-memory_with image bytes all_pages x (omega arith))
+        ∙ replaced x (get_or bs (x - a) 0) (nat_lt (x / page_size) all_pages && is_touched (placed_headers image) (x / page_size)) (ap other place ∙ inside (x - a) (omega arith))
     | inr past ↦ kept x (inr past)
   ]
 ])
@@ -245,10 +223,7 @@ put_with image bytes other a bs inside outside = is_memory_with (put_bytes (memo
     kept : (x : ℕ) → ((x < a) ⊎ (a + length bs ≤ x)) → get (put_bytes (memory_with image bytes all_pages) a bs) x ≡ cells_with image other all_pages x
     kept x h =
         get-put_bytes_outside (memory_with image bytes all_pages) a bs x h
-        ∙ get-memory_with image bytes all_pages x (omega arith)
-        ∙ cells_with-is image bytes all_pages x _ refl
-        ∙ ap (λ (n : ℕ). if (nat_lt (x / page_size) all_pages && is_touched (placed_headers image) (x / page_size)) then Some (record { byte = n; permissions = permissions_of (placed_headers image) (x / page_size) }) else None) (sym (outside x h))
-        ∙ sym (cells_with-is image other all_pages x _ refl)
+        ∙ get-memory_with image bytes all_pages x (omega arith) ∙ same_cell image bytes other x (sym (outside x h))
 
     replaced : (x n : ℕ) (b : Bool) → other x ≡ n → with_byte n (cell_if image bytes x b) ≡ cell_if image other x b
     replaced x n true e = ap (λ (v : ℕ). Some (record { byte = v; permissions = permissions_of (placed_headers image) (x / page_size) })) (sym e)
@@ -260,4 +235,4 @@ unfolding can_access_byte cell_if
 monitor_is_allowed image bytes x l touched =
     ap (λ (o : Option Cell). option_map_or (λ c. permits Monitor c.permissions) o false)
     (get-memory_with image bytes all_pages x (omega arith)
-    ∙ cells_with-is image bytes all_pages x true (before_end all_pages x (is_touched (placed_headers image) (x / page_size)) (omega arith) ∙ touched))
+    ∙ cells_with-is image bytes all_pages x true (before_end all_pages (x / page_size) _ (omega arith) ∙ touched))

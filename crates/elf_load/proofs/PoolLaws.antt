@@ -44,61 +44,56 @@ mapped_all memories pool user image from before low none = before ∙ ap (with_m
 
 -- ---- a segment
 
-pub file_part_lies_in_file : (image : List ℕ) (number : ℕ) (header : ProgramHeader) → header ≡ program_header image number → first_fault image ≡ None → number < header_count image → header.kind ≡ 1
-    → (header.file_size ≡ 0 → ⊥) → header.offset + header.file_size ≤ length image
-file_part_lies_in_file image number header e sound l =
-    subst (λ (h : ProgramHeader). h.kind ≡ 1 → (h.file_size ≡ 0 → ⊥) → h.offset + h.file_size ≤ length image) (sym e) (file_part_there image number sound l)
+-- what is known of a loadable one in an image with no fault
+pub record IsSegment (image : List ℕ) (number : ℕ) (header : ProgramHeader) : Type 0 where
+  pub fits : header.file_size ≤ header.memory_size
+  pub ends : EndsInMemory header
+  pub lies_in_file : (header.file_size ≡ 0 → ⊥) → header.offset + header.file_size ≤ length image
+  pub may_write : (n : ℕ) → n ≤ header.memory_size → can_access Monitor (memory_after image number) header.address n ≡ true
+  pub placed : (bs : List ℕ) → bs ≡ take header.file_size (drop header.offset image) → length bs ≡ header.file_size
+      → put_bytes (put_bytes (memory_after image number) header.address bs) (header.address + header.file_size) (replicate (header.memory_size - header.file_size) 0) ≡ memory_after image (number + 1)
 
-pub file_part_fits : (image : List ℕ) (number : ℕ) (header : ProgramHeader) → header ≡ program_header image number → first_fault image ≡ None → number < header_count image → header.kind ≡ 1 → header.file_size ≤ header.memory_size
-file_part_fits image number header e sound l = subst (λ (h : ProgramHeader). h.kind ≡ 1 → h.file_size ≤ h.memory_size) (sym e) (file_size_fits image number sound l)
-
-pub segment_ends : (image : List ℕ) (number : ℕ) (header : ProgramHeader) → header ≡ program_header image number → first_fault image ≡ None → number < header_count image → EndsInMemory header
-segment_ends image number header e sound l = subst (λ (h : ProgramHeader). EndsInMemory h) (sym e) (header_ends image number sound l)
-
-may_write_segment : (image : List ℕ) (number n : ℕ) (header : ProgramHeader) → header ≡ program_header image number → first_fault image ≡ None → number < header_count image → header.kind ≡ 1
-    → n ≤ header.memory_size → can_access Monitor (memory_after image number) header.address n ≡ true
+pub segment : (image : List ℕ) (number : ℕ) (header : ProgramHeader) → header ≡ program_header image number → first_fault image ≡ None → number < header_count image → header.kind ≡ 1 → IsSegment image number header
 unfolding memory_after
-may_write_segment image number n header e sound l =
-    subst (λ (h : ProgramHeader). h.kind ≡ 1 → n ≤ h.memory_size → can_access Monitor (memory_after image number) h.address n ≡ true) (sym e)
-    (λ kind fits. may_write image (image_byte image (first_placed image number)) number (program_header image number).address n sound l kind (omega arith) (omega arith))
+segment image number header e sound l = subst (λ (h : ProgramHeader). h.kind ≡ 1 → IsSegment image number h) (sym e) (λ kind.
+    let fits = file_size_fits image number sound l kind in
+    record {
+      fits = fits;
+      ends = header_ends image number sound l;
+      lies_in_file = file_part_there image number sound l kind;
+      may_write = λ n few. may_write image (image_byte image (first_placed image number)) number (program_header image number).address n sound l kind (omega arith) (omega arith);
+      placed = λ bs part size. segment_written image number ((program_header image number).address + (program_header image number).file_size)
+          ((program_header image number).memory_size - (program_header image number).file_size) bs kind fits part size refl (omega arith);
+    })
 
 pub may_write_file_part : (memories : List Memory) (user : ℕ) (image : List ℕ) (number : ℕ) (header : ProgramHeader) (bs : List ℕ) → memory_of_user memories user ≡ memory_after image number
-    → header ≡ program_header image number → first_fault image ≡ None → number < header_count image → header.kind ≡ 1 → length bs ≡ header.file_size
-    → can_access Monitor (memory_of_user memories user) header.address (length bs) ≡ true
-may_write_file_part memories user image number header bs before e sound l kind size =
-    ap (λ (m : Memory). can_access Monitor m header.address (length bs)) before
-    ∙ may_write_segment image number (length bs) header e sound l kind (let fits = file_part_fits image number header e sound l kind in omega arith)
+    → IsSegment image number header → length bs ≡ header.file_size → can_access Monitor (memory_of_user memories user) header.address (length bs) ≡ true
+may_write_file_part memories user image number header bs before it size =
+    ap (λ (m : Memory). can_access Monitor m header.address (length bs)) before ∙ it.may_write (length bs) (omega (arith, size, it.fits))
+
+-- the memory once the file's part is written
+part_written : (memories pool : List Memory) (user : ℕ) (image : List ℕ) (number : ℕ) (header : ProgramHeader) (bs : List ℕ) → user - 1 < length memories → memory_of_user memories user ≡ memory_after image number
+    → pool ≡ with_memory memories user (put_bytes (memory_of_user memories user) header.address bs) → memory_of_user pool user ≡ put_bytes (memory_after image number) header.address bs
+part_written memories pool user image number header bs known before after =
+    memory_of_user-after memories pool user (put_bytes (memory_of_user memories user) header.address bs) known after ∙ ap (λ (m : Memory). put_bytes m header.address bs) before
 
 pub may_clear_rest : (memories pool : List Memory) (user : ℕ) (image : List ℕ) (number : ℕ) (header : ProgramHeader) (bs : List ℕ) → user - 1 < length memories → memory_of_user memories user ≡ memory_after image number
-    → header ≡ program_header image number → first_fault image ≡ None → number < header_count image → header.kind ≡ 1
-    → pool ≡ with_memory memories user (put_bytes (memory_of_user memories user) header.address bs)
+    → IsSegment image number header → pool ≡ with_memory memories user (put_bytes (memory_of_user memories user) header.address bs)
     → can_access Monitor (memory_of_user pool user) (header.address + header.file_size) (header.memory_size - header.file_size) ≡ true
-may_clear_rest memories pool user image number header bs known before e sound l kind after =
-    ap (λ (m : Memory). can_access Monitor m (header.address + header.file_size) (header.memory_size - header.file_size))
-    (memory_of_user-after memories pool user (put_bytes (memory_of_user memories user) header.address bs) known after ∙ ap (λ (m : Memory). put_bytes m header.address bs) before)
+may_clear_rest memories pool user image number header bs known before it after =
+    ap (λ (m : Memory). can_access Monitor m (header.address + header.file_size) (header.memory_size - header.file_size)) (part_written memories pool user image number header bs known before after)
     ∙ may_write_part Monitor (memory_after image number) header.address header.memory_size header.file_size (header.memory_size - header.file_size) bs
-    (may_write_segment image number header.memory_size header e sound l kind (omega arith)) (let fits = file_part_fits image number header e sound l kind in omega arith)
-
-segment_placed : (image : List ℕ) (number : ℕ) (header : ProgramHeader) (bs : List ℕ) → header ≡ program_header image number → header.kind ≡ 1 → header.file_size ≤ header.memory_size
-    → bs ≡ take header.file_size (drop header.offset image) → length bs ≡ header.file_size
-    → put_bytes (put_bytes (memory_after image number) header.address bs) (header.address + header.file_size) (replicate (header.memory_size - header.file_size) 0) ≡ memory_after image (number + 1)
-segment_placed image number header bs e =
-    subst (λ (h : ProgramHeader). h.kind ≡ 1 → h.file_size ≤ h.memory_size → bs ≡ take h.file_size (drop h.offset image) → length bs ≡ h.file_size
-    → put_bytes (put_bytes (memory_after image number) h.address bs) (h.address + h.file_size) (replicate (h.memory_size - h.file_size) 0) ≡ memory_after image (number + 1)) (sym e)
-    (λ kind fits part size. segment_written image number ((program_header image number).address + (program_header image number).file_size) ((program_header image number).memory_size - (program_header image number).file_size)
-    bs kind fits part size refl (omega arith))
+    (it.may_write header.memory_size (omega arith)) (omega (arith, it.fits))
 
 pub segment_done : (memories pool new : List Memory) (user : ℕ) (image : List ℕ) (number : ℕ) (header : ProgramHeader) (bs : List ℕ) → user - 1 < length memories → memory_of_user memories user ≡ memory_after image number
-    → header ≡ program_header image number → first_fault image ≡ None → number < header_count image → header.kind ≡ 1
-    → bs ≡ take header.file_size (drop header.offset image) → length bs ≡ header.file_size
+    → IsSegment image number header → bs ≡ take header.file_size (drop header.offset image) → length bs ≡ header.file_size
     → pool ≡ with_memory memories user (put_bytes (memory_of_user memories user) header.address bs)
     → new ≡ with_memory pool user (put_bytes (memory_of_user pool user) (header.address + header.file_size) (replicate (header.memory_size - header.file_size) 0))
     → new ≡ with_memory memories user (memory_after image (number + 1))
-segment_done memories pool new user image number header bs known before e sound l kind part size first second =
+segment_done memories pool new user image number header bs known before it part size first second =
     with_memory-after memories pool new user (put_bytes (memory_of_user memories user) header.address bs) _ (memory_after image (number + 1)) known first second
-    (ap (λ (m : Memory). put_bytes m (header.address + header.file_size) (replicate (header.memory_size - header.file_size) 0))
-    (memory_of_user-after memories pool user (put_bytes (memory_of_user memories user) header.address bs) known first ∙ ap (λ (m : Memory). put_bytes m header.address bs) before)
-    ∙ segment_placed image number header bs e kind (file_part_fits image number header e sound l kind) part size)
+    (ap (λ (m : Memory). put_bytes m (header.address + header.file_size) (replicate (header.memory_size - header.file_size) 0)) (part_written memories pool user image number header bs known before first)
+    ∙ it.placed bs part size)
 
 pub segment_other : (memories : List Memory) (user : ℕ) (image : List ℕ) (number : ℕ) (header : ProgramHeader) → memory_of_user memories user ≡ memory_after image number
     → header ≡ program_header image number → (header.kind ≡ 1 → ⊥) → memories ≡ with_memory memories user (memory_after image (number + 1))

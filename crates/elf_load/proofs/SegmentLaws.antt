@@ -17,30 +17,22 @@ use Rattle.elf_load.specs.Parts.{header_has}
 use Rattle.elf_load.specs.Pages.{first_placed}
 use Rattle.elf_load.specs.Placing.{memory_with, memory_after}
 use Rattle.elf_load.proofs.HeaderLaws.{any_at, none_at}
-use Rattle.elf_load.proofs.FaultLaws.{no_bad_file_size, none_outside}
+use Rattle.elf_load.proofs.FaultLaws.{no_bad_header}
 use Rattle.elf_load.proofs.PageLaws.{touches_at, header_ends}
 use Rattle.elf_load.proofs.ImageLaws.{all_pages_is_page_limit}
 use Rattle.elf_load.proofs.PlacingLaws.{byte_after, put_with, same_bytes, monitor_is_allowed}
 
 -- ---- what a sound image says of a segment
 
-size_fits : (size : ℕ) (header : ProgramHeader) → header_has size BadFileSize header ≡ false → header.kind ≡ 1 → header.file_size ≤ header.memory_size
-unfolding header_has
-size_fits size header e kind = grind (arith, e, kind)
-
-file_part_stands_inside : (size : ℕ) (header : ProgramHeader) → header_has size BadOutside header ≡ false → header.kind ≡ 1 → (header.file_size ≡ 0 → ⊥) → header.offset + header.file_size ≤ size
-unfolding header_has
-file_part_stands_inside size header e kind some = grind (arith, e, kind, some)
-
 pub file_size_fits : (image : List ℕ) (number : ℕ) → first_fault image ≡ None → number < header_count image → (program_header image number).kind ≡ 1
     → (program_header image number).file_size ≤ (program_header image number).memory_size
-file_size_fits image number sound l kind =
-    size_fits (length image) (program_header image number) (none_at (header_has (length image) BadFileSize) image number l (no_bad_file_size image sound)) kind
+unfolding header_has
+file_size_fits image number sound l kind = let fits = none_at (header_has (length image) BadFileSize) image number l (no_bad_header image sound).0 in grind (arith, fits, kind)
 
 pub file_part_there : (image : List ℕ) (number : ℕ) → first_fault image ≡ None → number < header_count image → (program_header image number).kind ≡ 1
     → ((program_header image number).file_size ≡ 0 → ⊥) → (program_header image number).offset + (program_header image number).file_size ≤ length image
-file_part_there image number sound l kind some =
-    file_part_stands_inside (length image) (program_header image number) (none_at (header_has (length image) BadOutside) image number l (none_outside image sound)) kind some
+unfolding header_has
+file_part_there image number sound l kind some = let inside = none_at (header_has (length image) BadOutside) image number l (no_bad_header image sound).1 in grind (arith, inside, kind, some)
 
 -- ---- its addresses may be written
 

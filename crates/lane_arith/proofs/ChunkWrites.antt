@@ -118,10 +118,7 @@ step_chunk k n c body fill_masked_off result chunk_result ones mid new made acti
   where
     -- of those in the body, those at which the mask is enabled change anyway
     either_way : (m b l : Bool) → ((b && l) || ((m && (b && not l)) || false)) ≡ ((b && l) || ((m && b) || false))
-    either_way false b l = refl
-    either_way true false l = refl
-    either_way true true true = refl
-    either_way true true false = refl
+    either_way m b l = grind (arith, nat_tests)
 
 -- how many elements a chunk has
 pub few_in_chunk : (k n : ℕ) → 0 < k → k * n ≡ 32 → n ≤ 32
@@ -139,64 +136,3 @@ merged_byte k n i m old long fits e h l true true x y =
     let lz : length zs ≡ k = length-chunk (k * i) k old (omega (arith, mul-suc k i)) in
     let fz : Each1 (λ z. z < 256) zs = below_from_Fits w8 zs (Each1-chunk (Fits w8) (k * i) k old fits) in
     byte_at-is m (element k old i) ∙ byte_of_number zs m fz (omega arith) ∙ get_or-chunk (k * i) k old m 0 l
-
--- the chunks up to a cut, and then the elements from it on
-module _ (k : ℕ) (unmasked : Bool) (mask : List ℕ) (start end : ℕ) (fill_masked_off : Bool) (cut : ℕ) (result : ℕ → ℕ) (ones : ℕ) where
-  abbrev body_from : ℕ → Body
-  body_from s = record { unmasked = unmasked; mask = mask; start = s; end = end }
-
-  abbrev changed : ℕ → ℕ → Bool
-  changed s e = is_changed (body_from s) fill_masked_off false e
-
-  abbrev number : ℕ → ℕ → ℕ
-  number s e = result_or_ones (body_from s) result ones e
-
-  -- The test of the second, where b is whether the element is in the body, t whether it is before the cut, l whether the
-  -- mask is enabled at it, and m whether those masked off are filled.
-  abbrev test : Bool → Bool → Bool → Bool
-  test m b l = (b && l) || ((m && (b && not l)) || false)
-
-  tests : (m b t l : Bool) → test m b l ≡ ((test m b l && t) || test m (b && not t) l)
-  tests false false t l = refl
-  tests true false t l = refl
-  tests false true true true = refl
-  tests false true true false = refl
-  tests true true true true = refl
-  tests true true true false = refl
-  tests false true false true = refl
-  tests true true false true = refl
-  tests false true false false = refl
-  tests true true false false = refl
-
-  numbers : (m b t l : Bool) (r : ℕ) → cond (b && l) r ones ≡ cond (test m (b && not t) l) (cond ((b && not t) && l) r ones) (cond (b && l) r ones)
-  numbers false false t l r = refl
-  numbers true false t l r = refl
-  numbers false true true l r = refl
-  numbers true true true l r = refl
-  numbers false true false true r = refl
-  numbers true true false true r = refl
-  numbers false true false false r = refl
-  numbers true true false false r = refl
-
-  later : (e : ℕ) → in_range (max start cut) end e ≡ (in_range start end e && not (nat_lt e cut))
-  later e = grind (arith, nat_tests)
-
-  pub with_rest : (old mid new : List ℕ)
-      → Writes k (λ e. changed start e && nat_lt e cut) (number start) old mid
-      → Writes k (changed (max start cut)) (number (max start cut)) mid new
-      → Writes k (changed start) (number start) old new
-  with_rest old mid new first second =
-      writes_same k (λ e. (changed start e && nat_lt e cut) || changed (max start cut) e) (changed start)
-      (λ e. cond (changed (max start cut) e) (number (max start cut) e) (number start e)) (number start) old new
-      (writes_then k (λ e. changed start e && nat_lt e cut) (changed (max start cut)) (number start) (number (max start cut)) old mid new first second)
-      (λ e l. rw (later e) (tests fill_masked_off (in_range start end e) (nat_lt e cut) (is_enabled (body_from start) e)))
-      (λ e h. rw (later e) (numbers fill_masked_off (in_range start end e) (nat_lt e cut) (is_enabled (body_from start) e) (result e)))
-
-  -- the same, of the elements from it on as those of another body
-  pub then_rest : (rest : Body) (old mid new : List ℕ) → rest ≡ body_from (max start cut)
-      → Writes k (λ e. changed start e && nat_lt e cut) (number start) old mid
-      → Writes k (is_changed rest fill_masked_off false) (result_or_ones rest result ones) mid new
-      → Writes k (changed start) (number start) old new
-  then_rest rest old mid new is first second =
-      with_rest old mid new first
-      (subst (λ b. Writes k (is_changed b fill_masked_off false) (result_or_ones b result ones) mid new) is second)

@@ -99,9 +99,6 @@ pub record TellsTo (n word : ℕ) (bit : ℕ → Bool) : Type 0 where
   pub below : word < 2 ^ n
   pub tells : (i : ℕ) → i < n → eqb (word / 2 ^ i % 2) 0 ≡ not (bit i)
 
-pub tells_none : (bit : ℕ → Bool) → TellsTo 0 0 bit
-tells_none bit = record { below = lit< tt; tells = λ i h. absurd (omega (arith, h)) }
-
 -- and of more
 pub tells_more : (s n word more : ℕ) (bit : ℕ → Bool) → TellsTo s word bit → more < 2 ^ n → ((i : ℕ) → i < n → eqb (more / 2 ^ i % 2) 0 ≡ not (bit (s + i)))
     → TellsTo (s + n) (word + more * 2 ^ s) bit
@@ -138,17 +135,10 @@ replaced_bit old new active i h =
     rw (low_bit x 32 i h, outer, middle, inner) (pick o (new / 2 ^ i % 2) (active / 2 ^ i % 2) (bit_at-lt old i) (bit_at-lt new i) (bit_at-lt active i))
   where
     pick : (o n a : ℕ) → o < 2 → n < 2 → a < 2 → eqb ((o + min ((o + n) % 2) a) % 2) 1 ≡ cond (eqb a 0) (eqb o 1) (not (eqb n 0))
-    pick zero zero zero p q r = refl
-    pick zero zero (suc zero) p q r = refl
-    pick zero (suc zero) zero p q r = refl
-    pick zero (suc zero) (suc zero) p q r = refl
-    pick (suc zero) zero zero p q r = refl
-    pick (suc zero) zero (suc zero) p q r = refl
-    pick (suc zero) (suc zero) zero p q r = refl
-    pick (suc zero) (suc zero) (suc zero) p q r = refl
     pick (suc (suc o)) n a p q r = absurd (omega (arith, p))
     pick o (suc (suc n)) a p q r = absurd (omega (arith, q))
     pick o n (suc (suc a)) p q r = absurd (omega (arith, r))
+    pick _ _ _ p q r = refl
 
 -- ---- the chunks of a word of 32 bits
 

@@ -16,7 +16,7 @@ use Rattle.rv_model.specs.elements.Writes.{bit_or as old_or_new}
 use Rattle.rv_model.specs.lending.Writes.{WritesBits}
 use Rattle.rv_model.proofs.element_lemmas.Bits.{same_byte}
 use Rattle.lane_arith.proofs.MaskWords.{byte_of_own}
-use Rattle.lane_arith.proofs.VectorLanes.{all_below, every_below}
+use Rattle.lane_arith.proofs.VectorLanes.{chosen_by, all_below, every_below}
 
 -- 32 bytes with these bits
 pub record IsMask (bytes : List ℕ) (bit : ℕ → Bool) : Type 0 where
@@ -64,12 +64,9 @@ pub mask_xor : {xs ys : List ℕ} {p q : ℕ → Bool} → IsMask xs p → IsMas
 mask_xor = both bit_xor xor (λ a b i. ap (λ x. x == 1) (bit_at_xor a b i) ∙ go (a / 2 ^ i % 2) (b / 2 ^ i % 2) (bit_at-lt a i) (bit_at-lt b i)) (xor_lt 8)
   where
     go : (x y : ℕ) → x < 2 → y < 2 → ((x + y) % 2 == 1) ≡ xor (x == 1) (y == 1)
-    go zero zero s t = refl
-    go zero (suc zero) s t = refl
-    go (suc zero) zero s t = refl
-    go (suc zero) (suc zero) s t = refl
     go (suc (suc x)) y s t = absurd (omega (arith, s))
     go x (suc (suc y)) s t = absurd (omega (arith, t))
+    go _ _ s t = refl
 
 pub mask_not : {xs : List ℕ} {p : ℕ → Bool} → IsMask xs p → IsMask (map (bit_not w8) xs) (λ i. not (p i))
 mask_not {xs} {p} a =
@@ -87,9 +84,8 @@ mask_not {xs} {p} a =
     }
   where
     go : (x : ℕ) → x < 2 → (1 - x == 1) ≡ not (x == 1)
-    go zero s = refl
-    go (suc zero) s = refl
     go (suc (suc x)) s = absurd (omega (arith, s))
+    go _ s = refl
 
 -- the bits of a register of which some are replaced
 pub mask_replaced : {old results active : List ℕ} {o r a : ℕ → Bool} → IsMask old o → IsMask results r → IsMask active a
@@ -100,23 +96,11 @@ mask_replaced {o} {r} {a} x y z =
   where
     pick : (o r a : Bool) → xor o (xor o r && a) ≡ cond a r o
     pick true true true = refl
-    pick true true false = refl
-    pick true false true = refl
-    pick true false false = refl
-    pick false true true = refl
-    pick false true false = refl
-    pick false false true = refl
-    pick false false false = refl
+    pick _ true true = refl
+    pick _ _ true = refl
+    pick _ _ _ = refl
 
 -- ---- the bits below an index
-
--- a lane that `select` takes by a comparison
-chosen_by : (t : ℕ → ℕ → Bool) (us vs xs ys : List ℕ) (n k : ℕ) → length us ≡ n → length vs ≡ n → length xs ≡ n → length ys ≡ n → k < n
-    → get_or (sel_l (map (top 7) (zip2 (λ a b. cond (t a b) 255 0) us vs)) xs ys) k 0 ≡ cond (t (get_or us k 0) (get_or vs k 0)) (get_or xs k 0) (get_or ys k 0)
-chosen_by t us vs xs ys n k la lb lx ly h =
-    let lt : length (zip2 t us vs) ≡ n = length-zip2 t us vs (la ∙ sym lb) ∙ la in
-    let at : get_or (zip2 t us vs) k false ≡ t (get_or us k 0) (get_or vs k 0) = get_or-zip2 t us vs k 0 0 false (omega arith) (omega arith) in
-    rw (tops_compared w8 t us vs, get_or-sel_l (zip2 t us vs) xs ys k 0 (omega arith) (omega arith) (omega arith), at) refl
 
 -- the byte k
 abbrev low_byte : ℕ → ℕ → ℕ
@@ -159,12 +143,12 @@ low_mask places long known end i h =
     let at : get_or places k 0 ≡ k = eqb-true (get_or places k 0) k (every_below (λ x. eqb (get_or places x 0) x) 32 known k few) in
     let rest : List ℕ = sel_l (map (top 7) (zip2 (λ a b. cond (eqb a b) 255 0) places qs)) (replicate 32 p) (replicate 32 none) in
     let inner : get_or rest k 0 ≡ cond (eqb k q) p 0 =
-    rw (chosen_by eqb places qs (replicate 32 p) (replicate 32 none) 32 k long lq (length-replicate 32 p) (length-replicate 32 none) few, at, at_q, get_or-replicate 32 k p 0 few, get_or-replicate 32 k none 0 few) refl in
+    rw (chosen_by w8 eqb places qs (replicate 32 p) (replicate 32 none) 32 k long lq (length-replicate 32 p) (length-replicate 32 none) few, at, at_q, get_or-replicate 32 k p 0 few, get_or-replicate 32 k none 0 few) refl in
     let short : length (zip2 eqb places qs) ≡ 32 = length-zip2 eqb places qs (long ∙ sym lq) ∙ long in
     let lr : length rest ≡ 32 =
     rw (tops_compared w8 eqb places qs) (length-sel_l (zip2 eqb places qs) (replicate 32 p) (replicate 32 none) (short ∙ sym (length-replicate 32 p)) (short ∙ sym (length-replicate 32 none)) ∙ short) in
     let outer : get_or (sel_l (map (top 7) (zip2 (λ a b. cond (ltb a b) 255 0) places qs)) (replicate 32 all) rest) k 0 ≡ low_byte end k =
-    chosen_by ltb places qs (replicate 32 all) rest 32 k long lq (length-replicate 32 all) lr few
+    chosen_by w8 ltb places qs (replicate 32 all) rest 32 k long lq (length-replicate 32 all) lr few
     ∙ ap (λ x. cond (ltb x (get_or qs k 0)) (get_or (replicate 32 all) k 0) (get_or rest k 0)) at
     ∙ ap (λ x. cond (ltb k x) (get_or (replicate 32 all) k 0) (get_or rest k 0)) at_q
     ∙ ap (λ x. cond (ltb k q) x (get_or rest k 0)) (get_or-replicate 32 k all 0 few)

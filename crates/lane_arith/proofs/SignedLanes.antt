@@ -10,31 +10,19 @@ use Rattle.rv_model.specs.elements.Formulas.{wrap}
 
 double : (w : Width) → 2 ^ bits w ≡ 2 ^ hbits w + 2 ^ hbits w
 double w8 = refl
-double w16 = refl
-double w32 = refl
-double w64 = refl
-double w128 = refl
+double _ = refl
 
 one_more : (w : Width) → bits w ≡ suc (hbits w)
 one_more w8 = refl
-one_more w16 = refl
-one_more w32 = refl
-one_more w64 = refl
-one_more w128 = refl
+one_more _ = refl
 
 positive : (w : Width) (x : ℕ) → x < 2 ^ hbits w → cast_signed w x ≡ pos x
 positive w8 x h = grind (arith, ints)
-positive w16 x h = grind (arith, ints)
-positive w32 x h = grind (arith, ints)
-positive w64 x h = grind (arith, ints)
-positive w128 x h = grind (arith, ints)
+positive _ x h = grind (arith, ints)
 
 negative : (w : Width) (x : ℕ) → x < 2 ^ hbits w → cast_signed w (2 ^ hbits w + x) ≡ negsuc (2 ^ hbits w - suc x)
 negative w8 x h = grind (arith, ints)
-negative w16 x h = grind (arith, ints)
-negative w32 x h = grind (arith, ints)
-negative w64 x h = grind (arith, ints)
-negative w128 x h = grind (arith, ints)
+negative _ x h = grind (arith, ints)
 
 -- what is left of a multiple, divided
 divided_down : (q m x : ℕ) → 0 < q → x < q * m → (q * m - suc x) / q ≡ m - suc (x / q)

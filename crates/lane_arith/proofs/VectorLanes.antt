@@ -31,22 +31,24 @@ digit_below p (suc n) x (suc i) some h = digit_below p n (x / p) i some (omega a
 
 -- ---- masks
 
--- an element that `select` takes by a comparison with 0
+-- an element that `select` takes by a comparison
+pub chosen_by : (w : Width) (t : ℕ → ℕ → Bool) (us vs xs ys : List ℕ) (n k : ℕ) → length us ≡ n → length vs ≡ n → length xs ≡ n → length ys ≡ n → k < n
+    → get_or (sel_l (map (top (hbits w)) (zip2 (λ a b. cond (t a b) (2 ^ bits w - 1) 0) us vs)) xs ys) k 0 ≡ cond (t (get_or us k 0) (get_or vs k 0)) (get_or xs k 0) (get_or ys k 0)
+chosen_by w t us vs xs ys n k la lb lx ly h =
+    let lt : length (zip2 t us vs) ≡ n = length-zip2 t us vs (la ∙ sym lb) ∙ la in
+    let at : get_or (zip2 t us vs) k false ≡ t (get_or us k 0) (get_or vs k 0) = get_or-zip2 t us vs k 0 0 false (omega arith) (omega arith) in
+    rw (tops_compared w t us vs, get_or-sel_l (zip2 t us vs) xs ys k 0 (omega arith) (omega arith) (omega arith), at) refl
+
+-- with 0
 pub selected : (w : Width) (ms xs ys : List ℕ) (n : ℕ) → length ms ≡ n → length xs ≡ n → length ys ≡ n → (i : ℕ) → i < n
     → get_or (sel_l (map (top (hbits w)) (zip2 (λ a b. cond (eqb a b) (2 ^ bits w - 1) 0) ms (replicate n 0))) xs ys) i 0 ≡ cond (eqb (get_or ms i 0) 0) (get_or xs i 0) (get_or ys i 0)
 selected w ms xs ys n lm lx ly i h =
-    let zs : List ℕ = replicate n 0 in
-    let lz : length zs ≡ n = length-replicate n 0 in
-    let lt : length (zip2 eqb ms zs) ≡ n = length-zip2 eqb ms zs (lm ∙ sym lz) ∙ lm in
-    let at : get_or (zip2 eqb ms zs) i false ≡ eqb (get_or ms i 0) 0 = get_or-zip2 eqb ms zs i 0 0 false (omega arith) (omega arith) ∙ ap (eqb (get_or ms i 0)) (get_or-replicate n i 0 0 h) in
-    rw (tops_compared w eqb ms zs, get_or-sel_l (zip2 eqb ms zs) xs ys i 0 (omega arith) (omega arith) (omega arith), at) refl
+    chosen_by w eqb ms (replicate n 0) xs ys n i lm (length-replicate n 0) lx ly h
+    ∙ ap (λ z. cond (eqb (get_or ms i 0) z) (get_or xs i 0) (get_or ys i 0)) (get_or-replicate n i 0 0 h)
 
 above_one : (w : Width) → 1 < 2 ^ bits w
 above_one w8 = lit< tt
-above_one w16 = lit< tt
-above_one w32 = lit< tt
-above_one w64 = lit< tt
-above_one w128 = lit< tt
+above_one _ = lit< tt
 
 -- an element of the mask that tells of a comparison
 pub compared : (w : Width) (t : ℕ → ℕ → Bool) (xs ys : List ℕ) (n : ℕ) → length xs ≡ n → length ys ≡ n → (i : ℕ) → i < n
@@ -54,9 +56,7 @@ pub compared : (w : Width) (t : ℕ → ℕ → Bool) (xs ys : List ℕ) (n : �
 compared w t xs ys n lx ly i h =
     let all : ℕ = 2 ^ bits w - 1 in
     let none : ℕ = 0 in
-    let lt : length (zip2 t xs ys) ≡ n = length-zip2 t xs ys (lx ∙ sym ly) ∙ lx in
-    let at : get_or (zip2 t xs ys) i false ≡ t (get_or xs i 0) (get_or ys i 0) = get_or-zip2 t xs ys i 0 0 false (omega arith) (omega arith) in
-    rw (tops_compared w t xs ys, get_or-sel_l (zip2 t xs ys) (replicate n all) (replicate n 0) i 0 (omega arith) (omega (arith, length-replicate n all)) (omega (arith, length-replicate n none)), at, get_or-replicate n i all 0 h, get_or-replicate n i none 0 h)
+    rw (chosen_by w t xs ys (replicate n all) (replicate n none) n i lx ly (length-replicate n all) (length-replicate n none) h, get_or-replicate n i all 0 h, get_or-replicate n i none 0 h)
     (tell (t (get_or xs i 0) (get_or ys i 0)))
   where
     tell : (r : Bool) → eqb (cond r (2 ^ bits w - 1) 0) 0 ≡ not r

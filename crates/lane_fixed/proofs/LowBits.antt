@@ -108,10 +108,7 @@ even_bits (suc e) n h = rw (half e n h, rest_bits e n (omega (arith, h)), some_b
 
 above_one : (w : Width) → 1 < 2 ^ hbits w
 above_one w8 = lit< tt
-above_one w16 = lit< tt
-above_one w32 = lit< tt
-above_one w64 = lit< tt
-above_one w128 = lit< tt
+above_one _ = lit< tt
 
 one_at_most : (b : Bool) → from_bool b ≤ 1
 one_at_most true = omega arith

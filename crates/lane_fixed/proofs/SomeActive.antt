@@ -1,6 +1,6 @@
 -- Whether a test holds for some active element: of the elements of a chunk, and then of the rest.
 use Rattle.std.proofs.Common.{◌≡◌, ℕ, zero, suc, ◌+◌, ◌*◌, ◌/◌, ◌%◌, ◌^◌, ◌<◌, ◌≤◌, Bool, true, false, ◌&&◌, ◌||◌, not, eqb, bit_and, max, refl, sym, ap, ◌∙◌, arith, zero-add}
-use Rattle.std.proofs.Math.Bool.{and_comm, or_assoc}
+use Rattle.std.proofs.Math.Bool.{and_comm, or-false, or_assoc}
 use Rattle.std.proofs.Math.Nat.{div-div-eq-div-mul, mul-add, mul-one, pow-succ'}
 use Rattle.std.proofs.lemmas.Bool.Decides.{nat_tests}
 use Rattle.std.proofs.lemmas.Nat.{and_le_l}
@@ -106,8 +106,4 @@ pub none_left : (body : Body) (test : ℕ → Bool) (cut : ℕ) → body.end ≤
 none_left body test cut h =
     let rest : Body = record { unmasked = body.unmasked; mask = body.mask; start = max body.start cut; end = body.end } in
     let none : some_active rest test ≡ false = sym (some_ends rest test rest.start h) ∙ some_begins rest test rest.start (omega arith) in
-    or_none (some_before body test cut) (some_active rest test) none ∙ rest_tells body rest test cut refl
-  where
-    or_none : (a b : Bool) → b ≡ false → a ≡ (a || b)
-    or_none true b e = refl
-    or_none false b e = sym e
+    sym (or-false (some_before body test cut)) ∙ ap (λ b. some_before body test cut || b) (sym none) ∙ rest_tells body rest test cut refl

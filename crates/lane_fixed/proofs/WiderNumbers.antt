@@ -16,36 +16,24 @@ use Rattle.rv_model.specs.elements.FixedPoint.{has_bit}
 -- the low bits
 pub signed_sum_low : (w : Width) (a b : ℕ) → a < 2 ^ bits w → b < 2 ^ bits w → (a + b) % 2 ^ bits w ≡ wrap w (cast_signed w a +ℤ cast_signed w b)
 signed_sum_low w8 a b h k = grind (arith, ints)
-signed_sum_low w16 a b h k = grind (arith, ints)
-signed_sum_low w32 a b h k = grind (arith, ints)
-signed_sum_low w64 a b h k = grind (arith, ints)
-signed_sum_low w128 a b h k = grind (arith, ints)
+signed_sum_low _ a b h k = grind (arith, ints)
 
 -- the bit above
 pub signed_sum_above : (w : Width) (a b : ℕ) → a < 2 ^ bits w → b < 2 ^ bits w
     → nat_le ((a + 2 ^ hbits w) % 2 ^ bits w) ((a + b) % 2 ^ bits w) ≡ has_bit (bits w) (cast_signed w a +ℤ cast_signed w b)
 signed_sum_above w8 a b h k = grind (arith, ints, nat_tests)
-signed_sum_above w16 a b h k = grind (arith, ints, nat_tests)
-signed_sum_above w32 a b h k = grind (arith, ints, nat_tests)
-signed_sum_above w64 a b h k = grind (arith, ints, nat_tests)
-signed_sum_above w128 a b h k = grind (arith, ints, nat_tests)
+signed_sum_above _ a b h k = grind (arith, ints, nat_tests)
 
 -- ---- what saturates
 
 -- sums and differences of signed numbers need no more than one bit more
 pub small_signed_sum : (w : Width) (a b : ℕ) → a < 2 ^ bits w → b < 2 ^ bits w → mag (cast_signed w a +ℤ cast_signed w b) < 2 ^ bits w
 small_signed_sum w8 a b h k = grind (arith, ints)
-small_signed_sum w16 a b h k = grind (arith, ints)
-small_signed_sum w32 a b h k = grind (arith, ints)
-small_signed_sum w64 a b h k = grind (arith, ints)
-small_signed_sum w128 a b h k = grind (arith, ints)
+small_signed_sum _ a b h k = grind (arith, ints)
 
 pub small_signed_difference : (w : Width) (a b : ℕ) → a < 2 ^ bits w → b < 2 ^ bits w → mag (cast_signed w a -ℤ cast_signed w b) < 2 ^ bits w
 small_signed_difference w8 a b h k = grind (arith, ints)
-small_signed_difference w16 a b h k = grind (arith, ints)
-small_signed_difference w32 a b h k = grind (arith, ints)
-small_signed_difference w64 a b h k = grind (arith, ints)
-small_signed_difference w128 a b h k = grind (arith, ints)
+small_signed_difference _ a b h k = grind (arith, ints)
 
 -- a number is itself
 pub is_itself : (v : ℤ) → true ≡ not (not (int_eq v v))
@@ -58,11 +46,9 @@ clear_bit i = ap (λ x. eqb (x % 2) 0) (zero-div (2 ^ i))
 -- ---- products
 
 signed_below : (w : Width) → bits w < 64 → (a : ℕ) → a < 2 ^ bits w → unsigned_abs (cast_signed w a) ≤ 2 ^ 31
-signed_below w8 narrow a h = grind (arith, ints)
-signed_below w16 narrow a h = grind (arith, ints)
-signed_below w32 narrow a h = grind (arith, ints)
 signed_below w64 narrow a h = absurd (omega (arith, narrow))
 signed_below w128 narrow a h = absurd (omega (arith, narrow))
+signed_below _ narrow a h = grind (arith, ints)
 
 -- a product of numbers of less than 64 bits needs no more than 64
 pub product_fits : (w : Width) → bits w < 64 → (a b : ℕ) → a < 2 ^ bits w → b < 2 ^ bits w → FitsSigned w64 (cast_signed w a *ℤ cast_signed w b)

@@ -1,5 +1,6 @@
 -- Elements that are copied side by side, as one block of bytes.
 use Rattle.std.proofs.Common.{ℕ, suc, ◌+◌, ◌-◌, ◌*◌, ◌<◌, ◌≤◌, ◌≡◌, Bool, true, false, cond, ◌&&◌, ◌||◌, nat_le, List, length, get_or, refl, sym, ap, ◌∙◌, arith, inl, inr, le-leb, le-ltb, lt-ltb, w8}
+use Rattle.std.proofs.Math.Bool.{and-false, or-false}
 use Rattle.std.proofs.Math.Nat.{mul-add, mul-le-mul_left, mul-suc}
 use Rattle.std.proofs.lemmas.Bool.{cases_lt, lt-leb}
 use Rattle.std.proofs.lemmas.Simd.{below_from_Fits, chunk-fits, get_or-chunk, get_or-put_chunk_above, get_or-put_chunk_at, get_or-put_chunk_below, length-chunk, length-put_chunk, put_chunk_is}
@@ -68,24 +69,12 @@ then_filled k start to end v moved number old mid new within from first rest one
     writes_same k (λ e. in_range start to e || in_range to end e) (in_range start end) (λ e. cond (in_range to end e) v (moved e)) number old new
     (writes_then k (in_range start to) (in_range to end) moved (λ i. v) old mid new one two) (λ e l. cover e) (λ e h. numbers e h)
   where
-    same : (b : Bool) → (b && true) ≡ ((b && true) || false)
-    same true = refl
-    same false = refl
-
-    none : (b : Bool) → ((b && false) || false) ≡ false
-    none true = refl
-    none false = refl
-
-    off : (b : Bool) → (b && false) ≡ false
-    off true = refl
-    off false = refl
-
     cover : (e : ℕ) → in_range start end e ≡ (in_range start to e || in_range to end e)
     cover e = elim (cases_lt e to) [
-      | inl low ↦ rw (lt-leb to e low, lt-ltb e to low, lt-ltb e end (omega (arith, low, within))) (same (nat_le start e))
+      | inl low ↦ rw (lt-leb to e low, lt-ltb e to low, lt-ltb e end (omega (arith, low, within))) (sym (or-false (nat_le start e && true)))
       | inr high ↦ elim (cases_lt e end) [
         | inl inner ↦ rw (le-ltb e to high, le-leb to e high, lt-ltb e end inner, le-leb start e (from e high inner)) refl
-        | inr past ↦ rw (le-ltb e to high, le-leb to e high, le-ltb e end past) (off (nat_le start e) ∙ sym (none (nat_le start e)))
+        | inr past ↦ rw (le-ltb e to high, le-leb to e high, le-ltb e end past) (sym (or-false (nat_le start e && false)))
       ]
     ]
 
@@ -97,6 +86,6 @@ then_filled k start to end v moved number old mid new within from first rest one
       ]
       | inr high ↦ elim (cases_lt e end) [
         | inl inner ↦ rw (le-leb to e high, lt-ltb e end inner) (rest e high inner)
-        | inr past ↦ (let no = sym (none (nat_le start e)) ∙ (rw (le-ltb e to high, le-leb to e high, le-ltb e end past) at h) in absurd (cc))
+        | inr past ↦ (let no = sym (or-false (nat_le start e && false) ∙ and-false (nat_le start e)) ∙ (rw (le-ltb e to high, le-leb to e high, le-ltb e end past) at h) in absurd (cc))
       ]
     ]

@@ -1,7 +1,7 @@
 -- Elements that are packed, by the bits of a word that select them.
 use Rattle.std.proofs.Common.{ℕ, zero, suc, ◌+◌, ◌-◌, ◌*◌, ◌/◌, ◌%◌, ◌^◌, ◌<◌, ◌≡◌, ◌==◌, ◌&&◌, List, Bool, true, false, not, nat_lt, refl, sym, ap, subst, ◌∙◌, arith, inl, inr, lt-ltb, le-ltb, pow-add, w64}
 use Rattle.std.proofs.Math.Nat.{div-div-eq-div-mul, mod-lt}
-use Rattle.std.proofs.lemmas.Bool.{cases_lt}
+use Rattle.std.proofs.lemmas.Bool.{ltb-true, cases_lt}
 use Rattle.std.proofs.lemmas.Nat.{pow_pos}
 use Rattle.std.proofs.lemmas.Nat.Bits.{bit_at-trailing_zeros, bit_at_above}
 use Rattle.std.specs.Int.{trailing_zeros}
@@ -36,19 +36,12 @@ module _ (select : List ℕ) where
   -- what a bit tells
   one_is : (x : ℕ) (a b : Bool) → x ≡ 1 → (x == 0) ≡ not (a && b) → (a ≡ true) × (b ≡ true)
   one_is x true true one told = (refl, refl)
-  one_is x true false one told = let off = rw one at told in absurd (cc)
-  one_is x false b one told = let off = rw one at told in absurd (cc)
+  one_is x _ _ one told = let off = rw one at told in absurd (cc)
 
   none_is : (x : ℕ) (a b : Bool) → x ≡ 0 → a ≡ true → (x == 0) ≡ not (a && b) → b ≡ false
   none_is x true false none is told = refl
   none_is x true true none is told = let on = rw none at told in absurd (cc)
   none_is x false b none is told = absurd (cc)
-
-  below : (x n : ℕ) → nat_lt x n ≡ true → x < n
-  below x n h = elim (cases_lt x n) [
-    | inl low ↦ low
-    | inr high ↦ (let off = rw (le-ltb x n high) at h in absurd (cc))
-  ]
 
   -- the first that is selected
   pub lowest : (set next to : ℕ) → 0 < set → set < 2 ^ 64 → Tells set next to
@@ -58,7 +51,7 @@ module _ (select : List ℕ) where
       let t : ℕ = trailing_zeros w64 set in
       let first = bit_at-trailing_zeros w64 set some few in
       let is = one_is (set / 2 ^ t % 2) (nat_lt (next + t) to) (mask_bit select (next + t)) first.1 (told t) in
-      let inside : next + t < to = below (next + t) to is.0 in (
+      let inside : next + t < to = ltb-true (next + t) to is.0 in (
         inside,
         is.1,
         λ i h. none_is (set / 2 ^ i % 2) (nat_lt (next + i) to) (mask_bit select (next + i)) (first.2 i h)

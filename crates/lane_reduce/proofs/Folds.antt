@@ -1,5 +1,6 @@
 -- Numbers combined in any order: by SIMD in the lanes of a chunk, and the lanes by halves.
 use Rattle.std.proofs.Common.{ℕ, zero, suc, ◌+◌, ◌<◌, ◌≡◌, [], ◌∷◌, map, Bool, true, false, cond, refl, sym, ap, ◌∙◌, arith}
+use Rattle.std.proofs.lemmas.Bool.{false_from_ne_true}
 use Rattle.std.specs.List.{filter, fold, range_with_len}
 use Rattle.std.proofs.lemmas.List.FromFn.{map-range_with_len_more}
 use Rattle.std.proofs.lemmas.List.Sums.{fold-append}
@@ -105,9 +106,5 @@ fold_beyond body f first number (suc past) n is =
     let before : ℕ = body.end + past in
     let next : n ≡ before + 1 = omega (arith, is) in
     ap (λ m. fold f first (map number (filter (is_active body) (range_with_len 0 m)))) next
-    ∙ sym (combined_same (is_active body) f first number before _ (inactive (is_active body before) refl) refl)
+    ∙ sym (combined_same (is_active body) f first number before _ (false_from_ne_true (is_active body before) (λ e. absurd (omega (arith, active_end body before e)))) refl)
     ∙ fold_beyond body f first number past before refl
-  where
-    inactive : (b : Bool) → is_active body (body.end + past) ≡ b → is_active body (body.end + past) ≡ false
-    inactive true e = let inside : body.end + past < body.end = active_end body (body.end + past) e in absurd (omega (arith, inside))
-    inactive false e = e

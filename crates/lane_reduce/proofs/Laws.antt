@@ -117,17 +117,11 @@ greatest_assoc a b c = grind (arith, ints)
 
 least_kept : (w : Width) (x : ℕ) → x < 2 ^ bits w → int_min (cast_signed w x) (cast_signed w (2 ^ hbits w - 1)) ≡ cast_signed w x
 least_kept w8 x h = grind (arith, ints)
-least_kept w16 x h = grind (arith, ints)
-least_kept w32 x h = grind (arith, ints)
-least_kept w64 x h = grind (arith, ints)
-least_kept w128 x h = grind (arith, ints)
+least_kept _ x h = grind (arith, ints)
 
 greatest_kept : (w : Width) (x : ℕ) → x < 2 ^ bits w → int_max (cast_signed w x) (cast_signed w (2 ^ hbits w)) ≡ cast_signed w x
 greatest_kept w8 x h = grind (arith, ints)
-greatest_kept w16 x h = grind (arith, ints)
-greatest_kept w32 x h = grind (arith, ints)
-greatest_kept w64 x h = grind (arith, ints)
-greatest_kept w128 x h = grind (arith, ints)
+greatest_kept _ x h = grind (arith, ints)
 
 -- ---- all of them
 

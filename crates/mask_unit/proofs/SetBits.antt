@@ -85,15 +85,8 @@ pub lower_counted : (x n i : ℕ) → n + 8 ≤ 256 → i < 8
     → get_or ((n + count_ones (bit_and x 0)) % 256 ∷ (n + count_ones (bit_and x 1)) % 256 ∷ (n + count_ones (bit_and x 3)) % 256
     ∷ (n + count_ones (bit_and x 7)) % 256 ∷ (n + count_ones (bit_and x 15)) % 256 ∷ (n + count_ones (bit_and x 31)) % 256
     ∷ (n + count_ones (bit_and x 63)) % 256 ∷ (n + count_ones (bit_and x 127)) % 256 ∷ []) i 0 ≡ n + count_ones (x % 2 ^ i)
-lower_counted x n zero few l = lower_count x n 0 few l
-lower_counted x n (suc zero) few l = lower_count x n 1 few l
-lower_counted x n (suc (suc zero)) few l = lower_count x n 2 few l
-lower_counted x n (suc (suc (suc zero))) few l = lower_count x n 3 few l
-lower_counted x n (suc (suc (suc (suc zero)))) few l = lower_count x n 4 few l
-lower_counted x n (suc (suc (suc (suc (suc zero))))) few l = lower_count x n 5 few l
-lower_counted x n (suc (suc (suc (suc (suc (suc zero)))))) few l = lower_count x n 6 few l
-lower_counted x n (suc (suc (suc (suc (suc (suc (suc zero))))))) few l = lower_count x n 7 few l
 lower_counted x n (suc (suc (suc (suc (suc (suc (suc (suc j)))))))) few l = absurd (omega (arith, l))
+lower_counted x n i few l = lower_count x n i few l
 
 -- how many bits of each byte are set, in bytes and in lanes of 16 bits
 pub ones_fit : (xs : List ℕ) → Each1 (Fits w8) xs → Each1 (Fits w8) (map count_ones xs)

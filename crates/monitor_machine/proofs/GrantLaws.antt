@@ -63,14 +63,6 @@ pub filled : {A B : Type 0} (f : A → B) (xs : List A) (ys : List B) (d : A) (e
 filled f xs ys d e same each =
     ext_get_or e ys (map f xs) (same ∙ sym (length-map xs f)) (λ k lt. each k (omega (arith, lt, same)) ∙ sym (get_or-map f xs k d e (omega (arith, lt, same))))
 
--- one element more is that of another list by a function
-pub one_filled : {A B : Type 0} (f : A → B) (xs : List A) (ys : List B) (d : A) (e : B) (i : ℕ) → i < length ys → ((k : ℕ) → k < i → get_or ys k e ≡ f (get_or xs k d))
-    → (k : ℕ) → k < i + 1 → get_or (set ys i (f (get_or xs i d))) k e ≡ f (get_or xs k d)
-one_filled f xs ys d e i within each k below = elim (cases_eq k i) [
-  | inl here ↦ subst (λ n. get_or (set ys i (f (get_or xs i d))) n e ≡ f (get_or xs n d)) (sym here) (get_or-set_same ys i (f (get_or xs i d)) e within)
-  | inr other ↦ get_or-set_other ys i k (f (get_or xs i d)) e other ∙ each k (omega (arith, below, other))
-]
-
 runs_as : (c : Context) (t : Addresses) (v : VState) (m : Memory) → runs (private_of c t v m) ≡ is_running c
 runs_as c t v m = entered c.entered
   where

@@ -25,33 +25,26 @@ pub parts_of-set : (cs : List Context) (ts : List Addresses) (vs : List VState) 
     → length cs ≡ length ts → length ts ≡ length vs → length vs ≡ length ms
     → parts_of (set cs i c) (set ts i t) (set vs i v) (set ms i m) ≡ set (parts_of cs ts vs ms) i (private_of c t v m)
 parts_of-set [] ts vs ms i c t v m e f g = refl
-parts_of-set (d ∷ cs) [] vs ms i c t v m e f g = absurd (omega (arith, e))
-parts_of-set (d ∷ cs) (u ∷ ts) [] ms i c t v m e f g = absurd (omega (arith, f))
-parts_of-set (d ∷ cs) (u ∷ ts) (w ∷ vs) [] i c t v m e f g = absurd (omega (arith, g))
 parts_of-set (d ∷ cs) (u ∷ ts) (w ∷ vs) (n ∷ ms) zero c t v m e f g = refl
 parts_of-set (d ∷ cs) (u ∷ ts) (w ∷ vs) (n ∷ ms) (suc i) c t v m e f g =
     ap (λ (ps : List Private). private_of d u w n ∷ ps)
     (parts_of-set cs ts vs ms i c t v m (omega (arith, e)) (omega (arith, f)) (omega (arith, g)))
+parts_of-set _ _ _ _ i c t v m e f g = absurd (omega (arith, e, f, g))
 
 pub parts_at : (cs : List Context) (ts : List Addresses) (vs : List VState) (ms : List Memory) (i : ℕ) (c : Context) (e : Addresses) → i < length cs
     → length cs ≡ length ts → length ts ≡ length vs → length vs ≡ length ms
     → get_or (parts_of cs ts vs ms) i None ≡ private_of (get_or cs i c) (get_or ts i e) (get_or vs i initial_vector) (get_or ms i empty)
-parts_at [] ts vs ms i c x lt e f g = absurd (omega (arith, lt))
-parts_at (d ∷ cs) [] vs ms i c x lt e f g = absurd (omega (arith, e))
-parts_at (d ∷ cs) (u ∷ ts) [] ms i c x lt e f g = absurd (omega (arith, f))
-parts_at (d ∷ cs) (u ∷ ts) (w ∷ vs) [] i c x lt e f g = absurd (omega (arith, g))
 parts_at (d ∷ cs) (u ∷ ts) (w ∷ vs) (n ∷ ms) zero c x lt e f g = refl
 parts_at (d ∷ cs) (u ∷ ts) (w ∷ vs) (n ∷ ms) (suc i) c x lt e f g =
     parts_at cs ts vs ms i c x (omega (arith, lt)) (omega (arith, e)) (omega (arith, f)) (omega (arith, g))
+parts_at _ _ _ _ i c x lt e f g = absurd (omega (arith, lt, e, f, g))
 
 pub part_count : (cs : List Context) (ts : List Addresses) (vs : List VState) (ms : List Memory)
     → length cs ≡ length ts → length ts ≡ length vs → length vs ≡ length ms → length (parts_of cs ts vs ms) ≡ length cs
 part_count [] ts vs ms e f g = refl
-part_count (c ∷ cs) [] vs ms e f g = absurd (omega (arith, e))
-part_count (c ∷ cs) (t ∷ ts) [] ms e f g = absurd (omega (arith, f))
-part_count (c ∷ cs) (t ∷ ts) (v ∷ vs) [] e f g = absurd (omega (arith, g))
 part_count (c ∷ cs) (t ∷ ts) (v ∷ vs) (m ∷ ms) e f g =
     ap (λ (n : ℕ). suc n) (part_count cs ts vs ms (omega (arith, e)) (omega (arith, f)) (omega (arith, g)))
+part_count _ _ _ _ e f g = absurd (omega (arith, e, f, g))
 
 -- ---- the vector states of all users
 
@@ -157,17 +150,9 @@ whole_with old new count moves cs ts t' i whole = record {
   settled = moves.unit.settled;
 }
 
--- one user's memory was changed twice, so it was changed
-pub changed_twice : (u : ℕ) (p q r : List Memory) → q ≡ with_memory p u (memory_of_user q u) → r ≡ with_memory q u (memory_of_user r u) → r ≡ with_memory p u (memory_of_user r u)
-changed_twice u p q r h k =
-    k ∙ ap (λ (ms : List Memory). with_memory ms u (memory_of_user r u)) h ∙ later_memory p u (memory_of_user q u) (memory_of_user r u)
-
 -- a part put back changes nothing
 pub part_put_back : (u : ℕ) (w : World) → with_user_machine u (user_machine u w) w ≡ w
 part_put_back u w = ap (λ (ps : List Private). record w { parts = ps }) (set-get_or w.parts (u - 1) None)
-
-pub world_put_back : (u : ℕ) (w : World) → with_unit w.unit (with_user_machine u (user_machine u w) w) ≡ w
-world_put_back u w = ap (with_unit w.unit) (part_put_back u w)
 
 -- new contexts over empty traces and memories are absent users, whatever the vector states are
 absent_parts : (n : ℕ) (vs : List VState) → length vs ≡ n → parts_of (replicate n new_context) (replicate n []) vs (replicate n empty) ≡ replicate n None

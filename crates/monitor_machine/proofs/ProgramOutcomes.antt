@@ -149,14 +149,3 @@ pub too_large_unit : (user : ℕ) (image : List ℕ) (unit : VectorUnit) → pag
     → (if can_be_loaded image None then unit_discarded user unit else unit) ≡ unit
 unfolding unit_by
 too_large_unit user image unit many = ap (λ (b : Bool). unit_by user b unit) (lt-ltb page_quota (page_count (memory_of_image image)) many)
-
--- the same of the image of a name
-pub load_unit_unknown : (images : List Image) (user : ℕ) (name : List ℕ) (unit : VectorUnit) → image_named images name ≡ None
-    → unit_after_load user (image_named images name) unit ≡ unit
-load_unit_unknown images user name unit h = ap (λ (image : Option (List ℕ)). unit_after_load user image unit) h
-
-pub load_unit_named : (images : List Image) (user : ℕ) (name image : List ℕ) (fault : Option ElfFault) (unit : VectorUnit) → image_named images name ≡ Some image → first_fault image ≡ fault
-    → unit_after_load user (image_named images name) unit ≡ (if can_be_loaded image fault then unit_discarded user unit else unit)
-load_unit_named images user name image fault unit h k =
-    ap (λ (i : Option (List ℕ)). unit_after_load user i unit) h
-    ∙ ap (λ (f : Option ElfFault). if can_be_loaded image f then unit_discarded user unit else unit) k

@@ -36,16 +36,12 @@ use Rattle.reg_groups.proofs.Sources.{guarded, lone_legal, masked_legal, pair_le
 -- they have twice the multiplier
 wide_emul : (s : Sew) (e : ℕ) → bits (doubled (sew_width s)) * e / sew_bits s ≡ 2 * e
 wide_emul E8 e = omega arith
-wide_emul E16 e = omega arith
-wide_emul E32 e = omega arith
-wide_emul E64 e = omega arith
+wide_emul _ e = omega arith
 
 wide_group : (s : Sew) (a e f : ℕ) → e ≡ 2 * f
     → is_group (groups_of Read 1 a (bits (doubled (sew_width s))) e) ≡ (not (sew_bits s == 64) && is_group (groups_of Read 1 a 8 (2 * f)))
-wide_group E8 a e f h = rw h refl
-wide_group E16 a e f h = rw h refl
-wide_group E32 a e f h = rw h refl
 wide_group E64 a e f h = refl
+wide_group _ a e f h = rw h refl
 
 -- there are some where SEW is below 64, and their multiplier at most 8
 pub wide_aligned : (a : ℕ) (t : VType)
@@ -74,9 +70,8 @@ alike false b = not b
 
 alike_same : (a b : Bool) → alike a b ≡ true → a ≡ b
 alike_same true true h = refl
-alike_same true false h = absurd (cc)
-alike_same false true h = absurd (cc)
 alike_same false false h = refl
+alike_same _ _ h = absurd (cc)
 
 -- what a register operand holds, and its multiplier
 abbrev Kind : Type 0
@@ -101,8 +96,7 @@ comes_to r d s test w l a b =
 
 under_both : (g h b : Bool) → g ≡ true → h ≡ true → (not (g && h) || b) ≡ true → b ≡ true
 under_both true true b p q k = k
-under_both true false b p q k = absurd (cc)
-under_both false h b p q k = absurd (cc)
+under_both _ _ b p q k = absurd (cc)
 
 in_file : (r : Role) (a : ℕ) (k : Kind) → is_group (operand r a k) ≡ true → a < 32
 in_file r a k h =

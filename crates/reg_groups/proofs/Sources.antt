@@ -89,27 +89,22 @@ lone_legal o = sources_legal o [] tt ∙ and-true (is_group o)
 
 first_is_source : (shape : Shape) (vs2 : ℕ) (t : VType) → IsSource (first_source shape vs2 t).role
 first_is_source WideSource vs2 t = tt
-first_is_source Narrowing vs2 t = tt
 first_is_source _ vs2 t = tt
 
 vector_is_source : (shape : Shape) (vs1 : ℕ) (t : VType) → IsSource (vector_source shape vs1 t).role
 vector_is_source GatherIndices16 vs1 t = tt
-vector_is_source Reduction vs1 t = tt
-vector_is_source WideReduction vs1 t = tt
 vector_is_source _ vs1 t = tt
 
 second_is_source : (shape : Shape) (from : Source) (t : VType) (rest : List Operand) → AreSources rest → AreSources (second_source shape from t ++ rest)
 second_is_source shape (source.V vs1) t rest h = (vector_is_source shape vs1 t, h)
-second_is_source shape (source.X rs1) t rest h = h
-second_is_source shape (source.I imm) t rest h = h
+second_is_source shape _ t rest h = h
 
 -- the second source, if it is one of vectors
 second_beside : (d : Operand) (shape : Shape) (from : Source) (t : VType) (rest : List Operand)
     → list_all (stands_beside d) (second_source shape from t ++ rest)
     ≡ (of_vector from (λ vs1. stands_beside d (vector_source shape vs1 t)) && list_all (stands_beside d) rest)
 second_beside d shape (source.V vs1) t rest = refl
-second_beside d shape (source.X rs1) t rest = refl
-second_beside d shape (source.I imm) t rest = refl
+second_beside d shape _ t rest = refl
 
 -- what a shape asks of its operands
 pub shape_legal : (shape : Shape) (vd vs2 : ℕ) (from : Source) (unmasked : Bool) (t : VType)

@@ -16,35 +16,12 @@ use Rattle.reg_groups.specs.Roles.{groups_of}
 -- twice SEW, in bits
 pub doubled_bits : (s : Sew) → bits (doubled (sew_width s)) ≡ 2 * sew_bits s
 doubled_bits E8 = refl
-doubled_bits E16 = refl
-doubled_bits E32 = refl
-doubled_bits E64 = refl
+doubled_bits _ = refl
 
 part_bits : (o : ExtendOp) (s : Sew) → bits (part_width o (sew_width s)) ≡ max (sew_bits s / extension_divisor o) 8
 part_bits VzextVf8 E8 = refl
-part_bits VzextVf8 E16 = refl
-part_bits VzextVf8 E32 = refl
-part_bits VzextVf8 E64 = refl
-part_bits VsextVf8 E8 = refl
-part_bits VsextVf8 E16 = refl
-part_bits VsextVf8 E32 = refl
-part_bits VsextVf8 E64 = refl
-part_bits VzextVf4 E8 = refl
-part_bits VzextVf4 E16 = refl
-part_bits VzextVf4 E32 = refl
-part_bits VzextVf4 E64 = refl
-part_bits VsextVf4 E8 = refl
-part_bits VsextVf4 E16 = refl
-part_bits VsextVf4 E32 = refl
-part_bits VsextVf4 E64 = refl
-part_bits VzextVf2 E8 = refl
-part_bits VzextVf2 E16 = refl
-part_bits VzextVf2 E32 = refl
-part_bits VzextVf2 E64 = refl
-part_bits VsextVf2 E8 = refl
-part_bits VsextVf2 E16 = refl
-part_bits VsextVf2 E32 = refl
-part_bits VsextVf2 E64 = refl
+part_bits _ E8 = refl
+part_bits _ _ = refl
 
 pub part_group : (o : ExtendOp) (first : ℕ) (t : VType)
     → groups_of Read 1 first (sew_bits t.sew / extension_divisor o) (emul (max (sew_bits t.sew / extension_divisor o) 8) t) ≡ extension_source o first t

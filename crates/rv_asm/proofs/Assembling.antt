@@ -30,13 +30,9 @@ spelled_known text name ts row m slots h some is with_slots =
     ∙ ap (λ (n : Mnemonic). read_operands (length text + 1) n.2 (slots_of n.1) ts) (sym is)
     ∙ ap (λ (ss : List Slot). read_operands (length text + 1) m.2 ss ts) (sym with_slots)
 
-pub answers_ok : (r : Result ℕ AsmFault) (read total : Result ℕ ℕ) → total ≡ read → Answers r read → IfOk r (λ word. total ≡ Ok word)
-answers_ok (Ok w) read total e a = e ∙ a
-answers_ok (Err f) read total e a = tt
-
-pub answers_err : (r : Result ℕ AsmFault) (read total : Result ℕ ℕ) → total ≡ read → Answers r read → IfErr r (λ fault. total ≡ Err fault.column)
-answers_err (Ok w) read total e a = tt
-answers_err (Err f) read total e a = e ∙ a
+pub answers : (r : Result ℕ AsmFault) (read total : Result ℕ ℕ) → total ≡ read → Answers r read → IfOk r (λ word. total ≡ Ok word) × IfErr r (λ fault. total ≡ Err fault.column)
+answers (Ok w) read total e a = (e ∙ a, tt)
+answers (Err f) read total e a = (tt, e ∙ a)
 
 pub canonical_parts : (word row : ℕ) (m : Mnemonic) (slots : List Slot) (start named whole : List ℕ) → row ≡ row_of_word word → m ≡ row_at row → slots ≡ slots_of m.1
     → start ≡ [] → named ≡ start ++ unpadded m.0 → whole ≡ named ++ operands_text slots word → whole ≡ canonical word

@@ -30,60 +30,30 @@ four_same_parts {b = b} {c = c} {d = d} {e = e} {f = f} {g = g} h k l m = ap₂ 
 high_piece_of_store_offset : (a b : ℕ) → a < 2 ^ 5 → b < 2 ^ 7 → (a + b * 2 ^ 5) / 2 ^ 5 % 2 ^ 7 ≡ b
 high_piece_of_store_offset a b h k = omega arith
 
-bit_12_of_branch_offset : (a b c d : ℕ) → a < 2 ^ 4 → b < 2 ^ 6 → c < 2 ^ 1 → d < 2 ^ 1 → (a + b * 2 ^ 4 + c * 2 ^ 10 + d * 2 ^ 11) / 2 ^ 11 % 2 ^ 1 ≡ d
-bit_12_of_branch_offset a b c d ha hb hc hd = omega arith
+parts_of_branch_offset : (a b c d : ℕ) → a < 2 ^ 4 → b < 2 ^ 6 → c < 2 ^ 1 → d < 2 ^ 1
+    → ((a + b * 2 ^ 4 + c * 2 ^ 10 + d * 2 ^ 11) / 2 ^ 11 % 2 ^ 1 ≡ d) × ((a + b * 2 ^ 4 + c * 2 ^ 10 + d * 2 ^ 11) / 2 ^ 4 % 2 ^ 6 ≡ b)
+    × ((a + b * 2 ^ 4 + c * 2 ^ 10 + d * 2 ^ 11) % 2 ^ 4 ≡ a) × ((a + b * 2 ^ 4 + c * 2 ^ 10 + d * 2 ^ 11) / 2 ^ 10 % 2 ^ 1 ≡ c)
+parts_of_branch_offset a b c d ha hb hc hd = (omega arith, omega arith, omega arith, omega arith)
 
-bits_10_to_5_of_branch_offset : (a b c d : ℕ) → a < 2 ^ 4 → b < 2 ^ 6 → (a + b * 2 ^ 4 + c * 2 ^ 10 + d * 2 ^ 11) / 2 ^ 4 % 2 ^ 6 ≡ b
-bits_10_to_5_of_branch_offset a b c d ha hb = omega arith
-
-bits_4_to_1_of_branch_offset : (a b c d : ℕ) → a < 2 ^ 4 → (a + b * 2 ^ 4 + c * 2 ^ 10 + d * 2 ^ 11) % 2 ^ 4 ≡ a
-bits_4_to_1_of_branch_offset a b c d ha = omega arith
-
-bit_11_of_branch_offset : (a b c d : ℕ) → a < 2 ^ 4 → b < 2 ^ 6 → c < 2 ^ 1 → (a + b * 2 ^ 4 + c * 2 ^ 10 + d * 2 ^ 11) / 2 ^ 10 % 2 ^ 1 ≡ c
-bit_11_of_branch_offset a b c d ha hb hc = omega arith
-
-bit_20_of_jump_offset : (a b c d : ℕ) → a < 2 ^ 10 → b < 2 ^ 1 → c < 2 ^ 8 → d < 2 ^ 1 → (a + b * 2 ^ 10 + c * 2 ^ 11 + d * 2 ^ 19) / 2 ^ 19 % 2 ^ 1 ≡ d
-bit_20_of_jump_offset a b c d ha hb hc hd = omega arith
-
-bits_10_to_1_of_jump_offset : (a b c d : ℕ) → a < 2 ^ 10 → (a + b * 2 ^ 10 + c * 2 ^ 11 + d * 2 ^ 19) % 2 ^ 10 ≡ a
-bits_10_to_1_of_jump_offset a b c d ha = omega arith
-
-bit_11_of_jump_offset : (a b c d : ℕ) → a < 2 ^ 10 → b < 2 ^ 1 → (a + b * 2 ^ 10 + c * 2 ^ 11 + d * 2 ^ 19) / 2 ^ 10 % 2 ^ 1 ≡ b
-bit_11_of_jump_offset a b c d ha hb = omega arith
-
-bits_19_to_12_of_jump_offset : (a b c d : ℕ) → a < 2 ^ 10 → b < 2 ^ 1 → c < 2 ^ 8 → (a + b * 2 ^ 10 + c * 2 ^ 11 + d * 2 ^ 19) / 2 ^ 11 % 2 ^ 8 ≡ c
-bits_19_to_12_of_jump_offset a b c d ha hb hc = omega arith
+parts_of_jump_offset : (a b c d : ℕ) → a < 2 ^ 10 → b < 2 ^ 1 → c < 2 ^ 8 → d < 2 ^ 1
+    → ((a + b * 2 ^ 10 + c * 2 ^ 11 + d * 2 ^ 19) / 2 ^ 19 % 2 ^ 1 ≡ d) × ((a + b * 2 ^ 10 + c * 2 ^ 11 + d * 2 ^ 19) % 2 ^ 10 ≡ a)
+    × ((a + b * 2 ^ 10 + c * 2 ^ 11 + d * 2 ^ 19) / 2 ^ 10 % 2 ^ 1 ≡ b) × ((a + b * 2 ^ 10 + c * 2 ^ 11 + d * 2 ^ 19) / 2 ^ 11 % 2 ^ 8 ≡ c)
+parts_of_jump_offset a b c d ha hb hc hd = (omega arith, omega arith, omega arith, omega arith)
 
 branch_parts : (w : ℕ) → parts_of (Signed signed.Branch) (branch_offset w) ≡ part 31 1 (field 31 1 w) ∷ part 25 6 (field 25 6 w) ∷ part 8 4 (field 8 4 w) ∷ part 7 1 (field 7 1 w) ∷ []
 branch_parts w =
-    let a = field 8 4 w in
-    let b = field 25 6 w in
-    let c = field 7 1 w in
-    let d = field 31 1 w in
-    four_same_parts (ap (part 31 1) (bit_12_of_branch_offset a b c d (field_below 8 4 w) (field_below 25 6 w) (field_below 7 1 w) (field_below 31 1 w)))
-    (ap (part 25 6) (bits_10_to_5_of_branch_offset a b c d (field_below 8 4 w) (field_below 25 6 w)))
-    (ap (part 8 4) (bits_4_to_1_of_branch_offset a b c d (field_below 8 4 w)))
-    (ap (part 7 1) (bit_11_of_branch_offset a b c d (field_below 8 4 w) (field_below 25 6 w) (field_below 7 1 w)))
+    let p = parts_of_branch_offset (field 8 4 w) (field 25 6 w) (field 7 1 w) (field 31 1 w) (field_below 8 4 w) (field_below 25 6 w) (field_below 7 1 w) (field_below 31 1 w) in
+    four_same_parts (ap (part 31 1) p.0) (ap (part 25 6) p.1) (ap (part 8 4) p.2) (ap (part 7 1) p.3)
 
 jump_parts : (w : ℕ) → parts_of (Signed signed.Jump) (jump_offset w) ≡ part 31 1 (field 31 1 w) ∷ part 21 10 (field 21 10 w) ∷ part 20 1 (field 20 1 w) ∷ part 12 8 (field 12 8 w) ∷ []
 jump_parts w =
-    let a = field 21 10 w in
-    let b = field 20 1 w in
-    let c = field 12 8 w in
-    let d = field 31 1 w in
-    four_same_parts (ap (part 31 1) (bit_20_of_jump_offset a b c d (field_below 21 10 w) (field_below 20 1 w) (field_below 12 8 w) (field_below 31 1 w)))
-    (ap (part 21 10) (bits_10_to_1_of_jump_offset a b c d (field_below 21 10 w)))
-    (ap (part 20 1) (bit_11_of_jump_offset a b c d (field_below 21 10 w) (field_below 20 1 w)))
-    (ap (part 12 8) (bits_19_to_12_of_jump_offset a b c d (field_below 21 10 w) (field_below 20 1 w) (field_below 12 8 w)))
+    let p = parts_of_jump_offset (field 21 10 w) (field 20 1 w) (field 12 8 w) (field 31 1 w) (field_below 21 10 w) (field_below 20 1 w) (field_below 12 8 w) (field_below 31 1 w) in
+    four_same_parts (ap (part 31 1) p.0) (ap (part 21 10) p.1) (ap (part 20 1) p.2) (ap (part 12 8) p.3)
 
 one_same_part : {a b : Part} → a ≡ b → a ∷ [] ≡ b ∷ []
 one_same_part h = ap (λ (x : Part). x ∷ []) h
 
 parts_again : (s : Slot) (w : ℕ) → parts_of s (value_of s w) ≡ of_word w (parts_of s (value_of s 0))
-parts_again Comma w = refl
-parts_again Open w = refl
-parts_again Close w = refl
-parts_again V0 w = refl
 parts_again (Scalar p) w = one_same_part (same_part (lowest p) 5 w)
 parts_again (Vector p) w = one_same_part (same_part (lowest p) 5 w)
 parts_again (Unsigned unsigned.Immediate) w = one_same_part (same_part 15 5 w)
@@ -100,6 +70,7 @@ parts_again VectorType w = one_same_part (same_part 20 11 w)
 parts_again ShortVectorType w = one_same_part (same_part 20 10 w)
 parts_again Mask w = one_same_part (same_part 25 1 w)
 parts_again Word w = one_same_part (same_part 0 32 w)
+parts_again _ w = refl
 
 of_word-append : (w : ℕ) (ps qs : List Part) → of_word w (ps ++ qs) ≡ of_word w ps ++ of_word w qs
 of_word-append w [] qs = refl

@@ -51,15 +51,7 @@ run_ends (Comma ∷ ss) w h f = refl
 run_ends (Open ∷ ss) w h f = refl
 run_ends (Close ∷ ss) w h f = refl
 run_ends (Mask ∷ ss) w h f = mask_breaks (value_of Mask w) (printed_operands ss w) (value_below Mask w) (no_slot_prints_nothing ss w f)
-run_ends (V0 ∷ ss) w h f = absurd cc
-run_ends (Scalar r ∷ ss) w h f = absurd cc
-run_ends (Vector r ∷ ss) w h f = absurd cc
-run_ends (Unsigned u ∷ ss) w h f = absurd cc
-run_ends (Signed s ∷ ss) w h f = absurd cc
-run_ends (Csr ∷ ss) w h f = absurd cc
-run_ends (VectorType ∷ ss) w h f = absurd cc
-run_ends (ShortVectorType ∷ ss) w h f = absurd cc
-run_ends (Word ∷ ss) w h f = absurd cc
+run_ends _ w h f = absurd cc
 
 no_slot_form : (ss : List Slot) → no_slot ss ≡ true → is_form ss ≡ true
 no_slot_form [] h = refl
@@ -73,15 +65,7 @@ follows_form Comma ss w f = (tt, f)
 follows_form Open ss w f = (tt, f)
 follows_form Close ss w f = (tt, f)
 follows_form Mask ss w f = (no_slot_prints_nothing ss w f, no_slot_form ss f)
-follows_form V0 ss w f = run_follows ss w f
-follows_form (Scalar r) ss w f = run_follows ss w f
-follows_form (Vector r) ss w f = run_follows ss w f
-follows_form (Unsigned u) ss w f = run_follows ss w f
-follows_form (Signed s) ss w f = run_follows ss w f
-follows_form Csr ss w f = run_follows ss w f
-follows_form VectorType ss w f = run_follows ss w f
-follows_form ShortVectorType ss w f = run_follows ss w f
-follows_form Word ss w f = run_follows ss w f
+follows_form _ ss w f = run_follows ss w f
 
 pub form_again : (ss : List Slot) (w p end bits : ℕ) → is_form ss ≡ true → read_operands end bits ss (tokens p (printed_operands ss w)) ≡ Ok (sum_of bits (operand_parts ss w))
 unfolding read_operands printed_operands tokens

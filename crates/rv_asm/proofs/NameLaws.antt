@@ -106,18 +106,11 @@ csr_again v lt = csr_text_again v (control_register v) lt refl
 
 pub vsew_again : (sew : Sew) → Means vsew (sew_name sew) (sew_number sew)
 vsew_again E8 = record { run = refl; some = lit< tt; value = refl }
-vsew_again E16 = record { run = refl; some = lit< tt; value = refl }
-vsew_again E32 = record { run = refl; some = lit< tt; value = refl }
-vsew_again E64 = record { run = refl; some = lit< tt; value = refl }
+vsew_again _ = record { run = refl; some = lit< tt; value = refl }
 
 pub vlmul_again : (lmul : Lmul) → Means vlmul (lmul_name lmul) (lmul_number lmul)
-vlmul_again Mf8 = record { run = refl; some = lit< tt; value = refl }
-vlmul_again Mf4 = record { run = refl; some = lit< tt; value = refl }
-vlmul_again Mf2 = record { run = refl; some = lit< tt; value = refl }
 vlmul_again M1 = record { run = refl; some = lit< tt; value = refl }
-vlmul_again M2 = record { run = refl; some = lit< tt; value = refl }
-vlmul_again M4 = record { run = refl; some = lit< tt; value = refl }
-vlmul_again M8 = record { run = refl; some = lit< tt; value = refl }
+vlmul_again _ = record { run = refl; some = lit< tt; value = refl }
 
 pub vta_again : (agnostic : Bool) → Means vta (tail_name agnostic) (flag_bit agnostic)
 vta_again true = record { run = refl; some = lit< tt; value = refl }

@@ -3,7 +3,7 @@ use Rattle.std.proofs.Common.{◌≡◌, ◌≢◌, ◌⊎◌, ℕ, ◌/◌, ◌
 use Rattle.std.specs.Prelude.{IsSome, IsNone, codes}
 use Rattle.std.specs.List.{position_or_len}
 use Rattle.std.specs.Int.Bits.{bit_and}
-use Rattle.std.proofs.lemmas.Bool.{cases_lt, cond-true, lt-ltb, eq-eqb}
+use Rattle.std.proofs.lemmas.Bool.{cases_lt, cond-true, lt-ltb, eq-eqb, true≢false}
 use Rattle.std.proofs.lemmas.Bool.Decides.{eqb_tells}
 use Rattle.std.proofs.lemmas.List.Sums.{fails_before_first}
 use Rattle.std.proofs.lemmas.List.{append-nil}
@@ -18,9 +18,6 @@ use Rattle.rv_model.proofs.instruction_lemmas.Scans.{some_row, found, table_apar
 use Rattle.rv_model.proofs.assembler_lemmas.NamedOperations.{names_operation}
 use Rattle.rv_asm.proofs.WordLaws.{has_bits, row_matches}
 use Rattle.rv_model.proofs.assembler_lemmas.Naming.{Pattern, names, none, named_count, in_names, name_at_row, bits_of_name, HasNameOf, word_of_row_has_name, name_of_row, fence_named, no_word_of_two_names}
-
-true_is_not_false : true ≡ false → ⊥
-true_is_not_false e = cc
 
 none_is_not_some : (i : Instr) → None ≡ Some i → ⊥
 none_is_not_some i e = cc
@@ -38,7 +35,7 @@ unfolding row_of_word
 matching_word_is_named w n lt h =
     let first = position_or_len (has_bits w) MNEMONICS in
     elim (cases_lt n first) [
-      | inl before ↦ absurd (true_is_not_false (sym h ∙ fails_before_first (has_bits w) MNEMONICS n none before))
+      | inl before ↦ absurd (true≢false (sym h ∙ fails_before_first (has_bits w) MNEMONICS n none before))
       | inr le ↦
           let below : first < ROW_COUNT = omega arith in
           let is : unwrap_or (position (has_bits w) MNEMONICS) NAME_COUNT ≡ first = ap (λ (o : Option ℕ). unwrap_or o NAME_COUNT) (cond-true (nat_lt first (length MNEMONICS)) (Some first) None (lt-ltb first ROW_COUNT below)) in
@@ -110,11 +107,7 @@ word_without_name_is_not_named w small (inr fence) lt =
     fence.1 (fence_named n.0 w small n.1 n.2 fence.0)
 
 only_directive_is_left : (row : ℕ) → row < ROW_COUNT → (row < NAME_COUNT → ⊥) → row ≡ NAME_COUNT
-only_directive_is_left row lt h =
-    elim (cases_lt row NAME_COUNT) [
-      | inl below ↦ absurd (h below)
-      | inr le ↦ omega arith
-    ]
+only_directive_is_left row lt h = omega (arith, h)
 
 -- `.word` and 8 hexadecimal digits
 abbrev directive_text : ℕ → List ℕ

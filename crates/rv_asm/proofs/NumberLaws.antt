@@ -150,16 +150,7 @@ hex_value zero n h = hex_none n h
 hex_value (suc k) n h = hex_more k n (hex_value k (n / 16) h)
 
 pub hex_again : (n : ℕ) → n < 2 ^ 32 → digits_after 16 0 (hex_digits 8 n) ≡ Some n
-hex_again n lt =
-    let a = n / 16 in
-    let b = a / 16 in
-    let c = b / 16 in
-    let d = c / 16 in
-    let e = d / 16 in
-    let f = e / 16 in
-    let g = f / 16 in
-    let none : g / 16 ≡ 0 = omega arith in
-    hex_value 8 n none
+hex_again n lt = hex_value 8 n (omega arith)
 
 -- ---- letters
 

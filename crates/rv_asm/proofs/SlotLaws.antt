@@ -55,32 +55,21 @@ abbrev scaled : ℕ → ℕ → List ℕ → Option ℕ
 scaled size count text = in_steps size (at_most (size * count) (number text))
 
 steps_back : (s : SignedField) (v : ℕ) → in_steps (scale s) (Some (scale s * v)) ≡ Some v
-steps_back signed.Vector v = let a : 1 * v % 1 ≡ 0 = omega arith in let b : 1 * v / 1 ≡ v = omega arith in cond-true (eqb (1 * v % 1) 0) (Some (1 * v / 1)) None (eq-eqb (1 * v % 1) 0 a) ∙ ap (λ (x : ℕ). Some x) b
-steps_back signed.Immediate v = let a : 1 * v % 1 ≡ 0 = omega arith in let b : 1 * v / 1 ≡ v = omega arith in cond-true (eqb (1 * v % 1) 0) (Some (1 * v / 1)) None (eq-eqb (1 * v % 1) 0 a) ∙ ap (λ (x : ℕ). Some x) b
-steps_back signed.Store v = let a : 1 * v % 1 ≡ 0 = omega arith in let b : 1 * v / 1 ≡ v = omega arith in cond-true (eqb (1 * v % 1) 0) (Some (1 * v / 1)) None (eq-eqb (1 * v % 1) 0 a) ∙ ap (λ (x : ℕ). Some x) b
 steps_back signed.Branch v = let a : 2 * v % 2 ≡ 0 = omega arith in let b : 2 * v / 2 ≡ v = omega arith in cond-true (eqb (2 * v % 2) 0) (Some (2 * v / 2)) None (eq-eqb (2 * v % 2) 0 a) ∙ ap (λ (x : ℕ). Some x) b
 steps_back signed.Jump v = let a : 2 * v % 2 ≡ 0 = omega arith in let b : 2 * v / 2 ≡ v = omega arith in cond-true (eqb (2 * v % 2) 0) (Some (2 * v / 2)) None (eq-eqb (2 * v % 2) 0 a) ∙ ap (λ (x : ℕ). Some x) b
+steps_back _ v = let a : 1 * v % 1 ≡ 0 = omega arith in let b : 1 * v / 1 ≡ v = omega arith in cond-true (eqb (1 * v % 1) 0) (Some (1 * v / 1)) None (eq-eqb (1 * v % 1) 0 a) ∙ ap (λ (x : ℕ). Some x) b
 
 steps_below : (s : SignedField) (v : ℕ) → v < half s → scale s * v ≤ scale s * half s - 1
 steps_below signed.Vector v lt = omega arith
-steps_below signed.Immediate v lt = omega arith
-steps_below signed.Store v lt = omega arith
-steps_below signed.Branch v lt = omega arith
-steps_below signed.Jump v lt = omega arith
+steps_below _ v lt = omega arith
 
 steps_up_to : (s : SignedField) (v : ℕ) → v ≤ half s → scale s * v ≤ scale s * half s
 steps_up_to signed.Vector v le = omega arith
-steps_up_to signed.Immediate v le = omega arith
-steps_up_to signed.Store v le = omega arith
-steps_up_to signed.Branch v le = omega arith
-steps_up_to signed.Jump v le = omega arith
+steps_up_to _ v le = omega arith
 
 steps_small : (s : SignedField) → scale s * half s < 2 ^ 64
 steps_small signed.Vector = lit< tt
-steps_small signed.Immediate = lit< tt
-steps_small signed.Store = lit< tt
-steps_small signed.Branch = lit< tt
-steps_small signed.Jump = lit< tt
+steps_small _ = lit< tt
 
 signed_again : (s : SignedField) (v p end : ℕ) (more : List ℕ) → v < 2 * half s → begins_run more ≡ false → Takes (signed_number end (scale s) (half s)) (signed_text (scale s) (half s) v) v p more
 unfolding tokens
@@ -190,9 +179,8 @@ named_parts end count sew lmul tail inactive p more follows =
 
 -- a bit is the number of whether it is 1
 bit_again : (n : ℕ) → n < 2 → n ≡ flag_bit (eqb n 1)
-bit_again zero lt = refl
-bit_again (suc zero) lt = refl
 bit_again (suc (suc n)) lt = absurd (omega arith)
+bit_again _ lt = refl
 
 -- a vtype below 256 is the sum of its parts
 parts_sum : (v sew lmul tail inactive : ℕ) → v < 256 → v / 8 % 8 ≡ sew → v % 8 ≡ lmul → v / 64 % 2 ≡ tail → v / 128 % 2 ≡ inactive → lmul + sew * 8 + tail * 64 + inactive * 128 ≡ v
@@ -219,9 +207,8 @@ plain_vtype end count v p more lt small follows =
 -- by names where the parts have them
 either_vtype : (end count v p : ℕ) (sew : Option Sew) (lmul : Option Lmul) (more : List ℕ) → v < 256 → sew_with_number (v / 8 % 8) ≡ sew → lmul_with_number (v % 8) ≡ lmul → v < count → count ≤ 2 ^ 32 → begins_run more ≡ false
     → Takes (vtype end count) (vtype_named sew lmul v) v p more
-either_vtype end count v p None lmul more small wide grouped lt le follows = plain_vtype end count v p more lt le follows
-either_vtype end count v p (Some sew) None more small wide grouped lt le follows = plain_vtype end count v p more lt le follows
 either_vtype end count v p (Some sew) (Some lmul) more small wide grouped lt le follows = named_vtype end count v p sew lmul more small wide grouped follows
+either_vtype end count v p _ _ more small wide grouped lt le follows = plain_vtype end count v p more lt le follows
 
 vtype_again : (end count v p : ℕ) (more : List ℕ) → v < count → count ≤ 2 ^ 32 → begins_run more ≡ false → Takes (vtype end count) (vtype_text v) v p more
 vtype_again end count v p more lt small follows =
@@ -239,9 +226,8 @@ vtype_again end count v p more lt small follows =
 
 mask_again : (v p end : ℕ) → v < 2 → Takes (read end Mask) (printed Mask v) v p []
 unfolding tokens
-mask_again zero p end lt = refl
-mask_again (suc zero) p end lt = refl
 mask_again (suc (suc v)) p end lt = absurd (omega arith)
+mask_again _ p end lt = refl
 
 number_means : (largest v : ℕ) → v ≤ largest → largest < 2 ^ 32 → Means (λ t. at_most largest (number t)) (decimal v) v
 number_means largest v le small =

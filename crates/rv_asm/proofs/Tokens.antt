@@ -21,9 +21,7 @@ space_not_run c h = ne_eqb c 32 (λ e. let P : ℕ → Type 0 = λ x. in_run x �
 
 pick_middle : {A : Type 0} (s r m : Bool) (x y z : A) → s ≡ false → r ≡ true → m ≡ true → cond s x (cond (r && m) y z) ≡ y
 pick_middle false true true x y z hs hr hm = refl
-pick_middle true r m x y z hs hr hm = absurd cc
-pick_middle false false m x y z hs hr hm = absurd cc
-pick_middle false true false x y z hs hr hm = absurd cc
+pick_middle _ _ _ x y z hs hr hm = absurd cc
 
 pick_last : {A : Type 0} (s r m : Bool) (x y z : A) → s ≡ false → (r && m) ≡ false → cond s x (cond (r && m) y z) ≡ z
 pick_last true r m x y z hs hr = absurd cc

@@ -43,9 +43,6 @@ typed : (i : AccessInstr) (o : Option VType) (vstart : ℕ) → is_typed_access 
 unfolding is_legal operands
 typed i (Some t) vstart needs legal = (t, refl)
 typed (UnitStride op width nf vd rs1 vm) None vstart needs legal = absurd (cc)
-typed (Strided direction width nf vd rs1 rs2 vm) None vstart needs legal = absurd (cc)
-typed (Indexed direction order width nf vd rs1 vs2 vm) None vstart needs legal = absurd (cc)
-typed (MaskAccess direction vd rs1) None vstart needs legal = absurd (cc)
 typed _ None vstart needs legal = absurd (cc)
 
 -- groups of elements as wide as SEW are those of the vector type
@@ -62,9 +59,7 @@ fields_inside (UnitStride op width nf vd rs1 vm) t vstart vl legal h = unit_insi
 fields_inside (Strided direction width nf vd rs1 rs2 vm) t vstart vl legal h = strided_inside direction width nf vd rs1 rs2 vm t vstart vl legal h
 fields_inside (Indexed direction order width nf vd rs1 vs2 vm) t vstart vl legal h =
     subst (λ g. SegmentsInside g vd nf vl) (sym (sew_groups t)) (indexed_inside direction order width nf vd rs1 vs2 vm t vstart vl legal h).fields
-fields_inside (WholeLoad count width vd rs1) t vstart vl legal h = tt
-fields_inside (WholeStore count vd rs1) t vstart vl legal h = tt
-fields_inside (MaskAccess direction vd rs1) t vstart vl legal h = tt
+fields_inside _ t vstart vl legal h = tt
 
 pub tails_inside : (i : AccessInstr) (policy : Policy) (v : VState) → IsConfiguration v.conf
     → is_legal (instr.Access i) v.conf.vtype v.vstart ≡ true → IfSome (filled_by i policy v).tails (IsInside v.conf.vl)
@@ -144,56 +139,46 @@ fields : (reads fills : Bool) (a : VectorAccess) (f : Fields) (g : GroupType) (v
     → groups_of f ≡ g → a.register ≡ f.vd → a.fields ≡ f.nf + 1 → a.body.end ≡ vl
     → with_tails (if reads && fills then Some g else None) a end file ≡ with_filled (if fills && reads then Some f else None) vl end file
 fields true true a f g vl memory_end.Done file same register count length = rw (same, register, count, length) refl
-fields true true a f g vl (memory_end.Cut index) file same register count length = refl
-fields true true a f g vl (memory_end.Fault index addr) file same register count length = refl
-fields true false a f g vl end file same register count length = refl
 fields false true a f g vl end file same register count length = refl
-fields false false a f g vl end file same register count length = refl
+fields _ _ a f g vl end file same register count length = refl
 
 -- no tails, whether others would be filled or not
 none : (b c : Bool) (a : VectorAccess) (vl : ℕ) (end : MemEnd) (file : List ℕ)
     → with_tails (if b then None else None) a end file ≡ with_filled (if c then None else None) vl end file
 none true true a vl end file = refl
-none true false a vl end file = refl
-none false true a vl end file = refl
-none false false a vl end file = refl
+none _ true a vl end file = refl
+none _ _ a vl end file = refl
+
+-- the same of one that needs a vector type, by the access that each makes of it
+of_typed : (i : AccessInstr) (s : HartState) (make : VType → VectorAccess) → is_typed_access (instr.Access i) ≡ true → is_legal (instr.Access i) s.vector.conf.vtype s.vector.vstart ≡ true
+    → access_of i s.vector s.scalar ≡ option_map make s.vector.conf.vtype → ((u : VType) → (make u).direction ≡ direction_of i) → ((u : VType) → (make u).body.unmasked ≡ is_unmasked i)
+    → ((u t : VType) (end : MemEnd) (file : List ℕ)
+    → with_tails (if reads_memory (make u).direction && fills_tail s.policy t (make u).body then tail_type i t else None) (make u) end file
+    ≡ with_filled (filled_under i s.policy s.vector t).tails s.vector.conf.vl end file)
+    → (a : VectorAccess) × Fills i s a
+of_typed i s make needs legal access direction unmasked tails =
+    let (u, is) = typed i s.vector.conf.vtype s.vector.vstart needs legal in
+    (make u, of_access i s (make u) (access ∙ ap (option_map make) is) (direction u) (unmasked u) (tails u))
 
 -- each legal one does
 fills : (i : AccessInstr) (s : HartState) → is_legal (instr.Access i) s.vector.conf.vtype s.vector.vstart ≡ true
     → (a : VectorAccess) × Fills i s a
 fills (UnitStride op width nf vd rs1 vm) s legal =
-    let i = UnitStride op width nf vd rs1 vm in
-    let (t, is) = typed i s.vector.conf.vtype s.vector.vstart refl legal in
-    let make = λ (t : VType). unit_access op (access_type t width) nf vd rs1 vm s.vector s.scalar in (
-      make t,
-      of_access i s (make t) (ap (option_map make) is) refl refl
-          (λ t end file. fields (reads_memory (unit_direction op)) _ _ _ _ _ end file refl refl refl refl),
-    )
+    of_typed (UnitStride op width nf vd rs1 vm) s (λ t. unit_access op (access_type t width) nf vd rs1 vm s.vector s.scalar) refl legal refl (λ u. refl) (λ u. refl)
+    (λ u t end file. fields (reads_memory (unit_direction op)) _ _ _ _ _ end file refl refl refl refl)
 fills (Strided direction width nf vd rs1 rs2 vm) s legal =
-    let i = Strided direction width nf vd rs1 rs2 vm in
-    let (t, is) = typed i s.vector.conf.vtype s.vector.vstart refl legal in
-    let make = λ (t : VType). strided_access direction (access_type t width) nf vd rs1 rs2 vm s.vector s.scalar in (
-      make t,
-      of_access i s (make t) (ap (option_map make) is) refl refl
-          (λ t end file. fields (reads_memory direction) _ _ _ _ _ end file refl refl refl refl),
-    )
+    of_typed (Strided direction width nf vd rs1 rs2 vm) s (λ t. strided_access direction (access_type t width) nf vd rs1 rs2 vm s.vector s.scalar) refl legal refl (λ u. refl) (λ u. refl)
+    (λ u t end file. fields (reads_memory direction) _ _ _ _ _ end file refl refl refl refl)
 fills (Indexed direction order width nf vd rs1 vs2 vm) s legal =
-    let i = Indexed direction order width nf vd rs1 vs2 vm in
-    let (t, is) = typed i s.vector.conf.vtype s.vector.vstart refl legal in
-    let make = λ (t : VType). indexed_access direction (group_type t) (access_type t width) nf vd rs1 vs2 vm s.vector s.scalar in (
-      make t,
-      of_access i s (make t) (ap (option_map make) is) refl refl
-          (λ t end file. fields (reads_memory direction) _ _ _ _ _ end file (sew_groups t) refl refl refl),
-    )
+    of_typed (Indexed direction order width nf vd rs1 vs2 vm) s (λ t. indexed_access direction (group_type t) (access_type t width) nf vd rs1 vs2 vm s.vector s.scalar)
+    refl legal refl (λ u. refl) (λ u. refl) (λ u t end file. fields (reads_memory direction) _ _ _ _ _ end file (sew_groups t) refl refl refl)
 fills (WholeLoad count width vd rs1) s legal = (_, of_access (WholeLoad count width vd rs1) s _ refl refl refl (λ t end file. none _ _ _ _ end file))
 fills (WholeStore count vd rs1) s legal =
     let a = unmasked_access Store (register_count count * VLENB) 1 (register_count count) vd rs1 s.vector s.scalar in
     (a, of_access (WholeStore count vd rs1) s a refl refl refl (λ t end file. none false _ a _ end file))
 fills (MaskAccess direction vd rs1) s legal =
-    let i = MaskAccess direction vd rs1 in
-    let (t, is) = typed i s.vector.conf.vtype s.vector.vstart refl legal in
-    let make = λ (t : VType). unmasked_access direction (mask_length s.vector.conf.vl) 1 1 vd rs1 s.vector s.scalar in
-    (make t, of_access i s (make t) (ap (option_map make) is) refl refl (λ t end file. none _ _ _ _ end file))
+    of_typed (MaskAccess direction vd rs1) s (λ t. unmasked_access direction (mask_length s.vector.conf.vl) 1 1 vd rs1 s.vector s.scalar) refl legal refl (λ u. refl) (λ u. refl)
+    (λ u t end file. none _ _ _ _ end file)
 
 -- ---- the step
 

@@ -42,9 +42,6 @@ pub ruleset compared_groups = (length_fits, length_below, multiplier_fits)
 -- a destination or a source of twice the width
 pub ruleset wide_groups = (wide_groups_have_room, groups_have_room, length_below)
 
--- a source of twice the width
-pub ruleset narrow_groups = (groups_hold_body, wide_groups_have_room)
-
 -- a source of a part of the width
 pub ruleset extended_groups = (groups_have_room, part_groups_have_room, length_below)
 

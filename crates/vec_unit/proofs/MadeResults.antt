@@ -2,6 +2,7 @@
 use Rattle.std.proofs.Common.{ℕ, ◌*◌, ◌<◌, ◌≡◌, ◌∙◌, List, length, Bool, true, false, cond, ◌&&◌, ◌||◌, nat_le, refl, ap, sym, min, arith, inl, inr}
 use Rattle.std.proofs.lemmas.Bool.{cases_lt}
 use Rattle.std.proofs.lemmas.Bool.Decides.{nat_tests}
+use Rattle.std.proofs.Math.Bool.{or-false}
 use Rattle.std.proofs.Math.Nat.{lt_of_mul-lt-mul_left, mul_assoc}
 use Rattle.std.specs.Prelude.{not, if◌then◌else◌}
 use Rattle.rv_model.specs.elements.Arithmetic.{with_results}
@@ -52,34 +53,19 @@ agnostic_filled k n size body fill_masked_off fill_tail end low count from to on
 
 -- ---- results
 
-active_alone : (a : Bool) → a ≡ (a || false)
-active_alone true = refl
-active_alone false = refl
-
 -- the results, told another way, are written to the active elements alone
 pub active_written : (k : ℕ) (body : Body) (told result : ℕ → ℕ) (ones : ℕ) (old new : List ℕ) → ((i : ℕ) → i < body.end → told i ≡ result i)
     → Writes k (is_changed body false false) (result_or_ones body told ones) old new → Writes k (is_active body) result old new
 active_written k body told result ones old new same was =
     writes_same k (is_changed body false false) (is_active body) (result_or_ones body told ones) result old new was
-    (λ e l. active_alone (is_active body e))
+    (λ e l. sym (or-false (is_active body e)))
     (λ e h.
-    let active : is_active body e ≡ true = rw (active_alone (is_active body e)) h in
+    let active : is_active body e ≡ true = rw (sym (or-false (is_active body e))) h in
     rw active (rw (same e (active_end body e active)) refl))
 
 -- agnostic ones before, active ones after
 in_order : (m b l r : Bool) → ((b && l) || ((m && (b && not l)) || r)) ≡ (((m && b) || r) || (b && l))
-in_order true true true true = refl
-in_order true true true false = refl
-in_order true true false true = refl
-in_order true true false false = refl
-in_order true false l true = refl
-in_order true false l false = refl
-in_order false true true true = refl
-in_order false true true false = refl
-in_order false true false true = refl
-in_order false true false false = refl
-in_order false false l true = refl
-in_order false false l false = refl
+in_order m b l r = grind (arith, nat_tests)
 
 -- a copy of a group whose agnostic elements were filled before the results were written
 pub made_results : (g : GroupType) (vd : ℕ) (body : Body) (fill_masked_off fill_tail : Bool) (result : ℕ → ℕ) (file mid new : List ℕ)

@@ -69,9 +69,6 @@ module _ (k n vd registers : ℕ) (body : Body) (fill : Bool) (result : ℕ → 
       (changed_inside (in_body body d) (is_enabled body d) fill (nat_le body.end d)
       (and_parts (nat_le (n * vd) e) (is_changed body fill false (e - n * vd)) h).1)
 
-  pub none_done : Done 0 old
-  none_done = begins k changes numbers old (n * (vd + 0)) (λ e h. omega (arith, mul-add n vd 0, from_group e h))
-
   pub all_done : (bytes : List ℕ) → body.end ≤ n * registers → Done registers bytes → Writes k changes numbers old bytes
   all_done bytes covers was =
       ends k changes numbers old bytes (n * (vd + registers)) was
@@ -122,5 +119,4 @@ module _ (k n vd registers : ℕ) (body : Body) (fill : Bool) (result : ℕ → 
       → SourceHasRegisters from registers → length old ≡ 1024 → Done r mid
       → second_in k n from number mid (n * r + i) ≡ second_in k n from number old (n * r + i)
   second_operand (source.V vs1) number r i mid e h l reads has long was = operand r vs1 i mid e h l reads (omega arith) was
-  second_operand (source.X rs1) number r i mid e h l reads has long was = refl
-  second_operand (source.I imm) number r i mid e h l reads has long was = refl
+  second_operand _ number r i mid e h l reads has long was = refl

@@ -4,7 +4,7 @@ use Rattle.std.proofs.lemmas.Bool.{cases_lt, false_from_ne_true, lt-leb}
 use Rattle.std.proofs.lemmas.Grind.{div_ceil_times, same_number_lists}
 use Rattle.std.proofs.lemmas.List.{drop_all, take_all}
 use Rattle.std.proofs.lemmas.Simd.{length-put_chunk, put_chunk_is, get_or-put_chunk_below, get_or-put_chunk_at, get_or-put_chunk_above, length-chunk, get_or-chunk}
-use Rattle.std.proofs.Math.Nat.{mul-le-mul_left, mul-suc, mul-add, mul-zero, mul_assoc, mul_comm, div-add-mod, mod-lt, le_of_mul-le-mul_left}
+use Rattle.std.proofs.Math.Nat.{mul-le-mul_left, mul-suc, mul-add, mul-zero, mul_assoc, mul_comm, div-add-mod, div-lt_iff_lt-mul, le-div_iff_mul-le, mod-lt, le_of_mul-le-mul_left, lt_of_mul-lt-mul_left}
 use lib.Lanes.{number_l, chunk, put_chunk}
 use mir.Val.{bits}
 use Rattle.rv_model.specs.declared.instructions.operations.BinaryOp.{BinaryOp}
@@ -21,6 +21,7 @@ use Rattle.rv_model.proofs.element_lemmas.Arithmetic.{results_are}
 use Rattle.rv_model.proofs.element_lemmas.Sets.{changed_inside, to_end}
 use Rattle.rv_model.proofs.element_lemmas.Writes.{writes_same}
 use Rattle.lane_arith.proofs.ChunkWrites.{chunk_of_chunk, few_in_chunk, place}
+use Rattle.lane_arith.proofs.MaskBits.{count_positive}
 use Rattle.vec_unit.specs.InTurn.{number_from, second_in, second_number, test_from, turn_result}
 
 -- ---- all registers as one group
@@ -42,8 +43,7 @@ second_is : (g : GroupType) (n : ℕ) (unsigned : Bool) (from : Source) (file : 
     → width_bytes g.width * i + width_bytes g.width ≤ 32 * registers g.emul
     → second_in (width_bytes g.width) n from (second_number unsigned from x % 2 ^ bits g.width) file i ≡ second_element g unsigned from file x i
 second_is g n unsigned (source.V vs1) file x i e h = element_of_group (width_bytes g.width) n vs1 (registers g.emul) i file e h
-second_is g n unsigned (source.X rs1) file x i e h = refl
-second_is g n unsigned (source.I imm) file x i e h = refl
+second_is g n unsigned _ file x i e h = refl
 
 pub result_is : (g : GroupType) (n : ℕ) (op : BinaryOp) (vs2 : ℕ) (from : Source) (number : ℕ) (file : List ℕ) (x : Scalar) (i : ℕ)
     → number ≡ second_number (has_unsigned_immediate op) from x
@@ -72,14 +72,10 @@ within k n size end some e room =
 pub covered : (k n size end : ℕ) → 0 < k → k * n ≡ 32 → k * end ≤ 32 * size → end ≤ n * min size (end / n + min 1 (end % n))
 covered k n size end some e room =
     let by_size : end ≤ n * size = within k n size end some e room in
-    let positive : 0 < n = positive_count n e in
+    let positive : 0 < n = count_positive k n e in
     let by_count = (div_ceil_times end n positive).0 in
     least (n * size) (rw (mul_comm (end / n + min 1 (end % n)) n) at by_count) by_size
   where
-    positive_count : (m : ℕ) → k * m ≡ 32 → 0 < m
-    positive_count zero q = absurd (omega (arith, q, mul-zero k))
-    positive_count (suc m) q = omega arith
-
     least : (s : ℕ) → end ≤ n * (end / n + min 1 (end % n)) → end ≤ n * size → end ≤ n * min size (end / n + min 1 (end % n))
     least s a b = elim (cases_lt size (end / n + min 1 (end % n))) [
       | inl low ↦ (let m : min size (end / n + min 1 (end % n)) ≡ size = omega arith in rw m b)
@@ -130,20 +126,10 @@ module _ (k n vd count : ℕ) (changes : ℕ → Bool) (number : ℕ → ℕ) (f
       rw (at_j, stays) at told
 
   element_below : (j : ℕ) → j < 32 * vd → 0 < k → j / k < n * vd
-  element_below j low some = elim (cases_lt (j / k) (n * vd)) [
-    | inl h ↦ h
-    | inr h ↦
-        let far : k * (n * vd) ≤ k * (j / k) = mul-le-mul_left k h in
-        absurd (omega (arith, place k n vd 0 e, mul-zero k, div-add-mod j k, far, low))
-  ]
+  element_below j low some = (div-lt_iff_lt-mul some).1 (omega (arith, place k n vd 0 e, mul-zero k, mul_comm k (n * vd), low))
 
   element_above : (j : ℕ) → 32 * (vd + count) ≤ j → 0 < k → n * (vd + count) ≤ j / k
-  element_above j high some = elim (cases_lt (j / k) (n * (vd + count))) [
-    | inl h ↦
-        let far : k * suc (j / k) ≤ k * (n * (vd + count)) = mul-le-mul_left k h in
-        absurd (omega (arith, place k n (vd + count) 0 e, mul-zero k, mul-suc k (j / k), div-add-mod j k, mod-lt j some, far, high))
-    | inr h ↦ h
-  ]
+  element_above j high some = (le-div_iff_mul-le some).1 (omega (arith, place k n (vd + count) 0 e, mul-zero k, mul_comm k (n * (vd + count)), high))
 
   past : (j : ℕ) → ((i : ℕ) → n * count ≤ i → changes i ≡ false) → n * (vd + count) ≤ j → test_from (n * vd) changes j ≡ false
   past j none h =
@@ -213,12 +199,4 @@ turned_results g n vd number op vs2 from x body fill_masked_off fill_tail count 
     (writes_same k changes (is_changed body fill_masked_off fill_tail) numbers numbers (group_of file vd g.emul) (group_of new vd g.emul) written
     (λ i h.
     let l : k * i < k * count = omega (arith, long_before k n vd regs changes numbers file new e fits was, whole, h) in
-    same_tail (is_active body i) fill_tail (fill_masked_off && (in_body body i && not (is_enabled body i))) body.end count i tail (below i l)) (λ i h. refl))
-  where
-    below : (i : ℕ) → width_bytes g.width * i < width_bytes g.width * count → i < count
-    below i h = elim (cases_lt i count) [
-      | inl l ↦ l
-      | inr far ↦
-          let up : width_bytes g.width * count ≤ width_bytes g.width * i = mul-le-mul_left (width_bytes g.width) far in
-          absurd (omega (arith, up, h))
-    ]
+    same_tail (is_active body i) fill_tail (fill_masked_off && (in_body body i && not (is_enabled body i))) body.end count i tail (lt_of_mul-lt-mul_left k l)) (λ i h. refl))

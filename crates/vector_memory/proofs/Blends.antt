@@ -26,7 +26,7 @@ use Rattle.vector_memory.specs.SegmentRoom.{place_in}
 use Rattle.vector_memory.specs.SpanAccess.{IsBlend, part_of, span_access, span_transfers}
 use Rattle.vector_memory.specs.declared.spans.Span.{Span}
 use Rattle.vector_memory.proofs.BlockMoves.{put_same}
-use Rattle.vector_memory.proofs.FieldSteps.{Apart, each_more, each_none, field_more, fields_loaded, fields_stored, load_active, load_filled, load_kept, loads_apart, no_field, store_active, store_kept, stores_apart}
+use Rattle.vector_memory.proofs.FieldSteps.{Apart, field_more, fields_loaded, fields_stored, load_active, load_filled, load_kept, loads_apart, no_field, steps_to, store_active, store_kept, stores_apart}
 use Rattle.vector_memory.proofs.SpanMoves.{field_begins, fields_apart, field_inside, field_read, put_part}
 
 -- the bytes of the number that bytes make
@@ -40,22 +40,17 @@ number_back k ys long below =
 
 ones_bytes : (w : Width) → bytes_low_first 0 (width_bytes w) (ones w) ≡ replicate (width_bytes w) 255
 ones_bytes w8 = refl
-ones_bytes w16 = refl
-ones_bytes w32 = refl
-ones_bytes w64 = refl
-ones_bytes w128 = refl
+ones_bytes _ = refl
 
 -- a write inside a part that is written
 put_front : (q : ℕ) (file group xs : List ℕ) → q + length xs ≤ length group → length group ≤ length file
     → put_chunk q (put_chunk 0 file group) xs ≡ put_chunk 0 file (put_chunk q group xs)
 put_front q [] [] xs h k = refl
-put_front q [] (g ∷ gs) xs h k = absurd (omega (arith, k))
 put_front zero (z ∷ file) [] [] h k = refl
-put_front zero (z ∷ file) [] (x ∷ xs) h k = absurd (omega (arith, h))
-put_front (suc q) (z ∷ file) [] xs h k = absurd (omega (arith, h))
 put_front zero (z ∷ file) (g ∷ gs) [] h k = refl
 put_front zero (z ∷ file) (g ∷ gs) (x ∷ xs) h k = ap (λ l. x ∷ l) (put_front zero file gs xs (omega (arith, h)) (omega (arith, k)))
 put_front (suc q) (z ∷ file) (g ∷ gs) xs h k = ap (λ l. g ∷ l) (put_front q file gs xs (omega (arith, h)) (omega (arith, k)))
+put_front _ _ _ xs h k = absurd (omega (arith, h, k))
 
 pub put_within : (p q to : ℕ) (file group xs : List ℕ) → to ≡ p + q → q + length xs ≤ length group → p + length group ≤ length file
     → put_chunk to (put_chunk p file group) xs ≡ put_chunk p file (put_chunk q group xs)
@@ -189,22 +184,18 @@ module _ (m : Memory) (b : Span) (w : Width) (size : b.segments.size ≡ width_b
           ]
         ]
 
-    loads_to : (n : ℕ) → n ≤ b.stop → for_each (load_field m (span_access b) fill 0) file 0 n ≡ put_chunk p file (loaded n)
-    loads_to zero h =
-        each_none (load_field m (span_access b) fill 0) file 0 ∙ sym (put_same p (k * b.stop) file)
-        ∙ ap (put_chunk p file) (then_made fill read_number group_bytes 0 group_bytes (body_begins k (part_of b.body b.stop) fill read_number group_bytes))
-    loads_to (suc n) h =
-        let step = load_field m (span_access b) fill 0 in
-        let count : suc n ≡ n + 1 = omega arith in
-        ap (for_each step file 0) count ∙ each_more step file 0 n ∙ ap (step (for_each step file 0 n)) (zero-add n)
-        ∙ ap (λ x. step x n) (loads_to n (omega (arith, h))) ∙ loads_next n (omega (arith, h)) ∙ ap (λ x. put_chunk p file (loaded x)) (sym count)
+    loads_to : for_each (load_field m (span_access b) fill 0) file 0 b.stop ≡ put_chunk p file (loaded b.stop)
+    loads_to =
+        steps_to (load_field m (span_access b) fill 0) file (λ n. put_chunk p file (loaded n)) b.stop
+        (sym (put_same p (k * b.stop) file) ∙ ap (put_chunk p file) (then_made fill read_number group_bytes 0 group_bytes (body_begins k (part_of b.body b.stop) fill read_number group_bytes)))
+        loads_next b.stop (omega arith)
 
     -- what a blend of the elements leaves is what a loop does
     pub blend_loaded : (new : List ℕ) → Writes k (is_changed (part_of b.body b.stop) fill false) read_number group_bytes new
         → put_chunk p file new ≡ registers_loaded m (place_in b.segments) file (span_transfers b fill)
     blend_loaded new h =
         let a = span_access b in
-        ap (put_chunk p file) (all_made fill read_number group_bytes new h) ∙ sym (loads_to b.stop (omega arith))
+        ap (put_chunk p file) (all_made fill read_number group_bytes new h) ∙ sym loads_to
         ∙ one_field (load_field m a fill) (loads_apart m a fill b.stop b.span.room.room b.segments.fields) file
         ∙ fields_loaded m a fill (b.stop - b.body.start) b.body.start file
 
@@ -250,24 +241,17 @@ module _ (m : Memory) (b : Span) (w : Width) (size : b.segments.size ≡ width_b
               sym (store_kept file a 0 n (put_bytes m b.address (stored_in n)) off) ∙ ap (put_bytes m b.address) (then_made false write_number bytes (n + 1) _ next)
         ]
 
-    stores_to : (n : ℕ) → n ≤ b.stop
-        → for_each (store_field file (span_access b) 0) (put_bytes m b.address bytes) 0 n ≡ put_bytes m b.address (stored_in n)
-    stores_to zero h =
-        each_none (store_field file (span_access b) 0) (put_bytes m b.address bytes) 0
-        ∙ ap (put_bytes m b.address) (then_made false write_number bytes 0 bytes (body_begins k (part_of b.body b.stop) false write_number bytes))
-    stores_to (suc n) h =
-        let step = store_field file (span_access b) 0 in
-        let old = put_bytes m b.address bytes in
-        let more : suc n ≡ n + 1 = omega arith in
-        ap (for_each step old 0) more ∙ each_more step old 0 n ∙ ap (step (for_each step old 0 n)) (zero-add n)
-        ∙ ap (λ x. step x n) (stores_to n (omega (arith, h))) ∙ stores_next n (omega (arith, h)) ∙ ap (λ x. put_bytes m b.address (stored_in x)) (sym more)
+    stores_to : for_each (store_field file (span_access b) 0) (put_bytes m b.address bytes) 0 b.stop ≡ put_bytes m b.address (stored_in b.stop)
+    stores_to =
+        steps_to (store_field file (span_access b) 0) (put_bytes m b.address bytes) (λ n. put_bytes m b.address (stored_in n)) b.stop
+        (ap (put_bytes m b.address) (then_made false write_number bytes 0 bytes (body_begins k (part_of b.body b.stop) false write_number bytes))) stores_next b.stop (omega arith)
 
     pub blend_stored : (new : List ℕ) → Writes k (is_changed (part_of b.body b.stop) false false) write_number bytes new
         → put_bytes m b.address new
         ≡ memory_stored (put_bytes m b.address bytes) (place_in b.segments) file (span_transfers b false)
     blend_stored new h =
         let a = span_access b in
-        ap (put_bytes m b.address) (all_made false write_number bytes new h) ∙ sym (stores_to b.stop (omega arith))
+        ap (put_bytes m b.address) (all_made false write_number bytes new h) ∙ sym stores_to
         ∙ one_field (store_field file a)
         (stores_apart file a 0 b.stop (λ f h i j less some low order end. fields_apart b f h i j less some (omega (arith, is.first)) order end))
         (put_bytes m b.address bytes)

@@ -1,12 +1,12 @@
 -- That fields may be moved one after another, each for all indices, where what they change lies apart.
-use Rattle.std.proofs.Common.{◌≡◌, ℕ, zero, suc, ◌+◌, ◌-◌, ◌*◌, ◌<◌, ◌≤◌, Bool, true, false, cond, List, [], ◌∷◌, length, get_or, drop, length-take, refl, sym, ap, ◌∙◌, inl, inr, ◌⊎◌, arith}
+use Rattle.std.proofs.Common.{◌≡◌, ℕ, zero, suc, ◌+◌, ◌-◌, ◌*◌, ◌<◌, ◌≤◌, Bool, true, false, cond, List, [], ◌∷◌, ◌++◌, length, get_or, drop, length-take, refl, sym, ap, ◌∙◌, inl, inr, ◌⊎◌, arith, zero-add}
 use Rattle.std.specs.Prelude.{replicate}
 use Rattle.std.specs.Simd.Lanes.{chunk, put_chunk}
 use Rattle.std.proofs.lemmas.Bool.{cases_Bool, cases_lt}
 use Rattle.std.proofs.lemmas.List.{length-replicate}
 use Rattle.std.proofs.lemmas.Nat.{mul-le}
 use Rattle.std.proofs.Math.Nat.{mul_comm}
-use Rattle.rv_model.specs.accesses.Transfers.{registers_loaded, memory_stored, transfers}
+use Rattle.rv_model.specs.accesses.Transfers.{Plan, Transfer, registers_loaded, memory_stored, transfers}
 use Rattle.rv_model.specs.accesses.VectorAccess.{VectorAccess, filled_segment, element_start, plan, moved_segment}
 use Rattle.rv_model.specs.declared.vector.sizes.TheConstants.{VLENB}
 use Rattle.rv_model.specs.elements.Elements.{is_enabled}
@@ -30,15 +30,13 @@ module _ {X : Type 0} where
       let count : suc n + 1 ≡ suc (n + 1) = omega arith in
       ap (for_each step x i) count ∙ each_more step (step x i) (i + 1) n ∙ ap (step (for_each step (step x i) (i + 1) n)) (omega arith)
 
-  -- up to an index that the steps don't come to, and up to the one after it
-  pub each_from : (step : X → ℕ → X) (x : X) (i j : ℕ) → j ≤ i → for_each step x i (j - i) ≡ x
-  each_from step x i j h = let none : j - i ≡ 0 = omega (arith, h) in ap (for_each step x i) none ∙ each_none step x i
-
-  pub each_next : (step : X → ℕ → X) (x : X) (i j : ℕ) → i ≤ j → for_each step x i ((j + 1) - i) ≡ step (for_each step x i (j - i)) j
-  each_next step x i j h =
-      let count : (j + 1) - i ≡ (j - i) + 1 = omega (arith, h) in
-      let last : i + (j - i) ≡ j = omega (arith, h) in
-      ap (for_each step x i) count ∙ each_more step x i (j - i) ∙ ap (step (for_each step x i (j - i))) last
+  -- what they come to, where each goes on from what those before it came to
+  pub steps_to : (step : X → ℕ → X) (x : X) (made : ℕ → X) (end : ℕ) → x ≡ made 0 → ((n : ℕ) → n < end → step (made n) n ≡ made (n + 1)) → (n : ℕ) → n ≤ end → for_each step x 0 n ≡ made n
+  steps_to step x made end start next zero h = each_none step x 0 ∙ start
+  steps_to step x made end start next (suc n) h =
+      let count : suc n ≡ n + 1 = omega arith in
+      ap (for_each step x 0) count ∙ each_more step x 0 n ∙ ap (step (for_each step x 0 n)) (zero-add n)
+      ∙ ap (λ y. step y n) (steps_to step x made end start next n (omega (arith, h))) ∙ next n (omega (arith, h)) ∙ ap made (sym count)
 
   -- where a later field of an index, and an earlier one of a later index, may change places
   abbrev pub Apart : (ℕ → X → ℕ → X) → ℕ → ℕ → ℕ → Type 0
@@ -82,6 +80,22 @@ module _ {X : Type 0} where
   no_field one x i zero = refl
   no_field one x i (suc n) = no_field one x (i + 1) n
 
+  -- all fields of an index, where each of them goes on from those before it
+  each_is : (one : ℕ → X → ℕ → X) (x : X) (i : ℕ) (run : ℕ → X) → x ≡ run 0 → ((f : ℕ) → one f (run f) i ≡ run (f + 1)) → (f : ℕ) → each_field one f x i ≡ run f
+  unfolding each_field
+  each_is one x i run start step zero = start
+  each_is one x i run start step (suc f) =
+      let count : f + 1 ≡ suc f = omega arith in
+      ap (λ y. one f y i) (each_is one x i run start step f) ∙ step f ∙ ap run count
+
+  -- all fields of all indices, where those of an index are its transfers
+  all_moved : (step : X → ℕ → X) (run : X → List Transfer → X) (each : Plan) → ((x : X) → run x [] ≡ x) → ((x : X) (ts us : List Transfer) → run x (ts ++ us) ≡ run (run x ts) us)
+      → ((x : X) (i : ℕ) → step x i ≡ run x (each i)) → (n i : ℕ) (x : X) → for_each step x i n ≡ run x (transfers each i n)
+  unfolding for_each transfers
+  all_moved step run each none append same zero i x = sym (none x)
+  all_moved step run each none append same (suc n) i x =
+      all_moved step run each none append same n (i + 1) (step x i) ∙ ap (λ y. run y (transfers each (i + 1) n)) (same x i) ∙ sym (append x (each i) (transfers each (i + 1) n))
+
 -- ---- a load
 
 module _ (m : Memory) (a : VectorAccess) (fill : Bool) where
@@ -99,62 +113,38 @@ module _ (m : Memory) (a : VectorAccess) (fill : Bool) where
   unfolding load_field
   off_kept f file i h e = rw (h, e) refl
 
-  fields_enabled : (i : ℕ) → is_enabled a.body i ≡ true → (f : ℕ) (file : List ℕ)
-      → each_field (load_field m a fill) f file i ≡ registers_loaded m (element_start a) file (moved_segment i (a.address i) a.size f)
-  unfolding each_field
-  fields_enabled i h zero file = loaded_start m (element_start a) file i (a.address i) a.size
-  fields_enabled i h (suc f) file =
-      let count : f + 1 ≡ suc f = omega arith in
-      enabled_field f (each_field (load_field m a fill) f file i) i h
-      ∙ ap (λ x. put_chunk (field_place a f i) x (bytes_at m (field_address a f i) a.size)) (fields_enabled i h f file)
-      ∙ loaded_field m (element_start a) file i (a.address i) a.size f
-      ∙ ap (λ k. registers_loaded m (element_start a) file (moved_segment i (a.address i) a.size k)) count
-
-  fields_filled : (i : ℕ) → is_enabled a.body i ≡ false → fill ≡ true → (f : ℕ) (file : List ℕ)
-      → each_field (load_field m a fill) f file i ≡ registers_loaded m (element_start a) file (filled_segment i a.size f)
-  unfolding each_field
-  fields_filled i h e zero file = filled_start m (element_start a) file i a.size
-  fields_filled i h e (suc f) file =
-      let count : f + 1 ≡ suc f = omega arith in
-      off_filled f (each_field (load_field m a fill) f file i) i h e
-      ∙ ap (λ x. put_chunk (field_place a f i) x (replicate a.size 255)) (fields_filled i h e f file)
-      ∙ filled_field m (element_start a) file i a.size f
-      ∙ ap (λ k. registers_loaded m (element_start a) file (filled_segment i a.size k)) count
-
-  fields_kept : (i : ℕ) → is_enabled a.body i ≡ false → fill ≡ false → (f : ℕ) (file : List ℕ) → each_field (load_field m a fill) f file i ≡ file
-  unfolding each_field
-  fields_kept i h e zero file = refl
-  fields_kept i h e (suc f) file = off_kept f (each_field (load_field m a fill) f file i) i h e ∙ fields_kept i h e f file
-
   fields_planned : (file : List ℕ) (i : ℕ) → each_field (load_field m a fill) a.fields file i ≡ registers_loaded m (element_start a) file (plan a fill i)
   fields_planned file i = elim (cases_Bool (is_enabled a.body i)) [
-    | inl h ↦ fields_enabled i h a.fields file ∙ sym (ap (registers_loaded m (element_start a) file) (plan_active a fill i h))
+    | inl h ↦
+        let run : ℕ → List ℕ = λ f. registers_loaded m (element_start a) file (moved_segment i (a.address i) a.size f) in
+        each_is (load_field m a fill) file i run (loaded_start m (element_start a) file i (a.address i) a.size)
+        (λ f. enabled_field f (run f) i h ∙ loaded_field m (element_start a) file i (a.address i) a.size f) a.fields
+        ∙ sym (ap (registers_loaded m (element_start a) file) (plan_active a fill i h))
     | inr h ↦ elim (cases_Bool fill) [
-      | inl e ↦ fields_filled i h e a.fields file ∙ sym (ap (registers_loaded m (element_start a) file) (plan_filled a fill i h e))
-      | inr e ↦ fields_kept i h e a.fields file ∙ sym (ap (registers_loaded m (element_start a) file) (plan_kept a fill i h e) ∙ loaded_none m (element_start a) file)
+      | inl e ↦
+          let run : ℕ → List ℕ = λ f. registers_loaded m (element_start a) file (filled_segment i a.size f) in
+          each_is (load_field m a fill) file i run (filled_start m (element_start a) file i a.size)
+          (λ f. off_filled f (run f) i h e ∙ filled_field m (element_start a) file i a.size f) a.fields
+          ∙ sym (ap (registers_loaded m (element_start a) file) (plan_filled a fill i h e))
+      | inr e ↦
+          each_is (load_field m a fill) file i (λ f. file) refl (λ f. off_kept f file i h e) a.fields
+          ∙ sym (ap (registers_loaded m (element_start a) file) (plan_kept a fill i h e) ∙ loaded_none m (element_start a) file)
     ]
   ]
 
-  -- all fields of all indices
   pub fields_loaded : (n i : ℕ) (file : List ℕ)
       → for_each (each_field (load_field m a fill) a.fields) file i n ≡ registers_loaded m (element_start a) file (transfers (plan a fill) i n)
-  unfolding for_each transfers
-  fields_loaded zero i file = sym (loaded_none m (element_start a) file)
-  fields_loaded (suc n) i file =
-      fields_loaded n (i + 1) (each_field (load_field m a fill) a.fields file i)
-      ∙ ap (λ x. registers_loaded m (element_start a) x (transfers (plan a fill) (i + 1) n)) (fields_planned file i)
-      ∙ sym (loaded-append m (element_start a) file (plan a fill i) (transfers (plan a fill) (i + 1) n))
+  fields_loaded =
+      all_moved (each_field (load_field m a fill) a.fields) (registers_loaded m (element_start a)) (plan a fill) (loaded_none m (element_start a)) (loaded-append m (element_start a)) fields_planned
 
   -- one field of an index, as a loop comes to it
   pub load_active : (f i at : ℕ) (file bytes : List ℕ) → is_enabled a.body i ≡ true → at ≡ field_place a f i → bytes ≡ bytes_at m (field_address a f i) a.size
       → put_chunk at file bytes ≡ load_field m a fill f file i
-  load_active f i at file bytes h place read =
-      ap (λ p. put_chunk p file bytes) place ∙ ap (put_chunk (field_place a f i) file) read ∙ sym (enabled_field f file i h)
+  load_active f i at file bytes h place read = rw (place, read) (sym (enabled_field f file i h))
 
   pub load_filled : (f i at : ℕ) (file bytes : List ℕ) → is_enabled a.body i ≡ false → fill ≡ true → at ≡ field_place a f i → bytes ≡ replicate a.size 255
       → put_chunk at file bytes ≡ load_field m a fill f file i
-  load_filled f i at file bytes h e place ones =
-      ap (λ p. put_chunk p file bytes) place ∙ ap (put_chunk (field_place a f i) file) ones ∙ sym (off_filled f file i h e)
+  load_filled f i at file bytes h e place ones = rw (place, ones) (sym (off_filled f file i h e))
 
   pub load_kept : (f i : ℕ) (file : List ℕ) → is_enabled a.body i ≡ false → fill ≡ false → file ≡ load_field m a fill f file i
   load_kept f i file h e = sym (off_kept f file i h e)
@@ -170,10 +160,9 @@ put_low zero q (z ∷ file) [] ys h = none q (z ∷ file)
 
     none : (k : ℕ) (l : List ℕ) → put_chunk zero (put_chunk k l ys) [] ≡ put_chunk k (put_chunk zero l []) ys
     none k l = empty (put_chunk k l ys) ∙ sym (ap (λ x. put_chunk k x ys) (empty l))
-put_low zero zero (z ∷ file) (x ∷ xs) ys h = absurd (omega (arith, h))
 put_low zero (suc q) (z ∷ file) (x ∷ xs) ys h = ap (λ l. x ∷ l) (put_low zero q file xs ys (omega (arith, h)))
-put_low (suc p) zero (z ∷ file) xs ys h = absurd (omega (arith, h))
 put_low (suc p) (suc q) (z ∷ file) xs ys h = ap (λ l. z ∷ l) (put_low p q file xs ys (omega (arith, h)))
+put_low _ _ _ xs ys h = absurd (omega (arith, h))
 
 -- what is loaded of a field keeps the order of fields
 module _ (m : Memory) (a : VectorAccess) (fill : Bool) (top : ℕ) (room : a.size * top ≤ VLENB * a.field_registers) where
@@ -233,76 +222,54 @@ module _ (file : List ℕ) (a : VectorAccess) where
   unfolding store_field
   stores_none f m i h = rw h refl
 
-  fields_stores : (i : ℕ) → is_enabled a.body i ≡ true → (f : ℕ) (m : Memory)
-      → each_field (store_field file a) f m i ≡ memory_stored m (element_start a) file (moved_segment i (a.address i) a.size f)
-  unfolding each_field
-  fields_stores i h zero m = stored_start m (element_start a) file i (a.address i) a.size
-  fields_stores i h (suc f) m =
-      let count : f + 1 ≡ suc f = omega arith in
-      stores f (each_field (store_field file a) f m i) i h
-      ∙ ap (λ x. put_bytes x (field_address a f i) (chunk (field_place a f i) a.size file)) (fields_stores i h f m)
-      ∙ stored_field m (element_start a) file i (a.address i) a.size f
-      ∙ ap (λ k. memory_stored m (element_start a) file (moved_segment i (a.address i) a.size k)) count
-
-  fields_none : (i : ℕ) → is_enabled a.body i ≡ false → (f : ℕ) (m : Memory) → each_field (store_field file a) f m i ≡ m
-  unfolding each_field
-  fields_none i h zero m = refl
-  fields_none i h (suc f) m = stores_none f (each_field (store_field file a) f m i) i h ∙ fields_none i h f m
-
   fields_of : (m : Memory) (i : ℕ) → each_field (store_field file a) a.fields m i ≡ memory_stored m (element_start a) file (plan a false i)
   fields_of m i = elim (cases_Bool (is_enabled a.body i)) [
-    | inl h ↦ fields_stores i h a.fields m ∙ sym (ap (memory_stored m (element_start a) file) (plan_active a false i h))
-    | inr h ↦ fields_none i h a.fields m ∙ sym (ap (memory_stored m (element_start a) file) (plan_kept a false i h refl) ∙ stored_none m (element_start a) file)
+    | inl h ↦
+        let run : ℕ → Memory = λ f. memory_stored m (element_start a) file (moved_segment i (a.address i) a.size f) in
+        each_is (store_field file a) m i run (stored_start m (element_start a) file i (a.address i) a.size)
+        (λ f. stores f (run f) i h ∙ stored_field m (element_start a) file i (a.address i) a.size f) a.fields
+        ∙ sym (ap (memory_stored m (element_start a) file) (plan_active a false i h))
+    | inr h ↦
+        each_is (store_field file a) m i (λ f. m) refl (λ f. stores_none f m i h) a.fields
+        ∙ sym (ap (memory_stored m (element_start a) file) (plan_kept a false i h refl) ∙ stored_none m (element_start a) file)
   ]
 
-  -- all fields of all indices
   pub fields_stored : (n i : ℕ) (m : Memory)
       → for_each (each_field (store_field file a) a.fields) m i n ≡ memory_stored m (element_start a) file (transfers (plan a false) i n)
-  unfolding for_each transfers
-  fields_stored zero i m = sym (stored_none m (element_start a) file)
-  fields_stored (suc n) i m =
-      fields_stored n (i + 1) (each_field (store_field file a) a.fields m i)
-      ∙ ap (λ x. memory_stored x (element_start a) file (transfers (plan a false) (i + 1) n)) (fields_of m i)
-      ∙ sym (stored-append m (element_start a) file (plan a false i) (transfers (plan a false) (i + 1) n))
+  fields_stored =
+      all_moved (each_field (store_field file a) a.fields) (λ m ts. memory_stored m (element_start a) file ts) (plan a false)
+      (λ m. stored_none m (element_start a) file) (λ m ts us. stored-append m (element_start a) file ts us) fields_of
 
   -- one field of an index, as a loop comes to it
   pub store_active : (f i at : ℕ) (m : Memory) (bytes : List ℕ) → is_enabled a.body i ≡ true → at ≡ field_address a f i
       → bytes ≡ chunk (field_place a f i) a.size file → put_bytes m at bytes ≡ store_field file a f m i
-  store_active f i at m bytes h address part =
-      ap (λ p. put_bytes m p bytes) address ∙ ap (put_bytes m (field_address a f i)) part ∙ sym (stores f m i h)
+  store_active f i at m bytes h address part = rw (address, part) (sym (stores f m i h))
 
   pub store_kept : (f i : ℕ) (m : Memory) → is_enabled a.body i ≡ false → m ≡ store_field file a f m i
   store_kept f i m h = sym (stores_none f m i h)
 
 -- two writes that lie apart, in either order
 put_below : (m : Memory) (p q : ℕ) (xs ys : List ℕ) → p + length xs ≤ q → put_bytes (put_bytes m q ys) p xs ≡ put_bytes (put_bytes m p xs) q ys
-put_below m p q xs ys h = same_memory (put_bytes (put_bytes m q ys) p xs) (put_bytes (put_bytes m p xs) q ys) (λ x. elim (cases_lt x q) [
-  | inl low ↦
-      let right = get-put_bytes_outside (put_bytes m p xs) q ys x (inl low) in
-      let before = get-put_bytes_outside m q ys x (inl low) in
-      elim (cases_lt x p) [
-        | inl below ↦ get-put_bytes_outside (put_bytes m q ys) p xs x (inl below) ∙ before ∙ sym (right ∙ get-put_bytes_outside m p xs x (inl below))
-        | inr from ↦ elim (cases_lt x (p + length xs)) [
-          | inr above ↦ get-put_bytes_outside (put_bytes m q ys) p xs x (inr above) ∙ before ∙ sym (right ∙ get-put_bytes_outside m p xs x (inr above))
-          | inl inside ↦
-              let at : x ≡ p + (x - p) = omega (arith, from) in
-              let less : x - p < length xs = omega (arith, from, inside) in
-              get-put_bytes_within (put_bytes m q ys) p xs (x - p) x less at ∙ ap (with_byte (get_or xs (x - p) 0)) before
-              ∙ sym (right ∙ get-put_bytes_within m p xs (x - p) x less at)
-        ]
-      ]
-  | inr high ↦
-      let left = get-put_bytes_outside (put_bytes m q ys) p xs x (inr (omega (arith, h, high))) in
-      let before = get-put_bytes_outside m p xs x (inr (omega (arith, h, high))) in
-      elim (cases_lt x (q + length ys)) [
-        | inr above ↦ left ∙ get-put_bytes_outside m q ys x (inr above) ∙ sym (get-put_bytes_outside (put_bytes m p xs) q ys x (inr above) ∙ before)
-        | inl inside ↦
-            let at : x ≡ q + (x - q) = omega (arith, high) in
-            let less : x - q < length ys = omega (arith, high, inside) in
-            left ∙ get-put_bytes_within m q ys (x - q) x less at
-            ∙ sym (get-put_bytes_within (put_bytes m p xs) q ys (x - q) x less at ∙ ap (with_byte (get_or ys (x - q) 0)) before)
-      ]
+put_below m p q xs ys h = same_memory (put_bytes (put_bytes m q ys) p xs) (put_bytes (put_bytes m p xs) q ys) (λ x. elim (place x p (length xs)) [
+  | inl out ↦ elim (place x q (length ys)) [
+    | inl away ↦
+        get-put_bytes_outside (put_bytes m q ys) p xs x out ∙ get-put_bytes_outside m q ys x away
+        ∙ sym (get-put_bytes_outside (put_bytes m p xs) q ys x away ∙ get-put_bytes_outside m p xs x out)
+    | inr here ↦
+        get-put_bytes_outside (put_bytes m q ys) p xs x out ∙ get-put_bytes_within m q ys (x - q) x here.0 here.1
+        ∙ sym (get-put_bytes_within (put_bytes m p xs) q ys (x - q) x here.0 here.1 ∙ ap (with_byte (get_or ys (x - q) 0)) (get-put_bytes_outside m p xs x out))
+  ]
+  | inr here ↦
+      let low : x < q = omega (arith, here.0, here.1, h) in
+      get-put_bytes_within (put_bytes m q ys) p xs (x - p) x here.0 here.1 ∙ ap (with_byte (get_or xs (x - p) 0)) (get-put_bytes_outside m q ys x (inl low))
+      ∙ sym (get-put_bytes_outside (put_bytes m p xs) q ys x (inl low) ∙ get-put_bytes_within m p xs (x - p) x here.0 here.1)
 ])
+  where
+    place : (x a n : ℕ) → ((x < a) ⊎ (a + n ≤ x)) ⊎ ((x - a < n) × (x ≡ a + (x - a)))
+    place x a n = elim (cases_lt x a) [
+      | inl low ↦ inl (inl low)
+      | inr from ↦ elim (cases_lt x (a + n)) [ inl high ↦ inr (omega arith, omega arith) | inr past ↦ inl (inr past) ]
+    ]
 
 -- what is stored of a field keeps the order of fields, where the segments lie apart
 module _ (file : List ℕ) (a : VectorAccess) (low top : ℕ)

@@ -17,9 +17,7 @@ use Rattle.vector_memory.specs.declared.segments.Segments.{Segments}
 
 pub element_most : (s : Sew) → width_bytes (sew_width s) ≤ 8
 element_most E8 = omega arith
-element_most E16 = omega arith
-element_most E32 = omega arith
-element_most E64 = omega arith
+element_most _ = omega arith
 
 -- in groups of a vector type
 pub segments_room : (s : Segments) (g : GroupType) (vd nf vl : ℕ) → SegmentsInside g vd nf vl → nf + 1 ≤ 8 → width_bytes g.width ≤ 8
@@ -30,21 +28,8 @@ segments_room s g vd nf vl inside fields size is =
 
 whole_fits : (count : RegisterCount) (w : Eew) → width_bytes (sew_width (element_width w)) * whole_length count w ≤ VLENB * register_count count
 whole_fits One width.E8 = omega arith
-whole_fits One width.E16 = omega arith
-whole_fits One width.E32 = omega arith
-whole_fits One width.E64 = omega arith
-whole_fits Two width.E8 = omega arith
-whole_fits Two width.E16 = omega arith
-whole_fits Two width.E32 = omega arith
-whole_fits Two width.E64 = omega arith
-whole_fits Four width.E8 = omega arith
-whole_fits Four width.E16 = omega arith
-whole_fits Four width.E32 = omega arith
-whole_fits Four width.E64 = omega arith
-whole_fits Eight width.E8 = omega arith
-whole_fits Eight width.E16 = omega arith
-whole_fits Eight width.E32 = omega arith
-whole_fits Eight width.E64 = omega arith
+whole_fits _ width.E8 = omega arith
+whole_fits _ _ = omega arith
 
 -- in whole registers
 pub whole_room : (s : Segments) (count : RegisterCount) (w : Eew) (vd : ℕ) → vd + register_count count ≤ VECTOR_REGISTERS

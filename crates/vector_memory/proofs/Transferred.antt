@@ -99,15 +99,11 @@ under_type u vl k h is = subst (λ x. IsLength x vl) is h
 
 store_length : (count : RegisterCount) → whole_length count E8 ≡ register_count count * VLENB
 store_length One = refl
-store_length Two = refl
-store_length Four = refl
-store_length Eight = refl
+store_length _ = refl
 
 most_registers : (count : RegisterCount) → register_count count ≤ 8
 most_registers One = omega arith
-most_registers Two = omega arith
-most_registers Four = omega arith
-most_registers Eight = omega arith
+most_registers _ = omega arith
 
 whole_most : (count : RegisterCount) (width : Eew) → whole_length count width ≤ GROUP_BYTES
 whole_most count width = omega (arith, fewer (element_width width) (register_count count * VLENB), most_registers count)
@@ -192,7 +188,4 @@ pub transfers_nothing : (v : VState) (x : Scalar) (i : AccessInstr) (limit : ℕ
 unfolding access_run
 transfers_nothing v x (UnitStride op width nf vd rs1 vm) limit fill m is h = grouped_none op width nf vd _ vm v v.conf.vtype limit fill m _ is
 transfers_nothing v x (Strided d width nf vd rs1 rs2 vm) limit fill m is h = grouped_none (operation d) width nf vd _ vm v v.conf.vtype limit fill m _ is
-transfers_nothing v x (Indexed d order width nf vd rs1 vs2 vm) limit fill m is h = absurd (cc)
-transfers_nothing v x (WholeLoad count width vd rs1) limit fill m is h = absurd (cc)
-transfers_nothing v x (WholeStore count vd rs1) limit fill m is h = absurd (cc)
-transfers_nothing v x (MaskAccess d vd rs1) limit fill m is h = absurd (cc)
+transfers_nothing v x _ limit fill m is h = absurd (cc)

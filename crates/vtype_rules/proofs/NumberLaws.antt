@@ -13,33 +13,19 @@ use Rattle.rv_model.specs.vector.TypeRules.{vtype_number, vector_type, sew_numbe
 
 sew_again : (sew : Sew) → sew_with_number (sew_number sew) ≡ Some sew
 sew_again E8 = refl
-sew_again E16 = refl
-sew_again E32 = refl
-sew_again E64 = refl
+sew_again _ = refl
 
 lmul_again : (lmul : Lmul) → lmul_with_number (lmul_number lmul) ≡ Some lmul
 lmul_again M1 = refl
-lmul_again M2 = refl
-lmul_again M4 = refl
-lmul_again M8 = refl
-lmul_again Mf8 = refl
-lmul_again Mf4 = refl
-lmul_again Mf2 = refl
+lmul_again _ = refl
 
 sew_small : (sew : Sew) → sew_number sew < 8
 sew_small E8 = omega arith
-sew_small E16 = omega arith
-sew_small E32 = omega arith
-sew_small E64 = omega arith
+sew_small _ = omega arith
 
 lmul_small : (lmul : Lmul) → lmul_number lmul < 8
 lmul_small M1 = omega arith
-lmul_small M2 = omega arith
-lmul_small M4 = omega arith
-lmul_small M8 = omega arith
-lmul_small Mf8 = omega arith
-lmul_small Mf4 = omega arith
-lmul_small Mf2 = omega arith
+lmul_small _ = omega arith
 
 flag_again : (b : Bool) → (flag_bit b == 1) ≡ b
 flag_again true = refl

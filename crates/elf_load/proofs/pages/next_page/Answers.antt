@@ -20,11 +20,8 @@ loop-number-init c = record {
   bound = c.first_touched-next.ensures.bound;
 }
 
-pub program_header-requires-clause-file : goal.program_header-requires-clause-file
-program_header-requires-clause-file c = (sound_headers c.args.image.now c.requires).file
-
-pub program_header-requires-clause-table : goal.program_header-requires-clause-table
-program_header-requires-clause-table c = (sound_headers c.args.image.now c.requires).table c.loop-number.number (omega arith)
+pub program_header-requires : goal.program_header-requires
+program_header-requires c = let headers = sound_headers c.args.image.now c.requires in record { file = headers.file; table = headers.table c.loop-number.number (omega arith) }
 
 pub first_touched-requires : goal.first_touched-requires
 first_touched-requires c = subst (λ (h : ProgramHeader). EndsInMemory h) (sym c.program_header.ensures) (header_ends c.args.image.now c.loop-number.number c.requires (omega arith))

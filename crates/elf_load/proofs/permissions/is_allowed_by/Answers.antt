@@ -20,11 +20,8 @@ header_count-requires c = (sound_headers c.args.image.now c.requires.sound).file
 pub loop-number-init : goal.loop-number-init
 loop-number-init c = any_none (grants c.args.flag c.args.page) c.args.image.now
 
-pub program_header-requires-clause-file : goal.program_header-requires-clause-file
-program_header-requires-clause-file c = (sound_headers c.args.image.now c.requires.sound).file
-
-pub program_header-requires-clause-table : goal.program_header-requires-clause-table
-program_header-requires-clause-table c = (sound_headers c.args.image.now c.requires.sound).table c.loop-number.number (omega arith)
+pub program_header-requires : goal.program_header-requires
+program_header-requires c = let headers = sound_headers c.args.image.now c.requires.sound in record { file = headers.file; table = headers.table c.loop-number.number (omega arith) }
 
 pub grants-requires-in-loop-number-clause-ends : goal.grants-requires-in-loop-number-clause-ends
 grants-requires-in-loop-number-clause-ends c =

@@ -23,20 +23,14 @@ loop-set-init g c =
 
 pub load-requires : goal.load-requires
 load-requires g c =
-    let k : ℕ = width_bytes g.L.Lane.width in
-    let some : 0 < c.loop-set.set = omega (arith, c.loop-set-test.true) in
-    let few : c.loop-set.set < 2 ^ 64 = omega (arith, c.loop-set.auto.set-fits.fits) in
-    let low = lowest c.args.select.now c.loop-set.set c.loop-set.next c.args.to some few c.loop-set.invariant.told in
-    room_for k (c.loop-set.next + trailing_zeros w64 c.loop-set.set) c.args.to (length c.args.a.now) low.0 c.requires.operand
+    let low = lowest c.args.select.now c.loop-set.set c.loop-set.next c.args.to (omega (arith, c.loop-set-test.true)) (omega (arith, c.loop-set.auto.set-fits.fits)) c.loop-set.invariant.told in
+    room_for (width_bytes g.L.Lane.width) (c.loop-set.next + trailing_zeros w64 c.loop-set.set) c.args.to (length c.args.a.now) low.0 c.requires.operand
 
 pub store-requires : goal.store-requires
 store-requires g c =
-    let k : ℕ = width_bytes g.L.Lane.width in
-    let some : 0 < c.loop-set.set = omega (arith, c.loop-set-test.true) in
-    let few : c.loop-set.set < 2 ^ 64 = omega (arith, c.loop-set.auto.set-fits.fits) in
-    let low = lowest c.args.select.now c.loop-set.set c.loop-set.next c.args.to some few c.loop-set.invariant.told in
+    let low = lowest c.args.select.now c.loop-set.set c.loop-set.next c.args.to (omega (arith, c.loop-set-test.true)) (omega (arith, c.loop-set.auto.set-fits.fits)) c.loop-set.invariant.told in
     let inside : c.loop-set.count < c.args.to = omega (arith, low.0, c.loop-set.invariant.few) in
-    omega (arith, room_for k c.loop-set.count c.args.to (length c.args.destination.now) inside c.requires.room, c.loop-set.invariant.sized)
+    omega (arith, room_for (width_bytes g.L.Lane.width) c.loop-set.count c.args.to (length c.args.destination.now) inside c.requires.room, c.loop-set.invariant.sized)
 
 pub loop-set-preserved : goal.loop-set-preserved
 loop-set-preserved g c =
@@ -48,9 +42,7 @@ loop-set-preserved g c =
     let count : ℕ = c.loop-set.count in
     let bytes : List ℕ = c.loop-set.destination in
     let t : ℕ = trailing_zeros w64 set in
-    let some : 0 < set = omega (arith, c.loop-set-test.true) in
-    let few : set < 2 ^ 64 = omega (arith, c.loop-set.auto.set-fits.fits) in
-    let low = lowest select set next c.args.to some few c.loop-set.invariant.told in
+    let low = lowest select set next c.args.to (omega (arith, c.loop-set-test.true)) (omega (arith, c.loop-set.auto.set-fits.fits)) c.loop-set.invariant.told in
     let inside : count < c.args.to = omega (arith, low.0, c.loop-set.invariant.few) in
     let room : k * count + k ≤ length c.args.destination.now = room_for k count c.args.to (length c.args.destination.now) inside c.requires.room in
     record {
@@ -73,10 +65,9 @@ returns g c = λ old w.
     let select : List ℕ = c.args.select.now in
     let next : ℕ = c.loop-set.next in
     let bytes : List ℕ = c.loop-set.destination in
-    let empty : c.loop-set.set ≡ 0 = omega (arith, c.loop-set-test.false) in
     let all : next + (c.args.to - next) ≡ c.args.to = omega (arith, c.loop-set.invariant.inside) in
     let done : PackedTo select number k c.args.to c.loop-set.count old bytes =
     subst (λ n. PackedTo select number k n c.loop-set.count old bytes) all
     (passed_many select number k next (c.args.to - next) c.loop-set.count old bytes
-    (none_left select c.loop-set.set next c.args.to empty c.loop-set.invariant.told) (c.loop-set.invariant.writes old w)) in
+    (none_left select c.loop-set.set next c.args.to (omega (arith, c.loop-set-test.false)) c.loop-set.invariant.told) (c.loop-set.invariant.writes old w)) in
     (done.many, done.writes)

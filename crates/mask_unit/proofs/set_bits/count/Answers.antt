@@ -1,4 +1,5 @@
-use Rattle.std.proofs.Common.{ℕ, List, ◌+◌, ◌-◌, ◌≡◌, ◌≤◌, ◌<◌, ◌&&◌, refl, Bool, true, false, ap, ◌∙◌, arith}
+use Rattle.std.proofs.Common.{ℕ, List, ◌+◌, ◌-◌, ◌≡◌, ◌&&◌, ap, ◌∙◌, arith}
+use Rattle.std.proofs.lemmas.Bool.{and_parts, false_from_ne_true}
 use Rattle.rv_model.specs.elements.Elements.{Body, is_active, mask_bit}
 use Rattle.rv_model.specs.elements.Masks.{is_set}
 use Rattle.rv_model.proofs.element_lemmas.Sets.{active_end}
@@ -13,11 +14,5 @@ returns c =
     c.from.ensures ∙ c.set_in_both.ensures
     ∙ passing_same (λ i. mask_bit c.active_bytes.result i && mask_bit bits i) (is_set body bits) 256 (λ i h. ap (λ t. t && mask_bit bits i) (c.active_bytes.ensures i h))
     ∙ ap (passing (is_set body bits)) whole
-    ∙ none_counted (is_set body bits) body.end (256 - body.end) (λ i h. beyond body bits i h)
-  where
-    beyond : (body : Body) (bits : List ℕ) (i : ℕ) → body.end ≤ i → is_set body bits i ≡ false
-    beyond body bits i h = go (is_active body i) _ (λ e. active_end body i e)
-      where
-        go : (a m : Bool) → (a ≡ true → i < body.end) → (a && m) ≡ false
-        go true m ends = let past : i < body.end = ends refl in absurd (omega (arith, past, h))
-        go false m ends = refl
+    ∙ none_counted (is_set body bits) body.end (256 - body.end)
+    (λ i h. false_from_ne_true (is_set body bits i) (λ e. absurd (omega (arith, active_end body i (and_parts (is_active body i) (mask_bit bits i) e).0, h))))

@@ -9,21 +9,16 @@ use Rattle.mask_unit.proofs.SetBits.{byte_counted, count_in_byte, passing, passi
 use Rattle.mask_unit.proofs.set_bits.counts_below.Goals as goal
 
 pub overflow_cast-below : goal.overflow_cast-below
-overflow_cast-below c =
-    let most : passing (mask_bit c.set_bytes-set.result) (8 * c.loop-q.q) ≤ 8 * c.loop-q.q = count_most _ (8 * c.loop-q.q) in
-    record { fits = omega (arith, most, c.loop-q.invariant.so_far, c.loop-q-test.true, c.end.ensures) }
+overflow_cast-below c = record { fits = omega (arith, count_most (mask_bit c.set_bytes-set.result) (8 * c.loop-q.q), c.loop-q.invariant.so_far, c.loop-q-test.true, c.end.ensures) }
 
 pub counts_in_byte-requires : goal.counts_in_byte-requires
-counts_in_byte-requires c =
-    let most : passing (mask_bit c.set_bytes-set.result) (8 * c.loop-q.q) ≤ 8 * c.loop-q.q = count_most _ (8 * c.loop-q.q) in
-    omega (arith, most, c.loop-q.invariant.so_far, c.loop-q-test.true, c.end.ensures)
+counts_in_byte-requires c = omega (arith, count_most (mask_bit c.set_bytes-set.result) (8 * c.loop-q.q), c.loop-q.invariant.so_far, c.loop-q-test.true, c.end.ensures)
 
 pub overflow_add-below : goal.overflow_add-below
 overflow_add-below c =
     let x : ℕ = get_or c.set_bytes-set.result c.loop-q.q 0 in
-    let most : passing (mask_bit c.set_bytes-set.result) (8 * c.loop-q.q) ≤ 8 * c.loop-q.q = count_most _ (8 * c.loop-q.q) in
     let few : count_ones (x % 2 ^ 8) ≤ 8 = ones-le 8 (x % 2 ^ 8) (mod-lt x (pow_pos 8)) in
-    record { fits = omega (arith, most, few, c.set_in_byte-below.ensures, c.loop-q.invariant.so_far, c.loop-q-test.true, c.end.ensures) }
+    record { fits = omega (arith, count_most (mask_bit c.set_bytes-set.result) (8 * c.loop-q.q), few, c.set_in_byte-below.ensures, c.loop-q.invariant.so_far, c.loop-q-test.true, c.end.ensures) }
 
 pub loop-q-preserved : goal.loop-q-preserved
 loop-q-preserved c =

@@ -1,4 +1,5 @@
-use Rattle.std.proofs.Common.{ℕ, List, ◌+◌, ◌*◌, ◌<◌, ◌≤◌, ◌≡◌, ◌&&◌, Bool, true, false, refl, arith, sym, w64}
+use Rattle.std.proofs.Common.{ℕ, List, ◌+◌, ◌*◌, ◌<◌, ◌≤◌, ◌≡◌, true, arith, sym, w64}
+use Rattle.std.proofs.lemmas.Bool.{and_parts}
 use Rattle.std.specs.Int.{trailing_zeros}
 use Rattle.rv_model.specs.elements.Elements.{Body, is_active, mask_bit}
 use Rattle.rv_model.specs.elements.Masks.{is_set}
@@ -6,12 +7,8 @@ use Rattle.rv_model.proofs.element_lemmas.Sets.{active_end}
 use Rattle.mask_unit.proofs.FirstBits.{first_found, first_in_word, none_found, none_in_word}
 use Rattle.mask_unit.proofs.set_bits.first.Goals as goal
 
-first_of : (a b : Bool) → (a && b) ≡ true → a ≡ true
-first_of true b h = refl
-first_of false b h = h
-
 set_end : (body : Body) (bits : List ℕ) (i : ℕ) → is_set body bits i ≡ true → i < body.end
-set_end body bits i h = active_end body i (first_of (is_active body i) (mask_bit bits i) h)
+set_end body bits i h = active_end body i (and_parts (is_active body i) (mask_bit bits i) h).0
 
 pub loop-word-preserved : goal.loop-word-preserved
 loop-word-preserved c =

@@ -2,7 +2,7 @@ use Rattle.std.proofs.Common.{◌+◌, length, sym}
 use Rattle.std.proofs.lemmas.Result.{err_from_is_err_and}
 use Rattle.rv_model.specs.assembler.Table.{read_operands, spelled}
 use Rattle.rv_asm.specs.Places.{rest}
-use Rattle.rv_asm.proofs.Assembling.{spelled_nothing, spelled_unknown, spelled_known, answers_ok, answers_err}
+use Rattle.rv_asm.proofs.Assembling.{spelled_nothing, spelled_unknown, spelled_known, answers}
 use Rattle.rv_asm.proofs.assembler.assemble.Goals as goal
 
 pub returns-in_err-name-clause-err : goal.returns-in_err-name-clause-err
@@ -13,18 +13,11 @@ returns-in_err-name-clause-err c =
 pub returns-in_default-clause-err : goal.returns-in_default-clause-err
 returns-in_default-clause-err c = spelled_unknown c.args.text.now (record { column = c.in_ok-name.name.column; text = c.in_ok-name.name.text.now }) (rest c.args.text.now c.in_ok-name.after) c.misfit.result.column c.in_ok-name.ensures.0 (sym c.in_default.ensures.first) c.misfit.ensures
 
-pub returns-clause-ok : goal.returns-clause-ok
-returns-clause-ok c =
+pub returns : goal.returns
+returns c =
     let text = c.args.text.now in
     let ts = rest text c.in_ok-name.after in
-    answers_ok c.read_operands.result (read_operands (length text + 1) c.row_at-form.result.2 c.slots_of.result.now ts) (spelled text)
+    let both = answers c.read_operands.result (read_operands (length text + 1) c.row_at-form.result.2 c.slots_of.result.now ts) (spelled text)
     (spelled_known text (record { column = c.in_ok-name.name.column; text = c.in_ok-name.name.text.now }) ts c.in-Some.row c.row_at-form.result c.slots_of.result.now c.in_ok-name.ensures.0 (sym c.in-Some.ensures.first) c.row_at-form.ensures.value c.slots_of.ensures.slots)
-    c.read_operands.ensures
-
-pub returns-clause-err : goal.returns-clause-err
-returns-clause-err c =
-    let text = c.args.text.now in
-    let ts = rest text c.in_ok-name.after in
-    answers_err c.read_operands.result (read_operands (length text + 1) c.row_at-form.result.2 c.slots_of.result.now ts) (spelled text)
-    (spelled_known text (record { column = c.in_ok-name.name.column; text = c.in_ok-name.name.text.now }) ts c.in-Some.row c.row_at-form.result c.slots_of.result.now c.in_ok-name.ensures.0 (sym c.in-Some.ensures.first) c.row_at-form.ensures.value c.slots_of.ensures.slots)
-    c.read_operands.ensures
+    c.read_operands.ensures in
+    record { ok = both.0; err = both.1 }

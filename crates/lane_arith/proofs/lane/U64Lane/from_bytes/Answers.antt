@@ -2,8 +2,5 @@ use Rattle.std.proofs.Common.{◌^◌, lit<}
 use Rattle.lane_arith.proofs.VectorLanes.{digit_below, wider}
 use Rattle.lane_arith.proofs.lane.U64Lane.from_bytes.Goals as goal
 
-pub returns-clause-value : goal.returns-clause-value
-returns-clause-value c = wider 8 4 c.args.bytes c.fits-bytes.1
-
-pub returns-clause-bound : goal.returns-clause-bound
-returns-clause-bound c = λ i h. digit_below (2 ^ 64) 4 _ i (lit< tt) h
+pub returns : goal.returns
+returns c = record { value = wider 8 4 c.args.bytes c.fits-bytes.1; bound = λ i h. digit_below (2 ^ 64) 4 _ i (lit< tt) h }

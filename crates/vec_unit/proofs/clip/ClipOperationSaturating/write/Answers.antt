@@ -8,31 +8,27 @@ use Rattle.vec_unit.proofs.CopiedOperands.{two_operands}
 use Rattle.vec_unit.proofs.MadeResults.{active_written}
 use Rattle.vec_unit.proofs.clip.ClipOperationSaturating.write.Goals as goal
 
-pub returns-clause-writes : goal.returns-clause-writes
-returns-clause-writes g c =
+pub returns : goal.returns
+returns g c =
     let t : GroupType = record { width = g.D.Lane.width; emul = c.args.groups.emul } in
     let u : GroupType = record { width = g.O.Lane.width; emul = c.args.groups.other } in
     let o = c.args.self.now in
     let file = c.args.file.now in
     let x = c.args.scalar.now in
-    active_written (width_bytes t.width) c.args.body.now _ (clip_result t u o.mode o.op o.vs2 o.source file x) (ones t.width) c.args.made.now
-    c.write_saturating_results.new.destination
-    (two_operands u t (λ a b. wrap t.width (clip_formula o.op o.mode u.width t.width a b))
-    c.group.result.now c.second_in_place.result.now file o.vs2
-    c.args.body.now.end (second_element t true o.source file x) c.group.ensures.value
-    (λ i h. c.second_in_place.ensures.elements i (omega (arith, h, c.end.ensures.value))))
-    c.write_saturating_results.ensures.writes
-
-pub returns-clause-saturated : goal.returns-clause-saturated
-returns-clause-saturated g c =
-    let t : GroupType = record { width = g.D.Lane.width; emul = c.args.groups.emul } in
-    let u : GroupType = record { width = g.O.Lane.width; emul = c.args.groups.other } in
-    let o = c.args.self.now in
-    let file = c.args.file.now in
-    let x = c.args.scalar.now in
-    c.write_saturating_results.ensures.saturated
-    ∙ some_same c.args.body.now _
-    (clip_saturates_at t u o.mode o.op o.vs2 o.source file x)
-    (two_operands u t (clip_saturates o.op o.mode u.width t.width) c.group.result.now c.second_in_place.result.now file o.vs2
-    c.args.body.now.end (second_element t true o.source file x) c.group.ensures.value
-    (λ i h. c.second_in_place.ensures.elements i (omega (arith, h, c.end.ensures.value))))
+    record {
+      writes =
+          active_written (width_bytes t.width) c.args.body.now _ (clip_result t u o.mode o.op o.vs2 o.source file x) (ones t.width) c.args.made.now
+          c.write_saturating_results.new.destination
+          (two_operands u t (λ a b. wrap t.width (clip_formula o.op o.mode u.width t.width a b))
+          c.group.result.now c.second_in_place.result.now file o.vs2
+          c.args.body.now.end (second_element t true o.source file x) c.group.ensures.value
+          (λ i h. c.second_in_place.ensures.elements i (omega (arith, h, c.end.ensures.value))))
+          c.write_saturating_results.ensures.writes;
+      saturated =
+          c.write_saturating_results.ensures.saturated
+          ∙ some_same c.args.body.now _
+          (clip_saturates_at t u o.mode o.op o.vs2 o.source file x)
+          (two_operands u t (clip_saturates o.op o.mode u.width t.width) c.group.result.now c.second_in_place.result.now file o.vs2
+          c.args.body.now.end (second_element t true o.source file x) c.group.ensures.value
+          (λ i h. c.second_in_place.ensures.elements i (omega (arith, h, c.end.ensures.value))));
+    }
