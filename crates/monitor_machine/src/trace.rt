@@ -78,6 +78,7 @@ ghost use Rattle.std.specs.Prelude.{◌≡◌, ◌++◌, ◌<◌, [], length};
 ghost use Rattle.circular_buffer.specs.Buffer.{buffer, keep_last};
 
 /// Puts the recent addresses into the ring where no further one fits beside them.
+#[inline(always)]
 fn make_room<A: Allocator>(ring: &mut HeapCircularBuffer<u64, A>, recent: &mut ArrayVec<u64, BATCH>)
     ensures room { length recent.new.items < 128 }
     ensures capacity { ring.new.capacity ≡ ring.old.capacity }
@@ -90,6 +91,7 @@ fn make_room<A: Allocator>(ring: &mut HeapCircularBuffer<u64, A>, recent: &mut A
 }
 
 /// Puts the recent addresses into the ring.
+#[inline(never)]
 fn settle<A: Allocator>(ring: &mut HeapCircularBuffer<u64, A>, recent: &mut ArrayVec<u64, BATCH>)
     ensures ring { ring.new ≡ buffer (keep_last ring.old.capacity (ring.old.items ++ recent.old.items)) ring.old.capacity }
     ensures recent { recent.new.items ≡ [] }
