@@ -1,5 +1,5 @@
 -- The last items of a list to which more are added.
-use Rattle.std.proofs.Common.{arith, ◌∙◌, ap, sym, ℕ, ◌+◌, ◌-◌, ◌≤◌, ◌≡◌, ◌++◌, ◌∷◌, [], List, length, drop}
+use Rattle.std.proofs.Common.{arith, ◌∙◌, ap, sym, ℕ, ◌+◌, ◌-◌, ◌≡◌, ◌++◌, ◌∷◌, [], List, length, drop}
 use Rattle.std.proofs.lemmas.List.{drop-append-le, drop-drop, length-drop, length-append, append_assoc}
 use Rattle.circular_buffer.specs.Buffer.{keep_last}
 use Rattle.rv_model.specs.machine.Runs.{recorded}

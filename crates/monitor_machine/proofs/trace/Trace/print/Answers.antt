@@ -1,4 +1,4 @@
-use Rattle.std.proofs.Common.{rules, arith, ap, ◌++◌, ◌-◌, length}
+use Rattle.std.proofs.Common.{arith, ap, ◌++◌, ◌-◌, length}
 use Rattle.std.proofs.lemmas.List.{length-drop, length-append}
 use Rattle.monitor_machine.proofs.trace.Trace.print.Goals as goal
 

@@ -1,4 +1,4 @@
-use Rattle.std.proofs.Common.{rules, arith, subst, ℕ, ap, sym, ◌∙◌, ◌≡◌, ◌++◌}
+use Rattle.std.proofs.Common.{subst, ℕ, ap, ◌∙◌, ◌≡◌, ◌++◌}
 use Rattle.circular_buffer.specs.Buffer.{keep_last}
 use Rattle.rv_model.specs.machine.Runs.{recorded}
 use Rattle.monitor_machine.proofs.TraceLaws.{recorded_last}
