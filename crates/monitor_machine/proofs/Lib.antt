@@ -7,4 +7,5 @@ pub mod PrefixLaws
 pub mod ProgramOutcomes
 pub mod StepLaws
 pub mod Steps
+pub mod TraceLaws
 pub mod UnitSteps

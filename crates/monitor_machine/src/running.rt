@@ -54,10 +54,7 @@ pub(crate) fn carry_out<A: Allocator>(
         RunningCommand::State => {
             monitor_cmds::state_line(reply, tag, parts.context.running, parts.context.scalar.pc);
         }
-        RunningCommand::Trace => {
-            let (older, newer) = trace.as_slices();
-            monitor_cmds::trace_line(reply, tag, older, newer);
-        }
+        RunningCommand::Trace => trace.print(reply, tag),
         RunningCommand::Out => {
             monitor_cmds::out_line(reply, tag, parts.context.output.as_slice());
             parts.context.output.clear();

@@ -1,38 +1,49 @@
 //! The trace of a user.
+use arrayvec::ArrayVec;
 use circular_buffer::HeapCircularBuffer;
+use monitor_cmds::{Reply, Tag};
 use std::alloc::{AllocError, Allocator};
 use std::marker::Model;
 
 /// How many instructions a trace tells.
 const TRACE_LENGTH: usize = 16;
 
+/// How many addresses are put into the ring at once.
+const BATCH: usize = 128;
+
 /// The addresses of the last 16 instructions of a user that ran to their end, the oldest first.
-/// Only `new` takes memory.
+/// The recent ones are gathered, and put into the ring many at a time. Only `new` takes memory.
 #[derive(Drop)]
 pub(crate) struct Trace<A: Allocator> {
     ring: HeapCircularBuffer<u64, A>,
+    recent: ArrayVec<u64, BATCH>,
 }
 
 impl<A: Allocator> Model for Trace<A> {
-    ghost use Rattle.std.specs.Prelude.{List, ℕ, ◌≡◌, ◌≤◌, length};
+    ghost use Rattle.std.specs.Prelude.{List, ℕ, ◌≡◌, ◌++◌};
+    ghost use Rattle.circular_buffer.specs.Buffer.{keep_last};
 
     ghost Value = { List ℕ };
 
-    ghost view = { λ t. t.ring.items };
+    ghost view = { λ t. keep_last 16 (t.ring.items ++ t.recent.items) };
 
-    ghost invariant = { λ t. (t.ring.capacity ≡ 16) × (length t.ring.items ≤ 16) };
+    ghost invariant = { λ t. t.ring.capacity ≡ 16 };
 }
 
 impl<A: Allocator> Trace<A> {
-    ghost use Rattle.std.specs.Prelude.{◌≡◌, ◌++◌, ◌+◌, ◌≤◌, [], length, IfOk};
+    ghost use Rattle.std.specs.Prelude.{◌≡◌, ◌++◌, ◌+◌, ◌≤◌, [], ◌∷◌, length, IfOk};
+    ghost use Rattle.rv_model.specs.commands.Running.{trace_line};
     ghost use Rattle.rv_model.specs.machine.Runs.{recorded};
+    ghost use Rattle.rv_model.specs.text.Lines.{text};
+    ghost use Rattle.monitor_cmds.specs.Tag.{tag_byte};
 
     /// An empty trace.
     pub(crate) fn new(alloc: A) -> Result<Self, AllocError>
         ensures { IfOk result (λ trace. trace ≡ []) }
     {
         let ring = HeapCircularBuffer::with_capacity(alloc, TRACE_LENGTH)?;
-        Ok(Trace { ring })
+        let recent = ArrayVec::new();
+        Ok(Trace { ring, recent })
     }
 
     /// Drops all addresses.
@@ -40,21 +51,51 @@ impl<A: Allocator> Trace<A> {
         ensures { self.new ≡ [] }
     {
         self.ring.clear();
+        self.recent.clear();
     }
 
     /// Adds the address of an instruction, in place of the oldest one where there are 16.
-    #[tactic(auto, unfolding(rv_model::specs::machine::Runs::recorded))]
     pub(crate) fn record(&mut self, addr: u64)
         ensures { self.new ≡ recorded self.old addr }
     {
-        self.ring.push_back(addr);
+        make_room(&mut self.ring, &mut self.recent);
+        self.recent.push(addr);
     }
 
-    /// The addresses, in two runs.
-    pub(crate) fn as_slices(&self) -> (&[u64], &[u64])
-        ensures value { result.0.now ++ result.1.now ≡ self.now }
-        ensures few { length result.0.now + length result.1.now ≤ 16 }
+    /// Adds the line of these addresses to a reply.
+    pub(crate) fn print(&mut self, reply: &mut Reply, tag: Tag)
+        requires room { length reply.old + 280 ≤ 4096 }
+        ensures same { self.new ≡ self.old }
+        ensures text { reply.new ≡ reply.old ++ text (tag_byte tag) (trace_line self.old ∷ []) }
     {
-        self.ring.as_slices()
+        settle(&mut self.ring, &mut self.recent);
+        let (older, newer) = self.ring.as_slices();
+        monitor_cmds::trace_line(reply, tag, older, newer);
     }
+}
+
+ghost use Rattle.std.specs.Prelude.{◌≡◌, ◌++◌, ◌<◌, [], length};
+ghost use Rattle.circular_buffer.specs.Buffer.{buffer, keep_last};
+
+/// Puts the recent addresses into the ring where no further one fits beside them.
+#[inline(always)]
+fn make_room<A: Allocator>(ring: &mut HeapCircularBuffer<u64, A>, recent: &mut ArrayVec<u64, BATCH>)
+    ensures room { length recent.new.items < 128 }
+    ensures capacity { ring.new.capacity ≡ ring.old.capacity }
+    ensures kept { keep_last ring.old.capacity (ring.new.items ++ recent.new.items)
+        ≡ keep_last ring.old.capacity (ring.old.items ++ recent.old.items) }
+{
+    if recent.is_full() {
+        settle(&mut *ring, &mut *recent);
+    }
+}
+
+/// Puts the recent addresses into the ring.
+#[inline(never)]
+fn settle<A: Allocator>(ring: &mut HeapCircularBuffer<u64, A>, recent: &mut ArrayVec<u64, BATCH>)
+    ensures ring { ring.new ≡ buffer (keep_last ring.old.capacity (ring.old.items ++ recent.old.items)) ring.old.capacity }
+    ensures recent { recent.new.items ≡ [] }
+{
+    ring.extend_from_slice(recent.as_slice());
+    recent.clear();
 }

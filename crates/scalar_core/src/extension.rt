@@ -9,11 +9,8 @@ pub fn sign_extend(bits: u32, value: u64) -> u64
     requires fits { value < 2 ^ bits }
     ensures { result ≡ sign_extended bits value }
 {
-    if value < 1 << (bits - 1) {
-        value
-    } else {
-        value + (u64::MAX - ((1 << bits) - 1))
-    }
+    let unused = 64 - bits;
+    ((value << unused).cast_signed() >> unused).cast_unsigned()
 }
 
 /// The low 32 bits.

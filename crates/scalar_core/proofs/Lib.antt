@@ -1,0 +1,2 @@
+-- Lemmas on the values of scalar instructions.
+pub mod SignExtension
