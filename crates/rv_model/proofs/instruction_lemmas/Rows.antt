@@ -165,44 +165,20 @@ known_carry _ _ = refl
 known_vector : (op : VectorOp) (f : Form) → IsKnown op (line op) f
 unfolding find
 known_vector (vector_op.Binary binary.Vadd) form.V = refl
-known_vector (vector_op.Binary _) form.V = refl
-known_vector (vector_op.Binary _) _ = refl
 known_vector (vector_op.CarryOut carry_out.Vmadc) form.V = refl
-known_vector (vector_op.CarryOut _) form.V = refl
-known_vector (vector_op.CarryOut _) _ = refl
 known_vector (vector_op.Compare compare.Vmseq) form.V = refl
-known_vector (vector_op.Compare _) form.V = refl
-known_vector (vector_op.Compare _) _ = refl
 known_vector (vector_op.FixedPoint fixed_point.Vsaddu) form.V = refl
-known_vector (vector_op.FixedPoint _) form.V = refl
-known_vector (vector_op.FixedPoint _) _ = refl
 known_vector (vector_op.NarrowShift narrow_shift.Vnsrl) form.V = refl
-known_vector (vector_op.NarrowShift _) form.V = refl
-known_vector (vector_op.NarrowShift _) _ = refl
 known_vector (vector_op.Clip clip.Vnclipu) form.V = refl
-known_vector (vector_op.Clip _) form.V = refl
-known_vector (vector_op.Clip _) _ = refl
 known_vector (vector_op.Widen widen.Vwaddu) form.V = refl
-known_vector (vector_op.Widen _) form.V = refl
-known_vector (vector_op.Widen _) _ = refl
 known_vector (vector_op.WideSource wide_source.Vwaddu) form.V = refl
-known_vector (vector_op.WideSource _) form.V = refl
-known_vector (vector_op.WideSource _) _ = refl
 known_vector (vector_op.MultiplyAdd multiply_add.Vmadd) form.V = refl
-known_vector (vector_op.MultiplyAdd _) form.V = refl
-known_vector (vector_op.MultiplyAdd _) _ = refl
 known_vector (vector_op.WidenMultiplyAdd widen_multiply_add.Vwmaccu) form.V = refl
-known_vector (vector_op.WidenMultiplyAdd _) form.V = refl
-known_vector (vector_op.WidenMultiplyAdd _) _ = refl
 known_vector (vector_op.Reduce reduce.Vredsum) form.V = refl
-known_vector (vector_op.Reduce _) form.V = refl
-known_vector (vector_op.Reduce _) _ = refl
 known_vector (vector_op.WidenReduce widen_reduce.Vwredsumu) form.V = refl
-known_vector (vector_op.WidenReduce _) form.V = refl
-known_vector (vector_op.WidenReduce _) _ = refl
 known_vector (vector_op.Permute permute.Vrgather) form.V = refl
-known_vector (vector_op.Permute _) form.V = refl
-known_vector (vector_op.Permute _) _ = refl
+known_vector _ form.V = refl
+known_vector _ _ = refl
 
 cond-same : {A : Type 0} (b : Bool) (x y z : A) → cond b x z ≡ cond b y z → b ≡ true → x ≡ y
 cond-same true x y z h t = h

@@ -105,9 +105,7 @@ filled_parts (instr.Scalar (Upper op rd imm)) w = refl
 filled_parts (instr.Scalar (Jump rd imm)) w = let j : JumpPieces (field 21 10 w) (field 20 1 w) (field 12 8 w) (field 31 1 w) = jump_of w in rw (j.bit20, j.bits10_1, j.bit11, j.bits19_12) refl
 filled_parts (instr.Scalar (Branch op rs1 rs2 imm)) w = let b : BranchPieces (field 8 4 w) (field 25 6 w) (field 7 1 w) (field 31 1 w) = branch_of w in rw (b.bit12, b.bits10_5, b.bits4_1, b.bit11) refl
 filled_parts (instr.Scalar (Store op rs1 rs2 imm)) w = rw (store-high w, store-low w) refl
-filled_parts (instr.Scalar _) w = refl
 filled_parts (instr.Csr (Register op rd rs1 csr)) w = refl
-filled_parts (instr.Csr _) w = refl
 filled_parts (instr.Vector (Arith arith vd vs2 vm)) w = rw (flag_back w, number-source_of (form_of arith.1) (field 15 5 w)) refl
 filled_parts (instr.Vector (Carry carry vd vs2)) w = rw (number-source_of (form_of carry.1) (field 15 5 w)) refl
 filled_parts (instr.Vector (Move source vd)) w = rw (number-source_of (form_of source) (field 15 5 w)) refl
@@ -115,53 +113,36 @@ filled_parts (instr.Vector (MaskToScalar op rd vs2 vm)) w = rw (flag_back w) ref
 filled_parts (instr.Vector (Extend op vd vs2 vm)) w = rw (flag_back w) refl
 filled_parts (instr.Vector (MaskUnary op vd vs2 vm)) w = rw (flag_back w) refl
 filled_parts (instr.Vector (ElementIndex vd vm)) w = rw (flag_back w) refl
-filled_parts (instr.Vector _) w = refl
 filled_parts (instr.Access (UnitStride op width nf vd rs1 vm)) w = rw (flag_back w) refl
 filled_parts (instr.Access (Strided direction width nf vd rs1 rs2 vm)) w = rw (flag_back w) refl
 filled_parts (instr.Access (Indexed direction order width nf vd rs1 vs2 vm)) w = rw (flag_back w) refl
-filled_parts (instr.Access _) w = refl
+filled_parts _ w = refl
 
 -- and its other bits
 pub filled_bits : (t : Instr) (w : ℕ) → bits (filled t w) ≡ bits t
 filled_bits (instr.Scalar (Upper op rd imm)) w = refl
-filled_bits (instr.Scalar _) w = refl
 filled_bits (instr.Csr (Register op rd rs1 csr)) w = refl
-filled_bits (instr.Csr _) w = refl
 filled_bits (instr.Vector (SetVli rd rs1 vtype)) w = refl
 filled_bits (instr.Vector (Arith arith vd vs2 vm)) w = rw (form_source_of (form_of arith.1) (field 15 5 w)) refl
 filled_bits (instr.Vector (Carry carry vd vs2)) w = rw (form_source_of (form_of carry.1) (field 15 5 w)) refl
 filled_bits (instr.Vector (Move source vd)) w = rw (form_source_of (form_of source) (field 15 5 w)) refl
-filled_bits (instr.Vector _) w = refl
 filled_bits (instr.Access (UnitStride op width nf vd rs1 vm)) w = refl
-filled_bits (instr.Access _) w = refl
+filled_bits _ w = refl
 
 -- an instruction is what a word with its parts gives
 pub refilled : (i : Instr) (w : ℕ) → Reads w (parts i) → filled i w ≡ i
 refilled (instr.Scalar (Upper op rd imm)) w r = rw (r.0, r.1.0) refl
 refilled (instr.Scalar (Jump rd imm)) w r = rw (r.0, r.1.0, r.1.1.0, r.1.1.1.0, r.1.1.1.1.0, jump-join imm) refl
-refilled (instr.Scalar (JumpRegister rd rs1 imm)) w r = rw (r.0, r.1.0, r.1.1.0) refl
 refilled (instr.Scalar (Branch op rs1 rs2 imm)) w r =
     rw (r.0, r.1.0, r.1.1.0, r.1.1.1.0, r.1.1.1.1.0, r.1.1.1.1.1.0, branch-join imm) refl
-refilled (instr.Scalar (Load op rd rs1 imm)) w r = rw (r.0, r.1.0, r.1.1.0) refl
 refilled (instr.Scalar (Store op rs1 rs2 imm)) w r = rw (r.0, r.1.0, r.1.1.0, r.1.1.1.0, store-join imm) refl
-refilled (instr.Scalar (RegisterImmediate op rd rs1 imm)) w r = rw (r.0, r.1.0, r.1.1.0) refl
-refilled (instr.Scalar (ShiftImmediate op rd rs1 shamt)) w r = rw (r.0, r.1.0, r.1.1.0) refl
-refilled (instr.Scalar (ShiftImmediateWord op rd rs1 shamt)) w r = rw (r.0, r.1.0, r.1.1.0) refl
-refilled (instr.Scalar (RegisterRegister op rd rs1 rs2)) w r = rw (r.0, r.1.0, r.1.1.0) refl
-refilled (instr.Scalar (Fence rd rs1 ordering)) w r = rw (r.0, r.1.0, r.1.1.0) refl
 refilled (instr.Scalar (System op)) w r = refl
 refilled (instr.Csr (Register op rd rs1 csr)) w r = rw (r.0, r.1.0, r.1.1.0) refl
-refilled (instr.Csr (Immediate op rd imm csr)) w r = rw (r.0, r.1.0, r.1.1.0) refl
-refilled (instr.Vector (SetVli rd rs1 vtype)) w r = rw (r.0, r.1.0, r.1.1.0) refl
-refilled (instr.Vector (SetIvli rd avl vtype)) w r = rw (r.0, r.1.0, r.1.1.0) refl
-refilled (instr.Vector (SetVl rd rs1 rs2)) w r = rw (r.0, r.1.0, r.1.1.0) refl
 refilled (instr.Vector (Arith arith vd vs2 vm)) w r =
     rw (r.0, r.1.0, r.1.1.0, r.1.1.1.0, bit_pair vm, source_again arith.1) refl
 refilled (instr.Vector (Carry carry vd vs2)) w r = rw (r.0, r.1.0, r.1.1.0, source_again carry.1) refl
 refilled (instr.Vector (Move source vd)) w r = rw (r.0, r.1.0, source_again source) refl
 refilled (instr.Vector (WholeMove count vd vs2)) w r = rw (r.0, r.1.0) refl
-refilled (instr.Vector (MaskLogic op vd vs1 vs2)) w r = rw (r.0, r.1.0, r.1.1.0) refl
-refilled (instr.Vector (Compress vd vs1 vs2)) w r = rw (r.0, r.1.0, r.1.1.0) refl
 refilled (instr.Vector (MaskToScalar op rd vs2 vm)) w r = rw (r.0, r.1.0, r.1.1.0, bit_pair vm) refl
 refilled (instr.Vector (Extend op vd vs2 vm)) w r = rw (r.0, r.1.0, r.1.1.0, bit_pair vm) refl
 refilled (instr.Vector (MaskUnary op vd vs2 vm)) w r = rw (r.0, r.1.0, r.1.1.0, bit_pair vm) refl
@@ -173,9 +154,8 @@ refilled (instr.Access (Strided direction width nf vd rs1 rs2 vm)) w r =
     rw (r.0, r.1.0, r.1.1.0, r.1.1.1.0, r.1.1.1.1.0, bit_pair vm) refl
 refilled (instr.Access (Indexed direction order width nf vd rs1 vs2 vm)) w r =
     rw (r.0, r.1.0, r.1.1.0, r.1.1.1.0, r.1.1.1.1.0, bit_pair vm) refl
-refilled (instr.Access (WholeLoad count width vd rs1)) w r = rw (r.0, r.1.0) refl
-refilled (instr.Access (WholeStore count vd rs1)) w r = rw (r.0, r.1.0) refl
-refilled (instr.Access (MaskAccess direction vd rs1)) w r = rw (r.0, r.1.0) refl
+refilled (instr.Access _) w r = rw (r.0, r.1.0) refl
+refilled _ w r = rw (r.0, r.1.0, r.1.1.0) refl
 
 -- the parts and the fixed bits fill a word
 pub record Laid (ps : List Part) : Type 0 where
@@ -186,10 +166,7 @@ pub record Laid (ps : List Part) : Type 0 where
 -- each instruction does
 pub laid : (i : Instr) → Laid (parts i)
 laid (instr.Scalar (Upper op rd imm)) = record { apart = refl; clear = refl; whole = refl }
-laid (instr.Scalar _) = record { apart = refl; clear = refl; whole = refl }
 laid (instr.Csr (Register op rd rs1 csr)) = record { apart = refl; clear = refl; whole = refl }
-laid (instr.Csr _) = record { apart = refl; clear = refl; whole = refl }
 laid (instr.Vector (SetVli rd rs1 vtype)) = record { apart = refl; clear = refl; whole = refl }
-laid (instr.Vector _) = record { apart = refl; clear = refl; whole = refl }
 laid (instr.Access (UnitStride op width nf vd rs1 vm)) = record { apart = refl; clear = refl; whole = refl }
-laid (instr.Access _) = record { apart = refl; clear = refl; whole = refl }
+laid _ = record { apart = refl; clear = refl; whole = refl }
