@@ -13,7 +13,7 @@ use Rattle.rv_model.specs.accesses.VectorAccess.{VectorAccess, element_start, pl
 use Rattle.rv_model.specs.memory.Memory.{Memory}
 use Rattle.rv_model.proofs.access_lemmas.Growth.{overlay_grown}
 use Rattle.rv_model.proofs.access_lemmas.Runs.{access_again}
-use Rattle.rv_model.proofs.text_lemmas.Pieces.{of_either, of_test}
+use Rattle.rv_model.proofs.Choices.{of_either, of_test}
 use Rattle.rv_model.proofs.access_lemmas.Resumes.{Progress, load_moves, load_moves_resume, stop_from, store_moves, store_moves_resume}
 
 -- ---- runs that may be stopped, by a limit, the vector state and the memory

@@ -24,7 +24,8 @@ use Rattle.rv_model.specs.vector.ControlRegisters.{control_register, control_reg
 use Rattle.rv_model.specs.vector.TypeNames.{lmul_name, mask_name, sew_name, tail_name}
 use Rattle.rv_model.specs.vector.TypeRules.{lmul_with_number, sew_with_number}
 use Rattle.rv_model.proofs.assembler_lemmas.Found.{found_passes}
-use Rattle.rv_model.proofs.text_lemmas.Pieces.{of_either, is_line-append, Piece, ◌▸◌, number, decimal_line}
+use Rattle.rv_model.proofs.Choices.{of_either}
+use Rattle.rv_model.proofs.text_lemmas.Pieces.{is_line-append, Piece, ◌▸◌, number, decimal_line}
 
 no_newline_in_hex_digit : (d : ℕ) → IsLine (hex_digit d ∷ [])
 no_newline_in_hex_digit d = of_either (λ c. IsLine (c ∷ [])) (nat_lt d 10) _ _ (small d) (large d)

@@ -10,7 +10,7 @@ use Rattle.rv_model.specs.commands.Arguments.{within, decimal_number, number_bet
 use Rattle.rv_model.specs.commands.Operator.{OperatorParsed, operator_named, operator_of_words, operator_parse}
 use Rattle.rv_model.specs.commands.Reading.{◌>>=◌, done, in_group, one_argument}
 use Rattle.rv_model.specs.text.Words.{words}
-use Rattle.rv_model.proofs.text_lemmas.Pieces.{of_either}
+use Rattle.rv_model.proofs.Choices.{of_either}
 
 abbrev pub NamesUser : OperatorCommand → Type 0
 NamesUser (Slices n) = Unit {0}

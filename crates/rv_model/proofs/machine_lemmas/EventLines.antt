@@ -10,7 +10,7 @@ use Rattle.rv_model.specs.machine.UserMachine.{Private}
 use Rattle.rv_model.proofs.text_lemmas.Newlines.{AreLines}
 use Rattle.rv_model.proofs.command_lemmas.Commands.{commanded_prints}
 use Rattle.rv_model.proofs.command_lemmas.Printing.{PrintsLines, one_line, no_newline_in_stop_line}
-use Rattle.rv_model.proofs.text_lemmas.Pieces.{of_either}
+use Rattle.rv_model.proofs.Choices.{of_either}
 
 slice_ends_prints : (run : Halted) (reason : Option Stop) → PrintsLines (slice_ends run reason)
 slice_ends_prints run None = refl

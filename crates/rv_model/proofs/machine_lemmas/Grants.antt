@@ -15,7 +15,8 @@ use Rattle.rv_model.specs.machine.World.{World, Happening, after_one, user_machi
 use Rattle.rv_model.proofs.text_lemmas.Newlines.{IsLine}
 use Rattle.rv_model.proofs.command_lemmas.Operator.{ParsedNamesUser}
 use Rattle.rv_model.proofs.command_lemmas.Printing.{no_newline_in_refusal}
-use Rattle.rv_model.proofs.text_lemmas.Pieces.{Piece, ◌▸◌, number, flat_map_line, of_either}
+use Rattle.rv_model.proofs.Choices.{of_either}
+use Rattle.rv_model.proofs.text_lemmas.Pieces.{Piece, ◌▸◌, number, flat_map_line}
 
 -- one of the users
 abbrev pub IsUser : ℕ → Type 0

@@ -23,12 +23,13 @@ use Rattle.rv_model.specs.machine.World.{World, Happening, after_events, after_o
 use Rattle.rv_model.specs.text.Lines.{is_newline, pieces, tagged, text}
 use Rattle.rv_model.proofs.text_lemmas.Newlines.{is_line, are_lines, AreLines, IsLine}
 use Rattle.rv_model.proofs.command_lemmas.Printing.{one_line}
-use Rattle.rv_model.proofs.command_lemmas.Refusals.{are_plain, commanded_settles, is_plain, plain_line, stop_line_plain, Settles}
+use Rattle.rv_model.proofs.command_lemmas.Commands.{commanded_settles, Settles}
+use Rattle.rv_model.proofs.command_lemmas.Refusals.{are_plain, is_plain, plain_line, stop_line_plain}
 use Rattle.rv_model.proofs.machine_lemmas.EventLines.{event_lines}
 use Rattle.rv_model.proofs.machine_lemmas.Grants.{no_newline_in_operator_line}
 use Rattle.rv_model.proofs.machine_lemmas.Headline.{no_newline}
 use Rattle.rv_model.proofs.text_lemmas.Lines.{pieces_at}
-use Rattle.rv_model.proofs.text_lemmas.Pieces.{of_either}
+use Rattle.rv_model.proofs.Choices.{of_either, of_bool}
 
 -- ---- the answers of an output
 
@@ -109,16 +110,13 @@ same_world s w h turn same still =
     ∙ ap (λ (parts : List Private). record w { parts = parts }) (set-get_or w.parts (h.user - 1) None)
 
 pub refused_happenings_change_nothing : RefusedHappeningsChangeNothing
-refused_happenings_change_nothing s w h slices refused = named h.turn refl
-  where
-    named : (b : Bool) → h.turn ≡ b → after_one s w h ≡ w
-    named true turn =
-        absurd (none_refused (outcome_of s w h).lines (slice_plain s (user_machine h.user w) h.event (slices turn)) refused)
-    named false turn =
-        elim (event_settles s h.user (user_machine h.user w) h.event w.unit) [
-          | inl same ↦ same_world s w h turn same.0 same.1
-          | inr plain ↦ absurd (none_refused (outcome_of s w h).lines plain refused)
-        ]
+refused_happenings_change_nothing s w h slices refused =
+    of_bool h.turn (λ b. after_one s w h ≡ w)
+    (λ turn. absurd (none_refused (outcome_of s w h).lines (slice_plain s (user_machine h.user w) h.event (slices turn)) refused))
+    (λ turn. elim (event_settles s h.user (user_machine h.user w) h.event w.unit) [
+      | inl same ↦ same_world s w h turn same.0 same.1
+      | inr plain ↦ absurd (none_refused (outcome_of s w h).lines plain refused)
+    ])
 
 -- ---- what the operator grants
 

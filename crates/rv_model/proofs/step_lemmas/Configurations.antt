@@ -33,7 +33,7 @@ use Rattle.rv_model.specs.vector.TypeRules.{lmul_with_number, requested, sew_wit
 use Rattle.rv_model.proofs.memory_lemmas.Memory.{is_allowed-put_bytes}
 use Rattle.rv_model.proofs.step_lemmas.Cuts.{RunFacts, accessed_facts}
 use Rattle.rv_model.proofs.step_lemmas.StepCases.{of_step, operation_is}
-use Rattle.rv_model.proofs.text_lemmas.Pieces.{of_either}
+use Rattle.rv_model.proofs.Choices.{of_either, of_test}
 
 -- ---- a length that is requested
 
@@ -44,12 +44,8 @@ Supports (Some t) = IsSupported t
 supported_parts : (sew : Option Sew) (lmul : Option Lmul) (tail mask : Bool) → Supports (supported_type sew lmul tail mask)
 supported_parts None lmul tail mask = tt
 supported_parts (Some sew) None tail mask = tt
-supported_parts (Some sew) (Some lmul) tail mask = named (nat_le (sew_bits sew) (lmul_eighths lmul * 8)) refl
-  where
-    named : (b : Bool) → nat_le (sew_bits sew) (lmul_eighths lmul * 8) ≡ b
-        → Supports (cond b (Some (record { sew = sew; lmul = lmul; tail_agnostic = tail; mask_agnostic = mask })) None)
-    named true e = leb-true (sew_bits sew) (lmul_eighths lmul * 8) e
-    named false e = tt
+supported_parts (Some sew) (Some lmul) tail mask =
+    of_test Supports (nat_le (sew_bits sew) (lmul_eighths lmul * 8)) _ _ (leb-true (sew_bits sew) (lmul_eighths lmul * 8)) (λ e. tt)
 
 -- a number means no type but a supported one
 number_supports : (n : ℕ) → Supports (vector_type n)
@@ -69,12 +65,8 @@ length_configures : (old : Configuration) (t : VType) (length : RequestedLength)
     → IsConfiguration (with_length old t length)
 length_configures old t (Elements n) is supported = (supported, omega arith)
 length_configures old t Maximum is supported = (supported, omega arith)
-length_configures old t Keep is supported = named (same_vlmax old.vtype t) refl
-  where
-    named : (b : Bool) → same_vlmax old.vtype t ≡ b
-        → IsConfiguration (cond b (record { vl = old.vl; vtype = Some t }) (record { vl = 0; vtype = None }))
-    named true e = (supported, kept_length old.vtype old.vl t is e)
-    named false e = refl
+length_configures old t Keep is supported =
+    of_test IsConfiguration (same_vlmax old.vtype t) _ _ (λ e. (supported, kept_length old.vtype old.vl t is e)) (λ e. refl)
 
 type_configures : (old : Configuration) (o : Option VType) (length : RequestedLength) → IsConfiguration old → Supports o
     → IsConfiguration (option_map_or (λ t. with_length old t length) o (record { vl = 0; vtype = None }))

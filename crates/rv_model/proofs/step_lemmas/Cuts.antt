@@ -32,7 +32,7 @@ use Rattle.rv_model.specs.step.Resumes.{StopsShort}
 use Rattle.rv_model.specs.step.VectorStep.{VectorStepped, access_step, accessed, after_vector, operation_step, performed, vector_executed, vector_ticks}
 use Rattle.rv_model.proofs.access_lemmas.Runs.{AtStop, CutAt, FaultAt, Facts, run_facts, stop_means}
 use Rattle.rv_model.proofs.step_lemmas.StepCases.{operation_is}
-use Rattle.rv_model.proofs.text_lemmas.Pieces.{of_either}
+use Rattle.rv_model.proofs.Choices.{of_either}
 
 -- ---- no operation on registers is cut, and none faults
 

@@ -22,7 +22,7 @@ use Rattle.rv_model.specs.step.MemoryStep.{access_end}
 use Rattle.rv_model.specs.step.WriteCall.{write_count}
 use Rattle.rv_model.proofs.memory_lemmas.Memory.{length-bytes_at}
 use Rattle.rv_model.proofs.step_lemmas.StepCases.{SameFirst, first-with_register, of_step, operation_is}
-use Rattle.rv_model.proofs.text_lemmas.Pieces.{of_either}
+use Rattle.rv_model.proofs.Choices.{of_either}
 
 -- a fact where an instruction faults
 abbrev OnFault : StepEnd → Type 0 → Type 0

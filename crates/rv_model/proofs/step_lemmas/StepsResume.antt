@@ -29,7 +29,7 @@ use Rattle.rv_model.proofs.access_lemmas.InstructionsResume.{access_resumes}
 use Rattle.rv_model.proofs.access_lemmas.Runs.{IsAgain, access_again, again_of, is_stopped, made_of, run_facts, run_is, stopped_state}
 use Rattle.rv_model.proofs.legality_lemmas.Meaning.{is_legal_means}
 use Rattle.rv_model.proofs.step_lemmas.Cuts.{accessed_facts, cut_at, operation_whole}
-use Rattle.rv_model.proofs.text_lemmas.Pieces.{of_option, of_test}
+use Rattle.rv_model.proofs.Choices.{of_option, of_test}
 use Rattle.rv_model.proofs.step_lemmas.StoredWords.{SameWord, run_keeps_word}
 
 -- ---- an access that stops leaves its tail

@@ -17,7 +17,7 @@ use Rattle.rv_model.specs.memory.Memory.{Memory}
 use Rattle.rv_model.specs.step.Resumes.{IsApart}
 use Rattle.rv_model.proofs.access_lemmas.Moves.{stored-append}
 use Rattle.rv_model.proofs.memory_lemmas.Memory.{get-put_bytes_outside}
-use Rattle.rv_model.proofs.text_lemmas.Pieces.{of_either}
+use Rattle.rv_model.proofs.Choices.{of_either}
 
 -- the word at an address is the same in both
 abbrev pub SameWord : ℕ → Memory → Memory → Type 0
@@ -59,7 +59,9 @@ TransfersApart pc stop a = (i : ℕ) → a.body.start ≤ i → i < stop → All
 store_keeps : (limit : ℕ) (a : VectorAccess) (v : VState) (m : Memory) (pc : ℕ) → (store_run limit a v m).end ≢ Done
     → TransfersApart pc (store_run limit a v m).vector.vstart a → SameWord pc m (store_run limit a v m).memory
 unfolding store_run end_at
-store_keeps limit a v m pc = named (nat_le a.body.end stop) (nat_le (a.body.start + limit) stop)
+store_keeps limit a v m pc =
+    of_either Keeps (nat_le a.body.end stop) _ _ (λ ended h. absurd (ended refl))
+    (of_either Keeps (nat_le (a.body.start + limit) stop) _ _ (λ ended. kept) (λ ended. kept))
   where
     stop : ℕ
     stop = stop_index access.Store m (plan a false) a.body.start (a.body.start + limit) a.body.end
@@ -70,14 +72,10 @@ store_keeps limit a v m pc = named (nat_le a.body.end stop) (nat_le (a.body.star
     kept : TransfersApart pc stop a → SameWord pc m after
     kept h = transfers_kept m (element_start a) v.file (plan a false) a.body.start (stop - a.body.start) pc (λ k l g. h k l (omega (arith, g, l)))
 
-    run : Bool → Bool → AccessRun
-    run done reached = access_ends false a.body.end v after (cond done Done (cond reached (Cut stop) (Fault stop (bad_address access.Store m (plan a false stop)))))
-
-    named : (done reached : Bool) → (run done reached).end ≢ Done → TransfersApart pc (run done reached).vector.vstart a
-        → SameWord pc m (run done reached).memory
-    named true reached ended h = absurd (ended refl)
-    named false true ended h = kept h
-    named false false ended h = kept h
+    Keeps : MemEnd → Type 0
+    Keeps end =
+        let run : AccessRun = access_ends false a.body.end v after end in
+        run.end ≢ Done → TransfersApart pc run.vector.vstart a → SameWord pc m run.memory
 
 ends_memory : (first_only : Bool) (count : ℕ) (v : VState) (m : Memory) (end : MemEnd) → (access_ends first_only count v m end).memory ≡ m
 ends_memory first_only count v m Done = refl

@@ -20,18 +20,15 @@ use Rattle.rv_model.specs.step.VectorStep.{VectorStepped, access_step, accessed,
 use Rattle.rv_model.proofs.access_lemmas.RunsAgain.{IsUncut, directed_same}
 use Rattle.rv_model.proofs.step_lemmas.Cuts.{accessed_facts, cut_at, cut_index}
 use Rattle.rv_model.proofs.step_lemmas.Effects.{UnlessDone, vector_keeps}
+use Rattle.rv_model.proofs.Choices.{of_option}
 
 -- ---- at least one, and no more than are left
 
 ticks_within : (limit : ℕ) (i : Instr) (s : HartState) → 1 ≤ limit → (1 ≤ vector_ticks limit i s) × (vector_ticks limit i s ≤ limit)
-ticks_within limit (instr.Access i) s some = named (access_of i s.vector s.scalar) refl
-  where
-    ticks : Option VectorAccess → ℕ
-    ticks o = option_map_or (λ a. (accessed limit a s).reached - s.vector.vstart) o 1
-
-    named : (o : Option VectorAccess) → access_of i s.vector s.scalar ≡ o → (1 ≤ ticks o) × (ticks o ≤ limit)
-    named None e = (omega arith, omega (arith, some))
-    named (Some a) e = let f = (accessed_facts limit i a s e).ticks some in (omega (arith, f.0), omega (arith, f.1))
+ticks_within limit (instr.Access i) s some =
+    let ticks : Option VectorAccess → ℕ = λ o. option_map_or (λ a. (accessed limit a s).reached - s.vector.vstart) o 1 in
+    of_option (access_of i s.vector s.scalar) (λ o. (1 ≤ ticks o) × (ticks o ≤ limit)) (λ e. (omega arith, omega (arith, some)))
+    (λ a e. let f = (accessed_facts limit i a s e).ticks some in (omega (arith, f.0), omega (arith, f.1)))
 ticks_within limit _ s some = (omega arith, omega (arith, some))
 
 -- the ticks of an instruction are those of its step
