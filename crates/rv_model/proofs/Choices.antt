@@ -1,5 +1,5 @@
 -- What holds of each branch of a test, or of each form of an option, holds of the one that is taken.
-use Rattle.std.proofs.Common.{◌≡◌, Bool, true, false, refl, cond, Option, Some, None}
+use Rattle.std.proofs.Common.{◌≡◌, ◌⊎◌, inl, inr, Bool, true, false, refl, cond, Option, Some, None}
 
 -- what holds of both holds of the one that a test picks
 pub of_either : {A : Type 0} (P : A → Type 0) (b : Bool) (x y : A) → P x → P y → P (cond b x y)
@@ -20,3 +20,8 @@ of_bool false P h k = k refl
 pub of_option : {A : Type 0} (o : Option A) (P : Option A → Type 0) → (o ≡ None → P None) → ((a : A) → o ≡ Some a → P (Some a)) → P o
 of_option None P h k = h refl
 of_option (Some a) P h k = k a refl
+
+-- what is found first is what the test picks, or is among the rest
+pub first_or : {A : Type 0} (b : Bool) (x y : A) (rest : Option A) → cond b (Some x) rest ≡ Some y → ((b ≡ true) × (x ≡ y)) ⊎ (rest ≡ Some y)
+first_or true x y rest h = inl (refl, cc)
+first_or false x y rest h = inr h

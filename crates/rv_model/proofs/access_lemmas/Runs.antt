@@ -1,5 +1,5 @@
 -- What each vector load or store is made of, where its run stops, and what it leaves.
-use Rattle.std.proofs.Common.{◌≡◌, ◌≢◌, ℕ, ◌+◌, ◌-◌, ◌<◌, ◌≤◌, Bool, true, false, ◌&&◌, cond, List, max, min, ◌⊎◌, inl, inr, Option, Some, None, refl, sym, ◌∙◌, ap, subst, arith}
+use Rattle.std.proofs.Common.{◌≡◌, ◌≢◌, ℕ, ◌+◌, ◌-◌, ◌<◌, ◌≤◌, Bool, true, false, ◌&&◌, List, max, ◌⊎◌, inl, inr, Option, Some, None, refl, sym, ◌∙◌, ap, subst, arith}
 use Rattle.std.specs.Option.{option_map}
 use Rattle.std.specs.Prelude.{IfSome, nat_le, nat_lt, ⊤}
 use Rattle.std.proofs.lemmas.Bool.{and_parts, leb-true}
@@ -17,7 +17,7 @@ use Rattle.rv_model.specs.declared.vector.state.VState.{VState}
 use Rattle.rv_model.specs.declared.vector.types.VType.{VType}
 use Rattle.rv_model.specs.accesses.AccessRuns.{AccessRun, access_ends, access_run, directed_run, load_run, run_or_nothing, runs_to, store_run}
 use Rattle.rv_model.specs.accesses.Restarts.{AccessLeavesOff, IsStopped, LeavesOff}
-use Rattle.rv_model.specs.accesses.Transfers.{Plan, bad_address, end_at, registers_loaded, stop_index, memory_stored, transfers}
+use Rattle.rv_model.specs.accesses.Transfers.{Plan, end_at, registers_loaded, stop_index, memory_stored, transfers}
 use Rattle.rv_model.specs.accesses.VectorAccess.{VectorAccess, access_of, indexed_access, mask_length, element_start, plan, strided_access, unit_access, unmasked_access}
 use Rattle.rv_model.specs.vector.Groups.{access_type}
 use Rattle.rv_model.specs.vector.Configuration.{group_type}
@@ -39,12 +39,10 @@ typed_made None make P each = tt
 typed_made (Some t) make P each = each t
 
 each_made : (i : AccessInstr) (v : VState) (x : Scalar) → IfSome (access_of i v x) (Made v)
-each_made (UnitStride op w nf vd rs1 vm) v x = typed_made v.conf.vtype _ (Made v) (λ t. record { begins = refl; shortens = λ is. refl })
-each_made (Strided d w nf vd rs1 rs2 vm) v x = typed_made v.conf.vtype _ (Made v) (λ t. record { begins = refl; shortens = λ is. refl })
-each_made (Indexed d order w nf vd rs1 vs2 vm) v x = typed_made v.conf.vtype _ (Made v) (λ t. record { begins = refl; shortens = λ is. refl })
 each_made (WholeLoad count w vd rs1) v x = record { begins = refl; shortens = λ is. absurd (cc) }
 each_made (WholeStore count vd rs1) v x = record { begins = refl; shortens = λ is. absurd (cc) }
 each_made (MaskAccess d vd rs1) v x = typed_made v.conf.vtype _ (Made v) (λ t. record { begins = refl; shortens = λ is. absurd (cc) })
+each_made _ v x = typed_made v.conf.vtype _ (Made v) (λ t. record { begins = refl; shortens = λ is. refl })
 
 pub made_of : (i : AccessInstr) (v : VState) (x : Scalar) (a : VectorAccess) → access_of i v x ≡ Some a → Made v a
 made_of i v x a e = subst (λ (o : Option VectorAccess). IfSome o (Made v)) e (each_made i v x)
@@ -146,8 +144,7 @@ AllOrShorter start count first_only v run =
 -- a fact where transfers are done
 abbrev pub AtEnd : MemEnd → Type 0 → Type 0
 AtEnd Done P = P
-AtEnd (Cut index) P = ⊤
-AtEnd (Fault index addr) P = ⊤
+AtEnd _ P = ⊤
 
 pub record Facts (limit start count : ℕ) (d : Direction) (first_only : Bool) (v : VState) (m : Memory) (run : AccessRun) : Type 0 where
   pub stop : AtStop run.end (CutAt limit start count v run) (FaultAt limit start count v run)

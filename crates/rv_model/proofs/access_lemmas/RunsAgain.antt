@@ -1,5 +1,5 @@
 -- Any number of runs of one vector load or store, and runs with a larger limit.
-use Rattle.std.proofs.Common.{◌≡◌, ◌≢◌, ℕ, zero, suc, ◌+◌, ◌-◌, ◌<◌, ◌≤◌, inl, inr, Bool, true, false, cond, List, [], ◌∷◌, min, Option, Some, None, refl, sym, ◌∙◌, ap, subst, arith}
+use Rattle.std.proofs.Common.{◌≡◌, ◌≢◌, ℕ, zero, suc, ◌+◌, ◌-◌, ◌<◌, ◌≤◌, inl, inr, Bool, true, false, cond, List, [], ◌∷◌, min, refl, sym, ◌∙◌, ap, subst, arith}
 use Rattle.std.specs.Prelude.{nat_le}
 use Rattle.std.proofs.lemmas.Bool.{cases_lt, le-leb, lt-leb}
 use Rattle.rv_model.specs.declared.instructions.access.AccessInstr.{AccessInstr}
@@ -9,7 +9,7 @@ use Rattle.rv_model.specs.declared.memory.Access.{Access}
 use Rattle.rv_model.specs.declared.memory.Access.TheVariants as access
 use Rattle.rv_model.specs.declared.scalar.Scalar.{Scalar}
 use Rattle.rv_model.specs.declared.step.memory_end.MemEnd.{MemEnd}
-use Rattle.rv_model.specs.declared.step.memory_end.MemEnd.TheVariants.{Cut, Done, Fault}
+use Rattle.rv_model.specs.declared.step.memory_end.MemEnd.TheVariants.{Cut, Fault}
 use Rattle.rv_model.specs.declared.vector.state.VState.{VState}
 use Rattle.rv_model.specs.accesses.AccessRuns.{AccessRun, access_ends, access_run, directed_run, load_run, run_or_nothing, store_run}
 use Rattle.rv_model.specs.accesses.Restarts.{AreResumed, EndsWhole, GoesOn, LargerLimitIsSame, NextRun, Restartable, access_from, last_run, overlay, with_new}
@@ -109,9 +109,8 @@ moves_more access m each left i cut larger n low more uncut =
     progress_equal _ _ (ap (λ (s : ℕ). left (transfers each i (s - i))) stop) stop (ap (end_at access m each larger n) stop ∙ end)
 
 ends_uncut : (first_only : Bool) (count : ℕ) (v : VState) (m : Memory) (end : MemEnd) → IsUncut (access_ends first_only count v m end).end → IsUncut end
-ends_uncut first_only count v m Done h = h
-ends_uncut first_only count v m (Cut at) h = h
 ends_uncut first_only count v m (Fault at addr) h = λ index e. absurd (cc)
+ends_uncut first_only count v m _ h = h
 
 module _ (limit larger : ℕ) (fill : Bool) (v : VState) (m : Memory) (more : limit ≤ larger) where
   -- the larger limit changes nothing

@@ -18,8 +18,7 @@ use Rattle.rv_model.specs.declared.assembler.forms.Place.TheVariants.{Rd, Rs1, R
 use Rattle.rv_model.specs.declared.assembler.forms.UnsignedField.TheVariants as unsigned
 use Rattle.rv_model.specs.declared.assembler.forms.SignedField.TheVariants as signed
 use Rattle.rv_model.specs.declared.assembler.forms.Slot.{Slot}
-use Rattle.rv_model.specs.declared.assembler.forms.Slot.TheVariants as slot
-use Rattle.rv_model.specs.declared.assembler.forms.Slot.TheVariants.{Comma, Open, Close, V0, Scalar, Vector, Unsigned, Signed, Mask}
+use Rattle.rv_model.specs.declared.assembler.forms.Slot.TheVariants.{Comma, V0, Scalar, Vector, Unsigned, Signed, Mask}
 use Rattle.rv_model.specs.declared.assembler.forms.TheConstants.{PLAIN, REGISTER, IMMEDIATE, SHIFT, SHIFT_WORD, LOAD, STORE, BRANCH, JUMP, UPPER, CSR, CSR_IMMEDIATE, SET_VLI, SET_IVLI, UNMASKED_VECTOR, MOVE_SCALAR, MOVE_TO_SCALAR, WHOLE_MOVE, MASK_TO_SCALAR, VECTOR_UNARY, ELEMENT_INDEX, UNIT, UNMASKED_UNIT, STRIDED, INDEXED}
 use Rattle.rv_model.specs.declared.assembler.mnemonics.Mnemonic.{Mnemonic}
 use Rattle.rv_model.specs.declared.assembler.mnemonics.TheConstants.{MNEMONICS, NAME_COUNT}
@@ -30,7 +29,6 @@ use Rattle.rv_model.specs.lending.Families.{filled}
 use Rattle.rv_model.specs.instructions.Sources.{form_of, source_of}
 use Rattle.rv_model.specs.instructions.Table.{Row, table, scan}
 use Rattle.rv_model.proofs.instruction_lemmas.Scans.{In}
-use Rattle.rv_model.specs.assembler.Fields.{fixed_mask}
 use Rattle.rv_model.specs.assembler.Naming.{HasBitsOf}
 use Rattle.rv_model.specs.assembler.Operands.{TextOperand, V, arith_operands, carry_operands, multiply_add_operands, operand_in, second, text_operands, usual_operands}
 use Rattle.rv_model.specs.assembler.Operands as operand

@@ -1,6 +1,6 @@
 -- What any command comes to: it is refused, and leaves the user's machine and the vector unit; or it prints lines, none of which is a refusal.
 -- Only `leave` makes a user absent.
-use Rattle.std.proofs.Common.{◌≡◌, ◌⊎◌, inl, inr, ℕ, zero, suc, ◌+◌, ◌*◌, ◌/◌, List, [], ◌∷◌, ◌++◌, length, Bool, true, false, ◌&&◌, Option, Some, None, Result, Ok, Err, refl, subst, sym, ap}
+use Rattle.std.proofs.Common.{◌≡◌, ◌⊎◌, inl, inr, ℕ, zero, suc, ◌+◌, ◌*◌, List, [], ◌∷◌, length, Bool, true, false, ◌&&◌, Option, Some, None, Result, Ok, Err, refl, subst, sym, ap}
 use Rattle.std.specs.Prelude.{⊤, not, map, nat_le, nat_lt, if◌then◌else◌}
 use Rattle.std.specs.List.{range_with_len}
 use Rattle.std.proofs.lemmas.Bool.{and_from}
@@ -24,7 +24,6 @@ use Rattle.rv_model.specs.declared.memory.Access.TheVariants.{Monitor}
 use Rattle.rv_model.specs.declared.memory.MapRefusal.{MapRefusal}
 use Rattle.rv_model.specs.declared.memory.Permissions.{Permissions}
 use Rattle.rv_model.specs.declared.step.step_end.Stop.{Stop}
-use Rattle.rv_model.specs.declared.step.step_end.Stop.TheVariants as stop
 use Rattle.rv_model.specs.assembler.Table.{spelled}
 use Rattle.rv_model.specs.commands.Arguments.{Pages}
 use Rattle.rv_model.specs.commands.Breakpoints.{breakpoint_command, breakpoint_limit, breaks_line}
@@ -46,7 +45,7 @@ use Rattle.rv_model.specs.machine.VectorUnit.{VectorUnit, unit_discarded, unused
 use Rattle.rv_model.specs.memory.Memory.{bytes_at, can_access, map_refusal, page_count}
 use Rattle.rv_model.specs.declared.scalar.Scalar.{Scalar}
 use Rattle.rv_model.proofs.Choices.{of_either}
-use Rattle.rv_model.proofs.text_lemmas.Pieces.{◌▸◌, bytes}
+use Rattle.rv_model.proofs.text_lemmas.Pieces.{bytes}
 use Rattle.rv_model.proofs.text_lemmas.Newlines.{IsLine, AreLines}
 use Rattle.rv_model.specs.vector.Registers.{register_of}
 use Rattle.rv_model.proofs.command_lemmas.Breakpoints.{no_newline_in_breaks_line}
@@ -63,7 +62,7 @@ abbrev pub Printed : List (List ℕ) → Type 0
 Printed lines = AreLines lines × (are_plain lines ≡ true)
 
 -- one line
-prints : (line : List ℕ) → IsLine line → is_plain line ≡ true → Printed (line ∷ [])
+pub prints : (line : List ℕ) → IsLine line → is_plain line ≡ true → Printed (line ∷ [])
 prints line h plain = (one_line line h, plain_line line plain)
 
 -- the user is there

@@ -1,24 +1,12 @@
 -- What commands on programs print has no newline.
-use Rattle.std.proofs.Common.{ℕ, ◌+◌, ◌*◌, List, Option, Some, None, Result, Ok, Err, refl}
-use Rattle.std.specs.Prelude.{codes, nat_lt}
+use Rattle.std.proofs.Common.{ℕ, ◌+◌, ◌*◌, List, refl}
+use Rattle.std.specs.Prelude.{codes}
 use Rattle.std.specs.List.{range_with_len}
-use Rattle.rv_model.specs.declared.commands.programs.ProgramCommand.{ProgramCommand}
-use Rattle.rv_model.specs.declared.commands.programs.ProgramCommand.TheVariants.{Load, Asm, Dis}
-use Rattle.rv_model.specs.declared.commands.refusal.Refusal.TheVariants as refusal
-use Rattle.rv_model.specs.declared.images.ElfFault.{ElfFault}
-use Rattle.rv_model.specs.declared.memory.Access.TheVariants.{Monitor}
-use Rattle.rv_model.specs.assembler.Table.{canonical, spelled}
-use Rattle.rv_model.specs.commands.Programs.{image_named, loaded_line, loading, loading_named, asm_line, assembling, dis_line, word_in, dis_lines, program_command, with_image}
-use Rattle.rv_model.specs.images.Faults.{first_fault}
-use Rattle.rv_model.specs.images.Fields.{entry_of}
-use Rattle.rv_model.specs.images.Image.{memory_of_image}
-use Rattle.rv_model.specs.machine.Setup.{Image}
-use Rattle.rv_model.specs.machine.UserMachine.{Present, Outcome, refuses, replies}
-use Rattle.rv_model.specs.memory.Memory.{bytes_at, can_access, page_count}
+use Rattle.rv_model.specs.assembler.Table.{canonical}
+use Rattle.rv_model.specs.commands.Programs.{loaded_line, asm_line, dis_line, word_in, dis_lines}
 use Rattle.rv_model.proofs.text_lemmas.Newlines.{IsLine, AreLines}
 use Rattle.rv_model.proofs.assembler_lemmas.Lines.{canonical_line}
-use Rattle.rv_model.proofs.command_lemmas.Printing.{PrintsLines, one_line, mapped_lines, refusal_prints}
-use Rattle.rv_model.proofs.Choices.{of_either}
+use Rattle.rv_model.proofs.command_lemmas.Printing.{mapped_lines}
 use Rattle.rv_model.proofs.text_lemmas.Pieces.{Piece, ◌▸◌, hexadecimal, short_hexadecimal, number, space}
 
 pub no_newline_in_loaded_line : (pc pages : ℕ) → IsLine (loaded_line pc pages)

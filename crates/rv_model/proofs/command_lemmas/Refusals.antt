@@ -1,54 +1,17 @@
 -- Answers that are no refusals, by their first letter.
-use Rattle.std.proofs.Common.{◌≡◌, ◌⊎◌, inl, inr, ℕ, zero, suc, ◌+◌, ◌*◌, ◌/◌, List, [], ◌∷◌, ◌++◌, get_or, length, Bool, true, false, ◌&&◌, cond, eqb, Option, Some, None, Result, Ok, Err, refl}
-use Rattle.std.specs.Prelude.{⊤, not, map, nat_le, nat_lt, codes, if◌then◌else◌}
+use Rattle.std.proofs.Common.{◌≡◌, ℕ, zero, suc, ◌+◌, ◌/◌, List, [], ◌∷◌, ◌++◌, get_or, Bool, true, ◌&&◌, eqb, refl}
+use Rattle.std.specs.Prelude.{not, codes}
 use Rattle.std.specs.Int.{to_be_bytes, w64}
-use Rattle.std.specs.List.{range_with_len}
 use Rattle.std.proofs.lemmas.Bool.{and_from, and_parts}
 use Rattle.hex.specs.Hex.{encode_with, lower_digits}
-use Rattle.rv_model.specs.declared.commands.breakpoints.BreakpointCommand.{BreakpointCommand}
-use Rattle.rv_model.specs.declared.commands.breakpoints.BreakpointCommand.TheVariants.{Break, Unbreak, Breaks}
-use Rattle.rv_model.specs.declared.commands.command.Cmd.{Cmd}
-use Rattle.rv_model.specs.declared.commands.command.Cmd.TheVariants.{Entering, Memory, Registers, Programs, Breakpoints, Running}
-use Rattle.rv_model.specs.declared.commands.entering.EnteringCommand.{EnteringCommand}
-use Rattle.rv_model.specs.declared.commands.entering.EnteringCommand.TheVariants.{Enter, Leave}
-use Rattle.rv_model.specs.declared.commands.memory.MemoryCommand.{MemoryCommand}
-use Rattle.rv_model.specs.declared.commands.memory.MemoryCommand.TheVariants.{Map, Poke, Peek}
-use Rattle.rv_model.specs.declared.commands.programs.ProgramCommand.{ProgramCommand}
-use Rattle.rv_model.specs.declared.commands.programs.ProgramCommand.TheVariants.{Load, Asm, Dis}
-use Rattle.rv_model.specs.declared.commands.refusal.Refusal.{Refusal}
 use Rattle.rv_model.specs.declared.commands.refusal.Refusal.TheVariants as refusal
-use Rattle.rv_model.specs.declared.commands.registers.RegisterCommand.{RegisterCommand}
-use Rattle.rv_model.specs.declared.commands.registers.RegisterCommand.TheVariants.{Set, Regs, SetPc, Vreg, Vset, Vcsr, SetPolicy}
-use Rattle.rv_model.specs.declared.commands.running.RunningCommand.{RunningCommand}
-use Rattle.rv_model.specs.declared.commands.running.RunningCommand.TheVariants.{Step, Go, Stop as StopRunning, State, Trace, Out}
-use Rattle.rv_model.specs.declared.images.ElfFault.{ElfFault}
-use Rattle.rv_model.specs.declared.memory.Access.TheVariants.{Monitor}
-use Rattle.rv_model.specs.declared.memory.MapRefusal.{MapRefusal}
-use Rattle.rv_model.specs.declared.memory.Permissions.{Permissions}
 use Rattle.rv_model.specs.declared.step.step_end.Stop.{Stop}
 use Rattle.rv_model.specs.declared.step.step_end.Stop.TheVariants as stop
-use Rattle.rv_model.specs.assembler.Table.{canonical, spelled}
-use Rattle.rv_model.specs.commands.Arguments.{Pages}
-use Rattle.rv_model.specs.commands.Breakpoints.{breakpoint_command, breakpoint_limit, breaks_line}
-use Rattle.rv_model.specs.commands.Commands.{Parsed, needs_stopped, of_absent, of_present, carried_out, commanded}
-use Rattle.rv_model.specs.commands.Entering.{entering_absent, entering}
-use Rattle.rv_model.specs.commands.Memory.{mapping, peek_line, memory_command}
+use Rattle.rv_model.specs.assembler.Table.{canonical}
 use Rattle.rv_model.specs.commands.Printing.{hex8, hex16, refused, stop_line}
-use Rattle.rv_model.specs.commands.Programs.{image_named, loaded_line, loading, loading_named, asm_line, assembling, dis_line, word_in, dis_lines, program_command, with_image}
-use Rattle.rv_model.specs.commands.Registers.{register_text, register_line, register_lines, regs_lines, vreg_line, vcsr_line, register_command}
-use Rattle.rv_model.specs.commands.Running.{step_line, running_line, stopped_line, state_line, trace_line, out_line, running_command}
-use Rattle.rv_model.specs.images.Faults.{first_fault}
-use Rattle.rv_model.specs.images.Fields.{entry_of}
-use Rattle.rv_model.specs.images.Image.{memory_of_image}
+use Rattle.rv_model.specs.commands.Programs.{asm_line, dis_line}
 use Rattle.rv_model.specs.machine.Refusals.{ReasonsAreRefusals}
-use Rattle.rv_model.specs.machine.Runs.{Halted, steps}
-use Rattle.rv_model.specs.machine.Setup.{Image}
-use Rattle.rv_model.specs.machine.UnitEvents.{can_be_loaded, unit_after_command, unit_after_entering, unit_after_line, unit_after_load, unit_of_absent, unit_of_present}
-use Rattle.rv_model.specs.machine.UserMachine.{Present, Private, Outcome, has_breakpoint, refuses, replies}
-use Rattle.rv_model.specs.machine.VectorUnit.{VectorUnit, unit_discarded}
-use Rattle.rv_model.specs.memory.Memory.{bytes_at, can_access, map_refusal, page_count}
-use Rattle.rv_model.specs.declared.scalar.Scalar.{Scalar}
-use Rattle.rv_model.proofs.Choices.{of_either}
+use Rattle.rv_model.specs.machine.UserMachine.{replies}
 
 -- ---- answers that are no refusals
 

@@ -3,20 +3,15 @@ use Rattle.std.proofs.Common.{ℕ, zero, suc, ◌+◌, ◌*◌, ◌/◌, List, r
 use Rattle.std.specs.Prelude.{codes, flat_map, reverse, slice_index, slice_range}
 use Rattle.std.specs.List.{range_with_len}
 use Rattle.std.proofs.lemmas.Bool.{and_from}
-use Rattle.rv_model.specs.declared.commands.registers.RegisterCommand.{RegisterCommand}
-use Rattle.rv_model.specs.declared.commands.registers.RegisterCommand.TheVariants.{Set, Regs, SetPc, Vreg, Vset, Vcsr, SetPolicy}
 use Rattle.rv_model.specs.declared.scalar.Scalar.{Scalar}
 use Rattle.rv_model.specs.declared.vector.state.VState.{VState}
 use Rattle.rv_model.specs.declared.vector.types.Sew.{Sew}
-use Rattle.rv_model.specs.commands.Registers.{register_text, register_line, register_lines, regs_lines, element_text, vreg_line, vcsr_line, register_command}
+use Rattle.rv_model.specs.commands.Registers.{register_text, register_line, register_lines, regs_lines, element_text, vreg_line, vcsr_line}
 use Rattle.rv_model.specs.instructions.BitFields.{flag_bit}
-use Rattle.rv_model.specs.machine.UserMachine.{Present}
 use Rattle.rv_model.proofs.text_lemmas.Newlines.{IsLine, AreLines}
 use Rattle.rv_model.specs.vector.Configuration.{sew_bits}
-use Rattle.rv_model.specs.vector.Registers.{register_of}
 use Rattle.rv_model.specs.vector.RoundingModes.{rounding_number}
 use Rattle.rv_model.specs.vector.TypeRules.{vtype_number}
-use Rattle.rv_model.proofs.command_lemmas.Printing.{PrintsLines, one_line}
 use Rattle.rv_model.proofs.text_lemmas.Pieces.{Piece, ◌▸◌, hexadecimal, number, bytes, space, flat_map_line}
 
 no_newline_in_register : (s : Scalar) (i : ℕ) → IsLine (register_text s i)

@@ -2,16 +2,11 @@
 use Rattle.std.proofs.Common.{ℕ, List, [], Bool, true, false, Option, Some, None, refl}
 use Rattle.std.specs.Prelude.{◌++◌, codes, flat_map, if◌then◌else◌, length, nat_lt}
 use Rattle.hex.specs.Hex.{encode_lower}
-use Rattle.rv_model.specs.declared.commands.running.RunningCommand.{RunningCommand}
-use Rattle.rv_model.specs.declared.commands.running.RunningCommand.TheVariants.{Step, Go, Stop as StopRunning, State, Trace, Out}
-use Rattle.rv_model.specs.declared.commands.refusal.Refusal.TheVariants as refusal
 use Rattle.rv_model.specs.declared.step.step_end.Stop.{Stop}
-use Rattle.rv_model.specs.commands.Running.{step_line, running_line, stopped_line, state_line, trace_line, out_line, running_command}
+use Rattle.rv_model.specs.commands.Running.{step_line, running_line, stopped_line, state_line, trace_line, out_line}
 use Rattle.rv_model.specs.commands.Printing.{listed}
-use Rattle.rv_model.specs.machine.Runs.{Halted, steps}
-use Rattle.rv_model.specs.machine.UserMachine.{Present, refuses, replies}
 use Rattle.rv_model.proofs.text_lemmas.Newlines.{IsLine}
-use Rattle.rv_model.proofs.command_lemmas.Printing.{PrintsLines, one_line, refusal_prints, no_newline_in_listed, no_newline_in_stop_line}
+use Rattle.rv_model.proofs.command_lemmas.Printing.{no_newline_in_listed, no_newline_in_stop_line}
 use Rattle.rv_model.proofs.Choices.{of_either}
 use Rattle.rv_model.proofs.text_lemmas.Pieces.{Piece, ◌▸◌, hexadecimal, bytes, number, space, flat_map_line}
 

@@ -1,5 +1,5 @@
 -- The operands of each instruction in its word
-use Rattle.std.proofs.Common.{◌≡◌, refl, ℕ, zero, suc, ◌+◌, ◌-◌, ◌*◌, ◌/◌, ◌%◌, ◌^◌, ◌<◌, List, Bool, true, false, nat_eq, arith}
+use Rattle.std.proofs.Common.{◌≡◌, refl, ℕ, suc, ◌+◌, ◌-◌, ◌*◌, ◌/◌, ◌%◌, ◌^◌, ◌<◌, List, Bool, true, false, nat_eq, arith}
 use Rattle.std.proofs.lemmas.Nat.{mod_below}
 use Rattle.rv_model.specs.declared.instructions.source.Source.{Source}
 use Rattle.rv_model.specs.declared.instructions.source.Source.TheVariants as source
@@ -7,10 +7,10 @@ use Rattle.rv_model.specs.declared.instructions.operations.Form.{Form}
 use Rattle.rv_model.specs.declared.instructions.operations.Form.TheVariants as form
 use Rattle.rv_model.specs.declared.instructions.instruction.Instr.{Instr}
 use Rattle.rv_model.specs.declared.instructions.instruction.Instr.TheVariants as instr
-use Rattle.rv_model.specs.declared.instructions.scalar.ScalarInstr.TheVariants.{Upper, Jump, JumpRegister, Branch, Load, Store, RegisterImmediate, ShiftImmediate, ShiftImmediateWord, RegisterRegister, Fence, System}
-use Rattle.rv_model.specs.declared.instructions.csr.CsrInstr.TheVariants.{Register, Immediate}
-use Rattle.rv_model.specs.declared.instructions.vector.VectorInstr.TheVariants.{SetVli, SetIvli, SetVl, Arith, Carry, Move, WholeMove, MaskLogic, Compress, MaskToScalar, Extend, MaskUnary, ElementIndex, MoveToScalar, MoveToVector}
-use Rattle.rv_model.specs.declared.instructions.access.AccessInstr.TheVariants.{UnitStride, Strided, Indexed, WholeLoad, WholeStore, MaskAccess}
+use Rattle.rv_model.specs.declared.instructions.scalar.ScalarInstr.TheVariants.{Upper, Jump, Branch, Store, System}
+use Rattle.rv_model.specs.declared.instructions.csr.CsrInstr.TheVariants.{Register}
+use Rattle.rv_model.specs.declared.instructions.vector.VectorInstr.TheVariants.{SetVli, Arith, Carry, Move, WholeMove, MaskToScalar, Extend, MaskUnary, ElementIndex, MoveToScalar, MoveToVector}
+use Rattle.rv_model.specs.declared.instructions.access.AccessInstr.TheVariants.{UnitStride, Strided, Indexed}
 use Rattle.rv_model.specs.instructions.BitFields.{field, flag, flag_bit, Part, mask_of, fixed}
 use Rattle.rv_model.specs.instructions.Immediates.{store_immediate}
 use Rattle.rv_model.specs.instructions.Sources.{form_of, source_of, source_number}
@@ -19,9 +19,8 @@ use Rattle.rv_model.specs.lending.Families.{filled}
 use Rattle.rv_model.proofs.instruction_lemmas.Parts.{share_none, clear, Reads, of_word}
 
 bit_back : (n : ℕ) → n < 2 → flag_bit (nat_eq n 1) ≡ n
-bit_back zero h = refl
-bit_back (suc zero) h = refl
 bit_back (suc (suc n)) h = absurd (omega arith)
+bit_back _ h = refl
 
 flag_back : (word : ℕ) → flag_bit (flag word) ≡ field 25 1 word
 flag_back word = bit_back (field 25 1 word) (mod_below (word / 2 ^ 25) 2 (omega arith))
@@ -32,18 +31,15 @@ bit_pair false = refl
 
 source_again : (s : Source) → source_of (form_of s) (source_number s) ≡ s
 source_again (source.V n) = refl
-source_again (source.X n) = refl
-source_again (source.I n) = refl
+source_again _ = refl
 
 number-source_of : (f : Form) (n : ℕ) → source_number (source_of f n) ≡ n
 number-source_of form.V n = refl
-number-source_of form.X n = refl
-number-source_of form.I n = refl
+number-source_of _ n = refl
 
 pub form_source_of : (f : Form) (n : ℕ) → form_of (source_of f n) ≡ f
 form_source_of form.V n = refl
-form_source_of form.X n = refl
-form_source_of form.I n = refl
+form_source_of _ n = refl
 
 pub low_again : (a b : ℕ) → a < 2 ^ 5 → (a + b * 2 ^ 5) % 2 ^ 5 ≡ a
 low_again a b h = omega arith

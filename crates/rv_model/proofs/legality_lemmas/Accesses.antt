@@ -9,7 +9,7 @@ use Rattle.rv_model.specs.declared.instructions.access.AccessInstr.TheVariants.{
 use Rattle.rv_model.specs.declared.instructions.operations.Direction.{Direction}
 use Rattle.rv_model.specs.declared.instructions.operations.Order.{Order}
 use Rattle.rv_model.specs.declared.instructions.operations.RegisterCount.{RegisterCount}
-use Rattle.rv_model.specs.declared.instructions.operations.RegisterCount.TheVariants.{One, Two, Four, Eight}
+use Rattle.rv_model.specs.declared.instructions.operations.RegisterCount.TheVariants.{One}
 use Rattle.rv_model.specs.declared.instructions.operations.UnitOp.{UnitOp}
 use Rattle.rv_model.specs.declared.instructions.operations.Eew.{Eew}
 use Rattle.rv_model.specs.declared.legality.Role.{Role}
@@ -145,9 +145,7 @@ indexed_inside direction order w nf vd rs1 vs2 vm t vstart vl legal h =
 -- so many registers are a group of so many registers
 whole_registers : (count : RegisterCount) → 1 * registers (8 * register_count count) ≡ register_count count
 whole_registers One = refl
-whole_registers Two = refl
-whole_registers Four = refl
-whole_registers Eight = refl
+whole_registers _ = refl
 
 pub whole_load_inside : (count : RegisterCount) (w : Eew) (vd rs1 : ℕ) (t : Option VType) (vstart : ℕ)
     → is_legal (instr.Access (WholeLoad count w vd rs1)) t vstart ≡ true → vd + register_count count ≤ VECTOR_REGISTERS

@@ -1,6 +1,6 @@
 -- What legality tells of the registers of an instruction: its groups end inside the file, and have room for each element.
-use Rattle.std.specs.Prelude.{None, Option, Some, nat_le, nat_lt, ⊤}
-use Rattle.std.proofs.Common.{◌≡◌, ℕ, ◌+◌, ◌*◌, ◌/◌, ◌%◌, ◌<◌, ◌≤◌, suc, List, ◌∷◌, length, Bool, true, false, ◌||◌, refl, subst, arith, lit≤, lit<, All}
+use Rattle.std.specs.Prelude.{Some, nat_le, nat_lt, ⊤}
+use Rattle.std.proofs.Common.{◌≡◌, ℕ, ◌+◌, ◌*◌, ◌/◌, ◌<◌, ◌≤◌, suc, List, ◌∷◌, length, Bool, true, false, ◌||◌, refl, subst, arith, lit≤, lit<, All}
 use Rattle.std.proofs.Math.Nat.{mul-le-mul_left}
 use Rattle.std.proofs.lemmas.Bool.Decides.{nat_tests}
 use Rattle.rv_model.specs.declared.instructions.instruction.Instr.TheVariants as instr
@@ -11,13 +11,13 @@ use Rattle.rv_model.specs.declared.instructions.operations.CarryOutOp.{CarryOutO
 use Rattle.rv_model.specs.declared.instructions.operations.ClipOp.{ClipOp}
 use Rattle.rv_model.specs.declared.instructions.operations.CompareOp.{CompareOp}
 use Rattle.rv_model.specs.declared.instructions.operations.ExtendOp.{ExtendOp}
-use Rattle.rv_model.specs.declared.instructions.operations.ExtendOp.TheVariants.{VzextVf8, VsextVf8, VzextVf4, VsextVf4, VzextVf2, VsextVf2}
+use Rattle.rv_model.specs.declared.instructions.operations.ExtendOp.TheVariants.{VzextVf8}
 use Rattle.rv_model.specs.declared.instructions.operations.FixedPointOp.{FixedPointOp}
 use Rattle.rv_model.specs.declared.instructions.operations.MaskUnaryOp.TheVariants as mask_unary
 use Rattle.rv_model.specs.declared.instructions.operations.MultiplyAddOp.{MultiplyAddOp}
 use Rattle.rv_model.specs.declared.instructions.operations.NarrowShiftOp.{NarrowShiftOp}
 use Rattle.rv_model.specs.declared.instructions.operations.PermuteOp.{PermuteOp}
-use Rattle.rv_model.specs.declared.instructions.operations.PermuteOp.TheVariants.{Vrgather, Vrgatherei16, Vslideup, Vslidedown, Vslide1up, Vslide1down}
+use Rattle.rv_model.specs.declared.instructions.operations.PermuteOp.TheVariants.{Vrgather, Vrgatherei16}
 use Rattle.rv_model.specs.declared.instructions.operations.ReduceOp.{ReduceOp}
 use Rattle.rv_model.specs.declared.instructions.operations.WidenReduceOp.{WidenReduceOp}
 use Rattle.rv_model.specs.declared.instructions.operations.WidenOp.{WidenOp}
@@ -29,11 +29,11 @@ use Rattle.rv_model.specs.declared.legality.Operand.{Operand}
 use Rattle.rv_model.specs.declared.legality.Role.{Role}
 use Rattle.rv_model.specs.declared.legality.Role.TheVariants.{Apart, Read, Write}
 use Rattle.rv_model.specs.declared.legality.Shape.{Shape}
-use Rattle.rv_model.specs.declared.legality.Shape.TheVariants.{Compare, Gather, GatherIndices16, Narrowing, Reduction, Single, WideReduction, WideSource, Widening}
+use Rattle.rv_model.specs.declared.legality.Shape.TheVariants.{Compare, Narrowing, Reduction, Single, WideSource, Widening}
 use Rattle.rv_model.specs.declared.instructions.source.Source.{Source}
 use Rattle.rv_model.specs.declared.instructions.source.Source.TheVariants as source
 use Rattle.rv_model.specs.declared.vector.types.Lmul.{Lmul}
-use Rattle.rv_model.specs.declared.vector.types.Lmul.TheVariants.{Mf8, Mf4, Mf2, M1, M2, M4, M8}
+use Rattle.rv_model.specs.declared.vector.types.Lmul.TheVariants.{Mf8, M8}
 use Rattle.rv_model.specs.declared.vector.types.Sew.{Sew}
 use Rattle.rv_model.specs.declared.vector.types.Sew.TheVariants.{E8, E64}
 use Rattle.rv_model.specs.declared.vector.types.VType.{VType}
@@ -45,7 +45,7 @@ use Rattle.rv_model.specs.lending.GroupBounds.{HasIndices, HasRoom, HoldsBody, I
 use mir.Val.{bits}
 use Rattle.std.specs.Int.{Width, w16}
 use Rattle.rv_model.specs.elements.PermutationResults.{source_type}
-use Rattle.rv_model.specs.vector.Groups.{doubled, extension_divisor, halved, part_type, part_width, single_type, wide_type, with_width}
+use Rattle.rv_model.specs.vector.Groups.{doubled, extension_divisor, part_type, part_width, wide_type, with_width}
 use Rattle.rv_model.specs.vector.Configuration.{Configuration, group_type, IsConfiguration, sew_bits, sew_width, width_bytes, lmul_eighths, vlmax}
 use Rattle.rv_model.proofs.vector_lemmas.Lengths.{IsLength}
 use Rattle.rv_model.proofs.legality_lemmas.Meaning.{IsGroup, legal_groups}

@@ -1,6 +1,5 @@
 -- What legality tells of the overlaps of a vector load: its mask stays, and of its indices those that are still to be used.
 use Rattle.std.specs.Prelude.{IsTrue, Some, nat_le, nat_lt, ◌==◌}
-use Rattle.std.specs.List.{list_all}
 use Rattle.std.proofs.Common.{◌≡◌, ◌∷◌, ◌⊎◌, inl, inr, ℕ, ◌+◌, ◌-◌, ◌*◌, ◌/◌, ◌%◌, ◌<◌, ◌≤◌, Bool, true, false, ◌&&◌, ◌||◌, cond, refl, sym, ap, ◌∙◌, subst, arith, lit<}
 use Rattle.std.proofs.Math.Nat.{add-mul, mod-add-div', mul_comm}
 use Rattle.std.proofs.lemmas.Bool.{and_parts, both_ways, cases_order, eqb-true, leb-true, ltb-true, or_cases}
@@ -27,7 +26,6 @@ use Rattle.rv_model.specs.legality.RegisterOperands.{Overlap, is_mask, may_share
 use Rattle.rv_model.specs.vector.Groups.{access_type}
 use Rattle.rv_model.specs.vector.Configuration.{element_width, group_type, lmul_eighths, sew_bits, sew_width, vlmax, width_bytes}
 use Rattle.rv_model.specs.vector.Registers.{registers}
-use Rattle.rv_model.specs.vector.TypeNames.{lmuls, sews}
 use Rattle.rv_model.proofs.legality_lemmas.Accesses.{elements_fit}
 use Rattle.rv_model.proofs.legality_lemmas.Meaning.{IsGroup, MayOverlap, groups_are, may_overlap_means}
 use Rattle.rv_model.proofs.legality_lemmas.Bounds.{before_end0, before_end1, emul-sew, first_of, second_of}

@@ -1,5 +1,5 @@
 -- Whichever the instruction is, the vector length stays one of the vector type, and what is allowed at an address stays.
-use Rattle.std.proofs.Common.{◌≡◌, ℕ, ◌*◌, ◌^◌, ◌≤◌, Bool, true, false, ◌==◌, cond, Option, Some, None, refl, sym, ap, subst, arith}
+use Rattle.std.proofs.Common.{◌≡◌, ℕ, ◌*◌, ◌^◌, ◌≤◌, Bool, true, false, ◌==◌, Option, Some, None, refl, sym, ap, subst, arith}
 use Rattle.std.specs.Prelude.{nat_le, nat_lt, ⊤}
 use Rattle.std.specs.Option.{option_map_or}
 use Rattle.std.proofs.lemmas.Bool.{eqb-true, leb-true}
@@ -145,9 +145,7 @@ vector_stays limit i s =
 after_vector_stays : (ticks : ℕ) (end : VEnd) (word : ℕ) (s after : HartState) → Stays s after
     → Stays s (after_vector ticks end word after).state
 after_vector_stays ticks vector_end.Done word s after h = record { configured = h.configured; allowed = h.allowed }
-after_vector_stays ticks vector_end.Illegal word s after h = h
-after_vector_stays ticks (vector_end.Fault store addr) word s after h = h
-after_vector_stays ticks (vector_end.Cut index) word s after h = h
+after_vector_stays ticks _ word s after h = h
 
 vector_step_stays : (limit : ℕ) (i : Instr) (word : ℕ) (s : HartState) → Stays s (vector_step limit i word s).state
 vector_step_stays limit i word s =

@@ -61,15 +61,12 @@ either_keeps s b x y h k = of_either (λ r. VectorKeeps s r) b x y h k
 -- no load or store writes a scalar register
 same_unless : (end : VEnd) (x : Scalar) → UnlessDone end (x ≡ x)
 same_unless vector_end.Done x = tt
-same_unless vector_end.Illegal x = refl
-same_unless (vector_end.Fault store addr) x = refl
-same_unless (vector_end.Cut index) x = refl
+same_unless _ x = refl
 
 -- none is illegal where it is carried out
 access_is_legal : (d : Direction) (end : MemEnd) (P : Type 0) → IfIllegal (access_end d end) P
 access_is_legal d memory_end.Done P = tt
-access_is_legal d (memory_end.Fault index addr) P = tt
-access_is_legal d (memory_end.Cut index) P = tt
+access_is_legal d _ P = tt
 
 access_keeps : (limit : ℕ) (i : AccessInstr) (o : Option VectorAccess) (s : HartState) → VectorKeeps s (access_step limit i o s)
 access_keeps limit i None s = record { refused = refl; first = refl; output = refl; illegal = refl }
@@ -106,10 +103,9 @@ as_before {old} same = subst (λ (output : List ℕ). PutsOut old output) (sym s
 
 after_vector_keeps : (ticks : ℕ) (end : VEnd) (word : ℕ) (s s' : HartState) → UnlessDone end (s'.scalar ≡ s.scalar) → SameFirst s.scalar s'.scalar → s'.output ≡ s.output
     → Keeps s (after_vector ticks end word s')
-after_vector_keeps ticks vector_end.Done word s s' h k same = record { fault = tt; first = k; output = as_before same }
 after_vector_keeps ticks vector_end.Illegal word s s' h k same = record { fault = h; first = k; output = as_before same }
 after_vector_keeps ticks (vector_end.Fault store addr) word s s' h k same = record { fault = h; first = k; output = as_before same }
-after_vector_keeps ticks (vector_end.Cut index) word s s' h k same = record { fault = tt; first = k; output = as_before same }
+after_vector_keeps ticks _ word s s' h k same = record { fault = tt; first = k; output = as_before same }
 
 vector_step_keeps : (limit : ℕ) (i : Instr) (word : ℕ) (s : HartState) → Keeps s (vector_step limit i word s)
 vector_step_keeps limit i word s =

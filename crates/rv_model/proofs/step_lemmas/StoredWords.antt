@@ -1,5 +1,5 @@
 -- A vector store with no byte in its own word leaves that word; no load changes any.
-use Rattle.std.proofs.Common.{◌≡◌, ◌≢◌, ℕ, zero, suc, ◌+◌, ◌-◌, ◌<◌, ◌≤◌, ◌⊎◌, inl, inr, Bool, true, false, ◌&&◌, cond, List, [], ◌∷◌, length, drop, refl, ◌∙◌, ap, arith, length-take}
+use Rattle.std.proofs.Common.{◌≡◌, ◌≢◌, ℕ, zero, suc, ◌+◌, ◌-◌, ◌<◌, ◌≤◌, ◌⊎◌, inl, inr, Bool, false, ◌&&◌, List, [], ◌∷◌, length, drop, refl, ◌∙◌, ap, arith, length-take}
 use Rattle.std.specs.Prelude.{All, nat_le, nat_lt}
 use Rattle.std.specs.FinMap.{get}
 use Rattle.std.specs.Simd.Lanes.{chunk}
@@ -8,10 +8,10 @@ use Rattle.rv_model.specs.declared.instructions.operations.Direction.{Direction}
 use Rattle.rv_model.specs.declared.instructions.operations.Direction.TheVariants as direction
 use Rattle.rv_model.specs.declared.memory.Access.TheVariants as access
 use Rattle.rv_model.specs.declared.step.memory_end.MemEnd.{MemEnd}
-use Rattle.rv_model.specs.declared.step.memory_end.MemEnd.TheVariants.{Cut, Done, Fault}
+use Rattle.rv_model.specs.declared.step.memory_end.MemEnd.TheVariants.{Done, Fault}
 use Rattle.rv_model.specs.declared.vector.state.VState.{VState}
 use Rattle.rv_model.specs.accesses.AccessRuns.{AccessRun, access_ends, directed_run, load_run, store_run}
-use Rattle.rv_model.specs.accesses.Transfers.{Moved, Ones, Plan, Transfer, TransferKind, bad_address, end_at, registers_loaded, stop_index, memory_stored, transfers, with_element}
+use Rattle.rv_model.specs.accesses.Transfers.{Moved, Ones, Plan, Transfer, TransferKind, end_at, registers_loaded, stop_index, memory_stored, transfers, with_element}
 use Rattle.rv_model.specs.accesses.VectorAccess.{VectorAccess, element_start, plan}
 use Rattle.rv_model.specs.memory.Memory.{Memory}
 use Rattle.rv_model.specs.step.Resumes.{IsApart}
@@ -78,9 +78,8 @@ store_keeps limit a v m pc =
         run.end ≢ Done → TransfersApart pc run.vector.vstart a → SameWord pc m run.memory
 
 ends_memory : (first_only : Bool) (count : ℕ) (v : VState) (m : Memory) (end : MemEnd) → (access_ends first_only count v m end).memory ≡ m
-ends_memory first_only count v m Done = refl
-ends_memory first_only count v m (Cut index) = refl
 ends_memory first_only count v m (Fault index addr) = of_either (λ (r : AccessRun). r.memory ≡ m) (first_only && nat_lt 0 index) _ _ refl refl
+ends_memory first_only count v m _ = refl
 
 load_keeps : (limit : ℕ) (fill : Bool) (a : VectorAccess) (v : VState) (m : Memory) (pc : ℕ) → SameWord pc m (load_run limit fill a v m).memory
 unfolding load_run

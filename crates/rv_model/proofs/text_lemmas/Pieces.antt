@@ -1,5 +1,5 @@
 -- Texts without a newline: numbers, and what is made of such texts.
-use Rattle.std.proofs.Common.{◌≡◌, ℕ, zero, suc, ◌+◌, ◌/◌, ◌%◌, List, [], ◌∷◌, ◌++◌, get_or, Bool, true, false, refl, ap, arith, eqb, cond, Option, Some, None}
+use Rattle.std.proofs.Common.{◌≡◌, ℕ, zero, suc, ◌+◌, ◌/◌, ◌%◌, List, [], ◌∷◌, ◌++◌, get_or, true, false, refl, ap, arith, eqb}
 use Rattle.std.specs.Prelude.{not, decimal, codes, ◌==◌, nat_lt, flat_map}
 use Rattle.std.specs.Int.{to_be_bytes, w32, w64}
 use Rattle.std.proofs.lemmas.Bool.Decides.{nat_tests}
