@@ -80,8 +80,7 @@ again_of (Indexed d order w nf vd rs1 vs2 vm) v x a file start =
     (λ t. (indexed_access d (group_type t) (access_type t w) nf vd rs1 vs2 vm later x).address) refl
 again_of (MaskAccess d vd rs1) v x a file start =
     typed_again (MaskAccess d vd rs1) v x a file start _ (λ t. (unmasked_access d (mask_length v.conf.vl) 1 1 vd rs1 v x).address) refl
-again_of (WholeLoad count w vd rs1) v x a file start = λ e. record { address = a.address; is = ap (option_map (λ b. access_again b (register_of file 0) start b.address)) e }
-again_of (WholeStore count vd rs1) v x a file start = λ e. record { address = a.address; is = ap (option_map (λ b. access_again b (register_of file 0) start b.address)) e }
+again_of _ v x a file start = λ e. record { address = a.address; is = ap (option_map (λ b. access_again b (register_of file 0) start b.address)) e }
 
 -- ---- where transfers stop
 

@@ -4,7 +4,7 @@ use Rattle.std.specs.Prelude.{nat_le, nat_lt}
 use Rattle.std.proofs.lemmas.Bool.Decides.{nat_tests}
 use Rattle.rv_model.specs.declared.memory.Access.TheVariants as access
 use Rattle.rv_model.specs.declared.step.memory_end.MemEnd.{MemEnd}
-use Rattle.rv_model.specs.declared.step.memory_end.MemEnd.TheVariants.{Cut, Done, Fault}
+use Rattle.rv_model.specs.declared.step.memory_end.MemEnd.TheVariants.{Done}
 use Rattle.rv_model.specs.declared.vector.state.VState.{VState}
 use Rattle.rv_model.specs.accesses.AccessRuns.{AccessRun, access_ends, load_run, runs_to, store_run}
 use Rattle.rv_model.specs.accesses.Restarts.{Extends, overlay}
@@ -53,8 +53,7 @@ begins_alike : (first_only : Bool) (count : ℕ) (v : VState) (m : Memory) (end 
 begins_alike first_only count v m Done file start h g =
     let reached : max (start + 1) count ≡ max (v.vstart + 1) count = omega (arith, h, g) in
     ap (λ (n : ℕ). runs_to Done n (record v { file = file; vstart = 0 }) m) reached
-begins_alike first_only count v m (Cut index) file start h g = refl
-begins_alike first_only count v m (Fault index addr) file start h g = refl
+begins_alike first_only count v m _ file start h g = refl
 
 -- a load that is stopped
 record LoadStopped (run : AccessRun) (v : VState) (m : Memory) (moved : Progress (List ℕ)) (n : ℕ) : Type 0 where

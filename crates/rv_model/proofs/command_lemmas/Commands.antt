@@ -45,7 +45,6 @@ use Rattle.rv_model.specs.machine.VectorUnit.{VectorUnit, unit_discarded, unused
 use Rattle.rv_model.specs.memory.Memory.{bytes_at, can_access, map_refusal, page_count}
 use Rattle.rv_model.specs.declared.scalar.Scalar.{Scalar}
 use Rattle.rv_model.proofs.Choices.{of_either}
-use Rattle.rv_model.proofs.text_lemmas.Pieces.{bytes}
 use Rattle.rv_model.proofs.text_lemmas.Newlines.{IsLine, AreLines}
 use Rattle.rv_model.specs.vector.Registers.{register_of}
 use Rattle.rv_model.proofs.command_lemmas.Breakpoints.{no_newline_in_breaks_line}

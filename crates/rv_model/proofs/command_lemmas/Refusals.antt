@@ -1,5 +1,5 @@
 -- Answers that are no refusals, by their first letter.
-use Rattle.std.proofs.Common.{◌≡◌, ℕ, zero, suc, ◌+◌, ◌/◌, List, [], ◌∷◌, ◌++◌, get_or, Bool, true, ◌&&◌, eqb, refl}
+use Rattle.std.proofs.Common.{◌≡◌, ℕ, zero, suc, ◌/◌, List, [], ◌∷◌, ◌++◌, get_or, Bool, true, ◌&&◌, eqb, refl}
 use Rattle.std.specs.Prelude.{not, codes}
 use Rattle.std.specs.Int.{to_be_bytes, w64}
 use Rattle.std.proofs.lemmas.Bool.{and_from, and_parts}

@@ -29,7 +29,7 @@ use Rattle.rv_model.specs.declared.legality.Operand.{Operand}
 use Rattle.rv_model.specs.declared.legality.Role.{Role}
 use Rattle.rv_model.specs.declared.legality.Role.TheVariants.{Apart, Read, Write}
 use Rattle.rv_model.specs.declared.legality.Shape.{Shape}
-use Rattle.rv_model.specs.declared.legality.Shape.TheVariants.{Compare, Narrowing, Reduction, Single, WideSource, Widening}
+use Rattle.rv_model.specs.declared.legality.Shape.TheVariants.{Narrowing, Reduction, Single, WideSource, Widening}
 use Rattle.rv_model.specs.declared.instructions.source.Source.{Source}
 use Rattle.rv_model.specs.declared.instructions.source.Source.TheVariants as source
 use Rattle.rv_model.specs.declared.vector.types.Lmul.{Lmul}

@@ -15,7 +15,7 @@ use Rattle.rv_model.specs.declared.memory.Permissions.{Permissions}
 use Rattle.rv_model.specs.memory.Memory.{Cell, Memory, permits, can_access, bytes_at, put_byte, put_bytes, add_cells, with_pages, page_count, any_page_mapped, map_refusal, is_within, WritesBytes, MapsZeros, MapsPermissions, ReadsBytes, AllowsEachByte, memory_byte, can_access_byte}
 use Rattle.rv_model.specs.declared.memory.MapRefusal.TheVariants.{Quota, AlreadyMapped}
 use Rattle.rv_model.specs.memory.Sizes.{page_size, page_quota}
-use Rattle.rv_model.proofs.Choices.{of_bool}
+use Rattle.rv_model.proofs.Choices.{of_bool, of_option}
 
 -- two memories that answer alike are equal
 pub same_memory : (m n : Memory) → ((x : ℕ) → get m x ≡ get n x) → m ≡ n
@@ -169,11 +169,10 @@ can_access_not access m a n k x h e refused =
 
 is_allowed_monitor : (access : Access) (m : Memory) (x : ℕ) → can_access_byte access m x ≡ true → can_access_byte Monitor m x ≡ true
 unfolding can_access_byte
-is_allowed_monitor access m x t = through (get m x) t
-  where
-    through : (o : Option Cell) → option_map_or (λ c. permits access c.permissions) o false ≡ true → option_map_or (λ c. permits Monitor c.permissions) o false ≡ true
-    through None h = h
-    through (Some c) h = refl
+is_allowed_monitor access m x =
+    of_option (get m x)
+    (λ o. option_map_or (λ c. permits access c.permissions) o false ≡ true → option_map_or (λ c. permits Monitor c.permissions) o false ≡ true)
+    (λ e h. h) (λ c e h. refl)
 
 -- the monitor may access whatever a program may
 pub can_access_monitor : (access : Access) (m : Memory) (a n : ℕ) → can_access access m a n ≡ true → can_access Monitor m a n ≡ true

@@ -14,7 +14,7 @@ use Rattle.rv_model.specs.declared.step.vector_end.VEnd.TheVariants as vector_en
 use Rattle.rv_model.specs.declared.vector.control_register.ControlRegister.{ControlRegister}
 use Rattle.rv_model.specs.declared.vector.control_register.ControlRegister.TheVariants.{Vstart}
 use Rattle.rv_model.specs.declared.vector.request.RequestedLength.{RequestedLength}
-use Rattle.rv_model.specs.declared.vector.request.RequestedLength.TheVariants.{Elements, Maximum, Keep}
+use Rattle.rv_model.specs.declared.vector.request.RequestedLength.TheVariants.{Keep}
 use Rattle.rv_model.specs.declared.vector.state.VState.{VState}
 use Rattle.rv_model.specs.declared.vector.types.Lmul.{Lmul}
 use Rattle.rv_model.specs.declared.vector.types.Sew.{Sew}
@@ -63,10 +63,9 @@ kept_length (Some u) vl t is e = omega (arith, is.1, eqb-true (vlmax u) (vlmax t
 
 length_configures : (old : Configuration) (t : VType) (length : RequestedLength) → IsConfiguration old → IsSupported t
     → IsConfiguration (with_length old t length)
-length_configures old t (Elements n) is supported = (supported, omega arith)
-length_configures old t Maximum is supported = (supported, omega arith)
 length_configures old t Keep is supported =
     of_test IsConfiguration (same_vlmax old.vtype t) _ _ (λ e. (supported, kept_length old.vtype old.vl t is e)) (λ e. refl)
+length_configures old t _ is supported = (supported, omega arith)
 
 type_configures : (old : Configuration) (o : Option VType) (length : RequestedLength) → IsConfiguration old → Supports o
     → IsConfiguration (option_map_or (λ t. with_length old t length) o (record { vl = 0; vtype = None }))

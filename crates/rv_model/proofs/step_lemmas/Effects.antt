@@ -1,5 +1,5 @@
 -- A fault writes no scalar register, x0 stays, and the output buffer only grows, whatever the instruction is.
-use Rattle.std.proofs.Common.{◌≡◌, ℕ, Bool, List, [], cond, refl, sym, subst, append-nil, arith, Option, Some, None}
+use Rattle.std.proofs.Common.{◌≡◌, ℕ, List, [], refl, sym, subst, append-nil, arith, Option, Some, None}
 use Rattle.rv_model.specs.declared.instructions.instruction.Instr.{Instr}
 use Rattle.rv_model.specs.declared.instructions.instruction.Instr.TheVariants as instr
 use Rattle.rv_model.specs.declared.instructions.vector.VectorInstr.{VectorInstr}
@@ -55,9 +55,6 @@ pub record VectorKeeps (s : HartState) (r : VectorStepped) : Type 0 where
   output : r.state.output ≡ s.output
   pub illegal : IfIllegal r.end (r.state ≡ s)
 
-either_keeps : (s : HartState) (b : Bool) (x y : VectorStepped) → VectorKeeps s x → VectorKeeps s y → VectorKeeps s (cond b x y)
-either_keeps s b x y h k = of_either (λ r. VectorKeeps s r) b x y h k
-
 -- no load or store writes a scalar register
 same_unless : (end : VEnd) (x : Scalar) → UnlessDone end (x ≡ x)
 same_unless vector_end.Done x = tt
@@ -95,7 +92,7 @@ performed_keeps limit _ s = record { refused = refl; first = refl; output = refl
 pub vector_keeps : (limit : ℕ) (i : Instr) (s : HartState) → VectorKeeps s (vector_executed limit i s)
 unfolding vector_executed
 vector_keeps limit i s =
-    either_keeps s (is_legal i s.vector.conf.vtype s.vector.vstart) _ _ (performed_keeps limit i s) (record { refused = refl; first = refl; output = refl; illegal = refl })
+    of_either (VectorKeeps s) (is_legal i s.vector.conf.vtype s.vector.vstart) _ _ (performed_keeps limit i s) (record { refused = refl; first = refl; output = refl; illegal = refl })
 
 -- an output buffer that is as it was
 as_before : {old new : List ℕ} → new ≡ old → PutsOut old new
