@@ -11,6 +11,7 @@ use Rattle.rv_model.specs.vector.State.{initial_vector}
 use Rattle.lazy_context.specs.declared.areas.Areas.{Areas}
 use Rattle.lazy_context.specs.declared.unit.Unit.{Unit}
 use Rattle.lazy_context.specs.LazyUnit.{IsOwnerAUser, IsSettled, KeepsArea, KeepsAreas, OthersKeep, areas_saved, discarded, new_unit, poked, record_of, state_of, taken, touched, with_seat}
+use Rattle.rv_model.proofs.Choices.{of_either, of_option}
 use Rattle.lazy_context.specs.SaveAreas.{area, new_areas, saved_state, with_register, with_saved}
 
 -- an owner's state that isn't dirty is the one that the save areas show
@@ -69,19 +70,13 @@ pub taken_keeps : (user other : ℕ) (areas : Areas) (unit : Unit)
     → state_of (taken user areas unit) other ≡ saved_state areas other
 taken_keeps user other areas unit = grind arith
 
-touched_keeps_by : (user other : ℕ) (unit : Unit) (b : Bool) → is_owned_by unit.owner user ≡ b
-    → ((n : ℕ) → 1 ≤ n → saved_state (areas_saved unit.owner unit.seat unit.areas) n ≡ state_of unit n) → 1 ≤ other
-    → state_of (if b then unit else taken user (areas_saved unit.owner unit.seat unit.areas) unit) other ≡ state_of unit other
-touched_keeps_by user other unit true is shown low = refl
-touched_keeps_by user other unit false is shown low =
-    taken_keeps user other (areas_saved unit.owner unit.seat unit.areas) unit ∙ shown other low
-
 -- a touch changes nobody's state
 pub touched_keeps : (user other : ℕ) (unit : Unit) → length unit.areas.states ≡ user_count → length unit.areas.marks ≡ user_count
     → IsOwnerAUser unit.owner → IsSettled unit → 1 ≤ other → state_of (touched user unit) other ≡ state_of unit other
 touched_keeps user other unit states marks is_user settled low =
-    touched_keeps_by user other unit (is_owned_by unit.owner user) refl
-    (λ n from. saved_keep unit.owner unit.seat unit.areas n states marks is_user settled from) low
+    let saved : Areas = areas_saved unit.owner unit.seat unit.areas in
+    of_either (λ (after : Unit). state_of after other ≡ state_of unit other) (is_owned_by unit.owner user) unit (taken user saved unit) refl
+    (taken_keeps user other saved unit ∙ saved_keep unit.owner unit.seat unit.areas other states marks is_user settled low)
 
 touched_owner : (user : ℕ) (unit : Unit) → is_owned_by (touched user unit).owner user ≡ true
 touched_owner user unit = grind arith
@@ -102,23 +97,14 @@ pub touched_again : (user : ℕ) (unit : Unit) (back : Seat)
     → touched user (with_seat back (touched user unit)) ≡ with_seat back (touched user unit)
 touched_again user unit back = grind arith
 
-counts_by : (user : ℕ) (unit : Unit) (owner : Option ℕ) → unit.owner ≡ owner
-    → record_of (touched user unit) ≡ unit_touched user (record_of unit)
-counts_by user unit None e = grind arith
-counts_by user unit (Some n) e = grind arith
-
 -- a touch is counted as it is written
 pub touch_counts : (user : ℕ) (unit : Unit) → record_of (touched user unit) ≡ unit_touched user (record_of unit)
-touch_counts user unit = counts_by user unit unit.owner refl
-
-clean_by : (user : ℕ) (unit : Unit) (owner : Option ℕ) → unit.owner ≡ owner → unit.seat.dirty ≡ false
-    → KeepsAreas unit (touched user unit)
-clean_by user unit None e h = grind arith
-clean_by user unit (Some n) e h = grind arith
+touch_counts user unit =
+    of_option unit.owner (λ o. record_of (touched user unit) ≡ unit_touched user (record_of unit)) (λ e. grind arith) (λ n e. grind arith)
 
 -- where the owner's state isn't dirty, a touch writes no save area
 pub clean_touches : (user : ℕ) (unit : Unit) → unit.seat.dirty ≡ false → KeepsAreas unit (touched user unit)
-clean_touches user unit h = clean_by user unit unit.owner refl h
+clean_touches user unit h = of_option unit.owner (λ o. KeepsAreas unit (touched user unit)) (λ e. grind arith) (λ n e. grind arith)
 
 -- a save writes no area but the dirty owner's
 pub other_areas : (owner : Option ℕ) (seat : Seat) (areas : Areas) (other : ℕ) → IsOwnerAUser owner → 1 ≤ other

@@ -1,6 +1,6 @@
 -- A word of OP-V is one of a regular operation, or else it is found among the irregular rows; the accesses of unit stride, of
 -- registers and at distances are told apart by mop; a call or breakpoint is found first.
-use Rattle.std.proofs.Common.{◌≡◌, ◌≢◌, refl, ap, ◌∙◌, sym, ℕ, List, [], ◌∷◌, ◌++◌, Option, Some, None, inl, inr, ◌⊎◌}
+use Rattle.std.proofs.Common.{◌≡◌, ◌≢◌, refl, ap, ◌∙◌, sym, ℕ, List, [], ◌∷◌, ◌++◌, Option, Some, None, ◌⊎◌}
 use Rattle.std.specs.Prelude.{IfNone, IfSome}
 use Rattle.std.specs.Int.Bits.{bit_and}
 use Rattle.std.specs.Option.{option_map, option_or}
@@ -12,7 +12,7 @@ use Rattle.rv_model.specs.declared.instructions.operations.SystemOp.{SystemOp}
 use Rattle.rv_model.specs.declared.instructions.scalar.ScalarInstr.TheVariants.{System}
 use Rattle.rv_model.specs.declared.instructions.vector.VectorInstr.TheVariants.{Arith}
 use Rattle.rv_model.specs.instructions.Table.{Row, table, scan}
-use Rattle.rv_model.specs.lending.Families.{rows, Systems, Csrs, CsrImmediates, Ariths, Carries, Moves, WholeMoves, MaskLogics, Compresses, MasksToScalar, Extends, MaskUnaries, ElementIndices, MovesToScalar, MovesToVector, SetVlis, SetIvlis, SetVls, Units, Strideds, Indexeds, WholeLoads, WholeStores, MaskMemories}
+use Rattle.rv_model.specs.lending.Families.{Family, rows, Systems, Csrs, CsrImmediates, Ariths, Carries, Moves, WholeMoves, MaskLogics, Compresses, MasksToScalar, Extends, MaskUnaries, ElementIndices, MovesToScalar, MovesToVector, SetVlis, SetIvlis, SetVls, Units, Strideds, Indexeds, WholeLoads, WholeStores, MaskMemories}
 use Rattle.rv_model.proofs.instruction_lemmas.Scans.{scan_append, scan_narrow, same_narrow, narrowed, no_scan, DiffersFrom}
 use Rattle.rv_model.specs.declared.instructions.arith_operation.ArithOperation.{ArithOperation}
 use Rattle.rv_decode.specs.Irregular.{irregular, other_accesses}
@@ -89,63 +89,52 @@ no_irregular word h = no_scan 0x707f places word irregular refl h
 
 -- ---- regular operations
 
-pub some_0057 : (word : ℕ) (found : Option ArithOperation) → bit_and word 0x707f ≡ 0x0057
-    → option_map (λ o. instr.Vector (Arith o.arith o.vd o.vs2 o.unmasked)) found ≡ scan (rows (Ariths Opi form.V)) word
-    → IfSome found (λ o. scan table word ≡ Some (instr.Vector (Arith o.arith o.vd o.vs2 o.unmasked)))
+abbrev pub FindsRegular : Family → ℕ → Option ArithOperation → Type 0
+FindsRegular family word found = option_map (λ o. instr.Vector (Arith o.arith o.vd o.vs2 o.unmasked)) found ≡ scan (rows family) word
+
+abbrev pub IsRegular : ℕ → Option ArithOperation → Type 0
+IsRegular word found = IfSome found (λ o. scan table word ≡ Some (instr.Vector (Arith o.arith o.vd o.vs2 o.unmasked)))
+
+abbrev pub IsIrregular : ℕ → Option ArithOperation → Type 0
+IsIrregular word found = IfNone found (scan table word ≡ scan irregular word)
+
+pub some_0057 : (word : ℕ) (found : Option ArithOperation) → bit_and word 0x707f ≡ 0x0057 → FindsRegular (Ariths Opi form.V) word found → IsRegular word found
 unfolding rows
 some_0057 word found is e = first_found instr_of found (scan table word) (rows (Ariths Opi form.V)) (rows (Carries form.V) ++ rows (Moves form.V)) word (at_0057 word is) e
 
-pub none_0057 : (word : ℕ) (found : Option ArithOperation) → bit_and word 0x707f ≡ 0x0057
-    → option_map (λ o. instr.Vector (Arith o.arith o.vd o.vs2 o.unmasked)) found ≡ scan (rows (Ariths Opi form.V)) word
-    → IfNone found (scan table word ≡ scan irregular word)
+pub none_0057 : (word : ℕ) (found : Option ArithOperation) → bit_and word 0x707f ≡ 0x0057 → FindsRegular (Ariths Opi form.V) word found → IsIrregular word found
 unfolding rows
 none_0057 word found is e = first_missed instr_of found (scan table word) (scan irregular word) (rows (Ariths Opi form.V)) (rows (Carries form.V) ++ rows (Moves form.V)) word (at_0057 word is) (irregular_0057 word is) e
 
-pub some_4057 : (word : ℕ) (found : Option ArithOperation) → bit_and word 0x707f ≡ 0x4057
-    → option_map (λ o. instr.Vector (Arith o.arith o.vd o.vs2 o.unmasked)) found ≡ scan (rows (Ariths Opi form.X)) word
-    → IfSome found (λ o. scan table word ≡ Some (instr.Vector (Arith o.arith o.vd o.vs2 o.unmasked)))
+pub some_4057 : (word : ℕ) (found : Option ArithOperation) → bit_and word 0x707f ≡ 0x4057 → FindsRegular (Ariths Opi form.X) word found → IsRegular word found
 unfolding rows
 some_4057 word found is e = first_found instr_of found (scan table word) (rows (Ariths Opi form.X)) (rows (Carries form.X) ++ rows (Moves form.X)) word (at_4057 word is) e
 
-pub none_4057 : (word : ℕ) (found : Option ArithOperation) → bit_and word 0x707f ≡ 0x4057
-    → option_map (λ o. instr.Vector (Arith o.arith o.vd o.vs2 o.unmasked)) found ≡ scan (rows (Ariths Opi form.X)) word
-    → IfNone found (scan table word ≡ scan irregular word)
+pub none_4057 : (word : ℕ) (found : Option ArithOperation) → bit_and word 0x707f ≡ 0x4057 → FindsRegular (Ariths Opi form.X) word found → IsIrregular word found
 unfolding rows
 none_4057 word found is e = first_missed instr_of found (scan table word) (scan irregular word) (rows (Ariths Opi form.X)) (rows (Carries form.X) ++ rows (Moves form.X)) word (at_4057 word is) (irregular_4057 word is) e
 
-pub some_3057 : (word : ℕ) (found : Option ArithOperation) → bit_and word 0x707f ≡ 0x3057
-    → option_map (λ o. instr.Vector (Arith o.arith o.vd o.vs2 o.unmasked)) found ≡ scan (rows (Ariths Opi form.I)) word
-    → IfSome found (λ o. scan table word ≡ Some (instr.Vector (Arith o.arith o.vd o.vs2 o.unmasked)))
+pub some_3057 : (word : ℕ) (found : Option ArithOperation) → bit_and word 0x707f ≡ 0x3057 → FindsRegular (Ariths Opi form.I) word found → IsRegular word found
 unfolding rows
 some_3057 word found is e = first_found instr_of found (scan table word) (rows (Ariths Opi form.I)) (rows (Carries form.I) ++ rows (Moves form.I) ++ rows WholeMoves) word (at_3057 word is) e
 
-pub none_3057 : (word : ℕ) (found : Option ArithOperation) → bit_and word 0x707f ≡ 0x3057
-    → option_map (λ o. instr.Vector (Arith o.arith o.vd o.vs2 o.unmasked)) found ≡ scan (rows (Ariths Opi form.I)) word
-    → IfNone found (scan table word ≡ scan irregular word)
+pub none_3057 : (word : ℕ) (found : Option ArithOperation) → bit_and word 0x707f ≡ 0x3057 → FindsRegular (Ariths Opi form.I) word found → IsIrregular word found
 unfolding rows
 none_3057 word found is e = first_missed instr_of found (scan table word) (scan irregular word) (rows (Ariths Opi form.I)) (rows (Carries form.I) ++ rows (Moves form.I) ++ rows WholeMoves) word (at_3057 word is) (irregular_3057 word is) e
 
-pub some_2057 : (word : ℕ) (found : Option ArithOperation) → bit_and word 0x707f ≡ 0x2057
-    → option_map (λ o. instr.Vector (Arith o.arith o.vd o.vs2 o.unmasked)) found ≡ scan (rows (Ariths Opm form.V)) word
-    → IfSome found (λ o. scan table word ≡ Some (instr.Vector (Arith o.arith o.vd o.vs2 o.unmasked)))
+pub some_2057 : (word : ℕ) (found : Option ArithOperation) → bit_and word 0x707f ≡ 0x2057 → FindsRegular (Ariths Opm form.V) word found → IsRegular word found
 unfolding rows
 some_2057 word found is e = first_found instr_of found (scan table word) (rows (Ariths Opm form.V)) (rows MaskLogics ++ rows Compresses ++ rows MasksToScalar ++ rows Extends ++ rows MaskUnaries ++ rows ElementIndices ++ rows MovesToScalar) word (at_2057 word is) e
 
-pub none_2057 : (word : ℕ) (found : Option ArithOperation) → bit_and word 0x707f ≡ 0x2057
-    → option_map (λ o. instr.Vector (Arith o.arith o.vd o.vs2 o.unmasked)) found ≡ scan (rows (Ariths Opm form.V)) word
-    → IfNone found (scan table word ≡ scan irregular word)
+pub none_2057 : (word : ℕ) (found : Option ArithOperation) → bit_and word 0x707f ≡ 0x2057 → FindsRegular (Ariths Opm form.V) word found → IsIrregular word found
 unfolding rows
 none_2057 word found is e = first_missed instr_of found (scan table word) (scan irregular word) (rows (Ariths Opm form.V)) (rows MaskLogics ++ rows Compresses ++ rows MasksToScalar ++ rows Extends ++ rows MaskUnaries ++ rows ElementIndices ++ rows MovesToScalar) word (at_2057 word is) (irregular_2057 word is) e
 
-pub some_6057 : (word : ℕ) (found : Option ArithOperation) → bit_and word 0x707f ≡ 0x6057
-    → option_map (λ o. instr.Vector (Arith o.arith o.vd o.vs2 o.unmasked)) found ≡ scan (rows (Ariths Opm form.X)) word
-    → IfSome found (λ o. scan table word ≡ Some (instr.Vector (Arith o.arith o.vd o.vs2 o.unmasked)))
+pub some_6057 : (word : ℕ) (found : Option ArithOperation) → bit_and word 0x707f ≡ 0x6057 → FindsRegular (Ariths Opm form.X) word found → IsRegular word found
 unfolding rows
 some_6057 word found is e = first_found instr_of found (scan table word) (rows (Ariths Opm form.X)) (rows MovesToVector) word (at_6057 word is) e
 
-pub none_6057 : (word : ℕ) (found : Option ArithOperation) → bit_and word 0x707f ≡ 0x6057
-    → option_map (λ o. instr.Vector (Arith o.arith o.vd o.vs2 o.unmasked)) found ≡ scan (rows (Ariths Opm form.X)) word
-    → IfNone found (scan table word ≡ scan irregular word)
+pub none_6057 : (word : ℕ) (found : Option ArithOperation) → bit_and word 0x707f ≡ 0x6057 → FindsRegular (Ariths Opm form.X) word found → IsIrregular word found
 unfolding rows
 none_6057 word found is e = first_missed instr_of found (scan table word) (scan irregular word) (rows (Ariths Opm form.X)) (rows MovesToVector) word (at_6057 word is) (irregular_6057 word is) e
 

@@ -19,7 +19,7 @@ use Rattle.rv_model.specs.declared.instructions.access.AccessInstr.TheVariants.{
 use Rattle.rv_model.specs.instructions.BitFields.{part, fixed}
 use Rattle.rv_model.specs.instructions.Sources.{source_of}
 use Rattle.rv_model.specs.lending.ListedBits.{whole_move_bits, mask_memory_bits, upper_bits, branch_bits, load_bits, store_bits, immediate_op_bits, shift_immediate_bits, shift_immediate_word_bits, register_op_bits, system_bits, csr_bits, csr_immediate_bits, mask_logic_bits, mask_to_scalar_bits, extend_bits, mask_unary_bits, unit_access_bits, strided_access_bits, indexed_access_bits, whole_load_bits, whole_store_bits}
-use Rattle.rv_model.specs.lending.Families.{upper_ops, branch_ops, load_ops, store_ops, immediate_ops, shift_immediate_ops, shift_immediate_word_ops, register_ops, system_ops, csr_ops, csr_immediate_ops, mask_logic_ops, mask_to_scalar_ops, extend_ops, mask_unary_ops, carry_ops, filled, row_of, rows, unit_accesses, strided_accesses, indexed_accesses, whole_loads, Uppers, Jumps, JumpRegisters, Branches, Loads, Stores, RegisterImmediates, ShiftImmediates, ShiftImmediateWords, RegisterRegisters, Fences, Systems, Csrs, CsrImmediates, SetVlis, SetIvlis, SetVls, Ariths, Carries, Moves, WholeMoves, MaskLogics, Compresses, MasksToScalar, Extends, MaskUnaries, ElementIndices, MovesToScalar, MovesToVector, Units, Strideds, Indexeds, WholeLoads, WholeStores, MaskMemories}
+use Rattle.rv_model.specs.lending.Families.{upper_ops, branch_ops, load_ops, store_ops, immediate_ops, shift_immediate_ops, shift_immediate_word_ops, register_ops, system_ops, csr_ops, csr_immediate_ops, mask_logic_ops, mask_to_scalar_ops, extend_ops, mask_unary_ops, carry_ops, filled, row_of, rows, Family, unit_accesses, strided_accesses, indexed_accesses, whole_loads, Uppers, Jumps, JumpRegisters, Branches, Loads, Stores, RegisterImmediates, ShiftImmediates, ShiftImmediateWords, RegisterRegisters, Fences, Systems, Csrs, CsrImmediates, SetVlis, SetIvlis, SetVls, Ariths, Carries, Moves, WholeMoves, MaskLogics, Compresses, MasksToScalar, Extends, MaskUnaries, ElementIndices, MovesToScalar, MovesToVector, Units, Strideds, Indexeds, WholeLoads, WholeStores, MaskMemories}
 use Rattle.rv_model.specs.instructions.Table.{directions, counts, table, scan}
 use Rattle.rv_model.specs.instructions.Operations.{has_form, line, carry_line, line_bits, major_bits, vector_ops}
 use Rattle.rv_model.specs.lending.Search.{same_major, those, find, find_at}
@@ -117,124 +117,93 @@ scan_system word small =
     scan_map system_bits 0xffffffff (λ op. instr.Scalar (System op)) (λ x. refl) (λ x. refl) system_ops word
     ∙ ap (λ w. answer (λ op. instr.Scalar (System op)) word (find system_bits system_ops w)) (whole_word word small)
 
-pub scan_upper : (word : ℕ)
-    → scan (rows Uppers) word ≡ answer (λ op. instr.Scalar (Upper op 0 0)) word (find upper_bits upper_ops (bit_and word 0x0000007f))
+-- a scan of a family's rows finds its operation by the bits that all of them fix
+abbrev pub Finds : {A : Type 0} → Family → (A → Instr) → (A → ℕ) → List A → ℕ → ℕ → Type 0
+Finds family t code ops mask word = scan (rows family) word ≡ answer t word (find code ops (bit_and word mask))
+
+pub scan_upper : (word : ℕ) → Finds Uppers (λ op. instr.Scalar (Upper op 0 0)) upper_bits upper_ops 0x0000007f word
 unfolding rows
 scan_upper word = scan_map upper_bits 0x0000007f (λ op. instr.Scalar (Upper op 0 0)) (λ x. refl) (λ x. refl) upper_ops word
 
-pub scan_branch : (word : ℕ)
-    → scan (rows Branches) word ≡ answer (λ op. instr.Scalar (Branch op 0 0 0)) word (find branch_bits branch_ops (bit_and word 0x0000707f))
+pub scan_branch : (word : ℕ) → Finds Branches (λ op. instr.Scalar (Branch op 0 0 0)) branch_bits branch_ops 0x0000707f word
 unfolding rows
 scan_branch word = scan_map branch_bits 0x0000707f (λ op. instr.Scalar (Branch op 0 0 0)) (λ x. refl) (λ x. refl) branch_ops word
 
-pub scan_load : (word : ℕ)
-    → scan (rows Loads) word ≡ answer (λ op. instr.Scalar (Load op 0 0 0)) word (find load_bits load_ops (bit_and word 0x0000707f))
+pub scan_load : (word : ℕ) → Finds Loads (λ op. instr.Scalar (Load op 0 0 0)) load_bits load_ops 0x0000707f word
 unfolding rows
 scan_load word = scan_map load_bits 0x0000707f (λ op. instr.Scalar (Load op 0 0 0)) (λ x. refl) (λ x. refl) load_ops word
 
-pub scan_store : (word : ℕ)
-    → scan (rows Stores) word ≡ answer (λ op. instr.Scalar (Store op 0 0 0)) word (find store_bits store_ops (bit_and word 0x0000707f))
+pub scan_store : (word : ℕ) → Finds Stores (λ op. instr.Scalar (Store op 0 0 0)) store_bits store_ops 0x0000707f word
 unfolding rows
 scan_store word = scan_map store_bits 0x0000707f (λ op. instr.Scalar (Store op 0 0 0)) (λ x. refl) (λ x. refl) store_ops word
 
-pub scan_register_immediate : (word : ℕ)
-    → scan (rows RegisterImmediates) word ≡ answer (λ op. instr.Scalar (RegisterImmediate op 0 0 0)) word (find immediate_op_bits immediate_ops (bit_and word 0x0000707f))
+pub scan_register_immediate : (word : ℕ) → Finds RegisterImmediates (λ op. instr.Scalar (RegisterImmediate op 0 0 0)) immediate_op_bits immediate_ops 0x0000707f word
 unfolding rows
 scan_register_immediate word = scan_map immediate_op_bits 0x0000707f (λ op. instr.Scalar (RegisterImmediate op 0 0 0)) (λ x. refl) (λ x. refl) immediate_ops word
 
-pub scan_shift_immediate : (word : ℕ)
-    → scan (rows ShiftImmediates) word ≡ answer (λ op. instr.Scalar (ShiftImmediate op 0 0 0)) word (find shift_immediate_bits shift_immediate_ops (bit_and word 0xfc00707f))
+pub scan_shift_immediate : (word : ℕ) → Finds ShiftImmediates (λ op. instr.Scalar (ShiftImmediate op 0 0 0)) shift_immediate_bits shift_immediate_ops 0xfc00707f word
 unfolding rows
-scan_shift_immediate word =
-    scan_map shift_immediate_bits 0xfc00707f (λ op. instr.Scalar (ShiftImmediate op 0 0 0)) (λ x. refl) (λ x. refl) shift_immediate_ops word
+scan_shift_immediate word = scan_map shift_immediate_bits 0xfc00707f (λ op. instr.Scalar (ShiftImmediate op 0 0 0)) (λ x. refl) (λ x. refl) shift_immediate_ops word
 
-pub scan_shift_immediate_word : (word : ℕ)
-    → scan (rows ShiftImmediateWords) word ≡ answer (λ op. instr.Scalar (ShiftImmediateWord op 0 0 0)) word (find shift_immediate_word_bits shift_immediate_word_ops (bit_and word 0xfe00707f))
+pub scan_shift_immediate_word : (word : ℕ) → Finds ShiftImmediateWords (λ op. instr.Scalar (ShiftImmediateWord op 0 0 0)) shift_immediate_word_bits shift_immediate_word_ops 0xfe00707f word
 unfolding rows
-scan_shift_immediate_word word =
-    scan_map shift_immediate_word_bits 0xfe00707f (λ op. instr.Scalar (ShiftImmediateWord op 0 0 0)) (λ x. refl) (λ x. refl) shift_immediate_word_ops word
+scan_shift_immediate_word word = scan_map shift_immediate_word_bits 0xfe00707f (λ op. instr.Scalar (ShiftImmediateWord op 0 0 0)) (λ x. refl) (λ x. refl) shift_immediate_word_ops word
 
-pub scan_register_register : (word : ℕ)
-    → scan (rows RegisterRegisters) word ≡ answer (λ op. instr.Scalar (RegisterRegister op 0 0 0)) word (find register_op_bits register_ops (bit_and word 0xfe00707f))
+pub scan_register_register : (word : ℕ) → Finds RegisterRegisters (λ op. instr.Scalar (RegisterRegister op 0 0 0)) register_op_bits register_ops 0xfe00707f word
 unfolding rows
 scan_register_register word = scan_map register_op_bits 0xfe00707f (λ op. instr.Scalar (RegisterRegister op 0 0 0)) (λ x. refl) (λ x. refl) register_ops word
 
-pub scan_csr : (word : ℕ)
-    → scan (rows Csrs) word ≡ answer (λ op. instr.Csr (Register op 0 0 0)) word (find csr_bits csr_ops (bit_and word 0x0000707f))
+pub scan_csr : (word : ℕ) → Finds Csrs (λ op. instr.Csr (Register op 0 0 0)) csr_bits csr_ops 0x0000707f word
 unfolding rows
 scan_csr word = scan_map csr_bits 0x0000707f (λ op. instr.Csr (Register op 0 0 0)) (λ x. refl) (λ x. refl) csr_ops word
 
-pub scan_csr_immediate : (word : ℕ)
-    → scan (rows CsrImmediates) word ≡ answer (λ op. instr.Csr (Immediate op 0 0 0)) word (find csr_immediate_bits csr_immediate_ops (bit_and word 0x0000707f))
+pub scan_csr_immediate : (word : ℕ) → Finds CsrImmediates (λ op. instr.Csr (Immediate op 0 0 0)) csr_immediate_bits csr_immediate_ops 0x0000707f word
 unfolding rows
-scan_csr_immediate word =
-    scan_map csr_immediate_bits 0x0000707f (λ op. instr.Csr (Immediate op 0 0 0)) (λ x. refl) (λ x. refl) csr_immediate_ops word
+scan_csr_immediate word = scan_map csr_immediate_bits 0x0000707f (λ op. instr.Csr (Immediate op 0 0 0)) (λ x. refl) (λ x. refl) csr_immediate_ops word
 
-pub scan_whole_move : (word : ℕ)
-    → scan (rows WholeMoves) word ≡ answer (λ op. instr.Vector (WholeMove op 0 0)) word (find whole_move_bits counts (bit_and word 0xfe0ff07f))
+pub scan_whole_move : (word : ℕ) → Finds WholeMoves (λ op. instr.Vector (WholeMove op 0 0)) whole_move_bits counts 0xfe0ff07f word
 unfolding rows
-scan_whole_move word =
-    scan_map whole_move_bits 0xfe0ff07f (λ op. instr.Vector (WholeMove op 0 0)) (λ x. refl) (λ x. refl) counts word
+scan_whole_move word = scan_map whole_move_bits 0xfe0ff07f (λ op. instr.Vector (WholeMove op 0 0)) (λ x. refl) (λ x. refl) counts word
 
-pub scan_mask_logic : (word : ℕ)
-    → scan (rows MaskLogics) word ≡ answer (λ op. instr.Vector (MaskLogic op 0 0 0)) word (find mask_logic_bits mask_logic_ops (bit_and word 0xfe00707f))
+pub scan_mask_logic : (word : ℕ) → Finds MaskLogics (λ op. instr.Vector (MaskLogic op 0 0 0)) mask_logic_bits mask_logic_ops 0xfe00707f word
 unfolding rows
-scan_mask_logic word =
-    scan_map mask_logic_bits 0xfe00707f (λ op. instr.Vector (MaskLogic op 0 0 0)) (λ x. refl) (λ x. refl) mask_logic_ops word
+scan_mask_logic word = scan_map mask_logic_bits 0xfe00707f (λ op. instr.Vector (MaskLogic op 0 0 0)) (λ x. refl) (λ x. refl) mask_logic_ops word
 
-pub scan_mask_to_scalar : (word : ℕ)
-    → scan (rows MasksToScalar) word ≡ answer (λ op. instr.Vector (MaskToScalar op 0 0 true)) word (find mask_to_scalar_bits mask_to_scalar_ops (bit_and word 0xfc0ff07f))
+pub scan_mask_to_scalar : (word : ℕ) → Finds MasksToScalar (λ op. instr.Vector (MaskToScalar op 0 0 true)) mask_to_scalar_bits mask_to_scalar_ops 0xfc0ff07f word
 unfolding rows
-scan_mask_to_scalar word =
-    scan_map mask_to_scalar_bits 0xfc0ff07f (λ op. instr.Vector (MaskToScalar op 0 0 true)) (λ x. refl) (λ x. refl) mask_to_scalar_ops word
+scan_mask_to_scalar word = scan_map mask_to_scalar_bits 0xfc0ff07f (λ op. instr.Vector (MaskToScalar op 0 0 true)) (λ x. refl) (λ x. refl) mask_to_scalar_ops word
 
-pub scan_extend : (word : ℕ)
-    → scan (rows Extends) word ≡ answer (λ op. instr.Vector (Extend op 0 0 true)) word (find extend_bits extend_ops (bit_and word 0xfc0ff07f))
+pub scan_extend : (word : ℕ) → Finds Extends (λ op. instr.Vector (Extend op 0 0 true)) extend_bits extend_ops 0xfc0ff07f word
 unfolding rows
-scan_extend word =
-    scan_map extend_bits 0xfc0ff07f (λ op. instr.Vector (Extend op 0 0 true)) (λ x. refl) (λ x. refl) extend_ops word
+scan_extend word = scan_map extend_bits 0xfc0ff07f (λ op. instr.Vector (Extend op 0 0 true)) (λ x. refl) (λ x. refl) extend_ops word
 
-pub scan_mask_unary : (word : ℕ)
-    → scan (rows MaskUnaries) word ≡ answer (λ op. instr.Vector (MaskUnary op 0 0 true)) word (find mask_unary_bits mask_unary_ops (bit_and word 0xfc0ff07f))
+pub scan_mask_unary : (word : ℕ) → Finds MaskUnaries (λ op. instr.Vector (MaskUnary op 0 0 true)) mask_unary_bits mask_unary_ops 0xfc0ff07f word
 unfolding rows
-scan_mask_unary word =
-    scan_map mask_unary_bits 0xfc0ff07f (λ op. instr.Vector (MaskUnary op 0 0 true)) (λ x. refl) (λ x. refl) mask_unary_ops word
+scan_mask_unary word = scan_map mask_unary_bits 0xfc0ff07f (λ op. instr.Vector (MaskUnary op 0 0 true)) (λ x. refl) (λ x. refl) mask_unary_ops word
 
-pub scan_unit : (word : ℕ)
-    → scan (rows Units) word ≡ answer (λ op. instr.Access (UnitStride op.0 op.1 0 0 0 true)) word (find unit_access_bits unit_accesses (bit_and word 0x1df0707f))
+pub scan_unit : (word : ℕ) → Finds Units (λ op. instr.Access (UnitStride op.0 op.1 0 0 0 true)) unit_access_bits unit_accesses 0x1df0707f word
 unfolding rows
-scan_unit word =
-    scan_map unit_access_bits 0x1df0707f (λ op. instr.Access (UnitStride op.0 op.1 0 0 0 true)) (λ x. refl) (λ x. refl) unit_accesses word
+scan_unit word = scan_map unit_access_bits 0x1df0707f (λ op. instr.Access (UnitStride op.0 op.1 0 0 0 true)) (λ x. refl) (λ x. refl) unit_accesses word
 
-pub scan_strided : (word : ℕ)
-    → scan (rows Strideds) word ≡ answer (λ op. instr.Access (Strided op.0 op.1 0 0 0 0 true)) word (find strided_access_bits strided_accesses (bit_and word 0x1c00707f))
+pub scan_strided : (word : ℕ) → Finds Strideds (λ op. instr.Access (Strided op.0 op.1 0 0 0 0 true)) strided_access_bits strided_accesses 0x1c00707f word
 unfolding rows
-scan_strided word =
-    scan_map strided_access_bits 0x1c00707f (λ op. instr.Access (Strided op.0 op.1 0 0 0 0 true)) (λ x. refl) (λ x. refl) strided_accesses word
+scan_strided word = scan_map strided_access_bits 0x1c00707f (λ op. instr.Access (Strided op.0 op.1 0 0 0 0 true)) (λ x. refl) (λ x. refl) strided_accesses word
 
-pub scan_indexed : (word : ℕ)
-    → scan (rows Indexeds) word ≡ answer (λ op. instr.Access (Indexed op.0.0 op.0.1 op.1 0 0 0 0 true)) word (find indexed_access_bits indexed_accesses (bit_and word 0x1c00707f))
+pub scan_indexed : (word : ℕ) → Finds Indexeds (λ op. instr.Access (Indexed op.0.0 op.0.1 op.1 0 0 0 0 true)) indexed_access_bits indexed_accesses 0x1c00707f word
 unfolding rows
-scan_indexed word =
-    scan_map indexed_access_bits 0x1c00707f (λ op. instr.Access (Indexed op.0.0 op.0.1 op.1 0 0 0 0 true)) (λ x. refl) (λ x. refl) indexed_accesses word
+scan_indexed word = scan_map indexed_access_bits 0x1c00707f (λ op. instr.Access (Indexed op.0.0 op.0.1 op.1 0 0 0 0 true)) (λ x. refl) (λ x. refl) indexed_accesses word
 
-pub scan_whole_load : (word : ℕ)
-    → scan (rows WholeLoads) word ≡ answer (λ op. instr.Access (WholeLoad op.0 op.1 0 0)) word (find whole_load_bits whole_loads (bit_and word 0xfff0707f))
+pub scan_whole_load : (word : ℕ) → Finds WholeLoads (λ op. instr.Access (WholeLoad op.0 op.1 0 0)) whole_load_bits whole_loads 0xfff0707f word
 unfolding rows
-scan_whole_load word =
-    scan_map whole_load_bits 0xfff0707f (λ op. instr.Access (WholeLoad op.0 op.1 0 0)) (λ x. refl) (λ x. refl) whole_loads word
+scan_whole_load word = scan_map whole_load_bits 0xfff0707f (λ op. instr.Access (WholeLoad op.0 op.1 0 0)) (λ x. refl) (λ x. refl) whole_loads word
 
-pub scan_whole_store : (word : ℕ)
-    → scan (rows WholeStores) word ≡ answer (λ op. instr.Access (WholeStore op 0 0)) word (find whole_store_bits counts (bit_and word 0xfff0707f))
+pub scan_whole_store : (word : ℕ) → Finds WholeStores (λ op. instr.Access (WholeStore op 0 0)) whole_store_bits counts 0xfff0707f word
 unfolding rows
-scan_whole_store word =
-    scan_map whole_store_bits 0xfff0707f (λ op. instr.Access (WholeStore op 0 0)) (λ x. refl) (λ x. refl) counts word
+scan_whole_store word = scan_map whole_store_bits 0xfff0707f (λ op. instr.Access (WholeStore op 0 0)) (λ x. refl) (λ x. refl) counts word
 
-pub scan_mask_memory : (word : ℕ)
-    → scan (rows MaskMemories) word ≡ answer (λ op. instr.Access (MaskAccess op 0 0)) word (find mask_memory_bits directions (bit_and word 0xfff0707f))
+pub scan_mask_memory : (word : ℕ) → Finds MaskMemories (λ op. instr.Access (MaskAccess op 0 0)) mask_memory_bits directions 0xfff0707f word
 unfolding rows
-scan_mask_memory word =
-    scan_map mask_memory_bits 0xfff0707f (λ op. instr.Access (MaskAccess op 0 0)) (λ x. refl) (λ x. refl) directions word
+scan_mask_memory word = scan_map mask_memory_bits 0xfff0707f (λ op. instr.Access (MaskAccess op 0 0)) (λ x. refl) (λ x. refl) directions word
 
 -- ---- the families that a word can be of, by its opcode, and for vector operations by funct3 too
 

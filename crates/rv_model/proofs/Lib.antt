@@ -1,3 +1,4 @@
+pub mod Choices
 pub mod access_lemmas
 pub mod assembler_lemmas
 pub mod command_lemmas

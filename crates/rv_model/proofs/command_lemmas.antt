@@ -1,5 +1,5 @@
 -- Laws of what commands print: no printed byte is a newline. One file for each group, as in `specs/commands`.
--- `Refusals`: a command that is refused changes nothing, and no other prints a refusal.
+-- `Commands`: a command that is refused changes nothing, and no other prints a refusal.
 pub mod Breakpoints
 pub mod Commands
 pub mod Memory

@@ -15,6 +15,7 @@ use Rattle.rv_model.specs.memory.Memory.{Cell, Memory, bytes_at, can_access, per
 use Rattle.rv_model.specs.memory.Memory as memory
 use Rattle.rv_model.proofs.access_lemmas.Moves.{stored_allows}
 use Rattle.rv_model.proofs.memory_lemmas.Memory.{can_access-at, get-put_byte_other, get-put_byte_same, get-put_bytes_outside, same_memory, with_byte}
+use Rattle.rv_model.proofs.Choices.{of_option}
 
 -- ---- what is allowed is mapped
 
@@ -111,11 +112,8 @@ overlay_extends m more x c e = get-overlay m more x ∙ ap (λ (o : Option Cell)
 
 -- over one that has all of it, it changes nothing
 pub overlay_grown : OverlayOfGrown
-overlay_grown m more grown = same_memory _ _ (λ x. at x (get m x) refl)
-  where
-    at : (x : ℕ) (o : Option Cell) → get m x ≡ o → get (overlay m more) x ≡ get more x
-    at x None e = get-overlay m more x ∙ ap (λ (o : Option Cell). option_or o (get more x)) e
-    at x (Some c) e = overlay_extends m more x c e ∙ sym (grown x c e)
+overlay_grown m more grown = same_memory _ _ (λ x. of_option (get m x) (λ o. get (overlay m more) x ≡ get more x)
+    (λ e. get-overlay m more x ∙ ap (λ (o : Option Cell). option_or o (get more x)) e) (λ c e. overlay_extends m more x c e ∙ sym (grown x c e)))
 
 -- over one that maps none but its addresses, nothing is new
 pub overlay_same : (m more : Memory) → ((x : ℕ) → memory.can_access_byte Monitor more x ≡ memory.can_access_byte Monitor m x)
@@ -193,12 +191,8 @@ stored_maps m place file ts x c e =
 
 -- with what is new there from the start, what was stored leaves just the memory that has grown
 pub overlay_stored : (m more : Memory) (place : Transfer → ℕ) (file : List ℕ) (ts : List Transfer) → are_allowed Store m ts ≡ true → Extends (memory_stored m place file ts) more → memory_stored (overlay m more) place file ts ≡ more
-overlay_stored m more place file ts ok grown = same_memory _ _ (λ x. at x (get m x) refl)
-  where
-    at : (x : ℕ) (o : Option Cell) → get m x ≡ o → get (memory_stored (overlay m more) place file ts) x ≡ get more x
-    at x None e =
-        stored_outside m (overlay m more) place file ts x e ok ∙ get-overlay m more x ∙ ap (λ (o : Option Cell). option_or o (get more x)) e
-    at x (Some c) e =
-        let there = overlay_extends m more x c e ∙ sym e in
-        let kept = stored_maps m place file ts x c e in
-        stored_local (overlay m more) m place file ts x there ∙ kept.1 ∙ sym (grown x kept.0 kept.1)
+overlay_stored m more place file ts ok grown = same_memory _ _ (λ x. of_option (get m x) (λ o. get (memory_stored (overlay m more) place file ts) x ≡ get more x)
+    (λ e. stored_outside m (overlay m more) place file ts x e ok ∙ get-overlay m more x ∙ ap (λ (o : Option Cell). option_or o (get more x)) e)
+    (λ c e.
+    let kept = stored_maps m place file ts x c e in
+    stored_local (overlay m more) m place file ts x (overlay_extends m more x c e ∙ sym e) ∙ kept.1 ∙ sym (grown x kept.0 kept.1)))

@@ -1,5 +1,5 @@
 -- Each legal vector load and store, stopped and run again.
-use Rattle.std.proofs.Common.{◌≡◌, ◌≢◌, ℕ, ◌+◌, ◌-◌, ◌*◌, ◌%◌, ◌^◌, ◌<◌, ◌≤◌, inl, inr, Bool, true, false, List, Option, Some, None, refl, sym, ◌∙◌, ap, subst, arith}
+use Rattle.std.proofs.Common.{◌≡◌, ◌≢◌, ℕ, ◌+◌, ◌-◌, ◌*◌, ◌%◌, ◌^◌, ◌<◌, ◌≤◌, inl, inr, Bool, true, false, List, Option, Some, refl, sym, ◌∙◌, ap, subst, arith}
 use Rattle.std.specs.Option.{option_map}
 use Rattle.std.specs.Prelude.{IsSomeAnd}
 use Rattle.std.proofs.lemmas.Bool.{cases_lt}
@@ -33,7 +33,7 @@ use Rattle.rv_model.proofs.access_lemmas.Kept.{Beside, byte_kept, element_kept, 
 use Rattle.rv_model.proofs.access_lemmas.Runs.{access_again, is_stopped, run_facts}
 use Rattle.rv_model.proofs.access_lemmas.RunsResume.{IsResumed, Resumes, ResumesFrom, Run, load_resumes, load_transfers, store_resumes}
 use Rattle.rv_model.proofs.legality_lemmas.Accesses.{elements_fit}
-use Rattle.rv_model.proofs.text_lemmas.Pieces.{of_option}
+use Rattle.rv_model.proofs.Choices.{of_option}
 use Rattle.rv_model.proofs.legality_lemmas.Overlaps.{indexed_above, later_indices_stay, strided_above, unit_above}
 
 -- a mask is the register v0
@@ -199,9 +199,7 @@ access_resumes i limit later fill v x m more legal is ended grown = (resumes lim
 pub stops_within : (i : AccessInstr) (limit : ℕ) (fill : Bool) (v : VState) (x : Scalar) (m : Memory) → (access_run limit fill i v x m).end ≢ Done
     → IsSomeAnd (access_of i v x) (λ a. IsStopped a v (access_run limit fill i v x m).vector)
 unfolding access_run
-stops_within i limit fill v x m ended = named (access_of i v x) refl ended
-  where
-    named : (o : Option VectorAccess) → access_of i v x ≡ o → (run_or_nothing limit fill o v m).end ≢ Done
-        → IsSomeAnd o (λ a. IsStopped a v (run_or_nothing limit fill o v m).vector)
-    named None e ended = absurd (ended refl)
-    named (Some a) e ended = is_stopped limit a v m _ (run_facts limit fill i v x m a e) ended
+stops_within i limit fill v x m =
+    of_option (access_of i v x)
+    (λ o. (run_or_nothing limit fill o v m).end ≢ Done → IsSomeAnd o (λ a. IsStopped a v (run_or_nothing limit fill o v m).vector))
+    (λ e ended. absurd (ended refl)) (λ a e. is_stopped limit a v m _ (run_facts limit fill i v x m a e))

@@ -2,7 +2,7 @@
 use Rattle.std.proofs.Common.{◌≡◌, ℕ, zero, suc, ◌+◌, ◌-◌, ◌<◌, ◌≤◌, true, false, cond, List, ◌++◌, min, refl, sym, ◌∙◌, ap, subst, inl, inr, arith}
 use Rattle.std.proofs.lemmas.Bool.{and_from, cases_eq, cases_lt, le-leb}
 use Rattle.rv_model.specs.accesses.Restarts.{Extends, overlay}
-use Rattle.rv_model.specs.accesses.Transfers.{Plan, Transfer, are_allowed, end_at, registers_loaded, stop_index, memory_stored, transfers}
+use Rattle.rv_model.specs.accesses.Transfers.{Plan, Transfer, are_allowed, bad_address, end_at, registers_loaded, stop_index, memory_stored, transfers}
 use Rattle.rv_model.specs.declared.memory.Access.{Access}
 use Rattle.rv_model.specs.declared.memory.Access.TheVariants.{Load, Store}
 use Rattle.rv_model.specs.declared.step.memory_end.MemEnd.{MemEnd}
@@ -22,24 +22,30 @@ transfers_same each other i (suc n) h =
     let rest = transfers_same each other (i + 1) n (λ k l g. h k (omega arith) (omega arith)) in
     cc
 
-first_bad_same : (access : Access) (m : Memory) (each other : Plan) (i n none : ℕ) → ((k : ℕ) → i ≤ k → k < i + n → each k ≡ other k)
-    → first_bad access m each i n none ≡ first_bad access m other i n none
+-- and tests that are
+first_bad_same : (access : Access) (m other : Memory) (each rest : Plan) (i n none : ℕ)
+    → ((k : ℕ) → i ≤ k → k < i + n → are_allowed access m (each k) ≡ are_allowed access other (rest k))
+    → first_bad access m each i n none ≡ first_bad access other rest i n none
 unfolding first_bad
-first_bad_same access m each other i zero none h = refl
-first_bad_same access m each other i (suc n) none h =
+first_bad_same access m other each rest i zero none h = refl
+first_bad_same access m other each rest i (suc n) none h =
     let here = h i (omega arith) (omega arith) in
-    let rest = first_bad_same access m each other (i + 1) n none (λ k l g. h k (omega arith) (omega arith)) in
+    let later = first_bad_same access m other each rest (i + 1) n none (λ k l g. h k (omega arith) (omega arith)) in
     cc
 
-stop_same : (access : Access) (m : Memory) (each other : Plan) (i cut n : ℕ) → ((k : ℕ) → i ≤ k → k < n → each k ≡ other k) → stop_index access m each i cut n ≡ stop_index access m other i cut n
-stop_same access m each other i cut n h =
+stop_same : (access : Access) (m other : Memory) (each rest : Plan) (i cut n : ℕ)
+    → ((k : ℕ) → i ≤ k → k < n → are_allowed access m (each k) ≡ are_allowed access other (rest k))
+    → stop_index access m each i cut n ≡ stop_index access other rest i cut n
+stop_same access m other each rest i cut n h =
     stop_is access m each i cut n
-    ∙ first_bad_same access m each other i (min n cut - i) (min n cut) (λ k l g. h k l (omega arith))
-    ∙ sym (stop_is access m other i cut n)
+    ∙ first_bad_same access m other each rest i (min n cut - i) (min n cut) (λ k l g. h k l (omega arith))
+    ∙ sym (stop_is access other rest i cut n)
 
-end_same : (access : Access) (m : Memory) (each other : Plan) (cut n stop : ℕ) → (stop < n → each stop ≡ other stop) → end_at access m each cut n stop ≡ end_at access m other cut n stop
+end_same : (access : Access) (m other : Memory) (each rest : Plan) (cut n stop : ℕ)
+    → (stop < n → bad_address access m (each stop) ≡ bad_address access other (rest stop))
+    → end_at access m each cut n stop ≡ end_at access other rest cut n stop
 unfolding end_at
-end_same access m each other cut n stop h = elim (cases_lt stop n) [
+end_same access m other each rest cut n stop h = elim (cases_lt stop n) [
   | inl l ↦ let e = h l in cc
   | inr g ↦ let done = le-leb n stop g in cc
 ]
@@ -137,19 +143,20 @@ pub record Progress (X : Type 0) : Type 0 where
   pub stop : ℕ
   pub end : MemEnd
 
+abbrev pub moves : {X : Type 0} → Access → Memory → Plan → (List Transfer → X) → ℕ → ℕ → ℕ → Progress X
+moves access m each left start cut n =
+    let stop = stop_index access m each start cut n in
+    record { left = left (transfers each start (stop - start)); stop = stop; end = end_at access m each cut n stop }
+
 -- those of a load leave registers; `place` says where an element begins
 abbrev pub load_moves : Memory → (Transfer → ℕ) → Plan → List ℕ → ℕ → ℕ → ℕ → Progress (List ℕ)
-load_moves m place each file start cut n =
-    let stop = stop_index Load m each start cut n in
-    record { left = registers_loaded m place file (transfers each start (stop - start)); stop = stop; end = end_at Load m each cut n stop }
+load_moves m place each file start cut n = moves Load m each (registers_loaded m place file) start cut n
 
 -- those of a store leave a memory
 abbrev pub store_moves : Memory → (Transfer → ℕ) → Plan → List ℕ → ℕ → ℕ → ℕ → Progress Memory
-store_moves m place each file start cut n =
-    let stop = stop_index Store m each start cut n in
-    record { left = memory_stored m place file (transfers each start (stop - start)); stop = stop; end = end_at Store m each cut n stop }
+store_moves m place each file start cut n = moves Store m each (memory_stored m place file) start cut n
 
-progress_equal : {X : Type 0} (r s : Progress X) → r.left ≡ s.left → r.stop ≡ s.stop → r.end ≡ s.end → r ≡ s
+pub progress_equal : {X : Type 0} (r s : Progress X) → r.left ≡ s.left → r.stop ≡ s.stop → r.end ≡ s.end → r ≡ s
 progress_equal r s a b c = λ i. record { left = a i; stop = b i; end = c i }
 
 -- ---- loads
@@ -169,7 +176,7 @@ load_moves_resume m more place each rest file i cut later n grown begins below w
     let half = registers_loaded m place file (transfers each i (stop - i)) in
     let low = stop_from Load m each i cut n begins below in
     let whole = stop_again Load more each i stop later n low below within (λ k a b. are_allowed_extends Load m more (each k) grown (allowed_done Load m each i cut n k a b)) in
-    let stops = stop_same Load more rest each stop later n stable ∙ sym whole in
+    let stops = stop_same Load more more rest each stop later n (λ k l h. ap (are_allowed Load more) (stable k l h)) ∙ sym whole in
     let again = stop_index Load more each i later n in
     let further : stop ≤ again = subst (λ (s : ℕ). stop ≤ s) (sym whole) (stop_least Load more each stop later n (omega (arith, below)) within) in
     let top : again ≤ n = omega (arith, whole, stop_most Load more each stop later n) in
@@ -182,25 +189,9 @@ load_moves_resume m more place each rest file i cut later n grown begins below w
     ∙ ap (λ (ts : List Transfer). registers_loaded more place file ts) (sym (transfers_split each i stop again low further)))
     stops
     (ap (λ (s : ℕ). end_at Load more rest later n s) stops
-    ∙ end_same Load more rest each later n again (λ l. stable again further l))
+    ∙ end_same Load more more rest each later n again (λ l. ap (bad_address Load more) (stable again further l)))
 
 -- ---- stores
-
-first_bad_agrees : (access : Access) (m other : Memory) (each : Plan) (i n none : ℕ) → AllowTheSame access m other → first_bad access m each i n none ≡ first_bad access other each i n none
-unfolding first_bad
-first_bad_agrees access m other each i zero none same = refl
-first_bad_agrees access m other each i (suc n) none same =
-    let here = are_allowed_same access m other (each i) same in
-    let rest = first_bad_agrees access m other each (i + 1) n none same in
-    cc
-
-stop_agrees : (access : Access) (m other : Memory) (each : Plan) (i cut n : ℕ) → AllowTheSame access m other → stop_index access m each i cut n ≡ stop_index access other each i cut n
-stop_agrees access m other each i cut n same =
-    stop_is access m each i cut n ∙ first_bad_agrees access m other each i (min n cut - i) (min n cut) same ∙ sym (stop_is access other each i cut n)
-
-end_agrees : (access : Access) (m other : Memory) (each : Plan) (cut n stop : ℕ) → AllowTheSame access m other → end_at access m each cut n stop ≡ end_at access other each cut n stop
-unfolding end_at
-end_agrees access m other each cut n stop same = let address = bad_address_same access m other (each stop) same in cc
 
 -- a store that does ends as if what is new had been there from the start
 pub store_moves_resume : (m more : Memory) (place : Transfer → ℕ) (each : Plan) (file : List ℕ) (i cut later n : ℕ)
@@ -219,7 +210,7 @@ store_moves_resume m more place each file i cut later n grown begins below withi
     let agree : AllowTheSame Store more start =
     λ x. ap (λ (o : Memory). memory.can_access_byte Store o x) (sym joined) ∙ stored_allows Store start place file first x in
     let whole = stop_again Store start each i stop later n low below within (λ k a b. are_allowed_extends Store m start (each k) (overlay_extends m more) (allowed_done Store m each i cut n k a b)) in
-    let stops = stop_agrees Store more start each stop later n agree ∙ sym whole in
+    let stops = stop_same Store more start each each stop later n (λ k l h. are_allowed_same Store more start (each k) agree) ∙ sym whole in
     let again = stop_index Store start each i later n in
     let further : stop ≤ again = subst (λ (s : ℕ). stop ≤ s) (sym whole) (stop_least Store start each stop later n (omega (arith, below)) within) in
     progress_equal _ _
@@ -229,4 +220,4 @@ store_moves_resume m more place each file i cut later n grown begins below withi
     ∙ ap (λ (ts : List Transfer). memory_stored start place file ts) (sym (transfers_split each i stop again low further)))
     stops
     (ap (λ (s : ℕ). end_at Store more each later n s) stops
-    ∙ end_agrees Store more start each later n again agree)
+    ∙ end_same Store more start each each later n again (λ l. bad_address_same Store more start (each again) agree))

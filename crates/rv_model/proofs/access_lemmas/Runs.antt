@@ -1,8 +1,8 @@
 -- What each vector load or store is made of, where its run stops, and what it leaves.
-use Rattle.std.proofs.Common.{◌≡◌, ◌≢◌, ℕ, ◌+◌, ◌-◌, ◌<◌, ◌≤◌, Bool, true, false, ◌&&◌, cond, List, max, min, ◌⊎◌, inl, inr, Option, Some, None, refl, sym, ap, subst, arith}
+use Rattle.std.proofs.Common.{◌≡◌, ◌≢◌, ℕ, ◌+◌, ◌-◌, ◌<◌, ◌≤◌, Bool, true, false, ◌&&◌, List, max, ◌⊎◌, inl, inr, Option, Some, None, refl, sym, ◌∙◌, ap, subst, arith}
 use Rattle.std.specs.Option.{option_map}
 use Rattle.std.specs.Prelude.{IfSome, nat_le, nat_lt, ⊤}
-use Rattle.std.proofs.lemmas.Bool.{and_parts}
+use Rattle.std.proofs.lemmas.Bool.{and_parts, leb-true}
 use Rattle.std.proofs.lemmas.Bool.Decides.{nat_tests}
 use Rattle.rv_model.specs.declared.instructions.access.AccessInstr.{AccessInstr}
 use Rattle.rv_model.specs.declared.instructions.access.AccessInstr.TheVariants.{MaskAccess, Indexed, Strided, UnitStride, WholeLoad, WholeStore}
@@ -17,7 +17,7 @@ use Rattle.rv_model.specs.declared.vector.state.VState.{VState}
 use Rattle.rv_model.specs.declared.vector.types.VType.{VType}
 use Rattle.rv_model.specs.accesses.AccessRuns.{AccessRun, access_ends, access_run, directed_run, load_run, run_or_nothing, runs_to, store_run}
 use Rattle.rv_model.specs.accesses.Restarts.{AccessLeavesOff, IsStopped, LeavesOff}
-use Rattle.rv_model.specs.accesses.Transfers.{Plan, bad_address, end_at, registers_loaded, stop_index, memory_stored, transfers}
+use Rattle.rv_model.specs.accesses.Transfers.{Plan, end_at, registers_loaded, stop_index, memory_stored, transfers}
 use Rattle.rv_model.specs.accesses.VectorAccess.{VectorAccess, access_of, indexed_access, mask_length, element_start, plan, strided_access, unit_access, unmasked_access}
 use Rattle.rv_model.specs.vector.Groups.{access_type}
 use Rattle.rv_model.specs.vector.Configuration.{group_type}
@@ -25,6 +25,7 @@ use Rattle.rv_model.specs.memory.Memory.{Memory, can_access_byte}
 use Rattle.rv_model.specs.vector.Registers.{register_of}
 use Rattle.rv_model.proofs.access_lemmas.Moves.{stored_allows}
 use Rattle.rv_model.proofs.access_lemmas.Resumes.{stop_from, stop_most}
+use Rattle.rv_model.proofs.Choices.{of_option, of_test}
 
 -- ---- each access
 
@@ -38,12 +39,10 @@ typed_made None make P each = tt
 typed_made (Some t) make P each = each t
 
 each_made : (i : AccessInstr) (v : VState) (x : Scalar) → IfSome (access_of i v x) (Made v)
-each_made (UnitStride op w nf vd rs1 vm) v x = typed_made v.conf.vtype _ (Made v) (λ t. record { begins = refl; shortens = λ is. refl })
-each_made (Strided d w nf vd rs1 rs2 vm) v x = typed_made v.conf.vtype _ (Made v) (λ t. record { begins = refl; shortens = λ is. refl })
-each_made (Indexed d order w nf vd rs1 vs2 vm) v x = typed_made v.conf.vtype _ (Made v) (λ t. record { begins = refl; shortens = λ is. refl })
 each_made (WholeLoad count w vd rs1) v x = record { begins = refl; shortens = λ is. absurd (cc) }
 each_made (WholeStore count vd rs1) v x = record { begins = refl; shortens = λ is. absurd (cc) }
 each_made (MaskAccess d vd rs1) v x = typed_made v.conf.vtype _ (Made v) (λ t. record { begins = refl; shortens = λ is. absurd (cc) })
+each_made _ v x = typed_made v.conf.vtype _ (Made v) (λ t. record { begins = refl; shortens = λ is. refl })
 
 pub made_of : (i : AccessInstr) (v : VState) (x : Scalar) (a : VectorAccess) → access_of i v x ≡ Some a → Made v a
 made_of i v x a e = subst (λ (o : Option VectorAccess). IfSome o (Made v)) e (each_made i v x)
@@ -58,37 +57,30 @@ pub record IsAgain (i : AccessInstr) (v : VState) (x : Scalar) (a : VectorAccess
   pub address : ℕ → ℕ
   pub is : access_of i (record v { file = file; vstart = start }) x ≡ Some (access_again a (register_of file 0) start address)
 
-typed_again : (o : Option VType) (make : VType → VectorAccess) (mask : List ℕ) (start : ℕ) (address : VType → ℕ → ℕ) (a : VectorAccess)
-    → option_map make o ≡ Some a
-    → (later : ℕ → ℕ) × (option_map (λ t. access_again (make t) mask start (address t)) o ≡ Some (access_again a mask start later))
-typed_again None make mask start address a e = absurd (cc)
-typed_again (Some t) make mask start address a e =
-    (address t, ap (λ (o : Option VectorAccess). option_map (λ a. access_again a mask start (address t)) o) e)
+-- where it needs a vector type
+typed_again : (i : AccessInstr) (v : VState) (x : Scalar) (a : VectorAccess) (file : List ℕ) (start : ℕ) (make : VType → VectorAccess) (address : VType → ℕ → ℕ)
+    → access_of i (record v { file = file; vstart = start }) x ≡ option_map (λ t. access_again (make t) (register_of file 0) start (address t)) v.conf.vtype
+    → option_map make v.conf.vtype ≡ Some a → IsAgain i v x a file start
+typed_again i v x a file start make address is =
+    of_option v.conf.vtype
+    (λ o. access_of i (record v { file = file; vstart = start }) x ≡ option_map (λ t. access_again (make t) (register_of file 0) start (address t)) o
+    → option_map make o ≡ Some a → IsAgain i v x a file start)
+    (λ e is made. absurd (cc))
+    (λ t e is made. record { address = address t; is = is ∙ ap (option_map (λ a. access_again a (register_of file 0) start (address t))) made }) is
 
 pub again_of : (i : AccessInstr) (v : VState) (x : Scalar) (a : VectorAccess) (file : List ℕ) (start : ℕ) → access_of i v x ≡ Some a
     → IsAgain i v x a file start
-again_of (UnitStride op w nf vd rs1 vm) v x a file start e =
+again_of (UnitStride op w nf vd rs1 vm) v x a file start =
+    typed_again (UnitStride op w nf vd rs1 vm) v x a file start _ (λ t. (unit_access op (access_type t w) nf vd rs1 vm v x).address) refl
+again_of (Strided d w nf vd rs1 rs2 vm) v x a file start =
+    typed_again (Strided d w nf vd rs1 rs2 vm) v x a file start _ (λ t. (strided_access d (access_type t w) nf vd rs1 rs2 vm v x).address) refl
+again_of (Indexed d order w nf vd rs1 vs2 vm) v x a file start =
     let later : VState = record v { file = file; vstart = start } in
-    let again = typed_again v.conf.vtype _ (register_of file 0) start (λ t. (unit_access op (access_type t w) nf vd rs1 vm later x).address) a e in
-    record { address = again.0; is = again.1 }
-again_of (Strided d w nf vd rs1 rs2 vm) v x a file start e =
-    let later : VState = record v { file = file; vstart = start } in
-    let again = typed_again v.conf.vtype _ (register_of file 0) start (λ t. (strided_access d (access_type t w) nf vd rs1 rs2 vm later x).address) a e in
-    record { address = again.0; is = again.1 }
-again_of (Indexed d order w nf vd rs1 vs2 vm) v x a file start e =
-    let later : VState = record v { file = file; vstart = start } in
-    let again = typed_again v.conf.vtype _ (register_of file 0) start (λ t. (indexed_access d (group_type t) (access_type t w) nf vd rs1 vs2 vm later x).address) a e in
-    record { address = again.0; is = again.1 }
-again_of (WholeLoad count w vd rs1) v x a file start e =
-    record { address = a.address; is = ap (option_map (λ b. access_again b (register_of file 0) start b.address)) e }
-again_of (WholeStore count vd rs1) v x a file start e =
-    record { address = a.address; is = ap (option_map (λ b. access_again b (register_of file 0) start b.address)) e }
-again_of (MaskAccess d vd rs1) v x a file start e =
-    let later : VState = record v { file = file; vstart = start } in
-    let again = typed_again v.conf.vtype _ (register_of file 0) start (λ t. (unmasked_access d (mask_length v.conf.vl) 1 1 vd rs1 later x).address) a e in
-    record { address = again.0; is = again.1 }
-
--- ---- how many indices an instruction has is said by the vector type and length
+    typed_again (Indexed d order w nf vd rs1 vs2 vm) v x a file start _
+    (λ t. (indexed_access d (group_type t) (access_type t w) nf vd rs1 vs2 vm later x).address) refl
+again_of (MaskAccess d vd rs1) v x a file start =
+    typed_again (MaskAccess d vd rs1) v x a file start _ (λ t. (unmasked_access d (mask_length v.conf.vl) 1 1 vd rs1 v x).address) refl
+again_of _ v x a file start = λ e. record { address = a.address; is = ap (option_map (λ b. access_again b (register_of file 0) start b.address)) e }
 
 -- ---- where transfers stop
 
@@ -113,26 +105,15 @@ EndIs limit start count (Fault index addr) = (start ≤ index) × (index < start
 end_is : (kind : Access) (m : Memory) (each : Plan) (limit start count : ℕ)
     → EndIs limit start count (end_at kind m each (start + limit) count (stop_index kind m each start (start + limit) count))
 unfolding end_at
-end_is kind m each limit start count = named (nat_le count stop) (nat_le (start + limit) stop) refl refl
-  where
-    stop : ℕ
-    stop = stop_index kind m each start (start + limit) count
-
-    most : stop ≤ min count (start + limit)
-    most = stop_most kind m each start (start + limit) count
-
-    low : stop < count → start ≤ stop
-    low less = stop_from kind m each start (start + limit) count (omega arith) less
-
-    named : (done reached : Bool) → nat_le count stop ≡ done → nat_le (start + limit) stop ≡ reached
-        → EndIs limit start count (cond done Done (cond reached (Cut stop) (Fault stop (bad_address kind m (each stop)))))
-    named true reached e f = let all : count ≤ stop = grind (arith, nat_tests, e) in omega (arith, all, most)
-    named false true e f =
-        let more : stop < count = grind (arith, nat_tests, e) in
-        let last : start + limit ≤ stop = grind (arith, nat_tests, f) in
-        (omega (arith, more, last, most), more)
-    named false false e f =
-        let more : stop < count = grind (arith, nat_tests, e) in (low more, grind (arith, nat_tests, f), more)
+end_is kind m each limit start count =
+    let stop = stop_index kind m each start (start + limit) count in
+    let most = stop_most kind m each start (start + limit) count in
+    of_test (EndIs limit start count) (nat_le count stop) _ _
+    (λ e. let all : count ≤ stop = leb-true count stop e in omega (arith, all, most))
+    (λ e. let more : stop < count = grind (arith, nat_tests, e) in
+    of_test (EndIs limit start count) (nat_le (start + limit) stop) _ _
+    (λ f. let last : start + limit ≤ stop = leb-true (start + limit) stop f in (omega (arith, more, last, most), more))
+    (λ f. (stop_from kind m each start (start + limit) count (omega arith) more, grind (arith, nat_tests, f), more)))
 
 -- ---- what a run leaves
 
@@ -162,8 +143,7 @@ AllOrShorter start count first_only v run =
 -- a fact where transfers are done
 abbrev pub AtEnd : MemEnd → Type 0 → Type 0
 AtEnd Done P = P
-AtEnd (Cut index) P = ⊤
-AtEnd (Fault index addr) P = ⊤
+AtEnd _ P = ⊤
 
 pub record Facts (limit start count : ℕ) (d : Direction) (first_only : Bool) (v : VState) (m : Memory) (run : AccessRun) : Type 0 where
   pub stop : AtStop run.end (CutAt limit start count v run) (FaultAt limit start count v run)
@@ -183,73 +163,46 @@ module _ (limit start count : ℕ) (d : Direction) (known : Bool) (v : VState) (
       → (first_only ≡ true → count ≡ v.conf.vl) → (d ≡ direction.Store → file ≡ v.file) → (d ≡ direction.Load → after ≡ m)
       → ((kind : Access) (x : ℕ) → can_access_byte kind after x ≡ can_access_byte kind m x) → EndIs limit start count end
       → Facts limit start count d known v m (access_ends first_only count (record v { file = file }) after end)
-  ends_facts first_only file after Done first begins shortens registers memory allowed is = record {
-    stop = tt;
-    done = inl (refl, ap (λ (n : ℕ). max (n + 1) count) (sym begins));
-    from = omega (arith, begins);
-    ticks = λ some. (omega (arith, begins), omega (arith, begins, is, some));
-    vtype = refl;
-    length = omega arith;
-    rounding = refl;
-    saturation = refl;
-    registers = registers;
-    memory = memory;
-    allowed = allowed;
-  }
-  ends_facts first_only file after (Cut index) first begins shortens registers memory allowed is = record {
-    stop = record {
-      stopped = record { from = omega (arith, is.0); below = is.1; vstart = refl; conf = refl };
-      at = is.0;
-      reached = refl;
-    };
-    done = tt;
-    from = omega (arith, is.0);
-    ticks = λ some. (omega (arith, is.0, some), omega (arith, is.0));
-    vtype = refl;
-    length = omega arith;
-    rounding = refl;
-    saturation = refl;
-    registers = registers;
-    memory = memory;
-    allowed = allowed;
-  }
-  ends_facts first_only file after (Fault index addr) first begins shortens registers memory allowed is = named (first_only && nat_lt 0 index) refl
+  ends_facts first_only file after end first begins shortens registers memory allowed is = by_end end is
     where
-      shortened : AccessRun
-      shortened = runs_to Done (index + 1) (record v { file = file; conf = record v.conf { vl = index }; vstart = 0 }) after
+      Of : AccessRun → Type 0
+      Of run = Facts limit start count d known v m run
 
-      faulted : AccessRun
-      faulted = runs_to (Fault index addr) (index + 1) (record v { file = file; vstart = index }) after
-
-      named : (b : Bool) → (first_only && nat_lt 0 index) ≡ b → Facts limit start count d known v m (cond b shortened faulted)
-      named true e = record {
-        stop = tt;
-        done =
-            let parts = and_parts first_only (nat_lt 0 index) e in
-            inr (first parts.0, (is.0, (omega (arith, is.2, shortens parts.0), refl)));
-        from = omega (arith, is.0);
-        ticks = λ some. (omega (arith, is.0), omega (arith, is.1));
+      -- of a run that leaves all but the length and vstart of the configuration
+      left : (end : MemEnd) (reached vl vstart : ℕ) → vl ≤ v.conf.vl → start ≤ reached
+          → (1 ≤ limit → (start < reached) × (reached ≤ start + limit))
+          → (let run : AccessRun = runs_to end reached (record v { file = file; conf = record v.conf { vl = vl }; vstart = vstart }) after in
+          AtStop end (CutAt limit start count v run) (FaultAt limit start count v run) → AtEnd end (AllOrShorter start count known v run) → Of run)
+      left end reached vl vstart length from ticks stop done = record {
+        stop = stop;
+        done = done;
+        from = from;
+        ticks = ticks;
         vtype = refl;
-        length = omega (arith, is.2, shortens (and_parts first_only (nat_lt 0 index) e).0);
+        length = length;
         rounding = refl;
         saturation = refl;
         registers = registers;
         memory = memory;
         allowed = allowed;
       }
-      named false e = record {
-        stop = record { stopped = record { from = is.0; below = is.2; vstart = refl; conf = refl }; before = is.1; reached = refl };
-        done = tt;
-        from = omega (arith, is.0);
-        ticks = λ some. (omega (arith, is.0), omega (arith, is.1));
-        vtype = refl;
-        length = omega arith;
-        rounding = refl;
-        saturation = refl;
-        registers = registers;
-        memory = memory;
-        allowed = allowed;
-      }
+
+      by_end : (end : MemEnd) → EndIs limit start count end → Of (access_ends first_only count (record v { file = file }) after end)
+      by_end Done is =
+          left Done (max (v.vstart + 1) count) v.conf.vl 0 (omega arith) (omega (arith, begins)) (λ some. (omega (arith, begins), omega (arith, begins, is, some)))
+          tt (inl (refl, ap (λ (n : ℕ). max (n + 1) count) (sym begins)))
+      by_end (Cut index) is =
+          left (Cut index) index v.conf.vl index (omega arith) (omega (arith, is.0)) (λ some. (omega (arith, is.0, some), omega (arith, is.0)))
+          (record { stopped = record { from = omega (arith, is.0); below = is.1; vstart = refl; conf = refl }; at = is.0; reached = refl }) tt
+      by_end (Fault index addr) is =
+          let ticks : 1 ≤ limit → (start < index + 1) × (index + 1 ≤ start + limit) = λ some. (omega (arith, is.0), omega (arith, is.1)) in
+          of_test Of (first_only && nat_lt 0 index) _ _
+          (λ e.
+          let only = (and_parts first_only (nat_lt 0 index) e).0 in
+          left Done (index + 1) index 0 (omega (arith, is.2, shortens only)) (omega (arith, is.0)) ticks tt
+          (inr (first only, (is.0, (omega (arith, is.2, shortens only), refl)))))
+          (λ e. left (Fault index addr) (index + 1) v.conf.vl index (omega arith) (omega (arith, is.0)) ticks
+          (record { stopped = record { from = is.0; below = is.2; vstart = refl; conf = refl }; before = is.1; reached = refl }) tt)
 
 module _ (limit : ℕ) (fill : Bool) (a : VectorAccess) (v : VState) (m : Memory) (made : Made v a) where
   load_facts : Facts limit a.body.start a.body.end direction.Load a.first_only v m (load_run limit fill a v m)
@@ -295,11 +248,7 @@ pub of_access : (limit : ℕ) (fill : Bool) (i : AccessInstr) (v : VState) (x : 
     → ((a : VectorAccess) → access_of i v x ≡ Some a → P (Some a) (directed_run a.direction limit fill a v m))
     → P (access_of i v x) (access_run limit fill i v x m)
 unfolding access_run
-of_access limit fill i v x m P nothing each = named (access_of i v x) refl
-  where
-    named : (o : Option VectorAccess) → access_of i v x ≡ o → P o (run_or_nothing limit fill o v m)
-    named None e = nothing
-    named (Some a) e = each a e
+of_access limit fill i v x m P nothing each = of_option (access_of i v x) (λ o. P o (run_or_nothing limit fill o v m)) (λ e. nothing) each
 
 -- ---- where it leaves off
 

@@ -1,5 +1,5 @@
 -- Any number of runs of one vector load or store, and runs with a larger limit.
-use Rattle.std.proofs.Common.{◌≡◌, ◌≢◌, ℕ, zero, suc, ◌+◌, ◌-◌, ◌<◌, ◌≤◌, inl, inr, Bool, true, false, cond, List, [], ◌∷◌, min, Option, Some, None, refl, sym, ◌∙◌, ap, subst, arith}
+use Rattle.std.proofs.Common.{◌≡◌, ◌≢◌, ℕ, zero, suc, ◌+◌, ◌-◌, ◌<◌, ◌≤◌, inl, inr, Bool, true, false, cond, List, [], ◌∷◌, min, refl, sym, ◌∙◌, ap, subst, arith}
 use Rattle.std.specs.Prelude.{nat_le}
 use Rattle.std.proofs.lemmas.Bool.{cases_lt, le-leb, lt-leb}
 use Rattle.rv_model.specs.declared.instructions.access.AccessInstr.{AccessInstr}
@@ -9,16 +9,17 @@ use Rattle.rv_model.specs.declared.memory.Access.{Access}
 use Rattle.rv_model.specs.declared.memory.Access.TheVariants as access
 use Rattle.rv_model.specs.declared.scalar.Scalar.{Scalar}
 use Rattle.rv_model.specs.declared.step.memory_end.MemEnd.{MemEnd}
-use Rattle.rv_model.specs.declared.step.memory_end.MemEnd.TheVariants.{Cut, Done, Fault}
+use Rattle.rv_model.specs.declared.step.memory_end.MemEnd.TheVariants.{Cut, Fault}
 use Rattle.rv_model.specs.declared.vector.state.VState.{VState}
 use Rattle.rv_model.specs.accesses.AccessRuns.{AccessRun, access_ends, access_run, directed_run, load_run, run_or_nothing, store_run}
 use Rattle.rv_model.specs.accesses.Restarts.{AreResumed, EndsWhole, GoesOn, LargerLimitIsSame, NextRun, Restartable, access_from, last_run, overlay, with_new}
 use Rattle.rv_model.specs.accesses.Transfers.{Plan, Transfer, are_allowed, end_at, registers_loaded, stop_index, memory_stored, transfers}
 use Rattle.rv_model.specs.accesses.VectorAccess.{VectorAccess, access_of, index_count, element_start, plan}
 use Rattle.rv_model.specs.memory.Memory.{Memory}
-use Rattle.rv_model.proofs.access_lemmas.Resumes.{Progress, load_moves, stop_most, store_moves}
+use Rattle.rv_model.proofs.access_lemmas.Resumes.{Progress, moves, progress_equal, stop_most}
 use Rattle.rv_model.proofs.access_lemmas.Runs.{AtStop, CutAt, FaultAt, of_access, run_facts}
 use Rattle.rv_model.proofs.access_lemmas.Stops.{first_bad, stop_is, stop_past}
+use Rattle.rv_model.proofs.Choices.{of_option}
 
 -- ---- a larger limit, where the smaller cuts nothing
 
@@ -100,59 +101,43 @@ module _ (access : Access) (m : Memory) (each : Plan) where
     | inr done ↦ let all : nat_le n stop ≡ true = le-leb n stop done in cc
   ]
 
-load_more : (m : Memory) (place : Transfer → ℕ) (each : Plan) (file : List ℕ) (i cut larger n : ℕ) → i ≤ cut → cut ≤ larger
-    → IsUncut (load_moves m place each file i cut n).end → load_moves m place each file i larger n ≡ load_moves m place each file i cut n
-load_more m place each file i cut larger n low more uncut =
-    let stop = stop_more access.Load m each i cut larger n low more uncut in
-    let end = end_more access.Load m each i cut larger n (stop_index access.Load m each i cut n) more uncut in
-    ap (λ (s : ℕ). record { left = registers_loaded m place file (transfers each i (s - i)); stop = s; end = end_at access.Load m each larger n s }) stop
-    ∙ ap (λ (e : MemEnd). record { left = registers_loaded m place file (transfers each i (stop_index access.Load m each i cut n - i)); stop = stop_index access.Load m each i cut n; end = e }) end
-
-store_more : (m : Memory) (place : Transfer → ℕ) (each : Plan) (file : List ℕ) (i cut larger n : ℕ) → i ≤ cut → cut ≤ larger
-    → IsUncut (store_moves m place each file i cut n).end → store_moves m place each file i larger n ≡ store_moves m place each file i cut n
-store_more m place each file i cut larger n low more uncut =
-    let stop = stop_more access.Store m each i cut larger n low more uncut in
-    let end = end_more access.Store m each i cut larger n (stop_index access.Store m each i cut n) more uncut in
-    ap (λ (s : ℕ). record { left = memory_stored m place file (transfers each i (s - i)); stop = s; end = end_at access.Store m each larger n s }) stop
-    ∙ ap (λ (e : MemEnd). record { left = memory_stored m place file (transfers each i (stop_index access.Store m each i cut n - i)); stop = stop_index access.Store m each i cut n; end = e }) end
+moves_more : {X : Type 0} (access : Access) (m : Memory) (each : Plan) (left : List Transfer → X) (i cut larger n : ℕ) → i ≤ cut → cut ≤ larger
+    → IsUncut (moves access m each left i cut n).end → moves access m each left i larger n ≡ moves access m each left i cut n
+moves_more access m each left i cut larger n low more uncut =
+    let stop = stop_more access m each i cut larger n low more uncut in
+    let end = end_more access m each i cut larger n (stop_index access m each i cut n) more uncut in
+    progress_equal _ _ (ap (λ (s : ℕ). left (transfers each i (s - i))) stop) stop (ap (end_at access m each larger n) stop ∙ end)
 
 ends_uncut : (first_only : Bool) (count : ℕ) (v : VState) (m : Memory) (end : MemEnd) → IsUncut (access_ends first_only count v m end).end → IsUncut end
-ends_uncut first_only count v m Done h = h
-ends_uncut first_only count v m (Cut at) h = h
 ends_uncut first_only count v m (Fault at addr) h = λ index e. absurd (cc)
+ends_uncut first_only count v m _ h = h
 
 module _ (limit larger : ℕ) (fill : Bool) (v : VState) (m : Memory) (more : limit ≤ larger) where
   -- the larger limit changes nothing
   abbrev IsSame : (ℕ → AccessRun) → Type 0
   IsSame run = IsUncut (run limit).end → run larger ≡ run limit
 
-  load_same : (a : VectorAccess) → IsSame (λ limit. load_run limit fill a v m)
-  unfolding load_run
-  load_same a uncut =
-      let moved : Progress (List ℕ) = load_moves m (element_start a) (plan a fill) v.file a.body.start (a.body.start + limit) a.body.end in
-      ap (λ (r : Progress (List ℕ)). access_ends a.first_only a.body.end (record v { file = r.left }) m r.end)
-      (load_more m (element_start a) (plan a fill) v.file a.body.start (a.body.start + limit) (a.body.start + larger) a.body.end (omega arith) (omega (arith, more))
-      (ends_uncut a.first_only a.body.end (record v { file = moved.left }) m moved.end uncut))
-
-  store_same : (a : VectorAccess) → IsSame (λ limit. store_run limit a v m)
-  unfolding store_run
-  store_same a uncut =
-      let moved : Progress Memory = store_moves m (element_start a) (plan a false) v.file a.body.start (a.body.start + limit) a.body.end in
-      ap (λ (r : Progress Memory). access_ends false a.body.end v r.left r.end)
-      (store_more m (element_start a) (plan a false) v.file a.body.start (a.body.start + limit) (a.body.start + larger) a.body.end (omega arith) (omega (arith, more))
-      (ends_uncut false a.body.end v moved.left moved.end uncut))
+  moved_same : {X : Type 0} (access : Access) (each : Plan) (left : List Transfer → X) (ends : X → MemEnd → AccessRun) (start n : ℕ)
+      → ((x : X) (end : MemEnd) → IsUncut (ends x end).end → IsUncut end)
+      → IsSame (λ limit. ends (moves access m each left start (start + limit) n).left (moves access m each left start (start + limit) n).end)
+  moved_same {X} access each left ends start n whole uncut =
+      ap (λ (r : Progress X). ends r.left r.end)
+      (moves_more access m each left start (start + limit) (start + larger) n (omega arith) (omega (arith, more)) (whole _ _ uncut))
 
   pub directed_same : (d : Direction) (a : VectorAccess) → IsSame (λ limit. directed_run d limit fill a v m)
-  directed_same direction.Load a = load_same a
-  directed_same direction.Store a = store_same a
+  unfolding load_run store_run
+  directed_same direction.Load a =
+      moved_same access.Load (plan a fill) (registers_loaded m (element_start a) v.file)
+      (λ file end. access_ends a.first_only a.body.end (record v { file = file }) m end) a.body.start a.body.end
+      (λ file end. ends_uncut a.first_only a.body.end (record v { file = file }) m end)
+  directed_same direction.Store a =
+      moved_same access.Store (plan a false) (memory_stored m (element_start a) v.file) (λ after end. access_ends false a.body.end v after end)
+      a.body.start a.body.end (λ after end. ends_uncut false a.body.end v after end)
 
   limit_same : (i : AccessInstr) (x : Scalar) → IsSame (λ limit. access_run limit fill i v x m)
   unfolding access_run
-  limit_same i x = named (access_of i v x)
-    where
-      named : (o : Option VectorAccess) → IsSame (λ limit. run_or_nothing limit fill o v m)
-      named None = λ uncut. refl
-      named (Some a) = directed_same a.direction a
+  limit_same i x =
+      of_option (access_of i v x) (λ o. IsSame (λ limit. run_or_nothing limit fill o v m)) (λ e uncut. refl) (λ a e. directed_same a.direction a)
 
 pub larger_limit_is_same : (fill : Bool) (i : AccessInstr) (x : Scalar) (v : VState) → LargerLimitIsSame (access_from fill i x v)
 larger_limit_is_same fill i x v limit larger m more uncut = limit_same limit larger fill v m more i x uncut

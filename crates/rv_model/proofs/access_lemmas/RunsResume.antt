@@ -4,7 +4,7 @@ use Rattle.std.specs.Prelude.{nat_le, nat_lt}
 use Rattle.std.proofs.lemmas.Bool.Decides.{nat_tests}
 use Rattle.rv_model.specs.declared.memory.Access.TheVariants as access
 use Rattle.rv_model.specs.declared.step.memory_end.MemEnd.{MemEnd}
-use Rattle.rv_model.specs.declared.step.memory_end.MemEnd.TheVariants.{Cut, Done, Fault}
+use Rattle.rv_model.specs.declared.step.memory_end.MemEnd.TheVariants.{Done}
 use Rattle.rv_model.specs.declared.vector.state.VState.{VState}
 use Rattle.rv_model.specs.accesses.AccessRuns.{AccessRun, access_ends, load_run, runs_to, store_run}
 use Rattle.rv_model.specs.accesses.Restarts.{Extends, overlay}
@@ -13,7 +13,7 @@ use Rattle.rv_model.specs.accesses.VectorAccess.{VectorAccess, element_start, pl
 use Rattle.rv_model.specs.memory.Memory.{Memory}
 use Rattle.rv_model.proofs.access_lemmas.Growth.{overlay_grown}
 use Rattle.rv_model.proofs.access_lemmas.Runs.{access_again}
-use Rattle.rv_model.proofs.text_lemmas.Pieces.{of_either, of_test}
+use Rattle.rv_model.proofs.Choices.{of_either, of_test}
 use Rattle.rv_model.proofs.access_lemmas.Resumes.{Progress, load_moves, load_moves_resume, stop_from, store_moves, store_moves_resume}
 
 -- ---- runs that may be stopped, by a limit, the vector state and the memory
@@ -53,8 +53,7 @@ begins_alike : (first_only : Bool) (count : ℕ) (v : VState) (m : Memory) (end 
 begins_alike first_only count v m Done file start h g =
     let reached : max (start + 1) count ≡ max (v.vstart + 1) count = omega (arith, h, g) in
     ap (λ (n : ℕ). runs_to Done n (record v { file = file; vstart = 0 }) m) reached
-begins_alike first_only count v m (Cut index) file start h g = refl
-begins_alike first_only count v m (Fault index addr) file start h g = refl
+begins_alike first_only count v m _ file start h g = refl
 
 -- a load that is stopped
 record LoadStopped (run : AccessRun) (v : VState) (m : Memory) (moved : Progress (List ℕ)) (n : ℕ) : Type 0 where

@@ -10,6 +10,7 @@ use Rattle.rv_model.specs.declared.step.memory_end.MemEnd.{MemEnd}
 use Rattle.rv_model.specs.declared.step.memory_end.MemEnd.TheVariants.{Done, Fault, Cut}
 use Rattle.rv_model.specs.accesses.Transfers.{Plan, Transfer, are_allowed, bad_address, end_at, stop_index, transfers}
 use Rattle.rv_model.specs.memory.Memory.{Memory}
+use Rattle.rv_model.proofs.Choices.{of_bool}
 
 -- ---- lists of transfers
 
@@ -54,15 +55,11 @@ found_is : (access : Access) (m : Memory) (plan : Plan) (i n none : ℕ)
     → unwrap_or (find (λ k. not (are_allowed access m (plan k))) (range_with_len i n)) none ≡ first_bad access m plan i n none
 unfolding first_bad
 found_is access m plan i zero none = refl
-found_is access m plan i (suc n) none = named (are_allowed access m (plan i)) (found_is access m plan (i + 1) n none)
-  where
-    rest : Option ℕ
-    rest = find (λ k. not (are_allowed access m (plan k))) (range_with_len (i + 1) n)
-
-    named : (b : Bool) → unwrap_or rest none ≡ first_bad access m plan (i + 1) n none
-        → unwrap_or (cond (not b) (Some i) rest) none ≡ cond b (first_bad access m plan (i + 1) n none) i
-    named true h = h
-    named false h = refl
+found_is access m plan i (suc n) none =
+    let rest : Option ℕ = find (λ k. not (are_allowed access m (plan k))) (range_with_len (i + 1) n) in
+    of_bool (are_allowed access m (plan i))
+    (λ b. unwrap_or (cond (not b) (Some i) rest) none ≡ cond b (first_bad access m plan (i + 1) n none) i)
+    (λ e. found_is access m plan (i + 1) n none) (λ e. refl)
 
 module _ (access : Access) (m : Memory) (plan : Plan) where
   pub stop_is : (i cut n : ℕ) → stop_index access m plan i cut n ≡ first_bad access m plan i (min n cut - i) (min n cut)

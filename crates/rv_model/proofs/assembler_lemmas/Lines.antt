@@ -6,7 +6,7 @@ use Rattle.std.proofs.Math.ListN.{get_or-eq_default}
 use Rattle.std.proofs.lemmas.Bool.{agree_below_at, cases_lt, and_from}
 use Rattle.std.proofs.lemmas.Bool.Decides.{nat_tests}
 use Rattle.rv_model.specs.declared.assembler.forms.Slot.{Slot}
-use Rattle.rv_model.specs.declared.assembler.forms.Slot.TheVariants.{Comma, Open, Close, V0, Scalar, Vector, Unsigned, Signed, Csr, VectorType, ShortVectorType, Mask, Word}
+use Rattle.rv_model.specs.declared.assembler.forms.Slot.TheVariants.{Scalar, Vector, Unsigned, Signed, Csr, VectorType, ShortVectorType, Mask, Word}
 use Rattle.rv_model.specs.declared.assembler.forms.Form.TheVariants as form
 use Rattle.rv_model.specs.declared.assembler.mnemonics.Mnemonic.{Mnemonic}
 use Rattle.rv_model.specs.declared.assembler.mnemonics.TheConstants.{MNEMONICS, ROW_COUNT}
@@ -17,14 +17,15 @@ use Rattle.rv_model.specs.assembler.Table.{unpadded, row_at, name_at, slots_at, 
 use Rattle.rv_model.proofs.text_lemmas.Newlines.{is_line, IsLine}
 use Rattle.rv_model.specs.declared.vector.control_register.ControlRegister.{ControlRegister}
 use Rattle.rv_model.specs.declared.vector.types.Sew.{Sew}
-use Rattle.rv_model.specs.declared.vector.types.Sew.TheVariants.{E8, E16, E32, E64}
+use Rattle.rv_model.specs.declared.vector.types.Sew.TheVariants.{E8}
 use Rattle.rv_model.specs.declared.vector.types.Lmul.{Lmul}
 use Rattle.rv_model.specs.declared.vector.types.Lmul.TheVariants.{Mf8}
 use Rattle.rv_model.specs.vector.ControlRegisters.{control_register, control_registers, register_name, register_number}
 use Rattle.rv_model.specs.vector.TypeNames.{lmul_name, mask_name, sew_name, tail_name}
 use Rattle.rv_model.specs.vector.TypeRules.{lmul_with_number, sew_with_number}
 use Rattle.rv_model.proofs.assembler_lemmas.Found.{found_passes}
-use Rattle.rv_model.proofs.text_lemmas.Pieces.{of_either, is_line-append, Piece, ◌▸◌, number, decimal_line}
+use Rattle.rv_model.proofs.Choices.{of_either}
+use Rattle.rv_model.proofs.text_lemmas.Pieces.{is_line-append, Piece, ◌▸◌, number, decimal_line}
 
 no_newline_in_hex_digit : (d : ℕ) → IsLine (hex_digit d ∷ [])
 no_newline_in_hex_digit d = of_either (λ c. IsLine (c ∷ [])) (nat_lt d 10) _ _ (small d) (large d)
@@ -58,9 +59,7 @@ no_newline_in_csr_text n = no_newline_in_csr_text_of n (control_register n) refl
 
 no_newline_in_sew_name : (sew : Sew) → IsLine (sew_name sew)
 no_newline_in_sew_name E8 = refl
-no_newline_in_sew_name E16 = refl
-no_newline_in_sew_name E32 = refl
-no_newline_in_sew_name E64 = refl
+no_newline_in_sew_name _ = refl
 
 no_newline_in_lmul_name : (lmul : Lmul) → IsLine (lmul_name lmul)
 no_newline_in_lmul_name Mf8 = refl
@@ -95,10 +94,6 @@ no_newline_in_vtype_text v = of_either IsLine (nat_lt v 256) _ _ (no_newline_in_
 
 -- the text of each operand
 no_newline_in_operand : (slot : Slot) (v : ℕ) → IsLine (printed slot v)
-no_newline_in_operand Comma v = refl
-no_newline_in_operand Open v = refl
-no_newline_in_operand Close v = refl
-no_newline_in_operand V0 v = refl
 no_newline_in_operand (Scalar place) v = let letter : Piece = (codes "x", refl) in (letter ▸ number v).1
 no_newline_in_operand (Vector place) v = let letter : Piece = (codes "v", refl) in (letter ▸ number v).1
 no_newline_in_operand (Unsigned field) v = decimal_line v
@@ -108,6 +103,7 @@ no_newline_in_operand VectorType v = no_newline_in_vtype_text v
 no_newline_in_operand ShortVectorType v = no_newline_in_vtype_text v
 no_newline_in_operand Mask v = of_either IsLine (v == 0) _ _ refl refl
 no_newline_in_operand Word v = let prefix : Piece = (codes "0x", refl) in let digits : Piece = (hex_digits 8 v, no_newline_in_hex_digits 8 v) in (prefix ▸ digits).1
+no_newline_in_operand _ v = refl
 
 no_newline_in_printed_operands : (slots : List Slot) (word : ℕ) → IsLine (printed_operands slots word)
 unfolding printed_operands

@@ -1,11 +1,8 @@
 -- The slots of a name hold the operands of the instruction that a word with its bits is.
 use Rattle.std.proofs.Common.{◌≡◌, ℕ, ◌<◌, Bool, true, false, List, [], ◌∷◌, map, take, get_or, Option, Some, None, refl, sym, ap, subst, ◌∙◌}
-use Rattle.std.specs.List.{list_all}
-use Rattle.std.specs.Option.{IsSomeAnd}
-use Rattle.std.specs.Str.{bytes_eq}
+use Rattle.std.specs.Option.{IsSomeAnd, option_map}
 use Rattle.std.specs.Int.Bits.{bit_and}
-use Rattle.std.proofs.lemmas.List.{get_or-take}
-use Rattle.std.proofs.lemmas.Slice.Eq.{bytes_eq-Decides}
+use Rattle.std.proofs.lemmas.List.{get_or-map, get_or-take}
 use Rattle.rv_model.specs.declared.instructions.operations.CarryOutOp.{CarryOutOp}
 use Rattle.rv_model.specs.declared.instructions.operations.VectorOp.{VectorOp}
 use Rattle.rv_model.specs.declared.instructions.operations.VectorOp.TheVariants as vector_op
@@ -21,8 +18,7 @@ use Rattle.rv_model.specs.declared.assembler.forms.Place.TheVariants.{Rd, Rs1, R
 use Rattle.rv_model.specs.declared.assembler.forms.UnsignedField.TheVariants as unsigned
 use Rattle.rv_model.specs.declared.assembler.forms.SignedField.TheVariants as signed
 use Rattle.rv_model.specs.declared.assembler.forms.Slot.{Slot}
-use Rattle.rv_model.specs.declared.assembler.forms.Slot.TheVariants as slot
-use Rattle.rv_model.specs.declared.assembler.forms.Slot.TheVariants.{Comma, Open, Close, V0, Scalar, Vector, Unsigned, Signed, Mask}
+use Rattle.rv_model.specs.declared.assembler.forms.Slot.TheVariants.{Comma, V0, Scalar, Vector, Unsigned, Signed, Mask}
 use Rattle.rv_model.specs.declared.assembler.forms.TheConstants.{PLAIN, REGISTER, IMMEDIATE, SHIFT, SHIFT_WORD, LOAD, STORE, BRANCH, JUMP, UPPER, CSR, CSR_IMMEDIATE, SET_VLI, SET_IVLI, UNMASKED_VECTOR, MOVE_SCALAR, MOVE_TO_SCALAR, WHOLE_MOVE, MASK_TO_SCALAR, VECTOR_UNARY, ELEMENT_INDEX, UNIT, UNMASKED_UNIT, STRIDED, INDEXED}
 use Rattle.rv_model.specs.declared.assembler.mnemonics.Mnemonic.{Mnemonic}
 use Rattle.rv_model.specs.declared.assembler.mnemonics.TheConstants.{MNEMONICS, NAME_COUNT}
@@ -33,13 +29,12 @@ use Rattle.rv_model.specs.lending.Families.{filled}
 use Rattle.rv_model.specs.instructions.Sources.{form_of, source_of}
 use Rattle.rv_model.specs.instructions.Table.{Row, table, scan}
 use Rattle.rv_model.proofs.instruction_lemmas.Scans.{In}
-use Rattle.rv_model.specs.assembler.Fields.{fixed_mask}
 use Rattle.rv_model.specs.assembler.Naming.{HasBitsOf}
 use Rattle.rv_model.specs.assembler.Operands.{TextOperand, V, arith_operands, carry_operands, multiply_add_operands, operand_in, second, text_operands, usual_operands}
 use Rattle.rv_model.specs.assembler.Operands as operand
 use Rattle.rv_model.specs.assembler.Table.{bits_at, row_at, slots_at, slots_of}
 use Rattle.rv_model.proofs.instruction_lemmas.RoundTrips.{template_of}
-use Rattle.rv_model.proofs.assembler_lemmas.Naming.{all_at, none}
+use Rattle.rv_model.proofs.assembler_lemmas.Naming.{none}
 use Rattle.rv_model.proofs.assembler_lemmas.NamedOperations.{of_name, same_flag, told, told_by_operation}
 
 -- ---- the slots that hold an instruction's operands
@@ -178,85 +173,23 @@ held_in_row r here w v =
 
 -- ---- each row of the table of names has these slots
 
--- slots by number, so that lists of them can be compared
-every_slot : List Slot
-every_slot =
-    Comma ∷ Open ∷ Close ∷ V0 ∷ Scalar Rd ∷ Scalar Rs1 ∷ Scalar Rs2 ∷ Vector Rd ∷ Vector Rs1 ∷ Vector Rs2 ∷
-    Unsigned unsigned.Immediate ∷ Unsigned unsigned.Shift ∷ Unsigned unsigned.ShiftWord ∷ Unsigned unsigned.Upper ∷
-    Signed signed.Vector ∷ Signed signed.Immediate ∷ Signed signed.Store ∷ Signed signed.Branch ∷ Signed signed.Jump ∷
-    slot.Csr ∷ slot.VectorType ∷ slot.ShortVectorType ∷ Mask ∷ slot.Word ∷ []
+abbrev slots_in_table : Mnemonic → Option (List Slot)
+slots_in_table m = option_map instr_slots (scan table m.2)
 
-abbrev slot_number : Slot → ℕ
-slot_number Comma = 0
-slot_number Open = 1
-slot_number Close = 2
-slot_number V0 = 3
-slot_number (Scalar Rd) = 4
-slot_number (Scalar Rs1) = 5
-slot_number (Scalar Rs2) = 6
-slot_number (Vector Rd) = 7
-slot_number (Vector Rs1) = 8
-slot_number (Vector Rs2) = 9
-slot_number (Unsigned unsigned.Immediate) = 10
-slot_number (Unsigned unsigned.Shift) = 11
-slot_number (Unsigned unsigned.ShiftWord) = 12
-slot_number (Unsigned unsigned.Upper) = 13
-slot_number (Signed signed.Vector) = 14
-slot_number (Signed signed.Immediate) = 15
-slot_number (Signed signed.Store) = 16
-slot_number (Signed signed.Branch) = 17
-slot_number (Signed signed.Jump) = 18
-slot_number slot.Csr = 19
-slot_number slot.VectorType = 20
-slot_number slot.ShortVectorType = 21
-slot_number Mask = 22
-slot_number slot.Word = 23
+abbrev own_slots : Mnemonic → Option (List Slot)
+own_slots m = Some (slots_of m.1)
 
-slot_with_number : ℕ → Slot
-slot_with_number n = get_or every_slot n Comma
+slots_agree : map slots_in_table (take NAME_COUNT MNEMONICS) ≡ map own_slots (take NAME_COUNT MNEMONICS)
+unfolding table scan
+slots_agree = refl
 
-slot_again : (s : Slot) → slot_with_number (slot_number s) ≡ s
-unfolding slot_with_number every_slot
-slot_again (Scalar Rd) = refl
-slot_again (Scalar _) = refl
-slot_again (Vector Rd) = refl
-slot_again (Vector _) = refl
-slot_again (Unsigned unsigned.Immediate) = refl
-slot_again (Unsigned _) = refl
-slot_again (Signed signed.Vector) = refl
-slot_again (Signed _) = refl
-slot_again _ = refl
-
-slots_again : (ss : List Slot) → map slot_with_number (map slot_number ss) ≡ ss
-slots_again [] = refl
-slots_again (s ∷ ss) = ap (λ (x : Slot). x ∷ map slot_with_number (map slot_number ss)) (slot_again s) ∙ ap (λ (xs : List Slot). s ∷ xs) (slots_again ss)
-
-abbrev same_numbers : List Slot → List Slot → Bool
-same_numbers ss ts = bytes_eq (map slot_number ss) (map slot_number ts)
-
-same_slots : (ss ts : List Slot) → same_numbers ss ts ≡ true → ss ≡ ts
-same_slots ss ts h =
-    sym (slots_again ss) ∙ ap (map slot_with_number) ((bytes_eq-Decides (map slot_number ss) (map slot_number ts)).0 h) ∙ slots_again ts
-
-abbrev has_slots_of : Mnemonic → Option Instr → Bool
-has_slots_of m None = false
-has_slots_of m (Some i) = same_numbers (slots_of m.1) (instr_slots i)
-
-abbrev has_its_slots : Mnemonic → Bool
-has_its_slots m = has_slots_of m (scan table m.2)
-
-unfoldable each_has_its_slots : Bool
-each_has_its_slots = list_all has_its_slots (take NAME_COUNT MNEMONICS)
-
-each_has_its_slots_true : each_has_its_slots ≡ true
-unfolding each_has_its_slots table scan fixed_mask
-each_has_its_slots_true = refl
-
-its_slots : (row : ℕ) → row < NAME_COUNT → has_its_slots (row_at row) ≡ true
-unfolding each_has_its_slots row_at
+its_slots : (row : ℕ) → row < NAME_COUNT → slots_in_table (row_at row) ≡ own_slots (row_at row)
+unfolding row_at
 its_slots row lt =
-    let P : Mnemonic → Type 0 = λ m. has_its_slots m ≡ true in
-    subst P (get_or-take NAME_COUNT MNEMONICS row none lt) (all_at has_its_slots (take NAME_COUNT MNEMONICS) row none each_has_its_slots_true lt)
+    subst (λ m. slots_in_table m ≡ own_slots m) (get_or-take NAME_COUNT MNEMONICS row none lt)
+    (sym (get_or-map slots_in_table (take NAME_COUNT MNEMONICS) row none None lt)
+    ∙ ap (λ (all : List (Option (List Slot))). get_or all row None) slots_agree
+    ∙ get_or-map own_slots (take NAME_COUNT MNEMONICS) row none None lt)
 
 pub names_take_operands : (row word : ℕ) → row < NAME_COUNT → HasBitsOf row word → IsSomeAnd (scan table word) (λ i. operands_in word (slots_at row) ≡ text_operands i)
 unfolding slots_at bits_at
@@ -264,7 +197,8 @@ names_take_operands row word lt is =
     let m = row_at row in
     let named = of_name row word lt is in
     let i = named.r.instr m.2 in
-    let P : Option Instr → Type 0 = λ o. has_slots_of m o ≡ true in
-    let same : slots_of m.1 ≡ instr_slots i = same_slots (slots_of m.1) (instr_slots i) (subst P named.at_zeros (its_slots row lt)) in
+    let own = its_slots row lt in
+    let found = ap (option_map instr_slots) named.at_zeros in
+    let same : slots_of m.1 ≡ instr_slots i = cc in
     let Q : Option Instr → Type 0 = λ o. IsSomeAnd o (λ i. operands_in word (slots_of m.1) ≡ text_operands i) in
     subst Q (sym named.is) (ap (operands_in word) same ∙ held_in_row named.r named.of_table word m.2 named.agrees)

@@ -98,21 +98,18 @@ named_by m (Some i) = bytes_eq (mnemonic i) (unpadded m.0) && nat_eq (bit_and (t
 abbrev names_its_own : Mnemonic → Bool
 names_its_own m = named_by m (scan table m.2)
 
-unfoldable each_names_its_own : Bool
-each_names_its_own = list_all names_its_own (take NAME_COUNT MNEMONICS)
-
-each_names_its_own_true : each_names_its_own ≡ true
-unfolding each_names_its_own table scan fixed_mask
-each_names_its_own_true = refl
+each_names_its_own : list_all names_its_own (take NAME_COUNT MNEMONICS) ≡ true
+unfolding table scan fixed_mask
+each_names_its_own = refl
 
 abbrev none : Mnemonic
 none = record { 0 = []; 1 = text_form.Plain; 2 = 0 }
 
 own_name : (row : ℕ) → row < NAME_COUNT → names_its_own (row_at row) ≡ true
-unfolding each_names_its_own row_at
+unfolding row_at
 own_name row lt =
     let P : Mnemonic → Type 0 = λ m. names_its_own m ≡ true in
-    subst P (get_or-take NAME_COUNT MNEMONICS row none lt) (all_at names_its_own (take NAME_COUNT MNEMONICS) row none each_names_its_own_true lt)
+    subst P (get_or-take NAME_COUNT MNEMONICS row none lt) (all_at names_its_own (take NAME_COUNT MNEMONICS) row none each_names_its_own lt)
 
 -- a word that agrees with the bits of a row of the instruction table in those that the name tells has the name
 same_in_row : (r : Row) → In r table → (w v : ℕ) → bit_and w (told (r.instr v)) ≡ bit_and v (told (r.instr v)) → mnemonic (r.instr w) ≡ mnemonic (r.instr v)

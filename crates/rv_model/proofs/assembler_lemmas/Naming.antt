@@ -59,23 +59,17 @@ abbrev of_row : Pattern → Row → Bool
 of_row name r = covers (pattern_of_row r) name
 
 -- each name is of a row of the table
-unfoldable each_has_row : Bool
-each_has_row = list_all (λ name. list_any (of_row name) table) names
-
-each_has_row_true : each_has_row ≡ true
-unfolding each_has_row names table fixed_mask
-each_has_row_true = refl
+each_has_row : list_all (λ name. list_any (of_row name) table) names ≡ true
+unfolding names table fixed_mask
+each_has_row = refl
 
 -- no fence but the one with a name has the bits of a name
 abbrev spares_fences : Pattern → Bool
 spares_fences name = (nat_eq name.0 (2 ^ 32 - 1) && nat_eq name.1 0x0ff0000f) || not (nat_eq (bit_and name.1 0x707f) (bit_and 0x0f name.0))
 
-unfoldable each_spares_fences : Bool
-each_spares_fences = list_all spares_fences names
-
-each_spares_fences_true : each_spares_fences ≡ true
-unfolding each_spares_fences names fixed_mask
-each_spares_fences_true = refl
+each_spares_fences : list_all spares_fences names ≡ true
+unfolding names fixed_mask
+each_spares_fences = refl
 
 -- a name covers the pattern, or both halves of a bit that it leaves open are covered
 abbrev covered : List Pattern → List ℕ → Pattern → Bool
@@ -102,12 +96,9 @@ has_fields q = nat_eq (bit_and q.1 0x5f) 0x07 && nat_eq (bit_and q.0 (2 ^ 29)) 0
 abbrev row_covered : Row → Bool
 row_covered r = is_fence (pattern_of_row r) || covered names (splits (has_mask (pattern_of_row r)) (has_fields (pattern_of_row r))) (pattern_of_row r)
 
-unfoldable each_is_covered : Bool
-each_is_covered = list_all row_covered table
-
-each_is_covered_true : each_is_covered ≡ true
-unfolding each_is_covered names table fixed_mask
-each_is_covered_true = refl
+each_is_covered : list_all row_covered table ≡ true
+unfolding names table fixed_mask
+each_is_covered = refl
 
 -- no word has the bits of both
 abbrev apart : Pattern → Pattern → Bool
@@ -117,12 +108,9 @@ abbrev all_apart : List Pattern → Bool
 all_apart [] = true
 all_apart (p ∷ ps) = list_all (apart p) ps && all_apart ps
 
-unfoldable names_apart : Bool
-names_apart = all_apart names
-
-names_apart_true : names_apart ≡ true
-unfolding names_apart names fixed_mask
-names_apart_true = refl
+names_apart : all_apart names ≡ true
+unfolding names fixed_mask
+names_apart = refl
 
 -- ---- what these tests tell
 
@@ -221,11 +209,10 @@ covered_all ns (b ∷ bs) q w bits h is =
 
 -- a word of a row but fences has the bits of a name
 pub word_of_row_has_name : (r : Row) (w : ℕ) → In r table → Matches r w → (IsFence w → ⊥) → HasNameOf names w
-unfolding each_is_covered
 word_of_row_has_name r w here is no_fence =
     let p = pattern_of_row r in
     let bs = splits (has_mask p) (has_fields p) in
-    let h = all_in row_covered table each_is_covered_true r here in
+    let h = all_in row_covered table each_is_covered r here in
     elim (cases_Bool (is_fence p)) [
       | inl y ↦
           let k = and_parts (nat_eq r.mask 0x707f) (nat_eq r.bits 0x0f) y in
@@ -235,8 +222,7 @@ word_of_row_has_name r w here is no_fence =
 
 -- a name is of a row
 pub row_of_name : (n : ℕ) → n < length names → (r : Row) × In r table × (covers (pattern_of_row r) (get_or names n (0, 0)) ≡ true)
-unfolding each_has_row
-row_of_name n lt = any_in (of_row (get_or names n (0, 0))) table (all_at (λ name. list_any (of_row name) table) names n (0, 0) each_has_row_true lt)
+row_of_name n lt = any_in (of_row (get_or names n (0, 0))) table (all_at (λ name. list_any (of_row name) table) names n (0, 0) each_has_row lt)
 
 -- a word with the bits of a name is of a row
 pub name_of_row : (n w : ℕ) → n < length names → bit_and w (get_or names n (0, 0)).0 ≡ (get_or names n (0, 0)).1 → (r : Row) × In r table × Matches r w
@@ -250,12 +236,11 @@ not_both false h k = cc
 
 -- a fence with the bits of a name is the one with a name
 pub fence_named : (n w : ℕ) → w < 2 ^ 32 → n < length names → bit_and w (get_or names n (0, 0)).0 ≡ (get_or names n (0, 0)).1 → IsFence w → w ≡ 0x0ff0000f
-unfolding each_spares_fences
 fence_named n w small lt is fence =
     let name = get_or names n (0, 0) in
     let exact = nat_eq name.0 (2 ^ 32 - 1) && nat_eq name.1 0x0ff0000f in
     let same = nat_eq (bit_and name.1 0x707f) (bit_and 0x0f name.0) in
-    let h = all_at spares_fences names n (0, 0) each_spares_fences_true lt in
+    let h = all_at spares_fences names n (0, 0) each_spares_fences lt in
     elim (cases_Bool exact) [
       | inl y ↦
           let k = and_parts (nat_eq name.0 (2 ^ 32 - 1)) (nat_eq name.1 0x0ff0000f) y in
@@ -274,10 +259,9 @@ apart_at (p ∷ ps) (suc n) (suc m) h less lt = apart_at ps n m (and_parts (list
 
 -- no word has the bits of two names
 pub no_word_of_two_names : (n m w : ℕ) → n < m → m < length names → bit_and w (get_or names n (0, 0)).0 ≡ (get_or names n (0, 0)).1 → bit_and w (get_or names m (0, 0)).0 ≡ (get_or names m (0, 0)).1 → ⊥
-unfolding names_apart
 no_word_of_two_names n m w less lt is also =
     let p = get_or names n (0, 0) in
     let q = get_or names m (0, 0) in
     let e : bit_and p.1 q.0 ≡ bit_and q.1 p.0 =
     ap (λ x. bit_and x q.0) (sym is) ∙ and_assoc q.0 w p.0 ∙ ap (bit_and w) (and_comm p.0 q.0) ∙ sym (and_assoc p.0 w q.0) ∙ ap (λ x. bit_and x p.0) also in
-    not_both (nat_eq (bit_and p.1 q.0) (bit_and q.1 p.0)) (eq-eqb (bit_and p.1 q.0) (bit_and q.1 p.0) e) (apart_at names n m names_apart_true less lt)
+    not_both (nat_eq (bit_and p.1 q.0) (bit_and q.1 p.0)) (eq-eqb (bit_and p.1 q.0) (bit_and q.1 p.0) e) (apart_at names n m names_apart less lt)

@@ -6,7 +6,7 @@ use Rattle.rv_model.specs.declared.assembler.forms.UnsignedField.{UnsignedField}
 use Rattle.rv_model.specs.declared.assembler.forms.UnsignedField.TheVariants as unsigned
 use Rattle.rv_model.specs.declared.assembler.forms.SignedField.TheVariants as signed
 use Rattle.rv_model.specs.declared.assembler.forms.Slot.{Slot}
-use Rattle.rv_model.specs.declared.assembler.forms.Slot.TheVariants.{Comma, Open, Close, V0, Scalar, Vector, Unsigned, Signed, Csr, VectorType, ShortVectorType, Mask, Word}
+use Rattle.rv_model.specs.declared.assembler.forms.Slot.TheVariants.{Scalar, Vector, Unsigned, Signed, Csr, VectorType, ShortVectorType, Mask, Word}
 use Rattle.rv_model.specs.lending.Slots.{limit, value_count}
 use Rattle.rv_model.specs.assembler.Fields.{lowest, value_of}
 
@@ -15,10 +15,6 @@ field_below low len w = mod_below (w / 2 ^ low) (2 ^ len) (pow_pos len)
 
 -- a word's operand is one that its slot has
 pub value_below : (s : Slot) (w : ℕ) → value_of s w < value_count s
-value_below Comma w = omega arith
-value_below Open w = omega arith
-value_below Close w = omega arith
-value_below V0 w = omega arith
 value_below (Scalar p) w = field_below (lowest p) 5 w
 value_below (Vector p) w = field_below (lowest p) 5 w
 value_below (Unsigned unsigned.Immediate) w = field_below 15 5 w
@@ -35,10 +31,9 @@ value_below VectorType w = field_below 20 11 w
 value_below ShortVectorType w = field_below 20 10 w
 value_below Mask w = field_below 25 1 w
 value_below Word w = field_below 0 32 w
+value_below _ w = omega arith
 
 -- the largest number of an unsigned field fits 32 bits
 pub limit_small : (u : UnsignedField) → limit u < 2 ^ 32
 limit_small unsigned.Immediate = lit< tt
-limit_small unsigned.Shift = lit< tt
-limit_small unsigned.ShiftWord = lit< tt
-limit_small unsigned.Upper = lit< tt
+limit_small _ = lit< tt

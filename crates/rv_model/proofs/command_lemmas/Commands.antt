@@ -1,53 +1,256 @@
--- What any command prints are lines.
-use Rattle.std.proofs.Common.{List, ◌&&◌, Some, None, Ok, Err, refl}
+-- What any command comes to: it is refused, and leaves the user's machine and the vector unit; or it prints lines, none of which is a refusal.
+-- Only `leave` makes a user absent.
+use Rattle.std.proofs.Common.{◌≡◌, ◌⊎◌, inl, inr, ℕ, zero, suc, ◌+◌, ◌*◌, List, [], ◌∷◌, length, Bool, true, false, ◌&&◌, Option, Some, None, Result, Ok, Err, refl, subst, sym, ap}
+use Rattle.std.specs.Prelude.{⊤, not, map, nat_le, nat_lt, if◌then◌else◌}
+use Rattle.std.specs.List.{range_with_len}
+use Rattle.std.proofs.lemmas.Bool.{and_from}
+use Rattle.rv_model.specs.declared.commands.breakpoints.BreakpointCommand.{BreakpointCommand}
+use Rattle.rv_model.specs.declared.commands.breakpoints.BreakpointCommand.TheVariants.{Break, Unbreak, Breaks}
 use Rattle.rv_model.specs.declared.commands.command.Cmd.{Cmd}
 use Rattle.rv_model.specs.declared.commands.command.Cmd.TheVariants.{Entering, Memory, Registers, Programs, Breakpoints, Running}
-use Rattle.rv_model.specs.declared.commands.entering.EnteringCommand.{EnteringCommand}
 use Rattle.rv_model.specs.declared.commands.entering.EnteringCommand.TheVariants.{Enter, Leave}
+use Rattle.rv_model.specs.declared.commands.memory.MemoryCommand.{MemoryCommand}
+use Rattle.rv_model.specs.declared.commands.memory.MemoryCommand.TheVariants.{Map, Poke, Peek}
+use Rattle.rv_model.specs.declared.commands.programs.ProgramCommand.{ProgramCommand}
+use Rattle.rv_model.specs.declared.commands.programs.ProgramCommand.TheVariants.{Load, Asm, Dis}
+use Rattle.rv_model.specs.declared.commands.refusal.Refusal.{Refusal}
 use Rattle.rv_model.specs.declared.commands.refusal.Refusal.TheVariants as refusal
+use Rattle.rv_model.specs.declared.commands.registers.RegisterCommand.{RegisterCommand}
+use Rattle.rv_model.specs.declared.commands.registers.RegisterCommand.TheVariants.{Regs, Vreg, Vcsr}
+use Rattle.rv_model.specs.declared.commands.running.RunningCommand.{RunningCommand}
+use Rattle.rv_model.specs.declared.commands.running.RunningCommand.TheVariants.{Step, Go, Stop as StopRunning, State, Trace, Out}
+use Rattle.rv_model.specs.declared.images.ElfFault.{ElfFault}
+use Rattle.rv_model.specs.declared.memory.Access.TheVariants.{Monitor}
+use Rattle.rv_model.specs.declared.memory.MapRefusal.{MapRefusal}
+use Rattle.rv_model.specs.declared.memory.Permissions.{Permissions}
+use Rattle.rv_model.specs.declared.step.step_end.Stop.{Stop}
+use Rattle.rv_model.specs.assembler.Table.{spelled}
+use Rattle.rv_model.specs.commands.Arguments.{Pages}
+use Rattle.rv_model.specs.commands.Breakpoints.{breakpoint_command, breakpoint_limit, breaks_line}
 use Rattle.rv_model.specs.commands.Commands.{Parsed, needs_stopped, of_absent, of_present, carried_out, commanded}
 use Rattle.rv_model.specs.commands.Entering.{entering_absent, entering}
+use Rattle.rv_model.specs.commands.Memory.{mapping, peek_line, memory_command, why_not_mapped}
+use Rattle.rv_model.specs.commands.Printing.{refused}
+use Rattle.rv_model.specs.commands.Programs.{image_named, loaded_line, loading, loading_named, asm_line, assembling, dis_line, word_in, dis_lines, program_command, with_image}
+use Rattle.rv_model.specs.commands.Registers.{register_text, register_line, register_lines, regs_lines, vreg_line, vcsr_line, register_command}
+use Rattle.rv_model.specs.commands.Running.{step_line, running_line, stopped_line, state_line, trace_line, out_line, running_command}
+use Rattle.rv_model.specs.images.Faults.{first_fault}
+use Rattle.rv_model.specs.images.Fields.{entry_of}
+use Rattle.rv_model.specs.images.Image.{memory_of_image}
+use Rattle.rv_model.specs.machine.Runs.{Halted, steps}
 use Rattle.rv_model.specs.machine.Setup.{Image}
-use Rattle.rv_model.specs.machine.UserMachine.{Present, Private, refuses}
-use Rattle.rv_model.proofs.command_lemmas.Breakpoints.{breakpoints_print}
-use Rattle.rv_model.proofs.command_lemmas.Memory.{memory_prints}
-use Rattle.rv_model.proofs.command_lemmas.Printing.{PrintsLines, refusal_prints}
-use Rattle.rv_model.proofs.command_lemmas.Programs.{programs_print}
-use Rattle.rv_model.proofs.command_lemmas.Registers.{registers_print}
-use Rattle.rv_model.proofs.command_lemmas.Running.{running_prints}
-use Rattle.rv_model.proofs.text_lemmas.Pieces.{of_either}
+use Rattle.rv_model.specs.machine.UnitEvents.{can_be_loaded, unit_after_command, unit_after_line, unit_after_load, unit_of_absent, unit_of_present}
+use Rattle.rv_model.specs.machine.UserMachine.{Present, Private, Outcome, has_breakpoint, refuses, replies}
+use Rattle.rv_model.specs.machine.VectorUnit.{VectorUnit, unit_discarded, unused_unit}
+use Rattle.rv_model.specs.memory.Memory.{bytes_at, can_access, map_refusal, page_count}
+use Rattle.rv_model.specs.declared.scalar.Scalar.{Scalar}
+use Rattle.rv_model.proofs.Choices.{of_either}
+use Rattle.rv_model.proofs.text_lemmas.Newlines.{IsLine, AreLines}
+use Rattle.rv_model.specs.vector.Registers.{register_of}
+use Rattle.rv_model.proofs.command_lemmas.Breakpoints.{no_newline_in_breaks_line}
+use Rattle.rv_model.proofs.command_lemmas.Memory.{no_newline_in_peek_line}
+use Rattle.rv_model.proofs.command_lemmas.Printing.{PrintsLines, one_line, refusal_prints}
+use Rattle.rv_model.proofs.command_lemmas.Programs.{dis_lines_are_lines, no_newline_in_asm_line, no_newline_in_loaded_line}
+use Rattle.rv_model.proofs.command_lemmas.Refusals.{are_plain, asm_plain, dis_plain, is_plain, plain_line, stop_line_plain}
+use Rattle.rv_model.proofs.command_lemmas.Registers.{no_newline_in_vcsr_line, no_newline_in_vreg_line, regs_lines_are_lines}
+use Rattle.rv_model.proofs.command_lemmas.Running.{no_newline_in_out_line, no_newline_in_running_line, no_newline_in_state_line, no_newline_in_step_line, no_newline_in_stopped_line, no_newline_in_trace_line}
 
-entering_absent_prints : (c : EnteringCommand) → PrintsLines (entering_absent c)
-unfolding entering_absent
-entering_absent_prints Enter = refl
-entering_absent_prints Leave = refusal_prints None refusal.NotEntered
+-- ---- what a command comes to
 
-entering_prints : (c : EnteringCommand) (p : Present) → PrintsLines (entering c p)
-unfolding entering
-entering_prints Enter p = refusal_prints (Some p) refusal.AlreadyEntered
-entering_prints Leave p = refl
+abbrev pub Printed : List (List ℕ) → Type 0
+Printed lines = AreLines lines × (are_plain lines ≡ true)
 
-absent_prints : (c : Cmd) → PrintsLines (of_absent c)
-unfolding of_absent
-absent_prints (Entering c) = entering_absent_prints c
-absent_prints _ = refusal_prints None refusal.NotEntered
+-- one line
+pub prints : (line : List ℕ) → IsLine line → is_plain line ≡ true → Printed (line ∷ [])
+prints line h plain = (one_line line h, plain_line line plain)
 
-present_prints : (images : List Image) (c : Cmd) (p : Present) → PrintsLines (of_present images c p)
-unfolding of_present
-present_prints images (Entering c) p = entering_prints c p
-present_prints images (Memory c) p = memory_prints c p
-present_prints images (Registers c) p = registers_print c p
-present_prints images (Programs c) p = programs_print images c p
-present_prints images (Breakpoints c) p = breakpoints_print c p
-present_prints images (Running c) p = running_prints c p
+-- the user is there
+abbrev pub IsThere : Private → Type 0
+IsThere None = ⊥
+IsThere (Some p) = ⊤
 
-carried_out_prints : (images : List Image) (c : Cmd) (p : Private) → PrintsLines (carried_out images c p)
+-- refused; or lines, and a fact of what is left
+abbrev Answers : (Private → Type 0) → Private → Outcome → VectorUnit → VectorUnit → Type 0
+Answers Left p o before after = (((reason : Refusal) × (o ≡ refuses p reason)) × (after ≡ before)) ⊎ (Printed o.lines × Left o.next)
+
+abbrev Answered : Private → Outcome → VectorUnit → VectorUnit → Type 0
+Answered p o before after = Answers (λ next. ⊤) p o before after
+
+answered : (Left : Private → Type 0) (p : Private) (o : Outcome) (before after : VectorUnit) → Answers Left p o before after → Answered p o before after
+answered Left p o before after (inl refused) = inl refused
+answered Left p o before after (inr lines) = inr (lines.0, tt)
+
+-- ---- each group of commands, of a user who has entered
+
+-- but for one who leaves
+abbrev Stays : Cmd → Private → Type 0
+Stays (Entering Leave) next = ⊤
+Stays _ next = IsThere next
+
+module _ (images : List Image) (user : ℕ) (p : Present) (unit : VectorUnit) where
+  abbrev CommandAnswers : Cmd → Type 0
+  CommandAnswers c = Answers (Stays c) (Some p) (of_present images c p) unit (unit_of_present images user c p unit)
+
+  -- of those that leave the unit
+  abbrev Here : Outcome → Type 0
+  Here o = Answers IsThere (Some p) o unit unit
+
+  refuses_now : (reason : Refusal) → Here (refuses (Some p) reason)
+  refuses_now reason = inl ((reason, refl), refl)
+
+  mapping_answers : (reason : Option MapRefusal) (pages : Pages) (allowed : Permissions) → Here (mapping reason pages allowed p)
+  mapping_answers None pages allowed = inr ((refl, refl), tt)
+  mapping_answers (Some reason) pages allowed = refuses_now (why_not_mapped reason)
+
+  memory_answers : (c : MemoryCommand) → CommandAnswers (Memory c)
+  unfolding of_present memory_command peek_line
+  memory_answers (Map pages allowed) = mapping_answers (map_refusal p.hart.memory pages.first pages.count) pages allowed
+  memory_answers (Poke addr bytes) =
+      of_either Here (can_access Monitor p.hart.memory addr (length bytes)) _ _ (inr ((refl, refl), tt)) (refuses_now refusal.NotMapped)
+  memory_answers (Peek addr count) =
+      let shown = bytes_at p.hart.memory addr count in
+      of_either Here (can_access Monitor p.hart.memory addr count) _ _
+      (inr (prints (peek_line addr shown) (no_newline_in_peek_line addr shown) refl, tt)) (refuses_now refusal.NotMapped)
+
+  register_lines_plain : (n i : ℕ) (s : Scalar) → are_plain (register_lines n i s) ≡ true
+  unfolding register_line register_text
+  register_lines_plain zero i s = refl
+  register_lines_plain (suc n) i s = register_lines_plain n (i + 4) s
+
+  registers_answer : (c : RegisterCommand) → CommandAnswers (Registers c)
+  unfolding of_present register_command regs_lines vreg_line vcsr_line
+  registers_answer Regs = inr ((regs_lines_are_lines p.hart.scalar, register_lines_plain 8 0 p.hart.scalar), tt)
+  registers_answer (Vreg register width) =
+      let shown = register_of p.hart.vector.file register in
+      inr (prints (vreg_line register width shown) (no_newline_in_vreg_line register width shown) refl, tt)
+  registers_answer Vcsr = inr (prints (vcsr_line p.hart.vector) (no_newline_in_vcsr_line p.hart.vector) refl, tt)
+  registers_answer _ = inr ((refl, refl), tt)
+
+  -- an image that is too large is refused, and a smaller one drops the vector state
+  sized : (b : Bool) (image : List ℕ)
+      → Answers IsThere (Some p) (if b then refuses (Some p) refusal.Quota else replies (with_image image) (loaded_line (entry_of image) (page_count (memory_of_image image))))
+      unit (if not b then unit_discarded user unit else unit)
+  unfolding loaded_line
+  sized true image = refuses_now refusal.Quota
+  sized false image =
+      let pages = page_count (memory_of_image image) in
+      inr (prints (loaded_line (entry_of image) pages) (no_newline_in_loaded_line (entry_of image) pages) refl, tt)
+
+  loading_answers : (image : List ℕ) (fault : Option ElfFault)
+      → Answers IsThere (Some p) (loading image fault p) unit (if can_be_loaded image fault then unit_discarded user unit else unit)
+  loading_answers image (Some fault) = refuses_now (refusal.ElfFault fault)
+  loading_answers image None = sized (nat_lt 256 (page_count (memory_of_image image))) image
+
+  load_answers : (image : Option (List ℕ)) → Answers IsThere (Some p) (loading_named image p) unit (unit_after_load user image unit)
+  load_answers None = refuses_now refusal.ImageName
+  load_answers (Some image) = loading_answers image (first_fault image)
+
+  assembling_answers : (addr : ℕ) (word : Result ℕ ℕ) → Here (assembling addr word p)
+  assembling_answers addr (Err column) = refuses_now (refusal.Assembler column)
+  assembling_answers addr (Ok word) = inr (prints (asm_line addr word) (no_newline_in_asm_line addr word) (asm_plain addr word), tt)
+
+  dis_lines_plain : (addr : ℕ) (shown is : List ℕ) → are_plain (map (λ i. dis_line (addr + 4 * i) (word_in shown i)) is) ≡ true
+  dis_lines_plain addr shown [] = refl
+  dis_lines_plain addr shown (i ∷ is) = and_from _ _ (dis_plain (addr + 4 * i) (word_in shown i)) (dis_lines_plain addr shown is)
+
+  programs_answer : (c : ProgramCommand) → CommandAnswers (Programs c)
+  unfolding of_present program_command dis_lines
+  programs_answer (Load name) = load_answers (image_named images name)
+  programs_answer (Asm addr text) =
+      of_either Here (can_access Monitor p.hart.memory addr 4) _ _ (assembling_answers addr (spelled text)) (refuses_now refusal.NotMapped)
+  programs_answer (Dis addr count) =
+      let shown = bytes_at p.hart.memory addr (4 * count) in
+      of_either Here (can_access Monitor p.hart.memory addr (4 * count)) _ _
+      (inr ((dis_lines_are_lines addr count shown, dis_lines_plain addr shown (range_with_len 0 count)), tt)) (refuses_now refusal.NotMapped)
+
+  breakpoints_answer : (c : BreakpointCommand) → CommandAnswers (Breakpoints c)
+  unfolding of_present breakpoint_command breaks_line
+  breakpoints_answer (Break addr) =
+      of_either Here (nat_le breakpoint_limit (length p.breakpoints)) _ _ (refuses_now refusal.BreakpointLimit)
+      (of_either Here (has_breakpoint p addr) _ _ (refuses_now refusal.Breakpoint) (inr ((refl, refl), tt)))
+  breakpoints_answer (Unbreak addr) = of_either Here (has_breakpoint p addr) _ _ (inr ((refl, refl), tt)) (refuses_now refusal.Breakpoint)
+  breakpoints_answer Breaks = inr (prints (breaks_line p.breakpoints) (no_newline_in_breaks_line p.breakpoints) refl, tt)
+
+  step_line_plain : (n pc : ℕ) (reason : Option Stop) → is_plain (step_line n pc reason) ≡ true
+  unfolding step_line
+  step_line_plain n pc None = refl
+  step_line_plain n pc (Some reason) = stop_line_plain pc reason
+
+  state_line_plain : (running : Bool) (pc : ℕ) → is_plain (state_line running pc) ≡ true
+  unfolding state_line
+  state_line_plain true pc = refl
+  state_line_plain false pc = refl
+
+  running_answers : (c : RunningCommand) → CommandAnswers (Running c)
+  unfolding of_present running_command running_line stopped_line trace_line out_line
+  running_answers (Step n) =
+      let run : Halted = steps n true p in
+      let pc = run.state.hart.scalar.pc in
+      inr (prints (step_line n pc run.stop) (no_newline_in_step_line n pc run.stop) (step_line_plain n pc run.stop), tt)
+  running_answers Go = inr (prints (running_line p.hart.scalar.pc) (no_newline_in_running_line p.hart.scalar.pc) refl, tt)
+  running_answers StopRunning =
+      of_either Here p.running _ _ (inr (prints (stopped_line p.hart.scalar.pc) (no_newline_in_stopped_line p.hart.scalar.pc) refl, tt))
+      (refuses_now refusal.NotRunning)
+  running_answers State =
+      let pc = p.hart.scalar.pc in
+      inr (prints (state_line p.running pc) (no_newline_in_state_line p.running pc) (state_line_plain p.running pc), tt)
+  running_answers Trace = inr (prints (trace_line p.trace) (no_newline_in_trace_line p.trace) refl, tt)
+  running_answers Out = inr (prints (out_line p.hart.output) (no_newline_in_out_line p.hart.output) refl, tt)
+
+  present_answers : (c : Cmd) → CommandAnswers c
+  unfolding of_present entering
+  present_answers (Entering Enter) = refuses_now refusal.AlreadyEntered
+  present_answers (Entering Leave) = inr ((refl, refl), tt)
+  present_answers (Memory c) = memory_answers c
+  present_answers (Registers c) = registers_answer c
+  present_answers (Programs c) = programs_answer c
+  present_answers (Breakpoints c) = breakpoints_answer c
+  present_answers (Running c) = running_answers c
+
+  still_there : (o : Outcome) (after : VectorUnit) → Answers IsThere (Some p) o unit after → IsThere o.next
+  still_there o after (inl refused) = subst (λ (o : Outcome). IsThere o.next) (sym refused.0.1) tt
+  still_there o after (inr lines) = lines.1
+
+  pub stays_there : (c : Cmd) → Stays c (of_present images c p).next
+  stays_there (Entering Leave) = tt
+  stays_there c = still_there (of_present images c p) (unit_of_present images user c p unit) (present_answers c)
+
+-- ---- of any user
+
+absent_answers : (user : ℕ) (c : Cmd) (unit : VectorUnit) → Answered None (of_absent c) unit (unit_of_absent user c unit)
+unfolding of_absent entering_absent
+absent_answers user (Entering Enter) unit = inr ((refl, refl), tt)
+absent_answers user _ unit = inl ((refusal.NotEntered, refl), refl)
+
+carried_out_answers : (images : List Image) (user : ℕ) (c : Cmd) (p : Private) (unit : VectorUnit)
+    → Answered p (carried_out images c p) unit (unit_after_command images user c p unit)
 unfolding carried_out
-carried_out_prints images c None = absent_prints c
-carried_out_prints images c (Some p) =
-    of_either PrintsLines (p.running && needs_stopped c) (refuses (Some p) refusal.Running) (of_present images c p)
-    (refusal_prints (Some p) refusal.Running) (present_prints images c p)
+carried_out_answers images user c None unit = absent_answers user c unit
+carried_out_answers images user c (Some p) unit = held (p.running && needs_stopped c)
+  where
+    held : (b : Bool)
+        → Answered (Some p) (if b then refuses (Some p) refusal.Running else of_present images c p) unit (if b then unit else unit_of_present images user c p unit)
+    held true = inl ((refusal.Running, refl), refl)
+    held false = answered (Stays c) _ _ _ _ (present_answers images user p unit c)
+
+commanded_answers : (images : List Image) (user : ℕ) (p : Private) (r : Parsed) (unit : VectorUnit)
+    → Answered p (commanded images p r) unit (unit_after_line images user p r unit)
+commanded_answers images user p (Err reason) unit = inl ((reason, refl), refl)
+commanded_answers images user p (Ok c) unit = carried_out_answers images user c p unit
+
+-- neither the machine nor the unit changes; or none of the lines is a refusal
+abbrev pub Settles : Private → Outcome → VectorUnit → VectorUnit → Type 0
+Settles p o before after = ((o.next ≡ p) × (after ≡ before)) ⊎ (are_plain o.lines ≡ true)
+
+pub commanded_settles : (images : List Image) (user : ℕ) (p : Private) (r : Parsed) (unit : VectorUnit)
+    → Settles p (commanded images p r) unit (unit_after_line images user p r unit)
+commanded_settles images user p r unit = elim (commanded_answers images user p r unit) [
+  | inl refused ↦ inl (ap (λ (o : Outcome). o.next) refused.0.1, refused.1)
+  | inr lines ↦ inr lines.0.1
+]
 
 pub commanded_prints : (images : List Image) (p : Private) (r : Parsed) → PrintsLines (commanded images p r)
-commanded_prints images p (Err reason) = refusal_prints p reason
-commanded_prints images p (Ok c) = carried_out_prints images c p
+commanded_prints images p r = elim (commanded_answers images 1 p r unused_unit) [
+  | inl refused ↦ subst PrintsLines (sym refused.0.1) (refusal_prints p refused.0.0)
+  | inr lines ↦ lines.0.0
+]

@@ -1,6 +1,6 @@
 -- A line of the operator names a user, if any, by one of the users' numbers.
-use Rattle.std.proofs.Common.{◌≡◌, ℕ, ◌≤◌, List, [], ◌∷◌, Bool, true, false, Option, Some, None, Ok, Err, refl, sym}
-use Rattle.std.specs.Prelude.{nat_le, ◌&&◌, if◌then◌else◌, codes, option_map}
+use Rattle.std.proofs.Common.{ℕ, ◌≤◌, List, [], ◌∷◌, Option, Some, None, Ok, Err}
+use Rattle.std.specs.Prelude.{nat_le, ◌&&◌, codes, option_map}
 use Rattle.std.specs.Str.{bytes_eq}
 use Rattle.std.proofs.lemmas.Bool.{leb-true, and_parts}
 use Rattle.rv_model.specs.declared.commands.operator.OperatorCommand.{OperatorCommand}
@@ -10,13 +10,11 @@ use Rattle.rv_model.specs.commands.Arguments.{within, decimal_number, number_bet
 use Rattle.rv_model.specs.commands.Operator.{OperatorParsed, operator_named, operator_of_words, operator_parse}
 use Rattle.rv_model.specs.commands.Reading.{◌>>=◌, done, in_group, one_argument}
 use Rattle.rv_model.specs.text.Words.{words}
-use Rattle.rv_model.proofs.text_lemmas.Pieces.{of_either}
+use Rattle.rv_model.proofs.Choices.{of_either, of_option, of_test}
 
 abbrev pub NamesUser : OperatorCommand → Type 0
-NamesUser (Slices n) = Unit {0}
 NamesUser (Run u) = (1 ≤ u) × (u ≤ 8)
-NamesUser ListUsers = Unit {0}
-NamesUser ShowStats = Unit {0}
+NamesUser _ = Unit {0}
 
 abbrev NamesUserIfAny : Option OperatorCommand → Type 0
 NamesUserIfAny None = Unit {0}
@@ -43,26 +41,18 @@ run_args ws = one_argument Run (number_between 1 8) ws
 slices_name : (ws : List (List ℕ)) → NamesUserIfAny (slices_args ws)
 unfolding one_argument
 slices_name [] = tt
-slices_name (w ∷ ws) = counted (number_between 1 1000 w)
-  where
-    counted : (o : Option ℕ) → NamesUserIfAny (read ws o >>= (λ count. done (Slices count.0) count.1))
-    counted None = tt
-    counted (Some n) = done_names (Slices n) ws tt
+slices_name (w ∷ ws) =
+    of_option (number_between 1 1000 w) (λ o. NamesUserIfAny (read ws o >>= (λ count. done (Slices count.0) count.1)))
+    (λ e. tt) (λ n e. done_names (Slices n) ws tt)
 
 run_names : (ws : List (List ℕ)) → NamesUserIfAny (run_args ws)
 unfolding one_argument
 run_names [] = tt
-run_names (w ∷ ws) = numbered (decimal_number w)
-  where
-    tested : (n : ℕ) (b : Bool) → b ≡ (nat_le 1 n && nat_le n 8) → NamesUserIfAny (read ws (if b then Some n else None) >>= (λ user. done (Run user.0) user.1))
-    tested n false h = tt
-    tested n true h =
-        let two = and_parts (nat_le 1 n) (nat_le n 8) (sym h) in
-        done_names (Run n) ws (leb-true 1 n two.0, leb-true n 8 two.1)
-
-    numbered : (o : Option ℕ) → NamesUserIfAny (read ws (within 1 8 o) >>= (λ user. done (Run user.0) user.1))
-    numbered None = tt
-    numbered (Some n) = tested n (nat_le 1 n && nat_le n 8) refl
+run_names (w ∷ ws) =
+    let Names : Option ℕ → Type 0 = λ o. NamesUserIfAny (read ws o >>= (λ user. done (Run user.0) user.1)) in
+    of_option (decimal_number w) (λ o. Names (within 1 8 o)) (λ e. tt)
+    (λ n e. of_test Names (nat_le 1 n && nat_le n 8) (Some n) None
+    (λ h. let two = and_parts (nat_le 1 n) (nat_le n 8) h in done_names (Run n) ws (leb-true 1 n two.0, leb-true n 8 two.1)) (λ h. tt))
 
 abbrev NamedNamesUser : Option (Option OperatorCommand) → Type 0
 NamedNamesUser o = ParsedNamesUser (in_group (λ command. command) o (Err UnknownCommand))

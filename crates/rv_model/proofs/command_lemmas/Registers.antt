@@ -1,22 +1,17 @@
--- What commands on registers print are lines.
+-- What commands on registers print has no newline.
 use Rattle.std.proofs.Common.{ℕ, zero, suc, ◌+◌, ◌*◌, ◌/◌, List, refl}
 use Rattle.std.specs.Prelude.{codes, flat_map, reverse, slice_index, slice_range}
 use Rattle.std.specs.List.{range_with_len}
 use Rattle.std.proofs.lemmas.Bool.{and_from}
-use Rattle.rv_model.specs.declared.commands.registers.RegisterCommand.{RegisterCommand}
-use Rattle.rv_model.specs.declared.commands.registers.RegisterCommand.TheVariants.{Set, Regs, SetPc, Vreg, Vset, Vcsr, SetPolicy}
 use Rattle.rv_model.specs.declared.scalar.Scalar.{Scalar}
 use Rattle.rv_model.specs.declared.vector.state.VState.{VState}
 use Rattle.rv_model.specs.declared.vector.types.Sew.{Sew}
-use Rattle.rv_model.specs.commands.Registers.{register_text, register_line, register_lines, regs_lines, element_text, vreg_line, vcsr_line, register_command}
+use Rattle.rv_model.specs.commands.Registers.{register_text, register_line, register_lines, regs_lines, element_text, vreg_line, vcsr_line}
 use Rattle.rv_model.specs.instructions.BitFields.{flag_bit}
-use Rattle.rv_model.specs.machine.UserMachine.{Present}
 use Rattle.rv_model.proofs.text_lemmas.Newlines.{IsLine, AreLines}
 use Rattle.rv_model.specs.vector.Configuration.{sew_bits}
-use Rattle.rv_model.specs.vector.Registers.{register_of}
 use Rattle.rv_model.specs.vector.RoundingModes.{rounding_number}
 use Rattle.rv_model.specs.vector.TypeRules.{vtype_number}
-use Rattle.rv_model.proofs.command_lemmas.Printing.{PrintsLines, one_line}
 use Rattle.rv_model.proofs.text_lemmas.Pieces.{Piece, ◌▸◌, hexadecimal, number, bytes, space, flat_map_line}
 
 no_newline_in_register : (s : Scalar) (i : ℕ) → IsLine (register_text s i)
@@ -33,7 +28,7 @@ register_lines_are_lines : (n i : ℕ) (s : Scalar) → AreLines (register_lines
 register_lines_are_lines zero i s = refl
 register_lines_are_lines (suc n) i s = and_from _ _ (no_newline_in_register_line s i) (register_lines_are_lines n (i + 4) s)
 
-regs_lines_are_lines : (s : Scalar) → AreLines (regs_lines s)
+pub regs_lines_are_lines : (s : Scalar) → AreLines (regs_lines s)
 unfolding regs_lines
 regs_lines_are_lines s = let pc : Piece = (codes "pc ", refl) in and_from _ _ (pc ▸ hexadecimal s.pc).1 (register_lines_are_lines 8 0 s)
 
@@ -41,7 +36,7 @@ no_newline_in_element : (k : ℕ) (register : List ℕ) (i : ℕ) → IsLine (el
 unfolding element_text
 no_newline_in_element k register i = (space ▸ bytes (reverse (slice_range register (k * i) (k * i + k)))).1
 
-no_newline_in_vreg_line : (r : ℕ) (width : Sew) (register : List ℕ) → IsLine (vreg_line r width register)
+pub no_newline_in_vreg_line : (r : ℕ) (width : Sew) (register : List ℕ) → IsLine (vreg_line r width register)
 unfolding vreg_line
 no_newline_in_vreg_line r width register =
     let element = element_text (sew_bits width / 8) register in
@@ -50,7 +45,7 @@ no_newline_in_vreg_line r width register =
     let elements : Piece = (flat_map element all, flat_map_line element all (no_newline_in_element (sew_bits width / 8) register)) in
     (word ▸ number r ▸ elements).1
 
-no_newline_in_vcsr_line : (v : VState) → IsLine (vcsr_line v)
+pub no_newline_in_vcsr_line : (v : VState) → IsLine (vcsr_line v)
 unfolding vcsr_line
 no_newline_in_vcsr_line v =
     let vl : Piece = (codes "vl=", refl) in
@@ -60,15 +55,3 @@ no_newline_in_vcsr_line v =
     let vxsat : Piece = (codes " vxsat=", refl) in
     (vl ▸ number v.conf.vl ▸ vtype ▸ hexadecimal (vtype_number v.conf.vtype) ▸ vstart ▸ number v.vstart
     ▸ vxrm ▸ number (rounding_number v.vxrm) ▸ vxsat ▸ number (flag_bit v.vxsat)).1
-
-pub registers_print : (c : RegisterCommand) (p : Present) → PrintsLines (register_command c p)
-unfolding register_command
-registers_print (Set register value) p = refl
-registers_print Regs p = regs_lines_are_lines p.hart.scalar
-registers_print (SetPc addr) p = refl
-registers_print (Vreg register width) p =
-    let shown = register_of p.hart.vector.file register in
-    one_line (vreg_line register width shown) (no_newline_in_vreg_line register width shown)
-registers_print (Vset register bytes) p = refl
-registers_print Vcsr p = one_line (vcsr_line p.hart.vector) (no_newline_in_vcsr_line p.hart.vector)
-registers_print (SetPolicy policy) p = refl

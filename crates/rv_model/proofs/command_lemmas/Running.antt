@@ -1,20 +1,16 @@
--- What commands that run instructions print are lines.
+-- What commands that run instructions print has no newline.
 use Rattle.std.proofs.Common.{ℕ, List, [], Bool, true, false, Option, Some, None, refl}
 use Rattle.std.specs.Prelude.{◌++◌, codes, flat_map, if◌then◌else◌, length, nat_lt}
 use Rattle.hex.specs.Hex.{encode_lower}
-use Rattle.rv_model.specs.declared.commands.running.RunningCommand.{RunningCommand}
-use Rattle.rv_model.specs.declared.commands.running.RunningCommand.TheVariants.{Step, Go, Stop as StopRunning, State, Trace, Out}
-use Rattle.rv_model.specs.declared.commands.refusal.Refusal.TheVariants as refusal
 use Rattle.rv_model.specs.declared.step.step_end.Stop.{Stop}
-use Rattle.rv_model.specs.commands.Running.{step_line, running_line, stopped_line, state_line, trace_line, out_line, running_command}
+use Rattle.rv_model.specs.commands.Running.{step_line, running_line, stopped_line, state_line, trace_line, out_line}
 use Rattle.rv_model.specs.commands.Printing.{listed}
-use Rattle.rv_model.specs.machine.Runs.{Halted, steps}
-use Rattle.rv_model.specs.machine.UserMachine.{Present, refuses, replies}
 use Rattle.rv_model.proofs.text_lemmas.Newlines.{IsLine}
-use Rattle.rv_model.proofs.command_lemmas.Printing.{PrintsLines, one_line, refusal_prints, no_newline_in_listed, no_newline_in_stop_line}
-use Rattle.rv_model.proofs.text_lemmas.Pieces.{Piece, ◌▸◌, hexadecimal, bytes, number, space, flat_map_line, of_either}
+use Rattle.rv_model.proofs.command_lemmas.Printing.{no_newline_in_listed, no_newline_in_stop_line}
+use Rattle.rv_model.proofs.Choices.{of_either}
+use Rattle.rv_model.proofs.text_lemmas.Pieces.{Piece, ◌▸◌, hexadecimal, bytes, number, space, flat_map_line}
 
-no_newline_in_step_line : (n pc : ℕ) (reason : Option Stop) → IsLine (step_line n pc reason)
+pub no_newline_in_step_line : (n pc : ℕ) (reason : Option Stop) → IsLine (step_line n pc reason)
 unfolding step_line
 no_newline_in_step_line n pc None =
     let word : Piece = (codes "stepped ", refl) in
@@ -22,20 +18,20 @@ no_newline_in_step_line n pc None =
     (word ▸ number n ▸ place ▸ hexadecimal pc).1
 no_newline_in_step_line n pc (Some reason) = no_newline_in_stop_line pc reason
 
-no_newline_in_running_line : (pc : ℕ) → IsLine (running_line pc)
+pub no_newline_in_running_line : (pc : ℕ) → IsLine (running_line pc)
 unfolding running_line
 no_newline_in_running_line pc = let word : Piece = (codes "running pc=", refl) in (word ▸ hexadecimal pc).1
 
-no_newline_in_stopped_line : (pc : ℕ) → IsLine (stopped_line pc)
+pub no_newline_in_stopped_line : (pc : ℕ) → IsLine (stopped_line pc)
 unfolding stopped_line
 no_newline_in_stopped_line pc = let word : Piece = (codes "stopped pc=", refl) in (word ▸ hexadecimal pc).1
 
-no_newline_in_state_line : (running : Bool) (pc : ℕ) → IsLine (state_line running pc)
+pub no_newline_in_state_line : (running : Bool) (pc : ℕ) → IsLine (state_line running pc)
 unfolding state_line
 no_newline_in_state_line true pc = let word : Piece = (codes "state running pc=", refl) in (word ▸ hexadecimal pc).1
 no_newline_in_state_line false pc = let word : Piece = (codes "state stopped pc=", refl) in (word ▸ hexadecimal pc).1
 
-no_newline_in_trace_line : (addresses : List ℕ) → IsLine (trace_line addresses)
+pub no_newline_in_trace_line : (addresses : List ℕ) → IsLine (trace_line addresses)
 unfolding trace_line
 no_newline_in_trace_line addresses =
     let word : Piece = (codes "trace", refl) in
@@ -49,23 +45,9 @@ spaced_bytes all = if nat_lt 0 (length all) then codes " " ++ encode_lower all e
 no_newline_in_spaced_bytes : (all : List ℕ) → IsLine (spaced_bytes all)
 no_newline_in_spaced_bytes all = of_either IsLine (nat_lt 0 (length all)) _ [] (space ▸ bytes all).1 refl
 
-no_newline_in_out_line : (all : List ℕ) → IsLine (out_line all)
+pub no_newline_in_out_line : (all : List ℕ) → IsLine (out_line all)
 unfolding out_line
 no_newline_in_out_line all =
     let word : Piece = (codes "out ", refl) in
     let after : Piece = (spaced_bytes all, no_newline_in_spaced_bytes all) in
     (word ▸ number (length all) ▸ after).1
-
-pub running_prints : (c : RunningCommand) (p : Present) → PrintsLines (running_command c p)
-unfolding running_command
-running_prints (Step n) p =
-    let run : Halted = steps n true p in
-    one_line (step_line n run.state.hart.scalar.pc run.stop) (no_newline_in_step_line n run.state.hart.scalar.pc run.stop)
-running_prints Go p = one_line (running_line p.hart.scalar.pc) (no_newline_in_running_line p.hart.scalar.pc)
-running_prints StopRunning p =
-    let pc = p.hart.scalar.pc in
-    of_either PrintsLines p.running (replies (record p { running = false }) (stopped_line pc)) (refuses (Some p) refusal.NotRunning)
-    (one_line (stopped_line pc) (no_newline_in_stopped_line pc)) (refusal_prints (Some p) refusal.NotRunning)
-running_prints State p = one_line (state_line p.running p.hart.scalar.pc) (no_newline_in_state_line p.running p.hart.scalar.pc)
-running_prints Trace p = one_line (trace_line p.trace) (no_newline_in_trace_line p.trace)
-running_prints Out p = one_line (out_line p.hart.output) (no_newline_in_out_line p.hart.output)

@@ -3,6 +3,7 @@ use Rattle.std.proofs.Common.{ℕ, zero, suc, ◌+◌, ◌-◌, ◌<◌, ◌≤�
 use Rattle.std.specs.List.{list_any, range_with_len}
 use Rattle.rv_model.specs.elements.Elements.{Body, in_body, is_active, is_enabled, some_active}
 use Rattle.rv_model.proofs.element_lemmas.Sets.{from_start, inside_range, to_end}
+use Rattle.rv_model.proofs.Choices.{of_bool}
 
 -- ---- tests of the first numbers
 
@@ -40,11 +41,7 @@ module _ (body : Body) (test : ℕ → Bool) where
   some_kept i h = some_more i ∙ ap (λ a. some_before i || (a && test i)) h ∙ or_last (some_before i)
 
   outside : (i : ℕ) → (in_body body i ≡ true → ⊥) → is_active body i ≡ false
-  outside i h = off (in_body body i) h
-    where
-      off : (b : Bool) → (b ≡ true → ⊥) → (b && is_enabled body i) ≡ false
-      off true h = absurd (h refl)
-      off false h = refl
+  outside i h = of_bool (in_body body i) (λ b. (b && is_enabled body i) ≡ false) (λ is. absurd (h is)) (λ is. refl)
 
   -- before the first element of the body
   pub some_begins : (i : ℕ) → i ≤ body.start → some_before i ≡ false
@@ -61,11 +58,7 @@ module _ (body : Body) (test : ℕ → Bool) where
       some_more i ∙ ap (λ a. some_before i || (a && test i)) is
 
   pub some_off : (i : ℕ) → is_enabled body i ≡ false → some_before (i + 1) ≡ some_before i
-  some_off i h = some_kept i (off (in_body body i) (is_enabled body i) h)
-    where
-      off : (b l : Bool) → l ≡ false → (b && l) ≡ false
-      off true l h = h
-      off false l h = refl
+  some_off i h = some_kept i (of_bool (in_body body i) (λ b. (b && is_enabled body i) ≡ false) (λ is. h) (λ is. refl))
 
   -- after the last
   past_end : (k : ℕ) → some_before (body.end + k) ≡ some_active body test

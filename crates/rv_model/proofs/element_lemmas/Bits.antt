@@ -1,5 +1,5 @@
 -- Laws of lists of bytes of which some bits are replaced, byte after byte.
-use Rattle.std.proofs.Common.{ℕ, zero, suc, ◌+◌, ◌*◌, ◌/◌, ◌%◌, ◌^◌, ◌<◌, ◌≤◌, ◌≡◌, List, length, get_or, set, Bool, true, false, cond, ◌==◌, nat_lt, refl, sym, ap, ◌∙◌, arith, inl, inr, lt-ltb, le-ltb, get_or-set_other, length-set, lit<, zero-add}
+use Rattle.std.proofs.Common.{ℕ, zero, suc, ◌+◌, ◌*◌, ◌/◌, ◌%◌, ◌^◌, ◌<◌, ◌≤◌, ◌≡◌, List, length, get_or, set, Bool, true, cond, ◌==◌, nat_lt, refl, sym, ap, ◌∙◌, arith, inl, inr, lt-ltb, le-ltb, get_or-set_other, length-set, lit<, zero-add}
 use Rattle.std.specs.Int.{from_bool}
 use Rattle.std.proofs.lemmas.Bool.{cases_order}
 use Rattle.std.proofs.lemmas.Grind.{same_number_lists}
@@ -8,6 +8,7 @@ use Rattle.std.proofs.lemmas.List.FromFn.{get_or-map-range_with_len, length-map-
 use Rattle.rv_model.specs.elements.Elements.{mask_bit, byte_of_bits}
 use Rattle.rv_model.specs.elements.Writes.{bit_or, byte_with_bits, written_bits}
 use Rattle.rv_model.specs.lending.Writes.{WritesBits}
+use Rattle.rv_model.proofs.Choices.{of_bool}
 
 -- ---- the bits of a byte
 
@@ -69,11 +70,9 @@ module _ (changed bit : ℕ → Bool) where
       → get_or old q 0 ≡ byte_with_bits changed bit old q
   byte_kept q end old byte past h =
       sym (byte_of_own (get_or old q 0) byte)
-      ∙ sym (same_byte (λ j. bit_or changed bit old (8 * q + j)) (λ j. get_or old q 0 / 2 ^ j % 2 == 1) (λ j l. kept j l (changed (8 * q + j)) refl))
-    where
-      kept : (j : ℕ) → j < 8 → (c : Bool) → changed (8 * q + j) ≡ c → cond c (bit (8 * q + j)) (mask_bit old (8 * q + j)) ≡ (get_or old q 0 / 2 ^ j % 2 == 1)
-      kept j l true e = absurd (omega (arith, past (8 * q + j) e, h))
-      kept j l false e = mask_bit_in old q j l
+      ∙ sym (same_byte (λ j. bit_or changed bit old (8 * q + j)) (λ j. get_or old q 0 / 2 ^ j % 2 == 1) (λ j l.
+      of_bool (changed (8 * q + j)) (λ c. cond c (bit (8 * q + j)) (mask_bit old (8 * q + j)) ≡ (get_or old q 0 / 2 ^ j % 2 == 1))
+      (λ e. absurd (omega (arith, past (8 * q + j) e, h))) (λ e. mask_bit_in old q j l)))
 
   -- ---- the bytes that are left
 
@@ -90,9 +89,7 @@ module _ (changed bit : ℕ → Bool) where
 pub same_bits : (changed told bit : ℕ → Bool) (old new : List ℕ) → ((i : ℕ) → changed i ≡ true → told i ≡ bit i) → WritesBits changed told old new → WritesBits changed bit old new
 same_bits changed told bit old new same was = record {
   same_length = was.same_length;
-  bytes = λ q h. was.bytes q h ∙ same_byte (λ j. bit_or changed told old (8 * q + j)) (λ j. bit_or changed bit old (8 * q + j)) (λ j l. either (8 * q + j) (changed (8 * q + j)) refl);
+  bytes = λ q h. was.bytes q h ∙ same_byte (λ j. bit_or changed told old (8 * q + j)) (λ j. bit_or changed bit old (8 * q + j)) (λ j l.
+      of_bool (changed (8 * q + j)) (λ c. cond c (told (8 * q + j)) (mask_bit old (8 * q + j)) ≡ cond c (bit (8 * q + j)) (mask_bit old (8 * q + j)))
+      (same (8 * q + j)) (λ e. refl));
 }
-  where
-    either : (i : ℕ) (c : Bool) → changed i ≡ c → cond c (told i) (mask_bit old i) ≡ cond c (bit i) (mask_bit old i)
-    either i true e = same i e
-    either i false e = refl

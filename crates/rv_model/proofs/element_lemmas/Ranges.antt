@@ -6,6 +6,7 @@ use Rattle.std.proofs.lemmas.List.{map-append, map-id}
 use Rattle.std.proofs.lemmas.List.Elements.{filter-append}
 use Rattle.std.proofs.lemmas.List.FromFn.{map-range_with_len_more}
 use Rattle.std.proofs.lemmas.List.Sums.{fold-append}
+use Rattle.rv_model.proofs.Choices.{of_bool, of_either}
 
 -- one number more
 pub range_more : (n : ℕ) → range_with_len 0 (n + 1) ≡ range_with_len 0 n ++ n ∷ []
@@ -21,23 +22,17 @@ module _ (test : ℕ → Bool) where
   pub count_more : (n : ℕ) → length (filter test (range_with_len 0 (n + 1))) ≡ length (filter test (range_with_len 0 n)) + from_bool (test n)
   count_more n =
       ap length (passed_more n) ∙ length-append (filter test (range_with_len 0 n)) (cond (test n) (n ∷ []) [])
-      ∙ ap (λ x. length (filter test (range_with_len 0 n)) + x) (one (test n))
-    where
-      one : (b : Bool) → length (cond b (n ∷ []) []) ≡ from_bool b
-      one true = refl
-      one false = refl
+      ∙ ap (λ x. length (filter test (range_with_len 0 n)) + x)
+      (of_bool (test n) (λ b. length (cond b (n ∷ []) []) ≡ from_bool b) (λ e. refl) (λ e. refl))
 
   -- no more than there are numbers
   pub count_most : (n : ℕ) → length (filter test (range_with_len 0 n)) ≤ n
   count_most n = most 0 n
     where
-      either : (b : Bool) (x n : ℕ) (xs : List ℕ) → length xs ≤ n → length (cond b (x ∷ xs) xs) ≤ suc n
-      either true x n xs h = omega (arith, h)
-      either false x n xs h = omega (arith, h)
-
       most : (a n : ℕ) → length (filter test (range_with_len a n)) ≤ n
       most a zero = omega arith
-      most a (suc n) = either (test a) a n (filter test (range_with_len (a + 1) n)) (most (a + 1) n)
+      most a (suc n) =
+          let less = most (a + 1) n in of_either (λ xs. length xs ≤ suc n) (test a) _ _ (omega (arith, less)) (omega (arith, less))
 
   -- what they are combined to
   module _ (combined : ℕ → ℕ → ℕ) (first : ℕ) (number : ℕ → ℕ) where

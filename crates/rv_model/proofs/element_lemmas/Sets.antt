@@ -9,6 +9,7 @@ use lib.Lanes.{put_chunk}
 use Rattle.rv_model.specs.elements.Elements.{Body, in_range, in_body, is_enabled, is_active, is_changed, result_or_ones}
 use Rattle.rv_model.specs.lending.Writes.{Writes}
 use Rattle.rv_model.proofs.element_lemmas.Writes.{begins, ends, step_written, step_kept, writes_same, writes_then}
+use Rattle.rv_model.proofs.Choices.{of_bool}
 
 -- an index of a range is between its ends
 pub from_start : (s v e : ℕ) → in_range s v e ≡ true → s ≤ e
@@ -108,17 +109,14 @@ module _ (k : ℕ) (body : Body) (fill_masked_off : Bool) (n : ℕ) (result : �
       (writes_then k (is_changed body fill_masked_off false) (in_range body.end n) (result_or_ones body result ones) (λ e. ones) old mid new first second)
       (λ e h. joined (is_active body e) (fill_masked_off && (in_body body e && not (is_enabled body e))) (nat_le body.end e) (nat_lt e n)
       (lt-ltb e n (below e (omega (arith, h, long)))))
-      (λ e h. numbers e (in_range body.end n e) refl)
+      (λ e h. of_bool (in_range body.end n e) (λ b. result_or_ones body result ones e ≡ cond b ones (result_or_ones body result ones e))
+      (λ is. let off : in_body body e ≡ false = past_body e (from_start body.end n e is) in rw off refl) (λ is. refl))
     where
       below : (e : ℕ) → k * e < k * n → e < n
       below e h = elim (cases_lt e n) [
         | inl low ↦ low
         | inr high ↦ (let up : k * n ≤ k * e = mul-le-mul_left k high in absurd (omega arith))
       ]
-
-      numbers : (e : ℕ) (b : Bool) → in_range body.end n e ≡ b → result_or_ones body result ones e ≡ cond b ones (result_or_ones body result ones e)
-      numbers e true h = let off : in_body body e ≡ false = past_body e (from_start body.end n e h) in rw off refl
-      numbers e false h = refl
 
 -- The results may be told another way, where they tell the same in the body.
 pub same_results : (k : ℕ) (body : Body) (fill_masked_off fill_tail : Bool) (result other : ℕ → ℕ) (ones : ℕ) (old new : List ℕ)
@@ -138,8 +136,6 @@ same_results k body fill_masked_off fill_tail result other ones old new same was
 
 -- an active element is before the end
 pub active_end : (body : Body) (i : ℕ) → is_active body i ≡ true → i < body.end
-active_end body i h = inside i (in_body body i) (is_enabled body i) (λ b. to_end body.start body.end i b) refl h
-  where
-    inside : (e : ℕ) (b l : Bool) → (in_body body e ≡ true → e < body.end) → in_body body e ≡ b → (b && l) ≡ true → e < body.end
-    inside e true l told is both = told is
-    inside e false l told is both = absurd (cc)
+active_end body i =
+    of_bool (in_body body i) (λ b. (b && is_enabled body i) ≡ true → i < body.end)
+    (λ is both. to_end body.start body.end i is) (λ is both. absurd (cc))

@@ -16,6 +16,7 @@ use Rattle.rv_model.specs.step.MemoryStep.{tail_filled, tails_filled}
 use Rattle.rv_model.specs.vector.Registers.{group_of, registers, with_group}
 use Rattle.rv_model.proofs.element_lemmas.Widths.{bytes_positive}
 use Rattle.rv_model.proofs.element_lemmas.Writes.{writes_are, writes_same, written_are}
+use Rattle.rv_model.proofs.Choices.{of_bool}
 
 -- the elements of a group of n are filled from one on
 pub tail_is_filled : (g : GroupType) (vd vl n : ℕ) (file new : List ℕ) → length (group_of file vd g.emul) ≡ width_bytes g.width * n
@@ -27,12 +28,8 @@ tail_is_filled g vd vl n file new long filled =
     ap (λ bytes. with_group file vd bytes)
     (writes_are k (nat_le vl) (λ e. ones g.width) group new (bytes_positive g.width)
     (writes_same k (in_range vl n) (nat_le vl) (λ e. ones g.width) (λ e. ones g.width) group new filled
-    (λ e h. inside (nat_le vl e) (nat_lt e n) (lt-ltb e n (below e (omega (arith, h, long))))) (λ e h. refl)))
+    (λ e h. of_bool (nat_le vl e) (λ a. a ≡ (a && nat_lt e n)) (λ is. sym (lt-ltb e n (below e (omega (arith, h, long))))) (λ is. refl)) (λ e h. refl)))
   where
-    inside : (a b : Bool) → b ≡ true → a ≡ (a && b)
-    inside true b h = sym h
-    inside false b h = refl
-
     below : (e : ℕ) → width_bytes g.width * e < width_bytes g.width * n → e < n
     below e h = elim (cases_lt e n) [
       | inl low ↦ low

@@ -4,7 +4,7 @@ use Rattle.std.specs.Int.{Width, w8, w16, w32, w64, w128}
 use mir.Val.{bits}
 use Rattle.rv_model.specs.declared.vector.sizes.TheConstants.{VLEN, VLENB}
 use Rattle.rv_model.specs.declared.vector.types.Sew.{Sew}
-use Rattle.rv_model.specs.declared.vector.types.Sew.TheVariants.{E8, E16, E32, E64}
+use Rattle.rv_model.specs.declared.vector.types.Sew.TheVariants.{E8}
 use Rattle.rv_model.specs.declared.vector.types.VType.{VType}
 use Rattle.rv_model.specs.vector.Configuration.{lmul_eighths, sew_bits, vlmax, width_bytes}
 
@@ -35,9 +35,7 @@ power_positive w128 = lit< tt
 -- as many elements, by the bytes of a register
 elements_by_bytes : (s : Sew) (n : ℕ) → n * VLENB / sew_bits s ≡ n * VLEN / (8 * sew_bits s)
 elements_by_bytes E8 n = omega arith
-elements_by_bytes E16 n = omega arith
-elements_by_bytes E32 n = omega arith
-elements_by_bytes E64 n = omega arith
+elements_by_bytes _ n = omega arith
 
 pub vlmax_by_bytes : (t : VType) → lmul_eighths t.lmul * VLENB / sew_bits t.sew ≡ vlmax t
 vlmax_by_bytes t = elements_by_bytes t.sew (lmul_eighths t.lmul)

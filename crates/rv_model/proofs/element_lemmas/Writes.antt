@@ -14,6 +14,7 @@ use lib.Lanes.{chunk, put_chunk, number_l}
 use Rattle.rv_model.specs.elements.Elements.{element}
 use Rattle.rv_model.specs.elements.Writes.{byte_or, written}
 use Rattle.rv_model.specs.lending.Writes.{Writes}
+use Rattle.rv_model.proofs.Choices.{of_bool}
 
 -- ---- the bytes of a number
 
@@ -70,12 +71,10 @@ pub writes_same : (k : ℕ) (W V : ℕ → Bool) (F G : ℕ → ℕ) (old new : 
     → ((e : ℕ) → k * e < length old → V e ≡ W e) → ((e : ℕ) → W e ≡ true → G e ≡ F e) → Writes k V G old new
 writes_same k W V F G old new was same numbers = record {
   same_length = was.same_length;
-  bytes = λ e m h l. rw (same e (omega arith), was.bytes e m h l) (either e m (W e) (numbers e));
+  bytes = λ e m h l. rw (same e (omega arith), was.bytes e m h l)
+      (of_bool (W e) (λ w. cond w (byte_at m (F e)) (get_or old (k * e + m) 0) ≡ cond w (byte_at m (G e)) (get_or old (k * e + m) 0))
+      (λ is. ap (byte_at m) (sym (numbers e is))) (λ is. refl));
 }
-  where
-    either : (e m : ℕ) (w : Bool) → (w ≡ true → G e ≡ F e) → cond w (byte_at m (F e)) (get_or old (k * e + m) 0) ≡ cond w (byte_at m (G e)) (get_or old (k * e + m) 0)
-    either e m true q = ap (byte_at m) (sym (q refl))
-    either e m false q = refl
 
 -- the element i is written
 writes_more : (k : ℕ) (W V : ℕ → Bool) (F : ℕ → ℕ) (old mid : List ℕ) (i : ℕ) → k * i + k ≤ length old → Writes k W F old mid → V i ≡ true → ((e : ℕ) → (e ≡ i → ⊥) → V e ≡ W e)
@@ -125,19 +124,13 @@ module _ (k : ℕ) (W : ℕ → Bool) (F : ℕ → ℕ) (old mid new : List ℕ)
 
 -- before a loop from i on
 pub begins : (k : ℕ) (W : ℕ → Bool) (F : ℕ → ℕ) (xs : List ℕ) (i : ℕ) → ((e : ℕ) → W e ≡ true → i ≤ e) → Writes k (λ e. W e && nat_lt e i) F xs xs
-begins k W F xs i from = writes_none k (λ e. W e && nat_lt e i) F xs (λ e. none e (W e) (from e))
-  where
-    none : (e : ℕ) (w : Bool) → (w ≡ true → i ≤ e) → (w && nat_lt e i) ≡ false
-    none e true h = le-ltb e i (h refl)
-    none e false h = refl
+begins k W F xs i from = writes_none k (λ e. W e && nat_lt e i) F xs
+    (λ e. of_bool (W e) (λ w. (w && nat_lt e i) ≡ false) (λ is. le-ltb e i (from e is)) (λ is. refl))
 
 -- after a loop up to i
 pub ends : (k : ℕ) (W : ℕ → Bool) (F : ℕ → ℕ) (old new : List ℕ) (i : ℕ) → Writes k (λ e. W e && nat_lt e i) F old new → ((e : ℕ) → W e ≡ true → e < i) → Writes k W F old new
-ends k W F old new i was to = writes_same k (λ e. W e && nat_lt e i) W F F old new was (λ e l. all e (W e) (to e)) (λ e q. refl)
-  where
-    all : (e : ℕ) (w : Bool) → (w ≡ true → e < i) → w ≡ (w && nat_lt e i)
-    all e true h = sym (lt-ltb e i (h refl))
-    all e false h = refl
+ends k W F old new i was to = writes_same k (λ e. W e && nat_lt e i) W F F old new was
+    (λ e l. of_bool (W e) (λ w. w ≡ (w && nat_lt e i)) (λ is. sym (lt-ltb e i (to e is))) (λ is. refl)) (λ e q. refl)
 
 -- what two writes leave, where the second counts
 pub writes_then : (k : ℕ) (V W : ℕ → Bool) (F G : ℕ → ℕ) (old mid new : List ℕ) → Writes k V F old mid → Writes k W G mid new

@@ -1,5 +1,5 @@
 -- Each instruction has its row in the table
-use Rattle.std.proofs.Common.{◌≡◌, refl, ap, sym, subst, ℕ, zero, suc, List, [], ◌∷◌, ◌++◌, map, Option, Some, None, Bool, true, false, nat_eq, cond, inl, inr, ◌⊎◌, arith}
+use Rattle.std.proofs.Common.{◌≡◌, refl, ap, sym, subst, ℕ, zero, suc, List, [], ◌∷◌, ◌++◌, map, Some, None, Bool, true, false, nat_eq, cond, inl, inr, arith}
 use Rattle.std.specs.Int.Bits.{bit_and}
 use Rattle.std.proofs.lemmas.Bool.{eqb-true}
 use Rattle.rv_model.specs.declared.instructions.source.Source.{Source}
@@ -67,6 +67,7 @@ use Rattle.rv_model.specs.instructions.Table.{Row, counts, directions, table}
 use Rattle.rv_model.specs.lending.Families.{row_of, templates, upper_ops, branch_ops, load_ops, store_ops, immediate_ops, shift_immediate_ops, shift_immediate_word_ops, register_ops, system_ops, csr_ops, csr_immediate_ops, carry_ops, mask_logic_ops, mask_to_scalar_ops, extend_ops, mask_unary_ops, unit_accesses, strided_accesses, indexed_accesses, whole_loads, Uppers, Jumps, JumpRegisters, Branches, Loads, Stores, RegisterImmediates, ShiftImmediates, ShiftImmediateWords, RegisterRegisters, Fences, Systems, Csrs, CsrImmediates, SetVlis, SetIvlis, SetVls, Moves, WholeMoves, MaskLogics, Compresses, MasksToScalar, Extends, MaskUnaries, ElementIndices, MovesToScalar, MovesToVector, Units, Strideds, Indexeds, WholeLoads, WholeStores, MaskMemories}
 use Rattle.rv_model.specs.lending.Search.{find}
 use Rattle.rv_model.proofs.instruction_lemmas.Scans.{In, is_inside, table_inside, all_in}
+use Rattle.rv_model.proofs.Choices.{first_or}
 
 in_left : (r : Row) (xs ys : List Row) → In r xs → In r (xs ++ ys)
 in_left r [] ys h = absurd h
@@ -107,18 +108,12 @@ in_flat [] k r h = absurd h
 in_flat (g ∷ gs) zero r h = in_left r (map row_of g) (flat_map (map row_of) gs) h
 in_flat (g ∷ gs) (suc k) r h = in_right r (map row_of g) (flat_map (map row_of) gs) (in_flat gs k r h)
 
-find-step : {A : Type 0} (b : Bool) (o op : A) (rest : Option A) → cond b (Some o) rest ≡ Some op
-    → (o ≡ op) ⊎ (rest ≡ Some op)
-find-step true o op rest h = inl (cc)
-find-step false o op rest h = inr h
-
 -- ---- each operation is found by its bits
 
 known_mask_unary : (op : MaskUnaryOp) → find mask_unary_bits mask_unary_ops (mask_unary_bits op) ≡ Some op
 unfolding find
 known_mask_unary (mask_unary.Scan mask_scan.Vmsbf) = refl
-known_mask_unary (mask_unary.Scan _) = refl
-known_mask_unary mask_unary.Viota = refl
+known_mask_unary _ = refl
 
 known_unit : (op : UnitOp) (width : Eew)
     → find unit_access_bits unit_accesses (unit_access_bits (op, width)) ≡ Some (op, width)
@@ -165,44 +160,20 @@ known_carry _ _ = refl
 known_vector : (op : VectorOp) (f : Form) → IsKnown op (line op) f
 unfolding find
 known_vector (vector_op.Binary binary.Vadd) form.V = refl
-known_vector (vector_op.Binary _) form.V = refl
-known_vector (vector_op.Binary _) _ = refl
 known_vector (vector_op.CarryOut carry_out.Vmadc) form.V = refl
-known_vector (vector_op.CarryOut _) form.V = refl
-known_vector (vector_op.CarryOut _) _ = refl
 known_vector (vector_op.Compare compare.Vmseq) form.V = refl
-known_vector (vector_op.Compare _) form.V = refl
-known_vector (vector_op.Compare _) _ = refl
 known_vector (vector_op.FixedPoint fixed_point.Vsaddu) form.V = refl
-known_vector (vector_op.FixedPoint _) form.V = refl
-known_vector (vector_op.FixedPoint _) _ = refl
 known_vector (vector_op.NarrowShift narrow_shift.Vnsrl) form.V = refl
-known_vector (vector_op.NarrowShift _) form.V = refl
-known_vector (vector_op.NarrowShift _) _ = refl
 known_vector (vector_op.Clip clip.Vnclipu) form.V = refl
-known_vector (vector_op.Clip _) form.V = refl
-known_vector (vector_op.Clip _) _ = refl
 known_vector (vector_op.Widen widen.Vwaddu) form.V = refl
-known_vector (vector_op.Widen _) form.V = refl
-known_vector (vector_op.Widen _) _ = refl
 known_vector (vector_op.WideSource wide_source.Vwaddu) form.V = refl
-known_vector (vector_op.WideSource _) form.V = refl
-known_vector (vector_op.WideSource _) _ = refl
 known_vector (vector_op.MultiplyAdd multiply_add.Vmadd) form.V = refl
-known_vector (vector_op.MultiplyAdd _) form.V = refl
-known_vector (vector_op.MultiplyAdd _) _ = refl
 known_vector (vector_op.WidenMultiplyAdd widen_multiply_add.Vwmaccu) form.V = refl
-known_vector (vector_op.WidenMultiplyAdd _) form.V = refl
-known_vector (vector_op.WidenMultiplyAdd _) _ = refl
 known_vector (vector_op.Reduce reduce.Vredsum) form.V = refl
-known_vector (vector_op.Reduce _) form.V = refl
-known_vector (vector_op.Reduce _) _ = refl
 known_vector (vector_op.WidenReduce widen_reduce.Vwredsumu) form.V = refl
-known_vector (vector_op.WidenReduce _) form.V = refl
-known_vector (vector_op.WidenReduce _) _ = refl
 known_vector (vector_op.Permute permute.Vrgather) form.V = refl
-known_vector (vector_op.Permute _) form.V = refl
-known_vector (vector_op.Permute _) _ = refl
+known_vector _ form.V = refl
+known_vector _ _ = refl
 
 cond-same : {A : Type 0} (b : Bool) (x y z : A) → cond b x z ≡ cond b y z → b ≡ true → x ≡ y
 cond-same true x y z h t = h
@@ -215,8 +186,8 @@ in_rows : {A : Type 0} (code : A → ℕ) (t : A → Instr) (ops : List A) (op :
 unfolding find
 in_rows code t [] op b h = absurd (cc)
 in_rows code t (o ∷ os) op b h =
-    elim (find-step (nat_eq b (code o)) o op (find code os b) h) [
-      | inl e ↦ inl (ap (λ x. row_of (t x)) e)
+    elim (first_or (nat_eq b (code o)) o op (find code os b) h) [
+      | inl e ↦ inl (ap (λ x. row_of (t x)) e.1)
       | inr later ↦ inr (in_rows code t os op b later)
     ]
 

@@ -9,6 +9,7 @@ use Rattle.std.proofs.lemmas.Bool.Decides.{eqb_tells}
 use Rattle.std.proofs.lemmas.Bool.{and_parts, eq-eqb, eqb-true, not-true}
 use Rattle.rv_model.specs.declared.instructions.instruction.Instr.{Instr}
 use Rattle.rv_model.specs.instructions.Table.{Row, table, Matches, IsRow, scan}
+use Rattle.rv_model.proofs.Choices.{first_or, of_bool}
 
 -- a row is in a list
 abbrev pub In : Row → List Row → Type 0
@@ -43,17 +44,14 @@ all_apart (r ∷ rs) = apart_from r rs && all_apart rs
 abbrev pub is_inside : Row → Bool
 is_inside r = nat_eq (bit_and r.bits r.mask) r.bits
 
-or-cond : (b : Bool) (x : Instr) (all xs ys : Option Instr) → all ≡ option_or xs ys
-    → cond b (Some x) all ≡ option_or (cond b (Some x) xs) ys
-or-cond true x all xs ys e = refl
-or-cond false x all xs ys e = e
-
 -- what an `or` of two answers gives
 pub scan_append : (xs ys : List Row) (word : ℕ) → scan (xs ++ ys) word ≡ option_or (scan xs word) (scan ys word)
 unfolding scan
 scan_append [] ys word = refl
 scan_append (r ∷ xs) ys word =
-    or-cond (nat_eq (bit_and word r.mask) r.bits) (r.instr word) (scan (xs ++ ys) word) (scan xs word) (scan ys word) (scan_append xs ys word)
+    let first : Option Instr = Some (r.instr word) in
+    of_bool (nat_eq (bit_and word r.mask) r.bits) (λ b. cond b first (scan (xs ++ ys) word) ≡ option_or (cond b first (scan xs word)) (scan ys word))
+    (λ e. refl) (λ e. scan_append xs ys word)
 
 and_swap : (w a b : ℕ) → bit_and (bit_and w a) b ≡ bit_and (bit_and w b) a
 and_swap w a b = and_assoc b w a ∙ ap (bit_and w) (and_comm a b) ∙ sym (and_assoc a w b)
@@ -192,17 +190,12 @@ one (x ∷ xs) h r s (inr a) (inr b) word hr hs =
 pub no_two_rows : (r s : Row) → Contains table r → Contains table s → (word : ℕ) → Matches r word → Matches s word → r ≡ s
 no_two_rows r s a b = one table table_apart r s (in_of table r a) (in_of table s b)
 
-row-cond : (b : Bool) (x i : Instr) (rest : Option Instr) → cond b (Some x) rest ≡ Some i
-    → ((b ≡ true) × (x ≡ i)) ⊎ (rest ≡ Some i)
-row-cond true x i rest h = inl (refl, cc)
-row-cond false x i rest h = inr h
-
 pub some_row : (t : List Row) (word : ℕ) (i : Instr) → scan t word ≡ Some i
     → (r : Row) × In r t × Matches r word × (r.instr word ≡ i)
 unfolding scan
 some_row [] word i h = absurd (cc)
 some_row (r ∷ rs) word i h =
-    elim (row-cond (nat_eq (bit_and word r.mask) r.bits) (r.instr word) i (scan rs word) h) [
+    elim (first_or (nat_eq (bit_and word r.mask) r.bits) (r.instr word) i (scan rs word) h) [
       | inl e ↦ (r, inl refl, eqb-true (bit_and word r.mask) r.bits e.0, e.1)
       | inr later ↦ let q : (r : Row) × In r rs × Matches r word × (r.instr word ≡ i) = some_row rs word i later in (q.0, inr q.1, q.2, q.3)
     ]

@@ -1,5 +1,5 @@
 -- The operands of each instruction in its word
-use Rattle.std.proofs.Common.{◌≡◌, refl, ℕ, zero, suc, ◌+◌, ◌-◌, ◌*◌, ◌/◌, ◌%◌, ◌^◌, ◌<◌, List, Bool, true, false, nat_eq, arith}
+use Rattle.std.proofs.Common.{◌≡◌, refl, ℕ, suc, ◌+◌, ◌-◌, ◌*◌, ◌/◌, ◌%◌, ◌^◌, ◌<◌, List, Bool, true, false, nat_eq, arith}
 use Rattle.std.proofs.lemmas.Nat.{mod_below}
 use Rattle.rv_model.specs.declared.instructions.source.Source.{Source}
 use Rattle.rv_model.specs.declared.instructions.source.Source.TheVariants as source
@@ -7,10 +7,10 @@ use Rattle.rv_model.specs.declared.instructions.operations.Form.{Form}
 use Rattle.rv_model.specs.declared.instructions.operations.Form.TheVariants as form
 use Rattle.rv_model.specs.declared.instructions.instruction.Instr.{Instr}
 use Rattle.rv_model.specs.declared.instructions.instruction.Instr.TheVariants as instr
-use Rattle.rv_model.specs.declared.instructions.scalar.ScalarInstr.TheVariants.{Upper, Jump, JumpRegister, Branch, Load, Store, RegisterImmediate, ShiftImmediate, ShiftImmediateWord, RegisterRegister, Fence, System}
-use Rattle.rv_model.specs.declared.instructions.csr.CsrInstr.TheVariants.{Register, Immediate}
-use Rattle.rv_model.specs.declared.instructions.vector.VectorInstr.TheVariants.{SetVli, SetIvli, SetVl, Arith, Carry, Move, WholeMove, MaskLogic, Compress, MaskToScalar, Extend, MaskUnary, ElementIndex, MoveToScalar, MoveToVector}
-use Rattle.rv_model.specs.declared.instructions.access.AccessInstr.TheVariants.{UnitStride, Strided, Indexed, WholeLoad, WholeStore, MaskAccess}
+use Rattle.rv_model.specs.declared.instructions.scalar.ScalarInstr.TheVariants.{Upper, Jump, Branch, Store, System}
+use Rattle.rv_model.specs.declared.instructions.csr.CsrInstr.TheVariants.{Register}
+use Rattle.rv_model.specs.declared.instructions.vector.VectorInstr.TheVariants.{SetVli, Arith, Carry, Move, WholeMove, MaskToScalar, Extend, MaskUnary, ElementIndex, MoveToScalar, MoveToVector}
+use Rattle.rv_model.specs.declared.instructions.access.AccessInstr.TheVariants.{UnitStride, Strided, Indexed}
 use Rattle.rv_model.specs.instructions.BitFields.{field, flag, flag_bit, Part, mask_of, fixed}
 use Rattle.rv_model.specs.instructions.Immediates.{store_immediate}
 use Rattle.rv_model.specs.instructions.Sources.{form_of, source_of, source_number}
@@ -19,9 +19,8 @@ use Rattle.rv_model.specs.lending.Families.{filled}
 use Rattle.rv_model.proofs.instruction_lemmas.Parts.{share_none, clear, Reads, of_word}
 
 bit_back : (n : ℕ) → n < 2 → flag_bit (nat_eq n 1) ≡ n
-bit_back zero h = refl
-bit_back (suc zero) h = refl
 bit_back (suc (suc n)) h = absurd (omega arith)
+bit_back _ h = refl
 
 flag_back : (word : ℕ) → flag_bit (flag word) ≡ field 25 1 word
 flag_back word = bit_back (field 25 1 word) (mod_below (word / 2 ^ 25) 2 (omega arith))
@@ -32,18 +31,15 @@ bit_pair false = refl
 
 source_again : (s : Source) → source_of (form_of s) (source_number s) ≡ s
 source_again (source.V n) = refl
-source_again (source.X n) = refl
-source_again (source.I n) = refl
+source_again _ = refl
 
 number-source_of : (f : Form) (n : ℕ) → source_number (source_of f n) ≡ n
 number-source_of form.V n = refl
-number-source_of form.X n = refl
-number-source_of form.I n = refl
+number-source_of _ n = refl
 
 pub form_source_of : (f : Form) (n : ℕ) → form_of (source_of f n) ≡ f
 form_source_of form.V n = refl
-form_source_of form.X n = refl
-form_source_of form.I n = refl
+form_source_of _ n = refl
 
 pub low_again : (a b : ℕ) → a < 2 ^ 5 → (a + b * 2 ^ 5) % 2 ^ 5 ≡ a
 low_again a b h = omega arith
@@ -105,9 +101,7 @@ filled_parts (instr.Scalar (Upper op rd imm)) w = refl
 filled_parts (instr.Scalar (Jump rd imm)) w = let j : JumpPieces (field 21 10 w) (field 20 1 w) (field 12 8 w) (field 31 1 w) = jump_of w in rw (j.bit20, j.bits10_1, j.bit11, j.bits19_12) refl
 filled_parts (instr.Scalar (Branch op rs1 rs2 imm)) w = let b : BranchPieces (field 8 4 w) (field 25 6 w) (field 7 1 w) (field 31 1 w) = branch_of w in rw (b.bit12, b.bits10_5, b.bits4_1, b.bit11) refl
 filled_parts (instr.Scalar (Store op rs1 rs2 imm)) w = rw (store-high w, store-low w) refl
-filled_parts (instr.Scalar _) w = refl
 filled_parts (instr.Csr (Register op rd rs1 csr)) w = refl
-filled_parts (instr.Csr _) w = refl
 filled_parts (instr.Vector (Arith arith vd vs2 vm)) w = rw (flag_back w, number-source_of (form_of arith.1) (field 15 5 w)) refl
 filled_parts (instr.Vector (Carry carry vd vs2)) w = rw (number-source_of (form_of carry.1) (field 15 5 w)) refl
 filled_parts (instr.Vector (Move source vd)) w = rw (number-source_of (form_of source) (field 15 5 w)) refl
@@ -115,53 +109,36 @@ filled_parts (instr.Vector (MaskToScalar op rd vs2 vm)) w = rw (flag_back w) ref
 filled_parts (instr.Vector (Extend op vd vs2 vm)) w = rw (flag_back w) refl
 filled_parts (instr.Vector (MaskUnary op vd vs2 vm)) w = rw (flag_back w) refl
 filled_parts (instr.Vector (ElementIndex vd vm)) w = rw (flag_back w) refl
-filled_parts (instr.Vector _) w = refl
 filled_parts (instr.Access (UnitStride op width nf vd rs1 vm)) w = rw (flag_back w) refl
 filled_parts (instr.Access (Strided direction width nf vd rs1 rs2 vm)) w = rw (flag_back w) refl
 filled_parts (instr.Access (Indexed direction order width nf vd rs1 vs2 vm)) w = rw (flag_back w) refl
-filled_parts (instr.Access _) w = refl
+filled_parts _ w = refl
 
 -- and its other bits
 pub filled_bits : (t : Instr) (w : ℕ) → bits (filled t w) ≡ bits t
 filled_bits (instr.Scalar (Upper op rd imm)) w = refl
-filled_bits (instr.Scalar _) w = refl
 filled_bits (instr.Csr (Register op rd rs1 csr)) w = refl
-filled_bits (instr.Csr _) w = refl
 filled_bits (instr.Vector (SetVli rd rs1 vtype)) w = refl
 filled_bits (instr.Vector (Arith arith vd vs2 vm)) w = rw (form_source_of (form_of arith.1) (field 15 5 w)) refl
 filled_bits (instr.Vector (Carry carry vd vs2)) w = rw (form_source_of (form_of carry.1) (field 15 5 w)) refl
 filled_bits (instr.Vector (Move source vd)) w = rw (form_source_of (form_of source) (field 15 5 w)) refl
-filled_bits (instr.Vector _) w = refl
 filled_bits (instr.Access (UnitStride op width nf vd rs1 vm)) w = refl
-filled_bits (instr.Access _) w = refl
+filled_bits _ w = refl
 
 -- an instruction is what a word with its parts gives
 pub refilled : (i : Instr) (w : ℕ) → Reads w (parts i) → filled i w ≡ i
 refilled (instr.Scalar (Upper op rd imm)) w r = rw (r.0, r.1.0) refl
 refilled (instr.Scalar (Jump rd imm)) w r = rw (r.0, r.1.0, r.1.1.0, r.1.1.1.0, r.1.1.1.1.0, jump-join imm) refl
-refilled (instr.Scalar (JumpRegister rd rs1 imm)) w r = rw (r.0, r.1.0, r.1.1.0) refl
 refilled (instr.Scalar (Branch op rs1 rs2 imm)) w r =
     rw (r.0, r.1.0, r.1.1.0, r.1.1.1.0, r.1.1.1.1.0, r.1.1.1.1.1.0, branch-join imm) refl
-refilled (instr.Scalar (Load op rd rs1 imm)) w r = rw (r.0, r.1.0, r.1.1.0) refl
 refilled (instr.Scalar (Store op rs1 rs2 imm)) w r = rw (r.0, r.1.0, r.1.1.0, r.1.1.1.0, store-join imm) refl
-refilled (instr.Scalar (RegisterImmediate op rd rs1 imm)) w r = rw (r.0, r.1.0, r.1.1.0) refl
-refilled (instr.Scalar (ShiftImmediate op rd rs1 shamt)) w r = rw (r.0, r.1.0, r.1.1.0) refl
-refilled (instr.Scalar (ShiftImmediateWord op rd rs1 shamt)) w r = rw (r.0, r.1.0, r.1.1.0) refl
-refilled (instr.Scalar (RegisterRegister op rd rs1 rs2)) w r = rw (r.0, r.1.0, r.1.1.0) refl
-refilled (instr.Scalar (Fence rd rs1 ordering)) w r = rw (r.0, r.1.0, r.1.1.0) refl
 refilled (instr.Scalar (System op)) w r = refl
 refilled (instr.Csr (Register op rd rs1 csr)) w r = rw (r.0, r.1.0, r.1.1.0) refl
-refilled (instr.Csr (Immediate op rd imm csr)) w r = rw (r.0, r.1.0, r.1.1.0) refl
-refilled (instr.Vector (SetVli rd rs1 vtype)) w r = rw (r.0, r.1.0, r.1.1.0) refl
-refilled (instr.Vector (SetIvli rd avl vtype)) w r = rw (r.0, r.1.0, r.1.1.0) refl
-refilled (instr.Vector (SetVl rd rs1 rs2)) w r = rw (r.0, r.1.0, r.1.1.0) refl
 refilled (instr.Vector (Arith arith vd vs2 vm)) w r =
     rw (r.0, r.1.0, r.1.1.0, r.1.1.1.0, bit_pair vm, source_again arith.1) refl
 refilled (instr.Vector (Carry carry vd vs2)) w r = rw (r.0, r.1.0, r.1.1.0, source_again carry.1) refl
 refilled (instr.Vector (Move source vd)) w r = rw (r.0, r.1.0, source_again source) refl
 refilled (instr.Vector (WholeMove count vd vs2)) w r = rw (r.0, r.1.0) refl
-refilled (instr.Vector (MaskLogic op vd vs1 vs2)) w r = rw (r.0, r.1.0, r.1.1.0) refl
-refilled (instr.Vector (Compress vd vs1 vs2)) w r = rw (r.0, r.1.0, r.1.1.0) refl
 refilled (instr.Vector (MaskToScalar op rd vs2 vm)) w r = rw (r.0, r.1.0, r.1.1.0, bit_pair vm) refl
 refilled (instr.Vector (Extend op vd vs2 vm)) w r = rw (r.0, r.1.0, r.1.1.0, bit_pair vm) refl
 refilled (instr.Vector (MaskUnary op vd vs2 vm)) w r = rw (r.0, r.1.0, r.1.1.0, bit_pair vm) refl
@@ -173,9 +150,8 @@ refilled (instr.Access (Strided direction width nf vd rs1 rs2 vm)) w r =
     rw (r.0, r.1.0, r.1.1.0, r.1.1.1.0, r.1.1.1.1.0, bit_pair vm) refl
 refilled (instr.Access (Indexed direction order width nf vd rs1 vs2 vm)) w r =
     rw (r.0, r.1.0, r.1.1.0, r.1.1.1.0, r.1.1.1.1.0, bit_pair vm) refl
-refilled (instr.Access (WholeLoad count width vd rs1)) w r = rw (r.0, r.1.0) refl
-refilled (instr.Access (WholeStore count vd rs1)) w r = rw (r.0, r.1.0) refl
-refilled (instr.Access (MaskAccess direction vd rs1)) w r = rw (r.0, r.1.0) refl
+refilled (instr.Access _) w r = rw (r.0, r.1.0) refl
+refilled _ w r = rw (r.0, r.1.0, r.1.1.0) refl
 
 -- the parts and the fixed bits fill a word
 pub record Laid (ps : List Part) : Type 0 where
@@ -186,10 +162,7 @@ pub record Laid (ps : List Part) : Type 0 where
 -- each instruction does
 pub laid : (i : Instr) → Laid (parts i)
 laid (instr.Scalar (Upper op rd imm)) = record { apart = refl; clear = refl; whole = refl }
-laid (instr.Scalar _) = record { apart = refl; clear = refl; whole = refl }
 laid (instr.Csr (Register op rd rs1 csr)) = record { apart = refl; clear = refl; whole = refl }
-laid (instr.Csr _) = record { apart = refl; clear = refl; whole = refl }
 laid (instr.Vector (SetVli rd rs1 vtype)) = record { apart = refl; clear = refl; whole = refl }
-laid (instr.Vector _) = record { apart = refl; clear = refl; whole = refl }
 laid (instr.Access (UnitStride op width nf vd rs1 vm)) = record { apart = refl; clear = refl; whole = refl }
-laid (instr.Access _) = record { apart = refl; clear = refl; whole = refl }
+laid _ = record { apart = refl; clear = refl; whole = refl }

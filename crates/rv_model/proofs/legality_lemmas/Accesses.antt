@@ -9,7 +9,7 @@ use Rattle.rv_model.specs.declared.instructions.access.AccessInstr.TheVariants.{
 use Rattle.rv_model.specs.declared.instructions.operations.Direction.{Direction}
 use Rattle.rv_model.specs.declared.instructions.operations.Order.{Order}
 use Rattle.rv_model.specs.declared.instructions.operations.RegisterCount.{RegisterCount}
-use Rattle.rv_model.specs.declared.instructions.operations.RegisterCount.TheVariants.{One, Two, Four, Eight}
+use Rattle.rv_model.specs.declared.instructions.operations.RegisterCount.TheVariants.{One}
 use Rattle.rv_model.specs.declared.instructions.operations.UnitOp.{UnitOp}
 use Rattle.rv_model.specs.declared.instructions.operations.Eew.{Eew}
 use Rattle.rv_model.specs.declared.legality.Role.{Role}
@@ -29,7 +29,7 @@ use Rattle.rv_model.specs.vector.Registers.{registers}
 use Rattle.rv_model.specs.vector.TypeNames.{lmuls, sews}
 use Rattle.rv_model.proofs.assembler_lemmas.Naming.{all_at}
 use Rattle.rv_model.proofs.legality_lemmas.Bounds.{emul-sew, fewer, first_of, inside, length_below, second_of, whole_elements}
-use Rattle.rv_model.proofs.legality_lemmas.Meaning.{IsGroup, groups_are, is_legal_means}
+use Rattle.rv_model.proofs.legality_lemmas.Meaning.{IsGroup, legal_groups}
 
 -- ---- groups of elements of another width than SEW
 
@@ -55,9 +55,10 @@ has_room s sew l =
     nat_le (width_bytes (sew_width s) * (lmul_eighths l * VLEN / (8 * sew_bits sew))) (VLENB * registers (sew_bits s * lmul_eighths l / sew_bits sew))
 
 each_has_room : (s sew : Sew) (l : Lmul) → has_room s sew l ≡ true
-each_has_room s sew l =
-    of_lmuls (has_room s sew)
-    (of_sews (λ e. list_all (has_room s e) lmuls) (of_sews (λ w. list_all (λ e. list_all (has_room w e) lmuls) sews) refl s) sew) l
+each_has_room E8 E8 Mf8 = refl
+each_has_room _ E8 Mf8 = refl
+each_has_room _ _ Mf8 = refl
+each_has_room _ _ _ = refl
 
 pub elements_fit : (s : Sew) (t : VType) (vl : ℕ) → vl ≤ vlmax t → width_bytes (sew_width s) * vl ≤ VLENB * registers (emul (sew_bits s) t)
 elements_fit s t vl h =
@@ -100,14 +101,14 @@ pub unit_inside : (op : UnitOp) (w : Eew) (nf vd rs1 : ℕ) (vm : Bool) (t : VTy
     → is_legal (instr.Access (UnitStride op w nf vd rs1 vm)) (Some t) vstart ≡ true → vl ≤ vlmax t → SegmentsInside (access_type t w) vd nf vl
 unfolding operands
 unit_inside op w nf vd rs1 vm t vstart vl legal h =
-    let groups = groups_are ((is_legal_means (instr.Access (UnitStride op w nf vd rs1 vm)) (Some t) vstart).0 legal).operands in
+    let groups = legal_groups (instr.Access (UnitStride op w nf vd rs1 vm)) (Some t) vstart legal in
     segments_inside (unit_role op) (element_width w) (access_type t w).emul vd nf vl t refl h (first_of (field_groups (unit_role op) (nf + 1) vd (access_type t w)) (v0 vm) groups)
 
 pub strided_inside : (direction : Direction) (w : Eew) (nf vd rs1 rs2 : ℕ) (vm : Bool) (t : VType) (vstart vl : ℕ)
     → is_legal (instr.Access (Strided direction w nf vd rs1 rs2 vm)) (Some t) vstart ≡ true → vl ≤ vlmax t → SegmentsInside (access_type t w) vd nf vl
 unfolding operands
 strided_inside direction w nf vd rs1 rs2 vm t vstart vl legal h =
-    let groups = groups_are ((is_legal_means (instr.Access (Strided direction w nf vd rs1 rs2 vm)) (Some t) vstart).0 legal).operands in
+    let groups = legal_groups (instr.Access (Strided direction w nf vd rs1 rs2 vm)) (Some t) vstart legal in
     segments_inside (data_role direction) (element_width w) (access_type t w).emul vd nf vl t refl h (first_of (field_groups (data_role direction) (nf + 1) vd (access_type t w)) (v0 vm) groups)
 
 -- the indices of an indexed access: a group inside the file, with room for the elements before vl
@@ -125,7 +126,7 @@ pub indexed_inside : (direction : Direction) (order : Order) (w : Eew) (nf vd rs
     → is_legal (instr.Access (Indexed direction order w nf vd rs1 vs2 vm)) (Some t) vstart ≡ true → vl ≤ vlmax t → IndexedInside w nf vd vs2 t vl
 unfolding operands
 indexed_inside direction order w nf vd rs1 vs2 vm t vstart vl legal h =
-    let groups = groups_are ((is_legal_means (instr.Access (Indexed direction order w nf vd rs1 vs2 vm)) (Some t) vstart).0 legal).operands in
+    let groups = legal_groups (instr.Access (Indexed direction order w nf vd rs1 vs2 vm)) (Some t) vstart legal in
     let fields = field_groups (indexed_role direction nf) (nf + 1) vd (group_type t) in
     let indices = second_of fields (group Read vs2 (access_type t w)) (v0 vm) groups in
     record {
@@ -144,22 +145,20 @@ indexed_inside direction order w nf vd rs1 vs2 vm t vstart vl legal h =
 -- so many registers are a group of so many registers
 whole_registers : (count : RegisterCount) → 1 * registers (8 * register_count count) ≡ register_count count
 whole_registers One = refl
-whole_registers Two = refl
-whole_registers Four = refl
-whole_registers Eight = refl
+whole_registers _ = refl
 
 pub whole_load_inside : (count : RegisterCount) (w : Eew) (vd rs1 : ℕ) (t : Option VType) (vstart : ℕ)
     → is_legal (instr.Access (WholeLoad count w vd rs1)) t vstart ≡ true → vd + register_count count ≤ VECTOR_REGISTERS
 unfolding operands
 whole_load_inside count w vd rs1 t vstart legal =
-    let groups = groups_are ((is_legal_means (instr.Access (WholeLoad count w vd rs1)) t vstart).0 legal).operands in
+    let groups = legal_groups (instr.Access (WholeLoad count w vd rs1)) t vstart legal in
     subst (λ n. vd + n ≤ VECTOR_REGISTERS) (whole_registers count) (groups 0 (mask Read 0) (lit< tt)).inside
 
 pub whole_store_inside : (count : RegisterCount) (vd rs1 : ℕ) (t : Option VType) (vstart : ℕ)
     → is_legal (instr.Access (WholeStore count vd rs1)) t vstart ≡ true → vd + register_count count ≤ VECTOR_REGISTERS
 unfolding operands
 whole_store_inside count vd rs1 t vstart legal =
-    let groups = groups_are ((is_legal_means (instr.Access (WholeStore count vd rs1)) t vstart).0 legal).operands in
+    let groups = legal_groups (instr.Access (WholeStore count vd rs1)) t vstart legal in
     subst (λ n. vd + n ≤ VECTOR_REGISTERS) (whole_registers count) (groups 0 (mask Read 0) (lit< tt)).inside
 
 -- a mask is one register
@@ -167,5 +166,5 @@ pub mask_memory_inside : (direction : Direction) (vd rs1 : ℕ) (t : VType) (vst
     → is_legal (instr.Access (MaskAccess direction vd rs1)) (Some t) vstart ≡ true → vd + 1 ≤ VECTOR_REGISTERS
 unfolding operands
 mask_memory_inside direction vd rs1 t vstart legal =
-    let groups = groups_are ((is_legal_means (instr.Access (MaskAccess direction vd rs1)) (Some t) vstart).0 legal).operands in
+    let groups = legal_groups (instr.Access (MaskAccess direction vd rs1)) (Some t) vstart legal in
     (groups 0 (mask Read 0) (lit< tt)).inside

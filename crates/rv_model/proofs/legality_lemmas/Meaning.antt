@@ -125,3 +125,11 @@ is_legal_means i t vstart =
     (Decides-and _ _
     (decides_when (starts_at_zero i) (vstart == 0) (itself (starts_at_zero i)) (Decides-eqb vstart 0))
     (decides_when (is_below_64 i) _ (itself (is_below_64 i)) (narrow_decides t))))
+
+-- and so the operands of a legal instruction are groups
+some_groups : (o : Option (List Operand)) → IsSomeAnd o AreLegal → IsSomeAnd o (All IsGroup)
+some_groups None h = h
+some_groups (Some xs) h = groups_are h
+
+pub legal_groups : (i : Instr) (t : Option VType) (vstart : ℕ) → is_legal i t vstart ≡ true → IsSomeAnd (operands i t) (All IsGroup)
+legal_groups i t vstart h = some_groups (operands i t) ((is_legal_means i t vstart).0 h).operands

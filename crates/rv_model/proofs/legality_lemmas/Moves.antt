@@ -16,7 +16,7 @@ use Rattle.rv_model.specs.lending.GroupBounds.{HoldsBody, IsInside}
 use Rattle.rv_model.specs.legality.Legality.{is_legal, operands}
 use Rattle.rv_model.specs.legality.OperandShapes.{mask}
 use Rattle.rv_model.proofs.legality_lemmas.Bounds.{inside, sew_group}
-use Rattle.rv_model.proofs.legality_lemmas.Meaning.{groups_are, is_legal_means}
+use Rattle.rv_model.proofs.legality_lemmas.Meaning.{legal_groups}
 
 -- the destination and the source of a compression
 pub record CompressInside (vd vs2 : ℕ) (t : VType) : Type 0 where
@@ -27,11 +27,8 @@ pub compress_inside : (vd vs1 vs2 : ℕ) (t : VType) (vstart : ℕ)
     → is_legal (instr.Vector (Compress vd vs1 vs2)) (Some t) vstart ≡ true → CompressInside vd vs2 t
 unfolding operands
 compress_inside vd vs1 vs2 t vstart h =
-    let groups = groups_are ((is_legal_means (instr.Vector (Compress vd vs1 vs2)) (Some t) vstart).0 h).operands in
-    record {
-      destination = sew_group vd t (groups 0 (mask Read 0) (lit< tt)).inside;
-      source = sew_group vs2 t (groups 1 (mask Read 0) (lit< tt)).inside;
-    }
+    let groups = legal_groups (instr.Vector (Compress vd vs1 vs2)) (Some t) vstart h in
+    record { destination = sew_group vd t (groups 0 (mask Read 0) (lit< tt)).inside; source = sew_group vs2 t (groups 1 (mask Read 0) (lit< tt)).inside }
 
 -- ---- moves of whole registers
 
@@ -44,7 +41,7 @@ pub whole_move_inside : (count : RegisterCount) (vd vs2 : ℕ) (t : VType) (vsta
     → is_legal (instr.Vector (WholeMove count vd vs2)) (Some t) vstart ≡ true → WholeMoveInside count vd vs2
 unfolding operands
 whole_move_inside count vd vs2 t vstart h =
-    let groups = groups_are ((is_legal_means (instr.Vector (WholeMove count vd vs2)) (Some t) vstart).0 h).operands in
+    let groups = legal_groups (instr.Vector (WholeMove count vd vs2)) (Some t) vstart h in
     let emul : ℕ = 8 * register_count count in
     record {
       destination = inside vd emul emul refl (groups 0 (mask Read 0) (lit< tt)).inside;

@@ -1,6 +1,5 @@
 -- What legality tells of the overlaps of a vector load: its mask stays, and of its indices those that are still to be used.
 use Rattle.std.specs.Prelude.{IsTrue, Some, nat_le, nat_lt, ◌==◌}
-use Rattle.std.specs.List.{list_all}
 use Rattle.std.proofs.Common.{◌≡◌, ◌∷◌, ◌⊎◌, inl, inr, ℕ, ◌+◌, ◌-◌, ◌*◌, ◌/◌, ◌%◌, ◌<◌, ◌≤◌, Bool, true, false, ◌&&◌, ◌||◌, cond, refl, sym, ap, ◌∙◌, subst, arith, lit<}
 use Rattle.std.proofs.Math.Nat.{add-mul, mod-add-div', mul_comm}
 use Rattle.std.proofs.lemmas.Bool.{and_parts, both_ways, cases_order, eqb-true, leb-true, ltb-true, or_cases}
@@ -17,6 +16,8 @@ use Rattle.rv_model.specs.declared.legality.Role.TheVariants.{Apart, Control, Re
 use Rattle.rv_model.specs.declared.vector.sizes.TheConstants.{VLEN, VLENB}
 use Rattle.rv_model.specs.declared.vector.types.Lmul.{Lmul}
 use Rattle.rv_model.specs.declared.vector.types.Sew.{Sew}
+use Rattle.rv_model.specs.declared.vector.types.Lmul.TheVariants.{Mf8}
+use Rattle.rv_model.specs.declared.vector.types.Sew.TheVariants.{E8}
 use Rattle.rv_model.specs.declared.vector.types.VType.{VType}
 use Rattle.rv_model.specs.accesses.Restarts.{IsByteOf, LaterIndicesStay}
 use Rattle.rv_model.specs.legality.Legality.{IsLegal, indexed_role, operands}
@@ -25,8 +26,7 @@ use Rattle.rv_model.specs.legality.RegisterOperands.{Overlap, is_mask, may_share
 use Rattle.rv_model.specs.vector.Groups.{access_type}
 use Rattle.rv_model.specs.vector.Configuration.{element_width, group_type, lmul_eighths, sew_bits, sew_width, vlmax, width_bytes}
 use Rattle.rv_model.specs.vector.Registers.{registers}
-use Rattle.rv_model.specs.vector.TypeNames.{lmuls, sews}
-use Rattle.rv_model.proofs.legality_lemmas.Accesses.{elements_fit, of_lmuls, of_sews}
+use Rattle.rv_model.proofs.legality_lemmas.Accesses.{elements_fit}
 use Rattle.rv_model.proofs.legality_lemmas.Meaning.{IsGroup, MayOverlap, groups_are, may_overlap_means}
 use Rattle.rv_model.proofs.legality_lemmas.Bounds.{before_end0, before_end1, emul-sew, first_of, second_of}
 use Rattle.rv_model.specs.lending.GroupBounds.{emul}
@@ -42,9 +42,10 @@ fills s sew l =
     || (nat_lt (sew_bits sew) (sew_bits s) || nat_le 8 (sew_bits sew * lmul_eighths l / sew_bits sew)))
 
 each_fills : (s sew : Sew) (l : Lmul) → fills s sew l ≡ true
-each_fills s sew l =
-    of_lmuls (fills s sew)
-    (of_sews (λ e. list_all (fills s e) lmuls) (of_sews (λ w. list_all (λ e. list_all (fills w e) lmuls) sews) refl s) sew) l
+each_fills E8 E8 Mf8 = refl
+each_fills _ E8 Mf8 = refl
+each_fills _ _ Mf8 = refl
+each_fills _ _ _ = refl
 
 group_filled : (s : Sew) (t : VType) → 8 ≤ emul (sew_bits s) t → vlmax t * width_bytes (sew_width s) ≡ VLENB * registers (emul (sew_bits s) t)
 group_filled s t some = elim (or_cases _ _ (and_parts _ _ (each_fills s t.sew t.lmul)).0) [
@@ -104,45 +105,33 @@ above_v0 d h some = elim (cases_order d.first 0) [
 ]
 
 -- a masked load writes no part of v0
-unit_masked : (first_only : Bool) (w : Eew) (nf vd rs1 : ℕ) (t : VType) (vstart : ℕ)
-    → IsLegal (instr.Access (UnitStride (cond first_only unit.FaultOnlyFirst unit.Load) w nf vd rs1 false)) (Some t) vstart → 1 ≤ vd
-unfolding operands
-unit_masked true w nf vd rs1 t vstart legal =
-    let d = field_groups Write (nf + 1) vd (access_type t w) in
-    above_v0 d (clear true d (mask Control 0) (sew_bits (element_width w)) refl (legal.operands.pairs 0 d (lit< tt) 1 d (lit< tt))) (omega arith)
-unit_masked false w nf vd rs1 t vstart legal =
-    let d = field_groups Write (nf + 1) vd (access_type t w) in
-    above_v0 d (clear true d (mask Control 0) (sew_bits (element_width w)) refl (legal.operands.pairs 0 d (lit< tt) 1 d (lit< tt))) (omega arith)
+fields_above : (b : Bool) (d : Operand) (w : ℕ) → d.content ≡ Elements w → 1 ≤ d.fields
+    → (Overlap d (mask Control 0) → IsTrue (may_share (cond b Write Apart) Control d (mask Control 0))) → 1 ≤ d.first
+fields_above b d w is some h = above_v0 d (clear b d (mask Control 0) w is h) some
 
-strided_masked : (w : Eew) (nf vd rs1 rs2 : ℕ) (t : VType) (vstart : ℕ)
-    → IsLegal (instr.Access (Strided direction.Load w nf vd rs1 rs2 false)) (Some t) vstart → 1 ≤ vd
-unfolding operands
-strided_masked w nf vd rs1 rs2 t vstart legal =
-    let d = field_groups Write (nf + 1) vd (access_type t w) in
-    above_v0 d (clear true d (mask Control 0) (sew_bits (element_width w)) refl (legal.operands.pairs 0 d (lit< tt) 1 d (lit< tt))) (omega arith)
-
-indexed_masked : (order : Order) (w : Eew) (nf vd rs1 vs2 : ℕ) (t : VType) (vstart : ℕ)
-    → IsLegal (instr.Access (Indexed direction.Load order w nf vd rs1 vs2 false)) (Some t) vstart → 1 ≤ vd
-unfolding operands
-indexed_masked order w nf vd rs1 vs2 t vstart legal =
-    let d = field_groups (indexed_role direction.Load nf) (nf + 1) vd (group_type t) in
-    above_v0 d (clear (nf == 0) d (mask Control 0) (sew_bits t.sew) refl (legal.operands.pairs 0 d (lit< tt) 2 d (lit< tt))) (omega arith)
-
--- the same, where an instruction may be masked or not
 pub unit_above : (first_only vm : Bool) (w : Eew) (nf vd rs1 : ℕ) (t : VType) (vstart : ℕ)
     → IsLegal (instr.Access (UnitStride (cond first_only unit.FaultOnlyFirst unit.Load) w nf vd rs1 vm)) (Some t) vstart → vm ≡ false → 1 ≤ vd
+unfolding operands
 unit_above first_only true w nf vd rs1 t vstart legal e = absurd (cc)
-unit_above first_only false w nf vd rs1 t vstart legal e = unit_masked first_only w nf vd rs1 t vstart legal
+unit_above true false w nf vd rs1 t vstart legal e =
+    let d = field_groups Write (nf + 1) vd (access_type t w) in fields_above true d _ refl (omega arith) (legal.operands.pairs 0 d (lit< tt) 1 d (lit< tt))
+unit_above _ false w nf vd rs1 t vstart legal e =
+    let d = field_groups Write (nf + 1) vd (access_type t w) in fields_above true d _ refl (omega arith) (legal.operands.pairs 0 d (lit< tt) 1 d (lit< tt))
 
 pub strided_above : (vm : Bool) (w : Eew) (nf vd rs1 rs2 : ℕ) (t : VType) (vstart : ℕ)
     → IsLegal (instr.Access (Strided direction.Load w nf vd rs1 rs2 vm)) (Some t) vstart → vm ≡ false → 1 ≤ vd
+unfolding operands
 strided_above true w nf vd rs1 rs2 t vstart legal e = absurd (cc)
-strided_above false w nf vd rs1 rs2 t vstart legal e = strided_masked w nf vd rs1 rs2 t vstart legal
+strided_above false w nf vd rs1 rs2 t vstart legal e =
+    let d = field_groups Write (nf + 1) vd (access_type t w) in fields_above true d _ refl (omega arith) (legal.operands.pairs 0 d (lit< tt) 1 d (lit< tt))
 
 pub indexed_above : (vm : Bool) (order : Order) (w : Eew) (nf vd rs1 vs2 : ℕ) (t : VType) (vstart : ℕ)
     → IsLegal (instr.Access (Indexed direction.Load order w nf vd rs1 vs2 vm)) (Some t) vstart → vm ≡ false → 1 ≤ vd
+unfolding operands
 indexed_above true order w nf vd rs1 vs2 t vstart legal e = absurd (cc)
-indexed_above false order w nf vd rs1 vs2 t vstart legal e = indexed_masked order w nf vd rs1 vs2 t vstart legal
+indexed_above false order w nf vd rs1 vs2 t vstart legal e =
+    let d = field_groups (indexed_role direction.Load nf) (nf + 1) vd (group_type t) in
+    fields_above (nf == 0) d _ refl (omega arith) (legal.operands.pairs 0 d (lit< tt) 2 d (lit< tt))
 
 -- ---- the indices
 

@@ -30,10 +30,10 @@ use Rattle.rv_model.specs.machine.VectorUnit.{VectorUnit, is_marked, is_owned_by
 use Rattle.rv_model.specs.machine.World.{World, Happening, after_events, after_one, outcome_of, unit_after, with_unit, user_machine, with_user_machine}
 use Rattle.rv_model.specs.step.Step.{dirties, fetched, touches}
 use Rattle.rv_model.specs.text.Lines.{pieces}
-use Rattle.rv_model.proofs.command_lemmas.Refusals.{IsThere, present_there}
+use Rattle.rv_model.proofs.command_lemmas.Commands.{IsThere, stays_there}
 use Rattle.rv_model.proofs.machine_lemmas.Grants.{AreUsers}
 use Rattle.rv_model.proofs.machine_lemmas.Headline.{eight_after, eight_after_one, part_after_one, part_other, part_same, users_of}
-use Rattle.rv_model.proofs.text_lemmas.Pieces.{of_either}
+use Rattle.rv_model.proofs.Choices.{of_either, of_test, of_bool}
 
 -- ---- marks and owners
 
@@ -139,11 +139,10 @@ module _ (user : ℕ) (low : 1 ≤ user) (high : user ≤ 8) where
 
   -- who drops a vector state has nothing of the unit
   nothing_left : (unit : VectorUnit) → HasNothing user (unit_discarded user unit)
-  nothing_left unit = (gone (is_owned_by unit.owner user) refl, unmarked unit.saved (user - 1))
-    where
-      gone : (b : Bool) → is_owned_by unit.owner user ≡ b → is_owned_by (if b then None else unit.owner) user ≡ false
-      gone true is = refl
-      gone false is = is
+  nothing_left unit = (
+    of_test (λ (owner : Option ℕ). is_owned_by owner user ≡ false) (is_owned_by unit.owner user) None unit.owner (λ is. refl) (λ is. is),
+    unmarked unit.saved (user - 1),
+  )
 
   -- who has nothing drops nothing
   nothing_dropped : (unit : VectorUnit) → HasNothing user unit → unit_discarded user unit ≡ unit
@@ -218,21 +217,16 @@ module _ (user : ℕ) (low : 1 ≤ user) (high : user ≤ 8) where
 
   left : (images : List Image) (p : Present) (c : Cmd) (unit : VectorUnit) → (of_present images c p).next ≡ None
       → HasNothing user (unit_of_present images user c p unit)
-  left images p c unit none =
-      elim (present_there images user p unit c) [
-        | inl leaves ↦ subst (λ (c : Cmd). HasNothing user (unit_of_present images user c p unit)) (sym leaves) (nothing_left unit)
-        | inr there ↦ absurd (there_not (of_present images c p).next there none)
-      ]
+  left images p (Entering Leave) unit none = nothing_left unit
+  left images p c unit none = absurd (there_not (of_present images c p).next (stays_there images user p unit c) none)
 
   present_leaves : (images : List Image) (p : Present) (c : Cmd) (unit : VectorUnit) → (carried_out images c (Some p)).next ≡ None
       → HasNothing user (unit_after_command images user c (Some p) unit)
   unfolding carried_out
-  present_leaves images p c unit none = held (p.running && needs_stopped c) none
-    where
-      held : (b : Bool) → (cond b (refuses (Some p) refusal.Running) (of_present images c p)).next ≡ None
-          → HasNothing user (cond b unit (unit_of_present images user c p unit))
-      held true none = absurd (there_not (Some p) tt none)
-      held false none = left images p c unit none
+  present_leaves images p c unit =
+      of_bool (p.running && needs_stopped c)
+      (λ b. (cond b (refuses (Some p) refusal.Running) (of_present images c p)).next ≡ None → HasNothing user (cond b unit (unit_of_present images user c p unit)))
+      (λ e none. absurd (there_not (Some p) tt none)) (λ e. left images p c unit)
 
   slice_there : (quantum : ℕ) (p : Present) → IsThere (sliced quantum (Some p)).next
   unfolding sliced

@@ -23,7 +23,7 @@ use Rattle.rv_model.proofs.access_lemmas.Growth.{overlay_same}
 use Rattle.rv_model.proofs.machine_lemmas.Slices.{fuel_is_enough}
 use Rattle.rv_model.proofs.step_lemmas.Configurations.{step_keeps_configuration, step_keeps_permissions}
 use Rattle.rv_model.proofs.step_lemmas.FetchesResume.{cut_step_leaves_off, fetched_step_resumes}
-use Rattle.rv_model.proofs.text_lemmas.Pieces.{of_either}
+use Rattle.rv_model.proofs.Choices.{of_either}
 use Rattle.rv_model.proofs.step_lemmas.StepTicks.{step_takes_ticks, steps_take_ticks}
 
 All-left : {X : Type 0} (P : X → Type 0) (xs ys : List X) → All P (xs ++ ys) → All P xs

@@ -6,25 +6,28 @@ use Rattle.rv_model.specs.commands.Printing.{stop_line}
 use Rattle.rv_model.specs.machine.PrivateMachine.{Event, Command, Slice, sliced, slice_ends, event}
 use Rattle.rv_model.specs.machine.Runs.{Halted, ticked}
 use Rattle.rv_model.specs.machine.Setup.{Setup}
-use Rattle.rv_model.specs.machine.UserMachine.{Private}
+use Rattle.rv_model.specs.machine.UserMachine.{Outcome, Private}
 use Rattle.rv_model.proofs.text_lemmas.Newlines.{AreLines}
-use Rattle.rv_model.proofs.command_lemmas.Commands.{commanded_prints}
-use Rattle.rv_model.proofs.command_lemmas.Printing.{PrintsLines, one_line, no_newline_in_stop_line}
-use Rattle.rv_model.proofs.text_lemmas.Pieces.{of_either}
+use Rattle.rv_model.proofs.command_lemmas.Commands.{Printed, commanded_prints, prints}
+use Rattle.rv_model.proofs.command_lemmas.Printing.{no_newline_in_stop_line}
+use Rattle.rv_model.proofs.command_lemmas.Refusals.{stop_line_plain}
+use Rattle.rv_model.proofs.Choices.{of_either}
 
-slice_ends_prints : (run : Halted) (reason : Option Stop) → PrintsLines (slice_ends run reason)
-slice_ends_prints run None = refl
-slice_ends_prints run (Some reason) = one_line (stop_line run.state.hart.scalar.pc reason) (no_newline_in_stop_line run.state.hart.scalar.pc reason)
+slice_ends_printed : (run : Halted) (reason : Option Stop) → Printed (slice_ends run reason).lines
+slice_ends_printed run None = (refl, refl)
+slice_ends_printed run (Some reason) =
+    let pc = run.state.hart.scalar.pc in prints (stop_line pc reason) (no_newline_in_stop_line pc reason) (stop_line_plain pc reason)
 
-sliced_prints : (quantum : ℕ) (p : Private) → PrintsLines (sliced quantum p)
+-- and nothing in it is a refusal
+pub sliced_printed : (quantum : ℕ) (p : Private) → Printed (sliced quantum p).lines
 unfolding sliced
-sliced_prints quantum None = refl
-sliced_prints quantum (Some p) =
+sliced_printed quantum None = (refl, refl)
+sliced_printed quantum (Some p) =
     let run : Halted = ticked quantum p in
-    of_either PrintsLines p.running _ _ (slice_ends_prints run run.stop) refl
+    of_either (λ (o : Outcome). Printed o.lines) p.running _ _ (slice_ends_printed run run.stop) (refl, refl)
 
 -- whatever happens to a private machine, what it prints are lines
 pub event_lines : (s : Setup) (p : Private) (e : Event) → AreLines (event s p e).lines
 unfolding event
 event_lines s p (Command line) = commanded_prints s.images p (parse line)
-event_lines s p Slice = sliced_prints s.quantum p
+event_lines s p Slice = (sliced_printed s.quantum p).0

@@ -1,10 +1,10 @@
 -- What the operator grants goes to users, and what the operator is told are lines.
 use Rattle.std.proofs.Common.{ℕ, zero, suc, ◌-◌, ◌≤◌, List, [], ◌∷◌, ◌++◌, length, Bool, true, false, Option, Some, None, Ok, Err, refl, arith}
-use Rattle.std.specs.Prelude.{drop, take, find, map, codes, flat_map, if◌then◌else◌, slice_index_or, unwrap_or}
+use Rattle.std.specs.Prelude.{drop, take, find, map, codes, flat_map, slice_index_or, unwrap_or}
 use Rattle.std.specs.Option.{option_map_or}
 use Rattle.rv_model.specs.declared.commands.operator.OperatorCommand.TheVariants.{Slices, Run, List as ListUsers, Stats as ShowStats}
 use Rattle.rv_model.specs.declared.machine.standing.Standing.{Standing}
-use Rattle.rv_model.specs.declared.machine.standing.Standing.TheVariants.{Absent, Stopped, Running}
+use Rattle.rv_model.specs.declared.machine.standing.Standing.TheVariants.{Absent}
 use Rattle.rv_model.specs.declared.machine.stats.Stats.{Stats}
 use Rattle.rv_model.specs.commands.Operator.{OperatorParsed, granted_line, standing_word, listed_user, list_line, stats_line}
 use Rattle.rv_model.specs.machine.Grants.{turns_after, next_user, runs, next_running, slice_of, granted, grants, grants_of, standing, operator_line}
@@ -15,7 +15,8 @@ use Rattle.rv_model.specs.machine.World.{World, Happening, after_one, user_machi
 use Rattle.rv_model.proofs.text_lemmas.Newlines.{IsLine}
 use Rattle.rv_model.proofs.command_lemmas.Operator.{ParsedNamesUser}
 use Rattle.rv_model.proofs.command_lemmas.Printing.{no_newline_in_refusal}
-use Rattle.rv_model.proofs.text_lemmas.Pieces.{Piece, ◌▸◌, number, flat_map_line, of_either}
+use Rattle.rv_model.proofs.Choices.{of_either, of_option}
+use Rattle.rv_model.proofs.text_lemmas.Pieces.{Piece, ◌▸◌, number, flat_map_line}
 
 -- one of the users
 abbrev pub IsUser : ℕ → Type 0
@@ -68,23 +69,14 @@ pub granted_to_users : (s : Setup) (n : ℕ) (w : World) → AreUsers (granted s
 unfolding granted
 granted_to_users s zero w = tt
 granted_to_users s (suc n) w =
-    first (next_running w) (next_is_user w.cursor (map runs w.parts)) (λ h. granted_to_users s n (after_one s w h))
-  where
-    first : (o : Option ℕ) → IsUserIfAny o → ((h : Happening) → AreUsers (granted s n (after_one s w h)))
-        → AreUsers (option_map_or (λ u. slice_of u true ∷ granted s n (after_one s w (slice_of u true))) o [])
-    first None h k = tt
-    first (Some u) h k = (h.0, h.1, k (slice_of u true))
+    of_option (next_running w)
+    (λ o. IsUserIfAny o → AreUsers (option_map_or (λ u. slice_of u true ∷ granted s n (after_one s w (slice_of u true))) o []))
+    (λ e h. tt) (λ u e h. (h.0, h.1, granted_to_users s n (after_one s w (slice_of u true)))) (next_is_user w.cursor (map runs w.parts))
 
 pub grants_to_users : (s : Setup) (w : World) (r : OperatorParsed) → ParsedNamesUser r → AreUsers (grants_of s w r)
-grants_to_users s w (Err reason) named = tt
 grants_to_users s w (Ok (Slices n)) named = granted_to_users s n w
-grants_to_users s w (Ok (Run u)) named = run (runs (user_machine u w))
-  where
-    run : (b : Bool) → AreUsers (if b then slice_of u false ∷ [] else [])
-    run true = (named.0, named.1, tt)
-    run false = tt
-grants_to_users s w (Ok ListUsers) named = tt
-grants_to_users s w (Ok ShowStats) named = tt
+grants_to_users s w (Ok (Run u)) named = of_either AreUsers (runs (user_machine u w)) _ _ (named.0, named.1, tt) tt
+grants_to_users s w _ named = tt
 
 -- ---- what the operator is told
 
@@ -94,8 +86,7 @@ no_newline_in_granted_line n = let word : Piece = (codes "granted ", refl) in (w
 
 no_newline_in_standing : (s : Standing) → IsLine (standing_word s)
 no_newline_in_standing Absent = refl
-no_newline_in_standing Stopped = refl
-no_newline_in_standing Running = refl
+no_newline_in_standing _ = refl
 
 no_newline_in_listed_user : (standings : List Standing) (u : ℕ) → IsLine (listed_user standings u)
 unfolding listed_user

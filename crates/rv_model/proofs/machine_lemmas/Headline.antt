@@ -8,7 +8,7 @@ use Rattle.rv_model.specs.text.Lines.{pieces, text}
 use Rattle.rv_model.proofs.text_lemmas.Newlines.{AreLines}
 use Rattle.rv_model.specs.machine.Setup.{Setup}
 use Rattle.rv_model.specs.machine.PrivateMachine.{Private, Event, event, solo_from, solo, end_of}
-use Rattle.rv_model.specs.machine.Script.{World, new_world, with_unit, Kind, Empty, Long, Bad, Operator, Of, prefixed, kind_of, events_of, common, Happening, outcome_of, unit_after, after_one, after_events, told_by, told, after_all, told_all, schedule, whole_from, after_script, mine, own_from, own, lines, user_machine, with_user_machine, world_after}
+use Rattle.rv_model.specs.machine.Script.{World, new_world, with_unit, Kind, Long, Bad, Operator, Of, prefixed, kind_of, events_of, common, Happening, outcome_of, unit_after, after_one, after_events, told_by, told, after_all, told_all, schedule, whole_from, after_script, mine, own_from, own, lines, user_machine, with_user_machine, world_after}
 use Rattle.rv_model.specs.machine.Laws.{EachUserAlone, EachNewUserAlone, EachUserEndsAlone, OthersChangeNothing, EqualPartsAnswerAlike, MachinesStayEight}
 use Rattle.rv_model.proofs.text_lemmas.Lines.{lines_text}
 use Rattle.rv_model.specs.commands.Operator.{operator_parse}
@@ -17,6 +17,7 @@ use Rattle.rv_model.proofs.command_lemmas.Operator.{parsed_names_user}
 use Rattle.rv_model.proofs.command_lemmas.Printing.{one_line}
 use Rattle.rv_model.proofs.machine_lemmas.EventLines.{event_lines}
 use Rattle.rv_model.proofs.machine_lemmas.Grants.{AreUsers, grants_to_users, no_newline_in_operator_line}
+use Rattle.rv_model.proofs.Choices.{of_bool, of_either}
 
 pub no_newline : (v : ℕ) → eqb (48 + v) 10 ≡ false
 no_newline v = grind (arith, nat_tests)
@@ -118,8 +119,6 @@ eight_after_events s w (h ∷ hs) eight = eight_after_events s (after_one s w h)
 
 -- a line's events are those of one of the eight
 users_prefixed : (s : Setup) (w : World) (line : List ℕ) → AreUsers (events_of s w (prefixed line))
-users_prefixed s w [] = tt
-users_prefixed s w (d ∷ []) = tt
 users_prefixed s w (d ∷ c ∷ rest) = spaced (c == 32) (d == 42) (nat_le 49 d && nat_le d 56) refl
   where
     spaced : (a b c : Bool) → c ≡ (nat_le 49 d && nat_le d 56) → AreUsers (events_of s w (if a then (if b then Operator rest else if c then Of (d - 48) rest else Bad) else Bad))
@@ -129,23 +128,17 @@ users_prefixed s w (d ∷ c ∷ rest) = spaced (c == 32) (d == 42) (nat_le 49 d 
     spaced true false true h =
         let two = and_parts (nat_le 49 d) (nat_le d 56) (sym h) in
         (omega (arith, leb-true 49 d two.0, leb-true d 56 two.1), omega (arith, leb-true 49 d two.0, leb-true d 56 two.1), tt)
+users_prefixed s w _ = tt
 
 pub users_of : (s : Setup) (w : World) (line : List ℕ) → AreUsers (events_of s w (kind_of line))
 unfolding kind_of
-users_of s w line = long (nat_lt 1024 (length line))
-  where
-    long : (b : Bool) → AreUsers (events_of s w (if b then Long else prefixed line))
-    long true = tt
-    long false = users_prefixed s w line
+users_of s w line = of_either (λ k. AreUsers (events_of s w k)) (nat_lt 1024 (length line)) Long (prefixed line) tt (users_prefixed s w line)
 
 -- what is told under no user's digit is shown to no user
 common_lines : (s : Setup) (w : World) (k : Kind) → AreLines (common s w k)
 unfolding common
-common_lines s w Empty = refl
-common_lines s w Long = refl
-common_lines s w Bad = refl
 common_lines s w (Operator line) = one_line (operator_line s w (operator_parse line)) (no_newline_in_operator_line s w (operator_parse line))
-common_lines s w (Of u line) = refl
+common_lines s w _ = refl
 
 lines_common : (s : Setup) (u : ℕ) (w : World) (k : Kind) (rest : List ℕ) → lines u (text 42 (common s w k) ++ rest) ≡ lines u rest
 lines_common s u w k rest =
@@ -158,11 +151,9 @@ solo-append s p (e ∷ a) b = ap (λ (x : List (List ℕ)). (event s p e).lines 
 
 mine-append : (u : ℕ) (a b : List Happening) → mine u (a ++ b) ≡ mine u a ++ mine u b
 mine-append u [] b = refl
-mine-append u (h ∷ a) b = joined (eqb h.user u) (mine-append u a b)
-  where
-    joined : (t : Bool) → mine u (a ++ b) ≡ mine u a ++ mine u b → cond t (h.event ∷ mine u (a ++ b)) (mine u (a ++ b)) ≡ cond t (h.event ∷ mine u a) (mine u a) ++ mine u b
-    joined true same = ap (λ (x : List Event). h.event ∷ x) same
-    joined false same = same
+mine-append u (h ∷ a) b =
+    of_bool (eqb h.user u) (λ t. cond t (h.event ∷ mine u (a ++ b)) (mine u (a ++ b)) ≡ cond t (h.event ∷ mine u a) (mine u a) ++ mine u b)
+    (λ e. ap (λ (x : List Event). h.event ∷ x) (mine-append u a b)) (λ e. mine-append u a b)
 
 pub eight_after : (s : Setup) (w : World) (line : List ℕ) → length w.parts ≡ 8 → length (world_after s w line).parts ≡ 8
 unfolding world_after

@@ -1,20 +1,17 @@
 -- What is answered by a refusal changes nothing.
-use Rattle.std.proofs.Common.{◌≡◌, inl, inr, ℕ, zero, suc, ◌+◌, ◌-◌, ◌<◌, List, [], ◌∷◌, ◌++◌, get_or, length, drop, map, Bool, true, false, eqb, Option, Some, None, Ok, Err, refl, ap, sym, ◌∙◌, subst, append_assoc, arith}
+use Rattle.std.proofs.Common.{◌≡◌, inl, inr, ℕ, zero, suc, ◌+◌, ◌-◌, ◌<◌, List, [], ◌∷◌, ◌++◌, get_or, length, drop, map, Bool, true, false, eqb, None, Ok, Err, refl, ap, sym, ◌∙◌, subst, append_assoc, arith}
 use Rattle.std.specs.Prelude.{not, if◌then◌else◌}
 use Rattle.std.specs.List.{Any}
 use Rattle.std.specs.Option.{option_map_or}
 use Rattle.std.proofs.lemmas.Bool.{and_from, and_parts, false≢true}
 use Rattle.std.proofs.lemmas.List.{append-nil, set-get_or}
 use Rattle.rv_model.specs.declared.commands.operator.OperatorCommand.{OperatorCommand}
-use Rattle.rv_model.specs.declared.commands.operator.OperatorCommand.TheVariants.{Slices, Run, List as ListUsers, Stats as ShowStats}
-use Rattle.rv_model.specs.declared.step.step_end.Stop.{Stop}
+use Rattle.rv_model.specs.declared.commands.operator.OperatorCommand.TheVariants.{Slices, Run}
 use Rattle.rv_model.specs.commands.Commands.{parse}
 use Rattle.rv_model.specs.commands.Operator.{OperatorParsed, granted_line, list_line, operator_parse, stats_line}
-use Rattle.rv_model.specs.commands.Printing.{stop_line}
 use Rattle.rv_model.specs.machine.Grants.{granted, grants, grants_of, next_running, operator_line, runs, slice_of}
-use Rattle.rv_model.specs.machine.PrivateMachine.{Private, Outcome, Event, Command, Slice, event, sliced, slice_ends}
+use Rattle.rv_model.specs.machine.PrivateMachine.{Private, Event, Command, Slice, event}
 use Rattle.rv_model.specs.machine.Refusals.{IsRefusal, RefusedHappeningsChangeNothing, RefusedLinesChangeNothing}
-use Rattle.rv_model.specs.machine.Runs.{Halted, ticked}
 use Rattle.rv_model.specs.machine.Script.{Kind, Empty, Long, Bad, Operator, Of, commands, common, events_of, kind_of, told, world_after}
 use Rattle.rv_model.specs.machine.Setup.{Setup}
 use Rattle.rv_model.specs.machine.UnitEvents.{unit_after_event}
@@ -23,12 +20,13 @@ use Rattle.rv_model.specs.machine.World.{World, Happening, after_events, after_o
 use Rattle.rv_model.specs.text.Lines.{is_newline, pieces, tagged, text}
 use Rattle.rv_model.proofs.text_lemmas.Newlines.{is_line, are_lines, AreLines, IsLine}
 use Rattle.rv_model.proofs.command_lemmas.Printing.{one_line}
-use Rattle.rv_model.proofs.command_lemmas.Refusals.{are_plain, commanded_settles, is_plain, plain_line, stop_line_plain, Settles}
-use Rattle.rv_model.proofs.machine_lemmas.EventLines.{event_lines}
+use Rattle.rv_model.proofs.command_lemmas.Commands.{commanded_settles, Settles}
+use Rattle.rv_model.proofs.command_lemmas.Refusals.{are_plain, is_plain, plain_line}
+use Rattle.rv_model.proofs.machine_lemmas.EventLines.{event_lines, sliced_printed}
 use Rattle.rv_model.proofs.machine_lemmas.Grants.{no_newline_in_operator_line}
 use Rattle.rv_model.proofs.machine_lemmas.Headline.{no_newline}
 use Rattle.rv_model.proofs.text_lemmas.Lines.{pieces_at}
-use Rattle.rv_model.proofs.text_lemmas.Pieces.{of_either}
+use Rattle.rv_model.proofs.Choices.{of_bool, of_option, of_either}
 
 -- ---- the answers of an output
 
@@ -75,28 +73,16 @@ plain_all tag ls plain lines h =
 
 -- ---- what happens to a user
 
-slice_ends_plain : (run : Halted) (reason : Option Stop) → are_plain (slice_ends run reason).lines ≡ true
-slice_ends_plain run None = refl
-slice_ends_plain run (Some reason) =
-    plain_line (stop_line run.state.hart.scalar.pc reason) (stop_line_plain run.state.hart.scalar.pc reason)
-
-sliced_plain : (quantum : ℕ) (p : Private) → are_plain (sliced quantum p).lines ≡ true
-unfolding sliced
-sliced_plain quantum None = refl
-sliced_plain quantum (Some p) =
-    let run : Halted = ticked quantum p in
-    of_either (λ (o : Outcome). are_plain o.lines ≡ true) p.running _ _ (slice_ends_plain run run.stop) refl
-
 slice_plain : (s : Setup) (p : Private) (e : Event) → e ≡ Slice → are_plain (event s p e).lines ≡ true
 unfolding event
 slice_plain s p e is =
-    subst (λ (e : Event). are_plain (event s p e).lines ≡ true) (sym is) (sliced_plain s.quantum p)
+    subst (λ (e : Event). are_plain (event s p e).lines ≡ true) (sym is) (sliced_printed s.quantum p).1
 
 event_settles : (s : Setup) (user : ℕ) (p : Private) (e : Event) (unit : VectorUnit)
     → Settles p (event s p e) unit (unit_after_event s user p e unit)
 unfolding event unit_after_event
 event_settles s user p (Command line) unit = commanded_settles s.images user p (parse line) unit
-event_settles s user p Slice unit = inr (sliced_plain s.quantum p)
+event_settles s user p Slice unit = inr (sliced_printed s.quantum p).1
 
 -- where neither a user's machine nor the unit moves and it's nobody's turn, the world stays
 same_world : (s : Setup) (w : World) (h : Happening) → h.turn ≡ false → (outcome_of s w h).next ≡ user_machine h.user w
@@ -109,16 +95,13 @@ same_world s w h turn same still =
     ∙ ap (λ (parts : List Private). record w { parts = parts }) (set-get_or w.parts (h.user - 1) None)
 
 pub refused_happenings_change_nothing : RefusedHappeningsChangeNothing
-refused_happenings_change_nothing s w h slices refused = named h.turn refl
-  where
-    named : (b : Bool) → h.turn ≡ b → after_one s w h ≡ w
-    named true turn =
-        absurd (none_refused (outcome_of s w h).lines (slice_plain s (user_machine h.user w) h.event (slices turn)) refused)
-    named false turn =
-        elim (event_settles s h.user (user_machine h.user w) h.event w.unit) [
-          | inl same ↦ same_world s w h turn same.0 same.1
-          | inr plain ↦ absurd (none_refused (outcome_of s w h).lines plain refused)
-        ]
+refused_happenings_change_nothing s w h slices refused =
+    of_bool h.turn (λ b. after_one s w h ≡ w)
+    (λ turn. absurd (none_refused (outcome_of s w h).lines (slice_plain s (user_machine h.user w) h.event (slices turn)) refused))
+    (λ turn. elim (event_settles s h.user (user_machine h.user w) h.event w.unit) [
+      | inl same ↦ same_world s w h turn same.0 same.1
+      | inr plain ↦ absurd (none_refused (outcome_of s w h).lines plain refused)
+    ])
 
 -- ---- what the operator grants
 
@@ -130,22 +113,13 @@ granted_are_slices : (s : Setup) (n : ℕ) (w : World) → AreSlices (granted s 
 unfolding granted
 granted_are_slices s zero w = tt
 granted_are_slices s (suc n) w =
-    first (next_running w) (λ h. granted_are_slices s n (after_one s w h))
-  where
-    first : (o : Option ℕ) → ((h : Happening) → AreSlices (granted s n (after_one s w h)))
-        → AreSlices (option_map_or (λ u. slice_of u true ∷ granted s n (after_one s w (slice_of u true))) o [])
-    first None k = tt
-    first (Some u) k = (refl, k (slice_of u true))
+    of_option (next_running w) (λ o. AreSlices (option_map_or (λ u. slice_of u true ∷ granted s n (after_one s w (slice_of u true))) o []))
+    (λ e. tt) (λ u e. (refl, granted_are_slices s n (after_one s w (slice_of u true))))
 
 grants_are_slices : (s : Setup) (w : World) (c : OperatorCommand) → AreSlices (grants s w c)
 grants_are_slices s w (Slices n) = granted_are_slices s n w
-grants_are_slices s w (Run u) = run (runs (user_machine u w))
-  where
-    run : (b : Bool) → AreSlices (if b then slice_of u false ∷ [] else [])
-    run true = (refl, tt)
-    run false = tt
-grants_are_slices s w ListUsers = tt
-grants_are_slices s w ShowStats = tt
+grants_are_slices s w (Run u) = of_either AreSlices (runs (user_machine u w)) _ _ (refl, tt) tt
+grants_are_slices s w _ = tt
 
 plain_told_by : (s : Setup) (w : World) (hs : List Happening) (rest : List ℕ) → AreSlices hs
     → are_plain (answers_in rest) ≡ true → are_plain (answers_in (told_by s w hs ++ rest)) ≡ true
@@ -160,9 +134,7 @@ plain_told_by s w (h ∷ hs) rest slices k =
 operator_line_plain : (s : Setup) (w : World) (c : OperatorCommand) → is_plain (operator_line s w (Ok c)) ≡ true
 unfolding granted_line list_line stats_line
 operator_line_plain s w (Slices n) = refl
-operator_line_plain s w (Run u) = refl
-operator_line_plain s w ListUsers = refl
-operator_line_plain s w ShowStats = refl
+operator_line_plain s w _ = refl
 
 -- ---- a line of a script
 

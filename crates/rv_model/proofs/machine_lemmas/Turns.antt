@@ -1,20 +1,21 @@
 -- Turns go round: no user whose program runs waits for ever.
-use Rattle.std.proofs.Common.{◌≡◌, ◌≢◌, inl, inr, ℕ, zero, suc, ◌+◌, ◌-◌, ◌*◌, ◌/◌, ◌%◌, ◌<◌, ◌≤◌, List, [], ◌∷◌, ◌++◌, length, get_or, Bool, true, false, Option, Some, None, Ok, Err, cond, eqb, refl, ap, ◌∙◌, sym, subst, append_assoc, arith}
+use Rattle.std.proofs.Common.{◌≡◌, ◌≢◌, inl, inr, ℕ, zero, suc, ◌+◌, ◌-◌, ◌*◌, ◌/◌, ◌%◌, ◌<◌, ◌≤◌, List, [], ◌∷◌, ◌++◌, length, get_or, Bool, true, false, Some, None, Ok, cond, eqb, refl, ap, ◌∙◌, sym, subst, append_assoc, arith}
 use Rattle.std.specs.Prelude.{find, filter, map, if◌then◌else◌, ◌==◌, ◌&&◌, slice_index_or}
 use Rattle.std.proofs.lemmas.Bool.{agree_below_at, cases_Bool, cases_eq, eqb-true, false≢true}
 use Rattle.std.proofs.lemmas.Option.{same_Some}
 use Rattle.std.specs.Option.{option_map_or}
-use Rattle.rv_model.specs.declared.commands.operator.OperatorCommand.TheVariants.{Slices, Run, List as ListUsers, Stats as ShowStats}
+use Rattle.rv_model.specs.declared.commands.operator.OperatorCommand.TheVariants.{Slices, Run}
 use Rattle.rv_model.specs.commands.Operator.{operator_parse}
 use Rattle.rv_model.specs.machine.Grants.{turns_after, next_user, runs, next_running, slice_of, granted}
 use Rattle.rv_model.specs.machine.PrivateMachine.{Private, Slice}
-use Rattle.rv_model.specs.machine.Script.{Kind, Empty, Long, Bad, Operator, Of, kind_of, events_of, schedule, world_after}
+use Rattle.rv_model.specs.machine.Script.{Kind, Operator, Of, kind_of, events_of, schedule, world_after}
 use Rattle.rv_model.specs.machine.Setup.{Setup}
 use Rattle.rv_model.specs.machine.Turns.{AtEachTurn, AreInTurn, RunsAtEachTurn, turns_of, NobodyHasTwoTurns, EachRunningUserHasATurn, GrantsAreInTurn, ScriptsAreInTurn, OneTurnBetweenTurns}
 use Rattle.rv_model.specs.machine.World.{World, Happening, with_unit, outcome_of, unit_after, after_one, after_events, user_machine, with_user_machine}
 use Rattle.rv_model.specs.text.Lines.{pieces}
 use Rattle.rv_model.proofs.machine_lemmas.Grants.{IsUser, IsUserIfAny, next_is_user}
 use Rattle.rv_model.proofs.machine_lemmas.Headline.{same_number, other_number}
+use Rattle.rv_model.proofs.Choices.{of_bool, of_either, of_option}
 
 -- ---- the order of turns
 
@@ -97,32 +98,19 @@ turns hs = length (filter (λ h. h.turn) hs)
 
 turns_are : (hs : List Happening) → turns hs ≡ length (takers hs)
 turns_are [] = refl
-turns_are (h ∷ hs) = one h.turn (turns_are hs)
-  where
-    all : List Happening
-    all = filter (λ h. h.turn) hs
-
-    one : (b : Bool) → turns hs ≡ length (takers hs)
-        → length (if b then h ∷ all else all) ≡ length (if b then h.user ∷ takers hs else takers hs)
-    one true same = ap (λ n. suc n) same
-    one false same = same
+turns_are (h ∷ hs) =
+    let all : List Happening = filter (λ h. h.turn) hs in
+    of_bool h.turn (λ b. length (if b then h ∷ all else all) ≡ length (if b then h.user ∷ takers hs else takers hs))
+    (λ e. ap (λ n. suc n) (turns_are hs)) (λ e. turns_are hs)
 
 turns_of_are : (u : ℕ) (hs : List Happening) → turns_of u hs ≡ count u (takers hs)
 turns_of_are u [] = refl
-turns_of_are u (h ∷ hs) = turn h.turn (turns_of_are u hs)
-  where
-    mine : List Happening
-    mine = filter (λ h. h.turn && h.user == u) hs
-
-    one : (b : Bool) → turns_of u hs ≡ count u (takers hs)
-        → length (if b then h ∷ mine else mine) ≡ (if b then 1 else 0) + count u (takers hs)
-    one true same = omega (arith, same)
-    one false same = omega (arith, same)
-
-    turn : (b : Bool) → turns_of u hs ≡ count u (takers hs)
-        → length (if b && h.user == u then h ∷ mine else mine) ≡ count u (if b then h.user ∷ takers hs else takers hs)
-    turn true same = one (h.user == u) same
-    turn false same = same
+turns_of_are u (h ∷ hs) =
+    let mine : List Happening = filter (λ h. h.turn && h.user == u) hs in
+    let same : turns_of u hs ≡ count u (takers hs) = turns_of_are u hs in
+    of_bool h.turn (λ b. length (if b && h.user == u then h ∷ mine else mine) ≡ count u (if b then h.user ∷ takers hs else takers hs))
+    (λ e. of_bool (h.user == u) (λ b. length (if b then h ∷ mine else mine) ≡ (if b then 1 else 0) + count u (takers hs))
+    (λ e. omega (arith, same)) (λ e. omega (arith, same))) (λ e. same)
 
 first_counts : (u x : ℕ) (xs : List ℕ) → x ≡ u → count u (x ∷ xs) ≡ suc (count u xs)
 first_counts u x xs same =
@@ -207,18 +195,15 @@ none_is_later : (s : Setup) (w : World) (hs : List Happening) (u : ℕ) → IsUs
     → NoneIsLater u w.cursor (takers hs)
 none_is_later s w [] u is_u in_turn running = tt
 none_is_later s w (h ∷ hs) u is_u in_turn running =
-    turn h.turn refl (none_is_later s (after_one s w h) hs u is_u in_turn.1 running.1)
-  where
-    first : next_running w ≡ Some h.user → runs (user_machine u w) ≡ true → (w.cursor ≤ 8 → ahead w.cursor h.user ≤ ahead w.cursor u)
-    first next set = λ low. next_comes_first w.cursor u h.user (map runs w.parts) low is_u (flag_of w.parts (u - 1) ∙ set) next
-
-    turn : (b : Bool) → h.turn ≡ b → NoneIsLater u (after_one s w h).cursor (takers hs)
-        → NoneIsLater u w.cursor (if b then h.user ∷ takers hs else takers hs)
-    turn true is rest =
-        let next = (in_turn.0 is).1 in
-        let is_user = subst IsUserIfAny next (next_is_user w.cursor (map runs w.parts)) in
-        (is_user, first next (running.0 is), subst (λ c. NoneIsLater u c (takers hs)) (cursor_after s w h true is) rest)
-    turn false is rest = subst (λ c. NoneIsLater u c (takers hs)) (cursor_after s w h false is) rest
+    let rest : NoneIsLater u (after_one s w h).cursor (takers hs) = none_is_later s (after_one s w h) hs u is_u in_turn.1 running.1 in
+    of_bool h.turn (λ b. NoneIsLater u w.cursor (if b then h.user ∷ takers hs else takers hs))
+    (λ is.
+    let next = (in_turn.0 is).1 in
+    let is_user = subst IsUserIfAny next (next_is_user w.cursor (map runs w.parts)) in
+    let first : w.cursor ≤ 8 → ahead w.cursor h.user ≤ ahead w.cursor u =
+    λ low. next_comes_first w.cursor u h.user (map runs w.parts) low is_u (flag_of w.parts (u - 1) ∙ running.0 is) next in
+    (is_user, first, subst (λ c. NoneIsLater u c (takers hs)) (cursor_after s w h true is) rest))
+    (λ is. subst (λ c. NoneIsLater u c (takers hs)) (cursor_after s w h false is) rest)
 
 -- ---- what is in turn
 
@@ -240,31 +225,19 @@ at_each-rest P s w (h ∷ hs) two all = at_each-rest P s (after_one s w h) hs tw
 granted_in_turn : (s : Setup) (n : ℕ) (w : World) → AreInTurn s w (granted s n w)
 unfolding granted
 granted_in_turn s zero w = tt
-granted_in_turn s (suc n) w = first (next_running w) refl (λ h. granted_in_turn s n (after_one s w h))
-  where
-    first : (o : Option ℕ) → next_running w ≡ o
-        → ((h : Happening) → AreInTurn s (after_one s w h) (granted s n (after_one s w h)))
-        → AreInTurn s w (option_map_or (λ u. slice_of u true ∷ granted s n (after_one s w (slice_of u true))) o [])
-    first None next rest = tt
-    first (Some u) next rest = (λ _. (refl, next), rest (slice_of u true))
+granted_in_turn s (suc n) w =
+    of_option (next_running w) (λ o. AreInTurn s w (option_map_or (λ u. slice_of u true ∷ granted s n (after_one s w (slice_of u true))) o []))
+    (λ next. tt) (λ u next. (λ _. (refl, next), granted_in_turn s n (after_one s w (slice_of u true))))
 
 pub grants_are_in_turn : GrantsAreInTurn
-grants_are_in_turn s w (Err reason) = tt
 grants_are_in_turn s w (Ok (Slices n)) = granted_in_turn s n w
-grants_are_in_turn s w (Ok (Run u)) = run (runs (user_machine u w))
-  where
-    run : (b : Bool) → AreInTurn s w (if b then slice_of u false ∷ [] else [])
-    run true = (λ turn. absurd (false≢true turn), tt)
-    run false = tt
-grants_are_in_turn s w (Ok ListUsers) = tt
-grants_are_in_turn s w (Ok ShowStats) = tt
+grants_are_in_turn s w (Ok (Run u)) = of_either (AreInTurn s w) (runs (user_machine u w)) _ _ (λ turn. absurd (false≢true turn), tt) tt
+grants_are_in_turn s w _ = tt
 
 events_in_turn : (s : Setup) (w : World) (k : Kind) → AreInTurn s w (events_of s w k)
-events_in_turn s w Empty = tt
-events_in_turn s w Long = tt
-events_in_turn s w Bad = tt
 events_in_turn s w (Operator line) = grants_are_in_turn s w (operator_parse line)
 events_in_turn s w (Of u line) = (λ turn. absurd (false≢true turn), tt)
+events_in_turn s w _ = tt
 
 lines_in_turn : (s : Setup) (w : World) (all : List (List ℕ)) → AreInTurn s w (schedule s w all)
 unfolding world_after

@@ -15,6 +15,7 @@ use Rattle.rv_model.specs.declared.memory.Permissions.{Permissions}
 use Rattle.rv_model.specs.memory.Memory.{Cell, Memory, permits, can_access, bytes_at, put_byte, put_bytes, add_cells, with_pages, page_count, any_page_mapped, map_refusal, is_within, WritesBytes, MapsZeros, MapsPermissions, ReadsBytes, AllowsEachByte, memory_byte, can_access_byte}
 use Rattle.rv_model.specs.declared.memory.MapRefusal.TheVariants.{Quota, AlreadyMapped}
 use Rattle.rv_model.specs.memory.Sizes.{page_size, page_quota}
+use Rattle.rv_model.proofs.Choices.{of_bool, of_option}
 
 -- two memories that answer alike are equal
 pub same_memory : (m n : Memory) → ((x : ℕ) → get m x ≡ get n x) → m ≡ n
@@ -163,19 +164,15 @@ can_access_from access m a (suc n) h =
     (can_access_from access m (a + 1) n (λ k l. let e : (a + 1) + k ≡ a + suc k = omega arith in ap (can_access_byte access m) e ∙ h (suc k) (omega arith)))
 
 pub can_access_not : (access : Access) (m : Memory) (a n k x : ℕ) → k < n → x ≡ a + k → can_access_byte access m x ≡ false → can_access access m a n ≡ false
-can_access_not access m a n k x h e refused = split (can_access access m a n) refl
-  where
-    split : (b : Bool) → can_access access m a n ≡ b → can_access access m a n ≡ false
-    split true t = absurd (let yes = can_access-at access m a n k x t h e in let bad : true ≡ false = sym yes ∙ refused in cc)
-    split false t = t
+can_access_not access m a n k x h e refused =
+    of_bool (can_access access m a n) (λ b. b ≡ false) (λ t. sym (can_access-at access m a n k x t h e) ∙ refused) (λ t. refl)
 
 is_allowed_monitor : (access : Access) (m : Memory) (x : ℕ) → can_access_byte access m x ≡ true → can_access_byte Monitor m x ≡ true
 unfolding can_access_byte
-is_allowed_monitor access m x t = through (get m x) t
-  where
-    through : (o : Option Cell) → option_map_or (λ c. permits access c.permissions) o false ≡ true → option_map_or (λ c. permits Monitor c.permissions) o false ≡ true
-    through None h = h
-    through (Some c) h = refl
+is_allowed_monitor access m x =
+    of_option (get m x)
+    (λ o. option_map_or (λ c. permits access c.permissions) o false ≡ true → option_map_or (λ c. permits Monitor c.permissions) o false ≡ true)
+    (λ e h. h) (λ c e h. refl)
 
 -- the monitor may access whatever a program may
 pub can_access_monitor : (access : Access) (m : Memory) (a n : ℕ) → can_access access m a n ≡ true → can_access Monitor m a n ≡ true
@@ -256,22 +253,17 @@ map_refusal-Quota m page count = (λ h. over h (cases_lt page_quota (page_count 
   where
     over : map_refusal m page count ≡ Some Quota → ((page_quota < page_count m + count) ⊎ (page_count m + count ≤ page_quota)) → page_quota < page_count m + count
     over h (inl l) = l
-    over h (inr room) = split (any_page_mapped m page count) refl
-      where
-        split : (b : Bool) → any_page_mapped m page count ≡ b → page_quota < page_count m + count
-        split true e = let other = map_refusal_mapped m page count room e in absurd (cc)
-        split false e = let other = map_refusal_none m page count room e in absurd (cc)
+    over h (inr room) =
+        of_bool (any_page_mapped m page count) (λ b. page_quota < page_count m + count)
+        (λ e. let other = map_refusal_mapped m page count room e in absurd (cc)) (λ e. let other = map_refusal_none m page count room e in absurd (cc))
 
 pub map_refusal-AlreadyMapped : (m : Memory) (page count : ℕ) → (map_refusal m page count ≡ Some AlreadyMapped) ↔ ((page_count m + count ≤ page_quota) × (any_page_mapped m page count ≡ true))
 map_refusal-AlreadyMapped m page count = (λ h. within h (cases_lt page_quota (page_count m + count)), λ h. map_refusal_mapped m page count h.0 h.1)
   where
     within : map_refusal m page count ≡ Some AlreadyMapped → ((page_quota < page_count m + count) ⊎ (page_count m + count ≤ page_quota)) → (page_count m + count ≤ page_quota) × (any_page_mapped m page count ≡ true)
     within h (inl l) = let other = map_refusal_quota m page count l in absurd (cc)
-    within h (inr room) = split (any_page_mapped m page count) refl
-      where
-        split : (b : Bool) → any_page_mapped m page count ≡ b → (page_count m + count ≤ page_quota) × (any_page_mapped m page count ≡ true)
-        split true e = (room, e)
-        split false e = let other = map_refusal_none m page count room e in absurd (cc)
+    within h (inr room) =
+        (room, of_bool (any_page_mapped m page count) (λ b. b ≡ true) (λ e. refl) (λ e. let other = map_refusal_none m page count room e in absurd (cc)))
 
 -- ---- by address
 

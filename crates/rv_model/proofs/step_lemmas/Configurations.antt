@@ -1,5 +1,5 @@
 -- Whichever the instruction is, the vector length stays one of the vector type, and what is allowed at an address stays.
-use Rattle.std.proofs.Common.{◌≡◌, ℕ, ◌*◌, ◌^◌, ◌≤◌, Bool, true, false, ◌==◌, cond, Option, Some, None, refl, sym, ap, subst, arith}
+use Rattle.std.proofs.Common.{◌≡◌, ℕ, ◌*◌, ◌^◌, ◌≤◌, Bool, true, false, ◌==◌, Option, Some, None, refl, sym, ap, subst, arith}
 use Rattle.std.specs.Prelude.{nat_le, nat_lt, ⊤}
 use Rattle.std.specs.Option.{option_map_or}
 use Rattle.std.proofs.lemmas.Bool.{eqb-true, leb-true}
@@ -14,7 +14,7 @@ use Rattle.rv_model.specs.declared.step.vector_end.VEnd.TheVariants as vector_en
 use Rattle.rv_model.specs.declared.vector.control_register.ControlRegister.{ControlRegister}
 use Rattle.rv_model.specs.declared.vector.control_register.ControlRegister.TheVariants.{Vstart}
 use Rattle.rv_model.specs.declared.vector.request.RequestedLength.{RequestedLength}
-use Rattle.rv_model.specs.declared.vector.request.RequestedLength.TheVariants.{Elements, Maximum, Keep}
+use Rattle.rv_model.specs.declared.vector.request.RequestedLength.TheVariants.{Keep}
 use Rattle.rv_model.specs.declared.vector.state.VState.{VState}
 use Rattle.rv_model.specs.declared.vector.types.Lmul.{Lmul}
 use Rattle.rv_model.specs.declared.vector.types.Sew.{Sew}
@@ -33,7 +33,7 @@ use Rattle.rv_model.specs.vector.TypeRules.{lmul_with_number, requested, sew_wit
 use Rattle.rv_model.proofs.memory_lemmas.Memory.{is_allowed-put_bytes}
 use Rattle.rv_model.proofs.step_lemmas.Cuts.{RunFacts, accessed_facts}
 use Rattle.rv_model.proofs.step_lemmas.StepCases.{of_step, operation_is}
-use Rattle.rv_model.proofs.text_lemmas.Pieces.{of_either}
+use Rattle.rv_model.proofs.Choices.{of_either, of_test}
 
 -- ---- a length that is requested
 
@@ -44,12 +44,8 @@ Supports (Some t) = IsSupported t
 supported_parts : (sew : Option Sew) (lmul : Option Lmul) (tail mask : Bool) → Supports (supported_type sew lmul tail mask)
 supported_parts None lmul tail mask = tt
 supported_parts (Some sew) None tail mask = tt
-supported_parts (Some sew) (Some lmul) tail mask = named (nat_le (sew_bits sew) (lmul_eighths lmul * 8)) refl
-  where
-    named : (b : Bool) → nat_le (sew_bits sew) (lmul_eighths lmul * 8) ≡ b
-        → Supports (cond b (Some (record { sew = sew; lmul = lmul; tail_agnostic = tail; mask_agnostic = mask })) None)
-    named true e = leb-true (sew_bits sew) (lmul_eighths lmul * 8) e
-    named false e = tt
+supported_parts (Some sew) (Some lmul) tail mask =
+    of_test Supports (nat_le (sew_bits sew) (lmul_eighths lmul * 8)) _ _ (leb-true (sew_bits sew) (lmul_eighths lmul * 8)) (λ e. tt)
 
 -- a number means no type but a supported one
 number_supports : (n : ℕ) → Supports (vector_type n)
@@ -67,14 +63,9 @@ kept_length (Some u) vl t is e = omega (arith, is.1, eqb-true (vlmax u) (vlmax t
 
 length_configures : (old : Configuration) (t : VType) (length : RequestedLength) → IsConfiguration old → IsSupported t
     → IsConfiguration (with_length old t length)
-length_configures old t (Elements n) is supported = (supported, omega arith)
-length_configures old t Maximum is supported = (supported, omega arith)
-length_configures old t Keep is supported = named (same_vlmax old.vtype t) refl
-  where
-    named : (b : Bool) → same_vlmax old.vtype t ≡ b
-        → IsConfiguration (cond b (record { vl = old.vl; vtype = Some t }) (record { vl = 0; vtype = None }))
-    named true e = (supported, kept_length old.vtype old.vl t is e)
-    named false e = refl
+length_configures old t Keep is supported =
+    of_test IsConfiguration (same_vlmax old.vtype t) _ _ (λ e. (supported, kept_length old.vtype old.vl t is e)) (λ e. refl)
+length_configures old t _ is supported = (supported, omega arith)
 
 type_configures : (old : Configuration) (o : Option VType) (length : RequestedLength) → IsConfiguration old → Supports o
     → IsConfiguration (option_map_or (λ t. with_length old t length) o (record { vl = 0; vtype = None }))
@@ -153,9 +144,7 @@ vector_stays limit i s =
 after_vector_stays : (ticks : ℕ) (end : VEnd) (word : ℕ) (s after : HartState) → Stays s after
     → Stays s (after_vector ticks end word after).state
 after_vector_stays ticks vector_end.Done word s after h = record { configured = h.configured; allowed = h.allowed }
-after_vector_stays ticks vector_end.Illegal word s after h = h
-after_vector_stays ticks (vector_end.Fault store addr) word s after h = h
-after_vector_stays ticks (vector_end.Cut index) word s after h = h
+after_vector_stays ticks _ word s after h = h
 
 vector_step_stays : (limit : ℕ) (i : Instr) (word : ℕ) (s : HartState) → Stays s (vector_step limit i word s).state
 vector_step_stays limit i word s =

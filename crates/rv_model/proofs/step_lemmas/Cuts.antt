@@ -32,15 +32,14 @@ use Rattle.rv_model.specs.step.Resumes.{StopsShort}
 use Rattle.rv_model.specs.step.VectorStep.{VectorStepped, access_step, accessed, after_vector, operation_step, performed, vector_executed, vector_ticks}
 use Rattle.rv_model.proofs.access_lemmas.Runs.{AtStop, CutAt, FaultAt, Facts, run_facts, stop_means}
 use Rattle.rv_model.proofs.step_lemmas.StepCases.{operation_is}
-use Rattle.rv_model.proofs.text_lemmas.Pieces.{of_either}
+use Rattle.rv_model.proofs.Choices.{of_either}
 
 -- ---- no operation on registers is cut, and none faults
 
 abbrev pub AtOnce : VEnd → Type 0
-AtOnce vector_end.Done = ⊤
-AtOnce vector_end.Illegal = ⊤
 AtOnce (vector_end.Fault store addr) = ⊥
 AtOnce (vector_end.Cut index) = ⊥
+AtOnce _ = ⊤
 
 operation_once : (i : VectorInstr) (s : HartState) → AtOnce (operation_step i s).end
 operation_once i s = operation_is s (λ (r : VectorStepped). AtOnce r.end) (record {
@@ -52,8 +51,7 @@ operation_once i s = operation_is s (λ (r : VectorStepped). AtOnce r.end) (reco
 once_whole : (end : VEnd) → AtOnce end → StopsShort end → ⊥
 once_whole vector_end.Done h stops = stops.undone refl
 once_whole vector_end.Illegal h stops = stops.legal refl
-once_whole (vector_end.Fault store addr) h stops = h
-once_whole (vector_end.Cut index) h stops = h
+once_whole _ h stops = h
 
 pub operation_whole : (i : VectorInstr) (s : HartState) → StopsShort (operation_step i s).end → ⊥
 operation_whole i s = once_whole (operation_step i s).end (operation_once i s)
@@ -63,10 +61,8 @@ cut_short end index e = record { undone = λ q. cc; legal = λ q. cc }
 
 -- a step that is cut is one whose instruction is
 pub cut_index : (ticks : ℕ) (end : VEnd) (word : ℕ) (s : HartState) → (after_vector ticks end word s).end ≡ step_end.Cut → (index : ℕ) × (end ≡ vector_end.Cut index)
-cut_index ticks vector_end.Done word s e = absurd (cc)
-cut_index ticks vector_end.Illegal word s e = absurd (cc)
-cut_index ticks (vector_end.Fault store addr) word s e = absurd (cc)
 cut_index ticks (vector_end.Cut index) word s e = (index, refl)
+cut_index ticks _ word s e = absurd (cc)
 
 -- ---- loads and stores
 
@@ -79,24 +75,19 @@ pub record IsCutAt (limit : ℕ) (i : Instr) (s after : HartState) (index : ℕ)
 
 -- a fact of the index where a vector instruction is cut
 abbrev VectorCut : VEnd → (ℕ → Type 0) → Type 0
-VectorCut vector_end.Done P = ⊤
-VectorCut vector_end.Illegal P = ⊤
-VectorCut (vector_end.Fault store addr) P = ⊤
 VectorCut (vector_end.Cut index) P = P index
+VectorCut _ P = ⊤
 
 abbrev Cuts : ℕ → Instr → HartState → VectorStepped → Type 0
 Cuts limit i s d = VectorCut d.end (IsCutAt limit i s d.state)
 
 once_uncut : (end : VEnd) (P : ℕ → Type 0) → AtOnce end → VectorCut end P
-once_uncut vector_end.Done P h = tt
-once_uncut vector_end.Illegal P h = tt
-once_uncut (vector_end.Fault store addr) P h = tt
 once_uncut (vector_end.Cut index) P h = absurd h
+once_uncut _ P h = tt
 
 access_end_cut : (d : Direction) (end : MemEnd) (P : ℕ → Type 0) → AtStop end P (λ index. ⊤) → VectorCut (access_end d end) P
-access_end_cut d memory_end.Done P h = tt
-access_end_cut d (memory_end.Fault index addr) P h = tt
 access_end_cut d (memory_end.Cut index) P h = h
+access_end_cut d _ P h = tt
 
 -- the facts of the run that is made in a state
 abbrev pub RunFacts : ℕ → VectorAccess → HartState → Type 0

@@ -1,5 +1,5 @@
 -- A fault writes no scalar register, x0 stays, and the output buffer only grows, whatever the instruction is.
-use Rattle.std.proofs.Common.{◌≡◌, ℕ, Bool, List, [], cond, refl, sym, subst, append-nil, arith, Option, Some, None}
+use Rattle.std.proofs.Common.{◌≡◌, ℕ, List, [], refl, sym, subst, append-nil, arith, Option, Some, None}
 use Rattle.rv_model.specs.declared.instructions.instruction.Instr.{Instr}
 use Rattle.rv_model.specs.declared.instructions.instruction.Instr.TheVariants as instr
 use Rattle.rv_model.specs.declared.instructions.vector.VectorInstr.{VectorInstr}
@@ -22,7 +22,7 @@ use Rattle.rv_model.specs.step.MemoryStep.{access_end}
 use Rattle.rv_model.specs.step.WriteCall.{write_count}
 use Rattle.rv_model.proofs.memory_lemmas.Memory.{length-bytes_at}
 use Rattle.rv_model.proofs.step_lemmas.StepCases.{SameFirst, first-with_register, of_step, operation_is}
-use Rattle.rv_model.proofs.text_lemmas.Pieces.{of_either}
+use Rattle.rv_model.proofs.Choices.{of_either}
 
 -- a fact where an instruction faults
 abbrev OnFault : StepEnd → Type 0 → Type 0
@@ -55,21 +55,15 @@ pub record VectorKeeps (s : HartState) (r : VectorStepped) : Type 0 where
   output : r.state.output ≡ s.output
   pub illegal : IfIllegal r.end (r.state ≡ s)
 
-either_keeps : (s : HartState) (b : Bool) (x y : VectorStepped) → VectorKeeps s x → VectorKeeps s y → VectorKeeps s (cond b x y)
-either_keeps s b x y h k = of_either (λ r. VectorKeeps s r) b x y h k
-
 -- no load or store writes a scalar register
 same_unless : (end : VEnd) (x : Scalar) → UnlessDone end (x ≡ x)
 same_unless vector_end.Done x = tt
-same_unless vector_end.Illegal x = refl
-same_unless (vector_end.Fault store addr) x = refl
-same_unless (vector_end.Cut index) x = refl
+same_unless _ x = refl
 
 -- none is illegal where it is carried out
 access_is_legal : (d : Direction) (end : MemEnd) (P : Type 0) → IfIllegal (access_end d end) P
 access_is_legal d memory_end.Done P = tt
-access_is_legal d (memory_end.Fault index addr) P = tt
-access_is_legal d (memory_end.Cut index) P = tt
+access_is_legal d _ P = tt
 
 access_keeps : (limit : ℕ) (i : AccessInstr) (o : Option VectorAccess) (s : HartState) → VectorKeeps s (access_step limit i o s)
 access_keeps limit i None s = record { refused = refl; first = refl; output = refl; illegal = refl }
@@ -98,7 +92,7 @@ performed_keeps limit _ s = record { refused = refl; first = refl; output = refl
 pub vector_keeps : (limit : ℕ) (i : Instr) (s : HartState) → VectorKeeps s (vector_executed limit i s)
 unfolding vector_executed
 vector_keeps limit i s =
-    either_keeps s (is_legal i s.vector.conf.vtype s.vector.vstart) _ _ (performed_keeps limit i s) (record { refused = refl; first = refl; output = refl; illegal = refl })
+    of_either (VectorKeeps s) (is_legal i s.vector.conf.vtype s.vector.vstart) _ _ (performed_keeps limit i s) (record { refused = refl; first = refl; output = refl; illegal = refl })
 
 -- an output buffer that is as it was
 as_before : {old new : List ℕ} → new ≡ old → PutsOut old new
@@ -106,10 +100,9 @@ as_before {old} same = subst (λ (output : List ℕ). PutsOut old output) (sym s
 
 after_vector_keeps : (ticks : ℕ) (end : VEnd) (word : ℕ) (s s' : HartState) → UnlessDone end (s'.scalar ≡ s.scalar) → SameFirst s.scalar s'.scalar → s'.output ≡ s.output
     → Keeps s (after_vector ticks end word s')
-after_vector_keeps ticks vector_end.Done word s s' h k same = record { fault = tt; first = k; output = as_before same }
 after_vector_keeps ticks vector_end.Illegal word s s' h k same = record { fault = h; first = k; output = as_before same }
 after_vector_keeps ticks (vector_end.Fault store addr) word s s' h k same = record { fault = h; first = k; output = as_before same }
-after_vector_keeps ticks (vector_end.Cut index) word s s' h k same = record { fault = tt; first = k; output = as_before same }
+after_vector_keeps ticks _ word s s' h k same = record { fault = tt; first = k; output = as_before same }
 
 vector_step_keeps : (limit : ℕ) (i : Instr) (word : ℕ) (s : HartState) → Keeps s (vector_step limit i word s)
 vector_step_keeps limit i word s =

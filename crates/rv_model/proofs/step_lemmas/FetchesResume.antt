@@ -109,8 +109,7 @@ short_or_same ticks word d s = named d.end
         → StopsShort end ⊎ ((after_vector ticks end word d.state).state ≡ s)
     named vector_end.Done h u = absurd u
     named vector_end.Illegal h u = inr h
-    named (vector_end.Fault store addr) h u = inl (record { undone = λ e. cc; legal = λ e. cc })
-    named (vector_end.Cut index) h u = inl (record { undone = λ e. cc; legal = λ e. cc })
+    named _ h u = inl (record { undone = λ e. cc; legal = λ e. cc })
 
 module _ (limit later : ℕ) (s : HartState) (more : Memory) (is : IsConfiguration s.vector.conf) where
   -- one that stops, and whose word is fetched again

@@ -46,7 +46,7 @@ use Rattle.rv_model.specs.step.VectorStep.{VectorStepped, arith_step, leaves, op
 use Rattle.rv_model.specs.step.WriteCall.{output_room, write_call, write_count}
 use Rattle.rv_model.specs.vector.Control.{control_value, csr_form, is_write, with_control, written_value}
 use Rattle.rv_model.specs.vector.ControlRegisters.{control_register, is_read_only}
-use Rattle.rv_model.proofs.text_lemmas.Pieces.{of_bool, of_either, of_test}
+use Rattle.rv_model.proofs.Choices.{of_bool, of_either, of_test}
 
 -- x0 reads the same
 abbrev pub SameFirst : Scalar → Scalar → Type 0

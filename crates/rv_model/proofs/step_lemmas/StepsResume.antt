@@ -29,7 +29,7 @@ use Rattle.rv_model.proofs.access_lemmas.InstructionsResume.{access_resumes}
 use Rattle.rv_model.proofs.access_lemmas.Runs.{IsAgain, access_again, again_of, is_stopped, made_of, run_facts, run_is, stopped_state}
 use Rattle.rv_model.proofs.legality_lemmas.Meaning.{is_legal_means}
 use Rattle.rv_model.proofs.step_lemmas.Cuts.{accessed_facts, cut_at, operation_whole}
-use Rattle.rv_model.proofs.text_lemmas.Pieces.{of_option, of_test}
+use Rattle.rv_model.proofs.Choices.{of_option, of_test}
 use Rattle.rv_model.proofs.step_lemmas.StoredWords.{SameWord, run_keeps_word}
 
 -- ---- an access that stops leaves its tail
@@ -37,23 +37,20 @@ use Rattle.rv_model.proofs.step_lemmas.StoredWords.{SameWord, run_keeps_word}
 kept_file : (g : Option GroupType) (a : VectorAccess) (end : MemEnd) (file : List ℕ) → end ≢ memory_end.Done → with_tails g a end file ≡ file
 kept_file None a end file h = refl
 kept_file (Some g) a memory_end.Done file h = absurd (h refl)
-kept_file (Some g) a (memory_end.Fault index addr) file h = refl
-kept_file (Some g) a (memory_end.Cut index) file h = refl
+kept_file (Some g) a _ file h = refl
 
 tails_alike : (g : Option GroupType) (a : VectorAccess) (mask : List ℕ) (start : ℕ) (address : ℕ → ℕ) (end : MemEnd) (file : List ℕ)
     → with_tails g (access_again a mask start address) end file ≡ with_tails g a end file
 tails_alike None a mask start address end file = refl
 tails_alike (Some g) a mask start address memory_end.Done file = refl
-tails_alike (Some g) a mask start address (memory_end.Fault index addr) file = refl
-tails_alike (Some g) a mask start address (memory_end.Cut index) file = refl
+tails_alike (Some g) a mask start address _ file = refl
 
 unless_done : (d : Direction) (end : MemEnd) → StopsShort (access_end d end) → end ≢ memory_end.Done
 unless_done d end h e = h.undone (ap (access_end d) e)
 
 not_illegal : (d : Direction) (end : MemEnd) → access_end d end ≢ vector_end.Illegal
 not_illegal d memory_end.Done e = absurd (cc)
-not_illegal d (memory_end.Fault index addr) e = absurd (cc)
-not_illegal d (memory_end.Cut index) e = absurd (cc)
+not_illegal d _ e = absurd (cc)
 
 -- ---- an instruction that does something, by the ticks that are left and the state
 
@@ -272,17 +269,14 @@ instruction_stops limit i s is stops = (executed_part limit 0 s (vector_executed
 
 after_more : (ticks more : ℕ) (end : VEnd) (word : ℕ) (s : HartState) → end ≢ vector_end.Illegal
     → after_vector (ticks + more) end word s ≡ after_ticks more (after_vector ticks end word s)
-after_more ticks more vector_end.Done word s legal = refl
 after_more ticks more vector_end.Illegal word s legal = absurd (legal refl)
-after_more ticks more (vector_end.Fault store addr) word s legal = refl
-after_more ticks more (vector_end.Cut index) word s legal = refl
+after_more ticks more _ word s legal = refl
 
 -- a step that is cut or faults leaves the state that its instruction does
 pub after_short : (ticks : ℕ) (end : VEnd) (word : ℕ) (s : HartState) → StopsShort end → (after_vector ticks end word s).state ≡ s
 after_short ticks vector_end.Done word s stops = absurd (stops.undone refl)
 after_short ticks vector_end.Illegal word s stops = absurd (stops.legal refl)
-after_short ticks (vector_end.Fault store addr) word s stops = refl
-after_short ticks (vector_end.Cut index) word s stops = refl
+after_short ticks _ word s stops = refl
 
 part_resumes : (limit later : ℕ) (i : Instr) (word : ℕ) (s : HartState) (more : Memory) → IsConfiguration s.vector.conf
     → StopsShort (vector_executed limit i s).end → Extends (vector_executed limit i s).state.memory more

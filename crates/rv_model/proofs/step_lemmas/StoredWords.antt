@@ -1,5 +1,5 @@
 -- A vector store with no byte in its own word leaves that word; no load changes any.
-use Rattle.std.proofs.Common.{◌≡◌, ◌≢◌, ℕ, zero, suc, ◌+◌, ◌-◌, ◌<◌, ◌≤◌, ◌⊎◌, inl, inr, Bool, true, false, ◌&&◌, cond, List, [], ◌∷◌, length, drop, refl, ◌∙◌, ap, arith, length-take}
+use Rattle.std.proofs.Common.{◌≡◌, ◌≢◌, ℕ, zero, suc, ◌+◌, ◌-◌, ◌<◌, ◌≤◌, ◌⊎◌, inl, inr, Bool, false, ◌&&◌, List, [], ◌∷◌, length, drop, refl, ◌∙◌, ap, arith, length-take}
 use Rattle.std.specs.Prelude.{All, nat_le, nat_lt}
 use Rattle.std.specs.FinMap.{get}
 use Rattle.std.specs.Simd.Lanes.{chunk}
@@ -8,16 +8,16 @@ use Rattle.rv_model.specs.declared.instructions.operations.Direction.{Direction}
 use Rattle.rv_model.specs.declared.instructions.operations.Direction.TheVariants as direction
 use Rattle.rv_model.specs.declared.memory.Access.TheVariants as access
 use Rattle.rv_model.specs.declared.step.memory_end.MemEnd.{MemEnd}
-use Rattle.rv_model.specs.declared.step.memory_end.MemEnd.TheVariants.{Cut, Done, Fault}
+use Rattle.rv_model.specs.declared.step.memory_end.MemEnd.TheVariants.{Done, Fault}
 use Rattle.rv_model.specs.declared.vector.state.VState.{VState}
 use Rattle.rv_model.specs.accesses.AccessRuns.{AccessRun, access_ends, directed_run, load_run, store_run}
-use Rattle.rv_model.specs.accesses.Transfers.{Moved, Ones, Plan, Transfer, TransferKind, bad_address, end_at, registers_loaded, stop_index, memory_stored, transfers, with_element}
+use Rattle.rv_model.specs.accesses.Transfers.{Moved, Ones, Plan, Transfer, TransferKind, end_at, registers_loaded, stop_index, memory_stored, transfers, with_element}
 use Rattle.rv_model.specs.accesses.VectorAccess.{VectorAccess, element_start, plan}
 use Rattle.rv_model.specs.memory.Memory.{Memory}
 use Rattle.rv_model.specs.step.Resumes.{IsApart}
 use Rattle.rv_model.proofs.access_lemmas.Moves.{stored-append}
 use Rattle.rv_model.proofs.memory_lemmas.Memory.{get-put_bytes_outside}
-use Rattle.rv_model.proofs.text_lemmas.Pieces.{of_either}
+use Rattle.rv_model.proofs.Choices.{of_either}
 
 -- the word at an address is the same in both
 abbrev pub SameWord : ℕ → Memory → Memory → Type 0
@@ -59,7 +59,9 @@ TransfersApart pc stop a = (i : ℕ) → a.body.start ≤ i → i < stop → All
 store_keeps : (limit : ℕ) (a : VectorAccess) (v : VState) (m : Memory) (pc : ℕ) → (store_run limit a v m).end ≢ Done
     → TransfersApart pc (store_run limit a v m).vector.vstart a → SameWord pc m (store_run limit a v m).memory
 unfolding store_run end_at
-store_keeps limit a v m pc = named (nat_le a.body.end stop) (nat_le (a.body.start + limit) stop)
+store_keeps limit a v m pc =
+    of_either Keeps (nat_le a.body.end stop) _ _ (λ ended h. absurd (ended refl))
+    (of_either Keeps (nat_le (a.body.start + limit) stop) _ _ (λ ended. kept) (λ ended. kept))
   where
     stop : ℕ
     stop = stop_index access.Store m (plan a false) a.body.start (a.body.start + limit) a.body.end
@@ -70,19 +72,14 @@ store_keeps limit a v m pc = named (nat_le a.body.end stop) (nat_le (a.body.star
     kept : TransfersApart pc stop a → SameWord pc m after
     kept h = transfers_kept m (element_start a) v.file (plan a false) a.body.start (stop - a.body.start) pc (λ k l g. h k l (omega (arith, g, l)))
 
-    run : Bool → Bool → AccessRun
-    run done reached = access_ends false a.body.end v after (cond done Done (cond reached (Cut stop) (Fault stop (bad_address access.Store m (plan a false stop)))))
-
-    named : (done reached : Bool) → (run done reached).end ≢ Done → TransfersApart pc (run done reached).vector.vstart a
-        → SameWord pc m (run done reached).memory
-    named true reached ended h = absurd (ended refl)
-    named false true ended h = kept h
-    named false false ended h = kept h
+    Keeps : MemEnd → Type 0
+    Keeps end =
+        let run : AccessRun = access_ends false a.body.end v after end in
+        run.end ≢ Done → TransfersApart pc run.vector.vstart a → SameWord pc m run.memory
 
 ends_memory : (first_only : Bool) (count : ℕ) (v : VState) (m : Memory) (end : MemEnd) → (access_ends first_only count v m end).memory ≡ m
-ends_memory first_only count v m Done = refl
-ends_memory first_only count v m (Cut index) = refl
 ends_memory first_only count v m (Fault index addr) = of_either (λ (r : AccessRun). r.memory ≡ m) (first_only && nat_lt 0 index) _ _ refl refl
+ends_memory first_only count v m _ = refl
 
 load_keeps : (limit : ℕ) (fill : Bool) (a : VectorAccess) (v : VState) (m : Memory) (pc : ℕ) → SameWord pc m (load_run limit fill a v m).memory
 unfolding load_run

@@ -20,27 +20,22 @@ use Rattle.rv_model.specs.step.VectorStep.{VectorStepped, access_step, accessed,
 use Rattle.rv_model.proofs.access_lemmas.RunsAgain.{IsUncut, directed_same}
 use Rattle.rv_model.proofs.step_lemmas.Cuts.{accessed_facts, cut_at, cut_index}
 use Rattle.rv_model.proofs.step_lemmas.Effects.{UnlessDone, vector_keeps}
+use Rattle.rv_model.proofs.Choices.{of_option}
 
 -- ---- at least one, and no more than are left
 
 ticks_within : (limit : ℕ) (i : Instr) (s : HartState) → 1 ≤ limit → (1 ≤ vector_ticks limit i s) × (vector_ticks limit i s ≤ limit)
-ticks_within limit (instr.Access i) s some = named (access_of i s.vector s.scalar) refl
-  where
-    ticks : Option VectorAccess → ℕ
-    ticks o = option_map_or (λ a. (accessed limit a s).reached - s.vector.vstart) o 1
-
-    named : (o : Option VectorAccess) → access_of i s.vector s.scalar ≡ o → (1 ≤ ticks o) × (ticks o ≤ limit)
-    named None e = (omega arith, omega (arith, some))
-    named (Some a) e = let f = (accessed_facts limit i a s e).ticks some in (omega (arith, f.0), omega (arith, f.1))
+ticks_within limit (instr.Access i) s some =
+    let ticks : Option VectorAccess → ℕ = λ o. option_map_or (λ a. (accessed limit a s).reached - s.vector.vstart) o 1 in
+    of_option (access_of i s.vector s.scalar) (λ o. (1 ≤ ticks o) × (ticks o ≤ limit)) (λ e. (omega arith, omega (arith, some)))
+    (λ a e. let f = (accessed_facts limit i a s e).ticks some in (omega (arith, f.0), omega (arith, f.1)))
 ticks_within limit _ s some = (omega arith, omega (arith, some))
 
 -- the ticks of an instruction are those of its step
 after_within : (limit ticks : ℕ) (end : VEnd) (word : ℕ) (s : HartState) → 1 ≤ limit → (1 ≤ ticks) × (ticks ≤ limit)
     → (1 ≤ (after_vector ticks end word s).ticks) × ((after_vector ticks end word s).ticks ≤ limit)
-after_within limit ticks vector_end.Done word s some h = h
 after_within limit ticks vector_end.Illegal word s some h = (omega arith, omega (arith, some))
-after_within limit ticks (vector_end.Fault store addr) word s some h = h
-after_within limit ticks (vector_end.Cut index) word s some h = h
+after_within limit ticks _ word s some h = h
 
 ticks_are_within : (limit : ℕ) (i : Instr) (word : ℕ) (s : HartState) → 1 ≤ limit
     → (1 ≤ (vector_step limit i word s).ticks) × ((vector_step limit i word s).ticks ≤ limit)
@@ -67,9 +62,8 @@ abbrev pub IsWhole : VEnd → Type 0
 IsWhole end = (index : ℕ) → end ≢ vector_end.Cut index
 
 uncut_access : (d : Direction) (end : MemEnd) → IsWhole (access_end d end) → IsUncut end
-uncut_access d memory_end.Done h = λ index e. absurd (cc)
-uncut_access d (memory_end.Fault at addr) h = λ index e. absurd (cc)
 uncut_access d (memory_end.Cut at) h = absurd (h at refl)
+uncut_access d _ h = λ index e. absurd (cc)
 
 module _ (limit larger : ℕ) (more : limit ≤ larger) (s : HartState) where
   -- more ticks change nothing
@@ -109,10 +103,8 @@ module _ (limit larger : ℕ) (more : limit ≤ larger) (s : HartState) where
   step_same i word = named (is_legal i s.vector.conf.vtype s.vector.vstart) i
     where
       whole_end : (ticks : ℕ) (end : VEnd) (state : HartState) → (after_vector ticks end word state).end ≢ step_end.Cut → IsWhole end
-      whole_end ticks vector_end.Done state h = λ index e. absurd (cc)
-      whole_end ticks vector_end.Illegal state h = λ index e. absurd (cc)
-      whole_end ticks (vector_end.Fault store addr) state h = λ index e. absurd (cc)
       whole_end ticks (vector_end.Cut at) state h = absurd (h refl)
+      whole_end ticks _ state h = λ index e. absurd (cc)
 
       by_access : (i : AccessInstr) (o : Option VectorAccess)
           → IsSameStep word (λ limit. access_step limit i o s) (λ limit. option_map_or (λ a. (accessed limit a s).reached - s.vector.vstart) o 1)

@@ -19,6 +19,7 @@ use Rattle.rv_model.specs.step.MemoryStep.{access_end}
 use Rattle.rv_model.specs.step.VectorStep.{VectorStepped, access_step, accessed, performed, vector_ends, vector_executed, vector_ticks}
 use Rattle.rv_model.proofs.access_lemmas.Runs.{AllOrShorter, AtEnd, AtStop, CutAt, FaultAt}
 use Rattle.rv_model.proofs.step_lemmas.Cuts.{RunFacts, accessed_facts}
+use Rattle.rv_model.proofs.Choices.{of_bool}
 
 -- one for each index from vstart on, or up to the length to which it was shortened, or to vstart where it faults; one that is cut
 -- takes all that are left
@@ -28,10 +29,6 @@ access_ticks limit a before after vector_end.Done =
     cond (a.first_only && nat_lt after.conf.vl before.conf.vl) (after.conf.vl - before.vstart + 1) (max 1 (a.body.end - before.vstart))
 access_ticks limit a before after (vector_end.Fault store addr) = after.vstart - before.vstart + 1
 access_ticks limit a before after (vector_end.Cut index) = limit
-
-not_shorter : (b : Bool) (m n : ℕ) → m ≡ n → (b && nat_lt m n) ≡ false
-not_shorter true m n e = le-ltb m n (omega (arith, e))
-not_shorter false m n e = refl
 
 module _ (limit : ℕ) (a : VectorAccess) (s : HartState) (f : RunFacts limit a s) where
   abbrev run : AccessRun
@@ -45,7 +42,7 @@ module _ (limit : ℕ) (a : VectorAccess) (s : HartState) (f : RunFacts limit a 
       → run.reached - s.vector.vstart ≡ access_ticks limit a s.vector after (access_end a.direction end)
   taken memory_end.Done (inl h) stop =
       omega (arith, h.1) ∙ sym (ap (λ (b : Bool). cond b (after.conf.vl - s.vector.vstart + 1) (max 1 (a.body.end - s.vector.vstart)))
-      (not_shorter a.first_only after.conf.vl s.vector.conf.vl h.0))
+      (of_bool a.first_only (λ b. (b && nat_lt after.conf.vl s.vector.conf.vl) ≡ false) (λ e. le-ltb after.conf.vl s.vector.conf.vl (omega (arith, h.0))) (λ e. refl)))
   taken memory_end.Done (inr h) stop =
       let shorter : (a.first_only && nat_lt after.conf.vl s.vector.conf.vl) ≡ true = and_from _ _ h.0 (lt-ltb after.conf.vl s.vector.conf.vl h.1.1.0) in
       omega (arith, h.1.0, h.1.1.1) ∙ sym (ap (λ (b : Bool). cond b (after.conf.vl - s.vector.vstart + 1) (max 1 (a.body.end - s.vector.vstart))) shorter)
@@ -73,5 +70,4 @@ ticks_show limit i a s e legal =
     same : (end : MemEnd) → access_ticks limit a s.vector (accessed limit a s).vector (access_end a.direction end)
         ≡ access_ticks limit a s.vector (access_step limit i (Some a) s).state.vector (access_end a.direction end)
     same memory_end.Done = refl
-    same (memory_end.Fault index addr) = refl
-    same (memory_end.Cut index) = refl
+    same _ = refl

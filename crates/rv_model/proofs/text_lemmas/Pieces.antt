@@ -1,5 +1,5 @@
 -- Texts without a newline: numbers, and what is made of such texts.
-use Rattle.std.proofs.Common.{◌≡◌, ℕ, zero, suc, ◌+◌, ◌/◌, ◌%◌, List, [], ◌∷◌, ◌++◌, get_or, Bool, true, false, refl, ap, arith, eqb, cond, Option, Some, None}
+use Rattle.std.proofs.Common.{◌≡◌, ℕ, zero, suc, ◌+◌, ◌/◌, ◌%◌, List, [], ◌∷◌, ◌++◌, get_or, true, false, refl, ap, arith, eqb}
 use Rattle.std.specs.Prelude.{not, decimal, codes, ◌==◌, nat_lt, flat_map}
 use Rattle.std.specs.Int.{to_be_bytes, w32, w64}
 use Rattle.std.proofs.lemmas.Bool.Decides.{nat_tests}
@@ -8,27 +8,8 @@ use Rattle.std.proofs.lemmas.Bool.{and_parts, and_from}
 use Rattle.hex.specs.Hex.{encode_lower, encode_with, lower_digits}
 use Rattle.rv_model.specs.commands.Printing.{hex8, hex16}
 use Rattle.rv_model.specs.text.Lines.{is_newline}
+use Rattle.rv_model.proofs.Choices.{of_either}
 use Rattle.rv_model.proofs.text_lemmas.Newlines.{is_line, IsLine}
-
--- what holds of both holds of the one that a test picks
-pub of_either : {A : Type 0} (P : A → Type 0) (b : Bool) (x y : A) → P x → P y → P (cond b x y)
-of_either P true x y h k = h
-of_either P false x y h k = k
-
--- also where each may know what the test gave
-pub of_test : {A : Type 0} (P : A → Type 0) (b : Bool) (x y : A) → (b ≡ true → P x) → (b ≡ false → P y) → P (cond b x y)
-of_test P true x y h k = h refl
-of_test P false x y h k = k refl
-
--- and of the test itself
-pub of_bool : (b : Bool) (P : Bool → Type 0) → (b ≡ true → P true) → (b ≡ false → P false) → P b
-of_bool true P h k = h refl
-of_bool false P h k = k refl
-
--- and what an option is
-pub of_option : {A : Type 0} (o : Option A) (P : Option A → Type 0) → (o ≡ None → P None) → ((a : A) → o ≡ Some a → P (Some a)) → P o
-of_option None P h k = h refl
-of_option (Some a) P h k = k a refl
 
 -- no newline in two parts, no newline in the whole
 pub is_line-append : (a b : List ℕ) → IsLine a → IsLine b → IsLine (a ++ b)

@@ -7,7 +7,7 @@ carry_out_unmasked-requires-clause-operands c =
     carry_inside c.parts-op.result.0 c.parts-op.result.1 c.in-Carry.vd c.in-Carry.vs2 c.args.vtype
     c.args.state.now.vstart
     (rw (c.in-Carry.is, ← c.parts-op.ensures.value) at c.requires.legal) in
-    (groups.sources.first, groups.sources.second)
+    (groups.first, groups.second)
 
 pub carry_out_unmasked-requires-clause-destination : goal.carry_out_unmasked-requires-clause-destination
 carry_out_unmasked-requires-clause-destination c =
