@@ -7,3 +7,4 @@ pub mod PageLaws
 pub mod ViewLaws
 pub mod RunLaws
 pub mod UserLaws
+pub mod TranslationLaws

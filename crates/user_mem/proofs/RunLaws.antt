@@ -1,5 +1,5 @@
 -- The bytes of one page from an address on: one frame holds them, one after another
-use Rattle.std.proofs.Common.{◌≡◌, ℕ, ◌+◌, ◌-◌, ◌*◌, ◌/◌, ◌%◌, ◌<◌, ◌≤◌, Bool, true, false, List, length, get_or, take, drop, Option, Some, None, refl, sym, ◌∙◌, ap, ◌⊎◌, inl, inr, arith}
+use Rattle.std.proofs.Common.{◌≡◌, ℕ, ◌+◌, ◌-◌, ◌*◌, ◌/◌, ◌%◌, ◌<◌, ◌≤◌, true, false, List, length, get_or, take, drop, Option, Some, None, refl, sym, ◌∙◌, ap, ◌⊎◌, inl, inr, arith}
 use Rattle.std.proofs.Math.Seq.{take-add}
 use Rattle.std.specs.Option.{option_map_or}
 use Rattle.std.specs.FinMap.{get}
@@ -7,8 +7,8 @@ use Rattle.std.proofs.lemmas.Bool.{cases_eq, cases_lt}
 use Rattle.std.proofs.lemmas.List.{length-take-le, length-drop, get_or-take, get_or-drop}
 use Rattle.rv_model.specs.declared.memory.Access.{Access}
 use Rattle.rv_model.specs.declared.memory.Access.TheVariants.{Monitor}
-use Rattle.rv_model.specs.memory.Memory.{Memory, permits, bytes_at, can_access, put_bytes, memory_byte, can_access_byte}
-use Rattle.rv_model.proofs.memory_lemmas.Memory.{same_memory, with_byte, get-put_bytes_within, get-put_bytes_outside, put_bytes-append, can_access_from, can_access_not, bytes_read}
+use Rattle.rv_model.specs.memory.Memory.{Memory, permits, bytes_at, put_bytes, memory_byte, can_access_byte}
+use Rattle.rv_model.proofs.memory_lemmas.Memory.{same_memory, with_byte, get-put_bytes_within, get-put_bytes_outside, put_bytes-append, bytes_read}
 use Rattle.rv_model.specs.memory.Sizes.{page_size}
 use Rattle.user_mem.specs.declared.entry.Entry.{Entry}
 use Rattle.user_mem.specs.Table.{entry_at, memory_of, AreSeparate, AreApart}
@@ -30,7 +30,7 @@ same_page : (x k : ℕ) → x % page_size + k < page_size → (x + k) / page_siz
 same_page x k l = omega arith
 
 -- all bytes of a page are allowed alike
-is_allowed_in_page : (access : Access) (frames : List ℕ) (es : List Entry) (x k : ℕ) → x % page_size + k < page_size → can_access_byte access (memory_of frames es) (x + k) ≡ can_access_byte access (memory_of frames es) x
+pub is_allowed_in_page : (access : Access) (frames : List ℕ) (es : List Entry) (x k : ℕ) → x % page_size + k < page_size → can_access_byte access (memory_of frames es) (x + k) ≡ can_access_byte access (memory_of frames es) x
 is_allowed_in_page access frames es x k l =
     is_allowed-memory_of access frames es (x + k)
     ∙ ap (λ (p : ℕ). option_map_or (λ e. permits access e.permissions) (entry_at es p) false) (same_page x k l)
@@ -72,22 +72,6 @@ read_more frames es a done next start n part buffer after here fits ok place lon
       ap (λ (i : ℕ). get_or after i 0) at ∙ pasted (j - done) (omega arith) ∙ same (j - done) within
       ∙ run_read Monitor frames es next (j - done) start (omega arith) ok place ∙ ap (memory_byte (memory_of frames es)) address
 ]
-
--- an access of bytes in one page is allowed where its first byte is
-pub allowed_in_page : (access : Access) (frames : List ℕ) (es : List Entry) (a n : ℕ) → 0 < n → a % page_size + n ≤ page_size → can_access access (memory_of frames es) a n ≡ can_access_byte access (memory_of frames es) a
-allowed_in_page access frames es a n some fits = split (can_access_byte access (memory_of frames es) a) refl
-  where
-    split : (b : Bool) → can_access_byte access (memory_of frames es) a ≡ b → can_access access (memory_of frames es) a n ≡ can_access_byte access (memory_of frames es) a
-    split true e = can_access_from access (memory_of frames es) a n (λ k l. is_allowed_in_page access frames es a k (omega arith) ∙ e) ∙ sym e
-    split false e = can_access_not access (memory_of frames es) a n 0 a some (omega arith) e ∙ sym e
-
--- where the byte of an address lies, by the frame of its page
-pub place_in_frame : (es : List Entry) (a start frame : ℕ) → ((e : Entry) × ((entry_at es (a / page_size) ≡ Some e) × (e.frame ≡ frame))) → start ≡ page_size * frame + a % page_size
-    → (e : Entry) → entry_at es (a / page_size) ≡ Some e → start ≡ page_size * e.frame + a % page_size
-place_in_frame es a start frame found place e here =
-    let same : Some found.0 ≡ Some e = sym found.1.0 ∙ here in
-    let entry : found.0 ≡ e = cc in
-    place ∙ ap (λ (f : ℕ). page_size * f + a % page_size) (sym found.1.1 ∙ ap (λ (x : Entry). x.frame) entry)
 
 -- a part of a frame is the bytes of the memory
 pub page_read : (access : Access) (frames : List ℕ) (es : List Entry) (a start n : ℕ) (part : List ℕ) → a % page_size + n ≤ page_size → can_access_byte access (memory_of frames es) a ≡ true

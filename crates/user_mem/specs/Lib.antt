@@ -2,4 +2,4 @@ pub mod Table
 pub mod Frames
 pub mod Pool
 pub mod Users
-pub mod Places
+pub mod Translations

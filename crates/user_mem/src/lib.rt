@@ -7,9 +7,9 @@ mod entry;
 mod frames;
 mod free;
 mod isolation;
-mod places;
 mod pool;
 mod table;
+mod translations;
 mod users;
 
 pub use isolation::isolation_law;

@@ -12,10 +12,10 @@ ghost use Rattle.user_mem.specs.Pool.{entries_of};
 use crate::access::{is_allowed, read};
 use crate::frames::FRAME_SIZE;
 use crate::free::{FreeFrames, all_free};
-use crate::places::NO_GUESSES;
 use crate::table::refusal;
+use crate::translations::Translations;
 use crate::users::{
-    PageRange, Places, Tables, Target, drop_pages, map_user, note_user, write_user,
+    AllTranslations, PageRange, Tables, Target, drop_pages, map_user, translate_user, write_user,
 };
 use arrayvec::ArrayVec;
 use rv_model::{Access, FRAME_COUNT, Fault, MapRefusal, Permissions, USER_COUNT, User};
@@ -36,7 +36,7 @@ pub struct NoMemory;
 #[derive(Drop)]
 pub struct Pool<A: Allocator = Global> {
     tables: Tables,
-    places: Places,
+    translations: AllTranslations,
     free: FreeFrames,
     frames: Vec<u8, A>,
 }
@@ -47,6 +47,7 @@ impl<A: Allocator> Model for Pool<A> {
     ghost use Rattle.rv_model.specs.memory.Memory.{Memory};
     ghost use Rattle.rv_model.specs.lending.StoredMemory.{coded_memory};
     ghost use Rattle.user_mem.specs.Pool.{entries_of, memories_of, IsPool};
+    ghost use Rattle.user_mem.specs.Translations.{AllTranslate};
 
     ghost Value = { List Memory };
 
@@ -54,7 +55,8 @@ impl<A: Allocator> Model for Pool<A> {
 
     ghost view = { λ p. memories_of p.frames.items (entries_of p.tables) };
 
-    ghost invariant = { λ p. IsPool (entries_of p.tables) p.free.items p.frames.items };
+    ghost invariant = { λ p.
+        IsPool (entries_of p.tables) p.free.items p.frames.items × AllTranslate (entries_of p.tables) p.translations };
 }
 
 impl<A: Allocator> Pool<A> {
@@ -67,7 +69,7 @@ impl<A: Allocator> Pool<A> {
         };
         Ok(Pool {
             tables: no_tables(),
-            places: [NO_GUESSES; USER_COUNT],
+            translations: [Translations::none(); USER_COUNT],
             free: all_free(),
             frames,
         })
@@ -105,16 +107,17 @@ impl<A: Allocator> Pool<A> {
         if let Some(refusal) = refusal(self.tables[user.index()].as_slice(), page, count) {
             return Err(refusal);
         }
+        let user = user.index();
         let pages = PageRange { first: page, count };
         map_user(
             &mut self.tables,
-            user.index(),
+            user,
             &mut self.free,
             self.frames.as_mut_slice(),
             pages,
             permissions,
         );
-        note_user(&mut self.places, &self.tables, user.index());
+        translate_user(&mut self.translations, &self.tables, user);
         Ok(())
     }
 
@@ -123,12 +126,14 @@ impl<A: Allocator> Pool<A> {
         ensures users { length self.old ≡ user_count }
         ensures dropped { self.new ≡ with_memory self.old user empty }
     {
+        let user = user.index();
         drop_pages(
             &mut self.tables,
-            user.index(),
+            user,
             &mut self.free,
             self.frames.as_slice(),
         );
+        translate_user(&mut self.translations, &self.tables, user);
     }
 
     /// How many pages a user has, at most `PAGE_QUOTA`.
@@ -150,7 +155,7 @@ impl<A: Allocator> Pool<A> {
     {
         let user = user.index();
         let entries = self.tables[user].as_slice();
-        if is_allowed(entries, &self.places[user], access, addr, len) {
+        if is_allowed(entries, &self.translations[user], access, addr, len) {
             Ok(())
         } else {
             Err(Fault { addr })
@@ -178,7 +183,14 @@ impl<A: Allocator> Pool<A> {
         let user = user.index();
         let entries = self.tables[user].as_slice();
         let frames = self.frames.as_slice();
-        read(entries, &self.places[user], frames, access, addr, buffer)
+        read(
+            entries,
+            &self.translations[user],
+            frames,
+            access,
+            addr,
+            buffer,
+        )
     }
 
     /// Writes bytes of a user from an address on. After a fault, as of `check`, nothing has changed.
@@ -200,7 +212,7 @@ impl<A: Allocator> Pool<A> {
     {
         write_user(
             &self.tables,
-            &self.places,
+            &self.translations,
             user.index(),
             self.frames.as_mut_slice(),
             Target { access, addr },

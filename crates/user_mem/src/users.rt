@@ -1,24 +1,25 @@
 //! The tables of all users over the pool's frames.
-ghost use Rattle.std.specs.Prelude.{◌≡◌, List, ℕ, ◌<◌, ◌≤◌, ◌+◌, ◌↔◌, [], None, true, IsOk, IfErr, OnOk, OnErr, length};
+ghost use Rattle.std.specs.Prelude.{◌≡◌, ◌≢◌, List, ℕ, ◌<◌, ◌≤◌, ◌+◌, ◌↔◌, [], None, true, IsOk, IfErr, OnOk, OnErr, length};
 ghost use Rattle.std.specs.Prelude.{slice_index_or, slice_set};
 ghost use Rattle.rv_model.specs.memory.Memory.{can_access, put_bytes, with_pages};
 ghost use Rattle.rv_model.specs.memory.Sizes.{page_quota, page_limit};
 ghost use Rattle.rv_model.specs.machine.Users.{user_count};
 ghost use Rattle.user_mem.specs.Table.{entry_at, memory_of};
-ghost use Rattle.user_mem.specs.Places.{AreNoted};
 ghost use Rattle.user_mem.specs.Pool.{IsPool, entries_of, table_at, memories_of};
+ghost use Rattle.user_mem.specs.Translations.{AllTranslate, Translates};
+ghost use Rattle.user_mem.specs.declared.translations.Translations.{Translations};
 
 use crate::access;
 use crate::free::{FreeFrames, give_back, take_pages};
-use crate::places::{LikelyPlaces, note_places};
 use crate::table::Table;
+use crate::translations::Translations;
 use rv_model::{Access, Fault, Permissions, USER_COUNT};
 
 /// The tables of all users, user 1 first.
 pub(crate) type Tables = [Table; USER_COUNT];
 
-/// The likely places of the pages of all users, user 1 first.
-pub(crate) type Places = [LikelyPlaces; USER_COUNT];
+/// The translations of the pages of all users, user 1 first.
+pub(crate) type AllTranslations = [Translations; USER_COUNT];
 
 /// Pages that follow one another: the number of the first, and how many they are.
 #[derive(Clone, Copy)]
@@ -47,6 +48,7 @@ pub(crate) fn map_user(
         ≡ slice_set (memories_of frames.old (entries_of tables.old)) user
         (with_pages (memory_of frames.old (table_at (entries_of tables.old) user))
         pages.first pages.count permissions) }
+    ensures others { (u : ℕ) → u ≢ user → table_at (entries_of tables.new) u ≡ table_at (entries_of tables.old) u }
     ensures size { length frames.new ≡ length frames.old }
 {
     take_pages(
@@ -59,13 +61,15 @@ pub(crate) fn map_user(
     );
 }
 
-/// Makes the places of the pages of the user at a place the likely ones.
-pub(crate) fn note_user(places: &mut Places, tables: &Tables, user: usize)
-    requires { user < user_count }
-    ensures { AreNoted (slice_index_or places.new user []) (table_at (entries_of tables.now) user)
-        (length (table_at (entries_of tables.now) user)) }
+/// Translates the pages of the user at a place anew, after they changed.
+pub(crate) fn translate_user(all: &mut AllTranslations, tables: &Tables, user: usize)
+    requires user { user < user_count }
+    requires pool { (free frames : List ℕ) × IsPool (entries_of tables.now) free frames }
+    requires others { (u : ℕ) (d : Translations) → u < user_count → u ≢ user
+        → Translates (table_at (entries_of tables.now) u) (slice_index_or all.old u d) }
+    ensures { AllTranslate (entries_of tables.now) all.new }
 {
-    note_places(&mut places[user], &tables[user]);
+    all[user] = Translations::of(tables[user].as_slice());
 }
 
 /// Unmaps all pages of the user at a place.
@@ -89,7 +93,7 @@ pub(crate) struct Target {
 #[inline(always)]
 pub(crate) fn write_user(
     tables: &Tables,
-    places: &Places,
+    all: &AllTranslations,
     user: usize,
     frames: &mut [u8],
     target: Target,
@@ -97,6 +101,7 @@ pub(crate) fn write_user(
 ) -> Result<(), Fault>
     requires user { user < user_count }
     requires pool { (free : List ℕ) × IsPool (entries_of tables.now) free frames.old }
+    requires translated { AllTranslate (entries_of tables.now) all.now }
     ensures allowed { IsOk result ↔ (can_access target.access
         (memory_of frames.old (table_at (entries_of tables.now) user)) target.addr (length bytes.now)
         ≡ true) }
@@ -111,7 +116,7 @@ pub(crate) fn write_user(
 {
     access::write(
         tables[user].as_slice(),
-        &places[user],
+        &all[user],
         frames,
         target.access,
         target.addr,

@@ -1,8 +1,6 @@
-use Rattle.std.proofs.Common.{sym, ◌∙◌, rules}
-use Rattle.user_mem.proofs.RunLaws.{allowed_in_page}
+use Rattle.std.proofs.Common.{sym}
+use Rattle.user_mem.proofs.TranslationLaws.{lies_accessed}
 use Rattle.user_mem.proofs.access.is_allowed.Goals as goal
 
-pub returns-then-is_in_one_page : goal.returns-then-is_in_one_page
-returns-then-is_in_one_page c = λ frames.
-    c.is_some.ensures ∙ c.frame_of.ensures.allowed frames
-    ∙ sym (allowed_in_page c.args.access frames c.args.entries.now c.args.addr c.args.len (search rules) (search rules))
+pub returns-in-Some : goal.returns-in-Some
+returns-in-Some c = λ frames. sym (lies_accessed c.args.entries.now c.args.access c.args.addr c.args.len _ (c.in-Some.ensures c.args.entries.now c.requires.translated) frames)

@@ -1,4 +1,4 @@
-use Rattle.std.proofs.Common.{◌+◌, ◌∙◌, sym, ap, arith, length, map, List, []}
+use Rattle.std.proofs.Common.{◌+◌, ◌∙◌, sym, ap, arith, length, map, List, [], get_or-set_other}
 use Rattle.std.proofs.lemmas.List.{map-set, get_or-map}
 use Rattle.rv_model.specs.memory.Memory.{with_pages}
 use Rattle.user_mem.specs.declared.entry.Entry.{Entry}
@@ -47,3 +47,6 @@ returns-clause-mapped c =
     (λ v within other. c.take_pages.ensures.others (table_at (map (λ t. t.items) c.args.tables.now) v)
     (pool_shares_no_frame (map (λ t. t.items) c.args.tables.now) c.args.free.now.items c.args.frames.now v c.requires.pool (omega (arith, users))))
     here)
+
+pub returns-clause-others : goal.returns-clause-others
+returns-clause-others c = λ u other. rw map-set (get_or-set_other (map (λ t. t.items) c.args.tables.now) c.args.user u c.take_pages.new.table.items [] other)

@@ -16,6 +16,7 @@ write-requires c =
       sorted = c.requires.pool.1.sorted c.args.user;
       below = c.requires.pool.1.below c.args.user;
       fit = table_fits (map (λ t. t.items) c.args.tables.now) c.requires.pool.0 c.args.frames.now c.args.user c.requires.pool.1 c.requires.user;
+      translated = c.requires.translated c.args.user _ c.requires.user;
       separate = table_is_separate (map (λ t. t.items) c.args.tables.now) c.requires.pool.0 c.args.frames.now c.args.user c.requires.pool.1 c.requires.user;
     })
 

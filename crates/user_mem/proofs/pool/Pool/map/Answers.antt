@@ -9,12 +9,12 @@ use Rattle.user_mem.proofs.pool.Pool.map.Goals as goal
 
 pub refusal-requires-clause-sorted : goal.refusal-requires-clause-sorted
 refusal-requires-clause-sorted g c =
-    fact_at (λ t. t.items) (λ t. IsSorted t) c.self.inside.tables c.index.result c.index-self-index.result c.as_slice.result.now (omega (arith, c.self.invariant.users)) c.as_slice.ensures.value (c.self.invariant.sorted c.index.result)
+    fact_at (λ t. t.items) (λ t. IsSorted t) c.self.inside.tables c.index.result c.index-self-index.result c.as_slice.result.now (omega (arith, c.self.invariant.0.users)) c.as_slice.ensures.value (c.self.invariant.0.sorted c.index.result)
 
 -- the refusal of the table is that of the memory
 refused : goal.returns-in-Some-clause-refused
 refused g c =
-    let seen = memory_at (λ t. t.items) c.self.inside.frames.items c.self.inside.tables c.args.user c.index.result c.index-self-index.result c.as_slice.result.now c.args.self.now c.self.view_is c.index.ensures.value (omega (arith, c.self.invariant.users)) c.as_slice.ensures.value in
+    let seen = memory_at (λ t. t.items) c.self.inside.frames.items c.self.inside.tables c.args.user c.index.result c.index-self-index.result c.as_slice.result.now c.args.self.now c.self.view_is c.index.ensures.value (omega (arith, c.self.invariant.0.users)) c.as_slice.ensures.value in
     ap (λ (m : Memory). map_refusal m c.args.page c.args.count) seen ∙ sym (c.refusal.ensures.value c.self.inside.frames.items) ∙ c.in-Some.is
 
 pub returns-in-Some-clause-accepted : goal.returns-in-Some-clause-accepted
@@ -31,10 +31,13 @@ pub returns-in-Some-clause-already_mapped : goal.returns-in-Some-clause-already_
 returns-in-Some-clause-already_mapped g c =
     refused_for (Err c.in-Some.refusal) (memory_of_user c.args.self.now c.args.user) c.args.page c.args.count AlreadyMapped (refused_is c.in-Some.refusal _ (refused g c)) (map_refusal-AlreadyMapped (memory_of_user c.args.self.now c.args.user) c.args.page c.args.count)
 
+pub translate_user-requires-clause-others : goal.translate_user-requires-clause-others
+translate_user-requires-clause-others g c = λ u d within other. rw (c.map_user.ensures.others u other) (c.self.invariant.1 u d within)
+
 -- no refusal of the table is none of the memory
 accepted : goal.returns-clause-accepted
 accepted g c =
-    let seen = memory_at (λ t. t.items) c.self.inside.frames.items c.self.inside.tables c.args.user c.index.result c.index-self-index.result c.as_slice.result.now c.args.self.now c.self.view_is c.index.ensures.value (omega (arith, c.self.invariant.users)) c.as_slice.ensures.value in
+    let seen = memory_at (λ t. t.items) c.self.inside.frames.items c.self.inside.tables c.args.user c.index.result c.index-self-index.result c.as_slice.result.now c.args.self.now c.self.view_is c.index.ensures.value (omega (arith, c.self.invariant.0.users)) c.as_slice.ensures.value in
     (λ _. ap (λ (m : Memory). map_refusal m c.args.page c.args.count) seen ∙ sym (c.refusal.ensures.value c.self.inside.frames.items) ∙ c.in_default.is, λ _. refl)
 
 pub returns-clause-accepted : goal.returns-clause-accepted

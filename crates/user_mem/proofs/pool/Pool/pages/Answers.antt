@@ -7,6 +7,6 @@ use Rattle.user_mem.proofs.pool.Pool.pages.Goals as goal
 
 pub returns-clause-value : goal.returns-clause-value
 returns-clause-value g c =
-    let sorted = fact_at (λ t. t.items) (λ t. IsSorted t) c.self.inside.tables c.index.result c.index-self-index.result (get_or c.self.inside.tables c.index.result c.index-self-index.result).items (omega (arith, c.self.invariant.users)) refl (c.self.invariant.sorted c.index.result) in
-    let seen = memory_at (λ t. t.items) c.self.inside.frames.items c.self.inside.tables c.args.user c.index.result c.index-self-index.result _ c.args.self.now c.self.view_is c.index.ensures.value (omega (arith, c.self.invariant.users)) refl in
+    let sorted = fact_at (λ t. t.items) (λ t. IsSorted t) c.self.inside.tables c.index.result c.index-self-index.result (get_or c.self.inside.tables c.index.result c.index-self-index.result).items (omega (arith, c.self.invariant.0.users)) refl (c.self.invariant.0.sorted c.index.result) in
+    let seen = memory_at (λ t. t.items) c.self.inside.frames.items c.self.inside.tables c.args.user c.index.result c.index-self-index.result _ c.args.self.now c.self.view_is c.index.ensures.value (omega (arith, c.self.invariant.0.users)) refl in
     c.len.ensures.value ∙ sym (ap page_count seen ∙ page_count-memory_of c.self.inside.frames.items (get_or c.self.inside.tables c.index.result c.index-self-index.result).items sorted)

@@ -1,0 +1,21 @@
+use Rattle.std.proofs.Common.{◌∙◌, refl, length, take, drop, ◌+◌, ◌-◌}
+use Rattle.user_mem.proofs.RunLaws.{page_read, part_at, part_length}
+use Rattle.user_mem.proofs.TranslationLaws.{lies_accessed, lies_allowed, lies_from}
+use Rattle.user_mem.proofs.access.read.Goals as goal
+
+pub returns-in-Some-clause-allowed : goal.returns-in-Some-clause-allowed
+returns-in-Some-clause-allowed c =
+    (λ _. lies_accessed c.args.entries.now c.args.access c.args.addr (length c.args.buffer.now) c.in-Some.at c.in-Some.ensures.lies c.args.frames.now, λ _. refl)
+
+pub returns-in-Some-clause-ok : goal.returns-in-Some-clause-ok
+returns-in-Some-clause-ok c =
+    let es = c.args.entries.now in
+    let frames = c.args.frames.now in
+    let access = c.args.access in
+    let a = c.args.addr in
+    let n = length c.args.buffer.now in
+    let at = c.in-Some.at in
+    let lies = c.in-Some.ensures.lies in
+    c.copy_from_slice.ensures.after
+    ∙ page_read access frames es a at n (take ((at + n) - at) (drop at frames)) lies.one_page (lies_allowed es access a n at lies frames) (lies_from es access a n at lies)
+    (part_length frames at n c.in-Some.ensures.within) (part_at frames at n)

@@ -1,0 +1,29 @@
+use Rattle.std.proofs.Common.{refl, length}
+use Rattle.user_mem.proofs.RunLaws.{run_written, others_unwritten}
+use Rattle.user_mem.proofs.TranslationLaws.{lies_accessed, lies_allowed, lies_from}
+use Rattle.user_mem.proofs.access.write.Goals as goal
+
+pub returns-in-Some-clause-allowed : goal.returns-in-Some-clause-allowed
+returns-in-Some-clause-allowed c =
+    (λ _. lies_accessed c.args.entries.now c.args.access c.args.addr (length c.args.bytes.now) c.in-Some.at c.in-Some.ensures.lies c.args.frames.now, λ _. refl)
+
+pub returns-in-Some-clause-ok : goal.returns-in-Some-clause-ok
+returns-in-Some-clause-ok c =
+    let es = c.args.entries.now in
+    let frames = c.args.frames.now in
+    let a = c.args.addr in
+    let n = length c.args.bytes.now in
+    let at = c.in-Some.at in
+    let lies = c.in-Some.ensures.lies in
+    run_written c.args.access frames c.paste.new.target es a at c.args.bytes.now c.requires.separate (lies_allowed es c.args.access a n at lies frames) (lies_from es c.args.access a n at lies)
+    lies.one_page c.paste.ensures.pasted c.paste.ensures.kept
+
+pub returns-in-Some-clause-others : goal.returns-in-Some-clause-others
+returns-in-Some-clause-others c = λ other apart.
+    let es = c.args.entries.now in
+    let frames = c.args.frames.now in
+    let a = c.args.addr in
+    let n = length c.args.bytes.now in
+    let at = c.in-Some.at in
+    let lies = c.in-Some.ensures.lies in
+    others_unwritten c.args.access frames c.paste.new.target es other a at n apart (lies_allowed es c.args.access a n at lies frames) (lies_from es c.args.access a n at lies) lies.one_page c.paste.ensures.kept
