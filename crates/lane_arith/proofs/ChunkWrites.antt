@@ -1,5 +1,5 @@
 -- Chunks of 32 bytes that are written one after another.
-use Rattle.std.proofs.Common.{subst, ℕ, zero, suc, ◌+◌, ◌-◌, ◌*◌, ◌/◌, ◌%◌, ◌^◌, ◌<◌, ◌≤◌, ◌≡◌, List, length, get_or, take, drop, Bool, true, false, cond, ◌&&◌, ◌||◌, nat_lt, refl, sym, ap, ◌∙◌, arith, inl, inr, ◌⊎◌, lt-ltb, le-ltb, mul-one, max, not, eqb, Fits, w8, add-zero}
+use Rattle.std.proofs.Common.{ℕ, zero, suc, ◌+◌, ◌-◌, ◌*◌, ◌/◌, ◌%◌, ◌^◌, ◌<◌, ◌≤◌, ◌≡◌, List, length, get_or, take, drop, Bool, true, false, cond, ◌&&◌, ◌||◌, nat_lt, refl, sym, ap, ◌∙◌, arith, inl, inr, ◌⊎◌, lt-ltb, le-ltb, mul-one, not, eqb, Fits, w8, add-zero}
 use Rattle.std.proofs.lemmas.Bool.Decides.{nat_tests}
 use Rattle.std.proofs.lemmas.Bool.{cases_lt}
 use Rattle.std.proofs.Math.Nat.{mul-le-mul_left, mul-suc, mul-add, mul_assoc, mul-zero, suc-mul}
@@ -7,10 +7,10 @@ use Rattle.std.proofs.lemmas.List.{drop-take, take-take, drop-drop}
 use Rattle.std.proofs.lemmas.Simd.{length-put_chunk, get_or-put_chunk_at, get_or-put_chunk_below, get_or-put_chunk_above, length-chunk, get_or-chunk, Each1-chunk, below_from_Fits}
 use Rattle.std.specs.Int.{byte_at}
 use lib.Lanes.{Each1, number_l, chunk, put_chunk}
-use Rattle.rv_model.specs.elements.Elements.{Body, element, in_body, in_range, is_enabled, is_active, is_changed, result_or_ones}
+use Rattle.rv_model.specs.elements.Elements.{Body, element, in_body, is_enabled, is_active, is_changed, result_or_ones}
 use Rattle.rv_model.specs.elements.Writes.{byte_or}
 use Rattle.rv_model.specs.lending.Writes.{Writes}
-use Rattle.rv_model.proofs.element_lemmas.Writes.{byte_at-is, writes_same, writes_then}
+use Rattle.rv_model.proofs.element_lemmas.Writes.{byte_at-is}
 use Rattle.lane_arith.proofs.MaskBits.{byte_of_number}
 
 -- the chunk c of n elements, each written where the test lets it through

@@ -1,5 +1,5 @@
 -- Bits that tell of the elements of a chunk.
-use Rattle.std.proofs.Common.{bit_xor, cond, lit<, ◌≡◌, ℕ, zero, suc, ◌+◌, ◌-◌, ◌*◌, ◌/◌, ◌%◌, ◌^◌, ◌<◌, ◌≤◌, Bool, true, false, not, eqb, List, [], ◌∷◌, length, get_or, refl, sym, ap, ◌∙◌, arith, bit_and, min, max, ◌&&◌, inl, inr, nat_le, le-leb, lt-ltb, le-ltb}
+use Rattle.std.proofs.Common.{bit_xor, cond, ◌≡◌, ℕ, zero, suc, ◌+◌, ◌-◌, ◌*◌, ◌/◌, ◌%◌, ◌^◌, ◌<◌, ◌≤◌, Bool, true, false, not, eqb, List, [], ◌∷◌, length, get_or, refl, sym, ap, ◌∙◌, arith, bit_and, min, max, ◌&&◌, inl, inr, nat_le, le-leb, lt-ltb, le-ltb}
 use Rattle.std.proofs.Math.Nat.{mul-add, mul-div-le, mul-div_cancel, mul-le-mul_left, mul-suc, mul-zero, mul_assoc, mul-le-mul_right, mul_comm, pow-le-pow_right, suc-mul, div-div-eq-div-mul, div-one, pow-succ'}
 use Rattle.std.proofs.lemmas.Bool.{cases_lt}
 use Rattle.std.proofs.lemmas.Bool.Decides.{nat_tests}

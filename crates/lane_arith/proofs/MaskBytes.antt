@@ -1,12 +1,12 @@
 -- Mask registers as SIMD vectors of 32 bytes, and their bits.
-use Rattle.std.proofs.Common.{bit_and, bit_or, bit_xor, ◌≡◌, ℕ, zero, suc, ◌+◌, ◌-◌, ◌*◌, ◌/◌, ◌%◌, ◌^◌, ◌<◌, ◌==◌, Bool, true, false, not, cond, eqb, ltb, List, length, get_or, map, replicate, refl, sym, ap, ◌∙◌, arith, min, max, ◌&&◌, ◌||◌, Fits, inl, inr, eqb-true, lt-ltb, le-ltb}
+use Rattle.std.proofs.Common.{bit_and, bit_or, bit_xor, ◌≡◌, ℕ, suc, ◌+◌, ◌-◌, ◌*◌, ◌/◌, ◌%◌, ◌^◌, ◌<◌, ◌==◌, Bool, true, false, not, cond, eqb, ltb, List, length, get_or, map, replicate, refl, sym, ap, ◌∙◌, arith, min, max, ◌&&◌, ◌||◌, Fits, inl, inr, eqb-true, lt-ltb, le-ltb}
 use Rattle.std.proofs.lemmas.Bool.{cases_lt, cases_order}
 use Rattle.std.proofs.lemmas.Bool.Decides.{nat_tests}
 use Rattle.std.proofs.lemmas.List.{get_or-map, length-map}
 use Rattle.std.proofs.lemmas.Nat.{or_lt, xor_lt}
 use Rattle.std.proofs.lemmas.Nat.Bits.{bit_at_and, bit_at_or, bit_at_xor, bit_at_not, bit_at-lt, bit_at_ones, bit_at_ones_above}
 use Rattle.std.proofs.Math.Nat.{zero-div}
-use Rattle.std.proofs.lemmas.Simd.{get_or-replicate, get_or-sel_l, get_or-zip2, length-replicate, length-sel_l, length-zip2, tops_compared, Each1-get_or, Each1-from_get_or}
+use Rattle.std.proofs.lemmas.Simd.{get_or-replicate, get_or-zip2, length-replicate, length-sel_l, length-zip2, tops_compared, Each1-get_or, Each1-from_get_or}
 use Rattle.std.specs.Int.{bit_not, w8}
 use lib.Bits.{and_le_r}
 use lib.Lanes.{Each1, sel_l, top, zip2}

@@ -1,10 +1,10 @@
 -- Signed numbers by way of unsigned ones, whose top bit is turned round.
-use Rattle.std.proofs.Common.{◌≡◌, ℕ, suc, ◌+◌, ◌-◌, ◌*◌, ◌/◌, ◌%◌, ◌^◌, ◌<◌, pos, negsuc, ◌-ℤ◌, refl, sym, ap, ◌∙◌, arith, inl, inr, mod-eq_of_lt, w8, w16, w32, w64}
+use Rattle.std.proofs.Common.{◌≡◌, ℕ, suc, ◌+◌, ◌-◌, ◌*◌, ◌/◌, ◌%◌, ◌^◌, ◌<◌, pos, negsuc, ◌-ℤ◌, refl, sym, ap, ◌∙◌, arith, inl, inr, mod-eq_of_lt, w8}
 use Rattle.std.proofs.lemmas.Bool.{cases_lt}
 use Rattle.std.proofs.lemmas.Int.{ints}
 use Rattle.std.proofs.lemmas.Nat.{div-mul-add, pow-add, pow_pos}
 use Rattle.std.proofs.Math.Nat.{add-mod_right, add-mul-div_left, div-add-mod, div-lt_iff_lt-mul, mod-lt, mul-add, mul-div_cancel_left, mul-suc, mul_comm}
-use Rattle.std.specs.Int.{Width, cast_signed, int_shr, w128}
+use Rattle.std.specs.Int.{Width, cast_signed, int_shr}
 use mir.Val.{bits, hbits}
 use Rattle.rv_model.specs.elements.Formulas.{wrap}
 

@@ -9,7 +9,6 @@ use Rattle.std.proofs.lemmas.Nat.Bits.{and_pow}
 use Rattle.std.proofs.lemmas.Simd.{bit_mask_l, bitmask_splat, mask_l-lt, get_or-zip2, length-zip2, get_or-replicate, length-replicate, tops_compared, get_or-sel_l, below_from_Fits, get_or_wider, get_or_narrower, Each1-from_get_or, Each2-of}
 use Rattle.std.specs.Int.{Width, w8, byte_at}
 use lib.Lanes.{mask_l, zip2, sel_l, top, Each1, Each2, number_l, digits_l}
-use mir.Syntax.{w16, w32, w64, w128}
 use mir.Val.{bits, hbits}
 use Rattle.rv_model.specs.elements.Elements.{element}
 use Rattle.rv_model.proofs.element_lemmas.Writes.{byte_at-is}

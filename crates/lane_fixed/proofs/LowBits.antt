@@ -1,11 +1,11 @@
 -- The bits of a whole number by its low 64 bits, and what rounding adds by them.
-use Rattle.std.proofs.Common.{◌≡◌, ℕ, zero, suc, ◌+◌, ◌-◌, ◌*◌, ◌/◌, ◌%◌, ◌^◌, ◌<◌, ◌≤◌, ℤ, pos, negsuc, ◌+ℤ◌, Bool, true, false, ◌&&◌, ◌||◌, not, eqb, nat_lt, refl, sym, subst, ap, ◌∙◌, arith, lit<, mod-eq_of_lt, w8, w16, w32, w64}
+use Rattle.std.proofs.Common.{◌≡◌, ℕ, zero, suc, ◌+◌, ◌-◌, ◌*◌, ◌/◌, ◌%◌, ◌^◌, ◌<◌, ◌≤◌, ℤ, pos, negsuc, ◌+ℤ◌, Bool, true, false, ◌&&◌, ◌||◌, not, eqb, nat_lt, refl, sym, subst, ap, ◌∙◌, arith, lit<, mod-eq_of_lt, w8, w64}
 use Rattle.std.proofs.Math.Nat.{div-div-eq-div-mul, div-le_self, mod-lt, pow-suc, pow-succ'}
 use Rattle.std.proofs.Math.Pow.{field, mod-mod-pow, mod-pow-add}
 use Rattle.std.proofs.lemmas.Bool.Decides.{nat_tests}
 use Rattle.std.proofs.lemmas.Int.{ints, to_z-of_z}
 use Rattle.std.proofs.lemmas.Nat.{div-mul-add, pow-add, pow_pos}
-use Rattle.std.specs.Int.{Width, cast_signed, cast_unsigned, from_bool, int_shr, w128}
+use Rattle.std.specs.Int.{Width, cast_signed, cast_unsigned, from_bool, int_shr}
 use Rattle.std.specs.Int.RustNames.{FitsSigned}
 use Rattle.std.specs.Int.Signed.{mag}
 use lib.Signed.{mag_shr}

@@ -1,5 +1,5 @@
 -- Elements that are copied side by side, as one block of bytes.
-use Rattle.std.proofs.Common.{ℕ, suc, ◌+◌, ◌-◌, ◌*◌, ◌<◌, ◌≤◌, ◌≡◌, Bool, true, false, cond, ◌&&◌, ◌||◌, nat_le, List, length, get_or, refl, sym, ap, ◌∙◌, arith, inl, inr, le-leb, le-ltb, lt-ltb, w8}
+use Rattle.std.proofs.Common.{ℕ, suc, ◌+◌, ◌-◌, ◌*◌, ◌<◌, ◌≤◌, ◌≡◌, true, false, cond, ◌&&◌, ◌||◌, nat_le, List, length, get_or, refl, sym, ap, ◌∙◌, arith, inl, inr, le-leb, le-ltb, lt-ltb, w8}
 use Rattle.std.proofs.Math.Bool.{and-false, or-false}
 use Rattle.std.proofs.Math.Nat.{mul-add, mul-le-mul_left, mul-suc}
 use Rattle.std.proofs.lemmas.Bool.{cases_lt, lt-leb}

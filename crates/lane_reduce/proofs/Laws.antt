@@ -5,7 +5,7 @@ use Rattle.std.proofs.Math.Nat.{mod-lt}
 use Rattle.std.proofs.lemmas.Int.{ints, of_z-to_z}
 use Rattle.std.proofs.lemmas.Nat.{and_assoc, and_comm, and_le_l, and_mask, or_comm, or_lt, xor_comm, xor_lt}
 use Rattle.std.proofs.lemmas.Nat.Bits.{bit_at_or, same_from_bits}
-use Rattle.std.specs.Int.{Width, cast_signed, int_max, int_min, w8, w16, w32, w64, w128}
+use Rattle.std.specs.Int.{Width, cast_signed, int_max, int_min, w8}
 use Rattle.std.specs.Int.Signed.{mag}
 use lib.Bits.{or_zero_r, xor_zero_r, xor_assoc}
 use mir.Val.{bits, hbits}

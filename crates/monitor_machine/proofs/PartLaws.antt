@@ -17,7 +17,6 @@ use Rattle.lazy_context.specs.LazyUnit.{IsSettled, record_of, state_of}
 use Rattle.user_mem.specs.Users.{no_memories, memory_of_user, with_memory}
 use Rattle.monitor_machine.specs.declared.context.Context.{Context}
 use Rattle.monitor_machine.specs.declared.parts.Parts.{Parts}
-use Rattle.monitor_machine.specs.Lenders.{later_memory}
 use Rattle.monitor_machine.specs.PartMoves.{PartsMove, machine_of}
 use Rattle.monitor_machine.specs.Parts.{Addresses, new_context, present, private_of, parts_of, states_of, world_of, IsWhole, UnitMoves}
 

@@ -15,7 +15,7 @@ use Rattle.rv_model.specs.images.Fields.{entry_of}
 use Rattle.rv_model.specs.images.Image.{memory_of_image}
 use Rattle.rv_model.specs.machine.Setup.{Image}
 use Rattle.rv_model.specs.declared.vector.state.VState.{VState}
-use Rattle.rv_model.specs.machine.UnitEvents.{can_be_loaded, unit_after_load}
+use Rattle.rv_model.specs.machine.UnitEvents.{can_be_loaded}
 use Rattle.rv_model.specs.machine.VectorUnit.{VectorUnit, unit_discarded}
 use Rattle.rv_model.specs.machine.UserMachine.{Outcome, refuses, replies}
 use Rattle.rv_model.specs.memory.Memory.{Memory, bytes_at, can_access, put_bytes, page_count}

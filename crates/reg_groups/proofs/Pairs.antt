@@ -15,7 +15,7 @@ use Rattle.rv_model.specs.declared.legality.Content.TheVariants.{Elements, Mask}
 use Rattle.rv_model.specs.declared.vector.types.Lmul.{Lmul}
 use Rattle.rv_model.specs.declared.vector.types.Lmul.TheVariants.{M1}
 use Rattle.rv_model.specs.declared.vector.types.Sew.{Sew}
-use Rattle.rv_model.specs.declared.vector.types.Sew.TheVariants.{E8, E16, E32, E64}
+use Rattle.rv_model.specs.declared.vector.types.Sew.TheVariants.{E8, E64}
 use Rattle.rv_model.specs.declared.vector.types.VType.{VType}
 use Rattle.rv_model.specs.legality.Legality.{compress_operands, whole_move_operands}
 use Rattle.rv_model.specs.legality.OperandShapes.{group, mask, v0}

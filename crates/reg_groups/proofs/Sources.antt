@@ -9,7 +9,7 @@ use Rattle.rv_model.specs.declared.legality.Operand.{Operand}
 use Rattle.rv_model.specs.declared.legality.Role.{Role}
 use Rattle.rv_model.specs.declared.legality.Role.TheVariants.{Read, Control}
 use Rattle.rv_model.specs.declared.legality.Shape.{Shape}
-use Rattle.rv_model.specs.declared.legality.Shape.TheVariants.{GatherIndices16, Reduction, WideReduction, WideSource, Narrowing}
+use Rattle.rv_model.specs.declared.legality.Shape.TheVariants.{GatherIndices16, WideSource}
 use Rattle.rv_model.specs.declared.vector.types.VType.{VType}
 use Rattle.rv_model.specs.legality.OperandShapes.{destination, first_source, mask, second_source, shape_operands, v0, vector_source}
 use Rattle.rv_model.specs.legality.RegisterOperands.{allows, are_legal, is_group, may_share, overlaps}

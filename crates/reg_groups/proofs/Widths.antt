@@ -2,10 +2,10 @@
 use Rattle.std.proofs.Common.{◌≡◌, ℕ, ◌*◌, ◌/◌, max, refl}
 use mir.Val.{bits}
 use Rattle.rv_model.specs.declared.instructions.operations.ExtendOp.{ExtendOp}
-use Rattle.rv_model.specs.declared.instructions.operations.ExtendOp.TheVariants.{VzextVf8, VsextVf8, VzextVf4, VsextVf4, VzextVf2, VsextVf2}
+use Rattle.rv_model.specs.declared.instructions.operations.ExtendOp.TheVariants.{VzextVf8}
 use Rattle.rv_model.specs.declared.legality.Role.TheVariants.{Read}
 use Rattle.rv_model.specs.declared.vector.types.Sew.{Sew}
-use Rattle.rv_model.specs.declared.vector.types.Sew.TheVariants.{E8, E16, E32, E64}
+use Rattle.rv_model.specs.declared.vector.types.Sew.TheVariants.{E8}
 use Rattle.rv_model.specs.declared.vector.types.VType.{VType}
 use Rattle.rv_model.specs.legality.Legality.{extension_source}
 use Rattle.rv_model.specs.lending.GroupBounds.{emul}

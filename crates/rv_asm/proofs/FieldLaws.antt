@@ -4,7 +4,7 @@ use Rattle.std.proofs.Math.Nat.{mod-eq_of_lt}
 use Rattle.rv_model.specs.instructions.BitFields.{field, Part, part, sum_of}
 use Rattle.rv_model.specs.instructions.Immediates.{branch_offset, jump_offset}
 use Rattle.rv_model.specs.declared.assembler.forms.Slot.{Slot}
-use Rattle.rv_model.specs.declared.assembler.forms.Slot.TheVariants.{Comma, Open, Close, V0, Scalar, Vector, Unsigned, Signed, Csr, VectorType, ShortVectorType, Mask, Word}
+use Rattle.rv_model.specs.declared.assembler.forms.Slot.TheVariants.{Scalar, Vector, Unsigned, Signed, Csr, VectorType, ShortVectorType, Mask, Word}
 use Rattle.rv_model.specs.declared.assembler.forms.UnsignedField.TheVariants as unsigned
 use Rattle.rv_model.specs.declared.assembler.forms.SignedField.TheVariants as signed
 use Rattle.rv_model.specs.assembler.Fields.{lowest, parts_of, value_of}

@@ -4,7 +4,7 @@ use Rattle.std.proofs.lemmas.Bool.{and_parts}
 use Rattle.rv_model.specs.assembler.Tokens.{Token, tokens, begins_run}
 use Rattle.rv_model.specs.instructions.BitFields.{sum_of}
 use Rattle.rv_model.specs.declared.assembler.forms.Slot.{Slot}
-use Rattle.rv_model.specs.declared.assembler.forms.Slot.TheVariants.{Comma, Open, Close, V0, Scalar, Vector, Unsigned, Signed, Csr, VectorType, ShortVectorType, Mask, Word}
+use Rattle.rv_model.specs.declared.assembler.forms.Slot.TheVariants.{Comma, Open, Close, Mask}
 use Rattle.rv_model.specs.assembler.Slots.{◌>>=◌, printed}
 use Rattle.rv_model.specs.assembler.Fields.{parts_of, placed, value_of}
 use Rattle.rv_model.specs.assembler.Table.{read_operands, printed_operands}

@@ -59,16 +59,12 @@ three c is =
     counted ∙ ap length (rules_are c is)
 
 simple_at : (k : ℕ) → (slice_index_or (quantum_rule ∷ script_rule ∷ image_rule ∷ []) k quantum_rule).is_simple ≡ true
-simple_at zero = refl
-simple_at (suc zero) = refl
-simple_at (suc (suc zero)) = refl
 simple_at (suc (suc (suc k))) = refl
+simple_at _ = refl
 
 free_at : (k : ℕ) → (slice_index_or (quantum_rule ∷ script_rule ∷ image_rule ∷ []) k quantum_rule).is_free ≡ true
-free_at zero = refl
-free_at (suc zero) = refl
-free_at (suc (suc zero)) = refl
 free_at (suc (suc (suc k))) = refl
+free_at _ = refl
 
 pub plain : (c : Command) → app_of c ≡ command_line → IsPlain c
 plain c is =
@@ -87,9 +83,8 @@ local c is =
 -- no other argument has the id of the first
 alone_at : (j : ℕ) → (slice_index_or (quantum_rule ∷ script_rule ∷ image_rule ∷ []) j quantum_rule).id ≡ codes "quantum" → j < 3 → j ≡ 0
 alone_at zero e lt = refl
-alone_at (suc zero) e lt = absurd (true≢false (sym (ap (λ id. bytes_eq id (codes "quantum")) e)))
-alone_at (suc (suc zero)) e lt = absurd (true≢false (sym (ap (λ id. bytes_eq id (codes "quantum")) e)))
 alone_at (suc (suc (suc j))) e lt = absurd (omega arith)
+alone_at _ e lt = absurd (true≢false (sym (ap (λ id. bytes_eq id (codes "quantum")) e)))
 
 id_at : (c : Command) → app_of c ≡ command_line → (k : ℕ) (d : Arg) → k < length (args_of c)
     → (slice_index_or (args_of c) k d).id.now ≡ (slice_index_or (quantum_rule ∷ script_rule ∷ image_rule ∷ []) k quantum_rule).id

@@ -1,7 +1,7 @@
 -- What the program's run came to, from the files that it read to the machine that it made.
-use Rattle.std.proofs.Common.{◌≡◌, ◌≢◌, ◌∙◌, ℕ, List, [], ◌∷◌, Bool, true, false, Option, Some, None, ap, arith, subst, sym, refl, length, map, not, ◌&&◌, ◌||◌, nat_le, nat_lt, if◌then◌else◌, is_some, true≢false, leb-true}
+use Rattle.std.proofs.Common.{◌≡◌, ◌≢◌, ℕ, List, [], ◌∷◌, Bool, true, false, Option, Some, None, ap, subst, sym, refl, length, map, not, ◌&&◌, ◌||◌, nat_le, nat_lt, if◌then◌else◌, is_some, true≢false, leb-true}
 use Rattle.std.specs.Borrow.{Bor}
-use Rattle.std.specs.Io.KnownBytes.{Consumes, IsAtEnd, Keeps}
+use Rattle.std.specs.Io.KnownBytes.{Consumes, IsAtEnd}
 use Rattle.std.specs.List.{AllZip, list_all}
 use Rattle.std.specs.Option.{option_map_or}
 use Rattle.std.proofs.KnownBytes.{Consumes-whole}
@@ -12,7 +12,6 @@ use Rattle.monitor_machine.specs.MachineState.{MachineState}
 use Rattle.monitor_machine.specs.NewFaults.{are_distinct, is_name, new_fault}
 use Rattle.monitor_machine.specs.declared.image.Image.{Image}
 use Rattle.monitor_machine.specs.declared.new_fault.NewFault.TheVariants as new_faults
-use Rattle.monitor_script.specs.declared.script.RunFault.TheVariants.{Read, TooLong, Write}
 use Rattle.rv_model.specs.machine.Script.{new_world}
 use Rattle.rv_model.specs.machine.Setup.{Image as NamedImage, Setup}
 use Rattle.vec_monitor.specs.CommandLine.{image_words, quantum_word, script_word, words_fault, IsQuantum}
@@ -20,11 +19,8 @@ use Rattle.vec_monitor.specs.ImageFiles.{named_file, IsFileOf}
 use Rattle.vec_monitor.specs.ImageWords.{IsNameAndPath, IsPathOf}
 use Rattle.vec_monitor.specs.KnownBytes.{AreKnownAs}
 use Rattle.vec_monitor.specs.ProgramRuns.{IsImageOf, RanOptions, RanScript, RanWords}
-use Rattle.vec_monitor.specs.Statuses.{program_status}
 use Rattle.vec_monitor.specs.declared.image_files.ImageFile.{ImageFile}
 use Rattle.vec_monitor.specs.declared.image_words.ImagePath.{ImagePath}
-use Rattle.vec_monitor.specs.declared.program_fault.ProgramFault.{ProgramFault}
-use Rattle.vec_monitor.specs.declared.program_fault.ProgramFault.TheVariants.{NoText, Usage, ImageWord, ImageRead, ImageList, Run, NoMemory}
 
 -- ---- known bytes
 
@@ -33,30 +29,11 @@ pub all_was_known : (known before after : Option (List ℕ)) (bytes : List ℕ) 
 all_was_known known before after bytes same given end =
     subst (λ it. AreKnownAs it bytes) same (Consumes-whole before after bytes (λ xs. bytes ≡ xs) given end refl)
 
-known_kept : (known before : Option (List ℕ)) (bytes : List ℕ) → Keeps known before → AreKnownAs before bytes → AreKnownAs known bytes
-known_kept None before bytes kept are = tt
-known_kept (Some xs) None bytes kept are = absurd kept
-known_kept (Some xs) (Some ys) bytes kept are = are ∙ kept
-
-pub script_kept : (setup : Setup) (known before : Option (List ℕ)) (took : List ℕ → Type 0) → Keeps known before → RanScript setup before took → RanScript setup known took
-script_kept setup known before took kept ran = record {
-  script = ran.script;
-  output = ran.output;
-  read = known_kept known before ran.script kept ran.read;
-  not_too_long = ran.not_too_long;
-  taken = ran.taken;
-  all = ran.all;
-  each_user = ran.each_user;
-}
-
 -- ---- images
 
 last_test : {X : Type 0} (a b c d : Bool) (w x y z : X) → (if a then Some w else if b then Some x else if c then Some y else if not d then Some z else None) ≡ None → d ≡ true
-last_test true b c d w x y z e = absurd (true≢false (ap is_some e))
-last_test false true c d w x y z e = absurd (true≢false (ap is_some e))
-last_test false false true d w x y z e = absurd (true≢false (ap is_some e))
 last_test false false false true w x y z e = refl
-last_test false false false false w x y z e = absurd (true≢false (ap is_some e))
+last_test _ _ _ _ w x y z e = absurd (true≢false (ap is_some e))
 
 abbrev is_small : NamedImage → Bool
 is_small image = nat_le (length image.bytes) 4194304
@@ -110,15 +87,3 @@ ran_words file_bytes input_bytes words quantum script images took accepted ticks
       ticks = ticks;
       run = subst (λ them. RanOptions file_bytes input_bytes quantum (script_word words) them took) images_are by_script;
     }
-
--- no fault has the status of a script that ended
-pub no_fault_is_done : (fault : ProgramFault) → program_status fault ≢ 0
-no_fault_is_done NoText e = absurd (omega (arith, e))
-no_fault_is_done (Usage text) e = absurd (omega (arith, e))
-no_fault_is_done ImageWord e = absurd (omega (arith, e))
-no_fault_is_done (ImageRead name) e = absurd (omega (arith, e))
-no_fault_is_done ImageList e = absurd (omega (arith, e))
-no_fault_is_done (Run Read) e = absurd (omega (arith, e))
-no_fault_is_done (Run TooLong) e = absurd (omega (arith, e))
-no_fault_is_done (Run Write) e = absurd (omega (arith, e))
-no_fault_is_done NoMemory e = absurd (omega (arith, e))

@@ -12,7 +12,7 @@ use Rattle.rv_model.specs.declared.instructions.source.Source.TheVariants as sou
 use Rattle.rv_model.specs.elements.Elements.{Body, element, in_body, is_active, is_changed, is_enabled, result_or_ones}
 use Rattle.rv_model.specs.lending.Writes.{Writes}
 use Rattle.rv_model.proofs.element_lemmas.Sets.{changed_inside, to_end}
-use Rattle.rv_model.proofs.element_lemmas.Writes.{begins, ends}
+use Rattle.rv_model.proofs.element_lemmas.Writes.{ends}
 use Rattle.lane_arith.proofs.ChunkWrites.{chunk_more, place, step_any}
 use Rattle.vec_unit.specs.InTurn.{IsReadFirst, SourceHasRegisters, SourceIsReadFirst, number_from, second_in, test_from}
 

@@ -1,5 +1,5 @@
 -- Groups that are written as elements of the list of all registers' bytes.
-use Rattle.std.proofs.Common.{ℕ, suc, ◌+◌, ◌-◌, ◌*◌, ◌/◌, ◌%◌, ◌^◌, ◌<◌, ◌≤◌, ◌≡◌, List, length, get_or, Bool, true, false, ◌&&◌, ◌||◌, nat_le, not, refl, sym, ap, ◌∙◌, arith, inl, inr, le-leb, append-nil, min, zero}
+use Rattle.std.proofs.Common.{ℕ, suc, ◌+◌, ◌-◌, ◌*◌, ◌/◌, ◌%◌, ◌^◌, ◌<◌, ◌≤◌, ◌≡◌, List, length, get_or, Bool, true, false, ◌&&◌, ◌||◌, nat_le, not, refl, sym, ap, ◌∙◌, arith, inl, inr, le-leb, append-nil, min}
 use Rattle.std.proofs.lemmas.Bool.{cases_lt, false_from_ne_true, lt-leb}
 use Rattle.std.proofs.lemmas.Grind.{div_ceil_times, same_number_lists}
 use Rattle.std.proofs.lemmas.List.{drop_all, take_all}

@@ -1,6 +1,6 @@
 -- That elements which are written by their numbers are bytes that are moved.
 use Rattle.std.proofs.Common.{◌≡◌, ℕ, zero, suc, ◌+◌, ◌-◌, ◌*◌, ◌<◌, ◌≤◌, ◌&&◌, Bool, Fits, false, List, [], ◌∷◌, drop, length, get_or, nat_lt, take, refl, sym, ap, ◌∙◌, inl, inr, arith, zero-add}
-use Rattle.std.specs.Int.{Width, byte_at, bytes_low_first, w8, w16, w32, w64, w128}
+use Rattle.std.specs.Int.{Width, byte_at, bytes_low_first, w8}
 use Rattle.std.specs.Prelude.{replicate}
 use Rattle.std.proofs.Math.Nat.{add-mul, mul_comm, mul-le-mul_left, mul-suc}
 use Rattle.std.proofs.lemmas.Bool.{cases_Bool}

@@ -1,12 +1,12 @@
 -- That segments of legal loads and stores have room in the registers.
 use Rattle.std.proofs.Common.{◌≡◌, ℕ, ◌+◌, ◌*◌, ◌≤◌, arith}
 use Rattle.rv_model.specs.declared.instructions.operations.RegisterCount.{RegisterCount}
-use Rattle.rv_model.specs.declared.instructions.operations.RegisterCount.TheVariants.{One, Two, Four, Eight}
+use Rattle.rv_model.specs.declared.instructions.operations.RegisterCount.TheVariants.{One}
 use Rattle.rv_model.specs.declared.instructions.operations.Eew.{Eew}
 use Rattle.rv_model.specs.declared.instructions.operations.Eew.TheVariants as width
 use Rattle.rv_model.specs.declared.vector.sizes.TheConstants.{VECTOR_REGISTERS, VLENB}
 use Rattle.rv_model.specs.declared.vector.types.Sew.{Sew}
-use Rattle.rv_model.specs.declared.vector.types.Sew.TheVariants.{E8, E16, E32, E64}
+use Rattle.rv_model.specs.declared.vector.types.Sew.TheVariants.{E8}
 use Rattle.rv_model.specs.accesses.VectorAccess.{whole_length}
 use Rattle.rv_model.specs.vector.Configuration.{GroupType, element_width, sew_width, width_bytes}
 use Rattle.rv_model.specs.lending.GroupBounds.{SegmentsInside}

@@ -4,8 +4,8 @@ use Rattle.std.specs.Str.Parse.{ParsesUnsigned, ExplainsUnsignedError, HasUnsign
 use Rattle.vec_monitor.proofs.CommandLineLaws.{images_in, images_read, taken_by, quantum_read, rows_by, script_read}
 use Rattle.vec_monitor.proofs.words.options.Goals as goal
 
-pub returns-clause-quantum : goal.returns-clause-quantum
-returns-clause-quantum c =
+pub returns : goal.returns
+returns c =
     let words = texts c.args.words.now in
     let command = c.in_ok-command.field-0 in
     let matches = c.in_ok-matches.matches in
@@ -13,32 +13,12 @@ returns-clause-quantum c =
     let read = quantum_read _ (λ text r. ParsesUnsigned 16 10 text r × ExplainsUnsignedError 10 text r × HasUnsignedDigitsIfOk text r) command matches words
     c.in_ok-command.ensures c.in_ok-matches.ensures.parsed rows (λ text r gives. gives.0)
     c.get_one.result c.from.result c.get_one.ensures.none c.get_one.ensures.value (search rules) in
-    read.0
-
-pub returns-clause-range : goal.returns-clause-range
-returns-clause-range c =
-    let words = texts c.args.words.now in
-    let command = c.in_ok-command.field-0 in
-    let matches = c.in_ok-matches.matches in
-    let rows = rows_by command matches words c.in_ok-command.ensures c.in_ok-matches.ensures.matches in
-    let read = quantum_read _ (λ text r. ParsesUnsigned 16 10 text r × ExplainsUnsignedError 10 text r × HasUnsignedDigitsIfOk text r) command matches words
-    c.in_ok-command.ensures c.in_ok-matches.ensures.parsed rows (λ text r gives. gives.0)
-    c.get_one.result c.from.result c.get_one.ensures.none c.get_one.ensures.value (search rules) in
-    (read.1, read.2)
-
-pub returns-clause-script : goal.returns-clause-script
-returns-clause-script c =
-    let words = texts c.args.words.now in
-    let rows = rows_by c.in_ok-command.field-0 c.in_ok-matches.matches words c.in_ok-command.ensures c.in_ok-matches.ensures.matches in
-    c.get_str.ensures ∙ script_read c.in_ok-matches.matches words rows
-
-pub returns-clause-images : goal.returns-clause-images
-returns-clause-images c =
-    let words = texts c.args.words.now in
-    let rows = rows_by c.in_ok-command.field-0 c.in_ok-matches.matches words c.in_ok-command.ensures c.in_ok-matches.ensures.matches in
-    let found = c.get_strs.ensures ∙ images_read c.in_ok-matches.matches words rows in
-    ap texts (c.in_ok-extend_from_slice.ensures.items ∙ ap (λ items. items ++ c.unwrap_or_default.result.now) c.new-images.ensures.items)
-    ∙ images_in _ c.get_strs.result c.unwrap_or_default.result _ found c.unwrap_or_default.ensures (λ none is. is)
-
-pub returns-clause-taken : goal.returns-clause-taken
-returns-clause-taken c = λ taken. taken_by c.in_ok-command.field-0 (texts c.args.words.now) c.in_ok-command.ensures c.in_ok-matches.ensures.kinds
+    record {
+      quantum = read.0;
+      range = (read.1, read.2);
+      script = c.get_str.ensures ∙ script_read matches words rows;
+      images = ap texts (c.in_ok-extend_from_slice.ensures.items ∙ ap (λ items. items ++ c.unwrap_or_default.result.now) c.new-images.ensures.items)
+          ∙ images_in _ c.get_strs.result c.unwrap_or_default.result _ (c.get_strs.ensures ∙ images_read matches words rows) c.unwrap_or_default.ensures (λ none is. is);
+      taken = λ taken. taken_by command words c.in_ok-command.ensures c.in_ok-matches.ensures.kinds;
+      refused = tt;
+    }

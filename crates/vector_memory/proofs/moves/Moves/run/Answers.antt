@@ -1,7 +1,5 @@
-use Rattle.std.proofs.Common.{subst, sym, ◌∙◌}
-use Rattle.rv_model.specs.declared.instructions.operations.UnitOp.{UnitOp}
+use Rattle.std.proofs.Common.{◌∙◌}
 use Rattle.rv_model.specs.declared.instructions.operations.UnitOp.TheVariants as unit
-use Rattle.vector_memory.specs.Runs.{RunLeaves, segments_run}
 use Rattle.vector_memory.proofs.MovedRuns.{leaves, load_runs, store_runs}
 use Rattle.vector_memory.proofs.moves.Moves.run.Goals as goal
 
