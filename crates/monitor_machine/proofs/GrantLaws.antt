@@ -16,7 +16,7 @@ use Rattle.rv_model.specs.declared.vector.state.VState.{VState}
 use Rattle.rv_model.specs.memory.Memory.{Memory}
 use Rattle.lazy_context.specs.declared.unit.Unit.{Unit}
 use Rattle.rv_model.specs.text.Lines.{text}
-use Rattle.rv_model.proofs.machine_lemmas.Headline.{eight_after_events}
+use Rattle.rv_model.proofs.machine_lemmas.Headline.{length-after_events}
 use Rattle.monitor_machine.specs.declared.context.Context.{Context}
 use Rattle.monitor_machine.specs.MachineState.{after_slice}
 use Rattle.monitor_machine.specs.Parts.{Addresses, IsWhole, context_standing, is_running, parts_of, present, private_of, states_of}
@@ -203,4 +203,4 @@ one_run_count u false = refl
 
 -- there is a machine for each user after some events, too
 pub eight_stay : (s : Setup) (w next : World) (es : List Happening) → next ≡ after_events s w es → length w.parts ≡ 8 → length next.parts ≡ 8
-eight_stay s w next es moved eight = ap (λ (v : World). length v.parts) moved ∙ eight_after_events s w es eight
+eight_stay s w next es moved eight = ap (λ (v : World). length v.parts) moved ∙ length-after_events s w es ∙ eight

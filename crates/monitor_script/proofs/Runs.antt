@@ -1,13 +1,12 @@
 -- A run of a script from read to read, and at its end.
-use Rattle.std.proofs.Common.{◌≡◌, ℕ, ◌+◌, ◌-◌, ◌<◌, ◌≤◌, ◌++◌, [], ◌∷◌, List, length, length-append, length-set, take, ap, ◌∙◌, sym, append_assoc, append-nil, arith, None, refl, subst}
+use Rattle.std.proofs.Common.{◌≡◌, ℕ, ◌+◌, ◌-◌, ◌<◌, ◌≤◌, ◌++◌, [], ◌∷◌, List, length, length-append, take, ap, ◌∙◌, sym, append_assoc, append-nil, arith, None, refl, subst}
 use Rattle.std.proofs.lemmas.List.{get_or-replicate, take_all}
 use Rattle.std.proofs.Math.Seq.{take-append-add}
 use Rattle.monitor_machine.specs.MachineState.{MachineState, after_line, line_output}
-use Rattle.rv_model.specs.machine.Setup.{Setup}
-use Rattle.rv_model.specs.machine.Script.{World, Happening, outcome_of, unit_after, after_one, after_all, after_events, with_unit, events_of, kind_of, told, told_all, whole_from, after_script, lines, own, own_from, new_world, world_after, with_user_machine, user_machine}
+use Rattle.rv_model.specs.machine.Script.{World, after_all, told, told_all, whole_from, after_script, lines, own, own_from, new_world, user_machine}
 use Rattle.rv_model.specs.machine.PrivateMachine.{Private, solo, solo_from}
 use Rattle.rv_model.specs.text.Lines.{pieces}
-use Rattle.rv_model.proofs.machine_lemmas.Headline.{headline, parts_after_turn}
+use Rattle.rv_model.proofs.machine_lemmas.Headline.{headline, length-after_all}
 use Rattle.monitor_script.specs.EndedLines.{ended_lines}
 use Rattle.monitor_script.specs.FailedWrites.{CutShort}
 use Rattle.monitor_script.specs.Feed.{Fed, Cut, fed}
@@ -134,29 +133,10 @@ cut_in_piece m0 front piece Ended m m' line left Before Took s cut joined =
     (ap pieces text ∙ t.more cut.back) (λ none. absurd (some_piece m0 cut.back none)) (sym on.machine) (sym on.line) cut.machine cut.less
     (subst Took (sym (append_assoc out one.output part) ∙ ap (λ (x : List ℕ). x ++ part) (sym on.output)) (joined (one.output ++ part) cut.output))
 
-parts_after_events : (s : Setup) (w : World) (hs : List Happening) → length (after_events s w hs).parts ≡ length w.parts
-parts_after_events s w [] = refl
-parts_after_events s w (h ∷ hs) =
-    let p : Private = (outcome_of s w h).next in
-    parts_after_events s (after_one s w h) hs
-    ∙ ap length (parts_after_turn h.turn h.user (with_unit (unit_after s w h) (with_user_machine h.user p w)))
-    ∙ length-set w.parts (h.user - 1) p
-
-parts_after : (s : Setup) (w : World) (line : List ℕ) → length (world_after s w line).parts ≡ length w.parts
-unfolding world_after
-parts_after s w line = parts_after_events s w (events_of s w (kind_of line))
-
-parts_after_all : (s : Setup) (w : World) (ls : List (List ℕ)) → length (after_all s w ls).parts ≡ length w.parts
-parts_after_all s w [] = refl
-parts_after_all s w (l ∷ ls) = parts_after_all s (world_after s w l) ls ∙ parts_after s w l
-
-parts_after_script : (s : Setup) (w : World) (script : List ℕ) → length (after_script s w script).parts ≡ length w.parts
-unfolding after_script
-parts_after_script s w script = parts_after_all s w (pieces script)
-
--- so where eight machines are left there were eight
+-- where eight machines are left there were eight
 pub eight_before : (m : MachineState) (now : World) (script : List ℕ) → now ≡ after_script m.setup m.world script → length now.parts ≡ 8 → length m.world.parts ≡ 8
-eight_before m now script e eight = sym (parts_after_script m.setup m.world script) ∙ sym (ap (λ (w : World). length w.parts) e) ∙ eight
+unfolding after_script
+eight_before m now script e eight = sym (length-after_all m.setup m.world (pieces script)) ∙ sym (ap (λ (w : World). length w.parts) e) ∙ eight
 
 new_part : (u : ℕ) → 1 ≤ u → u ≤ 8 → user_machine u new_world ≡ None
 unfolding new_world

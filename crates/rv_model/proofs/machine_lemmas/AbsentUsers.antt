@@ -14,7 +14,6 @@ use Rattle.rv_model.specs.declared.commands.registers.RegisterCommand.TheVariant
 use Rattle.rv_model.specs.declared.commands.running.RunningCommand.{RunningCommand}
 use Rattle.rv_model.specs.declared.commands.running.RunningCommand.TheVariants.{Step}
 use Rattle.rv_model.specs.declared.commands.refusal.Refusal.TheVariants as refusal
-use Rattle.rv_model.specs.declared.step.step_end.Stop.{Stop}
 use Rattle.rv_model.specs.commands.Commands.{Parsed, carried_out, commanded, needs_stopped, of_present, parse}
 use Rattle.rv_model.specs.commands.Programs.{image_named}
 use Rattle.rv_model.specs.images.Faults.{first_fault}
@@ -32,8 +31,8 @@ use Rattle.rv_model.specs.step.Step.{dirties, fetched, touches}
 use Rattle.rv_model.specs.text.Lines.{pieces}
 use Rattle.rv_model.proofs.command_lemmas.Commands.{IsThere, stays_there}
 use Rattle.rv_model.proofs.machine_lemmas.Grants.{AreUsers}
-use Rattle.rv_model.proofs.machine_lemmas.Headline.{eight_after, eight_after_one, part_after_one, part_other, part_same, users_of}
-use Rattle.rv_model.proofs.Choices.{of_either, of_test, of_bool}
+use Rattle.rv_model.proofs.machine_lemmas.Headline.{length-after, length-after_one, part_after_one, part_other, part_same, users_of}
+use Rattle.rv_model.proofs.Choices.{of_either, of_test, of_bool, of_option}
 
 -- ---- marks and owners
 
@@ -232,11 +231,8 @@ module _ (user : ℕ) (low : 1 ≤ user) (high : user ≤ 8) where
   unfolding sliced
   slice_there quantum p =
       let run : Halted = ticked quantum p in
-      of_either (λ (o : Outcome). IsThere o.next) p.running _ _ (ends run run.stop) tt
-    where
-      ends : (run : Halted) (reason : Option Stop) → IsThere (slice_ends run reason).next
-      ends run None = tt
-      ends run (Some reason) = tt
+      of_either (λ (o : Outcome). IsThere o.next) p.running _ _
+      (of_option run.stop (λ reason. IsThere (slice_ends run reason).next) (λ e. tt) (λ reason e. tt)) tt
 
   -- who is absent after an event has nothing of the unit, if who was absent had nothing
   absent_after : (s : Setup) (p : Private) (e : Event) (unit : VectorUnit) → (p ≡ None → HasNothing user unit)
@@ -289,7 +285,7 @@ all_keep_nothing : (s : Setup) (w : World) (hs : List Happening) → length w.pa
     → AbsentUsersHaveNothing (after_events s w hs)
 all_keep_nothing s w [] eight users nothing = nothing
 all_keep_nothing s w (h ∷ hs) eight users nothing =
-    all_keep_nothing s (after_one s w h) hs (eight_after_one s w h eight) users.2
+    all_keep_nothing s (after_one s w h) hs (length-after_one s w h ∙ eight) users.2
     (happenings_keep_nothing s w h users.0 users.1 eight nothing)
 
 lines_keep_nothing : (s : Setup) (w : World) (lines : List (List ℕ)) → length w.parts ≡ 8 → AbsentUsersHaveNothing w
@@ -297,7 +293,7 @@ lines_keep_nothing : (s : Setup) (w : World) (lines : List (List ℕ)) → lengt
 unfolding world_after
 lines_keep_nothing s w [] eight nothing = nothing
 lines_keep_nothing s w (line ∷ lines) eight nothing =
-    lines_keep_nothing s (world_after s w line) lines (eight_after s w line eight)
+    lines_keep_nothing s (world_after s w line) lines (length-after s w line ∙ eight)
     (all_keep_nothing s w (events_of s w (kind_of line)) eight (users_of s w line) nothing)
 
 pub scripts_keep_nothing : ScriptsKeepNothing

@@ -46,11 +46,10 @@ pub part_after_one : (s : Setup) (u : ℕ) (w : World) (h : Happening) → user_
 part_after_one s u w h =
     ap (λ parts. get_or parts (u - 1) None) (parts_after_turn h.turn h.user (with_unit (unit_after s w h) (with_user_machine h.user (outcome_of s w h).next w)))
 
-pub eight_after_one : (s : Setup) (w : World) (h : Happening) → length w.parts ≡ 8 → length (after_one s w h).parts ≡ 8
-eight_after_one s w h eight =
+pub length-after_one : (s : Setup) (w : World) (h : Happening) → length (after_one s w h).parts ≡ length w.parts
+length-after_one s w h =
     ap length (parts_after_turn h.turn h.user (with_unit (unit_after s w h) (with_user_machine h.user (outcome_of s w h).next w)))
     ∙ length-set w.parts (h.user - 1) (outcome_of s w h).next
-    ∙ eight
 
 -- one event's lines before those of the others
 abbrev Splits : Setup → ℕ → List (List ℕ) → World → Event → List Happening → ℕ → Type 0
@@ -81,7 +80,7 @@ lines_told_by s u w (h ∷ es) rest low high eight users =
     let v = h.user in
     let e = h.event in
     let w' : World = after_one s w h in
-    let ih = lines_told_by s u w' es rest low high (eight_after_one s w h eight) users.2 in
+    let ih = lines_told_by s u w' es rest low high (length-after_one s w h ∙ eight) users.2 in
     ap (lines u) (append_assoc (text (48 + v) (event s (user_machine v w) e).lines) (told_by s w' es) rest)
     ∙ lines_text u (48 + v) (event s (user_machine v w) e).lines (told_by s w' es ++ rest) (no_newline v) (event_lines s (user_machine v w) e)
     ∙ ap (λ (b : Bool). cond b (event s (user_machine v w) e).lines [] ++ lines u (told_by s w' es ++ rest)) (same_digit u v)
@@ -106,16 +105,16 @@ part_after_events s u w [] low high eight users = refl
 part_after_events s u w (h ∷ es) low high eight users =
     let v = h.user in
     let e = h.event in
-    part_after_events s u (after_one s w h) es low high (eight_after_one s w h eight) users.2
+    part_after_events s u (after_one s w h) es low high (length-after_one s w h ∙ eight) users.2
     ∙ ap (λ (q : Private). end_of s q (mine u es)) (part_after_one s u w h)
     ∙ elim (cases_eq v u) [
       | inl h ↦ subst (Ends s u w e es) (sym h) (ends_same s u w e es low (omega (arith, high, eight)))
       | inr ne ↦ ends_other s u w e es v low users.0 ne
     ]
 
-pub eight_after_events : (s : Setup) (w : World) (es : List Happening) → length w.parts ≡ 8 → length (after_events s w es).parts ≡ 8
-eight_after_events s w [] eight = eight
-eight_after_events s w (h ∷ hs) eight = eight_after_events s (after_one s w h) hs (eight_after_one s w h eight)
+pub length-after_events : (s : Setup) (w : World) (es : List Happening) → length (after_events s w es).parts ≡ length w.parts
+length-after_events s w [] = refl
+length-after_events s w (h ∷ hs) = length-after_events s (after_one s w h) hs ∙ length-after_one s w h
 
 -- a line's events are those of one of the eight
 users_prefixed : (s : Setup) (w : World) (line : List ℕ) → AreUsers (events_of s w (prefixed line))
@@ -155,9 +154,9 @@ mine-append u (h ∷ a) b =
     of_bool (eqb h.user u) (λ t. cond t (h.event ∷ mine u (a ++ b)) (mine u (a ++ b)) ≡ cond t (h.event ∷ mine u a) (mine u a) ++ mine u b)
     (λ e. ap (λ (x : List Event). h.event ∷ x) (mine-append u a b)) (λ e. mine-append u a b)
 
-pub eight_after : (s : Setup) (w : World) (line : List ℕ) → length w.parts ≡ 8 → length (world_after s w line).parts ≡ 8
+pub length-after : (s : Setup) (w : World) (line : List ℕ) → length (world_after s w line).parts ≡ length w.parts
 unfolding world_after
-eight_after s w line eight = eight_after_events s w (events_of s w (kind_of line)) eight
+length-after s w line = length-after_events s w (events_of s w (kind_of line))
 
 part_after : (s : Setup) (u : ℕ) (w : World) (line : List ℕ) → 1 ≤ u → u ≤ 8 → length w.parts ≡ 8 → user_machine u (world_after s w line) ≡ end_of s (user_machine u w) (mine u (events_of s w (kind_of line)))
 unfolding world_after
@@ -183,7 +182,7 @@ lines_told_all s u w [] low high eight = lines_none u
 lines_told_all s u w (l ∷ ls) low high eight =
     let es : List Happening = events_of s w (kind_of l) in
     lines_told s u w l (told_all s (world_after s w l) ls) low high eight
-    ∙ ap (λ (x : List (List ℕ)). solo_from s (user_machine u w) (mine u es) ++ x) (lines_told_all s u (world_after s w l) ls low high (eight_after s w l eight))
+    ∙ ap (λ (x : List (List ℕ)). solo_from s (user_machine u w) (mine u es) ++ x) (lines_told_all s u (world_after s w l) ls low high (length-after s w l ∙ eight))
     ∙ ap (λ (p : Private). solo_from s (user_machine u w) (mine u es) ++ solo_from s p (mine u (schedule s (world_after s w l) ls))) (part_after s u w l low high eight)
     ∙ sym (solo-append s (user_machine u w) (mine u es) (mine u (schedule s (world_after s w l) ls)))
     ∙ ap (solo_from s (user_machine u w)) (sym (mine-append u es (schedule s (world_after s w l) ls)))
@@ -192,9 +191,9 @@ pub headline : (s : Setup) (u : ℕ) (w : World) (script : List ℕ) → 1 ≤ u
 unfolding whole_from own_from
 headline s u w script low high eight = lines_told_all s u w (pieces script) low high eight
 
-pub eight_after_all : (s : Setup) (w : World) (ls : List (List ℕ)) → length w.parts ≡ 8 → length (after_all s w ls).parts ≡ 8
-eight_after_all s w [] eight = eight
-eight_after_all s w (l ∷ ls) eight = eight_after_all s (world_after s w l) ls (eight_after s w l eight)
+pub length-after_all : (s : Setup) (w : World) (ls : List (List ℕ)) → length (after_all s w ls).parts ≡ length w.parts
+length-after_all s w [] = refl
+length-after_all s w (l ∷ ls) = length-after_all s (world_after s w l) ls ∙ length-after s w l
 
 end_of-append : (s : Setup) (p : Private) (a b : List Event) → end_of s p (a ++ b) ≡ end_of s (end_of s p a) b
 end_of-append s p [] b = refl
@@ -205,7 +204,7 @@ part_after_all : (s : Setup) (u : ℕ) (w : World) (ls : List (List ℕ)) → 1 
 part_after_all s u w [] low high eight = refl
 part_after_all s u w (l ∷ ls) low high eight =
     let es : List Happening = events_of s w (kind_of l) in
-    part_after_all s u (world_after s w l) ls low high (eight_after s w l eight)
+    part_after_all s u (world_after s w l) ls low high (length-after s w l ∙ eight)
     ∙ ap (λ (p : Private). end_of s p (mine u (schedule s (world_after s w l) ls))) (part_after s u w l low high eight)
     ∙ sym (end_of-append s (user_machine u w) (mine u es) (mine u (schedule s (world_after s w l) ls)))
     ∙ ap (end_of s (user_machine u w)) (sym (mine-append u es (schedule s (world_after s w l) ls)))
@@ -240,4 +239,4 @@ equal_parts_answer_alike s one two h low high first second same = (
 
 pub machines_stay_eight : MachinesStayEight
 unfolding after_script
-machines_stay_eight s w script eight = eight_after_all s w (pieces script) eight
+machines_stay_eight s w script eight = length-after_all s w (pieces script) ∙ eight
