@@ -14,8 +14,8 @@ const STACK_TOP: u64 = 0x7fff_efc0;
 /// told to.
 #[derive(Drop)]
 pub(crate) struct Context {
-    pub(crate) entered: bool,
     pub(crate) scalar: Scalar,
+    pub(crate) entered: bool,
     pub(crate) policy: Policy,
     pub(crate) output: ArrayVec<u8, OUTPUT_SIZE>,
     pub(crate) breakpoints: AddressSet,
@@ -33,8 +33,8 @@ impl Context {
         ensures { result ≡ new_context }
     {
         Context {
-            entered: false,
             scalar: Scalar::new(),
+            entered: false,
             policy: Policy::Keep,
             output: ArrayVec::new(),
             breakpoints: AddressSet::new(),

@@ -16,7 +16,7 @@ use crate::lenders::{UserMemory, UserVectors};
 use crate::parts::Parts;
 use crate::trace::Trace;
 use hart::{Vectors, View, step};
-use rv_model::{StepEnd, Stop};
+use rv_model::{Policy, StepEnd, Stop};
 use std::alloc::Allocator;
 use vector_memory::UserBytes;
 
@@ -48,8 +48,10 @@ fn step_context<M: UserBytes, V: Vectors>(
     context: &mut Context,
     memory: &mut M,
     vectors: &mut V,
+    policy: Policy,
     limit: usize,
 ) -> (StepEnd, usize)
+    requires policy { policy ≡ context.old.policy }
     requires ready { V.ready vectors.old }
     requires limit { 1 ≤ limit }
     ensures model { LeadsTo (step_spec limit)
@@ -62,7 +64,6 @@ fn step_context<M: UserBytes, V: Vectors>(
         (hart_state context.old.scalar (V.lent vectors.old).state (M.memory memory.old) context.old.policy)
         vectors.old vectors.new }
 {
-    let policy = context.policy;
     let mut view = View {
         scalar: &mut context.scalar,
         memory,
@@ -79,8 +80,10 @@ fn step_lent<M: UserBytes>(
     context: &mut Context,
     memory: &mut M,
     vectors: &mut UserVectors<'_>,
+    policy: Policy,
     limit: usize,
 ) -> (StepEnd, usize)
+    requires policy { policy ≡ context.old.policy }
     requires limit { 1 ≤ limit }
     requires settled { IsSettled vectors.old.unit.now }
     ensures model { LeadsTo (step_spec limit) (context_state context.old (lent_state vectors.old) (M.memory memory.old))
@@ -92,7 +95,7 @@ fn step_lent<M: UserBytes>(
         (try_of limit context.old (lent_state vectors.old) (M.memory memory.old)) (record_of vectors.old.unit.now) }
 {
     vectors.unit.lending_law(vectors.user);
-    step_context(context, memory, vectors, limit)
+    step_context(context, memory, vectors, policy, limit)
 }
 
 /// Tries one instruction of a user, within `limit` ticks. Answers why the program stops, if it
@@ -104,18 +107,21 @@ fn try_instruction<A: Allocator, M: UserBytes>(
     trace: &mut Trace<A>,
     vectors: &mut UserVectors<'_>,
     memory: &mut M,
+    policy: Policy,
     limit: usize,
 ) -> (Option<Stop>, usize)
+    requires policy { policy ≡ context.old.policy }
     requires limit { 1 ≤ limit }
     requires settled { IsSettled vectors.old.unit.now }
     ensures run { TriesTo limit (lent M.memory context.old trace.old vectors.old memory.old)
         (lent M.memory context.new trace.new vectors.new memory.new) result.0 result.1 }
     ensures entered { context.new.entered ≡ context.old.entered }
+    ensures policy { context.new.policy ≡ context.old.policy }
     ensures memory { memory.new ≡ M.with_memory memory.old (M.memory memory.new) }
     ensures vectors { VectorsMove vectors.old vectors.new }
 {
     let addr = context.scalar.pc;
-    let (end, ticks) = step_lent(context, memory, vectors, limit);
+    let (end, ticks) = step_lent(context, memory, vectors, policy, limit);
     context.fresh = false;
     if matches!(end, StepEnd::Ran) {
         trace.record(addr);
@@ -143,13 +149,14 @@ fn steps_lent<A: Allocator, M: UserBytes>(
     ensures memory { memory.new ≡ M.with_memory memory.old (M.memory memory.new) }
     ensures vectors { VectorsMove vectors.old vectors.new }
 {
+    let policy = context.policy;
     let mut exempt = true;
     for _ in 0..count {
         if context.is_held(exempt) {
             return Some(Stop::Breakpoint);
         }
         exempt = false;
-        let (stop, _) = try_instruction(context, trace, vectors, memory, MAX_TICKS);
+        let (stop, _) = try_instruction(context, trace, vectors, memory, policy, MAX_TICKS);
         if let Some(stop) = stop {
             return Some(stop);
         }
@@ -198,12 +205,13 @@ fn slice_lent<A: Allocator, M: UserBytes>(
     ensures memory { memory.new ≡ M.with_memory memory.old (M.memory memory.new) }
     ensures vectors { VectorsMove vectors.old vectors.new }
 {
+    let policy = context.policy;
     let mut left = quantum;
     while left > 0 {
         if context.is_held(context.fresh) {
             return Some(Stop::Breakpoint);
         }
-        let (stop, ticks) = try_instruction(context, trace, vectors, memory, left);
+        let (stop, ticks) = try_instruction(context, trace, vectors, memory, policy, left);
         if let Some(stop) = stop {
             return Some(stop);
         }

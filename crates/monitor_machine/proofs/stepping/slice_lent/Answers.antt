@@ -65,6 +65,7 @@ loop-left-preserved g c =
           (subst (λ (o : Option Stop). TriesTo c.loop-left.left a b o ticks) c.in_default.is c.try_instruction-stop.ensures.run) c.try_instruction-stop.ensures.vectors.user later);
       vectors = lent_twice c.args.vectors.now c.loop-left.vectors c.try_instruction-stop.new.vectors c.loop-left.invariant.vectors c.try_instruction-stop.ensures.vectors;
       entered = c.try_instruction-stop.ensures.entered ∙ c.loop-left.invariant.entered;
+      policy = c.loop-left.invariant.policy ∙ sym c.try_instruction-stop.ensures.policy;
       memory =
           c.try_instruction-stop.ensures.memory
           ∙ ap (λ u. g.M.UserBytes.with_memory u (g.M.UserBytes.memory c.try_instruction-stop.new.memory)) c.loop-left.invariant.memory

@@ -11,6 +11,7 @@ invariant-loop-left g l = record {
       → TicksTo l.quantum (lent g.M.UserBytes.memory l.fn.context l.fn.trace l.fn.vectors l.fn.memory) end reason;
   vectors : VectorsMove l.fn.vectors l.vectors;
   entered : l.context.entered ≡ l.fn.context.entered;
+  policy : l.policy ≡ l.context.policy;
   memory : l.memory ≡ g.M.UserBytes.with_memory l.fn.memory (g.M.UserBytes.memory l.memory);
 }
 
