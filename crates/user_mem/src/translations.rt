@@ -68,18 +68,17 @@ fn put_page(pages: &mut Pages, entry: Entry, access: Access)
     }
 }
 
-/// The pages of a table that may be accessed so.
-fn pages_of(entries: &[Entry], access: Access) -> Pages
+/// Puts the pages of a table that may be accessed so at their places, and no page at any other.
+fn set_pages(pages: &mut Pages, entries: &[Entry], access: Access)
     requires sorted { IsSorted entries.now }
     requires below { AreBelow entries.now }
     requires fit { FitIn entries.now (page_size * frame_count) }
-    ensures { AreTranslated entries.now access result }
+    ensures { AreTranslated entries.now access pages.new }
 {
-    let mut pages = no_pages();
+    *pages = no_pages();
     for index in 0..entries.len() {
-        put_page(&mut pages, entries[index], access);
+        put_page(pages, entries[index], access);
     }
-    pages
 }
 
 /// Where the bytes of an access lie in the frames, if they lie in a page that has its place.
@@ -110,19 +109,17 @@ impl Translations {
         }
     }
 
-    /// The pages of a table.
-    pub(crate) fn of(entries: &[Entry]) -> Translations
+    /// Takes the pages of a table, in place of those that were there.
+    pub(crate) fn set(&mut self, entries: &[Entry])
         requires sorted { IsSorted entries.now }
         requires below { AreBelow entries.now }
         requires fit { FitIn entries.now (page_size * frame_count) }
-        ensures { Translates entries.now result }
+        ensures { Translates entries.now self.new }
     {
-        Translations {
-            fetch: pages_of(entries, Access::Fetch),
-            load: pages_of(entries, Access::Load),
-            store: pages_of(entries, Access::Store),
-            monitor: pages_of(entries, Access::Monitor),
-        }
+        set_pages(&mut self.fetch, entries, Access::Fetch);
+        set_pages(&mut self.load, entries, Access::Load);
+        set_pages(&mut self.store, entries, Access::Store);
+        set_pages(&mut self.monitor, entries, Access::Monitor);
     }
 
     /// Where the bytes of an access lie in the frames, if they lie in a page that has its place and may be accessed so.

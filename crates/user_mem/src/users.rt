@@ -69,7 +69,7 @@ pub(crate) fn translate_user(all: &mut AllTranslations, tables: &Tables, user: u
         → Translates (table_at (entries_of tables.now) u) (slice_index_or all.old u d) }
     ensures { AllTranslate (entries_of tables.now) all.new }
 {
-    all[user] = Translations::of(tables[user].as_slice());
+    all[user].set(tables[user].as_slice());
 }
 
 /// Unmaps all pages of the user at a place.

@@ -8,8 +8,8 @@ use Rattle.user_mem.proofs.PoolLaws.{table_fits}
 use Rattle.user_mem.proofs.TranslationLaws.{all_translate_one}
 use Rattle.user_mem.proofs.users.translate_user.Goals as goal
 
-pub of-requires : goal.of-requires
-of-requires c =
+pub set-requires : goal.set-requires
+set-requires c =
     let pool = c.requires.pool.2 in
     rw (c.as_slice.ensures.value, ← get_or-map (λ t. t.items) c.args.tables.now c.args.user c.index-tables-user.result [] (omega arith))
     (record {
@@ -22,4 +22,4 @@ pub returns : goal.returns
 returns c =
     let table : c.as_slice.result.now ≡ table_at (map (λ t. t.items) c.args.tables.now) c.args.user =
     c.as_slice.ensures.value ∙ sym (get_or-map (λ t. t.items) c.args.tables.now c.args.user c.index-tables-user.result [] (omega arith)) in
-    all_translate_one (map (λ t. t.items) c.args.tables.now) c.args.all.now c.args.user c.of.result (omega arith) c.requires.user (subst (λ (t : List Entry). Translates t c.of.result) table c.of.ensures) c.requires.others
+    all_translate_one (map (λ t. t.items) c.args.tables.now) c.args.all.now c.args.user c.set.new.self (omega arith) c.requires.user (subst (λ (t : List Entry). Translates t c.set.new.self) table c.set.ensures) c.requires.others

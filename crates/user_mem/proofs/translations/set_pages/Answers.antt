@@ -1,6 +1,6 @@
 use Rattle.std.proofs.Common.{arith}
 use Rattle.user_mem.proofs.TranslationLaws.{entry_there}
-use Rattle.user_mem.proofs.translations.pages_of.Goals as goal
+use Rattle.user_mem.proofs.translations.set_pages.Goals as goal
 
 pub put_page-requires-clause-below : goal.put_page-requires-clause-below
 put_page-requires-clause-below c = c.requires.below _ _ (entry_there c.args.entries.now c.loop-index.index _ c.requires.sorted (omega arith))
