@@ -1,5 +1,5 @@
 -- What it means that bytes lie in one page, and that a user's translations say so
-use Rattle.std.proofs.Common.{◌≡◌, ◌≢◌, ℕ, ◌+◌, ◌-◌, ◌*◌, ◌/◌, ◌%◌, ◌^◌, ◌<◌, ◌≤◌, true, List, length, get_or, set, replicate, Option, Some, None, refl, sym, ◌∙◌, ap, subst, ◌⊎◌, inl, inr, arith, get_or-set_same, get_or-set_other}
+use Rattle.std.proofs.Common.{◌≡◌, ◌≢◌, ℕ, ◌+◌, ◌*◌, ◌/◌, ◌%◌, ◌<◌, ◌≤◌, true, List, length, get_or, set, replicate, Option, Some, None, refl, sym, ◌∙◌, ap, subst, inl, inr, arith, get_or-set_same, get_or-set_other}
 use Rattle.std.specs.Prelude.{IfSome}
 use Rattle.std.proofs.lemmas.Bool.{cases_eq}
 use Rattle.std.proofs.lemmas.List.{get_or-replicate, length-replicate}
@@ -40,25 +40,6 @@ module _ (es : List Entry) (access : Access) (a n at : ℕ) (lies : LiesAt es ac
 pub if_within : (es : List Entry) (access : Access) (a n size : ℕ) → FitIn es size → (o : Option ℕ) → IfSome o (λ at. LiesAt es access a n at) → IfSome o (λ at. at + n ≤ size)
 if_within es access a n size fit None lies = tt
 if_within es access a n size fit (Some at) lies = lies_within es access a n at lies size fit
-
--- bytes of the page at the place of their own page, of which the first is so far from its beginning
-pub found_lies : (es : List Entry) (access : Access) (page : Translation) (a n o at : ℕ) → IsTranslated es access (a / page_size % place_count) page → a < 2 ^ 64 → page.first < 2 ^ 64
-    → o ≡ (a + (2 ^ 64 - page.first)) % 2 ^ 64 → 0 < n → n ≤ page_size → o ≤ page_size - n → at ≡ (page.start + o) % 2 ^ 64 → LiesAt es access a n at
-found_lies es access page a n o at holds small low far some short within here =
-    let begins = holds.begins in
-    let place : a ≡ page.first + o = omega arith in
-    let same : page.first / page_size ≡ a / page_size = omega arith in
-    let lies = holds.lies (ap (λ (p : ℕ). p % place_count) same) in
-    let fits = lies.fits in
-    let start = lies.place in
-    record {
-      entry = lies.entry;
-      there = ap (entry_at es) (sym same) ∙ lies.there;
-      permitted = lies.permitted;
-      place = omega arith;
-      one_page = omega arith;
-      fits = omega arith;
-    }
 
 -- a page whose place is another one
 elsewhere : (es : List Entry) (access : Access) (page : Translation) (number place : ℕ) → page.first ≡ page_size * number → number < place_count → number ≢ place → IsTranslated es access place page

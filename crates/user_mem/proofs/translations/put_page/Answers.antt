@@ -1,6 +1,5 @@
-use Rattle.std.proofs.Common.{sym, ◌∙◌, ◌*◌, ◌%◌, refl, arith}
+use Rattle.std.proofs.Common.{sym, ◌∙◌, ◌*◌, refl, arith}
 use Rattle.rv_model.specs.memory.Sizes.{page_size}
-use Rattle.user_mem.specs.Translations.{place_count}
 use Rattle.user_mem.proofs.TranslationLaws.{entry_lies, more_translated}
 use Rattle.user_mem.proofs.translations.put_page.Goals as goal
 
