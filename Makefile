@@ -11,8 +11,8 @@ lab = $(prefix)/share/vecmon
 completions = $(prefix)/share/bash-completion/completions
 program = crates/vecmon/out/vecmon
 
-lab_files = README.md docs/INSTRUCTIONS.md lab/tests/vectors_on_qemu.py lab/tests/data/vectors_on_qemu.txt $(wildcard \
-    lab/*.py lab/examples/* lab/exercises/*/* lab/page/* lab/tables/* tests/command_lines/data/tour.page tests/command_lines/data/tour/*)
+lab_files = README.md docs/INSTRUCTIONS.md lab/vecmon_lab/py.typed $(filter-out %.pyc, $(wildcard lab/vecmon_lab/*.py lab/vecmon_lab/*/*.* \
+    lab/vecmon_lab/exercises/*/* lab/examples/* tests/command_lines/data/tour.page tests/command_lines/data/tour/*))
 documents = CHANGELOG.md CONTRIBUTING.md crates.txt crates/monitor_script/src/script.rt $(wildcard docs/*.md docs/*.csv docs/pictures/*)
 copy = install -D -m 644
 link = ln -s -f -n --relative
@@ -29,7 +29,7 @@ install:
 	for file in README.md docs/INSTRUCTIONS.md lab; do $(link) "$(DESTDIR)$(lab)/$$file" "$(DESTDIR)$(docdir)/$$file" || exit; done
 	$(copy) crates/vecmon/first_vectors "$(DESTDIR)$(docdir)/examples/first_vectors"
 	$(link) "$(DESTDIR)$(lab)/lab/examples" "$(DESTDIR)$(docdir)/examples/sources"
-	$(link) "$(DESTDIR)$(lab)/lab/exercises" "$(DESTDIR)$(docdir)/examples/exercises"
+	$(link) "$(DESTDIR)$(lab)/lab/vecmon_lab/exercises" "$(DESTDIR)$(docdir)/examples/exercises"
 	$(link) "$(DESTDIR)$(lab)/tests/command_lines/data/tour" "$(DESTDIR)$(docdir)/examples/tour"
 	$(call page,vecmon,1,'trainer machine for the RISC-V vector extension',PROGRAM.md)
 	$(call page,vecmon-lab,1,'front end of vecmon with lessons and classes',LAB.md)
