@@ -82,6 +82,21 @@ async def test_a_program_that_is_replaced(tmp_path: pathlib.Path) -> None:
         assert await room.end() == 0
 
 
+async def test_a_program_that_is_taken_away(tmp_path: pathlib.Path) -> None:
+    program = tmp_path / "vecmon"
+    shutil.copy(find_program(), program)
+    environment = os.environ | {"VECMON": str(program)}
+    async with process(tmp_path / "class", env=environment, stderr=asyncio.subprocess.PIPE) as room:
+        tab = await room.sit("A1")
+        await tab.do(*LOOP, "step 7")
+        program.unlink()  # as its package is removed
+        assert room.server and room.server.stderr
+        assert await asyncio.wait_for(room.server.wait(), SECONDS) == 2
+        errors = (await room.server.stderr.read()).decode()
+    assert errors == f"vecmon-lab: the class has ended, since {program} isn't there any more\n"
+    assert (tmp_path / "class" / "A.script").read_text().count("step") == 1
+
+
 async def test_a_server_that_is_killed_and_begun_again(tmp_path: pathlib.Path) -> None:
     folder = tmp_path / "class"
     async with process(folder) as room:

@@ -219,7 +219,7 @@ async def served(members: Class, host: str, port: int, names: set[str]) -> Async
 async def serve(members: Class, host: str, port: int, names: set[str]) -> None:
     """Serves a class until SIGINT or SIGTERM.
 
-    Raises OSError where the address can't be had, and BadFolder once the program was replaced, as by an upgrade.
+    Raises OSError where the address can't be had, and BadFolder once the program was replaced or taken away, as with its package.
     """
     sys.setswitchinterval(0.0005)  # so long a machine's thread waits for the event loop's, which may be busy
     most = resource.getrlimit(resource.RLIMIT_NOFILE)[1]
@@ -229,8 +229,11 @@ async def serve(members: Class, host: str, port: int, names: set[str]) -> None:
         loop.add_signal_handler(sign, ended.set)
     async with served(members, host, port, names) as own_port:
         _announce(host, own_port, members.codes.codes[TEACHER])
+        missed = 0  # looks that found no program; after one, it may just be installed anew
         while not ended.is_set():
-            members.store.check_program()
+            missed = 0 if members.store.check_program() else missed + 1
+            if missed > 1:
+                raise BadFolder(f"the class has ended, since {members.store.program} isn't there any more")
             with contextlib.suppress(asyncio.TimeoutError):
                 await asyncio.wait_for(ended.wait(), 1)
 

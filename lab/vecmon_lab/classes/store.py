@@ -129,11 +129,14 @@ class Store:
         check = self.check_program
         return Session(self.program, self.images, quantum=self.quantum, patience=patience, check=check)
 
-    def check_program(self) -> None:
-        """Raises BadFolder where another program stands in the place of this one, as after an upgrade."""
-        with contextlib.suppress(FileNotFoundError):
-            if _digest(self.program) != self._program_digest:
-                raise BadFolder(f"the class has ended, since {self.program} is another program now")
+    def check_program(self) -> bool:
+        """Whether the program is there. Raises BadFolder where another stands in its place, as after an upgrade."""
+        try:
+            if _digest(self.program) == self._program_digest:
+                return True
+        except FileNotFoundError:
+            return False
+        raise BadFolder(f"the class has ended, since {self.program} is another program now")
 
     def read(self, name: str) -> dict[str, Any]:
         """An object that was kept; an empty one if there is none."""

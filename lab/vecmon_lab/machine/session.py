@@ -140,7 +140,7 @@ class Session(contextlib.AbstractContextManager["Session"]):
         patience: float = 30.0,
         script: bytes = b"",
         script_bytes: int = SCRIPT_BYTES,
-        check: Callable[[], None] = lambda: None,
+        check: Callable[[], object] = lambda: None,
     ) -> None:
         """Starts the program with these images by name, and does what the script has.
 
