@@ -27,6 +27,7 @@ async def room(tmp_path: pathlib.Path) -> AsyncIterator[Served]:
         yield room
 
 
+@pytest.mark.by_command("class")
 async def test_a_step(room: Served) -> None:
     tab = await room.sit("A3")
     assert tab.view["state"] == {"run": "absent", "labels": {}}

@@ -76,6 +76,7 @@ def test_the_tours_class_of_three(program: pathlib.Path, digit: str) -> None:
 
 
 @pytest.mark.asyncio
+@pytest.mark.by_command("solo")
 async def test_the_command(tmp_path: pathlib.Path) -> None:
     folder = tmp_path / "class"
     async with served(folder, {"sum": SUM}, machines=2) as room:

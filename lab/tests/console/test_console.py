@@ -108,6 +108,7 @@ def test_what_each_step_changes() -> None:
     assert steps[15:] == [f"v8  {digits[:16].hex(' ')}", f"    {digits[16:].hex(' ')}"]
 
 
+@pytest.mark.by_command("console")
 def test_the_session_of_the_manual() -> None:
     page = (TOP / "docs" / "LAB.md").read_text("utf-8")
     session = page[

@@ -88,6 +88,7 @@ def run_grade(*words: object) -> "subprocess.CompletedProcess[str]":
         ("strlen", ["strlen.s"], "plain_load.s"),
     ],
 )
+@pytest.mark.by_command("grade")
 def test_the_exercises_of_the_lab(program: pathlib.Path, exercise: str, right: list[str], wrong: str) -> None:
     settled_exercise = settled(program, read_exercise(pathlib.Path(exercise)))
     for name in right:

@@ -317,6 +317,7 @@ def test_gdb_with_source_lines(gdb: Callable[..., str], image: pathlib.Path) -> 
     assert told.index("328350\n") < told.index("exited normally")
 
 
+@pytest.mark.by_command("gdb")
 def test_the_session_of_the_manual(gdb: Callable[..., str]) -> None:
     page = (TOP / "docs" / "LAB.md").read_text("utf-8")
     begin = page.index("(gdb) target remote | vecmon-lab gdb sum")

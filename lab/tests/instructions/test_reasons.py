@@ -1,33 +1,17 @@
 """Stops in words: reasons where the machine says cause 2 and nowhere else, and the sentences."""
 
-import itertools
 import pathlib
 import random
 import re
 import subprocess
-from collections.abc import Iterator
 
 import pytest
 
-from support.machine_cases import (
-    CONTROL_REGISTERS,
-    LOAD_FP,
-    OP_V,
-    STORE_FP,
-    SYSTEM,
-    encodings,
-    fixed_bits,
-    machine_says,
-    random_case,
-    view_of,
-    with_operands,
-)
+from support.machine_cases import CONTROL_REGISTERS, machine_says, random_case, view_of
 from support.places import DOCS
 from vecmon_lab.instructions.reasons import VectorView, describe_stop, illegal_reasons
-from vecmon_lab.instructions.words import NoInstruction, decode
 
 VILL = VectorView(1 << 63, 0)
-MISC_MEM = 0x0F
 
 
 def view(sew: int, lmul: str, vstart: int = 0) -> VectorView:
@@ -50,48 +34,6 @@ def test_a_reason_is_given_exactly_where_the_machine_says_cause_2(program: pathl
     assert differ == []
     illegal = sum("cause=2" in answer for _, answer in answers)
     assert 10000 < illegal < 20000
-
-
-def test_every_encoding_of_the_manual_is_decoded() -> None:
-    draws = random.Random(597)
-    rows = encodings()
-    assert len(rows) == 597
-    for name, bits in rows * 10:
-        opcode = int(bits[-7:], 2)
-        operands = 0x008 << 20 if opcode == SYSTEM else draws.getrandbits(32)
-        instruction = decode(with_operands(bits, operands))
-        if opcode == OP_V and not name.startswith("vset"):
-            assert instruction is not None and name.startswith(instruction.name)
-
-
-def _places() -> Iterator[int]:
-    """Words with all opcodes, funct3 and funct7, and all numbers in another field that tells instructions apart."""
-    for opcode, funct3, funct7 in itertools.product(range(128), range(8), range(128)):
-        place = opcode | funct3 << 12 | funct7 << 25
-        if opcode == OP_V:
-            yield from (place | vs2 << 20 | vs1 << 15 for vs2 in (0, 1) for vs1 in range(32))
-        elif opcode in (LOAD_FP, STORE_FP) or (opcode == SYSTEM and funct3 == 0):
-            yield from (place | number << 20 for number in range(32))
-        elif opcode not in (SYSTEM, MISC_MEM):
-            yield place
-
-
-def test_a_word_is_an_instruction_exactly_where_an_encoding_fits() -> None:
-    """But for accesses of control registers, which only some numbers have, and fences, of which one has an encoding."""
-    by_opcode: dict[int, list[tuple[int, int]]] = {}
-    for _, bits in encodings():
-        by_opcode.setdefault(int(bits[-7:], 2), []).append(fixed_bits(bits))
-    for word in _places():
-        fits = any(word & mask == value for mask, value in by_opcode.get(word & 127, []))
-        assert _is_instruction(word) == fits, f"{word:08x}"
-
-
-def _is_instruction(word: int) -> bool:
-    try:
-        decode(word)
-    except NoInstruction:
-        return False
-    return True
 
 
 def test_each_fence_and_each_read_of_a_control_register_is_an_instruction() -> None:

@@ -41,6 +41,7 @@ def lab(*words: str, **variables: str) -> subprocess.CompletedProcess[str]:
 
 
 @pytest.mark.parametrize("name", list(tours()))
+@pytest.mark.by_command("tour")
 def test_a_tours_log_is_the_plain_transcript(program: pathlib.Path, name: str) -> None:
     script = (DATA / "tour" / name).read_text("ascii")
     made = make_frames(tours()[name], program)
@@ -243,6 +244,7 @@ def test_no_program(tmp_path: pathlib.Path) -> None:
     assert done.returncode == 2 and done.stderr.count("\n") == 1 and "/nowhere/vecmon" in done.stderr
 
 
+@pytest.mark.by_command("lesson")
 def test_pages_are_written(tmp_path: pathlib.Path) -> None:
     (tmp_path / "script").write_text("# <first>\n1 enter\n1 load sum\n")
     image = DATA / "images" / "sum"

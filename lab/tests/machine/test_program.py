@@ -2,6 +2,7 @@
 
 import argparse
 import pathlib
+import re
 import subprocess
 import sys
 import types
@@ -47,6 +48,14 @@ def test_the_order_of_places(monkeypatch: pytest.MonkeyPatch, tmp_path: pathlib.
 def test_what_is_built_here_is_looked_for() -> None:
     assert places.BUILT == TOP / "crates" / "vecmon" / "out" / "vecmon"
     assert (TOP / "crates" / "vecmon" / "stdin").is_file() and (TOP / "tools" / "unproved_build.py").is_file()
+
+
+def test_each_command_is_tried_with_the_proved_program() -> None:
+    files = (TOP / "lab" / "tests").rglob("test_*.py")
+    marked = [
+        name for file in files for name in re.findall(r'^@pytest.mark.by_command\("(\w+)"\)', file.read_text(), re.M)
+    ]
+    assert sorted(marked) == sorted(start.COMMANDS)
 
 
 @pytest.mark.parametrize("words", [[], ["dance"], ["--dance"]])

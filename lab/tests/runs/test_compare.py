@@ -113,6 +113,7 @@ def alike(first: str) -> list[str]:
     ]
 
 
+@pytest.mark.by_command("compare")
 def test_stock_programs(lab: Lab) -> None:
     """Their outputs and ends are those of QEMU."""
     status, output, told = lab("compare", SUM)

@@ -38,6 +38,7 @@ def cells(line: str) -> list[str]:
     return line.split()
 
 
+@pytest.mark.by_command("profile")
 def test_the_table(lab: Lab) -> None:
     """Times and elements were counted by hand in the listing, and source lines are those that objdump shows."""
     status, output, told = lab("profile", SUM_DWARF4)

@@ -22,6 +22,7 @@ ZERO = "10000: .word 0x00000000: Illegal instruction at 0x10000: .word 0x0000000
 VID = "10000: vid.v v8: Illegal instruction at 0x10000: vid.v v8."
 
 
+@pytest.mark.by_command("run")
 def test_stock_programs(lab: Lab) -> None:
     """As QEMU has it, which also carries out 509,200 instructions of the second one."""
     assert lab("run", SUM) == (0, b"328350\n", "")

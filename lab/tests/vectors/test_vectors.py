@@ -70,6 +70,7 @@ def test_agnostic_elements_become_ones_if_that_is_asked_for(session: Session) ->
     assert golden["after"] == {"pc": "10804", "v": {2: "ff" * 32}}
 
 
+@pytest.mark.by_command("vectors")
 def test_results_are_those_that_qemu_gave(session: Session) -> None:
     lines = (DATA / "golden_vectors.jsonl").read_text("ascii").splitlines()
     for line in lines:
