@@ -9,13 +9,12 @@ from collections.abc import Callable
 import pytest
 
 from support.images import make_image
-from support.places import DATA, SUM
+from support.places import DATA, DOCS, EXAMPLES, SUM
 from vecmon_lab import LabError
 from vecmon_lab.exercises.answer import settled
 from vecmon_lab.exercises.exercise import read_exercise
 from vecmon_lab.exercises.grade import grade
 
-ANSWERS = DATA / "answers"
 ECHO = """
 set_up = ["map 20000 1 rw"]
 limits = { ticks = 900, output = 8 }
@@ -73,6 +72,12 @@ def echo(program: pathlib.Path, tmp_path: pathlib.Path) -> Echo:
     return graded
 
 
+def answer(name: str) -> pathlib.Path:
+    """An answer that is stored: one of the manual's, or one for tests alone."""
+    shown = EXAMPLES / "answers" / name
+    return shown if shown.is_file() else DATA / "answers" / name
+
+
 def run_grade(*words: object) -> "subprocess.CompletedProcess[str]":
     """The command, with its outputs."""
     return subprocess.run(
@@ -92,8 +97,8 @@ def run_grade(*words: object) -> "subprocess.CompletedProcess[str]":
 def test_the_exercises_of_the_lab(program: pathlib.Path, exercise: str, right: list[str], wrong: str) -> None:
     settled_exercise = settled(program, read_exercise(pathlib.Path(exercise)))
     for name in right:
-        assert not any(grade(program, settled_exercise, ANSWERS / name))
-    assert any(grade(program, settled_exercise, ANSWERS / wrong))
+        assert not any(grade(program, settled_exercise, answer(name)))
+    assert any(grade(program, settled_exercise, answer(wrong)))
 
 
 @pytest.mark.parametrize(
@@ -201,7 +206,7 @@ def test_whatever_an_answer_has_is_a_row(echo: Echo, content: str | bytes, name:
 
 
 def test_what_cannot_be_read_is_a_row(tmp_path: pathlib.Path) -> None:
-    done = run_grade("strlen", "--csv", tmp_path / "none", tmp_path, SUM, ANSWERS / "typo.s")
+    done = run_grade("strlen", "--csv", tmp_path / "none", tmp_path, SUM, answer("typo.s"))
     header, *rows = csv.reader(done.stdout.splitlines())
     assert header == ["answer", "passed", "of", "short", "end of the page", "long", "empty", "reason"]
     assert {tuple(row[1:7]) for row in rows[:2] + rows[3:]} == {("0", "4", *["fails"] * 4)}
@@ -213,28 +218,24 @@ def test_what_cannot_be_read_is_a_row(tmp_path: pathlib.Path) -> None:
     assert (done.returncode, done.stderr) == (1, "")
 
 
-def test_the_table_tells_nothing_of_hidden_cases_but_that_they_fail() -> None:
-    done = run_grade("saturating_sum", *(ANSWERS / name for name in ("vectors.s", "wraps.s", "one_round.s", "talks.s")))
-    lines = [line.replace(f"{ANSWERS}/", "") for line in done.stdout.splitlines()]
-    assert [line.split() for line in lines[2:6]] == [
-        ["vectors.s", "ok", "ok", "ok", "ok", "4", "of", "4"],
-        ["wraps.s", "ok", "-", "-", "ok", "2", "of", "4"],
-        ["one_round.s", "ok", "ok", "-", "-", "2", "of", "4"],
-        ["talks.s", "-", "-", "-", "-", "0", "of", "4"],
-    ]
-    assert lines[6:] == [
-        "wraps.s: no room: element 0, i16 at 0x20200: expected 32767, found -32768",
-        "wraps.s: many: fails",
-        "one_round.s: many, none: fails",
-        "talks.s: it writes more than 4,096 bytes",
-    ]
-    assert (done.returncode, done.stderr) == (1, "")
+def test_the_table_of_the_manual(monkeypatch: pytest.MonkeyPatch) -> None:
+    """It tells nothing of hidden cases but that they fail."""
+    command = "$ vecmon-lab grade saturating_sum answers/*; echo $?\n"
+    shown = (DOCS / "LAB.md").read_text("utf-8").partition(command)[2].partition("```")[0]
+    monkeypatch.chdir(EXAMPLES)
+    done = run_grade("saturating_sum", *sorted(pathlib.Path("answers").iterdir()))
+    assert f"{done.stdout}{done.stderr}{done.returncode}\n" == shown
+
+
+def test_an_answer_that_writes_too_much() -> None:
+    done = run_grade("saturating_sum", answer("talks.s"))
+    assert done.stdout.endswith("talks.s: it writes more than 4,096 bytes\n") and done.returncode == 1
 
 
 def test_twenty_four_answers_have_the_rows_that_each_has_alone() -> None:
     names = ["copy.s", "by_registers.s", "copy.script", "forever.s"]
-    done = run_grade("strip_mined_copy", "--rows", *(ANSWERS / name for name in names * 6))
-    alone = [run_grade("strip_mined_copy", "--rows", ANSWERS / name) for name in names]
+    done = run_grade("strip_mined_copy", "--rows", *(answer(name) for name in names * 6))
+    alone = [run_grade("strip_mined_copy", "--rows", answer(name)) for name in names]
     assert done.stdout == "".join(each.stdout for each in alone) * 6
     assert [each.returncode for each in alone] == [0, 1, 0, 1]
 
@@ -291,7 +292,7 @@ def test_a_bad_exercise_is_told(program: pathlib.Path, tmp_path: pathlib.Path, t
 
 def test_a_bad_exercise_is_told_in_a_line(tmp_path: pathlib.Path) -> None:
     (tmp_path / "exercise.toml").write_text("title =")
-    done = run_grade(tmp_path, ANSWERS / "copy.s")
+    done = run_grade(tmp_path, answer("copy.s"))
     assert (done.returncode, done.stdout) == (2, "")
     assert done.stderr == f"vecmon-lab: {tmp_path}/exercise.toml: Invalid value (at end of document)\n"
 
