@@ -2,7 +2,8 @@
 #
 #     make install|uninstall [prefix=/usr/local] [bindir=..] [mandir=..] [docdir=..] [DESTDIR=..]
 #
-# `uninstall` takes away the files that FILES lists. The lab lies in share/vecmon with all that it reads, as in the repository, so that it needs no documents to run.
+# `uninstall` takes away the files that FILES lists. The lab lies in share/vecmon with all that it reads, as in the repository, so that it
+# needs no documents to run.
 prefix = /usr/local
 bindir = $(prefix)/bin
 mandir = $(prefix)/share/man
