@@ -103,7 +103,7 @@ def test_random_instructions(program: pathlib.Path) -> None:
         session.do_all(["1 enter", f"1 map {CODE:x} 1 rx", f"1 map {DATA:x} {DATA_BYTES // 4096} rw"])
         session.do(f"1 poke {CODE:x} {b''.join(word.to_bytes(4, 'little') for word in (SET_TYPE, SET_VSTART)).hex()}")
         stepper = Stepper(Guest(session))
-        for _ in range(300):
+        for _ in range(600):
             session.do_all(random_lines(draws))
             stepper.look()
             before = Whole(session)

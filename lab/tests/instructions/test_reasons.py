@@ -251,7 +251,7 @@ REASONS: list[tuple[str, VectorView, list[str]]] = [
     ("csrrci x5, vtype, 1", VILL, ["It writes vtype, which can only be read."]),
     ("csrrsi x5, vlenb, 0", VILL, []),
     (".word 0x0a20b057", view(8, "m1"), ["There is no form with an immediate of vsub."]),
-    (".word 0x0610b057", view(8, "m1"), ["No vector instruction with funct3 011 has funct6 000001."]),
+    (".word 0x2210b057", view(8, "m1"), ["No vector instruction with funct3 011 has funct6 001000."]),
     (".word 0x42208057", view(8, "m1"), ["vadc has vm = 0, and this word has vm = 1."]),
     (
         ".word 0x5e208057",
