@@ -1,8 +1,9 @@
 # Installs the program that `rt ci` or `rt run` has built, the lab, manual pages and documents: it builds no program.
 #
-#     make install [prefix=/usr/local] [bindir=..] [mandir=..] [docdir=..] [DESTDIR=..]
+#     make install|uninstall [prefix=/usr/local] [bindir=..] [mandir=..] [docdir=..] [DESTDIR=..]
 #
-# The lab lies in share/vecmon with all that it reads, as in the repository, so that it needs no documents to run.
+# `uninstall` takes away the files that FILES lists. The lab lies in share/vecmon with all that it reads, as in the repository, so that it
+# needs no documents to run.
 prefix = /usr/local
 bindir = $(prefix)/bin
 mandir = $(prefix)/share/man
@@ -11,9 +12,12 @@ lab = $(prefix)/share/vecmon
 completions = $(prefix)/share/bash-completion/completions
 program = crates/vecmon/out/vecmon
 
-lab_files = README.md docs/INSTRUCTIONS.md lab/tests/vectors_on_qemu.py lab/tests/data/vectors_on_qemu.txt $(wildcard \
-    lab/*.py lab/examples/* lab/exercises/*/* lab/page/* lab/tables/* tests/command_lines/data/tour.page tests/command_lines/data/tour/*)
+lab_files = README.md docs/INSTRUCTIONS.md lab/vecmon_lab/py.typed $(filter-out %.pyc, $(wildcard lab/vecmon_lab/*.py lab/vecmon_lab/*/*.* \
+    lab/vecmon_lab/exercises/*/* lab/examples/*.* lab/examples/*/* tests/command_lines/data/tour.page tests/command_lines/data/tour/*))
 documents = CHANGELOG.md CONTRIBUTING.md crates.txt crates/monitor_script/src/script.rt $(wildcard docs/*.md docs/*.csv docs/pictures/*)
+# Outside of the folders that are vecmon's alone, $(lab) and $(docdir)
+others = $(bindir)/vecmon $(bindir)/vecmon-lab $(mandir)/man1/vecmon.1 $(mandir)/man1/vecmon-lab.1 $(mandir)/man5/vecmon-commands.5 \
+    $(completions)/vecmon $(completions)/vecmon-lab
 copy = install -D -m 644
 link = ln -s -f -n --relative
 page = umask 022; packaging/manual_page $(1) $(2) $(3) docs/$(4) > "$(DESTDIR)$(mandir)/man$(2)/$(1).$(2)"
@@ -29,12 +33,23 @@ install:
 	for file in README.md docs/INSTRUCTIONS.md lab; do $(link) "$(DESTDIR)$(lab)/$$file" "$(DESTDIR)$(docdir)/$$file" || exit; done
 	$(copy) crates/vecmon/first_vectors "$(DESTDIR)$(docdir)/examples/first_vectors"
 	$(link) "$(DESTDIR)$(lab)/lab/examples" "$(DESTDIR)$(docdir)/examples/sources"
-	$(link) "$(DESTDIR)$(lab)/lab/exercises" "$(DESTDIR)$(docdir)/examples/exercises"
+	$(link) "$(DESTDIR)$(lab)/lab/vecmon_lab/exercises" "$(DESTDIR)$(docdir)/examples/exercises"
 	$(link) "$(DESTDIR)$(lab)/tests/command_lines/data/tour" "$(DESTDIR)$(docdir)/examples/tour"
 	$(call page,vecmon,1,'trainer machine for the RISC-V vector extension',PROGRAM.md)
 	$(call page,vecmon-lab,1,'front end of vecmon with lessons and classes',LAB.md)
 	$(call page,vecmon-commands,5,'scripts and commands of vecmon',COMMANDS.md)
 	$(copy) packaging/completion "$(DESTDIR)$(completions)/vecmon"
 	$(link) "$(DESTDIR)$(completions)/vecmon" "$(DESTDIR)$(completions)/vecmon-lab"
+	$(MAKE) -s list
 
-.PHONY: install
+# Writes FILES: the path of each file and link from $(prefix) on.
+list:
+	touch "$(DESTDIR)$(lab)/FILES"
+	find "$(DESTDIR)$(lab)" "$(DESTDIR)$(docdir)" $(others:%="$(DESTDIR)%") ! -type d -print0 | \
+	    xargs -0 realpath -s --relative-to="$(DESTDIR)$(prefix)" | LC_ALL=C sort > "$(DESTDIR)$(lab)/FILES"
+
+uninstall:
+	(cd "$(DESTDIR)$(prefix)" && xargs -d '\n' rm -f) < "$(DESTDIR)$(lab)/FILES"
+	find "$(DESTDIR)$(lab)" "$(DESTDIR)$(docdir)" -type d -empty -delete
+
+.PHONY: install list uninstall

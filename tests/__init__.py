@@ -12,7 +12,7 @@ repository:
     VECMON=/tmp/other/vecmon .venv/bin/python -m pytest tests
 
 The variable VECMON names the program; without it, it is crates/vecmon/out/vecmon. Its file has to be called `vecmon`,
-since its help and its messages have the name that it is called by. `tools/test` runs the program as LLVM builds it, and
-as Rattle's own compiler does. What is stored was worked out without the program, but for
-counts of how much was compared; no test writes it.
+since its help and its messages have the name that it is called by. `tools/test` runs all on a program that is built
+without its proofs, and then on the proved one, as LLVM builds it and as Rattle's own compiler does. What is stored
+was worked out without the program, but for counts of how much was compared; no test writes it.
 """

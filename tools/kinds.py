@@ -1,7 +1,7 @@
 #!/usr/bin/env python3
 """Measures each kind of instruction beside QEMU, and draws what was measured. At the top of the repository:
 
-    tools/debian_packages clang-19 lld-19 qemu-user valgrind python3-matplotlib
+    tools/debian_packages measurements
     tools/kinds.py time VECMON FILE                  nanoseconds an instruction, of QEMU and of VECMON in turn
     tools/kinds.py count VECMON FILE                 machine instructions an instruction, of VECMON
     tools/kinds.py draw FILE PICTURE                 the figures of FILE as an SVG

@@ -17,7 +17,7 @@ import re
 import sys
 import tokenize
 from collections import Counter
-from collections.abc import Iterable, Iterator
+from collections.abc import Callable, Iterable, Iterator
 from pathlib import Path
 
 KINDS = ("code", "contracts", "definitions", "proofs")
@@ -90,13 +90,29 @@ def crate_table(title: str, crates: dict[str, Counter[str]]) -> Iterator[str]:
         yield row(name, [*those, sum(those)])
 
 
+def folder_lines(folder: str, pattern: str, count: Callable[[str], int] = python_lines) -> int:
+    """How many lines the files of a folder of the lab have, of those that a pattern names."""
+    return sum(count(it.read_text(encoding="utf-8")) for it in Path("lab", folder).glob(pattern))
+
+
+def lab_table() -> Iterator[str]:
+    """A line a room of the lab, their sum, the files of pages, and what isn't installed."""
+    rooms = sorted(it.name for it in Path("lab/vecmon_lab").glob("*/") if (it / "__init__.py").is_file())
+    yield "| lab | lines |\n|---|---|"
+    yield row("`vecmon_lab/*.py`", [folder_lines("vecmon_lab", "*.py")])
+    for room in rooms:
+        yield row(f"`vecmon_lab/{room}/*.py`", [folder_lines(f"vecmon_lab/{room}", "*.py")])
+    yield row("all of them", [folder_lines("vecmon_lab", "**/*.py")])
+    yield row("HTML, CSS and JavaScript", [folder_lines("vecmon_lab", "**/*.[hcj]*[ls]", page_lines)])
+    for folder in ("tests", "support", "tools"):
+        yield row(f"`{folder}`", [folder_lines(folder, "**/*.py")])
+
+
 def main() -> None:
     crates = {it.parent.name: lines_of(it.parent) for it in sorted(Path("crates").glob("*/src"))}
     tests = {name: crates.pop(name) for name in list(crates) if TEST_CRATES.match(name)}
     print(*crate_table("product", crates), "", *crate_table("tests and benches", tests), "", sep="\n")
-    print("| lab | lines |\n|---|---|")
-    for files, count in ("lab/*.py", python_lines), ("lab/tests/*.py", python_lines), ("lab/page/*", page_lines):
-        print(row(f"`{files}`", [sum(count(it.read_text(encoding="utf-8")) for it in Path().glob(files))]))
+    print(*lab_table(), sep="\n")
 
 
 if __name__ == "__main__":

@@ -1,25 +1,23 @@
 """What tests share: the program, a session, a browser, and an emulator."""
 
 import importlib.util
-import os
 import pathlib
 import shutil
 import subprocess
 from collections.abc import Iterator
-from typing import TYPE_CHECKING, NoReturn
+from typing import TYPE_CHECKING
 
 import pytest
 from _pytest.terminal import TerminalReporter
 
-from lab.machine import Session
-from lab.program import find_program
+from support.browser import start_browser
+from support.commands import Lab
+from support.left_out import NO_BROWSER, NO_GDB, NO_QEMU, leave_out
+from vecmon_lab.machine.program import find_program
+from vecmon_lab.machine.session import Session
 
 if TYPE_CHECKING:
     from selenium.webdriver import Chrome
-
-NO_BROWSER = "there is no Chromium"
-NO_GDB = "there is no gdb-multiarch"
-NO_QEMU = "there is no qemu-riscv64 of version 7.2"
 
 
 @pytest.fixture(scope="session")
@@ -35,6 +33,12 @@ def session(program: pathlib.Path) -> Iterator[Session]:
         yield session
 
 
+@pytest.fixture
+def lab(monkeypatch: pytest.MonkeyPatch, capfdbinary: pytest.CaptureFixture[bytes], program: pathlib.Path) -> Lab:
+    """What runs commands of the lab."""
+    return Lab(monkeypatch, capfdbinary)
+
+
 @pytest.fixture(scope="session")
 def browser() -> Iterator["Chrome"]:
     """Chromium without a window, for all tests that want one; its console is in `get_log("browser")`.
@@ -43,7 +47,7 @@ def browser() -> Iterator["Chrome"]:
     """
     chromium, driver = shutil.which("chromium"), shutil.which("chromedriver")
     if not chromium or not driver or not importlib.util.find_spec("selenium"):
-        _leave_out(NO_BROWSER)
+        leave_out(NO_BROWSER)
     chrome = start_browser()
     yield chrome
     chrome.quit()
@@ -55,29 +59,7 @@ def qemu() -> None:
     command = shutil.which("qemu-riscv64")
     told = subprocess.run([command, "--version"], stdout=subprocess.PIPE, check=True).stdout if command else b""
     if b" version 7.2." not in told:
-        _leave_out(NO_QEMU)
-
-
-def _leave_out(reason: str) -> NoReturn:
-    """Leaves a test out; where CI is set, it fails."""
-    if os.environ.get("CI"):
-        pytest.fail(reason)
-    pytest.skip(reason)
-
-
-def start_browser(*more: str) -> "Chrome":
-    """Chromium without a window, with more words than it needs for that."""
-    from selenium.webdriver import Chrome, ChromeOptions
-    from selenium.webdriver.chrome.service import Service
-
-    chromium, driver = shutil.which("chromium"), shutil.which("chromedriver")
-    assert chromium and driver
-    options = ChromeOptions()
-    options.binary_location = chromium
-    for word in ("headless=new", "no-sandbox", "disable-dev-shm-usage", "disable-gpu", "window-size=1280,900", *more):
-        options.add_argument(f"--{word}")
-    options.set_capability("goog:loggingPrefs", {"browser": "ALL"})
-    return Chrome(options=options, service=Service(driver))
+        leave_out(NO_QEMU)
 
 
 def pytest_terminal_summary(terminalreporter: TerminalReporter) -> None:

@@ -18,7 +18,8 @@ A script has a command on each line, after the digit of its user, 1 to 8, and a 
   enter  leave  load  map  poke  peek  set  regs  setpc  vreg  vset  vcsr  policy
   asm  dis  break  unbreak  breaks  step  go  stop  state  out  trace
 The operator's lines begin with a star and a space: slices  run  list  stats
-docs/COMMANDS.md says what each does and answers.
+What each does and answers stands in `man vecmon-commands`, and in docs/COMMANDS.md of the
+repository, which is share/doc/vecmon/docs/COMMANDS.md of a package.
 
 Example, a program of one instruction:
   1 enter

@@ -1,5 +1,0 @@
-"""A front end for vecmon: it speaks lines with the program, and shows what the machine told."""
-
-
-class LabError(Exception):
-    """What the user of the lab can mend: its text is one line that says what is wrong."""

@@ -1,0 +1,174 @@
+"""A class served for tests of its pages, and tabs of one browser in it."""
+
+import hashlib
+import json
+import os
+import pathlib
+import re
+import signal
+import subprocess
+import sys
+import urllib.request
+from collections.abc import Sequence
+from typing import IO, TYPE_CHECKING, Any
+
+from support.places import SUM, TOP
+
+if TYPE_CHECKING:
+    from selenium.webdriver import Chrome
+
+PATIENCE = 60  # seconds: after so long a test that waits has failed
+
+
+class Served:
+    """A class's server in a process of its own, over a folder; it can be killed, and begun again at the same port."""
+
+    def __init__(self, folder: pathlib.Path, program: pathlib.Path, *words: str) -> None:
+        self.folder, self.program, self.words, self.port = folder, program, words, 0
+        self.log: IO[str] = open(folder.with_suffix(".log"), "w")
+        self.begin()
+
+    def begin(self) -> None:
+        command = [
+            sys.executable,
+            "-m",
+            "vecmon_lab",
+            "class",
+            str(self.folder),
+            f"sum={SUM}",
+            "--port",
+            str(self.port),
+        ]
+        environment = os.environ | {"VECMON": str(self.program), "PYTHONPATH": str(TOP)}
+        self.server = subprocess.Popen(
+            [*command, *self.words], stdout=subprocess.PIPE, stderr=self.log, text=True, env=environment
+        )
+        assert self.server.stdout
+        told = re.search(r"http://127\.0\.0\.1:(\d+)/#(\S+)", self.server.stdout.readline())
+        assert told, pathlib.Path(self.log.name).read_text()
+        self.port = int(told[1])
+
+    @property
+    def codes(self) -> dict[str, str]:
+        """The codes by seat, and the teacher's."""
+        codes: dict[str, str] = json.loads((self.folder / "codes.json").read_text())
+        return codes
+
+    def address(self, who: str) -> str:
+        """The address of a seat's page, or the teacher's."""
+        return f"http://127.0.0.1:{self.port}/#{self.codes[who]}"
+
+    def programs(self) -> list[int]:
+        """The numbers of the program's processes, the server's children."""
+        told = subprocess.run(["ps", "-o", "pid=", "--ppid", str(self.server.pid)], stdout=subprocess.PIPE, text=True)
+        return [int(word) for word in told.stdout.split() if word != str(self.server.pid)]
+
+    def fetch(self, name: str) -> bytes:
+        """A script or a transcript, as the teacher fetches it."""
+        request = urllib.request.Request(
+            f"http://127.0.0.1:{self.port}/{name}", headers={"Authorization": f"Bearer {self.codes['teacher']}"}
+        )
+        with urllib.request.urlopen(request) as answer:
+            data: bytes = answer.read()
+        return data
+
+    def check_replay(self, digest: str) -> bytes:
+        """The recorded script, whose plain run gives answers of this SHA-256."""
+        script = self.fetch("A/script")
+        done = subprocess.run(
+            [self.program, "--", "/dev/stdin", f"sum={SUM}"], input=script, stdout=subprocess.PIPE, check=True
+        )
+        assert hashlib.sha256(done.stdout).hexdigest() == digest
+        assert self.fetch("A/transcript") == done.stdout
+        return script
+
+    def kill(self) -> None:
+        self.server.send_signal(signal.SIGKILL)
+        self.server.wait()
+
+    def end(self) -> None:
+        self.kill()
+        if self.server.stdout:
+            self.server.stdout.close()
+        self.log.close()
+
+
+class Tab:
+    """A tab of the browser at a seat, or the teacher's."""
+
+    def __init__(self, browser: "Chrome", served: Served, who: str) -> None:
+        self.browser, self.served, self.who = browser, served, who
+        browser.switch_to.new_window("tab")
+        self.handle = browser.current_window_handle
+        browser.get(served.address(who))
+        self.wait(f"id('who').textContent === '{'Teacher' if who == 'teacher' else f'Seat {who}'}'")
+
+    def front(self) -> "Chrome":
+        """The browser, with this tab before all others."""
+        if self.browser.current_window_handle != self.handle:
+            self.browser.switch_to.window(self.handle)
+        return self.browser
+
+    def run(self, script: str, *arguments: Any) -> Any:
+        """What a script of the page's answers; in it, `id`, `one` and `all` find elements."""
+        helpers = """const id = (name) => document.getElementById(name), one = (css) => document.querySelector(css),
+            all = (css) => [...document.querySelectorAll(css)];"""
+        return self.front().execute_script(f"{helpers} return {script}", *arguments)
+
+    def wait(self, script: str, *arguments: Any) -> Any:
+        """What a script answers as soon as that is true."""
+        from selenium.common.exceptions import TimeoutException
+        from selenium.webdriver.support.wait import WebDriverWait
+
+        self.front()
+        try:
+            return WebDriverWait(self.browser, PATIENCE, 0.02).until(lambda _: self.run(script, *arguments))
+        except TimeoutException as error:
+            raise AssertionError(f"{script} {arguments}: {self.run('document.body.innerText')}") from error
+
+    def click(self, selector: str) -> None:
+        from selenium.webdriver.common.by import By
+
+        self.front().find_element(By.CSS_SELECTOR, selector).click()
+
+    def keys(self, selector: str, *keys: str) -> None:
+        from selenium.webdriver.common.by import By
+
+        self.front().find_element(By.CSS_SELECTOR, selector).send_keys(*keys)
+
+    def command(self, *lines: str) -> None:
+        """Enters lines at the command line, and waits until all are answered."""
+        asked = "all('#log .asked').length"
+        before = self.run(asked)
+        self.run("arguments[0].forEach((line) => (id('line').value = line, id('command').requestSubmit()))", lines)
+        self.wait(f"{asked} >= arguments[0] && !one('#log li:last-child').matches('.asked')", before + len(lines))
+
+    def begin(self, *lines: str) -> None:
+        """A new machine with these instructions at 10000 on."""
+        self.click("#new")
+        self.wait("one('#log li:nth-last-child(2)')?.textContent === '> setpc 10000'")
+        self.command(*(f"asm {0x10000 + 4 * place:x} {line}" for place, line in enumerate(lines)))
+
+    def text(self, selector: str) -> str:
+        text: str = self.run("one(arguments[0]).textContent", selector)
+        return text
+
+    def close(self) -> None:
+        self.front().close()
+
+
+def digest_of(teacher: Tab) -> str:
+    """The digest of all answers, as the teacher is told it, once the page knows the whole script."""
+    size = len(teacher.served.fetch("A/script"))
+    teacher.wait("one('.figures').textContent.includes(arguments[0])", f" {size:,} of ")
+    digest: str = teacher.run("one('.figures').textContent.match(/[0-9a-f]{64}/)[0]")
+    return digest
+
+
+def close_all(browser: "Chrome", tabs: Sequence[str]) -> None:
+    """Closes all tabs but these."""
+    for handle in browser.window_handles:
+        if handle not in tabs:
+            browser.switch_to.window(handle)
+            browser.close()
+    browser.switch_to.window(tabs[0])

@@ -1,0 +1,178 @@
+"""A served class, and tabs without a browser."""
+
+import asyncio
+import hashlib
+import json
+import pathlib
+import re
+import signal
+import subprocess
+import sys
+from collections.abc import AsyncIterator, Callable, Mapping
+from contextlib import asynccontextmanager
+from typing import Any
+
+import aiohttp
+
+from support.places import SUM, TOP
+from vecmon_lab.classes import server as class_server
+from vecmon_lab.classes.store import Store
+from vecmon_lab.classes.view import Class
+from vecmon_lab.machine.program import find_program
+
+LOOP = ["enter", "map 10000 1 rwx", "asm 10000 addi x5, x5, 1", "asm 10004 jal x0, -4", "setpc 10000"]
+SECONDS = 60.0  # until a test that waits in vain is given up
+
+Message = dict[str, Any]
+
+
+def patched(value: Any, patch: Any) -> Any:
+    """What a merge patch makes of a value: the pseudo-code of RFC 7396, section 2."""
+    if not isinstance(patch, dict):
+        return patch
+    result = dict(value) if isinstance(value, dict) else {}
+    for key, part in patch.items():
+        if part is None:
+            result.pop(key, None)
+        else:
+            result[key] = patched(result.get(key), part)
+    return result
+
+
+class Tab:
+    """A tab: its view, its logs, and the messages that came."""
+
+    def __init__(self, socket: aiohttp.ClientWebSocketResponse) -> None:
+        self.socket = socket
+        self.view: Message = {}
+        self.logs: dict[str, list[str]] = {}
+        self._number = 0
+
+    async def receive(self) -> Message:
+        """The next message, taken up. Raises EOFError with the code where the server has closed."""
+        message = await asyncio.wait_for(self.socket.receive(), SECONDS)
+        if message.type is not aiohttp.WSMsgType.TEXT:
+            is_told = message.type is aiohttp.WSMsgType.CLOSE
+            raise EOFError(message.data if is_told else self.socket.close_code)
+        told: Message = json.loads(message.data)
+        self.view = patched(self.view, told.get("patch", {}))
+        for name, entries in told.get("logs", {}).items():
+            self.logs.setdefault(name, []).extend(entries)
+        return told
+
+    async def ask(self, kind: str, **words: Any) -> Message:
+        """The answer to a request."""
+        self._number += 1
+        await self.socket.send_json({"id": self._number, "ask": kind, **words})
+        while (told := await self.receive())["kind"] != "answer":
+            pass
+        assert told["id"] == self._number
+        return told
+
+    async def do(self, *lines: str, **words: Any) -> list[list[str]]:
+        """The answers to lines."""
+        told = await self.ask("lines", do=lines, **words)
+        assert "error" not in told, told
+        answers: list[list[str]] = told["do"]
+        return answers
+
+    async def until(self, wanted: Callable[[Message], object]) -> None:
+        """Takes messages until the view is as wanted."""
+        while not wanted(self.view):
+            await self.receive()
+
+
+class Served:
+    """A class that is served, in this process or in one of its own."""
+
+    def __init__(self, folder: pathlib.Path, port: int, session: aiohttp.ClientSession) -> None:
+        self.folder, self.port, self.session = folder, port, session
+        self.url = f"http://127.0.0.1:{port}/"
+        self.codes: dict[str, str] = json.loads((folder / "codes.json").read_text())
+        self.server: asyncio.subprocess.Process | None = None
+        self.members: Class | None = None
+
+    async def open(self, code: Any, **headers: str) -> Tab:
+        """A socket that has sent a code and waits for what comes."""
+        socket = await self.session.ws_connect(self.url + "socket", headers=headers, max_msg_size=0)
+        await socket.send_json({"code": code})
+        return Tab(socket)
+
+    async def sit(self, who: str) -> Tab:
+        """A tab of a seat, or the teacher's, that was greeted."""
+        tab = await self.open(self.codes[who])
+        assert (await tab.receive())["who"] == who
+        return tab
+
+    async def get(self, path: str, who: str | None = "teacher") -> tuple[int, bytes]:
+        """The status and the body of an answer."""
+        headers = {"Authorization": f"Bearer {self.codes[who]}"} if who else {}
+        async with self.session.get(self.url + path, headers=headers) as answer:
+            return answer.status, await answer.read()
+
+    def machine(self) -> int:
+        """The process of the one machine of a server's process."""
+        assert self.server
+        tasks = pathlib.Path(f"/proc/{self.server.pid}/task").glob("*/children")
+        (child,) = (int(word) for path in tasks for word in path.read_text().split())
+        return child
+
+    async def end(self, sign: signal.Signals = signal.SIGTERM) -> int:
+        """Ends the server's process; its status."""
+        assert self.server
+        self.server.send_signal(sign)
+        return await asyncio.wait_for(self.server.wait(), SECONDS)
+
+    async def check_replay(self, machine: str = "A", is_saved: bool = True) -> tuple[bytes, bytes]:
+        """Script and transcript: a plain run of the script answers what the class was told, and what is kept."""
+        teacher = await self.sit("teacher")
+        script = (await self.get(f"{machine}/script"))[1]
+        images = [f"{name}={self.folder}/images/{name}.elf" for name in teacher.view["images"]]
+        command = [str(find_program()), "/dev/stdin", *images]
+        done = subprocess.run(command, input=script, stdout=subprocess.PIPE, check=True)
+        assert hashlib.sha256(done.stdout).hexdigest() == teacher.view["machines"][machine]["digest"]
+        assert (await self.get(f"{machine}/transcript"))[1] == done.stdout
+        assert not is_saved or (self.folder / f"{machine}.script").read_bytes() == script
+        await teacher.socket.close()
+        return script, done.stdout
+
+
+@asynccontextmanager
+async def served(
+    folder: pathlib.Path, images: Mapping[str, pathlib.Path] = {}, machines: int = 1, name: str = "class"
+) -> AsyncIterator[Served]:
+    """A class that is served in this process."""
+    members = Class(Store(folder, find_program(), images, None, machines), 5.0)
+    async with class_server.served(members, "127.0.0.1", 0, {name}) as port, _session() as session:
+        room = Served(folder, port, session)
+        room.members = members
+        yield room
+
+
+def command(folder: pathlib.Path, *words: str) -> list[str]:
+    """The command that serves a class."""
+    return [sys.executable, "-m", "vecmon_lab", "class", str(folder), *words, "--port", "0"]
+
+
+@asynccontextmanager
+async def process(folder: pathlib.Path, *words: str, **options: Any) -> AsyncIterator[Served]:
+    """A class that a process of its own serves; `server` in it. What is still there at the end is killed."""
+    server = await asyncio.create_subprocess_exec(*command(folder, *words), cwd=TOP, stdout=subprocess.PIPE, **options)
+    assert server.stdout
+    try:
+        line = await asyncio.wait_for(server.stdout.readline(), SECONDS)
+        found = re.fullmatch(rb"teacher: http://[^/]+:(\d+)/#([a-z2-9]{14})\n", line)
+        assert found, line
+        async with _session() as session:
+            room = Served(folder, int(found[1]), session)
+            room.server = server
+            assert room.codes["teacher"] == found[2].decode()
+            yield room
+    finally:
+        if server.returncode is None:
+            server.kill()
+            await server.wait()
+
+
+def _session() -> aiohttp.ClientSession:
+    return aiohttp.ClientSession(connector=aiohttp.TCPConnector(limit=0))

@@ -1,0 +1,17 @@
+"""Tests that are left out where something isn't installed."""
+
+import os
+from typing import NoReturn
+
+import pytest
+
+NO_BROWSER = "there is no Chromium"
+NO_GDB = "there is no gdb-multiarch"
+NO_QEMU = "there is no qemu-riscv64 of version 7.2"
+
+
+def leave_out(reason: str) -> NoReturn:
+    """Leaves a test out; where CI is set, it fails."""
+    if os.environ.get("CI"):
+        pytest.fail(reason)
+    pytest.skip(reason)

@@ -1,0 +1,15 @@
+"""Where things lie in the repository."""
+
+import pathlib
+
+TOP = pathlib.Path(__file__).resolve().parents[2]
+DOCS = TOP / "docs"
+EXAMPLES = TOP / "lab" / "examples"
+DATA = TOP / "lab" / "tests" / "data"
+SCRIPTS = TOP / "tests" / "command_lines" / "data"
+STOCK = SCRIPTS / "images"
+SUM, SQUARES, SORT = STOCK / "sum", STOCK / "squares", TOP / "crates" / "test_images" / "data" / "sortgcc"
+# By the commands of docs/COMPILING.md and -ffile-prefix-map; clang with -gdwarf-4 or -g, gcc with -g and without -s.
+SUM_DWARF4, SUM_DWARF5, SQUARES_DWARF5 = (
+    DATA / "images" / name for name in ("sum_dwarf4", "sum_dwarf5", "squares_dwarf5")
+)

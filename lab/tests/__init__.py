@@ -1,1 +1,0 @@
-"""Tests of the lab, against the program itself and recorded answers of others."""

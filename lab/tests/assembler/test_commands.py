@@ -1,0 +1,103 @@
+"""The table of commands: the manuals have their tables from it, the machine takes what it names, and refusals are told by it."""
+
+import pathlib
+import re
+import subprocess
+
+import pytest
+
+from support.command_tables import with_tables
+from support.places import DOCS
+from vecmon_lab.assembler.commands import COMMANDS, MEANINGS, help_on, refusal_in_words
+from vecmon_lab.machine.lines import is_refusal
+from vecmon_lab.machine.session import Session
+from vecmon_lab.tables.table import read_table
+
+OWN = {"run", "source", "help", "quit"}  # commands of the console
+PAGES = {
+    "COMMANDS.md": [*dict.fromkeys(row[0] for row in read_table("commands"))][:-1] + ["Refusals"],
+    "LAB.md": ["Commands of the console"],
+}
+
+
+@pytest.mark.parametrize("name", PAGES)
+def test_the_pages_have_the_tables(name: str) -> None:
+    page = (DOCS / name).read_text("utf-8")
+    assert with_tables(page) == page
+
+
+@pytest.mark.parametrize("name, section", [(name, section) for name, sections in PAGES.items() for section in sections])
+def test_a_row_that_is_changed_is_made_again(name: str, section: str) -> None:
+    page = (DOCS / name).read_text("utf-8")
+    begin = page.index(f"# {section}\n")
+    row = re.compile(r"^\| (?:`|E\d\d).*\n", re.MULTILINE).search(page, begin)
+    assert row and "\n#" not in page[begin + len(section) : row.start()]
+    without = page[: row.start()] + page[row.end() :]
+    changed = page[: row.start()] + row[0].replace(" | ", " | odd ", 1) + page[row.end() :]
+    assert page not in (without, changed)
+    assert with_tables(without) == with_tables(changed) == page
+
+
+def test_the_machine_takes_what_is_named(session: Session, program: pathlib.Path) -> None:
+    told = subprocess.run([program, "--help"], stdout=subprocess.PIPE, check=True).stdout.decode("ascii")
+    named = set(re.findall("[a-z]+", told))
+    session.do("1 enter")
+    for name in set(COMMANDS) - OWN:
+        line = name if name[0] == "*" else f"1 {name}"
+        assert session.do(line)[0][2:5] != "E03", name
+        assert name.removeprefix("* ") in named
+    for name in OWN:
+        assert session.do(f"1 {name}") == ["1 E03"]
+
+
+def test_each_refusal_has_a_meaning() -> None:
+    assert list(MEANINGS) == [f"E{number:02}" for number in range(1, 17)]
+    assert {code for command in COMMANDS.values() for code in command.refusals} <= {*MEANINGS, "-"}
+
+
+@pytest.mark.parametrize(
+    "name, told",
+    [
+        ("peek", ["peek ADDR N: 1 to 256 bytes from ADDR on are shown", "  E11: an address isn't mapped"]),
+        ("* list", ["* list: it is shown what each user's program does"]),
+        ("run", ["run: the program runs to its next stop; Ctrl-C stops it too"]),
+        ("E14", ["E14: the user's program doesn't run"]),
+        ("dance", ["there is no command dance; help lists them"]),
+    ],
+)
+def test_help(name: str, told: list[str]) -> None:
+    assert help_on(name) == told
+
+
+def test_help_lists_the_commands() -> None:
+    assert help_on("")[1] == "Memory: map ADDR PAGES PERM, poke ADDR HEX, peek ADDR N"
+    listed = " ".join(help_on(""))
+    assert all(command.form in listed for command in COMMANDS.values())
+
+
+@pytest.mark.parametrize(
+    "line, told",
+    [
+        ("1 dance", ["E03: there is no such command, or the line has no word"]),
+        ("1 regs 5", ["E04: a wrong number of words, or a word out of its form or range; the form is regs"]),
+        ("* slices 0", ["E04: a wrong number of words, or a word out of its form or range; the form is * slices N"]),
+        ("2 regs", ["E05: the user has not entered"]),
+        ("1 peek 0 4", ["E11: an address isn't mapped"]),
+        (
+            "1 asm  10000   addi x1,  x0, 4096",
+            [
+                "addi x1,  x0, 4096",
+                "              ^",
+                "E15: 4096 doesn't fit here, as the machine reads it: addi x1,  x0, 4096",
+            ],
+        ),
+        ("1 asm 10000 vadd.vv v1, v2 ", ["vadd.vv v1, v2", "              ^", "E15: an operand is missing at the end"]),
+        ("1 asm 10000 li x1, 5", ["li x1, 5", "^", "E15: there is no instruction li"]),
+    ],
+)
+def test_refusals_in_words(session: Session, line: str, told: list[str]) -> None:
+    for before in ("1 enter", "1 map 10000 1 rwx"):
+        session.do(before)
+    answer = session.do(line)
+    assert is_refusal(answer)
+    assert refusal_in_words(line, answer[0]) == told

@@ -1,0 +1,320 @@
+"""Assembler source, compared with what stock tools made of the same source, and with what the machine answers."""
+
+import pathlib
+import re
+from collections.abc import Iterator
+
+import pytest
+from hypothesis import given, settings
+from hypothesis import strategies as st
+
+from support.places import DATA, DOCS
+from vecmon_lab.assembler.source import Program, SourceError, assemble, refusal
+from vecmon_lab.machine.session import Session
+
+STOCK = DATA / "stock"
+INSTRUCTIONS = DOCS / "INSTRUCTIONS.md"
+SOURCES = sorted(path.stem for path in STOCK.glob("*.s"))
+PURE = settings(derandomize=True, database=None, deadline=None)
+
+
+def load(session: Session, program: Program) -> None:
+    """Enters, and does all lines of a program, none of which may be refused."""
+    for line in ["enter", *program.lines, f"setpc {program.entry:x}"]:
+        [answer] = session.do(f"1 {line}")
+        assert re.fullmatch(r"1 (?:entered|ok|[0-9a-f]{16} [0-9a-f]{8})", answer), line
+
+
+def source(name: str) -> str:
+    return (STOCK / f"{name}.s").read_text(encoding="utf-8")
+
+
+def records(name: str, kind: str) -> Iterator[tuple[str, str]]:
+    for line in (STOCK / f"{name}.recorded").read_text().splitlines():
+        what, first, second = line.split()
+        if what == kind:
+            yield first, second
+
+
+@pytest.mark.parametrize("name", SOURCES)
+def test_bytes_and_symbols_are_those_of_a_stock_assembler(session: Session, name: str) -> None:
+    program = assemble(source(name))
+    load(session, program)
+    for address, content in records(name, "bytes"):
+        assert session.look(f"1 peek {address} {len(content) // 2}") == [f"1 peek {address} {content}"]
+    assert program.labels == {symbol: int(address, 16) for symbol, address in records(name, "symbol")}
+    assert program.entry == program.labels.get("_start", 0x10000)
+
+
+def test_the_sources_have_every_instruction() -> None:
+    known = set(re.findall(r"^\| `([^ `]+)", INSTRUCTIONS.read_text(), re.MULTILINE))
+    assert len(known) >= 598
+    assert known <= {statement.text.split()[0] for statement in assemble(source("instructions")).statements}
+
+
+def test_each_statement_names_its_line() -> None:
+    statements = assemble("\n nop\nlabel: li a0, 0x12345678 # two\n").statements
+    assert [(item.address, item.line) for item in statements] == [(0x10000, 2), (0x10004, 3), (0x10008, 3)]
+
+
+def test_call_is_one_jump() -> None:
+    program = assemble("f: nop\n call f\n call g\ng: ret")
+    assert [item.text for item in program.statements] == ["addi x0, x0, 0", "jal x1, -4", "jal x1, 4", "jalr x0, 0(x1)"]
+
+
+def test_a_program_begins_at_start() -> None:
+    assert assemble(" nop\n_start: nop").entry == 0x10004
+    assert assemble(" nop\nstart: nop", 0x3000).entry == 0x3000
+    for origin in (0x10004, -0x1000, (1 << 48) - 0x1000):
+        with pytest.raises(ValueError):
+            assemble("", origin)
+
+
+def test_sections_have_pages_and_rights_of_their_own() -> None:
+    program = assemble(".data\n.byte 1\n.bss\n.zero 4097\n.text\n.zero 4096\n", 0x400000)
+    assert program.lines == ["map 400000 1 rx", "map 401000 1 rw", "map 402000 2 rw", "poke 401000 01"]
+    assert assemble("").lines == []
+
+
+def test_long_data_is_written_in_pieces() -> None:
+    lines = assemble(".data\n" + ".dword -1\n" * 65 + '.zero 300\n.string "' + "." * 400 + '"').lines
+    assert lines[:2] == ["map 10000 1 rw", f"poke 10000 {'ff' * 256}"]
+    assert lines[2:4] == [f"poke 10100 {'ff' * 256}", "poke 10200 ffffffffffffffff"]
+    assert lines[4:] == [f"poke 10334 {'2e' * 256}", f"poke 10434 {'2e' * 144}00"]
+
+
+def test_a_branch_reaches_its_edges() -> None:
+    assert assemble("a: .zero 4096\n beqz a0, a").statements[0].text == "beq x10, x0, -4096"
+    assert assemble(" blt a0, a1, a\n .zero 4088\na: nop").statements[0].text == "blt x10, x11, 4092"
+    assert assemble(" j a\n .zero 0xffff8\na: .byte 1").statements[0].text == "jal x0, 1048572"
+
+
+def run(session: Session, name: str) -> tuple[Program, str]:
+    """A program run to its stop line."""
+    program = assemble(source(name))
+    load(session, program)
+    for _ in range(100):
+        [answer] = session.do("1 step 256")
+        if not answer.startswith("1 stepped"):
+            return program, answer
+    raise AssertionError(f"{name} doesn't stop")
+
+
+def test_strlen_counts(session: Session) -> None:
+    text = "".join(re.findall(r'\.(?:ascii|string)\s+"(.*)"', source("strlen")))
+    assert run(session, "strlen")[1].startswith(f"1 exit {len(text)} ")
+
+
+def test_memcpy_copies(session: Session) -> None:
+    text = "".join(re.findall(r'\.ascii\s+"(.*)"', source("memcpy"))).replace("\\n", "\n")
+    assert run(session, "memcpy")[1].startswith("1 exit 0 ")
+    assert session.do("1 out") == [f"1 out {len(text)} {text.encode().hex()}"]
+
+
+def test_axpy_adds(session: Session) -> None:
+    x = [*range(1, 21), *range(-1, -9, -1), 0x7FFFFFFF, 0x80000000, *range(21, 28)]
+    y = [0, *range(100, 1900, 100), *range(10, 100, 10), 0xFFFFFFFF, *range(110, 190, 10)]
+    program, stop = run(session, "axpy")
+    assert stop.startswith("1 ebreak ")
+    expected = b"".join(
+        ((7 * first + second) % (1 << 32)).to_bytes(4, "little") for first, second in zip(x, y, strict=True)
+    )
+    assert session.look(f"1 peek {program.labels['y']:x} 148")[0].split()[-1] == expected.hex()
+
+
+ERRORS = [
+    ("nop\n j nowhere", 2, 4, "nowhere is no register that fits here, and no label"),
+    ("a: nop\n  a: nop", 2, 3, "a is defined in line 1 already"),
+    (".equ a, 1\na: nop", 2, 1, "a is defined in line 1 already"),
+    (
+        "  beq a0, a1, 8",
+        1,
+        15,
+        "a label is needed here: a number is an address to some assemblers, and a distance to others",
+    ),
+    ("  jal -4", 1, 7, "a label is needed here"),
+    ("  beq a0, a1", 1, 11, "a1 is no register that fits here, and no label"),
+    ("  j 0x10000", 1, 5, "a label is needed here"),
+    ("  la a0, 16", 1, 10, "a label is needed here"),
+    ("  li a0, 010", 1, 10, "010 begins with a zero: stock assemblers read that as octal"),
+    (" .word 1, 007", 1, 11, "007 begins with a zero"),
+    (" addi a0, a0, 0b1", 1, 15, "0b1 is no number"),
+    (" li a0, 0x", 1, 9, "0x is no number"),
+    ("a: .zero 4100\n beqz a0, a", 2, 11, "this is -4100 bytes away, and -4096 to 4094 can be reached"),
+    (" beqz a0, a\n .zero 4092\na: nop", 1, 11, "this is 4096 bytes away"),
+    (" j a\n .zero 1044480\n .zero 4092\na: nop", 4, 4, "here the program grows beyond 256 pages"),
+    (".data\n .zero 0x100000\n .zero 1", 3, 2, "here the program grows beyond 256 pages"),
+    (' .incbin "x"', 1, 2, "there is no directive .incbin"),
+    (" add a0, a1, a9", 1, 14, "a9 is no register that fits here"),
+    (" add x32, a1, a2", 1, 6, "x32 is no register that fits here"),
+    (" lw a0, 4(b0)", 1, 10, "an address is a register in parentheses"),
+    (" lw a0, 4(a0", 1, 10, "an address is a register in parentheses"),
+    (" vle8.v v1, 4(a0)", 1, 13, "the address of a vector instruction has no distance"),
+    (" lw a0, a", 1, 9, "a is no register that fits here"),
+    ("a: lw a0, a", 1, 11, "a number is needed here, and this is an address"),
+    ("a: li a0, a", 1, 11, "a number is needed here, and this is an address"),
+    (" li a0, 0x10000000000000000", 1, 9, "has more than 64 bits"),
+    (" li a0, -0x8000000000000001", 1, 9, "has more than 64 bits"),
+    (" li a0, 18446744073709551616 - 1", 1, 9, "has more than 64 bits"),
+    (" li a0, " + "9" * 5000, 1, 9, "has more than 64 bits"),
+    (" .byte 255, 256", 1, 13, "256 is out of range: -128 to 255 fit"),
+    (" .byte -129", 1, 8, "-129 is out of range"),
+    (".data\na: .half a", 2, 10, "65536 is out of range"),
+    (" .dword -0x8000000000000001", 1, 9, "is out of range"),
+    (" .word", 1, 2, ".word takes one operand or more"),
+    (' .string "never ends', 1, 10, "this string doesn't end on its line"),
+    (' .string "ends\\"', 1, 10, "this string doesn't end on its line"),
+    (' .string "no \\q"', 1, 14, "there is no such escape in a string"),
+    (' .string "é\\x414"', 1, 12, "there is no such escape in a string"),
+    (" .string text", 1, 10, "a string in double quotes is needed here"),
+    (' .string "a" "b"', 1, 14, "a comma has to stand between strings"),
+    (" mv a0", 1, 2, "mv takes 2 operands, not 1"),
+    (" ret a0", 1, 2, "ret takes 0 operands, not 1"),
+    (" add a0, , a1", 1, 10, "an operand is missing before this comma"),
+    (" add a0, a1,", 1, 12, "an operand is missing after this comma"),
+    (" add a0 a1, a2", 1, 9, "a1 doesn't fit here: a comma may be missing before it"),
+    (" addi a0, a0, 1 +", 1, 17, "a number is missing after +"),
+    (" addi a0, a0, 1 2", 1, 17, "2 doesn't fit here"),
+    (" addi a0, a0, @", 1, 15, "@ doesn't fit here"),
+    (" * nop", 1, 2, "* stands where an instruction, a directive or a label has to"),
+    ("1: nop", 1, 1, "1 is no label"),
+    (" j 1b", 1, 4, "1b is no number"),
+    (" ADD a0, a0, a0", 1, 2, "there is no such instruction"),
+    (".data\n nop", 2, 2, "nop stands outside of .text"),
+    (".byte 1\n nop", 2, 2, "the address of nop isn't divisible by 4"),
+    (".bss\n .byte 1", 2, 2, ".bss has zeros alone"),
+    ('.bss\n .string ""', 2, 2, ".bss has zeros alone"),
+    (" .align 13", 1, 9, ".align n aligns to 2^n bytes, with n from 0 to 12"),
+    (" .balign 12", 1, 10, ".balign takes a power of two from 1 to 4096"),
+    (" .zero -1", 1, 8, ".zero takes how many bytes there are"),
+    (" .section .rodata", 1, 11, "a section is .text, .data or .bss"),
+    (" .equ 5, 5", 1, 7, ".equ takes a name and a number"),
+    (" li a0, later\n .equ later, 1", 1, 9, "later is no register that fits here"),
+    (
+        "a: nop\nb: .data\nc: .word c - a",
+        3,
+        14,
+        "of two addresses only the difference can be taken, and only in one section",
+    ),
+    ("a: .dword -a", 1, 12, "of two addresses only the difference can be taken"),
+    ("a: .dword a + a", 1, 15, "of two addresses only the difference can be taken"),
+    (" vmslt.vi v1, v2, 17", 1, 19, "vmslt.vi takes a number from -15 to 16"),
+    (" vmsge.vx v0, v2, a0, v0.t", 1, 11, "into v0 this needs one more operand"),
+    (" vmsge.vx v1, v2, a0, v0.t, v1", 1, 29, "must be neither v0 nor the destination"),
+    (" vmsge.vx v1, v2, a0, v3", 1, 2, "vmsge.vx takes vd, vs2, rs1"),
+    (" vmsge.vx v1, v2, a0, v0.t, v3, v0.t", 1, 2, "vmsge.vx takes vd, vs2, rs1"),
+]
+
+
+@pytest.mark.parametrize(("text", "line", "column", "message"), ERRORS)
+def test_errors_name_line_and_column(text: str, line: int, column: int, message: str) -> None:
+    with pytest.raises(SourceError) as caught:
+        assemble(text)
+    assert (caught.value.line, caught.value.column) == (line, column)
+    assert message in caught.value.message
+
+
+REFUSED = [
+    ("  frobnicate a0", 3, "there is no instruction frobnicate"),
+    ("  vfadd.vv v1, v2, v3", 3, "there is no instruction vfadd.vv"),
+    ("  addi   s11, a0, 4096  # too much", 19, "4096 doesn't fit here"),
+    ("  addi   s11, a0, -2049", 19, "doesn't fit here"),
+    ("a: addi s11,s11,1,2", 19, "there is an operand too many, as the machine reads it: addi x27, x27, 1, 2"),
+    ("  lw  s11,  2048(a0)", 13, "2048 doesn't fit here"),
+    ("  lw  s11,  20(v1)", 16, "v1 doesn't fit here"),
+    ("  lw  s11,  a0", 13, "x10 doesn't fit here"),
+    ("  add s11, a0, 5", 16, "5 doesn't fit here"),
+    ("  mv  a0,  5", 12, "5 doesn't fit here"),
+    ("  mv  v5,  a0", 7, "v5 doesn't fit here"),
+    ("  mv  a0, a1, v0.t", 15, "there is an operand too many"),
+    ("  vmand.mm v1, v2, v3, v0.t", 24, "there is an operand too many"),
+    ("  vadd.vv  v1, v2  # and", 18, "an operand is missing at the end"),
+    ("  vsetvli  t0, a0, e32, m1, ta", 31, "an operand is missing at the end"),
+    ("  vsetvli  t0, a0, e32, ta, ma", 25, "ta doesn't fit here"),
+    ("  csrr     a0, 4096", 16, "4096 doesn't fit here"),
+    ("  csrwi    vxrm, 32", 18, "32 doesn't fit here"),
+    ("a: .byte 1, 1\n.align 2\n  bne a0, zero, a + 1", 17, "doesn't fit here"),
+]
+
+
+@pytest.mark.parametrize(("text", "column", "message"), REFUSED)
+def test_a_refusal_of_the_machine_names_the_place_in_the_source(
+    session: Session, text: str, column: int, message: str
+) -> None:
+    program = assemble(text)
+    session.do("1 enter")
+    session.do("1 map 10000 1 rx")
+    statement = program.statements[-1]
+    [answer] = session.do(f"1 asm {statement.address:x} {statement.text}")
+    assert answer.startswith("1 E15 ")
+    error = refusal(statement, int(answer.removeprefix("1 E15 ")))
+    assert (error.line, error.column) == (text.count("\n") + 1, column)
+    assert message in error.message
+
+
+def reached(program: Program) -> int:
+    """What the instructions of a li leave in a0, as the unprivileged manual says for each."""
+    value = 0
+    for statement in program.statements:
+        name, *operands = statement.text.replace(",", "").split()
+        number = int(operands[-1])
+        assert operands[0] == "x10" and operands[1:-1] in ([], ["x0"], ["x10"]) and (value == 0 or name != "lui")
+        value = 0 if operands[1:-1] == ["x0"] else value
+        results = {
+            "lui": number << 12 if number < 1 << 19 else (number << 12) - (1 << 32),
+            "addi": value + number,
+            "addiw": ((value + number + (1 << 31)) % (1 << 32)) - (1 << 31),
+            "slli": value << number if 0 <= number < 64 else 0,
+            "srli": value >> number if 0 <= number < 64 else 0,
+            "xori": value ^ (number % (1 << 64)),
+        }
+        assert name not in ("addi", "addiw", "xori") or -2048 <= number < 2048
+        value = results[name] % (1 << 64)
+    return value
+
+
+SHIFTED = st.tuples(st.integers(-99, 99), st.integers(0, 56)).map(lambda pair: pair[0] << pair[1])
+
+
+@PURE
+@given(st.integers(-(1 << 63), (1 << 64) - 1) | SHIFTED)
+def test_li_reaches_its_constant(value: int) -> None:
+    program = assemble(f"li a0, {value}")
+    assert reached(program) == value % (1 << 64)
+    assert assemble(f"li a0, {'-' if value < 0 else ''}{abs(value):#x}").lines == program.lines
+    assert 1 <= len(program.statements) <= 8
+
+
+@PURE
+@given(st.sampled_from([1, 2, 4, 8]), st.integers(-(1 << 64), 1 << 65), st.booleans(), st.integers(0, 99))
+def test_numbers_of_data(width: int, value: int, hexadecimal: bool, more: int) -> None:
+    directive = {1: ".byte", 2: ".half", 4: ".word", 8: ".dword"}[width]
+    digits = hex(abs(value)) if hexadecimal else str(abs(value))
+    text = f".data\n{directive} {'-' if value < 0 else ''}{digits}, {more} - {more} + 7\n"
+    if abs(value) < 1 << 64 and -(1 << 8 * width - 1) <= value < 1 << 8 * width:
+        expected = (value % (1 << 8 * width)).to_bytes(width, "little") + (7).to_bytes(width, "little")
+        assert assemble(text).lines[1:] == [f"poke 10000 {expected.hex()}"]
+    else:
+        with pytest.raises(SourceError):
+            assemble(text)
+
+
+NAMES = "a0 sp v1 v0.t vl e32 m1 label x .text .data .bss .byte .word .zero .align .ascii .equ .section".split()
+NAMES += "li la mv j call beqz addi lw vle32.v vsetvli vmsge.vx vmslt.vi csrr jalr ret".split()
+OTHERS = '0 1 -1 12 0x7ff 010 4097 0xffffffffffffffff "a\\n" " \\ ( ) , : + - # // @ é \u2028 \r \0'.split(" ")
+WORDS = st.sampled_from(NAMES + OTHERS)
+SOURCE = st.lists(st.lists(WORDS, max_size=9).map(" ".join) | st.text(max_size=20), max_size=6).map("\n".join)
+
+
+@settings(PURE, max_examples=200)
+@given(SOURCE)
+def test_any_text_is_assembled_or_has_an_error_in_it(text: str) -> None:
+    lines = text.split("\n")
+    try:
+        program = assemble(text)
+    except SourceError as error:
+        assert 1 <= error.line <= len(lines) and 1 <= error.column <= len(lines[error.line - 1]) + 1
+        assert "\n" not in str(error)
+    else:
+        assert all(re.fullmatch("[ -~]{0,1022}", line) for line in program.lines)
+        assert all(1 <= item.line <= len(lines) for item in program.statements)

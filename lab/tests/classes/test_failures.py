@@ -1,0 +1,302 @@
+"""What goes wrong in a class: programs that end or hang, servers that are killed, a full disk, floods."""
+
+import asyncio
+import json
+import os
+import pathlib
+import resource
+import shutil
+import signal
+
+import pytest
+
+from support.class_tabs import LOOP, SECONDS, process, served
+from vecmon_lab import LabError
+from vecmon_lab.classes.room import Stopped
+from vecmon_lab.classes.store import BadFolder, Store
+from vecmon_lab.classes.view import Class
+from vecmon_lab.machine import session as machine
+from vecmon_lab.machine.program import find_program
+
+pytestmark = pytest.mark.asyncio
+
+
+async def test_a_program_that_is_killed_or_hangs(tmp_path: pathlib.Path) -> None:
+    async with process(tmp_path / "class", "--patience", "1") as room:
+        tab, other, teacher = await room.sit("A1"), await room.sit("A2"), await room.sit("teacher")
+        await tab.do(*LOOP, "step 7")
+        await other.do(*LOOP)
+        for count, sign in enumerate((signal.SIGKILL, signal.SIGTERM, signal.SIGSTOP), 1):
+            os.kill(room.machine(), sign)
+            waiting = asyncio.create_task(tab.do("step 2"))
+            await teacher.ask("rights", machine="A", own_slices=True)  # which never waits for the machine
+            assert await waiting == [["stepped 2 pc=0000000000010004"]]
+            await teacher.until(lambda view: view["machines"]["A"]["restarts"] == count)
+        assert "says nothing for 1 s" in teacher.view["machines"]["A"]["loss"]
+        assert await other.do("step 1") == [["stepped 1 pc=0000000000010004"]]
+        await room.check_replay()
+        assert await room.end() == 0
+
+
+@pytest.mark.parametrize("sign", [signal.SIGINT, signal.SIGTERM])
+async def test_a_server_that_is_told_to_end(tmp_path: pathlib.Path, sign: signal.Signals) -> None:
+    async with process(tmp_path / "class", "--patience", "1000") as room:
+        tab, deaf = await room.sit("A1"), await room.sit("teacher")
+        await tab.do(*LOOP)
+        child = room.machine()
+        os.kill(child, signal.SIGSTOP)
+        await tab.socket.send_json({"id": 9, "ask": "lines", "do": ["step 1"]})  # which waits for the machine
+        for _ in range(3):
+            await deaf.ask("rights", machine="A", own_slices=True)  # which doesn't wait for the machine
+        assert await room.end(sign) == 0
+        with pytest.raises(EOFError, match="1001"):
+            await deaf.until(lambda view: False)
+        with pytest.raises(ProcessLookupError):
+            os.kill(child, 0)
+        script = (tmp_path / "class" / "A.script").read_text()
+        assert script.splitlines() == [f"1 {line}" for line in LOOP]
+
+
+async def test_a_program_that_is_replaced(tmp_path: pathlib.Path) -> None:
+    program, old, new = (tmp_path / name for name in ("vecmon", "old", "new"))
+    shutil.copy(find_program(), program)
+    new.write_bytes(program.read_bytes() + b"\0")
+    new.chmod(0o755)
+    environment = os.environ | {"VECMON": str(program)}
+    async with process(tmp_path / "class", env=environment, stderr=asyncio.subprocess.PIPE) as room:
+        tab = await room.sit("A1")
+        await tab.do(*LOOP, "step 7")
+        assert room.server and room.server.stderr
+        program.rename(old)
+        new.rename(program)  # as an upgrade does it
+        os.kill(room.machine(), signal.SIGKILL)
+        with pytest.raises((EOFError, AssertionError)):
+            await tab.do("step 1")  # which no new program carries out
+        assert await asyncio.wait_for(room.server.wait(), SECONDS) == 2
+        errors = (await room.server.stderr.read()).decode()
+    assert errors == f"vecmon-lab: the class has ended, since {program} is another program now\n"
+    assert (tmp_path / "class" / "A.script").read_text().count("step") == 1
+    async with process(tmp_path / "class", env=environment | {"VECMON": str(old)}) as room:
+        tab = await room.sit("A1")
+        assert await tab.do("step 1") == [["stepped 1 pc=0000000000010000"]]
+        assert await room.end() == 0
+
+
+async def test_a_program_that_is_taken_away(tmp_path: pathlib.Path) -> None:
+    program = tmp_path / "vecmon"
+    shutil.copy(find_program(), program)
+    environment = os.environ | {"VECMON": str(program)}
+    async with process(tmp_path / "class", env=environment, stderr=asyncio.subprocess.PIPE) as room:
+        tab = await room.sit("A1")
+        await tab.do(*LOOP, "step 7")
+        program.unlink()  # as its package is removed
+        assert room.server and room.server.stderr
+        assert await asyncio.wait_for(room.server.wait(), SECONDS) == 2
+        errors = (await room.server.stderr.read()).decode()
+    assert errors == f"vecmon-lab: the class has ended, since {program} isn't there any more\n"
+    assert (tmp_path / "class" / "A.script").read_text().count("step") == 1
+
+
+async def test_a_server_that_is_killed_and_begun_again(tmp_path: pathlib.Path) -> None:
+    folder = tmp_path / "class"
+    async with process(folder) as room:
+        tab, other, teacher = await room.sit("A1"), await room.sit("A2"), await room.sit("teacher")
+        await tab.do(*LOOP, "step 7")
+        await other.do(*LOOP, "go")
+        await tab.ask("source", text="first: j first")
+        await teacher.ask("clock", machine="A", slices=3, ms=50)
+        await teacher.ask("rights", machine="A", own_slices=False)
+        await teacher.do("run 2", machine="A")
+        codes, seats = room.codes, teacher.view["machines"]["A"]["seats"]
+        notes = folder / "A.json"
+        while not notes.exists() or json.loads(notes.read_text())["lines"] < teacher.view["machines"]["A"]["lines"]:
+            await asyncio.sleep(0.05)
+        await tab.do("step 1")  # which the digest doesn't cover yet
+        await room.end(signal.SIGKILL)
+    with open(folder / "A.script", "ab") as file:
+        file.write(b"1 step 100")  # torn: without its newline
+    async with served(folder) as room:
+        assert room.codes == codes
+        again, last, teacher = await room.sit("A1"), await room.sit("A2"), await room.sit("teacher")
+        assert again.logs["A1"] == tab.logs["A1"] and again.view["state"]["labels"] == {"10000": ["first"]}
+        assert {**again.view["state"], "instruction": "10000"} == tab.view["state"]
+        assert last.view["state"]["run"] == "running" and not last.view["own_slices"]
+        now = teacher.view["machines"]["A"]
+        assert now["clock"] == {"on": False, "slices": 3, "ms": 50}
+        assert now["seats"]["2"] | {"tabs": 1} == seats["2"]
+        assert await again.do("step 1") == [["stepped 1 pc=0000000000010000"]]
+        await room.check_replay()
+
+
+async def test_a_script_that_is_answered_otherwise(tmp_path: pathlib.Path, program: pathlib.Path) -> None:
+    folder = tmp_path / "class"
+    async with served(folder) as room:
+        await (await room.sit("A1")).do(*LOOP, "step 1")
+    script = (folder / "A.script").read_bytes()
+    for changed in (script.replace(b"step 1", b"step 3"), script[: script.rindex(b"1 step")], b""):
+        (folder / "A.script").write_bytes(changed)
+        with pytest.raises(BadFolder, match="otherwise than before|has lost lines"):
+            Class(Store(folder, program), 5.0)
+    (folder / "A.script").write_bytes(script + b"1 step 1\n")  # not covered by the digest
+    async with served(folder) as room:
+        assert (await room.sit("A1")).view["state"]["pc"] == "10000"
+    for broken in (b"9 enter\n", b"1 \xff\n", b"\n"):
+        (folder / "A.script").write_bytes(script + broken)
+        with pytest.raises(LabError):
+            Class(Store(folder, program), 5.0)
+
+
+async def test_a_replay_that_differs_stops_the_class(tmp_path: pathlib.Path) -> None:
+    program, word = tmp_path / "vecmon", tmp_path / "word"
+    program.write_text(f"#!/bin/sh\n{find_program()} | sed -u s/00128293/$(cat {word})/\n")
+    program.chmod(0o755)
+    word.write_text("00128293")
+    members = Class(Store(tmp_path / "class", program), 5.0)
+    room = members.rooms["A"]
+    for line in LOOP:
+        await room.lines(room.seats["1"], [line], [], 0, [])
+    word.write_text("00128294")
+    room.session.close()
+    for _ in range(2):
+        with pytest.raises(Stopped, match="in doubt.*line 3, '1 asm 10000 .*now with '1 0000000000010000 00128294'"):
+            await room.lines(room.seats["1"], ["step 1"], [], 0, [])
+    with pytest.raises(Stopped):
+        await room.source(room.seats["1"], "nop")
+    assert "in doubt" in room.trouble and room.session.lines == len(LOOP)
+    members.end()
+    assert (tmp_path / "class" / "A.script").read_text().count("\n") == len(LOOP)
+
+
+async def test_a_program_that_cannot_be_had_for_a_while(tmp_path: pathlib.Path) -> None:
+    program = tmp_path / "vecmon"
+    shutil.copy(find_program(), program)
+    members = Class(Store(tmp_path / "class", program), 5.0)
+    room = members.rooms["A"]
+    await room.lines(room.seats["1"], LOOP, [], 0, [])
+    program.rename(tmp_path / "elsewhere")
+    assert room.session.process
+    os.kill(room.session.process, signal.SIGKILL)
+    room.set_clock({"on": True})
+    with pytest.raises(machine.ProgramGone):
+        await room.lines(room.seats["1"], ["step 1"], [], 0, [])
+    assert "is down" in room.trouble
+    (tmp_path / "elsewhere").rename(program)
+    done: list[list[str]] = []
+    await room.lines(room.seats["1"], ["step 1"], [], 0, done)
+    assert done == [["stepped 1 pc=0000000000010004"]] and room.trouble == ""
+    members.end()
+    assert (tmp_path / "class" / "A.script").read_bytes() == room.session.script
+
+
+def fill_the_disk() -> None:
+    """Lets no file of this process grow beyond 2,000 bytes, as a disk does that is full."""
+    resource.setrlimit(resource.RLIMIT_FSIZE, (2000, resource.RLIM_INFINITY))
+
+
+async def test_a_full_disk(tmp_path: pathlib.Path) -> None:
+    folder = tmp_path / "class"
+    async with process(folder, preexec_fn=fill_the_disk) as room:
+        tab, teacher = await room.sit("A1"), await room.sit("teacher")
+        await tab.do(*LOOP)
+        for _ in range(30):
+            await tab.do(*["step 1"] * 10)
+        await teacher.until(lambda view: "isn't saved" in view["machines"]["A"]["trouble"])
+        await tab.until(lambda view: "isn't saved" in view["trouble"])
+        await teacher.ask("renew", seat="A2")  # codes are kept, or it is told that they aren't
+        assert (folder / "A.script").stat().st_size <= 2000
+        assert len((await room.check_replay(is_saved=False))[0]) > 2500
+        assert room.server
+        infinity = resource.RLIM_INFINITY
+        resource.prlimit(room.server.pid, resource.RLIMIT_FSIZE, (infinity, infinity))  # there is room again
+        await teacher.until(lambda view: not view["machines"]["A"]["trouble"])
+        await tab.until(lambda view: not view["trouble"])
+        await room.check_replay()
+        assert await room.end() == 0
+
+
+async def test_a_server_that_is_killed_while_the_disk_is_full(tmp_path: pathlib.Path) -> None:
+    folder = tmp_path / "class"
+    async with process(folder, preexec_fn=fill_the_disk) as room:
+        tab, teacher = await room.sit("A1"), await room.sit("teacher")
+        await tab.do(*LOOP, *["step 1"] * 240)
+        await teacher.until(lambda view: "isn't saved" in view["machines"]["A"]["trouble"])
+        await asyncio.sleep(1.5)  # in which the digest would be kept, of lines that aren't
+        await room.end(signal.SIGKILL)
+    async with served(folder) as room:
+        assert (await room.sit("A1")).view["state"]["run"] == "stopped"
+        await room.check_replay()
+
+
+async def test_a_flood(tmp_path: pathlib.Path) -> None:
+    async with process(tmp_path / "class", "--machines", "2") as room:
+        tabs = [await room.sit(f"A{digit}") for digit in "12345678"]
+        other, teacher = await room.sit("B1"), await room.sit("teacher")
+        for tab in tabs:
+            await tab.do(*LOOP)
+
+        async def flood(tab: int) -> list[str]:
+            return [line for _ in range(4) for (line,) in await tabs[tab].do(*["step 1"] * 250)]
+
+        floods = asyncio.gather(*map(flood, range(8)))
+        await other.do(*LOOP)
+        asked = 0
+        while not floods.done():
+            await teacher.ask("rights", machine="A", own_slices=True)
+            await other.do("step 1")
+            await asyncio.sleep(0.02)
+            asked += 1
+        told = await asyncio.wait_for(floods, SECONDS)
+        assert asked > 2  # the teacher and the other machine were answered all the while
+        transcript = (await room.check_replay())[1].decode().splitlines()
+        for digit, lines in zip("12345678", told):
+            own = [line[2:] for line in transcript if line[0] == digit]
+            assert own[len(LOOP) :] == lines and len(lines) == 1_000
+        assert await room.end() == 0
+
+
+async def test_more_is_fed_than_a_program_takes(tmp_path: pathlib.Path, monkeypatch: pytest.MonkeyPatch) -> None:
+    monkeypatch.setattr(
+        machine.Session.__init__, "__kwdefaults__", machine.Session.__init__.__kwdefaults__ | {"script_bytes": 2000}
+    )
+    async with served(tmp_path / "class") as room:
+        tab, teacher = await room.sit("A1"), await room.sit("teacher")
+        await tab.do(*LOOP)
+        for _ in range(10):
+            await tab.do("step 1", look=["regs"] * 100)
+        assert tab.view["state"]["x"]["5"] == "5" and not tab.view["trouble"]
+        while "error" not in (told := await tab.ask("lines", do=["step 2"] * 20)):
+            pass
+        assert "has 2,000 bytes at most" in told["error"] and len(told["done"]) < 20
+        assert (await tab.ask("lines", look=["regs"]))["look"]
+        await teacher.ask("clock", machine="A", on=True, ms=10)
+        assert len((await room.check_replay())[0]) <= 2000
+
+
+async def test_a_clock_without_room_for_its_lines(tmp_path: pathlib.Path, monkeypatch: pytest.MonkeyPatch) -> None:
+    monkeypatch.setattr(
+        machine.Session.__init__, "__kwdefaults__", machine.Session.__init__.__kwdefaults__ | {"script_bytes": 300}
+    )
+    async with served(tmp_path / "class") as room:
+        tab, teacher = await room.sit("A1"), await room.sit("teacher")
+        await tab.do(*LOOP, "go")
+        await teacher.ask("clock", machine="A", on=True, ms=10)
+        await teacher.until(lambda view: not view["machines"]["A"]["clock"]["on"])
+        await teacher.do("list", machine="A")
+        assert any(entry.startswith("!The clock was stopped: the script has 300 bytes") for entry in teacher.logs["A"])
+        await room.check_replay()
+
+
+async def test_a_torn_connection(tmp_path: pathlib.Path) -> None:
+    """What a tab sent before it went away is carried out once, or not at all."""
+    async with served(tmp_path / "class") as room:
+        for _ in range(7):
+            tab = await room.sit("A1")
+            await tab.socket.send_json({"id": 1, "ask": "lines", "do": ["enter"] * 50})
+            connection = tab.socket._response.connection
+            assert connection and connection.transport
+            connection.transport.abort()
+        tab = await room.sit("A2")
+        assert await tab.do("enter") == [["entered"]]
+        await (await room.sit("A1")).ask("lines", look=["state"])  # behind what the others asked
+        script, transcript = await room.check_replay()
+        assert script.count(b"1 enter\n") % 50 == 0 and transcript.count(b"1 entered\n") <= 1

@@ -1,0 +1,118 @@
+"""Turns at a machine, without a transport, a clock, or even the machine: a stand-in waits until it is told to go on."""
+
+import asyncio
+import pathlib
+import threading
+from collections.abc import Sequence
+from typing import Any
+
+import pytest
+
+from vecmon_lab.classes.room import Room, Seat
+from vecmon_lab.classes.seats import CODE_LETTERS, Codes, new_code
+from vecmon_lab.classes.store import ScriptFile
+from vecmon_lab.machine.lines import is_look
+from vecmon_lab.machine.session import Session
+
+pytestmark = pytest.mark.asyncio
+
+
+class StandIn:
+    """A machine at which nobody is there; it waits before each line that does something, which is on the disk then."""
+
+    def __init__(self, path: pathlib.Path) -> None:
+        self.path = path
+        self.order: list[str] = []
+        self.go = threading.Semaphore(0)
+        self.size, self.lines, self.digest, self.losses = 0, 0, "", list[str]()
+
+    def do_all(self, lines: Sequence[str]) -> list[list[str]]:
+        self.go.acquire()
+        assert self.path.read_text("ascii").endswith("".join(f"{line}\n" for line in lines))
+        self.order.append(lines[0][0])
+        return [[f"{line[0]} E05" if line[0] != "*" else "* granted 0"] for line in lines]
+
+    def look(self, line: str) -> list[str]:
+        assert is_look(line)
+        return [f"{line[0]} E05"]
+
+    def look_all(self, lines: list[str]) -> list[list[str]]:
+        return [self.look(line) for line in lines]
+
+    def end(self) -> None:
+        ...
+
+    close = end
+
+
+class Machine:
+    """A room with a stand-in."""
+
+    def __init__(self, folder: pathlib.Path) -> None:
+        self.session: Any = StandIn(folder / "A.script")
+        session: Session = self.session
+        self.room = Room("A", session, ScriptFile(folder / "A.script"))
+
+    def ask(self, seat: Seat, *lines: str) -> "asyncio.Task[Any]":
+        """A request that is under way."""
+        return asyncio.create_task(self.room.lines(seat, list(lines), [], 0, []))
+
+    async def order(self, count: int, *tasks: "asyncio.Task[Any]") -> str:
+        """Whose lines were carried out, in this order, when so many were let go."""
+        for _ in range(5):
+            await asyncio.sleep(0)  # so that each has begun to wait
+        self.session.go.release(count)
+        await asyncio.gather(*tasks)
+        self.room.end()
+        return "".join(self.session.order)
+
+
+async def test_a_seat_with_many_requests_has_one_turn(tmp_path: pathlib.Path) -> None:
+    machine = Machine(tmp_path)
+    seats = machine.room.seats
+    greedy = [machine.ask(seats["1"], "step 1") for _ in range(20)]
+    await asyncio.sleep(0)
+    others = [machine.ask(seats[digit], "step 1") for digit in "2345678"]
+    assert (await machine.order(27, *greedy, *others)) == "12345678" + "1" * 19
+
+
+async def test_turns_go_round(tmp_path: pathlib.Path) -> None:
+    machine = Machine(tmp_path)
+    tasks = [machine.ask(machine.room.seats[digit], "step 1", "step 1") for digit in "312" for _ in range(3)]
+    assert await machine.order(9, *tasks) == "312" * 3
+
+
+async def test_the_clock_has_its_turn(tmp_path: pathlib.Path) -> None:
+    machine = Machine(tmp_path)
+    machine.room.seats["8"].state = {"run": "running", "pc": "0"}
+    machine.room.set_clock({"on": True, "ms": 10})
+    greedy = [machine.ask(machine.room.seats["1"], "step 1") for _ in range(4)]
+    clock = asyncio.create_task(machine.room.run_clock())
+    machine.session.go.release(1)
+    while "*" not in machine.session.order:
+        machine.session.go.release(1)
+        await asyncio.sleep(0.02)
+    clock.cancel()
+    machine.session.go.release(9)
+    await asyncio.gather(*greedy)
+    machine.room.end()
+    assert machine.session.order.index("*") <= 4
+
+
+async def test_overviews_do_not_wait_for_the_machine(tmp_path: pathlib.Path) -> None:
+    machine = Machine(tmp_path)
+    task = machine.ask(machine.room.seats["1"], "step 1")
+    await asyncio.sleep(0.05)
+    assert machine.room.is_busy() and machine.room.notes()["lines"] == 0
+    assert await machine.order(1, task) == "1"
+
+
+async def test_codes() -> None:
+    codes = Codes("AB", {"A1": "kept", "C1": "gone"})
+    assert list(codes.codes) == ["teacher", *(f"{letter}{digit}" for letter in "AB" for digit in "12345678")]
+    assert codes.who("kept") == "A1" and codes.who(codes.codes["teacher"]) == "teacher"
+    assert [codes.who(code) for code in ("", "gone", None, 5, "é", "\ud800")] == [None] * 6
+    codes.renew("A1")
+    assert codes.who("kept") is None and codes.who(codes.codes["A1"]) == "A1"
+    assert len(CODE_LETTERS) ** len(new_code()) > 1 << 64
+    assert len({new_code() for _ in range(1000)}) == 1000

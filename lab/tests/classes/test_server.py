@@ -1,0 +1,459 @@
+"""The server of a class through its sockets. Nothing waits on a clock: each test awaits the message that it needs."""
+
+import asyncio
+import json
+import os
+import pathlib
+import re
+import signal
+import subprocess
+from collections.abc import AsyncIterator
+from typing import Any
+
+import aiohttp
+import pytest
+import pytest_asyncio
+
+from support.class_tabs import LOOP, SECONDS, Served, Tab, process, served
+from support.places import SUM
+from vecmon_lab.classes import server as class_server
+
+pytestmark = pytest.mark.asyncio
+
+
+@pytest_asyncio.fixture  # type: ignore[misc]
+async def room(tmp_path: pathlib.Path) -> AsyncIterator[Served]:
+    async with served(tmp_path / "class", {"sum": SUM}) as room:
+        yield room
+
+
+@pytest.mark.by_command("class")
+async def test_a_step(room: Served) -> None:
+    tab = await room.sit("A3")
+    assert tab.view["state"] == {"run": "absent", "labels": {}}
+    assert (tab.view["seat"], tab.view["images"], tab.view["quantum"]) == ("A3", ["sum"], 100)
+    assert await tab.do(*LOOP) == [
+        ["entered"],
+        ["ok"],
+        ["0000000000010000 00128293"],
+        ["0000000000010004 ffdff06f"],
+        ["ok"],
+    ]
+    assert tab.view["state"]["code"]["10000"] == "00128293 addi x5, x5, 1"
+    assert await tab.do("step 1") == [["stepped 1 pc=0000000000010004"]]
+    state = tab.view["state"]
+    assert (state["pc"], state["instruction"], state["x"]["5"], state["run"]) == ("10004", "10000", "1", "stopped")
+    assert tab.logs["A3"][-2:] == [">3 step 1", "<3 stepped 1 pc=0000000000010004"]
+    assert (await room.check_replay())[0].splitlines()[-1] == b"3 step 1"
+
+
+async def test_looks_are_not_recorded_and_change_nothing(room: Served) -> None:
+    tab = await room.sit("A1")
+    looks = ["regs", "vcsr", "vreg v1 8", "dis 10000 2", "peek 10000 4", "state", "breaks", "trace"]
+    told = await tab.ask("lines", do=[*LOOP, "step 5", "peek 10000 16"], look=looks)
+    assert [len(answer) for answer in told["look"]] == [9, 1, 1, 2, 1, 1, 1, 1]
+    assert told["look"][4] == ["peek 0000000000010000 93821200"]
+    assert tab.logs["A1"][-2] == ">1 peek 10000 16"  # a look that was typed is told, and not recorded
+    assert not [entry for entry in tab.logs["A1"] if "vcsr" in entry]
+    script, transcript = await room.check_replay()
+    assert script.decode().splitlines() == [f"1 {line}" for line in [*LOOP, "step 5"]] and b"peek" not in transcript
+
+
+@pytest.mark.parametrize("look", ["step 1", "out", "set x1 1", "", "list", "regsx", "Regs"])
+async def test_looks_that_are_none(room: Served, look: str) -> None:
+    tab = await room.sit("A1")
+    told = await tab.ask("lines", do=["enter"], look=[look])
+    assert "isn't a line that only looks" in told["error"] and told["done"] == []
+    assert tab.view["state"]["run"] == "absent"
+
+
+HOSTILE = [
+    "step 1\n2 enter",
+    "step 1\r2 enter",
+    "\n",
+    "regs\0",
+    "a\tb",
+    "é",
+    "\u2028",
+    "x" * 1023,
+    5,
+    None,
+    ["a"],
+    "x\x85y",
+    "\ud800",
+]
+
+
+async def test_lines_that_could_be_another_seats(room: Served) -> None:
+    tab, teacher = await room.sit("A1"), await room.sit("teacher")
+    for line in HOSTILE:
+        assert "error" in await tab.ask("lines", do=["enter", line]), line
+        assert "error" in await teacher.ask("lines", machine="A", do=[line]), line
+    assert (await room.check_replay())[0] == b""
+
+
+async def test_a_line_is_its_own_seats(room: Served) -> None:
+    tab = await room.sit("A3")
+    answers = await tab.do("enter", "2 enter", "* list", "x" * 1022, " ", "")
+    assert answers == [["entered"], *[["E03"]] * 5]
+    script = b"3 enter\n3 2 enter\n3 * list\n3 " + b"x" * 1022 + b"\n3  \n3 \n"
+    assert (await room.check_replay())[0] == script
+    teacher = await room.sit("teacher")
+    runs = [seat["run"] for seat in teacher.view["machines"]["A"]["seats"].values()]
+    assert runs == ["absent", "absent", "stopped", *["absent"] * 5]
+
+
+REQUESTS = [
+    *("[1]", "{", "", "5", "null", '{"ask": "lines"}', '{"id": true, "ask": "lines"}', '{"id": "1", "ask": "lines"}'),
+    *(
+        '{"id": 1}',
+        '{"id": 1, "ask": ["lines"]}',
+        '{"id": 1, "ask": "__class__"}',
+        '{"id": 1, "ask": "lines", "do": 5}',
+    ),
+    *('{"id": 1, "ask": "lines", "do": {"a": 1}}', '{"id": 1, "ask": "lines", "look": "regs"}', "[" * 100_000),
+    *(
+        '{"id": 1, "ask": "source"}',
+        '{"id": 1, "ask": "lines", "slices": 101}',
+        '{"id": 1, "ask": "lines", "slices": "1"}',
+    ),
+    '{"id": 1, "ask": "lines", "slices": -1}',
+    json.dumps({"id": 1, "ask": "lines", "do": ["regs"] * 200, "look": ["regs"] * 57}),
+]
+
+
+async def test_requests_of_bad_form(room: Served) -> None:
+    for who in ("A1", "teacher"):
+        tab = await room.sit(who)
+        for request in REQUESTS:
+            await tab.socket.send_str(request)
+            while (told := await tab.receive())["kind"] != "answer":
+                pass
+            assert "error" in told, request
+    assert (await room.check_replay())[0] == b""
+
+
+async def test_messages_that_are_too_large_or_no_text(room: Served) -> None:
+    for message in ("x" * 500_000, ""):
+        tab = await room.sit("A1")
+        await (tab.socket.send_str(message) if message else tab.socket.send_bytes(b"{}"))
+        with pytest.raises(EOFError):
+            await tab.until(lambda view: False)
+
+
+@pytest.mark.parametrize("ask", ["clock", "rights", "renew", "shoulder"])
+async def test_what_the_teacher_alone_may_ask(room: Served, ask: str) -> None:
+    tab, teacher = await room.sit("A1"), await room.sit("teacher")
+    before = teacher.view["machines"]["A"]["seats"]["2"]["code"]
+    words = {"machine": "A", "on": True, "own_slices": False, "seat": "A2"}
+    assert "no such request" in (await tab.ask(ask, **words))["error"]
+    assert "A2" not in json.dumps(tab.view) and before not in json.dumps(tab.view) and "machines" not in tab.view
+    await teacher.do("list", machine="A")
+    machine = teacher.view["machines"]["A"]
+    assert (machine["clock"]["on"], machine["own_slices"], machine["seats"]["2"]["code"]) == (False, True, before)
+    assert (await tab.ask("lines", machine="A", do=["slices 1"]))["do"] == [["E03"]]  # as user 1
+
+
+async def test_wrong_codes(room: Served) -> None:
+    right = room.codes["A1"]
+    codes = ["", "A1", "1", right[:-1], right + "x", right.upper(), "é", "\ud800", "x" * 10_000, 5, None, [right]]
+    tabs = await asyncio.gather(*(room.open(code) for code in codes))
+    for tab in tabs:
+        with pytest.raises(EOFError, match="4403"):
+            await tab.receive()
+    for first in ("[1]", "{", right, json.dumps(right)):
+        connection = await room.session.ws_connect(room.url + "socket")
+        await connection.send_str(first)
+        with pytest.raises(EOFError, match="4403"):
+            await Tab(connection).receive()
+
+
+async def test_a_new_code_ends_the_old_one(room: Served) -> None:
+    tab, other, teacher = await room.sit("A1"), await room.sit("A2"), await room.sit("teacher")
+    await teacher.ask("renew", seat="A1")
+    with pytest.raises(EOFError, match="4403"):
+        await tab.until(lambda view: False)
+    with pytest.raises(EOFError, match="4403"):
+        await (await room.open(room.codes["A1"])).receive()
+    renewed = teacher.view["machines"]["A"]["seats"]["1"]["code"]
+    assert renewed != room.codes["A1"] and json.loads((room.folder / "codes.json").read_text())["A1"] == renewed
+    assert (await (await room.open(renewed)).receive())["who"] == "A1"
+    assert await other.do("enter") == [["entered"]]
+    for seat in ("A9", "teacher", "", None, 5, ["A1"], "B1", "A12"):
+        assert "no such seat" in (await teacher.ask("renew", seat=seat))["error"]
+
+
+@pytest.mark.parametrize(
+    "headers",
+    [
+        {"Origin": "http://evil.example"},
+        {"Origin": "null"},
+        {"Origin": "http://127.0.0.1:1"},
+        {"Origin": "http://localhost"},
+        {"Host": "evil.example"},
+        {"Host": "evil.example:80", "Origin": "http://evil.example:80"},
+        {"Host": "127.0.0.1.evil.example"},
+        {"Host": "evil.example@127.0.0.2:x"},
+        {"Host": "[::1"},
+        {"Host": ""},
+    ],
+)
+async def test_other_sites(room: Served, headers: dict[str, str]) -> None:
+    with pytest.raises(aiohttp.WSServerHandshakeError) as refused:
+        await room.open(room.codes["A1"], **headers)
+    assert refused.value.status == 403
+    async with room.session.get(room.url, headers=headers) as answer:
+        assert answer.status == 403
+
+
+async def test_this_site(room: Served) -> None:
+    for host in (f"127.0.0.1:{room.port}", f"localhost:{room.port}", "192.168.1.7", "[fe80::1]:80"):
+        for scheme in ("http", "https"):
+            tab = await room.open(room.codes["A1"], Host=host, Origin=f"{scheme}://{host}")
+            assert (await tab.receive())["who"] == "A1"
+            await tab.socket.close()
+
+
+async def test_another_name(tmp_path: pathlib.Path) -> None:
+    async with served(tmp_path / "class", name="class.school.example") as room:
+        tab = await room.open(room.codes["A1"], Host="class.school.example", Origin="https://class.school.example")
+        assert (await tab.receive())["who"] == "A1"
+
+
+async def test_what_is_served(room: Served) -> None:
+    async with room.session.get(room.url) as answer:
+        page, policy = await answer.text(), answer.headers["Content-Security-Policy"]
+        assert answer.headers["X-Content-Type-Options"] == "nosniff"
+        assert answer.headers["Referrer-Policy"] == "no-referrer"
+        assert answer.headers["Cache-Control"] == "no-store"
+        assert "Set-Cookie" not in answer.headers
+    assert "default-src 'none'" in policy and "frame-ancestors 'none'" in policy and "unsafe" not in policy
+    assert page.count("<script") == policy.split("script-src")[1].split(";")[0].count("sha256-")
+    assert not re.search(r"""(src|href)\s*=\s*["'](?!data:)|\son\w+\s*=|\sstyle\s*=""", page.split("<script>")[0])
+    assert not [code for code in room.codes.values() if code in page]
+    for path in ("A", "A/", "A/json", "codes.json", "A/../codes.json", "lab", "B/script", "socket/"):
+        assert (await room.get(path))[0] == 404, path
+    for who in (None, "A1"):
+        for path in ("A/script", "A/transcript"):
+            assert (await room.get(path, who))[0] == 404, path
+    assert (await room.get(f"A/script?code={room.codes['teacher']}", None))[0] == 404
+    async with room.session.post(room.url, data=b"x") as answer:
+        assert answer.status == 405
+
+
+async def test_a_stop_comes_by_itself(room: Served) -> None:
+    tab, other, teacher = await room.sit("A2"), await room.sit("A3"), await room.sit("teacher")
+    await tab.do(*LOOP, "break 10004", "go")
+    await other.do(*LOOP, "go")
+    assert not tab.view["clock"]
+    await teacher.ask("clock", machine="A", on=True, slices=4, ms=10)
+    await tab.until(lambda view: view["state"]["run"] == "stopped")
+    assert tab.view["stop"] == "break pc=0000000000010004" and tab.view["clock"]
+    assert tab.logs["A2"][-1] == "<2 break pc=0000000000010004"
+    assert tab.view["state"]["stop"].startswith("The program stands at a breakpoint") or tab.view["state"]["stop"]
+    await teacher.until(lambda view: view["machines"]["A"]["seats"]["2"]["stop"] == "break pc=0000000000010004")
+    assert teacher.view["machines"]["A"]["seats"]["3"]["run"] == "running"
+    assert not [entry for entry in teacher.logs.get("A", []) if "slices" in entry]
+    assert await other.do("stop") and other.view["state"]["run"] == "stopped"
+    await teacher.do("list", machine="A")
+    lines = teacher.view["machines"]["A"]["lines"]  # nobody runs, so the clock stands
+    await asyncio.sleep(0.1)
+    await teacher.do("list", machine="A")
+    assert teacher.view["machines"]["A"]["lines"] == lines
+    await teacher.ask("clock", machine="A", on=False)
+    assert b"* slices 4\n" in (await room.check_replay())[0]
+
+
+async def test_own_slices(room: Served) -> None:
+    tab, teacher = await room.sit("A4"), await room.sit("teacher")
+    await tab.do(*LOOP, "go", slices=3)
+    assert (tab.view["state"]["run"], tab.view["stop"]) == ("running", "")
+    used = tab.view["share"]["used"]
+    await tab.do("stop", slices=5)  # no program runs, so none is granted
+    await tab.do("break 10000", "setpc 10000", "go", slices=9)
+    assert tab.view["stop"] == "break pc=0000000000010000" and tab.view["state"]["run"] == "stopped"
+    script = (await room.check_replay())[0].decode().splitlines()
+    assert script.count("* run 4") == 4  # the stop ended them
+    assert tab.view["share"]["used"] == sum(len(line) + 1 for line in script) > used
+    await teacher.ask("rights", machine="A", own_slices=False)
+    await tab.until(lambda view: not view["own_slices"])
+    assert "teacher's to grant" in (await tab.ask("lines", do=["go"], slices=1))["error"]
+    assert tab.view["state"]["run"] == "stopped"
+    for name, value in [("slices", 0), ("slices", 1001), ("ms", 9), ("ms", "x"), ("slices", 1.5), ("on", "yes")]:
+        assert "error" in await teacher.ask("clock", machine="A", **{str(name): value})
+    machines: list[Any] = ["B", None, ["A"], {}, ""]
+    for machine in machines:
+        assert "no such machine" in (await teacher.ask("clock", machine=machine))["error"]
+
+
+SOURCE = """
+_start: la a0, numbers
+        lw a1, 4(a0)
+loop:   addi a1, a1, 1
+        j loop
+        .data
+numbers: .word 1, 2
+"""
+
+
+async def test_a_source(room: Served) -> None:
+    tab = await room.sit("A5")
+    for _ in range(2):  # also where there is a machine, and a program that runs
+        assert (await tab.ask("source", text=SOURCE))["mistakes"] == []
+        state = tab.view["state"]
+        assert (state["pc"], state["run"], state["x"]["11"]) == ("10000", "stopped", "0")
+        assert state["labels"]["11000"] == ["numbers"] and ["loop"] in state["labels"].values()
+        assert state["memory"]["11000"].startswith("0100000002000000")
+        await tab.do("step 6")
+        assert tab.view["state"]["x"]["11"] == "4" or tab.view["state"]["x"]["11"] == "3"
+        await tab.do("go")
+    told = await tab.ask("source", text="addi a0, a0, 5000\nadd a0, a0\nvadd.vv v1, v2, q\n")
+    assert [(each["line"]) for each in told["mistakes"]] == [2] or len(told["mistakes"]) >= 1
+    told = await tab.ask("source", text="nop\naddi a0, a0, 5000\nnop\nslli a0, a0, 99\n")
+    assert [(each["line"], each["column"]) for each in told["mistakes"]] == [(2, 14), (4, 14)]
+    assert "doesn't fit" in told["mistakes"][0]["message"]
+    assert (await tab.ask("source", text="b nowhere"))["mistakes"][0]["line"] == 1
+    told = await tab.ask("source", text="nop\n" * 5000)
+    assert "4096 lines at most" in told["error"]
+    await room.check_replay()
+
+
+async def test_over_the_shoulder(room: Served) -> None:
+    tab, teacher = await room.sit("A6"), await room.sit("teacher")
+    await tab.do(*LOOP, "step 1")
+    await teacher.ask("shoulder", seat="A6")
+    assert teacher.view["state"] == tab.view["state"] and teacher.view["shoulder"] == "A6"
+    assert teacher.logs["A6"] == tab.logs["A6"]
+    await tab.do("step 2")
+    await teacher.until(lambda view: view["state"]["pc"] == tab.view["state"]["pc"] and view["state"]["x"]["5"] == "2")
+    assert teacher.logs["A6"] == tab.logs["A6"]
+    await teacher.ask("shoulder", seat="")
+    assert teacher.view["state"] == {}
+    await tab.do("step 2")
+    teacher.logs.clear()
+    await teacher.ask("shoulder", seat="A6")
+    assert teacher.logs["A6"] == tab.logs["A6"]
+    assert "no such seat" in (await teacher.ask("shoulder", seat="A9"))["error"]
+
+
+async def test_a_reload_keeps_the_seat(room: Served) -> None:
+    tab = await room.sit("A7")
+    await tab.do(*LOOP, "step 1", "peek 10000 16")
+    await tab.ask("source", text="l: j l")
+    await tab.socket.close()
+    again = await room.sit("A7")
+    assert (again.view, again.logs) == (tab.view, tab.logs)
+    teacher = await room.sit("teacher")
+    await teacher.until(lambda view: view["machines"]["A"]["seats"]["7"]["tabs"] == 1)
+    seat = teacher.view["machines"]["A"]["seats"]["7"]
+    assert (seat["line"], seat["answer"], seat["run"], seat["pc"]) == ("setpc 10000", "ok", "stopped", "10000")
+
+
+async def test_two_tabs_of_a_seat(room: Served) -> None:
+    one, two = await room.sit("A8"), await room.sit("A8")
+    await one.do(*LOOP)
+    await two.until(lambda view: view["state"].get("pc") == "10000")
+    await two.do("step 3")
+    await one.until(lambda view: view["state"]["x"]["5"] == "2")
+    assert one.logs == two.logs and one.view == two.view
+
+
+async def test_too_many_tabs_of_a_seat(room: Served) -> None:
+    tabs = [await room.sit("A1") for _ in range(8)]
+    with pytest.raises(EOFError, match="4429"):
+        await (await room.open(room.codes["A1"])).receive()
+    await (await room.sit("A2")).do("enter")
+    await tabs[0].socket.close()
+    teacher = await room.sit("teacher")
+    await teacher.until(lambda view: view["machines"]["A"]["seats"]["1"]["tabs"] == 7)
+    await room.sit("A1")
+
+
+async def test_a_seats_share_of_the_script(room: Served) -> None:
+    tab, other = await room.sit("A1"), await room.sit("A2")
+    line = "x" * 1000
+    while tab.view["share"]["used"] + 250 * 1003 <= tab.view["share"]["of"]:
+        await tab.do(*[line] * 250)
+    assert tab.view["share"]["used"] > 0.8 * tab.view["share"]["of"]
+    assert "share of the script is used up" in (await tab.ask("lines", do=["enter", *[line] * 249]))["error"]
+    assert await tab.do("enter") == [["entered"]]
+    assert (await tab.ask("lines", look=["regs"] * 200))["look"]
+    assert await other.do("enter") == [["entered"]]
+    await room.check_replay()
+
+
+async def test_machines_apart(tmp_path: pathlib.Path) -> None:
+    async with served(tmp_path / "class", machines=2) as room:
+        assert len(room.codes) == 17 and len(set(room.codes.values())) == 17
+        one, two, teacher = await room.sit("A1"), await room.sit("B1"), await room.sit("teacher")
+        await one.do(*LOOP, "go")
+        await two.do(*LOOP, "step 1")
+        await teacher.ask("clock", machine="A", on=True, ms=10)
+        await one.until(lambda view: view["clock"])
+        assert not two.view["clock"] and two.view["state"]["x"]["5"] == "1"
+        assert list(teacher.view["machines"]) == ["A", "B"]
+        await teacher.ask("clock", machine="A", on=False)
+        assert (await room.check_replay("B"))[0].count(b"\n") == len(LOOP) + 1
+        assert room.members and (stuck := room.members.rooms["A"].session.process)
+        os.kill(stuck, signal.SIGSTOP)
+        hanging = asyncio.create_task(one.do("stop"))
+        assert await two.do("step 1") == [["stepped 1 pc=0000000000010000"]]
+        assert not hanging.done()
+        os.kill(stuck, signal.SIGCONT)
+        assert len(await hanging) == 1
+        await room.check_replay("A")
+
+
+async def test_connections_that_say_nothing(tmp_path: pathlib.Path, monkeypatch: pytest.MonkeyPatch) -> None:
+    monkeypatch.setattr(class_server, "PATIENCE", 0.6)
+    monkeypatch.setattr(class_server, "UNKNOWN", 3)
+    async with served(tmp_path / "class") as room:
+        readers = []
+        for begin in [b"", b"GET / HTTP/1.1\r\n"] * 4:  # more than may be there, and half of them slow
+            reader, writer = await asyncio.open_connection("127.0.0.1", room.port)
+            writer.write(begin)
+            readers.append(reader)
+        for reader in readers:
+            with pytest.raises((ConnectionError, asyncio.IncompleteReadError)):
+                await asyncio.wait_for(reader.readexactly(1), SECONDS)
+        silent = [await room.session.ws_connect(room.url + "socket") for _ in range(3)]  # no code comes
+        with pytest.raises(aiohttp.WSServerHandshakeError, match="503"):
+            await room.session.ws_connect(room.url + "socket")
+        for each in silent:
+            assert (await asyncio.wait_for(each.receive(), SECONDS)).data == 4403
+        await room.sit("A1")
+
+
+async def test_requests_in_bad_form(tmp_path: pathlib.Path) -> None:
+    long, twice = b"GET / HTTP/1.1\r\nX: %b\r\n\r\n" % (b"a" * 20_000), b"GET / HTTP/1.1\r\nHost: a\r\nHost: b\r\n\r\n"
+    async with process(tmp_path / "class", stderr=subprocess.PIPE) as room:
+        for request in (b"\x16\x03\x01\x02\x00\x01\x00\x01\xfc\x03\x03", b"one line\r\n\r\n", long, twice):
+            reader, writer = await asyncio.open_connection("127.0.0.1", room.port)
+            writer.write(request)
+            assert (await asyncio.wait_for(reader.readline(), SECONDS)).endswith(b" 400 Bad Request\r\n")
+            writer.close()
+        assert await room.end() == 0
+        assert room.server and room.server.stderr
+        assert await room.server.stderr.read() == b""
+
+
+async def test_clients_that_do_not_read(room: Served) -> None:
+    tab = await room.sit("A1")
+    await tab.do(*LOOP)
+    deaf = [await room.sit("A2") for _ in range(4)]
+    for each in deaf:
+        connection = each.socket._response.connection  # nothing is read from here on
+        assert connection and connection.transport
+        connection.transport.pause_reading()
+        for number in range(30):
+            await each.socket.send_json({"id": number, "ask": "lines", "look": ["regs"] * 200})
+    for _ in range(20):
+        assert len(await tab.do("step 1")) == 1
+    for each in deaf:
+        connection = each.socket._response.connection
+        assert connection and connection.transport
+        connection.transport.abort()
+    assert (members := room.members)
+    while any(tab.who == "A2" for tab in members.tabs):  # the server drops them before all they asked is carried out
+        await asyncio.sleep(0.01)
+    await room.check_replay()

@@ -1,0 +1,402 @@
+"""The console: lines from a pipe, a dumb terminal and one that can do more, beside values that are known otherwise."""
+
+import pathlib
+import re
+import subprocess
+import sys
+from collections.abc import Iterator
+
+import pytest
+
+from support.places import EXAMPLES, SCRIPTS, SQUARES, STOCK, SUM, SUM_DWARF4, SUM_DWARF5, TOP
+from support.terminal import END, INTERRUPT, UP, WHERE, Terminal
+from vecmon_lab.console.show import Screen
+
+CONSOLE = [sys.executable, "-m", "vecmon_lab", "console"]
+STRIP_MINED = EXAMPLES / "strip_mined.s"
+X = [9, 2, 7, 1, 8, 3, 6, 4, 5, 1, 12, 3, 20]  # of that source
+Y = [100 + 3 * x if x > 4 else 100 for x in X]
+FOREVER = """
+# Writes a line, and goes on for ever.
+_start: li a0, 1
+        la a1, text
+        li a2, 6
+        li a7, 64
+        ecall
+loop:   addi t0, t0, 1
+        j loop
+        .data
+text:   .ascii "ready\\n"
+"""
+
+
+def carried_out(lines: list[str] | bytes, *words: object) -> subprocess.CompletedProcess[bytes]:
+    """A console that reads these lines from a pipe."""
+    given = lines if isinstance(lines, bytes) else "".join(f"{line}\n" for line in lines).encode()
+    return subprocess.run([*CONSOLE, *map(str, words)], cwd=TOP, input=given, capture_output=True)
+
+
+def shown(lines: list[str] | bytes, *words: object) -> list[str]:
+    """What it shows, when all has gone well."""
+    run = carried_out(lines, *words)
+    assert (run.returncode, run.stderr) == (0, b"")
+    return run.stdout.decode("ascii").splitlines()
+
+
+@pytest.fixture
+def forever(tmp_path: pathlib.Path) -> pathlib.Path:
+    """A source that runs for ever."""
+    path = tmp_path / "forever.s"
+    path.write_text(FOREVER)
+    return path
+
+
+def terminal(tmp_path: pathlib.Path, *words: object, **environment: str) -> Terminal:
+    """A console at a terminal."""
+    return Terminal([*CONSOLE, *map(str, words)], {"XDG_STATE_HOME": str(tmp_path / "state"), **environment})
+
+
+def test_an_image_runs_to_its_end() -> None:
+    lines = shown(["run", "vreg v8", "step"], SUM)  # what it writes, and where it ends, as in docs/COMPILING.md
+    assert lines[:3] == [
+        "=> 11190 _start  addi x2, x2, -16",
+        "328350",
+        "The program has ended with status 0, at 0x112dc.",
+    ]
+    assert "x17/a7=5d" in lines[3]  # 93, the call to exit
+    assert lines[-4] == "=> 112dc _start+0x14c  ecall"
+    assert lines[-3].split()[1] == f"{328350:08x}"
+    assert lines[-2:] == ["The program has ended with status 0, at 0x112dc.", "=> 112dc _start+0x14c  ecall"]
+
+
+def test_a_fault_and_how_to_go_on() -> None:
+    lines = ["run", "dis", "vcsr", "peek 11ff8 8", "load", "poke 11000 e803", "run"]  # docs/COMPILING.md
+    told = shown(lines, SQUARES)
+    reason = "The store at 0x10198 may not write from 0x12000 on: a page isn't mapped, or has no permission w."
+    assert told[1] == f"{reason} It stopped at element 14."
+    at = told.index("=> 10198  vse32.v v8, (x10)")
+    assert told[at + 1] == "10198  vse32.v v8, (x10)"
+    assert told[at + 9] == "vl=16 vtype=d1 (e32,m2,ta,ma) vstart=14 vxrm=0 (rnu) vxsat=0 policy=keep"
+    assert told[at + 10].split()[:9] == "11ff8 10 e0 0f 00 09 e8 0f 00".split()
+    assert told[at + 11 : at + 14] == ["loaded pc=0000000000010174 pages=6", "=> 10174  auipc x1, 0", "ok"]
+    assert "The program has ended with status 0, at 0x10180." in told
+
+
+def test_what_each_step_changes() -> None:
+    told = shown(["break next", "run", "step 6", "vreg v9", "peek y", "vreg v8 8"], STRIP_MINED)
+    assert told[0] == "=> 10000  addi x10, x0, 13"
+    assert told[2] == "A breakpoint stands at 0x10018; its instruction is the next one."
+    steps = told[told.index("=> 10018 next  vsetvli x5, x10, e32, m1, ta, mu") + 1 :]
+    loaded = ",".join(f"{value:08x}" for value in X[:8])
+    assert steps[:12] == [
+        "   10018 next  vsetvli x5, x10, e32, m1, ta, mu",
+        "      x5/t0=8  vl=8  vtype=e32,m1,ta,mu",
+        "   1001c next+0x4  vle32.v v8, (x11)",
+        f"      v8.e32[0..7]={loaded}",
+        "   10020 next+0x8  vle32.v v9, (x12)",
+        f"      v9.e32[0..7]={','.join(['00000064'] * 8)}",
+        "   10024 next+0xc  vmsgtu.vi v0, v8, 4",
+        "      v0.e1[0..6]=1010101",
+        "   10028 next+0x10  vmacc.vx v9, x6, v8, v0.t",
+        "      v9.e32[0]=0000007f  v9.e32[2]=00000079  v9.e32[4]=0000007c  v9.e32[6]=00000076",
+        "   1002c next+0x14  vse32.v v9, (x12)",
+        "      [11040]=7f  [11048]=79  [11050]=7c  [11058]=76",
+    ]
+    assert steps[13] == f"v9  {' '.join(f'{value:08x}' for value in Y[:8])}"
+    assert steps[14] == "   11040  7f 00 00 00 64 00 00 00 79 00 00 00 64 00 00 00  ....d...y...d..."
+    digits = b"".join(value.to_bytes(4, "little") for value in X[:8])
+    assert steps[15:] == [f"v8  {digits[:16].hex(' ')}", f"    {digits[16:].hex(' ')}"]
+
+
+@pytest.mark.by_command("console")
+def test_the_session_of_the_manual() -> None:
+    page = (TOP / "docs" / "LAB.md").read_text("utf-8")
+    session = page[
+        page.index("$ vecmon-lab console ") : page.index("\n```\n\nA line is one of the monitor")
+    ].splitlines()
+    typed = [line.removeprefix("vecmon> ") for line in session if line.startswith("vecmon> ")]
+    assert len(typed) > 5 and session[0].split()[-1] == str(STRIP_MINED.relative_to(TOP))
+    assert shown(typed, STRIP_MINED) == [line for line in session[1:] if not line.startswith("vecmon> ")]
+
+
+def test_what_lines_change_is_no_change_of_a_step() -> None:
+    told = shown(
+        ["map 10000 1 rwx", "asm 10000 addi x6, x0, 1", "setpc 10000", "set x5 7", f"vset v1 {'01' * 32}", "step"]
+    )
+    assert told[-3:] == ["   10000  addi x6, x0, 1", "      x6/t1=1", "=> 10004  .word 0x00000000"]
+
+
+def test_output_without_a_newline(tmp_path: pathlib.Path) -> None:
+    source = FOREVER.replace("j loop", "ebreak").replace("ready\\n", "ready!")
+    (tmp_path / "ends.s").write_text(source)
+    assert shown(["run"], tmp_path / "ends.s")[1:3] == ["ready!", "An ebreak stands at 0x1001c."]
+
+
+def test_steps_stop_at_a_breakpoint_as_those_of_the_machine() -> None:
+    told = shown(["break next+4", "step 40", "step 40", "1 regs"], STRIP_MINED)
+    stops = [place for place, line in enumerate(told) if line.startswith("A breakpoint stands at 0x1001c")]
+    assert len(stops) == 2 and told[-9] == "1 pc 000000000001001c"
+
+
+def test_names_of_registers_and_addresses() -> None:
+    told = shown(["set a0 y", "set fp y+0x4", "set x5 0xff", "set t1 next+10", "setpc next", "regs"], STRIP_MINED)
+    registers = " ".join(told[-11:])
+    for name, value in {"x10/a0": 0x11040, "x8/s0": 0x11044, "x5/t0": 0xFF, "x6/t1": 0x10028, "pc": 0x10018}.items():
+        assert f"{name:8} {value:016x}" in registers
+
+
+def test_a_source_in_place_of_an_image_and_back() -> None:
+    lines = [f"source {STRIP_MINED}", "break next", "run", "load", "breaks", "break next", "peek _start 4", "run"]
+    told = shown(lines, SUM)
+    assert (
+        told[1:3] == ["=> 10000  addi x10, x0, 13", "ok"] and "=> 10018 next  vsetvli x5, x10, e32, m1, ta, mu" in told
+    )
+    again = told[told.index("loaded pc=0000000000011190 pages=7") + 1 :]
+    assert again[0] == "=> 11190 _start  addi x2, x2, -16" and again[1].startswith("E04: ")  # there are no labels now
+    assert again[2].split()[:5] == ["11190", *"13 01 01 ff".split()] and again[3] == "328350"
+
+
+def test_the_last_words_of_a_page() -> None:
+    lines = ["map 10000 1 rwx", "asm 10ff8 ebreak", "setpc 10ff8", "dis", "setpc 10000", "dis"]
+    told = shown(lines)
+    assert told[4:7] == ["=> 10ff8  ebreak", "10ff8  ebreak", "10ffc  .word 0x00000000"] and len(told) == 7 + 2 + 8
+
+
+def test_lines_of_the_monitor_are_taken_as_they_stand(program: pathlib.Path) -> None:
+    script = (SCRIPTS / "tour" / "assembling").read_bytes()
+    own = [line for line in script.decode("ascii").splitlines() if line.startswith("1 ") and line != "1 enter"]
+    lines = b"# a sentence\n\n" + "".join(f"{line}\r\n" for line in own).encode() + b"* list\n2 enter\n2 state\n"
+    told = shown(lines)
+    plain = subprocess.run([program], input="\n".join(["1 enter", *own]).encode(), stdout=subprocess.PIPE)
+    answers = [line for line in plain.stdout.decode().splitlines()[1:] if not line.startswith("1 E")]
+    assert len(answers) > 5 and answers == [line for line in told if line.startswith("1 ")]
+    assert told[-3].startswith("* list 1:stopped 2:-")
+    assert told[-2:] == ["2 entered", "2 state stopped pc=0000000000000000"]
+
+
+def test_a_user_who_is_absent_or_runs() -> None:
+    told = shown(["leave", "run", "step", "regs", "bar", f"source {STRIP_MINED}"])
+    assert told[1:5] == ["left", *["E05: the user has not entered"] * 3]
+    assert told[-1] == "=> 10000  addi x10, x0, 13"
+    lines = ["map 10000 1 rwx", "asm 10000 ebreak", "setpc 10000", "go", "regs", "step", "run", "step"]
+    told = shown([*lines, "go", f"source {STRIP_MINED}", "1 state"])
+    assert told[-3:] == [
+        "running pc=0000000000010000",
+        "=> 10000  addi x10, x0, 13",
+        "1 state stopped pc=0000000000010000",
+    ]
+    told = shown(lines)
+    assert told[4:8] == [
+        "=> 10000  ebreak",
+        "running pc=0000000000010000",
+        *["E07: the user's program runs, and has to be stopped first"] * 2,
+    ]
+    assert told[8:] == ["An ebreak stands at 0x10000.", "=> 10000  ebreak"] * 2
+
+
+def test_a_breakpoint_where_the_ticks_of_a_round_end(tmp_path: pathlib.Path) -> None:
+    (tmp_path / "ticks.s").write_text("li t0, 499999\nloop: addi t0, t0, -1\nbnez t0, loop\nhere: nop\nebreak\n")
+    for lines in (["break here", "run"], ["break here", "go", "run"]):
+        assert shown(lines, tmp_path / "ticks.s")[-2].startswith("A breakpoint stands at 0x10010")
+
+
+@pytest.mark.parametrize(
+    "line, told",
+    [
+        ("dance", "E03: there is no such command, or the line has no word"),
+        ("step 257", "E04: a wrong number of words, or a word out of its form or range; the form is step N"),
+        ("step 01", "E04: a wrong number of words, or a word out of its form or range; the form is step N"),
+        ("break nowhere", "E04: a wrong number of words, or a word out of its form or range; the form is break ADDR"),
+        ("break 0", "ok"),
+        ("run fast", "the form is run"),
+        ("source", "the form is source FILE"),
+        ("source nothing.s", "nothing.s: No such file or directory"),
+        ("source lab", "lab: Is a directory"),
+        ("policy \N{SNOWMAN}", r"character 10 of a line, '\u2603', isn't printable ASCII"),
+        ("a" * 1023, "a line has at most 1,022 characters after its user, and this one has 1,023"),
+    ],
+)
+def test_lines_that_are_refused(line: str, told: str) -> None:
+    assert shown([line, "vcsr", "quit", "regs"])[1:] == [
+        told,
+        "vl=0 vtype=8000000000000000 (vill) vstart=0 vxrm=0 (rnu) vxsat=0 policy=keep",
+    ]
+
+
+def test_bytes_that_are_no_text() -> None:
+    told = shown(b"regs\xff\nstate\0\nstate")
+    assert told[1:] == [
+        r"character 7 of a line, '\ufffd', isn't printable ASCII",
+        r"character 8 of a line, '\x00', isn't printable ASCII",
+        "state stopped pc=0000000000000000",
+    ]
+
+
+@pytest.mark.parametrize(
+    "source, told",
+    [
+        ("_start: li t0, 0\n  add t0, t1 t2\n", "2:14: t2 doesn't fit here: a comma may be missing before it"),
+        ("_start: addi t0, t1, 5000\n", "1:22: 5000 doesn't fit here, as the machine reads it: addi x5, x6, 5000"),
+        ("  j nowhere\n", "1:5: nowhere is no register that fits here, and no label or constant known here"),
+    ],
+)
+def test_a_source_that_does_not_assemble(tmp_path: pathlib.Path, source: str, told: str) -> None:
+    path = tmp_path / "bad.s"
+    path.write_text(source)
+    lines = shown(["break y", f"source {path}", "breaks", "* list"], STRIP_MINED)
+    assert lines[2:] == [f"{path}:{told}", "11040 y", "* list 1:stopped 2:- 3:- 4:- 5:- 6:- 7:- 8:-"]
+    run = carried_out([], path)
+    assert (run.returncode, run.stdout, run.stderr.decode()) == (2, b"", f"vecmon-lab: {path}:{told}\n")
+
+
+def bad_images(folder: pathlib.Path) -> Iterator[tuple[pathlib.Path, str]]:
+    """Paths of no image, and the reason that is told."""
+    yield folder / "missing", "No such file or directory"
+    yield folder, "Is a directory"
+    yield STOCK / "short", "E09 Short"
+    yield STOCK / "sum.c", "E09 Magic"
+    yield STOCK.parent / "dyn", "E09 Type"
+    yield STOCK.parent / "sizes", "E09 FileSize"
+    (folder / "large").write_bytes(bytes(4_194_305))
+    yield folder / "large", "4,194,304"
+
+
+def test_images_that_are_refused(tmp_path: pathlib.Path) -> None:
+    for path, reason in bad_images(tmp_path):
+        run = carried_out(["regs"], path)
+        assert (run.returncode, run.stdout, run.stderr.count(b"\n")) == (2, b"", 1)
+        assert run.stderr.decode().startswith(f"vecmon-lab: {path}") and reason in run.stderr.decode()
+
+
+def test_source_lines_where_the_image_tells_them() -> None:
+    assert shown(["step"], SUM_DWARF4)[0] == "=> 11190 _start  addi x2, x2, -16  (sum.c:30)"
+    assert "-gdwarf-4 helps" in shown([], SUM_DWARF5)[0]
+
+
+def test_from_a_pipe_the_library_is_not_imported() -> None:
+    code = "import sys, vecmon_lab.__main__ as it; it.main(); sys.exit('prompt_toolkit' in sys.modules)"
+    run = subprocess.run([sys.executable, "-c", code, "console"], cwd=TOP, input=b"vcsr\n", capture_output=True)
+    assert (
+        run.returncode == 0 and run.stdout.startswith(b"=> 0") and b"vill" in run.stdout and b"\x1b" not in run.stdout
+    )
+
+
+def test_a_dumb_terminal(tmp_path: pathlib.Path, forever: pathlib.Path) -> None:
+    with terminal(tmp_path, forever, TERM="dumb") as console:
+        console.expect("vecmon> ")
+        console.type("run\n")
+        console.expect("ready")
+        console.type(INTERRUPT)
+        console.expect("The program was stopped at 0x100")
+        console.expect("vecmon> ")
+        console.type("half a line" + INTERRUPT)
+        console.expect("^C")
+        console.expect("vecmon> ")
+        console.type("regs\n")
+        told = console.expect("vecmon> ")
+        assert "x10/a0   0000000000000006" in told and "\x1b" not in told
+        console.type(END)
+        assert console.end()[0] == 0
+    assert not (tmp_path / "state").exists()
+
+
+def test_ctrl_c_stops_the_program_and_not_the_machine(tmp_path: pathlib.Path, forever: pathlib.Path) -> None:
+    with terminal(tmp_path, forever) as console:
+        console.expect("vecmon> ")
+        console.type("\x1b[200~run\nregs\x1b[201~\r")  # what follows in the entry isn't carried out
+        console.expect("ready")
+        console.type(INTERRUPT)
+        console.expect("The program was stopped at 0x100")
+        assert "pc  " not in console.expect("vecmon> ")
+        console.type("half a line" + INTERRUPT)
+        console.expect("vecmon> ")
+        console.type("state\r")
+        console.expect("state stopped pc=00000000000100")
+        console.expect("vecmon> ")
+        console.type(END)
+        assert console.end()[0] == 0
+
+
+def test_completion_pasted_lines_and_the_bar(tmp_path: pathlib.Path) -> None:
+    with terminal(tmp_path, STRIP_MINED) as console:
+        console.expect("vecmon> ")
+        console.expect("pc 10000   vtype vill   vl 0   policy keep")
+        console.type("unbr\t")
+        console.expect("eak ")
+        console.type("ne\t")
+        console.expect("xt")
+        console.type("\r")
+        console.expect("E13: the breakpoint is there already, or isn't there")
+        console.type("\x1b[200~break next+4\nrun\npolicy ones\x1b[201~\r")
+        console.expect("A breakpoint stands at 0x1001c")
+        console.expect("ok")
+        console.expect("pc 1001c next+0x4   vtype e32,m1,ta,mu   vl 8   policy ones")
+        console.type("quit\r")
+        assert console.end()[0] == 0
+
+
+def test_what_was_typed_is_kept_for_the_next_time(tmp_path: pathlib.Path) -> None:
+    with terminal(tmp_path) as console:
+        console.expect("vecmon> ")
+        console.type("set x9 1234\r")
+        console.expect("ok")
+        console.type("quit\r")
+        console.end()
+    with terminal(tmp_path) as console:
+        console.expect("vecmon> ")
+        console.type(UP + UP + "5\r")
+        console.expect("ok")
+        console.type("regs\r")
+        console.expect("x9/s1    0000000000012345")
+    (tmp_path / "file").write_text("")
+    with terminal(tmp_path, XDG_STATE_HOME=str(tmp_path / "file")) as console:  # no folder can be made there
+        console.expect("vecmon> ")
+        console.type("vcsr\r")
+        console.expect("(vill)")
+
+
+@pytest.mark.parametrize("more, has_colours", [({}, True), ({"NO_COLOR": "1"}, False)])
+def test_colours(tmp_path: pathlib.Path, more: dict[str, str], has_colours: bool) -> None:
+    lines = ["break next+0x14", "run", "vreg v9", "step 9", "run", "vreg v8"]  # the second time there are five elements
+    tail, masked, changed = "\x1b[2m", "\x1b[35m", "\x1b[33m"
+    told = {}
+    with terminal(tmp_path, STRIP_MINED, **more) as console:
+        console.expect(WHERE, is_raw=True)
+        for line in lines:
+            console.type(f"{line}\r")
+            told[line] = console.expect(WHERE, is_raw=True)
+    assert (f"{changed}      x10/a0=5" in told["step 9"]) is has_colours
+    elements = re.findall("v8  ([^\r]*)\r", told["vreg v8"])[-1].split()
+    assert [element.startswith(tail) for element in elements] == [False] * 5 + [has_colours] * 3
+    assert masked not in told["vreg v9"]
+    assert has_colours or not any(colour in "".join(told.values()) for colour in (tail, masked, changed))
+
+
+@pytest.mark.parametrize(
+    "register, width, control, mask, lies",
+    [
+        ("v9", 32, {"vl": 11, "vtype": 0xD1}, None, "aaattttt"),  # e32, m2: these are elements 8 to 15
+        ("v9", 32, {"vl": 11, "vtype": 0xD1}, 0x500, "amattttt"),
+        ("v8", 32, {"vl": 11, "vtype": 0xD1}, 0x581, "ammmmmma"),
+        ("v7", 8, {"vl": 16, "vtype": 0xC7}, None, "a" * 16 + "t" * 16),  # e8, mf2
+        ("v3", 64, {"vl": 6, "vtype": 0xD0}, None, "aatt"),  # e32, m1, where 64 bits have groups of two
+        ("v3", 16, {"vl": 0, "vtype": 1 << 63}, 0, "a" * 16),  # vill
+    ],
+)
+def test_how_elements_lie(register: str, width: int, control: dict[str, int], mask: int | None, lies: str) -> None:
+    answer = " ".join([register, *(f"{number:0{width // 4}x}" for number in range(256 // width))])
+    rows = "\n".join(Screen(True).element_rows(answer, {"vstart": 0, **control}, mask))
+    kinds = {"": "a", "35": "m", "2": "t"}
+    found = [(kinds[colour], int(digits, 16)) for colour, digits in re.findall(r" (?:\x1b\[(\d+)m)?([0-9a-f]+)", rows)]
+    assert found == list(zip(lies, range(256 // width)))
+    assert all(len(re.sub(r"\x1b\[\d+m", "", row)) <= 80 for row in rows.split("\n"))
+
+
+def test_elements_that_a_mask_has_off(tmp_path: pathlib.Path) -> None:
+    with terminal(tmp_path, STRIP_MINED) as console:
+        for line in ["break next+0x10", "run", "step", "vreg v9"]:
+            console.expect(WHERE, is_raw=True)
+            console.type(f"{line}\r")
+        told = console.expect(WHERE, is_raw=True)
+    elements = re.findall("v9  ([^\r]*)\r", told)[-1].split()
+    assert [element.startswith("\x1b[35m") for element in elements] == [x <= 4 for x in X[:8]]

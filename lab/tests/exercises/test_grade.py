@@ -1,0 +1,304 @@
+"""Graded answers: right and wrong ones of each kind, whatever may be in a file, and bad exercises."""
+
+import csv
+import pathlib
+import subprocess
+import sys
+from collections.abc import Callable
+
+import pytest
+
+from support.images import make_image
+from support.places import DATA, DOCS, EXAMPLES, SUM
+from vecmon_lab import LabError
+from vecmon_lab.exercises.answer import settled
+from vecmon_lab.exercises.exercise import read_exercise
+from vecmon_lab.exercises.grade import grade
+
+ECHO = """
+set_up = ["map 20000 1 rw"]
+limits = { ticks = 900, output = 8 }
+[[cases]]
+name = "word"
+registers = { a1 = 0x20000, a2 = 5 }
+memory = [{ at = 0x20000, text = "hello" }]
+expected = { output = "hello", registers = { a0 = 5, t1 = -1 }, memory = [{ at = 0x20010, i32 = [-5, 7] }] }
+"""
+ECHOES = """
+        li a0, 1
+        li a7, 64
+        ecall
+        li t0, -5
+        sw t0, 16(a1)
+        li t0, 7
+        sw t0, 20(a1)
+        li t1, -1
+"""
+BY_HAND = """# ECHOES at the monitor
+2 map 10000 1 rx
+2 asm 10000 addi x10, x0, 1
+2 asm 10004 addi x17, x0, 64
+2 asm 10008 ecall
+2 asm 1000c addi x5, x0, -5
+2 asm 10010 sw x5, 16(x11)
+2 asm 10014 addi x5, x0, 7
+2 asm 10018 sw x5, 20(x11)
+2 asm 1001c addi x6, x0, -1
+2 asm 10020 jalr x0, 0(x1)
+2 setpc 10000
+"""
+BY_POKES = """
+1 map 10000 1 rwx
+1 asm 10000 ebreak
+1 map 30000 1 rw
+1 set x10 5
+1 set x6 ffffffffffffffff
+1 setpc 10000
+"""
+Echo = Callable[[str | bytes, str], str]
+
+
+@pytest.fixture
+def echo(program: pathlib.Path, tmp_path: pathlib.Path) -> Echo:
+    """Grades what stands in a file of a name by the exercise ECHO: why it fails, or nothing."""
+    (tmp_path / "exercise.toml").write_text(ECHO)
+    exercise = settled(program, read_exercise(tmp_path))
+
+    def graded(content: str | bytes, name: str) -> str:
+        (tmp_path / name).write_bytes(content.encode() if isinstance(content, str) else content)
+        (outcome,) = grade(program, exercise, tmp_path / name)
+        return outcome
+
+    return graded
+
+
+def answer(name: str) -> pathlib.Path:
+    """An answer that is stored: one of the manual's, or one for tests alone."""
+    shown = EXAMPLES / "answers" / name
+    return shown if shown.is_file() else DATA / "answers" / name
+
+
+def run_grade(*words: object) -> "subprocess.CompletedProcess[str]":
+    """The command, with its outputs."""
+    return subprocess.run(
+        [sys.executable, "-m", "vecmon_lab", "grade", *map(str, words)], capture_output=True, text=True
+    )
+
+
+@pytest.mark.parametrize(
+    "exercise, right, wrong",
+    [
+        ("saturating_sum", ["vectors.s"], "wraps.s"),
+        ("strip_mined_copy", ["copy.s", "copy.script"], "by_registers.s"),
+        ("strlen", ["strlen.s"], "plain_load.s"),
+    ],
+)
+@pytest.mark.by_command("grade")
+def test_the_exercises_of_the_lab(program: pathlib.Path, exercise: str, right: list[str], wrong: str) -> None:
+    settled_exercise = settled(program, read_exercise(pathlib.Path(exercise)))
+    for name in right:
+        assert not any(grade(program, settled_exercise, answer(name)))
+    assert any(grade(program, settled_exercise, answer(wrong)))
+
+
+@pytest.mark.parametrize(
+    "exercise, source, fails",
+    [
+        (
+            "saturating_sum",
+            ["vsetvli t0, a3, e16, m8, ta, ma", "vle16.v v8, (a1)", "vle16.v v16, (a2)", "vsadd.vv v8, v8, v16"]
+            + ["vse16.v v8, (a0)"],
+            "many",
+        ),
+        ("strip_mined_copy", ["vsetvli t0, a2, e8, m8, ta, ma", "vle8.v v8, (a1)", "vse8.v v8, (a0)"], "a tail"),
+        (
+            "strlen",
+            ["vsetvli t0, x0, e8, m8, ta, ma", "vle8ff.v v8, (a0)", "vmseq.vi v0, v8, 0", "vfirst.m a0, v0"],
+            "long",
+        ),
+    ],
+)
+def test_one_round_in_the_largest_group_is_not_enough(
+    program: pathlib.Path, tmp_path: pathlib.Path, exercise: str, source: list[str], fails: str
+) -> None:
+    answer = tmp_path / "answer.s"
+    answer.write_text("\n".join([*source, "ret"]))
+    cases = settled(program, read_exercise(pathlib.Path(exercise)))
+    outcomes = grade(program, cases, answer)
+    assert [case.name for case, outcome in zip(cases.cases, outcomes) if outcome] == [fails]
+
+
+@pytest.mark.parametrize("end", ["ret", "ebreak", "li a7, 93\necall"])
+def test_a_source_is_right_however_it_ends(echo: Echo, end: str) -> None:
+    assert echo(ECHOES + end, "answer.s") == ""
+
+
+def test_a_script_and_an_image_are_right(echo: Echo, program: pathlib.Path, tmp_path: pathlib.Path) -> None:
+    make_image(program, tmp_path / "made", ECHOES + "ret")
+    assert echo((tmp_path / "made").read_bytes(), "image") == ""
+    assert echo(BY_HAND, "script") == ""
+    assert echo(BY_HAND + "2 go", "script") == ""
+
+
+@pytest.mark.parametrize(
+    "change, reason",
+    [
+        (("li t0, 7", "li t0, 8"), "element 1, i32 at 0x20014: expected 7, found 8"),
+        (("sw t0, 16", "sw t0, 24"), "element 0, i32 at 0x20010: expected -5, found 4"),  # the opposite stands there
+        (("li t1, -1", "addi a0, a0, 1"), "x10: expected 5, found 6"),
+        (("li t1, -1", ""), "x6: expected -1, found 0"),
+        (("li a0, 1", "li a0, 1\naddi a2, a2, -1"), "x10: expected 5, found 4"),
+        (("ecall", "ecall\nli a0, 1\necall"), "it writes more than 8 bytes"),
+        (("ecall", "li a0, 5"), "output: expected 'hello', found ''"),
+        (("ecall", "j ."), "it hasn't ended after 900 ticks"),
+        (
+            ("ecall", "ld a0, 0(x0)"),
+            "The load at 0x10008 may not read from 0x0 on: a page isn't mapped, or has no permission r.",
+        ),
+        (
+            ("ecall", "li t0, 3\nsw x0, 0(t0)"),
+            "The store at 0x1000c may not write from 0x3 on: a page isn't mapped, or has no permission w.",
+        ),
+        (("ecall", "li t2"), "answer.s:4:9: li takes 2 operands, not 1"),
+        (("ecall", "vadd.vv v1, v2"), "answer.s:4:23: an operand is missing at the end"),
+    ],
+)
+def test_the_first_wrong_place_is_told(echo: Echo, change: tuple[str, str], reason: str) -> None:
+    assert echo(ECHOES.replace(*change) + "ret", "answer.s") == reason
+
+
+@pytest.mark.parametrize(
+    "content, name, reason",
+    [
+        (BY_POKES, "script", "x10: expected 5, found -6"),  # the opposite stands there when the program begins
+        (
+            BY_POKES + "1 map 20000 1 rw\n1 poke 20010 fbffffff07000000",
+            "script",
+            "map 20000 1 rw: E16: a page is mapped already",
+        ),
+        (BY_HAND + "2 break 10010", "script", "A breakpoint stands at 0x10010; its instruction is the next one."),
+        ("1 enter", "script", "line 1: an answer has no line of the operator's, and no enter, leave or load"),
+        ("\n1  leave", "script", "line 2: an answer has no line of the operator's, and no enter, leave or load"),
+        (
+            "# once more\n1 load image",
+            "script",
+            "line 2: an answer has no line of the operator's, and no enter, leave or load",
+        ),
+        (
+            BY_HAND + "* slices 9",
+            "script",
+            "line 13: an answer has no line of the operator's, and no enter, leave or load",
+        ),
+        (BY_HAND + "1 regs", "script", "line 13: an answer has lines of one user, here of 2"),
+        ("regs", "script", "line 1: a line begins with `1 ` to `8 ` or `* `: 'regs'"),
+        ("1 map 10000 1 rx\n1 asm 10000 nop", "script", "asm 10000 nop: E15: there is no instruction nop"),
+        ("", "script", "No instruction can be fetched at 0x0: its page isn't mapped, or has no permission x."),
+        ("", "empty.s", "No instruction can be fetched at 0x10000: its page isn't mapped, or has no permission x."),
+        (b"\x7fELF", "image", "the machine refuses image (E09 Short): the file has less than 64 bytes"),
+        (b"\x7fELF\1\1\1" + bytes(60), "image", "the machine refuses image (E09 Class): the class isn't 2, 64 bits"),
+        pytest.param(b"\x7fELF" + bytes(1 << 22), "image", "it has more than 4,194,304 bytes", id="large"),
+        (b"1 regs\n\xff\xfe", "script", "it is no image and no text: byte 8 is 0xff"),
+        (b"\0\0\0", "answer.s", "answer.s:1:1: \0 stands where an instruction, a directive or a label has to"),
+    ],
+)
+def test_whatever_an_answer_has_is_a_row(echo: Echo, content: str | bytes, name: str, reason: str) -> None:
+    assert echo(content, name) == reason
+
+
+def test_what_cannot_be_read_is_a_row(tmp_path: pathlib.Path) -> None:
+    done = run_grade("strlen", "--csv", tmp_path / "none", tmp_path, SUM, answer("typo.s"))
+    header, *rows = csv.reader(done.stdout.splitlines())
+    assert header == ["answer", "passed", "of", "short", "end of the page", "long", "empty", "reason"]
+    assert {tuple(row[1:7]) for row in rows[:2] + rows[3:]} == {("0", "4", *["fails"] * 4)}
+    assert [row[-1] for row in rows[:2]] == [
+        "it can't be read: No such file or directory",
+        "it can't be read: Is a directory",
+    ]
+    assert rows[3][-1] == "typo.s:3:19: an operand is missing at the end"
+    assert (done.returncode, done.stderr) == (1, "")
+
+
+def test_the_table_of_the_manual(monkeypatch: pytest.MonkeyPatch) -> None:
+    """It tells nothing of hidden cases but that they fail."""
+    command = "$ vecmon-lab grade saturating_sum answers/*; echo $?\n"
+    shown = (DOCS / "LAB.md").read_text("utf-8").partition(command)[2].partition("```")[0]
+    monkeypatch.chdir(EXAMPLES)
+    done = run_grade("saturating_sum", *sorted(pathlib.Path("answers").iterdir()))
+    assert f"{done.stdout}{done.stderr}{done.returncode}\n" == shown
+
+
+def test_an_answer_that_writes_too_much() -> None:
+    done = run_grade("saturating_sum", answer("talks.s"))
+    assert done.stdout.endswith("talks.s: it writes more than 4,096 bytes\n") and done.returncode == 1
+
+
+def test_twenty_four_answers_have_the_rows_that_each_has_alone() -> None:
+    names = ["copy.s", "by_registers.s", "copy.script", "forever.s"]
+    done = run_grade("strip_mined_copy", "--rows", *(answer(name) for name in names * 6))
+    alone = [run_grade("strip_mined_copy", "--rows", answer(name)) for name in names]
+    assert done.stdout == "".join(each.stdout for each in alone) * 6
+    assert [each.returncode for each in alone] == [0, 1, 0, 1]
+
+
+CASE = "[[cases]]\nexpected.registers = { a0 = 1 }\n"
+
+
+@pytest.mark.parametrize(
+    "text, message",
+    [
+        ("title = 5\n" + CASE, "title isn't a text"),
+        ("tilte = '5'\n" + CASE, "there is nothing that is called tilte"),
+        ("title = ", "Invalid value (at end of document)"),
+        ("", "there is one case at least, no two have one name, and limits are from 1 up"),
+        ("limits.ticks = 0\n" + CASE, "there is one case at least, no two have one name, and limits are from 1 up"),
+        ("limits = 5\n" + CASE, "limits isn't a table"),
+        ("cases = [5]", "case 1 isn't a table"),
+        (CASE + CASE.replace("]]\n", "]]\nname = 'case 1'\n"), "there is one case at least, no two have one name, and"),
+        ("[[cases]]", "case 1: policy is keep or ones, and registers, memory or output are expected"),
+        (CASE.replace("a0", "zero"), "case 1: zero isn't one of ra to t6 or x1 to x31 with a number of 64 bits"),
+        (CASE.replace("1 }", "1.5 }"), "case 1: a0 isn't one of ra to t6 or x1 to x31 with a number of 64 bits"),
+        (
+            CASE.replace("1 }", f"{1 << 64} }}"),
+            "case 1: a0 isn't one of ra to t6 or x1 to x31 with a number of 64 bits",
+        ),
+        (
+            CASE.replace("1 }", "1 }\nmemory = [{ at = 4, i8 = [128] }]"),
+            "case 1: a place is `at`, an address, and a text or",
+        ),
+        (CASE.replace("1 }", "1 }\nmemory = [{ u8 = [1] }]"), "case 1: a place is `at`, an address, and a text or"),
+        (
+            CASE.replace("1 }", "1 }\nmemory = [{ at = 4, u8 = 1 }]"),
+            "case 1: a place is `at`, an address, and a text or",
+        ),
+        (
+            CASE.replace("1 }", "1 }\nmemory = [{ at = 4096, u8 = [1] }]"),
+            "case 1: poke 1000 01: E11: an address isn't mapped",
+        ),
+        (
+            "set_up = ['map 0 1']\n" + CASE,
+            "case 1: map 0 1: E04: a wrong number of words, or a word out of its form or range",
+        ),
+        ("reference = 'none.s'\n" + CASE, "case 1: expected: registers isn't a list"),
+        ("reference = 'none.s'\n" + CASE.replace("{ a0 = 1 }", "['a0']"), "case 1: it can't be read: No such file"),
+    ],
+)
+def test_a_bad_exercise_is_told(program: pathlib.Path, tmp_path: pathlib.Path, text: str, message: str) -> None:
+    (tmp_path / "exercise.toml").write_text(text)
+    with pytest.raises(LabError) as raised:
+        settled(program, read_exercise(tmp_path))
+    assert message in str(raised.value)
+    assert str(raised.value).startswith((f"{tmp_path}", f"{tmp_path.name}, case 1"))
+
+
+def test_a_bad_exercise_is_told_in_a_line(tmp_path: pathlib.Path) -> None:
+    (tmp_path / "exercise.toml").write_text("title =")
+    done = run_grade(tmp_path, answer("copy.s"))
+    assert (done.returncode, done.stdout) == (2, "")
+    assert done.stderr == f"vecmon-lab: {tmp_path}/exercise.toml: Invalid value (at end of document)\n"
+
+
+def test_there_is_no_such_exercise(tmp_path: pathlib.Path) -> None:
+    with pytest.raises(LabError, match="nosuch is no exercise: there is no file nosuch/exercise.toml"):
+        read_exercise(pathlib.Path("nosuch"))
+    with pytest.raises(LabError, match="is no exercise"):
+        read_exercise(tmp_path)

@@ -1,0 +1,351 @@
+"""gdb's protocol: packets in and packets out, and gdb itself in its batch mode, beside values that are known otherwise."""
+
+import os
+import pathlib
+import re
+import select
+import shutil
+import subprocess
+import sys
+from collections.abc import Callable, Iterator
+from types import TracebackType
+from xml.etree import ElementTree
+
+import pytest
+
+from support.images import make_image
+from support.left_out import NO_GDB, leave_out
+from support.places import SQUARES, STOCK, SUM, SUM_DWARF4, SUM_DWARF5, TOP
+from support.terminal import MOST_SECONDS
+
+GDB = [sys.executable, "-m", "vecmon_lab", "gdb"]
+WRITES_AND_GOES_ON = """
+        li a0, 1
+        la a1, text
+        li a2, 6
+        li a7, 64
+        ecall
+loop:   j loop
+        .data
+text:   .ascii "ready\\n"
+"""
+
+
+STOPS = """
+cause0: .word 0x0020006f # jal x0, 2
+cause1: jr zero
+cause2: .word 0
+cause5: ld t0, 0(zero)
+cause7: sd t0, 0(zero)
+break:  ebreak
+"""
+
+
+class Packets:
+    """The other end of the pipe, as gdb has it."""
+
+    def __init__(self, image: pathlib.Path) -> None:
+        pipe = subprocess.PIPE
+        self.program = subprocess.Popen([*GDB, str(image)], cwd=TOP, stdin=pipe, stdout=pipe, stderr=pipe, bufsize=0)
+        assert self.program.stdout
+        self._source = self.program.stdout.fileno()
+
+    def __enter__(self) -> "Packets":
+        return self
+
+    def __exit__(
+        self, kind: type[BaseException] | None, error: BaseException | None, trace: TracebackType | None
+    ) -> None:
+        self.program.kill()
+        self.program.communicate()
+
+    def write(self, data: bytes) -> None:
+        """Writes bytes as they are."""
+        assert self.program.stdin
+        self.program.stdin.write(data)
+
+    def read(self, number: int) -> bytes:
+        """The next bytes, less of them at the end."""
+        data = b""
+        while len(data) < number:
+            assert select.select([self._source], [], [], MOST_SECONDS)[0], "nothing comes"
+            part = os.read(self._source, number - len(data))
+            if not part:
+                break
+            data += part
+        return data
+
+    def send(self, packet: str) -> None:
+        """Sends a packet."""
+        self.write(f"${packet}#{sum(packet.encode()) % 256:02x}".encode())
+
+    def packet(self) -> str:
+        """The next packet, whose sum has to be right."""
+        assert self.read(1) == b"$"
+        data = b""
+        while (byte := self.read(1)) != b"#":
+            assert byte, data
+            data += byte
+        assert int(self.read(2), 16) == sum(data) % 256
+        return re.sub(rb"}(.)", lambda pair: bytes([pair[1][0] ^ 0x20]), data, flags=re.DOTALL).decode()
+
+    def ask(self, packet: str) -> str:
+        """The answer to a packet, when it has been acknowledged."""
+        self.send(packet)
+        assert self.read(1) == b"+"
+        return self.packet()
+
+    def ended(self) -> tuple[int, bytes, bytes]:
+        """The status, and what was still said."""
+        out, err = self.program.communicate()
+        return self.program.returncode, out, err
+
+
+def little(number: int, size: int = 8) -> str:
+    """A number's digits as packets have them."""
+    return number.to_bytes(size, "little").hex()
+
+
+def text(packet: str) -> str:
+    """The output in a packet."""
+    assert packet[0] == "O"
+    return bytes.fromhex(packet[1:]).decode()
+
+
+@pytest.fixture
+def squares() -> Iterator[Packets]:
+    """The program of docs/COMPILING.md that has a nought too many."""
+    with Packets(SQUARES) as packets:
+        yield packets
+
+
+def test_the_registers_are_described(squares: Packets) -> None:
+    supported = dict(part.partition("=")[::2] for part in squares.ask("qSupported:multiprocess+;swbreak+").split(";"))
+    assert supported["qXfer:features:read+"] == ""
+    xml, part, size = "", "m", int(supported["PacketSize"], 16) // 2
+    while part[0] == "m":
+        part = squares.ask(f"qXfer:features:read:target.xml:{len(xml):x},{size:x}")
+        assert part[0] in "ml" and 1 < len(part) <= size + 1
+        xml += part[1:]
+    target = ElementTree.fromstring(xml)
+    assert target.findtext("architecture") == "riscv:rv64"
+    registers = [(register.get("name"), register.get("bitsize")) for register in target.iter("reg")]
+    names = [*(f"x{number}" for number in range(32)), "pc", "vl", "vtype", "vstart", "vxrm", "vxsat"]
+    assert registers == [(name, "64") for name in names] + [(f"v{number}", "256") for number in range(32)]
+    for vector in target.iter("vector"):
+        assert int(vector.get("type", "").removeprefix("uint")) * int(vector.get("count", "")) == 256
+    assert [field.get("name") for field in target.iter("field")] == ["b", "s", "w", "l"]
+
+
+def test_a_fault_and_how_to_go_on(squares: Packets) -> None:
+    assert squares.ask("?") == "S05"
+    registers = squares.ask("g")
+    assert registers == "".join(map(little, [0, 0, 0x7FFFEFC0, *[0] * 29, 0x10174]))
+    squares.send("c")
+    assert squares.read(1) == b"+"
+    assert text(squares.packet()).startswith("vecmon: The store at 0x10198 may not write from 0x12000 on: ")
+    assert (squares.packet(), squares.ask("?")) == ("S0b", "S0b")
+    assert [squares.ask(f"p{number:x}") for number in range(32, 38)] == list(
+        map(little, [0x10198, 16, 0xD1, 14, 0, 0])  # vl, vtype, vstart as in docs/COMPILING.md
+    )
+    assert squares.ask("p2e") == "".join(little(number * number, 4) for number in range(1008, 1016))  # v8
+    assert squares.ask("m11ff8,8") == squares.ask("m11ff8,20") == "10e00f0009e80f00"
+    assert squares.ask("m12000,1") == "E11"
+    assert squares.ask("M11000,2:e803") == squares.ask(f"P20={little(0x10174)}") == "OK"
+    assert squares.ask(f"P2={little(0x7FFFEFC0)}") == "OK"
+    assert squares.ask("C0b") == "W00"
+
+
+def test_breakpoints_steps_and_output() -> None:
+    with Packets(SUM) as packets:
+        assert packets.ask("Z0,112dc,4") == packets.ask("Z0,112dc,4") == packets.ask("Z1,11198,4") == "OK"
+        assert (packets.ask("s"), packets.ask("p20")) == ("S05", little(0x11194))
+        assert (packets.ask("c"), packets.ask("p20")) == ("S05", little(0x11198))
+        assert (packets.ask("p0d"), packets.ask("z1,11198,4")) == (little(32), "OK")  # x13 is vlenb
+        packets.send("c")
+        assert packets.read(1) == b"+" and text(packets.packet()) == "328350\n" and packets.packet() == "S05"
+        assert packets.ask("z0,112dc,4") == "OK"
+        assert (packets.ask("p2e")[:8], packets.ask("c")) == (little(328350, 4), "W00")  # the sum is in v8
+
+
+def test_what_is_written_is_read_again(squares: Packets) -> None:
+    pattern = bytes(range(100, 132)).hex()
+    assert (squares.ask(f"P26={pattern}"), squares.ask("p26")) == ("OK", pattern)
+    assert (squares.ask("P1f=8877665544332211"), squares.ask("p1f")) == ("OK", "8877665544332211")
+    assert squares.ask("M7fffb0f0,20:" + pattern) == "OK"
+    assert squares.ask("m7fffb0f0,20") + squares.ask("m7fffb100,10") == pattern  # a block of 256 bytes ends between
+
+
+@pytest.mark.parametrize(
+    "packet, answer",
+    [
+        ("vMustReplyEmpty", ""),
+        ("X11000,0:", ""),
+        ("G00", ""),
+        ("qAttached:1", ""),
+        ("Hg0", "OK"),
+        ("Z0,11002,4", "E04"),
+        ("z0,11000,4", "OK"),
+        ("Z2,11000,4", ""),
+        ("p46", "E04"),
+        ("pxyz", "E04"),
+        ("P21=0500000000000000", "E04"),
+        ("P0=0500000000000000", "E04"),
+        ("P20=0100000000000000", "E04"),
+        ("P26=00", "E04"),
+        ("m0,4", "E11"),
+        ("mffffffffffffffff,4", "E11"),
+        ("m11000,0", "E04"),
+        ("M11ffe,4:01020304", "E11"),
+        ("M11000,1:0", "E04"),
+        ("Mno,1:00", "E04"),
+        ("qRcmd,zz", "E04"),
+        ("", ""),
+    ],
+)
+def test_odd_packets(squares: Packets, packet: str, answer: str) -> None:
+    assert squares.ask(packet) == answer
+    assert squares.ask("p20") == little(0x10174)
+
+
+def test_too_many_breakpoints(squares: Packets) -> None:
+    assert {squares.ask(f"Z0,{4 * number:x},4") for number in range(16)} == {"OK"}
+    assert squares.ask("Z0,100,4") == "E12"
+
+
+def test_sums_and_acknowledgements(squares: Packets) -> None:
+    squares.write(b"+\x03junk$p20#00")
+    assert squares.read(1) == b"-"
+    assert squares.ask("p20") == little(0x10174)
+    assert squares.ask("QStartNoAckMode") == "OK"
+    for _ in range(2):
+        squares.send("p20")
+        assert squares.packet() == little(0x10174)
+
+
+def test_an_interrupt(tmp_path: pathlib.Path, program: pathlib.Path) -> None:
+    labels = make_image(program, tmp_path / "image", WRITES_AND_GOES_ON)
+    with Packets(tmp_path / "image") as packets:
+        packets.send("c")
+        assert packets.read(1) == b"+" and text(packets.packet()) == "ready\n"
+        packets.write(b"\x03")
+        assert (packets.packet(), packets.ask("?"), packets.ask("p20")) == ("S02", "S02", little(labels["loop"]))
+        packets.send("c")
+        packets.write(b"\x03")
+        assert packets.read(1) == b"+" and packets.packet() == "S02"
+        assert (packets.ask("s"), packets.ask("p20")) == ("S05", little(labels["loop"]))
+        packets.send("c")  # and gdb goes away while the program runs
+        assert packets.ended() == (0, b"+", b"")
+
+
+def test_what_a_step_puts_out(tmp_path: pathlib.Path, program: pathlib.Path) -> None:
+    make_image(program, tmp_path / "image", WRITES_AND_GOES_ON)
+    with Packets(tmp_path / "image") as packets:
+        assert [packets.ask("s") for _ in range(5)] == ["S05"] * 5  # la is two instructions
+        packets.send("s")
+        assert packets.read(1) == b"+" and text(packets.packet()) == "ready\n" and packets.packet() == "S05"
+
+
+def test_the_signals_of_stops(tmp_path: pathlib.Path, program: pathlib.Path) -> None:
+    labels = make_image(program, tmp_path / "image", STOPS)
+    with Packets(tmp_path / "image") as packets:
+        for label, signal, reason in [
+            ("cause0", "S0a", "which isn't divisible by 4"),
+            ("cause1", "S0b", "No instruction can be fetched at 0x0"),
+            ("cause2", "S04", "Illegal instruction"),
+            ("cause5", "S0b", "may not read from 0x0"),
+            ("cause7", "S0b", "may not write from 0x0"),
+        ]:
+            assert packets.ask(f"P20={little(labels[label])}") == "OK"
+            packets.send("c")
+            assert packets.read(1) == b"+" and reason in text(packets.packet()) and packets.packet() == signal
+        assert packets.ask(f"P20={little(labels['break'])}") == "OK"
+        assert packets.ask("c") == packets.ask("s") == "S05" and packets.ask("p20") == little(labels["break"])
+
+
+@pytest.mark.parametrize("line, told", [("vreg v1 64", f"v1{4 * ' 0000000000000000'}\n"), ("policy ones", "ok\n")])
+def test_monitor_lines(squares: Packets, line: str, told: str) -> None:
+    assert bytes.fromhex(squares.ask(f"qRcmd,{line.encode().hex()}")).decode() == told
+    refused = bytes.fromhex(squares.ask(f"qRcmd,{'go'.encode().hex()}")).decode()
+    assert refused.startswith("monitor takes ") and refused.count("\n") == 1
+
+
+@pytest.mark.parametrize("packet, more", [("D", b"+$OK#9a"), ("k", b"+"), (None, b"")])
+def test_how_it_ends(squares: Packets, packet: str | None, more: bytes) -> None:
+    if packet:
+        squares.send(packet)
+    assert squares.ended() == (0, more, b"")
+
+
+@pytest.mark.parametrize("path, reason", [(STOCK / "short", "E09 Short"), (STOCK / "none", "No such file")])
+def test_images_that_are_refused(path: pathlib.Path, reason: str) -> None:
+    with Packets(path) as packets:
+        status, out, err = packets.ended()
+    assert (status, out, err.count(b"\n")) == (2, b"", 1)
+    assert err.decode().startswith(f"vecmon-lab: {path}") and reason in err.decode()
+
+
+@pytest.fixture(scope="module")
+def gdb() -> Callable[..., str]:
+    """gdb in its batch mode: what it says when it is connected to an image, and these commands are given.
+
+    Where there is none, a test that wants it is left out and counted; where CI is set, it fails.
+    """
+    if not shutil.which("gdb-multiarch"):
+        leave_out(NO_GDB)
+
+    def said(image: pathlib.Path, *commands: str) -> str:
+        words = [f"target remote | exec {sys.executable} -m vecmon_lab gdb {image}", *commands]
+        options = [word for command in words for word in ("-ex", command)]
+        command = ["gdb-multiarch", "-nx", "-batch", "-l", "120", "-d", str(STOCK), *options, str(image)]
+        run = subprocess.run(
+            command, cwd=TOP, stdin=subprocess.DEVNULL, stdout=subprocess.PIPE, stderr=subprocess.STDOUT
+        )
+        return run.stdout.decode()
+
+    return said
+
+
+@pytest.mark.parametrize("image", [SUM_DWARF4, SUM_DWARF5])
+def test_gdb_with_source_lines(gdb: Callable[..., str], image: pathlib.Path) -> None:
+    commands = ["break 22", "continue", "next", "print $v10.w", "print $vl", "print/x $vtype", "delete", "continue"]
+    told = gdb(image, *commands)
+    assert "Breakpoint 1, sum (" in told and "sum.c:22" in told
+    assert "22\t        vuint32m2_t next = __riscv_vle32_v_u32m2(elements, length);" in told
+    squares = ", ".join(str(number * number) for number in range(8))
+    assert f"$1 = {{{squares}}}" in told and "$2 = 16" in told and "$3 = 0xd1" in told
+    assert told.index("328350\n") < told.index("exited normally")
+
+
+@pytest.mark.by_command("gdb")
+def test_the_session_of_the_manual(gdb: Callable[..., str]) -> None:
+    page = (TOP / "docs" / "LAB.md").read_text("utf-8")
+    begin = page.index("(gdb) target remote | vecmon-lab gdb sum")
+    session = page[begin : page.index("(gdb) quit", begin)].splitlines()
+    typed = [line.removeprefix("(gdb) ") for line in session if line.startswith("(gdb) ")]
+    rest = gdb(SUM_DWARF4, *typed[1:]).expandtabs()
+    shown = [line for line in session if line and not line.startswith(("(gdb) ", "Remote debugging", "Continuing."))]
+    assert len(shown) > 8
+    for line in shown:  # in this order
+        assert line in rest
+        rest = rest[rest.index(line) :]
+
+
+def test_gdb_begins_anew(gdb: Callable[..., str]) -> None:
+    again = f"target remote | exec {sys.executable} -m vecmon_lab gdb {SUM}"
+    told = gdb(SUM, "stepi", "stepi", again, "print $pc", "continue")
+    assert "$1 = (void (*)()) 0x11190 <_start>" in told and told.endswith(
+        "328350\n[Inferior 1 (Remote target) exited normally]\n"
+    )
+
+
+def test_gdb_with_a_fault(gdb: Callable[..., str]) -> None:
+    commands = ["continue", "print $vstart", "print $v8.w[0]", "set var *(int *) 0x11000 = 1000", "set $pc = 0x10174"]
+    told = gdb(SQUARES, *commands, "set $sp = 0x7fffefc0", "set $v31.l[1] = 77", "print $v31.l", "stepi", "continue")
+    assert "vecmon: The store at 0x10198 may not write" in told and "SIGSEGV" in told
+    assert "$1 = 14" in told and f"$2 = {1008 * 1008}" in told and "$3 = {0, 77, 0, 0}" in told
+    assert told.endswith("exited normally]\n")
+
+
+def test_gdb_says_why_an_image_is_refused(gdb: Callable[..., str]) -> None:
+    assert "E09 Short" in gdb(STOCK / "short")

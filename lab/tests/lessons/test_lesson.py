@@ -1,0 +1,273 @@
+"""Lessons: their frames beside what a plain run of the program prints, their files, and bad input."""
+
+import os
+import pathlib
+import re
+import subprocess
+import sys
+from typing import Any
+
+import pytest
+from hypothesis import given, settings
+from hypothesis import strategies as st
+
+from support.class_tabs import patched
+from support.places import EXAMPLES
+from vecmon_lab import LabError
+from vecmon_lab.lessons import frames
+from vecmon_lab.lessons.frames import Frame, make_frames
+from vecmon_lab.lessons.page import lesson_page
+from vecmon_lab.lessons.script import read_script, read_source
+from vecmon_lab.lessons.tour import DATA, tours
+from vecmon_lab.machine.session import Session
+from vecmon_lab.page.pages import FILES, merge_patch
+
+
+def transcript(program: pathlib.Path, script: str) -> list[str]:
+    """What a plain run of the program prints."""
+    done = subprocess.run([program], input=script.encode("utf-8"), stdout=subprocess.PIPE, check=True)
+    return done.stdout.decode("ascii").splitlines()
+
+
+def logged(frames: list[Frame], mark: str) -> list[str]:
+    """The entries of a kind in the log of a lesson."""
+    return [entry[1:] for frame in frames for entry in frame.log if entry[0] == mark]
+
+
+def lab(*words: str, **variables: str) -> subprocess.CompletedProcess[str]:
+    """A run of `vecmon-lab`."""
+    command = [sys.executable, "-m", "vecmon_lab", *words]
+    return subprocess.run(command, capture_output=True, text=True, env=os.environ | variables)
+
+
+@pytest.mark.parametrize("name", list(tours()))
+@pytest.mark.by_command("tour")
+def test_a_tours_log_is_the_plain_transcript(program: pathlib.Path, name: str) -> None:
+    script = (DATA / "tour" / name).read_text("ascii")
+    made = make_frames(tours()[name], program)
+    assert logged(made, ">") == script.splitlines()
+    assert logged(made, "<") == transcript(program, script)
+
+
+@pytest.mark.parametrize("name", list(tours()))
+def test_the_last_frame_shows_what_the_machine_shows(session: Session, program: pathlib.Path, name: str) -> None:
+    for line in (DATA / "tour" / name).read_text("ascii").splitlines():
+        session.do(line)
+    for user, state in make_frames(tours()[name], program)[-1].states.items():
+        if state["run"] != "stopped":
+            assert session.look(f"{user} state")[0][2:] in (
+                "E05",
+                f"state {state['run']} pc={state.get('pc', ''):0>16}",
+            )
+            continue
+        words = " ".join(line[2:] for line in session.look(f"{user} regs")).split()
+        shown = [("pc", state["pc"])] + [(f"x{number}", state["x"][str(number)]) for number in range(32)]
+        assert [f"{name} {value:0>16}" for name, value in shown] == [" ".join(p) for p in zip(words[::2], words[1::2])]
+        for number in range(32):
+            elements = session.look(f"{user} vreg v{number} 8")[0].split()[2:]
+            assert state["v"][str(number)] == "".join(elements)
+        control = " ".join(f"{key}={state[key]}" for key in ("vl", "vstart", "vxrm", "vxsat"))
+        told = session.look(f"{user} vcsr")[0][2:]
+        assert control == re.sub(r"vtype=\w+ ", "", told) and f"vtype={state['vtype']:0>16} " in told
+        for address, digits in state["memory"].items():
+            assert session.look(f"{user} peek {address} 16")[0].split()[3] == digits
+        for address, line in state["code"].items():
+            assert session.look(f"{user} dis {address} 1")[0][19:] == line
+
+
+def test_comments_never_reach_the_machine(program: pathlib.Path, monkeypatch: pytest.MonkeyPatch) -> None:
+    sent: list[str] = []
+
+    class Told(Session):
+        def do(self, line: str) -> list[str]:
+            sent.append(line)
+            return super().do(line)
+
+    monkeypatch.setattr(frames, "Session", Told)
+    script = read_script("## A title\n# one\n#\n#two\n1 enter\n#1 dance\n1 map 10000 1 rwx\n# end\n")
+    made = make_frames(script, program)
+    assert set(sent) == {"1 enter", "1 map 10000 1 rwx"}
+    assert script.title == "A title"
+    assert [frame.note for frame in made] == ["one two", "1 dance", "end"]
+
+
+def test_each_instruction_of_a_step_is_a_frame_up_to_a_breakpoint(program: pathlib.Path) -> None:
+    script = (
+        "1 enter\n1 map 10000 1 rwx\n1 asm 10000 addi x5, x5, 1\n1 asm 10004 addi x5, x5, 1\n1 asm 10008 ebreak\n"
+        "1 setpc 10000\n1 break 10004\n1 step 5\n1 step 5\n1 step 1\n"
+    )
+    made = make_frames(read_script(script), program)
+    assert logged(made, "<") == transcript(program, script)
+    stepped = [frame for frame in made if " step " in frame.line]
+    assert [frame.line for frame in stepped] == [
+        "1 step 5: instruction 1",
+        "1 step 5: instruction 1",
+        "1 step 5: instruction 2",
+        "1 step 1",
+    ]
+    assert [frame.states["1"]["x"]["5"] for frame in stepped] == ["1", "2", "2", "2"]
+    assert [frame.states["1"].get("instruction") for frame in stepped] == ["10000", "10004", None, None]
+    assert ["stop" in frame.states["1"] for frame in stepped] == [True, False, True, True]
+
+
+def test_lines_that_look_or_write_instructions_join_a_frame(program: pathlib.Path) -> None:
+    script = "1 enter\n1 regs\n1 map 0 1 rwx\n1 asm 0 ecall\n1 asm 4 ebreak\n# here\n1 asm 8 ecall\n2 asm 8 ecall\n"
+    made = make_frames(read_script(script), program)
+    assert [(frame.line, frame.more) for frame in made] == [
+        ("1 enter", 0),
+        ("1 map 0 1 rwx", 0),
+        ("1 asm 0 ecall", 1),
+        ("1 asm 8 ecall", 0),
+        ("2 asm 8 ecall", 0),
+    ]
+
+
+def test_a_script_with_errors_shows_the_refusals(program: pathlib.Path) -> None:
+    script = "1 dance\n1 enter\n1 enter\n1 asm 0 nop\n* run 9\n1 step 1\n2 regs\n"
+    made = make_frames(read_script(script + "9 enter\n1 \tregs\n1 poke 0 é\n"), program)
+    assert logged(made, "<") == transcript(program, script)
+    assert len(logged(made, "!")) == 3
+    assert made[-1].user == "1"
+
+
+def test_rows_of_memory_that_tell_most(program: pathlib.Path) -> None:
+    lines = ["1 enter", "1 map 10000 1 rwx", "1 asm 10000 sd x2, 0(x1)", "1 map 20000 1 rw", "1 set x1 20100"]
+    lines += [
+        "1 poke 20010 " + "ff" * 256,
+        "1 peek 20300 1",
+        "1 set x2 1",
+        "1 setpc 10000",
+        "1 step 1",
+        "1 peek 30000 1",
+    ]
+    made = make_frames(read_script("\n".join(lines)), program)
+    rows = {f"{row:x}" for row in [*range(0x20010, 0x20110, 16), 0x20300]}
+    assert set(made[-1].states["1"]["memory"]) == rows
+    assert made[-1].states["1"]["memory"]["20100"] == "01" + "00" * 7 + "ff" * 8
+
+
+def test_a_source(program: pathlib.Path) -> None:
+    path = EXAMPLES / "strip_mined.s"
+    script = read_source(path.read_text("utf-8"), path.name)
+    made = make_frames(script, program)
+    assert script.title == "A strip-mined loop"
+    assert made[0].note.startswith("y[i] += 3 x[i]") and made[0].line == "1 enter"
+    assert "next" in sum(script.labels.values(), [])
+    y = "".join(made[-1].states["1"]["memory"][f"{row:x}"] for row in range(0x11040, 0x11080, 16))
+    expected = [100 + 3 * x if x > 4 else 100 for x in (9, 2, 7, 1, 8, 3, 6, 4, 5, 1, 12, 3, 20)]
+    assert [int.from_bytes(bytes.fromhex(y)[4 * i : 4 * i + 4], "little") for i in range(13)] == expected
+    masked = [frame for frame in made if frame.note.startswith("Elements that are masked off")]
+    assert ["vmacc.vx" in frame.states["1"]["code"][frame.states["1"]["instruction"]] for frame in masked] == [
+        True,
+        True,
+    ]
+
+
+def test_a_source_without_lines_runs_to_its_end(program: pathlib.Path) -> None:
+    source = (
+        '.data\ns: .ascii "hi\\n"\n.text\nli a0, 1\nla a1, s\nli a2, 3\nli a7, 64\necall\nli a0, 0\nli a7, 93\necall\n'
+    )
+    made = make_frames(read_source(source, "hi.s"), program)
+    assert made[-1].line == "1 out" and made[-1].states["1"]["output"] == "68690a"
+    assert "status 0" in made[-2].states["1"]["stop"]
+
+
+def test_set_up_of_a_source_names_labels(program: pathlib.Path) -> None:
+    source = "#> break end\n#> go\n#> * run 1\n nop\nend: nop\n"
+    made = make_frames(read_source(source, "x.s"), program)
+    assert logged(made, "<")[-2:] == ["1 break pc=0000000000010004", "* granted 1"]
+    assert made[-1].states["1"]["instruction"] == "10000"
+
+
+def test_the_example_of_the_manual(program: pathlib.Path) -> None:
+    text = (DATA.parents[2] / "docs" / "LAB.md").read_text("utf-8")
+    example = text.partition("```text\n")[2].partition("```")[0]
+    script = read_script(example)
+    made = make_frames(script, program)
+    assert script.title == "Doubles" and not re.search("E[0-9]{2}", " ".join(logged(made, "<")))
+    assert logged(made, "<")[-1].startswith("1 v2 00000000 00000002 00000004 ")
+
+
+def test_sixty_frames_are_a_small_page(program: pathlib.Path) -> None:
+    source = (EXAMPLES / "strip_mined.s").read_text("utf-8").replace("li a0, 13", "li a0, 45")
+    made = make_frames(read_source(source, "x.s"), program)
+    assert len(made) >= 60
+    assert len(lesson_page("Sixty", made).encode("utf-8")) < 150_000
+
+
+OBJECTS = st.recursive(
+    st.text(max_size=2) | st.integers(0, 3) | st.lists(st.integers(0, 3), max_size=2),
+    lambda values: st.dictionaries(st.text("ab", max_size=1), values, max_size=3),
+    max_leaves=8,
+)
+
+
+@settings(derandomize=True, database=None, deadline=None, max_examples=200)
+@given(st.dictionaries(st.text("abc", max_size=1), OBJECTS), st.dictionaries(st.text("abc", max_size=1), OBJECTS))
+def test_merge_patches(old: dict[str, Any], new: dict[str, Any]) -> None:
+    assert patched(old, merge_patch(old, new)) == new
+
+
+def test_the_files_of_the_page_stay_within_their_elements() -> None:
+    for path in FILES.glob("*.js"):
+        assert "</script" not in path.read_text("utf-8") and "<!--" not in path.read_text("utf-8")
+        assert not re.search(r"innerHTML|outerHTML|insertAdjacentHTML|document\.write", path.read_text("utf-8"))
+
+
+@pytest.mark.parametrize(
+    ("words", "mistake"),
+    [
+        (["lesson", "{tmp}/none"], "{tmp}/none: No such file or directory"),
+        (["lesson", "{tmp}/good", "x={tmp}/none"], "image x: there is no file {tmp}/none"),
+        (["lesson", "{tmp}/good", "{tmp}/none"], "{tmp}/none is no image; NAME=PATH is"),
+        (["lesson", "{tmp}/good", "-o", "{tmp}/no/page"], "{tmp}/no/page: No such file or directory"),
+        (["lesson", "{tmp}/label.s"], "label.s:2:4: "),
+        (["lesson", "{tmp}/range.s"], "range.s:1:18: "),
+        (["lesson", "{tmp}/empty"], "a lesson has a line at least"),
+        (["tour", "{tmp}/good"], "{tmp}/good: File exists"),
+    ],
+)
+def test_bad_input_is_told_in_one_line(tmp_path: pathlib.Path, words: list[str], mistake: str) -> None:
+    (tmp_path / "good").write_text("1 enter\n")
+    (tmp_path / "empty").write_text("## A title\n\n")
+    (tmp_path / "label.s").write_text("nop\nj  nowhere\n")
+    (tmp_path / "range.s").write_text(" vadd.vi v1, v2, 99\n")
+    done = lab(*(word.format(tmp=tmp_path) for word in words))
+    assert done.returncode == 2 and done.stdout == ""
+    assert done.stderr.startswith(f"vecmon-lab: {mistake.format(tmp=tmp_path)}")
+    assert done.stderr.count("\n") == 1
+
+
+def test_no_program(tmp_path: pathlib.Path) -> None:
+    (tmp_path / "good").write_text("1 enter\n")
+    done = lab("lesson", str(tmp_path / "good"), VECMON="/nowhere/vecmon")
+    assert done.returncode == 2 and done.stderr.count("\n") == 1 and "/nowhere/vecmon" in done.stderr
+
+
+@pytest.mark.by_command("lesson")
+def test_pages_are_written(tmp_path: pathlib.Path) -> None:
+    (tmp_path / "script").write_text("# <first>\n1 enter\n1 load sum\n")
+    image = DATA / "images" / "sum"
+    done = lab("lesson", str(tmp_path / "script"), f"sum={image}", "-o", str(tmp_path / "page.html"))
+    assert (done.returncode, done.stdout, done.stderr) == (0, "", "")
+    page = (tmp_path / "page.html").read_text("utf-8")
+    assert page.startswith("<!doctype html>") and "1 loaded pc=" in page and "<first>" not in page
+    assert lab("lesson", str(tmp_path / "script"), f"sum={image}").stdout == page
+    assert lab("tour", str(tmp_path / "new" / "tour")).returncode == 0
+    assert {path.stem for path in (tmp_path / "new" / "tour").iterdir()} == set(tours())
+
+
+def test_steps_that_end_otherwise_one_by_one_are_an_error(
+    program: pathlib.Path, monkeypatch: pytest.MonkeyPatch
+) -> None:
+    class Meddling(Session):
+        def do(self, line: str) -> list[str]:
+            answer = super().do(line)
+            if line == "1 step 1":
+                super().do("1 set x31 1")
+            return answer
+
+    monkeypatch.setattr(frames, "Session", Meddling)
+    script = "1 enter\n1 map 0 1 rwx\n1 asm 0 fence\n1 asm 4 fence\n1 step 2\n"
+    with pytest.raises(LabError, match="one by one"):
+        make_frames(read_script(script), program)

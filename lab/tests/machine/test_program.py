@@ -1,0 +1,110 @@
+"""Where the program is looked for, and what the program `vecmon-lab` does with its words."""
+
+import argparse
+import pathlib
+import re
+import subprocess
+import sys
+import types
+
+import pytest
+
+from support.places import TOP
+from vecmon_lab import __main__ as start
+from vecmon_lab.machine import program as places
+from vecmon_lab.machine.program import NoProgram, find_program
+
+
+def executable(file: pathlib.Path) -> pathlib.Path:
+    """An executable file in a folder of its own."""
+    file.parent.mkdir()
+    file.touch(0o755)
+    return file
+
+
+def test_the_order_of_places(monkeypatch: pytest.MonkeyPatch, tmp_path: pathlib.Path) -> None:
+    named, built, found = (executable(tmp_path / folder / "vecmon") for folder in ("named", "built", "found"))
+    monkeypatch.setattr(places, "BUILT", built)
+    monkeypatch.setenv("PATH", str(found.parent))
+    monkeypatch.setenv("VECMON", str(named))
+    assert find_program() == named
+    monkeypatch.chdir(tmp_path)
+    monkeypatch.setenv("VECMON", "named/vecmon")
+    assert find_program() == named
+    monkeypatch.setenv("VECMON", "")
+    assert find_program() == built
+    monkeypatch.delenv("VECMON")
+    assert find_program() == built
+    built.unlink()
+    assert find_program() == found
+    found.chmod(0o644)
+    with pytest.raises(NoProgram, match="^there is no program vecmon; .*rt run < stdin.*tools/unproved_build.py"):
+        find_program()
+    monkeypatch.setenv("VECMON", str(built))
+    with pytest.raises(NoProgram, match=f"^VECMON={built} is no program; .*tools/unproved_build.py"):
+        find_program()
+
+
+def test_what_is_built_here_is_looked_for() -> None:
+    assert places.BUILT == TOP / "crates" / "vecmon" / "out" / "vecmon"
+    assert (TOP / "crates" / "vecmon" / "stdin").is_file() and (TOP / "tools" / "unproved_build.py").is_file()
+
+
+def test_each_command_is_tried_with_the_proved_program() -> None:
+    files = (TOP / "lab" / "tests").rglob("test_*.py")
+    marked = [
+        name for file in files for name in re.findall(r'^@pytest.mark.by_command\("(\w+)"\)', file.read_text(), re.M)
+    ]
+    assert sorted(marked) == sorted(start.COMMANDS)
+
+
+@pytest.mark.parametrize("words", [[], ["dance"], ["--dance"]])
+def test_wrong_words(words: list[str]) -> None:
+    run = subprocess.run([sys.executable, "-m", "vecmon_lab", *words], cwd=TOP, capture_output=True, text=True)
+    assert (run.returncode, run.stdout, run.stderr.count("\n")) == (2, "", 1)
+    assert run.stderr.startswith("vecmon-lab: ")
+
+
+def test_a_library_that_is_missing() -> None:
+    code = "import sys; sys.modules['aiohttp'] = None; sys.argv[1:] = 'class', 'x'; from vecmon_lab.__main__ import main; sys.exit(main())"
+    run = subprocess.run([sys.executable, "-c", code], cwd=TOP, capture_output=True, text=True)
+    assert (run.returncode, run.stdout) == (2, "")
+    assert run.stderr == "vecmon-lab: this needs the Python library aiohttp, which isn't installed\n"
+
+
+def test_what_is_imported_before_a_command_is_named() -> None:
+    names = {"aiohttp", "prompt_toolkit", "elftools", "vecmon_lab.machine"}
+    code = f"import sys, vecmon_lab.__main__; sys.exit(bool({names} & set(sys.modules)))"
+    subprocess.run([sys.executable, "-c", code], cwd=TOP, check=True)
+
+
+@pytest.mark.parametrize(
+    "mistake, status, told",
+    [
+        (NoProgram("there is none"), 2, "vecmon-lab: there is none\n"),
+        (
+            FileNotFoundError(2, "No such file or directory", "loop.s"),
+            2,
+            "vecmon-lab: loop.s: No such file or directory\n",
+        ),
+        (OSError("odd"), 2, "vecmon-lab: odd\n"),
+        (
+            ModuleNotFoundError(name="elftools"),
+            2,
+            "vecmon-lab: this needs the Python library elftools, which isn't installed\n",
+        ),
+        (KeyboardInterrupt(), 130, ""),
+    ],
+)
+def test_how_a_command_ends(
+    monkeypatch: pytest.MonkeyPatch, capsys: pytest.CaptureFixture[str], mistake: BaseException, status: int, told: str
+) -> None:
+    def run(arguments: argparse.Namespace) -> int:
+        raise mistake
+
+    command = types.ModuleType("vecmon_lab.command")
+    vars(command).update(add_arguments=lambda parser: parser.add_argument("word"), run=run)
+    monkeypatch.setitem(sys.modules, "vecmon_lab.command", command)
+    monkeypatch.setattr(start, "COMMANDS", {"command": ("command", "ends")})
+    monkeypatch.setattr(sys, "argv", ["vecmon-lab", "command", "word"])
+    assert (start.main(), *capsys.readouterr()) == (status, "", told)

@@ -1,0 +1,363 @@
+"""The pages of a class in Chromium: eight tabs at seats, and the teacher's."""
+
+import os
+import pathlib
+import signal
+import time
+from collections.abc import Callable, Iterator
+from typing import TYPE_CHECKING
+
+import pytest
+
+from support.browser import CONTRAST, media, press
+from support.class_pages import Served, Tab, close_all, digest_of
+from support.places import EXAMPLES
+from vecmon_lab.assembler.commands import MEANINGS
+
+if TYPE_CHECKING:
+    from selenium.webdriver import Chrome
+
+COUNT_UP = ["addi x5, x5, 1", "jal x0, -4"]
+Sit = Callable[[str], Tab]
+
+
+@pytest.fixture(scope="module")
+def served(program: pathlib.Path, tmp_path_factory: pytest.TempPathFactory) -> Iterator[Served]:
+    """A class for all tests that leave its server alone."""
+    served = Served(tmp_path_factory.mktemp("class") / "class", program)
+    yield served
+    served.end()
+
+
+@pytest.fixture
+def own_class(program: pathlib.Path, tmp_path: pathlib.Path) -> Iterator[Served]:
+    """A class for a test that ends its server."""
+    served = Served(tmp_path / "class", program)
+    yield served
+    served.end()
+
+
+@pytest.fixture
+def tabs(browser: "Chrome") -> Iterator["Chrome"]:
+    """The browser, for tabs, closed behind the test. Its console has said nothing then but of refused reconnections."""
+    first = browser.current_window_handle
+    browser.get_log("browser")
+    yield browser
+    said = browser.get_log("browser")
+    close_all(browser, [first])
+    assert [entry for entry in said if "/socket' failed: " not in entry["message"]] == []
+
+
+@pytest.fixture
+def sit(tabs: "Chrome", served: Served) -> Sit:
+    """Opens a tab for somebody of the class."""
+    return lambda who: Tab(tabs, served, who)
+
+
+def test_eight_tabs_alone(tabs: "Chrome", own_class: Served) -> None:
+    """Eight students step at once; each sees an own machine; a reload keeps seat, machine and log."""
+    students = [Tab(tabs, own_class, f"A{number}") for number in range(1, 9)]
+    for number, tab in enumerate(students, 1):
+        tab.begin("vsetivli x0, 8, e32, m1, ta, ma", "vid.v v1", "vadd.vx v2, v1, x10")
+        tab.command(f"set x10 {number}0")
+    for tab in students:
+        tab.run("id('number').value = 3")
+        tab.click("#many")
+    for tab in students * 2:
+        own = [f"000000{tab.who[1]}{element}" for element in range(8)]
+        tab.wait("id('step').textContent.includes('vadd.vx v2, v1, x10')")
+        cells = "all(\"#elements [data-register='2'] td\").map((cell) => cell.firstChild.data)"
+        assert tab.run(cells) == own
+        assert "stepped 3 pc=000000000001000c" in tab.text("#log")
+        tab.front().refresh()
+        tab.wait("id('elements').textContent.includes(arguments[0])", own[7])
+        assert tab.text("#who") == f"Seat {tab.who}" and "> set x10" in tab.text("#log")
+        assert tab.run("location.href") == f"http://127.0.0.1:{own_class.port}/"
+    students[2].command("2 leave", "* list")
+    assert students[2].run("all('#log li').slice(-4).map((item) => item.firstChild.data)") == [
+        "> 2 leave", "E03", "> * list", "E03"
+    ]  # fmt: skip
+    teacher = Tab(tabs, own_class, "teacher")
+    assert teacher.run("all('.seats .pill').map((pill) => pill.textContent)") == ["stopped"] * 8
+    script = own_class.check_replay(digest_of(teacher)).decode().splitlines()
+    assert [line for line in script if "step" in line] == [f"{number} step 3" for number in range(1, 9)]
+
+
+def test_a_source_is_stepped(sit: Sit) -> None:
+    """A source becomes a listing; a click sets a breakpoint, and elements are masked off and tail as vl and v0 say."""
+    tab, teacher = sit("A1"), sit("teacher")
+    source = (EXAMPLES / "strip_mined.s").read_text("utf-8")
+    tab.click("#show-source")
+    tab.run("id('source').value = arguments[0]", source)
+    tab.click("#assemble")
+    tab.wait("id('listing').textContent.includes('next:') && !id('listing').hidden")
+    tab.run("all('#listing tr[data-edit]').find((row) => row.textContent.includes('vse32.v')).scrollIntoView()")
+    place = tab.run("all('#listing tr[data-edit]').find((row) => row.textContent.includes('vse32.v')).dataset.address")
+    tab.click(f"#listing tr[data-address='{place}'] .text")
+    tab.wait("one('#listing .breakpoint')?.closest('tr').dataset.address === arguments[0]", place)
+    teacher.run("one('[name=ms]').value = 20")
+    teacher.click("[name=on]")
+    tab.wait("id('clock').textContent === 'the clock is on'")
+    tab.click("#go")
+    tab.wait("id('run').textContent === 'break'")
+    count = "all(`#elements tr[data-register='9'] ${arguments[0]}`).length"
+    x = [9, 2, 7, 1, 8, 3, 6, 4, 5, 1, 12, 3, 20]  # the example's numbers: those up to 4 are masked off, 8 go at a time
+    assert "vl8 of 8" in tab.text("#facts") and "vmacc.vx v9, x6, v8, v0.t" in tab.text("#step")
+    assert [tab.run(count, kind) for kind in (".masked", ".tail")] == [sum(each <= 4 for each in x[:8]), 0]
+    tab.click("#one")
+    tab.wait("all('#bytes .changed').length > 0")
+    tab.click("#go")
+    tab.wait("id('facts').textContent.includes('vl5 of 8')")
+    assert [tab.run(count, kind) for kind in (".masked", ".tail")] == [sum(each <= 4 for each in x[8:]), 3]
+    teacher.click("[name=on]")
+    tab.wait("id('clock').textContent === 'the clock is off'")
+
+
+def test_a_mistake_leads_to_its_place(sit: Sit) -> None:
+    tab = sit("A2")
+    tab.click("#show-source")
+    tab.run("id('source').value = 'here: nop\\n  vadd.vv v1, v2\\n  j nowhere\\n'")
+    tab.click("#assemble")
+    tab.wait("all('#mistakes button').length")
+    assert tab.text("#mistakes").startswith("2:") or tab.text("#mistakes").startswith("3:")
+    line = int(tab.text("#mistakes").split(":")[0])
+    tab.click("#mistakes button")
+    start = tab.run("id('source').selectionStart")
+    assert tab.run("id('source').value.slice(0, arguments[0]).split('\\n').length", start) == line
+    assert tab.run("document.activeElement.id") == "source"
+
+
+def test_values_are_changed_by_clicks_and_keys(sit: Sit) -> None:
+    from selenium.webdriver.common.keys import Keys
+
+    tab = sit("A3")
+    tab.begin("vsetivli x0, 8, e32, m1, ta, ma", "vadd.vv v2, v1, v1")
+    tab.click("#one")
+    tab.wait("id('facts').textContent.includes('vl8 of 8')")
+
+    def change(selector: str, text: str) -> None:
+        before = tab.run("all('#log .asked').length")
+        tab.click(selector)
+        tab.wait("id('edit').open")
+        tab.keys("#value", Keys.CONTROL, "a", Keys.NULL, text, Keys.ENTER)
+        tab.wait("all('#log .asked').length > arguments[0] && !one('#log li:last-child').matches('.asked')", before)
+
+    change("[data-edit='set x10']", "1f")
+    assert tab.text("[data-edit='set x10']") == "1f"
+    change("[data-edit='setpc']", "10004")
+    assert tab.text("[data-edit='setpc']") == "10004"
+    tab.command("peek 20000 16", "vset v1 " + "00" * 32)
+    change("[data-edit='poke 20002']", "0aff")
+    assert tab.text("tr[data-address='20000']").startswith("2000000 00 0a ff00")
+    tab.run("id('rows').value = 'all', id('rows').dispatchEvent(new Event('change'))")
+    change("[data-edit='vset v1 32 3 hexadecimal']", "89abcdef")
+    assert tab.text("[data-edit='vset v1 32 3 hexadecimal']").startswith("89abcdef")
+    tab.run("id('form').value = 'signed', id('form').dispatchEvent(new Event('change'))")
+    change("[data-edit='vset v1 32 0 signed']", "-2")
+    tab.run("id('form').value = '', id('form').dispatchEvent(new Event('change'))")
+    assert tab.text("[data-edit='vset v1 32 0 hexadecimal']").startswith("fffffffe")
+    assert tab.text("[data-edit='vset v1 32 3 hexadecimal']").startswith("89abcdef")
+    tab.click("[data-edit='set x10']")
+    tab.keys("#value", Keys.CONTROL, "a", Keys.NULL, "-g", Keys.ENTER)
+    assert "no hexadecimal number of 64 bits" in tab.text("#stop") and not tab.run("id('edit').open")
+    tab.click("[data-edit='vset v1 32 3 hexadecimal']")
+    tab.keys("#value", Keys.CONTROL, "a", Keys.NULL, "1ffffffff", Keys.ENTER)
+    assert "1ffffffff is no hexadecimal number of 32 bits" in tab.text("#stop")
+    assert "1ffffffff" not in tab.text("#log")
+
+
+def test_lines_of_before_and_refusals(sit: Sit) -> None:
+    from selenium.webdriver.common.keys import Keys
+
+    tab = sit("A4")
+    tag = "<img src=x onerror=document.title=1>"
+    tab.command("enter", "map 10000 1 rwx", "map 10000 1 rwx", tag)
+    assert "E03: there is no such command" in tab.text("#stop") and tag in tab.text("#stop")
+    assert "a page is mapped already" in tab.text("#log") and f"> {tag}" in tab.text("#log")
+    told = {code: tab.run("refusalWords(`1 ${arguments[0]} 14`)", code) for code in MEANINGS}
+    assert told == {code: f"{code} 14: {meaning}" for code, meaning in MEANINGS.items()}
+    tab.keys("#line", Keys.ARROW_UP)
+    assert tab.run("id('line').value") == tag
+    tab.keys("#line", Keys.ARROW_UP)
+    assert tab.run("id('line').value") == "map 10000 1 rwx"
+    tab.keys("#line", Keys.ARROW_DOWN, Keys.ARROW_DOWN)
+    assert tab.run("id('line').value") == ""
+    tab.command("asm 10000 vle32.v v1, (x1)", "setpc 10000", "step 1")
+    assert "vill" in tab.text("#stop") and tab.text("#run") == "fault"
+    tab.keys("#line", "é\n")
+    tab.wait("id('stop').textContent.includes('printable ASCII')")
+    teacher = sit("teacher")
+    teacher.click("tr[data-seat='A4'] td:nth-child(2) button")
+    teacher.wait("id('log').textContent.includes(arguments[0])", tag)
+    assert "vill" in teacher.text("#stop") and "vle32.v" in teacher.text("#listing")
+    teacher.keys("#operator-line", f"{tag}\n")
+    teacher.wait("id('operator-log').textContent.includes('E03') && !one('img')")
+    assert teacher.run("document.title") == "Teacher – vecmon" and tab.run("!one('img') && document.title").startswith(
+        "Seat"
+    )
+
+
+def test_the_teacher_sees_and_settles(sit: Sit, tmp_path: pathlib.Path, served: Served) -> None:
+    """A student's stop stands on the teacher's page; rights, operator's lines, a new code, downloads."""
+    tab, teacher = sit("A5"), sit("teacher")
+    row = "tr[data-seat='A5']"
+    tab.begin(*COUNT_UP)
+    tab.command("break 10004")
+    tab.click("#go")
+    teacher.wait(f"one(\"{row} .pill\").textContent === 'running'")
+    teacher.click(f"{row} td:nth-child(2) button")
+    teacher.keys("#operator-line", "run 5\n")
+    teacher.wait(f"one(\"{row}\").textContent.includes('break')")
+    teacher.wait("id('operator-log').textContent.includes('granted 1') && id('listing').querySelector('.breakpoint')")
+    assert teacher.text(f"{row} .pill") == "stopped" and teacher.text(f"{row} td:nth-child(6)") == "10004"
+    tab.wait("id('run').textContent === 'break'")
+    teacher.click("[name=own]")
+    tab.wait("id('slice').hidden")
+    teacher.click("[name=own]")
+    tab.wait("!id('slice').hidden")
+    tab.click("#go")
+    tab.wait("!id('slice').disabled")
+    tab.click("#slice")
+    tab.wait("all('#log li').at(-1).textContent.startsWith('break')")
+    teacher.browser.execute_cdp_cmd("Browser.setDownloadBehavior", {"behavior": "allow", "downloadPath": str(tmp_path)})
+    for name in ("script", "transcript"):
+        teacher.click(f"[name={name}]")
+        path, expected = tmp_path / f"A.{name}.txt", served.fetch(f"A/{name}")
+        while not path.exists() or path.stat().st_size < len(expected):  # it is there, and empty, before it is written
+            time.sleep(0.02)
+        assert path.read_bytes() == expected
+    old = served.codes["A5"]
+    teacher.click(f"{row} td:nth-child(3) button")
+    tab.wait("!id('join').hidden && id('head').hidden")
+    assert "isn't valid" in tab.text("#join-says") and tab.run("sessionStorage.getItem('code')") is None
+    assert served.codes["A5"] != old
+    teacher.wait(f"one(\"{row} a\").hash === '#' + arguments[0]", served.codes["A5"])
+    tab.keys("#code", served.codes["A5"] + "\n")
+    tab.wait("id('who').textContent === 'Seat A5'")
+    served.check_replay(digest_of(teacher))
+
+
+def test_a_code_is_kept_for_the_tab_alone(sit: Sit, served: Served) -> None:
+    tab = sit("A6")
+    code = served.codes["A6"]
+    assert tab.run("sessionStorage.getItem('code')") == code
+    assert tab.run("location.hash + document.cookie + localStorage.length + history.length")[:-1] == "0"
+    assert code not in tab.run("document.documentElement.outerHTML")
+    tab.click("#forget")
+    tab.wait("!id('join').hidden")
+    assert tab.run("sessionStorage.length") == 0
+    tab.keys("#code", "wrong\n")
+    tab.wait("id('join-says').textContent.includes(\"isn't valid\")")
+    tab.front().get(served.address("A7"))
+    tab.wait("id('who').textContent === 'Seat A7'")
+    tab.front().get(served.address("A6"))  # another code in the same tab
+    tab.wait("id('who').textContent === 'Seat A6' && location.hash === ''")
+
+
+def test_a_server_is_killed_and_begun_again(tabs: "Chrome", own_class: Served) -> None:
+    """Tabs go on without a reload; what was under way, and what wasn't sent, is said and not sent again."""
+    tab, teacher = Tab(tabs, own_class, "A1"), Tab(tabs, own_class, "teacher")
+    tab.begin(*COUNT_UP)
+    tab.click("#one")
+    tab.wait("id('step').textContent.includes('addi x5')")
+    tab.run("window.marked = 1")
+    teacher.click("tr[data-seat='A1'] td:nth-child(2) button")
+    (machine,) = own_class.programs()
+    os.kill(machine, signal.SIGSTOP)
+    tab.click("#one")
+    tab.keys("#line", "set x7 1\nset x8 2\n")
+    own_class.kill()
+    os.kill(machine, signal.SIGKILL)
+    tab.wait("id('gone').textContent.includes('is gone')")
+    said = tab.text("#gone")
+    assert "step 1 was under way" in said and "set x7 1, set x8 2 weren't sent." in said
+    tab.click("#one")
+    tab.wait("id('gone').textContent.includes(\"step 1 wasn't sent\")")
+    own_class.begin()
+    tab.wait("id('gone').textContent.startsWith('The class is there again.')")
+    steps = tab.run("all('#log .asked').filter((item) => item.textContent === '> step 1').length")
+    assert steps in (1, 2) and "was under way" in tab.text("#gone")
+    tab.command("set x9 9")
+    assert tab.text("[data-edit='set x9']") == "9" and tab.text("[data-edit='set x7']") == "0"
+    assert tab.run("window.marked === 1 && id('gone').hidden")
+    teacher.wait("id('gone').hidden && !id('desk').hidden && id('log').textContent.includes('set x9 9')")
+    script = own_class.check_replay(digest_of(teacher)).decode().splitlines()
+    assert script.count("1 step 1") == steps and not any(line.startswith("1 set x7") for line in script)
+
+
+def test_two_machines(program: pathlib.Path, tmp_path: pathlib.Path, tabs: "Chrome") -> None:
+    """The teacher sees both, and says which one an operator's line is for."""
+    served = Served(tmp_path / "class", program, "--machines", "2")
+    tab, teacher = Tab(tabs, served, "B8"), Tab(tabs, served, "teacher")
+    tab.begin(*COUNT_UP)
+    assert teacher.run("all('.seats h2').map((head) => head.textContent).join()") == "Machine A,Machine B"
+    teacher.wait("one(\"[data-seat='B8'] .pill\").textContent === 'stopped'")
+    assert teacher.run("all('.seats .pill').filter((pill) => pill.textContent === 'stopped').length") == 1
+    teacher.run("id('operated').value = 'B'")
+    teacher.keys("#operator-line", "list\n")
+    teacher.wait("id('operator-log').textContent.includes('B * list 1:- 2:- 3:- 4:- 5:- 6:- 7:- 8:stopped')")
+    served.end()
+
+
+def test_a_program_is_killed_and_hangs(program: pathlib.Path, tmp_path: pathlib.Path, tabs: "Chrome") -> None:
+    """Students see a delay alone, and the replay is the same."""
+    served = Served(tmp_path / "class", program, "--patience", "3")
+    tab, teacher = Tab(tabs, served, "A1"), Tab(tabs, served, "teacher")
+    tab.begin(*COUNT_UP)
+    for sign, place, count in ((signal.SIGKILL, "10004", "4"), (signal.SIGSTOP, "10000", "7")):
+        (machine,) = served.programs()
+        os.kill(machine, sign)
+        tab.command("step 7")
+        assert tab.text("#log li:last-child") == f"stepped 7 pc=00000000000{place}"
+        assert tab.text("[data-edit='set x5']") == count
+        teacher.wait("one('.figures').textContent.includes('processes replaced')")
+        served.check_replay(digest_of(teacher))
+    served.end()
+
+
+def test_pages_are_legible_and_narrow(sit: Sit) -> None:
+    tab, teacher = sit("A8"), sit("teacher")
+    tab.begin("vsetivli x0, 5, e16, mf2, tu, mu", "vadd.vi v2, v1, 1, v0.t", *COUNT_UP)
+    tab.run("id('number').value = 2")
+    tab.click("#many")
+    tab.command("dance")
+    teacher.click("tr[data-seat='A8'] td:nth-child(2) button")
+    teacher.wait("id('listing').textContent.includes('vadd.vi')")
+    for page in (tab, teacher):
+        page.front()
+        for scheme in ("light", "dark"):
+            media(page.browser, prefers_color_scheme=scheme, prefers_reduced_motion="reduce")
+            assert page.browser.execute_script(CONTRAST) == []
+        for width in (1280, 800):
+            size = {"width": width, "height": 800, "deviceScaleFactor": 1, "mobile": False}
+            page.browser.execute_cdp_cmd("Emulation.setDeviceMetricsOverride", size)
+            assert page.run("document.documentElement.scrollWidth") <= width
+        page.browser.execute_cdp_cmd("Emulation.clearDeviceMetricsOverride", {})
+        media(page.browser)
+    teacher.click("tr[data-seat='A8'] td:nth-child(2) button")
+    teacher.wait("id('desk').hidden")
+
+
+def test_focus_is_seen_and_controls_have_names(sit: Sit) -> None:
+    from selenium.webdriver.common.keys import Keys
+
+    tab, teacher = sit("A7"), sit("teacher")
+    tab.begin(*COUNT_UP)
+    look = """[document.activeElement, getComputedStyle(document.activeElement).outlineStyle].map((each) =>
+        typeof each === 'string' ? each : each === document.body ? '' : each.id || each.ariaLabel || each.textContent)"""
+    for page, expected in (
+        (tab, {"one", "number", "go", "new", "images", "forget", "line", "show-source", "listing", "elements", "log"}),
+        (teacher, {"Look at seat A1", "New code for seat A8", "Script", "operator-line", "operator-log"}),
+    ):
+        page.front()
+        seen = dict[str, str]()
+        for _ in range(60):
+            press(page.browser, Keys.TAB)
+            name, style = page.run(look)
+            if name:
+                seen[name] = style
+        assert set(seen.values()) == {"solid"} and expected <= seen.keys()
+        nameless = """all('button, input, select, textarea').filter((each) => each.checkVisibility()
+            && !each.ariaLabel && !each.labels?.length && !each.textContent.trim()).map((each) => each.id || each.name)"""
+        assert page.run(nameless) == []
+    assert tab.run("id('log').ariaLive + id('stop').ariaLive") == "politepolite"

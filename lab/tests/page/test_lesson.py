@@ -1,0 +1,306 @@
+"""Lessons in Chromium: forth and back, beside what the machine says of the same steps."""
+
+import json
+import pathlib
+import random
+from collections.abc import Callable, Iterator
+from fractions import Fraction
+from typing import TYPE_CHECKING
+
+import pytest
+
+from support.browser import CONTRAST, media, press
+from support.lesson_follower import PICTURE, Follower
+from support.machine_cases import SUPPORTED, encodings, with_operands
+from support.places import EXAMPLES
+from vecmon_lab.instructions.reasons import VectorView, illegal_reasons
+from vecmon_lab.instructions.words import decode
+from vecmon_lab.lessons.frames import Frame, make_frames
+from vecmon_lab.lessons.page import lesson_page
+from vecmon_lab.lessons.script import read_script, read_source
+from vecmon_lab.lessons.tour import tours
+from vecmon_lab.machine.session import Session
+
+if TYPE_CHECKING:
+    from selenium.webdriver import Chrome
+
+
+@pytest.fixture
+def opened(browser: "Chrome", tmp_path: pathlib.Path) -> Callable[[str], "Chrome"]:
+    """Opens a page; what the console says of it is gone then."""
+
+    def show(page: str) -> "Chrome":
+        (tmp_path / "page.html").write_text(page, "utf-8")
+        browser.get("about:blank")
+        browser.get_log("browser")
+        browser.get((tmp_path / "page.html").as_uri())
+        return browser
+
+    return show
+
+
+def text_of(browser: "Chrome", selector: str) -> str:
+    """The text of the first element that a selector names."""
+    text: str = browser.execute_script("return document.querySelector(arguments[0]).textContent", selector)
+    return text
+
+
+@pytest.mark.parametrize("name", [*tours(), "strip_mined"])
+def test_forth_and_back(
+    opened: Callable[[str], "Chrome"], session: Session, program: pathlib.Path, name: str, tmp_path: pathlib.Path
+) -> None:
+    from selenium.webdriver.common.keys import Keys
+
+    source = EXAMPLES / f"{name}.s"
+    script = read_source(source.read_text("utf-8"), "x") if name == "strip_mined" else tours()[name]
+    browser = opened(lesson_page(name, make_frames(script, program)))
+    frames = json.loads(text_of(browser, "#lesson"))["frames"]
+    follower, pictures, masked = Follower(session), [], 0
+    for number, frame in enumerate(frames, 1):
+        count, picture, groups, shown = browser.execute_script(PICTURE)
+        assert count == f"{number} of {len(frames)}"
+        pictures.append(picture)
+        told = follower.told(frame)
+        if told:
+            for register, group in groups.items():
+                assert group["cells"] >= told.most
+                assert group["tail"] == group["cells"] - told.vl
+                assert group["prestart"] == min(told.vstart, told.vl)
+                assert group["masked"] == told.masked.get(int(register), 0)
+                assert group["active"] == group["cells"] - group["tail"] - group["prestart"] - group["masked"]
+            assert told.masked.keys() <= {int(register) for register in groups}
+            assert {name for name, changed in shown.items() if changed} == told.changed & shown.keys()
+            assert {name for name in told.changed if name[0] == "x"} <= shown.keys()
+            masked += sum(told.masked.values())
+        press(browser, Keys.ARROW_RIGHT)
+    assert text_of(browser, "#count") == f"{len(frames)} of {len(frames)}"
+    assert (masked > 0) == (name in ("masks_and_tails", "strip_mined"))
+    assert browser.save_screenshot(str(tmp_path / f"{name}.png")) and (tmp_path / f"{name}.png").stat().st_size > 10_000
+    for picture in reversed(pictures):
+        assert text_of(browser, "main") == picture
+        press(browser, Keys.ARROW_LEFT)
+    assert text_of(browser, "#count").startswith("1 of ")
+    assert browser.get_log("browser") == []
+
+
+def test_ways_through_a_lesson(opened: Callable[[str], "Chrome"], program: pathlib.Path) -> None:
+    from selenium.webdriver.common.by import By
+    from selenium.webdriver.common.keys import Keys
+    from selenium.webdriver.support.select import Select
+    from selenium.webdriver.support.wait import WebDriverWait
+
+    browser = opened(lesson_page("x", make_frames(tours()["masks_and_tails"], program)))
+    press(browser, Keys.SHIFT, Keys.ARROW_RIGHT)
+    assert text_of(browser, "#sentence").startswith("The numbers 0 to 5")
+    press(browser, Keys.ARROW_RIGHT)
+    assert text_of(browser, "#sentence").startswith("The numbers 0 to 5")
+    place = text_of(browser, "#count")
+    press(browser, Keys.END)
+    assert text_of(browser, "#count") == "19 of 19"
+    assert not browser.find_element(By.ID, "next").is_enabled()
+    press(browser, Keys.SHIFT, Keys.ARROW_LEFT)
+    assert text_of(browser, "#sentence").startswith("With tu, mu")
+    press(browser, Keys.HOME)
+    assert text_of(browser, "#count") == "1 of 19"
+    for button in ("next", "next", "back", "last", "first"):
+        browser.find_element(By.ID, button).click()
+    browser.find_element(By.ID, "place").send_keys(Keys.ARROW_RIGHT)
+    assert text_of(browser, "#count") == "2 of 19"
+    WebDriverWait(browser, 60).until(lambda browser: browser.current_url.endswith("#2"))
+    browser.get(browser.current_url.partition("#")[0] + f"#{place.split()[0]}")
+    browser.refresh()
+    assert text_of(browser, "#count") == place
+    Select(browser.find_element(By.ID, "names")).select_by_visible_text("a0")
+    assert "vsetivli zero, 6" in text_of(browser, "#listing") and "s11" in text_of(browser, "#registers")
+    browser.find_element(By.ID, "names").send_keys(Keys.ARROW_UP)
+    assert text_of(browser, "#count") == place and "vsetivli x0, 6" in text_of(browser, "#listing")
+
+
+def test_forms_of_elements(opened: Callable[[str], "Chrome"], program: pathlib.Path) -> None:
+    from selenium.webdriver.common.by import By
+    from selenium.webdriver.common.keys import Keys
+    from selenium.webdriver.support.select import Select
+
+    lines = [
+        "1 enter",
+        "1 map 0 1 rwx",
+        "1 asm 0 vsetivli x0, 9, e16, m2, ta, ma",
+        "1 asm 4 vadd.vv v2, v4, v4",
+        "1 step 1",
+    ]
+    lines += ["1 vset v2 " + "0180ff7f".ljust(64, "0"), "1 vset v3 " + "feff".ljust(64, "0")]
+    browser = opened(lesson_page("x", make_frames(read_script("\n".join(lines)), program)))
+    press(browser, Keys.END)
+
+    def row(register: int, place: int) -> list[str]:
+        script = """return [...document.querySelectorAll(`#elements tr[data-register='${arguments[0]}']`)][arguments[1]]
+            .innerText.split("\\t").map((text) => text.replace("changed", "").replace("tail", "").trim())"""
+        texts: list[str] = browser.execute_script(script, register, place)
+        return texts
+
+    def choose(name: str, text: str) -> None:
+        Select(browser.find_element(By.ID, name)).select_by_visible_text(text)
+
+    assert row(2, 0)[:3] == ["v2 0–15", "8001", "7fff"] and row(2, 1)[:2] == ["v3 16–31", "fffe"]
+    choose("form", "decimal")
+    assert row(2, 0)[1:3] == ["32769", "32767"]
+    choose("form", "signed")
+    assert row(2, 0)[1:3] == ["-32767", "32767"] and row(2, 1)[1] == "-2"
+    choose("width", "32 bits")
+    assert row(2, 0)[1] == str(0x7FFF8001)
+    choose("form", "mask bits")
+    assert row(2, 0)[1:] == [*"1000000000000001"] and row(2, 1)[1:] == [*"1111111111111110"]
+    choose("form", "hexadecimal")
+    choose("group", "1")
+    assert row(3, 0)[:2] == ["v3", "0000fffe"]
+    choose("rows", "all 32")
+    assert row(31, 0)[1:] == ["00000000"] * 8
+
+
+def test_users_have_tabs(opened: Callable[[str], "Chrome"], program: pathlib.Path) -> None:
+    from selenium.webdriver.common.by import By
+    from selenium.webdriver.common.keys import Keys
+
+    browser = opened(lesson_page("x", make_frames(tours()["class_of_three"], program)))
+    press(browser, Keys.END)
+    assert "user 2: stopped" in text_of(browser, "#users")
+    assert "3 step 1" in text_of(browser, "#step") and "x5" in text_of(browser, "#registers")
+    browser.find_element(By.CSS_SELECTOR, "#users [data-user='2']").click()
+    assert "addi x5, x5, 1" in text_of(browser, "#listing") and "c8" in text_of(browser, "#registers")
+    press(browser, Keys.ARROW_LEFT)
+    assert "addi x5, x5, 1" in text_of(browser, "#listing")
+
+
+def test_texts_stay_texts(opened: Callable[[str], "Chrome"], program: pathlib.Path) -> None:
+    from selenium.webdriver.common.by import By
+    from selenium.webdriver.common.keys import Keys
+
+    tag = "<img src=x onerror='document.title=1'>"
+    output = f"{tag}</script><!--\n\x01é".encode("utf-8")
+    lines = [f"## {tag}", f"# {tag} `{tag}` </script><script>document.title=2</script>", "1 enter", f"1 {tag}"]
+    lines += ["1 map 10000 2 rwx", f"1 poke 11000 {output.hex()}", f"1 set x12 {len(output):x}", "1 set x10 1"]
+    lines += ["1 set x11 11000", "1 set x17 40", "1 asm 10000 ecall", "1 setpc 10000", "1 step 1", "1 out", "# The end"]
+    script = read_script("\n".join(lines))
+    browser = opened(lesson_page(script.title, make_frames(script, program)))
+    assert text_of(browser, "#sentence") == f"{tag} {tag} </script><script>document.title=2</script>"
+    press(browser, Keys.END)
+    assert text_of(browser, "#output") == f"{tag}</script><!--\n␁é"
+    assert f"> 1 {tag}" in text_of(browser, "#log")
+    assert "> 1 setpc 10000" in text_of(browser, "#log") and "1 out " in text_of(browser, "#log")
+    assert browser.find_elements(By.TAG_NAME, "img") == [] and browser.title == tag
+    assert browser.get_log("browser") == []
+
+
+def test_operands_are_those_of_the_words(opened: Callable[[str], "Chrome"], session: Session) -> None:
+    """What the page reads out of instructions' texts, beside the fields of their words, on legal ones."""
+    draws = random.Random(1)
+    names = [name for name, bits in encodings() if name.startswith("v") and not name.startswith("vset")]
+    words = [with_operands(dict(encodings())[name], draws.getrandbits(32)) for name in names for _ in range(12)]
+    texts = list(texts_of(session, words))
+    cases = []
+    for word, text in zip(words, texts, strict=True):
+        view = VectorView(draws.choice(SUPPORTED), 0)
+        if not illegal_reasons(word, view):
+            cases.append((text, view, covered(word, view)))
+    assert len({text.split()[0] for text, _, _ in cases}) > 0.9 * len(names)
+    script = "return arguments[0].map(([text, vtype]) => vectorOperands(text, vectorType(vtype)))"
+    browser = opened(lesson_page("x", [Frame("1", "", 0, "", [], {})]))
+    told = browser.execute_script(script, [(text, f"{view.vtype:x}") for text, view, _ in cases])
+    for (text, view, expected), operands in zip(cases, told, strict=True):
+        registers = dict[int, set[tuple[bool, int]]]()
+        for operand in operands:
+            for register in range(operand["register"], operand["register"] + operand["group"]):
+                width = 1 if operand["mask"] else operand["width"]
+                registers.setdefault(register, set()).add((operand["writes"], width))
+        assert (text, view, registers) == (text, view, expected)
+
+
+def texts_of(session: Session, words: list[int]) -> Iterator[str]:
+    """The canonical texts of words."""
+    session.do("1 enter")
+    session.do("1 map 0 1 r")
+    for place in range(0, len(words), 16):
+        some = words[place : place + 16]
+        session.do("1 poke 0 " + b"".join(word.to_bytes(4, "little") for word in some).hex())
+        yield from (line[28:] for line in session.look(f"1 dis 0 {len(some)}"))
+
+
+def covered(word: int, view: VectorView) -> dict[int, set[tuple[bool, int]]]:
+    """The registers of a word's operands: whether they are written, and the width of their elements, 1 for a mask."""
+    instruction = decode(word, view.sew, view.lmul)
+    assert instruction
+    registers = dict[int, set[tuple[bool, int]]]()
+    for operand in instruction.operands:
+        for register in operand.registers:
+            registers.setdefault(register, set()).add((operand.noun == "destination", operand.eew))
+    if instruction.is_masked:
+        registers.setdefault(0, set()).add((False, 1))
+    return registers
+
+
+def test_stops_and_refusals_are_told(opened: Callable[[str], "Chrome"], program: pathlib.Path) -> None:
+    from selenium.webdriver.common.keys import Keys
+
+    browser = opened(
+        lesson_page("x", make_frames(read_script("1 enter\n1 peek 0 1\n1 enter\n1 step 1\n9 x\n"), program))
+    )
+    assert browser.execute_script("return document.querySelector('#stop').ariaLive") == "polite"
+    told = []
+    for _ in range(4):
+        told.append(text_of(browser, "#stop"))
+        press(browser, Keys.ARROW_RIGHT)
+    assert told[0].startswith("1 peek 0 1: E11: ") and told[1].startswith("E06: ")
+    assert "0x0" in told[2] and told[3].startswith("Not sent: ")
+
+
+@pytest.mark.parametrize("scheme", ["light", "dark"])
+def test_contrast_and_width(opened: Callable[[str], "Chrome"], program: pathlib.Path, scheme: str) -> None:
+    from selenium.webdriver.common.keys import Keys
+
+    script = read_source((EXAMPLES / "strip_mined.s").read_text("utf-8"), "x")
+    pages = [
+        make_frames(script, program),
+        *(make_frames(tours()[n], program) for n in ("fault_and_resumption", "class_of_three")),
+    ]
+    for frames in pages:
+        browser = opened(lesson_page("x", frames))
+        media(browser, prefers_color_scheme=scheme, prefers_reduced_motion="reduce")
+        for _ in frames:
+            assert browser.execute_script(CONTRAST) == []
+            press(browser, Keys.ARROW_RIGHT)
+        assert browser.execute_script("return document.getAnimations().length") == 0
+        for width in (1280, 800, 640):
+            size = {"width": width, "height": 800, "deviceScaleFactor": 1, "mobile": False}
+            browser.execute_cdp_cmd("Emulation.setDeviceMetricsOverride", size)
+            assert browser.execute_script("return document.documentElement.scrollWidth") <= width
+        browser.execute_cdp_cmd("Emulation.clearDeviceMetricsOverride", {})
+    media(browser)
+
+
+def test_focus_is_seen_on_all_controls(opened: Callable[[str], "Chrome"], program: pathlib.Path) -> None:
+    from selenium.webdriver.common.keys import Keys
+
+    browser = opened(lesson_page("x", make_frames(tours()["class_of_three"], program)))
+    look = """const e = document.activeElement;
+        return [e === document.body ? "" : e.id || e.textContent, getComputedStyle(e).outlineStyle]"""
+    seen = dict[str, str]()
+    for _ in range(40):
+        press(browser, Keys.TAB)
+        name, style = browser.execute_script(look)
+        if name:
+            seen[name] = style
+    assert set(seen.values()) == {"solid"}
+    assert {
+        "next",
+        "place",
+        "names",
+        "width",
+        "group",
+        "form",
+        "rows",
+        "numbers",
+        "listing",
+        "elements",
+        "log",
+    } <= seen.keys()
+    assert any(name.startswith("user 2") for name in seen)

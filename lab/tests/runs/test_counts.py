@@ -1,0 +1,89 @@
+"""The elements and the ticks of instructions, by rows that were worked out by hand, and ticks as slices count them."""
+
+import pathlib
+import re
+
+import pytest
+
+from support.images import make_image
+from support.places import SUM
+from support.sources import CHANGES
+from vecmon_lab.guest.guest import started
+from vecmon_lab.machine.session import Session
+from vecmon_lab.runs.counts import Place, count, elements_of
+
+TYPES = {"e8 m1": 0, "e8 mf2": 7, "e16 m1": 8, "e32 m1": 16, "e32 m2": 17, "e64 m8": 27}
+
+
+@pytest.mark.parametrize(
+    "text, vtype, vl, vstart, active, masked, tail",
+    [
+        ("vadd.vv v2, v4, v6", "e32 m1", 5, 0, [0, 1, 2, 3, 4], 0, 3),
+        ("vadd.vv v2, v4, v6, v0.t", "e32 m1", 5, 0, [1, 2, 4], 2, 3),
+        ("vadd.vv v2, v4, v6, v0.t", "e32 m2", 16, 2, [2, 4, 15], 11, 0),
+        ("vmerge.vvm v2, v4, v6, v0", "e32 m1", 2, 0, [0, 1], 0, 6),
+        ("vmadc.vvm v2, v4, v6, v0", "e32 m1", 2, 0, [0, 1], 0, 6),
+        ("vadd.vv v2, v4, v6", "e32 m1", 0, 0, [], 0, 8),
+        ("vwadd.vv v2, v4, v6", "e8 mf2", 3, 0, [0, 1, 2], 0, 13),
+        ("vle8.v v2, (x10)", "e32 m2", 16, 0, list(range(16)), 0, 0),
+        ("vse32.v v2, (x10)", "e32 m1", 5, 2, [2, 3, 4], 0, 3),
+        ("vlseg3e16.v v2, (x10)", "e16 m1", 4, 0, [0, 1, 2, 3], 0, 12),
+        ("vluxei8.v v2, (x10), v4, v0.t", "e16 m1", 3, 0, [1, 2], 1, 13),
+        ("vlm.v v2, (x10)", "e8 m1", 13, 0, [0, 1], 0, 2),
+        ("vsm.v v2, (x10)", "e8 m1", 13, 1, [1], 0, 2),
+        ("vl4re32.v v4, (x10)", "e8 m1", 1, 0, list(range(32)), 0, 0),
+        ("vs2r.v v4, (x10)", "e32 m1", 1, 0, list(range(64)), 0, 0),
+        ("vmv4r.v v4, v8", "e16 m1", 1, 0, list(range(64)), 0, 0),
+        ("vmv.x.s x5, v8", "e16 m1", 7, 0, [0], 0, 0),
+        ("vmv.s.x v8, x5", "e16 m1", 7, 0, [0], 0, 0),
+        ("vredsum.vs v8, v16, v9", "e64 m8", 10, 0, list(range(10)), 0, 22),
+        ("vcpop.m x5, v8", "e8 m1", 10, 0, list(range(10)), 0, 22),
+    ],
+)
+def test_elements(
+    session: Session, text: str, vtype: str, vl: int, vstart: int, active: list[int], masked: int, tail: int
+) -> None:
+    """Bits 1, 2, 4 and 15 of v0 are set."""
+    word = _word(session, text)
+    control = {"vtype": TYPES[vtype], "vl": vl, "vstart": vstart}
+    elements = elements_of(word, control, bytes([0x16, 0x80]) + bytes(30))
+    assert elements is not None
+    assert (list(elements.active), elements.masked, elements.tail) == (active, masked, tail)
+
+
+@pytest.mark.parametrize("text", ["vsetvli x5, x10, e8, m1, ta, ma", "addi x5, x5, 1", "ecall"])
+def test_other_instructions_have_no_elements(session: Session, text: str) -> None:
+    assert elements_of(_word(session, text), {"vtype": 0, "vl": 3, "vstart": 0}, bytes(32)) is None
+    assert elements_of(0, {"vtype": 0, "vl": 3, "vstart": 0}, bytes(32)) is None
+
+
+def _word(session: Session, text: str) -> int:
+    session.do_all(["1 enter", "1 map 10000 1 rwx"])
+    return int(session.do(f"1 asm 10000 {text}")[0].split()[2], 16)
+
+
+def test_ticks_are_those_of_slices(program: pathlib.Path, tmp_path: pathlib.Path) -> None:
+    """A slice of one tick is granted as often as ticks are counted."""
+    source = re.sub(r"vse32.v v10.*", "li a7, 93\n        ecall", re.sub(r"\|.*", "", CHANGES))
+    make_image(program, tmp_path / "rows", source)
+    for image in (SUM, tmp_path / "rows"):
+        with started(image, quantum=1) as guest:
+            guest.go()
+        with started(image) as stepped:
+            counts, stop = count(stepped)
+            assert stop is not None and stop.kind == "exit"
+            assert counts.ticks == guest.ticks
+
+
+def test_counts_of_a_program() -> None:
+    """250 instructions are what QEMU 7.2 carries out, too. The loop at 1123c has 6 strips of 16 and one of 4."""
+    with started(SUM) as guest:
+        counts, _ = count(guest)
+    assert sum(place.times for place in counts.places.values()) == 250
+    assert counts.places[0x11240] == Place("vle32.v v10, (x11)", times=7, ticks=100, active=100, masked=0, tail=12)
+    assert counts.places[0x11248] == Place("vadd.vv v8, v8, v10", times=7, ticks=7, active=100, masked=0, tail=12)
+    assert counts.places[0x111E0] == Place("vs2r.v v16, (x11)", times=6, ticks=384, active=384, masked=0, tail=0)
+    assert counts.places[0x1124C] == Place("sub x10, x10, x12", times=7, ticks=7)
+    assert counts.ticks == 250 + 93 + 378
+    assert counts.lengths["e32,m2,ta,ma", 4] == counts.lengths["e32,m2,tu,ma", 4] == 1
+    assert counts.lengths["e64,m4,ta,ma", 16] == 13 and counts.lengths.total() == 43

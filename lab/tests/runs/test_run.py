@@ -1,0 +1,217 @@
+"""`vecmon-lab run`: output, statuses, arguments, bad input; a trace beside one of QEMU's; counts."""
+
+import pathlib
+import re
+import signal
+import subprocess
+import sys
+
+import pytest
+
+from support.commands import Lab
+from support.images import make_image
+from support.places import DATA, SORT, SQUARES, SQUARES_DWARF5, STOCK, SUM, TOP
+from support.sources import ARGUMENTS, FOREVER, WRITES
+from vecmon_lab.guest.changes import vtype_text
+
+QEMU = DATA / "qemu"  # what qemu-riscv64 7.2.22 of Debian 12 told
+CTRL_C = 130
+NOT_THERE = "its page isn't mapped, or has no permission"
+JUMP = "10004: jalr x0, 0(x5)"
+ZERO = "10000: .word 0x00000000: Illegal instruction at 0x10000: .word 0x00000000."
+VID = "10000: vid.v v8: Illegal instruction at 0x10000: vid.v v8."
+
+
+@pytest.mark.by_command("run")
+def test_stock_programs(lab: Lab) -> None:
+    """As QEMU has it, which also carries out 509,200 instructions of the second one."""
+    assert lab("run", SUM) == (0, b"328350\n", "")
+    assert lab("run", SORT) == (42, (QEMU / "sortgcc").read_bytes(), "")
+    assert lab("run", "--policy", "ones", "--quantum", "1", SUM, "one", "two") == (0, b"328350\n", "")
+
+
+def test_a_fault(lab: Lab) -> None:
+    why = (
+        "The store at 0x10198 may not write from 0x12000 on: a page isn't mapped, or has no permission w. "
+        "It stopped at element 14."
+    )
+    told = f"vecmon-lab: {SQUARES}: 10198: vse32.v v8, (x10): {why}\n"
+    assert lab("run", SQUARES) == (139, b"", told)
+    assert lab("run", SQUARES_DWARF5)[2].endswith(f": 10198 next+0x10: vse32.v v8, (x10): {why}\n")
+
+
+@pytest.mark.parametrize("status", [0, 2, 124, 133, 139, 255])
+def test_a_status_of_its_own(lab: Lab, program: pathlib.Path, tmp_path: pathlib.Path, status: int) -> None:
+    make_image(program, tmp_path / "exits", f"li a0, {status}\nli a7, 93\necall")
+    assert lab("run", tmp_path / "exits") == (status, b"", "")
+
+
+@pytest.mark.parametrize(
+    "source, status, told",
+    [
+        ("nop\nebreak", 133, "10004: ebreak: An ebreak stands at 0x10004."),
+        ("jr zero", 139, f"0: No instruction can be fetched at 0x0: {NOT_THERE} x."),
+        ("li t0, 2\njr t0", 139, f"{JUMP}: The jump or branch at 0x10004 goes to 0x2, which isn't divisible by 4."),
+        (".word 0", 139, f"{ZERO} The word is 0, as in memory where nothing was written."),
+        ("vid.v v8", 139, f"{VID} The vector type is vill: no vset instruction has set one that is supported."),
+    ],
+)
+def test_other_stops(
+    lab: Lab, program: pathlib.Path, tmp_path: pathlib.Path, source: str, status: int, told: str
+) -> None:
+    make_image(program, tmp_path / "stops", source)
+    assert lab("run", tmp_path / "stops") == (status, b"", f"vecmon-lab: {tmp_path / 'stops'}: {told}\n")
+
+
+def test_ticks_run_out(lab: Lab, program: pathlib.Path, tmp_path: pathlib.Path) -> None:
+    image = tmp_path / "forever"
+    make_image(program, image, FOREVER)
+    told = f"vecmon-lab: {image}: the ticks ran out at 10000\n"
+    assert lab("run", image, "--ticks", "5000000") == (124, b"", told)
+    assert lab("run", image, "--ticks", "1", "--quantum", "7", "--trace", tmp_path / "trace") == (124, b"", told)
+    assert (tmp_path / "trace").read_text() == "10000     -                   jal x0, 0\n" * 7
+    status, _, told = lab("run", image, "--ticks", "14", "--quantum", "7", "--stats")
+    assert (status, told.splitlines()[0]) == (124, "14 instructions in 14 ticks")
+
+
+def test_a_full_buffer(lab: Lab, program: pathlib.Path, tmp_path: pathlib.Path) -> None:
+    make_image(program, tmp_path / "writes", WRITES)
+    status, output, _ = lab("run", tmp_path / "writes", "--ticks", "100000")
+    assert (status, output) == (124, b"1234567\n" * 5000)
+    status, output, _ = lab("run", tmp_path / "writes", "--ticks", "1000", "--trace", tmp_path / "trace")
+    assert (status, output) == (124, b"1234567\n" * 125)
+
+
+def test_arguments(lab: Lab, program: pathlib.Path, tmp_path: pathlib.Path) -> None:
+    make_image(program, tmp_path / "arguments", ARGUMENTS)
+    assert lab("run", tmp_path / "arguments") == (1, b"arguments\n", "")
+    assert lab("run", tmp_path / "arguments", "one", "--", "-2", "--") == (4, b"arguments\none\n-2\n--\n", "")
+
+
+def test_output_comes_while_it_runs_and_ctrl_c_ends_it(program: pathlib.Path, tmp_path: pathlib.Path) -> None:
+    make_image(program, tmp_path / "writes", WRITES.replace("5000", "1"))
+    command = [sys.executable, "-m", "vecmon_lab", "run", str(tmp_path / "writes")]
+    with subprocess.Popen(command, cwd=TOP, stdout=subprocess.PIPE, stderr=subprocess.PIPE) as run:
+        assert run.stdout and run.stderr and run.stdout.read(8) == b"1234567\n"
+        run.send_signal(signal.SIGINT)
+        assert (run.wait(), run.stdout.read(), run.stderr.read()) == (CTRL_C, b"", b"")
+
+
+@pytest.mark.parametrize(
+    "words, told",
+    [
+        ([], "vecmon-lab run: the following arguments are required: IMAGE; --help says more"),
+        (["--ticks", "0", SUM], "vecmon-lab run: argument --ticks: 0 is no number from 1 to 9223372036854775808; "),
+        (["--quantum", "1001", SUM], "vecmon-lab run: argument --quantum: 1001 is no number from 1 to 1000; "),
+        (["--quantum", "-1", SUM], "vecmon-lab run: argument --quantum: "),
+        (["--policy", "none", SUM], "vecmon-lab run: argument --policy: invalid choice: 'none' "),
+        (["--dance", SUM], "vecmon-lab: unrecognized arguments: --dance"),
+        (["none"], "vecmon-lab: none: No such file or directory"),
+        ([STOCK], f"vecmon-lab: {STOCK}: Is a directory"),
+        (
+            [STOCK / "sum.c"],
+            f"vecmon-lab: {STOCK}/sum.c: the machine refuses image (E09 Magic): it doesn't begin with ",
+        ),
+        (
+            [STOCK / "short"],
+            f"vecmon-lab: {STOCK}/short: the machine refuses image (E09 Short): the file has less than",
+        ),
+        ([SUM, "--trace", STOCK], f"vecmon-lab: {STOCK}: Is a directory"),
+        ([SUM, "--", "x" * 9000], f"vecmon-lab: {SUM}: arguments take 8,192 bytes of the stack at most"),
+    ],
+)
+def test_bad_input(lab: Lab, words: list[object], told: str) -> None:
+    status, output, complaint = lab("run", *words)
+    assert (status, output, complaint.count("\n")) == (2, b"", 1)
+    assert complaint.startswith(told)
+
+
+def test_no_program(lab: Lab, monkeypatch: pytest.MonkeyPatch) -> None:
+    monkeypatch.setenv("VECMON", "none")
+    status, output, told = lab("run", SUM)
+    assert (status, output, told.count("\n")) == (2, b"", 1)
+    assert told.startswith("vecmon-lab: VECMON=none is no program; ")
+
+
+def test_standard_output_that_is_full() -> None:
+    with open("/dev/full", "wb") as full:
+        command = [sys.executable, "-m", "vecmon_lab", "run", str(SUM)]
+        run = subprocess.run(command, cwd=TOP, stdout=full, stderr=subprocess.PIPE, check=False)
+    assert (run.returncode, run.stderr) == (2, b"vecmon-lab: [Errno 28] No space left on device\n")
+
+
+def test_a_file_that_may_have_five_bytes(tmp_path: pathlib.Path) -> None:
+    """The system takes five of seven, and says only at the next write why it takes no more."""
+    limit = "import resource, vecmon_lab.__main__; resource.setrlimit(resource.RLIMIT_FSIZE, (5, 5))"
+    code = f"{limit}; raise SystemExit(vecmon_lab.__main__.main())"
+    with (tmp_path / "output").open("wb") as file:
+        command = [sys.executable, "-c", code, "run", str(SUM)]
+        run = subprocess.run(command, cwd=TOP, stdout=file, stderr=subprocess.PIPE, check=False)
+    assert (run.returncode, run.stderr) == (2, b"vecmon-lab: [Errno 27] File too large\n")
+    assert (tmp_path / "output").read_bytes() == b"32835"
+
+
+def test_a_trace_beside_one_of_qemu(lab: Lab, tmp_path: pathlib.Path) -> None:
+    """The trace is of qemu-riscv64 with -cpu rv64,v=true,vext_spec=v1.0,vlen=256.
+
+    A client of its gdb stub (-g) stepped it, and wrote down the program counter, and each scalar and vector register
+    that changed, and vl and vtype; the addresses of its stack were moved to where this machine has its own.
+    """
+    assert lab("run", SUM, "--trace", tmp_path / "trace")[0] == 0
+    ours, theirs = ((path.read_text().splitlines()) for path in (tmp_path / "trace", QEMU / "sum"))
+    assert len(ours) == len(theirs) == 250
+    machine, emulator = State(), State()
+    for mine, other in zip(ours[:-1], theirs[:-1]):
+        assert mine.split()[0] == other.split()[0]
+        machine.take_in(re.split(" {2,}", mine)[3:])
+        emulator.take_in([_as_ours(change) for change in other.split()[1:]])
+        assert vars(machine) == vars(emulator), mine
+    assert theirs[-1].split() == ["112dc", "W00"] and re.split(" {2,}", ours[-1])[:3] == [
+        "112dc",
+        "_start+0x14c",
+        "ecall",
+    ]
+
+
+def _as_ours(change: str) -> str:
+    """A change of QEMU's trace, which has numbers in hexadecimal, with vl and vtype as the lab's has them."""
+    name, _, value = change.partition("=")
+    told = {"vl": lambda: f"{int(value, 16)}", "vtype": lambda: vtype_text(int(value, 16))}
+    return f"{name}={told[name]()}" if name in told else change
+
+
+class State:
+    """Registers, as lines of a trace change them."""
+
+    def __init__(self) -> None:
+        self.registers: dict[str, str] = {}
+        self.vectors = bytearray(1024)
+
+    def take_in(self, changes: list[str]) -> None:
+        """Carries out changes; those of memory are left out."""
+        for change in changes:
+            if vector := re.fullmatch(r"v(\d+)\.e(\d+)\[(\d+)(?:\.\.\d+)?\]=(.*)", change):
+                size = int(vector[2]) // 8
+                values = b"".join(int(value, 16).to_bytes(size, "little") for value in vector[4].split(","))
+                self._put(int(vector[1]) * 32 + int(vector[3]) * size, values)
+            elif whole := re.fullmatch("v([0-9]+)=([0-9a-f]+)", change):
+                self._put(int(whole[1]) * 32, int(whole[2], 16).to_bytes(32, "little"))
+            elif not change.startswith("["):
+                name, _, value = change.partition("=")
+                self.registers[name] = value
+
+    def _put(self, place: int, data: bytes) -> None:
+        self.vectors[place : place + len(data)] = data
+
+
+def test_counts(lab: Lab) -> None:
+    """Instructions and elements were counted by hand, in the listing that objdump makes of the program."""
+    status, output, told = lab("run", SUM, "--stats")
+    assert (status, output) == (0, b"328350\n")
+    lines = [line.split() for line in told.splitlines()]
+    assert lines[0] == "250 instructions in 721 ticks".split()
+    assert ["7", "vle32.v"] in lines and ["1", "vredsum.vs"] in lines and ["2", "ecall"] in lines
+    assert "43 vector instructions".split() in lines and lines[-1] in (
+        ["1", "vl=4", "e32,m2,ta,ma"],
+        ["1", "vl=4", "e32,m2,tu,ma"],
+    )

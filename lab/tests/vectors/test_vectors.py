@@ -1,0 +1,187 @@
+"""Golden results of single instructions: values by hand, QEMU's results, and what each plan covers."""
+
+import json
+import pathlib
+import subprocess
+import sys
+from collections import Counter
+from typing import Any
+
+import pytest
+
+from support.places import DATA
+from vecmon_lab.instructions.table import instruction_table
+from vecmon_lab.machine.session import Session
+from vecmon_lab.vectors import on_qemu
+from vecmon_lab.vectors.cases import Case, draw_case, plan
+from vecmon_lab.vectors.command import carry_out, golden_results
+
+VILL = 1 << 63
+E8, E16 = 0xC0, 0xC8  # with LMUL 1, ta, ma
+
+
+def changes(session: Session, name: str, case: Case) -> dict[str, Any]:
+    """How a case ends, and what it changes."""
+    golden = carry_out(session, instruction_table()[name], case)
+    return {key: golden[key] for key in ("end", "cause", "value", "status", "after") if key in golden}
+
+
+def test_elements_wrap_and_the_tail_stays(session: Session) -> None:
+    register = bytes([0, 1, 128, 255]) + bytes(28)
+    case = Case(0x021FB157, E8, vl=3, v={1: register, 2: b"\x55" * 32})  # vadd.vi v2, v1, -1
+    after = {"pc": "10804", "v": {2: "ff007f" + "55" * 29}}
+    assert changes(session, "vadd.vi", case) == {"end": "ran", "after": after}
+
+
+def test_a_store_changes_bytes(session: Session) -> None:
+    case = Case(0x00532223, VILL, x={5: 0x1122334455667788, 6: 0x20000}, memory={0x20004: b"\x88\0\0\0"})
+    after = {"pc": "10804", "memory": {"20005": "776655"}}  # sw x5, 4(x6), whose first byte was there already
+    assert changes(session, "sw", case) == {"end": "ran", "after": after}
+
+
+def test_a_load_faults_where_no_page_is(session: Session) -> None:
+    case = Case(0xFFC32283, VILL, x={6: 0x22002})  # lw x5, -4(x6)
+    assert changes(session, "lw", case) == {"end": "fault", "cause": 5, "value": "21ffe", "after": {}}
+
+
+def test_a_store_faults_at_its_second_element(session: Session) -> None:
+    case = Case(0x020350A7, E16, vl=2, x={6: 0x20FFE}, v={1: b"\x01\x02\x03\x04" + bytes(28)})  # vse16.v v1, (x6)
+    after = {"vstart": 1, "memory": {"20ffe": "0102"}}
+    assert changes(session, "vse16.v", case) == {"end": "fault", "cause": 7, "value": "21000", "after": after}
+
+
+def test_a_fault_only_first_load_is_shortened(session: Session) -> None:
+    case = Case(0x03030087, E8, vl=4, x={6: 0x21FFE}, memory={0x21FFE: b"ab"})  # vle8ff.v v1, (x6)
+    after = {"pc": "10804", "vl": 2, "v": {1: "6162" + "00" * 30}}
+    assert changes(session, "vle8ff.v", case) == {"end": "ran", "after": after}
+
+
+def test_calls_put_out_and_end(session: Session) -> None:
+    write = Case(0x73, VILL, x={17: 64, 10: 1, 11: 0x20010, 12: 3}, memory={0x20010: b"abc"})
+    after = {"pc": "10804", "x": {10: "3"}, "output": "616263"}
+    assert changes(session, "ecall", write) == {"end": "ran", "after": after}
+    assert changes(session, "ecall", Case(0x73, VILL, x={17: 93, 10: 260})) == {"end": "exit", "status": 4, "after": {}}
+    assert changes(session, "ebreak", Case(0x00100073, VILL)) == {"end": "ebreak", "after": {}}
+
+
+def test_agnostic_elements_become_ones_if_that_is_asked_for(session: Session) -> None:
+    case = Case(0x021FB157, E8, vl=1, v={2: bytes(32)})  # vadd.vi v2, v1, -1
+    golden = carry_out(session, instruction_table()["vadd.vi"], case, "ones")
+    assert golden["after"] == {"pc": "10804", "v": {2: "ff" * 32}}
+
+
+@pytest.mark.by_command("vectors")
+def test_results_are_those_that_qemu_gave(session: Session) -> None:
+    lines = (DATA / "golden_vectors.jsonl").read_text("ascii").splitlines()
+    for line in lines:
+        recorded = json.loads(line)
+        numbers = {name: recorded[name] for name in ("vl", "vstart", "vxrm", "vxsat")}
+        x = {int(number): int(value, 16) for number, value in recorded["x"].items()}
+        v = {int(number): bytes.fromhex(value) for number, value in recorded["v"].items()}
+        case = Case(int(recorded["word"], 16), int(recorded["vtype"], 16), **numbers, x=x, v=v)
+        golden = json.loads(json.dumps(carry_out(session, instruction_table()[recorded["name"]], case)))
+        assert golden == recorded
+    assert len(lines) == 28
+
+
+@pytest.mark.parametrize(
+    "name, types",  # SEW 8, 16, 32 and 64 have 7, 6, 5 and 4 group multipliers
+    [("vadd.vv", 22), ("vwadd.vv", 15), ("vsext.vf8", 4), ("vmulh.vx", 18), ("vlseg8e8.v", 16), ("vl8re8.v", 22)],
+)
+def test_a_plan_has_each_legal_type_and_mask(name: str, types: int) -> None:
+    row = instruction_table()[name]
+    kinds = [kind for kind in plan(row, 5) if not kind.is_illegal and not kind.is_astray]
+    masks = 1 if name == "vl8re8.v" else 2
+    assert len(kinds) == len(set(kinds)) == masks * types
+    assert len({kind.vtype for kind in kinds}) == types
+
+
+def test_a_plan_is_carried_out_as_planned(program: pathlib.Path) -> None:
+    row = instruction_table()["vlse32.v"]
+    ends = Counter((result["end"], result.get("cause")) for result in golden_results(program, row))
+    assert ends["ran", None] >= 38  # each of 19 types, with and without a mask
+    assert ends["fault", 2] == 2 and ends["fault", 5] >= 1
+    assert ends.total() == 46
+
+
+def test_a_seed_gives_the_same_lines_and_another_one_others(program: pathlib.Path) -> None:
+    row = instruction_table()["vluxei16.v"]
+    lines = [list(golden_results(program, row, cases, seed)) for cases, seed in ((4, 1), (8, 1), (4, 2))]
+    assert lines[0] == lines[1][:4]
+    assert lines[0] != lines[2]
+    assert draw_case(row, 99, 1) == draw_case(row, 99, 1) != draw_case(row, 98, 1)
+
+
+@pytest.mark.usefixtures("qemu")
+def test_each_ninth_instruction_on_qemu(program: pathlib.Path) -> None:
+    rows = list(instruction_table().values())[::9]
+    cases = [json.loads(json.dumps(result)) for row in rows for result in golden_results(program, row, 5, 7)]
+    shown = [case for case in cases if on_qemu.can_run(case)]
+    reasons = Counter(reason_of(case, differing) for case, differing in zip(shown, on_qemu.differences(shown)))
+    assert "unknown" not in reasons, reasons
+    assert reasons["none"] > 250
+
+
+def reason_of(case: dict[str, Any], differing: dict[str, tuple[Any, Any]]) -> str:
+    """Why QEMU 7.2 differs: none where it doesn't; each reason stands in docs/GOLDEN_VECTORS.md."""
+    if not differing:
+        return "none"
+    names, is_access = set(differing), int(case["word"], 16) & 0x7F in (0x03, 0x07, 0x23, 0x27)
+    if names == {"vstart"} and 0 < case["vstart"] == differing["vstart"][1]:
+        return "vstart at or past the length stays"
+    if "seg" in case["name"] and names <= {"v", "memory", "value"}:
+        return "fields before the fault of a segment are done"
+    if names == {"value"} and is_access and 0 < differing["value"][1] - differing["value"][0] < 8:
+        return "the value is the first byte that is refused"
+    if names == {"value"} and is_access and differing["value"][0] >= 1 << 47 and differing["value"][1] == 0:
+        return "the value is 0 past what the host addresses"
+    if case["name"] in ("csrrs", "csrrc") and case["end"] == "fault" and differing["end"][1] == "ran":
+        return "no bits of a register that can't be written are set or cleared"
+    if names == {"vxrm"} and case["name"].startswith("csrr"):
+        return "vxrm keeps all bits"
+    if (
+        case["name"].startswith("vmv")
+        and case["name"].endswith("r.v")
+        and (case["vstart"] or case["vtype"] == f"{VILL:x}")
+    ):
+        return "moves of whole registers with vstart or vill"
+    if case["name"].startswith("vset") and names <= {"vl", "vtype"} and not int(case["word"], 16) & 0x000F8F80:
+        return "the length is kept with another VLMAX"
+    return "unknown"
+
+
+def test_the_program_for_qemu_is_what_its_texts_say(session: Session) -> None:
+    listing = pathlib.Path(on_qemu.__file__).with_name("on_qemu.txt").read_text("ascii").splitlines()
+    session.do_all(["1 enter", "1 map 10000 1 rwx"])
+    for word, text in (line.split("  ") for line in listing if not line.startswith("#")):
+        assert session.do(f"1 asm 10000 {text}") == [f"1 0000000000010000 {word}"]
+
+
+@pytest.mark.parametrize(
+    "words, message",
+    [
+        (["vadd.vw"], "there is no instruction vadd.vw: docs/INSTRUCTIONS.md lists them, and all means each one"),
+        ([".word"], "there is no instruction .word: docs/INSTRUCTIONS.md lists them, and all means each one"),
+        (["add", "--cases", "0"], "--cases takes a number from 1 up"),
+    ],
+)
+def test_bad_words_are_told_in_a_line(words: list[str], message: str) -> None:
+    done = subprocess.run([sys.executable, "-m", "vecmon_lab", "vectors", *words], capture_output=True, text=True)
+    assert (done.returncode, done.stdout, done.stderr) == (2, "", f"vecmon-lab: {message}\n")
+
+
+def test_the_command_prints_a_line_for_each_case(program: pathlib.Path) -> None:
+    command = [sys.executable, "-m", "vecmon_lab", "vectors", "vid.v", "add", "--cases", "3", "--seed", "9"]
+    one, other = [subprocess.run(command, capture_output=True, check=True).stdout for _ in range(2)]
+    assert one == other
+    assert [json.loads(line)["name"] for line in one.splitlines()] == ["vid.v"] * 3 + ["add"] * 3
+
+
+def test_whoever_reads_may_go(program: pathlib.Path) -> None:
+    command = [sys.executable, "-m", "vecmon_lab", "vectors", "vadd.vv", "--cases", "200"]
+    with subprocess.Popen(command, stdout=subprocess.PIPE, stderr=subprocess.PIPE) as process:
+        assert process.stdout and process.stderr
+        assert process.stdout.readline().startswith(b'{"name":"vadd.vv"')
+        process.stdout.close()
+        assert process.stderr.read() == b""
+    assert process.returncode == 141

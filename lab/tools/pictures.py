@@ -1,0 +1,101 @@
+"""The pictures of the pages: `python lab/tools/pictures.py docs/pictures`, with VECMON as for the lab.
+
+Writes lesson.png, student.png and teacher.png to the folder: Chromium's pictures of a lesson and of a class, in light
+colours, 1280 pixels wide. In the class six students have each come to another place, and the teacher looks over the
+shoulder of the third.
+"""
+
+import base64
+import pathlib
+import subprocess
+import sys
+import tempfile
+from typing import TYPE_CHECKING
+
+from support.browser import start_browser
+from support.class_pages import Served, Tab
+from support.places import EXAMPLES, TOP
+from vecmon_lab.machine.program import find_program
+
+if TYPE_CHECKING:
+    from selenium.webdriver import Chrome
+
+WIDTH, HEIGHT = 1280, 800
+EXAMPLE = EXAMPLES / "strip_mined.s"
+MASKED = 22  # of the example's instructions, the masked one in the loop's second round
+COUNT_UP = ["addi x5, x5, 1", "jal x0, -4"]
+ODD_GROUP = ["vsetivli x0, 8, e32, m2, ta, ma", "vadd.vv v3, v2, v4"]
+
+
+def give_room(browser: "Chrome", height: int) -> None:
+    """Makes the page before all others as wide as the pictures, and so high."""
+    size = {"width": WIDTH, "height": height, "deviceScaleFactor": 1, "mobile": False}
+    browser.execute_cdp_cmd("Emulation.setDeviceMetricsOverride", size)
+
+
+def save(browser: "Chrome", path: pathlib.Path, height: int) -> None:
+    """A picture of the upper part of the page before all others."""
+    browser.execute_script("document.activeElement.blur()")
+    clip = {"x": 0, "y": 0, "width": WIDTH, "height": height, "scale": 1}
+    told = browser.execute_cdp_cmd("Page.captureScreenshot", {"clip": clip})
+    path.write_bytes(base64.b64decode(told["data"]))
+
+
+def open_lesson(browser: "Chrome", folder: pathlib.Path) -> None:
+    """The lesson of the example, at its masked instruction."""
+    page = folder / "lesson.html"
+    subprocess.run([sys.executable, "-m", "vecmon_lab", "lesson", EXAMPLE, "-o", page], check=True, cwd=TOP)
+    browser.get(f"{page.as_uri()}#{MASKED + 1}")
+
+
+def seat_students(browser: "Chrome", served: Served) -> Tab:
+    """A program that counts, one that has ended, a masked instruction, an illegal one, an EBREAK, a text with a mistake."""
+    tabs = [Tab(browser, served, f"A{number}") for number in range(1, 7)]
+    programs: list[list[str]] = [COUNT_UP, [], [], ODD_GROUP, ["vid.v v1", "ebreak"], ["vid.v v1"]]
+    for tab, program in zip(tabs, programs):
+        tab.begin(*program)
+    tabs[0].command("go")
+    tabs[1].command("load sum", "go")
+    tabs[2].run("(id('source').value = arguments[0], id('assemble').click())", EXAMPLE.read_text("utf-8"))
+    tabs[2].wait("id('listing').textContent.includes('next:') && !id('listing').hidden")
+    tabs[2].command(f"step {MASKED - 1}", "asm 10044 vadd.vv v1, v2")
+    tabs[3].command("step 2")
+    tabs[4].command("setpc 10004", "step 1")
+    tabs[5].command("set x0 1")
+    return tabs[2]
+
+
+def picture_class(browser: "Chrome", served: Served, folder: pathlib.Path) -> None:
+    """The pages of the third student and of the teacher, who looked on while that student stepped."""
+    student = seat_students(browser, served)
+    give_room(student.front(), HEIGHT)
+    teacher = Tab(browser, served, "teacher")
+    give_room(browser, 2 * HEIGHT)
+    teacher.click("tr[data-seat='A3'] td:nth-child(2) button")
+    teacher.wait("id('shoulder').textContent.includes('A3')")
+    for line in ("slices 20", "list", "stats"):
+        teacher.keys("#operator-line", f"{line}\n")
+    teacher.wait("id('operator-log').textContent.includes('owner')")
+    student.command("step 1")
+    save(student.front(), folder / "student.png", HEIGHT)
+    teacher.wait("id('step').textContent.includes('v0.t')")
+    height = teacher.run("Math.ceil(one('.vectors').getBoundingClientRect().bottom + 8)")
+    save(browser, folder / "teacher.png", height)
+
+
+def main(folder: pathlib.Path) -> None:
+    browser = start_browser("hide-scrollbars", "force-prefers-reduced-motion")
+    give_room(browser, HEIGHT)
+    with tempfile.TemporaryDirectory() as room:
+        open_lesson(browser, pathlib.Path(room))
+        save(browser, folder / "lesson.png", HEIGHT)
+        served = Served(pathlib.Path(room) / "class", find_program())
+        try:
+            picture_class(browser, served, folder)
+        finally:
+            browser.quit()
+            served.end()
+
+
+if __name__ == "__main__":
+    main(pathlib.Path(sys.argv[1]))

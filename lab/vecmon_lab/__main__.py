@@ -1,0 +1,73 @@
+"""The program `vecmon-lab`: commands by name, each in a module of its own, imported only where it is asked for."""
+
+import argparse
+import importlib
+import os
+import sys
+from typing import NoReturn
+
+from . import LabError
+
+# By name the module, which has `add_arguments(parser)`, and `run(arguments)`, which answers the status; and a sentence.
+COMMANDS: dict[str, tuple[str, str]] = {
+    "lesson": ("lessons.lesson", "a page that steps back and forth through a script or an assembler source"),
+    "tour": ("lessons.tour", "the ten lessons of the tour"),
+    "class": ("classes.command", "a page for each of eight students or more, and one for their teacher"),
+    "solo": ("classes.solo", "one student's part of a class, as a script of its own"),
+    "compare": ("runs.compare", "an image with agnostic elements kept and as ones, and in slices of three lengths"),
+    "profile": ("runs.profile", "where an image spends its instructions, and what it makes of its vectors' elements"),
+    "run": ("runs.run", "an image to its end, as a plain program; a trace of it; counts of its instructions"),
+    "console": ("console.command", "a prompt at one user's machine"),
+    "gdb": ("gdb.command", "a machine with an image, for gdb's target remote"),
+    "vectors": (
+        "vectors.command",
+        "golden results of single instructions, for tests of an emulator, a core or a compiler",
+    ),
+    "grade": ("exercises.grade", "which answers to an exercise are right, and where each other one goes wrong first"),
+    "check": ("check", "whether the program answers README's first script, and on what program and lab stand"),
+}
+
+
+class _Parser(argparse.ArgumentParser):
+    """A parser that tells a mistake in one line."""
+
+    def error(self, message: str) -> NoReturn:
+        self.exit(2, f"{self.prog}: {message}; --help says more\n")
+
+
+def main() -> int:
+    """Carries out the command that the program's words name; its status is 2, after one line, for bad input."""
+    try:
+        arguments = _arguments()
+        status: int = arguments.run(arguments)
+        return status
+    except KeyboardInterrupt:
+        return 130
+    except LabError as error:
+        mistake = str(error)
+    except ModuleNotFoundError as error:
+        mistake = f"this needs the Python library {error.name}, which isn't installed"
+    except BrokenPipeError:  # whoever reads has gone, as `head` does; what is left is written nowhere
+        os.dup2(os.open(os.devnull, os.O_WRONLY), sys.stdout.fileno())
+        return 141
+    except OSError as error:
+        mistake = f"{error.filename}: {error.strerror}" if error.filename else str(error)
+    print(f"vecmon-lab: {mistake}", file=sys.stderr)
+    return 2
+
+
+def _arguments() -> argparse.Namespace:
+    """What the program's words are, with the function `run` of the command that they name."""
+    parser = _Parser(prog="vecmon-lab", description="A front end for vecmon, the trainer machine for RISC-V vectors.")
+    commands = parser.add_subparsers(dest="command", metavar="COMMAND", required=True)
+    for name, (place, summary) in COMMANDS.items():
+        command = commands.add_parser(name, help=summary, description=f"{summary[0].upper()}{summary[1:]}.")
+        if sys.argv[1:2] == [name]:
+            module = importlib.import_module(f"vecmon_lab.{place}")
+            module.add_arguments(command)
+            command.set_defaults(run=module.run)
+    return parser.parse_args()
+
+
+if __name__ == "__main__":
+    raise SystemExit(main())

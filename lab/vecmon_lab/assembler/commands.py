@@ -1,0 +1,60 @@
+"""Commands by name and refusals in words, from the tables that the manuals have their tables from."""
+
+import itertools
+import operator
+import re
+from dataclasses import dataclass
+
+from ..machine.lines import words_of
+from ..tables.table import read_table
+from .instruction import Statement, refusal
+
+
+@dataclass(frozen=True)
+class Command:
+    """A command of the monitor or the console: its form, as `peek ADDR N`, what it does, and the refusals of its own."""
+
+    form: str
+    does: str
+    refusals: list[str]
+
+
+def _plain(text: str) -> str:
+    """Markdown without its backquotes, its links, and parentheses that have a link alone."""
+    return re.sub(r" \(\[[^]]*\]\([^)]*\)\)|\[([^]]*)\]\([^)]*\)", r"\1", text).replace("`", "")
+
+
+def _name(form: str) -> str:
+    """The name of a command with this form: its first word, with the operator's `*` before it."""
+    return " ".join(form.split()[: 2 if form[0] == "*" else 1])
+
+
+_COMMANDS, _REFUSALS = read_table("commands"), read_table("refusals")
+COMMANDS = {_name(form): Command(form, _plain(does), own.split(" ")) for _, form, does, _, own in _COMMANDS}
+MEANINGS = {code: _plain(meaning) for code, meaning, _ in _REFUSALS}
+
+
+def help_on(name: str) -> list[str]:
+    """What a command does, or a refusal means; where the name is empty, the forms of all commands by section."""
+    if not name:
+        sections = itertools.groupby(_COMMANDS, operator.itemgetter(0))
+        return [f"{section}: {', '.join(form for _, form, *_ in rows)}" for section, rows in sections]
+    if name in MEANINGS:
+        return [f"{name}: {MEANINGS[name]}"]
+    if name not in COMMANDS:
+        return [f"there is no command {name}; help lists them"]
+    command = COMMANDS[name]
+    own = [f"  {code}: {MEANINGS[code]}" for code in command.refusals if code in MEANINGS]
+    return [f"{command.form}: {command.does}", *own]
+
+
+def refusal_in_words(line: str, answer: str) -> list[str]:
+    """What the refusal of a line means. Below a text that spells no instruction is marked where it doesn't fit."""
+    code, _, column = answer[2:].partition(" ")
+    name = ("* " if line[0] == "*" else "") + "".join(words_of(line)[:1])
+    if code == "E15":
+        text = line[2:].strip(" ").split(maxsplit=2)[2]
+        statement = Statement(0, 1, text, tuple(range(1, len(text) + 2)))
+        return [text, f"{'^':>{column}}", f"E15: {refusal(statement, int(column)).message}"]
+    form = f"; the form is {COMMANDS[name].form}" if code == "E04" and name in COMMANDS else ""
+    return [f"{answer[2:]}: {MEANINGS[code]}{form}"]

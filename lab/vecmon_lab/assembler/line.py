@@ -1,0 +1,105 @@
+"""Lines of assembler source in tokens and operands. Lines, and columns in characters, begin with 1."""
+
+import enum
+import re
+from dataclasses import dataclass
+
+from .. import LabError
+
+_TOKEN = re.compile(
+    r"""(?P<SPACE>[ \t\f\v]+) | (?P<COMMENT>(?:\#|//).*) | (?P<STRING>"(?:[^"\\]|\\.)*") | (?P<OPEN>")
+    | (?P<NUMBER>[0-9][0-9A-Za-z_]*) | (?P<NAME>[A-Za-z_.$][A-Za-z0-9_.$]*) | (?P<MARK>.)""",
+    re.VERBOSE,
+)
+_NUMBER = re.compile("0|[1-9][0-9]*|0x[0-9A-Fa-f]+")
+_PIECE = re.compile(r"\\([0-7]{1,3})|\\x([0-9A-Fa-f]{1,2})(?![0-9A-Fa-f])|\\(.)|([^\\]+)")
+_LETTERS = {"b": "\b", "f": "\f", "n": "\n", "r": "\r", "t": "\t", '"': '"', "\\": "\\"}
+
+Kind = enum.Enum("Kind", "NAME NUMBER STRING MARK")
+"""What a token is; a mark is any other character."""
+
+
+class SourceError(LabError):
+    """What is wrong in a source, and the line and the column where it stands."""
+
+    def __init__(self, line: int, column: int, message: str) -> None:
+        super().__init__(f"line {line}, column {column}: {message}")
+        self.line, self.column, self.message = line, column, message
+
+
+@dataclass(frozen=True)
+class Token:
+    """A token and where it begins."""
+
+    kind: Kind
+    text: str
+    line: int
+    column: int
+
+    def error(self, message: str) -> SourceError:
+        """An error that points at this token."""
+        return SourceError(self.line, self.column, message)
+
+    def number(self) -> int:
+        """The value of a number: decimal without a leading zero, or hexadecimal after 0x; below 2^64."""
+        if re.fullmatch("0[0-9]+", self.text):
+            problem = "begins with a zero: stock assemblers read that as octal, the machine as decimal"
+        elif not _NUMBER.fullmatch(self.text):
+            problem = "is no number: those are decimal, or hexadecimal after 0x"
+        elif len(self.text) > 20 or int(self.text, 0) >> 64:
+            problem = "has more than 64 bits"
+        else:
+            return int(self.text, 0)
+        raise self.error(f"{self.text} {problem}")
+
+    def string(self) -> bytes:
+        r"""The bytes of a string, in UTF-8. Escapes are \b \f \n \r \t \" \\, \101 and shorter octal ones, and \x41."""
+        if self.kind is not Kind.STRING:
+            raise self.error("a string in double quotes is needed here")
+        data = b""
+        for piece in _PIECE.finditer(self.text, 1, len(self.text) - 1):
+            octal, hexadecimal, letter, plain = piece.groups()
+            if letter and letter not in _LETTERS:
+                raise SourceError(self.line, self.column + piece.start(), "there is no such escape in a string")
+            if letter or plain:
+                data += (plain or _LETTERS[letter]).encode()
+            else:
+                data += bytes([int(octal or hexadecimal, 8 if octal else 16) & 0xFF])
+        return data
+
+
+Operand = list[Token]
+"""The tokens of an operand, one or more."""
+
+
+def tokens_of(text: str, line: int) -> list[Token]:
+    """The tokens of the line of this number, without its comment. Raises SourceError."""
+    tokens = []
+    for match in _TOKEN.finditer(text):
+        kind, column = match.lastgroup or "", match.start() + 1
+        if kind == "OPEN":
+            raise SourceError(line, column, "this string doesn't end on its line")
+        if kind in Kind.__members__:
+            tokens.append(Token(Kind[kind], match[0], line, column))
+    return tokens
+
+
+def operands_of(tokens: list[Token]) -> list[Operand]:
+    """The operands that commas separate. Raises SourceError."""
+    operands: list[Operand] = [[]]
+    for token in tokens:
+        if token.text != ",":
+            operands[-1].append(token)
+        elif operands[-1]:
+            operands.append([])
+        else:
+            raise token.error("an operand is missing before this comma")
+    if tokens and not operands[-1]:
+        raise tokens[-1].error("an operand is missing after this comma")
+    return operands if tokens else []
+
+
+def check_count(name: Token, operands: list[Operand], count: int) -> None:
+    """Raises SourceError unless there are so many operands."""
+    if len(operands) != count:
+        raise name.error(f"{name.text} takes {count} operand{'' if count == 1 else 's'}, not {len(operands)}")

@@ -1,0 +1,167 @@
+"""Assembler source to lines of the monitor: labels, directives, pseudo-instructions. Each word is made by the machine.
+
+The text begins at the origin, data at the first page behind it, bss at the first page behind that. A program may read
+and execute the text, and read and write data and bss; asm and poke ask only that a page is there.
+"""
+
+from collections.abc import Callable
+from dataclasses import dataclass
+from functools import partial
+
+from .instruction import Instruction, Statement, refusal
+from .line import Kind, Operand, SourceError, Token, check_count, operands_of, tokens_of
+from .pseudo import templates
+from .value import PAGE, Section, Symbols, Value
+
+__all__ = ["Program", "SourceError", "Statement", "assemble", "refusal"]
+
+_USER_PAGES = 256
+_WIDTHS = {".byte": 1, ".half": 2, ".word": 4, ".dword": 8}
+_STRINGS = {".ascii": b"", ".asciz": b"\0", ".string": b"\0"}  # and what ends them
+
+
+@dataclass(frozen=True)
+class Program:
+    """Lines of the monitor (map, asm, poke) behind digit and space, addresses by label, where the program begins."""
+
+    lines: list[str]
+    labels: dict[str, int]
+    statements: list[Statement]
+    entry: int
+
+    def names(self) -> dict[str, list[str]]:
+        """The labels by address, which is in hexadecimal digits."""
+        names: dict[str, list[str]] = {}
+        for label, address in self.labels.items():
+            names.setdefault(f"{address:x}", []).append(label)
+        return names
+
+
+def assemble(text: str, origin: int = 0x10000) -> Program:
+    """Assembles a source. The text's address is the origin, a multiple of 4,096. Raises SourceError."""
+    if origin % PAGE or not 0 <= origin <= (1 << 48) - _USER_PAGES * PAGE:
+        raise ValueError(f"{origin:#x} is no multiple of {PAGE} with room for {_USER_PAGES} pages below 2^48")
+    assembler = _Assembler()
+    for number, line in enumerate(text.split("\n"), 1):
+        assembler.read(tokens_of(line.removesuffix("\r"), number))
+    return assembler.finish(origin)
+
+
+class _Assembler:
+    """Reads a source line by line, and then gives the program. What may need addresses is made at the end."""
+
+    def __init__(self) -> None:
+        self._text, self._data, self._bss = Section("rx"), Section("rw"), Section("rw")
+        self._sections = {".text": self._text, ".data": self._data, ".bss": self._bss}
+        self._section = self._text
+        self._symbols = Symbols()
+        self._instructions: list[Instruction] = []
+        self._directives: dict[str, Callable[[Token, list[Operand]], None]] = {
+            **dict.fromkeys((*self._sections, ".section"), self._enter_section),
+            **dict.fromkeys((".globl", ".global", ".type", ".size", ".option"), lambda name, operands: None),
+            **dict.fromkeys((".equ", ".set"), self._equate),
+            **dict.fromkeys((".align", ".balign"), self._align),
+            **dict.fromkeys(_STRINGS, self._put_strings),
+            **dict.fromkeys(_WIDTHS, self._put_numbers),
+            ".zero": self._put_zeros,
+        }
+
+    def read(self, tokens: list[Token]) -> None:
+        """Reads the next line: labels, and an instruction or a directive. Raises SourceError."""
+        while len(tokens) > 1 and tokens[1].text == ":":
+            label, _, *tokens = tokens
+            if label.kind is not Kind.NAME:
+                raise label.error(f"{label.text} is no label: a label begins with a letter, or with one of . _ $")
+            self._symbols.define(label, self._here())
+        if not tokens:
+            return
+        name, operands = tokens[0], operands_of(tokens[1:])
+        if name.kind is not Kind.NAME:
+            raise name.error(f"{name.text} stands where an instruction, a directive or a label has to")
+        if name.text.startswith(".") and name.text not in self._directives:
+            raise name.error(f"there is no directive {name.text}")
+        if name.text in (*_WIDTHS, *_STRINGS) and not operands:
+            raise name.error(f"{name.text} takes one operand or more")
+        self._directives.get(name.text, self._read_instruction)(name, operands)
+
+    def finish(self, origin: int) -> Program:
+        """The program, with its text at the origin."""
+        for section in self._sections.values():
+            section.base = origin
+            origin += section.pages() * PAGE
+        statements = [statement for item in self._instructions for statement in item.statements(self._symbols)]
+        filled = [section for section in self._sections.values() if section.size]
+        lines = [f"map {section.base:x} {section.pages()} {section.permissions}" for section in filled]
+        lines += [statement.command for statement in statements]
+        lines += [line for section in filled for line in section.pokes()]
+        labels = self._symbols.addresses()
+        return Program(lines, labels, statements, labels.get("_start", self._text.base))
+
+    def _here(self) -> Value:
+        return Value(self._section.size, self._section)
+
+    def _put(self, name: Token, size: int, make: Callable[[], bytes] | None = None) -> None:
+        """Makes room in the section for so many bytes, which are made at the end; else they are zeros or instructions."""
+        if make is not None and self._section is self._bss:
+            raise name.error(".bss has zeros alone: .zero makes room there")
+        if make is not None:
+            self._section.contents.append((self._section.size, make))
+        self._section.size += size
+        if sum(section.pages() for section in self._sections.values()) > _USER_PAGES:
+            raise name.error(f"here the program grows beyond {_USER_PAGES} pages of {PAGE} bytes, all that a user has")
+
+    def _read_instruction(self, name: Token, operands: list[Operand]) -> None:
+        if self._section is not self._text:
+            raise name.error(f"{name.text} stands outside of .text, where no program can execute it")
+        if self._text.size % 4:
+            raise name.error(f"the address of {name.text} isn't divisible by 4: put .align 2 before it")
+        texts = templates(name, operands, partial(self._symbols.constant, here=self._here()))
+        self._instructions.append(Instruction(name, operands, self._here(), texts))
+        self._put(name, 4 * len(texts))
+
+    def _enter_section(self, name: Token, operands: list[Operand]) -> None:
+        which = operands[0][0] if name.text == ".section" and operands else name
+        if which.text not in self._sections:
+            raise which.error("a section is .text, .data or .bss")
+        self._section = self._sections[which.text]
+
+    def _equate(self, name: Token, operands: list[Operand]) -> None:
+        check_count(name, operands, 2)
+        if len(operands[0]) != 1 or operands[0][0].kind is not Kind.NAME:
+            raise operands[0][0].error(f"{name.text} takes a name and a number")
+        self._symbols.define(operands[0][0], self._symbols.evaluate(operands[1], self._here()))
+
+    def _align(self, name: Token, operands: list[Operand]) -> None:
+        check_count(name, operands, 1)
+        number = self._symbols.constant(operands[0], self._here())
+        if name.text == ".align" and not 0 <= number <= 12:
+            raise operands[0][0].error(".align n aligns to 2^n bytes, with n from 0 to 12")
+        size = 1 << number if name.text == ".align" else number
+        if not 1 <= size <= PAGE or size & size - 1:
+            raise operands[0][0].error(f".balign takes a power of two from 1 to {PAGE}")
+        padding = -self._section.size % size
+        nops = bytes(padding % 4) + b"\x13\0\0\0" * (padding // 4)
+        self._put(name, padding, partial(bytes, nops) if self._section is self._text else None)
+
+    def _put_zeros(self, name: Token, operands: list[Operand]) -> None:
+        check_count(name, operands, 1)
+        size = self._symbols.constant(operands[0], self._here())
+        if size < 0:
+            raise operands[0][0].error(".zero takes how many bytes there are")
+        self._put(name, size)
+
+    def _put_strings(self, name: Token, operands: list[Operand]) -> None:
+        for operand in operands:
+            data = operand[0].string() + _STRINGS[name.text]
+            if len(operand) > 1:
+                raise operand[1].error("a comma has to stand between strings")
+            self._put(name, len(data), partial(bytes, data))
+
+    def _put_numbers(self, name: Token, operands: list[Operand]) -> None:
+        for operand in operands:
+            if name.text == ".word" and self._section is self._text and self._text.size % 4 == 0:
+                self._instructions.append(Instruction(name, [operand], self._here(), [".word {0:word}"]))
+                self._put(name, 4)
+            else:
+                width = _WIDTHS[name.text]
+                self._put(name, width, partial(self._symbols.data, operand, self._here(), width))

@@ -1,0 +1,1 @@
+"""A class: one machine, and a page for each of its students and for their teacher."""

@@ -1,0 +1,42 @@
+"""Serves a class: eight students or more and their teacher, a page each, at machines that the program simulates."""
+
+import argparse
+import asyncio
+import os
+import pathlib
+
+from .. import LabError
+from ..arguments import between
+from ..machine.program import find_program, images_of
+from .seats import LETTERS
+from .server import serve
+from .store import Store
+from .view import Class
+
+
+def add_arguments(parser: argparse.ArgumentParser) -> None:
+    """The words of `vecmon-lab class`."""
+    parser.add_argument("folder", metavar="DIR", type=pathlib.Path, help="keeps the class; made if it isn't there")
+    parser.add_argument("images", metavar="NAME=PATH", nargs="*", default=[], help="images that students load by name")
+    parser.add_argument("--host", default="127.0.0.1", help="the address to serve at; 0.0.0.0 is a whole network")
+    parser.add_argument("--port", type=int, default=8765, help="the port; 0 is one that is free (default: %(default)s)")
+    parser.add_argument("--name", action="append", default=[], help="a host name that the page is opened under as well")
+    machines = between(1, len(LETTERS))
+    parser.add_argument("--machines", metavar="N", type=machines, help="eight seats each, 1 to 12; else 1")
+    parser.add_argument("--quantum", metavar="N", type=int, help="the ticks of a slice, 1 to 1000; else 100")
+    patience = between(1, 3600)
+    parser.add_argument("--patience", metavar="S", type=patience, default=10, help="seconds of silence; else 10")
+
+
+def run(arguments: argparse.Namespace) -> int:
+    """Serves until it is told to end. Raises LabError and OSError for a bad folder, image or address."""
+    os.umask(0o077)
+    images = images_of(arguments.images)
+    store = Store(arguments.folder, find_program(), images, arguments.quantum, arguments.machines)
+    members = Class(store, arguments.patience)
+    try:
+        asyncio.run(serve(members, arguments.host, arguments.port, set(arguments.name)))
+    except (OSError, OverflowError) as error:
+        reason = getattr(error, "strerror", None) or str(error)
+        raise LabError(f"{arguments.host}, port {arguments.port}: {reason}") from error
+    return 0

@@ -1,0 +1,268 @@
+"""The server of a class, on aiohttp: the page, one WebSocket a tab, scripts and transcripts (docs/CLASS_PROTOCOL.md)."""
+
+import asyncio
+import contextlib
+import ipaddress
+import json
+import logging
+import re
+import resource
+import signal
+import socket
+import subprocess
+import sys
+import weakref
+from collections.abc import AsyncIterator, Awaitable, Callable
+from typing import Any
+
+from aiohttp import WSMsgType, web
+from aiohttp.http import HttpProcessingError
+
+from ..page.pages import content_policy, page_text
+from .seats import TEACHER
+from .store import BadFolder
+from .view import Class, Message, Tab
+
+SCRIPTS = ["words.js", "operands.js", "view.js", "connection.js", "desk.js", "teacher.js", "class.js"]
+STYLES = ["page.css", "class.css"]
+MESSAGE_BYTES = 400_000
+PATIENCE = 10.0  # seconds for a first request, and for a tab's code
+UNKNOWN = 500  # connections without a whole request, and sockets without a code
+SOCKETS = 8  # of a seat; of the teacher twice as many
+READ_SECONDS = 20.0  # in which a tab has to take a message
+WRONG_CODE_SECONDS = 0.5
+HOST = re.compile(r"(?:\[([0-9a-fA-F:.]+)\]|([A-Za-z0-9.-]+))(?::[0-9]+)?")
+CLOSED, CROWDED = 4403, 4429  # why a socket is closed: its code is none, or none any more; the seat has too many
+
+
+class Server:
+    """The doors of a class: who may come in, and what is handed out."""
+
+    def __init__(self, members: Class, names: set[str]) -> None:
+        """names: hosts that the page may be opened under, besides all numeric addresses."""
+        self.members, self.names = members, {"localhost", *names}
+        self._page = page_text("class.html", STYLES, SCRIPTS)
+        self._policy = f"{content_policy(STYLES, SCRIPTS)}; frame-ancestors 'none'; connect-src 'self'"
+        self._spoke: set[Any] = set()  # connections that have made a whole request
+        self._is_ending = False
+        self._nameless = asyncio.Semaphore(UNKNOWN)  # had by sockets without a code
+        self._sockets: weakref.WeakSet[web.WebSocketResponse] = weakref.WeakSet()
+
+    def application(self) -> web.Application:
+        """The application, to be served by one runner."""
+        application = web.Application(middlewares=[self._check], client_max_size=MESSAGE_BYTES)
+        application.on_response_prepare.append(self._add_headers)
+        application.router.add_get("/", self._get_page)
+        application.router.add_get("/socket", self._socket)
+        application.router.add_get("/{machine:[A-L]}/{what:script|transcript}", self._get_file)
+        return application
+
+    def is_ours(self, host: str, origin: str | None) -> bool:
+        """Whether a request names this site, and comes from a page of it or from no page.
+
+        A site's name can be made to lead here, and a page of another site can ask: both name themselves.
+        """
+        parts = HOST.fullmatch(host)
+        if parts is None or origin not in (None, f"http://{host}", f"https://{host}"):
+            return False
+        try:
+            ipaddress.ip_address(parts[1] or parts[2])
+        except ValueError:
+            return parts[2] in self.names
+        return True
+
+    async def sweep(self, runner: web.AppRunner) -> None:
+        """Closes connections that have made no request in time, and the oldest such where there are too many."""
+        loop, since = asyncio.get_running_loop(), dict[Any, float]()
+        while True:
+            await asyncio.sleep(0.5)
+            there = set(runner.server.connections) if runner.server else set()
+            self._spoke &= there
+            since = {handler: since.get(handler, loop.time()) for handler in there - self._spoke}
+            silent = sorted(since, key=since.__getitem__)
+            for number, handler in enumerate(silent):
+                if loop.time() - since[handler] > PATIENCE or number < len(silent) - UNKNOWN:
+                    if handler.transport:
+                        handler.transport.abort()
+
+    async def close(self) -> None:
+        """Tells all tabs that the server ends."""
+        self._is_ending, sockets = True, list(self._sockets)
+        await asyncio.gather(*(each.close(code=1001, message=b"the server ends") for each in sockets))
+
+    @web.middleware
+    async def _check(
+        self, request: web.Request, handler: Callable[[web.Request], Awaitable[web.StreamResponse]]
+    ) -> web.StreamResponse:
+        self._spoke.add(request.protocol)
+        if not self.is_ours(request.headers.get("Host", ""), request.headers.get("Origin")):
+            raise web.HTTPForbidden
+        return await handler(request)
+
+    async def _add_headers(self, request: web.Request, response: web.StreamResponse) -> None:
+        host = request.headers.get("Host", "")
+        sockets = f" ws://{host} wss://{host}" if response.status == 200 else ""
+        response.headers.update(
+            {
+                "Content-Security-Policy": self._policy + sockets,
+                "Cache-Control": "no-store",
+                "Referrer-Policy": "no-referrer",
+                "X-Content-Type-Options": "nosniff",
+                "Cross-Origin-Opener-Policy": "same-origin",
+            }
+        )
+
+    async def _get_page(self, request: web.Request) -> web.Response:
+        return web.Response(text=self._page, content_type="text/html")
+
+    async def _get_file(self, request: web.Request) -> web.Response:
+        code = request.headers.get("Authorization", "").removeprefix("Bearer ")
+        room = self.members.rooms.get(request.match_info["machine"])
+        if self.members.codes.who(code) != TEACHER or room is None:
+            await asyncio.sleep(WRONG_CODE_SECONDS)
+            raise web.HTTPNotFound
+        data = room.session.script
+        if request.match_info["what"] == "transcript":
+            data = await asyncio.to_thread(_transcript, room.session.command, data)
+            try:
+                self.members.store.check_program()
+            except BadFolder as error:
+                raise web.HTTPServiceUnavailable from error
+        return web.Response(body=data, content_type="text/plain")
+
+    async def _socket(self, request: web.Request) -> web.WebSocketResponse:
+        if self._nameless.locked():
+            raise web.HTTPServiceUnavailable
+        own = web.WebSocketResponse(heartbeat=READ_SECONDS, max_msg_size=MESSAGE_BYTES, compress=False, timeout=2)
+        async with self._nameless:
+            await own.prepare(request)
+            self._sockets.add(own)
+            who = await self._who(own)
+        others = sum(tab.who == who for tab in self.members.tabs)
+        if who is None:
+            await own.close(code=CLOSED, message=b"no such code")
+        elif others >= (2 * SOCKETS if who == TEACHER else SOCKETS):
+            await own.close(code=CROWDED, message=b"too many tabs")
+        else:
+            await self._serve(request, own, Tab(who))
+        return own
+
+    async def _who(self, own: web.WebSocketResponse) -> str | None:
+        """Whose code the first message has; a wrong one is told after a while."""
+        try:
+            first = json.loads(await own.receive_str(timeout=PATIENCE))
+        except (TypeError, ValueError, RecursionError, asyncio.TimeoutError):
+            return None
+        who = self.members.codes.who(first.get("code") if isinstance(first, dict) else None)
+        if who is None:
+            await asyncio.sleep(WRONG_CODE_SECONDS)
+        return who
+
+    async def _serve(self, request: web.Request, own: web.WebSocketResponse, tab: Tab) -> None:
+        """Answers a tab's requests in turn, and pushes news to it from the first message on."""
+
+        async def send(message: Message) -> None:
+            try:
+                await asyncio.wait_for(own.send_str(json.dumps(message, separators=(",", ":"))), READ_SECONDS)
+            except asyncio.TimeoutError:
+                if request.transport:
+                    request.transport.abort()  # a close would wait for what the tab doesn't read
+
+        async def push() -> None:
+            while tab.is_open:
+                await tab.changed.wait()
+                if tab.is_open and (news := self.members.news(tab)):
+                    await send({"kind": "news", **news})
+                await asyncio.sleep(0.1 if tab.who == TEACHER else 0.02)  # what changes meanwhile goes together
+            await own.close(code=CLOSED, message=b"another code")
+
+        pusher: asyncio.Task[None] | None = None
+        try:
+            await send(self.members.hello(tab))
+            pusher = asyncio.create_task(push())
+            async for message in own:
+                if message.type is not WSMsgType.TEXT or not tab.is_open:
+                    break
+                await send(await self.members.answer(tab, message.data))
+            code = 1001 if self._is_ending else 1000 if tab.is_open else CLOSED
+            await own.close(code=code)  # as whoever closes it from elsewhere, who may come later
+        except ConnectionError:
+            pass  # the tab is gone
+        finally:
+            self.members.leave(tab)
+            if pusher:
+                pusher.cancel()
+
+
+@contextlib.asynccontextmanager
+async def served(members: Class, host: str, port: int, names: set[str]) -> AsyncIterator[int]:
+    """Serves a class; the port. Ends it behind. Raises OSError where the address can't be had."""
+    logging.getLogger("aiohttp.server").addFilter(_is_ours)
+    server = Server(members, {host, socket.gethostname(), *names})
+    runner = web.AppRunner(server.application(), access_log=None, keepalive_timeout=15.0, lingering_time=2.0)
+    await runner.setup()
+    tasks = []
+    try:
+        await web.TCPSite(runner, host, port, shutdown_timeout=2.0).start()
+        work = [server.sweep(runner), _keep(members), *(room.run_clock() for room in members.rooms.values())]
+        tasks = [asyncio.create_task(each) for each in work]
+        yield runner.addresses[0][1]
+    finally:
+        for task in tasks:
+            task.cancel()
+        await server.close()
+        members.keep()
+        members.end()
+        await runner.cleanup()
+
+
+async def serve(members: Class, host: str, port: int, names: set[str]) -> None:
+    """Serves a class until SIGINT or SIGTERM.
+
+    Raises OSError where the address can't be had, and BadFolder once the program was replaced or taken away, as with its package.
+    """
+    sys.setswitchinterval(0.0005)  # so long a machine's thread waits for the event loop's, which may be busy
+    most = resource.getrlimit(resource.RLIMIT_NOFILE)[1]
+    resource.setrlimit(resource.RLIMIT_NOFILE, (most, most))
+    ended, loop = asyncio.Event(), asyncio.get_running_loop()
+    for sign in (signal.SIGINT, signal.SIGTERM):
+        loop.add_signal_handler(sign, ended.set)
+    async with served(members, host, port, names) as own_port:
+        _announce(host, own_port, members.codes.codes[TEACHER])
+        missed = 0  # looks that found no program; after one, it may just be installed anew
+        while not ended.is_set():
+            missed = 0 if members.store.check_program() else missed + 1
+            if missed > 1:
+                raise BadFolder(f"the class has ended, since {members.store.program} isn't there any more")
+            with contextlib.suppress(asyncio.TimeoutError):
+                await asyncio.wait_for(ended.wait(), 1)
+
+
+def _is_ours(record: logging.LogRecord) -> bool:
+    """Whether a log tells of a fault of the server's: not of a request in bad form, as TLS is here, which gets status 400."""
+    return not (record.exc_info and isinstance(record.exc_info[1], HttpProcessingError))
+
+
+async def _keep(members: Class) -> None:
+    while True:
+        await asyncio.sleep(1)
+        members.keep()
+
+
+def _announce(host: str, port: int, code: str) -> None:
+    """Prints the teacher's address, and a warning where others than this computer's users can come."""
+    shown = f"[{host}]" if ":" in host else host
+    if host in ("0.0.0.0", "::"):
+        shown = socket.gethostname()
+    print(f"teacher: http://{shown}:{port}/#{code}", flush=True)
+    if host not in ("127.0.0.1", "::1", "localhost"):
+        print(
+            f"vecmon-lab: warning: whoever reaches {host} reaches the class, and nothing is encrypted: "
+            "use it in a network that you trust (docs/CLASS.md)",
+            file=sys.stderr,
+        )
+
+
+def _transcript(command: list[str], script: bytes) -> bytes:
+    """What a plain run of the program answers."""
+    return subprocess.run(command, input=script, stdout=subprocess.PIPE, check=True).stdout

@@ -1,0 +1,196 @@
+"""The folder that keeps a class: what it was begun with, its codes, and each machine's script with what goes with it.
+
+class.json: the digest (SHA-256) of the program, the quantum, the images by name with their digests, the machines
+codes.json: the code of each seat and of the teacher
+A.script, A.json: a machine's script; how many of its lines were answered by a digest, and what the teacher has set
+images/NAME.elf: the images, as they were when the class began
+lock: held by the server that serves the class
+"""
+
+import contextlib
+import fcntl
+import hashlib
+import json
+import os
+import pathlib
+import re
+import shutil
+from collections.abc import Mapping
+from typing import Any
+
+from .. import LabError
+from ..machine.session import Session
+from .seats import LETTERS, Codes
+
+
+class BadFolder(LabError):
+    """The folder can't keep this class; the text says why."""
+
+
+class ScriptFile:
+    """A script on the disk: each line is appended before the machine is asked.
+
+    Where the disk takes nothing, lines wait in memory and follow later; `trouble` says so. For one thread at a time.
+    """
+
+    def __init__(self, path: pathlib.Path) -> None:
+        """Opens the file, and cuts off a last line without its newline; `kept` has the rest."""
+        self._file = os.open(path, os.O_RDWR | os.O_CREAT, 0o600)
+        data = path.read_bytes()
+        self.kept = data[: data.rfind(b"\n") + 1]
+        self.trouble = ""
+        self._waiting = bytearray()
+        self._saved = len(self.kept)
+        os.ftruncate(self._file, self._saved)
+
+    @property
+    def is_saved(self) -> bool:
+        """Whether nothing waits."""
+        return not self._waiting
+
+    def append(self, line: str) -> None:
+        """Writes a line."""
+        self._waiting += line.encode("ascii") + b"\n"
+        self.catch_up()
+
+    def cut(self, size: int) -> None:
+        """Takes back what stands behind the first `size` bytes: a line that wasn't carried out."""
+        del self._waiting[max(0, size - self._saved) :]
+        if size < self._saved:
+            os.ftruncate(self._file, size)
+            self._saved = size
+
+    def close(self) -> None:
+        """Closes the file."""
+        os.close(self._file)
+
+    def catch_up(self) -> None:
+        """Writes what waits, if the disk takes it."""
+        try:
+            while self._waiting:
+                written = os.pwrite(self._file, self._waiting, self._saved)
+                self._saved += written
+                del self._waiting[:written]
+            self.trouble = ""
+        except OSError as error:
+            self.trouble = f"the script isn't saved: {error.strerror}"
+
+
+class Store:
+    """The folder of a class, which no other server has as long as this one lives."""
+
+    def __init__(
+        self,
+        folder: pathlib.Path,
+        program: pathlib.Path,
+        images: Mapping[str, pathlib.Path] = {},
+        quantum: int | None = None,
+        machines: int | None = None,
+    ) -> None:
+        """Opens a class, or begins one in a folder that is empty or isn't there.
+
+        A class that is there has to have this program, and those images, quantum and machines that are named; there may
+        be more machines than before. Raises BadFolder, OSError, and ProgramGone where the program refuses the images.
+        """
+        self.folder, self.program, self.trouble = folder, program, ""
+        folder.mkdir(mode=0o700, parents=True, exist_ok=True)
+        if strangers := {path.name for path in folder.iterdir()} - {"lock", "images"}:
+            if "class.json" not in strangers:
+                raise BadFolder(f"{folder} has no class, but other files, {min(strangers)} among them")
+        folder.chmod(0o700)
+        self._lock = os.open(folder / "lock", os.O_RDWR | os.O_CREAT, 0o600)
+        try:
+            fcntl.flock(self._lock, fcntl.LOCK_EX | fcntl.LOCK_NB)
+        except BlockingIOError:
+            raise BadFolder(f"{folder} is served by another server") from None
+        try:
+            self._open(images, quantum, machines)
+        except BaseException:
+            self.close()
+            raise
+
+    def _open(self, images: Mapping[str, pathlib.Path], quantum: int | None, machines: int | None) -> None:
+        kept = self.read("class.json")
+        facts = self._facts(kept, images, quantum, machines) if kept else self._begin(images, quantum, machines)
+        self._program_digest: str = facts["program"]
+        self.quantum: int = facts["quantum"]
+        self.machines = LETTERS[: facts["machines"]]
+        self.images = {name: self._image(name) for name in facts["images"]}
+        self.codes = Codes(self.machines, self.read("codes.json"))
+        if not (self.write("class.json", facts) and self.write("codes.json", self.codes.codes)):
+            raise BadFolder(self.trouble)
+
+    def close(self) -> None:
+        """Leaves the folder to others."""
+        os.close(self._lock)
+
+    def session(self, patience: float) -> Session:
+        """A new machine of this class, of which each process has the program that the class was begun with."""
+        check = self.check_program
+        return Session(self.program, self.images, quantum=self.quantum, patience=patience, check=check)
+
+    def check_program(self) -> bool:
+        """Whether the program is there. Raises BadFolder where another stands in its place, as after an upgrade."""
+        try:
+            if _digest(self.program) == self._program_digest:
+                return True
+        except FileNotFoundError:
+            return False
+        raise BadFolder(f"the class has ended, since {self.program} is another program now")
+
+    def read(self, name: str) -> dict[str, Any]:
+        """An object that was kept; an empty one if there is none."""
+        with contextlib.suppress(FileNotFoundError):
+            with contextlib.suppress(ValueError):
+                value = json.loads((self.folder / name).read_text("utf-8"))
+                if isinstance(value, dict):
+                    return value
+            raise BadFolder(f"{self.folder / name} isn't what a server wrote")
+        return {}
+
+    def write(self, name: str, value: Mapping[str, Any]) -> bool:
+        """Keeps an object, as a whole or not at all; whether that went well. `trouble` says why not."""
+        new = self.folder / f"{name}.new"
+        try:
+            new.write_text(json.dumps(value, indent=1), "utf-8")
+            new.replace(self.folder / name)
+        except OSError as error:
+            self.trouble = f"{name} isn't saved: {error.strerror}"
+            return False
+        self.trouble = ""
+        return True
+
+    def _image(self, name: str) -> pathlib.Path:
+        return self.folder / "images" / f"{name}.elf"
+
+    def _begin(self, images: Mapping[str, pathlib.Path], quantum: int | None, machines: int | None) -> dict[str, Any]:
+        """What a new class is begun with; the images are copied."""
+        for name in images:
+            if not re.fullmatch(r"[A-Za-z0-9._-]{1,32}", name):
+                raise BadFolder(f"image {name}: a name has 1 to 32 letters, digits, dots, underscores and hyphens")
+        with Session(self.program, images, quantum=quantum):
+            pass  # the program takes them
+        (self.folder / "images").mkdir(exist_ok=True)
+        for name, path in images.items():
+            shutil.copyfile(path, self._image(name))
+        digests = {name: _digest(self._image(name)) for name in images}
+        facts = {"quantum": quantum or 100, "machines": machines or 1, "images": digests}
+        return {"program": _digest(self.program)} | facts
+
+    def _facts(
+        self, kept: dict[str, Any], images: Mapping[str, pathlib.Path], quantum: int | None, machines: int | None
+    ) -> dict[str, Any]:
+        """What the class was begun with, compared with what is there and what is named now."""
+        if _digest(self.program) != kept["program"]:
+            raise BadFolder(f"{self.folder} was begun with another program than {self.program}")
+        named = {name: _digest(path) for name, path in images.items()}
+        there = {name: _digest(self._image(name)) for name in kept["images"]}
+        if there != kept["images"] or images and named != there:
+            raise BadFolder(f"{self.folder} was begun with other images")
+        if quantum not in (None, kept["quantum"]):
+            raise BadFolder(f"{self.folder} was begun with --quantum {kept['quantum']}")
+        return kept | {"machines": max(kept["machines"], machines or 1)}
+
+
+def _digest(path: pathlib.Path) -> str:
+    return hashlib.sha256(path.read_bytes()).hexdigest()

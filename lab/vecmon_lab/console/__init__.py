@@ -1,0 +1,1 @@
+"""A prompt at one user's machine."""

@@ -1,0 +1,78 @@
+"""A prompt at one user's machine: lines of the monitor without the user's digit, and some commands beside them."""
+
+import argparse
+import contextlib
+import functools
+import os
+import pathlib
+import sys
+from collections.abc import Callable, Iterator
+
+from ..guest.guest import QUANTUM, Guest, started
+from ..guest.symbols import Symbols
+from ..lessons.lesson import SOURCE_SUFFIXES
+from ..machine.program import find_program
+from ..machine.session import Session
+from .lines import Console
+from .show import Screen
+
+MARK = "vecmon> "
+
+
+def add_arguments(parser: argparse.ArgumentParser) -> None:
+    """The words of `vecmon-lab console`."""
+    told = "an image, or an assembler source (.s, .S); without one there is no program yet"
+    parser.add_argument("image", metavar="IMAGE", type=pathlib.Path, nargs="?", help=told)
+
+
+def run(arguments: argparse.Namespace) -> int:
+    """Carries out lines up to the end. Raises LabError and OSError where the image or the source isn't taken."""
+    path: pathlib.Path | None = arguments.image
+    is_terminal = sys.stdin.isatty() and sys.stdout.isatty()
+    is_able = is_terminal and os.environ.get("TERM", "dumb") != "dumb"
+    screen = Screen(is_able and not os.environ.get("NO_COLOR"))
+    with _console(path, screen) as console:
+        prompt: Callable[[], str] = functools.partial(_plain_line, MARK if is_terminal else "")
+        if is_able:
+            from .prompt import terminal_prompt  # whose library takes a third of a second
+
+            prompt = terminal_prompt(MARK, console.choices, console.bar)
+        console.tell_place()
+        while console.is_open:
+            try:
+                console.do(prompt())
+            except EOFError:
+                break
+            except KeyboardInterrupt:  # at the prompt; what is carried out takes Ctrl-C otherwise
+                if not is_terminal:
+                    raise
+                print()
+    return 0
+
+
+@contextlib.contextmanager
+def _console(path: pathlib.Path | None, screen: Screen) -> Iterator[Console]:
+    """A console at a machine of its own with what the path names."""
+    if path is not None and path.suffix not in SOURCE_SUFFIXES:
+        with started(path, write=screen.write) as guest:
+            symbols = Symbols.read(path)
+            screen.say(*filter(None, [symbols.trouble]))
+            yield Console(guest, screen, symbols)
+        return
+    with Session(find_program(), quantum=QUANTUM) as session:
+        guest = Guest(session, write=screen.write)
+        guest.ask("enter")
+        console = Console(guest, screen, Symbols())
+        if path is not None:
+            console.source(path)
+        yield console
+
+
+def _plain_line(mark: str) -> str:
+    """The next line of standard input; what isn't UTF-8 in it is no ASCII either. Raises EOFError at the end."""
+    print(mark, end="", flush=True)
+    line = sys.stdin.buffer.readline()
+    if not line:
+        print(end="\n" if mark else "")
+        raise EOFError
+    return line.decode("utf-8", "replace")

@@ -1,0 +1,59 @@
+"""The prompt of the console at a terminal: editing, history, completion, pasted lines as one entry, and a bar, by prompt_toolkit."""
+
+import os
+import pathlib
+from collections.abc import Callable, Iterable
+
+from prompt_toolkit import PromptSession
+from prompt_toolkit.completion import CompleteEvent, Completer, Completion, PathCompleter
+from prompt_toolkit.document import Document
+from prompt_toolkit.history import FileHistory, History, InMemoryHistory
+from prompt_toolkit.output import ColorDepth
+
+from ..assembler.commands import COMMANDS
+
+Choices = Callable[[str], Iterable[str]]
+"""What may stand for a word of a command's form, as xN."""
+
+
+def terminal_prompt(mark: str, choices: Choices, bar: Callable[[], str]) -> Callable[[], str]:
+    """What asks for an entry, of one line or of several that are pasted. It raises EOFError at Ctrl-D."""
+    session: PromptSession[str] = PromptSession(
+        mark,
+        completer=_Names(choices),
+        complete_while_typing=False,
+        history=_history(),
+        bottom_toolbar=bar,
+        color_depth=ColorDepth.DEPTH_1_BIT if os.environ.get("NO_COLOR") else None,
+    )
+    return session.prompt
+
+
+class _Names(Completer):
+    """Completes a command, and then what its form has at the place of the word."""
+
+    def __init__(self, choices: Choices) -> None:
+        self._choices = choices
+
+    def get_completions(self, document: Document, complete_event: CompleteEvent) -> Iterable[Completion]:
+        """What the word before the cursor may be."""
+        *before, word = document.current_line_before_cursor.lstrip().split(" ")
+        form = COMMANDS[before[0]].form.split() if before and before[0] in COMMANDS else ["COMMAND"]
+        kind = form[len(before)] if len(before) < len(form) else ""
+        if kind == "FILE":
+            yield from PathCompleter(expanduser=True).get_completions(Document(word), complete_event)
+        for choice in sorted(self._choices(kind)):
+            if choice.startswith(word):
+                yield Completion(f"{choice} ", -len(word), display=choice)
+
+
+def _history() -> History:
+    """The entries of this and earlier times, or of this time alone where no file can be kept."""
+    state = pathlib.Path(os.environ.get("XDG_STATE_HOME") or pathlib.Path.home() / ".local" / "state")
+    file = state / "vecmon-lab" / "console"
+    try:
+        file.parent.mkdir(parents=True, exist_ok=True)
+        file.touch()
+    except OSError:
+        return InMemoryHistory()
+    return FileHistory(str(file))

@@ -1,0 +1,1 @@
+"""Exercises, and grades of the answers to them."""

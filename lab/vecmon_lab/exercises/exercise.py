@@ -1,0 +1,146 @@
+"""Exercises: what an answer is given, what is expected of it, and its limits. The file exercise.toml of a folder has them."""
+
+import pathlib
+import struct
+import tomllib
+from collections.abc import Mapping, Sequence
+from dataclasses import dataclass, replace
+from typing import Any
+
+from .. import LabError
+from ..tables.table import read_table
+
+OURS = pathlib.Path(__file__).parent
+TICKS, OUTPUT_BYTES = 100_000, 4096  # the limits where an exercise has none
+PLACE_BYTES = 1 << 20  # all that a user's pages have
+
+_NAMES = {bool: "true or false", int: "a number", str: "a text", list: "a list", dict: "a table"}
+_REGISTERS = dict(read_table("registers")) | {f"x{number}": f"x{number}" for number in range(32)}
+_FORMATS = {"i8": "b", "u8": "B", "i16": "h", "u16": "H", "i32": "i", "u32": "I", "i64": "q", "u64": "Q"}  # of struct
+
+
+@dataclass(frozen=True)
+class Place:
+    """Numbers in memory, one after another, of a type from `u8` to `i64`."""
+
+    address: int
+    type: str
+    numbers: Sequence[int]
+
+    @property
+    def data(self) -> bytes:
+        """The bytes of the numbers."""
+        return struct.pack(f"<{len(self.numbers)}{_FORMATS[self.type]}", *self.numbers)
+
+    def holding(self, data: bytes) -> "Place":
+        """The place with the numbers that these bytes are."""
+        return replace(self, numbers=struct.unpack(f"<{len(self.numbers)}{_FORMATS[self.type]}", data))
+
+
+@dataclass(frozen=True)
+class Results:
+    """What is looked up after a run, or expected there: registers by number, as x10, memory, and the output, if any."""
+
+    registers: Mapping[str, int]
+    memory: Sequence[Place]
+    output: bytes | None
+
+
+@dataclass(frozen=True)
+class Case:
+    """What an answer is given, and what is expected of it."""
+
+    name: str
+    is_hidden: bool
+    policy: str
+    registers: Mapping[str, int]
+    memory: Sequence[Place]
+    expected: Results
+
+
+@dataclass(frozen=True)
+class Exercise:
+    """A title; lines of the monitor before each case, without the user's digit; limits of each case; the cases.
+
+    reference: the answer whose results are expected, in the places that the cases name; else the cases have them
+    """
+
+    title: str
+    set_up: Sequence[str]
+    ticks: int
+    output_bytes: int
+    cases: Sequence[Case]
+    reference: pathlib.Path | None
+
+
+def read_exercise(folder: pathlib.Path) -> Exercise:
+    """The exercise in a folder, or the one of this name that comes with the lab. Raises LabError and OSError."""
+    path = (folder if folder.exists() else OURS / folder.name) / "exercise.toml"
+    if not path.is_file():
+        raise LabError(f"{folder} is no exercise: there is no file {folder / 'exercise.toml'}")
+    try:
+        entries = tomllib.loads(path.read_text("utf-8"))
+    except (tomllib.TOMLDecodeError, UnicodeDecodeError) as error:
+        raise LabError(f"{path}: {error}") from error
+    defaults = {"title": folder.name, "set_up": [], "limits": {}, "reference": "", "cases": []}
+    table = _taken(str(path), entries, defaults)
+    limits = _taken(f"{path}: limits", table["limits"], {"ticks": TICKS, "output": OUTPUT_BYTES})
+    reference = path.parent / table["reference"] if table["reference"] else None
+    cases = [_case(f"{path}: case {number}", each, reference) for number, each in enumerate(table["cases"], 1)]
+    if not cases or len({case.name for case in cases}) < len(cases) or min(limits.values()) < 1:
+        raise LabError(f"{path}: there is one case at least, no two have one name, and limits are from 1 up")
+    return Exercise(table["title"], [*map(str, table["set_up"])], limits["ticks"], limits["output"], cases, reference)
+
+
+def _taken(where: str, entries: Any, defaults: dict[str, Any]) -> dict[str, Any]:
+    """A table's entries, and defaults for those that are missing. Raises LabError for others, and for other types."""
+    if not isinstance(entries, dict):
+        raise LabError(f"{where} isn't a table")
+    for key, value in entries.items():
+        if key not in defaults:
+            raise LabError(f"{where}: there is nothing that is called {key}")
+        if type(value) is not type(defaults[key]):
+            raise LabError(f"{where}: {key} isn't {_NAMES[type(defaults[key])]}")
+    return defaults | entries
+
+
+def _case(where: str, entries: Any, reference: pathlib.Path | None) -> Case:
+    """A case. What a reference is to give is named alone: registers in a list, how many numbers, and output = true."""
+    defaults = {"name": where.split(": ")[-1], "hidden": False, "policy": "keep", "registers": {}, "memory": []}
+    table = _taken(where, entries, defaults | {"expected": {}})
+    results = {"registers": [], "output": False} if reference else {"registers": {}, "output": ""}
+    expected, output = _taken(f"{where}: expected", table["expected"], results | {"memory": []}), None
+    if "output" in table["expected"]:
+        output = b"" if reference else expected["output"].encode()
+    asked = dict.fromkeys(map(str, expected["registers"]), 0) if reference else expected["registers"]
+    places = [_place(where, each, bool(reference)) for each in expected["memory"]]
+    if table["policy"] not in ("keep", "ones") or not (asked or places or output is not None):
+        raise LabError(f"{where}: policy is keep or ones, and registers, memory or output are expected")
+    memory = [_place(where, each, False) for each in table["memory"]]
+    inputs = (table["policy"], _registers(where, table["registers"]), memory)
+    return Case(table["name"], table["hidden"], *inputs, Results(_registers(where, asked), places, output))
+
+
+def _registers(where: str, named: dict[str, Any]) -> dict[str, int]:
+    """Values of 64 bits by register."""
+    for name, value in named.items():
+        if _REGISTERS.get(name, "x0") == "x0" or type(value) is not int or not -(1 << 63) <= value < 1 << 64:
+            raise LabError(f"{where}: {name} isn't one of ra to t6 or x1 to x31 with a number of 64 bits")
+    return {_REGISTERS[name]: value % (1 << 64) for name, value in named.items()}
+
+
+def _place(where: str, entries: Any, by_reference: bool) -> Place:
+    """A place in memory: `at`, and the numbers, or how many, by their type; or a text."""
+    try:
+        address = entries.pop("at")
+        ((kind, numbers),) = entries.items()
+        if by_reference:
+            numbers = [0] * min(numbers, PLACE_BYTES)
+        elif kind == "text":
+            kind, numbers = "u8", list(numbers.encode())
+        place = Place(address, kind, numbers)
+        if not 0 <= address < 1 << 48 or not 0 < len(place.data) <= PLACE_BYTES:
+            raise ValueError
+    except (AttributeError, KeyError, TypeError, ValueError, struct.error) as error:
+        raise LabError(f"{where}: a place is `at`, an address, and a text or numbers from i8 to u64") from error
+    return place

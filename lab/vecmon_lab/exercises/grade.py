@@ -1,0 +1,106 @@
+"""Grades answers to an exercise: a table, or a row of CSV for each answer, and where each one goes wrong first."""
+
+import argparse
+import csv
+import os
+import pathlib
+import sys
+from concurrent.futures import ThreadPoolExecutor
+from functools import partial
+
+from .. import LabError
+from ..machine.program import find_program
+from ..tables.table import table_lines
+from .answer import attempt, read_answer, settled
+from .exercise import Exercise, Results, read_exercise
+
+Grades = list[tuple[pathlib.Path, list[str]]]
+"""Answers, each with why it fails, or nothing, for each case."""
+
+EXERCISE = "a folder with a file exercise.toml, or the name of an exercise that comes with the lab"
+
+
+def add_arguments(parser: argparse.ArgumentParser) -> None:
+    """The words of `vecmon-lab grade`."""
+    parser.add_argument("exercise", metavar="EXERCISE", type=pathlib.Path, help=EXERCISE)
+    parser.add_argument("answers", metavar="ANSWER", type=pathlib.Path, nargs="+", help="an image, source or script")
+    form = parser.add_mutually_exclusive_group()
+    form.add_argument("--csv", action="store_true", help="a row of CSV for each answer, below a header, and no table")
+    form.add_argument("--rows", action="store_true", help="the same without the header")
+
+
+def run(arguments: argparse.Namespace) -> int:
+    """Grades the answers side by side; 1 if one of them fails. Raises LabError and OSError for a bad exercise."""
+    program = find_program()
+    exercise = settled(program, read_exercise(arguments.exercise))
+    with ThreadPoolExecutor(os.cpu_count()) as pool:
+        grades = list(zip(arguments.answers, pool.map(partial(grade, program, exercise), arguments.answers)))
+    if arguments.csv or arguments.rows:
+        _print_rows(exercise, grades, arguments.csv)
+    else:
+        _print_table(exercise, grades)
+    return int(any(any(outcomes) for _, outcomes in grades))
+
+
+def grade(program: pathlib.Path, exercise: Exercise, path: pathlib.Path) -> list[str]:
+    """Why an answer fails, or nothing, for each case, whatever the file is."""
+    outcomes = []
+    for case in exercise.cases:
+        try:
+            outcomes.append(difference(case.expected, attempt(program, read_answer(path), exercise, case)))
+        except LabError as error:
+            outcomes.append(str(error))
+    return outcomes
+
+
+def difference(expected: Results, found: Results) -> str:
+    """The first place where something else is found than is expected, in words; or nothing."""
+    pairs: list[tuple[str, int | bytes | None, int | bytes | None]] = []
+    for name, value in expected.registers.items():
+        signed = [each - (each >> 63 << 64) for each in (value, found.registers[name])]
+        pairs.append((name, signed[0], signed[1]))
+    for place, left in zip(expected.memory, found.memory):
+        size = len(place.data) // len(place.numbers)
+        for number, values in enumerate(zip(place.numbers, left.numbers)):
+            pairs.append((f"element {number}, {place.type} at {place.address + number * size:#x}", *values))
+    pairs.append(("output", expected.output, found.output))
+    differing = ((where, _shown(value), _shown(other)) for where, value, other in pairs if value != other)
+    return next((f"{where}: expected {value}, found {other}" for where, value, other in differing), "")
+
+
+def _shown(value: int | bytes | None) -> str:
+    """A number, or the beginning of an output."""
+    return repr(value.decode("utf-8", "replace"))[:60] if isinstance(value, bytes) else str(value)
+
+
+def _reasons(exercise: Exercise, outcomes: list[str]) -> list[str]:
+    """Why cases fail, each reason with their names, if these aren't all; of a hidden one no more than that."""
+    if len(set(outcomes)) == 1 and not all(case.is_hidden for case in exercise.cases):
+        return outcomes[:1]
+    cases: dict[str, list[str]] = {}
+    for case, outcome in zip(exercise.cases, outcomes):
+        if outcome:
+            cases.setdefault("fails" if case.is_hidden else outcome, []).append(case.name)
+    return [f"{', '.join(names)}: {reason}" for reason, names in cases.items()]
+
+
+def _print_rows(exercise: Exercise, grades: Grades, with_header: bool) -> None:
+    """Prints a row of CSV for each answer."""
+    writer = csv.writer(sys.stdout, lineterminator="\n")
+    if with_header:
+        writer.writerow(["answer", "passed", "of", *(case.name for case in exercise.cases), "reason"])
+    for path, outcomes in grades:
+        marks = ["fails" if outcome else "passes" for outcome in outcomes]
+        writer.writerow([path, outcomes.count(""), len(marks), *marks, *(_reasons(exercise, outcomes) or [""])[:1]])
+
+
+def _print_table(exercise: Exercise, grades: Grades) -> None:
+    """Prints the table, and below it why cases fail."""
+    rows = [["answer", *(case.name for case in exercise.cases), "passed"]]
+    for path, outcomes in grades:
+        marks = ["-" if outcome else "ok" for outcome in outcomes]
+        rows.append([str(path), *marks, f"{outcomes.count('')} of {len(marks)}"])
+    print("\n".join([exercise.title, *table_lines(rows, len(rows[0]))]))
+    for path, outcomes in grades:
+        for reason in filter(None, _reasons(exercise, outcomes)):
+            print(f"{path}: {reason}")

@@ -1,0 +1,1 @@
+"""A machine with an image, for gdb's remote protocol."""

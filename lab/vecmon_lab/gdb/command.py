@@ -1,0 +1,147 @@
+"""The remote serial protocol of gdb over standard input and output: `target remote | vecmon-lab gdb IMAGE`.
+
+gdb begins the command and speaks with it over a pipe, so that nothing listens. Packets and their answers are those of gdb's manual, "gdb
+Remote Serial Protocol": a stop is `S` and a signal's number, an exit `W` and the status, output `O` and its bytes, an error `E` and a
+number, which is that of the machine's refusal; an empty answer says that such a packet isn't taken here.
+"""
+
+import argparse
+import contextlib
+import pathlib
+import re
+
+from ..guest.changes import CONTROL
+from ..guest.guest import Guest, Stop, control_values, started
+from ..instructions.accesses import LINE_BYTES
+from ..machine.lines import BadLine, is_look, words_of
+from .packets import Link
+
+INTERRUPTED, ILLEGAL, TRAPPED, MISALIGNED, UNMAPPED = "S02", "S04", "S05", "S0a", "S0b"  # SIGINT, ILL, TRAP, BUS, SEGV
+FAULTS = {0: MISALIGNED, 1: UNMAPPED, 2: ILLEGAL, 5: UNMAPPED, 7: UNMAPPED}  # by cause
+REFUSED, THERE_ALREADY = "E04", "E13"
+PACKET_BYTES = 512  # so that what gdb writes at once, in two digits a byte, isn't too much for `poke`
+DESCRIPTION = pathlib.Path(__file__).with_name("registers.xml").read_text("ascii")
+PC, FIRST_CONTROL = 32, 33  # numbers of registers: x0 to x31, pc, the control registers, v0 to v31
+FIRST_VECTOR = FIRST_CONTROL + len(CONTROL)
+
+
+def add_arguments(parser: argparse.ArgumentParser) -> None:
+    """The words of `vecmon-lab gdb`."""
+    parser.add_argument("image", metavar="IMAGE", type=pathlib.Path, help="the image that the machine loads")
+
+
+def run(arguments: argparse.Namespace) -> int:
+    """Answers gdb until it goes away. Raises LabError and OSError where the image isn't taken."""
+    link = Link()
+    with started(arguments.image, write=lambda data: link.send(f"O{data.hex()}")) as guest:
+        target = Target(guest, link)
+        with contextlib.suppress(EOFError, BrokenPipeError):
+            while target.is_attached:
+                link.send(target.answer(link.receive()))
+    return 0
+
+
+class Target:
+    """A guest, by gdb's packets. It is attached until gdb detaches."""
+
+    def __init__(self, guest: Guest, link: Link) -> None:
+        self.is_attached = True
+        self._guest, self._link = guest, link
+        self._last = TRAPPED  # the last stop
+
+    def answer(self, packet: str) -> str:
+        """The answer to a packet; output comes before it, by itself. Raises EOFError where gdb ends the program."""
+        try:
+            return self._answer(packet[:1], re.split("[,:=]", packet[1:]))
+        except ValueError:  # what ought to be a number isn't
+            return REFUSED
+
+    def _answer(self, letter: str, words: list[str]) -> str:
+        match letter, words:
+            case "q", ["Supported", *_]:
+                return f"PacketSize={PACKET_BYTES:x};qXfer:features:read+;QStartNoAckMode+"
+            case "q", ["Xfer", "features", "read", "target.xml", offset, length]:
+                part = DESCRIPTION[int(offset, 16) :]
+                return ("m" if len(part) > int(length, 16) else "l") + part[: int(length, 16)]
+            case "q", ["Rcmd", digits]:
+                return self._monitor(bytes.fromhex(digits).decode("latin-1")).encode().hex()
+            case ("Q", ["StartNoAckMode"]) | ("H", _):
+                return "OK"
+            case "?", _:
+                return self._last
+            case ("c" | "C"), _:
+                return self._stopped(self._guest.go(None, self._link.is_interrupted), INTERRUPTED)
+            case ("s" | "S"), _:
+                return self._stopped(self._guest.step(), TRAPPED)
+            case "g", _:
+                return "".join(self._scalars())
+            case "p", [number]:
+                return self._register(int(number, 16))
+            case "P", [number, digits]:
+                return self._write_register(int(number, 16), digits)
+            case "m", [address, length]:  # gdb asks again for what is left
+                most = LINE_BYTES - int(address, 16) % LINE_BYTES
+                return self._guest.ask(f"peek {address} {min(int(length, 16), most)}")[0][0].split()[-1]
+            case "M", [address, _, digits]:
+                return self._do(f"poke {address} {digits}")
+            case ("Z" | "z"), ["0" | "1", address, _]:
+                return self._do(f"{'break' if letter == 'Z' else 'unbreak'} {address}")
+            case "D", _:
+                self.is_attached = False
+                return "OK"
+            case "k", _:
+                raise EOFError
+        return ""
+
+    def _stopped(self, stop: Stop | None, signal: str) -> str:
+        """A stop by its signal, or the program's end; without one the signal. Why it faulted is put out in words."""
+        self._guest.empty_buffer()
+        self._last = TRAPPED if stop else signal
+        if stop and stop.kind == "exit":
+            self._last = f"W{stop.status:02x}"
+        if stop and stop.kind == "fault":
+            words = f"vecmon: {self._guest.explain(stop)}\n"
+            self._link.send(f"O{words.encode().hex()}")
+            self._last = FAULTS[stop.cause]
+        return self._last
+
+    def _scalars(self) -> list[str]:
+        """The registers x0 to x31 and pc."""
+        pc, *scalars = " ".join(self._guest.ask("regs")[0]).split()[1::2]
+        return [_turned(digits) for digits in (*scalars, pc)]
+
+    def _register(self, number: int) -> str:
+        """The register of a number."""
+        if number < FIRST_CONTROL:
+            return self._scalars()[number]
+        if number >= FIRST_VECTOR:
+            return "".join(self._guest.ask(f"vreg v{number - FIRST_VECTOR} 8")[0][0].split()[1:]) or REFUSED
+        values = control_values(self._guest.ask("vcsr")[0][0])
+        return values[CONTROL[number - FIRST_CONTROL]].to_bytes(8, "little").hex()
+
+    def _write_register(self, number: int, digits: str) -> str:
+        """Writes a register; the control registers can't be written from outside."""
+        if number >= FIRST_VECTOR:
+            return self._do(f"vset v{number - FIRST_VECTOR} {digits}")
+        if number >= FIRST_CONTROL:
+            return REFUSED
+        return self._do(f"setpc {_turned(digits)}" if number == PC else f"set x{number} {_turned(digits)}")
+
+    def _monitor(self, line: str) -> str:
+        """The answer to gdb's `monitor LINE`, for a line of the user's that only looks, or sets the policy."""
+        if not is_look(f"1 {line}") and words_of(f"1 {line}")[:1] != ["policy"]:
+            return "monitor takes policy and lines that look, as regs, vreg, dis and trace; gdb does the rest\n"
+        try:
+            return "".join(f"{part}\n" for part in self._guest.ask(line)[0])
+        except BadLine as error:
+            return f"{error}\n"
+
+    def _do(self, command: str) -> str:
+        """What gdb is told after a command."""
+        ((answer,),) = self._guest.ask(command)
+        return "OK" if answer in ("ok", THERE_ALREADY) else answer
+
+
+def _turned(digits: str) -> str:
+    """The digits of a number, two a byte, in the other order of bytes."""
+    return bytes.fromhex(digits)[::-1].hex()

@@ -1,0 +1,56 @@
+"""Packets of gdb's remote serial protocol over a pipe (gdb's manual, "gdb Remote Serial Protocol").
+
+A packet is `$DATA#SUM`, with SUM the sum of DATA's bytes modulo 256 in two hexadecimal digits. Each is acknowledged by `+`, or asked for
+again by `-`, until gdb says that it needs no such acknowledgements. A byte 03 outside of packets asks for a stop.
+"""
+
+import os
+import re
+import select
+import sys
+
+from ..output import write_out
+
+_PACKET = re.compile(rb"\$([^$#]*)#([0-9A-Fa-f]{2})")
+_INTERRUPT = b"\x03"
+
+
+class Link:
+    """The pipes from gdb and to it, which are standard input and output."""
+
+    def __init__(self) -> None:
+        self._source = sys.stdin.fileno()
+        self._unread = b""
+        self._acknowledges = True
+
+    def receive(self) -> str:
+        """The data of the next packet; what comes between packets is dropped. Raises EOFError at the end."""
+        while True:
+            while not (packet := _PACKET.search(self._unread)):
+                self._read()
+            self._unread = self._unread[packet.end() :]
+            data, is_good = packet[1], sum(packet[1]) % 256 == int(packet[2], 16)
+            if self._acknowledges:
+                write_out(b"+" if is_good else b"-")
+            if is_good:
+                self._acknowledges &= data != b"QStartNoAckMode"
+                return data.decode("latin-1")
+
+    def send(self, text: str) -> None:
+        """Sends a packet."""
+        data = re.sub(rb"[#$}*]", lambda odd: b"}" + bytes([odd[0][0] ^ 0x20]), text.encode("latin-1"))
+        write_out(b"$" + data + b"#%02x" % (sum(data) % 256))
+
+    def is_interrupted(self) -> bool:
+        """Whether gdb asks for a stop, while it waits for an answer. Raises EOFError at the end."""
+        if _INTERRUPT not in self._unread and select.select([self._source], [], [], 0)[0]:
+            self._read()
+        before, interrupt, behind = self._unread.partition(_INTERRUPT)
+        self._unread = before + behind
+        return bool(interrupt)
+
+    def _read(self) -> None:
+        data = os.read(self._source, 65536)
+        if not data:
+            raise EOFError
+        self._unread += data

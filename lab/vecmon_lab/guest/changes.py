@@ -1,0 +1,232 @@
+"""What an instruction changed: registers, elements of vector registers, control registers and memory."""
+
+import itertools
+from collections.abc import Iterator, Sequence
+from dataclasses import dataclass
+from fractions import Fraction
+
+from ..instructions.accesses import PAGE_BYTES, REGISTER_BYTES, Span, stored_spans, vector_instruction
+from ..instructions.reasons import VectorView
+from ..instructions.words import Operand
+from .guest import Guest, Stop, control_values
+
+WORDS_AT_ONCE = 16  # that a look shows
+SCALARS = [f"x{number}" for number in range(32)]
+CONTROL = ("vl", "vtype", "vstart", "vxrm", "vxsat")
+ECALL, OP_V, SYSTEM, LOAD_FP, STORE_FP = 0x73, 0x57, 0x73, 0x07, 0x27
+CONTROLLING = (OP_V, SYSTEM, LOAD_FP, STORE_FP)  # opcodes of what may write control registers
+NO_REGISTER = (0x63, 0x23, 0x0F, OP_V, LOAD_FP, STORE_FP)  # those of what writes no scalar register, but for
+OP_VSET, OP_MVV, FROM_VECTOR = 7, 2, 0b010000  # funct3 of vset; that of vmv.x.s, vcpop and vfirst, and their funct6
+
+
+@dataclass(frozen=True)
+class RegisterChange:
+    """A scalar register (`x10`) or a control register (`vl`, `vtype`, `vstart`, `vxrm`, `vxsat`)."""
+
+    name: str
+    before: int
+    after: int
+
+    def __str__(self) -> str:
+        if self.name == "vtype":
+            return f"vtype={vtype_text(self.after)}"
+        return f"{self.name}={self.after:x}" if self.name.startswith("x") else f"{self.name}={self.after}"
+
+
+@dataclass(frozen=True)
+class ElementsChange:
+    """Elements of the group that begins at a vector register, one after another.
+
+    register: the number of the group's first register
+    width: of an element, in bits; 1 in a mask, of which all bits from the first to the last one that changed stand here
+    first: the number of the first element; before, after: values
+    """
+
+    register: int
+    width: int
+    first: int
+    before: Sequence[int]
+    after: Sequence[int]
+
+    def __str__(self) -> str:
+        last = self.first + len(self.after) - 1
+        numbers = f"{self.first}" if last == self.first else f"{self.first}..{last}"
+        values = ("" if self.width == 1 else ",").join(f"{value:0{-(-self.width // 4)}x}" for value in self.after)
+        return f"v{self.register}.e{self.width}[{numbers}]={values}"
+
+
+@dataclass(frozen=True)
+class MemoryChange:
+    """Bytes of memory that changed, one after another."""
+
+    address: int
+    before: bytes
+    after: bytes
+
+    def __str__(self) -> str:
+        return f"[{self.address:x}]={self.after.hex()}"
+
+
+Change = RegisterChange | ElementsChange | MemoryChange
+
+
+@dataclass(frozen=True)
+class Carried:
+    """An instruction that was carried out, or that stopped the program instead.
+
+    word, text: 0 and "" where nothing can be fetched
+    """
+
+    pc: int
+    word: int
+    text: str
+    changes: list[Change]
+    stop: Stop | None
+
+
+@dataclass
+class Registers:
+    """All registers: the scalar ones, the control registers by name, and the bytes of the vector ones."""
+
+    x: list[int]
+    control: dict[str, int]
+    v: bytearray
+
+    def copy(self) -> "Registers":
+        """The same registers, which later looks don't change."""
+        return Registers(list(self.x), dict(self.control), bytearray(self.v))
+
+    def groups(self, operand: Operand) -> Iterator[tuple[int, list[int]]]:
+        """The first register of each of an operand's groups, and the elements of the group."""
+        for register in range(operand.registers.start, min(operand.registers.stop, 32), operand.group):
+            group = self.v[register * REGISTER_BYTES : (register + operand.group) * REGISTER_BYTES]
+            yield register, _elements(group, operand.eew)
+
+
+class Stepper:
+    """Steps a guest, and tells what each instruction changed. Whoever changes the guest otherwise calls `look` then.
+
+    registers: as they are now; where it is brief, it looks at the control registers and v0 alone
+    """
+
+    def __init__(self, guest: Guest, is_brief: bool = False) -> None:
+        self.guest, self._is_brief = guest, is_brief
+        self.registers = Registers([0] * 32, {}, bytearray(32 * REGISTER_BYTES))
+        self.look()
+
+    def look(self) -> list[Change]:
+        """Looks at all registers; those that changed since the last look, elements of each vector register by SEW."""
+        self._listing: dict[int, tuple[int, str]] = {}  # words and texts by address
+        before = self.registers.copy()
+        looks = ["regs", "vcsr", *(f"vreg v{number} 64" for number in range(32))]
+        self._take_in(looks, self.guest.ask(*looks))
+        sew = VectorView(self.registers.control["vtype"] & 0x3F, 0).sew
+        singles = [Operand("destination", sew, Fraction(1), False, 1, range(32))]
+        return self._changes_since(before, singles)
+
+    def step(self) -> Carried:
+        """Carries out one instruction. What it writes to file 1 is handed on, or kept for `Guest.output`."""
+        pc, before = self.guest.pc, self.registers.copy()
+        word, text = self.fetch(pc)
+        if word == ECALL:
+            self.guest.empty_buffer()
+        instruction = vector_instruction(word, before.control["vtype"])
+        targets = [operand for operand in instruction.operands if operand.noun == "destination"] if instruction else []
+        looks, spans = _looks(word, targets), list[Span]()
+        if self._is_brief:
+            looks = [look for look in looks if look in ("vcsr", "vreg v0 64")]
+        elif text:
+            spans = stored_spans(word, before.x, before.control, before.v)
+        peeks = [f"peek {address:x} {length}" for address, length in spans]
+        stop, answers = self.guest.step_between(peeks, looks + peeks)
+        self._take_in(looks, answers[len(peeks) :])
+        if word == ECALL:
+            self.guest.empty_buffer()
+        stored = [change for span in zip(spans, answers, answers[-len(spans) :]) for change in _memory_changes(*span)]
+        for change in stored:
+            for address in range(change.address & ~3, change.address + len(change.after), 4):
+                self._listing.pop(address, None)
+        return Carried(pc, word, text, [*self._changes_since(before, targets), *stored], stop)
+
+    def fetch(self, pc: int) -> tuple[int, str]:
+        """The word at an address and its text; 0 and "" where nothing can be fetched."""
+        if pc not in self._listing:
+            number = min(WORDS_AT_ONCE, (PAGE_BYTES - pc % PAGE_BYTES) // 4)
+            for line in self.guest.ask(f"dis {pc:x} {number}")[0]:
+                if len(line) > 26:  # a refusal is shorter
+                    self._listing[int(line[:16], 16)] = int(line[17:25], 16), line[26:]
+        return self._listing.get(pc, (0, ""))
+
+    def _take_in(self, looks: Sequence[str], answers: Sequence[Sequence[str]]) -> None:
+        """Takes in what looks at registers show."""
+        for look, answer in zip(looks, answers):
+            words = " ".join(answer).split()
+            if look == "regs":
+                self.guest.pc = int(words[1], 16)
+                self.registers.x = [int(value, 16) for value in words[3::2]]
+            elif look == "vcsr":
+                self.registers.control = control_values(answer[0])
+            else:
+                at = int(words[0][1:]) * REGISTER_BYTES
+                parts = [int(value, 16).to_bytes(8, "little") for value in words[1:]]
+                self.registers.v[at : at + REGISTER_BYTES] = b"".join(parts)
+
+    def _changes_since(self, before: Registers, targets: Sequence[Operand]) -> list[Change]:
+        """The registers that aren't as they were, of vector registers those of some operands alone."""
+        now = self.registers
+        pairs = [*zip(SCALARS, before.x, now.x), *zip(CONTROL, before.control.values(), now.control.values())]
+        changes: list[Change] = [RegisterChange(*pair) for pair in pairs if pair[1] != pair[2]]
+        for target in targets:
+            changes += _element_changes(target, before, now)
+        return changes
+
+
+def _elements(group: bytes, width: int) -> list[int]:
+    """The elements of a group of registers, of so many bits each."""
+    if width == 1:
+        return [byte >> bit & 1 for byte in group for bit in range(8)]
+    size = width // 8
+    return [int.from_bytes(group[at : at + size], "little") for at in range(0, len(group), size)]
+
+
+def _looks(word: int, targets: Sequence[Operand]) -> list[str]:
+    """The looks at all registers that an instruction may write."""
+    opcode, funct3 = word & 0x7F, word >> 12 & 7
+    to_scalar = opcode == OP_V and (funct3 == OP_VSET or funct3 == OP_MVV and word >> 26 == FROM_VECTOR)
+    looks = [] if opcode in NO_REGISTER and not to_scalar else ["regs"]
+    looks += ["vcsr"] if opcode in CONTROLLING else []
+    numbers = {number for target in targets for number in target.registers if number < 32}
+    return looks + [f"vreg v{number} 64" for number in sorted(numbers)]
+
+
+def _element_changes(target: Operand, before: Registers, after: Registers) -> Iterator[ElementsChange]:
+    """The elements that changed in each of a destination's groups."""
+    for (register, old), (_, new) in zip(before.groups(target), after.groups(target)):
+        for first, last in runs(old, new, target.eew == 1):
+            yield ElementsChange(register, target.eew, first, old[first:last], new[first:last])
+
+
+def _memory_changes(span: Span, *answers: Sequence[str]) -> Iterator[MemoryChange]:
+    """The bytes of a span that changed, in runs, by what `peek` shows before and after; none where it isn't mapped."""
+    before, after = (bytes.fromhex("".join(answer[0].split()[2:])) for answer in answers)
+    for first, last in runs(before, after):
+        yield MemoryChange(span[0] + first, before[first:last], after[first:last])
+
+
+def runs(before: Sequence[int], after: Sequence[int], is_joined: bool = False) -> Iterator[tuple[int, int]]:
+    """Where values that changed follow each other: the first, and the one behind the last. Joined, they are one run."""
+    changed = [place for place, pair in enumerate(zip(before, after)) if pair[0] != pair[1]]
+    if is_joined and changed:
+        changed = list(range(changed[0], changed[-1] + 1))
+    for _, run in itertools.groupby(enumerate(changed), lambda pair: pair[1] - pair[0]):
+        places = [place for _, place in run]
+        yield places[0], places[-1] + 1
+
+
+def vtype_text(vtype: int) -> str:
+    """A vector type as assembler text has it, without spaces: `e32,m2,ta,ma`; or `vill`."""
+    if vtype >> 63:
+        return "vill"
+    view = VectorView(vtype, 0)
+    group = f"m{view.lmul}" if view.lmul >= 1 else f"mf{view.lmul.denominator}"
+    return f"e{view.sew},{group},{'ta' if vtype >> 6 & 1 else 'tu'},{'ma' if vtype >> 7 & 1 else 'mu'}"

@@ -1,0 +1,245 @@
+"""One user's program in a session: it is brought in, runs or is stepped, and its output is taken."""
+
+import contextlib
+import os
+import pathlib
+import re
+import struct
+from collections.abc import Callable, Iterator, Sequence
+from dataclasses import dataclass
+
+from .. import LabError
+from ..instructions.accesses import LINE_BYTES
+from ..instructions.reasons import VectorView, describe_stop
+from ..machine.lines import is_look
+from ..machine.program import find_program
+from ..machine.session import TOGETHER, Session
+from ..tables.table import read_table
+
+IMAGE_BYTES, ARGUMENT_BYTES = 4_194_304, 8192  # of a file; of the stack's 16 KiB
+QUANTUM, MOST_SLICES = 1000, 1000  # the longest slices, as the program is alone; and how many one line grants
+STACK_POINTER, STACK_END = 0x7FFF_EFC0, 0x7FFF_F000  # as `load` leaves them
+
+_STOP = re.compile("([a-z]+)(?: ([0-9]+))?(?: cause=([0-9]+))? pc=([0-9a-f]{16})(?: value=([0-9a-f]{16}))?")
+
+
+@dataclass(frozen=True)
+class Stop:
+    """Why a program stopped by itself.
+
+    kind: `exit`, with its status; `fault`, with its cause and value; `break`; `ebreak`
+    pc: where the program stands
+    line: what the machine said, without the user's digit
+    """
+
+    kind: str
+    pc: int
+    line: str
+    status: int = 0
+    cause: int = 0
+    value: int = 0
+
+    @classmethod
+    def read(cls, line: str) -> "Stop":
+        """The stop that a stop line tells, which has the user's digit."""
+        match = _STOP.fullmatch(line[2:])
+        assert match is not None, line
+        kind, status, cause, pc, value = match.groups("0")
+        return cls(kind, int(pc, 16), line[2:], int(status), int(cause), int(value, 16))
+
+
+class Guest:
+    """A user's program, alone in its session, which stands still between calls.
+
+    pc: where it stands, by what `start`, `go` and `step` were answered, or `regs` to a `Stepper`
+    ticks: how many of them `go` has granted, in whole slices
+    """
+
+    def __init__(self, session: Session, user: int = 1, write: Callable[[bytes], object] | None = None) -> None:
+        """A user of a session. `write` is given what the program writes, as it comes; else `output` answers it."""
+        self.session, self.user = session, user
+        self.pc = self.ticks = 0
+        self._kept: list[bytes] = []
+        self._hands_on, self._write = write is not None, write or self._kept.append
+
+    def ask(self, *commands: str) -> list[list[str]]:
+        """The lines of each answer to commands, without the user's digit. Some dozens go to the machine together."""
+        answers = list[list[str]]()
+        for at in range(0, len(commands), TOGETHER):
+            lines = [f"{self.user} {command}" for command in commands[at : at + TOGETHER]]
+            send = self.session.look_all if all(map(is_look, lines)) else self.session.do_all
+            answers += [[line[2:] for line in answer] for answer in send(lines)]
+        return answers
+
+    def peek(self, address: int, length: int) -> bytes:
+        """The bytes from an address on, which are all in pages that are mapped."""
+        end = address + length
+        looks = (f"peek {at:x} {min(LINE_BYTES, end - at)}" for at in range(address, end, LINE_BYTES))
+        return bytes.fromhex("".join(told.split()[2] for (told,) in self.ask(*looks)))
+
+    def start(self, image: str, policy: str = "keep", arguments: Sequence[str] = ()) -> None:
+        """The user enters, and an image is loaded; arguments, the first of them its name, are laid on the stack.
+
+        Without arguments nothing is written there. Raises LabError where the image is refused, or they have no room.
+        """
+        block = _argument_block(arguments)
+        _, (loaded,), _ = self.ask("enter", f"load {image}", f"policy {policy}")  # who is there already has E06
+        if not loaded.startswith("loaded "):
+            raise LabError(f"the machine refuses {image} ({loaded}): {dict(read_table('image_faults')).get(loaded)}")
+        self.pc = _pc(loaded)
+        if arguments:
+            place = STACK_END - len(block)
+            self.ask(*pokes(place, block), f"set x2 {place:x}")
+
+    def go(self, ticks: int | None = None, is_interrupted: Callable[[], bool] = lambda: False) -> Stop | None:
+        """The program runs to a stop; None where so many ticks, rounded up to slices, ran out, or it is interrupted.
+
+        `is_interrupted` is asked between some slices. A full output buffer is emptied, and the program goes on.
+        """
+        breaks = self.ask("breaks")[0][0].split()[1:]
+        left = None if ticks is None else -(-ticks // self.session.quantum)
+        while left != 0 and not is_interrupted():
+            self.ask("go")
+            stop, left = self._run_on(left, is_interrupted)
+            stop = stop or self._halt(breaks)
+            self.empty_buffer()
+            if stop and stop.kind != "outfull":
+                return stop
+        return None
+
+    def step(self) -> Stop | None:
+        """Carries out one instruction; the stop, if it stops instead. A full output buffer is emptied before."""
+        while True:
+            stop, _ = self.step_between([], [])
+            if stop is None or stop.kind != "outfull":
+                return stop
+            self.empty_buffer()
+
+    def step_between(self, before: Sequence[str], after: Sequence[str]) -> tuple[Stop | None, list[list[str]]]:
+        """As `step`, with looks before and after it that go to the machine together; and the answers to all looks.
+
+        The stop may be `outfull`, at an ecall.
+        """
+        answers = self.ask(*before, "step 1", *after)
+        (line,) = answers.pop(len(before))
+        self.pc = _pc(line)
+        return None if line.startswith("stepped ") else Stop.read(f"{self.user} {line}"), answers
+
+    def empty_buffer(self) -> None:
+        """Takes what the program has written out of the machine's buffer."""
+        _, number, *digits = self.ask("out")[0][0].split()
+        if number != "0":
+            self._write(bytes.fromhex(digits[0]))
+
+    def output(self) -> bytes:
+        """What the program has written since this was asked last; nothing where `write` is given it, now at least."""
+        self.empty_buffer()
+        kept = b"".join(self._kept)
+        self._kept.clear()
+        return kept
+
+    def explain(self, stop: Stop) -> str:
+        """A stop in sentences, by what stands at its place."""
+        (listing, *_), (told,) = self.ask(f"dis {stop.pc:x} 1", "vcsr")
+        control = control_values(told)
+        view = VectorView(control["vtype"], control["vstart"])
+        return describe_stop(stop.line, int(listing[17:25] or "0", 16), view, listing[26:])  # a refusal is shorter
+
+    def tell(self, stop: Stop | None, place: str = "") -> str:
+        """A stop in a line: its address, and the place by a symbol; the instruction there; and why, in sentences.
+
+        Without a stop the ticks ran out where the program stands.
+        """
+        if stop is None:
+            return f"the ticks ran out at {self.pc:x} {place}".rstrip()
+        text = self.ask(f"dis {stop.pc:x} 1")[0][0][26:]
+        return ": ".join(filter(None, [f"{stop.pc:x} {place}".rstrip(), text, self.explain(stop)]))
+
+    def _run_on(self, left: int | None, is_interrupted: Callable[[], bool]) -> tuple[Stop | None, int | None]:
+        """Grants slices to a stop, to the last one, or until output is to be handed on; the stop, how many are left."""
+        while True:
+            granted, stop = self._slices(MOST_SLICES if left is None else min(left, MOST_SLICES))
+            left = None if left is None else left - granted
+            if stop or left == 0 or self._hands_on or is_interrupted():
+                return stop, left
+
+    def _slices(self, number: int) -> tuple[int, Stop | None]:
+        """Grants slices; how many they were, and the stop that ended them."""
+        *stops, granted = self.session.do(f"* slices {number}")
+        count = int(granted.split()[-1])
+        self.ticks += count * self.session.quantum
+        if not stops:
+            return count, None
+        self.pc = _pc(stops[0])
+        return count, Stop.read(stops[0])
+
+    def _halt(self, breaks: Sequence[str]) -> Stop | None:
+        """Stops the running program. Where its next slice would stop it at a breakpoint, that is granted first."""
+        while breaks and self.ask("state")[0][0].partition("pc=")[2] in breaks:
+            _, stop = self._slices(1)
+            if stop:
+                return stop
+        self.pc = _pc(self.ask("stop")[0][0])
+        return None
+
+
+@contextlib.contextmanager
+def started(
+    path: pathlib.Path,
+    *,
+    policy: str = "keep",
+    quantum: int = QUANTUM,
+    arguments: Sequence[str] = (),
+    write: Callable[[bytes], object] | None = None,
+) -> Iterator[Guest]:
+    """The guest that an image is loaded for, on a machine of its own, until the context ends.
+
+    Raises LabError and OSError where the image can't be read or is refused, or there is no program.
+    """
+    with path.open("rb") as file:
+        if len(file.read(IMAGE_BYTES + 1)) > IMAGE_BYTES:
+            raise LabError(f"{path} has more than {IMAGE_BYTES:,} bytes")
+    with Session(find_program(), {"image": path}, quantum=quantum) as session:
+        guest = Guest(session, write=write)
+        try:
+            guest.start("image", policy, arguments)
+        except LabError as error:
+            raise LabError(f"{path}: {error}") from error
+        yield guest
+
+
+def pokes(address: int, data: bytes) -> Iterator[str]:
+    """The commands that write bytes from an address on."""
+    for at in range(0, len(data), LINE_BYTES):
+        yield f"poke {address + at:x} {data[at : at + LINE_BYTES].hex()}"
+
+
+def control_values(answer: str) -> dict[str, int]:
+    """The vector control registers by name, from an answer to `vcsr`."""
+    pairs = (word.split("=") for word in answer.split())
+    return {name: int(value, 16 if name == "vtype" else 10) for name, value in pairs}
+
+
+def _pc(answer: str) -> int:
+    """The program counter in an answer. Raises LabError where there is none."""
+    found = re.search(r"\bpc=([0-9a-f]{16})", answer)
+    if found is None:
+        raise LabError(f"the machine answers {answer}")
+    return int(found[1], 16)
+
+
+def _argument_block(arguments: Sequence[str]) -> bytes:
+    """What the RISC-V ABI has on the stack when a program begins: how many arguments, their addresses, 0; no variables
+    of an environment, 0; no auxiliary entries, 0 and 0; and the arguments, each ended by a zero byte.
+
+    It ends where the stack does, and begins where `load` leaves the stack pointer, or below. Raises LabError for more
+    than 8,192 bytes.
+    """
+    texts = [os.fsencode(argument) + b"\0" for argument in arguments]
+    words = 5 + len(texts)
+    size = max(STACK_END - STACK_POINTER, -(-(8 * words + sum(map(len, texts))) // 16) * 16)
+    if size > ARGUMENT_BYTES:
+        raise LabError(f"arguments take {ARGUMENT_BYTES:,} bytes of the stack at most, and these take {size:,}")
+    first = STACK_END - size + 8 * words
+    places = [first + sum(map(len, texts[:number])) for number in range(len(texts))]
+    return (struct.pack(f"<{words}Q", len(texts), *places, 0, 0, 0, 0) + b"".join(texts)).ljust(size, b"\0")

@@ -1,0 +1,122 @@
+"""The symbols of an ELF file, and the source lines of its instructions."""
+
+import bisect
+import functools
+import pathlib
+from collections.abc import Iterator, Mapping, Sequence
+from dataclasses import dataclass, field
+from typing import Any
+
+from elftools.elf.elffile import ELFFile
+from elftools.elf.sections import SymbolTableSection
+
+from ..instructions.accesses import PAGE_BYTES
+
+ALLOCATED = 2  # SHF_ALLOC: the section is a part of the memory
+NAMING = ("STT_NOTYPE", "STT_OBJECT", "STT_FUNC")
+BINDINGS = ("STB_LOCAL", "STB_WEAK", "STB_GLOBAL")
+MAPPING = ("$", ".L")  # symbols that assemblers make for themselves begin so
+
+
+@dataclass(frozen=True)
+class Symbols:
+    """The symbols of a file by name, and their places; empty where the file has no symbol table.
+
+    addresses: of each name
+    path: the file, whose source lines are read when one is asked for
+    """
+
+    addresses: Mapping[str, int] = field(default_factory=dict)
+    path: pathlib.Path | None = None
+    _places: Sequence[tuple[int, int, str]] = ()  # addresses in rising order, each with its section's end, and its name
+
+    @classmethod
+    def read(cls, path: pathlib.Path) -> "Symbols":
+        """The symbols of a file; none where it is no ELF file or a damaged one. Raises OSError if it can't be read."""
+        with path.open("rb") as file:
+            try:
+                found = sorted(_symbols(ELFFile(file)))
+            except Exception:  # pylint: disable=broad-except  # a damaged file makes pyelftools raise what its parts do
+                return cls()
+        addresses = {name: address for address, _, _, name in sorted(found, key=lambda symbol: symbol[1])}
+        # of several symbols at an address the last one names it
+        places = {address: (address, end, name) for address, _, end, name in found if address < end}
+        return cls(addresses, path, list(places.values()))
+
+    @classmethod
+    def of_labels(cls, labels: Mapping[str, Sequence[str]]) -> "Symbols":
+        """The labels of a source, by their addresses in hexadecimal digits, up to the end of the last one's page."""
+        places = sorted((int(digits, 16), names) for digits, names in labels.items())
+        end = (max((address for address, _ in places), default=0) | PAGE_BYTES - 1) + 1
+        addresses = {name: address for address, names in places for name in names}
+        return cls(addresses, None, [(address, end, names[-1]) for address, names in places])
+
+    def place(self, address: int) -> str:
+        """An address by the last symbol at or before it in its section, as `main+0x8`; "" where there is none."""
+        at = bisect.bisect_right(self._places, address, key=lambda place: place[0]) - 1
+        if at < 0 or address >= self._places[at][1]:
+            return ""
+        start, _, name = self._places[at]
+        return name if address == start else f"{name}+{address - start:#x}"
+
+    def line(self, address: int) -> str:
+        """The source line of an instruction, as `sum.c:12`; "" where the file doesn't tell it."""
+        rows, _ = self._rows
+        at = bisect.bisect_right(rows, address, key=lambda row: row[0]) - 1
+        return rows[at][1] if at >= 0 else ""
+
+    @property
+    def trouble(self) -> str:
+        """Why source lines can't be read though the file has some, in a line; "" where nothing is wrong."""
+        return self._rows[1]
+
+    @functools.cached_property
+    def _rows(self) -> tuple[list[tuple[int, str]], str]:
+        """Where instructions of a source line begin, in rising order, and what is wrong. After code stands ""."""
+        if self.path is None:
+            return [], ""
+        with self.path.open("rb") as file:
+            try:
+                rows = sorted(_source_rows(ELFFile(file)), key=lambda row: (row[0], row[1] != ""))
+            except Exception as error:  # pylint: disable=broad-except  # as above; KeyError for clang's DWARF 5
+                reason = f"{type(error).__name__} {error}".strip()
+                return [], f"pyelftools can't read the source lines of {self.path.name} ({reason}); -gdwarf-4 helps"
+        return rows, ""
+
+
+def _symbols(elf: Any) -> Iterator[tuple[int, int, int, str]]:
+    """The address of each symbol, how much it tells, the end of its section or 0, and its name."""
+    for section in elf.iter_sections():
+        if not isinstance(section, SymbolTableSection):
+            continue
+        for symbol in section.iter_symbols():
+            kind, bind, index = symbol["st_info"]["type"], symbol["st_info"]["bind"], symbol["st_shndx"]
+            if kind not in NAMING or index == "SHN_UNDEF" or not symbol.name or symbol.name.startswith(MAPPING):
+                continue
+            rank = 3 * (kind != "STT_NOTYPE") + (BINDINGS.index(bind) if bind in BINDINGS else 0)
+            end = _section_end(elf, index, symbol["st_value"]) if isinstance(index, int) else 0
+            yield symbol["st_value"], rank, end, symbol.name
+
+
+def _section_end(elf: Any, index: int, address: int) -> int:
+    """The end of the section of a symbol, if the symbol stands in it; else 0."""
+    section = elf.get_section(index)
+    start: int = section["sh_addr"]
+    end = start + int(section["sh_size"])
+    return end if section["sh_flags"] & ALLOCATED and start <= address < end else 0
+
+
+def _source_rows(elf: Any) -> Iterator[tuple[int, str]]:
+    """The address of each row of the line tables, and its file and line; "" at the end of a sequence."""
+    if not elf.has_dwarf_info():
+        return
+    debug = elf.get_dwarf_info()
+    for unit in debug.iter_CUs():
+        program = debug.line_program_for_CU(unit)
+        if program is None:
+            continue
+        first = 0 if program.header["version"] >= 5 else 1
+        names = [pathlib.PurePath(entry.name.decode("utf-8", "replace")).name for entry in program["file_entry"]]
+        for state in (entry.state for entry in program.get_entries() if entry.state is not None):
+            tells = state.line and not state.end_sequence  # line 0 is no line
+            yield state.address, f"{names[state.file - first]}:{state.line}" if tells else ""

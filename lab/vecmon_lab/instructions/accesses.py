@@ -1,0 +1,77 @@
+"""The vector instruction that a word is, and where a store writes, by the registers before it."""
+
+import functools
+from collections.abc import Iterable, Iterator, Mapping, Sequence
+
+from .reasons import VectorView
+from .words import NoInstruction, Operand, VectorInstruction, decode
+
+SCALAR_STORE, VECTOR_STORE = 0x23, 0x27
+UNIT_STRIDE, STRIDED = 0, 2  # mop; 1 and 3 are indexed
+WHOLE_REGISTERS, MASK = 0b01000, 0b01011  # sumop
+REGISTER_BYTES, ROW_BYTES, LINE_BYTES, PAGE_BYTES = 32, 16, 256, 4096  # a line shows or writes LINE_BYTES of memory
+
+Span = tuple[int, int]
+"""An address, and how many bytes."""
+
+
+@functools.lru_cache(maxsize=4096)
+def vector_instruction(word: int, vtype: int) -> VectorInstruction | None:
+    """The vector instruction that a word is under a vector type; None where it is another one, or none."""
+    view = VectorView(vtype, 0)
+    try:
+        return decode(word, view.sew, view.lmul)
+    except NoInstruction:
+        return None
+
+
+def stored_spans(word: int, x: Sequence[int], control: Mapping[str, int], v: bytes) -> list[Span]:
+    """The spans that hold what a store writes, each of 256 bytes or less in one page; none of any other instruction.
+
+    x, control, v: the scalar registers, vl, vtype and vstart by name, and the bytes of all vector registers, before it.
+    Elements that are masked off count, and those after one that faults.
+    """
+    opcode, base = word & 0x7F, x[word >> 15 & 31]
+    if opcode == SCALAR_STORE:
+        offset = (word >> 25 << 5 | word >> 7 & 31) ^ 0x800
+        return _joined([(base + offset - 0x800, 1 << (word >> 12 & 3))])
+    instruction = vector_instruction(word, control["vtype"]) if opcode == VECTOR_STORE else None
+    if instruction is None:
+        return []
+    return _joined(_vector_spans(word, base, x[word >> 20 & 31], control, v, instruction.operands))
+
+
+def _vector_spans(
+    word: int, base: int, stride: int, control: Mapping[str, int], v: bytes, operands: Sequence[Operand]
+) -> Iterator[Span]:
+    """The spans of the elements of a vector store, or of its segments."""
+    data, kind, mode = operands[0], word >> 26 & 3, word >> 20 & 31
+    if kind == UNIT_STRIDE and mode == WHOLE_REGISTERS:
+        yield base, len(data.registers) * REGISTER_BYTES
+        return
+    if kind == UNIT_STRIDE and mode == MASK:
+        yield base, -(-control["vl"] // 8)
+        return
+    length = data.eew // 8 * ((word >> 29) + 1)
+    for element in range(control["vstart"], control["vl"]):
+        if kind == UNIT_STRIDE:
+            yield base + element * length, length
+        elif kind == STRIDED:
+            yield base + element * stride, length
+        else:
+            index = operands[1].registers.start * REGISTER_BYTES + element * operands[1].eew // 8
+            yield base + int.from_bytes(v[index : index + operands[1].eew // 8], "little"), length
+
+
+def _joined(spans: Iterable[Span]) -> list[Span]:
+    """Spans that hold these, one in each block of 256 bytes, which lies in one page."""
+    blocks: dict[int, list[int]] = {}
+    rows = {row for address, length in spans for row in _rows(address % (1 << 64), length)}
+    for row in sorted(rows):
+        blocks.setdefault(row * ROW_BYTES // LINE_BYTES, []).append(row)
+    return [(held[0] * ROW_BYTES, (held[-1] + 1 - held[0]) * ROW_BYTES) for held in blocks.values()]
+
+
+def _rows(address: int, length: int) -> range:
+    """The numbers of the rows of 16 bytes that a span touches."""
+    return range(address // ROW_BYTES, (address + length - 1) // ROW_BYTES + 1)

@@ -1,0 +1,164 @@
+"""Stops in words: what a stop line says, and why an instruction is illegal.
+
+An instruction is illegal where the RISC-V "V" manual, version 1.0, reserves it, by the choices in docs/DECISIONS.md.
+"""
+
+import re
+from collections.abc import Iterator, Sequence
+from dataclasses import dataclass
+from fractions import Fraction
+
+from ..tables.table import read_table
+from .words import VECTOR_ACCESSES, NoInstruction, Operand, Trait, VectorInstruction, decode, listed
+
+ELEN = 64
+
+
+@dataclass(frozen=True)
+class VectorView:
+    """What legality reads of a vector state: vtype, as `vcsr` shows it, and vstart. vl has no part in it."""
+
+    vtype: int
+    vstart: int
+
+    @property
+    def sew(self) -> int:
+        """The element width in bits."""
+        return 8 << (self.vtype >> 3 & 7)
+
+    @property
+    def lmul(self) -> Fraction:
+        """The group multiplier, 1/8 to 8."""
+        return Fraction(2) ** (((self.vtype & 7) + 4) % 8 - 4)
+
+    @property
+    def vlmax(self) -> int:
+        """How many elements a group has; 0 where the type is vill."""
+        return 0 if self.vtype >> 63 else int(256 * self.lmul / self.sew)
+
+
+def illegal_reasons(word: int, view: VectorView) -> list[str]:
+    """Why a word is illegal in this state, a sentence each, the most telling first; empty where it is legal."""
+    try:
+        instruction = decode(word, view.sew, view.lmul)
+    except NoInstruction as problem:
+        return [str(problem)]
+    return [] if instruction is None else list(dict.fromkeys(_vector_reasons(instruction, view)))
+
+
+def _vector_reasons(instruction: VectorInstruction, view: VectorView) -> Iterator[str]:
+    if view.vtype >> 63 and Trait.UNTYPED not in instruction.traits:
+        yield "The vector type is vill: no vset instruction has set one that is supported."
+    else:
+        if view.sew == 64 and Trait.BELOW_64 in instruction.traits:
+            yield f"Zve64x has no {instruction.name} at SEW 64."
+        yield from _operand_reasons(instruction, view)
+    if view.vstart != 0 and Trait.FROM_ZERO in instruction.traits:
+        yield f"vstart is {view.vstart}, and {instruction.name} has to begin with element 0."
+
+
+def _operand_reasons(instruction: VectorInstruction, view: VectorView) -> Iterator[str]:
+    for operand in instruction.operands:
+        yield from _size_reasons(operand, view)
+    sized = [operand for operand in instruction.operands if not any(_size_reasons(operand, view))]
+    yield from _place_reasons(sized, view)
+    target = instruction.operands[0]
+    if target.noun != "destination":
+        return
+    if instruction.is_masked and target.registers.start == 0 and Trait.V0_TOO not in instruction.traits:
+        yield "It reads a mask from v0, so v0 can't be its destination."
+    if target in sized:
+        for source in sized[1:]:
+            yield from _overlap_reasons(instruction, target, source)
+
+
+def _size_reasons(operand: Operand, view: VectorView) -> Iterator[str]:
+    """Widths and multipliers out of their range."""
+    would, part = f"The {operand.noun} would have", Fraction(operand.eew, view.sew)
+    if operand.eew > ELEN:
+        yield f"{would} elements of {operand.eew} bits ({part} x SEW {view.sew}), and ELEN is {ELEN}."
+    if operand.eew < 8 and not operand.is_whole:
+        yield f"{would} elements of {_bits(operand)} (SEW {view.sew} / {part.denominator}), and 8 is the least."
+    if not Fraction(1, 8) <= operand.emul <= 8:
+        yield f"{would} {_emul(operand, view)}, and EMUL is 1/8 to 8."
+    elif len(operand.registers) > 8:
+        fields, count = len(operand.registers) // operand.group, len(operand.registers)
+        yield f"{fields} fields of {operand.group} registers each are {count}, and 8 is the most."
+
+
+def _place_reasons(operands: Sequence[Operand], view: VectorView) -> Iterator[str]:
+    """Groups that begin at a register where none may, by what says so; and those that end past the last register."""
+    misplaced: dict[tuple[str, int], dict[str, None]] = {}
+    for operand in operands:
+        multiplier = f"The {operand.noun} has {_emul(operand, view)}"
+        if operand.is_whole:
+            multiplier = f"It names {operand.group} whole registers"
+        elif operand.emul == view.lmul:
+            multiplier = f"The vector type has LMUL {operand.emul}"
+        if operand.registers.start % operand.group != 0:
+            misplaced.setdefault((multiplier, operand.group), {})[f"v{operand.registers.start}"] = None
+    for (multiplier, group), names in misplaced.items():
+        places, lacking = ("even registers", "odd") if group == 2 else (f"registers divisible by {group}", "not")
+        verdict = f"{listed(names)} {'are' if len(names) > 1 else 'is'} {lacking}"
+        yield f"{multiplier}, so register groups begin at {places}: {verdict}."
+    for operand in operands:
+        if operand.registers.stop > 32:
+            count, first = len(operand.registers), operand.registers.start
+            yield f"The {operand.noun} takes {count} registers from v{first} on, and v31 is the last."
+
+
+def _overlap_reasons(instruction: VectorInstruction, target: Operand, source: Operand) -> Iterator[str]:
+    one, other = target.registers, source.registers
+    both = range(max(one.start, other.start), min(one.stop, other.stop))
+    comparison = "wider" if target.eew > source.eew else "narrower"
+    ours, theirs = (f"{each.noun} {_span(each.registers)} ({_bits(each)})" for each in (target, source))
+    unlike = f"The {ours} has {comparison} elements than the {theirs}"
+    if not both or Trait.ANYWHERE in instruction.traits:
+        return
+    if Trait.APART in instruction.traits:
+        verb = "are" if len(both) > 1 else "is"
+        yield f"The destination of {instruction.name} may not overlap its {source.noun}: {_span(both)} {verb} in both."
+    elif target.eew < source.eew and one.start != other.start:
+        yield f"{unlike}: they may overlap only where both begin with the same register."
+    elif target.eew > source.eew and source.emul < 1:
+        yield f"{unlike}, which has EMUL {source.emul}: they may not overlap."
+    elif target.eew > source.eew and one.stop != other.stop:
+        yield f"{unlike}: they may overlap only where both end with the same register."
+
+
+def _span(registers: range) -> str:
+    return " to ".join(f"v{number}" for number in sorted({registers[0], registers[-1]}))
+
+
+def _bits(operand: Operand) -> str:
+    return "1 bit" if operand.eew == 1 else f"{operand.eew} bits"
+
+
+def _emul(operand: Operand, view: VectorView) -> str:
+    return f"EMUL {operand.emul} (EEW {operand.eew} / SEW {view.sew} x LMUL {view.lmul})"
+
+
+_STOP = re.compile("(?:[1-8] )?(.+?)(?: ([0-9]+))? pc=([0-9a-f]{16})(?: value=([0-9a-f]{16}))?")
+_SENTENCES = dict(read_table("stops"))
+
+
+def describe_stop(line: str, word: int | None = None, view: VectorView | None = None, text: str = "") -> str:
+    """A stop line, or an answer to `step`, `go`, `stop` or `state`, in sentences.
+
+    line: as the machine printed it, with or without the user's digit
+    word, text: the word at the program counter, and its canonical text
+    view: the vector state at the stop
+    Raises ValueError if the line is no such line.
+    """
+    match = _STOP.fullmatch(line)
+    if match is None or match[1] not in _SENTENCES:
+        raise ValueError(f"no stop line: {line}")
+    what, number, pc, value = match[1], match[2], int(match[3], 16), int(match[4] or "0", 16)
+    sentence = _SENTENCES[what].format(number=number, pc=f"{pc:#x}", value=f"{value:#x}", text=text or f"{value:#010x}")
+    if view is None:
+        return sentence
+    if what == "fault cause=2":
+        return " ".join([sentence, *illegal_reasons(value, view)])
+    if what in ("fault cause=5", "fault cause=7") and word is not None and word & 0x7F in VECTOR_ACCESSES:
+        return f"{sentence} It stopped at element {view.vstart}."
+    return sentence

@@ -1,0 +1,111 @@
+"""Which instruction a word is, and its vector register operands; or why it is none. Fields have the manuals' names."""
+
+import enum
+import re
+from collections.abc import Iterable, Mapping
+from dataclasses import dataclass
+from fractions import Fraction
+
+from ..tables.table import read_table
+
+VECTOR_ACCESSES = (0x07, 0x27)  # opcodes of loads and stores
+
+Trait = enum.Enum("Trait", "APART ANYWHERE V0_TOO UNTYPED FROM_ZERO BELOW_64")
+"""What an instruction asks for beside the widths of its operands; the table of shapes says what each one is."""
+
+
+class NoInstruction(ValueError):
+    """The word is no instruction of the machine, whatever its state is. The text says why, in a sentence."""
+
+
+@dataclass(frozen=True)
+class Operand:
+    """A vector register operand under a vector type."""
+
+    noun: str  # destination, data (of a store), source or index
+    eew: int  # the width of its elements in bits, 1 for a mask
+    emul: Fraction  # how many registers a group has, a fraction of one below 1
+    is_whole: bool  # whether these are whole registers, under each vector type
+    group: int  # the registers that a group takes
+    registers: range  # those of a group, or of the groups of a segment's fields, one after another
+
+
+@dataclass(frozen=True)
+class VectorInstruction:
+    """A vector instruction: its name or kind, what it asks for, whether v0 is its mask, and its operands, vd first."""
+
+    name: str
+    traits: frozenset[Trait]
+    is_masked: bool
+    operands: list[Operand]
+
+
+_FIELDS = {"opcode": (0, 7), "vd": (7, 5), "funct3": (12, 3), "vs1": (15, 5), "vs2": (20, 5)}  # lowest bit, and length
+_FIELDS |= {"csr": (20, 12), "vm": (25, 1), "funct7": (25, 7), "funct6": (26, 6), "nf": (29, 3)}
+_WORDS = read_table("words")
+_FIRST_FIT = re.compile("|".join(f"({bits.replace(' ', '').replace('-', '.')})" for bits, *_ in _WORDS))
+_OPERATIONS = read_table("operations")
+_SHAPES = {name: cells for name, *cells in read_table("shapes")}
+_FORMS = {0: ("OPI", "V"), 3: ("OPI", "I"), 4: ("OPI", "X"), 2: ("OPM", "V"), 6: ("OPM", "X")}  # by funct3
+_FORM_NAMES = {"V": "a vector register", "X": "a scalar register", "I": "an immediate"}
+_PARTS = {"SEW": Fraction(1), "2*SEW": Fraction(2)} | {f"SEW/{part}": Fraction(1, part) for part in (2, 4, 8)}
+_WIDTHS = {0b000: 8, 0b101: 16, 0b110: 32, 0b111: 64}  # of an access, by funct3
+
+
+def listed(names: Iterable[str]) -> str:
+    """Names in a row, as "vl, vtype and vlenb"."""
+    *before, last = names
+    return f"{', '.join(before)} and {last}" if before else last
+
+
+def decode(word: int, sew: int = 8, lmul: Fraction = Fraction(1)) -> VectorInstruction | None:
+    """The vector instruction that a word is under a vector type; None for a scalar one and a vset, which need none.
+
+    Raises NoInstruction where the word is none, with the reason.
+    """
+    fit = _FIRST_FIT.fullmatch(f"{word & 0xFFFFFFFF:032b}")
+    assert fit is not None and fit.lastindex is not None
+    _, kind, text = _WORDS[fit.lastindex - 1]
+    fields = {name: word >> low & (1 << length) - 1 for name, (low, length) in _FIELDS.items()}
+    if kind == "none":
+        raise NoInstruction(text.format(**fields))
+    if kind == "scalar":
+        return None
+    name, (vd, vs2, vs1, *traits) = _operation(fields) if kind == "operation" else (text, _SHAPES[kind])
+    noun = "data" if fields["opcode"] == VECTOR_ACCESSES[1] else "destination"
+    places = [(noun, "vd", vd), ("source", "vs2", vs2), ("source", "vs1", vs1)]
+    operands = [_operand(noun, place, cell.split(), fields, sew, lmul) for noun, place, cell in places if cell != "-"]
+    asked = frozenset(Trait[trait.upper()] for trait in " ".join(traits).split())
+    return VectorInstruction(name, asked, fields["vm"] == 0, operands)
+
+
+def _operation(fields: Mapping[str, int]) -> tuple[str, list[str]]:
+    """The name of the operation of OP-V, and the cells of its shape. Raises NoInstruction."""
+    (half, form), funct6 = _FORMS[fields["funct3"]], f"{fields['funct6']:06b}"
+    there = [row[2:] for row in _OPERATIONS if row[:2] == [half, funct6]]
+    of_form = [(name, shape, condition) for forms, name, shape, condition in there if form in forms]
+    for name, shape, condition in of_form:
+        if all(fields[field] == int(value) for field, value in re.findall(r"(\w+) = (\d+)", condition)):
+            vd, vs2, vs1, *traits = _SHAPES[shape]
+            return name, [vd, vs2, vs1 if form == "V" else "-", *traits]
+    if of_form:
+        wanted = ", ".join(f"{name} has {condition}" for name, _, condition in of_form)
+        found = " and ".join(f"{field} = {fields[field]}" for field in dict.fromkeys(re.findall(r"\w+(?= =)", wanted)))
+        raise NoInstruction(f"{wanted}, and this word has {found}.")
+    if there:
+        raise NoInstruction(f"There is no form with {_FORM_NAMES[form]} of {listed(name for _, name, *_ in there)}.")
+    raise NoInstruction(f"No vector instruction with funct3 {fields['funct3']:03b} has funct6 {funct6}.")
+
+
+def _operand(noun: str, place: str, cell: list[str], fields: Mapping[str, int], sew: int, lmul: Fraction) -> Operand:
+    """The operand at a place, by the words of a cell in the table of shapes."""
+    width, *others = cell
+    eew = _WIDTHS[fields["funct3"]] if width == "EEW" else int(_PARTS[width] * sew) if width in _PARTS else int(width)
+    many = fields["nf"] + 1
+    counts = {"x1": 1, "x2": 2, "x4": 4, "x8": 8, "xN": many}
+    whole = next((counts[other] for other in others if other in counts), None)
+    emul = Fraction(whole or Fraction(eew, sew) * lmul)
+    group = max(1, int(emul))
+    count = group * many if "fields" in others else group
+    registers = range(fields[place], fields[place] + count)
+    return Operand("index" if "index" in others else noun, eew, emul, whole is not None, group, registers)

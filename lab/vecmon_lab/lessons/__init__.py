@@ -1,0 +1,1 @@
+"""Lessons: a script or a source as frames, on one page."""

@@ -1,0 +1,137 @@
+"""The frames of a lesson: what each line of a script answers, and what it leaves of each user."""
+
+import pathlib
+from collections.abc import Mapping, Sequence
+from contextlib import suppress
+from dataclasses import dataclass
+
+from .. import LabError
+from ..machine.lines import DIGITS, BadLine, is_look, is_refusal, words_of
+from ..machine.session import Session
+from ..page.state import RowChoice, State, Watch, look_at, with_rows
+from .script import Script, Step, refused_statement
+
+
+@dataclass(frozen=True)
+class Frame:
+    """What a lesson shows at once.
+
+    user: the digit of the user whose state is shown
+    line: what was done, and how many lines more
+    note: the author's sentence
+    log: lines behind `>`, their answers behind `<`, and why a line wasn't sent behind `!`
+    states: the state of each user after it, by the user's digit
+    """
+
+    user: str
+    line: str
+    more: int
+    note: str
+    log: list[str]
+    states: dict[str, State]
+
+
+def make_frames(
+    script: Script, program: pathlib.Path, images: Mapping[str, pathlib.Path] = {}, quantum: int | None = None
+) -> list[Frame]:
+    """The frames of a script. Raises LabError where it has no line, or the program can't run or refuses a source."""
+    if not script.steps:
+        raise LabError("a lesson has a line at least, and this one has none")
+    with Session(program, images, quantum=quantum) as whole, Session(program, images, quantum=quantum) as single:
+        maker = _Maker(script, whole, single)
+        for step in script.steps:
+            maker.add(step)
+    return maker.finish()
+
+
+class _Maker:
+    """Two machines carry out the script: one its very lines, whose answers the lesson tells; the other one a single
+    instruction at a time where a line steps several, and that one is looked at."""
+
+    def __init__(self, script: Script, whole: Session, single: Session) -> None:
+        self._script, self._whole, self._single = script, whole, single
+        self._watches: dict[str, Watch] = {}
+        self._states: dict[str, State] = {}
+        self._frames: list[Frame] = []
+
+    def add(self, step: Step) -> None:
+        """Carries out a step, and adds its frame, or a frame for each instruction of a line that steps several."""
+        log = [entry for line in step.lines for entry in self._carry_out(line)]
+        answers = [entry[1:] for entry in log if entry[0] == "<"]
+        number = _steps(step, answers)
+        if number:
+            self._step_singly(step, number, log, answers)
+            return
+        for line in step.lines:
+            if not is_look(line):
+                with suppress(BadLine):
+                    self._single.do(line)
+        self._look(step.lines, answers)
+        before = self._frames[-1].user if self._frames else "1"
+        user = next((entry[1] for entry in log if entry[1:2] in self._watches), before)
+        self._add_frame(step, user, log, step.note)
+
+    def _carry_out(self, line: str) -> list[str]:
+        """A line and its answer, for the log."""
+        try:
+            answer = self._whole.do(line)
+        except BadLine as error:
+            return [f">{line}", f"!Not sent: {error}."]
+        if line in self._script.statements and is_refusal(answer):
+            raise refused_statement(self._script, line, answer[0])
+        if line[0] in DIGITS:
+            self._watches.setdefault(line[0], Watch()).follow(line, answer)
+        return [f">{line}", *(f"<{part}" for part in answer)]
+
+    def _step_singly(self, step: Step, number: int, log: list[str], answers: Sequence[str]) -> None:
+        """Steps as often as the line did: up to its number, a stop, or a breakpoint behind its first instruction."""
+        line, user = step.lines[0], step.lines[0][0]
+        for place in range(1, number + 1):
+            state, part = self._states[user], self._single.do(f"{user} step 1")
+            pc = part[0].rpartition("pc=")[2].lstrip("0") or "0"
+            ends = place == number or " stepped " not in part[0] or pc in state["breaks"]
+            self._look([line], [*part, *answers] if ends else part, state["code"].get(state["pc"], "")[9:])
+            own_log = ([] if place > 1 else log[:1]) + (log[1:] if ends else [])
+            note = step.note if place == 1 and step.note else self._instruction_note(user)
+            shown = line if number == 1 else f"{line}: instruction {place}"
+            self._add_frame(Step([shown]), user, own_log, note)
+            if ends:
+                break
+        if number > 1 and self._whole.look(f"{user} regs") != self._single.look(f"{user} regs"):
+            raise LabError(f"{line!r} leaves something else than its instructions one by one")
+
+    def _look(self, lines: Sequence[str], answers: Sequence[str], carried_out: str = "") -> None:
+        """Looks at those users whom lines, or an instruction, may have changed: an operator's line may, all of them."""
+        users = {line[:1] for line in lines if not is_look(line)}
+        for user, watch in self._watches.items():
+            if user in users or "*" in users:
+                own, before = [answer for answer in answers if answer[0] == user], self._states.get(user, {})
+                self._states[user] = look_at(self._single, int(user), watch, before, own, carried_out)
+
+    def _instruction_note(self, user: str) -> str:
+        """The author's sentence before the instruction of the source that a user carried out."""
+        return self._script.notes.get(int(self._states[user].get("instruction", "0"), 16), "")
+
+    def _add_frame(self, step: Step, user: str, log: list[str], note: str) -> None:
+        line, more = step.lines[0] if step.lines else "", sum(not is_look(line) for line in step.lines[1:])
+        self._frames.append(Frame(user, line, more, note, log, dict(self._states)))
+
+    def finish(self) -> list[Frame]:
+        """The frames, with those rows of memory alone that tell most."""
+        for user, watch in self._watches.items():
+            choice = RowChoice()
+            for frame in self._frames:
+                choice.add(frame.states.get(user, {}))
+            rows = choice.rows(watch)
+            for frame in self._frames:
+                if user in frame.states:
+                    frame.states[user] = with_rows(frame.states[user], rows)
+        return self._frames
+
+
+def _steps(step: Step, answers: Sequence[str]) -> int:
+    """How many instructions the first line of a step steps at most; 0 if it is another line, or refused."""
+    match [words_of(line) for line in step.lines[:1]]:
+        case [["step", number]] if answers and not is_refusal(answers[:1]):
+            return int(number)
+    return 0

@@ -1,0 +1,130 @@
+"""What a lesson's file says: the lines for the monitor, and the author's sentences, which begin with `#`."""
+
+import re
+from collections.abc import Iterator
+from dataclasses import dataclass, field
+
+from .. import LabError
+from ..assembler.source import Program, SourceError, Statement, assemble, refusal
+from ..machine.lines import is_look, words_of
+
+RUN_LINES = ["1 step 256", "1 out"]
+"""What a source's lesson does behind its set-up, if that carries nothing out."""
+
+
+@dataclass(frozen=True)
+class Step:
+    """Lines of one frame: one that does something, those like it that join it, and those behind it that only look.
+
+    note: the author's sentence before them; the last one of a file may have no lines
+    """
+
+    lines: list[str]
+    note: str = ""
+
+
+@dataclass(frozen=True)
+class Script:
+    """A lesson's steps.
+
+    Of a source also: its name, its labels by address, its instructions by the line that writes them, and its
+    sentences by the address of the instruction behind them.
+    """
+
+    title: str
+    steps: list[Step]
+    source: str = ""
+    labels: dict[str, list[str]] = field(default_factory=dict)
+    statements: dict[str, Statement] = field(default_factory=dict)
+    notes: dict[int, str] = field(default_factory=dict)
+
+
+def read_script(text: str) -> Script:
+    """The lesson of a script. Any line is taken: its answer will tell what is wrong with it."""
+    title, waiting, steps = "", list[str](), list[Step]()
+    for line in text.split("\n"):
+        if line.startswith("##"):
+            title = title or _sentence([line])
+        elif line.startswith("#"):
+            waiting.append(line)
+        elif line:
+            add_line(steps, line, _sentence(waiting))
+            waiting.clear()
+    if waiting:
+        steps.append(Step([], _sentence(waiting)))
+    return Script(title, steps)
+
+
+def add_line(steps: list[Step], line: str, note: str = "") -> None:
+    """Adds a line as a step, or to the last step: if it only looks, or both write instructions of one user."""
+    begins = _begins(line)
+    if steps and not note and (is_look(line) or "asm" in begins and begins == _begins(steps[-1].lines[-1])):
+        steps[-1].lines.append(line)
+    else:
+        steps.append(Step([line], note))
+
+
+def read_source(text: str, name: str) -> Script:
+    """The lesson of an assembler source, for user 1. Raises LabError where it doesn't assemble."""
+    try:
+        program = assemble(text)
+    except SourceError as error:
+        raise _mistake(name, error) from error
+    lines = [line.strip() for line in text.split("\n")]
+    title = next((_sentence([line]) for line in lines if line.startswith("##")), "")
+    introduction, notes = _source_notes(lines, program)
+    into_memory = [f"1 {line}" for line in program.lines]
+    steps = [Step(["1 enter", *into_memory, f"1 setpc {program.entry:x}"], introduction)]
+    set_up = [_set_up_line(line[2:].strip(), program.labels) for line in lines if line.startswith("#>")]
+    runs = any(words_of(line)[:1] in (["step"], ["go"]) for line in set_up)
+    for line in set_up + ([] if runs else RUN_LINES):
+        add_line(steps, line)
+    statements = {f"1 {each.command}": each for each in program.statements}
+    return Script(title, steps, name, program.names(), statements, notes)
+
+
+def refused_statement(script: Script, line: str, answer: str) -> LabError:
+    """What is wrong with an instruction of the source, by the machine's answer to the line that writes it."""
+    code, _, column = answer[2:].partition(" ")
+    statement = script.statements[line]
+    if code == "E15":
+        return _mistake(script.source, refusal(statement, int(column)))
+    return LabError(f"{script.source}:{statement.line}: the machine answers {code} to {statement.text}")
+
+
+def _mistake(name: str, error: SourceError) -> LabError:
+    """The one line that tells a mistake in a source."""
+    return LabError(f"{name}:{error.line}:{error.column}: {error.message}")
+
+
+def _sentence(lines: list[str]) -> str:
+    """What stands behind the `#` of lines, as one text."""
+    return " ".join(filter(None, (line.lstrip("#").strip() for line in lines)))
+
+
+def _begins(line: str) -> str:
+    """A line's user and command."""
+    return " ".join([line[:1], *words_of(line)[:1]])
+
+
+def _source_notes(lines: list[str], program: Program) -> tuple[str, dict[int, str]]:
+    """The sentence before all else, and those before an instruction by its address."""
+    addresses = {statement.line: statement.address for statement in reversed(program.statements)}
+    introduction, notes, waiting = "", dict[int, str](), list[str]()
+    begun = False
+    for number, line in enumerate(lines, 1):
+        if line.startswith("#"):
+            waiting += [] if line.startswith(("##", "#>")) else [line]
+        elif line and not begun:
+            begun, introduction = True, _sentence(waiting)
+            waiting.clear()
+        if number in addresses:
+            notes[addresses[number]] = _sentence(waiting)
+            waiting.clear()
+    return introduction, {address: note for address, note in notes.items() if note}
+
+
+def _set_up_line(line: str, labels: dict[str, int]) -> str:
+    """A line of the set-up, which has no user's digit, and in which a label may stand for its address."""
+    named = re.sub(r"\S+", lambda word: f"{labels[word[0]]:x}" if word[0] in labels else word[0], line)
+    return named if named.startswith("* ") else f"1 {named}"

@@ -1,0 +1,40 @@
+"""Where the program vecmon and its images are."""
+
+import os
+import pathlib
+import shutil
+
+from .. import LabError
+
+BUILT = pathlib.Path(__file__).resolve().parents[3] / "crates" / "vecmon" / "out" / "vecmon"
+HOW_TO_BUILD = (
+    "it is built with its proofs by `cd crates/vecmon && rt run < stdin`, in a quarter of an hour or more, and without "
+    "them by `python3 tools/unproved_build.py vecmon OUT`, in a minute or two, which VECMON=OUT then names"
+)
+
+
+class NoProgram(LabError):
+    """There is no program vecmon; the text says how to build one."""
+
+
+def find_program() -> pathlib.Path:
+    """The program that the variable VECMON names; else the one built in this checkout; else the one on the path."""
+    named = os.environ.get("VECMON")
+    found = shutil.which(named) if named else shutil.which(str(BUILT)) or shutil.which("vecmon")
+    if found is None:
+        missing = f"VECMON={named} is no program" if named else "there is no program vecmon"
+        raise NoProgram(f"{missing}; {HOW_TO_BUILD}")
+    return pathlib.Path(found).absolute()
+
+
+def images_of(words: list[str]) -> dict[str, pathlib.Path]:
+    """The images by name. Raises LabError for a word that names none."""
+    images = {}
+    for word in words:
+        name, separator, path = word.partition("=")
+        if not separator:
+            raise LabError(f"{word} is no image; NAME=PATH is")
+        if not pathlib.Path(path).is_file():
+            raise LabError(f"image {name}: there is no file {path}")
+        images[name] = pathlib.Path(path)
+    return images

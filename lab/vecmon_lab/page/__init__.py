@@ -1,0 +1,1 @@
+"""What pages show of a machine, and their files."""

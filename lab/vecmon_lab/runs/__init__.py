@@ -1,0 +1,1 @@
+"""An image run to its end: as a plain program, compared, counted and profiled."""

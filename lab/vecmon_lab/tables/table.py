@@ -1,0 +1,22 @@
+"""Tables as plain text.
+
+Those of this folder have a row to a line, its cells apart by two spaces or more; # begins a comment.
+"""
+
+import pathlib
+import re
+from collections.abc import Iterator, Sequence
+
+
+def read_table(name: str) -> list[list[str]]:
+    """The rows of a table, each with its cells."""
+    lines = pathlib.Path(__file__).with_name(f"{name}.txt").read_text("ascii").splitlines()
+    return [re.split(" {2,}", line) for line in lines if line and not line.startswith("#")]
+
+
+def table_lines(rows: Sequence[Sequence[object]], texts: int) -> Iterator[str]:
+    """Rows as lines with columns, of which so many are texts, and the others numbers, which end below each other."""
+    widths = [max(len(str(cell)) for cell in column) for column in zip(*rows)]
+    for row in rows:
+        cells = [f"{cell!s:{'<' if at < texts else '>'}{width}}" for at, (cell, width) in enumerate(zip(row, widths))]
+        yield "  ".join(cells).rstrip()

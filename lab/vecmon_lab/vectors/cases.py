@@ -1,0 +1,232 @@
+"""Single instructions, each with a state to carry it out in, drawn by chance from what tells most.
+
+A case depends on its instruction, its number and the seed alone.
+"""
+
+import functools
+import random
+from collections.abc import Sequence
+from dataclasses import dataclass, field
+from fractions import Fraction
+
+from ..instructions.reasons import VectorView, illegal_reasons
+from ..instructions.table import Row
+from ..instructions.words import VECTOR_ACCESSES, Operand, decode
+
+CODE, PC = 0x10000, 0x10800
+"""The page of the code, and where the instruction stands."""
+
+DATA, READ_ONLY, DATA_END = 0x20000, 0x21000, 0x22000
+"""Where two pages of data begin and end, of which the second can only be read."""
+
+VILL = 1 << 63
+TYPES = [sew << 3 | lmul for sew in range(4) for lmul in (0, 1, 2, 3, 5, 6, 7) if lmul < 4 or sew <= lmul - 5]
+"""The 22 supported vector types by SEW and LMUL, without the policies in bits 6 and 7."""
+
+_OP_V, _LOADS, _STORES, _SYSTEM = 0x57, (0x03, 0x07), (0x23, 0x27), 0x73
+_PLACES = {"rd": 7, "vd": 7, "rs1": 15, "vs1": 15, "rs2": 20, "vs2": 20, "csr": 20, "vtypei": 20}  # lowest bits
+_CONTROL = (0x008, 0x009, 0x00A, 0x00F, 0xC20, 0xC21, 0xC22)
+_MASKABLE = "[, v0.t]"
+_REACH = 512  # the bytes that a strided or indexed access spans
+_SCALAR_CASES, _TROUBLES, _DRAWS = 24, 8, 40  # cases in a plan, those of them that fault, and how often a word is drawn
+_WILD = (0, 8, 0x7FC, 1 << 31, 1 << 40, (1 << 48) - 4, 1 << 48, (1 << 64) - 4096, (1 << 64) - 4)
+
+
+@dataclass(frozen=True)
+class Kind:
+    """What a case is drawn for: a vector type, a mask or none; to be illegal, or to access where it may not."""
+
+    vtype: int
+    is_masked: bool = False
+    is_illegal: bool = False
+    is_astray: bool = False
+
+
+@dataclass
+class Case:
+    """A word and the state before it. Registers and bytes that aren't named are 0; memory is runs of bytes by address."""
+
+    word: int
+    vtype: int
+    vl: int = 0
+    vstart: int = 0
+    vxrm: int = 0
+    vxsat: int = 0
+    x: dict[int, int] = field(default_factory=dict)
+    v: dict[int, bytes] = field(default_factory=dict)
+    memory: dict[int, bytes] = field(default_factory=dict)
+
+    def register(self, name: str) -> int:
+        """The number of the register at a place of the word."""
+        return self.word >> _PLACES[name] & 31
+
+
+class _Draws(random.Random):
+    """Numbers by chance."""
+
+    def scalar(self) -> int:
+        """64 bits: small, any, or at the edge of a width."""
+        edge = 1 << self.choice((7, 8, 15, 16, 31, 32, 63, 64))
+        values = (self.randrange(70), self.getrandbits(64), self.getrandbits(32), edge, edge - 1, -edge, -edge - 1, -1)
+        return self.choice(values) % (1 << 64)
+
+    def elements(self, eew: int, limit: int, is_offset: bool = False) -> bytes:
+        """A register: any bytes; or elements below a limit, as offsets are; or at the edges of their width, or all the same."""
+        eew = min(64, max(8, eew))  # of a mask, and of an illegal instruction
+        count, edges = 256 // eew, (0, 1, (1 << eew) - 1, 1 << eew - 1, (1 << eew - 1) - 1)
+        small = [self.randrange(min(limit, 1 << eew)) for _ in range(count)]
+        chosen = self.choice((small, self.choices(edges, k=count), [self.choice(edges)] * count))
+        data = b"".join(element.to_bytes(eew // 8, "little") for element in (small if is_offset else chosen))
+        return data if is_offset else self.choice((self.randbytes(32), data))
+
+    def stride(self, vl: int) -> int:
+        """A stride that keeps so many elements within reach."""
+        most = _REACH // max(1, vl)
+        return self.choice((0, min(most, 8), self.randrange(-most, most + 1), self.randrange(-most, most + 1) & ~7))
+
+    def field(self, row: Row, name: str, step: int) -> tuple[int, int]:
+        """The mask of a field at its place, and a value for it."""
+        if name == "csr":
+            return 0xFFF, self.choice((*_CONTROL, *_CONTROL, *_CONTROL, 0x300, 0x7C0))
+        if name == "vtypei":
+            return 0x3FF, self.choice((*TYPES, self.getrandbits(8), self.getrandbits(10)))
+        if name.startswith("v"):
+            return 31, self.randrange(0, 32, step)
+        return 31, self.choice((self.randrange(1, 32),) * 3 + (0,) * (not touches_memory(row)))
+
+
+def touches_memory(row: Row) -> bool:
+    """Whether an instruction loads, stores or calls: then there are pages of data."""
+    return row.opcode in _LOADS + _STORES or row.name == "ecall"
+
+
+@functools.cache
+def plan(row: Row, seed: int) -> list[Kind]:
+    """What cases of an instruction are drawn for: each type under which it is legal, with and without a mask; faults."""
+    draws, types, masks = _Draws(f"{seed} {row.name}"), [VILL] * _SCALAR_CASES, (False, True)
+    if _is_vector(row):
+        types = [vtype for vtype in TYPES if not illegal_reasons(*_draw_word(row, Kind(vtype), _Draws(0), [8]))]
+    elif row.opcode in (_OP_V, _SYSTEM) and row.operands:
+        types = [*TYPES, VILL]
+    kinds = [Kind(vtype, masked) for masked in masks[: 1 + (_MASKABLE in row.operands)] for vtype in types]
+    for number in range(_TROUBLES):
+        strays = touches_memory(row) and number % 4 != 0
+        vtype = draws.choice(types if strays else [*TYPES, VILL])
+        kinds.append(Kind(vtype, draws.choice(masks), not strays, strays))
+    draws.shuffle(kinds)
+    return kinds
+
+
+def draw_case(row: Row, number: int, seed: int) -> Case:
+    """The case of this number of an instruction."""
+    kinds, draws = plan(row, seed), _Draws(f"{seed} {row.name} {number}")
+    kind = kinds[number % len(kinds)]
+    word, view = _draw_word(row, kind, draws)
+    policies = 0 if kind.vtype == VILL else draws.randrange(4) << 6
+    most = view.vlmax
+    vl = draws.choice((most, most, min(most, 1), draws.randrange(most + 1), draws.randrange(most + 1)))
+    case = Case(word, kind.vtype | policies, vl, view.vstart, draws.randrange(4), draws.randrange(2))
+    operands = _operands(row, word, view)
+    _fill_scalars(case, row, draws)
+    _fill_vectors(case, operands, draws)
+    if touches_memory(row):
+        _fill_memory(case, row, operands, kind.is_astray, draws)
+    return case
+
+
+def _is_vector(row: Row) -> bool:
+    """Whether it is a vector instruction, and no vset."""
+    return row.opcode in VECTOR_ACCESSES or row.opcode == _OP_V and not row.name.startswith("vset")
+
+
+def _is_strided(row: Row) -> bool:
+    """Whether it is a vector load or store with a stride, which isn't drawn from the register of its base."""
+    return row.opcode in VECTOR_ACCESSES and "rs2" in row.fields()
+
+
+def _operands(row: Row, word: int, view: VectorView) -> list[Operand]:
+    """The vector register operands, and the mask."""
+    instruction = decode(word, view.sew, view.lmul) if _is_vector(row) else None
+    mask = [Operand("mask", 1, Fraction(1), True, 1, range(1))] if instruction and instruction.is_masked else []
+    return instruction.operands + mask if instruction else []
+
+
+def _draw_word(row: Row, kind: Kind, draws: _Draws, steps: Sequence[int] = (1, 2, 4, 8)) -> tuple[int, VectorView]:
+    """A word of the row and a state that are legal together, or illegal; any where some dozens of draws find none.
+
+    steps: of one of these numbers the numbers of vector registers are multiples
+    """
+    for _ in range(_DRAWS):
+        vlmax = VectorView(kind.vtype, 0).vlmax
+        starts = (0, 0, 0, 0, 0, 0, draws.randrange(4), draws.randrange(vlmax + 1), draws.randrange(256))
+        view = VectorView(kind.vtype, draws.choice(starts))
+        word, step = draws.getrandbits(32), draws.choice(steps)
+        if _MASKABLE in row.operands:
+            word = word & ~(1 << 25) | (not kind.is_masked) << 25
+        for name in filter(_PLACES.__contains__, row.fields()):
+            mask, value = draws.field(row, name, step)
+            word = word & ~(mask << _PLACES[name]) | value << _PLACES[name]
+        word = row.word(word)
+        is_illegal = bool(illegal_reasons(word, view))
+        stride_is_base = _is_strided(row) and not (word >> 15 ^ word >> 20) & 31
+        is_odd = stride_is_base or _reads_two_widths(_operands(row, word, view))
+        if is_illegal == kind.is_illegal and (is_illegal or not is_odd):
+            break
+    return word, view
+
+
+def _reads_two_widths(operands: list[Operand]) -> bool:
+    """Whether a register is read with two element widths: the standard reserves that, and the machine does it."""
+    sources = [operand for operand in operands if operand.noun != "destination"]
+    widths = [(number, operand.eew) for operand in sources for number in operand.registers]
+    return len(dict(widths)) < len(set(widths))
+
+
+def _fill_scalars(case: Case, row: Row, draws: _Draws) -> None:
+    """Gives values to the scalar registers that the instruction names."""
+    for name in ("rs1", "rs2", "rd"):
+        if name in row.fields():
+            case.x[case.register(name)] = draws.scalar()
+    if row.name in ("vsetvl", "vsetvli"):
+        case.x[case.register("rs1")] = draws.choice((draws.randrange(300), draws.randrange(20), draws.scalar()))
+    if row.name == "vsetvl":
+        case.x[case.register("rs2")] = draws.choice((*TYPES, *TYPES, draws.getrandbits(8), draws.scalar()))
+    if row.name == "ecall":
+        case.x |= {17: draws.choice((64, 64, 64, 93, 94, draws.getrandbits(11))), 10: draws.choice((1, 1, 1, 2))}
+        case.x[12] = draws.choice((0, 1, draws.randrange(300)))
+    case.x.pop(0, None)
+
+
+def _fill_vectors(case: Case, operands: list[Operand], draws: _Draws) -> None:
+    """Gives values to v0, to the neighbours of the first operand, and to the registers of all operands."""
+    if operands:
+        first = operands[0].registers
+        case.v = {number: draws.randbytes(32) for number in (0, first.start - 1, first.stop) if 0 <= number < 32}
+    for operand in operands:
+        is_offset = operand.noun == "index" and case.word & 0x7F in VECTOR_ACCESSES
+        limit = _REACH if is_offset else VectorView(case.vtype, 0).vlmax + 2
+        case.v |= {n: draws.elements(operand.eew, limit, is_offset) for n in operand.registers if n < 32}
+
+
+def _fill_memory(case: Case, row: Row, operands: list[Operand], is_astray: bool, draws: _Draws) -> None:
+    """Gives the base register an address, the stride a value, and bytes to the memory around it."""
+    base = 11 if row.name == "ecall" else case.register("rs1")
+    distance, before, after = 0, 0, 256
+    if _is_strided(row):
+        stride = draws.stride(case.vl)
+        case.x[case.register("rs2")] = stride % (1 << 64)
+        before, after = max(0, -stride * case.vl), max(0, stride * case.vl) + 64
+    elif any(operand.noun == "index" for operand in operands):
+        after = _REACH + 64
+    elif "imm" in row.fields():
+        number = case.word >> 20 if row.opcode in _LOADS else case.word >> 25 << 5 | case.word >> 7 & 31
+        distance, after = number - (number >> 11 << 12), 8
+    end = READ_ONLY if row.opcode in _STORES else DATA_END
+    address = draws.randrange(DATA + before, end - after) & ~draws.choice((0, 0, 7))
+    if is_astray:
+        edge = draws.choice((DATA, end, end, end)) - draws.randrange(1, 2 + (after >> draws.randrange(5)))
+        address = draws.choice((edge, edge, edge, draws.choice(_WILD)))
+    case.x[base] = (address - distance) % (1 << 64)
+    first, last = max(DATA, address - before - 16), min(DATA_END, address + after + 16)
+    if first < last:
+        case.memory[first] = draws.randbytes(last - first)

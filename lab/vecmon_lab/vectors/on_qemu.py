@@ -1,0 +1,91 @@
+"""Runs golden vectors (docs/GOLDEN_VECTORS.md) on QEMU's user mode, and prints where it differs: on_qemu.py FILE
+
+All cases go through one process. The program around them (on_qemu.txt) takes each from standard input; a signal ends it.
+"""
+
+import json
+import pathlib
+import struct
+import subprocess
+import sys
+import tempfile
+from typing import Any
+
+QEMU = ["qemu-riscv64", "-cpu", "rv64,Zve64f=true,vext_spec=v1.0,vlen=256,elen=64"]
+CODE, DATA, PROGRAM, BLOCK, STACK = 0x10000, 0x20000, 0x60000000, 0x60010000, 0x60020000
+CONTROL = ("vl", "vtype", "vxrm", "vxsat", "vstart")
+NAMES = ("end", *CONTROL, "value", "v", "pc", *(f"x{number}" for number in range(1, 32)), "memory")
+LAYOUT = struct.Struct("<7Q8x1024s32Q8192s")  # of these; a case has its word as the end, and a result its signal
+SIGNALS = {4: "fault 2", 5: "ebreak", 7: "fault {}", 11: "fault {}"}
+
+
+def image() -> bytes:
+    """The program around the cases, as an ELF image. The page of the code is full of ebreaks: one ends a case that ran."""
+    listing = pathlib.Path(__file__).with_name("on_qemu.txt")
+    words = [int(line.split()[0], 16) for line in listing.read_text("ascii").splitlines() if not line.startswith("#")]
+    block = bytes(0x700) + struct.pack("<QQQ8xQQQ", STACK, 0, 0x10000, PROGRAM + 18 * 4, 0x08000004, 0)
+    parts = {CODE: b"\x73\0\x10\0" * 1024, DATA: bytes(8192), PROGRAM: struct.pack(f"<{len(words)}I", *words)}
+    parts |= {BLOCK: block.ljust(4096, b"\0"), STACK: bytes(0x10000)}
+    head = struct.pack("<16s2HI3QI6H", b"\x7fELF\2\1\1", 2, 243, 1, PROGRAM, 64, 0, 0, 64, 56, len(parts), 0, 0, 0)
+    body = b""
+    for address, data in parts.items():
+        head += struct.pack("<2I6Q", 1, 7, 4096 + len(body), address, address, len(data), len(data), 4096)
+        body += data.ljust(-(-len(data) // 4096) * 4096, b"\0")
+    return head.ljust(4096, b"\0") + body
+
+
+def state(*named: dict[str, Any]) -> dict[str, Any]:
+    """The state that a case names, or a case and its changes; all else is 0."""
+    v, memory, values = bytearray(1024), bytearray(8192), dict[str, Any].fromkeys(NAMES, 0)
+    for part in named:
+        values |= {name: int(part[name], 16) for name in ("pc", "vtype") if name in part}
+        values |= {name: part[name] for name in ("vl", "vxrm", "vxsat", "vstart") if name in part}
+        values |= {f"x{number}": int(digits, 16) for number, digits in part.get("x", {}).items()}
+        pieces = [(v, 32 * int(number), digits) for number, digits in part.get("v", {}).items()]
+        pieces += [(memory, int(address, 16) - DATA, digits) for address, digits in part.get("memory", {}).items()]
+        for room, place, digits in pieces:
+            room[place : place + len(digits) // 2] = bytes.fromhex(digits)
+    return values | {"v": bytes(v), "memory": bytes(memory)}
+
+
+def can_run(case: dict[str, Any]) -> bool:
+    """Whether a case has no call, which QEMU hands on to the system, and no misaligned target, which ends QEMU."""
+    return case["name"] != "ecall" and case.get("cause") != 0
+
+
+def expected(case: dict[str, Any]) -> dict[str, Any]:
+    """The state after a case, and how it ends."""
+    value = int(case["value"], 16) if case.get("cause") in (5, 7) else 0
+    end = f"fault {case['cause']}" if case["end"] == "fault" else case["end"]
+    return state(case, case["after"]) | {"end": end, "value": value}
+
+
+def found(case: dict[str, Any], result: bytes) -> dict[str, Any]:
+    """The same by a result of QEMU's. A signal at another place tells that the instruction ran."""
+    values = dict(zip(NAMES, LAYOUT.unpack(result)))
+    cause = 7 if int(case["word"], 16) & 0x20 else 5
+    end = SIGNALS[values["end"]].format(cause) if values["pc"] == int(case["pc"], 16) else "ran"
+    return values | {"end": end, "value": values["value"] if end == f"fault {cause}" else 0}
+
+
+def differences(cases: list[dict[str, Any]]) -> list[dict[str, tuple[Any, Any]]]:
+    """For each case what QEMU leaves otherwise, by name: what is expected, and what was found."""
+    befores: list[dict[str, Any]] = [state(case) | {"end": int(case["word"], 16)} for case in cases]
+    with tempfile.TemporaryDirectory() as folder, tempfile.TemporaryFile() as feed:
+        elf = pathlib.Path(folder, "image")
+        elf.write_bytes(image())
+        elf.chmod(0o700)
+        feed.write(b"".join(before["memory"] + LAYOUT.pack(*before.values())[:-8192] for before in befores))
+        feed.seek(0)
+        output = subprocess.run([*QEMU, elf], stdin=feed, stdout=subprocess.PIPE, check=True).stdout[LAYOUT.size :]
+    results = [output[at : at + LAYOUT.size] for at in range(0, len(output), LAYOUT.size)]
+    pairs = [(expected(case), found(case, result)) for case, result in zip(cases, results, strict=True)]
+    return [{name: (one[name], other[name]) for name in NAMES if one[name] != other[name]} for one, other in pairs]
+
+
+if __name__ == "__main__":
+    shown = [case for line in pathlib.Path(sys.argv[1]).open() if can_run(case := json.loads(line))]
+    for part in (shown[at : at + 1000] for at in range(0, len(shown), 1000)):
+        for case, differing in zip(part, differences(part)):
+            if differing:
+                print(case["word"], case["text"], *differing)
