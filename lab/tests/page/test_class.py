@@ -13,6 +13,8 @@ from support.browser import CONTRAST, media, press
 from support.class_pages import Served, Tab, close_all, digest_of
 from support.places import EXAMPLES
 from vecmon_lab.assembler.commands import MEANINGS
+from vecmon_lab.page.modules import join_modules
+from vecmon_lab.page.pages import page_file
 
 if TYPE_CHECKING:
     from selenium.webdriver import Chrome
@@ -174,7 +176,8 @@ def test_lines_of_before_and_refusals(sit: Sit) -> None:
     tab.command("enter", "map 10000 1 rwx", "map 10000 1 rwx", tag)
     assert "E03: there is no such command" in tab.text("#stop") and tag in tab.text("#stop")
     assert "a page is mapped already" in tab.text("#log") and f"> {tag}" in tab.text("#log")
-    told = {code: tab.run("refusalWords(`1 ${arguments[0]} 14`)", code) for code in MEANINGS}
+    script = f"{join_modules('words', page_file)} return $words.refusalWords(`1 ${{arguments[0]}} 14`)"
+    told = {code: tab.front().execute_script(script, code) for code in MEANINGS}
     assert told == {code: f"{code} 14: {meaning}" for code, meaning in MEANINGS.items()}
     tab.keys("#line", Keys.ARROW_UP)
     assert tab.run("id('line').value") == tag

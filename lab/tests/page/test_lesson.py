@@ -20,6 +20,8 @@ from vecmon_lab.lessons.page import lesson_page
 from vecmon_lab.lessons.script import read_script, read_source
 from vecmon_lab.lessons.tour import tours
 from vecmon_lab.machine.session import Session
+from vecmon_lab.page.modules import join_modules
+from vecmon_lab.page.pages import page_file
 
 if TYPE_CHECKING:
     from selenium.webdriver import Chrome
@@ -203,7 +205,8 @@ def test_operands_are_those_of_the_words(opened: Callable[[str], "Chrome"], sess
         if not illegal_reasons(word, view):
             cases.append((text, view, covered(word, view)))
     assert len({text.split()[0] for text, _, _ in cases}) > 0.9 * len(names)
-    script = "return arguments[0].map(([text, vtype]) => vectorOperands(text, vectorType(vtype)))"
+    script = f"""{join_modules("vectors", page_file)}
+        return arguments[0].map(([text, vtype]) => $operands.vectorOperands(text, $words.vectorType(vtype)))"""
     browser = opened(lesson_page("x", [Frame("1", "", 0, "", [], {})]))
     told = browser.execute_script(script, [(text, f"{view.vtype:x}") for text, view, _ in cases])
     for (text, view, expected), operands in zip(cases, told, strict=True):
@@ -236,6 +239,18 @@ def covered(word: int, view: VectorView) -> dict[int, set[tuple[bool, int]]]:
     if instruction.is_masked:
         registers.setdefault(0, set()).add((False, 1))
     return registers
+
+
+def test_nothing_but_the_script_of_the_page_runs(opened: Callable[[str], "Chrome"], program: pathlib.Path) -> None:
+    browser = opened(lesson_page("x", make_frames(read_script("1 enter"), program)))
+    script = """const script = document.createElement("script");
+        script.textContent = "window.ran = 1";
+        document.body.append(script);
+        document.body.setAttribute("onclick", "window.ran = 2");
+        document.body.click();
+        return window.ran"""
+    assert browser.execute_script(script) is None and text_of(browser, "#count") == "1 of 1"
+    assert ["Content Security Policy" in entry["message"] for entry in browser.get_log("browser")] == [True, True]
 
 
 def test_stops_and_refusals_are_told(opened: Callable[[str], "Chrome"], program: pathlib.Path) -> None:

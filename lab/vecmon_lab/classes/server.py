@@ -18,13 +18,11 @@ from typing import Any
 from aiohttp import WSMsgType, web
 from aiohttp.http import HttpProcessingError
 
-from ..page.pages import content_policy, page_text
+from ..page.pages import Page
 from .seats import TEACHER
 from .store import BadFolder
 from .view import Class, Message, Tab
 
-SCRIPTS = ["words.js", "operands.js", "view.js", "connection.js", "desk.js", "teacher.js", "class.js"]
-STYLES = ["page.css", "class.css"]
 MESSAGE_BYTES = 400_000
 PATIENCE = 10.0  # seconds for a first request, and for a tab's code
 UNKNOWN = 500  # connections without a whole request, and sockets without a code
@@ -41,8 +39,7 @@ class Server:
     def __init__(self, members: Class, names: set[str]) -> None:
         """names: hosts that the page may be opened under, besides all numeric addresses."""
         self.members, self.names = members, {"localhost", *names}
-        self._page = page_text("class.html", STYLES, SCRIPTS)
-        self._policy = f"{content_policy(STYLES, SCRIPTS)}; frame-ancestors 'none'; connect-src 'self'"
+        self._page = Page("class")
         self._spoke: set[Any] = set()  # connections that have made a whole request
         self._is_ending = False
         self._nameless = asyncio.Semaphore(UNKNOWN)  # had by sockets without a code
@@ -101,10 +98,11 @@ class Server:
 
     async def _add_headers(self, request: web.Request, response: web.StreamResponse) -> None:
         host = request.headers.get("Host", "")
+        own = f"{self._page.policy}; frame-ancestors 'none'; connect-src 'self'"
         sockets = f" ws://{host} wss://{host}" if response.status == 200 else ""
         response.headers.update(
             {
-                "Content-Security-Policy": self._policy + sockets,
+                "Content-Security-Policy": own + sockets,
                 "Cache-Control": "no-store",
                 "Referrer-Policy": "no-referrer",
                 "X-Content-Type-Options": "nosniff",
@@ -113,7 +111,7 @@ class Server:
         )
 
     async def _get_page(self, request: web.Request) -> web.Response:
-        return web.Response(text=self._page, content_type="text/html")
+        return web.Response(text=self._page.text("vecmon class"), content_type="text/html")
 
     async def _get_file(self, request: web.Request) -> web.Response:
         code = request.headers.get("Authorization", "").removeprefix("Bearer ")

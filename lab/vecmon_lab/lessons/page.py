@@ -7,14 +7,10 @@ from typing import Any
 from ..page.pages import lone_page, merge_patch
 from .frames import Frame
 
-STYLES = ["page.css"]
-SCRIPTS = ["words.js", "operands.js", "view.js", "lesson.js"]
-
 
 def lesson_page(title: str, frames: Sequence[Frame], labels: Mapping[str, list[str]] = {}) -> str:
     """The page, in HTML."""
-    lesson = {"labels": labels, "frames": _differences(frames)}
-    return lone_page("lesson.html", title, lesson, STYLES, SCRIPTS)
+    return lone_page("lesson", title, {"labels": labels, "frames": _differences(frames)})
 
 
 def _differences(frames: Sequence[Frame]) -> list[dict[str, Any]]:

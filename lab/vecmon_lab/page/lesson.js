@@ -1,4 +1,11 @@
-"use strict"; // A lesson: frames made beforehand, stepped back and forth. Each has what changed of the states.
+// A lesson: frames made beforehand, stepped back and forth. Each has what changed of the states.
+
+import { byId, make, prose, put } from "./elements.js";
+import { patched } from "./patches.js";
+import { showStep, showStop } from "./stage.js";
+import { STOP_LINE, logEntry } from "./transcript.js";
+import { paintState, whenFormsChange } from "./view.js";
+import { refusalWords } from "./words.js";
 
 const ADDRESS_DELAY = 300; // ms: a browser takes only so many new addresses in a time
 
@@ -6,7 +13,7 @@ class Lesson {
   constructor({ frames, labels }) {
     this.frames = frames;
     this.labels = labels;
-    this.view = new View(() => this.show(this.place));
+    whenFormsChange(() => this.show(this.place));
     this.user = ""; // the user chosen to be shown; without one it is the line's
     this.states = [];
     let states = {};
@@ -71,7 +78,7 @@ class Lesson {
     this.showPlace(user, states);
     this.showStage(frame, state, user, states);
     this.showLog(frame.log.length);
-    this.view.paint({ ...state, labels: this.labels }, this.states[this.place - 1]?.[user], this.used[user]);
+    paintState({ ...state, labels: this.labels }, this.states[this.place - 1]?.[user], this.used[user]);
     byId("log").scrollTop = byId("log").scrollHeight;
     clearTimeout(this.address);
     this.address = setTimeout(() => history.replaceState(null, "", `#${this.place + 1}`), ADDRESS_DELAY);
@@ -103,8 +110,7 @@ class Lesson {
     const remark = (text) => parts.push(make("small", "", text));
     if (frame.line && user !== frame.line[0] && this.users.length > 1) remark(`shown: user ${user}`);
     if (state.run === "absent") remark(`user ${user} isn't there`);
-    if (state.run === "running") remark(RUNS);
-    byId("step").replaceChildren(...parts, ...instructionPart(state));
+    showStep(state, ...parts);
   }
 
   /** What an entry of a frame's log tells of a stop or a refusal, in words; "" for most. */

@@ -1,4 +1,4 @@
-"use strict"; // Which vector registers an instruction names, and what they hold for it: told by its canonical text.
+// Which vector registers an instruction names, and what they hold for it: told by its canonical text.
 
 // Loads and stores: direction, fields of a segment, whether the width is that of indices, width; or a mask; or how many
 // whole registers, and their width.
@@ -9,7 +9,7 @@ const ACCESS = /^v([ls])(?:s|ux|ox)?(?:seg(\d))?(?:e(i?)(\d+)(?:ff)?|(m)|(\d)r(?
  * { register, group, width, mask, writes, masked }. The width of elements is in bits; a mask has the type's width.
  * masked: whether elements whose bit in v0 is 0 are left out of it, and v0 is still what it was.
  */
-function vectorOperands(text, type) {
+export function vectorOperands(text, type) {
   const [name, ...words] = text.split(/[ ,()]+/).filter(Boolean);
   const access = ACCESS.exec(name);
   const chosenPlace = words[0]?.startsWith("x") || name?.endsWith(".vs") ? 1 : 0; // a source there, else the result
@@ -62,7 +62,7 @@ function fieldsOf(register, { fields = 1, bits = 0, times = 1, mask = false, who
  * How each register that a program names is best shown: as the instruction that is told of takes it, else as all
  * instructions take it, if they agree. A map from a register to { width, group, mask }.
  */
-function registerShapes(texts, told, type) {
+export function registerShapes(texts, told, type) {
   const shapes = new Map();
   const plain = { width: type.sew, group: Math.max(1, type.lmul), mask: false };
   for (const operand of texts.flatMap((text) => vectorOperands(text, type))) {

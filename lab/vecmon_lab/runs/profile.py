@@ -15,7 +15,6 @@ from ..tables.table import table_lines
 from .counts import Counts, count
 
 HEAD = ("address", "place", "source", "instruction", "times", "ticks", "active", "masked off", "tail", "work")
-STYLES, SCRIPTS = ["page.css", "profile.css"], ["profile.js"]
 Row = Sequence[str | int]
 """The columns of HEAD. Work is the share of the elements of its groups that were active; these are "" without any."""
 
@@ -45,7 +44,7 @@ def run(arguments: argparse.Namespace) -> int:
             csv.writer(file).writerows([HEAD, *rows])
         lengths = [(kind, vl, times) for (kind, vl), times in sorted(counts.lengths.items())]
         data = {"summary": summary, "rows": rows, "lengths": lengths}
-        page.write_text(lone_page("profile.html", f"Profile of {image.name}", data, STYLES, SCRIPTS), "utf-8")
+        page.write_text(lone_page("profile", f"Profile of {image.name}", data), "utf-8")
     return 0
 
 
