@@ -5,16 +5,11 @@ import { withNames } from "./words.js";
 
 const RUNS = "it runs: registers and memory are those from before";
 
-/** The instruction that the marks tell of: the one that was carried out last, or that faulted; "" without one. */
-export function toldInstruction(state) {
-  return (state.code[state.instruction] ?? "").slice(9);
-}
-
-/** What was done, which its page knows, and the instruction that the marks tell of. */
+/** What was done, which its page knows, and the instruction that was carried out last, or that faulted. */
 export function showStep(state, ...done) {
   if (state.run === "running") done.push(make("small", "", RUNS));
   if (state.instruction) {
-    const text = withNames(toldInstruction(state), byId("names").value === "abi");
+    const text = withNames((state.code[state.instruction] ?? "").slice(9), byId("names").value === "abi");
     done.push(make("span", "instruction", make("small", "", state.faulted ? "stopped at " : "carried out "), text));
   }
   byId("step").replaceChildren(...done);

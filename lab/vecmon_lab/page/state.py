@@ -9,6 +9,7 @@ from ..instructions.accesses import LINE_BYTES, PAGE_BYTES, ROW_BYTES
 from ..instructions.reasons import VectorView, describe_stop
 from ..machine.lines import is_refusal, is_stop, words_of
 from ..machine.session import Session
+from .operands import shown_operands
 
 State = dict[str, Any]
 """A user's state; addresses and values are hexadecimal digits without leading zeros, and bytes two digits each.
@@ -17,6 +18,7 @@ run: `absent`, `stopped` or `running`; without a machine there is nothing else
 pc; x: 32 values by number; v: 32 times 32 bytes by number
 vl, vstart, vxrm, vxsat: numbers; vtype; policy: `keep` or `ones`
 code: words of the program with their texts by address; breaks: addresses
+operands: the vector operands of these instructions by address
 memory: rows of 16 bytes by address
 instruction: the address of the instruction that was carried out last, or faulted, in what was just done; faulted: true
 stop: why the program stopped in what was just done, in words
@@ -110,6 +112,7 @@ def look_at(
     stops = [line[2:] for line in answers if is_stop(line)]
     stepped = any(line[2:].startswith("stepped ") for line in answers)
     state["code"] = looks.code(watch, state["pc"], trace)
+    state["operands"] = {address: shown_operands(int(line[:8], 16)) for address, line in state["code"].items()}
     text = state["code"].get(state["pc"], "")
     pages = len(watch.pages)
     watch.add_accessed(text[9:], state["x"])

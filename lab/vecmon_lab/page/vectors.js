@@ -2,8 +2,7 @@
 // An element's place has the beginning of the line that can change it as `data-edit`: register, width, place and form.
 
 import { byId, header, make, table, unseen } from "./elements.js";
-import { registerShapes, vectorOperands } from "./operands.js";
-import { toldInstruction } from "./stage.js";
+import { operandGroups, registerShapes } from "./shapes.js";
 import { ROUNDING, typeText, typeWords, vectorType } from "./words.js";
 
 const KINDS = { masked: "masked off", tail: "tail", prestart: "before vstart", active: "active" };
@@ -27,16 +26,15 @@ export function paintFacts(state, before) {
 /** Those registers that are in use, or all. `used` has the numbers of those that always have rows. */
 export function paintElements(state, before, used) {
   const type = vectorType(state.vtype);
-  const told = toldInstruction(state);
-  const operands = vectorOperands(told, type);
-  const shapes = registerShapes(Object.values(state.code).map((line) => line.slice(9)), told, type);
+  const told = operandGroups(state.operands[state.instruction] ?? [], type);
+  const shapes = registerShapes(operandGroups(Object.values(state.operands).flat(), type), told, type);
   const all = byId("rows").value === "all";
   const sections = [];
   for (let register = 0, shown = 0; register < 32; ) {
     const shape = chosenShape(register, shapes, type);
     const registers = Array.from({ length: shape.group }, (_, place) => register + place);
     if (all || registers.some((each) => used.has(each) || shapes.has(each))) {
-      const operand = operands.find((each) => registers.includes(each.register));
+      const operand = told.find((each) => registers.includes(each.register));
       const rows = groupRows(state, before, shape, operand, type);
       if (shape.columns !== shown) sections.push(make("tbody", "", columnHeads(shape.columns)));
       shown = shape.columns;

@@ -11,8 +11,6 @@ from ..instructions.accesses import MASK, REGISTER_BYTES, UNIT_STRIDE, WHOLE_REG
 from ..instructions.reasons import VectorView
 from ..instructions.words import VECTOR_ACCESSES, VectorInstruction
 
-CARRIES = ("vmerge", "vadc", "vsbc", "vmadc", "vmsbc")  # where vm is 0, v0 is an operand and no mask
-
 
 @dataclass(frozen=True)
 class Elements:
@@ -91,7 +89,7 @@ def elements_of(word: int, control: Mapping[str, int], v0: bytes) -> Elements | 
     length, all_there = _lengths(word, instruction, control)
     body: Sequence[int] = range(control["vstart"], length)
     active = body
-    if instruction.is_masked and instruction.name not in CARRIES:
+    if instruction.leaves_out:
         active = [element for element in body if v0[element // 8] >> element % 8 & 1]
     return Elements(active, len(body) - len(active), all_there - length)
 
