@@ -7,8 +7,8 @@ import subprocess
 from collections.abc import Iterator
 from dataclasses import dataclass
 
-from vecmon_lab.instructions.reasons import VectorView
 from vecmon_lab.instructions.table import instruction_table
+from vecmon_lab.machine.answers import VectorView
 
 CODE = 0x10000
 SET_TYPE, SET_VSTART = 0x80A5F057, 0x00861073  # vsetvl x0, x11, x10; csrrw x0, vstart, x12

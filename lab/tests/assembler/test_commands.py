@@ -9,7 +9,7 @@ import pytest
 from support.command_tables import with_tables
 from support.places import DOCS
 from vecmon_lab.assembler.commands import COMMANDS, MEANINGS, help_on, refusal_in_words
-from vecmon_lab.machine.lines import is_refusal
+from vecmon_lab.machine.answers import Refused, read
 from vecmon_lab.machine.session import Session
 from vecmon_lab.tables.table import read_table
 
@@ -98,6 +98,6 @@ def test_help_lists_the_commands() -> None:
 def test_refusals_in_words(session: Session, line: str, told: list[str]) -> None:
     for before in ("1 enter", "1 map 10000 1 rwx"):
         session.do(before)
-    answer = session.do(line)
-    assert is_refusal(answer)
-    assert refusal_in_words(line, answer[0]) == told
+    answer = read(session.do(line))
+    assert isinstance(answer, Refused)
+    assert refusal_in_words(line, answer) == told

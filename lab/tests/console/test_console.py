@@ -11,6 +11,7 @@ import pytest
 from support.places import EXAMPLES, SCRIPTS, SQUARES, STOCK, SUM, SUM_DWARF4, SUM_DWARF5, TOP
 from support.terminal import END, INTERRUPT, UP, WHERE, Terminal
 from vecmon_lab.console.show import Screen
+from vecmon_lab.machine.answers import ControlRegisters, VectorRegister, read
 
 CONSOLE = [sys.executable, "-m", "vecmon_lab", "console"]
 STRIP_MINED = EXAMPLES / "strip_mined.s"
@@ -383,8 +384,9 @@ def test_colours(tmp_path: pathlib.Path, more: dict[str, str], has_colours: bool
     ],
 )
 def test_how_elements_lie(register: str, width: int, control: dict[str, int], mask: int | None, lies: str) -> None:
-    answer = " ".join([register, *(f"{number:0{width // 4}x}" for number in range(256 // width))])
-    rows = "\n".join(Screen(True).element_rows(answer, {"vstart": 0, **control}, mask))
+    shown = read([" ".join(["1", register, *(f"{number:0{width // 4}x}" for number in range(256 // width))])])
+    assert isinstance(shown, VectorRegister)
+    rows = "\n".join(Screen(True).element_rows(shown, ControlRegisters(**control, vstart=0, vxrm=0, vxsat=0), mask))
     kinds = {"": "a", "35": "m", "2": "t"}
     found = [(kinds[colour], int(digits, 16)) for colour, digits in re.findall(r" (?:\x1b\[(\d+)m)?([0-9a-f]+)", rows)]
     assert found == list(zip(lies, range(256 // width)))

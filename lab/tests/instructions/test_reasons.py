@@ -23,8 +23,9 @@ from support.machine_cases import (
     with_operands,
 )
 from support.places import DOCS
-from vecmon_lab.instructions.reasons import VectorView, describe_stop, illegal_reasons
+from vecmon_lab.instructions.reasons import describe_stop, illegal_reasons
 from vecmon_lab.instructions.words import NoInstruction, decode
+from vecmon_lab.machine.answers import Position, Stop, VectorView, read
 
 VILL = VectorView(1 << 63, 0)
 MISC_MEM = 0x0F
@@ -371,37 +372,45 @@ STOPS = [
 ]
 
 
+def told(line: str) -> Position | Stop:
+    """Where the line says that a program is, with the user's digit or without. Raises ValueError for another line."""
+    answer = read([line if re.match("[1-8*] ", line) else f"1 {line}"])
+    if not isinstance(answer, Position | Stop):
+        raise ValueError(line)
+    return answer
+
+
 @pytest.mark.parametrize("line, sentence", STOPS)
 def test_stop_lines(line: str, sentence: str) -> None:
-    assert describe_stop(line) == sentence
+    assert describe_stop(told(line)) == sentence
 
 
 def test_an_illegal_instruction_is_named_with_its_reasons() -> None:
-    line = "1 fault cause=2 pc=0000000000010008 value=00000000022200d7"
+    stop = told("1 fault cause=2 pc=0000000000010008 value=00000000022200d7")
     assert (
-        describe_stop(line, 0x022200D7, view(32, "m2"), "vadd.vv v1, v2, v4")
+        describe_stop(stop, 0x022200D7, view(32, "m2"), "vadd.vv v1, v2, v4")
         == f"Illegal instruction at 0x10008: vadd.vv v1, v2, v4. {M2_ODD}: v1 is odd."
     )
-    assert describe_stop(line, view=VILL) == f"Illegal instruction at 0x10008: 0x022200d7. {NO_TYPE}"
+    assert describe_stop(stop, view=VILL) == f"Illegal instruction at 0x10008: 0x022200d7. {NO_TYPE}"
 
 
 def test_a_vector_access_says_its_element() -> None:
-    line = "1 fault cause=5 pc=0000000000010008 value=0000000000020000"
-    assert describe_stop(line, 0x02056407, view(32, "m2", 5)).endswith("no permission r. It stopped at element 5.")
-    assert describe_stop(line, 0x00053283, view(32, "m2", 5)).endswith("no permission r.")
+    stop = told("1 fault cause=5 pc=0000000000010008 value=0000000000020000")
+    assert describe_stop(stop, 0x02056407, view(32, "m2", 5)).endswith("no permission r. It stopped at element 5.")
+    assert describe_stop(stop, 0x00053283, view(32, "m2", 5)).endswith("no permission r.")
 
 
 @pytest.mark.parametrize("line", ["", "1 ok", "1 E07", "1 out 0", "1 fault cause=3 pc=0000000000010008", "* granted 1"])
 def test_other_lines_are_refused(line: str) -> None:
     with pytest.raises(ValueError):
-        describe_stop(line)
+        told(line)
 
 
 def test_every_stop_line_of_the_manuals_has_a_sentence() -> None:
     pages = "\n".join(page.read_text() for page in DOCS.glob("*.md"))
     lines = re.findall(r"^[1-8] .* pc=[0-9a-f]{16}(?: value=[0-9a-f]{16})?$", pages, re.MULTILINE)
     stops = [line for line in lines if not line.startswith(("1 loaded", "2 loaded"))]
-    assert len(stops) > 40 and all(describe_stop(line) for line in stops)
+    assert len(stops) > 40 and all(describe_stop(told(line)) for line in stops)
 
 
 def test_a_view_is_read_from_vcsr() -> None:

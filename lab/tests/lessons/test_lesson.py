@@ -65,7 +65,7 @@ def test_the_last_frame_shows_what_the_machine_shows(session: Session, program: 
         for number in range(32):
             elements = session.look(f"{user} vreg v{number} 8")[0].split()[2:]
             assert state["v"][str(number)] == "".join(elements)
-        control = " ".join(f"{key}={state[key]}" for key in ("vl", "vstart", "vxrm", "vxsat"))
+        control = f"vl={state['vl']} vstart={state['vstart']} vxrm={state['vxrm']} vxsat={state['vxsat']}"
         told = session.look(f"{user} vcsr")[0][2:]
         assert control == re.sub(r"vtype=\w+ ", "", told) and f"vtype={state['vtype']:0>16} " in told
         for address, digits in state["memory"].items():

@@ -5,6 +5,7 @@ import operator
 import re
 from dataclasses import dataclass
 
+from ..machine.answers import Refused
 from ..machine.lines import words_of
 from ..tables.table import read_table
 from .instruction import Statement, refusal
@@ -48,13 +49,12 @@ def help_on(name: str) -> list[str]:
     return [f"{command.form}: {command.does}", *own]
 
 
-def refusal_in_words(line: str, answer: str) -> list[str]:
+def refusal_in_words(line: str, answer: Refused) -> list[str]:
     """What the refusal of a line means. Below a text that spells no instruction is marked where it doesn't fit."""
-    code, _, column = answer[2:].partition(" ")
     name = ("* " if line[0] == "*" else "") + "".join(words_of(line)[:1])
-    if code == "E15":
+    if answer.code == "E15":
         text = line[2:].strip(" ").split(maxsplit=2)[2]
         statement = Statement(0, 1, text, tuple(range(1, len(text) + 2)))
-        return [text, f"{'^':>{column}}", f"E15: {refusal(statement, int(column)).message}"]
-    form = f"; the form is {COMMANDS[name].form}" if code == "E04" and name in COMMANDS else ""
-    return [f"{answer[2:]}: {MEANINGS[code]}{form}"]
+        return [text, f"{'^':>{answer.detail}}", f"E15: {refusal(statement, int(answer.detail)).message}"]
+    form = f"; the form is {COMMANDS[name].form}" if answer.code == "E04" and name in COMMANDS else ""
+    return [f"{answer}: {MEANINGS[answer.code]}{form}"]

@@ -12,9 +12,10 @@ from typing import Any
 
 from .. import LabError
 from ..assembler.source import SourceError, assemble, refusal
-from ..machine.lines import DIGITS, check_line, is_look, is_refusal, is_stop, words_of
-from ..machine.session import TOGETHER, OutOfStep, ProgramGone, ReplayDiffers, ScriptFull, Session
-from ..page.state import ABSENT, RowChoice, State, Watch, look_at, with_rows
+from ..machine.answers import Granted, OutOfStep, Position, Refused, is_refusal, is_stop, read, told
+from ..machine.lines import DIGITS, check_line, is_look, words_of
+from ..machine.session import TOGETHER, ProgramGone, ReplayDiffers, ScriptFull, Session
+from ..page.state import ABSENT, RowChoice, State, Watch, look_at, with_last, with_rows
 from .store import BadFolder, ScriptFile
 
 SEAT_BYTES = 1_500_000  # of a seat's lines in the script: eight leave 3,000,000 to the operator and the clock
@@ -154,9 +155,10 @@ class Room:
         def carry_out(work: _Work) -> None:
             for place in range(0, len(own), TOGETHER):
                 self._do(work, *own[place : place + TOGETHER])
-            if slices and "running" in self.session.look(f"{seat.digit} state")[0]:
+            state = read(self.session.look(f"{seat.digit} state")) if slices else None
+            if isinstance(state, Position) and state.run == "running":
                 for _ in range(slices):
-                    if self._do(work, f"* run {seat.digit}") != [["* granted 1"]]:
+                    if read(*self._do(work, f"* run {seat.digit}")) != Granted(1):
                         break
             work.looks += [self.session.look(line) for line in seen]
 
@@ -185,12 +187,11 @@ class Room:
             self._check_share(seat, [f"{seat.digit} {line}" for line in lines])
             statements = {each.command: each for each in program.statements}
             for line in lines:
-                (answer,) = self._do(work, f"{seat.digit} {line}")
-                code, _, column = answer[0][2:].partition(" ")
-                if code == "E15":
-                    mistakes.append(refusal(statements[line], int(column)))
-                elif is_refusal(answer):
-                    raise BadRequest(f"the machine answers {code} to {line[:60]}")
+                match read(*self._do(work, f"{seat.digit} {line}")):
+                    case Refused("E15", column):
+                        mistakes.append(refusal(statements[line], int(column)))
+                    case Refused(code):
+                        raise BadRequest(f"the machine answers {code} to {line[:60]}")
             labels.update(program.names())
 
         async with seat.turn, self._lock:
@@ -301,7 +302,7 @@ class Room:
         """Takes up what a user's line says of the user's memory."""
         if line[0] in self.seats:
             seat = self.seats[line[0]]
-            seat.watch.follow(line, answer)
+            seat.watch.follow(line, read(answer))
             if _begins_anew(line, answer):
                 seat.rows = RowChoice()
 
@@ -318,12 +319,12 @@ class Room:
             seat = self.seats[digit]
             anew = any(line[0] == digit and _begins_anew(line, answer) for line, answer in work.answers)
             before = ABSENT if anew else seat.state
-            own = [part for _, answer in work.answers for part in answer if part[0] == digit]
+            own = [said for _, answer in work.answers for whom, said in told(answer) if whom == digit]
             single = lines == [f"{digit} step 1"] and before["run"] == "stopped"
             carried_out = before["code"].get(before["pc"], "")[9:] if single else ""
             state = look_at(self.session, int(digit), seat.watch, before, own, carried_out)
             if all(map(is_look, lines)):
-                state |= {key: before[key] for key in ("instruction", "faulted", "stop") if key in before}
+                state = with_last(state, before)
             if "output" in state:
                 state["output"] = state["output"][-OUTPUT_DIGITS:]
             seat.rows.add(state)

@@ -1,7 +1,6 @@
 """Answers to exercises: an image, a source or a script, brought in and run for one case, and what it leaves."""
 
 import pathlib
-import re
 from collections.abc import Iterator, Sequence
 from dataclasses import dataclass, replace
 
@@ -9,7 +8,8 @@ from .. import LabError
 from ..assembler.commands import refusal_in_words
 from ..guest.guest import IMAGE_BYTES, QUANTUM, STACK_END, STACK_POINTER, Guest, pokes
 from ..lessons.script import Script, read_source, refused_statement
-from ..machine.lines import check_line, is_refusal, words_of
+from ..machine.answers import Refused, ScalarRegisters
+from ..machine.lines import check_line, words_of
 from ..machine.session import Session
 from .exercise import Case, Exercise, Results
 
@@ -103,17 +103,17 @@ def _inputs(exercise: Exercise, case: Case) -> Iterator[str]:
 
 def _ask(guest: Guest, commands: Sequence[str], source: Script | None = None) -> None:
     """Sends commands. Raises LabError where one is refused."""
-    for command, (told, *_) in zip(commands, guest.ask(*commands)):
-        if is_refusal([f"1 {told}"]):
+    for command, told in zip(commands, guest.ask(*commands)):
+        if isinstance(told, Refused):
             if source and f"1 {command}" in source.statements:
-                raise refused_statement(source, f"1 {command}", f"1 {told}")
-            raise LabError(f"{command[:60]}: {refusal_in_words(f'1 {command}', f'1 {told}')[-1]}")
+                raise refused_statement(source, f"1 {command}", told)
+            raise LabError(f"{command[:60]}: {refusal_in_words(f'1 {command}', told)[-1]}")
 
 
 def _results(guest: Guest, expected: Results, output: bytes) -> Results:
     """What stands in the places where something is expected."""
-    values = dict(re.findall(r"(x\d+) (\w+)", " ".join(guest.ask("regs")[0])))
-    registers = {name: int(values[name], 16) for name in expected.registers}
+    x = guest.told("regs", ScalarRegisters).x
+    registers = {name: x[int(name[1:])] for name in expected.registers}
     memory = [place.holding(guest.peek(place.address, len(place.data))) for place in expected.memory]
     return Results(registers, memory, None if expected.output is None else output)
 

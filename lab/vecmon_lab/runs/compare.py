@@ -47,7 +47,7 @@ def _outcome(image: pathlib.Path, policy: str, quantum: int, ticks: int) -> Outc
     """A run of an image, with its name as its argument."""
     with started(image, policy=policy, quantum=quantum, arguments=[image.name]) as guest:
         stop = guest.go(ticks)
-        return stop.line if stop else f"no end in {ticks:,} ticks, pc={guest.pc:016x}", guest.output()
+        return str(stop) if stop else f"no end in {ticks:,} ticks, pc={guest.pc:016x}", guest.output()
 
 
 def _told(end: str, output: bytes) -> str:
@@ -87,8 +87,8 @@ def _differences(word: int, before: Sequence[Registers], after: Sequence[Registe
 def _values(word: int, before: Registers, after: Registers) -> Iterator[tuple[str, int]]:
     """The scalar and control registers by name, and the active elements that an instruction wrote or stored."""
     yield from ((f"x{number}", value) for number, value in enumerate(after.x))
-    yield from after.control.items()
-    instruction = vector_instruction(word, before.control["vtype"])
+    yield from after.control.named().items()
+    instruction = vector_instruction(word, before.control.vtype)
     found = elements_of(word, before.control, before.v[:REGISTER_BYTES])
     if instruction is None or found is None or is_whole(word, instruction):
         return

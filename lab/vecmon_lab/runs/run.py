@@ -8,8 +8,9 @@ from collections.abc import Iterator
 
 from ..arguments import add_image, between
 from ..guest.changes import Carried
-from ..guest.guest import QUANTUM, Guest, Stop, started
+from ..guest.guest import QUANTUM, Guest, started
 from ..guest.symbols import Symbols
+from ..machine.answers import Stop
 from ..output import write_out
 from .counts import Counts, count
 

@@ -9,9 +9,10 @@ from collections.abc import Sequence
 from dataclasses import dataclass, field
 from fractions import Fraction
 
-from ..instructions.reasons import VectorView, illegal_reasons
+from ..instructions.reasons import illegal_reasons
 from ..instructions.table import Row
 from ..instructions.words import VECTOR_ACCESSES, Operand, decode
+from ..machine.answers import VectorView
 
 CODE, PC = 0x10000, 0x10800
 """The page of the code, and where the instruction stands."""

@@ -99,6 +99,6 @@ def _set_up(case: Case, pages: dict[int, str], policy: str) -> Iterator[str]:
 
 def _named(pc: int, registers: Registers) -> dict[str, Any]:
     """All registers by the names that lines have."""
-    named: dict[str, Any] = {"pc": f"{pc:x}"} | registers.control | {"vtype": f"{registers.control['vtype']:x}"}
+    named: dict[str, Any] = {"pc": f"{pc:x}"} | registers.control.named() | {"vtype": f"{registers.control.vtype:x}"}
     named["x"] = {number: f"{value:x}" for number, value in enumerate(registers.x) if number}
     return named | {"v": {number: registers.v[32 * number : 32 * number + 32].hex() for number in range(32)}}
