@@ -38,7 +38,7 @@ class _Parser(argparse.ArgumentParser):
 def main() -> int:
     """Carries out the command that the program's words name; its status is 2, after one line, for bad input."""
     try:
-        arguments = _arguments()
+        arguments = arguments_of(sys.argv[1:])
         status: int = arguments.run(arguments)
         return status
     except KeyboardInterrupt:
@@ -56,17 +56,22 @@ def main() -> int:
     return 2
 
 
-def _arguments() -> argparse.Namespace:
-    """What the program's words are, with the function `run` of the command that they name."""
+def arguments_of(words: list[str]) -> argparse.Namespace:
+    """What the program's words are, with the function `run` of the command that they name; options stand anywhere."""
+    if words[:1] == ["help"]:
+        words = [*words[1:2], "--help"]
+    if words and words[0] in COMMANDS:
+        place, summary = COMMANDS[words[0]]
+        command = _Parser(prog=f"vecmon-lab {words[0]}", description=f"{summary[0].upper()}{summary[1:]}.")
+        module = importlib.import_module(f"vecmon_lab.{place}")
+        module.add_arguments(command)
+        command.set_defaults(run=module.run)
+        return command.parse_intermixed_args(words[1:])
     parser = _Parser(prog="vecmon-lab", description="A front end for vecmon, the trainer machine for RISC-V vectors.")
-    commands = parser.add_subparsers(dest="command", metavar="COMMAND", required=True)
-    for name, (place, summary) in COMMANDS.items():
-        command = commands.add_parser(name, help=summary, description=f"{summary[0].upper()}{summary[1:]}.")
-        if sys.argv[1:2] == [name]:
-            module = importlib.import_module(f"vecmon_lab.{place}")
-            module.add_arguments(command)
-            command.set_defaults(run=module.run)
-    return parser.parse_args()
+    commands = parser.add_subparsers(metavar="COMMAND", required=True)
+    for name, (_, summary) in COMMANDS.items():
+        commands.add_parser(name, help=summary)
+    return parser.parse_args(words)
 
 
 if __name__ == "__main__":

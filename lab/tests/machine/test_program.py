@@ -49,11 +49,45 @@ def test_what_is_built_here_is_looked_for() -> None:
     assert (TOP / "crates" / "vecmon" / "stdin").is_file() and (TOP / "tools" / "unproved_build.py").is_file()
 
 
-@pytest.mark.parametrize("words", [[], ["dance"], ["--dance"]])
+@pytest.mark.parametrize("words", [[], ["dance"], ["--dance"], ["help", "dance"]])
 def test_wrong_words(words: list[str]) -> None:
     run = subprocess.run([sys.executable, "-m", "vecmon_lab", *words], cwd=TOP, capture_output=True, text=True)
     assert (run.returncode, run.stdout, run.stderr.count("\n")) == (2, "", 1)
     assert run.stderr.startswith("vecmon-lab: ")
+
+
+@pytest.mark.parametrize(
+    "words, told",
+    [
+        (["class", "DIR", "--port", "9331", "a=x", "b=y"], {"images": ["a=x", "b=y"], "port": 9331}),
+        (["class", "--host", "H", "DIR", "a=x", "--port", "1", "b=y"], {"images": ["a=x", "b=y"], "host": "H"}),
+        (["lesson", "--title", "T", "script", "hello=F", "-o", "page"], {"images": ["hello=F"], "title": "T"}),
+        (["lesson", "script", "--title", "T", "hello=F"], {"images": ["hello=F"], "title": "T"}),
+        (["grade", "E", "a.s", "--csv", "b.s"], {"answers": [pathlib.Path("a.s"), pathlib.Path("b.s")], "csv": True}),
+        (["run", "image", "--ticks", "5", "one", "two"], {"words": ["one", "two"], "ticks": 5}),
+        (["run", "image", "one", "--stats", "--", "--ticks", "--"], {"words": ["one", "--ticks", "--"], "ticks": None}),
+        (["vectors", "vadd.vv", "--cases", "3", "vsub.vv"], {"names": ["vadd.vv", "vsub.vv"], "cases": 3}),
+    ],
+)
+def test_options_stand_anywhere(words: list[str], told: dict[str, object]) -> None:
+    arguments = vars(start.arguments_of(words))
+    assert {name: arguments[name] for name in told} == told
+
+
+@pytest.mark.parametrize(
+    "words, begin, has",
+    [
+        (["help"], "usage: vecmon-lab [-h]", "a page that steps back and forth"),
+        (["--help"], "usage: vecmon-lab [-h]", "a page that steps back and forth"),
+        (["help", "run"], "usage: vecmon-lab run [-h]", "--trace FILE"),
+        (["run", "--help"], "usage: vecmon-lab run [-h]", "--trace FILE"),
+    ],
+)
+def test_help(capsys: pytest.CaptureFixture[str], words: list[str], begin: str, has: str) -> None:
+    with pytest.raises(SystemExit, match="0"):
+        start.arguments_of(words)
+    told = capsys.readouterr().out
+    assert told.startswith(begin) and has in told
 
 
 def test_a_library_that_is_missing() -> None:

@@ -104,7 +104,7 @@ def test_output_comes_while_it_runs_and_ctrl_c_ends_it(program: pathlib.Path, tm
         (["--quantum", "1001", SUM], "vecmon-lab run: argument --quantum: 1001 is no number from 1 to 1000; "),
         (["--quantum", "-1", SUM], "vecmon-lab run: argument --quantum: "),
         (["--policy", "none", SUM], "vecmon-lab run: argument --policy: invalid choice: 'none' "),
-        (["--dance", SUM], "vecmon-lab: unrecognized arguments: --dance"),
+        (["--dance", SUM], "vecmon-lab run: unrecognized arguments: --dance"),
         (["none"], "vecmon-lab: none: No such file or directory"),
         ([STOCK], f"vecmon-lab: {STOCK}: Is a directory"),
         (
