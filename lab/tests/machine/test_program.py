@@ -8,7 +8,8 @@ import types
 
 import pytest
 
-from support.places import TOP
+from support.places import SUM, TOP
+from vecmon_lab import LabError
 from vecmon_lab import __main__ as start
 from vecmon_lab.machine import program as places
 from vecmon_lab.machine.program import NoProgram, find_program
@@ -72,6 +73,26 @@ def test_wrong_words(words: list[str]) -> None:
 def test_options_stand_anywhere(words: list[str], told: dict[str, object]) -> None:
     arguments = vars(start.arguments_of(words))
     assert {name: arguments[name] for name in told} == told
+
+
+@pytest.mark.parametrize("words", [["run", "--trace"], ["lesson", "-o"], ["profile", "-o"]])
+def test_an_output_that_is_an_input(
+    monkeypatch: pytest.MonkeyPatch, capsys: pytest.CaptureFixture[str], tmp_path: pathlib.Path, words: list[str]
+) -> None:
+    (tmp_path / "sum.csv").write_bytes(SUM.read_bytes())
+    (tmp_path / "sum.html").symlink_to("sum.csv")
+    monkeypatch.chdir(tmp_path)
+    monkeypatch.setattr(sys, "argv", ["vecmon-lab", *words, "sum.html", "sum.csv"])
+    told = "vecmon-lab: sum.html would be overwritten, and it is read here: name another file\n"
+    assert (start.main(), *capsys.readouterr()) == (2, "", told)
+    assert (tmp_path / "sum.csv").read_bytes() == SUM.read_bytes()
+
+
+def test_the_other_output_of_a_profile(monkeypatch: pytest.MonkeyPatch, tmp_path: pathlib.Path) -> None:
+    (tmp_path / "sum.csv").write_bytes(SUM.read_bytes())
+    arguments = start.arguments_of(["profile", str(tmp_path / "sum.csv"), "-o", str(tmp_path / "sum.html")])
+    with pytest.raises(LabError, match="sum.csv would be overwritten"):
+        arguments.run(arguments)
 
 
 @pytest.mark.parametrize(

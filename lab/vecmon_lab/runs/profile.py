@@ -7,7 +7,7 @@ import sys
 from collections.abc import Iterator, Sequence
 
 from .. import LabError
-from ..arguments import add_image
+from ..arguments import add_image, check_output
 from ..guest.guest import started
 from ..guest.symbols import Symbols
 from ..page.pages import lone_page
@@ -30,6 +30,8 @@ def run(arguments: argparse.Namespace) -> int:
     image, page = arguments.image, arguments.page
     if page and page.suffix != ".html":
         raise LabError(f"-o names a page, FILE.html, and {page} is none")
+    check_output(page, image)
+    check_output(page and page.with_suffix(".csv"), image)
     symbols = Symbols.read(image)
     if symbols.trouble:
         print(f"vecmon-lab: {symbols.trouble}", file=sys.stderr)

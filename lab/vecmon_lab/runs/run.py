@@ -6,7 +6,7 @@ import sys
 from collections import Counter
 from collections.abc import Iterator
 
-from ..arguments import add_image, between
+from ..arguments import add_image, between, check_output
 from ..guest.changes import Carried
 from ..guest.guest import QUANTUM, Guest, started
 from ..guest.symbols import Symbols
@@ -31,6 +31,7 @@ def add_arguments(parser: argparse.ArgumentParser) -> None:
 def run(arguments: argparse.Namespace) -> int:
     """Runs the image; its status, or one that says how it stopped. Raises LabError and OSError for bad input."""
     image, symbols = arguments.image, Symbols.read(arguments.image)
+    check_output(arguments.trace, image)
     words = [image.name, *arguments.words]
     with started(image, policy=arguments.policy, quantum=arguments.quantum, arguments=words, write=write_out) as guest:
         stop, counts = _carried_out(guest, arguments, symbols)

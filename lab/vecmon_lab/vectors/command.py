@@ -31,6 +31,8 @@ def run(arguments: argparse.Namespace) -> int:
     """Prints the cases. Raises LabError for a name that no instruction has."""
     program, table = find_program(), instruction_table()
     names = list(table) if arguments.names == ["all"] else arguments.names
+    if "all" in names:
+        raise LabError("all stands alone: it means each instruction")
     for name in names:
         if name not in table:
             raise LabError(f"there is no instruction {name}: docs/INSTRUCTIONS.md lists them, and all means each one")
