@@ -46,7 +46,7 @@ def main() -> int:
     except LabError as error:
         mistake = str(error)
     except ModuleNotFoundError as error:
-        mistake = f"this needs the Python library {error.name}, which isn't installed"
+        mistake = _missing(error.name or "")
     except BrokenPipeError:  # whoever reads has gone, as `head` does; what is left is written nowhere
         os.dup2(os.open(os.devnull, os.O_WRONLY), sys.stdout.fileno())
         return 141
@@ -54,6 +54,13 @@ def main() -> int:
         mistake = f"{error.filename}: {error.strerror}" if error.filename else str(error)
     print(f"vecmon-lab: {mistake}", file=sys.stderr)
     return 2
+
+
+def _missing(module: str) -> str:
+    """What is said of a library that isn't installed: its name for pip and Debian's, and how the launcher finds one."""
+    name = {"elftools": "pyelftools"}.get(module, module)
+    own = f"`python3 -m venv ~/.vecmon && ~/.vecmon/bin/pip install {name}`, and VECMON_PYTHON=~/.vecmon/bin/python"
+    return f"this needs the Python library {name}: `sudo apt install python3-{name.replace('_', '-')}`; or else {own}"
 
 
 def arguments_of(words: list[str]) -> argparse.Namespace:

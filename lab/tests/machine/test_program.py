@@ -115,7 +115,9 @@ def test_a_library_that_is_missing() -> None:
     code = "import sys; sys.modules['aiohttp'] = None; sys.argv[1:] = 'class', 'x'; from vecmon_lab.__main__ import main; sys.exit(main())"
     run = subprocess.run([sys.executable, "-c", code], cwd=TOP, capture_output=True, text=True)
     assert (run.returncode, run.stdout) == (2, "")
-    assert run.stderr == "vecmon-lab: this needs the Python library aiohttp, which isn't installed\n"
+    assert run.stderr.startswith(
+        "vecmon-lab: this needs the Python library aiohttp: `sudo apt install python3-aiohttp`"
+    )
 
 
 def test_what_is_imported_before_a_command_is_named() -> None:
@@ -137,7 +139,9 @@ def test_what_is_imported_before_a_command_is_named() -> None:
         (
             ModuleNotFoundError(name="elftools"),
             2,
-            "vecmon-lab: this needs the Python library elftools, which isn't installed\n",
+            "vecmon-lab: this needs the Python library pyelftools: `sudo apt install python3-pyelftools`; or else "
+            "`python3 -m venv ~/.vecmon && ~/.vecmon/bin/pip install pyelftools`, and "
+            "VECMON_PYTHON=~/.vecmon/bin/python\n",
         ),
         (KeyboardInterrupt(), 130, ""),
     ],

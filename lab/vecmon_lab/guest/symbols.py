@@ -7,9 +7,6 @@ from collections.abc import Iterator, Mapping, Sequence
 from dataclasses import dataclass, field
 from typing import Any
 
-from elftools.elf.elffile import ELFFile
-from elftools.elf.sections import SymbolTableSection
-
 from ..instructions.accesses import PAGE_BYTES
 
 ALLOCATED = 2  # SHF_ALLOC: the section is a part of the memory
@@ -34,6 +31,8 @@ class Symbols:
     def read(cls, path: pathlib.Path) -> "Symbols":
         """The symbols of a file; none where it is no ELF file or a damaged one. Raises OSError if it can't be read."""
         with path.open("rb") as file:
+            from elftools.elf.elffile import ELFFile  # which a console without an image doesn't need
+
             try:
                 found = sorted(_symbols(ELFFile(file)))
             except Exception:  # pylint: disable=broad-except  # a damaged file makes pyelftools raise what its parts do
@@ -76,6 +75,8 @@ class Symbols:
         if self.path is None:
             return [], ""
         with self.path.open("rb") as file:
+            from elftools.elf.elffile import ELFFile
+
             try:
                 rows = sorted(_source_rows(ELFFile(file)), key=lambda row: (row[0], row[1] != ""))
             except Exception as error:  # pylint: disable=broad-except  # as above; KeyError for clang's DWARF 5
@@ -87,7 +88,7 @@ class Symbols:
 def _symbols(elf: Any) -> Iterator[tuple[int, int, int, str]]:
     """The address of each symbol, how much it tells, the end of its section or 0, and its name."""
     for section in elf.iter_sections():
-        if not isinstance(section, SymbolTableSection):
+        if section["sh_type"] not in ("SHT_SYMTAB", "SHT_DYNSYM"):
             continue
         for symbol in section.iter_symbols():
             kind, bind, index = symbol["st_info"]["type"], symbol["st_info"]["bind"], symbol["st_shndx"]

@@ -29,14 +29,15 @@ def add_arguments(parser: argparse.ArgumentParser) -> None:
 
 def run(arguments: argparse.Namespace) -> int:
     """Prints how the runs end; 0 where all end alike, else 1. Raises LabError and OSError for bad input."""
-    image, ticks = arguments.image, -(-arguments.ticks // 7000) * 7000  # slices of each length come to the same ticks
+    image, symbols = arguments.image, Symbols.read(arguments.image)
+    ticks = -(-arguments.ticks // 7000) * 7000  # slices of each length come to the same ticks
     outcomes: dict[tuple[str, int], Outcome] = {}
     for policy, quantum in itertools.product(POLICIES, QUANTUMS):
         outcome = outcomes[policy, quantum] = _outcome(image, policy, quantum, ticks)
         is_same = len(outcomes) > 1 and outcome == outcomes["keep", QUANTUMS[0]]
         print(f"{policy}, slices of {quantum:>5,}:  {'the same' if is_same else _told(*outcome)}")
     if any(outcomes["keep", quantum] != outcomes["ones", quantum] for quantum in QUANTUMS):
-        for line in _parting(image, ticks):
+        for line in _parting(image, symbols, ticks):
             print(line)
     if any(outcomes[policy, quantum] != outcomes[policy, QUANTUMS[0]] for policy, quantum in outcomes):
         print("the length of slices tells only where a vector store that is cut has stored over its own word")
@@ -56,9 +57,8 @@ def _told(end: str, output: bytes) -> str:
     return f"{end}; {len(output):,} bytes: {output[:SHOWN_BYTES]!r}{more}"
 
 
-def _parting(image: pathlib.Path, ticks: int) -> Iterator[str]:
+def _parting(image: pathlib.Path, symbols: Symbols, ticks: int) -> Iterator[str]:
     """The first instruction that tells agnostic elements that are kept from ones, and what differs behind it."""
-    symbols = Symbols.read(image)
     with ExitStack() as stack:
         guests = [stack.enter_context(started(image, policy=policy, arguments=[image.name])) for policy in POLICIES]
         steppers = [Stepper(guest) for guest in guests]
