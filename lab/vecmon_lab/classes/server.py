@@ -12,7 +12,7 @@ import socket
 import subprocess
 import sys
 import weakref
-from collections.abc import AsyncIterator, Awaitable, Callable
+from collections.abc import AsyncIterator, Awaitable, Callable, Iterable
 from typing import Any
 
 from aiohttp import WSMsgType, web
@@ -192,16 +192,23 @@ class Server:
                 pusher.cancel()
 
 
+def listening(host: str, port: int) -> list[socket.socket]:
+    """Sockets that listen, one at each address of a host. Raises OSError where one can't be had."""
+    found = dict.fromkeys(socket.getaddrinfo(host, port, type=socket.SOCK_STREAM, flags=socket.AI_PASSIVE))
+    return [socket.create_server(address, family=family) for family, _, _, _, address in found]
+
+
 @contextlib.asynccontextmanager
-async def served(members: Class, host: str, port: int, names: set[str]) -> AsyncIterator[int]:
-    """Serves a class; the port. Ends it behind. Raises OSError where the address can't be had."""
+async def served(members: Class, doors: Iterable[socket.socket], names: set[str]) -> AsyncIterator[int]:
+    """Serves a class at sockets that listen; the port of the first. Ends it behind."""
     logging.getLogger("aiohttp.server").addFilter(_is_ours)
-    server = Server(members, {host, socket.gethostname(), *names})
+    server = Server(members, {socket.gethostname(), *names})
     runner = web.AppRunner(server.application(), access_log=None, keepalive_timeout=15.0, lingering_time=2.0)
     await runner.setup()
     tasks = []
     try:
-        await web.TCPSite(runner, host, port, shutdown_timeout=2.0).start()
+        for door in doors:
+            await web.SockSite(runner, door, shutdown_timeout=2.0).start()
         work = [server.sweep(runner), _keep(members), *(room.run_clock() for room in members.rooms.values())]
         tasks = [asyncio.create_task(each) for each in work]
         yield runner.addresses[0][1]
@@ -214,10 +221,10 @@ async def served(members: Class, host: str, port: int, names: set[str]) -> Async
         await runner.cleanup()
 
 
-async def serve(members: Class, host: str, port: int, names: set[str]) -> None:
-    """Serves a class until SIGINT or SIGTERM.
+async def serve(members: Class, host: str, doors: Iterable[socket.socket], names: set[str]) -> None:
+    """Serves a class at a host's sockets until SIGINT or SIGTERM.
 
-    Raises OSError where the address can't be had, and BadFolder once the program was replaced, as by an upgrade.
+    Raises BadFolder once the program was replaced, as by an upgrade.
     """
     sys.setswitchinterval(0.0005)  # so long a machine's thread waits for the event loop's, which may be busy
     most = resource.getrlimit(resource.RLIMIT_NOFILE)[1]
@@ -225,8 +232,8 @@ async def serve(members: Class, host: str, port: int, names: set[str]) -> None:
     ended, loop = asyncio.Event(), asyncio.get_running_loop()
     for sign in (signal.SIGINT, signal.SIGTERM):
         loop.add_signal_handler(sign, ended.set)
-    async with served(members, host, port, names) as own_port:
-        _announce(host, own_port, members.codes.codes[TEACHER])
+    async with served(members, doors, {host, *names}) as port:
+        _announce(host, port, members.codes.codes[TEACHER])
         while not ended.is_set():
             members.store.check_program()
             with contextlib.suppress(asyncio.TimeoutError):
