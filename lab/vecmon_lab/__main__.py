@@ -67,6 +67,8 @@ def arguments_of(words: list[str]) -> argparse.Namespace:
     """What the program's words are, with the function `run` of the command that they name; options stand anywhere."""
     if words[:1] == ["help"]:
         words = [*words[1:2], "--help"]
+    if words[:1] == ["--version"]:
+        return argparse.Namespace(run=importlib.import_module("vecmon_lab.check").versions)
     if words and words[0] in COMMANDS:
         place, summary = COMMANDS[words[0]]
         command = _Parser(prog=f"vecmon-lab {words[0]}", description=f"{summary[0].upper()}{summary[1:]}.")
@@ -75,6 +77,7 @@ def arguments_of(words: list[str]) -> argparse.Namespace:
         command.set_defaults(run=module.run)
         return command.parse_intermixed_args(words[1:])
     parser = _Parser(prog="vecmon-lab", description="A front end for vecmon, the trainer machine for RISC-V vectors.")
+    parser.add_argument("--version", action="store_true", help="tell the versions of the lab and of the program")
     commands = parser.add_subparsers(metavar="COMMAND", required=True)
     for name, (_, summary) in COMMANDS.items():
         commands.add_parser(name, help=summary)
