@@ -11,9 +11,9 @@ lab = $(prefix)/share/vecmon
 completions = $(prefix)/share/bash-completion/completions
 program = crates/vecmon/out/vecmon
 
-lab_files = README.md docs/INSTRUCTIONS.md lab/vecmon_lab/py.typed $(filter-out %.pyc, $(wildcard lab/vecmon_lab/*.py lab/vecmon_lab/*/*.* \
+lab_files = lab/vecmon_lab/py.typed $(filter-out %.pyc, $(wildcard lab/vecmon_lab/*.py lab/vecmon_lab/*.txt lab/vecmon_lab/*/*.* \
     lab/vecmon_lab/exercises/*/* lab/examples/* tests/command_lines/data/tour.page tests/command_lines/data/tour/*))
-documents = CHANGELOG.md CONTRIBUTING.md crates.txt crates/monitor_script/src/script.rt $(wildcard docs/*.md docs/*.csv docs/pictures/*)
+documents = README.md CHANGELOG.md CONTRIBUTING.md crates.txt crates/monitor_script/src/script.rt $(wildcard docs/*.md docs/*.csv docs/pictures/*)
 copy = install -D -m 644
 link = ln -s -f -n --relative
 page = umask 022; packaging/manual_page $(1) $(2) $(3) docs/$(4) > "$(DESTDIR)$(mandir)/man$(2)/$(1).$(2)"
@@ -26,7 +26,7 @@ install:
 	sed -i 's,\.\./share/vecmon,$(shell realpath -m --relative-to="$(bindir)" "$(lab)"),' "$(DESTDIR)$(bindir)/vecmon-lab"
 	for file in $(lab_files); do $(copy) $$file "$(DESTDIR)$(lab)/$$file" || exit; done
 	for file in $(documents); do $(copy) $$file "$(DESTDIR)$(docdir)/$$file" || exit; done
-	for file in README.md docs/INSTRUCTIONS.md lab; do $(link) "$(DESTDIR)$(lab)/$$file" "$(DESTDIR)$(docdir)/$$file" || exit; done
+	$(link) "$(DESTDIR)$(lab)/lab" "$(DESTDIR)$(docdir)/lab"
 	$(copy) crates/vecmon/first_vectors "$(DESTDIR)$(docdir)/examples/first_vectors"
 	$(link) "$(DESTDIR)$(lab)/lab/examples" "$(DESTDIR)$(docdir)/examples/sources"
 	$(link) "$(DESTDIR)$(lab)/lab/vecmon_lab/exercises" "$(DESTDIR)$(docdir)/examples/exercises"
