@@ -12,7 +12,7 @@ completions = $(prefix)/share/bash-completion/completions
 program = crates/vecmon/out/vecmon
 
 lab_files = lab/vecmon_lab/py.typed $(filter-out %.pyc, $(wildcard lab/vecmon_lab/*.py lab/vecmon_lab/*.txt lab/vecmon_lab/*/*.* \
-    lab/vecmon_lab/exercises/*/* lab/examples/* tests/command_lines/data/tour.page tests/command_lines/data/tour/*))
+    lab/vecmon_lab/exercises/*/* lab/vecmon_lab/lessons/tours/* lab/examples/*))
 documents = README.md CHANGELOG.md CONTRIBUTING.md crates.txt crates/monitor_script/src/script.rt $(wildcard docs/*.md docs/*.csv docs/pictures/*)
 copy = install -D -m 644
 link = ln -s -f -n --relative
@@ -30,7 +30,7 @@ install:
 	$(copy) crates/vecmon/first_vectors "$(DESTDIR)$(docdir)/examples/first_vectors"
 	$(link) "$(DESTDIR)$(lab)/lab/examples" "$(DESTDIR)$(docdir)/examples/sources"
 	$(link) "$(DESTDIR)$(lab)/lab/vecmon_lab/exercises" "$(DESTDIR)$(docdir)/examples/exercises"
-	$(link) "$(DESTDIR)$(lab)/tests/command_lines/data/tour" "$(DESTDIR)$(docdir)/examples/tour"
+	$(link) "$(DESTDIR)$(lab)/lab/vecmon_lab/lessons/tours" "$(DESTDIR)$(docdir)/examples/tour"
 	$(call page,vecmon,1,'trainer machine for the RISC-V vector extension',PROGRAM.md)
 	$(call page,vecmon-lab,1,'front end of vecmon with lessons and classes',LAB.md)
 	$(call page,vecmon-commands,5,'scripts and commands of vecmon',COMMANDS.md)

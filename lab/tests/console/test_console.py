@@ -8,7 +8,7 @@ from collections.abc import Iterator
 
 import pytest
 
-from support.places import EXAMPLES, SCRIPTS, SQUARES, STOCK, SUM, SUM_DWARF4, SUM_DWARF5, TOP
+from support.places import EXAMPLES, SQUARES, STOCK, SUM, SUM_DWARF4, SUM_DWARF5, TOP, TOURS
 from support.terminal import END, INTERRUPT, UP, WHERE, Terminal
 from vecmon_lab.console.show import Screen
 from vecmon_lab.machine.answers import ControlRegisters, VectorRegister, read
@@ -163,7 +163,7 @@ def test_the_last_words_of_a_page() -> None:
 
 
 def test_lines_of_the_monitor_are_taken_as_they_stand(program: pathlib.Path) -> None:
-    script = (SCRIPTS / "tour" / "assembling").read_bytes()
+    script = (TOURS / "assembling").read_bytes()
     own = [line for line in script.decode("ascii").splitlines() if line.startswith("1 ") and line != "1 enter"]
     lines = b"# a sentence\n\n" + "".join(f"{line}\r\n" for line in own).encode() + b"* list\n2 enter\n2 state\n"
     told = shown(lines)

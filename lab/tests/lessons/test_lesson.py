@@ -12,13 +12,13 @@ from hypothesis import given, settings
 from hypothesis import strategies as st
 
 from support.class_tabs import patched
-from support.places import EXAMPLES
+from support.places import DOCS, EXAMPLES, SUM
 from vecmon_lab import LabError
 from vecmon_lab.lessons import frames
 from vecmon_lab.lessons.frames import Frame, make_frames
 from vecmon_lab.lessons.page import lesson_page
 from vecmon_lab.lessons.script import read_script, read_source
-from vecmon_lab.lessons.tour import DATA, tours
+from vecmon_lab.lessons.tour import TOURS, tours
 from vecmon_lab.machine.session import Session
 from vecmon_lab.page.pages import FILES, merge_patch
 
@@ -42,7 +42,7 @@ def lab(*words: str, **variables: str) -> subprocess.CompletedProcess[str]:
 
 @pytest.mark.parametrize("name", list(tours()))
 def test_a_tours_log_is_the_plain_transcript(program: pathlib.Path, name: str) -> None:
-    script = (DATA / "tour" / name).read_text("ascii")
+    script = (TOURS / name).read_text("ascii")
     made = make_frames(tours()[name], program)
     assert logged(made, ">") == script.splitlines()
     assert logged(made, "<") == transcript(program, script)
@@ -50,7 +50,7 @@ def test_a_tours_log_is_the_plain_transcript(program: pathlib.Path, name: str) -
 
 @pytest.mark.parametrize("name", list(tours()))
 def test_the_last_frame_shows_what_the_machine_shows(session: Session, program: pathlib.Path, name: str) -> None:
-    for line in (DATA / "tour" / name).read_text("ascii").splitlines():
+    for line in (TOURS / name).read_text("ascii").splitlines():
         session.do(line)
     for user, state in make_frames(tours()[name], program)[-1].states.items():
         if state["run"] != "stopped":
@@ -179,7 +179,7 @@ def test_set_up_of_a_source_names_labels(program: pathlib.Path) -> None:
 
 
 def test_the_example_of_the_manual(program: pathlib.Path) -> None:
-    text = (DATA.parents[2] / "docs" / "LAB.md").read_text("utf-8")
+    text = (DOCS / "LAB.md").read_text("utf-8")
     example = text.partition("```text\n")[2].partition("```")[0]
     script = read_script(example)
     made = make_frames(script, program)
@@ -245,12 +245,11 @@ def test_no_program(tmp_path: pathlib.Path) -> None:
 
 def test_pages_are_written(tmp_path: pathlib.Path) -> None:
     (tmp_path / "script").write_text("# <first>\n1 enter\n1 load sum\n")
-    image = DATA / "images" / "sum"
-    done = lab("lesson", str(tmp_path / "script"), f"sum={image}", "-o", str(tmp_path / "page.html"))
+    done = lab("lesson", str(tmp_path / "script"), f"sum={SUM}", "-o", str(tmp_path / "page.html"))
     assert (done.returncode, done.stdout, done.stderr) == (0, "", "")
     page = (tmp_path / "page.html").read_text("utf-8")
     assert page.startswith("<!doctype html>") and "1 loaded pc=" in page and "<first>" not in page
-    assert lab("lesson", str(tmp_path / "script"), f"sum={image}").stdout == page
+    assert lab("lesson", str(tmp_path / "script"), f"sum={SUM}").stdout == page
     assert lab("tour", str(tmp_path / "new" / "tour")).returncode == 0
     assert {path.stem for path in (tmp_path / "new" / "tour").iterdir()} == set(tours())
 
