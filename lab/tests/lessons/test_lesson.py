@@ -1,5 +1,6 @@
 """Lessons: their frames beside what a plain run of the program prints, their files, and bad input."""
 
+import json
 import os
 import pathlib
 import re
@@ -251,7 +252,11 @@ def test_pages_are_written(tmp_path: pathlib.Path) -> None:
     assert page.startswith("<!doctype html>") and "1 loaded pc=" in page and "<first>" not in page
     assert lab("lesson", str(tmp_path / "script"), f"sum={SUM}").stdout == page
     assert lab("tour", str(tmp_path / "new" / "tour")).returncode == 0
-    assert {path.stem for path in (tmp_path / "new" / "tour").iterdir()} == set(tours())
+    assert {path.stem for path in (tmp_path / "new" / "tour").iterdir()} == {"index", *tours()}
+    index = (tmp_path / "new" / "tour" / "index.html").read_text("utf-8")
+    links = json.loads(index.partition('id="data">')[2].partition("</script>")[0])
+    titles = re.findall("^## (.*)", (DOCS / "TOUR.md").read_text("utf-8"), re.MULTILINE)
+    assert links == [[name, title] for name, title in zip(tours(), titles, strict=True)]
 
 
 def test_steps_that_end_otherwise_one_by_one_are_an_error(

@@ -15,6 +15,7 @@ from vecmon_lab.lessons.page import lesson_page
 from vecmon_lab.lessons.script import read_script, read_source
 from vecmon_lab.lessons.tour import tours
 from vecmon_lab.machine.session import Session
+from vecmon_lab.page.pages import lone_page
 
 if TYPE_CHECKING:
     from selenium.webdriver import Chrome
@@ -264,3 +265,13 @@ def test_focus_is_seen_on_all_controls(opened: Callable[[str], "Chrome"], progra
         "log",
     } <= seen.keys()
     assert any(name.startswith("user 2") for name in seen)
+
+
+def test_the_tours_beginning(opened: Callable[[str], "Chrome"], tmp_path: pathlib.Path) -> None:
+    """Its links lead to the lessons beside it."""
+    browser = opened(lone_page("tour", "A tour", [("one", "Masks & tails"), ("two", "A <class>")]))
+    links = browser.find_elements("css selector", "li a")
+    assert [link.text for link in links] == ["Masks & tails", "A <class>"] and not browser.get_log("browser")
+    (tmp_path / "two.html").write_text("<title>here</title>")
+    links[1].click()
+    assert browser.title == "here"

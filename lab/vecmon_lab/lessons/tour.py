@@ -1,9 +1,10 @@
-"""Makes the ten lessons of the tour (docs/TOUR.md)."""
+"""Makes the ten lessons of the tour (docs/TOUR.md), and a page with links to them."""
 
 import argparse
 import pathlib
 
 from ..machine.program import find_program
+from ..page.pages import lone_page
 from ..tables.table import read_table
 from .frames import make_frames
 from .page import lesson_page
@@ -19,9 +20,12 @@ def add_arguments(parser: argparse.ArgumentParser) -> None:
 
 def run(arguments: argparse.Namespace) -> int:
     """Writes the pages, and prints their paths in the order of the tour. Raises LabError and OSError for bad input."""
-    program, folder = find_program(), arguments.folder
+    program, folder, scripts = find_program(), arguments.folder, tours()
     folder.mkdir(parents=True, exist_ok=True)
-    for name, script in tours().items():
+    links = [(name, script.title) for name, script in scripts.items()]
+    (folder / "index.html").write_text(lone_page("tour", "A tour", links), "utf-8")
+    print(f"{folder / 'index.html'}: A tour")
+    for name, script in scripts.items():
         path = folder / f"{name}.html"
         path.write_text(lesson_page(script.title, make_frames(script, program)), "utf-8")
         print(f"{path}: {script.title}")
