@@ -3,6 +3,7 @@
 import os
 import pathlib
 import shutil
+import subprocess
 
 from .. import LabError
 
@@ -25,6 +26,16 @@ def find_program() -> pathlib.Path:
         missing = f"VECMON={named} is no program" if named else "there is no program vecmon"
         raise NoProgram(f"{missing}; {HOW_TO_BUILD}")
     return pathlib.Path(found).absolute()
+
+
+def check_is_vecmon(program: pathlib.Path) -> None:
+    """Raises NoProgram where a program that answers otherwise than it should isn't vecmon, by how its help begins."""
+    try:
+        told = subprocess.run([program, "--help"], stdin=subprocess.DEVNULL, capture_output=True, timeout=10).stdout
+    except (OSError, subprocess.TimeoutExpired):
+        return
+    if not told.startswith(b"Runs a script on a trainer machine for the RISC-V vector extension"):
+        raise NoProgram(f"{program} is no vecmon; VECMON=PATH names one")
 
 
 def images_of(words: list[str]) -> dict[str, pathlib.Path]:

@@ -15,6 +15,7 @@ from collections.abc import Callable, Mapping, Sequence
 from .. import LabError
 from .answers import OutOfStep, Users, is_refusal, is_whole, read
 from .lines import DIGITS, BadLine, check_line, is_look, words_of
+from .program import check_is_vecmon
 
 __all__ = ["BadLine", "OutOfStep", "ProgramGone", "ReplayDiffers", "ScriptFull", "Session"]
 
@@ -161,7 +162,11 @@ class Session(contextlib.AbstractContextManager["Session"]):
         self._has_ended = False
         self.policy: dict[int, str] = {}
         self.losses: list[str] = []
-        self._process: _Process | None = self._replay()
+        try:
+            self._process: _Process | None = self._replay()
+        except (ProgramGone, OutOfStep):
+            check_is_vecmon(program)
+            raise
         try:
             for line in filter(None, script.decode("latin-1").split("\n")):
                 self.do(line)
