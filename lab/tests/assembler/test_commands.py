@@ -79,8 +79,8 @@ def test_help_lists_the_commands() -> None:
     "line, told",
     [
         ("1 dance", ["E03: there is no such command, or the line has no word"]),
-        ("1 regs 5", ["E04: a wrong number of words, or a word out of its form or range; the form is regs"]),
-        ("* slices 0", ["E04: a wrong number of words, or a word out of its form or range; the form is * slices N"]),
+        ("1 regs 5", ["E04: 5 is a word too many; the form is regs"]),
+        ("* slices 0", ["E04: 0 isn't from 1 to 1,000; the form is * slices N"]),
         ("2 regs", ["E05: the user has not entered"]),
         ("1 peek 0 4", ["E11: an address isn't mapped"]),
         (

@@ -152,8 +152,13 @@ def test_a_source_in_place_of_an_image_and_back() -> None:
         told[1:3] == ["=> 10000  addi x10, x0, 13", "ok"] and "=> 10018 next  vsetvli x5, x10, e32, m1, ta, mu" in told
     )
     again = told[told.index("loaded pc=0000000000011190 pages=7") + 1 :]
-    assert again[0] == "=> 11190 _start  addi x2, x2, -16" and again[1].startswith("E04: ")  # there are no labels now
+    assert again[0] == "=> 11190 _start  addi x2, x2, -16" and again[1] == "there is no symbol next"
     assert again[2].split()[:5] == ["11190", *"13 01 01 ff".split()] and again[3] == "328350"
+
+
+def test_a_symbol_with_something_behind_it() -> None:
+    told = "E04: _start+zz is no value, which has hexadecimal digits alone; the form is set xN VALUE"
+    assert shown(["set a0 _start+zz", "set a0 _start+0x8"], SUM)[1:] == [told, "ok"]
 
 
 def test_the_last_words_of_a_page() -> None:
@@ -204,9 +209,13 @@ def test_a_breakpoint_where_the_ticks_of_a_round_end(tmp_path: pathlib.Path) -> 
     "line, told",
     [
         ("dance", "E03: there is no such command, or the line has no word"),
-        ("step 257", "E04: a wrong number of words, or a word out of its form or range; the form is step N"),
-        ("step 01", "E04: a wrong number of words, or a word out of its form or range; the form is step N"),
-        ("break nowhere", "E04: a wrong number of words, or a word out of its form or range; the form is break ADDR"),
+        ("step 257", "E04: 257 isn't from 1 to 256; the form is step N"),
+        ("step 01", "E04: 01 begins with 0, and a decimal number doesn't; the form is step N"),
+        ("break nowhere", "there is no symbol nowhere"),
+        ("set a0 nowhere+8", "there is no symbol nowhere"),
+        ("break 0x10002", "E04: 10002 isn't divisible by 4: the last digit is 0, 4, 8 or c; the form is break ADDR"),
+        ("set q5 1", "E04: q5 is no register that can be set, which are x1 to x31; the form is set xN VALUE"),
+        ("set zero 1", "E04: x0 is always 0; the form is set xN VALUE"),
         ("break 0", "ok"),
         ("run fast", "the form is run"),
         ("source", "the form is source FILE"),

@@ -274,7 +274,7 @@ CASE = "[[cases]]\nexpected.registers = { a0 = 1 }\n"
         ),
         (
             "set_up = ['map 0 1']\n" + CASE,
-            "case 1: map 0 1: E04: a wrong number of words, or a word out of its form or range",
+            "case 1: map 0 1: E04: PERM is missing; the form is map ADDR PAGES PERM",
         ),
         ("reference = 'none.s'\n" + CASE, "case 1: expected: registers isn't a list"),
         ("reference = 'none.s'\n" + CASE.replace("{ a0 = 1 }", "['a0']"), "case 1: it can't be read: No such file"),

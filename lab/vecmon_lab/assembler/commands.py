@@ -9,6 +9,7 @@ from ..machine.answers import Refused
 from ..machine.lines import words_of
 from ..tables.table import read_table
 from .instruction import Statement, refusal
+from .misfits import misfit
 
 
 @dataclass(frozen=True)
@@ -56,5 +57,6 @@ def refusal_in_words(line: str, answer: Refused) -> list[str]:
         text = line[2:].strip(" ").split(maxsplit=2)[2]
         statement = Statement(0, 1, text, tuple(range(1, len(text) + 2)))
         return [text, f"{'^':>{answer.detail}}", f"E15: {refusal(statement, int(answer.detail)).message}"]
-    form = f"; the form is {COMMANDS[name].form}" if answer.code == "E04" and name in COMMANDS else ""
-    return [f"{answer}: {MEANINGS[answer.code]}{form}"]
+    if answer.code == "E04":
+        return [f"E04: {misfit(line, COMMANDS[name].form)}; the form is {COMMANDS[name].form}"]
+    return [f"{answer}: {MEANINGS[answer.code]}"]

@@ -39,6 +39,7 @@ from .show import ABI_NAMES, Screen, change_text, control_row, memory_rows, regi
 
 STEPS = [str(number) for number in range(1, 257)]  # that the machine takes
 WIDTH = 96  # of a row of registers that changed
+DIGITS = "[0-9a-fA-F]+"
 
 LEFT_OUT = {"dis": "{pc:x} {number}", "load": "image", "peek": "ADDR 16", "step": "1", "vreg": "vN {sew}"}
 REGISTERS = {name: number for number, name in ABI_NAMES.items()} | {"fp": "x8"}
@@ -144,7 +145,9 @@ class Console:
             return word
         name, _, offset = word.partition("+")
         address = self._symbols.addresses.get(name)
-        if address is None or not re.fullmatch("(0x)?[0-9a-fA-F]+", offset or "0"):
+        if address is None and re.fullmatch("[A-Za-z_.$][A-Za-z0-9_.$]*", name) and not re.fullmatch(DIGITS, name):
+            raise LabError(f"there is no symbol {name}")
+        if address is None or not re.fullmatch(f"(0x)?{DIGITS}", offset or "0"):
             return word.removeprefix("0x")
         return f"{address + int(offset or '0', 16):x}"
 
