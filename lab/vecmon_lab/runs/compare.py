@@ -11,14 +11,16 @@ from ..guest.changes import Registers, Stepper
 from ..guest.guest import started
 from ..guest.symbols import Symbols
 from ..instructions.accesses import REGISTER_BYTES, vector_instruction
+from ..machine.answers import Stop
 from .counts import elements_of, is_whole
+from .run import status_of
 
 POLICIES, QUANTUMS = ("keep", "ones"), (1000, 7, 1)
 SHOWN_BYTES, SHOWN_DIFFERENCES = 40, 4
 
 
-Outcome = tuple[str, bytes]
-"""How a run ended, and what it wrote."""
+Outcome = tuple[Stop | None, str, bytes]
+"""How a run ended, if it did; that in words, and what it wrote."""
 
 
 def add_arguments(parser: argparse.ArgumentParser) -> None:
@@ -28,27 +30,30 @@ def add_arguments(parser: argparse.ArgumentParser) -> None:
 
 
 def run(arguments: argparse.Namespace) -> int:
-    """Prints how the runs end; 0 where all end alike, else 1. Raises LabError and OSError for bad input."""
+    """Prints how the runs end; 1 where one ends otherwise, else 0, or the status of `run` where the program didn't exit.
+
+    Raises LabError and OSError for bad input.
+    """
     image, symbols = arguments.image, Symbols.read(arguments.image)
     ticks = -(-arguments.ticks // 7000) * 7000  # slices of each length come to the same ticks
     outcomes: dict[tuple[str, int], Outcome] = {}
     for policy, quantum in itertools.product(POLICIES, QUANTUMS):
         outcome = outcomes[policy, quantum] = _outcome(image, policy, quantum, ticks)
         is_same = len(outcomes) > 1 and outcome == outcomes["keep", QUANTUMS[0]]
-        print(f"{policy}, slices of {quantum:>5,}:  {'the same' if is_same else _told(*outcome)}")
+        print(f"{policy}, slices of {quantum:>5,}:  {'the same' if is_same else _told(*outcome[1:])}")
     if any(outcomes["keep", quantum] != outcomes["ones", quantum] for quantum in QUANTUMS):
         for line in _parting(image, symbols, ticks):
             print(line)
     if any(outcomes[policy, quantum] != outcomes[policy, QUANTUMS[0]] for policy, quantum in outcomes):
         print("the length of slices tells only where a vector store that is cut has stored over its own word")
-    return int(len(set(outcomes.values())) > 1)
+    return 1 if len(set(outcomes.values())) > 1 else status_of(outcomes["keep", QUANTUMS[0]][0])
 
 
 def _outcome(image: pathlib.Path, policy: str, quantum: int, ticks: int) -> Outcome:
     """A run of an image, with its name as its argument."""
     with started(image, policy=policy, quantum=quantum, arguments=[image.name]) as guest:
         stop = guest.go(ticks)
-        return str(stop) if stop else f"no end in {ticks:,} ticks, pc={guest.pc:016x}", guest.output()
+        return stop, str(stop) if stop else f"no end in {ticks:,} ticks, pc={guest.pc:016x}", guest.output()
 
 
 def _told(end: str, output: bytes) -> str:

@@ -13,6 +13,7 @@ from ..guest.symbols import Symbols
 from ..page.pages import lone_page
 from ..tables.table import table_lines
 from .counts import Counts, count
+from .run import status_of
 
 HEAD = ("address", "place", "source", "instruction", "times", "ticks", "active", "masked off", "tail", "work")
 Row = Sequence[str | int]
@@ -26,7 +27,10 @@ def add_arguments(parser: argparse.ArgumentParser) -> None:
 
 
 def run(arguments: argparse.Namespace) -> int:
-    """Prints the table, and writes the page and the CSV file. Raises LabError and OSError for bad input."""
+    """Prints the table, and writes the page and the CSV file; 0, or the status of `run` where the program didn't exit.
+
+    Raises LabError and OSError for bad input.
+    """
     image, page = arguments.image, arguments.page
     if page and page.suffix != ".html":
         raise LabError(f"-o names a page, FILE.html, and {page} is none")
@@ -47,7 +51,7 @@ def run(arguments: argparse.Namespace) -> int:
         lengths = [(kind, vl, times) for (kind, vl), times in sorted(counts.lengths.items())]
         data = {"summary": summary, "rows": rows, "lengths": lengths}
         page.write_text(lone_page("profile", f"Profile of {image.name}", data), "utf-8")
-    return 0
+    return status_of(stop)
 
 
 def _rows(counts: Counts, symbols: Symbols) -> Iterator[Row]:
