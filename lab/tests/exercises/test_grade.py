@@ -239,6 +239,12 @@ def test_twenty_four_answers_have_the_rows_that_each_has_alone() -> None:
 
 
 CASE = "[[cases]]\nexpected.registers = { a0 = 1 }\n"
+PLACE = "a text, or a list of numbers, by their type, i8 to u64"
+
+
+def in_memory(place: str) -> str:
+    """An exercise whose case has this place in memory."""
+    return f"{CASE}memory = [{place}]\n"
 
 
 @pytest.mark.parametrize(
@@ -247,26 +253,30 @@ CASE = "[[cases]]\nexpected.registers = { a0 = 1 }\n"
         ("title = 5\n" + CASE, "title isn't a text"),
         ("tilte = '5'\n" + CASE, "there is nothing that is called tilte"),
         ("title = ", "Invalid value (at end of document)"),
-        ("", "there is one case at least, no two have one name, and limits are from 1 up"),
-        ("limits.ticks = 0\n" + CASE, "there is one case at least, no two have one name, and limits are from 1 up"),
+        ("", "exercise.toml: there is no case: [[cases]] begins one"),
+        ("limits.ticks = 0\n" + CASE, "exercise.toml: limits: ticks and output are from 1 up"),
         ("limits = 5\n" + CASE, "limits isn't a table"),
+        ("set_up = [5]\n" + CASE, "exercise.toml: set_up is a list of texts, which are lines of the monitor"),
         ("cases = [5]", "case 1 isn't a table"),
-        (CASE + CASE.replace("]]\n", "]]\nname = 'case 1'\n"), "there is one case at least, no two have one name, and"),
-        ("[[cases]]", "case 1: policy is keep or ones, and registers, memory or output are expected"),
-        (CASE.replace("a0", "zero"), "case 1: zero isn't one of ra to t6 or x1 to x31 with a number of 64 bits"),
-        (CASE.replace("1 }", "1.5 }"), "case 1: a0 isn't one of ra to t6 or x1 to x31 with a number of 64 bits"),
+        (CASE + CASE.replace("]]\n", "]]\nname = 'case 1'\n"), "exercise.toml: two cases are called case 1"),
+        ("[[cases]]", "case 1: nothing is expected: expected has registers, memory or output"),
+        ("[[cases]]\npolicy = 'none'", "case 1: policy is keep or ones, and not none"),
+        (CASE.replace("a0", "zero"), "case 1: zero is no register that can be set, which are ra to t6 or x1 to x31"),
+        (CASE.replace("a0", "q5"), "case 1: q5 is no register that can be set, which are ra to t6 or x1 to x31"),
+        (CASE.replace("1 }", "1.5 }"), "case 1: a0 is 1.5, which is no whole number of 64 bits"),
+        (CASE.replace("1 }", f"{1 << 64} }}"), f"case 1: a0 is {1 << 64}, which is no whole number of 64 bits"),
+        (in_memory("5"), "case 1: a place in memory is a table with `at`, its address, and not 5"),
+        (in_memory("{ u8 = [1] }"), "case 1: a place in memory is a table with `at`, its address, and not {'u8': [1]}"),
+        (in_memory("{ at = -4, u8 = [1] }"), "case 1: -4 is no address of a place in memory, which is below 2^48"),
+        (in_memory("{ at = 4, i8 = [1, 128] }"), "case 1: the place at 0x4: 128 is no i8"),
+        (in_memory("{ at = 4, u8 = ['a'] }"), "case 1: the place at 0x4: a is no u8"),
+        (in_memory("{ at = 4, u8 = [] }"), "case 1: a place has 1 to 1,048,576 bytes, and the one at 0x4 0"),
+        (in_memory("{ at = 4 }"), f"case 1: the place at 0x4 has {PLACE}, and not nothing"),
+        (in_memory("{ at = 4, u8 = 1 }"), f"case 1: the place at 0x4 has {PLACE}, and not u8 = 1"),
+        (in_memory("{ at = 4, u7 = [1] }"), f"case 1: the place at 0x4 has {PLACE}, and not u7 = [1]"),
         (
-            CASE.replace("1 }", f"{1 << 64} }}"),
-            "case 1: a0 isn't one of ra to t6 or x1 to x31 with a number of 64 bits",
-        ),
-        (
-            CASE.replace("1 }", "1 }\nmemory = [{ at = 4, i8 = [128] }]"),
-            "case 1: a place is `at`, an address, and a text or",
-        ),
-        (CASE.replace("1 }", "1 }\nmemory = [{ u8 = [1] }]"), "case 1: a place is `at`, an address, and a text or"),
-        (
-            CASE.replace("1 }", "1 }\nmemory = [{ at = 4, u8 = 1 }]"),
-            "case 1: a place is `at`, an address, and a text or",
+            in_memory("{ at = 4, u8 = [1], text = 'a' }"),
+            f"case 1: the place at 0x4 has {PLACE}, and not u8 = [1], text",
         ),
         (
             CASE.replace("1 }", "1 }\nmemory = [{ at = 4096, u8 = [1] }]"),
@@ -276,8 +286,12 @@ CASE = "[[cases]]\nexpected.registers = { a0 = 1 }\n"
             "set_up = ['map 0 1']\n" + CASE,
             "case 1: map 0 1: E04: PERM is missing; the form is map ADDR PAGES PERM",
         ),
-        ("reference = 'none.s'\n" + CASE, "case 1: expected: registers isn't a list"),
-        ("reference = 'none.s'\n" + CASE.replace("{ a0 = 1 }", "['a0']"), "case 1: it can't be read: No such file"),
+        ("reference = 'none.s'\n" + CASE, "case 1: expected by the reference: registers isn't a list"),
+        ("reference = 'none.s'\n" + CASE.replace("{ a0 = 1 }", "['a0']"), "reference: there is no file "),
+        (
+            "reference = 'none.s'\n[[cases]]\nexpected.memory = [{ at = 4, u8 = [1] }]",
+            "case 1: the place at 0x4 has how many numbers there are, by their type, i8 to u64, and not u8 = [1]",
+        ),
     ],
 )
 def test_a_bad_exercise_is_told(program: pathlib.Path, tmp_path: pathlib.Path, text: str, message: str) -> None:

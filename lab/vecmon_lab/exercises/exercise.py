@@ -3,6 +3,7 @@
 import pathlib
 import struct
 import tomllib
+from collections import Counter
 from collections.abc import Mapping, Sequence
 from dataclasses import dataclass, replace
 from typing import Any
@@ -87,9 +88,18 @@ def read_exercise(folder: pathlib.Path) -> Exercise:
     limits = _taken(f"{path}: limits", table["limits"], {"ticks": TICKS, "output": OUTPUT_BYTES})
     reference = path.parent / table["reference"] if table["reference"] else None
     cases = [_case(f"{path}: case {number}", each, reference) for number, each in enumerate(table["cases"], 1)]
-    if not cases or len({case.name for case in cases}) < len(cases) or min(limits.values()) < 1:
-        raise LabError(f"{path}: there is one case at least, no two have one name, and limits are from 1 up")
-    return Exercise(table["title"], [*map(str, table["set_up"])], limits["ticks"], limits["output"], cases, reference)
+    twice = [name for name, count in Counter(case.name for case in cases).items() if count > 1]
+    mistakes = {
+        "there is no case: [[cases]] begins one": not cases,
+        f"two cases are called {' and '.join(twice)}": twice,
+        "limits: ticks and output are from 1 up": min(limits.values()) < 1,
+        "set_up is a list of texts, which are lines of the monitor": {*map(type, table["set_up"])} - {str},
+        f"reference: there is no file {reference}": reference and not reference.is_file(),
+    }
+    for mistake, is_made in mistakes.items():
+        if is_made:
+            raise LabError(f"{path}: {mistake}")
+    return Exercise(table["title"], table["set_up"], limits["ticks"], limits["output"], cases, reference)
 
 
 def _taken(where: str, entries: Any, defaults: dict[str, Any]) -> dict[str, Any]:
@@ -109,13 +119,16 @@ def _case(where: str, entries: Any, reference: pathlib.Path | None) -> Case:
     defaults = {"name": where.split(": ")[-1], "hidden": False, "policy": "keep", "registers": {}, "memory": []}
     table = _taken(where, entries, defaults | {"expected": {}})
     results = {"registers": [], "output": False} if reference else {"registers": {}, "output": ""}
-    expected, output = _taken(f"{where}: expected", table["expected"], results | {"memory": []}), None
+    of = "expected by the reference" if reference else "expected"
+    expected, output = _taken(f"{where}: {of}", table["expected"], results | {"memory": []}), None
     if "output" in table["expected"]:
         output = b"" if reference else expected["output"].encode()
     asked = dict.fromkeys(map(str, expected["registers"]), 0) if reference else expected["registers"]
     places = [_place(where, each, bool(reference)) for each in expected["memory"]]
-    if table["policy"] not in ("keep", "ones") or not (asked or places or output is not None):
-        raise LabError(f"{where}: policy is keep or ones, and registers, memory or output are expected")
+    if table["policy"] not in ("keep", "ones"):
+        raise LabError(f"{where}: policy is keep or ones, and not {table['policy']}")
+    if not (asked or places or output is not None):
+        raise LabError(f"{where}: nothing is expected: expected has registers, memory or output")
     memory = [_place(where, each, False) for each in table["memory"]]
     inputs = (table["policy"], _registers(where, table["registers"]), memory)
     return Case(table["name"], table["hidden"], *inputs, Results(_registers(where, asked), places, output))
@@ -124,23 +137,44 @@ def _case(where: str, entries: Any, reference: pathlib.Path | None) -> Case:
 def _registers(where: str, named: dict[str, Any]) -> dict[str, int]:
     """Values of 64 bits by register."""
     for name, value in named.items():
-        if _REGISTERS.get(name, "x0") == "x0" or type(value) is not int or not -(1 << 63) <= value < 1 << 64:
-            raise LabError(f"{where}: {name} isn't one of ra to t6 or x1 to x31 with a number of 64 bits")
+        if _REGISTERS.get(name, "x0") == "x0":
+            raise LabError(f"{where}: {name} is no register that can be set, which are ra to t6 or x1 to x31")
+        if type(value) is not int or not -(1 << 63) <= value < 1 << 64:
+            raise LabError(f"{where}: {name} is {value}, which is no whole number of 64 bits")
     return {_REGISTERS[name]: value % (1 << 64) for name, value in named.items()}
 
 
 def _place(where: str, entries: Any, by_reference: bool) -> Place:
-    """A place in memory: `at`, and the numbers, or how many, by their type; or a text."""
-    try:
-        address = entries.pop("at")
-        ((kind, numbers),) = entries.items()
-        if by_reference:
-            numbers = [0] * min(numbers, PLACE_BYTES)
-        elif kind == "text":
-            kind, numbers = "u8", list(numbers.encode())
-        place = Place(address, kind, numbers)
-        if not 0 <= address < 1 << 48 or not 0 < len(place.data) <= PLACE_BYTES:
-            raise ValueError
-    except (AttributeError, KeyError, TypeError, ValueError, struct.error) as error:
-        raise LabError(f"{where}: a place is `at`, an address, and a text or numbers from i8 to u64") from error
+    """A place in memory: `at`, and the numbers, or how many, by their type; or a text. Raises LabError."""
+    match entries:
+        case {"at": int(address)} if 0 <= address < 1 << 48:
+            others = {key: value for key, value in entries.items() if key != "at"}
+            place = Place(address, *_numbers(f"{where}: the place at {address:#x}", others, by_reference))
+        case {"at": address}:
+            raise LabError(f"{where}: {address} is no address of a place in memory, which is below 2^48")
+        case _:
+            raise LabError(f"{where}: a place in memory is a table with `at`, its address, and not {entries}")
+    if not 0 < len(place.data) <= PLACE_BYTES:
+        raise LabError(
+            f"{where}: a place has 1 to {PLACE_BYTES:,} bytes, and the one at {address:#x} {len(place.data):,}"
+        )
     return place
+
+
+def _numbers(where: str, entries: dict[str, Any], by_reference: bool) -> tuple[str, list[int]]:
+    """The numbers of a place, or as many zeros as there are, and their type. Raises LabError."""
+    match [*entries.items()]:
+        case [("text", str(text))] if not by_reference:
+            return "u8", [*text.encode()]
+        case [(kind, int(count))] if by_reference and kind in _FORMATS:
+            return kind, [0] * min(count, PLACE_BYTES + 1)
+        case [(kind, list(numbers))] if not by_reference and kind in _FORMATS:
+            bits = int(kind[1:])
+            least = -(1 << bits - 1) if kind[0] == "i" else 0
+            odd = [number for number in numbers if type(number) is not int or not least <= number < least + (1 << bits)]
+            if not odd:
+                return kind, numbers
+            raise LabError(f"{where}: {odd[0]} is no {kind}")
+    form = "how many numbers there are" if by_reference else "a text, or a list of numbers"
+    told = ", ".join(f"{key} = {value}" for key, value in entries.items()) or "nothing"
+    raise LabError(f"{where} has {form}, by their type, i8 to u64, and not {told}")
