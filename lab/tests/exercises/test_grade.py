@@ -138,9 +138,9 @@ def test_a_script_and_an_image_are_right(echo: Echo, program: pathlib.Path, tmp_
     "change, reason",
     [
         (("li t0, 7", "li t0, 8"), "element 1, i32 at 0x20014: expected 7, found 8"),
-        (("sw t0, 16", "sw t0, 24"), "element 0, i32 at 0x20010: expected -5, found 4"),  # the opposite stands there
+        (("sw t0, 16", "sw t0, 24"), "element 0, i32 at 0x20010: expected -5, and it was left as it was"),
         (("li t1, -1", "addi a0, a0, 1"), "x10: expected 5, found 6"),
-        (("li t1, -1", ""), "x6: expected -1, found 0"),
+        (("li t1, -1", ""), "x6: expected -1, and it was left as it was"),
         (("li a0, 1", "li a0, 1\naddi a2, a2, -1"), "x10: expected 5, found 4"),
         (("ecall", "ecall\nli a0, 1\necall"), "it writes more than 8 bytes"),
         (("ecall", "li a0, 5"), "output: expected 'hello', found ''"),
@@ -164,7 +164,11 @@ def test_the_first_wrong_place_is_told(echo: Echo, change: tuple[str, str], reas
 @pytest.mark.parametrize(
     "content, name, reason",
     [
-        (BY_POKES, "script", "x10: expected 5, found -6"),  # the opposite stands there when the program begins
+        (
+            BY_POKES,
+            "script",
+            "x10: expected 5, and it was left as it was",
+        ),  # it has another value when the program begins
         (
             BY_POKES + "1 map 20000 1 rw\n1 poke 20010 fbffffff07000000",
             "script",
@@ -184,7 +188,12 @@ def test_the_first_wrong_place_is_told(echo: Echo, change: tuple[str, str], reas
             "line 13: an answer has no line of the operator's, and no enter, leave or load",
         ),
         (BY_HAND + "1 regs", "script", "line 13: an answer has lines of one user, here of 2"),
-        ("regs", "script", "line 1: a line begins with `1 ` to `8 ` or `* `: 'regs'"),
+        ("regs", "script", "line 1: 'regs' has no user's digit and space before it; a source's name ends in .s or .S"),
+        (
+            "1 set x5 1\nret",
+            "a.asm",
+            "line 2: 'ret' has no user's digit and space before it; a source's name ends in .s or .S",
+        ),
         ("1 map 10000 1 rx\n1 asm 10000 nop", "script", "asm 10000 nop: E15: there is no instruction nop"),
         ("", "script", "No instruction can be fetched at 0x0: its page isn't mapped, or has no permission x."),
         ("", "empty.s", "No instruction can be fetched at 0x10000: its page isn't mapped, or has no permission x."),
