@@ -16,6 +16,7 @@ import pytest
 from support.class_tabs import LOOP, SECONDS, process, served
 from support.places import TOP
 from vecmon_lab import LabError
+from vecmon_lab.classes.requests import Lines
 from vecmon_lab.classes.room import Stopped
 from vecmon_lab.classes.store import BadFolder, Store
 from vecmon_lab.classes.view import Class
@@ -143,14 +144,14 @@ async def test_a_replay_that_differs_stops_the_class(tmp_path: pathlib.Path) -> 
     members = Class(Store(tmp_path / "class", program), 5.0)
     room = members.rooms["A"]
     for line in LOOP:
-        await room.lines(room.seats["1"], [line], [], 0, [])
+        await room.lines(room.seats.users["1"], Lines("", [line], 0, []), [])
     word.write_text("00128294")
     room.session.close()
     for _ in range(2):
         with pytest.raises(Stopped, match="in doubt.*line 3, '1 asm 10000 .*now with '1 0000000000010000 00128294'"):
-            await room.lines(room.seats["1"], ["step 1"], [], 0, [])
+            await room.lines(room.seats.users["1"], Lines("", ["step 1"], 0, []), [])
     with pytest.raises(Stopped):
-        await room.source(room.seats["1"], "nop")
+        await room.source(room.seats.users["1"], "nop")
     assert "in doubt" in room.trouble and room.session.lines == len(LOOP)
     members.end()
     assert (tmp_path / "class" / "A.script").read_text().count("\n") == len(LOOP)
@@ -161,17 +162,17 @@ async def test_a_program_that_cannot_be_had_for_a_while(tmp_path: pathlib.Path) 
     shutil.copy(find_program(), program)
     members = Class(Store(tmp_path / "class", program), 5.0)
     room = members.rooms["A"]
-    await room.lines(room.seats["1"], LOOP, [], 0, [])
+    await room.lines(room.seats.users["1"], Lines("", LOOP, 0, []), [])
     program.rename(tmp_path / "elsewhere")
     assert room.session.process
     os.kill(room.session.process, signal.SIGKILL)
     room.set_clock({"on": True})
     with pytest.raises(machine.ProgramGone):
-        await room.lines(room.seats["1"], ["step 1"], [], 0, [])
+        await room.lines(room.seats.users["1"], Lines("", ["step 1"], 0, []), [])
     assert "is down" in room.trouble
     (tmp_path / "elsewhere").rename(program)
     done: list[list[str]] = []
-    await room.lines(room.seats["1"], ["step 1"], [], 0, done)
+    await room.lines(room.seats.users["1"], Lines("", ["step 1"], 0, []), done)
     assert done == [["stepped 1 pc=0000000000010004"]] and room.trouble == ""
     members.end()
     assert (tmp_path / "class" / "A.script").read_bytes() == room.session.script

@@ -10,7 +10,7 @@ import socket
 from .. import LabError
 from ..arguments import between
 from ..machine.program import find_program, images_of
-from .seats import LETTERS
+from .codes import LETTERS
 from .server import listening, serve
 from .store import Store
 from .view import Class

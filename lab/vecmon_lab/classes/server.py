@@ -13,13 +13,12 @@ import subprocess
 import sys
 import weakref
 from collections.abc import AsyncIterator, Awaitable, Callable, Iterable
-from typing import Any
 
 from aiohttp import WSMsgType, web
 from aiohttp.http import HttpProcessingError
 
 from ..page.pages import Page
-from .seats import TEACHER
+from .codes import TEACHER
 from .store import BadFolder
 from .view import Class, Message, Tab
 
@@ -40,7 +39,7 @@ class Server:
         """names: hosts that the page may be opened under, besides all numeric addresses."""
         self.members, self.names = members, {"localhost", *names}
         self._page = Page("class")
-        self._spoke: set[Any] = set()  # connections that have made a whole request
+        self._spoke: set[web.RequestHandler] = set()  # connections that have made a whole request
         self._is_ending = False
         self._nameless = asyncio.Semaphore(UNKNOWN)  # had by sockets without a code
         self._sockets: weakref.WeakSet[web.WebSocketResponse] = weakref.WeakSet()
@@ -70,7 +69,7 @@ class Server:
 
     async def sweep(self, runner: web.AppRunner) -> None:
         """Closes connections that have made no request in time, and the oldest such where there are too many."""
-        loop, since = asyncio.get_running_loop(), dict[Any, float]()
+        loop, since = asyncio.get_running_loop(), dict[web.RequestHandler, float]()
         while True:
             await asyncio.sleep(0.5)
             there = set(runner.server.connections) if runner.server else set()
@@ -170,7 +169,8 @@ class Server:
             while tab.is_open:
                 await tab.changed.wait()
                 if tab.is_open and (news := self.members.news(tab)):
-                    await send({"kind": "news", **news})
+                    news["kind"] = "news"
+                    await send(news)
                 await asyncio.sleep(0.1 if tab.who == TEACHER else 0.02)  # what changes meanwhile goes together
             await own.close(code=CLOSED, message=b"another code")
 
@@ -209,7 +209,7 @@ async def served(members: Class, doors: Iterable[socket.socket], names: set[str]
     try:
         for door in doors:
             await web.SockSite(runner, door, shutdown_timeout=2.0).start()
-        work = [server.sweep(runner), _keep(members), *(room.run_clock() for room in members.rooms.values())]
+        work = [server.sweep(runner), _keep(members), *(room.clock.run() for room in members.rooms.values())]
         tasks = [asyncio.create_task(each) for each in work]
         yield runner.addresses[0][1]
     finally:

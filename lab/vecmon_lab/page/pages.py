@@ -7,7 +7,6 @@ import json
 import pathlib
 import string
 from collections.abc import Mapping
-from typing import Any
 
 from ..assembler.commands import MEANINGS
 from .modules import join_modules
@@ -34,22 +33,22 @@ class Page:
         return self._template.substitute(texts)
 
 
-def lone_page(name: str, title: str, data: Any) -> str:
+def lone_page(name: str, title: str, data: object) -> str:
     """A page that loads nothing, with what its script shows."""
     page, text = Page(name), json.dumps(data, separators=(",", ":")).replace("<", "\\u003c")
     policy = f'<meta http-equiv="Content-Security-Policy" content="{page.policy}">'
     return page.text(html.escape(title), text, policy)
 
 
-def merge_patch(old: Mapping[str, Any], new: Mapping[str, Any]) -> dict[str, Any]:
+def merge_patch(old: Mapping[str, object], new: Mapping[str, object]) -> dict[str, object]:
     """The merge patch (RFC 7396) that makes the new object from the old one; no value is None."""
-    patch: dict[str, Any] = {key: None for key in old if key not in new}
+    patch: dict[str, object] = {key: None for key in old if key not in new}
     for key, value in new.items():
-        if key in old and isinstance(value, dict) and isinstance(old[key], dict):
-            if value != old[key]:
-                patch[key] = merge_patch(old[key], value)
-        elif key not in old or value != old[key]:
+        before = old.get(key)
+        if value != before:
             patch[key] = value
+            if isinstance(value, dict) and isinstance(before, dict):
+                patch[key] = merge_patch(before, value)
     return patch
 
 

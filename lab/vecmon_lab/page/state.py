@@ -3,7 +3,7 @@
 import re
 from collections import Counter
 from collections.abc import Iterator, Sequence
-from typing import Required, TypedDict
+from typing import TypedDict
 
 from ..guest.guest import Guest
 from ..instructions.accesses import LINE_BYTES, PAGE_BYTES, ROW_BYTES
@@ -36,9 +36,10 @@ class State(TypedDict, total=False):
     instruction: the address of the instruction that was carried out last, or faulted, in what was just done
     stop: why the program stopped in what was just done, in words
     output: the bytes that answers to `out` have shown
+    labels: in a class, names by address of the source that was assembled last
     """
 
-    run: Required[str]
+    run: str
     pc: str
     x: dict[str, str]
     vtype: str
@@ -56,6 +57,7 @@ class State(TypedDict, total=False):
     faulted: bool
     stop: str
     output: str
+    labels: dict[str, list[str]]
 
 
 ABSENT: State = {"run": "absent"}
