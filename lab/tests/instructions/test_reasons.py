@@ -9,22 +9,18 @@ from collections.abc import Iterator
 
 import pytest
 
-from support.machine_cases import (
+from support.machine_cases import encodings, fixed_bits, machine_says, random_case, view_of, with_operands
+from support.places import DOCS
+from vecmon_lab.instructions.reasons import describe_stop, illegal_reasons
+from vecmon_lab.instructions.words import (
     CONTROL_REGISTERS,
     LOAD_FP,
     OP_V,
     STORE_FP,
     SYSTEM,
-    encodings,
-    fixed_bits,
-    machine_says,
-    random_case,
-    view_of,
-    with_operands,
+    NoInstruction,
+    decode,
 )
-from support.places import DOCS
-from vecmon_lab.instructions.reasons import describe_stop, illegal_reasons
-from vecmon_lab.instructions.words import NoInstruction, decode
 from vecmon_lab.machine.answers import Position, Stop, VectorView, read
 
 VILL = VectorView(1 << 63, 0)

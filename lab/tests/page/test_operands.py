@@ -7,9 +7,9 @@ from typing import TYPE_CHECKING
 
 import pytest
 
-from support.machine_cases import SUPPORTED, encodings, with_operands
+from support.machine_cases import encodings, with_operands
 from vecmon_lab.instructions.reasons import illegal_reasons
-from vecmon_lab.instructions.words import decode
+from vecmon_lab.instructions.words import SUPPORTED, decode
 from vecmon_lab.machine.answers import VectorView
 from vecmon_lab.machine.session import Session
 from vecmon_lab.page.modules import join_modules

@@ -53,17 +53,9 @@ class StudentView(TypedDict):
     trouble: str
 
 
-class SeatView(TypedDict):
-    """What the teacher's page shows of a seat."""
-
-    code: str
-    tabs: int
-    run: str
-    pc: str
-    stop: str
-    line: str
-    answer: str
-    used: int
+SeatView = TypedDict(
+    "SeatView", {"code": str, "tabs": int, "run": str, "pc": str, "stop": str, "line": str, "answer": str, "used": int}
+)
 
 
 class MachineView(TypedDict):

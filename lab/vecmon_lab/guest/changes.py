@@ -6,7 +6,7 @@ from dataclasses import dataclass
 from fractions import Fraction
 
 from ..instructions.accesses import PAGE_BYTES, REGISTER_BYTES, Span, stored_spans, vector_instruction
-from ..instructions.words import Operand
+from ..instructions.words import LOAD_FP, OP_V, STORE_FP, SYSTEM, Operand
 from ..machine.answers import (
     CONTROL,
     Answer,
@@ -23,7 +23,7 @@ from .guest import Guest
 
 WORDS_AT_ONCE = 16  # that a look shows
 SCALARS = [f"x{number}" for number in range(32)]
-ECALL, OP_V, SYSTEM, LOAD_FP, STORE_FP = 0x73, 0x57, 0x73, 0x07, 0x27
+ECALL = 0x73  # the word
 CONTROLLING = (OP_V, SYSTEM, LOAD_FP, STORE_FP)  # opcodes of what may write control registers
 NO_REGISTER = (0x63, 0x23, 0x0F, OP_V, LOAD_FP, STORE_FP)  # those of what writes no scalar register, but for
 OP_VSET, OP_MVV, FROM_VECTOR = 7, 2, 0b010000  # funct3 of vset; that of vmv.x.s, vcpop and vfirst, and their funct6

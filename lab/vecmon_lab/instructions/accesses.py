@@ -4,9 +4,8 @@ import functools
 from collections.abc import Iterable, Iterator, Sequence
 
 from ..machine.answers import ControlRegisters, VectorView
-from .words import NoInstruction, Operand, VectorInstruction, decode
+from .words import STORE, STORE_FP, NoInstruction, Operand, VectorInstruction, decode
 
-SCALAR_STORE, VECTOR_STORE = 0x23, 0x27
 UNIT_STRIDE, STRIDED = 0, 2  # mop; 1 and 3 are indexed
 WHOLE_REGISTERS, MASK = 0b01000, 0b01011  # sumop
 REGISTER_BYTES, ROW_BYTES, LINE_BYTES, PAGE_BYTES = 32, 16, 256, 4096  # a line shows or writes LINE_BYTES of memory
@@ -32,10 +31,10 @@ def stored_spans(word: int, x: Sequence[int], control: ControlRegisters, v: byte
     Elements that are masked off count, and those after one that faults.
     """
     opcode, base = word & 0x7F, x[word >> 15 & 31]
-    if opcode == SCALAR_STORE:
+    if opcode == STORE:
         offset = (word >> 25 << 5 | word >> 7 & 31) ^ 0x800
         return _joined([(base + offset - 0x800, 1 << (word >> 12 & 3))])
-    instruction = vector_instruction(word, control.vtype) if opcode == VECTOR_STORE else None
+    instruction = vector_instruction(word, control.vtype) if opcode == STORE_FP else None
     if instruction is None:
         return []
     return _joined(_vector_spans(word, base, x[word >> 20 & 31], control, v, instruction.operands))

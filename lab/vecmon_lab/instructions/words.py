@@ -8,7 +8,12 @@ from fractions import Fraction
 
 from ..tables.table import read_table
 
-VECTOR_ACCESSES = (0x07, 0x27)  # opcodes of loads and stores
+LOAD, LOAD_FP, STORE, STORE_FP, OP_V, SYSTEM = 0x03, 0x07, 0x23, 0x27, 0x57, 0x73  # opcodes
+VECTOR_ACCESSES = (LOAD_FP, STORE_FP)  # of vector loads and stores
+CONTROL_REGISTERS = (0x008, 0x009, 0x00A, 0x00F, 0xC20, 0xC21, 0xC22)  # vstart, vxsat, vxrm, vcsr, vl, vtype, vlenb
+SUPPORTED = [sew << 3 | lmul for sew in range(4) for lmul in (0, 1, 2, 3, 5, 6, 7) if lmul < 4 or sew <= lmul - 5]
+"""The 22 supported vector types by SEW and LMUL, without the policies in bits 6 and 7."""
+
 CARRIES = ("vmerge", "vadc", "vsbc", "vmadc", "vmsbc")  # where vm is 0, v0 is an operand and no mask
 
 Trait = enum.Enum("Trait", "APART ANYWHERE V0_TOO UNTYPED FROM_ZERO BELOW_64")

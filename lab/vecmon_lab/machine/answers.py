@@ -11,39 +11,23 @@ from dataclasses import dataclass
 from fractions import Fraction
 
 from .. import LabError
+from ..tables.table import read_table
 from .lines import words_of
 
 _REFUSAL = re.compile(r"\* E0[34]|[1-8] E(?:0[3-8]|09 [A-Za-z]+|1[0-46]|15 [0-9]+)")
-_VALUE = "[0-9a-f]{16}"
-_PLACE = f"pc={_VALUE}"
-_STOP = f"(?:(?:break|ebreak|outfull|exit [0-9]+) {_PLACE}|fault cause=[01257] {_PLACE} value={_VALUE})"
-_STOP_LINE = re.compile(f"[1-8] {_STOP}")
-_ONE_LINE = {  # the words of an accepted answer, by the command's first word
-    "enter": "entered",
-    "leave": "left",
-    "load": f"loaded {_PLACE} pages=[0-9]+",
-    **dict.fromkeys("map poke set setpc vset policy break unbreak".split(), "ok"),
-    "peek": f"peek {_VALUE} (?:[0-9a-f]{{2}})+",
-    "regs": f"(?:pc|x[0-9]+) {_VALUE}(?: x[0-9]+ {_VALUE})*",
-    "vreg": "v[0-9]+(?: [0-9a-f]+)+",
-    "vcsr": f"vl=[0-9]+ vtype={_VALUE} vstart=[0-9]+ vxrm=[0-3] vxsat=[01]",
-    "asm": f"{_VALUE} [0-9a-f]{{8}}",
-    "dis": f"{_VALUE} [0-9a-f]{{8}} [ -~]+",
-    "breaks": f"breaks(?: {_VALUE})*",
-    "step": f"stepped [0-9]+ {_PLACE}|{_STOP}",
-    "go": f"running {_PLACE}",
-    "stop": f"stopped {_PLACE}",
-    "state": f"state (?:stopped|running) {_PLACE}",
-    "trace": f"trace(?: {_VALUE})*",
-    "out": "out [0-9]+(?: [0-9a-f]+)?",
-}
-_OPERATOR_LINE = {
-    **dict.fromkeys(("slices", "run"), "granted [0-9]+"),
-    "list": "list(?: [1-8]:(?:-|stopped|running)){8}",
-    "stats": "saves [0-9]+ restores [0-9]+ inits [0-9]+ owner [0-8]",
-}
-_USER = {word: re.compile(f"[1-8] (?:{answer})") for word, answer in _ONE_LINE.items()}
-_OPERATOR = {word: re.compile(rf"\* {answer}") for word, answer in _OPERATOR_LINE.items()}
+_STOP = "(?:(?:break|ebreak|outfull|exit D) pc=V16|fault cause=[01257] pc=V16 value=V16)"
+_WORDS = {"STOP": _STOP, "V16": "[0-9a-f]{16}", "WORD": "[0-9a-f]{8}", "HEX": "(?:[0-9a-f]{2})+", "D": "[0-9]+"}
+
+
+def _pattern(form: str, who: str = "[1-8*]") -> re.Pattern[str]:
+    """What matches a line of a form, with what stands before it."""
+    for word, expression in _WORDS.items():
+        form = form.replace(word, expression)
+    return re.compile(f"{who} (?:{form})")
+
+
+_STOP_LINE = _pattern("STOP", "[1-8]")
+_LINES = {command: _pattern(form) for command, form in read_table("answers")}
 
 
 class OutOfStep(LabError):
@@ -363,13 +347,12 @@ def is_whole(line: str, answer: Sequence[str]) -> bool:
 
     To be called with each line that comes; raises OutOfStep where the latest one can't be a part of the answer.
     """
-    latest, word = answer[-1], "".join(words_of(line)[:1])
+    latest, command = answer[-1], ("* " if line[0] == "*" else "") + "".join(words_of(line)[:1])
     if latest[:2] == line[:2] and is_refusal(answer):
         return True
-    if line[0] == "*" and word in ("slices", "run") and is_stop(latest):
+    if command in ("* slices", "* run") and is_stop(latest):
         return False
-    shape = (_OPERATOR if line[0] == "*" else _USER).get(word)
-    if latest[:2] != line[:2] or shape is None or not shape.fullmatch(latest):
+    if latest[:2] != line[:2] or command not in _LINES or not _LINES[command].fullmatch(latest):
         raise OutOfStep(f"the answer to {line[:60]!r} can't have the line {latest[:60]!a}")
     return line[0] == "*" or len(answer) == _user_lines(line)
 
