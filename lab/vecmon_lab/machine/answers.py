@@ -5,6 +5,7 @@ answer is the stop lines of the slices that it granted, and then a line that beg
 (`str`) as the machine printed it, without the digits of users.
 """
 
+import functools
 import re
 from collections.abc import Callable, Sequence
 from dataclasses import dataclass
@@ -347,21 +348,25 @@ def is_whole(line: str, answer: Sequence[str]) -> bool:
 
     To be called with each line that comes; raises OutOfStep where the latest one can't be a part of the answer.
     """
-    latest, command = answer[-1], ("* " if line[0] == "*" else "") + "".join(words_of(line)[:1])
-    if latest[:2] == line[:2] and is_refusal(answer):
+    latest, (form, count) = answer[-1], _shape(line)
+    if latest[2:3] == "E" and latest[:2] == line[:2] and is_refusal(answer):
         return True
-    if command in ("* slices", "* run") and is_stop(latest):
+    if not count and is_stop(latest):
         return False
-    if latest[:2] != line[:2] or command not in _LINES or not _LINES[command].fullmatch(latest):
+    if latest[:2] != line[:2] or form is None or not form.fullmatch(latest):
         raise OutOfStep(f"the answer to {line[:60]!r} can't have the line {latest[:60]!a}")
-    return line[0] == "*" or len(answer) == _user_lines(line)
+    return not count or len(answer) == count
 
 
-def _user_lines(line: str) -> int:
-    """How many lines the answer to a user's line has, if it is accepted."""
-    match words_of(line):
-        case ["regs"]:
-            return 9
-        case ["dis", _, number] if number.isdecimal():
-            return int(number)
-    return 1
+@functools.lru_cache(maxsize=1024)
+def _shape(line: str) -> tuple[re.Pattern[str] | None, int]:
+    """What matches a line of the answer, if it is accepted, and how many lines it has; 0 where stops stand before."""
+    words = words_of(line)
+    command, count = ("* " if line[0] == "*" else "") + "".join(words[:1]), 1
+    if command in ("* slices", "* run"):
+        count = 0
+    elif words == ["regs"]:
+        count = 9
+    elif command == "dis" and len(words) == 3 and words[2].isdecimal():
+        count = max(1, int(words[2]))
+    return _LINES.get(command), count
