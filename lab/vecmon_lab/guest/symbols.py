@@ -5,9 +5,12 @@ import functools
 import pathlib
 from collections.abc import Iterator, Mapping, Sequence
 from dataclasses import dataclass, field
-from typing import Any
+from typing import TYPE_CHECKING
 
 from ..instructions.accesses import PAGE_BYTES
+
+if TYPE_CHECKING:
+    from elftools.elf.elffile import ELFFile
 
 ALLOCATED = 2  # SHF_ALLOC: the section is a part of the memory
 NAMING = ("STT_NOTYPE", "STT_OBJECT", "STT_FUNC")
@@ -85,7 +88,7 @@ class Symbols:
         return rows, ""
 
 
-def _symbols(elf: Any) -> Iterator[tuple[int, int, int, str]]:
+def _symbols(elf: "ELFFile") -> Iterator[tuple[int, int, int, str]]:
     """The address of each symbol, how much it tells, the end of its section or 0, and its name."""
     for section in elf.iter_sections():
         if section["sh_type"] not in ("SHT_SYMTAB", "SHT_DYNSYM"):
@@ -99,7 +102,7 @@ def _symbols(elf: Any) -> Iterator[tuple[int, int, int, str]]:
             yield symbol["st_value"], rank, end, symbol.name
 
 
-def _section_end(elf: Any, index: int, address: int) -> int:
+def _section_end(elf: "ELFFile", index: int, address: int) -> int:
     """The end of the section of a symbol, if the symbol stands in it; else 0."""
     section = elf.get_section(index)
     start: int = section["sh_addr"]
@@ -107,7 +110,7 @@ def _section_end(elf: Any, index: int, address: int) -> int:
     return end if section["sh_flags"] & ALLOCATED and start <= address < end else 0
 
 
-def _source_rows(elf: Any) -> Iterator[tuple[int, str]]:
+def _source_rows(elf: "ELFFile") -> Iterator[tuple[int, str]]:
     """The address of each row of the line tables, and its file and line; "" at the end of a sequence."""
     if not elf.has_dwarf_info():
         return
