@@ -8,7 +8,6 @@ from typing import Any
 
 import pytest
 
-from vecmon_lab.classes.codes import CODE_LETTERS, Codes, new_code
 from vecmon_lab.classes.requests import Lines
 from vecmon_lab.classes.room import Room
 from vecmon_lab.classes.seats import Seat
@@ -107,14 +106,3 @@ async def test_overviews_do_not_wait_for_the_machine(tmp_path: pathlib.Path) -> 
     await asyncio.sleep(0.05)
     assert machine.room.is_busy() and machine.room.notes().lines == 0
     assert await machine.order(1, task) == "1"
-
-
-async def test_codes() -> None:
-    codes = Codes("AB", {"A1": "kept", "C1": "gone"})
-    assert list(codes.codes) == ["teacher", *(f"{letter}{digit}" for letter in "AB" for digit in "12345678")]
-    assert codes.who("kept") == "A1" and codes.who(codes.codes["teacher"]) == "teacher"
-    assert [codes.who(code) for code in ("", "gone", None, 5, "é", "\ud800")] == [None] * 6
-    codes.renew("A1")
-    assert codes.who("kept") is None and codes.who(codes.codes["A1"]) == "A1"
-    assert len(CODE_LETTERS) ** len(new_code()) > 1 << 64
-    assert len({new_code() for _ in range(1000)}) == 1000
