@@ -3,6 +3,7 @@
 A line is `1 ` to `8 ` (a user) or `* ` (the operator) and a command.
 """
 
+import functools
 import re
 
 from .. import LabError
@@ -37,6 +38,7 @@ def words_of(line: str) -> list[str]:
     return line[2:].split()
 
 
+@functools.lru_cache(maxsize=4096)
 def is_look(line: str) -> bool:
     """Whether the line only looks: it changes nothing, whatever is answered."""
     return f"{line[:1]} {''.join(words_of(line)[:1])}" in LOOKS
