@@ -8,7 +8,7 @@ from collections.abc import Callable
 
 import pytest
 
-from support.images import make_image
+from support.images import MARCH, make_image
 from support.places import DATA, SUM
 from vecmon_lab import LabError
 from vecmon_lab.exercises.answer import settled
@@ -198,7 +198,17 @@ def test_the_first_wrong_place_is_told(echo: Echo, change: tuple[str, str], reas
         ("", "script", "No instruction can be fetched at 0x0: its page isn't mapped, or has no permission x."),
         ("", "empty.s", "No instruction can be fetched at 0x10000: its page isn't mapped, or has no permission x."),
         (b"\x7fELF", "image", "the machine refuses image (E09 Short): the file has less than 64 bytes"),
-        (b"\x7fELF\1\1\1" + bytes(60), "image", "the machine refuses image (E09 Class): the class isn't 2, 64 bits"),
+        (
+            b"\x7fELF\1\1\1" + bytes(60),
+            "image",
+            f"the machine refuses image (E09 Class): the class isn't 2, 64 bits: compile with {MARCH} -mabi=lp64",
+        ),
+        (
+            b"\x7fELF\2\1".ljust(18, b"\0") + b"\xf3".ljust(30, b"\0") + b"\5".ljust(16, b"\0"),
+            "image",
+            "it is compiled for compressed instructions and a floating-point ABI, and the machine has none: "
+            f"compile with {MARCH} -mabi=lp64",
+        ),
         pytest.param(b"\x7fELF" + bytes(1 << 22), "image", "it has more than 4,194,304 bytes", id="large"),
         (b"1 regs\n\xff\xfe", "script", "it is no image and no text: byte 8 is 0xff"),
         (b"\0\0\0", "answer.s", "answer.s:1:1: \0 stands where an instruction, a directive or a label has to"),

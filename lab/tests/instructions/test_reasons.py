@@ -10,6 +10,7 @@ from collections.abc import Iterator
 import pytest
 
 from support.machine_cases import encodings, fixed_bits, machine_says, random_case, view_of, with_operands
+from support.images import MARCH
 from support.places import DOCS
 from vecmon_lab.instructions.reasons import describe_stop, illegal_reasons
 from vecmon_lab.instructions.words import (
@@ -277,21 +278,37 @@ REASONS: list[tuple[str, VectorView, list[str]]] = [
     (
         ".word 0x00010001",
         VILL,
-        ["Its lowest bits aren't 11: it would be a compressed instruction, and the machine has none."],
+        [
+            f"Its lowest bits aren't 11: it would be a compressed instruction, and the machine has none: compile with {MARCH}."
+        ],
     ),
     (
         ".word 0xffffffff",
         VILL,
         ["Its lowest bits are 11111: it would be longer than 32 bits, and the machine has none such."],
     ),
-    (".word 0x1005252f", VILL, ["It would be an atomic instruction, and the machine has none."]),
-    (".word 0x02a50553", VILL, ["It would be a floating-point instruction, and the machine has none."]),
-    (".word 0x00053507", VILL, ["It would be a floating-point load, and the machine has none."]),
-    (".word 0x02209057", VILL, ["It would be a vector floating-point instruction, and Zve64x has none."]),
+    (".word 0x1005252f", VILL, [f"It would be an atomic instruction, and the machine has none: compile with {MARCH}."]),
+    (
+        ".word 0x02a50553",
+        VILL,
+        [f"It would be a floating-point instruction, and the machine has none: compile with {MARCH}."],
+    ),
+    (".word 0x00053507", VILL, [f"It would be a floating-point load, and the machine has none: compile with {MARCH}."]),
+    (
+        ".word 0x02209057",
+        VILL,
+        [f"It would be a vector floating-point instruction, and Zve64x has none: compile with {MARCH}."],
+    ),
     (".word 0x0000100f", VILL, ["There is no fence.i: a fetch sees every earlier store."]),
     (".word 0x0000000b", VILL, ["No instruction has the opcode 0001011."]),
     (".word 0x00002063", VILL, ["No instruction with the opcode 1100011 has funct3 010."]),
-    (".word 0x40001033", VILL, ["No instruction with the opcode 0110011 and funct3 001 has funct7 0100000."]),
+    (
+        ".word 0x40001033",
+        VILL,
+        [
+            f"It would be an instruction of another extension, as Zba or Zbb, and the machine has none: compile with {MARCH}."
+        ],
+    ),
     (
         ".word 0x10500073",
         VILL,

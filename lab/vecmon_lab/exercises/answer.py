@@ -11,6 +11,7 @@ from ..guest.guest import IMAGE_BYTES, QUANTUM, STACK_END, STACK_POINTER, Guest,
 from ..lessons.script import Script, read_source, refused_statement
 from ..machine.answers import Refused, ScalarRegisters
 from ..machine.lines import check_line, words_of
+from ..machine.program import check_flags
 from ..machine.session import Session
 from .exercise import Case, Exercise, Results
 
@@ -18,7 +19,7 @@ RETURN = STACK_END
 """Where an answer returns to, as x1 has it: to an ebreak in a page of its own."""
 
 TURNED = 0xA5
-"""The bits of a byte that are turned round where something is expected: all would make 32767 -32768, as wrong sums do."""
+"""The bits of a byte that are turned round where something is expected. All would make -32768 of 32767, as sums do."""
 
 _RETURN_PAGE = (f"map {RETURN:x} 1 rx", f"poke {RETURN:x} 73001000", f"set x1 {RETURN:x}")
 _STACK = (f"map {STACK_END - 0x4000:x} 4 rw", f"set x2 {STACK_POINTER:x}")
@@ -43,6 +44,7 @@ def read_answer(path: pathlib.Path) -> Answer:
     if len(data) > IMAGE_BYTES:
         raise LabError(f"it has more than {IMAGE_BYTES:,} bytes")
     if data.startswith(b"\x7fELF"):
+        check_flags(data)
         return Answer(path)
     try:
         text = data.decode("utf-8")

@@ -24,7 +24,7 @@ from ..machine.answers import (
     read,
 )
 from ..machine.lines import is_look
-from ..machine.program import find_program
+from ..machine.program import check_flags, find_program
 from ..machine.session import TOGETHER, Session
 from ..tables.table import read_table
 
@@ -198,11 +198,12 @@ def started(
     Raises LabError and OSError where the image can't be read or is refused, or there is no program.
     """
     with path.open("rb") as file:
-        if len(file.read(IMAGE_BYTES + 1)) > IMAGE_BYTES:
+        if len(image := file.read(IMAGE_BYTES + 1)) > IMAGE_BYTES:
             raise LabError(f"{path} has more than {IMAGE_BYTES:,} bytes")
     with Session(find_program(), {"image": path}, quantum=quantum) as session:
         guest = Guest(session, write=write)
         try:
+            check_flags(image)
             guest.start("image", policy, arguments)
         except LabError as error:
             raise LabError(f"{path}: {error}") from error

@@ -6,6 +6,7 @@ from collections.abc import Iterable, Mapping
 from dataclasses import dataclass
 from fractions import Fraction
 
+from ..machine.program import MARCH
 from ..tables.table import read_table
 
 LOAD, LOAD_FP, STORE, STORE_FP, OP_V, SYSTEM = 0x03, 0x07, 0x23, 0x27, 0x57, 0x73  # opcodes
@@ -80,7 +81,7 @@ def decode(word: int, sew: int = 8, lmul: Fraction = Fraction(1)) -> VectorInstr
     _, kind, text = _WORDS[fit.lastindex - 1]
     fields = {name: word >> low & (1 << length) - 1 for name, (low, length) in _FIELDS.items()}
     if kind == "none":
-        raise NoInstruction(text.format(**fields))
+        raise NoInstruction(text.format(**fields, march=MARCH))
     if kind == "scalar":
         return None
     name, (vd, vs2, vs1, *traits) = _operation(fields) if kind == "operation" else (text, _SHAPES[kind])

@@ -30,7 +30,7 @@ def add_arguments(parser: argparse.ArgumentParser) -> None:
 
 
 def run(arguments: argparse.Namespace) -> int:
-    """Prints how the runs end; 1 where one ends otherwise, else 0, or the status of `run` where the program didn't exit.
+    """Prints how the runs end; 1 where one ends otherwise, else 0, or what `run` has where the program didn't exit.
 
     Raises LabError and OSError for bad input.
     """

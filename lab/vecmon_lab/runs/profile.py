@@ -27,7 +27,7 @@ def add_arguments(parser: argparse.ArgumentParser) -> None:
 
 
 def run(arguments: argparse.Namespace) -> int:
-    """Prints the table, and writes the page and the CSV file; 0, or the status of `run` where the program didn't exit.
+    """Prints the table, and writes the page and the CSV file; 0, or what `run` has where the program didn't exit.
 
     Raises LabError and OSError for bad input.
     """

@@ -61,7 +61,7 @@ def stats(counts: Counts) -> Iterator[str]:
 
 
 def status_of(stop: Stop | None) -> int:
-    """The status that says how a program stopped which didn't exit; 0 of one that did. Without a stop its ticks ran out."""
+    """The status that tells how a program stopped, 0 where it exited. Without a stop its ticks ran out."""
     return TICKS_RAN_OUT if stop is None else {"exit": 0, "fault": FAULT}.get(stop.kind, BREAKPOINT)
 
 
